@@ -1,0 +1,51 @@
+-- Cases of a test, and of the numbers below a bound.
+-- Assumes nothing.
+use mathlib.Core.Path.{_≡_, refl}
+use mathlib.Core.Bool.{Bool, true, false, _||_, _&&_}
+use mathlib.Core.Logic.{_⊎_, inl, inr}
+use Prim.Native.Nat.{ℕ, suc, _<_}
+use native.Mathlib.Omega.{arith}
+use native.Mathlib.Decide.{decLt}
+
+pub bool : (b : Bool) → (b ≡ true) ⊎ (b ≡ false)
+bool true = inl refl
+bool false = inr refl
+
+-- a test is not both
+pub clash {ℓ} : {X : Type ℓ} {b : Bool} → b ≡ true → b ≡ false → X
+clash p q = let z : _≡_ {A = ℕ} 0 1 = cc in absurd (omega arith)
+
+pub and-true : (a b : Bool) → a && b ≡ true → (a ≡ true) × (b ≡ true)
+and-true true b y = (refl, y)
+and-true false b y = clash y refl
+
+pub and-false : (a b : Bool) → a && b ≡ false → (a ≡ false) ⊎ (b ≡ false)
+and-false true b y = inr y
+and-false false b y = inl refl
+
+pub and-yes : (a b : Bool) → a ≡ true → b ≡ true → a && b ≡ true
+and-yes a b p q = rw (p, q)
+
+pub or-true : (a b : Bool) → a || b ≡ true → (a ≡ true) ⊎ (b ≡ true)
+or-true true b h = inl refl
+or-true false b h = inr h
+
+pub or-false : (a b : Bool) → a || b ≡ false → (a ≡ false) × (b ≡ false)
+or-false true b h = clash refl h
+or-false false b h = (refl, h)
+
+pub or-no : (a b : Bool) → a ≡ false → b ≡ false → a || b ≡ false
+or-no a b p q = rw (p, q)
+
+pub or-right : (a b : Bool) → b ≡ true → a || b ≡ true
+or-right true b h = refl
+or-right false b h = h
+
+pub or-swap : (a b c : Bool) → a || (b || c) ≡ b || (a || c)
+or-swap true true c = refl
+or-swap true false c = refl
+or-swap false b c = refl
+
+-- what holds below n and at n holds below suc n
+pub below-suc : (P : ℕ → Type 0) (n : ℕ) → ((k : ℕ) → k < n → P k) → P n → (k : ℕ) → k < suc n → P k
+below-suc P n lo hi k h = elim (decLt k n) [ yes q ↦ lo k q | no q ↦ (let z : n ≡ k = omega arith in rw z at hi) ]

@@ -1,0 +1,19 @@
+use mathlib.Core.Path.{_≡_, refl, sym, ap, _∙_, subst}
+use lib.IntN.{ℤ, pos, natAbs}
+use lib.Signed.{_≤ℤ_, nonNeg, yes-nonNeg, pos-natAbs}
+use lib.Dec.{T}
+use mir.Syntax.{w32, w64}
+use mir.Val.{Fits, SFits}
+use mir.Facts.{fits-natAbs}
+use Rattle.integers.proofs.Ints.{back, nonneg-cast}
+use Rattle.integers.proofs.nat_of.Statement.{statement}
+use Rattle.integers.proofs.nat_of.Tie as tie
+
+cast-result : tie.Need-cast-result
+cast-result c = subst (λ (z : ℤ). T (nonNeg z) × Fits w32 (natAbs z)) (sym (back (c .fits .x))) (yes-nonNeg (c .pre), fits-natAbs tt (c .fits .x))
+
+returns : tie.Need-returns
+returns c = nonneg-cast w32 (c .fits .x) (c .pre)
+
+pub nat-of-spec : {M : Type 1} → statement M
+nat-of-spec = tie.close (tie.spec cast-result returns)

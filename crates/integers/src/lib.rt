@@ -1,0 +1,36 @@
+// Whole numbers of the edge and moments of the core: an i32 as the u32 that is 2^31 more.
+ghost use mathlib.Core.Path.{_≡_};
+ghost use lib.IntN.{pos};
+ghost use lib.Signed.{_≤ℤ_};
+ghost use Prim.Native.Nat.{_<_};
+ghost use Rattle.integers.specs.Moments.{moment, instant, zeroAt};
+
+// The moment of a whole number.
+pub fn moment_of(x: i32) -> u32
+    ensures { λ r. ⌜ r ≡ moment zeroAt x ⌝ }
+{
+    ((x as i64) + 2147483648) as u32
+}
+
+// The whole number at a moment.
+pub fn start_of(m: u32) -> i32
+    ensures { λ r. ⌜ r ≡ instant zeroAt m ⌝ }
+{
+    ((m as i64) - 2147483648) as i32
+}
+
+// A whole number that is not negative, as a duration is.
+pub fn nat_of(x: i32) -> u32
+    requires { ⌜ pos 0 ≤ℤ x ⌝ }
+    ensures { λ r. ⌜ pos r ≡ x ⌝ }
+{
+    x as u32
+}
+
+// A count or a task's number as a word.
+pub fn word_of(n: usize) -> i32
+    requires { ⌜ n < 2147483648 ⌝ }
+    ensures { λ r. ⌜ r ≡ pos n ⌝ }
+{
+    n as i32
+}

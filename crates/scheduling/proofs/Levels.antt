@@ -1,0 +1,255 @@
+-- The run: what stands at each level, how each step keeps it, and what it comes to.
+use mathlib.Core.Path.{_≡_, refl, sym, ap, subst, _∙_}
+use mathlib.Core.Bool.{Bool, true, false, cond, _||_, _&&_, not}
+use mathlib.Core.Logic.{_⊎_, inl, inr}
+use Prim.Native.Nat.{ℕ, zero, suc, _+_, _-_, _≤_, _<_, max}
+use native.Mathlib.Omega.{arith}
+use native.Mathlib.Nat.{le-antisymm}
+use native.Mathlib.Decide.{decLe, decLt, ℕ-discrete}
+use borrow.Author.Tests.{ne-eqb, leb-true, leb-false, le-leb, lt-leb}
+use lib.Dec.{leb}
+use Rattle.scheduling.specs.Scheduling.{natural, Tasks, Proper, TaskSet, total, _with_, Largest, Least, In, Outside, NonEmpty, Subset, completion, Est, Lct, processing, EstPlusP, Ect, Overloads, EdgeFindingBound, Schedule, Done, Conflict}
+use Rattle.integers.proofs.Bools.{bool, clash, below-suc}
+use Rattle.integers.proofs.Permutations.{Ordered}
+use Rattle.scheduling.proofs.Sets.{Top, Empty, top, _less_, less-in, less-out, less-self, with-in, with-new, with-old}
+use Rattle.scheduling.proofs.Processing.{processing-less, processing-empty}
+use Rattle.scheduling.proofs.Monotone.{ect-mono}
+use Rattle.scheduling.proofs.Rule.{rule-sound, overload-sound}
+
+-- the tasks by latest completion, greatest first: L has the task of each place
+abbrev pub ByCompletion : Tasks natural → (ℕ → ℕ) → (ℕ → ℕ) → Type 0
+ByCompletion J L place = Ordered (J .count) L place (λ j k. completion J k ≤ completion J j)
+
+-- One post for each task whose start was raised, at its new earliest start.
+pub record Posts (J : Tasks natural) (now : ℕ → ℕ) (m : ℕ) (task bound : ℕ → ℕ) : Type 0 where
+  pub small : (j : ℕ) → j < m → task j < J .count
+  pub raises : (j : ℕ) → j < m → J .earliest (task j) < bound j
+  pub agrees : (j : ℕ) → j < m → bound j ≡ now (task j)
+  pub every : (k : ℕ) → k < J .count → J .earliest k < now k → (j : ℕ) × (j < m) × (task j ≡ k)
+  pub once : (i j : ℕ) → i < m → j < m → task i ≡ task j → i ≡ j
+
+pub no-posts : (J : Tasks natural) (task bound : ℕ → ℕ) → Posts J (J .earliest) 0 task bound
+no-posts J task bound = record { small = λ j q. absurd (omega arith); raises = λ j q. absurd (omega arith); agrees = λ j q. absurd (omega arith); every = λ k q r. absurd (omega arith); once = λ i j q. absurd (omega arith) }
+
+module _ (J : Tasks natural) (ok : Proper J) (ect : TaskSet → ℕ) (ect-is : (Ω : TaskSet) → NonEmpty J Ω → Ect J Ω (ect Ω)) (L place : ℕ → ℕ) (ord : ByCompletion J L place) where
+  -- what is left of the order from place t on
+  abbrev pub Θ : ℕ → TaskSet
+  Θ t k = leb t (place k)
+
+  abbrev pub End : ℕ → ℕ
+  End t = completion J (L t)
+
+  -- k left Λ at a level up to t, and its start is now `new`
+  pub record Left (t k new : ℕ) : Type 0 where
+    pub level : ℕ
+    pub late : place k < level
+    pub seen : level ≤ t
+    pub passes : End level < ect (Θ level with k)
+    pub first : (r : ℕ) → place k < r → r < level → ect (Θ r with k) ≤ End r
+    pub raised : new ≡ max (J .earliest k) (ect (Θ level))
+
+  pub record Facts (t : ℕ) (Λ : TaskSet) (now : ℕ → ℕ) : Type 0 where
+    pub calm : (s : ℕ) → s < t → ect (Θ s) ≤ End s
+    pub gray : (k : ℕ) → In J Λ k → place k < t
+    pub waits : (k : ℕ) → In J Λ k → (r : ℕ) → place k < r → r < t → ect (Θ r with k) ≤ End r
+    pub left : (k : ℕ) → Outside J Λ k → place k < t → Left t k (now k)
+    pub same-in : (k : ℕ) → In J Λ k → now k ≡ J .earliest k
+    pub same-on : (k : ℕ) → k < J .count → t ≤ place k → now k ≡ J .earliest k
+    pub inside : (k : ℕ) → k < J .count → now k ≤ J .latest k
+
+  -- Λ counts only by its members
+  pub facts-same : (t : ℕ) (Λ Λ′ : TaskSet) (now : ℕ → ℕ) → ((k : ℕ) → k < J .count → Λ k ≡ Λ′ k) → Facts t Λ now → Facts t Λ′ now
+  facts-same t Λ Λ′ now z f = record { calm = f .calm; gray = λ k h. f .gray k (back k h); waits = λ k h. f .waits k (back k h);
+      left = λ k h. f .left k (record { small = h .small; mem = z k (h .small) ∙ h .mem }); same-in = λ k h. f .same-in k (back k h); same-on = f .same-on; inside = f .inside }
+    where
+      back : (k : ℕ) → In J Λ′ k → In J Λ k
+      back k h = record { small = h .small; mem = z k (h .small) ∙ h .mem }
+
+  -- and ect of a set likewise
+  pub ect-same : (S Ω : TaskSet) → NonEmpty J S → ((k : ℕ) → k < J .count → S k ≡ Ω k) → ect S ≡ ect Ω
+  ect-same S Ω ne z =
+      let so : Subset J S Ω = λ k h. sym (z k (h .small)) ∙ h .mem in
+      let os : Subset J Ω S = λ k h. z k (h .small) ∙ h .mem in
+      let no : NonEmpty J Ω = (ne .0, record { small = ne .1 .small; mem = so (ne .0) (ne .1) }) in
+      le-antisymm (ect-mono J S Ω (ect S) (ect Ω) so (ect-is S ne) (ect-is Ω no)) (ect-mono J Ω S (ect Ω) (ect S) os (ect-is Ω no) (ect-is S ne))
+
+  pub start : Facts 0 (λ _. false) (J .earliest)
+  start = record { calm = λ s q. absurd (omega arith); gray = λ k h. clash (h .mem) refl; waits = λ k h. clash (h .mem) refl; left = λ k h q. absurd (omega arith); same-in = λ k h. refl; same-on = λ k q r. refl; inside = ok .ranges }
+
+  pub next : (t : ℕ) (Λ : TaskSet) (now : ℕ → ℕ) → t < J .count → Facts t Λ now → ((k : ℕ) → In J Λ k → ect (Θ t with k) ≤ End t) → ect (Θ t) ≤ End t → Facts (suc t) (Λ with L t) now
+  next t Λ now small f closed quiet = record { calm = below-suc (λ s. ect (Θ s) ≤ End s) t (f .calm) quiet; gray = gray; waits = waits; left = left; same-in = same-in; same-on = λ k q r. f .same-on k q (omega arith); inside = f .inside }
+    where
+      at-t : (k : ℕ) → k ≡ L t → place k ≡ t
+      at-t k z = rw z (ord .back t small)
+      gray : (k : ℕ) → In J (Λ with L t) k → place k < suc t
+      gray k h = elim (with-in Λ (L t) k (h .mem)) [ inl z ↦ omega (arith, at-t k z) | inr y ↦ omega (arith, f .gray k (record { small = h .small; mem = y })) ]
+      waits : (k : ℕ) → In J (Λ with L t) k → (r : ℕ) → place k < r → r < suc t → ect (Θ r with k) ≤ End r
+      waits k h = elim (with-in Λ (L t) k (h .mem))
+        [ inl z ↦ (λ r a b. absurd (omega (arith, at-t k z)))
+        | inr y ↦ (λ r a b. below-suc (λ r. place k < r → ect (Θ r with k) ≤ End r) t (λ r q a. f .waits k (record { small = h .small; mem = y }) r a q) (λ a. closed k (record { small = h .small; mem = y })) r b a) ]
+      left : (k : ℕ) → Outside J (Λ with L t) k → place k < suc t → Left (suc t) k (now k)
+      left k h q = elim (bool (Λ k))
+        [ inl y ↦ clash (with-old Λ (L t) k y) (h .mem)
+        | inr y ↦ elim (ℕ-discrete (place k) t)
+          [ yes z ↦ clash (subst (λ (i : ℕ). (Λ with i) k ≡ true) (sym (ord .there k (h .small)) ∙ ap L z) (with-new Λ k)) (h .mem)
+          | no z ↦ (let o = f .left k (record { small = h .small; mem = y }) (omega arith) in record { level = o .level; late = o .late; seen = omega arith; passes = o .passes; first = o .first; raised = o .raised }) ] ]
+      same-in : (k : ℕ) → In J (Λ with L t) k → now k ≡ J .earliest k
+      same-in k h = elim (with-in Λ (L t) k (h .mem)) [ inl z ↦ f .same-on k (h .small) (omega (arith, at-t k z)) | inr y ↦ f .same-in k (record { small = h .small; mem = y }) ]
+
+  -- i leaves Λ
+  pub leave : (t : ℕ) (Λ : TaskSet) (now now′ : ℕ → ℕ) (i : ℕ) → Facts t Λ now → In J Λ i → End t < ect (Θ t with i)
+      → now′ i ≡ max (J .earliest i) (ect (Θ t)) → now′ i ≤ J .latest i → ((k : ℕ) → (k ≡ i → ⊥) → now′ k ≡ now k) → Facts t (Λ less i) now′
+  leave t Λ now now′ i f h over new fits others =
+      record { calm = f .calm; gray = λ k m. f .gray k (kept k m); waits = λ k m. f .waits k (kept k m); left = left; same-in = λ k m. rw (others k (apart k m)) (f .same-in k (kept k m)); same-on = same-on; inside = inside }
+    where
+      kept : (k : ℕ) → In J (Λ less i) k → In J Λ k
+      kept k m = record { small = m .small; mem = (less-in Λ i k (m .mem)) .0 }
+      apart : (k : ℕ) → In J (Λ less i) k → k ≡ i → ⊥
+      apart k m = (less-in Λ i k (m .mem)) .1
+      left : (k : ℕ) → Outside J (Λ less i) k → place k < t → Left t k (now′ k)
+      left k m q = elim (ℕ-discrete k i)
+        [ yes z ↦ rw z (record { level = t; late = f .gray i h; seen = omega arith; passes = over; first = f .waits i h; raised = new })
+        | no z ↦ rw (others k z) (f .left k (record { small = m .small; mem = elim (bool (Λ k)) [ inl y ↦ clash (less-out Λ i k y z) (m .mem) | inr y ↦ y ] }) q) ]
+      same-on : (k : ℕ) → k < J .count → t ≤ place k → now′ k ≡ J .earliest k
+      same-on k q r = rw (others k (λ z. omega (arith, f .gray i h, ap place z))) (f .same-on k q r)
+      inside : (k : ℕ) → k < J .count → now′ k ≤ J .latest k
+      inside k q = elim (ℕ-discrete k i) [ yes z ↦ rw z fits | no z ↦ rw (others k z) (f .inside k q) ]
+
+  in-Θ : (t k : ℕ) → k < J .count → t ≤ place k → In J (Θ t) k
+  in-Θ t k q r = record { small = q; mem = le-leb t (place k) r }
+
+  Θ-some : (t : ℕ) → t < J .count → NonEmpty J (Θ t)
+  Θ-some t q = (L t, in-Θ t (L t) (ord .task t q) (omega (arith, ord .back t q)))
+
+  -- the last level is one task, which never overloads
+  pub last-quiet : (t : ℕ) → suc t ≡ J .count → ect (Θ t) ≤ End t
+  last-quiet t z = go (ect-is (Θ t) (Θ-some t (omega arith)) .holds)
+    where
+      only : (k : ℕ) → In J (Θ t) k → L t ≡ k
+      only k h = subst (λ (r : ℕ). L r ≡ k) (omega (arith, leb-true t (place k) (h .mem), ord .placed k (h .small))) (ord .there k (h .small))
+      go : EstPlusP J (Θ t) (ect (Θ t)) → ect (Θ t) ≤ End t
+      go f =
+          let (k, km, ek) = f .est .holds in
+          let lk : L t ≡ k = only k (record { small = km .small; mem = f .within k km }) in
+          let none : processing J (f .part less k) ≡ 0
+                = processing-empty J (f .part less k) (λ j q. elim (bool ((f .part less k) j))
+                    [ inl y ↦ absurd ((less-in (f .part) k j y) .1 (sym (only j (record { small = q; mem = f .within j (record { small = q; mem = (less-in (f .part) k j y) .0 }) })) ∙ lk)) | inr y ↦ y ]) in
+          rw lk (omega (arith, processing-less J (f .part) k km, ok .ranges k (km .small), f .sum))
+
+  -- the first task of a set in the order: the set lies in what is left from there
+  first-of : (Ω : TaskSet) → NonEmpty J Ω → (k : ℕ) × In J Ω k × Subset J Ω (Θ (place k))
+  first-of Ω some = elim (top Ω (λ k. J .count - place k) (J .count))
+    [ inl none ↦ clash (some .1 .mem) (none (some .0) (some .1 .small))
+    | inr t ↦ (t .at, record { small = t .small; mem = t .mem },
+        λ j h. le-leb (place (t .at)) (place j) (omega (arith, t .top j (h .small) (h .mem), ord .placed j (h .small), ord .placed (t .at) (t .small)))) ]
+
+  with-mono : (S Ω : TaskSet) (i : ℕ) → Subset J S Ω → Subset J (S with i) (Ω with i)
+  with-mono S Ω i sub j h = elim (with-in S i j (h .mem))
+    [ inl z ↦ rw z (with-new Ω i) | inr y ↦ with-old Ω i j (sub j (record { small = h .small; mem = y })) ]
+
+  -- a level that i passes gives a bound of i
+  pub edge : (t i : ℕ) → i < J .count → place i < t → t < J .count → End t < ect (Θ t with i) → EdgeFindingBound J i (ect (Θ t))
+  edge t i q late small over =
+      record { set = Θ t; outside = record { small = q; mem = lt-leb t (place i) late }; end = End t;
+        lct = record { holds = (L t, in-Θ t (L t) (ord .task t small) (omega (arith, ord .back t small)), refl); bounds = bounds };
+        joint = ect (Θ t with i); ect-with = ect-is (Θ t with i) (i, record { small = q; mem = with-new (Θ t) i }); passes = over; ect = ect-is (Θ t) (Θ-some t small) }
+    where
+      bounds : (w : ℕ) → (k : ℕ) × In J (Θ t) k × (completion J k ≡ w) → w ≤ End t
+      bounds w h = let (k, km, e) = h in omega (arith, subst (λ (j : ℕ). completion J j ≤ End t) (ord .there k (km .small)) (ord .sorted t (place k) (leb-true t (place k) (km .mem)) (ord .placed k (km .small))))
+
+  -- At the end of a level all of whose Λ is quiet:
+  module _ (t : ℕ) (Λ : TaskSet) (now : ℕ → ℕ) (end : suc t ≡ J .count) (f : Facts t Λ now) (closed : (k : ℕ) → In J Λ k → ect (Θ t with k) ≤ End t) where
+    quiet : (s : ℕ) → s < J .count → ect (Θ s) ≤ End s
+    quiet s q = below-suc (λ s. ect (Θ s) ≤ End s) t (f .calm) (last-quiet t end) s (omega arith)
+
+    waited : (k : ℕ) → In J Λ k → (r : ℕ) → place k < r → r < J .count → ect (Θ r with k) ≤ End r
+    waited k h r a q = below-suc (λ r. place k < r → ect (Θ r with k) ≤ End r) t (λ r q a. f .waits k h r a q) (λ _. closed k h) r (omega arith) a
+
+    -- what an edge-finding bound of i comes to: i left Λ, with a bound as large
+    edge-left : (i b : ℕ) → EdgeFindingBound J i b → (o : Left t i (now i)) × (b ≤ ect (Θ (o .level)))
+    edge-left i b r = by (bool (Λ i))
+      where
+        k : ℕ
+        k = (first-of (r .set) (r .lct .holds .0, r .lct .holds .1)) .0
+        km : In J (r .set) k
+        km = (first-of (r .set) (r .lct .holds .0, r .lct .holds .1)) .1
+        sub : Subset J (r .set) (Θ (place k))
+        sub = (first-of (r .set) (r .lct .holds .0, r .lct .holds .1)) .2
+        small : place k < J .count
+        small = ord .placed k (km .small)
+        -- the level of k is passed with i
+        over : End (place k) < ect (Θ (place k) with i)
+        over = rw (ord .there k (km .small)) (omega (arith, r .lct .bounds (completion J k) (k, km, refl), r .passes,
+            ect-mono J (r .set with i) (Θ (place k) with i) (r .joint) (ect (Θ (place k) with i)) (with-mono (r .set) (Θ (place k)) i sub) (r .ect-with) (ect-is (Θ (place k) with i) (i, record { small = r .outside .small; mem = with-new (Θ (place k)) i }))))
+        before : place i < place k
+        before = elim (decLt (place i) (place k)) [ yes q ↦ q | no q ↦ absurd (omega (arith, over, quiet (place k) small,
+            ect-mono J (Θ (place k) with i) (Θ (place k)) (ect (Θ (place k) with i)) (ect (Θ (place k)))
+              (λ j h. elim (with-in (Θ (place k)) i j (h .mem)) [ inl z ↦ rw z (le-leb (place k) (place i) (omega arith)) | inr y ↦ y ])
+              (ect-is (Θ (place k) with i) (i, record { small = r .outside .small; mem = with-new (Θ (place k)) i })) (ect-is (Θ (place k)) (Θ-some (place k) small)))) ]
+        by : (Λ i ≡ true) ⊎ (Λ i ≡ false) → (o : Left t i (now i)) × (b ≤ ect (Θ (o .level)))
+        by (inl y) = absurd (omega (arith, over, waited i (record { small = r .outside .small; mem = y }) (place k) before small))
+        by (inr y) =
+            let o : Left t i (now i) = f .left i (record { small = r .outside .small; mem = y }) (omega (arith, before, small)) in
+            let lv : o .level ≤ place k = elim (decLe (o .level) (place k)) [ yes q ↦ q | no q ↦ absurd (omega (arith, over, o .first (place k) before (omega arith))) ] in
+            (o, ect-mono J (r .set) (Θ (o .level)) b (ect (Θ (o .level)))
+                  (λ j h. le-leb (o .level) (place j) (omega (arith, leb-true (place k) (place j) (sub j h))))
+                  (r .ect) (ect-is (Θ (o .level)) (Θ-some (o .level) (omega arith))))
+
+    -- and the other way: what i left with is an edge-finding bound
+    left-edge : (i new : ℕ) → i < J .count → (o : Left t i new) → EdgeFindingBound J i (ect (Θ (o .level)))
+    left-edge i new q o = edge (o .level) i q (o .late) (omega arith) (o .passes)
+
+    pub no-overload : (Ω : TaskSet) → Overloads J Ω → ⊥
+    no-overload Ω o =
+        let (k, km, sub) = first-of Ω (o .lct .holds .0, o .lct .holds .1) in
+        let small : place k < J .count = ord .placed k (km .small) in
+        let w : o .start + processing J Ω ≤ ect (Θ (place k))
+              = ect-is (Θ (place k)) (Θ-some (place k) small) .bounds (o .start + processing J Ω) (record { part = Ω; within = sub; start = o .start; est = o .est; sum = refl }) in
+        let c : ect (Θ (place k)) ≤ completion J k = rw (ord .there k (km .small)) at (quiet (place k) small) in
+        omega (arith, o .over, o .lct .bounds (completion J k) (k, km, refl))
+
+    -- the new start is at least each bound
+    edge-now : (i b : ℕ) → EdgeFindingBound J i b → b ≤ now i
+    edge-now i b r = let (o, q) = edge-left i b r in omega (arith, o .raised)
+
+    pub no-passing : (i b : ℕ) → EdgeFindingBound J i b → b ≤ J .latest i
+    no-passing i b r = omega (arith, edge-now i b r, f .inside i (r .outside .small))
+
+    -- a start is as it was, or raised to one of its bounds
+    now-edge : (i : ℕ) → i < J .count → (now i ≡ J .earliest i) ⊎ ((J .earliest i < now i) × EdgeFindingBound J i (now i))
+    now-edge i q = elim (decLt (place i) t)
+      [ no z ↦ inl (f .same-on i q (omega arith))
+      | yes z ↦ elim (bool (Λ i))
+        [ inl y ↦ inl (f .same-in i (record { small = q; mem = y }))
+        | inr y ↦ (let o : Left t i (now i) = f .left i (record { small = q; mem = y }) z in
+            elim (decLe (ect (Θ (o .level))) (J .earliest i))
+              [ yes c ↦ inl (omega (arith, o .raised))
+              | no c ↦ inr (let e : ect (Θ (o .level)) ≡ now i = omega (arith, o .raised) in (omega arith, rw e at (left-edge i (now i) q o))) ]) ] ]
+
+    pub starts : (i : ℕ) → i < J .count → Largest natural (λ v. (J .earliest i ≡ v) ⊎ EdgeFindingBound J i v) (now i)
+    starts i q = record { holds = elim (now-edge i q) [ inl z ↦ inl (sym z) | inr z ↦ inr (z .1) ]; bounds = bounds }
+      where
+        bounds : (w : ℕ) → (J .earliest i ≡ w) ⊎ EdgeFindingBound J i w → w ≤ now i
+        bounds w (inl z) = elim (now-edge i q) [ inl y ↦ omega arith | inr y ↦ omega (arith, y .0) ]
+        bounds w (inr r) = edge-now i w r
+
+    largest : (i : ℕ) → i < J .count → J .earliest i < now i → Largest natural (EdgeFindingBound J i) (now i)
+    largest i q up = record { holds = elim (now-edge i q) [ inl z ↦ absurd (omega arith) | inr z ↦ z .1 ]; bounds = edge-now i }
+
+    pub finish : (m : ℕ) (task bound : ℕ → ℕ) → Posts J now m task bound → Done J now m task bound
+    finish m task bound p =
+        record { no-overload = no-overload; no-passing = no-passing; starts = starts; small = p .small; raises = p .raises; every = p .every; once = p .once;
+          at-largest = λ j q. rw (p .agrees j q) (largest (task j) (p .small j q) (omega (arith, p .raises j q, p .agrees j q))) }
+
+  -- A level whose ect passes its end holds a set that overloads its span.
+  pub overloaded : (t : ℕ) → t < J .count → End t < ect (Θ t) → (Ω : TaskSet) × Overloads J Ω
+  overloaded t small over = go (ect-is (Θ t) (Θ-some t small) .holds)
+    where
+      by : (k : ℕ) → In J (Θ t) k → completion J k ≤ End t
+      by k km = subst (λ (j : ℕ). completion J j ≤ End t) (ord .there k (km .small)) (ord .sorted t (place k) (leb-true t (place k) (km .mem)) (ord .placed k (km .small)))
+      go : EstPlusP J (Θ t) (ect (Θ t)) → (Ω : TaskSet) × Overloads J Ω
+      go f = elim (top (f .part) (completion J) (J .count))
+        [ inl none ↦ clash (f .est .holds .1 .mem) (none (f .est .holds .0) (f .est .holds .1 .small))
+        | inr m ↦ (f .part, record { start = f .start; end = completion J (m .at); est = f .est;
+            lct = record { holds = (m .at, record { small = m .small; mem = m .mem }, refl); bounds = λ w h. omega (arith, m .top (h .0) (h .1 .small) (h .1 .mem), h .2) };
+            over = omega (arith, f .sum, by (m .at) (record { small = m .small; mem = f .within (m .at) (record { small = m .small; mem = m .mem }) })) }) ]

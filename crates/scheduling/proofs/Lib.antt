@@ -1,0 +1,13 @@
+pub mod Sets
+pub mod Processing
+pub mod Windows
+pub mod Rule
+pub mod Exists
+pub mod Monotone
+pub mod Scan
+pub mod Stretches
+pub mod Bars
+pub mod Levels
+pub mod Reasons
+pub mod Transfer
+pub mod Checks

@@ -1,0 +1,1 @@
+// Definitions (specs/) and theorems (proofs/) of scheduling on one machine; no code.
