@@ -1,3 +1,4 @@
+pub mod Limits
 pub mod Moments
 pub mod Words
 pub mod Orders

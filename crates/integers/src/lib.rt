@@ -1,4 +1,6 @@
 // Whole numbers of the edge and moments of the core: an i32 as the u32 that is 2^31 more.
+pub mod limits;
+
 ghost use mathlib.Core.Path.{_≡_};
 ghost use lib.IntN.{pos};
 ghost use lib.Signed.{_≤ℤ_};

@@ -1,0 +1,27 @@
+-- The limits of the port, all in one place; src/limits.rt has the same numbers under the same names.
+use Prim.Native.Nat.{ℕ}
+
+-- tasks of a record, and variables of a state
+abbrev pub TASKS : ℕ
+TASKS = 48
+
+abbrev pub VARIABLES : ℕ
+VARIABLES = 64
+
+-- starts lie from −START to START, and durations sum to at most DURATIONS
+abbrev pub START : ℕ
+START = 200000000
+
+abbrev pub DURATIONS : ℕ
+DURATIONS = 200000000
+
+-- an atom's value lies from −VALUE to VALUE
+abbrev pub VALUE : ℕ
+VALUE = 900000000
+
+-- premises of a check, and holes of a domain
+abbrev pub PREMISES : ℕ
+PREMISES = 512
+
+abbrev pub HOLES : ℕ
+HOLES = 16
