@@ -212,6 +212,14 @@ pub minℤ-is : (a b : ℤ) → ((a ≤ℤ b) × (minℤ a b ≡ a)) ⊎ ((b <�
 unfolding minℤ
 minℤ-is a b = ⊎-elim (λ h. inl (h .0, ap (λ (c : Bool). pickℤ c a b) (h .1))) (λ h. inr (h .0, ap (λ (c : Bool). pickℤ c a b) (h .1))) (order a b (leZ a b) refl)
 
+-- two whole numbers in order, or not
+pub ≤ℤ-cases : (a b : ℤ) → (a ≤ℤ b) ⊎ (b <ℤ a)
+≤ℤ-cases a b = ⊎-elim (λ h. inl (h .0)) (λ h. inr (h .0)) (order a b (leZ a b) refl)
+
+-- two whole numbers are equal or not
+pub equalℤ : (a b : ℤ) → (a ≡ b) ⊎ (a ≡ b → ⊥)
+equalℤ a b = ⊎-elim (λ h. ⊎-elim (λ k. inl (omega ints)) (λ k. inr (λ e. omega ints)) (≤ℤ-cases b a)) (λ h. inr (λ e. omega ints)) (≤ℤ-cases a b)
+
 -- ---- examples
 ex₁ : (a b c : ℤ) → a ≤ℤ b → b <ℤ c → a <ℤ c
 ex₁ a b c h k = omega ints

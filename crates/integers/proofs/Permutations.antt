@@ -73,8 +73,9 @@ pub record Ordered (n : ℕ) (at place : ℕ → ℕ) (by : ℕ → ℕ → Type
 -- A permutation, with the places as its inverse.
 pub permuted : (n : ℕ) (l : List ℕ) (by : ℕ → ℕ → Type 0) → Permutes n l → ((s t : ℕ) → s ≤ t → t < n → by (getD l s 0) (getD l t 0)) → Ordered n (λ t. getD l t 0) (λ k. index l k) by
 permuted n l by p h = record {
-    task = λ t q. p .below (getD l t 0) (has-at l t (omega (arith, p .size)));
-    placed = λ k q. let r = index-at l k (p .every k q) in omega (arith, r .0, p .size);
-    there = λ k q. (index-at l k (p .every k q)) .1;
-    back = λ t q. index-back l (p .distinct) t (omega (arith, p .size));
-    sorted = h }
+  task = λ t q. p .below (getD l t 0) (has-at l t (omega (arith, p .size)));
+  placed = λ k q. let r = index-at l k (p .every k q) in omega (arith, r .0, p .size);
+  there = λ k q. (index-at l k (p .every k q)) .1;
+  back = λ t q. index-back l (p .distinct) t (omega (arith, p .size));
+  sorted = h;
+}

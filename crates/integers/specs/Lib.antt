@@ -2,3 +2,4 @@ pub mod Limits
 pub mod Moments
 pub mod Words
 pub mod Orders
+pub mod Examples

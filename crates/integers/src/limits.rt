@@ -2,12 +2,15 @@
 
 // Tasks of a record, and variables of a state.
 pub const TASKS: usize = 48;
+
 pub const VARIABLES: usize = 64;
 // Starts lie from -START to START, and durations sum to at most DURATIONS.
 pub const START: i32 = 200_000_000;
+
 pub const DURATIONS: u32 = 200_000_000;
 // An atom's value lies from -VALUE to VALUE.
 pub const VALUE: i32 = 900_000_000;
 // Premises of a check, and holes of a domain.
 pub const PREMISES: usize = 512;
+
 pub const HOLES: usize = 16;

@@ -47,14 +47,16 @@ module _ (J : Tasks natural) (ok : Proper J) (T rank : ℕ → ℕ) (rk : ByEarl
       step ih (inr y) (inr v) = omega (arith, stretches.no-leaf w g e p 0 d d (zero-add d) (held Ω d q y) (held Λ d q v) .t, scan-out J T rank ok rk Ω d y)
 
   with-other : (i d : ℕ) → (T d ≡ i → ⊥) → (Ω with i) (T d) ≡ Ω (T d)
-  with-other i d ne = elim (bool (Ω (T d)))
-    [ inl y ↦ with-old Ω i (T d) y ∙ sym y
-    | inr y ↦ elim (bool ((Ω with i) (T d))) [ inl v ↦ elim (with-in Ω i (T d) v) [ inl z ↦ absurd (ne z) | inr u ↦ clash u y ] | inr v ↦ v ∙ sym y ] ]
+  with-other i d ne = elim (bool (Ω (T d))) [
+    | inl y ↦ with-old Ω i (T d) y ∙ sym y
+    | inr y ↦ elim (bool ((Ω with i) (T d))) [ inl v ↦ elim (with-in Ω i (T d) v) [ inl z ↦ absurd (ne z) | inr u ↦ clash u y ] | inr v ↦ v ∙ sym y ]
+  ]
 
   scan-with : (i d : ℕ) → (T d ≡ i → ⊥) → scan J T rank (Ω with i) d ≡ scan J T rank Ω d → scan J T rank (Ω with i) (suc d) ≡ scan J T rank Ω (suc d)
-  scan-with i d ne ih = elim (bool (Ω (T d)))
-    [ inl y ↦ omega (arith, scan-in J T rank ok rk Ω d y, scan-in J T rank ok rk (Ω with i) d (with-other i d ne ∙ y))
-    | inr y ↦ omega (arith, scan-out J T rank ok rk Ω d y, scan-out J T rank ok rk (Ω with i) d (with-other i d ne ∙ y)) ]
+  scan-with i d ne ih = elim (bool (Ω (T d))) [
+    | inl y ↦ omega (arith, scan-in J T rank ok rk Ω d y, scan-in J T rank ok rk (Ω with i) d (with-other i d ne ∙ y))
+    | inr y ↦ omega (arith, scan-out J T rank ok rk Ω d y, scan-out J T rank ok rk (Ω with i) d (with-other i d ne ∙ y))
+  ]
 
   -- before its own leaf, i makes no difference
   pub before : (i d : ℕ) → i < J .count → d ≤ rank i → scan J T rank (Ω with i) d ≡ scan J T rank Ω d
@@ -67,12 +69,21 @@ module _ (J : Tasks natural) (ok : Proper J) (T rank : ℕ → ℕ) (rk : ByEarl
     where
       step : scan J T rank (Ω with i) d ≤ EB d → (Ω (T d) ≡ true) ⊎ (Ω (T d) ≡ false) → (Λ (T d) ≡ true) ⊎ (Λ (T d) ≡ false) → scan J T rank (Ω with i) (suc d) ≤ EB (suc d)
       step ih (inl y) v = omega (arith, stretches.white w g e p 0 d d (zero-add d) (held Ω d q y) .tb, scan-in J T rank ok rk (Ω with i) d (with-old Ω i (T d) y))
-      step ih (inr y) (inl v) = elim (ℕ-discrete (T d) i)
-        [ yes z ↦ omega (arith, stretches.gray w g e p 0 d d (zero-add d) (held Ω d q y) (held Λ d q v) .tb, scan-in J T rank ok rk (Ω with i) d (rw z (with-new Ω i)), ect-scan d (omega arith),
-            before i d (h .small) (omega (arith, ap rank z, rk .back d q)))
-        | no z ↦ omega (arith, stretches.gray w g e p 0 d d (zero-add d) (held Ω d q y) (held Λ d q v) .tb, scan-out J T rank ok rk (Ω with i) d (with-other i d z ∙ y)) ]
-      step ih (inr y) (inr v) = omega (arith, stretches.no-leaf w g e p 0 d d (zero-add d) (held Ω d q y) (held Λ d q v) .tb,
-          scan-out J T rank ok rk (Ω with i) d (with-other i d (λ z. clash (h .mem) (rw z at v)) ∙ y))
+      step ih (inr y) (inl v) = elim (ℕ-discrete (T d) i) [
+        | yes z ↦ omega (
+          arith,
+          stretches.gray w g e p 0 d d (zero-add d) (held Ω d q y) (held Λ d q v) .tb,
+          scan-in J T rank ok rk (Ω with i) d (rw z (with-new Ω i)),
+          ect-scan d (omega arith),
+          before i d (h .small) (omega (arith, ap rank z, rk .back d q)),
+        )
+        | no z ↦ omega (arith, stretches.gray w g e p 0 d d (zero-add d) (held Ω d q y) (held Λ d q v) .tb, scan-out J T rank ok rk (Ω with i) d (with-other i d z ∙ y))
+      ]
+      step ih (inr y) (inr v) = omega (
+        arith,
+        stretches.no-leaf w g e p 0 d d (zero-add d) (held Ω d q y) (held Λ d q v) .tb,
+        scan-out J T rank ok rk (Ω with i) d (with-other i d (λ z. clash (h .mem) (rw z at v)) ∙ y),
+      )
 
   -- the value is that of the white set, or of it with one gray task
   pub record One (d : ℕ) : Type 0 where
@@ -89,19 +100,29 @@ module _ (J : Tasks natural) (ok : Proper J) (T rank : ℕ → ℕ) (rk : ByEarl
       -- the task found before stays
       keep : (o : One d) → T d ≡ o .at → ⊥
       keep o z = omega (arith, o .seen, ap rank z, rk .back d q)
+
       stay : (o : One d) → EB (suc d) ≡ scan J T rank (Ω with o .at) (suc d) → One (suc d)
       stay o h = record { at = o .at; mem = o .mem; out = o .out; seen = omega (arith, o .seen); is = h }
+
       -- the task of this leaf
       new : Ω (T d) ≡ false → Λ (T d) ≡ true → EB (suc d) ≡ max (scan J T rank Ω d) (e d) + p d → One (suc d)
-      new y v h = record { at = T d; mem = record { small = rk .task d q; mem = v }; out = y; seen = omega (arith, rk .back d q);
-          is = omega (arith, h, scan-in J T rank ok rk (Ω with T d) d (with-new Ω (T d)), before (T d) d (rk .task d q) (omega (arith, rk .back d q))) }
+      new y v h = record {
+        at = T d;
+        mem = record { small = rk .task d q; mem = v };
+        out = y;
+        seen = omega (arith, rk .back d q);
+        is = omega (arith, h, scan-in J T rank ok rk (Ω with T d) d (with-new Ω (T d)), before (T d) d (rk .task d q) (omega (arith, rk .back d q)));
+      }
+
       step : (EB d ≡ scan J T rank Ω d) ⊎ One d → (Ω (T d) ≡ true) ⊎ (Ω (T d) ≡ false) → (Λ (T d) ≡ true) ⊎ (Λ (T d) ≡ false) → (EB (suc d) ≡ scan J T rank Ω (suc d)) ⊎ One (suc d)
       step (inl h) (inl y) v = inl (omega (arith, stretches.white w g e p 0 d d (zero-add d) (held Ω d q y) .tb, scan-in J T rank ok rk Ω d y))
       step (inr o) (inl y) v = inr (stay o (omega (arith, o .is, stretches.white w g e p 0 d d (zero-add d) (held Ω d q y) .tb, scan-in J T rank ok rk (Ω with o .at) d (with-old Ω (o .at) (T d) y))))
-      step h (inr y) (inl v) = elim (decLe (max (E d) (e d) + p d) (EB d))
-        [ yes c ↦ elim h
-          [ inl k ↦ inl (omega (arith, stretches.gray w g e p 0 d d (zero-add d) (held Ω d q y) (held Λ d q v) .tb, scan-out J T rank ok rk Ω d y))
-          | inr o ↦ inr (stay o (omega (arith, o .is, stretches.gray w g e p 0 d d (zero-add d) (held Ω d q y) (held Λ d q v) .tb, scan-out J T rank ok rk (Ω with o .at) d (with-other (o .at) d (keep o) ∙ y)))) ]
-        | no c ↦ inr (new y v (omega (arith, stretches.gray w g e p 0 d d (zero-add d) (held Ω d q y) (held Λ d q v) .tb, ect-scan d (omega arith)))) ]
+      step h (inr y) (inl v) = elim (decLe (max (E d) (e d) + p d) (EB d)) [
+        | yes c ↦ elim h [
+          | inl k ↦ inl (omega (arith, stretches.gray w g e p 0 d d (zero-add d) (held Ω d q y) (held Λ d q v) .tb, scan-out J T rank ok rk Ω d y))
+          | inr o ↦ inr (stay o (omega (arith, o .is, stretches.gray w g e p 0 d d (zero-add d) (held Ω d q y) (held Λ d q v) .tb, scan-out J T rank ok rk (Ω with o .at) d (with-other (o .at) d (keep o) ∙ y))))
+        ]
+        | no c ↦ inr (new y v (omega (arith, stretches.gray w g e p 0 d d (zero-add d) (held Ω d q y) (held Λ d q v) .tb, ect-scan d (omega arith))))
+      ]
       step (inl h) (inr y) (inr v) = inl (omega (arith, stretches.no-leaf w g e p 0 d d (zero-add d) (held Ω d q y) (held Λ d q v) .tb, scan-out J T rank ok rk Ω d y))
       step (inr o) (inr y) (inr v) = inr (stay o (omega (arith, o .is, stretches.no-leaf w g e p 0 d d (zero-add d) (held Ω d q y) (held Λ d q v) .tb, scan-out J T rank ok rk (Ω with o .at) d (with-other (o .at) d (keep o) ∙ y))))

@@ -30,19 +30,25 @@ module _ {C : Clock} (B : Tasks C) (X : TaskSet) (e l : ℕ → C .Moment) (e-sa
   in← h = record { small = h .small; mem = h .mem }
 
   est→ : (S : TaskSet) (v : C .Moment) → Subset B S X → Est B S v → Est Only S v
-  est→ S v sub r = record { holds = (r .holds .0, in→ (r .holds .1), e-same (r .holds .0) (inX S sub (r .holds .0) (r .holds .1)) ∙ r .holds .2);
-      bounds = λ w h. r .bounds w (h .0, in← (h .1), sym (e-same (h .0) (inX S sub (h .0) (in← (h .1)))) ∙ h .2) }
+  est→ S v sub r = record {
+    holds = (r .holds .0, in→ (r .holds .1), e-same (r .holds .0) (inX S sub (r .holds .0) (r .holds .1)) ∙ r .holds .2);
+    bounds = λ w h. r .bounds w (h .0, in← (h .1), sym (e-same (h .0) (inX S sub (h .0) (in← (h .1)))) ∙ h .2);
+  }
 
   est← : (S : TaskSet) (v : C .Moment) → Subset B S X → Est Only S v → Est B S v
-  est← S v sub r = record { holds = (r .holds .0, in← (r .holds .1), sym (e-same (r .holds .0) (inX S sub (r .holds .0) (in← (r .holds .1)))) ∙ r .holds .2);
-      bounds = λ w h. r .bounds w (h .0, in→ (h .1), e-same (h .0) (inX S sub (h .0) (h .1)) ∙ h .2) }
+  est← S v sub r = record {
+    holds = (r .holds .0, in← (r .holds .1), sym (e-same (r .holds .0) (inX S sub (r .holds .0) (in← (r .holds .1)))) ∙ r .holds .2);
+    bounds = λ w h. r .bounds w (h .0, in→ (h .1), e-same (h .0) (inX S sub (h .0) (h .1)) ∙ h .2);
+  }
 
   end-same : (k : ℕ) → In B X k → completion Only k ≡ completion B k
   end-same k y = ap (λ (t : C .Moment). C .later t (B .duration k)) (l-same k y)
 
   lct→ : (S : TaskSet) (v : C .Moment) → Subset B S X → Lct B S v → Lct Only S v
-  lct→ S v sub r = record { holds = (r .holds .0, in→ (r .holds .1), end-same (r .holds .0) (inX S sub (r .holds .0) (r .holds .1)) ∙ r .holds .2);
-      bounds = λ w h. r .bounds w (h .0, in← (h .1), sym (end-same (h .0) (inX S sub (h .0) (in← (h .1)))) ∙ h .2) }
+  lct→ S v sub r = record {
+    holds = (r .holds .0, in→ (r .holds .1), end-same (r .holds .0) (inX S sub (r .holds .0) (r .holds .1)) ∙ r .holds .2);
+    bounds = λ w h. r .bounds w (h .0, in← (h .1), sym (end-same (h .0) (inX S sub (h .0) (in← (h .1)))) ∙ h .2);
+  }
 
   processing-eq : (S : TaskSet) → processing B S ≡ processing Only S
   unfolding processing
@@ -52,20 +58,39 @@ module _ {C : Clock} (B : Tasks C) (X : TaskSet) (e l : ℕ → C .Moment) (e-sa
   sub-part S P a b k h = a k (record { small = h .small; mem = b k h })
 
   fill→ : (S : TaskSet) (v : C .Moment) → Subset B S X → EstPlusP B S v → EstPlusP Only S v
-  fill→ S v sub f = record { part = f .part; within = λ k h. f .within k (in← h); start = f .start; est = est→ (f .part) (f .start) (sub-part S (f .part) sub (f .within)) (f .est);
-      sum = ap (C .later (f .start)) (sym (processing-eq (f .part))) ∙ f .sum }
+  fill→ S v sub f = record {
+    part = f .part;
+    within = λ k h. f .within k (in← h);
+    start = f .start;
+    est = est→ (f .part) (f .start) (sub-part S (f .part) sub (f .within)) (f .est);
+    sum = ap (C .later (f .start)) (sym (processing-eq (f .part))) ∙ f .sum;
+  }
 
   fill← : (S : TaskSet) (v : C .Moment) → Subset B S X → EstPlusP Only S v → EstPlusP B S v
-  fill← S v sub f = record { part = f .part; within = λ k h. f .within k (in→ h); start = f .start; est = est← (f .part) (f .start) (sub-part S (f .part) sub (λ k h. f .within k (in→ h))) (f .est);
-      sum = ap (C .later (f .start)) (processing-eq (f .part)) ∙ f .sum }
+  fill← S v sub f = record {
+    part = f .part;
+    within = λ k h. f .within k (in→ h);
+    start = f .start;
+    est = est← (f .part) (f .start) (sub-part S (f .part) sub (λ k h. f .within k (in→ h))) (f .est);
+    sum = ap (C .later (f .start)) (processing-eq (f .part)) ∙ f .sum;
+  }
 
   ect→ : (S : TaskSet) (v : C .Moment) → Subset B S X → Ect B S v → Ect Only S v
   ect→ S v sub e = record { holds = fill→ S v sub (e .holds); bounds = λ w f. e .bounds w (fill← S w sub f) }
 
   pub only-checks : (Ω : TaskSet) (i : ℕ) → Subset B Ω X → X i ≡ true → RuleFormula B Ω i → RuleFormula Only Ω i
-  only-checks Ω i sub y c = record { outside = record { small = c .outside .small; mem = c .outside .mem }; start = c .start; end = c .end; joint = c .joint;
-      est = est→ Ω (c .start) sub (c .est); lct = lct→ Ω (c .end) sub (c .lct); ect = ect→ Ω (c .joint) sub (c .ect);
-      over-i = rw (e-same i (record { small = c .outside .small; mem = y }), ← processing-eq Ω) (c .over-i); over-Ω = rw (← processing-eq Ω) (c .over-Ω); passes = rw (l-same i (record { small = c .outside .small; mem = y })) (c .passes) }
+  only-checks Ω i sub y c = record {
+    outside = record { small = c .outside .small; mem = c .outside .mem };
+    start = c .start;
+    end = c .end;
+    joint = c .joint;
+    est = est→ Ω (c .start) sub (c .est);
+    lct = lct→ Ω (c .end) sub (c .lct);
+    ect = ect→ Ω (c .joint) sub (c .ect);
+    over-i = rw (e-same i (record { small = c .outside .small; mem = y }), ← processing-eq Ω) (c .over-i);
+    over-Ω = rw (← processing-eq Ω) (c .over-Ω);
+    passes = rw (l-same i (record { small = c .outside .small; mem = y })) (c .passes);
+  }
 
   pub only-overloads : (Ω : TaskSet) → Subset B Ω X → Overloads B Ω → Overloads Only Ω
   only-overloads Ω sub v = record { start = v .start; end = v .end; est = est→ Ω (v .start) sub (v .est); lct = lct→ Ω (v .end) sub (v .lct); over = rw (← processing-eq Ω) (v .over) }
@@ -83,6 +108,7 @@ module _ (B : Tasks whole) (lasts : (k : ℕ) → k < B .count → 1 ≤ B .dura
   module _ (X : TaskSet) (from : (k : ℕ) → In B X k → B .earliest k ≤ℤ s k) (to : (k : ℕ) → In B X k → s k ≤ℤ B .latest k) where
     e′ : ℕ → ℤ
     e′ k = cond (X k) (B .earliest k) (s k)
+
     l′ : ℕ → ℤ
     l′ k = cond (X k) (B .latest k) (s k)
 
@@ -119,9 +145,10 @@ module _ (B : Tasks whole) (lasts : (k : ℕ) → k < B .count → 1 ≤ B .dura
     high k q = above-up o (K .earliest k) (s k) (from′ k q) (low k q)
 
     apart′ : (j k : ℕ) → j < B .count → k < B .count → (j ≡ k → ⊥) → (moment o (s j) + B .duration j ≤ moment o (s k)) ⊎ (moment o (s k) + B .duration k ≤ moment o (s j))
-    apart′ j k p q ne = elim (apart j k p q ne)
-      [ inl y ↦ inl (omega (arith, plus o (s j) (B .duration j) (high j p), mono o (s j +ℤ pos (B .duration j)) (s k) y))
-      | inr y ↦ inr (omega (arith, plus o (s k) (B .duration k) (high k q), mono o (s k +ℤ pos (B .duration k)) (s j) y)) ]
+    apart′ j k p q ne = elim (apart j k p q ne) [
+      | inl y ↦ inl (omega (arith, plus o (s j) (B .duration j) (high j p), mono o (s j +ℤ pos (B .duration j)) (s k) y))
+      | inr y ↦ inr (omega (arith, plus o (s k) (B .duration k) (high k q), mono o (s k +ℤ pos (B .duration k)) (s j) y))
+    ]
 
     by-check : (Ω : TaskSet) (i : ℕ) → RuleFormula K Ω i → ⊥
     by-check Ω i c = nat-check-sound (moments o K) lasts (λ k. moment o (s k)) apart′ Ω i (checks→ o K ok low Ω i c)
@@ -145,6 +172,7 @@ module _ (o : ℕ) (B : Tasks whole) (lasts : (k : ℕ) → k < B .count → 1 �
 
   e″ : ℕ → ℤ
   e″ k = cond (X k) (B .earliest k) (pos 0)
+
   l″ : ℕ → ℤ
   l″ k = cond (X k) (B .latest k) (pos 0)
 
@@ -173,15 +201,15 @@ module _ (o : ℕ) (B : Tasks whole) (lasts : (k : ℕ) → k < B .count → 1 �
   pub checks-down : (Ω : TaskSet) (i : ℕ) → Subset B Ω X → X i ≡ true → RuleFormula Moments Ω i → RuleFormula B Ω i
   checks-down Ω i sub y c =
       let n : RuleFormula (moments o K″) Ω i
-            = only-checks Moments X (λ k. moment o (e″ k)) (λ k. moment o (l″ k)) (λ k h. ap (moment o) (e-in k (up″ h)) ∙ e-at k (up″ h)) (λ k h. ap (moment o) (l-in k (up″ h)) ∙ l-at k (up″ h)) Ω i
-                (λ k h. sub k (record { small = h .small; mem = h .mem })) y c in
+      = only-checks Moments X (λ k. moment o (e″ k)) (λ k. moment o (l″ k)) (λ k h. ap (moment o) (e-in k (up″ h)) ∙ e-at k (up″ h)) (λ k h. ap (moment o) (l-in k (up″ h)) ∙ l-at k (up″ h)) Ω i
+      (λ k h. sub k (record { small = h .small; mem = h .mem })) y c in
       only-checks K″ X (B .earliest) (B .latest) (λ k h. sym (e-in k (record { small = h .small; mem = h .mem }))) (λ k h. sym (l-in k (record { small = h .small; mem = h .mem }))) Ω i
-        (λ k h. sub k (record { small = h .small; mem = h .mem })) y (checks← o K″ ok″ low″ Ω i n)
+      (λ k h. sub k (record { small = h .small; mem = h .mem })) y (checks← o K″ ok″ low″ Ω i n)
 
   pub overloads-down : (Ω : TaskSet) → Subset B Ω X → Overloads Moments Ω → Overloads B Ω
   overloads-down Ω sub c =
       let n : Overloads (moments o K″) Ω
-            = only-overloads Moments X (λ k. moment o (e″ k)) (λ k. moment o (l″ k)) (λ k h. ap (moment o) (e-in k (up″ h)) ∙ e-at k (up″ h)) (λ k h. ap (moment o) (l-in k (up″ h)) ∙ l-at k (up″ h)) Ω
-                (λ k h. sub k (record { small = h .small; mem = h .mem })) c in
+      = only-overloads Moments X (λ k. moment o (e″ k)) (λ k. moment o (l″ k)) (λ k h. ap (moment o) (e-in k (up″ h)) ∙ e-at k (up″ h)) (λ k h. ap (moment o) (l-in k (up″ h)) ∙ l-at k (up″ h)) Ω
+      (λ k h. sub k (record { small = h .small; mem = h .mem })) c in
       only-overloads K″ X (B .earliest) (B .latest) (λ k h. sym (e-in k (record { small = h .small; mem = h .mem }))) (λ k h. sym (l-in k (record { small = h .small; mem = h .mem }))) Ω
-        (λ k h. sub k (record { small = h .small; mem = h .mem })) (overload← o K″ ok″ low″ Ω n)
+      (λ k h. sub k (record { small = h .small; mem = h .mem })) (overload← o K″ ok″ low″ Ω n)

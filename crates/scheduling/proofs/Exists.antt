@@ -15,9 +15,10 @@ use Rattle.scheduling.proofs.Processing.{processing-mono}
 module _ (J : Tasks natural) where
   -- a member at which f is largest, and one at which it is least
   pub largest-at : (Ω : TaskSet) (f : ℕ → ℕ) → NonEmpty J Ω → (k : ℕ) × In J Ω k × ((j : ℕ) → In J Ω j → f j ≤ f k)
-  largest-at Ω f (i , im) = elim (top Ω f (J .count))
-    [ inl none ↦ clash (im .mem) (none i (im .small))
-    | inr t ↦ (t .at, record { small = t .small; mem = t .mem }, λ j h. t .top j (h .small) (h .mem)) ]
+  largest-at Ω f (i, im) = elim (top Ω f (J .count)) [
+    | inl none ↦ clash (im .mem) (none i (im .small))
+    | inr t ↦ (t .at, record { small = t .small; mem = t .mem }, λ j h. t .top j (h .small) (h .mem))
+  ]
 
   pub least-at : (Ω : TaskSet) (f : ℕ → ℕ) → NonEmpty J Ω → (k : ℕ) × In J Ω k × ((j : ℕ) → In J Ω j → f k ≤ f j)
   least-at Ω f ne =
@@ -52,9 +53,23 @@ module _ (J : Tasks natural) where
   pub ect-some : (Ω : TaskSet) → NonEmpty J Ω → (v : ℕ) × Ect J Ω v
   ect-some Ω ne =
       let key : ℕ → ℕ = λ k. J .earliest k + processing J (since Ω (J .earliest k)) in
-      let (k, km, kt) = largest-at Ω key ne in
-      (key k, record { holds = record { part = since Ω (J .earliest k); within = λ j h. (since-in Ω (J .earliest k) j (h .mem)) .1; start = J .earliest k;
-          est = record { holds = (k, record { small = km .small; mem = since-out Ω (J .earliest k) k (omega arith) (km .mem) }, refl); bounds = λ w h. omega (arith, h .2, (since-in Ω (J .earliest k) (h .0) (h .1 .mem)) .0) }; sum = refl };
-        bounds = λ w f. let (i, im, e) = f .est .holds in
-          omega (arith, f .sum, e, kt i (record { small = im .small; mem = f .within i im }),
-            processing-mono J (f .part) (since Ω (J .earliest i)) (λ j h. since-out Ω (J .earliest i) j (omega (arith, e, f .est .bounds (J .earliest j) (j, h, refl))) (f .within j h))) })
+      let (k, km, kt) = largest-at Ω key ne in (
+        key k,
+        record {
+          holds = record {
+            part = since Ω (J .earliest k);
+            within = λ j h. (since-in Ω (J .earliest k) j (h .mem)) .1;
+            start = J .earliest k;
+            est = record { holds = (k, record { small = km .small; mem = since-out Ω (J .earliest k) k (omega arith) (km .mem) }, refl); bounds = λ w h. omega (arith, h .2, (since-in Ω (J .earliest k) (h .0) (h .1 .mem)) .0) };
+            sum = refl;
+          };
+          bounds = λ w f. let (i, im, e) = f .est .holds in
+              omega (
+                arith,
+                f .sum,
+                e,
+                kt i (record { small = im .small; mem = f .within i im }),
+                processing-mono J (f .part) (since Ω (J .earliest i)) (λ j h. since-out Ω (J .earliest i) j (omega (arith, e, f .est .bounds (J .earliest j) (j, h, refl))) (f .within j h)),
+              );
+        },
+      )

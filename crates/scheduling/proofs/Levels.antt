@@ -59,8 +59,15 @@ module _ (J : Tasks natural) (ok : Proper J) (ect : TaskSet → ℕ) (ect-is : (
 
   -- Λ counts only by its members
   pub facts-same : (t : ℕ) (Λ Λ′ : TaskSet) (now : ℕ → ℕ) → ((k : ℕ) → k < J .count → Λ k ≡ Λ′ k) → Facts t Λ now → Facts t Λ′ now
-  facts-same t Λ Λ′ now z f = record { calm = f .calm; gray = λ k h. f .gray k (back k h); waits = λ k h. f .waits k (back k h);
-      left = λ k h. f .left k (record { small = h .small; mem = z k (h .small) ∙ h .mem }); same-in = λ k h. f .same-in k (back k h); same-on = f .same-on; inside = f .inside }
+  facts-same t Λ Λ′ now z f = record {
+    calm = f .calm;
+    gray = λ k h. f .gray k (back k h);
+    waits = λ k h. f .waits k (back k h);
+    left = λ k h. f .left k (record { small = h .small; mem = z k (h .small) ∙ h .mem });
+    same-in = λ k h. f .same-in k (back k h);
+    same-on = f .same-on;
+    inside = f .inside;
+  }
     where
       back : (k : ℕ) → In J Λ′ k → In J Λ k
       back k h = record { small = h .small; mem = z k (h .small) ∙ h .mem }
@@ -81,18 +88,25 @@ module _ (J : Tasks natural) (ok : Proper J) (ect : TaskSet → ℕ) (ect-is : (
     where
       at-t : (k : ℕ) → k ≡ L t → place k ≡ t
       at-t k z = rw z (ord .back t small)
+
       gray : (k : ℕ) → In J (Λ with L t) k → place k < suc t
       gray k h = elim (with-in Λ (L t) k (h .mem)) [ inl z ↦ omega (arith, at-t k z) | inr y ↦ omega (arith, f .gray k (record { small = h .small; mem = y })) ]
+
       waits : (k : ℕ) → In J (Λ with L t) k → (r : ℕ) → place k < r → r < suc t → ect (Θ r with k) ≤ End r
-      waits k h = elim (with-in Λ (L t) k (h .mem))
-        [ inl z ↦ (λ r a b. absurd (omega (arith, at-t k z)))
-        | inr y ↦ (λ r a b. below-suc (λ r. place k < r → ect (Θ r with k) ≤ End r) t (λ r q a. f .waits k (record { small = h .small; mem = y }) r a q) (λ a. closed k (record { small = h .small; mem = y })) r b a) ]
+      waits k h = elim (with-in Λ (L t) k (h .mem)) [
+        | inl z ↦ (λ r a b. absurd (omega (arith, at-t k z)))
+        | inr y ↦ (λ r a b. below-suc (λ r. place k < r → ect (Θ r with k) ≤ End r) t (λ r q a. f .waits k (record { small = h .small; mem = y }) r a q) (λ a. closed k (record { small = h .small; mem = y })) r b a)
+      ]
+
       left : (k : ℕ) → Outside J (Λ with L t) k → place k < suc t → Left (suc t) k (now k)
-      left k h q = elim (bool (Λ k))
-        [ inl y ↦ clash (with-old Λ (L t) k y) (h .mem)
-        | inr y ↦ elim (ℕ-discrete (place k) t)
-          [ yes z ↦ clash (subst (λ (i : ℕ). (Λ with i) k ≡ true) (sym (ord .there k (h .small)) ∙ ap L z) (with-new Λ k)) (h .mem)
-          | no z ↦ (let o = f .left k (record { small = h .small; mem = y }) (omega arith) in record { level = o .level; late = o .late; seen = omega arith; passes = o .passes; first = o .first; raised = o .raised }) ] ]
+      left k h q = elim (bool (Λ k)) [
+        | inl y ↦ clash (with-old Λ (L t) k y) (h .mem)
+        | inr y ↦ elim (ℕ-discrete (place k) t) [
+          | yes z ↦ clash (subst (λ (i : ℕ). (Λ with i) k ≡ true) (sym (ord .there k (h .small)) ∙ ap L z) (with-new Λ k)) (h .mem)
+          | no z ↦ (let o = f .left k (record { small = h .small; mem = y }) (omega arith) in record { level = o .level; late = o .late; seen = omega arith; passes = o .passes; first = o .first; raised = o .raised })
+        ]
+      ]
+
       same-in : (k : ℕ) → In J (Λ with L t) k → now k ≡ J .earliest k
       same-in k h = elim (with-in Λ (L t) k (h .mem)) [ inl z ↦ f .same-on k (h .small) (omega (arith, at-t k z)) | inr y ↦ f .same-in k (record { small = h .small; mem = y }) ]
 
@@ -104,14 +118,19 @@ module _ (J : Tasks natural) (ok : Proper J) (ect : TaskSet → ℕ) (ect-is : (
     where
       kept : (k : ℕ) → In J (Λ less i) k → In J Λ k
       kept k m = record { small = m .small; mem = (less-in Λ i k (m .mem)) .0 }
+
       apart : (k : ℕ) → In J (Λ less i) k → k ≡ i → ⊥
       apart k m = (less-in Λ i k (m .mem)) .1
+
       left : (k : ℕ) → Outside J (Λ less i) k → place k < t → Left t k (now′ k)
-      left k m q = elim (ℕ-discrete k i)
-        [ yes z ↦ rw z (record { level = t; late = f .gray i h; seen = omega arith; passes = over; first = f .waits i h; raised = new })
-        | no z ↦ rw (others k z) (f .left k (record { small = m .small; mem = elim (bool (Λ k)) [ inl y ↦ clash (less-out Λ i k y z) (m .mem) | inr y ↦ y ] }) q) ]
+      left k m q = elim (ℕ-discrete k i) [
+        | yes z ↦ rw z (record { level = t; late = f .gray i h; seen = omega arith; passes = over; first = f .waits i h; raised = new })
+        | no z ↦ rw (others k z) (f .left k (record { small = m .small; mem = elim (bool (Λ k)) [ inl y ↦ clash (less-out Λ i k y z) (m .mem) | inr y ↦ y ] }) q)
+      ]
+
       same-on : (k : ℕ) → k < J .count → t ≤ place k → now′ k ≡ J .earliest k
       same-on k q r = rw (others k (λ z. omega (arith, f .gray i h, ap place z))) (f .same-on k q r)
+
       inside : (k : ℕ) → k < J .count → now′ k ≤ J .latest k
       inside k q = elim (ℕ-discrete k i) [ yes z ↦ rw z fits | no z ↦ rw (others k z) (f .inside k q) ]
 
@@ -127,32 +146,44 @@ module _ (J : Tasks natural) (ok : Proper J) (ect : TaskSet → ℕ) (ect-is : (
     where
       only : (k : ℕ) → In J (Θ t) k → L t ≡ k
       only k h = subst (λ (r : ℕ). L r ≡ k) (omega (arith, leb-true t (place k) (h .mem), ord .placed k (h .small))) (ord .there k (h .small))
+
       go : EstPlusP J (Θ t) (ect (Θ t)) → ect (Θ t) ≤ End t
       go f =
           let (k, km, ek) = f .est .holds in
           let lk : L t ≡ k = only k (record { small = km .small; mem = f .within k km }) in
           let none : processing J (f .part less k) ≡ 0
-                = processing-empty J (f .part less k) (λ j q. elim (bool ((f .part less k) j))
-                    [ inl y ↦ absurd ((less-in (f .part) k j y) .1 (sym (only j (record { small = q; mem = f .within j (record { small = q; mem = (less-in (f .part) k j y) .0 }) })) ∙ lk)) | inr y ↦ y ]) in
+          = processing-empty J (f .part less k) (λ j q. elim (bool ((f .part less k) j))
+          [ inl y ↦ absurd ((less-in (f .part) k j y) .1 (sym (only j (record { small = q; mem = f .within j (record { small = q; mem = (less-in (f .part) k j y) .0 }) })) ∙ lk)) | inr y ↦ y ]) in
           rw lk (omega (arith, processing-less J (f .part) k km, ok .ranges k (km .small), f .sum))
 
   -- the first task of a set in the order: the set lies in what is left from there
   first-of : (Ω : TaskSet) → NonEmpty J Ω → (k : ℕ) × In J Ω k × Subset J Ω (Θ (place k))
-  first-of Ω some = elim (top Ω (λ k. J .count - place k) (J .count))
-    [ inl none ↦ clash (some .1 .mem) (none (some .0) (some .1 .small))
-    | inr t ↦ (t .at, record { small = t .small; mem = t .mem },
-        λ j h. le-leb (place (t .at)) (place j) (omega (arith, t .top j (h .small) (h .mem), ord .placed j (h .small), ord .placed (t .at) (t .small)))) ]
+  first-of Ω some = elim (top Ω (λ k. J .count - place k) (J .count)) [
+    | inl none ↦ clash (some .1 .mem) (none (some .0) (some .1 .small))
+    | inr t ↦ (
+      t .at,
+      record { small = t .small; mem = t .mem },
+      λ j h. le-leb (place (t .at)) (place j) (omega (arith, t .top j (h .small) (h .mem), ord .placed j (h .small), ord .placed (t .at) (t .small))),
+    )
+  ]
 
   with-mono : (S Ω : TaskSet) (i : ℕ) → Subset J S Ω → Subset J (S with i) (Ω with i)
   with-mono S Ω i sub j h = elim (with-in S i j (h .mem))
-    [ inl z ↦ rw z (with-new Ω i) | inr y ↦ with-old Ω i j (sub j (record { small = h .small; mem = y })) ]
+      [ inl z ↦ rw z (with-new Ω i) | inr y ↦ with-old Ω i j (sub j (record { small = h .small; mem = y })) ]
 
   -- a level that i passes gives a bound of i
   pub edge : (t i : ℕ) → i < J .count → place i < t → t < J .count → End t < ect (Θ t with i) → EdgeFindingBound J i (ect (Θ t))
   edge t i q late small over =
-      record { set = Θ t; outside = record { small = q; mem = lt-leb t (place i) late }; end = End t;
+      record {
+        set = Θ t;
+        outside = record { small = q; mem = lt-leb t (place i) late };
+        end = End t;
         lct = record { holds = (L t, in-Θ t (L t) (ord .task t small) (omega (arith, ord .back t small)), refl); bounds = bounds };
-        joint = ect (Θ t with i); ect-with = ect-is (Θ t with i) (i, record { small = q; mem = with-new (Θ t) i }); passes = over; ect = ect-is (Θ t) (Θ-some t small) }
+        joint = ect (Θ t with i);
+        ect-with = ect-is (Θ t with i) (i, record { small = q; mem = with-new (Θ t) i });
+        passes = over;
+        ect = ect-is (Θ t) (Θ-some t small);
+      }
     where
       bounds : (w : ℕ) → (k : ℕ) × In J (Θ t) k × (completion J k ≡ w) → w ≤ End t
       bounds w h = let (k, km, e) = h in omega (arith, subst (λ (j : ℕ). completion J j ≤ End t) (ord .there k (km .small)) (ord .sorted t (place k) (leb-true t (place k) (km .mem)) (ord .placed k (km .small))))
@@ -171,29 +202,48 @@ module _ (J : Tasks natural) (ok : Proper J) (ect : TaskSet → ℕ) (ect-is : (
       where
         k : ℕ
         k = (first-of (r .set) (r .lct .holds .0, r .lct .holds .1)) .0
+
         km : In J (r .set) k
         km = (first-of (r .set) (r .lct .holds .0, r .lct .holds .1)) .1
+
         sub : Subset J (r .set) (Θ (place k))
         sub = (first-of (r .set) (r .lct .holds .0, r .lct .holds .1)) .2
+
         small : place k < J .count
         small = ord .placed k (km .small)
+
         -- the level of k is passed with i
         over : End (place k) < ect (Θ (place k) with i)
-        over = rw (ord .there k (km .small)) (omega (arith, r .lct .bounds (completion J k) (k, km, refl), r .passes,
-            ect-mono J (r .set with i) (Θ (place k) with i) (r .joint) (ect (Θ (place k) with i)) (with-mono (r .set) (Θ (place k)) i sub) (r .ect-with) (ect-is (Θ (place k) with i) (i, record { small = r .outside .small; mem = with-new (Θ (place k)) i }))))
+        over = rw (ord .there k (km .small)) (omega (
+          arith,
+          r .lct .bounds (completion J k) (k, km, refl),
+          r .passes,
+          ect-mono J (r .set with i) (Θ (place k) with i) (r .joint) (ect (Θ (place k) with i)) (with-mono (r .set) (Θ (place k)) i sub) (r .ect-with) (ect-is (Θ (place k) with i) (i, record { small = r .outside .small; mem = with-new (Θ (place k)) i })),
+        ))
+
         before : place i < place k
-        before = elim (decLt (place i) (place k)) [ yes q ↦ q | no q ↦ absurd (omega (arith, over, quiet (place k) small,
+        before = elim (decLt (place i) (place k)) [
+          | yes q ↦ q
+          | no q ↦ absurd (omega (
+            arith,
+            over,
+            quiet (place k) small,
             ect-mono J (Θ (place k) with i) (Θ (place k)) (ect (Θ (place k) with i)) (ect (Θ (place k)))
-              (λ j h. elim (with-in (Θ (place k)) i j (h .mem)) [ inl z ↦ rw z (le-leb (place k) (place i) (omega arith)) | inr y ↦ y ])
-              (ect-is (Θ (place k) with i) (i, record { small = r .outside .small; mem = with-new (Θ (place k)) i })) (ect-is (Θ (place k)) (Θ-some (place k) small)))) ]
+                (λ j h. elim (with-in (Θ (place k)) i j (h .mem)) [ inl z ↦ rw z (le-leb (place k) (place i) (omega arith)) | inr y ↦ y ])
+                (ect-is (Θ (place k) with i) (i, record { small = r .outside .small; mem = with-new (Θ (place k)) i })) (ect-is (Θ (place k)) (Θ-some (place k) small)),
+          ))
+        ]
+
         by : (Λ i ≡ true) ⊎ (Λ i ≡ false) → (o : Left t i (now i)) × (b ≤ ect (Θ (o .level)))
         by (inl y) = absurd (omega (arith, over, waited i (record { small = r .outside .small; mem = y }) (place k) before small))
         by (inr y) =
             let o : Left t i (now i) = f .left i (record { small = r .outside .small; mem = y }) (omega (arith, before, small)) in
-            let lv : o .level ≤ place k = elim (decLe (o .level) (place k)) [ yes q ↦ q | no q ↦ absurd (omega (arith, over, o .first (place k) before (omega arith))) ] in
-            (o, ect-mono J (r .set) (Θ (o .level)) b (ect (Θ (o .level)))
+            let lv : o .level ≤ place k = elim (decLe (o .level) (place k)) [ yes q ↦ q | no q ↦ absurd (omega (arith, over, o .first (place k) before (omega arith))) ] in (
+              o,
+              ect-mono J (r .set) (Θ (o .level)) b (ect (Θ (o .level)))
                   (λ j h. le-leb (o .level) (place j) (omega (arith, leb-true (place k) (place j) (sub j h))))
-                  (r .ect) (ect-is (Θ (o .level)) (Θ-some (o .level) (omega arith))))
+                  (r .ect) (ect-is (Θ (o .level)) (Θ-some (o .level) (omega arith))),
+            )
 
     -- and the other way: what i left with is an edge-finding bound
     left-edge : (i new : ℕ) → i < J .count → (o : Left t i new) → EdgeFindingBound J i (ect (Θ (o .level)))
@@ -204,7 +254,7 @@ module _ (J : Tasks natural) (ok : Proper J) (ect : TaskSet → ℕ) (ect-is : (
         let (k, km, sub) = first-of Ω (o .lct .holds .0, o .lct .holds .1) in
         let small : place k < J .count = ord .placed k (km .small) in
         let w : o .start + processing J Ω ≤ ect (Θ (place k))
-              = ect-is (Θ (place k)) (Θ-some (place k) small) .bounds (o .start + processing J Ω) (record { part = Ω; within = sub; start = o .start; est = o .est; sum = refl }) in
+        = ect-is (Θ (place k)) (Θ-some (place k) small) .bounds (o .start + processing J Ω) (record { part = Ω; within = sub; start = o .start; est = o .est; sum = refl }) in
         let c : ect (Θ (place k)) ≤ completion J k = rw (ord .there k (km .small)) at (quiet (place k) small) in
         omega (arith, o .over, o .lct .bounds (completion J k) (k, km, refl))
 
@@ -217,14 +267,17 @@ module _ (J : Tasks natural) (ok : Proper J) (ect : TaskSet → ℕ) (ect-is : (
 
     -- a start is as it was, or raised to one of its bounds
     now-edge : (i : ℕ) → i < J .count → (now i ≡ J .earliest i) ⊎ ((J .earliest i < now i) × EdgeFindingBound J i (now i))
-    now-edge i q = elim (decLt (place i) t)
-      [ no z ↦ inl (f .same-on i q (omega arith))
-      | yes z ↦ elim (bool (Λ i))
-        [ inl y ↦ inl (f .same-in i (record { small = q; mem = y }))
+    now-edge i q = elim (decLt (place i) t) [
+      | no z ↦ inl (f .same-on i q (omega arith))
+      | yes z ↦ elim (bool (Λ i)) [
+        | inl y ↦ inl (f .same-in i (record { small = q; mem = y }))
         | inr y ↦ (let o : Left t i (now i) = f .left i (record { small = q; mem = y }) z in
-            elim (decLe (ect (Θ (o .level))) (J .earliest i))
-              [ yes c ↦ inl (omega (arith, o .raised))
-              | no c ↦ inr (let e : ect (Θ (o .level)) ≡ now i = omega (arith, o .raised) in (omega arith, rw e at (left-edge i (now i) q o))) ]) ] ]
+            elim (decLe (ect (Θ (o .level))) (J .earliest i)) [
+              | yes c ↦ inl (omega (arith, o .raised))
+              | no c ↦ inr (let e : ect (Θ (o .level)) ≡ now i = omega (arith, o .raised) in (omega arith, rw e at (left-edge i (now i) q o)))
+            ])
+      ]
+    ]
 
     pub starts : (i : ℕ) → i < J .count → Largest natural (λ v. (J .earliest i ≡ v) ⊎ EdgeFindingBound J i v) (now i)
     starts i q = record { holds = elim (now-edge i q) [ inl z ↦ inl (sym z) | inr z ↦ inr (z .1) ]; bounds = bounds }
@@ -238,8 +291,16 @@ module _ (J : Tasks natural) (ok : Proper J) (ect : TaskSet → ℕ) (ect-is : (
 
     pub finish : (m : ℕ) (task bound : ℕ → ℕ) → Posts J now m task bound → Done J now m task bound
     finish m task bound p =
-        record { no-overload = no-overload; no-passing = no-passing; starts = starts; small = p .small; raises = p .raises; every = p .every; once = p .once;
-          at-largest = λ j q. rw (p .agrees j q) (largest (task j) (p .small j q) (omega (arith, p .raises j q, p .agrees j q))) }
+        record {
+          no-overload = no-overload;
+          no-passing = no-passing;
+          starts = starts;
+          small = p .small;
+          raises = p .raises;
+          every = p .every;
+          once = p .once;
+          at-largest = λ j q. rw (p .agrees j q) (largest (task j) (p .small j q) (omega (arith, p .raises j q, p .agrees j q)));
+        }
 
   -- A level whose ect passes its end holds a set that overloads its span.
   pub overloaded : (t : ℕ) → t < J .count → End t < ect (Θ t) → (Ω : TaskSet) × Overloads J Ω
@@ -247,9 +308,18 @@ module _ (J : Tasks natural) (ok : Proper J) (ect : TaskSet → ℕ) (ect-is : (
     where
       by : (k : ℕ) → In J (Θ t) k → completion J k ≤ End t
       by k km = subst (λ (j : ℕ). completion J j ≤ End t) (ord .there k (km .small)) (ord .sorted t (place k) (leb-true t (place k) (km .mem)) (ord .placed k (km .small)))
+
       go : EstPlusP J (Θ t) (ect (Θ t)) → (Ω : TaskSet) × Overloads J Ω
-      go f = elim (top (f .part) (completion J) (J .count))
-        [ inl none ↦ clash (f .est .holds .1 .mem) (none (f .est .holds .0) (f .est .holds .1 .small))
-        | inr m ↦ (f .part, record { start = f .start; end = completion J (m .at); est = f .est;
+      go f = elim (top (f .part) (completion J) (J .count)) [
+        | inl none ↦ clash (f .est .holds .1 .mem) (none (f .est .holds .0) (f .est .holds .1 .small))
+        | inr m ↦ (
+          f .part,
+          record {
+            start = f .start;
+            end = completion J (m .at);
+            est = f .est;
             lct = record { holds = (m .at, record { small = m .small; mem = m .mem }, refl); bounds = λ w h. omega (arith, m .top (h .0) (h .1 .small) (h .1 .mem), h .2) };
-            over = omega (arith, f .sum, by (m .at) (record { small = m .small; mem = f .within (m .at) (record { small = m .small; mem = m .mem }) })) }) ]
+            over = omega (arith, f .sum, by (m .at) (record { small = m .small; mem = f .within (m .at) (record { small = m .small; mem = m .mem }) }));
+          },
+        )
+      ]

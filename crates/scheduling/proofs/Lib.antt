@@ -4,10 +4,16 @@ pub mod Windows
 pub mod Rule
 pub mod Exists
 pub mod Monotone
+pub mod Joins
 pub mod Scan
 pub mod Stretches
 pub mod Bars
+pub mod Suffixes
 pub mod Levels
+pub mod Walks
 pub mod Reasons
 pub mod Transfer
+pub mod Schedules
+pub mod Negation
 pub mod Checks
+pub mod Passed

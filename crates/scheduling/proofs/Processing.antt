@@ -40,7 +40,7 @@ module _ (J : Tasks natural) where
   unfolding processing term
   processing-less Ω i h =
       let g : total (term Ω) (J .count) + term (Ω less i) i ≡ total (term (Ω less i)) (J .count) + term Ω i
-            = total-swap (term Ω) (term (Ω less i)) (J .count) i (h .small) (term-less Ω i) in
+      = total-swap (term Ω) (term (Ω less i)) (J .count) i (h .small) (term-less Ω i) in
       omega (arith, g, term-true Ω i (h .mem), term-false (Ω less i) i (less-self Ω i))
 
   pub processing-empty : (Ω : TaskSet) → Empty Ω (J .count) → processing J Ω ≡ 0
@@ -51,5 +51,5 @@ module _ (J : Tasks natural) where
   unfolding processing term
   processing-with Ω i h =
       let g : total (term Ω) (J .count) + term (Ω with i) i ≡ total (term (Ω with i)) (J .count) + term Ω i
-            = total-swap (term Ω) (term (Ω with i)) (J .count) i (h .small) (λ k ne. rw (ne-eqb k i ne)) in
+      = total-swap (term Ω) (term (Ω with i)) (J .count) i (h .small) (λ k ne. rw (ne-eqb k i ne)) in
       omega (arith, g, term-false Ω i (h .mem), term-true (Ω with i) i (with-new Ω i))

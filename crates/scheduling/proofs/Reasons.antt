@@ -40,7 +40,7 @@ module _ (J : Tasks natural) (ok : Proper J) (Ω Ω′ : TaskSet) (i r s′ b c 
   -- They hold at entry.
   pub holds-low : (k : ℕ) → In J Ω k → Given .earliest k ≤ J .earliest k
   holds-low k h = elim (bool (Ω′ k))
-    [ inl y ↦ rw y (est′ .bounds (J .earliest k) (k, record { small = h .small; mem = y }, refl)) | inr y ↦ rw y (low k h) ]
+      [ inl y ↦ rw y (est′ .bounds (J .earliest k) (k, record { small = h .small; mem = y }, refl)) | inr y ↦ rw y (low k h) ]
 
   pub holds-high : (k : ℕ) → In J Ω k → J .latest k ≤ Given .latest k
   holds-high k h = omega (arith, late k h, ends k h)
@@ -71,8 +71,13 @@ module _ (J : Tasks natural) (ok : Proper J) (Ω Ω′ : TaskSet) (i r s′ b c 
   fill′ : EstPlusP Given Ω b
   fill′ =
       let (k, km, e) = est′ .holds in
-      record { part = Ω′; within = λ j h. sub j (in← h); start = s′; sum = omega (arith, bound, processing-eq Ω′);
-        est = record { holds = (k, in→ km, at-s′ k (km .mem)); bounds = λ w h. omega (arith, h .2, at-s′ (h .0) (h .1 .mem)) } }
+      record {
+        part = Ω′;
+        within = λ j h. sub j (in← h);
+        start = s′;
+        sum = omega (arith, bound, processing-eq Ω′);
+        est = record { holds = (k, in→ km, at-s′ k (km .mem)); bounds = λ w h. omega (arith, h .2, at-s′ (h .0) (h .1 .mem)) };
+      }
 
   pub passes : RuleFormula Given Ω i
   passes =
@@ -85,9 +90,18 @@ module _ (J : Tasks natural) (ok : Proper J) (Ω Ω′ : TaskSet) (i r s′ b c 
       let dl : d ≤ last = omega (arith, de .holds .2, late (de .holds .0) (in← (de .holds .1)), ends (de .holds .0) (in← (de .holds .1))) in
       let ri : Given .earliest i ≡ r = rw out′ in
       let li : Given .latest i ≡ b - 1 = rw (eq-eqb i i refl) in
-      record { outside = record { small = out .small; mem = out .mem }; start = a; end = d; joint = v; est = ae; lct = de; ect = ve;
-        over-i = omega (arith, processing-eq Ω, ri); over-Ω = omega (arith, processing-eq Ω);
-        passes = omega (arith, li, ve .bounds b fill′, bound, processing-less J Ω′ k km, ok .lasts k (km .small)) }
+      record {
+        outside = record { small = out .small; mem = out .mem };
+        start = a;
+        end = d;
+        joint = v;
+        est = ae;
+        lct = de;
+        ect = ve;
+        over-i = omega (arith, processing-eq Ω, ri);
+        over-Ω = omega (arith, processing-eq Ω);
+        passes = omega (arith, li, ve .bounds b fill′, bound, processing-less J Ω′ k km, ok .lasts k (km .small));
+      }
 
 -- The reason of an overload: all of Ω starts at a − left or later and ends by c + right, where left + right + 1 is what a + p Ω passes c by.
 module _ (J : Tasks natural) (ok : Proper J) (Ω : TaskSet) (a c left right : ℕ) (some : NonEmpty J Ω) (low : (k : ℕ) → In J Ω k → a ≤ J .earliest k) (ends : (k : ℕ) → In J Ω k → completion J k ≤ c)
@@ -113,75 +127,3 @@ module _ (J : Tasks natural) (ok : Proper J) (Ω : TaskSet) (a c left right : �
       let (d, de) = lct-some Span Ω ne in
       let dm : In J Ω (de .holds .0) = record { small = de .holds .1 .small; mem = de .holds .1 .mem } in
       record { start = x; end = d; est = xe; lct = de; over = omega (arith, xe .holds .2, de .holds .2, ends (de .holds .0) dm, span-dur) }
-
--- The walks over Θ in the order of earliest starts: they stop inside it.
-module _ (J : Tasks natural) (ok : Proper J) (T rank : ℕ → ℕ) (rk : ByEarliest J T rank) (Θ : TaskSet) where
-  -- from task m on
-  abbrev pub suf : ℕ → TaskSet
-  suf m k = leb (rank m) (rank k) && Θ k
-
-  pub suf-in : (m k : ℕ) → suf m k ≡ true → (rank m ≤ rank k) × (Θ k ≡ true)
-  suf-in m k h = go (leb (rank m) (rank k)) refl h
-    where
-      go : (b : Bool) → leb (rank m) (rank k) ≡ b → b && Θ k ≡ true → (rank m ≤ rank k) × (Θ k ≡ true)
-      go true e q = (leb-true _ _ e, q)
-      go false e q = clash q refl
-
-  pub suf-out : (m k : ℕ) → rank m ≤ rank k → Θ k ≡ true → suf m k ≡ true
-  suf-out m k h q = rw (le-leb _ _ h) q
-
-  by-rank : (j k : ℕ) → j < J .count → k < J .count → rank j ≤ rank k → J .earliest j ≤ J .earliest k
-  by-rank j k p q h = omega (arith, ap (J .earliest) (rk .there j p), ap (J .earliest) (rk .there k q), rk .sorted (rank j) (rank k) h (rk .placed k q))
-
-  suf-est : (m : ℕ) → In J Θ m → Est J (suf m) (J .earliest m)
-  suf-est m h = record { holds = (m, record { small = h .small; mem = suf-out m m (omega arith) (h .mem) }, refl);
-      bounds = λ w g. omega (arith, g .2, by-rank m (g .0) (h .small) (g .1 .small) ((suf-in m (g .0) (g .1 .mem)) .0)) }
-
-  pub suf-fill : (m : ℕ) → In J Θ m → EstPlusP J Θ (J .earliest m + processing J (suf m))
-  suf-fill m h = record { part = suf m; within = λ k g. (suf-in m k (g .mem)) .1; start = J .earliest m; est = suf-est m h; sum = refl }
-
-  -- a part of Θ lies in a suffix that starts no earlier
-  pub cover : (S : TaskSet) → NonEmpty J S → Subset J S Θ → (m : ℕ) × In J S m × (processing J S ≤ processing J (suf m))
-  cover S ne sub =
-      let (m, mm, mt) = least-at J S rank ne in
-      (m, mm, processing-mono J S (suf m) (λ k h. suf-out m k (mt k h) (sub k h)))
-
-  pub attaining : (b : ℕ) → Ect J Θ b → (m : ℕ) × In J Θ m × (J .earliest m + processing J (suf m) ≡ b)
-  attaining b e =
-      let f : EstPlusP J Θ b = e .holds in
-      let (m, mm, d) = cover (f .part) (f .est .holds .0, f .est .holds .1) (f .within) in
-      let mt : In J Θ m = record { small = mm .small; mem = f .within m mm } in
-      (m, mt, omega (arith, d, f .sum, f .est .bounds (J .earliest m) (m, mm, refl), e .bounds (J .earliest m + processing J (suf m)) (suf-fill m mt)))
-
-  module _ (i c : ℕ) where
-    -- what the walk compares with lct
-    abbrev pub reach : ℕ → ℕ
-    reach m = min (J .earliest i) (J .earliest m) + (processing J (suf m) + J .duration i)
-
-    -- where i is posted, some suffix passes
-    pub passing : (b v : ℕ) (f : EstPlusP J (Θ with i) v) → f .part i ≡ true → i < J .count → c < v → Ect J Θ b → J .earliest i < b → (m : ℕ) × In J Θ m × (c < reach m)
-    passing b v f self small over e up = by (any (f .part less i))
-      where
-        any : (S : TaskSet) → (NonEmpty J S) ⊎ (Empty S (J .count))
-        any S = elim (top S (λ _. 0) (J .count)) [ inl none ↦ inr none | inr t ↦ inl (t .at, record { small = t .small; mem = t .mem }) ]
-        im : In J (f .part) i
-        im = record { small = small; mem = self }
-        start-i : f .start ≤ J .earliest i
-        start-i = f .est .bounds (J .earliest i) (i, im, refl)
-        sub : Subset J (f .part less i) Θ
-        sub k h = let l = less-in (f .part) i k (h .mem) in elim (with-in Θ i k (f .within k (record { small = h .small; mem = l .0 }))) [ inl z ↦ absurd (l .1 z) | inr y ↦ y ]
-        by : (NonEmpty J (f .part less i)) ⊎ (Empty (f .part less i) (J .count)) → (m : ℕ) × In J Θ m × (c < reach m)
-        by (inl ne) =
-            let (m, mm, d) = cover (f .part less i) ne sub in
-            (m, record { small = mm .small; mem = sub m mm },
-              omega (arith, d, f .sum, start-i, processing-less J (f .part) i im, f .est .bounds (J .earliest m) (m, record { small = mm .small; mem = (less-in (f .part) i m (mm .mem)) .0 }, refl)))
-        by (inr none) =
-            let (m, mm, d) = attaining b e in
-            (m, mm, omega (arith, d, f .sum, start-i, processing-less J (f .part) i im, processing-empty J (f .part less i) none))
-
-    -- and the suffix whose completion is ect stands at or after the first that passes
-    pub after-first : (b m j : ℕ) → Ect J Θ b → In J Θ m → In J Θ j → c < reach m → (rank j < rank m → reach j ≤ c) → J .earliest j + processing J (suf j) ≡ b → rank m ≤ rank j
-    after-first b m j e mm jm over first att = elim (decLe (rank m) (rank j))
-      [ yes q ↦ q
-      | no q ↦ absurd (omega (arith, first (omega arith), by-rank j m (jm .small) (mm .small) (omega arith), e .bounds (J .earliest m + processing J (suf m)) (suf-fill m mm),
-          processing-mono J (suf m) (suf j) (λ k h. let u = suf-in m k (h .mem) in suf-out j k (omega (arith, u .0)) (u .1)))) ]

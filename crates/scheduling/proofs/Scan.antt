@@ -48,14 +48,14 @@ module _ (J : Tasks natural) (T rank : ℕ → ℕ) where
     grow-in S j q y =
         let there : In J (upto S (suc j)) (T j) = record { small = rk .task j q; mem = and-out S (suc j) (T j) (omega (arith, rk .back j q)) y } in
         let a : processing J (upto S (suc j) less T j) ≤ processing J (upto S j)
-              = processing-mono J (upto S (suc j) less T j) (upto S j) (λ k h.
-                  let l = less-in (upto S (suc j)) (T j) k (h .mem) in
-                  let u = and-in S (suc j) k (l .0) in
-                  and-out S j k (is-next j k (h .small) (u .0) (l .1)) (u .1)) in
+        = processing-mono J (upto S (suc j) less T j) (upto S j) (λ k h.
+        let l = less-in (upto S (suc j)) (T j) k (h .mem) in
+        let u = and-in S (suc j) k (l .0) in
+        and-out S j k (is-next j k (h .small) (u .0) (l .1)) (u .1)) in
         let b : processing J (upto S j) ≤ processing J (upto S (suc j) less T j)
-              = processing-mono J (upto S j) (upto S (suc j) less T j) (λ k h.
-                  let u = and-in S j k (h .mem) in
-                  less-out (upto S (suc j)) (T j) k (and-out S (suc j) k (omega (arith, u .0)) (u .1)) (not-next j k q (u .0))) in
+        = processing-mono J (upto S j) (upto S (suc j) less T j) (λ k h.
+        let u = and-in S j k (h .mem) in
+        less-out (upto S (suc j)) (T j) k (and-out S (suc j) k (omega (arith, u .0)) (u .1)) (not-next j k q (u .0))) in
         omega (arith, processing-less J (upto S (suc j)) (T j) there)
 
     grow-out : (S : TaskSet) (j : ℕ) → j < J .count → S (T j) ≡ false → processing J (upto S (suc j)) ≤ processing J (upto S j)
@@ -86,42 +86,62 @@ module _ (J : Tasks natural) (T rank : ℕ → ℕ) where
     scan-zero = refl
 
     pub widen : (j v : ℕ) → EstPlusP J (upto Ω j) v → EstPlusP J (upto Ω (suc j)) v
-    widen j v f = record { part = f .part; start = f .start; est = f .est; sum = f .sum;
-        within = λ k h. let u = and-in Ω j k (f .within k h) in and-out Ω (suc j) k (omega (arith, u .0)) (u .1) }
+    widen j v f = record {
+      part = f .part;
+      start = f .start;
+      est = f .est;
+      sum = f .sum;
+      within = λ k h. let u = and-in Ω j k (f .within k h) in and-out Ω (suc j) k (omega (arith, u .0)) (u .1);
+    }
 
     -- the task of rank j alone
     pub alone : (j : ℕ) → j < J .count → Ω (T j) ≡ true → EstPlusP J (upto Ω (suc j)) (J .earliest (T j) + J .duration (T j))
-    alone j q y = record { part = none with T j; start = J .earliest (T j); within = λ k h. rw (is k h) (and-out Ω (suc j) (T j) (omega (arith, rk .back j q)) y);
-        est = record { holds = (T j, record { small = rk .task j q; mem = with-new none (T j) }, refl); bounds = λ w h. omega (arith, h .2, ap (J .earliest) (is (h .0) (h .1))) };
-        sum = omega (arith, processing-with J none (T j) (record { small = rk .task j q; mem = refl }), processing-empty J none (λ _ _. refl)) }
+    alone j q y = record {
+      part = none with T j;
+      start = J .earliest (T j);
+      within = λ k h. rw (is k h) (and-out Ω (suc j) (T j) (omega (arith, rk .back j q)) y);
+      est = record { holds = (T j, record { small = rk .task j q; mem = with-new none (T j) }, refl); bounds = λ w h. omega (arith, h .2, ap (J .earliest) (is (h .0) (h .1))) };
+      sum = omega (arith, processing-with J none (T j) (record { small = rk .task j q; mem = refl }), processing-empty J none (λ _ _. refl));
+    }
       where
         none : TaskSet
         none = λ _. false
+
         is : (k : ℕ) → In J (none with T j) k → k ≡ T j
         is k h = elim (with-in none (T j) k (h .mem)) [ inl z ↦ z | inr z ↦ clash z refl ]
 
     -- and after the part before it
     pub joined : (j v : ℕ) → j < J .count → Ω (T j) ≡ true → EstPlusP J (upto Ω j) v → EstPlusP J (upto Ω (suc j)) (v + J .duration (T j))
-    joined j v q y f = record { part = f .part with T j; start = f .start; within = within;
-        est = record { holds = (f .est .holds .0, record { small = f .est .holds .1 .small; mem = with-old (f .part) (T j) (f .est .holds .0) (f .est .holds .1 .mem) }, f .est .holds .2); bounds = bounds };
-        sum = omega (arith, f .sum, processing-with J (f .part) (T j) (record { small = rk .task j q; mem = out })) }
+    joined j v q y f = record {
+      part = f .part with T j;
+      start = f .start;
+      within = within;
+      est = record { holds = (f .est .holds .0, record { small = f .est .holds .1 .small; mem = with-old (f .part) (T j) (f .est .holds .0) (f .est .holds .1 .mem) }, f .est .holds .2); bounds = bounds };
+      sum = omega (arith, f .sum, processing-with J (f .part) (T j) (record { small = rk .task j q; mem = out }));
+    }
       where
         old : (k : ℕ) → In J (f .part) k → (rank k < j) × (Ω k ≡ true)
         old k h = and-in Ω j k (f .within k h)
+
         within : Subset J (f .part with T j) (upto Ω (suc j))
-        within k h = elim (with-in (f .part) (T j) k (h .mem))
-          [ inl z ↦ rw z (and-out Ω (suc j) (T j) (omega (arith, rk .back j q)) y)
-          | inr z ↦ (let u = old k (record { small = h .small; mem = z }) in and-out Ω (suc j) k (omega (arith, u .0)) (u .1)) ]
+        within k h = elim (with-in (f .part) (T j) k (h .mem)) [
+          | inl z ↦ rw z (and-out Ω (suc j) (T j) (omega (arith, rk .back j q)) y)
+          | inr z ↦ (let u = old k (record { small = h .small; mem = z }) in and-out Ω (suc j) k (omega (arith, u .0)) (u .1))
+        ]
+
         out : f .part (T j) ≡ false
         out = elim (bool (f .part (T j))) [ inl z ↦ absurd (not-next j (T j) q ((old (T j) (record { small = rk .task j q; mem = z })) .0) refl) | inr z ↦ z ]
+
         before : f .start ≤ J .earliest (T j)
         before =
             let (k, h, e) = f .est .holds in
             omega (arith, ap (J .earliest) (rk .there k (h .small)), rk .sorted (rank k) j (omega (arith, (old k h) .0)) q)
+
         bounds : (w : ℕ) → (k : ℕ) × In J (f .part with T j) k × (J .earliest k ≡ w) → f .start ≤ w
-        bounds w h = elim (with-in (f .part) (T j) (h .0) (h .1 .mem))
-          [ inl z ↦ omega (arith, h .2, ap (J .earliest) z, before)
-          | inr z ↦ f .est .bounds w (h .0, record { small = h .1 .small; mem = z }, h .2) ]
+        bounds w h = elim (with-in (f .part) (T j) (h .0) (h .1 .mem)) [
+          | inl z ↦ omega (arith, h .2, ap (J .earliest) z, before)
+          | inr z ↦ f .est .bounds w (h .0, record { small = h .1 .small; mem = z }, h .2)
+        ]
 
     pub widen-part : (j v : ℕ) (f : EstPlusP J (upto Ω j) v) (i : ℕ) → f .part i ≡ true → (widen j v f) .part i ≡ true
     unfolding widen
@@ -149,25 +169,36 @@ module _ (J : Tasks natural) (T rank : ℕ → ℕ) where
       where
         fit : (v : ℕ) → v ≡ scan Ω (suc j) → EstPlusP J (upto Ω (suc j)) v → Reached (suc j)
         fit v e f = inr (rw e at f)
+
         step : Reached j → (Ω (T j) ≡ true) ⊎ (Ω (T j) ≡ false) → Reached (suc j)
         step (inl e) (inl y) = fit (J .earliest (T j) + J .duration (T j)) (omega (arith, scan-in j y, e .0)) (alone j q y)
-        step (inl e) (inr z) = inl (scan-out j z ∙ e .0, λ k h.
-            elim (decLe (suc j) (rank k)) [ yes r ↦ r | no r ↦ absurd (omega (arith, e .1 k h, is-next j k (h .small) (omega arith) (λ w. clash (h .mem) (rw (← w) at z)))) ])
-        step (inr f) (inl y) = elim (decLe (J .earliest (T j)) (scan Ω j))
-          [ yes r ↦ fit (scan Ω j + J .duration (T j)) (omega (arith, scan-in j y)) (joined j (scan Ω j) q y f)
-          | no r ↦ fit (J .earliest (T j) + J .duration (T j)) (omega (arith, scan-in j y)) (alone j q y) ]
+        step (inl e) (inr z) = inl (
+          scan-out j z ∙ e .0,
+          λ k h.
+              elim (decLe (suc j) (rank k)) [ yes r ↦ r | no r ↦ absurd (omega (arith, e .1 k h, is-next j k (h .small) (omega arith) (λ w. clash (h .mem) (rw (← w) at z)))) ],
+        )
+        step (inr f) (inl y) = elim (decLe (J .earliest (T j)) (scan Ω j)) [
+          | yes r ↦ fit (scan Ω j + J .duration (T j)) (omega (arith, scan-in j y)) (joined j (scan Ω j) q y f)
+          | no r ↦ fit (J .earliest (T j) + J .duration (T j)) (omega (arith, scan-in j y)) (alone j q y)
+        ]
         step (inr f) (inr z) = fit (scan Ω j) (sym (scan-out j z)) (widen j (scan Ω j) f)
 
     pub scan-is : NonEmpty J Ω → Ect J Ω (scan Ω (J .count))
-    scan-is (k , km) = record { holds = holds (attained (J .count) (omega arith)); bounds = bounds }
+    scan-is (k, km) = record { holds = holds (attained (J .count) (omega arith)); bounds = bounds }
       where
         holds : Reached (J .count) → EstPlusP J Ω (scan Ω (J .count))
         holds (inl e) = absurd (omega (arith, e .1 k km, rk .placed k (km .small)))
         holds (inr f) = record { part = f .part; start = f .start; est = f .est; sum = f .sum; within = λ j h. (and-in Ω (J .count) j (f .within j h)) .1 }
+
         bounds : (w : ℕ) → EstPlusP J Ω w → w ≤ scan Ω (J .count)
         bounds w f =
             let (i, im, e) = f .est .holds in
             let all : processing J (f .part) ≤ processing J (upto (f .part) (J .count))
-                  = processing-mono J (f .part) (upto (f .part) (J .count)) (λ j h. and-out (f .part) (J .count) j (rk .placed j (h .small)) (h .mem)) in
-            omega (arith, f .sum, processing-less J (f .part) i im, ok .lasts i (im .small),
-              most (f .part) (f .start) (f .within) (λ j h. f .est .bounds (J .earliest j) (j, h, refl)) (J .count) (omega arith))
+            = processing-mono J (f .part) (upto (f .part) (J .count)) (λ j h. and-out (f .part) (J .count) j (rk .placed j (h .small)) (h .mem)) in
+            omega (
+              arith,
+              f .sum,
+              processing-less J (f .part) i im,
+              ok .lasts i (im .small),
+              most (f .part) (f .start) (f .within) (λ j h. f .est .bounds (J .earliest j) (j, h, refl)) (J .count) (omega arith),
+            )

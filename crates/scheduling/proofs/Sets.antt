@@ -27,8 +27,10 @@ top Ω f (suc n) = step (top Ω f n) (bool (Ω n))
   where
     new : Ω n ≡ true → ((j : ℕ) → j < n → Ω j ≡ true → f j ≤ f n) → Top Ω f (suc n)
     new y h = record { at = n; small = omega arith; mem = y; top = below-suc (λ j. Ω j ≡ true → f j ≤ f n) n h (λ _. omega arith) }
+
     old : (t : Top Ω f n) → (Ω n ≡ true → f n ≤ f (t .at)) → Top Ω f (suc n)
     old t h = record { at = t .at; small = omega arith; mem = t .mem; top = below-suc (λ j. Ω j ≡ true → f j ≤ f (t .at)) n (t .top) h }
+
     step : Empty Ω n ⊎ Top Ω f n → (Ω n ≡ true) ⊎ (Ω n ≡ false) → Empty Ω (suc n) ⊎ Top Ω f (suc n)
     step (inl none) (inl y) = inr (new y (λ j q m. clash m (none j q)))
     step (inl none) (inr z) = inl (below-suc (λ k. Ω k ≡ false) n none z)
@@ -60,7 +62,6 @@ abbrev pub _less_ : TaskSet → ℕ → TaskSet
 _less_ Ω i k = not (eqb k i) && Ω k
 
 infixl 20 _less_
-
 pub less-in : (Ω : TaskSet) (i k : ℕ) → (Ω less i) k ≡ true → (Ω k ≡ true) × (k ≡ i → ⊥)
 less-in Ω i k h = go (eqb k i) refl h
   where

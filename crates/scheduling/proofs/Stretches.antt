@@ -131,23 +131,32 @@ module _ (w g : ℕ → Bool) (e p : ℕ → ℕ) where
     where
       z : a + (b + c) ≡ a + b + c
       z = sym (add-assoc a b c)
+
       step : Join a b c → (w (a + b + c) ≡ true) ⊎ (w (a + b + c) ≡ false) → (g (a + b + c) ≡ true) ⊎ (g (a + b + c) ≡ false) → Join a b (suc c)
       step ih (inl y) v =
           let l = white a (b + c) (a + b + c) z y in let r = white (a + b) c (a + b + c) refl y in
-          record { sums = rw (add-suc b c) (omega arith);
+          record {
+            sums = rw (add-suc b c) (omega arith);
             ects = rw (add-suc b c, l .t, ih .ects, r .t, r .s) (ect-white _ _ _ _ _);
             sum-bars = rw (add-suc b c, l .sb, ih .sum-bars, r .sb, r .s) (sb-white _ _ _ _ _);
-            ect-bars = rw (add-suc b c, l .tb, ih .ect-bars, r .tb, r .sb, r .s) (eb-white _ _ _ _ _ _ _) }
+            ect-bars = rw (add-suc b c, l .tb, ih .ect-bars, r .tb, r .sb, r .s) (eb-white _ _ _ _ _ _ _);
+          }
       step ih (inr y) (inl v) =
           let l = gray a (b + c) (a + b + c) z y v in let r = gray (a + b) c (a + b + c) refl y v in
-          record { sums = rw (add-suc b c) (omega arith);
+          record {
+            sums = rw (add-suc b c) (omega arith);
             ects = rw (add-suc b c, l .t, r .t, r .s) (ih .ects);
             sum-bars = rw (add-suc b c, l .sb, ih .sum-bars, ih .sums, r .sb, r .s) (sb-gray _ _ _ _ _);
-            ect-bars = rw (add-suc b c, l .tb, ih .ect-bars, ih .ects, r .tb, r .sb, r .s) (eb-gray _ _ _ _ _ _ _ _) }
+            ect-bars = rw (add-suc b c, l .tb, ih .ect-bars, ih .ects, r .tb, r .sb, r .s) (eb-gray _ _ _ _ _ _ _ _);
+          }
       step ih (inr y) (inr v) =
           let l = no-leaf a (b + c) (a + b + c) z y v in let r = no-leaf (a + b) c (a + b + c) refl y v in
-          record { sums = rw (add-suc b c, l .s, r .s) (ih .sums); ects = rw (add-suc b c, l .t, r .t, r .s) (ih .ects);
-            sum-bars = rw (add-suc b c, l .sb, r .sb, r .s) (ih .sum-bars); ect-bars = rw (add-suc b c, l .tb, r .tb, r .sb, r .s) (ih .ect-bars) }
+          record {
+            sums = rw (add-suc b c, l .s, r .s) (ih .sums);
+            ects = rw (add-suc b c, l .t, r .t, r .s) (ih .ects);
+            sum-bars = rw (add-suc b c, l .sb, r .sb, r .s) (ih .sum-bars);
+            ect-bars = rw (add-suc b c, l .tb, r .tb, r .sb, r .s) (ih .ect-bars);
+          }
 
   -- a range with no leaf
   pub bare : (a m : ℕ) → ((j : ℕ) → a ≤ j → w j ≡ false) → ((j : ℕ) → a ≤ j → g j ≡ false) → (sum a m ≡ 0) × (ect a m ≡ 0) × (sum-bar a m ≡ 0) × (ect-bar a m ≡ 0)

@@ -19,7 +19,7 @@ module _ (J : Tasks natural) where
     before-top S t j h =
         let (y, ne) = less-in S (t .at) j (h .mem) in
         elim (apart j (t .at) (h .small) (t .small) ne)
-          [ inl q ↦ q | inr q ↦ absurd (omega (arith, lasts (t .at) (t .small), t .top j (h .small) y)) ]
+        [ inl q ↦ q | inr q ↦ absurd (omega (arith, lasts (t .at) (t .small), t .top j (h .small) y)) ]
 
     -- Tasks that start at or after a and end by b, without overlapping, last at most b − a together.
     pub window : (S : TaskSet) (a b : ℕ) → a ≤ b → ((k : ℕ) → In J S k → a ≤ s k) → ((k : ℕ) → In J S k → s k + J .duration k ≤ b) → a + processing J S ≤ b
@@ -27,22 +27,25 @@ module _ (J : Tasks natural) where
       where
         go : (fuel : ℕ) (S : TaskSet) (b : ℕ) → processing J S ≤ fuel → a ≤ b → ((k : ℕ) → In J S k → a ≤ s k) → ((k : ℕ) → In J S k → s k + J .duration k ≤ b) → a + processing J S ≤ b
         go zero S b f ab lo hi = omega arith
-        go (suc m) S b f ab lo hi = elim (top S s (J .count)) [ inl none ↦ omega (arith, processing-empty J S none) | inr t ↦ (
-            let k : ℕ = t .at in
-            let km : In J S k = record { small = t .small; mem = t .mem } in
-            let d : processing J S ≡ processing J (S less k) + J .duration k = processing-less J S k km in
-            let one : 1 ≤ J .duration k = lasts k (t .small) in
-            let ih : a + processing J (S less k) ≤ s k
-                  = go m (S less k) (s k) (omega arith) (lo k km)
-                      (λ j h. lo j (record { small = h .small; mem = (less-in S k j (h .mem)) .0 })) (before-top S t) in
-            omega (arith, hi k km)) ]
+        go (suc m) S b f ab lo hi = elim (top S s (J .count)) [
+          | inl none ↦ omega (arith, processing-empty J S none)
+          | inr t ↦ (
+              let k : ℕ = t .at in
+              let km : In J S k = record { small = t .small; mem = t .mem } in
+              let d : processing J S ≡ processing J (S less k) + J .duration k = processing-less J S k km in
+              let one : 1 ≤ J .duration k = lasts k (t .small) in
+              let ih : a + processing J (S less k) ≤ s k
+              = go m (S less k) (s k) (omega arith) (lo k km)
+              (λ j h. lo j (record { small = h .small; mem = (less-in S k j (h .mem)) .0 })) (before-top S t) in
+              omega (arith, hi k km))
+        ]
 
     -- of a set whose tasks start in their ranges and end by b, ect is at most b
     pub ends-by : (Ω : TaskSet) (b v : ℕ) → ((k : ℕ) → In J Ω k → J .earliest k ≤ s k) → ((k : ℕ) → In J Ω k → s k + J .duration k ≤ b) → EstPlusP J Ω v → v ≤ b
     ends-by Ω b v low hi f =
         let (k, km, ek) = f .est .holds in
         let up : (j : ℕ) → In J (f .part) j → s j + J .duration j ≤ b
-              = λ j h. hi j (record { small = h .small; mem = f .within j h }) in
+        = λ j h. hi j (record { small = h .small; mem = f .within j h }) in
         let lo : (j : ℕ) → In J (f .part) j → f .start ≤ s j
-              = λ j h. omega (arith, f .est .bounds (J .earliest j) (j, h, refl), low j (record { small = h .small; mem = f .within j h })) in
+        = λ j h. omega (arith, f .est .bounds (J .earliest j) (j, h, refl), low j (record { small = h .small; mem = f .within j h })) in
         omega (arith, window (f .part) (f .start) b (omega (arith, lo k km, up k km)) lo up)

@@ -1,1 +1,2 @@
 pub mod Scheduling
+pub mod Examples

@@ -9,6 +9,7 @@ use Prim.Native.Nat.{ℕ, zero, suc, _+_, _≤_, _<_}
 use lib.IntN.{ℤ, pos, negsuc, _+ℤ_}
 use lib.Signed.{_≤ℤ_, _<ℤ_}
 use lib.Dec.{eqb}
+use lib.ListN.{length, getD}
 
 -- Clocks -----------------------------------------------------------------------------------------------------------------------
 
@@ -46,6 +47,10 @@ pub record Tasks (C : Clock) : Type 0 where
   pub earliest : ℕ → C .Moment
   pub latest : ℕ → C .Moment
   pub duration : ℕ → ℕ
+
+-- the tasks of three lists: durations, earliest starts, latest starts
+abbrev pub tasksOf : List ℕ → List ℤ → List ℤ → Tasks whole
+tasksOf ds es ls = record { count = length ds; earliest = λ k. getD es k (pos 0); latest = λ k. getD ls k (pos 0); duration = λ k. getD ds k 0 }
 
 -- A set of tasks says of each task whether it is in.
 abbrev pub TaskSet : Type 0
@@ -87,7 +92,7 @@ module _ {C : Clock} (J : Tasks C) where
   abbrev pub completion : ℕ → C .Moment
   completion k = C .later (J .latest k) (J .duration k)
 
--- est, lct, p, ect -------------------------------------------------------------------------------------------------------------
+  -- est, lct, p, ect -------------------------------------------------------------------------------------------------------------
 
   -- est(Ω), the least earliest start: a set that has one is not empty
   abbrev pub Est : TaskSet → C .Moment → Type 0
@@ -113,7 +118,7 @@ module _ {C : Clock} (J : Tasks C) where
   abbrev pub Ect : TaskSet → C .Moment → Type 0
   Ect Ω = Largest C (EstPlusP Ω)
 
--- Overloads, the edge-finding rule, schedules ----------------------------------------------------------------------------------
+  -- Overloads, the edge-finding rule, schedules ----------------------------------------------------------------------------------
 
   -- Ω overloads its span, est to lct: est + p > lct
   pub record Overloads (Ω : TaskSet) : Type 0 where
@@ -145,7 +150,7 @@ module _ {C : Clock} (J : Tasks C) where
     pub to : (k : ℕ) → k < J .count → C .upto (s k) (J .latest k)
     pub apart : NoOverlap s
 
--- What a run must find ---------------------------------------------------------------------------------------------------------
+  -- What a run must find ---------------------------------------------------------------------------------------------------------
 
   -- Some set overloads its span, or some edge-finding bound passes a latest start.
   abbrev pub Conflict : Type 0
