@@ -29,6 +29,10 @@ pub above-show : (o : ℕ) (z : ℤ) → dn z ≤ o + up z → Above o z
 unfolding up dn
 above-show o z h = omega (ints, up-neg (pos o), dn-neg (pos o))
 
+pub zero-above : (o : ℕ) → Above o (pos 0)
+unfolding up dn
+zero-above o = above-show o (pos 0) (omega arith)
+
 module _ (o : ℕ) where
   pub above-up : (a b : ℤ) → a ≤ℤ b → Above o a → Above o b
   above-up a b h p = above-show o b (omega (ints, at-moment o a p))

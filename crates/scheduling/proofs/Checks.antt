@@ -1,4 +1,5 @@
 -- A check that passes is sound over all whole-number starts: only the ranges of the tasks that it looks at count.
+-- Assumes nothing.
 use mathlib.Core.Path.{_≡_, refl, sym, ap, subst, _∙_}
 use mathlib.Core.Bool.{Bool, true, false, cond, _||_, _&&_, not}
 use mathlib.Core.Logic.{_⊎_, inl, inr}
@@ -7,12 +8,13 @@ use native.Mathlib.Omega.{arith}
 use lib.IntN.{ℤ, pos, negsuc, _+ℤ_}
 use lib.Signed.{_≤ℤ_, _<ℤ_, ≤ℤ-refl, mag}
 use Rattle.scheduling.specs.Scheduling.{Clock, whole, natural, Tasks, Proper, TaskSet, total, _with_, Largest, Least, In, Outside, NonEmpty, Subset, completion, Est, Lct, processing, EstPlusP, Ect, Overloads, EdgeFindingBound, NoOverlap, RuleFormula}
+use Rattle.scheduling.proofs.Agreement.{Agree, overloads→, formula→}
 use Rattle.scheduling.proofs.Sets.{with-new, with-old}
 use Rattle.integers.proofs.Bools.{bool, clash}
 use Rattle.scheduling.proofs.Rule.{check-sound as nat-check-sound, overload-check as nat-overload-check}
 use Rattle.integers.specs.Moments.{moment, Above}
-use Rattle.integers.proofs.Moments.{mono, above-up, plus, deep, above-show}
-use Rattle.integers.proofs.Ints.{up, dn, ints}
+use Rattle.integers.proofs.Moments.{mono, above-up, plus, deep, zero-above}
+use Rattle.integers.proofs.Ints.{ints}
 use Rattle.scheduling.proofs.Transfer.{moments, sound, checks→, checks←, overload→, overload←}
 
 -- other ranges outside X
@@ -20,87 +22,17 @@ module _ {C : Clock} (B : Tasks C) (X : TaskSet) (e l : ℕ → C .Moment) (e-sa
   abbrev pub Only : Tasks C
   Only = record { count = B .count; earliest = e; latest = l; duration = B .duration }
 
-  inX : (S : TaskSet) → Subset B S X → (k : ℕ) → In B S k → In B X k
-  inX S sub k h = record { small = h .small; mem = sub k h }
-
-  in→ : {S : TaskSet} {k : ℕ} → In B S k → In Only S k
-  in→ h = record { small = h .small; mem = h .mem }
-
-  in← : {S : TaskSet} {k : ℕ} → In Only S k → In B S k
-  in← h = record { small = h .small; mem = h .mem }
-
-  est→ : (S : TaskSet) (v : C .Moment) → Subset B S X → Est B S v → Est Only S v
-  est→ S v sub r = record {
-    holds = (r .holds .0, in→ (r .holds .1), e-same (r .holds .0) (inX S sub (r .holds .0) (r .holds .1)) ∙ r .holds .2);
-    bounds = λ w h. r .bounds w (h .0, in← (h .1), sym (e-same (h .0) (inX S sub (h .0) (in← (h .1)))) ∙ h .2);
-  }
-
-  est← : (S : TaskSet) (v : C .Moment) → Subset B S X → Est Only S v → Est B S v
-  est← S v sub r = record {
-    holds = (r .holds .0, in← (r .holds .1), sym (e-same (r .holds .0) (inX S sub (r .holds .0) (in← (r .holds .1)))) ∙ r .holds .2);
-    bounds = λ w h. r .bounds w (h .0, in→ (h .1), e-same (h .0) (inX S sub (h .0) (h .1)) ∙ h .2);
-  }
-
-  end-same : (k : ℕ) → In B X k → completion Only k ≡ completion B k
-  end-same k y = ap (λ (t : C .Moment). C .later t (B .duration k)) (l-same k y)
-
-  lct→ : (S : TaskSet) (v : C .Moment) → Subset B S X → Lct B S v → Lct Only S v
-  lct→ S v sub r = record {
-    holds = (r .holds .0, in→ (r .holds .1), end-same (r .holds .0) (inX S sub (r .holds .0) (r .holds .1)) ∙ r .holds .2);
-    bounds = λ w h. r .bounds w (h .0, in← (h .1), sym (end-same (h .0) (inX S sub (h .0) (in← (h .1)))) ∙ h .2);
-  }
-
-  processing-eq : (S : TaskSet) → processing B S ≡ processing Only S
-  unfolding processing
-  processing-eq S = refl
-
-  sub-part : (S P : TaskSet) → Subset B S X → Subset B P S → Subset B P X
-  sub-part S P a b k h = a k (record { small = h .small; mem = b k h })
-
-  fill→ : (S : TaskSet) (v : C .Moment) → Subset B S X → EstPlusP B S v → EstPlusP Only S v
-  fill→ S v sub f = record {
-    part = f .part;
-    within = λ k h. f .within k (in← h);
-    start = f .start;
-    est = est→ (f .part) (f .start) (sub-part S (f .part) sub (f .within)) (f .est);
-    sum = ap (C .later (f .start)) (sym (processing-eq (f .part))) ∙ f .sum;
-  }
-
-  fill← : (S : TaskSet) (v : C .Moment) → Subset B S X → EstPlusP Only S v → EstPlusP B S v
-  fill← S v sub f = record {
-    part = f .part;
-    within = λ k h. f .within k (in→ h);
-    start = f .start;
-    est = est← (f .part) (f .start) (sub-part S (f .part) sub (λ k h. f .within k (in→ h))) (f .est);
-    sum = ap (C .later (f .start)) (processing-eq (f .part)) ∙ f .sum;
-  }
-
-  ect→ : (S : TaskSet) (v : C .Moment) → Subset B S X → Ect B S v → Ect Only S v
-  ect→ S v sub e = record { holds = fill→ S v sub (e .holds); bounds = λ w f. e .bounds w (fill← S w sub f) }
+  agree : Agree B Only X
+  agree = record { count = refl; duration = λ k. refl; earliest = λ k h. sym (e-same k h); latest = λ k h. sym (l-same k h) }
 
   pub only-checks : (Ω : TaskSet) (i : ℕ) → Subset B Ω X → X i ≡ true → RuleFormula B Ω i → RuleFormula Only Ω i
-  only-checks Ω i sub y c = record {
-    outside = record { small = c .outside .small; mem = c .outside .mem };
-    start = c .start;
-    end = c .end;
-    joint = c .joint;
-    est = est→ Ω (c .start) sub (c .est);
-    lct = lct→ Ω (c .end) sub (c .lct);
-    ect = ect→ Ω (c .joint) sub (c .ect);
-    over-i = rw (e-same i (record { small = c .outside .small; mem = y }), ← processing-eq Ω) (c .over-i);
-    over-Ω = rw (← processing-eq Ω) (c .over-Ω);
-    passes = rw (l-same i (record { small = c .outside .small; mem = y })) (c .passes);
-  }
+  only-checks = formula→ B Only X agree
 
   pub only-overloads : (Ω : TaskSet) → Subset B Ω X → Overloads B Ω → Overloads Only Ω
-  only-overloads Ω sub v = record { start = v .start; end = v .end; est = est→ Ω (v .start) sub (v .est); lct = lct→ Ω (v .end) sub (v .lct); over = rw (← processing-eq Ω) (v .over) }
+  only-overloads = overloads→ B Only X agree
 
 between : (a b c : ℤ) → a ≤ℤ b → b ≤ℤ c → a ≤ℤ c
 between a b c h k = omega ints
-
-zero-above : (o : ℕ) → Above o (pos 0)
-unfolding up dn
-zero-above o = above-show o (pos 0) (omega arith)
 
 -- Whole-number starts at which no two tasks overlap.
 module _ (B : Tasks whole) (lasts : (k : ℕ) → k < B .count → 1 ≤ B .duration k) (s : ℕ → ℤ)

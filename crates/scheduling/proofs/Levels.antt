@@ -31,6 +31,40 @@ pub record Posts (J : Tasks natural) (now : ℕ → ℕ) (m : ℕ) (task bound :
 pub no-posts : (J : Tasks natural) (task bound : ℕ → ℕ) → Posts J (J .earliest) 0 task bound
 no-posts J task bound = record { small = λ j q. absurd (omega arith); raises = λ j q. absurd (omega arith); agrees = λ j q. absurd (omega arith); every = λ k q r. absurd (omega arith); once = λ i j q. absurd (omega arith) }
 
+-- one more post keeps the posts right
+pub more : (J : Tasks natural) (now now′ : ℕ → ℕ) (m : ℕ) (task bound task′ bound′ : ℕ → ℕ) (i b : ℕ) → i < J .count → Posts J now m task bound → now i ≡ J .earliest i → J .earliest i < b
+    → now′ i ≡ b → ((k : ℕ) → (k ≡ i → ⊥) → now′ k ≡ now k) → task′ m ≡ i → bound′ m ≡ b → ((j : ℕ) → j < m → task′ j ≡ task j) → ((j : ℕ) → j < m → bound′ j ≡ bound j) → Posts J now′ (suc m) task′ bound′
+more J now now′ m task bound task′ bound′ i b q p same up new others ti bi ts bs =
+    record {
+      small = below-suc (λ j. task′ j < J .count) m (λ j r. rw (ts j r) (p .small j r)) (rw ti q);
+      raises = below-suc (λ j. J .earliest (task′ j) < bound′ j) m (λ j r. rw (ts j r, bs j r) (p .raises j r)) (rw (ti, bi) up);
+      agrees = below-suc (λ j. bound′ j ≡ now′ (task′ j)) m (λ j r. rw (ts j r, bs j r, others (task j) (fresh j r)) (p .agrees j r)) (rw (ti, bi) (sym new));
+      every = every;
+      once = once;
+    }
+  where
+    -- i was not posted before
+    fresh : (j : ℕ) → j < m → task j ≡ i → ⊥
+    fresh j r z = omega (arith, p .raises j r, p .agrees j r, ap now z, ap (J .earliest) z)
+
+    every : (k : ℕ) → k < J .count → J .earliest k < now′ k → (j : ℕ) × (j < suc m) × (task′ j ≡ k)
+    every k r s = elim (ℕ-discrete k i) [
+      | yes z ↦ (m, omega arith, ti ∙ sym z)
+      | no z ↦ (let (j, a, c) = p .every k r (rw (others k z) at s) in (j, omega arith, ts j a ∙ c))
+    ]
+
+    once : (a c : ℕ) → a < suc m → c < suc m → task′ a ≡ task′ c → a ≡ c
+    once a c ha hc = elim (decLt a m) [
+      | yes x ↦ elim (decLt c m) [
+        | yes y ↦ (λ e. p .once a c x y (sym (ts a x) ∙ e ∙ ts c y))
+        | no y ↦ (λ e. absurd (fresh a x (let z : c ≡ m = omega arith in sym (ts a x) ∙ e ∙ ap task′ z ∙ ti)))
+      ]
+      | no x ↦ elim (decLt c m) [
+        | yes y ↦ (λ e. absurd (fresh c y (let z : a ≡ m = omega arith in sym (ts c y) ∙ sym e ∙ ap task′ z ∙ ti)))
+        | no y ↦ (λ e. omega arith)
+      ]
+    ]
+
 module _ (J : Tasks natural) (ok : Proper J) (ect : TaskSet → ℕ) (ect-is : (Ω : TaskSet) → NonEmpty J Ω → Ect J Ω (ect Ω)) (L place : ℕ → ℕ) (ord : ByCompletion J L place) where
   -- what is left of the order from place t on
   abbrev pub Θ : ℕ → TaskSet

@@ -1,5 +1,7 @@
 pub mod Sets
 pub mod Processing
+pub mod Agreement
+pub mod Cards
 pub mod Windows
 pub mod Rule
 pub mod Exists
