@@ -83,9 +83,9 @@ module _ (J : Tasks natural) (ok : Proper J) (ect : TaskSet → ℕ) (ect-is : (
     pub raised : new ≡ max (J .earliest k) (ect (Θ level))
 
   pub record Facts (t : ℕ) (Λ : TaskSet) (now : ℕ → ℕ) : Type 0 where
-    pub calm : (s : ℕ) → s < t → ect (Θ s) ≤ End s
+    pub fits-before : (s : ℕ) → s < t → ect (Θ s) ≤ End s
     pub gray : (k : ℕ) → In J Λ k → place k < t
-    pub waits : (k : ℕ) → In J Λ k → (r : ℕ) → place k < r → r < t → ect (Θ r with k) ≤ End r
+    pub not-passed : (k : ℕ) → In J Λ k → (r : ℕ) → place k < r → r < t → ect (Θ r with k) ≤ End r
     pub left : (k : ℕ) → Outside J Λ k → place k < t → Left t k (now k)
     pub same-in : (k : ℕ) → In J Λ k → now k ≡ J .earliest k
     pub same-on : (k : ℕ) → k < J .count → t ≤ place k → now k ≡ J .earliest k
@@ -94,9 +94,9 @@ module _ (J : Tasks natural) (ok : Proper J) (ect : TaskSet → ℕ) (ect-is : (
   -- Λ counts only by its members
   pub facts-same : (t : ℕ) (Λ Λ′ : TaskSet) (now : ℕ → ℕ) → ((k : ℕ) → k < J .count → Λ k ≡ Λ′ k) → Facts t Λ now → Facts t Λ′ now
   facts-same t Λ Λ′ now z f = record {
-    calm = f .calm;
+    fits-before = f .fits-before;
     gray = λ k h. f .gray k (back k h);
-    waits = λ k h. f .waits k (back k h);
+    not-passed = λ k h. f .not-passed k (back k h);
     left = λ k h. f .left k (record { small = h .small; mem = z k (h .small) ∙ h .mem });
     same-in = λ k h. f .same-in k (back k h);
     same-on = f .same-on;
@@ -115,10 +115,10 @@ module _ (J : Tasks natural) (ok : Proper J) (ect : TaskSet → ℕ) (ect-is : (
       le-antisymm (ect-mono J S Ω (ect S) (ect Ω) so (ect-is S ne) (ect-is Ω no)) (ect-mono J Ω S (ect Ω) (ect S) os (ect-is Ω no) (ect-is S ne))
 
   pub start : Facts 0 (λ _. false) (J .earliest)
-  start = record { calm = λ s q. absurd (omega arith); gray = λ k h. clash (h .mem) refl; waits = λ k h. clash (h .mem) refl; left = λ k h q. absurd (omega arith); same-in = λ k h. refl; same-on = λ k q r. refl; inside = ok .ranges }
+  start = record { fits-before = λ s q. absurd (omega arith); gray = λ k h. clash (h .mem) refl; not-passed = λ k h. clash (h .mem) refl; left = λ k h q. absurd (omega arith); same-in = λ k h. refl; same-on = λ k q r. refl; inside = ok .ranges }
 
   pub next : (t : ℕ) (Λ : TaskSet) (now : ℕ → ℕ) → t < J .count → Facts t Λ now → ((k : ℕ) → In J Λ k → ect (Θ t with k) ≤ End t) → ect (Θ t) ≤ End t → Facts (suc t) (Λ with L t) now
-  next t Λ now small f closed quiet = record { calm = below-suc (λ s. ect (Θ s) ≤ End s) t (f .calm) quiet; gray = gray; waits = waits; left = left; same-in = same-in; same-on = λ k q r. f .same-on k q (omega arith); inside = f .inside }
+  next t Λ now small f none-passes level-fits = record { fits-before = below-suc (λ s. ect (Θ s) ≤ End s) t (f .fits-before) level-fits; gray = gray; not-passed = not-passed; left = left; same-in = same-in; same-on = λ k q r. f .same-on k q (omega arith); inside = f .inside }
     where
       at-t : (k : ℕ) → k ≡ L t → place k ≡ t
       at-t k z = rw z (ord .back t small)
@@ -126,10 +126,10 @@ module _ (J : Tasks natural) (ok : Proper J) (ect : TaskSet → ℕ) (ect-is : (
       gray : (k : ℕ) → In J (Λ with L t) k → place k < suc t
       gray k h = elim (with-in Λ (L t) k (h .mem)) [ inl z ↦ omega (arith, at-t k z) | inr y ↦ omega (arith, f .gray k (record { small = h .small; mem = y })) ]
 
-      waits : (k : ℕ) → In J (Λ with L t) k → (r : ℕ) → place k < r → r < suc t → ect (Θ r with k) ≤ End r
-      waits k h = elim (with-in Λ (L t) k (h .mem)) [
+      not-passed : (k : ℕ) → In J (Λ with L t) k → (r : ℕ) → place k < r → r < suc t → ect (Θ r with k) ≤ End r
+      not-passed k h = elim (with-in Λ (L t) k (h .mem)) [
         | inl z ↦ (λ r a b. absurd (omega (arith, at-t k z)))
-        | inr y ↦ (λ r a b. below-suc (λ r. place k < r → ect (Θ r with k) ≤ End r) t (λ r q a. f .waits k (record { small = h .small; mem = y }) r a q) (λ a. closed k (record { small = h .small; mem = y })) r b a)
+        | inr y ↦ (λ r a b. below-suc (λ r. place k < r → ect (Θ r with k) ≤ End r) t (λ r q a. f .not-passed k (record { small = h .small; mem = y }) r a q) (λ a. none-passes k (record { small = h .small; mem = y })) r b a)
       ]
 
       left : (k : ℕ) → Outside J (Λ with L t) k → place k < suc t → Left (suc t) k (now k)
@@ -148,7 +148,7 @@ module _ (J : Tasks natural) (ok : Proper J) (ect : TaskSet → ℕ) (ect-is : (
   pub leave : (t : ℕ) (Λ : TaskSet) (now now′ : ℕ → ℕ) (i : ℕ) → Facts t Λ now → In J Λ i → End t < ect (Θ t with i)
       → now′ i ≡ max (J .earliest i) (ect (Θ t)) → now′ i ≤ J .latest i → ((k : ℕ) → (k ≡ i → ⊥) → now′ k ≡ now k) → Facts t (Λ less i) now′
   leave t Λ now now′ i f h over new fits others =
-      record { calm = f .calm; gray = λ k m. f .gray k (kept k m); waits = λ k m. f .waits k (kept k m); left = left; same-in = λ k m. rw (others k (apart k m)) (f .same-in k (kept k m)); same-on = same-on; inside = inside }
+      record { fits-before = f .fits-before; gray = λ k m. f .gray k (kept k m); not-passed = λ k m. f .not-passed k (kept k m); left = left; same-in = λ k m. rw (others k (apart k m)) (f .same-in k (kept k m)); same-on = same-on; inside = inside }
     where
       kept : (k : ℕ) → In J (Λ less i) k → In J Λ k
       kept k m = record { small = m .small; mem = (less-in Λ i k (m .mem)) .0 }
@@ -158,7 +158,7 @@ module _ (J : Tasks natural) (ok : Proper J) (ect : TaskSet → ℕ) (ect-is : (
 
       left : (k : ℕ) → Outside J (Λ less i) k → place k < t → Left t k (now′ k)
       left k m q = elim (ℕ-discrete k i) [
-        | yes z ↦ rw z (record { level = t; late = f .gray i h; seen = omega arith; passes = over; first = f .waits i h; raised = new })
+        | yes z ↦ rw z (record { level = t; late = f .gray i h; seen = omega arith; passes = over; first = f .not-passed i h; raised = new })
         | no z ↦ rw (others k z) (f .left k (record { small = m .small; mem = elim (bool (Λ k)) [ inl y ↦ clash (less-out Λ i k y z) (m .mem) | inr y ↦ y ] }) q)
       ]
 
@@ -175,8 +175,8 @@ module _ (J : Tasks natural) (ok : Proper J) (ect : TaskSet → ℕ) (ect-is : (
   Θ-some t q = (L t, in-Θ t (L t) (ord .task t q) (omega (arith, ord .back t q)))
 
   -- the last level is one task, which never overloads
-  pub last-quiet : (t : ℕ) → suc t ≡ J .count → ect (Θ t) ≤ End t
-  last-quiet t z = go (ect-is (Θ t) (Θ-some t (omega arith)) .holds)
+  pub last-fits : (t : ℕ) → suc t ≡ J .count → ect (Θ t) ≤ End t
+  last-fits t z = go (ect-is (Θ t) (Θ-some t (omega arith)) .holds)
     where
       only : (k : ℕ) → In J (Θ t) k → L t ≡ k
       only k h = subst (λ (r : ℕ). L r ≡ k) (omega (arith, leb-true t (place k) (h .mem), ord .placed k (h .small))) (ord .there k (h .small))
@@ -223,12 +223,12 @@ module _ (J : Tasks natural) (ok : Proper J) (ect : TaskSet → ℕ) (ect-is : (
       bounds w h = let (k, km, e) = h in omega (arith, subst (λ (j : ℕ). completion J j ≤ End t) (ord .there k (km .small)) (ord .sorted t (place k) (leb-true t (place k) (km .mem)) (ord .placed k (km .small))))
 
   -- At the end of a level all of whose Λ is quiet:
-  module _ (t : ℕ) (Λ : TaskSet) (now : ℕ → ℕ) (end : suc t ≡ J .count) (f : Facts t Λ now) (closed : (k : ℕ) → In J Λ k → ect (Θ t with k) ≤ End t) where
-    quiet : (s : ℕ) → s < J .count → ect (Θ s) ≤ End s
-    quiet s q = below-suc (λ s. ect (Θ s) ≤ End s) t (f .calm) (last-quiet t end) s (omega arith)
+  module _ (t : ℕ) (Λ : TaskSet) (now : ℕ → ℕ) (end : suc t ≡ J .count) (f : Facts t Λ now) (none-passes : (k : ℕ) → In J Λ k → ect (Θ t with k) ≤ End t) where
+    level-fits : (s : ℕ) → s < J .count → ect (Θ s) ≤ End s
+    level-fits s q = below-suc (λ s. ect (Θ s) ≤ End s) t (f .fits-before) (last-fits t end) s (omega arith)
 
     waited : (k : ℕ) → In J Λ k → (r : ℕ) → place k < r → r < J .count → ect (Θ r with k) ≤ End r
-    waited k h r a q = below-suc (λ r. place k < r → ect (Θ r with k) ≤ End r) t (λ r q a. f .waits k h r a q) (λ _. closed k h) r (omega arith) a
+    waited k h r a q = below-suc (λ r. place k < r → ect (Θ r with k) ≤ End r) t (λ r q a. f .not-passed k h r a q) (λ _. none-passes k h) r (omega arith) a
 
     -- what an edge-finding bound of i comes to: i left Λ, with a bound as large
     edge-left : (i b : ℕ) → EdgeFindingBound J i b → (o : Left t i (now i)) × (b ≤ ect (Θ (o .level)))
@@ -261,7 +261,7 @@ module _ (J : Tasks natural) (ok : Proper J) (ect : TaskSet → ℕ) (ect-is : (
           | no q ↦ absurd (omega (
             arith,
             over,
-            quiet (place k) small,
+            level-fits (place k) small,
             ect-mono J (Θ (place k) with i) (Θ (place k)) (ect (Θ (place k) with i)) (ect (Θ (place k)))
                 (λ j h. elim (with-in (Θ (place k)) i j (h .mem)) [ inl z ↦ rw z (le-leb (place k) (place i) (omega arith)) | inr y ↦ y ])
                 (ect-is (Θ (place k) with i) (i, record { small = r .outside .small; mem = with-new (Θ (place k)) i })) (ect-is (Θ (place k)) (Θ-some (place k) small)),
@@ -289,7 +289,7 @@ module _ (J : Tasks natural) (ok : Proper J) (ect : TaskSet → ℕ) (ect-is : (
         let small : place k < J .count = ord .placed k (km .small) in
         let w : o .start + processing J Ω ≤ ect (Θ (place k))
         = ect-is (Θ (place k)) (Θ-some (place k) small) .bounds (o .start + processing J Ω) (record { part = Ω; within = sub; start = o .start; est = o .est; sum = refl }) in
-        let c : ect (Θ (place k)) ≤ completion J k = rw (ord .there k (km .small)) at (quiet (place k) small) in
+        let c : ect (Θ (place k)) ≤ completion J k = rw (ord .there k (km .small)) at (level-fits (place k) small) in
         omega (arith, o .over, o .lct .bounds (completion J k) (k, km, refl))
 
     -- the new start is at least each bound

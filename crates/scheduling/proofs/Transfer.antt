@@ -97,8 +97,8 @@ module _ (o : ℕ) where
           };
         }
 
-    fill→ : (Ω : TaskSet) (v : ℤ) → EstPlusP J Ω v → EstPlusP N Ω (moment o v)
-    fill→ Ω v f = record {
+    part→ : (Ω : TaskSet) (v : ℤ) → EstPlusP J Ω v → EstPlusP N Ω (moment o v)
+    part→ Ω v f = record {
       part = f .part;
       within = λ k h. f .within k (in← h);
       start = moment o (f .start);
@@ -106,11 +106,11 @@ module _ (o : ℕ) where
       sum = omega (arith, plus o (f .start) (processing J (f .part)) (est-above (f .part) (f .start) (f .est)), ap (moment o) (f .sum), processing-eq (f .part));
     }
 
-    fill-above : (Ω : TaskSet) (v : ℤ) → EstPlusP J Ω v → Above o v
-    fill-above Ω v f = subst (Above o) (f .sum) (plus-above o (f .start) (processing J (f .part)) (est-above (f .part) (f .start) (f .est)))
+    part-above : (Ω : TaskSet) (v : ℤ) → EstPlusP J Ω v → Above o v
+    part-above Ω v f = subst (Above o) (f .sum) (plus-above o (f .start) (processing J (f .part)) (est-above (f .part) (f .start) (f .est)))
 
-    fill← : (Ω : TaskSet) (m : ℕ) → EstPlusP N Ω m → Is (EstPlusP J Ω) m
-    fill← Ω m f =
+    part← : (Ω : TaskSet) (m : ℕ) → EstPlusP N Ω m → Is (EstPlusP J Ω) m
+    part← Ω m f =
         let s : Is (Est J (f .part)) (f .start) = est← (f .part) (f .start) (f .est) in
         record {
           at = s .at +ℤ pos (processing J (f .part));
@@ -120,18 +120,18 @@ module _ (o : ℕ) where
         }
 
     ect→ : (Ω : TaskSet) (v : ℤ) → Ect J Ω v → Ect N Ω (moment o v)
-    ect→ Ω v e = record { holds = fill→ Ω v (e .holds); bounds = λ w f. let g : Is (EstPlusP J Ω) w = fill← Ω w f in omega (arith, g .is, mono o (g .at) v (e .bounds (g .at) (g .holds))) }
+    ect→ Ω v e = record { holds = part→ Ω v (e .holds); bounds = λ w f. let g : Is (EstPlusP J Ω) w = part← Ω w f in omega (arith, g .is, mono o (g .at) v (e .bounds (g .at) (g .holds))) }
 
     ect← : (Ω : TaskSet) (m : ℕ) → Ect N Ω m → Is (Ect J Ω) m
     ect← Ω m e =
-        let g : Is (EstPlusP J Ω) m = fill← Ω m (e .holds) in
+        let g : Is (EstPlusP J Ω) m = part← Ω m (e .holds) in
         record {
           at = g .at;
           above = g .above;
           is = g .is;
           holds = record {
             holds = g .holds;
-            bounds = λ w f. reflect o w (g .at) (fill-above Ω w f) (g .above) (omega (arith, g .is, e .bounds (moment o w) (fill→ Ω w f)));
+            bounds = λ w f. reflect o w (g .at) (part-above Ω w f) (g .above) (omega (arith, g .is, e .bounds (moment o w) (part→ Ω w f)));
           };
         }
 
@@ -143,12 +143,12 @@ module _ (o : ℕ) where
       lct = lct→ (r .set) (r .end) (r .lct);
       joint = moment o (r .joint);
       ect-with = ect→ (r .set with i) (r .joint) (r .ect-with);
-      passes = mono< o (r .end) (r .joint) (lct-above (r .set) (r .end) (r .lct)) (fill-above (r .set with i) (r .joint) (r .ect-with .holds)) (r .passes);
+      passes = mono< o (r .end) (r .joint) (lct-above (r .set) (r .end) (r .lct)) (part-above (r .set with i) (r .joint) (r .ect-with .holds)) (r .passes);
       ect = ect→ (r .set) b (r .ect);
     }
 
     pub edge-above : (i : ℕ) (b : ℤ) → EdgeFindingBound J i b → Above o b
-    edge-above i b r = fill-above (r .set) b (r .ect .holds)
+    edge-above i b r = part-above (r .set) b (r .ect .holds)
 
     pub edge← : (i m : ℕ) → EdgeFindingBound N i m → Is (EdgeFindingBound J i) m
     edge← i m r =
@@ -254,7 +254,7 @@ module _ (o : ℕ) where
           ect = ect→ Ω (c .joint) (c .ect);
           over-i = omega (arith, processing-eq Ω, plus o (J .earliest i) d (low i q), mono< o (c .end) (J .earliest i +ℤ pos d) (lct-above Ω (c .end) (c .lct)) (plus-above o (J .earliest i) d (low i q)) (c .over-i));
           over-Ω = omega (arith, processing-eq Ω, plus o (c .start) d (est-above Ω (c .start) (c .est)), mono< o (c .end) (c .start +ℤ pos d) (lct-above Ω (c .end) (c .lct)) (plus-above o (c .start) d (est-above Ω (c .start) (c .est))) (c .over-Ω));
-          passes = mono< o (J .latest i) (c .joint) (high i q) (fill-above Ω (c .joint) (c .ect .holds)) (c .passes);
+          passes = mono< o (J .latest i) (c .joint) (high i q) (part-above Ω (c .joint) (c .ect .holds)) (c .passes);
         }
 
     pub checks← : (Ω : TaskSet) (i : ℕ) → RuleFormula N Ω i → RuleFormula J Ω i
