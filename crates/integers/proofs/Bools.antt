@@ -26,6 +26,17 @@ and-false false b y = inl refl
 pub and-yes : (a b : Bool) → a ≡ true → b ≡ true → a && b ≡ true
 and-yes a b p q = rw (p, q)
 
+-- one side decides it
+pub and-left : (a b : Bool) → a ≡ false → a && b ≡ false
+and-left a b p = rw p
+
+pub and-right : (a b : Bool) → b ≡ false → a && b ≡ false
+and-right true b p = p
+and-right false b p = refl
+
+pub and-is : (a b : Bool) → a ≡ true → a && b ≡ b
+and-is a b p = rw p
+
 pub or-true : (a b : Bool) → a || b ≡ true → (a ≡ true) ⊎ (b ≡ true)
 or-true true b h = inl refl
 or-true false b h = inr h
@@ -45,6 +56,14 @@ pub or-swap : (a b c : Bool) → a || (b || c) ≡ b || (a || c)
 or-swap true true c = refl
 or-swap true false c = refl
 or-swap false b c = refl
+
+pub or-assoc : (a b c : Bool) → a || b || c ≡ a || (b || c)
+or-assoc true b c = refl
+or-assoc false b c = refl
+
+pub or-nothing : (a : Bool) → a || false ≡ a
+or-nothing true = refl
+or-nothing false = refl
 
 -- what holds below n and at n holds below suc n
 pub below-suc : (P : ℕ → Type 0) (n : ℕ) → ((k : ℕ) → k < n → P k) → P n → (k : ℕ) → k < suc n → P k

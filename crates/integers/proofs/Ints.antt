@@ -220,6 +220,17 @@ pub ≤ℤ-cases : (a b : ℤ) → (a ≤ℤ b) ⊎ (b <ℤ a)
 pub equalℤ : (a b : ℤ) → (a ≡ b) ⊎ (a ≡ b → ⊥)
 equalℤ a b = ⊎-elim (λ h. ⊎-elim (λ k. inl (omega ints)) (λ k. inr (λ e. omega ints)) (≤ℤ-cases b a)) (λ h. inr (λ e. omega ints)) (≤ℤ-cases a b)
 
+-- the order of whole numbers, and its test
+pub leZ-true : (a b : ℤ) → leZ a b ≡ true → a ≤ℤ b
+leZ-true a b h = omega ints
+
+pub le-leZ : (a b : ℤ) → a ≤ℤ b → leZ a b ≡ true
+le-leZ a b h = by (leZ a b) refl
+  where
+    by : (t : Bool) → leZ a b ≡ t → t ≡ true
+    by true e = refl
+    by false e = absurd (omega ints)
+
 -- ---- examples
 ex₁ : (a b c : ℤ) → a ≤ℤ b → b <ℤ c → a <ℤ c
 ex₁ a b c h k = omega ints

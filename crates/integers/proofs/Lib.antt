@@ -4,4 +4,6 @@ pub mod Moments
 pub mod Filling
 pub mod Words
 pub mod Permutations
+pub mod Tests
+pub mod Pigeonhole
 pub mod Sorting

@@ -3,7 +3,7 @@ pub mod limits;
 
 ghost use mathlib.Core.Path.{_≡_};
 ghost use lib.IntN.{pos};
-ghost use lib.Signed.{_≤ℤ_};
+ghost use lib.Signed.{_≤ℤ_, leZ};
 ghost use Prim.Native.Nat.{_<_};
 ghost use Rattle.integers.specs.Moments.{moment, instant, zeroAt};
 
@@ -35,4 +35,11 @@ pub fn word_of(n: usize) -> i32
     ensures { λ r. ⌜ r ≡ pos n ⌝ }
 {
     n as i32
+}
+
+// Whether a is at most b: the one comparison of whole numbers that loops call.
+pub fn at_most(a: i32, b: i32) -> bool
+    ensures { λ r. ⌜ r ≡ leZ a b ⌝ }
+{
+    a <= b
 }

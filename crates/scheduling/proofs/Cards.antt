@@ -5,8 +5,8 @@ use mathlib.Core.Bool.{Bool, true, false}
 use Prim.Native.Nat.{ℕ, zero, suc, _+_, _≤_, _<_}
 use native.Mathlib.Omega.{arith}
 use borrow.Author.Tests.{ne-eqb}
-use Rattle.scheduling.specs.Scheduling.{natural, Tasks, TaskSet, total, In}
-use Rattle.scheduling.proofs.Sets.{total-ext, total-swap, _less_, less-self}
+use Rattle.scheduling.specs.Scheduling.{natural, Tasks, TaskSet, total, _with_, In, Outside}
+use Rattle.scheduling.proofs.Sets.{total-ext, total-swap, total-zero, _less_, less-self, with-new}
 
 abbrev pub bit : Bool → ℕ
 bit true = 1
@@ -40,3 +40,14 @@ card-most J Λ = few (J .count)
     few : (n : ℕ) → total (λ k. bit (Λ k)) n ≤ n
     few zero = omega arith
     few (suc n) = omega (arith, few n, bit-most (Λ n))
+
+pub card-none : (J : Tasks natural) → card J (λ _. false) ≡ 0
+unfolding card
+card-none J = total-zero (λ _. bit false) (J .count) (λ k q. refl)
+
+pub card-with : (J : Tasks natural) (Ω : TaskSet) (i : ℕ) → Outside J Ω i → card J (Ω with i) ≡ suc (card J Ω)
+unfolding card
+card-with J Ω i h =
+    let a : bit (Ω i) ≡ 0 = rw (h .mem) in
+    let b : bit ((Ω with i) i) ≡ 1 = rw (with-new Ω i) in
+    omega (arith, total-swap (λ k. bit ((Ω with i) k)) (λ k. bit (Ω k)) (J .count) i (h .small) (λ k ne. rw (ne-eqb k i ne)))

@@ -44,7 +44,7 @@ module _ (J : Tasks natural) (T rank : ℕ → ℕ) where
     pub not-next : (j k : ℕ) → j < J .count → rank k < j → k ≡ T j → ⊥
     not-next j k q r z = omega (arith, rk .back j q, ap rank z)
 
-    grow-in : (S : TaskSet) (j : ℕ) → j < J .count → S (T j) ≡ true → processing J (upto S (suc j)) ≡ processing J (upto S j) + J .duration (T j)
+    pub grow-in : (S : TaskSet) (j : ℕ) → j < J .count → S (T j) ≡ true → processing J (upto S (suc j)) ≡ processing J (upto S j) + J .duration (T j)
     grow-in S j q y =
         let there : In J (upto S (suc j)) (T j) = record { small = rk .task j q; mem = and-out S (suc j) (T j) (omega (arith, rk .back j q)) y } in
         let a : processing J (upto S (suc j) less T j) ≤ processing J (upto S j)
@@ -58,7 +58,7 @@ module _ (J : Tasks natural) (T rank : ℕ → ℕ) where
         less-out (upto S (suc j)) (T j) k (and-out S (suc j) k (omega (arith, u .0)) (u .1)) (not-next j k q (u .0))) in
         omega (arith, processing-less J (upto S (suc j)) (T j) there)
 
-    grow-out : (S : TaskSet) (j : ℕ) → j < J .count → S (T j) ≡ false → processing J (upto S (suc j)) ≤ processing J (upto S j)
+    pub grow-out : (S : TaskSet) (j : ℕ) → j < J .count → S (T j) ≡ false → processing J (upto S (suc j)) ≤ processing J (upto S j)
     grow-out S j q y = processing-mono J (upto S (suc j)) (upto S j) (λ k h.
         let u = and-in S (suc j) k (h .mem) in
         and-out S j k (is-next j k (h .small) (u .0) (λ z. clash (u .1) (rw (← z) at y))) (u .1))

@@ -1,0 +1,9 @@
+-- A list that is filled from the front.
+use mathlib.Core.List.{List}
+use Prim.Native.Nat.{ℕ, zero, suc}
+use lib.ListN.{set}
+
+-- the list with f 0, .., f (n − 1) in its first n places
+unfoldable pub filled : {A : Type 0} → (ℕ → A) → ℕ → List A → List A
+filled f zero l = l
+filled f (suc n) l = set (filled f n l) n (f n)

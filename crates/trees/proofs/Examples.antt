@@ -1,0 +1,27 @@
+-- The definitions compute: three tasks, 0..6 for 4, 1..5 for 5 and 0..20 for 3, the third of them in Λ and the others in Θ.
+-- Assumes nothing.
+use mathlib.Core.Path.{_≡_, refl}
+use mathlib.Core.List.{List, [], _∷_}
+use mathlib.Core.Option.{some}
+use Prim.Native.Nat.{ℕ}
+use lib.ListN.{getD}
+use Rattle.scheduling.specs.Scheduling.{natural, Tasks}
+use Rattle.trees.specs.Shapes.{width, heightFrom, nodeOver}
+use Rattle.trees.specs.Nodes.{joinOf, isEmpty}
+use Rattle.trees.specs.Searches as searches
+use Rattle.trees.specs.Leaves.{Leaf, white, gray, ect, ect-bar, sum, root, responsible, theta}
+
+abbrev J : Tasks natural
+J = record { count = 3; earliest = λ k. getD (0 ∷ 1 ∷ 0 ∷ []) k 0; latest = λ k. getD (6 ∷ 5 ∷ 20 ∷ []) k 0; duration = λ k. getD (4 ∷ 5 ∷ 3 ∷ []) k 0 }
+
+-- by earliest start
+abbrev first : List ℕ
+first = 0 ∷ 2 ∷ 1 ∷ []
+
+abbrev ls : List Leaf
+ls = white ∷ gray ∷ white ∷ []
+
+-- ect(Θ) is 9, with one task of Λ 12, and the third task, at place 1, is responsible
+example : (ect J first ls ≡ 9) × (ect-bar J first ls ≡ 12) × (sum J first ls ≡ 9) × (responsible J first ls ≡ some 1) × (theta J first ls ≡ 0 ∷ 1 ∷ [])
+unfolding root responsible theta width heightFrom nodeOver joinOf isEmpty searches.gray searches.tested searches.descentP searches.descentEct searches.stepP searches.stepEct searches.searchP searches.searchEct searches.thetaOf
+example = (refl, refl, refl, refl, refl)

@@ -1,0 +1,183 @@
+-- Heights and positions in a complete binary tree.
+-- Assumes nothing.
+use mathlib.Core.Path.{_≡_, refl, sym, ap, _∙_}
+use mathlib.Core.Logic.{inl, inr}
+use Prim.Native.Nat.{ℕ, zero, suc, _+_, _*_, _-_, _/_, _≤_, _<_}
+use native.Mathlib.Omega.{arith}
+use native.Mathlib.Numerals.{add-one}
+use native.Mathlib.Decide.{decLt, ℕ-discrete}
+use lib.Dec.{ltb}
+use borrow.Author.Tests.{ltb-true, ltb-false}
+use Rattle.integers.proofs.Bools.{bool}
+use Rattle.trees.specs.Shapes.{width, heightFrom, heightFor, Sized, leftmost, HasHeight}
+
+pub once : width 0 ≡ 1
+unfolding width
+once = refl
+
+pub twice : (h : ℕ) → width (suc h) ≡ width h + width h
+unfolding width
+twice h = refl
+
+pub width-some : (h : ℕ) → 1 ≤ width h
+width-some zero = omega (arith, once)
+width-some (suc h) = omega (arith, width-some h, twice h)
+
+-- the least height -------------------------------------------------------------------------------------------------------------
+
+pub height-on : (n f h : ℕ) → width h < n → heightFrom n (suc f) h ≡ heightFrom n f (suc h)
+unfolding heightFrom
+height-on n f h q = elim (bool (ltb (width h) n)) [ inl y ↦ rw (y, heightFrom) | inr y ↦ absurd (omega (arith, ltb-false (width h) n y)) ]
+
+pub height-reached : (n f h : ℕ) → n ≤ width h → heightFrom n f h ≡ h
+unfolding heightFrom
+height-reached n zero h q = refl
+height-reached n (suc f) h q = elim (bool (ltb (width h) n)) [ inl y ↦ absurd (omega (arith, ltb-true (width h) n y)) | inr y ↦ rw (y, heightFrom) ]
+
+-- one turn of the loop that doubles the leaves
+pub height-step : (n h : ℕ) → width h < n → h < n → heightFrom n (n - (h + 1)) (h + 1) ≡ heightFrom n (n - h) h
+height-step n h q r =
+    let z : n - h ≡ suc (n - (h + 1)) = omega arith in
+    rw (z, add-one h) (sym (height-on n (n - suc h) h q))
+
+pub width-step : (h : ℕ) → width (h + 1) ≡ 2 * width h
+width-step h = rw (add-one h) (omega (arith, twice h))
+
+height-zero : (n h : ℕ) → heightFrom n 0 h ≡ h
+unfolding heightFrom
+height-zero n h = refl
+
+height-enough : (n f h : ℕ) → n ≤ width h + f → n ≤ width (heightFrom n f h)
+height-enough n zero h q = rw (height-zero n h) (omega arith)
+height-enough n (suc f) h q = elim (decLt (width h) n)
+    [ yes y ↦ rw (height-on n f h y) (height-enough n f (suc h) (omega (arith, width-some h, twice h))) | no y ↦ rw (height-reached n (suc f) h (omega arith)) (omega arith) ]
+
+-- the tree is large enough
+pub enough : (n : ℕ) → n ≤ width (heightFor n)
+enough n = height-enough n n 0 (omega (arith, once))
+
+-- six levels are enough for 64 leaves
+pub low : (h : ℕ) → width h < 64 → width (suc h) ≤ 64
+unfolding width
+low zero q = omega arith
+low (suc zero) q = omega arith
+low (suc (suc zero)) q = omega arith
+low (suc (suc (suc zero))) q = omega arith
+low (suc (suc (suc (suc zero)))) q = omega arith
+low (suc (suc (suc (suc (suc zero))))) q = omega arith
+low (suc (suc (suc (suc (suc (suc h)))))) q = absurd (omega (arith, width-some h))
+
+height-low : (n f h : ℕ) → n ≤ 64 → width h ≤ 64 → width (heightFrom n f h) ≤ 64
+height-low n zero h q r = rw (height-zero n h) r
+height-low n (suc f) h q r = elim (decLt (width h) n)
+    [ yes y ↦ rw (height-on n f h y) (height-low n f (suc h) q (low h (omega arith))) | no y ↦ rw (height-reached n (suc f) h (omega arith)) r ]
+
+-- and not larger than the array
+pub room : (n : ℕ) → n ≤ 64 → width (heightFor n) ≤ 64
+room n q = height-low n n 0 q (omega (arith, once))
+
+-- the inner nodes of a tree of the size for n leaves
+pub sized : (n inner h : ℕ) → Sized n inner h → inner + 1 ≡ width (heightFor n)
+sized n inner h s = s .complete ∙ ap width (s .least)
+
+-- positions --------------------------------------------------------------------------------------------------------------------
+
+pub leftmost-leaf : (i : ℕ) → leftmost 0 i ≡ i
+unfolding leftmost
+leftmost-leaf i = refl
+
+pub leftmost-left : (h i : ℕ) → leftmost (suc h) i ≡ leftmost h (2 * i + 1)
+unfolding leftmost
+leftmost-left h i = refl
+
+leftmost-next : (h i : ℕ) → leftmost h (i + 1) ≡ leftmost h i + width h
+leftmost-next zero i = omega (arith, leftmost-leaf i, leftmost-leaf (i + 1), once)
+leftmost-next (suc h) i =
+    let e : 2 * (i + 1) + 1 ≡ 2 * i + 1 + 1 + 1 = omega arith in
+    omega (arith, leftmost-left h i, leftmost-left h (i + 1), ap (leftmost h) e, leftmost-next h (2 * i + 1), leftmost-next h (2 * i + 1 + 1), twice h)
+
+pub leftmost-right : (h i : ℕ) → leftmost h (2 * i + 2) ≡ leftmost (suc h) i + width h
+leftmost-right h i =
+    let e : 2 * i + 2 ≡ 2 * i + 1 + 1 = omega arith in
+    omega (arith, leftmost-left h i, ap (leftmost h) e, leftmost-next h (2 * i + 1))
+
+leftmost-double : (h i : ℕ) → leftmost (suc h) i ≡ 2 * leftmost h i + 1
+leftmost-double zero i = omega (arith, leftmost-left 0 i, leftmost-leaf i, leftmost-leaf (2 * i + 1))
+leftmost-double (suc h) i = omega (arith, leftmost-left (suc h) i, leftmost-left h i, leftmost-double h (2 * i + 1))
+
+leftmost-up : (h k i : ℕ) → h ≤ k → leftmost h i ≤ leftmost k i
+leftmost-up h zero i q = let z : h ≡ 0 = omega arith in rw z (omega arith)
+leftmost-up h (suc k) i q = elim (ℕ-discrete h (suc k))
+    [ yes z ↦ rw z (omega arith) | no z ↦ omega (arith, leftmost-double k i, leftmost-up h k i (omega arith)) ]
+
+-- the root
+leftmost-root : (h : ℕ) → leftmost h 0 + 1 ≡ width h
+leftmost-root zero = omega (arith, leftmost-leaf 0, once)
+leftmost-root (suc h) = omega (arith, leftmost-double h 0, leftmost-root h, twice h)
+
+pub root-height : (m h : ℕ) → m + 1 ≡ width h → HasHeight m h 0
+root-height m h e = record { from = omega (arith, leftmost-root h); to = omega (arith, leftmost-root h) }
+
+pub root-first : (m h : ℕ) → m + 1 ≡ width h → leftmost h 0 - m ≡ 0
+root-first m h e = omega (arith, leftmost-root h)
+
+-- a leaf
+pub leaf-height : (m k : ℕ) → k ≤ m → HasHeight m 0 (m + k)
+leaf-height m k q = record { from = omega (arith, leftmost-leaf (m + k)); to = omega (arith, leftmost-leaf (m + k), once) }
+
+-- an inner node and its children
+module _ (m h i : ℕ) (s : HasHeight m (suc h) i) where
+  grows : (h i : ℕ) → 2 * i + 3 ≤ leftmost (suc h) i + width (suc h)
+  grows zero i = omega (arith, leftmost-left 0 i, leftmost-leaf (2 * i + 1), twice 0, once)
+  grows (suc h) i = omega (arith, leftmost-left (suc h) i, grows h (2 * i + 1), twice (suc h))
+
+  pub inner-height : i < m
+  inner-height = omega (arith, grows h i, s .to)
+
+  pub left-height : HasHeight m h (2 * i + 1)
+  left-height = record { from = omega (arith, s .from, leftmost-left h i); to = omega (arith, s .to, leftmost-left h i, twice h) }
+
+  pub right-height : HasHeight m h (2 * i + 2)
+  right-height = record { from = omega (arith, s .from, leftmost-right h i); to = omega (arith, s .to, leftmost-right h i, twice h) }
+
+-- a node of height 0 is a leaf, and no inner node
+pub leaf-at : (m i : ℕ) → HasHeight m 0 i → m ≤ i
+leaf-at m i s = omega (arith, s .from, leftmost-leaf i)
+
+-- inside the array
+pub height-inside : (m h i : ℕ) → HasHeight m h i → i ≤ 2 * m
+height-inside m zero i s = omega (arith, s .to, leftmost-leaf i, once)
+height-inside m (suc h) i s = omega (arith, inner-height m h i s)
+
+-- a node has one height
+pub one-height : (m h k i : ℕ) → HasHeight m h i → HasHeight m k i → h < k → ⊥
+one-height m h zero i s t q = omega arith
+one-height m h (suc k) i s t q = omega (arith, s .from, t .to, width-some (suc k), leftmost-double k i, leftmost-up h k i (omega arith))
+
+-- the way down from the root of a tree of height H to node i, of height h
+pub data Path (H : ℕ) : ℕ → ℕ → Type 0 where
+  top : Path H H 0
+  left : {h i : ℕ} → Path H (suc h) i → (j : ℕ) → j ≡ 2 * i + 1 → Path H h j
+  right : {h i : ℕ} → Path H (suc h) i → (j : ℕ) → j ≡ 2 * i + 2 → Path H h j
+
+pub path-height : (m H : ℕ) → m + 1 ≡ width H → {h i : ℕ} → Path H h i → HasHeight m h i
+path-height m H e top = root-height m H e
+path-height m H e (left {h} {i} p j z) = rw z (left-height m h i (path-height m H e p))
+path-height m H e (right {h} {i} p j z) = rw z (right-height m h i (path-height m H e p))
+
+-- up to the parent
+pub path-up : (H : ℕ) {h i : ℕ} → Path H h i → (i ≡ 0 → ⊥) → Path H (suc h) ((i - 1) / 2)
+path-up H top q = absurd (q refl)
+path-up H (left {h} {i} p j z) q = let w : (j - 1) / 2 ≡ i = omega arith in rw w p
+path-up H (right {h} {i} p j z) q = let w : (j - 1) / 2 ≡ i = omega arith in rw w p
+
+-- down to a leaf
+path-down : (H h i : ℕ) → Path H h i → (k : ℕ) → leftmost h i ≤ k → k < leftmost h i + width h → Path H 0 k
+path-down H zero i p k lo hi = let z : i ≡ k = omega (arith, leftmost-leaf i, once) in rw z at p
+path-down H (suc h) i p k lo hi = elim (decLt k (leftmost (suc h) i + width h)) [
+  | yes q ↦ path-down H h (2 * i + 1) (left p (2 * i + 1) refl) k (omega (arith, leftmost-left h i)) (omega (arith, leftmost-left h i))
+  | no q ↦ path-down H h (2 * i + 2) (right p (2 * i + 2) refl) k (omega (arith, leftmost-right h i)) (omega (arith, leftmost-right h i, twice h))
+]
+
+pub leaf-path : (m H : ℕ) → m + 1 ≡ width H → (k : ℕ) → k ≤ m → Path H 0 (m + k)
+leaf-path m H e k q = path-down H H 0 top (m + k) (omega (arith, leftmost-root H)) (omega (arith, leftmost-root H))

@@ -1,0 +1,14 @@
+pub mod Heights
+pub mod Wiring
+pub mod Storage
+pub mod Joins
+pub mod Descents
+pub mod Steps
+pub mod Places
+pub mod Thetas
+pub mod Colours
+pub mod Overs
+pub mod Responsible
+pub mod Roots
+pub mod Trees
+pub mod Examples

@@ -1,0 +1,175 @@
+-- The laws of the two trees, for the crates above: what the operations ask and do, and what the root holds, by the colours of the leaves.
+-- Assumes nothing.
+use mathlib.Core.Path.{_≡_, refl, sym, ap, ap₂, subst, _∙_}
+use mathlib.Core.Bool.{not}
+use mathlib.Core.List.{List}
+use Prim.Native.Nat.{ℕ, zero, suc, _+_, _*_, _≤_, _<_}
+use native.Mathlib.Omega.{arith}
+use lib.Dec.{eqb}
+use lib.ListN.{length, getD, set, length-set, replicate, length-replicate}
+use Rattle.integers.proofs.Filling.{getD-fresh}
+use Rattle.scheduling.specs.Scheduling.{natural, Tasks}
+use Rattle.trees.specs.declared.theta_lambda_tree.Node.{Node}
+use Rattle.trees.specs.declared.theta_tree.Node as plain
+use Rattle.trees.specs.Shapes.{width, heightFor, changed, leavesOf, nodeOver, TreeOf}
+use Rattle.trees.specs.Nodes.{joinOf, plainOf, plainJoinOf}
+use Rattle.trees.specs.Words.{nodeAt, plainAt}
+use Rattle.trees.specs.Bounds.{Fair, size, PlainFair, plainSize, Bounded, CanPut}
+use Rattle.trees.specs.Puts.{Puttable, Put, PlainPuttable, PlainPut}
+use Rattle.trees.specs.Searches.{Searchable, gray, searchEct, isWhite, thetaOf}
+use Rattle.trees.specs.Leaves as leaves
+use Rattle.trees.specs.Leaves.{Leaf, empty, inTheta, leafNode, plainLeaf, taskAt, startAt, durationAt, whiteAt, plainLeaves, root, responsible, theta, Limited, IsTree, IsPlainTree}
+use Rattle.trees.proofs.Heights.{enough, room, root-height}
+use Rattle.trees.proofs.Wiring.{over-leaf, over-join, own-leaves, own-tree, root-is}
+use Rattle.trees.proofs.Storage.{blank-nodes, plain-blank-nodes}
+use Rattle.trees.proofs.Colours.{gray-empty, white-is, past-empty, bounded, plain-bounded, coloured}
+use Rattle.trees.proofs.Thetas.{theta-same}
+
+-- Nodes of any kind over the leaves' colours: `node` is that of a leaf, by colour and place.
+module _ {A : Type 0} (size : A → ℕ) (Fair : A → Type 0) (join : A → A → A) (node : Leaf → ℕ → A) where
+  abbrev over : List Leaf → ℕ → A
+  over ls j = node (getD ls j empty) j
+
+  -- the array of a tree over colours takes another colour
+  takes : (inner count : ℕ) (at : ℕ → A) (ls : List Leaf) → TreeOf join inner (over ls) at → inner + 1 ≡ width (heightFor count) → count ≤ 48 → length ls ≡ count
+      → (k : ℕ) → k < count → (c : Leaf) → Bounded size Fair (over (set ls k c)) → (n : A) → n ≡ node c k → CanPut size Fair join inner at k n
+  takes inner count at ls t e small l k q c b n z = record {
+    tree = own-tree join inner (over ls) at t;
+    bounded = rw (z, own-leaves join inner (over ls) at t, ← coloured-is) b;
+    height = heightFor count;
+    complete = e;
+    room = omega (arith, room count (omega arith));
+    inside = omega (arith, enough count);
+  }
+    where
+      coloured-is : over (set ls k c) ≡ changed (over ls) k (node c k)
+      coloured-is = coloured ls k (omega arith) c node
+
+  -- and has it then
+  put-gives : (inner : ℕ) (at at′ : ℕ → A) (ls : List Leaf) → TreeOf join inner (over ls) at → (k : ℕ) → k < length ls → (c : Leaf) → (n : A) → n ≡ node c k
+      → TreeOf join inner (changed (leavesOf inner at) k n) at′ → TreeOf join inner (over (set ls k c)) at′
+  put-gives inner at at′ ls t k q c n z u =
+      subst (λ (leaf : ℕ → A). TreeOf join inner leaf at′) (rw (z, own-leaves join inner (over ls) at t) (sym (coloured ls k q c node))) u
+
+-- the plain values of a node
+abbrev plainly : Node → plain.Node
+plainly n = plainOf (n .ect) (n .«sum_of_processing_times»)
+
+plain-leaf : (c : Leaf) (e p : ℕ) → plainLeaf (inTheta c) e p ≡ plainly (leafNode c e p)
+plain-leaf leaves.empty e p = refl
+plain-leaf leaves.white e p = refl
+plain-leaf leaves.gray e p = refl
+
+plain-over : (leaf : ℕ → Node) (leaf′ : ℕ → plain.Node) → ((j : ℕ) → leaf′ j ≡ plainly (leaf j)) → (h a : ℕ) → nodeOver plainJoinOf leaf′ h a ≡ plainly (nodeOver joinOf leaf h a)
+unfolding joinOf plainJoinOf
+plain-over leaf leaf′ z zero a = over-leaf plainJoinOf leaf′ a ∙ z a ∙ sym (ap plainly (over-leaf joinOf leaf a))
+plain-over leaf leaf′ z (suc h) a =
+    over-join plainJoinOf leaf′ h a ∙ ap₂ plainJoinOf (plain-over leaf leaf′ z h a) (plain-over leaf leaf′ z h (a + width h)) ∙ sym (ap plainly (over-join joinOf leaf h a))
+
+module _ (J : Tasks natural) (first : List ℕ) where
+  abbrev leaf-node : Leaf → ℕ → Node
+  leaf-node c j = leafNode c (startAt J first j) (durationAt J first j)
+
+  abbrev plain-node : Leaf → ℕ → plain.Node
+  plain-node c j = plainLeaf (inTheta c) (startAt J first j) (durationAt J first j)
+
+  all-empty : (n j : ℕ) → getD (replicate n empty) j empty ≡ empty
+  all-empty = getD-fresh empty
+
+  -- after `update`, or of a new theta tree: every word 0, and every leaf empty
+  pub new-tree : (inner : ℕ) (words : List ℕ) → words ≡ replicate 508 0 → inner + 1 ≡ width (heightFor (J .count)) → IsTree J first (replicate (J .count) empty) inner words
+  unfolding joinOf
+  new-tree inner words z e = rw z (record {
+    tree = record {
+      joins = λ i q. blank-nodes i ∙ sym (ap₂ joinOf (blank-nodes (2 * i + 1)) (blank-nodes (2 * i + 2)));
+      leaves = λ k. blank-nodes (inner + k) ∙ sym (ap (λ (c : Leaf). leaf-node c k) (all-empty (J .count) k));
+    };
+    words-length = refl;
+    complete = e;
+    colours = length-replicate (J .count) empty;
+  })
+
+  pub new-plain-tree : (inner : ℕ) (words : List ℕ) → words ≡ replicate 254 0 → inner + 1 ≡ width (heightFor (J .count)) → IsPlainTree J first (replicate (J .count) empty) inner words
+  unfolding plainJoinOf
+  new-plain-tree inner words z e = rw z (record {
+    tree = record {
+      joins = λ i q. plain-blank-nodes i ∙ sym (ap₂ plainJoinOf (plain-blank-nodes (2 * i + 1)) (plain-blank-nodes (2 * i + 2)));
+      leaves = λ k. plain-blank-nodes (inner + k) ∙ sym (ap (λ (c : Leaf). plain-node c k) (all-empty (J .count) k));
+    };
+    words-length = refl;
+    complete = e;
+    colours = length-replicate (J .count) empty;
+  })
+
+-- the theta-lambda tree --------------------------------------------------------------------------------------------------------
+
+module _ {J : Tasks natural} {first : List ℕ} (lim : Limited J first) {ls : List Leaf} {inner : ℕ} {words : List ℕ} (t : IsTree J first ls inner words) where
+  -- the leaf of a task may get a colour: white by `add_to_theta`, gray by `add_to_lambda`, empty by the removals
+  pub may-put : (k : ℕ) → k < J .count → (c : Leaf) {n : Node} → n ≡ leafNode c (startAt J first k) (durationAt J first k) → Puttable inner words k n
+  may-put k q c {n} z = record {
+    length = t .words-length;
+    takes = takes size Fair joinOf (leaf-node J first) inner (J .count) (nodeAt words) ls (t .tree) (t .complete) (lim .count) (t .colours) k q c (bounded J first lim (set ls k c) (length-set ls k c ∙ t .colours)) n z;
+  }
+
+  -- and then has it
+  pub was-put : (k : ℕ) → k < J .count → (c : Leaf) {n : Node} → n ≡ leafNode c (startAt J first k) (durationAt J first k) → {words′ : List ℕ} → Put inner words words′ k n → IsTree J first (set ls k c) inner words′
+  was-put k q c {n} z {words′} u = record {
+    tree = put-gives size Fair joinOf (leaf-node J first) inner (nodeAt words) (nodeAt words′) ls (t .tree) k (omega (arith, t .colours)) c n z (u .tree);
+    words-length = u .length;
+    complete = t .complete;
+    colours = length-set ls k c ∙ t .colours;
+  }
+
+  -- the root's values: `ect`, `ect_bar`, `sum_of_processing_times`
+  own : leavesOf inner (nodeAt words) ≡ leaves.leaves J first ls
+  own = own-leaves joinOf inner (leaves.leaves J first ls) (nodeAt words) (t .tree)
+
+  own-is-tree : TreeOf joinOf inner (leavesOf inner (nodeAt words)) (nodeAt words)
+  own-is-tree = own-tree joinOf inner (leaves.leaves J first ls) (nodeAt words) (t .tree)
+
+  pub root-of : nodeAt words 0 ≡ root J first ls
+  unfolding root
+  root-of = root-is joinOf inner (heightFor (J .count)) (nodeAt words) (t .complete) own-is-tree ∙ ap (λ (leaf : ℕ → Node). nodeOver joinOf leaf (heightFor (J .count)) 0) own
+
+  -- the search from the root, `responsible_ect_bar`
+  pub searchable : (h : ℕ) → h ≡ heightFor (J .count) → Searchable inner h (nodeAt words)
+  searchable h z = rw z (record {
+    searched = record { tree = own-is-tree; bounded = rw own (bounded J first lim ls (t .colours)); has-height = root-height inner (heightFor (J .count)) (t .complete); room = omega (arith, room (J .count) (omega (arith, lim .count)), t .complete) };
+    complete = t .complete;
+    past = λ k q. ap gray (t .tree .leaves k ∙ ap (λ (c : Leaf). leaf-node J first c k) (past-empty J first ls (t .colours) k (omega (arith, lim .count)))) ∙ gray-empty;
+  })
+
+  pub responsible-of : (h : ℕ) → h ≡ heightFor (J .count) → searchEct (leavesOf inner (nodeAt words)) h 0 ≡ responsible J first ls
+  unfolding responsible
+  responsible-of h z = rw (z, own) refl
+
+  -- the list of `get_theta`, by any array of the leaves' tasks
+  pub theta-of : (tasks : List ℕ) → ((j : ℕ) → j < J .count → getD tasks j 0 ≡ taskAt J first j) → thetaOf (isWhite (leavesOf inner (nodeAt words))) (λ k. getD tasks k 0) 0 (J .count) ≡ theta J first ls
+  unfolding theta
+  theta-of tasks z = theta-same (isWhite (leavesOf inner (nodeAt words))) (whiteAt ls) (λ k. getD tasks k 0) (taskAt J first) 0 (J .count) (λ k lo hi.
+      let q : k < J .count = omega arith in
+      (ap (λ (n : Node). not (eqb (n .ect) 0)) (t .tree .leaves k) ∙ white-is (getD ls k empty) (startAt J first k) (durationAt J first k) (lim .lasts k q), z k q))
+
+-- the theta tree ---------------------------------------------------------------------------------------------------------------
+
+module _ {J : Tasks natural} {first : List ℕ} (lim : Limited J first) {ls : List Leaf} {inner : ℕ} {words : List ℕ} (t : IsPlainTree J first ls inner words) where
+  pub may-put-plain : (k : ℕ) → k < J .count → (c : Leaf) {n : plain.Node} → n ≡ plainLeaf (inTheta c) (startAt J first k) (durationAt J first k) → PlainPuttable inner words k n
+  may-put-plain k q c {n} z = record {
+    length = t .words-length;
+    takes = takes plainSize PlainFair plainJoinOf (plain-node J first) inner (J .count) (plainAt words) ls (t .tree) (t .complete) (lim .count) (t .colours) k q c (plain-bounded J first lim (set ls k c) (length-set ls k c ∙ t .colours)) n z;
+  }
+
+  pub was-put-plain : (k : ℕ) → k < J .count → (c : Leaf) {n : plain.Node} → n ≡ plainLeaf (inTheta c) (startAt J first k) (durationAt J first k) → {words′ : List ℕ} → PlainPut inner words words′ k n → IsPlainTree J first (set ls k c) inner words′
+  was-put-plain k q c {n} z {words′} u = record {
+    tree = put-gives plainSize PlainFair plainJoinOf (plain-node J first) inner (plainAt words) (plainAt words′) ls (t .tree) k (omega (arith, t .colours)) c n z (u .tree);
+    words-length = u .length;
+    complete = t .complete;
+    colours = length-set ls k c ∙ t .colours;
+  }
+
+  -- the root has the theta-lambda tree's plain values
+  pub plain-root-of : plainAt words 0 ≡ plainOf (leaves.ect J first ls) (leaves.sum J first ls)
+  unfolding root
+  plain-root-of = root-is plainJoinOf inner (heightFor (J .count)) (plainAt words) (t .complete) (own-tree plainJoinOf inner (plainLeaves J first ls) (plainAt words) (t .tree))
+      ∙ ap (λ (leaf : ℕ → plain.Node). nodeOver plainJoinOf leaf (heightFor (J .count)) 0) (own-leaves plainJoinOf inner (plainLeaves J first ls) (plainAt words) (t .tree))
+      ∙ plain-over (leaves.leaves J first ls) (plainLeaves J first ls) (λ j. plain-leaf (getD ls j empty) (startAt J first j) (durationAt J first j)) (heightFor (J .count)) 0

@@ -1,0 +1,58 @@
+-- `trees::complete_tree::leaf_places` meets its contract. The loop's invariant is `Placed`: the mapping has the places of the tasks passed.
+-- Assumes nothing.
+use mathlib.Core.Path.{_≡_, refl}
+use Prim.Native.Nat.{_≤_, _-_}
+use native.Mathlib.Omega.{arith}
+use lib.ListN.{length-set, length, take}
+use Rattle.trees.proofs.Places.{Placed, task-below, place-more, places-are}
+use Rattle.trees.proofs.complete_tree.leaf_places.Statement.{statement}
+use Rattle.trees.proofs.complete_tree.leaf_places.Tie as tie
+
+abbrev Inv-loop : tie.InvT-loop
+Inv-loop order count mapping₀ i₀ mapping i = (i ≤ count) × (length mapping ≡ 48) × Placed (take count order) mapping i
+
+abbrev μ-loop : tie.MeasureT-loop
+μ-loop order count mapping₀ i₀ mapping i = count - i
+
+loop-holds : tie.Need-loop-holds Inv-loop μ-loop
+loop-holds c = (omega arith, refl, λ j q. absurd (omega arith))
+
+mul-task : tie.Need-mul-task Inv-loop μ-loop
+mul-task c = omega arith
+
+element-copy-out-task : tie.Need-element-copy-out-task Inv-loop μ-loop
+element-copy-out-task c = omega arith
+
+mul-mapping : tie.Need-mul-mapping Inv-loop μ-loop
+mul-mapping c = omega (arith, task-below (c .before .before .before .args .count) (c .before .before .before .args .order .now) (c .before .before .before .pre .1) (c .before .before .loop .i) (c .before .loop-test .taken))
+
+array-write-mapping : tie.Need-array-write-mapping Inv-loop μ-loop
+array-write-mapping c = omega (arith, task-below (c .before .before .before .args .count) (c .before .before .before .args .order .now) (c .before .before .before .pre .1) (c .before .before .loop .i) (c .before .loop-test .taken), c .before .before .loop .inv .1)
+
+add-i : tie.Need-add-i Inv-loop μ-loop
+add-i c = omega arith
+
+loop-less : tie.Need-loop-less Inv-loop μ-loop
+loop-less c = omega arith
+
+loop-again : tie.Need-loop-again Inv-loop μ-loop
+loop-again c = (omega arith, simp length-set (c .before .before .loop .inv .1), place-more (c .before .before .before .args .count) (c .before .before .before .args .order .now) (c .before .before .before .pre .1) (c .before .before .loop .mapping) (c .before .before .loop .i) (omega arith) (c .before .loop-test .taken) (c .before .before .loop .inv .2))
+
+returns : tie.Need-returns Inv-loop μ-loop
+returns c = places-are (c .before .before .args .count) (c .before .before .args .order .now) (c .before .before .pre .1) (c .before .loop .mapping) (λ j q. c .before .loop .inv .2 j (omega arith))
+
+pub leaf-places-spec : {M : Type 1} → statement M
+leaf-places-spec =
+    tie.close
+    (tie.spec
+    Inv-loop
+    μ-loop
+    loop-holds
+    mul-task
+    element-copy-out-task
+    mul-mapping
+    array-write-mapping
+    add-i
+    loop-less
+    loop-again
+    returns)

@@ -1,0 +1,43 @@
+-- `trees::theta_lambda_tree::Node::descent_p` meets its contract.
+-- Assumes nothing.
+use mathlib.Core.Path.{sym, _∙_}
+use borrow.Author.Needs.{needs}
+use Rattle.trees.specs.Searches.{descentP}
+use Rattle.trees.proofs.theta_lambda_tree.Node.descent_p.Statement.{statement}
+use Rattle.trees.proofs.theta_lambda_tree.Node.descent_p.Tie as tie
+
+add-tested : tie.Need-add-tested
+add-tested c = search needs
+
+tested-requires : tie.Need-tested-requires
+tested-requires c κs = search needs
+
+returns : tie.Need-returns
+unfolding descentP
+returns c = rw (sym (c .before .tested .ensures) ∙ c .if1 .taken, descentP)
+
+add-tested-2 : tie.Need-add-tested-2
+add-tested-2 c = search needs
+
+tested-requires-2 : tie.Need-tested-requires-2
+tested-requires-2 c κs = search needs
+
+returns-2 : tie.Need-returns-2
+unfolding descentP
+returns-2 c = rw (sym (c .before .before .before .before .before .tested .ensures) ∙ c .before .before .before .before .if1 .left, sym (c .before .tested2 .ensures) ∙ c .if2 .taken, descentP)
+
+returns-3 : tie.Need-returns-3
+unfolding descentP
+returns-3 c = rw (sym (c .before .before .before .before .before .tested .ensures) ∙ c .before .before .before .before .if1 .left, sym (c .before .tested2 .ensures) ∙ c .if2 .left, descentP)
+
+pub descent-p-spec : {M : Type 1} → statement M
+descent-p-spec =
+    tie.close
+    (tie.spec
+    add-tested
+    tested-requires
+    returns
+    add-tested-2
+    tested-requires-2
+    returns-2
+    returns-3)

@@ -1,0 +1,23 @@
+-- `trees::theta_lambda_tree::ThetaLambdaTree::add_to_theta` meets its contract.
+-- Assumes nothing.
+use native.Mathlib.Omega.{arith}
+use borrow.Author.Needs.{needs}
+use Rattle.trees.proofs.Joins.{additive}
+use Rattle.trees.proofs.Wiring.{put-fits}
+use Rattle.trees.proofs.theta_lambda_tree.ThetaLambdaTree.add_to_theta.Statement.{statement}
+use Rattle.trees.proofs.theta_lambda_tree.ThetaLambdaTree.add_to_theta.Tie as tie
+
+add-ect : tie.Need-add-ect
+add-ect c = let f = put-fits additive (c .before .pre .takes) in omega (arith, f .fair, f .small)
+
+new-white-node-requires : tie.Need-new-white-node-requires
+new-white-node-requires c κs = search needs
+
+put-requires : tie.Need-put-requires
+put-requires c κs = rw (c .before .new-white-node .ensures) (c .before .before .before .pre)
+
+returns : tie.Need-returns
+returns c = rw (c .before .before .new-white-node .ensures) at (c .put .ensures)
+
+pub add-to-theta-spec : {M : Type 1} → statement M
+add-to-theta-spec = tie.close (tie.spec add-ect new-white-node-requires put-requires returns)

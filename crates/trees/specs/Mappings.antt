@@ -1,0 +1,28 @@
+-- The tree's record: the order of the tasks as the task of each leaf, and the leaf of each task.
+use mathlib.Core.Path.{_≡_}
+use mathlib.Core.List.{List}
+use Prim.Native.Nat.{ℕ, _<_}
+use lib.ListN.{getD, take, replicate}
+use Rattle.integers.specs.Orders.{index}
+use Rattle.trees.specs.declared.theta_lambda_tree.ThetaLambdaTree.{ThetaLambdaTree}
+use Rattle.trees.specs.declared.theta_tree.ThetaTree.{ThetaTree}
+use Rattle.trees.specs.Shapes.{heightFor, Sized}
+
+-- `mapping` has the place of each of the first n tasks in the order.
+pub record Maps (n : ℕ) (order mapping : List ℕ) : Type 0 where
+  pub leaf : (k : ℕ) → k < n → getD mapping k 0 ≡ index (take n order) k
+
+-- `update`: both mappings by the order, and every word 0.
+pub record Updated (before after : ThetaLambdaTree) (order : List ℕ) : Type 0 where
+  pub nodes : after .nodes ≡ replicate 508 0
+  pub mapping : Maps (before .count) order (after .mapping)
+  pub reverse-mapping : after .«reverse_mapping» ≡ order
+  pub inner : after .«number_of_internal_nodes» ≡ before .«number_of_internal_nodes»
+  pub height : after .height ≡ before .height
+  pub count : after .count ≡ before .count
+
+-- A new theta tree: the mapping by the order, the size by the count, and every word 0.
+pub record PlainNew (n : ℕ) (order : List ℕ) (tree : ThetaTree) : Type 0 where
+  pub nodes : tree .nodes ≡ replicate 254 0
+  pub mapping : Maps n order (tree .mapping)
+  pub size : Sized n (tree .«number_of_internal_nodes») (heightFor n)

@@ -1,0 +1,41 @@
+-- What an operation on the words of a tree asks, and what it does: one leaf changes, and every inner node is the join of its children again.
+use mathlib.Core.Path.{_≡_}
+use mathlib.Core.List.{List}
+use Prim.Native.Nat.{ℕ, _+_}
+use lib.ListN.{length}
+use Rattle.trees.specs.declared.disjunctive_task.DisjunctiveTask.{DisjunctiveTask}
+use Rattle.trees.specs.declared.theta_lambda_tree.Node.{Node}
+use Rattle.trees.specs.declared.theta_tree.Node as plain
+use Rattle.trees.specs.Shapes.{leavesOf, changed, TreeOf}
+use Rattle.trees.specs.Nodes.{whiteOf, grayOf, joinOf, plainOf, plainJoinOf}
+use Rattle.trees.specs.Words.{nodeAt, plainAt}
+use Rattle.trees.specs.Bounds.{Fair, size, PlainFair, plainSize, CanPut}
+
+-- the leaf of a task of Theta, and of one of Lambda
+abbrev pub whiteTask : DisjunctiveTask → Node
+whiteTask task = whiteOf (task .«start_time» + task .«processing_time») (task .«processing_time»)
+
+abbrev pub grayTask : DisjunctiveTask → Node
+grayTask task = grayOf (task .«start_time» + task .«processing_time») (task .«processing_time»)
+
+abbrev pub plainTask : DisjunctiveTask → plain.Node
+plainTask task = plainOf (task .«start_time» + task .«processing_time») (task .«processing_time»)
+
+-- the leaf at `place` may become n
+pub record Puttable (inner : ℕ) (words : List ℕ) (place : ℕ) (n : Node) : Type 0 where
+  pub takes : CanPut size Fair joinOf inner (nodeAt words) place n
+  pub length : length words ≡ 508
+
+-- the leaf at `place` became n
+pub record Put (inner : ℕ) (before after : List ℕ) (place : ℕ) (n : Node) : Type 0 where
+  pub tree : TreeOf joinOf inner (changed (leavesOf inner (nodeAt before)) place n) (nodeAt after)
+  pub length : length after ≡ 508
+
+-- the same of a theta tree
+pub record PlainPuttable (inner : ℕ) (words : List ℕ) (place : ℕ) (n : plain.Node) : Type 0 where
+  pub takes : CanPut plainSize PlainFair plainJoinOf inner (plainAt words) place n
+  pub length : length words ≡ 254
+
+pub record PlainPut (inner : ℕ) (before after : List ℕ) (place : ℕ) (n : plain.Node) : Type 0 where
+  pub tree : TreeOf plainJoinOf inner (changed (leavesOf inner (plainAt before)) place n) (plainAt after)
+  pub length : length after ≡ 254

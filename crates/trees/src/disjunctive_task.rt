@@ -1,0 +1,35 @@
+// A task, its number, and the place of its leaf in a tree: two kinds, converted only by the two mappings of the tree.
+ghost use mathlib.Core.Path.{_≡_};
+ghost use Prim.Native.Nat.{_<_};
+ghost use lib.ListN.{getD};
+
+// The number of a task, which is also its start variable.
+pub struct LocalId(pub usize);
+
+// The place of a leaf, counted from the first leaf of a tree.
+pub struct LeafPlace(pub usize);
+
+// A task as a tree takes it: the lower bound of its start time, a moment, and its processing time.
+pub struct DisjunctiveTask {
+    pub start_time: u32,
+    pub processing_time: u32,
+    pub id: LocalId,
+}
+
+// The leaf of a task.
+pub fn leaf_of(mapping: &[usize; 48], id: LocalId) -> LeafPlace
+    requires { ⌜ id .0 < 48 ⌝ }
+    ensures { λ r. ⌜ r .0 ≡ getD (now (mapping .entry)) (id .0) 0 ⌝ }
+{
+    let i = id.0;
+    LeafPlace(mapping[i])
+}
+
+// The task of a leaf.
+pub fn task_of(reverse_mapping: &[usize; 48], place: LeafPlace) -> LocalId
+    requires { ⌜ place .0 < 48 ⌝ }
+    ensures { λ r. ⌜ r .0 ≡ getD (now («reverse_mapping» .entry)) (place .0) 0 ⌝ }
+{
+    let i = place.0;
+    LocalId(reverse_mapping[i])
+}

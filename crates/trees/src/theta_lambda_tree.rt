@@ -1,0 +1,555 @@
+// The theta-lambda tree: the ect of a set of tasks Theta, also with at most one task of a second set Lambda added.
+//
+// Its leaves stand for the tasks in order of earliest start, so that a node's values follow from those of its children. All numbers are moments and
+// durations; moment 0 is the source's i32::MIN, the ect of no task. The nodes stand as words, four to a node, which only `load` and `store` know,
+// and the operations borrow the words alone, so that none copies the tree.
+use crate::complete_tree::get_left_child_index;
+use crate::complete_tree::get_parent;
+use crate::complete_tree::get_right_child_index;
+use crate::complete_tree::is_leaf;
+use crate::complete_tree::leaf_places;
+use crate::complete_tree::max;
+use crate::complete_tree::size_for;
+use crate::disjunctive_task::DisjunctiveTask;
+use crate::disjunctive_task::LeafPlace;
+use crate::disjunctive_task::LocalId;
+use crate::disjunctive_task::task_of;
+ghost use mathlib.Core.Path.{_≡_};
+ghost use Prim.Native.Nat.{ℕ, _+_, _*_, _-_, _≤_, _<_};
+ghost use lib.ListN.{getD, length, take};
+ghost use Rattle.integers.specs.Orders.{Permutes};
+ghost use Rattle.trees.specs.Shapes.{Sized, leftmost, changed, leavesOf, TreeOf};
+ghost use Rattle.trees.specs.Nodes.{emptyOf, whiteOf, grayOf, joinOf, isEmpty};
+ghost use Rattle.trees.specs.Words.{nodeAt};
+ghost use Rattle.trees.specs.Bounds.{Fair, size, Fits, NeedsUpheap};
+ghost use Rattle.trees.specs.Puts.{whiteTask, grayTask, Puttable, Put};
+ghost use Rattle.trees.specs.Mappings.{Updated};
+ghost use Rattle.trees.specs.Searches.{Searched, Searchable, gray, tested, descentP, descentEct, AroundFits, aroundOf, stepAtP, stepAtEct, searchP, searchEct, foundAt, responsibleOf, thetaOf, isWhite, Lists};
+
+// A node which keeps track of the ect and the sum of processing times of the tasks below it, and of both if a single gray task can be added.
+pub struct Node {
+    pub ect: u32,
+    pub sum_of_processing_times: u32,
+    pub ect_bar: u32,
+    pub sum_of_processing_times_bar: u32,
+}
+
+// Where the search by sums goes on.
+pub enum PDescent {
+    Left,
+    Right,
+    Here,
+    Nothing,
+}
+
+// Where the search by ects goes on: right by ects, right by sums, or left by ects.
+pub enum EctBarDescent {
+    Right,
+    RightP,
+    Left,
+    Here,
+    Nothing,
+}
+
+// What a search reads at a node: a leaf, or an inner node with its children.
+pub enum Around {
+    Leaf(Node),
+    Inner(Node, Node, Node),
+}
+
+// The position of a leaf, or none.
+pub enum Found {
+    At(usize),
+    Nothing,
+}
+
+// The task responsible for the value of ect_bar, or none.
+pub enum Responsible {
+    Task(LocalId),
+    Nothing,
+}
+
+// The tasks of Theta in order of their leaves: the first `count` of `tasks`.
+pub struct Theta {
+    pub tasks: [usize; 48],
+    pub count: usize,
+}
+
+impl Node {
+    // Constructs an empty node.
+    pub fn empty() -> Node
+        ensures { λ n. ⌜ n ≡ emptyOf ⌝ }
+    {
+        Node {
+            ect: 0,
+            sum_of_processing_times: 0,
+            ect_bar: 0,
+            sum_of_processing_times_bar: 0,
+        }
+    }
+
+    // Constructs a new white node with the provided value.
+    pub fn new_white_node(ect: u32, sum_of_processing_times: u32) -> Node
+        ensures { λ n. ⌜ n ≡ whiteOf ect «sum_of_processing_times» ⌝ }
+    {
+        Node {
+            ect,
+            sum_of_processing_times,
+            ect_bar: ect,
+            sum_of_processing_times_bar: sum_of_processing_times,
+        }
+    }
+
+    // Constructs a new gray node with the provided value.
+    pub fn new_gray_node(ect: u32, sum_of_processing_times: u32) -> Node
+        ensures { λ n. ⌜ n ≡ grayOf ect «sum_of_processing_times» ⌝ }
+    {
+        Node {
+            ect: 0,
+            sum_of_processing_times: 0,
+            ect_bar: ect,
+            sum_of_processing_times_bar: sum_of_processing_times,
+        }
+    }
+
+    // A parent from its children.
+    fn join(l: Node, r: Node) -> Node
+        requires { ⌜ Fits size Fair l × Fits size Fair r ⌝ }
+        ensures { λ n. ⌜ n ≡ joinOf l r ⌝ }
+    {
+        let sum = l.sum_of_processing_times + r.sum_of_processing_times;
+        let ect_left = l.ect + r.sum_of_processing_times;
+        let sum_left_lambda = l.sum_of_processing_times_bar + r.sum_of_processing_times;
+        let sum_right_lambda = l.sum_of_processing_times + r.sum_of_processing_times_bar;
+        let ect_right_lambda = l.ect + r.sum_of_processing_times_bar;
+        let ect_left_lambda = l.ect_bar + r.sum_of_processing_times;
+        let ect = max(r.ect, ect_left);
+        let sum_bar = max(sum_left_lambda, sum_right_lambda);
+        let ect_lambda = max(ect_right_lambda, ect_left_lambda);
+        let ect_bar = max(r.ect_bar, ect_lambda);
+        Node {
+            ect,
+            sum_of_processing_times: sum,
+            ect_bar,
+            sum_of_processing_times_bar: sum_bar,
+        }
+    }
+
+    // Whether the node is the empty one.
+    fn is_empty(self) -> bool
+        ensures { λ r. ⌜ r ≡ isEmpty self ⌝ }
+    {
+        if self.ect != 0 {
+            return false;
+        }
+        if self.sum_of_processing_times != 0 {
+            return false;
+        }
+        if self.ect_bar != 0 {
+            return false;
+        }
+        self.sum_of_processing_times_bar == 0
+    }
+
+    // Whether a leaf has a gray task.
+    fn is_gray(self) -> bool
+        ensures { λ r. ⌜ r ≡ gray self ⌝ }
+    {
+        if self.ect_bar == 0 {
+            return false;
+        }
+        self.ect == 0
+    }
+
+    // The node is not empty, and the value is this one.
+    fn tested(self, value: u32, this: u32) -> bool
+        ensures { λ r. ⌜ r ≡ tested self value this ⌝ }
+    {
+        if self.is_empty() {
+            return false;
+        }
+        value == this
+    }
+
+    // The child of a node whose sum bar has the node's gray task.
+    fn descent_p(n: Node, l: Node, r: Node) -> PDescent
+        requires { ⌜ Fits size Fair l × Fits size Fair r ⌝ }
+        ensures { λ d. ⌜ d ≡ descentP n l r ⌝ }
+    {
+        let bar = n.sum_of_processing_times_bar;
+        if l.tested(
+            bar,
+            l.sum_of_processing_times_bar + r.sum_of_processing_times,
+        ) {
+            return PDescent::Left;
+        }
+        if r.tested(
+            bar,
+            l.sum_of_processing_times + r.sum_of_processing_times_bar,
+        ) {
+            return PDescent::Right;
+        }
+        PDescent::Nothing
+    }
+
+    // The child of a node that has the gray task of the node's ect bar, and in which of its bars.
+    fn descent_ect_bar(n: Node, l: Node, r: Node) -> EctBarDescent
+        requires { ⌜ Fits size Fair l × Fits size Fair r ⌝ }
+        ensures { λ d. ⌜ d ≡ descentEct n l r ⌝ }
+    {
+        let bar = n.ect_bar;
+        if r.tested(bar, r.ect_bar) {
+            return EctBarDescent::Right;
+        }
+        if r.tested(bar, l.ect + r.sum_of_processing_times_bar) {
+            return EctBarDescent::RightP;
+        }
+        if l.tested(bar, l.ect_bar + r.sum_of_processing_times) {
+            return EctBarDescent::Left;
+        }
+        EctBarDescent::Nothing
+    }
+}
+
+impl Around {
+    // One step of the search by ects.
+    fn step_ect_bar(self) -> EctBarDescent
+        requires { ⌜ AroundFits self ⌝ }
+        ensures { λ d. ⌜ d ≡ stepAtEct self ⌝ }
+    {
+        match self {
+            Around::Leaf(node) => {
+                if node.is_gray() {
+                    return EctBarDescent::Here;
+                }
+                EctBarDescent::Nothing
+            }
+            Around::Inner(node, l, r) => Node::descent_ect_bar(node, l, r),
+        }
+    }
+
+    // One step of the search by sums.
+    fn step_p(self) -> PDescent
+        requires { ⌜ AroundFits self ⌝ }
+        ensures { λ d. ⌜ d ≡ stepAtP self ⌝ }
+    {
+        match self {
+            Around::Leaf(node) => {
+                if node.is_gray() {
+                    return PDescent::Here;
+                }
+                PDescent::Nothing
+            }
+            Around::Inner(node, l, r) => Node::descent_p(node, l, r),
+        }
+    }
+}
+
+// The i-th node of the words.
+fn load(nodes: &[u32; 508], i: usize) -> Node
+    requires { ⌜ i < 127 ⌝ }
+    ensures { λ r. ⌜ r ≡ nodeAt (now (nodes .entry)) i ⌝ }
+{
+    let k = 4 * i;
+    Node {
+        ect: nodes[k],
+        sum_of_processing_times: nodes[k + 1],
+        ect_bar: nodes[k + 2],
+        sum_of_processing_times_bar: nodes[k + 3],
+    }
+}
+
+// The i-th node of the words becomes n.
+fn store(nodes: &mut [u32; 508], i: usize, n: Node)
+    requires { ⌜ (i < 127) × (length (now nodes) ≡ 508) ⌝ }
+    ensures { λ _. ⌜ (nodeAt (now (nodes .exit)) ≡ changed (nodeAt (now (nodes .entry))) i n) × (length (now (nodes .exit)) ≡ 508) ⌝ }
+{
+    let k = 4 * i;
+    nodes[k] = n.ect;
+    nodes[k + 1] = n.sum_of_processing_times;
+    nodes[k + 2] = n.ect_bar;
+    nodes[k + 3] = n.sum_of_processing_times_bar;
+}
+
+// A structure for calculating the ect of a set of tasks while allowing one element from another set.
+pub struct ThetaLambdaTree {
+    pub nodes: [u32; 508],
+    // The place of the leaf of each task, and the task of each leaf.
+    pub mapping: [usize; 48],
+    pub reverse_mapping: [usize; 48],
+    pub number_of_internal_nodes: usize,
+    pub height: usize,
+    // The tasks that the tree is made for.
+    pub count: usize,
+}
+
+// The operations take the words of the tree and the number of its internal nodes, `inner`.
+impl ThetaLambdaTree {
+    // Initialises the tree; `update` gives it the tasks' order.
+    pub fn new(count: usize) -> ThetaLambdaTree
+        requires { ⌜ count ≤ 48 ⌝ }
+        ensures { λ r. ⌜ Sized count (r .«number_of_internal_nodes») (r .height) × (r .count ≡ count) ⌝ }
+    {
+        let size = size_for(count);
+        ThetaLambdaTree {
+            nodes: [0; 508],
+            mapping: [0; 48],
+            reverse_mapping: [0; 48],
+            number_of_internal_nodes: size.number_of_internal_nodes,
+            height: size.height,
+            count,
+        }
+    }
+
+    // Sets both mappings by the order of the tasks, and resets theta and lambda to be the empty set.
+    pub fn update(self, order: &[usize; 48]) -> ThetaLambdaTree
+        requires { ⌜ (self .count ≤ 48) × Permutes (self .count) (take (self .count) (now order)) ⌝ }
+        ensures { λ r. ⌜ Updated self r (now (order .entry)) ⌝ }
+    {
+        let count = self.count;
+        let mapping = leaf_places(order, count);
+        let reverse_mapping = *order;
+        ThetaLambdaTree {
+            nodes: [0; 508],
+            mapping,
+            reverse_mapping,
+            number_of_internal_nodes: self.number_of_internal_nodes,
+            height: self.height,
+            count,
+        }
+    }
+
+    // Returns the earliest completion time of Theta.
+    pub fn ect(nodes: &[u32; 508]) -> u32
+        ensures { λ r. ⌜ r ≡ nodeAt (now (nodes .entry)) 0 .ect ⌝ }
+    {
+        let root = load(nodes, 0);
+        root.ect
+    }
+
+    // Returns the earliest completion time of Theta while allowing one element of Lambda to be added.
+    pub fn ect_bar(nodes: &[u32; 508]) -> u32
+        ensures { λ r. ⌜ r ≡ nodeAt (now (nodes .entry)) 0 .«ect_bar» ⌝ }
+    {
+        let root = load(nodes, 0);
+        root.ect_bar
+    }
+
+    // Returns the total sum of processing times of the elements in the set theta.
+    pub fn sum_of_processing_times(nodes: &[u32; 508]) -> u32
+        ensures { λ r. ⌜ r ≡ nodeAt (now (nodes .entry)) 0 .«sum_of_processing_times» ⌝ }
+    {
+        let root = load(nodes, 0);
+        root.sum_of_processing_times
+    }
+
+    // Returns the place of the leaf at the provided position.
+    fn get_leaf_node_index(position: usize, inner: usize) -> LeafPlace
+        requires { ⌜ inner ≤ position ⌝ }
+        ensures { λ r. ⌜ r .0 ≡ position - inner ⌝ }
+    {
+        LeafPlace(position - inner)
+    }
+
+    // Returns the task in Lambda which was responsible for the value of `ect_bar`.
+    pub fn responsible_ect_bar<'a>(
+        nodes: &'a [u32; 508],
+        reverse_mapping: &'a [usize; 48],
+        inner: usize,
+        height: usize,
+    ) -> Responsible
+        requires { ⌜ Searchable inner height (nodeAt (now nodes)) ⌝ }
+        ensures { λ r. ⌜ r ≡ responsibleOf (now («reverse_mapping» .entry)) (searchEct (leavesOf inner (nodeAt (now (nodes .entry)))) height 0) ⌝ }
+    {
+        let found = ThetaLambdaTree::responsible_index_ect_bar_internal(nodes, inner, 0, height);
+        match found {
+            Found::At(position) => Responsible::Task(task_of(
+                reverse_mapping,
+                ThetaLambdaTree::get_leaf_node_index(position, inner),
+            )),
+            Found::Nothing => Responsible::Nothing,
+        }
+    }
+
+    // What a search reads at a node.
+    fn around(nodes: &[u32; 508], inner: usize, position: usize) -> Around
+        requires { ⌜ ((h : ℕ) × Searched inner h position (nodeAt (now nodes))) ⌝ }
+        ensures { λ r. ⌜ r ≡ aroundOf inner (nodeAt (now (nodes .entry))) position ⌝ }
+    {
+        let node = load(nodes, position);
+        if is_leaf(position, inner) {
+            return Around::Leaf(node);
+        }
+        let l = load(nodes, get_left_child_index(position));
+        let r = load(nodes, get_right_child_index(position));
+        Around::Inner(node, l, r)
+    }
+
+    // The leaf of the gray task, searched by ects below a node of the provided height.
+    fn responsible_index_ect_bar_internal(
+        nodes: &[u32; 508],
+        inner: usize,
+        position: usize,
+        height: usize,
+    ) -> Found
+        requires { ⌜ Searched inner height position (nodeAt (now nodes)) ⌝ }
+        ensures { λ r. ⌜ r ≡ foundAt inner (searchEct (leavesOf inner (nodeAt (now (nodes .entry)))) height (leftmost height position - inner)) ⌝ }
+    {
+        let around = ThetaLambdaTree::around(nodes, inner, position);
+        let step = around.step_ect_bar();
+        match step {
+            EctBarDescent::Right => ThetaLambdaTree::responsible_index_ect_bar_internal(
+                nodes,
+                inner,
+                get_right_child_index(position),
+                height - 1,
+            ),
+            EctBarDescent::RightP => ThetaLambdaTree::responsible_index_p_internal(
+                nodes,
+                inner,
+                get_right_child_index(position),
+                height - 1,
+            ),
+            EctBarDescent::Left => ThetaLambdaTree::responsible_index_ect_bar_internal(
+                nodes,
+                inner,
+                get_left_child_index(position),
+                height - 1,
+            ),
+            EctBarDescent::Here => Found::At(position),
+            EctBarDescent::Nothing => Found::Nothing,
+        }
+    }
+
+    // The leaf of the gray task, searched by sums below a node of the provided height.
+    fn responsible_index_p_internal(
+        nodes: &[u32; 508],
+        inner: usize,
+        position: usize,
+        height: usize,
+    ) -> Found
+        requires { ⌜ Searched inner height position (nodeAt (now nodes)) ⌝ }
+        ensures { λ r. ⌜ r ≡ foundAt inner (searchP (leavesOf inner (nodeAt (now (nodes .entry)))) height (leftmost height position - inner)) ⌝ }
+    {
+        let around = ThetaLambdaTree::around(nodes, inner, position);
+        let step = around.step_p();
+        match step {
+            PDescent::Left => ThetaLambdaTree::responsible_index_p_internal(
+                nodes,
+                inner,
+                get_left_child_index(position),
+                height - 1,
+            ),
+            PDescent::Right => ThetaLambdaTree::responsible_index_p_internal(
+                nodes,
+                inner,
+                get_right_child_index(position),
+                height - 1,
+            ),
+            PDescent::Here => Found::At(position),
+            PDescent::Nothing => Found::Nothing,
+        }
+    }
+
+    // A leaf becomes the provided node.
+    fn put(nodes: &mut [u32; 508], inner: usize, place: LeafPlace, n: Node)
+        requires { ⌜ Puttable inner (now nodes) (place .0) n ⌝ }
+        ensures { λ _. ⌜ Put inner (now (nodes .entry)) (now (nodes .exit)) (place .0) n ⌝ }
+    {
+        let position = inner + place.0;
+        store(nodes, position, n);
+        ThetaLambdaTree::upheap(nodes, inner, position);
+    }
+
+    // Adds the provided task to Lambda.
+    pub fn add_to_lambda(
+        nodes: &mut [u32; 508],
+        inner: usize,
+        place: LeafPlace,
+        task: DisjunctiveTask,
+    )
+        requires { ⌜ Puttable inner (now nodes) (place .0) (grayTask task) ⌝ }
+        ensures { λ _. ⌜ Put inner (now (nodes .entry)) (now (nodes .exit)) (place .0) (grayTask task) ⌝ }
+    {
+        let ect = task.start_time + task.processing_time;
+        let n = Node::new_gray_node(ect, task.processing_time);
+        ThetaLambdaTree::put(nodes, inner, place, n);
+    }
+
+    // Removes a task from Lambda.
+    pub fn remove_from_lambda(nodes: &mut [u32; 508], inner: usize, place: LeafPlace)
+        requires { ⌜ Puttable inner (now nodes) (place .0) emptyOf ⌝ }
+        ensures { λ _. ⌜ Put inner (now (nodes .entry)) (now (nodes .exit)) (place .0) emptyOf ⌝ }
+    {
+        ThetaLambdaTree::put(nodes, inner, place, Node::empty());
+    }
+
+    // Adds the provided task to Theta.
+    pub fn add_to_theta(
+        nodes: &mut [u32; 508],
+        inner: usize,
+        place: LeafPlace,
+        task: DisjunctiveTask,
+    )
+        requires { ⌜ Puttable inner (now nodes) (place .0) (whiteTask task) ⌝ }
+        ensures { λ _. ⌜ Put inner (now (nodes .entry)) (now (nodes .exit)) (place .0) (whiteTask task) ⌝ }
+    {
+        let ect = task.start_time + task.processing_time;
+        let n = Node::new_white_node(ect, task.processing_time);
+        ThetaLambdaTree::put(nodes, inner, place, n);
+    }
+
+    // Removes a task from Theta.
+    pub fn remove_from_theta(nodes: &mut [u32; 508], inner: usize, place: LeafPlace)
+        requires { ⌜ Puttable inner (now nodes) (place .0) emptyOf ⌝ }
+        ensures { λ _. ⌜ Put inner (now (nodes .entry)) (now (nodes .exit)) (place .0) emptyOf ⌝ }
+    {
+        ThetaLambdaTree::put(nodes, inner, place, Node::empty());
+    }
+
+    // Calculates the new values for the ancestors of the provided index.
+    fn upheap(nodes: &mut [u32; 508], inner: usize, index: usize)
+        requires { ⌜ NeedsUpheap size Fair joinOf inner (nodeAt (now nodes)) index × (length (now nodes) ≡ 508) ⌝ }
+        ensures { λ _. ⌜ TreeOf joinOf inner (leavesOf inner (nodeAt (now (nodes .entry)))) (nodeAt (now (nodes .exit))) × (length (now (nodes .exit)) ≡ 508) ⌝ }
+    {
+        let mut i = index;
+        while i != 0 {
+            let parent = get_parent(i);
+            let left_child_of_parent = get_left_child_index(parent);
+            let right_child_of_parent = get_right_child_index(parent);
+            let l = load(nodes, left_child_of_parent);
+            let r = load(nodes, right_child_of_parent);
+            let n = Node::join(l, r);
+            store(nodes, parent, n);
+            i = parent;
+        }
+    }
+
+    // Returns the tasks which are currently in the set theta, in order of their leaves.
+    pub fn get_theta<'a>(
+        nodes: &'a [u32; 508],
+        reverse_mapping: &'a [usize; 48],
+        inner: usize,
+        count: usize,
+    ) -> Theta
+        requires { ⌜ (count ≤ 48) × (inner ≤ 63) ⌝ }
+        ensures { λ r. ⌜ Lists (r .tasks) (r .count) (thetaOf (isWhite (leavesOf inner (nodeAt (now (nodes .entry))))) (λ k. getD (now («reverse_mapping» .entry)) k 0) 0 count) ⌝ }
+    {
+        let mut tasks: [usize; 48] = [0; 48];
+        let mut white: usize = 0;
+        let mut i: usize = 0;
+        while i < count {
+            let leaf = load(nodes, inner + i);
+            if leaf.ect != 0 {
+                let id = task_of(reverse_mapping, LeafPlace(i));
+                tasks[white] = id.0;
+                white += 1;
+            }
+            i += 1;
+        }
+        Theta {
+            tasks,
+            count: white,
+        }
+    }
+}

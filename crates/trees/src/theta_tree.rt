@@ -1,0 +1,174 @@
+// The theta tree: the ect of a set of tasks Theta.
+//
+// Its leaves stand for the tasks in order of earliest start, so that a node's values follow from those of its children. All numbers are moments and
+// durations; moment 0 is the source's i32::MIN, the ect of no task. The nodes stand as words, two to a node, which only `load` and `store` know,
+// and the operations borrow the words alone, so that none copies the tree.
+use crate::complete_tree::get_left_child_index;
+use crate::complete_tree::get_parent;
+use crate::complete_tree::get_right_child_index;
+use crate::complete_tree::leaf_places;
+use crate::complete_tree::max;
+use crate::complete_tree::size_for;
+use crate::disjunctive_task::DisjunctiveTask;
+use crate::disjunctive_task::LeafPlace;
+ghost use mathlib.Core.Path.{_≡_};
+ghost use Prim.Native.Nat.{_+_, _≤_, _<_};
+ghost use lib.ListN.{length, take};
+ghost use Rattle.integers.specs.Orders.{Permutes};
+ghost use Rattle.trees.specs.Shapes.{changed, leavesOf, TreeOf};
+ghost use Rattle.trees.specs.Nodes.{plainEmptyOf, plainOf, plainJoinOf};
+ghost use Rattle.trees.specs.Words.{plainAt};
+ghost use Rattle.trees.specs.Bounds.{PlainFair, plainSize, Fits, NeedsUpheap};
+ghost use Rattle.trees.specs.Puts.{plainTask, PlainPuttable, PlainPut};
+ghost use Rattle.trees.specs.Mappings.{PlainNew};
+
+// A node which keeps track of the ect and the sum of processing times of the tasks below it.
+pub struct Node {
+    pub ect: u32,
+    pub sum_of_processing_times: u32,
+}
+
+impl Node {
+    // Constructs an empty node.
+    pub fn empty() -> Node
+        ensures { λ n. ⌜ n ≡ plainEmptyOf ⌝ }
+    {
+        Node {
+            ect: 0,
+            sum_of_processing_times: 0,
+        }
+    }
+
+    // Constructs a new node with the provided value.
+    pub fn new(ect: u32, sum_of_processing_times: u32) -> Node
+        ensures { λ n. ⌜ n ≡ plainOf ect «sum_of_processing_times» ⌝ }
+    {
+        Node {
+            ect,
+            sum_of_processing_times,
+        }
+    }
+
+    // A parent from its children.
+    fn join(l: Node, r: Node) -> Node
+        requires { ⌜ Fits plainSize PlainFair l × Fits plainSize PlainFair r ⌝ }
+        ensures { λ n. ⌜ n ≡ plainJoinOf l r ⌝ }
+    {
+        let sum = l.sum_of_processing_times + r.sum_of_processing_times;
+        let ect_left = l.ect + r.sum_of_processing_times;
+        let ect = max(r.ect, ect_left);
+        Node {
+            ect,
+            sum_of_processing_times: sum,
+        }
+    }
+}
+
+// The i-th node of the words.
+fn load(nodes: &[u32; 254], i: usize) -> Node
+    requires { ⌜ i < 127 ⌝ }
+    ensures { λ r. ⌜ r ≡ plainAt (now (nodes .entry)) i ⌝ }
+{
+    let k = 2 * i;
+    Node {
+        ect: nodes[k],
+        sum_of_processing_times: nodes[k + 1],
+    }
+}
+
+// The i-th node of the words becomes n.
+fn store(nodes: &mut [u32; 254], i: usize, n: Node)
+    requires { ⌜ (i < 127) × (length (now nodes) ≡ 254) ⌝ }
+    ensures { λ _. ⌜ (plainAt (now (nodes .exit)) ≡ changed (plainAt (now (nodes .entry))) i n) × (length (now (nodes .exit)) ≡ 254) ⌝ }
+{
+    let k = 2 * i;
+    nodes[k] = n.ect;
+    nodes[k + 1] = n.sum_of_processing_times;
+}
+
+// A structure for calculating the ect of a set of tasks.
+pub struct ThetaTree {
+    pub nodes: [u32; 254],
+    // The place of the leaf of each task.
+    pub mapping: [usize; 48],
+    pub number_of_internal_nodes: usize,
+}
+
+// The operations take the words of the tree and the number of its internal nodes, `inner`.
+impl ThetaTree {
+    // The tree of no task, over the tasks in the order given.
+    pub fn new(order: &[usize; 48], count: usize) -> ThetaTree
+        requires { ⌜ (count ≤ 48) × Permutes count (take count (now order)) ⌝ }
+        ensures { λ r. ⌜ PlainNew count (now (order .entry)) r ⌝ }
+    {
+        let mapping = leaf_places(order, count);
+        let size = size_for(count);
+        ThetaTree {
+            nodes: [0; 254],
+            mapping,
+            number_of_internal_nodes: size.number_of_internal_nodes,
+        }
+    }
+
+    // Returns the earliest completion time of Theta.
+    pub fn ect(nodes: &[u32; 254]) -> u32
+        ensures { λ r. ⌜ r ≡ plainAt (now (nodes .entry)) 0 .ect ⌝ }
+    {
+        let root = load(nodes, 0);
+        root.ect
+    }
+
+    // Returns the sum of processing times of Theta.
+    pub fn sum_of_processing_times(nodes: &[u32; 254]) -> u32
+        ensures { λ r. ⌜ r ≡ plainAt (now (nodes .entry)) 0 .«sum_of_processing_times» ⌝ }
+    {
+        let root = load(nodes, 0);
+        root.sum_of_processing_times
+    }
+
+    // A leaf becomes the provided node.
+    fn put(nodes: &mut [u32; 254], inner: usize, place: LeafPlace, n: Node)
+        requires { ⌜ PlainPuttable inner (now nodes) (place .0) n ⌝ }
+        ensures { λ _. ⌜ PlainPut inner (now (nodes .entry)) (now (nodes .exit)) (place .0) n ⌝ }
+    {
+        let position = inner + place.0;
+        store(nodes, position, n);
+        ThetaTree::upheap(nodes, inner, position);
+    }
+
+    // Adds the provided task to Theta.
+    pub fn add(nodes: &mut [u32; 254], inner: usize, place: LeafPlace, task: DisjunctiveTask)
+        requires { ⌜ PlainPuttable inner (now nodes) (place .0) (plainTask task) ⌝ }
+        ensures { λ _. ⌜ PlainPut inner (now (nodes .entry)) (now (nodes .exit)) (place .0) (plainTask task) ⌝ }
+    {
+        let ect = task.start_time + task.processing_time;
+        let n = Node::new(ect, task.processing_time);
+        ThetaTree::put(nodes, inner, place, n);
+    }
+
+    // Removes a task from Theta.
+    pub fn remove(nodes: &mut [u32; 254], inner: usize, place: LeafPlace)
+        requires { ⌜ PlainPuttable inner (now nodes) (place .0) plainEmptyOf ⌝ }
+        ensures { λ _. ⌜ PlainPut inner (now (nodes .entry)) (now (nodes .exit)) (place .0) plainEmptyOf ⌝ }
+    {
+        ThetaTree::put(nodes, inner, place, Node::empty());
+    }
+
+    // Calculates the new values for the ancestors of the provided index.
+    fn upheap(nodes: &mut [u32; 254], inner: usize, index: usize)
+        requires { ⌜ NeedsUpheap plainSize PlainFair plainJoinOf inner (plainAt (now nodes)) index × (length (now nodes) ≡ 254) ⌝ }
+        ensures { λ _. ⌜ TreeOf plainJoinOf inner (leavesOf inner (plainAt (now (nodes .entry)))) (plainAt (now (nodes .exit))) × (length (now (nodes .exit)) ≡ 254) ⌝ }
+    {
+        let mut i = index;
+        while i != 0 {
+            let parent = get_parent(i);
+            let left_child_parent = get_left_child_index(parent);
+            let right_child_parent = get_right_child_index(parent);
+            let l = load(nodes, left_child_parent);
+            let r = load(nodes, right_child_parent);
+            let n = Node::join(l, r);
+            store(nodes, parent, n);
+            i = parent;
+        }
+    }
+}
