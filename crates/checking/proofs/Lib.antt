@@ -1,0 +1,16 @@
+pub mod Tests
+pub mod Steps
+pub mod Ascending
+pub mod Padding
+pub mod Atoms
+pub mod Bounds
+pub mod Domains
+pub mod Narrowing
+pub mod Accepting
+pub mod States
+pub mod Values
+pub mod Meaning
+pub mod Promises
+pub mod Prepared
+pub mod Near
+pub mod Instances

@@ -1,0 +1,162 @@
+-- What one atom, and a list of atoms, make of the values that a state admits.
+-- Assumes nothing.
+use mathlib.Core.Path.{_≡_, refl, sym, ap, _∙_, subst}
+use mathlib.Core.Logic.{_⊎_, inl, inr, _↔_}
+use mathlib.Core.Bool.{true, false, cond}
+use mathlib.Core.List.{List, [], _∷_, _++_}
+use Prim.Native.Nat.{ℕ, _<_}
+use native.Mathlib.Omega.{arith}
+use borrow.Author.Tests.{eqb-true, eqb-false}
+use lib.Dec.{eqb}
+use lib.IntN.{ℤ}
+use lib.ListN.{getD-replicate}
+use Rattle.integers.specs.Limits.{VARIABLES}
+use Rattle.integers.proofs.Bools.{bool}
+use Rattle.scheduling.specs.Scheduling.{Atom, Allows, Every, Admits}
+use Rattle.checking.specs.declared.variable_state.Domain.{Domain}
+use Rattle.checking.specs.declared.variable_state.VariableState.{VariableState}
+use Rattle.checking.specs.declared.variable_state.Application.{Application}
+use Rattle.checking.specs.declared.variable_state.Application.the-variants.{Consistent, Contradiction, Refused}
+use Rattle.checking.specs.declared.variable_state.Applied.{Applied}
+use Rattle.checking.specs.Domains.{Admitted, allIntegers, applied}
+use Rattle.checking.specs.States.{Proper, Accepted, noDomain, domainAt, put, emptyState, stepped, applyAll, refusal}
+use Rattle.checking.specs.Promises.{Narrows, Excludes, lacksRoom}
+use Rattle.checking.specs.declared.int_ext.IntExt.the-variants.{NegativeInf, PositiveInf}
+use Rattle.checking.proofs.Ascending.{has-none}
+use Rattle.checking.proofs.Narrowing.{applied-tight, applied-to, applied-of, made-admits}
+use Rattle.checking.proofs.States.{put-same, put-other, stepped-case, stepped-accepted, all-case, all-end, all-consistent}
+use Rattle.checking.proofs.Values.{crossed-none, some-value}
+
+-- ---- answers differ
+abbrev pub code : Application → ℕ
+code Consistent = 0
+code (Contradiction x) = 1
+code (Refused n) = 2
+
+pub differ {ℓ} : {X : Type ℓ} (a b : Application) → a ≡ b → (code a ≡ code b → ⊥) → X
+differ a b e n = absurd (n (ap code e))
+
+pub same-variable : (x y : ℕ) → Contradiction x ≡ Contradiction y → x ≡ y
+same-variable x y e = cc
+
+pub same-number : (x y : ℕ) → Refused x ≡ Refused y → x ≡ y
+same-number x y e = cc
+
+-- ---- one atom
+module _ (s : VariableState) (a : Atom) (acc : Accepted s) (known : a .variable < VARIABLES) where
+  abbrev d : Domain
+  d = domainAt s (a .variable)
+
+  abbrev d′ : Domain
+  d′ = applied d (a .kind) (a .value)
+
+  at-put : domainAt (put s (a .variable) d′) (a .variable) ≡ d′
+  at-put = put-same s (a .variable) d′ (omega (arith, acc .size))
+
+  pub step-consistent : stepped s a .answer ≡ Consistent → Narrows s a (stepped s a .state)
+  step-consistent = stepped-case s a (λ r. r .answer ≡ Consistent → Narrows s a (r .state))
+      (λ _ e. differ (Refused 21) Consistent e (omega arith))
+      (λ p q _.
+      let t = acc .each (a .variable) known .tight in
+      let proper : Proper d′ = record { tight = applied-tight d (a .kind) (a .value) t p; ordered = q } in
+      record {
+        admits = λ z. (λ m. applied-to d (a .kind) (a .value) t p z (subst (λ (x : Domain). Admitted x z) at-put m), λ m. subst (λ (x : Domain). Admitted x z) (sym at-put) (applied-of d (a .kind) (a .value) t p z (m .0) (m .1)));
+        left = subst (λ (x : Domain). (z : ℤ) × Admitted x z) (sym at-put) (some-value d′ proper);
+        others = λ y n. put-other s (a .variable) y d′ n;
+      })
+      (λ _ _ e. differ (Contradiction (a .variable)) Consistent e (omega arith))
+
+  pub step-contradiction : (y : ℕ) → stepped s a .answer ≡ Contradiction y → (y ≡ a .variable) × (stepped s a .state ≡ s) × Excludes s a
+  step-contradiction y = stepped-case s a (λ r. r .answer ≡ Contradiction y → (y ≡ a .variable) × (r .state ≡ s) × Excludes s a)
+      (λ _ e. differ (Refused 21) (Contradiction y) e (omega arith))
+      (λ _ _ e. differ Consistent (Contradiction y) e (omega arith))
+      (λ p q e. (sym (same-variable (a .variable) y e), refl, λ z m h. crossed-none d′ q z (applied-of d (a .kind) (a .value) (acc .each (a .variable) known .tight) p z m h)))
+
+  pub step-refused : (n : ℕ) → stepped s a .answer ≡ Refused n → (n ≡ 21) × (stepped s a .state ≡ s) × (lacksRoom s a ≡ true)
+  step-refused n = stepped-case s a (λ r. r .answer ≡ Refused n → (n ≡ 21) × (r .state ≡ s) × (lacksRoom s a ≡ true))
+      (λ p e. (sym (same-number 21 n e), refl, p))
+      (λ _ _ e. differ Consistent (Refused n) e (omega arith))
+      (λ _ _ e. differ (Contradiction (a .variable)) (Refused n) e (omega arith))
+
+  pub step-number : refusal (stepped s a .answer) ≡ cond (lacksRoom s a) 21 0
+  step-number = stepped-case s a (λ r. refusal (r .answer) ≡ cond (lacksRoom s a) 21 0) (λ p. rw p) (λ p _. rw p) (λ p _. rw p)
+
+  -- what each variable then admits
+  pub step-admits : stepped s a .answer ≡ Consistent → (x : ℕ) (z : ℤ) → Admitted (domainAt (stepped s a .state) x) z ↔ (Admitted (domainAt s x) z × (a .variable ≡ x → Allows a z))
+  step-admits e x z = by (bool (eqb x (a .variable)))
+    where
+      by : (eqb x (a .variable) ≡ true) ⊎ (eqb x (a .variable) ≡ false) → Admitted (domainAt (stepped s a .state) x) z ↔ (Admitted (domainAt s x) z × (a .variable ≡ x → Allows a z))
+      by (inl y) =
+          let q : x ≡ a .variable = eqb-true x (a .variable) y in
+          let r = step-consistent e .admits z in
+          subst (λ (i : ℕ). Admitted (domainAt (stepped s a .state) i) z ↔ (Admitted (domainAt s i) z × (a .variable ≡ i → Allows a z))) (sym q)
+          (λ m. (r .0 m .0, λ _. r .0 m .1), λ m. r .1 (m .0, m .1 refl))
+      by (inr n) =
+          let o = step-consistent e .others x (eqb-false x (a .variable) n) in
+          (λ m. (subst (λ (b : Domain). Admitted b z) o m, λ q. absurd (eqb-false x (a .variable) n (sym q))), λ m. subst (λ (b : Domain). Admitted b z) (sym o) (m .0))
+
+-- ---- a list of atoms
+abbrev pub Known : List Atom → Type 0
+Known = Every (λ a. a .variable < VARIABLES)
+
+pub all-admits : (atoms : List Atom) → Known atoms → (s : VariableState) → Accepted s → applyAll atoms s .answer ≡ Consistent
+    → (x : ℕ) (z : ℤ) → Admitted (domainAt (applyAll atoms s .state) x) z ↔ (Admitted (domainAt s x) z × Admits atoms x z)
+all-admits [] k s acc e x z = subst (λ (r : Applied). Admitted (domainAt (r .state) x) z ↔ (Admitted (domainAt s x) z × Unit {0})) (sym (all-end s)) (λ m. (m, tt), λ m. m .0)
+all-admits (a ∷ rest) k s acc e x z =
+    all-case s a rest (λ r. r .answer ≡ Consistent → Admitted (domainAt (r .state) x) z ↔ (Admitted (domainAt s x) z × ((a .variable ≡ x → Allows a z) × Admits rest x z)))
+    (λ n q.
+    let i = all-admits rest (k .1) (stepped s a .state) (stepped-accepted s a acc (k .0)) q x z in
+    let j = step-admits s a acc (k .0) n x z in
+    (λ m. let (u, w) = i .0 m in let (f, g) = j .0 u in (f, (g, w)), λ m. i .1 (j .1 (m .0, m .1 .0), m .1 .1)))
+    (λ y _ q. differ (Contradiction y) Consistent q (omega arith)) (λ y _ q. differ (Refused y) Consistent q (omega arith)) e
+
+-- where a list stops
+pub record Stops (atoms : List Atom) (s : VariableState) : Type 0 where
+  pub before : List Atom
+  pub atom : Atom
+  pub after : List Atom
+  pub split : atoms ≡ before ++ (atom ∷ after)
+  pub state : VariableState
+  pub reached : applyAll before s ≡ record { answer = Consistent; state = state }
+  pub accepted-there : Accepted state
+  pub known-there : atom .variable < VARIABLES
+
+abbrev here-stops : (a : Atom) (rest : List Atom) (s : VariableState) → Accepted s → a .variable < VARIABLES → Stops (a ∷ rest) s
+here-stops a rest s acc k = record { before = []; atom = a; after = rest; split = refl; state = s; reached = all-end s; accepted-there = acc; known-there = k }
+
+abbrev later-stops : (a : Atom) (rest : List Atom) (s : VariableState) → stepped s a .answer ≡ Consistent → Stops rest (stepped s a .state) → Stops (a ∷ rest) s
+later-stops a rest s n p = record {
+  before = a ∷ p .before;
+  atom = p .atom;
+  after = p .after;
+  split = ap (λ (l : List Atom). a ∷ l) (p .split);
+  state = p .state;
+  reached = all-consistent s a (p .before) (stepped s a .state) (λ i. record { answer = n i; state = stepped s a .state }) ∙ p .reached;
+  accepted-there = p .accepted-there;
+  known-there = p .known-there;
+}
+
+pub all-contradiction-at : (atoms : List Atom) → Known atoms → (s : VariableState) → Accepted s → (y : ℕ) → applyAll atoms s .answer ≡ Contradiction y
+    → (p : Stops atoms s) × (p .atom .variable ≡ y) × (p .state ≡ applyAll atoms s .state) × Excludes (p .state) (p .atom)
+all-contradiction-at [] k s acc y = λ e. differ Consistent (Contradiction y) (sym (ap (λ (r : Applied). r .answer) (all-end s)) ∙ e) (omega arith)
+all-contradiction-at (a ∷ rest) k s acc y =
+    all-case s a rest (λ r. r .answer ≡ Contradiction y → (p : Stops (a ∷ rest) s) × (p .atom .variable ≡ y) × (p .state ≡ r .state) × Excludes (p .state) (p .atom))
+    (λ n q. let (p, u, v, w) = all-contradiction-at rest (k .1) (stepped s a .state) (stepped-accepted s a acc (k .0)) y q in (later-stops a rest s n p, u, v, w))
+    (λ x n q. let (u, v, w) = step-contradiction s a acc (k .0) x n in (here-stops a rest s acc (k .0), sym u ∙ same-variable x y q, refl, w))
+    (λ m _ q. differ (Refused m) (Contradiction y) q (omega arith))
+
+pub all-refused-at : (atoms : List Atom) → Known atoms → (s : VariableState) → Accepted s → (n : ℕ) → applyAll atoms s .answer ≡ Refused n
+    → (n ≡ 21) × (applyAll atoms s .state ≡ emptyState) × (p : Stops atoms s) × (lacksRoom (p .state) (p .atom) ≡ true)
+all-refused-at [] k s acc n = λ e. differ Consistent (Refused n) (sym (ap (λ (r : Applied). r .answer) (all-end s)) ∙ e) (omega arith)
+all-refused-at (a ∷ rest) k s acc n =
+    all-case s a rest (λ r. r .answer ≡ Refused n → (n ≡ 21) × (r .state ≡ emptyState) × (p : Stops (a ∷ rest) s) × (lacksRoom (p .state) (p .atom) ≡ true))
+    (λ m q. let (u, v, p, w) = all-refused-at rest (k .1) (stepped s a .state) (stepped-accepted s a acc (k .0)) n q in (u, v, later-stops a rest s m p, w))
+    (λ x _ q. differ (Contradiction x) (Refused n) q (omega arith))
+    (λ m e q. let (u, v, w) = step-refused s a acc (k .0) m e in (sym (same-number m n q) ∙ u, refl, here-stops a rest s acc (k .0), w))
+
+-- ---- from the empty state
+pub empty-admits : (x : ℕ) → x < VARIABLES → (z : ℤ) → Admitted (domainAt emptyState x) z
+empty-admits x h z = subst (λ (d : Domain). Admitted d z) (sym (getD-replicate VARIABLES x allIntegers noDomain h)) any
+  where
+    any : Admitted allIntegers z
+    any = made-admits NegativeInf PositiveInf [] z refl refl (has-none z)

@@ -1,0 +1,134 @@
+-- Laws on a prepared state, for the checker: what it admits, its bounds, when it succeeds, what a contradiction means.
+-- Assumes nothing.
+use mathlib.Core.Path.{_≡_, refl, sym, ap, subst}
+use mathlib.Core.Logic.{_↔_}
+use mathlib.Core.Bool.{Bool, true, false, cond}
+use mathlib.Core.List.{List, [], _∷_, _++_}
+use Prim.Native.Nat.{ℕ, zero, suc, _+_, _*_, _≤_, _<_}
+use native.Mathlib.Omega.{arith}
+use borrow.Author.Tests.{le-ltb}
+use lib.Dec.{ltb}
+use lib.IntN.{ℤ}
+use lib.ListN.{length}
+use Rattle.integers.specs.Limits.{VARIABLES, PREMISES}
+use Rattle.integers.proofs.Bools.{clash}
+use Rattle.integers.proofs.Ints.{ints}
+use Rattle.scheduling.specs.Scheduling.{whole, Least, Largest, Atom, Allows, Every, Admits, given}
+use Rattle.checking.specs.declared.int_ext.IntExt.the-variants.{Int, NegativeInf, PositiveInf}
+use Rattle.checking.specs.declared.variable_state.Domain.{Domain}
+use Rattle.checking.specs.declared.variable_state.VariableState.{VariableState}
+use Rattle.checking.specs.declared.variable_state.Application.the-variants.{Consistent, Contradiction, Refused}
+use Rattle.checking.specs.declared.variable_state.Applied.{Applied}
+use Rattle.checking.specs.Atoms.{atomsOf, consequentOf, rightLists}
+use Rattle.checking.specs.Domains.{Admitted, needsRoom}
+use Rattle.checking.specs.States.{Proper, Accepted, domainAt, emptyState, stepped, applyAll, prepared}
+use Rattle.checking.proofs.Meaning.{differ, step-admits, step-contradiction, step-refused, Known, all-admits, all-contradiction-at, empty-admits}
+use Rattle.checking.proofs.Promises.{prepare-means, given-known}
+use Rattle.checking.proofs.States.{stepped-accepted, all-accepted, empty-accepted, all-case, all-end}
+use Rattle.checking.proofs.Values.{lower-least, upper-largest, lower-none, upper-none, not-plus, not-minus}
+
+-- ---- a list that succeeds
+no-room : (d : Domain) (k : ℕ) (v : ℤ) → k < 3 → needsRoom d k v ≡ false
+no-room d zero v h = refl
+no-room d (suc zero) v h = refl
+no-room d (suc (suc zero)) v h = refl
+no-room d (suc (suc (suc k))) v h = absurd (omega arith)
+
+all-success : (atoms : List Atom) → Known atoms → Every (λ a. a .kind < 3) atoms → (s : VariableState) → Accepted s
+    → ((x : ℕ) → x < VARIABLES → (z : ℤ) × Admitted (domainAt s x) z × Admits atoms x z) → applyAll atoms s .answer ≡ Consistent
+all-success [] k kinds s acc w = ap (λ (r : Applied). r .answer) (all-end s)
+all-success (a ∷ rest) k kinds s acc w = all-case s a rest (λ r. r .answer ≡ Consistent)
+    (λ n. all-success rest (k .1) (kinds .1) (stepped s a .state) (stepped-accepted s a acc (k .0)) (λ x h. let (z, m, f) = w x h in (z, step-admits s a acc (k .0) n x z .1 (m, f .0), f .1)))
+    (λ y n. let (z, m, f) = w (a .variable) (k .0) in absurd (step-contradiction s a acc (k .0) y n .2 z m (f .0 refl)))
+    (λ m n. clash (step-refused s a acc (k .0) m n .2) (no-room (domainAt s (a .variable)) (a .kind) (a .value) (kinds .0)))
+
+-- ---- parts of a list
+every-left : (P : Atom → Type 0) (p q : List Atom) → Every P (p ++ q) → Every P p
+every-left P [] q e = tt
+every-left P (a ∷ p) q e = (e .0, every-left P p q (e .1))
+
+every-at : (P : Atom → Type 0) (p : List Atom) (a : Atom) (q : List Atom) → Every P (p ++ (a ∷ q)) → P a
+every-at P [] a q e = e .0
+every-at P (b ∷ p) a q e = every-at P p a q (e .1)
+
+module _ (premises consequent : List ℤ) where
+  abbrev atoms : List Atom
+  atoms = given (atomsOf premises) (consequentOf consequent)
+
+  abbrev state : VariableState
+  state = prepared premises consequent .state
+
+  -- past the tests 7 and 6
+  pub ran : (P : Applied → Type 0) → (rightLists premises consequent ≡ true → P (applyAll atoms emptyState)) → ((n : ℕ) → P (record { answer = Refused n; state = emptyState })) → P (prepared premises consequent)
+  unfolding prepared
+  ran P f g = by (ltb (3 * PREMISES + 2) (length premises)) (rightLists premises consequent) refl
+    where
+      by : (a b : Bool) → rightLists premises consequent ≡ b
+          → P (cond a (record { answer = Refused 7; state = emptyState }) (cond b (applyAll atoms emptyState) (record { answer = Refused 6; state = emptyState })))
+      by true b q = g 7
+      by false true q = f q
+      by false false q = g 6
+
+  pub prepared-accepted : Accepted state
+  prepared-accepted = ran (λ r. Accepted (r .state)) (λ r. all-accepted atoms (given-known premises consequent r) emptyState empty-accepted) (λ _. empty-accepted)
+
+  pub prepared-proper : (x : ℕ) → x < VARIABLES → Proper (domainAt state x)
+  prepared-proper x h = prepared-accepted .each x h
+
+  -- on success the state admits what the atoms admit
+  module _ (ok : prepared premises consequent .answer ≡ Consistent) (x : ℕ) (h : x < VARIABLES) where
+    pub prepared-admits : (z : ℤ) → Admitted (domainAt state x) z ↔ Admits atoms x z
+    prepared-admits z = prepare-means premises consequent .consistent ok x h z
+
+    pub prepared-least : (u : ℤ) → domainAt state x .«lower_bound» ≡ Int u → Least whole (Admits atoms x) u
+    prepared-least u e =
+        let l = lower-least (domainAt state x) (prepared-proper x h) u e in
+        record { holds = prepared-admits u .0 (l .holds); bounds = λ w m. l .bounds w (prepared-admits w .1 m) }
+
+    pub prepared-largest : (u : ℤ) → domainAt state x .«upper_bound» ≡ Int u → Largest whole (Admits atoms x) u
+    prepared-largest u e =
+        let l = upper-largest (domainAt state x) (prepared-proper x h) u e in
+        record { holds = prepared-admits u .0 (l .holds); bounds = λ w m. l .bounds w (prepared-admits w .1 m) }
+
+    pub prepared-no-least : domainAt state x .«lower_bound» ≡ NegativeInf → (u : ℤ) → Least whole (Admits atoms x) u → ⊥
+    prepared-no-least e u l =
+        let (w, m, below) = lower-none (domainAt state x) (prepared-proper x h) e u in
+        let q = l .bounds w (prepared-admits w .0 m) in
+        omega ints
+
+    pub prepared-no-largest : domainAt state x .«upper_bound» ≡ PositiveInf → (u : ℤ) → Largest whole (Admits atoms x) u → ⊥
+    prepared-no-largest e u l =
+        let (w, m, over) = upper-none (domainAt state x) (prepared-proper x h) e u in
+        let q = l .bounds w (prepared-admits w .0 m) in
+        omega ints
+
+  -- the other infinities never stand there
+  pub prepared-lower-never : (x : ℕ) → x < VARIABLES → domainAt state x .«lower_bound» ≡ PositiveInf → ⊥
+  prepared-lower-never x h = not-plus (domainAt state x) (prepared-proper x h)
+
+  pub prepared-upper-never : (x : ℕ) → x < VARIABLES → domainAt state x .«upper_bound» ≡ NegativeInf → ⊥
+  prepared-upper-never x h = not-minus (domainAt state x) (prepared-proper x h)
+
+  -- with kinds ≥, ≤ and = alone, atoms that each variable can meet are consistent
+  pub prepared-success : length premises ≤ 3 * PREMISES + 2 → rightLists premises consequent ≡ true → Every (λ a. a .kind < 3) atoms → ((x : ℕ) → x < VARIABLES → (z : ℤ) × Admits atoms x z)
+      → prepared premises consequent .answer ≡ Consistent
+  unfolding prepared
+  prepared-success l r kinds w =
+      let few : ltb (3 * PREMISES + 2) (length premises) ≡ false = le-ltb (3 * PREMISES + 2) (length premises) l in
+      rw (few, r) (all-success atoms (given-known premises consequent r) kinds emptyState empty-accepted (λ x h. let (z, m) = w x h in (z, empty-admits x h z, m)))
+
+  -- a contradiction: no value of its variable meets all the atoms
+  pub prepared-contradiction : (y : ℕ) → prepared premises consequent .answer ≡ Contradiction y → (z : ℤ) → Admits atoms y z → ⊥
+  prepared-contradiction y = ran (λ r. r .answer ≡ Contradiction y → (z : ℤ) → Admits atoms y z → ⊥)
+      (λ r e z m.
+      let known = given-known premises consequent r in
+      let (p, q, same, none) = all-contradiction-at atoms known emptyState empty-accepted y e in
+      let m′ = subst (λ (l : List Atom). Admits l y z) (p .split) m in
+      let before = every-left (λ a. a .variable ≡ y → Allows a z) (p .before) (p .atom ∷ p .after) m′ in
+      let kb = every-left (λ a. a .variable < VARIABLES) (p .before) (p .atom ∷ p .after) (subst Known (p .split) known) in
+      let ok = ap (λ (t : Applied). t .answer) (p .reached) in
+      let h : y < VARIABLES = subst (λ (i : ℕ). i < VARIABLES) q (p .known-there) in
+      let there = all-admits (p .before) kb emptyState empty-accepted ok y z .1 (empty-admits y h z, before) in
+      let there′ = subst (λ (t : Applied). Admitted (domainAt (t .state) y) z) (p .reached) there in
+      none z (subst (λ (i : ℕ). Admitted (domainAt (p .state) i) z) (sym q) there′) (every-at (λ a. a .variable ≡ y → Allows a z) (p .before) (p .atom) (p .after) m′ q))
+      (λ n e. differ (Refused n) (Contradiction y) e (omega arith))

@@ -1,0 +1,244 @@
+-- The open calls' definitions keep the promises.
+-- Assumes nothing.
+use mathlib.Core.Path.{_≡_, refl, sym, ap, _∙_, subst}
+use mathlib.Core.Logic.{_↔_}
+use mathlib.Core.Bool.{Bool, true, false, cond}
+use mathlib.Core.List.{List, [], _∷_, _++_}
+use Prim.Native.Nat.{ℕ, zero, suc, _+_, _*_, _≤_, _<_}
+use native.Mathlib.Omega.{arith}
+use borrow.Author.Tests.{ltb-true, ltb-false}
+use lib.Dec.{ltb}
+use lib.IntN.{ℤ, pos, natAbs}
+use lib.ListN.{length, getD}
+use lib.Seq.{ext-getD}
+use Rattle.integers.specs.Limits.{VARIABLES, PREMISES}
+use Rattle.integers.proofs.Bools.{clash}
+use Rattle.scheduling.specs.Scheduling.{Atom, Every, given, negation}
+use Rattle.checking.specs.declared.int_ext.IntExt.{IntExt}
+use Rattle.checking.specs.declared.int_ext.IntExt.the-variants.{Int, NegativeInf, PositiveInf}
+use Rattle.checking.specs.declared.variable_state.Domain.{Domain}
+use Rattle.checking.specs.declared.variable_state.VariableState.{VariableState}
+use Rattle.checking.specs.declared.variable_state.Application.the-variants.{Consistent, Contradiction, Refused}
+use Rattle.checking.specs.declared.variable_state.Applied.{Applied}
+use Rattle.checking.specs.declared.variable_state.Truth.{Truth}
+use Rattle.checking.specs.declared.variable_state.Truth.the-variants as truth
+use Rattle.checking.specs.declared.variable_state.Bound.{Bound}
+use Rattle.checking.specs.declared.variable_state.Bound.the-variants as bound
+use Rattle.checking.specs.Atoms.{atomFrom, atomAt, atomsOf, consequentOf, rightVariable, rightAtom, rightWords, rightLists}
+use Rattle.checking.specs.Domains.{Admitted, isTrue}
+use Rattle.checking.specs.States.{Accepted, Sized, noDomain, domainAt, emptyState, accepted, stepped, appliedTo, truthOf, boundOf, lowerOf, upperOf, applyAll, prepared}
+use Rattle.checking.specs.Promises.{lacksRoom, queryRefusal, EmptyMeans, ApplyMeans, TruthMeans, LowerMeans, UpperMeans, Reaches, PrepareMeans}
+use Rattle.checking.proofs.Accepting.{state-accepted, proper-state}
+use Rattle.checking.proofs.Atoms.{right-atom, right-variable, right-lists, words-known, words-three, words-at, given-none, given-one, every-map}
+use Rattle.checking.proofs.Meaning.{differ, step-consistent, step-contradiction, step-refused, step-number, Known, all-admits, Stops, all-contradiction-at, all-refused-at, empty-admits}
+use Rattle.checking.proofs.States.{stepped-accepted, all-accepted, empty-accepted}
+use Rattle.checking.proofs.Values.{lower-least, upper-largest, lower-none, upper-none, not-plus, not-minus, true-all, true-not, same-values}
+
+-- ---- the empty state
+pub empty-promise : (r : VariableState) → r ≡ emptyState → (r ≡ emptyState) × EmptyMeans r
+empty-promise r e = (e, subst EmptyMeans (sym e) (record { any = empty-admits; again = state-accepted (emptyState .domains) empty-accepted }))
+
+-- ---- apply
+module _ (s : VariableState) (x k v : ℤ) (proper : accepted (s .domains) ≡ true → Accepted s) where
+  turned-back : (n : ℕ) → n ≡ cond (accepted (s .domains)) (cond (rightAtom x k v) (cond (lacksRoom s (atomFrom x k v)) 21 0) 6) 22 → ApplyMeans s x k v (record { answer = Refused n; state = s })
+  turned-back n e = record {
+    number = e;
+    refused = λ _ _. refl;
+    contradiction = λ y q. differ (Refused n) (Contradiction y) q (omega arith);
+    consistent = λ q. differ (Refused n) Consistent q (omega arith);
+    again = λ y. y;
+  }
+
+  went : accepted (s .domains) ≡ true → rightAtom x k v ≡ true → ApplyMeans s x k v (stepped s (atomFrom x k v))
+  went y r =
+      let acc = proper y in
+      let known = right-atom x k v r .known in
+      record {
+        number = rw (y, r) (step-number s (atomFrom x k v) acc known);
+        refused = λ n q. step-refused s (atomFrom x k v) acc known n q .1;
+        contradiction = λ w q. step-contradiction s (atomFrom x k v) acc known w q;
+        consistent = λ q. step-consistent s (atomFrom x k v) acc known q;
+        again = λ _. state-accepted (stepped s (atomFrom x k v) .state .domains) (stepped-accepted s (atomFrom x k v) acc known);
+      }
+
+  pub apply-means : ApplyMeans s x k v (appliedTo s x k v)
+  unfolding appliedTo
+  apply-means = by (accepted (s .domains)) refl (rightAtom x k v) refl
+    where
+      by : (a : Bool) → accepted (s .domains) ≡ a → (b : Bool) → rightAtom x k v ≡ b
+          → ApplyMeans s x k v (cond a (cond b (stepped s (atomFrom x k v)) (record { answer = Refused 6; state = s })) (record { answer = Refused 22; state = s }))
+      by true p true q = went p q
+      by true p false q = turned-back 6 (rw (p, q))
+      by false p b q = turned-back 22 (rw p)
+
+  pub apply-promise : (r : Applied) → r ≡ appliedTo s x k v → (r ≡ appliedTo s x k v) × ApplyMeans s x k v r
+  apply-promise r e = (e, subst (ApplyMeans s x k v) (sym e) apply-means)
+
+-- ---- is_true
+abbrev truth-code : Truth → ℕ
+truth-code truth.True = 0
+truth-code truth.False = 1
+truth-code (truth.Refused n) = 2
+
+other-truth {ℓ} : {X : Type ℓ} (a b : Truth) → a ≡ b → (truth-code a ≡ truth-code b → ⊥) → X
+other-truth a b e n = absurd (n (ap truth-code e))
+
+module _ (s : VariableState) (x k v : ℤ) (proper : accepted (s .domains) ≡ true → Accepted s) where
+  truth-back : (n : ℕ) → n ≡ queryRefusal s (rightAtom x k v) → TruthMeans s x k v (truth.Refused n)
+  truth-back n e = record { number = e; holds = λ q. other-truth (truth.Refused n) truth.True q (omega arith); fails = λ q. other-truth (truth.Refused n) truth.False q (omega arith) }
+
+  pub truth-means : TruthMeans s x k v (truthOf s x k v)
+  unfolding truthOf
+  truth-means = by (accepted (s .domains)) refl (rightAtom x k v) refl (isTrue (domainAt s (natAbs x)) (natAbs k) v) refl
+    where
+      by : (a : Bool) → accepted (s .domains) ≡ a → (b : Bool) → rightAtom x k v ≡ b → (c : Bool) → isTrue (domainAt s (natAbs x)) (natAbs k) v ≡ c
+          → TruthMeans s x k v (cond a (cond b (cond c truth.True truth.False) (truth.Refused 6)) (truth.Refused 22))
+      by true p true q true t = record {
+        number = rw (p, q);
+        holds = λ _ z m. true-all (domainAt s (natAbs x)) (proper p .each (natAbs x) (right-atom x k v q .known)) (natAbs k) v t z m;
+        fails = λ e. other-truth truth.True truth.False e (omega arith);
+      }
+      by true p true q false t = record {
+        number = rw (p, q);
+        holds = λ e. other-truth truth.False truth.True e (omega arith);
+        fails = λ _. true-not (domainAt s (natAbs x)) (proper p .each (natAbs x) (right-atom x k v q .known)) (natAbs k) v t;
+      }
+      by true p false q c t = truth-back 6 (rw (p, q))
+      by false p b q c t = truth-back 22 (rw p)
+
+  pub truth-promise : (r : Truth) → r ≡ truthOf s x k v → (r ≡ truthOf s x k v) × TruthMeans s x k v r
+  truth-promise r e = (e, subst (TruthMeans s x k v) (sym e) truth-means)
+
+-- ---- bounds
+abbrev bound-code : Bound → ℕ
+bound-code (bound.At b) = 0
+bound-code (bound.Refused n) = 1
+
+no-bound {ℓ} : {X : Type ℓ} (n : ℕ) (b : IntExt) → bound.Refused n ≡ bound.At b → X
+no-bound n b e = let z : _≡_ {A = ℕ} 1 0 = ap bound-code e in absurd (omega arith)
+
+same-bound : (a b : IntExt) → bound.At a ≡ bound.At b → a ≡ b
+same-bound a b e = cc
+
+module _ (s : VariableState) (x : ℤ) (proper : accepted (s .domains) ≡ true → Accepted s) where
+  abbrev d : Domain
+  d = domainAt s (natAbs x)
+
+  bound-case : (side : Domain → IntExt) (P : Bound → Type 0) → (accepted (s .domains) ≡ true → rightVariable x ≡ true → P (bound.At (side d)))
+      → ((n : ℕ) → n ≡ queryRefusal s (rightVariable x) → P (bound.Refused n)) → P (boundOf side s x)
+  unfolding boundOf
+  bound-case side P f g = by (accepted (s .domains)) refl (rightVariable x) refl
+    where
+      by : (a : Bool) → accepted (s .domains) ≡ a → (b : Bool) → rightVariable x ≡ b → P (cond a (cond b (bound.At (side d)) (bound.Refused 6)) (bound.Refused 22))
+      by true p true q = f p q
+      by true p false q = g 6 (rw (p, q))
+      by false p b q = g 22 (rw p)
+
+  pub lower-means : LowerMeans s x (boundOf lowerOf s x)
+  lower-means = bound-case lowerOf (LowerMeans s x)
+      (λ p q. let w = proper p .each (natAbs x) (right-variable x q .1) in record {
+        number = rw (p, q);
+        least = λ u e. lower-least d w u (same-bound (lowerOf d) (Int u) e);
+        unbounded = λ e. lower-none d w (same-bound (lowerOf d) NegativeInf e);
+        never = λ e. not-plus d w (same-bound (lowerOf d) PositiveInf e);
+      })
+      (λ n e. record { number = e; least = λ u q. no-bound n (Int u) q; unbounded = λ q. no-bound n NegativeInf q; never = λ q. no-bound n PositiveInf q })
+
+  pub upper-means : UpperMeans s x (boundOf upperOf s x)
+  upper-means = bound-case upperOf (UpperMeans s x)
+      (λ p q. let w = proper p .each (natAbs x) (right-variable x q .1) in record {
+        number = rw (p, q);
+        largest = λ u e. upper-largest d w u (same-bound (upperOf d) (Int u) e);
+        unbounded = λ e. upper-none d w (same-bound (upperOf d) PositiveInf e);
+        never = λ e. not-minus d w (same-bound (upperOf d) NegativeInf e);
+      })
+      (λ n e. record { number = e; largest = λ u q. no-bound n (Int u) q; unbounded = λ q. no-bound n PositiveInf q; never = λ q. no-bound n NegativeInf q })
+
+  pub lower-promise : (r : Bound) → r ≡ boundOf lowerOf s x → (r ≡ boundOf lowerOf s x) × LowerMeans s x r
+  lower-promise r e = (e, subst (LowerMeans s x) (sym e) lower-means)
+
+  pub upper-promise : (r : Bound) → r ≡ boundOf upperOf s x → (r ≡ boundOf upperOf s x) × UpperMeans s x r
+  upper-promise r e = (e, subst (UpperMeans s x) (sym e) upper-means)
+
+-- ---- prepare_for_conflict_check
+pub every-append : (P : Atom → Type 0) (p q : List Atom) → Every P p → Every P q → Every P (p ++ q)
+every-append P [] q e f = f
+every-append P (a ∷ p) q e f = (e .0, every-append P p q (e .1) f)
+
+module _ (premises consequent : List ℤ) where
+  abbrev atoms : List Atom
+  atoms = given (atomsOf premises) (consequentOf consequent)
+
+  -- every atom is on a known variable
+  pub given-known : rightLists premises consequent ≡ true → Known atoms
+  given-known y =
+      let (p, l, c) = right-lists premises consequent y in
+      let known = every-map (λ a h. h .0) (atomsOf premises) (words-known premises p) in
+      by known l c (length consequent) refl
+    where
+      by : Known (atomsOf premises) → length consequent ≤ 3 → rightWords consequent ≡ true → (n : ℕ) → length consequent ≡ n → Known atoms
+      by known l c zero e = subst Known (sym (given-none (atomsOf premises) consequent e)) known
+      by known l c (suc n) e =
+          let h = words-three consequent c (omega arith) in
+          let e₃ : length consequent ≡ 3 = omega arith in
+          let r = right-atom (getD consequent 0 (pos 0)) (getD consequent 1 (pos 0)) (getD consequent 2 (pos 0)) (words-at consequent 0 (omega arith) c .0) in
+          subst Known (sym (given-one (atomsOf premises) consequent e₃)) (every-append (λ a. a .variable < VARIABLES) (atomsOf premises) (negation (atomAt consequent 0) ∷ []) known (r .known, tt))
+
+  abbrev reaches : Stops atoms emptyState → Reaches atoms
+  reaches p = record { before = p .before; atom = p .atom; after = p .after; split = p .split; state = p .state; reached = p .reached }
+
+  -- turned back by 7 or 6
+  list-back : (n : ℕ) → (3 * PREMISES + 2 < length premises → n ≡ 7) → (length premises ≤ 3 * PREMISES + 2 → rightLists premises consequent ≡ false → n ≡ 6)
+      → (length premises ≤ 3 * PREMISES + 2 → rightLists premises consequent ≡ true → ⊥) → PrepareMeans premises consequent (record { answer = Refused n; state = emptyState })
+  list-back n f g h = record {
+    many = λ l. ap Refused (f l);
+    malformed = λ l r. ap Refused (g l r);
+    refused = λ _ _. refl;
+    room = λ l r. absurd (h l r);
+    contradiction = λ y q. differ (Refused n) (Contradiction y) q (omega arith);
+    consistent = λ q. differ (Refused n) Consistent q (omega arith);
+    again = state-accepted (emptyState .domains) empty-accepted;
+  }
+
+  list-went : length premises ≤ 3 * PREMISES + 2 → rightLists premises consequent ≡ true → PrepareMeans premises consequent (applyAll atoms emptyState)
+  list-went l r =
+      let known = given-known r in
+      record {
+        many = λ m. absurd (omega arith);
+        malformed = λ _ n. clash r n;
+        refused = λ n q. all-refused-at atoms known emptyState empty-accepted n q .1;
+        room = λ _ _ n q. let (u, v, p, w) = all-refused-at atoms known emptyState empty-accepted n q in (u, reaches p, w);
+        contradiction = λ y q. let (p, u, v, w) = all-contradiction-at atoms known emptyState empty-accepted y q in (reaches p, u, v, w);
+        consistent = λ q x h z. let (to, of) = all-admits atoms known emptyState empty-accepted q x z in (λ m. to m .1, λ m. of (empty-admits x h z, m));
+        again = state-accepted (applyAll atoms emptyState .state .domains) (all-accepted atoms known emptyState empty-accepted);
+      }
+
+  pub prepare-means : PrepareMeans premises consequent (prepared premises consequent)
+  unfolding prepared
+  prepare-means = by (ltb (3 * PREMISES + 2) (length premises)) refl (rightLists premises consequent) refl
+    where
+      by : (a : Bool) → ltb (3 * PREMISES + 2) (length premises) ≡ a → (b : Bool) → rightLists premises consequent ≡ b
+          → PrepareMeans premises consequent (cond a (record { answer = Refused 7; state = emptyState }) (cond b (applyAll atoms emptyState) (record { answer = Refused 6; state = emptyState })))
+      by true p b q = let l = ltb-true (3 * PREMISES + 2) (length premises) p in list-back 7 (λ _. refl) (λ m _. absurd (omega arith)) (λ m _. omega arith)
+      by false p true q = list-went (ltb-false (3 * PREMISES + 2) (length premises) p) q
+      by false p false q = let l = ltb-false (3 * PREMISES + 2) (length premises) p in list-back 6 (λ m. absurd (omega arith)) (λ _ _. refl) (λ _ r. clash r q)
+
+  pub prepare-promise : (r : Applied) → r ≡ prepared premises consequent → (r ≡ prepared premises consequent) × PrepareMeans premises consequent r
+  prepare-promise r e = (e, subst (PrepareMeans premises consequent) (sym e) prepare-means)
+
+-- ---- canonical: two accepted states admit the same values for every variable exactly when they are equal
+pub canonical : (s t : VariableState) → Sized s → Sized t → accepted (s .domains) ≡ true → accepted (t .domains) ≡ true
+    → ((x : ℕ) → x < VARIABLES → (z : ℤ) → Admitted (domainAt s x) z ↔ Admitted (domainAt t x) z) ↔ (s ≡ t)
+canonical s t m n p q = (to, λ e x h z. subst (λ (r : VariableState). Admitted (domainAt s x) z ↔ Admitted (domainAt r x) z) e (λ a. a, λ a. a))
+  where
+    a : Accepted s
+    a = proper-state (s .domains) (m .size) (m .places) p
+
+    b : Accepted t
+    b = proper-state (t .domains) (n .size) (n .places) q
+
+    to : ((x : ℕ) → x < VARIABLES → (z : ℤ) → Admitted (domainAt s x) z ↔ Admitted (domainAt t x) z) → s ≡ t
+    to same = λ i. record {
+      domains = ext-getD noDomain (s .domains) (t .domains) (m .size ∙ sym (n .size))
+          (λ x h. let l : x < VARIABLES = omega (arith, m .size) in same-values (domainAt s x) (domainAt t x) (a .each x l) (b .each x l) (λ z. same x l z .0) (λ z. same x l z .1)) i;
+    }

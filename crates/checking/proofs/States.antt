@@ -1,0 +1,198 @@
+-- States: one atom, and a list of atoms, applied to a state.
+-- Assumes nothing.
+use mathlib.Core.Path.{_≡_, refl, sym, ap, _∙_, subst}
+use mathlib.Core.Logic.{_⊎_, inl, inr}
+use mathlib.Core.Bool.{Bool, true, false, cond}
+use mathlib.Core.List.{List, [], _∷_, _++_}
+use Prim.Native.Nat.{ℕ, _<_}
+use native.Mathlib.Omega.{arith}
+use borrow.Author.Tests.{eqb-true, eqb-false}
+use lib.Dec.{eqb}
+use lib.IntN.{ℤ}
+use lib.ListN.{length, length-set, length-replicate, getD-replicate}
+use lib.Seq.{getD-set-same, getD-set-other}
+use Rattle.integers.specs.Limits.{VARIABLES}
+use Rattle.integers.proofs.Bools.{bool}
+use Rattle.scheduling.specs.Scheduling.{Atom, Every}
+use Rattle.checking.specs.declared.int_ext.IntExt.the-variants.{NegativeInf, PositiveInf}
+use Rattle.checking.specs.declared.variable_state.Domain.{Domain}
+use Rattle.checking.specs.declared.variable_state.Effect.{Effect}
+use Rattle.checking.specs.declared.variable_state.Effect.the-variants.{Narrowed, Emptied, Full}
+use Rattle.checking.specs.declared.variable_state.Reduced.{Reduced}
+use Rattle.checking.specs.declared.variable_state.VariableState.{VariableState}
+use Rattle.checking.specs.declared.variable_state.Application.{Application}
+use Rattle.checking.specs.declared.variable_state.Application.the-variants.{Consistent, Contradiction, Refused}
+use Rattle.checking.specs.declared.variable_state.Applied.{Applied}
+use Rattle.checking.specs.Domains.{Tight, consistent, applied, needsRoom, settled, reduced, allIntegers}
+use Rattle.checking.specs.States.{Proper, Accepted, noDomain, domainAt, put, emptyState, outcome, stepped, applyAll, andThen}
+use Rattle.checking.proofs.Ascending.{has-none}
+use Rattle.checking.proofs.Narrowing.{made-tight, applied-tight}
+
+-- ---- what an atom does to a domain, by cases
+module _ (d : Domain) (k : ℕ) (v : ℤ) where
+  pub reduced-case : (P : Reduced → Type 0) → (needsRoom d k v ≡ true → P (record { effect = Full; domain = d }))
+      → (needsRoom d k v ≡ false → consistent (applied d k v) ≡ true → P (record { effect = Narrowed; domain = applied d k v }))
+      → (needsRoom d k v ≡ false → consistent (applied d k v) ≡ false → P (record { effect = Emptied; domain = applied d k v }))
+      → P (reduced d k v)
+  unfolding reduced settled
+  reduced-case P f g h = by (needsRoom d k v) refl (consistent (applied d k v)) refl
+    where
+      by : (a : Bool) → needsRoom d k v ≡ a → (b : Bool) → consistent (applied d k v) ≡ b
+          → P (cond a (record { effect = Full; domain = d }) (cond b (record { effect = Narrowed; domain = applied d k v }) (record { effect = Emptied; domain = applied d k v })))
+      by true p b q = f p
+      by false p true q = g p q
+      by false p false q = h p q
+
+  full-narrowed {ℓ} : {X : Type ℓ} → Full ≡ Narrowed → X
+  full-narrowed e = let z : _≡_ {A = ℕ} 0 1 = cc in absurd (omega arith)
+
+  emptied-narrowed {ℓ} : {X : Type ℓ} → Emptied ≡ Narrowed → X
+  emptied-narrowed e = let z : _≡_ {A = ℕ} 0 1 = cc in absurd (omega arith)
+
+  pub reduced-proper : Tight d → reduced d k v .effect ≡ Narrowed → Proper (reduced d k v .domain)
+  reduced-proper t = reduced-case (λ r. r .effect ≡ Narrowed → Proper (r .domain)) (λ _ e. full-narrowed e) (λ p q _. record { tight = applied-tight d k v t p; ordered = q }) (λ _ _ e. emptied-narrowed e)
+
+-- ---- states
+pub all-tight : Tight allIntegers
+all-tight = made-tight NegativeInf PositiveInf [] refl refl (omega arith) tt (λ h m. absurd (has-none h m))
+
+pub empty-accepted : Accepted emptyState
+empty-accepted = record {
+  size = length-replicate VARIABLES allIntegers;
+  each = λ x h. subst Proper (sym (getD-replicate VARIABLES x allIntegers noDomain h)) (record { tight = all-tight; ordered = refl });
+}
+
+pub put-same : (s : VariableState) (x : ℕ) (d : Domain) → x < length (s .domains) → domainAt (put s x d) x ≡ d
+put-same s x d h = getD-set-same (s .domains) x d noDomain h
+
+pub put-other : (s : VariableState) (x y : ℕ) (d : Domain) → (y ≡ x → ⊥) → domainAt (put s x d) y ≡ domainAt s y
+put-other s x y d n = getD-set-other (s .domains) x y d noDomain n
+
+pub put-accepted : (s : VariableState) (x : ℕ) (d : Domain) → Accepted s → x < VARIABLES → Proper d → Accepted (put s x d)
+put-accepted s x d a h p = record {
+  size = length-set (s .domains) x d ∙ a .size;
+  each = λ y l. by y l (bool (eqb y x));
+}
+  where
+    by : (y : ℕ) → y < VARIABLES → (eqb y x ≡ true) ⊎ (eqb y x ≡ false) → Proper (domainAt (put s x d) y)
+    by y l (inl t) = let e : y ≡ x = eqb-true y x t in subst (λ (i : ℕ). Proper (domainAt (put s x d) i)) (sym e) (subst Proper (sym (put-same s x d (omega (arith, a .size)))) p)
+    by y l (inr n) = subst Proper (sym (put-other s x y d (eqb-false y x n))) (a .each y l)
+
+-- ---- one atom
+pub stepped-is : (s : VariableState) (a : Atom) (r : Reduced) → r ≡ reduced (domainAt s (a .variable)) (a .kind) (a .value) → stepped s a ≡ outcome s a r
+unfolding stepped
+stepped-is s a r e = ap (outcome s a) (sym e)
+
+module _ (s : VariableState) (a : Atom) (r : Reduced) where
+  pub when-narrowed : r .effect ≡ Narrowed → outcome s a r ≡ record { answer = Consistent; state = put s (a .variable) (r .domain) }
+  when-narrowed e = rw e
+
+  pub when-emptied : r .effect ≡ Emptied → outcome s a r ≡ record { answer = Contradiction (a .variable); state = s }
+  when-emptied e = rw e
+
+  pub when-full : r .effect ≡ Full → outcome s a r ≡ record { answer = Refused 21; state = s }
+  when-full e = rw e
+
+-- ---- a list of atoms
+module _ (s : VariableState) (a : Atom) (rest : List Atom) where
+  -- what follows the first atom's answer
+  abbrev resume : Applied → Applied
+  resume r = elim (r .answer) [
+    | Consistent ↦ applyAll rest (r .state)
+    | Contradiction x ↦ record { answer = Contradiction x; state = s }
+    | Refused n ↦ record { answer = Refused n; state = emptyState }
+  ]
+
+  pub all-on : applyAll (a ∷ rest) s ≡ resume (stepped s a)
+  unfolding applyAll
+  all-on = refl
+
+  pub all-consistent : (t : VariableState) → stepped s a ≡ record { answer = Consistent; state = t } → applyAll (a ∷ rest) s ≡ applyAll rest t
+  all-consistent t e = all-on ∙ ap resume e
+
+  pub all-contradiction : (x : ℕ) (t : VariableState) → stepped s a ≡ record { answer = Contradiction x; state = t } → applyAll (a ∷ rest) s ≡ record { answer = Contradiction x; state = s }
+  all-contradiction x t e = all-on ∙ ap resume e
+
+  pub all-refused : (n : ℕ) (t : VariableState) → stepped s a ≡ record { answer = Refused n; state = t } → applyAll (a ∷ rest) s ≡ record { answer = Refused n; state = emptyState }
+  all-refused n t e = all-on ∙ ap resume e
+
+pub all-end : (s : VariableState) → applyAll [] s ≡ record { answer = Consistent; state = s }
+unfolding applyAll
+all-end s = refl
+
+-- ---- the last atom
+consistent-contradiction {ℓ} : {X : Type ℓ} (x : ℕ) → Consistent ≡ Contradiction x → X
+consistent-contradiction x e = let z : _≡_ {A = ℕ} 0 1 = cc in absurd (omega arith)
+
+-- a contradiction hands back the state as it was
+pub stepped-kept : (s : VariableState) (a : Atom) (x : ℕ) → stepped s a .answer ≡ Contradiction x → stepped s a .state ≡ s
+unfolding stepped
+stepped-kept s a x = by (reduced (domainAt s (a .variable)) (a .kind) (a .value) .effect) refl
+  where
+    by : (e : Effect) → reduced (domainAt s (a .variable)) (a .kind) (a .value) .effect ≡ e
+        → outcome s a (reduced (domainAt s (a .variable)) (a .kind) (a .value)) .answer ≡ Contradiction x → outcome s a (reduced (domainAt s (a .variable)) (a .kind) (a .value)) .state ≡ s
+    by Narrowed e y = consistent-contradiction x (sym (ap (λ (r : Applied). r .answer) (when-narrowed s a (reduced (domainAt s (a .variable)) (a .kind) (a .value)) e)) ∙ y)
+    by Emptied e y = ap (λ (r : Applied). r .state) (when-emptied s a (reduced (domainAt s (a .variable)) (a .kind) (a .value)) e)
+    by Full e y = ap (λ (r : Applied). r .state) (when-full s a (reduced (domainAt s (a .variable)) (a .kind) (a .value)) e)
+
+module _ (s : VariableState) (a : Atom) (q : Applied) (is : q ≡ stepped s a) where
+  pub last-consistent : q .answer ≡ Consistent → applyAll (a ∷ []) s ≡ q
+  last-consistent n = all-on s a [] ∙ ap (resume s a []) (sym is) ∙ rw n (all-end (q .state))
+
+  pub last-contradiction : (x : ℕ) → q .answer ≡ Contradiction x → applyAll (a ∷ []) s ≡ q
+  last-contradiction x n =
+      let kept : q .state ≡ s = ap (λ (r : Applied). r .state) is ∙ stepped-kept s a x (ap (λ (r : Applied). r .answer) (sym is) ∙ n) in
+      all-on s a [] ∙ ap (resume s a []) (sym is) ∙ rw n (λ i. record { answer = Contradiction x; state = sym kept i })
+
+  pub last-refused : (m : ℕ) → q .answer ≡ Refused m → applyAll (a ∷ []) s ≡ record { answer = Refused m; state = emptyState }
+  last-refused m n = all-on s a [] ∙ ap (resume s a []) (sym is) ∙ rw n
+
+-- ---- lists, one after the other
+module _ (s : VariableState) (a : Atom) (rest : List Atom) where
+  on-consistent : stepped s a .answer ≡ Consistent → applyAll (a ∷ rest) s ≡ applyAll rest (stepped s a .state)
+  on-consistent n = all-on s a rest ∙ rw n
+
+  on-contradiction : (x : ℕ) → stepped s a .answer ≡ Contradiction x → applyAll (a ∷ rest) s ≡ record { answer = Contradiction x; state = s }
+  on-contradiction x n = all-on s a rest ∙ rw n
+
+  on-refused : (m : ℕ) → stepped s a .answer ≡ Refused m → applyAll (a ∷ rest) s ≡ record { answer = Refused m; state = emptyState }
+  on-refused m n = all-on s a rest ∙ rw n
+
+  -- the three ways that a list goes on
+  pub all-case : (P : Applied → Type 0) → (stepped s a .answer ≡ Consistent → P (applyAll rest (stepped s a .state)))
+      → ((x : ℕ) → stepped s a .answer ≡ Contradiction x → P (record { answer = Contradiction x; state = s }))
+      → ((m : ℕ) → stepped s a .answer ≡ Refused m → P (record { answer = Refused m; state = emptyState })) → P (applyAll (a ∷ rest) s)
+  all-case P f g h = by (stepped s a .answer) refl
+    where
+      by : (w : Application) → stepped s a .answer ≡ w → P (applyAll (a ∷ rest) s)
+      by Consistent n = subst P (sym (on-consistent n)) (f n)
+      by (Contradiction x) n = subst P (sym (on-contradiction x n)) (g x n)
+      by (Refused m) n = subst P (sym (on-refused m n)) (h m n)
+
+pub all-append : (p q : List Atom) (s : VariableState) → applyAll (p ++ q) s ≡ andThen (applyAll p s) q
+all-append [] q s = ap (λ (r : Applied). andThen r q) (sym (all-end s))
+all-append (a ∷ p) q s = by (stepped s a .answer) refl (all-append p q (stepped s a .state))
+  where
+    by : (w : Application) → stepped s a .answer ≡ w → applyAll (p ++ q) (stepped s a .state) ≡ andThen (applyAll p (stepped s a .state)) q → applyAll (a ∷ (p ++ q)) s ≡ andThen (applyAll (a ∷ p) s) q
+    by Consistent n e = on-consistent s a (p ++ q) n ∙ e ∙ ap (λ (r : Applied). andThen r q) (sym (on-consistent s a p n))
+    by (Contradiction x) n e = on-contradiction s a (p ++ q) x n ∙ ap (λ (r : Applied). andThen r q) (sym (on-contradiction s a p x n))
+    by (Refused m) n e = on-refused s a (p ++ q) m n ∙ ap (λ (r : Applied). andThen r q) (sym (on-refused s a p m n))
+
+-- one atom, by cases
+pub stepped-case : (s : VariableState) (a : Atom) (P : Applied → Type 0)
+    → (needsRoom (domainAt s (a .variable)) (a .kind) (a .value) ≡ true → P (record { answer = Refused 21; state = s }))
+    → (needsRoom (domainAt s (a .variable)) (a .kind) (a .value) ≡ false → consistent (applied (domainAt s (a .variable)) (a .kind) (a .value)) ≡ true
+    → P (record { answer = Consistent; state = put s (a .variable) (applied (domainAt s (a .variable)) (a .kind) (a .value)) }))
+    → (needsRoom (domainAt s (a .variable)) (a .kind) (a .value) ≡ false → consistent (applied (domainAt s (a .variable)) (a .kind) (a .value)) ≡ false
+    → P (record { answer = Contradiction (a .variable); state = s }))
+    → P (stepped s a)
+unfolding stepped
+stepped-case s a P f g h = reduced-case (domainAt s (a .variable)) (a .kind) (a .value) (λ r. P (outcome s a r)) f g h
+
+pub stepped-accepted : (s : VariableState) (a : Atom) → Accepted s → a .variable < VARIABLES → Accepted (stepped s a .state)
+stepped-accepted s a acc h = stepped-case s a (λ r. Accepted (r .state)) (λ _. acc)
+    (λ p q. put-accepted s (a .variable) (applied (domainAt s (a .variable)) (a .kind) (a .value)) acc h (record { tight = applied-tight (domainAt s (a .variable)) (a .kind) (a .value) (acc .each (a .variable) h .tight) p; ordered = q })) (λ _ _. acc)
+
+pub all-accepted : (atoms : List Atom) → Every (λ a. a .variable < VARIABLES) atoms → (s : VariableState) → Accepted s → Accepted (applyAll atoms s .state)
+all-accepted [] k s acc = subst (λ (r : Applied). Accepted (r .state)) (sym (all-end s)) acc
+all-accepted (a ∷ rest) k s acc = all-case s a rest (λ r. Accepted (r .state)) (λ _. all-accepted rest (k .1) (stepped s a .state) (stepped-accepted s a acc (k .0))) (λ _ _. acc) (λ _ _. empty-accepted)

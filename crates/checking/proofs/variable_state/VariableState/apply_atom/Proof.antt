@@ -1,0 +1,79 @@
+use mathlib.Core.Path.{_≡_, sym, ap, _∙_, subst}
+use Prim.Native.Nat.{_+_}
+use mir.Syntax.{w32}
+use Rattle.integers.specs.Limits.{VALUE}
+use Rattle.integers.proofs.Ints.{back-of}
+use Rattle.checking.specs.Atoms.{kindOf, atomOf}
+use Rattle.checking.specs.Domains.{reduced}
+use Rattle.checking.specs.Holes.{Within}
+use Rattle.checking.specs.States.{domainAt}
+use Rattle.checking.proofs.States.{stepped-is, when-narrowed, when-emptied, when-full}
+use borrow.Author.Needs.{needs}
+use Rattle.checking.proofs.variable_state.VariableState.apply_atom.Statement.{statement}
+use Rattle.checking.proofs.variable_state.VariableState.apply_atom.Tie as tie
+
+mul-domain : tie.Need-mul-domain
+mul-domain c = search needs
+
+element-copy-out-domain : tie.Need-element-copy-out-domain
+element-copy-out-domain c = search needs
+
+apply-requires : tie.Need-apply-requires
+apply-requires c κs =
+    let s = c .before .before in
+    (s .pre .0 .each (s .args .atom .identifier) (s .pre .1 .0) .tight, subst (Within (VALUE + 1)) (sym (back-of w32 (s .args .atom .value) (c .before .struct-told .given .1 .1 .0 .1))) (s .pre .1 .1))
+
+-- what the call says, of the atom's own value
+said : (c : tie.After-apply) → c .apply .result ≡ reduced (domainAt (c .before .before .before .args .t1) (c .before .before .before .args .atom .identifier)) (kindOf (c .before .before .before .args .atom .comparison)) (c .before .before .before .args .atom .value)
+said c =
+    let s = c .before .before .before in
+    c .apply .ensures ∙ ap (reduced (domainAt (s .args .t1) (s .args .atom .identifier)) (kindOf (s .args .atom .comparison))) (back-of w32 (s .args .atom .value) (c .before .before .struct-told .given .1 .1 .0 .1))
+
+enum-told : tie.Need-enum-told
+enum-told c = search needs
+
+mul-narrowed : tie.Need-mul-narrowed
+mul-narrowed c = search needs
+
+element-set-from-narrowed : tie.Need-element-set-from-narrowed
+element-set-from-narrowed c = search needs
+
+enum-told-2 : tie.Need-enum-told-2
+enum-told-2 c = search needs
+
+enum-told-3 : tie.Need-enum-told-3
+enum-told-3 c = search needs
+
+returns : tie.Need-returns
+returns c =
+    let s = c .before .before .before .before .before .before in
+    let r = c .before .before .before .apply .result in
+    sym (stepped-is (s .args .t1) (atomOf (s .args .atom)) r (said (c .before .before .before)) ∙ when-narrowed (s .args .t1) (atomOf (s .args .atom)) r (c .before .enum-told .given .1))
+
+returns-2 : tie.Need-returns-2
+returns-2 c =
+    let s = c .before .before .before .before .before in
+    let r = c .before .before .apply .result in
+    sym (stepped-is (s .args .t1) (atomOf (s .args .atom)) r (said (c .before .before)) ∙ when-emptied (s .args .t1) (atomOf (s .args .atom)) r (c .enum-told2 .given .1))
+
+returns-3 : tie.Need-returns-3
+returns-3 c =
+    let s = c .before .before .before .before .before in
+    let r = c .before .before .apply .result in
+    sym (stepped-is (s .args .t1) (atomOf (s .args .atom)) r (said (c .before .before)) ∙ when-full (s .args .t1) (atomOf (s .args .atom)) r (c .enum-told3 .given .1))
+
+pub apply-atom-spec : {M : Type 1} → statement M
+apply-atom-spec =
+    tie.close
+    (tie.spec
+    mul-domain
+    element-copy-out-domain
+    apply-requires
+    enum-told
+    mul-narrowed
+    element-set-from-narrowed
+    enum-told-2
+    enum-told-3
+    returns
+    returns-2
+    returns-3)

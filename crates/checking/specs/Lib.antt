@@ -1,0 +1,5 @@
+pub mod Holes
+pub mod Domains
+pub mod Atoms
+pub mod States
+pub mod Promises

@@ -1,0 +1,5 @@
+// Atoms and the variable state, over i32 as in the source.
+pub mod atomic_constraint;
+mod holes;
+pub mod int_ext;
+pub mod variable_state;

@@ -1,0 +1,102 @@
+-- Lists of tasks, and the walks over them: what a walk knows at each place, and where it stops.
+-- Assumes nothing.
+use mathlib.Core.Path.{_≡_, ap, subst}
+use mathlib.Core.List.{List, [], _∷_, _++_}
+use Prim.Native.Nat.{ℕ, zero, suc, _+_, _-_, _≤_, _<_}
+use native.Mathlib.Omega.{arith}
+use native.Mathlib.Numerals.{add-one}
+use native.Mathlib.Decide.{decLt, ℕ-discrete}
+use lib.ListN.{length, getD, take, drop, length-append, length-take, length-drop}
+use lib.Seq.{drop-cons, take-all, getD-drop, getD-take, drop-append-seam, drop-append-add, getD-append-seam, getD-append-add}
+use Rattle.explanations.specs.Explanations.{lasts, Each, At, Somewhere, First}
+
+-- Lists of tasks --------------------------------------------------------------------------------------------------------------
+
+module _ (P : ℕ → Type 0) (ks : List ℕ) (h : Each P ks) (i : ℕ) where
+  pub each-drop : Each P (drop i ks)
+  each-drop x s = rw getD-drop (h (i + x) (omega (arith, length-drop i ks)))
+
+  pub each-take : Each P (take i ks)
+  each-take x s = let q : x < i = omega (arith, length-take i ks) in rw getD-take (h x (omega (arith, length-take i ks)))
+
+-- the part of ks from place i on, as code takes it
+pub onward : (ks : List ℕ) (i : ℕ) → take (length ks - i) (drop i ks) ≡ drop i ks
+onward ks i = take-all (length ks - i) (drop i ks) (omega (arith, length-drop i ks))
+
+module _ (ds : List ℕ) where
+  -- the tasks from place i on: that at i, and those after it
+  lasts-cons : (ks : List ℕ) (i : ℕ) → i < length ks → lasts ds (drop i ks) ≡ getD ds (getD ks i 0) 0 + lasts ds (drop (suc i) ks)
+  unfolding lasts
+  lasts-cons ks i h = ap (lasts ds) (drop-cons ks i 0 h)
+
+  pub lasts-drop : (ks : List ℕ) (i : ℕ) → lasts ds (drop i ks) ≤ lasts ds ks
+  unfolding lasts
+  lasts-drop ks zero = omega arith
+  lasts-drop [] (suc i) = omega arith
+  lasts-drop (k ∷ ks) (suc i) = omega (arith, lasts-drop ks i)
+
+-- The walks -------------------------------------------------------------------------------------------------------------------
+
+-- What a walk knows at place i, before it asks there.
+pub record Walked (P : ℕ → ℕ → Type 0) (ds ks : List ℕ) (i q : ℕ) : Type 0 where
+  pub small : i < length ks
+  pub rest : q ≡ lasts ds (drop i ks)
+  pub before : (x : ℕ) → x < i → At P ds ks x → ⊥
+
+module _ {P : ℕ → ℕ → Type 0} {ds ks : List ℕ} where
+  pub begins : {p : ℕ} → p ≡ lasts ds ks → Somewhere P ds ks → Walked P ds ks 0 p
+  begins t s = record { small = omega (arith, s .small); rest = t; before = λ x h. absurd (omega arith) }
+
+  pub enough : {i q : ℕ} → Walked P ds ks i q → getD ds (getD ks i 0) 0 ≤ q
+  enough {i} w = omega (arith, lasts-cons ds ks i (w .small))
+
+  pub at-most : {i q : ℕ} → Walked P ds ks i q → q ≤ lasts ds ks
+  at-most {i} w = omega (arith, lasts-drop ds ks i)
+
+  -- the next place, which there is: the walk stops somewhere, and has not so far
+  pub goes-on : {i q : ℕ} → Walked P ds ks i q → Somewhere P ds ks → (P (getD ks i 0) q → ⊥) → Walked P ds ks (i + 1) (q - getD ds (getD ks i 0) 0)
+  goes-on {i} {q} w s unmet =
+      let here : At P ds ks i → ⊥ = λ a. unmet (rw (w .rest) a) in
+      rw (add-one i) (record { small = omega (arith, s .small, later here); rest = omega (arith, lasts-cons ds ks i (w .small)); before = before here })
+    where
+      before : (At P ds ks i → ⊥) → (x : ℕ) → x < suc i → At P ds ks x → ⊥
+      before here x h a = elim (ℕ-discrete x i) [ yes z ↦ here (subst (At P ds ks) z a) | no z ↦ w .before x (omega arith) a ]
+
+      later : (At P ds ks i → ⊥) → i < s .place
+      later here = elim (decLt i (s .place)) [ yes z ↦ z | no z ↦ absurd (before here (s .place) (omega arith) (s .holds)) ]
+
+  pub stops-at : {i q : ℕ} → Walked P ds ks i q → P (getD ks i 0) q → First P ds ks i q
+  stops-at w h = record { small = w .small; rest = w .rest; holds = h; before = w .before }
+
+module _ (P : ℕ → ℕ → Type 0) (ds : List ℕ) where
+  -- a first place that is not the list's first is one of the rest
+  pub first-tail : (k : ℕ) (ks : List ℕ) (x q : ℕ) → First P ds (k ∷ ks) (suc x) q → First P ds ks x q
+  first-tail k ks x q f = record { small = omega (arith, f .small); rest = f .rest; holds = f .holds; before = λ y h a. f .before (suc y) (omega arith) a }
+
+-- where two walks ask the same of each task, they stop at the same place
+pub first-same : (P Q : ℕ → ℕ → Type 0) (ds ks : List ℕ) (x q : ℕ) → ((y r : ℕ) → y < length ks → P (getD ks y 0) r → Q (getD ks y 0) r) → ((y r : ℕ) → y < length ks → Q (getD ks y 0) r → P (getD ks y 0) r)
+    → First P ds ks x q → First Q ds ks x q
+first-same P Q ds ks x q to from f = record { small = f .small; rest = f .rest; holds = to x q (f .small) (f .holds); before = λ y h a. f .before y h (from y (lasts ds (drop y ks)) (omega (arith, f .small)) a) }
+
+-- a suffix of the list at whose first task the answer is yes
+abbrev pub suffix-place : (P : ℕ → ℕ → Type 0) (ds front : List ℕ) (k : ℕ) (ks : List ℕ) → P k (lasts ds (k ∷ ks)) → Somewhere P ds (front ++ k ∷ ks)
+suffix-place P ds front k ks h = record {
+  place = length front;
+  small = omega (arith, length-append front (k ∷ ks));
+  holds = rw (getD-append-seam front k ks 0, drop-append-seam front (k ∷ ks)) h;
+}
+
+-- and a suffix of that suffix, at whose first task another answer is yes, comes no earlier
+pub suffix-places : (P Q : ℕ → ℕ → Type 0) (ds front mid : List ℕ) (k j : ℕ) (ks js : List ℕ) → k ∷ ks ≡ mid ++ j ∷ js → P k (lasts ds (k ∷ ks)) → Q j (lasts ds (j ∷ js))
+    → (s : Somewhere P ds (front ++ k ∷ ks)) × ((t : Somewhere Q ds (front ++ k ∷ ks)) × (s .place ≤ t .place))
+suffix-places P Q ds front mid k j ks js e p q = (
+  suffix-place P ds front k ks p,
+  (
+    record {
+      place = length front + length mid;
+      small = omega (arith, length-append front (k ∷ ks), ap length e, length-append mid (j ∷ js));
+      holds = rw (getD-append-add front (k ∷ ks) (length mid) 0, drop-append-add front (k ∷ ks) (length mid), e, getD-append-seam mid j js 0, drop-append-seam mid (j ∷ js)) q;
+    },
+    omega arith,
+  ),
+)

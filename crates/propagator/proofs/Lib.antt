@@ -1,0 +1,5 @@
+pub mod Meeting
+pub mod Posting
+pub mod Considering
+pub mod Turning
+pub mod Moving

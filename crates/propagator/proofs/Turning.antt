@@ -1,0 +1,117 @@
+-- The inner loop: what it has got to, and how a turn goes on from there.
+-- Assumes nothing.
+use mathlib.Core.Path.{_≡_, refl, sym, ap, _∙_}
+use mathlib.Core.Bool.{Bool, true, false}
+use mathlib.Core.List.{List}
+use mathlib.Core.Logic.{_⊎_, inl, inr}
+use mathlib.Core.Option.{Option, some, none}
+use Prim.Native.Nat.{ℕ, zero, suc, _<_, _≤_}
+use native.Mathlib.Omega.{arith}
+use lib.Dec.{ltb}
+use lib.IntN.{ℤ}
+use lib.ListN.{getD}
+use borrow.Author.Tests.{ltb-true, ltb-false, lt-ltb, le-ltb}
+use Rattle.integers.specs.Moments.{zeroAt}
+use Rattle.integers.proofs.Bools.{bool, clash}
+use Rattle.scheduling.specs.Scheduling.{completion}
+use Rattle.trees.specs.declared.disjunctive_task.LocalId.{LocalId}
+use Rattle.trees.specs.declared.theta_lambda_tree.Node.{Node}
+use Rattle.trees.specs.declared.theta_lambda_tree.Responsible.{Responsible}
+use Rattle.trees.specs.declared.theta_lambda_tree.Responsible.the-variants as responsible
+use Rattle.trees.specs.Leaves as leaves
+use Rattle.trees.specs.Searches.{Searchable, searchEct, responsibleOf}
+use Rattle.trees.specs.Shapes.{heightFor, leavesOf}
+use Rattle.trees.specs.Words.{nodeAt}
+use Rattle.trees.proofs.Roots as tree
+use Rattle.trees.proofs.Trees.{root-of, searchable, responsible-of}
+use Rattle.runs.specs.Runs.{State, on, stop}
+use Rattle.runs.proofs.Fuel.{inner-end, inner-off, inner-none}
+use Rattle.propagator.specs.declared.disjunctive_propagator.Written.{Written}
+use Rattle.propagator.specs.declared.disjunctive_propagator.Turn.the-variants as turn
+use Rattle.propagator.specs.Turns.{candidateIn, Standing, AtNow, InvNow, turns, Considered, AllConsidered, Responsible-for}
+use Rattle.propagator.proofs.Posting.{candidate-none, candidate-some}
+use Rattle.propagator.proofs.Considering as considering
+
+abbrev is-task : Responsible → Bool
+is-task (responsible.Task id) = true
+is-task responsible.Nothing = false
+
+abbrev task-or : LocalId → Responsible → ℕ
+task-or other (responsible.Task id) = id .0
+task-or other responsible.Nothing = other .0
+
+-- what a search answered
+some-task : (tasks : List ℕ) (u : Option ℕ) (id : LocalId) → responsible.Task id ≡ responsibleOf tasks u → (x : ℕ) × (u ≡ some x) × (id .0 ≡ getD tasks x 0)
+some-task tasks none id z = clash {b = true} refl (ap is-task z)
+some-task tasks (some x) id z = (x, refl, ap (task-or id) z)
+
+no-task : (tasks : List ℕ) (u : Option ℕ) → responsible.Nothing ≡ responsibleOf tasks u → u ≡ none
+no-task tasks none z = refl
+no-task tasks (some x) z = clash {b = true} refl (ap is-task (sym z))
+
+module _ {n inn height lct : ℕ} {words : List ℕ} {es ps as′ : List ℤ} {w : Written} {est lst dur tasks mapping : List ℕ} (s : Standing n inn height lct words es ps as′ w est lst dur tasks mapping) where
+  pub can-search : Searchable inn height (nodeAt words)
+  can-search = searchable (s .ordered .limited) (s .at .tree) height (s .arrays .tall ∙ ap heightFor (sym (s .arrays .count)))
+
+  -- `left` turns are left, and the slices and the tree are at the state of a definition that has as many left
+  pub record Reached (left : ℕ) (words′ : List ℕ) (es′ ps′ bs : List ℤ) (w′ : Written) : Type 0 where
+    pub st : State
+    pub inv : InvNow s st
+    pub at : AtNow s st words′ es′ ps′ bs w′
+    pub rest : turns s n (s .st) ≡ turns s left st
+
+  -- one turn is taken
+  abbrev pub taken : {left f : ℕ} {words′ : List ℕ} {es′ ps′ bs : List ℤ} {w′ : Written} → left ≡ suc f → Reached left words′ es′ ps′ bs w′ → Reached (suc f) words′ es′ ps′ bs w′
+  taken z r = record { st = r .st; inv = r .inv; at = r .at; rest = r .rest ∙ ap (λ (f : ℕ). turns s f (r .st)) z }
+
+  pub none-yet : Reached n words es ps as′ w
+  none-yet = record { st = s .st; inv = s .inv; at = s .at; rest = refl }
+
+  module _ {left : ℕ} {words′ : List ℕ} {es′ ps′ bs : List ℤ} {w′ : Written} (r : Reached left words′ es′ ps′ bs w′) where
+    abbrev pub stands : Standing n inn height lct words′ es′ ps′ bs w′ est lst dur tasks mapping
+    stands = record { J = s .J; first = s .first; second = s .second; level = s .level; st = r .st; ps₀ = s .ps₀; as₀ = s .as₀; ordered = s .ordered; arrays = s .arrays; latest = s .latest;
+        small = s .small; ends = s .ends; post-room = s .post-room; atom-room = s .atom-room; inv = r .inv; at = r .at }
+
+    bar-is : nodeAt words′ 0 .«ect_bar» ≡ leaves.ect-bar (s .J) (s .first) (r .st .leaves)
+    bar-is = ap (λ (n : Node). n .«ect_bar») (considering.root-is stands)
+
+    search-is : searchEct (leavesOf inn (nodeAt words′)) height 0 ≡ leaves.responsible (s .J) (s .first) (r .st .leaves)
+    search-is = responsible-of (s .ordered .limited) (r .at .tree) height (s .arrays .tall ∙ ap heightFor (sym (s .arrays .count)))
+
+    found-small : (x : ℕ) → leaves.responsible (s .J) (s .first) (r .st .leaves) ≡ some x → x < n
+    found-small x z = omega (arith, s .arrays .count, considering.found-inside stands x z)
+
+    -- no turn is left
+    pub ended : left ≡ 0 → AllConsidered s (turn.On w′) words′ es′ ps′ bs
+    ended z = (r .st, r .at, r .rest ∙ ap (λ (f : ℕ). turns s f (r .st)) z ∙ inner-end zeroAt (s .J) (s .first) (s .second) 0 (s .level) (r .st))
+
+  module _ {f : ℕ} {words′ : List ℕ} {es′ ps′ bs : List ℤ} {w′ : Written} (r : Reached (suc f) words′ es′ ps′ bs w′) where
+    abbrev bar : ℕ
+    bar = nodeAt words′ 0 .«ect_bar»
+    abbrev end : ℕ
+    end = completion (s .J) (getD (s .second) (s .level) 0)
+    abbrev top : ℕ
+    top = leaves.ect-bar (s .J) (s .first) (r .st .leaves)
+
+    -- there is no task to consider
+    pub nothing-left : responsible.Nothing ≡ candidateIn words′ inn height tasks lct → AllConsidered s (turn.On w′) words′ es′ ps′ bs
+    nothing-left z = (r .st, r .at, r .rest ∙ elim (bool (ltb lct bar)) [
+        | inr y ↦ inner-off zeroAt (s .J) (s .first) (s .second) f (s .level) (r .st) (le-ltb end top (omega (arith, ltb-false lct bar y, bar-is r, s .ends)))
+        | inl y ↦ inner-none zeroAt (s .J) (s .first) (s .second) f (s .level) (r .st) (lt-ltb end top (omega (arith, ltb-true lct bar y, bar-is r, s .ends)))
+            (sym (search-is r) ∙ no-task tasks (searchEct (leavesOf inn (nodeAt words′)) height 0) (z ∙ sym (candidate-some words′ inn height tasks lct (ltb-true lct bar y))))
+      ])
+
+    -- there is one
+    pub one-left : (id : LocalId) → responsible.Task id ≡ candidateIn words′ inn height tasks lct → (x : ℕ) × Responsible-for (stands r) (id .0) x
+    one-left id z = elim (bool (ltb lct bar)) [
+        | inr y ↦ clash {b = true} refl (ap is-task (z ∙ sym (candidate-none words′ inn height tasks lct (ltb-false lct bar y))))
+        | inl y ↦ (let (x, u, v) = some-task tasks (searchEct (leavesOf inn (nodeAt words′)) height 0) id (z ∙ sym (candidate-some words′ inn height tasks lct (ltb-true lct bar y))) in
+            (x, record { over = omega (arith, ltb-true lct bar y, bar-is r); found = sym (search-is r) ∙ u; task = v ∙ s .arrays .tasks .at x (found-small r x (sym (search-is r) ∙ u)) }))
+      ]
+
+    -- it was considered
+    pub one-less : {words″ : List ℕ} {es″ ps″ bs′ : List ℤ} {w″ : Written} → Considered (stands r) (turn.On w″) words″ es″ ps″ bs′ → Reached f words″ es″ ps″ bs′ w″
+    one-less (st′, v, a, next) = record { st = st′; inv = v; at = a; rest = r .rest ∙ next f }
+
+    pub one-emptied : {words″ : List ℕ} {es″ ps″ bs′ : List ℤ} {w″ : Written} → Considered (stands r) (turn.Emptied w″) words″ es″ ps″ bs′ → AllConsidered s (turn.Emptied w″) words″ es″ ps″ bs′
+    one-emptied (st′, a, next) = (st′, a, r .rest ∙ next f)

@@ -1,0 +1,51 @@
+-- What the code of a run holds: the tasks in arrays, the tree, the slices that it writes, and how far it has got.
+use mathlib.Core.Path.{_≡_}
+use mathlib.Core.Bool.{true}
+use mathlib.Core.List.{List, map}
+use Prim.Native.Nat.{ℕ, _+_, _*_, _^_, _≤_, _<_}
+use lib.IntN.{ℤ}
+use lib.ListN.{length, getD}
+use lib.Seq.{sets}
+use Rattle.integers.specs.Limits.{TASKS}
+use Rattle.integers.specs.Moments.{instant, zeroAt}
+use Rattle.integers.specs.Orders.{index}
+use Rattle.scheduling.specs.Scheduling.{natural, Tasks, Proper, processing, completion}
+use Rattle.scheduling.proofs.Scan.{ByEarliest}
+use Rattle.scheduling.proofs.Levels.{ByCompletion}
+use Rattle.trees.specs.Leaves.{Limited, IsTree}
+use Rattle.trees.specs.Shapes.{heightFor}
+use Rattle.runs.specs.Runs.{State}
+use Rattle.runs.specs.Words.{postWords, atomWords, reasons}
+
+-- The tasks J in the orders `first`, by earliest start, and `second`, by latest completion; no sum that a run forms of them wraps.
+pub record Ordered (J : Tasks natural) (first second : List ℕ) : Type 0 where
+  pub proper : Proper J
+  pub some : 1 ≤ J .count
+  pub by-earliest : ByEarliest J (λ j. getD first j 0) (λ k. index first k)
+  pub by-completion : ByCompletion J (λ t. getD second t 0) (λ k. index second k)
+  pub limited : Limited J first
+  pub room : (k : ℕ) → k < J .count → processing J (λ _. true) ≤ J .earliest k
+  pub fits : (k : ℕ) → k < J .count → completion J k + 2 * processing J (λ _. true) < 2 ^ 32
+
+-- An array holds a number of each task.
+pub record Holds (n : ℕ) (f : ℕ → ℕ) (array : List ℕ) : Type 0 where
+  pub size : length array ≡ TASKS
+  pub at : (k : ℕ) → k < n → getD array k 0 ≡ f k
+
+-- The arrays that a run reads: the earliest starts and the durations of the tasks, the task of each leaf and the leaf of each task; and the tree's size.
+pub record Arrays (J : Tasks natural) (first : List ℕ) (n inner height : ℕ) (est dur leaves mapping : List ℕ) : Type 0 where
+  pub count : J .count ≡ n
+  pub starts : Holds n (J .earliest) est
+  pub durations : Holds n (J .duration) dur
+  pub tasks : Holds n (λ j. getD first j 0) leaves
+  pub places : Holds n (λ k. index first k) mapping
+  pub tall : height ≡ heightFor n
+
+-- What a run has got to, at the state st: the tree shows its leaves, and the slices hold its starts, posts and reasons over what stood there at entry.
+pub record At (J : Tasks natural) (first : List ℕ) (ps₀ as₀ : List ℤ) (st : State) (inner : ℕ) (words : List ℕ) (es ps as′ : List ℤ) (many far : ℕ) : Type 0 where
+  pub tree : IsTree J first (st .leaves) inner words
+  pub starts : es ≡ map (instant zeroAt) (st .starts)
+  pub posts : ps ≡ sets ps₀ 0 (postWords 0 (st .posts))
+  pub atoms : as′ ≡ sets as₀ 0 (atomWords (reasons (st .posts)))
+  pub posted : many ≡ length (st .posts)
+  pub explained : far ≡ length (reasons (st .posts))

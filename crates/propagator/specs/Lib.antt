@@ -1,0 +1,4 @@
+pub mod Holding
+pub mod Turns
+pub mod Finding
+pub mod Moving

@@ -1,0 +1,227 @@
+// The disjunctive propagator: edge finding on one machine, with a reason for each post.
+use explanations::create_conflict_explanation;
+use explanations::create_propagation_explanation;
+use explanations::write_post;
+use integers::start_of;
+use trees::disjunctive_task::DisjunctiveTask;
+use trees::disjunctive_task::LocalId;
+use trees::disjunctive_task::leaf_of;
+use trees::theta_lambda_tree::Responsible;
+use trees::theta_lambda_tree::ThetaLambdaTree;
+
+ghost use mathlib.Core.Path.{_≡_};
+ghost use Prim.Native.Nat.{ℕ, _+_, _*_, _^_, _≤_, _<_};
+ghost use lib.ListN.{length, getD};
+ghost use Rattle.integers.specs.Limits.{TASKS};
+ghost use Rattle.integers.specs.Moments.{zeroAt};
+ghost use Rattle.trees.specs.Searches.{Searchable};
+ghost use Rattle.trees.specs.Words.{nodeAt};
+ghost use Rattle.runs.specs.Runs.{propagation};
+ghost use Rattle.runs.specs.Words.{atomWords};
+ghost use Rattle.explanations.specs.Explanations.{starting, Preceded, Overloaded};
+ghost use Rattle.propagator.specs.Finding.{Conflicted, conflictIn};
+ghost use Rattle.propagator.specs.Moving.{Movable, Moved};
+ghost use Rattle.propagator.specs.Turns.{thetaIn, sumIn, candidateIn, Posted, Standing, Considered, AllConsidered, Responsible-for};
+
+// How a run ended, with the number of its posts: all tasks considered; a set of tasks overloads its span, with the first atom and the atom count
+// of its reason; the last post is above its task's latest start; or the number that turned the input back.
+pub enum Outcome {
+    Done(usize),
+    Overload {
+        posts: usize,
+        first: usize,
+        count: usize,
+    },
+    Emptied(usize),
+    Refused(u32),
+}
+
+// The posts and the atoms written so far.
+pub struct Written {
+    pub posts: usize,
+    pub atoms: usize,
+}
+
+// The tasks of Lambda were considered, or a post emptied a range.
+pub enum Turn {
+    On(Written),
+    Emptied(Written),
+}
+
+// The task to consider next: one of Lambda for which the edge-finding condition holds.
+fn candidate<'a>(nodes: &'a [u32; 508], tasks: &'a [usize; 48], inner: usize, height: usize, lct: u32) -> Responsible
+    requires { ⌜ Searchable inner height (nodeAt (now nodes)) ⌝ }
+    ensures { λ r. ⌜ r ≡ candidateIn (now (nodes .entry)) inner height (now (tasks .entry)) lct ⌝ }
+{
+    if ThetaLambdaTree::ect_bar(nodes) <= lct {
+        return Responsible::Nothing;
+    }
+    ThetaLambdaTree::responsible_ect_bar(nodes, tasks, inner, height)
+}
+
+// Posts that task i starts at the bound or later, with its reason.
+fn post<'a>(
+    posts: &mut [i32],
+    atoms: &mut [i32],
+    written: Written,
+    nodes: &'a [u32; 508],
+    tasks: &'a [usize; 48],
+    est: &'a [u32; 48],
+    durations: &'a [u32; 48],
+    inner: usize,
+    n: usize,
+    i: usize,
+    bound: u32,
+    lct: u32,
+) -> Written
+    requires { ⌜ (Preceded (length (now atoms)) (written .atoms) (thetaIn (now nodes) inner (now tasks) n) (now est) (now durations) (sumIn (now nodes)) lct i bound)
+        × (4 * written .posts + 4 ≤ length (now posts)) × (n ≤ 48) × (inner ≤ 63) × (written .atoms ≤ 4608) ⌝ }
+    ensures { λ r. ⌜ Posted (now (posts .entry)) (now (atoms .entry)) (now (posts .exit)) (now (atoms .exit)) written r i bound
+        (atomWords (propagation zeroAt (starting (now (est .entry)) (now (durations .entry))) i bound lct (sumIn (now (nodes .entry))) (thetaIn (now (nodes .entry)) inner (now (tasks .entry)) n)))
+        (length (propagation zeroAt (starting (now (est .entry)) (now (durations .entry))) i bound lct (sumIn (now (nodes .entry))) (thetaIn (now (nodes .entry)) inner (now (tasks .entry)) n))) ⌝ }
+{
+    let theta = ThetaLambdaTree::get_theta(nodes, tasks, inner, n);
+    let p = ThetaLambdaTree::sum_of_processing_times(nodes);
+    let m = theta.count;
+    let white = theta.tasks;
+    let at = written.atoms;
+    let end = create_propagation_explanation(atoms, at, &white[..m], est, durations, p, lct, i, bound);
+    write_post(posts, written.posts, i, bound, at, end - at);
+    Written {
+        posts: written.posts + 1,
+        atoms: end,
+    }
+}
+
+// Considers task i of Lambda: posts its bound where that is above its earliest start, and takes it out of Lambda.
+fn consider<'a>(
+    nodes: &mut [u32; 508],
+    earliest: &mut [i32],
+    posts: &mut [i32],
+    atoms: &mut [i32],
+    written: Written,
+    mapping: &'a [usize; 48],
+    tasks: &'a [usize; 48],
+    est: &'a [u32; 48],
+    lst: &'a [u32; 48],
+    durations: &'a [u32; 48],
+    inner: usize,
+    n: usize,
+    id: LocalId,
+    lct: u32,
+) -> Turn
+    requires { ⌜ ((height : ℕ) × (x : ℕ) × (s : Standing n inner height lct (now nodes) (now earliest) (now posts) (now atoms) written (now est) (now lst) (now durations) (now tasks) (now mapping)) × Responsible-for s (id .0) x) ⌝ }
+    ensures { λ r. ⌜ ((height x : ℕ) (s : Standing n inner height lct (now (nodes .entry)) (now (earliest .entry)) (now (posts .entry)) (now (atoms .entry)) written (now (est .entry)) (now (lst .entry)) (now (durations .entry)) (now (tasks .entry)) (now (mapping .entry)))
+        → Responsible-for s (id .0) x → Considered s r (now (nodes .exit)) (now (earliest .exit)) (now (posts .exit)) (now (atoms .exit))) ⌝ }
+{
+    let i = id.0;
+    let bound = ThetaLambdaTree::ect(nodes);
+    let place = leaf_of(mapping, id);
+    if bound <= est[i] {
+        ThetaLambdaTree::remove_from_lambda(nodes, inner, place);
+        return Turn::On(written);
+    }
+    let w = post(
+        posts, atoms, written, nodes, tasks, est, durations, inner, n, i, bound, lct,
+    );
+    if bound > lst[i] {
+        return Turn::Emptied(w);
+    }
+    earliest[i] = start_of(bound);
+    ThetaLambdaTree::remove_from_lambda(nodes, inner, place);
+    Turn::On(w)
+}
+
+// Considers the tasks of Lambda for which the edge-finding condition holds, one after the other. Each turn takes one out, so n turns are enough.
+fn consider_all<'a>(
+    nodes: &mut [u32; 508],
+    earliest: &mut [i32],
+    posts: &mut [i32],
+    atoms: &mut [i32],
+    written: Written,
+    mapping: &'a [usize; 48],
+    tasks: &'a [usize; 48],
+    est: &'a [u32; 48],
+    lst: &'a [u32; 48],
+    durations: &'a [u32; 48],
+    inner: usize,
+    height: usize,
+    n: usize,
+    lct: u32,
+) -> Turn
+    requires { ⌜ Standing n inner height lct (now nodes) (now earliest) (now posts) (now atoms) written (now est) (now lst) (now durations) (now tasks) (now mapping) ⌝ }
+    ensures { λ r. ⌜ ((s : Standing n inner height lct (now (nodes .entry)) (now (earliest .entry)) (now (posts .entry)) (now (atoms .entry)) written (now (est .entry)) (now (lst .entry)) (now (durations .entry)) (now (tasks .entry)) (now (mapping .entry)))
+        → AllConsidered s r (now (nodes .exit)) (now (earliest .exit)) (now (posts .exit)) (now (atoms .exit))) ⌝ }
+{
+    let mut w = written;
+    let mut left = n;
+    while left > 0 {
+        left -= 1;
+        let next = candidate(nodes, tasks, inner, height, lct);
+        let Responsible::Task(id) = next else {
+            return Turn::On(w);
+        };
+        let turn = consider(
+            nodes, earliest, posts, atoms, w, mapping, tasks, est, lst, durations, inner, n, id, lct,
+        );
+        match turn {
+            Turn::On(x) => {
+                w = x;
+            }
+            Turn::Emptied(x) => {
+                return Turn::Emptied(x);
+            }
+        }
+    }
+    Turn::On(w)
+}
+
+// The reason of an overload, after the atoms written so far.
+fn overload<'a>(
+    atoms: &mut [i32],
+    written: Written,
+    nodes: &'a [u32; 508],
+    tasks: &'a [usize; 48],
+    est: &'a [u32; 48],
+    durations: &'a [u32; 48],
+    inner: usize,
+    n: usize,
+    lct: u32,
+) -> Outcome
+    requires { ⌜ (Overloaded (length (now atoms)) (written .atoms) (thetaIn (now nodes) inner (now tasks) n) (now est) (now durations) (sumIn (now nodes)) lct) × (n ≤ 48) × (inner ≤ 63) ⌝ }
+    ensures { λ r. ⌜ Conflicted (now (atoms .entry)) (now (atoms .exit)) written r (conflictIn (now (nodes .entry)) inner (now (tasks .entry)) n (now (est .entry)) (now (durations .entry)) lct) ⌝ }
+{
+    let theta = ThetaLambdaTree::get_theta(nodes, tasks, inner, n);
+    let p = ThetaLambdaTree::sum_of_processing_times(nodes);
+    let m = theta.count;
+    let white = theta.tasks;
+    let at = written.atoms;
+    let end = create_conflict_explanation(atoms, at, &white[..m], est, durations, p, lct);
+    Outcome::Overload {
+        posts: written.posts,
+        first: at,
+        count: end - at,
+    }
+}
+
+// Moves task j from Theta to Lambda.
+fn move_to_lambda<'a>(
+    nodes: &mut [u32; 508],
+    inner: usize,
+    mapping: &'a [usize; 48],
+    est: &'a [u32; 48],
+    durations: &'a [u32; 48],
+    j: usize,
+)
+    requires { ⌜ Movable inner (now nodes) (now mapping) (now est) (now durations) j ⌝ }
+    ensures { λ _. ⌜ Moved inner (now (nodes .entry)) (now (nodes .exit)) (now (mapping .entry)) (now (est .entry)) (now (durations .entry)) j ⌝ }
+{
+    let place = leaf_of(mapping, LocalId(j));
+    ThetaLambdaTree::remove_from_theta(nodes, inner, place);
+    let task = DisjunctiveTask {
+        start_time: est[j],
+        processing_time: durations[j],
+        id: LocalId(j),
+    };
+    ThetaLambdaTree::add_to_lambda(nodes, inner, place, task);
+}

@@ -1,0 +1,2 @@
+// The disjunctive propagator.
+pub mod disjunctive_propagator;

@@ -1,0 +1,130 @@
+-- Creation: what each number is for, and that what is accepted makes a lawful record.
+-- Assumes nothing.
+use mathlib.Core.Path.{_≡_, refl, sym, ap, subst, _∙_}
+use mathlib.Core.Bool.{true, false}
+use mathlib.Core.Logic.{_↔_}
+use mathlib.Core.List.{List, [], _∷_}
+use Prim.Native.Nat.{ℕ, zero, suc, _≤_, _<_}
+use native.Mathlib.Omega.{arith}
+use lib.Dec.{leb}
+use lib.IntN.{ℤ, pos, negsuc}
+use lib.Signed.{leZ, _≤ℤ_}
+use lib.ListN.{length, getD, take}
+use lib.Seq.{length-take-le, getD-take}
+use borrow.Author.Tests.{leb-true, le-leb}
+use Rattle.integers.specs.Limits.{TASKS, DURATIONS}
+use Rattle.integers.specs.Filling.{filled}
+use Rattle.integers.specs.Orders.{has, Permutes}
+use Rattle.integers.specs.Tests.{Test, test, allBelow, refusal, AllPassed}
+use Rattle.integers.proofs.Bools.{clash, and-true}
+use Rattle.integers.proofs.Filling.{filled-at, filled-past, filled-length, getD-fresh}
+use Rattle.integers.proofs.Ints.{leZ-true, le-leZ}
+use Rattle.integers.proofs.Pigeonhole.{own-places}
+use Rattle.integers.proofs.Tests.{all-at, all-show, all-ext, accepted, ground, refuses, broken}
+use Rattle.scheduling.specs.Scheduling.{total}
+use Rattle.scheduling.proofs.Sets.{total-ext}
+use Rattle.records.specs.declared.record.Creation.the-variants.{Accepted, Refused}
+use Rattle.records.specs.Orders.{noTasks}
+use Rattle.records.specs.Records.{countFits, sumFits, lastsAt, Lawful, durationOf, durationAt, positiveAt, creationTests, newRecord, zeroRecord, creationNumber, created, createdAt}
+use Rattle.records.proofs.Lawful.{count-is}
+
+-- the order that creation gives
+own-order : (n : ℕ) → n ≤ TASKS → Permutes n (take n (filled (λ k. k) n noTasks))
+own-order n h =
+    let l = filled (λ k. k) n noTasks in
+    own-places n (take n l) (length-take-le n l (omega (arith, filled-length (λ k. k) n noTasks))) (λ k q. getD-take n l k 0 q ∙ filled-at (λ k. k) n noTasks 0 k q h)
+
+pub negative : (z : ℤ) → leZ (pos 0) z ≡ false → durationOf z ≡ 0
+negative (pos n) h = clash (le-leb 0 n (omega arith)) h
+negative (negsuc n) h = refl
+
+-- a record's durations are 1 or more where the caller's are
+lasts-same : (z : ℤ) → leb 1 (durationOf z) ≡ leZ (pos 1) z
+lasts-same (pos n) = refl
+lasts-same (negsuc n) = refl
+
+pub same-lasts : (ds : List ℤ) → length ds ≤ TASKS → allBelow (lastsAt (filled (durationAt ds) (length ds) noTasks)) (length ds) ≡ allBelow (positiveAt ds) (length ds)
+same-lasts ds few = all-ext (lastsAt (filled (durationAt ds) (length ds) noTasks)) (positiveAt ds) (length ds) (λ k q. ap (leb 1) (filled-at (durationAt ds) (length ds) noTasks 0 k q few) ∙ lasts-same (getD ds k (pos 0)))
+
+-- the sum of a record's durations is that of the caller's
+pub same-sum : (ds : List ℤ) → length ds ≤ TASKS → total (λ k. getD (filled (durationAt ds) (length ds) noTasks) k 0) (length ds) ≡ total (durationAt ds) (length ds)
+same-sum ds few = total-ext (λ k. getD (filled (durationAt ds) (length ds) noTasks) k 0) (durationAt ds) (length ds) (λ k q. filled-at (durationAt ds) (length ds) noTasks 0 k q few)
+
+-- what creation answers, by its number
+pub created-new : (ds : List ℤ) → refusal (creationTests ds) ≡ 0 → created ds ≡ record { «record» = newRecord ds; answer = Accepted }
+created-new ds h = ap (λ (n : ℕ). createdAt n ds) h
+
+pub created-not : (ds : List ℤ) (n : ℕ) → refusal (creationTests ds) ≡ n → (n ≡ 0 → ⊥) → created ds ≡ record { «record» = zeroRecord; answer = Refused n }
+created-not ds zero h q = absurd (q refl)
+created-not ds (suc n) h q = ap (λ (m : ℕ). createdAt m ds) h
+
+pub answer-number : (ds : List ℤ) → creationNumber (created ds .answer) ≡ refusal (creationTests ds)
+answer-number ds = at (refusal (creationTests ds))
+  where
+    at : (n : ℕ) → creationNumber (createdAt n ds .answer) ≡ n
+    at zero = refl
+    at (suc n) = refl
+
+-- A created record is lawful, so that no run turns it back with 20.
+pub created-lawful : (ds : List ℤ) → refusal (creationTests ds) ≡ 0 → Lawful (newRecord ds)
+unfolding has
+created-lawful ds h = made (accepted (creationTests ds) refl h)
+  where
+    n : ℕ
+    n = length ds
+
+    made : AllPassed (creationTests ds) → Lawful (newRecord ds)
+    made (a, (b, (c, _))) =
+        let count = count-is n .0 a in
+        let few : n ≤ TASKS = count .1 in
+        let past : (f : ℕ → ℕ) (k : ℕ) → n ≤ k → getD (filled f n noTasks) k 0 ≡ 0 = λ f k q. filled-past f n noTasks 0 k q ∙ getD-fresh 0 TASKS k in
+        record {
+          some = count .0;
+          few = few;
+          lasts = λ k q. leb-true 1 (getD (filled (durationAt ds) n noTasks) k 0) (all-at (lastsAt (filled (durationAt ds) n noTasks)) n (same-lasts ds few ∙ b) k q);
+          sum = subst (λ (s : ℕ). s ≤ DURATIONS) (sym (same-sum ds few)) (leb-true (total (durationAt ds) n) DURATIONS c);
+          first = own-order n few;
+          second = own-order n few;
+          unused = λ k q s. (past (durationAt ds) k q, (past (λ k. k) k q, past (λ k. k) k q));
+        }
+
+-- The sole ground for each number: all before it hold, and its own does not.
+module _ (ds : List ℤ) where
+  abbrev t1 : Test
+  t1 = test 1 (countFits (length ds))
+
+  abbrev t2 : Test
+  t2 = test 2 (allBelow (positiveAt ds) (length ds))
+
+  abbrev t5 : Test
+  t5 = test 5 (sumFits (durationAt ds) (length ds))
+
+  durations-are : allBelow (positiveAt ds) (length ds) ≡ true ↔ ((k : ℕ) → k < length ds → pos 1 ≤ℤ getD ds k (pos 0))
+  durations-are = (
+    λ h k q. leZ-true (pos 1) (getD ds k (pos 0)) (all-at (positiveAt ds) (length ds) h k q),
+    λ f. all-show (positiveAt ds) (length ds) (λ k q. le-leZ (pos 1) (getD ds k (pos 0)) (f k q)),
+  )
+
+  sum-is : sumFits (durationAt ds) (length ds) ≡ true ↔ (total (durationAt ds) (length ds) ≤ DURATIONS)
+  sum-is = (leb-true (total (durationAt ds) (length ds)) DURATIONS, le-leb (total (durationAt ds) (length ds)) DURATIONS)
+
+  pub refused-1 : refusal (creationTests ds) ≡ 1 ↔ ((1 ≤ length ds) × (length ds ≤ TASKS) → ⊥)
+  unfolding has
+  refused-1 = (
+    λ h. broken (count-is (length ds)) .0 (ground [] t1 (t2 ∷ t5 ∷ []) refl refl (λ z. omega arith) h .1),
+    λ f. refuses [] t1 (t2 ∷ t5 ∷ []) tt (broken (count-is (length ds)) .1 f),
+  )
+
+  pub refused-2 : refusal (creationTests ds) ≡ 2 ↔ (((1 ≤ length ds) × (length ds ≤ TASKS)) × (((k : ℕ) → k < length ds → pos 1 ≤ℤ getD ds k (pos 0)) → ⊥))
+  unfolding has
+  refused-2 = (
+    λ h. (let g = ground (t1 ∷ []) t2 (t5 ∷ []) refl refl (λ z. omega arith) h in (count-is (length ds) .0 (g .0 .0), broken durations-are .0 (g .1))),
+    λ f. refuses (t1 ∷ []) t2 (t5 ∷ []) (count-is (length ds) .1 (f .0), tt) (broken durations-are .1 (f .1)),
+  )
+
+  pub refused-5 : refusal (creationTests ds) ≡ 5 ↔ (((1 ≤ length ds) × (length ds ≤ TASKS)) × (((k : ℕ) → k < length ds → pos 1 ≤ℤ getD ds k (pos 0)) × (total (durationAt ds) (length ds) ≤ DURATIONS → ⊥)))
+  unfolding has
+  refused-5 = (
+    λ h. (let g = ground (t1 ∷ t2 ∷ []) t5 [] refl refl (λ z. omega arith) h in (count-is (length ds) .0 (g .0 .0), (durations-are .0 (g .0 .1 .0), broken sum-is .0 (g .1)))),
+    λ f. refuses (t1 ∷ t2 ∷ []) t5 [] (count-is (length ds) .1 (f .0), (durations-are .1 (f .1 .0), tt)) (broken sum-is .1 (f .1 .1)),
+  )

@@ -1,0 +1,7 @@
+pub mod Insertion
+pub mod Keys
+pub mod Sorted
+pub mod Lawful
+pub mod Creation
+pub mod Refused
+pub mod Reading

@@ -1,0 +1,121 @@
+-- What turns a run back: what holds where nothing does, and the sole ground for each number.
+-- Assumes nothing.
+use mathlib.Core.Path.{_≡_, refl}
+use mathlib.Core.Bool.{true, _&&_}
+use mathlib.Core.Logic.{_↔_}
+use mathlib.Core.List.{List, [], _∷_}
+use Prim.Native.Nat.{ℕ, _*_, _<_}
+use native.Mathlib.Omega.{arith}
+use lib.Dec.{leb, eqb}
+use lib.IntN.{ℤ, pos, negℤ}
+use lib.Signed.{leZ}
+use lib.ListN.{length, getD}
+use borrow.Author.Tests.{leb-true, le-leb, eqb-true, eq-eqb}
+use Rattle.integers.specs.Limits.{START}
+use Rattle.integers.specs.Orders.{has}
+use Rattle.integers.specs.Tests.{Test, test, allBelow, AllPassed}
+use Rattle.integers.proofs.Bools.{and-true, and-yes}
+use Rattle.integers.proofs.Ints.{leZ-true, le-leZ}
+use Rattle.integers.proofs.Tests.{all-at, all-show, accepts, accepted, ground, refuses, broken}
+use Rattle.records.specs.declared.record.Propagator.{Propagator}
+use Rattle.records.specs.Records.{lawfulRecord, Lawful}
+use Rattle.records.specs.Refusals.{startFits, startFitsAt, rangeFitsAt, runTests, runNumber, StartFits, CountsFit, StartsFit, RangesFit, WordsFit, Accepted}
+use Rattle.records.proofs.Lawful.{lawful-is}
+
+start-is : (z : ℤ) → startFits z ≡ true ↔ StartFits z
+start-is z = (
+  λ h. (let a = and-true (leZ (negℤ (pos START)) z) (leZ z (pos START)) h in record { low = leZ-true (negℤ (pos START)) z (a .0); high = leZ-true z (pos START) (a .1) }),
+  λ f. and-yes (leZ (negℤ (pos START)) z) (leZ z (pos START)) (le-leZ (negℤ (pos START)) z (f .low)) (le-leZ z (pos START) (f .high)),
+)
+
+starts-in : (xs : List ℤ) → allBelow (startFitsAt xs) (length xs) ≡ true ↔ ((k : ℕ) → k < length xs → StartFits (getD xs k (pos 0)))
+starts-in xs = (λ h k q. start-is (getD xs k (pos 0)) .0 (all-at (startFitsAt xs) (length xs) h k q), λ f. all-show (startFitsAt xs) (length xs) (λ k q. start-is (getD xs k (pos 0)) .1 (f k q)))
+
+module _ (n : ℕ) (es ls : List ℤ) where
+  counts-are : eqb (length es) n && eqb (length ls) n ≡ true ↔ CountsFit n es ls
+  counts-are = (
+    λ h. (let a = and-true (eqb (length es) n) (eqb (length ls) n) h in record { earliest = eqb-true (length es) n (a .0); latest = eqb-true (length ls) n (a .1) }),
+    λ f. and-yes (eqb (length es) n) (eqb (length ls) n) (eq-eqb (length es) n (f .earliest)) (eq-eqb (length ls) n (f .latest)),
+  )
+
+  starts-are : allBelow (startFitsAt es) (length es) && allBelow (startFitsAt ls) (length ls) ≡ true ↔ StartsFit es ls
+  starts-are = (
+    λ h. (let a = and-true (allBelow (startFitsAt es) (length es)) (allBelow (startFitsAt ls) (length ls)) h in record { earliest = starts-in es .0 (a .0); latest = starts-in ls .0 (a .1) }),
+    λ f. and-yes (allBelow (startFitsAt es) (length es)) (allBelow (startFitsAt ls) (length ls)) (starts-in es .1 (f .earliest)) (starts-in ls .1 (f .latest)),
+  )
+
+  ranges-are : allBelow (rangeFitsAt es ls) (length es) ≡ true ↔ RangesFit es ls
+  ranges-are = (
+    λ h k q. leZ-true (getD es k (pos 0)) (getD ls k (pos 0)) (all-at (rangeFitsAt es ls) (length es) h k q),
+    λ f. all-show (rangeFitsAt es ls) (length es) (λ k q. le-leZ (getD es k (pos 0)) (getD ls k (pos 0)) (f k q)),
+  )
+
+words-are : (n posts atoms : ℕ) → leb (4 * n) posts && leb (6 * (n * n)) atoms ≡ true ↔ WordsFit n posts atoms
+words-are n posts atoms = (
+  λ h. (let a = and-true (leb (4 * n) posts) (leb (6 * (n * n)) atoms) h in record { posts = leb-true (4 * n) posts (a .0); atoms = leb-true (6 * (n * n)) atoms (a .1) }),
+  λ f. and-yes (leb (4 * n) posts) (leb (6 * (n * n)) atoms) (le-leb (4 * n) posts (f .posts)) (le-leb (6 * (n * n)) atoms (f .atoms)),
+)
+
+module _ (r : Propagator) (es ls : List ℤ) (posts atoms : ℕ) where
+  -- the tests by their numbers
+  abbrev t20 : Test
+  t20 = test 20 (lawfulRecord r)
+
+  abbrev t10 : Test
+  t10 = test 10 (eqb (length es) (r .count) && eqb (length ls) (r .count))
+
+  abbrev t3 : Test
+  t3 = test 3 (allBelow (startFitsAt es) (length es) && allBelow (startFitsAt ls) (length ls))
+
+  abbrev t4 : Test
+  t4 = test 4 (allBelow (rangeFitsAt es ls) (length es))
+
+  abbrev t9 : Test
+  t9 = test 9 (leb (4 * r .count) posts && leb (6 * (r .count * r .count)) atoms)
+
+  -- nothing turns the run back
+  pub accepted-run : runNumber r es ls posts atoms ≡ 0 ↔ Accepted r es ls posts atoms
+  unfolding has
+  accepted-run = (λ h. facts (accepted (runTests r es ls posts atoms) refl h), λ f. accepts (runTests r es ls posts atoms) (tests f))
+    where
+      facts : AllPassed (runTests r es ls posts atoms) → Accepted r es ls posts atoms
+      facts (a, (b, (c, (d, (e, _))))) = record { lawful = lawful-is r .0 a; counts = counts-are (r .count) es ls .0 b; starts = starts-are (r .count) es ls .0 c; ranges = ranges-are (r .count) es ls .0 d; words = words-are (r .count) posts atoms .0 e }
+
+      tests : Accepted r es ls posts atoms → AllPassed (runTests r es ls posts atoms)
+      tests f = (lawful-is r .1 (f .lawful), (counts-are (r .count) es ls .1 (f .counts), (starts-are (r .count) es ls .1 (f .starts), (ranges-are (r .count) es ls .1 (f .ranges), (words-are (r .count) posts atoms .1 (f .words), tt)))))
+
+  -- The sole ground for each number: all before it hold, and its own does not.
+  pub refused-20 : runNumber r es ls posts atoms ≡ 20 ↔ (Lawful r → ⊥)
+  unfolding has
+  refused-20 = (
+    λ h. broken (lawful-is r) .0 (ground [] t20 (t10 ∷ t3 ∷ t4 ∷ t9 ∷ []) refl refl (λ z. omega arith) h .1),
+    λ f. refuses [] t20 (t10 ∷ t3 ∷ t4 ∷ t9 ∷ []) tt (broken (lawful-is r) .1 f),
+  )
+
+  pub refused-10 : runNumber r es ls posts atoms ≡ 10 ↔ (Lawful r × (CountsFit (r .count) es ls → ⊥))
+  unfolding has
+  refused-10 = (
+    λ h. (let g = ground (t20 ∷ []) t10 (t3 ∷ t4 ∷ t9 ∷ []) refl refl (λ z. omega arith) h in (lawful-is r .0 (g .0 .0), broken (counts-are (r .count) es ls) .0 (g .1))),
+    λ f. refuses (t20 ∷ []) t10 (t3 ∷ t4 ∷ t9 ∷ []) (lawful-is r .1 (f .0), tt) (broken (counts-are (r .count) es ls) .1 (f .1)),
+  )
+
+  pub refused-3 : runNumber r es ls posts atoms ≡ 3 ↔ (Lawful r × (CountsFit (r .count) es ls × (StartsFit es ls → ⊥)))
+  unfolding has
+  refused-3 = (
+    λ h. (let g = ground (t20 ∷ t10 ∷ []) t3 (t4 ∷ t9 ∷ []) refl refl (λ z. omega arith) h in (lawful-is r .0 (g .0 .0), (counts-are (r .count) es ls .0 (g .0 .1 .0), broken (starts-are (r .count) es ls) .0 (g .1)))),
+    λ f. refuses (t20 ∷ t10 ∷ []) t3 (t4 ∷ t9 ∷ []) (lawful-is r .1 (f .0), (counts-are (r .count) es ls .1 (f .1 .0), tt)) (broken (starts-are (r .count) es ls) .1 (f .1 .1)),
+  )
+
+  pub refused-4 : runNumber r es ls posts atoms ≡ 4 ↔ (Lawful r × (CountsFit (r .count) es ls × (StartsFit es ls × (RangesFit es ls → ⊥))))
+  unfolding has
+  refused-4 = (
+    λ h. (let g = ground (t20 ∷ t10 ∷ t3 ∷ []) t4 (t9 ∷ []) refl refl (λ z. omega arith) h in (lawful-is r .0 (g .0 .0), (counts-are (r .count) es ls .0 (g .0 .1 .0), (starts-are (r .count) es ls .0 (g .0 .1 .1 .0), broken (ranges-are (r .count) es ls) .0 (g .1))))),
+    λ f. refuses (t20 ∷ t10 ∷ t3 ∷ []) t4 (t9 ∷ []) (lawful-is r .1 (f .0), (counts-are (r .count) es ls .1 (f .1 .0), (starts-are (r .count) es ls .1 (f .1 .1 .0), tt))) (broken (ranges-are (r .count) es ls) .1 (f .1 .1 .1)),
+  )
+
+  pub refused-9 : runNumber r es ls posts atoms ≡ 9 ↔ (Lawful r × (CountsFit (r .count) es ls × (StartsFit es ls × (RangesFit es ls × (WordsFit (r .count) posts atoms → ⊥)))))
+  unfolding has
+  refused-9 = (
+    λ h. (let g = ground (t20 ∷ t10 ∷ t3 ∷ t4 ∷ []) t9 [] refl refl (λ z. omega arith) h in (lawful-is r .0 (g .0 .0), (counts-are (r .count) es ls .0 (g .0 .1 .0), (starts-are (r .count) es ls .0 (g .0 .1 .1 .0), (ranges-are (r .count) es ls .0 (g .0 .1 .1 .1 .0), broken (words-are (r .count) posts atoms) .0 (g .1)))))),
+    λ f. refuses (t20 ∷ t10 ∷ t3 ∷ t4 ∷ []) t9 [] (lawful-is r .1 (f .0), (counts-are (r .count) es ls .1 (f .1 .0), (starts-are (r .count) es ls .1 (f .1 .1 .0), (ranges-are (r .count) es ls .1 (f .1 .1 .1 .0), tt)))) (broken (words-are (r .count) posts atoms) .1 (f .1 .1 .1 .1)),
+  )

@@ -1,0 +1,56 @@
+use mathlib.Core.Path.{_≡_, sym, ap, _∙_}
+use mathlib.Core.List.{List}
+use lib.IntN.{ℤ}
+use borrow.Author.Needs.{needs}
+use Rattle.integers.specs.Tests.{refusal}
+use Rattle.records.specs.Records.{creationTests, creationNumber, newRecord, created, Lawful}
+use Rattle.records.specs.declared.record.Created.{Created}
+use Rattle.records.proofs.Creation.{created-new, created-not, created-lawful, answer-number}
+use Rattle.records.proofs.record.create.Statement.{statement}
+use Rattle.records.proofs.record.create.Tie as tie
+
+-- the number is 0, and the new record lawful
+none : (c : tie.Else1) → refusal (creationTests (c .before .before .args .durations .now)) ≡ 0
+none c = sym (c .before .creation-refusal .ensures) ∙ c .if1 .left
+
+made : (c : tie.Else1) → Lawful (newRecord (c .before .before .args .durations .now))
+made c = created-lawful (c .before .before .args .durations .now) (none c)
+
+-- what equals the definition has its number
+numbered : (ds : List ℤ) (r : Created) → r ≡ created ds → (r ≡ created ds) × (creationNumber (r .answer) ≡ refusal (creationTests ds))
+numbered ds r e = (e, ap (λ (x : Created). creationNumber (x .answer)) e ∙ answer-number ds)
+
+creation-refusal-requires : tie.Need-creation-refusal-requires
+creation-refusal-requires c κs = search needs
+
+zeros-requires : tie.Need-zeros-requires
+zeros-requires c κs = search needs
+
+returns : tie.Need-returns
+returns c =
+    let ds = c .before .before .before .args .durations .now in
+    let made = created-not ds (c .before .before .creation-refusal .result) (sym (c .before .before .creation-refusal .ensures)) (c .before .if1 .taken) in
+    numbered ds _ (cc (c .zeros .ensures, made))
+
+durations-of-requires : tie.Need-durations-of-requires
+durations-of-requires c κs = made c .few
+
+identity-requires : tie.Need-identity-requires
+identity-requires c κs = made (c .before) .few
+
+returns-2 : tie.Need-returns-2
+returns-2 c =
+    let ds = c .before .before .before .before .args .durations .now in
+    let new = created-new ds (none (c .before .before)) in
+    numbered ds _ (cc (c .before .durations-of .ensures, c .identity .ensures, new))
+
+pub create-spec : {M : Type 1} → statement M
+create-spec =
+    tie.close
+    (tie.spec
+    creation-refusal-requires
+    zeros-requires
+    returns
+    durations-of-requires
+    identity-requires
+    returns-2)

@@ -1,0 +1,74 @@
+use mathlib.Core.Path.{_≡_, sym, ap, _∙_}
+use mathlib.Core.Bool.{true}
+use mathlib.Core.List.{List, [], _∷_}
+use Prim.Native.Nat.{ℕ, _≤_}
+use lib.Dec.{leb}
+use lib.ListN.{length, getD}
+use borrow.Author.Tests.{not-true, not-false}
+use borrow.Author.Needs.{needs}
+use Rattle.integers.specs.Limits.{TASKS, DURATIONS}
+use Rattle.integers.specs.Tests.{test, allBelow}
+use Rattle.integers.proofs.Tests.{refuses, accepts}
+use Rattle.records.specs.Records.{countFits, sumFits, lastsAt, durationAt, positiveAt, creationTests}
+use Rattle.records.proofs.Lawful.{count-is}
+use Rattle.records.proofs.Creation.{same-lasts, same-sum}
+use Rattle.records.proofs.record.creation_refusal.Statement.{statement}
+use Rattle.records.proofs.record.creation_refusal.Tie as tie
+
+-- what each test showed
+counted : (c : tie.Else1) → countFits (length (c .before .before .args .durations .now)) ≡ true
+counted c = sym (c .before .count-fits .ensures) ∙ not-false _ (c .if1 .left)
+
+few : (c : tie.Else1) → length (c .before .before .args .durations .now) ≤ TASKS
+few c = count-is (length (c .before .before .args .durations .now)) .0 (counted c) .1
+
+-- the tests of the record's durations are those of the caller's
+lasts : (c : tie.After-all-last) → c .all-last .result ≡ allBelow (positiveAt (c .before .before .before .before .before .args .durations .now)) (length (c .before .before .before .before .before .args .durations .now))
+lasts c =
+    let ds = c .before .before .before .before .before .args .durations .now in
+    c .all-last .ensures ∙ ap (λ (l : List ℕ). allBelow (lastsAt l) (length ds)) (c .before .before .durations-of .ensures) ∙ same-lasts ds (few (c .before .before .before))
+
+lasting : (c : tie.Else2) → allBelow (positiveAt (c .before .before .before .before .before .before .args .durations .now)) (length (c .before .before .before .before .before .before .args .durations .now)) ≡ true
+lasting c = sym (lasts (c .before)) ∙ not-false _ (c .if2 .left)
+
+summed : (c : tie.After-sum-fits) → c .sum-fits .result ≡ sumFits (durationAt (c .before .before .before .before .before .before .before .before .args .durations .now)) (length (c .before .before .before .before .before .before .before .before .args .durations .now))
+summed c =
+    let ds = c .before .before .before .before .before .before .before .before .args .durations .now in
+    c .sum-fits .ensures ∙ ap (λ (l : List ℕ). sumFits (λ k. getD l k 0) (length ds)) (c .before .before .before .before .before .durations-of .ensures) ∙ ap (λ (s : ℕ). leb s DURATIONS) (same-sum ds (few (c .before .before .before .before .before .before)))
+
+count-fits-requires : tie.Need-count-fits-requires
+count-fits-requires c κs = search needs
+
+returns : tie.Need-returns
+returns c = sym (refuses [] (test 1 _) _ tt (sym (c .before .count-fits .ensures) ∙ not-true _ (c .if1 .taken)))
+
+durations-of-requires : tie.Need-durations-of-requires
+durations-of-requires c κs = few c
+
+all-last-requires : tie.Need-all-last-requires
+all-last-requires c κs = few (c .before .before)
+
+returns-2 : tie.Need-returns-2
+returns-2 c = sym (refuses (test 1 _ ∷ []) (test 2 _) _ (counted (c .before .before .before .before), tt) (sym (lasts (c .before)) ∙ not-true _ (c .if2 .taken)))
+
+sum-fits-requires : tie.Need-sum-fits-requires
+sum-fits-requires c κs = few (c .before .before .before .before .before)
+
+returns-3 : tie.Need-returns-3
+returns-3 c = sym (refuses (test 1 _ ∷ test 2 _ ∷ []) (test 5 _) [] (counted (c .before .before .before .before .before .before .before), (lasting (c .before .before .before), tt)) (sym (summed (c .before)) ∙ not-true _ (c .if3 .taken)))
+
+returns-4 : tie.Need-returns-4
+returns-4 c = sym (accepts (creationTests (c .before .before .before .before .before .before .before .before .before .args .durations .now)) (counted (c .before .before .before .before .before .before .before), (lasting (c .before .before .before), (sym (summed (c .before)) ∙ not-false _ (c .if3 .left), tt))))
+
+pub creation-refusal-spec : {M : Type 1} → statement M
+creation-refusal-spec =
+    tie.close
+    (tie.spec
+    count-fits-requires
+    returns
+    durations-of-requires
+    all-last-requires
+    returns-2
+    sum-fits-requires
+    returns-3
+    returns-4)

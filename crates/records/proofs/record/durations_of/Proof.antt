@@ -1,0 +1,76 @@
+use mathlib.Core.Path.{_≡_, sym, ap, _∙_}
+use Prim.Native.Nat.{ℕ, _-_, _≤_}
+use native.Mathlib.Omega.{arith}
+use lib.ListN.{length, getD}
+use lib.IntN.{pos}
+use borrow.Author.Needs.{needs}
+use mir.Syntax.{w32}
+use Rattle.integers.specs.Filling.{filled}
+use Rattle.integers.proofs.Filling.{filled-none, filled-store, filled-length}
+use Rattle.integers.proofs.Ints.{back-of}
+use Rattle.records.specs.Orders.{noTasks}
+use Rattle.records.specs.Records.{durationOf, durationAt}
+use Rattle.records.proofs.record.durations_of.Statement.{statement}
+use Rattle.records.proofs.record.durations_of.Tie as tie
+
+abbrev Inv-loop : tie.InvT-loop
+Inv-loop durations out₀ i₀ out i = (i ≤ length durations) × (out ≡ filled (durationAt durations) i noTasks)
+
+abbrev μ-loop : tie.MeasureT-loop
+μ-loop durations out₀ i₀ out i = length durations - i
+
+loop-holds : tie.Need-loop-holds Inv-loop μ-loop
+loop-holds c = (omega arith, sym (filled-none (durationAt (c .args .durations .now)) noTasks))
+
+mul-duration-of : tie.Need-mul-duration-of Inv-loop μ-loop
+mul-duration-of c = search needs
+
+shared-slice-copy-out-duration-of : tie.Need-shared-slice-copy-out-duration-of Inv-loop μ-loop
+shared-slice-copy-out-duration-of c = search needs
+
+duration-of-requires : tie.Need-duration-of-requires Inv-loop μ-loop
+duration-of-requires c κs = search needs
+
+mul-out : tie.Need-mul-out Inv-loop μ-loop
+mul-out c = search needs
+
+array-write-out : tie.Need-array-write-out Inv-loop μ-loop
+array-write-out c =
+    let loop = c .before .before .before .loop in
+    omega (arith, ap length (loop .inv .1), filled-length (durationAt (c .before .before .before .before .args .durations .now)) (loop .i) noTasks)
+
+add-i : tie.Need-add-i Inv-loop μ-loop
+add-i c = search needs
+
+loop-less : tie.Need-loop-less Inv-loop μ-loop
+loop-less c = search needs
+
+loop-again : tie.Need-loop-again Inv-loop μ-loop
+loop-again c =
+    let start = c .before .before .before .before in
+    let loop = c .before .before .before .loop in
+    let x = getD (start .args .durations .now) (loop .i) (pos 0) in
+    (omega arith, filled-store (durationAt (start .args .durations .now)) noTasks (loop .out) (loop .i) (c .duration-of .result) (loop .inv .1) (c .duration-of .ensures ∙ ap durationOf (back-of w32 x (c .before .duration-of-arg .given))))
+
+returns : tie.Need-returns Inv-loop μ-loop
+returns c =
+    let ds = c .before .before .args .durations .now in
+    let e : c .before .loop .i ≡ length ds = omega arith in
+    c .before .loop .inv .1 ∙ ap (λ (j : ℕ). filled (durationAt ds) j noTasks) e
+
+pub durations-of-spec : {M : Type 1} → statement M
+durations-of-spec =
+    tie.close
+    (tie.spec
+    Inv-loop
+    μ-loop
+    loop-holds
+    mul-duration-of
+    shared-slice-copy-out-duration-of
+    duration-of-requires
+    mul-out
+    array-write-out
+    add-i
+    loop-less
+    loop-again
+    returns)

@@ -1,0 +1,114 @@
+-- The definitions at small inputs.
+-- Assumes nothing.
+use mathlib.Core.Path.{_≡_, refl}
+use mathlib.Core.Bool.{Bool}
+use mathlib.Core.List.{List, [], _∷_}
+use Prim.Native.Nat.{ℕ}
+use lib.IntN.{ℤ, pos, negsuc}
+use lib.ListN.{replicate}
+use Rattle.integers.specs.Filling.{filled}
+use Rattle.integers.specs.Orders.{insert, sort, has, isPermutation}
+use Rattle.integers.specs.Tests.{allBelow, refusal}
+use Rattle.scheduling.specs.Scheduling.{total}
+use Rattle.records.specs.declared.record.Propagator.{Propagator}
+use Rattle.records.specs.Orders.{byKey, byKeyDown, sortedOrder}
+use Rattle.records.specs.Records.{unusedAt, lawfulRecord, creationTests, newRecord, zeroRecord}
+use Rattle.records.specs.Refusals.{runNumber}
+use Rattle.records.specs.Posts.{postNumber, reasonWords}
+
+-- Creation: 48 tasks pass and 49 do not; each number is tried over the whole input before the next.
+tasks-48 : refusal (creationTests (replicate 48 (pos 1))) ≡ 0
+unfolding refusal allBelow total
+tasks-48 = refl
+
+tasks-49 : refusal (creationTests (replicate 49 (pos 0))) ≡ 1
+unfolding refusal allBelow total
+tasks-49 = refl
+
+tasks-none : refusal (creationTests []) ≡ 1
+unfolding refusal allBelow total
+tasks-none = refl
+
+duration-zero : refusal (creationTests (pos 200000001 ∷ pos 0 ∷ [])) ≡ 2
+unfolding refusal allBelow total
+duration-zero = refl
+
+sum-fits : refusal (creationTests (pos 199999999 ∷ pos 1 ∷ [])) ≡ 0
+unfolding refusal allBelow total
+sum-fits = refl
+
+sum-above : refusal (creationTests (pos 199999999 ∷ pos 2 ∷ [])) ≡ 5
+unfolding refusal allBelow total
+sum-above = refl
+
+-- A run: a record of zeros is turned back before the count of the starts is looked at.
+two : Propagator
+two = newRecord (pos 4 ∷ pos 5 ∷ [])
+
+record-first : runNumber zeroRecord (pos 0 ∷ []) [] 0 0 ≡ 20
+unfolding refusal lawfulRecord allBelow
+record-first = refl
+
+counts-next : runNumber two (pos 300000000 ∷ pos 0 ∷ []) (pos 0 ∷ []) 0 0 ≡ 10
+unfolding two refusal lawfulRecord isPermutation allBelow unusedAt has filled total
+counts-next = refl
+
+starts-next : runNumber two (pos 1 ∷ pos 0 ∷ []) (pos 0 ∷ pos 200000001 ∷ []) 0 0 ≡ 3
+unfolding two refusal lawfulRecord isPermutation allBelow unusedAt has filled total
+starts-next = refl
+
+ranges-next : runNumber two (pos 1 ∷ pos 0 ∷ []) (pos 0 ∷ pos 200000000 ∷ []) 0 0 ≡ 4
+unfolding two refusal lawfulRecord isPermutation allBelow unusedAt has filled total
+ranges-next = refl
+
+words-last : runNumber two (negsuc 4 ∷ pos 0 ∷ []) (pos 0 ∷ pos 200000000 ∷ []) 8 23 ≡ 9
+unfolding two refusal lawfulRecord isPermutation allBelow unusedAt has filled total
+words-last = refl
+
+accepted : runNumber two (negsuc 4 ∷ pos 0 ∷ []) (pos 0 ∷ pos 200000000 ∷ []) 8 24 ≡ 0
+unfolding two refusal lawfulRecord isPermutation allBelow unusedAt has filled total
+accepted = refl
+
+-- Sorts by a key: tied tasks stay as they stood, whichever comes first.
+keys : List ℕ
+keys = 7 ∷ 9 ∷ 7 ∷ 5 ∷ []
+
+least-first : sortedOrder (byKey keys) 4 (2 ∷ 1 ∷ 0 ∷ 3 ∷ 0 ∷ []) ≡ 3 ∷ 2 ∷ 0 ∷ 1 ∷ 0 ∷ []
+unfolding keys sort insert
+least-first = refl
+
+greatest-first : sortedOrder (byKeyDown keys) 4 (2 ∷ 1 ∷ 0 ∷ 3 ∷ 0 ∷ []) ≡ 1 ∷ 2 ∷ 0 ∷ 3 ∷ 0 ∷ []
+unfolding keys sort insert
+greatest-first = refl
+
+-- The post reader: two posts, of one atom and of two.
+posts : List ℤ
+posts = pos 2 ∷ pos 9 ∷ pos 0 ∷ pos 1 ∷ pos 0 ∷ pos 6 ∷ pos 1 ∷ pos 2 ∷ []
+
+atoms : List ℤ
+atoms = pos 0 ∷ pos 0 ∷ pos 0 ∷ pos 1 ∷ pos 0 ∷ pos 1 ∷ pos 1 ∷ pos 1 ∷ pos 2 ∷ []
+
+first-reason : reasonWords posts atoms 2 0 ≡ pos 0 ∷ pos 0 ∷ pos 0 ∷ []
+unfolding posts atoms refusal reasonWords
+first-reason = refl
+
+second-reason : reasonWords posts atoms 2 1 ≡ pos 1 ∷ pos 0 ∷ pos 1 ∷ pos 1 ∷ pos 1 ∷ pos 2 ∷ []
+unfolding posts atoms refusal reasonWords
+second-reason = refl
+
+past-the-count : postNumber posts atoms 1 1 ≡ 11
+unfolding posts atoms refusal
+past-the-count = refl
+
+past-the-atoms : postNumber posts (pos 0 ∷ pos 0 ∷ pos 0 ∷ pos 1 ∷ pos 0 ∷ pos 1 ∷ pos 1 ∷ pos 1 ∷ []) 2 1 ≡ 11
+unfolding posts refusal
+past-the-atoms = refl
+
+negative-count : postNumber (pos 2 ∷ pos 9 ∷ pos 1 ∷ negsuc 0 ∷ []) atoms 1 0 ≡ 11
+unfolding atoms refusal
+negative-count = refl
+
+-- no atoms inside the slice are no refusal
+empty-stretch : postNumber (pos 2 ∷ pos 9 ∷ pos 3 ∷ pos 0 ∷ []) atoms 1 0 ≡ 0
+unfolding atoms refusal
+empty-stretch = refl

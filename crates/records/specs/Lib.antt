@@ -1,0 +1,5 @@
+pub mod Orders
+pub mod Records
+pub mod Refusals
+pub mod Posts
+pub mod Examples

@@ -1,0 +1,109 @@
+-- The propagator's record: which are lawful, and what creation gives.
+use mathlib.Core.Path.{_≡_}
+use mathlib.Core.Bool.{Bool, _&&_, _||_}
+use mathlib.Core.List.{List, [], _∷_}
+use Prim.Native.Nat.{ℕ, zero, suc, _≤_, _<_}
+use lib.Dec.{leb, ltb, eqb}
+use lib.IntN.{ℤ, pos, negsuc}
+use lib.Signed.{leZ}
+use lib.ListN.{length, getD, take}
+use Rattle.integers.specs.Limits.{TASKS, DURATIONS}
+use Rattle.integers.specs.Filling.{filled}
+use Rattle.integers.specs.Tests.{Test, test, refusal, allBelow}
+use Rattle.integers.specs.Orders.{Permutes, isPermutation}
+use Rattle.scheduling.specs.Scheduling.{total}
+use Rattle.records.specs.Orders.{noTasks}
+use Rattle.records.specs.declared.record.Propagator.{Propagator}
+use Rattle.records.specs.declared.record.Created.{Created}
+use Rattle.records.specs.declared.record.Creation.{Creation}
+use Rattle.records.specs.declared.record.Creation.the-variants.{Accepted, Refused}
+
+-- the number of tasks is from 1 to TASKS
+abbrev pub countFits : ℕ → Bool
+countFits n = leb 1 n && leb n TASKS
+
+-- the durations of tasks 0 to n − 1 sum to at most DURATIONS
+abbrev pub sumFits : (ℕ → ℕ) → ℕ → Bool
+sumFits duration n = leb (total duration n) DURATIONS
+
+-- Lawful records ---------------------------------------------------------------------------------------------------------------
+
+-- the duration of a record's task k is 1 or more
+abbrev pub lastsAt : List ℕ → ℕ → Bool
+lastsAt durations k = leb 1 (getD durations k 0)
+
+-- place k is a task's, or the three arrays hold 0 there
+unfoldable pub unusedAt : List ℕ → List ℕ → List ℕ → ℕ → ℕ → Bool
+unusedAt durations first second n k = ltb k n || (eqb (getD durations k 0) 0 && (eqb (getD first k 0) 0 && eqb (getD second k 0) 0))
+
+-- the three arrays hold 0 in each place from n on
+abbrev pub unusedZero : List ℕ → List ℕ → List ℕ → ℕ → Bool
+unusedZero durations first second n = allBelow (unusedAt durations first second n) TASKS
+
+-- the tests of a record, which are one number to a run
+unfoldable pub lawfulRecord : Propagator → Bool
+lawfulRecord r =
+    countFits (r .count)
+    && (allBelow (lastsAt (r .durations)) (r .count)
+    && (sumFits (λ k. getD (r .durations) k 0) (r .count)
+    && (isPermutation (r .count) (take (r .count) (r .first))
+    && (isPermutation (r .count) (take (r .count) (r .second))
+    && unusedZero (r .durations) (r .first) (r .second) (r .count)))))
+
+-- The same as facts.
+pub record Lawful (r : Propagator) : Type 0 where
+  pub some : 1 ≤ r .count
+  pub few : r .count ≤ TASKS
+  pub lasts : (k : ℕ) → k < r .count → 1 ≤ getD (r .durations) k 0
+  pub sum : total (λ k. getD (r .durations) k 0) (r .count) ≤ DURATIONS
+  pub first : Permutes (r .count) (take (r .count) (r .first))
+  pub second : Permutes (r .count) (take (r .count) (r .second))
+  pub unused : (k : ℕ) → r .count ≤ k → k < TASKS → (getD (r .durations) k 0 ≡ 0) × ((getD (r .first) k 0 ≡ 0) × (getD (r .second) k 0 ≡ 0))
+
+-- Creation ---------------------------------------------------------------------------------------------------------------------
+
+-- a duration as a natural number; 0 where it is negative, which 2 turns back
+abbrev pub durationOf : ℤ → ℕ
+durationOf (pos n) = n
+durationOf (negsuc n) = 0
+
+-- that of task k
+abbrev pub durationAt : List ℤ → ℕ → ℕ
+durationAt ds k = durationOf (getD ds k (pos 0))
+
+-- task k's duration is 1 or more
+abbrev pub positiveAt : List ℤ → ℕ → Bool
+positiveAt ds k = leZ (pos 1) (getD ds k (pos 0))
+
+-- 1: no tasks, or more than TASKS; 2: a duration below 1; 5: a sum above DURATIONS
+abbrev pub creationTests : List ℤ → List Test
+creationTests ds =
+    test 1 (countFits (length ds))
+    ∷ test 2 (allBelow (positiveAt ds) (length ds))
+    ∷ test 5 (sumFits (durationAt ds) (length ds))
+    ∷ []
+
+-- the number that an answer stands for; 0 where the record is made
+abbrev pub creationNumber : Creation → ℕ
+creationNumber Accepted = 0
+creationNumber (Refused number) = number
+
+-- a new record: the durations, and both orders 0 to n − 1
+abbrev pub newRecord : List ℤ → Propagator
+newRecord ds = record {
+  count = length ds;
+  durations = filled (durationAt ds) (length ds) noTasks;
+  first = filled (λ k. k) (length ds) noTasks;
+  second = filled (λ k. k) (length ds) noTasks;
+}
+
+abbrev pub zeroRecord : Propagator
+zeroRecord = record { count = 0; durations = noTasks; first = noTasks; second = noTasks }
+
+-- the new record, or the record of zeros with the number
+abbrev pub createdAt : ℕ → List ℤ → Created
+createdAt zero ds = record { «record» = newRecord ds; answer = Accepted }
+createdAt (suc n) ds = record { «record» = zeroRecord; answer = Refused (suc n) }
+
+abbrev pub created : List ℤ → Created
+created ds = createdAt (refusal (creationTests ds)) ds

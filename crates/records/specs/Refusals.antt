@@ -1,0 +1,67 @@
+-- What turns a run back: the tests in their order, and what an accepted run may take for given.
+use mathlib.Core.Path.{_≡_}
+use mathlib.Core.Bool.{Bool, _&&_}
+use mathlib.Core.List.{List, [], _∷_}
+use Prim.Native.Nat.{ℕ, _*_, _≤_, _<_}
+use lib.Dec.{leb, eqb}
+use lib.IntN.{ℤ, pos, negℤ}
+use lib.Signed.{leZ, _≤ℤ_}
+use lib.ListN.{length, getD}
+use Rattle.integers.specs.Limits.{START}
+use Rattle.integers.specs.Tests.{Test, test, allBelow, refusal}
+use Rattle.records.specs.declared.record.Propagator.{Propagator}
+use Rattle.records.specs.Records.{lawfulRecord, Lawful}
+
+-- a start is from −START to START
+abbrev pub startFits : ℤ → Bool
+startFits z = leZ (negℤ (pos START)) z && leZ z (pos START)
+
+-- task k's start is
+abbrev pub startFitsAt : List ℤ → ℕ → Bool
+startFitsAt xs k = startFits (getD xs k (pos 0))
+
+-- task k's earliest start is not above its latest
+abbrev pub rangeFitsAt : List ℤ → List ℤ → ℕ → Bool
+rangeFitsAt es ls k = leZ (getD es k (pos 0)) (getD ls k (pos 0))
+
+-- 20: a record that is not lawful; 10: a count of starts that differs from n; 3: a start out of the limits; 4: earliest above latest;
+-- 9: post words below 4n or atom words below 6n²
+abbrev pub runTests : Propagator → List ℤ → List ℤ → ℕ → ℕ → List Test
+runTests r es ls postWords atomWords =
+    test 20 (lawfulRecord r)
+    ∷ test 10 (eqb (length es) (r .count) && eqb (length ls) (r .count))
+    ∷ test 3 (allBelow (startFitsAt es) (length es) && allBelow (startFitsAt ls) (length ls))
+    ∷ test 4 (allBelow (rangeFitsAt es ls) (length es))
+    ∷ test 9 (leb (4 * r .count) postWords && leb (6 * (r .count * r .count)) atomWords)
+    ∷ []
+
+abbrev pub runNumber : Propagator → List ℤ → List ℤ → ℕ → ℕ → ℕ
+runNumber r es ls postWords atomWords = refusal (runTests r es ls postWords atomWords)
+
+-- The same tests as facts, one record for each number.
+pub record StartFits (z : ℤ) : Type 0 where
+  pub low : negℤ (pos START) ≤ℤ z
+  pub high : z ≤ℤ pos START
+
+pub record CountsFit (n : ℕ) (es ls : List ℤ) : Type 0 where
+  pub earliest : length es ≡ n
+  pub latest : length ls ≡ n
+
+pub record StartsFit (es ls : List ℤ) : Type 0 where
+  pub earliest : (k : ℕ) → k < length es → StartFits (getD es k (pos 0))
+  pub latest : (k : ℕ) → k < length ls → StartFits (getD ls k (pos 0))
+
+abbrev pub RangesFit : List ℤ → List ℤ → Type 0
+RangesFit es ls = (k : ℕ) → k < length es → getD es k (pos 0) ≤ℤ getD ls k (pos 0)
+
+pub record WordsFit (n postWords atomWords : ℕ) : Type 0 where
+  pub posts : 4 * n ≤ postWords
+  pub atoms : 6 * (n * n) ≤ atomWords
+
+-- What holds of an accepted run.
+pub record Accepted (r : Propagator) (es ls : List ℤ) (postWords atomWords : ℕ) : Type 0 where
+  pub lawful : Lawful r
+  pub counts : CountsFit (r .count) es ls
+  pub starts : StartsFit es ls
+  pub ranges : RangesFit es ls
+  pub words : WordsFit (r .count) postWords atomWords

@@ -1,0 +1,4 @@
+pub mod orders;
+pub mod posts;
+pub mod record;
+pub mod refusals;

@@ -1,0 +1,234 @@
+// The propagator's record: the task count, the durations and the two orders. Creation, and the test whether a record is lawful.
+use integers::limits::DURATIONS;
+use integers::limits::TASKS;
+ghost use mathlib.Core.Path.{_≡_};
+ghost use Prim.Native.Nat.{_≤_, _<_};
+ghost use lib.ListN.{length, getD, take};
+ghost use Rattle.integers.specs.Limits.{TASKS};
+ghost use Rattle.integers.specs.Filling.{filled};
+ghost use Rattle.integers.specs.Tests.{allBelow, refusal};
+ghost use Rattle.integers.specs.Orders.{isPermutation};
+ghost use Rattle.scheduling.specs.Scheduling.{total};
+ghost use Rattle.records.specs.Orders.{noTasks};
+ghost use Rattle.records.specs.Records.{countFits, sumFits, lastsAt, unusedZero, lawfulRecord, durationOf, durationAt, creationTests, creationNumber, zeroRecord, created};
+
+// Places from the count on are 0.
+pub struct Propagator {
+    pub count: usize,
+    pub durations: [u32; 48],
+    pub first: [usize; 48],
+    pub second: [usize; 48],
+}
+
+pub enum Creation {
+    Accepted,
+    Refused(u32),
+}
+
+pub struct Created {
+    pub record: Propagator,
+    pub answer: Creation,
+}
+
+// Whether a number of tasks is from 1 to TASKS.
+fn count_fits(n: usize) -> bool
+    ensures { λ r. ⌜ r ≡ countFits n ⌝ }
+{
+    if n < 1 {
+        return false;
+    }
+    n <= TASKS
+}
+
+// A duration in 64 bits.
+fn wide(x: u32) -> u64
+    ensures { λ r. ⌜ (r ≡ x) × (r < 4294967296) ⌝ }
+{
+    x as u64
+}
+
+// The sum of the first n durations, in 64 bits.
+pub fn total_of(durations: &[u32; 48], n: usize) -> u64
+    requires { ⌜ n ≤ TASKS ⌝ }
+    ensures { λ r. ⌜ r ≡ total (λ k. getD (now (durations .entry)) k 0) n ⌝ }
+{
+    let mut sum: u64 = 0;
+    let mut i = 0;
+    while i < n {
+        sum += wide(durations[i]);
+        i += 1;
+    }
+    sum
+}
+
+// Whether that sum is within the limit.
+fn sum_fits(durations: &[u32; 48], n: usize) -> bool
+    requires { ⌜ n ≤ TASKS ⌝ }
+    ensures { λ r. ⌜ r ≡ sumFits (λ k. getD (now (durations .entry)) k 0) n ⌝ }
+{
+    total_of(durations, n) <= DURATIONS as u64
+}
+
+// Whether each of the first n durations is 1 or more.
+fn all_last(durations: &[u32; 48], n: usize) -> bool
+    requires { ⌜ n ≤ TASKS ⌝ }
+    ensures { λ r. ⌜ r ≡ allBelow (lastsAt (now (durations .entry))) n ⌝ }
+{
+    let mut i = 0;
+    while i < n {
+        if durations[i] < 1 {
+            return false;
+        }
+        i += 1;
+    }
+    true
+}
+
+// A duration of a caller's as a natural number; 0 where it is negative.
+fn duration_of(x: i32) -> u32
+    ensures { λ r. ⌜ r ≡ durationOf x ⌝ }
+{
+    if !integers::at_most(0, x) {
+        return 0;
+    }
+    integers::nat_of(x)
+}
+
+// The durations of a record from a caller's.
+fn durations_of(durations: &[i32]) -> [u32; 48]
+    requires { ⌜ length (now durations) ≤ TASKS ⌝ }
+    ensures { λ r. ⌜ r ≡ filled (durationAt (now (durations .entry))) (length (now (durations .entry))) noTasks ⌝ }
+{
+    let mut out = [0u32; 48];
+    let mut i = 0;
+    while i < durations.len() {
+        out[i] = duration_of(durations[i]);
+        i += 1;
+    }
+    out
+}
+
+// The number that turns creation back, or 0.
+fn creation_refusal(durations: &[i32]) -> u32
+    ensures { λ r. ⌜ r ≡ refusal (creationTests (now (durations .entry))) ⌝ }
+{
+    let n = durations.len();
+    if !count_fits(n) {
+        return 1;
+    }
+    let lengths = durations_of(durations);
+    if !all_last(&lengths, n) {
+        return 2;
+    }
+    if !sum_fits(&lengths, n) {
+        return 5;
+    }
+    0
+}
+
+// The record of zeros.
+fn zeros() -> Propagator
+    ensures { λ r. ⌜ r ≡ zeroRecord ⌝ }
+{
+    Propagator {
+        count: 0,
+        durations: [0u32; 48],
+        first: [0usize; 48],
+        second: [0usize; 48],
+    }
+}
+
+// A record of the durations, with both orders 0 to n - 1; or the record of zeros, with the number that turned them back.
+pub fn create(durations: &[i32]) -> Created
+    ensures { λ r. ⌜ (r ≡ created (now (durations .entry))) × (creationNumber (r .answer) ≡ refusal (creationTests (now (durations .entry)))) ⌝ }
+{
+    let number = creation_refusal(durations);
+    if number != 0 {
+        return Created {
+            record: zeros(),
+            answer: Creation::Refused(number),
+        };
+    }
+    let n = durations.len();
+    let lengths = durations_of(durations);
+    let order = super::orders::identity(n);
+    Created {
+        record: Propagator {
+            count: n,
+            durations: lengths,
+            first: order,
+            second: order,
+        },
+        answer: Creation::Accepted,
+    }
+}
+
+// Whether the first n places hold each number below n once.
+fn permutation(order: &[usize; 48], n: usize) -> bool
+    requires { ⌜ (n ≤ TASKS) × (length (now order) ≡ TASKS) ⌝ }
+    ensures { λ r. ⌜ r ≡ isPermutation n (take n (now (order .entry))) ⌝ }
+{
+    let mut seen = [false; 48];
+    let mut i = 0;
+    while i < n {
+        let k = order[i];
+        if k >= n {
+            return false;
+        }
+        if seen[k] {
+            return false;
+        }
+        seen[k] = true;
+        i += 1;
+    }
+    true
+}
+
+// Whether the places from n on are 0.
+fn unused_zero<'a>(
+    durations: &'a [u32; 48],
+    first: &'a [usize; 48],
+    second: &'a [usize; 48],
+    n: usize,
+) -> bool
+    requires { ⌜ n ≤ TASKS ⌝ }
+    ensures { λ r. ⌜ r ≡ unusedZero (now (durations .entry)) (now (first .entry)) (now (second .entry)) n ⌝ }
+{
+    let mut i = n;
+    while i < TASKS {
+        if durations[i] != 0 {
+            return false;
+        }
+        if first[i] != 0 {
+            return false;
+        }
+        if second[i] != 0 {
+            return false;
+        }
+        i += 1;
+    }
+    true
+}
+
+// Whether a record is one that creation and runs leave: what number 20 tests.
+pub fn lawful(record: Propagator) -> bool
+    ensures { λ r. ⌜ r ≡ lawfulRecord «record» ⌝ }
+{
+    let n = record.count;
+    if !count_fits(n) {
+        return false;
+    }
+    if !all_last(&record.durations, n) {
+        return false;
+    }
+    if !sum_fits(&record.durations, n) {
+        return false;
+    }
+    if !permutation(&record.first, n) {
+        return false;
+    }
+    if !permutation(&record.second, n) {
+        return false;
+    }
+    unused_zero(&record.durations, &record.first, &record.second, n)
+}

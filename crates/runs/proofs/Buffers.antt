@@ -1,0 +1,69 @@
+-- A lent slice that is written from the front: one post or one reason more.
+use mathlib.Core.Path.{_≡_, refl, sym, ap, subst, _∙_}
+use mathlib.Core.List.{List, [], _∷_, _++_, append-assoc, append-nil}
+use Prim.Native.Nat.{ℕ, zero, suc, _+_, _*_, _≤_, _<_}
+use native.Mathlib.Omega.{arith}
+use native.Mathlib.Nat.{zero-add, add-zero, add-suc, suc-add}
+use lib.IntN.{ℤ, pos}
+use lib.ListN.{length, drop, take, set, length-append}
+use lib.Seq.{sets, sets-eq, length-sets}
+use Rattle.scheduling.specs.Scheduling.{Atom}
+use Rattle.runs.specs.Traces.{Post}
+use Rattle.runs.specs.Words.{atomWords, postWords, reasons}
+use Rattle.integers.specs.Words.{overwritten}
+
+pub sets-append : (vs us l : List ℤ) (i : ℕ) → sets l i (vs ++ us) ≡ sets (sets l i vs) (i + length vs) us
+sets-append [] us l i = ap (λ (k : ℕ). sets l k us) (sym (add-zero i))
+sets-append (v ∷ vs) us l i = let z : suc i + length vs ≡ i + suc (length vs) = omega arith in sets-append vs us (set l i v) (suc i) ∙ ap (λ (k : ℕ). sets (sets (set l i v) (suc i) vs) k us) z
+
+-- stores from the front, and `overwritten`
+pub overwrites : (entry ws : List ℤ) → length ws ≤ length entry → sets entry 0 ws ≡ overwritten entry ws
+overwrites entry ws h = sets-eq ws entry 0 (omega arith) ∙ ap (λ (k : ℕ). ws ++ drop k entry) (zero-add (length ws))
+
+pub atoms-append : (xs ys : List Atom) → atomWords (xs ++ ys) ≡ atomWords xs ++ atomWords ys
+unfolding atomWords
+atoms-append [] ys = refl
+atoms-append (x ∷ xs) ys = ap (λ (l : List ℤ). pos (x .variable) ∷ pos (x .kind) ∷ x .value ∷ l) (atoms-append xs ys)
+
+pub atoms-length : (xs : List Atom) → length (atomWords xs) ≡ 3 * length xs
+unfolding atomWords
+atoms-length [] = refl
+atoms-length (x ∷ xs) = omega (arith, atoms-length xs)
+
+pub reasons-more : (ps : List Post) (p : Post) → reasons (ps ++ (p ∷ [])) ≡ reasons ps ++ p .reason
+unfolding reasons
+reasons-more [] p = append-nil (p .reason)
+reasons-more (q ∷ ps) p = ap (λ (l : List Atom). q .reason ++ l) (reasons-more ps p) ∙ sym (append-assoc (q .reason) (reasons ps) (p .reason))
+
+abbrev pub fourOf : ℕ → Post → List ℤ
+fourOf from p = pos (p .task) ∷ p .bound ∷ pos from ∷ pos (length (p .reason)) ∷ []
+
+pub posts-more : (ps : List Post) (p : Post) (from : ℕ) → postWords from (ps ++ (p ∷ [])) ≡ postWords from ps ++ fourOf (from + length (reasons ps)) p
+unfolding postWords reasons
+posts-more [] p from = ap (λ (k : ℕ). fourOf k p) (sym (add-zero from))
+posts-more (q ∷ ps) p from =
+    let z : from + length (q .reason) + length (reasons ps) ≡ from + length (q .reason ++ reasons ps) = omega (arith, length-append (q .reason) (reasons ps)) in
+    ap (λ (l : List ℤ). pos (q .task) ∷ q .bound ∷ pos from ∷ pos (length (q .reason)) ∷ l) (posts-more ps p (from + length (q .reason)) ∙ ap (λ (k : ℕ). postWords (from + length (q .reason)) ps ++ fourOf k p) z)
+
+pub posts-length : (ps : List Post) (from : ℕ) → length (postWords from ps) ≡ 4 * length ps
+unfolding postWords
+posts-length [] from = refl
+posts-length (q ∷ ps) from = omega (arith, posts-length ps (from + length (q .reason)))
+
+-- One post more in the slice of posts: what `write_post` stores at its count,
+pub post-stored : (entry : List ℤ) (ps : List Post) (p : Post) → sets (sets entry 0 (postWords 0 ps)) (4 * length ps) (fourOf (length (reasons ps)) p) ≡ sets entry 0 (postWords 0 (ps ++ (p ∷ [])))
+post-stored entry ps p =
+    let z : 0 + length (postWords 0 ps) ≡ 4 * length ps = omega (arith, posts-length ps 0) in
+    let y : 0 + length (reasons ps) ≡ length (reasons ps) = omega arith in
+    sym (ap (sets entry 0) (posts-more ps p 0) ∙ sets-append (postWords 0 ps) (fourOf (0 + length (reasons ps)) p) entry 0
+    ∙ ap (λ (k : ℕ). sets (sets entry 0 (postWords 0 ps)) k (fourOf (0 + length (reasons ps)) p)) z ∙ ap (λ (k : ℕ). sets (sets entry 0 (postWords 0 ps)) (4 * length ps) (fourOf k p)) y)
+
+-- and one reason more in the slice of atoms: first where atoms xs stand from the k-th on,
+pub atoms-stored : (l : List ℤ) (k m : ℕ) (xs ys : List Atom) → m ≡ k + length xs → sets (sets l (3 * k) (atomWords xs)) (3 * m) (atomWords ys) ≡ sets l (3 * k) (atomWords (xs ++ ys))
+atoms-stored l k m xs ys e =
+    let z : 3 * k + length (atomWords xs) ≡ 3 * m = omega (arith, atoms-length xs) in
+    sym (ap (sets l (3 * k)) (atoms-append xs ys) ∙ sets-append (atomWords xs) (atomWords ys) l (3 * k) ∙ ap (λ (i : ℕ). sets (sets l (3 * k) (atomWords xs)) i (atomWords ys)) z)
+
+-- then from the front on
+pub reason-stored : (entry : List ℤ) (xs ys : List Atom) → sets (sets entry 0 (atomWords xs)) (3 * length xs) (atomWords ys) ≡ sets entry 0 (atomWords (xs ++ ys))
+reason-stored entry xs ys = atoms-stored entry 0 (length xs) xs ys (omega arith)

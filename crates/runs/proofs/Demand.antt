@@ -1,0 +1,115 @@
+-- A run is correct: what its trace leaves is what demand 3 says, for every accepted input and any carried orders.
+-- Assumes nothing.
+use mathlib.Core.Path.{_≡_, refl, sym, ap, subst, _∙_}
+use mathlib.Core.Bool.{Bool, true, false}
+use mathlib.Core.Logic.{_⊎_, inl, inr, _↔_}
+use mathlib.Core.List.{List, [], _∷_}
+use Prim.Native.Nat.{ℕ, zero, suc, _+_, _-_, _≤_, _<_}
+use native.Mathlib.Omega.{arith}
+use lib.IntN.{ℤ, pos, negsuc}
+use lib.Signed.{_≤ℤ_, _<ℤ_, clashℤ}
+use lib.ListN.{length, getD}
+use lib.Dec.{leb}
+use borrow.Author.Tests.{leb-true}
+use Rattle.integers.specs.Moments.{moment, Above, zeroAt}
+use Rattle.integers.specs.Orders.{sort, index, Permutes}
+use Rattle.integers.proofs.Ints.{up, dn, ints}
+use Rattle.integers.proofs.Moments.{mono, above-up, above-show}
+use Rattle.integers.proofs.Permutations.{Ordered}
+use Rattle.integers.proofs.Sorting.{sort-ordered, key-whole, key-chain}
+use Rattle.scheduling.specs.Scheduling.{whole, natural, Tasks, tasksOf, Proper, TaskSet, total, In, processing, completion, EdgeFindingBound, Overloads, Schedule, Done, Conflict}
+use Rattle.scheduling.proofs.Scan.{ByEarliest}
+use Rattle.scheduling.proofs.Levels.{ByCompletion}
+use Rattle.scheduling.proofs.Transfer.{moments, sound, done←, conflict←}
+use Rattle.scheduling.proofs.Schedules.{conflict-sound}
+use Rattle.runs.specs.Traces.{Post, End, done, overload, emptied, Trace}
+use Rattle.runs.specs.Runs.{run, propagate, byEarliest, byCompletion}
+use Rattle.runs.specs.Demand.{Right, PostRight, OverloadRight, post}
+use Rattle.runs.proofs.Steps.{OutOk, run-ok}
+use Rattle.runs.proofs.Good.{all-right}
+
+-- What no number turns back: between 1 and 48 tasks, durations of 1 or more with a sum of at most 200,000,000, starts within ±200,000,000, each earliest at most its latest, two permutations.
+pub record Accepted (ds : List ℕ) (es ls : List ℤ) (first second : List ℕ) : Type 0 where
+  pub some : 1 ≤ length ds
+  pub few : length ds ≤ 48
+  pub lasts : (k : ℕ) → k < length ds → 1 ≤ getD ds k 0
+  pub sum : total (λ k. getD ds k 0) (length ds) ≤ 200000000
+  pub from : (k : ℕ) → k < length ds → negsuc 199999999 ≤ℤ getD es k (pos 0)
+  pub to : (k : ℕ) → k < length ds → getD ls k (pos 0) ≤ℤ pos 200000000
+  pub ranges : (k : ℕ) → k < length ds → getD es k (pos 0) ≤ℤ getD ls k (pos 0)
+  pub first-permutes : Permutes (length ds) first
+  pub second-permutes : Permutes (length ds) second
+
+weaker : (a b : ℤ) → a <ℤ b → a ≤ℤ b
+weaker a b h = omega ints
+
+is-done : (e : End) → (e ≡ done) ⊎ (e ≡ done → ⊥)
+is-done done = inl refl
+is-done (overload r) = inr (λ z. let y : _≡_ {A = ℕ} 0 1 = cc in omega arith)
+is-done emptied = inr (λ z. let y : _≡_ {A = ℕ} 0 1 = cc in omega arith)
+
+-- of any clock's zero that is deep enough
+module _ (o : ℕ) (Z : Tasks whole) (okz : Proper Z) (deepz : (k : ℕ) → k < Z .count → Above o (Z .earliest k)) (one : 1 ≤ Z .count)
+    (room : (k : ℕ) → k < Z .count → processing (moments o Z) (λ _. true) ≤ moment o (Z .earliest k)) (first second : List ℕ)
+    (rk : ByEarliest (moments o Z) (λ j. getD first j 0) (λ k. index first k)) (ord : ByCompletion (moments o Z) (λ t. getD second t 0) (λ k. index second k)) where
+  abbrev tr : Trace
+  tr = run o (moments o Z) first second
+
+  out : OutOk o (moments o Z) (sound o Z okz deepz) first second rk ord (PostRight Z) (OverloadRight Z) (all-right o Z okz deepz first second rk ord room) tr
+  out = run-ok o (moments o Z) (sound o Z okz deepz) first second rk ord (PostRight Z) (OverloadRight Z) (all-right o Z okz deepz first second rk ord room) one
+
+  bound-above : (j : ℕ) → j < length (tr .posts) → Above o (post tr j .bound)
+  bound-above j q = let p : PostRight Z (post tr j) = out .goods j q in
+      above-up o (Z .earliest (post tr j .task)) (post tr j .bound) (weaker (Z .earliest (post tr j .task)) (post tr j .bound) (p .raises)) (deepz (post tr j .task) (p .small))
+
+  finished : tr .end ≡ done → Done Z (λ k. getD (tr .starts) k (pos 0)) (length (tr .posts)) (λ j. post tr j .task) (λ j. post tr j .bound)
+  finished z = done← o Z okz deepz (λ k. getD (tr .starts) k (pos 0)) (length (tr .posts)) (λ j. post tr j .task) (λ j. post tr j .bound) (λ k q. out .above k) bound-above (out .when-done z)
+
+  not-wrong : tr .end ≡ done → Conflict Z → ⊥
+  not-wrong z (inl (Ω, v)) = finished z .no-overload Ω v
+  not-wrong z (inr (i, b, r, q)) = clashℤ q (finished z .no-passing i b r)
+
+  wrong : (tr .end ≡ done → ⊥) → Conflict Z
+  wrong h = conflict← o Z okz deepz (out .otherwise h)
+
+  pub run-right : Right Z tr
+  run-right = record {
+      exactly = (not-wrong, λ n. elim (is-done (tr .end)) [ inl z ↦ z | inr z ↦ absurd (n (wrong z)) ]);
+      when-done = finished;
+      otherwise = λ h s sch. conflict-sound Z okz (wrong h) s sch;
+      posts = out .goods;
+      overloads = out .over }
+
+-- the two orders of a run, sorted
+pub by-earliest : (J : Tasks natural) (l : List ℕ) → Permutes (J .count) l → ByEarliest J (λ j. getD (sort (byEarliest J) l) j 0) (λ k. index (sort (byEarliest J) l) k)
+by-earliest J l p =
+    let r : Ordered (J .count) (λ j. getD (sort (byEarliest J) l) j 0) (λ k. index (sort (byEarliest J) l) k) (λ j k. byEarliest J j k ≡ true)
+          = sort-ordered (byEarliest J) (key-whole (J .earliest)) (key-chain (J .earliest)) (J .count) l p in
+    record { task = r .task; placed = r .placed; there = r .there; back = r .back; sorted = λ s t q h. leb-true _ _ (r .sorted s t q h) }
+
+pub by-completion : (J : Tasks natural) (l : List ℕ) → Permutes (J .count) l → ByCompletion J (λ j. getD (sort (byCompletion J) l) j 0) (λ k. index (sort (byCompletion J) l) k)
+by-completion J l p =
+    let r : Ordered (J .count) (λ j. getD (sort (byCompletion J) l) j 0) (λ k. index (sort (byCompletion J) l) k) (λ j k. byCompletion J j k ≡ true)
+          = sort-ordered (byCompletion J) (λ a b. key-whole (completion J) b a) (λ a b c h k. key-chain (completion J) c b a k h) (J .count) l p in
+    record { task = r .task; placed = r .placed; there = r .there; back = r .back; sorted = λ s t q h. leb-true _ _ (r .sorted s t q h) }
+
+pub demand-3 : (ds : List ℕ) (es ls : List ℤ) (first second : List ℕ) → Accepted ds es ls first second → Right (tasksOf ds es ls) (propagate ds es ls first second)
+unfolding propagate processing up dn
+demand-3 ds es ls first second a =
+    run-right zeroAt Z okz deepz (a .some) room (sort (byEarliest J) first) (sort (byCompletion J) second) (by-earliest J first (a .first-permutes)) (by-completion J second (a .second-permutes))
+  where
+    Z : Tasks whole
+    Z = tasksOf ds es ls
+    J : Tasks natural
+    J = moments zeroAt (tasksOf ds es ls)
+    okz : Proper (tasksOf ds es ls)
+    okz = record { ranges = a .ranges; lasts = a .lasts }
+    deep : Above zeroAt (negsuc 199999999)
+    deep = above-show zeroAt (negsuc 199999999) (omega arith)
+    deepz : (k : ℕ) → k < length ds → Above zeroAt (getD es k (pos 0))
+    deepz k q = above-up zeroAt (negsuc 199999999) (getD es k (pos 0)) (a .from k q) deep
+    room : (k : ℕ) → k < length ds → processing (moments zeroAt (tasksOf ds es ls)) (λ _. true) ≤ moment zeroAt (getD es k (pos 0))
+    room k q = omega (arith, all-of ds es ls, a .sum, mono zeroAt (negsuc 199999999) (getD es k (pos 0)) (a .from k q))
+      where
+        all-of : (ds : List ℕ) (es ls : List ℤ) → processing (moments zeroAt (tasksOf ds es ls)) (λ _. true) ≡ total (λ k. getD ds k 0) (length ds)
+        all-of ds es ls = refl

@@ -1,0 +1,142 @@
+-- The inner loop's clauses, and that it needs no more turns than there are gray leaves.
+use mathlib.Core.Path.{_≡_, refl, sym, ap, subst, _∙_}
+use mathlib.Core.Bool.{Bool, true, false, _&&_, not}
+use mathlib.Core.Logic.{_⊎_, inl, inr}
+use mathlib.Core.List.{List, [], _∷_, _++_}
+use mathlib.Core.Option.{Option, some, none}
+use Prim.Native.Nat.{ℕ, zero, suc, _+_, _-_, _≤_, _<_}
+use native.Mathlib.Omega.{arith}
+use native.Mathlib.Decide.{ℕ-discrete}
+use lib.Dec.{ltb, eqb}
+use lib.ListN.{length, getD, set, length-set, replicate}
+use lib.Seq.{getD-set-same, getD-set-other}
+use borrow.Author.Tests.{ne-eqb, eq-eqb}
+use Rattle.scheduling.specs.Scheduling.{natural, Tasks, Proper, TaskSet, In}
+use Rattle.integers.proofs.Bools.{bool}
+use Rattle.scheduling.proofs.Sets.{_less_}
+use Rattle.scheduling.proofs.Scan.{ByEarliest}
+use Rattle.scheduling.proofs.Cards.{card, card-less, card-zero, card-same}
+use Rattle.integers.specs.Orders.{index}
+use Rattle.trees.specs.Leaves.{Leaf, empty, white, sum, theta, inTheta, inLambda, whiteAt, grayAt, ect, ect-bar, responsible}
+use Rattle.runs.specs.Traces.{done, overload, emptied}
+use Rattle.runs.specs.Runs.{State, Turn, on, stop, inner, outer, run, ended, grayed, tabulate, conflict, posted, raised, dropped, lct}
+use Rattle.trees.proofs.Roots as tree
+
+module _ (o : ℕ) (J : Tasks natural) (first second : List ℕ) (f t : ℕ) (st : State) where
+  abbrev T : ℕ → ℕ
+  T x = getD first x 0
+  abbrev b : ℕ
+  b = ect J first (st .leaves)
+  abbrev Over : Bool → Type 0
+  Over v = ltb (lct o J first second t) (ect-bar J first (st .leaves)) ≡ v
+
+  pub inner-end : inner o J first second 0 t st ≡ on st
+  unfolding inner
+  inner-end = refl
+
+  pub inner-off : Over false → inner o J first second (suc f) t st ≡ on st
+  unfolding inner
+  inner-off z = rw (z, inner)
+
+  pub inner-none : Over true → responsible J first (st .leaves) ≡ none → inner o J first second (suc f) t st ≡ on st
+  unfolding inner
+  inner-none z w = rw (z, w, inner)
+
+  module _ (x : ℕ) (z : Over true) (w : responsible J first (st .leaves) ≡ some x) where
+    pub inner-pass : ltb (J .earliest (T x)) b ≡ false → inner o J first second (suc f) t st ≡ inner o J first second f t (dropped st x)
+    unfolding inner
+    inner-pass y = rw (z, w, y, inner) refl
+
+    pub inner-stop : ltb (J .earliest (T x)) b ≡ true → ltb (J .latest (T x)) b ≡ true → inner o J first second (suc f) t st ≡ stop (posted o J first second st (T x) b t)
+    unfolding inner
+    inner-stop y a = rw (z, w, y, a, inner)
+
+    pub inner-raise : ltb (J .earliest (T x)) b ≡ true → ltb (J .latest (T x)) b ≡ false → inner o J first second (suc f) t st ≡ inner o J first second f t (dropped (raised (posted o J first second st (T x) b t) (T x) b) x)
+    unfolding inner
+    inner-raise y a = rw (z, w, y, a, inner) refl
+
+module _ (o : ℕ) (J : Tasks natural) (ok : Proper J) (first second : List ℕ) (rk : ByEarliest J (λ j. getD first j 0) (λ k. index first k)) where
+  -- the gray tasks of the leaves
+  abbrev pub lam : List Leaf → TaskSet
+  lam ls k = grayAt ls (index first k)
+
+  shape : (ls : List Leaf) → length ls ≡ J .count → tree.Represents J ok first rk ls (λ k. whiteAt ls (index first k)) (lam ls)
+  shape ls q = record { size = q; whites = λ k h. refl; grays = λ k h. refl }
+
+  fewer : (ls : List Leaf) (q : length ls ≡ J .count) (f x : ℕ) → tree.Found J ok first rk ls (λ k. whiteAt ls (index first k)) (lam ls) (shape ls q) x → card J (lam ls) ≤ suc f → card J (lam (set ls x empty)) ≤ f
+  fewer ls q f x g h = omega (arith, card-less J (lam ls) i (g .gray), card-same J (lam ls less i) (lam (set ls x empty)) same)
+    where
+      i : ℕ
+      i = getD first x 0
+      at-x : index first (getD first x 0) ≡ x
+      at-x = rk .back x (g .small)
+      same : (k : ℕ) → k < J .count → (lam ls less getD first x 0) k ≡ lam (set ls x empty) k
+      same k r = elim (ℕ-discrete k (getD first x 0))
+        [ yes z ↦ subst (λ (k : ℕ). (lam ls less getD first x 0) k ≡ lam (set ls x empty) k) (sym z)
+            (rw (eq-eqb (getD first x 0) (getD first x 0) refl) (sym (ap (λ (j : ℕ). grayAt (set ls x empty) j) at-x ∙ ap inLambda (getD-set-same ls x empty empty (omega (arith, q, g .small))))))
+        | no z ↦ rw (ne-eqb k (getD first x 0) z) (sym (ap inLambda (getD-set-other ls x (index first k) empty empty (λ y. z (sym (rk .there k r) ∙ ap (λ (j : ℕ). getD first j 0) y))))) ]
+
+  opt : (u : Option ℕ) → (u ≡ none) ⊎ ((x : ℕ) × (u ≡ some x))
+  opt none = inl refl
+  opt (some x) = inr (x, refl)
+
+  abbrev I : ℕ → ℕ → State → Turn
+  I f t st = inner o J first second f t st
+
+  inner-zero : (t : ℕ) (st : State) → I 0 t st ≡ on st
+  unfolding inner
+  inner-zero t st = refl
+
+  -- one turn more changes nothing
+  pub inner-more : (f t : ℕ) (st : State) → length (st .leaves) ≡ J .count → card J (lam (st .leaves)) ≤ f → I (suc f) t st ≡ I f t st
+  inner-more zero t st q few = by (bool (ltb (lct o J first second t) (ect-bar J first (st .leaves)))) (opt (responsible J first (st .leaves)))
+    where
+      by : (ltb (lct o J first second t) (ect-bar J first (st .leaves)) ≡ true) ⊎ (ltb (lct o J first second t) (ect-bar J first (st .leaves)) ≡ false)
+          → (responsible J first (st .leaves) ≡ none) ⊎ ((x : ℕ) × (responsible J first (st .leaves) ≡ some x)) → I 1 t st ≡ I 0 t st
+      by (inr z) w = inner-off o J first second 0 t st z ∙ sym (inner-zero t st)
+      by (inl z) (inl w) = inner-none o J first second 0 t st z w ∙ sym (inner-zero t st)
+      by (inl z) (inr w) = let g = tree.one-found J ok first rk (st .leaves) (λ k. whiteAt (st .leaves) (index first k)) (lam (st .leaves)) (shape (st .leaves) q) (w .0) (w .1) in
+          absurd (card-zero J (lam (st .leaves)) few (getD first (w .0) 0) (g .gray))
+  inner-more (suc f) t st q few = by (λ st′. inner-more f t st′) (bool (ltb (lct o J first second t) (ect-bar J first (st .leaves)))) (opt (responsible J first (st .leaves)))
+    where
+      IH : Type 0
+      IH = (st′ : State) → length (st′ .leaves) ≡ J .count → card J (lam (st′ .leaves)) ≤ f → I (suc f) t st′ ≡ I f t st′
+      took : IH → (x : ℕ) → ltb (lct o J first second t) (ect-bar J first (st .leaves)) ≡ true → responsible J first (st .leaves) ≡ some x → card J (lam (set (st .leaves) x empty)) ≤ f → I (suc (suc f)) t st ≡ I (suc f) t st
+      took ih x z w down = elim (bool (ltb (J .earliest (getD first x 0)) (ect J first (st .leaves))))
+        [ inr y ↦ inner-pass o J first second (suc f) t st x z w y ∙ ih (dropped st x) (length-set (st .leaves) x empty ∙ q) down ∙ sym (inner-pass o J first second f t st x z w y)
+        | inl y ↦ elim (bool (ltb (J .latest (getD first x 0)) (ect J first (st .leaves))))
+          [ inl a ↦ inner-stop o J first second (suc f) t st x z w y a ∙ sym (inner-stop o J first second f t st x z w y a)
+          | inr a ↦ inner-raise o J first second (suc f) t st x z w y a
+              ∙ ih (dropped (raised (posted o J first second st (getD first x 0) (ect J first (st .leaves)) t) (getD first x 0) (ect J first (st .leaves))) x) (length-set (st .leaves) x empty ∙ q) down
+              ∙ sym (inner-raise o J first second f t st x z w y a) ] ]
+      by : IH → (ltb (lct o J first second t) (ect-bar J first (st .leaves)) ≡ true) ⊎ (ltb (lct o J first second t) (ect-bar J first (st .leaves)) ≡ false)
+          → (responsible J first (st .leaves) ≡ none) ⊎ ((x : ℕ) × (responsible J first (st .leaves) ≡ some x)) → I (suc (suc f)) t st ≡ I (suc f) t st
+      by ih (inr z) w = inner-off o J first second (suc f) t st z ∙ sym (inner-off o J first second f t st z)
+      by ih (inl z) (inl w) = inner-none o J first second (suc f) t st z w ∙ sym (inner-none o J first second f t st z w)
+      by ih (inl z) (inr w) = took ih (w .0) z (w .1)
+          (fewer (st .leaves) q f (w .0) (tree.one-found J ok first rk (st .leaves) (λ k. whiteAt (st .leaves) (index first k)) (lam (st .leaves)) (shape (st .leaves) q) (w .0) (w .1)) few)
+
+-- the outer loop's clauses
+module _ (o : ℕ) (J : Tasks natural) (first second : List ℕ) where
+  pub run-is : run o J first second ≡ outer o J first second (J .count - 1) 0 (record { leaves = replicate (J .count) white; starts = tabulate (J .earliest) 0 (J .count); posts = [] })
+  unfolding run
+  run-is = refl
+
+  module _ (f t : ℕ) (st : State) where
+    pub outer-end : outer o J first second 0 t st ≡ ended o J first second st done
+    unfolding outer
+    outer-end = refl
+
+    pub outer-over : ltb (lct o J first second t) (ect J first (st .leaves)) ≡ true
+        → outer o J first second (suc f) t st ≡ ended o J first second st (overload (conflict o J (lct o J first second t) (sum J first (st .leaves)) (theta J first (st .leaves))))
+    unfolding outer
+    outer-over z = rw (z, outer)
+
+    module _ (st′ : State) (z : ltb (lct o J first second t) (ect J first (st .leaves)) ≡ false) where
+      pub outer-on : inner o J first second (J .count) (suc t) (grayed st (index first (getD second t 0))) ≡ on st′ → outer o J first second (suc f) t st ≡ outer o J first second f (suc t) st′
+      unfolding outer
+      outer-on y = rw (z, y, outer) refl
+
+      pub outer-stop : inner o J first second (J .count) (suc t) (grayed st (index first (getD second t 0))) ≡ stop st′ → outer o J first second (suc f) t st ≡ ended o J first second st′ emptied
+      unfolding outer
+      outer-stop y = rw (z, y, outer)

@@ -1,0 +1,10 @@
+pub mod Steps
+pub mod Buffers
+pub mod Readers
+pub mod Fuel
+pub mod Walks
+pub mod Good
+pub mod Demand
+pub mod Lengths
+pub mod Room
+pub mod Stops

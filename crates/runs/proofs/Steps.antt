@@ -1,0 +1,337 @@
+-- The run, step by step: what stands at each level, for posts and reasons that are good by any measure.
+use mathlib.Core.Path.{_≡_, refl, sym, ap, subst, _∙_}
+use mathlib.Core.Bool.{Bool, true, false, cond, _||_, _&&_, not}
+use mathlib.Core.Logic.{_⊎_, inl, inr}
+use mathlib.Core.List.{List, [], _∷_, _++_, map}
+use mathlib.Core.Option.{Option, some, none}
+use Prim.Native.Nat.{ℕ, zero, suc, _+_, _-_, _≤_, _<_, max}
+use native.Mathlib.Omega.{arith}
+use native.Mathlib.Decide.{decLe, decLt, ℕ-discrete}
+use lib.Dec.{eqb, leb, ltb}
+use lib.IntN.{ℤ, pos, negsuc, subℕ}
+use lib.ListN.{length, getD, set, replicate, length-set, length-append, length-replicate, getD-replicate, List·getD-append}
+use lib.Seq.{getD-set-same, getD-set-other, getD-append-seam}
+use borrow.Author.Tests.{ne-eqb, eq-eqb, leb-true, le-leb, lt-leb, ltb-true, ltb-false}
+use Rattle.scheduling.specs.Scheduling.{whole, natural, Tasks, Proper, TaskSet, total, _with_, In, Outside, NonEmpty, completion, EstPlusP, Ect, EdgeFindingBound, Done, Conflict}
+use Rattle.integers.proofs.Bools.{bool, clash, below-suc}
+use Rattle.scheduling.proofs.Sets.{total-ext, _less_, with-in, with-new, with-old}
+use Rattle.scheduling.proofs.Scan.{ByEarliest, scan, scan-is}
+use Rattle.scheduling.proofs.Levels.{ByCompletion, Posts, Facts, no-posts, start, next, leave, facts-same, last-fits, edge, finish, overloaded}
+use Rattle.scheduling.proofs.Levels.{more}
+use Rattle.scheduling.proofs.Cards.{card, bit, card-less, card-zero, card-same, card-most}
+use Rattle.integers.specs.Moments.{moment, Above, instant}
+use Rattle.integers.proofs.Moments.{moment-instant, instant-above, zero-above}
+use Rattle.scheduling.proofs.Transfer.{moments, sound}
+use Rattle.integers.specs.Orders.{index}
+use Rattle.scheduling.specs.Scheduling.{Atom}
+use Rattle.runs.specs.Traces.{Post, End, done, overload, emptied, Trace}
+use Rattle.trees.specs.Leaves.{Leaf, empty, white, gray, inTheta, inLambda, whiteAt, grayAt, theta}
+use Rattle.runs.specs.Runs.{State, Turn, on, stop, inner, outer, run, tabulate, conflict, propagation}
+use Rattle.runs.specs.Runs as edges
+use Rattle.trees.specs.Leaves as leaves
+use Rattle.trees.proofs.Roots as tree
+use Rattle.runs.specs.Demand.{no-post}
+
+-- lists
+pub length-snoc : {A : Type 0} (xs : List A) (x : A) → length (xs ++ (x ∷ [])) ≡ suc (length xs)
+length-snoc xs x = omega (arith, length-append xs (x ∷ []))
+
+pub getD-map-in : {A B : Type 0} (f : A → B) (l : List A) (k : ℕ) (a : A) (b : B) → k < length l → getD (map f l) k b ≡ f (getD l k a)
+getD-map-in f [] k a b q = absurd (omega arith)
+getD-map-in f (x ∷ xs) zero a b q = refl
+getD-map-in f (x ∷ xs) (suc k) a b q = getD-map-in f xs k a b (omega arith)
+
+pub map-above : (o : ℕ) (l : List ℕ) (k : ℕ) → Above o (getD (map (λ (m : ℕ). subℕ m o) l) k (pos 0))
+map-above o [] k = zero-above o
+map-above o (x ∷ xs) zero = instant-above o x
+map-above o (x ∷ xs) (suc k) = map-above o xs k
+
+leb-step : (t x : ℕ) → (x ≡ t → ⊥) → leb t x ≡ leb (suc t) x
+leb-step t x ne = elim (decLt x t) [ yes q ↦ lt-leb t x q ∙ sym (lt-leb (suc t) x (omega arith)) | no q ↦ le-leb t x (omega arith) ∙ sym (le-leb (suc t) x (omega arith)) ]
+
+-- Done looks at the starts below the count
+pub done-same : (J : Tasks natural) (now now′ : ℕ → ℕ) (m : ℕ) (task bound : ℕ → ℕ) → ((k : ℕ) → k < J .count → now′ k ≡ now k) → Done J now m task bound → Done J now′ m task bound
+done-same J now now′ m task bound z d = record { no-overload = d .no-overload; no-passing = d .no-passing; starts = λ i q. rw (z i q) (d .starts i q); small = d .small; raises = d .raises;
+    at-largest = d .at-largest; every = λ k q r. d .every k q (rw (z k q) at r); once = d .once }
+
+module _ (o : ℕ) (J : Tasks natural) (ok : Proper J) (first second : List ℕ) (rk : ByEarliest J (λ j. getD first j 0) (λ k. index first k)) (ord : ByCompletion J (λ t. getD second t 0) (λ k. index second k)) where
+  abbrev pub T : ℕ → ℕ
+  T j = getD first j 0
+  abbrev pub rank : ℕ → ℕ
+  rank k = index first k
+  abbrev pub L : ℕ → ℕ
+  L t = getD second t 0
+  abbrev pub place : ℕ → ℕ
+  place k = index second k
+  abbrev pub n : ℕ
+  n = J .count
+  abbrev pub E : TaskSet → ℕ
+  E Ω = scan J T rank Ω n
+  pub E-is : (Ω : TaskSet) → NonEmpty J Ω → Ect J Ω (E Ω)
+  E-is Ω = scan-is J T rank ok rk Ω
+  abbrev pub Th : ℕ → TaskSet
+  Th t k = leb t (place k)
+  abbrev pub En : ℕ → ℕ
+  En t = completion J (L t)
+  abbrev pub Fa : ℕ → TaskSet → (ℕ → ℕ) → Type 0
+  Fa = Facts J ok E E-is L place ord
+  abbrev pub Shape : List Leaf → TaskSet → TaskSet → Type 0
+  Shape = tree.Represents J ok first rk
+  abbrev pub Found : (ls : List Leaf) (Ω Λ : TaskSet) → Shape ls Ω Λ → ℕ → Type 0
+  Found = tree.Found J ok first rk
+  abbrev pub ectOf : List Leaf → ℕ
+  ectOf = leaves.ect J first
+  abbrev pub barOf : List Leaf → ℕ
+  barOf = leaves.ect-bar J first
+
+  -- what a post and an overload's reason are to be
+  pub record Measure (Good : Post → Type 0) (GoodEnd : List Atom → Type 0) : Type 0 where
+    pub of-post : (t : ℕ) (ls : List Leaf) (Λ : TaskSet) (s : Shape ls (Th t) Λ) (x : ℕ) → t < n → Found ls (Th t) Λ s x → place (T x) < t → En t < barOf ls → J .earliest (T x) < ectOf ls
+        → Good (record { task = T x; bound = subℕ (ectOf ls) o; reason = propagation o J (T x) (ectOf ls) (En t) (leaves.sum J first ls) (theta J first ls) })
+    pub of-end : (t : ℕ) (ls : List Leaf) (Λ : TaskSet) (s : Shape ls (Th t) Λ) → t < n → En t < ectOf ls → GoodEnd (conflict o J (En t) (leaves.sum J first ls) (theta J first ls))
+
+  module _ (Good : Post → Type 0) (GoodEnd : List Atom → Type 0) (meas : Measure Good GoodEnd) where
+    abbrev pub lam : State → TaskSet
+    lam st k = grayAt (st .leaves) (rank k)
+    abbrev pub now : State → ℕ → ℕ
+    now st k = getD (st .starts) k 0
+    abbrev pub taskOf : List Post → ℕ → ℕ
+    taskOf ps j = getD ps j no-post .task
+    abbrev pub boundOf : List Post → ℕ → ℕ
+    boundOf ps j = moment o (getD ps j no-post .bound)
+    abbrev pub AllGood : List Post → Type 0
+    AllGood ps = (j : ℕ) → j < length ps → Good (getD ps j no-post)
+
+    -- what holds inside a level t
+    pub record Inv (t : ℕ) (st : State) : Type 0 where
+      pub size : length (st .leaves) ≡ n
+      pub whites : (k : ℕ) → k < n → whiteAt (st .leaves) (rank k) ≡ Th t k
+      pub known : length (st .starts) ≡ n
+      pub facts : Fa t (lam st) (now st)
+      pub posted : Posts J (now st) (length (st .posts)) (taskOf (st .posts)) (boundOf (st .posts))
+      pub good : AllGood (st .posts)
+
+    pub shape : (t : ℕ) (st : State) → Inv t st → Shape (st .leaves) (Th t) (lam st)
+    shape t st v = record { size = v .size; whites = v .whites; grays = λ k q. refl }
+
+    -- one post more
+    module _ (ps : List Post) (p : Post) where
+      old : (j : ℕ) → j < length ps → getD (ps ++ (p ∷ [])) j no-post ≡ getD ps j no-post
+      old j q = List·getD-append ps (p ∷ []) no-post j q
+      new : getD (ps ++ (p ∷ [])) (length ps) no-post ≡ p
+      new = getD-append-seam ps p [] no-post
+
+      all-good : AllGood ps → Good p → AllGood (ps ++ (p ∷ []))
+      all-good g h j q = below-suc (λ j. Good (getD (ps ++ (p ∷ [])) j no-post)) (length ps) (λ j r. subst Good (sym (old j r)) (g j r)) (subst Good (sym new) h) j (omega (arith, length-snoc ps p))
+
+    -- the leaf of i is changed
+    module _ (ls : List Leaf) (i : ℕ) (c : Leaf) (size : length ls ≡ n) (small : i < n) where
+      here : getD (set ls (rank i) c) (rank i) empty ≡ c
+      here = getD-set-same ls (rank i) c empty (omega (arith, rk .placed i small))
+      there : (k : ℕ) → k < n → (k ≡ i → ⊥) → getD (set ls (rank i) c) (rank k) empty ≡ getD ls (rank k) empty
+      there k q ne = getD-set-other ls (rank i) (rank k) c empty (λ z. ne (sym (rk .there k q) ∙ ap T z ∙ rk .there i small))
+
+    -- i leaves Λ
+    module _ (t : ℕ) (ls : List Leaf) (i : ℕ) (size : length ls ≡ n) (small : i < n) (late : place i < t) where
+      drop-whites : ((k : ℕ) → k < n → whiteAt ls (rank k) ≡ Th t k) → (k : ℕ) → k < n → whiteAt (set ls (rank i) empty) (rank k) ≡ Th t k
+      drop-whites w k q = elim (ℕ-discrete k i)
+        [ yes z ↦ rw z (ap inTheta (here ls i empty size small) ∙ sym (lt-leb t (place i) late))
+        | no z ↦ ap inTheta (there ls i empty size small k q z) ∙ w k q ]
+
+      drop-grays : (k : ℕ) → k < n → ((λ (k : ℕ). grayAt ls (rank k)) less i) k ≡ grayAt (set ls (rank i) empty) (rank k)
+      drop-grays k q = elim (ℕ-discrete k i)
+        [ yes z ↦ rw (z, eq-eqb i i refl) (sym (ap inLambda (here ls i empty size small)))
+        | no z ↦ rw (ne-eqb k i z) (sym (ap inLambda (there ls i empty size small k q z))) ]
+
+    -- L t goes from Θ to Λ
+    module _ (t : ℕ) (ls : List Leaf) (size : length ls ≡ n) (small : t < n) where
+      gray-whites : ((k : ℕ) → k < n → whiteAt ls (rank k) ≡ Th t k) → (k : ℕ) → k < n → whiteAt (set ls (rank (L t)) gray) (rank k) ≡ Th (suc t) k
+      gray-whites w k q = elim (ℕ-discrete k (L t))
+        [ yes z ↦ rw z (ap inTheta (here ls (L t) gray size (ord .task t small)) ∙ sym (lt-leb (suc t) (place (L t)) (omega (arith, ord .back t small))))
+        | no z ↦ ap inTheta (there ls (L t) gray size (ord .task t small) k q z) ∙ w k q ∙ leb-step t (place k) (λ y. z (sym (ord .there k q) ∙ ap L y)) ]
+
+      gray-grays : (k : ℕ) → k < n → ((λ (k : ℕ). grayAt ls (rank k)) with L t) k ≡ grayAt (set ls (rank (L t)) gray) (rank k)
+      gray-grays k q = elim (ℕ-discrete k (L t))
+        [ yes z ↦ rw (z, eq-eqb (L t) (L t) refl) (sym (ap inLambda (here ls (L t) gray size (ord .task t small))))
+        | no z ↦ rw (ne-eqb k (L t) z) (sym (ap inLambda (there ls (L t) gray size (ord .task t small) k q z))) ]
+
+    -- and at its end: no task of Λ passes any more
+    pub record Closed (t : ℕ) (st : State) : Type 0 where
+      pub inv : Inv t st
+      pub none-passes : E (Th t) ≤ En t → (k : ℕ) → In J (lam st) k → E (Th t with k) ≤ En t
+
+    abbrev pub TurnOk : ℕ → Turn → Type 0
+    TurnOk t (on st) = Closed t st
+    TurnOk t (stop st) = Conflict J × AllGood (st .posts)
+
+    -- a task was found at leaf x
+    module _ (t : ℕ) (st : State) (small : t < n) (v : Inv t st) (x : ℕ) (f : Found (st .leaves) (Th t) (lam st) (shape t st v) x) (over : En t < barOf (st .leaves)) where
+      abbrev pub i : ℕ
+      i = T x
+      at-x : rank i ≡ x
+      at-x = rk .back x (f .small)
+      mem : In J (lam st) i
+      mem = f .gray
+      pub late : place i < t
+      late = v .facts .gray i mem
+      hit : En t < E (Th t with i)
+      hit = omega (arith, over, f .reaches, E-is (Th t with i) (i, record { small = mem .small; mem = with-new (Th t) i }) .bounds (f .value) (f .attains))
+      ect-is : ectOf (st .leaves) ≡ E (Th t)
+      ect-is = tree.ect-is J ok first rk (st .leaves) (Th t) (lam st) (shape t st v)
+
+      pub pass-ok : ectOf (st .leaves) ≤ J .earliest i → Inv t (edges.dropped st x)
+      pass-ok low = subst (λ (x : ℕ). Inv t (edges.dropped st x)) at-x (record {
+          size = length-set (st .leaves) (rank i) empty ∙ v .size; whites = drop-whites t (st .leaves) i (v .size) (mem .small) late (v .whites); known = v .known; posted = v .posted; good = v .good;
+          facts = facts-same J ok E E-is L place ord t (lam st less i) (λ k. grayAt (set (st .leaves) (rank i) empty) (rank k)) (now st) (drop-grays t (st .leaves) i (v .size) (mem .small) late)
+            (leave J ok E E-is L place ord t (lam st) (now st) (now st) i (v .facts) mem hit (omega (arith, ect-is, v .facts .same-in i mem)) (v .facts .inside i (mem .small)) (λ k ne. refl)) })
+
+      abbrev pub b : ℕ
+      b = ectOf (st .leaves)
+      abbrev pub p : Post
+      p = record { task = i; bound = subℕ b o; reason = propagation o J i b (En t) (leaves.sum J first (st .leaves)) (theta J first (st .leaves)) }
+
+      good-p : J .earliest i < b → Good p
+      good-p up = meas .of-post t (st .leaves) (lam st) (shape t st v) x small f late over up
+
+      pub raise-ok : J .earliest i < b → b ≤ J .latest i → Inv t (edges.dropped (edges.raised (edges.posted o J first second st i b t) i b) x)
+      raise-ok up fits = subst (λ (x : ℕ). Inv t (edges.dropped (edges.raised (edges.posted o J first second st i b t) i b) x)) at-x (record {
+          size = length-set (st .leaves) (rank i) empty ∙ v .size; whites = drop-whites t (st .leaves) i (v .size) (mem .small) late (v .whites); known = length-set (st .starts) i b ∙ v .known;
+          good = all-good (st .posts) p (v .good) (good-p up);
+          posted = subst (λ (m : ℕ). Posts J now′ m (taskOf (st .posts ++ (p ∷ []))) (boundOf (st .posts ++ (p ∷ [])))) (sym (length-snoc (st .posts) p))
+            (more J (now st) now′ (length (st .posts)) (taskOf (st .posts)) (boundOf (st .posts)) (taskOf (st .posts ++ (p ∷ []))) (boundOf (st .posts ++ (p ∷ []))) i b
+              (mem .small) (v .posted) (v .facts .same-in i mem) up same other (ap (λ (q : Post). q .task) (new (st .posts) p)) (ap (λ (q : Post). moment o (q .bound)) (new (st .posts) p) ∙ moment-instant o b)
+              (λ j r. ap (λ (q : Post). q .task) (old (st .posts) p j r)) (λ j r. ap (λ (q : Post). moment o (q .bound)) (old (st .posts) p j r)));
+          facts = facts-same J ok E E-is L place ord t (lam st less i) (λ k. grayAt (set (st .leaves) (rank i) empty) (rank k)) now′ (drop-grays t (st .leaves) i (v .size) (mem .small) late)
+            (leave J ok E E-is L place ord t (lam st) (now st) now′ i (v .facts) mem hit (omega (arith, same, ect-is)) (omega (arith, same)) other) })
+        where
+          now′ : ℕ → ℕ
+          now′ k = getD (set (st .starts) i b) k 0
+          same : getD (set (st .starts) i b) i 0 ≡ b
+          same = getD-set-same (st .starts) i b 0 (omega (arith, v .known, mem .small))
+          other : (k : ℕ) → (k ≡ i → ⊥) → getD (set (st .starts) i b) k 0 ≡ getD (st .starts) k 0
+          other k ne = getD-set-other (st .starts) i k b 0 ne
+
+      stop-ok : J .earliest i < b → J .latest i < b → Conflict J × AllGood (st .posts ++ (p ∷ []))
+      stop-ok up high = (inr (i, E (Th t), edge J ok E E-is L place ord t i (mem .small) late small hit, omega (arith, ect-is)), all-good (st .posts) p (v .good) (good-p up))
+
+      fewer : (f : ℕ) → card J (lam st) ≤ suc f → card J (λ k. grayAt (set (st .leaves) x empty) (rank k)) ≤ f
+      fewer f q = subst (λ (x : ℕ). card J (λ k. grayAt (set (st .leaves) x empty) (rank k)) ≤ f) at-x
+          (omega (arith, card-less J (lam st) i mem, card-same J (lam st less i) (λ k. grayAt (set (st .leaves) (rank i) empty) (rank k)) (drop-grays t (st .leaves) i (v .size) (mem .small) late)))
+
+    opt : (u : Option ℕ) → (u ≡ none) ⊎ ((x : ℕ) × (u ≡ some x))
+    opt none = inl refl
+    opt (some x) = inr (x, refl)
+
+    pub inner-ok : (f t : ℕ) (st : State) → t < n → Inv t st → card J (lam st) ≤ f → TurnOk t (inner o J first second f t st)
+    unfolding inner
+    inner-ok zero t st small v few = record { inv = v; none-passes = λ q k h. absurd (card-zero J (lam st) few k h) }
+    inner-ok (suc f) t st small v few = by (λ st′. inner-ok f t st′ small) (bool (ltb (En t) (barOf (st .leaves))))
+      where
+        IH : Type 0
+        IH = (st′ : State) → Inv t st′ → card J (lam st′) ≤ f → TurnOk t (inner o J first second f t st′)
+        took : IH → ltb (En t) (barOf (st .leaves)) ≡ true → (x : ℕ) → leaves.responsible J first (st .leaves) ≡ some x → Found (st .leaves) (Th t) (lam st) (shape t st v) x → TurnOk t (inner o J first second (suc f) t st)
+        took ih z x w g = elim (bool (ltb (J .earliest (T x)) (ectOf (st .leaves))))
+          [ inr y ↦ rw (z, w, y, inner) (ih (edges.dropped st x) (pass-ok t st small v x g (ltb-true _ _ z) (ltb-false _ _ y)) (fewer t st small v x g (ltb-true _ _ z) f few))
+          | inl y ↦ elim (bool (ltb (J .latest (T x)) (ectOf (st .leaves))))
+            [ inl a ↦ rw (z, w, y, a, inner) (stop-ok t st small v x g (ltb-true _ _ z) (ltb-true _ _ y) (ltb-true _ _ a))
+            | inr a ↦ rw (z, w, y, a, inner) (ih _ (raise-ok t st small v x g (ltb-true _ _ z) (ltb-true _ _ y) (ltb-false _ _ a)) (fewer t st small v x g (ltb-true _ _ z) f few)) ] ]
+        by : IH → (ltb (En t) (barOf (st .leaves)) ≡ true) ⊎ (ltb (En t) (barOf (st .leaves)) ≡ false) → TurnOk t (inner o J first second (suc f) t st)
+        by ih (inr z) = rw (z, inner) (record { inv = v; none-passes = λ q k h. omega (arith, tree.most J ok first rk (st .leaves) (Th t) (lam st) (shape t st v) k h, ltb-false (En t) (barOf (st .leaves)) z) })
+        by ih (inl z) = elim (opt (leaves.responsible J first (st .leaves)))
+          [ inl w ↦ rw (z, w, inner) (record { inv = v; none-passes = λ q. absurd (omega (arith, ltb-true (En t) (barOf (st .leaves)) z, tree.ect-is J ok first rk (st .leaves) (Th t) (lam st) (shape t st v),
+              tree.none-found J ok first rk (st .leaves) (Th t) (lam st) (shape t st v) w)) })
+          | inr w ↦ took ih z (w .0) (w .1) (tree.one-found J ok first rk (st .leaves) (Th t) (lam st) (shape t st v) (w .0) (w .1)) ]
+
+    pub record OutOk (tr : Trace) : Type 0 where
+      pub goods : AllGood (tr .posts)
+      pub above : (k : ℕ) → Above o (getD (tr .starts) k (pos 0))
+      pub when-done : tr .end ≡ done → Done J (λ k. moment o (getD (tr .starts) k (pos 0))) (length (tr .posts)) (taskOf (tr .posts)) (boundOf (tr .posts))
+      pub otherwise : (tr .end ≡ done → ⊥) → Conflict J
+      pub over : (r : List Atom) → tr .end ≡ overload r → GoodEnd r
+
+    turn : (u : Turn) → ((st : State) × (u ≡ on st)) ⊎ ((st : State) × (u ≡ stop st))
+    turn (on st) = inl (st, refl)
+    turn (stop st) = inr (st, refl)
+
+    -- L t goes
+    pub gray-ok : (t : ℕ) (st : State) → t < n → Closed t st → E (Th t) ≤ En t → Inv (suc t) (edges.grayed st (rank (L t)))
+    gray-ok t st small c q = let v = c .inv in
+        record { size = length-set (st .leaves) (rank (L t)) gray ∙ v .size; whites = gray-whites t (st .leaves) (v .size) small (v .whites); known = v .known; posted = v .posted; good = v .good;
+          facts = facts-same J ok E E-is L place ord (suc t) (lam st with L t) (λ k. grayAt (set (st .leaves) (rank (L t)) gray) (rank k)) (now st) (gray-grays t (st .leaves) (v .size) small)
+            (next J ok E E-is L place ord t (lam st) (now st) small (v .facts) (c .none-passes q) q) }
+
+    done-ok : (t : ℕ) (st : State) → suc t ≡ n → Closed t st → OutOk (edges.ended o J first second st done)
+    done-ok t st end c =
+        let q : E (Th t) ≤ En t = last-fits J ok E E-is L place ord t end in
+        let v = c .inv in
+        record { goods = v .good; above = map-above o (st .starts); otherwise = λ z. absurd (z refl); over = λ r z. let y : _≡_ {A = ℕ} 0 1 = cc in absurd (omega arith);
+          when-done = λ _. done-same J (now st) (λ k. moment o (getD (map (instant o) (st .starts)) k (pos 0))) (length (st .posts)) (taskOf (st .posts)) (boundOf (st .posts))
+            (λ k r. ap (moment o) (getD-map-in (instant o) (st .starts) k 0 (pos 0) (omega (arith, v .known))) ∙ moment-instant o (now st k))
+            (finish J ok E E-is L place ord t (lam st) (now st) end (v .facts) (c .none-passes q) (length (st .posts)) (taskOf (st .posts)) (boundOf (st .posts)) (v .posted)) }
+
+    over-ok : (t : ℕ) (st : State) → t < n → Inv t st → En t < ectOf (st .leaves) → OutOk (edges.ended o J first second st (overload (conflict o J (En t) (leaves.sum J first (st .leaves)) (theta J first (st .leaves)))))
+    over-ok t st small v q =
+        record { goods = v .good; above = map-above o (st .starts); when-done = λ z. let y : _≡_ {A = ℕ} 0 1 = cc in absurd (omega arith);
+          otherwise = λ _. inl (overloaded J ok E E-is L place ord t small (omega (arith, q, tree.ect-is J ok first rk (st .leaves) (Th t) (lam st) (shape t st v))));
+          over = λ r z. let y : conflict o J (En t) (leaves.sum J first (st .leaves)) (theta J first (st .leaves)) ≡ r = cc in
+            subst GoodEnd y (meas .of-end t (st .leaves) (lam st) (shape t st v) small q) }
+
+    empty-ok : (st : State) → Conflict J × AllGood (st .posts) → OutOk (edges.ended o J first second st emptied)
+    empty-ok st w = record { goods = w .1; above = map-above o (st .starts); when-done = λ z. let y : _≡_ {A = ℕ} 0 1 = cc in absurd (omega arith); otherwise = λ _. w .0; over = λ r z. let y : _≡_ {A = ℕ} 0 1 = cc in absurd (omega arith) }
+
+    outer-ok : (f t : ℕ) (st : State) → suc (t + f) ≡ n → Closed t st → OutOk (outer o J first second f t st)
+    unfolding outer
+    outer-ok zero t st end c = done-ok t st (omega arith) c
+    outer-ok (suc f) t st end c = by (λ st′. outer-ok f (suc t) st′ (omega arith)) (bool (ltb (En t) (ectOf (st .leaves))))
+      where
+        IH : Type 0
+        IH = (st′ : State) → Closed (suc t) st′ → OutOk (outer o J first second f (suc t) st′)
+        go : IH → ltb (En t) (ectOf (st .leaves)) ≡ false → E (Th t) ≤ En t → OutOk (outer o J first second (suc f) t st)
+        go ih z q = elim (turn (inner o J first second n (suc t) (edges.grayed st (rank (L t)))))
+          [ inl w ↦ rw (z, w .1, outer) (ih (w .0) (rw (w .1) at r))
+          | inr w ↦ rw (z, w .1, outer) (empty-ok (w .0) (rw (w .1) at r)) ]
+          where
+            r : TurnOk (suc t) (inner o J first second n (suc t) (edges.grayed st (rank (L t))))
+            r = inner-ok n (suc t) (edges.grayed st (rank (L t))) (omega arith) (gray-ok t st (omega arith) c q) (card-most J (lam (edges.grayed st (rank (L t)))))
+        by : IH → (ltb (En t) (ectOf (st .leaves)) ≡ true) ⊎ (ltb (En t) (ectOf (st .leaves)) ≡ false) → OutOk (outer o J first second (suc f) t st)
+        by ih (inl z) = rw (z, outer) (over-ok t st (omega arith) (c .inv) (ltb-true _ _ z))
+        by ih (inr z) = go ih z (omega (arith, ltb-false (En t) (ectOf (st .leaves)) z, tree.ect-is J ok first rk (st .leaves) (Th t) (lam st) (shape t st (c .inv))))
+
+    -- the start
+    tab-length : (f : ℕ → ℕ) (a d : ℕ) → length (tabulate f a d) ≡ d
+    unfolding tabulate
+    tab-length f a zero = refl
+    tab-length f a (suc d) = ap suc (tab-length f (suc a) d)
+
+    tab-at : (f : ℕ → ℕ) (a d k : ℕ) → k < d → getD (tabulate f a d) k 0 ≡ f (a + k)
+    unfolding tabulate
+    tab-at f a zero k q = absurd (omega arith)
+    tab-at f a (suc d) zero q = let z : a ≡ a + 0 = omega arith in ap f z
+    tab-at f a (suc d) (suc k) q = let z : suc a + k ≡ a + suc k = omega arith in tab-at f (suc a) d k (omega arith) ∙ ap f z
+
+    abbrev pub st₀ : State
+    st₀ = record { leaves = replicate n white; starts = tabulate (J .earliest) 0 n; posts = [] }
+
+    now₀ : (k : ℕ) → k < n → now st₀ k ≡ J .earliest k
+    now₀ k q = let z : 0 + k ≡ k = omega arith in tab-at (J .earliest) 0 n k q ∙ ap (J .earliest) z
+
+    leaf₀ : (k : ℕ) → k < n → getD (replicate n white) (rank k) empty ≡ white
+    leaf₀ k q = getD-replicate n (rank k) white empty (rk .placed k q)
+
+    no-gray : (k : ℕ) → k < n → lam st₀ k ≡ false
+    no-gray k q = ap inLambda (leaf₀ k q)
+
+    first-facts : Fa 0 (lam st₀) (now st₀)
+    first-facts = record { fits-before = λ s q. absurd (omega arith); gray = λ k h. clash (h .mem) (no-gray k (h .small)); not-passed = λ k h. clash (h .mem) (no-gray k (h .small)); left = λ k h q. absurd (omega arith);
+        same-in = λ k h. now₀ k (h .small); same-on = λ k q r. now₀ k q; inside = λ k q. omega (arith, now₀ k q, ok .ranges k q) }
+
+    pub first-inv : Inv 0 st₀
+    first-inv = record { size = length-replicate n white; whites = λ k q. ap inTheta (leaf₀ k q) ∙ sym (le-leb 0 (place k) (omega arith)); known = tab-length (J .earliest) 0 n; facts = first-facts; good = λ j q. absurd (omega arith);
+        posted = record { small = λ j q. absurd (omega arith); raises = λ j q. absurd (omega arith); agrees = λ j q. absurd (omega arith); every = λ k q r. absurd (omega (arith, now₀ k q)); once = λ i j q. absurd (omega arith) } }
+
+    pub first-closed : Closed 0 st₀
+    first-closed = record { inv = first-inv; none-passes = λ q k h. clash (h .mem) (no-gray k (h .small)) }
+
+    pub run-ok : 1 ≤ n → OutOk (run o J first second)
+    unfolding run
+    run-ok one = outer-ok (n - 1) 0 st₀ (omega arith) first-closed

@@ -1,0 +1,64 @@
+-- The starred instances of runs, from a fresh record, as one table: posts, reasons, how each ended, starts and orders.
+use mathlib.Core.Path.{_≡_, refl}
+use mathlib.Core.List.{List, [], _∷_, map}
+use Prim.Native.Nat.{ℕ, zero, suc}
+use lib.IntN.{ℤ, pos}
+use Rattle.integers.specs.Orders.{sort, insert, index, numbers}
+use Rattle.scheduling.specs.Scheduling.{Atom}
+use Rattle.trees.specs.Leaves.{root, responsible, theta}
+use Rattle.trees.specs.Nodes.{joinOf, isEmpty}
+use Rattle.trees.specs.Searches.{gray, tested, descentP, descentEct, stepP, stepEct, searchP, searchEct, thetaOf}
+use Rattle.trees.specs.Shapes.{width, heightFrom, nodeOver}
+use Rattle.runs.specs.Traces.{Post, End, done, overload, emptied, Trace}
+use Rattle.runs.specs.Runs.{propagate, run, outer, inner, conflict, propagation, bounds, within, tabulate}
+
+abbrev atLeast : ℕ → ℕ → Atom
+atLeast k v = record { variable = k; kind = 0; value = pos v }
+
+abbrev atMost : ℕ → ℕ → Atom
+atMost k v = record { variable = k; kind = 1; value = pos v }
+
+-- earliest, latest, duration of each task
+abbrev Input : Type 0
+Input = List (ℕ × ℕ × ℕ)
+
+abbrev count : Input → ℕ
+count [] = 0
+count (t ∷ ts) = suc (count ts)
+
+abbrev answer : Input → Trace
+answer ts = propagate (map (λ (t : ℕ × ℕ × ℕ). t .2) ts) (map (λ (t : ℕ × ℕ × ℕ). pos (t .0)) ts) (map (λ (t : ℕ × ℕ × ℕ). pos (t .1)) ts) (numbers 0 (count ts)) (numbers 0 (count ts))
+
+abbrev trace : List Post → End → List ℕ → List ℕ → List ℕ → Trace
+trace ps end ss a b = record { posts = ps; end = end; starts = map pos ss; first = a; second = b }
+
+abbrev A : Input
+A = (0, 6, 4) ∷ (1, 5, 5) ∷ (0, 20, 3) ∷ []
+abbrev B : Input
+B = (0, 2, 4) ∷ (1, 2, 4) ∷ []
+abbrev C : Input
+C = (0, 4, 4) ∷ (1, 4, 4) ∷ []
+abbrev D : Input
+D = (0, 13, 1) ∷ (10, 11, 3) ∷ (10, 11, 3) ∷ []
+abbrev E : Input
+E = (0, 5, 3) ∷ (1, 1, 5) ∷ []
+abbrev F : Input
+F = (0, 6, 3) ∷ (1, 1, 5) ∷ []
+abbrev G : Input
+G = (7, 7, 1) ∷ []
+
+abbrev six : List Atom
+six = atLeast 1 1 ∷ atMost 1 2 ∷ atLeast 0 0 ∷ []
+
+-- A to G, in this order.
+pub instances : map answer (A ∷ B ∷ C ∷ D ∷ E ∷ F ∷ G ∷ [])
+    ≡ trace (record { task = 2; bound = pos 9; reason = atLeast 0 0 ∷ atMost 0 7 ∷ atLeast 1 0 ∷ atMost 1 6 ∷ atLeast 2 0 ∷ [] } ∷ []) done (0 ∷ 1 ∷ 9 ∷ []) (0 ∷ 2 ∷ 1 ∷ []) (2 ∷ 0 ∷ 1 ∷ [])
+    ∷ trace [] (overload (atLeast 0 0 ∷ atMost 0 3 ∷ atLeast 1 0 ∷ atMost 1 3 ∷ [])) (0 ∷ 1 ∷ []) (0 ∷ 1 ∷ []) (0 ∷ 1 ∷ [])
+    ∷ trace [] done (0 ∷ 1 ∷ []) (0 ∷ 1 ∷ []) (0 ∷ 1 ∷ [])
+    ∷ trace [] (overload (atLeast 1 10 ∷ atMost 1 12 ∷ atLeast 2 10 ∷ atMost 2 12 ∷ [])) (0 ∷ 10 ∷ 10 ∷ []) (0 ∷ 1 ∷ 2 ∷ []) (0 ∷ 1 ∷ 2 ∷ [])
+    ∷ trace (record { task = 0; bound = pos 6; reason = six } ∷ []) emptied (0 ∷ 1 ∷ []) (0 ∷ 1 ∷ []) (0 ∷ 1 ∷ [])
+    ∷ trace (record { task = 0; bound = pos 6; reason = six } ∷ []) done (6 ∷ 1 ∷ []) (0 ∷ 1 ∷ []) (0 ∷ 1 ∷ [])
+    ∷ trace [] done (7 ∷ []) (0 ∷ []) (0 ∷ [])
+    ∷ []
+unfolding propagate run outer inner conflict propagation bounds within tabulate heightFrom sort insert index numbers width root responsible theta joinOf isEmpty gray tested descentP descentEct stepP stepEct searchP searchEct thetaOf nodeOver
+instances = refl

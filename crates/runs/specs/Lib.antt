@@ -1,0 +1,5 @@
+pub mod Traces
+pub mod Words
+pub mod Runs
+pub mod Demand
+pub mod Instances

@@ -1,0 +1,31 @@
+-- The words of the two lent slices: four for a post, three for an atom.
+use mathlib.Core.List.{List, [], _∷_, _++_}
+use Prim.Native.Nat.{ℕ, _+_}
+use lib.IntN.{ℤ, pos}
+use lib.ListN.{length}
+use Rattle.integers.specs.Words.{overwritten}
+use Rattle.scheduling.specs.Scheduling.{Atom}
+use Rattle.runs.specs.Traces.{Post, End, done, overload, emptied, Trace}
+
+unfoldable pub atomWords : List Atom → List ℤ
+atomWords [] = []
+atomWords (a ∷ rest) = pos (a .variable) ∷ pos (a .kind) ∷ a .value ∷ atomWords rest
+
+unfoldable pub postWords : ℕ → List Post → List ℤ
+postWords from [] = []
+postWords from (p ∷ ps) = pos (p .task) ∷ p .bound ∷ pos from ∷ pos (length (p .reason)) ∷ postWords (from + length (p .reason)) ps
+
+unfoldable pub reasons : List Post → List Atom
+reasons [] = []
+reasons (p ∷ ps) = p .reason ++ reasons ps
+
+abbrev pub endReason : End → List Atom
+endReason done = []
+endReason (overload r) = r
+endReason emptied = []
+
+abbrev pub postsAfter : List ℤ → Trace → List ℤ
+postsAfter entry t = overwritten entry (postWords 0 (t .posts))
+
+abbrev pub atomsAfter : List ℤ → Trace → List ℤ
+atomsAfter entry t = overwritten entry (atomWords (reasons (t .posts) ++ endReason (t .end)))

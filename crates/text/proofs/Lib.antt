@@ -1,0 +1,8 @@
+pub mod Folds
+pub mod Bytes
+pub mod Steps
+pub mod Spelling
+pub mod Gathering
+pub mod Tokens
+pub mod Decimals
+pub mod Putting

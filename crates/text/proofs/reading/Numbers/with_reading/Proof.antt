@@ -1,0 +1,46 @@
+use mir.Syntax.{w32}
+use borrow.Author.Needs.{needs}
+use Rattle.integers.proofs.Ints.{back-of}
+use Rattle.text.specs.Scanning.{withReading}
+use Rattle.text.proofs.reading.Numbers.with_reading.Statement.{statement}
+use Rattle.text.proofs.reading.Numbers.with_reading.Tie as tie
+
+enum-told : tie.Need-enum-told
+enum-told c = search needs
+
+enum-known-reading : tie.Need-enum-known-reading
+enum-known-reading c = search needs
+
+with-number-requires : tie.Need-with-number-requires
+with-number-requires c κs = search needs
+
+enum-told-2 : tie.Need-enum-told-2
+enum-told-2 c = search needs
+
+invalid-requires : tie.Need-invalid-requires
+invalid-requires c κs = search needs
+
+returns : tie.Need-returns
+unfolding withReading
+returns c = rw (c .enum-told .given .1)
+
+returns-2 : tie.Need-returns-2
+unfolding withReading
+returns-2 c = rw (c .before .before .reading .given .1) (rw (back-of w32 (c .before .before .reading .given .0 .0) (c .before .known-told .given .0 .1)) at (c .with-number .ensures))
+
+returns-3 : tie.Need-returns-3
+unfolding withReading
+returns-3 c = rw (c .before .enum-told2 .given .1) (c .invalid .ensures)
+
+pub with-reading-spec : {M : Type 1} → statement M
+with-reading-spec =
+    tie.close
+    (tie.spec
+    enum-told
+    enum-known-reading
+    with-number-requires
+    enum-told-2
+    invalid-requires
+    returns
+    returns-2
+    returns-3)

@@ -1,0 +1,51 @@
+use mathlib.Core.List.{foldl}
+use mathlib.Core.Path.{_≡_, refl, sym, _∙_}
+use Prim.Native.Nat.{_-_, _≤_}
+use native.Mathlib.Omega.{arith}
+use lib.ListN.{length, drop}
+use borrow.Author.Needs.{needs}
+use Rattle.text.specs.Scanning.{stepOf}
+use Rattle.text.proofs.Folds.{fold-none, fold-more}
+use Rattle.text.proofs.reading.Scanner.feed.Statement.{statement}
+use Rattle.text.proofs.reading.Scanner.feed.Tie as tie
+
+abbrev Inv-loop : tie.InvT-loop
+Inv-loop bytes scanner₀ i₀ scanner i = (i ≤ length bytes) × (foldl stepOf scanner (drop i bytes) ≡ foldl stepOf scanner₀ bytes)
+
+abbrev μ-loop : tie.MeasureT-loop
+μ-loop bytes scanner₀ i₀ scanner i = length bytes - i
+
+loop-holds : tie.Need-loop-holds Inv-loop μ-loop
+loop-holds c = (omega arith, refl)
+
+shared-slice-read-step : tie.Need-shared-slice-read-step Inv-loop μ-loop
+shared-slice-read-step c = search needs
+
+step-requires : tie.Need-step-requires Inv-loop μ-loop
+step-requires c κs = search needs
+
+add-i : tie.Need-add-i Inv-loop μ-loop
+add-i c = search needs
+
+loop-less : tie.Need-loop-less Inv-loop μ-loop
+loop-less c = search needs
+
+loop-again : tie.Need-loop-again Inv-loop μ-loop
+loop-again c = (omega arith, rw (c .step .ensures) (fold-more stepOf (c .before .before .before .loop .scanner) (c .before .before .before .before .before .args .bytes .now) (c .before .before .before .loop .i) (c .before .before .loop-test .taken) ∙ c .before .before .before .loop .inv .1))
+
+returns : tie.Need-returns Inv-loop μ-loop
+returns c = sym (fold-none stepOf (c .before .loop .scanner) (c .before .before .before .args .bytes .now) (c .before .loop .i) (omega arith)) ∙ c .before .loop .inv .1
+
+pub feed-spec : {M : Type 1} → statement M
+feed-spec =
+    tie.close
+    (tie.spec
+    Inv-loop
+    μ-loop
+    loop-holds
+    shared-slice-read-step
+    step-requires
+    add-i
+    loop-less
+    loop-again
+    returns)

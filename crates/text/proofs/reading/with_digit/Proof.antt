@@ -1,0 +1,35 @@
+use mathlib.Core.Path.{sym}
+use mathlib.Core.Logic.{⊎-elim}
+use native.Mathlib.Omega.{arith}
+use borrow.Author.Needs.{needs}
+use borrow.Author.Tests.{ltb-true, ltb-false}
+use Rattle.text.proofs.Bytes.{digit-low, digit-high, after-other, after-small, after-large}
+use Rattle.text.proofs.reading.with_digit.Statement.{statement}
+use Rattle.text.proofs.reading.with_digit.Tie as tie
+
+returns : tie.Need-returns
+returns c =
+    let b = c .before .args .byte in
+    sym (after-other _ _ b (⊎-elim (λ w. digit-low b (omega arith)) (λ w. digit-high b (omega (arith, ltb-true))) (c .if1 .came)))
+
+returns-2 : tie.Need-returns-2
+returns-2 c =
+    let s = c .before .before .before .args in
+    sym (after-large _ (s .magnitude) (s .byte) (omega (arith, ltb-false)) (omega (arith, ltb-false)) (omega arith))
+
+cast-digit : tie.Need-cast-digit
+cast-digit c = search needs
+
+mul-larger : tie.Need-mul-larger
+mul-larger c = search needs
+
+add-larger : tie.Need-add-larger
+add-larger c = search needs
+
+returns-3 : tie.Need-returns-3
+returns-3 c =
+    let s = c .before .before .before .args in
+    sym (after-small _ (s .magnitude) (s .byte) (omega (arith, ltb-false)) (omega (arith, ltb-false)) (omega arith))
+
+pub with-digit-spec : {M : Type 1} → statement M
+with-digit-spec = tie.close (tie.spec returns returns-2 cast-digit mul-larger add-larger returns-3)

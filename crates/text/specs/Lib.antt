@@ -1,0 +1,4 @@
+pub mod Numbers
+pub mod Scanning
+pub mod Writing
+pub mod Examples
