@@ -54,10 +54,13 @@ ect-same N Ω u v a b = le-antisymm (b .bounds u (a .holds)) (a .bounds v (b .ho
 module _ (J : Tasks whole) (lasts : (k : ℕ) → k < J .count → 1 ≤ J .duration k) (atoms : List Atom) (lower upper : ℕ → Option ℤ) (r : Reads (J .count) atoms lower upper) where
   abbrev n : ℕ
   n = J .count
+
   abbrev X : TaskSet
   X = bounded n (J .duration) lower upper
+
   abbrev R : Tasks whole
   R = ranges n (J .duration) lower upper
+
   abbrev N : Tasks natural
   N = tasks n (J .duration) lower upper
 
@@ -97,24 +100,32 @@ module _ (J : Tasks whole) (lasts : (k : ℕ) → k < J .count → 1 ≤ J .dura
   none-of k q y u v a b = elim (lacks k y) [ inl z ↦ r .no-least k q z u a | inr z ↦ r .no-greatest k q z v b ]
 
   all-bounded : (Ω : TaskSet) → ((k : ℕ) → k < n → Ω k ≡ X k) → Bounded J atoms Ω R
-  all-bounded Ω same = record { same-count = refl; same-duration = λ k. refl;
-      least = λ k h. least-of k (record { small = h .small; mem = sym (same k (h .small)) ∙ h .mem });
-      greatest = λ k h. greatest-of k (record { small = h .small; mem = sym (same k (h .small)) ∙ h .mem });
-      only = λ k q y. none-of k q (sym (same k q) ∙ y) }
+  all-bounded Ω same = record {
+    same-count = refl;
+    same-duration = λ k. refl;
+    least = λ k h. least-of k (record { small = h .small; mem = sym (same k (h .small)) ∙ h .mem });
+    greatest = λ k h. greatest-of k (record { small = h .small; mem = sym (same k (h .small)) ∙ h .mem });
+    only = λ k q y. none-of k q (sym (same k q) ∙ y);
+  }
 
   -- the set and the ranges are determined
   determined : (Ω : TaskSet) (B : Tasks whole) → Bounded J atoms Ω B → (k : ℕ) → k < n → Ω k ≡ X k
-  determined Ω B b k q = elim (bool (Ω k))
-    [ inl y ↦ elim (bool (X k)) [ inl z ↦ y ∙ sym z | inr z ↦ absurd (none-of k q z (B .earliest k) (B .latest k) (b .least k (record { small = q; mem = y })) (b .greatest k (record { small = q; mem = y }))) ]
-    | inr y ↦ elim (bool (X k)) [ inl z ↦ absurd (b .only k q y (R .earliest k) (R .latest k) (least-of k (record { small = q; mem = z })) (greatest-of k (record { small = q; mem = z }))) | inr z ↦ y ∙ sym z ] ]
+  determined Ω B b k q = elim (bool (Ω k)) [
+    | inl y ↦ elim (bool (X k)) [ inl z ↦ y ∙ sym z | inr z ↦ absurd (none-of k q z (B .earliest k) (B .latest k) (b .least k (record { small = q; mem = y })) (b .greatest k (record { small = q; mem = y }))) ]
+    | inr y ↦ elim (bool (X k)) [ inl z ↦ absurd (b .only k q y (R .earliest k) (R .latest k) (least-of k (record { small = q; mem = z })) (greatest-of k (record { small = q; mem = z }))) | inr z ↦ y ∙ sym z ]
+  ]
 
   agrees : (Ω : TaskSet) (B : Tasks whole) → Bounded J atoms Ω B → Agree B R Ω
-  agrees Ω B b = record { count = b .same-count; duration = b .same-duration;
-      earliest = λ k h. least-same (Admits atoms k) (B .earliest k) (R .earliest k) (b .least k (at k h)) (least-of k (known-too k h));
-      latest = λ k h. largest-same (Admits atoms k) (B .latest k) (R .latest k) (b .greatest k (at k h)) (greatest-of k (known-too k h)) }
+  agrees Ω B b = record {
+    count = b .same-count;
+    duration = b .same-duration;
+    earliest = λ k h. least-same (Admits atoms k) (B .earliest k) (R .earliest k) (b .least k (at k h)) (least-of k (known-too k h));
+    latest = λ k h. largest-same (Admits atoms k) (B .latest k) (R .latest k) (b .greatest k (at k h)) (greatest-of k (known-too k h));
+  }
     where
       at : (k : ℕ) → In B Ω k → In J Ω k
       at k h = record { small = subst (λ (m : ℕ). k < m) (b .same-count) (h .small); mem = h .mem }
+
       known-too : (k : ℕ) → In B Ω k → In J X k
       known-too k h = record { small = at k h .small; mem = sym (determined Ω B b k (at k h .small)) ∙ h .mem }
 
@@ -128,17 +139,22 @@ module _ (J : Tasks whole) (lasts : (k : ℕ) → k < J .count → 1 ≤ J .dura
 
   fits-N : (k : ℕ) → k < n → N .earliest k ≤ 4294967295
   fits-N k q = elim (bool (X k))
-    [ inl y ↦ (let t = two k y in subst (λ (z : ℤ). moment zeroAt z ≤ 4294967295) (sym (t .early)) (r .fits k q (t .low) (t .lower-is))) | inr y ↦ rw y (omega arith) ]
+      [ inl y ↦ (let t = two k y in subst (λ (z : ℤ). moment zeroAt z ≤ 4294967295) (sym (t .early)) (r .fits k q (t .low) (t .lower-is))) | inr y ↦ rw y (omega arith) ]
 
   proper : Proper R
-  proper = record { lasts = lasts; ranges = λ k q. elim (bool (X k))
-      [ inl y ↦ (let h : In J X k = record { small = q; mem = y } in greatest-of k h .bounds (R .earliest k) (least-of k h .holds)) | inr y ↦ rw y (≤ℤ-refl (negsuc 2147483647)) ] }
+  proper = record {
+    lasts = lasts;
+    ranges = λ k q. elim (bool (X k))
+        [ inl y ↦ (let h : In J X k = record { small = q; mem = y } in greatest-of k h .bounds (R .earliest k) (least-of k h .holds)) | inr y ↦ rw y (≤ℤ-refl (negsuc 2147483647)) ];
+  }
 
   -- without a consequent -------------------------------------------------------------------------------------------------------
   abbrev low : TaskSet → ℕ
   low Ω = lowest n (J .duration) lower upper Ω n
+
   abbrev high : TaskSet → ℕ
   high Ω = highest n (J .duration) lower upper Ω n
+
   abbrev some-in : TaskSet → Bool
   some-in Ω = any n (J .duration) lower upper Ω n
 
@@ -175,7 +191,7 @@ module _ (J : Tasks whole) (lasts : (k : ℕ) → k < J .count → 1 ≤ J .dura
     -- and a set outside of which i is, with i all, is the others
     the-others : (S : TaskSet) → S i ≡ false → ((k : ℕ) → k < n → (S with i) k ≡ X k) → (k : ℕ) → k < n → S k ≡ Ω k
     the-others S out same k q = elim (ℕ-discrete k i)
-      [ yes z ↦ rw z (out ∙ sym self-out) | no z ↦ rw (ne-eqb k i z) (subst (λ (b : Bool). b || S k ≡ X k) (ne-eqb k i z) (same k q)) ]
+        [ yes z ↦ rw z (out ∙ sym self-out) | no z ↦ rw (ne-eqb k i z) (subst (λ (b : Bool). b || S k ≡ X k) (ne-eqb k i z) (same k q)) ]
 
     abbrev reach : ℕ
     reach = min (N .earliest i) (low Ω) + processing N Ω + J .duration i
@@ -188,12 +204,24 @@ module _ (J : Tasks whole) (lasts : (k : ℕ) → k < J .count → 1 ≤ J .dura
           let (d, e) = and-true (ltb (high Ω) reach) (ltb (N .latest i) (ectOf n (J .duration) lower upper Ω)) c in
           let ne : NonEmpty N Ω = any-some n (J .duration) lower upper Ω b in
           let over : high Ω < reach = ltb-true (high Ω) reach d in
-          let f : RuleFormula N Ω i = record { outside = record { small = small; mem = self-out }; start = low Ω; end = high Ω; joint = ectOf n (J .duration) lower upper Ω;
-                est = lowest-is n (J .duration) lower upper Ω fits-N ne; lct = highest-is n (J .duration) lower upper Ω ne; ect = ect-is n (J .duration) lower upper Ω (sound zeroAt R proper low-R) ne;
-                over-i = omega arith; over-Ω = omega arith; passes = ltb-true (N .latest i) (ectOf n (J .duration) lower upper Ω) e } in
-          record { set = Ω; ranges = R;
+          let f : RuleFormula N Ω i = record {
+            outside = record { small = small; mem = self-out };
+            start = low Ω;
+            end = high Ω;
+            joint = ectOf n (J .duration) lower upper Ω;
+            est = lowest-is n (J .duration) lower upper Ω fits-N ne;
+            lct = highest-is n (J .duration) lower upper Ω ne;
+            ect = ect-is n (J .duration) lower upper Ω (sound zeroAt R proper low-R) ne;
+            over-i = omega arith;
+            over-Ω = omega arith;
+            passes = ltb-true (N .latest i) (ectOf n (J .duration) lower upper Ω) e;
+          } in
+          record {
+            set = Ω;
+            ranges = R;
             bounded = subst (λ (l : List Atom). Bounded J l (Ω with (a .variable)) R) (sym is-given) (subst (λ (j : ℕ). Bounded J atoms (Ω with j) R) (sym on-i) (all-bounded (Ω with i) (with-all yi)));
-            formula = subst (λ (j : ℕ). RuleFormula R Ω j) (sym on-i) (checks← zeroAt R proper low-R Ω i f) }
+            formula = subst (λ (j : ℕ). RuleFormula R Ω j) (sym on-i) (checks← zeroAt R proper low-R Ω i f);
+          }
 
       pub implied-complete : PassesWith J premises a → implied n (J .duration) lower upper i ≡ true
       unfolding implied
@@ -207,10 +235,11 @@ module _ (J : Tasks whole) (lasts : (k : ℕ) → k < J .count → 1 ≤ J .dura
           let e : f .end ≡ high Ω = lct-same N Ω (f .end) (high Ω) (f .lct) (highest-is n (J .duration) lower upper Ω ne) in
           let j : f .joint ≡ ectOf n (J .duration) lower upper Ω = ect-same N Ω (f .joint) (ectOf n (J .duration) lower upper Ω) (f .ect) (ect-is n (J .duration) lower upper Ω (sound zeroAt R proper low-R) ne) in
           and-yes (some-in Ω) (ltb (high Ω) reach && ltb (N .latest i) (ectOf n (J .duration) lower upper Ω)) (any-yes n (J .duration) lower upper Ω ne)
-            (and-yes (ltb (high Ω) reach) (ltb (N .latest i) (ectOf n (J .duration) lower upper Ω)) (lt-ltb (high Ω) reach (omega (arith, f .over-i, f .over-Ω)))
-              (lt-ltb (N .latest i) (ectOf n (J .duration) lower upper Ω) (omega (arith, f .passes))))
+          (and-yes (ltb (high Ω) reach) (ltb (N .latest i) (ectOf n (J .duration) lower upper Ω)) (lt-ltb (high Ω) reach (omega (arith, f .over-i, f .over-Ω)))
+          (lt-ltb (N .latest i) (ectOf n (J .duration) lower upper Ω) (omega (arith, f .passes))))
         where
           with-more : (S : TaskSet) (k : ℕ) → S k ≡ true → (S with i) k ≡ true
           with-more S k y = elim (bool (eqb k i)) [ inl z ↦ rw z | inr z ↦ rw z y ]
+
           with-self : (S : TaskSet) → (S with i) i ≡ true
           with-self S = rw (eq-eqb i i refl)

@@ -34,8 +34,10 @@ module _ (n : ℕ) (duration : ℕ → ℕ) (lower upper : ℕ → Option ℤ) w
   module _ (Ω : TaskSet) where
     abbrev low : ℕ → ℕ
     low = lowest n duration lower upper Ω
+
     abbrev high : ℕ → ℕ
     high = highest n duration lower upper Ω
+
     abbrev some-of : ℕ → Bool
     some-of = any n duration lower upper Ω
 
@@ -50,14 +52,14 @@ module _ (n : ℕ) (duration : ℕ → ℕ) (lower upper : ℕ → Option ℤ) w
     any-found : (m : ℕ) → some-of m ≡ true → (k : ℕ) × (k < m) × (Ω k ≡ true)
     any-found zero y = clash y any-none
     any-found (suc m) y = elim (or-true (some-of m) (Ω m) (sym (any-suc m) ∙ y))
-      [ inl z ↦ (let (k, q, w) = any-found m z in (k, omega arith, w)) | inr z ↦ (m, omega arith, z) ]
+        [ inl z ↦ (let (k, q, w) = any-found m z in (k, omega arith, w)) | inr z ↦ (m, omega arith, z) ]
 
     any-shown : (m k : ℕ) → k < m → Ω k ≡ true → some-of m ≡ true
     any-shown zero k q y = absurd (omega arith)
     any-shown (suc m) k q y = any-suc m ∙ below-suc (λ k. Ω k ≡ true → some-of m || Ω m ≡ true) m (λ k r z. ap (λ (b : Bool). b || Ω m) (any-shown m k r z)) (λ z. or-right (some-of m) (Ω m) z) k q y
 
     pub any-yes : NonEmpty J Ω → some-of n ≡ true
-    any-yes (k , h) = any-shown n k (h .small) (h .mem)
+    any-yes (k, h) = any-shown n k (h .small) (h .mem)
 
     pub any-some : some-of n ≡ true → NonEmpty J Ω
     any-some y = let (k, q, w) = any-found n y in (k, record { small = q; mem = w })
@@ -98,24 +100,30 @@ module _ (n : ℕ) (duration : ℕ → ℕ) (lower upper : ℕ → Option ℤ) w
         where
           step : Lowest m → (Ω m ≡ true) ⊎ (Ω m ≡ false) → Lowest (suc m)
           step r (inl y) = record {
-              least = below-suc (λ k. Ω k ≡ true → low (suc m) ≤ J .earliest k) m (λ k s z. omega (arith, low-in m y, r .least k s z)) (λ z. omega (arith, low-in m y));
-              reached = inr (elim (r .reached)
-                [ inl z ↦ (m, omega arith, y, omega (arith, low-in m y, fits m q))
-                | inr z ↦ pick z ]) }
+            least = below-suc (λ k. Ω k ≡ true → low (suc m) ≤ J .earliest k) m (λ k s z. omega (arith, low-in m y, r .least k s z)) (λ z. omega (arith, low-in m y));
+            reached = inr (elim (r .reached) [
+              | inl z ↦ (m, omega arith, y, omega (arith, low-in m y, fits m q))
+              | inr z ↦ pick z
+            ]);
+          }
             where
               pick : (k : ℕ) × (k < m) × (Ω k ≡ true) × (J .earliest k ≡ low m) → (k : ℕ) × (k < suc m) × (Ω k ≡ true) × (J .earliest k ≡ low (suc m))
               pick z = elim (decLe (low m) (J .earliest m))
-                [ yes w ↦ (z .0, omega (arith, z .1), z .2, omega (arith, z .3, low-in m y)) | no w ↦ (m, omega arith, y, omega (arith, low-in m y)) ]
+                  [ yes w ↦ (z .0, omega (arith, z .1), z .2, omega (arith, z .3, low-in m y)) | no w ↦ (m, omega arith, y, omega (arith, low-in m y)) ]
           step r (inr y) = record {
-              least = below-suc (λ k. Ω k ≡ true → low (suc m) ≤ J .earliest k) m (λ k s z. omega (arith, low-out m y, r .least k s z)) (λ z. clash z y);
-              reached = elim (r .reached) [ inl z ↦ inl (low-out m y ∙ z) | inr z ↦ inr (z .0, omega (arith, z .1), z .2, z .3 ∙ sym (low-out m y)) ] }
+            least = below-suc (λ k. Ω k ≡ true → low (suc m) ≤ J .earliest k) m (λ k s z. omega (arith, low-out m y, r .least k s z)) (λ z. clash z y);
+            reached = elim (r .reached) [ inl z ↦ inl (low-out m y ∙ z) | inr z ↦ inr (z .0, omega (arith, z .1), z .2, z .3 ∙ sym (low-out m y)) ];
+          }
 
       pub lowest-is : NonEmpty J Ω → Est J Ω (low n)
-      lowest-is (i , im) = let r = lowest-ok n (omega arith) in
-          record { holds = elim (r .reached)
-              [ inl z ↦ (i, im, omega (arith, z, r .least i (im .small) (im .mem), fits i (im .small)))
-              | inr z ↦ (z .0, record { small = z .1; mem = z .2 }, z .3) ];
-            bounds = λ w h. omega (arith, h .2, r .least (h .0) (h .1 .small) (h .1 .mem)) }
+      lowest-is (i, im) = let r = lowest-ok n (omega arith) in
+          record {
+            holds = elim (r .reached) [
+              | inl z ↦ (i, im, omega (arith, z, r .least i (im .small) (im .mem), fits i (im .small)))
+              | inr z ↦ (z .0, record { small = z .1; mem = z .2 }, z .3)
+            ];
+            bounds = λ w h. omega (arith, h .2, r .least (h .0) (h .1 .small) (h .1 .mem));
+          }
 
     record Highest (m : ℕ) : Type 0 where
       greatest : (k : ℕ) → k < m → Ω k ≡ true → completion J k ≤ high m
@@ -127,26 +135,32 @@ module _ (n : ℕ) (duration : ℕ → ℕ) (lower upper : ℕ → Option ℤ) w
       where
         step : Highest m → (Ω m ≡ true) ⊎ (Ω m ≡ false) → Highest (suc m)
         step r (inl y) = record {
-            greatest = below-suc (λ k. Ω k ≡ true → completion J k ≤ high (suc m)) m (λ k s z. omega (arith, high-in m y, r .greatest k s z)) (λ z. omega (arith, high-in m y));
-            reached = inr (elim (r .reached) [ inl z ↦ (m, omega arith, y, omega (arith, high-in m y)) | inr z ↦ pick z ]) }
+          greatest = below-suc (λ k. Ω k ≡ true → completion J k ≤ high (suc m)) m (λ k s z. omega (arith, high-in m y, r .greatest k s z)) (λ z. omega (arith, high-in m y));
+          reached = inr (elim (r .reached) [ inl z ↦ (m, omega arith, y, omega (arith, high-in m y)) | inr z ↦ pick z ]);
+        }
           where
             pick : (k : ℕ) × (k < m) × (Ω k ≡ true) × (completion J k ≡ high m) → (k : ℕ) × (k < suc m) × (Ω k ≡ true) × (completion J k ≡ high (suc m))
             pick z = elim (decLe (completion J m) (high m))
-              [ yes w ↦ (z .0, omega (arith, z .1), z .2, omega (arith, z .3, high-in m y)) | no w ↦ (m, omega arith, y, omega (arith, high-in m y)) ]
+                [ yes w ↦ (z .0, omega (arith, z .1), z .2, omega (arith, z .3, high-in m y)) | no w ↦ (m, omega arith, y, omega (arith, high-in m y)) ]
         step r (inr y) = record {
-            greatest = below-suc (λ k. Ω k ≡ true → completion J k ≤ high (suc m)) m (λ k s z. omega (arith, high-out m y, r .greatest k s z)) (λ z. clash z y);
-            reached = elim (r .reached) [ inl z ↦ inl (high-out m y ∙ z) | inr z ↦ inr (z .0, omega (arith, z .1), z .2, z .3 ∙ sym (high-out m y)) ] }
+          greatest = below-suc (λ k. Ω k ≡ true → completion J k ≤ high (suc m)) m (λ k s z. omega (arith, high-out m y, r .greatest k s z)) (λ z. clash z y);
+          reached = elim (r .reached) [ inl z ↦ inl (high-out m y ∙ z) | inr z ↦ inr (z .0, omega (arith, z .1), z .2, z .3 ∙ sym (high-out m y)) ];
+        }
 
     pub highest-is : NonEmpty J Ω → Lct J Ω (high n)
-    highest-is (i , im) = let r = highest-ok n in
-        record { holds = elim (r .reached)
-            [ inl z ↦ (i, im, omega (arith, z, r .greatest i (im .small) (im .mem)))
-            | inr z ↦ (z .0, record { small = z .1; mem = z .2 }, z .3) ];
-          bounds = λ w h. omega (arith, h .2, r .greatest (h .0) (h .1 .small) (h .1 .mem)) }
+    highest-is (i, im) = let r = highest-ok n in
+        record {
+          holds = elim (r .reached) [
+            | inl z ↦ (i, im, omega (arith, z, r .greatest i (im .small) (im .mem)))
+            | inr z ↦ (z .0, record { small = z .1; mem = z .2 }, z .3)
+          ];
+          bounds = λ w h. omega (arith, h .2, r .greatest (h .0) (h .1 .small) (h .1 .mem));
+        }
 
     -- the tree
     abbrev first : List ℕ
     first = order n duration lower upper
+
     abbrev colour : ℕ → Leaf
     colour k = cond (Ω k) white empty
 
@@ -161,7 +175,7 @@ module _ (n : ℕ) (duration : ℕ → ℕ) (lower upper : ℕ → Option ℤ) w
     by-order : ByEarliest J (λ j. getD first j 0) (λ k. index first k)
     by-order =
         let r : Ordered n (λ j. getD first j 0) (λ k. index first k) (λ j k. leb (J .earliest j) (J .earliest k) ≡ true)
-              = sort-ordered (λ j k. leb (J .earliest j) (J .earliest k)) (key-whole (J .earliest)) (key-chain (J .earliest)) n (numbers 0 n) (numbers-permute n) in
+        = sort-ordered (λ j k. leb (J .earliest j) (J .earliest k)) (key-whole (J .earliest)) (key-chain (J .earliest)) n (numbers 0 n) (numbers-permute n) in
         record { task = r .task; placed = r .placed; there = r .there; back = r .back; sorted = λ s t q h. leb-true _ _ (r .sorted s t q h) }
 
     pub order-size : length first ≡ n
@@ -169,8 +183,11 @@ module _ (n : ℕ) (duration : ℕ → ℕ) (lower upper : ℕ → Option ℤ) w
 
     module _ (ok : Proper J) where
       shape : tree.Represents J ok first by-order (map colour first) Ω (λ _. false)
-      shape = record { size = length-map first colour ∙ order-size;
-          whites = λ k q. ap inTheta (at k q) ∙ white-cond (Ω k); grays = λ k q. ap inLambda (at k q) ∙ gray-cond (Ω k) }
+      shape = record {
+        size = length-map first colour ∙ order-size;
+        whites = λ k q. ap inTheta (at k q) ∙ white-cond (Ω k);
+        grays = λ k q. ap inLambda (at k q) ∙ gray-cond (Ω k);
+      }
         where
           at : (k : ℕ) → k < n → getD (map colour first) (index first k) empty ≡ colour k
           at k q = getD-map-in colour first (index first k) 0 empty (omega (arith, order-size, by-order .placed k q)) ∙ ap colour (by-order .there k q)

@@ -26,17 +26,18 @@ use Rattle.trees.proofs.Heights.{room as room-for}
 use Rattle.trees.proofs.Roots as tree
 use Rattle.trees.proofs.Trees.{may-put, was-put, root-of, theta-of}
 use Rattle.runs.specs.Traces.{Post}
-use Rattle.runs.specs.Runs.{State, Turn, on, stop, inner, dropped, raised, posted, propagation}
+use Rattle.runs.specs.Runs.{State, Turn, on, stop, inner, dropped, raised, posted, conflict, propagation}
 use Rattle.runs.specs.Words.{postWords, atomWords, reasons}
 use Rattle.runs.proofs.Buffers.{post-stored, reason-stored, reasons-more, fourOf}
 use Rattle.runs.proofs.Fuel.{inner-pass, inner-stop, inner-raise}
 use Rattle.runs.proofs.Room as room
 use Rattle.runs.proofs.Steps as steps
-use Rattle.explanations.specs.Explanations.{starting, Preceded}
-use Rattle.explanations.proofs.Explaining.{Alike, propagation-same}
+use Rattle.explanations.specs.Explanations.{starting, Overloaded, Preceded}
+use Rattle.explanations.proofs.Explaining.{Alike, conflict-same, propagation-same}
 use Rattle.propagator.specs.declared.disjunctive_propagator.Written.{Written}
 use Rattle.propagator.specs.declared.disjunctive_propagator.Turn.the-variants as turn
 use Rattle.propagator.specs.Holding.{Ordered, Holds, Arrays, At}
+use Rattle.propagator.specs.Moving.{Movable}
 use Rattle.propagator.specs.Turns.{thetaIn, sumIn, Posted, Standing, AtNow, InvNow, turns, Considered, Responsible-for}
 use Rattle.propagator.proofs.Meeting as meeting
 
@@ -49,6 +50,12 @@ map-set f (y ∷ l) (suc k) x = ap (λ (r : List _). f y ∷ r) (map-set f l k x
 -- what is asked of, and said by, an explanation, with other names for the same values
 preceded-at : {size k : ℕ} {est dur θ θ′ : List ℕ} {p p′ c c′ i i′ b b′ : ℕ} → θ ≡ θ′ → p ≡ p′ → c ≡ c′ → i ≡ i′ → b ≡ b′ → Preceded size k θ′ est dur p′ c′ i′ b′ → Preceded size k θ est dur p c i b
 preceded-at a e f g h m = rw (a, e, f, g, h) m
+
+overloaded-at : {size k : ℕ} {est dur θ θ′ : List ℕ} {p p′ c c′ : ℕ} → θ ≡ θ′ → p ≡ p′ → c ≡ c′ → Overloaded size k θ′ est dur p′ c′ → Overloaded size k θ est dur p c
+overloaded-at a e f m = rw (a, e, f) m
+
+conflict-at : (K : Tasks natural) {θ θ′ : List ℕ} {p p′ c c′ : ℕ} → θ ≡ θ′ → p ≡ p′ → c ≡ c′ → conflict zeroAt K c p θ ≡ conflict zeroAt K c′ p′ θ′
+conflict-at K a e f = rw (a, e, f)
 
 propagation-at : (K : Tasks natural) {θ θ′ : List ℕ} {p p′ c c′ i i′ b b′ : ℕ} → θ ≡ θ′ → p ≡ p′ → c ≡ c′ → i ≡ i′ → b ≡ b′ → propagation zeroAt K i b c p θ ≡ propagation zeroAt K i′ b′ c′ p′ θ′
 propagation-at K a e f g h = rw (a, e, f, g, h)
@@ -68,26 +75,37 @@ starts-at starts {i} {j} {b} {c} a d e h = h ∙ rw (a, d, e) (sym (map-set (ins
 module _ {n inn height lct : ℕ} {words : List ℕ} {es ps as′ : List ℤ} {w : Written} {est lst dur tasks mapping : List ℕ} (s : Standing n inn height lct words es ps as′ w est lst dur tasks mapping) where
   abbrev J : Tasks natural
   J = s .J
+
   abbrev first : List ℕ
   first = s .first
+
   abbrev second : List ℕ
   second = s .second
+
   abbrev G : Ordered J first second
   G = s .ordered
+
   abbrev ls : List Leaf
   ls = s .st .leaves
+
   abbrev t : ℕ
   t = s .level
+
   abbrev T : ℕ → ℕ
   T x = getD first x 0
+
   abbrev Short : Post → Type 0
   Short = room.Short zeroAt J (G .proper) first second (G .by-earliest) (G .by-completion)
+
   abbrev ShortEnd : List Atom → Type 0
   ShortEnd = room.ShortEnd zeroAt J (G .proper) first second (G .by-earliest) (G .by-completion)
+
   abbrev short : steps.Measure zeroAt J (G .proper) first second (G .by-earliest) (G .by-completion) Short ShortEnd
   short = room.short zeroAt J (G .proper) first second (G .by-earliest) (G .by-completion)
+
   abbrev Θ : TaskSet
   Θ = steps.Th zeroAt J (G .proper) first second (G .by-earliest) (G .by-completion) t
+
   abbrev Λ : TaskSet
   Λ = steps.lam zeroAt J (G .proper) first second (G .by-earliest) (G .by-completion) Short ShortEnd short (s .st)
 
@@ -101,10 +119,10 @@ module _ {n inn height lct : ℕ} {words : List ℕ} {es ps as′ : List ℤ} {w
   pub ect-is : nodeAt words 0 .ect ≡ leaves.ect J first ls
   ect-is = ap (λ (r : Node). r .ect) root-is
 
-  sum-is : sumIn words ≡ leaves.sum J first ls
+  pub sum-is : sumIn words ≡ leaves.sum J first ls
   sum-is = ap (λ (r : Node). r .«sum_of_processing_times») root-is
 
-  theta-is : thetaIn words inn tasks n ≡ leaves.theta J first ls
+  pub theta-is : thetaIn words inn tasks n ≡ leaves.theta J first ls
   theta-is = ap (thetaIn words inn tasks) (sym (s .arrays .count)) ∙ theta-of (G .limited) (s .at .tree) tasks (λ j q. s .arrays .tasks .at j (omega (arith, s .arrays .count)))
 
   pub few : n ≤ TASKS
@@ -114,8 +132,69 @@ module _ {n inn height lct : ℕ} {words : List ℕ} {es ps as′ : List ℤ} {w
   inner-few = omega (arith, s .at .tree .complete, room-for (J .count) (omega (arith, G .limited .count)))
 
   -- a number of each task, by the tasks' count
-  held : {f : ℕ → ℕ} {array : List ℕ} → Holds n f array → Holds (J .count) f array
+  pub held : {f : ℕ → ℕ} {array : List ℕ} → Holds n f array → Holds (J .count) f array
   held h = record { size = h .size; at = λ k q. h .at k (omega (arith, s .arrays .count)) }
+
+  -- an overload: what its reason asks, and the reason
+  posts-few : length (s .st .posts) ≤ t
+  posts-few = room.posts-few zeroAt J (G .proper) first second (G .by-earliest) (G .by-completion) t (s .st) (s .inv)
+
+  over-room : 3 * w .atoms + 6 * length (leaves.theta J first ls) ≤ length as′
+  over-room = omega (
+    arith,
+    s .at .explained,
+    few-reasons,
+    room.theta-most zeroAt J (G .proper) first second (G .by-earliest) (G .by-completion) ls,
+    s .arrays .count,
+    s .atom-room,
+    size,
+    mul-left-comm n 2 n,
+    mul-le-mul-right {m = suc (length (s .st .posts))} {n = n} (2 * n) (omega (arith, posts-few, s .small, s .arrays .count)),
+  )
+    where
+      size : length as′ ≡ length (s .as₀)
+      size = ap length (s .at .atoms) ∙ length-sets (s .as₀) 0 (atomWords (reasons (s .st .posts)))
+
+      few-reasons : length (reasons (s .st .posts)) + length (s .st .posts) ≤ length (s .st .posts) * (2 * n)
+      few-reasons = subst (λ (n : ℕ). length (reasons (s .st .posts)) + length (s .st .posts) ≤ length (s .st .posts) * (2 * n)) (s .arrays .count)
+          (room.reasons-short zeroAt J (G .proper) first second (G .by-earliest) (G .by-completion) (s .st .posts) (s .inv .good))
+
+  pub over-asked : lct < leaves.ect J first ls → Overloaded (length as′) (w .atoms) (thetaIn words inn tasks n) est dur (sumIn words) lct
+  over-asked q = overloaded-at theta-is sum-is (s .ends)
+      (meeting.overloaded J first second G est dur (held (s .arrays .starts)) (held (s .arrays .durations)) t ls Λ shape (s .small) (length as′) (w .atoms) (omega (arith, q, s .ends)) over-room)
+
+  pub conflict-is : conflict zeroAt (starting est dur) lct (sumIn words) (thetaIn words inn tasks n) ≡ conflict zeroAt J (completion J (getD second t 0)) (leaves.sum J first ls) (leaves.theta J first ls)
+  conflict-is = conflict-at (starting est dur) theta-is sum-is (s .ends)
+      ∙ conflict-same zeroAt (starting est dur) J (completion J (getD second t 0)) (leaves.sum J first ls) (leaves.theta J first ls)
+      (λ y q. meeting.alike J first second G est dur (held (s .arrays .starts)) (held (s .arrays .durations)) (getD (leaves.theta J first ls) y 0) (meeting.each-listed J first second G est dur (held (s .arrays .starts)) (held (s .arrays .durations)) t ls Λ shape (s .small) y q))
+
+  pub ect-scan : leaves.ect J first ls ≡ steps.E zeroAt J (G .proper) first second (G .by-earliest) (G .by-completion) Θ
+  ect-scan = tree.ect-is J (G .proper) first (G .by-earliest) ls Θ Λ shape
+
+  -- the task of the level may leave Theta
+  module _ (j : ℕ) (z : j ≡ getD second t 0) where
+    pub known-j : j < J .count
+    known-j = omega (arith, z, G .by-completion .task t (s .small))
+
+    pub place-j : getD mapping j 0 ≡ index first j
+    place-j = s .arrays .places .at j (omega (arith, known-j, s .arrays .count))
+
+    abbrev pub movable : Movable inn words mapping est dur j
+    movable = record {
+      J = J;
+      first = first;
+      leaves = ls;
+      limited = G .limited;
+      tree = s .at .tree;
+      known = omega (arith, known-j, few, s .arrays .count);
+      inside = omega (arith, place-j, G .by-earliest .placed j known-j);
+      task = ap T place-j ∙ G .by-earliest .there j known-j;
+      start = s .arrays .starts .at j (omega (arith, known-j, s .arrays .count));
+      lasts = s .arrays .durations .at j (omega (arith, known-j, s .arrays .count));
+    }
+
+    pub gray-place : getD mapping j 0 ≡ index first (getD second t 0)
+    gray-place = place-j ∙ ap (λ (k : ℕ). index first k) z
 
   pub found-inside : (x : ℕ) → leaves.responsible J first ls ≡ some x → x < J .count
   found-inside x z = tree.one-found J (G .proper) first (G .by-earliest) ls Θ Λ shape x z .small
@@ -158,8 +237,12 @@ module _ {n inn height lct : ℕ} {words : List ℕ} {es ps as′ : List ℤ} {w
         (room.reasons-short zeroAt J (G .proper) first second (G .by-earliest) (G .by-completion) (s .st .posts) (s .inv .good))
 
     theta-less : suc (length (leaves.theta J first ls)) ≤ n
-    theta-less = omega (arith, s .arrays .count, room.theta-less zeroAt J (G .proper) first second (G .by-earliest) (G .by-completion) ls x (found .small)
-        (tree.white-at J (G .proper) first (G .by-earliest) ls Θ Λ shape x (found .small) ∙ found .out))
+    theta-less = omega (
+      arith,
+      s .arrays .count,
+      room.theta-less zeroAt J (G .proper) first second (G .by-earliest) (G .by-completion) ls x (found .small)
+          (tree.white-at J (G .proper) first (G .by-earliest) ls Θ Λ shape x (found .small) ∙ found .out),
+    )
 
     pub many-atoms : w .atoms ≤ 4608
     many-atoms = omega (arith, s .at .explained, reasons-short, mul-le-mul {n₁ = length (s .st .posts)} {m₁ = 2 * n} {n₂ = 48} {m₂ = 96} (omega (arith, fewer, s .small, few, s .arrays .count)) (omega (arith, few)))
@@ -169,6 +252,7 @@ module _ {n inn height lct : ℕ} {words : List ℕ} {es ps as′ : List ℤ} {w
       where
         size : length as′ ≡ length (s .as₀)
         size = ap length (s .at .atoms) ∙ length-sets (s .as₀) 0 (atomWords (reasons (s .st .posts)))
+
         twice : n * (2 * n) ≡ 2 * (n * n)
         twice = mul-left-comm n 2 n
 
@@ -193,15 +277,17 @@ module _ {n inn height lct : ℕ} {words : List ℕ} {es ps as′ : List ℤ} {w
 
       abbrev ect : ℕ
       ect = leaves.ect J first ls
+
       abbrev now : List Atom
       now = propagation zeroAt J (T x) ect (completion J (getD second t 0)) (leaves.sum J first ls) (leaves.theta J first ls)
+
       abbrev made : Post
       made = record { task = T x; bound = instant zeroAt ect; reason = now }
 
       reason-is : propagation zeroAt (starting est dur) i b lct (sumIn words) (thetaIn words inn tasks n) ≡ now
       reason-is = propagation-at (starting est dur) theta-is sum-is (s .ends) (r .task) bound-is
           ∙ propagation-same zeroAt (starting est dur) J (T x) ect (completion J (getD second t 0)) (leaves.sum J first ls) (leaves.theta J first ls)
-              (alike (T x) (found .gray .small)) (λ y q. alike (getD (leaves.theta J first ls) y 0) (meeting.each-listed J first second G est dur (held (s .arrays .starts)) (held (s .arrays .durations)) t ls Λ shape (s .small) y q))
+          (alike (T x) (found .gray .small)) (λ y q. alike (getD (leaves.theta J first ls) y 0) (meeting.each-listed J first second G est dur (held (s .arrays .starts)) (held (s .arrays .durations)) t ls Λ shape (s .small) y q))
         where
           alike : (k : ℕ) → k < J .count → Alike (starting est dur) J k
           alike = meeting.alike J first second G est dur (held (s .arrays .starts)) (held (s .arrays .durations))
@@ -227,27 +313,40 @@ module _ {n inn height lct : ℕ} {words : List ℕ} {es ps as′ : List ℤ} {w
 
         pub raised-on : {words′ : List ℕ} {es′ : List ℤ} → getD est i 0 < b → b ≤ getD lst i 0 → es′ ≡ set es i (instant zeroAt b) → Put inn words words′ (getD mapping i 0) emptyOf
             → Considered s (turn.On w′) words′ es′ ps′ bs
-        raised-on {words′} {es′} up low e q = (next, steps.raise-ok zeroAt J (G .proper) first second (G .by-earliest) (G .by-completion) Short ShortEnd short t (s .st) (s .small) (s .inv) x found over up′ low′, at-next,
-            λ f. inner-raise zeroAt J first second f t (s .st) x passes (r .found) (lt-ltb (J .earliest (T x)) ect up′) (le-ltb (J .latest (T x)) ect low′))
+        raised-on {words′} {es′} up low e q = (
+          next,
+          steps.raise-ok zeroAt J (G .proper) first second (G .by-earliest) (G .by-completion) Short ShortEnd short t (s .st) (s .small) (s .inv) x found over up′ low′,
+          at-next,
+          λ f. inner-raise zeroAt J first second f t (s .st) x passes (r .found) (lt-ltb (J .earliest (T x)) ect up′) (le-ltb (J .latest (T x)) ect low′),
+        )
           where
             next : State
             next = dropped (raised after (T x) ect) x
+
             up′ : J .earliest (T x) < ect
             up′ = omega (arith, up, task-start, bound-is)
+
             low′ : ect ≤ J .latest (T x)
             low′ = omega (arith, low, task-latest, bound-is)
+
             at-next : AtNow s next words′ es′ ps′ bs w′
             at-next = record {
               tree = cleared words′ q;
               starts = starts-at (s .st .starts) (s .at .starts) (r .task) bound-is e;
-              posts = post-at .posts; atoms = post-at .atoms; posted = post-at .posted; explained = post-at .explained;
+              posts = post-at .posts;
+              atoms = post-at .atoms;
+              posted = post-at .posted;
+              explained = post-at .explained;
             }
 
       -- no post
       pub passed-on : {words′ : List ℕ} → b ≤ getD est i 0 → Put inn words words′ (getD mapping i 0) emptyOf → Considered s (turn.On w) words′ es ps as′
-      passed-on {words′} low q = (dropped (s .st) x, steps.pass-ok zeroAt J (G .proper) first second (G .by-earliest) (G .by-completion) Short ShortEnd short t (s .st) (s .small) (s .inv) x found over low′,
-          record { tree = cleared words′ q; starts = s .at .starts; posts = s .at .posts; atoms = s .at .atoms; posted = s .at .posted; explained = s .at .explained },
-          λ f. inner-pass zeroAt J first second f t (s .st) x passes (r .found) (le-ltb (J .earliest (T x)) ect low′))
+      passed-on {words′} low q = (
+        dropped (s .st) x,
+        steps.pass-ok zeroAt J (G .proper) first second (G .by-earliest) (G .by-completion) Short ShortEnd short t (s .st) (s .small) (s .inv) x found over low′,
+        record { tree = cleared words′ q; starts = s .at .starts; posts = s .at .posts; atoms = s .at .atoms; posted = s .at .posted; explained = s .at .explained },
+        λ f. inner-pass zeroAt J first second f t (s .st) x passes (r .found) (le-ltb (J .earliest (T x)) ect low′),
+      )
         where
           low′ : ect ≤ J .earliest (T x)
           low′ = omega (arith, low, task-start, bound-is)

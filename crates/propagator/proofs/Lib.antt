@@ -3,3 +3,4 @@ pub mod Posting
 pub mod Considering
 pub mod Turning
 pub mod Moving
+pub mod Levels

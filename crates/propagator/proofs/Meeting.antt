@@ -29,10 +29,13 @@ use Rattle.propagator.specs.Holding.{Ordered, Holds}
 module _ (J : Tasks natural) (first second : List ℕ) (G : Ordered J first second) (est dur : List ℕ) (he : Holds (J .count) (J .earliest) est) (hd : Holds (J .count) (J .duration) dur) where
   abbrev ok : Proper J
   ok = G .proper
+
   abbrev n : ℕ
   n = J .count
+
   abbrev T : ℕ → ℕ
   T j = getD first j 0
+
   abbrev all : ℕ
   all = processing J (λ _. true)
 
@@ -49,14 +52,19 @@ module _ (J : Tasks natural) (first second : List ℕ) (G : Ordered J first seco
   module _ (t : ℕ) (ls : List Leaf) (Λ : TaskSet) (s : tree.Represents J ok first (G .by-earliest) ls (λ k. leb t (index second k)) Λ) (small : t < n) where
     abbrev Θ : TaskSet
     Θ k = leb t (index second k)
+
     abbrev onward : ℕ → TaskSet
     onward a = walks.onward zeroAt J ok first second (G .by-earliest) ls Θ Λ s a
+
     abbrev th : ℕ → ℕ → List ℕ
     th a d = thetaOf (whiteAt ls) (taskAt J first) a d
+
     abbrev θ : List ℕ
     θ = theta J first ls
+
     abbrev c : ℕ
     c = completion J (getD second t 0)
+
     abbrev spot : ℕ → ℕ
     spot x = stops.spot zeroAt J ok first second (G .by-earliest) (G .by-completion) t ls Λ s small x
 
@@ -87,13 +95,15 @@ module _ (J : Tasks natural) (first second : List ℕ) (G : Ordered J first seco
     at-spot : (x : ℕ) → x < n → Θ (T x) ≡ true → (spot x < length θ) × (getD θ (spot x) 0 ≡ T x) × (lasts dur (drop (spot x) θ) ≡ processing J (onward x))
     at-spot x q y =
         let f = stops.from-spot zeroAt J ok first second (G .by-earliest) (G .by-completion) t ls Λ s small x q in
-        let g : drop (spot x) θ ≡ T x ∷ th (suc x) (n - suc x) = f ∙ ap (th x) (one x q) ∙ theta-white (whiteAt ls) (taskAt J first) x (n - suc x) (white-at x q ∙ y) in
-        (omega (arith, ap length g, length-drop (spot x) θ),
+        let g : drop (spot x) θ ≡ T x ∷ th (suc x) (n - suc x) = f ∙ ap (th x) (one x q) ∙ theta-white (whiteAt ls) (taskAt J first) x (n - suc x) (white-at x q ∙ y) in (
+          omega (arith, ap length g, length-drop (spot x) θ),
           ap (λ (k : ℕ). getD θ k 0) (plus (spot x)) ∙ sym (getD-drop (spot x) θ 0 0) ∙ ap (λ (l : List ℕ). getD l 0 0) g,
-          ap (lasts dur) f ∙ lasts-onward (n - x) x (omega arith))
+          ap (lasts dur) f ∙ lasts-onward (n - x) x (omega arith),
+        )
       where
         one : (x : ℕ) → x < n → n - x ≡ suc (n - suc x)
         one x q = omega arith
+
         plus : (k : ℕ) → k ≡ k + 0
         plus k = omega arith
 
@@ -108,9 +118,12 @@ module _ (J : Tasks natural) (first second : List ℕ) (G : Ordered J first seco
     sum-most = omega (arith, walks.sum-is zeroAt J ok first second (G .by-earliest) ls Θ Λ s, whole)
 
     white : White θ est dur (sum J first ls) c
-    white = record { known = λ x q. known (getD θ x 0) (each-listed x q); total = sum-lasts;
-        ends = λ x q. let h = listed x q in
-          omega (arith, he .at (getD θ x 0) (h .small), hd .at (getD θ x 0) (h .small), ok .ranges (getD θ x 0) (h .small), stops.ends zeroAt J ok first second (G .by-earliest) (G .by-completion) t ls Λ s small (getD θ x 0) h) }
+    white = record {
+      known = λ x q. known (getD θ x 0) (each-listed x q);
+      total = sum-lasts;
+      ends = λ x q. let h = listed x q in
+          omega (arith, he .at (getD θ x 0) (h .small), hd .at (getD θ x 0) (h .small), ok .ranges (getD θ x 0) (h .small), stops.ends zeroAt J ok first second (G .by-earliest) (G .by-completion) t ls Λ s small (getD θ x 0) h);
+    }
 
     ends-fit : c + 2 * all < 2 ^ 32
     ends-fit = G .fits (getD second t 0) (G .by-completion .task t small)
@@ -120,9 +133,13 @@ module _ (J : Tasks natural) (first second : List ℕ) (G : Ordered J first seco
     overloaded size k over room =
         let o = stops.overload-stops zeroAt J ok first second (G .by-earliest) (G .by-completion) t ls Λ s small over in
         let (q, z, l) = at-spot (o .at) (o .inside) (o .white) in
-        record { white = white; room = room; fits = omega (arith, ends-fit, sum-most);
+        record {
+          white = white;
+          room = room;
+          fits = omega (arith, ends-fit, sum-most);
           overloads = record { place = spot (o .at); small = q; holds = subst (λ (j : ℕ). c < getD est j 0 + lasts dur (drop (spot (o .at)) θ)) (sym z) (omega (arith, o .passes, l, he .at (T (o .at)) (G .by-earliest .task (o .at) (o .inside)))) };
-          early = λ x r. let h = listed x r in omega (arith, sum-most, G .room (getD θ x 0) (h .small), he .at (getD θ x 0) (h .small)) }
+          early = λ x r. let h = listed x r in omega (arith, sum-most, G .room (getD θ x 0) (h .small), he .at (getD θ x 0) (h .small));
+        }
 
     -- a post
     pub preceded : (size k x : ℕ) → tree.Found J ok first (G .by-earliest) ls Θ Λ s x → c < ect-bar J first ls → J .earliest (T x) < ect J first ls → 3 * k + 6 * length θ + 3 ≤ size
@@ -136,8 +153,12 @@ module _ (J : Tasks natural) (first second : List ℕ) (G : Ordered J first seco
         let ei : getD est (T x) 0 ≡ J .earliest (T x) = he .at (T x) i-small in
         let di : getD dur (T x) 0 ≡ J .duration (T x) = hd .at (T x) i-small in
         let em : getD est (T (one .m)) 0 ≡ J .earliest (T (one .m)) = he .at (T (one .m)) (G .by-earliest .task (one .m) (one .small)) in
-        record { white = white; known = known (T x) i-small; room = room;
+        record {
+          white = white;
+          known = known (T x) i-small;
+          room = room;
           precedes = record { place = spot (one .m); small = q; holds = subst (λ (j : ℕ). c < min (getD est (T x) 0) (getD est j 0) + lasts dur (drop (spot (one .m)) θ) + getD dur (T x) 0) (sym z) (rw (ei, di, em, l) (one .over)) };
           attains = record { place = spot (two .at); small = q′; holds = subst (λ (j : ℕ). getD est j 0 + lasts dur (drop (spot (two .at)) θ) ≡ ect J first ls) (sym z′) (omega (arith, two .attains, l′, he .at (T (two .at)) (G .by-earliest .task (two .at) (two .inside)))) };
           among = stops.spot-up zeroAt J ok first second (G .by-earliest) (G .by-completion) t ls Λ s small (one .m) (two .at) (two .after);
-          fits = omega (arith, ends-fit, sum-most, di, processing-less J (λ _. true) (T x) (record { small = i-small; mem = refl })) }
+          fits = omega (arith, ends-fit, sum-most, di, processing-less J (λ _. true) (T x) (record { small = i-small; mem = refl }));
+        }

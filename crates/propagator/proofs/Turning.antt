@@ -69,8 +69,24 @@ module _ {n inn height lct : ℕ} {words : List ℕ} {es ps as′ : List ℤ} {w
 
   module _ {left : ℕ} {words′ : List ℕ} {es′ ps′ bs : List ℤ} {w′ : Written} (r : Reached left words′ es′ ps′ bs w′) where
     abbrev pub stands : Standing n inn height lct words′ es′ ps′ bs w′ est lst dur tasks mapping
-    stands = record { J = s .J; first = s .first; second = s .second; level = s .level; st = r .st; ps₀ = s .ps₀; as₀ = s .as₀; ordered = s .ordered; arrays = s .arrays; latest = s .latest;
-        small = s .small; ends = s .ends; post-room = s .post-room; atom-room = s .atom-room; inv = r .inv; at = r .at }
+    stands = record {
+      J = s .J;
+      first = s .first;
+      second = s .second;
+      level = s .level;
+      st = r .st;
+      ps₀ = s .ps₀;
+      as₀ = s .as₀;
+      ordered = s .ordered;
+      arrays = s .arrays;
+      latest = s .latest;
+      small = s .small;
+      ends = s .ends;
+      post-room = s .post-room;
+      atom-room = s .atom-room;
+      inv = r .inv;
+      at = r .at;
+    }
 
     bar-is : nodeAt words′ 0 .«ect_bar» ≡ leaves.ect-bar (s .J) (s .first) (r .st .leaves)
     bar-is = ap (λ (n : Node). n .«ect_bar») (considering.root-is stands)
@@ -88,26 +104,32 @@ module _ {n inn height lct : ℕ} {words : List ℕ} {es ps as′ : List ℤ} {w
   module _ {f : ℕ} {words′ : List ℕ} {es′ ps′ bs : List ℤ} {w′ : Written} (r : Reached (suc f) words′ es′ ps′ bs w′) where
     abbrev bar : ℕ
     bar = nodeAt words′ 0 .«ect_bar»
+
     abbrev end : ℕ
     end = completion (s .J) (getD (s .second) (s .level) 0)
+
     abbrev top : ℕ
     top = leaves.ect-bar (s .J) (s .first) (r .st .leaves)
 
     -- there is no task to consider
     pub nothing-left : responsible.Nothing ≡ candidateIn words′ inn height tasks lct → AllConsidered s (turn.On w′) words′ es′ ps′ bs
-    nothing-left z = (r .st, r .at, r .rest ∙ elim (bool (ltb lct bar)) [
+    nothing-left z = (
+      r .st,
+      r .at,
+      r .rest ∙ elim (bool (ltb lct bar)) [
         | inr y ↦ inner-off zeroAt (s .J) (s .first) (s .second) f (s .level) (r .st) (le-ltb end top (omega (arith, ltb-false lct bar y, bar-is r, s .ends)))
         | inl y ↦ inner-none zeroAt (s .J) (s .first) (s .second) f (s .level) (r .st) (lt-ltb end top (omega (arith, ltb-true lct bar y, bar-is r, s .ends)))
             (sym (search-is r) ∙ no-task tasks (searchEct (leavesOf inn (nodeAt words′)) height 0) (z ∙ sym (candidate-some words′ inn height tasks lct (ltb-true lct bar y))))
-      ])
+      ],
+    )
 
     -- there is one
     pub one-left : (id : LocalId) → responsible.Task id ≡ candidateIn words′ inn height tasks lct → (x : ℕ) × Responsible-for (stands r) (id .0) x
     one-left id z = elim (bool (ltb lct bar)) [
-        | inr y ↦ clash {b = true} refl (ap is-task (z ∙ sym (candidate-none words′ inn height tasks lct (ltb-false lct bar y))))
-        | inl y ↦ (let (x, u, v) = some-task tasks (searchEct (leavesOf inn (nodeAt words′)) height 0) id (z ∙ sym (candidate-some words′ inn height tasks lct (ltb-true lct bar y))) in
-            (x, record { over = omega (arith, ltb-true lct bar y, bar-is r); found = sym (search-is r) ∙ u; task = v ∙ s .arrays .tasks .at x (found-small r x (sym (search-is r) ∙ u)) }))
-      ]
+      | inr y ↦ clash {b = true} refl (ap is-task (z ∙ sym (candidate-none words′ inn height tasks lct (ltb-false lct bar y))))
+      | inl y ↦ (let (x, u, v) = some-task tasks (searchEct (leavesOf inn (nodeAt words′)) height 0) id (z ∙ sym (candidate-some words′ inn height tasks lct (ltb-true lct bar y))) in
+          (x, record { over = omega (arith, ltb-true lct bar y, bar-is r); found = sym (search-is r) ∙ u; task = v ∙ s .arrays .tasks .at x (found-small r x (sym (search-is r) ∙ u)) }))
+    ]
 
     -- it was considered
     pub one-less : {words″ : List ℕ} {es″ ps″ bs′ : List ℤ} {w″ : Written} → Considered (stands r) (turn.On w″) words″ es″ ps″ bs′ → Reached f words″ es″ ps″ bs′ w″

@@ -37,8 +37,9 @@ sumIn words = nodeAt words 0 .«sum_of_processing_times»
 -- the task to consider next: none where ect_bar is at most lct
 unfoldable pub candidateIn : List ℕ → ℕ → ℕ → List ℕ → ℕ → Responsible
 candidateIn words inner height tasks lct = elim (ltb lct (nodeAt words 0 .«ect_bar»)) [
-    true ↦ responsibleOf tasks (searchEct (leavesOf inner (nodeAt words)) height 0)
-  | false ↦ responsible.Nothing ]
+  | true ↦ responsibleOf tasks (searchEct (leavesOf inner (nodeAt words)) height 0)
+  | false ↦ responsible.Nothing
+]
 
 -- A post: its four words and its reason's stand after those written so far.
 pub record Posted (ps as′ ps′ bs : List ℤ) (before after : Written) (i bound : ℕ) (reason : List ℤ) (many : ℕ) : Type 0 where

@@ -8,7 +8,6 @@ use trees::disjunctive_task::LocalId;
 use trees::disjunctive_task::leaf_of;
 use trees::theta_lambda_tree::Responsible;
 use trees::theta_lambda_tree::ThetaLambdaTree;
-
 ghost use mathlib.Core.Path.{_≡_};
 ghost use Prim.Native.Nat.{ℕ, _+_, _*_, _^_, _≤_, _<_};
 ghost use lib.ListN.{length, getD};
@@ -19,7 +18,7 @@ ghost use Rattle.trees.specs.Words.{nodeAt};
 ghost use Rattle.runs.specs.Runs.{propagation};
 ghost use Rattle.runs.specs.Words.{atomWords};
 ghost use Rattle.explanations.specs.Explanations.{starting, Preceded, Overloaded};
-ghost use Rattle.propagator.specs.Finding.{Conflicted, conflictIn};
+ghost use Rattle.propagator.specs.Finding.{Conflicted, conflictIn, Begun, Ended};
 ghost use Rattle.propagator.specs.Moving.{Movable, Moved};
 ghost use Rattle.propagator.specs.Turns.{thetaIn, sumIn, candidateIn, Posted, Standing, Considered, AllConsidered, Responsible-for};
 
@@ -49,7 +48,13 @@ pub enum Turn {
 }
 
 // The task to consider next: one of Lambda for which the edge-finding condition holds.
-fn candidate<'a>(nodes: &'a [u32; 508], tasks: &'a [usize; 48], inner: usize, height: usize, lct: u32) -> Responsible
+fn candidate<'a>(
+    nodes: &'a [u32; 508],
+    tasks: &'a [usize; 48],
+    inner: usize,
+    height: usize,
+    lct: u32,
+) -> Responsible
     requires { ⌜ Searchable inner height (nodeAt (now nodes)) ⌝ }
     ensures { λ r. ⌜ r ≡ candidateIn (now (nodes .entry)) inner height (now (tasks .entry)) lct ⌝ }
 {
@@ -85,7 +90,17 @@ fn post<'a>(
     let m = theta.count;
     let white = theta.tasks;
     let at = written.atoms;
-    let end = create_propagation_explanation(atoms, at, &white[..m], est, durations, p, lct, i, bound);
+    let end = create_propagation_explanation(
+        atoms,
+        at,
+        &white[..m],
+        est,
+        durations,
+        p,
+        lct,
+        i,
+        bound,
+    );
     write_post(posts, written.posts, i, bound, at, end - at);
     Written {
         posts: written.posts + 1,
@@ -122,7 +137,18 @@ fn consider<'a>(
         return Turn::On(written);
     }
     let w = post(
-        posts, atoms, written, nodes, tasks, est, durations, inner, n, i, bound, lct,
+        posts,
+        atoms,
+        written,
+        nodes,
+        tasks,
+        est,
+        durations,
+        inner,
+        n,
+        i,
+        bound,
+        lct,
     );
     if bound > lst[i] {
         return Turn::Emptied(w);
@@ -162,7 +188,20 @@ fn consider_all<'a>(
             return Turn::On(w);
         };
         let turn = consider(
-            nodes, earliest, posts, atoms, w, mapping, tasks, est, lst, durations, inner, n, id, lct,
+            nodes,
+            earliest,
+            posts,
+            atoms,
+            w,
+            mapping,
+            tasks,
+            est,
+            lst,
+            durations,
+            inner,
+            n,
+            id,
+            lct,
         );
         match turn {
             Turn::On(x) => {
@@ -224,4 +263,64 @@ fn move_to_lambda<'a>(
         id: LocalId(j),
     };
     ThetaLambdaTree::add_to_lambda(nodes, inner, place, task);
+}
+
+// The levels of edge finding: the candidates in order of falling lct go from Theta to Lambda, and Lambda is considered after each.
+fn edge_finding<'a>(
+    nodes: &mut [u32; 508],
+    earliest: &mut [i32],
+    posts: &mut [i32],
+    atoms: &mut [i32],
+    mapping: &'a [usize; 48],
+    tasks: &'a [usize; 48],
+    candidates: &'a [usize; 48],
+    est: &'a [u32; 48],
+    lst: &'a [u32; 48],
+    lct: &'a [u32; 48],
+    durations: &'a [u32; 48],
+    inner: usize,
+    height: usize,
+    n: usize,
+) -> Outcome
+    requires { ⌜ Begun n inner height (now nodes) (now earliest) (now posts) (now atoms) (now est) (now lst) (now lct) (now durations) (now tasks) (now candidates) (now mapping) ⌝ }
+    ensures { λ r. ⌜ ((s : Begun n inner height (now (nodes .entry)) (now (earliest .entry)) (now (posts .entry)) (now (atoms .entry)) (now (est .entry)) (now (lst .entry)) (now (lct .entry)) (now (durations .entry)) (now (tasks .entry)) (now (candidates .entry)) (now (mapping .entry)))
+        → Ended (s .J) (s .first) (s .second) (now (posts .entry)) (now (atoms .entry)) r (now (earliest .exit)) (now (posts .exit)) (now (atoms .exit))) ⌝ }
+{
+    let mut w = Written { posts: 0, atoms: 0 };
+    let mut index: usize = 0;
+    while index + 1 < n {
+        let j = candidates[index];
+        let lct_j = lct[j];
+        if ThetaLambdaTree::ect(nodes) > lct_j {
+            return overload(atoms, w, nodes, tasks, est, durations, inner, n, lct_j);
+        }
+        move_to_lambda(nodes, inner, mapping, est, durations, j);
+        index += 1;
+        let lct_next = lct[candidates[index]];
+        let turn = consider_all(
+            nodes,
+            earliest,
+            posts,
+            atoms,
+            w,
+            mapping,
+            tasks,
+            est,
+            lst,
+            durations,
+            inner,
+            height,
+            n,
+            lct_next,
+        );
+        match turn {
+            Turn::On(x) => {
+                w = x;
+            }
+            Turn::Emptied(x) => {
+                return Outcome::Emptied(x.posts);
+            }
+        }
+    }
+    Outcome::Done(w.posts)
 }

@@ -74,23 +74,24 @@ module _ (o : ℕ) (Z : Tasks whole) (okz : Proper Z) (deepz : (k : ℕ) → k <
 
   pub run-right : Right Z tr
   run-right = record {
-      exactly = (not-wrong, λ n. elim (is-done (tr .end)) [ inl z ↦ z | inr z ↦ absurd (n (wrong z)) ]);
-      when-done = finished;
-      otherwise = λ h s sch. conflict-sound Z okz (wrong h) s sch;
-      posts = out .goods;
-      overloads = out .over }
+    exactly = (not-wrong, λ n. elim (is-done (tr .end)) [ inl z ↦ z | inr z ↦ absurd (n (wrong z)) ]);
+    when-done = finished;
+    otherwise = λ h s sch. conflict-sound Z okz (wrong h) s sch;
+    posts = out .goods;
+    overloads = out .over;
+  }
 
 -- the two orders of a run, sorted
 pub by-earliest : (J : Tasks natural) (l : List ℕ) → Permutes (J .count) l → ByEarliest J (λ j. getD (sort (byEarliest J) l) j 0) (λ k. index (sort (byEarliest J) l) k)
 by-earliest J l p =
     let r : Ordered (J .count) (λ j. getD (sort (byEarliest J) l) j 0) (λ k. index (sort (byEarliest J) l) k) (λ j k. byEarliest J j k ≡ true)
-          = sort-ordered (byEarliest J) (key-whole (J .earliest)) (key-chain (J .earliest)) (J .count) l p in
+    = sort-ordered (byEarliest J) (key-whole (J .earliest)) (key-chain (J .earliest)) (J .count) l p in
     record { task = r .task; placed = r .placed; there = r .there; back = r .back; sorted = λ s t q h. leb-true _ _ (r .sorted s t q h) }
 
 pub by-completion : (J : Tasks natural) (l : List ℕ) → Permutes (J .count) l → ByCompletion J (λ j. getD (sort (byCompletion J) l) j 0) (λ k. index (sort (byCompletion J) l) k)
 by-completion J l p =
     let r : Ordered (J .count) (λ j. getD (sort (byCompletion J) l) j 0) (λ k. index (sort (byCompletion J) l) k) (λ j k. byCompletion J j k ≡ true)
-          = sort-ordered (byCompletion J) (λ a b. key-whole (completion J) b a) (λ a b c h k. key-chain (completion J) c b a k h) (J .count) l p in
+    = sort-ordered (byCompletion J) (λ a b. key-whole (completion J) b a) (λ a b c h k. key-chain (completion J) c b a k h) (J .count) l p in
     record { task = r .task; placed = r .placed; there = r .there; back = r .back; sorted = λ s t q h. leb-true _ _ (r .sorted s t q h) }
 
 pub demand-3 : (ds : List ℕ) (es ls : List ℤ) (first second : List ℕ) → Accepted ds es ls first second → Right (tasksOf ds es ls) (propagate ds es ls first second)
@@ -100,14 +101,19 @@ demand-3 ds es ls first second a =
   where
     Z : Tasks whole
     Z = tasksOf ds es ls
+
     J : Tasks natural
     J = moments zeroAt (tasksOf ds es ls)
+
     okz : Proper (tasksOf ds es ls)
     okz = record { ranges = a .ranges; lasts = a .lasts }
+
     deep : Above zeroAt (negsuc 199999999)
     deep = above-show zeroAt (negsuc 199999999) (omega arith)
+
     deepz : (k : ℕ) → k < length ds → Above zeroAt (getD es k (pos 0))
     deepz k q = above-up zeroAt (negsuc 199999999) (getD es k (pos 0)) (a .from k q) deep
+
     room : (k : ℕ) → k < length ds → processing (moments zeroAt (tasksOf ds es ls)) (λ _. true) ≤ moment zeroAt (getD es k (pos 0))
     room k q = omega (arith, all-of ds es ls, a .sum, mono zeroAt (negsuc 199999999) (getD es k (pos 0)) (a .from k q))
       where

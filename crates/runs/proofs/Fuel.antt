@@ -25,8 +25,10 @@ use Rattle.trees.proofs.Roots as tree
 module _ (o : ℕ) (J : Tasks natural) (first second : List ℕ) (f t : ℕ) (st : State) where
   abbrev T : ℕ → ℕ
   T x = getD first x 0
+
   abbrev b : ℕ
   b = ect J first (st .leaves)
+
   abbrev Over : Bool → Type 0
   Over v = ltb (lct o J first second t) (ect-bar J first (st .leaves)) ≡ v
 
@@ -68,13 +70,16 @@ module _ (o : ℕ) (J : Tasks natural) (ok : Proper J) (first second : List ℕ)
     where
       i : ℕ
       i = getD first x 0
+
       at-x : index first (getD first x 0) ≡ x
       at-x = rk .back x (g .small)
+
       same : (k : ℕ) → k < J .count → (lam ls less getD first x 0) k ≡ lam (set ls x empty) k
-      same k r = elim (ℕ-discrete k (getD first x 0))
-        [ yes z ↦ subst (λ (k : ℕ). (lam ls less getD first x 0) k ≡ lam (set ls x empty) k) (sym z)
+      same k r = elim (ℕ-discrete k (getD first x 0)) [
+        | yes z ↦ subst (λ (k : ℕ). (lam ls less getD first x 0) k ≡ lam (set ls x empty) k) (sym z)
             (rw (eq-eqb (getD first x 0) (getD first x 0) refl) (sym (ap (λ (j : ℕ). grayAt (set ls x empty) j) at-x ∙ ap inLambda (getD-set-same ls x empty empty (omega (arith, q, g .small))))))
-        | no z ↦ rw (ne-eqb k (getD first x 0) z) (sym (ap inLambda (getD-set-other ls x (index first k) empty empty (λ y. z (sym (rk .there k r) ∙ ap (λ (j : ℕ). getD first j 0) y))))) ]
+        | no z ↦ rw (ne-eqb k (getD first x 0) z) (sym (ap inLambda (getD-set-other ls x (index first k) empty empty (λ y. z (sym (rk .there k r) ∙ ap (λ (j : ℕ). getD first j 0) y)))))
+      ]
 
   opt : (u : Option ℕ) → (u ≡ none) ⊎ ((x : ℕ) × (u ≡ some x))
   opt none = inl refl
@@ -101,14 +106,18 @@ module _ (o : ℕ) (J : Tasks natural) (ok : Proper J) (first second : List ℕ)
     where
       IH : Type 0
       IH = (st′ : State) → length (st′ .leaves) ≡ J .count → card J (lam (st′ .leaves)) ≤ f → I (suc f) t st′ ≡ I f t st′
+
       took : IH → (x : ℕ) → ltb (lct o J first second t) (ect-bar J first (st .leaves)) ≡ true → responsible J first (st .leaves) ≡ some x → card J (lam (set (st .leaves) x empty)) ≤ f → I (suc (suc f)) t st ≡ I (suc f) t st
-      took ih x z w down = elim (bool (ltb (J .earliest (getD first x 0)) (ect J first (st .leaves))))
-        [ inr y ↦ inner-pass o J first second (suc f) t st x z w y ∙ ih (dropped st x) (length-set (st .leaves) x empty ∙ q) down ∙ sym (inner-pass o J first second f t st x z w y)
-        | inl y ↦ elim (bool (ltb (J .latest (getD first x 0)) (ect J first (st .leaves))))
-          [ inl a ↦ inner-stop o J first second (suc f) t st x z w y a ∙ sym (inner-stop o J first second f t st x z w y a)
+      took ih x z w down = elim (bool (ltb (J .earliest (getD first x 0)) (ect J first (st .leaves)))) [
+        | inr y ↦ inner-pass o J first second (suc f) t st x z w y ∙ ih (dropped st x) (length-set (st .leaves) x empty ∙ q) down ∙ sym (inner-pass o J first second f t st x z w y)
+        | inl y ↦ elim (bool (ltb (J .latest (getD first x 0)) (ect J first (st .leaves)))) [
+          | inl a ↦ inner-stop o J first second (suc f) t st x z w y a ∙ sym (inner-stop o J first second f t st x z w y a)
           | inr a ↦ inner-raise o J first second (suc f) t st x z w y a
               ∙ ih (dropped (raised (posted o J first second st (getD first x 0) (ect J first (st .leaves)) t) (getD first x 0) (ect J first (st .leaves))) x) (length-set (st .leaves) x empty ∙ q) down
-              ∙ sym (inner-raise o J first second f t st x z w y a) ] ]
+              ∙ sym (inner-raise o J first second f t st x z w y a)
+        ]
+      ]
+
       by : IH → (ltb (lct o J first second t) (ect-bar J first (st .leaves)) ≡ true) ⊎ (ltb (lct o J first second t) (ect-bar J first (st .leaves)) ≡ false)
           → (responsible J first (st .leaves) ≡ none) ⊎ ((x : ℕ) × (responsible J first (st .leaves) ≡ some x)) → I (suc (suc f)) t st ≡ I (suc f) t st
       by ih (inr z) w = inner-off o J first second (suc f) t st z ∙ sym (inner-off o J first second f t st z)

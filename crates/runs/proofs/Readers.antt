@@ -84,5 +84,9 @@ four-after entry t j h =
     let r = four-words (t .posts) 0 j h in
     let z : 0 + startOf (t .posts) j ≡ startOf (t .posts) j = omega arith in
     let tail : List ℤ = drop (length ws) entry in
-    record { task = List·getD-append ws tail (pos 0) (4 * j) (omega (arith, posts-length (t .posts) 0)) ∙ r .task; bound = List·getD-append ws tail (pos 0) (4 * j + 1) (omega (arith, posts-length (t .posts) 0)) ∙ r .bound;
-      from = List·getD-append ws tail (pos 0) (4 * j + 2) (omega (arith, posts-length (t .posts) 0)) ∙ r .from ∙ ap pos z; count = List·getD-append ws tail (pos 0) (4 * j + 3) (omega (arith, posts-length (t .posts) 0)) ∙ r .count }
+    record {
+      task = List·getD-append ws tail (pos 0) (4 * j) (omega (arith, posts-length (t .posts) 0)) ∙ r .task;
+      bound = List·getD-append ws tail (pos 0) (4 * j + 1) (omega (arith, posts-length (t .posts) 0)) ∙ r .bound;
+      from = List·getD-append ws tail (pos 0) (4 * j + 2) (omega (arith, posts-length (t .posts) 0)) ∙ r .from ∙ ap pos z;
+      count = List·getD-append ws tail (pos 0) (4 * j + 3) (omega (arith, posts-length (t .posts) 0)) ∙ r .count;
+    }

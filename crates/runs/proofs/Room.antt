@@ -41,7 +41,7 @@ module _ (f : ℕ → ℕ) (t : ℕ) where
   unfolding image
   image-in zero k h = clash h refl
   image-in (suc m) k h = elim (with-in (image m) (f m) k h)
-    [ inl z ↦ (m, omega arith, sym z) | inr y ↦ (let (j, q, z) = image-in m k y in (j, omega arith, z)) ]
+      [ inl z ↦ (m, omega arith, sym z) | inr y ↦ (let (j, q, z) = image-in m k y in (j, omega arith, z)) ]
 
   image-card : (m : ℕ) → ((j : ℕ) → j < m → f j < t) → ((i j : ℕ) → i < m → j < m → f i ≡ f j → i ≡ j) → card below (image m) ≡ m
   unfolding image
@@ -51,7 +51,7 @@ module _ (f : ℕ → ℕ) (t : ℕ) where
     where
       fresh : image m (f m) ≡ false
       fresh = elim (bool (image m (f m)))
-        [ inl y ↦ (let (j, q, z) = image-in m (f m) y in absurd (omega (arith, once j m (omega arith) (omega arith) z))) | inr y ↦ y ]
+          [ inl y ↦ (let (j, q, z) = image-in m (f m) y in absurd (omega (arith, once j m (omega arith) (omega arith) z))) | inr y ↦ y ]
 
   pub at-most : (m : ℕ) → ((j : ℕ) → j < m → f j < t) → ((i j : ℕ) → i < m → j < m → f i ≡ f j → i ≡ j) → m ≤ t
   at-most m small once = omega (arith, image-card m small once, card-most below (image m))
@@ -60,16 +60,18 @@ module _ (f : ℕ → ℕ) (t : ℕ) where
 theta-few : (white : ℕ → Bool) (task : ℕ → ℕ) (a d : ℕ) → length (thetaOf white task a d) ≤ d
 theta-few white task a zero = rw (theta-none white task a) (omega arith)
 theta-few white task a (suc d) = elim (bool (white a))
-  [ inl y ↦ rw (theta-white white task a d y) (omega (arith, theta-few white task (suc a) d)) | inr y ↦ rw (theta-skip white task a d y) (omega (arith, theta-few white task (suc a) d)) ]
+    [ inl y ↦ rw (theta-white white task a d y) (omega (arith, theta-few white task (suc a) d)) | inr y ↦ rw (theta-skip white task a d y) (omega (arith, theta-few white task (suc a) d)) ]
 
 -- are fewer where one is not white
 theta-fewer : (white : ℕ → Bool) (task : ℕ → ℕ) (a d x : ℕ) → a ≤ x → x < a + d → white x ≡ false → suc (length (thetaOf white task a d)) ≤ d
 theta-fewer white task a zero x p q y = absurd (omega arith)
-theta-fewer white task a (suc d) x p q y = elim (ℕ-discrete a x)
-  [ yes z ↦ rw (theta-skip white task a d (ap white z ∙ y)) (omega (arith, theta-few white task (suc a) d))
-  | no z ↦ elim (bool (white a))
-    [ inl w ↦ rw (theta-white white task a d w) (omega (arith, theta-fewer white task (suc a) d x (omega arith) (omega arith) y))
-    | inr w ↦ rw (theta-skip white task a d w) (omega (arith, theta-few white task (suc a) d)) ] ]
+theta-fewer white task a (suc d) x p q y = elim (ℕ-discrete a x) [
+  | yes z ↦ rw (theta-skip white task a d (ap white z ∙ y)) (omega (arith, theta-few white task (suc a) d))
+  | no z ↦ elim (bool (white a)) [
+    | inl w ↦ rw (theta-white white task a d w) (omega (arith, theta-fewer white task (suc a) d x (omega arith) (omega arith) y))
+    | inr w ↦ rw (theta-skip white task a d w) (omega (arith, theta-few white task (suc a) d))
+  ]
+]
 
 module _ (o : ℕ) (J : Tasks natural) (ok : Proper J) (first second : List ℕ) (rk : ByEarliest J (λ j. getD first j 0) (λ k. index first k)) (ord : ByCompletion J (λ t. getD second t 0) (λ k. index second k)) where
   abbrev n : ℕ
@@ -95,11 +97,15 @@ module _ (o : ℕ) (J : Tasks natural) (ok : Proper J) (first second : List ℕ)
 
   pub short : Measure o J ok first second rk ord Short ShortEnd
   short = record {
-      of-post = λ t ls Λ s x small f late over up.
-        omega (arith, propagation-length o J (getD first x 0) (Rattle.trees.specs.Leaves.ect J first ls) (Rattle.scheduling.specs.Scheduling.completion J (getD second t 0)) (Rattle.trees.specs.Leaves.sum J first ls) (theta J first ls),
-          theta-less ls x (f .small) (found-not-white t ls Λ s x f));
-      of-end = λ t ls Λ s small over.
-        omega (arith, conflict-length o J (Rattle.scheduling.specs.Scheduling.completion J (getD second t 0)) (Rattle.trees.specs.Leaves.sum J first ls) (theta J first ls), theta-most ls) }
+    of-post = λ t ls Λ s x small f late over up.
+        omega (
+          arith,
+          propagation-length o J (getD first x 0) (Rattle.trees.specs.Leaves.ect J first ls) (Rattle.scheduling.specs.Scheduling.completion J (getD second t 0)) (Rattle.trees.specs.Leaves.sum J first ls) (theta J first ls),
+          theta-less ls x (f .small) (found-not-white t ls Λ s x f),
+        );
+    of-end = λ t ls Λ s small over.
+        omega (arith, conflict-length o J (Rattle.scheduling.specs.Scheduling.completion J (getD second t 0)) (Rattle.trees.specs.Leaves.sum J first ls) (theta J first ls), theta-most ls);
+  }
 
   pub reasons-short : (ps : List Post) → AllGood o J ok first second rk ord Short ShortEnd short ps → length (reasons ps) + length ps ≤ length ps * (2 * n)
   unfolding reasons
@@ -110,12 +116,13 @@ module _ (o : ℕ) (J : Tasks natural) (ok : Proper J) (first second : List ℕ)
   module _ (t : ℕ) (st : State) (v : Inv o J ok first second rk ord Short ShortEnd short t st) where
     abbrev place : ℕ → ℕ
     place k = index second k
+
     abbrev tk : ℕ → ℕ
     tk = taskOf o J ok first second rk ord Short ShortEnd short (st .posts)
 
     posted-early : (j : ℕ) → j < length (st .posts) → place (tk j) < t
     posted-early j q = elim (decLe t (place (tk j)))
-      [ yes h ↦ absurd (omega (arith, v .posted .raises j q, v .posted .agrees j q, v .facts .same-on (tk j) (v .posted .small j q) h)) | no h ↦ omega arith ]
+        [ yes h ↦ absurd (omega (arith, v .posted .raises j q, v .posted .agrees j q, v .facts .same-on (tk j) (v .posted .small j q) h)) | no h ↦ omega arith ]
 
     same-task : (i j : ℕ) → i < n → j < n → place i ≡ place j → i ≡ j
     same-task i j q r z = sym (ord .there i q) ∙ ap (λ (u : ℕ). getD second u 0) z ∙ ord .there j r
@@ -131,11 +138,14 @@ module _ (o : ℕ) (J : Tasks natural) (ok : Proper J) (first second : List ℕ)
         more : ℕ → ℕ
         more zero = place k
         more (suc j) = place (tk j)
+
         small : (j : ℕ) → j < suc (length (st .posts)) → more j < t
         small zero q = v .facts .gray k h
         small (suc j) q = posted-early j (omega arith)
+
         fresh : (j : ℕ) → j < length (st .posts) → k ≡ tk j → ⊥
         fresh j q z = omega (arith, v .posted .raises j q, v .posted .agrees j q, subst (λ (i : ℕ). getD (st .starts) i 0 ≡ J .earliest i) z (v .facts .same-in k h))
+
         once : (i j : ℕ) → i < suc (length (st .posts)) → j < suc (length (st .posts)) → more i ≡ more j → i ≡ j
         once zero zero q r z = refl
         once zero (suc j) q r z = absurd (fresh j (omega arith) (same-task k (tk j) (h .small) (v .posted .small j (omega arith)) z))

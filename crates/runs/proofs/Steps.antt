@@ -51,36 +51,57 @@ leb-step t x ne = elim (decLt x t) [ yes q ↦ lt-leb t x q ∙ sym (lt-leb (suc
 
 -- Done looks at the starts below the count
 pub done-same : (J : Tasks natural) (now now′ : ℕ → ℕ) (m : ℕ) (task bound : ℕ → ℕ) → ((k : ℕ) → k < J .count → now′ k ≡ now k) → Done J now m task bound → Done J now′ m task bound
-done-same J now now′ m task bound z d = record { no-overload = d .no-overload; no-passing = d .no-passing; starts = λ i q. rw (z i q) (d .starts i q); small = d .small; raises = d .raises;
-    at-largest = d .at-largest; every = λ k q r. d .every k q (rw (z k q) at r); once = d .once }
+done-same J now now′ m task bound z d = record {
+  no-overload = d .no-overload;
+  no-passing = d .no-passing;
+  starts = λ i q. rw (z i q) (d .starts i q);
+  small = d .small;
+  raises = d .raises;
+  at-largest = d .at-largest;
+  every = λ k q r. d .every k q (rw (z k q) at r);
+  once = d .once;
+}
 
 module _ (o : ℕ) (J : Tasks natural) (ok : Proper J) (first second : List ℕ) (rk : ByEarliest J (λ j. getD first j 0) (λ k. index first k)) (ord : ByCompletion J (λ t. getD second t 0) (λ k. index second k)) where
   abbrev pub T : ℕ → ℕ
   T j = getD first j 0
+
   abbrev pub rank : ℕ → ℕ
   rank k = index first k
+
   abbrev pub L : ℕ → ℕ
   L t = getD second t 0
+
   abbrev pub place : ℕ → ℕ
   place k = index second k
+
   abbrev pub n : ℕ
   n = J .count
+
   abbrev pub E : TaskSet → ℕ
   E Ω = scan J T rank Ω n
+
   pub E-is : (Ω : TaskSet) → NonEmpty J Ω → Ect J Ω (E Ω)
   E-is Ω = scan-is J T rank ok rk Ω
+
   abbrev pub Th : ℕ → TaskSet
   Th t k = leb t (place k)
+
   abbrev pub En : ℕ → ℕ
   En t = completion J (L t)
+
   abbrev pub Fa : ℕ → TaskSet → (ℕ → ℕ) → Type 0
   Fa = Facts J ok E E-is L place ord
+
   abbrev pub Shape : List Leaf → TaskSet → TaskSet → Type 0
   Shape = tree.Represents J ok first rk
+
   abbrev pub Found : (ls : List Leaf) (Ω Λ : TaskSet) → Shape ls Ω Λ → ℕ → Type 0
   Found = tree.Found J ok first rk
+
   abbrev pub ectOf : List Leaf → ℕ
   ectOf = leaves.ect J first
+
   abbrev pub barOf : List Leaf → ℕ
   barOf = leaves.ect-bar J first
 
@@ -93,12 +114,16 @@ module _ (o : ℕ) (J : Tasks natural) (ok : Proper J) (first second : List ℕ)
   module _ (Good : Post → Type 0) (GoodEnd : List Atom → Type 0) (meas : Measure Good GoodEnd) where
     abbrev pub lam : State → TaskSet
     lam st k = grayAt (st .leaves) (rank k)
+
     abbrev pub now : State → ℕ → ℕ
     now st k = getD (st .starts) k 0
+
     abbrev pub taskOf : List Post → ℕ → ℕ
     taskOf ps j = getD ps j no-post .task
+
     abbrev pub boundOf : List Post → ℕ → ℕ
     boundOf ps j = moment o (getD ps j no-post .bound)
+
     abbrev pub AllGood : List Post → Type 0
     AllGood ps = (j : ℕ) → j < length ps → Good (getD ps j no-post)
 
@@ -118,6 +143,7 @@ module _ (o : ℕ) (J : Tasks natural) (ok : Proper J) (first second : List ℕ)
     module _ (ps : List Post) (p : Post) where
       old : (j : ℕ) → j < length ps → getD (ps ++ (p ∷ [])) j no-post ≡ getD ps j no-post
       old j q = List·getD-append ps (p ∷ []) no-post j q
+
       new : getD (ps ++ (p ∷ [])) (length ps) no-post ≡ p
       new = getD-append-seam ps p [] no-post
 
@@ -128,32 +154,37 @@ module _ (o : ℕ) (J : Tasks natural) (ok : Proper J) (first second : List ℕ)
     module _ (ls : List Leaf) (i : ℕ) (c : Leaf) (size : length ls ≡ n) (small : i < n) where
       here : getD (set ls (rank i) c) (rank i) empty ≡ c
       here = getD-set-same ls (rank i) c empty (omega (arith, rk .placed i small))
+
       there : (k : ℕ) → k < n → (k ≡ i → ⊥) → getD (set ls (rank i) c) (rank k) empty ≡ getD ls (rank k) empty
       there k q ne = getD-set-other ls (rank i) (rank k) c empty (λ z. ne (sym (rk .there k q) ∙ ap T z ∙ rk .there i small))
 
     -- i leaves Λ
     module _ (t : ℕ) (ls : List Leaf) (i : ℕ) (size : length ls ≡ n) (small : i < n) (late : place i < t) where
       drop-whites : ((k : ℕ) → k < n → whiteAt ls (rank k) ≡ Th t k) → (k : ℕ) → k < n → whiteAt (set ls (rank i) empty) (rank k) ≡ Th t k
-      drop-whites w k q = elim (ℕ-discrete k i)
-        [ yes z ↦ rw z (ap inTheta (here ls i empty size small) ∙ sym (lt-leb t (place i) late))
-        | no z ↦ ap inTheta (there ls i empty size small k q z) ∙ w k q ]
+      drop-whites w k q = elim (ℕ-discrete k i) [
+        | yes z ↦ rw z (ap inTheta (here ls i empty size small) ∙ sym (lt-leb t (place i) late))
+        | no z ↦ ap inTheta (there ls i empty size small k q z) ∙ w k q
+      ]
 
       drop-grays : (k : ℕ) → k < n → ((λ (k : ℕ). grayAt ls (rank k)) less i) k ≡ grayAt (set ls (rank i) empty) (rank k)
-      drop-grays k q = elim (ℕ-discrete k i)
-        [ yes z ↦ rw (z, eq-eqb i i refl) (sym (ap inLambda (here ls i empty size small)))
-        | no z ↦ rw (ne-eqb k i z) (sym (ap inLambda (there ls i empty size small k q z))) ]
+      drop-grays k q = elim (ℕ-discrete k i) [
+        | yes z ↦ rw (z, eq-eqb i i refl) (sym (ap inLambda (here ls i empty size small)))
+        | no z ↦ rw (ne-eqb k i z) (sym (ap inLambda (there ls i empty size small k q z)))
+      ]
 
     -- L t goes from Θ to Λ
     module _ (t : ℕ) (ls : List Leaf) (size : length ls ≡ n) (small : t < n) where
       gray-whites : ((k : ℕ) → k < n → whiteAt ls (rank k) ≡ Th t k) → (k : ℕ) → k < n → whiteAt (set ls (rank (L t)) gray) (rank k) ≡ Th (suc t) k
-      gray-whites w k q = elim (ℕ-discrete k (L t))
-        [ yes z ↦ rw z (ap inTheta (here ls (L t) gray size (ord .task t small)) ∙ sym (lt-leb (suc t) (place (L t)) (omega (arith, ord .back t small))))
-        | no z ↦ ap inTheta (there ls (L t) gray size (ord .task t small) k q z) ∙ w k q ∙ leb-step t (place k) (λ y. z (sym (ord .there k q) ∙ ap L y)) ]
+      gray-whites w k q = elim (ℕ-discrete k (L t)) [
+        | yes z ↦ rw z (ap inTheta (here ls (L t) gray size (ord .task t small)) ∙ sym (lt-leb (suc t) (place (L t)) (omega (arith, ord .back t small))))
+        | no z ↦ ap inTheta (there ls (L t) gray size (ord .task t small) k q z) ∙ w k q ∙ leb-step t (place k) (λ y. z (sym (ord .there k q) ∙ ap L y))
+      ]
 
       gray-grays : (k : ℕ) → k < n → ((λ (k : ℕ). grayAt ls (rank k)) with L t) k ≡ grayAt (set ls (rank (L t)) gray) (rank k)
-      gray-grays k q = elim (ℕ-discrete k (L t))
-        [ yes z ↦ rw (z, eq-eqb (L t) (L t) refl) (sym (ap inLambda (here ls (L t) gray size (ord .task t small))))
-        | no z ↦ rw (ne-eqb k (L t) z) (sym (ap inLambda (there ls (L t) gray size (ord .task t small) k q z))) ]
+      gray-grays k q = elim (ℕ-discrete k (L t)) [
+        | yes z ↦ rw (z, eq-eqb (L t) (L t) refl) (sym (ap inLambda (here ls (L t) gray size (ord .task t small))))
+        | no z ↦ rw (ne-eqb k (L t) z) (sym (ap inLambda (there ls (L t) gray size (ord .task t small) k q z)))
+      ]
 
     -- and at its end: no task of Λ passes any more
     pub record Closed (t : ℕ) (st : State) : Type 0 where
@@ -168,25 +199,36 @@ module _ (o : ℕ) (J : Tasks natural) (ok : Proper J) (first second : List ℕ)
     module _ (t : ℕ) (st : State) (small : t < n) (v : Inv t st) (x : ℕ) (f : Found (st .leaves) (Th t) (lam st) (shape t st v) x) (over : En t < barOf (st .leaves)) where
       abbrev pub i : ℕ
       i = T x
+
       at-x : rank i ≡ x
       at-x = rk .back x (f .small)
+
       mem : In J (lam st) i
       mem = f .gray
+
       pub late : place i < t
       late = v .facts .gray i mem
+
       hit : En t < E (Th t with i)
       hit = omega (arith, over, f .reaches, E-is (Th t with i) (i, record { small = mem .small; mem = with-new (Th t) i }) .bounds (f .value) (f .attains))
+
       ect-is : ectOf (st .leaves) ≡ E (Th t)
       ect-is = tree.ect-is J ok first rk (st .leaves) (Th t) (lam st) (shape t st v)
 
       pub pass-ok : ectOf (st .leaves) ≤ J .earliest i → Inv t (edges.dropped st x)
       pass-ok low = subst (λ (x : ℕ). Inv t (edges.dropped st x)) at-x (record {
-          size = length-set (st .leaves) (rank i) empty ∙ v .size; whites = drop-whites t (st .leaves) i (v .size) (mem .small) late (v .whites); known = v .known; posted = v .posted; good = v .good;
-          facts = facts-same J ok E E-is L place ord t (lam st less i) (λ k. grayAt (set (st .leaves) (rank i) empty) (rank k)) (now st) (drop-grays t (st .leaves) i (v .size) (mem .small) late)
-            (leave J ok E E-is L place ord t (lam st) (now st) (now st) i (v .facts) mem hit (omega (arith, ect-is, v .facts .same-in i mem)) (v .facts .inside i (mem .small)) (λ k ne. refl)) })
+        size = length-set (st .leaves) (rank i) empty ∙ v .size;
+        whites = drop-whites t (st .leaves) i (v .size) (mem .small) late (v .whites);
+        known = v .known;
+        posted = v .posted;
+        good = v .good;
+        facts = facts-same J ok E E-is L place ord t (lam st less i) (λ k. grayAt (set (st .leaves) (rank i) empty) (rank k)) (now st) (drop-grays t (st .leaves) i (v .size) (mem .small) late)
+            (leave J ok E E-is L place ord t (lam st) (now st) (now st) i (v .facts) mem hit (omega (arith, ect-is, v .facts .same-in i mem)) (v .facts .inside i (mem .small)) (λ k ne. refl));
+      })
 
       abbrev pub b : ℕ
       b = ectOf (st .leaves)
+
       abbrev pub p : Post
       p = record { task = i; bound = subℕ b o; reason = propagation o J i b (En t) (leaves.sum J first (st .leaves)) (theta J first (st .leaves)) }
 
@@ -195,19 +237,24 @@ module _ (o : ℕ) (J : Tasks natural) (ok : Proper J) (first second : List ℕ)
 
       pub raise-ok : J .earliest i < b → b ≤ J .latest i → Inv t (edges.dropped (edges.raised (edges.posted o J first second st i b t) i b) x)
       raise-ok up fits = subst (λ (x : ℕ). Inv t (edges.dropped (edges.raised (edges.posted o J first second st i b t) i b) x)) at-x (record {
-          size = length-set (st .leaves) (rank i) empty ∙ v .size; whites = drop-whites t (st .leaves) i (v .size) (mem .small) late (v .whites); known = length-set (st .starts) i b ∙ v .known;
-          good = all-good (st .posts) p (v .good) (good-p up);
-          posted = subst (λ (m : ℕ). Posts J now′ m (taskOf (st .posts ++ (p ∷ []))) (boundOf (st .posts ++ (p ∷ [])))) (sym (length-snoc (st .posts) p))
+        size = length-set (st .leaves) (rank i) empty ∙ v .size;
+        whites = drop-whites t (st .leaves) i (v .size) (mem .small) late (v .whites);
+        known = length-set (st .starts) i b ∙ v .known;
+        good = all-good (st .posts) p (v .good) (good-p up);
+        posted = subst (λ (m : ℕ). Posts J now′ m (taskOf (st .posts ++ (p ∷ []))) (boundOf (st .posts ++ (p ∷ [])))) (sym (length-snoc (st .posts) p))
             (more J (now st) now′ (length (st .posts)) (taskOf (st .posts)) (boundOf (st .posts)) (taskOf (st .posts ++ (p ∷ []))) (boundOf (st .posts ++ (p ∷ []))) i b
-              (mem .small) (v .posted) (v .facts .same-in i mem) up same other (ap (λ (q : Post). q .task) (new (st .posts) p)) (ap (λ (q : Post). moment o (q .bound)) (new (st .posts) p) ∙ moment-instant o b)
-              (λ j r. ap (λ (q : Post). q .task) (old (st .posts) p j r)) (λ j r. ap (λ (q : Post). moment o (q .bound)) (old (st .posts) p j r)));
-          facts = facts-same J ok E E-is L place ord t (lam st less i) (λ k. grayAt (set (st .leaves) (rank i) empty) (rank k)) now′ (drop-grays t (st .leaves) i (v .size) (mem .small) late)
-            (leave J ok E E-is L place ord t (lam st) (now st) now′ i (v .facts) mem hit (omega (arith, same, ect-is)) (omega (arith, same)) other) })
+            (mem .small) (v .posted) (v .facts .same-in i mem) up same other (ap (λ (q : Post). q .task) (new (st .posts) p)) (ap (λ (q : Post). moment o (q .bound)) (new (st .posts) p) ∙ moment-instant o b)
+            (λ j r. ap (λ (q : Post). q .task) (old (st .posts) p j r)) (λ j r. ap (λ (q : Post). moment o (q .bound)) (old (st .posts) p j r)));
+        facts = facts-same J ok E E-is L place ord t (lam st less i) (λ k. grayAt (set (st .leaves) (rank i) empty) (rank k)) now′ (drop-grays t (st .leaves) i (v .size) (mem .small) late)
+            (leave J ok E E-is L place ord t (lam st) (now st) now′ i (v .facts) mem hit (omega (arith, same, ect-is)) (omega (arith, same)) other);
+      })
         where
           now′ : ℕ → ℕ
           now′ k = getD (set (st .starts) i b) k 0
+
           same : getD (set (st .starts) i b) i 0 ≡ b
           same = getD-set-same (st .starts) i b 0 (omega (arith, v .known, mem .small))
+
           other : (k : ℕ) → (k ≡ i → ⊥) → getD (set (st .starts) i b) k 0 ≡ getD (st .starts) k 0
           other k ne = getD-set-other (st .starts) i k b 0 ne
 
@@ -229,18 +276,30 @@ module _ (o : ℕ) (J : Tasks natural) (ok : Proper J) (first second : List ℕ)
       where
         IH : Type 0
         IH = (st′ : State) → Inv t st′ → card J (lam st′) ≤ f → TurnOk t (inner o J first second f t st′)
+
         took : IH → ltb (En t) (barOf (st .leaves)) ≡ true → (x : ℕ) → leaves.responsible J first (st .leaves) ≡ some x → Found (st .leaves) (Th t) (lam st) (shape t st v) x → TurnOk t (inner o J first second (suc f) t st)
-        took ih z x w g = elim (bool (ltb (J .earliest (T x)) (ectOf (st .leaves))))
-          [ inr y ↦ rw (z, w, y, inner) (ih (edges.dropped st x) (pass-ok t st small v x g (ltb-true _ _ z) (ltb-false _ _ y)) (fewer t st small v x g (ltb-true _ _ z) f few))
-          | inl y ↦ elim (bool (ltb (J .latest (T x)) (ectOf (st .leaves))))
-            [ inl a ↦ rw (z, w, y, a, inner) (stop-ok t st small v x g (ltb-true _ _ z) (ltb-true _ _ y) (ltb-true _ _ a))
-            | inr a ↦ rw (z, w, y, a, inner) (ih _ (raise-ok t st small v x g (ltb-true _ _ z) (ltb-true _ _ y) (ltb-false _ _ a)) (fewer t st small v x g (ltb-true _ _ z) f few)) ] ]
+        took ih z x w g = elim (bool (ltb (J .earliest (T x)) (ectOf (st .leaves)))) [
+          | inr y ↦ rw (z, w, y, inner) (ih (edges.dropped st x) (pass-ok t st small v x g (ltb-true _ _ z) (ltb-false _ _ y)) (fewer t st small v x g (ltb-true _ _ z) f few))
+          | inl y ↦ elim (bool (ltb (J .latest (T x)) (ectOf (st .leaves)))) [
+            | inl a ↦ rw (z, w, y, a, inner) (stop-ok t st small v x g (ltb-true _ _ z) (ltb-true _ _ y) (ltb-true _ _ a))
+            | inr a ↦ rw (z, w, y, a, inner) (ih _ (raise-ok t st small v x g (ltb-true _ _ z) (ltb-true _ _ y) (ltb-false _ _ a)) (fewer t st small v x g (ltb-true _ _ z) f few))
+          ]
+        ]
+
         by : IH → (ltb (En t) (barOf (st .leaves)) ≡ true) ⊎ (ltb (En t) (barOf (st .leaves)) ≡ false) → TurnOk t (inner o J first second (suc f) t st)
         by ih (inr z) = rw (z, inner) (record { inv = v; none-passes = λ q k h. omega (arith, tree.most J ok first rk (st .leaves) (Th t) (lam st) (shape t st v) k h, ltb-false (En t) (barOf (st .leaves)) z) })
-        by ih (inl z) = elim (opt (leaves.responsible J first (st .leaves)))
-          [ inl w ↦ rw (z, w, inner) (record { inv = v; none-passes = λ q. absurd (omega (arith, ltb-true (En t) (barOf (st .leaves)) z, tree.ect-is J ok first rk (st .leaves) (Th t) (lam st) (shape t st v),
-              tree.none-found J ok first rk (st .leaves) (Th t) (lam st) (shape t st v) w)) })
-          | inr w ↦ took ih z (w .0) (w .1) (tree.one-found J ok first rk (st .leaves) (Th t) (lam st) (shape t st v) (w .0) (w .1)) ]
+        by ih (inl z) = elim (opt (leaves.responsible J first (st .leaves))) [
+          | inl w ↦ rw (z, w, inner) (record {
+            inv = v;
+            none-passes = λ q. absurd (omega (
+              arith,
+              ltb-true (En t) (barOf (st .leaves)) z,
+              tree.ect-is J ok first rk (st .leaves) (Th t) (lam st) (shape t st v),
+              tree.none-found J ok first rk (st .leaves) (Th t) (lam st) (shape t st v) w,
+            ));
+          })
+          | inr w ↦ took ih z (w .0) (w .1) (tree.one-found J ok first rk (st .leaves) (Th t) (lam st) (shape t st v) (w .0) (w .1))
+        ]
 
     pub record OutOk (tr : Trace) : Type 0 where
       pub goods : AllGood (tr .posts)
@@ -256,25 +315,40 @@ module _ (o : ℕ) (J : Tasks natural) (ok : Proper J) (first second : List ℕ)
     -- L t goes
     pub gray-ok : (t : ℕ) (st : State) → t < n → Closed t st → E (Th t) ≤ En t → Inv (suc t) (edges.grayed st (rank (L t)))
     gray-ok t st small c q = let v = c .inv in
-        record { size = length-set (st .leaves) (rank (L t)) gray ∙ v .size; whites = gray-whites t (st .leaves) (v .size) small (v .whites); known = v .known; posted = v .posted; good = v .good;
+        record {
+          size = length-set (st .leaves) (rank (L t)) gray ∙ v .size;
+          whites = gray-whites t (st .leaves) (v .size) small (v .whites);
+          known = v .known;
+          posted = v .posted;
+          good = v .good;
           facts = facts-same J ok E E-is L place ord (suc t) (lam st with L t) (λ k. grayAt (set (st .leaves) (rank (L t)) gray) (rank k)) (now st) (gray-grays t (st .leaves) (v .size) small)
-            (next J ok E E-is L place ord t (lam st) (now st) small (v .facts) (c .none-passes q) q) }
+              (next J ok E E-is L place ord t (lam st) (now st) small (v .facts) (c .none-passes q) q);
+        }
 
     done-ok : (t : ℕ) (st : State) → suc t ≡ n → Closed t st → OutOk (edges.ended o J first second st done)
     done-ok t st end c =
         let q : E (Th t) ≤ En t = last-fits J ok E E-is L place ord t end in
         let v = c .inv in
-        record { goods = v .good; above = map-above o (st .starts); otherwise = λ z. absurd (z refl); over = λ r z. let y : _≡_ {A = ℕ} 0 1 = cc in absurd (omega arith);
+        record {
+          goods = v .good;
+          above = map-above o (st .starts);
+          otherwise = λ z. absurd (z refl);
+          over = λ r z. let y : _≡_ {A = ℕ} 0 1 = cc in absurd (omega arith);
           when-done = λ _. done-same J (now st) (λ k. moment o (getD (map (instant o) (st .starts)) k (pos 0))) (length (st .posts)) (taskOf (st .posts)) (boundOf (st .posts))
-            (λ k r. ap (moment o) (getD-map-in (instant o) (st .starts) k 0 (pos 0) (omega (arith, v .known))) ∙ moment-instant o (now st k))
-            (finish J ok E E-is L place ord t (lam st) (now st) end (v .facts) (c .none-passes q) (length (st .posts)) (taskOf (st .posts)) (boundOf (st .posts)) (v .posted)) }
+              (λ k r. ap (moment o) (getD-map-in (instant o) (st .starts) k 0 (pos 0) (omega (arith, v .known))) ∙ moment-instant o (now st k))
+              (finish J ok E E-is L place ord t (lam st) (now st) end (v .facts) (c .none-passes q) (length (st .posts)) (taskOf (st .posts)) (boundOf (st .posts)) (v .posted));
+        }
 
     over-ok : (t : ℕ) (st : State) → t < n → Inv t st → En t < ectOf (st .leaves) → OutOk (edges.ended o J first second st (overload (conflict o J (En t) (leaves.sum J first (st .leaves)) (theta J first (st .leaves)))))
     over-ok t st small v q =
-        record { goods = v .good; above = map-above o (st .starts); when-done = λ z. let y : _≡_ {A = ℕ} 0 1 = cc in absurd (omega arith);
+        record {
+          goods = v .good;
+          above = map-above o (st .starts);
+          when-done = λ z. let y : _≡_ {A = ℕ} 0 1 = cc in absurd (omega arith);
           otherwise = λ _. inl (overloaded J ok E E-is L place ord t small (omega (arith, q, tree.ect-is J ok first rk (st .leaves) (Th t) (lam st) (shape t st v))));
           over = λ r z. let y : conflict o J (En t) (leaves.sum J first (st .leaves)) (theta J first (st .leaves)) ≡ r = cc in
-            subst GoodEnd y (meas .of-end t (st .leaves) (lam st) (shape t st v) small q) }
+              subst GoodEnd y (meas .of-end t (st .leaves) (lam st) (shape t st v) small q);
+        }
 
     empty-ok : (st : State) → Conflict J × AllGood (st .posts) → OutOk (edges.ended o J first second st emptied)
     empty-ok st w = record { goods = w .1; above = map-above o (st .starts); when-done = λ z. let y : _≡_ {A = ℕ} 0 1 = cc in absurd (omega arith); otherwise = λ _. w .0; over = λ r z. let y : _≡_ {A = ℕ} 0 1 = cc in absurd (omega arith) }
@@ -286,13 +360,16 @@ module _ (o : ℕ) (J : Tasks natural) (ok : Proper J) (first second : List ℕ)
       where
         IH : Type 0
         IH = (st′ : State) → Closed (suc t) st′ → OutOk (outer o J first second f (suc t) st′)
+
         go : IH → ltb (En t) (ectOf (st .leaves)) ≡ false → E (Th t) ≤ En t → OutOk (outer o J first second (suc f) t st)
-        go ih z q = elim (turn (inner o J first second n (suc t) (edges.grayed st (rank (L t)))))
-          [ inl w ↦ rw (z, w .1, outer) (ih (w .0) (rw (w .1) at r))
-          | inr w ↦ rw (z, w .1, outer) (empty-ok (w .0) (rw (w .1) at r)) ]
+        go ih z q = elim (turn (inner o J first second n (suc t) (edges.grayed st (rank (L t))))) [
+          | inl w ↦ rw (z, w .1, outer) (ih (w .0) (rw (w .1) at r))
+          | inr w ↦ rw (z, w .1, outer) (empty-ok (w .0) (rw (w .1) at r))
+        ]
           where
             r : TurnOk (suc t) (inner o J first second n (suc t) (edges.grayed st (rank (L t))))
             r = inner-ok n (suc t) (edges.grayed st (rank (L t))) (omega arith) (gray-ok t st (omega arith) c q) (card-most J (lam (edges.grayed st (rank (L t)))))
+
         by : IH → (ltb (En t) (ectOf (st .leaves)) ≡ true) ⊎ (ltb (En t) (ectOf (st .leaves)) ≡ false) → OutOk (outer o J first second (suc f) t st)
         by ih (inl z) = rw (z, outer) (over-ok t st (omega arith) (c .inv) (ltb-true _ _ z))
         by ih (inr z) = go ih z (omega (arith, ltb-false (En t) (ectOf (st .leaves)) z, tree.ect-is J ok first rk (st .leaves) (Th t) (lam st) (shape t st (c .inv))))
@@ -322,12 +399,25 @@ module _ (o : ℕ) (J : Tasks natural) (ok : Proper J) (first second : List ℕ)
     no-gray k q = ap inLambda (leaf₀ k q)
 
     first-facts : Fa 0 (lam st₀) (now st₀)
-    first-facts = record { fits-before = λ s q. absurd (omega arith); gray = λ k h. clash (h .mem) (no-gray k (h .small)); not-passed = λ k h. clash (h .mem) (no-gray k (h .small)); left = λ k h q. absurd (omega arith);
-        same-in = λ k h. now₀ k (h .small); same-on = λ k q r. now₀ k q; inside = λ k q. omega (arith, now₀ k q, ok .ranges k q) }
+    first-facts = record {
+      fits-before = λ s q. absurd (omega arith);
+      gray = λ k h. clash (h .mem) (no-gray k (h .small));
+      not-passed = λ k h. clash (h .mem) (no-gray k (h .small));
+      left = λ k h q. absurd (omega arith);
+      same-in = λ k h. now₀ k (h .small);
+      same-on = λ k q r. now₀ k q;
+      inside = λ k q. omega (arith, now₀ k q, ok .ranges k q);
+    }
 
     pub first-inv : Inv 0 st₀
-    first-inv = record { size = length-replicate n white; whites = λ k q. ap inTheta (leaf₀ k q) ∙ sym (le-leb 0 (place k) (omega arith)); known = tab-length (J .earliest) 0 n; facts = first-facts; good = λ j q. absurd (omega arith);
-        posted = record { small = λ j q. absurd (omega arith); raises = λ j q. absurd (omega arith); agrees = λ j q. absurd (omega arith); every = λ k q r. absurd (omega (arith, now₀ k q)); once = λ i j q. absurd (omega arith) } }
+    first-inv = record {
+      size = length-replicate n white;
+      whites = λ k q. ap inTheta (leaf₀ k q) ∙ sym (le-leb 0 (place k) (omega arith));
+      known = tab-length (J .earliest) 0 n;
+      facts = first-facts;
+      good = λ j q. absurd (omega arith);
+      posted = record { small = λ j q. absurd (omega arith); raises = λ j q. absurd (omega arith); agrees = λ j q. absurd (omega arith); every = λ k q r. absurd (omega (arith, now₀ k q)); once = λ i j q. absurd (omega arith) };
+    }
 
     pub first-closed : Closed 0 st₀
     first-closed = record { inv = first-inv; none-passes = λ q k h. clash (h .mem) (no-gray k (h .small)) }

@@ -34,8 +34,10 @@ theta-append white task a (suc d) e = by (theta-append white task (suc a) d e) (
   where
     z : suc d + e ≡ suc (d + e)
     z = omega arith
+
     y : suc a + d ≡ a + suc d
     y = omega arith
+
     by : thetaOf white task (suc a) (d + e) ≡ thetaOf white task (suc a) d ++ thetaOf white task (suc a + d) e → (white a ≡ true) ⊎ (white a ≡ false)
         → thetaOf white task a (suc d + e) ≡ thetaOf white task a (suc d) ++ thetaOf white task (a + suc d) e
     by ih (inl w) = ap (thetaOf white task a) z ∙ theta-white white task a (d + e) w ∙ ap (λ (l : List ℕ). task a ∷ l) (ih ∙ ap (λ (b : ℕ). thetaOf white task (suc a) d ++ thetaOf white task b e) y)
@@ -50,24 +52,32 @@ module _ (o : ℕ) (J : Tasks natural) (ok : Proper J) (first second : List ℕ)
     (t : ℕ) (ls : List Leaf) (Λ : TaskSet) where
   abbrev n : ℕ
   n = J .count
+
   abbrev T : ℕ → ℕ
   T j = getD first j 0
+
   abbrev rank : ℕ → ℕ
   rank k = index first k
+
   abbrev place : ℕ → ℕ
   place k = index second k
+
   abbrev Θ : TaskSet
   Θ k = leb t (place k)
+
   abbrev c : ℕ
   c = completion J (getD second t 0)
+
   abbrev ea : ℕ → ℕ
   ea j = J .earliest (T j)
 
   module _ (s : tree.Represents J ok first rk ls Θ Λ) (small : t < n) where
     abbrev onward : ℕ → TaskSet
     onward a = walks.onward o J ok first second rk ls Θ Λ s a
+
     abbrev dr : ℕ → ℕ
     dr a = processing J (onward a)
+
     abbrev b : ℕ
     b = ect J first ls
 
@@ -102,7 +112,7 @@ module _ (o : ℕ) (J : Tasks natural) (ok : Proper J) (first second : List ℕ)
     spot-up x y q =
         let z : y ≡ x + (y - x) = omega arith in
         subst (λ (d : ℕ). length (thetaOf (whiteAt ls) (taskAt J first) 0 x) ≤ length (thetaOf (whiteAt ls) (taskAt J first) 0 d)) (sym z)
-          (omega (arith, ap length (theta-append (whiteAt ls) (taskAt J first) 0 x (y - x)), lib.ListN.length-append (thetaOf (whiteAt ls) (taskAt J first) 0 x) (thetaOf (whiteAt ls) (taskAt J first) (0 + x) (y - x))))
+        (omega (arith, ap length (theta-append (whiteAt ls) (taskAt J first) 0 x (y - x)), lib.ListN.length-append (thetaOf (whiteAt ls) (taskAt J first) 0 x) (thetaOf (whiteAt ls) (taskAt J first) (0 + x) (y - x))))
 
     -- the overload's walk stops
     pub record OverloadStops : Type 0 where
@@ -125,8 +135,8 @@ module _ (o : ℕ) (J : Tasks natural) (ok : Proper J) (first second : List ℕ)
       first-walk =
           let (m, mm, h) = passing J T rank rk Θ i c b (f .value) (f .attains) (f .has) (f .gray .small) (omega (arith, over, f .reaches)) ect-is up in
           subst (λ (l : List ℕ). walks.First o J ok first second rk ls Θ Λ s i c b 0 (propagation o J i b c (sum J first ls) l)) (sym (walks.theta-is o J ok first second rk ls Θ Λ s))
-            (walks.first-stops o J ok first second rk ls Θ Λ s i c b n 0 (sum J first ls) (rank m) (omega arith) (walks.sum-is o J ok first second rk ls Θ Λ s) (omega arith)
-              (rk .placed m (mm .small)) (at-rank m (mm .small) (mm .mem)) (omega (arith, h, ap (J .earliest) (rk .there m (mm .small)))))
+          (walks.first-stops o J ok first second rk ls Θ Λ s i c b n 0 (sum J first ls) (rank m) (omega arith) (walks.sum-is o J ok first second rk ls Θ Λ s) (omega arith)
+          (rk .placed m (mm .small)) (at-rank m (mm .small) (mm .mem)) (omega (arith, h, ap (J .earliest) (rk .there m (mm .small)))))
 
       pub record Attaining : Type 0 where
         pub at : ℕ
@@ -141,6 +151,6 @@ module _ (o : ℕ) (J : Tasks natural) (ok : Proper J) (first second : List ℕ)
           let (j, jm, h) = attaining J T rank rk Θ b ect-is in
           let back : dr (rank (T m)) ≡ dr m = ap dr (rk .back m (first-walk .small)) in
           let q : rank (T m) ≤ rank j = after-first J T rank rk Θ i c b (T m) j ect-is (record { small = rk .task m (first-walk .small); mem = first-walk .mem }) jm
-                (omega (arith, first-walk .over, back))
-                (λ l. omega (arith, first-walk .before (rank j) (omega arith) (omega (arith, rk .back m (first-walk .small))) (at-rank j (jm .small) (jm .mem)), ap (J .earliest) (rk .there j (jm .small)))) h in
+          (omega (arith, first-walk .over, back))
+          (λ l. omega (arith, first-walk .before (rank j) (omega arith) (omega (arith, rk .back m (first-walk .small))) (at-rank j (jm .small) (jm .mem)), ap (J .earliest) (rk .there j (jm .small)))) h in
           record { at = rank j; inside = rk .placed j (jm .small); white = at-rank j (jm .small) (jm .mem); attains = omega (arith, h, ap (J .earliest) (rk .there j (jm .small))); after = omega (arith, q, rk .back m (first-walk .small)) }

@@ -57,14 +57,19 @@ then-says xs ys k u v q s = record { told = λ z a. s .told z (right-part xs ys 
 module _ (o : ℕ) (J : Tasks natural) (ok : Proper J) (first second : List ℕ) (rk : ByEarliest J (λ j. getD first j 0) (λ k. index first k)) (ls : List Leaf) (Θ Λ : TaskSet) (s : tree.Represents J ok first rk ls Θ Λ) where
   abbrev T : ℕ → ℕ
   T j = getD first j 0
+
   abbrev rank : ℕ → ℕ
   rank k = index first k
+
   abbrev n : ℕ
   n = J .count
+
   abbrev at : ℕ → ℤ
   at m = subℕ m o
+
   abbrev th : ℕ → ℕ → List ℕ
   th a d = thetaOf (whiteAt ls) (taskAt J first) a d
+
   abbrev ea : ℕ → ℕ
   ea j = J .earliest (T j)
 
@@ -100,9 +105,10 @@ module _ (o : ℕ) (J : Tasks natural) (ok : Proper J) (first second : List ℕ)
   placed a k q z = sym (rk .there k q) ∙ ap T z
 
   pub skip : (a : ℕ) → a < n → Θ (T a) ≡ false → processing J (onward a) ≡ processing J (onward (suc a))
-  skip a q y = processing-same (onward a) (onward (suc a)) (λ k r. elim (ℕ-discrete (rank k) a)
-    [ yes z ↦ onward-not a k (ap Θ (placed a k r z) ∙ y) ∙ sym (onward-not (suc a) k (ap Θ (placed a k r z) ∙ y))
-    | no z ↦ ap (λ (b : Bool). b && Θ k) (leb-step a (rank k) z) ])
+  skip a q y = processing-same (onward a) (onward (suc a)) (λ k r. elim (ℕ-discrete (rank k) a) [
+    | yes z ↦ onward-not a k (ap Θ (placed a k r z) ∙ y) ∙ sym (onward-not (suc a) k (ap Θ (placed a k r z) ∙ y))
+    | no z ↦ ap (λ (b : Bool). b && Θ k) (leb-step a (rank k) z)
+  ])
 
   pub step : (a : ℕ) → a < n → Θ (T a) ≡ true → processing J (onward a) ≡ processing J (onward (suc a)) + J .duration (T a)
   step a q y =
@@ -110,9 +116,10 @@ module _ (o : ℕ) (J : Tasks natural) (ok : Proper J) (first second : List ℕ)
       omega (arith, processing-less J (onward a) (T a) m, processing-same (onward a less T a) (onward (suc a)) rest)
     where
       rest : (k : ℕ) → k < n → (onward a less T a) k ≡ onward (suc a) k
-      rest k r = elim (ℕ-discrete k (T a))
-        [ yes z ↦ rw (z, eq-eqb (T a) (T a) refl) (sym (onward-early (suc a) (T a) (omega (arith, rk .back a q))))
-        | no z ↦ rw (ne-eqb k (T a) z) (ap (λ (b : Bool). b && Θ k) (leb-step a (rank k) (λ w. z (placed a k r w)))) ]
+      rest k r = elim (ℕ-discrete k (T a)) [
+        | yes z ↦ rw (z, eq-eqb (T a) (T a) refl) (sym (onward-early (suc a) (T a) (omega (arith, rk .back a q))))
+        | no z ↦ rw (ne-eqb k (T a) z) (ap (λ (b : Bool). b && Θ k) (leb-step a (rank k) (λ w. z (placed a k r w))))
+      ]
 
   pub none-left : processing J (onward n) ≡ 0
   none-left = processing-empty J (onward n) (λ k q. onward-early n k (rk .placed k q))
@@ -181,10 +188,11 @@ module _ (o : ℕ) (J : Tasks natural) (ok : Proper J) (first second : List ℕ)
 
   pub within-says : (lo hi d a k : ℕ) → a + d ≡ n → k < n → Θ k ≡ true → a ≤ rank k → Says (within o J lo hi (th a d)) k (at lo) (at (hi - J .duration k))
   within-says lo hi zero a k z small mem q = absurd (omega (arith, rk .placed k small))
-  within-says lo hi (suc d) a k z small mem q = elim (ℕ-discrete (rank k) a)
-    [ yes w ↦ (let e : k ≡ T a = placed a k small w in
+  within-says lo hi (suc d) a k z small mem q = elim (ℕ-discrete (rank k) a) [
+    | yes w ↦ (let e : k ≡ T a = placed a k small w in
         rw (th-in a d (omega arith) (rw e at mem), within-cons lo hi (T a) (th (suc a) d), ← e) (two-here k lo (hi - J .duration k) (within o J lo hi (th (suc a) d)) (within-silent lo hi d (suc a) k (omega arith) (out-next a k small w))))
-    | no w ↦ by (within-says lo hi d (suc a) k (omega arith) small mem (omega arith)) (bool (Θ (T a))) (λ e. w (omega (arith, ap rank e, rk .back a (omega arith)))) ]
+    | no w ↦ by (within-says lo hi d (suc a) k (omega arith) small mem (omega arith)) (bool (Θ (T a))) (λ e. w (omega (arith, ap rank e, rk .back a (omega arith))))
+  ]
     where
       by : Says (within o J lo hi (th (suc a) d)) k (at lo) (at (hi - J .duration k)) → (Θ (T a) ≡ true) ⊎ (Θ (T a) ≡ false) → (T a ≡ k → ⊥) → Says (within o J lo hi (th a (suc d))) k (at lo) (at (hi - J .duration k))
       by ih (inl y) ne = rw (th-in a d (omega arith) y, within-cons lo hi (T a) (th (suc a) d)) (two-other (T a) k lo (hi - J .duration (T a)) (within o J lo hi (th (suc a) d)) (at lo) (at (hi - J .duration k)) ne ih)
@@ -217,6 +225,7 @@ module _ (o : ℕ) (J : Tasks natural) (ok : Proper J) (first second : List ℕ)
     where
       cons : {k : ℕ} {ks : List ℕ} → _≡_ {A = List ℕ} (k ∷ ks) [] → ⊥
       cons u = let w : _≡_ {A = ℕ} 0 1 = cc in omega arith
+
       by : (suc a ≤ x → th (suc a) d ≡ [] → ⊥) → (Θ (T a) ≡ true) ⊎ (Θ (T a) ≡ false) → ⊥
       by ih (inl v) = cons (sym (th-in a d (omega arith) v) ∙ e)
       by ih (inr v) = elim (ℕ-discrete a x) [ yes w ↦ clash (rw (← w) at y) v | no w ↦ ih (omega arith) (sym (th-out a d (omega arith) v) ∙ e) ]
@@ -228,14 +237,23 @@ module _ (o : ℕ) (J : Tasks natural) (ok : Proper J) (first second : List ℕ)
     where
       IH : Type 0
       IH = (p′ : ℕ) → p′ ≡ processing J (onward (suc a)) → suc a ≤ x → Stopped c (conflict o J c p′ (th (suc a) d))
+
       by : IH → (Θ (T a) ≡ true) ⊎ (Θ (T a) ≡ false) → (ltb c (ea a + p) ≡ true) ⊎ (ltb c (ea a + p) ≡ false) → Stopped c (conflict o J c p (th a (suc d)))
       by ih (inr v) u = elim (ℕ-discrete a x) [ yes w ↦ clash (rw (← w) at y) v | no w ↦ rw (th-out a d (omega arith) v) (ih p (e ∙ skip a (omega arith) v) (omega arith)) ]
-      by ih (inl v) (inl u) = record { m = a; left = suc d; all = z; small = omega arith; mem = v; over = omega (arith, e, ltb-true c (ea a + p) u);
-          is = rw (th-in a d (omega arith) v) (conflict-hit c p (T a) (th (suc a) d) u ∙ ap (λ (p : ℕ). conflict-of o J c p (ea a) (T a ∷ th (suc a) d)) e) }
-      by ih (inl v) (inr u) = elim (ℕ-discrete a x)
-        [ yes w ↦ absurd (omega (arith, ltb-false c (ea a + p) u, e, rw (← w) at over))
+      by ih (inl v) (inl u) = record {
+        m = a;
+        left = suc d;
+        all = z;
+        small = omega arith;
+        mem = v;
+        over = omega (arith, e, ltb-true c (ea a + p) u);
+        is = rw (th-in a d (omega arith) v) (conflict-hit c p (T a) (th (suc a) d) u ∙ ap (λ (p : ℕ). conflict-of o J c p (ea a) (T a ∷ th (suc a) d)) e);
+      }
+      by ih (inl v) (inr u) = elim (ℕ-discrete a x) [
+        | yes w ↦ absurd (omega (arith, ltb-false c (ea a + p) u, e, rw (← w) at over))
         | no w ↦ rw (th-in a d (omega arith) v, conflict-miss c p (T a) (th (suc a) d) u (th-some d (suc a) x (omega arith) (omega arith) r y))
-            (ih (p - J .duration (T a)) (omega (arith, e, step a (omega arith) v)) (omega arith)) ]
+            (ih (p - J .duration (T a)) (omega (arith, e, step a (omega arith) v)) (omega arith))
+      ]
 
   -- where the first walk of a post's reason stops -------------------------------------------------------------------------------
   module _ (i c b : ℕ) where
@@ -264,8 +282,16 @@ module _ (o : ℕ) (J : Tasks natural) (ok : Proper J) (first second : List ℕ)
 
     -- one place more before the walk
     earlier : (a : ℕ) (as′ : List Atom) → (Θ (T a) ≡ true → reach a ≤ c) → First (suc a) as′ → First a as′
-    earlier a as′ h f = record { m = f .m; left = f .left; all = f .all; small = f .small; mem = f .mem; over = f .over; is = f .is;
-        before = λ j q r y. elim (ℕ-discrete a j) [ yes w ↦ subst (λ (j : ℕ). reach j ≤ c) w (h (subst (λ (j : ℕ). Θ (T j) ≡ true) (sym w) y)) | no w ↦ f .before j (omega arith) r y ] }
+    earlier a as′ h f = record {
+      m = f .m;
+      left = f .left;
+      all = f .all;
+      small = f .small;
+      mem = f .mem;
+      over = f .over;
+      is = f .is;
+      before = λ j q r y. elim (ℕ-discrete a j) [ yes w ↦ subst (λ (j : ℕ). reach j ≤ c) w (h (subst (λ (j : ℕ). Θ (T j) ≡ true) (sym w) y)) | no w ↦ f .before j (omega arith) r y ];
+    }
 
     pub first-stops : (d a p x : ℕ) → a + d ≡ n → p ≡ processing J (onward a) → a ≤ x → x < n → Θ (T x) ≡ true → c < reach x → First a (propagation o J i b c p (th a d))
     first-stops zero a p x z e q r y over = absurd (omega arith)
@@ -274,18 +300,29 @@ module _ (o : ℕ) (J : Tasks natural) (ok : Proper J) (first second : List ℕ)
       where
         IH : Type 0
         IH = (p′ : ℕ) → p′ ≡ processing J (onward (suc a)) → suc a ≤ x → First (suc a) (propagation o J i b c p′ (th (suc a) d))
+
         by : IH → (Θ (T a) ≡ true) ⊎ (Θ (T a) ≡ false) → (ltb c (min (J .earliest i) (ea a) + p + J .duration i) ≡ true) ⊎ (ltb c (min (J .earliest i) (ea a) + p + J .duration i) ≡ false)
             → First a (propagation o J i b c p (th a (suc d)))
-        by ih (inr v) u = elim (ℕ-discrete a x)
-          [ yes w ↦ clash (rw (← w) at y) v
-          | no w ↦ rw (th-out a d (omega arith) v) (earlier a (propagation o J i b c p (th (suc a) d)) (λ t. clash t v) (ih p (e ∙ skip a (omega arith) v) (omega arith))) ]
-        by ih (inl v) (inl u) = record { m = a; left = suc d; all = z; small = omega arith; mem = v; over = omega (arith, e, ltb-true c (min (J .earliest i) (ea a) + p + J .duration i) u); before = λ j q r y. absurd (omega arith);
-            is = rw (th-in a d (omega arith) v) (prop-hit p (T a) (th (suc a) d) u ∙ ap (λ (p : ℕ). propagation-of o J i b p (min (J .earliest i) (ea a)) (T a ∷ th (suc a) d)) e) }
-        by ih (inl v) (inr u) = elim (ℕ-discrete a x)
-          [ yes w ↦ absurd (omega (arith, ltb-false c (min (J .earliest i) (ea a) + p + J .duration i) u, e, rw (← w) at over))
+        by ih (inr v) u = elim (ℕ-discrete a x) [
+          | yes w ↦ clash (rw (← w) at y) v
+          | no w ↦ rw (th-out a d (omega arith) v) (earlier a (propagation o J i b c p (th (suc a) d)) (λ t. clash t v) (ih p (e ∙ skip a (omega arith) v) (omega arith)))
+        ]
+        by ih (inl v) (inl u) = record {
+          m = a;
+          left = suc d;
+          all = z;
+          small = omega arith;
+          mem = v;
+          over = omega (arith, e, ltb-true c (min (J .earliest i) (ea a) + p + J .duration i) u);
+          before = λ j q r y. absurd (omega arith);
+          is = rw (th-in a d (omega arith) v) (prop-hit p (T a) (th (suc a) d) u ∙ ap (λ (p : ℕ). propagation-of o J i b p (min (J .earliest i) (ea a)) (T a ∷ th (suc a) d)) e);
+        }
+        by ih (inl v) (inr u) = elim (ℕ-discrete a x) [
+          | yes w ↦ absurd (omega (arith, ltb-false c (min (J .earliest i) (ea a) + p + J .duration i) u, e, rw (← w) at over))
           | no w ↦ rw (th-in a d (omega arith) v, prop-miss p (T a) (th (suc a) d) u)
               (earlier a (propagation o J i b c (p - J .duration (T a)) (th (suc a) d)) (λ _. omega (arith, e, ltb-false c (min (J .earliest i) (ea a) + p + J .duration i) u))
-                (ih (p - J .duration (T a)) (omega (arith, e, step a (omega arith) v)) (omega arith))) ]
+              (ih (p - J .duration (T a)) (omega (arith, e, step a (omega arith) v)) (omega arith)))
+        ]
 
   -- and the second: what it leaves says of each task ------------------------------------------------------------------------------
   module _ (b r last : ℕ) where
@@ -311,23 +348,38 @@ module _ (o : ℕ) (J : Tasks natural) (ok : Proper J) (first second : List ℕ)
     bounds-miss p k ks y = rw (y, bounds)
 
     found-here : (d a p : ℕ) → a + suc d ≡ n → Θ (T a) ≡ true → p ≡ processing J (onward a) → b ≡ ea a + p → Second a (within o J (b - p) last (th a (suc d)))
-    found-here d a p z v e att = record { m = a; from = omega arith; small = omega arith; mem = v; attains = omega (arith, e, att);
-        says = λ k q y h. let u : b - p ≡ ea a = omega arith in
+    found-here d a p z v e att = record {
+      m = a;
+      from = omega arith;
+      small = omega arith;
+      mem = v;
+      attains = omega (arith, e, att);
+      says = λ k q y h. let u : b - p ≡ ea a = omega arith in
           rw (onward-out a k h y) (subst (λ (lo : ℕ). Says (within o J (b - p) last (th a (suc d))) k (at lo) (at (last - J .duration k))) u (within-says (b - p) last (suc d) a k z q y h));
-        silent = λ k h. within-silent (b - p) last (suc d) a k z h }
+      silent = λ k h. within-silent (b - p) last (suc d) a k z h;
+    }
 
     passed : (d a p : ℕ) → a + suc d ≡ n → Θ (T a) ≡ true → Second (suc a) (bounds o J b r last (p - J .duration (T a)) (th (suc a) d))
         → Second a (edges.atLeast o J (T a) r ∷ edges.atMost o J (T a) (last - J .duration (T a)) ∷ bounds o J b r last (p - J .duration (T a)) (th (suc a) d))
-    passed d a p z v f = record { m = f .m; from = omega (arith, f .from); small = f .small; mem = f .mem; attains = f .attains; says = says;
-        silent = λ k h. two-silent (T a) k r (last - J .duration (T a)) rest (h a (omega arith) (omega arith) v) (f .silent k (out-later a k h)) }
+    passed d a p z v f = record {
+      m = f .m;
+      from = omega (arith, f .from);
+      small = f .small;
+      mem = f .mem;
+      attains = f .attains;
+      says = says;
+      silent = λ k h. two-silent (T a) k r (last - J .duration (T a)) rest (h a (omega arith) (omega arith) v) (f .silent k (out-later a k h));
+    }
       where
         rest : List Atom
         rest = bounds o J b r last (p - J .duration (T a)) (th (suc a) d)
+
         says : (k : ℕ) → k < n → Θ k ≡ true → a ≤ rank k → Says (edges.atLeast o J (T a) r ∷ edges.atMost o J (T a) (last - J .duration (T a)) ∷ rest) k (at (low (f .m) k)) (at (last - J .duration k))
-        says k q y h = elim (ℕ-discrete (rank k) a)
-          [ yes w ↦ (let e : k ≡ T a = placed a k q w in
+        says k q y h = elim (ℕ-discrete (rank k) a) [
+          | yes w ↦ (let e : k ≡ T a = placed a k q w in
               rw (onward-early (f .m) k (omega (arith, f .from)), ← e) (two-here k r (last - J .duration k) _ (subst (λ (j : ℕ). Silent (bounds o J b r last (p - J .duration j) (th (suc a) d)) k) (sym e) (f .silent k (out-next a k q w)))))
-          | no w ↦ two-other (T a) k r (last - J .duration (T a)) rest (at (low (f .m) k)) (at (last - J .duration k)) (λ e. w (omega (arith, ap rank e, rk .back a (omega arith)))) (f .says k q y (omega arith)) ]
+          | no w ↦ two-other (T a) k r (last - J .duration (T a)) rest (at (low (f .m) k)) (at (last - J .duration k)) (λ e. w (omega (arith, ap rank e, rk .back a (omega arith)))) (f .says k q y (omega arith))
+        ]
 
     pub second-stops : (d a p x : ℕ) → a + d ≡ n → p ≡ processing J (onward a) → a ≤ x → x < n → Θ (T x) ≡ true → ea x + processing J (onward x) ≡ b → Second a (bounds o J b r last p (th a d))
     second-stops zero a p x z e q t y att = absurd (omega arith)
@@ -336,14 +388,24 @@ module _ (o : ℕ) (J : Tasks natural) (ok : Proper J) (first second : List ℕ)
       where
         IH : Type 0
         IH = (p′ : ℕ) → p′ ≡ processing J (onward (suc a)) → suc a ≤ x → Second (suc a) (bounds o J b r last p′ (th (suc a) d))
+
         -- no white leaf at a
         over : Θ (T a) ≡ false → Second (suc a) (bounds o J b r last p (th (suc a) d)) → Second a (bounds o J b r last p (th (suc a) d))
-        over v f = record { m = f .m; from = omega (arith, f .from); small = f .small; mem = f .mem; attains = f .attains; silent = λ k h. f .silent k (out-later a k h);
-            says = λ k q y h. elim (ℕ-discrete (rank k) a) [ yes w ↦ clash y (ap Θ (placed a k q w) ∙ v) | no w ↦ f .says k q y (omega arith) ] }
+        over v f = record {
+          m = f .m;
+          from = omega (arith, f .from);
+          small = f .small;
+          mem = f .mem;
+          attains = f .attains;
+          silent = λ k h. f .silent k (out-later a k h);
+          says = λ k q y h. elim (ℕ-discrete (rank k) a) [ yes w ↦ clash y (ap Θ (placed a k q w) ∙ v) | no w ↦ f .says k q y (omega arith) ];
+        }
+
         by : IH → (Θ (T a) ≡ true) ⊎ (Θ (T a) ≡ false) → (eqb b (ea a + p) ≡ true) ⊎ (eqb b (ea a + p) ≡ false) → Second a (bounds o J b r last p (th a (suc d)))
         by ih (inr v) u = elim (ℕ-discrete a x)
-          [ yes w ↦ clash (rw (← w) at y) v | no w ↦ rw (th-out a d (omega arith) v) (over v (ih p (e ∙ skip a (omega arith) v) (omega arith))) ]
+            [ yes w ↦ clash (rw (← w) at y) v | no w ↦ rw (th-out a d (omega arith) v) (over v (ih p (e ∙ skip a (omega arith) v) (omega arith))) ]
         by ih (inl v) (inl u) = rw (th-in a d (omega arith) v, bounds-hit p (T a) (th (suc a) d) u, ← th-in a d (omega arith) v) (found-here d a p z v e (eqb-true b (ea a + p) u))
-        by ih (inl v) (inr u) = elim (ℕ-discrete a x)
-          [ yes w ↦ absurd (eqb-false b (ea a + p) u (omega (arith, e, subst (λ (x : ℕ). ea x + processing J (onward x) ≡ b) (sym w) att)))
-          | no w ↦ rw (th-in a d (omega arith) v, bounds-miss p (T a) (th (suc a) d) u) (passed d a p z v (ih (p - J .duration (T a)) (omega (arith, e, step a (omega arith) v)) (omega arith))) ]
+        by ih (inl v) (inr u) = elim (ℕ-discrete a x) [
+          | yes w ↦ absurd (eqb-false b (ea a + p) u (omega (arith, e, subst (λ (x : ℕ). ea x + processing J (onward x) ≡ b) (sym w) att)))
+          | no w ↦ rw (th-in a d (omega arith) v, bounds-miss p (T a) (th (suc a) d) u) (passed d a p z v (ih (p - J .duration (T a)) (omega (arith, e, step a (omega arith) v)) (omega arith)))
+        ]

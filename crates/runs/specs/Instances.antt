@@ -34,16 +34,22 @@ trace ps end ss a b = record { posts = ps; end = end; starts = map pos ss; first
 
 abbrev A : Input
 A = (0, 6, 4) ∷ (1, 5, 5) ∷ (0, 20, 3) ∷ []
+
 abbrev B : Input
 B = (0, 2, 4) ∷ (1, 2, 4) ∷ []
+
 abbrev C : Input
 C = (0, 4, 4) ∷ (1, 4, 4) ∷ []
+
 abbrev D : Input
 D = (0, 13, 1) ∷ (10, 11, 3) ∷ (10, 11, 3) ∷ []
+
 abbrev E : Input
 E = (0, 5, 3) ∷ (1, 1, 5) ∷ []
+
 abbrev F : Input
 F = (0, 6, 3) ∷ (1, 1, 5) ∷ []
+
 abbrev G : Input
 G = (7, 7, 1) ∷ []
 

@@ -21,6 +21,7 @@ use Rattle.runs.specs.Traces.{Post, End, done, overload, emptied, Trace}
 module _ (o : ℕ) (J : Tasks natural) where
   abbrev pub atLeast : ℕ → ℕ → Atom
   atLeast k v = record { variable = k; kind = 0; value = instant o v }
+
   abbrev pub atMost : ℕ → ℕ → Atom
   atMost k v = record { variable = k; kind = 1; value = instant o v }
 
@@ -37,16 +38,18 @@ module _ (o : ℕ) (J : Tasks natural) where
   unfoldable pub conflict : ℕ → ℕ → List ℕ → List Atom
   conflict lct p [] = []
   conflict lct p (k ∷ []) = conflict-of lct p (J .earliest k) (k ∷ [])
-  conflict lct p (k ∷ j ∷ ks) = elim (ltb lct (J .earliest k + p))
-    [ true ↦ conflict-of lct p (J .earliest k) (k ∷ j ∷ ks)
-    | false ↦ conflict lct (p - J .duration k) (j ∷ ks) ]
+  conflict lct p (k ∷ j ∷ ks) = elim (ltb lct (J .earliest k + p)) [
+    | true ↦ conflict-of lct p (J .earliest k) (k ∷ j ∷ ks)
+    | false ↦ conflict lct (p - J .duration k) (j ∷ ks)
+  ]
 
   -- `create_propagation_explanation`, its second walk: it finds ω′, whose completion is b; the tasks before it start at r or later
   unfoldable pub bounds : ℕ → ℕ → ℕ → ℕ → List ℕ → List Atom
   bounds b r last p [] = []
-  bounds b r last p (k ∷ ks) = elim (eqb b (J .earliest k + p))
-    [ true ↦ within (b - p) last (k ∷ ks)
-    | false ↦ atLeast k r ∷ atMost k (last - J .duration k) ∷ bounds b r last (p - J .duration k) ks ]
+  bounds b r last p (k ∷ ks) = elim (eqb b (J .earliest k + p)) [
+    | true ↦ within (b - p) last (k ∷ ks)
+    | false ↦ atLeast k r ∷ atMost k (last - J .duration k) ∷ bounds b r last (p - J .duration k) ks
+  ]
 
   abbrev pub propagation-of : ℕ → ℕ → ℕ → ℕ → List ℕ → List Atom
   propagation-of i b p r ks = bounds b r (r + p + J .duration i - 1) p ks ++ (atLeast i r ∷ [])
@@ -54,9 +57,10 @@ module _ (o : ℕ) (J : Tasks natural) where
   -- its first walk: it finds ω, which i cannot go before
   unfoldable pub propagation : ℕ → ℕ → ℕ → ℕ → List ℕ → List Atom
   propagation i b lct p [] = []
-  propagation i b lct p (k ∷ ks) = elim (ltb lct (min (J .earliest i) (J .earliest k) + p + J .duration i))
-    [ true ↦ propagation-of i b p (min (J .earliest i) (J .earliest k)) (k ∷ ks)
-    | false ↦ propagation i b lct (p - J .duration k) ks ]
+  propagation i b lct p (k ∷ ks) = elim (ltb lct (min (J .earliest i) (J .earliest k) + p + J .duration i)) [
+    | true ↦ propagation-of i b p (min (J .earliest i) (J .earliest k)) (k ∷ ks)
+    | false ↦ propagation i b lct (p - J .duration k) ks
+  ]
 
 -- the run -----------------------------------------------------------------------------------------------------------------------
 
@@ -93,25 +97,33 @@ module _ (o : ℕ) (J : Tasks natural) (first second : List ℕ) where
   -- `sorted_tasks[t]`, and its `lct_j`
   abbrev pub candidate : ℕ → ℕ
   candidate t = getD second t 0
+
   abbrev pub lct : ℕ → ℕ
   lct t = completion J (candidate t)
 
   abbrev pub posted : State → ℕ → ℕ → ℕ → State
-  posted st i b t = record { leaves = st .leaves; starts = st .starts;
-      posts = st .posts ++ (record { task = i; bound = instant o b; reason = propagation o J i b (lct t) (sum J first (st .leaves)) (theta J first (st .leaves)) } ∷ []) }
+  posted st i b t = record {
+    leaves = st .leaves;
+    starts = st .starts;
+    posts = st .posts ++ (record { task = i; bound = instant o b; reason = propagation o J i b (lct t) (sum J first (st .leaves)) (theta J first (st .leaves)) } ∷ []);
+  }
 
   -- while ect_bar() > lct_j; at most f turns
   unfoldable pub inner : ℕ → ℕ → State → Turn
   inner zero t st = on st
-  inner (suc f) t st = elim (ltb (lct t) (ect-bar J first (st .leaves)))
-    [ false ↦ on st
-    | true ↦ elim (responsible J first (st .leaves))
-      [ none ↦ on st
-      | some x ↦ elim (ltb (J .earliest (taskAt J first x)) (ect J first (st .leaves)))
-        [ false ↦ inner f t (dropped st x)
-        | true ↦ elim (ltb (J .latest (taskAt J first x)) (ect J first (st .leaves)))
-          [ true ↦ stop (posted st (taskAt J first x) (ect J first (st .leaves)) t)
-          | false ↦ inner f t (dropped (raised (posted st (taskAt J first x) (ect J first (st .leaves)) t) (taskAt J first x) (ect J first (st .leaves))) x) ] ] ] ]
+  inner (suc f) t st = elim (ltb (lct t) (ect-bar J first (st .leaves))) [
+    | false ↦ on st
+    | true ↦ elim (responsible J first (st .leaves)) [
+      | none ↦ on st
+      | some x ↦ elim (ltb (J .earliest (taskAt J first x)) (ect J first (st .leaves))) [
+        | false ↦ inner f t (dropped st x)
+        | true ↦ elim (ltb (J .latest (taskAt J first x)) (ect J first (st .leaves))) [
+          | true ↦ stop (posted st (taskAt J first x) (ect J first (st .leaves)) t)
+          | false ↦ inner f t (dropped (raised (posted st (taskAt J first x) (ect J first (st .leaves)) t) (taskAt J first x) (ect J first (st .leaves))) x)
+        ]
+      ]
+    ]
+  ]
 
   abbrev pub ended : State → End → Trace
   ended st end = record { posts = st .posts; end = end; starts = map (instant o) (st .starts); first = first; second = second }
@@ -119,11 +131,13 @@ module _ (o : ℕ) (J : Tasks natural) (first second : List ℕ) where
   -- while index < tasks.len() - 1
   unfoldable pub outer : ℕ → ℕ → State → Trace
   outer zero t st = ended st done
-  outer (suc f) t st = elim (ltb (lct t) (ect J first (st .leaves)))
-    [ true ↦ ended st (overload (conflict o J (lct t) (sum J first (st .leaves)) (theta J first (st .leaves))))
-    | false ↦ elim (inner n (suc t) (grayed st (index first (candidate t))))
-      [ on st′ ↦ outer f (suc t) st′
-      | stop st′ ↦ ended st′ emptied ] ]
+  outer (suc f) t st = elim (ltb (lct t) (ect J first (st .leaves))) [
+    | true ↦ ended st (overload (conflict o J (lct t) (sum J first (st .leaves)) (theta J first (st .leaves))))
+    | false ↦ elim (inner n (suc t) (grayed st (index first (candidate t)))) [
+      | on st′ ↦ outer f (suc t) st′
+      | stop st′ ↦ ended st′ emptied
+    ]
+  ]
 
   unfoldable pub run : Trace
   run = outer (n - 1) 0 (record { leaves = replicate n white; starts = tabulate (J .earliest) 0 n; posts = [] })
@@ -140,4 +154,3 @@ unfoldable pub propagate : List ℕ → List ℤ → List ℤ → List ℕ → L
 propagate ds es ls first second =
     let J = moments zeroAt (tasksOf ds es ls) in
     run zeroAt J (sort (byEarliest J) first) (sort (byCompletion J) second)
-

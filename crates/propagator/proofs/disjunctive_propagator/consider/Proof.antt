@@ -53,7 +53,7 @@ returns c = λ height x s r.
     passed-on s r (at .before .ect .result) (at .before .ect .ensures) (omega arith) (place-put at (c .remove-from-lambda .ensures))
 
 post-requires : tie.Need-post-requires
-post-requires c κs = 
+post-requires c κs =
     let at = c .before .before .before .before .before in
     let a = asks (at .before .before .before) in
     (asked (a .2) (a .3) (at .before .ect .result) (at .before .ect .ensures) (omega arith), post-room (a .2) (a .3), few (a .2), inner-few (a .2), many-atoms (a .2) (a .3))

@@ -62,7 +62,7 @@ returns c = λ s.
     nothing-left s (taken s {f = c .before .before .before .before .before .loop .left - 1} (omega arith) (v .reached s)) (sym (c .enum-told .given .1) ∙ c .before .before .candidate .ensures)
 
 consider-requires : tie.Need-consider-requires Inv-loop μ-loop
-consider-requires c κs = 
+consider-requires c κs =
     let v = c .before .before .before .before .before .before .before .before .before .before .loop .inv in
     let s = v .stood in
     let r = taken s {f = c .before .before .before .before .before .before .before .before .before .before .loop .left - 1} (positive (c .before .before .before .before .before .before .before .before .before)) (v .reached s) in
@@ -76,15 +76,15 @@ loop-less : tie.Need-loop-less Inv-loop μ-loop
 loop-less c = search needs
 
 loop-again : tie.Need-loop-again Inv-loop μ-loop
-loop-again c = 
+loop-again c =
     let at = c .before .before .before .before .before .before .before .before .before .before .before .before .before .before .before .before .before in
     let v = at .loop .inv in
     record {
       stood = v .stood;
       reached = λ s.
-        let r = taken s {f = at .loop .left - 1} (positive (c .before .before .before .before .before .before .before .before .before .before .before .before .before .before .before .before)) (v .reached s) in
-        let (x, o) = one-left s r (c .before .before .before .before .before .before .before .before .before .before .before .before .next .given .0 .0) (sym (c .before .before .before .before .before .before .before .before .before .before .before .before .next .given .1) ∙ c .before .before .before .before .before .before .before .before .before .before .before .before .before .before .candidate .ensures) in
-        one-less s r (subst (λ (t : Turn). Considered (stands s r) t (c .before .before .before .before .before .before .consider .last .0) (c .before .before .before .before .before .before .consider .last .1 .0) (c .before .before .before .before .before .before .consider .last .1 .1 .0) (c .before .before .before .before .before .before .consider .last .1 .1 .1 .0)) (c .before .turn .given .1)
+          let r = taken s {f = at .loop .left - 1} (positive (c .before .before .before .before .before .before .before .before .before .before .before .before .before .before .before .before)) (v .reached s) in
+          let (x, o) = one-left s r (c .before .before .before .before .before .before .before .before .before .before .before .before .next .given .0 .0) (sym (c .before .before .before .before .before .before .before .before .before .before .before .before .next .given .1) ∙ c .before .before .before .before .before .before .before .before .before .before .before .before .before .before .candidate .ensures) in
+          one-less s r (subst (λ (t : Turn). Considered (stands s r) t (c .before .before .before .before .before .before .consider .last .0) (c .before .before .before .before .before .before .consider .last .1 .0) (c .before .before .before .before .before .before .consider .last .1 .1 .0) (c .before .before .before .before .before .before .consider .last .1 .1 .1 .0)) (c .before .turn .given .1)
           (c .before .before .before .before .before .before .consider .ensures (at .before .args .height) x (stands s r) o));
       starts-length = search needs;
       posts-length = search needs;
@@ -110,7 +110,7 @@ returns-2 c = λ s.
     let r = taken s {f = at .loop .left - 1} (positive (c .before .before .before .before .before .before .before .before .before .before .before .before .before .before .before .before)) (v .reached s) in
     let (x, o) = one-left s r (c .before .before .before .before .before .before .before .before .before .before .before .before .next .given .0 .0) (sym (c .before .before .before .before .before .before .before .before .before .before .before .before .next .given .1) ∙ c .before .before .before .before .before .before .before .before .before .before .before .before .before .before .candidate .ensures) in
     one-emptied s r (subst (λ (t : Turn). Considered (stands s r) t (c .before .before .before .before .before .before .consider .last .0) (c .before .before .before .before .before .before .consider .last .1 .0) (c .before .before .before .before .before .before .consider .last .1 .1 .0) (c .before .before .before .before .before .before .consider .last .1 .1 .1 .0)) (c .before .turn2 .given .1)
-      (c .before .before .before .before .before .before .consider .ensures (at .before .args .height) x (stands s r) o))
+    (c .before .before .before .before .before .before .consider .ensures (at .before .args .height) x (stands s r) o))
 
 same-length-7 : tie.Need-same-length-7 Inv-loop μ-loop
 same-length-7 c = search needs

@@ -19,7 +19,7 @@ given : (c : tie.After-sum-of-processing-times)
     → let a = c .before .before .args in Overloaded (length (a .atoms .now)) (a .written .atoms) (thetaIn (a .nodes .now) (a .inner) (a .tasks .now) (a .n)) (a .est .now) (a .durations .now) (c .sum-of-processing-times .result) (a .lct)
 given c = let a = c .before .before .args in
     subst (λ (p : ℕ). Overloaded (length (a .atoms .now)) (a .written .atoms) (thetaIn (a .nodes .now) (a .inner) (a .tasks .now) (a .n)) (a .est .now) (a .durations .now) p (a .lct))
-      (sym (c .sum-of-processing-times .ensures)) (c .before .before .pre .0)
+    (sym (c .sum-of-processing-times .ensures)) (c .before .before .pre .0)
 
 abbrev sums : tie.After-create-conflict-explanation → tie.After-sum-of-processing-times
 sums c = c .before .before .before .before .before .before
@@ -37,7 +37,7 @@ slice-aggregate-create-conflict-explanation : tie.Need-slice-aggregate-create-co
 slice-aggregate-create-conflict-explanation c = front-length (c .before .before .before .before .get-theta .ensures)
 
 create-conflict-explanation-requires : tie.Need-create-conflict-explanation-requires
-create-conflict-explanation-requires c κs = 
+create-conflict-explanation-requires c κs =
     let at = c .before .before .before .before .before in
     overloaded-front (given at) (at .before .get-theta .ensures)
 
@@ -53,9 +53,9 @@ returns c =
     let s = sums made in
     let a = s .before .before .args in
     subst (λ (p : ℕ). Conflicted (a .atoms .now) (made .create-conflict-explanation .last .0) (a .written) (outcome.Overload (a .written .posts) (a .written .atoms) (made .create-conflict-explanation .result - a .written .atoms))
-        (conflict zeroAt (starting (a .est .now) (a .durations .now)) (a .lct) p (thetaIn (a .nodes .now) (a .inner) (a .tasks .now) (a .n))))
-      (s .sum-of-processing-times .ensures)
-      (conflict-done (given s) (s .before .get-theta .ensures) (made .create-conflict-explanation .ensures) refl)
+    (conflict zeroAt (starting (a .est .now) (a .durations .now)) (a .lct) p (thetaIn (a .nodes .now) (a .inner) (a .tasks .now) (a .n))))
+    (s .sum-of-processing-times .ensures)
+    (conflict-done (given s) (s .before .get-theta .ensures) (made .create-conflict-explanation .ensures) refl)
 
 pub overload-spec : {M : Type 1} → statement M
 overload-spec =

@@ -18,7 +18,7 @@ given : (c : tie.After-sum-of-processing-times)
     → let a = c .before .before .args in Preceded (length (a .atoms .now)) (a .written .atoms) (thetaIn (a .nodes .now) (a .inner) (a .tasks .now) (a .n)) (a .est .now) (a .durations .now) (c .sum-of-processing-times .result) (a .lct) (a .i) (a .bound)
 given c = let a = c .before .before .args in
     subst (λ (p : ℕ). Preceded (length (a .atoms .now)) (a .written .atoms) (thetaIn (a .nodes .now) (a .inner) (a .tasks .now) (a .n)) (a .est .now) (a .durations .now) p (a .lct) (a .i) (a .bound))
-      (sym (c .sum-of-processing-times .ensures)) (c .before .before .pre .0)
+    (sym (c .sum-of-processing-times .ensures)) (c .before .before .pre .0)
 
 abbrev sums : tie.After-create-propagation-explanation → tie.After-sum-of-processing-times
 sums c = c .before .before .before .before .before .before
@@ -67,10 +67,10 @@ returns c =
     let s = sums made in
     let a = s .before .before .args in
     subst (λ (p : ℕ). Posted (a .posts .now) (a .atoms .now) (c .before .before .write-post .last .0) (made .create-propagation-explanation .last .0) (a .written) (record { posts = a .written .posts + 1; atoms = made .create-propagation-explanation .result }) (a .i) (a .bound)
-        (atomWords (propagation zeroAt (starting (a .est .now) (a .durations .now)) (a .i) (a .bound) (a .lct) p (thetaIn (a .nodes .now) (a .inner) (a .tasks .now) (a .n))))
-        (length (propagation zeroAt (starting (a .est .now) (a .durations .now)) (a .i) (a .bound) (a .lct) p (thetaIn (a .nodes .now) (a .inner) (a .tasks .now) (a .n)))))
-      (s .sum-of-processing-times .ensures)
-      (post-done (given s) (s .before .get-theta .ensures) (made .create-propagation-explanation .ensures) refl refl refl (c .before .before .write-post .ensures))
+    (atomWords (propagation zeroAt (starting (a .est .now) (a .durations .now)) (a .i) (a .bound) (a .lct) p (thetaIn (a .nodes .now) (a .inner) (a .tasks .now) (a .n))))
+    (length (propagation zeroAt (starting (a .est .now) (a .durations .now)) (a .i) (a .bound) (a .lct) p (thetaIn (a .nodes .now) (a .inner) (a .tasks .now) (a .n)))))
+    (s .sum-of-processing-times .ensures)
+    (post-done (given s) (s .before .get-theta .ensures) (made .create-propagation-explanation .ensures) refl refl refl (c .before .before .write-post .ensures))
 
 pub post-spec : {M : Type 1} → statement M
 post-spec =
