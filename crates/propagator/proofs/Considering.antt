@@ -177,7 +177,7 @@ module _ {n inn height lct : ℕ} {words : List ℕ} {es ps as′ : List ℤ} {w
     known-j = omega (arith, z, G .by-completion .task t (s .small))
 
     pub place-j : getD mapping j 0 ≡ index first j
-    place-j = s .arrays .places .at j (omega (arith, known-j, s .arrays .count))
+    place-j = s .arrays .places j (omega (arith, known-j, s .arrays .count))
 
     abbrev pub movable : Movable inn words mapping est dur j
     movable = record {
@@ -226,7 +226,7 @@ module _ {n inn height lct : ℕ} {words : List ℕ} {es ps as′ : List ℤ} {w
     task-latest = s .latest .at i small ∙ ap (J .latest) (r .task)
 
     leaf : getD mapping i 0 ≡ x
-    leaf = s .arrays .places .at i small ∙ ap (λ (k : ℕ). index first k) (r .task) ∙ G .by-earliest .back x (found .small)
+    leaf = s .arrays .places i small ∙ ap (λ (k : ℕ). index first k) (r .task) ∙ G .by-earliest .back x (found .small)
 
     -- room for one post more
     fewer : suc (length (s .st .posts)) ≤ t

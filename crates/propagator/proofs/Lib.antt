@@ -4,3 +4,5 @@ pub mod Considering
 pub mod Turning
 pub mod Moving
 pub mod Levels
+pub mod Filling
+pub mod Beginning

@@ -38,7 +38,7 @@ pub record Arrays (J : Tasks natural) (first : List ℕ) (n inner height : ℕ) 
   pub starts : Holds n (J .earliest) est
   pub durations : Holds n (J .duration) dur
   pub tasks : Holds n (λ j. getD first j 0) leaves
-  pub places : Holds n (λ k. index first k) mapping
+  pub places : (k : ℕ) → k < n → getD mapping k 0 ≡ index first k
   pub tall : height ≡ heightFor n
 
 -- What a run has got to, at the state st: the tree shows its leaves, and the slices hold its starts, posts and reasons over what stood there at entry.

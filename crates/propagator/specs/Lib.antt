@@ -2,3 +2,5 @@ pub mod Holding
 pub mod Turns
 pub mod Finding
 pub mod Moving
+pub mod Filling
+pub mod Ran

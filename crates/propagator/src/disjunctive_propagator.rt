@@ -3,9 +3,17 @@ use explanations::create_conflict_explanation;
 use explanations::create_propagation_explanation;
 use explanations::write_post;
 use integers::start_of;
+use records::orders::completions;
+use records::orders::moments_of;
+use records::orders::reversed;
+use records::orders::sort_by_key;
+use records::record::Propagator;
+use records::refusals::run_refusal;
 use trees::disjunctive_task::DisjunctiveTask;
+use trees::disjunctive_task::LeafPlace;
 use trees::disjunctive_task::LocalId;
 use trees::disjunctive_task::leaf_of;
+use trees::disjunctive_task::task_of;
 use trees::theta_lambda_tree::Responsible;
 use trees::theta_lambda_tree::ThetaLambdaTree;
 ghost use mathlib.Core.Path.{_≡_};
@@ -18,7 +26,10 @@ ghost use Rattle.trees.specs.Words.{nodeAt};
 ghost use Rattle.runs.specs.Runs.{propagation};
 ghost use Rattle.runs.specs.Words.{atomWords};
 ghost use Rattle.explanations.specs.Explanations.{starting, Preceded, Overloaded};
+ghost use Rattle.propagator.specs.Filling.{Fillable, Filled};
 ghost use Rattle.propagator.specs.Finding.{Conflicted, conflictIn, Begun, Ended};
+ghost use Rattle.records.specs.Refusals.{Accepted};
+ghost use Rattle.propagator.specs.Ran.{Left, Ran};
 ghost use Rattle.propagator.specs.Moving.{Movable, Moved};
 ghost use Rattle.propagator.specs.Turns.{thetaIn, sumIn, candidateIn, Posted, Standing, Considered, AllConsidered, Responsible-for};
 
@@ -33,6 +44,12 @@ pub enum Outcome {
     },
     Emptied(usize),
     Refused(u32),
+}
+
+// What a run hands back: the record with its orders as they are now, and how the run ended.
+pub struct Run {
+    pub record: Propagator,
+    pub outcome: Outcome,
 }
 
 // The posts and the atoms written so far.
@@ -323,4 +340,108 @@ fn edge_finding<'a>(
         }
     }
     Outcome::Done(w.posts)
+}
+
+// Puts every task into Theta, leaf by leaf.
+fn fill<'a>(
+    nodes: &mut [u32; 508],
+    inner: usize,
+    tasks: &'a [usize; 48],
+    est: &'a [u32; 48],
+    durations: &'a [u32; 48],
+    n: usize,
+)
+    requires { ⌜ Fillable inner n (now nodes) (now tasks) (now est) (now durations) ⌝ }
+    ensures { λ _. ⌜ Filled inner n (now (nodes .entry)) (now (nodes .exit)) (now (tasks .entry)) (now (est .entry)) (now (durations .entry)) ⌝ }
+{
+    let mut x: usize = 0;
+    while x < n {
+        let id = task_of(tasks, LeafPlace(x));
+        let i = id.0;
+        let task = DisjunctiveTask {
+            start_time: est[i],
+            processing_time: durations[i],
+            id,
+        };
+        ThetaLambdaTree::add_to_theta(nodes, inner, LeafPlace(x), task);
+        x += 1;
+    }
+}
+
+// A run on a record and ranges that no test turns back.
+fn accepted(
+    record: Propagator,
+    earliest: &mut [i32],
+    latest: &[i32],
+    posts: &mut [i32],
+    atoms: &mut [i32],
+) -> Run
+    requires { ⌜ Accepted «record» (now earliest) (now latest) (length (now posts)) (length (now atoms)) ⌝ }
+    ensures { λ r. ⌜ Left «record» (now (earliest .entry)) (now (latest .entry)) (now (posts .entry)) (now (atoms .entry)) r (now (earliest .exit)) (now (posts .exit)) (now (atoms .exit)) ⌝ }
+{
+    let n = record.count;
+    let durations = record.durations;
+    let mut est: [u32; 48] = [0; 48];
+    moments_of(&mut est, earliest);
+    let mut lst: [u32; 48] = [0; 48];
+    moments_of(&mut lst, latest);
+    let mut lct: [u32; 48] = [0; 48];
+    completions(&mut lct, &lst, &durations, n);
+    let mut first = record.first;
+    sort_by_key(&mut first, n, &est);
+    let keys = reversed(&lct, n);
+    let mut second = record.second;
+    sort_by_key(&mut second, n, &keys);
+    let new = ThetaLambdaTree::new(n);
+    let tree = new.update(&first);
+    let inner = tree.number_of_internal_nodes;
+    let height = tree.height;
+    let mapping = tree.mapping;
+    let mut nodes = tree.nodes;
+    fill(&mut nodes, inner, &first, &est, &durations, n);
+    let outcome = edge_finding(
+        &mut nodes,
+        earliest,
+        posts,
+        atoms,
+        &mapping,
+        &first,
+        &second,
+        &est,
+        &lst,
+        &lct,
+        &durations,
+        inner,
+        height,
+        n,
+    );
+    Run {
+        record: Propagator {
+            count: n,
+            durations,
+            first,
+            second,
+        },
+        outcome,
+    }
+}
+
+// A run on the record and the ranges.
+pub fn propagate(
+    record: Propagator,
+    earliest: &mut [i32],
+    latest: &[i32],
+    posts: &mut [i32],
+    atoms: &mut [i32],
+) -> Run
+    ensures { λ r. ⌜ Ran «record» (now (earliest .entry)) (now (latest .entry)) (now (posts .entry)) (now (atoms .entry)) r (now (earliest .exit)) (now (posts .exit)) (now (atoms .exit)) ⌝ }
+{
+    let number = run_refusal(record, earliest, latest, posts.len(), atoms.len());
+    if number != 0 {
+        return Run {
+            record,
+            outcome: Outcome::Refused(number),
+        };
+    }
+    accepted(record, earliest, latest, posts, atoms)
 }

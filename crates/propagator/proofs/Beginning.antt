@@ -1,0 +1,306 @@
+-- What an accepted run brings to edge finding: the tasks' moments in arrays, both orders sorted, the tree of all tasks.
+-- Assumes nothing.
+use mathlib.Core.Path.{_≡_, refl, sym, ap, ap₂, subst, _∙_}
+use mathlib.Core.Bool.{Bool, true, false}
+use mathlib.Core.List.{List, [], _∷_, _++_, map}
+use Prim.Native.Nat.{ℕ, zero, suc, _+_, _-_, _*_, _^_, _≤_, _<_}
+use native.Mathlib.Omega.{arith}
+use lib.Dec.{leb}
+use lib.IntN.{ℤ, pos, negsuc}
+use lib.ListN.{length, getD, take, drop, replicate, length-replicate}
+use lib.Seq.{sets, getD-take, length-take-le}
+use lib.Signed.{_≤ℤ_}
+use Rattle.integers.specs.Limits.{TASKS, DURATIONS, START}
+use Rattle.integers.specs.Filling.{filled}
+use Rattle.integers.specs.Moments.{moment, instant, zeroAt, Above}
+use Rattle.integers.specs.Orders.{sort, index, has, Permutes}
+use Rattle.integers.proofs.Filling.{filled-length, filled-at}
+use Rattle.integers.proofs.Ints.{up, dn}
+use Rattle.integers.proofs.Moments.{mono, above-up, above-show, instant-moment}
+use Rattle.integers.proofs.Sorting.{sort-ext}
+use Rattle.scheduling.specs.Scheduling.{whole, natural, Tasks, tasksOf, Proper, total, processing, completion}
+use Rattle.scheduling.proofs.Processing.{processing-less}
+use Rattle.scheduling.proofs.Scan.{ByEarliest}
+use Rattle.scheduling.proofs.Levels.{ByCompletion}
+use Rattle.scheduling.proofs.Sets.{total-ext}
+use Rattle.scheduling.proofs.Transfer.{moments, sound}
+use Rattle.trees.specs.Leaves.{Limited, white, IsTree}
+use Rattle.trees.specs.declared.theta_lambda_tree.ThetaLambdaTree.{ThetaLambdaTree}
+use Rattle.trees.specs.Mappings.{Updated}
+use Rattle.trees.specs.Shapes.{width, heightFor, Sized}
+use Rattle.trees.proofs.Heights.{sized}
+use Rattle.trees.proofs.Roots as tree
+use Rattle.trees.proofs.Trees.{new-tree}
+use Rattle.runs.specs.Traces.{Trace}
+use Rattle.runs.specs.Runs.{tabulate, byEarliest, byCompletion, run, propagate}
+use Rattle.runs.specs.Demand.{Right}
+use Rattle.runs.specs.Words.{postWords, atomWords, reasons, endReason}
+use Rattle.runs.proofs.Demand as demand
+use Rattle.records.specs.declared.record.Propagator.{Propagator}
+use Rattle.records.specs.Orders.{noTasks, momentAt, completionAt, byKey, byKeyDown, largestKey, reversedAt, sortedOrder}
+use Rattle.records.specs.Records.{Lawful}
+use Rattle.records.specs.Refusals.{Accepted}
+use Rattle.records.proofs.Keys.{sort-reversed}
+use Rattle.records.proofs.Sorted.{sorted-front, sorted-length, sorted-permutes}
+use Rattle.propagator.specs.Holding.{Ordered, Holds, Arrays, At}
+use Rattle.propagator.specs.declared.disjunctive_propagator.Outcome.{Outcome}
+use Rattle.propagator.specs.Filling.{Fillable}
+use Rattle.propagator.specs.Finding.{allWhite, outcomeOf, Begun, Ended}
+use Rattle.propagator.specs.Ran.{tasksIn, traceOf, Left}
+
+zeros-long : length noTasks ≡ TASKS
+zeros-long = length-replicate {A = ℕ} 48 0
+
+-- numbers that come back from their moments
+tabulated : (xs : List ℤ) (f : ℕ → ℕ) (b : ℕ) → ((k : ℕ) → k < length xs → instant zeroAt (f (b + k)) ≡ getD xs k (pos 0)) → xs ≡ map (instant zeroAt) (tabulate f b (length xs))
+unfolding tabulate
+tabulated [] f b h = refl
+tabulated (x ∷ xs) f b h = ap₂ (λ (y : ℤ) (l : List ℤ). y ∷ l) (sym (h 0 (omega arith)) ∙ ap (λ (k : ℕ). instant zeroAt (f k)) here) (tabulated xs f (suc b) (λ k q. ap (λ (j : ℕ). instant zeroAt (f j)) (there k) ∙ h (suc k) (omega arith)))
+  where
+    here : b + 0 ≡ b
+    here = omega arith
+
+    there : (k : ℕ) → suc b + k ≡ b + suc k
+    there k = omega arith
+
+module _ (r : Propagator) (es ls : List ℤ) (posts atoms : ℕ) (a : Accepted r es ls posts atoms) (long : length (r .durations) ≡ TASKS) (long₁ : length (r .first) ≡ TASKS) (long₂ : length (r .second) ≡ TASKS) where
+  abbrev n : ℕ
+  n = r .count
+
+  abbrev pub ds : List ℕ
+  ds = take (r .count) (r .durations)
+
+  abbrev pub Z : Tasks whole
+  Z = tasksOf (take (r .count) (r .durations)) es ls
+
+  abbrev pub J : Tasks natural
+  J = moments zeroAt (tasksOf (take (r .count) (r .durations)) es ls)
+
+  pub few : n ≤ TASKS
+  few = a .lawful .few
+
+  pub count : length ds ≡ n
+  count = length-take-le n (r .durations) (omega (arith, few, long))
+
+  lasts-at : (k : ℕ) → k < n → getD ds k 0 ≡ getD (r .durations) k 0
+  lasts-at k q = getD-take n (r .durations) k 0 q
+
+  sum-is : total (λ k. getD ds k 0) (length ds) ≡ total (λ k. getD (r .durations) k 0) n
+  sum-is = ap (total (λ k. getD ds k 0)) count ∙ total-ext (λ k. getD ds k 0) (λ k. getD (r .durations) k 0) n lasts-at
+
+  -- the same input, as the run's definition accepts it
+  pub accepted : demand.Accepted ds es ls (take n (r .first)) (take n (r .second))
+  accepted = record {
+    some = omega (arith, count, a .lawful .some);
+    few = omega (arith, count, few);
+    lasts = λ k q. omega (arith, lasts-at k (omega (arith, count)), a .lawful .lasts k (omega (arith, count)));
+    sum = omega (arith, sum-is, a .lawful .sum);
+    from = λ k q. a .starts .earliest k (omega (arith, count, a .counts .earliest)) .low;
+    to = λ k q. a .starts .latest k (omega (arith, count, a .counts .latest)) .high;
+    ranges = λ k q. a .ranges k (omega (arith, count, a .counts .earliest));
+    first-permutes = subst (λ (m : ℕ). Permutes m (take n (r .first))) (sym count) (a .lawful .first);
+    second-permutes = subst (λ (m : ℕ). Permutes m (take n (r .second))) (sym count) (a .lawful .second);
+  }
+
+  abbrev pub first : List ℕ
+  first = sort (byEarliest J) (take (r .count) (r .first))
+
+  abbrev pub second : List ℕ
+  second = sort (byCompletion J) (take (r .count) (r .second))
+
+  -- the arrays
+  pub holds-starts : (xs : List ℤ) → length xs ≡ n → Holds n (momentAt xs) (filled (momentAt xs) (length xs) noTasks)
+  holds-starts xs z = record {
+    size = filled-length (momentAt xs) (length xs) noTasks ∙ zeros-long;
+    at = λ k q. filled-at (momentAt xs) (length xs) noTasks 0 k (omega (arith, z)) (omega (arith, z, few, zeros-long));
+  }
+
+  pub holds-durations : Holds n (J .duration) (r .durations)
+  holds-durations = record { size = long; at = λ k q. sym (lasts-at k q) }
+
+  pub holds-completions : (lst : List ℕ) → Holds n (J .latest) lst → Holds n (completion J) (filled (completionAt lst (r .durations)) n noTasks)
+  holds-completions lst h = record {
+    size = filled-length (completionAt lst (r .durations)) n noTasks ∙ zeros-long;
+    at = λ k q. filled-at (completionAt lst (r .durations)) n noTasks 0 k q (omega (arith, few, zeros-long)) ∙ ap₂ _+_ (h .at k q) (holds-durations .at k q);
+  }
+
+  -- an order sorted by an array's keys
+  below : (l : List ℕ) → Permutes n (take n l) → (k : ℕ) → has (take n l) k ≡ true → k < n
+  below l p k h = p .below k h
+
+  pub order-first : (est : List ℕ) → Holds n (J .earliest) est → sort (byKey est) (take n (r .first)) ≡ first
+  order-first est h = sort-ext (byKey est) (byEarliest J) (take n (r .first)) (λ j k p q. ap₂ leb (h .at j (below (r .first) (a .lawful .first) j p)) (h .at k (below (r .first) (a .lawful .first) k q)))
+
+  pub sorted-first : (est : List ℕ) → Holds n (J .earliest) est → take n (sortedOrder (byKey est) n (r .first)) ≡ first
+  sorted-first est h = sorted-front (byKey est) n (r .first) (omega (arith, few, long₁)) ∙ order-first est h
+
+  pub order-second : (lct : List ℕ) → Holds n (completion J) lct → ((k : ℕ) → k < n → getD lct k 0 ≤ largestKey) → sort (byKey (filled (reversedAt lct) n noTasks)) (take n (r .second)) ≡ second
+  order-second lct h small = sort-reversed lct n (take n (r .second)) few small (below (r .second) (a .lawful .second))
+      ∙ sort-ext (byKeyDown lct) (byCompletion J) (take n (r .second)) (λ j k p q. ap₂ leb (h .at k (below (r .second) (a .lawful .second) k q)) (h .at j (below (r .second) (a .lawful .second) j p)))
+
+  pub sorted-second : (lct : List ℕ) → Holds n (completion J) lct → ((k : ℕ) → k < n → getD lct k 0 ≤ largestKey) → take n (sortedOrder (byKey (filled (reversedAt lct) n noTasks)) n (r .second)) ≡ second
+  sorted-second lct h small = sorted-front (byKey (filled (reversedAt lct) n noTasks)) n (r .second) (omega (arith, few, long₂)) ∙ order-second lct h small
+
+  pub holds-order : (l m : List ℕ) → take n l ≡ m → length l ≡ TASKS → Holds n (λ j. getD m j 0) l
+  holds-order l m z size = record { size = size; at = λ k q. sym (getD-take n l k 0 q) ∙ ap (λ (o : List ℕ). getD o k 0) z }
+
+  -- the moments are in the limits
+  deep : Above zeroAt (negsuc 199999999)
+  unfolding up dn
+  deep = above-show zeroAt (negsuc 199999999) (omega arith)
+
+  above : (k : ℕ) → k < length ds → Above zeroAt (getD es k (pos 0))
+  above k q = above-up zeroAt (negsuc 199999999) (getD es k (pos 0)) (accepted .from k q) deep
+
+  early : (k : ℕ) → k < length ds → (1947483648 ≤ J .earliest k) × (J .earliest k ≤ J .latest k) × (J .latest k ≤ 2347483648)
+  unfolding up dn
+  early k q = (
+    omega (arith, mono zeroAt (negsuc 199999999) (getD es k (pos 0)) (accepted .from k q)),
+    mono zeroAt (getD es k (pos 0)) (getD ls k (pos 0)) (accepted .ranges k q),
+    omega (arith, mono zeroAt (getD ls k (pos 0)) (pos 200000000) (accepted .to k q)),
+  )
+
+  all : processing J (λ _. true) ≡ total (λ k. getD ds k 0) (length ds)
+  unfolding processing
+  all = refl
+
+  short : processing J (λ _. true) ≤ 200000000
+  short = omega (arith, all, accepted .sum)
+
+  lasting : (k : ℕ) → k < length ds → J .duration k ≤ 200000000
+  lasting k q = omega (arith, short, processing-less J (λ _. true) k (record { small = q; mem = refl }))
+
+  proper : Proper J
+  proper = sound zeroAt Z (record { ranges = accepted .ranges; lasts = accepted .lasts }) above
+
+  pub by-earliest : ByEarliest J (λ j. getD first j 0) (λ k. index first k)
+  by-earliest = demand.by-earliest J (take n (r .first)) (accepted .first-permutes)
+
+  pub ordered : Ordered J first second
+  ordered = record {
+    proper = proper;
+    some = accepted .some;
+    by-earliest = by-earliest;
+    by-completion = demand.by-completion J (take n (r .second)) (accepted .second-permutes);
+    limited = tree.limited J proper first by-earliest (accepted .few) (λ k q. omega (arith, early k q .1, early k q .2)) (omega (arith, accepted .sum));
+    room = λ k q. omega (arith, short, early k q .0);
+    fits = λ k q. omega (arith, short, early k q .2, lasting k q);
+  }
+
+  -- a latest completion is a key
+  pub key-small : (lst : List ℕ) → Holds n (J .latest) lst → (k : ℕ) → k < n → completionAt lst (r .durations) k ≤ largestKey
+  key-small lst h k q = let z : k < length ds = omega (arith, count) in omega (arith, h .at k q, holds-durations .at k q, early k z .2, lasting k z)
+
+  pub completion-small : (k : ℕ) → k < n → completion J k ≤ largestKey
+  completion-small k q = let z : k < length ds = omega (arith, count) in omega (arith, early k z .2, lasting k z)
+
+  -- the state at the start: nothing is written
+  pub at-start : (inner : ℕ) (words : List ℕ) (ps as′ : List ℤ) → IsTree J first (replicate (J .count) white) inner words → At J first ps as′ (allWhite J) inner words es ps as′ 0 0
+  unfolding postWords atomWords reasons
+  at-start inner words ps as′ t = record {
+    tree = t;
+    starts = subst (λ (m : ℕ). es ≡ map (instant zeroAt) (tabulate (J .earliest) 0 m)) (a .counts .earliest ∙ sym count) (tabulated es (J .earliest) 0 (λ k q. back k (omega (arith, q, a .counts .earliest, count))));
+    posts = refl;
+    atoms = refl;
+    posted = refl;
+    explained = refl;
+  }
+    where
+      back : (k : ℕ) → k < length ds → instant zeroAt (J .earliest (0 + k)) ≡ getD es k (pos 0)
+      back k q = let z : 0 + k ≡ k = omega arith in ap (λ (j : ℕ). instant zeroAt (J .earliest j)) z ∙ instant-moment zeroAt (getD es k (pos 0)) (above k q)
+
+  -- what the calls before edge finding left
+  module _ {est lst : List ℕ} (e : est ≡ filled (momentAt es) (length es) noTasks) (l : lst ≡ filled (momentAt ls) (length ls) noTasks) where
+    pub starts : Holds n (J .earliest) est
+    starts = subst (Holds n (J .earliest)) (sym e) (holds-starts es (a .counts .earliest))
+
+    pub latest : Holds n (J .latest) lst
+    latest = subst (Holds n (J .latest)) (sym l) (holds-starts ls (a .counts .latest))
+
+    module _ {lct tasks keys candidates : List ℕ} (c : lct ≡ filled (completionAt lst (r .durations)) n noTasks) (f : tasks ≡ sortedOrder (byKey est) n (r .first)) (k : keys ≡ filled (reversedAt lct) n noTasks) (g : candidates ≡ sortedOrder (byKey keys) n (r .second)) where
+      pub completions : Holds n (completion J) lct
+      completions = subst (Holds n (completion J)) (sym c) (holds-completions lst latest)
+
+      keys-small : (x : ℕ) → x < n → getD lct x 0 ≤ largestKey
+      keys-small x q = omega (arith, completions .at x q, completion-small x q)
+
+      front : take n tasks ≡ first
+      front = ap (take n) f ∙ sorted-first est starts
+
+      pub order : Holds n (λ j. getD first j 0) tasks
+      order = holds-order tasks first front (ap length f ∙ sorted-length (byKey est) n (r .first) (omega (arith, few, long₁)) ∙ long₁)
+
+      g-is : candidates ≡ sortedOrder (byKey (filled (reversedAt lct) n noTasks)) n (r .second)
+      g-is = g ∙ ap (λ (m : List ℕ). sortedOrder (byKey m) n (r .second)) k
+
+      pub candidates-order : Holds n (λ t. getD second t 0) candidates
+      candidates-order = holds-order candidates second (ap (take n) g-is ∙ sorted-second lct completions keys-small)
+          (ap length g-is ∙ sorted-length (byKey (filled (reversedAt lct) n noTasks)) n (r .second) (omega (arith, few, long₂)) ∙ long₂)
+
+      -- the tree: made for n tasks, updated by the order
+      module _ {new tree′ : ThetaLambdaTree} (sz : Sized n (new .«number_of_internal_nodes») (new .height)) (cn : new .count ≡ n) (u : Updated new tree′ tasks) where
+        abbrev inner : ℕ
+        inner = tree′ .«number_of_internal_nodes»
+
+        pub complete : inner + 1 ≡ width (heightFor (J .count))
+        complete = ap (λ (m : ℕ). m + 1) (u .inner) ∙ sized n (new .«number_of_internal_nodes») (new .height) sz ∙ ap (λ (m : ℕ). width (heightFor m)) (sym count)
+
+        pub tall : tree′ .height ≡ heightFor n
+        tall = u .height ∙ sz .least
+
+        pub places : (x : ℕ) → x < n → getD (tree′ .mapping) x 0 ≡ index first x
+        places x q = u .mapping .leaf x (omega (arith, cn)) ∙ ap (λ (m : ℕ). index (take m tasks) x) cn ∙ ap (λ (o : List ℕ). index o x) front
+
+        abbrev pub fillable : Fillable inner n (tree′ .nodes) tasks est (r .durations)
+        fillable = record {
+          J = J;
+          first = first;
+          limited = ordered .limited;
+          count = count;
+          tree = new-tree J first inner (tree′ .nodes) (u .nodes) complete;
+          few = few;
+          task = order .at;
+          known = λ x q. omega (arith, few, count, by-earliest .task x (omega (arith, count)));
+          start = λ x q. starts .at (getD first x 0) (omega (arith, count, by-earliest .task x (omega (arith, count))));
+          lasts = λ x q. holds-durations .at (getD first x 0) (omega (arith, count, by-earliest .task x (omega (arith, count))));
+        }
+
+        abbrev pub begun : {words : List ℕ} {ps as′ : List ℤ} → IsTree J first (replicate (J .count) white) inner words → posts ≡ length ps → atoms ≡ length as′
+            → Begun n inner (tree′ .height) words es ps as′ est lst lct (r .durations) tasks candidates (tree′ .mapping)
+        begun {words} {ps} {as′} t p q = record {
+          J = J;
+          first = first;
+          second = second;
+          ordered = ordered;
+          arrays = record { count = count; starts = starts; durations = holds-durations; tasks = order; places = places; tall = tall };
+          latest = latest;
+          completions = completions;
+          order = candidates-order;
+          post-room = omega (arith, p, a .words .posts);
+          atom-room = omega (arith, q, a .words .atoms);
+          at = at-start inner words ps as′ t;
+        }
+
+      -- and what a run leaves
+      trace-is : traceOf r es ls ≡ run zeroAt J first second
+      unfolding propagate
+      trace-is = refl
+
+      first-carried : tasks ≡ sortedOrder (byEarliest J) n (r .first)
+      first-carried = f ∙ ap (λ (o : List ℕ). o ++ drop n (r .first)) (order-first est starts)
+
+      second-carried : candidates ≡ sortedOrder (byCompletion J) n (r .second)
+      second-carried = g-is ∙ ap (λ (o : List ℕ). o ++ drop n (r .second)) (order-second lct completions keys-small)
+
+      pub left : {ps as′ es′ ps′ bs : List ℤ} {o : Outcome} → Ended J first second ps as′ o es′ ps′ bs
+          → Left r es ls ps as′ (record { «record» = record { count = n; durations = r .durations; first = tasks; second = candidates }; outcome = o }) es′ ps′ bs
+      left {ps} {as′} {es′} {ps′} {bs} {o} d = record {
+        answer = d .answer ∙ ap (λ (t : Trace). outcomeOf (reasons (t .posts)) (length (t .posts)) (t .end)) (sym trace-is);
+        starts = d .starts ∙ ap (λ (t : Trace). t .starts) (sym trace-is);
+        post-words = d .posts ∙ ap (λ (t : Trace). sets ps 0 (postWords 0 (t .posts))) (sym trace-is);
+        atom-words = d .atoms ∙ ap (λ (t : Trace). sets as′ 0 (atomWords (reasons (t .posts) ++ endReason (t .end)))) (sym trace-is);
+        carries = ap₂ (λ (x y : List ℕ). record { count = n; durations = r .durations; first = x; second = y }) first-carried second-carried;
+      }
+
+  pub right : Right (tasksIn r es ls) (traceOf r es ls)
+  right = demand.demand-3 ds es ls (take n (r .first)) (take n (r .second)) accepted

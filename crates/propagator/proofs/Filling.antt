@@ -1,0 +1,63 @@
+-- The leaves become white, one after the other.
+-- Assumes nothing.
+use mathlib.Core.Path.{_≡_, refl, sym, ap, subst, _∙_}
+use mathlib.Core.List.{List, [], _∷_}
+use Prim.Native.Nat.{ℕ, zero, suc, _+_, _≤_, _<_}
+use native.Mathlib.Omega.{arith}
+use lib.ListN.{length, getD, set, replicate, length-replicate, getD-replicate}
+use Rattle.integers.specs.Filling.{filled}
+use Rattle.integers.proofs.Filling.{filled-none, filled-more, filled-length, filled-at}
+use Rattle.trees.specs.declared.theta_lambda_tree.Node.{Node}
+use Rattle.trees.specs.Leaves.{Leaf, empty, white, IsTree}
+use Rattle.trees.specs.Nodes.{whiteOf}
+use Rattle.trees.specs.Puts.{Puttable, Put}
+use Rattle.trees.proofs.Trees.{may-put, was-put}
+use Rattle.propagator.specs.Filling.{Fillable}
+
+-- two lists of one length that agree in each place
+same-list : {A : Type 0} (d : A) (l m : List A) → length l ≡ length m → ((k : ℕ) → k < length l → getD l k d ≡ getD m k d) → l ≡ m
+same-list d [] [] z h = refl
+same-list d [] (y ∷ m) z h = absurd (omega (arith, z))
+same-list d (x ∷ l) [] z h = absurd (omega (arith, z))
+same-list d (x ∷ l) (y ∷ m) z h = ap (λ (a : _). a ∷ l) (h 0 (omega arith)) ∙ ap (λ (r : List _). y ∷ r) (same-list d l m (omega (arith, z)) (λ k q. h (suc k) (omega arith)))
+
+module _ {inner n : ℕ} {words tasks est dur : List ℕ} (f : Fillable inner n words tasks est dur) where
+  -- the first x leaves are white
+  abbrev pub upTo : ℕ → List Leaf
+  upTo x = filled (λ _. white) x (replicate (f .J .count) empty)
+
+  pub none-white : IsTree (f .J) (f .first) (upTo 0) inner words
+  none-white = subst (λ (ls : List Leaf). IsTree (f .J) (f .first) ls inner words) (sym (filled-none (λ _. white) (replicate (f .J .count) empty))) (f .tree)
+
+  module _ (x : ℕ) (q : x < n) where
+    abbrev t : ℕ
+    t = getD tasks x 0
+
+    pub task-known : t < 48
+    task-known = omega (arith, f .task x q, f .known x q)
+
+    abbrev node : Node
+    node = whiteOf (getD est t 0 + getD dur t 0) (getD dur t 0)
+
+    node-is : node ≡ whiteOf (f .J .earliest (getD (f .first) x 0) + f .J .duration (getD (f .first) x 0)) (f .J .duration (getD (f .first) x 0))
+    node-is = rw (f .task x q, f .start x q, f .lasts x q) refl
+
+    inside : x < f .J .count
+    inside = omega (arith, f .count)
+
+    pub may-white : {now : List ℕ} → IsTree (f .J) (f .first) (upTo x) inner now → Puttable inner now x node
+    may-white i = may-put (f .limited) i x inside white node-is
+
+    pub one-white : {now now′ : List ℕ} → IsTree (f .J) (f .first) (upTo x) inner now → Put inner now now′ x node → IsTree (f .J) (f .first) (upTo (x + 1)) inner now′
+    one-white {now} {now′} i p = subst (λ (ls : List Leaf). IsTree (f .J) (f .first) ls inner now′) (sym (filled-more (λ _. white) x (replicate (f .J .count) empty))) (was-put (f .limited) i x inside white node-is p)
+
+  pub all-white : (x : ℕ) → x ≡ n → {now : List ℕ} → IsTree (f .J) (f .first) (upTo x) inner now → IsTree (f .J) (f .first) (replicate (f .J .count) white) inner now
+  all-white x z {now} i = subst (λ (ls : List Leaf). IsTree (f .J) (f .first) ls inner now) is i
+    where
+      c : ℕ
+      c = f .J .count
+
+      is : upTo x ≡ replicate (f .J .count) white
+      is = same-list empty (upTo x) (replicate (f .J .count) white) (filled-length (λ _. white) x (replicate (f .J .count) empty) ∙ length-replicate (f .J .count) empty ∙ sym (length-replicate (f .J .count) white))
+          (λ k q. let r : k < f .J .count = omega (arith, filled-length (λ _. white) x (replicate (f .J .count) empty), length-replicate (f .J .count) empty) in
+          filled-at (λ _. white) x (replicate (f .J .count) empty) empty k (omega (arith, r, z, f .count)) (omega (arith, z, f .count, length-replicate (f .J .count) empty)) ∙ sym (getD-replicate (f .J .count) k white empty r))

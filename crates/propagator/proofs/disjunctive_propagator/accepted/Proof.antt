@@ -1,0 +1,138 @@
+-- `propagator::disjunctive_propagator::accepted` meets its contract.
+-- Assumes nothing.
+use mathlib.Core.Path.{_≡_, refl, sym, subst}
+use mathlib.Core.List.{List}
+use Prim.Native.Nat.{ℕ}
+use native.Mathlib.Omega.{arith}
+use lib.ListN.{length, take}
+use borrow.Author.Needs.{needs}
+use Rattle.integers.specs.Limits.{TASKS}
+use Rattle.integers.specs.Orders.{Permutes}
+use Rattle.records.specs.declared.record.Propagator.{Propagator}
+use Rattle.records.specs.Orders.{byKey}
+use Rattle.records.proofs.Sorted.{numbered, sorted-permutes}
+use Rattle.propagator.proofs.Beginning.{key-small, latest, fillable, begun, left}
+use Rattle.propagator.proofs.disjunctive_propagator.accepted.Statement.{statement}
+use Rattle.propagator.proofs.disjunctive_propagator.accepted.Tie as tie
+
+-- the arrays of a record have TASKS places
+long : (c : tie.Start) → length (c .args .«record» .durations) ≡ TASKS
+long c = search needs
+
+long₁ : (c : tie.Start) → length (c .args .«record» .first) ≡ TASKS
+long₁ c = search needs
+
+long₂ : (c : tie.Start) → length (c .args .«record» .second) ≡ TASKS
+long₂ c = search needs
+
+-- when both orders are sorted: what each call before left
+abbrev start : tie.After-sort-by-key2 → tie.Start
+start c = c .before .before .before .before .before .before .before .before .before .before .before .before .before .before .before .before .before .before .before .before
+
+abbrev est : tie.After-sort-by-key2 → tie.After-moments-of
+est c = c .before .before .before .before .before .before .before .before .before .before .before .before .before .before .before .before
+
+abbrev lst : tie.After-sort-by-key2 → tie.After-moments-of2
+lst c = c .before .before .before .before .before .before .before .before .before .before .before .before .before .before
+
+abbrev lct : tie.After-sort-by-key2 → tie.After-completions
+lct c = c .before .before .before .before .before .before .before .before .before .before
+
+abbrev first : tie.After-sort-by-key2 → tie.After-sort-by-key
+first c = c .before .before .before .before .before .before
+
+abbrev keys : tie.After-sort-by-key2 → tie.After-reversed
+keys c = c .before .before .before .before
+
+moments-of-requires : tie.Need-moments-of-requires
+moments-of-requires c κs = search needs
+
+moments-of-requires-2 : tie.Need-moments-of-requires-2
+moments-of-requires-2 c κs = search needs
+
+completions-requires : tie.Need-completions-requires
+completions-requires c κs =
+    let s = c .before .before .before .before .before .before .before .before .before in
+    let a = s .args in (
+      s .pre .lawful .few,
+      key-small (a .«record») (a .earliest .now) (a .latest .now) (length (a .posts .now)) (length (a .atoms .now)) (s .pre) (long s) (long₁ s) (long₂ s) (c .before .before .before .moments-of2 .last .0)
+          (latest (a .«record») (a .earliest .now) (a .latest .now) (length (a .posts .now)) (length (a .atoms .now)) (s .pre) (long s) (long₁ s) (long₂ s) (c .before .before .before .before .before .moments-of .ensures) (c .before .before .before .moments-of2 .ensures)),
+    )
+
+sort-by-key-requires : tie.Need-sort-by-key-requires
+sort-by-key-requires c κs = let s = c .before .before .before .before .before .before .before .before .before .before .before .before .before in numbered (s .args .«record» .count) (s .args .«record» .first) (s .pre .lawful .few) (long₁ s) (s .pre .lawful .first)
+
+reversed-requires : tie.Need-reversed-requires
+reversed-requires c κs = search needs
+
+sort-by-key-requires-2 : tie.Need-sort-by-key-requires-2
+sort-by-key-requires-2 c κs = let s = c .before .before .before .before .before .before .before .before .before .before .before .before .before .before .before .before .before .before .before in numbered (s .args .«record» .count) (s .args .«record» .second) (s .pre .lawful .few) (long₂ s) (s .pre .lawful .second)
+
+new-requires : tie.Need-new-requires
+new-requires c κs = search needs
+
+permuted : (c : tie.After-new) → Permutes (c .new .result .count) (take (c .new .result .count) (first (c .before) .sort-by-key .last .0))
+permuted c =
+    let q = c .before in
+    let r = start q .args .«record» in
+    subst (λ (m : ℕ). Permutes m (take m (first q .sort-by-key .last .0))) (sym (c .new .ensures .1))
+    (subst (λ (l : List ℕ). Permutes (r .count) (take (r .count) l)) (sym (first q .sort-by-key .ensures))
+    (sorted-permutes (byKey (est q .moments-of .last .0)) (r .count) (r .first) (omega (arith, long₁ (start q), start q .pre .lawful .few)) (start q .pre .lawful .first)))
+
+update-requires : tie.Need-update-requires
+update-requires c κs =
+    let n = c .before in
+    let q = n .before in
+    (omega (arith, n .new .ensures .1, start q .pre .lawful .few), permuted n)
+
+fill-requires : tie.Need-fill-requires
+fill-requires c κs =
+    let u = c .before .before .before .before .before .before in
+    let n = u .before .before in
+    let q = n .before in
+    fillable (start q .args .«record») (start q .args .earliest .now) (start q .args .latest .now) (length (start q .args .posts .now)) (length (start q .args .atoms .now)) (start q .pre) (long (start q)) (long₁ (start q)) (long₂ (start q)) (est q .moments-of .ensures) (lst q .moments-of2 .ensures) (lct q .completions .ensures) (first q .sort-by-key .ensures) (keys q .reversed .ensures) (q .sort-by-key2 .ensures) (n .new .ensures .0) (n .new .ensures .1) (u .update .ensures)
+
+edge-finding-requires : tie.Need-edge-finding-requires
+edge-finding-requires c κs =
+    let u = c .before .before .before .before .before .before .before .before .before .before .before .before .before .before .before .before .before .before in
+    let n = u .before .before in
+    let q = n .before in
+    begun (start q .args .«record») (start q .args .earliest .now) (start q .args .latest .now) (length (start q .args .posts .now)) (length (start q .args .atoms .now)) (start q .pre) (long (start q)) (long₁ (start q)) (long₂ (start q)) (est q .moments-of .ensures) (lst q .moments-of2 .ensures) (lct q .completions .ensures) (first q .sort-by-key .ensures) (keys q .reversed .ensures) (q .sort-by-key2 .ensures) (n .new .ensures .0) (n .new .ensures .1) (u .update .ensures)
+    (c .before .before .before .before .before .before .before .before .before .before .before .fill .ensures (fillable (start q .args .«record») (start q .args .earliest .now) (start q .args .latest .now) (length (start q .args .posts .now)) (length (start q .args .atoms .now)) (start q .pre) (long (start q)) (long₁ (start q)) (long₂ (start q)) (est q .moments-of .ensures) (lst q .moments-of2 .ensures) (lct q .completions .ensures) (first q .sort-by-key .ensures) (keys q .reversed .ensures) (q .sort-by-key2 .ensures) (n .new .ensures .0) (n .new .ensures .1) (u .update .ensures))) refl refl
+
+same-length : tie.Need-same-length
+same-length c = search needs
+
+same-length-2 : tie.Need-same-length-2
+same-length-2 c = search needs
+
+same-length-3 : tie.Need-same-length-3
+same-length-3 c = search needs
+
+returns : tie.Need-returns
+returns c =
+    let u = c .before .before .before .before .before .before .before .before .before .before .before .before .before .before .before .before .before .before .before .before .before .before in
+    let n = u .before .before in
+    let q = n .before in
+    left (start q .args .«record») (start q .args .earliest .now) (start q .args .latest .now) (length (start q .args .posts .now)) (length (start q .args .atoms .now)) (start q .pre) (long (start q)) (long₁ (start q)) (long₂ (start q)) (est q .moments-of .ensures) (lst q .moments-of2 .ensures) (lct q .completions .ensures) (first q .sort-by-key .ensures) (keys q .reversed .ensures) (q .sort-by-key2 .ensures)
+    (c .before .before .before .edge-finding .ensures (begun (start q .args .«record») (start q .args .earliest .now) (start q .args .latest .now) (length (start q .args .posts .now)) (length (start q .args .atoms .now)) (start q .pre) (long (start q)) (long₁ (start q)) (long₂ (start q)) (est q .moments-of .ensures) (lst q .moments-of2 .ensures) (lct q .completions .ensures) (first q .sort-by-key .ensures) (keys q .reversed .ensures) (q .sort-by-key2 .ensures) (n .new .ensures .0) (n .new .ensures .1) (u .update .ensures)
+    (c .before .before .before .before .before .before .before .before .before .before .before .before .before .before .before .fill .ensures (fillable (start q .args .«record») (start q .args .earliest .now) (start q .args .latest .now) (length (start q .args .posts .now)) (length (start q .args .atoms .now)) (start q .pre) (long (start q)) (long₁ (start q)) (long₂ (start q)) (est q .moments-of .ensures) (lst q .moments-of2 .ensures) (lct q .completions .ensures) (first q .sort-by-key .ensures) (keys q .reversed .ensures) (q .sort-by-key2 .ensures) (n .new .ensures .0) (n .new .ensures .1) (u .update .ensures))) refl refl))
+
+pub accepted-spec : {M : Type 1} → statement M
+accepted-spec =
+    tie.close
+    (tie.spec
+    moments-of-requires
+    moments-of-requires-2
+    completions-requires
+    sort-by-key-requires
+    reversed-requires
+    sort-by-key-requires-2
+    new-requires
+    update-requires
+    fill-requires
+    edge-finding-requires
+    same-length
+    same-length-2
+    same-length-3
+    returns)

@@ -1,0 +1,77 @@
+-- `propagator::disjunctive_propagator::propagate` meets its contract.
+-- Assumes nothing.
+use mathlib.Core.Path.{_≡_, refl, sym, ap, _∙_}
+use native.Mathlib.Omega.{arith}
+use lib.ListN.{length}
+use borrow.Author.Needs.{needs}
+use Rattle.integers.specs.Limits.{TASKS}
+use Rattle.records.specs.Refusals.{Accepted, runNumber}
+use Rattle.records.proofs.Refused.{accepted-run}
+use Rattle.propagator.specs.declared.disjunctive_propagator.Outcome.the-variants as outcome
+use Rattle.propagator.proofs.Beginning.{right}
+use Rattle.propagator.proofs.disjunctive_propagator.propagate.Statement.{statement}
+use Rattle.propagator.proofs.disjunctive_propagator.propagate.Tie as tie
+
+long : (c : tie.Start) → length (c .args .«record» .durations) ≡ TASKS
+long c = search needs
+
+long₁ : (c : tie.Start) → length (c .args .«record» .first) ≡ TASKS
+long₁ c = search needs
+
+long₂ : (c : tie.Start) → length (c .args .«record» .second) ≡ TASKS
+long₂ c = search needs
+
+-- no test failed
+passed : (c : tie.After-accepted-arg) → let a = c .before .before .before .before .args in Accepted (a .«record») (a .earliest .now) (a .latest .now) (length (a .posts .now)) (length (a .atoms .now))
+passed c = let a = c .before .before .before .before .args in accepted-run (a .«record») (a .earliest .now) (a .latest .now) (length (a .posts .now)) (length (a .atoms .now)) .0 (omega (arith, c .before .before .run-refusal .ensures))
+
+run-refusal-requires : tie.Need-run-refusal-requires
+run-refusal-requires c κs = search needs
+
+same-length : tie.Need-same-length
+same-length c = search needs
+
+returns : tie.Need-returns
+returns c =
+    let n = c .before in
+    record {
+      refused = λ h. record { answer = ap outcome.Refused (n .run-refusal .ensures); keeps = refl; starts = refl; post-words = refl; atom-words = refl };
+      ran = λ z. absurd (omega (arith, n .run-refusal .ensures));
+      right = λ z. absurd (omega (arith, n .run-refusal .ensures));
+    }
+
+accepted-requires : tie.Need-accepted-requires
+accepted-requires c κs = passed (c .before .before)
+
+same-length-2 : tie.Need-same-length-2
+same-length-2 c = search needs
+
+same-length-3 : tie.Need-same-length-3
+same-length-3 c = search needs
+
+same-length-4 : tie.Need-same-length-4
+same-length-4 c = search needs
+
+returns-2 : tie.Need-returns-2
+returns-2 c =
+    let at = c .before .before .before .before .before .before in
+    let s = at .before .before .before .before in
+    let a = s .args in
+    record {
+      refused = λ h. absurd (h (accepted-run (a .«record») (a .earliest .now) (a .latest .now) (length (a .posts .now)) (length (a .atoms .now)) .1 (passed at)));
+      ran = λ z. c .before .before .before .accepted .ensures;
+      right = λ z. right (a .«record») (a .earliest .now) (a .latest .now) (length (a .posts .now)) (length (a .atoms .now)) (passed at) (long s) (long₁ s) (long₂ s);
+    }
+
+pub propagate-spec : {M : Type 1} → statement M
+propagate-spec =
+    tie.close
+    (tie.spec
+    run-refusal-requires
+    same-length
+    returns
+    accepted-requires
+    same-length-2
+    same-length-3
+    same-length-4
+    returns-2)
