@@ -6,3 +6,4 @@ pub mod Moving
 pub mod Levels
 pub mod Filling
 pub mod Beginning
+pub mod Many

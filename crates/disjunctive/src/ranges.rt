@@ -1,0 +1,115 @@
+// The open run on lent data: the record is lent and changed, and so is a slice of ranges, one for each task.
+// The core takes the record by value and the starts as slices of numbers; here the ranges are taken apart for it, and what it leaves is stored back.
+use integers::limits::TASKS;
+use propagator::disjunctive_propagator::Outcome;
+use propagator::disjunctive_propagator::propagate;
+use records::record::Propagator;
+ghost use mathlib.Core.Path.{_≡_};
+ghost use Prim.Native.Nat.{_≤_};
+ghost use lib.ListN.{length, take};
+ghost use Rattle.integers.specs.Limits.{TASKS};
+ghost use Rattle.disjunctive.specs.Ranges.{RanLent, RanCore, taken, startsOf, withStarts};
+
+// A task may start from `earliest` to `latest`.
+#[repr(C)]
+pub struct Range {
+    pub earliest: i32,
+    pub latest: i32,
+}
+
+// Ranges, taken apart: their numbers stand in the first `count` places, zeros after them.
+pub struct Starts {
+    pub count: usize,
+    pub earliest: [i32; TASKS],
+    pub latest: [i32; TASKS],
+}
+
+// What a run on ranges that are taken apart returns.
+pub struct CoreRun {
+    pub record: Propagator,
+    pub outcome: Outcome,
+    pub starts: Starts,
+}
+
+// How many of `n` ranges are taken apart. More ranges than any record has tasks are turned back for their count, and so are none: then none is taken.
+fn fitting(n: usize) -> usize
+    ensures { λ r. ⌜ r ≡ taken n ⌝ }
+{
+    if n <= TASKS {
+        return n;
+    }
+    0
+}
+
+// Two numbers are copied for each range, and no array.
+fn starts_of(ranges: &[Range]) -> Starts
+    ensures { λ r. ⌜ r ≡ startsOf (now (ranges .entry)) ⌝ }
+{
+    let count = fitting(ranges.len());
+    let mut earliest = [0; TASKS];
+    let mut latest = [0; TASKS];
+    let mut i = 0;
+    while i < count {
+        let range = ranges[i];
+        earliest[i] = range.earliest;
+        latest[i] = range.latest;
+        i += 1;
+    }
+    Starts {
+        count,
+        earliest,
+        latest,
+    }
+}
+
+// The earliest starts, put back into the ranges that they were taken from.
+fn store_starts(ranges: &mut [Range], starts: Starts)
+    requires { ⌜ (starts .count ≤ TASKS) × (starts .count ≤ length (now ranges)) ⌝ }
+    ensures { λ _. ⌜ now (ranges .exit) ≡ withStarts (now (ranges .entry)) (take (starts .count) (starts .earliest)) ⌝ }
+{
+    let count = starts.count;
+    let earliest = starts.earliest;
+    let mut i = 0;
+    while i < count {
+        ranges[i].earliest = earliest[i];
+        i += 1;
+    }
+}
+
+// The run on the first `count` places of the arrays.
+fn run_core(record: Propagator, starts: Starts, posts: &mut [i32], atoms: &mut [i32]) -> CoreRun
+    requires { ⌜ starts .count ≤ TASKS ⌝ }
+    ensures { λ r. ⌜ RanCore «record» starts (now (posts .entry)) (now (atoms .entry)) r (now (posts .exit)) (now (atoms .exit)) ⌝ }
+{
+    let n = starts.count;
+    let mut earliest = starts.earliest;
+    let latest = starts.latest;
+    let ran = propagate(record, &mut earliest[..n], &latest[..n], posts, atoms);
+    let record = ran.record;
+    let outcome = ran.outcome;
+    CoreRun {
+        record,
+        outcome,
+        starts: Starts {
+            count: n,
+            earliest,
+            latest,
+        },
+    }
+}
+
+// Earliest starts are raised in the ranges, the record becomes the one that the run leaves, and no latest start changes.
+pub fn run(
+    propagator: &mut Propagator,
+    ranges: &mut [Range],
+    posts: &mut [i32],
+    atoms: &mut [i32],
+) -> Outcome
+    ensures { λ r. ⌜ RanLent (now (propagator .entry)) (now (ranges .entry)) (now (posts .entry)) (now (atoms .entry)) r (now (propagator .exit)) (now (ranges .exit)) (now (posts .exit)) (now (atoms .exit)) ⌝ }
+{
+    let starts = starts_of(ranges);
+    let ran = run_core(*propagator, starts, posts, atoms);
+    store_starts(ranges, ran.starts);
+    *propagator = ran.record;
+    ran.outcome
+}
