@@ -20,7 +20,8 @@ use Rattle.scheduling.specs.Scheduling.{Atom, Allows, Compares, Every, negation
 use Rattle.checking.specs.Holes.{Within, eqZ}
 use Rattle.checking.proofs.Steps.{wider, step-within, one-up, one-down}
 use Rattle.checking.proofs.Tests.{le-leZ, lt-ltZ, eqZ-same, eqZ-other}
-use Rattle.checking.specs.Atoms.{atomFrom, atomsOf, atomWords, consequentOf, atomAt, rightVariable, rightAtom, rightWords, rightLists}
+use Rattle.scheduling.specs.Words.{atomWords}
+use Rattle.checking.specs.Atoms.{atomFrom, atomsOf, consequentOf, atomAt, rightVariable, rightAtom, rightWords, rightLists}
 
 -- ---- what a right atom is
 pub record RightAtom (x k v : ℤ) : Type 0 where
@@ -183,11 +184,6 @@ pub words-right : (l : List Atom) → Every WellFormed l → rightWords (atomWor
 unfolding rightWords atomWords
 words-right [] e = refl
 words-right (a ∷ l) e = and-yes (rightAtom (pos (a .variable)) (pos (a .kind)) (a .value)) (rightWords (atomWords l)) (well-right a (e .0)) (words-right l (e .1))
-
-pub words-length : (l : List Atom) → length (atomWords l) ≡ 3 * length l
-unfolding atomWords
-words-length [] = refl
-words-length (a ∷ l) = omega (arith, words-length l)
 
 pub lists-right : (p c : List ℤ) → rightWords p ≡ true → length c ≤ 3 → rightWords c ≡ true → rightLists p c ≡ true
 unfolding rightLists

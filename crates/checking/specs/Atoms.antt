@@ -47,11 +47,6 @@ first (a ∷ rest) = some a
 abbrev pub consequentOf : List ℤ → Option Atom
 consequentOf words = first (atomsOf words)
 
--- the words of a list of atoms
-unfoldable pub atomWords : List Atom → List ℤ
-atomWords [] = []
-atomWords (a ∷ rest) = pos (a .variable) ∷ pos (a .kind) ∷ a .value ∷ atomWords rest
-
 -- Which words are accepted -----------------------------------------------------------------------------------------------------
 
 -- a known variable

@@ -12,7 +12,7 @@ use lib.Seq.{sets, length-sets, drop-cons, drop-drop, drop-length, getD-drop}
 use Rattle.integers.specs.Moments.{instant, zeroAt}
 use Rattle.scheduling.specs.Scheduling.{Atom}
 use Rattle.runs.specs.Runs.{within, conflict, conflict-of, bounds, propagation}
-use Rattle.runs.specs.Words.{atomWords}
+use Rattle.scheduling.specs.Words.{atomWords}
 use Rattle.explanations.specs.Explanations.{starting, lasting, lasts, Each, Overloads, Precedes, Attains, First, Known, Ends, Walk, Writable, White, Overloaded, Preceded, Stored}
 use Rattle.runs.proofs.Buffers.{atoms-stored}
 use Rattle.explanations.proofs.Places.{each-drop, each-take, onward, lasts-drop, first-same}

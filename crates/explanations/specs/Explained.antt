@@ -8,7 +8,7 @@ use lib.IntN.{pos}
 use lib.ListN.{getD}
 use Rattle.integers.specs.Moments.{zeroAt}
 use Rattle.runs.specs.Runs.{within, conflict, bounds, propagation}
-use Rattle.runs.specs.Words.{atomWords}
+use Rattle.scheduling.specs.Words.{atomWords}
 use Rattle.explanations.specs.Explanations.{starting, lasts, Each, Known, Overloaded, Preceded}
 
 -- moment of a start that is not negative

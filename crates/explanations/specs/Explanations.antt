@@ -9,7 +9,7 @@ use lib.ListN.{length, getD, drop}
 use lib.Seq.{sets}
 use Rattle.integers.specs.Limits.{TASKS}
 use Rattle.scheduling.specs.Scheduling.{natural, Tasks, Atom}
-use Rattle.runs.specs.Words.{atomWords}
+use Rattle.scheduling.specs.Words.{atomWords}
 
 -- the tasks of two lists: of a task the explanations read no more than these
 abbrev pub starting : List ℕ → List ℕ → Tasks natural

@@ -1,11 +1,13 @@
 -- Cases of a test, and of the numbers below a bound.
 -- Assumes nothing.
-use mathlib.Core.Path.{_≡_, refl}
+use mathlib.Core.Path.{_≡_, refl, sym, _∙_}
 use mathlib.Core.Bool.{Bool, true, false, _||_, _&&_}
 use mathlib.Core.Logic.{_⊎_, inl, inr}
 use Prim.Native.Nat.{ℕ, suc, _<_}
 use native.Mathlib.Omega.{arith}
 use native.Mathlib.Decide.{decLt}
+use lib.Dec.{leb}
+use borrow.Author.Tests.{le-leb, lt-leb}
 
 pub bool : (b : Bool) → (b ≡ true) ⊎ (b ≡ false)
 bool true = inl refl
@@ -68,3 +70,7 @@ or-nothing false = refl
 -- what holds below n and at n holds below suc n
 pub below-suc : (P : ℕ → Type 0) (n : ℕ) → ((k : ℕ) → k < n → P k) → P n → (k : ℕ) → k < suc n → P k
 below-suc P n lo hi k h = elim (decLt k n) [ yes q ↦ lo k q | no q ↦ (let z : n ≡ k = omega arith in rw z at hi) ]
+
+-- a bound one higher, at another number
+pub leb-step : (t x : ℕ) → (x ≡ t → ⊥) → leb t x ≡ leb (suc t) x
+leb-step t x ne = elim (decLt x t) [ yes q ↦ lt-leb t x q ∙ sym (lt-leb (suc t) x (omega arith)) | no q ↦ le-leb t x (omega arith) ∙ sym (le-leb (suc t) x (omega arith)) ]

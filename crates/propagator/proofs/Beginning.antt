@@ -34,7 +34,8 @@ use Rattle.trees.proofs.Trees.{new-tree}
 use Rattle.runs.specs.Traces.{Trace}
 use Rattle.runs.specs.Runs.{tabulate, byEarliest, byCompletion, run, propagate}
 use Rattle.runs.specs.Demand.{Right}
-use Rattle.runs.specs.Words.{postWords, atomWords, reasons, endReason}
+use Rattle.scheduling.specs.Words.{atomWords}
+use Rattle.runs.specs.Words.{postWords, reasons, endReason}
 use Rattle.runs.proofs.Demand as demand
 use Rattle.records.specs.declared.record.Propagator.{Propagator}
 use Rattle.records.specs.Orders.{noTasks, momentAt, completionAt, byKey, byKeyDown, largestKey, reversedAt, sortedOrder}

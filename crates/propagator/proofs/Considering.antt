@@ -27,7 +27,8 @@ use Rattle.trees.proofs.Roots as tree
 use Rattle.trees.proofs.Trees.{may-put, was-put, root-of, theta-of}
 use Rattle.runs.specs.Traces.{Post}
 use Rattle.runs.specs.Runs.{State, Turn, on, stop, inner, dropped, raised, posted, conflict, propagation}
-use Rattle.runs.specs.Words.{postWords, atomWords, reasons}
+use Rattle.scheduling.specs.Words.{atomWords}
+use Rattle.runs.specs.Words.{postWords, reasons}
 use Rattle.runs.proofs.Buffers.{post-stored, reason-stored, reasons-more, fourOf}
 use Rattle.runs.proofs.Fuel.{inner-pass, inner-stop, inner-raise}
 use Rattle.runs.proofs.Room as room

@@ -20,7 +20,8 @@ use Rattle.trees.specs.Leaves.{gray}
 use Rattle.trees.specs.Words.{nodeAt}
 use Rattle.runs.specs.Traces.{Post, Trace, End, done, overload, emptied}
 use Rattle.runs.specs.Runs.{State, Turn, on, stop, conflict, inner, outer, run, ended, grayed}
-use Rattle.runs.specs.Words.{postWords, atomWords, reasons, endReason}
+use Rattle.scheduling.specs.Words.{atomWords}
+use Rattle.runs.specs.Words.{postWords, reasons, endReason}
 use Rattle.runs.proofs.Buffers.{reason-stored}
 use Rattle.runs.proofs.Fuel.{run-is, outer-end, outer-over, outer-on, outer-stop}
 use Rattle.runs.proofs.Room as room

@@ -16,7 +16,7 @@ use Rattle.trees.specs.Searches.{searchEct, responsibleOf, Lists}
 use Rattle.trees.specs.Shapes.{leavesOf}
 use Rattle.trees.specs.Words.{nodeAt}
 use Rattle.runs.specs.Runs.{conflict, propagation}
-use Rattle.runs.specs.Words.{atomWords}
+use Rattle.scheduling.specs.Words.{atomWords}
 use Rattle.runs.proofs.Lengths.{propagation-length}
 use Rattle.explanations.specs.Explanations.{starting, Overloaded, Preceded, PostFits, Stored}
 use Rattle.propagator.specs.declared.disjunctive_propagator.Written.{Written}

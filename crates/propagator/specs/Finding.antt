@@ -10,7 +10,8 @@ use Rattle.scheduling.specs.Scheduling.{natural, Tasks, Atom, completion}
 use Rattle.trees.specs.Leaves.{white}
 use Rattle.runs.specs.Traces.{Trace, End, done, overload, emptied}
 use Rattle.runs.specs.Runs.{State, conflict, run, tabulate}
-use Rattle.runs.specs.Words.{postWords, atomWords, reasons, endReason}
+use Rattle.scheduling.specs.Words.{atomWords}
+use Rattle.runs.specs.Words.{postWords, reasons, endReason}
 use Rattle.explanations.specs.Explanations.{starting}
 use Rattle.propagator.specs.declared.disjunctive_propagator.Outcome.{Outcome}
 use Rattle.propagator.specs.declared.disjunctive_propagator.Outcome.the-variants as outcome

@@ -15,7 +15,8 @@ use Rattle.scheduling.proofs.Levels.{ByCompletion}
 use Rattle.trees.specs.Leaves.{Limited, IsTree}
 use Rattle.trees.specs.Shapes.{heightFor}
 use Rattle.runs.specs.Runs.{State}
-use Rattle.runs.specs.Words.{postWords, atomWords, reasons}
+use Rattle.scheduling.specs.Words.{atomWords}
+use Rattle.runs.specs.Words.{postWords, reasons}
 
 -- The tasks J in the orders `first`, by earliest start, and `second`, by latest completion; no sum that a run forms of them wraps.
 pub record Ordered (J : Tasks natural) (first second : List ℕ) : Type 0 where

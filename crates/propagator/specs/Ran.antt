@@ -10,7 +10,8 @@ use Rattle.scheduling.specs.Scheduling.{whole, natural, Tasks, tasksOf}
 use Rattle.scheduling.proofs.Transfer.{moments}
 use Rattle.runs.specs.Traces.{Trace}
 use Rattle.runs.specs.Runs.{propagate, byEarliest, byCompletion}
-use Rattle.runs.specs.Words.{postWords, atomWords, reasons, endReason}
+use Rattle.scheduling.specs.Words.{atomWords}
+use Rattle.runs.specs.Words.{postWords, reasons, endReason}
 use Rattle.runs.specs.Demand.{Right}
 use Rattle.records.specs.declared.record.Propagator.{Propagator}
 use Rattle.records.specs.Orders.{sortedOrder}

@@ -18,7 +18,7 @@ use Rattle.trees.specs.Searches.{searchEct, responsibleOf, thetaOf, isWhite}
 use Rattle.trees.specs.Shapes.{leavesOf}
 use Rattle.trees.specs.Words.{nodeAt}
 use Rattle.runs.specs.Runs.{State, Turn, on, stop, inner, propagation}
-use Rattle.runs.specs.Words.{atomWords}
+use Rattle.scheduling.specs.Words.{atomWords}
 use Rattle.runs.proofs.Room.{Short, ShortEnd, short}
 use Rattle.runs.proofs.Steps.{Inv}
 use Rattle.explanations.specs.Explanations.{starting}

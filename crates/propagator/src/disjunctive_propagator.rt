@@ -24,7 +24,7 @@ ghost use Rattle.integers.specs.Moments.{zeroAt};
 ghost use Rattle.trees.specs.Searches.{Searchable};
 ghost use Rattle.trees.specs.Words.{nodeAt};
 ghost use Rattle.runs.specs.Runs.{propagation};
-ghost use Rattle.runs.specs.Words.{atomWords};
+ghost use Rattle.scheduling.specs.Words.{atomWords};
 ghost use Rattle.explanations.specs.Explanations.{starting, Preceded, Overloaded};
 ghost use Rattle.propagator.specs.Filling.{Fillable, Filled};
 ghost use Rattle.propagator.specs.Finding.{Conflicted, conflictIn, Begun, Ended};

@@ -8,8 +8,10 @@ use lib.IntN.{ℤ, pos}
 use lib.ListN.{length, drop, take, set, length-append}
 use lib.Seq.{sets, sets-eq, length-sets}
 use Rattle.scheduling.specs.Scheduling.{Atom}
+use Rattle.scheduling.proofs.Words.{atoms-none, atoms-append, atoms-length}
 use Rattle.runs.specs.Traces.{Post}
-use Rattle.runs.specs.Words.{atomWords, postWords, reasons}
+use Rattle.scheduling.specs.Words.{atomWords}
+use Rattle.runs.specs.Words.{postWords, reasons}
 use Rattle.integers.specs.Words.{overwritten}
 
 pub sets-append : (vs us l : List ℤ) (i : ℕ) → sets l i (vs ++ us) ≡ sets (sets l i vs) (i + length vs) us
@@ -19,16 +21,6 @@ sets-append (v ∷ vs) us l i = let z : suc i + length vs ≡ i + suc (length vs
 -- stores from the front, and `overwritten`
 pub overwrites : (entry ws : List ℤ) → length ws ≤ length entry → sets entry 0 ws ≡ overwritten entry ws
 overwrites entry ws h = sets-eq ws entry 0 (omega arith) ∙ ap (λ (k : ℕ). ws ++ drop k entry) (zero-add (length ws))
-
-pub atoms-append : (xs ys : List Atom) → atomWords (xs ++ ys) ≡ atomWords xs ++ atomWords ys
-unfolding atomWords
-atoms-append [] ys = refl
-atoms-append (x ∷ xs) ys = ap (λ (l : List ℤ). pos (x .variable) ∷ pos (x .kind) ∷ x .value ∷ l) (atoms-append xs ys)
-
-pub atoms-length : (xs : List Atom) → length (atomWords xs) ≡ 3 * length xs
-unfolding atomWords
-atoms-length [] = refl
-atoms-length (x ∷ xs) = omega (arith, atoms-length xs)
 
 pub reasons-more : (ps : List Post) (p : Post) → reasons (ps ++ (p ∷ [])) ≡ reasons ps ++ p .reason
 unfolding reasons
@@ -67,3 +59,16 @@ atoms-stored l k m xs ys e =
 -- then from the front on
 pub reason-stored : (entry : List ℤ) (xs ys : List Atom) → sets (sets entry 0 (atomWords xs)) (3 * length xs) (atomWords ys) ≡ sets entry 0 (atomWords (xs ++ ys))
 reason-stored entry xs ys = atoms-stored entry 0 (length xs) xs ys (omega arith)
+
+-- before the first post nothing is stored
+pub no-posts-stored : (entry : List ℤ) → entry ≡ sets entry 0 (postWords 0 [])
+unfolding postWords
+no-posts-stored entry = refl
+
+pub no-atoms-stored : (entry : List ℤ) → entry ≡ sets entry 0 (atomWords (reasons []))
+unfolding reasons
+no-atoms-stored entry = ap (sets entry 0) (sym atoms-none)
+
+pub no-reasons : length (reasons []) ≡ 0
+unfolding reasons
+no-reasons = refl

@@ -18,6 +18,7 @@ use Rattle.integers.proofs.Moments.{mono, above-up, above-show}
 use Rattle.integers.proofs.Permutations.{Ordered}
 use Rattle.integers.proofs.Sorting.{sort-ordered, key-whole, key-chain}
 use Rattle.scheduling.specs.Scheduling.{whole, natural, Tasks, tasksOf, Proper, TaskSet, total, In, processing, completion, EdgeFindingBound, Overloads, Schedule, Done, Conflict}
+use Rattle.scheduling.proofs.Processing.{processing-all}
 use Rattle.scheduling.proofs.Scan.{ByEarliest}
 use Rattle.scheduling.proofs.Levels.{ByCompletion}
 use Rattle.scheduling.proofs.Transfer.{moments, sound, done←, conflict←}
@@ -95,7 +96,7 @@ by-completion J l p =
     record { task = r .task; placed = r .placed; there = r .there; back = r .back; sorted = λ s t q h. leb-true _ _ (r .sorted s t q h) }
 
 pub demand-3 : (ds : List ℕ) (es ls : List ℤ) (first second : List ℕ) → Accepted ds es ls first second → Right (tasksOf ds es ls) (propagate ds es ls first second)
-unfolding propagate processing up dn
+unfolding propagate up dn
 demand-3 ds es ls first second a =
     run-right zeroAt Z okz deepz (a .some) room (sort (byEarliest J) first) (sort (byCompletion J) second) (by-earliest J first (a .first-permutes)) (by-completion J second (a .second-permutes))
   where
@@ -115,7 +116,4 @@ demand-3 ds es ls first second a =
     deepz k q = above-up zeroAt (negsuc 199999999) (getD es k (pos 0)) (a .from k q) deep
 
     room : (k : ℕ) → k < length ds → processing (moments zeroAt (tasksOf ds es ls)) (λ _. true) ≤ moment zeroAt (getD es k (pos 0))
-    room k q = omega (arith, all-of ds es ls, a .sum, mono zeroAt (negsuc 199999999) (getD es k (pos 0)) (a .from k q))
-      where
-        all-of : (ds : List ℕ) (es ls : List ℤ) → processing (moments zeroAt (tasksOf ds es ls)) (λ _. true) ≡ total (λ k. getD ds k 0) (length ds)
-        all-of ds es ls = refl
+    room k q = omega (arith, processing-all (moments zeroAt (tasksOf ds es ls)), a .sum, mono zeroAt (negsuc 199999999) (getD es k (pos 0)) (a .from k q))

@@ -36,6 +36,7 @@ use Rattle.runs.specs.Runs.{within, conflict, conflict-of, bounds, propa
 use Rattle.runs.specs.Runs as edges
 use Rattle.trees.specs.Leaves as leaves
 use Rattle.trees.proofs.Roots as tree
+use Rattle.trees.proofs.Thetas.{theta-is}
 use Rattle.scheduling.specs.Scheduling.{Allows, Meets, Every, Admits, negation, HoldsAtEntry, Bounded, PassesWith, PassesAlone}
 use Rattle.runs.specs.Demand.{consequentOf, PostRight, OverloadRight}
 use Rattle.runs.proofs.Walks as walks
@@ -211,7 +212,7 @@ module _ (o : ℕ) (Z : Tasks whole) (okz : Proper Z) (deepz : (k : ℕ) → k <
         one : walks.First o J ok first second rk ls Θ Λ s i c b 0 As
         one =
             let (m, mm, h) = stops.passing J T rank rk Θ i c b (f .value) (f .attains) (f .has) i-small (omega (arith, over, f .reaches)) ect up in
-            subst (λ (l : List ℕ). walks.First o J ok first second rk ls Θ Λ s i c b 0 (propagation o J i b c (leaves.sum J first ls) l)) (sym (walks.theta-is o J ok first second rk ls Θ Λ s))
+            subst (λ (l : List ℕ). walks.First o J ok first second rk ls Θ Λ s i c b 0 (propagation o J i b c (leaves.sum J first ls) l)) (sym (theta-is J first ls))
             (walks.first-stops o J ok first second rk ls Θ Λ s i c b n 0 (leaves.sum J first ls) (rank m) (omega arith) (walks.sum-is o J ok first second rk ls Θ Λ s) (omega arith)
             (rk .placed m (mm .small)) (at-rank m (mm .small) (mm .mem)) (omega (arith, h, ap (J .earliest) (rk .there m (mm .small)))))
 
@@ -395,7 +396,7 @@ module _ (o : ℕ) (Z : Tasks whole) (okz : Proper Z) (deepz : (k : ℕ) → k <
         stopped : walks.Stopped o J ok first second rk ls Θ Λ s d Os
         stopped =
             let (j, jm, h) = suffixes.attaining J T rank rk Θ (ectOf ls) ect in
-            subst (λ (l : List ℕ). walks.Stopped o J ok first second rk ls Θ Λ s d (conflict o J d (leaves.sum J first ls) l)) (sym (walks.theta-is o J ok first second rk ls Θ Λ s))
+            subst (λ (l : List ℕ). walks.Stopped o J ok first second rk ls Θ Λ s d (conflict o J d (leaves.sum J first ls) l)) (sym (theta-is J first ls))
             (walks.conflict-stops o J ok first second rk ls Θ Λ s d n 0 (leaves.sum J first ls) (rank j) (omega arith) (walks.sum-is o J ok first second rk ls Θ Λ s) (omega arith)
             (rk .placed j (jm .small)) (at-rank j (jm .small) (jm .mem)) (omega (arith, h, over, ap (J .earliest) (rk .there j (jm .small)))))
 

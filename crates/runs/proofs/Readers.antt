@@ -8,9 +8,11 @@ use lib.ListN.{length, getD, take, drop, length-append, length-drop, List·getD-
 use lib.Seq.{take-append-seam, drop-append-add, drop-append-le, take-append-le}
 use Rattle.scheduling.specs.Scheduling.{Atom}
 use Rattle.runs.specs.Traces.{Post, Trace}
-use Rattle.runs.specs.Words.{atomWords, postWords, reasons, endReason, postsAfter, atomsAfter}
+use Rattle.scheduling.specs.Words.{atomWords}
+use Rattle.runs.specs.Words.{postWords, reasons, endReason, postsAfter, atomsAfter}
 use Rattle.integers.specs.Words.{overwritten}
-use Rattle.runs.proofs.Buffers.{atoms-length, posts-length}
+use Rattle.scheduling.proofs.Words.{atoms-length}
+use Rattle.runs.proofs.Buffers.{posts-length}
 use Rattle.runs.specs.Demand.{no-post, post}
 
 -- the first atom of post j

@@ -20,7 +20,7 @@ use Rattle.scheduling.proofs.Sets.{with-in}
 use Rattle.trees.specs.Leaves.{Leaf, whiteAt, taskAt, theta}
 use Rattle.trees.specs.Searches.{thetaOf}
 use Rattle.trees.proofs.Roots as tree
-use Rattle.trees.proofs.Thetas.{theta-none, theta-white, theta-skip}
+use Rattle.trees.proofs.Thetas.{theta-none, theta-white, theta-skip, theta-is}
 use Rattle.runs.specs.Traces.{Post}
 use Rattle.runs.specs.Demand.{no-post}
 use Rattle.runs.specs.Runs.{State}
@@ -85,12 +85,10 @@ module _ (o : ℕ) (J : Tasks natural) (ok : Proper J) (first second : List ℕ)
   ShortEnd r = length r ≤ 2 * n
 
   pub theta-most : (ls : List Leaf) → length (theta J first ls) ≤ n
-  unfolding theta
-  theta-most ls = theta-few (whiteAt ls) (taskAt J first) 0 n
+  theta-most ls = subst (λ (l : List ℕ). length l ≤ n) (sym (theta-is J first ls)) (theta-few (whiteAt ls) (taskAt J first) 0 n)
 
   pub theta-less : (ls : List Leaf) (x : ℕ) → x < n → whiteAt ls x ≡ false → suc (length (theta J first ls)) ≤ n
-  unfolding theta
-  theta-less ls x q y = theta-fewer (whiteAt ls) (taskAt J first) 0 n x (omega arith) (omega arith) y
+  theta-less ls x q y = subst (λ (l : List ℕ). suc (length l) ≤ n) (sym (theta-is J first ls)) (theta-fewer (whiteAt ls) (taskAt J first) 0 n x (omega arith) (omega arith) y)
 
   found-not-white : (t : ℕ) (ls : List Leaf) (Λ : TaskSet) (s : tree.Represents J ok first rk ls (Th o J ok first second rk ord t) Λ) (x : ℕ) → tree.Found J ok first rk ls (Th o J ok first second rk ord t) Λ s x → whiteAt ls x ≡ false
   found-not-white t ls Λ s x f = tree.white-at J ok first rk ls (Th o J ok first second rk ord t) Λ s x (f .small) ∙ f .out

@@ -13,7 +13,7 @@ use lib.ListN.{length, getD, set, replicate, length-set, length-append, length-r
 use lib.Seq.{getD-set-same, getD-set-other, getD-append-seam}
 use borrow.Author.Tests.{ne-eqb, eq-eqb, leb-true, le-leb, lt-leb, ltb-true, ltb-false}
 use Rattle.scheduling.specs.Scheduling.{whole, natural, Tasks, Proper, TaskSet, total, _with_, In, Outside, NonEmpty, completion, EstPlusP, Ect, EdgeFindingBound, Done, Conflict}
-use Rattle.integers.proofs.Bools.{bool, clash, below-suc}
+use Rattle.integers.proofs.Bools.{leb-step, bool, clash, below-suc}
 use Rattle.scheduling.proofs.Sets.{total-ext, _less_, with-in, with-new, with-old}
 use Rattle.scheduling.proofs.Scan.{ByEarliest, scan, scan-is}
 use Rattle.scheduling.proofs.Levels.{ByCompletion, Posts, Facts, no-posts, start, next, leave, facts-same, last-fits, edge, finish, overloaded}
@@ -45,9 +45,6 @@ pub map-above : (o : ℕ) (l : List ℕ) (k : ℕ) → Above o (getD (map (λ (m
 map-above o [] k = zero-above o
 map-above o (x ∷ xs) zero = instant-above o x
 map-above o (x ∷ xs) (suc k) = map-above o xs k
-
-leb-step : (t x : ℕ) → (x ≡ t → ⊥) → leb t x ≡ leb (suc t) x
-leb-step t x ne = elim (decLt x t) [ yes q ↦ lt-leb t x q ∙ sym (lt-leb (suc t) x (omega arith)) | no q ↦ le-leb t x (omega arith) ∙ sym (le-leb (suc t) x (omega arith)) ]
 
 -- Done looks at the starts below the count
 pub done-same : (J : Tasks natural) (now now′ : ℕ → ℕ) (m : ℕ) (task bound : ℕ → ℕ) → ((k : ℕ) → k < J .count → now′ k ≡ now k) → Done J now m task bound → Done J now′ m task bound

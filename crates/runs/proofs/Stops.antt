@@ -20,7 +20,7 @@ use Rattle.scheduling.proofs.Walks.{passing, after-first}
 use Rattle.trees.specs.Leaves.{Leaf, whiteAt, taskAt, ect, ect-bar, sum, theta}
 use Rattle.trees.specs.Searches.{thetaOf}
 use Rattle.trees.proofs.Roots as tree
-use Rattle.trees.proofs.Thetas.{theta-none, theta-white, theta-skip}
+use Rattle.trees.proofs.Thetas.{theta-none, theta-white, theta-skip, theta-is}
 use Rattle.runs.specs.Runs.{conflict, propagation}
 use Rattle.runs.proofs.Walks as walks
 
@@ -134,7 +134,7 @@ module _ (o : ℕ) (J : Tasks natural) (ok : Proper J) (first second : List ℕ)
       pub first-walk : walks.First o J ok first second rk ls Θ Λ s i c b 0 (propagation o J i b c (sum J first ls) (theta J first ls))
       first-walk =
           let (m, mm, h) = passing J T rank rk Θ i c b (f .value) (f .attains) (f .has) (f .gray .small) (omega (arith, over, f .reaches)) ect-is up in
-          subst (λ (l : List ℕ). walks.First o J ok first second rk ls Θ Λ s i c b 0 (propagation o J i b c (sum J first ls) l)) (sym (walks.theta-is o J ok first second rk ls Θ Λ s))
+          subst (λ (l : List ℕ). walks.First o J ok first second rk ls Θ Λ s i c b 0 (propagation o J i b c (sum J first ls) l)) (sym (theta-is J first ls))
           (walks.first-stops o J ok first second rk ls Θ Λ s i c b n 0 (sum J first ls) (rank m) (omega arith) (walks.sum-is o J ok first second rk ls Θ Λ s) (omega arith)
           (rk .placed m (mm .small)) (at-rank m (mm .small) (mm .mem)) (omega (arith, h, ap (J .earliest) (rk .there m (mm .small)))))
 

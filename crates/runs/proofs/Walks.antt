@@ -13,9 +13,9 @@ use lib.Signed.{_≤ℤ_}
 use lib.ListN.{length, getD}
 use borrow.Author.Tests.{ne-eqb, eq-eqb, eqb-true, eqb-false, leb-true, le-leb, lt-leb, ltb-true, ltb-false}
 use Rattle.scheduling.specs.Scheduling.{natural, Tasks, Proper, TaskSet, total, _with_, In, processing}
-use Rattle.integers.proofs.Bools.{bool, clash}
+use Rattle.integers.proofs.Bools.{leb-step, bool, clash}
 use Rattle.scheduling.proofs.Sets.{total-ext, _less_}
-use Rattle.scheduling.proofs.Processing.{processing-less, processing-empty}
+use Rattle.scheduling.proofs.Processing.{processing-same, processing-less, processing-empty}
 use Rattle.scheduling.proofs.Scan.{ByEarliest}
 use Rattle.integers.specs.Orders.{index}
 use Rattle.scheduling.specs.Scheduling.{Atom}
@@ -26,6 +26,7 @@ use Rattle.trees.specs.Leaves as leaves
 use Rattle.trees.specs.Leaves.{taskAt}
 use Rattle.trees.specs.Searches.{thetaOf}
 use Rattle.trees.proofs.Roots as tree
+use Rattle.trees.proofs.Thetas.{theta-none, theta-white, theta-skip}
 use Rattle.scheduling.specs.Scheduling.{Allows, Admits}
 
 -- what the atoms say of k: nothing, or u ≤ z ≤ v
@@ -93,19 +94,12 @@ module _ (o : ℕ) (J : Tasks natural) (ok : Proper J) (first second : List ℕ)
   pub onward-early : (a k : ℕ) → rank k < a → onward a k ≡ false
   onward-early a k h = rw (lt-leb a (rank k) h)
 
-  processing-same : (A B : TaskSet) → ((k : ℕ) → k < n → A k ≡ B k) → processing J A ≡ processing J B
-  unfolding processing
-  processing-same A B z = total-ext _ _ n (λ k q. ap (λ (b : Bool). cond b (J .duration k) 0) (z k q))
-
-  leb-step : (t x : ℕ) → (x ≡ t → ⊥) → leb t x ≡ leb (suc t) x
-  leb-step t x ne = elim (decLt x t) [ yes q ↦ lt-leb t x q ∙ sym (lt-leb (suc t) x (omega arith)) | no q ↦ le-leb t x (omega arith) ∙ sym (le-leb (suc t) x (omega arith)) ]
-
   -- two tasks of one place
   pub placed : (a k : ℕ) → k < n → rank k ≡ a → k ≡ T a
   placed a k q z = sym (rk .there k q) ∙ ap T z
 
   pub skip : (a : ℕ) → a < n → Θ (T a) ≡ false → processing J (onward a) ≡ processing J (onward (suc a))
-  skip a q y = processing-same (onward a) (onward (suc a)) (λ k r. elim (ℕ-discrete (rank k) a) [
+  skip a q y = processing-same J (onward a) (onward (suc a)) (λ k r. elim (ℕ-discrete (rank k) a) [
     | yes z ↦ onward-not a k (ap Θ (placed a k r z) ∙ y) ∙ sym (onward-not (suc a) k (ap Θ (placed a k r z) ∙ y))
     | no z ↦ ap (λ (b : Bool). b && Θ k) (leb-step a (rank k) z)
   ])
@@ -113,7 +107,7 @@ module _ (o : ℕ) (J : Tasks natural) (ok : Proper J) (first second : List ℕ)
   pub step : (a : ℕ) → a < n → Θ (T a) ≡ true → processing J (onward a) ≡ processing J (onward (suc a)) + J .duration (T a)
   step a q y =
       let m : In J (onward a) (T a) = record { small = rk .task a q; mem = onward-out a (T a) (omega (arith, rk .back a q)) y } in
-      omega (arith, processing-less J (onward a) (T a) m, processing-same (onward a less T a) (onward (suc a)) rest)
+      omega (arith, processing-less J (onward a) (T a) m, processing-same J (onward a less T a) (onward (suc a)) rest)
     where
       rest : (k : ℕ) → k < n → (onward a less T a) k ≡ onward (suc a) k
       rest k r = elim (ℕ-discrete k (T a)) [
@@ -126,24 +120,17 @@ module _ (o : ℕ) (J : Tasks natural) (ok : Proper J) (first second : List ℕ)
 
   -- `sum_of_processing_times`
   pub sum-is : leaves.sum J first ls ≡ processing J (onward 0)
-  sum-is = tree.sum-of J ok first rk ls Θ Λ s ∙ processing-same Θ (onward 0) (λ k q. sym (ap (λ (b : Bool). b && Θ k) (le-leb 0 (rank k) (omega arith))))
-
-  -- `get_theta` is the list from the first place on
-  pub theta-is : leaves.theta J first ls ≡ th 0 n
-  unfolding leaves.theta
-  theta-is = refl
+  sum-is = tree.sum-of J ok first rk ls Θ Λ s ∙ processing-same J Θ (onward 0) (λ k q. sym (ap (λ (b : Bool). b && Θ k) (le-leb 0 (rank k) (omega arith))))
 
   -- the list of white tasks
   white-at : (a : ℕ) → a < n → whiteAt ls a ≡ Θ (T a)
   white-at = tree.white-at J ok first rk ls Θ Λ s
 
   th-in : (a d : ℕ) → a < n → Θ (T a) ≡ true → th a (suc d) ≡ T a ∷ th (suc a) d
-  unfolding thetaOf
-  th-in a d q y = let z : whiteAt ls a ≡ true = white-at a q ∙ y in rw (z, thetaOf)
+  th-in a d q y = theta-white (whiteAt ls) (taskAt J first) a d (white-at a q ∙ y)
 
   th-out : (a d : ℕ) → a < n → Θ (T a) ≡ false → th a (suc d) ≡ th (suc a) d
-  unfolding thetaOf
-  th-out a d q y = let z : whiteAt ls a ≡ false = white-at a q ∙ y in rw (z, thetaOf)
+  th-out a d q y = theta-skip (whiteAt ls) (taskAt J first) a d (white-at a q ∙ y)
 
   -- atoms
   two-here : (k u v : ℕ) (rest : List Atom) → Silent rest k → Says (edges.atLeast o J k u ∷ edges.atMost o J k v ∷ rest) k (at u) (at v)
@@ -174,8 +161,7 @@ module _ (o : ℕ) (J : Tasks natural) (ok : Proper J) (first second : List ℕ)
   within-nil lo hi = refl
 
   th-nil : (a : ℕ) → th a 0 ≡ []
-  unfolding thetaOf
-  th-nil a = refl
+  th-nil a = theta-none (whiteAt ls) (taskAt J first) a
 
   -- what `within` says of the list from a on
   pub within-silent : (lo hi d a k : ℕ) → a + d ≡ n → Out a k → Silent (within o J lo hi (th a d)) k

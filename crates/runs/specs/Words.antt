@@ -1,15 +1,12 @@
--- The words of the two lent slices: four for a post, three for an atom.
+-- The words of the two lent slices: four for a post, three for each atom of its reason.
 use mathlib.Core.List.{List, [], _∷_, _++_}
 use Prim.Native.Nat.{ℕ, _+_}
 use lib.IntN.{ℤ, pos}
 use lib.ListN.{length}
 use Rattle.integers.specs.Words.{overwritten}
 use Rattle.scheduling.specs.Scheduling.{Atom}
+use Rattle.scheduling.specs.Words.{atomWords}
 use Rattle.runs.specs.Traces.{Post, End, done, overload, emptied, Trace}
-
-unfoldable pub atomWords : List Atom → List ℤ
-atomWords [] = []
-atomWords (a ∷ rest) = pos (a .variable) ∷ pos (a .kind) ∷ a .value ∷ atomWords rest
 
 unfoldable pub postWords : ℕ → List Post → List ℤ
 postWords from [] = []

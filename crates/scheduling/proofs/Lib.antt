@@ -19,3 +19,4 @@ pub mod Schedules
 pub mod Negation
 pub mod Checks
 pub mod Passed
+pub mod Words

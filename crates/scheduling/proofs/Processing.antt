@@ -9,7 +9,7 @@ use native.Mathlib.Decide.{decLe}
 use borrow.Author.Tests.{ne-eqb}
 use Rattle.integers.proofs.Bools.{bool}
 use Rattle.scheduling.specs.Scheduling.{natural, Tasks, TaskSet, total, _with_, In, Outside, Subset, processing}
-use Rattle.scheduling.proofs.Sets.{Empty, total-mono, total-swap, total-zero, _less_, less-self, with-new}
+use Rattle.scheduling.proofs.Sets.{Empty, total-ext, total-mono, total-swap, total-zero, _less_, less-self, with-new}
 
 module _ (J : Tasks natural) where
   -- what task k adds to the duration of Ω
@@ -31,6 +31,15 @@ module _ (J : Tasks natural) where
       each : (k : ℕ) → k < J .count → (S k ≡ true) ⊎ (S k ≡ false) → term S k ≤ term Ω k
       each k q (inl y) = omega (arith, term-true S k y, term-true Ω k (h k (record { small = q; mem = y })))
       each k q (inr z) = omega (arith, term-false S k z)
+
+  -- of all tasks, and of two sets with the same tasks
+  pub processing-all : processing J (λ _. true) ≡ total (J .duration) (J .count)
+  unfolding processing
+  processing-all = refl
+
+  pub processing-same : (S Ω : TaskSet) → ((k : ℕ) → k < J .count → S k ≡ Ω k) → processing J S ≡ processing J Ω
+  unfolding processing term
+  processing-same S Ω z = total-ext (term S) (term Ω) (J .count) (λ k q. ap (λ (b : Bool). cond b (J .duration k) 0) (z k q))
 
   term-less : (Ω : TaskSet) (i k : ℕ) → (k ≡ i → ⊥) → term Ω k ≡ term (Ω less i) k
   unfolding term

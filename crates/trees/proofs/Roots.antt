@@ -18,7 +18,7 @@ use Rattle.integers.proofs.Filling.{getD-fresh}
 use Rattle.integers.specs.Limits.{TASKS, DURATIONS}
 use Rattle.scheduling.specs.Scheduling.{natural, Tasks, Proper, TaskSet, total, _with_, Largest, In, NonEmpty, EstPlusP, Ect, processing}
 use Rattle.scheduling.proofs.Sets.{Empty, Top, top, with-new, with-old}
-use Rattle.scheduling.proofs.Processing.{processing-mono, processing-less, processing-with, processing-empty}
+use Rattle.scheduling.proofs.Processing.{processing-all, processing-mono, processing-less, processing-with, processing-empty}
 use Rattle.scheduling.proofs.Scan.{ByEarliest, scan, upto, and-in, and-out, widen, alone, joined, widen-part, alone-part, joined-new, joined-old, Reached, attained, scan-is, grow-in, grow-out}
 use Rattle.scheduling.proofs.Stretches as stretches
 use Rattle.scheduling.proofs.Bars as bars
@@ -83,10 +83,9 @@ module _ (J : Tasks natural) (ok : Proper J) (first : List ℕ) (rk : ByEarliest
   durations-scan (suc d) q = omega (arith, durations-scan d (omega arith), grow-in J T rank ok rk all all d q refl)
 
   durations-all : total p (J .count) ≤ total (J .duration) (J .count)
-  unfolding processing
   durations-all =
       let a : processing J (upto J T rank all (J .count)) ≤ processing J all = processing-mono J (upto J T rank all (J .count)) all (λ k h. refl) in
-      omega (arith, durations-scan (J .count) (omega arith), a)
+      omega (arith, durations-scan (J .count) (omega arith), a, processing-all J)
 
   -- tasks within the limits are so in their order too
   pub limited : J .count ≤ TASKS → ((k : ℕ) → k < J .count → J .earliest k ≤ LATEST) → total (J .duration) (J .count) ≤ DURATIONS → Limited J first

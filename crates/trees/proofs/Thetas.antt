@@ -13,6 +13,8 @@ use lib.Seq.{take-suc-set}
 use Rattle.integers.specs.Orders.{has, Distinct}
 use Rattle.integers.proofs.Bools.{bool, clash}
 use Rattle.integers.proofs.Permutations.{has-here, has-later, has-nil, has-cases}
+use Rattle.scheduling.specs.Scheduling.{natural, Tasks}
+use Rattle.trees.specs.Leaves.{Leaf, whiteAt, taskAt, theta}
 use Rattle.trees.specs.Searches.{thetaOf}
 
 module _ (white : ℕ → Bool) (task : ℕ → ℕ) where
@@ -99,3 +101,8 @@ module _ (white : ℕ → Bool) (task : ℕ → ℕ) where
       by : (white a ≡ true) ⊎ (white a ≡ false) → Distinct (thetaOf white task (suc a) d) → Distinct (thetaOf white task a (suc d))
       by (inl v) ih = rw (theta-white white task a d v) (new (has (thetaOf white task (suc a) d) (task a)) refl, ih)
       by (inr v) ih = rw (theta-skip white task a d v) ih
+
+-- `get_theta`'s list is the walk over all leaves
+pub theta-is : (J : Tasks natural) (first : List ℕ) (ls : List Leaf) → theta J first ls ≡ thetaOf (whiteAt ls) (taskAt J first) 0 (J .count)
+unfolding theta
+theta-is J first ls = refl

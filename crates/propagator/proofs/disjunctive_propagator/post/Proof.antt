@@ -6,7 +6,7 @@ use lib.ListN.{length}
 use borrow.Author.Needs.{needs}
 use Rattle.integers.specs.Moments.{zeroAt}
 use Rattle.runs.specs.Runs.{propagation}
-use Rattle.runs.specs.Words.{atomWords}
+use Rattle.scheduling.specs.Words.{atomWords}
 use Rattle.explanations.specs.Explanations.{starting, Preceded}
 use Rattle.propagator.specs.Turns.{thetaIn, Posted}
 use Rattle.propagator.proofs.Posting.{front-length, front-inside, preceded-front, end-near, post-fits, post-done}

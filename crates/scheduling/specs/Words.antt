@@ -1,0 +1,9 @@
+-- Atoms as words: three to an atom.
+use mathlib.Core.List.{List, [], _∷_}
+use lib.IntN.{ℤ, pos}
+use Rattle.scheduling.specs.Scheduling.{Atom}
+
+-- the variable, the kind and the value of each
+unfoldable pub atomWords : List Atom → List ℤ
+atomWords [] = []
+atomWords (a ∷ rest) = pos (a .variable) ∷ pos (a .kind) ∷ a .value ∷ atomWords rest
