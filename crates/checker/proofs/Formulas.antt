@@ -21,7 +21,7 @@ use Rattle.scheduling.specs.Scheduling.{whole, natural, Tasks, Proper, TaskSet,
 use Rattle.scheduling.proofs.Agreement.{Agree, overloads→, formula→, set-overloads, set-formula}
 use Rattle.scheduling.proofs.Transfer.{moments, sound, overload→, overload←, checks→, checks←}
 use Rattle.checker.specs.Formulas.{known, valueOf, bounded, others, ranges, tasks, any, lowest, highest, ectOf, overloaded, implied}
-use Rattle.checker.proofs.Intervals.{any-yes, any-some, lowest-is, highest-is, ect-is}
+use Rattle.checker.proofs.Gathering.{any-yes, any-some, lowest-is, highest-is, ect-is}
 
 -- The bounds of each task are the least and the greatest value that the atoms admit, in the range of an i32; none where there is none.
 pub record Reads (n : ℕ) (atoms : List Atom) (lower upper : ℕ → Option ℤ) : Type 0 where
@@ -109,7 +109,7 @@ module _ (J : Tasks whole) (lasts : (k : ℕ) → k < J .count → 1 ≤ J .dura
   }
 
   -- the set and the ranges are determined
-  determined : (Ω : TaskSet) (B : Tasks whole) → Bounded J atoms Ω B → (k : ℕ) → k < n → Ω k ≡ X k
+  pub determined : (Ω : TaskSet) (B : Tasks whole) → Bounded J atoms Ω B → (k : ℕ) → k < n → Ω k ≡ X k
   determined Ω B b k q = elim (bool (Ω k)) [
     | inl y ↦ elim (bool (X k)) [ inl z ↦ y ∙ sym z | inr z ↦ absurd (none-of k q z (B .earliest k) (B .latest k) (b .least k (record { small = q; mem = y })) (b .greatest k (record { small = q; mem = y }))) ]
     | inr y ↦ elim (bool (X k)) [ inl z ↦ absurd (b .only k q y (R .earliest k) (R .latest k) (least-of k (record { small = q; mem = z })) (greatest-of k (record { small = q; mem = z }))) | inr z ↦ y ∙ sym z ]
@@ -148,22 +148,25 @@ module _ (J : Tasks whole) (lasts : (k : ℕ) → k < J .count → 1 ≤ J .dura
         [ inl y ↦ (let h : In J X k = record { small = q; mem = y } in greatest-of k h .bounds (R .earliest k) (least-of k h .holds)) | inr y ↦ rw y (≤ℤ-refl (negsuc 2147483647)) ];
   }
 
+  pub moments-proper : Proper N
+  moments-proper = sound zeroAt R proper low-R
+
   -- without a consequent -------------------------------------------------------------------------------------------------------
   abbrev low : TaskSet → ℕ
-  low Ω = lowest n (J .duration) lower upper Ω n
+  low Ω = lowest N Ω n
 
   abbrev high : TaskSet → ℕ
-  high Ω = highest n (J .duration) lower upper Ω n
+  high Ω = highest N Ω n
 
   abbrev some-in : TaskSet → Bool
-  some-in Ω = any n (J .duration) lower upper Ω n
+  some-in Ω = any Ω n
 
   pub overloaded-sound : overloaded n (J .duration) lower upper ≡ true → PassesAlone J atoms
   unfolding overloaded
   overloaded-sound y =
       let (a, b) = and-true (some-in X) (ltb (high X) (low X + processing N X)) y in
-      let ne : NonEmpty N X = any-some n (J .duration) lower upper X a in
-      let v : Overloads N X = record { start = low X; end = high X; est = lowest-is n (J .duration) lower upper X fits-N ne; lct = highest-is n (J .duration) lower upper X ne; over = ltb-true (high X) (low X + processing N X) b } in
+      let ne : NonEmpty N X = any-some N X a in
+      let v : Overloads N X = record { start = low X; end = high X; est = lowest-is N X fits-N ne; lct = highest-is N X ne; over = ltb-true (high X) (low X + processing N X) b } in
       record { set = X; ranges = R; bounded = all-bounded X (λ k q. refl); formula = overload← zeroAt R proper low-R X v }
 
   pub overloaded-complete : PassesAlone J atoms → overloaded n (J .duration) lower upper ≡ true
@@ -172,9 +175,9 @@ module _ (J : Tasks whole) (lasts : (k : ℕ) → k < J .count → 1 ≤ J .dura
       let on-R : Overloads R (p .set) = overloads→ (p .ranges) R (p .set) (agrees (p .set) (p .ranges) (p .bounded)) (p .set) (λ k h. h .mem) (p .formula) in
       let v : Overloads N X = overload→ zeroAt R proper low-R X (set-overloads R (p .set) X (determined (p .set) (p .ranges) (p .bounded)) on-R) in
       let ne : NonEmpty N X = (v .est .holds .0, v .est .holds .1) in
-      let s : v .start ≡ low X = est-same N X (v .start) (low X) (v .est) (lowest-is n (J .duration) lower upper X fits-N ne) in
-      let e : v .end ≡ high X = lct-same N X (v .end) (high X) (v .lct) (highest-is n (J .duration) lower upper X ne) in
-      and-yes (some-in X) (ltb (high X) (low X + processing N X)) (any-yes n (J .duration) lower upper X ne) (lt-ltb (high X) (low X + processing N X) (omega (arith, v .over)))
+      let s : v .start ≡ low X = est-same N X (v .start) (low X) (v .est) (lowest-is N X fits-N ne) in
+      let e : v .end ≡ high X = lct-same N X (v .end) (high X) (v .lct) (highest-is N X ne) in
+      and-yes (some-in X) (ltb (high X) (low X + processing N X)) (any-yes N X ne) (lt-ltb (high X) (low X + processing N X) (omega (arith, v .over)))
 
   -- with a consequent on task i, which has two bounds --------------------------------------------------------------------------
   module _ (i : ℕ) (small : i < n) where
@@ -200,21 +203,21 @@ module _ (J : Tasks whole) (lasts : (k : ℕ) → k < J .count → 1 ≤ J .dura
       pub implied-sound : X i ≡ true → implied n (J .duration) lower upper i ≡ true → PassesWith J premises a
       unfolding implied
       implied-sound yi y =
-          let (b, c) = and-true (some-in Ω) (ltb (high Ω) reach && ltb (N .latest i) (ectOf n (J .duration) lower upper Ω)) y in
-          let (d, e) = and-true (ltb (high Ω) reach) (ltb (N .latest i) (ectOf n (J .duration) lower upper Ω)) c in
-          let ne : NonEmpty N Ω = any-some n (J .duration) lower upper Ω b in
+          let (b, c) = and-true (some-in Ω) (ltb (high Ω) reach && ltb (N .latest i) (ectOf N Ω)) y in
+          let (d, e) = and-true (ltb (high Ω) reach) (ltb (N .latest i) (ectOf N Ω)) c in
+          let ne : NonEmpty N Ω = any-some N Ω b in
           let over : high Ω < reach = ltb-true (high Ω) reach d in
           let f : RuleFormula N Ω i = record {
             outside = record { small = small; mem = self-out };
             start = low Ω;
             end = high Ω;
-            joint = ectOf n (J .duration) lower upper Ω;
-            est = lowest-is n (J .duration) lower upper Ω fits-N ne;
-            lct = highest-is n (J .duration) lower upper Ω ne;
-            ect = ect-is n (J .duration) lower upper Ω (sound zeroAt R proper low-R) ne;
+            joint = ectOf N Ω;
+            est = lowest-is N Ω fits-N ne;
+            lct = highest-is N Ω ne;
+            ect = ect-is N Ω moments-proper ne;
             over-i = omega arith;
             over-Ω = omega arith;
-            passes = ltb-true (N .latest i) (ectOf n (J .duration) lower upper Ω) e;
+            passes = ltb-true (N .latest i) (ectOf N Ω) e;
           } in
           record {
             set = Ω;
@@ -231,12 +234,12 @@ module _ (J : Tasks whole) (lasts : (k : ℕ) → k < J .count → 1 ≤ J .dura
           let on-R : RuleFormula R (p .set) i = formula→ (p .ranges) R (p .set with i) (agrees (p .set with i) (p .ranges) b) (p .set) i (λ k h. with-more (p .set) k (h .mem)) (with-self (p .set)) g in
           let f : RuleFormula N Ω i = checks→ zeroAt R proper low-R Ω i (set-formula R (p .set) Ω (the-others (p .set) (g .outside .mem) (determined (p .set with i) (p .ranges) b)) i on-R) in
           let ne : NonEmpty N Ω = (f .est .holds .0, f .est .holds .1) in
-          let s : f .start ≡ low Ω = est-same N Ω (f .start) (low Ω) (f .est) (lowest-is n (J .duration) lower upper Ω fits-N ne) in
-          let e : f .end ≡ high Ω = lct-same N Ω (f .end) (high Ω) (f .lct) (highest-is n (J .duration) lower upper Ω ne) in
-          let j : f .joint ≡ ectOf n (J .duration) lower upper Ω = ect-same N Ω (f .joint) (ectOf n (J .duration) lower upper Ω) (f .ect) (ect-is n (J .duration) lower upper Ω (sound zeroAt R proper low-R) ne) in
-          and-yes (some-in Ω) (ltb (high Ω) reach && ltb (N .latest i) (ectOf n (J .duration) lower upper Ω)) (any-yes n (J .duration) lower upper Ω ne)
-          (and-yes (ltb (high Ω) reach) (ltb (N .latest i) (ectOf n (J .duration) lower upper Ω)) (lt-ltb (high Ω) reach (omega (arith, f .over-i, f .over-Ω)))
-          (lt-ltb (N .latest i) (ectOf n (J .duration) lower upper Ω) (omega (arith, f .passes))))
+          let s : f .start ≡ low Ω = est-same N Ω (f .start) (low Ω) (f .est) (lowest-is N Ω fits-N ne) in
+          let e : f .end ≡ high Ω = lct-same N Ω (f .end) (high Ω) (f .lct) (highest-is N Ω ne) in
+          let j : f .joint ≡ ectOf N Ω = ect-same N Ω (f .joint) (ectOf N Ω) (f .ect) (ect-is N Ω moments-proper ne) in
+          and-yes (some-in Ω) (ltb (high Ω) reach && ltb (N .latest i) (ectOf N Ω)) (any-yes N Ω ne)
+          (and-yes (ltb (high Ω) reach) (ltb (N .latest i) (ectOf N Ω)) (lt-ltb (high Ω) reach (omega (arith, f .over-i, f .over-Ω)))
+          (lt-ltb (N .latest i) (ectOf N Ω) (omega (arith, f .passes))))
         where
           with-more : (S : TaskSet) (k : ℕ) → S k ≡ true → (S with i) k ≡ true
           with-more S k y = elim (bool (eqb k i)) [ inl z ↦ rw z | inr z ↦ rw z y ]

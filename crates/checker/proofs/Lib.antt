@@ -1,2 +1,9 @@
-pub mod Intervals
+pub mod Gathering
+pub mod Steps
+pub mod Colouring
+pub mod Judging
 pub mod Formulas
+pub mod Soundness
+pub mod Verdicts
+pub mod Answers
+pub mod Reasons

@@ -11,6 +11,51 @@ use Rattle.scheduling.specs.Scheduling.{whole, natural, Tasks, TaskSet, complet
 use Rattle.scheduling.proofs.Transfer.{moments}
 use Rattle.trees.specs.Leaves.{Leaf, empty, white, ect}
 
+-- What the loop over the tasks gathers ------------------------------------------------------------------------------------------
+
+-- some task of the set below k
+unfoldable pub any : TaskSet → ℕ → Bool
+any Ω zero = false
+any Ω (suc k) = any Ω k || Ω k
+
+module _ (J : Tasks natural) (Ω : TaskSet) where
+  -- `lb_interval` and `ub_interval`: the least earliest start and the greatest latest completion of the tasks of Ω below k
+  unfoldable pub lowest : ℕ → ℕ
+  lowest zero = 4294967295
+  lowest (suc k) = cond (Ω k) (min (lowest k) (J .earliest k)) (lowest k)
+
+  unfoldable pub highest : ℕ → ℕ
+  highest zero = 0
+  highest (suc k) = cond (Ω k) (max (highest k) (completion J k)) (highest k)
+
+  -- the tree's ect with the tasks of Ω in theta; its leaves stand in the order of earliest starts
+  abbrev pub order : List ℕ
+  order = sort (λ j k. leb (J .earliest j) (J .earliest k)) (numbers 0 (J .count))
+
+  abbrev pub colours : List Leaf
+  colours = map (λ k. cond (Ω k) white empty) order
+
+  abbrev pub ectOf : ℕ
+  ectOf = ect J order colours
+
+  -- Ω has a task, and overloads its span
+  abbrev pub overloadsSpan : Bool
+  overloadsSpan = any Ω (J .count) && ltb (highest (J .count)) (lowest (J .count) + processing J Ω)
+
+  -- Ω has a task; task i can start neither before nor among those of Ω: min(est i, lb) + p + p i > ub; and their ect is past i's latest start
+  abbrev pub comesAfter : ℕ → Bool
+  comesAfter i =
+      any Ω (J .count)
+      && (ltb (highest (J .count)) (min (J .earliest i) (lowest (J .count)) + processing J Ω + J .duration i)
+      && ltb (J .latest i) ectOf)
+
+infixl 20 _but_
+-- Ω without i
+abbrev pub _but_ : TaskSet → ℕ → TaskSet
+_but_ Ω i k = not (eqb k i) && Ω k
+
+-- The formula ------------------------------------------------------------------------------------------------------------------
+
 abbrev pub known : Option ℤ → Bool
 known none = false
 known (some z) = true
@@ -26,7 +71,7 @@ module _ (n : ℕ) (duration : ℕ → ℕ) (lower upper : ℕ → Option ℤ) w
   bounded k = known (lower k) && known (upper k)
 
   abbrev pub others : ℕ → TaskSet
-  others i k = not (eqb k i) && bounded k
+  others i = bounded but i
 
   -- the ranges that the bounds give; a task that lacks one stands at the least i32, whose moment is 0
   abbrev pub ranges : Tasks whole
@@ -35,34 +80,10 @@ module _ (n : ℕ) (duration : ℕ → ℕ) (lower upper : ℕ → Option ℤ) w
   abbrev pub tasks : Tasks natural
   tasks = moments zeroAt ranges
 
-  -- some task of a set
-  unfoldable pub any : TaskSet → ℕ → Bool
-  any Ω zero = false
-  any Ω (suc k) = any Ω k || Ω k
-
-  -- `lb_interval` and `ub_interval`: the least earliest start and the greatest latest completion of the tasks of Ω below k
-  unfoldable pub lowest : TaskSet → ℕ → ℕ
-  lowest Ω zero = 4294967295
-  lowest Ω (suc k) = cond (Ω k) (min (lowest Ω k) (tasks .earliest k)) (lowest Ω k)
-
-  unfoldable pub highest : TaskSet → ℕ → ℕ
-  highest Ω zero = 0
-  highest Ω (suc k) = cond (Ω k) (max (highest Ω k) (completion tasks k)) (highest Ω k)
-
-  -- the tree's ect with the tasks of Ω in theta; its leaves stand in the order of earliest starts
-  abbrev pub order : List ℕ
-  order = sort (λ j k. leb (tasks .earliest j) (tasks .earliest k)) (numbers 0 n)
-
-  abbrev pub ectOf : TaskSet → ℕ
-  ectOf Ω = ect tasks order (map (λ k. cond (Ω k) white empty) order)
-
   -- without a consequent: the tasks with two bounds overload their span
   unfoldable pub overloaded : Bool
-  overloaded = any bounded n && ltb (highest bounded n) (lowest bounded n + processing tasks bounded)
+  overloaded = overloadsSpan tasks bounded
 
-  -- with a consequent on task i, of the tasks but i: min(est i, lb) + p + p i > ub, and ect is past i's latest start
+  -- with a consequent on task i: it comes after the others
   unfoldable pub implied : ℕ → Bool
-  implied i =
-      any (others i) n
-      && (ltb (highest (others i) n) (min (tasks .earliest i) (lowest (others i) n) + processing tasks (others i) + duration i)
-      && ltb (tasks .latest i) (ectOf (others i)))
+  implied i = comesAfter tasks (others i) i

@@ -1,1 +1,4 @@
 pub mod Formulas
+pub mod Checks
+pub mod Holding
+pub mod Colouring

@@ -1,1 +1,4 @@
-// stand-in
+pub mod bounds;
+pub mod checker;
+pub mod intervals;
+pub mod theta;

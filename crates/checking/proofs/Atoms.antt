@@ -4,7 +4,7 @@ use mathlib.Core.Path.{_≡_, refl, sym, ap, _∙_}
 use mathlib.Core.Logic.{_⊎_, inl, inr, ⊎-elim, _↔_}
 use mathlib.Core.Bool.{true, false, _&&_}
 use mathlib.Core.List.{List, [], _∷_, _++_}
-use mathlib.Core.Option.{none}
+use mathlib.Core.Option.{some, none}
 use Prim.Native.Nat.{ℕ, zero, suc, _+_, _*_, _≤_, _<_}
 use native.Mathlib.Omega.{arith}
 use borrow.Author.Tests.{leb-true, le-leb}
@@ -149,17 +149,24 @@ right-lists p c y =
     let (b, d) = and-true (leb (length c) 3) (rightWords c) r in
     (a, leb-true (length c) 3 b, d)
 
-pub given-none : (atoms : List Atom) (c : List ℤ) → length c ≡ 0 → given atoms (consequentOf c) ≡ atoms
+-- the consequent of no words, and of three
+pub consequent-none : (c : List ℤ) → length c ≡ 0 → consequentOf c ≡ none
 unfolding atomsOf
-given-none atoms [] e = refl
-given-none atoms (x ∷ c) e = absurd (omega arith)
+consequent-none [] e = refl
+consequent-none (x ∷ c) e = absurd (omega arith)
+
+pub consequent-one : (c : List ℤ) → length c ≡ 3 → consequentOf c ≡ some (atomAt c 0)
+unfolding atomsOf
+consequent-one [] e = absurd (omega arith)
+consequent-one (x ∷ []) e = absurd (omega arith)
+consequent-one (x ∷ k ∷ []) e = absurd (omega arith)
+consequent-one (x ∷ k ∷ v ∷ c) e = refl
+
+pub given-none : (atoms : List Atom) (c : List ℤ) → length c ≡ 0 → given atoms (consequentOf c) ≡ atoms
+given-none atoms c e = ap (given atoms) (consequent-none c e)
 
 pub given-one : (atoms : List Atom) (c : List ℤ) → length c ≡ 3 → given atoms (consequentOf c) ≡ atoms ++ (negation (atomAt c 0) ∷ [])
-unfolding atomsOf
-given-one atoms [] e = absurd (omega arith)
-given-one atoms (x ∷ []) e = absurd (omega arith)
-given-one atoms (x ∷ k ∷ []) e = absurd (omega arith)
-given-one atoms (x ∷ k ∷ v ∷ c) e = refl
+given-one atoms c e = ap (given atoms) (consequent-one c e)
 
 pub every-map : {P Q : Atom → Type 0} → ((a : Atom) → P a → Q a) → (atoms : List Atom) → Every P atoms → Every Q atoms
 every-map f [] e = tt

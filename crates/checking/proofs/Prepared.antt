@@ -69,6 +69,9 @@ module _ (premises consequent : List ℤ) where
       by false true q = f q
       by false false q = g 6
 
+  pub prepared-right : prepared premises consequent .answer ≡ Consistent → rightLists premises consequent ≡ true
+  prepared-right = ran (λ r. r .answer ≡ Consistent → rightLists premises consequent ≡ true) (λ r _. r) (λ n e. differ (Refused n) Consistent e (omega arith))
+
   pub prepared-accepted : Accepted state
   prepared-accepted = ran (λ r. Accepted (r .state)) (λ r. all-accepted atoms (given-known premises consequent r) emptyState empty-accepted) (λ _. empty-accepted)
 

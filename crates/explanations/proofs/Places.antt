@@ -1,6 +1,6 @@
 -- Lists of tasks, and the walks over them: what a walk knows at each place, and where it stops.
 -- Assumes nothing.
-use mathlib.Core.Path.{_≡_, ap, subst}
+use mathlib.Core.Path.{_≡_, refl, ap, subst}
 use mathlib.Core.List.{List, [], _∷_, _++_}
 use Prim.Native.Nat.{ℕ, zero, suc, _+_, _-_, _≤_, _<_}
 use native.Mathlib.Omega.{arith}
@@ -24,6 +24,14 @@ pub onward : (ks : List ℕ) (i : ℕ) → take (length ks - i) (drop i ks) ≡ 
 onward ks i = take-all (length ks - i) (drop i ks) (omega (arith, length-drop i ks))
 
 module _ (ds : List ℕ) where
+  pub lasts-none : lasts ds [] ≡ 0
+  unfolding lasts
+  lasts-none = refl
+
+  pub lasts-more : (k : ℕ) (ks : List ℕ) → lasts ds (k ∷ ks) ≡ getD ds k 0 + lasts ds ks
+  unfolding lasts
+  lasts-more k ks = refl
+
   -- the tasks from place i on: that at i, and those after it
   lasts-cons : (ks : List ℕ) (i : ℕ) → i < length ks → lasts ds (drop i ks) ≡ getD ds (getD ks i 0) 0 + lasts ds (drop (suc i) ks)
   unfolding lasts

@@ -1,6 +1,6 @@
 -- The explanations' words in the slice of atoms, and what their input gives at each step.
 -- Assumes nothing.
-use mathlib.Core.Path.{_≡_, refl, ap, _∙_}
+use mathlib.Core.Path.{_≡_, refl, sym, ap, _∙_}
 use mathlib.Core.List.{List, [], _∷_, _++_}
 use Prim.Native.Nat.{ℕ, suc, _+_, _-_, _*_, _^_, _≤_, _<_, min}
 use native.Mathlib.Omega.{arith}
@@ -11,10 +11,12 @@ use lib.ListN.{length, getD, take, drop, length-append, length-take, length-drop
 use lib.Seq.{sets, length-sets, drop-cons, drop-drop, drop-length, getD-drop}
 use Rattle.integers.specs.Moments.{instant, zeroAt}
 use Rattle.scheduling.specs.Scheduling.{Atom}
-use Rattle.runs.specs.Runs.{within, conflict, conflict-of, bounds, propagation}
+use Rattle.runs.specs.Runs.{atLeast, within, conflict, conflict-of, bounds, propagation}
 use Rattle.scheduling.specs.Words.{atomWords}
 use Rattle.explanations.specs.Explanations.{starting, lasting, lasts, Each, Overloads, Precedes, Attains, First, Known, Ends, Walk, Writable, White, Overloaded, Preceded, Stored}
+use Rattle.scheduling.proofs.Words.{atoms-none, atoms-more}
 use Rattle.runs.proofs.Buffers.{atoms-stored}
+use Rattle.runs.proofs.Clauses.{within-none, within-more}
 use Rattle.explanations.proofs.Places.{each-drop, each-take, onward, lasts-drop, first-same}
 use Rattle.explanations.proofs.Explaining.{conflict-at, propagation-at, bounds-at, within-same}
 use Rattle.runs.proofs.Lengths.{within-length, bounds-length}
@@ -33,16 +35,14 @@ module _ (ds ks : List ℕ) (low high : ℕ) where
   upper j = pos (getD ks j 0) ∷ pos 1 ∷ instant zeroAt (high - getD ds (getD ks j 0) 0) ∷ []
 
   pub none-left : (j : ℕ) → j ≡ length ks → left j ≡ []
-  unfolding within atomWords
-  none-left j e = rw (e, drop-length)
+  none-left j e = rw (e, drop-length, within-none zeroAt (lasting ds) low high) atoms-none
 
   -- the j-th task's two atoms, and the rest after them
   pub two-more : (l : List ℤ) (j at : ℕ) → j < length ks → sets (sets (sets l (3 * at) (lower j)) (3 * (at + 1)) (upper j)) (3 * (at + 2)) (left (j + 1)) ≡ sets l (3 * at) (left j)
-  unfolding within atomWords
   two-more l j at h =
       let a : 3 * (at + 1) ≡ suc (suc (suc (3 * at))) = omega arith in
       let b : 3 * (at + 2) ≡ suc (suc (suc (suc (suc (suc (3 * at)))))) = omega arith in
-      rw (a, b, add-one j, drop-cons ks j 0 h)
+      rw (a, b, add-one j, drop-cons ks j 0 h, within-more zeroAt (lasting ds) low high (getD ks j 0) (drop (suc j) ks), atoms-more, atoms-more)
 
 -- one run of atoms after another
 pub stored-then : {l m n : List ℤ} {k a b : ℕ} {xs ys : List Atom} → Stored l m k a xs → Stored m n a b ys → Stored l n k b (xs ++ ys)
@@ -79,9 +79,9 @@ module _ (es ds ks : List ℕ) (p x q : ℕ) (total : p ≡ lasts ds ks) where
   pub propagation-stored : {l m n : List ℤ} {k a : ℕ} (i u lct r : ℕ) → First (Precedes es lct (getD es i 0) (getD ds i 0)) ds ks x q → r ≡ min (getD es i 0) (getD es (getD ks x 0) 0)
       → Stored l m k a (bounds zeroAt (starting es ds) u r (r + q + getD ds i 0 - 1) q (take (length ks - x) (drop x ks))) → n ≡ sets m (3 * a) (pos i ∷ pos 0 ∷ instant zeroAt r ∷ [])
       → Stored l n k (a + 1) (propagation zeroAt (starting es ds) i u lct p ks)
-  unfolding atomWords
-  propagation-stored i u lct r f e s t =
-      rw (propagation-at zeroAt es ds i u lct p ks x q total f, ← e) (stored-then (rw onward at s) (record { words = t; count = refl }))
+  propagation-stored {l} {m} {n} {k} {a} i u lct r f e s t =
+      let z : atomWords (atLeast zeroAt (starting es ds) i r ∷ []) ≡ pos i ∷ pos 0 ∷ instant zeroAt r ∷ [] = rw (atoms-more, atoms-none) in
+      rw (propagation-at zeroAt es ds i u lct p ks x q total f, ← e) (stored-then (rw onward at s) (record { words = t ∙ ap (sets m (3 * a)) (sym z); count = refl }))
 
 -- From the input ---------------------------------------------------------------------------------------------------------------
 

@@ -2,13 +2,13 @@
 -- Assumes nothing.
 use mathlib.Core.Path.{_≡_, refl, sym, ap, ap₂, subst, _∙_}
 use mathlib.Core.Bool.{Bool, true, false}
-use mathlib.Core.List.{List, [], _∷_, _++_, map}
-use Prim.Native.Nat.{ℕ, zero, suc, _+_, _-_, _*_, _^_, _≤_, _<_}
+use mathlib.Core.List.{List, _++_, map}
+use Prim.Native.Nat.{ℕ, _+_, _-_, _*_, _≤_, _<_}
 use native.Mathlib.Omega.{arith}
 use lib.Dec.{leb}
 use lib.IntN.{ℤ, pos, negsuc}
 use lib.ListN.{length, getD, take, drop, replicate, length-replicate}
-use lib.Seq.{sets, getD-take, length-take-le}
+use lib.Seq.{getD-take, length-take-le}
 use lib.Signed.{_≤ℤ_}
 use Rattle.integers.specs.Limits.{TASKS, DURATIONS, START}
 use Rattle.integers.specs.Filling.{filled}
@@ -19,7 +19,7 @@ use Rattle.integers.proofs.Ints.{up, dn}
 use Rattle.integers.proofs.Moments.{mono, above-up, above-show, instant-moment}
 use Rattle.integers.proofs.Sorting.{sort-ext}
 use Rattle.scheduling.specs.Scheduling.{whole, natural, Tasks, tasksOf, Proper, total, processing, completion}
-use Rattle.scheduling.proofs.Processing.{processing-less}
+use Rattle.scheduling.proofs.Processing.{processing-less, processing-all}
 use Rattle.scheduling.proofs.Scan.{ByEarliest}
 use Rattle.scheduling.proofs.Levels.{ByCompletion}
 use Rattle.scheduling.proofs.Sets.{total-ext}
@@ -32,11 +32,15 @@ use Rattle.trees.proofs.Heights.{sized}
 use Rattle.trees.proofs.Roots as tree
 use Rattle.trees.proofs.Trees.{new-tree}
 use Rattle.runs.specs.Traces.{Trace}
-use Rattle.runs.specs.Runs.{tabulate, byEarliest, byCompletion, run, propagate}
+use Rattle.runs.specs.Runs.{tabulate, byEarliest, byCompletion, run}
 use Rattle.runs.specs.Demand.{Right}
 use Rattle.scheduling.specs.Words.{atomWords}
-use Rattle.runs.specs.Words.{postWords, reasons, endReason}
+use Rattle.runs.specs.Words.{postWords, reasons, endReason, postsAfter, atomsAfter}
+use Rattle.runs.proofs.Buffers.{overwrites, no-posts-stored, no-atoms-stored, no-reasons}
 use Rattle.runs.proofs.Demand as demand
+use Rattle.runs.proofs.Few as few-words
+use Rattle.runs.proofs.Fuel.{propagate-is}
+use Rattle.runs.proofs.Tables.{tabulated}
 use Rattle.records.specs.declared.record.Propagator.{Propagator}
 use Rattle.records.specs.Orders.{noTasks, momentAt, completionAt, byKey, byKeyDown, largestKey, reversedAt, sortedOrder}
 use Rattle.records.specs.Records.{Lawful}
@@ -51,18 +55,6 @@ use Rattle.propagator.specs.Ran.{tasksIn, traceOf, Left}
 
 zeros-long : length noTasks ≡ TASKS
 zeros-long = length-replicate {A = ℕ} 48 0
-
--- numbers that come back from their moments
-tabulated : (xs : List ℤ) (f : ℕ → ℕ) (b : ℕ) → ((k : ℕ) → k < length xs → instant zeroAt (f (b + k)) ≡ getD xs k (pos 0)) → xs ≡ map (instant zeroAt) (tabulate f b (length xs))
-unfolding tabulate
-tabulated [] f b h = refl
-tabulated (x ∷ xs) f b h = ap₂ (λ (y : ℤ) (l : List ℤ). y ∷ l) (sym (h 0 (omega arith)) ∙ ap (λ (k : ℕ). instant zeroAt (f k)) here) (tabulated xs f (suc b) (λ k q. ap (λ (j : ℕ). instant zeroAt (f j)) (there k) ∙ h (suc k) (omega arith)))
-  where
-    here : b + 0 ≡ b
-    here = omega arith
-
-    there : (k : ℕ) → suc b + k ≡ b + suc k
-    there k = omega arith
 
 module _ (r : Propagator) (es ls : List ℤ) (posts atoms : ℕ) (a : Accepted r es ls posts atoms) (long : length (r .durations) ≡ TASKS) (long₁ : length (r .first) ≡ TASKS) (long₂ : length (r .second) ≡ TASKS) where
   abbrev n : ℕ
@@ -161,12 +153,8 @@ module _ (r : Propagator) (es ls : List ℤ) (posts atoms : ℕ) (a : Accepted r
     omega (arith, mono zeroAt (getD ls k (pos 0)) (pos 200000000) (accepted .to k q)),
   )
 
-  all : processing J (λ _. true) ≡ total (λ k. getD ds k 0) (length ds)
-  unfolding processing
-  all = refl
-
   short : processing J (λ _. true) ≤ 200000000
-  short = omega (arith, all, accepted .sum)
+  short = omega (arith, processing-all J, accepted .sum)
 
   lasting : (k : ℕ) → k < length ds → J .duration k ≤ 200000000
   lasting k q = omega (arith, short, processing-less J (λ _. true) k (record { small = q; mem = refl }))
@@ -197,18 +185,32 @@ module _ (r : Propagator) (es ls : List ℤ) (posts atoms : ℕ) (a : Accepted r
 
   -- the state at the start: nothing is written
   pub at-start : (inner : ℕ) (words : List ℕ) (ps as′ : List ℤ) → IsTree J first (replicate (J .count) white) inner words → At J first ps as′ (allWhite J) inner words es ps as′ 0 0
-  unfolding postWords atomWords reasons
   at-start inner words ps as′ t = record {
     tree = t;
-    starts = subst (λ (m : ℕ). es ≡ map (instant zeroAt) (tabulate (J .earliest) 0 m)) (a .counts .earliest ∙ sym count) (tabulated es (J .earliest) 0 (λ k q. back k (omega (arith, q, a .counts .earliest, count))));
-    posts = refl;
-    atoms = refl;
+    starts = subst (λ (m : ℕ). es ≡ map (instant zeroAt) (tabulate (J .earliest) 0 m)) (a .counts .earliest ∙ sym count) (tabulated zeroAt es (J .earliest) 0 (λ k q. back k (omega (arith, q, a .counts .earliest, count))));
+    posts = no-posts-stored ps;
+    atoms = no-atoms-stored as′;
     posted = refl;
-    explained = refl;
+    explained = sym no-reasons;
   }
     where
       back : (k : ℕ) → k < length ds → instant zeroAt (J .earliest (0 + k)) ≡ getD es k (pos 0)
       back k q = let z : 0 + k ≡ k = omega arith in ap (λ (j : ℕ). instant zeroAt (J .earliest j)) z ∙ instant-moment zeroAt (getD es k (pos 0)) (above k q)
+
+  -- the trace that it leaves, and that its words fit the lent slices
+  trace-is : traceOf r es ls ≡ run zeroAt J first second
+  trace-is = propagate-is ds es ls (take n (r .first)) (take n (r .second))
+
+  posts-fit : length (postWords 0 (run zeroAt J first second .posts)) ≤ posts
+  posts-fit = omega (arith, few-words.posts-fit zeroAt J proper first second by-earliest (ordered .by-completion) (accepted .some), count, a .words .posts)
+
+  atoms-fit : length (atomWords (reasons (run zeroAt J first second .posts) ++ endReason (run zeroAt J first second .end))) ≤ atoms
+  atoms-fit = omega (
+    arith,
+    subst (λ (m : ℕ). length (atomWords (reasons (run zeroAt J first second .posts) ++ endReason (run zeroAt J first second .end))) ≤ 6 * (m * m)) count
+        (few-words.atoms-fit zeroAt J proper first second by-earliest (ordered .by-completion) (accepted .some)),
+    a .words .atoms,
+  )
 
   -- what the calls before edge finding left
   module _ {est lst : List ℕ} (e : est ≡ filled (momentAt es) (length es) noTasks) (l : lst ≡ filled (momentAt ls) (length ls) noTasks) where
@@ -283,23 +285,21 @@ module _ (r : Propagator) (es ls : List ℤ) (posts atoms : ℕ) (a : Accepted r
         }
 
       -- and what a run leaves
-      trace-is : traceOf r es ls ≡ run zeroAt J first second
-      unfolding propagate
-      trace-is = refl
-
       first-carried : tasks ≡ sortedOrder (byEarliest J) n (r .first)
       first-carried = f ∙ ap (λ (o : List ℕ). o ++ drop n (r .first)) (order-first est starts)
 
       second-carried : candidates ≡ sortedOrder (byCompletion J) n (r .second)
       second-carried = g-is ∙ ap (λ (o : List ℕ). o ++ drop n (r .second)) (order-second lct completions keys-small)
 
-      pub left : {ps as′ es′ ps′ bs : List ℤ} {o : Outcome} → Ended J first second ps as′ o es′ ps′ bs
+      pub left : {ps as′ es′ ps′ bs : List ℤ} {o : Outcome} → posts ≡ length ps → atoms ≡ length as′ → Ended J first second ps as′ o es′ ps′ bs
           → Left r es ls ps as′ (record { «record» = record { count = n; durations = r .durations; first = tasks; second = candidates }; outcome = o }) es′ ps′ bs
-      left {ps} {as′} {es′} {ps′} {bs} {o} d = record {
+      left {ps} {as′} {es′} {ps′} {bs} {o} p q d = record {
         answer = d .answer ∙ ap (λ (t : Trace). outcomeOf (reasons (t .posts)) (length (t .posts)) (t .end)) (sym trace-is);
         starts = d .starts ∙ ap (λ (t : Trace). t .starts) (sym trace-is);
-        post-words = d .posts ∙ ap (λ (t : Trace). sets ps 0 (postWords 0 (t .posts))) (sym trace-is);
-        atom-words = d .atoms ∙ ap (λ (t : Trace). sets as′ 0 (atomWords (reasons (t .posts) ++ endReason (t .end)))) (sym trace-is);
+        post-words = d .posts ∙ overwrites ps (postWords 0 (run zeroAt J first second .posts)) (omega (arith, posts-fit, p)) ∙ ap (postsAfter ps) (sym trace-is);
+        atom-words = d .atoms ∙ overwrites as′ (atomWords (reasons (run zeroAt J first second .posts) ++ endReason (run zeroAt J first second .end))) (omega (arith, atoms-fit, q)) ∙ ap (atomsAfter as′) (sym trace-is);
+        posts-fit = subst (λ (t : Trace). length (postWords 0 (t .posts)) ≤ length ps) (sym trace-is) (omega (arith, posts-fit, p));
+        atoms-fit = subst (λ (t : Trace). length (atomWords (reasons (t .posts) ++ endReason (t .end))) ≤ length as′) (sym trace-is) (omega (arith, atoms-fit, q));
         carries = ap₂ (λ (x y : List ℕ). record { count = n; durations = r .durations; first = x; second = y }) first-carried second-carried;
       }
 

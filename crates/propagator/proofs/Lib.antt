@@ -7,3 +7,4 @@ pub mod Levels
 pub mod Filling
 pub mod Beginning
 pub mod Many
+pub mod Passing

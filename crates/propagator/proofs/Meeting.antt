@@ -19,11 +19,12 @@ use Rattle.scheduling.proofs.Processing.{processing-mono, processing-less}
 use Rattle.trees.specs.Leaves.{Leaf, whiteAt, taskAt, ect, ect-bar, sum, theta}
 use Rattle.trees.specs.Searches.{thetaOf}
 use Rattle.trees.proofs.Roots as tree
-use Rattle.trees.proofs.Thetas.{theta-none, theta-white, theta-skip}
+use Rattle.trees.proofs.Thetas.{theta-none, theta-white, theta-skip, theta-is}
 use Rattle.runs.proofs.Walks as walks
 use Rattle.runs.proofs.Stops as stops
 use Rattle.explanations.specs.Explanations.{starting, lasts, Each, Known, White, Somewhere, Overloads, Precedes, Attains, Overloaded, Preceded}
 use Rattle.explanations.proofs.Explaining.{Alike}
+use Rattle.explanations.proofs.Places.{lasts-none, lasts-more}
 use Rattle.propagator.specs.Holding.{Ordered, Holds}
 
 module _ (J : Tasks natural) (first second : List ℕ) (G : Ordered J first second) (est dur : List ℕ) (he : Holds (J .count) (J .earliest) est) (hd : Holds (J .count) (J .duration) dur) where
@@ -73,15 +74,14 @@ module _ (J : Tasks natural) (first second : List ℕ) (G : Ordered J first seco
 
     -- how long the listed tasks from a place on last
     lasts-onward : (d a : ℕ) → a + d ≡ n → lasts dur (th a d) ≡ processing J (onward a)
-    unfolding lasts
-    lasts-onward zero a z = ap (lasts dur) (theta-none (whiteAt ls) (taskAt J first) a) ∙ sym (ap (λ (a : ℕ). processing J (onward a)) (end a z) ∙ walks.none-left zeroAt J ok first second (G .by-earliest) ls Θ Λ s)
+    lasts-onward zero a z = ap (lasts dur) (theta-none (whiteAt ls) (taskAt J first) a) ∙ lasts-none dur ∙ sym (ap (λ (a : ℕ). processing J (onward a)) (end a z) ∙ walks.none-left zeroAt J ok first second (G .by-earliest) ls Θ Λ s)
       where
         end : (a : ℕ) → a + 0 ≡ n → a ≡ n
         end a z = omega arith
     lasts-onward (suc d) a z = by (lasts-onward d (suc a) (omega arith)) (bool (whiteAt ls a))
       where
         by : lasts dur (th (suc a) d) ≡ processing J (onward (suc a)) → (whiteAt ls a ≡ true) ⊎ (whiteAt ls a ≡ false) → lasts dur (th a (suc d)) ≡ processing J (onward a)
-        by ih (inl w) = ap (lasts dur) (theta-white (whiteAt ls) (taskAt J first) a d w) ∙ omega (arith, ih, hd .at (T a) (G .by-earliest .task a (omega arith)), walks.step zeroAt J ok first second (G .by-earliest) ls Θ Λ s a (omega arith) (sym (white-at a (omega arith)) ∙ w))
+        by ih (inl w) = ap (lasts dur) (theta-white (whiteAt ls) (taskAt J first) a d w) ∙ lasts-more dur (T a) (th (suc a) d) ∙ omega (arith, ih, hd .at (T a) (G .by-earliest .task a (omega arith)), walks.step zeroAt J ok first second (G .by-earliest) ls Θ Λ s a (omega arith) (sym (white-at a (omega arith)) ∙ w))
         by ih (inr w) = ap (lasts dur) (theta-skip (whiteAt ls) (taskAt J first) a d w) ∙ ih ∙ sym (walks.skip zeroAt J ok first second (G .by-earliest) ls Θ Λ s a (omega arith) (sym (white-at a (omega arith)) ∙ w))
 
     -- each listed task is a task of Θ
@@ -111,8 +111,7 @@ module _ (J : Tasks natural) (first second : List ℕ) (G : Ordered J first seco
     whole = processing-mono J (onward 0) (λ _. true) (λ k h. refl)
 
     sum-lasts : sum J first ls ≡ lasts dur θ
-    unfolding theta
-    sum-lasts = walks.sum-is zeroAt J ok first second (G .by-earliest) ls Θ Λ s ∙ sym (lasts-onward n 0 (omega arith))
+    sum-lasts = walks.sum-is zeroAt J ok first second (G .by-earliest) ls Θ Λ s ∙ sym (lasts-onward n 0 (omega arith)) ∙ ap (lasts dur) (sym (theta-is J first ls))
 
     sum-most : sum J first ls ≤ all
     sum-most = omega (arith, walks.sum-is zeroAt J ok first second (G .by-earliest) ls Θ Λ s, whole)

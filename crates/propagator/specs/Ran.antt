@@ -1,17 +1,16 @@
 -- What a run leaves, by the run's definition, and what that means.
 use mathlib.Core.Path.{_≡_}
-use mathlib.Core.List.{List, _++_}
-use Prim.Native.Nat.{ℕ}
-use lib.IntN.{ℤ}
+use mathlib.Core.List.{List, _++_, map}
+use Prim.Native.Nat.{ℕ, _≤_}
+use lib.IntN.{ℤ, pos}
 use lib.ListN.{length, take}
-use lib.Seq.{sets}
 use Rattle.integers.specs.Moments.{zeroAt}
 use Rattle.scheduling.specs.Scheduling.{whole, natural, Tasks, tasksOf}
 use Rattle.scheduling.proofs.Transfer.{moments}
 use Rattle.runs.specs.Traces.{Trace}
 use Rattle.runs.specs.Runs.{propagate, byEarliest, byCompletion}
 use Rattle.scheduling.specs.Words.{atomWords}
-use Rattle.runs.specs.Words.{postWords, reasons, endReason}
+use Rattle.runs.specs.Words.{postWords, reasons, endReason, postsAfter, atomsAfter}
 use Rattle.runs.specs.Demand.{Right}
 use Rattle.records.specs.declared.record.Propagator.{Propagator}
 use Rattle.records.specs.Orders.{sortedOrder}
@@ -20,6 +19,10 @@ use Rattle.propagator.specs.declared.disjunctive_propagator.Outcome.{Out
 use Rattle.propagator.specs.declared.disjunctive_propagator.Outcome.the-variants as outcome
 use Rattle.propagator.specs.declared.disjunctive_propagator.Run.{Run}
 use Rattle.propagator.specs.Finding.{outcomeOf}
+
+-- the record's durations, as a check takes them
+abbrev pub checkDurations : Propagator → List ℤ
+checkDurations before = map pos (take (before .count) (before .durations))
 
 module _ (before : Propagator) (es ls : List ℤ) where
   -- the tasks of a record with these ranges, and their moments
@@ -42,12 +45,14 @@ module _ (before : Propagator) (es ls : List ℤ) where
     second = sortedOrder (byCompletion momentsIn) (before .count) (before .second);
   }
 
-  -- An accepted run leaves that trace: its answer, the earliest starts, the words of its posts and reasons from the front of the lent slices, the record.
+  -- An accepted run leaves that trace: its answer, the earliest starts, the words of its posts and reasons over what stood in the lent slices, which have room for them, and the record.
   pub record Left (posts atoms : List ℤ) (r : Run) (es′ posts′ atoms′ : List ℤ) : Type 0 where
     pub answer : r .outcome ≡ outcomeOf (reasons (traceOf .posts)) (length (traceOf .posts)) (traceOf .end)
     pub starts : es′ ≡ traceOf .starts
-    pub post-words : posts′ ≡ sets posts 0 (postWords 0 (traceOf .posts))
-    pub atom-words : atoms′ ≡ sets atoms 0 (atomWords (reasons (traceOf .posts) ++ endReason (traceOf .end)))
+    pub post-words : posts′ ≡ postsAfter posts traceOf
+    pub atom-words : atoms′ ≡ atomsAfter atoms traceOf
+    pub posts-fit : length (postWords 0 (traceOf .posts)) ≤ length posts
+    pub atoms-fit : length (atomWords (reasons (traceOf .posts) ++ endReason (traceOf .end))) ≤ length atoms
     pub carries : r .«record» ≡ carried
 
   -- A refused run leaves everything as it was.

@@ -3,24 +3,25 @@
 use mathlib.Core.Path.{_≡_, refl, sym, ap, subst, _∙_}
 use mathlib.Core.Bool.{true, false}
 use mathlib.Core.Logic.{_↔_}
-use mathlib.Core.List.{List, [], _∷_}
+use mathlib.Core.List.{List, [], _∷_, map}
 use Prim.Native.Nat.{ℕ, zero, suc, _≤_, _<_}
 use native.Mathlib.Omega.{arith}
 use lib.Dec.{leb}
 use lib.IntN.{ℤ, pos, negsuc}
 use lib.Signed.{leZ, _≤ℤ_}
-use lib.ListN.{length, getD, take}
+use lib.ListN.{length, getD, take, length-map}
 use lib.Seq.{length-take-le, getD-take}
 use borrow.Author.Tests.{leb-true, le-leb}
 use Rattle.integers.specs.Limits.{TASKS, DURATIONS}
 use Rattle.integers.specs.Filling.{filled}
-use Rattle.integers.specs.Orders.{has, Permutes}
+use Rattle.integers.specs.Orders.{has, Permutes, numbers}
 use Rattle.integers.specs.Tests.{Test, test, allBelow, refusal, AllPassed}
 use Rattle.integers.proofs.Bools.{clash, and-true}
 use Rattle.integers.proofs.Filling.{filled-at, filled-past, filled-length, getD-fresh}
 use Rattle.integers.proofs.Ints.{leZ-true, le-leZ}
+use Rattle.integers.proofs.Permutations.{own-numbers}
 use Rattle.integers.proofs.Pigeonhole.{own-places}
-use Rattle.integers.proofs.Tests.{all-at, all-show, all-ext, accepted, ground, refuses, broken}
+use Rattle.integers.proofs.Tests.{all-at, all-show, all-ext, accepts, accepted, ground, refuses, broken}
 use Rattle.scheduling.specs.Scheduling.{total}
 use Rattle.scheduling.proofs.Sets.{total-ext}
 use Rattle.records.specs.declared.record.Creation.the-variants.{Accepted, Refused}
@@ -28,8 +29,13 @@ use Rattle.records.specs.Orders.{noTasks}
 use Rattle.records.specs.Records.{countFits, sumFits, lastsAt, Lawful, durationOf, durationAt, positiveAt, creationTests, newRecord, zeroRecord, creationNumber, created, createdAt}
 use Rattle.records.proofs.Lawful.{count-is}
 
--- the order that creation gives
-own-order : (n : ℕ) → n ≤ TASKS → Permutes n (take n (filled (λ k. k) n noTasks))
+-- the order that creation gives, and `identity` too
+pub own-front : (n : ℕ) → n ≤ TASKS → take n (filled (λ k. k) n noTasks) ≡ numbers 0 n
+own-front n h =
+    let l = filled (λ k. k) n noTasks in
+    own-numbers n (take n l) (length-take-le n l (omega (arith, filled-length (λ k. k) n noTasks))) (λ k q. getD-take n l k 0 q ∙ filled-at (λ k. k) n noTasks 0 k q h)
+
+pub own-order : (n : ℕ) → n ≤ TASKS → Permutes n (take n (filled (λ k. k) n noTasks))
 own-order n h =
     let l = filled (λ k. k) n noTasks in
     own-places n (take n l) (length-take-le n l (omega (arith, filled-length (λ k. k) n noTasks))) (λ k q. getD-take n l k 0 q ∙ filled-at (λ k. k) n noTasks 0 k q h)
@@ -128,3 +134,28 @@ module _ (ds : List ℤ) where
     λ h. (let g = ground (t1 ∷ t2 ∷ []) t5 [] refl refl (λ z. omega arith) h in (count-is (length ds) .0 (g .0 .0), (durations-are .0 (g .0 .1 .0), broken sum-is .0 (g .1)))),
     λ f. refuses (t1 ∷ t2 ∷ []) t5 [] (count-is (length ds) .1 (f .0), (durations-are .1 (f .1 .0), tt)) (broken sum-is .1 (f .1 .1)),
   )
+
+-- Natural numbers as durations: task k's is the k-th, and they are accepted where they are 1 or more and sum to at most DURATIONS.
+module _ (l : List ℕ) where
+  pub natural-count : length (map pos l) ≡ length l
+  natural-count = length-map l pos
+
+  pub natural-duration : (k : ℕ) → durationAt (map pos l) k ≡ getD l k 0
+  natural-duration = at l
+    where
+      at : (l : List ℕ) (k : ℕ) → durationAt (map pos l) k ≡ getD l k 0
+      at [] k = refl
+      at (x ∷ xs) zero = refl
+      at (x ∷ xs) (suc k) = at xs k
+
+  pub natural-accepted : 1 ≤ length l → length l ≤ TASKS → ((k : ℕ) → k < length l → 1 ≤ getD l k 0) → total (λ k. getD l k 0) (length l) ≤ DURATIONS → refusal (creationTests (map pos l)) ≡ 0
+  natural-accepted some few lasts sum = accepts (creationTests (map pos l)) (
+    count-is (length (map pos l)) .1 (omega (arith, natural-count, some), omega (arith, natural-count, few)),
+    (
+      all-show (positiveAt (map pos l)) (length (map pos l)) (λ k q. sym (lasts-same (getD (map pos l) k (pos 0))) ∙ le-leb 1 (durationAt (map pos l) k) (omega (arith, natural-duration k, lasts k (omega (arith, natural-count))))),
+      (le-leb (total (durationAt (map pos l)) (length (map pos l))) DURATIONS (subst (λ (s : ℕ). s ≤ DURATIONS) (sym same) sum), tt),
+    ),
+  )
+    where
+      same : total (durationAt (map pos l)) (length (map pos l)) ≡ total (λ k. getD l k 0) (length l)
+      same = ap (total (durationAt (map pos l))) natural-count ∙ total-ext (durationAt (map pos l)) (λ k. getD l k 0) (length l) (λ k q. natural-duration k)

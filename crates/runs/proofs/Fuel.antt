@@ -8,19 +8,31 @@ use Prim.Native.Nat.{ℕ, zero, suc, _+_, _-_, _≤_, _<_}
 use native.Mathlib.Omega.{arith}
 use native.Mathlib.Decide.{ℕ-discrete}
 use lib.Dec.{ltb, eqb}
+use lib.IntN.{ℤ}
 use lib.ListN.{length, getD, set, length-set, replicate}
 use lib.Seq.{getD-set-same, getD-set-other}
 use borrow.Author.Tests.{ne-eqb, eq-eqb}
-use Rattle.scheduling.specs.Scheduling.{natural, Tasks, Proper, TaskSet, In}
+use Rattle.scheduling.specs.Scheduling.{natural, Tasks, tasksOf, Proper, TaskSet, In}
 use Rattle.integers.proofs.Bools.{bool}
 use Rattle.scheduling.proofs.Sets.{_less_}
 use Rattle.scheduling.proofs.Scan.{ByEarliest}
 use Rattle.scheduling.proofs.Cards.{card, card-less, card-zero, card-same}
-use Rattle.integers.specs.Orders.{index}
+use Rattle.scheduling.proofs.Transfer.{moments}
+use Rattle.integers.specs.Moments.{zeroAt}
+use Rattle.integers.specs.Orders.{sort, index}
 use Rattle.trees.specs.Leaves.{Leaf, empty, white, sum, theta, inTheta, inLambda, whiteAt, grayAt, ect, ect-bar, responsible}
 use Rattle.runs.specs.Traces.{done, overload, emptied}
-use Rattle.runs.specs.Runs.{State, Turn, on, stop, inner, outer, run, ended, grayed, tabulate, conflict, posted, raised, dropped, lct}
+use Rattle.runs.specs.Runs.{State, Turn, on, stop, inner, outer, run, ended, grayed, tabulate, conflict, posted, raised, dropped, lct, byEarliest, byCompletion, propagate}
 use Rattle.trees.proofs.Roots as tree
+
+-- a leaf is found or not, and the inner loop goes on or stops
+pub opt : (u : Option ℕ) → (u ≡ none) ⊎ ((x : ℕ) × (u ≡ some x))
+opt none = inl refl
+opt (some x) = inr (x, refl)
+
+pub turn : (u : Turn) → ((st : State) × (u ≡ on st)) ⊎ ((st : State) × (u ≡ stop st))
+turn (on st) = inl (st, refl)
+turn (stop st) = inr (st, refl)
 
 module _ (o : ℕ) (J : Tasks natural) (first second : List ℕ) (f t : ℕ) (st : State) where
   abbrev T : ℕ → ℕ
@@ -81,10 +93,6 @@ module _ (o : ℕ) (J : Tasks natural) (ok : Proper J) (first second : List ℕ)
         | no z ↦ rw (ne-eqb k (getD first x 0) z) (sym (ap inLambda (getD-set-other ls x (index first k) empty empty (λ y. z (sym (rk .there k r) ∙ ap (λ (j : ℕ). getD first j 0) y)))))
       ]
 
-  opt : (u : Option ℕ) → (u ≡ none) ⊎ ((x : ℕ) × (u ≡ some x))
-  opt none = inl refl
-  opt (some x) = inr (x, refl)
-
   abbrev I : ℕ → ℕ → State → Turn
   I f t st = inner o J first second f t st
 
@@ -125,7 +133,12 @@ module _ (o : ℕ) (J : Tasks natural) (ok : Proper J) (first second : List ℕ)
       by ih (inl z) (inr w) = took ih (w .0) z (w .1)
           (fewer (st .leaves) q f (w .0) (tree.one-found J ok first rk (st .leaves) (λ k. whiteAt (st .leaves) (index first k)) (lam (st .leaves)) (shape (st .leaves) q) (w .0) (w .1)) few)
 
--- the outer loop's clauses
+-- the whole run's definition, and the outer loop's clauses
+pub propagate-is : (ds : List ℕ) (es ls : List ℤ) (first second : List ℕ)
+    → let J = moments zeroAt (tasksOf ds es ls) in propagate ds es ls first second ≡ run zeroAt J (sort (byEarliest J) first) (sort (byCompletion J) second)
+unfolding propagate
+propagate-is ds es ls first second = refl
+
 module _ (o : ℕ) (J : Tasks natural) (first second : List ℕ) where
   pub run-is : run o J first second ≡ outer o J first second (J .count - 1) 0 (record { leaves = replicate (J .count) white; starts = tabulate (J .earliest) 0 (J .count); posts = [] })
   unfolding run

@@ -1,10 +1,14 @@
+pub mod Tables
 pub mod Steps
 pub mod Buffers
 pub mod Readers
 pub mod Fuel
+pub mod Clauses
 pub mod Walks
 pub mod Good
 pub mod Demand
 pub mod Lengths
 pub mod Room
+pub mod Few
 pub mod Stops
+pub mod Shapes

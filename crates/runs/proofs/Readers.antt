@@ -11,7 +11,7 @@ use Rattle.runs.specs.Traces.{Post, Trace}
 use Rattle.scheduling.specs.Words.{atomWords}
 use Rattle.runs.specs.Words.{postWords, reasons, endReason, postsAfter, atomsAfter}
 use Rattle.integers.specs.Words.{overwritten}
-use Rattle.scheduling.proofs.Words.{atoms-length}
+use Rattle.scheduling.proofs.Words.{atoms-length, drop-words, take-words}
 use Rattle.runs.proofs.Buffers.{posts-length}
 use Rattle.runs.specs.Demand.{no-post, post}
 
@@ -47,18 +47,6 @@ stretch (p ∷ ps) rest zero h = ap (take (length (p .reason))) (append-assoc (p
 stretch (p ∷ ps) rest (suc j) h =
     ap (λ (l : List Atom). take (length (getD ps j no-post .reason)) (drop (length (p .reason) + startOf ps j) l)) (append-assoc (p .reason) (reasons ps) rest)
     ∙ ap (take (length (getD ps j no-post .reason))) (drop-append-add (p .reason) (reasons ps ++ rest) (startOf ps j)) ∙ stretch ps rest j (omega arith)
-
-drop-words : (f : ℕ) (xs : List Atom) → drop (3 * f) (atomWords xs) ≡ atomWords (drop f xs)
-unfolding atomWords
-drop-words zero xs = refl
-drop-words (suc f) [] = let z : 3 * suc f ≡ suc (3 * f + 2) = omega arith in rw z refl
-drop-words (suc f) (x ∷ xs) = let z : 3 * suc f ≡ suc (suc (suc (3 * f))) = omega arith in rw z (drop-words f xs)
-
-take-words : (c : ℕ) (xs : List Atom) → take (3 * c) (atomWords xs) ≡ atomWords (take c xs)
-unfolding atomWords
-take-words zero xs = refl
-take-words (suc c) [] = let z : 3 * suc c ≡ suc (3 * c + 2) = omega arith in rw z refl
-take-words (suc c) (x ∷ xs) = let z : 3 * suc c ≡ suc (suc (suc (3 * c))) = omega arith in rw z (ap (λ (l : List ℤ). pos (x .variable) ∷ pos (x .kind) ∷ x .value ∷ l) (take-words c xs))
 
 bounded : (ps : List Post) (j : ℕ) → j < length ps → startOf ps j + length (getD ps j no-post .reason) ≤ length (reasons ps)
 unfolding reasons startOf

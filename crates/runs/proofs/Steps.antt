@@ -3,7 +3,7 @@ use mathlib.Core.Path.{_≡_, refl, sym, ap, subst, _∙_}
 use mathlib.Core.Bool.{Bool, true, false, cond, _||_, _&&_, not}
 use mathlib.Core.Logic.{_⊎_, inl, inr}
 use mathlib.Core.List.{List, [], _∷_, _++_, map}
-use mathlib.Core.Option.{Option, some, none}
+use mathlib.Core.Option.{some}
 use Prim.Native.Nat.{ℕ, zero, suc, _+_, _-_, _≤_, _<_, max}
 use native.Mathlib.Omega.{arith}
 use native.Mathlib.Decide.{decLe, decLt, ℕ-discrete}
@@ -31,6 +31,8 @@ use Rattle.runs.specs.Runs as edges
 use Rattle.trees.specs.Leaves as leaves
 use Rattle.trees.proofs.Roots as tree
 use Rattle.runs.specs.Demand.{no-post}
+use Rattle.runs.proofs.Fuel.{opt, turn}
+use Rattle.runs.proofs.Tables.{tab-length, tab-at}
 
 -- lists
 pub length-snoc : {A : Type 0} (xs : List A) (x : A) → length (xs ++ (x ∷ [])) ≡ suc (length xs)
@@ -262,10 +264,6 @@ module _ (o : ℕ) (J : Tasks natural) (ok : Proper J) (first second : List ℕ)
       fewer f q = subst (λ (x : ℕ). card J (λ k. grayAt (set (st .leaves) x empty) (rank k)) ≤ f) at-x
           (omega (arith, card-less J (lam st) i mem, card-same J (lam st less i) (λ k. grayAt (set (st .leaves) (rank i) empty) (rank k)) (drop-grays t (st .leaves) i (v .size) (mem .small) late)))
 
-    opt : (u : Option ℕ) → (u ≡ none) ⊎ ((x : ℕ) × (u ≡ some x))
-    opt none = inl refl
-    opt (some x) = inr (x, refl)
-
     pub inner-ok : (f t : ℕ) (st : State) → t < n → Inv t st → card J (lam st) ≤ f → TurnOk t (inner o J first second f t st)
     unfolding inner
     inner-ok zero t st small v few = record { inv = v; none-passes = λ q k h. absurd (card-zero J (lam st) few k h) }
@@ -304,10 +302,6 @@ module _ (o : ℕ) (J : Tasks natural) (ok : Proper J) (first second : List ℕ)
       pub when-done : tr .end ≡ done → Done J (λ k. moment o (getD (tr .starts) k (pos 0))) (length (tr .posts)) (taskOf (tr .posts)) (boundOf (tr .posts))
       pub otherwise : (tr .end ≡ done → ⊥) → Conflict J
       pub over : (r : List Atom) → tr .end ≡ overload r → GoodEnd r
-
-    turn : (u : Turn) → ((st : State) × (u ≡ on st)) ⊎ ((st : State) × (u ≡ stop st))
-    turn (on st) = inl (st, refl)
-    turn (stop st) = inr (st, refl)
 
     -- L t goes
     pub gray-ok : (t : ℕ) (st : State) → t < n → Closed t st → E (Th t) ≤ En t → Inv (suc t) (edges.grayed st (rank (L t)))
@@ -372,17 +366,6 @@ module _ (o : ℕ) (J : Tasks natural) (ok : Proper J) (first second : List ℕ)
         by ih (inr z) = go ih z (omega (arith, ltb-false (En t) (ectOf (st .leaves)) z, tree.ect-is J ok first rk (st .leaves) (Th t) (lam st) (shape t st (c .inv))))
 
     -- the start
-    tab-length : (f : ℕ → ℕ) (a d : ℕ) → length (tabulate f a d) ≡ d
-    unfolding tabulate
-    tab-length f a zero = refl
-    tab-length f a (suc d) = ap suc (tab-length f (suc a) d)
-
-    tab-at : (f : ℕ → ℕ) (a d k : ℕ) → k < d → getD (tabulate f a d) k 0 ≡ f (a + k)
-    unfolding tabulate
-    tab-at f a zero k q = absurd (omega arith)
-    tab-at f a (suc d) zero q = let z : a ≡ a + 0 = omega arith in ap f z
-    tab-at f a (suc d) (suc k) q = let z : suc a + k ≡ a + suc k = omega arith in tab-at f (suc a) d k (omega arith) ∙ ap f z
-
     abbrev pub st₀ : State
     st₀ = record { leaves = replicate n white; starts = tabulate (J .earliest) 0 n; posts = [] }
 

@@ -96,10 +96,11 @@ module _ (o : ℕ) (J : Tasks natural) (ok : Proper J) (first second : List ℕ)
     spot x = length (thetaOf (whiteAt ls) (taskAt J first) 0 x)
 
     pub from-spot : (x : ℕ) → x < n → drop (spot x) (theta J first ls) ≡ thetaOf (whiteAt ls) (taskAt J first) x (n - x)
-    unfolding spot theta
+    unfolding spot
     from-spot x q =
         let z : n ≡ x + (n - x) = omega arith in
-        ap (λ (d : ℕ). drop (spot x) (thetaOf (whiteAt ls) (taskAt J first) 0 d)) z
+        ap (drop (spot x)) (theta-is J first ls)
+        ∙ ap (λ (d : ℕ). drop (spot x) (thetaOf (whiteAt ls) (taskAt J first) 0 d)) z
         ∙ ap (drop (spot x)) (theta-append (whiteAt ls) (taskAt J first) 0 x (n - x))
         ∙ drop-all (thetaOf (whiteAt ls) (taskAt J first) 0 x) (thetaOf (whiteAt ls) (taskAt J first) (0 + x) (n - x))
         ∙ ap (λ (a : ℕ). thetaOf (whiteAt ls) (taskAt J first) a (n - x)) (the x)

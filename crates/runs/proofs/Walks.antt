@@ -28,6 +28,7 @@ use Rattle.trees.specs.Searches.{thetaOf}
 use Rattle.trees.proofs.Roots as tree
 use Rattle.trees.proofs.Thetas.{theta-none, theta-white, theta-skip}
 use Rattle.scheduling.specs.Scheduling.{Allows, Admits}
+use Rattle.runs.proofs.Clauses.{within-none, within-more, conflict-hit, conflict-miss, propagation-hit, propagation-miss, bounds-hit, bounds-miss}
 
 -- what the atoms say of k: nothing, or u ≤ z ≤ v
 abbrev pub Silent : List Atom → ℕ → Type 0
@@ -152,36 +153,28 @@ module _ (o : ℕ) (J : Tasks natural) (ok : Proper J) (first second : List ℕ)
   out-next : (a k : ℕ) → k < n → rank k ≡ a → Out (suc a) k
   out-next a k q z x r t y e = omega (arith, rk .back x t, ap rank e)
 
-  within-cons : (lo hi j : ℕ) (ks : List ℕ) → within o J lo hi (j ∷ ks) ≡ edges.atLeast o J j lo ∷ edges.atMost o J j (hi - J .duration j) ∷ within o J lo hi ks
-  unfolding within
-  within-cons lo hi j ks = refl
-
-  within-nil : (lo hi : ℕ) → within o J lo hi [] ≡ []
-  unfolding within
-  within-nil lo hi = refl
-
   th-nil : (a : ℕ) → th a 0 ≡ []
   th-nil a = theta-none (whiteAt ls) (taskAt J first) a
 
   -- what `within` says of the list from a on
   pub within-silent : (lo hi d a k : ℕ) → a + d ≡ n → Out a k → Silent (within o J lo hi (th a d)) k
-  within-silent lo hi zero a k z h = rw (th-nil a, within-nil lo hi) (λ z. tt)
+  within-silent lo hi zero a k z h = rw (th-nil a, within-none o J lo hi) (λ z. tt)
   within-silent lo hi (suc d) a k z h = by (within-silent lo hi d (suc a) k (omega arith) (out-later a k h)) (bool (Θ (T a)))
     where
       by : Silent (within o J lo hi (th (suc a) d)) k → (Θ (T a) ≡ true) ⊎ (Θ (T a) ≡ false) → Silent (within o J lo hi (th a (suc d))) k
-      by ih (inl y) = rw (th-in a d (omega arith) y, within-cons lo hi (T a) (th (suc a) d)) (two-silent (T a) k lo (hi - J .duration (T a)) (within o J lo hi (th (suc a) d)) (h a (omega arith) (omega arith) y) ih)
+      by ih (inl y) = rw (th-in a d (omega arith) y, within-more o J lo hi (T a) (th (suc a) d)) (two-silent (T a) k lo (hi - J .duration (T a)) (within o J lo hi (th (suc a) d)) (h a (omega arith) (omega arith) y) ih)
       by ih (inr y) = rw (th-out a d (omega arith) y) ih
 
   pub within-says : (lo hi d a k : ℕ) → a + d ≡ n → k < n → Θ k ≡ true → a ≤ rank k → Says (within o J lo hi (th a d)) k (at lo) (at (hi - J .duration k))
   within-says lo hi zero a k z small mem q = absurd (omega (arith, rk .placed k small))
   within-says lo hi (suc d) a k z small mem q = elim (ℕ-discrete (rank k) a) [
     | yes w ↦ (let e : k ≡ T a = placed a k small w in
-        rw (th-in a d (omega arith) (rw e at mem), within-cons lo hi (T a) (th (suc a) d), ← e) (two-here k lo (hi - J .duration k) (within o J lo hi (th (suc a) d)) (within-silent lo hi d (suc a) k (omega arith) (out-next a k small w))))
+        rw (th-in a d (omega arith) (rw e at mem), within-more o J lo hi (T a) (th (suc a) d), ← e) (two-here k lo (hi - J .duration k) (within o J lo hi (th (suc a) d)) (within-silent lo hi d (suc a) k (omega arith) (out-next a k small w))))
     | no w ↦ by (within-says lo hi d (suc a) k (omega arith) small mem (omega arith)) (bool (Θ (T a))) (λ e. w (omega (arith, ap rank e, rk .back a (omega arith))))
   ]
     where
       by : Says (within o J lo hi (th (suc a) d)) k (at lo) (at (hi - J .duration k)) → (Θ (T a) ≡ true) ⊎ (Θ (T a) ≡ false) → (T a ≡ k → ⊥) → Says (within o J lo hi (th a (suc d))) k (at lo) (at (hi - J .duration k))
-      by ih (inl y) ne = rw (th-in a d (omega arith) y, within-cons lo hi (T a) (th (suc a) d)) (two-other (T a) k lo (hi - J .duration (T a)) (within o J lo hi (th (suc a) d)) (at lo) (at (hi - J .duration k)) ne ih)
+      by ih (inl y) ne = rw (th-in a d (omega arith) y, within-more o J lo hi (T a) (th (suc a) d)) (two-other (T a) k lo (hi - J .duration (T a)) (within o J lo hi (th (suc a) d)) (at lo) (at (hi - J .duration k)) ne ih)
       by ih (inr y) ne = rw (th-out a d (omega arith) y) ih
 
   -- where the overload's walk stops ---------------------------------------------------------------------------------------------
@@ -194,15 +187,10 @@ module _ (o : ℕ) (J : Tasks natural) (ok : Proper J) (first second : List ℕ)
     pub over : c < ea m + processing J (onward m)
     pub is : as′ ≡ conflict-of o J c (processing J (onward m)) (ea m) (th m left)
 
-  conflict-hit : (c p k : ℕ) (ks : List ℕ) → ltb c (J .earliest k + p) ≡ true → conflict o J c p (k ∷ ks) ≡ conflict-of o J c p (J .earliest k) (k ∷ ks)
-  unfolding conflict
-  conflict-hit c p k [] y = refl
-  conflict-hit c p k (j ∷ ks) y = rw (y, conflict)
-
-  conflict-miss : (c p k : ℕ) (ks : List ℕ) → ltb c (J .earliest k + p) ≡ false → (ks ≡ [] → ⊥) → conflict o J c p (k ∷ ks) ≡ conflict o J c (p - J .duration k) ks
-  unfolding conflict
-  conflict-miss c p k [] y ne = absurd (ne refl)
-  conflict-miss c p k (j ∷ ks) y ne = rw (y, conflict)
+  -- one step of it, where tasks are left
+  conflict-on : (c p k : ℕ) (ks : List ℕ) → ltb c (J .earliest k + p) ≡ false → (ks ≡ [] → ⊥) → conflict o J c p (k ∷ ks) ≡ conflict o J c (p - J .duration k) ks
+  conflict-on c p k [] y ne = absurd (ne refl)
+  conflict-on c p k (j ∷ ks) y ne = conflict-miss o J c p k j ks y
 
   -- a white leaf is in the list
   th-some : (d a x : ℕ) → a + d ≡ n → a ≤ x → x < n → Θ (T x) ≡ true → th a d ≡ [] → ⊥
@@ -233,11 +221,11 @@ module _ (o : ℕ) (J : Tasks natural) (ok : Proper J) (first second : List ℕ)
         small = omega arith;
         mem = v;
         over = omega (arith, e, ltb-true c (ea a + p) u);
-        is = rw (th-in a d (omega arith) v) (conflict-hit c p (T a) (th (suc a) d) u ∙ ap (λ (p : ℕ). conflict-of o J c p (ea a) (T a ∷ th (suc a) d)) e);
+        is = rw (th-in a d (omega arith) v) (conflict-hit o J c p (T a) (th (suc a) d) u ∙ ap (λ (p : ℕ). conflict-of o J c p (ea a) (T a ∷ th (suc a) d)) e);
       }
       by ih (inl v) (inr u) = elim (ℕ-discrete a x) [
         | yes w ↦ absurd (omega (arith, ltb-false c (ea a + p) u, e, rw (← w) at over))
-        | no w ↦ rw (th-in a d (omega arith) v, conflict-miss c p (T a) (th (suc a) d) u (th-some d (suc a) x (omega arith) (omega arith) r y))
+        | no w ↦ rw (th-in a d (omega arith) v, conflict-on c p (T a) (th (suc a) d) u (th-some d (suc a) x (omega arith) (omega arith) r y))
             (ih (p - J .duration (T a)) (omega (arith, e, step a (omega arith) v)) (omega arith))
       ]
 
@@ -255,16 +243,6 @@ module _ (o : ℕ) (J : Tasks natural) (ok : Proper J) (first second : List ℕ)
       pub over : c < reach m
       pub before : (j : ℕ) → a ≤ j → j < m → Θ (T j) ≡ true → reach j ≤ c
       pub is : as′ ≡ propagation-of o J i b (processing J (onward m)) (min (J .earliest i) (ea m)) (th m left)
-
-    prop-hit : (p k : ℕ) (ks : List ℕ) → ltb c (min (J .earliest i) (J .earliest k) + p + J .duration i) ≡ true
-        → propagation o J i b c p (k ∷ ks) ≡ propagation-of o J i b p (min (J .earliest i) (J .earliest k)) (k ∷ ks)
-    unfolding propagation
-    prop-hit p k ks y = rw (y, propagation)
-
-    prop-miss : (p k : ℕ) (ks : List ℕ) → ltb c (min (J .earliest i) (J .earliest k) + p + J .duration i) ≡ false
-        → propagation o J i b c p (k ∷ ks) ≡ propagation o J i b c (p - J .duration k) ks
-    unfolding propagation
-    prop-miss p k ks y = rw (y, propagation)
 
     -- one place more before the walk
     earlier : (a : ℕ) (as′ : List Atom) → (Θ (T a) ≡ true → reach a ≤ c) → First (suc a) as′ → First a as′
@@ -301,11 +279,11 @@ module _ (o : ℕ) (J : Tasks natural) (ok : Proper J) (first second : List ℕ)
           mem = v;
           over = omega (arith, e, ltb-true c (min (J .earliest i) (ea a) + p + J .duration i) u);
           before = λ j q r y. absurd (omega arith);
-          is = rw (th-in a d (omega arith) v) (prop-hit p (T a) (th (suc a) d) u ∙ ap (λ (p : ℕ). propagation-of o J i b p (min (J .earliest i) (ea a)) (T a ∷ th (suc a) d)) e);
+          is = rw (th-in a d (omega arith) v) (propagation-hit o J i b c p (T a) (th (suc a) d) u ∙ ap (λ (p : ℕ). propagation-of o J i b p (min (J .earliest i) (ea a)) (T a ∷ th (suc a) d)) e);
         }
         by ih (inl v) (inr u) = elim (ℕ-discrete a x) [
           | yes w ↦ absurd (omega (arith, ltb-false c (min (J .earliest i) (ea a) + p + J .duration i) u, e, rw (← w) at over))
-          | no w ↦ rw (th-in a d (omega arith) v, prop-miss p (T a) (th (suc a) d) u)
+          | no w ↦ rw (th-in a d (omega arith) v, propagation-miss o J i b c p (T a) (th (suc a) d) u)
               (earlier a (propagation o J i b c (p - J .duration (T a)) (th (suc a) d)) (λ _. omega (arith, e, ltb-false c (min (J .earliest i) (ea a) + p + J .duration i) u))
               (ih (p - J .duration (T a)) (omega (arith, e, step a (omega arith) v)) (omega arith)))
         ]
@@ -323,15 +301,6 @@ module _ (o : ℕ) (J : Tasks natural) (ok : Proper J) (first second : List ℕ)
       pub attains : ea m + processing J (onward m) ≡ b
       pub says : (k : ℕ) → k < n → Θ k ≡ true → a ≤ rank k → Says as′ k (at (low m k)) (at (last - J .duration k))
       pub silent : (k : ℕ) → Out a k → Silent as′ k
-
-    bounds-hit : (p k : ℕ) (ks : List ℕ) → eqb b (J .earliest k + p) ≡ true → bounds o J b r last p (k ∷ ks) ≡ within o J (b - p) last (k ∷ ks)
-    unfolding bounds
-    bounds-hit p k ks y = rw (y, bounds)
-
-    bounds-miss : (p k : ℕ) (ks : List ℕ) → eqb b (J .earliest k + p) ≡ false
-        → bounds o J b r last p (k ∷ ks) ≡ edges.atLeast o J k r ∷ edges.atMost o J k (last - J .duration k) ∷ bounds o J b r last (p - J .duration k) ks
-    unfolding bounds
-    bounds-miss p k ks y = rw (y, bounds)
 
     found-here : (d a p : ℕ) → a + suc d ≡ n → Θ (T a) ≡ true → p ≡ processing J (onward a) → b ≡ ea a + p → Second a (within o J (b - p) last (th a (suc d)))
     found-here d a p z v e att = record {
@@ -390,8 +359,8 @@ module _ (o : ℕ) (J : Tasks natural) (ok : Proper J) (first second : List ℕ)
         by : IH → (Θ (T a) ≡ true) ⊎ (Θ (T a) ≡ false) → (eqb b (ea a + p) ≡ true) ⊎ (eqb b (ea a + p) ≡ false) → Second a (bounds o J b r last p (th a (suc d)))
         by ih (inr v) u = elim (ℕ-discrete a x)
             [ yes w ↦ clash (rw (← w) at y) v | no w ↦ rw (th-out a d (omega arith) v) (over v (ih p (e ∙ skip a (omega arith) v) (omega arith))) ]
-        by ih (inl v) (inl u) = rw (th-in a d (omega arith) v, bounds-hit p (T a) (th (suc a) d) u, ← th-in a d (omega arith) v) (found-here d a p z v e (eqb-true b (ea a + p) u))
+        by ih (inl v) (inl u) = rw (th-in a d (omega arith) v, bounds-hit o J b r last p (T a) (th (suc a) d) u, ← th-in a d (omega arith) v) (found-here d a p z v e (eqb-true b (ea a + p) u))
         by ih (inl v) (inr u) = elim (ℕ-discrete a x) [
           | yes w ↦ absurd (eqb-false b (ea a + p) u (omega (arith, e, subst (λ (x : ℕ). ea x + processing J (onward x) ≡ b) (sym w) att)))
-          | no w ↦ rw (th-in a d (omega arith) v, bounds-miss p (T a) (th (suc a) d) u) (passed d a p z v (ih (p - J .duration (T a)) (omega (arith, e, step a (omega arith) v)) (omega arith)))
+          | no w ↦ rw (th-in a d (omega arith) v, bounds-miss o J b r last p (T a) (th (suc a) d) u) (passed d a p z v (ih (p - J .duration (T a)) (omega (arith, e, step a (omega arith) v)) (omega arith)))
         ]

@@ -68,3 +68,11 @@ pub instances : map answer (A ∷ B ∷ C ∷ D ∷ E ∷ F ∷ G ∷ [])
     ∷ []
 unfolding propagate run outer inner conflict propagation bounds within tabulate heightFrom sort insert index numbers width root responsible theta joinOf isEmpty gray tested descentP descentEct stepP stepEct searchP searchEct thetaOf nodeOver
 instances = refl
+
+-- none of the paper's: the reason takes the first task's own latest start, 8, and not a later one
+abbrev later : Input
+later = (0, 8, 1) ∷ (5, 5, 4) ∷ (0, 20, 5) ∷ []
+
+pub own-latest-start : answer later ≡ trace (record { task = 2; bound = pos 9; reason = atLeast 0 0 ∷ atMost 0 8 ∷ atLeast 1 5 ∷ atMost 1 5 ∷ atLeast 2 0 ∷ [] } ∷ []) done (0 ∷ 5 ∷ 9 ∷ []) (0 ∷ 2 ∷ 1 ∷ []) (2 ∷ 0 ∷ 1 ∷ [])
+unfolding propagate run outer inner conflict propagation bounds within tabulate heightFrom sort insert index numbers width root responsible theta joinOf isEmpty gray tested descentP descentEct stepP stepEct searchP searchEct thetaOf nodeOver
+own-latest-start = refl

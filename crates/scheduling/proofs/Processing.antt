@@ -32,7 +32,11 @@ module _ (J : Tasks natural) where
       each k q (inl y) = omega (arith, term-true S k y, term-true Ω k (h k (record { small = q; mem = y })))
       each k q (inr z) = omega (arith, term-false S k z)
 
-  -- of all tasks, and of two sets with the same tasks
+  -- as a sum, of all tasks, and of two sets with the same tasks
+  pub processing-is : (Ω : TaskSet) → processing J Ω ≡ total (λ k. cond (Ω k) (J .duration k) 0) (J .count)
+  unfolding processing
+  processing-is Ω = refl
+
   pub processing-all : processing J (λ _. true) ≡ total (J .duration) (J .count)
   unfolding processing
   processing-all = refl

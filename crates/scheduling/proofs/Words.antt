@@ -1,17 +1,21 @@
--- The words of atoms: none, one list after another, how many.
+-- The words of atoms: none, one more, one list after another, how many, and those of a stretch.
 -- Assumes nothing.
 use mathlib.Core.Path.{_≡_, refl, ap}
 use mathlib.Core.List.{List, [], _∷_, _++_}
-use Prim.Native.Nat.{_*_}
+use Prim.Native.Nat.{ℕ, zero, suc, _+_, _*_}
 use native.Mathlib.Omega.{arith}
 use lib.IntN.{ℤ, pos}
-use lib.ListN.{length}
+use lib.ListN.{length, take, drop}
 use Rattle.scheduling.specs.Scheduling.{Atom}
 use Rattle.scheduling.specs.Words.{atomWords}
 
 pub atoms-none : atomWords [] ≡ []
 unfolding atomWords
 atoms-none = refl
+
+pub atoms-more : (a : Atom) (rest : List Atom) → atomWords (a ∷ rest) ≡ pos (a .variable) ∷ pos (a .kind) ∷ a .value ∷ atomWords rest
+unfolding atomWords
+atoms-more a rest = refl
 
 pub atoms-append : (xs ys : List Atom) → atomWords (xs ++ ys) ≡ atomWords xs ++ atomWords ys
 unfolding atomWords
@@ -22,3 +26,16 @@ pub atoms-length : (xs : List Atom) → length (atomWords xs) ≡ 3 * length xs
 unfolding atomWords
 atoms-length [] = refl
 atoms-length (x ∷ xs) = omega (arith, atoms-length xs)
+
+-- the words of the atoms from the f-th on, and of the first c
+pub drop-words : (f : ℕ) (xs : List Atom) → drop (3 * f) (atomWords xs) ≡ atomWords (drop f xs)
+unfolding atomWords
+drop-words zero xs = refl
+drop-words (suc f) [] = let z : 3 * suc f ≡ suc (3 * f + 2) = omega arith in rw z refl
+drop-words (suc f) (x ∷ xs) = let z : 3 * suc f ≡ suc (suc (suc (3 * f))) = omega arith in rw z (drop-words f xs)
+
+pub take-words : (c : ℕ) (xs : List Atom) → take (3 * c) (atomWords xs) ≡ atomWords (take c xs)
+unfolding atomWords
+take-words zero xs = refl
+take-words (suc c) [] = let z : 3 * suc c ≡ suc (3 * c + 2) = omega arith in rw z refl
+take-words (suc c) (x ∷ xs) = let z : 3 * suc c ≡ suc (suc (suc (3 * c))) = omega arith in rw z (ap (λ (l : List ℤ). pos (x .variable) ∷ pos (x .kind) ∷ x .value ∷ l) (take-words c xs))

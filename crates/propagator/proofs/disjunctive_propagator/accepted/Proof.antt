@@ -114,7 +114,7 @@ returns c =
     let u = c .before .before .before .before .before .before .before .before .before .before .before .before .before .before .before .before .before .before .before .before .before .before in
     let n = u .before .before in
     let q = n .before in
-    left (start q .args .«record») (start q .args .earliest .now) (start q .args .latest .now) (length (start q .args .posts .now)) (length (start q .args .atoms .now)) (start q .pre) (long (start q)) (long₁ (start q)) (long₂ (start q)) (est q .moments-of .ensures) (lst q .moments-of2 .ensures) (lct q .completions .ensures) (first q .sort-by-key .ensures) (keys q .reversed .ensures) (q .sort-by-key2 .ensures)
+    left (start q .args .«record») (start q .args .earliest .now) (start q .args .latest .now) (length (start q .args .posts .now)) (length (start q .args .atoms .now)) (start q .pre) (long (start q)) (long₁ (start q)) (long₂ (start q)) (est q .moments-of .ensures) (lst q .moments-of2 .ensures) (lct q .completions .ensures) (first q .sort-by-key .ensures) (keys q .reversed .ensures) (q .sort-by-key2 .ensures) refl refl
     (c .before .before .before .edge-finding .ensures (begun (start q .args .«record») (start q .args .earliest .now) (start q .args .latest .now) (length (start q .args .posts .now)) (length (start q .args .atoms .now)) (start q .pre) (long (start q)) (long₁ (start q)) (long₂ (start q)) (est q .moments-of .ensures) (lst q .moments-of2 .ensures) (lct q .completions .ensures) (first q .sort-by-key .ensures) (keys q .reversed .ensures) (q .sort-by-key2 .ensures) (n .new .ensures .0) (n .new .ensures .1) (u .update .ensures)
     (c .before .before .before .before .before .before .before .before .before .before .before .before .before .before .before .fill .ensures (fillable (start q .args .«record») (start q .args .earliest .now) (start q .args .latest .now) (length (start q .args .posts .now)) (length (start q .args .atoms .now)) (start q .pre) (long (start q)) (long₁ (start q)) (long₂ (start q)) (est q .moments-of .ensures) (lst q .moments-of2 .ensures) (lct q .completions .ensures) (first q .sort-by-key .ensures) (keys q .reversed .ensures) (q .sort-by-key2 .ensures) (n .new .ensures .0) (n .new .ensures .1) (u .update .ensures))) refl refl))
 

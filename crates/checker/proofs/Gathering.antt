@@ -4,7 +4,6 @@ use mathlib.Core.Path.{_≡_, refl, sym, ap, subst, _∙_}
 use mathlib.Core.Bool.{Bool, true, false, cond, not, _&&_, _||_}
 use mathlib.Core.List.{List, [], _∷_, map}
 use mathlib.Core.Logic.{_⊎_, inl, inr}
-use mathlib.Core.Option.{Option, some, none}
 use Prim.Native.Nat.{ℕ, zero, suc, _+_, _≤_, _<_, min, max}
 use native.Mathlib.Omega.{arith}
 use native.Mathlib.Decide.{decLe}
@@ -20,26 +19,26 @@ use Rattle.scheduling.specs.Scheduling.{natural, Tasks, Proper, TaskSet, In, No
 use Rattle.scheduling.proofs.Scan.{ByEarliest}
 use Rattle.trees.specs.Leaves.{Leaf, empty, white, inTheta, inLambda}
 use Rattle.trees.proofs.Roots as tree
-use Rattle.checker.specs.Formulas.{tasks, any, lowest, highest, order, ectOf}
+use Rattle.checker.specs.Formulas.{any, lowest, highest, order, ectOf}
 
-getD-map-in : {A B : Type 0} (f : A → B) (l : List A) (k : ℕ) (a : A) (b : B) → k < length l → getD (map f l) k b ≡ f (getD l k a)
+pub getD-map-in : {A B : Type 0} (f : A → B) (l : List A) (k : ℕ) (a : A) (b : B) → k < length l → getD (map f l) k b ≡ f (getD l k a)
 getD-map-in f [] k a b q = absurd (omega arith)
 getD-map-in f (x ∷ xs) zero a b q = refl
 getD-map-in f (x ∷ xs) (suc k) a b q = getD-map-in f xs k a b (omega arith)
 
-module _ (n : ℕ) (duration : ℕ → ℕ) (lower upper : ℕ → Option ℤ) where
-  abbrev J : Tasks natural
-  J = tasks n duration lower upper
+module _ (J : Tasks natural) where
+  abbrev n : ℕ
+  n = J .count
 
   module _ (Ω : TaskSet) where
     abbrev low : ℕ → ℕ
-    low = lowest n duration lower upper Ω
+    low = lowest J Ω
 
     abbrev high : ℕ → ℕ
-    high = highest n duration lower upper Ω
+    high = highest J Ω
 
     abbrev some-of : ℕ → Bool
-    some-of = any n duration lower upper Ω
+    some-of = any Ω
 
     any-suc : (k : ℕ) → some-of (suc k) ≡ some-of k || Ω k
     unfolding any
@@ -159,7 +158,7 @@ module _ (n : ℕ) (duration : ℕ → ℕ) (lower upper : ℕ → Option ℤ) w
 
     -- the tree
     abbrev first : List ℕ
-    first = order n duration lower upper
+    first = order J Ω
 
     abbrev colour : ℕ → Leaf
     colour k = cond (Ω k) white empty
@@ -172,7 +171,7 @@ module _ (n : ℕ) (duration : ℕ → ℕ) (lower upper : ℕ → Option ℤ) w
     gray-cond true = refl
     gray-cond false = refl
 
-    by-order : ByEarliest J (λ j. getD first j 0) (λ k. index first k)
+    pub by-order : ByEarliest J (λ j. getD first j 0) (λ k. index first k)
     by-order =
         let r : Ordered n (λ j. getD first j 0) (λ k. index first k) (λ j k. leb (J .earliest j) (J .earliest k) ≡ true)
         = sort-ordered (λ j k. leb (J .earliest j) (J .earliest k)) (key-whole (J .earliest)) (key-chain (J .earliest)) n (numbers 0 n) (numbers-permute n) in
@@ -192,5 +191,5 @@ module _ (n : ℕ) (duration : ℕ → ℕ) (lower upper : ℕ → Option ℤ) w
           at : (k : ℕ) → k < n → getD (map colour first) (index first k) empty ≡ colour k
           at k q = getD-map-in colour first (index first k) 0 empty (omega (arith, order-size, by-order .placed k q)) ∙ ap colour (by-order .there k q)
 
-      pub ect-is : NonEmpty J Ω → Ect J Ω (ectOf n duration lower upper Ω)
+      pub ect-is : NonEmpty J Ω → Ect J Ω (ectOf J Ω)
       ect-is = tree.ect-of J ok first by-order (map colour first) Ω (λ _. false) shape

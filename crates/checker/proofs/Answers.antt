@@ -1,0 +1,81 @@
+-- The answer of a check, test by test.
+-- Assumes nothing.
+use mathlib.Core.Path.{_≡_, refl, sym, ap, _∙_}
+use mathlib.Core.List.{List}
+use Prim.Native.Nat.{ℕ, zero, suc}
+use native.Mathlib.Omega.{arith}
+use native.Mathlib.Decide.{ℕ-discrete}
+use lib.IntN.{ℤ}
+use lib.ListN.{length}
+use Rattle.integers.specs.Tests.{refusal}
+use Rattle.checking.specs.declared.variable_state.Application.{Application}
+use Rattle.checking.specs.declared.variable_state.Application.the-variants as application
+use Rattle.checking.specs.declared.variable_state.Applied.{Applied}
+use Rattle.checking.specs.Atoms.{consequentOf}
+use Rattle.checking.specs.States.{prepared}
+use Rattle.checking.proofs.Atoms.{right-lists}
+use Rattle.checking.proofs.Prepared.{prepared-right}
+use Rattle.records.specs.declared.record.Created.{Created}
+use Rattle.records.specs.declared.record.Creation.the-variants as creation
+use Rattle.records.specs.Records.{creationTests, created, newRecord}
+use Rattle.records.proofs.Creation.{created-new, created-not}
+use Rattle.checker.specs.declared.checker.Verdict.{Verdict}
+use Rattle.checker.specs.declared.checker.Verdict.the-variants.{Passed, NotPassed, Contradiction, Refused}
+use Rattle.checker.specs.Checks.{judged, concluded, checkAfter, checkOf, Checked}
+use Rattle.checker.specs.Holding.{Judgeable, Consequent}
+use Rattle.checker.proofs.Soundness.{check-sound}
+use Rattle.checker.proofs.Verdicts.{judgeable}
+
+module _ (ds ps cs : List ℤ) where
+  pub checked : (r : Verdict) → r ≡ checkOf ds ps cs → Checked ds ps cs r
+  checked r e = record { answer = e; sound = λ p. check-sound ds ps cs (sym e ∙ p) }
+
+  check-after : (n : ℕ) → refusal (creationTests ds) ≡ n → checkOf ds ps cs ≡ checkAfter ds n ps cs
+  unfolding checkOf
+  check-after n e = ap (λ (m : ℕ). checkAfter ds m ps cs) e
+
+  -- 1, 2 or 5
+  module _ (made : Created) (is : made ≡ created ds) where
+    pub turned-back : (n : ℕ) → made .answer ≡ creation.Refused n → Refused n ≡ checkOf ds ps cs
+    turned-back n a = elim (ℕ-discrete (refusal (creationTests ds)) 0) [
+      | yes z ↦ (let e : creation.Accepted ≡ creation.Refused n = sym (ap (λ (m : Created). m .answer) (is ∙ created-new ds z)) ∙ a in absurd (let w : _≡_ {A = ℕ} 0 1 = cc in omega arith))
+      | no z ↦ (let e : creation.Refused (refusal (creationTests ds)) ≡ creation.Refused n = sym (ap (λ (m : Created). m .answer) (is ∙ created-not ds (refusal (creationTests ds)) refl z)) ∙ a in by n z (let w : refusal (creationTests ds) ≡ n = cc in w))
+    ]
+      where
+        by : (n : ℕ) → (refusal (creationTests ds) ≡ 0 → ⊥) → refusal (creationTests ds) ≡ n → Refused n ≡ checkOf ds ps cs
+        by zero z e = absurd (z e)
+        by (suc n) z e = sym (check-after (suc n) e)
+
+    accepts : made .answer ≡ creation.Accepted → refusal (creationTests ds) ≡ 0
+    accepts a = elim (ℕ-discrete (refusal (creationTests ds)) 0) [
+      | yes z ↦ z
+      | no z ↦ (let e : creation.Refused (refusal (creationTests ds)) ≡ creation.Accepted = sym (ap (λ (m : Created). m .answer) (is ∙ created-not ds (refusal (creationTests ds)) refl z)) ∙ a in absurd (let w : _≡_ {A = ℕ} 0 1 = cc in omega arith))
+    ]
+
+    module _ (a : made .answer ≡ creation.Accepted) (applied : Applied) (same : applied ≡ prepared ps cs) where
+      check-is : checkOf ds ps cs ≡ concluded ds applied (consequentOf cs)
+      check-is = check-after 0 (accepts a) ∙ ap (λ (r : Applied). concluded ds r (consequentOf cs)) (sym same)
+
+      -- 7, 6, 21 and contradictions
+      concludes : (x : Application) → applied .answer ≡ x → checkOf ds ps cs ≡ concluded ds (record { answer = x; state = applied .state }) (consequentOf cs)
+      concludes x e = check-is ∙ ap (λ (y : Application). concluded ds (record { answer = y; state = applied .state }) (consequentOf cs)) e
+
+      pub contradicted : (x : ℕ) → applied .answer ≡ application.Contradiction x → Contradiction x ≡ checkOf ds ps cs
+      contradicted x e = sym (concludes (application.Contradiction x) e)
+
+      pub refused-atoms : (n : ℕ) → applied .answer ≡ application.Refused n → Refused n ≡ checkOf ds ps cs
+      refused-atoms n e = sym (concludes (application.Refused n) e)
+
+      -- 8 and the formula
+      module _ (e : applied .answer ≡ application.Consistent) where
+        consistent : prepared ps cs .answer ≡ application.Consistent
+        consistent = ap (λ (r : Applied). r .answer) (sym same) ∙ e
+
+        pub can-judge : Judgeable ds (applied .state) (made .«record» .count) (made .«record» .durations)
+        can-judge = rw (is, created-new ds (accepts a), same) (judgeable ds ps cs (accepts a) consistent)
+
+        pub consequent-right : Consequent cs
+        consequent-right = let (p, short, right) = right-lists ps cs (prepared-right ps cs consistent) in record { short = short; right = right }
+
+        pub concluded-by : (r : Verdict) → r ≡ judged ds (applied .state) (consequentOf cs) → r ≡ checkOf ds ps cs
+        concluded-by r j = j ∙ sym (concludes application.Consistent e)

@@ -1,0 +1,167 @@
+-- The leaves of the theta tree get their colours, one after the other, and its root then has the set's ect.
+-- Assumes nothing.
+use mathlib.Core.Path.{_≡_, refl, sym, ap, ap₂, subst, _∙_}
+use mathlib.Core.Bool.{Bool, true, false, cond}
+use mathlib.Core.Logic.{_⊎_, inl, inr}
+use mathlib.Core.List.{List}
+use Prim.Native.Nat.{ℕ, _+_, _≤_, _<_}
+use native.Mathlib.Omega.{arith}
+use lib.Dec.{leb}
+use lib.ListN.{length, getD, set, take, replicate, length-replicate, length-map}
+use lib.Seq.{set-getD, ext-getD, getD-take}
+use Rattle.integers.specs.Filling.{filled}
+use Rattle.integers.specs.Limits.{TASKS, DURATIONS}
+use Rattle.integers.specs.Orders.{sort, numbers, Permutes}
+use Rattle.integers.proofs.Bools.{bool}
+use Rattle.integers.proofs.Filling.{filled-none, filled-more, filled-length, filled-at, filled-past, getD-fresh}
+use Rattle.integers.proofs.Permutations.{numbers-permute}
+use Rattle.integers.proofs.Sorting.{sort-ext}
+use Rattle.scheduling.specs.Scheduling.{natural, Tasks, TaskSet, total}
+use Rattle.records.specs.Orders.{Numbered, byKey, noTasks, sortedOrder}
+use Rattle.records.proofs.Creation.{own-front, own-order}
+use Rattle.records.proofs.Sorted.{sorted-front, sorted-permutes, numbered}
+use Rattle.trees.specs.declared.theta_tree.ThetaTree.{ThetaTree}
+use Rattle.trees.specs.Leaves.{Leaf, empty, white, Limited, IsPlainTree}
+use Rattle.trees.specs.Mappings.{PlainNew}
+use Rattle.trees.specs.Nodes.{plainOf}
+use Rattle.trees.specs.Shapes.{width, heightFor}
+use Rattle.trees.specs.Words.{plainAt}
+use Rattle.trees.proofs.Roots as tree
+use Rattle.trees.proofs.Trees.{new-plain-tree, may-put-plain, was-put-plain, plain-root-of}
+use Rattle.checker.specs.Colouring.{Takes, Took, Colourable}
+use Rattle.checker.specs.Formulas.{order, colours, ectOf}
+use Rattle.checker.specs.Holding.{Held}
+use Rattle.checker.proofs.Gathering.{by-order, order-size, getD-map-in}
+
+-- The order array --------------------------------------------------------------------------------------------------------------
+
+zeros-long : length noTasks ≡ TASKS
+zeros-long = length-replicate {A = ℕ} 48 0
+
+own-long : (n : ℕ) → length (filled (λ k. k) n noTasks) ≡ TASKS
+own-long n = filled-length (λ k. k) n noTasks ∙ zeros-long
+
+-- of n tasks it can be sorted,
+pub own-numbered : (n : ℕ) → n ≤ TASKS → {l : List ℕ} → l ≡ filled (λ k. k) n noTasks → Numbered n l
+own-numbered n few z = subst (Numbered n) (sym z) (numbered n (filled (λ k. k) n noTasks) few (own-long n) (own-order n few))
+
+-- and then permutes them
+pub sorted-own : (n : ℕ) → n ≤ TASKS → (le : ℕ → ℕ → Bool) {l m : List ℕ} → l ≡ filled (λ k. k) n noTasks → m ≡ sortedOrder le n l → Permutes n (take n m)
+sorted-own n few le {l} {m} z s =
+    subst (λ (o : List ℕ). Permutes n (take n o)) (sym (s ∙ ap (sortedOrder le n) z))
+    (sorted-permutes le n (filled (λ k. k) n noTasks) (omega (arith, own-long n)) (own-order n few))
+
+-- The tree of the tasks that the arrays hold -----------------------------------------------------------------------------------
+
+module _ {J : Tasks natural} {Ω : TaskSet} {n : ℕ} {chosen : List Bool} {est durations : List ℕ} (h : Held J Ω n chosen est durations) where
+  -- the tree's numbers stay in their range
+  limited : Limited J (order J Ω)
+  limited =
+      tree.limited J (h .proper) (order J Ω) (by-order J Ω) (omega (arith, h .count, h .few)) (λ k q. h .early k (omega (arith, h .count))) (subst (λ (m : ℕ). total (J .duration) m ≤ DURATIONS) (sym (h .count)) (h .sum))
+
+  -- each leaf has one of the tasks
+  below : (x : ℕ) → x < n → getD (order J Ω) x 0 < n
+  below x q = omega (arith, h .count, by-order J Ω .task x (omega (arith, h .count)))
+
+  -- sorted by the keys in the array, the order is that of the earliest starts
+  sorted-is : sort (byKey est) (numbers 0 n) ≡ order J Ω
+  sorted-is =
+      sort-ext (byKey est) (λ j k. leb (J .earliest j) (J .earliest k)) (numbers 0 n)
+      (λ j k p q. ap₂ leb (h .start j (numbers-permute n .below j p)) (h .start k (numbers-permute n .below k q)))
+      ∙ ap (λ (m : ℕ). sort (λ j k. leb (J .earliest j) (J .earliest k)) (numbers 0 m)) (sym (h .count))
+
+  -- so each place of the sorted array has the task of its leaf
+  pub task-at : {l m : List ℕ} → l ≡ filled (λ k. k) n noTasks → m ≡ sortedOrder (byKey est) n l → (x : ℕ) → x < n → getD m x 0 ≡ getD (order J Ω) x 0
+  task-at {l} {m} z s x q = sym (getD-take n m x 0 q) ∙ ap (λ (o : List ℕ). getD o x 0) front
+    where
+      front : take n m ≡ order J Ω
+      front =
+          ap (take n) (s ∙ ap (sortedOrder (byKey est) n) z)
+          ∙ sorted-front (byKey est) n (filled (λ k. k) n noTasks) (omega (arith, own-long n, h .few))
+          ∙ ap (sort (byKey est)) (own-front n (h .few))
+          ∙ sorted-is
+
+  -- a new tree over the sorted order
+  abbrev pub colourable : {l m : List ℕ} {t : ThetaTree} → l ≡ filled (λ k. k) n noTasks → m ≡ sortedOrder (byKey est) n l → PlainNew n m t → Colourable (t .«number_of_internal_nodes») n (t .nodes) m chosen est durations
+  colourable {t = t} z s new = record {
+    J = J;
+    Ω = Ω;
+    held = h;
+    tree = new-plain-tree J (order J Ω) (t .«number_of_internal_nodes») (t .nodes) (new .nodes) (new .size .complete ∙ ap (λ (m : ℕ). width (heightFor m)) (sym (h .count)));
+    task = task-at z s;
+  }
+
+  -- the root's ect
+  pub root-ect : {inner : ℕ} {words : List ℕ} → IsPlainTree J (order J Ω) (colours J Ω) inner words → plainAt words 0 .ect ≡ ectOf J Ω
+  root-ect t = ap (λ n. n .ect) (plain-root-of limited t)
+
+-- One leaf after the other -----------------------------------------------------------------------------------------------------
+
+module _ {inner n : ℕ} {words tasks : List ℕ} {chosen : List Bool} {est durations : List ℕ} (f : Colourable inner n words tasks chosen est durations) where
+  abbrev first : List ℕ
+  first = order (f .J) (f .Ω)
+
+  abbrev blank : List Leaf
+  blank = replicate (f .J .count) empty
+
+  -- the colour of the leaf at a place
+  abbrev colour : ℕ → Leaf
+  colour x = cond (f .Ω (getD first x 0)) white empty
+
+  -- the first x leaves have their colours
+  abbrev pub upTo : ℕ → List Leaf
+  upTo x = filled (λ j. cond (f .Ω (getD (order (f .J) (f .Ω)) j 0)) white empty) x (replicate (f .J .count) empty)
+
+  abbrev pub Shows : List Leaf → List ℕ → Type 0
+  Shows ls now = IsPlainTree (f .J) (order (f .J) (f .Ω)) ls inner now
+
+  pub none-coloured : Shows (upTo 0) words
+  none-coloured = subst (λ (ls : List Leaf). Shows ls words) (sym (filled-none colour blank)) (f .tree)
+
+  module _ (x : ℕ) (q : x < n) where
+    abbrev t : ℕ
+    t = getD tasks x 0
+
+    small : t < n
+    small = omega (arith, f .task x q, below (f .held) x q)
+
+    pub task-known : t < 48
+    task-known = omega (arith, small, f .held .few)
+
+    inside : x < f .J .count
+    inside = omega (arith, f .held .count)
+
+    chosen-is : getD chosen t false ≡ f .Ω (getD first x 0)
+    chosen-is = f .held .member t small ∙ ap (f .Ω) (f .task x q)
+
+    node-is : plainOf (getD est t 0 + getD durations t 0) (getD durations t 0) ≡ plainOf (f .J .earliest (getD first x 0) + f .J .duration (getD first x 0)) (f .J .duration (getD first x 0))
+    node-is = ap₂ (λ (e p : ℕ). plainOf (e + p) p) (f .held .start t small ∙ ap (f .J .earliest) (f .task x q)) (f .held .lasts t small ∙ ap (f .J .duration) (f .task x q))
+
+    pub takes : {now : List ℕ} → Shows (upTo x) now → Takes inner now x (getD chosen t false) (getD est t 0) (getD durations t 0)
+    takes i y = may-put-plain (limited (f .held)) i x inside white node-is
+
+    pub one-more : {now now′ : List ℕ} → Shows (upTo x) now → Took inner now now′ x (getD chosen t false) (getD est t 0) (getD durations t 0) → Shows (upTo (x + 1)) now′
+    one-more {now} {now′} i p = subst (λ (ls : List Leaf). Shows ls now′) (sym (filled-more colour x blank)) (by (bool (f .Ω (getD first x 0))))
+      where
+        by : (f .Ω (getD first x 0) ≡ true) ⊎ (f .Ω (getD first x 0) ≡ false) → Shows (set (upTo x) x (colour x)) now′
+        by (inl y) = rw y (was-put-plain (limited (f .held)) i x inside white node-is (p .put (chosen-is ∙ y)))
+        by (inr y) = subst (λ (ls : List Leaf). Shows ls now′) (sym same) (subst (Shows (upTo x)) (sym (p .left (chosen-is ∙ y))) i)
+          where
+            still : getD (upTo x) x empty ≡ colour x
+            still = filled-past colour x blank empty x (omega arith) ∙ getD-fresh empty (f .J .count) x ∙ rw y refl
+
+            same : set (upTo x) x (colour x) ≡ upTo x
+            same = ap (set (upTo x) x) (sym still) ∙ set-getD (upTo x) x empty
+
+  pub all-coloured : (x : ℕ) → x ≡ n → {now : List ℕ} → Shows (upTo x) now → Shows (colours (f .J) (f .Ω)) now
+  all-coloured x z {now} i = subst (λ (ls : List Leaf). Shows ls now) is i
+    where
+      count : x ≡ f .J .count
+      count = z ∙ sym (f .held .count)
+
+      size : length (upTo x) ≡ f .J .count
+      size = filled-length colour x blank ∙ length-replicate (f .J .count) empty
+
+      is : upTo x ≡ colours (f .J) (f .Ω)
+      is = ext-getD empty (upTo x) (colours (f .J) (f .Ω)) (size ∙ sym (length-map first (λ k. cond (f .Ω k) white empty) ∙ order-size (f .J) (f .Ω)))
+          (λ k q. filled-at colour x blank empty k (omega (arith, count, size)) (omega (arith, count, length-replicate (f .J .count) empty)) ∙ sym (getD-map-in (λ k. cond (f .Ω k) white empty) first k 0 empty (omega (arith, order-size (f .J) (f .Ω), size))))

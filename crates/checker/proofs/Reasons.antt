@@ -1,0 +1,98 @@
+-- A check of atoms, rather than of words, passes where they meet the formula.
+-- Assumes nothing.
+use mathlib.Core.Path.{_≡_, sym, ap, subst, _∙_}
+use mathlib.Core.Bool.{true}
+use mathlib.Core.List.{List, [], _∷_}
+use mathlib.Core.Option.{Option, some, none}
+use Prim.Native.Nat.{ℕ, zero, suc, _≤_, _<_}
+use native.Mathlib.Omega.{arith}
+use lib.IntN.{ℤ}
+use lib.ListN.{length}
+use Rattle.integers.specs.Limits.{VARIABLES, VALUE, PREMISES}
+use Rattle.integers.specs.Tests.{refusal}
+use Rattle.scheduling.specs.Scheduling.{whole, Tasks, TaskSet, In, Atom, Allows, Meets, Every, Admits, given, negation, negatedKind, Bounded, PassesFormula}
+use Rattle.scheduling.specs.Words.{atomWords}
+use Rattle.scheduling.proofs.Passed.{every-append}
+use Rattle.scheduling.proofs.Words.{atoms-length}
+use Rattle.checking.specs.Atoms.{atomsOf, first, consequentOf, rightWords}
+use Rattle.checking.specs.Holes.{Within}
+use Rattle.checking.proofs.Atoms.{atoms-none, atoms-words, words-none, words-right, lists-right, every-map, WellFormed}
+use Rattle.records.specs.Records.{creationTests}
+use Rattle.checker.specs.declared.checker.Verdict.the-variants.{Passed}
+use Rattle.checker.specs.Checks.{checkOf, consequentWords, tasksWith}
+use Rattle.checker.proofs.Soundness.{check-passes}
+
+-- An atom of a reason: ≥ or ≤, on a known variable, with a value within the limits.
+pub record Bound (a : Atom) : Type 0 where
+  pub known : a .variable < VARIABLES
+  pub kind : a .kind < 2
+  pub value : Within VALUE (a .value)
+
+-- a consequent is one, where there is one
+abbrev pub BoundIfAny : Option Atom → Type 0
+BoundIfAny none = Unit {0}
+BoundIfAny (some a) = Bound a
+
+bound-well : (a : Atom) → Bound a → WellFormed a
+bound-well a b = record { known = b .known; kind = omega (arith, b .kind); value = b .value }
+
+negated-kind : (k : ℕ) → k < 2 → negatedKind k < 3
+negated-kind zero h = omega arith
+negated-kind (suc zero) h = omega arith
+negated-kind (suc (suc k)) h = absurd (omega arith)
+
+pub words-of-reason : (as′ : List Atom) → Every Bound as′ → rightWords (atomWords as′) ≡ true
+words-of-reason as′ b = words-right as′ (every-map bound-well as′ b)
+
+-- the consequent's words, and back
+pub consequent-back : (c : Option Atom) → consequentOf (consequentWords c) ≡ c
+consequent-back none = ap first atoms-none
+consequent-back (some a) = ap first (atoms-words (a ∷ []))
+
+consequent-few : (c : Option Atom) → length (consequentWords c) ≤ 3
+consequent-few none = omega arith
+consequent-few (some a) = omega (arith, atoms-length (a ∷ []))
+
+consequent-right : (c : Option Atom) → BoundIfAny c → rightWords (consequentWords c) ≡ true
+consequent-right none b = words-none
+consequent-right (some a) b = words-of-reason (a ∷ []) (b, tt)
+
+given-kinds : (as′ : List Atom) (c : Option Atom) → Every Bound as′ → BoundIfAny c → Every (λ a. a .kind < 3) (given as′ c)
+given-kinds as′ none b d = every-map (λ a q. omega (arith, q .kind)) as′ b
+given-kinds as′ (some a) b d = every-append (λ a. a .kind < 3) as′ (negation a ∷ []) (every-map (λ a q. omega (arith, q .kind)) as′ b) (negated-kind (a .kind) (d .kind), tt)
+
+-- A reason that meets the formula, and whose atoms each variable can meet, passes the check.
+pub reason-check : (ds : List ℤ) (as′ : List Atom) (c : Option Atom) → refusal (creationTests ds) ≡ 0 → length as′ ≤ PREMISES → Every Bound as′ → BoundIfAny c
+    → ((x : ℕ) → x < VARIABLES → (z : ℤ) × Admits (given as′ c) x z) → PassesFormula (tasksWith ds) as′ c → checkOf ds (atomWords as′) (consequentWords c) ≡ Passed
+reason-check ds as′ c ok few b d w p =
+    check-passes ds (atomWords as′) (consequentWords c) ok (omega (arith, atoms-length as′, few))
+    (lists-right (atomWords as′) (consequentWords c) (words-of-reason as′ b) (consequent-few c) (consequent-right c d))
+    (back (Every (λ a. a .kind < 3)) (given-kinds as′ c b d))
+    (λ x h. let (z, m) = w x h in (z, back (λ l. Admits l x z) m))
+    (subst (λ (o : Option Atom). PassesFormula (tasksWith ds) (atomsOf (atomWords as′)) o) (sym (consequent-back c)) (subst (λ (l : List Atom). PassesFormula (tasksWith ds) l c) (sym (atoms-words as′)) p))
+  where
+    back : (P : List Atom → Type 0) → P (given as′ c) → P (given (atomsOf (atomWords as′)) (consequentOf (consequentWords c)))
+    back P h = subst (λ (o : Option Atom). P (given (atomsOf (atomWords as′)) o)) (sym (consequent-back c)) (subst (λ (l : List Atom). P (given l c)) (sym (atoms-words as′)) h)
+
+-- The formula reads of the tasks their number and their durations.
+module _ (J K : Tasks whole) (count : J .count ≡ K .count) (duration : (k : ℕ) → J .duration k ≡ K .duration k) where
+  back-in : {Ω : TaskSet} {k : ℕ} → In K Ω k → In J Ω k
+  back-in {Ω} {k} h = record { small = subst (λ (n : ℕ). k < n) (sym count) (h .small); mem = h .mem }
+
+  bounded-alike : (atoms : List Atom) (Ω : TaskSet) (B : Tasks whole) → Bounded J atoms Ω B → Bounded K atoms Ω B
+  bounded-alike atoms Ω B b = record {
+    same-count = b .same-count ∙ count;
+    same-duration = λ k. b .same-duration k ∙ duration k;
+    least = λ k h. b .least k (back-in h);
+    greatest = λ k h. b .greatest k (back-in h);
+    only = λ k q. b .only k (subst (λ (n : ℕ). k < n) (sym count) q);
+  }
+
+  pub passes-alike : (premises : List Atom) (c : Option Atom) → PassesFormula J premises c → PassesFormula K premises c
+  passes-alike premises none p = record { set = p .set; ranges = p .ranges; bounded = bounded-alike premises (p .set) (p .ranges) (p .bounded); formula = p .formula }
+  passes-alike premises (some a) p = record { set = p .set; ranges = p .ranges; bounded = bounded-alike (given premises (some a)) _ (p .ranges) (p .bounded); formula = p .formula }
+
+-- Starts that meet the atoms are admitted by them.
+pub meets-admits : (s : ℕ → ℤ) (as′ : List Atom) → Every (Meets s) as′ → (x : ℕ) → Admits as′ x (s x)
+meets-admits s [] h x = tt
+meets-admits s (a ∷ rest) h x = (λ z. subst (λ (j : ℕ). Allows a (s j)) z (h .0), meets-admits s rest (h .1) x)

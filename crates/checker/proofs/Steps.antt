@@ -1,0 +1,54 @@
+-- The loop over the tasks, task by task.
+-- Assumes nothing.
+use mathlib.Core.Path.{_≡_, refl, sym, ap, _∙_}
+use mathlib.Core.Bool.{Bool, true, false, cond, _||_}
+use mathlib.Core.List.{List}
+use Prim.Native.Nat.{ℕ, zero, suc, _+_, _≤_, _<_, min, max}
+use native.Mathlib.Numerals.{add-one}
+use native.Mathlib.Omega.{arith}
+use native.Mathlib.Decide.{decLt}
+use lib.ListN.{getD}
+use Rattle.integers.specs.Limits.{DURATIONS}
+use Rattle.scheduling.specs.Scheduling.{natural, Tasks, TaskSet, total, completion}
+use Rattle.scheduling.proofs.Sets.{total-none, total-more, total-mono}
+use Rattle.checker.specs.declared.intervals.Interval.{Interval}
+use Rattle.checker.specs.Formulas.{any, lowest, highest}
+use Rattle.checker.specs.Holding.{Held, Late, interval, gathered, intervalOf}
+
+module _ (J : Tasks natural) (Ω : TaskSet) where
+  pub none-gathered : interval false 4294967295 0 0 ≡ intervalOf J Ω 0
+  unfolding any lowest highest total
+  none-gathered = refl
+
+  pub one-gathered : (k : ℕ) → gathered (intervalOf J Ω k) (Ω k) (J .earliest k) (completion J k) (J .duration k) ≡ intervalOf J Ω (suc k)
+  unfolding any lowest highest total
+  one-gathered k = by (Ω k) (any Ω k) (lowest J Ω k) (highest J Ω k) (total (λ k. cond (Ω k) (J .duration k) 0) k)
+    where
+      by : (b a : Bool) (l h t : ℕ) → gathered (interval a l h t) b (J .earliest k) (completion J k) (J .duration k)
+          ≡ interval (a || b) (cond b (min l (J .earliest k)) l) (cond b (max h (completion J k)) h) (t + cond b (J .duration k) 0)
+      by true true l h t = refl
+      by true false l h t = refl
+      by false true l h t = ap (interval true l h) (omega arith)
+      by false false l h t = ap (interval false l h) (omega arith)
+
+-- a sum with one more number in it is still a part of the whole sum
+pub total-part : (f : ℕ → ℕ) (n i : ℕ) → i < n → total f i + f i ≤ total f n
+total-part f zero i q = absurd (omega arith)
+total-part f (suc n) i q =
+    let z : total f (suc n) ≡ total f n + f n = ap (total f) (sym (add-one n)) ∙ total-more f n in
+    elim (decLt i n) [ yes r ↦ omega (arith, total-part f n i r, z) | no r ↦ (let e : i ≡ n = omega arith in rw e (omega (arith, z))) ]
+
+module _ {J : Tasks natural} {Ω : TaskSet} {n : ℕ} {chosen : List Bool} {est durations lst : List ℕ} (h : Held J Ω n chosen est durations) (l : Late J n lst) (i : ℕ) (q : i < n) where
+  pub completion-fits : getD lst i 0 + getD durations i 0 < 4294967296
+  completion-fits = omega (arith, l .at i q, l .fits i q, h .lasts i q, h .sum, total-part (J .duration) n i q)
+
+  pub sum-fits : intervalOf J Ω i .p + getD durations i 0 < 4294967296
+  sum-fits = omega (arith, h .lasts i q, h .sum, total-part (J .duration) n i q, total-mono (λ k. cond (Ω k) (J .duration k) 0) (J .duration) i (λ k r. at-most (Ω k) (J .duration k)))
+    where
+      at-most : (b : Bool) (d : ℕ) → cond b d 0 ≤ d
+      at-most true d = omega arith
+      at-most false d = omega arith
+
+  pub next-gathered : (v r : Interval) → v ≡ intervalOf J Ω i → r ≡ gathered v (getD chosen i false) (getD est i 0) (getD lst i 0 + getD durations i 0) (getD durations i 0) → r ≡ intervalOf J Ω (i + 1)
+  next-gathered v r z e =
+      e ∙ rw (z, h .member i q, h .start i q, l .at i q, h .lasts i q, add-one i) (one-gathered J Ω i)

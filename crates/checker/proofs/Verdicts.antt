@@ -1,0 +1,178 @@
+-- From the bounds in the arrays and the words of the consequent to the verdict.
+-- Assumes nothing.
+use mathlib.Core.Path.{_≡_, refl, sym, ap, subst, _∙_}
+use mathlib.Core.Bool.{Bool, true, false, cond, _&&_}
+use mathlib.Core.List.{List}
+use mathlib.Core.Option.{Option, some, none}
+use Prim.Native.Nat.{ℕ, _+_, _≤_, _<_}
+use native.Mathlib.Omega.{arith}
+use lib.Dec.{ltb}
+use lib.IntN.{ℤ, pos, negsuc, natAbs}
+use lib.Signed.{_≤ℤ_}
+use lib.ListN.{length, getD, replicate, length-replicate}
+use borrow.Author.Tests.{lt-ltb, le-ltb}
+use Rattle.integers.specs.Limits.{TASKS, VALUE}
+use Rattle.integers.specs.Moments.{moment, zeroAt}
+use Rattle.integers.specs.Filling.{filled}
+use Rattle.integers.specs.Tests.{refusal}
+use Rattle.integers.proofs.Bools.{bool}
+use Rattle.integers.proofs.Filling.{filled-at}
+use Rattle.scheduling.specs.Scheduling.{natural, Tasks, TaskSet, Atom, total, given}
+use Rattle.trees.specs.Bounds.{LATEST}
+use Rattle.checking.specs.declared.int_ext.IntExt.{IntExt}
+use Rattle.checking.specs.declared.int_ext.IntExt.the-variants.{Int, NegativeInf, PositiveInf}
+use Rattle.checking.specs.declared.variable_state.VariableState.{VariableState}
+use Rattle.checking.specs.declared.variable_state.Application.the-variants as application
+use Rattle.checking.specs.Atoms.{atomAt, atomsOf, consequentOf, rightWords}
+use Rattle.checking.specs.States.{domainAt, prepared}
+use Rattle.checking.proofs.Atoms.{words-three, words-at, consequent-none, consequent-one, right-atom, right-lists}
+use Rattle.checking.proofs.Near.{prepared-near}
+use Rattle.records.specs.Orders.{noTasks}
+use Rattle.records.specs.Records.{durationAt, creationTests, newRecord}
+use Rattle.records.proofs.Creation.{created-lawful, same-sum}
+use Rattle.checker.specs.declared.checker.Verdict.{Verdict}
+use Rattle.checker.specs.declared.checker.Verdict.the-variants.{Passed, NotPassed, Contradiction, Refused}
+use Rattle.checker.specs.declared.bounds.Bounds.{Bounds}
+use Rattle.checker.specs.Formulas.{known, valueOf, bounded, tasks, _but_, overloadsSpan, comesAfter, overloaded, implied}
+use Rattle.checker.specs.Checks.{finite, lowerIn, upperIn, verdict, judged}
+use Rattle.checker.specs.Holding.{boundsBetween, knownAt, estAt, lstAt, boundsOf, Held, Late, Bounding, Judgeable, Consequent}
+use Rattle.checker.proofs.Formulas.{Reads, moments-proper}
+use Rattle.checker.proofs.Soundness.{reads, near-latest, durations-last}
+
+-- The words of a consequent ------------------------------------------------------------------------------------------------------
+module _ {words : List ℤ} (w : Consequent words) (some-words : length words ≡ 0 → ⊥) where
+  three : length words ≡ 3
+  three = omega (arith, w .short, words-three words (w .right) (omega (arith, some-words)))
+
+  pub variable-right : pos 0 ≤ℤ getD words 0 (pos 0)
+  variable-right = right-atom _ _ _ (words-at words 0 (omega (arith, three)) (w .right) .0) .variable
+
+-- The verdict --------------------------------------------------------------------------------------------------------------------
+module _ (ds : List ℤ) (s : VariableState) where
+  -- the tasks as the state bounds them, and those that it bounds on both sides
+  abbrev pub tasksOf : Tasks natural
+  tasksOf = tasks (length ds) (durationAt ds) (lowerIn s) (upperIn s)
+
+  abbrev pub twoSided : TaskSet
+  twoSided = bounded (length ds) (durationAt ds) (lowerIn s) (upperIn s)
+
+module _ {ds : List ℤ} {s : VariableState} {n : ℕ} {durations : List ℕ} (j : Judgeable ds s n durations) (b : Bounds) (same : b ≡ boundsOf s n) where
+  abbrev J : Tasks natural
+  J = tasksOf ds s
+
+  abbrev X : TaskSet
+  X = twoSided ds s
+
+  pub bounds-held : Bounding J X n b durations
+  bounds-held = subst (λ (x : Bounds). Bounding J X n x durations) (sym same) (j .bounding)
+
+  member : (i : ℕ) → i < n → getD (b .bounded) i false ≡ X i
+  member i q = bounds-held .held .member i q
+
+  module _ (words : List ℤ) where
+    pub alone : length words ≡ 0 → (o : Bool) → o ≡ overloadsSpan J X → verdict o ≡ judged ds s (consequentOf words)
+    unfolding overloaded
+    alone e o z = ap verdict z ∙ ap (judged ds s) (sym (consequent-none words e))
+
+    module _ (w : Consequent words) (some-words : length words ≡ 0 → ⊥) (i : ℕ) (z : pos i ≡ getD words 0 (pos 0)) where
+      abbrev on : ℕ → Verdict
+      on k = cond (ltb k (length ds) && X k) (verdict (implied (length ds) (durationAt ds) (lowerIn s) (upperIn s) k)) (Refused 8)
+
+      judged-is : on i ≡ judged ds s (consequentOf words)
+      judged-is = ap (λ (x : ℤ). on (natAbs x)) z ∙ ap (judged ds s) (sym (consequent-one words (three w some-words)))
+
+      pub no-task : n ≤ i → Refused 8 ≡ judged ds s (consequentOf words)
+      no-task q =
+          let no : ltb i (length ds) ≡ false = le-ltb i (length ds) (omega (arith, j .count)) in
+          sym (ap (λ (b : Bool). cond (b && X i) (verdict (implied (length ds) (durationAt ds) (lowerIn s) (upperIn s) i)) (Refused 8)) no) ∙ judged-is
+
+      pub no-bound : i < n → getD (b .bounded) i false ≡ false → Refused 8 ≡ judged ds s (consequentOf words)
+      no-bound q y =
+          let small : ltb i (length ds) ≡ true = lt-ltb i (length ds) (omega (arith, j .count)) in
+          let out : X i ≡ false = sym (member i q) ∙ y in
+          sym (ap (λ (b : Bool). cond (b && X i) (verdict (implied (length ds) (durationAt ds) (lowerIn s) (upperIn s) i)) (Refused 8)) small
+          ∙ ap (λ (b : Bool). cond b (verdict (implied (length ds) (durationAt ds) (lowerIn s) (upperIn s) i)) (Refused 8)) out) ∙ judged-is
+
+      pub bound-on : i < n → getD (b .bounded) i false ≡ true → (o : Bool) → o ≡ comesAfter J (X but i) i → verdict o ≡ judged ds s (consequentOf words)
+      unfolding implied
+      bound-on q y o e =
+          let small : ltb i (length ds) ≡ true = lt-ltb i (length ds) (omega (arith, j .count)) in
+          let inside : X i ≡ true = sym (member i q) ∙ y in
+          ap verdict e
+          ∙ sym (ap (λ (b : Bool). cond (b && X i) (verdict (implied (length ds) (durationAt ds) (lowerIn s) (upperIn s) i)) (Refused 8)) small
+          ∙ ap (λ (b : Bool). cond b (verdict (implied (length ds) (durationAt ds) (lowerIn s) (upperIn s) i)) (Refused 8)) inside) ∙ judged-is
+
+-- A prepared state can be judged -------------------------------------------------------------------------------------------------
+known-is : (l u : IntExt) → boundsBetween l u .known ≡ known (finite l) && known (finite u)
+known-is (Int x) (Int y) = refl
+known-is (Int x) NegativeInf = refl
+known-is (Int x) PositiveInf = refl
+known-is NegativeInf u = refl
+known-is PositiveInf u = refl
+
+abbrev side : IntExt → IntExt → Option ℤ → ℕ
+side l u o = moment zeroAt (cond (known (finite l) && known (finite u)) (valueOf o) (negsuc 2147483647))
+
+est-is : (l u : IntExt) → boundsBetween l u .est ≡ side l u (finite l)
+est-is (Int x) (Int y) = refl
+est-is (Int x) NegativeInf = refl
+est-is (Int x) PositiveInf = refl
+est-is NegativeInf u = refl
+est-is PositiveInf u = refl
+
+lst-is : (l u : IntExt) → boundsBetween l u .lst ≡ side l u (finite u)
+lst-is (Int x) (Int y) = refl
+lst-is (Int x) NegativeInf = refl
+lst-is (Int x) PositiveInf = refl
+lst-is NegativeInf u = refl
+lst-is PositiveInf u = refl
+
+-- a bound that is a number is at most LATEST as a moment, and the other moments are 0
+side-most : (l u : IntExt) (e : IntExt) → ((z : ℤ) → e ≡ Int z → moment zeroAt z ≤ LATEST) → side l u (finite e) ≤ LATEST
+side-most l u e h = by (known (finite l) && known (finite u)) e h
+  where
+    by : (b : Bool) (e : IntExt) → ((z : ℤ) → e ≡ Int z → moment zeroAt z ≤ LATEST) → moment zeroAt (cond b (valueOf (finite e)) (negsuc 2147483647)) ≤ LATEST
+    by true (Int z) h = h z refl
+    by true NegativeInf h = omega arith
+    by true PositiveInf h = omega arith
+    by false e h = omega arith
+
+module _ (ds ps cs : List ℤ) (ok : refusal (creationTests ds) ≡ 0) (consistent : prepared ps cs .answer ≡ application.Consistent) where
+  abbrev s : VariableState
+  s = prepared ps cs .state
+
+  abbrev n : ℕ
+  n = length ds
+
+  few : n ≤ TASKS
+  few = created-lawful ds ok .few
+
+  at : {A : Type 0} (f : ℕ → A) (d : A) (k : ℕ) → k < n → getD (filled f n (replicate TASKS d)) k d ≡ f k
+  at f d k q = filled-at f n (replicate TASKS d) d k q (omega (arith, few, length-replicate TASKS d))
+
+  abbrev l : ℕ → IntExt
+  l k = domainAt s k .«lower_bound»
+
+  abbrev u : ℕ → IntExt
+  u k = domainAt s k .«upper_bound»
+
+  pub judgeable : Judgeable ds s n (newRecord ds .durations)
+  judgeable = record {
+    count = refl;
+    bounding = record {
+      held = record {
+        proper = moments-proper (record { count = n; earliest = λ k. pos 0; latest = λ k. pos 0; duration = durationAt ds }) (durations-last ds ok) (given (atomsOf ps) (consequentOf cs)) (lowerIn s) (upperIn s) (reads ds ps cs few consistent);
+        count = refl;
+        few = few;
+        member = λ k q. at (knownAt s) false k q ∙ known-is (l k) (u k);
+        start = λ k q. at (estAt s) 0 k q ∙ est-is (l k) (u k);
+        lasts = λ k q. at (durationAt ds) 0 k q;
+        early = λ k q. side-most (l k) (u k) (l k) (λ z e. near-latest z (prepared-near ps cs k (omega (arith, few)) .lower z e));
+        sum = omega (arith, created-lawful ds ok .sum, same-sum ds few);
+      };
+      late = record {
+        at = λ k q. at (lstAt s) 0 k q ∙ lst-is (l k) (u k);
+        fits = λ k q. side-most (l k) (u k) (u k) (λ z e. near-latest z (prepared-near ps cs k (omega (arith, few)) .upper z e));
+      };
+    };
+  }

@@ -1,0 +1,90 @@
+use mathlib.Core.Path.{_≡_, sym, ap, _∙_}
+use mathlib.Core.Bool.{Bool, false}
+use Prim.Native.Nat.{ℕ, _-_, _≤_}
+use native.Mathlib.Omega.{arith}
+use lib.ListN.{replicate}
+use borrow.Author.Needs.{needs}
+use Rattle.integers.specs.Limits.{TASKS}
+use Rattle.integers.specs.Filling.{filled}
+use Rattle.integers.proofs.Filling.{filled-none, filled-store}
+use Rattle.checker.specs.declared.bounds.TaskBounds.{TaskBounds}
+use Rattle.checker.specs.Holding.{knownAt, estAt, lstAt, boundsOf}
+use Rattle.checker.proofs.bounds.bounds_of.Statement.{statement}
+use Rattle.checker.proofs.bounds.bounds_of.Tie as tie
+
+abbrev Inv-loop : tie.InvT-loop
+Inv-loop n state bounded₀ est₀ lst₀ i₀ bounded est lst i = (i ≤ n) × (bounded ≡ filled (knownAt state) i (replicate TASKS false)) × (est ≡ filled (estAt state) i (replicate TASKS 0)) × (lst ≡ filled (lstAt state) i (replicate TASKS 0))
+
+abbrev μ-loop : tie.MeasureT-loop
+μ-loop n state bounded₀ est₀ lst₀ i₀ bounded est lst i = n - i
+
+loop-holds : tie.Need-loop-holds Inv-loop μ-loop
+loop-holds c = (omega arith, sym (filled-none (knownAt (c .args .t1)) (replicate TASKS false)), sym (filled-none (estAt (c .args .t1)) (replicate TASKS 0)), sym (filled-none (lstAt (c .args .t1)) (replicate TASKS 0)))
+
+mul-task-bounds : tie.Need-mul-task-bounds Inv-loop μ-loop
+mul-task-bounds c = search needs
+
+element-copy-out-task-bounds : tie.Need-element-copy-out-task-bounds Inv-loop μ-loop
+element-copy-out-task-bounds c = search needs
+
+task-bounds-requires : tie.Need-task-bounds-requires Inv-loop μ-loop
+task-bounds-requires c κs = search needs
+
+array-write-bounded : tie.Need-array-write-bounded Inv-loop μ-loop
+array-write-bounded c = search needs
+
+mul-est : tie.Need-mul-est Inv-loop μ-loop
+mul-est c = search needs
+
+array-write-est : tie.Need-array-write-est Inv-loop μ-loop
+array-write-est c = search needs
+
+mul-lst : tie.Need-mul-lst Inv-loop μ-loop
+mul-lst c = search needs
+
+array-write-lst : tie.Need-array-write-lst Inv-loop μ-loop
+array-write-lst c = search needs
+
+add-i : tie.Need-add-i Inv-loop μ-loop
+add-i c = search needs
+
+loop-less : tie.Need-loop-less Inv-loop μ-loop
+loop-less c = search needs
+
+loop-again : tie.Need-loop-again Inv-loop μ-loop
+loop-again c =
+    let start = c .before .before .before .before in
+    let l = c .before .before .before .loop in
+    let z = c .task-bounds .ensures in (
+      omega arith,
+      filled-store (knownAt (start .args .t1)) (replicate TASKS false) (l .bounded) (l .i) (c .task-bounds .result .known) (l .inv .1) (ap (λ (b : TaskBounds). b .known) z),
+      filled-store (estAt (start .args .t1)) (replicate TASKS 0) (l .est) (l .i) (c .task-bounds .result .est) (l .inv .2) (ap (λ (b : TaskBounds). b .est) z),
+      filled-store (lstAt (start .args .t1)) (replicate TASKS 0) (l .lst) (l .i) (c .task-bounds .result .lst) (l .inv .3) (ap (λ (b : TaskBounds). b .lst) z),
+    )
+
+returns : tie.Need-returns Inv-loop μ-loop
+returns c =
+    let l = c .before .loop in
+    let s = c .before .before .args .t1 in
+    let e : l .i ≡ c .before .before .args .n = omega arith in
+    (λ k. record { bounded = l .inv .1 k; est = l .inv .2 k; lst = l .inv .3 k }) ∙ ap (boundsOf s) e
+
+pub bounds-of-spec : {M : Type 1} → statement M
+bounds-of-spec =
+    tie.close
+    (tie.spec
+    Inv-loop
+    μ-loop
+    loop-holds
+    mul-task-bounds
+    element-copy-out-task-bounds
+    task-bounds-requires
+    array-write-bounded
+    mul-est
+    array-write-est
+    mul-lst
+    array-write-lst
+    add-i
+    loop-less
+    loop-again
+    returns)

@@ -1,0 +1,109 @@
+use mathlib.Core.Path.{_≡_, sym, ap, subst, _∙_}
+use mathlib.Core.Bool.{Bool, true, false}
+use mathlib.Core.List.{List}
+use Prim.Native.Nat.{ℕ, _+_, _≤_, _<_, min}
+use native.Mathlib.Omega.{arith}
+use lib.ListN.{length, getD, set}
+use borrow.Author.Needs.{needs}
+use borrow.Author.Tests.{not-true, not-false}
+use Rattle.scheduling.specs.Scheduling.{natural, Tasks, TaskSet}
+use Rattle.checker.specs.Formulas.{_but_}
+use Rattle.checker.specs.Holding.{Held, Bounding}
+use Rattle.checker.proofs.Judging.{none-after, joint-fits, room-before, after-where, others-held}
+use Rattle.checker.proofs.checker.implied.Statement.{statement}
+use Rattle.checker.proofs.checker.implied.Tie as tie
+
+size : (c : tie.After-gather-arg2) → length (c .before .before .before .before .before .args .t1 .bounded) ≡ 48
+size c = search needs
+
+-- the tasks but i are those of the changed array
+held : (c : tie.After-gather-arg2) {J : Tasks natural} {Ω : TaskSet} → let a = c .before .before .before .before .before .args in Bounding J Ω (a .n) (a .t1) (a .durations .now) → Held J (Ω but a .i) (a .n) (set (a .t1 .bounded) (a .i) false) (a .t1 .est) (a .durations .now)
+held c d = let a = c .before .before .before .before .before in others-held (size c) (a .args .i) (a .pre .0) (d .held)
+
+array-write-others : tie.Need-array-write-others
+array-write-others c = search needs
+
+gather-requires : tie.Need-gather-requires
+gather-requires c κs =
+    let (q, (J, Ω, d)) = c .before .before .before .before .before .pre in
+    (J, Ω but c .before .before .before .before .before .args .i, held c d, d .late)
+
+returns : tie.Need-returns
+returns c = λ J Ω d.
+    let g = c .before .before .gather in
+    let h = held (c .before .before .before) d in
+    none-after h (g .result) (g .ensures J (Ω but c .before .before .before .before .before .before .before .before .args .i) h (d .late)) (d .late) (c .before .before .before .before .before .before .before .before .args .i) (c .before .before .before .before .before .before .before .before .pre .0) (not-true (g .result .some) (c .if1 .taken))
+
+mul-min : tie.Need-mul-min
+mul-min c = search needs
+
+element-copy-out-min : tie.Need-element-copy-out-min
+element-copy-out-min c = search needs
+
+min-requires : tie.Need-min-requires
+min-requires c κs = search needs
+
+add-if2 : tie.Need-add-if2
+add-if2 c =
+    let (q, (J, Ω, d)) = c .before .before .before .before .before .before .before .before .before .before .before .pre in
+    let g = c .before .before .before .before .before .gather in
+    let h = held (c .before .before .before .before .before .before) d in
+    omega (arith, c .before .min .ensures, joint-fits h (g .result) (g .ensures J (Ω but c .before .before .before .before .before .before .before .before .before .before .before .args .i) h (d .late)) (d .late) (c .before .before .before .before .before .before .before .before .before .before .before .args .i) q (not-false (g .result .some) (c .before .before .before .if1 .left)) .0)
+
+mul-if2 : tie.Need-mul-if2
+mul-if2 c = search needs
+
+element-copy-out-if2 : tie.Need-element-copy-out-if2
+element-copy-out-if2 c = search needs
+
+add-if2-2 : tie.Need-add-if2-2
+add-if2-2 c =
+    let (q, (J, Ω, d)) = c .before .before .before .before .before .before .before .before .before .before .before .before .pre in
+    let g = c .before .before .before .before .before .before .gather in
+    let h = held (c .before .before .before .before .before .before .before) d in
+    omega (arith, c .before .before .min .ensures, joint-fits h (g .result) (g .ensures J (Ω but c .before .before .before .before .before .before .before .before .before .before .before .before .args .i) h (d .late)) (d .late) (c .before .before .before .before .before .before .before .before .before .before .before .before .args .i) q (not-false (g .result .some) (c .before .before .before .before .if1 .left)) .1)
+
+returns-2 : tie.Need-returns-2
+returns-2 c = λ J Ω d.
+    let g = c .before .before .before .before .before .before .before .before .gather in
+    let h = held (c .before .before .before .before .before .before .before .before .before) d in
+    room-before h (g .result) (g .ensures J (Ω but c .before .before .before .before .before .before .before .before .before .before .before .before .before .before .args .i) h (d .late)) (d .late) (c .before .before .before .before .before .before .before .before .before .before .before .before .before .before .args .i) (c .before .before .before .before .before .before .before .before .before .before .before .before .before .before .pre .0) (not-false (g .result .some) (c .before .before .before .before .before .before .if1 .left))
+    (omega (arith, c .before .before .before .before .min .ensures, c .if2 .taken))
+
+theta-ect-requires : tie.Need-theta-ect-requires
+theta-ect-requires c κs =
+    let (q, (J, Ω, d)) = c .before .before .before .before .before .before .before .before .before .before .before .before .before .before .before .before .before .pre in
+    (J, Ω but c .before .before .before .before .before .before .before .before .before .before .before .before .before .before .before .before .before .args .i, held (c .before .before .before .before .before .before .before .before .before .before .before .before) d)
+
+mul-result : tie.Need-mul-result
+mul-result c = search needs
+
+element-copy-out-result : tie.Need-element-copy-out-result
+element-copy-out-result c = search needs
+
+returns-3 : tie.Need-returns-3
+returns-3 c = λ J Ω d.
+    let g = c .before .before .before .before .before .before .before .before .before .before .before .before .before .gather in
+    let h = held (c .before .before .before .before .before .before .before .before .before .before .before .before .before .before) d in
+    after-where h (g .result) (g .ensures J (Ω but c .before .before .before .before .before .before .before .before .before .before .before .before .before .before .before .before .before .before .before .args .i) h (d .late)) (d .late) (c .before .before .before .before .before .before .before .before .before .before .before .before .before .before .before .before .before .before .before .args .i) (c .before .before .before .before .before .before .before .before .before .before .before .before .before .before .before .before .before .before .before .pre .0) (not-false (g .result .some) (c .before .before .before .before .before .before .before .before .before .before .before .if1 .left))
+    (omega (arith, c .before .before .before .before .before .before .before .before .before .min .ensures, c .before .before .before .before .before .if2 .left)) (c .before .theta-ect .result) (c .before .theta-ect .ensures J (Ω but c .before .before .before .before .before .before .before .before .before .before .before .before .before .before .before .before .before .before .before .args .i) h)
+
+pub implied-spec : {M : Type 1} → statement M
+implied-spec =
+    tie.close
+    (tie.spec
+    array-write-others
+    gather-requires
+    returns
+    mul-min
+    element-copy-out-min
+    min-requires
+    add-if2
+    mul-if2
+    element-copy-out-if2
+    add-if2-2
+    returns-2
+    theta-ect-requires
+    mul-result
+    element-copy-out-result
+    returns-3)

@@ -1,0 +1,28 @@
+use mathlib.Core.Path.{sym}
+use Prim.Native.Nat.{_+_}
+use native.Mathlib.Omega.{arith}
+use borrow.Author.Needs.{needs}
+use borrow.Author.Tests.{not-true, not-false}
+use Rattle.checker.proofs.Judging.{none-overloads, reach-fits, some-overloads}
+use Rattle.checker.proofs.checker.overloaded.Statement.{statement}
+use Rattle.checker.proofs.checker.overloaded.Tie as tie
+
+gather-requires : tie.Need-gather-requires
+gather-requires c κs = search needs
+
+returns : tie.Need-returns
+returns c = λ J Ω d. let g = c .before .before .gather in none-overloads (d .held) (g .result) (g .ensures J Ω (d .held) (d .late)) (not-true (g .result .some) (c .if1 .taken))
+
+add-result : tie.Need-add-result
+add-result c =
+    let g = c .before .before .before .gather in
+    let (J, Ω, d) = c .before .before .before .before .before .before .before .before .pre in
+    omega (arith, reach-fits (d .held) (g .result) (g .ensures J Ω (d .held) (d .late)) (not-false (g .result .some) (c .before .if1 .left)))
+
+returns-2 : tie.Need-returns-2
+returns-2 c = λ J Ω d.
+    let g = c .before .before .before .before .gather in
+    some-overloads (d .held) (g .result) (g .ensures J Ω (d .held) (d .late)) (not-false (g .result .some) (c .before .before .if1 .left))
+
+pub overloaded-spec : {M : Type 1} → statement M
+overloaded-spec = tie.close (tie.spec gather-requires returns add-result returns-2)

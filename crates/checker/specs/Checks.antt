@@ -1,0 +1,79 @@
+-- The check: its answer for every input, and what Passed means.
+use mathlib.Core.Path.{_≡_}
+use mathlib.Core.Bool.{Bool, cond, _&&_}
+use mathlib.Core.List.{List, [], _∷_}
+use mathlib.Core.Option.{Option, some, none}
+use Prim.Native.Nat.{ℕ, zero, suc}
+use lib.Dec.{ltb}
+use lib.IntN.{ℤ, pos}
+use lib.ListN.{length}
+use Rattle.integers.specs.Tests.{refusal}
+use Rattle.scheduling.specs.Scheduling.{whole, Tasks, Atom, Contradicts}
+use Rattle.scheduling.specs.Words.{atomWords}
+use Rattle.checking.specs.declared.int_ext.IntExt.{IntExt}
+use Rattle.checking.specs.declared.int_ext.IntExt.the-variants.{Int, NegativeInf, PositiveInf}
+use Rattle.checking.specs.declared.variable_state.VariableState.{VariableState}
+use Rattle.checking.specs.declared.variable_state.Application.the-variants as application
+use Rattle.checking.specs.declared.variable_state.Applied.{Applied}
+use Rattle.checking.specs.Atoms.{atomsOf, consequentOf}
+use Rattle.checking.specs.States.{domainAt, prepared}
+use Rattle.records.specs.Records.{durationAt, creationTests}
+use Rattle.checker.specs.declared.checker.Verdict.{Verdict}
+use Rattle.checker.specs.declared.checker.Verdict.the-variants.{Passed, NotPassed, Contradiction, Refused}
+use Rattle.checker.specs.Formulas.{bounded, overloaded, implied}
+
+-- a bound of a domain as a number, where it is one
+abbrev pub finite : IntExt → Option ℤ
+finite (Int z) = some z
+finite NegativeInf = none
+finite PositiveInf = none
+
+-- `induced_lower_bound` and `induced_upper_bound` of task k's start
+abbrev pub lowerIn : VariableState → ℕ → Option ℤ
+lowerIn s k = finite (domainAt s k .«lower_bound»)
+
+abbrev pub upperIn : VariableState → ℕ → Option ℤ
+upperIn s k = finite (domainAt s k .«upper_bound»)
+
+-- what the formula says
+abbrev pub verdict : Bool → Verdict
+verdict holds = cond holds Passed NotPassed
+
+module _ (ds : List ℤ) where
+  -- the state of the premises and the negated consequent is judged: 8 where the consequent's variable is no task's, or lacks a finite bound
+  abbrev pub judged : VariableState → Option Atom → Verdict
+  judged s none = verdict (overloaded (length ds) (durationAt ds) (lowerIn s) (upperIn s))
+  judged s (some a) =
+      cond (ltb (a .variable) (length ds) && bounded (length ds) (durationAt ds) (lowerIn s) (upperIn s) (a .variable))
+      (verdict (implied (length ds) (durationAt ds) (lowerIn s) (upperIn s) (a .variable)))
+      (Refused 8)
+
+  abbrev pub concluded : Applied → Option Atom → Verdict
+  concluded r consequent = elim (r .answer) [
+    | application.Consistent ↦ judged (r .state) consequent
+    | application.Contradiction x ↦ Contradiction x
+    | application.Refused n ↦ Refused n
+  ]
+
+  -- 1, 2, 5 come first
+  abbrev pub checkAfter : ℕ → List ℤ → List ℤ → Verdict
+  checkAfter zero premises consequent = concluded (prepared premises consequent) (consequentOf consequent)
+  checkAfter (suc n) premises consequent = Refused (suc n)
+
+-- the answer: 1, 2, 5, 7, 6; then 21 or a contradiction, atom by atom; then 8; then the formula
+unfoldable pub checkOf : List ℤ → List ℤ → List ℤ → Verdict
+checkOf ds premises consequent = checkAfter ds (refusal (creationTests ds)) premises consequent
+
+-- the words of a consequent: one atom's, or none
+abbrev pub consequentWords : Option Atom → List ℤ
+consequentWords none = []
+consequentWords (some a) = atomWords (a ∷ [])
+
+-- the tasks of a check: their durations count, their ranges play no part
+abbrev pub tasksWith : List ℤ → Tasks whole
+tasksWith ds = record { count = length ds; earliest = λ k. pos 0; latest = λ k. pos 0; duration = durationAt ds }
+
+-- The check answers as defined; and where it answers Passed, no starts contradict it.
+pub record Checked (ds premises consequent : List ℤ) (r : Verdict) : Type 0 where
+  pub answer : r ≡ checkOf ds premises consequent
+  pub sound : r ≡ Passed → (s : ℕ → ℤ) → Contradicts (tasksWith ds) (atomsOf premises) (consequentOf consequent) s → ⊥

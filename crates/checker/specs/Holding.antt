@@ -1,0 +1,107 @@
+-- What the code of a check holds: the bounds of the tasks in arrays, a set of tasks, what the loop gathers.
+use mathlib.Core.Path.{_≡_}
+use mathlib.Core.Bool.{Bool, true, false, cond}
+use mathlib.Core.List.{List}
+use Prim.Native.Nat.{ℕ, _+_, _≤_, _<_, min, max}
+use lib.IntN.{ℤ}
+use lib.ListN.{length, getD, replicate}
+use Rattle.integers.specs.Limits.{TASKS, DURATIONS}
+use Rattle.integers.specs.Filling.{filled}
+use Rattle.integers.specs.Moments.{moment, zeroAt}
+use Rattle.scheduling.specs.Scheduling.{natural, Tasks, Proper, TaskSet, total}
+use Rattle.trees.specs.Bounds.{LATEST}
+use Rattle.checking.specs.declared.int_ext.IntExt.{IntExt}
+use Rattle.checking.specs.declared.int_ext.IntExt.the-variants.{Int, NegativeInf, PositiveInf}
+use Rattle.checking.specs.declared.variable_state.Domain.{Domain}
+use Rattle.checking.specs.declared.variable_state.VariableState.{VariableState}
+use Rattle.checking.specs.Atoms.{rightWords}
+use Rattle.checking.specs.States.{domainAt}
+use Rattle.records.specs.Records.{durationAt}
+use Rattle.checker.specs.declared.bounds.TaskBounds.{TaskBounds}
+use Rattle.checker.specs.declared.bounds.Bounds.{Bounds}
+use Rattle.checker.specs.declared.intervals.Interval.{Interval}
+use Rattle.checker.specs.Formulas.{any, lowest, highest, bounded, tasks}
+use Rattle.checker.specs.Checks.{lowerIn, upperIn}
+
+-- Bounds -----------------------------------------------------------------------------------------------------------------------
+
+abbrev pub noBounds : TaskBounds
+noBounds = record { known = false; est = 0; lst = 0 }
+
+abbrev pub twoBounds : ℕ → ℕ → TaskBounds
+twoBounds est lst = record { known = true; est = est; lst = lst }
+
+-- two finite bounds as moments, or none
+abbrev pub boundsBetween : IntExt → IntExt → TaskBounds
+boundsBetween (Int u) (Int v) = twoBounds (moment zeroAt u) (moment zeroAt v)
+boundsBetween (Int u) NegativeInf = noBounds
+boundsBetween (Int u) PositiveInf = noBounds
+boundsBetween NegativeInf b = noBounds
+boundsBetween PositiveInf b = noBounds
+
+abbrev pub taskBounds : Domain → TaskBounds
+taskBounds d = boundsBetween (d .«lower_bound») (d .«upper_bound»)
+
+-- those of variable k of a state
+abbrev pub knownAt : VariableState → ℕ → Bool
+knownAt s k = taskBounds (domainAt s k) .known
+
+abbrev pub estAt : VariableState → ℕ → ℕ
+estAt s k = taskBounds (domainAt s k) .est
+
+abbrev pub lstAt : VariableState → ℕ → ℕ
+lstAt s k = taskBounds (domainAt s k) .lst
+
+-- and of its first n variables
+abbrev pub boundsOf : VariableState → ℕ → Bounds
+boundsOf s n = record {
+  bounded = filled (knownAt s) n (replicate TASKS false);
+  est = filled (estAt s) n (replicate TASKS 0);
+  lst = filled (lstAt s) n (replicate TASKS 0);
+}
+
+-- Tasks and a set of them in arrays --------------------------------------------------------------------------------------------
+
+pub record Held (J : Tasks natural) (Ω : TaskSet) (n : ℕ) (chosen : List Bool) (est durations : List ℕ) : Type 0 where
+  pub proper : Proper J
+  pub count : J .count ≡ n
+  pub few : n ≤ TASKS
+  pub member : (k : ℕ) → k < n → getD chosen k false ≡ Ω k
+  pub start : (k : ℕ) → k < n → getD est k 0 ≡ J .earliest k
+  pub lasts : (k : ℕ) → k < n → getD durations k 0 ≡ J .duration k
+  pub early : (k : ℕ) → k < n → J .earliest k ≤ LATEST
+  pub sum : total (J .duration) n ≤ DURATIONS
+
+-- and their latest starts
+pub record Late (J : Tasks natural) (n : ℕ) (lst : List ℕ) : Type 0 where
+  pub at : (k : ℕ) → k < n → getD lst k 0 ≡ J .latest k
+  pub fits : (k : ℕ) → k < n → J .latest k ≤ LATEST
+
+-- the bounds are those of J's tasks in Ω
+pub record Bounding (J : Tasks natural) (Ω : TaskSet) (n : ℕ) (b : Bounds) (durations : List ℕ) : Type 0 where
+  pub held : Held J Ω n (b .bounded) (b .est) durations
+  pub late : Late J n (b .lst)
+
+-- the state and the durations are those of a check's n tasks
+pub record Judgeable (ds : List ℤ) (s : VariableState) (n : ℕ) (durations : List ℕ) : Type 0 where
+  pub count : length ds ≡ n
+  pub bounding : Bounding (tasks (length ds) (durationAt ds) (lowerIn s) (upperIn s)) (bounded (length ds) (durationAt ds) (lowerIn s) (upperIn s)) n (boundsOf s n) durations
+
+-- the words of a consequent that 6 lets pass
+pub record Consequent (words : List ℤ) : Type 0 where
+  pub short : length words ≤ 3
+  pub right : rightWords words ≡ true
+
+-- What the loop gathers --------------------------------------------------------------------------------------------------------
+
+abbrev pub interval : Bool → ℕ → ℕ → ℕ → Interval
+interval some lb ub p = record { some = some; lb = lb; ub = ub; p = p }
+
+-- one task more, where it is chosen
+abbrev pub gathered : Interval → Bool → ℕ → ℕ → ℕ → Interval
+gathered v true est lct p = interval true (min (v .lb) est) (max (v .ub) lct) (v .p + p)
+gathered v false est lct p = v
+
+-- the tasks of Ω below k
+abbrev pub intervalOf : Tasks natural → TaskSet → ℕ → Interval
+intervalOf J Ω k = interval (any Ω k) (lowest J Ω k) (highest J Ω k) (total (λ k. cond (Ω k) (J .duration k) 0) k)

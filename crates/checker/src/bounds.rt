@@ -1,0 +1,73 @@
+// The bounds that a state leaves to the tasks, as moments.
+use checking::int_ext::IntExt;
+use checking::variable_state::Domain;
+use checking::variable_state::VariableState;
+ghost use mathlib.Core.Path.{_≡_};
+ghost use Prim.Native.Nat.{_≤_};
+ghost use Rattle.integers.specs.Limits.{TASKS};
+ghost use Rattle.checker.specs.Holding.{noBounds, taskBounds, boundsOf};
+
+// Both bounds of one start, where they are finite; else 0.
+pub struct TaskBounds {
+    pub known: bool,
+    pub est: u32,
+    pub lst: u32,
+}
+
+// The tasks with two finite bounds, and these.
+pub struct Bounds {
+    pub bounded: [bool; 48],
+    pub est: [u32; 48],
+    pub lst: [u32; 48],
+}
+
+// No two bounds.
+fn unbounded() -> TaskBounds
+    ensures { λ r. ⌜ r ≡ noBounds ⌝ }
+{
+    TaskBounds {
+        known: false,
+        est: 0,
+        lst: 0,
+    }
+}
+
+// The bounds of a domain.
+fn task_bounds(domain: Domain) -> TaskBounds
+    ensures { λ r. ⌜ r ≡ taskBounds domain ⌝ }
+{
+    let from = domain.lower_bound;
+    let to = domain.upper_bound;
+    match from {
+        IntExt::NegativeInf => unbounded(),
+        IntExt::PositiveInf => unbounded(),
+        IntExt::Int(lower) => match to {
+            IntExt::NegativeInf => unbounded(),
+            IntExt::PositiveInf => unbounded(),
+            IntExt::Int(upper) => TaskBounds {
+                known: true,
+                est: integers::moment_of(lower),
+                lst: integers::moment_of(upper),
+            },
+        },
+    }
+}
+
+// The bounds of the first n variables, which are the tasks' starts.
+pub fn bounds_of(state: VariableState, n: usize) -> Bounds
+    requires { ⌜ n ≤ TASKS ⌝ }
+    ensures { λ r. ⌜ r ≡ boundsOf state n ⌝ }
+{
+    let mut bounded = [false; 48];
+    let mut est = [0u32; 48];
+    let mut lst = [0u32; 48];
+    let mut i = 0;
+    while i < n {
+        let b = task_bounds(state.domains[i]);
+        bounded[i] = b.known;
+        est[i] = b.est;
+        lst[i] = b.lst;
+        i += 1;
+    }
+    Bounds { bounded, est, lst }
+}

@@ -1,0 +1,105 @@
+// The check of a reason: the source's formula, on the state that the premises and the negated consequent leave.
+use crate::bounds::Bounds;
+use crate::bounds::bounds_of;
+use crate::intervals::gather;
+use crate::intervals::min;
+use crate::theta::theta_ect;
+use checking::variable_state::Application;
+use checking::variable_state::VariableState;
+use records::record::Creation;
+use records::record::create;
+ghost use mathlib.Core.Path.{_≡_};
+ghost use mathlib.Core.List.{List};
+ghost use Prim.Native.Nat.{ℕ, _<_};
+ghost use lib.IntN.{ℤ};
+ghost use Rattle.scheduling.specs.Scheduling.{natural, Tasks, TaskSet};
+ghost use Rattle.checking.specs.Atoms.{consequentOf};
+ghost use Rattle.checker.specs.Formulas.{_but_, overloadsSpan, comesAfter};
+ghost use Rattle.checker.specs.Checks.{verdict, judged, Checked};
+ghost use Rattle.checker.specs.Holding.{Bounding, Judgeable, Consequent};
+
+// The answer: a contradiction names the variable of the first failing atom.
+pub enum Verdict {
+    Passed,
+    NotPassed,
+    Contradiction(usize),
+    Refused(u32),
+}
+
+// Without a consequent: the tasks with two bounds overload their span.
+fn overloaded(bounds: Bounds, durations: &[u32; 48], n: usize) -> bool
+    requires { ⌜ ((J : Tasks natural) × (Ω : TaskSet) × Bounding J Ω n bounds (now durations)) ⌝ }
+    ensures { λ r. ⌜ ((J : Tasks natural) (Ω : TaskSet) → Bounding J Ω n bounds (now (durations .entry)) → r ≡ overloadsSpan J Ω) ⌝ }
+{
+    let v = gather(&bounds.bounded, &bounds.est, &bounds.lst, durations, n);
+    if !v.some {
+        return false;
+    }
+    v.lb + v.p > v.ub
+}
+
+// With a consequent on task i: it cannot start before the others, nor among them, and these end past its latest start.
+fn implied(bounds: Bounds, durations: &[u32; 48], n: usize, i: usize) -> bool
+    requires { ⌜ (i < n) × ((J : Tasks natural) × (Ω : TaskSet) × Bounding J Ω n bounds (now durations)) ⌝ }
+    ensures { λ r. ⌜ ((J : Tasks natural) (Ω : TaskSet) → Bounding J Ω n bounds (now (durations .entry)) → r ≡ comesAfter J (Ω but i) i) ⌝ }
+{
+    let mut others = bounds.bounded;
+    others[i] = false;
+    let v = gather(&others, &bounds.est, &bounds.lst, durations, n);
+    if !v.some {
+        return false;
+    }
+    if min(bounds.est[i], v.lb) + v.p + durations[i] <= v.ub {
+        return false;
+    }
+    theta_ect(&others, &bounds.est, durations, n) > bounds.lst[i]
+}
+
+// What the formula says.
+fn verdict_of(holds: bool) -> Verdict
+    ensures { λ r. ⌜ r ≡ verdict holds ⌝ }
+{
+    if holds {
+        Verdict::Passed
+    } else {
+        Verdict::NotPassed
+    }
+}
+
+// The formula for the consequent, or for none.
+fn judge(state: VariableState, durations: &[u32; 48], n: usize, consequent: &[i32]) -> Verdict
+    requires { ⌜ ((ds : List ℤ) × Judgeable ds state n (now durations)) × Consequent (now consequent) ⌝ }
+    ensures { λ r. ⌜ ((ds : List ℤ) → Judgeable ds state n (now (durations .entry)) → r ≡ judged ds state (consequentOf (now (consequent .entry)))) ⌝ }
+{
+    let bounds = bounds_of(state, n);
+    if consequent.len() == 0 {
+        return verdict_of(overloaded(bounds, durations, n));
+    }
+    let i = integers::nat_of(consequent[0]) as usize;
+    if i >= n {
+        return Verdict::Refused(8);
+    }
+    if !bounds.bounded[i] {
+        return Verdict::Refused(8);
+    }
+    verdict_of(implied(bounds, durations, n, i))
+}
+
+// Checks the premises and the consequent against the tasks.
+pub fn check(durations: &[i32], premises: &[i32], consequent: &[i32]) -> Verdict
+    ensures { λ r. ⌜ Checked (now (durations .entry)) (now (premises .entry)) (now (consequent .entry)) r ⌝ }
+{
+    let made = create(durations);
+    let creation = made.answer;
+    if let Creation::Refused(number) = creation {
+        return Verdict::Refused(number);
+    }
+    let tasks = made.record;
+    let applied = VariableState::prepare_for_conflict_check(premises, consequent);
+    let answer = applied.answer;
+    match answer {
+        Application::Consistent => judge(applied.state, &tasks.durations, tasks.count, consequent),
+        Application::Contradiction(x) => Verdict::Contradiction(x),
+        Application::Refused(number) => Verdict::Refused(number),
+    }
+}

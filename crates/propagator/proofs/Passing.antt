@@ -1,0 +1,89 @@
+-- Every reason of an accepted run passes the check.
+-- Assumes nothing.
+use mathlib.Core.Path.{_≡_, sym, subst}
+use mathlib.Core.List.{List, [], _∷_}
+use mathlib.Core.Option.{Option, some, none}
+use Prim.Native.Nat.{ℕ, _*_, _≤_, _<_}
+use native.Mathlib.Omega.{arith}
+use lib.IntN.{ℤ, negsuc, _+ℤ_}
+use lib.ListN.{length, take}
+use lib.Signed.{_≤ℤ_, _<ℤ_, ≤ℤ-refl}
+use Rattle.integers.specs.Limits.{TASKS, VALUE}
+use Rattle.integers.specs.Moments.{zeroAt}
+use Rattle.integers.specs.Tests.{refusal}
+use Rattle.integers.proofs.Ints.{ints, up, dn, sumℤ, sub-law}
+use Rattle.scheduling.specs.Scheduling.{whole, Tasks, Atom, Meets, Every, HoldsAtEntry, given, negation, PassesFormula}
+use Rattle.scheduling.specs.Words.{atomWords}
+use Rattle.scheduling.proofs.Passed.{every-append}
+use Rattle.runs.specs.Traces.{Post, overload}
+use Rattle.runs.specs.Demand.{consequentOf, post, PostRight}
+use Rattle.runs.proofs.Demand as demand
+use Rattle.runs.proofs.Shapes.{Shaped, post-shaped, overload-shaped}
+use Rattle.checking.specs.Holes.{Within}
+use Rattle.checking.proofs.Atoms.{every-map}
+use Rattle.records.specs.declared.record.Propagator.{Propagator}
+use Rattle.records.specs.Records.{creationTests}
+use Rattle.records.specs.Refusals.{Accepted}
+use Rattle.records.proofs.Creation.{natural-count, natural-duration, natural-accepted}
+use Rattle.checker.specs.declared.checker.Verdict.the-variants.{Passed}
+use Rattle.checker.specs.Checks.{checkOf, tasksWith, consequentWords}
+use Rattle.checker.proofs.Reasons.{Bound, BoundIfAny, reason-check, passes-alike, meets-admits}
+use Rattle.propagator.specs.Ran.{tasksIn, traceOf, checkDurations}
+use Rattle.propagator.proofs.Beginning as beginning
+
+-- an atom near the starts of at most 48 tasks is within the limits of a check
+shaped-bound : (n : ℕ) → n ≤ TASKS → (a : Atom) → Shaped zeroAt n 1947483648 2347483648 200000000 a → Bound a
+unfolding up dn
+shaped-bound n few a s = record {
+  known = omega (arith, s .task);
+  kind = s .kind;
+  value = subst (Within VALUE) (sym (s .value)) (record { low = omega (ints, sub-law (s .at) zeroAt, s .from); high = omega (ints, sub-law (s .at) zeroAt, s .to) });
+}
+
+-- a start below a bound meets what a check adds for it
+below-bound : (u b : ℤ) → u <ℤ b → u ≤ℤ (b +ℤ negsuc 0)
+unfolding up dn
+below-bound u b h = omega (ints, sumℤ b (negsuc 0))
+
+module _ (before : Propagator) (es ls : List ℤ) (posts atoms : ℕ) (a : Accepted before es ls posts atoms)
+    (long : length (before .durations) ≡ TASKS) (long₁ : length (before .first) ≡ TASKS) (long₂ : length (before .second) ≡ TASKS) where
+  abbrev l : List ℕ
+  l = take (before .count) (before .durations)
+
+  abbrev J : Tasks whole
+  J = tasksIn before es ls
+
+  accepted : demand.Accepted l es ls (take (before .count) (before .first)) (take (before .count) (before .second))
+  accepted = beginning.accepted before es ls posts atoms a long long₁ long₂
+
+  lawful : refusal (creationTests (checkDurations before)) ≡ 0
+  lawful = natural-accepted l (accepted .some) (accepted .few) (accepted .lasts) (accepted .sum)
+
+  -- at the earliest starts a reason that holds at entry is met
+  met : (reason : List Atom) → HoldsAtEntry J reason → Every (Meets (J .earliest)) reason
+  met reason h = h (J .earliest) (λ k q. (≤ℤ-refl (J .earliest k), accepted .ranges k q))
+
+  checked : (reason : List Atom) (c : Option Atom) → length reason ≤ 2 * length l → Every (Shaped zeroAt (length l) 1947483648 2347483648 200000000) reason → BoundIfAny c
+      → Every (Meets (J .earliest)) (given reason c) → PassesFormula J reason c → checkOf (checkDurations before) (atomWords reason) (consequentWords c) ≡ Passed
+  checked reason c few s b m p =
+      reason-check (checkDurations before) reason c lawful (omega (arith, few, accepted .few)) (every-map (shaped-bound (length l) (accepted .few)) reason s) b
+      (λ x q. (J .earliest x, meets-admits (J .earliest) (given reason c) m x))
+      (passes-alike J (tasksWith (checkDurations before)) (sym (natural-count l)) (λ k. sym (natural-duration l k)) reason c p)
+
+  -- A post's reason passes with the post as its consequent,
+  pub post-passes : (j : ℕ) → j < length (traceOf before es ls .posts)
+      → checkOf (checkDurations before) (atomWords (post (traceOf before es ls) j .reason)) (atomWords (consequentOf (post (traceOf before es ls) j) ∷ [])) ≡ Passed
+  post-passes j q =
+      let p : Post = post (traceOf before es ls) j in
+      let r : PostRight J p = beginning.right before es ls posts atoms a long long₁ long₂ .posts j q in
+      let s = post-shaped l es ls (take (before .count) (before .first)) (take (before .count) (before .second)) accepted j q in
+      checked (p .reason) (some (consequentOf p)) (s .few) (s .because) (shaped-bound (length l) (accepted .few) (consequentOf p) (s .says))
+      (every-append (Meets (J .earliest)) (p .reason) (negation (consequentOf p) ∷ []) (met (p .reason) (r .reason-holds)) (below-bound (J .earliest (p .task)) (p .bound) (r .raises), tt))
+      (r .reason-passes)
+
+  -- and an overload's reason passes with none.
+  pub overload-passes : (reason : List Atom) → traceOf before es ls .end ≡ overload reason → checkOf (checkDurations before) (atomWords reason) [] ≡ Passed
+  overload-passes reason e =
+      let r = beginning.right before es ls posts atoms a long long₁ long₂ .overloads reason e in
+      let s = overload-shaped l es ls (take (before .count) (before .first)) (take (before .count) (before .second)) accepted reason e in
+      checked reason none (s .few) (s .because) tt (met reason (r .reason-holds)) (r .reason-passes)

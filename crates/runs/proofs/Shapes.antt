@@ -1,0 +1,223 @@
+-- The atoms of a run's reasons: ≥ or ≤ on a task, with a value near the tasks' starts; and how many they are.
+-- Assumes nothing.
+use mathlib.Core.Path.{_≡_, refl}
+use mathlib.Core.Bool.{true}
+use mathlib.Core.List.{List, [], _∷_}
+use mathlib.Core.Logic.{inl, inr}
+use Prim.Native.Nat.{ℕ, _+_, _-_, _*_, _/_, _≤_, _<_, min}
+use native.Mathlib.Omega.{arith}
+use lib.Dec.{eqb, leb, ltb}
+use lib.IntN.{ℤ, pos, negsuc}
+use lib.ListN.{length, getD}
+use borrow.Author.Tests.{eqb-true}
+use Rattle.integers.specs.Moments.{moment, Above, instant, zeroAt}
+use Rattle.integers.specs.Orders.{index, has, sort}
+use Rattle.integers.proofs.Bools.{bool}
+use Rattle.integers.proofs.Ints.{up, dn}
+use Rattle.integers.proofs.Moments.{mono, above-up, above-show}
+use Rattle.integers.proofs.Permutations.{has-here, has-later}
+use Rattle.scheduling.specs.Scheduling.{natural, Tasks, tasksOf, Proper, TaskSet, completion, processing, Atom, Every}
+use Rattle.scheduling.proofs.Levels.{ByCompletion}
+use Rattle.scheduling.proofs.Passed.{every-append}
+use Rattle.scheduling.proofs.Processing.{processing-all, processing-mono, processing-less}
+use Rattle.scheduling.proofs.Scan.{ByEarliest}
+use Rattle.scheduling.proofs.Transfer.{moments, sound}
+use Rattle.trees.specs.Leaves.{Leaf, theta}
+use Rattle.trees.specs.Leaves as leaves
+use Rattle.trees.proofs.Roots as tree
+use Rattle.runs.specs.Traces.{Post, Trace, overload}
+use Rattle.runs.specs.Demand.{consequentOf, post}
+use Rattle.runs.specs.Runs.{atLeast, atMost, within, conflict, conflict-of, bounds, propagation, propagation-of, propagate, byEarliest, byCompletion}
+use Rattle.runs.proofs.Demand.{Accepted, by-earliest, by-completion}
+use Rattle.runs.proofs.Room as room
+use Rattle.runs.proofs.Steps.{Measure, OutOk, run-ok}
+use Rattle.runs.proofs.Stops as stops
+use Rattle.runs.proofs.Walks as walks
+
+-- An atom of a reason on one of n tasks, which start from `low` to `high` and last d in all.
+pub record Shaped (o n low high d : ℕ) (a : Atom) : Type 0 where
+  pub task : a .variable < n
+  pub kind : a .kind < 2
+  pub at : ℕ
+  pub value : a .value ≡ instant o at
+  pub from : 2 * low ≤ at + high + d
+  pub to : at ≤ high + 2 * d
+
+pub record ShapedPost (o n low high d : ℕ) (p : Post) : Type 0 where
+  pub says : Shaped o n low high d (consequentOf p)
+  pub because : Every (Shaped o n low high d) (p .reason)
+  pub few : length (p .reason) ≤ 2 * n
+
+pub record ShapedEnd (o n low high d : ℕ) (reason : List Atom) : Type 0 where
+  pub because : Every (Shaped o n low high d) reason
+  pub few : length reason ≤ 2 * n
+
+module _ (o : ℕ) (J : Tasks natural) (ok : Proper J) (low high d : ℕ) (early : (k : ℕ) → k < J .count → low ≤ J .earliest k) (late : (k : ℕ) → k < J .count → J .latest k ≤ high)
+    (all : processing J (λ _. true) ≤ d) where
+  abbrev n : ℕ
+  n = J .count
+
+  abbrev Fits : Atom → Type 0
+  Fits = Shaped o n low high d
+
+  -- a task's start, duration and completion
+  record Task (k : ℕ) : Type 0 where
+    small : k < n
+    starts : low ≤ J .earliest k
+    until : J .earliest k ≤ high
+    lasts : 1 ≤ J .duration k
+    short : J .duration k ≤ d
+    ends : low ≤ completion J k
+    by : completion J k ≤ high + d
+
+  task : (k : ℕ) → k < n → Task k
+  task k q =
+      let p : J .duration k ≤ d = omega (arith, all, processing-less J (λ _. true) k (record { small = q; mem = refl })) in
+      record {
+        small = q;
+        starts = early k q;
+        until = omega (arith, ok .ranges k q, late k q);
+        lasts = ok .lasts k q;
+        short = p;
+        ends = omega (arith, early k q, ok .ranges k q);
+        by = omega (arith, late k q);
+      }
+
+  abbrev Listed : List ℕ → Type 0
+  Listed ks = (k : ℕ) → has ks k ≡ true → k < n
+
+  head : (k : ℕ) (ks : List ℕ) → Listed (k ∷ ks) → Task k
+  head k ks h = task k (h k (has-here k ks))
+
+  rest : (k : ℕ) (ks : List ℕ) → Listed (k ∷ ks) → Listed ks
+  rest k ks h j q = h j (has-later k j ks q)
+
+  -- the atoms of one task
+  low-atom : (k v : ℕ) → Task k → 2 * low ≤ v + high + d → v ≤ high + 2 * d → Fits (atLeast o J k v)
+  low-atom k v t p q = record { task = t .small; kind = omega arith; at = v; value = refl; from = p; to = q }
+
+  high-atom : (k v : ℕ) → Task k → low ≤ v → v ≤ high + 2 * d → Fits (atMost o J k (v - J .duration k))
+  high-atom k v t p q = record { task = t .small; kind = omega arith; at = v - J .duration k; value = refl; from = omega (arith, t .short, t .starts, t .until); to = omega arith }
+
+  within-fits : (u v : ℕ) → 2 * low ≤ u + high + d → u ≤ high + 2 * d → low ≤ v → v ≤ high + 2 * d → (ks : List ℕ) → Listed ks → Every Fits (within o J u v ks)
+  unfolding within
+  within-fits u v a b c e [] h = tt
+  within-fits u v a b c e (k ∷ ks) h = let t = head k ks h in (low-atom k u t a b, (high-atom k v t c e, within-fits u v a b c e ks (rest k ks h)))
+
+  conflict-of-fits : (c p e : ℕ) → low ≤ c → c ≤ high + d → p ≤ d → low ≤ e → e ≤ high → (ks : List ℕ) → Listed ks → Every Fits (conflict-of o J c p e ks)
+  conflict-of-fits c p e a b q u v =
+      let delta = (e + p) - (c + 1) in
+      within-fits (e - delta / 2) (c + (delta - delta / 2)) (omega arith) (omega arith) (omega arith) (omega arith)
+
+  conflict-fits : (c p : ℕ) → low ≤ c → c ≤ high + d → p ≤ d → (ks : List ℕ) → Listed ks → Every Fits (conflict o J c p ks)
+  unfolding conflict
+  conflict-fits c p a b q [] h = tt
+  conflict-fits c p a b q (k ∷ []) h = let t = head k [] h in conflict-of-fits c p (J .earliest k) a b q (t .starts) (t .until) (k ∷ []) h
+  conflict-fits c p a b q (k ∷ j ∷ ks) h = let t = head k (j ∷ ks) h in
+      elim (bool (ltb c (J .earliest k + p))) [
+        | inl y ↦ rw (y, conflict) (conflict-of-fits c p (J .earliest k) a b q (t .starts) (t .until) (k ∷ j ∷ ks) h)
+        | inr y ↦ rw (y, conflict) (conflict-fits c (p - J .duration k) a b (omega arith) (j ∷ ks) (rest k (j ∷ ks) h))
+      ]
+
+  bounds-fits : (b r last p : ℕ) → low ≤ r → r ≤ high → low ≤ last → last ≤ high + 2 * d → (ks : List ℕ) → Listed ks → Every Fits (bounds o J b r last p ks)
+  unfolding bounds
+  bounds-fits b r last p u v w x [] h = tt
+  bounds-fits b r last p u v w x (k ∷ ks) h = let t = head k ks h in
+      elim (bool (eqb b (J .earliest k + p))) [
+        | inl y ↦ rw (y, bounds) (
+            let z : b ≡ J .earliest k + p = eqb-true b (J .earliest k + p) y in
+            within-fits (b - p) last (omega (arith, t .starts, t .until)) (omega (arith, t .until)) w x (k ∷ ks) h)
+        | inr y ↦ rw (y, bounds) (low-atom k r t (omega arith) (omega arith), (high-atom k last t w x, bounds-fits b r last (p - J .duration k) u v w x ks (rest k ks h)))
+      ]
+
+  propagation-of-fits : (i b p r : ℕ) → Task i → p ≤ d → low ≤ r → r ≤ high → (ks : List ℕ) → Listed ks → Every Fits (propagation-of o J i b p r ks)
+  propagation-of-fits i b p r t q u v ks h =
+      let last = r + p + J .duration i - 1 in
+      every-append Fits (bounds o J b r last p ks) (atLeast o J i r ∷ []) (bounds-fits b r last p u v (omega (arith, t .lasts)) (omega (arith, t .short)) ks h) (low-atom i r t (omega arith) (omega arith), tt)
+
+  propagation-fits : (i b c p : ℕ) → Task i → p ≤ d → (ks : List ℕ) → Listed ks → Every Fits (propagation o J i b c p ks)
+  unfolding propagation
+  propagation-fits i b c p t q [] h = tt
+  propagation-fits i b c p t q (k ∷ ks) h = let u = head k ks h in
+      elim (bool (ltb c (min (J .earliest i) (J .earliest k) + p + J .duration i))) [
+        | inl y ↦ rw (y, propagation) (propagation-of-fits i b p (min (J .earliest i) (J .earliest k)) t q (omega (arith, t .starts, u .starts)) (omega (arith, t .until)) (k ∷ ks) h)
+        | inr y ↦ rw (y, propagation) (propagation-fits i b c (p - J .duration k) t (omega arith) ks (rest k ks h))
+      ]
+
+  -- every post and every overload of a run
+  module _ (first second : List ℕ) (rk : ByEarliest J (λ j. getD first j 0) (λ k. index first k)) (ord : ByCompletion J (λ t. getD second t 0) (λ k. index second k)) where
+    module _ (t : ℕ) (ls : List Leaf) (Λ : TaskSet) (s : tree.Represents J ok first rk ls (λ k. leb t (index second k)) Λ) (small : t < n) where
+      abbrev Θ : TaskSet
+      Θ k = leb t (index second k)
+
+      listed : Listed (theta J first ls)
+      listed k h = tree.theta-only J ok first rk ls Θ Λ s k h .small
+
+      sum-most : leaves.sum J first ls ≤ d
+      sum-most = omega (arith, all, walks.sum-is o J ok first second rk ls Θ Λ s, processing-mono J (walks.onward o J ok first second rk ls Θ Λ s 0) (λ _. true) (λ k h. refl))
+
+      last : Task (getD second t 0)
+      last = task (getD second t 0) (ord .task t small)
+
+      ect-most : leaves.ect J first ls ≤ high + d
+      ect-most =
+          let e = stops.ect-is o J ok first second rk ord t ls Λ s small .holds in
+          let (k, m, z) = e .est .holds in
+          omega (arith, z, e .sum, all, task k (m .small) .until, processing-mono J (e .part) (λ _. true) (λ k h. refl))
+
+    pub shaped : Measure o J ok first second rk ord (ShapedPost o n low high d) (ShapedEnd o n low high d)
+    shaped = record {
+      of-post = λ t ls Λ s x small f late over up.
+          let i = task (getD first x 0) (f .gray .small) in
+          record {
+            says = record { task = i .small; kind = omega arith; at = leaves.ect J first ls; value = refl; from = omega (arith, i .starts, i .until, up); to = omega (arith, ect-most t ls Λ s small) };
+            because = propagation-fits (getD first x 0) (leaves.ect J first ls) (completion J (getD second t 0)) (leaves.sum J first ls) i (sum-most t ls Λ s small) (theta J first ls) (listed t ls Λ s small);
+            few = omega (arith, room.short o J ok first second rk ord .of-post t ls Λ s x small f late over up);
+          };
+      of-end = λ t ls Λ s small over. record {
+        because = conflict-fits (completion J (getD second t 0)) (leaves.sum J first ls) (last t ls Λ s small .ends) (last t ls Λ s small .by) (sum-most t ls Λ s small) (theta J first ls) (listed t ls Λ s small);
+        few = room.short o J ok first second rk ord .of-end t ls Λ s small over;
+      };
+    }
+
+-- Of an accepted run: its starts lie within ±200,000,000, and the durations sum to at most that.
+module _ (ds : List ℕ) (es ls : List ℤ) (first second : List ℕ) (a : Accepted ds es ls first second) where
+  abbrev tr : Trace
+  tr = propagate ds es ls first second
+
+  abbrev J : Tasks natural
+  J = moments zeroAt (tasksOf ds es ls)
+
+  deep : Above zeroAt (negsuc 199999999)
+  unfolding up dn
+  deep = above-show zeroAt (negsuc 199999999) (omega arith)
+
+  proper : Proper J
+  proper = sound zeroAt (tasksOf ds es ls) (record { ranges = a .ranges; lasts = a .lasts }) (λ k q. above-up zeroAt (negsuc 199999999) (getD es k (pos 0)) (a .from k q) deep)
+
+  from : (k : ℕ) → k < length ds → 1947483648 ≤ moment zeroAt (getD es k (pos 0))
+  from k q = mono zeroAt (negsuc 199999999) (getD es k (pos 0)) (a .from k q)
+
+  to : (k : ℕ) → k < length ds → moment zeroAt (getD ls k (pos 0)) ≤ 2347483648
+  to k q = mono zeroAt (getD ls k (pos 0)) (pos 200000000) (a .to k q)
+
+  short : processing J (λ _. true) ≤ 200000000
+  short = omega (arith, processing-all J, a .sum)
+
+  abbrev Post′ : Post → Type 0
+  Post′ = ShapedPost zeroAt (length ds) 1947483648 2347483648 200000000
+
+  abbrev End′ : List Atom → Type 0
+  End′ = ShapedEnd zeroAt (length ds) 1947483648 2347483648 200000000
+
+  out : OutOk zeroAt J proper (sort (byEarliest J) first) (sort (byCompletion J) second) (by-earliest J first (a .first-permutes)) (by-completion J second (a .second-permutes)) Post′ End′
+      (shaped zeroAt J proper 1947483648 2347483648 200000000 from to short (sort (byEarliest J) first) (sort (byCompletion J) second) (by-earliest J first (a .first-permutes)) (by-completion J second (a .second-permutes))) tr
+  unfolding propagate
+  out = run-ok zeroAt J proper (sort (byEarliest J) first) (sort (byCompletion J) second) (by-earliest J first (a .first-permutes)) (by-completion J second (a .second-permutes)) Post′ End′
+      (shaped zeroAt J proper 1947483648 2347483648 200000000 from to short (sort (byEarliest J) first) (sort (byCompletion J) second) (by-earliest J first (a .first-permutes)) (by-completion J second (a .second-permutes))) (a .some)
+
+  pub post-shaped : (j : ℕ) → j < length (tr .posts) → ShapedPost zeroAt (length ds) 1947483648 2347483648 200000000 (post tr j)
+  post-shaped = out .goods
+
+  pub overload-shaped : (reason : List Atom) → tr .end ≡ overload reason → ShapedEnd zeroAt (length ds) 1947483648 2347483648 200000000 reason
+  overload-shaped = out .over
