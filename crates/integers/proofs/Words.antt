@@ -6,7 +6,7 @@ use Prim.Native.Nat.{ℕ, suc, _+_, _≤_}
 use native.Mathlib.Omega.{arith}
 use native.Mathlib.Nat.{zero-add, add-zero}
 use lib.ListN.{length, drop, set}
-use lib.Seq.{sets, sets-eq}
+use lib.Seq.{sets, sets-eq, length-sets}
 use Rattle.integers.specs.Words.{overwritten}
 
 module _ {A : Type 0} where
@@ -19,3 +19,6 @@ module _ {A : Type 0} where
   -- stores from the front, and `overwritten`
   pub overwrites : (entry ws : List A) → length ws ≤ length entry → sets entry 0 ws ≡ overwritten entry ws
   overwrites entry ws h = sets-eq ws entry 0 (omega arith) ∙ ap (λ (k : ℕ). ws ++ drop k entry) (zero-add (length ws))
+
+  pub overwritten-length : (entry ws : List A) → length ws ≤ length entry → length (overwritten entry ws) ≡ length entry
+  overwritten-length entry ws h = ap length (sym (overwrites entry ws h)) ∙ length-sets entry 0 ws

@@ -36,7 +36,8 @@ use Rattle.runs.specs.Runs.{tabulate, byEarliest, byCompletion, run}
 use Rattle.runs.specs.Demand.{Right}
 use Rattle.scheduling.specs.Words.{atomWords}
 use Rattle.runs.specs.Words.{postWords, reasons, endReason, postsAfter, atomsAfter}
-use Rattle.runs.proofs.Buffers.{overwrites, no-posts-stored, no-atoms-stored, no-reasons}
+use Rattle.integers.proofs.Words.{overwrites}
+use Rattle.runs.proofs.Buffers.{no-posts-stored, no-atoms-stored, no-reasons}
 use Rattle.runs.proofs.Demand as demand
 use Rattle.runs.proofs.Few as few-words
 use Rattle.runs.proofs.Fuel.{propagate-is}

@@ -5,22 +5,15 @@ use Prim.Native.Nat.{ℕ, zero, suc, _+_, _*_, _≤_, _<_}
 use native.Mathlib.Omega.{arith}
 use native.Mathlib.Nat.{zero-add, add-zero, add-suc, suc-add}
 use lib.IntN.{ℤ, pos}
-use lib.ListN.{length, drop, take, set, length-append}
-use lib.Seq.{sets, sets-eq, length-sets}
+use lib.ListN.{length, getD, drop, take, set, length-append}
+use lib.Seq.{sets, length-sets}
 use Rattle.scheduling.specs.Scheduling.{Atom}
 use Rattle.scheduling.proofs.Words.{atoms-none, atoms-append, atoms-length}
 use Rattle.runs.specs.Traces.{Post}
 use Rattle.scheduling.specs.Words.{atomWords}
+use Rattle.runs.specs.Demand.{no-post}
 use Rattle.runs.specs.Words.{postWords, reasons}
-use Rattle.integers.specs.Words.{overwritten}
-
-pub sets-append : (vs us l : List ℤ) (i : ℕ) → sets l i (vs ++ us) ≡ sets (sets l i vs) (i + length vs) us
-sets-append [] us l i = ap (λ (k : ℕ). sets l k us) (sym (add-zero i))
-sets-append (v ∷ vs) us l i = let z : suc i + length vs ≡ i + suc (length vs) = omega arith in sets-append vs us (set l i v) (suc i) ∙ ap (λ (k : ℕ). sets (sets (set l i v) (suc i) vs) k us) z
-
--- stores from the front, and `overwritten`
-pub overwrites : (entry ws : List ℤ) → length ws ≤ length entry → sets entry 0 ws ≡ overwritten entry ws
-overwrites entry ws h = sets-eq ws entry 0 (omega arith) ∙ ap (λ (k : ℕ). ws ++ drop k entry) (zero-add (length ws))
+use Rattle.integers.proofs.Words.{sets-append}
 
 pub reasons-more : (ps : List Post) (p : Post) → reasons (ps ++ (p ∷ [])) ≡ reasons ps ++ p .reason
 unfolding reasons
@@ -72,3 +65,16 @@ no-atoms-stored entry = ap (sets entry 0) (sym atoms-none)
 pub no-reasons : length (reasons []) ≡ 0
 unfolding reasons
 no-reasons = refl
+
+-- the reasons of the first posts
+pub reasons-suc : (ps : List Post) (j : ℕ) → j < length ps → length (reasons (take (suc j) ps)) ≡ length (reasons (take j ps)) + length (getD ps j no-post .reason)
+unfolding reasons
+reasons-suc [] j h = absurd (omega arith)
+reasons-suc (p ∷ ps) zero h = omega (arith, length-append (p .reason) [])
+reasons-suc (p ∷ ps) (suc j) h = omega (arith, length-append (p .reason) (reasons (take (suc j) ps)), length-append (p .reason) (reasons (take j ps)), reasons-suc ps j (omega arith))
+
+pub reasons-most : (ps : List Post) (j : ℕ) → length (reasons (take j ps)) ≤ length (reasons ps)
+unfolding reasons
+reasons-most ps zero = omega arith
+reasons-most [] (suc j) = omega arith
+reasons-most (p ∷ ps) (suc j) = omega (arith, length-append (p .reason) (reasons (take j ps)), length-append (p .reason) (reasons ps), reasons-most ps j)

@@ -2,10 +2,10 @@
 -- Assumes nothing.
 use mathlib.Core.Path.{_≡_, refl, ap}
 use mathlib.Core.List.{List, [], _∷_, _++_}
-use Prim.Native.Nat.{ℕ, zero, suc, _+_, _*_}
+use Prim.Native.Nat.{ℕ, zero, suc, _+_, _*_, _<_}
 use native.Mathlib.Omega.{arith}
 use lib.IntN.{ℤ, pos}
-use lib.ListN.{length, take, drop}
+use lib.ListN.{length, getD, take, drop}
 use Rattle.scheduling.specs.Scheduling.{Atom}
 use Rattle.scheduling.specs.Words.{atomWords}
 
@@ -39,3 +39,24 @@ unfolding atomWords
 take-words zero xs = refl
 take-words (suc c) [] = let z : 3 * suc c ≡ suc (3 * c + 2) = omega arith in rw z refl
 take-words (suc c) (x ∷ xs) = let z : 3 * suc c ≡ suc (suc (suc (3 * c))) = omega arith in rw z (ap (λ (l : List ℤ). pos (x .variable) ∷ pos (x .kind) ∷ x .value ∷ l) (take-words c xs))
+
+-- an atom for places past the last
+abbrev pub no-atom : Atom
+no-atom = record { variable = 0; kind = 0; value = pos 0 }
+
+-- the three words of an atom, from place `at` on
+pub record Three (ws : List ℤ) (at : ℕ) (a : Atom) : Type 0 where
+  pub variable : getD ws at (pos 0) ≡ pos (a .variable)
+  pub kind : getD ws (at + 1) (pos 0) ≡ pos (a .kind)
+  pub value : getD ws (at + 2) (pos 0) ≡ a .value
+
+pub three-words : (xs : List Atom) (k : ℕ) → k < length xs → Three (atomWords xs) (3 * k) (getD xs k no-atom)
+unfolding atomWords
+three-words [] k h = absurd (omega arith)
+three-words (x ∷ xs) zero h = record { variable = refl; kind = refl; value = refl }
+three-words (x ∷ xs) (suc k) h =
+    let r = three-words xs k (omega arith) in
+    let a : 3 * suc k ≡ suc (suc (suc (3 * k))) = omega arith in
+    let b : 3 * suc k + 1 ≡ suc (suc (suc (3 * k + 1))) = omega arith in
+    let c : 3 * suc k + 2 ≡ suc (suc (suc (3 * k + 2))) = omega arith in
+    record { variable = rw a (r .variable); kind = rw b (r .kind); value = rw c (r .value) }

@@ -1,0 +1,6 @@
+pub mod Printing
+pub mod Reporting
+pub mod Showing
+pub mod Counting
+pub mod Leaving
+pub mod Refusing

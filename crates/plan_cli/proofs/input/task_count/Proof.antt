@@ -1,0 +1,66 @@
+use mathlib.Core.Path.{_≡_, sym, ap, _∙_}
+use native.Mathlib.Omega.{arith}
+use lib.IntN.{pos}
+use lib.Signed.{leZ}
+use lib.ListN.{getD}
+use borrow.Author.Tests.{not-true, not-false}
+use mir.Syntax.{w32}
+use mir.Val.{toZ, ofZ}
+use Rattle.integers.proofs.Ints.{back-of, leZ-true}
+use Rattle.plan_cli.proofs.Counting.{invalid, nothing, negative, other, right}
+use borrow.Author.Needs.{needs}
+use Rattle.plan_cli.proofs.input.task_count.Statement.{statement}
+use Rattle.plan_cli.proofs.input.task_count.Tie as tie
+
+-- the first number, from its bits
+first-is : (c : tie.After-first) → toZ w32 (ofZ w32 (getD (c .before .before .before .before .before .args .numbers .kept) 0 (pos 0))) ≡ getD (c .before .before .before .before .before .args .numbers .kept) 0 (pos 0)
+first-is c = back-of w32 (getD (c .before .before .before .before .before .args .numbers .kept) 0 (pos 0)) (c .first .given)
+
+returns : tie.Need-returns
+returns c xs h = invalid (c .before .before .args .numbers) xs h (not-true _ (c .if1 .taken))
+
+returns-2 : tie.Need-returns-2
+returns-2 c xs h = nothing (c .before .before .before .args .numbers) xs h (c .if2 .taken)
+
+array-copy-out-first : tie.Need-array-copy-out-first
+array-copy-out-first c = search needs
+
+at-most-requires : tie.Need-at-most-requires
+at-most-requires c κs = search needs
+
+returns-3 : tie.Need-returns-3
+returns-3 c xs h = negative (c .before .before .before .before .before .before .before .args .numbers) xs h (ap (leZ (pos 0)) (sym (first-is (c .before .before))) ∙ sym (c .before .at-most .ensures) ∙ not-true _ (c .if3 .taken))
+
+nat-of-requires : tie.Need-nat-of-requires
+nat-of-requires c κs = leZ-true (pos 0) _ (sym (c .before .at-most .ensures) ∙ not-false _ (c .if3 .left))
+
+cast-n : tie.Need-cast-n
+cast-n c = search needs
+
+mul-if4 : tie.Need-mul-if4
+mul-if4 c = search needs
+
+add-if4 : tie.Need-add-if4
+add-if4 c = search needs
+
+returns-4 : tie.Need-returns-4
+returns-4 c xs h = other (c .before .before .before .before .before .before .before .before .before .args .numbers) (c .before .nat-of .result) (omega arith) (c .before .nat-of .ensures ∙ first-is (c .before .before .before .before)) xs h (λ z. absurd (omega (arith, z, c .if4 .taken)))
+
+returns-5 : tie.Need-returns-5
+returns-5 c xs h = right (c .before .before .before .before .before .before .before .before .before .args .numbers) (c .before .nat-of .result) (omega arith) (c .before .nat-of .ensures ∙ first-is (c .before .before .before .before)) xs h (not-false _ (c .before .before .before .before .before .before .before .if1 .left)) (omega (arith, c .if4 .left))
+
+pub task-count-spec : {M : Type 1} → statement M
+task-count-spec =
+    tie.close
+    (tie.spec
+    returns
+    returns-2
+    array-copy-out-first
+    at-most-requires
+    returns-3
+    nat-of-requires
+    cast-n
+    mul-if4
+    add-if4
+    returns-4
+    returns-5)

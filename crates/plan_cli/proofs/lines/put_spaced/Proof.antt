@@ -1,0 +1,30 @@
+use native.Mathlib.Omega.{arith}
+use Rattle.integers.proofs.Ints.{back}
+use Rattle.text.proofs.Putting.{puts-append}
+use Rattle.plan_cli.proofs.Printing.{puts-number}
+use borrow.Author.Needs.{needs}
+use Rattle.plan_cli.proofs.lines.put_spaced.Statement.{statement}
+use Rattle.plan_cli.proofs.lines.put_spaced.Tie as tie
+
+slice-aggregate-put-bytes : tie.Need-slice-aggregate-put-bytes
+slice-aggregate-put-bytes c = search needs
+
+put-bytes-requires : tie.Need-put-bytes-requires
+put-bytes-requires c κs = search needs
+
+put-number-requires : tie.Need-put-number-requires
+put-number-requires c κs = search needs
+
+same-length : tie.Need-same-length
+same-length c = search needs
+
+returns : tie.Need-returns
+returns c =
+    let a = c .before .before .before .before .before .before .put-bytes .ensures in
+    let b = c .before .before .put-number .ensures in
+    (puts-append a (puts-number (back (c .before .before .before .before .before .before .before .before .before .before .fits .x)) (b .0)), omega (arith, a .end, b .1))
+
+pub put-spaced-spec : {M : Type 1} → statement M
+put-spaced-spec =
+    tie.close
+    (tie.spec slice-aggregate-put-bytes put-bytes-requires put-number-requires same-length returns)

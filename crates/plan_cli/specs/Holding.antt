@@ -1,0 +1,64 @@
+-- What the slices hold when a run is printed from them.
+use mathlib.Core.Path.{_≡_}
+use mathlib.Core.List.{List}
+use mathlib.Core.Logic.{_⊎_, inl, inr}
+use Prim.Native.Nat.{ℕ, _+_, _*_, _≤_, _<_}
+use lib.IntN.{ℤ, pos}
+use lib.ListN.{length, getD, take, drop}
+use Rattle.integers.specs.Limits.{TASKS}
+use Rattle.scheduling.specs.Words.{atomWords}
+use Rattle.runs.specs.Traces.{Post, Trace}
+use Rattle.runs.specs.Demand.{no-post}
+use Rattle.runs.specs.Words.{reasons, endReason}
+use Rattle.records.specs.Posts.{reasonWords}
+use Rattle.propagator.specs.Finding.{outcomeOf}
+use Rattle.propagator.specs.declared.disjunctive_propagator.Outcome.{Outcome}
+use Rattle.propagator.specs.declared.disjunctive_propagator.Outcome.the-variants as outcome
+
+-- atoms that a run has room for, 2n² of them
+abbrev pub ATOMS : ℕ
+ATOMS = 2 * (TASKS * TASKS)
+
+-- bytes for 48 posts of at most 44, ATOMS atoms of at most 33, and a last line of at most 581
+abbrev pub ROOM : ℕ
+ROOM = 160000
+
+-- Post j: the two words that are printed, and the stretch of its reason.
+pub record Held (posts atoms : List ℤ) (count j : ℕ) (p : Post) : Type 0 where
+  pub task : getD posts (4 * j) (pos 0) ≡ pos (p .task)
+  pub bound : getD posts (4 * j + 1) (pos 0) ≡ p .bound
+  pub reason : reasonWords posts atoms count j ≡ atomWords (p .reason)
+
+-- The slices hold the posts ps.
+pub record Holds (ps : List Post) (posts atoms : List ℤ) (count : ℕ) : Type 0 where
+  pub many : count ≡ length ps
+  pub inside : 4 * count ≤ length posts
+  pub each : (j : ℕ) → j < count → Held posts atoms count j (getD ps j no-post)
+
+-- They do, and the buffer has room for their lines: 44 bytes for each post, and 33 for each atom.
+pub record Posts (posts atoms : List ℤ) (count room : ℕ) : Type 0 where
+  pub list : List Post
+  pub holds : Holds list posts atoms count
+  pub fits : 44 * length list + 33 * length (reasons list) ≤ room
+
+-- The outcome and the slices show the run with trace t, which is not longer than any run of 48 tasks.
+pub record ShowsRun (t : Trace) (r : Outcome) (posts atoms starts : List ℤ) : Type 0 where
+  pub answer : r ≡ outcomeOf (reasons (t .posts)) (length (t .posts)) (t .end)
+  pub starts-are : starts ≡ t .starts
+  pub holds : Holds (t .posts) posts atoms (length (t .posts))
+  pub end-inside : 3 * length (reasons (t .posts)) + 3 * length (endReason (t .end)) ≤ length atoms
+  pub end-words : take (3 * length (endReason (t .end))) (drop (3 * length (reasons (t .posts))) atoms) ≡ atomWords (endReason (t .end))
+  pub few-posts : length (t .posts) ≤ TASKS
+  pub few-atoms : length (reasons (t .posts)) + length (endReason (t .end)) ≤ ATOMS
+  pub few-starts : length (t .starts) ≤ TASKS
+
+-- A number that turned a run back, or a run.
+abbrev pub Shown : ℕ ⊎ Trace → Outcome → List ℤ → List ℤ → List ℤ → Type 0
+Shown (inl number) r posts atoms starts = r ≡ outcome.Refused number
+Shown (inr t) r posts atoms starts = ShowsRun t r posts atoms starts
+
+-- One of them is shown, and the buffer has room for it.
+pub record Printable (r : Outcome) (posts atoms starts : List ℤ) (room : ℕ) : Type 0 where
+  pub what : ℕ ⊎ Trace
+  pub shows : Shown what r posts atoms starts
+  pub fits : ROOM ≤ room

@@ -1,0 +1,5 @@
+pub mod Lines
+pub mod Holding
+pub mod Printed
+pub mod Counting
+pub mod Examples

@@ -1,0 +1,96 @@
+// The answer to an input: its lines, or the number that turned it back.
+use crate::input::Counted;
+use crate::input::column_of;
+use crate::input::task_count;
+use crate::lines::put_refused;
+use crate::report::put_run;
+use integers::limits::TASKS;
+use propagator::disjunctive_propagator::propagate;
+use records::record::Creation;
+use records::record::Propagator;
+use records::record::create;
+use text::reading::Numbers;
+ghost use mathlib.Core.List.{List};
+ghost use mathlib.Core.Option.{Option};
+ghost use mathlib.Core.Path.{_≡_};
+ghost use Prim.Native.Nat.{_≤_};
+ghost use lib.IntN.{ℤ};
+ghost use lib.ListN.{length, take};
+ghost use Rattle.integers.specs.Limits.{TASKS};
+ghost use Rattle.text.specs.Scanning.{gathered};
+ghost use Rattle.text.specs.Writing.{Puts};
+ghost use Rattle.plan_cli.specs.Lines.{answerLines};
+ghost use Rattle.plan_cli.specs.Holding.{ROOM};
+ghost use Rattle.plan_cli.specs.Printed.{ranOn, planned, answered};
+
+// Words for the posts and the atoms of any run.
+const POST_WORDS: usize = 4 * TASKS;
+
+const ATOM_WORDS: usize = 6 * TASKS * TASKS;
+
+// A run on the first n ranges.
+fn put_ran(
+    out: &mut [u8],
+    record: Propagator,
+    n: usize,
+    earliest: [i32; TASKS],
+    latest: [i32; TASKS],
+) -> usize
+    requires { ⌜ (n ≤ TASKS) × (ROOM ≤ length (now out)) ⌝ }
+    ensures text { λ r. ⌜ Puts (now (out .entry)) (now (out .exit)) 0 (answerLines (ranOn «record» (take n earliest) (take n latest))) r ⌝ }
+    ensures within { λ r. ⌜ r ≤ length (now (out .entry)) ⌝ }
+{
+    let mut starts = earliest;
+    let mut posts = [0i32; POST_WORDS];
+    let mut atoms = [0i32; ATOM_WORDS];
+    let ran = propagate(
+        record,
+        &mut starts[..n],
+        &latest[..n],
+        &mut posts,
+        &mut atoms,
+    );
+    let outcome = ran.outcome;
+    put_run(out, outcome, &posts, &atoms, &starts[..n])
+}
+
+// A record for the first n durations, and a run on it.
+fn put_planned(
+    out: &mut [u8],
+    n: usize,
+    earliest: [i32; TASKS],
+    latest: [i32; TASKS],
+    durations: [i32; TASKS],
+) -> usize
+    requires { ⌜ (n ≤ TASKS) × (ROOM ≤ length (now out)) ⌝ }
+    ensures text { λ r. ⌜ Puts (now (out .entry)) (now (out .exit)) 0 (answerLines (planned (take n earliest) (take n latest) (take n durations))) r ⌝ }
+    ensures within { λ r. ⌜ r ≤ length (now (out .entry)) ⌝ }
+{
+    let created = create(&durations[..n]);
+    let answer = created.answer;
+    let record = created.record;
+    match answer {
+        Creation::Accepted => put_ran(out, record, n, earliest, latest),
+        Creation::Refused(number) => put_refused(out, 0, number),
+    }
+}
+
+// The answer to an input's numbers. More tasks than a record has are turned back here, as creation would.
+pub fn put_answer(out: &mut [u8], numbers: Numbers) -> usize
+    requires { ⌜ ROOM ≤ length (now out) ⌝ }
+    ensures text { λ r. ⌜ ((xs : Option (List ℤ)) → numbers ≡ gathered xs → Puts (now (out .entry)) (now (out .exit)) 0 (answerLines (answered xs)) r) ⌝ }
+    ensures within { λ r. ⌜ r ≤ length (now (out .entry)) ⌝ }
+{
+    let counted = task_count(numbers);
+    let Counted::Tasks(n) = counted else {
+        return put_refused(out, 0, 0);
+    };
+    if n > TASKS {
+        return put_refused(out, 0, 1);
+    }
+    let kept = numbers.kept;
+    let earliest = column_of(&kept, n, 1);
+    let latest = column_of(&kept, n, 2);
+    let durations = column_of(&kept, n, 3);
+    put_planned(out, n, earliest, latest, durations)
+}
