@@ -12,5 +12,6 @@ pub mod Values
 pub mod Meaning
 pub mod Promises
 pub mod Prepared
+pub mod OneState
 pub mod Near
 pub mod Instances

@@ -43,11 +43,11 @@ all-success (a ∷ rest) k kinds s acc w = all-case s a rest (λ r. r .answer �
     (λ m n. clash (step-refused s a acc (k .0) m n .2) (no-room (domainAt s (a .variable)) (a .kind) (a .value) (kinds .0)))
 
 -- ---- parts of a list
-every-left : (P : Atom → Type 0) (p q : List Atom) → Every P (p ++ q) → Every P p
+pub every-left : (P : Atom → Type 0) (p q : List Atom) → Every P (p ++ q) → Every P p
 every-left P [] q e = tt
 every-left P (a ∷ p) q e = (e .0, every-left P p q (e .1))
 
-every-at : (P : Atom → Type 0) (p : List Atom) (a : Atom) (q : List Atom) → Every P (p ++ (a ∷ q)) → P a
+pub every-at : (P : Atom → Type 0) (p : List Atom) (a : Atom) (q : List Atom) → Every P (p ++ (a ∷ q)) → P a
 every-at P [] a q e = e .0
 every-at P (b ∷ p) a q e = every-at P p a q (e .1)
 

@@ -227,18 +227,14 @@ module _ (premises consequent : List ℤ) where
   prepare-promise r e = (e, subst (PrepareMeans premises consequent) (sym e) prepare-means)
 
 -- ---- canonical: two accepted states admit the same values for every variable exactly when they are equal
+pub same-state : (s t : VariableState) → Accepted s → Accepted t → ((x : ℕ) → x < VARIABLES → (z : ℤ) → Admitted (domainAt s x) z ↔ Admitted (domainAt t x) z) → s ≡ t
+same-state s t a b same = λ i. record {
+  domains = ext-getD noDomain (s .domains) (t .domains) (a .size ∙ sym (b .size))
+      (λ x h. let l : x < VARIABLES = omega (arith, a .size) in same-values (domainAt s x) (domainAt t x) (a .each x l) (b .each x l) (λ z. same x l z .0) (λ z. same x l z .1)) i;
+}
+
 pub canonical : (s t : VariableState) → Sized s → Sized t → accepted (s .domains) ≡ true → accepted (t .domains) ≡ true
     → ((x : ℕ) → x < VARIABLES → (z : ℤ) → Admitted (domainAt s x) z ↔ Admitted (domainAt t x) z) ↔ (s ≡ t)
-canonical s t m n p q = (to, λ e x h z. subst (λ (r : VariableState). Admitted (domainAt s x) z ↔ Admitted (domainAt r x) z) e (λ a. a, λ a. a))
-  where
-    a : Accepted s
-    a = proper-state (s .domains) (m .size) (m .places) p
-
-    b : Accepted t
-    b = proper-state (t .domains) (n .size) (n .places) q
-
-    to : ((x : ℕ) → x < VARIABLES → (z : ℤ) → Admitted (domainAt s x) z ↔ Admitted (domainAt t x) z) → s ≡ t
-    to same = λ i. record {
-      domains = ext-getD noDomain (s .domains) (t .domains) (m .size ∙ sym (n .size))
-          (λ x h. let l : x < VARIABLES = omega (arith, m .size) in same-values (domainAt s x) (domainAt t x) (a .each x l) (b .each x l) (λ z. same x l z .0) (λ z. same x l z .1)) i;
-    }
+canonical s t m n p q =
+    (same-state s t (proper-state (s .domains) (m .size) (m .places) p) (proper-state (t .domains) (n .size) (n .places) q),
+    λ e x h z. subst (λ (r : VariableState). Admitted (domainAt s x) z ↔ Admitted (domainAt r x) z) e (λ a. a, λ a. a))

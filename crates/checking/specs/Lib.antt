@@ -3,3 +3,4 @@ pub mod Domains
 pub mod Atoms
 pub mod States
 pub mod Promises
+pub mod Shuffles
