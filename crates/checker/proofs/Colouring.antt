@@ -51,11 +51,19 @@ sorted-own n few le {l} {m} z s =
     subst (λ (o : List ℕ). Permutes n (take n o)) (sym (s ∙ ap (sortedOrder le n) z))
     (sorted-permutes le n (filled (λ k. k) n noTasks) (omega (arith, own-long n)) (own-order n few))
 
+-- sorted by keys that an array holds, it is their order
+pub sorted-numbers : (n : ℕ) → n ≤ TASKS → (key : List ℕ) (f : ℕ → ℕ) → ((k : ℕ) → k < n → getD key k 0 ≡ f k) → {l m : List ℕ} → l ≡ filled (λ k. k) n noTasks → m ≡ sortedOrder (byKey key) n l → take n m ≡ sort (λ j k. leb (f j) (f k)) (numbers 0 n)
+sorted-numbers n few key f h {l} {m} z s =
+    ap (take n) (s ∙ ap (sortedOrder (byKey key) n) z)
+    ∙ sorted-front (byKey key) n (filled (λ k. k) n noTasks) (omega (arith, own-long n, few))
+    ∙ ap (sort (byKey key)) (own-front n few)
+    ∙ sort-ext (byKey key) (λ j k. leb (f j) (f k)) (numbers 0 n) (λ j k p q. ap₂ leb (h j (numbers-permute n .below j p)) (h k (numbers-permute n .below k q)))
+
 -- The tree of the tasks that the arrays hold -----------------------------------------------------------------------------------
 
 module _ {J : Tasks natural} {Ω : TaskSet} {n : ℕ} {chosen : List Bool} {est durations : List ℕ} (h : Held J Ω n chosen est durations) where
   -- the tree's numbers stay in their range
-  limited : Limited J (order J Ω)
+  pub limited : Limited J (order J Ω)
   limited =
       tree.limited J (h .proper) (order J Ω) (by-order J Ω) (omega (arith, h .count, h .few)) (λ k q. h .early k (omega (arith, h .count))) (subst (λ (m : ℕ). total (J .duration) m ≤ DURATIONS) (sym (h .count)) (h .sum))
 
@@ -64,22 +72,12 @@ module _ {J : Tasks natural} {Ω : TaskSet} {n : ℕ} {chosen : List Bool} {est 
   below x q = omega (arith, h .count, by-order J Ω .task x (omega (arith, h .count)))
 
   -- sorted by the keys in the array, the order is that of the earliest starts
-  sorted-is : sort (byKey est) (numbers 0 n) ≡ order J Ω
-  sorted-is =
-      sort-ext (byKey est) (λ j k. leb (J .earliest j) (J .earliest k)) (numbers 0 n)
-      (λ j k p q. ap₂ leb (h .start j (numbers-permute n .below j p)) (h .start k (numbers-permute n .below k q)))
-      ∙ ap (λ (m : ℕ). sort (λ j k. leb (J .earliest j) (J .earliest k)) (numbers 0 m)) (sym (h .count))
+  pub front-is : {l m : List ℕ} → l ≡ filled (λ k. k) n noTasks → m ≡ sortedOrder (byKey est) n l → take n m ≡ order J Ω
+  front-is z s = sorted-numbers n (h .few) est (J .earliest) (h .start) z s ∙ ap (λ (m : ℕ). sort (λ j k. leb (J .earliest j) (J .earliest k)) (numbers 0 m)) (sym (h .count))
 
   -- so each place of the sorted array has the task of its leaf
   pub task-at : {l m : List ℕ} → l ≡ filled (λ k. k) n noTasks → m ≡ sortedOrder (byKey est) n l → (x : ℕ) → x < n → getD m x 0 ≡ getD (order J Ω) x 0
-  task-at {l} {m} z s x q = sym (getD-take n m x 0 q) ∙ ap (λ (o : List ℕ). getD o x 0) front
-    where
-      front : take n m ≡ order J Ω
-      front =
-          ap (take n) (s ∙ ap (sortedOrder (byKey est) n) z)
-          ∙ sorted-front (byKey est) n (filled (λ k. k) n noTasks) (omega (arith, own-long n, h .few))
-          ∙ ap (sort (byKey est)) (own-front n (h .few))
-          ∙ sorted-is
+  task-at {l} {m} z s x q = sym (getD-take n m x 0 q) ∙ ap (λ (o : List ℕ). getD o x 0) (front-is z s)
 
   -- a new tree over the sorted order
   abbrev pub colourable : {l m : List ℕ} {t : ThetaTree} → l ≡ filled (λ k. k) n noTasks → m ≡ sortedOrder (byKey est) n l → PlainNew n m t → Colourable (t .«number_of_internal_nodes») n (t .nodes) m chosen est durations

@@ -13,6 +13,9 @@ use borrow.Author.Tests.{le-leb, lt-leb, leb-true, leb-false}
 use Rattle.integers.proofs.Bools.{bool}
 use Rattle.integers.specs.Limits.{TASKS}
 use Rattle.records.specs.declared.record.Propagator.{Propagator}
+use Rattle.counter.specs.declared.overload_test.Overload.{Overload}
+use Rattle.counter.specs.Tested.{OverloadTested}
+use Rattle.counter.proofs.Many.{too-many as overload-too-many}
 use Rattle.propagator.proofs.Many.{too-many}
 use Rattle.disjunctive.specs.declared.ranges.Range.{Range}
 use Rattle.disjunctive.specs.declared.ranges.Starts.{Starts}
@@ -140,6 +143,23 @@ lent before ys posts atoms r posts′ atoms′ c = ⊎-elim few many (fits-or-no
         let l : length (earliests ys) ≡ n = length-map ys (λ (y : Range). y .earliest) in
         let m : length (latests ys) ≡ n = length-map ys (λ (y : Range). y .latest) in
         rw z (record { ran = too-many before (earliests ys) (latests ys) posts atoms _ [] posts′ atoms′ (omega arith) (m ∙ sym l) (rw (taken-none n h) at (c .ran)); same-latest = refl })
+
+-- what is tested of the ranges taken apart is tested of the ranges
+pub lent-test : (before : Propagator) (ys : List Range) (s : Starts) (r : Overload) → s ≡ startsOf ys → OverloadTested before (take (s .count) (s .earliest)) (take (s .count) (s .latest)) r → OverloadTested before (earliests ys) (latests ys) r
+unfolding startsOf
+lent-test before ys s r e t = ⊎-elim few many (fits-or-not n)
+  where
+    n : ℕ
+    n = length ys
+
+    apart : OverloadTested before (take (taken n) (padded (taken n) (earliests ys))) (take (taken n) (padded (taken n) (latests ys))) r
+    apart = rw e at t
+
+    few : n ≤ TASKS → OverloadTested before (earliests ys) (latests ys) r
+    few h = rw (padded-all n (earliests ys) (length-map ys (λ (y : Range). y .earliest)) h, padded-all n (latests ys) (length-map ys (λ (y : Range). y .latest)) h) at apart
+
+    many : TASKS < n → OverloadTested before (earliests ys) (latests ys) r
+    many h = overload-too-many before (earliests ys) (latests ys) r (omega (arith, length-map ys (λ (y : Range). y .earliest))) (rw (taken-none n h) at apart)
 
 -- starts that have the count of the ranges taken apart fit an array, and the ranges
 pub starts-fit : (ys : List Range) (s r : Starts) → s ≡ startsOf ys → r .count ≡ s .count → (r .count ≤ TASKS) × (r .count ≤ length ys)

@@ -1,9 +1,23 @@
 -- The definitions at small lists and numbers.
 -- Assumes nothing.
-use mathlib.Core.List.{[], _∷_}
+use mathlib.Core.List.{List, [], _∷_}
 use mathlib.Core.Path.{_≡_, refl}
 use lib.IntN.{ℤ, pos, negsuc}
 use lib.ListN.{take}
+use Rattle.integers.specs.Filling.{filled}
+use Rattle.integers.specs.Orders.{sort, insert, index, numbers, has}
+use Rattle.scheduling.specs.Scheduling.{total, processing}
+use Rattle.trees.specs.Leaves.{root, responsible, theta}
+use Rattle.trees.specs.Nodes.{joinOf, isEmpty}
+use Rattle.trees.specs.Searches.{gray, tested, descentP, descentEct, stepP, stepEct, searchP, searchEct, thetaOf}
+use Rattle.trees.specs.Shapes.{width, heightFrom, nodeOver}
+use Rattle.runs.specs.Traces.{emptied}
+use Rattle.runs.specs.Runs.{propagate, run, outer, inner, conflict, propagation, bounds, within, tabulate}
+use Rattle.records.specs.declared.record.Propagator.{Propagator}
+use Rattle.records.specs.Records.{newRecord, momentsIn}
+use Rattle.counter.specs.declared.overload_test.Overload.the-variants.{Yes}
+use Rattle.counter.specs.Reading.{answerFrom, answerOf}
+use Rattle.propagator.specs.Ran.{traceOf}
 use Rattle.disjunctive.specs.declared.ranges.Range.{Range}
 use Rattle.disjunctive.specs.Ranges.{taken, padded, startsOf, withStarts}
 
@@ -27,3 +41,17 @@ first-places = refl
 raised : withStarts (range (pos 0) (pos 6) ∷ range (pos 1) (pos 5) ∷ range (pos 0) (pos 20) ∷ []) (pos 0 ∷ pos 4 ∷ []) ≡ range (pos 0) (pos 6) ∷ range (pos 4) (pos 5) ∷ range (pos 0) (pos 20) ∷ []
 unfolding withStarts range
 raised = refl
+
+-- the overload test says yes where the run meets an emptied range before the overload
+three : Propagator
+three = newRecord (pos 3 ∷ pos 3 ∷ pos 3 ∷ [])
+
+earliest : List ℤ
+earliest = pos 0 ∷ pos 1 ∷ pos 1 ∷ []
+
+latest : List ℤ
+latest = pos 6 ∷ pos 1 ∷ pos 1 ∷ []
+
+emptied-first : (traceOf three earliest latest .end ≡ emptied) × (answerOf (momentsIn three earliest latest) ≡ Yes 2)
+unfolding three earliest latest filled sort insert index numbers has total processing root responsible theta joinOf isEmpty gray tested descentP descentEct stepP stepEct searchP searchEct thetaOf width heightFrom nodeOver propagate run outer inner conflict propagation bounds within tabulate answerFrom
+emptied-first = (refl, refl)

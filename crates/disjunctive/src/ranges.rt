@@ -1,5 +1,6 @@
-// The open run on lent data: the record is lent and changed, and so is a slice of ranges, one for each task.
+// The open calls on lent data: the record is lent, and a slice of ranges, one for each task. A run changes both, the overload test neither.
 // The core takes the record by value and the starts as slices of numbers; here the ranges are taken apart for it, and what it leaves is stored back.
+use counter::overload_test::Overload;
 use integers::limits::TASKS;
 use propagator::disjunctive_propagator::Outcome;
 use propagator::disjunctive_propagator::propagate;
@@ -8,7 +9,8 @@ ghost use mathlib.Core.Path.{_≡_};
 ghost use Prim.Native.Nat.{_≤_};
 ghost use lib.ListN.{length, take};
 ghost use Rattle.integers.specs.Limits.{TASKS};
-ghost use Rattle.disjunctive.specs.Ranges.{RanLent, RanCore, taken, startsOf, withStarts};
+ghost use Rattle.counter.specs.Tested.{OverloadTested};
+ghost use Rattle.disjunctive.specs.Ranges.{earliests, latests, RanLent, RanCore, taken, startsOf, withStarts};
 
 // A task may start from `earliest` to `latest`.
 #[repr(C)]
@@ -112,4 +114,23 @@ pub fn run(
     store_starts(ranges, ran.starts);
     *propagator = ran.record;
     ran.outcome
+}
+
+// The overload test on the first `count` places of the arrays.
+fn overload_core(record: Propagator, starts: Starts) -> Overload
+    requires { ⌜ starts .count ≤ TASKS ⌝ }
+    ensures { λ r. ⌜ OverloadTested «record» (take (starts .count) (starts .earliest)) (take (starts .count) (starts .latest)) r ⌝ }
+{
+    let n = starts.count;
+    let earliest = starts.earliest;
+    let latest = starts.latest;
+    counter::overload_test::overload_test(record, &earliest[..n], &latest[..n])
+}
+
+// Whether some set of the record's tasks overloads in these ranges. Nothing lent is changed.
+pub fn overload_test(propagator: &Propagator, ranges: &[Range]) -> Overload
+    ensures { λ r. ⌜ OverloadTested (now (propagator .entry)) (earliests (now (ranges .entry))) (latests (now (ranges .entry))) r ⌝ }
+{
+    let starts = starts_of(ranges);
+    overload_core(*propagator, starts)
 }

@@ -44,7 +44,7 @@ use Rattle.runs.proofs.Fuel.{propagate-is}
 use Rattle.runs.proofs.Tables.{tabulated}
 use Rattle.records.specs.declared.record.Propagator.{Propagator}
 use Rattle.records.specs.Orders.{noTasks, momentAt, completionAt, byKey, byKeyDown, largestKey, reversedAt, sortedOrder}
-use Rattle.records.specs.Records.{Lawful}
+use Rattle.records.specs.Records.{Lawful, tasksIn}
 use Rattle.records.specs.Refusals.{Accepted}
 use Rattle.records.proofs.Keys.{sort-reversed}
 use Rattle.records.proofs.Sorted.{sorted-front, sorted-length, sorted-permutes}
@@ -52,7 +52,7 @@ use Rattle.propagator.specs.Holding.{Ordered, Holds, Arrays, At}
 use Rattle.propagator.specs.declared.disjunctive_propagator.Outcome.{Outcome}
 use Rattle.propagator.specs.Filling.{Fillable}
 use Rattle.propagator.specs.Finding.{allWhite, outcomeOf, Begun, Ended}
-use Rattle.propagator.specs.Ran.{tasksIn, traceOf, Left}
+use Rattle.propagator.specs.Ran.{traceOf, Left}
 
 zeros-long : length noTasks ≡ TASKS
 zeros-long = length-replicate {A = ℕ} 48 0

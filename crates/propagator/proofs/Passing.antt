@@ -22,13 +22,13 @@ use Rattle.runs.proofs.Shapes.{Shaped, post-shaped, overload-shaped}
 use Rattle.checking.specs.Holes.{Within}
 use Rattle.checking.proofs.Atoms.{every-map}
 use Rattle.records.specs.declared.record.Propagator.{Propagator}
-use Rattle.records.specs.Records.{creationTests}
+use Rattle.records.specs.Records.{creationTests, tasksIn}
 use Rattle.records.specs.Refusals.{Accepted}
 use Rattle.records.proofs.Creation.{natural-count, natural-duration, natural-accepted}
 use Rattle.checker.specs.declared.checker.Verdict.the-variants.{Passed}
 use Rattle.checker.specs.Checks.{checkOf, tasksWith, consequentWords}
 use Rattle.checker.proofs.Reasons.{Bound, BoundIfAny, reason-check, passes-alike, meets-admits}
-use Rattle.propagator.specs.Ran.{tasksIn, traceOf, checkDurations, Passing}
+use Rattle.propagator.specs.Ran.{traceOf, checkDurations, Passing}
 use Rattle.propagator.proofs.Beginning as beginning
 
 -- an atom near the starts of at most 48 tasks is within the limits of a check

@@ -4,9 +4,7 @@ use mathlib.Core.List.{List, [], _∷_, _++_, map}
 use Prim.Native.Nat.{ℕ, _+_, _*_, _≤_, _<_}
 use lib.IntN.{ℤ, pos}
 use lib.ListN.{length, getD, take, drop}
-use Rattle.integers.specs.Moments.{zeroAt}
-use Rattle.scheduling.specs.Scheduling.{whole, natural, Tasks, tasksOf, Atom}
-use Rattle.scheduling.proofs.Transfer.{moments}
+use Rattle.scheduling.specs.Scheduling.{Atom}
 use Rattle.runs.specs.Traces.{Post, Trace, overload}
 use Rattle.runs.specs.Runs.{propagate, byEarliest, byCompletion}
 use Rattle.scheduling.specs.Words.{atomWords}
@@ -15,6 +13,7 @@ use Rattle.runs.specs.Demand.{Right, consequentOf, post}
 use Rattle.records.specs.declared.record.Propagator.{Propagator}
 use Rattle.records.specs.Orders.{sortedOrder}
 use Rattle.records.specs.Posts.{postNumber, reasonWords}
+use Rattle.records.specs.Records.{tasksIn, momentsIn}
 use Rattle.records.specs.Refusals.{runNumber}
 use Rattle.checker.specs.declared.checker.Verdict.the-variants.{Passed}
 use Rattle.checker.specs.Checks.{checkOf}
@@ -35,14 +34,7 @@ pub record Read (p : Post) (posts atoms : List ℤ) (count j : ℕ) : Type 0 whe
   pub bound : getD posts (4 * j + 1) (pos 0) ≡ p .bound
 
 module _ (before : Propagator) (es ls : List ℤ) where
-  -- the tasks of a record with these ranges, and their moments
-  abbrev pub tasksIn : Tasks whole
-  tasksIn = tasksOf (take (before .count) (before .durations)) es ls
-
-  abbrev pub momentsIn : Tasks natural
-  momentsIn = moments zeroAt tasksIn
-
-  -- the run on them, with the orders that the record carries
+  -- the run on a record's tasks, with the orders that it carries
   abbrev pub traceOf : Trace
   traceOf = propagate (take (before .count) (before .durations)) es ls (take (before .count) (before .first)) (take (before .count) (before .second))
 
@@ -51,8 +43,8 @@ module _ (before : Propagator) (es ls : List ℤ) where
   carried = record {
     count = before .count;
     durations = before .durations;
-    first = sortedOrder (byEarliest momentsIn) (before .count) (before .first);
-    second = sortedOrder (byCompletion momentsIn) (before .count) (before .second);
+    first = sortedOrder (byEarliest (momentsIn before es ls)) (before .count) (before .first);
+    second = sortedOrder (byCompletion (momentsIn before es ls)) (before .count) (before .second);
   }
 
   -- An accepted run leaves that trace: its answer, the earliest starts, the words of its posts and reasons over what stood in the lent slices, which have room for them, and the record.

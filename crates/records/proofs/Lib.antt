@@ -4,4 +4,5 @@ pub mod Sorted
 pub mod Lawful
 pub mod Creation
 pub mod Refused
+pub mod Accepting
 pub mod Reading

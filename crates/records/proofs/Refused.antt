@@ -1,7 +1,7 @@
--- What turns a run back: what holds where nothing does, and the sole ground for each number.
+-- What turns a run or a page back: what holds where nothing does, and the sole ground for each number of a run.
 -- Assumes nothing.
-use mathlib.Core.Path.{_≡_, refl}
-use mathlib.Core.Bool.{true, _&&_}
+use mathlib.Core.Path.{_≡_, refl, _∙_}
+use mathlib.Core.Bool.{true, false, _&&_}
 use mathlib.Core.Logic.{_↔_}
 use mathlib.Core.List.{List, [], _∷_}
 use Prim.Native.Nat.{ℕ, _*_, _<_}
@@ -16,10 +16,10 @@ use Rattle.integers.specs.Orders.{has}
 use Rattle.integers.specs.Tests.{Test, test, allBelow, AllPassed}
 use Rattle.integers.proofs.Bools.{and-true, and-yes}
 use Rattle.integers.proofs.Ints.{leZ-true, le-leZ}
-use Rattle.integers.proofs.Tests.{all-at, all-show, accepts, accepted, ground, refuses, broken}
+use Rattle.integers.proofs.Tests.{all-at, all-show, accepts, accepted, ground, refuses, refusal-before, refusal-after, broken}
 use Rattle.records.specs.declared.record.Propagator.{Propagator}
 use Rattle.records.specs.Records.{lawfulRecord, Lawful}
-use Rattle.records.specs.Refusals.{startFits, startFitsAt, rangeFitsAt, runTests, runNumber, StartFits, CountsFit, StartsFit, RangesFit, WordsFit, Accepted}
+use Rattle.records.specs.Refusals.{startFits, startFitsAt, rangeFitsAt, inputTests, inputNumber, runTests, runNumber, StartFits, CountsFit, StartsFit, RangesFit, WordsFit, AcceptedInput, Accepted}
 use Rattle.records.proofs.Lawful.{lawful-is}
 
 start-is : (z : ℤ) → startFits z ≡ true ↔ StartFits z
@@ -32,19 +32,19 @@ starts-in : (xs : List ℤ) → allBelow (startFitsAt xs) (length xs) ≡ true �
 starts-in xs = (λ h k q. start-is (getD xs k (pos 0)) .0 (all-at (startFitsAt xs) (length xs) h k q), λ f. all-show (startFitsAt xs) (length xs) (λ k q. start-is (getD xs k (pos 0)) .1 (f k q)))
 
 module _ (n : ℕ) (es ls : List ℤ) where
-  counts-are : eqb (length es) n && eqb (length ls) n ≡ true ↔ CountsFit n es ls
+  pub counts-are : eqb (length es) n && eqb (length ls) n ≡ true ↔ CountsFit n es ls
   counts-are = (
     λ h. (let a = and-true (eqb (length es) n) (eqb (length ls) n) h in record { earliest = eqb-true (length es) n (a .0); latest = eqb-true (length ls) n (a .1) }),
     λ f. and-yes (eqb (length es) n) (eqb (length ls) n) (eq-eqb (length es) n (f .earliest)) (eq-eqb (length ls) n (f .latest)),
   )
 
-  starts-are : allBelow (startFitsAt es) (length es) && allBelow (startFitsAt ls) (length ls) ≡ true ↔ StartsFit es ls
+  pub starts-are : allBelow (startFitsAt es) (length es) && allBelow (startFitsAt ls) (length ls) ≡ true ↔ StartsFit es ls
   starts-are = (
     λ h. (let a = and-true (allBelow (startFitsAt es) (length es)) (allBelow (startFitsAt ls) (length ls)) h in record { earliest = starts-in es .0 (a .0); latest = starts-in ls .0 (a .1) }),
     λ f. and-yes (allBelow (startFitsAt es) (length es)) (allBelow (startFitsAt ls) (length ls)) (starts-in es .1 (f .earliest)) (starts-in ls .1 (f .latest)),
   )
 
-  ranges-are : allBelow (rangeFitsAt es ls) (length es) ≡ true ↔ RangesFit es ls
+  pub ranges-are : allBelow (rangeFitsAt es ls) (length es) ≡ true ↔ RangesFit es ls
   ranges-are = (
     λ h k q. leZ-true (getD es k (pos 0)) (getD ls k (pos 0)) (all-at (rangeFitsAt es ls) (length es) h k q),
     λ f. all-show (rangeFitsAt es ls) (length es) (λ k q. le-leZ (getD es k (pos 0)) (getD ls k (pos 0)) (f k q)),
@@ -55,6 +55,24 @@ words-are n posts atoms = (
   λ h. (let a = and-true (leb (4 * n) posts) (leb (6 * (n * n)) atoms) h in record { posts = leb-true (4 * n) posts (a .0); atoms = leb-true (6 * (n * n)) atoms (a .1) }),
   λ f. and-yes (leb (4 * n) posts) (leb (6 * (n * n)) atoms) (le-leb (4 * n) posts (f .posts)) (le-leb (6 * (n * n)) atoms (f .atoms)),
 )
+
+-- nothing is wrong with the record and its ranges
+pub input-passed : (r : Propagator) (es ls : List ℤ) → inputNumber r es ls ≡ 0 → AllPassed (inputTests r es ls)
+unfolding has
+input-passed r es ls h = accepted (inputTests r es ls) refl h
+
+pub accepted-input : (r : Propagator) (es ls : List ℤ) → inputNumber r es ls ≡ 0 ↔ AcceptedInput r es ls
+accepted-input r es ls = (λ h. facts (input-passed r es ls h), λ f. accepts (inputTests r es ls) (tests f))
+  where
+    facts : AllPassed (inputTests r es ls) → AcceptedInput r es ls
+    facts (a, (b, (c, (d, _)))) = record { lawful = lawful-is r .0 a; counts = counts-are (r .count) es ls .0 b; starts = starts-are (r .count) es ls .0 c; ranges = ranges-are (r .count) es ls .0 d }
+
+    tests : AcceptedInput r es ls → AllPassed (inputTests r es ls)
+    tests f = (lawful-is r .1 (f .lawful), (counts-are (r .count) es ls .1 (f .counts), (starts-are (r .count) es ls .1 (f .starts), (ranges-are (r .count) es ls .1 (f .ranges), tt))))
+
+-- where something is, a run is turned back by the same number
+pub run-too : (r : Propagator) (es ls : List ℤ) (posts atoms : ℕ) → (inputNumber r es ls ≡ 0 → ⊥) → runNumber r es ls posts atoms ≡ inputNumber r es ls
+run-too r es ls posts atoms h = refusal-before (inputTests r es ls) _ h
 
 module _ (r : Propagator) (es ls : List ℤ) (posts atoms : ℕ) where
   -- the tests by their numbers
@@ -72,6 +90,13 @@ module _ (r : Propagator) (es ls : List ℤ) (posts atoms : ℕ) where
 
   abbrev t9 : Test
   t9 = test 9 (leb (4 * r .count) posts && leb (6 * (r .count * r .count)) atoms)
+
+  -- only the words are left to test
+  pub words-short : AllPassed (inputTests r es ls) → leb (4 * r .count) posts && leb (6 * (r .count * r .count)) atoms ≡ false → runNumber r es ls posts atoms ≡ 9
+  words-short h q = refuses (inputTests r es ls) t9 [] h q
+
+  pub words-enough : AllPassed (inputTests r es ls) → leb (4 * r .count) posts && leb (6 * (r .count * r .count)) atoms ≡ true → runNumber r es ls posts atoms ≡ 0
+  words-enough h q = refusal-after (inputTests r es ls) (t9 ∷ []) h ∙ accepts (t9 ∷ []) (q, tt)
 
   -- nothing turns the run back
   pub accepted-run : runNumber r es ls posts atoms ≡ 0 ↔ Accepted r es ls posts atoms

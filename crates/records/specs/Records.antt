@@ -9,9 +9,11 @@ use lib.Signed.{leZ}
 use lib.ListN.{length, getD, take}
 use Rattle.integers.specs.Limits.{TASKS, DURATIONS}
 use Rattle.integers.specs.Filling.{filled}
+use Rattle.integers.specs.Moments.{zeroAt}
 use Rattle.integers.specs.Tests.{Test, test, refusal, allBelow}
 use Rattle.integers.specs.Orders.{Permutes, isPermutation}
-use Rattle.scheduling.specs.Scheduling.{total}
+use Rattle.scheduling.specs.Scheduling.{whole, natural, Tasks, tasksOf, total}
+use Rattle.scheduling.proofs.Transfer.{moments}
 use Rattle.records.specs.Orders.{noTasks}
 use Rattle.records.specs.declared.record.Propagator.{Propagator}
 use Rattle.records.specs.declared.record.Created.{Created}
@@ -59,6 +61,16 @@ pub record Lawful (r : Propagator) : Type 0 where
   pub first : Permutes (r .count) (take (r .count) (r .first))
   pub second : Permutes (r .count) (take (r .count) (r .second))
   pub unused : (k : ℕ) → r .count ≤ k → k < TASKS → (getD (r .durations) k 0 ≡ 0) × ((getD (r .first) k 0 ≡ 0) × (getD (r .second) k 0 ≡ 0))
+
+-- The tasks of a record --------------------------------------------------------------------------------------------------------
+
+module _ (r : Propagator) (es ls : List ℤ) where
+  -- the tasks of a record with these ranges, and their moments
+  abbrev pub tasksIn : Tasks whole
+  tasksIn = tasksOf (take (r .count) (r .durations)) es ls
+
+  abbrev pub momentsIn : Tasks natural
+  momentsIn = moments zeroAt tasksIn
 
 -- Creation ---------------------------------------------------------------------------------------------------------------------
 

@@ -1,0 +1,4 @@
+pub mod Reading
+pub mod Answers
+pub mod Adding
+pub mod Many
