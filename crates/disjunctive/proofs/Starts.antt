@@ -1,4 +1,4 @@
--- Ranges that are taken apart into two arrays and put together again: what a turn of each loop does, and what the whole run leaves of the ranges.
+-- Ranges that are taken apart into two arrays and put together again: what a turn of each loop does, and what the whole run and the page leave.
 -- Assumes nothing.
 use mathlib.Core.List.{List, [], _∷_, _++_, map, append-assoc, head-eq-of-cons-eq, tail-eq-of-cons-eq, cons-ne-nil}
 use mathlib.Core.Logic.{_⊎_, inl, inr, ⊎-elim}
@@ -14,6 +14,9 @@ use Rattle.integers.proofs.Bools.{bool}
 use Rattle.integers.specs.Limits.{TASKS}
 use Rattle.records.specs.declared.record.Propagator.{Propagator}
 use Rattle.propagator.proofs.Many.{too-many}
+use Rattle.pages.specs.declared.answer.Page.{Page}
+use Rattle.pages.specs.Pages.{Paged}
+use Rattle.pages.proofs.Paging.{too-many as no-page}
 use Rattle.disjunctive.specs.declared.ranges.Range.{Range}
 use Rattle.disjunctive.specs.declared.ranges.Starts.{Starts}
 use Rattle.disjunctive.specs.declared.ranges.CoreRun.{CoreRun}
@@ -140,6 +143,22 @@ lent before ys posts atoms r posts′ atoms′ c = ⊎-elim few many (fits-or-no
         let l : length (earliests ys) ≡ n = length-map ys (λ (y : Range). y .earliest) in
         let m : length (latests ys) ≡ n = length-map ys (λ (y : Range). y .latest) in
         rw z (record { ran = too-many before (earliests ys) (latests ys) posts atoms _ [] posts′ atoms′ (omega arith) (m ∙ sym l) (rw (taken-none n h) at (c .ran)); same-latest = refl })
+
+-- ---- the page
+-- what the core leaves of the ranges taken apart is what the open call leaves; where there are too many, the core was passed none
+pub paged : (before : Propagator) (ys : List Range) (out : List ℕ) (p : Page) (out′ : List ℕ) → Paged before (take (startsOf ys .count) (startsOf ys .earliest)) (take (startsOf ys .count) (startsOf ys .latest)) out p out′
+    → Paged before (earliests ys) (latests ys) out p out′
+unfolding startsOf
+paged before ys out p out′ c = ⊎-elim few many (fits-or-not n)
+  where
+    n : ℕ
+    n = length ys
+
+    few : n ≤ TASKS → Paged before (earliests ys) (latests ys) out p out′
+    few h = rw (padded-all n (earliests ys) (length-map ys (λ (y : Range). y .earliest)) h, padded-all n (latests ys) (length-map ys (λ (y : Range). y .latest)) h) at c
+
+    many : TASKS < n → Paged before (earliests ys) (latests ys) out p out′
+    many h = let l : length (earliests ys) ≡ n = length-map ys (λ (y : Range). y .earliest) in no-page before (earliests ys) (latests ys) out p out′ (omega arith) (rw (taken-none n h) at c)
 
 -- starts that have the count of the ranges taken apart fit an array, and the ranges
 pub starts-fit : (ys : List Range) (s r : Starts) → s ≡ startsOf ys → r .count ≡ s .count → (r .count ≤ TASKS) × (r .count ≤ length ys)

@@ -1,6 +1,7 @@
-// The open run on lent data: the record is lent and changed, and so is a slice of ranges, one for each task.
-// The core takes the record by value and the starts as slices of numbers; here the ranges are taken apart for it, and what it leaves is stored back.
+// The open run and the open page on lent ranges, one for each task. A run's record is lent and changed, and so are the ranges.
+// The core takes the record by value and the starts as slices of numbers; here the ranges are taken apart for it, and what a run leaves is stored back.
 use integers::limits::TASKS;
+use pages::answer::Page;
 use propagator::disjunctive_propagator::Outcome;
 use propagator::disjunctive_propagator::propagate;
 use records::record::Propagator;
@@ -8,7 +9,8 @@ ghost use mathlib.Core.Path.{_≡_};
 ghost use Prim.Native.Nat.{_≤_};
 ghost use lib.ListN.{length, take};
 ghost use Rattle.integers.specs.Limits.{TASKS};
-ghost use Rattle.disjunctive.specs.Ranges.{RanLent, RanCore, taken, startsOf, withStarts};
+ghost use Rattle.pages.specs.Pages.{Paged};
+ghost use Rattle.disjunctive.specs.Ranges.{earliests, latests, RanLent, RanCore, taken, startsOf, withStarts};
 
 // A task may start from `earliest` to `latest`.
 #[repr(C)]
@@ -112,4 +114,23 @@ pub fn run(
     store_starts(ranges, ran.starts);
     *propagator = ran.record;
     ran.outcome
+}
+
+// The page of the first `count` places of the arrays.
+fn page_core(record: Propagator, starts: Starts, out: &mut [u8]) -> Page
+    requires { ⌜ starts .count ≤ TASKS ⌝ }
+    ensures { λ r. ⌜ Paged «record» (take (starts .count) (starts .earliest)) (take (starts .count) (starts .latest)) (now (out .entry)) r (now (out .exit)) ⌝ }
+{
+    let n = starts.count;
+    let earliest = starts.earliest;
+    let latest = starts.latest;
+    pages::page::page(record, &earliest[..n], &latest[..n], out)
+}
+
+// The page of a fixed schedule, on lent ranges. The record is looked at alone, so it is taken by value.
+pub fn page(propagator: Propagator, ranges: &[Range], out: &mut [u8]) -> Page
+    ensures { λ r. ⌜ Paged propagator (earliests (now (ranges .entry))) (latests (now (ranges .entry))) (now (out .entry)) r (now (out .exit)) ⌝ }
+{
+    let starts = starts_of(ranges);
+    page_core(propagator, starts, out)
 }

@@ -113,6 +113,19 @@ pub refuses : (before : List Test) (t : Test) (after : List Test) → AllPassed 
 refuses [] t after h q = refusal-here t after q
 refuses (b ∷ bs) t after h q = refusal-next b (bs ++ (t ∷ after)) (h .0) ∙ refuses bs t after (h .1) q
 
+-- tests before others: the first number that they give, and else that of the others
+pub refusal-before : (ts us : List Test) → (refusal ts ≡ 0 → ⊥) → refusal (ts ++ us) ≡ refusal ts
+refusal-before [] us h = absurd (h refusal-none)
+refusal-before (t ∷ ts) us h = by (bool (t .passed)) (refusal-before ts us)
+  where
+    by : (t .passed ≡ true) ⊎ (t .passed ≡ false) → ((refusal ts ≡ 0 → ⊥) → refusal (ts ++ us) ≡ refusal ts) → refusal (t ∷ ts ++ us) ≡ refusal (t ∷ ts)
+    by (inl y) ih = refusal-next t (ts ++ us) y ∙ ih (λ z. h (refusal-next t ts y ∙ z)) ∙ sym (refusal-next t ts y)
+    by (inr y) ih = refusal-here t (ts ++ us) y ∙ sym (refusal-here t ts y)
+
+pub refusal-after : (ts us : List Test) → AllPassed ts → refusal (ts ++ us) ≡ refusal us
+refusal-after [] us h = refl
+refusal-after (t ∷ ts) us h = refusal-next t (ts ++ us) (h .0) ∙ refusal-after ts us (h .1)
+
 -- a test is not passed exactly where its fact does not hold
 pub broken : {F : Type 0} {b : Bool} → (b ≡ true ↔ F) → (b ≡ false ↔ (F → ⊥))
 broken {F} {b} w = (λ h f. clash (w .1 f) h, λ h. elim (bool b) [ inl y ↦ absurd (h (w .0 y)) | inr y ↦ y ])

@@ -1,9 +1,9 @@
--- What turns a run back: what holds where nothing does, and the sole ground for each number.
+-- What turns a run or a page back: what holds where nothing does, and the sole ground for each number of a run.
 -- Assumes nothing.
-use mathlib.Core.Path.{_≡_, refl}
-use mathlib.Core.Bool.{true, _&&_}
+use mathlib.Core.Path.{_≡_, refl, _∙_}
+use mathlib.Core.Bool.{true, false, _&&_}
 use mathlib.Core.Logic.{_↔_}
-use mathlib.Core.List.{List, [], _∷_}
+use mathlib.Core.List.{List, [], _∷_, _++_}
 use Prim.Native.Nat.{ℕ, _*_, _<_}
 use native.Mathlib.Omega.{arith}
 use lib.Dec.{leb, eqb}
@@ -13,13 +13,13 @@ use lib.ListN.{length, getD}
 use borrow.Author.Tests.{leb-true, le-leb, eqb-true, eq-eqb}
 use Rattle.integers.specs.Limits.{START}
 use Rattle.integers.specs.Orders.{has}
-use Rattle.integers.specs.Tests.{Test, test, allBelow, AllPassed}
+use Rattle.integers.specs.Tests.{Test, test, allBelow, refusal, AllPassed, numbers}
 use Rattle.integers.proofs.Bools.{and-true, and-yes}
 use Rattle.integers.proofs.Ints.{leZ-true, le-leZ}
-use Rattle.integers.proofs.Tests.{all-at, all-show, accepts, accepted, ground, refuses, broken}
+use Rattle.integers.proofs.Tests.{all-at, all-show, accepts, accepted, ground, refuses, refusal-after, broken}
 use Rattle.records.specs.declared.record.Propagator.{Propagator}
 use Rattle.records.specs.Records.{lawfulRecord, Lawful}
-use Rattle.records.specs.Refusals.{startFits, startFitsAt, rangeFitsAt, runTests, runNumber, StartFits, CountsFit, StartsFit, RangesFit, WordsFit, Accepted}
+use Rattle.records.specs.Refusals.{startFits, startFitsAt, rangeFitsAt, inputTests, inputNumber, runTests, runNumber, StartFits, CountsFit, StartsFit, RangesFit, WordsFit, Accepted}
 use Rattle.records.proofs.Lawful.{lawful-is}
 
 start-is : (z : ℤ) → startFits z ≡ true ↔ StartFits z
@@ -32,19 +32,19 @@ starts-in : (xs : List ℤ) → allBelow (startFitsAt xs) (length xs) ≡ true �
 starts-in xs = (λ h k q. start-is (getD xs k (pos 0)) .0 (all-at (startFitsAt xs) (length xs) h k q), λ f. all-show (startFitsAt xs) (length xs) (λ k q. start-is (getD xs k (pos 0)) .1 (f k q)))
 
 module _ (n : ℕ) (es ls : List ℤ) where
-  counts-are : eqb (length es) n && eqb (length ls) n ≡ true ↔ CountsFit n es ls
+  pub counts-are : eqb (length es) n && eqb (length ls) n ≡ true ↔ CountsFit n es ls
   counts-are = (
     λ h. (let a = and-true (eqb (length es) n) (eqb (length ls) n) h in record { earliest = eqb-true (length es) n (a .0); latest = eqb-true (length ls) n (a .1) }),
     λ f. and-yes (eqb (length es) n) (eqb (length ls) n) (eq-eqb (length es) n (f .earliest)) (eq-eqb (length ls) n (f .latest)),
   )
 
-  starts-are : allBelow (startFitsAt es) (length es) && allBelow (startFitsAt ls) (length ls) ≡ true ↔ StartsFit es ls
+  pub starts-are : allBelow (startFitsAt es) (length es) && allBelow (startFitsAt ls) (length ls) ≡ true ↔ StartsFit es ls
   starts-are = (
     λ h. (let a = and-true (allBelow (startFitsAt es) (length es)) (allBelow (startFitsAt ls) (length ls)) h in record { earliest = starts-in es .0 (a .0); latest = starts-in ls .0 (a .1) }),
     λ f. and-yes (allBelow (startFitsAt es) (length es)) (allBelow (startFitsAt ls) (length ls)) (starts-in es .1 (f .earliest)) (starts-in ls .1 (f .latest)),
   )
 
-  ranges-are : allBelow (rangeFitsAt es ls) (length es) ≡ true ↔ RangesFit es ls
+  pub ranges-are : allBelow (rangeFitsAt es ls) (length es) ≡ true ↔ RangesFit es ls
   ranges-are = (
     λ h k q. leZ-true (getD es k (pos 0)) (getD ls k (pos 0)) (all-at (rangeFitsAt es ls) (length es) h k q),
     λ f. all-show (rangeFitsAt es ls) (length es) (λ k q. le-leZ (getD es k (pos 0)) (getD ls k (pos 0)) (f k q)),
@@ -56,7 +56,13 @@ words-are n posts atoms = (
   λ f. and-yes (leb (4 * n) posts) (leb (6 * (n * n)) atoms) (le-leb (4 * n) posts (f .posts)) (le-leb (6 * (n * n)) atoms (f .atoms)),
 )
 
-module _ (r : Propagator) (es ls : List ℤ) (posts atoms : ℕ) where
+-- nothing is wrong with the record and its ranges
+pub input-passed : (r : Propagator) (es ls : List ℤ) → inputNumber r es ls ≡ 0 → AllPassed (inputTests r es ls)
+unfolding has
+input-passed r es ls h = accepted (inputTests r es ls) refl h
+
+-- The sole ground for each number of a record and its ranges, where other tests follow that do not have it: all before it hold, and its own does not.
+module _ (r : Propagator) (es ls : List ℤ) (after : List Test) where
   -- the tests by their numbers
   abbrev t20 : Test
   t20 = test 20 (lawfulRecord r)
@@ -70,8 +76,44 @@ module _ (r : Propagator) (es ls : List ℤ) (posts atoms : ℕ) where
   abbrev t4 : Test
   t4 = test 4 (allBelow (rangeFitsAt es ls) (length es))
 
+  pub input-20 : has (numbers after) 20 ≡ false → refusal (inputTests r es ls ++ after) ≡ 20 ↔ (Lawful r → ⊥)
+  unfolding has
+  input-20 other = (
+    λ h. broken (lawful-is r) .0 (ground [] t20 (t10 ∷ t3 ∷ t4 ∷ after) refl other (λ z. omega arith) h .1),
+    λ f. refuses [] t20 (t10 ∷ t3 ∷ t4 ∷ after) tt (broken (lawful-is r) .1 f),
+  )
+
+  pub input-10 : has (numbers after) 10 ≡ false → refusal (inputTests r es ls ++ after) ≡ 10 ↔ (Lawful r × (CountsFit (r .count) es ls → ⊥))
+  unfolding has
+  input-10 other = (
+    λ h. (let g = ground (t20 ∷ []) t10 (t3 ∷ t4 ∷ after) refl other (λ z. omega arith) h in (lawful-is r .0 (g .0 .0), broken (counts-are (r .count) es ls) .0 (g .1))),
+    λ f. refuses (t20 ∷ []) t10 (t3 ∷ t4 ∷ after) (lawful-is r .1 (f .0), tt) (broken (counts-are (r .count) es ls) .1 (f .1)),
+  )
+
+  pub input-3 : has (numbers after) 3 ≡ false → refusal (inputTests r es ls ++ after) ≡ 3 ↔ (Lawful r × (CountsFit (r .count) es ls × (StartsFit es ls → ⊥)))
+  unfolding has
+  input-3 other = (
+    λ h. (let g = ground (t20 ∷ t10 ∷ []) t3 (t4 ∷ after) refl other (λ z. omega arith) h in (lawful-is r .0 (g .0 .0), (counts-are (r .count) es ls .0 (g .0 .1 .0), broken (starts-are (r .count) es ls) .0 (g .1)))),
+    λ f. refuses (t20 ∷ t10 ∷ []) t3 (t4 ∷ after) (lawful-is r .1 (f .0), (counts-are (r .count) es ls .1 (f .1 .0), tt)) (broken (starts-are (r .count) es ls) .1 (f .1 .1)),
+  )
+
+  pub input-4 : has (numbers after) 4 ≡ false → refusal (inputTests r es ls ++ after) ≡ 4 ↔ (Lawful r × (CountsFit (r .count) es ls × (StartsFit es ls × (RangesFit es ls → ⊥))))
+  unfolding has
+  input-4 other = (
+    λ h. (let g = ground (t20 ∷ t10 ∷ t3 ∷ []) t4 after refl other (λ z. omega arith) h in (lawful-is r .0 (g .0 .0), (counts-are (r .count) es ls .0 (g .0 .1 .0), (starts-are (r .count) es ls .0 (g .0 .1 .1 .0), broken (ranges-are (r .count) es ls) .0 (g .1))))),
+    λ f. refuses (t20 ∷ t10 ∷ t3 ∷ []) t4 after (lawful-is r .1 (f .0), (counts-are (r .count) es ls .1 (f .1 .0), (starts-are (r .count) es ls .1 (f .1 .1 .0), tt))) (broken (ranges-are (r .count) es ls) .1 (f .1 .1 .1)),
+  )
+
+module _ (r : Propagator) (es ls : List ℤ) (posts atoms : ℕ) where
   abbrev t9 : Test
   t9 = test 9 (leb (4 * r .count) posts && leb (6 * (r .count * r .count)) atoms)
+
+  -- only the words are left to test
+  pub words-short : AllPassed (inputTests r es ls) → leb (4 * r .count) posts && leb (6 * (r .count * r .count)) atoms ≡ false → runNumber r es ls posts atoms ≡ 9
+  words-short h q = refuses (inputTests r es ls) t9 [] h q
+
+  pub words-enough : AllPassed (inputTests r es ls) → leb (4 * r .count) posts && leb (6 * (r .count * r .count)) atoms ≡ true → runNumber r es ls posts atoms ≡ 0
+  words-enough h q = refusal-after (inputTests r es ls) (t9 ∷ []) h ∙ accepts (t9 ∷ []) (q, tt)
 
   -- nothing turns the run back
   pub accepted-run : runNumber r es ls posts atoms ≡ 0 ↔ Accepted r es ls posts atoms
@@ -87,35 +129,23 @@ module _ (r : Propagator) (es ls : List ℤ) (posts atoms : ℕ) where
   -- The sole ground for each number: all before it hold, and its own does not.
   pub refused-20 : runNumber r es ls posts atoms ≡ 20 ↔ (Lawful r → ⊥)
   unfolding has
-  refused-20 = (
-    λ h. broken (lawful-is r) .0 (ground [] t20 (t10 ∷ t3 ∷ t4 ∷ t9 ∷ []) refl refl (λ z. omega arith) h .1),
-    λ f. refuses [] t20 (t10 ∷ t3 ∷ t4 ∷ t9 ∷ []) tt (broken (lawful-is r) .1 f),
-  )
+  refused-20 = input-20 r es ls (t9 ∷ []) refl
 
   pub refused-10 : runNumber r es ls posts atoms ≡ 10 ↔ (Lawful r × (CountsFit (r .count) es ls → ⊥))
   unfolding has
-  refused-10 = (
-    λ h. (let g = ground (t20 ∷ []) t10 (t3 ∷ t4 ∷ t9 ∷ []) refl refl (λ z. omega arith) h in (lawful-is r .0 (g .0 .0), broken (counts-are (r .count) es ls) .0 (g .1))),
-    λ f. refuses (t20 ∷ []) t10 (t3 ∷ t4 ∷ t9 ∷ []) (lawful-is r .1 (f .0), tt) (broken (counts-are (r .count) es ls) .1 (f .1)),
-  )
+  refused-10 = input-10 r es ls (t9 ∷ []) refl
 
   pub refused-3 : runNumber r es ls posts atoms ≡ 3 ↔ (Lawful r × (CountsFit (r .count) es ls × (StartsFit es ls → ⊥)))
   unfolding has
-  refused-3 = (
-    λ h. (let g = ground (t20 ∷ t10 ∷ []) t3 (t4 ∷ t9 ∷ []) refl refl (λ z. omega arith) h in (lawful-is r .0 (g .0 .0), (counts-are (r .count) es ls .0 (g .0 .1 .0), broken (starts-are (r .count) es ls) .0 (g .1)))),
-    λ f. refuses (t20 ∷ t10 ∷ []) t3 (t4 ∷ t9 ∷ []) (lawful-is r .1 (f .0), (counts-are (r .count) es ls .1 (f .1 .0), tt)) (broken (starts-are (r .count) es ls) .1 (f .1 .1)),
-  )
+  refused-3 = input-3 r es ls (t9 ∷ []) refl
 
   pub refused-4 : runNumber r es ls posts atoms ≡ 4 ↔ (Lawful r × (CountsFit (r .count) es ls × (StartsFit es ls × (RangesFit es ls → ⊥))))
   unfolding has
-  refused-4 = (
-    λ h. (let g = ground (t20 ∷ t10 ∷ t3 ∷ []) t4 (t9 ∷ []) refl refl (λ z. omega arith) h in (lawful-is r .0 (g .0 .0), (counts-are (r .count) es ls .0 (g .0 .1 .0), (starts-are (r .count) es ls .0 (g .0 .1 .1 .0), broken (ranges-are (r .count) es ls) .0 (g .1))))),
-    λ f. refuses (t20 ∷ t10 ∷ t3 ∷ []) t4 (t9 ∷ []) (lawful-is r .1 (f .0), (counts-are (r .count) es ls .1 (f .1 .0), (starts-are (r .count) es ls .1 (f .1 .1 .0), tt))) (broken (ranges-are (r .count) es ls) .1 (f .1 .1 .1)),
-  )
+  refused-4 = input-4 r es ls (t9 ∷ []) refl
 
   pub refused-9 : runNumber r es ls posts atoms ≡ 9 ↔ (Lawful r × (CountsFit (r .count) es ls × (StartsFit es ls × (RangesFit es ls × (WordsFit (r .count) posts atoms → ⊥)))))
   unfolding has
   refused-9 = (
-    λ h. (let g = ground (t20 ∷ t10 ∷ t3 ∷ t4 ∷ []) t9 [] refl refl (λ z. omega arith) h in (lawful-is r .0 (g .0 .0), (counts-are (r .count) es ls .0 (g .0 .1 .0), (starts-are (r .count) es ls .0 (g .0 .1 .1 .0), (ranges-are (r .count) es ls .0 (g .0 .1 .1 .1 .0), broken (words-are (r .count) posts atoms) .0 (g .1)))))),
-    λ f. refuses (t20 ∷ t10 ∷ t3 ∷ t4 ∷ []) t9 [] (lawful-is r .1 (f .0), (counts-are (r .count) es ls .1 (f .1 .0), (starts-are (r .count) es ls .1 (f .1 .1 .0), (ranges-are (r .count) es ls .1 (f .1 .1 .1 .0), tt)))) (broken (words-are (r .count) posts atoms) .1 (f .1 .1 .1 .1)),
+    λ h. (let g = ground (inputTests r es ls) t9 [] refl refl (λ z. omega arith) h in (lawful-is r .0 (g .0 .0), (counts-are (r .count) es ls .0 (g .0 .1 .0), (starts-are (r .count) es ls .0 (g .0 .1 .1 .0), (ranges-are (r .count) es ls .0 (g .0 .1 .1 .1 .0), broken (words-are (r .count) posts atoms) .0 (g .1)))))),
+    λ f. refuses (inputTests r es ls) t9 [] (lawful-is r .1 (f .0), (counts-are (r .count) es ls .1 (f .1 .0), (starts-are (r .count) es ls .1 (f .1 .1 .0), (ranges-are (r .count) es ls .1 (f .1 .1 .1 .0), tt)))) (broken (words-are (r .count) posts atoms) .1 (f .1 .1 .1 .1)),
   )

@@ -1,7 +1,7 @@
 -- What turns a run back: the tests in their order, and what an accepted run may take for given.
 use mathlib.Core.Path.{_≡_}
 use mathlib.Core.Bool.{Bool, _&&_}
-use mathlib.Core.List.{List, [], _∷_}
+use mathlib.Core.List.{List, [], _∷_, _++_}
 use Prim.Native.Nat.{ℕ, _*_, _≤_, _<_}
 use lib.Dec.{leb, eqb}
 use lib.IntN.{ℤ, pos, negℤ}
@@ -24,16 +24,22 @@ startFitsAt xs k = startFits (getD xs k (pos 0))
 abbrev pub rangeFitsAt : List ℤ → List ℤ → ℕ → Bool
 rangeFitsAt es ls k = leZ (getD es k (pos 0)) (getD ls k (pos 0))
 
--- 20: a record that is not lawful; 10: a count of starts that differs from n; 3: a start out of the limits; 4: earliest above latest;
--- 9: post words below 4n or atom words below 6n²
-abbrev pub runTests : Propagator → List ℤ → List ℤ → ℕ → ℕ → List Test
-runTests r es ls postWords atomWords =
+-- What a run and a page refuse of a record and its ranges.
+-- 20: a record that is not lawful; 10: a count of starts that differs from n; 3: a start out of the limits; 4: earliest above latest
+abbrev pub inputTests : Propagator → List ℤ → List ℤ → List Test
+inputTests r es ls =
     test 20 (lawfulRecord r)
     ∷ test 10 (eqb (length es) (r .count) && eqb (length ls) (r .count))
     ∷ test 3 (allBelow (startFitsAt es) (length es) && allBelow (startFitsAt ls) (length ls))
     ∷ test 4 (allBelow (rangeFitsAt es ls) (length es))
-    ∷ test 9 (leb (4 * r .count) postWords && leb (6 * (r .count * r .count)) atomWords)
     ∷ []
+
+abbrev pub inputNumber : Propagator → List ℤ → List ℤ → ℕ
+inputNumber r es ls = refusal (inputTests r es ls)
+
+-- those, and then 9: post words below 4n or atom words below 6n²
+abbrev pub runTests : Propagator → List ℤ → List ℤ → ℕ → ℕ → List Test
+runTests r es ls postWords atomWords = inputTests r es ls ++ (test 9 (leb (4 * r .count) postWords && leb (6 * (r .count * r .count)) atomWords) ∷ [])
 
 abbrev pub runNumber : Propagator → List ℤ → List ℤ → ℕ → ℕ → ℕ
 runNumber r es ls postWords atomWords = refusal (runTests r es ls postWords atomWords)

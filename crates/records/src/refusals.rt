@@ -3,7 +3,7 @@ use super::record::Propagator;
 ghost use mathlib.Core.Path.{_≡_};
 ghost use lib.ListN.{length};
 ghost use Rattle.integers.specs.Tests.{allBelow};
-ghost use Rattle.records.specs.Refusals.{startFits, startFitsAt, rangeFitsAt, runNumber};
+ghost use Rattle.records.specs.Refusals.{startFits, startFitsAt, rangeFitsAt, inputNumber, runNumber};
 
 // Whether a start is within the limits.
 fn start_fits(x: i32) -> bool
@@ -44,15 +44,9 @@ fn ranges_fit(earliest: &[i32], latest: &[i32]) -> bool
     true
 }
 
-// The number that turns a run back, or 0: 20, 10, 3, 4, 9.
-pub fn run_refusal(
-    record: Propagator,
-    earliest: &[i32],
-    latest: &[i32],
-    post_words: usize,
-    atom_words: usize,
-) -> u32
-    ensures { λ r. ⌜ r ≡ runNumber «record» (now (earliest .entry)) (now (latest .entry)) «post_words» «atom_words» ⌝ }
+// The number that turns a run or a page back for its record and its ranges, or 0: 20, 10, 3, 4.
+pub fn input_refusal(record: Propagator, earliest: &[i32], latest: &[i32]) -> u32
+    ensures { λ r. ⌜ r ≡ inputNumber «record» (now (earliest .entry)) (now (latest .entry)) ⌝ }
 {
     let n = record.count;
     if !super::record::lawful(record) {
@@ -73,6 +67,24 @@ pub fn run_refusal(
     if !ranges_fit(earliest, latest) {
         return 4;
     }
+    0
+}
+
+// The number that turns a run back, or 0: 20, 10, 3, 4, 9.
+pub fn run_refusal(
+    record: Propagator,
+    earliest: &[i32],
+    latest: &[i32],
+    post_words: usize,
+    atom_words: usize,
+) -> u32
+    ensures { λ r. ⌜ r ≡ runNumber «record» (now (earliest .entry)) (now (latest .entry)) «post_words» «atom_words» ⌝ }
+{
+    let number = input_refusal(record, earliest, latest);
+    if number != 0 {
+        return number;
+    }
+    let n = record.count;
     if post_words < 4 * n {
         return 9;
     }
