@@ -13,7 +13,7 @@ use lib.Seq.{getD-set-same, getD-set-other}
 use borrow.Author.Tests.{eq-eqb, ne-eqb, lt-ltb, le-ltb}
 use Rattle.integers.specs.Limits.{TASKS, DURATIONS}
 use Rattle.scheduling.specs.Scheduling.{natural, Tasks, TaskSet, total, NonEmpty, Est, processing}
-use Rattle.scheduling.proofs.Sets.{total-mono}
+use Rattle.scheduling.proofs.Sets.{total-part, total-mono}
 use Rattle.scheduling.proofs.Processing.{processing-is}
 use Rattle.trees.specs.Bounds.{LATEST}
 use Rattle.checker.specs.declared.bounds.Bounds.{Bounds}
@@ -21,7 +21,6 @@ use Rattle.checker.specs.declared.intervals.Interval.{Interval}
 use Rattle.checker.specs.Formulas.{_but_, any, lowest, highest, ectOf, overloadsSpan, comesAfter}
 use Rattle.checker.specs.Holding.{Held, Late, Bounding, intervalOf}
 use Rattle.checker.proofs.Gathering.{any-some, lowest-is}
-use Rattle.checker.proofs.Steps.{total-part}
 
 module _ {J : Tasks natural} {Ω : TaskSet} {n : ℕ} {chosen : List Bool} {est durations : List ℕ} (h : Held J Ω n chosen est durations) (v : Interval) (z : v ≡ intervalOf J Ω n) where
   -- what is gathered, by fields

@@ -1,16 +1,15 @@
 -- The loop over the tasks, task by task.
 -- Assumes nothing.
-use mathlib.Core.Path.{_≡_, refl, sym, ap, _∙_}
+use mathlib.Core.Path.{_≡_, refl, ap, _∙_}
 use mathlib.Core.Bool.{Bool, true, false, cond, _||_}
 use mathlib.Core.List.{List}
-use Prim.Native.Nat.{ℕ, zero, suc, _+_, _≤_, _<_, min, max}
+use Prim.Native.Nat.{ℕ, suc, _+_, _≤_, _<_, min, max}
 use native.Mathlib.Numerals.{add-one}
 use native.Mathlib.Omega.{arith}
-use native.Mathlib.Decide.{decLt}
 use lib.ListN.{getD}
 use Rattle.integers.specs.Limits.{DURATIONS}
 use Rattle.scheduling.specs.Scheduling.{natural, Tasks, TaskSet, total, completion}
-use Rattle.scheduling.proofs.Sets.{total-none, total-more, total-mono}
+use Rattle.scheduling.proofs.Sets.{total-part, total-mono}
 use Rattle.checker.specs.declared.intervals.Interval.{Interval}
 use Rattle.checker.specs.Formulas.{any, lowest, highest}
 use Rattle.checker.specs.Holding.{Held, Late, interval, gathered, intervalOf}
@@ -30,13 +29,6 @@ module _ (J : Tasks natural) (Ω : TaskSet) where
       by true false l h t = refl
       by false true l h t = ap (interval true l h) (omega arith)
       by false false l h t = ap (interval false l h) (omega arith)
-
--- a sum with one more number in it is still a part of the whole sum
-pub total-part : (f : ℕ → ℕ) (n i : ℕ) → i < n → total f i + f i ≤ total f n
-total-part f zero i q = absurd (omega arith)
-total-part f (suc n) i q =
-    let z : total f (suc n) ≡ total f n + f n = ap (total f) (sym (add-one n)) ∙ total-more f n in
-    elim (decLt i n) [ yes r ↦ omega (arith, total-part f n i r, z) | no r ↦ (let e : i ≡ n = omega arith in rw e (omega (arith, z))) ]
 
 module _ {J : Tasks natural} {Ω : TaskSet} {n : ℕ} {chosen : List Bool} {est durations lst : List ℕ} (h : Held J Ω n chosen est durations) (l : Late J n lst) (i : ℕ) (q : i < n) where
   pub completion-fits : getD lst i 0 + getD durations i 0 < 4294967296

@@ -17,6 +17,9 @@ use Rattle.counter.specs.declared.overload_test.Overload.{Overload}
 use Rattle.counter.specs.Tested.{OverloadTested}
 use Rattle.counter.proofs.Many.{too-many as overload-too-many}
 use Rattle.propagator.proofs.Many.{too-many}
+use Rattle.pages.specs.declared.answer.Page.{Page}
+use Rattle.pages.specs.Pages.{Paged}
+use Rattle.pages.proofs.Paging.{too-many as no-page}
 use Rattle.disjunctive.specs.declared.ranges.Range.{Range}
 use Rattle.disjunctive.specs.declared.ranges.Starts.{Starts}
 use Rattle.disjunctive.specs.declared.ranges.CoreRun.{CoreRun}
@@ -160,6 +163,22 @@ lent-test before ys s r e t = ⊎-elim few many (fits-or-not n)
 
     many : TASKS < n → OverloadTested before (earliests ys) (latests ys) r
     many h = overload-too-many before (earliests ys) (latests ys) r (omega (arith, length-map ys (λ (y : Range). y .earliest))) (rw (taken-none n h) at apart)
+
+-- ---- the page
+-- what the core leaves of the ranges taken apart is what the open call leaves; where there are too many, the core was passed none
+pub paged : (before : Propagator) (ys : List Range) (out : List ℕ) (p : Page) (out′ : List ℕ) → Paged before (take (startsOf ys .count) (startsOf ys .earliest)) (take (startsOf ys .count) (startsOf ys .latest)) out p out′
+    → Paged before (earliests ys) (latests ys) out p out′
+unfolding startsOf
+paged before ys out p out′ c = ⊎-elim few many (fits-or-not n)
+  where
+    n : ℕ
+    n = length ys
+
+    few : n ≤ TASKS → Paged before (earliests ys) (latests ys) out p out′
+    few h = rw (padded-all n (earliests ys) (length-map ys (λ (y : Range). y .earliest)) h, padded-all n (latests ys) (length-map ys (λ (y : Range). y .latest)) h) at c
+
+    many : TASKS < n → Paged before (earliests ys) (latests ys) out p out′
+    many h = let l : length (earliests ys) ≡ n = length-map ys (λ (y : Range). y .earliest) in no-page before (earliests ys) (latests ys) out p out′ (omega arith) (rw (taken-none n h) at c)
 
 -- starts that have the count of the ranges taken apart fit an array, and the ranges
 pub starts-fit : (ys : List Range) (s r : Starts) → s ≡ startsOf ys → r .count ≡ s .count → (r .count ≤ TASKS) × (r .count ≤ length ys)

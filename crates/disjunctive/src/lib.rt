@@ -1,13 +1,15 @@
-// The open calls, all in one place: creation, the run, the overload test, the post reader, the check, and the calls of the variable state. None has a `requires`.
+// The open calls, all in one place: creation, the run, the overload test, the post reader, the check, the page, and the calls of the variable state. None has a `requires`.
 pub mod ranges;
 
 pub use crate::ranges::Range;
 pub use crate::ranges::overload_test;
+pub use crate::ranges::page;
 pub use crate::ranges::run;
 pub use checker::checker::Verdict;
 pub use checker::checker::check;
 pub use checking::variable_state::VariableState;
 pub use counter::overload_test::Overload;
+pub use pages::answer::Page;
 pub use propagator::disjunctive_propagator::Outcome;
 pub use records::posts::post_number;
 pub use records::posts::post_reason;

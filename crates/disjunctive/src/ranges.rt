@@ -1,7 +1,8 @@
-// The open calls on lent data: the record is lent, and a slice of ranges, one for each task. A run changes both, the overload test neither.
+// The open calls on lent data: the record is lent, and a slice of ranges, one for each task. A run changes both, the overload test and the page neither.
 // The core takes the record by value and the starts as slices of numbers; here the ranges are taken apart for it, and what it leaves is stored back.
 use counter::overload_test::Overload;
 use integers::limits::TASKS;
+use pages::answer::Page;
 use propagator::disjunctive_propagator::Outcome;
 use propagator::disjunctive_propagator::propagate;
 use records::record::Propagator;
@@ -10,6 +11,7 @@ ghost use Prim.Native.Nat.{_≤_};
 ghost use lib.ListN.{length, take};
 ghost use Rattle.integers.specs.Limits.{TASKS};
 ghost use Rattle.counter.specs.Tested.{OverloadTested};
+ghost use Rattle.pages.specs.Pages.{Paged};
 ghost use Rattle.disjunctive.specs.Ranges.{earliests, latests, RanLent, RanCore, taken, startsOf, withStarts};
 
 // A task may start from `earliest` to `latest`.
@@ -133,4 +135,23 @@ pub fn overload_test(propagator: &Propagator, ranges: &[Range]) -> Overload
 {
     let starts = starts_of(ranges);
     overload_core(*propagator, starts)
+}
+
+// The page of the first `count` places of the arrays.
+fn page_core(record: Propagator, starts: Starts, out: &mut [u8]) -> Page
+    requires { ⌜ starts .count ≤ TASKS ⌝ }
+    ensures { λ r. ⌜ Paged «record» (take (starts .count) (starts .earliest)) (take (starts .count) (starts .latest)) (now (out .entry)) r (now (out .exit)) ⌝ }
+{
+    let n = starts.count;
+    let earliest = starts.earliest;
+    let latest = starts.latest;
+    pages::page::page(record, &earliest[..n], &latest[..n], out)
+}
+
+// The page of a fixed schedule, on lent ranges. The record is looked at alone, so it is taken by value.
+pub fn page(propagator: Propagator, ranges: &[Range], out: &mut [u8]) -> Page
+    ensures { λ r. ⌜ Paged propagator (earliests (now (ranges .entry))) (latests (now (ranges .entry))) (now (out .entry)) r (now (out .exit)) ⌝ }
+{
+    let starts = starts_of(ranges);
+    page_core(propagator, starts, out)
 }

@@ -3,7 +3,7 @@
 use mathlib.Core.Path.{_≡_, refl, _∙_}
 use mathlib.Core.Bool.{true, false, _&&_}
 use mathlib.Core.Logic.{_↔_}
-use mathlib.Core.List.{List, [], _∷_}
+use mathlib.Core.List.{List, [], _∷_, _++_}
 use Prim.Native.Nat.{ℕ, _*_, _<_}
 use native.Mathlib.Omega.{arith}
 use lib.Dec.{leb, eqb}
@@ -13,7 +13,7 @@ use lib.ListN.{length, getD}
 use borrow.Author.Tests.{leb-true, le-leb, eqb-true, eq-eqb}
 use Rattle.integers.specs.Limits.{START}
 use Rattle.integers.specs.Orders.{has}
-use Rattle.integers.specs.Tests.{Test, test, allBelow, AllPassed}
+use Rattle.integers.specs.Tests.{Test, test, allBelow, refusal, AllPassed, numbers}
 use Rattle.integers.proofs.Bools.{and-true, and-yes}
 use Rattle.integers.proofs.Ints.{leZ-true, le-leZ}
 use Rattle.integers.proofs.Tests.{all-at, all-show, accepts, accepted, ground, refuses, refusal-before, refusal-after, broken}
@@ -74,7 +74,8 @@ accepted-input r es ls = (λ h. facts (input-passed r es ls h), λ f. accepts (i
 pub run-too : (r : Propagator) (es ls : List ℤ) (posts atoms : ℕ) → (inputNumber r es ls ≡ 0 → ⊥) → runNumber r es ls posts atoms ≡ inputNumber r es ls
 run-too r es ls posts atoms h = refusal-before (inputTests r es ls) _ h
 
-module _ (r : Propagator) (es ls : List ℤ) (posts atoms : ℕ) where
+-- The sole ground for each number of a record and its ranges, where other tests follow that do not have it: all before it hold, and its own does not.
+module _ (r : Propagator) (es ls : List ℤ) (after : List Test) where
   -- the tests by their numbers
   abbrev t20 : Test
   t20 = test 20 (lawfulRecord r)
@@ -88,6 +89,35 @@ module _ (r : Propagator) (es ls : List ℤ) (posts atoms : ℕ) where
   abbrev t4 : Test
   t4 = test 4 (allBelow (rangeFitsAt es ls) (length es))
 
+  pub input-20 : has (numbers after) 20 ≡ false → refusal (inputTests r es ls ++ after) ≡ 20 ↔ (Lawful r → ⊥)
+  unfolding has
+  input-20 other = (
+    λ h. broken (lawful-is r) .0 (ground [] t20 (t10 ∷ t3 ∷ t4 ∷ after) refl other (λ z. omega arith) h .1),
+    λ f. refuses [] t20 (t10 ∷ t3 ∷ t4 ∷ after) tt (broken (lawful-is r) .1 f),
+  )
+
+  pub input-10 : has (numbers after) 10 ≡ false → refusal (inputTests r es ls ++ after) ≡ 10 ↔ (Lawful r × (CountsFit (r .count) es ls → ⊥))
+  unfolding has
+  input-10 other = (
+    λ h. (let g = ground (t20 ∷ []) t10 (t3 ∷ t4 ∷ after) refl other (λ z. omega arith) h in (lawful-is r .0 (g .0 .0), broken (counts-are (r .count) es ls) .0 (g .1))),
+    λ f. refuses (t20 ∷ []) t10 (t3 ∷ t4 ∷ after) (lawful-is r .1 (f .0), tt) (broken (counts-are (r .count) es ls) .1 (f .1)),
+  )
+
+  pub input-3 : has (numbers after) 3 ≡ false → refusal (inputTests r es ls ++ after) ≡ 3 ↔ (Lawful r × (CountsFit (r .count) es ls × (StartsFit es ls → ⊥)))
+  unfolding has
+  input-3 other = (
+    λ h. (let g = ground (t20 ∷ t10 ∷ []) t3 (t4 ∷ after) refl other (λ z. omega arith) h in (lawful-is r .0 (g .0 .0), (counts-are (r .count) es ls .0 (g .0 .1 .0), broken (starts-are (r .count) es ls) .0 (g .1)))),
+    λ f. refuses (t20 ∷ t10 ∷ []) t3 (t4 ∷ after) (lawful-is r .1 (f .0), (counts-are (r .count) es ls .1 (f .1 .0), tt)) (broken (starts-are (r .count) es ls) .1 (f .1 .1)),
+  )
+
+  pub input-4 : has (numbers after) 4 ≡ false → refusal (inputTests r es ls ++ after) ≡ 4 ↔ (Lawful r × (CountsFit (r .count) es ls × (StartsFit es ls × (RangesFit es ls → ⊥))))
+  unfolding has
+  input-4 other = (
+    λ h. (let g = ground (t20 ∷ t10 ∷ t3 ∷ []) t4 after refl other (λ z. omega arith) h in (lawful-is r .0 (g .0 .0), (counts-are (r .count) es ls .0 (g .0 .1 .0), (starts-are (r .count) es ls .0 (g .0 .1 .1 .0), broken (ranges-are (r .count) es ls) .0 (g .1))))),
+    λ f. refuses (t20 ∷ t10 ∷ t3 ∷ []) t4 after (lawful-is r .1 (f .0), (counts-are (r .count) es ls .1 (f .1 .0), (starts-are (r .count) es ls .1 (f .1 .1 .0), tt))) (broken (ranges-are (r .count) es ls) .1 (f .1 .1 .1)),
+  )
+
+module _ (r : Propagator) (es ls : List ℤ) (posts atoms : ℕ) where
   abbrev t9 : Test
   t9 = test 9 (leb (4 * r .count) posts && leb (6 * (r .count * r .count)) atoms)
 
@@ -112,35 +142,23 @@ module _ (r : Propagator) (es ls : List ℤ) (posts atoms : ℕ) where
   -- The sole ground for each number: all before it hold, and its own does not.
   pub refused-20 : runNumber r es ls posts atoms ≡ 20 ↔ (Lawful r → ⊥)
   unfolding has
-  refused-20 = (
-    λ h. broken (lawful-is r) .0 (ground [] t20 (t10 ∷ t3 ∷ t4 ∷ t9 ∷ []) refl refl (λ z. omega arith) h .1),
-    λ f. refuses [] t20 (t10 ∷ t3 ∷ t4 ∷ t9 ∷ []) tt (broken (lawful-is r) .1 f),
-  )
+  refused-20 = input-20 r es ls (t9 ∷ []) refl
 
   pub refused-10 : runNumber r es ls posts atoms ≡ 10 ↔ (Lawful r × (CountsFit (r .count) es ls → ⊥))
   unfolding has
-  refused-10 = (
-    λ h. (let g = ground (t20 ∷ []) t10 (t3 ∷ t4 ∷ t9 ∷ []) refl refl (λ z. omega arith) h in (lawful-is r .0 (g .0 .0), broken (counts-are (r .count) es ls) .0 (g .1))),
-    λ f. refuses (t20 ∷ []) t10 (t3 ∷ t4 ∷ t9 ∷ []) (lawful-is r .1 (f .0), tt) (broken (counts-are (r .count) es ls) .1 (f .1)),
-  )
+  refused-10 = input-10 r es ls (t9 ∷ []) refl
 
   pub refused-3 : runNumber r es ls posts atoms ≡ 3 ↔ (Lawful r × (CountsFit (r .count) es ls × (StartsFit es ls → ⊥)))
   unfolding has
-  refused-3 = (
-    λ h. (let g = ground (t20 ∷ t10 ∷ []) t3 (t4 ∷ t9 ∷ []) refl refl (λ z. omega arith) h in (lawful-is r .0 (g .0 .0), (counts-are (r .count) es ls .0 (g .0 .1 .0), broken (starts-are (r .count) es ls) .0 (g .1)))),
-    λ f. refuses (t20 ∷ t10 ∷ []) t3 (t4 ∷ t9 ∷ []) (lawful-is r .1 (f .0), (counts-are (r .count) es ls .1 (f .1 .0), tt)) (broken (starts-are (r .count) es ls) .1 (f .1 .1)),
-  )
+  refused-3 = input-3 r es ls (t9 ∷ []) refl
 
   pub refused-4 : runNumber r es ls posts atoms ≡ 4 ↔ (Lawful r × (CountsFit (r .count) es ls × (StartsFit es ls × (RangesFit es ls → ⊥))))
   unfolding has
-  refused-4 = (
-    λ h. (let g = ground (t20 ∷ t10 ∷ t3 ∷ []) t4 (t9 ∷ []) refl refl (λ z. omega arith) h in (lawful-is r .0 (g .0 .0), (counts-are (r .count) es ls .0 (g .0 .1 .0), (starts-are (r .count) es ls .0 (g .0 .1 .1 .0), broken (ranges-are (r .count) es ls) .0 (g .1))))),
-    λ f. refuses (t20 ∷ t10 ∷ t3 ∷ []) t4 (t9 ∷ []) (lawful-is r .1 (f .0), (counts-are (r .count) es ls .1 (f .1 .0), (starts-are (r .count) es ls .1 (f .1 .1 .0), tt))) (broken (ranges-are (r .count) es ls) .1 (f .1 .1 .1)),
-  )
+  refused-4 = input-4 r es ls (t9 ∷ []) refl
 
   pub refused-9 : runNumber r es ls posts atoms ≡ 9 ↔ (Lawful r × (CountsFit (r .count) es ls × (StartsFit es ls × (RangesFit es ls × (WordsFit (r .count) posts atoms → ⊥)))))
   unfolding has
   refused-9 = (
-    λ h. (let g = ground (t20 ∷ t10 ∷ t3 ∷ t4 ∷ []) t9 [] refl refl (λ z. omega arith) h in (lawful-is r .0 (g .0 .0), (counts-are (r .count) es ls .0 (g .0 .1 .0), (starts-are (r .count) es ls .0 (g .0 .1 .1 .0), (ranges-are (r .count) es ls .0 (g .0 .1 .1 .1 .0), broken (words-are (r .count) posts atoms) .0 (g .1)))))),
-    λ f. refuses (t20 ∷ t10 ∷ t3 ∷ t4 ∷ []) t9 [] (lawful-is r .1 (f .0), (counts-are (r .count) es ls .1 (f .1 .0), (starts-are (r .count) es ls .1 (f .1 .1 .0), (ranges-are (r .count) es ls .1 (f .1 .1 .1 .0), tt)))) (broken (words-are (r .count) posts atoms) .1 (f .1 .1 .1 .1)),
+    λ h. (let g = ground (inputTests r es ls) t9 [] refl refl (λ z. omega arith) h in (lawful-is r .0 (g .0 .0), (counts-are (r .count) es ls .0 (g .0 .1 .0), (starts-are (r .count) es ls .0 (g .0 .1 .1 .0), (ranges-are (r .count) es ls .0 (g .0 .1 .1 .1 .0), broken (words-are (r .count) posts atoms) .0 (g .1)))))),
+    λ f. refuses (inputTests r es ls) t9 [] (lawful-is r .1 (f .0), (counts-are (r .count) es ls .1 (f .1 .0), (starts-are (r .count) es ls .1 (f .1 .1 .0), (ranges-are (r .count) es ls .1 (f .1 .1 .1 .0), tt)))) (broken (words-are (r .count) posts atoms) .1 (f .1 .1 .1 .1)),
   )

@@ -57,6 +57,12 @@ unfolding total
 total-mono f g zero h = omega arith
 total-mono f g (suc n) h = omega (arith, total-mono f g n (λ k q. h k (omega arith)), h n (omega arith))
 
+-- a sum with one more number in it is still a part of the whole sum
+pub total-part : (f : ℕ → ℕ) (n i : ℕ) → i < n → total f i + f i ≤ total f n
+unfolding total
+total-part f zero i q = absurd (omega arith)
+total-part f (suc n) i q = elim (decLt i n) [ yes r ↦ omega (arith, total-part f n i r) | no r ↦ (let e : i ≡ n = omega arith in rw e (omega arith)) ]
+
 -- g is f but for the term at i
 pub total-swap : (f g : ℕ → ℕ) (n i : ℕ) → i < n → ((k : ℕ) → (k ≡ i → ⊥) → f k ≡ g k) → total f n + g i ≡ total g n + f i
 unfolding total

@@ -1,0 +1,5 @@
+pub mod Padding
+pub mod Placing
+pub mod Turns
+pub mod Refusing
+pub mod Paging

@@ -1,0 +1,102 @@
+-- The order of a page: a sort by moments is the sort by starts, and it is a permutation of the tasks.
+-- Assumes nothing.
+use mathlib.Core.Path.{_≡_, sym, ap, _∙_}
+use mathlib.Core.Bool.{true, false}
+use mathlib.Core.Logic.{_⊎_, inl, inr}
+use mathlib.Core.List.{List}
+use Prim.Native.Nat.{ℕ, _+_, _≤_, _<_}
+use native.Mathlib.Omega.{arith}
+use lib.Dec.{leb}
+use lib.IntN.{ℤ, pos, _+ℤ_}
+use lib.Signed.{leZ, _≤ℤ_}
+use lib.ListN.{length, getD, take}
+use borrow.Author.Tests.{le-leb, leb-true}
+use Rattle.integers.specs.Limits.{START}
+use Rattle.integers.specs.Filling.{filled}
+use Rattle.integers.specs.Moments.{moment, instant, zeroAt, Above}
+use Rattle.integers.specs.Orders.{has, index, sort, numbers, Permutes}
+use Rattle.integers.proofs.Bools.{bool, clash}
+use Rattle.integers.proofs.Filling.{filled-at, filled-length}
+use Rattle.integers.proofs.Ints.{ints, up, dn, up-neg, dn-neg, leZ-true, le-leZ}
+use Rattle.integers.proofs.Moments.{mono, reflect, plus, plus-above, above-show, at-moment, instant-moment}
+use Rattle.integers.proofs.Permutations.{Ordered, numbers-permute, numbers-length}
+use Rattle.integers.proofs.Sorting.{sort-ext, sort-length, sort-permutes, sort-ordered}
+use Rattle.records.specs.Refusals.{StartFits}
+use Rattle.records.specs.Orders.{byKey, noTasks, momentAt, sortedOrder, Numbered}
+use Rattle.records.proofs.Creation.{own-front, own-order}
+use Rattle.records.proofs.Sorted.{sorted-front, numbered}
+use Rattle.pages.specs.Pages.{startAt, byStart, orderOf}
+use Rattle.pages.specs.Holding.{Started}
+
+-- ---- the order of moments is that of starts
+pub moment-test : (a b : ℤ) → Above zeroAt a → Above zeroAt b → leb (moment zeroAt a) (moment zeroAt b) ≡ leZ a b
+moment-test a b p q = by (bool (leb (moment zeroAt a) (moment zeroAt b)))
+  where
+    by : (leb (moment zeroAt a) (moment zeroAt b) ≡ true) ⊎ (leb (moment zeroAt a) (moment zeroAt b) ≡ false) → leb (moment zeroAt a) (moment zeroAt b) ≡ leZ a b
+    by (inl y) = y ∙ sym (le-leZ a b (reflect zeroAt a b p q (leb-true (moment zeroAt a) (moment zeroAt b) y)))
+    by (inr y) = elim (bool (leZ a b)) [ inl z ↦ clash (le-leb (moment zeroAt a) (moment zeroAt b) (mono zeroAt a b (leZ-true a b z))) y | inr z ↦ y ∙ sym z ]
+
+-- a start is at or after the moment 0, and its moment is far from the largest u32
+pub start-above : (z : ℤ) → StartFits z → Above zeroAt z
+unfolding up dn
+start-above z h = above-show zeroAt z (omega (ints, h .low, up-neg (pos START), dn-neg (pos START)))
+
+pub start-moment : (z : ℤ) → StartFits z → moment zeroAt z ≤ zeroAt + START
+unfolding up dn
+start-moment z h = omega (ints, h .high, at-moment zeroAt z (start-above z h))
+
+-- a task ends by the start of another: the test in moments, and in whole numbers
+pub turn-test : (a b : ℤ) (d : ℕ) → StartFits a → StartFits b → leb (moment zeroAt a + d) (moment zeroAt b) ≡ leZ (a +ℤ pos d) b
+turn-test a b d p q =
+    ap (λ (m : ℕ). leb m (moment zeroAt b)) (sym (plus zeroAt a d (start-above a p)))
+    ∙ moment-test (a +ℤ pos d) b (plus-above zeroAt a d (start-above a p)) (start-above b q)
+
+-- the end, from the start's moment
+pub end-instant : (z : ℤ) (d m : ℕ) → StartFits z → m ≡ moment zeroAt z → instant zeroAt (m + d) ≡ z +ℤ pos d
+end-instant z d m h e =
+    ap (λ (k : ℕ). instant zeroAt (k + d)) e ∙ ap (instant zeroAt) (sym (plus zeroAt z d (start-above z h))) ∙ instant-moment zeroAt (z +ℤ pos d) (plus-above zeroAt z d (start-above z h))
+
+-- ---- the sort
+module _ (es : List ℤ) where
+  -- a test of starts is an order
+  start-whole : (j k : ℕ) → byStart es j k ≡ false → byStart es k j ≡ true
+  start-whole j k h = le-leZ (startAt es k) (startAt es j) (omega ints)
+
+  start-chain : (i j k : ℕ) → byStart es i j ≡ true → byStart es j k ≡ true → byStart es i k ≡ true
+  start-chain i j k h q = le-leZ (startAt es i) (startAt es k) (omega ints)
+
+  pub order-length : length (orderOf es) ≡ length es
+  order-length = sort-length (byStart es) (numbers 0 (length es)) ∙ numbers-length 0 (length es)
+
+  pub order-permutes : Permutes (length es) (orderOf es)
+  order-permutes = sort-permutes (byStart es) (length es) (numbers 0 (length es)) (numbers-permute (length es))
+
+  -- each task has one place, and starts go from the least
+  pub ordered : Ordered (length es) (λ t. getD (orderOf es) t 0) (index (orderOf es)) (λ j k. startAt es j ≤ℤ startAt es k)
+  ordered =
+      let o = sort-ordered (byStart es) start-whole start-chain (length es) (numbers 0 (length es)) (numbers-permute (length es)) in
+      record { task = o .task; placed = o .placed; there = o .there; back = o .back; sorted = λ s t q r. leZ-true (startAt es (getD (orderOf es) s 0)) (startAt es (getD (orderOf es) t 0)) (o .sorted s t q r) }
+
+  -- the code's keys are the moments
+  pub order-is : (keys : List ℕ) → Started es → keys ≡ filled (momentAt es) (length es) noTasks
+      → take (length es) (sortedOrder (byKey keys) (length es) (filled (λ k. k) (length es) noTasks)) ≡ orderOf es
+  order-is keys h e =
+      sorted-front (byKey keys) (length es) (filled (λ k. k) (length es) noTasks) (omega (arith, h .few, filled-length (λ (k : ℕ). k) (length es) noTasks))
+      ∙ ap (sort (byKey keys)) (own-front (length es) (h .few))
+      ∙ sort-ext (byKey keys) (byStart es) (numbers 0 (length es)) agree
+    where
+      at : (k : ℕ) → k < length es → getD keys k 0 ≡ momentAt es k
+      at k q = ap (λ (l : List ℕ). getD l k 0) e ∙ filled-at (momentAt es) (length es) noTasks 0 k q (h .few)
+
+      below : (k : ℕ) → has (numbers 0 (length es)) k ≡ true → k < length es
+      below k q = numbers-permute (length es) .below k q
+
+      agree : (j k : ℕ) → has (numbers 0 (length es)) j ≡ true → has (numbers 0 (length es)) k ≡ true → byKey keys j k ≡ byStart es j k
+      agree j k p q =
+          ap (λ (x : ℕ). leb x (getD keys k 0)) (at j (below j p))
+          ∙ ap (λ (x : ℕ). leb (momentAt es j) x) (at k (below k q))
+          ∙ moment-test (startAt es j) (startAt es k) (start-above (startAt es j) (h .starts j (below j p))) (start-above (startAt es k) (h .starts k (below k q)))
+
+  -- and the numbers 0 to n − 1 can be sorted
+  pub own-numbered : Started es → Numbered (length es) (filled (λ k. k) (length es) noTasks)
+  own-numbered h = numbered (length es) (filled (λ k. k) (length es) noTasks) (h .few) (filled-length (λ (k : ℕ). k) (length es) noTasks) (own-order (length es) (h .few))

@@ -1,0 +1,119 @@
+use mathlib.Core.Path.{_≡_, ap, _∙_}
+use Prim.Native.Nat.{_+_}
+use native.Mathlib.Omega.{arith}
+use lib.IntN.{pos, _+ℤ_}
+use lib.ListN.{length}
+use borrow.Author.Needs.{needs}
+use mir.Syntax.{w32}
+use mir.Val.{toZ, ofZ}
+use Rattle.integers.specs.Moments.{moment, zeroAt}
+use Rattle.integers.proofs.Ints.{back, back-of}
+use Rattle.text.proofs.Putting.{puts-length}
+use Rattle.pages.proofs.Padding.{puts-wide, task-fits, start-fits, end-fits, puts-line}
+use Rattle.pages.proofs.Placing.{start-moment, end-instant}
+use Rattle.pages.proofs.lines.put_line.Statement.{statement}
+use Rattle.pages.proofs.lines.put_line.Tie as tie
+
+-- the start's moment, and the end
+moment-is : (c : tie.After-moment-of) → c .moment-of .result ≡ moment zeroAt (c .before .before .args .start)
+moment-is c = c .moment-of .ensures ∙ ap (moment zeroAt) (back (c .before .before .fits .start))
+
+end-is : (c : tie.After-start-of) → toZ w32 (ofZ w32 (c .start-of .result)) ≡ c .before .before .before .args .start +ℤ pos (c .before .before .before .args .duration)
+end-is c =
+    let s = c .before .before .before in
+    back-of w32 (c .start-of .result) (c .start-of .ok) ∙ c .start-of .ensures ∙ end-instant (s .args .start) (s .args .duration) (c .before .moment-of .result) (s .pre .2) (moment-is (c .before))
+
+-- the task's number as a word
+task-is : (c : tie.After-word-of) → toZ w32 (ofZ w32 (c .word-of .result)) ≡ pos (c .before .before .before .before .before .args .task)
+task-is c = back-of w32 (c .word-of .result) (c .word-of .ok) ∙ c .word-of .ensures
+
+-- the place behind each field but the last, and the buffer's length there
+after-task : (c : tie.After-put-right) → (c .put-right .result ≡ c .before .before .before .before .before .before .args .at + 2) × (length (c .put-right .last .0) ≡ length (c .before .before .before .before .before .before .args .out .now))
+after-task c = puts-wide 2 (pos (c .before .before .before .before .before .before .args .task)) (task-is (c .before)) (c .put-right .ensures) (task-fits (c .before .before .before .before .before .before .args .task) (c .before .before .before .before .before .before .pre .1))
+
+after-space : (c : tie.After-put-bytes) → (c .put-bytes .result ≡ c .before .before .before .before .before .before .before .before .before .before .before .args .at + 3) × (length (c .put-bytes .last .0) ≡ length (c .before .before .before .before .before .before .before .before .before .before .before .args .out .now))
+after-space c = let a = after-task (c .before .before .before .before .before) in (omega (arith, a .0, c .put-bytes .ensures .end), puts-length (c .put-bytes .ensures) ∙ a .1)
+
+after-start : (c : tie.After-put-right2) → (c .put-right2 .result ≡ c .before .before .before .before .before .before .before .before .before .before .before .before .before .before .before .args .at + 14) × (length (c .put-right2 .last .0) ≡ length (c .before .before .before .before .before .before .before .before .before .before .before .before .before .before .before .args .out .now))
+after-start c =
+    let a = after-space (c .before .before .before .before) in
+    let b = puts-wide 11 (c .before .before .before .before .before .before .before .before .before .before .before .before .before .before .before .args .start) (back (c .before .before .before .before .before .before .before .before .before .before .before .before .before .before .before .fits .start)) (c .put-right2 .ensures) (start-fits (c .before .before .before .before .before .before .before .before .before .before .before .before .before .before .before .args .start) (c .before .before .before .before .before .before .before .before .before .before .before .before .before .before .before .pre .2)) in
+    (omega (arith, a .0, b .0), b .1 ∙ a .1)
+
+after-space-2 : (c : tie.After-put-bytes2) → (c .put-bytes2 .result ≡ c .before .before .before .before .before .before .before .before .before .before .before .before .before .before .before .before .before .before .before .before .args .at + 15) × (length (c .put-bytes2 .last .0) ≡ length (c .before .before .before .before .before .before .before .before .before .before .before .before .before .before .before .before .before .before .before .before .args .out .now))
+after-space-2 c = let a = after-start (c .before .before .before .before .before) in (omega (arith, a .0, c .put-bytes2 .ensures .end), puts-length (c .put-bytes2 .ensures) ∙ a .1)
+
+after-end : (c : tie.After-put-right3) → (c .put-right3 .result ≡ c .before .before .before .before .before .before .before .before .before .before .before .before .before .before .before .before .before .before .before .before .before .before .before .before .args .at + 26) × (length (c .put-right3 .last .0) ≡ length (c .before .before .before .before .before .before .before .before .before .before .before .before .before .before .before .before .before .before .before .before .before .before .before .before .args .out .now))
+after-end c =
+    let s = c .before .before .before .before .before .before .before .before .before .before .before .before .before .before .before .before .before .before .before .before .before .before .before .before in
+    let a = after-space-2 (c .before .before .before .before) in
+    let b = puts-wide 11 (s .args .start +ℤ pos (s .args .duration)) (end-is (c .before .before .before .before .before .before .before .before .before .before .before .before .before .before .before .before .before .before .before .before .before)) (c .put-right3 .ensures) (end-fits (s .args .start) (s .args .duration) (s .pre .2) (s .pre .3)) in
+    (omega (arith, a .0, b .0), b .1 ∙ a .1)
+
+moment-of-requires : tie.Need-moment-of-requires
+moment-of-requires c κs = search needs
+
+add-start-of : tie.Need-add-start-of
+add-start-of c = record { fits = omega (arith, moment-is c, start-moment (c .before .before .args .start) (c .before .before .pre .2), c .before .before .pre .3) }
+
+start-of-requires : tie.Need-start-of-requires
+start-of-requires c κs = search needs
+
+word-of-requires : tie.Need-word-of-requires
+word-of-requires c κs = search needs
+
+put-right-requires : tie.Need-put-right-requires
+put-right-requires c κs = (omega (arith, c .before .before .before .before .before .pre .0), rw (task-is c) (task-fits (c .before .before .before .before .before .args .task) (c .before .before .before .before .before .pre .1)), omega arith)
+
+slice-aggregate-put-bytes : tie.Need-slice-aggregate-put-bytes
+slice-aggregate-put-bytes c = search needs
+
+put-bytes-requires : tie.Need-put-bytes-requires
+put-bytes-requires c κs = omega (arith, after-task (c .before .before .before .before), c .before .before .before .before .before .before .before .before .before .before .pre .0)
+
+put-right-requires-2 : tie.Need-put-right-requires-2
+put-right-requires-2 c κs = (omega (arith, after-space (c .before .before .before), c .before .before .before .before .before .before .before .before .before .before .before .before .before .before .pre .0), rw (back (c .before .before .before .before .before .before .before .before .before .before .before .before .before .before .fits .start)) (start-fits (c .before .before .before .before .before .before .before .before .before .before .before .before .before .before .args .start) (c .before .before .before .before .before .before .before .before .before .before .before .before .before .before .pre .2)), omega arith)
+
+slice-aggregate-put-bytes-2 : tie.Need-slice-aggregate-put-bytes-2
+slice-aggregate-put-bytes-2 c = search needs
+
+put-bytes-requires-2 : tie.Need-put-bytes-requires-2
+put-bytes-requires-2 c κs = omega (arith, after-start (c .before .before .before .before), c .before .before .before .before .before .before .before .before .before .before .before .before .before .before .before .before .before .before .before .pre .0)
+
+put-right-requires-3 : tie.Need-put-right-requires-3
+put-right-requires-3 c κs = (omega (arith, after-space-2 (c .before .before .before), c .before .before .before .before .before .before .before .before .before .before .before .before .before .before .before .before .before .before .before .before .before .before .before .pre .0), rw (end-is (c .before .before .before .before .before .before .before .before .before .before .before .before .before .before .before .before .before .before .before .before)) (end-fits (c .before .before .before .before .before .before .before .before .before .before .before .before .before .before .before .before .before .before .before .before .before .before .before .args .start) (c .before .before .before .before .before .before .before .before .before .before .before .before .before .before .before .before .before .before .before .before .before .before .before .args .duration) (c .before .before .before .before .before .before .before .before .before .before .before .before .before .before .before .before .before .before .before .before .before .before .before .pre .2) (c .before .before .before .before .before .before .before .before .before .before .before .before .before .before .before .before .before .before .before .before .before .before .before .pre .3)), omega arith)
+
+slice-aggregate-put-bytes-3 : tie.Need-slice-aggregate-put-bytes-3
+slice-aggregate-put-bytes-3 c = search needs
+
+put-bytes-requires-3 : tie.Need-put-bytes-requires-3
+put-bytes-requires-3 c κs = omega (arith, after-end (c .before .before .before .before), c .before .before .before .before .before .before .before .before .before .before .before .before .before .before .before .before .before .before .before .before .before .before .before .before .before .before .before .before .pre .0)
+
+same-length : tie.Need-same-length
+same-length c = search needs
+
+returns : tie.Need-returns
+returns c =
+    let s = c .before .before .before .before .before .before .before .before .before .before .before .before .before .before .before .before .before .before .before .before .before .before .before .before .before .before .before .before .before .before .before in
+    puts-line (s .args .task) (s .args .start) (s .args .start +ℤ pos (s .args .duration)) (task-is (c .before .before .before .before .before .before .before .before .before .before .before .before .before .before .before .before .before .before .before .before .before .before .before .before .before .before)) (back (s .fits .start)) (end-is (c .before .before .before .before .before .before .before .before .before .before .before .before .before .before .before .before .before .before .before .before .before .before .before .before .before .before .before .before))
+    (c .before .before .before .before .before .before .before .before .before .before .before .before .before .before .before .before .before .before .before .before .before .before .before .before .before .put-right .ensures) (c .before .before .before .before .before .before .before .before .before .before .before .before .before .before .before .before .before .before .before .before .put-bytes .ensures) (c .before .before .before .before .before .before .before .before .before .before .before .before .before .before .before .before .put-right2 .ensures) (c .before .before .before .before .before .before .before .before .before .before .before .put-bytes2 .ensures) (c .before .before .before .before .before .before .before .put-right3 .ensures) (c .before .before .put-bytes3 .ensures)
+
+pub put-line-spec : {M : Type 1} → statement M
+put-line-spec =
+    tie.close
+    (tie.spec
+    moment-of-requires
+    add-start-of
+    start-of-requires
+    word-of-requires
+    put-right-requires
+    slice-aggregate-put-bytes
+    put-bytes-requires
+    put-right-requires-2
+    slice-aggregate-put-bytes-2
+    put-bytes-requires-2
+    put-right-requires-3
+    slice-aggregate-put-bytes-3
+    put-bytes-requires-3
+    same-length
+    returns)

@@ -1,0 +1,110 @@
+use mathlib.Core.Path.{_≡_, refl, _∙_}
+use mathlib.Core.List.{flatMap}
+use Prim.Native.Nat.{_+_, _-_, _*_, _≤_, _<_}
+use native.Mathlib.Omega.{arith}
+use lib.ListN.{length, getD, take}
+use borrow.Author.Needs.{needs}
+use mir.Syntax.{w32}
+use mir.Val.{toZ, ofZ}
+use Rattle.integers.proofs.Ints.{back-of}
+use Rattle.text.specs.Writing.{Puts}
+use Rattle.text.proofs.Putting.{puts-length, puts-append}
+use Rattle.pages.specs.Lines.{LINE}
+use Rattle.pages.specs.Pages.{startAt, lineAt}
+use Rattle.pages.proofs.Paging.{puts-none, puts-next, each-line}
+use Rattle.pages.proofs.Padding.{puts-at}
+use Rattle.pages.proofs.lines.put_lines.Statement.{statement}
+use Rattle.pages.proofs.lines.put_lines.Tie as tie
+
+abbrev Inv-loop : tie.InvT-loop
+Inv-loop out₀ order earliest durations at₀ i₀ out at i = (i ≤ length earliest) × (length out ≡ length out₀) × (at ≡ at₀ + LINE * i) × Puts out₀ out at₀ (flatMap (lineAt durations earliest) (take i order)) at
+
+abbrev μ-loop : tie.MeasureT-loop
+μ-loop out₀ order earliest durations at₀ i₀ out at i = length earliest - i
+
+-- the task, and its start as the machine hands it on
+small : (c : tie.In-loop Inv-loop μ-loop) → getD (c .before .before .before .before .before .before .before .args .order .now) (c .before .loop .i) 0 < length (c .before .before .before .before .before .before .before .args .earliest .now)
+small c = c .before .before .before .before .before .before .before .pre .0 .tasks (c .before .loop .i) (omega (arith, c .loop-test .taken))
+
+start-is : (c : tie.After-put-line-arg2 Inv-loop μ-loop) → toZ w32 (ofZ w32 (startAt (c .before .before .before .before .before .before .before .before .before .before .args .earliest .now) (getD (c .before .before .before .before .before .before .before .before .before .before .args .order .now) (c .before .before .before .before .loop .i) 0))) ≡ startAt (c .before .before .before .before .before .before .before .before .before .before .args .earliest .now) (getD (c .before .before .before .before .before .before .before .before .before .before .args .order .now) (c .before .before .before .before .loop .i) 0)
+start-is c = back-of w32 (startAt (c .before .before .before .before .before .before .before .before .before .before .args .earliest .now) (getD (c .before .before .before .before .before .before .before .before .before .before .args .order .now) (c .before .before .before .before .loop .i) 0)) (c .put-line-arg2 .given)
+
+put-heading-requires : tie.Need-put-heading-requires Inv-loop μ-loop
+put-heading-requires c κs = omega (arith, c .before .before .pre .1)
+
+loop-holds : tie.Need-loop-holds Inv-loop μ-loop
+loop-holds c = (omega arith, refl, omega arith, puts-none (lineAt (c .before .before .before .before .before .args .durations .now) (c .before .before .before .before .before .args .earliest .now)) (c .before .before .before .before .before .args .order .now) _ _)
+
+mul-task : tie.Need-mul-task Inv-loop μ-loop
+mul-task c = search needs
+
+element-copy-out-task : tie.Need-element-copy-out-task Inv-loop μ-loop
+element-copy-out-task c = omega (arith, c .before .before .before .before .before .before .before .pre .0 .started .few, c .loop-test .taken)
+
+mul-put-line : tie.Need-mul-put-line Inv-loop μ-loop
+mul-put-line c = record { fits = omega (arith, small (c .before .before), c .before .before .before .before .before .before .before .before .before .pre .0 .started .few) }
+
+shared-slice-copy-out-put-line : tie.Need-shared-slice-copy-out-put-line Inv-loop μ-loop
+shared-slice-copy-out-put-line c = small (c .before .before)
+
+mul-put-line-2 : tie.Need-mul-put-line-2 Inv-loop μ-loop
+mul-put-line-2 c = record { fits = omega (arith, small (c .before .before .before), c .before .before .before .before .before .before .before .before .before .before .pre .0 .started .few) }
+
+element-copy-out-put-line : tie.Need-element-copy-out-put-line Inv-loop μ-loop
+element-copy-out-put-line c = omega (arith, small (c .before .before .before), c .before .before .before .before .before .before .before .before .before .before .pre .0 .started .few)
+
+put-line-requires : tie.Need-put-line-requires Inv-loop μ-loop
+put-line-requires c κs =
+    let s = c .before .before .before .before .before .before .before .before .before .before .before in
+    let l = c .before .before .before .before .before .loop in
+    let k = getD (s .args .order .now) (l .i) 0 in
+    let q = small (c .before .before .before .before) in
+    (omega (arith, l .inv .1, l .inv .2, c .before .before .before .before .before .before .before .before .put-heading .ensures .end, puts-length (c .before .before .before .before .before .before .before .before .put-heading .ensures), s .pre .1, c .before .before .before .before .loop-test .taken), omega (arith, q, s .pre .0 .started .few), rw (start-is (c .before)) (s .pre .0 .started .starts k q), s .pre .0 .durations k q)
+
+add-i : tie.Need-add-i Inv-loop μ-loop
+add-i c = search needs
+
+loop-less : tie.Need-loop-less Inv-loop μ-loop
+loop-less c = search needs
+
+loop-again : tie.Need-loop-again Inv-loop μ-loop
+loop-again c =
+    let s = c .before .before .before .before .before .before .before .before .before .before .before .before .before .before in
+    let l = c .before .before .before .before .before .before .before .before .loop in
+    let es = s .args .earliest .now in
+    let ds = s .args .durations .now in
+    let k = getD (s .args .order .now) (l .i) 0 in
+    let q = small (c .before .before .before .before .before .before .before) in
+    let w = puts-at k (getD ds k 0) (start-is (c .before .before .before .before)) (c .before .before .put-line .ensures) in
+    (omega (arith, c .before .before .before .before .before .before .before .loop-test .taken), puts-length w ∙ l .inv .1, omega (arith, w .end, l .inv .2, each-line ds es (s .pre .0 .started) (s .pre .0 .durations) k q), puts-next (lineAt ds es) (s .args .order .now) (l .i) (omega (arith, s .pre .0 .long, c .before .before .before .before .before .before .before .loop-test .taken)) (l .inv .3) w)
+
+same-length : tie.Need-same-length Inv-loop μ-loop
+same-length c = search needs
+
+returns : tie.Need-returns Inv-loop μ-loop
+returns c =
+    let a = c .before .before .before .before .before .before .before .args in
+    let l = c .before .loop in
+    let e : l .i ≡ length (a .earliest .now) = omega (arith, l .inv .0, c .loop-test .left) in
+    puts-append (c .before .before .before .before .put-heading .ensures) (rw e at (l .inv .3))
+
+pub put-lines-spec : {M : Type 1} → statement M
+put-lines-spec =
+    tie.close
+    (tie.spec
+    Inv-loop
+    μ-loop
+    put-heading-requires
+    loop-holds
+    mul-task
+    element-copy-out-task
+    mul-put-line
+    shared-slice-copy-out-put-line
+    mul-put-line-2
+    element-copy-out-put-line
+    put-line-requires
+    add-i
+    loop-less
+    loop-again
+    same-length
+    returns)

@@ -1,0 +1,52 @@
+use mathlib.Core.Path.{_≡_, refl, sym, _∙_}
+use native.Mathlib.Omega.{arith}
+use lib.ListN.{length}
+use borrow.Author.Needs.{needs}
+use Rattle.integers.specs.Tests.{AllPassed}
+use Rattle.records.specs.Refusals.{inputTests}
+use Rattle.pages.specs.Pages.{pageNumber}
+use Rattle.pages.proofs.Refusing.{accepted-page, page-input}
+use Rattle.pages.proofs.Paging.{started, listed, refused, written}
+use Rattle.pages.proofs.page.page.Statement.{statement}
+use Rattle.pages.proofs.page.page.Tie as tie
+
+-- no test failed
+number : (c : tie.Else1) → let a = c .before .before .before .args in pageNumber (a .t1) (a .earliest .now) (a .latest .now) (length (a .out .now)) ≡ 0
+number c = sym (c .before .page-refusal .ensures) ∙ c .if1 .left
+
+passed : (c : tie.Else1) → let a = c .before .before .before .args in AllPassed (inputTests (a .t1) (a .earliest .now) (a .latest .now))
+passed c = let a = c .before .before .before .args in page-input (a .t1) (a .earliest .now) (a .latest .now) (length (a .out .now)) (number c)
+
+page-refusal-requires : tie.Need-page-refusal-requires
+page-refusal-requires c κs = search needs
+
+returns : tie.Need-returns
+returns c = let a = c .before .before .before .args in refused (a .t1) (a .earliest .now) (a .latest .now) (a .out .now) (c .before .page-refusal .result) (c .before .page-refusal .ensures) (c .if1 .taken) refl
+
+order-of-requires : tie.Need-order-of-requires
+order-of-requires c κs = let a = c .before .before .before .args in started (a .t1) (a .earliest .now) (a .latest .now) (passed c)
+
+put-lines-requires : tie.Need-put-lines-requires
+put-lines-requires c κs =
+    let a = c .before .before .before .before .before .before .before .before .args in
+    let h = accepted-page (a .t1) (a .earliest .now) (a .latest .now) (length (a .out .now)) .0 (number (c .before .before .before .before .before)) in
+    (listed (a .t1) (a .earliest .now) (a .latest .now) (passed (c .before .before .before .before .before)) _ (c .before .before .before .before .order-of .ensures), omega (arith, h .room, h .counts .earliest))
+
+same-length : tie.Need-same-length
+same-length c = search needs
+
+returns-2 : tie.Need-returns-2
+returns-2 c =
+    let a = c .before .before .before .before .before .before .before .before .before .before .before .args in
+    written (a .t1) (a .earliest .now) (a .latest .now) (a .out .now) _ (c .before .before .put-lines .result) (number (c .before .before .before .before .before .before .before .before)) (c .before .before .before .before .before .before .before .order-of .ensures) (c .before .before .put-lines .ensures)
+
+pub page-spec : {M : Type 1} → statement M
+page-spec =
+    tie.close
+    (tie.spec
+    page-refusal-requires
+    returns
+    order-of-requires
+    put-lines-requires
+    same-length
+    returns-2)

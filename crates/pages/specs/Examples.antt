@@ -1,0 +1,55 @@
+-- The definitions at small inputs.
+-- Assumes nothing.
+use mathlib.Core.Path.{_≡_, refl}
+use mathlib.Core.List.{[], _∷_, _++_, flatMap}
+use lib.IntN.{pos, negsuc}
+use lib.ListN.{replicate}
+use Rattle.integers.specs.Filling.{filled}
+use Rattle.integers.specs.Orders.{insert, sort, has, isPermutation, numbers}
+use Rattle.integers.specs.Tests.{allBelow, refusal}
+use Rattle.scheduling.specs.Scheduling.{total}
+use Rattle.records.specs.declared.record.Propagator.{Propagator}
+use Rattle.records.specs.Records.{unusedAt, lawfulRecord, newRecord}
+use Rattle.text.specs.Writing.{figures, natural, decimal}
+use Rattle.pages.specs.Lines.{padLeft, columns, heading}
+use Rattle.pages.specs.Pages.{pageOf, pageNumber}
+
+-- "NR", "START" and "END" stand in the heading's columns
+heading-columns : columns (78 ∷ 82 ∷ []) (83 ∷ 84 ∷ 65 ∷ 82 ∷ 84 ∷ []) (69 ∷ 78 ∷ 68 ∷ []) ≡ heading
+unfolding columns padLeft
+heading-columns = refl
+
+-- task 0 starts at 3 and lasts 4, task 1 starts at −12 and lasts 15: its line is the first,
+-- " 1         -12           3    ", and " 0           3           7    " is the second
+two-tasks : pageOf (4 ∷ 15 ∷ []) (pos 3 ∷ negsuc 11 ∷ []) ≡
+    heading
+    ++ (32 ∷ 49 ∷ 32 ∷ [] ++ replicate 8 32 ++ (45 ∷ 49 ∷ 50 ∷ 32 ∷ []) ++ replicate 10 32 ++ (51 ∷ 32 ∷ 32 ∷ 32 ∷ 32 ∷ 10 ∷ []))
+    ++ (32 ∷ 48 ∷ 32 ∷ [] ++ replicate 10 32 ++ (51 ∷ 32 ∷ []) ++ replicate 10 32 ++ (55 ∷ 32 ∷ 32 ∷ 32 ∷ 32 ∷ 10 ∷ []))
+unfolding columns padLeft figures natural decimal flatMap sort insert numbers
+two-tasks = refl
+
+-- the record of those tasks
+two : Propagator
+two = newRecord (pos 4 ∷ pos 15 ∷ [])
+
+-- 93 bytes hold the page, and 92 do not; one unit less between the starts is an overlap, and so is a range of two starts turned back
+just-room : pageNumber two (pos 3 ∷ negsuc 11 ∷ []) (pos 3 ∷ negsuc 11 ∷ []) 93 ≡ 0
+unfolding two refusal lawfulRecord isPermutation allBelow unusedAt has filled total
+just-room = refl
+
+no-room : pageNumber two (pos 3 ∷ negsuc 11 ∷ []) (pos 3 ∷ negsuc 11 ∷ []) 92 ≡ 15
+unfolding two refusal lawfulRecord isPermutation allBelow unusedAt has filled total
+no-room = refl
+
+overlap : pageNumber two (pos 2 ∷ negsuc 11 ∷ []) (pos 2 ∷ negsuc 11 ∷ []) 0 ≡ 14
+unfolding two refusal lawfulRecord isPermutation allBelow unusedAt has filled total
+overlap = refl
+
+two-starts : pageNumber two (pos 3 ∷ negsuc 11 ∷ []) (pos 4 ∷ negsuc 11 ∷ []) 93 ≡ 14
+unfolding two refusal lawfulRecord isPermutation allBelow unusedAt has filled total
+two-starts = refl
+
+-- 4 is tried before 14
+empty-range : pageNumber two (pos 2 ∷ negsuc 11 ∷ []) (pos 1 ∷ negsuc 11 ∷ []) 0 ≡ 4
+unfolding two refusal lawfulRecord isPermutation allBelow unusedAt has filled total
+empty-range = refl

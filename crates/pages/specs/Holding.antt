@@ -1,0 +1,26 @@
+-- What the functions take for given that a page is made of, and what the test of neighbours is.
+use mathlib.Core.Bool.{Bool}
+use mathlib.Core.List.{List}
+use Prim.Native.Nat.{ℕ, _+_, _≤_, _<_}
+use lib.IntN.{ℤ}
+use lib.Signed.{leZ}
+use lib.ListN.{length, getD}
+use Rattle.integers.specs.Limits.{TASKS, DURATIONS}
+use Rattle.records.specs.Refusals.{StartFits}
+use Rattle.pages.specs.Pages.{startAt, endAt}
+
+-- Few tasks, with starts within the limits.
+pub record Started (es : List ℤ) : Type 0 where
+  pub few : length es ≤ TASKS
+  pub starts : (k : ℕ) → k < length es → StartFits (startAt es k)
+
+-- Their durations are within the limits too, and an order has a task at each of its first places.
+pub record Listed (order : List ℕ) (es : List ℤ) (ds : List ℕ) : Type 0 where
+  pub started : Started es
+  pub durations : (k : ℕ) → k < length es → getD ds k 0 ≤ DURATIONS
+  pub long : length es ≤ length order
+  pub tasks : (t : ℕ) → t < length es → getD order t 0 < length es
+
+-- the task at place t of an order ends by the start of the next
+abbrev pub inTurnAt : List ℕ → List ℤ → List ℕ → ℕ → Bool
+inTurnAt order es ds t = leZ (endAt ds es (getD order t 0)) (startAt es (getD order (t + 1) 0))

@@ -1,0 +1,4 @@
+pub mod Lines
+pub mod Pages
+pub mod Holding
+pub mod Examples

@@ -1,0 +1,68 @@
+// The lines of a page, put into a buffer.
+use integers::moment_of;
+use integers::start_of;
+use integers::word_of;
+use text::writing::put_bytes;
+use text::writing::put_number;
+ghost use Prim.Native.Nat.{_+_, _*_, _≤_, _<_};
+ghost use lib.IntN.{pos, _+ℤ_};
+ghost use lib.ListN.{length, take};
+ghost use mathlib.Core.List.{_++_, flatMap};
+ghost use Rattle.integers.specs.Limits.{TASKS, DURATIONS};
+ghost use Rattle.records.specs.Refusals.{StartFits};
+ghost use Rattle.text.specs.Writing.{decimal, Puts};
+ghost use Rattle.pages.specs.Lines.{LINE, padLeft, heading, lineOf};
+ghost use Rattle.pages.specs.Pages.{lineAt};
+ghost use Rattle.pages.specs.Holding.{Listed};
+
+// A number, right-aligned: written behind spaces, of which as many are taken along as the width asks for.
+fn put_right(out: &mut [u8], at: usize, width: usize, x: i32) -> usize
+    requires { ⌜ (at + width ≤ length (now out)) × (length (decimal x) ≤ width) × (width ≤ 11) ⌝ }
+    ensures { λ r. ⌜ Puts (now (out .entry)) (now (out .exit)) at (padLeft width (decimal x)) r ⌝ }
+{
+    let mut text = [b' '; 22];
+    let end = put_number(&mut text, 11, x);
+    put_bytes(out, at, &text[end - width..end])
+}
+
+// A task's line. The end is the start's moment plus the duration.
+fn put_line(out: &mut [u8], at: usize, task: usize, start: i32, duration: u32) -> usize
+    requires { ⌜ (at + LINE ≤ length (now out)) × (task < TASKS) × StartFits start × (duration ≤ DURATIONS) ⌝ }
+    ensures { λ r. ⌜ Puts (now (out .entry)) (now (out .exit)) at (lineOf task start (start +ℤ pos duration)) r ⌝ }
+{
+    let end = start_of(moment_of(start) + duration);
+    let a = put_right(out, at, 2, word_of(task));
+    let b = put_bytes(out, a, b" ");
+    let c = put_right(out, b, 11, start);
+    let d = put_bytes(out, c, b" ");
+    let e = put_right(out, d, 11, end);
+    put_bytes(out, e, b"    \n")
+}
+
+// The heading line.
+fn put_heading(out: &mut [u8]) -> usize
+    requires { ⌜ LINE ≤ length (now out) ⌝ }
+    ensures { λ r. ⌜ Puts (now (out .entry)) (now (out .exit)) 0 heading r ⌝ }
+{
+    put_bytes(out, 0, b"NR       START         END    \n")
+}
+
+// The heading, and behind it the lines of the tasks in an order.
+pub fn put_lines(
+    out: &mut [u8],
+    order: &[usize; 48],
+    earliest: &[i32],
+    durations: &[u32; 48],
+) -> usize
+    requires { ⌜ Listed (now order) (now earliest) (now durations) × (LINE * (length (now earliest) + 1) ≤ length (now out)) ⌝ }
+    ensures { λ r. ⌜ Puts (now (out .entry)) (now (out .exit)) 0 (heading ++ flatMap (lineAt (now (durations .entry)) (now (earliest .entry))) (take (length (now (earliest .entry))) (now (order .entry)))) r ⌝ }
+{
+    let mut at = put_heading(out);
+    let mut i = 0;
+    while i < earliest.len() {
+        let task = order[i];
+        at = put_line(out, at, task, earliest[task], durations[task]);
+        i += 1;
+    }
+    at
+}

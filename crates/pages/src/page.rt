@@ -1,0 +1,44 @@
+// The page: refused by number with nothing changed, or written.
+use crate::answer::Page;
+use crate::lines::put_lines;
+use crate::order::in_turn;
+use crate::order::one_start;
+use crate::order::order_of;
+use records::record::Propagator;
+use records::refusals::input_refusal;
+ghost use mathlib.Core.Path.{_≡_};
+ghost use Rattle.pages.specs.Pages.{pageNumber, Paged};
+
+// The number that turns a page back, or 0: 20, 10, 3, 4, 14, 15.
+fn page_refusal(record: Propagator, earliest: &[i32], latest: &[i32], room: usize) -> u32
+    ensures { λ r. ⌜ r ≡ pageNumber «record» (now (earliest .entry)) (now (latest .entry)) room ⌝ }
+{
+    let number = input_refusal(record, earliest, latest);
+    if number != 0 {
+        return number;
+    }
+    if !one_start(earliest, latest) {
+        return 14;
+    }
+    let order = order_of(earliest);
+    if !in_turn(&order, earliest, &record.durations) {
+        return 14;
+    }
+    if room < 31 * (record.count + 1) {
+        return 15;
+    }
+    0
+}
+
+// A page of a fixed schedule, written at the front of the buffer.
+pub fn page(record: Propagator, earliest: &[i32], latest: &[i32], out: &mut [u8]) -> Page
+    ensures { λ r. ⌜ Paged «record» (now (earliest .entry)) (now (latest .entry)) (now (out .entry)) r (now (out .exit)) ⌝ }
+{
+    let number = page_refusal(record, earliest, latest, out.len());
+    if number != 0 {
+        return Page::Refused(number);
+    }
+    let order = order_of(earliest);
+    let written = put_lines(out, &order, earliest, &record.durations);
+    Page::Written(written)
+}
