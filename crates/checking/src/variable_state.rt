@@ -339,7 +339,7 @@ impl VariableState {
     }
 
     // Apply one atom.
-    fn apply_atom(self, atom: AtomicConstraint) -> Applied
+    fn apply_atom(mut self, atom: AtomicConstraint) -> Applied
         requires { ⌜ Accepted self × ((atom .identifier < VARIABLES) × Within (VALUE + 1) (atom .value)) ⌝ }
         ensures { λ r. ⌜ r ≡ stepped self (atomOf atom) ⌝ }
     {
@@ -351,12 +351,11 @@ impl VariableState {
         let effect = reduced.effect;
         match effect {
             Effect::Narrowed => {
-                let mut state = self;
                 let narrowed = reduced.domain;
-                state.domains[x] = narrowed;
+                self.domains[x] = narrowed;
                 Applied {
                     answer: Application::Consistent,
-                    state,
+                    state: self,
                 }
             }
             Effect::Emptied => Applied {
@@ -523,10 +522,10 @@ impl VariableState {
                 state: VariableState::empty(),
             };
         }
-        let applied = VariableState::apply_premises(premises);
         if consequent.len() == 0 {
-            return applied;
+            return VariableState::apply_premises(premises);
         }
+        let applied = VariableState::apply_premises(premises);
         let atom = atom_at(consequent, 0);
         applied.conclude(atom.negate())
     }
@@ -540,10 +539,7 @@ impl Applied {
     {
         let answer = self.answer;
         match answer {
-            Application::Consistent => {
-                let state = self.state;
-                state.apply_last(atom)
-            }
+            Application::Consistent => self.state.apply_last(atom),
             Application::Contradiction(_) => self,
             Application::Refused(_) => self,
         }

@@ -1,4 +1,4 @@
--- The leaves become white, one after the other.
+-- The leaves become white, one after the other, and then the inner nodes are built.
 -- Assumes nothing.
 use mathlib.Core.Path.{_≡_, refl, sym, ap, subst, _∙_}
 use mathlib.Core.List.{List, [], _∷_}
@@ -8,10 +8,10 @@ use lib.ListN.{length, getD, set, replicate, length-replicate, getD-replicate}
 use Rattle.integers.specs.Filling.{filled}
 use Rattle.integers.proofs.Filling.{filled-none, filled-more, filled-length, filled-at}
 use Rattle.trees.specs.declared.theta_lambda_tree.Node.{Node}
-use Rattle.trees.specs.Leaves.{Leaf, empty, white, IsTree}
+use Rattle.trees.specs.Leaves.{Leaf, empty, white, IsTree, HasLeaves}
 use Rattle.trees.specs.Nodes.{whiteOf}
-use Rattle.trees.specs.Puts.{Puttable, Put}
-use Rattle.trees.proofs.Trees.{may-put, was-put}
+use Rattle.trees.specs.Puts.{Layable, Laid, Rebuildable, Rebuilt}
+use Rattle.trees.proofs.Rebuilding.{tree-leaves, may-lay, was-laid, may-rebuild, was-rebuilt}
 use Rattle.propagator.specs.Filling.{Fillable}
 
 -- two lists of one length that agree in each place
@@ -26,8 +26,8 @@ module _ {inner n : ℕ} {words tasks est dur : List ℕ} (f : Fillable inner n 
   abbrev pub upTo : ℕ → List Leaf
   upTo x = filled (λ _. white) x (replicate (f .J .count) empty)
 
-  pub none-white : IsTree (f .J) (f .first) (upTo 0) inner words
-  none-white = subst (λ (ls : List Leaf). IsTree (f .J) (f .first) ls inner words) (sym (filled-none (λ _. white) (replicate (f .J .count) empty))) (f .tree)
+  pub none-white : HasLeaves (f .J) (f .first) (upTo 0) inner words
+  none-white = subst (λ (ls : List Leaf). HasLeaves (f .J) (f .first) ls inner words) (sym (filled-none (λ _. white) (replicate (f .J .count) empty))) (tree-leaves (f .limited) (f .tree))
 
   module _ (x : ℕ) (q : x < n) where
     abbrev t : ℕ
@@ -45,14 +45,17 @@ module _ {inner n : ℕ} {words tasks est dur : List ℕ} (f : Fillable inner n 
     inside : x < f .J .count
     inside = omega (arith, f .count)
 
-    pub may-white : {now : List ℕ} → IsTree (f .J) (f .first) (upTo x) inner now → Puttable inner now x node
-    may-white i = may-put (f .limited) i x inside white node-is
+    pub may-white : {now : List ℕ} → HasLeaves (f .J) (f .first) (upTo x) inner now → Layable inner now x node
+    may-white i = may-lay (f .limited) i x inside white node-is
 
-    pub one-white : {now now′ : List ℕ} → IsTree (f .J) (f .first) (upTo x) inner now → Put inner now now′ x node → IsTree (f .J) (f .first) (upTo (x + 1)) inner now′
-    one-white {now} {now′} i p = subst (λ (ls : List Leaf). IsTree (f .J) (f .first) ls inner now′) (sym (filled-more (λ _. white) x (replicate (f .J .count) empty))) (was-put (f .limited) i x inside white node-is p)
+    pub one-white : {now now′ : List ℕ} → HasLeaves (f .J) (f .first) (upTo x) inner now → Laid inner now now′ x node → HasLeaves (f .J) (f .first) (upTo (x + 1)) inner now′
+    one-white {now} {now′} i p = subst (λ (ls : List Leaf). HasLeaves (f .J) (f .first) ls inner now′) (sym (filled-more (λ _. white) x (replicate (f .J .count) empty))) (was-laid (f .limited) i x inside white node-is p)
 
-  pub all-white : (x : ℕ) → x ≡ n → {now : List ℕ} → IsTree (f .J) (f .first) (upTo x) inner now → IsTree (f .J) (f .first) (replicate (f .J .count) white) inner now
-  all-white x z {now} i = subst (λ (ls : List Leaf). IsTree (f .J) (f .first) ls inner now) is i
+  pub may-build : (x : ℕ) {now : List ℕ} → HasLeaves (f .J) (f .first) (upTo x) inner now → Rebuildable inner now
+  may-build x i = may-rebuild (f .limited) i
+
+  pub all-white : (x : ℕ) → x ≡ n → {now now′ : List ℕ} → HasLeaves (f .J) (f .first) (upTo x) inner now → Rebuilt inner now now′ → IsTree (f .J) (f .first) (replicate (f .J .count) white) inner now′
+  all-white x z {now} {now′} i p = subst (λ (ls : List Leaf). IsTree (f .J) (f .first) ls inner now′) is (was-rebuilt (f .limited) i p)
     where
       c : ℕ
       c = f .J .count

@@ -9,6 +9,8 @@ use records::orders::reversed;
 use records::orders::sort_by_key;
 use records::record::Propagator;
 use records::refusals::run_refusal;
+use trees::complete_tree::leaf_places;
+use trees::complete_tree::size_for;
 use trees::disjunctive_task::DisjunctiveTask;
 use trees::disjunctive_task::LeafPlace;
 use trees::disjunctive_task::LocalId;
@@ -260,7 +262,7 @@ fn overload<'a>(
     }
 }
 
-// Moves task j from Theta to Lambda.
+// Moves task j from Theta to Lambda. The source empties its leaf first; the gray leaf goes over the white one here, which leaves the same tree.
 fn move_to_lambda<'a>(
     nodes: &mut [u32; 508],
     inner: usize,
@@ -273,7 +275,6 @@ fn move_to_lambda<'a>(
     ensures { λ _. ⌜ Moved inner (now (nodes .entry)) (now (nodes .exit)) (now (mapping .entry)) (now (est .entry)) (now (durations .entry)) j ⌝ }
 {
     let place = leaf_of(mapping, LocalId(j));
-    ThetaLambdaTree::remove_from_theta(nodes, inner, place);
     let task = DisjunctiveTask {
         start_time: est[j],
         processing_time: durations[j],
@@ -342,7 +343,7 @@ fn edge_finding<'a>(
     Outcome::Done(w.posts)
 }
 
-// Puts every task into Theta, leaf by leaf.
+// Puts every task into Theta. The source adds them one by one; here the leaves come first and then each inner node once, which leaves the same tree.
 fn fill<'a>(
     nodes: &mut [u32; 508],
     inner: usize,
@@ -363,9 +364,10 @@ fn fill<'a>(
             processing_time: durations[i],
             id,
         };
-        ThetaLambdaTree::add_to_theta(nodes, inner, LeafPlace(x), task);
+        ThetaLambdaTree::lay_in_theta(nodes, inner, LeafPlace(x), task);
         x += 1;
     }
+    ThetaLambdaTree::rebuild(nodes, inner);
 }
 
 // A run on a record and ranges that no test turns back.
@@ -392,12 +394,11 @@ fn accepted(
     let keys = reversed(&lct, n);
     let mut second = record.second;
     sort_by_key(&mut second, n, &keys);
-    let new = ThetaLambdaTree::new(n);
-    let tree = new.update(&first);
-    let inner = tree.number_of_internal_nodes;
-    let height = tree.height;
-    let mapping = tree.mapping;
-    let mut nodes = tree.nodes;
+    let size = size_for(n);
+    let inner = size.number_of_internal_nodes;
+    let height = size.height;
+    let mapping = leaf_places(&first, n);
+    let mut nodes: [u32; 508] = [0; 508];
     fill(&mut nodes, inner, &first, &est, &durations, n);
     let outcome = edge_finding(
         &mut nodes,

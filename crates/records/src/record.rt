@@ -13,6 +13,7 @@ ghost use Rattle.records.specs.Orders.{noTasks};
 ghost use Rattle.records.specs.Records.{countFits, sumFits, lastsAt, unusedZero, lawfulRecord, durationOf, durationAt, creationTests, creationNumber, zeroRecord, created};
 
 // Places from the count on are 0.
+#[repr(C)]
 pub struct Propagator {
     pub count: usize,
     pub durations: [u32; 48],

@@ -11,4 +11,5 @@ pub mod Overs
 pub mod Responsible
 pub mod Roots
 pub mod Trees
+pub mod Rebuilding
 pub mod Examples

@@ -98,6 +98,13 @@ module _ (J : Tasks natural) (first : List ℕ) where
     pub complete : inner + 1 ≡ width (heightFor (J .count))
     pub colours : length ls ≡ J .count
 
+  -- The words hold these leaves, and the inner nodes may be anything.
+  pub record HasLeaves (ls : List Leaf) (inner : ℕ) (words : List ℕ) : Type 0 where
+    pub nodes : (k : ℕ) → nodeAt words (inner + k) ≡ leaves ls k
+    pub words-length : length words ≡ 508
+    pub complete : inner + 1 ≡ width (heightFor (J .count))
+    pub colours : length ls ≡ J .count
+
   -- The words hold the theta tree over the white ones of these leaves.
   pub record IsPlainTree (ls : List Leaf) (inner : ℕ) (words : List ℕ) : Type 0 where
     pub tree : TreeOf plainJoinOf inner (plainLeaves ls) (plainAt words)

@@ -1,15 +1,15 @@
 -- What an operation on the words of a tree asks, and what it does: one leaf changes, and every inner node is the join of its children again.
 use mathlib.Core.Path.{_≡_}
 use mathlib.Core.List.{List}
-use Prim.Native.Nat.{ℕ, _+_}
+use Prim.Native.Nat.{ℕ, _+_, _≤_}
 use lib.ListN.{length}
 use Rattle.trees.specs.declared.disjunctive_task.DisjunctiveTask.{DisjunctiveTask}
 use Rattle.trees.specs.declared.theta_lambda_tree.Node.{Node}
 use Rattle.trees.specs.declared.theta_tree.Node as plain
-use Rattle.trees.specs.Shapes.{leavesOf, changed, TreeOf}
+use Rattle.trees.specs.Shapes.{width, leavesOf, changed, TreeOf}
 use Rattle.trees.specs.Nodes.{whiteOf, grayOf, joinOf, plainOf, plainJoinOf}
 use Rattle.trees.specs.Words.{nodeAt, plainAt}
-use Rattle.trees.specs.Bounds.{Fair, size, PlainFair, plainSize, CanPut}
+use Rattle.trees.specs.Bounds.{Fair, size, PlainFair, plainSize, Fits, Bounded, CanPut}
 
 -- the leaf of a task of Theta, and of one of Lambda
 abbrev pub whiteTask : DisjunctiveTask → Node
@@ -29,6 +29,31 @@ pub record Puttable (inner : ℕ) (words : List ℕ) (place : ℕ) (n : Node) : 
 -- the leaf at `place` became n
 pub record Put (inner : ℕ) (before after : List ℕ) (place : ℕ) (n : Node) : Type 0 where
   pub tree : TreeOf joinOf inner (changed (leavesOf inner (nodeAt before)) place n) (nodeAt after)
+  pub length : length after ≡ 508
+
+-- n may stand as the leaf at `place`, whatever its ancestors are
+pub record Layable (inner : ℕ) (words : List ℕ) (place : ℕ) (n : Node) : Type 0 where
+  pub fits : Fits size Fair n
+  pub inside : place ≤ inner
+  pub room : inner ≤ 63
+  pub length : length words ≡ 508
+
+-- n stands there, and nothing else changed
+pub record Laid (inner : ℕ) (before after : List ℕ) (place : ℕ) (n : Node) : Type 0 where
+  pub nodes : nodeAt after ≡ changed (nodeAt before) (inner + place) n
+  pub length : length after ≡ 508
+
+-- the leaves stand, and the inner nodes may be anything
+pub record Rebuildable (inner : ℕ) (words : List ℕ) : Type 0 where
+  pub bounded : Bounded size Fair (leavesOf inner (nodeAt words))
+  pub height : ℕ
+  pub complete : inner + 1 ≡ width height
+  pub room : inner ≤ 63
+  pub length : length words ≡ 508
+
+-- the leaves stayed, and every inner node is the join of its children
+pub record Rebuilt (inner : ℕ) (before after : List ℕ) : Type 0 where
+  pub tree : TreeOf joinOf inner (leavesOf inner (nodeAt before)) (nodeAt after)
   pub length : length after ≡ 508
 
 -- the same of a theta tree

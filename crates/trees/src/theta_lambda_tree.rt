@@ -22,7 +22,7 @@ ghost use Rattle.trees.specs.Shapes.{Sized, leftmost, changed, leavesOf,
 ghost use Rattle.trees.specs.Nodes.{emptyOf, whiteOf, grayOf, joinOf, isEmpty};
 ghost use Rattle.trees.specs.Words.{nodeAt};
 ghost use Rattle.trees.specs.Bounds.{Fair, size, Fits, NeedsUpheap};
-ghost use Rattle.trees.specs.Puts.{whiteTask, grayTask, Puttable, Put};
+ghost use Rattle.trees.specs.Puts.{whiteTask, grayTask, Puttable, Put, Layable, Laid, Rebuildable, Rebuilt};
 ghost use Rattle.trees.specs.Mappings.{Updated};
 ghost use Rattle.trees.specs.Searches.{Searched, Searchable, gray, tested, descentP, descentEct, AroundFits, aroundOf, stepAtP, stepAtEct, searchP, searchEct, foundAt, responsibleOf, thetaOf, isWhite, Lists};
 
@@ -497,6 +497,39 @@ impl ThetaLambdaTree {
         let ect = task.start_time + task.processing_time;
         let n = Node::new_white_node(ect, task.processing_time);
         ThetaLambdaTree::put(nodes, inner, place, n);
+    }
+
+    // Adds the provided task to Theta as `add_to_theta` does, but for its ancestors, which are left to `rebuild`.
+    pub fn lay_in_theta(
+        nodes: &mut [u32; 508],
+        inner: usize,
+        place: LeafPlace,
+        task: DisjunctiveTask,
+    )
+        requires { ⌜ Layable inner (now nodes) (place .0) (whiteTask task) ⌝ }
+        ensures { λ _. ⌜ Laid inner (now (nodes .entry)) (now (nodes .exit)) (place .0) (whiteTask task) ⌝ }
+    {
+        let ect = task.start_time + task.processing_time;
+        let n = Node::new_white_node(ect, task.processing_time);
+        let position = inner + place.0;
+        store(nodes, position, n);
+    }
+
+    // Calculates the values of all inner nodes, the last ones first.
+    pub fn rebuild(nodes: &mut [u32; 508], inner: usize)
+        requires { ⌜ Rebuildable inner (now nodes) ⌝ }
+        ensures { λ _. ⌜ Rebuilt inner (now (nodes .entry)) (now (nodes .exit)) ⌝ }
+    {
+        let mut i = inner;
+        while i != 0 {
+            i -= 1;
+            let left = get_left_child_index(i);
+            let right = get_right_child_index(i);
+            let l = load(nodes, left);
+            let r = load(nodes, right);
+            let n = Node::join(l, r);
+            store(nodes, i, n);
+        }
     }
 
     // Removes a task from Theta.

@@ -4,10 +4,12 @@ use mathlib.Core.Path.{_≡_, refl, sym, subst}
 use mathlib.Core.List.{List}
 use Prim.Native.Nat.{ℕ}
 use native.Mathlib.Omega.{arith}
-use lib.ListN.{length, take}
+use lib.ListN.{length, take, replicate}
 use borrow.Author.Needs.{needs}
 use Rattle.integers.specs.Limits.{TASKS}
 use Rattle.integers.specs.Orders.{Permutes}
+use Rattle.trees.specs.declared.theta_lambda_tree.ThetaLambdaTree.{ThetaLambdaTree}
+use Rattle.trees.specs.Mappings.{Updated}
 use Rattle.records.specs.declared.record.Propagator.{Propagator}
 use Rattle.records.specs.Orders.{byKey}
 use Rattle.records.proofs.Sorted.{numbered, sorted-permutes}
@@ -68,37 +70,49 @@ reversed-requires c κs = search needs
 sort-by-key-requires-2 : tie.Need-sort-by-key-requires-2
 sort-by-key-requires-2 c κs = let s = c .before .before .before .before .before .before .before .before .before .before .before .before .before .before .before .before .before .before .before in numbered (s .args .«record» .count) (s .args .«record» .second) (s .pre .lawful .few) (long₂ s) (s .pre .lawful .second)
 
-new-requires : tie.Need-new-requires
-new-requires c κs = search needs
+size-for-requires : tie.Need-size-for-requires
+size-for-requires c κs = search needs
 
-permuted : (c : tie.After-new) → Permutes (c .new .result .count) (take (c .new .result .count) (first (c .before) .sort-by-key .last .0))
-permuted c =
-    let q = c .before in
-    let r = start q .args .«record» in
-    subst (λ (m : ℕ). Permutes m (take m (first q .sort-by-key .last .0))) (sym (c .new .ensures .1))
-    (subst (λ (l : List ℕ). Permutes (r .count) (take (r .count) l)) (sym (first q .sort-by-key .ensures))
-    (sorted-permutes (byKey (est q .moments-of .last .0)) (r .count) (r .first) (omega (arith, long₁ (start q), start q .pre .lawful .few)) (start q .pre .lawful .first)))
+leaf-places-requires : tie.Need-leaf-places-requires
+leaf-places-requires c κs =
+    let q = c .before .before in
+    let r = start q .args .«record» in (
+      start q .pre .lawful .few,
+      subst (λ (l : List ℕ). Permutes (r .count) (take (r .count) l)) (sym (first q .sort-by-key .ensures))
+          (sorted-permutes (byKey (est q .moments-of .last .0)) (r .count) (r .first) (omega (arith, long₁ (start q), start q .pre .lawful .few)) (start q .pre .lawful .first)),
+    )
 
-update-requires : tie.Need-update-requires
-update-requires c κs =
-    let n = c .before in
-    let q = n .before in
-    (omega (arith, n .new .ensures .1, start q .pre .lawful .few), permuted n)
+-- the tree that `new` and `update` give: its size, the order, and every word 0
+abbrev sizes : tie.After-leaf-places → tie.After-size-for
+sizes l = l .before .before
+
+abbrev blank : tie.After-leaf-places → ThetaLambdaTree
+blank l = record {
+  nodes = replicate 508 0;
+  mapping = l .leaf-places .result;
+  «reverse_mapping» = first (sizes l .before) .sort-by-key .last .0;
+  «number_of_internal_nodes» = sizes l .size-for .result .«number_of_internal_nodes»;
+  height = sizes l .size-for .result .height;
+  count = start (sizes l .before) .args .«record» .count;
+}
+
+updated : (l : tie.After-leaf-places) → Updated (blank l) (blank l) (first (sizes l .before) .sort-by-key .last .0)
+updated l = record { nodes = refl; mapping = l .leaf-places .ensures; reverse-mapping = refl; inner = refl; height = refl; count = refl }
 
 fill-requires : tie.Need-fill-requires
 fill-requires c κs =
-    let u = c .before .before .before .before .before .before in
+    let u = c .before .before .before .before in
     let n = u .before .before in
     let q = n .before in
-    fillable (start q .args .«record») (start q .args .earliest .now) (start q .args .latest .now) (length (start q .args .posts .now)) (length (start q .args .atoms .now)) (start q .pre) (long (start q)) (long₁ (start q)) (long₂ (start q)) (est q .moments-of .ensures) (lst q .moments-of2 .ensures) (lct q .completions .ensures) (first q .sort-by-key .ensures) (keys q .reversed .ensures) (q .sort-by-key2 .ensures) (n .new .ensures .0) (n .new .ensures .1) (u .update .ensures)
+    fillable (start q .args .«record») (start q .args .earliest .now) (start q .args .latest .now) (length (start q .args .posts .now)) (length (start q .args .atoms .now)) (start q .pre) (long (start q)) (long₁ (start q)) (long₂ (start q)) (est q .moments-of .ensures) (lst q .moments-of2 .ensures) (lct q .completions .ensures) (first q .sort-by-key .ensures) (keys q .reversed .ensures) (q .sort-by-key2 .ensures) {new = blank u} {tree′ = blank u} (n .size-for .ensures) refl (updated u)
 
 edge-finding-requires : tie.Need-edge-finding-requires
 edge-finding-requires c κs =
-    let u = c .before .before .before .before .before .before .before .before .before .before .before .before .before .before .before .before .before .before in
+    let u = c .before .before .before .before .before .before .before .before .before .before .before .before .before .before .before .before in
     let n = u .before .before in
     let q = n .before in
-    begun (start q .args .«record») (start q .args .earliest .now) (start q .args .latest .now) (length (start q .args .posts .now)) (length (start q .args .atoms .now)) (start q .pre) (long (start q)) (long₁ (start q)) (long₂ (start q)) (est q .moments-of .ensures) (lst q .moments-of2 .ensures) (lct q .completions .ensures) (first q .sort-by-key .ensures) (keys q .reversed .ensures) (q .sort-by-key2 .ensures) (n .new .ensures .0) (n .new .ensures .1) (u .update .ensures)
-    (c .before .before .before .before .before .before .before .before .before .before .before .fill .ensures (fillable (start q .args .«record») (start q .args .earliest .now) (start q .args .latest .now) (length (start q .args .posts .now)) (length (start q .args .atoms .now)) (start q .pre) (long (start q)) (long₁ (start q)) (long₂ (start q)) (est q .moments-of .ensures) (lst q .moments-of2 .ensures) (lct q .completions .ensures) (first q .sort-by-key .ensures) (keys q .reversed .ensures) (q .sort-by-key2 .ensures) (n .new .ensures .0) (n .new .ensures .1) (u .update .ensures))) refl refl
+    begun (start q .args .«record») (start q .args .earliest .now) (start q .args .latest .now) (length (start q .args .posts .now)) (length (start q .args .atoms .now)) (start q .pre) (long (start q)) (long₁ (start q)) (long₂ (start q)) (est q .moments-of .ensures) (lst q .moments-of2 .ensures) (lct q .completions .ensures) (first q .sort-by-key .ensures) (keys q .reversed .ensures) (q .sort-by-key2 .ensures) {new = blank u} {tree′ = blank u} (n .size-for .ensures) refl (updated u)
+    (c .before .before .before .before .before .before .before .before .before .before .before .fill .ensures (fillable (start q .args .«record») (start q .args .earliest .now) (start q .args .latest .now) (length (start q .args .posts .now)) (length (start q .args .atoms .now)) (start q .pre) (long (start q)) (long₁ (start q)) (long₂ (start q)) (est q .moments-of .ensures) (lst q .moments-of2 .ensures) (lct q .completions .ensures) (first q .sort-by-key .ensures) (keys q .reversed .ensures) (q .sort-by-key2 .ensures) {new = blank u} {tree′ = blank u} (n .size-for .ensures) refl (updated u))) refl refl
 
 same-length : tie.Need-same-length
 same-length c = search needs
@@ -111,12 +125,12 @@ same-length-3 c = search needs
 
 returns : tie.Need-returns
 returns c =
-    let u = c .before .before .before .before .before .before .before .before .before .before .before .before .before .before .before .before .before .before .before .before .before .before in
+    let u = c .before .before .before .before .before .before .before .before .before .before .before .before .before .before .before .before .before .before .before .before in
     let n = u .before .before in
     let q = n .before in
     left (start q .args .«record») (start q .args .earliest .now) (start q .args .latest .now) (length (start q .args .posts .now)) (length (start q .args .atoms .now)) (start q .pre) (long (start q)) (long₁ (start q)) (long₂ (start q)) (est q .moments-of .ensures) (lst q .moments-of2 .ensures) (lct q .completions .ensures) (first q .sort-by-key .ensures) (keys q .reversed .ensures) (q .sort-by-key2 .ensures) refl refl
-    (c .before .before .before .edge-finding .ensures (begun (start q .args .«record») (start q .args .earliest .now) (start q .args .latest .now) (length (start q .args .posts .now)) (length (start q .args .atoms .now)) (start q .pre) (long (start q)) (long₁ (start q)) (long₂ (start q)) (est q .moments-of .ensures) (lst q .moments-of2 .ensures) (lct q .completions .ensures) (first q .sort-by-key .ensures) (keys q .reversed .ensures) (q .sort-by-key2 .ensures) (n .new .ensures .0) (n .new .ensures .1) (u .update .ensures)
-    (c .before .before .before .before .before .before .before .before .before .before .before .before .before .before .before .fill .ensures (fillable (start q .args .«record») (start q .args .earliest .now) (start q .args .latest .now) (length (start q .args .posts .now)) (length (start q .args .atoms .now)) (start q .pre) (long (start q)) (long₁ (start q)) (long₂ (start q)) (est q .moments-of .ensures) (lst q .moments-of2 .ensures) (lct q .completions .ensures) (first q .sort-by-key .ensures) (keys q .reversed .ensures) (q .sort-by-key2 .ensures) (n .new .ensures .0) (n .new .ensures .1) (u .update .ensures))) refl refl))
+    (c .before .before .before .edge-finding .ensures (begun (start q .args .«record») (start q .args .earliest .now) (start q .args .latest .now) (length (start q .args .posts .now)) (length (start q .args .atoms .now)) (start q .pre) (long (start q)) (long₁ (start q)) (long₂ (start q)) (est q .moments-of .ensures) (lst q .moments-of2 .ensures) (lct q .completions .ensures) (first q .sort-by-key .ensures) (keys q .reversed .ensures) (q .sort-by-key2 .ensures) {new = blank u} {tree′ = blank u} (n .size-for .ensures) refl (updated u)
+    (c .before .before .before .before .before .before .before .before .before .before .before .before .before .before .before .fill .ensures (fillable (start q .args .«record») (start q .args .earliest .now) (start q .args .latest .now) (length (start q .args .posts .now)) (length (start q .args .atoms .now)) (start q .pre) (long (start q)) (long₁ (start q)) (long₂ (start q)) (est q .moments-of .ensures) (lst q .moments-of2 .ensures) (lct q .completions .ensures) (first q .sort-by-key .ensures) (keys q .reversed .ensures) (q .sort-by-key2 .ensures) {new = blank u} {tree′ = blank u} (n .size-for .ensures) refl (updated u))) refl refl))
 
 pub accepted-spec : {M : Type 1} → statement M
 accepted-spec =
@@ -128,8 +142,8 @@ accepted-spec =
     sort-by-key-requires
     reversed-requires
     sort-by-key-requires-2
-    new-requires
-    update-requires
+    size-for-requires
+    leaf-places-requires
     fill-requires
     edge-finding-requires
     same-length

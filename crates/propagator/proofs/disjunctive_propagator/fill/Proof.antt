@@ -7,18 +7,18 @@ use native.Mathlib.Omega.{arith}
 use lib.ListN.{getD}
 use borrow.Author.Needs.{needs}
 use Rattle.trees.specs.declared.theta_lambda_tree.Node.{Node}
-use Rattle.trees.specs.Leaves.{IsTree}
+use Rattle.trees.specs.Leaves.{HasLeaves}
 use Rattle.trees.specs.Nodes.{whiteOf}
-use Rattle.trees.specs.Puts.{Puttable, Put}
+use Rattle.trees.specs.Puts.{Layable, Laid}
 use Rattle.propagator.specs.Filling.{Fillable}
-use Rattle.propagator.proofs.Filling.{upTo, none-white, task-known, may-white, one-white, all-white}
+use Rattle.propagator.proofs.Filling.{upTo, none-white, task-known, may-white, one-white, may-build, all-white}
 use Rattle.propagator.proofs.disjunctive_propagator.fill.Statement.{statement}
 use Rattle.propagator.proofs.disjunctive_propagator.fill.Tie as tie
 
 -- the first x leaves are white
 record Loop (inner n : ℕ) (nodes₀ tasks est durations nodes : List ℕ) (x : ℕ) : Type 0 where
   fillable : Fillable inner n nodes₀ tasks est durations
-  tree : (f : Fillable inner n nodes₀ tasks est durations) → IsTree (f .J) (f .first) (upTo f x) inner nodes
+  leaves : (f : Fillable inner n nodes₀ tasks est durations) → HasLeaves (f .J) (f .first) (upTo f x) inner nodes
   small : x ≤ n
 
 abbrev Inv-loop : tie.InvT-loop
@@ -40,14 +40,14 @@ known c = omega (arith, c .task-of .ensures, task-known (c .before .before .loop
 abbrev node : tie.After-task-of Inv-loop μ-loop → ℕ → Node
 node c i = let a = c .before .before .before .args in whiteOf (getD (a .est .now) i 0 + getD (a .durations .now) i 0) (getD (a .durations .now) i 0)
 
-may : (c : tie.After-task-of Inv-loop μ-loop) {words : List ℕ} → let a = c .before .before .before .args in Puttable (a .inner) words (c .before .before .loop .x) (node c (task c)) → Puttable (a .inner) words (c .before .before .loop .x) (node c (c .task-of .result .0))
-may c {words} q = subst (λ (i : ℕ). Puttable (c .before .before .before .args .inner) words (c .before .before .loop .x) (node c i)) (sym (c .task-of .ensures)) q
+may : (c : tie.After-task-of Inv-loop μ-loop) {words : List ℕ} → let a = c .before .before .before .args in Layable (a .inner) words (c .before .before .loop .x) (node c (task c)) → Layable (a .inner) words (c .before .before .loop .x) (node c (c .task-of .result .0))
+may c {words} q = subst (λ (i : ℕ). Layable (c .before .before .before .args .inner) words (c .before .before .loop .x) (node c i)) (sym (c .task-of .ensures)) q
 
-was : (c : tie.After-task-of Inv-loop μ-loop) {words words′ : List ℕ} → let a = c .before .before .before .args in Put (a .inner) words words′ (c .before .before .loop .x) (node c (c .task-of .result .0)) → Put (a .inner) words words′ (c .before .before .loop .x) (node c (task c))
-was c {words} {words′} q = subst (λ (i : ℕ). Put (c .before .before .before .args .inner) words words′ (c .before .before .loop .x) (node c i)) (c .task-of .ensures) q
+was : (c : tie.After-task-of Inv-loop μ-loop) {words words′ : List ℕ} → let a = c .before .before .before .args in Laid (a .inner) words words′ (c .before .before .loop .x) (node c (c .task-of .result .0)) → Laid (a .inner) words words′ (c .before .before .loop .x) (node c (task c))
+was c {words} {words′} q = subst (λ (i : ℕ). Laid (c .before .before .before .args .inner) words words′ (c .before .before .loop .x) (node c i)) (c .task-of .ensures) q
 
 loop-holds : tie.Need-loop-holds Inv-loop μ-loop
-loop-holds c = record { fillable = c .pre; tree = λ f. none-white f; small = omega arith }
+loop-holds c = record { fillable = c .pre; leaves = λ f. none-white f; small = omega arith }
 
 task-of-requires : tie.Need-task-of-requires Inv-loop μ-loop
 task-of-requires c κs = omega (arith, inside c, c .before .loop .inv .fillable .few)
@@ -64,11 +64,11 @@ mul-t17 c = omega (arith, known (c .before))
 element-copy-out-t20 : tie.Need-element-copy-out-t20 Inv-loop μ-loop
 element-copy-out-t20 c = known (c .before)
 
-add-to-theta-requires : tie.Need-add-to-theta-requires Inv-loop μ-loop
-add-to-theta-requires c κs =
+lay-in-theta-requires : tie.Need-lay-in-theta-requires Inv-loop μ-loop
+lay-in-theta-requires c κs =
     let at = c .before .before .before in
     let v = at .before .before .loop .inv in
-    may at (may-white (v .fillable) (at .before .before .loop .x) (inside (at .before)) (v .tree (v .fillable)))
+    may at (may-white (v .fillable) (at .before .before .loop .x) (inside (at .before)) (v .leaves (v .fillable)))
 
 add-x : tie.Need-add-x Inv-loop μ-loop
 add-x c = search needs
@@ -80,10 +80,13 @@ loop-again : tie.Need-loop-again Inv-loop μ-loop
 loop-again c =
     let at = c .before .before .before .before in
     let v = at .before .before .loop .inv in
-    record { fillable = v .fillable; tree = λ f. one-white f (at .before .before .loop .x) (inside (at .before)) (v .tree f) (was at (c .add-to-theta .ensures)); small = omega (arith, inside (at .before)) }
+    record { fillable = v .fillable; leaves = λ f. one-white f (at .before .before .loop .x) (inside (at .before)) (v .leaves f) (was at (c .lay-in-theta .ensures)); small = omega (arith, inside (at .before)) }
+
+rebuild-requires : tie.Need-rebuild-requires Inv-loop μ-loop
+rebuild-requires c κs = let v = c .before .before .loop in may-build (v .inv .fillable) (v .x) (v .inv .leaves (v .inv .fillable))
 
 returns : tie.Need-returns Inv-loop μ-loop
-returns c = λ f. all-white f (c .before .loop .x) (omega (arith, c .before .loop .inv .small)) (c .before .loop .inv .tree f)
+returns c = λ f. let v = c .before .before .before .loop in all-white f (v .x) (omega (arith, v .inv .small)) (v .inv .leaves f) (c .rebuild .ensures)
 
 pub fill-spec : {M : Type 1} → statement M
 fill-spec =
@@ -97,8 +100,9 @@ fill-spec =
     element-copy-out-t16
     mul-t17
     element-copy-out-t20
-    add-to-theta-requires
+    lay-in-theta-requires
     add-x
     loop-less
     loop-again
+    rebuild-requires
     returns)

@@ -6,9 +6,8 @@ use Prim.Native.Nat.{ℕ, _+_}
 use lib.ListN.{getD}
 use borrow.Author.Needs.{needs}
 use Rattle.trees.specs.declared.theta_lambda_tree.Node.{Node}
-use Rattle.trees.specs.Nodes.{emptyOf, grayOf}
 use Rattle.trees.specs.Puts.{Puttable, Put}
-use Rattle.propagator.proofs.Moving.{may-empty, may-gray, moved}
+use Rattle.propagator.proofs.Moving.{may-gray, moved}
 use Rattle.propagator.proofs.disjunctive_propagator.move_to_lambda.Statement.{statement}
 use Rattle.propagator.proofs.disjunctive_propagator.move_to_lambda.Tie as tie
 
@@ -22,40 +21,34 @@ was c {words} {words′} {n} q = subst (λ (k : ℕ). Put (c .before .args .inne
 leaf-of-requires : tie.Need-leaf-of-requires
 leaf-of-requires c κs = search needs
 
-remove-from-theta-requires : tie.Need-remove-from-theta-requires
-remove-from-theta-requires c κs = may (c .before) (may-empty (c .before .before .pre))
+mul-t10 : tie.Need-mul-t10
+mul-t10 c = search needs
 
-mul-t12 : tie.Need-mul-t12
-mul-t12 c = search needs
+element-copy-out-t13 : tie.Need-element-copy-out-t13
+element-copy-out-t13 c = search needs
 
-element-copy-out-t15 : tie.Need-element-copy-out-t15
-element-copy-out-t15 c = search needs
+mul-t14 : tie.Need-mul-t14
+mul-t14 c = search needs
 
-mul-t16 : tie.Need-mul-t16
-mul-t16 c = search needs
-
-element-copy-out-t19 : tie.Need-element-copy-out-t19
-element-copy-out-t19 c = search needs
+element-copy-out-t17 : tie.Need-element-copy-out-t17
+element-copy-out-t17 c = search needs
 
 add-to-lambda-requires : tie.Need-add-to-lambda-requires
 add-to-lambda-requires c κs =
-    let at = c .before .before .before .before .before in
-    may at (may-gray (at .before .pre) (was at (c .before .before .before .remove-from-theta .ensures)))
+    let at = c .before .before .before in
+    may at (may-gray (at .before .pre))
 
 returns : tie.Need-returns
-returns c = λ m.
-    let at = c .before .before .before .before .before .before in
-    moved m (was at (c .before .before .before .before .remove-from-theta .ensures)) (was at (c .add-to-lambda .ensures))
+returns c = λ m. moved m (was (c .before .before .before .before) (c .add-to-lambda .ensures))
 
 pub move-to-lambda-spec : {M : Type 1} → statement M
 move-to-lambda-spec =
     tie.close
     (tie.spec
     leaf-of-requires
-    remove-from-theta-requires
-    mul-t12
-    element-copy-out-t15
-    mul-t16
-    element-copy-out-t19
+    mul-t10
+    element-copy-out-t13
+    mul-t14
+    element-copy-out-t17
     add-to-lambda-requires
     returns)

@@ -61,24 +61,27 @@ lists-right : (c : tie.Else2) → rightLists (now (c .before .before .before .ar
 lists-right c = sym (c .before .lists-are-accepted .ensures) ∙ not-false (c .before .lists-are-accepted .result) (c .if2 .left)
 
 apply-premises-requires : tie.Need-apply-premises-requires
-apply-premises-requires c κs = right-lists _ _ (lists-right c) .0
+apply-premises-requires c κs = right-lists _ _ (lists-right (c .before)) .0
+
+apply-premises-requires-2 : tie.Need-apply-premises-requires-2
+apply-premises-requires-2 c κs = right-lists _ _ (lists-right (c .before)) .0
 
 -- the consequent's atom, where there is one
-three : (c : tie.Else3) → length (now (c .before .before .before .before .before .args .consequent)) ≡ 3
+three : (c : tie.Else3) → length (now (c .before .before .before .before .args .consequent)) ≡ 3
 three c =
-    let s = c .before .before .before .before .before in
+    let s = c .before .before .before .before in
     let ps : List ℤ = now (s .args .premises) in
     let cs : List ℤ = now (s .args .consequent) in
-    let (a, b, d) = right-lists ps cs (lists-right (c .before .before)) in
+    let (a, b, d) = right-lists ps cs (lists-right (c .before)) in
     let h = words-three cs d (omega arith) in
     omega arith
 
-atom-right : (c : tie.Else3) → RightAtom (getD (now (c .before .before .before .before .before .args .consequent)) 0 (pos 0)) (getD (now (c .before .before .before .before .before .args .consequent)) 1 (pos 0)) (getD (now (c .before .before .before .before .before .args .consequent)) 2 (pos 0))
+atom-right : (c : tie.Else3) → RightAtom (getD (now (c .before .before .before .before .args .consequent)) 0 (pos 0)) (getD (now (c .before .before .before .before .args .consequent)) 1 (pos 0)) (getD (now (c .before .before .before .before .args .consequent)) 2 (pos 0))
 atom-right c =
-    let s = c .before .before .before .before .before in
+    let s = c .before .before .before .before in
     let ps : List ℤ = now (s .args .premises) in
     let cs : List ℤ = now (s .args .consequent) in
-    right-atom _ _ _ (words-at cs 0 (omega (arith, three c)) (right-lists ps cs (lists-right (c .before .before)) .2) .0)
+    right-atom _ _ _ (words-at cs 0 (omega (arith, three c)) (right-lists ps cs (lists-right (c .before)) .2) .0)
 
 returns-3 : tie.Need-returns-3
 unfolding prepared
@@ -86,13 +89,13 @@ returns-3 c =
     let s = c .before .before .before .before .before in
     let ps : List ℤ = now (s .args .premises) in
     let cs : List ℤ = now (s .args .consequent) in
-    prepare-promise ps cs _ (rw (few (c .before .before .before .before), lists-right (c .before .before)) (c .before .apply-premises .ensures ∙ ap (λ (m : List Atom). applyAll m emptyState) (sym (given-none (atomsOf ps) cs (c .if3 .taken)))))
+    prepare-promise ps cs _ (rw (few (c .before .before .before .before), lists-right (c .before .before)) (c .apply-premises .ensures ∙ ap (λ (m : List Atom). applyAll m emptyState) (sym (given-none (atomsOf ps) cs (c .before .if3 .taken)))))
 
 atom-at-requires : tie.Need-atom-at-requires
-atom-at-requires c κs = (omega (arith, three c), right-lists _ _ (lists-right (c .before .before)) .2)
+atom-at-requires c κs = (omega (arith, three (c .before)), right-lists _ _ (lists-right (c .before .before)) .2)
 
 negate-requires : tie.Need-negate-requires
-negate-requires c κs = subst (Within VALUE) (sym (ap (λ (a : Atom). a .value) (c .atom-at .ensures))) (atom-right (c .before) .value)
+negate-requires c κs = subst (Within VALUE) (sym (ap (λ (a : Atom). a .value) (c .atom-at .ensures))) (atom-right (c .before .before) .value)
 
 conclude-requires : tie.Need-conclude-requires
 conclude-requires c κs =
@@ -100,8 +103,8 @@ conclude-requires c κs =
     let ps : List ℤ = now (s .args .premises) in
     let cs : List ℤ = now (s .args .consequent) in
     let atoms = every-map (λ a h. h .0) (atomsOf ps) (words-known ps (right-lists ps cs (lists-right (c .before .before .before .before)) .0)) in
-    let acc = subst (λ (r : Applied). Accepted (r .state)) (sym (c .before .before .before .apply-premises .ensures)) (all-accepted (atomsOf ps) atoms emptyState empty-accepted) in
-    let r = atom-right (c .before .before) in
+    let acc = subst (λ (r : Applied). Accepted (r .state)) (sym (c .before .before .apply-premises2 .ensures)) (all-accepted (atomsOf ps) atoms emptyState empty-accepted) in
+    let r = atom-right (c .before .before .before) in
     let e : atomOf (c .negate .result) ≡ negation (atomAt cs 0) = c .negate .ensures ∙ ap negation (c .before .atom-at .ensures) in
     (acc, (subst (λ (a : Atom). a .variable < VARIABLES) (sym e) (r .known), subst (λ (a : Atom). Within (VALUE + 1) (a .value)) (sym e) (negation-within (atomAt cs 0 .kind) (getD cs 2 (pos 0)) (r .value))))
 
@@ -113,8 +116,8 @@ returns-4 c =
     let cs : List ℤ = now (s .args .consequent) in
     let e : atomOf (c .before .negate .result) ≡ negation (atomAt cs 0) = c .before .negate .ensures ∙ ap negation (c .before .before .atom-at .ensures) in
     prepare-promise ps cs _ (rw (few (c .before .before .before .before .before .before .before), lists-right (c .before .before .before .before .before))
-    (c .conclude .ensures ∙ (λ i. andThen (c .before .before .before .before .apply-premises .ensures i) (e i ∷ [])) ∙ sym (all-append (atomsOf ps) (negation (atomAt cs 0) ∷ []) emptyState)
-    ∙ ap (λ (m : List Atom). applyAll m emptyState) (sym (given-one (atomsOf ps) cs (three (c .before .before .before))))))
+    (c .conclude .ensures ∙ (λ i. andThen (c .before .before .before .apply-premises2 .ensures i) (e i ∷ [])) ∙ sym (all-append (atomsOf ps) (negation (atomAt cs 0) ∷ []) emptyState)
+    ∙ ap (λ (m : List Atom). applyAll m emptyState) (sym (given-one (atomsOf ps) cs (three (c .before .before .before .before))))))
 
 pub prepare-for-conflict-check-spec : {M : Type 1} → statement M
 prepare-for-conflict-check-spec =
@@ -129,6 +132,7 @@ prepare-for-conflict-check-spec =
     returns-2
     apply-premises-requires
     returns-3
+    apply-premises-requires-2
     atom-at-requires
     negate-requires
     conclude-requires

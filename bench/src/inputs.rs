@@ -1,0 +1,215 @@
+//! Random inputs, the same for the same seed.
+use reedgrit::{Atom, Comparison, Outcome, Propagator, Range};
+
+/// A small generator (xorshift64*).
+pub struct Rng(u64);
+
+impl Rng {
+    pub fn new(seed: u64) -> Rng {
+        Rng(seed.wrapping_mul(0x9E37_79B9_7F4A_7C15) | 1)
+    }
+
+    fn next(&mut self) -> u64 {
+        self.0 ^= self.0 >> 12;
+        self.0 ^= self.0 << 25;
+        self.0 ^= self.0 >> 27;
+        self.0.wrapping_mul(0x2545_F491_4F6C_DD1D)
+    }
+
+    /// A number from `low` to `high`.
+    pub fn to(&mut self, low: i64, high: i64) -> i64 {
+        low + (self.next() >> 11).rem_euclid((high - low + 1) as u64) as i64
+    }
+
+    pub fn one_in(&mut self, n: i64) -> bool {
+        self.to(1, n) == 1
+    }
+
+    pub fn pick<T: Copy>(&mut self, from: &[T]) -> T {
+        from[self.to(0, from.len() as i64 - 1) as usize]
+    }
+}
+
+const LIMIT: i64 = 200_000_000;
+
+/// Durations of n tasks: equal ones, short ones, long ones up to the limit of their sum.
+pub fn durations(rng: &mut Rng, n: usize) -> Vec<i32> {
+    let longest = LIMIT / n as i64;
+    let top = rng.pick(&[1, 2, 4, 10, 20, longest]).min(longest);
+    (0..n).map(|_| rng.to(1, top) as i32).collect()
+}
+
+/// Starts of a schedule of the tasks in a random order, with gaps.
+fn schedule(rng: &mut Rng, durations: &[i32], base: i64, gap: i64) -> Vec<i64> {
+    let mut order: Vec<usize> = (0..durations.len()).collect();
+    for k in (1..order.len()).rev() {
+        order.swap(k, rng.to(0, k as i64) as usize);
+    }
+    let mut starts = vec![0; durations.len()];
+    let mut time = base;
+    for k in order {
+        time += rng.to(0, gap);
+        starts[k] = time;
+        time += i64::from(durations[k]);
+    }
+    starts
+}
+
+/// Ranges for the tasks: tight ones, tied ones, ones around a schedule, wide ones, also at both ends of the permitted starts.
+pub fn ranges(rng: &mut Rng, durations: &[i32]) -> Vec<Range> {
+    let n = durations.len() as i64;
+    let total: i64 = durations.iter().map(|d| i64::from(*d)).sum();
+    let unit = (total / (4 * n)).max(1);
+    let base = match rng.to(0, 6) {
+        0 => -LIMIT,
+        1 => LIMIT - total,
+        2 => rng.to(-LIMIT, LIMIT),
+        3 => -total,
+        _ => 0,
+    };
+    let clamp = |z: i64| z.clamp(-LIMIT, LIMIT) as i32;
+    let mode = rng.to(0, 4);
+    let starts = schedule(rng, durations, base, if mode == 4 { unit } else { 0 });
+    let slack = rng.pick(&[0, 1, 2, unit, 3 * unit, total]);
+    durations
+        .iter()
+        .zip(starts)
+        .map(|(duration, start)| {
+            let (earliest, latest) = match mode {
+                0 => {
+                    let e = base + rng.to(0, 4 * unit);
+                    (e, e + rng.to(0, slack))
+                }
+                1 => (base + unit * rng.to(0, 3), base + unit * rng.to(0, 3) + total - i64::from(*duration)),
+                2 => (base + rng.to(0, total), base + rng.to(0, total)),
+                _ => {
+                    let back = if rng.one_in(3) { 0 } else { rng.to(0, slack) };
+                    let on = if rng.one_in(3) { 0 } else { rng.to(0, slack) };
+                    (start - back, start + on)
+                }
+            };
+            Range::new(clamp(earliest.min(latest)), clamp(earliest.max(latest)))
+        })
+        .collect()
+}
+
+/// What the two range sets of a case, which are run in turn, are to be like.
+#[derive(Clone, Copy, Debug, PartialEq, Eq)]
+pub enum Family {
+    /// Any.
+    Mixed,
+    /// Every run ends in Done.
+    Done,
+    /// Both are the same and end in Done: each run finds its orders sorted.
+    Sorted,
+    /// The second is the first with time reversed, and both end in Done: each run finds its orders reversed.
+    Reversed,
+}
+
+impl Family {
+    pub const ALL: [Family; 4] = [Family::Mixed, Family::Done, Family::Sorted, Family::Reversed];
+
+    pub fn name(self) -> &'static str {
+        match self {
+            Family::Mixed => "mixed",
+            Family::Done => "done",
+            Family::Sorted => "sorted",
+            Family::Reversed => "reversed",
+        }
+    }
+}
+
+/// Tasks, and two sets of ranges for them.
+pub struct Case {
+    pub durations: Vec<i32>,
+    pub ranges: [Vec<Range>; 2],
+}
+
+fn is_done(durations: &[i32], ranges: &[Range]) -> bool {
+    let mut propagator = Propagator::new(durations).expect("durations within the limits");
+    let mut words = propagator.words();
+    matches!(propagator.run(&mut ranges.to_vec(), &mut words), Ok(Outcome::Done { .. }))
+}
+
+/// A schedule's tasks with one slack for all: both orders are the schedule's. The second set has time reversed.
+fn there_and_back(rng: &mut Rng, durations: &[i32]) -> [Vec<Range>; 2] {
+    let total: i64 = durations.iter().map(|d| i64::from(*d)).sum();
+    let slack = rng.to(1, (total / 4).max(1));
+    let there: Vec<Range> =
+        schedule(rng, durations, 0, 1).into_iter().map(|start| Range::new((start - slack) as i32, (start + slack) as i32)).collect();
+    let back = there.iter().zip(durations).map(|(r, d)| Range::new(-(r.latest + d), -(r.earliest + d))).collect();
+    [there, back]
+}
+
+pub fn cases(family: Family, n: usize, count: usize, seed: u64) -> Vec<Case> {
+    let mut rng = Rng::new(seed + 1000 * n as u64);
+    let mut made = Vec::new();
+    while made.len() < count {
+        let durations = durations(&mut rng, n);
+        let ranges = match family {
+            Family::Mixed | Family::Done => [ranges(&mut rng, &durations), ranges(&mut rng, &durations)],
+            Family::Sorted => {
+                let same = ranges(&mut rng, &durations);
+                [same.clone(), same]
+            }
+            Family::Reversed => there_and_back(&mut rng, &durations),
+        };
+        if family == Family::Mixed || ranges.iter().all(|ranges| is_done(&durations, ranges)) {
+            made.push(Case { durations, ranges });
+        }
+    }
+    made
+}
+
+/// A check: the reason of a post or of an overload, as it is or with one value changed.
+pub struct Check {
+    pub durations: Vec<i32>,
+    pub premises: Vec<Atom>,
+    pub consequent: Option<Atom>,
+}
+
+/// Checks on n tasks; where `changed`, one value of each is off by one or two.
+pub fn checks(n: usize, count: usize, changed: bool, seed: u64) -> Vec<Check> {
+    let mut rng = Rng::new(seed + 1000 * n as u64);
+    let mut made = Vec::new();
+    while made.len() < count {
+        let durations = durations(&mut rng, n);
+        let mut propagator = Propagator::new(&durations).expect("durations within the limits");
+        let mut words = propagator.words();
+        let outcome = propagator.run(&mut ranges(&mut rng, &durations), &mut words).expect("ranges within the limits");
+        let mut found: Vec<(Vec<Atom>, Option<Atom>)> = Vec::new();
+        if outcome.posts().len() > 0 {
+            let at = rng.to(0, outcome.posts().len() as i64 - 1) as usize;
+            let post = outcome.posts().nth(at).expect("it is there");
+            found.push((post.reason.to_vec(), Some(post.atom())));
+        }
+        if let Outcome::Overload { reason, .. } = outcome {
+            found.push((reason.to_vec(), None));
+        }
+        for (mut premises, consequent) in found {
+            if changed {
+                let at = rng.to(0, premises.len() as i64 - 1) as usize;
+                let old = premises[at];
+                let off = rng.pick(&[-2, -1, 1, 2]);
+                premises[at] = Atom::new(old.variable(), old.comparison(), old.value() + off);
+            }
+            made.push(Check { durations: durations.clone(), premises, consequent });
+        }
+    }
+    made.truncate(count);
+    made
+}
+
+/// An atom on one of a few variables with one of a few values, so that atoms meet.
+pub fn any_atom(rng: &mut Rng, variables: i64, base: i64, width: i64) -> Atom {
+    let comparison = rng.pick(&[
+        Comparison::GreaterEqual,
+        Comparison::GreaterEqual,
+        Comparison::LessEqual,
+        Comparison::LessEqual,
+        Comparison::Equal,
+        Comparison::NotEqual,
+    ]);
+    let value = (base + rng.to(-width, width)).clamp(-900_000_000, 900_000_000) as i32;
+    Atom::new(rng.to(0, variables - 1) as u32, comparison, value)
+}

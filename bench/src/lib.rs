@@ -1,0 +1,3 @@
+//! The published Rust beside ours, on the same inputs.
+pub mod inputs;
+pub mod published;

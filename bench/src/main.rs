@@ -1,0 +1,289 @@
+//! Times our static library and the published Rust on the same inputs, in one process, in turn.
+//!
+//! ```text
+//! bench [FOLDER]                   prints the tables; in FOLDER it leaves them as table.md, and the plot as plot.svg
+//! bench spin WHOSE WHAT N ROUNDS   works through one family without a clock, for an instruction count: WHOSE is ours or published,
+//!                                  WHAT is mixed, done, sorted, reversed, reasons or changed
+//! ```
+use std::fmt::Write as _;
+use std::hint::black_box;
+use std::time::Instant;
+
+use bench::inputs::{Case, Check, Family, cases, checks};
+use bench::published::{Atom, Checker, Domains, Published, atom, domains};
+use reedgrit::{Propagator, Range, Words, check};
+
+const SIZES: [usize; 4] = [8, 16, 32, 48];
+const CASES: usize = 200;
+/// So many are timed together: the clock's own time is lost in theirs, and what they touch stays in the cache.
+const BATCH: usize = 25;
+const ROUNDS: usize = 201;
+const SEED: u64 = 20_261_115;
+
+/// One case, both ways, with all that a run needs.
+struct Runner {
+    ours: Propagator,
+    published: Published,
+    ranges: [Vec<Range>; 2],
+    domains: [Domains; 2],
+    our_ranges: Vec<Range>,
+    their_domains: Domains,
+}
+
+impl Runner {
+    fn new(case: Case) -> Runner {
+        Runner {
+            ours: Propagator::new(&case.durations).expect("durations within the limits"),
+            published: Published::new(&case.durations),
+            domains: [domains(&case.ranges[0]), domains(&case.ranges[1])],
+            our_ranges: case.ranges[0].clone(),
+            their_domains: domains(&case.ranges[0]),
+            ranges: case.ranges,
+        }
+    }
+
+    /// The entry ranges of a round, put in place outside the clock. The published Rust gets an empty post list that keeps its room. Our
+    /// words are not cleared.
+    fn ready(&mut self, round: usize) {
+        self.our_ranges.copy_from_slice(&self.ranges[round % 2]);
+        self.their_domains.ranges.clone_from(&self.domains[round % 2].ranges);
+        self.their_domains.posts.clear();
+    }
+}
+
+/// One check, both ways.
+struct Checking {
+    durations: Vec<i32>,
+    premises: Vec<reedgrit::Atom>,
+    consequent: Option<reedgrit::Atom>,
+    checker: Checker,
+    their_premises: Vec<Atom>,
+    their_consequent: Option<Atom>,
+}
+
+impl Checking {
+    fn new(one: Check) -> Checking {
+        Checking {
+            checker: Checker::new(&one.durations),
+            their_premises: one.premises.iter().map(atom).collect(),
+            their_consequent: one.consequent.as_ref().map(atom),
+            durations: one.durations,
+            premises: one.premises,
+            consequent: one.consequent,
+        }
+    }
+}
+
+fn run_ours(batch: &mut [Runner], words: &mut Words) {
+    for one in batch {
+        let _ = black_box(one.ours.run(&mut one.our_ranges, words).map(|outcome| outcome.posts().len()));
+    }
+}
+
+fn run_published(batch: &mut [Runner]) {
+    for one in batch {
+        let _ = black_box(one.published.run(&mut one.their_domains));
+    }
+}
+
+fn check_ours(batch: &[Checking]) {
+    for one in batch {
+        let _ = black_box(check(black_box(&one.durations), &one.premises, one.consequent));
+    }
+}
+
+fn check_published(batch: &[Checking]) {
+    for one in batch {
+        black_box(one.checker.check(black_box(&one.their_premises), one.their_consequent));
+    }
+}
+
+/// A family at one size: nanoseconds of one call, ours and theirs, and their ratio.
+#[derive(Clone, Copy)]
+struct Figure {
+    ours: f64,
+    published: f64,
+    ratio: f64,
+}
+
+fn median(mut numbers: Vec<f64>) -> f64 {
+    numbers.sort_by(f64::total_cmp);
+    numbers[numbers.len() / 2]
+}
+
+/// Rounds in turn: in each, every batch is timed on both sides, and which side goes first changes. A batch's time is its median over the
+/// rounds, so that what else the machine does in some of them does not count; a call's is the mean over the batches.
+fn figure<T>(
+    items: &mut [T],
+    mut ready: impl FnMut(&mut T, usize),
+    mut ours: impl FnMut(&mut [T]),
+    mut published: impl FnMut(&mut [T]),
+) -> Figure {
+    let count = items.len() as f64;
+    let mut times = vec![[Vec::new(), Vec::new()]; items.len().div_ceil(BATCH)];
+    for round in 0..ROUNDS + 2 {
+        for (number, batch) in items.chunks_mut(BATCH).enumerate() {
+            batch.iter_mut().for_each(|item| ready(item, round));
+            for turn in 0..2 {
+                let side = (turn + number + round) % 2;
+                let began = Instant::now();
+                if side == 0 {
+                    ours(batch)
+                } else {
+                    published(batch)
+                }
+                // the first two rounds bring the carried orders to where they stay
+                if round >= 2 {
+                    times[number][side].push(began.elapsed().as_nanos() as f64);
+                }
+            }
+        }
+    }
+    let call = |side: usize| times.iter().map(|batch| median(batch[side].clone())).sum::<f64>() / count;
+    Figure { ours: call(0), published: call(1), ratio: call(0) / call(1) }
+}
+
+fn runs(family: Family, n: usize) -> Figure {
+    let mut runners: Vec<Runner> = cases(family, n, CASES, SEED).into_iter().map(Runner::new).collect();
+    let mut words = Words::new(n);
+    figure(&mut runners, Runner::ready, |batch| run_ours(batch, &mut words), run_published)
+}
+
+fn check_figures(changed: bool, n: usize) -> Figure {
+    let mut items: Vec<Checking> = checks(n, CASES, changed, SEED).into_iter().map(Checking::new).collect();
+    figure(&mut items, |_, _| (), |batch| check_ours(batch), |batch| check_published(batch))
+}
+
+struct Row {
+    what: &'static str,
+    family: &'static str,
+    figures: [Figure; 4],
+}
+
+/// By which power of n the time grows from the least size to the greatest.
+fn growth(times: [f64; 4]) -> f64 {
+    (times[3] / times[0]).ln() / (SIZES[3] as f64 / SIZES[0] as f64).ln()
+}
+
+fn table(rows: &[Row]) -> String {
+    let mut text = String::from("| call | inputs | | n = 8 | n = 16 | n = 32 | n = 48 | grows as |\n|---|---|---|---|---|---|---|---|\n");
+    for row in rows {
+        let line = |name: &str, label: &str, times: [f64; 4]| {
+            let cells: String = times.iter().map(|time| format!(" {time:.0} ns |")).collect();
+            format!("| {name} | {label} |{cells} n^{:.2} |\n", growth(times))
+        };
+        let first = format!("{} | {}", row.what, row.family);
+        text += &line(&first, "ours", row.figures.map(|figure| figure.ours));
+        text += &line(" | ", "published", row.figures.map(|figure| figure.published));
+        let ratios: String = row.figures.iter().map(|figure| format!(" **{:.2}** |", figure.ratio)).collect();
+        let _ = writeln!(text, "|  |  | ratio |{ratios}  |");
+    }
+    text
+}
+
+/// Lines over n, one panel for runs and one for checks.
+fn plot(rows: &[Row]) -> String {
+    let mut svg = String::from(
+        "<svg xmlns=\"http://www.w3.org/2000/svg\" viewBox=\"0 0 680 300\" font-family=\"sans-serif\" font-size=\"11\">\n\
+         <rect width=\"680\" height=\"300\" fill=\"white\"/>\n",
+    );
+    for (panel, (what, family)) in [("run", "mixed"), ("check", "reasons")].into_iter().enumerate() {
+        let Some(row) = rows.iter().find(|row| row.what == what && row.family == family) else { continue };
+        let left = 50.0 + 330.0 * panel as f64;
+        let top = row.figures.iter().map(|figure| figure.ours.max(figure.published)).fold(0.0, f64::max);
+        let x = |n: usize| left + 270.0 * n as f64 / 48.0;
+        let y = |time: f64| 250.0 - 210.0 * time / top;
+        let _ = writeln!(svg, "<text x=\"{left}\" y=\"24\" font-size=\"13\">a {what} ({family}), microseconds over n</text>");
+        let _ = writeln!(svg, "<path d=\"M{left} 40V250H{}\" fill=\"none\" stroke=\"black\"/>", left + 270.0);
+        for n in SIZES {
+            let _ = writeln!(svg, "<text x=\"{:.0}\" y=\"266\" text-anchor=\"middle\">{n}</text>", x(n));
+        }
+        for part in 1..=4 {
+            let time = top * f64::from(part) / 4.0;
+            let _ =
+                writeln!(svg, "<text x=\"{:.0}\" y=\"{:.0}\" text-anchor=\"end\">{:.1}</text>", left - 5.0, y(time) + 4.0, time / 1000.0);
+        }
+        let sides: [(&str, &str, fn(&Figure) -> f64); 2] =
+            [("ours", "#1b6ca8", |figure| figure.ours), ("published", "#b5541c", |figure| figure.published)];
+        for (name, colour, of) in sides {
+            let points: Vec<String> =
+                SIZES.iter().zip(&row.figures).map(|(n, figure)| format!("{:.1},{:.1}", x(*n), y(of(figure)))).collect();
+            let _ = writeln!(svg, "<polyline points=\"{}\" fill=\"none\" stroke=\"{colour}\" stroke-width=\"2\"/>", points.join(" "));
+            let _ = writeln!(
+                svg,
+                "<text x=\"{:.0}\" y=\"{:.0}\" fill=\"{colour}\" text-anchor=\"end\">{name}</text>",
+                x(46),
+                y(of(&row.figures[3])) - 6.0
+            );
+        }
+    }
+    svg + "</svg>\n"
+}
+
+fn measure(folder: Option<String>) {
+    println!(
+        "{CASES} inputs of each kind in batches of {BATCH}, {ROUNDS} rounds in turn, the medians of the rounds. Ours writes over what the run before"
+    );
+    println!("left in its words; the published Rust's post list is emptied before each run, outside the clock, and keeps its room.");
+    let mut rows = Vec::new();
+    for family in Family::ALL {
+        rows.push(Row { what: "run", family: family.name(), figures: SIZES.map(|n| runs(family, n)) });
+    }
+    for (changed, name) in [(false, "reasons"), (true, "changed")] {
+        rows.push(Row { what: "check", family: name, figures: SIZES.map(|n| check_figures(changed, n)) });
+    }
+    let text = table(&rows);
+    print!("{text}");
+    let mut misses = Vec::new();
+    for row in &rows {
+        let bar = if row.what == "run" { 0.6 } else { 1.0 };
+        for (n, figure) in SIZES.iter().zip(&row.figures) {
+            if figure.ratio > bar {
+                misses.push(format!("{} {} at n = {n}: {:.2} > {bar}", row.what, row.family, figure.ratio));
+            }
+        }
+        let (ours, published) = (growth(row.figures.map(|figure| figure.ours)), growth(row.figures.map(|figure| figure.published)));
+        if ours > published {
+            misses.push(format!("{} {}: ours grows as n^{ours:.2}, the published Rust as n^{published:.2}", row.what, row.family));
+        }
+    }
+    if misses.is_empty() {
+        println!("\nWithin the bar: runs at most 0.6, checks at most 1.0, growth no worse.");
+    } else {
+        println!("\nAbove the bar:\n{}", misses.join("\n"));
+    }
+    if let Some(folder) = folder {
+        std::fs::write(format!("{folder}/table.md"), &text).expect("the folder can be written");
+        std::fs::write(format!("{folder}/plot.svg"), plot(&rows)).expect("the folder can be written");
+        println!("\n{folder}/table.md, {folder}/plot.svg");
+    }
+}
+
+/// One side of one family, over and over, without a clock.
+fn spin(whose: &str, what: &str, n: usize, rounds: usize) {
+    let ours = whose == "ours";
+    if what == "reasons" || what == "changed" {
+        let items: Vec<Checking> = checks(n, CASES, what == "changed", SEED).into_iter().map(Checking::new).collect();
+        (0..rounds).for_each(|_| if ours { check_ours(&items) } else { check_published(&items) });
+        return;
+    }
+    let family = Family::ALL.into_iter().find(|family| family.name() == what).expect("a family's name");
+    let mut runners: Vec<Runner> = cases(family, n, CASES, SEED).into_iter().map(Runner::new).collect();
+    let mut words = Words::new(n);
+    for round in 0..rounds {
+        runners.iter_mut().for_each(|runner| runner.ready(round));
+        if ours { run_ours(&mut runners, &mut words) } else { run_published(&mut runners) }
+    }
+}
+
+fn main() {
+    let arguments: Vec<String> = std::env::args().skip(1).collect();
+    match arguments.iter().map(String::as_str).collect::<Vec<_>>()[..] {
+        [] => measure(None),
+        ["spin", whose, what, n, rounds] => {
+            spin(whose, what, n.parse().expect("a number"), rounds.parse().expect("a number"));
+        }
+        [folder] => measure(Some(folder.to_string())),
+        _ => eprintln!("usage: bench [FOLDER] | bench spin ours|published FAMILY N ROUNDS"),
+    }
+}

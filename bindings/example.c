@@ -1,0 +1,32 @@
+/* Instance A in C: three tasks, of which the third cannot start before the other two are over. */
+#include "reedgrit.h"
+#include <assert.h>
+#include <stdio.h>
+
+int main(void) {
+    const int32_t durations[] = {4, 5, 3};
+    reedgrit_range ranges[] = {{0, 6}, {1, 5}, {0, 20}};
+    int32_t posts[4 * 3], atoms[6 * 3 * 3];
+
+    reedgrit_new made = reedgrit_create(durations, 3);
+    assert(made.number == 0);
+    reedgrit_run_answer ran = reedgrit_run(&made.propagator, ranges, 3, posts, 12, atoms, 54);
+    assert(ran.kind == REEDGRIT_DONE);
+    for (size_t k = 0; k < ran.posts; k++) {
+        reedgrit_post_answer post = reedgrit_post(posts, 12, atoms, 54, ran.posts, k);
+        assert(post.number == 0);
+        printf("post %d %d\n", (int)post.task, (int)post.bound);
+        for (size_t word = post.first; word < post.first + post.count; word += 3)
+            printf("why %d %s %d\n", (int)atoms[word], atoms[word + 1] == REEDGRIT_GREATER_EQUAL ? ">=" : "<=", (int)atoms[word + 2]);
+        const int32_t consequent[] = {post.task, REEDGRIT_GREATER_EQUAL, post.bound};
+        assert(reedgrit_check(durations, 3, atoms + post.first, post.count, consequent, 3).kind == REEDGRIT_PASSED);
+    }
+    printf("done %d %d %d\n", (int)ranges[0].earliest, (int)ranges[1].earliest, (int)ranges[2].earliest);
+
+    const int32_t no_tasks[] = {0};
+    assert(reedgrit_create(no_tasks, 0).number == 1);
+    const int32_t premises[] = {0, REEDGRIT_NOT_EQUAL, 5, 0, REEDGRIT_GREATER_EQUAL, 5};
+    reedgrit_state_answer least = reedgrit_lower_bound(premises, 6, 0);
+    assert(least.kind == REEDGRIT_YES && least.infinity == 0 && least.value == 6);
+    return 0;
+}

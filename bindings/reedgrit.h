@@ -1,0 +1,111 @@
+/* Edge finding on one machine, with a reason for each post, and the check of reasons: the functions of libexports.a, which
+ * `rt staticlib exports` writes for x86-64. Every input is answered, a wrong one by a number above 0 that changes nothing that was lent
+ * (refusals below). A function reads and writes only what it is lent, for as long as the call lasts; it allocates nothing, keeps nothing,
+ * and may be called from several threads on different data.
+ *
+ * No pointer may be NULL, not even of a slice of length 0. What one call is lent must not overlap. */
+#ifndef REEDGRIT_H
+#define REEDGRIT_H
+
+#include <stddef.h>
+#include <stdint.h>
+
+#ifdef __cplusplus
+extern "C" {
+#endif
+
+enum { REEDGRIT_TASKS = 48 };
+
+/* An atom is three words: variable 0 to 63 (below the task count: the start of that task), kind, value. */
+enum { REEDGRIT_GREATER_EQUAL = 0, REEDGRIT_LESS_EQUAL = 1, REEDGRIT_EQUAL = 2, REEDGRIT_NOT_EQUAL = 3 };
+
+/* Refusals:
+ *  1 no tasks, or more than 48            2 a duration below 1
+ *  3 a start beyond +-200000000           4 earliest above latest
+ *  5 durations sum above 200000000        6 words that are no atoms
+ *  7 more than 512 premises               8 a consequent on no task, or on one without finite bounds
+ *  9 post words below 4n, atom words below 6n*n
+ * 10 another number of ranges than n     11 a post that is not there
+ * 20 a record that no call left          21 a seventeenth hole */
+
+/* The task count, the durations, and two orders that each run leaves sorted for the next. Places from the count on are 0. */
+typedef struct {
+    size_t count;
+    uint32_t durations[REEDGRIT_TASKS];
+    size_t first[REEDGRIT_TASKS];
+    size_t second[REEDGRIT_TASKS];
+} reedgrit_propagator;
+
+typedef struct {
+    int32_t earliest;
+    int32_t latest;
+} reedgrit_range;
+
+typedef struct {
+    reedgrit_propagator propagator; /* all zeros where the number is not 0 */
+    uint32_t number;
+} reedgrit_new;
+
+enum { REEDGRIT_DONE = 0, REEDGRIT_OVERLOAD = 1, REEDGRIT_EMPTIED = 2, REEDGRIT_RUN_REFUSED = 3 };
+
+typedef struct {
+    uint32_t kind;
+    uint32_t number; /* of a refusal */
+    size_t posts;
+    size_t first; /* an overload's reason: its first atom, and how many it has */
+    size_t count;
+} reedgrit_run_answer;
+
+typedef struct {
+    uint32_t number; /* 0, or 11: then all else is 0 */
+    int32_t task;
+    int32_t bound;
+    size_t first; /* the reason: its first word, and how many it has */
+    size_t count;
+} reedgrit_post_answer;
+
+enum { REEDGRIT_PASSED = 0, REEDGRIT_NOT_PASSED = 1, REEDGRIT_CONTRADICTION = 2, REEDGRIT_CHECK_REFUSED = 3 };
+
+typedef struct {
+    uint32_t kind;
+    uint32_t number; /* of a refusal */
+    size_t variable; /* of a contradiction */
+} reedgrit_check_answer;
+
+enum { REEDGRIT_YES = 0, REEDGRIT_NO = 1, REEDGRIT_NO_STATE = 2, REEDGRIT_STATE_REFUSED = 3 };
+
+typedef struct {
+    uint32_t kind; /* REEDGRIT_YES also where a bound is answered; REEDGRIT_NO_STATE: the premises contradict each other */
+    uint32_t number; /* of a refusal */
+    size_t variable; /* of a contradiction */
+    int32_t infinity; /* of a bound: -1 and 1 for the infinities, 0 for the value */
+    int32_t value;
+} reedgrit_state_answer;
+
+/* A record of the durations, with both orders 0 to n - 1. Refuses by 1, 2, 5. */
+reedgrit_new reedgrit_create(const int32_t *durations, size_t count);
+
+/* A run: raises earliest starts, writes four words for each post (task, bound, first atom, atom count) and the atoms of their reasons.
+ * Words that it does not write keep what they held. Refuses by 20, 10, 3, 4, 9. */
+reedgrit_run_answer reedgrit_run(reedgrit_propagator *propagator, reedgrit_range *ranges, size_t range_count, int32_t *posts,
+                                 size_t post_words, int32_t *atoms, size_t atom_words);
+
+/* Post `index` of a run that made `post_count`. */
+reedgrit_post_answer reedgrit_post(const int32_t *posts, size_t post_words, const int32_t *atoms, size_t atom_words, size_t post_count,
+                                   size_t index);
+
+/* Checks that the premises imply the consequent, which is one atom or none. Refuses by 1, 2, 5, 7, 6, 21, 8. */
+reedgrit_check_answer reedgrit_check(const int32_t *durations, size_t count, const int32_t *premises, size_t premise_words,
+                                     const int32_t *consequent, size_t consequent_words);
+
+/* Questions to the state that the premises leave, from all integers for each variable: whether every value meets an atom, and the least
+ * and the greatest value. Refuse by 7, 6, 21. */
+reedgrit_state_answer reedgrit_is_true(const int32_t *premises, size_t premise_words, int32_t variable, int32_t kind, int32_t value);
+reedgrit_state_answer reedgrit_lower_bound(const int32_t *premises, size_t premise_words, int32_t variable);
+reedgrit_state_answer reedgrit_upper_bound(const int32_t *premises, size_t premise_words, int32_t variable);
+
+#ifdef __cplusplus
+}
+#endif
+
+#endif

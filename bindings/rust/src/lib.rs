@@ -1,0 +1,590 @@
+//! Edge finding on one machine, with a reason for each post, and the check of reasons.
+//!
+//! The work is done by a static library whose functions are proved to meet their contracts for all inputs (the repository's
+//! `docs/TRUST.md`). This crate gives them Rust's types. It has no dependency, and nothing in it is unsafe for its user: every input is
+//! answered, a wrong one by [`Refused`].
+//!
+//! ```
+//! use reedgrit::{Comparison, Outcome, Propagator, Range, Verdict, check};
+//!
+//! // Three tasks, by their durations. The third cannot start before the other two are over.
+//! let durations = [4, 5, 3];
+//! let mut propagator = Propagator::new(&durations)?;
+//! let mut ranges = [Range::new(0, 6), Range::new(1, 5), Range::new(0, 20)];
+//!
+//! // The words are lent to each run, which writes its posts and their reasons there.
+//! let mut words = propagator.words();
+//! let outcome = propagator.run(&mut ranges, &mut words)?;
+//! assert!(matches!(outcome, Outcome::Done { .. }));
+//!
+//! for post in outcome.posts() {
+//!     assert_eq!((post.task, post.bound), (2, 9));
+//!     let why: Vec<String> = post.reason.iter().map(|atom| atom.to_string()).collect();
+//!     assert_eq!(why, ["0 >= 0", "0 <= 7", "1 >= 0", "1 <= 6", "2 >= 0"]);
+//!     // A post's reason passes the check.
+//!     assert_eq!(check(&durations, post.reason, Some(post.atom()))?, Verdict::Passed);
+//! }
+//! assert_eq!(ranges[2].earliest, 9);
+//! # Ok::<(), reedgrit::Refused>(())
+//! ```
+#![deny(unsafe_code)]
+#![warn(missing_docs)]
+
+mod raw;
+
+use std::fmt;
+use std::iter::FusedIterator;
+
+/// A record has this many tasks at most.
+pub const TASKS: usize = raw::TASKS;
+
+/// A task may start from `earliest` to `latest`, both included.
+#[repr(C)]
+#[derive(Clone, Copy, Debug, PartialEq, Eq, Hash)]
+pub struct Range {
+    /// The earliest start.
+    pub earliest: i32,
+    /// The latest start.
+    pub latest: i32,
+}
+
+impl Range {
+    /// The range from `earliest` to `latest`.
+    pub const fn new(earliest: i32, latest: i32) -> Range {
+        Range { earliest, latest }
+    }
+}
+
+impl fmt::Display for Range {
+    fn fmt(&self, f: &mut fmt::Formatter<'_>) -> fmt::Result {
+        write!(f, "{}..{}", self.earliest, self.latest)
+    }
+}
+
+/// How an atom compares its variable with its value.
+#[derive(Clone, Copy, Debug, PartialEq, Eq, Hash)]
+pub enum Comparison {
+    /// The variable is the value or above it.
+    GreaterEqual,
+    /// The variable is the value or below it.
+    LessEqual,
+    /// The variable is the value.
+    Equal,
+    /// The variable is another value.
+    NotEqual,
+}
+
+impl Comparison {
+    const fn kind(self) -> i32 {
+        match self {
+            Comparison::GreaterEqual => 0,
+            Comparison::LessEqual => 1,
+            Comparison::Equal => 2,
+            Comparison::NotEqual => 3,
+        }
+    }
+}
+
+impl fmt::Display for Comparison {
+    fn fmt(&self, f: &mut fmt::Formatter<'_>) -> fmt::Result {
+        f.write_str(match self {
+            Comparison::GreaterEqual => ">=",
+            Comparison::LessEqual => "<=",
+            Comparison::Equal => "=",
+            Comparison::NotEqual => "!=",
+        })
+    }
+}
+
+/// An atom: a variable compared with a value. Variable k below the task count is the start of task k. It is shown as `2 >= 9`.
+#[repr(C)]
+#[derive(Clone, Copy, PartialEq, Eq, Hash)]
+pub struct Atom {
+    variable: i32,
+    kind: i32,
+    value: i32,
+}
+
+impl Atom {
+    /// The atom of a variable, a comparison and a value. A variable above 63 or a value beyond ±900,000,000 is refused where the atom is
+    /// used ([`Refused::Atoms`]).
+    pub const fn new(variable: u32, comparison: Comparison, value: i32) -> Atom {
+        Atom { variable: variable as i32, kind: comparison.kind(), value }
+    }
+
+    /// The variable's number.
+    pub const fn variable(&self) -> u32 {
+        self.variable as u32
+    }
+
+    /// The comparison.
+    pub const fn comparison(&self) -> Comparison {
+        match self.kind {
+            0 => Comparison::GreaterEqual,
+            1 => Comparison::LessEqual,
+            2 => Comparison::Equal,
+            // `new` makes no other kind, and a run writes 0 and 1 only.
+            _ => Comparison::NotEqual,
+        }
+    }
+
+    /// The value that the variable is compared with.
+    pub const fn value(&self) -> i32 {
+        self.value
+    }
+}
+
+impl fmt::Display for Atom {
+    fn fmt(&self, f: &mut fmt::Formatter<'_>) -> fmt::Result {
+        write!(f, "{} {} {}", self.variable(), self.comparison(), self.value)
+    }
+}
+
+impl fmt::Debug for Atom {
+    fn fmt(&self, f: &mut fmt::Formatter<'_>) -> fmt::Result {
+        write!(f, "Atom({self})")
+    }
+}
+
+/// Why an input was turned back. A refusal changes nothing that was lent.
+#[derive(Clone, Copy, Debug, PartialEq, Eq, Hash)]
+pub enum Refused {
+    /// 1: no tasks, or more than 48.
+    TaskCount,
+    /// 2: a duration below 1.
+    Duration,
+    /// 3: a start outside −200,000,000 to 200,000,000.
+    Start,
+    /// 4: an earliest start above its latest.
+    Crossed,
+    /// 5: durations that sum to more than 200,000,000.
+    DurationSum,
+    /// 6: an unknown variable, or a value beyond ±900,000,000.
+    Atoms,
+    /// 7: more than 512 premises.
+    Premises,
+    /// 8: a consequent whose variable is no task's, or lacks a finite bound.
+    Consequent,
+    /// 9: too few words for posts (4n) or atoms (6n²).
+    Room,
+    /// 10: another number of ranges than of tasks.
+    RangeCount,
+    /// 11: a post that is not there.
+    Post,
+    /// 20: a record that creation and runs do not leave.
+    Record,
+    /// 21: an atom that needs a seventeenth hole.
+    Holes,
+    /// 22: a variable state that no call leaves.
+    State,
+}
+
+impl Refused {
+    /// The refusal's number.
+    pub const fn number(self) -> u32 {
+        match self {
+            Refused::TaskCount => 1,
+            Refused::Duration => 2,
+            Refused::Start => 3,
+            Refused::Crossed => 4,
+            Refused::DurationSum => 5,
+            Refused::Atoms => 6,
+            Refused::Premises => 7,
+            Refused::Consequent => 8,
+            Refused::Room => 9,
+            Refused::RangeCount => 10,
+            Refused::Post => 11,
+            Refused::Record => 20,
+            Refused::Holes => 21,
+            Refused::State => 22,
+        }
+    }
+
+    fn of(number: u32) -> Refused {
+        match number {
+            1 => Refused::TaskCount,
+            2 => Refused::Duration,
+            3 => Refused::Start,
+            4 => Refused::Crossed,
+            5 => Refused::DurationSum,
+            6 => Refused::Atoms,
+            7 => Refused::Premises,
+            8 => Refused::Consequent,
+            9 => Refused::Room,
+            10 => Refused::RangeCount,
+            11 => Refused::Post,
+            20 => Refused::Record,
+            21 => Refused::Holes,
+            22 => Refused::State,
+            _ => unreachable!("the library has no refusal {number}"),
+        }
+    }
+}
+
+impl fmt::Display for Refused {
+    fn fmt(&self, f: &mut fmt::Formatter<'_>) -> fmt::Result {
+        let text = match self {
+            Refused::TaskCount => "no tasks, or more than 48",
+            Refused::Duration => "a duration below 1",
+            Refused::Start => "a start outside -200000000 to 200000000",
+            Refused::Crossed => "an earliest start above its latest",
+            Refused::DurationSum => "durations that sum to more than 200000000",
+            Refused::Atoms => "an unknown variable, or a value beyond 900000000",
+            Refused::Premises => "more than 512 premises",
+            Refused::Consequent => "a consequent whose variable is no task's, or lacks a finite bound",
+            Refused::Room => "too few words for posts or atoms",
+            Refused::RangeCount => "another number of ranges than of tasks",
+            Refused::Post => "a post that is not there",
+            Refused::Record => "a record that creation and runs do not leave",
+            Refused::Holes => "an atom that needs a seventeenth hole",
+            Refused::State => "a variable state that no call leaves",
+        };
+        write!(f, "refused {}: {text}", self.number())
+    }
+}
+
+impl std::error::Error for Refused {}
+
+/// The words that runs write their posts and reasons into. One `Words` serves any number of runs, one after the other.
+#[derive(Clone, Debug)]
+pub struct Words {
+    posts: Vec<i32>,
+    atoms: Vec<i32>,
+}
+
+impl Words {
+    /// Room for the runs of `tasks` tasks: 4n words for posts and 6n² for atoms.
+    pub fn new(tasks: usize) -> Words {
+        let tasks = tasks.min(TASKS);
+        Words { posts: vec![0; 4 * tasks], atoms: vec![0; 6 * tasks * tasks] }
+    }
+}
+
+/// A propagator: the durations of its tasks, and two orders of them that each run leaves sorted for the next.
+///
+/// It is plain data of less than a kilobyte. A copy of it, taken before a run, takes the run back.
+#[derive(Clone, Copy, PartialEq, Eq)]
+pub struct Propagator {
+    record: raw::Record,
+}
+
+impl Propagator {
+    /// A propagator for tasks with these durations; task k has `durations[k]`.
+    ///
+    /// ```
+    /// use reedgrit::{Propagator, Refused};
+    /// assert_eq!(Propagator::new(&[4, 5, 3]).unwrap().len(), 3);
+    /// assert_eq!(Propagator::new(&[4, 0]), Err(Refused::Duration));
+    /// ```
+    ///
+    /// # Errors
+    /// [`Refused::TaskCount`], [`Refused::Duration`], [`Refused::DurationSum`].
+    pub fn new(durations: &[i32]) -> Result<Propagator, Refused> {
+        let made = raw::create(durations);
+        if made.number != 0 {
+            return Err(Refused::of(made.number));
+        }
+        Ok(Propagator { record: made.record })
+    }
+
+    /// The number of tasks.
+    #[allow(clippy::len_without_is_empty)] // it has one task at least
+    pub fn len(&self) -> usize {
+        self.record.count
+    }
+
+    /// The tasks' durations.
+    pub fn durations(&self) -> &[i32] {
+        raw::signed(&self.record.durations[..self.len()])
+    }
+
+    /// The tasks by earliest start, as the last run left them.
+    pub fn by_earliest_start(&self) -> &[usize] {
+        &self.record.first[..self.len()]
+    }
+
+    /// The tasks by latest completion, greatest first, as the last run left them.
+    pub fn by_latest_completion(&self) -> &[usize] {
+        &self.record.second[..self.len()]
+    }
+
+    /// Words with room for this propagator's runs.
+    pub fn words(&self) -> Words {
+        Words::new(self.len())
+    }
+
+    /// Runs edge finding on the ranges, one for each task. Each post raises the earliest start of its range, but for the last one of
+    /// [`Outcome::Emptied`]. No latest start changes. A refused run changes nothing.
+    ///
+    /// # Errors
+    /// [`Refused::RangeCount`], [`Refused::Start`], [`Refused::Crossed`], and [`Refused::Room`] for the words of fewer tasks.
+    pub fn run<'w>(&mut self, ranges: &mut [Range], words: &'w mut Words) -> Result<Outcome<'w>, Refused> {
+        self.run_on(ranges, &mut words.posts, &mut words.atoms)
+    }
+
+    /// The same run on words of the caller's: `posts` needs 4n, `atoms` 6n². What the run does not write stays as it was.
+    ///
+    /// ```
+    /// use reedgrit::{Outcome, Propagator, Range};
+    /// let mut propagator = Propagator::new(&[4, 4])?;
+    /// let (mut posts, mut atoms) = ([0; 8], [0; 24]);
+    /// let mut ranges = [Range::new(0, 2), Range::new(1, 2)];
+    /// let Outcome::Overload { posts, reason } = propagator.run_on(&mut ranges, &mut posts, &mut atoms)? else { panic!() };
+    /// assert_eq!(posts.len(), 0);
+    /// assert_eq!(reason.len(), 4);
+    /// # Ok::<(), reedgrit::Refused>(())
+    /// ```
+    ///
+    /// # Errors
+    /// As [`Propagator::run`]'s.
+    pub fn run_on<'w>(&mut self, ranges: &mut [Range], posts: &'w mut [i32], atoms: &'w mut [i32]) -> Result<Outcome<'w>, Refused> {
+        let answer = raw::run(&mut self.record, ranges, posts, atoms);
+        let made = Posts { posts, atoms, count: answer.posts, next: 0 };
+        match answer.kind {
+            0 => Ok(Outcome::Done { posts: made }),
+            1 => {
+                let words = &made.atoms[3 * answer.first..3 * (answer.first + answer.count)];
+                Ok(Outcome::Overload { posts: made, reason: raw::atoms(words) })
+            }
+            2 => Ok(Outcome::Emptied { posts: made }),
+            _ => Err(Refused::of(answer.number)),
+        }
+    }
+}
+
+impl fmt::Debug for Propagator {
+    fn fmt(&self, f: &mut fmt::Formatter<'_>) -> fmt::Result {
+        f.debug_struct("Propagator")
+            .field("durations", &self.durations())
+            .field("by_earliest_start", &self.by_earliest_start())
+            .field("by_latest_completion", &self.by_latest_completion())
+            .finish()
+    }
+}
+
+/// How a run ended, with its posts. There is no schedule in the ranges where it is `Overload` or `Emptied`.
+#[derive(Clone, Debug)]
+pub enum Outcome<'w> {
+    /// Every task was considered.
+    Done {
+        /// The run's posts.
+        posts: Posts<'w>,
+    },
+    /// A set of tasks overloads its span.
+    Overload {
+        /// The posts made before.
+        posts: Posts<'w>,
+        /// The atoms that no schedule meets.
+        reason: &'w [Atom],
+    },
+    /// The last post is above its task's latest start. It is in the list and not in the range.
+    Emptied {
+        /// The run's posts.
+        posts: Posts<'w>,
+    },
+}
+
+impl<'w> Outcome<'w> {
+    /// The run's posts, from the first on.
+    pub fn posts(&self) -> Posts<'w> {
+        match self {
+            Outcome::Done { posts } | Outcome::Overload { posts, .. } | Outcome::Emptied { posts } => posts.clone(),
+        }
+    }
+}
+
+impl fmt::Display for Outcome<'_> {
+    fn fmt(&self, f: &mut fmt::Formatter<'_>) -> fmt::Result {
+        f.write_str(match self {
+            Outcome::Done { .. } => "done",
+            Outcome::Overload { .. } => "overload",
+            Outcome::Emptied { .. } => "emptied",
+        })
+    }
+}
+
+/// A post: the task starts at the bound or later, by the reason.
+#[derive(Clone, Copy, Debug, PartialEq, Eq)]
+pub struct Post<'w> {
+    /// The task's number.
+    pub task: usize,
+    /// Its start's new lower bound.
+    pub bound: i32,
+    /// The atoms that the post follows from.
+    pub reason: &'w [Atom],
+}
+
+impl Post<'_> {
+    /// The post as an atom, which is what a check takes as consequent.
+    pub fn atom(&self) -> Atom {
+        Atom::new(self.task as u32, Comparison::GreaterEqual, self.bound)
+    }
+}
+
+impl fmt::Display for Post<'_> {
+    fn fmt(&self, f: &mut fmt::Formatter<'_>) -> fmt::Result {
+        write!(f, "{}", self.atom())
+    }
+}
+
+/// The posts of a run, in the order in which they were made.
+#[derive(Clone)]
+pub struct Posts<'w> {
+    posts: &'w [i32],
+    atoms: &'w [i32],
+    count: usize,
+    next: usize,
+}
+
+impl<'w> Iterator for Posts<'w> {
+    type Item = Post<'w>;
+
+    fn next(&mut self) -> Option<Post<'w>> {
+        let read = raw::post(self.posts, self.atoms, self.count, self.next);
+        if read.number != 0 {
+            return None;
+        }
+        self.next += 1;
+        Some(Post { task: read.task as usize, bound: read.bound, reason: raw::atoms(&self.atoms[read.first..read.first + read.count]) })
+    }
+
+    fn size_hint(&self) -> (usize, Option<usize>) {
+        let left = self.count - self.next;
+        (left, Some(left))
+    }
+}
+
+impl ExactSizeIterator for Posts<'_> {}
+impl FusedIterator for Posts<'_> {}
+
+impl fmt::Debug for Posts<'_> {
+    fn fmt(&self, f: &mut fmt::Formatter<'_>) -> fmt::Result {
+        f.debug_list().entries(self.clone()).finish()
+    }
+}
+
+/// What a check answers.
+#[derive(Clone, Copy, Debug, PartialEq, Eq, Hash)]
+pub enum Verdict {
+    /// No starts without overlap meet the premises and not the consequent.
+    Passed,
+    /// The checker's formula does not show that.
+    NotPassed,
+    /// The premises and the negated consequent leave this variable no value; the first atom to do so decides.
+    Contradiction(u32),
+}
+
+impl fmt::Display for Verdict {
+    fn fmt(&self, f: &mut fmt::Formatter<'_>) -> fmt::Result {
+        match self {
+            Verdict::Passed => f.write_str("passed"),
+            Verdict::NotPassed => f.write_str("not passed"),
+            Verdict::Contradiction(variable) => write!(f, "contradiction {variable}"),
+        }
+    }
+}
+
+/// Checks that the premises imply the consequent for tasks with these durations; without a consequent, that no schedule meets the premises.
+///
+/// # Errors
+/// [`Refused::TaskCount`], [`Refused::Duration`], [`Refused::DurationSum`], [`Refused::Premises`], [`Refused::Atoms`],
+/// [`Refused::Holes`], [`Refused::Consequent`].
+pub fn check(durations: &[i32], premises: &[Atom], consequent: Option<Atom>) -> Result<Verdict, Refused> {
+    let answer = raw::check(durations, raw::words(premises), raw::words(consequent.as_slice()));
+    match answer.kind {
+        0 => Ok(Verdict::Passed),
+        1 => Ok(Verdict::NotPassed),
+        2 => Ok(Verdict::Contradiction(answer.variable as u32)),
+        _ => Err(Refused::of(answer.number)),
+    }
+}
+
+/// Questions to the state that atoms leave, from all integers for each variable.
+///
+/// ```
+/// use reedgrit::{Atom, Comparison, state};
+/// // Once 5 is excluded, at least 5 is at least 6.
+/// let premises = [Atom::new(0, Comparison::NotEqual, 5), Atom::new(0, Comparison::GreaterEqual, 5)];
+/// assert_eq!(state::lower_bound(&premises, 0), Ok(state::Bound::At(6)));
+/// assert_eq!(state::upper_bound(&premises, 0), Ok(state::Bound::PositiveInfinity));
+/// ```
+pub mod state {
+    use super::{Atom, Refused, raw};
+    use std::fmt;
+
+    /// The least or the greatest value of a variable.
+    #[derive(Clone, Copy, Debug, PartialEq, Eq, PartialOrd, Ord, Hash)]
+    pub enum Bound {
+        /// There is a value below each.
+        NegativeInfinity,
+        /// The value.
+        At(i32),
+        /// There is a value above each.
+        PositiveInfinity,
+    }
+
+    /// Why the atoms leave no state.
+    #[derive(Clone, Copy, Debug, PartialEq, Eq, Hash)]
+    pub enum NoState {
+        /// This variable is left no value.
+        Contradiction(u32),
+        /// The atoms, or the question, were turned back.
+        Refused(Refused),
+    }
+
+    impl fmt::Display for NoState {
+        fn fmt(&self, f: &mut fmt::Formatter<'_>) -> fmt::Result {
+            match self {
+                NoState::Contradiction(variable) => write!(f, "contradiction {variable}"),
+                NoState::Refused(refused) => refused.fmt(f),
+            }
+        }
+    }
+
+    impl std::error::Error for NoState {}
+
+    /// The least value that the premises leave to the variable.
+    ///
+    /// # Errors
+    /// A contradiction among the premises, or [`Refused::Premises`], [`Refused::Atoms`], [`Refused::Holes`].
+    pub fn lower_bound(premises: &[Atom], variable: u32) -> Result<Bound, NoState> {
+        bound(raw::lower_bound(raw::words(premises), variable as i32))
+    }
+
+    /// The greatest value that the premises leave to the variable.
+    ///
+    /// # Errors
+    /// As [`lower_bound`]'s.
+    pub fn upper_bound(premises: &[Atom], variable: u32) -> Result<Bound, NoState> {
+        bound(raw::upper_bound(raw::words(premises), variable as i32))
+    }
+
+    /// Whether every value that the premises leave meets the atom.
+    ///
+    /// # Errors
+    /// As [`lower_bound`]'s.
+    pub fn is_true(premises: &[Atom], atom: Atom) -> Result<bool, NoState> {
+        let answer = raw::is_true(raw::words(premises), atom.variable, atom.kind, atom.value);
+        match answer.kind {
+            0 => Ok(true),
+            1 => Ok(false),
+            _ => Err(no_state(answer)),
+        }
+    }
+
+    fn bound(answer: raw::StateAnswer) -> Result<Bound, NoState> {
+        match (answer.kind, answer.infinity) {
+            (0, 0) => Ok(Bound::At(answer.value)),
+            (0, 1) => Ok(Bound::PositiveInfinity),
+            (0, _) => Ok(Bound::NegativeInfinity),
+            _ => Err(no_state(answer)),
+        }
+    }
+
+    fn no_state(answer: raw::StateAnswer) -> NoState {
+        if answer.kind == 2 {
+            return NoState::Contradiction(answer.variable as u32);
+        }
+        NoState::Refused(Refused::of(answer.number))
+    }
+}

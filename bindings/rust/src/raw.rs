@@ -1,0 +1,220 @@
+//! The functions of the static library, as `bindings/reedgrit.h` declares them, and a safe function for each. This is the crate's only
+//! module with `unsafe` in it. What makes each call sound: the library's functions have no precondition on values (their contracts have
+//! no `requires`); they read and write the lent places only, for as long as the call lasts; and a Rust slice is a valid pointer and length.
+#![allow(unsafe_code)]
+
+use crate::{Atom, Range};
+
+pub(crate) const TASKS: usize = 48;
+
+/// The record of a propagator: the task count, the durations and the two carried orders. Places from the count on are 0.
+#[repr(C)]
+#[derive(Clone, Copy, Debug, PartialEq, Eq)]
+pub(crate) struct Record {
+    pub count: usize,
+    pub durations: [u32; TASKS],
+    pub first: [usize; TASKS],
+    pub second: [usize; TASKS],
+}
+
+#[repr(C)]
+#[derive(Clone, Copy, Debug)]
+pub(crate) struct NewRecord {
+    pub record: Record,
+    pub number: u32,
+}
+
+#[repr(C)]
+#[derive(Clone, Copy, Debug, PartialEq, Eq)]
+pub(crate) struct RunAnswer {
+    pub kind: u32,
+    pub number: u32,
+    pub posts: usize,
+    pub first: usize,
+    pub count: usize,
+}
+
+#[repr(C)]
+#[derive(Clone, Copy, Debug, PartialEq, Eq)]
+pub(crate) struct PostAnswer {
+    pub number: u32,
+    pub task: i32,
+    pub bound: i32,
+    pub first: usize,
+    pub count: usize,
+}
+
+#[repr(C)]
+#[derive(Clone, Copy, Debug, PartialEq, Eq)]
+pub(crate) struct CheckAnswer {
+    pub kind: u32,
+    pub number: u32,
+    pub variable: usize,
+}
+
+#[repr(C)]
+#[derive(Clone, Copy, Debug, PartialEq, Eq)]
+pub(crate) struct StateAnswer {
+    pub kind: u32,
+    pub number: u32,
+    pub variable: usize,
+    pub infinity: i32,
+    pub value: i32,
+}
+
+#[rustfmt::skip]
+unsafe extern "C" {
+    fn reedgrit_create(durations: *const i32, count: usize) -> NewRecord;
+    fn reedgrit_run(
+        record: *mut Record,
+        ranges: *mut Range, range_count: usize,
+        posts: *mut i32, post_words: usize,
+        atoms: *mut i32, atom_words: usize,
+    ) -> RunAnswer;
+    fn reedgrit_post(
+        posts: *const i32, post_words: usize,
+        atoms: *const i32, atom_words: usize,
+        post_count: usize, index: usize,
+    ) -> PostAnswer;
+    fn reedgrit_check(
+        durations: *const i32, count: usize,
+        premises: *const i32, premise_words: usize,
+        consequent: *const i32, consequent_words: usize,
+    ) -> CheckAnswer;
+    fn reedgrit_is_true(premises: *const i32, premise_words: usize, variable: i32, kind: i32, value: i32) -> StateAnswer;
+    fn reedgrit_lower_bound(premises: *const i32, premise_words: usize, variable: i32) -> StateAnswer;
+    fn reedgrit_upper_bound(premises: *const i32, premise_words: usize, variable: i32) -> StateAnswer;
+}
+
+pub(crate) fn create(durations: &[i32]) -> NewRecord {
+    // SAFETY: as the module says.
+    unsafe { reedgrit_create(durations.as_ptr(), durations.len()) }
+}
+
+pub(crate) fn run(record: &mut Record, ranges: &mut [Range], posts: &mut [i32], atoms: &mut [i32]) -> RunAnswer {
+    // SAFETY: as the module says; four `&mut` never overlap.
+    unsafe { reedgrit_run(record, ranges.as_mut_ptr(), ranges.len(), posts.as_mut_ptr(), posts.len(), atoms.as_mut_ptr(), atoms.len()) }
+}
+
+pub(crate) fn post(posts: &[i32], atoms: &[i32], count: usize, index: usize) -> PostAnswer {
+    // SAFETY: as the module says.
+    unsafe { reedgrit_post(posts.as_ptr(), posts.len(), atoms.as_ptr(), atoms.len(), count, index) }
+}
+
+pub(crate) fn check(durations: &[i32], premises: &[i32], consequent: &[i32]) -> CheckAnswer {
+    // SAFETY: as the module says.
+    unsafe { reedgrit_check(durations.as_ptr(), durations.len(), premises.as_ptr(), premises.len(), consequent.as_ptr(), consequent.len()) }
+}
+
+pub(crate) fn is_true(premises: &[i32], variable: i32, kind: i32, value: i32) -> StateAnswer {
+    // SAFETY: as the module says.
+    unsafe { reedgrit_is_true(premises.as_ptr(), premises.len(), variable, kind, value) }
+}
+
+pub(crate) fn lower_bound(premises: &[i32], variable: i32) -> StateAnswer {
+    // SAFETY: as the module says.
+    unsafe { reedgrit_lower_bound(premises.as_ptr(), premises.len(), variable) }
+}
+
+pub(crate) fn upper_bound(premises: &[i32], variable: i32) -> StateAnswer {
+    // SAFETY: as the module says.
+    unsafe { reedgrit_upper_bound(premises.as_ptr(), premises.len(), variable) }
+}
+
+/// The words of atoms, three to an atom.
+pub(crate) fn words(atoms: &[Atom]) -> &[i32] {
+    // SAFETY: an `Atom` is `repr(C)`, three `i32` without padding.
+    unsafe { std::slice::from_raw_parts(atoms.as_ptr().cast(), 3 * atoms.len()) }
+}
+
+/// The atoms of words; the last one or two are left out where their number is no multiple of three.
+pub(crate) fn atoms(words: &[i32]) -> &[Atom] {
+    // SAFETY: as above, and every `i32` is one that an atom may hold.
+    unsafe { std::slice::from_raw_parts(words.as_ptr().cast(), words.len() / 3) }
+}
+
+/// The durations as a caller gives them. They are 200,000,000 at most.
+pub(crate) fn signed(durations: &[u32]) -> &[i32] {
+    // SAFETY: both types have the same size and alignment, and every bit pattern is a value of either.
+    unsafe { std::slice::from_raw_parts(durations.as_ptr().cast(), durations.len()) }
+}
+
+#[cfg(test)]
+mod tests {
+    use super::*;
+
+    // The layouts that the archive is compiled for.
+    #[test]
+    fn sizes() {
+        assert_eq!(size_of::<Record>(), 8 + 48 * 20);
+        assert_eq!(size_of::<NewRecord>(), size_of::<Record>() + 8);
+        assert_eq!(size_of::<RunAnswer>(), 32);
+        assert_eq!(size_of::<PostAnswer>(), 32);
+        assert_eq!(size_of::<CheckAnswer>(), 16);
+        assert_eq!(size_of::<StateAnswer>(), 24);
+        assert_eq!(size_of::<Range>(), 8);
+        assert_eq!(size_of::<Atom>(), 12);
+        assert_eq!(align_of::<Atom>(), align_of::<i32>());
+    }
+
+    // A record that creation cannot make is turned back by 20, and it, the ranges and the words stay as they were.
+    #[test]
+    fn broken_records() {
+        let whole = create(&[4, 5, 3]).record;
+        let mut broken = Vec::new();
+        for change in [
+            |r: &mut Record| r.count = 0,
+            |r: &mut Record| r.count = 49,
+            |r: &mut Record| r.count = usize::MAX,
+            |r: &mut Record| r.durations[1] = 0,
+            |r: &mut Record| r.durations[0] = 200_000_000,
+            |r: &mut Record| r.durations[0] = u32::MAX,
+            |r: &mut Record| r.first[0] = 1,
+            |r: &mut Record| r.first[2] = 3,
+            |r: &mut Record| r.second[1] = usize::MAX,
+            |r: &mut Record| r.durations[3] = 1,
+            |r: &mut Record| r.first[47] = 1,
+            |r: &mut Record| r.second[47] = 1,
+        ] {
+            let mut record = whole;
+            change(&mut record);
+            broken.push(record);
+        }
+        for record in broken {
+            let mut after = record;
+            let mut ranges = [Range::new(0, 6), Range::new(1, 5), Range::new(0, 20)];
+            let (mut posts, mut atoms) = ([7; 12], [8; 54]);
+            let answer = run(&mut after, &mut ranges, &mut posts, &mut atoms);
+            assert_eq!(answer, RunAnswer { kind: 3, number: 20, posts: 0, first: 0, count: 0 });
+            assert_eq!(after, record);
+            assert_eq!(ranges, [Range::new(0, 6), Range::new(1, 5), Range::new(0, 20)]);
+            assert!(posts.iter().all(|word| *word == 7) && atoms.iter().all(|word| *word == 8));
+        }
+    }
+
+    // A refused creation gives the record of zeros.
+    #[test]
+    fn record_of_zeros() {
+        let zeros = Record { count: 0, durations: [0; TASKS], first: [0; TASKS], second: [0; TASKS] };
+        for (durations, number) in [(&[][..], 1), (&[1; 49], 1), (&[1, 0], 2), (&[-1], 2), (&[200_000_000, 1], 5)] {
+            let made = create(durations);
+            assert_eq!((made.record, made.number), (zeros, number));
+        }
+    }
+
+    // Words that no run wrote: the reader refuses what does not stand inside the slices, and says nothing else of it.
+    #[test]
+    fn posts_of_other_words() {
+        let none = PostAnswer { number: 11, task: 0, bound: 0, first: 0, count: 0 };
+        let atoms = [0; 9];
+        assert_eq!(post(&[2, 9, 1, 2], &atoms, 1, 0), PostAnswer { number: 0, task: 2, bound: 9, first: 3, count: 6 });
+        assert_eq!(post(&[2, 9, 1, 3], &atoms, 1, 0), none);
+        assert_eq!(post(&[2, 9, -1, 1], &atoms, 1, 0), none);
+        assert_eq!(post(&[2, 9, 1, -1], &atoms, 1, 0), none);
+        assert_eq!(post(&[2, 9, i32::MAX, i32::MAX], &atoms, 1, 0), none);
+        assert_eq!(post(&[2, 9, 1, 2], &atoms, 0, 0), none);
+        assert_eq!(post(&[2, 9, 1, 2], &atoms, 2, 1), none);
+        assert_eq!(post(&[2, 9, 1], &atoms, 1, 0), none);
+        assert_eq!(post(&[], &[], usize::MAX, usize::MAX - 1), none);
+    }
+}

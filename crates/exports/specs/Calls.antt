@@ -1,0 +1,73 @@
+-- What the exported calls answer: the numbers of what the open calls of their names answer, which keep their contracts.
+use mathlib.Core.List.{List, []}
+use mathlib.Core.Path.{_≡_}
+use Prim.Native.Nat.{ℕ, zero, suc, _+_, _*_}
+use lib.IntN.{ℤ, pos}
+use lib.ListN.{getD}
+use Rattle.records.specs.declared.record.Propagator.{Propagator}
+use Rattle.records.specs.Records.{creationNumber, created}
+use Rattle.records.specs.Posts.{stretchStart, stretchLength, postNumber}
+use Rattle.checking.specs.declared.variable_state.VariableState.{VariableState}
+use Rattle.checking.specs.declared.variable_state.Application.{Application}
+use Rattle.checking.specs.declared.variable_state.Application.the-variants as application
+use Rattle.checking.specs.declared.variable_state.Applied.{Applied}
+use Rattle.checking.specs.States.{prepared, truthOf, boundOf, lowerOf, upperOf}
+use Rattle.checker.specs.declared.checker.Verdict.{Verdict}
+use Rattle.checker.specs.Checks.{Checked}
+use Rattle.propagator.specs.declared.disjunctive_propagator.Outcome.{Outcome}
+use Rattle.disjunctive.specs.declared.ranges.Range.{Range}
+use Rattle.disjunctive.specs.Ranges.{RanLent}
+use Rattle.exports.specs.declared.answers.NewPropagator.{NewPropagator}
+use Rattle.exports.specs.declared.answers.RunAnswer.{RunAnswer}
+use Rattle.exports.specs.declared.answers.PostAnswer.{PostAnswer}
+use Rattle.exports.specs.declared.answers.CheckAnswer.{CheckAnswer}
+use Rattle.exports.specs.declared.answers.StateAnswer.{StateAnswer}
+use Rattle.exports.specs.Answers.{outcomeNumbers, verdictNumbers, contradictionNumbers, refusalNumbers, truthNumbers, boundNumbers}
+
+-- creation: the record and its answer's number
+abbrev pub newNumbers : List ℤ → NewPropagator
+newNumbers ds = record { propagator = created ds .«record»; number = creationNumber (created ds .answer) }
+
+-- A run: what the open run leaves, and the numbers of its outcome.
+pub record RanNumbers (before : Propagator) (ranges : List Range) (posts atoms : List ℤ) (answer : RunAnswer) (after : Propagator) (ranges′ : List Range) (posts′ atoms′ : List ℤ) : Type 0 where
+  pub outcome : Outcome
+  pub numbers : answer ≡ outcomeNumbers outcome
+  pub ran : RanLent before ranges posts atoms outcome after ranges′ posts′ atoms′
+
+-- the post reader: a post's two words and its stretch, in words; nothing but the number where that is 11
+abbrev pub postAnswer : ℕ → ℤ → ℤ → ℕ → ℕ → PostAnswer
+postAnswer number task bound first count = record { number = number; task = task; bound = bound; first = first; count = count }
+
+abbrev pub readPost : List ℤ → ℕ → PostAnswer
+readPost posts index = postAnswer 0 (getD posts (4 * index) (pos 0)) (getD posts (4 * index + 1) (pos 0)) (stretchStart posts index) (stretchLength posts index)
+
+abbrev pub postAt : ℕ → List ℤ → ℕ → PostAnswer
+postAt zero posts index = readPost posts index
+postAt (suc n) posts index = postAnswer (suc n) (pos 0) (pos 0) 0 0
+
+abbrev pub postNumbers : List ℤ → List ℤ → ℕ → ℕ → PostAnswer
+postNumbers posts atoms count index = postAt (postNumber posts atoms count index) posts index
+
+-- A check: the numbers of a verdict, which is the check's.
+pub record CheckedNumbers (ds premises consequent : List ℤ) (answer : CheckAnswer) : Type 0 where
+  pub verdict : Verdict
+  pub numbers : answer ≡ verdictNumbers verdict
+  pub checked : Checked ds premises consequent verdict
+
+-- what a question to the state that premises lead to answers: `here`, unless they lead to none
+abbrev pub askedAt : Application → StateAnswer → StateAnswer
+askedAt application.Consistent here = here
+askedAt (application.Contradiction x) here = contradictionNumbers x
+askedAt (application.Refused n) here = refusalNumbers n
+
+abbrev pub asked : (VariableState → StateAnswer) → Applied → StateAnswer
+asked question applied = askedAt (applied .answer) (question (applied .state))
+
+abbrev pub truthAfter : List ℤ → ℤ → ℤ → ℤ → StateAnswer
+truthAfter premises x k v = asked (λ s. truthNumbers (truthOf s x k v)) (prepared premises [])
+
+abbrev pub lowerAfter : List ℤ → ℤ → StateAnswer
+lowerAfter premises x = asked (λ s. boundNumbers (boundOf lowerOf s x)) (prepared premises [])
+
+abbrev pub upperAfter : List ℤ → ℤ → StateAnswer
+upperAfter premises x = asked (λ s. boundNumbers (boundOf upperOf s x)) (prepared premises [])

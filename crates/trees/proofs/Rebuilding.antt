@@ -1,0 +1,175 @@
+-- A tree built from its leaves: inner nodes from the last to the first, each the join of its children.
+-- Assumes nothing.
+use mathlib.Core.Path.{_≡_, refl, sym, ap, ap₂, subst, _∙_, fun-ext}
+use mathlib.Core.List.{List}
+use mathlib.Core.Logic.{_⊎_, inl, inr}
+use Prim.Native.Nat.{ℕ, zero, suc, _+_, _*_, _-_, _/_, _≤_, _<_}
+use native.Mathlib.Omega.{arith}
+use native.Mathlib.Decide.{ℕ-discrete}
+use lib.ListN.{length, getD, set, length-set}
+use Rattle.scheduling.specs.Scheduling.{natural, Tasks}
+use Rattle.trees.specs.declared.theta_lambda_tree.Node.{Node}
+use Rattle.trees.specs.Shapes.{width, heightFor, leftmost, HasHeight, changed, leavesOf, nodeOver, TreeOf}
+use Rattle.trees.specs.Nodes.{joinOf}
+use Rattle.trees.specs.Words.{nodeAt}
+use Rattle.trees.specs.Bounds.{Fair, size, Fits, Bounded}
+use Rattle.trees.specs.Puts.{Layable, Laid, Rebuildable, Rebuilt}
+use Rattle.trees.specs.Leaves as leaves
+use Rattle.trees.specs.Leaves.{Leaf, empty, leafNode, startAt, durationAt, Limited, IsTree, HasLeaves}
+use Rattle.trees.proofs.Heights.{leftmost-leaf, leftmost-left, leftmost-right, root-height, inner-height, left-height, right-height, leaf-at, enough, room}
+use Rattle.trees.proofs.Wiring.{Additive, changed-here, changed-other, changed-inner, changed-leaf, over-leaf, over-join, over-fits}
+use Rattle.trees.proofs.Joins.{additive}
+use Rattle.trees.proofs.Colours.{bounded, coloured}
+
+-- every node of a tree has a height ---------------------------------------------------------------------------------------------
+
+below : (m p i : ℕ) → p < m → (i ≡ 2 * p + 1) ⊎ (i ≡ 2 * p + 2) → (h : ℕ) × HasHeight m h p → (h : ℕ) × HasHeight m h i
+below m p i q side (zero, s) = absurd (omega (arith, leaf-at m p s))
+below m p i q (inl z) (suc h, s) = (h, rw z (left-height m h p s))
+below m p i q (inr z) (suc h, s) = (h, rw z (right-height m h p s))
+
+side : (i : ℕ) → (i ≡ 0 → ⊥) → (i ≡ 2 * ((i - 1) / 2) + 1) ⊎ (i ≡ 2 * ((i - 1) / 2) + 2)
+side i q = elim (ℕ-discrete i (2 * ((i - 1) / 2) + 1)) [ yes z ↦ inl z | no z ↦ inr (omega arith) ]
+
+-- by f steps down from the root at most
+height-of : (m H : ℕ) → m + 1 ≡ width H → (f i : ℕ) → i ≤ f → i ≤ 2 * m → (h : ℕ) × HasHeight m h i
+height-of m H e zero i q r = let z : i ≡ 0 = omega arith in rw z (H, root-height m H e)
+height-of m H e (suc f) i q r = elim (ℕ-discrete i 0) [
+  | yes z ↦ rw z (H, root-height m H e)
+  | no z ↦ below m ((i - 1) / 2) i (omega arith) (side i z) (height-of m H e f ((i - 1) / 2) (omega arith) (omega arith))
+]
+
+module _ {A : Type 0} (join : A → A → A) where
+  -- every inner node from i on is the join of its children
+  abbrev JoinsFrom : ℕ → (ℕ → A) → ℕ → Type 0
+  JoinsFrom m at i = (k : ℕ) → i ≤ k → k < m → at k ≡ join (at (2 * k + 1)) (at (2 * k + 2))
+
+  -- so it is the one over its leaves
+  over-from : (m : ℕ) (at : ℕ → A) (i : ℕ) → JoinsFrom m at i → (h j : ℕ) → HasHeight m h j → i ≤ j → at j ≡ nodeOver join (leavesOf m at) h (leftmost h j - m)
+  over-from m at i w zero j s q =
+      let z : j ≡ m + (leftmost 0 j - m) = omega (arith, s .from, leftmost-leaf j) in
+      ap at z ∙ sym (over-leaf join (leavesOf m at) (leftmost 0 j - m))
+  over-from m at i w (suc h) j s q =
+      w j q (inner-height m h j s)
+      ∙ ap₂ join (over-from m at i w h (2 * j + 1) (left-height m h j s) (omega arith) ∙ ap (nodeOver join (leavesOf m at) h) left)
+      (over-from m at i w h (2 * j + 2) (right-height m h j s) (omega arith) ∙ ap (nodeOver join (leavesOf m at) h) right)
+      ∙ sym (over-join join (leavesOf m at) h (leftmost (suc h) j - m))
+    where
+      left : leftmost h (2 * j + 1) - m ≡ leftmost (suc h) j - m
+      left = omega (arith, leftmost-left h j)
+
+      right : leftmost h (2 * j + 2) - m ≡ (leftmost (suc h) j - m) + width h
+      right = omega (arith, leftmost-right h j, s .from)
+
+module _ {A : Type 0} {size : A → ℕ} {Fair : A → Type 0} {join : A → A → A} (law : Additive size Fair join) where
+  -- What holds whenever the loop is at node i: the leaves stay, and every inner node from i on is right.
+  pub record DuringRebuild (m : ℕ) (at₀ at : ℕ → A) (i : ℕ) : Type 0 where
+    pub joins : JoinsFrom join m at i
+    pub leaves : leavesOf m at ≡ leavesOf m at₀
+    pub bounded : Bounded size Fair (leavesOf m at)
+    pub height : ℕ
+    pub complete : m + 1 ≡ width height
+    pub inside : i ≤ m
+
+  pub begin : {m : ℕ} {at : ℕ → A} → Bounded size Fair (leavesOf m at) → (height : ℕ) → m + 1 ≡ width height → DuringRebuild m at at m
+  begin b h e = record { joins = λ k q r. absurd (omega arith); leaves = refl; bounded = b; height = h; complete = e; inside = omega arith }
+
+  pub built : {m : ℕ} {at₀ at : ℕ → A} → DuringRebuild m at₀ at 0 → TreeOf join m (leavesOf m at₀) at
+  built c = record { joins = λ i q. c .joins i (omega arith) q; leaves = λ k. ap (λ (f : ℕ → A). f k) (c .leaves) }
+
+  -- node j is next
+  module _ {m : ℕ} {at₀ at : ℕ → A} {i : ℕ} (c : DuringRebuild m at₀ at i) (j : ℕ) (next : i ≡ suc j) where
+    child-fits : (k : ℕ) → i ≤ k → k ≤ 2 * m → Fits size Fair (at k)
+    child-fits k q r =
+        let s = height-of m (c .height) (c .complete) k k (omega arith) r in
+        rw (over-from join m at i (c .joins) (s .0) k (s .1) q) (over-fits law (leavesOf m at) (c .bounded) (s .0) (leftmost (s .0) k - m))
+
+    pub left-fits : Fits size Fair (at (2 * j + 1))
+    left-fits = child-fits (2 * j + 1) (omega arith) (omega (arith, c .inside))
+
+    pub right-fits : Fits size Fair (at (2 * j + 2))
+    right-fits = child-fits (2 * j + 2) (omega arith) (omega (arith, c .inside))
+
+    abbrev n : A
+    n = join (at (2 * j + 1)) (at (2 * j + 2))
+
+    other : (k : ℕ) → (k ≡ j → ⊥) → changed at j n k ≡ at k
+    other k ne = changed-other at j n k ne
+
+    pub next-is : DuringRebuild m at₀ (changed at j n) j
+    next-is = record {
+      joins = λ k q r. elim (ℕ-discrete k j) [
+        | yes z ↦ rw z (changed-here at j n ∙ sym (ap₂ join (other (2 * j + 1) (λ y. omega arith)) (other (2 * j + 2) (λ y. omega arith))))
+        | no z ↦ other k z ∙ c .joins k (omega arith) r ∙ sym (ap₂ join (other (2 * k + 1) (λ y. omega arith)) (other (2 * k + 2) (λ y. omega arith)))
+      ];
+      leaves = leaves-stay ∙ c .leaves;
+      bounded = rw leaves-stay (c .bounded);
+      height = c .height;
+      complete = c .complete;
+      inside = omega (arith, c .inside);
+    }
+      where
+        leaves-stay : leavesOf m (changed at j n) ≡ leavesOf m at
+        leaves-stay = changed-inner m at j n (omega (arith, c .inside))
+
+    -- the same with the children and their join by other names
+    module _ {l r : ℕ} (is-left : l ≡ 2 * j + 1) (is-right : r ≡ 2 * j + 2) where
+      pub fits-left : {x : A} → x ≡ at l → Fits size Fair x
+      fits-left e = rw (e ∙ ap at is-left) left-fits
+
+      pub fits-right : {y : A} → y ≡ at r → Fits size Fair y
+      fits-right e = rw (e ∙ ap at is-right) right-fits
+
+      pub goes-on : {x y n : A} → x ≡ at l → y ≡ at r → n ≡ join x y → {at′ : ℕ → A} → at′ ≡ changed at j n → DuringRebuild m at₀ at′ j
+      goes-on ex ey en e = rw (e ∙ ap (changed at j) (en ∙ ap₂ join (ex ∙ ap at is-left) (ey ∙ ap at is-right))) next-is
+
+-- the leaves of tasks ------------------------------------------------------------------------------------------------------------
+
+module _ {J : Tasks natural} {first : List ℕ} (lim : Limited J first) where
+  abbrev leaf-node : Leaf → ℕ → Node
+  leaf-node c j = leafNode c (startAt J first j) (durationAt J first j)
+
+  pub tree-leaves : {ls : List Leaf} {inner : ℕ} {words : List ℕ} → IsTree J first ls inner words → HasLeaves J first ls inner words
+  tree-leaves t = record { nodes = t .tree .leaves; words-length = t .words-length; complete = t .complete; colours = t .colours }
+
+  module _ {ls : List Leaf} {inner : ℕ} {words : List ℕ} (t : HasLeaves J first ls inner words) where
+    own : leavesOf inner (nodeAt words) ≡ leaves.leaves J first ls
+    own = fun-ext (t .nodes)
+
+    small : inner ≤ 63
+    small = omega (arith, room (J .count) (omega (arith, lim .count)), t .complete)
+
+    -- a leaf may get a colour, and then has it
+    pub may-lay : (k : ℕ) → k < J .count → (c : Leaf) {n : Node} → n ≡ leafNode c (startAt J first k) (durationAt J first k) → Layable inner words k n
+    may-lay k q c {n} z = record {
+      fits = rw (z ∙ sym here) (over-fits additive (leaves.leaves J first (set ls k c)) (bounded J first lim (set ls k c) (length-set ls k c ∙ t .colours)) 0 k);
+      inside = omega (arith, enough (J .count), t .complete);
+      room = small;
+      length = t .words-length;
+    }
+      where
+        here : nodeOver joinOf (leaves.leaves J first (set ls k c)) 0 k ≡ leafNode c (startAt J first k) (durationAt J first k)
+        here = over-leaf joinOf (leaves.leaves J first (set ls k c)) k ∙ ap (λ (f : ℕ → Node). f k) (coloured ls k (omega (arith, t .colours)) c leaf-node) ∙ changed-here (λ j. leaf-node (getD ls j empty) j) k (leaf-node c k)
+
+    pub was-laid : (k : ℕ) → k < J .count → (c : Leaf) {n : Node} → n ≡ leafNode c (startAt J first k) (durationAt J first k) → {words′ : List ℕ} → Laid inner words words′ k n → HasLeaves J first (set ls k c) inner words′
+    was-laid k q c {n} z {words′} u = record {
+      nodes = λ j. ap (λ (at : ℕ → Node). at (inner + j)) (u .nodes) ∙ ap (λ (f : ℕ → Node). f j) laid;
+      words-length = u .length;
+      complete = t .complete;
+      colours = length-set ls k c ∙ t .colours;
+    }
+      where
+        laid : leavesOf inner (changed (nodeAt words) (inner + k) n) ≡ leaves.leaves J first (set ls k c)
+        laid = changed-leaf inner (nodeAt words) k n ∙ ap₂ (λ (f : ℕ → Node) (v : Node). changed f k v) own z ∙ sym (coloured ls k (omega (arith, t .colours)) c leaf-node)
+
+    -- the inner nodes may be built, and then the words hold the tree
+    pub may-rebuild : Rebuildable inner words
+    may-rebuild = record { bounded = rw own (bounded J first lim ls (t .colours)); height = heightFor (J .count); complete = t .complete; room = small; length = t .words-length }
+
+    pub was-rebuilt : {words′ : List ℕ} → Rebuilt inner words words′ → IsTree J first ls inner words′
+    was-rebuilt {words′} u = record {
+      tree = subst (λ (leaf : ℕ → Node). TreeOf joinOf inner leaf (nodeAt words′)) own (u .tree);
+      words-length = u .length;
+      complete = t .complete;
+      colours = t .colours;
+    }
