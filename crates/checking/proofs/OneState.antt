@@ -103,8 +103,11 @@ met-step : (s : VariableState) (a : Atom) → Accepted s → a .variable < VARIA
 met-step s a acc h met = by (stepped s a .answer) refl
   where
     by : (r : _) → stepped s a .answer ≡ r → (stepped s a .answer ≡ Consistent) × (stepped s a .state ≡ s)
-    by Consistent e = (e, same-state (stepped s a .state) s (stepped-accepted s a acc h) acc (λ x q z.
-        (λ m. step-admits s a acc h e x z .0 m .0, λ m. step-admits s a acc h e x z .1 (m, λ w. met z (subst (λ (y : ℕ). Admitted (domainAt s y) z) (sym w) m)))))
+    by Consistent e = (
+      e,
+      same-state (stepped s a .state) s (stepped-accepted s a acc h) acc (λ x q z.
+          (λ m. step-admits s a acc h e x z .0 m .0, λ m. step-admits s a acc h e x z .1 (m, λ w. met z (subst (λ (y : ℕ). Admitted (domainAt s y) z) (sym w) m)))),
+    )
     by (Contradiction y) e = let (z, m) = some-value (domainAt s (a .variable)) (acc .each (a .variable) h) in absurd (step-contradiction s a acc h y e .2 z m (met z m))
     by (Refused n) e = absurd (met-room (domainAt s (a .variable)) (a .kind) (a .value) met (step-refused s a acc h n e .2))
 

@@ -235,6 +235,7 @@ same-state s t a b same = λ i. record {
 
 pub canonical : (s t : VariableState) → Sized s → Sized t → accepted (s .domains) ≡ true → accepted (t .domains) ≡ true
     → ((x : ℕ) → x < VARIABLES → (z : ℤ) → Admitted (domainAt s x) z ↔ Admitted (domainAt t x) z) ↔ (s ≡ t)
-canonical s t m n p q =
-    (same-state s t (proper-state (s .domains) (m .size) (m .places) p) (proper-state (t .domains) (n .size) (n .places) q),
-    λ e x h z. subst (λ (r : VariableState). Admitted (domainAt s x) z ↔ Admitted (domainAt r x) z) e (λ a. a, λ a. a))
+canonical s t m n p q = (
+  same-state s t (proper-state (s .domains) (m .size) (m .places) p) (proper-state (t .domains) (n .size) (n .places) q),
+  λ e x h z. subst (λ (r : VariableState). Admitted (domainAt s x) z ↔ Admitted (domainAt r x) z) e (λ a. a, λ a. a),
+)
