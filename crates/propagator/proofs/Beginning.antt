@@ -82,7 +82,7 @@ module _ (r : Propagator) (es ls : List ℤ) (posts atoms : ℕ) (a : Accepted r
   sum-is = ap (total (λ k. getD ds k 0)) count ∙ total-ext (λ k. getD ds k 0) (λ k. getD (r .durations) k 0) n lasts-at
 
   -- the same input, as the run's definition accepts it
-  pub accepted : demand.Accepted ds es ls (take n (r .first)) (take n (r .second))
+  pub accepted : demand.Accepted 200000000 ds es ls (take n (r .first)) (take n (r .second))
   accepted = record {
     some = omega (arith, count, a .lawful .some);
     few = omega (arith, count, few);
@@ -304,4 +304,4 @@ module _ (r : Propagator) (es ls : List ℤ) (posts atoms : ℕ) (a : Accepted r
       }
 
   pub right : Right (tasksIn r es ls) (traceOf r es ls)
-  right = demand.demand-3 ds es ls (take n (r .first)) (take n (r .second)) accepted
+  right = demand.demand-3 200000000 (omega arith) ds es ls (take n (r .first)) (take n (r .second)) accepted

@@ -53,7 +53,7 @@ module _ (before : Propagator) (es ls : List ℤ) (posts atoms : ℕ) (a : Accep
   abbrev J : Tasks whole
   J = tasksIn before es ls
 
-  accepted : demand.Accepted l es ls (take (before .count) (before .first)) (take (before .count) (before .second))
+  accepted : demand.Accepted 200000000 l es ls (take (before .count) (before .first)) (take (before .count) (before .second))
   accepted = beginning.accepted before es ls posts atoms a long long₁ long₂
 
   lawful : refusal (creationTests (checkDurations before)) ≡ 0
@@ -76,7 +76,7 @@ module _ (before : Propagator) (es ls : List ℤ) (posts atoms : ℕ) (a : Accep
   post-passes j q =
       let p : Post = post (traceOf before es ls) j in
       let r : PostRight J p = beginning.right before es ls posts atoms a long long₁ long₂ .posts j q in
-      let s = post-shaped l es ls (take (before .count) (before .first)) (take (before .count) (before .second)) accepted j q in
+      let s = post-shaped 200000000 (omega arith) l es ls (take (before .count) (before .first)) (take (before .count) (before .second)) accepted j q in
       checked (p .reason) (some (consequentOf p)) (s .few) (s .because) (shaped-bound (length l) (accepted .few) (consequentOf p) (s .says))
       (every-append (Meets (J .earliest)) (p .reason) (negation (consequentOf p) ∷ []) (met (p .reason) (r .reason-holds)) (below-bound (J .earliest (p .task)) (p .bound) (r .raises), tt))
       (r .reason-passes)
@@ -85,5 +85,5 @@ module _ (before : Propagator) (es ls : List ℤ) (posts atoms : ℕ) (a : Accep
   pub overload-passes : (reason : List Atom) → traceOf before es ls .end ≡ overload reason → checkOf (checkDurations before) (atomWords reason) [] ≡ Passed
   overload-passes reason e =
       let r = beginning.right before es ls posts atoms a long long₁ long₂ .overloads reason e in
-      let s = overload-shaped l es ls (take (before .count) (before .first)) (take (before .count) (before .second)) accepted reason e in
+      let s = overload-shaped 200000000 (omega arith) l es ls (take (before .count) (before .first)) (take (before .count) (before .second)) accepted reason e in
       checked reason none (s .few) (s .because) tt (met reason (r .reason-holds)) (r .reason-passes)
