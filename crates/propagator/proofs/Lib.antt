@@ -8,3 +8,4 @@ pub mod Filling
 pub mod Beginning
 pub mod Many
 pub mod Passing
+pub mod Handing

@@ -1,4 +1,4 @@
--- A run that is lent more ranges than any record has tasks is turned back as one that is lent none.
+-- A run that is turned back; one that is lent more ranges than any record has tasks is turned back as one that is lent none.
 -- Assumes nothing.
 use mathlib.Core.Path.{_≡_, refl, sym, ap, _∙_}
 use mathlib.Core.Bool.{true, false}
@@ -16,7 +16,12 @@ use Rattle.records.proofs.Lawful.{lawful-is}
 use Rattle.records.proofs.Refused.{refused-20, refused-10}
 use Rattle.propagator.specs.declared.disjunctive_propagator.Outcome.the-variants as outcome
 use Rattle.propagator.specs.declared.disjunctive_propagator.Run.{Run}
-use Rattle.propagator.specs.Ran.{Ran}
+use Rattle.propagator.specs.Ran.{Kept, Ran}
+
+-- what is said of an accepted run is not said of it
+pub turned-back : (before : Propagator) (es ls posts atoms : List ℤ) (r : Run) (es′ posts′ atoms′ : List ℤ) → (runNumber before es ls (length posts) (length atoms) ≡ 0 → ⊥)
+    → Kept before es ls (runNumber before es ls (length posts) (length atoms)) posts atoms r es′ posts′ atoms′ → Ran before es ls posts atoms r es′ posts′ atoms′
+turned-back before es ls posts atoms r es′ posts′ atoms′ not k = record { refused = λ n. k; ran = λ z. absurd (not z); right = λ z. absurd (not z); passes = λ z. absurd (not z); handed = λ z. absurd (not z) }
 
 module _ (before : Propagator) (es ls : List ℤ) (posts atoms : ℕ) (h : 48 < length es) where
   -- both are turned back by one number, 20 or 10
@@ -32,8 +37,5 @@ pub too-many : (before : Propagator) (es ls posts atoms : List ℤ) (r : Run) (e
 too-many before es ls posts atoms r es′ posts′ atoms′ h q a =
     let (m, none, many, not) = one-number before es ls (length posts) (length atoms) h in
     let k = a .refused (λ z. not (sym none ∙ z)) in
-    record {
-      refused = λ n. record { answer = k .answer ∙ ap outcome.Refused (none ∙ sym many); keeps = k .keeps; starts = refl; post-words = k .post-words; atom-words = k .atom-words };
-      ran = λ z. absurd (not (sym many ∙ z));
-      right = λ z. absurd (not (sym many ∙ z));
-    }
+    turned-back before es ls posts atoms r es posts′ atoms′ (λ z. not (sym many ∙ z))
+    (record { answer = k .answer ∙ ap outcome.Refused (none ∙ sym many); keeps = k .keeps; starts = refl; post-words = k .post-words; atom-words = k .atom-words })

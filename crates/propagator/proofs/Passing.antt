@@ -28,7 +28,7 @@ use Rattle.records.proofs.Creation.{natural-count, natural-duration, natural-ac
 use Rattle.checker.specs.declared.checker.Verdict.the-variants.{Passed}
 use Rattle.checker.specs.Checks.{checkOf, tasksWith, consequentWords}
 use Rattle.checker.proofs.Reasons.{Bound, BoundIfAny, reason-check, passes-alike, meets-admits}
-use Rattle.propagator.specs.Ran.{tasksIn, traceOf, checkDurations}
+use Rattle.propagator.specs.Ran.{tasksIn, traceOf, checkDurations, Passing}
 use Rattle.propagator.proofs.Beginning as beginning
 
 -- an atom near the starts of at most 48 tasks is within the limits of a check
@@ -71,7 +71,7 @@ module _ (before : Propagator) (es ls : List ℤ) (posts atoms : ℕ) (a : Accep
       (passes-alike J (tasksWith (checkDurations before)) (sym (natural-count l)) (λ k. sym (natural-duration l k)) reason c p)
 
   -- A post's reason passes with the post as its consequent,
-  pub post-passes : (j : ℕ) → j < length (traceOf before es ls .posts)
+  post-passes : (j : ℕ) → j < length (traceOf before es ls .posts)
       → checkOf (checkDurations before) (atomWords (post (traceOf before es ls) j .reason)) (atomWords (consequentOf (post (traceOf before es ls) j) ∷ [])) ≡ Passed
   post-passes j q =
       let p : Post = post (traceOf before es ls) j in
@@ -81,9 +81,13 @@ module _ (before : Propagator) (es ls : List ℤ) (posts atoms : ℕ) (a : Accep
       (every-append (Meets (J .earliest)) (p .reason) (negation (consequentOf p) ∷ []) (met (p .reason) (r .reason-holds)) (below-bound (J .earliest (p .task)) (p .bound) (r .raises), tt))
       (r .reason-passes)
 
-  -- and an overload's reason passes with none.
-  pub overload-passes : (reason : List Atom) → traceOf before es ls .end ≡ overload reason → checkOf (checkDurations before) (atomWords reason) [] ≡ Passed
+  -- an overload's with none,
+  overload-passes : (reason : List Atom) → traceOf before es ls .end ≡ overload reason → checkOf (checkDurations before) (atomWords reason) [] ≡ Passed
   overload-passes reason e =
       let r = beginning.right before es ls posts atoms a long long₁ long₂ .overloads reason e in
       let s = overload-shaped 200000000 (omega arith) l es ls (take (before .count) (before .first)) (take (before .count) (before .second)) accepted reason e in
       checked reason none (s .few) (s .because) tt (met reason (r .reason-holds)) (r .reason-passes)
+
+  -- and these are all the reasons.
+  pub passing : Passing before es ls
+  passing = record { posts = post-passes; overloads = overload-passes }

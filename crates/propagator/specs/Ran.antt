@@ -1,20 +1,23 @@
 -- What a run leaves, by the run's definition, and what that means.
 use mathlib.Core.Path.{_≡_}
-use mathlib.Core.List.{List, _++_, map}
-use Prim.Native.Nat.{ℕ, _≤_}
+use mathlib.Core.List.{List, [], _∷_, _++_, map}
+use Prim.Native.Nat.{ℕ, _+_, _*_, _≤_, _<_}
 use lib.IntN.{ℤ, pos}
-use lib.ListN.{length, take}
+use lib.ListN.{length, getD, take, drop}
 use Rattle.integers.specs.Moments.{zeroAt}
-use Rattle.scheduling.specs.Scheduling.{whole, natural, Tasks, tasksOf}
+use Rattle.scheduling.specs.Scheduling.{whole, natural, Tasks, tasksOf, Atom}
 use Rattle.scheduling.proofs.Transfer.{moments}
-use Rattle.runs.specs.Traces.{Trace}
+use Rattle.runs.specs.Traces.{Post, Trace, overload}
 use Rattle.runs.specs.Runs.{propagate, byEarliest, byCompletion}
 use Rattle.scheduling.specs.Words.{atomWords}
 use Rattle.runs.specs.Words.{postWords, reasons, endReason, postsAfter, atomsAfter}
-use Rattle.runs.specs.Demand.{Right}
+use Rattle.runs.specs.Demand.{Right, consequentOf, post}
 use Rattle.records.specs.declared.record.Propagator.{Propagator}
 use Rattle.records.specs.Orders.{sortedOrder}
+use Rattle.records.specs.Posts.{postNumber, reasonWords}
 use Rattle.records.specs.Refusals.{runNumber}
+use Rattle.checker.specs.declared.checker.Verdict.the-variants.{Passed}
+use Rattle.checker.specs.Checks.{checkOf}
 use Rattle.propagator.specs.declared.disjunctive_propagator.Outcome.{Outcome}
 use Rattle.propagator.specs.declared.disjunctive_propagator.Outcome.the-variants as outcome
 use Rattle.propagator.specs.declared.disjunctive_propagator.Run.{Run}
@@ -23,6 +26,13 @@ use Rattle.propagator.specs.Finding.{outcomeOf}
 -- the record's durations, as a check takes them
 abbrev pub checkDurations : Propagator → List ℤ
 checkDurations before = map pos (take (before .count) (before .durations))
+
+-- Post j of count, as a caller reads it from both slices: the post reader takes it and hands out its reason, and its words are its task and its bound.
+pub record Read (p : Post) (posts atoms : List ℤ) (count j : ℕ) : Type 0 where
+  pub number : postNumber posts atoms count j ≡ 0
+  pub reason : reasonWords posts atoms count j ≡ atomWords (p .reason)
+  pub task : getD posts (4 * j) (pos 0) ≡ pos (p .task)
+  pub bound : getD posts (4 * j + 1) (pos 0) ≡ p .bound
 
 module _ (before : Propagator) (es ls : List ℤ) where
   -- the tasks of a record with these ranges, and their moments
@@ -55,6 +65,16 @@ module _ (before : Propagator) (es ls : List ℤ) where
     pub atoms-fit : length (atomWords (reasons (traceOf .posts) ++ endReason (traceOf .end))) ≤ length atoms
     pub carries : r .«record» ≡ carried
 
+  -- Every reason passes the check: a post's with the post as its consequent, an overload's with none.
+  pub record Passing : Type 0 where
+    pub posts : (j : ℕ) → j < length (traceOf .posts) → checkOf (checkDurations before) (atomWords (post traceOf j .reason)) (atomWords (consequentOf (post traceOf j) ∷ [])) ≡ Passed
+    pub overloads : (reason : List Atom) → traceOf .end ≡ overload reason → checkOf (checkDurations before) (atomWords reason) [] ≡ Passed
+
+  -- The slices hand out each post, and an overload's reason where the outcome says that it stands.
+  pub record Handed (posts′ atoms′ : List ℤ) : Type 0 where
+    pub posts : (j : ℕ) → j < length (traceOf .posts) → Read (post traceOf j) posts′ atoms′ (length (traceOf .posts)) j
+    pub overloads : (reason : List Atom) → traceOf .end ≡ overload reason → take (3 * length reason) (drop (3 * length (reasons (traceOf .posts))) atoms′) ≡ atomWords reason
+
   -- A refused run leaves everything as it was.
   pub record Kept (number : ℕ) (posts atoms : List ℤ) (r : Run) (es′ posts′ atoms′ : List ℤ) : Type 0 where
     pub answer : r .outcome ≡ outcome.Refused number
@@ -63,8 +83,10 @@ module _ (before : Propagator) (es ls : List ℤ) where
     pub post-words : posts′ ≡ posts
     pub atom-words : atoms′ ≡ atoms
 
--- A run: the first test that fails turns it back; else it leaves the definition's trace, and that is right.
+-- A run: the first test that fails turns it back; else it leaves the definition's trace, which is right, its reasons pass the check, and the slices hand them out.
 pub record Ran (before : Propagator) (es ls posts atoms : List ℤ) (r : Run) (es′ posts′ atoms′ : List ℤ) : Type 0 where
   pub refused : (runNumber before es ls (length posts) (length atoms) ≡ 0 → ⊥) → Kept before es ls (runNumber before es ls (length posts) (length atoms)) posts atoms r es′ posts′ atoms′
   pub ran : runNumber before es ls (length posts) (length atoms) ≡ 0 → Left before es ls posts atoms r es′ posts′ atoms′
   pub right : runNumber before es ls (length posts) (length atoms) ≡ 0 → Right (tasksIn before es ls) (traceOf before es ls)
+  pub passes : runNumber before es ls (length posts) (length atoms) ≡ 0 → Passing before es ls
+  pub handed : runNumber before es ls (length posts) (length atoms) ≡ 0 → Handed before es ls posts′ atoms′

@@ -1,19 +1,19 @@
 -- The post reader's number, and the stretch that it goes with.
 -- Assumes nothing.
-use mathlib.Core.Path.{_≡_, refl}
+use mathlib.Core.Path.{_≡_, refl, ap, ap₂, _∙_}
 use mathlib.Core.Bool.{true, false}
 use mathlib.Core.Logic.{_↔_}
 use mathlib.Core.List.{List, []}
-use Prim.Native.Nat.{ℕ}
+use Prim.Native.Nat.{ℕ, _+_, _*_, _≤_, _<_}
 use lib.Dec.{eqb}
-use lib.IntN.{ℤ}
-use lib.ListN.{take, drop}
+use lib.IntN.{ℤ, pos, natAbs}
+use lib.ListN.{length, take, drop}
 use borrow.Author.Tests.{ltb-true, leb-true, lt-ltb, le-leb, eq-eqb, ne-eqb}
 use Rattle.integers.specs.Orders.{has}
 use Rattle.integers.specs.Tests.{AllPassed}
-use Rattle.integers.proofs.Ints.{leZ-true, le-leZ}
+use Rattle.integers.proofs.Ints.{ints, up, dn, leZ-true, le-leZ}
 use Rattle.integers.proofs.Tests.{accepts, accepted}
-use Rattle.records.specs.Posts.{stretchStart, stretchLength, postTests, postNumber, reasonWords, Readable}
+use Rattle.records.specs.Posts.{firstAtom, atomCount, stretchStart, stretchLength, postTests, postNumber, reasonWords, Readable}
 
 module _ (posts atoms : List ℤ) (count index : ℕ) where
   -- 0 is for the posts that can be read
@@ -35,3 +35,11 @@ module _ (posts atoms : List ℤ) (count index : ℕ) where
   pub reason-none : (postNumber posts atoms count index ≡ 0 → ⊥) → reasonWords posts atoms count index ≡ []
   unfolding reasonWords
   reason-none h = let y : eqb (postNumber posts atoms count index) 0 ≡ false = ne-eqb (postNumber posts atoms count index) 0 h in rw (y, reasonWords)
+
+  -- a post whose words are a stretch inside the slices is read, and the stretch is handed out
+  pub read-at : (f c : ℕ) → firstAtom posts index ≡ pos f → atomCount posts index ≡ pos c → index < count → 4 * index + 4 ≤ length posts → 3 * f + 3 * c ≤ length atoms
+      → (postNumber posts atoms count index ≡ 0) × (reasonWords posts atoms count index ≡ take (3 * c) (drop (3 * f) atoms))
+  unfolding up dn
+  read-at f c first many counted inside stretch =
+      let z : postNumber posts atoms count index ≡ 0 = readable .1 (record { counted = counted; inside = inside; from = omega (ints, first); many = omega (ints, many); stretch = rw (first, many) stretch }) in
+      (z, reason-there z ∙ ap₂ (λ (u v : ℕ). take (3 * u) (drop (3 * v) atoms)) (ap natAbs many) (ap natAbs first))

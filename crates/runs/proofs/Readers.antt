@@ -5,7 +5,7 @@ use Prim.Native.Nat.{ℕ, zero, suc, _+_, _-_, _*_, _≤_, _<_}
 use native.Mathlib.Omega.{arith}
 use lib.IntN.{ℤ, pos}
 use lib.ListN.{length, getD, take, drop, length-append, length-drop, List·getD-append}
-use lib.Seq.{take-append-seam, drop-append-add, drop-append-le, take-append-le}
+use lib.Seq.{take-append-seam, drop-append-seam, drop-append-add, drop-append-le, take-append-le, take-length}
 use Rattle.scheduling.specs.Scheduling.{Atom}
 use Rattle.runs.specs.Traces.{Post, Trace}
 use Rattle.scheduling.specs.Words.{atomWords}
@@ -54,20 +54,35 @@ bounded [] j h = absurd (omega arith)
 bounded (p ∷ ps) zero h = omega (arith, length-append (p .reason) (reasons ps))
 bounded (p ∷ ps) (suc j) h = omega (arith, length-append (p .reason) (reasons ps), bounded ps j (omega arith))
 
--- What the post reader hands out for post j of a run is that post's reason, whatever stood in the slice.
+-- r atoms from the f-th on, of those written at the front of a slice
+stretch-words : (entry : List ℤ) (all : List Atom) (f r : ℕ) → f + r ≤ length all → take (3 * r) (drop (3 * f) (overwritten entry (atomWords all))) ≡ atomWords (take r (drop f all))
+stretch-words entry all f r h =
+    let ws : List ℤ = atomWords all in
+    let fits : 3 * f + 3 * r ≤ length ws = omega (arith, atoms-length all) in
+    ap (take (3 * r)) (drop-append-le (3 * f) ws (drop (length ws) entry) (omega arith))
+    ∙ take-append-le (3 * r) (drop (3 * f) ws) (drop (length ws) entry) (omega (arith, length-drop (3 * f) ws)) ∙ ap (take (3 * r)) (drop-words f all) ∙ take-words r (drop f all)
+
+-- What the post reader hands out for post j of a run is that post's reason, whatever stood in the slice,
 pub reader : (entry : List ℤ) (t : Trace) (j : ℕ) → j < length (t .posts)
     → take (3 * length (post t j .reason)) (drop (3 * startOf (t .posts) j) (atomsAfter entry t)) ≡ atomWords (post t j .reason)
 reader entry t j h =
-    let all : List Atom = reasons (t .posts) ++ endReason (t .end) in
-    let ws : List ℤ = atomWords all in
-    let r : ℕ = length (post t j .reason) in
-    let f : ℕ = startOf (t .posts) j in
-    let fits : 3 * f + 3 * r ≤ length ws = omega (arith, atoms-length all, length-append (reasons (t .posts)) (endReason (t .end)), bounded (t .posts) j h) in
-    ap (take (3 * r)) (drop-append-le (3 * f) ws (drop (length ws) entry) (omega arith))
-    ∙ take-append-le (3 * r) (drop (3 * f) ws) (drop (length ws) entry) (omega (arith, length-drop (3 * f) ws))
-    ∙ ap (take (3 * r)) (drop-words f all) ∙ take-words r (drop f all) ∙ ap atomWords (stretch (t .posts) (endReason (t .end)) j h)
+    stretch-words entry (reasons (t .posts) ++ endReason (t .end)) (startOf (t .posts) j) (length (post t j .reason)) (omega (arith, length-append (reasons (t .posts)) (endReason (t .end)), bounded (t .posts) j h))
+    ∙ ap atomWords (stretch (t .posts) (endReason (t .end)) j h)
 
--- and its four words stand in the slice of posts
+-- and its stretch is inside the slice;
+pub stretch-inside : (entry : List ℤ) (t : Trace) (j : ℕ) → j < length (t .posts) → 3 * startOf (t .posts) j + 3 * length (post t j .reason) ≤ length (atomsAfter entry t)
+stretch-inside entry t j h =
+    let all : List Atom = reasons (t .posts) ++ endReason (t .end) in
+    omega (arith, length-append (atomWords all) (drop (length (atomWords all)) entry), atoms-length all, length-append (reasons (t .posts)) (endReason (t .end)), bounded (t .posts) j h)
+
+-- an overload's reason is what stands after the atoms of the posts.
+pub end-reader : (entry : List ℤ) (t : Trace) → take (3 * length (endReason (t .end))) (drop (3 * length (reasons (t .posts))) (atomsAfter entry t)) ≡ atomWords (endReason (t .end))
+end-reader entry t =
+    let xs : List Atom = reasons (t .posts) in
+    let ys : List Atom = endReason (t .end) in
+    stretch-words entry (xs ++ ys) (length xs) (length ys) (omega (arith, length-append xs ys)) ∙ ap (λ (l : List Atom). atomWords (take (length ys) l)) (drop-append-seam xs ys) ∙ ap atomWords (take-length ys)
+
+-- A post's four words stand in the slice of posts,
 pub four-after : (entry : List ℤ) (t : Trace) (j : ℕ) → j < length (t .posts) → Four (postsAfter entry t) (4 * j) (post t j) (startOf (t .posts) j)
 four-after entry t j h =
     let ws : List ℤ = postWords 0 (t .posts) in
@@ -80,3 +95,7 @@ four-after entry t j h =
       from = List·getD-append ws tail (pos 0) (4 * j + 2) (omega (arith, posts-length (t .posts) 0)) ∙ r .from ∙ ap pos z;
       count = List·getD-append ws tail (pos 0) (4 * j + 3) (omega (arith, posts-length (t .posts) 0)) ∙ r .count;
     }
+
+-- inside it.
+pub four-inside : (entry : List ℤ) (t : Trace) (j : ℕ) → j < length (t .posts) → 4 * j + 4 ≤ length (postsAfter entry t)
+four-inside entry t j h = omega (arith, length-append (postWords 0 (t .posts)) (drop (length (postWords 0 (t .posts))) entry), posts-length (t .posts) 0)

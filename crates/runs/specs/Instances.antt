@@ -1,4 +1,4 @@
--- The starred instances of runs, from a fresh record, as one table: posts, reasons, how each ended, starts and orders.
+-- Runs from a fresh record, by computing: posts, reasons, how each ended, starts and orders. A to G are the paper's.
 use mathlib.Core.Path.{_≡_, refl}
 use mathlib.Core.List.{List, [], _∷_, map}
 use Prim.Native.Nat.{ℕ, zero, suc}
@@ -69,10 +69,21 @@ pub instances : map answer (A ∷ B ∷ C ∷ D ∷ E ∷ F ∷ G ∷ [])
 unfolding propagate run outer inner conflict propagation bounds within tabulate heightFrom sort insert index numbers width root responsible theta joinOf isEmpty gray tested descentP descentEct stepP stepEct searchP searchEct thetaOf nodeOver
 instances = refl
 
--- none of the paper's: the reason takes the first task's own latest start, 8, and not a later one
+-- None of the paper's. The reason takes the first task's own latest start, 8, and not a later one.
 abbrev later : Input
 later = (0, 8, 1) ∷ (5, 5, 4) ∷ (0, 20, 5) ∷ []
 
 pub own-latest-start : answer later ≡ trace (record { task = 2; bound = pos 9; reason = atLeast 0 0 ∷ atMost 0 8 ∷ atLeast 1 5 ∷ atMost 1 5 ∷ atLeast 2 0 ∷ [] } ∷ []) done (0 ∷ 5 ∷ 9 ∷ []) (0 ∷ 2 ∷ 1 ∷ []) (2 ∷ 0 ∷ 1 ∷ [])
 unfolding propagate run outer inner conflict propagation bounds within tabulate heightFrom sort insert index numbers width root responsible theta joinOf isEmpty gray tested descentP descentEct stepP stepEct searchP searchEct thetaOf nodeOver
 own-latest-start = refl
+
+-- And two tasks are raised, each by its own post.
+abbrev both : Input
+both = (0, 6, 4) ∷ (1, 5, 5) ∷ (0, 20, 3) ∷ (0, 30, 3) ∷ []
+
+abbrev nine : ℕ → Post
+nine i = record { task = i; bound = pos 9; reason = atLeast 0 0 ∷ atMost 0 7 ∷ atLeast 1 0 ∷ atMost 1 6 ∷ atLeast i 0 ∷ [] }
+
+pub two-raised : answer both ≡ trace (nine 3 ∷ nine 2 ∷ []) done (0 ∷ 1 ∷ 9 ∷ 9 ∷ []) (0 ∷ 2 ∷ 3 ∷ 1 ∷ []) (3 ∷ 2 ∷ 0 ∷ 1 ∷ [])
+unfolding propagate run outer inner conflict propagation bounds within tabulate heightFrom sort insert index numbers width root responsible theta joinOf isEmpty gray tested descentP descentEct stepP stepEct searchP searchEct thetaOf nodeOver
+two-raised = refl

@@ -9,6 +9,9 @@ use Rattle.records.specs.Refusals.{Accepted, runNumber}
 use Rattle.records.proofs.Refused.{accepted-run}
 use Rattle.propagator.specs.declared.disjunctive_propagator.Outcome.the-variants as outcome
 use Rattle.propagator.proofs.Beginning.{right}
+use Rattle.propagator.proofs.Many.{turned-back}
+use Rattle.propagator.proofs.Passing.{passing}
+use Rattle.propagator.proofs.Handing.{handed}
 use Rattle.propagator.proofs.disjunctive_propagator.propagate.Statement.{statement}
 use Rattle.propagator.proofs.disjunctive_propagator.propagate.Tie as tie
 
@@ -34,11 +37,9 @@ same-length c = search needs
 returns : tie.Need-returns
 returns c =
     let n = c .before in
-    record {
-      refused = λ h. record { answer = ap outcome.Refused (n .run-refusal .ensures); keeps = refl; starts = refl; post-words = refl; atom-words = refl };
-      ran = λ z. absurd (omega (arith, n .run-refusal .ensures));
-      right = λ z. absurd (omega (arith, n .run-refusal .ensures));
-    }
+    let a = n .before .before .args in
+    turned-back (a .«record») (a .earliest .now) (a .latest .now) (a .posts .now) (a .atoms .now) _ _ _ _ (λ z. omega (arith, n .run-refusal .ensures))
+    (record { answer = ap outcome.Refused (n .run-refusal .ensures); keeps = refl; starts = refl; post-words = refl; atom-words = refl })
 
 accepted-requires : tie.Need-accepted-requires
 accepted-requires c κs = passed (c .before .before)
@@ -61,6 +62,8 @@ returns-2 c =
       refused = λ h. absurd (h (accepted-run (a .«record») (a .earliest .now) (a .latest .now) (length (a .posts .now)) (length (a .atoms .now)) .1 (passed at)));
       ran = λ z. c .before .before .before .accepted .ensures;
       right = λ z. right (a .«record») (a .earliest .now) (a .latest .now) (length (a .posts .now)) (length (a .atoms .now)) (passed at) (long s) (long₁ s) (long₂ s);
+      passes = λ z. passing (a .«record») (a .earliest .now) (a .latest .now) (length (a .posts .now)) (length (a .atoms .now)) (passed at) (long s) (long₁ s) (long₂ s);
+      handed = λ z. handed (a .«record») (a .earliest .now) (a .latest .now) (a .posts .now) (a .atoms .now) (c .before .before .before .accepted .ensures);
     }
 
 pub propagate-spec : {M : Type 1} → statement M
