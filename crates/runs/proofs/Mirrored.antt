@@ -308,7 +308,7 @@ module _ (ds : List ℕ) where
   atom-words-length xs = omega (arith, atoms-length xs, atoms-length (mirrorAtoms (durationIn ds) xs), length-map xs (mirrorAtom (durationIn ds)))
 
   -- the atoms of a mirrored trace
-  reasons-mirrored : (ps : List Post) → reasons (map (mirrorPost ds) ps) ≡ mirrorAtoms (durationIn ds) (reasons ps)
+  pub reasons-mirrored : (ps : List Post) → reasons (map (mirrorPost ds) ps) ≡ mirrorAtoms (durationIn ds) (reasons ps)
   unfolding reasons
   reasons-mirrored [] = refl
   reasons-mirrored (p ∷ ps) = ap (λ (l : List Atom). mirrorAtoms (durationIn ds) (p .reason) ++ l) (reasons-mirrored ps) ∙ sym (map-append (mirrorAtom (durationIn ds)) (p .reason) (reasons ps))
