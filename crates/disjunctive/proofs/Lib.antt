@@ -1,3 +1,4 @@
 pub mod Starts
+pub mod Latests
 pub mod Rows
 pub mod Counting

@@ -38,7 +38,7 @@ pub taken-none : (n : ℕ) → TASKS < n → taken n ≡ 0
 unfolding taken
 taken-none n h = simp (lt-leb n TASKS h)
 
-fits-or-not : (n : ℕ) → (n ≤ TASKS) ⊎ (TASKS < n)
+pub fits-or-not : (n : ℕ) → (n ≤ TASKS) ⊎ (TASKS < n)
 fits-or-not n = ⊎-elim (λ y. inl (leb-true n TASKS y)) (λ y. inr (leb-false n TASKS y)) (bool (leb n TASKS))
 
 pub taken-fits : (n : ℕ) → (taken n ≤ TASKS) × (taken n ≤ n)

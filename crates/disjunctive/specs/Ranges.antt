@@ -8,11 +8,13 @@ use lib.IntN.{ℤ, pos}
 use lib.ListN.{length, take, drop, replicate}
 use Rattle.integers.specs.Limits.{TASKS}
 use Rattle.propagator.specs.Ran.{Ran}
+use Rattle.mirrored.specs.RanMirrored.{RanMirrored}
 use Rattle.records.specs.declared.record.Propagator.{Propagator}
 use Rattle.propagator.specs.declared.disjunctive_propagator.Outcome.{Outcome}
 use Rattle.disjunctive.specs.declared.ranges.Range.{Range}
 use Rattle.disjunctive.specs.declared.ranges.Starts.{Starts}
 use Rattle.disjunctive.specs.declared.ranges.CoreRun.{CoreRun}
+use Rattle.disjunctive.specs.declared.ranges.CoreMirrored.{CoreMirrored}
 
 -- the earliest starts of the ranges, and the latest
 abbrev pub earliests : List Range → List ℤ
@@ -26,7 +28,12 @@ pub record RanLent (before : Propagator) (ranges : List Range) (posts atoms : Li
   pub ran : Ran before (earliests ranges) (latests ranges) posts atoms (record { «record» = after; outcome = outcome }) (earliests ranges′) posts′ atoms′
   pub same-latest : latests ranges′ ≡ latests ranges
 
--- ---- the functions that it is made of
+-- what the open mirrored pass leaves: of the ranges' latest starts, the posts and the atoms what a mirrored pass leaves; each range keeps its earliest start
+pub record RanMirroredLent (before : Propagator) (ranges : List Range) (posts atoms : List ℤ) (outcome : Outcome) (ranges′ : List Range) (posts′ atoms′ : List ℤ) : Type 0 where
+  pub ran : RanMirrored before (earliests ranges) (latests ranges) posts atoms outcome (latests ranges′) posts′ atoms′
+  pub same-earliest : earliests ranges′ ≡ earliests ranges
+
+-- ---- the functions that they are made of
 -- how many of n ranges are taken apart: all of them, and none where there are more than any record has tasks
 unfoldable pub taken : ℕ → ℕ
 taken n = cond (leb n TASKS) n 0
@@ -50,3 +57,15 @@ unfoldable pub withStarts : List Range → List ℤ → List Range
 withStarts [] es = []
 withStarts (y ∷ ys) [] = y ∷ ys
 withStarts (y ∷ ys) (e ∷ es) = record { earliest = e; latest = y .latest } ∷ withStarts ys es
+
+-- what a mirrored pass on ranges that are taken apart leaves
+pub record RanMirroredCore (before : Propagator) (starts : Starts) (posts atoms : List ℤ) (r : CoreMirrored) (posts′ atoms′ : List ℤ) : Type 0 where
+  pub ran : RanMirrored before (take (starts .count) (starts .earliest)) (take (starts .count) (starts .latest)) posts atoms (r .outcome) (take (starts .count) (r .starts .latest)) posts′ atoms′
+  pub same-count : r .starts .count ≡ starts .count
+  pub whole : length (r .starts .latest) ≡ TASKS
+
+-- the ranges with the latest starts ls, from the first on; a range for which there is none is as it was
+unfoldable pub withLatest : List Range → List ℤ → List Range
+withLatest [] ls = []
+withLatest (y ∷ ys) [] = y ∷ ys
+withLatest (y ∷ ys) (l ∷ ls) = record { earliest = y .earliest; latest = l } ∷ withLatest ys ls

@@ -1,7 +1,9 @@
-// The open calls on lent data: the record is lent, and a slice of ranges, one for each task. A run changes both, the overload test and the page neither.
+// The open calls on lent data: a record, and a slice of ranges, one for each task. A run changes both, the mirrored pass the ranges, the overload test and the
+// page neither.
 // The core takes the record by value and the starts as slices of numbers; here the ranges are taken apart for it, and what it leaves is stored back.
 use counter::overload_test::Overload;
 use integers::limits::TASKS;
+use mirrored::mirrored_propagator::propagate_mirrored;
 use pages::answer::Page;
 use propagator::disjunctive_propagator::Outcome;
 use propagator::disjunctive_propagator::propagate;
@@ -12,7 +14,7 @@ ghost use lib.ListN.{length, take};
 ghost use Rattle.integers.specs.Limits.{TASKS};
 ghost use Rattle.counter.specs.Tested.{OverloadTested};
 ghost use Rattle.pages.specs.Pages.{Paged};
-ghost use Rattle.disjunctive.specs.Ranges.{earliests, latests, RanLent, RanCore, taken, startsOf, withStarts};
+ghost use Rattle.disjunctive.specs.Ranges.{earliests, latests, RanLent, RanMirroredLent, RanCore, RanMirroredCore, taken, startsOf, withStarts, withLatest};
 
 // A task may start from `earliest` to `latest`.
 #[repr(C)]
@@ -31,6 +33,12 @@ pub struct Starts {
 // What a run on ranges that are taken apart returns.
 pub struct CoreRun {
     pub record: Propagator,
+    pub outcome: Outcome,
+    pub starts: Starts,
+}
+
+// What a mirrored pass on ranges that are taken apart returns.
+pub struct CoreMirrored {
     pub outcome: Outcome,
     pub starts: Starts,
 }
@@ -115,6 +123,59 @@ pub fn run(
     let ran = run_core(*propagator, starts, posts, atoms);
     store_starts(ranges, ran.starts);
     *propagator = ran.record;
+    ran.outcome
+}
+
+// The latest starts, put back into the ranges that they were taken from.
+fn store_latest(ranges: &mut [Range], starts: Starts)
+    requires { ⌜ (starts .count ≤ TASKS) × (starts .count ≤ length (now ranges)) ⌝ }
+    ensures { λ _. ⌜ now (ranges .exit) ≡ withLatest (now (ranges .entry)) (take (starts .count) (starts .latest)) ⌝ }
+{
+    let count = starts.count;
+    let latest = starts.latest;
+    let mut i = 0;
+    while i < count {
+        ranges[i].latest = latest[i];
+        i += 1;
+    }
+}
+
+// The mirrored pass on the first `count` places of the arrays.
+fn mirrored_core(
+    record: Propagator,
+    starts: Starts,
+    posts: &mut [i32],
+    atoms: &mut [i32],
+) -> CoreMirrored
+    requires { ⌜ starts .count ≤ TASKS ⌝ }
+    ensures { λ r. ⌜ RanMirroredCore «record» starts (now (posts .entry)) (now (atoms .entry)) r (now (posts .exit)) (now (atoms .exit)) ⌝ }
+{
+    let n = starts.count;
+    let earliest = starts.earliest;
+    let mut latest = starts.latest;
+    let outcome = propagate_mirrored(record, &earliest[..n], &mut latest[..n], posts, atoms);
+    CoreMirrored {
+        outcome,
+        starts: Starts {
+            count: n,
+            earliest,
+            latest,
+        },
+    }
+}
+
+// Latest starts fall in the ranges; no earliest start changes. The record is read only.
+pub fn run_mirrored(
+    propagator: Propagator,
+    ranges: &mut [Range],
+    posts: &mut [i32],
+    atoms: &mut [i32],
+) -> Outcome
+    ensures { λ r. ⌜ RanMirroredLent propagator (now (ranges .entry)) (now (posts .entry)) (now (atoms .entry)) r (now (ranges .exit)) (now (posts .exit)) (now (atoms .exit)) ⌝ }
+{
+    let starts = starts_of(ranges);
+    let ran = mirrored_core(propagator, starts, posts, atoms);
+    store_latest(ranges, ran.starts);
     ran.outcome
 }
 

@@ -15,7 +15,7 @@ use Rattle.text.specs.Writing.{natural, decimal, Puts}
 use Rattle.text.proofs.Putting.{puts-append, puts-length}
 use Rattle.scheduling.specs.Scheduling.{Atom}
 use Rattle.scheduling.specs.Words.{atomWords}
-use Rattle.scheduling.proofs.Words.{atoms-length, no-atom, three-words}
+use Rattle.scheduling.proofs.Words.{atoms-length, no-atom, three-alone}
 use Rattle.plan_cli.specs.Printed.{Written}
 use Rattle.plan_cli.specs.Lines.{newline, space, postWord, whyWord, refusedWord, sign, postLine, whyLine, lines, whyOf, whyLines, refusedLine}
 
@@ -102,7 +102,7 @@ pub puts-why-next : {o₀ o₁ o₂ : List ℕ} {a₀ a₁ a₂ : ℕ} {x y z : 
 puts-why-next words k h e f g q p atoms w =
     let l = atoms-length atoms in
     let m = ap length w in
-    let t = three-words atoms k (omega arith) in
+    let t = three-alone atoms k (omega arith) in
     let same : (j : ℕ) → getD words j (pos 0) ≡ getD (atomWords atoms) j (pos 0) = λ j. ap (λ (ws : List ℤ). getD ws j (pos 0)) w in
     puts-next whyOf no-atom atoms k (omega arith) (p atoms w)
     (puts-as (λ i. whyLine ((e ∙ same (3 * k) ∙ t .variable) i) ((f ∙ same (3 * k + 1) ∙ t .kind) i) ((g ∙ same (3 * k + 2) ∙ t .value) i)) q)

@@ -1,4 +1,4 @@
--- What an accepted run brings to edge finding: the tasks' moments in arrays, both orders sorted, the tree of all tasks.
+-- What a run that is accepted, or that the core may run, brings to edge finding: the tasks' moments in arrays, both orders sorted, the tree of all tasks.
 -- Assumes nothing.
 use mathlib.Core.Path.{_≡_, refl, sym, ap, ap₂, subst, _∙_}
 use mathlib.Core.Bool.{Bool, true, false}
@@ -15,8 +15,8 @@ use Rattle.integers.specs.Filling.{filled}
 use Rattle.integers.specs.Moments.{moment, instant, zeroAt, Above}
 use Rattle.integers.specs.Orders.{sort, index, has, Permutes}
 use Rattle.integers.proofs.Filling.{filled-length, filled-at}
-use Rattle.integers.proofs.Ints.{up, dn}
-use Rattle.integers.proofs.Moments.{mono, above-up, above-show, instant-moment}
+use Rattle.integers.proofs.Ints.{up, dn, ints}
+use Rattle.integers.proofs.Moments.{mono, above-up, above-show, more-above, instant-moment}
 use Rattle.integers.proofs.Sorting.{sort-ext}
 use Rattle.scheduling.specs.Scheduling.{whole, natural, Tasks, tasksOf, Proper, total, processing, completion}
 use Rattle.scheduling.proofs.Processing.{processing-less, processing-all}
@@ -52,12 +52,12 @@ use Rattle.propagator.specs.Holding.{Ordered, Holds, Arrays, At}
 use Rattle.propagator.specs.declared.disjunctive_propagator.Outcome.{Outcome}
 use Rattle.propagator.specs.Filling.{Fillable}
 use Rattle.propagator.specs.Finding.{allWhite, outcomeOf, Begun, Ended}
-use Rattle.propagator.specs.Ran.{traceOf, Left}
+use Rattle.propagator.specs.Ran.{Runnable, traceOf, Left}
 
 zeros-long : length noTasks ≡ TASKS
 zeros-long = length-replicate {A = ℕ} 48 0
 
-module _ (r : Propagator) (es ls : List ℤ) (posts atoms : ℕ) (a : Accepted r es ls posts atoms) (long : length (r .durations) ≡ TASKS) (long₁ : length (r .first) ≡ TASKS) (long₂ : length (r .second) ≡ TASKS) where
+module _ (r : Propagator) (es ls : List ℤ) (posts atoms : ℕ) (a : Runnable r es ls posts atoms) (long : length (r .durations) ≡ TASKS) (long₁ : length (r .first) ≡ TASKS) (long₂ : length (r .second) ≡ TASKS) where
   abbrev n : ℕ
   n = r .count
 
@@ -83,14 +83,14 @@ module _ (r : Propagator) (es ls : List ℤ) (posts atoms : ℕ) (a : Accepted r
   sum-is = ap (total (λ k. getD ds k 0)) count ∙ total-ext (λ k. getD ds k 0) (λ k. getD (r .durations) k 0) n lasts-at
 
   -- the same input, as the run's definition accepts it
-  pub accepted : demand.Accepted ds es ls (take n (r .first)) (take n (r .second))
+  pub accepted : demand.Accepted 400000000 ds es ls (take n (r .first)) (take n (r .second))
   accepted = record {
     some = omega (arith, count, a .lawful .some);
     few = omega (arith, count, few);
     lasts = λ k q. omega (arith, lasts-at k (omega (arith, count)), a .lawful .lasts k (omega (arith, count)));
     sum = omega (arith, sum-is, a .lawful .sum);
-    from = λ k q. a .starts .earliest k (omega (arith, count, a .counts .earliest)) .low;
-    to = λ k q. a .starts .latest k (omega (arith, count, a .counts .latest)) .high;
+    from = λ k q. a .from k (omega (arith, count));
+    to = λ k q. a .to k (omega (arith, count));
     ranges = λ k q. a .ranges k (omega (arith, count, a .counts .earliest));
     first-permutes = subst (λ (m : ℕ). Permutes m (take n (r .first))) (sym count) (a .lawful .first);
     second-permutes = subst (λ (m : ℕ). Permutes m (take n (r .second))) (sym count) (a .lawful .second);
@@ -139,19 +139,19 @@ module _ (r : Propagator) (es ls : List ℤ) (posts atoms : ℕ) (a : Accepted r
   holds-order l m z size = record { size = size; at = λ k q. sym (getD-take n l k 0 q) ∙ ap (λ (o : List ℕ). getD o k 0) z }
 
   -- the moments are in the limits
-  deep : Above zeroAt (negsuc 199999999)
+  deep : Above zeroAt (negsuc 399999999)
   unfolding up dn
-  deep = above-show zeroAt (negsuc 199999999) (omega arith)
+  deep = above-show zeroAt (negsuc 399999999) (omega arith)
 
   above : (k : ℕ) → k < length ds → Above zeroAt (getD es k (pos 0))
-  above k q = above-up zeroAt (negsuc 199999999) (getD es k (pos 0)) (accepted .from k q) deep
+  above k q = above-up zeroAt (negsuc 399999999) (getD es k (pos 0)) (accepted .from k q) deep
 
-  early : (k : ℕ) → k < length ds → (1947483648 ≤ J .earliest k) × (J .earliest k ≤ J .latest k) × (J .latest k ≤ 2347483648)
+  early : (k : ℕ) → k < length ds → (1747483648 ≤ J .earliest k) × (J .earliest k ≤ J .latest k) × (J .latest k ≤ 2547483648)
   unfolding up dn
   early k q = (
-    omega (arith, mono zeroAt (negsuc 199999999) (getD es k (pos 0)) (accepted .from k q)),
+    omega (arith, mono zeroAt (negsuc 399999999) (getD es k (pos 0)) (accepted .from k q)),
     mono zeroAt (getD es k (pos 0)) (getD ls k (pos 0)) (accepted .ranges k q),
-    omega (arith, mono zeroAt (getD ls k (pos 0)) (pos 200000000) (accepted .to k q)),
+    omega (arith, mono zeroAt (getD ls k (pos 0)) (pos 400000000) (accepted .to k q)),
   )
 
   short : processing J (λ _. true) ≤ 200000000
@@ -305,4 +305,39 @@ module _ (r : Propagator) (es ls : List ℤ) (posts atoms : ℕ) (a : Accepted r
       }
 
   pub right : Right (tasksIn r es ls) (traceOf r es ls)
-  right = demand.demand-3 ds es ls (take n (r .first)) (take n (r .second)) accepted
+  right = demand.demand-3 400000000 (omega arith) ds es ls (take n (r .first)) (take n (r .second)) accepted
+
+wider : (z : ℤ) → z ≤ℤ pos 200000000 → z ≤ℤ pos 400000000
+unfolding up dn
+wider z h = omega ints
+
+-- What an accepted run may take for given,
+module _ (r : Propagator) (es ls : List ℤ) (posts atoms : ℕ) (a : Accepted r es ls posts atoms) where
+  -- which is more than the core does,
+  pub runnable : Runnable r es ls posts atoms
+  runnable = record {
+    lawful = a .lawful;
+    counts = a .counts;
+    from = λ k q. more-above 200000000 400000000 (omega arith) (getD es k (pos 0)) (a .starts .earliest k (omega (arith, a .counts .earliest)) .low);
+    to = λ k q. wider (getD ls k (pos 0)) (a .starts .latest k (omega (arith, a .counts .latest)) .high);
+    ranges = a .ranges;
+    words = a .words;
+  }
+
+  -- as the run's definition has it.
+  pub narrow : length (r .durations) ≡ TASKS → length (r .first) ≡ TASKS → length (r .second) ≡ TASKS
+      → demand.Accepted 200000000 (take (r .count) (r .durations)) es ls (take (r .count) (r .first)) (take (r .count) (r .second))
+  narrow long long₁ long₂ =
+      let b = accepted r es ls posts atoms runnable long long₁ long₂ in
+      let c = count r es ls posts atoms runnable long long₁ long₂ in
+      record {
+        some = b .some;
+        few = b .few;
+        lasts = b .lasts;
+        sum = b .sum;
+        from = λ k q. a .starts .earliest k (omega (arith, c, a .counts .earliest)) .low;
+        to = λ k q. a .starts .latest k (omega (arith, c, a .counts .latest)) .high;
+        ranges = b .ranges;
+        first-permutes = b .first-permutes;
+        second-permutes = b .second-permutes;
+      }

@@ -25,7 +25,7 @@ turned-back before es ls posts atoms r es′ posts′ atoms′ not k = record { 
 
 module _ (before : Propagator) (es ls : List ℤ) (posts atoms : ℕ) (h : 48 < length es) where
   -- both are turned back by one number, 20 or 10
-  one-number : (m : ℕ) × (runNumber before [] [] posts atoms ≡ m) × (runNumber before es ls posts atoms ≡ m) × (m ≡ 0 → ⊥)
+  pub one-number : (m : ℕ) × (runNumber before [] [] posts atoms ≡ m) × (runNumber before es ls posts atoms ≡ m) × (m ≡ 0 → ⊥)
   one-number = elim (bool (lawfulRecord before)) [
     | inl y ↦ (let w = lawful-is before .0 y in
         (10, refused-10 before [] [] posts atoms .1 (w, λ c. omega (arith, c .earliest, w .some)), refused-10 before es ls posts atoms .1 (w, λ c. omega (arith, h, c .earliest, w .few)), λ z. omega arith))

@@ -4,6 +4,8 @@ use mathlib.Core.List.{List, [], _∷_, _++_, map}
 use Prim.Native.Nat.{ℕ, _+_, _*_, _≤_, _<_}
 use lib.IntN.{ℤ, pos}
 use lib.ListN.{length, getD, take, drop}
+use lib.Signed.{_≤ℤ_}
+use Rattle.integers.specs.Moments.{Above}
 use Rattle.scheduling.specs.Scheduling.{Atom}
 use Rattle.runs.specs.Traces.{Post, Trace, overload}
 use Rattle.runs.specs.Runs.{propagate, byEarliest, byCompletion}
@@ -13,14 +15,23 @@ use Rattle.runs.specs.Demand.{Right, consequentOf, post}
 use Rattle.records.specs.declared.record.Propagator.{Propagator}
 use Rattle.records.specs.Orders.{sortedOrder}
 use Rattle.records.specs.Posts.{postNumber, reasonWords}
-use Rattle.records.specs.Records.{tasksIn, momentsIn}
-use Rattle.records.specs.Refusals.{runNumber}
+use Rattle.records.specs.Records.{tasksIn, momentsIn, Lawful}
+use Rattle.records.specs.Refusals.{CountsFit, RangesFit, WordsFit, runNumber}
 use Rattle.checker.specs.declared.checker.Verdict.the-variants.{Passed}
 use Rattle.checker.specs.Checks.{checkOf}
 use Rattle.propagator.specs.declared.disjunctive_propagator.Outcome.{Outcome}
 use Rattle.propagator.specs.declared.disjunctive_propagator.Outcome.the-variants as outcome
 use Rattle.propagator.specs.declared.disjunctive_propagator.Run.{Run}
 use Rattle.propagator.specs.Finding.{outcomeOf}
+
+-- What the core of a run takes for given: what an accepted run does, but that starts may lie twice as far out. So it serves starts in mirrored time too.
+pub record Runnable (before : Propagator) (es ls : List ℤ) (postCount atomCount : ℕ) : Type 0 where
+  pub lawful : Lawful before
+  pub counts : CountsFit (before .count) es ls
+  pub from : (k : ℕ) → k < before .count → Above 400000000 (getD es k (pos 0))
+  pub to : (k : ℕ) → k < before .count → getD ls k (pos 0) ≤ℤ pos 400000000
+  pub ranges : RangesFit es ls
+  pub words : WordsFit (before .count) postCount atomCount
 
 -- the record's durations, as a check takes them
 abbrev pub checkDurations : Propagator → List ℤ

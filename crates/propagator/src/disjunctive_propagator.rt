@@ -30,8 +30,7 @@ ghost use Rattle.scheduling.specs.Words.{atomWords};
 ghost use Rattle.explanations.specs.Explanations.{starting, Preceded, Overloaded};
 ghost use Rattle.propagator.specs.Filling.{Fillable, Filled};
 ghost use Rattle.propagator.specs.Finding.{Conflicted, conflictIn, Begun, Ended};
-ghost use Rattle.records.specs.Refusals.{Accepted};
-ghost use Rattle.propagator.specs.Ran.{Left, Ran};
+ghost use Rattle.propagator.specs.Ran.{Runnable, Left, Ran};
 ghost use Rattle.propagator.specs.Moving.{Movable, Moved};
 ghost use Rattle.propagator.specs.Turns.{thetaIn, sumIn, candidateIn, Posted, Standing, Considered, AllConsidered, Responsible-for};
 
@@ -370,15 +369,15 @@ fn fill<'a>(
     ThetaLambdaTree::rebuild(nodes, inner);
 }
 
-// A run on a record and ranges that no test turns back.
-fn accepted(
+// The core of a run, for this pass and the mirrored one. It is public for the crate of the other pass, and not an open call: it tests nothing.
+pub fn run_accepted(
     record: Propagator,
     earliest: &mut [i32],
     latest: &[i32],
     posts: &mut [i32],
     atoms: &mut [i32],
 ) -> Run
-    requires { ⌜ Accepted «record» (now earliest) (now latest) (length (now posts)) (length (now atoms)) ⌝ }
+    requires { ⌜ Runnable «record» (now earliest) (now latest) (length (now posts)) (length (now atoms)) ⌝ }
     ensures { λ r. ⌜ Left «record» (now (earliest .entry)) (now (latest .entry)) (now (posts .entry)) (now (atoms .entry)) r (now (earliest .exit)) (now (posts .exit)) (now (atoms .exit)) ⌝ }
 {
     let n = record.count;
@@ -444,5 +443,5 @@ pub fn propagate(
             outcome: Outcome::Refused(number),
         };
     }
-    accepted(record, earliest, latest, posts, atoms)
+    run_accepted(record, earliest, latest, posts, atoms)
 }

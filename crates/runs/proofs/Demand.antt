@@ -6,15 +6,15 @@ use mathlib.Core.Logic.{_⊎_, inl, inr, _↔_}
 use mathlib.Core.List.{List, [], _∷_}
 use Prim.Native.Nat.{ℕ, zero, suc, _+_, _-_, _≤_, _<_}
 use native.Mathlib.Omega.{arith}
-use lib.IntN.{ℤ, pos, negsuc}
+use lib.IntN.{ℤ, pos}
 use lib.Signed.{_≤ℤ_, _<ℤ_, clashℤ}
 use lib.ListN.{length, getD}
 use lib.Dec.{leb}
 use borrow.Author.Tests.{leb-true}
 use Rattle.integers.specs.Moments.{moment, Above, zeroAt}
 use Rattle.integers.specs.Orders.{sort, index, Permutes}
-use Rattle.integers.proofs.Ints.{up, dn, ints}
-use Rattle.integers.proofs.Moments.{mono, above-up, above-show}
+use Rattle.integers.proofs.Ints.{ints}
+use Rattle.integers.proofs.Moments.{above-up, more-above, at-moment}
 use Rattle.integers.proofs.Permutations.{Ordered}
 use Rattle.integers.proofs.Sorting.{sort-ordered, key-whole, key-chain}
 use Rattle.scheduling.specs.Scheduling.{whole, natural, Tasks, tasksOf, Proper, TaskSet, total, In, processing, completion, EdgeFindingBound, Overloads, Schedule, Done, Conflict}
@@ -29,14 +29,15 @@ use Rattle.runs.specs.Demand.{Right, PostRight, OverloadRight, post}
 use Rattle.runs.proofs.Steps.{OutOk, run-ok}
 use Rattle.runs.proofs.Good.{all-right}
 
--- What no number turns back: between 1 and 48 tasks, durations of 1 or more with a sum of at most 200,000,000, starts within ±200,000,000, each earliest at most its latest, two permutations.
-pub record Accepted (ds : List ℕ) (es ls : List ℤ) (first second : List ℕ) : Type 0 where
+-- What no number turns back: between 1 and 48 tasks, durations of 1 or more with a sum of at most 200,000,000, starts within ±limit, each earliest at most its latest, two permutations.
+-- The caller's limit is 200,000,000; mirrored, such starts are within 400,000,000.
+pub record Accepted (limit : ℕ) (ds : List ℕ) (es ls : List ℤ) (first second : List ℕ) : Type 0 where
   pub some : 1 ≤ length ds
   pub few : length ds ≤ 48
   pub lasts : (k : ℕ) → k < length ds → 1 ≤ getD ds k 0
   pub sum : total (λ k. getD ds k 0) (length ds) ≤ 200000000
-  pub from : (k : ℕ) → k < length ds → negsuc 199999999 ≤ℤ getD es k (pos 0)
-  pub to : (k : ℕ) → k < length ds → getD ls k (pos 0) ≤ℤ pos 200000000
+  pub from : (k : ℕ) → k < length ds → Above limit (getD es k (pos 0))
+  pub to : (k : ℕ) → k < length ds → getD ls k (pos 0) ≤ℤ pos limit
   pub ranges : (k : ℕ) → k < length ds → getD es k (pos 0) ≤ℤ getD ls k (pos 0)
   pub first-permutes : Permutes (length ds) first
   pub second-permutes : Permutes (length ds) second
@@ -95,25 +96,20 @@ by-completion J l p =
     = sort-ordered (byCompletion J) (λ a b. key-whole (completion J) b a) (λ a b c h k. key-chain (completion J) c b a k h) (J .count) l p in
     record { task = r .task; placed = r .placed; there = r .there; back = r .back; sorted = λ s t q h. leb-true _ _ (r .sorted s t q h) }
 
-pub demand-3 : (ds : List ℕ) (es ls : List ℤ) (first second : List ℕ) → Accepted ds es ls first second → Right (tasksOf ds es ls) (propagate ds es ls first second)
-unfolding propagate up dn
-demand-3 ds es ls first second a =
-    run-right zeroAt Z okz deepz (a .some) room (sort (byEarliest J) first) (sort (byCompletion J) second) (by-earliest J first (a .first-permutes)) (by-completion J second (a .second-permutes))
+-- within a limit that leaves room before the least moment for all durations
+pub demand-3 : (limit : ℕ) → limit ≤ 400000000 → (ds : List ℕ) (es ls : List ℤ) (first second : List ℕ) → Accepted limit ds es ls first second → Right (tasksOf ds es ls) (propagate ds es ls first second)
+unfolding propagate
+demand-3 limit near ds es ls first second a =
+    run-right zeroAt (tasksOf ds es ls) okz deepz (a .some) room (sort (byEarliest J) first) (sort (byCompletion J) second) (by-earliest J first (a .first-permutes)) (by-completion J second (a .second-permutes))
   where
-    Z : Tasks whole
-    Z = tasksOf ds es ls
-
     J : Tasks natural
     J = moments zeroAt (tasksOf ds es ls)
 
     okz : Proper (tasksOf ds es ls)
     okz = record { ranges = a .ranges; lasts = a .lasts }
 
-    deep : Above zeroAt (negsuc 199999999)
-    deep = above-show zeroAt (negsuc 199999999) (omega arith)
-
     deepz : (k : ℕ) → k < length ds → Above zeroAt (getD es k (pos 0))
-    deepz k q = above-up zeroAt (negsuc 199999999) (getD es k (pos 0)) (a .from k q) deep
+    deepz k q = more-above limit zeroAt (omega arith) (getD es k (pos 0)) (a .from k q)
 
     room : (k : ℕ) → k < length ds → processing (moments zeroAt (tasksOf ds es ls)) (λ _. true) ≤ moment zeroAt (getD es k (pos 0))
-    room k q = omega (arith, processing-all (moments zeroAt (tasksOf ds es ls)), a .sum, mono zeroAt (negsuc 199999999) (getD es k (pos 0)) (a .from k q))
+    room k q = omega (arith, processing-all (moments zeroAt (tasksOf ds es ls)), a .sum, at-moment limit (getD es k (pos 0)) (a .from k q), at-moment zeroAt (getD es k (pos 0)) (deepz k q))

@@ -12,3 +12,5 @@ pub mod Room
 pub mod Few
 pub mod Stops
 pub mod Shapes
+pub mod Starts
+pub mod Mirrored

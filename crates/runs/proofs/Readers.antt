@@ -54,6 +54,14 @@ bounded [] j h = absurd (omega arith)
 bounded (p ∷ ps) zero h = omega (arith, length-append (p .reason) (reasons ps))
 bounded (p ∷ ps) (suc j) h = omega (arith, length-append (p .reason) (reasons ps), bounded ps j (omega arith))
 
+-- the last post's stretch ends where the atoms do
+pub last-ends : (ps : List Post) (j : ℕ) → length ps ≡ suc j → startOf ps j + length (getD ps j no-post .reason) ≡ length (reasons ps)
+unfolding reasons startOf
+last-ends [] j h = absurd (omega arith)
+last-ends (p ∷ []) zero h = omega (arith, length-append (p .reason) (reasons []))
+last-ends (p ∷ q ∷ ps) zero h = absurd (omega arith)
+last-ends (p ∷ ps) (suc j) h = omega (arith, length-append (p .reason) (reasons ps), last-ends ps j (omega arith))
+
 -- r atoms from the f-th on, of those written at the front of a slice
 stretch-words : (entry : List ℤ) (all : List Atom) (f r : ℕ) → f + r ≤ length all → take (3 * r) (drop (3 * f) (overwritten entry (atomWords all))) ≡ atomWords (take r (drop f all))
 stretch-words entry all f r h =

@@ -7,14 +7,13 @@ use mathlib.Core.Logic.{inl, inr}
 use Prim.Native.Nat.{ℕ, _+_, _-_, _*_, _/_, _≤_, _<_, min}
 use native.Mathlib.Omega.{arith}
 use lib.Dec.{eqb, leb, ltb}
-use lib.IntN.{ℤ, pos, negsuc}
+use lib.IntN.{ℤ, pos}
 use lib.ListN.{length, getD}
 use borrow.Author.Tests.{eqb-true}
 use Rattle.integers.specs.Moments.{moment, Above, instant, zeroAt}
 use Rattle.integers.specs.Orders.{index, has, sort}
 use Rattle.integers.proofs.Bools.{bool}
-use Rattle.integers.proofs.Ints.{up, dn}
-use Rattle.integers.proofs.Moments.{mono, above-up, above-show}
+use Rattle.integers.proofs.Moments.{mono, more-above, at-moment}
 use Rattle.integers.proofs.Permutations.{has-here, has-later}
 use Rattle.scheduling.specs.Scheduling.{natural, Tasks, tasksOf, Proper, TaskSet, completion, processing, Atom, Every}
 use Rattle.scheduling.proofs.Levels.{ByCompletion}
@@ -180,44 +179,49 @@ module _ (o : ℕ) (J : Tasks natural) (ok : Proper J) (low high d : ℕ) (early
       };
     }
 
--- Of an accepted run: its starts lie within ±200,000,000, and the durations sum to at most that.
-module _ (ds : List ℕ) (es ls : List ℤ) (first second : List ℕ) (a : Accepted ds es ls first second) where
+-- Of an accepted run: its starts lie within ±limit, and the durations sum to at most 200,000,000.
+module _ (limit : ℕ) (near : limit ≤ 400000000) (ds : List ℕ) (es ls : List ℤ) (first second : List ℕ) (a : Accepted limit ds es ls first second) where
   abbrev tr : Trace
   tr = propagate ds es ls first second
 
   abbrev J : Tasks natural
   J = moments zeroAt (tasksOf ds es ls)
 
-  deep : Above zeroAt (negsuc 199999999)
-  unfolding up dn
-  deep = above-show zeroAt (negsuc 199999999) (omega arith)
+  abbrev least : ℕ
+  least = zeroAt - limit
+
+  abbrev greatest : ℕ
+  greatest = zeroAt + limit
+
+  deep : (k : ℕ) → k < length ds → Above zeroAt (getD es k (pos 0))
+  deep k q = more-above limit zeroAt (omega arith) (getD es k (pos 0)) (a .from k q)
 
   proper : Proper J
-  proper = sound zeroAt (tasksOf ds es ls) (record { ranges = a .ranges; lasts = a .lasts }) (λ k q. above-up zeroAt (negsuc 199999999) (getD es k (pos 0)) (a .from k q) deep)
+  proper = sound zeroAt (tasksOf ds es ls) (record { ranges = a .ranges; lasts = a .lasts }) deep
 
-  from : (k : ℕ) → k < length ds → 1947483648 ≤ moment zeroAt (getD es k (pos 0))
-  from k q = mono zeroAt (negsuc 199999999) (getD es k (pos 0)) (a .from k q)
+  from : (k : ℕ) → k < length ds → least ≤ moment zeroAt (getD es k (pos 0))
+  from k q = omega (arith, at-moment limit (getD es k (pos 0)) (a .from k q), at-moment zeroAt (getD es k (pos 0)) (deep k q))
 
-  to : (k : ℕ) → k < length ds → moment zeroAt (getD ls k (pos 0)) ≤ 2347483648
-  to k q = mono zeroAt (getD ls k (pos 0)) (pos 200000000) (a .to k q)
+  to : (k : ℕ) → k < length ds → moment zeroAt (getD ls k (pos 0)) ≤ greatest
+  to k q = mono zeroAt (getD ls k (pos 0)) (pos limit) (a .to k q)
 
   short : processing J (λ _. true) ≤ 200000000
   short = omega (arith, processing-all J, a .sum)
 
   abbrev Post′ : Post → Type 0
-  Post′ = ShapedPost zeroAt (length ds) 1947483648 2347483648 200000000
+  Post′ = ShapedPost zeroAt (length ds) least greatest 200000000
 
   abbrev End′ : List Atom → Type 0
-  End′ = ShapedEnd zeroAt (length ds) 1947483648 2347483648 200000000
+  End′ = ShapedEnd zeroAt (length ds) least greatest 200000000
 
   out : OutOk zeroAt J proper (sort (byEarliest J) first) (sort (byCompletion J) second) (by-earliest J first (a .first-permutes)) (by-completion J second (a .second-permutes)) Post′ End′
-      (shaped zeroAt J proper 1947483648 2347483648 200000000 from to short (sort (byEarliest J) first) (sort (byCompletion J) second) (by-earliest J first (a .first-permutes)) (by-completion J second (a .second-permutes))) tr
+      (shaped zeroAt J proper least greatest 200000000 from to short (sort (byEarliest J) first) (sort (byCompletion J) second) (by-earliest J first (a .first-permutes)) (by-completion J second (a .second-permutes))) tr
   unfolding propagate
   out = run-ok zeroAt J proper (sort (byEarliest J) first) (sort (byCompletion J) second) (by-earliest J first (a .first-permutes)) (by-completion J second (a .second-permutes)) Post′ End′
-      (shaped zeroAt J proper 1947483648 2347483648 200000000 from to short (sort (byEarliest J) first) (sort (byCompletion J) second) (by-earliest J first (a .first-permutes)) (by-completion J second (a .second-permutes))) (a .some)
+      (shaped zeroAt J proper least greatest 200000000 from to short (sort (byEarliest J) first) (sort (byCompletion J) second) (by-earliest J first (a .first-permutes)) (by-completion J second (a .second-permutes))) (a .some)
 
-  pub post-shaped : (j : ℕ) → j < length (tr .posts) → ShapedPost zeroAt (length ds) 1947483648 2347483648 200000000 (post tr j)
+  pub post-shaped : (j : ℕ) → j < length (tr .posts) → ShapedPost zeroAt (length ds) (zeroAt - limit) (zeroAt + limit) 200000000 (post tr j)
   post-shaped = out .goods
 
-  pub overload-shaped : (reason : List Atom) → tr .end ≡ overload reason → ShapedEnd zeroAt (length ds) 1947483648 2347483648 200000000 reason
+  pub overload-shaped : (reason : List Atom) → tr .end ≡ overload reason → ShapedEnd zeroAt (length ds) (zeroAt - limit) (zeroAt + limit) 200000000 reason
   overload-shaped = out .over

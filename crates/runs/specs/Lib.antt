@@ -2,4 +2,5 @@ pub mod Traces
 pub mod Words
 pub mod Runs
 pub mod Demand
+pub mod Mirrored
 pub mod Instances

@@ -20,3 +20,4 @@ pub mod Negation
 pub mod Checks
 pub mod Passed
 pub mod Words
+pub mod Mirroring

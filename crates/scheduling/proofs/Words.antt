@@ -1,11 +1,11 @@
--- The words of atoms: none, one more, one list after another, how many, and those of a stretch.
+-- The words of atoms: none, one more, one list after another, how many, those of a stretch, those of one atom.
 -- Assumes nothing.
-use mathlib.Core.Path.{_≡_, refl, ap}
-use mathlib.Core.List.{List, [], _∷_, _++_}
+use mathlib.Core.Path.{_≡_, refl, sym, ap, subst}
+use mathlib.Core.List.{List, [], _∷_, _++_, append-nil}
 use Prim.Native.Nat.{ℕ, zero, suc, _+_, _*_, _<_}
 use native.Mathlib.Omega.{arith}
 use lib.IntN.{ℤ, pos}
-use lib.ListN.{length, getD, take, drop}
+use lib.ListN.{length, getD, set, take, drop}
 use Rattle.scheduling.specs.Scheduling.{Atom}
 use Rattle.scheduling.specs.Words.{atomWords}
 
@@ -44,19 +44,33 @@ take-words (suc c) (x ∷ xs) = let z : 3 * suc c ≡ suc (suc (suc (3 * c))) = 
 abbrev pub no-atom : Atom
 no-atom = record { variable = 0; kind = 0; value = pos 0 }
 
--- the three words of an atom, from place `at` on
+-- the three words of an atom, in a slice that goes on after the atoms
 pub record Three (ws : List ℤ) (at : ℕ) (a : Atom) : Type 0 where
   pub variable : getD ws at (pos 0) ≡ pos (a .variable)
   pub kind : getD ws (at + 1) (pos 0) ≡ pos (a .kind)
   pub value : getD ws (at + 2) (pos 0) ≡ a .value
 
-pub three-words : (xs : List Atom) (k : ℕ) → k < length xs → Three (atomWords xs) (3 * k) (getD xs k no-atom)
+pub three-words : (xs : List Atom) (tail : List ℤ) (m : ℕ) (none : Atom) → m < length xs → Three (atomWords xs ++ tail) (3 * m) (getD xs m none)
 unfolding atomWords
-three-words [] k h = absurd (omega arith)
-three-words (x ∷ xs) zero h = record { variable = refl; kind = refl; value = refl }
-three-words (x ∷ xs) (suc k) h =
-    let r = three-words xs k (omega arith) in
-    let a : 3 * suc k ≡ suc (suc (suc (3 * k))) = omega arith in
-    let b : 3 * suc k + 1 ≡ suc (suc (suc (3 * k + 1))) = omega arith in
-    let c : 3 * suc k + 2 ≡ suc (suc (suc (3 * k + 2))) = omega arith in
+three-words [] tail m none h = absurd (omega arith)
+three-words (x ∷ xs) tail zero none h = record { variable = refl; kind = refl; value = refl }
+three-words (x ∷ xs) tail (suc m) none h =
+    let r = three-words xs tail m none (omega arith) in
+    let a : 3 * suc m ≡ suc (suc (suc (3 * m))) = omega arith in
+    let b : 3 * suc m + 1 ≡ suc (suc (suc (3 * m + 1))) = omega arith in
+    let c : 3 * suc m + 2 ≡ suc (suc (suc (3 * m + 2))) = omega arith in
     record { variable = rw a (r .variable); kind = rw b (r .kind); value = rw c (r .value) }
+
+pub three-alone : (xs : List Atom) (m : ℕ) → m < length xs → Three (atomWords xs) (3 * m) (getD xs m no-atom)
+three-alone xs m h = subst (λ (ws : List ℤ). Three ws (3 * m) (getD xs m no-atom)) (append-nil (atomWords xs)) (three-words xs [] m no-atom h)
+
+-- another kind and value for an atom: two stores
+pub atom-set : (xs : List Atom) (tail : List ℤ) (m : ℕ) (a none : Atom) → m < length xs → a .variable ≡ getD xs m none .variable
+    → set (set (atomWords xs ++ tail) (3 * m + 1) (pos (a .kind))) (3 * m + 2) (a .value) ≡ atomWords (set xs m a) ++ tail
+unfolding atomWords
+atom-set [] tail m a none h e = absurd (omega arith)
+atom-set (x ∷ xs) tail zero a none h e = ap (λ (k : ℕ). pos k ∷ pos (a .kind) ∷ a .value ∷ (atomWords xs ++ tail)) (sym e)
+atom-set (x ∷ xs) tail (suc m) a none h e =
+    let b : 3 * suc m + 1 ≡ suc (suc (suc (3 * m + 1))) = omega arith in
+    let c : 3 * suc m + 2 ≡ suc (suc (suc (3 * m + 2))) = omega arith in
+    rw (b, c) (ap (λ (l : List ℤ). pos (x .variable) ∷ pos (x .kind) ∷ x .value ∷ l) (atom-set xs tail m a none (omega arith) e))

@@ -1,3 +1,4 @@
 pub mod Scheduling
 pub mod Words
+pub mod Mirroring
 pub mod Examples

@@ -8,7 +8,7 @@ use Rattle.integers.specs.Limits.{TASKS}
 use Rattle.records.specs.Refusals.{Accepted, runNumber}
 use Rattle.records.proofs.Refused.{accepted-run}
 use Rattle.propagator.specs.declared.disjunctive_propagator.Outcome.the-variants as outcome
-use Rattle.propagator.proofs.Beginning.{right}
+use Rattle.propagator.proofs.Beginning.{runnable, right}
 use Rattle.propagator.proofs.Many.{turned-back}
 use Rattle.propagator.proofs.Passing.{passing}
 use Rattle.propagator.proofs.Handing.{handed}
@@ -25,7 +25,7 @@ long₂ : (c : tie.Start) → length (c .args .«record» .second) ≡ TASKS
 long₂ c = search needs
 
 -- no test failed
-passed : (c : tie.After-accepted-arg) → let a = c .before .before .before .before .args in Accepted (a .«record») (a .earliest .now) (a .latest .now) (length (a .posts .now)) (length (a .atoms .now))
+passed : (c : tie.After-run-accepted-arg) → let a = c .before .before .before .before .args in Accepted (a .«record») (a .earliest .now) (a .latest .now) (length (a .posts .now)) (length (a .atoms .now))
 passed c = let a = c .before .before .before .before .args in accepted-run (a .«record») (a .earliest .now) (a .latest .now) (length (a .posts .now)) (length (a .atoms .now)) .0 (omega (arith, c .before .before .run-refusal .ensures))
 
 run-refusal-requires : tie.Need-run-refusal-requires
@@ -41,8 +41,8 @@ returns c =
     turned-back (a .«record») (a .earliest .now) (a .latest .now) (a .posts .now) (a .atoms .now) _ _ _ _ (λ z. omega (arith, n .run-refusal .ensures))
     (record { answer = ap outcome.Refused (n .run-refusal .ensures); keeps = refl; starts = refl; post-words = refl; atom-words = refl })
 
-accepted-requires : tie.Need-accepted-requires
-accepted-requires c κs = passed (c .before .before)
+run-accepted-requires : tie.Need-run-accepted-requires
+run-accepted-requires c κs = let a = c .before .before .before .before .before .before .args in runnable (a .«record») (a .earliest .now) (a .latest .now) (length (a .posts .now)) (length (a .atoms .now)) (passed (c .before .before))
 
 same-length-2 : tie.Need-same-length-2
 same-length-2 c = search needs
@@ -60,10 +60,10 @@ returns-2 c =
     let a = s .args in
     record {
       refused = λ h. absurd (h (accepted-run (a .«record») (a .earliest .now) (a .latest .now) (length (a .posts .now)) (length (a .atoms .now)) .1 (passed at)));
-      ran = λ z. c .before .before .before .accepted .ensures;
-      right = λ z. right (a .«record») (a .earliest .now) (a .latest .now) (length (a .posts .now)) (length (a .atoms .now)) (passed at) (long s) (long₁ s) (long₂ s);
+      ran = λ z. c .before .before .before .run-accepted .ensures;
+      right = λ z. right (a .«record») (a .earliest .now) (a .latest .now) (length (a .posts .now)) (length (a .atoms .now)) (runnable (a .«record») (a .earliest .now) (a .latest .now) (length (a .posts .now)) (length (a .atoms .now)) (passed at)) (long s) (long₁ s) (long₂ s);
       passes = λ z. passing (a .«record») (a .earliest .now) (a .latest .now) (length (a .posts .now)) (length (a .atoms .now)) (passed at) (long s) (long₁ s) (long₂ s);
-      handed = λ z. handed (a .«record») (a .earliest .now) (a .latest .now) (a .posts .now) (a .atoms .now) (c .before .before .before .accepted .ensures);
+      handed = λ z. handed (a .«record») (a .earliest .now) (a .latest .now) (a .posts .now) (a .atoms .now) (c .before .before .before .run-accepted .ensures);
     }
 
 pub propagate-spec : {M : Type 1} → statement M
@@ -73,7 +73,7 @@ propagate-spec =
     run-refusal-requires
     same-length
     returns
-    accepted-requires
+    run-accepted-requires
     same-length-2
     same-length-3
     same-length-4

@@ -1,4 +1,4 @@
--- `propagator::disjunctive_propagator::accepted` meets its contract.
+-- `propagator::disjunctive_propagator::run_accepted` meets its contract.
 -- Assumes nothing.
 use mathlib.Core.Path.{_≡_, refl, sym, subst}
 use mathlib.Core.List.{List}
@@ -14,8 +14,8 @@ use Rattle.records.specs.declared.record.Propagator.{Propagator}
 use Rattle.records.specs.Orders.{byKey}
 use Rattle.records.proofs.Sorted.{numbered, sorted-permutes}
 use Rattle.propagator.proofs.Beginning.{key-small, latest, fillable, begun, left}
-use Rattle.propagator.proofs.disjunctive_propagator.accepted.Statement.{statement}
-use Rattle.propagator.proofs.disjunctive_propagator.accepted.Tie as tie
+use Rattle.propagator.proofs.disjunctive_propagator.run_accepted.Statement.{statement}
+use Rattle.propagator.proofs.disjunctive_propagator.run_accepted.Tie as tie
 
 -- the arrays of a record have TASKS places
 long : (c : tie.Start) → length (c .args .«record» .durations) ≡ TASKS
@@ -132,8 +132,8 @@ returns c =
     (c .before .before .before .edge-finding .ensures (begun (start q .args .«record») (start q .args .earliest .now) (start q .args .latest .now) (length (start q .args .posts .now)) (length (start q .args .atoms .now)) (start q .pre) (long (start q)) (long₁ (start q)) (long₂ (start q)) (est q .moments-of .ensures) (lst q .moments-of2 .ensures) (lct q .completions .ensures) (first q .sort-by-key .ensures) (keys q .reversed .ensures) (q .sort-by-key2 .ensures) {new = blank u} {tree′ = blank u} (n .size-for .ensures) refl (updated u)
     (c .before .before .before .before .before .before .before .before .before .before .before .before .before .before .before .fill .ensures (fillable (start q .args .«record») (start q .args .earliest .now) (start q .args .latest .now) (length (start q .args .posts .now)) (length (start q .args .atoms .now)) (start q .pre) (long (start q)) (long₁ (start q)) (long₂ (start q)) (est q .moments-of .ensures) (lst q .moments-of2 .ensures) (lct q .completions .ensures) (first q .sort-by-key .ensures) (keys q .reversed .ensures) (q .sort-by-key2 .ensures) {new = blank u} {tree′ = blank u} (n .size-for .ensures) refl (updated u))) refl refl))
 
-pub accepted-spec : {M : Type 1} → statement M
-accepted-spec =
+pub run-accepted-spec : {M : Type 1} → statement M
+run-accepted-spec =
     tie.close
     (tie.spec
     moments-of-requires

@@ -1,0 +1,302 @@
+-- What the mirrored pass hands to the core, and what it makes of what the core leaves.
+-- Assumes nothing.
+use mathlib.Core.Path.{_≡_, refl, sym, ap, ap₂, subst, _∙_}
+use mathlib.Core.List.{List, _++_}
+use Prim.Native.Nat.{ℕ, _*_, _≤_, _<_}
+use native.Mathlib.Nat.{mul-le-mul}
+use native.Mathlib.Omega.{arith}
+use lib.IntN.{ℤ, pos}
+use lib.ListN.{length, getD, take, drop, length-map}
+use lib.Seq.{getD-take, length-take-le}
+use lib.Signed.{_≤ℤ_}
+use mir.Syntax.{w32}
+use mir.Val.{SFits}
+use Rattle.integers.specs.Limits.{TASKS}
+use Rattle.integers.specs.Filling.{filled}
+use Rattle.integers.specs.Moments.{Above, zeroAt}
+use Rattle.integers.specs.Orders.{numbers}
+use Rattle.integers.proofs.Filling.{filled-past, getD-fresh}
+use Rattle.integers.proofs.Ints.{up, dn, ints, fits-show}
+use Rattle.integers.proofs.Moments.{at-moment, above-up, more-above}
+use mathlib.Core.Bool.{true}
+use Rattle.scheduling.specs.Scheduling.{tasksOf, Atom, Every}
+use Rattle.scheduling.proofs.Processing.{processing-all, processing-less}
+use Rattle.scheduling.proofs.Transfer.{moments}
+use Rattle.scheduling.specs.Mirroring.{mirrorStart, mirrorAtom}
+use Rattle.scheduling.specs.Words.{atomWords}
+use Rattle.scheduling.proofs.Words.{atoms-length}
+use Rattle.runs.specs.Traces.{Post, End, done, overload, emptied, Trace}
+use Rattle.runs.specs.Demand.{consequentOf, post}
+use Rattle.runs.specs.Runs.{propagate}
+use Rattle.runs.specs.Words.{postWords, reasons, postsAfter, atomsAfter}
+use Rattle.runs.specs.Mirrored.{mirrorStarts, durationIn, mirrorPost, mirrorEnd, mirrorTrace, mirroredRun, MirroredRight}
+use Rattle.runs.proofs.Buffers.{posts-length}
+use Rattle.runs.proofs.Demand as demand
+use Rattle.runs.proofs.Mirrored as laws
+use Rattle.runs.proofs.Mirrored.{Near, atomsIn, postsTo, atomsTo, posts-after, atoms-after}
+use Rattle.runs.proofs.Starts.{starts-length}
+use Rattle.records.specs.declared.record.Propagator.{Propagator}
+use Rattle.records.specs.Orders.{noTasks}
+use Rattle.records.specs.Records.{Lawful, tasksIn}
+use Rattle.records.specs.Refusals.{Accepted}
+use Rattle.records.proofs.Creation.{own-front, own-order}
+use Rattle.propagator.specs.declared.disjunctive_propagator.Outcome.{Outcome}
+use Rattle.propagator.specs.declared.disjunctive_propagator.Outcome.the-variants as outcome
+use Rattle.propagator.specs.declared.disjunctive_propagator.Run.{Run}
+use Rattle.propagator.specs.Finding.{outcomeOf}
+use Rattle.propagator.specs.Ran.{Runnable, traceOf, Left}
+use Rattle.propagator.proofs.Beginning.{narrow}
+use Rattle.mirrored.specs.RanMirrored.{mirroredOf, LeftMirrored}
+use Rattle.mirrored.specs.Telling.{Reflectable, Durations, PostsHeld, PostsTold, AtomsHeld, AtomsTold, postsIn, Answered, Ended, Told, RanInMirror}
+use Rattle.mirrored.proofs.Telling.{told-posts}
+
+-- What is told ---------------------------------------------------------------------------------------------------------------------
+
+module _ {r : Outcome} {posts atoms : List ℤ} {array : List ℕ} (e : Ended r posts atoms array) where
+  abbrev pub answered : Answered r posts
+  answered = record { trace = e .trace; old = e .old-posts; answer = e .answer; words-are = e .post-words; few = e .few; small = e .small }
+
+  pub post-count : (m : ℕ) → m ≡ postsIn r → m ≡ length (e .trace .posts)
+  post-count m z = z ∙ ap postsIn (e .answer) ∙ told-posts (reasons (e .trace .posts)) (length (e .trace .posts)) (e .trace .end)
+
+  abbrev pub posts-held : (m : ℕ) → m ≡ length (e .trace .posts) → PostsHeld posts m array
+  posts-held m z = record {
+    ds = e .ds;
+    posts = e .trace .posts;
+    tail = drop (length (postWords 0 (e .trace .posts))) (e .old-posts);
+    durations = e .durations;
+    words-are = e .post-words;
+    number = sym z;
+    few = omega (arith, z, e .few);
+    near = λ j q. e .posts-near j (omega (arith, z));
+  }
+
+  abbrev pub atoms-held : (k : ℕ) → k ≡ length (atomsIn (e .trace)) → AtomsHeld atoms k array
+  atoms-held k z = record {
+    ds = e .ds;
+    atoms = atomsIn (e .trace);
+    tail = drop (length (atomWords (atomsIn (e .trace)))) (e .old-atoms);
+    durations = e .durations;
+    words-are = e .atom-words;
+    number = sym z;
+    few = omega (arith, z, e .small);
+    near = e .atoms-near;
+  }
+
+  pub told : (m k : ℕ) → m ≡ length (e .trace .posts) → k ≡ length (atomsIn (e .trace)) → {posts′ atoms′ : List ℤ} → PostsTold posts m array posts′ → AtomsTold atoms k array atoms′ → Told e posts′ atoms′
+  told m k z y p q = record {
+    post-words = p (posts-held m z)
+        ∙ ap (λ (i : ℕ). postWords 0 (postsTo (e .ds) i (e .trace .posts)) ++ drop (length (postWords 0 (e .trace .posts))) (e .old-posts)) z
+        ∙ posts-after (e .ds) (e .old-posts) (e .trace);
+    atom-words = q (atoms-held k y)
+        ∙ ap (λ (i : ℕ). atomWords (atomsTo (e .ds) i (atomsIn (e .trace))) ++ drop (length (atomWords (atomsIn (e .trace)))) (e .old-atoms)) y
+        ∙ atoms-after (e .ds) (e .old-atoms) (e .trace);
+  }
+
+-- the mirrored trace's answer is the run's: mirroring keeps the numbers of posts and atoms
+same-answer : (ds : List ℕ) (t : Trace) → outcomeOf (reasons (mirrorTrace ds t .posts)) (length (mirrorTrace ds t .posts)) (mirrorTrace ds t .end) ≡ outcomeOf (reasons (t .posts)) (length (t .posts)) (t .end)
+same-answer ds t = each (t .end)
+  where
+    xs : List Atom
+    xs = reasons (t .posts)
+
+    n : length (mirrorTrace ds t .posts) ≡ length (t .posts)
+    n = length-map (t .posts) (mirrorPost ds)
+
+    each : (e : End) → outcomeOf (reasons (mirrorTrace ds t .posts)) (length (mirrorTrace ds t .posts)) (mirrorEnd ds e) ≡ outcomeOf (reasons (t .posts)) (length (t .posts)) e
+    each done = ap outcome.Done n
+    each (overload r) = λ i. outcome.Overload (n i) (m i) (length-map r (mirrorAtom (durationIn ds)) i)
+      where
+        m : length (reasons (mirrorTrace ds t .posts)) ≡ length (reasons (t .posts))
+        m = ap length (laws.reasons-mirrored ds (t .posts)) ∙ length-map xs (mirrorAtom (durationIn ds))
+    each emptied = ap outcome.Emptied n
+
+-- The pass -------------------------------------------------------------------------------------------------------------------------
+
+-- numbers that are near are i32s
+wide-fits : (z : ℤ) → Above 400000000 z → z ≤ℤ pos 400000000 → SFits w32 z
+unfolding up dn
+wide-fits z h k = fits-show w32 z (omega (ints, at-moment 400000000 z h, k)) (omega (ints, at-moment 400000000 z h, k))
+
+lower : (a b : ℤ) → Above 400000000 a → a ≤ℤ b → Above 400000000 b
+lower a b h q = above-up 400000000 a b q h
+
+higher : (a b : ℤ) → a ≤ℤ b → b ≤ℤ pos 400000000 → a ≤ℤ pos 400000000
+higher a b h k = omega ints
+
+wider-low : (a : ℤ) → Above 200000000 a → Above 400000000 a
+wider-low a h = more-above 200000000 400000000 (omega arith) a h
+
+wider-high : (a : ℤ) → a ≤ℤ pos 200000000 → a ≤ℤ pos 400000000
+unfolding up dn
+wider-high a h = omega ints
+
+module _ (before : Propagator) (es ls : List ℤ) (postCount atomCount : ℕ) (a : Accepted before es ls postCount atomCount)
+    (long : length (before .durations) ≡ TASKS) (long₁ : length (before .first) ≡ TASKS) (long₂ : length (before .second) ≡ TASKS) where
+  abbrev n : ℕ
+  n = before .count
+
+  abbrev ds : List ℕ
+  ds = take (before .count) (before .durations)
+
+  abbrev early : List ℤ
+  early = mirrorStarts (take (before .count) (before .durations)) ls
+
+  abbrev late : List ℤ
+  late = mirrorStarts (take (before .count) (before .durations)) es
+
+  count : length ds ≡ n
+  count = length-take-le n (before .durations) (omega (arith, a .lawful .few, long))
+
+  here : demand.Accepted 200000000 ds es ls (take n (before .first)) (take n (before .second))
+  here = narrow before es ls postCount atomCount a long long₁ long₂
+
+  es-long : length es ≡ length ds
+  es-long = a .counts .earliest ∙ sym count
+
+  ls-long : length ls ≡ length ds
+  ls-long = a .counts .latest ∙ sym count
+
+  there : demand.Accepted 400000000 ds early late (numbers 0 (length ds)) (numbers 0 (length ds))
+  there = laws.mirrored-accepted ds es ls (take n (before .first)) (take n (before .second)) here es-long ls-long
+
+  run-long : length (mirroredRun ds es ls .starts) ≡ length ds
+  run-long = starts-length ds early late (numbers 0 (length ds)) (numbers 0 (length ds))
+
+  lasts-at : (k : ℕ) → k < n → getD ds k 0 ≡ getD (before .durations) k 0
+  lasts-at k q = getD-take n (before .durations) k 0 q
+
+  -- starts that may be mirrored
+  reflectable : (zs : List ℤ) → length zs ≡ length ds → ((k : ℕ) → k < length ds → SFits w32 (getD (mirrorStarts ds zs) k (pos 0))) → (out : List ℤ) → length out ≡ n → Reflectable out zs (before .durations)
+  reflectable zs e f out l = record {
+    places = omega (arith, l, e, count);
+    few = omega (arith, e, count, a .lawful .few);
+    long = long;
+    fits = λ k q. subst (λ (p : ℕ). SFits w32 (mirrorStart p (getD zs k (pos 0)))) (lasts-at k (omega (arith, e, count)))
+        (subst (SFits w32) (laws.mirror-at ds zs e k) (f k (omega (arith, e))));
+  }
+
+  pub reflect-latest : (out : List ℤ) → length out ≡ n → Reflectable out ls (before .durations)
+  reflect-latest = reflectable ls ls-long (λ k q. wide-fits (getD early k (pos 0)) (there .from k q) (higher (getD early k (pos 0)) (getD late k (pos 0)) (there .ranges k q) (there .to k q)))
+
+  pub reflect-earliest : (out : List ℤ) → length out ≡ n → Reflectable out es (before .durations)
+  reflect-earliest = reflectable es es-long (λ k q. wide-fits (getD late k (pos 0)) (lower (getD early k (pos 0)) (getD late k (pos 0)) (there .from k q) (there .ranges k q)) (there .to k q))
+
+  -- and back
+  back-fits : (k : ℕ) → k < length ds → SFits w32 (getD (mirrorStarts ds (mirroredRun ds es ls .starts)) k (pos 0))
+  back-fits k q =
+      let b = laws.latest-between ds es ls (take n (before .first)) (take n (before .second)) here es-long ls-long k q in
+      let z = getD (mirrorStarts ds (mirroredRun ds es ls .starts)) k (pos 0) in
+      wide-fits z (lower (getD es k (pos 0)) z (wider-low (getD es k (pos 0)) (here .from k q)) (b .0)) (higher z (getD ls k (pos 0)) (b .1) (wider-high (getD ls k (pos 0)) (here .to k q)))
+
+  -- the record that the core is called with, and that it may run
+  abbrev pub mirroredRecord : Propagator
+  mirroredRecord = record { count = before .count; durations = before .durations; first = filled (λ k. k) (before .count) noTasks; second = filled (λ k. k) (before .count) noTasks }
+
+  unused-at : (k : ℕ) → n ≤ k → getD (filled (λ j. j) n noTasks) k 0 ≡ 0
+  unused-at k q = filled-past (λ j. j) n noTasks 0 k q ∙ getD-fresh 0 TASKS k
+
+  lawful : Lawful mirroredRecord
+  lawful = record {
+    some = a .lawful .some;
+    few = a .lawful .few;
+    lasts = a .lawful .lasts;
+    sum = a .lawful .sum;
+    first = own-order n (a .lawful .few);
+    second = own-order n (a .lawful .few);
+    unused = λ k q h. (a .lawful .unused k q h .0, (unused-at k q, unused-at k q));
+  }
+
+  runnable : Runnable mirroredRecord early late postCount atomCount
+  runnable = record {
+    lawful = lawful;
+    counts = record { earliest = laws.mirror-length ds ls ls-long ∙ count; latest = laws.mirror-length ds es es-long ∙ count };
+    from = λ k q. there .from k (omega (arith, count));
+    to = λ k q. there .to k (omega (arith, count));
+    ranges = λ k q. there .ranges k (omega (arith, laws.mirror-length ds ls ls-long));
+    words = a .words;
+  }
+
+  -- as the code holds it
+  pub runnable-at : {from to : List ℤ} {order : List ℕ} → from ≡ mirrorStarts (take (length ls) (before .durations)) ls → to ≡ mirrorStarts (take (length es) (before .durations)) es → order ≡ filled (λ k. k) n noTasks
+      → Runnable (record { count = before .count; durations = before .durations; first = order; second = order }) from to postCount atomCount
+  runnable-at {from} {to} {order} f t o =
+      subst (λ (x : List ℕ). Runnable (record { count = before .count; durations = before .durations; first = x; second = x }) from to postCount atomCount) (sym o)
+      (subst (λ (x : List ℤ). Runnable mirroredRecord x to postCount atomCount) (sym (f ∙ ap (λ (m : ℕ). mirrorStarts (take m (before .durations)) ls) (a .counts .latest)))
+      (subst (λ (x : List ℤ). Runnable mirroredRecord early x postCount atomCount) (sym (t ∙ ap (λ (m : ℕ). mirrorStarts (take m (before .durations)) es) (a .counts .earliest))) runnable))
+
+  trace-is : traceOf mirroredRecord early late ≡ mirroredRun ds es ls
+  trace-is = ap (λ (o : List ℕ). propagate ds early late o o) (own-front n (a .lawful .few) ∙ ap (numbers 0) (sym count))
+
+  -- what the core leaves
+  module _ {from to posts atoms from′ posts′ atoms′ : List ℤ} {order : List ℕ} {r : Run} (f : from ≡ mirrorStarts (take (length ls) (before .durations)) ls) (t : to ≡ mirrorStarts (take (length es) (before .durations)) es) (o : order ≡ filled (λ k. k) n noTasks)
+      (l : Left (record { count = before .count; durations = before .durations; first = order; second = order }) from to posts atoms r from′ posts′ atoms′) where
+    core-is : traceOf (record { count = before .count; durations = before .durations; first = order; second = order }) from to ≡ mirroredRun ds es ls
+    core-is = ap (λ (x : List ℕ). traceOf (record { count = before .count; durations = before .durations; first = x; second = x }) from to) o
+        ∙ ap₂ (λ (x y : List ℤ). traceOf mirroredRecord x y) (f ∙ ap (λ (m : ℕ). mirrorStarts (take m (before .durations)) ls) (a .counts .latest)) (t ∙ ap (λ (m : ℕ). mirrorStarts (take m (before .durations)) es) (a .counts .earliest)) ∙ trace-is
+
+    pub left-starts : from′ ≡ mirroredRun ds es ls .starts
+    left-starts = l .starts ∙ ap (λ (x : Trace). x .starts) core-is
+
+    pub reflect-back : (out : List ℤ) → length out ≡ n → Reflectable out from′ (before .durations)
+    reflect-back out e = subst (λ (zs : List ℤ). Reflectable out zs (before .durations)) (sym left-starts) (reflectable (mirroredRun ds es ls .starts) run-long back-fits out e)
+
+    pub ran-in-mirror : {ls′ : List ℤ} → ls′ ≡ mirrorStarts (take (length from′) (before .durations)) from′ → RanInMirror before es ls posts atoms (r .outcome) ls′ posts′ atoms′
+    ran-in-mirror z = record {
+      answer = l .answer ∙ ap (λ (x : Trace). outcomeOf (reasons (x .posts)) (length (x .posts)) (x .end)) core-is;
+      starts = z ∙ ap (λ (zs : List ℤ). mirrorStarts (take (length zs) (before .durations)) zs) left-starts ∙ ap (λ (m : ℕ). mirrorStarts (take m (before .durations)) (mirroredRun ds es ls .starts)) (run-long ∙ count);
+      post-words = l .post-words ∙ ap (postsAfter posts) core-is;
+      atom-words = l .atom-words ∙ ap (atomsAfter atoms) core-is;
+    }
+
+  -- what is told of it
+  pub durations-are : Durations ds (before .durations)
+  durations-are = record { few = omega (arith, count, a .lawful .few); same = λ k q. sym (lasts-at k (omega (arith, count))); short = λ k q. lasting k q }
+    where
+      lasting : (k : ℕ) → k < length ds → getD ds k 0 ≤ 200000000
+      lasting k q =
+          let N = moments zeroAt (tasksOf ds es ls) in
+          omega (arith, here .sum, processing-all N, processing-less N (λ _. true) k (record { small = q; mem = refl }))
+
+  pub posts-near-here : (j : ℕ) → j < length (mirroredRun (take (before .count) (before .durations)) es ls .posts) → Near (length (take (before .count) (before .durations))) (consequentOf (post (mirroredRun (take (before .count) (before .durations)) es ls) j))
+  posts-near-here = laws.post-near ds es ls (take n (before .first)) (take n (before .second)) here es-long ls-long
+
+  pub atoms-near-here : Every (Near (length (take (before .count) (before .durations)))) (atomsIn (mirroredRun (take (before .count) (before .durations)) es ls))
+  atoms-near-here = laws.atoms-near ds es ls (take n (before .first)) (take n (before .second)) here es-long ls-long
+
+  pub few-posts : length (mirroredRun (take (before .count) (before .durations)) es ls .posts) ≤ TASKS
+  few-posts = omega (arith, laws.mirrored-posts-fit ds es ls (take n (before .first)) (take n (before .second)) here es-long ls-long, posts-length (mirroredRun ds es ls .posts) 0, count, a .lawful .few)
+
+  squares : (m x : ℕ) → m ≤ 48 → x ≤ 6 * (m * m) → x ≤ 13824
+  squares m x h q = omega (arith, q, mul-le-mul {n₁ = m} {m₁ = m} {n₂ = 48} {m₂ = 48} h h)
+
+  pub few-atoms : length (atomsIn (mirroredRun (take (before .count) (before .durations)) es ls)) ≤ 4608
+  few-atoms = omega (arith, squares (length ds) (length (atomWords (atomsIn (mirroredRun ds es ls)))) (here .few) (laws.mirrored-atoms-fit ds es ls (take n (before .first)) (take n (before .second)) here es-long ls-long), atoms-length (atomsIn (mirroredRun ds es ls)))
+
+  module _ {posts atoms posts′ atoms′ ls′ : List ℤ} {r : Outcome} (m : RanInMirror before es ls posts atoms r ls′ posts′ atoms′) where
+    abbrev pub ended : Ended r posts′ atoms′ (before .durations)
+    ended = record {
+      ds = take (before .count) (before .durations);
+      trace = mirroredRun (take (before .count) (before .durations)) es ls;
+      old-posts = posts;
+      old-atoms = atoms;
+      durations = durations-are;
+      answer = m .answer;
+      post-words = m .post-words;
+      atom-words = m .atom-words;
+      posts-near = posts-near-here;
+      atoms-near = atoms-near-here;
+      few = few-posts;
+      small = few-atoms;
+    }
+
+    pub left-mirrored : {posts″ atoms″ : List ℤ} → Told ended posts″ atoms″ → LeftMirrored before es ls posts atoms r ls′ posts″ atoms″
+    left-mirrored t = record {
+      answer = m .answer ∙ sym (same-answer ds (mirroredRun ds es ls));
+      starts = m .starts;
+      post-words = t .post-words;
+      atom-words = t .atom-words;
+    }
+
+  pub right : MirroredRight (tasksIn before es ls) (mirroredOf before es ls)
+  right = laws.mirrored-right ds es ls (take n (before .first)) (take n (before .second)) here es-long ls-long

@@ -1,0 +1,105 @@
+-- `mirrored::mirrored_propagator::mirror_atoms` meets its contract.
+-- Assumes nothing.
+use mathlib.Core.Path.{_≡_, refl, sym, ap, _∙_}
+use mathlib.Core.List.{List, _++_}
+use Prim.Native.Nat.{ℕ, _-_, _≤_}
+use native.Mathlib.Omega.{arith}
+use lib.IntN.{ℤ}
+use lib.ListN.{length}
+use Rattle.scheduling.specs.Scheduling.{Atom}
+use Rattle.scheduling.specs.Words.{atomWords}
+use Rattle.runs.proofs.Mirrored.{atomsTo, atoms-begin}
+use Rattle.mirrored.specs.Telling.{AtomsHeld}
+use Rattle.mirrored.proofs.Telling.{kind-mirrorable, value-mirrorable, atom-told}
+use borrow.Author.Needs.{needs}
+use Rattle.mirrored.proofs.mirrored_propagator.mirror_atoms.Statement.{statement}
+use Rattle.mirrored.proofs.mirrored_propagator.mirror_atoms.Tie as tie
+
+-- the first k atoms are mirrored
+record Loop (old : List ℤ) (count : ℕ) (array : List ℕ) (words : List ℤ) (k : ℕ) : Type 0 where
+  held : AtomsHeld old count array
+  told : (h : AtomsHeld old count array) → words ≡ atomWords (atomsTo (h .ds) k (h .atoms)) ++ h .tail
+  small : k ≤ count
+  size : length words ≡ length old
+
+abbrev Inv-loop : tie.InvT-loop
+Inv-loop atoms₀ count durations k₀ atoms k = Loop atoms₀ count durations atoms k
+
+abbrev μ-loop : tie.MeasureT-loop
+μ-loop atoms₀ count durations k₀ atoms k = count - k
+
+loop-holds : tie.Need-loop-holds Inv-loop μ-loop
+loop-holds c = record { held = c .pre; told = λ h. h .words-are ∙ ap (λ (l : List Atom). atomWords l ++ h .tail) (sym (atoms-begin (h .ds) (h .atoms))); small = omega arith; size = refl }
+
+mul-mirror-kind : tie.Need-mul-mirror-kind Inv-loop μ-loop
+mul-mirror-kind c = search needs
+
+add-mirror-kind : tie.Need-add-mirror-kind Inv-loop μ-loop
+add-mirror-kind c = search needs
+
+mirror-kind-requires : tie.Need-mirror-kind-requires Inv-loop μ-loop
+mirror-kind-requires c κs =
+    let l = c .before .before .loop in
+    let v = l .inv in
+    kind-mirrorable (v .held) (l .atoms) (l .k) (omega arith) (v .told (v .held))
+
+mul-mirror-word : tie.Need-mul-mirror-word Inv-loop μ-loop
+mul-mirror-word c = search needs
+
+mul-mirror-word-2 : tie.Need-mul-mirror-word-2 Inv-loop μ-loop
+mul-mirror-word-2 c = search needs
+
+add-mirror-word : tie.Need-add-mirror-word Inv-loop μ-loop
+add-mirror-word c = search needs
+
+mirror-word-requires : tie.Need-mirror-word-requires Inv-loop μ-loop
+mirror-word-requires c κs =
+    let l = c .before .before .before .before .before .loop in
+    let v = l .inv in
+    value-mirrorable (v .held) (l .atoms) (l .k) (omega arith) (v .told (v .held)) (c .before .before .mirror-kind .ensures)
+
+add-k : tie.Need-add-k Inv-loop μ-loop
+add-k c = search needs
+
+loop-less : tie.Need-loop-less Inv-loop μ-loop
+loop-less c = search needs
+
+loop-again : tie.Need-loop-again Inv-loop μ-loop
+loop-again c =
+    let l = c .before .before .before .before .before .before .before .loop in
+    let v = l .inv in
+    record {
+      held = v .held;
+      told = λ h. atom-told h (l .atoms) (l .k) (omega arith) (v .told h) (c .before .before .before .before .mirror-kind .ensures) (c .before .mirror-word .ensures);
+      small = omega arith;
+      size = search needs;
+    }
+
+same-length : tie.Need-same-length Inv-loop μ-loop
+same-length c = search needs
+
+returns : tie.Need-returns Inv-loop μ-loop
+returns c =
+    let l = c .before .loop in
+    let e : l .k ≡ c .before .before .args .count = omega (arith, l .inv .small) in
+    λ h. l .inv .told h ∙ ap (λ (i : ℕ). atomWords (atomsTo (h .ds) i (h .atoms)) ++ h .tail) e
+
+pub mirror-atoms-spec : {M : Type 1} → statement M
+mirror-atoms-spec =
+    tie.close
+    (tie.spec
+    Inv-loop
+    μ-loop
+    loop-holds
+    mul-mirror-kind
+    add-mirror-kind
+    mirror-kind-requires
+    mul-mirror-word
+    mul-mirror-word-2
+    add-mirror-word
+    mirror-word-requires
+    add-k
+    loop-less
+    loop-again
+    same-length
+    returns)

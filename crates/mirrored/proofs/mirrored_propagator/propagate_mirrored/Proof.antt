@@ -1,0 +1,87 @@
+-- `mirrored::mirrored_propagator::propagate_mirrored` meets its contract.
+-- Assumes nothing.
+use mathlib.Core.Path.{_≡_, refl, ap}
+use native.Mathlib.Omega.{arith}
+use lib.ListN.{length}
+use Rattle.integers.specs.Limits.{TASKS}
+use Rattle.records.specs.Refusals.{Accepted}
+use Rattle.records.proofs.Refused.{accepted-run}
+use Rattle.propagator.specs.declared.disjunctive_propagator.Outcome.the-variants as outcome
+use Rattle.mirrored.proofs.Endings.{ended, left-mirrored, right}
+use borrow.Author.Needs.{needs}
+use Rattle.mirrored.proofs.mirrored_propagator.propagate_mirrored.Statement.{statement}
+use Rattle.mirrored.proofs.mirrored_propagator.propagate_mirrored.Tie as tie
+
+-- the arrays of a record have TASKS places
+long : (c : tie.Start) → length (c .args .«record» .durations) ≡ TASKS
+long c = search needs
+
+long₁ : (c : tie.Start) → length (c .args .«record» .first) ≡ TASKS
+long₁ c = search needs
+
+long₂ : (c : tie.Start) → length (c .args .«record» .second) ≡ TASKS
+long₂ c = search needs
+
+-- no test failed
+passed : (c : tie.Else1) → let a = c .before .before .before .args in Accepted (a .«record») (a .earliest .now) (a .latest .now) (length (a .posts .now)) (length (a .atoms .now))
+passed c = let a = c .before .before .before .args in accepted-run (a .«record») (a .earliest .now) (a .latest .now) (length (a .posts .now)) (length (a .atoms .now)) .0 (omega (arith, c .before .run-refusal .ensures))
+
+run-refusal-requires : tie.Need-run-refusal-requires
+run-refusal-requires c κs = search needs
+
+same-length : tie.Need-same-length
+same-length c = search needs
+
+returns : tie.Need-returns
+returns c =
+    let e = c .before .run-refusal .ensures in
+    record {
+      refused = λ z. record { answer = ap outcome.Refused e; starts = refl; post-words = refl; atom-words = refl };
+      ran = λ z. absurd (omega (arith, e, z));
+      right = λ z. absurd (omega (arith, e, z));
+    }
+
+run-in-mirror-requires : tie.Need-run-in-mirror-requires
+run-in-mirror-requires c κs = passed (c .before .before .before .before)
+
+tell-requires : tie.Need-tell-requires
+tell-requires c κs =
+    let e = c .before .before .before .before .before .before .before .before .before .before .before in
+    let s = e .before .before .before in
+    let a = s .args in
+    ended (a .«record») (a .earliest .now) (a .latest .now) (length (a .posts .now)) (length (a .atoms .now)) (passed e) (long s) (long₁ s) (long₂ s) (c .before .before .before .before .before .before .run-in-mirror .ensures)
+
+same-length-2 : tie.Need-same-length-2
+same-length-2 c = search needs
+
+same-length-3 : tie.Need-same-length-3
+same-length-3 c = search needs
+
+same-length-4 : tie.Need-same-length-4
+same-length-4 c = search needs
+
+returns-2 : tie.Need-returns-2
+returns-2 c =
+    let e = c .before .before .before .before .before .before .before .before .before .before .before .before .before .before in
+    let s = e .before .before .before in
+    let a = s .args in
+    let r = c .before .before .before .before .before .before .before .before .before .run-in-mirror .ensures in
+    record {
+      refused = λ h. absurd (h (accepted-run (a .«record») (a .earliest .now) (a .latest .now) (length (a .posts .now)) (length (a .atoms .now)) .1 (passed e)));
+      ran = λ z. left-mirrored (a .«record») (a .earliest .now) (a .latest .now) (length (a .posts .now)) (length (a .atoms .now)) (passed e) (long s) (long₁ s) (long₂ s) r (c .before .before .tell .ensures (ended (a .«record») (a .earliest .now) (a .latest .now) (length (a .posts .now)) (length (a .atoms .now)) (passed e) (long s) (long₁ s) (long₂ s) r));
+      right = λ z. right (a .«record») (a .earliest .now) (a .latest .now) (length (a .posts .now)) (length (a .atoms .now)) (passed e) (long s) (long₁ s) (long₂ s);
+    }
+
+pub propagate-mirrored-spec : {M : Type 1} → statement M
+propagate-mirrored-spec =
+    tie.close
+    (tie.spec
+    run-refusal-requires
+    same-length
+    returns
+    run-in-mirror-requires
+    tell-requires
+    same-length-2
+    same-length-3
+    same-length-4
+    returns-2)

@@ -1,0 +1,189 @@
+-- `mirrored::mirrored_propagator::run_in_mirror` meets its contract.
+-- Assumes nothing.
+use mathlib.Core.Path.{_≡_, refl, sym, ap, subst, _∙_}
+use mathlib.Core.List.{List, _++_}
+use Prim.Native.Nat.{ℕ, _≤_}
+use native.Mathlib.Omega.{arith}
+use lib.IntN.{ℤ, pos}
+use lib.ListN.{length, take, drop, replicate, length-replicate}
+use lib.Seq.{length-take-le, length-front, take-at}
+use Rattle.integers.specs.Limits.{TASKS}
+use Rattle.runs.specs.Mirrored.{mirrorStarts}
+use Rattle.mirrored.specs.Telling.{Reflectable}
+use Rattle.mirrored.proofs.Endings.{reflect-latest, reflect-earliest, runnable-at, reflect-back, ran-in-mirror}
+use borrow.Author.Needs.{needs}
+use Rattle.mirrored.proofs.mirrored_propagator.run_in_mirror.Statement.{statement}
+use Rattle.mirrored.proofs.mirrored_propagator.run_in_mirror.Tie as tie
+
+-- the arrays of a record have TASKS places
+long : (c : tie.Start) → length (c .args .«record» .durations) ≡ TASKS
+long c = search needs
+
+long₁ : (c : tie.Start) → length (c .args .«record» .first) ≡ TASKS
+long₁ c = search needs
+
+long₂ : (c : tie.Start) → length (c .args .«record» .second) ≡ TASKS
+long₂ c = search needs
+
+-- an array as it is made
+abbrev zeros : List ℤ
+zeros = replicate 48 (pos 0)
+
+front : (n : ℕ) → n ≤ TASKS → length (take n zeros) ≡ n
+front n h = length-take-le n zeros (omega (arith, length-replicate 48 (pos 0)))
+
+-- when both are filled: what each call before left
+abbrev start : tie.After-identity → tie.Start
+start c = c .before .before .before .before .before .before .before .before .before .before .before
+
+abbrev first : tie.After-identity → tie.After-mirror-starts
+first c = c .before .before .before .before .before .before
+
+abbrev second : tie.After-identity → tie.After-mirror-starts2
+second c = c .before .before
+
+abbrev n : tie.After-identity → ℕ
+n c = start c .args .«record» .count
+
+first-long : (c : tie.After-identity) → length (first c .mirror-starts .last .0) ≡ n c
+first-long c = first c .mirror-starts .kept .0 ∙ front (n c) (start c .pre .lawful .few)
+
+second-long : (c : tie.After-identity) → length (second c .mirror-starts2 .last .0) ≡ n c
+second-long c = second c .mirror-starts2 .kept .0 ∙ front (n c) (start c .pre .lawful .few)
+
+abbrev from : tie.After-identity → List ℤ
+from c = first c .mirror-starts .last .0 ++ drop (n c) zeros
+
+abbrev to : tie.After-identity → List ℤ
+to c = second c .mirror-starts2 .last .0 ++ drop (n c) zeros
+
+from-long : (c : tie.After-identity) → length (from c) ≡ TASKS
+from-long c = length-front zeros (first c .mirror-starts .last .0) (n c) (first c .mirror-starts .kept .0) ∙ length-replicate 48 (pos 0)
+
+to-long : (c : tie.After-identity) → length (to c) ≡ TASKS
+to-long c = length-front zeros (second c .mirror-starts2 .last .0) (n c) (second c .mirror-starts2 .kept .0) ∙ length-replicate 48 (pos 0)
+
+from-is : (c : tie.After-identity) → take (n c) (from c) ≡ mirrorStarts (take (length (start c .args .latest .now)) (start c .args .«record» .durations)) (start c .args .latest .now)
+from-is c = take-at (first c .mirror-starts .last .0) (drop (n c) zeros) (n c) (first-long c) ∙ first c .mirror-starts .ensures
+
+to-is : (c : tie.After-identity) → take (n c) (to c) ≡ mirrorStarts (take (length (start c .args .earliest .now)) (start c .args .«record» .durations)) (start c .args .earliest .now)
+to-is c = take-at (second c .mirror-starts2 .last .0) (drop (n c) zeros) (n c) (second-long c) ∙ second c .mirror-starts2 .ensures
+
+-- what the core left
+abbrev made : tie.After-run-accepted → tie.After-identity
+made c = c .before .before .before .before .before
+
+abbrev left : tie.After-run-accepted → List ℤ
+left c = c .run-accepted .last .1 .0
+
+left-long : (c : tie.After-run-accepted) → length (left c) ≡ n (made c)
+left-long c = c .run-accepted .kept .1 .0 ∙ length-take-le (n (made c)) (from (made c)) (omega (arith, from-long (made c), start (made c) .pre .lawful .few))
+
+back-long : (c : tie.After-run-accepted) → length (left c ++ drop (n (made c)) (from (made c))) ≡ TASKS
+back-long c = length-front (from (made c)) (left c) (n (made c)) (c .run-accepted .kept .1 .0) ∙ from-long (made c)
+
+back-is : (c : tie.After-run-accepted) → take (n (made c)) (left c ++ drop (n (made c)) (from (made c))) ≡ left c
+back-is c = take-at (left c) (drop (n (made c)) (from (made c))) (n (made c)) (left-long c)
+
+array-borrow-prefix-from : tie.Need-array-borrow-prefix-from
+array-borrow-prefix-from c = search needs
+
+slice-aggregate-mirror-starts : tie.Need-slice-aggregate-mirror-starts
+slice-aggregate-mirror-starts c = let s = c .before .before in sym (front (s .args .«record» .count) (s .pre .lawful .few))
+
+mirror-starts-requires : tie.Need-mirror-starts-requires
+mirror-starts-requires c κs =
+    let s = c .before .before .before .before in
+    let a = s .args in
+    reflect-latest (a .«record») (a .earliest .now) (a .latest .now) (length (a .posts .now)) (length (a .atoms .now)) (s .pre) (long s) (long₁ s) (long₂ s) (take (a .«record» .count) zeros) (front (a .«record» .count) (s .pre .lawful .few))
+
+array-borrow-prefix-to : tie.Need-array-borrow-prefix-to
+array-borrow-prefix-to c = search needs
+
+slice-aggregate-mirror-starts-2 : tie.Need-slice-aggregate-mirror-starts-2
+slice-aggregate-mirror-starts-2 c = let s = c .before .before .before .before .before .before .before in sym (front (s .args .«record» .count) (s .pre .lawful .few))
+
+mirror-starts-requires-2 : tie.Need-mirror-starts-requires-2
+mirror-starts-requires-2 c κs =
+    let s = c .before .before .before .before .before .before .before .before in
+    let a = s .args in
+    reflect-earliest (a .«record») (a .earliest .now) (a .latest .now) (length (a .posts .now)) (length (a .atoms .now)) (s .pre) (long s) (long₁ s) (long₂ s) (take (a .«record» .count) zeros) (front (a .«record» .count) (s .pre .lawful .few))
+
+identity-requires : tie.Need-identity-requires
+identity-requires c κs = search needs
+
+array-borrow-prefix-from-2 : tie.Need-array-borrow-prefix-from-2
+array-borrow-prefix-from-2 c = omega (arith, from-long c, start c .pre .lawful .few)
+
+slice-aggregate-run-accepted : tie.Need-slice-aggregate-run-accepted
+slice-aggregate-run-accepted c = let i = c .before in sym (length-take-le (n i) (from i) (omega (arith, from-long i, start i .pre .lawful .few)))
+
+array-share-prefix-to : tie.Need-array-share-prefix-to
+array-share-prefix-to c = omega (arith, to-long (c .before), start (c .before) .pre .lawful .few)
+
+slice-aggregate-run-accepted-2 : tie.Need-slice-aggregate-run-accepted-2
+slice-aggregate-run-accepted-2 c = let i = c .before .before in sym (length-take-le (n i) (to i) (omega (arith, to-long i, start i .pre .lawful .few)))
+
+run-accepted-requires : tie.Need-run-accepted-requires
+run-accepted-requires c κs =
+    let i = c .before .before .before .before in
+    let s = start i in
+    let a = s .args in
+    runnable-at (a .«record») (a .earliest .now) (a .latest .now) (length (a .posts .now)) (length (a .atoms .now)) (s .pre) (long s) (long₁ s) (long₂ s) (from-is i) (to-is i) (i .identity .ensures)
+
+array-share-prefix-from : tie.Need-array-share-prefix-from
+array-share-prefix-from c = let r = c .before .before .before .before in omega (arith, back-long r, start (made r) .pre .lawful .few)
+
+slice-aggregate-mirror-starts-3 : tie.Need-slice-aggregate-mirror-starts-3
+slice-aggregate-mirror-starts-3 c = let r = c .before .before .before .before .before in sym (length-take-le (n (made r)) (left r ++ drop (n (made r)) (from (made r))) (omega (arith, back-long r, start (made r) .pre .lawful .few)))
+
+mirror-starts-requires-3 : tie.Need-mirror-starts-requires-3
+mirror-starts-requires-3 c κs =
+    let r = c .before .before .before .before .before .before in
+    let i = made r in
+    let s = start i in
+    let a = s .args in
+    subst (λ (zs : List ℤ). Reflectable (a .latest .now) zs (a .«record» .durations)) (sym (back-is r))
+    (reflect-back (a .«record») (a .earliest .now) (a .latest .now) (length (a .posts .now)) (length (a .atoms .now)) (s .pre) (long s) (long₁ s) (long₂ s) (from-is i) (to-is i) (i .identity .ensures) (r .run-accepted .ensures) (a .latest .now) (s .pre .counts .latest))
+
+same-length : tie.Need-same-length
+same-length c = search needs
+
+same-length-2 : tie.Need-same-length-2
+same-length-2 c = search needs
+
+same-length-3 : tie.Need-same-length-3
+same-length-3 c = search needs
+
+returns : tie.Need-returns
+returns c =
+    let r = c .before .before .before .before .before .before .before .before in
+    let i = made r in
+    let s = start i in
+    let a = s .args in
+    ran-in-mirror (a .«record») (a .earliest .now) (a .latest .now) (length (a .posts .now)) (length (a .atoms .now)) (s .pre) (long s) (long₁ s) (long₂ s) (from-is i) (to-is i) (i .identity .ensures) (r .run-accepted .ensures)
+    (c .before .mirror-starts3 .ensures ∙ ap (λ (zs : List ℤ). mirrorStarts (take (length zs) (a .«record» .durations)) zs) (back-is r))
+
+pub run-in-mirror-spec : {M : Type 1} → statement M
+run-in-mirror-spec =
+    tie.close
+    (tie.spec
+    array-borrow-prefix-from
+    slice-aggregate-mirror-starts
+    mirror-starts-requires
+    array-borrow-prefix-to
+    slice-aggregate-mirror-starts-2
+    mirror-starts-requires-2
+    identity-requires
+    array-borrow-prefix-from-2
+    slice-aggregate-run-accepted
+    array-share-prefix-to
+    slice-aggregate-run-accepted-2
+    run-accepted-requires
+    array-share-prefix-from
+    slice-aggregate-mirror-starts-3
+    mirror-starts-requires-3
+    same-length
+    same-length-2
+    same-length-3
+    returns)

@@ -1,0 +1,3 @@
+pub mod RanMirrored
+pub mod Telling
+pub mod Examples

@@ -1,0 +1,2 @@
+// The mirrored pass.
+pub mod mirrored_propagator;

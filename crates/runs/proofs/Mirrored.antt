@@ -1,0 +1,400 @@
+-- The mirrored pass is right: what a run on mirrored tasks leaves, told in the caller's time, is what the mirrored rule gives. Its words are the run's, mirrored in place.
+-- Assumes nothing.
+use mathlib.Core.Path.{_≡_, refl, sym, ap, ap₂, subst, fun-ext, _∙_}
+use mathlib.Core.Bool.{true}
+use mathlib.Core.List.{List, [], _∷_, _++_, map, map-append}
+use mathlib.Core.Logic.{_↔_}
+use Prim.Native.Nat.{ℕ, zero, suc, _+_, _-_, _*_, _≤_, _<_}
+use native.Mathlib.Omega.{arith}
+use lib.IntN.{ℤ, pos, _+ℤ_}
+use lib.ListN.{length, getD, set, drop, length-map, List·getD-append}
+use lib.Seq.{ext-getD}
+use lib.Signed.{_≤ℤ_, _<ℤ_}
+use mir.Syntax.{w32}
+use mir.Val.{SFits}
+use Rattle.integers.specs.Filling.{filled}
+use Rattle.integers.specs.Moments.{Above, instant, zeroAt}
+use Rattle.integers.specs.Orders.{numbers, sort}
+use Rattle.integers.proofs.Filling.{filled-none, filled-more, filled-length, filled-past, filled-at}
+use Rattle.integers.proofs.Ints.{up, dn, ints, sumℤ, sub-law, fits-show}
+use Rattle.integers.proofs.Moments.{above-show, at-moment, more-above}
+use Rattle.integers.proofs.Permutations.{numbers-permute}
+use Rattle.scheduling.specs.Scheduling.{whole, natural, Tasks, tasksOf, Proper, Atom, Every, PassesWith, PassesAlone}
+use Rattle.scheduling.specs.Words.{atomWords}
+use Rattle.scheduling.specs.Mirroring.{mirrorStart, mirror, mirrorKind, mirrorAtom, mirrorAtoms, MirroredDone}
+use Rattle.scheduling.proofs.Mirroring.{at-mirror, start-twice, start-falls, start-falls<, atom-twice, atoms-twice, edge-mirrored, conflict-mirrored, schedule-mirrored, done-mirrored, holds-mirrored}
+use Rattle.scheduling.proofs.Passed.{every-append}
+use Rattle.scheduling.proofs.Processing.{processing-all, processing-less}
+use Rattle.scheduling.proofs.Transfer.{moments, sound}
+use Rattle.scheduling.proofs.Words.{Three, three-words, atoms-length, atom-set}
+use Rattle.runs.specs.Traces.{Post, End, done, overload, emptied, Trace}
+use Rattle.runs.specs.Runs.{byEarliest, byCompletion}
+use Rattle.runs.specs.Demand.{Right, PostRight, OverloadRight, consequentOf, no-post, post}
+use Rattle.runs.specs.Words.{postWords, reasons, endReason, postsAfter, atomsAfter}
+use Rattle.runs.specs.Mirrored.{mirrorStarts, durationIn, mirrorPost, mirrorEnd, mirrorTrace, mirroredRun, mirroredPass, MirroredPostRight, MirroredOverloadRight, MirroredRight}
+use Rattle.runs.proofs.Buffers.{posts-length}
+use Rattle.runs.proofs.Demand.{Accepted, by-earliest, by-completion, demand-3}
+use Rattle.runs.proofs.Few.{posts-fit, atoms-fit}
+use Rattle.runs.proofs.Fuel.{propagate-is}
+use Rattle.runs.proofs.Readers.{Four, four-words, startOf}
+use Rattle.runs.proofs.Shapes.{Shaped, post-shaped, overload-shaped}
+use Rattle.runs.proofs.Starts.{starts-length, starts-between}
+use Rattle.runs.proofs.Steps.{getD-map-in}
+
+-- Lists of starts --------------------------------------------------------------------------------------------------------------
+
+-- a mirrored list, by its places: past its end both sides are 0
+pub mirror-at : (ds : List ℕ) (zs : List ℤ) → length zs ≡ length ds → (k : ℕ) → getD (mirrorStarts ds zs) k (pos 0) ≡ mirrorStart (getD ds k 0) (getD zs k (pos 0))
+mirror-at [] [] e k = refl
+mirror-at [] (z ∷ zs) e k = absurd (omega arith)
+mirror-at (d ∷ ds) [] e k = absurd (omega arith)
+mirror-at (d ∷ ds) (z ∷ zs) e zero = refl
+mirror-at (d ∷ ds) (z ∷ zs) e (suc k) = mirror-at ds zs (omega arith) k
+
+pub mirror-length : (ds : List ℕ) (zs : List ℤ) → length zs ≡ length ds → length (mirrorStarts ds zs) ≡ length ds
+mirror-length [] zs e = refl
+mirror-length (d ∷ ds) [] e = e
+mirror-length (d ∷ ds) (z ∷ zs) e = ap suc (mirror-length ds zs (omega arith))
+
+-- the tasks of the mirrored lists are the mirrored tasks
+pub mirror-tasks : (ds : List ℕ) (es ls : List ℤ) → length es ≡ length ds → length ls ≡ length ds → tasksOf ds (mirrorStarts ds ls) (mirrorStarts ds es) ≡ mirror (tasksOf ds es ls)
+mirror-tasks ds es ls e l = λ i. record {
+  count = length ds;
+  earliest = λ k. mirror-at ds ls l k i;
+  latest = λ k. mirror-at ds es e k i;
+  duration = λ k. getD ds k 0;
+}
+
+-- Traces -----------------------------------------------------------------------------------------------------------------------
+
+module _ (ds : List ℕ) where
+  pub end-done : (e : End) → mirrorEnd ds e ≡ done ↔ e ≡ done
+  end-done done = (λ _. refl, λ _. refl)
+  end-done (overload r) = (λ z. let y : _≡_ {A = ℕ} 0 1 = cc in absurd (omega arith), λ z. let y : _≡_ {A = ℕ} 0 1 = cc in absurd (omega arith))
+  end-done emptied = (λ z. let y : _≡_ {A = ℕ} 0 1 = cc in absurd (omega arith), λ z. let y : _≡_ {A = ℕ} 0 1 = cc in absurd (omega arith))
+
+  pub end-overload : (e : End) (reason : List Atom) → mirrorEnd ds e ≡ overload reason → (r : List Atom) × (e ≡ overload r) × (mirrorAtoms (durationIn ds) r ≡ reason)
+  end-overload done reason z = let y : _≡_ {A = ℕ} 0 1 = cc in absurd (omega arith)
+  end-overload (overload r) reason z = (r, refl, cc)
+  end-overload emptied reason z = let y : _≡_ {A = ℕ} 0 1 = cc in absurd (omega arith)
+
+  module _ (t : Trace) where
+    pub posts-same : length (mirrorTrace ds t .posts) ≡ length (t .posts)
+    posts-same = length-map (t .posts) (mirrorPost ds)
+
+    pub post-at : (j : ℕ) → j < length (t .posts) → post (mirrorTrace ds t) j ≡ mirrorPost ds (post t j)
+    post-at j q = getD-map-in (mirrorPost ds) (t .posts) j no-post no-post q
+
+-- What is right in mirrored time is right in the caller's.
+module _ (ds : List ℕ) (es ls : List ℤ) where
+  abbrev J : Tasks whole
+  J = tasksOf ds es ls
+
+  right-post : (p : Post) → PostRight (mirror J) p → MirroredPostRight J (mirrorPost ds p)
+  right-post p r = record {
+    small = r .small;
+    lowers = subst (λ (z : ℤ). mirrorStart (J .duration (p .task)) (p .bound) <ℤ z) (start-twice (J .duration (p .task)) (J .latest (p .task)))
+        (start-falls< (J .duration (p .task)) (mirror J .earliest (p .task)) (p .bound) (r .raises));
+    rule = edge-mirrored J (p .task) (p .bound) .0 (r .edge);
+    holds = λ s h. subst (λ (z : ℤ). z ≤ℤ mirrorStart (J .duration (p .task)) (p .bound)) (start-twice (J .duration (p .task)) (s (p .task)))
+        (start-falls (J .duration (p .task)) (p .bound) (mirrorStart (J .duration (p .task)) (s (p .task))) (r .holds (λ k. mirrorStart (J .duration k) (s k)) (schedule-mirrored J s h)));
+    reason-holds = holds-mirrored J (p .reason) (r .reason-holds);
+    reason-passes = subst (λ (a : Atom). PassesWith (mirror J) (mirrorAtoms (J .duration) (mirrorAtoms (J .duration) (p .reason))) a) (sym (atom-twice (J .duration) (consequentOf p)))
+        (subst (λ (xs : List Atom). PassesWith (mirror J) xs (consequentOf p)) (sym (atoms-twice (J .duration) (p .reason))) (r .reason-passes));
+  }
+
+  right-overload : (reason : List Atom) → OverloadRight (mirror J) reason → MirroredOverloadRight J (mirrorAtoms (J .duration) reason)
+  right-overload reason r = record {
+    reason-holds = holds-mirrored J reason (r .reason-holds);
+    reason-passes = subst (PassesAlone (mirror J)) (sym (atoms-twice (J .duration) reason)) (r .reason-passes);
+  }
+
+  pub right-mirrored : (t : Trace) → length (t .starts) ≡ length ds → Right (mirror J) t → MirroredRight J (mirrorTrace ds t)
+  right-mirrored t long r = record {
+    exactly = (
+      λ z c. r .exactly .0 (end-done ds (t .end) .0 z) (conflict-mirrored J .1 c),
+      λ n. end-done ds (t .end) .1 (r .exactly .1 (λ c. n (conflict-mirrored J .0 c))),
+    );
+    when-done = λ z. subst (λ (m : ℕ). MirroredDone J now m (λ j. post (mirrorTrace ds t) j .task) bound) (sym (posts-same ds t))
+        (subst (λ (f : ℕ → ℕ). MirroredDone J now (length (t .posts)) f bound) (fun-ext tasks)
+        (done-mirrored J (λ k. getD (t .starts) k (pos 0)) now (length (t .posts)) (λ j. post t j .task) (λ j. post t j .bound) bound
+        (λ k q. mirror-at ds (t .starts) long k) (λ j q. ap (λ (p : Post). p .bound) (post-at ds t j q)) (r .when-done (end-done ds (t .end) .0 z))));
+    otherwise = λ n s h. r .otherwise (λ z. n (end-done ds (t .end) .1 z)) (λ k. mirrorStart (J .duration k) (s k)) (schedule-mirrored J s h);
+    posts = λ j q. let p : j < length (t .posts) = omega (arith, posts-same ds t) in subst (MirroredPostRight J) (sym (post-at ds t j p)) (right-post (post t j) (r .posts j p));
+    overloads = λ reason z. let (a, e, same) = end-overload ds (t .end) reason z in subst (MirroredOverloadRight J) same (right-overload a (r .overloads a e));
+  }
+    where
+      now : ℕ → ℤ
+      now k = getD (mirrorStarts ds (t .starts)) k (pos 0)
+
+      bound : ℕ → ℤ
+      bound j = post (mirrorTrace ds t) j .bound
+
+      -- past the last post both are task 0
+      tasks : (j : ℕ) → post t j .task ≡ post (mirrorTrace ds t) j .task
+      tasks j = each (t .posts) j
+        where
+          each : (ps : List Post) (j : ℕ) → getD ps j no-post .task ≡ getD (map (mirrorPost ds) ps) j no-post .task
+          each [] j = refl
+          each (p ∷ ps) zero = refl
+          each (p ∷ ps) (suc j) = each ps j
+
+-- The pass ---------------------------------------------------------------------------------------------------------------------
+
+-- the limits of mirrored starts
+low : (p : ℕ) (z : ℤ) → p ≤ 200000000 → z ≤ℤ pos 200000000 → Above 400000000 (mirrorStart p z)
+unfolding up dn
+low p z h k = omega (ints, at-mirror p z)
+
+high : (p : ℕ) (z : ℤ) → Above 200000000 z → mirrorStart p z ≤ℤ pos 400000000
+unfolding up dn
+high p z h = omega (ints, at-mirror p z)
+
+-- and of the starts that they are mirrored back from
+above : (p : ℕ) (z s : ℤ) → s ≤ℤ mirrorStart p z → z ≤ℤ mirrorStart p s
+above p z s h = omega (ints, at-mirror p z, at-mirror p s)
+
+below : (p : ℕ) (z s : ℤ) → mirrorStart p z ≤ℤ s → mirrorStart p s ≤ℤ z
+below p z s h = omega (ints, at-mirror p z, at-mirror p s)
+
+abbrev pub no-atom : Atom
+no-atom = record { variable = 0; kind = 0; value = pos 0 }
+
+-- An atom of a mirrored run: ≥ or ≤ on one of n tasks, its value so near that it and its mirrored value are i32s.
+pub record Near (n : ℕ) (a : Atom) : Type 0 where
+  pub task : a .variable < n
+  pub kind : a .kind < 2
+  pub low : Above 1400000000 (a .value)
+  pub high : a .value ≤ℤ pos 800000000
+
+shaped-near : (n : ℕ) (a : Atom) → Shaped zeroAt n (zeroAt - 400000000) (zeroAt + 400000000) 200000000 a → Near n a
+unfolding up dn
+shaped-near n a s = record {
+  task = s .task;
+  kind = s .kind;
+  low = subst (Above 1400000000) (sym (s .value)) (above-show 1400000000 (instant zeroAt (s .at)) (omega (arith, sub-law (s .at) zeroAt, s .from)));
+  high = subst (λ (z : ℤ). z ≤ℤ pos 800000000) (sym (s .value)) (omega (ints, sub-law (s .at) zeroAt, s .to));
+}
+
+all-near : (n : ℕ) (xs : List Atom) → Every (Shaped zeroAt n (zeroAt - 400000000) (zeroAt + 400000000) 200000000) xs → Every (Near n) xs
+all-near n [] h = tt
+all-near n (a ∷ rest) h = (shaped-near n a (h .0), all-near n rest (h .1))
+
+all-reasons : (P : Atom → Type 0) (ps : List Post) → ((j : ℕ) → j < length ps → Every P (getD ps j no-post .reason)) → Every P (reasons ps)
+unfolding reasons
+all-reasons P [] h = tt
+all-reasons P (p ∷ ps) h = every-append P (p .reason) (reasons ps) (h 0 (omega arith)) (all-reasons P ps (λ j q. h (suc j) (omega arith)))
+
+pub near-at : (n : ℕ) (xs : List Atom) → Every (Near n) xs → (m : ℕ) → m < length xs → Near n (getD xs m no-atom)
+near-at n [] h m q = absurd (omega arith)
+near-at n (a ∷ rest) h zero q = h .0
+near-at n (a ∷ rest) h (suc m) q = near-at n rest (h .1) m (omega arith)
+
+pub near-sum : (n p : ℕ) (a : Atom) → p ≤ 200000000 → Near n a → SFits w32 (a .value +ℤ pos p)
+unfolding up dn
+near-sum n p a h r = fits-show w32 (a .value +ℤ pos p) (omega (ints, sumℤ (a .value) (pos p), at-moment 1400000000 (a .value) (r .low), r .high)) (omega (ints, sumℤ (a .value) (pos p), at-moment 1400000000 (a .value) (r .low), r .high))
+
+pub near-fits : (n p : ℕ) (a : Atom) → p ≤ 200000000 → Near n a → SFits w32 (mirrorStart p (a .value))
+unfolding up dn
+near-fits n p a h r = fits-show w32 (mirrorStart p (a .value)) (omega (ints, at-mirror p (a .value), at-moment 1400000000 (a .value) (r .low), r .high)) (omega (ints, at-mirror p (a .value), at-moment 1400000000 (a .value) (r .low), r .high))
+
+-- What the caller lends, mirrored, is accepted with the wider limit.
+module _ (ds : List ℕ) (es ls : List ℤ) (first second : List ℕ) (a : Accepted 200000000 ds es ls first second) (long-es : length es ≡ length ds) (long-ls : length ls ≡ length ds) where
+  -- what the run is called with
+  abbrev early : List ℤ
+  early = mirrorStarts ds ls
+
+  abbrev late : List ℤ
+  late = mirrorStarts ds es
+
+  abbrev order : List ℕ
+  order = numbers 0 (length ds)
+
+  lasting : (k : ℕ) → k < length ds → getD ds k 0 ≤ 200000000
+  lasting k q = let N = moments zeroAt (tasksOf ds es ls) in omega (arith, a .sum, processing-all N, processing-less N (λ _. true) k (record { small = q; mem = refl }))
+
+  pub mirrored-accepted : Accepted 400000000 ds (mirrorStarts ds ls) (mirrorStarts ds es) (numbers 0 (length ds)) (numbers 0 (length ds))
+  mirrored-accepted = record {
+    some = a .some;
+    few = a .few;
+    lasts = a .lasts;
+    sum = a .sum;
+    from = λ k q. subst (Above 400000000) (sym (mirror-at ds ls long-ls k)) (low (getD ds k 0) (getD ls k (pos 0)) (lasting k q) (a .to k q));
+    to = λ k q. subst (λ (z : ℤ). z ≤ℤ pos 400000000) (sym (mirror-at ds es long-es k)) (high (getD ds k 0) (getD es k (pos 0)) (a .from k q));
+    ranges = λ k q. subst (λ (z : ℤ). z ≤ℤ getD (mirrorStarts ds es) k (pos 0)) (sym (mirror-at ds ls long-ls k))
+        (subst (λ (z : ℤ). mirrorStart (getD ds k 0) (getD ls k (pos 0)) ≤ℤ z) (sym (mirror-at ds es long-es k)) (start-falls (getD ds k 0) (getD es k (pos 0)) (getD ls k (pos 0)) (a .ranges k q)));
+    first-permutes = numbers-permute (length ds);
+    second-permutes = numbers-permute (length ds);
+  }
+
+  pub mirrored-right : MirroredRight (tasksOf ds es ls) (mirroredPass ds es ls)
+  mirrored-right = right-mirrored ds es ls (mirroredRun ds es ls) (starts-length ds early late order order)
+      (subst (λ (K : Tasks whole). Right K (mirroredRun ds es ls)) (mirror-tasks ds es ls long-es long-ls)
+      (demand-3 400000000 (omega arith) ds early late order order mirrored-accepted))
+
+  -- However the pass ends, each latest start that it leaves is in its task's range,
+  pub latest-between : (k : ℕ) → k < length ds → (getD es k (pos 0) ≤ℤ getD (mirroredPass ds es ls .starts) k (pos 0)) × (getD (mirroredPass ds es ls .starts) k (pos 0) ≤ℤ getD ls k (pos 0))
+  latest-between k q =
+      let h = starts-between ds early late order order 400000000 (omega arith) mirrored-accepted k q in
+      let d : ℕ = getD ds k 0 in
+      let s : ℤ = getD (mirroredRun ds es ls .starts) k (pos 0) in
+      subst (λ (z : ℤ). (getD es k (pos 0) ≤ℤ z) × (z ≤ℤ getD ls k (pos 0))) (sym (mirror-at ds (mirroredRun ds es ls .starts) (starts-length ds early late order order) k)) (
+        above d (getD es k (pos 0)) s (subst (λ (z : ℤ). s ≤ℤ z) (mirror-at ds es long-es k) (h .1)),
+        below d (getD ls k (pos 0)) s (subst (λ (z : ℤ). z ≤ℤ s) (mirror-at ds ls long-ls k) (h .0)),
+      )
+
+  -- and the run's bounds and reasons are near, so that they can be mirrored in words.
+  pub post-near : (j : ℕ) → j < length (mirroredRun ds es ls .posts) → Near (length ds) (consequentOf (post (mirroredRun ds es ls) j))
+  post-near j q = shaped-near (length ds) (consequentOf (post (mirroredRun ds es ls) j)) (post-shaped 400000000 (omega arith) ds early late order order mirrored-accepted j q .says)
+
+  pub atoms-near : Every (Near (length ds)) (reasons (mirroredRun ds es ls .posts) ++ endReason (mirroredRun ds es ls .end))
+  atoms-near = every-append (Near (length ds)) (reasons (mirroredRun ds es ls .posts)) (endReason (mirroredRun ds es ls .end))
+      (all-reasons (Near (length ds)) (mirroredRun ds es ls .posts) (λ j q. all-near (length ds) (post (mirroredRun ds es ls) j .reason)
+      (post-shaped 400000000 (omega arith) ds early late order order mirrored-accepted j q .because)))
+      (ended (mirroredRun ds es ls .end) refl)
+    where
+      ended : (e : End) → mirroredRun ds es ls .end ≡ e → Every (Near (length ds)) (endReason e)
+      ended done z = tt
+      ended (overload r) z = all-near (length ds) r
+          (overload-shaped 400000000 (omega arith) ds early late order order mirrored-accepted r z .because)
+      ended emptied z = tt
+
+  -- They fit the lent slices as a run's do.
+  abbrev N : Tasks natural
+  N = moments zeroAt (tasksOf ds early late)
+
+  proper : Proper N
+  proper = sound zeroAt (tasksOf ds early late) (record { ranges = mirrored-accepted .ranges; lasts = mirrored-accepted .lasts })
+      (λ k q. more-above 400000000 zeroAt (omega arith) (getD early k (pos 0)) (mirrored-accepted .from k q))
+
+  pub mirrored-posts-fit : length (postWords 0 (mirroredRun ds es ls .posts)) ≤ 4 * length ds
+  mirrored-posts-fit = subst (λ (t : Trace). length (postWords 0 (t .posts)) ≤ 4 * length ds) (sym (propagate-is ds early late order order))
+      (posts-fit zeroAt N proper (sort (byEarliest N) order) (sort (byCompletion N) order) (by-earliest N order (numbers-permute (length ds))) (by-completion N order (numbers-permute (length ds))) (a .some))
+
+  pub mirrored-atoms-fit : length (atomWords (reasons (mirroredRun ds es ls .posts) ++ endReason (mirroredRun ds es ls .end))) ≤ 6 * (length ds * length ds)
+  mirrored-atoms-fit = subst (λ (t : Trace). length (atomWords (reasons (t .posts) ++ endReason (t .end))) ≤ 6 * (length ds * length ds)) (sym (propagate-is ds early late order order))
+      (atoms-fit zeroAt N proper (sort (byEarliest N) order) (sort (byCompletion N) order) (by-earliest N order (numbers-permute (length ds))) (by-completion N order (numbers-permute (length ds))) (a .some))
+
+-- Words ------------------------------------------------------------------------------------------------------------------------
+
+-- the atoms of all reasons of a trace
+abbrev pub atomsIn : Trace → List Atom
+atomsIn t = reasons (t .posts) ++ endReason (t .end)
+
+-- what a loop leaves that puts f of each element in its place
+filled-all : {A : Type 0} (f : A → A) (d : A) (l : List A) → filled (λ k. f (getD l k d)) (length l) l ≡ map f l
+filled-all f d l = ext-getD d (filled (λ k. f (getD l k d)) (length l) l) (map f l) (size ∙ sym (length-map l f))
+    (λ k q. filled-at (λ k. f (getD l k d)) (length l) l d k (omega (arith, size)) (omega arith) ∙ sym (getD-map-in f l k d d (omega (arith, size))))
+  where
+    size : length (filled (λ k. f (getD l k d)) (length l) l) ≡ length l
+    size = filled-length (λ k. f (getD l k d)) (length l) l
+
+-- another bound for a post: one store
+post-set : (ps : List Post) (tail : List ℤ) (from j : ℕ) (p : Post) → j < length ps → p .task ≡ getD ps j no-post .task → length (p .reason) ≡ length (getD ps j no-post .reason)
+    → set (postWords from ps ++ tail) (4 * j + 1) (p .bound) ≡ postWords from (set ps j p) ++ tail
+unfolding postWords
+post-set [] tail from j p h e r = absurd (omega arith)
+post-set (q ∷ ps) tail from zero p h e r = ap₂ (λ (k m : ℕ). pos k ∷ p .bound ∷ pos from ∷ pos m ∷ (postWords (from + m) ps ++ tail)) (sym e) (sym r)
+post-set (q ∷ ps) tail from (suc j) p h e r =
+    let b : 4 * suc j + 1 ≡ suc (suc (suc (suc (4 * j + 1)))) = omega arith in
+    rw b (ap (λ (l : List ℤ). pos (q .task) ∷ q .bound ∷ pos from ∷ pos (length (q .reason)) ∷ l) (post-set ps tail (from + length (q .reason)) j p (omega arith) e r))
+
+module _ (ds : List ℕ) where
+  -- how many words
+  pub post-words-length : (ps : List Post) (from : ℕ) → length (postWords from (map (mirrorPost ds) ps)) ≡ length (postWords from ps)
+  post-words-length ps from = omega (arith, posts-length ps from, posts-length (map (mirrorPost ds) ps) from, length-map ps (mirrorPost ds))
+
+  pub atom-words-length : (xs : List Atom) → length (atomWords (mirrorAtoms (durationIn ds) xs)) ≡ length (atomWords xs)
+  atom-words-length xs = omega (arith, atoms-length xs, atoms-length (mirrorAtoms (durationIn ds) xs), length-map xs (mirrorAtom (durationIn ds)))
+
+  -- the atoms of a mirrored trace
+  pub reasons-mirrored : (ps : List Post) → reasons (map (mirrorPost ds) ps) ≡ mirrorAtoms (durationIn ds) (reasons ps)
+  unfolding reasons
+  reasons-mirrored [] = refl
+  reasons-mirrored (p ∷ ps) = ap (λ (l : List Atom). mirrorAtoms (durationIn ds) (p .reason) ++ l) (reasons-mirrored ps) ∙ sym (map-append (mirrorAtom (durationIn ds)) (p .reason) (reasons ps))
+
+  end-mirrored : (e : End) → endReason (mirrorEnd ds e) ≡ mirrorAtoms (durationIn ds) (endReason e)
+  end-mirrored done = refl
+  end-mirrored (overload r) = refl
+  end-mirrored emptied = refl
+
+  pub atoms-mirrored : (t : Trace) → atomsIn (mirrorTrace ds t) ≡ mirrorAtoms (durationIn ds) (atomsIn t)
+  atoms-mirrored t = ap₂ (λ (a b : List Atom). a ++ b) (reasons-mirrored (t .posts)) (end-mirrored (t .end)) ∙ sym (map-append (mirrorAtom (durationIn ds)) (reasons (t .posts)) (endReason (t .end)))
+
+  starts : (ps : List Post) (j : ℕ) → startOf (map (mirrorPost ds) ps) j ≡ startOf ps j
+  unfolding startOf
+  starts [] j = refl
+  starts (p ∷ ps) zero = refl
+  starts (p ∷ ps) (suc j) = omega (arith, length-map (p .reason) (mirrorAtom (durationIn ds)), starts ps j)
+
+  -- Word by word: of a post the bound is mirrored, of an atom the kind and the value; all else stays.
+  pub mirrored-four : (ps : List Post) (from j : ℕ) → j < length ps → Four (postWords from (map (mirrorPost ds) ps)) (4 * j) (mirrorPost ds (getD ps j no-post)) (from + startOf ps j)
+  mirrored-four ps from j q = subst (λ (p : Post). Four (postWords from (map (mirrorPost ds) ps)) (4 * j) p (from + startOf ps j)) (getD-map-in (mirrorPost ds) ps j no-post no-post q)
+      (subst (λ (k : ℕ). Four (postWords from (map (mirrorPost ds) ps)) (4 * j) (getD (map (mirrorPost ds) ps) j no-post) (from + k)) (starts ps j) (four-words (map (mirrorPost ds) ps) from j (omega (arith, length-map ps (mirrorPost ds)))))
+
+  pub mirrored-three : (xs : List Atom) (tail : List ℤ) (m : ℕ) → m < length xs → Three (atomWords (mirrorAtoms (durationIn ds) xs) ++ tail) (3 * m) (mirrorAtom (durationIn ds) (getD xs m no-atom))
+  mirrored-three xs tail m q = subst (Three (atomWords (mirrorAtoms (durationIn ds) xs) ++ tail) (3 * m)) (getD-map-in (mirrorAtom (durationIn ds)) xs m no-atom no-atom q)
+      (three-words (mirrorAtoms (durationIn ds) xs) tail m no-atom (omega (arith, length-map xs (mirrorAtom (durationIn ds)))))
+
+  -- In place: the first i posts and atoms are mirrored, the others not yet.
+  abbrev pub postsTo : ℕ → List Post → List Post
+  postsTo i ps = filled (λ k. mirrorPost ds (getD ps k no-post)) i ps
+
+  abbrev pub atomsTo : ℕ → List Atom → List Atom
+  atomsTo i xs = filled (λ k. mirrorAtom (durationIn ds) (getD xs k no-atom)) i xs
+
+  pub posts-begin : (ps : List Post) → postsTo 0 ps ≡ ps
+  posts-begin ps = filled-none (λ k. mirrorPost ds (getD ps k no-post)) ps
+
+  pub atoms-begin : (xs : List Atom) → atomsTo 0 xs ≡ xs
+  atoms-begin xs = filled-none (λ k. mirrorAtom (durationIn ds) (getD xs k no-atom)) xs
+
+  module _ (ps : List Post) (tail : List ℤ) (from i : ℕ) (q : i < length ps) where
+    long : i < length (postsTo i ps)
+    long = omega (arith, filled-length (λ k. mirrorPost ds (getD ps k no-post)) i ps)
+
+    still : getD (postsTo i ps) i no-post ≡ getD ps i no-post
+    still = filled-past (λ k. mirrorPost ds (getD ps k no-post)) i ps no-post i (omega arith)
+
+    -- what a turn reads, and what it leaves
+    pub post-task : getD (postWords from (postsTo i ps) ++ tail) (4 * i) (pos 0) ≡ pos (getD ps i no-post .task)
+    post-task = List·getD-append (postWords from (postsTo i ps)) tail (pos 0) (4 * i) (omega (arith, posts-length (postsTo i ps) from, long)) ∙ four-words (postsTo i ps) from i long .task ∙ ap (λ (p : Post). pos (p .task)) still
+
+    pub post-bound : getD (postWords from (postsTo i ps) ++ tail) (4 * i + 1) (pos 0) ≡ getD ps i no-post .bound
+    post-bound = List·getD-append (postWords from (postsTo i ps)) tail (pos 0) (4 * i + 1) (omega (arith, posts-length (postsTo i ps) from, long)) ∙ four-words (postsTo i ps) from i long .bound ∙ ap (λ (p : Post). p .bound) still
+
+    pub posts-step : set (postWords from (postsTo i ps) ++ tail) (4 * i + 1) (mirrorStart (durationIn ds (getD ps i no-post .task)) (getD ps i no-post .bound)) ≡ postWords from (postsTo (i + 1) ps) ++ tail
+    posts-step = post-set (postsTo i ps) tail from i (mirrorPost ds (getD ps i no-post)) long (ap (λ (p : Post). p .task) (sym still))
+        (length-map (getD ps i no-post .reason) (mirrorAtom (durationIn ds)) ∙ ap (λ (p : Post). length (p .reason)) (sym still))
+        ∙ ap (λ (l : List Post). postWords from l ++ tail) (sym (filled-more (λ k. mirrorPost ds (getD ps k no-post)) i ps))
+
+  module _ (xs : List Atom) (tail : List ℤ) (i : ℕ) (q : i < length xs) where
+    long-atoms : i < length (atomsTo i xs)
+    long-atoms = omega (arith, filled-length (λ k. mirrorAtom (durationIn ds) (getD xs k no-atom)) i xs)
+
+    still-atom : getD (atomsTo i xs) i no-atom ≡ getD xs i no-atom
+    still-atom = filled-past (λ k. mirrorAtom (durationIn ds) (getD xs k no-atom)) i xs no-atom i (omega arith)
+
+    pub atom-read : Three (atomWords (atomsTo i xs) ++ tail) (3 * i) (getD xs i no-atom)
+    atom-read = subst (Three (atomWords (atomsTo i xs) ++ tail) (3 * i)) still-atom (three-words (atomsTo i xs) tail i no-atom long-atoms)
+
+    pub atoms-step : set (set (atomWords (atomsTo i xs) ++ tail) (3 * i + 1) (pos (mirrorKind (getD xs i no-atom .kind)))) (3 * i + 2) (mirrorStart (durationIn ds (getD xs i no-atom .variable)) (getD xs i no-atom .value))
+        ≡ atomWords (atomsTo (i + 1) xs) ++ tail
+    atoms-step = atom-set (atomsTo i xs) tail i (mirrorAtom (durationIn ds) (getD xs i no-atom)) no-atom long-atoms (ap (λ (a : Atom). a .variable) (sym still-atom))
+        ∙ ap (λ (l : List Atom). atomWords l ++ tail) (sym (filled-more (λ k. mirrorAtom (durationIn ds) (getD xs k no-atom)) i xs))
+
+  -- at the end the slices hold the mirrored trace's words, and after them what stood there
+  pub posts-after : (entry : List ℤ) (t : Trace) → postWords 0 (postsTo (length (t .posts)) (t .posts)) ++ drop (length (postWords 0 (t .posts))) entry ≡ postsAfter entry (mirrorTrace ds t)
+  posts-after entry t = ap₂ (λ (l : List Post) (k : ℕ). postWords 0 l ++ drop k entry) (filled-all (mirrorPost ds) no-post (t .posts)) (sym (post-words-length (t .posts) 0))
+
+  pub atoms-after : (entry : List ℤ) (t : Trace) → atomWords (atomsTo (length (atomsIn t)) (atomsIn t)) ++ drop (length (atomWords (atomsIn t))) entry ≡ atomsAfter entry (mirrorTrace ds t)
+  atoms-after entry t = ap₂ (λ (l : List Atom) (k : ℕ). atomWords l ++ drop k entry) (filled-all (mirrorAtom (durationIn ds)) no-atom (atomsIn t)) (sym (atom-words-length (atomsIn t)))
+      ∙ ap (λ (l : List Atom). atomWords l ++ drop (length (atomWords l)) entry) (sym (atoms-mirrored t))
+
+  -- starts are mirrored in place too
+  pub starts-after : (zs : List ℤ) → length zs ≡ length ds → filled (λ k. mirrorStart (getD ds k 0) (getD zs k (pos 0))) (length zs) zs ≡ mirrorStarts ds zs
+  starts-after zs e = ext-getD (pos 0) (filled (λ k. mirrorStart (getD ds k 0) (getD zs k (pos 0))) (length zs) zs) (mirrorStarts ds zs) (size ∙ e ∙ sym (mirror-length ds zs e))
+      (λ k q. filled-at (λ k. mirrorStart (getD ds k 0) (getD zs k (pos 0))) (length zs) zs (pos 0) k (omega (arith, size)) (omega arith) ∙ sym (mirror-at ds zs e k))
+    where
+      size : length (filled (λ k. mirrorStart (getD ds k 0) (getD zs k (pos 0))) (length zs) zs) ≡ length zs
+      size = filled-length (λ k. mirrorStart (getD ds k 0) (getD zs k (pos 0))) (length zs) zs
