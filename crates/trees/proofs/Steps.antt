@@ -14,7 +14,6 @@ use borrow.Author.Tests.{le-leb, lt-leb}
 use Rattle.integers.proofs.Bools.{bool, clash}
 use Rattle.trees.specs.declared.disjunctive_task.LocalId.{LocalId}
 use Rattle.trees.specs.declared.theta_lambda_tree.Responsible.the-variants as responsible
-use Rattle.trees.specs.declared.theta_lambda_tree.Found.{Found}
 use Rattle.trees.specs.declared.theta_lambda_tree.Node.{Node}
 use Rattle.trees.specs.declared.theta_lambda_tree.Around.{Around}
 use Rattle.trees.specs.declared.theta_lambda_tree.Around.the-variants as around
@@ -22,11 +21,10 @@ use Rattle.trees.specs.declared.theta_lambda_tree.PDescent.{PDescent}
 use Rattle.trees.specs.declared.theta_lambda_tree.PDescent.the-variants.{Left, Right, Here, Nothing}
 use Rattle.trees.specs.declared.theta_lambda_tree.EctBarDescent.the-variants as bar
 use Rattle.trees.specs.declared.theta_lambda_tree.EctBarDescent.{EctBarDescent}
-use Rattle.trees.specs.declared.theta_lambda_tree.Found.the-variants as found
 use Rattle.trees.specs.Shapes.{width, leftmost, HasHeight, leavesOf, nodeOver}
 use Rattle.trees.specs.Nodes.{joinOf}
 use Rattle.trees.specs.Bounds.{size, Fair, Fits}
-use Rattle.trees.specs.Searches.{aroundOf, AroundFits, stepAtP, stepAtEct, Searched, Searchable, gray, descentP, descentEct, stepP, stepEct, searchP, searchEct, foundAt, responsibleOf}
+use Rattle.trees.specs.Searches.{aroundOf, AroundFits, stepAtP, stepAtEct, Searched, Searchable, gray, descentP, descentEct, stepP, stepEct, searchP, searchEct, nowhere, foundAt, responsibleOf}
 use Rattle.trees.proofs.Heights.{leftmost-leaf, leftmost-left, leftmost-right, inner-height, left-height, right-height, leaf-at, height-inside, root-first}
 use Rattle.trees.proofs.Wiring.{node-is, over-fits}
 use Rattle.trees.proofs.Descents.{tagP, tagEct, never-here-p, never-here-ect}
@@ -202,9 +200,9 @@ module _ {m : ℕ} {at : ℕ → Node} where
     unfolding tagP
     right-p e y = to-right (searchP (leavesOf m at) h (leftmost h i - m)) (searchP (leavesOf m at)) e (not-leaf-p (leavesOf m at) h (leftmost h i - m) (omega (arith, ap tagP y))) (λ g z. go-p (leavesOf m at) h g (leftmost h i - m) z Right y)
 
-    pub here-p : stepP (leavesOf m at) h (leftmost h i - m) ≡ Here → found.At i ≡ foundAt m (searchP (leavesOf m at) h (leftmost h i - m))
+    pub here-p : stepP (leavesOf m at) h (leftmost h i - m) ≡ Here → i ≡ foundAt m (searchP (leavesOf m at) h (leftmost h i - m))
     unfolding tagP
-    here-p y = rw (here-search-p (leavesOf m at) h (leftmost h i - m) y) (ap found.At (at-leaf (is-leaf-p (leavesOf m at) h (leftmost h i - m) (omega (arith, ap tagP y)))))
+    here-p y = rw (here-search-p (leavesOf m at) h (leftmost h i - m) y) (at-leaf (is-leaf-p (leavesOf m at) h (leftmost h i - m) (omega (arith, ap tagP y))))
 
     -- by ects
     pub right-ect : {j : ℕ} → j ≡ 2 * i + 2 → stepEct (leavesOf m at) h (leftmost h i - m) ≡ bar.Right → ChildSearch m at h i j (searchEct (leavesOf m at) h (leftmost h i - m)) (searchEct (leavesOf m at) (h - 1) ((leftmost (h - 1) j - m)))
@@ -219,9 +217,9 @@ module _ {m : ℕ} {at : ℕ → Node} where
     unfolding tagEct
     left-ect e y = to-left (searchEct (leavesOf m at) h (leftmost h i - m)) (searchEct (leavesOf m at)) e (not-leaf-ect (leavesOf m at) h (leftmost h i - m) (omega (arith, ap tagEct y))) (λ g z. go-ect (leavesOf m at) h g (leftmost h i - m) z bar.Left y)
 
-    pub here-ect : stepEct (leavesOf m at) h (leftmost h i - m) ≡ bar.Here → found.At i ≡ foundAt m (searchEct (leavesOf m at) h (leftmost h i - m))
+    pub here-ect : stepEct (leavesOf m at) h (leftmost h i - m) ≡ bar.Here → i ≡ foundAt m (searchEct (leavesOf m at) h (leftmost h i - m))
     unfolding tagEct
-    here-ect y = rw (here-search-ect (leavesOf m at) h (leftmost h i - m) y) (ap found.At (at-leaf (is-leaf-ect (leavesOf m at) h (leftmost h i - m) (omega (arith, ap tagEct y)))))
+    here-ect y = rw (here-search-ect (leavesOf m at) h (leftmost h i - m) y) (at-leaf (is-leaf-ect (leavesOf m at) h (leftmost h i - m) (omega (arith, ap tagEct y))))
 
 -- the answers ------------------------------------------------------------------------------------------------------------------
 
@@ -277,34 +275,26 @@ module _ (m h : ℕ) (at : ℕ → Node) (s : Searchable m h at) where
   abbrev root : Option ℕ
   root = searchEct (leavesOf m at) h 0
 
-  from-first : (r : Found) → r ≡ foundAt m (searchEct (leavesOf m at) h (leftmost h 0 - m)) → r ≡ foundAt m root
+  from-first : (r : ℕ) → r ≡ foundAt m (searchEct (leavesOf m at) h (leftmost h 0 - m)) → r ≡ foundAt m root
   from-first r e = e ∙ ap (λ (a : ℕ). foundAt m (searchEct (leavesOf m at) h a)) (root-first m h (s .complete))
 
-  pub answer-at : (r : Found) → r ≡ foundAt m (searchEct (leavesOf m at) h (leftmost h 0 - m)) → (position : ℕ) → r ≡ found.At position → AnswerAt m h at position
-  answer-at r e position y = by root refl (sym y ∙ from-first r e)
-    where
-      by : (o : Option ℕ) → root ≡ o → found.At position ≡ foundAt m o → AnswerAt m h at position
-      by none q z = absurd (never z)
-        where
-          never : found.At position ≡ found.Nothing → ⊥
-          never w = let v : _≡_ {A = ℕ} 0 1 = cc in omega arith
-      by (some x) q z = record { place = x; is = at-is z; small = below; same = q }
-        where
-          at-is : found.At position ≡ found.At (m + x) → position ≡ m + x
-          at-is w = cc
+  -- a leaf that the search answers is that of a task
+  below : (x : ℕ) → root ≡ some x → x < 48
+  below x q = elim (decLt x 48) [ yes u ↦ u | no u ↦ clash (answer-ect (leavesOf m at) h 0 x q) (s .past x (omega arith)) ]
 
-          below : x < 48
-          below = elim (decLt x 48) [ yes u ↦ u | no u ↦ clash (answer-ect (leavesOf m at) h 0 x q) (s .past x (omega arith)) ]
-
-  pub no-answer : (r : Found) → r ≡ foundAt m (searchEct (leavesOf m at) h (leftmost h 0 - m)) → r ≡ found.Nothing → root ≡ none
-  no-answer r e y = by root refl (sym y ∙ from-first r e)
+  pub answer-at : (r : ℕ) → r ≡ foundAt m (searchEct (leavesOf m at) h (leftmost h 0 - m)) → (r ≡ nowhere → ⊥) → AnswerAt m h at r
+  answer-at r e ne = by root refl (from-first r e)
     where
-      by : (o : Option ℕ) → root ≡ o → found.Nothing ≡ foundAt m o → root ≡ none
+      by : (o : Option ℕ) → root ≡ o → r ≡ foundAt m o → AnswerAt m h at r
+      by none q z = absurd (ne z)
+      by (some x) q z = record { place = x; is = z; small = below x q; same = q }
+
+  pub no-answer : (r : ℕ) → r ≡ foundAt m (searchEct (leavesOf m at) h (leftmost h 0 - m)) → r ≡ nowhere → root ≡ none
+  no-answer r e y = by root refl (from-first r e)
+    where
+      by : (o : Option ℕ) → root ≡ o → r ≡ foundAt m o → root ≡ none
       by none q z = q
-      by (some x) q z = absurd (never z)
-        where
-          never : found.Nothing ≡ found.At (m + x) → ⊥
-          never w = let v : _≡_ {A = ℕ} 0 1 = cc in omega arith
+      by (some x) q z = absurd (omega (arith, below x q, s .searched .room))
 
 -- the task of the answer
 pub task-is : (tasks : List ℕ) (o : Option ℕ) (x : ℕ) (id : LocalId) → o ≡ some x → id .0 ≡ getD tasks x 0 → responsible.Task id ≡ responsibleOf tasks o

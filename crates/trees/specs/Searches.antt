@@ -13,8 +13,6 @@ use Rattle.trees.specs.declared.theta_lambda_tree.PDescent.{PDescent}
 use Rattle.trees.specs.declared.theta_lambda_tree.PDescent.the-variants.{Left, Right, Here, Nothing}
 use Rattle.trees.specs.declared.theta_lambda_tree.EctBarDescent.the-variants as bar
 use Rattle.trees.specs.declared.theta_lambda_tree.EctBarDescent.{EctBarDescent}
-use Rattle.trees.specs.declared.theta_lambda_tree.Found.the-variants as found
-use Rattle.trees.specs.declared.theta_lambda_tree.Found.{Found}
 use Rattle.trees.specs.declared.theta_lambda_tree.Responsible.the-variants as responsible
 use Rattle.trees.specs.declared.theta_lambda_tree.Responsible.{Responsible}
 use Rattle.trees.specs.Shapes.{width, nodeOver, leavesOf, TreeOf, HasHeight}
@@ -89,10 +87,14 @@ module _ (leaf : ℕ → Node) where
   searchEct (suc h) a = elim (stepEct (suc h) a)
       [ bar.Right ↦ searchEct h (a + width h) | bar.RightP ↦ searchP h (a + width h) | bar.Left ↦ searchEct h a | bar.Here ↦ none | bar.Nothing ↦ none ]
 
+-- no position: there are as many nodes
+abbrev pub nowhere : ℕ
+nowhere = 127
+
 -- the answer's position among the nodes, m of which are inner ones
-abbrev pub foundAt : ℕ → Option ℕ → Found
-foundAt m none = found.Nothing
-foundAt m (some x) = found.At (m + x)
+abbrev pub foundAt : ℕ → Option ℕ → ℕ
+foundAt m none = nowhere
+foundAt m (some x) = m + x
 
 -- and its task, by the task of each leaf
 abbrev pub responsibleOf : List ℕ → Option ℕ → Responsible

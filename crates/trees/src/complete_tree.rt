@@ -2,7 +2,7 @@
 ghost use mathlib.Core.Path.{_≡_};
 ghost use Prim.Native.Nat.{_+_, _*_, _-_, _/_, _≤_, _<_, max};
 ghost use lib.Dec.{leb};
-ghost use lib.ListN.{take};
+ghost use lib.ListN.{take, length};
 ghost use Rattle.integers.specs.Orders.{Permutes};
 ghost use Rattle.trees.specs.Shapes.{Sized};
 ghost use Rattle.trees.specs.Mappings.{Maps};
@@ -69,16 +69,14 @@ pub fn size_for(count: usize) -> Size
 }
 
 // The place of each of the first `count` tasks in an order of them.
-pub fn leaf_places(order: &[usize; 48], count: usize) -> [usize; 48]
-    requires { ⌜ (count ≤ 48) × Permutes count (take count (now order)) ⌝ }
-    ensures { λ r. ⌜ Maps count (now (order .entry)) r ⌝ }
+pub fn leaf_places(mapping: &mut [usize; 48], order: &[usize; 48], count: usize)
+    requires { ⌜ (count ≤ 48) × (length (now mapping) ≡ 48) × Permutes count (take count (now order)) ⌝ }
+    ensures { λ _. ⌜ Maps count (now (order .entry)) (now (mapping .exit)) × (length (now (mapping .exit)) ≡ 48) ⌝ }
 {
-    let mut mapping: [usize; 48] = [0; 48];
     let mut i: usize = 0;
     while i < count {
         let task = order[i];
         mapping[task] = i;
         i += 1;
     }
-    mapping
 }

@@ -57,11 +57,8 @@ pub enum Around {
     Inner(Node, Node, Node),
 }
 
-// The position of a leaf, or none.
-pub enum Found {
-    At(usize),
-    Nothing,
-}
+// No position: there are as many nodes. A search answers with a number, not with an enum, so that a call at its end needs no room of its own.
+const NOWHERE: usize = 127;
 
 // The task responsible for the value of ect_bar, or none.
 pub enum Responsible {
@@ -165,10 +162,10 @@ impl Node {
     fn tested(self, value: u32, this: u32) -> bool
         ensures { λ r. ⌜ r ≡ tested self value this ⌝ }
     {
-        if self.is_empty() {
+        if value != this {
             return false;
         }
-        value == this
+        !self.is_empty()
     }
 
     // The child of a node whose sum bar has the node's gray task.
@@ -307,7 +304,8 @@ impl ThetaLambdaTree {
         ensures { λ r. ⌜ Updated self r (now (order .entry)) ⌝ }
     {
         let count = self.count;
-        let mapping = leaf_places(order, count);
+        let mut mapping = [0; 48];
+        leaf_places(&mut mapping, order, count);
         let reverse_mapping = *order;
         ThetaLambdaTree {
             nodes: [0; 508],
@@ -362,13 +360,11 @@ impl ThetaLambdaTree {
         ensures { λ r. ⌜ r ≡ responsibleOf (now («reverse_mapping» .entry)) (searchEct (leavesOf inner (nodeAt (now (nodes .entry)))) height 0) ⌝ }
     {
         let found = ThetaLambdaTree::responsible_index_ect_bar_internal(nodes, inner, 0, height);
-        match found {
-            Found::At(position) => Responsible::Task(task_of(
-                reverse_mapping,
-                ThetaLambdaTree::get_leaf_node_index(position, inner),
-            )),
-            Found::Nothing => Responsible::Nothing,
+        if found == NOWHERE {
+            return Responsible::Nothing;
         }
+        let place = ThetaLambdaTree::get_leaf_node_index(found, inner);
+        Responsible::Task(task_of(reverse_mapping, place))
     }
 
     // What a search reads at a node.
@@ -391,7 +387,7 @@ impl ThetaLambdaTree {
         inner: usize,
         position: usize,
         height: usize,
-    ) -> Found
+    ) -> usize
         requires { ⌜ Searched inner height position (nodeAt (now nodes)) ⌝ }
         ensures { λ r. ⌜ r ≡ foundAt inner (searchEct (leavesOf inner (nodeAt (now (nodes .entry)))) height (leftmost height position - inner)) ⌝ }
     {
@@ -416,8 +412,8 @@ impl ThetaLambdaTree {
                 get_left_child_index(position),
                 height - 1,
             ),
-            EctBarDescent::Here => Found::At(position),
-            EctBarDescent::Nothing => Found::Nothing,
+            EctBarDescent::Here => position,
+            EctBarDescent::Nothing => NOWHERE,
         }
     }
 
@@ -427,7 +423,7 @@ impl ThetaLambdaTree {
         inner: usize,
         position: usize,
         height: usize,
-    ) -> Found
+    ) -> usize
         requires { ⌜ Searched inner height position (nodeAt (now nodes)) ⌝ }
         ensures { λ r. ⌜ r ≡ foundAt inner (searchP (leavesOf inner (nodeAt (now (nodes .entry)))) height (leftmost height position - inner)) ⌝ }
     {
@@ -446,8 +442,8 @@ impl ThetaLambdaTree {
                 get_right_child_index(position),
                 height - 1,
             ),
-            PDescent::Here => Found::At(position),
-            PDescent::Nothing => Found::Nothing,
+            PDescent::Here => position,
+            PDescent::Nothing => NOWHERE,
         }
     }
 

@@ -101,7 +101,8 @@ impl ThetaTree {
         requires { ⌜ (count ≤ 48) × Permutes count (take count (now order)) ⌝ }
         ensures { λ r. ⌜ PlainNew count (now (order .entry)) r ⌝ }
     {
-        let mapping = leaf_places(order, count);
+        let mut mapping = [0; 48];
+        leaf_places(&mut mapping, order, count);
         let size = size_for(count);
         ThetaTree {
             nodes: [0; 254],

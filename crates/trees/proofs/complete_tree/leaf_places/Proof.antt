@@ -1,6 +1,6 @@
 -- `trees::complete_tree::leaf_places` meets its contract. The loop's invariant is `Placed`: the mapping has the places of the tasks passed.
 -- Assumes nothing.
-use mathlib.Core.Path.{_≡_, refl}
+use mathlib.Core.Path.{_≡_}
 use Prim.Native.Nat.{_≤_, _-_}
 use native.Mathlib.Omega.{arith}
 use lib.ListN.{length-set, length, take}
@@ -9,13 +9,13 @@ use Rattle.trees.proofs.complete_tree.leaf_places.Statement.{statement}
 use Rattle.trees.proofs.complete_tree.leaf_places.Tie as tie
 
 abbrev Inv-loop : tie.InvT-loop
-Inv-loop order count mapping₀ i₀ mapping i = (i ≤ count) × (length mapping ≡ 48) × Placed (take count order) mapping i
+Inv-loop mapping₀ order count i₀ mapping i = (i ≤ count) × (length mapping ≡ 48) × Placed (take count order) mapping i
 
 abbrev μ-loop : tie.MeasureT-loop
-μ-loop order count mapping₀ i₀ mapping i = count - i
+μ-loop mapping₀ order count i₀ mapping i = count - i
 
 loop-holds : tie.Need-loop-holds Inv-loop μ-loop
-loop-holds c = (omega arith, refl, λ j q. absurd (omega arith))
+loop-holds c = (omega arith, c .pre .1, λ j q. absurd (omega arith))
 
 mul-task : tie.Need-mul-task Inv-loop μ-loop
 mul-task c = omega arith
@@ -24,10 +24,10 @@ element-copy-out-task : tie.Need-element-copy-out-task Inv-loop μ-loop
 element-copy-out-task c = omega arith
 
 mul-mapping : tie.Need-mul-mapping Inv-loop μ-loop
-mul-mapping c = omega (arith, task-below (c .before .before .before .args .count) (c .before .before .before .args .order .now) (c .before .before .before .pre .1) (c .before .before .loop .i) (c .before .loop-test .taken))
+mul-mapping c = omega (arith, task-below (c .before .before .before .args .count) (c .before .before .before .args .order .now) (c .before .before .before .pre .2) (c .before .before .loop .i) (c .before .loop-test .taken))
 
-array-write-mapping : tie.Need-array-write-mapping Inv-loop μ-loop
-array-write-mapping c = omega (arith, task-below (c .before .before .before .args .count) (c .before .before .before .args .order .now) (c .before .before .before .pre .1) (c .before .before .loop .i) (c .before .loop-test .taken), c .before .before .loop .inv .1)
+element-write-mapping : tie.Need-element-write-mapping Inv-loop μ-loop
+element-write-mapping c = omega (arith, task-below (c .before .before .before .args .count) (c .before .before .before .args .order .now) (c .before .before .before .pre .2) (c .before .before .loop .i) (c .before .loop-test .taken), c .before .before .loop .inv .1)
 
 add-i : tie.Need-add-i Inv-loop μ-loop
 add-i c = omega arith
@@ -36,10 +36,10 @@ loop-less : tie.Need-loop-less Inv-loop μ-loop
 loop-less c = omega arith
 
 loop-again : tie.Need-loop-again Inv-loop μ-loop
-loop-again c = (omega arith, simp length-set (c .before .before .loop .inv .1), place-more (c .before .before .before .args .count) (c .before .before .before .args .order .now) (c .before .before .before .pre .1) (c .before .before .loop .mapping) (c .before .before .loop .i) (omega arith) (c .before .loop-test .taken) (c .before .before .loop .inv .2))
+loop-again c = (omega arith, simp length-set (c .before .before .loop .inv .1), place-more (c .before .before .before .args .count) (c .before .before .before .args .order .now) (c .before .before .before .pre .2) (c .before .before .loop .mapping) (c .before .before .loop .i) (omega arith) (c .before .loop-test .taken) (c .before .before .loop .inv .2))
 
 returns : tie.Need-returns Inv-loop μ-loop
-returns c = places-are (c .before .before .args .count) (c .before .before .args .order .now) (c .before .before .pre .1) (c .before .loop .mapping) (λ j q. c .before .loop .inv .2 j (omega arith))
+returns c = (places-are (c .before .before .args .count) (c .before .before .args .order .now) (c .before .before .pre .2) (c .before .loop .mapping) (λ j q. c .before .loop .inv .2 j (omega arith)), c .before .loop .inv .1)
 
 pub leaf-places-spec : {M : Type 1} → statement M
 leaf-places-spec =
@@ -51,7 +51,7 @@ leaf-places-spec =
     mul-task
     element-copy-out-task
     mul-mapping
-    array-write-mapping
+    element-write-mapping
     add-i
     loop-less
     loop-again

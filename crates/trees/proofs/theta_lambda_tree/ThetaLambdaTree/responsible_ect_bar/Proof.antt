@@ -14,34 +14,33 @@ use Rattle.trees.proofs.theta_lambda_tree.ThetaLambdaTree.responsible_e
 responsible-index-ect-bar-internal-requires : tie.Need-responsible-index-ect-bar-internal-requires
 responsible-index-ect-bar-internal-requires c κs = search needs
 
-enum-known-found : tie.Need-enum-known-found
-enum-known-found c = search needs
+returns : tie.Need-returns
+returns c = let a = c .before .before .args in sym (ap (responsibleOf (a .reverse-mapping .now)) (no-answer (a .inner) (a .height) (nodeAt (a .nodes .now)) (c .before .before .pre) _ (c .before .responsible-index-ect-bar-internal .ensures) (c .if1 .taken)))
 
 get-leaf-node-index-requires : tie.Need-get-leaf-node-index-requires
-get-leaf-node-index-requires c κs = omega (arith, (answer-at (c .before .before .before .before .args .inner) (c .before .before .before .before .args .height) (nodeAt (c .before .before .before .before .args .nodes .now)) (c .before .before .before .before .pre) _ (c .before .before .before .responsible-index-ect-bar-internal .ensures) _ (c .before .found .given .1)) .is)
+get-leaf-node-index-requires c κs =
+    let a = c .before .before .args in
+    omega (arith, (answer-at (a .inner) (a .height) (nodeAt (a .nodes .now)) (c .before .before .pre) _ (c .before .responsible-index-ect-bar-internal .ensures) (c .if1 .left)) .is)
 
 task-of-requires : tie.Need-task-of-requires
-task-of-requires c κs = let w = answer-at (c .before .before .before .before .before .args .inner) (c .before .before .before .before .before .args .height) (nodeAt (c .before .before .before .before .before .args .nodes .now)) (c .before .before .before .before .before .pre) _ (c .before .before .before .before .responsible-index-ect-bar-internal .ensures) _ (c .before .before .found .given .1) in omega (arith, w .is, w .small, c .get-leaf-node-index .ensures)
-
-enum-told : tie.Need-enum-told
-enum-told c = search needs
-
-returns : tie.Need-returns
-returns c = let w = answer-at (c .before .before .before .before .before .before .args .inner) (c .before .before .before .before .before .before .args .height) (nodeAt (c .before .before .before .before .before .before .args .nodes .now)) (c .before .before .before .before .before .before .pre) _ (c .before .before .before .before .before .responsible-index-ect-bar-internal .ensures) _ (c .before .before .before .found .given .1) in
-    let p : c .before .get-leaf-node-index .result .0 ≡ w .place = c .before .get-leaf-node-index .ensures ∙ omega (arith, w .is) in
-    task-is _ _ _ _ (w .same) (c .task-of .ensures ∙ ap (λ (k : ℕ). getD (c .before .before .before .before .before .before .args .reverse-mapping .now) k 0) p)
+task-of-requires c κs =
+    let a = c .before .before .before .args in
+    let w = answer-at (a .inner) (a .height) (nodeAt (a .nodes .now)) (c .before .before .before .pre) _ (c .before .before .responsible-index-ect-bar-internal .ensures) (c .before .if1 .left) in
+    omega (arith, w .is, w .small, c .get-leaf-node-index .ensures)
 
 returns-2 : tie.Need-returns-2
-returns-2 c = let a = c .before .before .before .args in sym (ap (responsibleOf (a .reverse-mapping .now)) (no-answer (a .inner) (a .height) (nodeAt (a .nodes .now)) (c .before .before .before .pre) _ (c .before .before .responsible-index-ect-bar-internal .ensures) (c .enum-told .given .1)))
+returns-2 c =
+    let a = c .before .before .before .before .args in
+    let w = answer-at (a .inner) (a .height) (nodeAt (a .nodes .now)) (c .before .before .before .before .pre) _ (c .before .before .before .responsible-index-ect-bar-internal .ensures) (c .before .before .if1 .left) in
+    let p : c .before .get-leaf-node-index .result .0 ≡ w .place = c .before .get-leaf-node-index .ensures ∙ omega (arith, w .is) in
+    task-is _ _ _ _ (w .same) (c .task-of .ensures ∙ ap (λ (k : ℕ). getD (a .reverse-mapping .now) k 0) p)
 
 pub responsible-ect-bar-spec : {M : Type 1} → statement M
 responsible-ect-bar-spec =
     tie.close
     (tie.spec
     responsible-index-ect-bar-internal-requires
-    enum-known-found
+    returns
     get-leaf-node-index-requires
     task-of-requires
-    enum-told
-    returns
     returns-2)

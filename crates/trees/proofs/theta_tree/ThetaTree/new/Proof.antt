@@ -13,7 +13,7 @@ size-for-requires : tie.Need-size-for-requires
 size-for-requires c κs = search needs
 
 returns : tie.Need-returns
-returns c = record { nodes = refl; mapping = c .before .leaf-places .ensures; size = record { least = refl; complete = sized _ _ _ (c .size-for .ensures) } }
+returns c = record { nodes = refl; mapping = c .before .leaf-places .ensures .0; size = record { least = refl; complete = sized _ _ _ (c .size-for .ensures) } }
 
 pub new-spec : {M : Type 1} → statement M
 new-spec = tie.close (tie.spec leaf-places-requires size-for-requires returns)
