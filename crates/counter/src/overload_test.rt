@@ -92,7 +92,14 @@ fn accepted(record: Propagator, earliest: &[i32], latest: &[i32]) -> Overload
 pub fn overload_test(record: Propagator, earliest: &[i32], latest: &[i32]) -> Overload
     ensures { λ r. ⌜ OverloadTested «record» (now (earliest .entry)) (now (latest .entry)) r ⌝ }
 {
-    let number = input_refusal(record, earliest, latest);
+    let number = input_refusal(
+        record.count,
+        &record.durations,
+        &record.first,
+        &record.second,
+        earliest,
+        latest,
+    );
     if number != 0 {
         return Overload::Refused(number);
     }

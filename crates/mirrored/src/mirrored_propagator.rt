@@ -179,7 +179,16 @@ pub fn propagate_mirrored(
 ) -> Outcome
     ensures { λ r. ⌜ RanMirrored «record» (now (earliest .entry)) (now (latest .entry)) (now (posts .entry)) (now (atoms .entry)) r (now (latest .exit)) (now (posts .exit)) (now (atoms .exit)) ⌝ }
 {
-    let number = run_refusal(record, earliest, latest, posts.len(), atoms.len());
+    let number = run_refusal(
+        record.count,
+        &record.durations,
+        &record.first,
+        &record.second,
+        earliest,
+        latest,
+        posts.len(),
+        atoms.len(),
+    );
     if number != 0 {
         return Outcome::Refused(number);
     }

@@ -13,7 +13,14 @@ ghost use Rattle.pages.specs.Pages.{pageNumber, Paged};
 fn page_refusal(record: Propagator, earliest: &[i32], latest: &[i32], room: usize) -> u32
     ensures { λ r. ⌜ r ≡ pageNumber «record» (now (earliest .entry)) (now (latest .entry)) room ⌝ }
 {
-    let number = input_refusal(record, earliest, latest);
+    let number = input_refusal(
+        record.count,
+        &record.durations,
+        &record.first,
+        &record.second,
+        earliest,
+        latest,
+    );
     if number != 0 {
         return number;
     }

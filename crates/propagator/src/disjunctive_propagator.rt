@@ -370,8 +370,9 @@ fn fill<'a>(
 }
 
 // The core of a run, for this pass and the mirrored one. It is public for the crate of the other pass, and not an open call: it tests nothing.
+// The record's orders are sorted where they stand, so that no array of it is copied.
 pub fn run_accepted(
-    record: Propagator,
+    mut record: Propagator,
     earliest: &mut [i32],
     latest: &[i32],
     posts: &mut [i32],
@@ -381,49 +382,40 @@ pub fn run_accepted(
     ensures { λ r. ⌜ Left «record» (now (earliest .entry)) (now (latest .entry)) (now (posts .entry)) (now (atoms .entry)) r (now (earliest .exit)) (now (posts .exit)) (now (atoms .exit)) ⌝ }
 {
     let n = record.count;
-    let durations = record.durations;
     let mut est: [u32; 48] = [0; 48];
     moments_of(&mut est, earliest);
     let mut lst: [u32; 48] = [0; 48];
     moments_of(&mut lst, latest);
     let mut lct: [u32; 48] = [0; 48];
-    completions(&mut lct, &lst, &durations, n);
-    let mut first = record.first;
-    sort_by_key(&mut first, n, &est);
-    let keys = reversed(&lct, n);
-    let mut second = record.second;
-    sort_by_key(&mut second, n, &keys);
+    completions(&mut lct, &lst, &record.durations, n);
+    sort_by_key(&mut record.first, n, &est);
+    let mut keys: [u32; 48] = [0; 48];
+    reversed(&mut keys, &lct, n);
+    sort_by_key(&mut record.second, n, &keys);
     let size = size_for(n);
     let inner = size.number_of_internal_nodes;
     let height = size.height;
-    let mapping = leaf_places(&first, n);
+    let mut mapping: [usize; 48] = [0; 48];
+    leaf_places(&mut mapping, &record.first, n);
     let mut nodes: [u32; 508] = [0; 508];
-    fill(&mut nodes, inner, &first, &est, &durations, n);
+    fill(&mut nodes, inner, &record.first, &est, &record.durations, n);
     let outcome = edge_finding(
         &mut nodes,
         earliest,
         posts,
         atoms,
         &mapping,
-        &first,
-        &second,
+        &record.first,
+        &record.second,
         &est,
         &lst,
         &lct,
-        &durations,
+        &record.durations,
         inner,
         height,
         n,
     );
-    Run {
-        record: Propagator {
-            count: n,
-            durations,
-            first,
-            second,
-        },
-        outcome,
-    }
+    Run { record, outcome }
 }
 
 // A run on the record and the ranges.
@@ -436,7 +428,16 @@ pub fn propagate(
 ) -> Run
     ensures { λ r. ⌜ Ran «record» (now (earliest .entry)) (now (latest .entry)) (now (posts .entry)) (now (atoms .entry)) r (now (earliest .exit)) (now (posts .exit)) (now (atoms .exit)) ⌝ }
 {
-    let number = run_refusal(record, earliest, latest, posts.len(), atoms.len());
+    let number = run_refusal(
+        record.count,
+        &record.durations,
+        &record.first,
+        &record.second,
+        earliest,
+        latest,
+        posts.len(),
+        atoms.len(),
+    );
     if number != 0 {
         return Run {
             record,

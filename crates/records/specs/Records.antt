@@ -42,6 +42,15 @@ unusedAt durations first second n k = ltb k n || (eqb (getD durations k 0) 0 && 
 abbrev pub unusedZero : List ℕ → List ℕ → List ℕ → ℕ → Bool
 unusedZero durations first second n = allBelow (unusedAt durations first second n) TASKS
 
+-- a record of these fields
+abbrev pub recordOf : ℕ → List ℕ → List ℕ → List ℕ → Propagator
+recordOf n durations first second = record { count = n; durations = durations; first = first; second = second }
+
+-- Its orders have TASKS places.
+pub record WholeOrders (first second : List ℕ) : Type 0 where
+  pub one : length first ≡ TASKS
+  pub other : length second ≡ TASKS
+
 -- the tests of a record, which are one number to a run
 unfoldable pub lawfulRecord : Propagator → Bool
 lawfulRecord r =

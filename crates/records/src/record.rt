@@ -10,7 +10,7 @@ ghost use Rattle.integers.specs.Tests.{allBelow, refusal};
 ghost use Rattle.integers.specs.Orders.{isPermutation};
 ghost use Rattle.scheduling.specs.Scheduling.{total};
 ghost use Rattle.records.specs.Orders.{noTasks};
-ghost use Rattle.records.specs.Records.{countFits, sumFits, lastsAt, unusedZero, lawfulRecord, durationOf, durationAt, creationTests, creationNumber, zeroRecord, created};
+ghost use Rattle.records.specs.Records.{countFits, sumFits, lastsAt, unusedZero, WholeOrders, recordOf, lawfulRecord, durationOf, durationAt, creationTests, creationNumber, zeroRecord, created};
 
 // Places from the count on are 0.
 #[repr(C)]
@@ -211,25 +211,30 @@ fn unused_zero<'a>(
     true
 }
 
-// Whether a record is one that creation and runs leave: what number 20 tests.
-pub fn lawful(record: Propagator) -> bool
-    ensures { λ r. ⌜ r ≡ lawfulRecord «record» ⌝ }
+// Whether a record is one that creation and runs leave: what number 20 tests. The record comes as its fields, so that it is not copied.
+pub fn lawful<'a>(
+    n: usize,
+    durations: &'a [u32; 48],
+    first: &'a [usize; 48],
+    second: &'a [usize; 48],
+) -> bool
+    requires { ⌜ WholeOrders (now first) (now second) ⌝ }
+    ensures { λ r. ⌜ r ≡ lawfulRecord (recordOf n (now (durations .entry)) (now (first .entry)) (now (second .entry))) ⌝ }
 {
-    let n = record.count;
     if !count_fits(n) {
         return false;
     }
-    if !all_last(&record.durations, n) {
+    if !all_last(durations, n) {
         return false;
     }
-    if !sum_fits(&record.durations, n) {
+    if !sum_fits(durations, n) {
         return false;
     }
-    if !permutation(&record.first, n) {
+    if !permutation(first, n) {
         return false;
     }
-    if !permutation(&record.second, n) {
+    if !permutation(second, n) {
         return false;
     }
-    unused_zero(&record.durations, &record.first, &record.second, n)
+    unused_zero(durations, first, second, n)
 }

@@ -1,8 +1,8 @@
 // What turns a run back: the number of the first test that is broken, each tried over the whole input.
-use super::record::Propagator;
 ghost use mathlib.Core.Path.{_≡_};
 ghost use lib.ListN.{length};
 ghost use Rattle.integers.specs.Tests.{allBelow};
+ghost use Rattle.records.specs.Records.{WholeOrders, recordOf};
 ghost use Rattle.records.specs.Refusals.{startFits, startFitsAt, rangeFitsAt, inputNumber, runNumber};
 
 // Whether a start is within the limits.
@@ -45,11 +45,18 @@ fn ranges_fit(earliest: &[i32], latest: &[i32]) -> bool
 }
 
 // The number that turns a run or a page back for its record and its ranges, or 0: 20, 10, 3, 4.
-pub fn input_refusal(record: Propagator, earliest: &[i32], latest: &[i32]) -> u32
-    ensures { λ r. ⌜ r ≡ inputNumber «record» (now (earliest .entry)) (now (latest .entry)) ⌝ }
+pub fn input_refusal<'a>(
+    n: usize,
+    durations: &'a [u32; 48],
+    first: &'a [usize; 48],
+    second: &'a [usize; 48],
+    earliest: &'a [i32],
+    latest: &'a [i32],
+) -> u32
+    requires { ⌜ WholeOrders (now first) (now second) ⌝ }
+    ensures { λ r. ⌜ r ≡ inputNumber (recordOf n (now (durations .entry)) (now (first .entry)) (now (second .entry))) (now (earliest .entry)) (now (latest .entry)) ⌝ }
 {
-    let n = record.count;
-    if !super::record::lawful(record) {
+    if !super::record::lawful(n, durations, first, second) {
         return 20;
     }
     if earliest.len() != n {
@@ -71,20 +78,23 @@ pub fn input_refusal(record: Propagator, earliest: &[i32], latest: &[i32]) -> u3
 }
 
 // The number that turns a run back, or 0: 20, 10, 3, 4, 9.
-pub fn run_refusal(
-    record: Propagator,
-    earliest: &[i32],
-    latest: &[i32],
+pub fn run_refusal<'a>(
+    n: usize,
+    durations: &'a [u32; 48],
+    first: &'a [usize; 48],
+    second: &'a [usize; 48],
+    earliest: &'a [i32],
+    latest: &'a [i32],
     post_words: usize,
     atom_words: usize,
 ) -> u32
-    ensures { λ r. ⌜ r ≡ runNumber «record» (now (earliest .entry)) (now (latest .entry)) «post_words» «atom_words» ⌝ }
+    requires { ⌜ WholeOrders (now first) (now second) ⌝ }
+    ensures { λ r. ⌜ r ≡ runNumber (recordOf n (now (durations .entry)) (now (first .entry)) (now (second .entry))) (now (earliest .entry)) (now (latest .entry)) «post_words» «atom_words» ⌝ }
 {
-    let number = input_refusal(record, earliest, latest);
+    let number = input_refusal(n, durations, first, second, earliest, latest);
     if number != 0 {
         return number;
     }
-    let n = record.count;
     if post_words < 4 * n {
         return 9;
     }

@@ -15,21 +15,21 @@ use Rattle.propagator.proofs.Handing.{handed}
 use Rattle.propagator.proofs.disjunctive_propagator.propagate.Statement.{statement}
 use Rattle.propagator.proofs.disjunctive_propagator.propagate.Tie as tie
 
-long : (c : tie.Start) → length (c .args .«record» .durations) ≡ TASKS
+long : (c : tie.Start) → length (c .args .t1 .durations) ≡ TASKS
 long c = search needs
 
-long₁ : (c : tie.Start) → length (c .args .«record» .first) ≡ TASKS
+long₁ : (c : tie.Start) → length (c .args .t1 .first) ≡ TASKS
 long₁ c = search needs
 
-long₂ : (c : tie.Start) → length (c .args .«record» .second) ≡ TASKS
+long₂ : (c : tie.Start) → length (c .args .t1 .second) ≡ TASKS
 long₂ c = search needs
 
 -- no test failed
-passed : (c : tie.After-run-accepted-arg) → let a = c .before .before .before .before .args in Accepted (a .«record») (a .earliest .now) (a .latest .now) (length (a .posts .now)) (length (a .atoms .now))
-passed c = let a = c .before .before .before .before .args in accepted-run (a .«record») (a .earliest .now) (a .latest .now) (length (a .posts .now)) (length (a .atoms .now)) .0 (omega (arith, c .before .before .run-refusal .ensures))
+passed : (c : tie.After-run-accepted-arg) → let a = c .before .before .before .before .before .before .before .before .args in Accepted (a .t1) (a .earliest .now) (a .latest .now) (length (a .posts .now)) (length (a .atoms .now))
+passed c = let a = c .before .before .before .before .before .before .before .before .args in accepted-run (a .t1) (a .earliest .now) (a .latest .now) (length (a .posts .now)) (length (a .atoms .now)) .0 (omega (arith, c .before .before .run-refusal .ensures))
 
 run-refusal-requires : tie.Need-run-refusal-requires
-run-refusal-requires c κs = search needs
+run-refusal-requires c κs = let s = c .before .before .before .before .before in record { one = long₁ s; other = long₂ s }
 
 same-length : tie.Need-same-length
 same-length c = search needs
@@ -37,12 +37,12 @@ same-length c = search needs
 returns : tie.Need-returns
 returns c =
     let n = c .before in
-    let a = n .before .before .args in
-    turned-back (a .«record») (a .earliest .now) (a .latest .now) (a .posts .now) (a .atoms .now) _ _ _ _ (λ z. omega (arith, n .run-refusal .ensures))
+    let a = n .before .before .before .before .before .before .args in
+    turned-back (a .t1) (a .earliest .now) (a .latest .now) (a .posts .now) (a .atoms .now) _ _ _ _ (λ z. omega (arith, n .run-refusal .ensures))
     (record { answer = ap outcome.Refused (n .run-refusal .ensures); keeps = refl; starts = refl; post-words = refl; atom-words = refl })
 
 run-accepted-requires : tie.Need-run-accepted-requires
-run-accepted-requires c κs = let a = c .before .before .before .before .before .before .args in runnable (a .«record») (a .earliest .now) (a .latest .now) (length (a .posts .now)) (length (a .atoms .now)) (passed (c .before .before))
+run-accepted-requires c κs = let a = c .before .before .before .before .before .before .before .before .before .before .args in runnable (a .t1) (a .earliest .now) (a .latest .now) (length (a .posts .now)) (length (a .atoms .now)) (passed (c .before .before))
 
 same-length-2 : tie.Need-same-length-2
 same-length-2 c = search needs
@@ -56,14 +56,14 @@ same-length-4 c = search needs
 returns-2 : tie.Need-returns-2
 returns-2 c =
     let at = c .before .before .before .before .before .before in
-    let s = at .before .before .before .before in
+    let s = at .before .before .before .before .before .before .before .before in
     let a = s .args in
     record {
-      refused = λ h. absurd (h (accepted-run (a .«record») (a .earliest .now) (a .latest .now) (length (a .posts .now)) (length (a .atoms .now)) .1 (passed at)));
+      refused = λ h. absurd (h (accepted-run (a .t1) (a .earliest .now) (a .latest .now) (length (a .posts .now)) (length (a .atoms .now)) .1 (passed at)));
       ran = λ z. c .before .before .before .run-accepted .ensures;
-      right = λ z. right (a .«record») (a .earliest .now) (a .latest .now) (length (a .posts .now)) (length (a .atoms .now)) (runnable (a .«record») (a .earliest .now) (a .latest .now) (length (a .posts .now)) (length (a .atoms .now)) (passed at)) (long s) (long₁ s) (long₂ s);
-      passes = λ z. passing (a .«record») (a .earliest .now) (a .latest .now) (length (a .posts .now)) (length (a .atoms .now)) (passed at) (long s) (long₁ s) (long₂ s);
-      handed = λ z. handed (a .«record») (a .earliest .now) (a .latest .now) (a .posts .now) (a .atoms .now) (c .before .before .before .run-accepted .ensures);
+      right = λ z. right (a .t1) (a .earliest .now) (a .latest .now) (length (a .posts .now)) (length (a .atoms .now)) (runnable (a .t1) (a .earliest .now) (a .latest .now) (length (a .posts .now)) (length (a .atoms .now)) (passed at)) (long s) (long₁ s) (long₂ s);
+      passes = λ z. passing (a .t1) (a .earliest .now) (a .latest .now) (length (a .posts .now)) (length (a .atoms .now)) (passed at) (long s) (long₁ s) (long₂ s);
+      handed = λ z. handed (a .t1) (a .earliest .now) (a .latest .now) (a .posts .now) (a .atoms .now) (c .before .before .before .run-accepted .ensures);
     }
 
 pub propagate-spec : {M : Type 1} → statement M

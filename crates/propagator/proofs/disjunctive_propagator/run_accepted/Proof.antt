@@ -18,18 +18,18 @@ use Rattle.propagator.proofs.disjunctive_propagator.run_accepted.Statem
 use Rattle.propagator.proofs.disjunctive_propagator.run_accepted.Tie as tie
 
 -- the arrays of a record have TASKS places
-long : (c : tie.Start) → length (c .args .«record» .durations) ≡ TASKS
+long : (c : tie.Start) → length (c .args .t1 .durations) ≡ TASKS
 long c = search needs
 
-long₁ : (c : tie.Start) → length (c .args .«record» .first) ≡ TASKS
+long₁ : (c : tie.Start) → length (c .args .t1 .first) ≡ TASKS
 long₁ c = search needs
 
-long₂ : (c : tie.Start) → length (c .args .«record» .second) ≡ TASKS
+long₂ : (c : tie.Start) → length (c .args .t1 .second) ≡ TASKS
 long₂ c = search needs
 
 -- when both orders are sorted: what each call before left
 abbrev start : tie.After-sort-by-key2 → tie.Start
-start c = c .before .before .before .before .before .before .before .before .before .before .before .before .before .before .before .before .before .before .before .before
+start c = c .before .before .before .before .before .before .before .before .before .before .before .before .before .before .before .before .before .before .before
 
 abbrev est : tie.After-sort-by-key2 → tie.After-moments-of
 est c = c .before .before .before .before .before .before .before .before .before .before .before .before .before .before .before .before
@@ -38,13 +38,13 @@ abbrev lst : tie.After-sort-by-key2 → tie.After-moments-of2
 lst c = c .before .before .before .before .before .before .before .before .before .before .before .before .before .before
 
 abbrev lct : tie.After-sort-by-key2 → tie.After-completions
-lct c = c .before .before .before .before .before .before .before .before .before .before
+lct c = c .before .before .before .before .before .before .before .before .before
 
 abbrev first : tie.After-sort-by-key2 → tie.After-sort-by-key
 first c = c .before .before .before .before .before .before
 
 abbrev keys : tie.After-sort-by-key2 → tie.After-reversed
-keys c = c .before .before .before .before
+keys c = c .before .before .before
 
 moments-of-requires : tie.Need-moments-of-requires
 moments-of-requires c κs = search needs
@@ -57,62 +57,63 @@ completions-requires c κs =
     let s = c .before .before .before .before .before .before .before .before .before in
     let a = s .args in (
       s .pre .lawful .few,
-      key-small (a .«record») (a .earliest .now) (a .latest .now) (length (a .posts .now)) (length (a .atoms .now)) (s .pre) (long s) (long₁ s) (long₂ s) (c .before .before .before .moments-of2 .last .0)
-          (latest (a .«record») (a .earliest .now) (a .latest .now) (length (a .posts .now)) (length (a .atoms .now)) (s .pre) (long s) (long₁ s) (long₂ s) (c .before .before .before .before .before .moments-of .ensures) (c .before .before .before .moments-of2 .ensures)),
+      key-small (a .t1) (a .earliest .now) (a .latest .now) (length (a .posts .now)) (length (a .atoms .now)) (s .pre) (long s) (long₁ s) (long₂ s) (c .before .before .before .before .moments-of2 .last .0)
+          (latest (a .t1) (a .earliest .now) (a .latest .now) (length (a .posts .now)) (length (a .atoms .now)) (s .pre) (long s) (long₁ s) (long₂ s) (c .before .before .before .before .before .before .moments-of .ensures) (c .before .before .before .before .moments-of2 .ensures)),
     )
 
 sort-by-key-requires : tie.Need-sort-by-key-requires
-sort-by-key-requires c κs = let s = c .before .before .before .before .before .before .before .before .before .before .before .before .before in numbered (s .args .«record» .count) (s .args .«record» .first) (s .pre .lawful .few) (long₁ s) (s .pre .lawful .first)
+sort-by-key-requires c κs = let s = c .before .before .before .before .before .before .before .before .before .before .before .before in numbered (s .args .t1 .count) (s .args .t1 .first) (s .pre .lawful .few) (long₁ s) (s .pre .lawful .first)
 
 reversed-requires : tie.Need-reversed-requires
 reversed-requires c κs = search needs
 
 sort-by-key-requires-2 : tie.Need-sort-by-key-requires-2
-sort-by-key-requires-2 c κs = let s = c .before .before .before .before .before .before .before .before .before .before .before .before .before .before .before .before .before .before .before in numbered (s .args .«record» .count) (s .args .«record» .second) (s .pre .lawful .few) (long₂ s) (s .pre .lawful .second)
+sort-by-key-requires-2 c κs = let s = c .before .before .before .before .before .before .before .before .before .before .before .before .before .before .before .before .before .before in numbered (s .args .t1 .count) (s .args .t1 .second) (s .pre .lawful .few) (long₂ s) (s .pre .lawful .second)
 
 size-for-requires : tie.Need-size-for-requires
 size-for-requires c κs = search needs
 
 leaf-places-requires : tie.Need-leaf-places-requires
 leaf-places-requires c κs =
-    let q = c .before .before in
-    let r = start q .args .«record» in (
+    let q = c .before .before .before .before in
+    let r = start q .args .t1 in (
       start q .pre .lawful .few,
+      refl,
       subst (λ (l : List ℕ). Permutes (r .count) (take (r .count) l)) (sym (first q .sort-by-key .ensures))
           (sorted-permutes (byKey (est q .moments-of .last .0)) (r .count) (r .first) (omega (arith, long₁ (start q), start q .pre .lawful .few)) (start q .pre .lawful .first)),
     )
 
 -- the tree that `new` and `update` give: its size, the order, and every word 0
 abbrev sizes : tie.After-leaf-places → tie.After-size-for
-sizes l = l .before .before
+sizes l = l .before .before .before .before
 
 abbrev blank : tie.After-leaf-places → ThetaLambdaTree
 blank l = record {
   nodes = replicate 508 0;
-  mapping = l .leaf-places .result;
+  mapping = l .leaf-places .last .0;
   «reverse_mapping» = first (sizes l .before) .sort-by-key .last .0;
   «number_of_internal_nodes» = sizes l .size-for .result .«number_of_internal_nodes»;
   height = sizes l .size-for .result .height;
-  count = start (sizes l .before) .args .«record» .count;
+  count = start (sizes l .before) .args .t1 .count;
 }
 
 updated : (l : tie.After-leaf-places) → Updated (blank l) (blank l) (first (sizes l .before) .sort-by-key .last .0)
-updated l = record { nodes = refl; mapping = l .leaf-places .ensures; reverse-mapping = refl; inner = refl; height = refl; count = refl }
+updated l = record { nodes = refl; mapping = l .leaf-places .ensures .0; reverse-mapping = refl; inner = refl; height = refl; count = refl }
 
 fill-requires : tie.Need-fill-requires
 fill-requires c κs =
-    let u = c .before .before .before .before in
-    let n = u .before .before in
+    let u = c .before .before .before .before .before in
+    let n = sizes u in
     let q = n .before in
-    fillable (start q .args .«record») (start q .args .earliest .now) (start q .args .latest .now) (length (start q .args .posts .now)) (length (start q .args .atoms .now)) (start q .pre) (long (start q)) (long₁ (start q)) (long₂ (start q)) (est q .moments-of .ensures) (lst q .moments-of2 .ensures) (lct q .completions .ensures) (first q .sort-by-key .ensures) (keys q .reversed .ensures) (q .sort-by-key2 .ensures) {new = blank u} {tree′ = blank u} (n .size-for .ensures) refl (updated u)
+    fillable (start q .args .t1) (start q .args .earliest .now) (start q .args .latest .now) (length (start q .args .posts .now)) (length (start q .args .atoms .now)) (start q .pre) (long (start q)) (long₁ (start q)) (long₂ (start q)) (est q .moments-of .ensures) (lst q .moments-of2 .ensures) (lct q .completions .ensures) (first q .sort-by-key .ensures) (keys q .reversed .ensures) (q .sort-by-key2 .ensures) {new = blank u} {tree′ = blank u} (n .size-for .ensures) refl (updated u)
 
 edge-finding-requires : tie.Need-edge-finding-requires
 edge-finding-requires c κs =
-    let u = c .before .before .before .before .before .before .before .before .before .before .before .before .before .before .before .before in
-    let n = u .before .before in
+    let u = c .before .before .before .before .before .before .before .before .before .before .before .before .before .before .before .before .before .before in
+    let n = sizes u in
     let q = n .before in
-    begun (start q .args .«record») (start q .args .earliest .now) (start q .args .latest .now) (length (start q .args .posts .now)) (length (start q .args .atoms .now)) (start q .pre) (long (start q)) (long₁ (start q)) (long₂ (start q)) (est q .moments-of .ensures) (lst q .moments-of2 .ensures) (lct q .completions .ensures) (first q .sort-by-key .ensures) (keys q .reversed .ensures) (q .sort-by-key2 .ensures) {new = blank u} {tree′ = blank u} (n .size-for .ensures) refl (updated u)
-    (c .before .before .before .before .before .before .before .before .before .before .before .fill .ensures (fillable (start q .args .«record») (start q .args .earliest .now) (start q .args .latest .now) (length (start q .args .posts .now)) (length (start q .args .atoms .now)) (start q .pre) (long (start q)) (long₁ (start q)) (long₂ (start q)) (est q .moments-of .ensures) (lst q .moments-of2 .ensures) (lct q .completions .ensures) (first q .sort-by-key .ensures) (keys q .reversed .ensures) (q .sort-by-key2 .ensures) {new = blank u} {tree′ = blank u} (n .size-for .ensures) refl (updated u))) refl refl
+    begun (start q .args .t1) (start q .args .earliest .now) (start q .args .latest .now) (length (start q .args .posts .now)) (length (start q .args .atoms .now)) (start q .pre) (long (start q)) (long₁ (start q)) (long₂ (start q)) (est q .moments-of .ensures) (lst q .moments-of2 .ensures) (lct q .completions .ensures) (first q .sort-by-key .ensures) (keys q .reversed .ensures) (q .sort-by-key2 .ensures) {new = blank u} {tree′ = blank u} (n .size-for .ensures) refl (updated u)
+    (c .before .before .before .before .before .before .before .before .before .before .before .before .fill .ensures (fillable (start q .args .t1) (start q .args .earliest .now) (start q .args .latest .now) (length (start q .args .posts .now)) (length (start q .args .atoms .now)) (start q .pre) (long (start q)) (long₁ (start q)) (long₂ (start q)) (est q .moments-of .ensures) (lst q .moments-of2 .ensures) (lct q .completions .ensures) (first q .sort-by-key .ensures) (keys q .reversed .ensures) (q .sort-by-key2 .ensures) {new = blank u} {tree′ = blank u} (n .size-for .ensures) refl (updated u))) refl refl
 
 same-length : tie.Need-same-length
 same-length c = search needs
@@ -125,12 +126,12 @@ same-length-3 c = search needs
 
 returns : tie.Need-returns
 returns c =
-    let u = c .before .before .before .before .before .before .before .before .before .before .before .before .before .before .before .before .before .before .before .before in
-    let n = u .before .before in
+    let u = c .before .before .before .before .before .before .before .before .before .before .before .before .before .before .before .before .before .before .before .before .before .before in
+    let n = sizes u in
     let q = n .before in
-    left (start q .args .«record») (start q .args .earliest .now) (start q .args .latest .now) (length (start q .args .posts .now)) (length (start q .args .atoms .now)) (start q .pre) (long (start q)) (long₁ (start q)) (long₂ (start q)) (est q .moments-of .ensures) (lst q .moments-of2 .ensures) (lct q .completions .ensures) (first q .sort-by-key .ensures) (keys q .reversed .ensures) (q .sort-by-key2 .ensures) refl refl
-    (c .before .before .before .edge-finding .ensures (begun (start q .args .«record») (start q .args .earliest .now) (start q .args .latest .now) (length (start q .args .posts .now)) (length (start q .args .atoms .now)) (start q .pre) (long (start q)) (long₁ (start q)) (long₂ (start q)) (est q .moments-of .ensures) (lst q .moments-of2 .ensures) (lct q .completions .ensures) (first q .sort-by-key .ensures) (keys q .reversed .ensures) (q .sort-by-key2 .ensures) {new = blank u} {tree′ = blank u} (n .size-for .ensures) refl (updated u)
-    (c .before .before .before .before .before .before .before .before .before .before .before .before .before .before .before .fill .ensures (fillable (start q .args .«record») (start q .args .earliest .now) (start q .args .latest .now) (length (start q .args .posts .now)) (length (start q .args .atoms .now)) (start q .pre) (long (start q)) (long₁ (start q)) (long₂ (start q)) (est q .moments-of .ensures) (lst q .moments-of2 .ensures) (lct q .completions .ensures) (first q .sort-by-key .ensures) (keys q .reversed .ensures) (q .sort-by-key2 .ensures) {new = blank u} {tree′ = blank u} (n .size-for .ensures) refl (updated u))) refl refl))
+    left (start q .args .t1) (start q .args .earliest .now) (start q .args .latest .now) (length (start q .args .posts .now)) (length (start q .args .atoms .now)) (start q .pre) (long (start q)) (long₁ (start q)) (long₂ (start q)) (est q .moments-of .ensures) (lst q .moments-of2 .ensures) (lct q .completions .ensures) (first q .sort-by-key .ensures) (keys q .reversed .ensures) (q .sort-by-key2 .ensures) refl refl
+    (c .before .before .before .edge-finding .ensures (begun (start q .args .t1) (start q .args .earliest .now) (start q .args .latest .now) (length (start q .args .posts .now)) (length (start q .args .atoms .now)) (start q .pre) (long (start q)) (long₁ (start q)) (long₂ (start q)) (est q .moments-of .ensures) (lst q .moments-of2 .ensures) (lct q .completions .ensures) (first q .sort-by-key .ensures) (keys q .reversed .ensures) (q .sort-by-key2 .ensures) {new = blank u} {tree′ = blank u} (n .size-for .ensures) refl (updated u)
+    (c .before .before .before .before .before .before .before .before .before .before .before .before .before .before .before .before .fill .ensures (fillable (start q .args .t1) (start q .args .earliest .now) (start q .args .latest .now) (length (start q .args .posts .now)) (length (start q .args .atoms .now)) (start q .pre) (long (start q)) (long₁ (start q)) (long₂ (start q)) (est q .moments-of .ensures) (lst q .moments-of2 .ensures) (lct q .completions .ensures) (first q .sort-by-key .ensures) (keys q .reversed .ensures) (q .sort-by-key2 .ensures) {new = blank u} {tree′ = blank u} (n .size-for .ensures) refl (updated u))) refl refl))
 
 pub run-accepted-spec : {M : Type 1} → statement M
 run-accepted-spec =

@@ -7,23 +7,29 @@ use borrow.Author.Needs.{needs}
 use Rattle.integers.specs.Tests.{allBelow, test, AllPassed}
 use Rattle.integers.proofs.Bools.{and-left, and-right, and-yes}
 use Rattle.integers.proofs.Tests.{refuses, accepts}
+use Rattle.records.specs.declared.record.Propagator.{Propagator}
+use Rattle.records.specs.Records.{recordOf}
 use Rattle.records.specs.Refusals.{startFitsAt, inputTests}
 use Rattle.records.proofs.refusals.input_refusal.Statement.{statement}
 use Rattle.records.proofs.refusals.input_refusal.Tie as tie
 
+-- the record that the call is lent
+abbrev lent : tie.Start → Propagator
+lent c = recordOf (c .args .n) (c .args .durations .now) (c .args .first .now) (c .args .second .now)
+
 -- the tests that are passed at each place
-first-one : (c : tie.Else1) → AllPassed (take 1 (inputTests (c .before .before .args .«record») (c .before .before .args .earliest .now) (c .before .before .args .latest .now)))
+first-one : (c : tie.Else1) → AllPassed (take 1 (inputTests (lent (c .before .before)) (c .before .before .args .earliest .now) (c .before .before .args .latest .now)))
 first-one c = (sym (c .before .lawful .ensures) ∙ not-false _ (c .if1 .left), tt)
 
-first-two : (c : tie.Else3) → AllPassed (take 2 (inputTests (c .before .before .before .before .args .«record») (c .before .before .before .before .args .earliest .now) (c .before .before .before .before .args .latest .now)))
+first-two : (c : tie.Else3) → AllPassed (take 2 (inputTests (lent (c .before .before .before .before)) (c .before .before .before .before .args .earliest .now) (c .before .before .before .before .args .latest .now)))
 first-two c = (first-one (c .before .before) .0, (and-yes _ _ (eq-eqb _ _ (c .before .if2 .left)) (eq-eqb _ _ (c .if3 .left)), tt))
 
-first-three : (c : tie.Else5) → AllPassed (take 3 (inputTests (c .before .before .before .before .before .before .before .before .args .«record») (c .before .before .before .before .before .before .before .before .args .earliest .now) (c .before .before .before .before .before .before .before .before .args .latest .now)))
+first-three : (c : tie.Else5) → AllPassed (take 3 (inputTests (lent (c .before .before .before .before .before .before .before .before)) (c .before .before .before .before .before .before .before .before .args .earliest .now) (c .before .before .before .before .before .before .before .before .args .latest .now)))
 first-three c =
     let two = first-two (c .before .before .before .before) in
     (two .0, (two .1 .0, (and-yes _ _ (sym (c .before .before .before .starts-fit .ensures) ∙ not-false _ (c .before .before .if4 .left)) (sym (c .before .starts-fit2 .ensures) ∙ not-false _ (c .if5 .left)), tt)))
 
-first-four : (c : tie.Else6) → AllPassed (take 4 (inputTests (c .before .before .before .before .before .before .before .before .before .before .args .«record») (c .before .before .before .before .before .before .before .before .before .before .args .earliest .now) (c .before .before .before .before .before .before .before .before .before .before .args .latest .now)))
+first-four : (c : tie.Else6) → AllPassed (take 4 (inputTests (lent (c .before .before .before .before .before .before .before .before .before .before)) (c .before .before .before .before .before .before .before .before .before .before .args .earliest .now) (c .before .before .before .before .before .before .before .before .before .before .args .latest .now)))
 first-four c =
     let three = first-three (c .before .before) in
     (three .0, (three .1 .0, (three .1 .1 .0, (sym (c .before .ranges-fit .ensures) ∙ not-false _ (c .if6 .left), tt))))
@@ -39,8 +45,8 @@ returns-2 c = sym (refuses (test 20 _ ∷ []) (test 10 _) _ (first-one (c .befor
 
 returns-3 : tie.Need-returns-3
 returns-3 c =
-    let args = c .before .before .before .before .args in
-    sym (refuses (test 20 _ ∷ []) (test 10 _) _ (first-one (c .before .before)) (and-right (eqb (length (args .earliest .now)) (args .«record» .count)) (eqb (length (args .latest .now)) (args .«record» .count)) (ne-eqb _ _ (c .if3 .taken))))
+    let start = c .before .before .before .before in let args = start .args in
+    sym (refuses (test 20 _ ∷ []) (test 10 _) _ (first-one (c .before .before)) (and-right (eqb (length (args .earliest .now)) (args .n)) (eqb (length (args .latest .now)) (args .n)) (ne-eqb _ _ (c .if3 .taken))))
 
 starts-fit-requires : tie.Need-starts-fit-requires
 starts-fit-requires c κs = search needs
@@ -64,8 +70,8 @@ returns-6 c = sym (refuses (test 20 _ ∷ test 10 _ ∷ test 3 _ ∷ []) (test 4
 
 returns-7 : tie.Need-returns-7
 returns-7 c =
-    let args = c .before .before .before .before .before .before .before .before .before .before .args in
-    sym (accepts (inputTests (args .«record») (args .earliest .now) (args .latest .now)) (first-four c))
+    let start = c .before .before .before .before .before .before .before .before .before .before in let args = start .args in
+    sym (accepts (inputTests (lent start) (args .earliest .now) (args .latest .now)) (first-four c))
 
 pub input-refusal-spec : {M : Type 1} → statement M
 input-refusal-spec =

@@ -8,37 +8,43 @@ use borrow.Author.Needs.{needs}
 use Rattle.integers.specs.Tests.{AllPassed}
 use Rattle.integers.proofs.Bools.{and-left, and-right, and-yes}
 use Rattle.integers.proofs.Tests.{refusal-before}
+use Rattle.records.specs.declared.record.Propagator.{Propagator}
+use Rattle.records.specs.Records.{recordOf}
 use Rattle.records.specs.Refusals.{inputTests}
 use Rattle.records.proofs.Lawful.{lawful-is}
 use Rattle.records.proofs.Refused.{input-passed, words-short, words-enough}
 use Rattle.records.proofs.refusals.run_refusal.Statement.{statement}
 use Rattle.records.proofs.refusals.run_refusal.Tie as tie
 
+-- the record that the call is lent
+abbrev lent : tie.Start → Propagator
+lent c = recordOf (c .args .n) (c .args .durations .now) (c .args .first .now) (c .args .second .now)
+
 -- the record and its ranges pass, so there are few tasks
-passed : (c : tie.Else1) → let args = c .before .before .args in AllPassed (inputTests (args .«record») (args .earliest .now) (args .latest .now))
-passed c = let args = c .before .before .args in input-passed (args .«record») (args .earliest .now) (args .latest .now) (sym (c .before .input-refusal .ensures) ∙ c .if1 .left)
+passed : (c : tie.Else1) → let start = c .before .before in let args = start .args in AllPassed (inputTests (lent start) (args .earliest .now) (args .latest .now))
+passed c = let start = c .before .before in let args = start .args in input-passed (lent start) (args .earliest .now) (args .latest .now) (sym (c .before .input-refusal .ensures) ∙ c .if1 .left)
 
-few : (c : tie.Else1) → c .before .before .args .«record» .count ≤ 48
-few c = (lawful-is (c .before .before .args .«record») .0 (passed c .0)) .few
+few : (c : tie.Else1) → c .before .before .args .n ≤ 48
+few c = (lawful-is (lent (c .before .before)) .0 (passed c .0)) .few
 
-squared : (c : tie.Else1) → c .before .before .args .«record» .count * c .before .before .args .«record» .count ≤ c .before .before .args .«record» .count * 48
-squared c = mul-le-mul-left (c .before .before .args .«record» .count) (few c)
+squared : (c : tie.Else1) → c .before .before .args .n * c .before .before .args .n ≤ c .before .before .args .n * 48
+squared c = mul-le-mul-left (c .before .before .args .n) (few c)
 
 input-refusal-requires : tie.Need-input-refusal-requires
 input-refusal-requires c κs = search needs
 
 returns : tie.Need-returns
 returns c =
-    let args = c .before .before .args in
-    c .before .input-refusal .ensures ∙ sym (refusal-before (inputTests (args .«record») (args .earliest .now) (args .latest .now)) _ (λ z. c .if1 .taken (c .before .input-refusal .ensures ∙ z)))
+    let start = c .before .before in let args = start .args in
+    c .before .input-refusal .ensures ∙ sym (refusal-before (inputTests (lent start) (args .earliest .now) (args .latest .now)) _ (λ z. c .if1 .taken (c .before .input-refusal .ensures ∙ z)))
 
 mul-if2 : tie.Need-mul-if2
 mul-if2 c = record { fits = omega (arith, few c) }
 
 returns-2 : tie.Need-returns-2
 returns-2 c =
-    let args = c .before .before .before .args in
-    sym (words-short (args .«record») (args .earliest .now) (args .latest .now) (args .post-words) (args .atom-words) (passed (c .before)) (and-left _ _ (lt-leb _ _ (c .if2 .taken))))
+    let start = c .before .before .before in let args = start .args in
+    sym (words-short (lent start) (args .earliest .now) (args .latest .now) (args .post-words) (args .atom-words) (passed (c .before)) (and-left _ _ (lt-leb _ _ (c .if2 .taken))))
 
 mul-if3 : tie.Need-mul-if3
 mul-if3 c = record { fits = omega (arith, few (c .before), squared (c .before)) }
@@ -48,14 +54,14 @@ mul-if3-2 c = record { fits = omega (arith, few (c .before), squared (c .before)
 
 returns-3 : tie.Need-returns-3
 returns-3 c =
-    let args = c .before .before .before .before .args in
-    let n = args .«record» .count in
-    sym (words-short (args .«record») (args .earliest .now) (args .latest .now) (args .post-words) (args .atom-words) (passed (c .before .before)) (and-right (leb (4 * n) (args .post-words)) (leb (6 * (n * n)) (args .atom-words)) (lt-leb _ _ (c .if3 .taken))))
+    let start = c .before .before .before .before in let args = start .args in
+    let n = args .n in
+    sym (words-short (lent start) (args .earliest .now) (args .latest .now) (args .post-words) (args .atom-words) (passed (c .before .before)) (and-right (leb (4 * n) (args .post-words)) (leb (6 * (n * n)) (args .atom-words)) (lt-leb _ _ (c .if3 .taken))))
 
 returns-4 : tie.Need-returns-4
 returns-4 c =
-    let args = c .before .before .before .before .args in
-    sym (words-enough (args .«record») (args .earliest .now) (args .latest .now) (args .post-words) (args .atom-words) (passed (c .before .before)) (and-yes _ _ (le-leb _ _ (c .before .if2 .left)) (le-leb _ _ (c .if3 .left))))
+    let start = c .before .before .before .before in let args = start .args in
+    sym (words-enough (lent start) (args .earliest .now) (args .latest .now) (args .post-words) (args .atom-words) (passed (c .before .before)) (and-yes _ _ (le-leb _ _ (c .before .if2 .left)) (le-leb _ _ (c .if3 .left))))
 
 pub run-refusal-spec : {M : Type 1} → statement M
 run-refusal-spec =
