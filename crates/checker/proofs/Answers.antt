@@ -1,12 +1,13 @@
 -- The answer of a check, test by test.
 -- Assumes nothing.
-use mathlib.Core.Path.{_≡_, refl, sym, ap, _∙_}
+use mathlib.Core.Path.{_≡_, refl, sym, ap, subst, _∙_}
 use mathlib.Core.List.{List}
-use Prim.Native.Nat.{ℕ, zero, suc}
+use Prim.Native.Nat.{ℕ, zero, suc, _≤_}
 use native.Mathlib.Omega.{arith}
 use native.Mathlib.Decide.{ℕ-discrete}
 use lib.IntN.{ℤ}
 use lib.ListN.{length}
+use Rattle.integers.specs.Limits.{TASKS}
 use Rattle.integers.specs.Tests.{refusal}
 use Rattle.checking.specs.declared.variable_state.Application.{Application}
 use Rattle.checking.specs.declared.variable_state.Application.the-variants as application
@@ -21,8 +22,9 @@ use Rattle.records.specs.Records.{creationTests, created, newRecord}
 use Rattle.records.proofs.Creation.{created-new, created-not}
 use Rattle.checker.specs.declared.checker.Verdict.{Verdict}
 use Rattle.checker.specs.declared.checker.Verdict.the-variants.{Passed, NotPassed, Contradiction, Refused}
+use Rattle.checker.specs.declared.bounds.Bounds.{Bounds}
 use Rattle.checker.specs.Checks.{judged, concluded, checkAfter, checkOf, Checked}
-use Rattle.checker.specs.Holding.{Judgeable, Consequent}
+use Rattle.checker.specs.Holding.{boundsOf, Judgeable, Consequent}
 use Rattle.checker.proofs.Soundness.{check-sound}
 use Rattle.checker.proofs.Verdicts.{judgeable}
 
@@ -71,8 +73,14 @@ module _ (ds ps cs : List ℤ) where
         consistent : prepared ps cs .answer ≡ application.Consistent
         consistent = ap (λ (r : Applied). r .answer) (sym same) ∙ e
 
-        pub can-judge : Judgeable ds (applied .state) (made .«record» .count) (made .«record» .durations)
-        can-judge = rw (is, created-new ds (accepts a), same) (judgeable ds ps cs (accepts a) consistent)
+        judgeable-by-state : Judgeable ds (applied .state) (made .«record» .count) (boundsOf (applied .state) (made .«record» .count)) (made .«record» .durations)
+        judgeable-by-state = rw (is, created-new ds (accepts a), same) (judgeable ds ps cs (accepts a) consistent)
+
+        pub few-tasks : made .«record» .count ≤ TASKS
+        few-tasks = judgeable-by-state .bounding .held .few
+
+        pub can-judge : (b : Bounds) → b ≡ boundsOf (applied .state) (made .«record» .count) → Judgeable ds (applied .state) (made .«record» .count) b (made .«record» .durations)
+        can-judge b z = subst (λ (x : Bounds). Judgeable ds (applied .state) (made .«record» .count) x (made .«record» .durations)) (sym z) judgeable-by-state
 
         pub consequent-right : Consequent cs
         consequent-right = let (p, short, right) = right-lists ps cs (prepared-right ps cs consistent) in record { short = short; right = right }

@@ -1,6 +1,6 @@
 -- From the bounds in the arrays and the words of the consequent to the verdict.
 -- Assumes nothing.
-use mathlib.Core.Path.{_≡_, refl, sym, ap, subst, _∙_}
+use mathlib.Core.Path.{_≡_, refl, sym, ap, _∙_}
 use mathlib.Core.Bool.{Bool, true, false, cond, _&&_}
 use mathlib.Core.List.{List}
 use mathlib.Core.Option.{Option, some, none}
@@ -35,7 +35,7 @@ use Rattle.checker.specs.declared.checker.Verdict.the-variants.{Passed, 
 use Rattle.checker.specs.declared.bounds.Bounds.{Bounds}
 use Rattle.checker.specs.Formulas.{known, valueOf, bounded, tasks, _but_, overloadsSpan, comesAfter, overloaded, implied}
 use Rattle.checker.specs.Checks.{finite, lowerIn, upperIn, verdict, judged}
-use Rattle.checker.specs.Holding.{boundsBetween, knownAt, estAt, lstAt, boundsOf, Held, Late, Bounding, Judgeable, Consequent}
+use Rattle.checker.specs.Holding.{boundsBetween, knownAt, estAt, lstAt, boundsOf, Held, Late, Judgeable, Consequent}
 use Rattle.checker.proofs.Formulas.{Reads, moments-proper}
 use Rattle.checker.proofs.Soundness.{reads, near-latest, durations-last}
 
@@ -56,18 +56,15 @@ module _ (ds : List ℤ) (s : VariableState) where
   abbrev pub twoSided : TaskSet
   twoSided = bounded (length ds) (durationAt ds) (lowerIn s) (upperIn s)
 
-module _ {ds : List ℤ} {s : VariableState} {n : ℕ} {durations : List ℕ} (j : Judgeable ds s n durations) (b : Bounds) (same : b ≡ boundsOf s n) where
+module _ {ds : List ℤ} {s : VariableState} {n : ℕ} {b : Bounds} {durations : List ℕ} (j : Judgeable ds s n b durations) where
   abbrev J : Tasks natural
   J = tasksOf ds s
 
   abbrev X : TaskSet
   X = twoSided ds s
 
-  pub bounds-held : Bounding J X n b durations
-  bounds-held = subst (λ (x : Bounds). Bounding J X n x durations) (sym same) (j .bounding)
-
   member : (i : ℕ) → i < n → getD (b .bounded) i false ≡ X i
-  member i q = bounds-held .held .member i q
+  member i q = j .bounding .held .member i q
 
   module _ (words : List ℤ) where
     pub alone : length words ≡ 0 → (o : Bool) → o ≡ overloadsSpan J X → verdict o ≡ judged ds s (consequentOf words)
@@ -156,7 +153,7 @@ module _ (ds ps cs : List ℤ) (ok : refusal (creationTests ds) ≡ 0) (consiste
   abbrev u : ℕ → IntExt
   u k = domainAt s k .«upper_bound»
 
-  pub judgeable : Judgeable ds s n (newRecord ds .durations)
+  pub judgeable : Judgeable ds s n (boundsOf s n) (newRecord ds .durations)
   judgeable = record {
     count = refl;
     bounding = record {

@@ -82,10 +82,10 @@ pub record Bounding (J : Tasks natural) (Ω : TaskSet) (n : ℕ) (b : Bounds) (d
   pub held : Held J Ω n (b .bounded) (b .est) durations
   pub late : Late J n (b .lst)
 
--- the state and the durations are those of a check's n tasks
-pub record Judgeable (ds : List ℤ) (s : VariableState) (n : ℕ) (durations : List ℕ) : Type 0 where
+-- the bounds are those that the state leaves to a check's n tasks, and the durations are theirs
+pub record Judgeable (ds : List ℤ) (s : VariableState) (n : ℕ) (b : Bounds) (durations : List ℕ) : Type 0 where
   pub count : length ds ≡ n
-  pub bounding : Bounding (tasks (length ds) (durationAt ds) (lowerIn s) (upperIn s)) (bounded (length ds) (durationAt ds) (lowerIn s) (upperIn s)) n (boundsOf s n) durations
+  pub bounding : Bounding (tasks (length ds) (durationAt ds) (lowerIn s) (upperIn s)) (bounded (length ds) (durationAt ds) (lowerIn s) (upperIn s)) n b durations
 
 -- the words of a consequent that 6 lets pass
 pub record Consequent (words : List ℤ) : Type 0 where

@@ -13,6 +13,7 @@ ghost use mathlib.Core.List.{List};
 ghost use Prim.Native.Nat.{ℕ, _<_};
 ghost use lib.IntN.{ℤ};
 ghost use Rattle.scheduling.specs.Scheduling.{natural, Tasks, TaskSet};
+ghost use Rattle.checking.specs.declared.variable_state.VariableState.{VariableState};
 ghost use Rattle.checking.specs.Atoms.{consequentOf};
 ghost use Rattle.checker.specs.Formulas.{_but_, overloadsSpan, comesAfter};
 ghost use Rattle.checker.specs.Checks.{verdict, judged, Checked};
@@ -67,11 +68,10 @@ fn verdict_of(holds: bool) -> Verdict
 }
 
 // The formula for the consequent, or for none.
-fn judge(state: VariableState, durations: &[u32; 48], n: usize, consequent: &[i32]) -> Verdict
-    requires { ⌜ ((ds : List ℤ) × Judgeable ds state n (now durations)) × Consequent (now consequent) ⌝ }
-    ensures { λ r. ⌜ ((ds : List ℤ) → Judgeable ds state n (now (durations .entry)) → r ≡ judged ds state (consequentOf (now (consequent .entry)))) ⌝ }
+fn judge(bounds: Bounds, durations: &[u32; 48], n: usize, consequent: &[i32]) -> Verdict
+    requires { ⌜ ((ds : List ℤ) × (s : VariableState) × Judgeable ds s n bounds (now durations)) × Consequent (now consequent) ⌝ }
+    ensures { λ r. ⌜ ((ds : List ℤ) (s : VariableState) → Judgeable ds s n bounds (now (durations .entry)) → r ≡ judged ds s (consequentOf (now (consequent .entry)))) ⌝ }
 {
-    let bounds = bounds_of(state, n);
     if consequent.len() == 0 {
         return verdict_of(overloaded(bounds, durations, n));
     }
@@ -98,7 +98,10 @@ pub fn check(durations: &[i32], premises: &[i32], consequent: &[i32]) -> Verdict
     let applied = VariableState::prepare_for_conflict_check(premises, consequent);
     let answer = applied.answer;
     match answer {
-        Application::Consistent => judge(applied.state, &tasks.durations, tasks.count, consequent),
+        Application::Consistent => {
+            let bounds = bounds_of(applied.state, tasks.count);
+            judge(bounds, &tasks.durations, tasks.count, consequent)
+        }
         Application::Contradiction(x) => Verdict::Contradiction(x),
         Application::Refused(number) => Verdict::Refused(number),
     }

@@ -3,6 +3,7 @@ pub mod Steps
 pub mod Ascending
 pub mod Padding
 pub mod Atoms
+pub mod Given
 pub mod Bounds
 pub mod Domains
 pub mod Narrowing

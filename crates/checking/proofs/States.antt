@@ -3,7 +3,7 @@
 use mathlib.Core.Path.{_≡_, refl, sym, ap, _∙_, subst}
 use mathlib.Core.Logic.{_⊎_, inl, inr}
 use mathlib.Core.Bool.{Bool, true, false, cond}
-use mathlib.Core.List.{List, [], _∷_, _++_}
+use mathlib.Core.List.{List, [], _∷_}
 use Prim.Native.Nat.{ℕ, _<_}
 use native.Mathlib.Omega.{arith}
 use borrow.Author.Tests.{eqb-true, eqb-false}
@@ -16,7 +16,6 @@ use Rattle.integers.proofs.Bools.{bool}
 use Rattle.scheduling.specs.Scheduling.{Atom, Every}
 use Rattle.checking.specs.declared.int_ext.IntExt.the-variants.{NegativeInf, PositiveInf}
 use Rattle.checking.specs.declared.variable_state.Domain.{Domain}
-use Rattle.checking.specs.declared.variable_state.Effect.{Effect}
 use Rattle.checking.specs.declared.variable_state.Effect.the-variants.{Narrowed, Emptied, Full}
 use Rattle.checking.specs.declared.variable_state.Reduced.{Reduced}
 use Rattle.checking.specs.declared.variable_state.VariableState.{VariableState}
@@ -24,7 +23,7 @@ use Rattle.checking.specs.declared.variable_state.Application.{Applicati
 use Rattle.checking.specs.declared.variable_state.Application.the-variants.{Consistent, Contradiction, Refused}
 use Rattle.checking.specs.declared.variable_state.Applied.{Applied}
 use Rattle.checking.specs.Domains.{Tight, consistent, applied, needsRoom, settled, reduced, allIntegers}
-use Rattle.checking.specs.States.{Proper, Accepted, noDomain, domainAt, put, emptyState, outcome, stepped, applyAll, andThen}
+use Rattle.checking.specs.States.{Proper, Accepted, noDomain, domainAt, put, emptyState, outcome, stepped, applyAll}
 use Rattle.checking.proofs.Ascending.{has-none}
 use Rattle.checking.proofs.Narrowing.{made-tight, applied-tight}
 
@@ -120,34 +119,7 @@ pub all-end : (s : VariableState) → applyAll [] s ≡ record { answer = Consis
 unfolding applyAll
 all-end s = refl
 
--- ---- the last atom
-consistent-contradiction {ℓ} : {X : Type ℓ} (x : ℕ) → Consistent ≡ Contradiction x → X
-consistent-contradiction x e = let z : _≡_ {A = ℕ} 0 1 = cc in absurd (omega arith)
-
--- a contradiction hands back the state as it was
-pub stepped-kept : (s : VariableState) (a : Atom) (x : ℕ) → stepped s a .answer ≡ Contradiction x → stepped s a .state ≡ s
-unfolding stepped
-stepped-kept s a x = by (reduced (domainAt s (a .variable)) (a .kind) (a .value) .effect) refl
-  where
-    by : (e : Effect) → reduced (domainAt s (a .variable)) (a .kind) (a .value) .effect ≡ e
-        → outcome s a (reduced (domainAt s (a .variable)) (a .kind) (a .value)) .answer ≡ Contradiction x → outcome s a (reduced (domainAt s (a .variable)) (a .kind) (a .value)) .state ≡ s
-    by Narrowed e y = consistent-contradiction x (sym (ap (λ (r : Applied). r .answer) (when-narrowed s a (reduced (domainAt s (a .variable)) (a .kind) (a .value)) e)) ∙ y)
-    by Emptied e y = ap (λ (r : Applied). r .state) (when-emptied s a (reduced (domainAt s (a .variable)) (a .kind) (a .value)) e)
-    by Full e y = ap (λ (r : Applied). r .state) (when-full s a (reduced (domainAt s (a .variable)) (a .kind) (a .value)) e)
-
-module _ (s : VariableState) (a : Atom) (q : Applied) (is : q ≡ stepped s a) where
-  pub last-consistent : q .answer ≡ Consistent → applyAll (a ∷ []) s ≡ q
-  last-consistent n = all-on s a [] ∙ ap (resume s a []) (sym is) ∙ rw n (all-end (q .state))
-
-  pub last-contradiction : (x : ℕ) → q .answer ≡ Contradiction x → applyAll (a ∷ []) s ≡ q
-  last-contradiction x n =
-      let kept : q .state ≡ s = ap (λ (r : Applied). r .state) is ∙ stepped-kept s a x (ap (λ (r : Applied). r .answer) (sym is) ∙ n) in
-      all-on s a [] ∙ ap (resume s a []) (sym is) ∙ rw n (λ i. record { answer = Contradiction x; state = sym kept i })
-
-  pub last-refused : (m : ℕ) → q .answer ≡ Refused m → applyAll (a ∷ []) s ≡ record { answer = Refused m; state = emptyState }
-  last-refused m n = all-on s a [] ∙ ap (resume s a []) (sym is) ∙ rw n
-
--- ---- lists, one after the other
+-- ---- the first atom of a list, by cases
 module _ (s : VariableState) (a : Atom) (rest : List Atom) where
   on-consistent : stepped s a .answer ≡ Consistent → applyAll (a ∷ rest) s ≡ applyAll rest (stepped s a .state)
   on-consistent n = all-on s a rest ∙ rw n
@@ -168,15 +140,6 @@ module _ (s : VariableState) (a : Atom) (rest : List Atom) where
       by Consistent n = subst P (sym (on-consistent n)) (f n)
       by (Contradiction x) n = subst P (sym (on-contradiction x n)) (g x n)
       by (Refused m) n = subst P (sym (on-refused m n)) (h m n)
-
-pub all-append : (p q : List Atom) (s : VariableState) → applyAll (p ++ q) s ≡ andThen (applyAll p s) q
-all-append [] q s = ap (λ (r : Applied). andThen r q) (sym (all-end s))
-all-append (a ∷ p) q s = by (stepped s a .answer) refl (all-append p q (stepped s a .state))
-  where
-    by : (w : Application) → stepped s a .answer ≡ w → applyAll (p ++ q) (stepped s a .state) ≡ andThen (applyAll p (stepped s a .state)) q → applyAll (a ∷ (p ++ q)) s ≡ andThen (applyAll (a ∷ p) s) q
-    by Consistent n e = on-consistent s a (p ++ q) n ∙ e ∙ ap (λ (r : Applied). andThen r q) (sym (on-consistent s a p n))
-    by (Contradiction x) n e = on-contradiction s a (p ++ q) x n ∙ ap (λ (r : Applied). andThen r q) (sym (on-contradiction s a p x n))
-    by (Refused m) n e = on-refused s a (p ++ q) m n ∙ ap (λ (r : Applied). andThen r q) (sym (on-refused s a p m n))
 
 -- one atom, by cases
 pub stepped-case : (s : VariableState) (a : Atom) (P : Applied → Type 0)

@@ -1,14 +1,14 @@
 -- Atoms as words, three to an atom: variable, kind (0 is ≥, 1 is ≤, 2 is =, 3 is ≠), value.
-use mathlib.Core.Bool.{Bool, true, false, _&&_}
+use mathlib.Core.Bool.{Bool, true, false, cond, _&&_}
 use mathlib.Core.List.{List, [], _∷_}
 use mathlib.Core.Option.{Option, some, none}
-use Prim.Native.Nat.{ℕ, _+_}
-use lib.Dec.{leb}
+use Prim.Native.Nat.{ℕ, _+_, _-_}
+use lib.Dec.{leb, ltb}
 use lib.IntN.{ℤ, pos, negℤ, natAbs}
-use lib.ListN.{length, getD}
+use lib.ListN.{length, getD, drop}
 use lib.Signed.{leZ, ltZ}
 use Rattle.integers.specs.Limits.{VARIABLES, VALUE}
-use Rattle.scheduling.specs.Scheduling.{Atom}
+use Rattle.scheduling.specs.Scheduling.{Atom, negation}
 use Rattle.checking.specs.declared.atomic_constraint.AtomicConstraint.{AtomicConstraint}
 use Rattle.checking.specs.declared.atomic_constraint.Comparison.{Comparison}
 use Rattle.checking.specs.declared.atomic_constraint.Comparison.the-variants.{GreaterEqual, LessEqual, Equal, NotEqual}
@@ -47,6 +47,10 @@ first (a ∷ rest) = some a
 abbrev pub consequentOf : List ℤ → Option Atom
 consequentOf words = first (atomsOf words)
 
+-- the atom of the three words from place i on, of the premises' words followed by the consequent's, whose atom is negated
+abbrev pub givenAt : List ℤ → List ℤ → ℕ → Atom
+givenAt premises consequent i = cond (ltb i (length premises)) (atomAt premises i) (negation (atomAt consequent (i - length premises)))
+
 -- Which words are accepted -----------------------------------------------------------------------------------------------------
 
 -- a known variable
@@ -67,3 +71,7 @@ rightWords [] = true
 -- the premises are right, and the consequent is one right atom or none
 unfoldable pub rightLists : List ℤ → List ℤ → Bool
 rightLists premises consequent = rightWords premises && (leb (length consequent) 3 && rightWords consequent)
+
+-- the words from place i on are right, of the premises' words followed by the consequent's
+abbrev pub rightFrom : List ℤ → List ℤ → ℕ → Bool
+rightFrom premises consequent i = rightLists (drop i premises) (drop (i - length premises) consequent)

@@ -134,14 +134,6 @@ applyAll (a ∷ rest) s = elim (stepped s a .answer) [
   | application.Refused n ↦ record { answer = application.Refused n; state = emptyState }
 ]
 
--- further atoms after an answer
-abbrev pub andThen : Applied → List Atom → Applied
-andThen r rest = elim (r .answer) [
-  | application.Consistent ↦ applyAll rest (r .state)
-  | application.Contradiction x ↦ r
-  | application.Refused n ↦ r
-]
-
 -- prepare_for_conflict_check
 unfoldable pub prepared : List ℤ → List ℤ → Applied
 prepared premises consequent =

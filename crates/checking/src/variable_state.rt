@@ -13,13 +13,13 @@ use integers::limits::VARIABLES;
 use integers::nat_of;
 ghost use mathlib.Core.Path.{_≡_};
 ghost use mathlib.Core.Bool.{true, false};
-ghost use mathlib.Core.List.{[], _∷_};
-ghost use Prim.Native.Nat.{_+_, _<_};
+ghost use Prim.Native.Nat.{_+_, _*_, _≤_, _<_};
 ghost use lib.ListN.{length};
-ghost use Rattle.integers.specs.Limits.{VARIABLES, HOLES, VALUE};
-ghost use Rattle.checking.specs.Atoms.{kindOf, atomOf, atomsOf, rightWords, rightLists};
+ghost use Rattle.integers.specs.Limits.{VARIABLES, HOLES, PREMISES, VALUE};
+ghost use Rattle.scheduling.specs.Scheduling.{given};
+ghost use Rattle.checking.specs.Atoms.{kindOf, atomOf, atomsOf, consequentOf, givenAt, rightLists, rightFrom};
 ghost use Rattle.checking.specs.Promises.{EmptyMeans, ApplyMeans, TruthMeans, LowerMeans, UpperMeans, PrepareMeans};
-ghost use Rattle.checking.specs.States.{emptyState, accepted, stepped, appliedTo, truthOf, boundOf, applyAll, andThen, prepared, AllProper, Accepted, lowerOf, upperOf, sideOf};
+ghost use Rattle.checking.specs.States.{emptyState, accepted, stepped, appliedTo, truthOf, boundOf, applyAll, prepared, AllProper, Accepted, lowerOf, upperOf, sideOf};
 ghost use Rattle.checking.specs.Holes.{Within};
 ghost use Rattle.checking.specs.Domains.{Tight, allIntegers, acceptedDomain, tightenedLower, tightenedUpper, withoutLower, withoutUpper, between, withHole, crowded, consistent, settled, reduced, isTrue};
 
@@ -446,32 +446,16 @@ impl VariableState {
         self.bound_of(variable, false)
     }
 
-    // Apply the last atom of a list: a refusal hands back the empty state.
-    fn apply_last(self, atom: AtomicConstraint) -> Applied
-        requires { ⌜ Accepted self × ((atom .identifier < VARIABLES) × Within (VALUE + 1) (atom .value)) ⌝ }
-        ensures { λ r. ⌜ r ≡ applyAll (atomOf atom ∷ []) self ⌝ }
+    // Apply the premises and, if present, the negated consequent, one after the other, from the empty state.
+    fn apply_all(premises: &[i32], consequent: &[i32]) -> Applied
+        requires { ⌜ (length (now premises) ≤ 3 * PREMISES + 2) × (rightLists (now premises) (now consequent) ≡ true) ⌝ }
+        ensures { λ r. ⌜ r ≡ applyAll (given (atomsOf (now (premises .entry))) (consequentOf (now (consequent .entry)))) emptyState ⌝ }
     {
-        let applied = self.apply_atom(atom);
-        let answer = applied.answer;
-        match answer {
-            Application::Consistent => applied,
-            Application::Contradiction(_) => applied,
-            Application::Refused(n) => Applied {
-                answer: Application::Refused(n),
-                state: VariableState::empty(),
-            },
-        }
-    }
-
-    // Apply the premises, one after the other, from the empty state.
-    fn apply_premises(premises: &[i32]) -> Applied
-        requires { ⌜ rightWords (now premises) ≡ true ⌝ }
-        ensures { λ r. ⌜ r ≡ applyAll (atomsOf (now (premises .entry))) emptyState ⌝ }
-    {
+        let words = premises.len() + consequent.len();
         let mut state = VariableState::empty();
         let mut i = 0;
-        while i < premises.len() {
-            let atom = atom_at(premises, i);
+        while i < words {
+            let atom = given_at(premises, consequent, i);
             let x = atom.identifier;
             let comparison = atom.comparison;
             let value = atom.value;
@@ -522,28 +506,19 @@ impl VariableState {
                 state: VariableState::empty(),
             };
         }
-        if consequent.len() == 0 {
-            return VariableState::apply_premises(premises);
-        }
-        let applied = VariableState::apply_premises(premises);
-        let atom = atom_at(consequent, 0);
-        applied.conclude(atom.negate())
+        VariableState::apply_all(premises, consequent)
     }
 }
 
-impl Applied {
-    // The negated consequent, after the premises.
-    fn conclude(self, atom: AtomicConstraint) -> Applied
-        requires { ⌜ Accepted (self .state) × ((atom .identifier < VARIABLES) × Within (VALUE + 1) (atom .value)) ⌝ }
-        ensures { λ r. ⌜ r ≡ andThen self (atomOf atom ∷ []) ⌝ }
-    {
-        let answer = self.answer;
-        match answer {
-            Application::Consistent => self.state.apply_last(atom),
-            Application::Contradiction(_) => self,
-            Application::Refused(_) => self,
-        }
+// The atom of the three words from place i on, of the premises' words followed by the consequent's, whose atom is negated.
+fn given_at(premises: &[i32], consequent: &[i32], i: usize) -> AtomicConstraint
+    requires { ⌜ (i < length (now premises) + length (now consequent)) × (rightFrom (now premises) (now consequent) i ≡ true) ⌝ }
+    ensures { λ r. ⌜ atomOf r ≡ givenAt (now (premises .entry)) (now (consequent .entry)) i ⌝ }
+{
+    if i < premises.len() {
+        return atom_at(premises, i);
     }
+    atom_at(consequent, i - premises.len()).negate()
 }
 
 // Whether the premises are atoms, and the consequent one atom or none.

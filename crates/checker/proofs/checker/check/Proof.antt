@@ -1,6 +1,6 @@
 use mathlib.Core.Path.{_≡_, sym, ap, _∙_}
 use borrow.Author.Needs.{needs}
-use Rattle.checker.proofs.Answers.{checked, turned-back, contradicted, refused-atoms, can-judge, consequent-right, concluded-by}
+use Rattle.checker.proofs.Answers.{checked, turned-back, contradicted, refused-atoms, few-tasks, can-judge, consequent-right, concluded-by}
 use Rattle.checker.proofs.checker.check.Statement.{statement}
 use Rattle.checker.proofs.checker.check.Tie as tie
 
@@ -24,12 +24,21 @@ prepare-for-conflict-check-requires c κs = search needs
 enum-told-2 : tie.Need-enum-told-2
 enum-told-2 c = search needs
 
+bounds-of-requires : tie.Need-bounds-of-requires
+bounds-of-requires c κs =
+    let m = c .before .before .before .before .before .before .create in
+    let p = c .before .before .prepare-for-conflict-check in
+    few-tasks (c .before .before .before .before .before .before .before .args .durations .now) (c .before .before .before .before .before .before .before .args .premises .now) (c .before .before .before .before .before .before .before .args .consequent .now) (m .result) (m .ensures .0) (c .before .before .before .before .enum-told .given .1) (p .result) (p .ensures .0) (c .enum-told2 .given .1)
+
 judge-requires : tie.Need-judge-requires
 judge-requires c κs =
-    let m = c .before .before .before .before .before .before .before .before .create in
-    let p = c .before .before .before .before .prepare-for-conflict-check in (
-      ((c .before .before .before .before .before .before .before .before .before .args .durations .now), can-judge (c .before .before .before .before .before .before .before .before .before .args .durations .now) (c .before .before .before .before .before .before .before .before .before .args .premises .now) (c .before .before .before .before .before .before .before .before .before .args .consequent .now) (m .result) (m .ensures .0) (c .before .before .before .before .before .before .enum-told .given .1) (p .result) (p .ensures .0) (c .before .before .enum-told2 .given .1)),
-      consequent-right (c .before .before .before .before .before .before .before .before .before .args .durations .now) (c .before .before .before .before .before .before .before .before .before .args .premises .now) (c .before .before .before .before .before .before .before .before .before .args .consequent .now) (m .result) (m .ensures .0) (c .before .before .before .before .before .before .enum-told .given .1) (p .result) (p .ensures .0) (c .before .before .enum-told2 .given .1),
+    let m = c .before .before .before .before .before .before .before .before .before .create in
+    let p = c .before .before .before .before .before .prepare-for-conflict-check in
+    let a = c .before .before .before .before .before .before .before .enum-told .given .1 in
+    let e = c .before .before .before .enum-told2 .given .1 in
+    let b = c .before .before .bounds-of in (
+      ((c .before .before .before .before .before .before .before .before .before .before .args .durations .now), p .result .state, can-judge (c .before .before .before .before .before .before .before .before .before .before .args .durations .now) (c .before .before .before .before .before .before .before .before .before .before .args .premises .now) (c .before .before .before .before .before .before .before .before .before .before .args .consequent .now) (m .result) (m .ensures .0) a (p .result) (p .ensures .0) e (b .result) (b .ensures)),
+      consequent-right (c .before .before .before .before .before .before .before .before .before .before .args .durations .now) (c .before .before .before .before .before .before .before .before .before .before .args .premises .now) (c .before .before .before .before .before .before .before .before .before .before .args .consequent .now) (m .result) (m .ensures .0) a (p .result) (p .ensures .0) e,
     )
 
 enum-known-answer : tie.Need-enum-known-answer
@@ -40,13 +49,14 @@ enum-known-answer-2 c = search needs
 
 returns-2 : tie.Need-returns-2
 returns-2 c =
-    let m = c .before .before .before .before .before .before .before .before .before .create in
-    let p = c .before .before .before .before .before .prepare-for-conflict-check in
-    let a = c .before .before .before .before .before .before .before .enum-told .given .1 in
-    let e = c .before .before .before .enum-told2 .given .1 in
-    checked (c .before .before .before .before .before .before .before .before .before .before .args .durations .now) (c .before .before .before .before .before .before .before .before .before .before .args .premises .now) (c .before .before .before .before .before .before .before .before .before .before .args .consequent .now) (c .judge .result)
-    (concluded-by (c .before .before .before .before .before .before .before .before .before .before .args .durations .now) (c .before .before .before .before .before .before .before .before .before .before .args .premises .now) (c .before .before .before .before .before .before .before .before .before .before .args .consequent .now) (m .result) (m .ensures .0) a (p .result) (p .ensures .0) e (c .judge .result)
-    (c .judge .ensures (c .before .before .before .before .before .before .before .before .before .before .args .durations .now) (can-judge (c .before .before .before .before .before .before .before .before .before .before .args .durations .now) (c .before .before .before .before .before .before .before .before .before .before .args .premises .now) (c .before .before .before .before .before .before .before .before .before .before .args .consequent .now) (m .result) (m .ensures .0) a (p .result) (p .ensures .0) e)))
+    let m = c .before .before .before .before .before .before .before .before .before .before .create in
+    let p = c .before .before .before .before .before .before .prepare-for-conflict-check in
+    let a = c .before .before .before .before .before .before .before .before .enum-told .given .1 in
+    let e = c .before .before .before .before .enum-told2 .given .1 in
+    let b = c .before .before .before .bounds-of in
+    checked (c .before .before .before .before .before .before .before .before .before .before .before .args .durations .now) (c .before .before .before .before .before .before .before .before .before .before .before .args .premises .now) (c .before .before .before .before .before .before .before .before .before .before .before .args .consequent .now) (c .judge .result)
+    (concluded-by (c .before .before .before .before .before .before .before .before .before .before .before .args .durations .now) (c .before .before .before .before .before .before .before .before .before .before .before .args .premises .now) (c .before .before .before .before .before .before .before .before .before .before .before .args .consequent .now) (m .result) (m .ensures .0) a (p .result) (p .ensures .0) e (c .judge .result)
+    (c .judge .ensures (c .before .before .before .before .before .before .before .before .before .before .before .args .durations .now) (p .result .state) (can-judge (c .before .before .before .before .before .before .before .before .before .before .before .args .durations .now) (c .before .before .before .before .before .before .before .before .before .before .before .args .premises .now) (c .before .before .before .before .before .before .before .before .before .before .before .args .consequent .now) (m .result) (m .ensures .0) a (p .result) (p .ensures .0) e (b .result) (b .ensures))))
 
 returns-3 : tie.Need-returns-3
 returns-3 c =
@@ -70,6 +80,7 @@ check-spec =
     enum-told
     prepare-for-conflict-check-requires
     enum-told-2
+    bounds-of-requires
     judge-requires
     enum-known-answer
     enum-known-answer-2

@@ -1,7 +1,5 @@
-use mathlib.Core.Path.{_≡_, sym, ap, subst, _∙_}
-use mathlib.Core.Bool.{Bool, false}
-use mathlib.Core.List.{List}
-use Prim.Native.Nat.{ℕ, _≤_, _<_}
+use mathlib.Core.Path.{_≡_, sym, subst, _∙_}
+use mathlib.Core.Bool.{false}
 use native.Mathlib.Omega.{arith}
 use lib.IntN.{ℤ, pos}
 use lib.Signed.{_≤ℤ_}
@@ -10,82 +8,72 @@ use mir.Syntax.{w32}
 use borrow.Author.Needs.{needs}
 use borrow.Author.Tests.{not-true, not-false}
 use Rattle.integers.proofs.Ints.{back-of}
-use Rattle.checker.specs.Holding.{Judgeable}
-use Rattle.checker.proofs.Verdicts.{tasksOf, twoSided, variable-right, bounds-held, alone, no-task, no-bound, bound-on}
+use Rattle.checker.proofs.Verdicts.{tasksOf, twoSided, variable-right, alone, no-task, no-bound, bound-on}
 use Rattle.checker.proofs.checker.judge.Statement.{statement}
 use Rattle.checker.proofs.checker.judge.Tie as tie
 
-some-words : (c : tie.Else1) → length (c .before .before .args .consequent .now) ≡ 0 → ⊥
+some-words : (c : tie.Else1) → length (c .before .args .consequent .now) ≡ 0 → ⊥
 some-words c z = absurd (omega (arith, c .if1 .left))
 
 -- the consequent's variable
-variable : (c : tie.After-nat-of) → pos (c .nat-of .result) ≡ getD (c .before .before .before .before .args .consequent .now) 0 (pos 0)
-variable c = c .nat-of .ensures ∙ back-of w32 (getD (c .before .before .before .before .args .consequent .now) 0 (pos 0)) (c .before .nat-of-arg .given)
-
-bounds-of-requires : tie.Need-bounds-of-requires
-bounds-of-requires c κs = let j = c .pre .0 .1 in j .bounding .held .few
+variable : (c : tie.After-nat-of) → pos (c .nat-of .result) ≡ getD (c .before .before .before .args .consequent .now) 0 (pos 0)
+variable c = c .nat-of .ensures ∙ back-of w32 (getD (c .before .before .before .args .consequent .now) 0 (pos 0)) (c .before .nat-of-arg .given)
 
 overloaded-requires : tie.Need-overloaded-requires
-overloaded-requires c κs =
-    let (ds, j) = c .before .before .pre .0 in
-    (tasksOf ds (c .before .before .args .state), twoSided ds (c .before .before .args .state), bounds-held j (c .before .bounds-of .result) (c .before .bounds-of .ensures))
+overloaded-requires c κs = search needs
 
 verdict-of-requires : tie.Need-verdict-of-requires
 verdict-of-requires c κs = search needs
 
 returns : tie.Need-returns
-returns c = λ ds j.
-    let r = c .before .before .before .bounds-of in
-    c .verdict-of .ensures ∙ alone j (r .result) (r .ensures) (c .before .before .before .before .args .consequent .now) (omega (arith, c .before .before .if1 .taken)) (c .before .overloaded .result)
-    (c .before .overloaded .ensures (tasksOf ds (c .before .before .before .before .args .state)) (twoSided ds (c .before .before .before .before .args .state)) (bounds-held j (r .result) (r .ensures)))
+returns c = λ ds s j.
+    let a = c .before .before .before .args in
+    c .verdict-of .ensures ∙ alone j (a .consequent .now) (omega (arith, c .before .before .if1 .taken)) (c .before .overloaded .result) (c .before .overloaded .ensures (tasksOf ds s) (twoSided ds s) (j .bounding))
 
 shared-slice-copy-out-nat-of : tie.Need-shared-slice-copy-out-nat-of
 shared-slice-copy-out-nat-of c = search needs
 
 nat-of-requires : tie.Need-nat-of-requires
 nat-of-requires c κs =
-    let x = getD (c .before .before .before .args .consequent .now) 0 (pos 0) in
-    subst (λ (z : ℤ). pos 0 ≤ℤ z) (sym (back-of w32 x (c .nat-of-arg .given))) (variable-right (c .before .before .before .pre .1) (some-words (c .before)))
+    let x = getD (c .before .before .args .consequent .now) 0 (pos 0) in
+    subst (λ (z : ℤ). pos 0 ≤ℤ z) (sym (back-of w32 x (c .nat-of-arg .given))) (variable-right (c .before .before .pre .1) (some-words (c .before)))
 
 cast-i : tie.Need-cast-i
 cast-i c = search needs
 
 returns-2 : tie.Need-returns-2
-returns-2 c = λ ds j.
-    let r = c .before .before .before .before .bounds-of in
-    no-task j (r .result) (r .ensures) (c .before .before .before .before .before .args .consequent .now) (c .before .before .before .before .before .pre .1) (some-words (c .before .before .before)) (c .before .nat-of .result) (variable (c .before)) (c .if2 .taken)
+returns-2 c = λ ds s j.
+    let f = c .before .before .before .before in
+    no-task j (f .args .consequent .now) (f .pre .1) (some-words (c .before .before .before)) (c .before .nat-of .result) (variable (c .before)) (c .if2 .taken)
 
 element-copy-out-if3 : tie.Need-element-copy-out-if3
 element-copy-out-if3 c = search needs
 
 returns-3 : tie.Need-returns-3
-returns-3 c = λ ds j.
-    let r = c .before .before .before .before .before .before .bounds-of in
-    no-bound j (r .result) (r .ensures) (c .before .before .before .before .before .before .before .args .consequent .now) (c .before .before .before .before .before .before .before .pre .1) (some-words (c .before .before .before .before .before)) (c .before .before .before .nat-of .result) (variable (c .before .before .before)) (c .before .before .if2 .left)
-    (not-true (getD (r .result .bounded) (c .before .before .before .nat-of .result) false) (c .if3 .taken))
+returns-3 c = λ ds s j.
+    let f = c .before .before .before .before .before .before in
+    let i = c .before .before .before .nat-of .result in
+    no-bound j (f .args .consequent .now) (f .pre .1) (some-words (c .before .before .before .before .before)) i (variable (c .before .before .before)) (c .before .before .if2 .left)
+    (not-true (getD (f .args .t1 .bounded) i false) (c .if3 .taken))
 
 implied-requires : tie.Need-implied-requires
-implied-requires c κs =
-    let (ds, j) = c .before .before .before .before .before .before .before .pre .0 in
-    let r = c .before .before .before .before .before .before .bounds-of in
-    (c .before .before .if2 .left, (tasksOf ds (c .before .before .before .before .before .before .before .args .state), twoSided ds (c .before .before .before .before .before .before .before .args .state), bounds-held j (r .result) (r .ensures)))
+implied-requires c κs = search needs
 
 verdict-of-requires-2 : tie.Need-verdict-of-requires-2
 verdict-of-requires-2 c κs = search needs
 
 returns-4 : tie.Need-returns-4
-returns-4 c = λ ds j.
-    let r = c .before .before .before .before .before .before .before .before .bounds-of in
+returns-4 c = λ ds s j.
+    let f = c .before .before .before .before .before .before .before .before in
+    let i = c .before .before .before .before .before .nat-of .result in
     c .verdict-of2 .ensures
-    ∙ bound-on j (r .result) (r .ensures) (c .before .before .before .before .before .before .before .before .before .args .consequent .now) (c .before .before .before .before .before .before .before .before .before .pre .1) (some-words (c .before .before .before .before .before .before .before)) (c .before .before .before .before .before .nat-of .result) (variable (c .before .before .before .before .before)) (c .before .before .before .before .if2 .left)
-    (not-false (getD (r .result .bounded) (c .before .before .before .before .before .nat-of .result) false) (c .before .before .if3 .left)) (c .before .implied .result)
-    (c .before .implied .ensures (tasksOf ds (c .before .before .before .before .before .before .before .before .before .args .state)) (twoSided ds (c .before .before .before .before .before .before .before .before .before .args .state)) (bounds-held j (r .result) (r .ensures)))
+    ∙ bound-on j (f .args .consequent .now) (f .pre .1) (some-words (c .before .before .before .before .before .before .before)) i (variable (c .before .before .before .before .before)) (c .before .before .before .before .if2 .left)
+    (not-false (getD (f .args .t1 .bounded) i false) (c .before .before .if3 .left)) (c .before .implied .result) (c .before .implied .ensures (tasksOf ds s) (twoSided ds s) (j .bounding))
 
 pub judge-spec : {M : Type 1} → statement M
 judge-spec =
     tie.close
     (tie.spec
-    bounds-of-requires
     overloaded-requires
     verdict-of-requires
     returns
