@@ -13,21 +13,21 @@ use Rattle.mirrored.proofs.mirrored_propagator.propagate_mirrored.State
 use Rattle.mirrored.proofs.mirrored_propagator.propagate_mirrored.Tie as tie
 
 -- the arrays of a record have TASKS places
-long : (c : tie.Start) → length (c .args .«record» .durations) ≡ TASKS
+long : (c : tie.Start) → length (c .args .t1 .durations) ≡ TASKS
 long c = search needs
 
-long₁ : (c : tie.Start) → length (c .args .«record» .first) ≡ TASKS
+long₁ : (c : tie.Start) → length (c .args .t1 .first) ≡ TASKS
 long₁ c = search needs
 
-long₂ : (c : tie.Start) → length (c .args .«record» .second) ≡ TASKS
+long₂ : (c : tie.Start) → length (c .args .t1 .second) ≡ TASKS
 long₂ c = search needs
 
 -- no test failed
-passed : (c : tie.Else1) → let a = c .before .before .before .args in Accepted (a .«record») (a .earliest .now) (a .latest .now) (length (a .posts .now)) (length (a .atoms .now))
-passed c = let a = c .before .before .before .args in accepted-run (a .«record») (a .earliest .now) (a .latest .now) (length (a .posts .now)) (length (a .atoms .now)) .0 (omega (arith, c .before .run-refusal .ensures))
+passed : (c : tie.Else1) → let a = c .before .before .before .before .before .before .before .args in Accepted (a .t1) (a .earliest .now) (a .latest .now) (length (a .posts .now)) (length (a .atoms .now))
+passed c = let a = c .before .before .before .before .before .before .before .args in accepted-run (a .t1) (a .earliest .now) (a .latest .now) (length (a .posts .now)) (length (a .atoms .now)) .0 (omega (arith, c .before .run-refusal .ensures))
 
 run-refusal-requires : tie.Need-run-refusal-requires
-run-refusal-requires c κs = search needs
+run-refusal-requires c κs = let s = c .before .before .before .before .before in record { one = long₁ s; other = long₂ s }
 
 same-length : tie.Need-same-length
 same-length c = search needs
@@ -47,9 +47,9 @@ run-in-mirror-requires c κs = passed (c .before .before .before .before)
 tell-requires : tie.Need-tell-requires
 tell-requires c κs =
     let e = c .before .before .before .before .before .before .before .before .before .before .before in
-    let s = e .before .before .before in
+    let s = e .before .before .before .before .before .before .before in
     let a = s .args in
-    ended (a .«record») (a .earliest .now) (a .latest .now) (length (a .posts .now)) (length (a .atoms .now)) (passed e) (long s) (long₁ s) (long₂ s) (c .before .before .before .before .before .before .run-in-mirror .ensures)
+    ended (a .t1) (a .earliest .now) (a .latest .now) (length (a .posts .now)) (length (a .atoms .now)) (passed e) (long s) (long₁ s) (long₂ s) (c .before .before .before .before .before .before .run-in-mirror .ensures)
 
 same-length-2 : tie.Need-same-length-2
 same-length-2 c = search needs
@@ -63,13 +63,13 @@ same-length-4 c = search needs
 returns-2 : tie.Need-returns-2
 returns-2 c =
     let e = c .before .before .before .before .before .before .before .before .before .before .before .before .before .before in
-    let s = e .before .before .before in
+    let s = e .before .before .before .before .before .before .before in
     let a = s .args in
     let r = c .before .before .before .before .before .before .before .before .before .run-in-mirror .ensures in
     record {
-      refused = λ h. absurd (h (accepted-run (a .«record») (a .earliest .now) (a .latest .now) (length (a .posts .now)) (length (a .atoms .now)) .1 (passed e)));
-      ran = λ z. left-mirrored (a .«record») (a .earliest .now) (a .latest .now) (length (a .posts .now)) (length (a .atoms .now)) (passed e) (long s) (long₁ s) (long₂ s) r (c .before .before .tell .ensures (ended (a .«record») (a .earliest .now) (a .latest .now) (length (a .posts .now)) (length (a .atoms .now)) (passed e) (long s) (long₁ s) (long₂ s) r));
-      right = λ z. right (a .«record») (a .earliest .now) (a .latest .now) (length (a .posts .now)) (length (a .atoms .now)) (passed e) (long s) (long₁ s) (long₂ s);
+      refused = λ h. absurd (h (accepted-run (a .t1) (a .earliest .now) (a .latest .now) (length (a .posts .now)) (length (a .atoms .now)) .1 (passed e)));
+      ran = λ z. left-mirrored (a .t1) (a .earliest .now) (a .latest .now) (length (a .posts .now)) (length (a .atoms .now)) (passed e) (long s) (long₁ s) (long₂ s) r (c .before .before .tell .ensures (ended (a .t1) (a .earliest .now) (a .latest .now) (length (a .posts .now)) (length (a .atoms .now)) (passed e) (long s) (long₁ s) (long₂ s) r));
+      right = λ z. right (a .t1) (a .earliest .now) (a .latest .now) (length (a .posts .now)) (length (a .atoms .now)) (passed e) (long s) (long₁ s) (long₂ s);
     }
 
 pub propagate-mirrored-spec : {M : Type 1} → statement M
