@@ -7,3 +7,4 @@ pub mod Permutations
 pub mod Tests
 pub mod Pigeonhole
 pub mod Sorting
+pub mod Reversal

@@ -37,6 +37,13 @@ pub fn word_of(n: usize) -> i32
     n as i32
 }
 
+// A number of 32 bits in 64, where sums of such numbers have room.
+pub fn wide(x: u32) -> u64
+    ensures { λ r. ⌜ (r ≡ x) × (r < 4294967296) ⌝ }
+{
+    x as u64
+}
+
 // Whether a is at most b: the one comparison of whole numbers that loops call.
 pub fn at_most(a: i32, b: i32) -> bool
     ensures { λ r. ⌜ r ≡ leZ a b ⌝ }
