@@ -1,5 +1,3 @@
 pub mod Padding
-pub mod Placing
-pub mod Turns
 pub mod Refusing
 pub mod Paging

@@ -11,25 +11,21 @@ use lib.ListN.{length, getD, take, drop, length-append, length-take}
 use lib.Seq.{take-suc, take-at, drop-append-add, getD-take}
 use Rattle.integers.specs.Limits.{TASKS, DURATIONS}
 use Rattle.integers.specs.Orders.{has}
-use Rattle.integers.specs.Tests.{AllPassed}
 use Rattle.integers.proofs.Words.{overwrites}
 use Rattle.integers.proofs.Permutations.{has-here, has-later}
-use Rattle.scheduling.proofs.Sets.{total-part}
 use Rattle.records.specs.declared.record.Propagator.{Propagator}
-use Rattle.records.specs.Records.{Lawful}
-use Rattle.records.specs.Refusals.{inputTests, CountsFit}
-use Rattle.records.proofs.Lawful.{lawful-is}
-use Rattle.records.proofs.Refused.{counts-are, starts-are}
+use Rattle.fixed.specs.FixedSchedules.{startAt, endAt, orderOf}
+use Rattle.fixed.specs.Holding.{Started}
+use Rattle.fixed.proofs.Placing.{ordered, order-length, order-permutes}
+use Rattle.fixed.proofs.Accepting.{input-of, started, short}
 use Rattle.text.specs.Writing.{Puts}
 use Rattle.text.proofs.Putting.{puts-append}
 use Rattle.pages.specs.Lines.{LINE, heading}
 use Rattle.pages.specs.declared.answer.Page.{Page}
 use Rattle.pages.specs.declared.answer.Page.the-variants.{Written, Refused}
-use Rattle.pages.specs.Pages.{startAt, endAt, orderOf, lineAt, pageOf, pageNumber, OneLineEach, Paged}
-use Rattle.pages.specs.Holding.{Started, Listed}
+use Rattle.pages.specs.Pages.{lineAt, pageOf, pageNumber, Accepted, OneLineEach, Paged}
 use Rattle.pages.proofs.Padding.{line-length, line-once}
-use Rattle.pages.proofs.Placing.{ordered, order-length, order-permutes}
-use Rattle.pages.proofs.Refusing.{page-input, page-many, accepted-page}
+use Rattle.pages.proofs.Refusing.{page-many, accepted-page}
 
 module _ (f : ℕ → List ℕ) where
   flat-append : (ks js : List ℕ) → flatMap f (ks ++ js) ≡ flatMap f ks ++ flatMap f js
@@ -102,34 +98,6 @@ module _ (ds : List ℕ) (es : List ℤ) (s : Started es) (short : (k : ℕ) →
     order = ordered es;
   }
 
--- ---- what is known where the record and its ranges have passed
-module _ (r : Propagator) (es ls : List ℤ) (p : AllPassed (inputTests r es ls)) where
-  lawful : Lawful r
-  lawful = lawful-is r .0 (p .0)
-
-  pub counted : CountsFit (r .count) es ls
-  counted = counts-are (r .count) es ls .0 (p .1 .0)
-
-  pub few : r .count ≤ TASKS
-  few = lawful .few
-
-  pub started : Started es
-  started = record { few = omega (arith, counted .earliest, lawful .few); starts = starts-are (r .count) es ls .0 (p .1 .1 .0) .earliest }
-
-  pub lasting : (k : ℕ) → k < length es → 1 ≤ getD (r .durations) k 0
-  lasting k q = lawful .lasts k (omega (arith, counted .earliest))
-
-  pub short : (k : ℕ) → k < length es → getD (r .durations) k 0 ≤ DURATIONS
-  short k q = omega (arith, total-part (λ k. getD (r .durations) k 0) (r .count) k (omega (arith, counted .earliest)), lawful .sum)
-
-  pub listed : (order : List ℕ) → take (length es) order ≡ orderOf es → Listed order es (r .durations)
-  listed order e = record {
-    started = started;
-    durations = short;
-    long = omega (arith, length-take (length es) order, ap length e, order-length es);
-    tasks = λ t q. (let z = ordered es .task t q in rw (← e, getD-take (length es) order t 0 q) at z);
-  }
-
 -- ---- the call
 module _ (r : Propagator) (es ls : List ℤ) (out : List ℕ) where
   pub refused : {out′ : List ℕ} (m : ℕ) → m ≡ pageNumber r es ls (length out) → (m ≡ 0 → ⊥) → out′ ≡ out → Paged r es ls out (Refused m) out′
@@ -145,25 +113,22 @@ module _ (r : Propagator) (es ls : List ℤ) (out : List ℕ) where
     refused = λ not. absurd (not z);
     written = λ _. record {
       answer = ap Written size;
-      text = page .text ∙ overwrites out (pageOf (r .durations) es) (omega (arith, one .long, counted r es ls p .earliest, room));
+      text = page .text ∙ overwrites out (pageOf (r .durations) es) (omega (arith, one .long, a .schedule .counts .earliest, a .room));
     };
     lines = λ _. one;
   }
     where
-      p : AllPassed (inputTests r es ls)
-      p = page-input r es ls (length out) z
+      a : Accepted r es ls (length out)
+      a = accepted-page r es ls (length out) .0 z
 
       one : OneLineEach (r .durations) es (pageOf (r .durations) es)
-      one = one-line-each (r .durations) es (started r es ls p) (short r es ls p)
+      one = one-line-each (r .durations) es (started r es ls (input-of (a .schedule))) (short r es ls (input-of (a .schedule)))
 
       page : Puts out out′ 0 (pageOf (r .durations) es) n
       page = subst (λ (l : List ℕ). Puts out out′ 0 (heading ++ flatMap (lineAt (r .durations) es) l) n) e q
 
       size : n ≡ LINE * (r .count + 1)
-      size = omega (arith, page .end, one .long, counted r es ls p .earliest)
-
-      room : LINE * (r .count + 1) ≤ length out
-      room = accepted-page r es ls (length out) .0 z .room
+      size = omega (arith, page .end, one .long, a .schedule .counts .earliest)
 
 -- too many ranges are turned back as none are
 pub too-many : (r : Propagator) (es ls : List ℤ) (out : List ℕ) (page : Page) (out′ : List ℕ) → TASKS < length es → Paged r [] [] out page out′ → Paged r es ls out page out′

@@ -32,7 +32,7 @@ two-tasks = refl
 two : Propagator
 two = newRecord (pos 4 ∷ pos 15 ∷ [])
 
--- 93 bytes hold the page, and 92 do not; one unit less between the starts is an overlap, and so is a range of two starts turned back
+-- 93 bytes hold the page, and 92 do not
 just-room : pageNumber two (pos 3 ∷ negsuc 11 ∷ []) (pos 3 ∷ negsuc 11 ∷ []) 93 ≡ 0
 unfolding two refusal lawfulRecord isPermutation allBelow unusedAt has filled total
 just-room = refl
@@ -41,15 +41,7 @@ no-room : pageNumber two (pos 3 ∷ negsuc 11 ∷ []) (pos 3 ∷ negsuc 11 ∷ [
 unfolding two refusal lawfulRecord isPermutation allBelow unusedAt has filled total
 no-room = refl
 
+-- 14 is tried before 15
 overlap : pageNumber two (pos 2 ∷ negsuc 11 ∷ []) (pos 2 ∷ negsuc 11 ∷ []) 0 ≡ 14
 unfolding two refusal lawfulRecord isPermutation allBelow unusedAt has filled total
 overlap = refl
-
-two-starts : pageNumber two (pos 3 ∷ negsuc 11 ∷ []) (pos 4 ∷ negsuc 11 ∷ []) 93 ≡ 14
-unfolding two refusal lawfulRecord isPermutation allBelow unusedAt has filled total
-two-starts = refl
-
--- 4 is tried before 14
-empty-range : pageNumber two (pos 2 ∷ negsuc 11 ∷ []) (pos 1 ∷ negsuc 11 ∷ []) 0 ≡ 4
-unfolding two refusal lawfulRecord isPermutation allBelow unusedAt has filled total
-empty-range = refl

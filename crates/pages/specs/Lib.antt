@@ -1,4 +1,3 @@
 pub mod Lines
 pub mod Pages
-pub mod Holding
 pub mod Examples

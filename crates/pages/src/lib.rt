@@ -1,5 +1,4 @@
 // The scanner page: a fixed schedule as text, one line for each task.
 pub mod answer;
 pub mod lines;
-pub mod order;
 pub mod page;

@@ -10,10 +10,10 @@ ghost use lib.ListN.{length, take};
 ghost use mathlib.Core.List.{_++_, flatMap};
 ghost use Rattle.integers.specs.Limits.{TASKS, DURATIONS};
 ghost use Rattle.records.specs.Refusals.{StartFits};
+ghost use Rattle.fixed.specs.Holding.{Listed};
 ghost use Rattle.text.specs.Writing.{decimal, Puts};
 ghost use Rattle.pages.specs.Lines.{LINE, padLeft, heading, lineOf};
 ghost use Rattle.pages.specs.Pages.{lineAt};
-ghost use Rattle.pages.specs.Holding.{Listed};
 
 // A number, right-aligned: written behind spaces, of which as many are taken along as the width asks for.
 fn put_right(out: &mut [u8], at: usize, width: usize, x: i32) -> usize

@@ -1,11 +1,9 @@
 // The page: refused by number with nothing changed, or written.
 use crate::answer::Page;
 use crate::lines::put_lines;
-use crate::order::in_turn;
-use crate::order::one_start;
-use crate::order::order_of;
+use fixed::order::order_of;
+use fixed::refusals::fixed_refusal;
 use records::record::Propagator;
-use records::refusals::input_refusal;
 ghost use mathlib.Core.Path.{_≡_};
 ghost use Rattle.pages.specs.Pages.{pageNumber, Paged};
 
@@ -13,23 +11,9 @@ ghost use Rattle.pages.specs.Pages.{pageNumber, Paged};
 fn page_refusal(record: Propagator, earliest: &[i32], latest: &[i32], room: usize) -> u32
     ensures { λ r. ⌜ r ≡ pageNumber «record» (now (earliest .entry)) (now (latest .entry)) room ⌝ }
 {
-    let number = input_refusal(
-        record.count,
-        &record.durations,
-        &record.first,
-        &record.second,
-        earliest,
-        latest,
-    );
+    let number = fixed_refusal(record, earliest, latest);
     if number != 0 {
         return number;
-    }
-    if !one_start(earliest, latest) {
-        return 14;
-    }
-    let order = order_of(earliest);
-    if !in_turn(&order, earliest, &record.durations) {
-        return 14;
     }
     if room < 31 * (record.count + 1) {
         return 15;

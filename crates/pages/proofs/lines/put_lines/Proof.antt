@@ -7,10 +7,11 @@ use borrow.Author.Needs.{needs}
 use mir.Syntax.{w32}
 use mir.Val.{toZ, ofZ}
 use Rattle.integers.proofs.Ints.{back-of}
+use Rattle.fixed.specs.FixedSchedules.{startAt}
 use Rattle.text.specs.Writing.{Puts}
 use Rattle.text.proofs.Putting.{puts-length, puts-append}
 use Rattle.pages.specs.Lines.{LINE}
-use Rattle.pages.specs.Pages.{startAt, lineAt}
+use Rattle.pages.specs.Pages.{lineAt}
 use Rattle.pages.proofs.Paging.{puts-none, puts-next, each-line}
 use Rattle.pages.proofs.Padding.{puts-at}
 use Rattle.pages.proofs.lines.put_lines.Statement.{statement}

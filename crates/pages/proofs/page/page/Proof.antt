@@ -2,11 +2,10 @@ use mathlib.Core.Path.{_≡_, refl, sym, _∙_}
 use native.Mathlib.Omega.{arith}
 use lib.ListN.{length}
 use borrow.Author.Needs.{needs}
-use Rattle.integers.specs.Tests.{AllPassed}
-use Rattle.records.specs.Refusals.{inputTests}
-use Rattle.pages.specs.Pages.{pageNumber}
-use Rattle.pages.proofs.Refusing.{accepted-page, page-input}
-use Rattle.pages.proofs.Paging.{started, listed, refused, written}
+use Rattle.fixed.proofs.Accepting.{input-of, started, listed}
+use Rattle.pages.specs.Pages.{pageNumber, Accepted}
+use Rattle.pages.proofs.Refusing.{accepted-page}
+use Rattle.pages.proofs.Paging.{refused, written}
 use Rattle.pages.proofs.page.page.Statement.{statement}
 use Rattle.pages.proofs.page.page.Tie as tie
 
@@ -14,8 +13,8 @@ use Rattle.pages.proofs.page.page.Tie as tie
 number : (c : tie.Else1) → let a = c .before .before .before .args in pageNumber (a .t1) (a .earliest .now) (a .latest .now) (length (a .out .now)) ≡ 0
 number c = sym (c .before .page-refusal .ensures) ∙ c .if1 .left
 
-passed : (c : tie.Else1) → let a = c .before .before .before .args in AllPassed (inputTests (a .t1) (a .earliest .now) (a .latest .now))
-passed c = let a = c .before .before .before .args in page-input (a .t1) (a .earliest .now) (a .latest .now) (length (a .out .now)) (number c)
+held : (c : tie.Else1) → let a = c .before .before .before .args in Accepted (a .t1) (a .earliest .now) (a .latest .now) (length (a .out .now))
+held c = let a = c .before .before .before .args in accepted-page (a .t1) (a .earliest .now) (a .latest .now) (length (a .out .now)) .0 (number c)
 
 page-refusal-requires : tie.Need-page-refusal-requires
 page-refusal-requires c κs = search needs
@@ -24,13 +23,13 @@ returns : tie.Need-returns
 returns c = let a = c .before .before .before .args in refused (a .t1) (a .earliest .now) (a .latest .now) (a .out .now) (c .before .page-refusal .result) (c .before .page-refusal .ensures) (c .if1 .taken) refl
 
 order-of-requires : tie.Need-order-of-requires
-order-of-requires c κs = let a = c .before .before .before .args in started (a .t1) (a .earliest .now) (a .latest .now) (passed c)
+order-of-requires c κs = let a = c .before .before .before .args in started (a .t1) (a .earliest .now) (a .latest .now) (input-of (held c .schedule))
 
 put-lines-requires : tie.Need-put-lines-requires
 put-lines-requires c κs =
     let a = c .before .before .before .before .before .before .before .before .args in
-    let h = accepted-page (a .t1) (a .earliest .now) (a .latest .now) (length (a .out .now)) .0 (number (c .before .before .before .before .before)) in
-    (listed (a .t1) (a .earliest .now) (a .latest .now) (passed (c .before .before .before .before .before)) _ (c .before .before .before .before .order-of .ensures), omega (arith, h .room, h .counts .earliest))
+    let h = held (c .before .before .before .before .before) in
+    (listed (a .t1) (a .earliest .now) (a .latest .now) (input-of (h .schedule)) _ (c .before .before .before .before .order-of .ensures), omega (arith, h .room, h .schedule .counts .earliest))
 
 same-length : tie.Need-same-length
 same-length c = search needs

@@ -1,82 +1,36 @@
 use mathlib.Core.Path.{_≡_, sym, _∙_}
-use mathlib.Core.Bool.{true}
 use native.Mathlib.Omega.{arith}
-use lib.ListN.{length}
-use borrow.Author.Tests.{not-true, not-false}
 use borrow.Author.Needs.{needs}
-use Rattle.integers.specs.Tests.{allBelow, AllPassed}
-use Rattle.records.specs.Refusals.{inputTests}
-use Rattle.records.proofs.Refused.{input-passed}
-use Rattle.pages.specs.Pages.{oneStartAt, allApart}
-use Rattle.pages.proofs.Turns.{turns-are}
-use Rattle.pages.proofs.Refusing.{input-first, more-starts, overlapping, no-room, room-enough}
-use Rattle.pages.proofs.Paging.{counted, few, started, lasting, listed}
+use Rattle.fixed.specs.FixedSchedules.{fixedNumber}
+use Rattle.fixed.proofs.Refusing.{accepted-fixed}
+use Rattle.pages.proofs.Refusing.{schedule-first, no-room, room-enough}
 use Rattle.pages.proofs.page.page_refusal.Statement.{statement}
 use Rattle.pages.proofs.page.page_refusal.Tie as tie
 
--- the record and its ranges have passed
-passed : (c : tie.Else1) → let a = c .before .before .args in AllPassed (inputTests (a .t1) (a .earliest .now) (a .latest .now))
-passed c = let a = c .before .before .args in input-passed (a .t1) (a .earliest .now) (a .latest .now) (sym (c .before .input-refusal .ensures) ∙ c .if1 .left)
+-- the schedule has passed
+number : (c : tie.Else1) → let a = c .before .before .args in fixedNumber (a .«record») (a .earliest .now) (a .latest .now) ≡ 0
+number c = sym (c .before .fixed-refusal .ensures) ∙ c .if1 .left
 
--- each range holds one start
-one : (c : tie.Else2) → let a = c .before .before .before .before .args in allBelow (oneStartAt (a .earliest .now) (a .latest .now)) (length (a .earliest .now)) ≡ true
-one c = sym (c .before .one-start .ensures) ∙ not-false _ (c .if2 .left)
-
--- the test of neighbours is that of all pairs
-pairs : (c : tie.After-in-turn) → let a = c .before .before .before .before .before .before .before .before .before .args in c .in-turn .result ≡ allApart (a .t1 .durations) (a .earliest .now) (length (a .earliest .now))
-pairs c = let a = c .before .before .before .before .before .before .before .before .before .args in c .in-turn .ensures ∙ turns-are (a .t1 .durations) (a .earliest .now) _ (c .before .before .before .before .order-of .ensures) (lasting (a .t1) (a .earliest .now) (a .latest .now) (passed (c .before .before .before .before .before .before .before)))
-
--- no two tasks overlap
-apart : (c : tie.Else3) → let a = c .before .before .before .before .before .before .before .before .before .before .args in allApart (a .t1 .durations) (a .earliest .now) (length (a .earliest .now)) ≡ true
-apart c = sym (pairs (c .before)) ∙ not-false _ (c .if3 .left)
-
-input-refusal-requires : tie.Need-input-refusal-requires
-input-refusal-requires c κs = search needs
+fixed-refusal-requires : tie.Need-fixed-refusal-requires
+fixed-refusal-requires c κs = search needs
 
 returns : tie.Need-returns
 returns c =
     let a = c .before .before .args in
-    c .before .input-refusal .ensures ∙ sym (input-first (a .t1) (a .earliest .now) (a .latest .now) (a .room) (λ z. c .if1 .taken (c .before .input-refusal .ensures ∙ z)))
+    c .before .fixed-refusal .ensures ∙ sym (schedule-first (a .«record») (a .earliest .now) (a .latest .now) (a .room) (λ z. c .if1 .taken (c .before .fixed-refusal .ensures ∙ z)))
 
-one-start-requires : tie.Need-one-start-requires
-one-start-requires c κs = let a = c .before .before .args in let n = counted (a .t1) (a .earliest .now) (a .latest .now) (passed c) in n .earliest ∙ sym (n .latest)
+add-if2 : tie.Need-add-if2
+add-if2 c = let a = c .before .before .before .args in record { fits = omega (arith, accepted-fixed (a .«record») (a .earliest .now) (a .latest .now) .0 (number (c .before)) .lawful .few) }
+
+mul-if2 : tie.Need-mul-if2
+mul-if2 c = let a = c .before .before .before .args in record { fits = omega (arith, accepted-fixed (a .«record») (a .earliest .now) (a .latest .now) .0 (number (c .before)) .lawful .few) }
 
 returns-2 : tie.Need-returns-2
-returns-2 c = let a = c .before .before .before .before .args in sym (more-starts (a .t1) (a .earliest .now) (a .latest .now) (a .room) (passed (c .before .before)) (sym (c .before .one-start .ensures) ∙ not-true _ (c .if2 .taken)))
-
-order-of-requires : tie.Need-order-of-requires
-order-of-requires c κs = let a = c .before .before .before .before .args in started (a .t1) (a .earliest .now) (a .latest .now) (passed (c .before .before))
-
-in-turn-requires : tie.Need-in-turn-requires
-in-turn-requires c κs = let a = c .before .before .before .before .before .before .before .before .args in listed (a .t1) (a .earliest .now) (a .latest .now) (passed (c .before .before .before .before .before .before)) _ (c .before .before .before .order-of .ensures)
+returns-2 c = let a = c .before .before .before .before .args in sym (no-room (a .«record») (a .earliest .now) (a .latest .now) (a .room) (number (c .before .before)) (c .if2 .taken))
 
 returns-3 : tie.Need-returns-3
-returns-3 c = let a = c .before .before .before .before .before .before .before .before .before .before .args in sym (overlapping (a .t1) (a .earliest .now) (a .latest .now) (a .room) (passed (c .before .before .before .before .before .before .before .before)) (sym (pairs (c .before)) ∙ not-true _ (c .if3 .taken)))
-
-add-if4 : tie.Need-add-if4
-add-if4 c = let a = c .before .before .before .before .before .before .before .before .before .before .args in record { fits = omega (arith, few (a .t1) (a .earliest .now) (a .latest .now) (passed (c .before .before .before .before .before .before .before .before))) }
-
-mul-if4 : tie.Need-mul-if4
-mul-if4 c = let a = c .before .before .before .before .before .before .before .before .before .before .args in record { fits = omega (arith, few (a .t1) (a .earliest .now) (a .latest .now) (passed (c .before .before .before .before .before .before .before .before))) }
-
-returns-4 : tie.Need-returns-4
-returns-4 c = let a = c .before .before .before .before .before .before .before .before .before .before .before .args in sym (no-room (a .t1) (a .earliest .now) (a .latest .now) (a .room) (passed (c .before .before .before .before .before .before .before .before .before)) (one (c .before .before .before .before .before .before .before)) (apart (c .before)) (c .if4 .taken))
-
-returns-5 : tie.Need-returns-5
-returns-5 c = let a = c .before .before .before .before .before .before .before .before .before .before .before .args in sym (room-enough (a .t1) (a .earliest .now) (a .latest .now) (a .room) (passed (c .before .before .before .before .before .before .before .before .before)) (one (c .before .before .before .before .before .before .before)) (apart (c .before)) (c .if4 .left))
+returns-3 c = let a = c .before .before .before .before .args in sym (room-enough (a .«record») (a .earliest .now) (a .latest .now) (a .room) (number (c .before .before)) (c .if2 .left))
 
 pub page-refusal-spec : {M : Type 1} → statement M
 page-refusal-spec =
-    tie.close
-    (tie.spec
-    input-refusal-requires
-    returns
-    one-start-requires
-    returns-2
-    order-of-requires
-    in-turn-requires
-    returns-3
-    add-if4
-    mul-if4
-    returns-4
-    returns-5)
+    tie.close (tie.spec fixed-refusal-requires returns add-if2 mul-if2 returns-2 returns-3)

@@ -1,4 +1,4 @@
--- What the functions take for given that a page is made of, and what the test of neighbours is.
+-- What the functions on a fixed schedule take for given, and what the test of neighbours is.
 use mathlib.Core.Bool.{Bool}
 use mathlib.Core.List.{List}
 use Prim.Native.Nat.{ℕ, _+_, _≤_, _<_}
@@ -7,7 +7,7 @@ use lib.Signed.{leZ}
 use lib.ListN.{length, getD}
 use Rattle.integers.specs.Limits.{TASKS, DURATIONS}
 use Rattle.records.specs.Refusals.{StartFits}
-use Rattle.pages.specs.Pages.{startAt, endAt}
+use Rattle.fixed.specs.FixedSchedules.{startAt, endAt}
 
 -- Few tasks, with starts within the limits.
 pub record Started (es : List ℤ) : Type 0 where

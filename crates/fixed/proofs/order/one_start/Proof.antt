@@ -11,9 +11,9 @@ use mir.Syntax.{w32}
 use Rattle.integers.specs.Tests.{allBelow}
 use Rattle.integers.proofs.Tests.{all-none, all-more, all-broken}
 use Rattle.integers.proofs.Ints.{back-of}
-use Rattle.pages.specs.Pages.{sameStart, oneStartAt}
-use Rattle.pages.proofs.order.one_start.Statement.{statement}
-use Rattle.pages.proofs.order.one_start.Tie as tie
+use Rattle.fixed.specs.FixedSchedules.{sameStart, oneStartAt}
+use Rattle.fixed.proofs.order.one_start.Statement.{statement}
+use Rattle.fixed.proofs.order.one_start.Tie as tie
 
 abbrev Inv-loop : tie.InvT-loop
 Inv-loop earliest latest i₀ i = (i ≤ length earliest) × (allBelow (oneStartAt earliest latest) i ≡ true)

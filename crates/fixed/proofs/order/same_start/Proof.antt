@@ -7,8 +7,8 @@ use borrow.Author.Needs.{needs}
 use mir.Syntax.{w32}
 use mir.Val.{toZ, ofZ}
 use Rattle.integers.proofs.Ints.{back}
-use Rattle.pages.proofs.order.same_start.Statement.{statement}
-use Rattle.pages.proofs.order.same_start.Tie as tie
+use Rattle.fixed.proofs.order.same_start.Statement.{statement}
+use Rattle.fixed.proofs.order.same_start.Tie as tie
 
 -- what the first call says
 first : (c : tie.After-at-most) → c .at-most .result ≡ leZ (c .before .args .a) (c .before .args .b)

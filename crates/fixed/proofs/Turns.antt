@@ -18,9 +18,9 @@ use Rattle.integers.specs.Tests.{allBelow}
 use Rattle.integers.proofs.Bools.{bool, clash, or-true, or-right}
 use Rattle.integers.proofs.Ints.{ints, up, dn, sumℤ, leZ-true, le-leZ}
 use Rattle.integers.proofs.Tests.{all-at, all-show, all-ext}
-use Rattle.pages.specs.Pages.{startAt, endAt, apartAt, allApart, orderOf}
-use Rattle.pages.specs.Holding.{inTurnAt}
-use Rattle.pages.proofs.Placing.{ordered}
+use Rattle.fixed.specs.FixedSchedules.{startAt, endAt, apartAt, allApart, orderOf}
+use Rattle.fixed.specs.Holding.{inTurnAt}
+use Rattle.fixed.proofs.Placing.{ordered}
 
 or-left : (a b : Bool) → a ≡ true → a || b ≡ true
 or-left a b p = rw p

@@ -2,9 +2,9 @@ use mathlib.Core.Path.{ap, _∙_}
 use lib.ListN.{length, take}
 use borrow.Author.Needs.{needs}
 use Rattle.records.specs.Orders.{byKey, sortedOrder}
-use Rattle.pages.proofs.Placing.{order-is, own-numbered}
-use Rattle.pages.proofs.order.order_of.Statement.{statement}
-use Rattle.pages.proofs.order.order_of.Tie as tie
+use Rattle.fixed.proofs.Placing.{order-is, own-numbered}
+use Rattle.fixed.proofs.order.order_of.Statement.{statement}
+use Rattle.fixed.proofs.order.order_of.Tie as tie
 
 moments-of-requires : tie.Need-moments-of-requires
 moments-of-requires c κs = search needs

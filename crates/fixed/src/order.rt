@@ -1,4 +1,4 @@
-// The tasks of a page by start, and the test that no two of them overlap.
+// The tasks of a schedule by start, and the test that no two of them overlap.
 use integers::moment_of;
 use records::orders::identity;
 use records::orders::moments_of;
@@ -7,8 +7,8 @@ ghost use mathlib.Core.Path.{_≡_};
 ghost use Prim.Native.Nat.{_-_};
 ghost use lib.ListN.{length, take};
 ghost use Rattle.integers.specs.Tests.{allBelow};
-ghost use Rattle.pages.specs.Pages.{sameStart, oneStartAt, orderOf};
-ghost use Rattle.pages.specs.Holding.{Started, Listed, inTurnAt};
+ghost use Rattle.fixed.specs.FixedSchedules.{sameStart, oneStartAt, orderOf};
+ghost use Rattle.fixed.specs.Holding.{Started, Listed, inTurnAt};
 
 // Whether two starts are equal.
 fn same_start(a: i32, b: i32) -> bool

@@ -11,11 +11,11 @@ use Rattle.integers.specs.Moments.{moment, zeroAt}
 use Rattle.integers.specs.Tests.{allBelow}
 use Rattle.integers.proofs.Ints.{back-of}
 use Rattle.integers.proofs.Tests.{all-none, all-more, all-broken}
-use Rattle.pages.specs.Pages.{startAt}
-use Rattle.pages.specs.Holding.{inTurnAt}
-use Rattle.pages.proofs.Placing.{start-moment, turn-test}
-use Rattle.pages.proofs.order.in_turn.Statement.{statement}
-use Rattle.pages.proofs.order.in_turn.Tie as tie
+use Rattle.fixed.specs.FixedSchedules.{startAt}
+use Rattle.fixed.specs.Holding.{inTurnAt}
+use Rattle.fixed.proofs.Placing.{start-moment, turn-test}
+use Rattle.fixed.proofs.order.in_turn.Statement.{statement}
+use Rattle.fixed.proofs.order.in_turn.Tie as tie
 
 abbrev Inv-loop : tie.InvT-loop
 Inv-loop order earliest durations i₀ i = (i ≤ length earliest - 1) × (allBelow (inTurnAt order earliest durations) i ≡ true)

@@ -1,4 +1,4 @@
--- The order of a page: a sort by moments is the sort by starts, and it is a permutation of the tasks.
+-- The order of a fixed schedule: a sort by moments is the sort by starts, and it is a permutation of the tasks.
 -- Assumes nothing.
 use mathlib.Core.Path.{_≡_, sym, ap, _∙_}
 use mathlib.Core.Bool.{true, false}
@@ -25,8 +25,8 @@ use Rattle.records.specs.Refusals.{StartFits}
 use Rattle.records.specs.Orders.{byKey, noTasks, momentAt, sortedOrder, Numbered}
 use Rattle.records.proofs.Creation.{own-front, own-order}
 use Rattle.records.proofs.Sorted.{sorted-front, numbered}
-use Rattle.pages.specs.Pages.{startAt, byStart, orderOf}
-use Rattle.pages.specs.Holding.{Started}
+use Rattle.fixed.specs.FixedSchedules.{startAt, byStart, orderOf}
+use Rattle.fixed.specs.Holding.{Started}
 
 -- ---- the order of moments is that of starts
 pub moment-test : (a b : ℤ) → Above zeroAt a → Above zeroAt b → leb (moment zeroAt a) (moment zeroAt b) ≡ leZ a b

@@ -1,0 +1,3 @@
+pub mod FixedSchedules
+pub mod Holding
+pub mod Examples
