@@ -50,8 +50,8 @@ pub fn input_refusal<'a>(
     durations: &'a [u32; 48],
     first: &'a [usize; 48],
     second: &'a [usize; 48],
-    earliest: &'a [i32],
-    latest: &'a [i32],
+    earliest: &[i32],
+    latest: &[i32],
 ) -> u32
     requires { ⌜ WholeOrders (now first) (now second) ⌝ }
     ensures { λ r. ⌜ r ≡ inputNumber (recordOf n (now (durations .entry)) (now (first .entry)) (now (second .entry))) (now (earliest .entry)) (now (latest .entry)) ⌝ }
@@ -83,8 +83,8 @@ pub fn run_refusal<'a>(
     durations: &'a [u32; 48],
     first: &'a [usize; 48],
     second: &'a [usize; 48],
-    earliest: &'a [i32],
-    latest: &'a [i32],
+    earliest: &[i32],
+    latest: &[i32],
     post_words: usize,
     atom_words: usize,
 ) -> u32

@@ -19,16 +19,16 @@ whole : (c : tie.Start) → WholeOrders (c .args .t1 .first) (c .args .t1 .secon
 whole c = record { one = search needs; other = search needs }
 
 -- no test failed
-passed : (c : tie.Else1) → let a = c .before .before .before .before .before .before .before .args in AcceptedInput (a .t1) (a .earliest .now) (a .latest .now)
-passed c = let a = c .before .before .before .before .before .before .before .args in accepted-input (a .t1) (a .earliest .now) (a .latest .now) .0 (sym (c .before .input-refusal .ensures) ∙ c .if1 .left)
+passed : (c : tie.Else1) → let a = c .before .before .before .before .before .before .args in AcceptedInput (a .t1) (a .earliest .now) (a .latest .now)
+passed c = let a = c .before .before .before .before .before .before .args in accepted-input (a .t1) (a .earliest .now) (a .latest .now) .0 (sym (c .before .input-refusal .ensures) ∙ c .if1 .left)
 
 input-refusal-requires : tie.Need-input-refusal-requires
-input-refusal-requires c κs = whole (c .before .before .before .before .before)
+input-refusal-requires c κs = whole (c .before .before .before .before)
 
 returns : tie.Need-returns
 returns c =
     let n = c .before in
-    let a = n .before .before .before .before .before .before .args in
+    let a = n .before .before .before .before .before .args in
     turned-back (a .t1) (a .earliest .now) (a .latest .now) _ (λ z. c .if1 .taken (n .input-refusal .ensures ∙ z)) (ap Refused (n .input-refusal .ensures))
 
 accepted-requires : tie.Need-accepted-requires
@@ -36,7 +36,7 @@ accepted-requires c κs = passed c
 
 returns-2 : tie.Need-returns-2
 returns-2 c =
-    let s = c .before .before .before .before .before .before .before .before in
+    let s = c .before .before .before .before .before .before .before in
     let a = s .args in
     tested (a .t1) (a .earliest .now) (a .latest .now) _ (passed (c .before)) (long s) (c .accepted .ensures)
 
