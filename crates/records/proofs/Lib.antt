@@ -2,6 +2,7 @@ pub mod Insertion
 pub mod Keys
 pub mod Sorted
 pub mod Lawful
+pub mod Unused
 pub mod Creation
 pub mod Refused
 pub mod Accepting

@@ -1,8 +1,10 @@
 // The propagator's record: the task count, the durations and the two orders. Creation, and the test whether a record is lawful.
 use integers::limits::DURATIONS;
 use integers::limits::TASKS;
+use integers::wide;
 ghost use mathlib.Core.Path.{_≡_};
 ghost use Prim.Native.Nat.{_≤_, _<_};
+ghost use lib.Bits.{bitOr};
 ghost use lib.ListN.{length, getD, take};
 ghost use Rattle.integers.specs.Limits.{TASKS};
 ghost use Rattle.integers.specs.Filling.{filled};
@@ -39,13 +41,6 @@ fn count_fits(n: usize) -> bool
         return false;
     }
     n <= TASKS
-}
-
-// A duration in 64 bits.
-fn wide(x: u32) -> u64
-    ensures { λ r. ⌜ (r ≡ x) × (r < 4294967296) ⌝ }
-{
-    x as u64
 }
 
 // The sum of the first n durations, in 64 bits.
@@ -185,7 +180,14 @@ fn permutation(order: &[usize; 48], n: usize) -> bool
     true
 }
 
-// Whether the places from n on are 0.
+// What the places before hold, and one place more: 0 only where all hold 0.
+fn with_place(used: usize, duration: u32, first: usize, second: usize) -> usize
+    ensures { λ r. ⌜ r ≡ bitOr (bitOr (bitOr used duration) first) second ⌝ }
+{
+    used | duration as usize | first | second
+}
+
+// Whether the places from n on are 0. All are read, with no test at each, which is the faster way.
 fn unused_zero<'a>(
     durations: &'a [u32; 48],
     first: &'a [usize; 48],
@@ -195,20 +197,13 @@ fn unused_zero<'a>(
     requires { ⌜ n ≤ TASKS ⌝ }
     ensures { λ r. ⌜ r ≡ unusedZero (now (durations .entry)) (now (first .entry)) (now (second .entry)) n ⌝ }
 {
+    let mut used: usize = 0;
     let mut i = n;
     while i < TASKS {
-        if durations[i] != 0 {
-            return false;
-        }
-        if first[i] != 0 {
-            return false;
-        }
-        if second[i] != 0 {
-            return false;
-        }
+        used = with_place(used, durations[i], first[i], second[i]);
         i += 1;
     }
-    true
+    used == 0
 }
 
 // Whether a record is one that creation and runs leave: what number 20 tests. The record comes as its fields, so that it is not copied.
