@@ -17,6 +17,9 @@ use Rattle.counter.specs.declared.overload_test.Overload.{Overload}
 use Rattle.counter.specs.Tested.{OverloadTested}
 use Rattle.counter.proofs.Many.{too-many as overload-too-many}
 use Rattle.propagator.proofs.Many.{too-many}
+use Rattle.charges.specs.declared.answer.Charges.{Charges}
+use Rattle.charges.specs.Charging.{Charged}
+use Rattle.charges.proofs.Billing.{too-many as no-charges}
 use Rattle.pages.specs.declared.answer.Page.{Page}
 use Rattle.pages.specs.Pages.{Paged}
 use Rattle.pages.proofs.Paging.{too-many as no-page}
@@ -147,38 +150,32 @@ lent before ys posts atoms r posts′ atoms′ c = ⊎-elim few many (fits-or-no
         let m : length (latests ys) ≡ n = length-map ys (λ (y : Range). y .latest) in
         rw z (record { ran = too-many before (earliests ys) (latests ys) posts atoms _ [] posts′ atoms′ (omega arith) (m ∙ sym l) (rw (taken-none n h) at (c .ran)); same-latest = refl })
 
--- what is tested of the ranges taken apart is tested of the ranges
-pub lent-test : (before : Propagator) (ys : List Range) (s : Starts) (r : Overload) → s ≡ startsOf ys → OverloadTested before (take (s .count) (s .earliest)) (take (s .count) (s .latest)) r → OverloadTested before (earliests ys) (latests ys) r
+-- ---- calls that leave the ranges as they are
+-- what a core says of the ranges taken apart holds of the ranges; where there are too many, the core was passed none
+apart : (Said : List ℤ → List ℤ → Type 0) (ys : List Range) → (TASKS < length (earliests ys) → Said [] [] → Said (earliests ys) (latests ys))
+    → Said (take (startsOf ys .count) (startsOf ys .earliest)) (take (startsOf ys .count) (startsOf ys .latest)) → Said (earliests ys) (latests ys)
 unfolding startsOf
-lent-test before ys s r e t = ⊎-elim few many (fits-or-not n)
+apart Said ys as-none c = ⊎-elim few many (fits-or-not n)
   where
     n : ℕ
     n = length ys
 
-    apart : OverloadTested before (take (taken n) (padded (taken n) (earliests ys))) (take (taken n) (padded (taken n) (latests ys))) r
-    apart = rw e at t
-
-    few : n ≤ TASKS → OverloadTested before (earliests ys) (latests ys) r
-    few h = rw (padded-all n (earliests ys) (length-map ys (λ (y : Range). y .earliest)) h, padded-all n (latests ys) (length-map ys (λ (y : Range). y .latest)) h) at apart
-
-    many : TASKS < n → OverloadTested before (earliests ys) (latests ys) r
-    many h = overload-too-many before (earliests ys) (latests ys) r (omega (arith, length-map ys (λ (y : Range). y .earliest))) (rw (taken-none n h) at apart)
-
--- ---- the page
--- what the core leaves of the ranges taken apart is what the open call leaves; where there are too many, the core was passed none
-pub paged : (before : Propagator) (ys : List Range) (out : List ℕ) (p : Page) (out′ : List ℕ) → Paged before (take (startsOf ys .count) (startsOf ys .earliest)) (take (startsOf ys .count) (startsOf ys .latest)) out p out′
-    → Paged before (earliests ys) (latests ys) out p out′
-unfolding startsOf
-paged before ys out p out′ c = ⊎-elim few many (fits-or-not n)
-  where
-    n : ℕ
-    n = length ys
-
-    few : n ≤ TASKS → Paged before (earliests ys) (latests ys) out p out′
+    few : n ≤ TASKS → Said (earliests ys) (latests ys)
     few h = rw (padded-all n (earliests ys) (length-map ys (λ (y : Range). y .earliest)) h, padded-all n (latests ys) (length-map ys (λ (y : Range). y .latest)) h) at c
 
-    many : TASKS < n → Paged before (earliests ys) (latests ys) out p out′
-    many h = let l : length (earliests ys) ≡ n = length-map ys (λ (y : Range). y .earliest) in no-page before (earliests ys) (latests ys) out p out′ (omega arith) (rw (taken-none n h) at c)
+    many : TASKS < n → Said (earliests ys) (latests ys)
+    many h = as-none (omega (arith, length-map ys (λ (y : Range). y .earliest))) (rw (taken-none n h) at c)
+
+-- the overload test, the page, the charges
+pub lent-test : (before : Propagator) (ys : List Range) (s : Starts) (r : Overload) → s ≡ startsOf ys → OverloadTested before (take (s .count) (s .earliest)) (take (s .count) (s .latest)) r → OverloadTested before (earliests ys) (latests ys) r
+lent-test before ys s r e t = apart (λ es ls. OverloadTested before es ls r) ys (overload-too-many before (earliests ys) (latests ys) r) (rw e at t)
+
+pub paged : (before : Propagator) (ys : List Range) (out : List ℕ) (p : Page) (out′ : List ℕ) → Paged before (take (startsOf ys .count) (startsOf ys .earliest)) (take (startsOf ys .count) (startsOf ys .latest)) out p out′
+    → Paged before (earliests ys) (latests ys) out p out′
+paged before ys out p out′ c = apart (λ es ls. Paged before es ls out p out′) ys (no-page before (earliests ys) (latests ys) out p out′) c
+
+pub charged : (before : Propagator) (ys : List Range) (due : List ℤ) (s : Starts) (r : Charges) → s ≡ startsOf ys → Charged before (take (s .count) (s .earliest)) (take (s .count) (s .latest)) due r → Charged before (earliests ys) (latests ys) due r
+charged before ys due s r e t = apart (λ es ls. Charged before es ls due r) ys (no-charges before (earliests ys) (latests ys) due r) (rw e at t)
 
 -- starts that have the count of the ranges taken apart fit an array, and the ranges
 pub starts-fit : (ys : List Range) (s r : Starts) → s ≡ startsOf ys → r .count ≡ s .count → (r .count ≤ TASKS) × (r .count ≤ length ys)

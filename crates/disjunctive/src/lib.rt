@@ -1,11 +1,14 @@
-// The open calls, all in one place: creation, the run, the mirrored pass, the overload test, the post reader, the check, the page, and the calls of the variable state. None has a `requires`.
+// The open calls, all in one place: creation, the run, the mirrored pass, the overload test, the post reader, the check, the page, the charges, and the calls of the variable state. None has a `requires`.
 pub mod ranges;
 
 pub use crate::ranges::Range;
+pub use crate::ranges::charges;
 pub use crate::ranges::overload_test;
 pub use crate::ranges::page;
 pub use crate::ranges::run;
 pub use crate::ranges::run_mirrored;
+pub use charges::answer::Billing;
+pub use charges::answer::Charges;
 pub use checker::checker::Verdict;
 pub use checker::checker::check;
 pub use checking::variable_state::VariableState;

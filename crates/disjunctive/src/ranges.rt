@@ -1,6 +1,7 @@
-// The open calls on lent data: a record, and a slice of ranges, one for each task. A run changes both, the mirrored pass the ranges, the overload test and the
-// page neither.
+// The open calls on lent data: a record, and a slice of ranges, one for each task. A run changes both, the mirrored pass the ranges, the overload test, the
+// page and the charges neither.
 // The core takes the record by value and the starts as slices of numbers; here the ranges are taken apart for it, and what it leaves is stored back.
+use charges::answer::Charges;
 use counter::overload_test::Overload;
 use integers::limits::TASKS;
 use mirrored::mirrored_propagator::propagate_mirrored;
@@ -13,6 +14,7 @@ ghost use Prim.Native.Nat.{_≤_};
 ghost use lib.ListN.{length, take};
 ghost use Rattle.integers.specs.Limits.{TASKS};
 ghost use Rattle.counter.specs.Tested.{OverloadTested};
+ghost use Rattle.charges.specs.Charging.{Charged};
 ghost use Rattle.pages.specs.Pages.{Paged};
 ghost use Rattle.disjunctive.specs.Ranges.{earliests, latests, RanLent, RanMirroredLent, RanCore, RanMirroredCore, taken, startsOf, withStarts, withLatest};
 
@@ -215,4 +217,23 @@ pub fn page(propagator: Propagator, ranges: &[Range], out: &mut [u8]) -> Page
 {
     let starts = starts_of(ranges);
     page_core(propagator, starts, out)
+}
+
+// The charges of the first `count` places of the arrays.
+fn charges_core(record: Propagator, starts: Starts, due: &[i32]) -> Charges
+    requires { ⌜ starts .count ≤ TASKS ⌝ }
+    ensures { λ r. ⌜ Charged «record» (take (starts .count) (starts .earliest)) (take (starts .count) (starts .latest)) (now (due .entry)) r ⌝ }
+{
+    let n = starts.count;
+    let earliest = starts.earliest;
+    let latest = starts.latest;
+    charges::charging::charges(record, &earliest[..n], &latest[..n], due)
+}
+
+// The charges of a fixed schedule, on lent ranges. The record is looked at alone, so it is taken by value.
+pub fn charges(propagator: Propagator, ranges: &[Range], due: &[i32]) -> Charges
+    ensures { λ r. ⌜ Charged propagator (earliests (now (ranges .entry))) (latests (now (ranges .entry))) (now (due .entry)) r ⌝ }
+{
+    let starts = starts_of(ranges);
+    charges_core(propagator, starts, due)
 }

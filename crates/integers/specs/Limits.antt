@@ -15,6 +15,10 @@ START = 200000000
 abbrev pub DURATIONS : ℕ
 DURATIONS = 200000000
 
+-- due moments lie from −DUE to DUE
+abbrev pub DUE : ℕ
+DUE = 400000000
+
 -- an atom's value lies from −VALUE to VALUE
 abbrev pub VALUE : ℕ
 VALUE = 900000000

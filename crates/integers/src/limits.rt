@@ -8,6 +8,8 @@ pub const VARIABLES: usize = 64;
 pub const START: i32 = 200_000_000;
 
 pub const DURATIONS: u32 = 200_000_000;
+// Due moments lie from -DUE to DUE.
+pub const DUE: i32 = 400_000_000;
 // An atom's value lies from -VALUE to VALUE.
 pub const VALUE: i32 = 900_000_000;
 // Premises of a check, and holes of a domain.

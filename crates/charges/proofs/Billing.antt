@@ -1,0 +1,63 @@
+-- The bill of an accepted call, and what the call answers.
+-- Assumes nothing.
+use mathlib.Core.Path.{_≡_, refl, sym, ap, ap₂, _∙_}
+use mathlib.Core.List.{List, []}
+use Prim.Native.Nat.{ℕ, _<_}
+use native.Mathlib.Omega.{arith}
+use lib.IntN.{ℤ}
+use lib.ListN.{length, getD, length-replicate}
+use Rattle.integers.specs.Limits.{TASKS}
+use Rattle.integers.proofs.Filling.{filled-at, filled-past, filled-length, getD-fresh}
+use Rattle.scheduling.specs.Scheduling.{total}
+use Rattle.records.specs.declared.record.Propagator.{Propagator}
+use Rattle.records.specs.Orders.{noTasks}
+use Rattle.fixed.proofs.Accepting.{input-of, started, short}
+use Rattle.charges.specs.declared.answer.Bill.{Bill}
+use Rattle.charges.specs.declared.answer.Charges.{Charges}
+use Rattle.charges.specs.declared.answer.Billing.the-variants.{Made, Refused}
+use Rattle.charges.specs.Charging.{chargeAt, noBill, chargesNumber, Accepted, BillRight, Charged}
+use Rattle.charges.specs.Holding.{Chargeable, Summed}
+use Rattle.charges.proofs.Refusing.{accepted-charges, charges-many}
+
+abbrev turnedBack : Bill → ℕ → Charges
+turnedBack b number = record { bill = b; answer = Refused number }
+
+module _ (r : Propagator) (es ls due : List ℤ) where
+  pub chargeable : Accepted r es ls due → Chargeable (r .durations) es due
+  chargeable a = record {
+    started = started r es ls (input-of (a .schedule));
+    durations = short r es ls (input-of (a .schedule));
+    dues = a .dues .long ∙ sym (a .schedule .counts .earliest);
+  }
+
+  pub refused : (m : ℕ) (b : Bill) → m ≡ chargesNumber r es ls due → (m ≡ 0 → ⊥) → b ≡ noBill → Charged r es ls due (record { bill = b; answer = Refused m })
+  refused m b e not none = record { refused = λ _. ap₂ turnedBack none e; made = λ z. absurd (not (e ∙ z)) }
+
+  pub made : (b : Bill) → chargesNumber r es ls due ≡ 0 → Summed (r .durations) es due b → Charged r es ls due (record { bill = b; answer = Made })
+  made b z s = record { refused = λ not. absurd (not z); made = λ _. (refl, right) }
+    where
+      f : ℕ → ℕ
+      f = chargeAt (r .durations) es due
+
+      a : Accepted r es ls due
+      a = accepted-charges r es ls due .0 z
+
+      count : length es ≡ r .count
+      count = a .schedule .counts .earliest
+
+      long : length noTasks ≡ TASKS
+      long = length-replicate {A = ℕ} 48 0
+
+      right : BillRight r es due b
+      right = record {
+        long = ap length (s .charges) ∙ filled-length f (length es) noTasks ∙ long;
+        charge = λ k q. ap (λ (l : List ℕ). getD l k 0) (s .charges) ∙ filled-at f (length es) noTasks 0 k (omega (arith, count)) (omega (arith, count, long, a .schedule .lawful .few));
+        unused = λ k q. ap (λ (l : List ℕ). getD l k 0) (s .charges) ∙ filled-past f (length es) noTasks 0 k (omega (arith, count)) ∙ getD-fresh 0 48 k;
+        total = s .sum ∙ ap (total f) count;
+      }
+
+-- too many ranges are turned back as none are
+pub too-many : (r : Propagator) (es ls due : List ℤ) (c : Charges) → TASKS < length es → Charged r [] [] due c → Charged r es ls due c
+too-many r es ls due c many p =
+    let (same, not) = charges-many r es ls due many in
+    record { refused = λ _. p .refused (λ z. not (sym same ∙ z)) ∙ ap (turnedBack noBill) same; made = λ z. absurd (not z) }

@@ -1,0 +1,4 @@
+pub mod Costs
+pub mod Lateness
+pub mod Refusing
+pub mod Billing

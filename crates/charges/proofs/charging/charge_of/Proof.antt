@@ -1,0 +1,22 @@
+use mathlib.Core.Path.{sym, ap, ap₂, subst, _∙_}
+use lib.IntN.{ℤ, pos, _+ℤ_}
+use borrow.Author.Needs.{needs}
+use Rattle.integers.proofs.Ints.{back}
+use Rattle.records.specs.Refusals.{StartFits}
+use Rattle.charges.specs.Tariff.{minutesLate, costOf}
+use Rattle.charges.proofs.charging.charge_of.Statement.{statement}
+use Rattle.charges.proofs.charging.charge_of.Tie as tie
+
+minutes-late-requires : tie.Need-minutes-late-requires
+minutes-late-requires c κs = (subst StartFits (sym (back (c .fits .start))) (c .pre .0), c .pre .1)
+
+cost-of-requires : tie.Need-cost-of-requires
+cost-of-requires c κs = search needs
+
+returns : tie.Need-returns
+returns c =
+    let s = c .before .before in
+    c .cost-of .ensures ∙ ap costOf (c .before .minutes-late .ensures .0 ∙ ap₂ (λ (x y : ℤ). minutesLate (x +ℤ pos (s .args .duration)) y) (back (s .fits .start)) (back (s .fits .due)))
+
+pub charge-of-spec : {M : Type 1} → statement M
+charge-of-spec = tie.close (tie.spec minutes-late-requires cost-of-requires returns)

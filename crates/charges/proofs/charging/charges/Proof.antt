@@ -1,0 +1,37 @@
+use mathlib.Core.Path.{_≡_, sym, _∙_}
+use borrow.Author.Needs.{needs}
+use Rattle.charges.specs.Charging.{chargesNumber}
+use Rattle.charges.proofs.Refusing.{accepted-charges}
+use Rattle.charges.proofs.Billing.{chargeable, refused, made}
+use Rattle.charges.proofs.charging.charges.Statement.{statement}
+use Rattle.charges.proofs.charging.charges.Tie as tie
+
+-- no test failed
+number : (c : tie.Else1) → let a = c .before .before .args in chargesNumber (a .t1) (a .earliest .now) (a .latest .now) (a .due .now) ≡ 0
+number c = sym (c .before .charges-refusal .ensures) ∙ c .if1 .left
+
+charges-refusal-requires : tie.Need-charges-refusal-requires
+charges-refusal-requires c κs = search needs
+
+no-bill-requires : tie.Need-no-bill-requires
+no-bill-requires c κs = search needs
+
+returns : tie.Need-returns
+returns c =
+    let a = c .before .before .before .args in
+    refused (a .t1) (a .earliest .now) (a .latest .now) (a .due .now) (c .before .before .charges-refusal .result) (c .no-bill .result) (c .before .before .charges-refusal .ensures) (c .before .if1 .taken) (c .no-bill .ensures)
+
+bill-of-requires : tie.Need-bill-of-requires
+bill-of-requires c κs =
+    let a = c .before .before .before .before .args in
+    chargeable (a .t1) (a .earliest .now) (a .latest .now) (a .due .now) (accepted-charges (a .t1) (a .earliest .now) (a .latest .now) (a .due .now) .0 (number (c .before .before)))
+
+returns-2 : tie.Need-returns-2
+returns-2 c =
+    let a = c .before .before .before .before .before .args in
+    made (a .t1) (a .earliest .now) (a .latest .now) (a .due .now) (c .bill-of .result) (number (c .before .before .before)) (c .bill-of .ensures)
+
+pub charges-spec : {M : Type 1} → statement M
+charges-spec =
+    tie.close
+    (tie.spec charges-refusal-requires no-bill-requires returns bill-of-requires returns-2)

@@ -1,0 +1,72 @@
+-- Loan charges of a fixed schedule: what turns the call back, each task's charge, and what the call answers.
+use mathlib.Core.Path.{_≡_}
+use mathlib.Core.Bool.{Bool, _&&_}
+use mathlib.Core.List.{List, [], _∷_, _++_}
+use Prim.Native.Nat.{ℕ, _≤_, _<_}
+use lib.Dec.{eqb}
+use lib.IntN.{ℤ, pos, negℤ}
+use lib.Signed.{leZ, _≤ℤ_}
+use lib.ListN.{length, getD}
+use Rattle.integers.specs.Limits.{TASKS, DUE}
+use Rattle.integers.specs.Tests.{Test, test, allBelow, refusal}
+use Rattle.scheduling.specs.Scheduling.{total}
+use Rattle.records.specs.declared.record.Propagator.{Propagator}
+use Rattle.records.specs.Orders.{noTasks}
+use Rattle.fixed.specs.FixedSchedules.{endAt, fixedTests, AcceptedFixed}
+use Rattle.charges.specs.Tariff.{costOf, minutesLate}
+use Rattle.charges.specs.declared.answer.Bill.{Bill}
+use Rattle.charges.specs.declared.answer.Charges.{Charges}
+use Rattle.charges.specs.declared.answer.Billing.the-variants.{Made, Refused}
+
+-- The tests ---------------------------------------------------------------------------------------------------------------------
+
+-- a due moment is from −DUE to DUE
+abbrev pub dueFits : ℤ → Bool
+dueFits z = leZ (negℤ (pos DUE)) z && leZ z (pos DUE)
+
+-- task k's due moment is
+abbrev pub dueFitsAt : List ℤ → ℕ → Bool
+dueFitsAt due k = dueFits (getD due k (pos 0))
+
+-- those of a fixed schedule; then 19: a due list not of length n, or a due moment out of range
+abbrev pub chargesTests : Propagator → List ℤ → List ℤ → List ℤ → List Test
+chargesTests r es ls due = fixedTests r es ls ++ (test 19 (eqb (length due) (r .count) && allBelow (dueFitsAt due) (length due)) ∷ [])
+
+abbrev pub chargesNumber : Propagator → List ℤ → List ℤ → List ℤ → ℕ
+chargesNumber r es ls due = refusal (chargesTests r es ls due)
+
+-- The test of 19 as facts,
+pub record DueFits (z : ℤ) : Type 0 where
+  pub low : negℤ (pos DUE) ≤ℤ z
+  pub high : z ≤ℤ pos DUE
+
+pub record DuesFit (n : ℕ) (due : List ℤ) : Type 0 where
+  pub long : length due ≡ n
+  pub within : (k : ℕ) → k < length due → DueFits (getD due k (pos 0))
+
+-- and what holds of a call that no test turns back.
+pub record Accepted (r : Propagator) (es ls due : List ℤ) : Type 0 where
+  pub schedule : AcceptedFixed r es ls
+  pub dues : DuesFit (r .count) due
+
+-- The charges -------------------------------------------------------------------------------------------------------------------
+
+-- task k's charge: what the tariff has for the minutes from its due moment to its end
+abbrev pub chargeAt : List ℕ → List ℤ → List ℤ → ℕ → ℕ
+chargeAt ds es due k = costOf (minutesLate (endAt ds es k) (getD due k (pos 0)))
+
+-- A bill has each task's charge at its number, 0 in the other places, and the sum of the tasks' charges.
+pub record BillRight (r : Propagator) (es due : List ℤ) (b : Bill) : Type 0 where
+  pub long : length (b .charges) ≡ TASKS
+  pub charge : (k : ℕ) → k < r .count → getD (b .charges) k 0 ≡ chargeAt (r .durations) es due k
+  pub unused : (k : ℕ) → r .count ≤ k → getD (b .charges) k 0 ≡ 0
+  pub total : b .total ≡ total (chargeAt (r .durations) es due) (r .count)
+
+-- the bill of zeros
+abbrev pub noBill : Bill
+noBill = record { charges = noTasks; total = 0 }
+
+-- The call: the first test that fails turns it back, with the bill of zeros; else it answers the bill.
+pub record Charged (r : Propagator) (es ls due : List ℤ) (c : Charges) : Type 0 where
+  pub refused : (chargesNumber r es ls due ≡ 0 → ⊥) → c ≡ record { bill = noBill; answer = Refused (chargesNumber r es ls due) }
+  pub made : chargesNumber r es ls due ≡ 0 → (c .answer ≡ Made) × BillRight r es due (c .bill)

@@ -1,0 +1,4 @@
+pub mod Tariff
+pub mod Charging
+pub mod Holding
+pub mod Examples

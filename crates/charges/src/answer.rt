@@ -1,0 +1,16 @@
+// The charges by task number, in cents, 0 in the places that no task has, and their sum.
+pub struct Bill {
+    pub charges: [u32; 48],
+    pub total: u32,
+}
+
+// Whether a bill was made, or the number that turned the call back.
+pub enum Billing {
+    Made,
+    Refused(u32),
+}
+
+pub struct Charges {
+    pub bill: Bill,
+    pub answer: Billing,
+}

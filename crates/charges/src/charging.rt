@@ -1,0 +1,84 @@
+// The charges: refused by number, or made by the tariff.
+use crate::answer::Bill;
+use crate::answer::Billing;
+use crate::answer::Charges;
+use crate::rates::cost_of;
+use crate::refusals::charges_refusal;
+use integers::moment_of;
+use records::record::Propagator;
+ghost use mathlib.Core.Path.{_≡_};
+ghost use Prim.Native.Nat.{_≤_};
+ghost use lib.IntN.{pos, _+ℤ_};
+ghost use Rattle.integers.specs.Limits.{DURATIONS};
+ghost use Rattle.records.specs.Refusals.{StartFits};
+ghost use Rattle.charges.specs.Tariff.{minutesLate, costOf};
+ghost use Rattle.charges.specs.Charging.{noBill, Charged};
+ghost use Rattle.charges.specs.Holding.{Chargeable, Summed};
+
+// How many minutes after its due moment a task ends.
+fn minutes_late(start: i32, duration: u32, due: i32) -> u32
+    requires { ⌜ StartFits start × (duration ≤ DURATIONS) ⌝ }
+    ensures { λ r. ⌜ (r ≡ minutesLate (start +ℤ pos duration) due) × (r ≤ 4000000000) ⌝ }
+{
+    let end = moment_of(start) + duration;
+    let moment = moment_of(due);
+    if end <= moment {
+        return 0;
+    }
+    end - moment
+}
+
+// What a task costs.
+fn charge_of(start: i32, duration: u32, due: i32) -> u32
+    requires { ⌜ StartFits start × (duration ≤ DURATIONS) ⌝ }
+    ensures { λ r. ⌜ r ≡ costOf (minutesLate (start +ℤ pos duration) due) ⌝ }
+{
+    cost_of(minutes_late(start, duration, due))
+}
+
+// The bill of a schedule.
+fn bill_of(earliest: &[i32], durations: &[u32; 48], due: &[i32]) -> Bill
+    requires { ⌜ Chargeable (now durations) (now earliest) (now due) ⌝ }
+    ensures { λ r. ⌜ Summed (now (durations .entry)) (now (earliest .entry)) (now (due .entry)) r ⌝ }
+{
+    let mut out = [0u32; 48];
+    let mut sum = 0;
+    let mut i = 0;
+    while i < earliest.len() {
+        let cost = charge_of(earliest[i], durations[i], due[i]);
+        out[i] = cost;
+        sum += cost;
+        i += 1;
+    }
+    Bill {
+        charges: out,
+        total: sum,
+    }
+}
+
+// The bill of zeros.
+fn no_bill() -> Bill
+    ensures { λ r. ⌜ r ≡ noBill ⌝ }
+{
+    Bill {
+        charges: [0u32; 48],
+        total: 0,
+    }
+}
+
+// The charges of a fixed schedule; or the bill of zeros, with the number that turned the call back.
+pub fn charges(record: Propagator, earliest: &[i32], latest: &[i32], due: &[i32]) -> Charges
+    ensures { λ r. ⌜ Charged «record» (now (earliest .entry)) (now (latest .entry)) (now (due .entry)) r ⌝ }
+{
+    let number = charges_refusal(record, earliest, latest, due);
+    if number != 0 {
+        return Charges {
+            bill: no_bill(),
+            answer: Billing::Refused(number),
+        };
+    }
+    Charges {
+        bill: bill_of(earliest, &record.durations, due),
+        answer: Billing::Made,
+    }
+}

@@ -1,0 +1,48 @@
+// What turns a call for charges back.
+use fixed::refusals::fixed_refusal;
+use records::record::Propagator;
+ghost use mathlib.Core.Path.{_≡_};
+ghost use lib.ListN.{length};
+ghost use Rattle.integers.specs.Tests.{allBelow};
+ghost use Rattle.charges.specs.Charging.{dueFits, dueFitsAt, chargesNumber};
+
+// Whether a due moment is within the limits.
+fn due_fits(x: i32) -> bool
+    ensures { λ r. ⌜ r ≡ dueFits x ⌝ }
+{
+    if !integers::at_most(-integers::limits::DUE, x) {
+        return false;
+    }
+    integers::at_most(x, integers::limits::DUE)
+}
+
+// Whether every due moment is.
+fn dues_fit(due: &[i32]) -> bool
+    ensures { λ r. ⌜ r ≡ allBelow (dueFitsAt (now (due .entry))) (length (now (due .entry))) ⌝ }
+{
+    let mut i = 0;
+    while i < due.len() {
+        if !due_fits(due[i]) {
+            return false;
+        }
+        i += 1;
+    }
+    true
+}
+
+// The number that turns a call back, or 0: 20, 10, 3, 4, 14, 19.
+pub fn charges_refusal(record: Propagator, earliest: &[i32], latest: &[i32], due: &[i32]) -> u32
+    ensures { λ r. ⌜ r ≡ chargesNumber «record» (now (earliest .entry)) (now (latest .entry)) (now (due .entry)) ⌝ }
+{
+    let number = fixed_refusal(record, earliest, latest);
+    if number != 0 {
+        return number;
+    }
+    if due.len() != record.count {
+        return 19;
+    }
+    if !dues_fit(due) {
+        return 19;
+    }
+    0
+}
