@@ -13,7 +13,7 @@ use Rattle.integers.specs.Filling.{filled}
 use Rattle.integers.specs.Limits.{TASKS, DURATIONS}
 use Rattle.integers.specs.Orders.{sort, numbers, Permutes}
 use Rattle.integers.proofs.Bools.{bool}
-use Rattle.integers.proofs.Filling.{filled-none, filled-more, filled-length, filled-at, filled-past, getD-fresh}
+use Rattle.integers.proofs.Filling.{getD-map-in, filled-none, filled-more, filled-length, filled-at, filled-past, getD-fresh}
 use Rattle.integers.proofs.Permutations.{numbers-permute}
 use Rattle.integers.proofs.Sorting.{sort-ext}
 use Rattle.scheduling.specs.Scheduling.{natural, Tasks, TaskSet, total}
@@ -31,7 +31,7 @@ use Rattle.trees.proofs.Trees.{new-plain-tree, may-put-plain, was-put-plain, pl
 use Rattle.checker.specs.Colouring.{Takes, Took, Colourable}
 use Rattle.checker.specs.Formulas.{order, colours, ectOf}
 use Rattle.checker.specs.Holding.{Held}
-use Rattle.checker.proofs.Gathering.{by-order, order-size, getD-map-in}
+use Rattle.checker.proofs.Gathering.{by-order, order-size}
 
 -- The order array --------------------------------------------------------------------------------------------------------------
 

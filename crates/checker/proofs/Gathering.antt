@@ -13,6 +13,7 @@ use lib.ListN.{length, getD, length-map}
 use borrow.Author.Tests.{leb-true}
 use Rattle.integers.specs.Orders.{sort, index, numbers}
 use Rattle.integers.proofs.Bools.{bool, clash, or-true, or-right, below-suc}
+use Rattle.integers.proofs.Filling.{getD-map-in}
 use Rattle.integers.proofs.Permutations.{Ordered, numbers-length, numbers-permute}
 use Rattle.integers.proofs.Sorting.{sort-length, sort-ordered, key-whole, key-chain}
 use Rattle.scheduling.specs.Scheduling.{natural, Tasks, Proper, TaskSet, In, NonEmpty, Est, Lct, Ect, completion}
@@ -20,11 +21,6 @@ use Rattle.scheduling.proofs.Scan.{ByEarliest}
 use Rattle.trees.specs.Leaves.{Leaf, empty, white, inTheta, inLambda}
 use Rattle.trees.proofs.Roots as tree
 use Rattle.checker.specs.Formulas.{any, lowest, highest, order, ectOf}
-
-pub getD-map-in : {A B : Type 0} (f : A → B) (l : List A) (k : ℕ) (a : A) (b : B) → k < length l → getD (map f l) k b ≡ f (getD l k a)
-getD-map-in f [] k a b q = absurd (omega arith)
-getD-map-in f (x ∷ xs) zero a b q = refl
-getD-map-in f (x ∷ xs) (suc k) a b q = getD-map-in f xs k a b (omega arith)
 
 module _ (J : Tasks natural) where
   abbrev n : ℕ

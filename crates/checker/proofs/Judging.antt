@@ -12,6 +12,7 @@ use lib.ListN.{length, getD, set}
 use lib.Seq.{getD-set-same, getD-set-other}
 use borrow.Author.Tests.{eq-eqb, ne-eqb, lt-ltb, le-ltb}
 use Rattle.integers.specs.Limits.{TASKS, DURATIONS}
+use Rattle.integers.proofs.Bools.{cond-most}
 use Rattle.scheduling.specs.Scheduling.{natural, Tasks, TaskSet, total, NonEmpty, Est, processing}
 use Rattle.scheduling.proofs.Sets.{total-part, total-mono}
 use Rattle.scheduling.proofs.Processing.{processing-is}
@@ -37,11 +38,7 @@ module _ {J : Tasks natural} {Ω : TaskSet} {n : ℕ} {chosen : List Bool} {est 
   p-is = ap (λ (x : Interval). x .p) z ∙ ap (total (λ k. cond (Ω k) (J .duration k) 0)) (sym (h .count)) ∙ sym (processing-is J Ω)
 
   p-most : v .p ≤ total (J .duration) n
-  p-most = omega (arith, ap (λ (x : Interval). x .p) z, total-mono (λ k. cond (Ω k) (J .duration k) 0) (J .duration) n (λ k r. at-most (Ω k) (J .duration k)))
-    where
-      at-most : (b : Bool) (d : ℕ) → cond b d 0 ≤ d
-      at-most true d = omega arith
-      at-most false d = omega arith
+  p-most = omega (arith, ap (λ (x : Interval). x .p) z, total-mono (λ k. cond (Ω k) (J .duration k) 0) (J .duration) n (λ k r. cond-most (Ω k) (J .duration k)))
 
   lb-most : v .some ≡ true → v .lb ≤ LATEST
   lb-most y =

@@ -8,6 +8,7 @@ use native.Mathlib.Numerals.{add-one}
 use native.Mathlib.Omega.{arith}
 use lib.ListN.{getD}
 use Rattle.integers.specs.Limits.{DURATIONS}
+use Rattle.integers.proofs.Bools.{cond-most}
 use Rattle.scheduling.specs.Scheduling.{natural, Tasks, TaskSet, total, completion}
 use Rattle.scheduling.proofs.Sets.{total-part, total-mono}
 use Rattle.checker.specs.declared.intervals.Interval.{Interval}
@@ -35,11 +36,7 @@ module _ {J : Tasks natural} {Ω : TaskSet} {n : ℕ} {chosen : List Bool} {est 
   completion-fits = omega (arith, l .at i q, l .fits i q, h .lasts i q, h .sum, total-part (J .duration) n i q)
 
   pub sum-fits : intervalOf J Ω i .p + getD durations i 0 < 4294967296
-  sum-fits = omega (arith, h .lasts i q, h .sum, total-part (J .duration) n i q, total-mono (λ k. cond (Ω k) (J .duration k) 0) (J .duration) i (λ k r. at-most (Ω k) (J .duration k)))
-    where
-      at-most : (b : Bool) (d : ℕ) → cond b d 0 ≤ d
-      at-most true d = omega arith
-      at-most false d = omega arith
+  sum-fits = omega (arith, h .lasts i q, h .sum, total-part (J .duration) n i q, total-mono (λ k. cond (Ω k) (J .duration k) 0) (J .duration) i (λ k r. cond-most (Ω k) (J .duration k)))
 
   pub next-gathered : (v r : Interval) → v ≡ intervalOf J Ω i → r ≡ gathered v (getD chosen i false) (getD est i 0) (getD lst i 0 + getD durations i 0) (getD durations i 0) → r ≡ intervalOf J Ω (i + 1)
   next-gathered v r z e =

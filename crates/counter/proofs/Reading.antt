@@ -13,14 +13,14 @@ use lib.Seq.{getD-take, ext-getD, getD-set-same, getD-set-other}
 use borrow.Author.Tests.{leb-true, ltb-true, lt-ltb}
 use Rattle.integers.specs.Orders.{index, has, Distinct, Permutes, numbers}
 use Rattle.integers.proofs.Bools.{bool, clash}
-use Rattle.integers.proofs.Filling.{getD-fresh}
+use Rattle.integers.proofs.Filling.{getD-fresh, getD-map-in}
 use Rattle.integers.proofs.Permutations.{Ordered, has-at, index-at, index-back, numbers-permute}
 use Rattle.integers.proofs.Sorting.{sort-permutes, sort-ordered, key-whole, key-chain}
 use Rattle.scheduling.specs.Scheduling.{natural, Tasks, Proper, TaskSet, In, NonEmpty, EstPlusP, Overloads, completion, processing}
 use Rattle.scheduling.proofs.Exists.{largest-at}
 use Rattle.trees.specs.Leaves.{empty, white}
 use Rattle.checker.specs.Formulas.{order, colours, ectOf}
-use Rattle.checker.proofs.Gathering.{getD-map-in, by-order, order-size, ect-is}
+use Rattle.checker.proofs.Gathering.{by-order, order-size, ect-is}
 use Rattle.counter.specs.Reading.{byCompletion, read, overloadsAt}
 
 -- The front of a list ----------------------------------------------------------------------------------------------------------

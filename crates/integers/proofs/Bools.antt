@@ -1,9 +1,9 @@
 -- Cases of a test, and of the numbers below a bound.
 -- Assumes nothing.
 use mathlib.Core.Path.{_≡_, refl, sym, _∙_}
-use mathlib.Core.Bool.{Bool, true, false, _||_, _&&_}
+use mathlib.Core.Bool.{Bool, true, false, cond, _||_, _&&_}
 use mathlib.Core.Logic.{_⊎_, inl, inr}
-use Prim.Native.Nat.{ℕ, suc, _<_}
+use Prim.Native.Nat.{ℕ, suc, _≤_, _<_}
 use native.Mathlib.Omega.{arith}
 use native.Mathlib.Decide.{decLt}
 use lib.Dec.{leb}
@@ -39,6 +39,10 @@ and-right false b p = refl
 pub and-is : (a b : Bool) → a ≡ true → a && b ≡ b
 and-is a b p = rw p
 
+pub and-only : (a b : Bool) → b ≡ true → a && b ≡ a
+and-only true b q = q
+and-only false b q = refl
+
 pub or-true : (a b : Bool) → a || b ≡ true → (a ≡ true) ⊎ (b ≡ true)
 or-true true b h = inl refl
 or-true false b h = inr h
@@ -68,6 +72,10 @@ or-nothing true = refl
 or-nothing false = refl
 
 -- what holds below n and at n holds below suc n
+pub cond-most : (b : Bool) (d : ℕ) → cond b d 0 ≤ d
+cond-most true d = omega arith
+cond-most false d = omega arith
+
 pub below-suc : (P : ℕ → Type 0) (n : ℕ) → ((k : ℕ) → k < n → P k) → P n → (k : ℕ) → k < suc n → P k
 below-suc P n lo hi k h = elim (decLt k n) [ yes q ↦ lo k q | no q ↦ (let z : n ≡ k = omega arith in rw z at hi) ]
 

@@ -16,10 +16,9 @@ use borrow.Author.Tests.{eq-eqb, ne-eqb, eqb-true, le-leb}
 use Rattle.integers.specs.Limits.{TASKS}
 use Rattle.integers.specs.Tests.{refusal}
 use Rattle.integers.proofs.Bools.{bool, clash}
-use Rattle.integers.proofs.Filling.{filled-at, filled-length}
+use Rattle.integers.proofs.Filling.{getD-map-in, filled-at, filled-length}
 use Rattle.records.specs.Records.{creationTests, newRecord}
 use Rattle.records.proofs.Creation.{refused-1}
-use Rattle.runs.proofs.Steps.{getD-map-in}
 use Rattle.text.specs.Scanning.{gathered}
 use Rattle.text.specs.declared.reading.Numbers.{Numbers}
 use Rattle.text.proofs.Gathering.{kept-at}

@@ -5,6 +5,7 @@ use mathlib.Core.List.{List, [], _∷_}
 use Prim.Native.Nat.{ℕ, zero, suc, _+_, _≤_, _<_}
 use native.Mathlib.Omega.{arith}
 use lib.ListN.{length, getD, set, replicate, length-replicate, getD-replicate}
+use lib.Seq.{ext-getD}
 use Rattle.integers.specs.Filling.{filled}
 use Rattle.integers.proofs.Filling.{filled-none, filled-more, filled-length, filled-at}
 use Rattle.trees.specs.declared.theta_lambda_tree.Node.{Node}
@@ -13,13 +14,6 @@ use Rattle.trees.specs.Nodes.{whiteOf}
 use Rattle.trees.specs.Puts.{Layable, Laid, Rebuildable, Rebuilt}
 use Rattle.trees.proofs.Rebuilding.{tree-leaves, may-lay, was-laid, may-rebuild, was-rebuilt}
 use Rattle.propagator.specs.Filling.{Fillable}
-
--- two lists of one length that agree in each place
-same-list : {A : Type 0} (d : A) (l m : List A) → length l ≡ length m → ((k : ℕ) → k < length l → getD l k d ≡ getD m k d) → l ≡ m
-same-list d [] [] z h = refl
-same-list d [] (y ∷ m) z h = absurd (omega (arith, z))
-same-list d (x ∷ l) [] z h = absurd (omega (arith, z))
-same-list d (x ∷ l) (y ∷ m) z h = ap (λ (a : _). a ∷ l) (h 0 (omega arith)) ∙ ap (λ (r : List _). y ∷ r) (same-list d l m (omega (arith, z)) (λ k q. h (suc k) (omega arith)))
 
 module _ {inner n : ℕ} {words tasks est dur : List ℕ} (f : Fillable inner n words tasks est dur) where
   -- the first x leaves are white
@@ -61,6 +55,6 @@ module _ {inner n : ℕ} {words tasks est dur : List ℕ} (f : Fillable inner n 
       c = f .J .count
 
       is : upTo x ≡ replicate (f .J .count) white
-      is = same-list empty (upTo x) (replicate (f .J .count) white) (filled-length (λ _. white) x (replicate (f .J .count) empty) ∙ length-replicate (f .J .count) empty ∙ sym (length-replicate (f .J .count) white))
+      is = ext-getD empty (upTo x) (replicate (f .J .count) white) (filled-length (λ _. white) x (replicate (f .J .count) empty) ∙ length-replicate (f .J .count) empty ∙ sym (length-replicate (f .J .count) white))
           (λ k q. let r : k < f .J .count = omega (arith, filled-length (λ _. white) x (replicate (f .J .count) empty), length-replicate (f .J .count) empty) in
           filled-at (λ _. white) x (replicate (f .J .count) empty) empty k (omega (arith, r, z, f .count)) (omega (arith, z, f .count, length-replicate (f .J .count) empty)) ∙ sym (getD-replicate (f .J .count) k white empty r))

@@ -15,7 +15,7 @@ use mir.Val.{SFits}
 use Rattle.integers.specs.Filling.{filled}
 use Rattle.integers.specs.Moments.{Above, instant, zeroAt}
 use Rattle.integers.specs.Orders.{numbers, sort}
-use Rattle.integers.proofs.Filling.{filled-none, filled-more, filled-length, filled-past, filled-at}
+use Rattle.integers.proofs.Filling.{getD-map-in, filled-none, filled-more, filled-length, filled-past, filled-at, filled-all}
 use Rattle.integers.proofs.Ints.{up, dn, ints, sumℤ, sub-law, fits-show}
 use Rattle.integers.proofs.Moments.{above-show, at-moment, more-above}
 use Rattle.integers.proofs.Permutations.{numbers-permute}
@@ -26,7 +26,7 @@ use Rattle.scheduling.proofs.Mirroring.{at-mirror, start-twice, start-falls, st
 use Rattle.scheduling.proofs.Passed.{every-append}
 use Rattle.scheduling.proofs.Processing.{processing-all, processing-less}
 use Rattle.scheduling.proofs.Transfer.{moments, sound}
-use Rattle.scheduling.proofs.Words.{Three, three-words, atoms-length, atom-set}
+use Rattle.scheduling.proofs.Words.{no-atom, Three, three-words, atoms-length, atom-set}
 use Rattle.runs.specs.Traces.{Post, End, done, overload, emptied, Trace}
 use Rattle.runs.specs.Runs.{byEarliest, byCompletion}
 use Rattle.runs.specs.Demand.{Right, PostRight, OverloadRight, consequentOf, no-post, post}
@@ -39,7 +39,6 @@ use Rattle.runs.proofs.Fuel.{propagate-is}
 use Rattle.runs.proofs.Readers.{Four, four-words, startOf}
 use Rattle.runs.proofs.Shapes.{Shaped, post-shaped, overload-shaped}
 use Rattle.runs.proofs.Starts.{starts-length, starts-between}
-use Rattle.runs.proofs.Steps.{getD-map-in}
 
 -- Lists of starts --------------------------------------------------------------------------------------------------------------
 
@@ -156,9 +155,6 @@ above p z s h = omega (ints, at-mirror p z, at-mirror p s)
 
 below : (p : ℕ) (z s : ℤ) → mirrorStart p z ≤ℤ s → mirrorStart p s ≤ℤ z
 below p z s h = omega (ints, at-mirror p z, at-mirror p s)
-
-abbrev pub no-atom : Atom
-no-atom = record { variable = 0; kind = 0; value = pos 0 }
 
 -- An atom of a mirrored run: ≥ or ≤ on one of n tasks, its value so near that it and its mirrored value are i32s.
 pub record Near (n : ℕ) (a : Atom) : Type 0 where
@@ -280,14 +276,6 @@ module _ (ds : List ℕ) (es ls : List ℤ) (first second : List ℕ) (a : Accep
 -- the atoms of all reasons of a trace
 abbrev pub atomsIn : Trace → List Atom
 atomsIn t = reasons (t .posts) ++ endReason (t .end)
-
--- what a loop leaves that puts f of each element in its place
-filled-all : {A : Type 0} (f : A → A) (d : A) (l : List A) → filled (λ k. f (getD l k d)) (length l) l ≡ map f l
-filled-all f d l = ext-getD d (filled (λ k. f (getD l k d)) (length l) l) (map f l) (size ∙ sym (length-map l f))
-    (λ k q. filled-at (λ k. f (getD l k d)) (length l) l d k (omega (arith, size)) (omega arith) ∙ sym (getD-map-in f l k d d (omega (arith, size))))
-  where
-    size : length (filled (λ k. f (getD l k d)) (length l) l) ≡ length l
-    size = filled-length (λ k. f (getD l k d)) (length l) l
 
 -- another bound for a post: one store
 post-set : (ps : List Post) (tail : List ℤ) (from j : ℕ) (p : Post) → j < length ps → p .task ≡ getD ps j no-post .task → length (p .reason) ≡ length (getD ps j no-post .reason)

@@ -17,6 +17,7 @@ use borrow.Author.Tests.{ltb-true, ltb-false}
 use Rattle.integers.specs.Moments.{Above, instant, zeroAt}
 use Rattle.integers.specs.Orders.{sort, index}
 use Rattle.integers.proofs.Bools.{bool}
+use Rattle.integers.proofs.Filling.{getD-map-in}
 use Rattle.integers.proofs.Moments.{mono, reflect, above-up, more-above, moment-instant, instant-above}
 use Rattle.scheduling.specs.Scheduling.{natural, Tasks, tasksOf}
 use Rattle.scheduling.proofs.Transfer.{moments}
@@ -25,7 +26,6 @@ use Rattle.runs.specs.Traces.{Trace}
 use Rattle.runs.specs.Runs.{State, Turn, on, stop, inner, outer, run, lct, grayed, dropped, raised, posted, tabulate, propagate, byEarliest, byCompletion}
 use Rattle.runs.proofs.Demand.{Accepted}
 use Rattle.runs.proofs.Fuel.{opt, turn, inner-end, inner-off, inner-none, inner-pass, inner-stop, inner-raise, propagate-is, run-is, outer-end, outer-over, outer-on, outer-stop}
-use Rattle.runs.proofs.Steps.{getD-map-in}
 use Rattle.runs.proofs.Tables.{tab-length, tab-at}
 
 -- the starts when the inner loop ends, and when a post empties a range

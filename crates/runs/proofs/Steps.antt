@@ -14,6 +14,7 @@ use lib.Seq.{getD-set-same, getD-set-other, getD-append-seam}
 use borrow.Author.Tests.{ne-eqb, eq-eqb, leb-true, le-leb, lt-leb, ltb-true, ltb-false}
 use Rattle.scheduling.specs.Scheduling.{whole, natural, Tasks, Proper, TaskSet, total, _with_, In, Outside, NonEmpty, completion, EstPlusP, Ect, EdgeFindingBound, Done, Conflict}
 use Rattle.integers.proofs.Bools.{leb-step, bool, clash, below-suc}
+use Rattle.integers.proofs.Filling.{getD-map-in}
 use Rattle.scheduling.proofs.Sets.{total-ext, _less_, with-in, with-new, with-old}
 use Rattle.scheduling.proofs.Scan.{ByEarliest, scan, scan-is}
 use Rattle.scheduling.proofs.Levels.{ByCompletion, Posts, Facts, no-posts, start, next, leave, facts-same, last-fits, edge, finish, overloaded}
@@ -37,11 +38,6 @@ use Rattle.runs.proofs.Tables.{tab-length, tab-at}
 -- lists
 pub length-snoc : {A : Type 0} (xs : List A) (x : A) → length (xs ++ (x ∷ [])) ≡ suc (length xs)
 length-snoc xs x = omega (arith, length-append xs (x ∷ []))
-
-pub getD-map-in : {A B : Type 0} (f : A → B) (l : List A) (k : ℕ) (a : A) (b : B) → k < length l → getD (map f l) k b ≡ f (getD l k a)
-getD-map-in f [] k a b q = absurd (omega arith)
-getD-map-in f (x ∷ xs) zero a b q = refl
-getD-map-in f (x ∷ xs) (suc k) a b q = getD-map-in f xs k a b (omega arith)
 
 pub map-above : (o : ℕ) (l : List ℕ) (k : ℕ) → Above o (getD (map (λ (m : ℕ). subℕ m o) l) k (pos 0))
 map-above o [] k = zero-above o
