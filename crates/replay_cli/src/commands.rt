@@ -10,6 +10,7 @@ use crate::parts::numbers_in;
 use crate::parts::part;
 use crate::parts::same;
 use crate::requests::bills;
+use crate::requests::frees;
 use crate::requests::mirrors;
 use crate::requests::prints;
 use crate::requests::quick;
@@ -41,6 +42,7 @@ pub enum Command {
     Quick,
     Page,
     Charges,
+    Free,
     Unknown,
 }
 
@@ -136,6 +138,7 @@ impl Session {
             Command::Quick => quick(self, out, a),
             Command::Page => prints(self, out, a),
             Command::Charges => bills(self, out, a, b),
+            Command::Free => frees(self, out, a, b),
             Command::Unknown => self.failed(out),
         }
     }
@@ -185,6 +188,7 @@ fn mark_of(command: Command) -> u8 {
         Command::Check => b';',
         Command::Prepare => b';',
         Command::Charges => b';',
+        Command::Free => b';',
         _ => b'\n',
     }
 }
@@ -237,6 +241,9 @@ fn request_of(word: &[u8]) -> Command {
     }
     if same(word, b"charges") {
         return Command::Charges;
+    }
+    if same(word, b"free") {
+        return Command::Free;
     }
     Command::Unknown
 }

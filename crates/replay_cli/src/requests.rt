@@ -1,25 +1,28 @@
-// The further calls: the mirrored pass, the overload test, the page and the charges.
+// The further calls: the mirrored pass, the overload test, the page, the charges and the earliest free start.
 use crate::commands::Session;
 use crate::lines::put_counted;
 use crate::lines::put_end;
 use crate::lines::put_line;
 use crate::lines::put_numbers;
 use crate::lines::put_refused;
+use crate::lines::put_spaced;
 use crate::lines::put_spaced_count;
 use crate::parts::first;
 use crate::parts::stretch;
 use crate::running::ATOMS;
 use crate::running::POSTS;
 use crate::running::RANGES;
+use crate::running::posts_of;
 use crate::running::put_outcome;
 use crate::running::put_posts;
-use crate::running::posts_of;
 use crate::running::spread;
 use charges::answer::Bill;
 use charges::answer::Billing;
 use charges::charging::charges;
 use counter::overload_test::Overload;
 use counter::overload_test::overload_test;
+use free_starts::free_start::FreeStart;
+use free_starts::free_start::free_start;
 use mirrored::mirrored_propagator::propagate_mirrored;
 use pages::answer::Page;
 use pages::page::page;
@@ -192,4 +195,43 @@ fn put_charges(out: &mut [u8], at: usize, charges: &[u32; 48], n: usize) -> usiz
         i += 1;
     }
     put_end(out, end)
+}
+
+// `free`: the earliest free start beside a fixed schedule, for a moment and a duration.
+pub fn frees(session: Session, out: &mut [u8], words: &[i32], asked: &[i32]) -> Session {
+    if !ready(session, words) {
+        return session.failed(out);
+    }
+    if asked.len() != 2 {
+        return session.failed(out);
+    }
+    let at = session.at;
+    let record = session.record;
+    let ranges = ranges_of(words);
+    let n = ranges.count;
+    let earliest = ranges.earliest;
+    let latest = ranges.latest;
+    let answer = free_start(
+        record,
+        first(&earliest, n),
+        first(&latest, n),
+        asked[0],
+        asked[1],
+    );
+    session.said(put_free(out, at, answer))
+}
+
+// Its line.
+fn put_free(out: &mut [u8], at: usize, answer: FreeStart) -> usize {
+    match answer {
+        FreeStart::At(start) => put_started(out, at, start),
+        FreeStart::Refused(number) => put_refused(out, at, number),
+    }
+}
+
+// The line of a start.
+fn put_started(out: &mut [u8], at: usize, start: i32) -> usize {
+    let a = put_line(out, at, b"start");
+    let b = put_spaced(out, a, start);
+    put_end(out, b)
 }
