@@ -10,8 +10,9 @@ use lib.Dec.{leb}
 use lib.IntN.{ℤ, pos, _+ℤ_}
 use lib.Signed.{leZ, _≤ℤ_}
 use lib.ListN.{length, getD, take}
+use lib.Seq.{getD-take}
 use borrow.Author.Tests.{le-leb, leb-true}
-use Rattle.integers.specs.Limits.{START}
+use Rattle.integers.specs.Limits.{TASKS, START}
 use Rattle.integers.specs.Filling.{filled}
 use Rattle.integers.specs.Moments.{moment, instant, zeroAt, Above}
 use Rattle.integers.specs.Orders.{has, index, sort, numbers, Permutes}
@@ -78,6 +79,9 @@ module _ (es : List ℤ) where
       record { task = o .task; placed = o .placed; there = o .there; back = o .back; sorted = λ s t q r. leZ-true (startAt es (getD (orderOf es) s 0)) (startAt es (getD (orderOf es) t 0)) (o .sorted s t q r) }
 
   -- the code's keys are the moments
+  pub key-at : (keys : List ℕ) → length es ≤ TASKS → keys ≡ filled (momentAt es) (length es) noTasks → (k : ℕ) → k < length es → getD keys k 0 ≡ momentAt es k
+  key-at keys h e k q = ap (λ (l : List ℕ). getD l k 0) e ∙ filled-at (momentAt es) (length es) noTasks 0 k q h
+
   pub order-is : (keys : List ℕ) → Started es → keys ≡ filled (momentAt es) (length es) noTasks
       → take (length es) (sortedOrder (byKey keys) (length es) (filled (λ k. k) (length es) noTasks)) ≡ orderOf es
   order-is keys h e =
@@ -86,7 +90,7 @@ module _ (es : List ℤ) where
       ∙ sort-ext (byKey keys) (byStart es) (numbers 0 (length es)) agree
     where
       at : (k : ℕ) → k < length es → getD keys k 0 ≡ momentAt es k
-      at k q = ap (λ (l : List ℕ). getD l k 0) e ∙ filled-at (momentAt es) (length es) noTasks 0 k q (h .few)
+      at = key-at keys (h .few) e
 
       below : (k : ℕ) → has (numbers 0 (length es)) k ≡ true → k < length es
       below k q = numbers-permute (length es) .below k q
@@ -100,3 +104,23 @@ module _ (es : List ℤ) where
   -- and the numbers 0 to n − 1 can be sorted
   pub own-numbered : Started es → Numbered (length es) (filled (λ k. k) (length es) noTasks)
   own-numbered h = numbered (length es) (filled (λ k. k) (length es) noTasks) (h .few) (filled-length (λ (k : ℕ). k) (length es) noTasks) (own-order (length es) (h .few))
+
+  -- an array that has the order in its first places has the tasks by the moments of their starts
+  pub ordered-moments : (order keys : List ℕ) → take (length es) order ≡ orderOf es → ((k : ℕ) → k < length es → getD keys k 0 ≡ momentAt es k)
+      → Ordered (length es) (λ t. getD order t 0) (index (orderOf es)) (λ j k. getD keys j 0 ≤ getD keys k 0)
+  ordered-moments order keys e at = record {
+    task = λ t q. omega (arith, here t q, o .task t q);
+    placed = o .placed;
+    there = λ k q. here (index (orderOf es) k) (o .placed k q) ∙ o .there k q;
+    back = λ t q. ap (index (orderOf es)) (here t q) ∙ o .back t q;
+    sorted = λ s t p q. (let r : s < length es = omega arith in omega (arith, key s r, key t q, mono zeroAt (startAt es (getD (orderOf es) s 0)) (startAt es (getD (orderOf es) t 0)) (o .sorted s t p q)));
+  }
+    where
+      o : Ordered (length es) (λ t. getD (orderOf es) t 0) (index (orderOf es)) (λ j k. startAt es j ≤ℤ startAt es k)
+      o = ordered
+
+      here : (t : ℕ) → t < length es → getD order t 0 ≡ getD (orderOf es) t 0
+      here t q = sym (getD-take (length es) order t 0 q) ∙ ap (λ (l : List ℕ). getD l t 0) e
+
+      key : (t : ℕ) → t < length es → getD keys (getD order t 0) 0 ≡ momentAt es (getD (orderOf es) t 0)
+      key t q = ap (λ (k : ℕ). getD keys k 0) (here t q) ∙ at (getD (orderOf es) t 0) (o .task t q)

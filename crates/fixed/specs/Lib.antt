@@ -1,3 +1,4 @@
 pub mod FixedSchedules
 pub mod Holding
+pub mod Asked
 pub mod Examples

@@ -29,3 +29,10 @@ PREMISES = 512
 
 abbrev pub HOLES : ℕ
 HOLES = 16
+
+-- a moment that is asked about lies from −MOMENT to MOMENT, and a length of time from 1 to LENGTH
+abbrev pub MOMENT : ℕ
+MOMENT = 400000000
+
+abbrev pub LENGTH : ℕ
+LENGTH = 400000000

@@ -9,6 +9,11 @@ use crate::parts::first_word;
 use crate::parts::numbers_in;
 use crate::parts::part;
 use crate::parts::same;
+use crate::requests::bills;
+use crate::requests::frees;
+use crate::requests::mirrors;
+use crate::requests::prints;
+use crate::requests::quick;
 use crate::running::creates;
 use crate::running::runs;
 use crate::states::applies;
@@ -33,6 +38,11 @@ pub enum Command {
     Upper,
     Show,
     Prepare,
+    Mirror,
+    Quick,
+    Page,
+    Charges,
+    Free,
     Unknown,
 }
 
@@ -124,6 +134,11 @@ impl Session {
             Command::Upper => bounds(self, out, a, false),
             Command::Show => shows(self, out, a),
             Command::Prepare => prepares(self, out, a, b),
+            Command::Mirror => mirrors(self, out, a),
+            Command::Quick => quick(self, out, a),
+            Command::Page => prints(self, out, a),
+            Command::Charges => bills(self, out, a, b),
+            Command::Free => frees(self, out, a, b),
             Command::Unknown => self.failed(out),
         }
     }
@@ -172,6 +187,8 @@ fn mark_of(command: Command) -> u8 {
     match command {
         Command::Check => b';',
         Command::Prepare => b';',
+        Command::Charges => b';',
+        Command::Free => b';',
         _ => b'\n',
     }
 }
@@ -207,6 +224,26 @@ fn command_of(word: &[u8]) -> Command {
     }
     if same(word, b"prepare") {
         return Command::Prepare;
+    }
+    request_of(word)
+}
+
+// The command of a word that asks for one of the further calls.
+fn request_of(word: &[u8]) -> Command {
+    if same(word, b"mirror") {
+        return Command::Mirror;
+    }
+    if same(word, b"quick") {
+        return Command::Quick;
+    }
+    if same(word, b"page") {
+        return Command::Page;
+    }
+    if same(word, b"charges") {
+        return Command::Charges;
+    }
+    if same(word, b"free") {
+        return Command::Free;
     }
     Command::Unknown
 }

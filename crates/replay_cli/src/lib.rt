@@ -4,6 +4,7 @@ pub mod checks;
 pub mod commands;
 pub mod lines;
 pub mod parts;
+pub mod requests;
 pub mod running;
 pub mod serving;
 pub mod states;

@@ -22,12 +22,12 @@ use records::record::create;
 ghost use Prim.Native.Nat.{_≤_};
 
 // Ranges of one command that are kept.
-const RANGES: usize = WORDS / 2;
+pub const RANGES: usize = WORDS / 2;
 
 // Words of the posts and of the atoms that a run of 48 tasks has room for.
-const POSTS: usize = 192;
+pub const POSTS: usize = 192;
 
-const ATOMS: usize = 13824;
+pub const ATOMS: usize = 13824;
 
 // `create`: the record of the durations.
 pub fn creates(session: Session, out: &mut [u8], durations: &[i32]) -> Session {
@@ -47,7 +47,7 @@ fn put_creation(out: &mut [u8], at: usize, answer: Creation, n: usize) -> usize 
 }
 
 // Every second number, from the first or the second on.
-fn spread(starts: &mut [i32; RANGES], words: &[i32], from: usize)
+pub fn spread(starts: &mut [i32; RANGES], words: &[i32], from: usize)
     requires { ⌜ from ≤ 1 ⌝ }
 {
     let n = words.len() / 2;
@@ -131,7 +131,7 @@ fn put_run(
 }
 
 // How many posts a run made.
-fn posts_of(outcome: Outcome) -> usize {
+pub fn posts_of(outcome: Outcome) -> usize {
     match outcome {
         Outcome::Done(count) => count,
         Outcome::Overload {
@@ -145,7 +145,7 @@ fn posts_of(outcome: Outcome) -> usize {
 }
 
 // The line of a run's end, and behind that of an overload its reason.
-fn put_outcome(out: &mut [u8], at: usize, outcome: Outcome, atoms: &[i32]) -> usize {
+pub fn put_outcome(out: &mut [u8], at: usize, outcome: Outcome, atoms: &[i32]) -> usize {
     match outcome {
         Outcome::Done(_) => put_line(out, at, b"done\n"),
         Outcome::Overload {
@@ -159,7 +159,7 @@ fn put_outcome(out: &mut [u8], at: usize, outcome: Outcome, atoms: &[i32]) -> us
 }
 
 // All posts.
-fn put_posts(out: &mut [u8], at: usize, posts: &[i32], atoms: &[i32], count: usize) -> usize {
+pub fn put_posts(out: &mut [u8], at: usize, posts: &[i32], atoms: &[i32], count: usize) -> usize {
     let mut end = at;
     let mut j = 0;
     while j < count {

@@ -1,0 +1,110 @@
+-- From moments to whole numbers: the earliest free start of a fixed schedule, and the call's answer.
+-- Assumes nothing.
+use mathlib.Core.Path.{_≡_, refl, sym, ap, subst, _∙_}
+use mathlib.Core.Logic.{inl, inr, ⊎-elim}
+use mathlib.Core.List.{List, []}
+use Prim.Native.Nat.{ℕ, _+_, _≤_, _<_}
+use native.Mathlib.Omega.{arith}
+use lib.IntN.{ℤ, pos}
+use lib.ListN.{length, getD, take}
+use Rattle.integers.specs.Limits.{TASKS}
+use Rattle.integers.specs.Filling.{filled}
+use Rattle.integers.specs.Moments.{moment, instant, zeroAt, Above}
+use Rattle.integers.specs.Orders.{index}
+use Rattle.integers.proofs.Ints.{ints, up, dn, sumℤ}
+use Rattle.integers.proofs.Moments.{mono, reflect, mono<, above-up, at-moment, instant-above, moment-instant}
+use Rattle.integers.proofs.Permutations.{Ordered}
+use Rattle.scheduling.specs.Scheduling.{whole, natural, Tasks}
+use Rattle.records.specs.declared.record.Propagator.{Propagator}
+use Rattle.records.specs.Records.{durationOf}
+use Rattle.records.specs.Orders.{noTasks, momentAt}
+use Rattle.records.specs.Refusals.{StartFits}
+use Rattle.fixed.specs.FixedSchedules.{startAt, orderOf, tasksOn, AcceptedFixed}
+use Rattle.fixed.specs.Asked.{MomentFits, LengthFits}
+use Rattle.fixed.proofs.Placing.{start-above, start-moment, key-at, ordered-moments}
+use Rattle.fixed.proofs.Accepting.{input-of, short}
+use Rattle.fixed.proofs.Asking.{asked-above, asked-moment}
+use Rattle.free_starts.specs.declared.free_start.FreeStart.{FreeStart}
+use Rattle.free_starts.specs.declared.free_start.FreeStart.the-variants.{At, Refused}
+use Rattle.free_starts.specs.FreeStarts.{LATEST, Free, EarliestFree, freeNumber, Found, Answered}
+use Rattle.free_starts.specs.Holding.{inMoments, Askable}
+use Rattle.free_starts.proofs.Refusing.{free-many}
+
+-- ---- the tasks J of whole numbers, and M of their moments
+module _ (o : ℕ) (J : Tasks whole) (M : Tasks natural) (same-count : M .count ≡ J .count) (above : (k : ℕ) → k < J .count → Above o (J .earliest k))
+    (start : (k : ℕ) → k < J .count → M .earliest k ≡ moment o (J .earliest k)) (lasts : (k : ℕ) → k < J .count → M .duration k ≡ J .duration k) where
+  free-up : (d m : ℕ) → Free M d m → Free J d (instant o m)
+  unfolding up dn
+  free-up d m f k q =
+      let a = at-moment o (instant o m) (instant-above o m) in
+      let b = at-moment o (J .earliest k) (above k q) in
+      ⊎-elim
+      (λ h. inl (omega (ints, h, a, b, moment-instant o m, start k q, sumℤ (instant o m) (pos d))))
+      (λ h. inr (omega (ints, h, a, b, moment-instant o m, start k q, lasts k q, sumℤ (J .earliest k) (pos (J .duration k)))))
+      (f k (omega arith))
+
+  free-down : (d : ℕ) (u : ℤ) → Above o u → Free J d u → Free M d (moment o u)
+  unfolding up dn
+  free-down d u p f k q =
+      let r : k < J .count = omega arith in
+      let a = at-moment o u p in
+      let b = at-moment o (J .earliest k) (above k r) in
+      ⊎-elim
+      (λ h. inl (omega (ints, h, a, b, start k r, sumℤ u (pos d))))
+      (λ h. inr (omega (ints, h, a, b, start k r, lasts k r, sumℤ (J .earliest k) (pos (J .duration k)))))
+      (f k r)
+
+  -- the earliest free moment is that of the earliest free start
+  earliest-up : (t : ℤ) (d m : ℕ) → Above o t → EarliestFree M (moment o t) d m → EarliestFree J t d (instant o m)
+  earliest-up t d m p e = record {
+    from = reflect o t (instant o m) p (instant-above o m) (omega (arith, e .from, moment-instant o m));
+    free = free-up d m (e .free);
+    none-before = λ u h l f.
+        (let q = above-up o t u h p in
+        e .none-before (moment o u) (mono o t u h) (omega (arith, mono< o u (instant o m) q (instant-above o m) l, moment-instant o m)) (free-down d u q f));
+  }
+
+-- ---- an accepted question
+module _ (r : Propagator) (es ls : List ℤ) (t d : ℤ) (a : AcceptedFixed r es ls) (q : LengthFits d × MomentFits t) (starts : List ℕ) (s : starts ≡ filled (momentAt es) (length es) noTasks)
+    (from lasting : ℕ) (m : from ≡ moment zeroAt t) (p : pos lasting ≡ d) where
+  start-is : (k : ℕ) → k < r .count → getD starts k 0 ≡ moment zeroAt (startAt es k)
+  start-is k l = key-at es starts (omega (arith, a .counts .earliest, a .lawful .few)) s k (omega (arith, a .counts .earliest))
+
+  fits : (k : ℕ) → k < r .count → StartFits (startAt es k)
+  fits k l = a .starts .earliest k (omega (arith, a .counts .earliest))
+
+  -- the pass may start
+  pub askable : (order : List ℕ) → take (length es) order ≡ orderOf es → Askable (r .count) order starts (r .durations) from lasting
+  unfolding up dn
+  askable order e = record {
+    few = a .lawful .few;
+    place = index (orderOf es);
+    by-start = subst (λ (n : ℕ). Ordered n (λ p. getD order p 0) (index (orderOf es)) (λ j k. getD starts j 0 ≤ getD starts k 0)) (a .counts .earliest) (ordered-moments es order starts e (λ k l. start-is k (omega (arith, a .counts .earliest))));
+    ends = λ k l. omega (arith, start-is k l, start-moment (startAt es k) (fits k l), short r es ls (input-of a) k (omega (arith, a .counts .earliest)));
+    moment = omega (arith, asked-moment t (q .1));
+    duration = omega (ints, q .0 .high);
+  }
+
+  -- and what it finds is the answer
+  pub found : (free : ℕ) → EarliestFree (inMoments (r .count) starts (r .durations)) from lasting free → free ≤ zeroAt + LATEST → (x : ℤ) → x ≡ instant zeroAt free → Found r es ls t d (At x)
+  unfolding up dn
+  found free e l x z = record {
+    start = instant zeroAt free;
+    answer = ap At z;
+    earliest = subst (λ (n : ℕ). EarliestFree (tasksOn r es ls) t n (instant zeroAt free)) (ap durationOf p) (earliest-up zeroAt (tasksOn r es ls) (inMoments (r .count) starts (r .durations)) refl (λ k l. start-above (startAt es k) (fits k l)) start-is (λ k l. refl) t lasting free (asked-above t (q .1)) (rw m at e));
+    limit = omega (ints, at-moment zeroAt (instant zeroAt free) (instant-above zeroAt free), moment-instant zeroAt free);
+  }
+
+-- ---- the call
+module _ (r : Propagator) (es ls : List ℤ) (t d : ℤ) where
+  pub refused : (m : ℕ) → m ≡ freeNumber r es ls t d → (m ≡ 0 → ⊥) → Answered r es ls t d (Refused m)
+  refused m e not = record { refused = λ _. ap Refused e; found = λ z. absurd (not (e ∙ z)) }
+
+  pub answered : (x : FreeStart) → freeNumber r es ls t d ≡ 0 → Found r es ls t d x → Answered r es ls t d x
+  answered x z f = record { refused = λ not. absurd (not z); found = λ _. f }
+
+-- too many ranges are turned back as none are
+pub too-many : (r : Propagator) (es ls : List ℤ) (t d : ℤ) (x : FreeStart) → TASKS < length es → Answered r [] [] t d x → Answered r es ls t d x
+too-many r es ls t d x many a =
+    let (same, not) = free-many r es ls t d many in
+    record { refused = λ _. a .refused (λ z. not (sym same ∙ z)) ∙ ap Refused same; found = λ z. absurd (not z) }

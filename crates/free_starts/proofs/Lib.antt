@@ -1,0 +1,3 @@
+pub mod Passing
+pub mod Refusing
+pub mod Answers

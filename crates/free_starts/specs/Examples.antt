@@ -1,0 +1,64 @@
+-- The definitions at small inputs.
+-- Assumes nothing.
+use mathlib.Core.Path.{_≡_, refl}
+use mathlib.Core.Logic.{inl, inr}
+use mathlib.Core.List.{List, [], _∷_}
+use Prim.Native.Nat.{ℕ, zero, suc}
+use native.Mathlib.Omega.{arith}
+use lib.IntN.{ℤ, pos, negsuc}
+use Rattle.integers.specs.Filling.{filled}
+use Rattle.integers.specs.Orders.{has, isPermutation}
+use Rattle.integers.specs.Tests.{allBelow, refusal}
+use Rattle.scheduling.specs.Scheduling.{total}
+use Rattle.records.specs.declared.record.Propagator.{Propagator}
+use Rattle.records.specs.Records.{unusedAt, lawfulRecord, newRecord}
+use Rattle.fixed.specs.FixedSchedules.{tasksOn}
+use Rattle.free_starts.specs.FreeStarts.{Free, freeNumber}
+
+-- task 0 starts at 3 and lasts 4, task 1 starts at −12 and lasts 15: they touch at 3
+two : Propagator
+two = newRecord (pos 4 ∷ pos 15 ∷ [])
+
+starts : List ℤ
+starts = pos 3 ∷ negsuc 11 ∷ []
+
+-- 8 units from −20 on end where task 1 starts: that is free
+before-both : Free (tasksOn two starts starts) 8 (negsuc 19)
+unfolding two starts filled
+before-both zero q = inl (record { le = tt })
+before-both (suc zero) q = inl (record { le = tt })
+before-both (suc (suc k)) q = absurd (omega arith)
+
+-- 9 units are not
+too-long : Free (tasksOn two starts starts) 9 (negsuc 19) → ⊥
+unfolding two starts filled
+too-long f = elim (f 1 (omega arith)) [ inl h ↦ h .le | inr h ↦ h .le ]
+
+-- nor is anything between the two, where they touch
+touching : Free (tasksOn two starts starts) 1 (pos 3) → ⊥
+unfolding two starts filled
+touching f = elim (f 0 (omega arith)) [ inl h ↦ h .le | inr h ↦ h .le ]
+
+-- 7, where task 0 ends, is free for any duration
+after-both : (d : ℕ) → Free (tasksOn two starts starts) d (pos 7)
+unfolding two starts filled
+after-both d zero q = inr (record { le = tt })
+after-both d (suc zero) q = inr (record { le = tt })
+after-both d (suc (suc k)) q = absurd (omega arith)
+
+-- the limits of 18, which is tried after 14
+longest : freeNumber two starts starts (negsuc 399999999) (pos 400000000) ≡ 0
+unfolding two starts refusal lawfulRecord isPermutation allBelow unusedAt has filled total
+longest = refl
+
+too-early : freeNumber two starts starts (negsuc 400000000) (pos 1) ≡ 18
+unfolding two starts refusal lawfulRecord isPermutation allBelow unusedAt has filled total
+too-early = refl
+
+no-time : freeNumber two starts starts (pos 0) (pos 0) ≡ 18
+unfolding two starts refusal lawfulRecord isPermutation allBelow unusedAt has filled total
+no-time = refl
+
+overlap : freeNumber two (pos 2 ∷ negsuc 11 ∷ []) (pos 2 ∷ negsuc 11 ∷ []) (pos 0) (pos 0) ≡ 14
+unfolding two refusal lawfulRecord isPermutation allBelow unusedAt has filled total
+overlap = refl

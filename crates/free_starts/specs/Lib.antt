@@ -1,0 +1,3 @@
+pub mod FreeStarts
+pub mod Holding
+pub mod Examples
