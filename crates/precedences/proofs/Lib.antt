@@ -1,0 +1,4 @@
+pub mod Ranging
+pub mod Soundness
+pub mod Bounding
+pub mod Passing

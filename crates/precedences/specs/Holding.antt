@@ -1,0 +1,45 @@
+-- What the code holds: the tasks in arrays, over moments, and what it finds there.
+use mathlib.Core.Path.{_≡_}
+use mathlib.Core.Bool.{Bool, false, not, _&&_}
+use mathlib.Core.List.{List, []}
+use Prim.Native.Nat.{ℕ, _+_, _≤_, _<_, max}
+use lib.Dec.{eqb, ltb}
+use lib.IntN.{ℤ}
+use lib.ListN.{getD}
+use Rattle.integers.specs.Moments.{instant, zeroAt}
+use Rattle.scheduling.specs.Scheduling.{natural, Tasks, TaskSet}
+use Rattle.checker.specs.Formulas.{ectOf}
+use Rattle.checker.specs.Holding.{Held, Late}
+
+-- task j of the arrays must come before task i
+abbrev pub precedesAt : List ℕ → List ℕ → List ℕ → ℕ → ℕ → Bool
+precedesAt est lst durations i j = not (eqb j i) && ltb (getD lst j 0) (getD est i 0 + getD durations i 0)
+
+module _ (J : Tasks natural) (i : ℕ) where
+  -- the tasks that must come before task i
+  abbrev pub comesBefore : TaskSet
+  comesBefore j = not (eqb j i) && ltb (J .latest j) (J .earliest i + J .duration i)
+
+  -- their ect, 0 where there are none
+  abbrev pub boundAt : ℕ
+  boundAt = ectOf J comesBefore
+
+  -- the earliest start, raised
+  abbrev pub raisedAt : ℕ
+  raisedAt = max (J .earliest i) boundAt
+
+-- The arrays hold the ranges and the durations of n tasks.
+pub record Ranged (n : ℕ) (est lst durations : List ℕ) : Type 0 where
+  pub J : Tasks natural
+  pub held : Held J (λ _. false) n [] est durations
+  pub late : Late J n lst
+
+-- r is the first of n tasks whose raised start is past its latest start, or n
+pub record FirstPast (raised lst : List ℕ) (n r : ℕ) : Type 0 where
+  pub small : r ≤ n
+  pub past : r < n → getD lst r 0 < getD raised r 0
+  pub none-before : (k : ℕ) → k < r → getD raised k 0 ≤ getD lst k 0
+
+-- the whole number at task k's moment
+abbrev pub startAt : List ℕ → ℕ → ℤ
+startAt starts k = instant zeroAt (getD starts k 0)
