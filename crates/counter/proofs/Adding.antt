@@ -11,10 +11,10 @@ use lib.IntN.{ℤ}
 use lib.ListN.{length, getD, set, take}
 use lib.Seq.{getD-take}
 use borrow.Author.Tests.{lt-ltb, le-ltb}
-use Rattle.integers.specs.Limits.{TASKS, DURATIONS}
+use Rattle.integers.specs.Limits.{TASKS}
 use Rattle.integers.specs.Filling.{filled}
 use Rattle.integers.specs.Orders.{index, numbers, sort}
-use Rattle.scheduling.specs.Scheduling.{natural, Tasks, TaskSet, completion, total}
+use Rattle.scheduling.specs.Scheduling.{natural, Tasks, TaskSet, completion}
 use Rattle.trees.specs.declared.theta_tree.ThetaTree.{ThetaTree}
 use Rattle.trees.specs.Leaves.{Leaf, white, IsPlainTree}
 use Rattle.trees.specs.Mappings.{PlainNew}
@@ -27,7 +27,7 @@ use Rattle.records.specs.declared.record.Propagator.{Propagator}
 use Rattle.records.specs.Orders.{byKey, noTasks, sortedOrder, momentAt, completionAt, largestKey}
 use Rattle.records.specs.Records.{momentsIn}
 use Rattle.records.specs.Refusals.{AcceptedInput}
-use Rattle.records.proofs.Accepting.{count, durations-at, sum-fits, proper, between, completion-small, moments-at, completions-are, completions-at}
+use Rattle.records.proofs.Accepting.{count, completion-small, completions-are, completions-at}
 use Rattle.checker.specs.Formulas.{order, colours, ectOf}
 use Rattle.checker.specs.Holding.{Held}
 use Rattle.checker.proofs.Colouring.{sorted-numbers, limited, front-is}

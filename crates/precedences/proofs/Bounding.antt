@@ -1,24 +1,23 @@
 -- The bounds over whole numbers, and what the code finds over their moments.
 -- Assumes nothing.
-use mathlib.Core.Path.{_≡_, refl, sym, ap, subst, _∙_}
-use mathlib.Core.Bool.{Bool, true, false, not, _&&_}
+use mathlib.Core.Path.{_≡_, sym, ap, subst, _∙_}
+use mathlib.Core.Bool.{Bool, not, _&&_}
 use mathlib.Core.Logic.{_⊎_, inl, inr}
-use Prim.Native.Nat.{ℕ, _+_, _≤_, _<_, max}
+use Prim.Native.Nat.{ℕ, _≤_, _<_}
 use native.Mathlib.Omega.{arith}
 use native.Mathlib.Decide.{decLt}
 use lib.Dec.{eqb, ltb}
 use lib.IntN.{ℤ, pos, _+ℤ_}
-use lib.Signed.{ltZ, _≤ℤ_, _<ℤ_, ≤ℤ-refl}
+use lib.Signed.{ltZ, _≤ℤ_, _<ℤ_}
 use borrow.Author.Tests.{lt-ltb, le-ltb}
 use Rattle.integers.specs.Moments.{moment, Above, instant, zeroAt}
 use Rattle.integers.proofs.Bools.{bool}
 use Rattle.integers.proofs.Ints.{ints}
-use Rattle.integers.proofs.Moments.{at-moment, above-up, mono, reflect, reflect<, plus, plus-above, instant-above, moment-instant, instant-moment}
-use Rattle.scheduling.specs.Scheduling.{whole, natural, Tasks, Proper, TaskSet, Largest, In, NonEmpty, EstPlusP, Ect}
+use Rattle.integers.proofs.Moments.{at-moment, above-up, reflect, reflect<, plus, plus-above, instant-above, moment-instant, instant-moment}
+use Rattle.scheduling.specs.Scheduling.{whole, natural, Tasks, Proper, TaskSet, Largest, NonEmpty, EstPlusP, Ect}
 use Rattle.scheduling.proofs.Agreement.{set-ect}
 use Rattle.scheduling.proofs.Sets.{top}
 use Rattle.scheduling.proofs.Transfer.{moments, sound, Is, ect→, ect←, part-above}
-use Rattle.checker.specs.Formulas.{ectOf}
 use Rattle.checker.proofs.Gathering.{ect-is, ect-none}
 use Rattle.precedences.specs.Precedences.{predecessors, PrecedenceBound}
 use Rattle.precedences.specs.Holding.{comesBefore, boundAt, raisedAt}

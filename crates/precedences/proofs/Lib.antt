@@ -2,3 +2,6 @@ pub mod Ranging
 pub mod Soundness
 pub mod Bounding
 pub mod Passing
+pub mod Members
+pub mod Explaining
+pub mod Refusing

@@ -3,12 +3,12 @@
 use mathlib.Core.Path.{_≡_, refl, sym, ap, subst, _∙_}
 use mathlib.Core.Bool.{Bool, true, false}
 use mathlib.Core.List.{List}
-use mathlib.Core.Logic.{_⊎_, inl, inr, _↔_}
-use Prim.Native.Nat.{ℕ, _≤_, _<_, max}
+use mathlib.Core.Logic.{_⊎_, inl, inr}
+use Prim.Native.Nat.{ℕ, _≤_, _<_}
 use native.Mathlib.Omega.{arith}
 use native.Mathlib.Decide.{decLt}
 use lib.IntN.{ℤ, pos}
-use lib.Signed.{_≤ℤ_, _<ℤ_, clashℤ, <ℤ-≤ℤ-trans}
+use lib.Signed.{_≤ℤ_, clashℤ, <ℤ-≤ℤ-trans}
 use lib.ListN.{length, getD, length-replicate}
 use Rattle.integers.specs.Filling.{filled}
 use Rattle.integers.specs.Limits.{TASKS}
@@ -25,8 +25,8 @@ use Rattle.records.proofs.Refused.{accepted-input}
 use Rattle.checker.proofs.Ranging.{held, late}
 use Rattle.precedences.specs.declared.answers.Precedences.{Precedences}
 use Rattle.precedences.specs.declared.answers.Precedences.the-variants.{Done, Emptied, Refused}
-use Rattle.precedences.specs.Precedences.{PrecedenceBound, FirstEmptied, NoneEmptied, Passed, Preceded}
-use Rattle.precedences.specs.Holding.{boundAt, raisedAt, startAt, Ranged, FirstPast}
+use Rattle.precedences.specs.Precedences.{PrecedenceBound, FirstEmptied, NoneEmptied, LeftPrecedences, RanPrecedences}
+use Rattle.precedences.specs.Holding.{raisedAt, startAt, Ranged, FirstPast}
 use Rattle.precedences.proofs.Soundness.{bound-sound}
 use Rattle.precedences.proofs.Bounding.{passes, fits, raised-is}
 
@@ -51,7 +51,7 @@ module _ (J : Tasks whole) (ok : Proper J) where
   none-starts : (i : ℕ) → FirstEmptied J i → (s : ℕ → ℤ) → Schedule J s → ⊥
   none-starts i a s h = clashℤ (<ℤ-≤ℤ-trans (a .passes) (bound-sound J ok s h i (a .small) (a .bound) (a .is-bound))) (h .to i (a .small))
 
-  pub ended-emptied : (es : List ℤ) (i : ℕ) → FirstEmptied J i → Passed J es (Emptied i) es
+  pub ended-emptied : (es : List ℤ) (i : ℕ) → FirstEmptied J i → LeftPrecedences J es (Emptied i) es
   ended-emptied es i a = record {
     emptied = λ k. (λ e. (let z : i ≡ k = cc e in subst (FirstEmptied J) z a), λ b. ap Emptied (one-lowest i k a b));
     done = (λ e. clash (ap isDone e) refl, λ f. absurd (clashℤ (a .passes) (f i (a .small) (a .bound) (a .is-bound))));
@@ -63,7 +63,7 @@ module _ (J : Tasks whole) (ok : Proper J) where
   }
 
   pub ended-done : (es es′ : List ℤ) → NoneEmptied J → length es′ ≡ length es
-      → ((i : ℕ) → i < J .count → Largest whole (λ v. (J .earliest i ≡ v) ⊎ PrecedenceBound J i v) (getD es′ i (pos 0))) → Passed J es Done es′
+      → ((i : ℕ) → i < J .count → Largest whole (λ v. (J .earliest i ≡ v) ⊎ PrecedenceBound J i v) (getD es′ i (pos 0))) → LeftPrecedences J es Done es′
   ended-done es es′ none size starts = record {
     emptied = λ k. (λ e. clash (ap isDone (sym e)) refl, λ a. absurd (clashℤ (a .passes) (none k (a .small) (a .bound) (a .is-bound))));
     done = (λ _. none, λ _. refl);
@@ -104,12 +104,12 @@ module _ (r : Propagator) (es ls : List ℤ) (a : AcceptedInput r es ls) (long :
     not-past : (k : ℕ) → k < r .count → k < i → (b : ℤ) → PrecedenceBound Z k b → b ≤ℤ Z .latest k
     not-past k q h = fits Z fine (above r es ls a long) k (known q) (omega (arith, p .none-before k h, raised-at k q, latest-at k q))
 
-    pub some-past : i < r .count → Passed (tasksIn r es ls) es (Emptied i) es
+    pub some-past : i < r .count → LeftPrecedences (tasksIn r es ls) es (Emptied i) es
     some-past q =
         let w = passes Z fine (above r es ls a long) i (known q) (omega (arith, p .past q, raised-at i q, latest-at i q, proper r es ls a long .ranges i (known q))) in
         ended-emptied Z fine es i (record { small = known q; bound = w .0; is-bound = w .1; passes = w .2; lowest = λ k h. not-past k (omega arith) h })
 
-    pub none-past : r .count ≤ i → {es′ : List ℤ} → es′ ≡ filled (startAt raised) (length es) es → Passed (tasksIn r es ls) es Done es′
+    pub none-past : r .count ≤ i → {es′ : List ℤ} → es′ ≡ filled (startAt raised) (length es) es → LeftPrecedences (tasksIn r es ls) es Done es′
     none-past h {es′} y = ended-done Z fine es es′ (λ k q. not-past k (small q) (omega (arith, small q))) (ap length y ∙ filled-length (startAt raised) (length es) es) starts
       where
         start-at : (k : ℕ) → k < r .count → getD es′ k (pos 0) ≡ instant zeroAt (raisedAt M k)
@@ -119,8 +119,8 @@ module _ (r : Propagator) (es ls : List ℤ) (a : AcceptedInput r es ls) (long :
         starts k q = subst (Largest whole (λ v. (Z .earliest k ≡ v) ⊎ PrecedenceBound Z k v)) (sym (start-at k (small q))) (raised-is Z fine (above r es ls a long) k q)
 
 -- The contract, of a record and ranges that are accepted, and of others.
-pub went : (before : Propagator) (es ls : List ℤ) (r : Precedences) (es′ : List ℤ) → AcceptedInput before es ls → Passed (tasksIn before es ls) es r es′ → Preceded before es ls r es′
-went before es ls r es′ a p = record { refused = λ h. absurd (h (accepted-input before es ls .1 a)); passed = λ _. p }
+pub went : (before : Propagator) (es ls : List ℤ) (r : Precedences) (es′ : List ℤ) → AcceptedInput before es ls → LeftPrecedences (tasksIn before es ls) es r es′ → RanPrecedences before es ls r es′
+went before es ls r es′ a p = record { refused = λ h. absurd (h (accepted-input before es ls .1 a)); ran = λ _. p }
 
-pub turned-back : (before : Propagator) (es ls : List ℤ) (r : Precedences) (es′ : List ℤ) → (inputNumber before es ls ≡ 0 → ⊥) → r ≡ Refused (inputNumber before es ls) → es′ ≡ es → Preceded before es ls r es′
-turned-back before es ls r es′ h z y = record { refused = λ _. record { answer = z; starts = y }; passed = λ e. absurd (h e) }
+pub turned-back : (before : Propagator) (es ls : List ℤ) (r : Precedences) (es′ : List ℤ) → (inputNumber before es ls ≡ 0 → ⊥) → r ≡ Refused (inputNumber before es ls) → es′ ≡ es → RanPrecedences before es ls r es′
+turned-back before es ls r es′ h z y = record { refused = λ _. record { answer = z; starts = y }; ran = λ e. absurd (h e) }

@@ -1,16 +1,14 @@
 -- What the arrays hold of the tasks that must come before a task.
 -- Assumes nothing.
-use mathlib.Core.Path.{_≡_, refl, ap, _∙_}
-use mathlib.Core.Bool.{Bool, false, not, _&&_}
+use mathlib.Core.Path.{_≡_, ap, _∙_}
+use mathlib.Core.Bool.{Bool, false}
 use mathlib.Core.List.{List}
-use Prim.Native.Nat.{ℕ, _+_, _≤_, _<_}
+use Prim.Native.Nat.{ℕ, _+_, _<_}
 use native.Mathlib.Omega.{arith}
-use lib.Dec.{eqb, ltb}
-use lib.ListN.{length, getD, replicate, length-replicate}
+use lib.ListN.{getD, replicate, length-replicate}
 use Rattle.integers.specs.Limits.{TASKS}
 use Rattle.integers.specs.Filling.{filled}
 use Rattle.integers.proofs.Filling.{filled-at}
-use Rattle.scheduling.specs.Scheduling.{natural, Tasks}
 use Rattle.checker.specs.Holding.{Held}
 use Rattle.checker.proofs.Steps.{completion-fits}
 use Rattle.precedences.specs.Holding.{precedesAt, comesBefore, Ranged}

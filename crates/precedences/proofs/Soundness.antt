@@ -1,19 +1,19 @@
 -- Why a bound holds: no task that comes before i can come after it, so all of them end by i's start. This asks nothing of other ranges.
 -- Assumes nothing.
-use mathlib.Core.Path.{_≡_, refl, sym, ap, subst, _∙_}
-use mathlib.Core.Bool.{true, not, _&&_}
-use mathlib.Core.Logic.{_⊎_, inl, inr}
-use Prim.Native.Nat.{ℕ, _+_, _≤_, _<_, max}
+use mathlib.Core.Path.{_≡_, refl, subst}
+use mathlib.Core.Bool.{true, not}
+use mathlib.Core.Logic.{inl, inr}
+use Prim.Native.Nat.{ℕ, _≤_, _<_, max}
 use native.Mathlib.Omega.{arith}
 use lib.Dec.{eqb}
 use lib.IntN.{ℤ, pos, _+ℤ_}
-use lib.Signed.{ltZ, _≤ℤ_, _<ℤ_}
+use lib.Signed.{ltZ, _≤ℤ_}
 use borrow.Author.Tests.{eqb-false, not-true}
 use Rattle.integers.specs.Moments.{moment, Above}
 use Rattle.integers.proofs.Bools.{and-true}
 use Rattle.integers.proofs.Ints.{up, dn, ints, sumℤ}
 use Rattle.integers.proofs.Moments.{mono, reflect, plus, plus-above, deep, more-above, above-up}
-use Rattle.scheduling.specs.Scheduling.{whole, natural, Tasks, Proper, TaskSet, In, processing, EstPlusP, NoOverlap, Schedule}
+use Rattle.scheduling.specs.Scheduling.{whole, Tasks, Proper, TaskSet, In, processing, EstPlusP, NoOverlap, Schedule}
 use Rattle.scheduling.proofs.Transfer.{moments}
 use Rattle.scheduling.proofs.Windows as nat
 use Rattle.precedences.specs.Precedences.{predecessors, PrecedenceBound}

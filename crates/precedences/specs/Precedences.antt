@@ -39,7 +39,7 @@ module _ (J : Tasks whole) where
   -- An accepted pass, from the earliest starts es to es′. It ends Emptied exactly with the lowest task whose bound passes its latest start, and no start
   -- changes; then there is no schedule. Else it is Done: each start is the larger of its old value and its bound, both from the ranges at entry,
   -- and every schedule starts each task at or after that.
-  pub record Passed (es : List ℤ) (r : Precedences) (es′ : List ℤ) : Type 0 where
+  pub record LeftPrecedences (es : List ℤ) (r : Precedences) (es′ : List ℤ) : Type 0 where
     pub emptied : (i : ℕ) → (r ≡ Emptied i) ↔ FirstEmptied i
     pub done : (r ≡ Done) ↔ NoneEmptied
     pub kept : (i : ℕ) → r ≡ Emptied i → es′ ≡ es
@@ -49,11 +49,11 @@ module _ (J : Tasks whole) where
     pub holds : r ≡ Done → (s : ℕ → ℤ) → Schedule J s → (i : ℕ) → i < J .count → getD es′ i (pos 0) ≤ℤ s i
 
 -- A refused pass changes no start.
-pub record Kept (es : List ℤ) (number : ℕ) (r : Precedences) (es′ : List ℤ) : Type 0 where
+pub record KeptStarts (es : List ℤ) (number : ℕ) (r : Precedences) (es′ : List ℤ) : Type 0 where
   pub answer : r ≡ Refused number
   pub starts : es′ ≡ es
 
 -- The first of a run's tests on the record and its ranges that fails turns the pass back.
-pub record Preceded (before : Propagator) (es ls : List ℤ) (r : Precedences) (es′ : List ℤ) : Type 0 where
-  pub refused : (inputNumber before es ls ≡ 0 → ⊥) → Kept es (inputNumber before es ls) r es′
-  pub passed : inputNumber before es ls ≡ 0 → Passed (tasksIn before es ls) es r es′
+pub record RanPrecedences (before : Propagator) (es ls : List ℤ) (r : Precedences) (es′ : List ℤ) : Type 0 where
+  pub refused : (inputNumber before es ls ≡ 0 → ⊥) → KeptStarts es (inputNumber before es ls) r es′
+  pub ran : inputNumber before es ls ≡ 0 → LeftPrecedences (tasksIn before es ls) es r es′

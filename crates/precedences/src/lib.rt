@@ -2,3 +2,4 @@
 pub mod answers;
 pub mod pass;
 pub mod predecessors;
+pub mod reasons;

@@ -15,7 +15,7 @@ ghost use Rattle.records.specs.Orders.{noTasks};
 ghost use Rattle.records.specs.Records.{tasksIn};
 ghost use Rattle.records.specs.Refusals.{AcceptedInput};
 ghost use Rattle.precedences.specs.Holding.{raisedAt, startAt, Ranged, FirstPast};
-ghost use Rattle.precedences.specs.Precedences.{Passed, Preceded};
+ghost use Rattle.precedences.specs.Precedences.{LeftPrecedences, RanPrecedences};
 
 // Each of n tasks' earliest start or bound, whichever is later.
 fn raised_starts<'a>(
@@ -66,7 +66,7 @@ fn store(earliest: &mut [i32], raised: &[u32; 48])
 // The pass on a record and ranges that nothing turns back.
 fn accepted(record: Propagator, earliest: &mut [i32], latest: &[i32]) -> Precedences
     requires { ⌜ AcceptedInput «record» (now earliest) (now latest) ⌝ }
-    ensures { λ r. ⌜ Passed (tasksIn «record» (now (earliest .entry)) (now (latest .entry))) (now (earliest .entry)) r (now (earliest .exit)) ⌝ }
+    ensures { λ r. ⌜ LeftPrecedences (tasksIn «record» (now (earliest .entry)) (now (latest .entry))) (now (earliest .entry)) r (now (earliest .exit)) ⌝ }
 {
     let n = record.count;
     let durations = record.durations;
@@ -85,7 +85,7 @@ fn accepted(record: Propagator, earliest: &mut [i32], latest: &[i32]) -> Precede
 
 // Raises each earliest start to the ect of the tasks that must come before its task, where that is later.
 pub fn precedences(record: Propagator, earliest: &mut [i32], latest: &[i32]) -> Precedences
-    ensures { λ r. ⌜ Preceded «record» (now (earliest .entry)) (now (latest .entry)) r (now (earliest .exit)) ⌝ }
+    ensures { λ r. ⌜ RanPrecedences «record» (now (earliest .entry)) (now (latest .entry)) r (now (earliest .exit)) ⌝ }
 {
     let number = input_refusal(
         record.count,

@@ -1,7 +1,6 @@
 -- `precedences::pass::accepted` meets its contract.
 -- Assumes nothing.
 use mathlib.Core.Path.{_≡_}
-use native.Mathlib.Omega.{arith}
 use lib.ListN.{length}
 use Rattle.integers.specs.Limits.{TASKS}
 use Rattle.precedences.specs.Holding.{Ranged}

@@ -1,6 +1,6 @@
 -- `precedences::pass::precedences` meets its contract.
 -- Assumes nothing.
-use mathlib.Core.Path.{_≡_, refl, sym, ap, _∙_}
+use mathlib.Core.Path.{refl, sym, ap, _∙_}
 use Rattle.records.specs.Refusals.{AcceptedInput}
 use Rattle.records.proofs.Refused.{accepted-input}
 use Rattle.precedences.specs.declared.answers.Precedences.the-variants.{Refused}

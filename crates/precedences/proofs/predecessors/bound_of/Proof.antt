@@ -2,7 +2,6 @@
 -- Assumes nothing.
 use Rattle.precedences.specs.Holding.{comesBefore}
 use Rattle.precedences.proofs.Ranging.{end-fits, chosen}
-use borrow.Author.Needs.{needs}
 use Rattle.precedences.proofs.predecessors.bound_of.Statement.{statement}
 use Rattle.precedences.proofs.predecessors.bound_of.Tie as tie
 

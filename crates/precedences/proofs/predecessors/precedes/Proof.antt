@@ -1,8 +1,6 @@
 -- `precedences::predecessors::precedes` meets its contract.
 -- Assumes nothing.
-use mathlib.Core.Path.{sym}
 use borrow.Author.Tests.{eq-eqb, ne-eqb}
-use borrow.Author.Needs.{needs}
 use Rattle.precedences.proofs.predecessors.precedes.Statement.{statement}
 use Rattle.precedences.proofs.predecessors.precedes.Tie as tie
 
