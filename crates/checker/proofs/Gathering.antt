@@ -18,6 +18,7 @@ use Rattle.integers.proofs.Permutations.{Ordered, numbers-length, numbers-permu
 use Rattle.integers.proofs.Sorting.{sort-length, sort-ordered, key-whole, key-chain}
 use Rattle.scheduling.specs.Scheduling.{natural, Tasks, Proper, TaskSet, In, NonEmpty, Est, Lct, Ect, completion}
 use Rattle.scheduling.proofs.Scan.{ByEarliest}
+use Rattle.scheduling.proofs.Sets.{Empty}
 use Rattle.trees.specs.Leaves.{Leaf, empty, white, inTheta, inLambda}
 use Rattle.trees.proofs.Roots as tree
 use Rattle.checker.specs.Formulas.{any, lowest, highest, order, ectOf}
@@ -189,3 +190,7 @@ module _ (J : Tasks natural) where
 
       pub ect-is : NonEmpty J Ω → Ect J Ω (ectOf J Ω)
       ect-is = tree.ect-of J ok first by-order (map colour first) Ω (λ _. false) shape
+
+      -- and 0 where there is no task
+      pub ect-none : Empty Ω n → ectOf J Ω ≡ 0
+      ect-none = tree.ect-none J ok first by-order (map colour first) Ω (λ _. false) shape

@@ -1,6 +1,7 @@
 pub mod Gathering
 pub mod Steps
 pub mod Colouring
+pub mod Ranging
 pub mod Judging
 pub mod Formulas
 pub mod Soundness

@@ -11,10 +11,10 @@ use lib.IntN.{ℤ}
 use lib.ListN.{length, getD, set, take}
 use lib.Seq.{getD-take}
 use borrow.Author.Tests.{lt-ltb, le-ltb}
-use Rattle.integers.specs.Limits.{TASKS, DURATIONS}
+use Rattle.integers.specs.Limits.{TASKS}
 use Rattle.integers.specs.Filling.{filled}
 use Rattle.integers.specs.Orders.{index, numbers, sort}
-use Rattle.scheduling.specs.Scheduling.{natural, Tasks, TaskSet, completion, total}
+use Rattle.scheduling.specs.Scheduling.{natural, Tasks, TaskSet, completion}
 use Rattle.trees.specs.declared.theta_tree.ThetaTree.{ThetaTree}
 use Rattle.trees.specs.Leaves.{Leaf, white, IsPlainTree}
 use Rattle.trees.specs.Mappings.{PlainNew}
@@ -27,11 +27,12 @@ use Rattle.records.specs.declared.record.Propagator.{Propagator}
 use Rattle.records.specs.Orders.{byKey, noTasks, sortedOrder, momentAt, completionAt, largestKey}
 use Rattle.records.specs.Records.{momentsIn}
 use Rattle.records.specs.Refusals.{AcceptedInput}
-use Rattle.records.proofs.Accepting.{count, durations-at, sum-fits, proper, between, completion-small, moments-at, completions-are, completions-at}
+use Rattle.records.proofs.Accepting.{count, completion-small, completions-are, completions-at}
 use Rattle.checker.specs.Formulas.{order, colours, ectOf}
 use Rattle.checker.specs.Holding.{Held}
 use Rattle.checker.proofs.Colouring.{sorted-numbers, limited, front-is}
 use Rattle.checker.proofs.Gathering.{by-order}
+use Rattle.checker.proofs.Ranging.{held as in-arrays, late}
 use Rattle.counter.specs.Reading.{byCompletion, read, overloadsAt, answerFrom, answerOf}
 use Rattle.counter.specs.Holding.{noTask, Readable}
 use Rattle.counter.proofs.Reading.{by-completion, read-none, all-blank, next-coloured}
@@ -114,26 +115,14 @@ module _ (r : Propagator) (es ls : List ℤ) (a : AcceptedInput r es ls) (long :
   abbrev M : Tasks natural
   M = momentsIn r es ls
 
-  starts : (k : ℕ) → k < r .count → getD est k 0 ≡ M .earliest k
-  starts k q = ap (λ (o : List ℕ). getD o k 0) e ∙ moments-at r es ls a long es (a .counts .earliest) k q
-
   latest : (k : ℕ) → k < r .count → getD lst k 0 ≡ M .latest k
-  latest k q = ap (λ (o : List ℕ). getD o k 0) l ∙ moments-at r es ls a long ls (a .counts .latest) k q
+  latest k q = late r es ls a long l .at k q
 
   pub keys-small : (k : ℕ) → k < r .count → completionAt lst (r .durations) k ≤ largestKey
   keys-small k q = omega (arith, completions-are r es ls a long lst latest k q, completion-small r es ls a long k q)
 
   pub held : Held M noTask (r .count) [] est (r .durations)
-  held = record {
-    proper = proper r es ls a long;
-    count = count r es ls a long;
-    few = a .lawful .few;
-    member = λ k q. refl;
-    start = starts;
-    lasts = durations-at r es ls a long;
-    early = λ k q. (let z : k < M .count = omega (arith, count r es ls a long) in omega (arith, between r es ls a long k z .1, between r es ls a long k z .2));
-    sum = subst (λ (m : ℕ). total (M .duration) m ≤ DURATIONS) (count r es ls a long) (sum-fits r es ls a long);
-  }
+  held = in-arrays r es ls a long e (λ k q. refl)
 
   module _ {lct : List ℕ} (c : lct ≡ filled (completionAt lst (r .durations)) (r .count) noTasks) where
     pub ends : (k : ℕ) → k < r .count → getD lct k 0 ≡ completion M k

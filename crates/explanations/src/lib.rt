@@ -13,9 +13,9 @@ use integers::start_of;
 use integers::word_of;
 
 // An atom's kinds.
-const AT_LEAST: i32 = 0;
+pub const AT_LEAST: i32 = 0;
 
-const AT_MOST: i32 = 1;
+pub const AT_MOST: i32 = 1;
 
 // The j-th post's four words.
 pub fn write_post(posts: &mut [i32], j: usize, task: usize, bound: u32, first: usize, count: usize)
@@ -30,7 +30,7 @@ pub fn write_post(posts: &mut [i32], j: usize, task: usize, bound: u32, first: u
 }
 
 // The k-th atom's three words: its variable is a task, its value the whole number at a moment.
-fn write_atom(atoms: &mut [i32], k: usize, task: usize, kind: i32, value: u32)
+pub fn write_atom(atoms: &mut [i32], k: usize, task: usize, kind: i32, value: u32)
     requires { ⌜ (3 * k + 3 ≤ length (now atoms)) × (task < TASKS) ⌝ }
     ensures { λ _. ⌜ now (atoms .exit) ≡ sets (now (atoms .entry)) (3 * k) (pos task ∷ kind ∷ instant zeroAt value ∷ []) ⌝ }
 {

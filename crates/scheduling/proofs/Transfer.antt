@@ -106,7 +106,7 @@ module _ (o : ℕ) where
       sum = omega (arith, plus o (f .start) (processing J (f .part)) (est-above (f .part) (f .start) (f .est)), ap (moment o) (f .sum), processing-eq (f .part));
     }
 
-    part-above : (Ω : TaskSet) (v : ℤ) → EstPlusP J Ω v → Above o v
+    pub part-above : (Ω : TaskSet) (v : ℤ) → EstPlusP J Ω v → Above o v
     part-above Ω v f = subst (Above o) (f .sum) (plus-above o (f .start) (processing J (f .part)) (est-above (f .part) (f .start) (f .est)))
 
     part← : (Ω : TaskSet) (m : ℕ) → EstPlusP N Ω m → Is (EstPlusP J Ω) m
@@ -119,10 +119,10 @@ module _ (o : ℕ) where
           holds = record { part = f .part; within = λ k h. f .within k (in→ h); start = s .at; est = s .holds; sum = refl };
         }
 
-    ect→ : (Ω : TaskSet) (v : ℤ) → Ect J Ω v → Ect N Ω (moment o v)
+    pub ect→ : (Ω : TaskSet) (v : ℤ) → Ect J Ω v → Ect N Ω (moment o v)
     ect→ Ω v e = record { holds = part→ Ω v (e .holds); bounds = λ w f. let g : Is (EstPlusP J Ω) w = part← Ω w f in omega (arith, g .is, mono o (g .at) v (e .bounds (g .at) (g .holds))) }
 
-    ect← : (Ω : TaskSet) (m : ℕ) → Ect N Ω m → Is (Ect J Ω) m
+    pub ect← : (Ω : TaskSet) (m : ℕ) → Ect N Ω m → Is (Ect J Ω) m
     ect← Ω m e =
         let g : Is (EstPlusP J Ω) m = part← Ω m (e .holds) in
         record {

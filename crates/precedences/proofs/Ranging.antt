@@ -1,0 +1,35 @@
+-- What the arrays hold of the tasks that must come before a task.
+-- Assumes nothing.
+use mathlib.Core.Path.{_≡_, ap, _∙_}
+use mathlib.Core.Bool.{Bool, false}
+use mathlib.Core.List.{List}
+use Prim.Native.Nat.{ℕ, _+_, _<_}
+use native.Mathlib.Omega.{arith}
+use lib.ListN.{getD, replicate, length-replicate}
+use Rattle.integers.specs.Limits.{TASKS}
+use Rattle.integers.specs.Filling.{filled}
+use Rattle.integers.proofs.Filling.{filled-at}
+use Rattle.checker.specs.Holding.{Held}
+use Rattle.checker.proofs.Steps.{completion-fits}
+use Rattle.precedences.specs.Holding.{precedesAt, comesBefore, Ranged}
+
+module _ {n : ℕ} {est lst durations : List ℕ} (f : Ranged n est lst durations) (i : ℕ) (q : i < n) where
+  -- the moment before which their latest starts lie
+  pub end-fits : getD est i 0 + getD durations i 0 < 4294967296
+  end-fits = omega (arith, completion-fits (f .held) (f .late) i q, f .held .start i q, f .late .at i q, f .held .proper .ranges i (omega (arith, f .held .count)))
+
+  precedes-is : (k : ℕ) → k < n → precedesAt est lst durations i k ≡ comesBefore (f .J) i k
+  precedes-is k r = rw (f .late .at k r, f .held .start i q, f .held .lasts i q)
+
+  pub chosen : {before : List Bool} → before ≡ filled (precedesAt est lst durations i) n (replicate TASKS false) → Held (f .J) (comesBefore (f .J) i) n before est durations
+  chosen e = let h = f .held in
+      record {
+        proper = h .proper;
+        count = h .count;
+        few = h .few;
+        member = λ k r. ap (λ (l : List Bool). getD l k false) e ∙ filled-at (precedesAt est lst durations i) n (replicate TASKS false) false k r (omega (arith, length-replicate TASKS false, h .few)) ∙ precedes-is k r;
+        start = h .start;
+        lasts = h .lasts;
+        early = h .early;
+        sum = h .sum;
+      }

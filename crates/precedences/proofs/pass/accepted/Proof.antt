@@ -1,0 +1,87 @@
+-- `precedences::pass::accepted` meets its contract.
+-- Assumes nothing.
+use mathlib.Core.Path.{_≡_}
+use lib.ListN.{length}
+use Rattle.integers.specs.Limits.{TASKS}
+use Rattle.precedences.specs.Holding.{Ranged}
+use Rattle.precedences.proofs.Passing.{ranged, some-past, none-past}
+use borrow.Author.Needs.{needs}
+use Rattle.precedences.proofs.pass.accepted.Statement.{statement}
+use Rattle.precedences.proofs.pass.accepted.Tie as tie
+
+-- the durations have TASKS places
+long : (c : tie.Start) → length (c .args .«record» .durations) ≡ TASKS
+long c = search needs
+
+-- when both arrays of moments are filled: what each call left
+abbrev lst : tie.After-durations2 → tie.After-moments-of2
+lst c = c .before .before .before
+
+abbrev est : tie.After-durations2 → tie.After-moments-of
+est c = lst c .before .before
+
+abbrev start : tie.After-durations2 → tie.Start
+start c = est c .before .before .before .before
+
+abbrev ready : (c : tie.After-durations2) → let r = start c .args .«record» in Ranged (r .count) (est c .moments-of .last .0) (lst c .moments-of2 .last .0) (r .durations)
+ready c =
+    let s = start c in
+    let a = s .args in
+    ranged (a .«record») (a .earliest .now) (a .latest .now) (s .pre) (long s) (est c .moments-of .ensures) (lst c .moments-of2 .ensures)
+
+moments-of-requires : tie.Need-moments-of-requires
+moments-of-requires c κs = search needs
+
+moments-of-requires-2 : tie.Need-moments-of-requires-2
+moments-of-requires-2 c κs = search needs
+
+raised-starts-requires : tie.Need-raised-starts-requires
+raised-starts-requires c κs = ready c
+
+first-past-requires : tie.Need-first-past-requires
+first-past-requires c κs = search needs
+
+same-length : tie.Need-same-length
+same-length c = search needs
+
+returns : tie.Need-returns
+returns c =
+    let f = c .before in
+    let w = f .before .before .before in
+    let m = w .before in
+    let s = start m in
+    let a = s .args in
+    some-past (a .«record») (a .earliest .now) (a .latest .now) (s .pre) (long s) (est m .moments-of .ensures) (lst m .moments-of2 .ensures)
+    (w .raised-starts .ensures (ready m)) (f .first-past .result) (f .first-past .ensures) (c .if1 .taken)
+
+store-requires : tie.Need-store-requires
+store-requires c κs = search needs
+
+same-length-2 : tie.Need-same-length-2
+same-length-2 c = search needs
+
+returns-2 : tie.Need-returns-2
+returns-2 c =
+    let y = c .before in
+    let i = y .before .before .before in
+    let f = i .before in
+    let w = f .before .before .before in
+    let m = w .before in
+    let s = start m in
+    let a = s .args in
+    none-past (a .«record») (a .earliest .now) (a .latest .now) (s .pre) (long s) (est m .moments-of .ensures) (lst m .moments-of2 .ensures)
+    (w .raised-starts .ensures (ready m)) (f .first-past .result) (f .first-past .ensures) (i .if1 .left) (y .store .ensures)
+
+pub accepted-spec : {M : Type 1} → statement M
+accepted-spec =
+    tie.close
+    (tie.spec
+    moments-of-requires
+    moments-of-requires-2
+    raised-starts-requires
+    first-past-requires
+    same-length
+    returns
+    store-requires
+    same-length-2
+    returns-2)

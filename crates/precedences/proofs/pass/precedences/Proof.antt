@@ -1,0 +1,47 @@
+-- `precedences::pass::precedences` meets its contract.
+-- Assumes nothing.
+use mathlib.Core.Path.{refl, sym, ap, _∙_}
+use Rattle.records.specs.Refusals.{AcceptedInput}
+use Rattle.records.proofs.Refused.{accepted-input}
+use Rattle.precedences.specs.declared.answers.Precedences.the-variants.{Refused}
+use Rattle.precedences.proofs.Passing.{went, turned-back}
+use borrow.Author.Needs.{needs}
+use Rattle.precedences.proofs.pass.precedences.Statement.{statement}
+use Rattle.precedences.proofs.pass.precedences.Tie as tie
+
+abbrev start : tie.After-input-refusal → tie.Start
+start n = n .before .before .before .before .before .before
+
+-- no test failed
+passed : (c : tie.Else1) → let a = start (c .before) .args in AcceptedInput (a .t1) (a .earliest .now) (a .latest .now)
+passed c = let a = start (c .before) .args in accepted-input (a .t1) (a .earliest .now) (a .latest .now) .0 (sym (c .before .input-refusal .ensures) ∙ c .if1 .left)
+
+input-refusal-requires : tie.Need-input-refusal-requires
+input-refusal-requires c κs = search needs
+
+same-length : tie.Need-same-length
+same-length c = search needs
+
+returns : tie.Need-returns
+returns c =
+    let n = c .before in
+    let a = start n .args in
+    turned-back (a .t1) (a .earliest .now) (a .latest .now) _ _ (λ z. c .if1 .taken (n .input-refusal .ensures ∙ z)) (ap Refused (n .input-refusal .ensures)) refl
+
+accepted-requires : tie.Need-accepted-requires
+accepted-requires c κs = passed (c .before)
+
+same-length-2 : tie.Need-same-length-2
+same-length-2 c = search needs
+
+returns-2 : tie.Need-returns-2
+returns-2 c =
+    let y = c .before in
+    let e = y .before .before in
+    let a = start (e .before) .args in
+    went (a .t1) (a .earliest .now) (a .latest .now) _ _ (passed e) (y .accepted .ensures)
+
+pub precedences-spec : {M : Type 1} → statement M
+precedences-spec =
+    tie.close
+    (tie.spec input-refusal-requires same-length returns accepted-requires same-length-2 returns-2)

@@ -1,0 +1,86 @@
+-- `precedences::pass::raised_starts` meets its contract.
+-- Assumes nothing.
+use mathlib.Core.Path.{_≡_, sym, ap, ap₂, _∙_}
+use mathlib.Core.List.{List}
+use Prim.Native.Nat.{ℕ, _-_, _≤_, _<_, max}
+use native.Mathlib.Omega.{arith}
+use Rattle.integers.specs.Filling.{filled}
+use Rattle.integers.proofs.Filling.{filled-none, filled-store}
+use Rattle.records.specs.Orders.{noTasks}
+use Rattle.precedences.specs.Holding.{raisedAt, Ranged}
+use borrow.Author.Needs.{needs}
+use Rattle.precedences.proofs.pass.raised_starts.Statement.{statement}
+use Rattle.precedences.proofs.pass.raised_starts.Tie as tie
+
+-- the starts below i are raised
+record Loop (est lst durations : List ℕ) (n : ℕ) (raised : List ℕ) (i : ℕ) : Type 0 where
+  ranged : Ranged n est lst durations
+  at : (f : Ranged n est lst durations) → raised ≡ filled (raisedAt (f .J)) i noTasks
+  small : i ≤ n
+
+abbrev Inv-loop : tie.InvT-loop
+Inv-loop est lst durations n raised₀ i₀ raised i = Loop est lst durations n raised i
+
+abbrev μ-loop : tie.MeasureT-loop
+μ-loop est lst durations n raised₀ i₀ raised i = n - i
+
+loop-holds : tie.Need-loop-holds Inv-loop μ-loop
+loop-holds c = record { ranged = c .pre; at = λ f. sym (filled-none (raisedAt (f .J)) noTasks); small = omega arith }
+
+mul-max : tie.Need-mul-max Inv-loop μ-loop
+mul-max c = search needs
+
+element-copy-out-max : tie.Need-element-copy-out-max Inv-loop μ-loop
+element-copy-out-max c = omega (arith, c .before .loop .inv .ranged .held .few)
+
+bound-of-requires : tie.Need-bound-of-requires Inv-loop μ-loop
+bound-of-requires c κs = (c .before .before .loop .inv .ranged, omega arith)
+
+max-requires : tie.Need-max-requires Inv-loop μ-loop
+max-requires c κs = search needs
+
+mul-raised : tie.Need-mul-raised Inv-loop μ-loop
+mul-raised c = search needs
+
+array-write-raised : tie.Need-array-write-raised Inv-loop μ-loop
+array-write-raised c = search needs
+
+add-i : tie.Need-add-i Inv-loop μ-loop
+add-i c = search needs
+
+loop-less : tie.Need-loop-less Inv-loop μ-loop
+loop-less c = search needs
+
+loop-again : tie.Need-loop-again Inv-loop μ-loop
+loop-again c =
+    let l = c .before .before .before .before .loop in
+    let q : l .i < c .before .before .before .before .before .args .n = omega arith in
+    record {
+      ranged = l .inv .ranged;
+      at = λ f. filled-store (raisedAt (f .J)) noTasks (l .raised) (l .i) (c .max .result) (l .inv .at f) (c .max .ensures ∙ ap₂ max (f .held .start (l .i) q) (c .before .bound-of .ensures f));
+      small = omega arith;
+    }
+
+returns : tie.Need-returns Inv-loop μ-loop
+returns c = λ f.
+    let l = c .before .loop in
+    let e : l .i ≡ c .before .before .args .n = omega (arith, l .inv .small) in
+    l .inv .at f ∙ ap (λ (j : ℕ). filled (raisedAt (f .J)) j noTasks) e
+
+pub raised-starts-spec : {M : Type 1} → statement M
+raised-starts-spec =
+    tie.close
+    (tie.spec
+    Inv-loop
+    μ-loop
+    loop-holds
+    mul-max
+    element-copy-out-max
+    bound-of-requires
+    max-requires
+    mul-raised
+    array-write-raised
+    add-i
+    loop-less
+    loop-again
+    returns)

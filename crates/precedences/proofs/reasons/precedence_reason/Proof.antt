@@ -1,0 +1,47 @@
+-- `precedences::reasons::precedence_reason` meets its contract.
+-- Assumes nothing.
+use mathlib.Core.Path.{_≡_, refl, sym, ap, _∙_}
+use lib.ListN.{length}
+use Rattle.precedences.specs.declared.answers.Reason.the-variants.{Refused}
+use Rattle.precedences.specs.Reasons.{reasonNumber}
+use Rattle.precedences.proofs.Explaining.{given, turned-back}
+use Rattle.precedences.proofs.Refusing.{accepted-reason}
+use borrow.Author.Needs.{needs}
+use Rattle.precedences.proofs.reasons.precedence_reason.Statement.{statement}
+use Rattle.precedences.proofs.reasons.precedence_reason.Tie as tie
+
+abbrev start : tie.After-reason-refusal → tie.Start
+start n = n .before .before .before .before .before
+
+-- no test failed
+passed : (c : tie.Else1) → let a = start (c .before) .args in reasonNumber (a .t1) (a .earliest .now) (a .latest .now) (a .task) (length (a .atoms .now)) ≡ 0
+passed c = sym (c .before .reason-refusal .ensures) ∙ c .if1 .left
+
+reason-refusal-requires : tie.Need-reason-refusal-requires
+reason-refusal-requires c κs = search needs
+
+returns : tie.Need-returns
+returns c =
+    let n = c .before in
+    let a = start n .args in
+    turned-back (a .t1) (a .earliest .now) (a .latest .now) (a .task) (a .atoms .now) _ _ (λ z. c .if1 .taken (n .reason-refusal .ensures ∙ z)) (ap Refused (n .reason-refusal .ensures)) refl
+
+accepted-reason-requires : tie.Need-accepted-reason-requires
+accepted-reason-requires c κs =
+    let a = start (c .before .before) .args in
+    accepted-reason (a .t1) (a .earliest .now) (a .latest .now) (a .task) (length (a .atoms .now)) (passed (c .before))
+
+same-length : tie.Need-same-length
+same-length c = search needs
+
+returns-2 : tie.Need-returns-2
+returns-2 c =
+    let y = c .before in
+    let e = y .before .before in
+    let a = start (e .before) .args in
+    given (a .t1) (a .earliest .now) (a .latest .now) (a .task) (a .atoms .now) _ _ (passed e) (y .accepted-reason .ensures)
+
+pub precedence-reason-spec : {M : Type 1} → statement M
+precedence-reason-spec =
+    tie.close
+    (tie.spec reason-refusal-requires returns accepted-reason-requires same-length returns-2)

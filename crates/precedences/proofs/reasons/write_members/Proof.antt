@@ -1,0 +1,96 @@
+-- `precedences::reasons::write_members` meets its contract.
+-- Assumes nothing.
+use mathlib.Core.Path.{_≡_, refl, sym, subst}
+use Prim.Native.Nat.{ℕ, _+_, _-_, _≤_, _<_}
+use native.Mathlib.Omega.{arith}
+use lib.ListN.{length}
+use Rattle.explanations.specs.Explanations.{Stored}
+use Rattle.explanations.proofs.Storing.{stored-then, stored-length}
+use Rattle.precedences.specs.Holding.{startAt, memberAt}
+use Rattle.precedences.specs.Reasons.{bothBounds}
+use Rattle.precedences.proofs.Explaining.{none-yet}
+use Rattle.precedences.proofs.Members.{both-more, part, two-of}
+use borrow.Author.Needs.{needs}
+use Rattle.precedences.proofs.reasons.write_members.Statement.{statement}
+use Rattle.precedences.proofs.reasons.write_members.Tie as tie
+
+abbrev Inv-loop : tie.InvT-loop
+Inv-loop atoms₀ members est lst n k₀ j₀ atoms k j = (j ≤ n) × (length atoms ≡ length atoms₀) × Stored atoms₀ atoms 1 k (bothBounds (startAt est) (startAt lst) (memberAt members) j)
+
+abbrev μ-loop : tie.MeasureT-loop
+μ-loop atoms₀ members est lst n k₀ j₀ atoms k j = n - j
+
+loop-holds : tie.Need-loop-holds Inv-loop μ-loop
+loop-holds c = let a = c .args in (omega arith, refl, none-yet (startAt (a .est .now)) (startAt (a .lst .now)) (memberAt (a .members .now)))
+
+element-copy-out-write-both : tie.Need-element-copy-out-write-both Inv-loop μ-loop
+element-copy-out-write-both c = search needs
+
+mul-write-both : tie.Need-mul-write-both Inv-loop μ-loop
+mul-write-both c = search needs
+
+element-copy-out-write-both-2 : tie.Need-element-copy-out-write-both-2 Inv-loop μ-loop
+element-copy-out-write-both-2 c = search needs
+
+mul-write-both-2 : tie.Need-mul-write-both-2 Inv-loop μ-loop
+mul-write-both-2 c = search needs
+
+element-copy-out-write-both-3 : tie.Need-element-copy-out-write-both-3 Inv-loop μ-loop
+element-copy-out-write-both-3 c = search needs
+
+write-both-requires : tie.Need-write-both-requires Inv-loop μ-loop
+write-both-requires c κs =
+    let l = c .before .before .before .before .before .loop in
+    let s = c .before .before .before .before .before .before in
+    let a = s .args in
+    let e = startAt (a .est .now) in
+    let v = startAt (a .lst .now) in
+    let m = memberAt (a .members .now) in
+    let q : l .j < a .n = omega arith in
+    (λ y. omega (arith, l .inv .1, l .inv .2 .count, part e v m (l .j) (a .n) q, two-of (m (l .j)) (l .j) (e (l .j)) (v (l .j)) y, s .pre .1), omega (arith, s .pre .0))
+
+add-j : tie.Need-add-j Inv-loop μ-loop
+add-j c = search needs
+
+loop-less : tie.Need-loop-less Inv-loop μ-loop
+loop-less c = search needs
+
+loop-again : tie.Need-loop-again Inv-loop μ-loop
+loop-again c =
+    let l = c .before .before .before .before .before .before .before .loop in
+    let a = c .before .before .before .before .before .before .before .before .args in
+    let e = startAt (a .est .now) in
+    let v = startAt (a .lst .now) in
+    let m = memberAt (a .members .now) in
+    let w = c .before .write-both in
+    let s : Stored (a .atoms .now) (w .last .0) 1 (w .result) (bothBounds e v m (l .j + 1)) = subst (Stored (a .atoms .now) (w .last .0) 1 (w .result)) (sym (both-more e v m (l .j))) (stored-then (l .inv .2) (w .ensures)) in
+    (omega arith, stored-length s, s)
+
+same-length : tie.Need-same-length Inv-loop μ-loop
+same-length c = search needs
+
+returns : tie.Need-returns Inv-loop μ-loop
+returns c =
+    let l = c .before .loop in
+    let a = c .before .before .args in
+    let e : l .j ≡ a .n = omega arith in
+    subst (λ (n : ℕ). Stored (a .atoms .now) (l .atoms) 1 (l .k) (bothBounds (startAt (a .est .now)) (startAt (a .lst .now)) (memberAt (a .members .now)) n)) e (l .inv .2)
+
+pub write-members-spec : {M : Type 1} → statement M
+write-members-spec =
+    tie.close
+    (tie.spec
+    Inv-loop
+    μ-loop
+    loop-holds
+    element-copy-out-write-both
+    mul-write-both
+    element-copy-out-write-both-2
+    mul-write-both-2
+    element-copy-out-write-both-3
+    write-both-requires
+    add-j
+    loop-less
+    loop-again
+    same-length
+    returns)

@@ -1,0 +1,53 @@
+-- The definitions at small tasks.
+-- Assumes nothing.
+use mathlib.Core.Path.{_≡_, refl}
+use mathlib.Core.Bool.{true, false}
+use mathlib.Core.List.{List, [], _∷_}
+use Prim.Native.Nat.{ℕ}
+use lib.IntN.{pos}
+use Rattle.integers.specs.Filling.{filled}
+use Rattle.integers.specs.Orders.{has, isPermutation}
+use Rattle.integers.specs.Tests.{allBelow, refusal}
+use Rattle.scheduling.specs.Scheduling.{whole, Tasks, tasksOf, total}
+use Rattle.records.specs.Records.{unusedAt, lawfulRecord, newRecord}
+use Rattle.precedences.specs.Precedences.{predecessors}
+use Rattle.precedences.specs.Reasons.{atLeast, atMost, bothBounds, reasonOf, reasonNumber}
+
+-- 0..6,3; 1..1,5: task 1 starts before task 0 can end, so it comes first; task 0 can still start where task 1 ends at the soonest
+F : Tasks whole
+F = tasksOf (3 ∷ 5 ∷ []) (pos 0 ∷ pos 1 ∷ []) (pos 6 ∷ pos 1 ∷ [])
+
+one-before-zero : predecessors F 0 1 ≡ true
+unfolding F
+one-before-zero = refl
+
+zero-may-follow : predecessors F 1 0 ≡ false
+unfolding F
+zero-may-follow = refl
+
+-- no task comes before itself
+not-itself : predecessors F 0 0 ≡ false
+unfolding F
+not-itself = refl
+
+-- why task 0 starts at 6 or later
+reason-of-zero : reasonOf F 0 ≡ atLeast 0 (pos 0) ∷ atLeast 1 (pos 1) ∷ atMost 1 (pos 1) ∷ []
+unfolding F bothBounds
+reason-of-zero = refl
+
+-- the reason's tests on those tasks
+number : ℕ → ℕ → ℕ
+number task words = reasonNumber (newRecord (pos 3 ∷ pos 5 ∷ [])) (pos 0 ∷ pos 1 ∷ []) (pos 6 ∷ pos 1 ∷ []) task words
+
+-- 17 is tried before 16
+no-such-task : number 2 11 ≡ 17
+unfolding number refusal lawfulRecord isPermutation allBelow unusedAt has filled total
+no-such-task = refl
+
+no-room : number 1 11 ≡ 16
+unfolding number refusal lawfulRecord isPermutation allBelow unusedAt has filled total
+no-room = refl
+
+just-room : number 1 12 ≡ 0
+unfolding number refusal lawfulRecord isPermutation allBelow unusedAt has filled total
+just-room = refl

@@ -1,0 +1,4 @@
+pub mod Precedences
+pub mod Reasons
+pub mod Holding
+pub mod Examples

@@ -1,0 +1,59 @@
+-- Precedences that can be read off the ranges: the tasks that must come before a task, the bound that they give, and what a pass by these bounds leaves.
+use mathlib.Core.Path.{_≡_}
+use mathlib.Core.Bool.{not, _&&_}
+use mathlib.Core.List.{List}
+use mathlib.Core.Logic.{_⊎_, _↔_}
+use Prim.Native.Nat.{ℕ, _<_}
+use lib.Dec.{eqb}
+use lib.IntN.{ℤ, pos, _+ℤ_}
+use lib.Signed.{ltZ, _≤ℤ_, _<ℤ_}
+use lib.ListN.{length, getD}
+use Rattle.scheduling.specs.Scheduling.{whole, Tasks, TaskSet, Largest, Ect, Schedule}
+use Rattle.records.specs.declared.record.Propagator.{Propagator}
+use Rattle.records.specs.Records.{tasksIn}
+use Rattle.records.specs.Refusals.{inputNumber}
+use Rattle.precedences.specs.declared.answers.Precedences.{Precedences}
+use Rattle.precedences.specs.declared.answers.Precedences.the-variants.{Done, Emptied, Refused}
+
+module _ (J : Tasks whole) where
+  -- P of task i: the other tasks whose latest start is below i's earliest start plus i's duration
+  abbrev pub predecessors : ℕ → TaskSet
+  predecessors i j = not (eqb j i) && ltZ (J .latest j) (J .earliest i +ℤ pos (J .duration i))
+
+  -- b is the bound of i: ect(P); where P is empty there is none
+  abbrev pub PrecedenceBound : ℕ → ℤ → Type 0
+  PrecedenceBound i = Ect J (predecessors i)
+
+  -- i is the lowest task whose bound passes its latest start
+  pub record FirstEmptied (i : ℕ) : Type 0 where
+    pub small : i < J .count
+    pub bound : ℤ
+    pub is-bound : PrecedenceBound i bound
+    pub passes : J .latest i <ℤ bound
+    pub lowest : (k : ℕ) → k < i → (b : ℤ) → PrecedenceBound k b → b ≤ℤ J .latest k
+
+  -- no bound passes a latest start
+  abbrev pub NoneEmptied : Type 0
+  NoneEmptied = (k : ℕ) → k < J .count → (b : ℤ) → PrecedenceBound k b → b ≤ℤ J .latest k
+
+  -- An accepted pass, from the earliest starts es to es′. It ends Emptied exactly with the lowest task whose bound passes its latest start, and no start
+  -- changes; then there is no schedule. Else it is Done: each start is the larger of its old value and its bound, both from the ranges at entry,
+  -- and every schedule starts each task at or after that.
+  pub record LeftPrecedences (es : List ℤ) (r : Precedences) (es′ : List ℤ) : Type 0 where
+    pub emptied : (i : ℕ) → (r ≡ Emptied i) ↔ FirstEmptied i
+    pub done : (r ≡ Done) ↔ NoneEmptied
+    pub kept : (i : ℕ) → r ≡ Emptied i → es′ ≡ es
+    pub size : length es′ ≡ length es
+    pub starts : r ≡ Done → (i : ℕ) → i < J .count → Largest whole (λ v. (J .earliest i ≡ v) ⊎ PrecedenceBound i v) (getD es′ i (pos 0))
+    pub no-schedule : (i : ℕ) → r ≡ Emptied i → (s : ℕ → ℤ) → Schedule J s → ⊥
+    pub holds : r ≡ Done → (s : ℕ → ℤ) → Schedule J s → (i : ℕ) → i < J .count → getD es′ i (pos 0) ≤ℤ s i
+
+-- A refused pass changes no start.
+pub record KeptStarts (es : List ℤ) (number : ℕ) (r : Precedences) (es′ : List ℤ) : Type 0 where
+  pub answer : r ≡ Refused number
+  pub starts : es′ ≡ es
+
+-- The first of a run's tests on the record and its ranges that fails turns the pass back.
+pub record RanPrecedences (before : Propagator) (es ls : List ℤ) (r : Precedences) (es′ : List ℤ) : Type 0 where
+  pub refused : (inputNumber before es ls ≡ 0 → ⊥) → KeptStarts es (inputNumber before es ls) r es′
+  pub ran : inputNumber before es ls ≡ 0 → LeftPrecedences (tasksIn before es ls) es r es′

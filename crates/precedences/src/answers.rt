@@ -1,0 +1,12 @@
+// How a pass ended: the earliest starts are raised; the lowest task whose bound passes its latest start; or the number that turned the input back.
+pub enum Precedences {
+    Done,
+    Emptied(usize),
+    Refused(u32),
+}
+
+// How many atoms were written, or the number that turned the input back.
+pub enum Reason {
+    Written(usize),
+    Refused(u32),
+}

@@ -1,0 +1,102 @@
+// The pass: every bound is taken from the ranges at entry; where none passes a latest start, the earliest starts are raised.
+use crate::answers::Precedences;
+use crate::predecessors::bound_of;
+use integers::start_of;
+use records::orders::moments_of;
+use records::record::Propagator;
+use records::refusals::input_refusal;
+use trees::complete_tree::max;
+ghost use mathlib.Core.Path.{_≡_};
+ghost use Prim.Native.Nat.{_≤_};
+ghost use lib.ListN.{length};
+ghost use Rattle.integers.specs.Filling.{filled};
+ghost use Rattle.integers.specs.Limits.{TASKS};
+ghost use Rattle.records.specs.Orders.{noTasks};
+ghost use Rattle.records.specs.Records.{tasksIn};
+ghost use Rattle.records.specs.Refusals.{AcceptedInput};
+ghost use Rattle.precedences.specs.Holding.{raisedAt, startAt, Ranged, FirstPast};
+ghost use Rattle.precedences.specs.Precedences.{LeftPrecedences, RanPrecedences};
+
+// Each of n tasks' earliest start or bound, whichever is later.
+fn raised_starts<'a>(
+    est: &'a [u32; 48],
+    lst: &'a [u32; 48],
+    durations: &'a [u32; 48],
+    n: usize,
+) -> [u32; 48]
+    requires { ⌜ Ranged n (now est) (now lst) (now durations) ⌝ }
+    ensures { λ r. ⌜ ((f : Ranged n (now (est .entry)) (now (lst .entry)) (now (durations .entry))) → r ≡ filled (raisedAt (f .J)) n noTasks) ⌝ }
+{
+    let mut raised = [0u32; 48];
+    let mut i = 0;
+    while i < n {
+        raised[i] = max(est[i], bound_of(est, lst, durations, n, i));
+        i += 1;
+    }
+    raised
+}
+
+// The first of n tasks whose raised start is past its latest start, or n.
+fn first_past<'a>(raised: &'a [u32; 48], lst: &'a [u32; 48], n: usize) -> usize
+    requires { ⌜ n ≤ TASKS ⌝ }
+    ensures { λ r. ⌜ FirstPast (now (raised .entry)) (now (lst .entry)) n r ⌝ }
+{
+    let mut i = 0;
+    while i < n {
+        if lst[i] < raised[i] {
+            return i;
+        }
+        i += 1;
+    }
+    n
+}
+
+// The raised starts go into the caller's slice.
+fn store(earliest: &mut [i32], raised: &[u32; 48])
+    requires { ⌜ length (now earliest) ≤ TASKS ⌝ }
+    ensures { λ _. ⌜ now (earliest .exit) ≡ filled (startAt (now (raised .entry))) (length (now (earliest .entry))) (now (earliest .entry)) ⌝ }
+{
+    let mut k = 0;
+    while k < earliest.len() {
+        earliest[k] = start_of(raised[k]);
+        k += 1;
+    }
+}
+
+// The pass on a record and ranges that nothing turns back.
+fn accepted(record: Propagator, earliest: &mut [i32], latest: &[i32]) -> Precedences
+    requires { ⌜ AcceptedInput «record» (now earliest) (now latest) ⌝ }
+    ensures { λ r. ⌜ LeftPrecedences (tasksIn «record» (now (earliest .entry)) (now (latest .entry))) (now (earliest .entry)) r (now (earliest .exit)) ⌝ }
+{
+    let n = record.count;
+    let durations = record.durations;
+    let mut est: [u32; 48] = [0; 48];
+    moments_of(&mut est, earliest);
+    let mut lst: [u32; 48] = [0; 48];
+    moments_of(&mut lst, latest);
+    let raised = raised_starts(&est, &lst, &durations, n);
+    let i = first_past(&raised, &lst, n);
+    if i < n {
+        return Precedences::Emptied(i);
+    }
+    store(earliest, &raised);
+    Precedences::Done
+}
+
+// Raises each earliest start to the ect of the tasks that must come before its task, where that is later.
+pub fn precedences(record: Propagator, earliest: &mut [i32], latest: &[i32]) -> Precedences
+    ensures { λ r. ⌜ RanPrecedences «record» (now (earliest .entry)) (now (latest .entry)) r (now (earliest .exit)) ⌝ }
+{
+    let number = input_refusal(
+        record.count,
+        &record.durations,
+        &record.first,
+        &record.second,
+        earliest,
+        latest,
+    );
+    if number != 0 {
+        return Precedences::Refused(number);
+    }
+    accepted(record, earliest, latest)
+}

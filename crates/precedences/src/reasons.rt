@@ -1,0 +1,148 @@
+// The reason of one task's bound, written as atoms.
+use crate::answers::Reason;
+use crate::predecessors::predecessors;
+use checker::theta::theta_ect;
+use explanations::AT_LEAST;
+use explanations::AT_MOST;
+use explanations::write_atom;
+use records::orders::moments_of;
+use records::record::Propagator;
+use records::refusals::input_refusal;
+ghost use mathlib.Core.Path.{_≡_};
+ghost use mathlib.Core.Bool.{true};
+ghost use Prim.Native.Nat.{_+_, _*_, _<_, _≤_};
+ghost use lib.ListN.{length};
+ghost use Rattle.integers.specs.Limits.{TASKS};
+ghost use Rattle.integers.specs.Moments.{instant, zeroAt};
+ghost use Rattle.explanations.specs.Explanations.{Stored};
+ghost use Rattle.records.specs.Records.{tasksIn, WholeOrders, recordOf};
+ghost use Rattle.records.specs.Refusals.{AcceptedInput};
+ghost use Rattle.precedences.specs.Holding.{startAt, memberAt, Ranged, ReasonLeft};
+ghost use Rattle.precedences.specs.Reasons.{bothOf, bothBounds, Explained, reasonNumber, ReasonGiven, AcceptedReason};
+
+// Both bounds of task j, where it is a member, from the k-th atom on. The number of the atom after them.
+fn write_both(atoms: &mut [i32], k: usize, j: usize, member: bool, est: u32, lst: u32) -> usize
+    requires { ⌜ (member ≡ true → 3 * k + 6 ≤ length (now atoms)) × (j < TASKS) ⌝ }
+    ensures { λ r. ⌜ Stored (now (atoms .entry)) (now (atoms .exit)) k r (bothOf member j (instant zeroAt est) (instant zeroAt lst)) ⌝ }
+{
+    if !member {
+        return k;
+    }
+    write_atom(atoms, k, j, AT_LEAST, est);
+    write_atom(atoms, k + 1, j, AT_MOST, lst);
+    k + 2
+}
+
+// Both bounds of the members of n tasks, by number, from the second atom on. The number of the atom after them.
+fn write_members<'a>(
+    atoms: &mut [i32],
+    members: &'a [bool; 48],
+    est: &'a [u32; 48],
+    lst: &'a [u32; 48],
+    n: usize,
+) -> usize
+    requires { ⌜ (n ≤ TASKS) × (3 * (1 + length (bothBounds (startAt (now est)) (startAt (now lst)) (memberAt (now members)) n)) ≤ length (now atoms)) ⌝ }
+    ensures { λ r. ⌜ Stored (now (atoms .entry)) (now (atoms .exit)) 1 r (bothBounds (startAt (now (est .entry))) (startAt (now (lst .entry))) (memberAt (now (members .entry))) n) ⌝ }
+{
+    let mut k = 1;
+    let mut j = 0;
+    while j < n {
+        k = write_both(atoms, k, j, members[j], est[j], lst[j]);
+        j += 1;
+    }
+    k
+}
+
+// The reason of task i's bound, where that is above its earliest start, and its atom count; else 0.
+fn write_reason<'a>(
+    atoms: &mut [i32],
+    est: &'a [u32; 48],
+    lst: &'a [u32; 48],
+    durations: &'a [u32; 48],
+    n: usize,
+    i: usize,
+) -> usize
+    requires { ⌜ Ranged n (now est) (now lst) (now durations) × (i < n) × (6 * n ≤ length (now atoms)) ⌝ }
+    ensures { λ r. ⌜ ((f : Ranged n (now (est .entry)) (now (lst .entry)) (now (durations .entry))) → ReasonLeft (f .J) i (now (atoms .entry)) r (now (atoms .exit))) ⌝ }
+{
+    let before = predecessors(est, lst, durations, n, i);
+    let start = est[i];
+    if theta_ect(&before, est, durations, n) <= start {
+        return 0;
+    }
+    write_atom(atoms, 0, i, AT_LEAST, start);
+    write_members(atoms, &before, est, lst, n)
+}
+
+// The call on a record, ranges, a task and words that nothing turns back.
+fn accepted_reason(
+    record: Propagator,
+    earliest: &[i32],
+    latest: &[i32],
+    task: usize,
+    atoms: &mut [i32],
+) -> Reason
+    requires { ⌜ AcceptedInput «record» (now earliest) (now latest) × AcceptedReason «record» task (length (now atoms)) ⌝ }
+    ensures { λ r. ⌜ Explained (tasksIn «record» (now (earliest .entry)) (now (latest .entry))) task (now (atoms .entry)) r (now (atoms .exit)) ⌝ }
+{
+    let n = record.count;
+    let durations = record.durations;
+    let mut est: [u32; 48] = [0; 48];
+    moments_of(&mut est, earliest);
+    let mut lst: [u32; 48] = [0; 48];
+    moments_of(&mut lst, latest);
+    Reason::Written(write_reason(atoms, &est, &lst, &durations, n, task))
+}
+
+// The number that turns the call back, or 0: 20, 10, 3, 4, 17, 16.
+fn reason_refusal<'a>(
+    n: usize,
+    durations: &'a [u32; 48],
+    first: &'a [usize; 48],
+    second: &'a [usize; 48],
+    earliest: &[i32],
+    latest: &[i32],
+    task: usize,
+    words: usize,
+) -> u32
+    requires { ⌜ WholeOrders (now first) (now second) ⌝ }
+    ensures { λ r. ⌜ r ≡ reasonNumber (recordOf n (now (durations .entry)) (now (first .entry)) (now (second .entry))) (now (earliest .entry)) (now (latest .entry)) task words ⌝ }
+{
+    let number = input_refusal(n, durations, first, second, earliest, latest);
+    if number != 0 {
+        return number;
+    }
+    if task >= n {
+        return 17;
+    }
+    if words < 6 * n {
+        return 16;
+    }
+    0
+}
+
+// Writes the reason of the task's bound over these ranges, and tells how many atoms it has.
+pub fn precedence_reason(
+    record: Propagator,
+    earliest: &[i32],
+    latest: &[i32],
+    task: usize,
+    atoms: &mut [i32],
+) -> Reason
+    ensures { λ r. ⌜ ReasonGiven «record» (now (earliest .entry)) (now (latest .entry)) task (now (atoms .entry)) r (now (atoms .exit)) ⌝ }
+{
+    let number = reason_refusal(
+        record.count,
+        &record.durations,
+        &record.first,
+        &record.second,
+        earliest,
+        latest,
+        task,
+        atoms.len(),
+    );
+    if number != 0 {
+        return Reason::Refused(number);
+    }
+    accepted_reason(record, earliest, latest, task, atoms)
+}
