@@ -10,8 +10,10 @@ use crate::parts::numbers_in;
 use crate::parts::part;
 use crate::parts::same;
 use crate::requests::bills;
+use crate::requests::explains;
 use crate::requests::frees;
 use crate::requests::mirrors;
+use crate::requests::precedes;
 use crate::requests::prints;
 use crate::requests::quick;
 use crate::running::creates;
@@ -43,6 +45,8 @@ pub enum Command {
     Page,
     Charges,
     Free,
+    Precede,
+    PrecedeWhy,
     Unknown,
 }
 
@@ -139,6 +143,8 @@ impl Session {
             Command::Page => prints(self, out, a),
             Command::Charges => bills(self, out, a, b),
             Command::Free => frees(self, out, a, b),
+            Command::Precede => precedes(self, out, a),
+            Command::PrecedeWhy => explains(self, out, a),
             Command::Unknown => self.failed(out),
         }
     }
@@ -244,6 +250,12 @@ fn request_of(word: &[u8]) -> Command {
     }
     if same(word, b"free") {
         return Command::Free;
+    }
+    if same(word, b"precede") {
+        return Command::Precede;
+    }
+    if same(word, b"precede-why") {
+        return Command::PrecedeWhy;
     }
     Command::Unknown
 }

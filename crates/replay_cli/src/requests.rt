@@ -1,4 +1,4 @@
-// The further calls: the mirrored pass, the overload test, the page, the charges and the earliest free start.
+// The further calls: the mirrored pass, the overload test, the page, the charges, the earliest free start and the precedences.
 use crate::commands::Session;
 use crate::lines::put_counted;
 use crate::lines::put_end;
@@ -15,6 +15,7 @@ use crate::running::RANGES;
 use crate::running::posts_of;
 use crate::running::put_outcome;
 use crate::running::put_posts;
+use crate::running::put_reason;
 use crate::running::spread;
 use charges::answer::Bill;
 use charges::answer::Billing;
@@ -23,9 +24,15 @@ use counter::overload_test::Overload;
 use counter::overload_test::overload_test;
 use free_starts::free_start::FreeStart;
 use free_starts::free_start::free_start;
+use integers::at_most;
+use integers::nat_of;
 use mirrored::mirrored_propagator::propagate_mirrored;
 use pages::answer::Page;
 use pages::page::page;
+use precedences::answers::Precedences;
+use precedences::answers::Reason;
+use precedences::pass::precedences;
+use precedences::reasons::precedence_reason;
 use propagator::disjunctive_propagator::Outcome;
 use records::record::Propagator;
 
@@ -33,6 +40,9 @@ use records::record::Propagator;
 const PAGE: usize = 1519;
 
 const LINE: usize = 31;
+
+// Words of the reason of one bound of 48 tasks.
+const REASON: usize = 288;
 
 // The ranges of a command: their numbers stand in the first `count` places.
 struct Ranges {
@@ -234,4 +244,105 @@ fn put_started(out: &mut [u8], at: usize, start: i32) -> usize {
     let a = put_line(out, at, b"start");
     let b = put_spaced(out, a, start);
     put_end(out, b)
+}
+
+// `precede`: the pass by the precedences that can be read off.
+pub fn precedes(session: Session, out: &mut [u8], words: &[i32]) -> Session {
+    if !ready(session, words) {
+        return session.failed(out);
+    }
+    let at = session.at;
+    let record = session.record;
+    let ranges = ranges_of(words);
+    session.said(put_raised(out, at, record, ranges))
+}
+
+// Its line: the earliest starts, or the task whose bound passes its latest start.
+fn put_raised(out: &mut [u8], at: usize, record: Propagator, ranges: Ranges) -> usize {
+    let n = ranges.count;
+    let latest = ranges.latest;
+    let mut earliest = ranges.earliest;
+    if n > RANGES {
+        return put_refused(out, at, 10);
+    }
+    let answer = precedences(record, &mut earliest[0..n], first(&latest, n));
+    match answer {
+        Precedences::Done => put_starts(out, at, first(&earliest, n)),
+        Precedences::Emptied(task) => put_counted(out, at, b"passes", task),
+        Precedences::Refused(number) => put_refused(out, at, number),
+    }
+}
+
+// The line of starts.
+fn put_starts(out: &mut [u8], at: usize, starts: &[i32]) -> usize {
+    let from = put_line(out, at, b"starts");
+    put_numbers(out, from, starts)
+}
+
+// The numbers behind the first.
+fn behind(words: &[i32]) -> &[i32] {
+    if words.len() == 0 {
+        return &words[0..0];
+    }
+    &words[1..]
+}
+
+// The task of a number; one that no record has where the number is negative.
+fn numbered(x: i32) -> usize {
+    if !at_most(0, x) {
+        return RANGES;
+    }
+    nat_of(x) as usize
+}
+
+// `precede-why`: the reason of the bound of the task that is named first.
+pub fn explains(session: Session, out: &mut [u8], words: &[i32]) -> Session {
+    let rest = behind(words);
+    if !ready(session, rest) {
+        return session.failed(out);
+    }
+    if words.len() == 0 {
+        return session.failed(out);
+    }
+    let task = numbered(words[0]);
+    let at = session.at;
+    let record = session.record;
+    let ranges = ranges_of(rest);
+    session.said(put_why_raised(out, at, record, ranges, task))
+}
+
+// Its lines: the atom count, and the atoms.
+fn put_why_raised(
+    out: &mut [u8],
+    at: usize,
+    record: Propagator,
+    ranges: Ranges,
+    task: usize,
+) -> usize {
+    let n = ranges.count;
+    let earliest = ranges.earliest;
+    let latest = ranges.latest;
+    let mut atoms = [0i32; REASON];
+    let answer = precedence_reason(
+        record,
+        first(&earliest, n),
+        first(&latest, n),
+        task,
+        &mut atoms,
+    );
+    match answer {
+        Reason::Written(count) => put_counted_reason(
+            out,
+            at,
+            first(&atoms, 3 * (count % REASON)),
+            count,
+        ),
+        Reason::Refused(number) => put_refused(out, at, number),
+    }
+}
+
+// The count of a reason's atoms, and then these.
+fn put_counted_reason(out: &mut [u8], at: usize, words: &[i32], count: usize) -> usize {
+    let from = put_counted(out, at, b"count", count);
+    put_reason(out, from, words)
 }

@@ -196,7 +196,7 @@ fn put_post(out: &mut [u8], at: usize, posts: &[i32], j: usize) -> usize {
 }
 
 // The lines of a reason: three words to an atom.
-fn put_reason(out: &mut [u8], at: usize, words: &[i32]) -> usize {
+pub fn put_reason(out: &mut [u8], at: usize, words: &[i32]) -> usize {
     let n = words.len() / 3;
     let mut end = at;
     let mut k = 0;
