@@ -6,6 +6,7 @@ use lib.IntN.{ℤ}
 use lib.Signed.{leZ}
 use lib.ListN.{length, getD}
 use Rattle.integers.specs.Limits.{TASKS, DURATIONS}
+use Rattle.scheduling.specs.Scheduling.{natural, Tasks}
 use Rattle.records.specs.Refusals.{StartFits}
 use Rattle.fixed.specs.FixedSchedules.{startAt, endAt}
 
@@ -20,6 +21,10 @@ pub record Listed (order : List ℕ) (es : List ℤ) (ds : List ℕ) : Type 0 wh
   pub durations : (k : ℕ) → k < length es → getD ds k 0 ≤ DURATIONS
   pub long : length es ≤ length order
   pub tasks : (t : ℕ) → t < length es → getD order t 0 < length es
+
+-- n tasks by the moments of their starts, and their durations
+abbrev pub inMoments : ℕ → List ℕ → List ℕ → Tasks natural
+inMoments n starts ds = record { count = n; earliest = λ k. getD starts k 0; latest = λ k. getD starts k 0; duration = λ k. getD ds k 0 }
 
 -- the task at place t of an order ends by the start of the next
 abbrev pub inTurnAt : List ℕ → List ℤ → List ℕ → ℕ → Bool

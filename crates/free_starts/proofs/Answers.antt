@@ -1,57 +1,54 @@
 -- From moments to whole numbers: the earliest free start of a fixed schedule, and the call's answer.
 -- Assumes nothing.
-use mathlib.Core.Path.{_≡_, refl, sym, ap, subst, _∙_}
+use mathlib.Core.Path.{_≡_, sym, ap, subst, _∙_}
 use mathlib.Core.Logic.{inl, inr, ⊎-elim}
 use mathlib.Core.List.{List, []}
 use Prim.Native.Nat.{ℕ, _+_, _≤_, _<_}
 use native.Mathlib.Omega.{arith}
 use lib.IntN.{ℤ, pos}
-use lib.ListN.{length, getD, take}
+use lib.ListN.{length, take}
 use Rattle.integers.specs.Limits.{TASKS}
 use Rattle.integers.specs.Filling.{filled}
 use Rattle.integers.specs.Moments.{moment, instant, zeroAt, Above}
 use Rattle.integers.specs.Orders.{index}
 use Rattle.integers.proofs.Ints.{ints, up, dn, sumℤ}
 use Rattle.integers.proofs.Moments.{mono, reflect, mono<, above-up, at-moment, instant-above, moment-instant}
-use Rattle.integers.proofs.Permutations.{Ordered}
 use Rattle.scheduling.specs.Scheduling.{whole, natural, Tasks}
 use Rattle.records.specs.declared.record.Propagator.{Propagator}
 use Rattle.records.specs.Records.{durationOf}
 use Rattle.records.specs.Orders.{noTasks, momentAt}
-use Rattle.records.specs.Refusals.{StartFits}
-use Rattle.fixed.specs.FixedSchedules.{startAt, orderOf, tasksOn, AcceptedFixed}
+use Rattle.fixed.specs.FixedSchedules.{orderOf, tasksOn, AcceptedFixed}
+use Rattle.fixed.specs.Holding.{inMoments}
 use Rattle.fixed.specs.Asked.{MomentFits, LengthFits}
-use Rattle.fixed.proofs.Placing.{start-above, start-moment, key-at, ordered-moments}
-use Rattle.fixed.proofs.Accepting.{input-of, short}
+use Rattle.fixed.proofs.Accepting.{Told, input-of, short, told, by-moments, moment-high}
 use Rattle.fixed.proofs.Asking.{asked-above, asked-moment}
 use Rattle.free_starts.specs.declared.free_start.FreeStart.{FreeStart}
 use Rattle.free_starts.specs.declared.free_start.FreeStart.the-variants.{At, Refused}
 use Rattle.free_starts.specs.FreeStarts.{LATEST, Free, EarliestFree, freeNumber, Found, Answered}
-use Rattle.free_starts.specs.Holding.{inMoments, Askable}
+use Rattle.free_starts.specs.Holding.{Askable}
 use Rattle.free_starts.proofs.Refusing.{free-many}
 
 -- ---- the tasks J of whole numbers, and M of their moments
-module _ (o : ℕ) (J : Tasks whole) (M : Tasks natural) (same-count : M .count ≡ J .count) (above : (k : ℕ) → k < J .count → Above o (J .earliest k))
-    (start : (k : ℕ) → k < J .count → M .earliest k ≡ moment o (J .earliest k)) (lasts : (k : ℕ) → k < J .count → M .duration k ≡ J .duration k) where
+module _ (o : ℕ) (J : Tasks whole) (M : Tasks natural) (told : Told o J M) where
   free-up : (d m : ℕ) → Free M d m → Free J d (instant o m)
   unfolding up dn
   free-up d m f k q =
       let a = at-moment o (instant o m) (instant-above o m) in
-      let b = at-moment o (J .earliest k) (above k q) in
+      let b = at-moment o (J .earliest k) (told .above k q) in
       ⊎-elim
-      (λ h. inl (omega (ints, h, a, b, moment-instant o m, start k q, sumℤ (instant o m) (pos d))))
-      (λ h. inr (omega (ints, h, a, b, moment-instant o m, start k q, lasts k q, sumℤ (J .earliest k) (pos (J .duration k)))))
-      (f k (omega arith))
+      (λ h. inl (omega (ints, h, a, b, moment-instant o m, told .start k q, sumℤ (instant o m) (pos d))))
+      (λ h. inr (omega (ints, h, a, b, moment-instant o m, told .start k q, told .lasts k q, sumℤ (J .earliest k) (pos (J .duration k)))))
+      (f k (omega (arith, told .count)))
 
   free-down : (d : ℕ) (u : ℤ) → Above o u → Free J d u → Free M d (moment o u)
   unfolding up dn
   free-down d u p f k q =
-      let r : k < J .count = omega arith in
+      let r : k < J .count = omega (arith, told .count) in
       let a = at-moment o u p in
-      let b = at-moment o (J .earliest k) (above k r) in
+      let b = at-moment o (J .earliest k) (told .above k r) in
       ⊎-elim
-      (λ h. inl (omega (ints, h, a, b, start k r, sumℤ u (pos d))))
-      (λ h. inr (omega (ints, h, a, b, start k r, lasts k r, sumℤ (J .earliest k) (pos (J .duration k)))))
+      (λ h. inl (omega (ints, h, a, b, told .start k r, sumℤ u (pos d))))
+      (λ h. inr (omega (ints, h, a, b, told .start k r, told .lasts k r, sumℤ (J .earliest k) (pos (J .duration k)))))
       (f k r)
 
   -- the earliest free moment is that of the earliest free start
@@ -67,20 +64,14 @@ module _ (o : ℕ) (J : Tasks whole) (M : Tasks natural) (same-count : M .count 
 -- ---- an accepted question
 module _ (r : Propagator) (es ls : List ℤ) (t d : ℤ) (a : AcceptedFixed r es ls) (q : LengthFits d × MomentFits t) (starts : List ℕ) (s : starts ≡ filled (momentAt es) (length es) noTasks)
     (from lasting : ℕ) (m : from ≡ moment zeroAt t) (p : pos lasting ≡ d) where
-  start-is : (k : ℕ) → k < r .count → getD starts k 0 ≡ moment zeroAt (startAt es k)
-  start-is k l = key-at es starts (omega (arith, a .counts .earliest, a .lawful .few)) s k (omega (arith, a .counts .earliest))
-
-  fits : (k : ℕ) → k < r .count → StartFits (startAt es k)
-  fits k l = a .starts .earliest k (omega (arith, a .counts .earliest))
-
   -- the pass may start
   pub askable : (order : List ℕ) → take (length es) order ≡ orderOf es → Askable (r .count) order starts (r .durations) from lasting
   unfolding up dn
   askable order e = record {
     few = a .lawful .few;
     place = index (orderOf es);
-    by-start = subst (λ (n : ℕ). Ordered n (λ p. getD order p 0) (index (orderOf es)) (λ j k. getD starts j 0 ≤ getD starts k 0)) (a .counts .earliest) (ordered-moments es order starts e (λ k l. start-is k (omega (arith, a .counts .earliest))));
-    ends = λ k l. omega (arith, start-is k l, start-moment (startAt es k) (fits k l), short r es ls (input-of a) k (omega (arith, a .counts .earliest)));
+    by-start = by-moments r es ls (input-of a) starts s order e;
+    ends = λ k l. omega (arith, moment-high r es ls (input-of a) starts s k l, short r es ls (input-of a) k (omega (arith, a .counts .earliest)));
     moment = omega (arith, asked-moment t (q .1));
     duration = omega (ints, q .0 .high);
   }
@@ -91,7 +82,7 @@ module _ (r : Propagator) (es ls : List ℤ) (t d : ℤ) (a : AcceptedFixed r es
   found free e l x z = record {
     start = instant zeroAt free;
     answer = ap At z;
-    earliest = subst (λ (n : ℕ). EarliestFree (tasksOn r es ls) t n (instant zeroAt free)) (ap durationOf p) (earliest-up zeroAt (tasksOn r es ls) (inMoments (r .count) starts (r .durations)) refl (λ k l. start-above (startAt es k) (fits k l)) start-is (λ k l. refl) t lasting free (asked-above t (q .1)) (rw m at e));
+    earliest = subst (λ (n : ℕ). EarliestFree (tasksOn r es ls) t n (instant zeroAt free)) (ap durationOf p) (earliest-up zeroAt (tasksOn r es ls) (inMoments (r .count) starts (r .durations)) (told r es ls (input-of a) starts s) t lasting free (asked-above t (q .1)) (rw m at e));
     limit = omega (ints, at-moment zeroAt (instant zeroAt free) (instant-above zeroAt free), moment-instant zeroAt free);
   }
 

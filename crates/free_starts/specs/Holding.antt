@@ -5,12 +5,7 @@ use lib.ListN.{getD}
 use Rattle.integers.specs.Limits.{TASKS, MOMENT, LENGTH}
 use Rattle.integers.specs.Moments.{zeroAt}
 use Rattle.integers.proofs.Permutations.{Ordered}
-use Rattle.scheduling.specs.Scheduling.{natural, Tasks}
 use Rattle.free_starts.specs.FreeStarts.{LATEST}
-
--- n tasks by the moments of their starts, and their durations
-abbrev pub inMoments : ℕ → List ℕ → List ℕ → Tasks natural
-inMoments n starts ds = record { count = n; earliest = λ k. getD starts k 0; latest = λ k. getD starts k 0; duration = λ k. getD ds k 0 }
 
 -- The tasks stand in an order by start, and all numbers are far from the largest u32.
 pub record Askable (n : ℕ) (order starts ds : List ℕ) (t d : ℕ) : Type 0 where

@@ -11,8 +11,9 @@ use records::record::Propagator;
 ghost use mathlib.Core.Path.{_≡_};
 ghost use Prim.Native.Nat.{_+_, _≤_};
 ghost use Rattle.integers.specs.Moments.{zeroAt};
+ghost use Rattle.fixed.specs.Holding.{inMoments};
 ghost use Rattle.free_starts.specs.FreeStarts.{LATEST, EarliestFree, freeNumber, Answered};
-ghost use Rattle.free_starts.specs.Holding.{inMoments, Askable};
+ghost use Rattle.free_starts.specs.Holding.{Askable};
 
 // The start, or the number that turned the question back.
 pub enum FreeStart {

@@ -23,7 +23,7 @@ _∩_ A B k = A k && B k
 union-left : (A B : TaskSet) (k : ℕ) → A k ≡ true → (A ∪ B) k ≡ true
 union-left A B k h = rw h
 
-total-sum : (f g : ℕ → ℕ) (n : ℕ) → total f n + total g n ≡ total (λ k. f k + g k) n
+pub total-sum : (f g : ℕ → ℕ) (n : ℕ) → total f n + total g n ≡ total (λ k. f k + g k) n
 unfolding total
 total-sum f g zero = refl
 total-sum f g (suc n) = omega (arith, total-sum f g n)

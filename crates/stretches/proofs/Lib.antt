@@ -1,0 +1,5 @@
+pub mod Sliding
+pub mod Climbing
+pub mod Trying
+pub mod Refusing
+pub mod Answers

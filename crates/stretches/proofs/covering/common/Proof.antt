@@ -1,0 +1,37 @@
+use mathlib.Core.Path.{_≡_}
+use Prim.Native.Nat.{ℕ, _-_, _≤_, min, max}
+use native.Mathlib.Omega.{arith}
+use borrow.Author.Needs.{needs}
+use Rattle.stretches.specs.Holding.{commonIn}
+use Rattle.stretches.proofs.covering.common.Statement.{statement}
+use Rattle.stretches.proofs.covering.common.Tie as tie
+
+none : (a b x y from to : ℕ) → from ≡ max a x → to ≡ min b y → to ≤ from → 0 ≡ commonIn a b x y
+unfolding commonIn
+none a b x y from to e f h = rw (← e, ← f) (omega arith)
+
+some : (a b x y from to : ℕ) → from ≡ max a x → to ≡ min b y → to - from ≡ commonIn a b x y
+unfolding commonIn
+some a b x y from to e f = rw (← e, ← f)
+
+larger-requires : tie.Need-larger-requires
+larger-requires c κs = search needs
+
+smaller-requires : tie.Need-smaller-requires
+smaller-requires c κs = search needs
+
+returns : tie.Need-returns
+returns c =
+    let a = c .before .before .before .args in
+    none (a .a) (a .b) (a .x) (a .y) _ _ (c .before .before .larger .ensures) (c .before .smaller .ensures) (c .if1 .taken)
+
+sub-result : tie.Need-sub-result
+sub-result c = search needs
+
+returns-2 : tie.Need-returns-2
+returns-2 c =
+    let a = c .before .before .before .args in
+    some (a .a) (a .b) (a .x) (a .y) _ _ (c .before .before .larger .ensures) (c .before .smaller .ensures)
+
+pub common-spec : {M : Type 1} → statement M
+common-spec = tie.close (tie.spec larger-requires smaller-requires returns sub-result returns-2)

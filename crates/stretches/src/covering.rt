@@ -1,0 +1,47 @@
+// How much of a stretch the tasks cover, in moments.
+ghost use mathlib.Core.Path.{_≡_};
+ghost use Prim.Native.Nat.{_+_, _≤_, min, max};
+ghost use Rattle.integers.specs.Limits.{START};
+ghost use Rattle.integers.specs.Moments.{zeroAt};
+ghost use Rattle.fixed.specs.Holding.{inMoments};
+ghost use Rattle.stretches.specs.Holding.{commonIn, coveredIn, Slidable};
+
+// The larger of two numbers, and the smaller.
+fn larger(a: u32, b: u32) -> u32
+    ensures { λ r. ⌜ r ≡ max a b ⌝ }
+{
+    if a < b { b } else { a }
+}
+
+fn smaller(a: u32, b: u32) -> u32
+    ensures { λ r. ⌜ r ≡ min a b ⌝ }
+{
+    if a < b { a } else { b }
+}
+
+// The time that a task from a to b and a stretch from x to y have in common.
+fn common(a: u32, b: u32, x: u32, y: u32) -> u32
+    ensures { λ r. ⌜ r ≡ commonIn a b x y ⌝ }
+{
+    let from = larger(a, x);
+    let to = smaller(b, y);
+    if to <= from {
+        return 0;
+    }
+    to - from
+}
+
+// The time of the stretch from x on that tasks cover.
+pub fn covered<'a>(starts: &'a [u32; 48], durations: &'a [u32; 48], n: usize, w: u32, x: u32) -> u32
+    requires { ⌜ Slidable n (now starts) (now durations) w × (x ≤ zeroAt + START) ⌝ }
+    ensures { λ r. ⌜ r ≡ coveredIn (inMoments n (now (starts .entry)) (now (durations .entry))) w x ⌝ }
+{
+    let mut sum = 0;
+    let mut k = 0;
+    while k < n {
+        let end = starts[k] + durations[k];
+        sum += common(starts[k], end, x, x + w);
+        k += 1;
+    }
+    sum
+}
