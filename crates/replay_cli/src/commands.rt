@@ -10,6 +10,7 @@ use crate::parts::numbers_in;
 use crate::parts::part;
 use crate::parts::same;
 use crate::requests::bills;
+use crate::requests::busies;
 use crate::requests::explains;
 use crate::requests::frees;
 use crate::requests::mirrors;
@@ -45,6 +46,7 @@ pub enum Command {
     Page,
     Charges,
     Free,
+    Busiest,
     Precede,
     PrecedeWhy,
     Unknown,
@@ -143,6 +145,7 @@ impl Session {
             Command::Page => prints(self, out, a),
             Command::Charges => bills(self, out, a, b),
             Command::Free => frees(self, out, a, b),
+            Command::Busiest => busies(self, out, a, b),
             Command::Precede => precedes(self, out, a),
             Command::PrecedeWhy => explains(self, out, a),
             Command::Unknown => self.failed(out),
@@ -195,6 +198,7 @@ fn mark_of(command: Command) -> u8 {
         Command::Prepare => b';',
         Command::Charges => b';',
         Command::Free => b';',
+        Command::Busiest => b';',
         _ => b'\n',
     }
 }
@@ -250,6 +254,9 @@ fn request_of(word: &[u8]) -> Command {
     }
     if same(word, b"free") {
         return Command::Free;
+    }
+    if same(word, b"busiest") {
+        return Command::Busiest;
     }
     if same(word, b"precede") {
         return Command::Precede;

@@ -1,5 +1,6 @@
-// The further calls: the mirrored pass, the overload test, the page, the charges, the earliest free start and the precedences.
+// The further calls: the mirrored pass, the overload test, the page, the charges, the earliest free start, the busiest stretch and the precedences.
 use crate::commands::Session;
+use crate::lines::put;
 use crate::lines::put_counted;
 use crate::lines::put_end;
 use crate::lines::put_line;
@@ -35,6 +36,8 @@ use precedences::pass::precedences;
 use precedences::reasons::precedence_reason;
 use propagator::disjunctive_propagator::Outcome;
 use records::record::Propagator;
+use stretches::answer::Busiest;
+use stretches::stretch::busiest_stretch;
 
 // Bytes of a page of 48 tasks, and of each of its lines.
 const PAGE: usize = 1519;
@@ -244,6 +247,41 @@ fn put_started(out: &mut [u8], at: usize, start: i32) -> usize {
     let a = put_line(out, at, b"start");
     let b = put_spaced(out, a, start);
     put_end(out, b)
+}
+
+// `busiest`: the busiest stretch of a fixed schedule, for a length.
+pub fn busies(session: Session, out: &mut [u8], words: &[i32], asked: &[i32]) -> Session {
+    if !ready(session, words) {
+        return session.failed(out);
+    }
+    if asked.len() != 1 {
+        return session.failed(out);
+    }
+    let at = session.at;
+    let record = session.record;
+    let ranges = ranges_of(words);
+    let n = ranges.count;
+    let earliest = ranges.earliest;
+    let latest = ranges.latest;
+    let answer = busiest_stretch(record, first(&earliest, n), first(&latest, n), asked[0]);
+    session.said(put_busiest(out, at, answer))
+}
+
+// Its line.
+fn put_busiest(out: &mut [u8], at: usize, answer: Busiest) -> usize {
+    match answer {
+        Busiest::Stretch(covered, start) => put_covered(out, at, covered, start),
+        Busiest::Refused(number) => put_refused(out, at, number),
+    }
+}
+
+// The line of a stretch.
+fn put_covered(out: &mut [u8], at: usize, covered: u32, start: i32) -> usize {
+    let a = put_line(out, at, b"covered");
+    let b = put_spaced_count(out, a, covered as usize);
+    let c = put(out, b, b" from");
+    let d = put_spaced(out, c, start);
+    put_end(out, d)
 }
 
 // `precede`: the pass by the precedences that can be read off.
