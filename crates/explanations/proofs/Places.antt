@@ -7,7 +7,7 @@ use native.Mathlib.Omega.{arith}
 use native.Mathlib.Numerals.{add-one}
 use native.Mathlib.Decide.{decLt, ℕ-discrete}
 use lib.ListN.{length, getD, take, drop, length-append, length-take, length-drop}
-use lib.Seq.{drop-cons, take-all, getD-drop, getD-take, drop-append-seam, drop-append-add, getD-append-seam, getD-append-add}
+use lib.Seq.{drop-cons, getD-drop, getD-take, drop-append-seam, drop-append-add, getD-append-seam, getD-append-add}
 use Rattle.explanations.specs.Explanations.{lasts, Each, At, Somewhere, First}
 
 -- Lists of tasks --------------------------------------------------------------------------------------------------------------
@@ -18,10 +18,6 @@ module _ (P : ℕ → Type 0) (ks : List ℕ) (h : Each P ks) (i : ℕ) where
 
   pub each-take : Each P (take i ks)
   each-take x s = let q : x < i = omega (arith, length-take i ks) in rw getD-take (h x (omega (arith, length-take i ks)))
-
--- the part of ks from place i on, as code takes it
-pub onward : (ks : List ℕ) (i : ℕ) → take (length ks - i) (drop i ks) ≡ drop i ks
-onward ks i = take-all (length ks - i) (drop i ks) (omega (arith, length-drop i ks))
 
 module _ (ds : List ℕ) where
   pub lasts-none : lasts ds [] ≡ 0

@@ -1,6 +1,7 @@
 -- The explanations' words in the slice of atoms, and what their input gives at each step.
 -- Assumes nothing.
-use mathlib.Core.Path.{_≡_, refl, sym, ap, _∙_}
+use mathlib.Core.Path.{_≡_, refl, sym, ap, subst, _∙_}
+use mathlib.Core.Bool.{Bool}
 use mathlib.Core.List.{List, [], _∷_, _++_}
 use Prim.Native.Nat.{ℕ, suc, _+_, _-_, _*_, _^_, _≤_, _<_, min}
 use native.Mathlib.Omega.{arith}
@@ -13,36 +14,62 @@ use Rattle.integers.specs.Moments.{instant, zeroAt}
 use Rattle.scheduling.specs.Scheduling.{Atom}
 use Rattle.runs.specs.Runs.{atLeast, within, conflict, conflict-of, bounds, propagation}
 use Rattle.scheduling.specs.Words.{atomWords}
-use Rattle.explanations.specs.Explanations.{starting, lasting, lasts, Each, Overloads, Precedes, Attains, First, Known, Ends, Walk, Writable, White, Overloaded, Preceded, Stored}
+use Rattle.explanations.specs.Explanations.{starting, lasting, lasts, Each, Overloads, Precedes, Attains, First, between, StopsAt, Known, Ends, Walk, Writable, White, Overloaded, Preceded, Stored}
 use Rattle.scheduling.proofs.Words.{atoms-none, atoms-more}
 use Rattle.runs.proofs.Buffers.{atoms-stored}
 use Rattle.runs.proofs.Clauses.{within-none, within-more}
-use Rattle.explanations.proofs.Places.{each-drop, each-take, onward, lasts-drop, first-same}
+use Rattle.explanations.proofs.Places.{each-drop, each-take, lasts-drop, first-same}
+use Rattle.explanations.proofs.Walking.{between-split, met-front, met-rest, met-task, met-each}
 use Rattle.explanations.proofs.Explaining.{conflict-at, propagation-at, bounds-at, within-same}
 use Rattle.runs.proofs.Lengths.{within-length, bounds-length}
 
 -- Their words -----------------------------------------------------------------------------------------------------------------
 
-module _ (ds ks : List ℕ) (low high : ℕ) where
-  -- what is still to be written from the j-th task on
-  abbrev pub left : ℕ → List ℤ
-  left j = atomWords (within zeroAt (lasting ds) low high (drop j ks))
+module _ (ds : List ℕ) (low high : ℕ) where
+  -- the words of the tasks ks
+  abbrev pub words-of : List ℕ → List ℤ
+  words-of ks = atomWords (within zeroAt (lasting ds) low high ks)
 
+  -- those of one task's two atoms
   abbrev pub lower : ℕ → List ℤ
-  lower j = pos (getD ks j 0) ∷ pos 0 ∷ instant zeroAt low ∷ []
+  lower t = pos t ∷ pos 0 ∷ instant zeroAt low ∷ []
 
   abbrev pub upper : ℕ → List ℤ
-  upper j = pos (getD ks j 0) ∷ pos 1 ∷ instant zeroAt (high - getD ds (getD ks j 0) 0) ∷ []
+  upper t = pos t ∷ pos 1 ∷ instant zeroAt (high - getD ds t 0) ∷ []
 
-  pub none-left : (j : ℕ) → j ≡ length ks → left j ≡ []
-  none-left j e = rw (e, drop-length, within-none zeroAt (lasting ds) low high) atoms-none
-
-  -- the j-th task's two atoms, and the rest after them
-  pub two-more : (l : List ℤ) (j at : ℕ) → j < length ks → sets (sets (sets l (3 * at) (lower j)) (3 * (at + 1)) (upper j)) (3 * (at + 2)) (left (j + 1)) ≡ sets l (3 * at) (left j)
-  two-more l j at h =
+  two-more : (l : List ℤ) (t : ℕ) (rest : List ℕ) (at : ℕ) → sets (sets (sets l (3 * at) (lower t)) (3 * (at + 1)) (upper t)) (3 * (at + 2)) (words-of rest) ≡ sets l (3 * at) (words-of (t ∷ rest))
+  two-more l t rest at =
       let a : 3 * (at + 1) ≡ suc (suc (suc (3 * at))) = omega arith in
       let b : 3 * (at + 2) ≡ suc (suc (suc (suc (suc (suc (3 * at)))))) = omega arith in
-      rw (a, b, add-one j, drop-cons ks j 0 h, within-more zeroAt (lasting ds) low high (getD ks j 0) (drop (suc j) ks), atoms-more, atoms-more)
+      rw (a, b, within-more zeroAt (lasting ds) low high t rest, atoms-more, atoms-more)
+
+-- Of the tasks ks, whose atoms go from the k-th on, `rest` are still to be written, from the at-th on.
+pub record Written (entry : List ℤ) (k : ℕ) (ks ds : List ℕ) (low high : ℕ) (atoms : List ℤ) (rest : List ℕ) (at : ℕ) : Type 0 where
+  pub writable : Writable (length atoms) at rest ds high
+  pub count : at + 2 * length rest ≡ k + 2 * length ks
+  pub size : length atoms ≡ length entry
+  pub words : sets atoms (3 * at) (words-of ds low high rest) ≡ sets entry (3 * k) (words-of ds low high ks)
+
+module _ {entry : List ℤ} {k : ℕ} {ks ds : List ℕ} {low high : ℕ} where
+  pub written-none : Writable (length entry) k ks ds high → Written entry k ks ds low high entry ks k
+  written-none w = record { writable = w; count = refl; size = refl; words = refl }
+
+  pub written-more : {l m n : List ℤ} {t : ℕ} {rest : List ℕ} {at : ℕ} → Written entry k ks ds low high l (t ∷ rest) at → m ≡ sets l (3 * at) (lower ds low high t) → n ≡ sets m (3 * (at + 1)) (upper ds low high t)
+      → Written entry k ks ds low high n rest (at + 2)
+  written-more {l} {m} {n} {t} {rest} {at} w first second =
+      let same : length n ≡ length l = ap length second ∙ length-sets m (3 * (at + 1)) (upper ds low high t) ∙ ap length first ∙ length-sets l (3 * at) (lower ds low high t) in
+      record {
+        writable = record { ends = λ x s. w .writable .ends (suc x) (omega arith); room = omega (arith, w .writable .room, same) };
+        count = omega (arith, w .count);
+        size = same ∙ w .size;
+        words = ap (λ (z : List ℤ). sets z (3 * (at + 2)) (words-of ds low high rest)) (second ∙ ap (λ (z : List ℤ). sets z (3 * (at + 1)) (upper ds low high t)) first) ∙ two-more ds low high l t rest at ∙ w .words;
+      }
+
+  pub written-all : {l : List ℤ} {at : ℕ} → Written entry k ks ds low high l [] at → Stored entry l k at (within zeroAt (lasting ds) low high ks)
+  written-all {l} {at} w = record {
+    words = ap (sets l (3 * at)) (sym (ap atomWords (within-none zeroAt (lasting ds) low high) ∙ atoms-none)) ∙ w .words;
+    count = omega (arith, w .count, within-length zeroAt (lasting ds) low high ks);
+  }
 
 -- one run of atoms after another
 pub stored-then : {l m n : List ℤ} {k a b : ℕ} {xs ys : List Atom} → Stored l m k a xs → Stored m n a b ys → Stored l n k b (xs ++ ys)
@@ -54,34 +81,54 @@ stored-then {l} {m} {n} {k} {a} {b} {xs} {ys} s t = record {
 pub stored-length : {l m : List ℤ} {k a : ℕ} {xs : List Atom} → Stored l m k a xs → length m ≡ length l
 stored-length {l} {m} {k} {a} {xs} s = ap length (s .words) ∙ length-sets l (3 * k) (atomWords xs)
 
--- there is room for the atoms of the first x tasks, and after them for those of the others
-module _ {ks ds : List ℕ} {high : ℕ} (x : ℕ) where
-  pub writable-first : {size k : ℕ} → Writable size k ks ds high → Writable size k (take x ks) ds high
-  writable-first w = record { ends = each-take (Ends ds high) ks (w .ends) x; room = omega (arith, w .room, length-take x ks) }
+module _ (white : ℕ → Bool) (task : ℕ → ℕ) (a n x : ℕ) (from : a ≤ x) (to : x ≤ n) where
+  -- there is room for the atoms of the tasks before leaf x, and after them for those of the others
+  module _ {ds : List ℕ} {high : ℕ} where
+    pub writable-first : {size k : ℕ} → Writable size k (between white task a n) ds high → Writable size k (between white task a x) ds high
+    writable-first {size} {k} w = subst (λ (ks : List ℕ). Writable size k ks ds high) (met-front white task a n x from to)
+        (record { ends = each-take (Ends ds high) (between white task a n) (w .ends) (length (between white task a x)); room = omega (arith, w .room, length-take (length (between white task a x)) (between white task a n)) })
 
-  pub writable-rest : {l m : List ℤ} {k a : ℕ} (low : ℕ) → x ≤ length ks → Writable (length l) k ks ds high → Stored l m k a (within zeroAt (lasting ds) low high (take x ks)) → Writable (length m) a (take (length ks - x) (drop x ks)) ds high
-  writable-rest low h w s = rw onward (record {
-    ends = each-drop (Ends ds high) ks (w .ends) x;
-    room = omega (arith, w .room, s .count, stored-length s, within-length zeroAt (lasting ds) low high (take x ks), length-take x ks, length-drop x ks);
-  })
+    pub writable-rest : {l m : List ℤ} {k b : ℕ} (low : ℕ) → Writable (length l) k (between white task a n) ds high → Stored l m k b (within zeroAt (lasting ds) low high (between white task a x)) → Writable (length m) b (between white task x n) ds high
+    writable-rest low w s = record {
+      ends = subst (Each (Ends ds high)) (met-rest white task a n x from to) (each-drop (Ends ds high) (between white task a n) (w .ends) (length (between white task a x)));
+      room = omega (arith, w .room, s .count, stored-length s, within-length zeroAt (lasting ds) low high (between white task a x), ap length (between-split white task a x n from to), length-append (between white task a x) (between white task x n));
+    }
 
-module _ (es ds ks : List ℕ) (p x q : ℕ) (total : p ≡ lasts ds ks) where
-  pub conflict-stored : {l m : List ℤ} {k a : ℕ} (lct : ℕ) → First (Overloads es lct) ds ks x q → Stored l m k a (conflict-of zeroAt (lasting ds) lct q (getD es (getD ks x 0) 0) (take (length ks - x) (drop x ks)))
-      → Stored l m k a (conflict zeroAt (starting es ds) lct p ks)
-  conflict-stored lct f s = rw (conflict-at zeroAt es ds lct p ks x q total f, within-same zeroAt (starting es ds) (lasting ds) _ _ (drop x ks) (λ y t. refl)) (rw onward at s)
+-- where the walks stop
+module _ (white : ℕ → Bool) (task : ℕ → ℕ) (es ds : List ℕ) (a n p x q : ℕ) (total : p ≡ lasts ds (between white task a n)) where
+  abbrev met : ℕ
+  met = length (between white task a x)
 
-  pub bounds-stored : {l m n : List ℤ} {k a b : ℕ} (u r last : ℕ) → First (Attains es u) ds ks x q → Stored l m k a (within zeroAt (lasting ds) r last (take x ks)) → Stored m n a b (within zeroAt (lasting ds) (u - q) last (take (length ks - x) (drop x ks)))
-      → Stored l n k b (bounds zeroAt (starting es ds) u r last p ks)
-  bounds-stored u r last f s t =
-      rw (bounds-at zeroAt es ds u r last p ks x q total f, within-same zeroAt (starting es ds) (lasting ds) r last (take x ks) (λ y t. refl), within-same zeroAt (starting es ds) (lasting ds) (u - q) last (drop x ks) (λ y t. refl))
-      (stored-then s (rw onward at t))
+  pub conflict-stored : {l m : List ℤ} {k b : ℕ} (lct : ℕ) {e : ℕ} → StopsAt white task (Overloads es lct) ds a n x q → e ≡ getD es (task x) 0 → Stored l m k b (conflict-of zeroAt (lasting ds) lct q e (between white task x n))
+      → Stored l m k b (conflict zeroAt (starting es ds) lct p (between white task a n))
+  conflict-stored lct s e t =
+      rw (
+        conflict-at zeroAt es ds lct p (between white task a n) met q total (s .first),
+        met-task white task a n x (s .from) (s .small) (s .here),
+        met-rest white task a n x (s .from) (omega (arith, s .small)),
+        ← e,
+        within-same zeroAt (starting es ds) (lasting ds) _ _ (between white task x n) (λ y t. refl),
+      ) t
 
-  pub propagation-stored : {l m n : List ℤ} {k a : ℕ} (i u lct r : ℕ) → First (Precedes es lct (getD es i 0) (getD ds i 0)) ds ks x q → r ≡ min (getD es i 0) (getD es (getD ks x 0) 0)
-      → Stored l m k a (bounds zeroAt (starting es ds) u r (r + q + getD ds i 0 - 1) q (take (length ks - x) (drop x ks))) → n ≡ sets m (3 * a) (pos i ∷ pos 0 ∷ instant zeroAt r ∷ [])
-      → Stored l n k (a + 1) (propagation zeroAt (starting es ds) i u lct p ks)
-  propagation-stored {l} {m} {n} {k} {a} i u lct r f e s t =
+  pub bounds-stored : {l m o : List ℤ} {k b c : ℕ} (u r last : ℕ) → StopsAt white task (Attains es u) ds a n x q → Stored l m k b (within zeroAt (lasting ds) r last (between white task a x)) → Stored m o b c (within zeroAt (lasting ds) (u - q) last (between white task x n))
+      → Stored l o k c (bounds zeroAt (starting es ds) u r last p (between white task a n))
+  bounds-stored u r last s t v =
+      rw (
+        bounds-at zeroAt es ds u r last p (between white task a n) met q total (s .first),
+        met-front white task a n x (s .from) (omega (arith, s .small)),
+        met-rest white task a n x (s .from) (omega (arith, s .small)),
+        within-same zeroAt (starting es ds) (lasting ds) r last (between white task a x) (λ y t. refl),
+        within-same zeroAt (starting es ds) (lasting ds) (u - q) last (between white task x n) (λ y t. refl),
+      )
+      (stored-then t v)
+
+  pub propagation-stored : {l m o : List ℤ} {k b : ℕ} (i u lct r : ℕ) → StopsAt white task (Precedes es lct (getD es i 0) (getD ds i 0)) ds a n x q → r ≡ min (getD es i 0) (getD es (task x) 0)
+      → Stored l m k b (bounds zeroAt (starting es ds) u r (r + q + getD ds i 0 - 1) q (between white task x n)) → o ≡ sets m (3 * b) (pos i ∷ pos 0 ∷ instant zeroAt r ∷ [])
+      → Stored l o k (b + 1) (propagation zeroAt (starting es ds) i u lct p (between white task a n))
+  propagation-stored {l} {m} {o} {k} {b} i u lct r s e t v =
       let z : atomWords (atLeast zeroAt (starting es ds) i r ∷ []) ≡ pos i ∷ pos 0 ∷ instant zeroAt r ∷ [] = rw (atoms-more, atoms-none) in
-      rw (propagation-at zeroAt es ds i u lct p ks x q total f, ← e) (stored-then (rw onward at s) (record { words = t ∙ ap (sets m (3 * a)) (sym z); count = refl }))
+      rw (propagation-at zeroAt es ds i u lct p (between white task a n) met q total (s .first), met-task white task a n x (s .from) (s .small) (s .here), met-rest white task a n x (s .from) (omega (arith, s .small)), ← e)
+      (stored-then t (record { words = v ∙ ap (sets m (3 * b)) (sym z); count = refl }))
 
 -- From the input ---------------------------------------------------------------------------------------------------------------
 
@@ -89,12 +136,18 @@ module _ (es ds ks : List ℕ) (p x q : ℕ) (total : p ≡ lasts ds ks) where
 white-ends : {theta es ds : List ℕ} {p lct : ℕ} (high : ℕ) → White theta es ds p lct → lct ≤ high → Each (Ends ds high) theta
 white-ends high w h x s = record { task = w .known x s .task; duration = w .known x s .duration; short = omega (arith, w .ends x s) }
 
-module _ {size k : ℕ} {theta es ds : List ℕ} {p lct : ℕ} (c : Overloaded size k theta es ds p lct) where
-  abbrev starts-by : Each (λ t. getD es t 0 ≤ lct) theta
+-- and there is room for those from leaf x on
+rest-writable : (white : ℕ → Bool) (task : ℕ → ℕ) (a n x : ℕ) {size k high : ℕ} {ds : List ℕ} → a ≤ x → x ≤ n → Each (Ends ds high) (between white task a n) → 3 * k + 6 * length (between white task a n) ≤ size
+    → Writable size k (between white task x n) ds high
+rest-writable white task a n x {size} {k} {high} {ds} from to ends room = subst (λ (ks : List ℕ). Writable size k ks ds high) (met-rest white task a n x from to)
+    (record { ends = each-drop (Ends ds high) (between white task a n) ends (length (between white task a x)); room = omega (arith, length-drop (length (between white task a x)) (between white task a n)) })
+
+module _ (white : ℕ → Bool) (task : ℕ → ℕ) (a n : ℕ) {size k : ℕ} {es ds : List ℕ} {p lct : ℕ} (c : Overloaded size k (between white task a n) es ds p lct) where
+  abbrev starts-by : Each (λ t. getD es t 0 ≤ lct) (between white task a n)
   starts-by x s = omega (arith, c .white .ends x s)
 
   -- a task that starts at lct and lasts nothing changes no test
-  pub overload-walk : Walk (Precedes es lct lct 0) theta es ds p 0
+  pub overload-walk : Walk (Precedes es lct lct 0) (between white task a n) es ds p 0
   overload-walk = record {
     known = c .white .known;
     total = c .white .total;
@@ -102,58 +155,83 @@ module _ {size k : ℕ} {theta es ds : List ℕ} {p lct : ℕ} (c : Overloaded s
     stops = record { place = c .overloads .place; small = c .overloads .small; holds = omega (arith, c .overloads .holds, starts-by (c .overloads .place) (c .overloads .small)) };
   }
 
-  pub overload-first : {x q : ℕ} → First (Precedes es lct lct 0) ds theta x q → First (Overloads es lct) ds theta x q
-  overload-first {x} {q} f = first-same (Precedes es lct lct 0) (Overloads es lct) ds theta x q (λ y r s h. omega (arith, starts-by y s)) (λ y r s h. omega (arith, starts-by y s)) f
+  module _ {x q : ℕ} (s : StopsAt white task (Precedes es lct lct 0) ds a n x q) where
+    pub overload-stops : StopsAt white task (Overloads es lct) ds a n x q
+    overload-stops = record {
+      from = s .from;
+      small = s .small;
+      here = s .here;
+      first = first-same (Precedes es lct lct 0) (Overloads es lct) ds (between white task a n) _ q (λ y r t h. omega (arith, starts-by y t)) (λ y r t h. omega (arith, starts-by y t)) (s .first);
+    }
 
-  -- what ω passes lct by, and how far back from its est there is room
-  pub record Overflow (e q : ℕ) : Type 0 where
-    pub over : lct < e + q
-    pub starts : e ≤ lct
-    pub early : q ≤ e
-    pub fits : lct + q < 2 ^ 32
+    at-leaf : (Q : ℕ → Type 0) → Each Q (between white task a n) → Q (task x)
+    at-leaf = met-each white task a n x (s .from) (s .small) (s .here)
 
-  pub overflow : {x q : ℕ} → First (Precedes es lct lct 0) ds theta x q → Overflow (getD es (getD theta x 0) 0) q
-  overflow {x} {q} f =
-      let less : q ≤ p = omega (arith, f .rest, lasts-drop ds theta x, c .white .total) in
-      record { over = overload-first f .holds; starts = starts-by x (f .small); early = omega (arith, c .early x (f .small)); fits = omega (arith, c .fits) }
+    pub overload-known : Known es ds (task x)
+    overload-known = at-leaf (Known es ds) (c .white .known)
 
-  pub overload-writable : {high : ℕ} (x : ℕ) → lct ≤ high → Writable size k (take (length theta - x) (drop x theta)) ds high
-  overload-writable {high} x h = rw onward (record { ends = each-drop (Ends ds high) theta (white-ends high (c .white) h) x; room = omega (arith, c .room, length-drop x theta) })
+    -- what ω passes lct by, and how far back from its est there is room
+    pub record Overflow (e : ℕ) : Type 0 where
+      pub over : lct < e + q
+      pub starts : e ≤ lct
+      pub early : q ≤ e
+      pub fits : lct + q < 2 ^ 32
 
-module _ {size k : ℕ} {theta es ds : List ℕ} {p lct i b : ℕ} (c : Preceded size k theta es ds p lct i b) where
+    pub overflow : {e : ℕ} → e ≡ getD es (task x) 0 → Overflow e
+    overflow z =
+        let less : q ≤ p = omega (arith, s .first .rest, lasts-drop ds (between white task a n) (length (between white task a x)), c .white .total) in
+        let over : lct < getD es (task x) 0 + q = rw (met-task white task a n x (s .from) (s .small) (s .here)) at (overload-stops .first .holds) in
+        record { over = omega arith; starts = omega (arith, at-leaf (λ t. getD es t 0 ≤ lct) starts-by); early = omega (arith, at-leaf (λ t. p ≤ getD es t 0) (c .early)); fits = omega (arith, c .fits) }
+
+    pub overload-writable : {high : ℕ} → lct ≤ high → Writable size k (between white task x n) ds high
+    overload-writable {high} h = rest-writable white task a n x (s .from) (omega (arith, s .small)) (white-ends high (c .white) h) (c .room)
+
+module _ (white : ℕ → Bool) (task : ℕ → ℕ) (a n : ℕ) {size k : ℕ} {es ds : List ℕ} {p lct i b : ℕ} (c : Preceded size k (between white task a n) es ds p lct i b) where
+  abbrev theta : List ℕ
+  theta = between white task a n
+
   pub post-walk : Walk (Precedes es lct (getD es i 0) (getD ds i 0)) theta es ds p (getD ds i 0)
   post-walk = record { known = c .white .known; total = c .white .total; fits = λ x s. omega (arith, c .white .ends x s, c .fits); stops = c .precedes }
 
-  module _ {x q : ℕ} (f : First (Precedes es lct (getD es i 0) (getD ds i 0)) ds theta x q) where
-    -- ω′ lies inside ω
-    later : x ≤ c .attains .place
-    later = elim (decLt (c .attains .place) x) [ yes z ↦ absurd (f .before (c .precedes .place) (omega (arith, c .among)) (c .precedes .holds)) | no z ↦ omega arith ]
+  module _ {x q : ℕ} (s : StopsAt white task (Precedes es lct (getD es i 0) (getD ds i 0)) ds a n x q) where
+    abbrev before : ℕ
+    before = length (between white task a x)
 
-    pub bound-walk : Walk (Attains es b) (take (length theta - x) (drop x theta)) es ds q 0
+    -- ω′ lies inside ω
+    later : before ≤ c .attains .place
+    later = elim (decLt (c .attains .place) before) [ yes z ↦ absurd (s .first .before (c .precedes .place) (omega (arith, c .among)) (c .precedes .holds)) | no z ↦ omega arith ]
+
+    less : q ≤ p
+    less = omega (arith, s .first .rest, lasts-drop ds theta before, c .white .total)
+
+    pub post-known : Known es ds (task x)
+    post-known = met-each white task a n x (s .from) (s .small) (s .here) (Known es ds) (c .white .known)
+
+    pub bound-walk : Walk (Attains es b) (between white task x n) es ds q 0
     bound-walk =
         let y : ℕ = c .attains .place in
-        let z : x + (y - x) ≡ y = omega (arith, later) in
-        rw onward
+        let z : before + (y - before) ≡ y = omega (arith, later) in
+        subst (λ (ks : List ℕ). Walk (Attains es b) ks es ds q 0) (met-rest white task a n x (s .from) (omega (arith, s .small)))
         (record {
-          known = each-drop (Known es ds) theta (c .white .known) x;
-          total = f .rest;
-          fits = each-drop (λ t. getD es t 0 + q + 0 < 2 ^ 32) theta (λ y s. omega (arith, c .white .ends y s, c .fits, f .rest, lasts-drop ds theta x, c .white .total)) x;
-          stops = record { place = y - x; small = omega (arith, later, c .attains .small, length-drop x theta); holds = rw (getD-drop, drop-drop, z) (c .attains .holds) };
+          known = each-drop (Known es ds) theta (c .white .known) before;
+          total = s .first .rest;
+          fits = each-drop (λ t. getD es t 0 + q + 0 < 2 ^ 32) theta (λ y t. omega (arith, c .white .ends y t, c .fits, less)) before;
+          stops = record { place = y - before; small = omega (arith, later, c .attains .small, length-drop before theta); holds = rw (getD-drop, drop-drop, z) (c .attains .holds) };
         })
 
-    pub post-writable : {high : ℕ} → lct ≤ high → Writable size k (take (length theta - x) (drop x theta)) ds high
-    post-writable {high} h = rw onward (record { ends = each-drop (Ends ds high) theta (white-ends high (c .white) h) x; room = omega (arith, c .room, length-drop x theta) })
+    pub post-writable : {high : ℕ} → lct ≤ high → Writable size k (between white task x n) ds high
+    post-writable {high} h = rest-writable white task a n x (s .from) (omega (arith, s .small)) (white-ends high (c .white) h) (omega (arith, c .room))
 
     -- what ω and i pass lct by
     pub record Reach (r : ℕ) : Type 0 where
       pub over : lct < r + q + getD ds i 0
       pub fits : r + q + getD ds i 0 < 2 ^ 32
 
-    pub reach : {r : ℕ} → r ≡ min (getD es i 0) (getD es (getD theta x 0) 0) → Reach r
+    pub reach : {r : ℕ} → r ≡ min (getD es i 0) (getD es (task x) 0) → Reach r
     reach e =
-        let less : q ≤ p = omega (arith, f .rest, lasts-drop ds theta x, c .white .total) in
-        record { over = omega (arith, f .holds); fits = omega (arith, c .fits, c .white .ends x (f .small)) }
+        let over : lct < min (getD es i 0) (getD es (task x) 0) + q + getD ds i 0 = rw (met-task white task a n x (s .from) (s .small) (s .here)) at (s .first .holds) in
+        record { over = omega arith; fits = omega (arith, c .fits, less, met-each white task a n x (s .from) (s .small) (s .here) (λ t. getD es t 0 + getD ds t 0 ≤ lct) (c .white .ends)) }
 
     -- and the room that is left for the last atom
-    pub last-room : {l m : List ℤ} {a : ℕ} (r last : ℕ) → length l ≡ size → Stored l m k a (bounds zeroAt (starting es ds) b r last q (take (length theta - x) (drop x theta))) → 3 * a + 3 ≤ length m
-    last-room r last e s = omega (arith, e, c .room, stored-length s, s .count, bounds-length zeroAt (starting es ds) b r last q (take (length theta - x) (drop x theta)), ap length (onward theta x), length-drop x theta)
+    pub last-room : {l m : List ℤ} {d : ℕ} (r last : ℕ) → length l ≡ size → Stored l m k d (bounds zeroAt (starting es ds) b r last q (between white task x n)) → 3 * d + 3 ≤ length m
+    last-room r last e t = omega (arith, e, c .room, stored-length t, t .count, bounds-length zeroAt (starting es ds) b r last q (between white task x n), ap length (met-rest white task a n x (s .from) (omega (arith, s .small))), length-drop before theta)

@@ -1,15 +1,17 @@
 -- What the two explanations are given, and where their walks over Θ stop.
 --
--- Θ is a list of tasks by leaf, es and ds are the earliest starts and the durations by task, all in moments.
+-- Θ is a list of tasks by leaf (`thetaOf`), es and ds are the earliest starts and the durations by task, all in moments.
 use mathlib.Core.Path.{_≡_}
+use mathlib.Core.Bool.{Bool, true}
 use mathlib.Core.List.{List, [], _∷_}
-use Prim.Native.Nat.{ℕ, _+_, _*_, _^_, _≤_, _<_, min}
+use Prim.Native.Nat.{ℕ, _+_, _-_, _*_, _^_, _≤_, _<_, min}
 use lib.IntN.{ℤ}
 use lib.ListN.{length, getD, drop}
 use lib.Seq.{sets}
 use Rattle.integers.specs.Limits.{TASKS}
 use Rattle.scheduling.specs.Scheduling.{natural, Tasks, Atom}
 use Rattle.scheduling.specs.Words.{atomWords}
+use Rattle.trees.specs.Searches.{whiteIn, taskIn, thetaOf, Next}
 
 -- the tasks of two lists: of a task the explanations read no more than these
 abbrev pub starting : List ℕ → List ℕ → Tasks natural
@@ -61,6 +63,35 @@ module _ (P : ℕ → ℕ → Type 0) (ds ks : List ℕ) where
     pub rest : left ≡ lasts ds (drop place ks)
     pub holds : P (getD ks place 0) left
     pub before : (x : ℕ) → x < place → At x → ⊥
+
+-- Over the leaves --------------------------------------------------------------------------------------------------------------
+
+-- The walk over the white leaves from a up to n: the leaves that it meets, one after the other, and then n.
+pub record Walks (white : ℕ → Bool) (a n : ℕ) (leaf : ℕ → ℕ) : Type 0 where
+  pub first : Next white a n (leaf 0)
+  pub next : (j : ℕ) → leaf j < n → Next white (leaf j + 1) n (leaf (j + 1))
+
+module _ (white : ℕ → Bool) (task : ℕ → ℕ) where
+  -- the tasks of the white leaves from a up to b
+  abbrev pub between : ℕ → ℕ → List ℕ
+  between a b = thetaOf white task a (b - a)
+
+  -- The leaves meet exactly the tasks of that list, each once and in its order: the j-th leaf has the j-th task, and after the last task comes n.
+  pub record Meets (a n : ℕ) (leaf : ℕ → ℕ) : Type 0 where
+    pub inside : (j : ℕ) → j < length (between a n) → (a ≤ leaf j) × (leaf j < leaf (j + 1)) × (leaf j < n)
+    pub tasks : (j : ℕ) → j < length (between a n) → task (leaf j) ≡ getD (between a n) j 0
+    pub ends : leaf (length (between a n)) ≡ n
+
+  -- A walk that asks stops at leaf x: the task there is the first of the list at which the answer is yes, and those from it on last `left`.
+  pub record StopsAt (P : ℕ → ℕ → Type 0) (ds : List ℕ) (a n x left : ℕ) : Type 0 where
+    pub from : a ≤ x
+    pub small : x < n
+    pub here : white x ≡ true
+    pub first : First P ds (between a n) (length (between a x)) left
+
+-- the list by the words of a tree and the task of each leaf
+abbrev pub thetaBetween : List ℕ → ℕ → List ℕ → ℕ → ℕ → List ℕ
+thetaBetween words inner tasks a b = between (whiteIn words inner) (taskIn tasks) a b
 
 -- What is asked of the input --------------------------------------------------------------------------------------------------
 

@@ -1,16 +1,21 @@
-// The reasons of posts and overloads, as words in the lent slices. Starts and bounds are moments, Θ is a list of tasks by leaf.
+// The reasons of posts and overloads, as words in the lent slices. Starts and bounds are moments, and Θ is read from the leaves of a tree: its words,
+// the task of each leaf, the number of its inner nodes and that of its tasks.
 ghost use mathlib.Core.Path.{_≡_};
 ghost use mathlib.Core.List.{[], _∷_};
 ghost use Prim.Native.Nat.{_+_, _*_, _<_, _≤_, min};
 ghost use lib.IntN.{pos};
-ghost use lib.ListN.{length};
+ghost use lib.ListN.{length, getD};
 ghost use lib.Seq.{sets};
 ghost use Rattle.integers.specs.Moments.{instant, zeroAt};
 ghost use Rattle.integers.specs.Limits.{TASKS};
+ghost use Rattle.trees.specs.Searches.{whiteIn, taskIn, thetaIn};
 ghost use Rattle.runs.specs.Runs.{within, conflict, bounds, propagation};
-ghost use Rattle.explanations.specs.Explanations.{starting, lasting, Precedes, Attains, First, Walk, Writable, Overloaded, Preceded, PostFits, Stored};
+ghost use Rattle.explanations.specs.Explanations.{starting, lasting, Precedes, Attains, thetaBetween, StopsAt, Walk, Writable, Overloaded, Preceded, PostFits, Stored};
 use integers::start_of;
 use integers::word_of;
+use trees::disjunctive_task::LeafPlace;
+use trees::disjunctive_task::task_of;
+use trees::theta_lambda_tree::ThetaLambdaTree;
 
 // An atom's kinds.
 pub const AT_LEAST: i32 = 0;
@@ -40,33 +45,51 @@ pub fn write_atom(atoms: &mut [i32], k: usize, task: usize, kind: i32, value: u3
     atoms[at + 2] = start_of(value);
 }
 
-// The atoms of `tasks` from the k-th atom on: each starts at `low` or later and ends by `high`. The number of the atom after them.
+// What a list by task says of the task of a leaf.
+fn of_leaf(xs: &[u32], tasks: &[usize; 48], place: LeafPlace) -> u32
+    requires { ⌜ (place .0 < TASKS) × (taskIn (now tasks) (place .0) < length (now xs)) ⌝ }
+    ensures { λ r. ⌜ r ≡ getD (now (xs .entry)) (taskIn (now (tasks .entry)) (place .0)) 0 ⌝ }
+{
+    let id = task_of(tasks, place);
+    let i = id.0;
+    xs[i]
+}
+
+// The atoms of Θ's tasks at the leaves from `from` up to `to`, from the k-th atom on: each starts at `low` or later and ends by `high`.
+// The number of the atom after them.
 fn write_within(
     atoms: &mut [i32],
     k: usize,
-    tasks: &[usize],
+    nodes: &[u32; 508],
+    tasks: &[usize; 48],
+    inner: usize,
+    from: LeafPlace,
+    to: usize,
     dur: &[u32],
     low: u32,
     high: u32,
 ) -> usize
-    requires { ⌜ Writable (length (now atoms)) k (now tasks) (now dur) high ⌝ }
-    ensures { λ m. ⌜ Stored (now (atoms .entry)) (now (atoms .exit)) k m (within zeroAt (lasting (now (dur .entry))) low high (now (tasks .entry))) ⌝ }
+    requires { ⌜ Writable (length (now atoms)) k (thetaBetween (now nodes) inner (now tasks) (from .0) to) (now dur) high
+        × (from .0 ≤ to) × (to ≤ TASKS) × (inner ≤ 63) ⌝ }
+    ensures { λ m. ⌜ Stored (now (atoms .entry)) (now (atoms .exit)) k m
+        (within zeroAt (lasting (now (dur .entry))) low high (thetaBetween (now (nodes .entry)) inner (now (tasks .entry)) (from .0) to)) ⌝ }
 {
-    let mut j = 0;
+    let mut x = ThetaLambdaTree::next_in_theta(nodes, inner, from, to);
     let mut at = k;
-    while j < tasks.len() {
-        let t = tasks[j];
+    while x.0 < to {
+        let id = task_of(tasks, x);
+        let t = id.0;
         write_atom(atoms, at, t, AT_LEAST, low);
         write_atom(atoms, at + 1, t, AT_MOST, high - dur[t]);
-        j += 1;
+        x = ThetaLambdaTree::next_in_theta(nodes, inner, LeafPlace(x.0 + 1), to);
         at += 2;
     }
     at
 }
 
-// The tasks of Θ from one place on, and how long they last.
+// The tasks of Θ from one leaf on, and how long they last.
 struct Suffix {
-    first: usize,
+    first: LeafPlace,
     lasts: u32,
 }
 
@@ -78,31 +101,56 @@ fn least(a: u32, b: u32) -> u32
 }
 
 // ω: Θ, which lasts p, without its first tasks, as long as those left do not pass lct with a task that starts at e and lasts d.
-fn preceding(theta: &[usize], est: &[u32], dur: &[u32], p: u32, lct: u32, e: u32, d: u32) -> Suffix
-    requires { ⌜ Walk (Precedes (now est) lct e d) (now theta) (now est) (now dur) p d ⌝ }
-    ensures { λ r. ⌜ First (Precedes (now (est .entry)) lct e d) (now (dur .entry)) (now (theta .entry)) (r .first) (r .lasts) ⌝ }
+fn preceding(
+    nodes: &[u32; 508],
+    tasks: &[usize; 48],
+    inner: usize,
+    n: usize,
+    est: &[u32],
+    dur: &[u32],
+    p: u32,
+    lct: u32,
+    e: u32,
+    d: u32,
+) -> Suffix
+    requires { ⌜ Walk (Precedes (now est) lct e d) (thetaBetween (now nodes) inner (now tasks) 0 n) (now est) (now dur) p d
+        × (n ≤ TASKS) × (inner ≤ 63) ⌝ }
+    ensures { λ r. ⌜ StopsAt (whiteIn (now (nodes .entry)) inner) (taskIn (now (tasks .entry)))
+        (Precedes (now (est .entry)) lct e d) (now (dur .entry)) 0 n (r .first .0) (r .lasts) ⌝ }
 {
-    let mut i = 0;
+    let mut x = ThetaLambdaTree::next_in_theta(nodes, inner, LeafPlace(0), n);
     let mut q = p;
-    while least(e, est[theta[i]]) + q + d <= lct {
-        q -= dur[theta[i]];
-        i += 1;
+    while least(e, of_leaf(est, tasks, x)) + q + d <= lct {
+        q -= of_leaf(dur, tasks, x);
+        x = ThetaLambdaTree::next_in_theta(nodes, inner, LeafPlace(x.0 + 1), n);
     }
-    Suffix { first: i, lasts: q }
+    Suffix { first: x, lasts: q }
 }
 
-// ω′: ω, which lasts p, without its first tasks, as long as those left do not give the bound.
-fn attaining(omega: &[usize], est: &[u32], dur: &[u32], p: u32, bound: u32) -> Suffix
-    requires { ⌜ Walk (Attains (now est) bound) (now omega) (now est) (now dur) p 0 ⌝ }
-    ensures { λ r. ⌜ First (Attains (now (est .entry)) bound) (now (dur .entry)) (now (omega .entry)) (r .first) (r .lasts) ⌝ }
+// ω′: ω, the tasks of Θ from leaf `from` on, which last p, without its first tasks, as long as those left do not give the bound.
+fn attaining(
+    nodes: &[u32; 508],
+    tasks: &[usize; 48],
+    inner: usize,
+    from: LeafPlace,
+    n: usize,
+    est: &[u32],
+    dur: &[u32],
+    p: u32,
+    bound: u32,
+) -> Suffix
+    requires { ⌜ Walk (Attains (now est) bound) (thetaBetween (now nodes) inner (now tasks) (from .0) n) (now est) (now dur) p 0
+        × (from .0 ≤ n) × (n ≤ TASKS) × (inner ≤ 63) ⌝ }
+    ensures { λ r. ⌜ StopsAt (whiteIn (now (nodes .entry)) inner) (taskIn (now (tasks .entry)))
+        (Attains (now (est .entry)) bound) (now (dur .entry)) (from .0) n (r .first .0) (r .lasts) ⌝ }
 {
-    let mut j = 0;
+    let mut x = ThetaLambdaTree::next_in_theta(nodes, inner, from, n);
     let mut q = p;
-    while est[omega[j]] + q != bound {
-        q -= dur[omega[j]];
-        j += 1;
+    while of_leaf(est, tasks, x) + q != bound {
+        q -= of_leaf(dur, tasks, x);
+        x = ThetaLambdaTree::next_in_theta(nodes, inner, LeafPlace(x.0 + 1), n);
     }
-    Suffix { first: j, lasts: q }
+    Suffix { first: x, lasts: q }
 }
 
 // The atoms of ω, which lasts p, from the k-th atom on: each task ends by `last`, and starts at the est of ω′ or later
@@ -110,7 +158,11 @@ fn attaining(omega: &[usize], est: &[u32], dur: &[u32], p: u32, bound: u32) -> S
 fn write_bounds(
     atoms: &mut [i32],
     k: usize,
-    omega: &[usize],
+    nodes: &[u32; 508],
+    tasks: &[usize; 48],
+    inner: usize,
+    from: LeafPlace,
+    n: usize,
     est: &[u32],
     dur: &[u32],
     p: u32,
@@ -118,14 +170,17 @@ fn write_bounds(
     r: u32,
     last: u32,
 ) -> usize
-    requires { ⌜ (Walk (Attains (now est) bound) (now omega) (now est) (now dur) p 0) × (Writable (length (now atoms)) k (now omega) (now dur) last) ⌝ }
-    ensures { λ m. ⌜ Stored (now (atoms .entry)) (now (atoms .exit)) k m (bounds zeroAt (starting (now (est .entry)) (now (dur .entry))) bound r last p (now (omega .entry))) ⌝ }
+    requires { ⌜ Walk (Attains (now est) bound) (thetaBetween (now nodes) inner (now tasks) (from .0) n) (now est) (now dur) p 0
+        × Writable (length (now atoms)) k (thetaBetween (now nodes) inner (now tasks) (from .0) n) (now dur) last
+        × (from .0 ≤ n) × (n ≤ TASKS) × (inner ≤ 63) ⌝ }
+    ensures { λ m. ⌜ Stored (now (atoms .entry)) (now (atoms .exit)) k m
+        (bounds zeroAt (starting (now (est .entry)) (now (dur .entry))) bound r last p (thetaBetween (now (nodes .entry)) inner (now (tasks .entry)) (from .0) n)) ⌝ }
 {
-    let prime = attaining(omega, est, dur, p, bound);
-    let j = prime.first;
+    let prime = attaining(nodes, tasks, inner, from, n, est, dur, p, bound);
+    let first = prime.first;
     let e = bound - prime.lasts;
-    let at = write_within(atoms, k, &omega[..j], dur, r, last);
-    write_within(atoms, at, &omega[j..], dur, e, last)
+    let at = write_within(atoms, k, nodes, tasks, inner, from, first.0, dur, r, last);
+    write_within(atoms, at, nodes, tasks, inner, first, n, dur, e, last)
 }
 
 // The reason of an overload, from the k-th atom on: what ω passes lct by, less one, is shared out on both sides.
@@ -133,32 +188,39 @@ fn write_bounds(
 pub fn create_conflict_explanation(
     atoms: &mut [i32],
     k: usize,
-    theta: &[usize],
+    nodes: &[u32; 508],
+    tasks: &[usize; 48],
+    inner: usize,
+    n: usize,
     est: &[u32],
     dur: &[u32],
     p: u32,
     lct: u32,
 ) -> usize
-    requires { ⌜ Overloaded (length (now atoms)) k (now theta) (now est) (now dur) p lct ⌝ }
-    ensures { λ m. ⌜ Stored (now (atoms .entry)) (now (atoms .exit)) k m (conflict zeroAt (starting (now (est .entry)) (now (dur .entry))) lct p (now (theta .entry))) ⌝ }
+    requires { ⌜ Overloaded (length (now atoms)) k (thetaIn (now nodes) inner (now tasks) n) (now est) (now dur) p lct × (n ≤ TASKS) × (inner ≤ 63) ⌝ }
+    ensures { λ m. ⌜ Stored (now (atoms .entry)) (now (atoms .exit)) k m
+        (conflict zeroAt (starting (now (est .entry)) (now (dur .entry))) lct p (thetaIn (now (nodes .entry)) inner (now (tasks .entry)) n)) ⌝ }
 {
     // There is no task i here, and one that starts at lct and lasts nothing changes no test.
-    let omega = preceding(theta, est, dur, p, lct, lct, 0);
-    let i = omega.first;
-    let e = est[theta[i]];
+    let omega = preceding(nodes, tasks, inner, n, est, dur, p, lct, lct, 0);
+    let first = omega.first;
+    let e = of_leaf(est, tasks, first);
     let delta = e + omega.lasts - (lct + 1);
     let offset_left = delta / 2;
     let offset_right = delta - offset_left;
     let low = e - offset_left;
     let high = lct + offset_right;
-    write_within(atoms, k, &theta[i..], dur, low, high)
+    write_within(atoms, k, nodes, tasks, inner, first, n, dur, low, high)
 }
 
 // The reason of the post that task i starts at the bound or later, from the k-th atom on. The number of the atom after it.
 pub fn create_propagation_explanation(
     atoms: &mut [i32],
     k: usize,
-    theta: &[usize],
+    nodes: &[u32; 508],
+    tasks: &[usize; 48],
+    inner: usize,
+    n: usize,
     est: &[u32],
     dur: &[u32],
     p: u32,
@@ -166,17 +228,32 @@ pub fn create_propagation_explanation(
     i: usize,
     bound: u32,
 ) -> usize
-    requires { ⌜ Preceded (length (now atoms)) k (now theta) (now est) (now dur) p lct i bound ⌝ }
-    ensures { λ m. ⌜ Stored (now (atoms .entry)) (now (atoms .exit)) k m (propagation zeroAt (starting (now (est .entry)) (now (dur .entry))) i bound lct p (now (theta .entry))) ⌝ }
+    requires { ⌜ Preceded (length (now atoms)) k (thetaIn (now nodes) inner (now tasks) n) (now est) (now dur) p lct i bound × (n ≤ TASKS) × (inner ≤ 63) ⌝ }
+    ensures { λ m. ⌜ Stored (now (atoms .entry)) (now (atoms .exit)) k m
+        (propagation zeroAt (starting (now (est .entry)) (now (dur .entry))) i bound lct p (thetaIn (now (nodes .entry)) inner (now (tasks .entry)) n)) ⌝ }
 {
     let e = est[i];
     let d = dur[i];
-    let omega = preceding(theta, est, dur, p, lct, e, d);
+    let omega = preceding(nodes, tasks, inner, n, est, dur, p, lct, e, d);
     let first = omega.first;
     let q = omega.lasts;
-    let r = least(e, est[theta[first]]);
+    let r = least(e, of_leaf(est, tasks, first));
     let last = r + q + d - 1;
-    let at = write_bounds(atoms, k, &theta[first..], est, dur, q, bound, r, last);
+    let at = write_bounds(
+        atoms,
+        k,
+        nodes,
+        tasks,
+        inner,
+        first,
+        n,
+        est,
+        dur,
+        q,
+        bound,
+        r,
+        last,
+    );
     write_atom(atoms, at, i, AT_LEAST, r);
     at + 1
 }

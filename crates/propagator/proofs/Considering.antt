@@ -21,6 +21,7 @@ use Rattle.trees.specs.Leaves as leaves
 use Rattle.trees.specs.Leaves.{Leaf, empty, startAt, durationAt, leafNode}
 use Rattle.trees.specs.Nodes.{emptyOf}
 use Rattle.trees.specs.Puts.{Puttable, Put}
+use Rattle.trees.specs.Searches.{thetaIn}
 use Rattle.trees.specs.Words.{nodeAt}
 use Rattle.trees.proofs.Heights.{room as room-for}
 use Rattle.trees.proofs.Roots as tree
@@ -39,7 +40,7 @@ use Rattle.propagator.specs.declared.disjunctive_propagator.Written.{Wri
 use Rattle.propagator.specs.declared.disjunctive_propagator.Turn.the-variants as turn
 use Rattle.propagator.specs.Holding.{Ordered, Holds, Arrays, At}
 use Rattle.propagator.specs.Moving.{Movable}
-use Rattle.propagator.specs.Turns.{thetaIn, sumIn, Posted, Standing, AtNow, InvNow, turns, Considered, Responsible-for}
+use Rattle.propagator.specs.Turns.{sumIn, Posted, Standing, AtNow, InvNow, turns, Considered, Responsible-for}
 use Rattle.propagator.proofs.Meeting as meeting
 
 -- a list of which one element changes

@@ -17,6 +17,7 @@ use Rattle.scheduling.specs.Scheduling.{natural, Tasks, Atom, completion}
 use Rattle.scheduling.proofs.Cards.{card-most}
 use Rattle.trees.specs.Leaves as leaves
 use Rattle.trees.specs.Leaves.{gray}
+use Rattle.trees.specs.Searches.{thetaIn}
 use Rattle.trees.specs.Words.{nodeAt}
 use Rattle.runs.specs.Traces.{Post, Trace, End, done, overload, emptied}
 use Rattle.runs.specs.Runs.{State, Turn, on, stop, conflict, inner, outer, run, ended, grayed}
@@ -32,7 +33,7 @@ use Rattle.propagator.specs.declared.disjunctive_propagator.Outcome.the-
 use Rattle.propagator.specs.declared.disjunctive_propagator.Turn.the-variants as turn
 use Rattle.propagator.specs.declared.disjunctive_propagator.Written.{Written}
 use Rattle.propagator.specs.Holding.{Ordered, At}
-use Rattle.propagator.specs.Turns.{thetaIn, sumIn, Standing, AllConsidered}
+use Rattle.propagator.specs.Turns.{sumIn, Standing, AllConsidered}
 use Rattle.propagator.specs.Moving.{Movable, Moved}
 use Rattle.propagator.specs.Finding.{outcomeOf, allWhite, conflictIn, Conflicted, Begun, Ended}
 use Rattle.propagator.proofs.Considering as considering

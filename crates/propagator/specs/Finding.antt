@@ -8,6 +8,7 @@ use lib.Seq.{sets}
 use Rattle.integers.specs.Moments.{zeroAt}
 use Rattle.scheduling.specs.Scheduling.{natural, Tasks, Atom, completion}
 use Rattle.trees.specs.Leaves.{white}
+use Rattle.trees.specs.Searches.{thetaIn}
 use Rattle.runs.specs.Traces.{Trace, End, done, overload, emptied}
 use Rattle.runs.specs.Runs.{State, conflict, run, tabulate}
 use Rattle.scheduling.specs.Words.{atomWords}
@@ -17,7 +18,7 @@ use Rattle.propagator.specs.declared.disjunctive_propagator.Outcome.{Out
 use Rattle.propagator.specs.declared.disjunctive_propagator.Outcome.the-variants as outcome
 use Rattle.propagator.specs.declared.disjunctive_propagator.Written.{Written}
 use Rattle.propagator.specs.Holding.{Ordered, Holds, Arrays, At}
-use Rattle.propagator.specs.Turns.{thetaIn, sumIn}
+use Rattle.propagator.specs.Turns.{sumIn}
 
 -- how a trace ended, with the number of its posts
 abbrev pub outcomeOf : List Atom → ℕ → End → Outcome

@@ -14,7 +14,7 @@ use Rattle.scheduling.specs.Scheduling.{natural, Tasks, completion}
 use Rattle.trees.specs.declared.theta_lambda_tree.Responsible.{Responsible}
 use Rattle.trees.specs.declared.theta_lambda_tree.Responsible.the-variants as responsible
 use Rattle.trees.specs.Leaves as leaves
-use Rattle.trees.specs.Searches.{searchEct, responsibleOf, thetaOf, isWhite}
+use Rattle.trees.specs.Searches.{searchEct, responsibleOf}
 use Rattle.trees.specs.Shapes.{leavesOf}
 use Rattle.trees.specs.Words.{nodeAt}
 use Rattle.runs.specs.Runs.{State, Turn, on, stop, inner, propagation}
@@ -27,10 +27,7 @@ use Rattle.propagator.specs.declared.disjunctive_propagator.Turn as code
 use Rattle.propagator.specs.declared.disjunctive_propagator.Turn.the-variants as turn
 use Rattle.propagator.specs.Holding.{Ordered, Holds, Arrays, At}
 
--- the list of Theta and its sum, as the tree's words hold them
-abbrev pub thetaIn : List ℕ → ℕ → List ℕ → ℕ → List ℕ
-thetaIn words inner tasks n = thetaOf (isWhite (leavesOf inner (nodeAt words))) (λ k. getD tasks k 0) 0 n
-
+-- the sum of Theta, as the tree's words hold it
 abbrev pub sumIn : List ℕ → ℕ
 sumIn words = nodeAt words 0 .«sum_of_processing_times»
 

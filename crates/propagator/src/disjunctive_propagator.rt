@@ -23,7 +23,7 @@ ghost use Prim.Native.Nat.{ℕ, _+_, _*_, _^_, _≤_, _<_};
 ghost use lib.ListN.{length, getD};
 ghost use Rattle.integers.specs.Limits.{TASKS};
 ghost use Rattle.integers.specs.Moments.{zeroAt};
-ghost use Rattle.trees.specs.Searches.{Searchable};
+ghost use Rattle.trees.specs.Searches.{Searchable, thetaIn};
 ghost use Rattle.trees.specs.Words.{nodeAt};
 ghost use Rattle.runs.specs.Runs.{propagation};
 ghost use Rattle.scheduling.specs.Words.{atomWords};
@@ -32,7 +32,7 @@ ghost use Rattle.propagator.specs.Filling.{Fillable, Filled};
 ghost use Rattle.propagator.specs.Finding.{Conflicted, conflictIn, Begun, Ended};
 ghost use Rattle.propagator.specs.Ran.{Runnable, Left, Ran};
 ghost use Rattle.propagator.specs.Moving.{Movable, Moved};
-ghost use Rattle.propagator.specs.Turns.{thetaIn, sumIn, candidateIn, Posted, Standing, Considered, AllConsidered, Responsible-for};
+ghost use Rattle.propagator.specs.Turns.{sumIn, candidateIn, Posted, Standing, Considered, AllConsidered, Responsible-for};
 
 // How a run ended, with the number of its posts: all tasks considered; a set of tasks overloads its span, with the first atom and the atom count
 // of its reason; the last post is above its task's latest start; or the number that turned the input back.
@@ -103,15 +103,15 @@ fn post<'a>(
         (atomWords (propagation zeroAt (starting (now (est .entry)) (now (durations .entry))) i bound lct (sumIn (now (nodes .entry))) (thetaIn (now (nodes .entry)) inner (now (tasks .entry)) n)))
         (length (propagation zeroAt (starting (now (est .entry)) (now (durations .entry))) i bound lct (sumIn (now (nodes .entry))) (thetaIn (now (nodes .entry)) inner (now (tasks .entry)) n))) ⌝ }
 {
-    let theta = ThetaLambdaTree::get_theta(nodes, tasks, inner, n);
     let p = ThetaLambdaTree::sum_of_processing_times(nodes);
-    let m = theta.count;
-    let white = theta.tasks;
     let at = written.atoms;
     let end = create_propagation_explanation(
         atoms,
         at,
-        &white[..m],
+        nodes,
+        tasks,
+        inner,
+        n,
         est,
         durations,
         p,
@@ -248,12 +248,20 @@ fn overload<'a>(
     requires { ⌜ (Overloaded (length (now atoms)) (written .atoms) (thetaIn (now nodes) inner (now tasks) n) (now est) (now durations) (sumIn (now nodes)) lct) × (n ≤ 48) × (inner ≤ 63) ⌝ }
     ensures { λ r. ⌜ Conflicted (now (atoms .entry)) (now (atoms .exit)) written r (conflictIn (now (nodes .entry)) inner (now (tasks .entry)) n (now (est .entry)) (now (durations .entry)) lct) ⌝ }
 {
-    let theta = ThetaLambdaTree::get_theta(nodes, tasks, inner, n);
     let p = ThetaLambdaTree::sum_of_processing_times(nodes);
-    let m = theta.count;
-    let white = theta.tasks;
     let at = written.atoms;
-    let end = create_conflict_explanation(atoms, at, &white[..m], est, durations, p, lct);
+    let end = create_conflict_explanation(
+        atoms,
+        at,
+        nodes,
+        tasks,
+        inner,
+        n,
+        est,
+        durations,
+        p,
+        lct,
+    );
     Outcome::Overload {
         posts: written.posts,
         first: at,

@@ -57,7 +57,7 @@ module _ (f : ℕ → ℕ) (t : ℕ) where
   at-most m small once = omega (arith, image-card m small once, card-most below (image m))
 
 -- the white leaves among d leaves
-theta-few : (white : ℕ → Bool) (task : ℕ → ℕ) (a d : ℕ) → length (thetaOf white task a d) ≤ d
+pub theta-few : (white : ℕ → Bool) (task : ℕ → ℕ) (a d : ℕ) → length (thetaOf white task a d) ≤ d
 theta-few white task a zero = rw (theta-none white task a) (omega arith)
 theta-few white task a (suc d) = elim (bool (white a))
     [ inl y ↦ rw (theta-white white task a d y) (omega (arith, theta-few white task (suc a) d)) | inr y ↦ rw (theta-skip white task a d y) (omega (arith, theta-few white task (suc a) d)) ]

@@ -1,15 +1,12 @@
--- The walk over the leaves that lists the tasks of the white ones.
+-- The tasks of the white leaves, as a list.
 -- Assumes nothing.
 use mathlib.Core.Path.{_≡_, refl, sym, ap, ap₂, _∙_}
 use mathlib.Core.Bool.{Bool, true, false}
 use mathlib.Core.Logic.{_⊎_, inl, inr}
-use mathlib.Core.List.{List, [], _∷_, _++_, append-assoc, append-nil}
-use Prim.Native.Nat.{ℕ, zero, suc, _+_, _-_, _≤_, _<_}
+use mathlib.Core.List.{List, [], _∷_}
+use Prim.Native.Nat.{ℕ, zero, suc, _+_, _≤_, _<_}
 use native.Mathlib.Omega.{arith}
-use native.Mathlib.Numerals.{add-one}
 use native.Mathlib.Decide.{ℕ-discrete}
-use lib.ListN.{length, set, take}
-use lib.Seq.{take-suc-set}
 use Rattle.integers.specs.Orders.{has, Distinct}
 use Rattle.integers.proofs.Bools.{bool, clash}
 use Rattle.integers.proofs.Permutations.{has-here, has-later, has-nil, has-cases}
@@ -30,26 +27,9 @@ module _ (white : ℕ → Bool) (task : ℕ → ℕ) where
   unfolding thetaOf
   theta-skip a d y = rw (y, thetaOf)
 
-  -- the first n of l, and then the leaves from i on
-  module _ (n i count : ℕ) (l whole : List ℕ) (so-far : take n l ++ thetaOf white task i (count - i) ≡ whole) where
-    on : i < count → (d : List ℕ) → thetaOf white task i (suc (count - suc i)) ≡ d → take n l ++ d ≡ whole
-    on q d e =
-        let z : count - i ≡ suc (count - suc i) = omega arith in
-        ap (λ (t : List ℕ). take n l ++ t) (sym e ∙ ap (thetaOf white task i) (sym z)) ∙ so-far
-
-    pub next-white : i < count → n < length l → white i ≡ true → (v : ℕ) → v ≡ task i → take (n + 1) (set l n v) ++ thetaOf white task (i + 1) (count - (i + 1)) ≡ whole
-    next-white q s y v e = rw (add-one i, add-one n)
-        (ap (λ (t : List ℕ). t ++ thetaOf white task (suc i) (count - suc i)) (take-suc-set l n v s)
-        ∙ append-assoc (take n l) (v ∷ []) (thetaOf white task (suc i) (count - suc i))
-        ∙ on q (v ∷ thetaOf white task (suc i) (count - suc i)) (theta-white i (count - suc i) y ∙ ap (λ (x : ℕ). x ∷ thetaOf white task (suc i) (count - suc i)) (sym e)))
-
-    pub next-other : i < count → white i ≡ false → take n l ++ thetaOf white task (i + 1) (count - (i + 1)) ≡ whole
-    next-other q y = rw (add-one i) (on q (thetaOf white task (suc i) (count - suc i)) (theta-skip i (count - suc i) y))
-
-    pub walked : count ≤ i → take n l ≡ whole
-    walked q =
-        let z : count - i ≡ 0 = omega arith in
-        sym (append-nil (take n l)) ∙ ap (λ (t : List ℕ). take n l ++ t) (sym (theta-none i) ∙ ap (thetaOf white task i) (sym z)) ∙ so-far
+-- one leaf more that is not white
+pub passed-more : (white : ℕ → Bool) (a x : ℕ) → ((y : ℕ) → a ≤ y → y < x → white y ≡ false) → white x ≡ false → (y : ℕ) → a ≤ y → y < x + 1 → white y ≡ false
+passed-more white a x before here y lo hi = elim (ℕ-discrete y x) [ yes z ↦ ap white z ∙ here | no z ↦ before y lo (omega arith) ]
 
 -- leaves that agree, and their tasks
 pub theta-same : (white white′ : ℕ → Bool) (task task′ : ℕ → ℕ) (a d : ℕ) → ((k : ℕ) → a ≤ k → k < a + d → (white k ≡ white′ k) × (task k ≡ task′ k)) → thetaOf white task a d ≡ thetaOf white′ task′ a d
@@ -102,7 +82,7 @@ module _ (white : ℕ → Bool) (task : ℕ → ℕ) where
       by (inl v) ih = rw (theta-white white task a d v) (new (has (thetaOf white task (suc a) d) (task a)) refl, ih)
       by (inr v) ih = rw (theta-skip white task a d v) ih
 
--- `get_theta`'s list is the walk over all leaves
+-- Theta is the list over all leaves
 pub theta-is : (J : Tasks natural) (first : List ℕ) (ls : List Leaf) → theta J first ls ≡ thetaOf (whiteAt ls) (taskAt J first) 0 (J .count)
 unfolding theta
 theta-is J first ls = refl

@@ -143,7 +143,7 @@ module _ {J : Tasks natural} {first : List ℕ} (lim : Limited J first) {ls : Li
   unfolding responsible
   responsible-of h z = rw (z, own) refl
 
-  -- the list of `get_theta`, by any array of the leaves' tasks
+  -- the tasks of Theta, by any array of the leaves' tasks
   pub theta-of : (tasks : List ℕ) → ((j : ℕ) → j < J .count → getD tasks j 0 ≡ taskAt J first j) → thetaOf (isWhite (leavesOf inner (nodeAt words))) (λ k. getD tasks k 0) 0 (J .count) ≡ theta J first ls
   unfolding theta
   theta-of tasks z = theta-same (isWhite (leavesOf inner (nodeAt words))) (whiteAt ls) (λ k. getD tasks k 0) (taskAt J first) 0 (J .count) (λ k lo hi.

@@ -80,7 +80,7 @@ module _ (J : Tasks natural) (first : List ℕ) where
   unfoldable pub responsible : List Leaf → Option ℕ
   responsible ls = searchEct (leaves ls) (heightFor (J .count)) 0
 
-  -- `get_theta`
+  -- the tasks of Theta, the list of the source's `get_theta`
   unfoldable pub theta : List Leaf → List ℕ
   theta ls = thetaOf (whiteAt ls) taskAt 0 (J .count)
 

@@ -3,9 +3,9 @@ use mathlib.Core.Bool.{Bool, true, false, _&&_, not}
 use mathlib.Core.Option.{Option, some, none}
 use mathlib.Core.List.{List, [], _∷_}
 use mathlib.Core.Path.{_≡_}
-use Prim.Native.Nat.{ℕ, zero, suc, _+_, _*_, _≤_}
+use Prim.Native.Nat.{ℕ, zero, suc, _+_, _*_, _≤_, _<_}
 use lib.Dec.{eqb, leb}
-use lib.ListN.{length, getD, take}
+use lib.ListN.{getD}
 use Rattle.trees.specs.declared.theta_lambda_tree.Node.{Node}
 use Rattle.trees.specs.declared.theta_lambda_tree.Around.{Around}
 use Rattle.trees.specs.declared.theta_lambda_tree.Around.the-variants as around
@@ -17,6 +17,7 @@ use Rattle.trees.specs.declared.theta_lambda_tree.Responsible.the-varian
 use Rattle.trees.specs.declared.theta_lambda_tree.Responsible.{Responsible}
 use Rattle.trees.specs.Shapes.{width, nodeOver, leavesOf, TreeOf, HasHeight}
 use Rattle.trees.specs.Nodes.{joinOf, isEmpty}
+use Rattle.trees.specs.Words.{nodeAt}
 use Rattle.trees.specs.Bounds.{size, Fair, Fits, Bounded}
 
 -- a gray leaf: with the gray task it has an ect, without it none
@@ -114,17 +115,32 @@ pub record Searchable (m h : ℕ) (at : ℕ → Node) : Type 0 where
   pub complete : m + 1 ≡ width h
   pub past : (k : ℕ) → 48 ≤ k → gray (leavesOf m at k) ≡ false
 
+-- Theta -----------------------------------------------------------------------------------------------------------------------
+
 -- a white leaf has an ect
 abbrev pub isWhite : (ℕ → Node) → ℕ → Bool
 isWhite leaf k = not (eqb (leaf k .ect) 0)
 
--- the tasks of the white leaves among the d from a on, in leaf order
+-- the tasks of the white leaves among the d from a on, in leaf order: the list of the source's `get_theta`
 unfoldable pub thetaOf : (ℕ → Bool) → (ℕ → ℕ) → ℕ → ℕ → List ℕ
 thetaOf white task a zero = []
 thetaOf white task a (suc d) = elim (white a) [ true ↦ task a ∷ thetaOf white task (suc a) d | false ↦ thetaOf white task (suc a) d ]
 
--- `get_theta`: the first `count` of the tasks are the list, and there are no more in it.
-pub record Lists (tasks : List ℕ) (count : ℕ) (list : List ℕ) : Type 0 where
-  pub small : count ≤ 48
-  pub front : take count tasks ≡ list
-  pub all : count ≡ length list
+-- which leaves are white, by the words of a tree with `inner` inner nodes
+abbrev pub whiteIn : List ℕ → ℕ → ℕ → Bool
+whiteIn words inner = isWhite (leavesOf inner (nodeAt words))
+
+-- the task of each leaf, by an array
+abbrev pub taskIn : List ℕ → ℕ → ℕ
+taskIn tasks k = getD tasks k 0
+
+-- the tasks of Theta, by both, of a tree for n tasks
+abbrev pub thetaIn : List ℕ → ℕ → List ℕ → ℕ → List ℕ
+thetaIn words inner tasks n = thetaOf (whiteIn words inner) (taskIn tasks) 0 n
+
+-- The first white leaf from a on and below n, or n where there is none.
+pub record Next (white : ℕ → Bool) (a n place : ℕ) : Type 0 where
+  pub from : a ≤ place
+  pub to : place ≤ n
+  pub passed : (x : ℕ) → a ≤ x → x < place → white x ≡ false
+  pub found : place < n → white place ≡ true

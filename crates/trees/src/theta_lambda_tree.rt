@@ -24,7 +24,7 @@ ghost use Rattle.trees.specs.Words.{nodeAt};
 ghost use Rattle.trees.specs.Bounds.{Fair, size, Fits, NeedsUpheap};
 ghost use Rattle.trees.specs.Puts.{whiteTask, grayTask, Puttable, Put, Layable, Laid, Rebuildable, Rebuilt};
 ghost use Rattle.trees.specs.Mappings.{Updated};
-ghost use Rattle.trees.specs.Searches.{Searched, Searchable, gray, tested, descentP, descentEct, AroundFits, aroundOf, stepAtP, stepAtEct, searchP, searchEct, foundAt, responsibleOf, thetaOf, isWhite, Lists};
+ghost use Rattle.trees.specs.Searches.{Searched, Searchable, gray, tested, descentP, descentEct, AroundFits, aroundOf, stepAtP, stepAtEct, searchP, searchEct, foundAt, responsibleOf, whiteIn, Next};
 
 // A node which keeps track of the ect and the sum of processing times of the tasks below it, and of both if a single gray task can be added.
 pub struct Node {
@@ -64,12 +64,6 @@ const NOWHERE: usize = 127;
 pub enum Responsible {
     Task(LocalId),
     Nothing,
-}
-
-// The tasks of Theta in order of their leaves: the first `count` of `tasks`.
-pub struct Theta {
-    pub tasks: [usize; 48],
-    pub count: usize,
 }
 
 impl Node {
@@ -554,31 +548,25 @@ impl ThetaLambdaTree {
         }
     }
 
-    // Returns the tasks which are currently in the set theta, in order of their leaves.
-    pub fn get_theta<'a>(
-        nodes: &'a [u32; 508],
-        reverse_mapping: &'a [usize; 48],
+    // Returns the place of the first leaf from `place` on, below `count`, whose task is in Theta, or `count` where there is none. The source collects these
+    // leaves' tasks in a list (`get_theta`); here who wants them walks over the leaves.
+    pub fn next_in_theta(
+        nodes: &[u32; 508],
         inner: usize,
+        place: LeafPlace,
         count: usize,
-    ) -> Theta
-        requires { ⌜ (count ≤ 48) × (inner ≤ 63) ⌝ }
-        ensures { λ r. ⌜ Lists (r .tasks) (r .count) (thetaOf (isWhite (leavesOf inner (nodeAt (now (nodes .entry))))) (λ k. getD (now («reverse_mapping» .entry)) k 0) 0 count) ⌝ }
+    ) -> LeafPlace
+        requires { ⌜ (place .0 ≤ count) × (count ≤ 48) × (inner ≤ 63) ⌝ }
+        ensures { λ r. ⌜ Next (whiteIn (now (nodes .entry)) inner) (place .0) count (r .0) ⌝ }
     {
-        let mut tasks: [usize; 48] = [0; 48];
-        let mut white: usize = 0;
-        let mut i: usize = 0;
-        while i < count {
-            let leaf = load(nodes, inner + i);
+        let mut x = place.0;
+        while x < count {
+            let leaf = load(nodes, inner + x);
             if leaf.ect != 0 {
-                let id = task_of(reverse_mapping, LeafPlace(i));
-                tasks[white] = id.0;
-                white += 1;
+                return LeafPlace(x);
             }
-            i += 1;
+            x += 1;
         }
-        Theta {
-            tasks,
-            count: white,
-        }
+        LeafPlace(x)
     }
 }

@@ -1,103 +1,98 @@
+use mathlib.Core.Path.{sym, subst}
+use mathlib.Core.Bool.{Bool}
+use mathlib.Core.List.{List}
 use Prim.Native.Nat.{ℕ}
 use native.Mathlib.Omega.{arith}
-use lib.ListN.{getD}
+use lib.ListN.{length}
 use borrow.Author.Needs.{needs}
-use Rattle.explanations.specs.Explanations.{Known}
-use Rattle.explanations.proofs.Storing.{Overflow, overflow, overload-walk, overload-first, overload-writable, conflict-stored}
+use Rattle.integers.specs.Moments.{zeroAt}
+use Rattle.runs.specs.Runs.{conflict}
+use Rattle.trees.specs.Searches.{whiteIn, taskIn}
+use Rattle.explanations.specs.Explanations.{starting, between, Overloaded, Stored}
+use Rattle.explanations.proofs.Walking.{all-leaves}
+use Rattle.explanations.proofs.Storing.{Overflow, overflow, overload-walk, overload-known, overload-stops, overload-writable, conflict-stored}
 use Rattle.explanations.proofs.create_conflict_explanation.Statement.{statement}
 use Rattle.explanations.proofs.create_conflict_explanation.Tie as tie
 
--- what is known after the walk: the task at which ω begins, and what ω passes lct by
+abbrev white : tie.Start → ℕ → Bool
+white c = whiteIn (c .args .nodes .now) (c .args .inner)
+
+abbrev tasks : tie.Start → ℕ → ℕ
+tasks c = taskIn (c .args .tasks .now)
+
+-- what is asked, of the leaves
+given : (c : tie.Start) → let a = c .args in Overloaded (length (a .atoms .now)) (a .k) (between (white c) (tasks c) 0 (a .n)) (a .est .now) (a .dur .now) (a .p) (a .lct)
+given c = let a = c .args in subst (λ (ks : List ℕ). Overloaded (length (a .atoms .now)) (a .k) ks (a .est .now) (a .dur .now) (a .p) (a .lct)) (all-leaves (white c) (tasks c) (a .n)) (c .pre .0)
+
+-- what ω passes lct by
 abbrev start : tie.After-preceding → tie.Start
-start c = c .before .before .before .before
+start c = c .before .before .before
 
-abbrev first : tie.After-preceding → ℕ
-first c = getD (start c .args .theta .now) (c .preceding .result .first) 0
+abbrev walk : tie.After-of-leaf → tie.After-preceding
+walk c = c .before .before
 
-task : (c : tie.After-preceding) → Known (start c .args .est .now) (start c .args .dur .now) (first c)
-task c = start c .pre .white .known (c .preceding .result .first) (c .preceding .ensures .small)
-
-numbers : (c : tie.After-preceding) → Overflow (start c .pre) (getD (start c .args .est .now) (first c) 0) (c .preceding .result .lasts)
-numbers c = overflow (start c .pre) (c .preceding .ensures)
+numbers : (c : tie.After-of-leaf) → let w = walk c in let s = start w in Overflow (white s) (tasks s) 0 (s .args .n) (given s) (w .preceding .ensures) (c .of-leaf .result)
+numbers c = let w = walk c in let s = start w in overflow (white s) (tasks s) 0 (s .args .n) (given s) (w .preceding .ensures) (c .of-leaf .ensures)
 
 preceding-requires : tie.Need-preceding-requires
-preceding-requires c κs = overload-walk (c .before .before .before .pre)
+preceding-requires c κs = let s = c .before .before in (overload-walk (white s) (tasks s) 0 (s .args .n) (given s), s .pre .1, s .pre .2)
 
-mul-e : tie.Need-mul-e
-mul-e c = search needs
-
-shared-slice-read-e : tie.Need-shared-slice-read-e
-shared-slice-read-e c = search needs
-
-mul-e-2 : tie.Need-mul-e-2
-mul-e-2 c = omega (arith, task (c .before))
-
-shared-slice-read-e-2 : tie.Need-shared-slice-read-e-2
-shared-slice-read-e-2 c = task (c .before .before) .start
+of-leaf-requires : tie.Need-of-leaf-requires
+of-leaf-requires c κs = let w = c .before in let s = start w in (omega (arith, w .preceding .ensures .small, s .pre .1), overload-known (white s) (tasks s) 0 (s .args .n) (given s) (w .preceding .ensures) .start)
 
 add-delta : tie.Need-add-delta
-add-delta c = omega (arith, numbers (c .before .before .before))
+add-delta c = omega (arith, numbers (c .before))
 
 add-delta-2 : tie.Need-add-delta-2
-add-delta-2 c = omega (arith, numbers (c .before .before .before))
+add-delta-2 c = omega (arith, numbers (c .before))
 
 sub-delta : tie.Need-sub-delta
-sub-delta c = search needs
+sub-delta c = omega (arith, numbers (c .before))
 
 sub-offset-right : tie.Need-sub-offset-right
 sub-offset-right c = search needs
 
 sub-low : tie.Need-sub-low
-sub-low c = omega (arith, numbers (c .before .before .before))
+sub-low c = omega (arith, numbers (c .before))
 
 add-high : tie.Need-add-high
-add-high c = omega (arith, numbers (c .before .before .before))
-
-mul-write-within : tie.Need-mul-write-within
-mul-write-within c = search needs
-
-sub-write-within : tie.Need-sub-write-within
-sub-write-within c = search needs
-
-part-write-within-start : tie.Need-part-write-within-start
-part-write-within-start c = search needs
-
-part-write-within-end : tie.Need-part-write-within-end
-part-write-within-end c = search needs
+add-high c = omega (arith, numbers (c .before))
 
 write-within-requires : tie.Need-write-within-requires
-write-within-requires c κs = overload-writable (start (c .before .before .before .before .before) .pre) (c .before .before .before .before .before .preceding .result .first) (omega (arith, numbers (c .before .before .before .before .before)))
+write-within-requires c κs =
+    let w = walk (c .before .before) in
+    let s = start w in (
+      overload-writable (white s) (tasks s) 0 (s .args .n) (given s) (w .preceding .ensures) (omega (arith, numbers (c .before .before))),
+      omega (arith, w .preceding .ensures .small),
+      s .pre .1,
+      s .pre .2,
+    )
 
 same-length : tie.Need-same-length
 same-length c = search needs
 
 returns : tie.Need-returns
 returns c =
-    let at = c .before .before .before .before .before .before .before in
-    let a = start at .args in
-    let w = at .preceding in
-    let pre = start at .pre in
-    conflict-stored (a .est .now) (a .dur .now) (a .theta .now) (a .p) (w .result .first) (w .result .lasts) (pre .white .total) (a .lct) (overload-first pre (w .ensures)) (c .before .write-within .ensures)
+    let at = c .before .before .before .before in
+    let w = walk at in
+    let s = start w in
+    let a = s .args in
+    subst (λ (ks : List ℕ). Stored (a .atoms .now) (c .before .write-within .last .0) (a .k) (c .before .write-within .result) (conflict zeroAt (starting (a .est .now) (a .dur .now)) (a .lct) (a .p) ks)) (sym (all-leaves (white s) (tasks s) (a .n)))
+    (conflict-stored (white s) (tasks s) (a .est .now) (a .dur .now) 0 (a .n) (a .p) (w .preceding .result .first .0) (w .preceding .result .lasts) (given s .white .total) (a .lct) (overload-stops (white s) (tasks s) 0 (a .n) (given s) (w .preceding .ensures))
+    (at .of-leaf .ensures) (c .before .write-within .ensures))
 
 pub create-conflict-explanation-spec : {M : Type 1} → statement M
 create-conflict-explanation-spec =
     tie.close
     (tie.spec
     preceding-requires
-    mul-e
-    shared-slice-read-e
-    mul-e-2
-    shared-slice-read-e-2
+    of-leaf-requires
     add-delta
     add-delta-2
     sub-delta
     sub-offset-right
     sub-low
     add-high
-    mul-write-within
-    sub-write-within
-    part-write-within-start
-    part-write-within-end
     write-within-requires
     same-length
     returns)

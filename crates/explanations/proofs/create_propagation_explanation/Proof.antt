@@ -1,38 +1,50 @@
-use mathlib.Core.Path.{refl}
-use Prim.Native.Nat.{ℕ, _+_, _-_, _*_, _≤_}
+use mathlib.Core.Path.{_≡_, refl, sym, ap, subst, _∙_}
+use mathlib.Core.Bool.{Bool}
+use mathlib.Core.List.{List}
+use Prim.Native.Nat.{ℕ, _+_, _-_, _*_, _≤_, min}
 use native.Mathlib.Omega.{arith}
 use lib.ListN.{length, getD}
 use borrow.Author.Needs.{needs}
-use Rattle.explanations.specs.Explanations.{Known}
-use Rattle.explanations.proofs.Storing.{post-walk, bound-walk, post-writable, Reach, reach, last-room, stored-length, propagation-stored}
+use Rattle.integers.specs.Moments.{zeroAt}
+use Rattle.runs.specs.Runs.{propagation}
+use Rattle.trees.specs.Searches.{whiteIn, taskIn}
+use Rattle.explanations.specs.Explanations.{starting, between, Preceded, Stored}
+use Rattle.explanations.proofs.Walking.{all-leaves}
+use Rattle.explanations.proofs.Storing.{post-walk, post-known, bound-walk, post-writable, Reach, reach, last-room, stored-length, propagation-stored}
 use Rattle.explanations.proofs.create_propagation_explanation.Statement.{statement}
 use Rattle.explanations.proofs.create_propagation_explanation.Tie as tie
 
--- what is known after the walk: the task at which ω begins,
-abbrev start : tie.After-preceding → tie.Start
-start c = c .before .before .before .before .before .before
+abbrev white : tie.Start → ℕ → Bool
+white c = whiteIn (c .args .nodes .now) (c .args .inner)
 
-abbrev first : tie.After-preceding → ℕ
-first c = getD (start c .args .theta .now) (c .preceding .result .first) 0
+abbrev tasks : tie.Start → ℕ → ℕ
+tasks c = taskIn (c .args .tasks .now)
 
-task : (c : tie.After-preceding) → Known (start c .args .est .now) (start c .args .dur .now) (first c)
-task c = start c .pre .white .known (c .preceding .result .first) (c .preceding .ensures .small)
+-- what is asked, of the leaves
+given : (c : tie.Start) → let a = c .args in Preceded (length (a .atoms .now)) (a .k) (between (white c) (tasks c) 0 (a .n)) (a .est .now) (a .dur .now) (a .p) (a .lct) (a .i) (a .bound)
+given c = let a = c .args in subst (λ (ks : List ℕ). Preceded (length (a .atoms .now)) (a .k) ks (a .est .now) (a .dur .now) (a .p) (a .lct) (a .i) (a .bound)) (all-leaves (white c) (tasks c) (a .n)) (c .pre .0)
 
 -- what ω and i pass lct by,
+abbrev start : tie.After-preceding → tie.Start
+start c = c .before .before .before .before .before
+
 abbrev walk : tie.After-least → tie.After-preceding
 walk c = c .before .before .before
 
-numbers : (c : tie.After-least) → Reach (start (walk c) .pre) (walk c .preceding .ensures) (c .least .result)
-numbers c = reach (start (walk c) .pre) (walk c .preceding .ensures) (c .least .ensures)
+early : (c : tie.After-least) → let a = start (walk c) .args in c .least .result ≡ min (getD (a .est .now) (a .i) 0) (getD (a .est .now) (tasks (start (walk c)) (walk c .preceding .result .first .0)) 0)
+early c = let a = start (walk c) .args in c .least .ensures ∙ ap (min (getD (a .est .now) (a .i) 0)) (c .before .of-leaf .ensures)
+
+numbers : (c : tie.After-least) → let w = walk c in let s = start w in Reach (white s) (tasks s) 0 (s .args .n) (given s) (w .preceding .ensures) (c .least .result)
+numbers c = let w = walk c in let s = start w in reach (white s) (tasks s) 0 (s .args .n) (given s) (w .preceding .ensures) (early c)
 
 -- and that there is room for the last atom
 room : (c : tie.After-write-bounds) → 3 * c .write-bounds .result + 3 ≤ length (c .write-bounds .last .0)
 room c =
-    let least = c .before .before .before in
+    let least = c .before .before in
     let w = walk least in
-    let a = start w .args in
+    let s = start w in
     let r = least .least .result in
-    last-room (start w .pre) (w .preceding .ensures) r (r + w .preceding .result .lasts + getD (a .dur .now) (a .i) 0 - 1) refl (c .write-bounds .ensures)
+    last-room (white s) (tasks s) 0 (s .args .n) (given s) (w .preceding .ensures) r (r + w .preceding .result .lasts + getD (s .args .dur .now) (s .args .i) 0 - 1) refl (c .write-bounds .ensures)
 
 mul-e : tie.Need-mul-e
 mul-e c = search needs
@@ -47,19 +59,10 @@ shared-slice-read-d : tie.Need-shared-slice-read-d
 shared-slice-read-d c = search needs
 
 preceding-requires : tie.Need-preceding-requires
-preceding-requires c κs = post-walk (c .before .before .before .before .before .pre)
+preceding-requires c κs = let s = c .before .before .before .before in (post-walk (white s) (tasks s) 0 (s .args .n) (given s), s .pre .1, s .pre .2)
 
-mul-least : tie.Need-mul-least
-mul-least c = search needs
-
-shared-slice-read-least : tie.Need-shared-slice-read-least
-shared-slice-read-least c = search needs
-
-mul-least-2 : tie.Need-mul-least-2
-mul-least-2 c = omega (arith, task (c .before))
-
-shared-slice-read-least-2 : tie.Need-shared-slice-read-least-2
-shared-slice-read-least-2 c = task (c .before .before) .start
+of-leaf-requires : tie.Need-of-leaf-requires
+of-leaf-requires c κs = let w = c .before in let s = start w in (omega (arith, w .preceding .ensures .small, s .pre .1), post-known (white s) (tasks s) 0 (s .args .n) (given s) (w .preceding .ensures) .start)
 
 least-requires : tie.Need-least-requires
 least-requires c κs = search needs
@@ -71,27 +74,21 @@ add-last-2 : tie.Need-add-last-2
 add-last-2 c = omega (arith, numbers c)
 
 sub-last : tie.Need-sub-last
-sub-last c = search needs
-
-mul-write-bounds : tie.Need-mul-write-bounds
-mul-write-bounds c = search needs
-
-sub-write-bounds : tie.Need-sub-write-bounds
-sub-write-bounds c = search needs
-
-part-write-bounds-start : tie.Need-part-write-bounds-start
-part-write-bounds-start c = search needs
-
-part-write-bounds-end : tie.Need-part-write-bounds-end
-part-write-bounds-end c = search needs
+sub-last c = omega (arith, numbers c)
 
 write-bounds-requires : tie.Need-write-bounds-requires
 write-bounds-requires c κs =
-    let w = walk (c .before .before) in
-    (bound-walk (start w .pre) (w .preceding .ensures), post-writable (start w .pre) (w .preceding .ensures) (omega (arith, numbers (c .before .before))))
+    let w = walk (c .before) in
+    let s = start w in (
+      bound-walk (white s) (tasks s) 0 (s .args .n) (given s) (w .preceding .ensures),
+      post-writable (white s) (tasks s) 0 (s .args .n) (given s) (w .preceding .ensures) (omega (arith, numbers (c .before))),
+      omega (arith, w .preceding .ensures .small),
+      s .pre .1,
+      s .pre .2,
+    )
 
 write-atom-requires : tie.Need-write-atom-requires
-write-atom-requires c κs = (room (c .before .before), start (walk (c .before .before .before .before .before)) .pre .known .task)
+write-atom-requires c κs = (room (c .before .before), start (walk (c .before .before .before .before)) .pre .0 .known .task)
 
 add-result : tie.Need-add-result
 add-result c = omega (arith, room (c .before .before .before .before), stored-length (c .before .before .before .before .write-bounds .ensures))
@@ -101,12 +98,13 @@ same-length c = search needs
 
 returns : tie.Need-returns
 returns c =
-    let r = c .before .before .before .before .before .before .before in
-    let at = walk r in
-    let a = start at .args in
-    let w = at .preceding in
-    propagation-stored (a .est .now) (a .dur .now) (a .theta .now) (a .p) (w .result .first) (w .result .lasts) (start at .pre .white .total) (a .i) (a .bound) (a .lct) (r .least .result) (w .ensures) (r .least .ensures)
-    (c .before .before .before .before .write-bounds .ensures) (c .before .write-atom .ensures)
+    let r = c .before .before .before .before .before .before in
+    let w = walk r in
+    let s = start w in
+    let a = s .args in
+    subst (λ (ks : List ℕ). Stored (a .atoms .now) (c .before .write-atom .last .0) (a .k) (c .before .before .before .before .write-bounds .result + 1) (propagation zeroAt (starting (a .est .now) (a .dur .now)) (a .i) (a .bound) (a .lct) (a .p) ks)) (sym (all-leaves (white s) (tasks s) (a .n)))
+    (propagation-stored (white s) (tasks s) (a .est .now) (a .dur .now) 0 (a .n) (a .p) (w .preceding .result .first .0) (w .preceding .result .lasts) (given s .white .total) (a .i) (a .bound) (a .lct) (r .least .result) (w .preceding .ensures) (early r)
+    (c .before .before .before .before .write-bounds .ensures) (c .before .write-atom .ensures))
 
 pub create-propagation-explanation-spec : {M : Type 1} → statement M
 create-propagation-explanation-spec =
@@ -117,18 +115,11 @@ create-propagation-explanation-spec =
     mul-d
     shared-slice-read-d
     preceding-requires
-    mul-least
-    shared-slice-read-least
-    mul-least-2
-    shared-slice-read-least-2
+    of-leaf-requires
     least-requires
     add-last
     add-last-2
     sub-last
-    mul-write-bounds
-    sub-write-bounds
-    part-write-bounds-start
-    part-write-bounds-end
     write-bounds-requires
     write-atom-requires
     add-result

@@ -1,82 +1,74 @@
 use Prim.Native.Nat.{ℕ, _+_, _-_, _<_, _^_}
 use native.Mathlib.Omega.{arith}
-use lib.ListN.{length, getD}
+use lib.ListN.{getD}
 use borrow.Author.Needs.{needs}
+use Rattle.trees.specs.Searches.{whiteIn, taskIn}
 use Rattle.explanations.specs.Explanations.{Known, Precedes}
-use Rattle.explanations.proofs.Places.{Walked, begins, enough, at-most, goes-on, stops-at}
+use Rattle.explanations.proofs.Walking.{WalkedTo, sets-out, enough-there, most-there, known-there, walks-on, halts}
 use Rattle.explanations.proofs.preceding.Statement.{statement}
 use Rattle.explanations.proofs.preceding.Tie as tie
 
 abbrev Inv-loop : tie.InvT-loop
-Inv-loop theta est dur p lct e d i₀ q₀ i q = Walked (Precedes est lct e d) dur theta i q
+Inv-loop nodes tasks inner n est dur p lct e d x₀ q₀ x q = WalkedTo (whiteIn nodes inner) (taskIn tasks) (Precedes est lct e d) dur 0 n (x .0) q
 
 abbrev μ-loop : tie.MeasureT-loop
-μ-loop theta est dur p lct e d i₀ q₀ i q = length theta - i
+μ-loop nodes tasks inner n est dur p lct e d x₀ q₀ x q = n - x .0
 
 abbrev start : tie.At-loop Inv-loop μ-loop → tie.Start Inv-loop μ-loop
 start c = c .before .before .before .before
 
--- the task that the walk has reached
+-- the task of the leaf that the walk has reached
 abbrev here : tie.At-loop Inv-loop μ-loop → ℕ
-here c = getD (start c .args .theta .now) (c .loop .i) 0
+here c = taskIn (start c .args .tasks .now) (c .loop .x .0)
 
 task : (c : tie.At-loop Inv-loop μ-loop) → Known (start c .args .est .now) (start c .args .dur .now) (here c)
-task c = start c .pre .known (c .loop .i) (c .loop .inv .small)
+task c = known-there (c .loop .inv) (Known (start c .args .est .now) (start c .args .dur .now)) (start c .pre .0 .known)
 
 -- no sum wraps there
 sum : (c : tie.At-loop Inv-loop μ-loop) → getD (start c .args .est .now) (here c) 0 + c .loop .q + start c .args .d < 2 ^ 32
-sum c = omega (arith, start c .pre .fits (c .loop .i) (c .loop .inv .small), at-most (c .loop .inv), start c .pre .total)
+sum c = let a = start c .args in omega (arith, known-there (c .loop .inv) (λ k. getD (a .est .now) k 0 + a .p + a .d < 2 ^ 32) (start c .pre .0 .fits), most-there (c .loop .inv), start c .pre .0 .total)
+
+next-in-theta-requires : tie.Need-next-in-theta-requires Inv-loop μ-loop
+next-in-theta-requires c κs = search needs
 
 loop-holds : tie.Need-loop-holds Inv-loop μ-loop
-loop-holds c = begins (c .before .before .before .pre .total) (c .before .before .before .pre .stops)
+loop-holds c = sets-out (c .before .before .before .pre .0 .total) (c .before .before .before .pre .0 .stops) (c .next-in-theta .ensures)
 
-mul-least : tie.Need-mul-least Inv-loop μ-loop
-mul-least c = search needs
-
-shared-slice-read-least : tie.Need-shared-slice-read-least Inv-loop μ-loop
-shared-slice-read-least c = search needs
-
-mul-least-2 : tie.Need-mul-least-2 Inv-loop μ-loop
-mul-least-2 c = omega (arith, task (c .before))
-
-shared-slice-read-least-2 : tie.Need-shared-slice-read-least-2 Inv-loop μ-loop
-shared-slice-read-least-2 c = task (c .before .before) .start
+of-leaf-requires : tie.Need-of-leaf-requires Inv-loop μ-loop
+of-leaf-requires c κs = (omega (arith, c .loop .inv .small), task c .start)
 
 least-requires : tie.Need-least-requires Inv-loop μ-loop
 least-requires c κs = search needs
 
 add-if1 : tie.Need-add-if1 Inv-loop μ-loop
-add-if1 c = omega (arith, c .least .ensures, sum (c .before .before .before))
+add-if1 c = omega (arith, c .least .ensures, c .before .of-leaf .ensures, sum (c .before .before))
 
 add-if1-2 : tie.Need-add-if1-2 Inv-loop μ-loop
-add-if1-2 c = omega (arith, c .least .ensures, sum (c .before .before .before))
+add-if1-2 c = omega (arith, c .least .ensures, c .before .of-leaf .ensures, sum (c .before .before))
 
-mul-q : tie.Need-mul-q Inv-loop μ-loop
-mul-q c = search needs
-
-shared-slice-read-q : tie.Need-shared-slice-read-q Inv-loop μ-loop
-shared-slice-read-q c = search needs
-
-mul-q-2 : tie.Need-mul-q-2 Inv-loop μ-loop
-mul-q-2 c = omega (arith, task (c .before .before .before .before .before))
-
-shared-slice-read-q-2 : tie.Need-shared-slice-read-q-2 Inv-loop μ-loop
-shared-slice-read-q-2 c = task (c .before .before .before .before .before .before) .duration
+of-leaf-requires-2 : tie.Need-of-leaf-requires-2 Inv-loop μ-loop
+of-leaf-requires-2 c κs = (omega (arith, c .before .before .before .loop .inv .small), task (c .before .before .before) .duration)
 
 sub-q : tie.Need-sub-q Inv-loop μ-loop
-sub-q c = enough (c .before .before .before .before .before .before .loop .inv)
+sub-q c = omega (arith, c .of-leaf2 .ensures, enough-there (c .before .before .before .before .loop .inv))
 
-add-i : tie.Need-add-i Inv-loop μ-loop
-add-i c = search needs
+add-t19 : tie.Need-add-t19 Inv-loop μ-loop
+add-t19 c = omega (arith, c .before .before .before .before .before .loop .inv .small)
+
+next-in-theta-requires-2 : tie.Need-next-in-theta-requires-2 Inv-loop μ-loop
+next-in-theta-requires-2 c κs = let at = c .before .before .before .before .before in (omega (arith, at .loop .inv .small), start at .pre .1, start at .pre .2)
 
 loop-less : tie.Need-loop-less Inv-loop μ-loop
-loop-less c = search needs
+loop-less c = let at = c .before .before .before .before .before .before in omega (arith, at .loop .inv .small, c .next-in-theta2 .ensures .from)
 
 loop-again : tie.Need-loop-again Inv-loop μ-loop
-loop-again c = goes-on (c .before .before .before .before .before .before .loop .inv) (start (c .before .before .before .before .before .before) .pre .stops) (λ over. omega (arith, over, c .before .before .before .least .ensures))
+loop-again c =
+    let at = c .before .before .before .before .before .before in
+    rw (c .before .before .of-leaf2 .ensures)
+    (walks-on (at .loop .inv) (start at .pre .0 .stops) (λ over. omega (arith, over, c .before .before .before .before .least .ensures, c .before .before .before .before .before .of-leaf .ensures)) (c .next-in-theta2 .ensures))
 
 returns : tie.Need-returns Inv-loop μ-loop
-returns c = stops-at (c .before .before .before .before .loop .inv) (omega (arith, c .before .least .ensures))
+returns c = halts (c .before .before .before .loop .inv) (omega (arith, c .before .least .ensures, c .before .before .of-leaf .ensures))
 
 pub preceding-spec : {M : Type 1} → statement M
 preceding-spec =
@@ -84,20 +76,16 @@ preceding-spec =
     (tie.spec
     Inv-loop
     μ-loop
+    next-in-theta-requires
     loop-holds
-    mul-least
-    shared-slice-read-least
-    mul-least-2
-    shared-slice-read-least-2
+    of-leaf-requires
     least-requires
     add-if1
     add-if1-2
-    mul-q
-    shared-slice-read-q
-    mul-q-2
-    shared-slice-read-q-2
+    of-leaf-requires-2
     sub-q
-    add-i
+    add-t19
+    next-in-theta-requires-2
     loop-less
     loop-again
     returns)

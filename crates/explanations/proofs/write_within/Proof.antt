@@ -1,114 +1,133 @@
-use mathlib.Core.Path.{_≡_, refl, sym, ap, _∙_}
-use mathlib.Core.List.{List}
-use Prim.Native.Nat.{ℕ, _+_, _-_, _*_, _≤_}
+use mathlib.Core.Path.{_≡_, sym, ap, subst, _∙_}
+use mathlib.Core.Bool.{Bool, true}
+use mathlib.Core.List.{List, [], _∷_}
+use Prim.Native.Nat.{ℕ, _+_, _-_, _*_, _≤_, _<_}
 use native.Mathlib.Omega.{arith}
-use lib.IntN.{ℤ}
-use lib.ListN.{length, getD}
-use lib.Seq.{sets, length-sets}
+use lib.ListN.{length}
+use lib.Seq.{length-sets}
 use borrow.Author.Needs.{needs}
 use Rattle.integers.specs.Moments.{zeroAt}
-use Rattle.explanations.specs.Explanations.{lasting, Ends}
-use Rattle.runs.proofs.Lengths.{within-length}
-use Rattle.explanations.proofs.Storing.{left, lower, upper, none-left, two-more}
+use Rattle.runs.specs.Runs.{within}
+use Rattle.trees.specs.Searches.{whiteIn, taskIn}
+use Rattle.explanations.specs.Explanations.{lasting, between, Ends, Writable, Stored}
+use Rattle.explanations.proofs.Walking.{between-none, between-white, next-same}
+use Rattle.explanations.proofs.Storing.{Written, lower, written-none, written-more, written-all}
 use Rattle.explanations.proofs.write_within.Statement.{statement}
 use Rattle.explanations.proofs.write_within.Tie as tie
 
--- j tasks are written, and what is left of them completes the words
-record Written (entry : List ℤ) (k : ℕ) (tasks dur : List ℕ) (low high : ℕ) (atoms : List ℤ) (j at : ℕ) : Type 0 where
-  small : j ≤ length tasks
-  count : at ≡ k + 2 * j
-  size : length atoms ≡ length entry
-  words : sets atoms (3 * at) (left dur tasks low high j) ≡ sets entry (3 * k) (left dur tasks low high 0)
-
 abbrev Inv-loop : tie.InvT-loop
-Inv-loop atoms₀ k tasks dur low high j₀ at₀ atoms j at = Written atoms₀ k tasks dur low high atoms j at
+Inv-loop atoms₀ k nodes tasks inner to dur low high x₀ at₀ atoms x at = (x .0 ≤ to) × (x .0 < to → whiteIn nodes inner (x .0) ≡ true) × Written atoms₀ k (between (whiteIn nodes inner) (taskIn tasks) (x₀ .0) to) dur low high atoms (between (whiteIn nodes inner) (taskIn tasks) (x .0) to) at
 
 abbrev μ-loop : tie.MeasureT-loop
-μ-loop atoms₀ k tasks dur low high j₀ at₀ atoms j at = length tasks - j
+μ-loop atoms₀ k nodes tasks inner to dur low high x₀ at₀ atoms x at = to - x .0
 
-abbrev start : tie.In-loop Inv-loop μ-loop → tie.Start Inv-loop μ-loop
-start c = c .before .before .before .before
+abbrev start : tie.At-loop Inv-loop μ-loop → tie.Start Inv-loop μ-loop
+start c = c .before .before .before
 
--- the task that is written
-task : (c : tie.In-loop Inv-loop μ-loop) → Ends (start c .args .dur .now) (start c .args .high) (getD (start c .args .tasks .now) (c .before .loop .j) 0)
-task c = start c .pre .ends (c .before .loop .j) (omega arith)
+abbrev white : tie.At-loop Inv-loop μ-loop → ℕ → Bool
+white c = whiteIn (start c .args .nodes .now) (start c .args .inner)
+
+abbrev tasks : tie.At-loop Inv-loop μ-loop → ℕ → ℕ
+tasks c = taskIn (start c .args .tasks .now)
+
+-- what is still to be written: the task of the leaf that the walk has reached, and those after it
+abbrev at-leaf : tie.After-task-of Inv-loop μ-loop → tie.At-loop Inv-loop μ-loop
+at-leaf c = c .before .before .before
+
+here : (c : tie.After-task-of Inv-loop μ-loop) → let w = at-leaf c in let a = start w .args in let l = w .loop in
+    Written (a .atoms .now) (a .k) (between (white w) (tasks w) (w .before .next-in-theta .result .0) (a .to)) (a .dur .now) (a .low) (a .high) (l .atoms) (c .task-of .result .0 ∷ between (white w) (tasks w) (l .x .0 + 1) (a .to)) (l .at)
+here c =
+    let w = at-leaf c in
+    let a = start w .args in
+    let l = w .loop in
+    let small : l .x .0 < a .to = omega arith in
+    subst (λ (rest : List ℕ). Written (a .atoms .now) (a .k) (between (white w) (tasks w) (w .before .next-in-theta .result .0) (a .to)) (a .dur .now) (a .low) (a .high) (l .atoms) rest (l .at))
+    (between-white (white w) (tasks w) (l .x .0) (a .to) small (l .inv .1 small) ∙ ap (λ (t : ℕ). t ∷ between (white w) (tasks w) (l .x .0 + 1) (a .to)) (sym (c .task-of .ensures)))
+    (l .inv .2)
+
+-- that task can end in time, and there is room for its atoms
+task : (c : tie.After-task-of Inv-loop μ-loop) → Ends (start (at-leaf c) .args .dur .now) (start (at-leaf c) .args .high) (c .task-of .result .0)
+task c = here c .writable .ends 0 (omega arith)
+
+room : (c : tie.After-task-of Inv-loop μ-loop) → 3 * at-leaf c .loop .at + 6 ≤ length (at-leaf c .loop .atoms)
+room c = omega (arith, here c .writable .room)
 
 -- the words of its first atom, and the slice's length after them
-abbrev turn : tie.After-write-atom Inv-loop μ-loop → tie.In-loop Inv-loop μ-loop
-turn c = c .before .before .before
+abbrev turn : tie.After-write-atom Inv-loop μ-loop → tie.After-task-of Inv-loop μ-loop
+turn c = c .before .before
 
-abbrev one : tie.After-write-atom Inv-loop μ-loop → List ℤ
-one c = let a = start (turn c) .args in lower (a .dur .now) (a .tasks .now) (a .low) (a .high) (turn c .before .loop .j)
+length-first : (c : tie.After-write-atom Inv-loop μ-loop) → length (c .write-atom .last .0) ≡ length (at-leaf (turn c) .loop .atoms)
+length-first c = let w = at-leaf (turn c) in let a = start w .args in
+    ap length (c .write-atom .ensures) ∙ length-sets (w .loop .atoms) (3 * w .loop .at) (lower (a .dur .now) (a .low) (a .high) (turn c .task-of .result .0))
 
-first : (c : tie.After-write-atom Inv-loop μ-loop) → c .write-atom .last .0 ≡ sets (turn c .before .loop .atoms) (3 * turn c .before .loop .at) (one c)
-first c = c .write-atom .ensures
-
-length-first : (c : tie.After-write-atom Inv-loop μ-loop) → length (c .write-atom .last .0) ≡ length (turn c .before .loop .atoms)
-length-first c = ap length (first c) ∙ length-sets (turn c .before .loop .atoms) (3 * turn c .before .loop .at) (one c)
+next-in-theta-requires : tie.Need-next-in-theta-requires Inv-loop μ-loop
+next-in-theta-requires c κs = search needs
 
 loop-holds : tie.Need-loop-holds Inv-loop μ-loop
-loop-holds c = search needs
+loop-holds c =
+    let a = c .before .before .args in
+    let next = c .next-in-theta .ensures in
+    (next .to, next .found, written-none (subst (λ (ks : List ℕ). Writable (length (a .atoms .now)) (a .k) ks (a .dur .now) (a .high)) (next-same (whiteIn (a .nodes .now) (a .inner)) (taskIn (a .tasks .now)) next) (c .before .before .pre .0)))
 
-mul-t : tie.Need-mul-t Inv-loop μ-loop
-mul-t c = search needs
-
-shared-slice-read-t : tie.Need-shared-slice-read-t Inv-loop μ-loop
-shared-slice-read-t c = search needs
+task-of-requires : tie.Need-task-of-requires Inv-loop μ-loop
+task-of-requires c κs = search needs
 
 write-atom-requires : tie.Need-write-atom-requires Inv-loop μ-loop
-write-atom-requires c κs = (omega (arith, c .before .before .before .loop .inv .size), task (c .before .before) .task)
+write-atom-requires c κs = (omega (arith, room (c .before)), task (c .before) .task)
 
 add-write-atom : tie.Need-add-write-atom Inv-loop μ-loop
-add-write-atom c = search needs
+add-write-atom c = omega (arith, room (c .before .before .before .before))
 
 mul-write-atom : tie.Need-mul-write-atom Inv-loop μ-loop
-mul-write-atom c = omega (arith, task (c .before .before .before .before .before))
+mul-write-atom c = omega (arith, task (c .before .before .before .before))
 
 shared-slice-read-write-atom : tie.Need-shared-slice-read-write-atom Inv-loop μ-loop
-shared-slice-read-write-atom c = task (c .before .before .before .before .before .before) .duration
+shared-slice-read-write-atom c = task (c .before .before .before .before .before) .duration
 
 sub-write-atom : tie.Need-sub-write-atom Inv-loop μ-loop
-sub-write-atom c = task (c .before .before .before .before .before .before) .short
+sub-write-atom c = task (c .before .before .before .before .before) .short
 
 write-atom-requires-2 : tie.Need-write-atom-requires-2 Inv-loop μ-loop
-write-atom-requires-2 c κs = (omega (arith, length-first (c .before .before .before), turn (c .before .before .before) .before .loop .inv .size), task (turn (c .before .before .before)) .task)
+write-atom-requires-2 c κs = (omega (arith, length-first (c .before .before .before), room (c .before .before .before .before .before)), task (c .before .before .before .before .before) .task)
 
-add-j : tie.Need-add-j Inv-loop μ-loop
-add-j c = search needs
+add-t21 : tie.Need-add-t21 Inv-loop μ-loop
+add-t21 c = search needs
+
+next-in-theta-requires-2 : tie.Need-next-in-theta-requires-2 Inv-loop μ-loop
+next-in-theta-requires-2 c κs = search needs
 
 add-at : tie.Need-add-at Inv-loop μ-loop
-add-at c = search needs
+add-at c = omega (arith, room (c .before .before .before .before .before .before .before .before .before))
 
 loop-less : tie.Need-loop-less Inv-loop μ-loop
-loop-less c = search needs
+loop-less c = omega (arith, c .next-in-theta2 .ensures .from)
 
 loop-again : tie.Need-loop-again Inv-loop μ-loop
 loop-again c =
-    let w = c .before .before .before .before .before in
-    let a = start (turn w) .args in
-    let l = turn w .before .loop in
-    let two : List ℤ = upper (a .dur .now) (a .tasks .now) (a .low) (a .high) (l .j) in
-    let second : c .before .write-atom2 .last .0 ≡ sets (w .write-atom .last .0) (3 * (l .at + 1)) two = c .before .write-atom2 .ensures in
-    record {
-      small = omega arith;
-      count = omega (arith, l .inv .count);
-      size = ap length second ∙ length-sets (w .write-atom .last .0) (3 * (l .at + 1)) two ∙ length-first w ∙ l .inv .size;
-      words = ap (λ (m : List ℤ). sets m (3 * (l .at + 2)) (left (a .dur .now) (a .tasks .now) (a .low) (a .high) (l .j + 1))) (second ∙ ap (λ (m : List ℤ). sets m (3 * (l .at + 1)) two) (first w))
-          ∙ two-more (a .dur .now) (a .tasks .now) (a .low) (a .high) (l .atoms) (l .j) (l .at) (omega arith) ∙ l .inv .words;
-    }
+    let made = c .before .before .before .before .before .before .before in
+    let w = at-leaf (turn made) in
+    let a = start w .args in
+    let l = w .loop in
+    let next = c .next-in-theta2 .ensures in (
+      next .to,
+      next .found,
+      subst (λ (rest : List ℕ). Written (a .atoms .now) (a .k) (between (white w) (tasks w) (w .before .next-in-theta .result .0) (a .to)) (a .dur .now) (a .low) (a .high) (c .before .before .before .write-atom2 .last .0) rest (l .at + 2))
+          (next-same (white w) (tasks w) next)
+          (written-more (here (turn made)) (made .write-atom .ensures) (c .before .before .before .write-atom2 .ensures)),
+    )
 
 same-length : tie.Need-same-length Inv-loop μ-loop
-same-length c = search needs
+same-length c = c .before .before .loop .inv .2 .size
 
 returns : tie.Need-returns Inv-loop μ-loop
 returns c =
-    let a = c .before .before .before .before .args in
-    let l = c .before .loop in
-    let all : l .j ≡ length (a .tasks .now) = omega (arith, l .inv .small) in
-    record {
-      words = ap (sets (l .atoms) (3 * l .at)) (sym (none-left (a .dur .now) (a .tasks .now) (a .low) (a .high) (l .j) all)) ∙ l .inv .words;
-      count = omega (arith, l .inv .count, within-length zeroAt (lasting (a .dur .now)) (a .low) (a .high) (a .tasks .now));
-    }
+    let w = c .before .before in
+    let a = start w .args in
+    let l = w .loop in
+    let all : l .x .0 ≡ a .to = omega (arith, l .inv .0) in
+    let none : between (white w) (tasks w) (l .x .0) (a .to) ≡ [] = ap (λ (x : ℕ). between (white w) (tasks w) x (a .to)) all ∙ between-none (white w) (tasks w) (a .to) in
+    subst (λ (ks : List ℕ). Stored (a .atoms .now) (l .atoms) (a .k) (l .at) (within zeroAt (lasting (a .dur .now)) (a .low) (a .high) ks)) (sym (next-same (white w) (tasks w) (w .before .next-in-theta .ensures)))
+    (written-all (subst (λ (rest : List ℕ). Written (a .atoms .now) (a .k) (between (white w) (tasks w) (w .before .next-in-theta .result .0) (a .to)) (a .dur .now) (a .low) (a .high) (l .atoms) rest (l .at)) none (l .inv .2)))
 
 pub write-within-spec : {M : Type 1} → statement M
 write-within-spec =
@@ -116,16 +135,17 @@ write-within-spec =
     (tie.spec
     Inv-loop
     μ-loop
+    next-in-theta-requires
     loop-holds
-    mul-t
-    shared-slice-read-t
+    task-of-requires
     write-atom-requires
     add-write-atom
     mul-write-atom
     shared-slice-read-write-atom
     sub-write-atom
     write-atom-requires-2
-    add-j
+    add-t21
+    next-in-theta-requires-2
     add-at
     loop-less
     loop-again
