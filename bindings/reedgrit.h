@@ -28,12 +28,13 @@ enum { REEDGRIT_GREATER_EQUAL = 0, REEDGRIT_LESS_EQUAL = 1, REEDGRIT_EQUAL = 2, 
  * 10 another number of ranges than n     11 a post that is not there
  * 20 a record that no call left          21 a seventeenth hole */
 
-/* The task count, the durations, and two orders that each run leaves sorted for the next. Places from the count on are 0. */
+/* The task count, the durations, two orders that each run leaves sorted for the next, and the sum of the durations. Places from the count on are 0. */
 typedef struct {
     size_t count;
     uint32_t durations[REEDGRIT_TASKS];
     size_t first[REEDGRIT_TASKS];
     size_t second[REEDGRIT_TASKS];
+    uint32_t total;
 } reedgrit_propagator;
 
 typedef struct {

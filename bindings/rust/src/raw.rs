@@ -7,7 +7,7 @@ use crate::{Atom, Range};
 
 pub(crate) const TASKS: usize = 48;
 
-/// The record of a propagator: the task count, the durations and the two carried orders. Places from the count on are 0.
+/// The record of a propagator: the task count, the durations, the two carried orders and the sum of the durations. Places from the count on are 0.
 #[repr(C)]
 #[derive(Clone, Copy, Debug, PartialEq, Eq)]
 pub(crate) struct Record {
@@ -15,6 +15,7 @@ pub(crate) struct Record {
     pub durations: [u32; TASKS],
     pub first: [usize; TASKS],
     pub second: [usize; TASKS],
+    pub total: u32,
 }
 
 #[repr(C)]
@@ -175,6 +176,8 @@ mod tests {
             |r: &mut Record| r.durations[3] = 1,
             |r: &mut Record| r.first[47] = 1,
             |r: &mut Record| r.second[47] = 1,
+            |r: &mut Record| r.total = 11,
+            |r: &mut Record| r.total = 0,
         ] {
             let mut record = whole;
             change(&mut record);
@@ -195,7 +198,7 @@ mod tests {
     // A refused creation gives the record of zeros.
     #[test]
     fn record_of_zeros() {
-        let zeros = Record { count: 0, durations: [0; TASKS], first: [0; TASKS], second: [0; TASKS] };
+        let zeros = Record { count: 0, durations: [0; TASKS], first: [0; TASKS], second: [0; TASKS], total: 0 };
         for (durations, number) in [(&[][..], 1), (&[1; 49], 1), (&[1, 0], 2), (&[-1], 2), (&[200_000_000, 1], 5)] {
             let made = create(durations);
             assert_eq!((made.record, made.number), (zeros, number));

@@ -97,6 +97,7 @@ pub fn overload_test(record: Propagator, earliest: &[i32], latest: &[i32]) -> Ov
         &record.durations,
         &record.first,
         &record.second,
+        record.total,
         earliest,
         latest,
     );

@@ -16,6 +16,7 @@ pub fn fixed_refusal(record: Propagator, earliest: &[i32], latest: &[i32]) -> u3
         &record.durations,
         &record.first,
         &record.second,
+        record.total,
         earliest,
         latest,
     );

@@ -191,7 +191,7 @@ module _ (before : Propagator) (es ls : List ℤ) (postCount atomCount : ℕ) (a
 
   -- the record that the core is called with, and that it may run
   abbrev pub mirroredRecord : Propagator
-  mirroredRecord = record { count = before .count; durations = before .durations; first = filled (λ k. k) (before .count) noTasks; second = filled (λ k. k) (before .count) noTasks }
+  mirroredRecord = record { count = before .count; durations = before .durations; first = filled (λ k. k) (before .count) noTasks; second = filled (λ k. k) (before .count) noTasks; total = before .total }
 
   unused-at : (k : ℕ) → n ≤ k → getD (filled (λ j. j) n noTasks) k 0 ≡ 0
   unused-at k q = filled-past (λ j. j) n noTasks 0 k q ∙ getD-fresh 0 TASKS k
@@ -202,6 +202,7 @@ module _ (before : Propagator) (es ls : List ℤ) (postCount atomCount : ℕ) (a
     few = a .lawful .few;
     lasts = a .lawful .lasts;
     sum = a .lawful .sum;
+    stored = a .lawful .stored;
     first = own-order n (a .lawful .few);
     second = own-order n (a .lawful .few);
     unused = λ k q h. (a .lawful .unused k q h .0, (unused-at k q, unused-at k q));
@@ -219,9 +220,9 @@ module _ (before : Propagator) (es ls : List ℤ) (postCount atomCount : ℕ) (a
 
   -- as the code holds it
   pub runnable-at : {from to : List ℤ} {order : List ℕ} → from ≡ mirrorStarts (take (length ls) (before .durations)) ls → to ≡ mirrorStarts (take (length es) (before .durations)) es → order ≡ filled (λ k. k) n noTasks
-      → Runnable (record { count = before .count; durations = before .durations; first = order; second = order }) from to postCount atomCount
+      → Runnable (record { count = before .count; durations = before .durations; first = order; second = order; total = before .total }) from to postCount atomCount
   runnable-at {from} {to} {order} f t o =
-      subst (λ (x : List ℕ). Runnable (record { count = before .count; durations = before .durations; first = x; second = x }) from to postCount atomCount) (sym o)
+      subst (λ (x : List ℕ). Runnable (record { count = before .count; durations = before .durations; first = x; second = x; total = before .total }) from to postCount atomCount) (sym o)
       (subst (λ (x : List ℤ). Runnable mirroredRecord x to postCount atomCount) (sym (f ∙ ap (λ (m : ℕ). mirrorStarts (take m (before .durations)) ls) (a .counts .latest)))
       (subst (λ (x : List ℤ). Runnable mirroredRecord early x postCount atomCount) (sym (t ∙ ap (λ (m : ℕ). mirrorStarts (take m (before .durations)) es) (a .counts .earliest))) runnable))
 
@@ -230,9 +231,9 @@ module _ (before : Propagator) (es ls : List ℤ) (postCount atomCount : ℕ) (a
 
   -- what the core leaves
   module _ {from to posts atoms from′ posts′ atoms′ : List ℤ} {order : List ℕ} {r : Run} (f : from ≡ mirrorStarts (take (length ls) (before .durations)) ls) (t : to ≡ mirrorStarts (take (length es) (before .durations)) es) (o : order ≡ filled (λ k. k) n noTasks)
-      (l : Left (record { count = before .count; durations = before .durations; first = order; second = order }) from to posts atoms r from′ posts′ atoms′) where
-    core-is : traceOf (record { count = before .count; durations = before .durations; first = order; second = order }) from to ≡ mirroredRun ds es ls
-    core-is = ap (λ (x : List ℕ). traceOf (record { count = before .count; durations = before .durations; first = x; second = x }) from to) o
+      (l : Left (record { count = before .count; durations = before .durations; first = order; second = order; total = before .total }) from to posts atoms r from′ posts′ atoms′) where
+    core-is : traceOf (record { count = before .count; durations = before .durations; first = order; second = order; total = before .total }) from to ≡ mirroredRun ds es ls
+    core-is = ap (λ (x : List ℕ). traceOf (record { count = before .count; durations = before .durations; first = x; second = x; total = before .total }) from to) o
         ∙ ap₂ (λ (x y : List ℤ). traceOf mirroredRecord x y) (f ∙ ap (λ (m : ℕ). mirrorStarts (take m (before .durations)) ls) (a .counts .latest)) (t ∙ ap (λ (m : ℕ). mirrorStarts (take m (before .durations)) es) (a .counts .earliest)) ∙ trace-is
 
     pub left-starts : from′ ≡ mirroredRun ds es ls .starts

@@ -163,6 +163,7 @@ fn run_in_mirror(
         durations,
         first: order,
         second: order,
+        total: record.total,
     };
     let ran = run_accepted(mirrored, &mut from[..n], &to[..n], posts, atoms);
     mirror_starts(latest, &from[..n], &durations);
@@ -184,6 +185,7 @@ pub fn propagate_mirrored(
         &record.durations,
         &record.first,
         &record.second,
+        record.total,
         earliest,
         latest,
         posts.len(),

@@ -293,7 +293,7 @@ module _ (r : Propagator) (es ls : List ℤ) (posts atoms : ℕ) (a : Runnable r
       second-carried = g-is ∙ ap (λ (o : List ℕ). o ++ drop n (r .second)) (order-second lct completions keys-small)
 
       pub left : {ps as′ es′ ps′ bs : List ℤ} {o : Outcome} → posts ≡ length ps → atoms ≡ length as′ → Ended J first second ps as′ o es′ ps′ bs
-          → Left r es ls ps as′ (record { «record» = record { count = n; durations = r .durations; first = tasks; second = candidates }; outcome = o }) es′ ps′ bs
+          → Left r es ls ps as′ (record { «record» = record { count = n; durations = r .durations; first = tasks; second = candidates; total = r .total }; outcome = o }) es′ ps′ bs
       left {ps} {as′} {es′} {ps′} {bs} {o} p q d = record {
         answer = d .answer ∙ ap (λ (t : Trace). outcomeOf (reasons (t .posts)) (length (t .posts)) (t .end)) (sym trace-is);
         starts = d .starts ∙ ap (λ (t : Trace). t .starts) (sym trace-is);
@@ -301,7 +301,7 @@ module _ (r : Propagator) (es ls : List ℤ) (posts atoms : ℕ) (a : Runnable r
         atom-words = d .atoms ∙ overwrites as′ (atomWords (reasons (run zeroAt J first second .posts) ++ endReason (run zeroAt J first second .end))) (omega (arith, atoms-fit, q)) ∙ ap (atomsAfter as′) (sym trace-is);
         posts-fit = subst (λ (t : Trace). length (postWords 0 (t .posts)) ≤ length ps) (sym trace-is) (omega (arith, posts-fit, p));
         atoms-fit = subst (λ (t : Trace). length (atomWords (reasons (t .posts) ++ endReason (t .end))) ≤ length as′) (sym trace-is) (omega (arith, atoms-fit, q));
-        carries = ap₂ (λ (x y : List ℕ). record { count = n; durations = r .durations; first = x; second = y }) first-carried second-carried;
+        carries = ap₂ (λ (x y : List ℕ). record { count = n; durations = r .durations; first = x; second = y; total = r .total }) first-carried second-carried;
       }
 
   pub right : Right (tasksIn r es ls) (traceOf r es ls)

@@ -56,6 +56,7 @@ module _ (before : Propagator) (es ls : List ℤ) where
     durations = before .durations;
     first = sortedOrder (byEarliest (momentsIn before es ls)) (before .count) (before .first);
     second = sortedOrder (byCompletion (momentsIn before es ls)) (before .count) (before .second);
+    total = before .total;
   }
 
   -- An accepted run leaves that trace: its answer, the earliest starts, the words of its posts and reasons over what stood in the lent slices, which have room for them, and the record.

@@ -441,6 +441,7 @@ pub fn propagate(
         &record.durations,
         &record.first,
         &record.second,
+        record.total,
         earliest,
         latest,
         posts.len(),

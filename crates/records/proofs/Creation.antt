@@ -89,6 +89,7 @@ created-lawful ds h = made (accepted (creationTests ds) refl h)
           few = few;
           lasts = λ k q. leb-true 1 (getD (filled (durationAt ds) n noTasks) k 0) (all-at (lastsAt (filled (durationAt ds) n noTasks)) n (same-lasts ds few ∙ b) k q);
           sum = subst (λ (s : ℕ). s ≤ DURATIONS) (sym (same-sum ds few)) (leb-true (total (durationAt ds) n) DURATIONS c);
+          stored = sym (same-sum ds few);
           first = own-order n few;
           second = own-order n few;
           unused = λ k q s. (past (durationAt ds) k q, (past (λ k. k) k q, past (λ k. k) k q));

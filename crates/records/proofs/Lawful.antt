@@ -18,7 +18,7 @@ use Rattle.integers.proofs.Pigeonhole.{permutes, is-permutation}
 use Rattle.integers.proofs.Tests.{all-at, all-show}
 use Rattle.scheduling.specs.Scheduling.{total}
 use Rattle.records.specs.declared.record.Propagator.{Propagator}
-use Rattle.records.specs.Records.{countFits, sumFits, lastsAt, unusedAt, unusedZero, lawfulRecord, Lawful}
+use Rattle.records.specs.Records.{countFits, sumFits, totalTrue, lastsAt, unusedAt, unusedZero, lawfulRecord, Lawful}
 
 -- the test of the number of tasks
 pub count-is : (n : ℕ) → countFits n ≡ true ↔ ((1 ≤ n) × (n ≤ TASKS))
@@ -57,6 +57,7 @@ pub record Passes (r : Propagator) : Type 0 where
   pub counted : countFits (r .count) ≡ true
   pub lasting : allBelow (lastsAt (r .durations)) (r .count) ≡ true
   pub summed : sumFits (λ k. getD (r .durations) k 0) (r .count) ≡ true
+  pub stored : totalTrue (r .total) (r .durations) (r .count) ≡ true
   pub first : isPermutation (r .count) (take (r .count) (r .first)) ≡ true
   pub second : isPermutation (r .count) (take (r .count) (r .second)) ≡ true
   pub unused : unusedZero (r .durations) (r .first) (r .second) (r .count) ≡ true
@@ -68,20 +69,22 @@ module _ (r : Propagator) where
       let a = and-true (countFits (r .count)) _ h in
       let b = and-true (allBelow (lastsAt (r .durations)) (r .count)) _ (a .1) in
       let c = and-true (sumFits (λ k. getD (r .durations) k 0) (r .count)) _ (b .1) in
-      let d = and-true (isPermutation (r .count) (take (r .count) (r .first))) _ (c .1) in
+      let s = and-true (totalTrue (r .total) (r .durations) (r .count)) _ (c .1) in
+      let d = and-true (isPermutation (r .count) (take (r .count) (r .first))) _ (s .1) in
       let e = and-true (isPermutation (r .count) (take (r .count) (r .second))) (unusedZero (r .durations) (r .first) (r .second) (r .count)) (d .1) in
-      record { counted = a .0; lasting = b .0; summed = c .0; first = d .0; second = e .0; unused = e .1 }
+      record { counted = a .0; lasting = b .0; summed = c .0; stored = s .0; first = d .0; second = e .0; unused = e .1 }
 
   pub unlawful : (Passes r → ⊥) → lawfulRecord r ≡ false
   unlawful h = elim (bool (lawfulRecord r)) [ inl y ↦ absurd (h (passes y)) | inr y ↦ y ]
 
   -- where all before it are passed, the last test decides
-  pub last-test : countFits (r .count) ≡ true → allBelow (lastsAt (r .durations)) (r .count) ≡ true → sumFits (λ k. getD (r .durations) k 0) (r .count) ≡ true → isPermutation (r .count) (take (r .count) (r .first)) ≡ true → isPermutation (r .count) (take (r .count) (r .second)) ≡ true → lawfulRecord r ≡ unusedZero (r .durations) (r .first) (r .second) (r .count)
+  pub last-test : countFits (r .count) ≡ true → allBelow (lastsAt (r .durations)) (r .count) ≡ true → sumFits (λ k. getD (r .durations) k 0) (r .count) ≡ true → totalTrue (r .total) (r .durations) (r .count) ≡ true → isPermutation (r .count) (take (r .count) (r .first)) ≡ true → isPermutation (r .count) (take (r .count) (r .second)) ≡ true → lawfulRecord r ≡ unusedZero (r .durations) (r .first) (r .second) (r .count)
   unfolding lawfulRecord
-  last-test a b c d e =
+  last-test a b c s d e =
       and-is (countFits (r .count)) _ a
       ∙ and-is (allBelow (lastsAt (r .durations)) (r .count)) _ b
       ∙ and-is (sumFits (λ k. getD (r .durations) k 0) (r .count)) _ c
+      ∙ and-is (totalTrue (r .total) (r .durations) (r .count)) _ s
       ∙ and-is (isPermutation (r .count) (take (r .count) (r .first))) _ d
       ∙ and-is (isPermutation (r .count) (take (r .count) (r .second))) (unusedZero (r .durations) (r .first) (r .second) (r .count)) e
 
@@ -93,6 +96,7 @@ module _ (r : Propagator) where
         few = n .1;
         lasts = λ k q. leb-true 1 (getD (r .durations) k 0) (all-at (lastsAt (r .durations)) (r .count) (p .lasting) k q);
         sum = leb-true (total (λ k. getD (r .durations) k 0) (r .count)) DURATIONS (p .summed);
+        stored = eqb-true (r .total) (total (λ k. getD (r .durations) k 0) (r .count)) (p .stored);
         first = permutes (r .count) (take (r .count) (r .first)) (p .first);
         second = permutes (r .count) (take (r .count) (r .second)) (p .second);
         unused = λ k q s. unused-read (r .durations) (r .first) (r .second) (r .count) k q (all-at (unusedAt (r .durations) (r .first) (r .second) (r .count)) TASKS (p .unused) k s);
@@ -104,6 +108,7 @@ module _ (r : Propagator) where
       (count-is (r .count) .1 (l .some, l .few))
       (all-show (lastsAt (r .durations)) (r .count) (λ k q. le-leb 1 (getD (r .durations) k 0) (l .lasts k q)))
       (le-leb (total (λ k. getD (r .durations) k 0) (r .count)) DURATIONS (l .sum))
+      (eq-eqb (r .total) (total (λ k. getD (r .durations) k 0) (r .count)) (l .stored))
       (is-permutation (r .count) (take (r .count) (r .first)) (l .first))
       (is-permutation (r .count) (take (r .count) (r .second)) (l .second))
       ∙ all-show (unusedAt (r .durations) (r .first) (r .second) (r .count)) TASKS unused

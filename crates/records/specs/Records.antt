@@ -38,13 +38,17 @@ lastsAt durations k = leb 1 (getD durations k 0)
 unfoldable pub unusedAt : List ℕ → List ℕ → List ℕ → ℕ → ℕ → Bool
 unusedAt durations first second n k = ltb k n || (eqb (getD durations k 0) 0 && (eqb (getD first k 0) 0 && eqb (getD second k 0) 0))
 
+-- the stored total is the sum of the durations of tasks 0 to n − 1
+abbrev pub totalTrue : ℕ → List ℕ → ℕ → Bool
+totalTrue stored durations n = eqb stored (total (λ k. getD durations k 0) n)
+
 -- the three arrays hold 0 in each place from n on
 abbrev pub unusedZero : List ℕ → List ℕ → List ℕ → ℕ → Bool
 unusedZero durations first second n = allBelow (unusedAt durations first second n) TASKS
 
 -- a record of these fields
-abbrev pub recordOf : ℕ → List ℕ → List ℕ → List ℕ → Propagator
-recordOf n durations first second = record { count = n; durations = durations; first = first; second = second }
+abbrev pub recordOf : ℕ → List ℕ → List ℕ → List ℕ → ℕ → Propagator
+recordOf n durations first second stored = record { count = n; durations = durations; first = first; second = second; total = stored }
 
 -- Its orders have TASKS places.
 pub record WholeOrders (first second : List ℕ) : Type 0 where
@@ -57,9 +61,10 @@ lawfulRecord r =
     countFits (r .count)
     && (allBelow (lastsAt (r .durations)) (r .count)
     && (sumFits (λ k. getD (r .durations) k 0) (r .count)
+    && (totalTrue (r .total) (r .durations) (r .count)
     && (isPermutation (r .count) (take (r .count) (r .first))
     && (isPermutation (r .count) (take (r .count) (r .second))
-    && unusedZero (r .durations) (r .first) (r .second) (r .count)))))
+    && unusedZero (r .durations) (r .first) (r .second) (r .count))))))
 
 -- The same as facts.
 pub record Lawful (r : Propagator) : Type 0 where
@@ -67,6 +72,7 @@ pub record Lawful (r : Propagator) : Type 0 where
   pub few : r .count ≤ TASKS
   pub lasts : (k : ℕ) → k < r .count → 1 ≤ getD (r .durations) k 0
   pub sum : total (λ k. getD (r .durations) k 0) (r .count) ≤ DURATIONS
+  pub stored : r .total ≡ total (λ k. getD (r .durations) k 0) (r .count)
   pub first : Permutes (r .count) (take (r .count) (r .first))
   pub second : Permutes (r .count) (take (r .count) (r .second))
   pub unused : (k : ℕ) → r .count ≤ k → k < TASKS → (getD (r .durations) k 0 ≡ 0) × ((getD (r .first) k 0 ≡ 0) × (getD (r .second) k 0 ≡ 0))
@@ -109,17 +115,18 @@ abbrev pub creationNumber : Creation → ℕ
 creationNumber Accepted = 0
 creationNumber (Refused number) = number
 
--- a new record: the durations, and both orders 0 to n − 1
+-- a new record: the durations with their sum, and both orders 0 to n − 1
 abbrev pub newRecord : List ℤ → Propagator
 newRecord ds = record {
   count = length ds;
   durations = filled (durationAt ds) (length ds) noTasks;
   first = filled (λ k. k) (length ds) noTasks;
   second = filled (λ k. k) (length ds) noTasks;
+  total = total (durationAt ds) (length ds);
 }
 
 abbrev pub zeroRecord : Propagator
-zeroRecord = record { count = 0; durations = noTasks; first = noTasks; second = noTasks }
+zeroRecord = record { count = 0; durations = noTasks; first = noTasks; second = noTasks; total = 0 }
 
 -- the new record, or the record of zeros with the number
 abbrev pub createdAt : ℕ → List ℤ → Created

@@ -1,4 +1,4 @@
-// The propagator's record: the task count, the durations and the two orders. Creation, and the test whether a record is lawful.
+// The propagator's record: the task count, the durations, the two orders and the sum of the durations. Creation, and the test whether a record is lawful.
 use integers::limits::DURATIONS;
 use integers::limits::TASKS;
 use integers::wide;
@@ -12,7 +12,7 @@ ghost use Rattle.integers.specs.Tests.{allBelow, refusal};
 ghost use Rattle.integers.specs.Orders.{isPermutation};
 ghost use Rattle.scheduling.specs.Scheduling.{total};
 ghost use Rattle.records.specs.Orders.{noTasks};
-ghost use Rattle.records.specs.Records.{countFits, sumFits, lastsAt, unusedZero, WholeOrders, recordOf, lawfulRecord, durationOf, durationAt, creationTests, creationNumber, zeroRecord, created};
+ghost use Rattle.records.specs.Records.{countFits, sumFits, totalTrue, lastsAt, unusedZero, WholeOrders, recordOf, lawfulRecord, durationOf, durationAt, creationTests, creationNumber, zeroRecord, created};
 
 // Places from the count on are 0.
 #[repr(C)]
@@ -21,6 +21,7 @@ pub struct Propagator {
     pub durations: [u32; 48],
     pub first: [usize; 48],
     pub second: [usize; 48],
+    pub total: u32,
 }
 
 pub enum Creation {
@@ -63,6 +64,14 @@ fn sum_fits(durations: &[u32; 48], n: usize) -> bool
     ensures { λ r. ⌜ r ≡ sumFits (λ k. getD (now (durations .entry)) k 0) n ⌝ }
 {
     total_of(durations, n) <= DURATIONS as u64
+}
+
+// Whether a stored total is that sum.
+fn total_true(stored: u32, durations: &[u32; 48], n: usize) -> bool
+    requires { ⌜ n ≤ TASKS ⌝ }
+    ensures { λ r. ⌜ r ≡ totalTrue stored (now (durations .entry)) n ⌝ }
+{
+    wide(stored) == total_of(durations, n)
 }
 
 // Whether each of the first n durations is 1 or more.
@@ -131,10 +140,11 @@ fn zeros() -> Propagator
         durations: [0u32; 48],
         first: [0usize; 48],
         second: [0usize; 48],
+        total: 0,
     }
 }
 
-// A record of the durations, with both orders 0 to n - 1; or the record of zeros, with the number that turned them back.
+// A record of the durations with their sum, and both orders 0 to n - 1; or the record of zeros, with the number that turned them back.
 pub fn create(durations: &[i32]) -> Created
     ensures { λ r. ⌜ (r ≡ created (now (durations .entry))) × (creationNumber (r .answer) ≡ refusal (creationTests (now (durations .entry)))) ⌝ }
 {
@@ -147,6 +157,7 @@ pub fn create(durations: &[i32]) -> Created
     }
     let n = durations.len();
     let lengths = durations_of(durations);
+    let total = total_of(&lengths, n) as u32;
     let order = super::orders::identity(n);
     Created {
         record: Propagator {
@@ -154,6 +165,7 @@ pub fn create(durations: &[i32]) -> Created
             durations: lengths,
             first: order,
             second: order,
+            total,
         },
         answer: Creation::Accepted,
     }
@@ -212,9 +224,10 @@ pub fn lawful<'a>(
     durations: &'a [u32; 48],
     first: &'a [usize; 48],
     second: &'a [usize; 48],
+    total: u32,
 ) -> bool
     requires { ⌜ WholeOrders (now first) (now second) ⌝ }
-    ensures { λ r. ⌜ r ≡ lawfulRecord (recordOf n (now (durations .entry)) (now (first .entry)) (now (second .entry))) ⌝ }
+    ensures { λ r. ⌜ r ≡ lawfulRecord (recordOf n (now (durations .entry)) (now (first .entry)) (now (second .entry)) total) ⌝ }
 {
     if !count_fits(n) {
         return false;
@@ -222,7 +235,10 @@ pub fn lawful<'a>(
     if !all_last(durations, n) {
         return false;
     }
-    if !sum_fits(durations, n) {
+    if !total_true(total, durations, n) {
+        return false;
+    }
+    if total > DURATIONS {
         return false;
     }
     if !permutation(first, n) {

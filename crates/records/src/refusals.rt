@@ -50,13 +50,14 @@ pub fn input_refusal<'a>(
     durations: &'a [u32; 48],
     first: &'a [usize; 48],
     second: &'a [usize; 48],
+    total: u32,
     earliest: &[i32],
     latest: &[i32],
 ) -> u32
     requires { ⌜ WholeOrders (now first) (now second) ⌝ }
-    ensures { λ r. ⌜ r ≡ inputNumber (recordOf n (now (durations .entry)) (now (first .entry)) (now (second .entry))) (now (earliest .entry)) (now (latest .entry)) ⌝ }
+    ensures { λ r. ⌜ r ≡ inputNumber (recordOf n (now (durations .entry)) (now (first .entry)) (now (second .entry)) total) (now (earliest .entry)) (now (latest .entry)) ⌝ }
 {
-    if !super::record::lawful(n, durations, first, second) {
+    if !super::record::lawful(n, durations, first, second, total) {
         return 20;
     }
     if earliest.len() != n {
@@ -83,15 +84,16 @@ pub fn run_refusal<'a>(
     durations: &'a [u32; 48],
     first: &'a [usize; 48],
     second: &'a [usize; 48],
+    total: u32,
     earliest: &[i32],
     latest: &[i32],
     post_words: usize,
     atom_words: usize,
 ) -> u32
     requires { ⌜ WholeOrders (now first) (now second) ⌝ }
-    ensures { λ r. ⌜ r ≡ runNumber (recordOf n (now (durations .entry)) (now (first .entry)) (now (second .entry))) (now (earliest .entry)) (now (latest .entry)) «post_words» «atom_words» ⌝ }
+    ensures { λ r. ⌜ r ≡ runNumber (recordOf n (now (durations .entry)) (now (first .entry)) (now (second .entry)) total) (now (earliest .entry)) (now (latest .entry)) «post_words» «atom_words» ⌝ }
 {
-    let number = input_refusal(n, durations, first, second, earliest, latest);
+    let number = input_refusal(n, durations, first, second, total, earliest, latest);
     if number != 0 {
         return number;
     }

@@ -1,11 +1,15 @@
 use mathlib.Core.Path.{_≡_, sym, ap, _∙_}
 use mathlib.Core.List.{List}
+use Prim.Native.Nat.{ℕ}
+use native.Mathlib.Omega.{arith}
 use lib.IntN.{ℤ}
+use lib.ListN.{length, getD}
 use borrow.Author.Needs.{needs}
 use Rattle.integers.specs.Tests.{refusal}
+use Rattle.scheduling.specs.Scheduling.{total}
 use Rattle.records.specs.Records.{creationTests, creationNumber, newRecord, created, Lawful}
 use Rattle.records.specs.declared.record.Created.{Created}
-use Rattle.records.proofs.Creation.{created-new, created-not, created-lawful, answer-number}
+use Rattle.records.proofs.Creation.{created-new, created-not, created-lawful, answer-number, same-sum}
 use Rattle.records.proofs.record.create.Statement.{statement}
 use Rattle.records.proofs.record.create.Tie as tie
 
@@ -35,14 +39,25 @@ returns c =
 durations-of-requires : tie.Need-durations-of-requires
 durations-of-requires c κs = made c .few
 
+total-of-requires : tie.Need-total-of-requires
+total-of-requires c κs = made (c .before .before) .few
+
+cast-total : tie.Need-cast-total
+cast-total c =
+    let ds = c .before .before .before .before .before .args .durations .now in
+    let m = made (c .before .before .before) in
+    record { fits = omega (arith, m .sum, c .total-of .ensures, ap (λ (l : List ℕ). total (λ k. getD l k 0) (length ds)) (c .before .before .durations-of .ensures)) }
+
 identity-requires : tie.Need-identity-requires
-identity-requires c κs = made (c .before) .few
+identity-requires c κs = made (c .before .before .before) .few
 
 returns-2 : tie.Need-returns-2
 returns-2 c =
-    let ds = c .before .before .before .before .args .durations .now in
-    let new = created-new ds (none (c .before .before)) in
-    numbered ds _ (cc (c .before .durations-of .ensures, c .identity .ensures, new))
+    let ds = c .before .before .before .before .before .before .args .durations .now in
+    let d = c .before .before .before .durations-of .ensures in
+    let sum = c .before .total-of .ensures ∙ ap (λ (l : List ℕ). total (λ k. getD l k 0) (length ds)) d ∙ same-sum ds (made (c .before .before .before .before) .few) in
+    let new = created-new ds (none (c .before .before .before .before)) in
+    numbered ds _ (cc (d, sum, c .identity .ensures, new))
 
 pub create-spec : {M : Type 1} → statement M
 create-spec =
@@ -52,5 +67,7 @@ create-spec =
     zeros-requires
     returns
     durations-of-requires
+    total-of-requires
+    cast-total
     identity-requires
     returns-2)

@@ -1,11 +1,14 @@
 use mathlib.Core.Path.{_≡_, sym, _∙_}
 use mathlib.Core.Bool.{true}
-use Prim.Native.Nat.{_≤_}
-use borrow.Author.Tests.{not-true, not-false}
+use Prim.Native.Nat.{ℕ, _≤_}
+use native.Mathlib.Omega.{arith}
+use lib.ListN.{getD}
+use borrow.Author.Tests.{not-true, not-false, leb-true, le-leb, eqb-true}
 use borrow.Author.Needs.{needs}
-use Rattle.integers.specs.Limits.{TASKS}
+use Rattle.integers.specs.Limits.{TASKS, DURATIONS}
 use Rattle.integers.proofs.Bools.{clash}
-use Rattle.records.specs.Records.{countFits}
+use Rattle.scheduling.specs.Scheduling.{total}
+use Rattle.records.specs.Records.{countFits, totalTrue}
 use Rattle.records.proofs.Lawful.{count-is, unlawful, last-test}
 use Rattle.records.proofs.record.lawful.Statement.{statement}
 use Rattle.records.proofs.record.lawful.Tie as tie
@@ -29,36 +32,50 @@ all-last-requires c κs = few c
 returns-2 : tie.Need-returns-2
 returns-2 c = sym (unlawful _ (λ p. clash (p .lasting) (sym (c .before .all-last .ensures) ∙ not-true _ (c .if2 .taken))))
 
-sum-fits-requires : tie.Need-sum-fits-requires
-sum-fits-requires c κs = few (c .before .before)
+-- the stored total is the sum of the durations
+stored : (c : tie.Else3) → let args = c .before .before .before .before .before .before .args in totalTrue (args .total) (args .durations .now) (args .n) ≡ true
+stored c = sym (c .before .total-true .ensures) ∙ not-false _ (c .if3 .left)
+
+summed : (c : tie.Else3) → let args = c .before .before .before .before .before .before .args in args .total ≡ total (λ k. getD (args .durations .now) k 0) (args .n)
+summed c = eqb-true _ _ (stored c)
+
+total-true-requires : tie.Need-total-true-requires
+total-true-requires c κs = few (c .before .before)
 
 returns-3 : tie.Need-returns-3
-returns-3 c = sym (unlawful _ (λ p. clash (p .summed) (sym (c .before .sum-fits .ensures) ∙ not-true _ (c .if3 .taken))))
-
-permutation-requires : tie.Need-permutation-requires
-permutation-requires c κs = (few (c .before .before .before .before), c .before .before .before .before .before .before .pre .one)
+returns-3 c = sym (unlawful _ (λ p. clash (p .stored) (sym (c .before .total-true .ensures) ∙ not-true _ (c .if3 .taken))))
 
 returns-4 : tie.Need-returns-4
-returns-4 c = sym (unlawful _ (λ p. clash (p .first) (sym (c .before .permutation .ensures) ∙ not-true _ (c .if4 .taken))))
+returns-4 c =
+    let args = c .before .before .before .before .before .before .before .args in
+    sym (unlawful _ (λ p. absurd (omega (arith, c .if4 .taken, summed (c .before), leb-true (total (λ k. getD (args .durations .now) k 0) (args .n)) DURATIONS (p .summed)))))
 
-permutation-requires-2 : tie.Need-permutation-requires-2
-permutation-requires-2 c κs = (few (c .before .before .before .before .before .before), c .before .before .before .before .before .before .before .before .pre .other)
+permutation-requires : tie.Need-permutation-requires
+permutation-requires c κs = (few (c .before .before .before .before .before), c .before .before .before .before .before .before .before .pre .one)
 
 returns-5 : tie.Need-returns-5
-returns-5 c = sym (unlawful _ (λ p. clash (p .second) (sym (c .before .permutation2 .ensures) ∙ not-true _ (c .if5 .taken))))
+returns-5 c = sym (unlawful _ (λ p. clash (p .first) (sym (c .before .permutation .ensures) ∙ not-true _ (c .if5 .taken))))
 
-unused-zero-requires : tie.Need-unused-zero-requires
-unused-zero-requires c κs = few (c .before .before .before .before .before .before .before .before)
+permutation-requires-2 : tie.Need-permutation-requires-2
+permutation-requires-2 c κs = (few (c .before .before .before .before .before .before .before), c .before .before .before .before .before .before .before .before .before .pre .other)
 
 returns-6 : tie.Need-returns-6
-returns-6 c =
+returns-6 c = sym (unlawful _ (λ p. clash (p .second) (sym (c .before .permutation2 .ensures) ∙ not-true _ (c .if6 .taken))))
+
+unused-zero-requires : tie.Need-unused-zero-requires
+unused-zero-requires c κs = few (c .before .before .before .before .before .before .before .before .before)
+
+returns-7 : tie.Need-returns-7
+returns-7 c =
+    let args = c .before .before .before .before .before .before .before .before .before .before .before .before .args in
     c .unused-zero .ensures
     ∙ sym (last-test _
-    (counted (c .before .before .before .before .before .before .before .before .before))
-    (sym (c .before .before .before .before .before .before .before .before .all-last .ensures) ∙ not-false _ (c .before .before .before .before .before .before .before .if2 .left))
-    (sym (c .before .before .before .before .before .before .sum-fits .ensures) ∙ not-false _ (c .before .before .before .before .before .if3 .left))
-    (sym (c .before .before .before .before .permutation .ensures) ∙ not-false _ (c .before .before .before .if4 .left))
-    (sym (c .before .before .permutation2 .ensures) ∙ not-false _ (c .before .if5 .left)))
+    (counted (c .before .before .before .before .before .before .before .before .before .before))
+    (sym (c .before .before .before .before .before .before .before .before .before .all-last .ensures) ∙ not-false _ (c .before .before .before .before .before .before .before .before .if2 .left))
+    (le-leb (total (λ k. getD (args .durations .now) k 0) (args .n)) DURATIONS (omega (arith, c .before .before .before .before .before .if4 .left, summed (c .before .before .before .before .before .before))))
+    (stored (c .before .before .before .before .before .before))
+    (sym (c .before .before .before .before .permutation .ensures) ∙ not-false _ (c .before .before .before .if5 .left))
+    (sym (c .before .before .permutation2 .ensures) ∙ not-false _ (c .before .if6 .left)))
 
 pub lawful-spec : {M : Type 1} → statement M
 lawful-spec =
@@ -68,11 +85,12 @@ lawful-spec =
     returns
     all-last-requires
     returns-2
-    sum-fits-requires
+    total-true-requires
     returns-3
-    permutation-requires
     returns-4
-    permutation-requires-2
+    permutation-requires
     returns-5
+    permutation-requires-2
+    returns-6
     unused-zero-requires
-    returns-6)
+    returns-7)

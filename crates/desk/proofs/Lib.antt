@@ -1,0 +1,6 @@
+pub mod Placing
+pub mod Leaving
+pub mod Sums
+pub mod Changing
+pub mod Creation
+pub mod History

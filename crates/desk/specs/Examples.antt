@@ -1,0 +1,60 @@
+-- The definitions at small inputs.
+-- Assumes nothing.
+use mathlib.Core.Path.{_≡_, refl}
+use mathlib.Core.List.{[], _∷_}
+use lib.IntN.{pos}
+use Rattle.integers.specs.Filling.{filled}
+use Rattle.integers.specs.Orders.{has, isPermutation}
+use Rattle.integers.specs.Tests.{allBelow, refusal}
+use Rattle.scheduling.specs.Scheduling.{total}
+use Rattle.records.specs.declared.record.Propagator.{Propagator}
+use Rattle.records.specs.Records.{unusedAt, lawfulRecord, newRecord, recordOf}
+use Rattle.records.specs.Refusals.{runNumber}
+use Rattle.desk.specs.Lists.{placed, without, loweredPast, closedGap}
+use Rattle.desk.specs.Changes.{added, removed, addNumber, removeNumber}
+
+-- the order 2 0 3 1 without task 1: 2 and 3 are one lower
+gap-closed : closedGap 1 (2 ∷ 0 ∷ 3 ∷ 1 ∷ []) ≡ 1 ∷ 0 ∷ 2 ∷ []
+unfolding closedGap loweredPast
+gap-closed = refl
+
+-- three tasks, the first order 2 0 1
+three : Propagator
+three = recordOf 3 (placed (4 ∷ 5 ∷ 6 ∷ [])) (placed (2 ∷ 0 ∷ 1 ∷ [])) (placed (0 ∷ 1 ∷ 2 ∷ [])) 15
+
+without-the-first : removed three 0 ≡ recordOf 2 (placed (5 ∷ 6 ∷ [])) (placed (1 ∷ 0 ∷ [])) (placed (0 ∷ 1 ∷ [])) 11
+unfolding three without closedGap loweredPast
+without-the-first = refl
+
+with-one-more : added three 7 ≡ recordOf 4 (placed (4 ∷ 5 ∷ 6 ∷ 7 ∷ [])) (placed (2 ∷ 0 ∷ 1 ∷ 3 ∷ [])) (placed (0 ∷ 1 ∷ 2 ∷ 3 ∷ [])) 22
+unfolding three
+with-one-more = refl
+
+-- a stored total that is one too small falls under 20, before anything else
+total-false : addNumber (recordOf 1 (placed (4 ∷ [])) (placed (0 ∷ [])) (placed (0 ∷ [])) 3) (pos 0) ≡ 20
+unfolding refusal lawfulRecord isPermutation allBelow unusedAt has total
+total-false = refl
+
+run-turned-back : runNumber (recordOf 1 (placed (4 ∷ [])) (placed (0 ∷ [])) (placed (0 ∷ [])) 5) [] [] 0 0 ≡ 20
+unfolding refusal lawfulRecord isPermutation allBelow unusedAt has total
+run-turned-back = refl
+
+sum-above : addNumber three (pos 199999986) ≡ 5
+unfolding three refusal lawfulRecord isPermutation allBelow unusedAt has total
+sum-above = refl
+
+sum-fits : addNumber three (pos 199999985) ≡ 0
+unfolding three refusal lawfulRecord isPermutation allBelow unusedAt has total
+sum-fits = refl
+
+-- of a record's one task: a number past it is 12, its own 1
+one : Propagator
+one = newRecord (pos 4 ∷ [])
+
+not-there : removeNumber one 1 ≡ 12
+unfolding one refusal lawfulRecord isPermutation allBelow unusedAt has filled total
+not-there = refl
+
+the-only-task : removeNumber one 0 ≡ 1
+unfolding one refusal lawfulRecord isPermutation allBelow unusedAt has filled total
+the-only-task = refl

@@ -1,0 +1,4 @@
+pub mod Lists
+pub mod Changes
+pub mod Histories
+pub mod Examples
