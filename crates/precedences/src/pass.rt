@@ -92,6 +92,7 @@ pub fn precedences(record: Propagator, earliest: &mut [i32], latest: &[i32]) -> 
         &record.durations,
         &record.first,
         &record.second,
+        record.total,
         earliest,
         latest,
     );

@@ -100,15 +100,16 @@ fn reason_refusal<'a>(
     durations: &'a [u32; 48],
     first: &'a [usize; 48],
     second: &'a [usize; 48],
+    total: u32,
     earliest: &[i32],
     latest: &[i32],
     task: usize,
     words: usize,
 ) -> u32
     requires { ⌜ WholeOrders (now first) (now second) ⌝ }
-    ensures { λ r. ⌜ r ≡ reasonNumber (recordOf n (now (durations .entry)) (now (first .entry)) (now (second .entry))) (now (earliest .entry)) (now (latest .entry)) task words ⌝ }
+    ensures { λ r. ⌜ r ≡ reasonNumber (recordOf n (now (durations .entry)) (now (first .entry)) (now (second .entry)) total) (now (earliest .entry)) (now (latest .entry)) task words ⌝ }
 {
-    let number = input_refusal(n, durations, first, second, earliest, latest);
+    let number = input_refusal(n, durations, first, second, total, earliest, latest);
     if number != 0 {
         return number;
     }
@@ -136,6 +137,7 @@ pub fn precedence_reason(
         &record.durations,
         &record.first,
         &record.second,
+        record.total,
         earliest,
         latest,
         task,
