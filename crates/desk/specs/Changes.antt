@@ -11,6 +11,7 @@ use Rattle.integers.specs.Tests.{Test, test, refusal}
 use Rattle.records.specs.declared.record.Propagator.{Propagator}
 use Rattle.records.specs.Records.{countFits, durationOf, lawfulRecord, Lawful}
 use Rattle.desk.specs.declared.changes.Changed.{Changed}
+use Rattle.desk.specs.declared.changes.Change.{Change}
 use Rattle.desk.specs.declared.changes.Change.the-variants.{Made, Refused}
 use Rattle.desk.specs.Lists.{placed, without, closedGap}
 
@@ -79,3 +80,10 @@ module _ (r : Propagator) where
     pub refused : (removeNumber t ≡ 0 → ⊥) → c ≡ record { «record» = r; answer = Refused (removeNumber t) }
     pub made : removeNumber t ≡ 0 → c ≡ record { «record» = removed t; answer = Made }
     pub lawful : removeNumber t ≡ 0 → Lawful (c .«record»)
+
+  -- the same on a lent record: what stands there at the end, and the answer
+  abbrev pub AddedLent : ℤ → Change → Propagator → Type 0
+  AddedLent d answer after = TaskAdded d (record { «record» = after; answer = answer })
+
+  abbrev pub RemovedLent : ℕ → Change → Propagator → Type 0
+  RemovedLent t answer after = TaskRemoved t (record { «record» = after; answer = answer })

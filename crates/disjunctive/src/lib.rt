@@ -1,4 +1,4 @@
-// The open calls, all in one place: creation, the run, the mirrored pass, the overload test, the post reader, the check, the page, the charges, and the calls of the variable state. None has a `requires`.
+// The open calls, all in one place: creation, a task added or taken off, the run, the mirrored pass, the overload test, the post reader, the check, the page, the charges, and the calls of the variable state. None has a `requires`.
 pub mod ranges;
 
 pub use crate::ranges::Range;
@@ -13,6 +13,9 @@ pub use checker::checker::Verdict;
 pub use checker::checker::check;
 pub use checking::variable_state::VariableState;
 pub use counter::overload_test::Overload;
+pub use desk::changes::Change;
+pub use desk::lent::add;
+pub use desk::lent::remove;
 pub use pages::answer::Page;
 pub use propagator::disjunctive_propagator::Outcome;
 pub use records::posts::post_number;
