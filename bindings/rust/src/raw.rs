@@ -147,7 +147,7 @@ mod tests {
     // The layouts that the archive is compiled for.
     #[test]
     fn sizes() {
-        assert_eq!(size_of::<Record>(), 8 + 48 * 20);
+        assert_eq!(size_of::<Record>(), 8 + 48 * 20 + 8);
         assert_eq!(size_of::<NewRecord>(), size_of::<Record>() + 8);
         assert_eq!(size_of::<RunAnswer>(), 32);
         assert_eq!(size_of::<PostAnswer>(), 32);
