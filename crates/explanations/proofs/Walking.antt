@@ -12,7 +12,7 @@ use lib.Seq.{take-append-seam, drop-append-seam, getD-append-seam}
 use Rattle.trees.specs.Searches.{thetaOf, Next}
 use Rattle.trees.proofs.Thetas.{theta-none, theta-white, theta-skip}
 use Rattle.runs.proofs.Stops.{theta-append}
-use Rattle.explanations.specs.Explanations.{lasts, Each, Somewhere, Walks, between, Meets, StopsAt}
+use Rattle.explanations.specs.Explanations.{lasts, Each, Somewhere, Walks, Meets, between, StopsAt}
 use Rattle.explanations.proofs.Places.{Walked, begins, enough, at-most, goes-on, stops-at}
 
 -- the next white leaf is the first one from itself on
@@ -119,8 +119,7 @@ module _ (white : ℕ → Bool) (task : ℕ → ℕ) (a n : ℕ) (leaf : ℕ →
   inside : (j : ℕ) → j < length list → leaf j < n
   inside j s = let c = comes j (omega arith) in met-inside white task a n (leaf j) (c .from) (c .to) (omega (arith, c .count))
 
-  -- The walk meets exactly the tasks of the list, each once and in its order.
-  pub walk-meets : Meets white task a n leaf
+  pub walk-meets : Meets task list a n leaf
   walk-meets = record {
     inside = λ j s. (comes j (omega arith) .from, omega (arith, w .next j (inside j s) .from), inside j s);
     tasks = λ j s.
@@ -131,6 +130,10 @@ module _ (white : ℕ → Bool) (task : ℕ → ℕ) (a n : ℕ) (leaf : ℕ →
       | no z ↦ omega (arith, c .to)
     ];
   }
+
+-- The walk over all leaves meets exactly the tasks of Theta's list, each once and in its order.
+pub theta-meets : (white : ℕ → Bool) (task : ℕ → ℕ) (n : ℕ) (leaf : ℕ → ℕ) → Walks white 0 n leaf → Meets task (thetaOf white task 0 n) 0 n leaf
+theta-meets white task n leaf w = rw (all-leaves white task n) (walk-meets white task 0 n leaf w)
 
 -- What a walk knows at leaf x, before it asks there.
 pub record WalkedTo (white : ℕ → Bool) (task : ℕ → ℕ) (P : ℕ → ℕ → Type 0) (ds : List ℕ) (a n x q : ℕ) : Type 0 where

@@ -71,16 +71,16 @@ pub record Walks (white : ℕ → Bool) (a n : ℕ) (leaf : ℕ → ℕ) : Type 
   pub first : Next white a n (leaf 0)
   pub next : (j : ℕ) → leaf j < n → Next white (leaf j + 1) n (leaf (j + 1))
 
+-- The leaves have exactly the tasks ks, each once and in their order: the j-th leaf has the j-th task, and after the last task comes n.
+pub record Meets (task : ℕ → ℕ) (ks : List ℕ) (a n : ℕ) (leaf : ℕ → ℕ) : Type 0 where
+  pub inside : (j : ℕ) → j < length ks → (a ≤ leaf j) × (leaf j < leaf (j + 1)) × (leaf j < n)
+  pub tasks : (j : ℕ) → j < length ks → task (leaf j) ≡ getD ks j 0
+  pub ends : leaf (length ks) ≡ n
+
 module _ (white : ℕ → Bool) (task : ℕ → ℕ) where
   -- the tasks of the white leaves from a up to b
   abbrev pub between : ℕ → ℕ → List ℕ
   between a b = thetaOf white task a (b - a)
-
-  -- The leaves meet exactly the tasks of that list, each once and in its order: the j-th leaf has the j-th task, and after the last task comes n.
-  pub record Meets (a n : ℕ) (leaf : ℕ → ℕ) : Type 0 where
-    pub inside : (j : ℕ) → j < length (between a n) → (a ≤ leaf j) × (leaf j < leaf (j + 1)) × (leaf j < n)
-    pub tasks : (j : ℕ) → j < length (between a n) → task (leaf j) ≡ getD (between a n) j 0
-    pub ends : leaf (length (between a n)) ≡ n
 
   -- A walk that asks stops at leaf x: the task there is the first of the list at which the answer is yes, and those from it on last `left`.
   pub record StopsAt (P : ℕ → ℕ → Type 0) (ds : List ℕ) (a n x left : ℕ) : Type 0 where
