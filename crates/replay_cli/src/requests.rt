@@ -13,6 +13,7 @@ use crate::parts::stretch;
 use crate::running::ATOMS;
 use crate::running::POSTS;
 use crate::running::RANGES;
+use crate::running::atoms_of;
 use crate::running::posts_of;
 use crate::running::put_outcome;
 use crate::running::put_posts;
@@ -161,12 +162,20 @@ pub fn prints(session: Session, out: &mut [u8], words: &[i32]) -> Session {
     }
 }
 
+// Line i of a page, or nothing.
+fn page_line(sheet: &[u8], i: usize) -> &[u8] {
+    if i >= PAGE / LINE {
+        return &sheet[0..0];
+    }
+    stretch(sheet, LINE * i, LINE * i + LINE)
+}
+
 // So many lines of a page.
 fn put_page(out: &mut [u8], at: usize, sheet: &[u8], lines: usize) -> usize {
     let mut end = at;
     let mut i = 0;
-    while i < lines && i < 49 {
-        end = put_line(out, end, stretch(sheet, LINE * i, LINE * i + LINE));
+    while i < lines {
+        end = put_line(out, end, page_line(sheet, i));
         i += 1;
     }
     end
@@ -196,7 +205,14 @@ pub fn bills(session: Session, out: &mut [u8], words: &[i32], due: &[i32]) -> Se
 fn put_bill(out: &mut [u8], at: usize, bill: Bill, n: usize) -> usize {
     let a = put_line(out, at, b"charges");
     let b = put_charges(out, a, &bill.charges, n);
-    put_counted(out, b, b"total", bill.total as usize)
+    let c = put_line(out, b, b"total");
+    let d = put_cents(out, c, bill.total);
+    put_end(out, d)
+}
+
+// A space and an amount.
+fn put_cents(out: &mut [u8], at: usize, cents: u32) -> usize {
+    put_spaced_count(out, at, cents as usize)
 }
 
 // The first n charges, a space before each, and the end of the line.
@@ -204,7 +220,7 @@ fn put_charges(out: &mut [u8], at: usize, charges: &[u32; 48], n: usize) -> usiz
     let mut end = at;
     let mut i = 0;
     while i < n && i < 48 {
-        end = put_spaced_count(out, end, charges[i] as usize);
+        end = put_cents(out, end, charges[i]);
         i += 1;
     }
     put_end(out, end)

@@ -234,7 +234,7 @@ fn put_overload(out: &mut [u8], at: usize, atoms: &[i32], first: usize, count: u
 }
 
 // The words of `count` atoms from the one numbered `first` on, or none where they are not in the slice.
-fn atoms_of(atoms: &[i32], first: usize, count: usize) -> &[i32] {
+pub fn atoms_of(atoms: &[i32], first: usize, count: usize) -> &[i32] {
     let all = atoms.len() / 3;
     if first > all {
         return &atoms[0..0];
