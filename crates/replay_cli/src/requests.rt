@@ -19,6 +19,7 @@ use crate::running::put_outcome;
 use crate::running::put_posts;
 use crate::running::put_reason;
 use crate::running::spread;
+use crate::states::place_of;
 use charges::answer::Bill;
 use charges::answer::Billing;
 use charges::charging::charges;
@@ -26,8 +27,6 @@ use counter::overload_test::Overload;
 use counter::overload_test::overload_test;
 use free_starts::free_start::FreeStart;
 use free_starts::free_start::free_start;
-use integers::at_most;
-use integers::nat_of;
 use mirrored::mirrored_propagator::propagate_mirrored;
 use pages::answer::Page;
 use pages::page::page;
@@ -316,15 +315,25 @@ fn put_raised(out: &mut [u8], at: usize, record: Propagator, ranges: Ranges) -> 
     let n = ranges.count;
     let latest = ranges.latest;
     let mut earliest = ranges.earliest;
-    if n > RANGES {
-        return put_refused(out, at, 10);
-    }
-    let answer = precedences(record, &mut earliest[0..n], first(&latest, n));
+    let answer = lent_precedences(record, &mut earliest, &latest, n);
     match answer {
         Precedences::Done => put_starts(out, at, first(&earliest, n)),
         Precedences::Emptied(task) => put_counted(out, at, b"passes", task),
         Precedences::Refused(number) => put_refused(out, at, number),
     }
+}
+
+// The pass on the first n places of the two slices.
+fn lent_precedences(
+    record: Propagator,
+    earliest: &mut [i32],
+    latest: &[i32],
+    n: usize,
+) -> Precedences {
+    if n > earliest.len() {
+        return Precedences::Refused(10);
+    }
+    precedences(record, &mut earliest[0..n], first(latest, n))
 }
 
 // The line of starts.
@@ -341,14 +350,6 @@ fn behind(words: &[i32]) -> &[i32] {
     &words[1..]
 }
 
-// The task of a number; one that no record has where the number is negative.
-fn numbered(x: i32) -> usize {
-    if !at_most(0, x) {
-        return RANGES;
-    }
-    nat_of(x) as usize
-}
-
 // `precede-why`: the reason of the bound of the task that is named first.
 pub fn explains(session: Session, out: &mut [u8], words: &[i32]) -> Session {
     let rest = behind(words);
@@ -358,7 +359,7 @@ pub fn explains(session: Session, out: &mut [u8], words: &[i32]) -> Session {
     if words.len() == 0 {
         return session.failed(out);
     }
-    let task = numbered(words[0]);
+    let task = place_of(words[0]);
     let at = session.at;
     let record = session.record;
     let ranges = ranges_of(rest);

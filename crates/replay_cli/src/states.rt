@@ -140,7 +140,7 @@ pub fn shows(session: Session, out: &mut [u8], words: &[i32]) -> Session {
 }
 
 // A variable's number, or VARIABLES where it is not known.
-fn place_of(variable: i32) -> usize {
+pub fn place_of(variable: i32) -> usize {
     if !variable_is_accepted(variable) {
         return VARIABLES;
     }
