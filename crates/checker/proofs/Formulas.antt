@@ -19,7 +19,8 @@ use Rattle.integers.proofs.Ints.{up, dn, ints}
 use Rattle.integers.proofs.Moments.{above-show}
 use Rattle.scheduling.specs.Scheduling.{whole, natural, Tasks, Proper, TaskSet, _with_, Largest, Least, In, Outside, NonEmpty, completion, Est, Lct, Ect, processing, Overloads, Atom, Admits, given, Bounded, RuleFormula, PassesWith, PassesAlone}
 use Rattle.scheduling.proofs.Agreement.{Agree, overloads→, formula→, set-overloads, set-formula}
-use Rattle.scheduling.proofs.Transfer.{moments, sound, overload→, overload←, checks→, checks←}
+use Rattle.scheduling.proofs.Transfer.{sound, overload→, overload←, checks→, checks←}
+use Rattle.scheduling.specs.Moments.{moments}
 use Rattle.checker.specs.Formulas.{known, valueOf, bounded, others, ranges, tasks, any, lowest, highest, ectOf, overloaded, implied}
 use Rattle.checker.proofs.Gathering.{any-yes, any-some, lowest-is, highest-is, ect-is}
 

@@ -11,13 +11,13 @@ use lib.Dec.{eqb, leb, ltb}
 use lib.IntN.{ℤ, pos}
 use lib.ListN.{length, getD, length-map}
 use borrow.Author.Tests.{leb-true}
-use Rattle.integers.specs.Orders.{sort, index, numbers}
+use Rattle.integers.specs.Orders.{sort, index, numbers, Ordered}
 use Rattle.integers.proofs.Bools.{bool, clash, or-true, or-right, below-suc}
 use Rattle.integers.proofs.Filling.{getD-map-in}
-use Rattle.integers.proofs.Permutations.{Ordered, numbers-length, numbers-permute}
+use Rattle.integers.proofs.Permutations.{numbers-length, numbers-permute}
 use Rattle.integers.proofs.Sorting.{sort-length, sort-ordered, key-whole, key-chain}
 use Rattle.scheduling.specs.Scheduling.{natural, Tasks, Proper, TaskSet, In, NonEmpty, Est, Lct, Ect, completion}
-use Rattle.scheduling.proofs.Scan.{ByEarliest}
+use Rattle.scheduling.specs.Moments.{ByEarliest}
 use Rattle.scheduling.proofs.Sets.{Empty}
 use Rattle.trees.specs.Leaves.{Leaf, empty, white, inTheta, inLambda}
 use Rattle.trees.proofs.Roots as tree

@@ -8,7 +8,7 @@ use lib.IntN.{ℤ, pos, negsuc}
 use Rattle.integers.specs.Moments.{zeroAt}
 use Rattle.integers.specs.Orders.{sort, numbers}
 use Rattle.scheduling.specs.Scheduling.{whole, natural, Tasks, TaskSet, completion, processing}
-use Rattle.scheduling.proofs.Transfer.{moments}
+use Rattle.scheduling.specs.Moments.{moments}
 use Rattle.trees.specs.Leaves.{Leaf, empty, white, ect}
 
 -- What the loop over the tasks gathers ------------------------------------------------------------------------------------------

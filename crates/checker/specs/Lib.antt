@@ -1,4 +1,5 @@
 pub mod Formulas
+pub mod Verdicts
 pub mod Checks
 pub mod Holding
 pub mod Colouring

@@ -11,10 +11,10 @@ use lib.Dec.{leb}
 use lib.ListN.{length, getD, set, take, replicate, length-take, length-map, length-set, length-replicate}
 use lib.Seq.{getD-take, ext-getD, getD-set-same, getD-set-other}
 use borrow.Author.Tests.{leb-true, ltb-true, lt-ltb}
-use Rattle.integers.specs.Orders.{index, has, Distinct, Permutes, numbers}
+use Rattle.integers.specs.Orders.{index, has, Distinct, Permutes, numbers, Ordered}
 use Rattle.integers.proofs.Bools.{bool, clash}
 use Rattle.integers.proofs.Filling.{getD-fresh, getD-map-in}
-use Rattle.integers.proofs.Permutations.{Ordered, has-at, index-at, index-back, numbers-permute}
+use Rattle.integers.proofs.Permutations.{has-at, index-at, index-back, numbers-permute}
 use Rattle.integers.proofs.Sorting.{sort-permutes, sort-ordered, key-whole, key-chain}
 use Rattle.scheduling.specs.Scheduling.{natural, Tasks, Proper, TaskSet, In, NonEmpty, EstPlusP, Overloads, completion, processing}
 use Rattle.scheduling.proofs.Exists.{largest-at}

@@ -10,10 +10,9 @@ use lib.Seq.{getD-take}
 use Rattle.integers.specs.Filling.{filled}
 use Rattle.integers.specs.Limits.{START, DURATIONS}
 use Rattle.integers.specs.Moments.{moment, zeroAt, Above}
-use Rattle.integers.specs.Orders.{index}
+use Rattle.integers.specs.Orders.{index, Ordered}
 use Rattle.integers.proofs.Ints.{ints, up, dn, up-neg, dn-neg}
 use Rattle.integers.proofs.Moments.{at-moment}
-use Rattle.integers.proofs.Permutations.{Ordered}
 use Rattle.scheduling.specs.Scheduling.{whole, natural, Tasks}
 use Rattle.scheduling.proofs.Sets.{total-part}
 use Rattle.records.specs.declared.record.Propagator.{Propagator}

@@ -15,12 +15,12 @@ use borrow.Author.Tests.{le-leb, leb-true}
 use Rattle.integers.specs.Limits.{TASKS, START}
 use Rattle.integers.specs.Filling.{filled}
 use Rattle.integers.specs.Moments.{moment, instant, zeroAt, Above}
-use Rattle.integers.specs.Orders.{has, index, sort, numbers, Permutes}
+use Rattle.integers.specs.Orders.{has, index, sort, numbers, Permutes, Ordered}
 use Rattle.integers.proofs.Bools.{bool, clash}
 use Rattle.integers.proofs.Filling.{filled-at, filled-length}
 use Rattle.integers.proofs.Ints.{ints, up, dn, up-neg, dn-neg, leZ-true, le-leZ}
 use Rattle.integers.proofs.Moments.{mono, reflect, plus, plus-above, above-show, at-moment, instant-moment}
-use Rattle.integers.proofs.Permutations.{Ordered, numbers-permute, numbers-length}
+use Rattle.integers.proofs.Permutations.{numbers-permute, numbers-length}
 use Rattle.integers.proofs.Sorting.{sort-ext, sort-length, sort-permutes, sort-ordered}
 use Rattle.records.specs.Refusals.{StartFits}
 use Rattle.records.specs.Orders.{byKey, noTasks, momentAt, sortedOrder, Numbered}

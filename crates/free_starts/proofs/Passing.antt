@@ -7,7 +7,7 @@ use native.Mathlib.Omega.{arith}
 use native.Mathlib.Decide.{decLt}
 use native.Mathlib.Numerals.{add-one}
 use Rattle.integers.proofs.Bools.{below-suc}
-use Rattle.integers.proofs.Permutations.{Ordered}
+use Rattle.integers.specs.Orders.{Ordered}
 use Rattle.scheduling.specs.Scheduling.{natural, Tasks}
 use Rattle.free_starts.specs.FreeStarts.{Free, EarliestFree}
 

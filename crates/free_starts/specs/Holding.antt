@@ -4,7 +4,7 @@ use Prim.Native.Nat.{ℕ, _+_, _≤_, _<_}
 use lib.ListN.{getD}
 use Rattle.integers.specs.Limits.{TASKS, MOMENT, LENGTH}
 use Rattle.integers.specs.Moments.{zeroAt}
-use Rattle.integers.proofs.Permutations.{Ordered}
+use Rattle.integers.specs.Orders.{Ordered}
 use Rattle.free_starts.specs.FreeStarts.{LATEST}
 
 -- The tasks stand in an order by start, and all numbers are far from the largest u32.

@@ -10,6 +10,7 @@ use native.Mathlib.Omega.{arith}
 use lib.Dec.{T, leb, ltb, leb→le, le→leb, ltb→lt, lt→ltb, nltb→le, nleb→lt}
 use lib.IntN.{ℤ, pos, negsuc, negℤ, natAbs, subℕ, _+ℤ_, _-ℤ_}
 use lib.Signed.{mag, leZ, ltZ, _≤ℤ_, _<ℤ_, pos-natAbs, yes-nonNeg}
+use Rattle.integers.specs.Extremes.{pickℤ, maxℤ, minℤ}
 use mir.Syntax.{Width, w32, w64}
 use mir.Val.{SFits, toZ, ofZ, hbits}
 use mir.ValLaws.{toZ-ofZ}
@@ -190,16 +191,6 @@ pub never {ℓ} : {X : Type ℓ} → false ≡ true → X
 never e = absurd (subst T (sym e) tt)
 
 -- ---- the larger and the smaller of two: entries of omega's list, one for each case of `maxℤ-is`
-abbrev pub pickℤ : Bool → ℤ → ℤ → ℤ
-pickℤ true a b = a
-pickℤ false a b = b
-
-unfoldable pub maxℤ : ℤ → ℤ → ℤ
-maxℤ a b = pickℤ (leZ a b) b a
-
-unfoldable pub minℤ : ℤ → ℤ → ℤ
-minℤ a b = pickℤ (leZ a b) a b
-
 order : (a b : ℤ) (c : Bool) → leZ a b ≡ c → ((a ≤ℤ b) × (c ≡ true)) ⊎ ((b <ℤ a) × (c ≡ false))
 order a b true e = inl (omega (arith, ≤ℤ-show, leZ-yes-read a b e), refl)
 order a b false e = inr (omega (arith, <ℤ-show, leZ-no-read a b e), refl)

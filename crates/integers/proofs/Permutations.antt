@@ -11,7 +11,7 @@ use lib.Dec.{eqb}
 use lib.ListN.{length, getD}
 use lib.Seq.{ext-getD}
 use borrow.Author.Tests.{ne-eqb, eq-eqb, eqb-true, eqb-false}
-use Rattle.integers.specs.Orders.{index, has, Distinct, Permutes, numbers}
+use Rattle.integers.specs.Orders.{index, has, Distinct, Permutes, Ordered, numbers}
 use Rattle.integers.proofs.Bools.{bool, clash, or-true, or-false, or-right}
 
 pub has-cons : (x k : ℕ) (xs : List ℕ) → has (x ∷ xs) k ≡ eqb x k || has xs k
@@ -62,14 +62,6 @@ pub index-back : (l : List ℕ) → Distinct l → (j : ℕ) → j < length l �
 index-back [] d j q = absurd (omega arith)
 index-back (x ∷ xs) d zero q = index-here x xs x refl
 index-back (x ∷ xs) d (suc j) q = index-later x xs (getD xs j 0) (λ z. clash (rw (← z) at (has-at xs j (omega arith))) (d .0)) ∙ ap suc (index-back xs (d .1) j (omega arith))
-
--- The numbers below n in an order: the number at each place, the place of each number, and what the order is sorted by.
-pub record Ordered (n : ℕ) (at place : ℕ → ℕ) (by : ℕ → ℕ → Type 0) : Type 0 where
-  pub task : (t : ℕ) → t < n → at t < n
-  pub placed : (k : ℕ) → k < n → place k < n
-  pub there : (k : ℕ) → k < n → at (place k) ≡ k
-  pub back : (t : ℕ) → t < n → place (at t) ≡ t
-  pub sorted : (s t : ℕ) → s ≤ t → t < n → by (at s) (at t)
 
 -- A permutation, with the places as its inverse.
 pub permuted : (n : ℕ) (l : List ℕ) (by : ℕ → ℕ → Type 0) → Permutes n l → ((s t : ℕ) → s ≤ t → t < n → by (getD l s 0) (getD l t 0)) → Ordered n (λ t. getD l t 0) (λ k. index l k) by

@@ -1,7 +1,9 @@
 pub mod Limits
+pub mod Extremes
 pub mod Moments
 pub mod Words
 pub mod Filling
 pub mod Tests
+pub mod Answers
 pub mod Orders
 pub mod Examples

@@ -21,19 +21,20 @@ use Rattle.integers.proofs.Moments.{at-moment, above-up, more-above}
 use mathlib.Core.Bool.{true}
 use Rattle.scheduling.specs.Scheduling.{tasksOf, Atom, Every}
 use Rattle.scheduling.proofs.Processing.{processing-all, processing-less}
-use Rattle.scheduling.proofs.Transfer.{moments}
+use Rattle.scheduling.specs.Moments.{moments}
 use Rattle.scheduling.specs.Mirroring.{mirrorStart, mirrorAtom}
 use Rattle.scheduling.specs.Words.{atomWords}
 use Rattle.scheduling.proofs.Words.{atoms-length}
 use Rattle.runs.specs.Traces.{Post, End, done, overload, emptied, Trace}
 use Rattle.runs.specs.Demand.{consequentOf, post}
 use Rattle.runs.specs.Runs.{propagate}
-use Rattle.runs.specs.Words.{postWords, reasons, postsAfter, atomsAfter}
+use Rattle.runs.specs.Words.{postWords, reasons, postsAfter, atomsAfter, atomsIn}
 use Rattle.runs.specs.Mirrored.{mirrorStarts, durationIn, mirrorPost, mirrorEnd, mirrorTrace, mirroredRun, MirroredRight}
 use Rattle.runs.proofs.Buffers.{posts-length}
 use Rattle.runs.proofs.Demand as demand
 use Rattle.runs.proofs.Mirrored as laws
-use Rattle.runs.proofs.Mirrored.{Near, atomsIn, postsTo, atomsTo, posts-after, atoms-after}
+use Rattle.runs.proofs.Mirrored.{posts-after, atoms-after}
+use Rattle.runs.specs.MirroredWords.{Near, postsTo, atomsTo}
 use Rattle.runs.proofs.Starts.{starts-length}
 use Rattle.records.specs.declared.record.Propagator.{Propagator}
 use Rattle.records.specs.Orders.{noTasks}

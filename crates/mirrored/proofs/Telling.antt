@@ -15,15 +15,16 @@ use Rattle.integers.specs.Filling.{filled}
 use Rattle.integers.proofs.Filling.{filled-length, filled-at}
 use Rattle.integers.proofs.Ints.{up, dn, ints}
 use Rattle.scheduling.specs.Scheduling.{Atom}
-use Rattle.scheduling.specs.Words.{atomWords}
+use Rattle.scheduling.specs.Words.{atomWords, no-atom}
 use Rattle.scheduling.specs.Mirroring.{mirrorStart, mirrorKind, mirrorAtom}
-use Rattle.scheduling.proofs.Words.{atoms-length, no-atom}
+use Rattle.scheduling.proofs.Words.{atoms-length}
 use Rattle.runs.specs.Traces.{Post, End, done, overload, emptied}
-use Rattle.runs.specs.Words.{postWords, reasons, endReason}
+use Rattle.runs.specs.Words.{postWords, reasons, endReason, atomsIn}
 use Rattle.runs.specs.Mirrored.{mirrorStarts, durationIn, mirrorPost}
 use Rattle.runs.specs.Demand.{consequentOf, no-post}
 use Rattle.runs.proofs.Buffers.{posts-length, no-reasons}
-use Rattle.runs.proofs.Mirrored.{mirror-at, mirror-length, Near, near-at, near-fits, atomsIn, postsTo, atomsTo, post-task, post-bound, posts-step, atom-read, atoms-step}
+use Rattle.runs.proofs.Mirrored.{mirror-at, mirror-length, near-at, near-fits, post-task, post-bound, posts-step, atom-read, atoms-step}
+use Rattle.runs.specs.MirroredWords.{Near, postsTo, atomsTo}
 use Rattle.runs.proofs.Readers.{startOf, four-words, last-ends}
 use Rattle.propagator.specs.declared.disjunctive_propagator.Outcome.{Outcome}
 use Rattle.propagator.specs.declared.disjunctive_propagator.Outcome.the-variants as outcome

@@ -12,10 +12,10 @@ use Rattle.scheduling.specs.Scheduling.{Atom, Every}
 use Rattle.scheduling.specs.Words.{atomWords}
 use Rattle.scheduling.specs.Mirroring.{mirrorStart}
 use Rattle.runs.specs.Traces.{Post, Trace}
-use Rattle.runs.specs.Words.{postWords, reasons, postsAfter, atomsAfter}
+use Rattle.runs.specs.Words.{postWords, reasons, postsAfter, atomsAfter, atomsIn}
 use Rattle.runs.specs.Mirrored.{mirrorStarts, mirrorTrace, mirroredRun}
 use Rattle.runs.specs.Demand.{consequentOf, no-post, post}
-use Rattle.runs.proofs.Mirrored.{Near, atomsIn, postsTo, atomsTo}
+use Rattle.runs.specs.MirroredWords.{Near, postsTo, atomsTo}
 use Rattle.records.specs.declared.record.Propagator.{Propagator}
 use Rattle.propagator.specs.declared.disjunctive_propagator.Outcome.{Outcome}
 use Rattle.propagator.specs.declared.disjunctive_propagator.Outcome.the-variants as outcome

@@ -7,9 +7,8 @@ use lib.IntN.{ℤ}
 use lib.Signed.{_≤ℤ_}
 use lib.ListN.{length, getD, take, drop}
 use Rattle.integers.specs.Words.{overwritten}
-use Rattle.integers.specs.Orders.{index}
+use Rattle.integers.specs.Orders.{index, Ordered}
 use Rattle.integers.specs.Tests.{Test, test, refusal}
-use Rattle.integers.proofs.Permutations.{Ordered}
 use Rattle.records.specs.declared.record.Propagator.{Propagator}
 use Rattle.fixed.specs.FixedSchedules.{startAt, endAt, fixedTests, AcceptedFixed, orderOf}
 use Rattle.pages.specs.Lines.{LINE, heading, lineOf}

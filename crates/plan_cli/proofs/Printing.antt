@@ -14,8 +14,8 @@ use lib.Signed.{leZ}
 use Rattle.text.specs.Writing.{natural, decimal, Puts}
 use Rattle.text.proofs.Putting.{puts-append, puts-length}
 use Rattle.scheduling.specs.Scheduling.{Atom}
-use Rattle.scheduling.specs.Words.{atomWords}
-use Rattle.scheduling.proofs.Words.{atoms-length, no-atom, three-alone}
+use Rattle.scheduling.specs.Words.{atomWords, no-atom}
+use Rattle.scheduling.proofs.Words.{atoms-length, three-alone}
 use Rattle.plan_cli.specs.Printed.{Written}
 use Rattle.plan_cli.specs.Lines.{newline, space, postWord, whyWord, refusedWord, sign, postLine, whyLine, lines, whyOf, whyLines, refusedLine}
 

@@ -17,7 +17,8 @@ use Rattle.integers.proofs.Moments.{at-moment, above-up, reflect, reflect<, plu
 use Rattle.scheduling.specs.Scheduling.{whole, natural, Tasks, Proper, TaskSet, Largest, NonEmpty, EstPlusP, Ect}
 use Rattle.scheduling.proofs.Agreement.{set-ect}
 use Rattle.scheduling.proofs.Sets.{top}
-use Rattle.scheduling.proofs.Transfer.{moments, sound, Is, ect→, ect←, part-above}
+use Rattle.scheduling.proofs.Transfer.{sound, Is, ect→, ect←, part-above}
+use Rattle.scheduling.specs.Moments.{moments}
 use Rattle.checker.proofs.Gathering.{ect-is, ect-none}
 use Rattle.precedences.specs.Precedences.{predecessors, PrecedenceBound}
 use Rattle.precedences.specs.Holding.{comesBefore, boundAt, raisedAt}

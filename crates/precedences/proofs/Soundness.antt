@@ -14,7 +14,7 @@ use Rattle.integers.proofs.Bools.{and-true}
 use Rattle.integers.proofs.Ints.{up, dn, ints, sumℤ}
 use Rattle.integers.proofs.Moments.{mono, reflect, plus, plus-above, deep, more-above, above-up}
 use Rattle.scheduling.specs.Scheduling.{whole, Tasks, Proper, TaskSet, In, processing, EstPlusP, NoOverlap, Schedule}
-use Rattle.scheduling.proofs.Transfer.{moments}
+use Rattle.scheduling.specs.Moments.{moments}
 use Rattle.scheduling.proofs.Windows as nat
 use Rattle.precedences.specs.Precedences.{predecessors, PrecedenceBound}
 

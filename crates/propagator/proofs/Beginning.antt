@@ -20,10 +20,9 @@ use Rattle.integers.proofs.Moments.{mono, above-up, above-show, more-above, ins
 use Rattle.integers.proofs.Sorting.{sort-ext}
 use Rattle.scheduling.specs.Scheduling.{whole, natural, Tasks, tasksOf, Proper, total, processing, completion}
 use Rattle.scheduling.proofs.Processing.{processing-less, processing-all}
-use Rattle.scheduling.proofs.Scan.{ByEarliest}
-use Rattle.scheduling.proofs.Levels.{ByCompletion}
 use Rattle.scheduling.proofs.Sets.{total-ext}
-use Rattle.scheduling.proofs.Transfer.{moments, sound}
+use Rattle.scheduling.proofs.Transfer.{sound}
+use Rattle.scheduling.specs.Moments.{moments, ByEarliest, ByCompletion}
 use Rattle.trees.specs.Leaves.{Limited, white, IsTree}
 use Rattle.trees.specs.declared.theta_lambda_tree.ThetaLambdaTree.{ThetaLambdaTree}
 use Rattle.trees.specs.Mappings.{Updated}

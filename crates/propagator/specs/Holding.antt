@@ -10,8 +10,7 @@ use Rattle.integers.specs.Limits.{TASKS}
 use Rattle.integers.specs.Moments.{instant, zeroAt}
 use Rattle.integers.specs.Orders.{index}
 use Rattle.scheduling.specs.Scheduling.{natural, Tasks, Proper, processing, completion}
-use Rattle.scheduling.proofs.Scan.{ByEarliest}
-use Rattle.scheduling.proofs.Levels.{ByCompletion}
+use Rattle.scheduling.specs.Moments.{ByEarliest, ByCompletion}
 use Rattle.trees.specs.Leaves.{Limited, IsTree}
 use Rattle.trees.specs.Shapes.{heightFor}
 use Rattle.runs.specs.Runs.{State}

@@ -1,3 +1,4 @@
+pub mod Outcomes
 pub mod Holding
 pub mod Turns
 pub mod Finding

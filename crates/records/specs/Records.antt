@@ -13,7 +13,7 @@ use Rattle.integers.specs.Moments.{zeroAt}
 use Rattle.integers.specs.Tests.{Test, test, refusal, allBelow}
 use Rattle.integers.specs.Orders.{Permutes, isPermutation}
 use Rattle.scheduling.specs.Scheduling.{whole, natural, Tasks, tasksOf, total}
-use Rattle.scheduling.proofs.Transfer.{moments}
+use Rattle.scheduling.specs.Moments.{moments}
 use Rattle.records.specs.Orders.{noTasks}
 use Rattle.records.specs.declared.record.Propagator.{Propagator}
 use Rattle.records.specs.declared.record.Created.{Created}

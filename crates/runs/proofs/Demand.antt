@@ -12,16 +12,14 @@ use lib.ListN.{length, getD}
 use lib.Dec.{leb}
 use borrow.Author.Tests.{leb-true}
 use Rattle.integers.specs.Moments.{moment, Above, zeroAt}
-use Rattle.integers.specs.Orders.{sort, index, Permutes}
+use Rattle.integers.specs.Orders.{sort, index, Permutes, Ordered}
 use Rattle.integers.proofs.Ints.{ints}
 use Rattle.integers.proofs.Moments.{above-up, more-above, at-moment}
-use Rattle.integers.proofs.Permutations.{Ordered}
 use Rattle.integers.proofs.Sorting.{sort-ordered, key-whole, key-chain}
 use Rattle.scheduling.specs.Scheduling.{whole, natural, Tasks, tasksOf, Proper, TaskSet, total, In, processing, completion, EdgeFindingBound, Overloads, Schedule, Done, Conflict}
 use Rattle.scheduling.proofs.Processing.{processing-all}
-use Rattle.scheduling.proofs.Scan.{ByEarliest}
-use Rattle.scheduling.proofs.Levels.{ByCompletion}
-use Rattle.scheduling.proofs.Transfer.{moments, sound, done←, conflict←}
+use Rattle.scheduling.proofs.Transfer.{sound, done←, conflict←}
+use Rattle.scheduling.specs.Moments.{moments, ByEarliest, ByCompletion}
 use Rattle.scheduling.proofs.Schedules.{conflict-sound}
 use Rattle.runs.specs.Traces.{Post, End, done, overload, emptied, Trace}
 use Rattle.runs.specs.Runs.{run, propagate, byEarliest, byCompletion}

@@ -16,8 +16,7 @@ use Rattle.integers.proofs.Bools.{bool}
 use Rattle.scheduling.specs.Scheduling.{natural, Tasks, Proper, Atom}
 use Rattle.scheduling.specs.Words.{atomWords}
 use Rattle.scheduling.proofs.Cards.{card-most}
-use Rattle.scheduling.proofs.Levels.{ByCompletion}
-use Rattle.scheduling.proofs.Scan.{ByEarliest}
+use Rattle.scheduling.specs.Moments.{ByEarliest, ByCompletion}
 use Rattle.scheduling.proofs.Words.{atoms-length}
 use Rattle.trees.specs.Leaves.{ect, ect-bar, responsible}
 use Rattle.trees.proofs.Roots as tree

@@ -15,9 +15,8 @@ use borrow.Author.Tests.{ne-eqb, eq-eqb}
 use Rattle.scheduling.specs.Scheduling.{natural, Tasks, tasksOf, Proper, TaskSet, In}
 use Rattle.integers.proofs.Bools.{bool}
 use Rattle.scheduling.proofs.Sets.{_less_}
-use Rattle.scheduling.proofs.Scan.{ByEarliest}
 use Rattle.scheduling.proofs.Cards.{card, card-less, card-zero, card-same}
-use Rattle.scheduling.proofs.Transfer.{moments}
+use Rattle.scheduling.specs.Moments.{moments, ByEarliest}
 use Rattle.integers.specs.Moments.{zeroAt}
 use Rattle.integers.specs.Orders.{sort, index}
 use Rattle.trees.specs.Leaves.{Leaf, empty, white, sum, theta, inTheta, inLambda, whiteAt, grayAt, ect, ect-bar, responsible}

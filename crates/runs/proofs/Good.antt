@@ -16,15 +16,16 @@ use Rattle.scheduling.specs.Scheduling as defs
 use Rattle.integers.proofs.Bools.{bool, clash}
 use Rattle.scheduling.proofs.Sets.{with-in, with-new, with-old}
 use Rattle.scheduling.proofs.Processing.{processing-mono}
-use Rattle.scheduling.proofs.Scan.{ByEarliest, scan, scan-is}
-use Rattle.scheduling.proofs.Levels.{ByCompletion, edge}
+use Rattle.scheduling.proofs.Scan.{scan, scan-is}
+use Rattle.scheduling.proofs.Levels.{edge}
 use Rattle.scheduling.proofs.Reasons as why
 use Rattle.scheduling.proofs.Walks as stops
 use Rattle.scheduling.proofs.Suffixes as suffixes
 use Rattle.integers.specs.Moments.{moment, Above, instant}
 use Rattle.integers.proofs.Moments.{mono, reflect, reflect<, above-up, plus, same, deep, moment-instant, instant-above}
 use Rattle.integers.proofs.Ints.{ints}
-use Rattle.scheduling.proofs.Transfer.{moments, sound, edge←, Is}
+use Rattle.scheduling.proofs.Transfer.{sound, edge←, Is}
+use Rattle.scheduling.specs.Moments.{moments, ByEarliest, ByCompletion}
 use Rattle.scheduling.proofs.Schedules.{rule-sound}
 use Rattle.scheduling.proofs.Checks.{checks-down, overloads-down}
 use Rattle.integers.specs.Orders.{index}

@@ -20,17 +20,19 @@ use Rattle.integers.proofs.Ints.{up, dn, ints, sumℤ, sub-law, fits-show}
 use Rattle.integers.proofs.Moments.{above-show, at-moment, more-above}
 use Rattle.integers.proofs.Permutations.{numbers-permute}
 use Rattle.scheduling.specs.Scheduling.{whole, natural, Tasks, tasksOf, Proper, Atom, Every, PassesWith, PassesAlone}
-use Rattle.scheduling.specs.Words.{atomWords}
+use Rattle.scheduling.specs.Words.{atomWords, no-atom}
 use Rattle.scheduling.specs.Mirroring.{mirrorStart, mirror, mirrorKind, mirrorAtom, mirrorAtoms, MirroredDone}
 use Rattle.scheduling.proofs.Mirroring.{at-mirror, start-twice, start-falls, start-falls<, atom-twice, atoms-twice, edge-mirrored, conflict-mirrored, schedule-mirrored, done-mirrored, holds-mirrored}
 use Rattle.scheduling.proofs.Passed.{every-append}
 use Rattle.scheduling.proofs.Processing.{processing-all, processing-less}
-use Rattle.scheduling.proofs.Transfer.{moments, sound}
-use Rattle.scheduling.proofs.Words.{no-atom, Three, three-words, atoms-length, atom-set}
+use Rattle.scheduling.proofs.Transfer.{sound}
+use Rattle.scheduling.specs.Moments.{moments}
+use Rattle.scheduling.proofs.Words.{Three, three-words, atoms-length, atom-set}
 use Rattle.runs.specs.Traces.{Post, End, done, overload, emptied, Trace}
 use Rattle.runs.specs.Runs.{byEarliest, byCompletion}
 use Rattle.runs.specs.Demand.{Right, PostRight, OverloadRight, consequentOf, no-post, post}
-use Rattle.runs.specs.Words.{postWords, reasons, endReason, postsAfter, atomsAfter}
+use Rattle.runs.specs.Words.{postWords, reasons, endReason, atomsIn, postsAfter, atomsAfter}
+use Rattle.runs.specs.MirroredWords.{Near, postsTo, atomsTo}
 use Rattle.runs.specs.Mirrored.{mirrorStarts, durationIn, mirrorPost, mirrorEnd, mirrorTrace, mirroredRun, mirroredPass, MirroredPostRight, MirroredOverloadRight, MirroredRight}
 use Rattle.runs.proofs.Buffers.{posts-length}
 use Rattle.runs.proofs.Demand.{Accepted, by-earliest, by-completion, demand-3}
@@ -156,13 +158,6 @@ above p z s h = omega (ints, at-mirror p z, at-mirror p s)
 below : (p : ℕ) (z s : ℤ) → mirrorStart p z ≤ℤ s → mirrorStart p s ≤ℤ z
 below p z s h = omega (ints, at-mirror p z, at-mirror p s)
 
--- An atom of a mirrored run: ≥ or ≤ on one of n tasks, its value so near that it and its mirrored value are i32s.
-pub record Near (n : ℕ) (a : Atom) : Type 0 where
-  pub task : a .variable < n
-  pub kind : a .kind < 2
-  pub low : Above 1400000000 (a .value)
-  pub high : a .value ≤ℤ pos 800000000
-
 shaped-near : (n : ℕ) (a : Atom) → Shaped zeroAt n (zeroAt - 400000000) (zeroAt + 400000000) 200000000 a → Near n a
 unfolding up dn
 shaped-near n a s = record {
@@ -273,10 +268,6 @@ module _ (ds : List ℕ) (es ls : List ℤ) (first second : List ℕ) (a : Accep
 
 -- Words ------------------------------------------------------------------------------------------------------------------------
 
--- the atoms of all reasons of a trace
-abbrev pub atomsIn : Trace → List Atom
-atomsIn t = reasons (t .posts) ++ endReason (t .end)
-
 -- another bound for a post: one store
 post-set : (ps : List Post) (tail : List ℤ) (from j : ℕ) (p : Post) → j < length ps → p .task ≡ getD ps j no-post .task → length (p .reason) ≡ length (getD ps j no-post .reason)
     → set (postWords from ps ++ tail) (4 * j + 1) (p .bound) ≡ postWords from (set ps j p) ++ tail
@@ -324,58 +315,51 @@ module _ (ds : List ℕ) where
   mirrored-three xs tail m q = subst (Three (atomWords (mirrorAtoms (durationIn ds) xs) ++ tail) (3 * m)) (getD-map-in (mirrorAtom (durationIn ds)) xs m no-atom no-atom q)
       (three-words (mirrorAtoms (durationIn ds) xs) tail m no-atom (omega (arith, length-map xs (mirrorAtom (durationIn ds)))))
 
-  -- In place: the first i posts and atoms are mirrored, the others not yet.
-  abbrev pub postsTo : ℕ → List Post → List Post
-  postsTo i ps = filled (λ k. mirrorPost ds (getD ps k no-post)) i ps
-
-  abbrev pub atomsTo : ℕ → List Atom → List Atom
-  atomsTo i xs = filled (λ k. mirrorAtom (durationIn ds) (getD xs k no-atom)) i xs
-
-  pub posts-begin : (ps : List Post) → postsTo 0 ps ≡ ps
+  pub posts-begin : (ps : List Post) → postsTo ds 0 ps ≡ ps
   posts-begin ps = filled-none (λ k. mirrorPost ds (getD ps k no-post)) ps
 
-  pub atoms-begin : (xs : List Atom) → atomsTo 0 xs ≡ xs
+  pub atoms-begin : (xs : List Atom) → atomsTo ds 0 xs ≡ xs
   atoms-begin xs = filled-none (λ k. mirrorAtom (durationIn ds) (getD xs k no-atom)) xs
 
   module _ (ps : List Post) (tail : List ℤ) (from i : ℕ) (q : i < length ps) where
-    long : i < length (postsTo i ps)
+    long : i < length (postsTo ds i ps)
     long = omega (arith, filled-length (λ k. mirrorPost ds (getD ps k no-post)) i ps)
 
-    still : getD (postsTo i ps) i no-post ≡ getD ps i no-post
+    still : getD (postsTo ds i ps) i no-post ≡ getD ps i no-post
     still = filled-past (λ k. mirrorPost ds (getD ps k no-post)) i ps no-post i (omega arith)
 
     -- what a turn reads, and what it leaves
-    pub post-task : getD (postWords from (postsTo i ps) ++ tail) (4 * i) (pos 0) ≡ pos (getD ps i no-post .task)
-    post-task = List·getD-append (postWords from (postsTo i ps)) tail (pos 0) (4 * i) (omega (arith, posts-length (postsTo i ps) from, long)) ∙ four-words (postsTo i ps) from i long .task ∙ ap (λ (p : Post). pos (p .task)) still
+    pub post-task : getD (postWords from (postsTo ds i ps) ++ tail) (4 * i) (pos 0) ≡ pos (getD ps i no-post .task)
+    post-task = List·getD-append (postWords from (postsTo ds i ps)) tail (pos 0) (4 * i) (omega (arith, posts-length (postsTo ds i ps) from, long)) ∙ four-words (postsTo ds i ps) from i long .task ∙ ap (λ (p : Post). pos (p .task)) still
 
-    pub post-bound : getD (postWords from (postsTo i ps) ++ tail) (4 * i + 1) (pos 0) ≡ getD ps i no-post .bound
-    post-bound = List·getD-append (postWords from (postsTo i ps)) tail (pos 0) (4 * i + 1) (omega (arith, posts-length (postsTo i ps) from, long)) ∙ four-words (postsTo i ps) from i long .bound ∙ ap (λ (p : Post). p .bound) still
+    pub post-bound : getD (postWords from (postsTo ds i ps) ++ tail) (4 * i + 1) (pos 0) ≡ getD ps i no-post .bound
+    post-bound = List·getD-append (postWords from (postsTo ds i ps)) tail (pos 0) (4 * i + 1) (omega (arith, posts-length (postsTo ds i ps) from, long)) ∙ four-words (postsTo ds i ps) from i long .bound ∙ ap (λ (p : Post). p .bound) still
 
-    pub posts-step : set (postWords from (postsTo i ps) ++ tail) (4 * i + 1) (mirrorStart (durationIn ds (getD ps i no-post .task)) (getD ps i no-post .bound)) ≡ postWords from (postsTo (i + 1) ps) ++ tail
-    posts-step = post-set (postsTo i ps) tail from i (mirrorPost ds (getD ps i no-post)) long (ap (λ (p : Post). p .task) (sym still))
+    pub posts-step : set (postWords from (postsTo ds i ps) ++ tail) (4 * i + 1) (mirrorStart (durationIn ds (getD ps i no-post .task)) (getD ps i no-post .bound)) ≡ postWords from (postsTo ds (i + 1) ps) ++ tail
+    posts-step = post-set (postsTo ds i ps) tail from i (mirrorPost ds (getD ps i no-post)) long (ap (λ (p : Post). p .task) (sym still))
         (length-map (getD ps i no-post .reason) (mirrorAtom (durationIn ds)) ∙ ap (λ (p : Post). length (p .reason)) (sym still))
         ∙ ap (λ (l : List Post). postWords from l ++ tail) (sym (filled-more (λ k. mirrorPost ds (getD ps k no-post)) i ps))
 
   module _ (xs : List Atom) (tail : List ℤ) (i : ℕ) (q : i < length xs) where
-    long-atoms : i < length (atomsTo i xs)
+    long-atoms : i < length (atomsTo ds i xs)
     long-atoms = omega (arith, filled-length (λ k. mirrorAtom (durationIn ds) (getD xs k no-atom)) i xs)
 
-    still-atom : getD (atomsTo i xs) i no-atom ≡ getD xs i no-atom
+    still-atom : getD (atomsTo ds i xs) i no-atom ≡ getD xs i no-atom
     still-atom = filled-past (λ k. mirrorAtom (durationIn ds) (getD xs k no-atom)) i xs no-atom i (omega arith)
 
-    pub atom-read : Three (atomWords (atomsTo i xs) ++ tail) (3 * i) (getD xs i no-atom)
-    atom-read = subst (Three (atomWords (atomsTo i xs) ++ tail) (3 * i)) still-atom (three-words (atomsTo i xs) tail i no-atom long-atoms)
+    pub atom-read : Three (atomWords (atomsTo ds i xs) ++ tail) (3 * i) (getD xs i no-atom)
+    atom-read = subst (Three (atomWords (atomsTo ds i xs) ++ tail) (3 * i)) still-atom (three-words (atomsTo ds i xs) tail i no-atom long-atoms)
 
-    pub atoms-step : set (set (atomWords (atomsTo i xs) ++ tail) (3 * i + 1) (pos (mirrorKind (getD xs i no-atom .kind)))) (3 * i + 2) (mirrorStart (durationIn ds (getD xs i no-atom .variable)) (getD xs i no-atom .value))
-        ≡ atomWords (atomsTo (i + 1) xs) ++ tail
-    atoms-step = atom-set (atomsTo i xs) tail i (mirrorAtom (durationIn ds) (getD xs i no-atom)) no-atom long-atoms (ap (λ (a : Atom). a .variable) (sym still-atom))
+    pub atoms-step : set (set (atomWords (atomsTo ds i xs) ++ tail) (3 * i + 1) (pos (mirrorKind (getD xs i no-atom .kind)))) (3 * i + 2) (mirrorStart (durationIn ds (getD xs i no-atom .variable)) (getD xs i no-atom .value))
+        ≡ atomWords (atomsTo ds (i + 1) xs) ++ tail
+    atoms-step = atom-set (atomsTo ds i xs) tail i (mirrorAtom (durationIn ds) (getD xs i no-atom)) no-atom long-atoms (ap (λ (a : Atom). a .variable) (sym still-atom))
         ∙ ap (λ (l : List Atom). atomWords l ++ tail) (sym (filled-more (λ k. mirrorAtom (durationIn ds) (getD xs k no-atom)) i xs))
 
   -- at the end the slices hold the mirrored trace's words, and after them what stood there
-  pub posts-after : (entry : List ℤ) (t : Trace) → postWords 0 (postsTo (length (t .posts)) (t .posts)) ++ drop (length (postWords 0 (t .posts))) entry ≡ postsAfter entry (mirrorTrace ds t)
+  pub posts-after : (entry : List ℤ) (t : Trace) → postWords 0 (postsTo ds (length (t .posts)) (t .posts)) ++ drop (length (postWords 0 (t .posts))) entry ≡ postsAfter entry (mirrorTrace ds t)
   posts-after entry t = ap₂ (λ (l : List Post) (k : ℕ). postWords 0 l ++ drop k entry) (filled-all (mirrorPost ds) no-post (t .posts)) (sym (post-words-length (t .posts) 0))
 
-  pub atoms-after : (entry : List ℤ) (t : Trace) → atomWords (atomsTo (length (atomsIn t)) (atomsIn t)) ++ drop (length (atomWords (atomsIn t))) entry ≡ atomsAfter entry (mirrorTrace ds t)
+  pub atoms-after : (entry : List ℤ) (t : Trace) → atomWords (atomsTo ds (length (atomsIn t)) (atomsIn t)) ++ drop (length (atomWords (atomsIn t))) entry ≡ atomsAfter entry (mirrorTrace ds t)
   atoms-after entry t = ap₂ (λ (l : List Atom) (k : ℕ). atomWords l ++ drop k entry) (filled-all (mirrorAtom (durationIn ds)) no-atom (atomsIn t)) (sym (atom-words-length (atomsIn t)))
       ∙ ap (λ (l : List Atom). atomWords l ++ drop (length (atomWords l)) entry) (sym (atoms-mirrored t))
 

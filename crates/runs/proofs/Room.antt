@@ -14,8 +14,7 @@ use Rattle.integers.specs.Orders.{index}
 use Rattle.integers.proofs.Bools.{bool, clash}
 use Rattle.scheduling.specs.Scheduling.{natural, Tasks, Proper, TaskSet, _with_, In}
 use Rattle.scheduling.proofs.Cards.{card, card-with, card-none, card-most}
-use Rattle.scheduling.proofs.Levels.{ByCompletion}
-use Rattle.scheduling.proofs.Scan.{ByEarliest}
+use Rattle.scheduling.specs.Moments.{ByEarliest, ByCompletion}
 use Rattle.scheduling.proofs.Sets.{with-in}
 use Rattle.trees.specs.Leaves.{Leaf, whiteAt, taskAt, theta}
 use Rattle.trees.specs.Searches.{thetaOf}

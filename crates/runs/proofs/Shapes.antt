@@ -16,11 +16,10 @@ use Rattle.integers.proofs.Bools.{bool}
 use Rattle.integers.proofs.Moments.{mono, more-above, at-moment}
 use Rattle.integers.proofs.Permutations.{has-here, has-later}
 use Rattle.scheduling.specs.Scheduling.{natural, Tasks, tasksOf, Proper, TaskSet, completion, processing, Atom, Every}
-use Rattle.scheduling.proofs.Levels.{ByCompletion}
 use Rattle.scheduling.proofs.Passed.{every-append}
 use Rattle.scheduling.proofs.Processing.{processing-all, processing-mono, processing-less}
-use Rattle.scheduling.proofs.Scan.{ByEarliest}
-use Rattle.scheduling.proofs.Transfer.{moments, sound}
+use Rattle.scheduling.proofs.Transfer.{sound}
+use Rattle.scheduling.specs.Moments.{moments, ByEarliest, ByCompletion}
 use Rattle.trees.specs.Leaves.{Leaf, theta}
 use Rattle.trees.specs.Leaves as leaves
 use Rattle.trees.proofs.Roots as tree

@@ -20,7 +20,7 @@ use Rattle.integers.proofs.Bools.{bool}
 use Rattle.integers.proofs.Filling.{getD-map-in}
 use Rattle.integers.proofs.Moments.{mono, reflect, above-up, more-above, moment-instant, instant-above}
 use Rattle.scheduling.specs.Scheduling.{natural, Tasks, tasksOf}
-use Rattle.scheduling.proofs.Transfer.{moments}
+use Rattle.scheduling.specs.Moments.{moments}
 use Rattle.trees.specs.Leaves.{ect, ect-bar, responsible}
 use Rattle.runs.specs.Traces.{Trace}
 use Rattle.runs.specs.Runs.{State, Turn, on, stop, inner, outer, run, lct, grayed, dropped, raised, posted, tabulate, propagate, byEarliest, byCompletion}

@@ -16,13 +16,14 @@ use Rattle.scheduling.specs.Scheduling.{whole, natural, Tasks, Proper, TaskSet,
 use Rattle.integers.proofs.Bools.{leb-step, bool, clash, below-suc}
 use Rattle.integers.proofs.Filling.{getD-map-in}
 use Rattle.scheduling.proofs.Sets.{total-ext, _less_, with-in, with-new, with-old}
-use Rattle.scheduling.proofs.Scan.{ByEarliest, scan, scan-is}
-use Rattle.scheduling.proofs.Levels.{ByCompletion, Posts, Facts, no-posts, start, next, leave, facts-same, last-fits, edge, finish, overloaded}
+use Rattle.scheduling.proofs.Scan.{scan, scan-is}
+use Rattle.scheduling.proofs.Levels.{Posts, Facts, no-posts, start, next, leave, facts-same, last-fits, edge, finish, overloaded}
 use Rattle.scheduling.proofs.Levels.{more}
 use Rattle.scheduling.proofs.Cards.{card, bit, card-less, card-zero, card-same, card-most}
 use Rattle.integers.specs.Moments.{moment, Above, instant}
 use Rattle.integers.proofs.Moments.{moment-instant, instant-above, zero-above}
-use Rattle.scheduling.proofs.Transfer.{moments, sound}
+use Rattle.scheduling.proofs.Transfer.{sound}
+use Rattle.scheduling.specs.Moments.{moments, ByEarliest, ByCompletion}
 use Rattle.integers.specs.Orders.{index}
 use Rattle.scheduling.specs.Scheduling.{Atom}
 use Rattle.runs.specs.Traces.{Post, End, done, overload, emptied, Trace}

@@ -13,8 +13,7 @@ use borrow.Author.Tests.{leb-true, le-leb}
 use Rattle.integers.specs.Orders.{index}
 use Rattle.integers.proofs.Bools.{bool}
 use Rattle.scheduling.specs.Scheduling.{natural, Tasks, Proper, TaskSet, _with_, In, NonEmpty, completion, processing, Ect}
-use Rattle.scheduling.proofs.Levels.{ByCompletion}
-use Rattle.scheduling.proofs.Scan.{ByEarliest}
+use Rattle.scheduling.specs.Moments.{ByEarliest, ByCompletion}
 use Rattle.scheduling.proofs.Suffixes.{attaining}
 use Rattle.scheduling.proofs.Walks.{passing, after-first}
 use Rattle.trees.specs.Leaves.{Leaf, whiteAt, taskAt, ect, ect-bar, sum, theta}

@@ -16,7 +16,7 @@ use Rattle.scheduling.specs.Scheduling.{natural, Tasks, Proper, TaskSet, total,
 use Rattle.integers.proofs.Bools.{leb-step, bool, clash}
 use Rattle.scheduling.proofs.Sets.{total-ext, _less_}
 use Rattle.scheduling.proofs.Processing.{processing-same, processing-less, processing-empty}
-use Rattle.scheduling.proofs.Scan.{ByEarliest}
+use Rattle.scheduling.specs.Moments.{ByEarliest}
 use Rattle.integers.specs.Orders.{index}
 use Rattle.scheduling.specs.Scheduling.{Atom}
 use Rattle.trees.specs.Leaves.{Leaf, whiteAt, theta}

@@ -3,4 +3,5 @@ pub mod Words
 pub mod Runs
 pub mod Demand
 pub mod Mirrored
+pub mod MirroredWords
 pub mod Instances

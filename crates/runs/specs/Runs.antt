@@ -12,7 +12,7 @@ use lib.ListN.{length, getD, set, replicate}
 use Rattle.integers.specs.Moments.{instant, zeroAt}
 use Rattle.integers.specs.Orders.{sort, index}
 use Rattle.scheduling.specs.Scheduling.{natural, Tasks, tasksOf, completion, Atom}
-use Rattle.scheduling.proofs.Transfer.{moments}
+use Rattle.scheduling.specs.Moments.{moments}
 use Rattle.trees.specs.Leaves.{Leaf, empty, white, gray, taskAt, ect, ect-bar, sum, responsible, theta}
 use Rattle.runs.specs.Traces.{Post, End, done, overload, emptied, Trace}
 

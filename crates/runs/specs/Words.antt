@@ -21,8 +21,12 @@ endReason done = []
 endReason (overload r) = r
 endReason emptied = []
 
+-- the atoms of all reasons of a trace
+abbrev pub atomsIn : Trace → List Atom
+atomsIn t = reasons (t .posts) ++ endReason (t .end)
+
 abbrev pub postsAfter : List ℤ → Trace → List ℤ
 postsAfter entry t = overwritten entry (postWords 0 (t .posts))
 
 abbrev pub atomsAfter : List ℤ → Trace → List ℤ
-atomsAfter entry t = overwritten entry (atomWords (reasons (t .posts) ++ endReason (t .end)))
+atomsAfter entry t = overwritten entry (atomWords (atomsIn t))

@@ -11,7 +11,8 @@ use native.Mathlib.Decide.{decLe, decLt, ℕ-discrete}
 use Rattle.integers.proofs.Bools.{bool, clash}
 use Rattle.scheduling.specs.Scheduling.{natural, Tasks, Proper, TaskSet, _with_, In, Outside, NonEmpty, Ect}
 use Rattle.scheduling.proofs.Sets.{with-in, with-new, with-old}
-use Rattle.scheduling.proofs.Scan.{ByEarliest, scan, scan-in, scan-out, scan-zero, scan-is}
+use Rattle.scheduling.proofs.Scan.{scan, scan-in, scan-out, scan-zero, scan-is}
+use Rattle.scheduling.specs.Moments.{ByEarliest}
 use Rattle.scheduling.proofs.Stretches as stretches
 
 module _ (J : Tasks natural) (ok : Proper J) (T rank : ℕ → ℕ) (rk : ByEarliest J T rank) (Ω Λ : TaskSet) where

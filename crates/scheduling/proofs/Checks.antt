@@ -15,7 +15,8 @@ use Rattle.scheduling.proofs.Rule.{check-sound as nat-check-sound, over
 use Rattle.integers.specs.Moments.{moment, Above}
 use Rattle.integers.proofs.Moments.{mono, above-up, plus, deep, zero-above}
 use Rattle.integers.proofs.Ints.{ints}
-use Rattle.scheduling.proofs.Transfer.{moments, sound, checks→, checks←, overload→, overload←}
+use Rattle.scheduling.proofs.Transfer.{sound, checks→, checks←, overload→, overload←}
+use Rattle.scheduling.specs.Moments.{moments}
 
 -- other ranges outside X
 module _ {C : Clock} (B : Tasks C) (X : TaskSet) (e l : ℕ → C .Moment) (e-same : (k : ℕ) → In B X k → e k ≡ B .earliest k) (l-same : (k : ℕ) → In B X k → l k ≡ B .latest k) where

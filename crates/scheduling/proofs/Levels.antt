@@ -9,16 +9,13 @@ use native.Mathlib.Decide.{decLe, decLt, ℕ-discrete}
 use borrow.Author.Tests.{ne-eqb, leb-true, leb-false, le-leb, lt-leb}
 use lib.Dec.{leb}
 use Rattle.scheduling.specs.Scheduling.{natural, Tasks, Proper, TaskSet, total, _with_, Largest, Least, In, Outside, NonEmpty, Subset, completion, Est, Lct, processing, EstPlusP, Ect, Overloads, EdgeFindingBound, Schedule, Done, Conflict}
+use Rattle.scheduling.specs.Moments.{ByCompletion}
 use Rattle.integers.proofs.Bools.{bool, clash, below-suc}
-use Rattle.integers.proofs.Permutations.{Ordered}
+use Rattle.integers.specs.Orders.{Ordered}
 use Rattle.scheduling.proofs.Sets.{Top, Empty, top, _less_, less-in, less-out, less-self, with-in, with-new, with-old}
 use Rattle.scheduling.proofs.Processing.{processing-less, processing-empty}
 use Rattle.scheduling.proofs.Monotone.{ect-mono}
 use Rattle.scheduling.proofs.Rule.{rule-sound, overload-sound}
-
--- the tasks by latest completion, greatest first: L has the task of each place
-abbrev pub ByCompletion : Tasks natural → (ℕ → ℕ) → (ℕ → ℕ) → Type 0
-ByCompletion J L place = Ordered (J .count) L place (λ j k. completion J k ≤ completion J j)
 
 -- One post for each task whose start was raised, at its new earliest start.
 pub record Posts (J : Tasks natural) (now : ℕ → ℕ) (m : ℕ) (task bound : ℕ → ℕ) : Type 0 where

@@ -12,7 +12,7 @@ use Rattle.scheduling.specs.Scheduling.{natural, Tasks, Proper, TaskSet,
 use Rattle.scheduling.proofs.Sets.{Top, Empty, top, _less_, less-in, less-out, with-in}
 use Rattle.scheduling.proofs.Processing.{processing-less, processing-mono, processing-empty}
 use Rattle.scheduling.proofs.Exists.{est-some, lct-some, ect-some, least-at}
-use Rattle.scheduling.proofs.Scan.{ByEarliest}
+use Rattle.scheduling.specs.Moments.{ByEarliest}
 
 -- The reason of a post of i at b: the tasks of Ω start at r or later, those of Ω′ at its est or later, all of Ω ends before r + p Ω + p i, and i starts at r or later.
 module _ (J : Tasks natural) (ok : Proper J) (Ω Ω′ : TaskSet) (i r s′ b c : ℕ) (out : Outside J Ω i) (sub : Subset J Ω′ Ω) (est′ : Est J Ω′ s′) (bound : s′ + processing J Ω′ ≡ b)

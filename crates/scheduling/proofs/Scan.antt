@@ -8,14 +8,11 @@ use native.Mathlib.Decide.{decLe, decLt, ℕ-discrete}
 use borrow.Author.Tests.{ne-eqb, eq-eqb, leb-true, leb-false, le-leb, lt-leb, ltb-true, ltb-false, lt-ltb, le-ltb}
 use lib.Dec.{leb, ltb, eqb}
 use Rattle.integers.proofs.Bools.{bool, clash}
-use Rattle.integers.proofs.Permutations.{Ordered}
+use Rattle.integers.specs.Orders.{Ordered}
 use Rattle.scheduling.specs.Scheduling.{natural, Tasks, Proper, TaskSet, total, _with_, Largest, Least, In, Outside, NonEmpty, Subset, completion, Est, Lct, processing, EstPlusP, Ect, Overloads, EdgeFindingBound, Schedule}
+use Rattle.scheduling.specs.Moments.{ByEarliest}
 use Rattle.scheduling.proofs.Sets.{Top, Empty, top, _less_, less-in, less-out, less-self, with-in, with-new, with-old}
 use Rattle.scheduling.proofs.Processing.{processing-less, processing-empty, processing-mono, processing-with}
-
--- the tasks by earliest start, least first: T has the task of each place
-abbrev pub ByEarliest : Tasks natural → (ℕ → ℕ) → (ℕ → ℕ) → Type 0
-ByEarliest J T rank = Ordered (J .count) T rank (λ j k. J .earliest j ≤ J .earliest k)
 
 module _ (J : Tasks natural) (T rank : ℕ → ℕ) where
   unfoldable pub scan : TaskSet → ℕ → ℕ

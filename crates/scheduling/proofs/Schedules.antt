@@ -9,7 +9,8 @@ use Rattle.integers.specs.Moments.{moment, Above}
 use Rattle.integers.proofs.Moments.{reflect, above-up, deep}
 use Rattle.scheduling.specs.Scheduling.{whole, Tasks, Proper, TaskSet, EdgeFindingBound, Overloads, Schedule, Conflict, Done}
 use Rattle.scheduling.proofs.Rule.{rule-sound as natural-rule-sound, overload-sound as natural-overload-sound}
-use Rattle.scheduling.proofs.Transfer.{moments, sound, edge→, edge-above, overload→, schedule→}
+use Rattle.scheduling.proofs.Transfer.{sound, edge→, edge-above, overload→, schedule→}
+use Rattle.scheduling.specs.Moments.{moments}
 
 module _ (J : Tasks whole) (ok : Proper J) where
   -- a moment of 0 before all of the tasks

@@ -12,15 +12,12 @@ use borrow.Author.Tests.{ltb-true, ltb-false}
 use Rattle.integers.specs.Moments.{moment, Above}
 use Rattle.integers.proofs.Moments.{mono, reflect, mono<, reflect<, above-up, plus, plus-above, same}
 use Rattle.scheduling.specs.Scheduling.{Clock, whole, natural, Tasks, Proper, TaskSet, total, _with_, Largest, Least, In, Outside, NonEmpty, Subset, completion, Est, Lct, processing, EstPlusP, Ect, Overloads, EdgeFindingBound, Schedule, Done, Conflict, RuleFormula}
+use Rattle.scheduling.specs.Moments.{moments}
 
 module _ (o : ℕ) where
-  -- the tasks, by their moments
-  abbrev pub moments : Tasks whole → Tasks natural
-  moments J = record { count = J .count; earliest = λ k. moment o (J .earliest k); latest = λ k. moment o (J .latest k); duration = J .duration }
-
   module _ (J : Tasks whole) (ok : Proper J) (low : (k : ℕ) → k < J .count → Above o (J .earliest k)) where
     abbrev N : Tasks natural
-    N = moments J
+    N = moments o J
 
     pub sound : Proper N
     sound = record { ranges = λ k q. mono o (J .earliest k) (J .latest k) (ok .ranges k q); lasts = ok .lasts }

@@ -11,7 +11,7 @@ use lib.Dec.{leb}
 use borrow.Author.Tests.{leb-true, le-leb}
 use Rattle.integers.proofs.Bools.{bool, clash}
 use Rattle.scheduling.specs.Scheduling.{natural, Tasks, TaskSet, _with_, In, NonEmpty, Subset, Est, processing, EstPlusP, Ect}
-use Rattle.scheduling.proofs.Scan.{ByEarliest}
+use Rattle.scheduling.specs.Moments.{ByEarliest}
 use Rattle.scheduling.proofs.Sets.{Empty, top, _less_, less-in, with-in}
 use Rattle.scheduling.proofs.Processing.{processing-less, processing-mono, processing-empty}
 use Rattle.scheduling.proofs.Suffixes.{suffix, suffix-in, suffix-out, suffix-end, by-rank, cover, attaining}

@@ -7,7 +7,7 @@ use native.Mathlib.Omega.{arith}
 use lib.IntN.{ℤ, pos}
 use lib.ListN.{length, getD, set, take, drop}
 use Rattle.scheduling.specs.Scheduling.{Atom}
-use Rattle.scheduling.specs.Words.{atomWords}
+use Rattle.scheduling.specs.Words.{atomWords, no-atom}
 
 pub atoms-none : atomWords [] ≡ []
 unfolding atomWords
@@ -39,10 +39,6 @@ unfolding atomWords
 take-words zero xs = refl
 take-words (suc c) [] = let z : 3 * suc c ≡ suc (3 * c + 2) = omega arith in rw z refl
 take-words (suc c) (x ∷ xs) = let z : 3 * suc c ≡ suc (suc (suc (3 * c))) = omega arith in rw z (ap (λ (l : List ℤ). pos (x .variable) ∷ pos (x .kind) ∷ x .value ∷ l) (take-words c xs))
-
--- an atom for places past the last
-abbrev pub no-atom : Atom
-no-atom = record { variable = 0; kind = 0; value = pos 0 }
 
 -- the three words of an atom, in a slice that goes on after the atoms
 pub record Three (ws : List ℤ) (at : ℕ) (a : Atom) : Type 0 where

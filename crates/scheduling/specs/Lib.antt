@@ -1,4 +1,5 @@
 pub mod Scheduling
+pub mod Moments
 pub mod Words
 pub mod Mirroring
 pub mod Examples

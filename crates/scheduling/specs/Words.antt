@@ -7,3 +7,7 @@ use Rattle.scheduling.specs.Scheduling.{Atom}
 unfoldable pub atomWords : List Atom → List ℤ
 atomWords [] = []
 atomWords (a ∷ rest) = pos (a .variable) ∷ pos (a .kind) ∷ a .value ∷ atomWords rest
+
+-- an atom for places past the last
+abbrev pub no-atom : Atom
+no-atom = record { variable = 0; kind = 0; value = pos 0 }

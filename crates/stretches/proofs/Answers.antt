@@ -10,10 +10,10 @@ use lib.ListN.{length, getD, take}
 use Rattle.integers.specs.Limits.{TASKS}
 use Rattle.integers.specs.Filling.{filled}
 use Rattle.integers.specs.Moments.{moment, instant, zeroAt, Above}
-use Rattle.integers.specs.Orders.{index}
-use Rattle.integers.proofs.Ints.{ints, up, dn, subℤ, minℤ, maxℤ, minℤ-is, maxℤ-is}
+use Rattle.integers.specs.Orders.{index, Ordered}
+use Rattle.integers.proofs.Ints.{ints, up, dn, subℤ, minℤ-is, maxℤ-is}
+use Rattle.integers.specs.Extremes.{minℤ, maxℤ}
 use Rattle.integers.proofs.Moments.{mono, reflect, mono<, plus, plus-above, above-up, at-moment, instant-above, moment-instant}
-use Rattle.integers.proofs.Permutations.{Ordered}
 use Rattle.scheduling.specs.Scheduling.{whole, natural, Tasks, total}
 use Rattle.scheduling.proofs.Sets.{total-ext}
 use Rattle.records.specs.declared.record.Propagator.{Propagator}

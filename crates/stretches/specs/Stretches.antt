@@ -5,7 +5,7 @@ use Prim.Native.Nat.{ℕ, _≤_, _<_}
 use lib.IntN.{ℤ, pos, _+ℤ_, _-ℤ_}
 use lib.Signed.{_≤ℤ_, _<ℤ_}
 use Rattle.integers.specs.Tests.{Test, test, refusal}
-use Rattle.integers.proofs.Ints.{minℤ, maxℤ}
+use Rattle.integers.specs.Extremes.{minℤ, maxℤ}
 use Rattle.scheduling.specs.Scheduling.{whole, Tasks, total}
 use Rattle.records.specs.declared.record.Propagator.{Propagator}
 use Rattle.records.specs.Records.{durationOf}

@@ -19,7 +19,8 @@ use Rattle.integers.specs.Limits.{TASKS, DURATIONS}
 use Rattle.scheduling.specs.Scheduling.{natural, Tasks, Proper, TaskSet, total, _with_, Largest, In, NonEmpty, EstPlusP, Ect, processing}
 use Rattle.scheduling.proofs.Sets.{Empty, Top, top, with-new, with-old}
 use Rattle.scheduling.proofs.Processing.{processing-all, processing-mono, processing-less, processing-with, processing-empty}
-use Rattle.scheduling.proofs.Scan.{ByEarliest, scan, upto, and-in, and-out, widen, alone, joined, widen-part, alone-part, joined-new, joined-old, Reached, attained, scan-is, grow-in, grow-out}
+use Rattle.scheduling.proofs.Scan.{scan, upto, and-in, and-out, widen, alone, joined, widen-part, alone-part, joined-new, joined-old, Reached, attained, scan-is, grow-in, grow-out}
+use Rattle.scheduling.specs.Moments.{ByEarliest}
 use Rattle.scheduling.proofs.Stretches as stretches
 use Rattle.scheduling.proofs.Bars as bars
 use Rattle.trees.specs.Shapes.{width, heightFor}

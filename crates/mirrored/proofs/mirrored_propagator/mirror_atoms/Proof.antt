@@ -8,7 +8,8 @@ use lib.IntN.{ℤ}
 use lib.ListN.{length}
 use Rattle.scheduling.specs.Scheduling.{Atom}
 use Rattle.scheduling.specs.Words.{atomWords}
-use Rattle.runs.proofs.Mirrored.{atomsTo, atoms-begin}
+use Rattle.runs.proofs.Mirrored.{atoms-begin}
+use Rattle.runs.specs.MirroredWords.{atomsTo}
 use Rattle.mirrored.specs.Telling.{AtomsHeld}
 use Rattle.mirrored.proofs.Telling.{kind-mirrorable, value-mirrorable, atom-told}
 use borrow.Author.Needs.{needs}

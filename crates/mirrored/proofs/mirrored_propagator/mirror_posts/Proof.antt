@@ -8,7 +8,8 @@ use lib.IntN.{ℤ}
 use lib.ListN.{length}
 use Rattle.runs.specs.Traces.{Post}
 use Rattle.runs.specs.Words.{postWords}
-use Rattle.runs.proofs.Mirrored.{postsTo, posts-begin}
+use Rattle.runs.proofs.Mirrored.{posts-begin}
+use Rattle.runs.specs.MirroredWords.{postsTo}
 use Rattle.mirrored.specs.Telling.{PostsHeld}
 use Rattle.mirrored.proofs.Telling.{post-mirrorable, post-told}
 use borrow.Author.Needs.{needs}

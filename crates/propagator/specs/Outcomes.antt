@@ -1,0 +1,13 @@
+-- Outcomes by the papers' numbers.
+use mathlib.Core.List.{[], _∷_}
+use lib.IntN.{pos}
+use Rattle.integers.specs.Answers.{Answer, answered, refusedBy}
+use Rattle.propagator.specs.declared.disjunctive_propagator.Outcome.{Outcome}
+use Rattle.propagator.specs.declared.disjunctive_propagator.Outcome.the-variants as outcome
+
+-- the values are the post count and, of an overload's reason, the first atom's index and the atom count
+abbrev pub outcomeNumbers : Outcome → Answer
+outcomeNumbers (outcome.Done posts) = answered 0 (pos posts ∷ [])
+outcomeNumbers (outcome.Overload posts first count) = answered 1 (pos posts ∷ pos first ∷ pos count ∷ [])
+outcomeNumbers (outcome.Emptied posts) = answered 2 (pos posts ∷ [])
+outcomeNumbers (outcome.Refused number) = refusedBy number
