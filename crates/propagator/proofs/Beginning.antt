@@ -31,7 +31,7 @@ use Rattle.trees.proofs.Heights.{sized}
 use Rattle.trees.proofs.Roots as tree
 use Rattle.trees.proofs.Trees.{new-tree}
 use Rattle.runs.specs.Traces.{Trace}
-use Rattle.runs.specs.Runs.{tabulate, byEarliest, byCompletion, run}
+use Rattle.runs.specs.Runs.{tabulate, byEarliest, byCompletion, run, allWhite}
 use Rattle.runs.specs.Demand.{Right}
 use Rattle.scheduling.specs.Words.{atomWords}
 use Rattle.runs.specs.Words.{postWords, reasons, endReason, postsAfter, atomsAfter}
@@ -50,7 +50,7 @@ use Rattle.records.proofs.Sorted.{sorted-front, sorted-length, sorted-permutes}
 use Rattle.propagator.specs.Holding.{Ordered, Holds, Arrays, At}
 use Rattle.propagator.specs.declared.disjunctive_propagator.Outcome.{Outcome}
 use Rattle.propagator.specs.Filling.{Fillable}
-use Rattle.propagator.specs.Finding.{allWhite, outcomeOf, Begun, Ended}
+use Rattle.propagator.specs.Finding.{outcomeOf, Begun, Ended}
 use Rattle.propagator.specs.Ran.{Runnable, traceOf, Left}
 
 zeros-long : length noTasks ≡ TASKS

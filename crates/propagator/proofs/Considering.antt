@@ -34,13 +34,14 @@ use Rattle.runs.proofs.Buffers.{post-stored, reason-stored, reasons-more, fourO
 use Rattle.runs.proofs.Fuel.{inner-pass, inner-stop, inner-raise}
 use Rattle.runs.proofs.Room as room
 use Rattle.runs.proofs.Steps as steps
+use Rattle.runs.proofs.Reached.{reached-inv}
 use Rattle.explanations.specs.Explanations.{starting, Overloaded, Preceded}
 use Rattle.explanations.proofs.Explaining.{Alike, conflict-same, propagation-same}
 use Rattle.propagator.specs.declared.disjunctive_propagator.Written.{Written}
 use Rattle.propagator.specs.declared.disjunctive_propagator.Turn.the-variants as turn
 use Rattle.propagator.specs.Holding.{Ordered, Holds, Arrays, At}
 use Rattle.propagator.specs.Moving.{Movable}
-use Rattle.propagator.specs.Turns.{sumIn, Posted, Standing, AtNow, InvNow, turns, Considered, Responsible-for}
+use Rattle.propagator.specs.Turns.{sumIn, Posted, Standing, AtNow, turns, Considered, Responsible-for}
 use Rattle.propagator.proofs.Meeting as meeting
 
 -- a list of which one element changes
@@ -105,6 +106,9 @@ module _ {n inn height lct : ℕ} {words : List ℕ} {es ps as′ : List ℤ} {w
   abbrev short : steps.Measure zeroAt J (G .proper) first second (G .by-earliest) (G .by-completion) Short ShortEnd
   short = room.short zeroAt J (G .proper) first second (G .by-earliest) (G .by-completion)
 
+  inv : steps.Inv zeroAt J (G .proper) first second (G .by-earliest) (G .by-completion) Short ShortEnd short t (s .st)
+  inv = reached-inv zeroAt J (G .proper) first second (G .by-earliest) (G .by-completion) Short ShortEnd short t (s .st) (s .reached) (s .small)
+
   abbrev Θ : TaskSet
   Θ = steps.Th zeroAt J (G .proper) first second (G .by-earliest) (G .by-completion) t
 
@@ -112,7 +116,7 @@ module _ {n inn height lct : ℕ} {words : List ℕ} {es ps as′ : List ℤ} {w
   Λ = steps.lam zeroAt J (G .proper) first second (G .by-earliest) (G .by-completion) Short ShortEnd short (s .st)
 
   abbrev shape : tree.Represents J (G .proper) first (G .by-earliest) ls Θ Λ
-  shape = steps.shape zeroAt J (G .proper) first second (G .by-earliest) (G .by-completion) Short ShortEnd short t (s .st) (s .inv)
+  shape = steps.shape zeroAt J (G .proper) first second (G .by-earliest) (G .by-completion) Short ShortEnd short t (s .st) inv
 
   -- the root holds the definition's values
   pub root-is : nodeAt words 0 ≡ leaves.root J first ls
@@ -139,7 +143,7 @@ module _ {n inn height lct : ℕ} {words : List ℕ} {es ps as′ : List ℤ} {w
 
   -- an overload: what its reason asks, and the reason
   posts-few : length (s .st .posts) ≤ t
-  posts-few = room.posts-few zeroAt J (G .proper) first second (G .by-earliest) (G .by-completion) t (s .st) (s .inv)
+  posts-few = room.posts-few zeroAt J (G .proper) first second (G .by-earliest) (G .by-completion) t (s .st) inv
 
   over-room : 3 * w .atoms + 6 * length (leaves.theta J first ls) ≤ length as′
   over-room = omega (
@@ -159,7 +163,7 @@ module _ {n inn height lct : ℕ} {words : List ℕ} {es ps as′ : List ℤ} {w
 
       few-reasons : length (reasons (s .st .posts)) + length (s .st .posts) ≤ length (s .st .posts) * (2 * n)
       few-reasons = subst (λ (n : ℕ). length (reasons (s .st .posts)) + length (s .st .posts) ≤ length (s .st .posts) * (2 * n)) (s .arrays .count)
-          (room.reasons-short zeroAt J (G .proper) first second (G .by-earliest) (G .by-completion) (s .st .posts) (s .inv .good))
+          (room.reasons-short zeroAt J (G .proper) first second (G .by-earliest) (G .by-completion) (s .st .posts) (inv .good))
 
   pub over-asked : lct < leaves.ect J first ls → Overloaded (length as′) (w .atoms) (thetaIn words inn tasks n) est dur (sumIn words) lct
   over-asked q = overloaded-at theta-is sum-is (s .ends)
@@ -219,7 +223,7 @@ module _ {n inn height lct : ℕ} {words : List ℕ} {es ps as′ : List ℤ} {w
 
     -- its start is in the slice
     pub start-inside : i < length es
-    start-inside = omega (arith, small, s .arrays .count, s .inv .known, ap length (s .at .starts), length-map (s .st .starts) (instant zeroAt))
+    start-inside = omega (arith, small, s .arrays .count, inv .known, ap length (s .at .starts), length-map (s .st .starts) (instant zeroAt))
 
     task-start : getD est i 0 ≡ J .earliest (T x)
     task-start = s .arrays .starts .at i small ∙ ap (J .earliest) (r .task)
@@ -232,11 +236,11 @@ module _ {n inn height lct : ℕ} {words : List ℕ} {es ps as′ : List ℤ} {w
 
     -- room for one post more
     fewer : suc (length (s .st .posts)) ≤ t
-    fewer = room.posts-fewer zeroAt J (G .proper) first second (G .by-earliest) (G .by-completion) t (s .st) (s .inv) (T x) (found .gray)
+    fewer = room.posts-fewer zeroAt J (G .proper) first second (G .by-earliest) (G .by-completion) t (s .st) inv (T x) (found .gray)
 
     reasons-short : length (reasons (s .st .posts)) + length (s .st .posts) ≤ length (s .st .posts) * (2 * n)
     reasons-short = subst (λ (n : ℕ). length (reasons (s .st .posts)) + length (s .st .posts) ≤ length (s .st .posts) * (2 * n)) (s .arrays .count)
-        (room.reasons-short zeroAt J (G .proper) first second (G .by-earliest) (G .by-completion) (s .st .posts) (s .inv .good))
+        (room.reasons-short zeroAt J (G .proper) first second (G .by-earliest) (G .by-completion) (s .st .posts) (inv .good))
 
     theta-less : suc (length (leaves.theta J first ls)) ≤ n
     theta-less = omega (
@@ -317,7 +321,6 @@ module _ {n inn height lct : ℕ} {words : List ℕ} {es ps as′ : List ℤ} {w
             → Considered s (turn.On w′) words′ es′ ps′ bs
         raised-on {words′} {es′} up low e q = (
           next,
-          steps.raise-ok zeroAt J (G .proper) first second (G .by-earliest) (G .by-completion) Short ShortEnd short t (s .st) (s .small) (s .inv) x found over up′ low′,
           at-next,
           λ f. inner-raise zeroAt J first second f t (s .st) x passes (r .found) (lt-ltb (J .earliest (T x)) ect up′) (le-ltb (J .latest (T x)) ect low′),
         )
@@ -345,7 +348,6 @@ module _ {n inn height lct : ℕ} {words : List ℕ} {es ps as′ : List ℤ} {w
       pub passed-on : {words′ : List ℕ} → b ≤ getD est i 0 → Put inn words words′ (getD mapping i 0) emptyOf → Considered s (turn.On w) words′ es ps as′
       passed-on {words′} low q = (
         dropped (s .st) x,
-        steps.pass-ok zeroAt J (G .proper) first second (G .by-earliest) (G .by-completion) Short ShortEnd short t (s .st) (s .small) (s .inv) x found over low′,
         record { tree = cleared words′ q; starts = s .at .starts; posts = s .at .posts; atoms = s .at .atoms; posted = s .at .posted; explained = s .at .explained },
         λ f. inner-pass zeroAt J first second f t (s .st) x passes (r .found) (le-ltb (J .earliest (T x)) ect low′),
       )

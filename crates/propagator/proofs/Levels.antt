@@ -1,7 +1,7 @@
 -- The outer loop: what it has got to at a level, and how it goes on or ends from there.
 -- Assumes nothing.
 use mathlib.Core.Path.{_≡_, refl, sym, ap, subst, _∙_}
-use mathlib.Core.Bool.{true, false}
+use mathlib.Core.Bool.{false}
 use mathlib.Core.List.{List, [], _∷_, _++_, append-nil}
 use Prim.Native.Nat.{ℕ, zero, suc, _+_, _-_, _*_, _≤_, _<_}
 use native.Mathlib.Omega.{arith}
@@ -14,19 +14,17 @@ use Rattle.integers.specs.Limits.{TASKS}
 use Rattle.integers.specs.Moments.{instant, zeroAt}
 use Rattle.integers.specs.Orders.{index}
 use Rattle.scheduling.specs.Scheduling.{natural, Tasks, Atom, completion}
-use Rattle.scheduling.proofs.Cards.{card-most}
 use Rattle.trees.specs.Leaves as leaves
 use Rattle.trees.specs.Leaves.{gray}
 use Rattle.trees.specs.Searches.{thetaIn}
 use Rattle.trees.specs.Words.{nodeAt}
-use Rattle.runs.specs.Traces.{Post, Trace, End, done, overload, emptied}
-use Rattle.runs.specs.Runs.{State, Turn, on, stop, conflict, inner, outer, run, ended, grayed}
+use Rattle.runs.specs.Traces.{Trace, End, done, overload, emptied}
+use Rattle.runs.specs.Runs.{State, Turn, conflict, inner, outer, run, ended, grayed, allWhite}
 use Rattle.scheduling.specs.Words.{atomWords}
 use Rattle.runs.specs.Words.{postWords, reasons, endReason}
 use Rattle.runs.proofs.Buffers.{reason-stored}
 use Rattle.runs.proofs.Fuel.{run-is, outer-end, outer-over, outer-on, outer-stop}
-use Rattle.runs.proofs.Room as room
-use Rattle.runs.proofs.Steps as steps
+use Rattle.runs.specs.Reached.{Entered, begins, follows, at-head, moved}
 use Rattle.explanations.specs.Explanations.{Overloaded}
 use Rattle.propagator.specs.declared.disjunctive_propagator.Outcome.{Outcome}
 use Rattle.propagator.specs.declared.disjunctive_propagator.Outcome.the-variants as outcome
@@ -35,7 +33,7 @@ use Rattle.propagator.specs.declared.disjunctive_propagator.Written.{Wri
 use Rattle.propagator.specs.Holding.{Ordered, At}
 use Rattle.propagator.specs.Turns.{sumIn, Standing, AllConsidered}
 use Rattle.propagator.specs.Moving.{Movable, Moved}
-use Rattle.propagator.specs.Finding.{outcomeOf, allWhite, conflictIn, Conflicted, Begun, Ended}
+use Rattle.propagator.specs.Finding.{outcomeOf, conflictIn, Conflicted, Begun, Ended}
 use Rattle.propagator.proofs.Considering as considering
 
 module _ {n inn height : ℕ} {words : List ℕ} {es ps as′ : List ℤ} {est lst lct dur tasks candidates mapping : List ℕ} (s : Begun n inn height words es ps as′ est lst lct dur tasks candidates mapping) where
@@ -51,29 +49,17 @@ module _ {n inn height : ℕ} {words : List ℕ} {es ps as′ : List ℤ} {est l
   abbrev G : Ordered J first second
   G = s .ordered
 
-  abbrev Short : Post → Type 0
-  Short = room.Short zeroAt J (G .proper) first second (G .by-earliest) (G .by-completion)
-
-  abbrev ShortEnd : List Atom → Type 0
-  ShortEnd = room.ShortEnd zeroAt J (G .proper) first second (G .by-earliest) (G .by-completion)
-
-  abbrev short : steps.Measure zeroAt J (G .proper) first second (G .by-earliest) (G .by-completion) Short ShortEnd
-  short = room.short zeroAt J (G .proper) first second (G .by-earliest) (G .by-completion)
-
-  abbrev Closed : ℕ → State → Type 0
-  Closed = steps.Closed zeroAt J (G .proper) first second (G .by-earliest) (G .by-completion) Short ShortEnd short
-
   abbrev whole : Trace
   whole = run zeroAt J first second
 
   abbrev rest-of : ℕ → ℕ → State → Trace
   rest-of f t st = outer zeroAt J first second f t st
 
-  -- the loop stands at level `t`: no task of Lambda passes any more
+  -- the loop stands at the head of level `t`
   pub record Level (t : ℕ) (words′ : List ℕ) (es′ ps′ bs : List ℤ) (w′ : Written) : Type 0 where
     pub st : State
     pub small : t < n
-    pub closed : Closed t st
+    pub entered : Entered zeroAt J first second t st
     pub at : At J first ps as′ st inn words′ es′ ps′ bs (w′ .posts) (w′ .atoms)
     pub rest : whole ≡ rest-of (n - 1 - t) t st
 
@@ -87,7 +73,7 @@ module _ {n inn height : ℕ} {words : List ℕ} {es ps as′ : List ℤ} {est l
   first-level = record {
     st = allWhite J;
     small = omega (arith, G .some, s .arrays .count);
-    closed = steps.first-closed zeroAt J (G .proper) first second (G .by-earliest) (G .by-completion) Short ShortEnd short;
+    entered = begins;
     at = s .at;
     rest = run-is zeroAt J first second ∙ ap (λ (f : ℕ). rest-of f 0 (allWhite J)) turns;
   }
@@ -147,7 +133,7 @@ module _ {n inn height : ℕ} {words : List ℕ} {es ps as′ : List ℤ} {est l
         ends = c-is;
         post-room = s .post-room;
         atom-room = s .atom-room;
-        inv = v .closed .inv;
+        reached = at-head t (v .st) (v .entered);
         at = v .at;
       }
 
@@ -203,6 +189,9 @@ module _ {n inn height : ℕ} {words : List ℕ} {es ps as′ : List ℤ} {est l
         pub quiet-here : leaves.ect J first (v .st .leaves) ≤ end
         quiet-here = omega (arith, quiet, ect-is, c-is)
 
+        pub not-over : ltb end ect ≡ false
+        not-over = le-ltb end ect quiet-here
+
         abbrev pub goes-on : Standing n inn height d words″ es′ ps′ bs w′ est lst dur tasks mapping
         goes-on = record {
           J = J;
@@ -219,15 +208,12 @@ module _ {n inn height : ℕ} {words : List ℕ} {es ps as′ : List ℤ} {est l
           ends = ends-d;
           post-room = s .post-room;
           atom-room = s .atom-room;
-          inv = steps.gray-ok zeroAt J (G .proper) first second (G .by-earliest) (G .by-completion) Short ShortEnd short t (v .st) (omega (arith, v .small, s .arrays .count)) (v .closed) (omega (arith, quiet-here, considering.ect-scan here));
+          reached = moved t (v .st) (v .entered) not-over;
           at = record { tree = subst (λ (k : ℕ). leaves.IsTree J first (set (v .st .leaves) k gray) inn words″) (considering.gray-place here j j-is) (m moves); starts = v .at .starts; posts = v .at .posts; atoms = v .at .atoms; posted = v .at .posted; explained = v .at .explained };
         }
 
         unfold-level : whole ≡ rest-of (suc (n - 1 - suc t)) t (v .st)
         unfold-level = v .rest ∙ ap (λ (f : ℕ). rest-of f t (v .st)) next
-
-        not-over : ltb end ect ≡ false
-        not-over = le-ltb end ect quiet-here
 
         inner-is : {u : Turn} → inner zeroAt J first second n (suc t) st₁ ≡ u → inner zeroAt J first second (J .count) (suc t) st₁ ≡ u
         inner-is z = ap (λ (f : ℕ). inner zeroAt J first second f (suc t) st₁) (s .arrays .count) ∙ z
@@ -238,8 +224,7 @@ module _ {n inn height : ℕ} {words : List ℕ} {es ps as′ : List ℤ} {est l
           st = st′;
           small = omega arith;
           at = a;
-          closed = subst (steps.TurnOk zeroAt J (G .proper) first second (G .by-earliest) (G .by-completion) Short ShortEnd short (suc t)) (inner-is z)
-              (steps.inner-ok zeroAt J (G .proper) first second (G .by-earliest) (G .by-completion) Short ShortEnd short (J .count) (suc t) st₁ (goes-on .small) (goes-on .inv) (card-most J _));
+          entered = follows t (v .st) st′ (v .entered) not-over (inner-is z);
           rest = unfold-level ∙ outer-on zeroAt J first second (n - 1 - suc t) t (v .st) st′ not-over (inner-is z);
         })
           where

@@ -25,10 +25,11 @@ use Rattle.trees.specs.Words.{nodeAt}
 use Rattle.trees.proofs.Roots as tree
 use Rattle.trees.proofs.Trees.{root-of, searchable, responsible-of}
 use Rattle.runs.specs.Runs.{State, on, stop}
+use Rattle.runs.specs.Reached.{Reached, turned}
 use Rattle.runs.proofs.Fuel.{inner-end, inner-off, inner-none}
 use Rattle.propagator.specs.declared.disjunctive_propagator.Written.{Written}
 use Rattle.propagator.specs.declared.disjunctive_propagator.Turn.the-variants as turn
-use Rattle.propagator.specs.Turns.{candidateIn, Standing, AtNow, InvNow, turns, Considered, AllConsidered, Responsible-for}
+use Rattle.propagator.specs.Turns.{candidateIn, Standing, AtNow, turns, Considered, AllConsidered, Responsible-for}
 use Rattle.propagator.proofs.Posting.{candidate-none, candidate-some}
 use Rattle.propagator.proofs.Considering as considering
 
@@ -54,20 +55,20 @@ module _ {n inn height lct : ℕ} {words : List ℕ} {es ps as′ : List ℤ} {w
   can-search = searchable (s .ordered .limited) (s .at .tree) height (s .arrays .tall ∙ ap heightFor (sym (s .arrays .count)))
 
   -- `left` turns are left, and the slices and the tree are at the state of a definition that has as many left
-  pub record Reached (left : ℕ) (words′ : List ℕ) (es′ ps′ bs : List ℤ) (w′ : Written) : Type 0 where
+  pub record Turned (left : ℕ) (words′ : List ℕ) (es′ ps′ bs : List ℤ) (w′ : Written) : Type 0 where
     pub st : State
-    pub inv : InvNow s st
+    pub reached : Reached zeroAt (s .J) (s .first) (s .second) (s .level) st
     pub at : AtNow s st words′ es′ ps′ bs w′
     pub rest : turns s n (s .st) ≡ turns s left st
 
   -- one turn is taken
-  abbrev pub taken : {left f : ℕ} {words′ : List ℕ} {es′ ps′ bs : List ℤ} {w′ : Written} → left ≡ suc f → Reached left words′ es′ ps′ bs w′ → Reached (suc f) words′ es′ ps′ bs w′
-  taken z r = record { st = r .st; inv = r .inv; at = r .at; rest = r .rest ∙ ap (λ (f : ℕ). turns s f (r .st)) z }
+  abbrev pub taken : {left f : ℕ} {words′ : List ℕ} {es′ ps′ bs : List ℤ} {w′ : Written} → left ≡ suc f → Turned left words′ es′ ps′ bs w′ → Turned (suc f) words′ es′ ps′ bs w′
+  taken z r = record { st = r .st; reached = r .reached; at = r .at; rest = r .rest ∙ ap (λ (f : ℕ). turns s f (r .st)) z }
 
-  pub none-yet : Reached n words es ps as′ w
-  none-yet = record { st = s .st; inv = s .inv; at = s .at; rest = refl }
+  pub none-yet : Turned n words es ps as′ w
+  none-yet = record { st = s .st; reached = s .reached; at = s .at; rest = refl }
 
-  module _ {left : ℕ} {words′ : List ℕ} {es′ ps′ bs : List ℤ} {w′ : Written} (r : Reached left words′ es′ ps′ bs w′) where
+  module _ {left : ℕ} {words′ : List ℕ} {es′ ps′ bs : List ℤ} {w′ : Written} (r : Turned left words′ es′ ps′ bs w′) where
     abbrev pub stands : Standing n inn height lct words′ es′ ps′ bs w′ est lst dur tasks mapping
     stands = record {
       J = s .J;
@@ -84,7 +85,7 @@ module _ {n inn height lct : ℕ} {words : List ℕ} {es ps as′ : List ℤ} {w
       ends = s .ends;
       post-room = s .post-room;
       atom-room = s .atom-room;
-      inv = r .inv;
+      reached = r .reached;
       at = r .at;
     }
 
@@ -101,7 +102,7 @@ module _ {n inn height lct : ℕ} {words : List ℕ} {es ps as′ : List ℤ} {w
     pub ended : left ≡ 0 → AllConsidered s (turn.On w′) words′ es′ ps′ bs
     ended z = (r .st, r .at, r .rest ∙ ap (λ (f : ℕ). turns s f (r .st)) z ∙ inner-end zeroAt (s .J) (s .first) (s .second) 0 (s .level) (r .st))
 
-  module _ {f : ℕ} {words′ : List ℕ} {es′ ps′ bs : List ℤ} {w′ : Written} (r : Reached (suc f) words′ es′ ps′ bs w′) where
+  module _ {f : ℕ} {words′ : List ℕ} {es′ ps′ bs : List ℤ} {w′ : Written} (r : Turned (suc f) words′ es′ ps′ bs w′) where
     abbrev bar : ℕ
     bar = nodeAt words′ 0 .«ect_bar»
 
@@ -132,8 +133,8 @@ module _ {n inn height lct : ℕ} {words : List ℕ} {es ps as′ : List ℤ} {w
     ]
 
     -- it was considered
-    pub one-less : {words″ : List ℕ} {es″ ps″ bs′ : List ℤ} {w″ : Written} → Considered (stands r) (turn.On w″) words″ es″ ps″ bs′ → Reached f words″ es″ ps″ bs′ w″
-    one-less (st′, v, a, next) = record { st = st′; inv = v; at = a; rest = r .rest ∙ next f }
+    pub one-less : {words″ : List ℕ} {es″ ps″ bs′ : List ℤ} {w″ : Written} → Considered (stands r) (turn.On w″) words″ es″ ps″ bs′ → Turned f words″ es″ ps″ bs′ w″
+    one-less (st′, a, next) = record { st = st′; reached = turned (s .level) (r .st) st′ (r .reached) (next 0 ∙ inner-end zeroAt (s .J) (s .first) (s .second) 0 (s .level) st′); at = a; rest = r .rest ∙ next f }
 
     pub one-emptied : {words″ : List ℕ} {es″ ps″ bs′ : List ℤ} {w″ : Written} → Considered (stands r) (turn.Emptied w″) words″ es″ ps″ bs′ → AllConsidered s (turn.Emptied w″) words″ es″ ps″ bs′
     one-emptied (st′, a, next) = (st′, a, r .rest ∙ next f)

@@ -1,16 +1,15 @@
 -- Edge finding as code: what stands when it begins, and what it leaves, by the run's definition.
 use mathlib.Core.Path.{_≡_}
-use mathlib.Core.List.{List, [], _++_}
+use mathlib.Core.List.{List, _++_}
 use Prim.Native.Nat.{ℕ, _+_, _*_, _≤_, _<_}
 use lib.IntN.{ℤ}
-use lib.ListN.{length, getD, replicate}
+use lib.ListN.{length, getD}
 use lib.Seq.{sets}
 use Rattle.integers.specs.Moments.{zeroAt}
 use Rattle.scheduling.specs.Scheduling.{natural, Tasks, Atom, completion}
-use Rattle.trees.specs.Leaves.{white}
 use Rattle.trees.specs.Searches.{thetaIn}
 use Rattle.runs.specs.Traces.{Trace, End, done, overload, emptied}
-use Rattle.runs.specs.Runs.{State, conflict, run, tabulate}
+use Rattle.runs.specs.Runs.{conflict, run, allWhite}
 use Rattle.scheduling.specs.Words.{atomWords}
 use Rattle.runs.specs.Words.{postWords, reasons, endReason}
 use Rattle.explanations.specs.Explanations.{starting}
@@ -33,10 +32,6 @@ conflictIn words inner tasks n est dur lct = conflict zeroAt (starting est dur) 
 pub record Conflicted (as′ bs : List ℤ) (w : Written) (r : Outcome) (reason : List Atom) : Type 0 where
   pub atom-words : bs ≡ sets as′ (3 * w .atoms) (atomWords reason)
   pub answer : r ≡ outcome.Overload (w .posts) (w .atoms) (length reason)
-
--- every task in Theta, no post
-abbrev pub allWhite : Tasks natural → State
-allWhite J = record { leaves = replicate (J .count) white; starts = tabulate (J .earliest) 0 (J .count); posts = [] }
 
 -- What edge finding is given: the tasks in both orders, the arrays that hold them, room for posts and reasons, and the tree of all tasks.
 pub record Begun (n inner height : ℕ) (words : List ℕ) (es ps as′ : List ℤ) (est lst lct dur tasks candidates mapping : List ℕ) : Type 0 where

@@ -19,8 +19,7 @@ use Rattle.trees.specs.Shapes.{leavesOf}
 use Rattle.trees.specs.Words.{nodeAt}
 use Rattle.runs.specs.Runs.{State, Turn, on, stop, inner, propagation}
 use Rattle.scheduling.specs.Words.{atomWords}
-use Rattle.runs.proofs.Room.{Short, ShortEnd, short}
-use Rattle.runs.proofs.Steps.{Inv}
+use Rattle.runs.specs.Reached.{Reached}
 use Rattle.explanations.specs.Explanations.{starting}
 use Rattle.propagator.specs.declared.disjunctive_propagator.Written.{Written}
 use Rattle.propagator.specs.declared.disjunctive_propagator.Turn as code
@@ -45,7 +44,7 @@ pub record Posted (ps as′ ps′ bs : List ℤ) (before after : Written) (i bou
   pub posts : after .posts ≡ before .posts + 1
   pub atoms : after .atoms ≡ before .atoms + many
 
--- What stands at a level of a run: the tasks and orders, the arrays that hold them, and the state st of the definition that tree and slices are at.
+-- What stands at a level of a run: the tasks and orders, the arrays that hold them, and the state st that the definition goes through and that tree and slices are at.
 pub record Standing (n inner height lct : ℕ) (words : List ℕ) (es ps as′ : List ℤ) (w : Written) (est lst dur tasks mapping : List ℕ) : Type 0 where
   pub J : Tasks natural
   pub first : List ℕ
@@ -61,9 +60,7 @@ pub record Standing (n inner height lct : ℕ) (words : List ℕ) (es ps as′ :
   pub ends : lct ≡ completion J (getD second level 0)
   pub post-room : 4 * n ≤ length ps₀
   pub atom-room : 6 * (n * n) ≤ length as₀
-  pub inv : Inv zeroAt J (ordered .proper) first second (ordered .by-earliest) (ordered .by-completion)
-      (Short zeroAt J (ordered .proper) first second (ordered .by-earliest) (ordered .by-completion)) (ShortEnd zeroAt J (ordered .proper) first second (ordered .by-earliest) (ordered .by-completion))
-      (short zeroAt J (ordered .proper) first second (ordered .by-earliest) (ordered .by-completion)) level st
+  pub reached : Reached zeroAt J first second level st
   pub at : At J first ps₀ as₀ st inner words es ps as′ (w .posts) (w .atoms)
 
 module _ {n inn height lct : ℕ} {words : List ℕ} {es ps as′ : List ℤ} {w : Written} {est lst dur tasks mapping : List ℕ} (s : Standing n inn height lct words es ps as′ w est lst dur tasks mapping) where
@@ -71,17 +68,12 @@ module _ {n inn height lct : ℕ} {words : List ℕ} {es ps as′ : List ℤ} {w
   abbrev pub AtNow : State → List ℕ → List ℤ → List ℤ → List ℤ → Written → Type 0
   AtNow st′ words′ es′ ps′ bs w′ = At (s .J) (s .first) (s .ps₀) (s .as₀) st′ inn words′ es′ ps′ bs (w′ .posts) (w′ .atoms)
 
-  abbrev pub InvNow : State → Type 0
-  InvNow st′ = Inv zeroAt (s .J) (s .ordered .proper) (s .first) (s .second) (s .ordered .by-earliest) (s .ordered .by-completion)
-      (Short zeroAt (s .J) (s .ordered .proper) (s .first) (s .second) (s .ordered .by-earliest) (s .ordered .by-completion)) (ShortEnd zeroAt (s .J) (s .ordered .proper) (s .first) (s .second) (s .ordered .by-earliest) (s .ordered .by-completion))
-      (short zeroAt (s .J) (s .ordered .proper) (s .first) (s .second) (s .ordered .by-earliest) (s .ordered .by-completion)) (s .level) st′
-
   abbrev pub turns : ℕ → State → Turn
   turns f st′ = inner zeroAt (s .J) (s .first) (s .second) f (s .level) st′
 
   -- one turn of the inner loop
   abbrev pub Considered : code.Turn → List ℕ → List ℤ → List ℤ → List ℤ → Type 0
-  Considered (turn.On w′) words′ es′ ps′ bs = (st′ : State) × InvNow st′ × AtNow st′ words′ es′ ps′ bs w′ × ((f : ℕ) → turns (suc f) (s .st) ≡ turns f st′)
+  Considered (turn.On w′) words′ es′ ps′ bs = (st′ : State) × AtNow st′ words′ es′ ps′ bs w′ × ((f : ℕ) → turns (suc f) (s .st) ≡ turns f st′)
   Considered (turn.Emptied w′) words′ es′ ps′ bs = (st′ : State) × AtNow st′ words′ es′ ps′ bs w′ × ((f : ℕ) → turns (suc f) (s .st) ≡ stop st′)
 
   -- all of them

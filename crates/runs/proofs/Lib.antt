@@ -1,5 +1,6 @@
 pub mod Tables
 pub mod Steps
+pub mod Reached
 pub mod Buffers
 pub mod Readers
 pub mod Fuel

@@ -89,6 +89,10 @@ unfoldable pub tabulate : {A : Type 0} → (ℕ → A) → ℕ → ℕ → List 
 tabulate f a zero = []
 tabulate f a (suc d) = f a ∷ tabulate f (suc a) d
 
+-- every task in Θ, no post
+abbrev pub allWhite : Tasks natural → State
+allWhite J = record { leaves = replicate (J .count) white; starts = tabulate (J .earliest) 0 (J .count); posts = [] }
+
 -- The two orders are sorted.
 module _ (o : ℕ) (J : Tasks natural) (first second : List ℕ) where
   abbrev n : ℕ
@@ -140,7 +144,7 @@ module _ (o : ℕ) (J : Tasks natural) (first second : List ℕ) where
   ]
 
   unfoldable pub run : Trace
-  run = outer (n - 1) 0 (record { leaves = replicate n white; starts = tabulate (J .earliest) 0 n; posts = [] })
+  run = outer (n - 1) 0 (allWhite J)
 
 -- the whole run ----------------------------------------------------------------------------------------------------------------
 

@@ -10,14 +10,14 @@ use borrow.Author.Needs.{needs}
 use Rattle.propagator.specs.declared.disjunctive_propagator.Turn.{Turn}
 use Rattle.propagator.specs.declared.disjunctive_propagator.Written.{Written}
 use Rattle.propagator.specs.Turns.{Standing, Considered}
-use Rattle.propagator.proofs.Turning.{can-search, Reached, taken, none-yet, stands, ended, nothing-left, one-left, one-less, one-emptied}
+use Rattle.propagator.proofs.Turning.{can-search, Turned, taken, none-yet, stands, ended, nothing-left, one-left, one-less, one-emptied}
 use Rattle.propagator.proofs.disjunctive_propagator.consider_all.Statement.{statement}
 use Rattle.propagator.proofs.disjunctive_propagator.consider_all.Tie as tie
 
 -- what the loop has got to; the slices keep their lengths
 record Loop (n inner height lct : ℕ) (nodes₀ : List ℕ) (earliest₀ posts₀ atoms₀ : List ℤ) (w₀ : Written) (est lst durations tasks mapping nodes : List ℕ) (earliest posts atoms : List ℤ) (w : Written) (left : ℕ) : Type 0 where
   stood : Standing n inner height lct nodes₀ earliest₀ posts₀ atoms₀ w₀ est lst durations tasks mapping
-  reached : (s : Standing n inner height lct nodes₀ earliest₀ posts₀ atoms₀ w₀ est lst durations tasks mapping) → Reached s left nodes earliest posts atoms w
+  reached : (s : Standing n inner height lct nodes₀ earliest₀ posts₀ atoms₀ w₀ est lst durations tasks mapping) → Turned s left nodes earliest posts atoms w
   starts-length : length earliest ≡ length earliest₀
   posts-length : length posts ≡ length posts₀
   atoms-length : length atoms ≡ length atoms₀

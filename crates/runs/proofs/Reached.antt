@@ -1,0 +1,98 @@
+-- What holds at every state that a run goes through.
+-- Assumes nothing.
+use mathlib.Core.Path.{_≡_, refl, sym, ap, subst, _∙_}
+use mathlib.Core.Bool.{Bool, true, false}
+use mathlib.Core.Logic.{_⊎_, inl, inr}
+use mathlib.Core.List.{List}
+use mathlib.Core.Option.{some}
+use Prim.Native.Nat.{ℕ, suc, _≤_, _<_}
+use native.Mathlib.Omega.{arith}
+use lib.Dec.{ltb}
+use lib.ListN.{getD}
+use borrow.Author.Tests.{ltb-true, ltb-false}
+use Rattle.integers.specs.Orders.{index}
+use Rattle.integers.proofs.Bools.{bool, clash}
+use Rattle.scheduling.specs.Scheduling.{natural, Tasks, Proper, Atom}
+use Rattle.scheduling.specs.Moments.{ByEarliest, ByCompletion}
+use Rattle.scheduling.proofs.Cards.{card-most}
+use Rattle.trees.specs.Leaves as leaves
+use Rattle.trees.proofs.Roots as tree
+use Rattle.runs.specs.Traces.{Post}
+use Rattle.runs.specs.Runs.{State, Turn, on, stop, inner, dropped, posted, raised}
+use Rattle.runs.specs.Reached.{Quiet, movedOn, Entered, begins, follows, Reached, at-head, moved, turned}
+use Rattle.runs.proofs.Fuel.{opt, inner-end, inner-off, inner-none, inner-pass, inner-stop, inner-raise}
+use Rattle.runs.proofs.Steps as steps
+
+abbrev state-of : Turn → State
+state-of (on st) = st
+state-of (stop st) = st
+
+abbrev goes-on : Turn → Bool
+goes-on (on st) = true
+goes-on (stop st) = false
+
+module _ (o : ℕ) (J : Tasks natural) (ok : Proper J) (first second : List ℕ) (rk : ByEarliest J (λ j. getD first j 0) (λ k. index first k)) (ord : ByCompletion J (λ t. getD second t 0) (λ k. index second k))
+    (Good : Post → Type 0) (GoodEnd : List Atom → Type 0) (meas : steps.Measure o J ok first second rk ord Good GoodEnd) where
+  abbrev Inv : ℕ → State → Type 0
+  Inv = steps.Inv o J ok first second rk ord Good GoodEnd meas
+
+  abbrev Closed : ℕ → State → Type 0
+  Closed = steps.Closed o J ok first second rk ord Good GoodEnd meas
+
+  -- at the head of a level, where Θ does not overload
+  quiet-moved : (t : ℕ) (st : State) → t < J .count → Closed t st → Quiet o J first second t st → Inv (suc t) (movedOn o J first second t st)
+  quiet-moved t st small c q = steps.gray-ok o J ok first second rk ord Good GoodEnd meas t st small c
+      (omega (arith, ltb-false (steps.En o J ok first second rk ord t) (leaves.ect J first (st .leaves)) q, tree.ect-is J ok first rk (st .leaves) (steps.Th o J ok first second rk ord t) (steps.lam o J ok first second rk ord Good GoodEnd meas st) (steps.shape o J ok first second rk ord Good GoodEnd meas t st (c .inv))))
+
+  pub entered-closed : (t : ℕ) (st : State) → Entered o J first second t st → t < J .count → Closed t st
+  entered-closed t st begins small = steps.first-closed o J ok first second rk ord Good GoodEnd meas
+  entered-closed t st (follows t₀ st₀ st′ e q z) small = subst (steps.TurnOk o J ok first second rk ord Good GoodEnd meas (suc t₀)) z
+      (steps.inner-ok o J ok first second rk ord Good GoodEnd meas (J .count) (suc t₀) (movedOn o J first second t₀ st₀) small (quiet-moved t₀ st₀ (omega arith) (entered-closed t₀ st₀ e (omega arith)) q) (card-most J _))
+
+  -- one turn of the inner loop
+  module _ (t : ℕ) (st st′ : State) (small : t < J .count) (v : Inv t st) where
+    abbrev T : ℕ → ℕ
+    T x = getD first x 0
+
+    abbrev ect : ℕ
+    ect = leaves.ect J first (st .leaves)
+
+    abbrev Θ : ℕ → Bool
+    Θ = steps.Th o J ok first second rk ord t
+
+    abbrev Λ : ℕ → Bool
+    Λ = steps.lam o J ok first second rk ord Good GoodEnd meas st
+
+    abbrev shape : tree.Represents J ok first rk (st .leaves) Θ Λ
+    shape = steps.shape o J ok first second rk ord Good GoodEnd meas t st v
+
+    -- the turn that leads to the state s
+    leads : {s : State} → inner o J first second 1 t st ≡ on s → Inv t s → inner o J first second 1 t st ≡ on st′ → Inv t st′
+    leads {s} z w e = subst (Inv t) (ap state-of (sym z ∙ e)) w
+
+    took : (x : ℕ) → ltb (steps.En o J ok first second rk ord t) (leaves.ect-bar J first (st .leaves)) ≡ true → leaves.responsible J first (st .leaves) ≡ some x → inner o J first second 1 t st ≡ on st′ → Inv t st′
+    took x z w e = elim (bool (ltb (J .earliest (T x)) ect)) [
+      | inr y ↦ leads (inner-pass o J first second 0 t st x z w y ∙ inner-end o J first second 0 t (dropped st x)) (steps.pass-ok o J ok first second rk ord Good GoodEnd meas t st small v x found (ltb-true _ _ z) (ltb-false _ _ y)) e
+      | inl y ↦ elim (bool (ltb (J .latest (T x)) ect)) [
+        | inl a ↦ clash {b = false} (ap goes-on (sym (inner-stop o J first second 0 t st x z w y a) ∙ e)) refl
+        | inr a ↦ leads (inner-raise o J first second 0 t st x z w y a ∙ inner-end o J first second 0 t (dropped (raised (posted o J first second st (T x) ect t) (T x) ect) x))
+            (steps.raise-ok o J ok first second rk ord Good GoodEnd meas t st small v x found (ltb-true _ _ z) (ltb-true _ _ y) (ltb-false _ _ a)) e
+      ]
+    ]
+      where
+        found : tree.Found J ok first rk (st .leaves) Θ Λ shape x
+        found = tree.one-found J ok first rk (st .leaves) Θ Λ shape x w
+
+    turn-inv : inner o J first second 1 t st ≡ on st′ → Inv t st′
+    turn-inv e = elim (bool (ltb (steps.En o J ok first second rk ord t) (leaves.ect-bar J first (st .leaves)))) [
+      | inr z ↦ leads (inner-off o J first second 0 t st z) v e
+      | inl z ↦ elim (opt (leaves.responsible J first (st .leaves))) [
+        | inl w ↦ leads (inner-none o J first second 0 t st z w) v e
+        | inr w ↦ took (w .0) z (w .1) e
+      ]
+    ]
+
+  pub reached-inv : (t : ℕ) (st : State) → Reached o J first second t st → t < J .count → Inv t st
+  reached-inv t st (at-head t₀ st₀ e) small = entered-closed t st e small .inv
+  reached-inv t st (moved t₀ st₀ e q) small = quiet-moved t₀ st₀ (omega arith) (entered-closed t₀ st₀ e (omega arith)) q
+  reached-inv t st (turned t₀ st₀ st₁ r e) small = turn-inv t st₀ st small (reached-inv t st₀ r small) e
