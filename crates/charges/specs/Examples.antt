@@ -4,7 +4,6 @@ use mathlib.Core.Path.{_≡_, refl}
 use mathlib.Core.List.{[], _∷_}
 use lib.IntN.{pos, negsuc}
 use Rattle.integers.specs.Filling.{filled}
-use Rattle.integers.specs.Orders.{has, isPermutation}
 use Rattle.integers.specs.Tests.{allBelow, refusal}
 use Rattle.scheduling.specs.Scheduling.{total}
 use Rattle.records.specs.declared.record.Propagator.{Propagator}
@@ -78,18 +77,18 @@ second-charge = refl
 
 -- due moments at the limits are in range; past them, or of another count, they are not
 at-the-limits : chargesNumber two (pos 3 ∷ negsuc 11 ∷ []) (pos 3 ∷ negsuc 11 ∷ []) (negsuc 399999999 ∷ pos 400000000 ∷ []) ≡ 0
-unfolding two refusal lawfulRecord isPermutation allBelow unusedAt has filled total
+unfolding two refusal lawfulRecord allBelow unusedAt filled total
 at-the-limits = refl
 
 out-of-range : chargesNumber two (pos 3 ∷ negsuc 11 ∷ []) (pos 3 ∷ negsuc 11 ∷ []) (negsuc 400000000 ∷ pos 3 ∷ []) ≡ 19
-unfolding two refusal lawfulRecord isPermutation allBelow unusedAt has filled total
+unfolding two refusal lawfulRecord allBelow unusedAt filled total
 out-of-range = refl
 
 one-due : chargesNumber two (pos 3 ∷ negsuc 11 ∷ []) (pos 3 ∷ negsuc 11 ∷ []) (pos 3 ∷ []) ≡ 19
-unfolding two refusal lawfulRecord isPermutation allBelow unusedAt has filled total
+unfolding two refusal lawfulRecord allBelow unusedAt filled total
 one-due = refl
 
 -- 14 is tried before 19
 overlap : chargesNumber two (pos 2 ∷ negsuc 11 ∷ []) (pos 2 ∷ negsuc 11 ∷ []) [] ≡ 14
-unfolding two refusal lawfulRecord isPermutation allBelow unusedAt has filled total
+unfolding two refusal lawfulRecord allBelow unusedAt filled total
 overlap = refl

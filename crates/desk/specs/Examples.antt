@@ -4,7 +4,6 @@ use mathlib.Core.Path.{_≡_, refl}
 use mathlib.Core.List.{[], _∷_}
 use lib.IntN.{pos}
 use Rattle.integers.specs.Filling.{filled}
-use Rattle.integers.specs.Orders.{has, isPermutation}
 use Rattle.integers.specs.Tests.{allBelow, refusal}
 use Rattle.scheduling.specs.Scheduling.{total}
 use Rattle.records.specs.declared.record.Propagator.{Propagator}
@@ -32,19 +31,19 @@ with-one-more = refl
 
 -- a stored total that is one too small falls under 20, before anything else
 total-false : addNumber (recordOf 1 (placed (4 ∷ [])) (placed (0 ∷ [])) (placed (0 ∷ [])) 3) (pos 0) ≡ 20
-unfolding refusal lawfulRecord isPermutation allBelow unusedAt has total
+unfolding refusal lawfulRecord allBelow unusedAt total
 total-false = refl
 
 run-turned-back : runNumber (recordOf 1 (placed (4 ∷ [])) (placed (0 ∷ [])) (placed (0 ∷ [])) 5) [] [] 0 0 ≡ 20
-unfolding refusal lawfulRecord isPermutation allBelow unusedAt has total
+unfolding refusal lawfulRecord allBelow unusedAt total
 run-turned-back = refl
 
 sum-above : addNumber three (pos 199999986) ≡ 5
-unfolding three refusal lawfulRecord isPermutation allBelow unusedAt has total
+unfolding three refusal lawfulRecord allBelow unusedAt total
 sum-above = refl
 
 sum-fits : addNumber three (pos 199999985) ≡ 0
-unfolding three refusal lawfulRecord isPermutation allBelow unusedAt has total
+unfolding three refusal lawfulRecord allBelow unusedAt total
 sum-fits = refl
 
 -- of a record's one task: a number past it is 12, its own 1
@@ -52,9 +51,9 @@ one : Propagator
 one = newRecord (pos 4 ∷ [])
 
 not-there : removeNumber one 1 ≡ 12
-unfolding one refusal lawfulRecord isPermutation allBelow unusedAt has filled total
+unfolding one refusal lawfulRecord allBelow unusedAt filled total
 not-there = refl
 
 the-only-task : removeNumber one 0 ≡ 1
-unfolding one refusal lawfulRecord isPermutation allBelow unusedAt has filled total
+unfolding one refusal lawfulRecord allBelow unusedAt filled total
 the-only-task = refl

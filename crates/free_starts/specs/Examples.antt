@@ -7,7 +7,6 @@ use Prim.Native.Nat.{ℕ, zero, suc}
 use native.Mathlib.Omega.{arith}
 use lib.IntN.{ℤ, pos, negsuc}
 use Rattle.integers.specs.Filling.{filled}
-use Rattle.integers.specs.Orders.{has, isPermutation}
 use Rattle.integers.specs.Tests.{allBelow, refusal}
 use Rattle.scheduling.specs.Scheduling.{total}
 use Rattle.records.specs.declared.record.Propagator.{Propagator}
@@ -48,17 +47,17 @@ after-both d (suc (suc k)) q = absurd (omega arith)
 
 -- the limits of 18, which is tried after 14
 longest : freeNumber two starts starts (negsuc 399999999) (pos 400000000) ≡ 0
-unfolding two starts refusal lawfulRecord isPermutation allBelow unusedAt has filled total
+unfolding two starts refusal lawfulRecord allBelow unusedAt filled total
 longest = refl
 
 too-early : freeNumber two starts starts (negsuc 400000000) (pos 1) ≡ 18
-unfolding two starts refusal lawfulRecord isPermutation allBelow unusedAt has filled total
+unfolding two starts refusal lawfulRecord allBelow unusedAt filled total
 too-early = refl
 
 no-time : freeNumber two starts starts (pos 0) (pos 0) ≡ 18
-unfolding two starts refusal lawfulRecord isPermutation allBelow unusedAt has filled total
+unfolding two starts refusal lawfulRecord allBelow unusedAt filled total
 no-time = refl
 
 overlap : freeNumber two (pos 2 ∷ negsuc 11 ∷ []) (pos 2 ∷ negsuc 11 ∷ []) (pos 0) (pos 0) ≡ 14
-unfolding two refusal lawfulRecord isPermutation allBelow unusedAt has filled total
+unfolding two refusal lawfulRecord allBelow unusedAt filled total
 overlap = refl

@@ -5,7 +5,7 @@ use mathlib.Core.List.{[], _∷_, _++_, flatMap}
 use lib.IntN.{pos, negsuc}
 use lib.ListN.{replicate}
 use Rattle.integers.specs.Filling.{filled}
-use Rattle.integers.specs.Orders.{insert, sort, has, isPermutation, numbers}
+use Rattle.integers.specs.Orders.{insert, sort, has, numbers}
 use Rattle.integers.specs.Tests.{allBelow, refusal}
 use Rattle.scheduling.specs.Scheduling.{total}
 use Rattle.records.specs.declared.record.Propagator.{Propagator}
@@ -34,14 +34,14 @@ two = newRecord (pos 4 ∷ pos 15 ∷ [])
 
 -- 93 bytes hold the page, and 92 do not
 just-room : pageNumber two (pos 3 ∷ negsuc 11 ∷ []) (pos 3 ∷ negsuc 11 ∷ []) 93 ≡ 0
-unfolding two refusal lawfulRecord isPermutation allBelow unusedAt has filled total
+unfolding two refusal lawfulRecord allBelow unusedAt filled total
 just-room = refl
 
 no-room : pageNumber two (pos 3 ∷ negsuc 11 ∷ []) (pos 3 ∷ negsuc 11 ∷ []) 92 ≡ 15
-unfolding two refusal lawfulRecord isPermutation allBelow unusedAt has filled total
+unfolding two refusal lawfulRecord allBelow unusedAt filled total
 no-room = refl
 
 -- 14 is tried before 15
 overlap : pageNumber two (pos 2 ∷ negsuc 11 ∷ []) (pos 2 ∷ negsuc 11 ∷ []) 0 ≡ 14
-unfolding two refusal lawfulRecord isPermutation allBelow unusedAt has filled total
+unfolding two refusal lawfulRecord allBelow unusedAt filled total
 overlap = refl

@@ -6,7 +6,6 @@ use mathlib.Core.List.{List, [], _∷_}
 use Prim.Native.Nat.{ℕ}
 use lib.IntN.{pos}
 use Rattle.integers.specs.Filling.{filled}
-use Rattle.integers.specs.Orders.{has, isPermutation}
 use Rattle.integers.specs.Tests.{allBelow, refusal}
 use Rattle.scheduling.specs.Scheduling.{whole, Tasks, tasksOf, total}
 use Rattle.records.specs.Records.{unusedAt, lawfulRecord, newRecord}
@@ -41,13 +40,13 @@ number task words = reasonNumber (newRecord (pos 3 ∷ pos 5 ∷ [])) (pos 0 ∷
 
 -- 17 is tried before 16
 no-such-task : number 2 11 ≡ 17
-unfolding number refusal lawfulRecord isPermutation allBelow unusedAt has filled total
+unfolding number refusal lawfulRecord allBelow unusedAt filled total
 no-such-task = refl
 
 no-room : number 1 11 ≡ 16
-unfolding number refusal lawfulRecord isPermutation allBelow unusedAt has filled total
+unfolding number refusal lawfulRecord allBelow unusedAt filled total
 no-room = refl
 
 just-room : number 1 12 ≡ 0
-unfolding number refusal lawfulRecord isPermutation allBelow unusedAt has filled total
+unfolding number refusal lawfulRecord allBelow unusedAt filled total
 just-room = refl

@@ -19,8 +19,7 @@ use Rattle.integers.specs.Tests.{Test, test, allBelow, refusal, AllPassed}
 use Rattle.integers.proofs.Bools.{clash, and-true}
 use Rattle.integers.proofs.Filling.{filled-at, filled-past, filled-length, getD-fresh}
 use Rattle.integers.proofs.Ints.{leZ-true, le-leZ}
-use Rattle.integers.proofs.Permutations.{own-numbers}
-use Rattle.integers.proofs.Pigeonhole.{own-places}
+use Rattle.integers.proofs.Permutations.{own-numbers, numbers-permute}
 use Rattle.integers.proofs.Tests.{all-at, all-show, all-ext, accepts, accepted, ground, refuses, broken}
 use Rattle.scheduling.specs.Scheduling.{total}
 use Rattle.scheduling.proofs.Sets.{total-ext}
@@ -29,16 +28,14 @@ use Rattle.records.specs.Orders.{noTasks}
 use Rattle.records.specs.Records.{countFits, sumFits, lastsAt, Lawful, durationOf, durationAt, positiveAt, creationTests, newRecord, zeroRecord, creationNumber, created, createdAt}
 use Rattle.records.proofs.Lawful.{count-is}
 
--- the order that creation gives, and `identity` too
+-- the order 0 to n − 1, as `identity` gives it
 pub own-front : (n : ℕ) → n ≤ TASKS → take n (filled (λ k. k) n noTasks) ≡ numbers 0 n
 own-front n h =
     let l = filled (λ k. k) n noTasks in
     own-numbers n (take n l) (length-take-le n l (omega (arith, filled-length (λ k. k) n noTasks))) (λ k q. getD-take n l k 0 q ∙ filled-at (λ k. k) n noTasks 0 k q h)
 
 pub own-order : (n : ℕ) → n ≤ TASKS → Permutes n (take n (filled (λ k. k) n noTasks))
-own-order n h =
-    let l = filled (λ k. k) n noTasks in
-    own-places n (take n l) (length-take-le n l (omega (arith, filled-length (λ k. k) n noTasks))) (λ k q. getD-take n l k 0 q ∙ filled-at (λ k. k) n noTasks 0 k q h)
+own-order n h = subst (Permutes n) (sym (own-front n h)) (numbers-permute n)
 
 pub negative : (z : ℤ) → leZ (pos 0) z ≡ false → durationOf z ≡ 0
 negative (pos n) h = clash (le-leb 0 n (omega arith)) h
@@ -83,16 +80,13 @@ created-lawful ds h = made (accepted (creationTests ds) refl h)
     made (a, (b, (c, _))) =
         let count = count-is n .0 a in
         let few : n ≤ TASKS = count .1 in
-        let past : (f : ℕ → ℕ) (k : ℕ) → n ≤ k → getD (filled f n noTasks) k 0 ≡ 0 = λ f k q. filled-past f n noTasks 0 k q ∙ getD-fresh 0 TASKS k in
         record {
           some = count .0;
           few = few;
           lasts = λ k q. leb-true 1 (getD (filled (durationAt ds) n noTasks) k 0) (all-at (lastsAt (filled (durationAt ds) n noTasks)) n (same-lasts ds few ∙ b) k q);
           sum = subst (λ (s : ℕ). s ≤ DURATIONS) (sym (same-sum ds few)) (leb-true (total (durationAt ds) n) DURATIONS c);
           stored = sym (same-sum ds few);
-          first = own-order n few;
-          second = own-order n few;
-          unused = λ k q s. (past (durationAt ds) k q, (past (λ k. k) k q, past (λ k. k) k q));
+          unused = λ k q s. filled-past (durationAt ds) n noTasks 0 k q ∙ getD-fresh 0 TASKS k;
         }
 
 -- The sole ground for each number: all before it hold, and its own does not.

@@ -8,13 +8,11 @@ use Prim.Native.Nat.{ℕ, _≤_, _<_}
 use native.Mathlib.Omega.{arith}
 use native.Mathlib.Decide.{decLt}
 use lib.Dec.{leb, ltb, eqb}
-use lib.ListN.{getD, take}
+use lib.ListN.{getD}
 use borrow.Author.Tests.{leb-true, le-leb, ltb-true, lt-ltb, eqb-true, eq-eqb}
 use Rattle.integers.specs.Limits.{TASKS, DURATIONS}
-use Rattle.integers.specs.Orders.{isPermutation}
 use Rattle.integers.specs.Tests.{allBelow}
 use Rattle.integers.proofs.Bools.{bool, and-true, and-yes, and-is, or-true, or-right}
-use Rattle.integers.proofs.Pigeonhole.{permutes, is-permutation}
 use Rattle.integers.proofs.Tests.{all-at, all-show}
 use Rattle.scheduling.specs.Scheduling.{total}
 use Rattle.records.specs.declared.record.Propagator.{Propagator}
@@ -28,29 +26,22 @@ count-is n = (
 )
 
 -- a place of a task, and one that is unused
-module _ (durations first second : List ℕ) (n k : ℕ) where
-  pub unused-task : k < n → unusedAt durations first second n k ≡ true
+module _ (durations : List ℕ) (n k : ℕ) where
+  pub unused-task : k < n → unusedAt durations n k ≡ true
   unfolding unusedAt
   unused-task h = rw (lt-ltb k n h)
 
-  pub unused-show : getD durations k 0 ≡ 0 → getD first k 0 ≡ 0 → getD second k 0 ≡ 0 → unusedAt durations first second n k ≡ true
+  pub unused-show : getD durations k 0 ≡ 0 → unusedAt durations n k ≡ true
   unfolding unusedAt
-  unused-show d f s = or-right (ltb k n) _ (and-yes (eqb (getD durations k 0) 0) _ (eq-eqb (getD durations k 0) 0 d) (and-yes (eqb (getD first k 0) 0) (eqb (getD second k 0) 0) (eq-eqb (getD first k 0) 0 f) (eq-eqb (getD second k 0) 0 s)))
+  unused-show d = or-right (ltb k n) _ (eq-eqb (getD durations k 0) 0 d)
 
-  pub unused-read : n ≤ k → unusedAt durations first second n k ≡ true → (getD durations k 0 ≡ 0) × ((getD first k 0 ≡ 0) × (getD second k 0 ≡ 0))
+  pub unused-read : n ≤ k → unusedAt durations n k ≡ true → getD durations k 0 ≡ 0
   unfolding unusedAt
-  unused-read q h = by (or-true (ltb k n) (eqb (getD durations k 0) 0 && (eqb (getD first k 0) 0 && eqb (getD second k 0) 0)) h)
-    where
-      by : (ltb k n ≡ true) ⊎ (eqb (getD durations k 0) 0 && (eqb (getD first k 0) 0 && eqb (getD second k 0) 0) ≡ true) → (getD durations k 0 ≡ 0) × ((getD first k 0 ≡ 0) × (getD second k 0 ≡ 0))
-      by (inl y) = absurd (omega (arith, ltb-true k n y))
-      by (inr y) =
-          let a = and-true (eqb (getD durations k 0) 0) (eqb (getD first k 0) 0 && eqb (getD second k 0) 0) y in
-          let b = and-true (eqb (getD first k 0) 0) (eqb (getD second k 0) 0) (a .1) in
-          (eqb-true (getD durations k 0) 0 (a .0), (eqb-true (getD first k 0) 0 (b .0), eqb-true (getD second k 0) 0 (b .1)))
+  unused-read q h = elim (or-true (ltb k n) (eqb (getD durations k 0) 0) h) [ inl y ↦ absurd (omega (arith, ltb-true k n y)) | inr y ↦ eqb-true (getD durations k 0) 0 y ]
 
   -- one that holds another number
-  pub unused-not : n ≤ k → ((getD durations k 0 ≡ 0) × ((getD first k 0 ≡ 0) × (getD second k 0 ≡ 0)) → ⊥) → unusedAt durations first second n k ≡ false
-  unused-not q h = elim (bool (unusedAt durations first second n k)) [ inl y ↦ absurd (h (unused-read q y)) | inr y ↦ y ]
+  pub unused-not : n ≤ k → (getD durations k 0 ≡ 0 → ⊥) → unusedAt durations n k ≡ false
+  unused-not q h = elim (bool (unusedAt durations n k)) [ inl y ↦ absurd (h (unused-read q y)) | inr y ↦ y ]
 
 -- The tests of a record, all passed.
 pub record Passes (r : Propagator) : Type 0 where
@@ -58,9 +49,7 @@ pub record Passes (r : Propagator) : Type 0 where
   pub lasting : allBelow (lastsAt (r .durations)) (r .count) ≡ true
   pub summed : sumFits (λ k. getD (r .durations) k 0) (r .count) ≡ true
   pub stored : totalTrue (r .total) (r .durations) (r .count) ≡ true
-  pub first : isPermutation (r .count) (take (r .count) (r .first)) ≡ true
-  pub second : isPermutation (r .count) (take (r .count) (r .second)) ≡ true
-  pub unused : unusedZero (r .durations) (r .first) (r .second) (r .count) ≡ true
+  pub unused : unusedZero (r .durations) (r .count) ≡ true
 
 module _ (r : Propagator) where
   pub passes : lawfulRecord r ≡ true → Passes r
@@ -69,24 +58,20 @@ module _ (r : Propagator) where
       let a = and-true (countFits (r .count)) _ h in
       let b = and-true (allBelow (lastsAt (r .durations)) (r .count)) _ (a .1) in
       let c = and-true (sumFits (λ k. getD (r .durations) k 0) (r .count)) _ (b .1) in
-      let s = and-true (totalTrue (r .total) (r .durations) (r .count)) _ (c .1) in
-      let d = and-true (isPermutation (r .count) (take (r .count) (r .first))) _ (s .1) in
-      let e = and-true (isPermutation (r .count) (take (r .count) (r .second))) (unusedZero (r .durations) (r .first) (r .second) (r .count)) (d .1) in
-      record { counted = a .0; lasting = b .0; summed = c .0; stored = s .0; first = d .0; second = e .0; unused = e .1 }
+      let s = and-true (totalTrue (r .total) (r .durations) (r .count)) (unusedZero (r .durations) (r .count)) (c .1) in
+      record { counted = a .0; lasting = b .0; summed = c .0; stored = s .0; unused = s .1 }
 
   pub unlawful : (Passes r → ⊥) → lawfulRecord r ≡ false
   unlawful h = elim (bool (lawfulRecord r)) [ inl y ↦ absurd (h (passes y)) | inr y ↦ y ]
 
   -- where all before it are passed, the last test decides
-  pub last-test : countFits (r .count) ≡ true → allBelow (lastsAt (r .durations)) (r .count) ≡ true → sumFits (λ k. getD (r .durations) k 0) (r .count) ≡ true → totalTrue (r .total) (r .durations) (r .count) ≡ true → isPermutation (r .count) (take (r .count) (r .first)) ≡ true → isPermutation (r .count) (take (r .count) (r .second)) ≡ true → lawfulRecord r ≡ unusedZero (r .durations) (r .first) (r .second) (r .count)
+  pub last-test : countFits (r .count) ≡ true → allBelow (lastsAt (r .durations)) (r .count) ≡ true → sumFits (λ k. getD (r .durations) k 0) (r .count) ≡ true → totalTrue (r .total) (r .durations) (r .count) ≡ true → lawfulRecord r ≡ unusedZero (r .durations) (r .count)
   unfolding lawfulRecord
-  last-test a b c s d e =
+  last-test a b c s =
       and-is (countFits (r .count)) _ a
       ∙ and-is (allBelow (lastsAt (r .durations)) (r .count)) _ b
       ∙ and-is (sumFits (λ k. getD (r .durations) k 0) (r .count)) _ c
-      ∙ and-is (totalTrue (r .total) (r .durations) (r .count)) _ s
-      ∙ and-is (isPermutation (r .count) (take (r .count) (r .first))) _ d
-      ∙ and-is (isPermutation (r .count) (take (r .count) (r .second))) (unusedZero (r .durations) (r .first) (r .second) (r .count)) e
+      ∙ and-is (totalTrue (r .total) (r .durations) (r .count)) (unusedZero (r .durations) (r .count)) s
 
   facts : Passes r → Lawful r
   facts p =
@@ -97,9 +82,7 @@ module _ (r : Propagator) where
         lasts = λ k q. leb-true 1 (getD (r .durations) k 0) (all-at (lastsAt (r .durations)) (r .count) (p .lasting) k q);
         sum = leb-true (total (λ k. getD (r .durations) k 0) (r .count)) DURATIONS (p .summed);
         stored = eqb-true (r .total) (total (λ k. getD (r .durations) k 0) (r .count)) (p .stored);
-        first = permutes (r .count) (take (r .count) (r .first)) (p .first);
-        second = permutes (r .count) (take (r .count) (r .second)) (p .second);
-        unused = λ k q s. unused-read (r .durations) (r .first) (r .second) (r .count) k q (all-at (unusedAt (r .durations) (r .first) (r .second) (r .count)) TASKS (p .unused) k s);
+        unused = λ k q s. unused-read (r .durations) (r .count) k q (all-at (unusedAt (r .durations) (r .count)) TASKS (p .unused) k s);
       }
 
   tests : Lawful r → lawfulRecord r ≡ true
@@ -109,14 +92,12 @@ module _ (r : Propagator) where
       (all-show (lastsAt (r .durations)) (r .count) (λ k q. le-leb 1 (getD (r .durations) k 0) (l .lasts k q)))
       (le-leb (total (λ k. getD (r .durations) k 0) (r .count)) DURATIONS (l .sum))
       (eq-eqb (r .total) (total (λ k. getD (r .durations) k 0) (r .count)) (l .stored))
-      (is-permutation (r .count) (take (r .count) (r .first)) (l .first))
-      (is-permutation (r .count) (take (r .count) (r .second)) (l .second))
-      ∙ all-show (unusedAt (r .durations) (r .first) (r .second) (r .count)) TASKS unused
+      ∙ all-show (unusedAt (r .durations) (r .count)) TASKS unused
     where
-      unused : (k : ℕ) → k < TASKS → unusedAt (r .durations) (r .first) (r .second) (r .count) k ≡ true
+      unused : (k : ℕ) → k < TASKS → unusedAt (r .durations) (r .count) k ≡ true
       unused k s = elim (decLt k (r .count)) [
-        | yes q ↦ unused-task (r .durations) (r .first) (r .second) (r .count) k q
-        | no q ↦ (let z = l .unused k (omega arith) s in unused-show (r .durations) (r .first) (r .second) (r .count) k (z .0) (z .1 .0) (z .1 .1))
+        | yes q ↦ unused-task (r .durations) (r .count) k q
+        | no q ↦ unused-show (r .durations) (r .count) k (l .unused k (omega arith) s)
       ]
 
   -- the test says what a lawful record is

@@ -23,34 +23,30 @@ or-none a b z = (omega (arith, or-add-and a b, and-le-r a b), omega (arith, or-a
 or-both : (a b : ℕ) → a ≡ 0 → b ≡ 0 → bitOr a b ≡ 0
 or-both a b p q = ap (bitOr a) q ∙ or-zero-r a ∙ p
 
-module _ (durations first second : List ℕ) (n : ℕ) where
+module _ (durations : List ℕ) (n : ℕ) where
   -- Where the walk is at place i: nothing is found so far, or a place is found.
   pub record Gathered (used i : ℕ) : Type 0 where
-    pub none : used ≡ 0 → allBelow (unusedAt durations first second n) i ≡ true
-    pub some : (used ≡ 0 → ⊥) → allBelow (unusedAt durations first second n) TASKS ≡ false
+    pub none : used ≡ 0 → allBelow (unusedAt durations n) i ≡ true
+    pub some : (used ≡ 0 → ⊥) → allBelow (unusedAt durations n) TASKS ≡ false
 
   pub gathered-none : Gathered 0 n
-  gathered-none = record { none = λ _. all-show _ n (λ k q. unused-task durations first second n k q); some = λ h. absurd (h refl) }
+  gathered-none = record { none = λ _. all-show _ n (λ k q. unused-task durations n k q); some = λ h. absurd (h refl) }
 
-  pub gathered-more : (used used′ i : ℕ) → n ≤ i → i < TASKS → used′ ≡ bitOr (bitOr (bitOr used (getD durations i 0)) (getD first i 0)) (getD second i 0) → Gathered used i → Gathered used′ (i + 1)
+  pub gathered-more : (used used′ i : ℕ) → n ≤ i → i < TASKS → used′ ≡ bitOr used (getD durations i 0) → Gathered used i → Gathered used′ (i + 1)
   gathered-more used used′ i p q e g = record { none = λ z. quiet (sym e ∙ z); some = λ h. loud (λ z. h (e ∙ z)) }
     where
-      quiet : bitOr (bitOr (bitOr used (getD durations i 0)) (getD first i 0)) (getD second i 0) ≡ 0 → allBelow (unusedAt durations first second n) (i + 1) ≡ true
-      quiet z =
-          let a = or-none (bitOr (bitOr used (getD durations i 0)) (getD first i 0)) (getD second i 0) z in
-          let b = or-none (bitOr used (getD durations i 0)) (getD first i 0) (a .0) in
-          let c = or-none used (getD durations i 0) (b .0) in
-          all-more _ i (g .none (c .0)) (unused-show durations first second n i (c .1) (b .1) (a .1))
+      quiet : bitOr used (getD durations i 0) ≡ 0 → allBelow (unusedAt durations n) (i + 1) ≡ true
+      quiet z = let a = or-none used (getD durations i 0) z in all-more _ i (g .none (a .0)) (unused-show durations n i (a .1))
 
-      loud : (bitOr (bitOr (bitOr used (getD durations i 0)) (getD first i 0)) (getD second i 0) ≡ 0 → ⊥) → allBelow (unusedAt durations first second n) TASKS ≡ false
+      loud : (bitOr used (getD durations i 0) ≡ 0 → ⊥) → allBelow (unusedAt durations n) TASKS ≡ false
       loud h = elim (ℕ-discrete used 0) [
-        | yes z ↦ all-broken _ TASKS i q (unused-not durations first second n i p (λ w. h (or-both (bitOr (bitOr used (getD durations i 0)) (getD first i 0)) (getD second i 0) (or-both (bitOr used (getD durations i 0)) (getD first i 0) (or-both used (getD durations i 0) z (w .0)) (w .1 .0)) (w .1 .1))))
+        | yes z ↦ all-broken _ TASKS i q (unused-not durations n i p (λ w. h (or-both used (getD durations i 0) z w)))
         | no z ↦ g .some z
       ]
 
   -- at the end: the test of all places is that of what is gathered
-  pub gathered-all : (used i : ℕ) → i ≡ TASKS → Gathered used i → eqb used 0 ≡ allBelow (unusedAt durations first second n) TASKS
+  pub gathered-all : (used i : ℕ) → i ≡ TASKS → Gathered used i → eqb used 0 ≡ allBelow (unusedAt durations n) TASKS
   gathered-all used i e g = elim (ℕ-discrete used 0) [
-    | yes z ↦ eq-eqb used 0 z ∙ sym (g .none z) ∙ ap (allBelow (unusedAt durations first second n)) e
+    | yes z ↦ eq-eqb used 0 z ∙ sym (g .none z) ∙ ap (allBelow (unusedAt durations n)) e
     | no z ↦ ne-eqb used 0 z ∙ sym (g .some z)
   ]

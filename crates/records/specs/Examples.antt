@@ -7,7 +7,7 @@ use Prim.Native.Nat.{ℕ}
 use lib.IntN.{ℤ, pos, negsuc}
 use lib.ListN.{replicate}
 use Rattle.integers.specs.Filling.{filled}
-use Rattle.integers.specs.Orders.{insert, sort, has, isPermutation}
+use Rattle.integers.specs.Orders.{insert, sort}
 use Rattle.integers.specs.Tests.{allBelow, refusal}
 use Rattle.scheduling.specs.Scheduling.{total}
 use Rattle.records.specs.declared.record.Propagator.{Propagator}
@@ -50,23 +50,23 @@ unfolding refusal lawfulRecord allBelow
 record-first = refl
 
 counts-next : runNumber two (pos 300000000 ∷ pos 0 ∷ []) (pos 0 ∷ []) 0 0 ≡ 10
-unfolding two refusal lawfulRecord isPermutation allBelow unusedAt has filled total
+unfolding two refusal lawfulRecord allBelow unusedAt filled total
 counts-next = refl
 
 starts-next : runNumber two (pos 1 ∷ pos 0 ∷ []) (pos 0 ∷ pos 200000001 ∷ []) 0 0 ≡ 3
-unfolding two refusal lawfulRecord isPermutation allBelow unusedAt has filled total
+unfolding two refusal lawfulRecord allBelow unusedAt filled total
 starts-next = refl
 
 ranges-next : runNumber two (pos 1 ∷ pos 0 ∷ []) (pos 0 ∷ pos 200000000 ∷ []) 0 0 ≡ 4
-unfolding two refusal lawfulRecord isPermutation allBelow unusedAt has filled total
+unfolding two refusal lawfulRecord allBelow unusedAt filled total
 ranges-next = refl
 
 words-last : runNumber two (negsuc 4 ∷ pos 0 ∷ []) (pos 0 ∷ pos 200000000 ∷ []) 8 23 ≡ 9
-unfolding two refusal lawfulRecord isPermutation allBelow unusedAt has filled total
+unfolding two refusal lawfulRecord allBelow unusedAt filled total
 words-last = refl
 
 accepted : runNumber two (negsuc 4 ∷ pos 0 ∷ []) (pos 0 ∷ pos 200000000 ∷ []) 8 24 ≡ 0
-unfolding two refusal lawfulRecord isPermutation allBelow unusedAt has filled total
+unfolding two refusal lawfulRecord allBelow unusedAt filled total
 accepted = refl
 
 -- Sorts by a key: tied tasks stay as they stood, whichever comes first.

@@ -11,7 +11,6 @@ use Rattle.integers.specs.Limits.{TASKS, DURATIONS}
 use Rattle.integers.specs.Filling.{filled}
 use Rattle.integers.specs.Moments.{zeroAt}
 use Rattle.integers.specs.Tests.{Test, test, refusal, allBelow}
-use Rattle.integers.specs.Orders.{Permutes, isPermutation}
 use Rattle.scheduling.specs.Scheduling.{whole, natural, Tasks, tasksOf, total}
 use Rattle.scheduling.specs.Moments.{moments}
 use Rattle.records.specs.Orders.{noTasks}
@@ -34,26 +33,21 @@ sumFits duration n = leb (total duration n) DURATIONS
 abbrev pub lastsAt : List ℕ → ℕ → Bool
 lastsAt durations k = leb 1 (getD durations k 0)
 
--- place k is a task's, or the three arrays hold 0 there
-unfoldable pub unusedAt : List ℕ → List ℕ → List ℕ → ℕ → ℕ → Bool
-unusedAt durations first second n k = ltb k n || (eqb (getD durations k 0) 0 && (eqb (getD first k 0) 0 && eqb (getD second k 0) 0))
+-- place k is a task's, or holds 0
+unfoldable pub unusedAt : List ℕ → ℕ → ℕ → Bool
+unusedAt durations n k = ltb k n || eqb (getD durations k 0) 0
 
 -- the stored total is the sum of the durations of tasks 0 to n − 1
 abbrev pub totalTrue : ℕ → List ℕ → ℕ → Bool
 totalTrue stored durations n = eqb stored (total (λ k. getD durations k 0) n)
 
--- the three arrays hold 0 in each place from n on
-abbrev pub unusedZero : List ℕ → List ℕ → List ℕ → ℕ → Bool
-unusedZero durations first second n = allBelow (unusedAt durations first second n) TASKS
+-- each place from n on holds 0
+abbrev pub unusedZero : List ℕ → ℕ → Bool
+unusedZero durations n = allBelow (unusedAt durations n) TASKS
 
 -- a record of these fields
-abbrev pub recordOf : ℕ → List ℕ → List ℕ → List ℕ → ℕ → Propagator
-recordOf n durations first second stored = record { count = n; durations = durations; first = first; second = second; total = stored }
-
--- Its orders have TASKS places.
-pub record WholeOrders (first second : List ℕ) : Type 0 where
-  pub one : length first ≡ TASKS
-  pub other : length second ≡ TASKS
+abbrev pub recordOf : ℕ → List ℕ → ℕ → Propagator
+recordOf n durations stored = record { count = n; durations = durations; total = stored }
 
 -- the tests of a record, which are one number to a run
 unfoldable pub lawfulRecord : Propagator → Bool
@@ -62,9 +56,7 @@ lawfulRecord r =
     && (allBelow (lastsAt (r .durations)) (r .count)
     && (sumFits (λ k. getD (r .durations) k 0) (r .count)
     && (totalTrue (r .total) (r .durations) (r .count)
-    && (isPermutation (r .count) (take (r .count) (r .first))
-    && (isPermutation (r .count) (take (r .count) (r .second))
-    && unusedZero (r .durations) (r .first) (r .second) (r .count))))))
+    && unusedZero (r .durations) (r .count))))
 
 -- The same as facts.
 pub record Lawful (r : Propagator) : Type 0 where
@@ -73,9 +65,7 @@ pub record Lawful (r : Propagator) : Type 0 where
   pub lasts : (k : ℕ) → k < r .count → 1 ≤ getD (r .durations) k 0
   pub sum : total (λ k. getD (r .durations) k 0) (r .count) ≤ DURATIONS
   pub stored : r .total ≡ total (λ k. getD (r .durations) k 0) (r .count)
-  pub first : Permutes (r .count) (take (r .count) (r .first))
-  pub second : Permutes (r .count) (take (r .count) (r .second))
-  pub unused : (k : ℕ) → r .count ≤ k → k < TASKS → (getD (r .durations) k 0 ≡ 0) × ((getD (r .first) k 0 ≡ 0) × (getD (r .second) k 0 ≡ 0))
+  pub unused : (k : ℕ) → r .count ≤ k → k < TASKS → getD (r .durations) k 0 ≡ 0
 
 -- The tasks of a record --------------------------------------------------------------------------------------------------------
 
@@ -115,18 +105,16 @@ abbrev pub creationNumber : Creation → ℕ
 creationNumber Accepted = 0
 creationNumber (Refused number) = number
 
--- a new record: the durations with their sum, and both orders 0 to n − 1
+-- a new record: the durations with their sum
 abbrev pub newRecord : List ℤ → Propagator
 newRecord ds = record {
   count = length ds;
   durations = filled (durationAt ds) (length ds) noTasks;
-  first = filled (λ k. k) (length ds) noTasks;
-  second = filled (λ k. k) (length ds) noTasks;
   total = total (durationAt ds) (length ds);
 }
 
 abbrev pub zeroRecord : Propagator
-zeroRecord = record { count = 0; durations = noTasks; first = noTasks; second = noTasks; total = 0 }
+zeroRecord = record { count = 0; durations = noTasks; total = 0 }
 
 -- the new record, or the record of zeros with the number
 abbrev pub createdAt : ℕ → List ℤ → Created

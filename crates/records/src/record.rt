@@ -1,26 +1,23 @@
-// The propagator's record: the task count, the durations, the two orders and the sum of the durations. Creation, and the test whether a record is lawful.
+// The propagator's record: the task count, the durations and their sum. Creation, and the test whether a record is lawful.
 use integers::limits::DURATIONS;
 use integers::limits::TASKS;
 use integers::wide;
 ghost use mathlib.Core.Path.{_≡_};
 ghost use Prim.Native.Nat.{_≤_, _<_};
 ghost use lib.Bits.{bitOr};
-ghost use lib.ListN.{length, getD, take};
+ghost use lib.ListN.{length, getD};
 ghost use Rattle.integers.specs.Limits.{TASKS};
 ghost use Rattle.integers.specs.Filling.{filled};
 ghost use Rattle.integers.specs.Tests.{allBelow, refusal};
-ghost use Rattle.integers.specs.Orders.{isPermutation};
 ghost use Rattle.scheduling.specs.Scheduling.{total};
 ghost use Rattle.records.specs.Orders.{noTasks};
-ghost use Rattle.records.specs.Records.{countFits, sumFits, totalTrue, lastsAt, unusedZero, WholeOrders, recordOf, lawfulRecord, durationOf, durationAt, creationTests, creationNumber, zeroRecord, created};
+ghost use Rattle.records.specs.Records.{countFits, sumFits, totalTrue, lastsAt, unusedZero, recordOf, lawfulRecord, durationOf, durationAt, creationTests, creationNumber, zeroRecord, created};
 
 // Places from the count on are 0.
 #[repr(C)]
 pub struct Propagator {
     pub count: usize,
     pub durations: [u32; 48],
-    pub first: [usize; 48],
-    pub second: [usize; 48],
     pub total: u32,
 }
 
@@ -138,13 +135,11 @@ fn zeros() -> Propagator
     Propagator {
         count: 0,
         durations: [0u32; 48],
-        first: [0usize; 48],
-        second: [0usize; 48],
         total: 0,
     }
 }
 
-// A record of the durations with their sum, and both orders 0 to n - 1; or the record of zeros, with the number that turned them back.
+// A record of the durations with their sum; or the record of zeros, with the number that turned them back.
 pub fn create(durations: &[i32]) -> Created
     ensures { λ r. ⌜ (r ≡ created (now (durations .entry))) × (creationNumber (r .answer) ≡ refusal (creationTests (now (durations .entry)))) ⌝ }
 {
@@ -158,76 +153,40 @@ pub fn create(durations: &[i32]) -> Created
     let n = durations.len();
     let lengths = durations_of(durations);
     let total = total_of(&lengths, n) as u32;
-    let order = super::orders::identity(n);
     Created {
         record: Propagator {
             count: n,
             durations: lengths,
-            first: order,
-            second: order,
             total,
         },
         answer: Creation::Accepted,
     }
 }
 
-// Whether the first n places hold each number below n once.
-fn permutation(order: &[usize; 48], n: usize) -> bool
-    requires { ⌜ (n ≤ TASKS) × (length (now order) ≡ TASKS) ⌝ }
-    ensures { λ r. ⌜ r ≡ isPermutation n (take n (now (order .entry))) ⌝ }
-{
-    let mut seen = [false; 48];
-    let mut i = 0;
-    while i < n {
-        let k = order[i];
-        if k >= n {
-            return false;
-        }
-        if seen[k] {
-            return false;
-        }
-        seen[k] = true;
-        i += 1;
-    }
-    true
-}
-
 // What the places before hold, and one place more: 0 only where all hold 0.
-fn with_place(used: usize, duration: u32, first: usize, second: usize) -> usize
-    ensures { λ r. ⌜ r ≡ bitOr (bitOr (bitOr used duration) first) second ⌝ }
+fn with_place(used: u32, duration: u32) -> u32
+    ensures { λ r. ⌜ r ≡ bitOr used duration ⌝ }
 {
-    used | duration as usize | first | second
+    used | duration
 }
 
 // Whether the places from n on are 0. All are read, with no test at each, which is the faster way.
-fn unused_zero<'a>(
-    durations: &'a [u32; 48],
-    first: &'a [usize; 48],
-    second: &'a [usize; 48],
-    n: usize,
-) -> bool
+fn unused_zero(durations: &[u32; 48], n: usize) -> bool
     requires { ⌜ n ≤ TASKS ⌝ }
-    ensures { λ r. ⌜ r ≡ unusedZero (now (durations .entry)) (now (first .entry)) (now (second .entry)) n ⌝ }
+    ensures { λ r. ⌜ r ≡ unusedZero (now (durations .entry)) n ⌝ }
 {
-    let mut used: usize = 0;
+    let mut used: u32 = 0;
     let mut i = n;
     while i < TASKS {
-        used = with_place(used, durations[i], first[i], second[i]);
+        used = with_place(used, durations[i]);
         i += 1;
     }
     used == 0
 }
 
-// Whether a record is one that creation and runs leave: what number 20 tests. The record comes as its fields, so that it is not copied.
-pub fn lawful<'a>(
-    n: usize,
-    durations: &'a [u32; 48],
-    first: &'a [usize; 48],
-    second: &'a [usize; 48],
-    total: u32,
-) -> bool
-    requires { ⌜ WholeOrders (now first) (now second) ⌝ }
-    ensures { λ r. ⌜ r ≡ lawfulRecord (recordOf n (now (durations .entry)) (now (first .entry)) (now (second .entry)) total) ⌝ }
+// Whether a record is one that creation leaves: what number 20 tests. The record comes as its fields, so that it is not copied.
+pub fn lawful(n: usize, durations: &[u32; 48], total: u32) -> bool
+    ensures { λ r. ⌜ r ≡ lawfulRecord (recordOf n (now (durations .entry)) total) ⌝ }
 {
     if !count_fits(n) {
         return false;
@@ -241,11 +200,5 @@ pub fn lawful<'a>(
     if total > DURATIONS {
         return false;
     }
-    if !permutation(first, n) {
-        return false;
-    }
-    if !permutation(second, n) {
-        return false;
-    }
-    unused_zero(durations, first, second, n)
+    unused_zero(durations, n)
 }

@@ -2,7 +2,7 @@
 ghost use mathlib.Core.Path.{_≡_};
 ghost use lib.ListN.{length};
 ghost use Rattle.integers.specs.Tests.{allBelow};
-ghost use Rattle.records.specs.Records.{WholeOrders, recordOf};
+ghost use Rattle.records.specs.Records.{recordOf};
 ghost use Rattle.records.specs.Refusals.{startFits, startFitsAt, rangeFitsAt, inputNumber, runNumber};
 
 // Whether a start is within the limits.
@@ -45,19 +45,16 @@ fn ranges_fit(earliest: &[i32], latest: &[i32]) -> bool
 }
 
 // The number that turns a run or a page back for its record and its ranges, or 0: 20, 10, 3, 4.
-pub fn input_refusal<'a>(
+pub fn input_refusal(
     n: usize,
-    durations: &'a [u32; 48],
-    first: &'a [usize; 48],
-    second: &'a [usize; 48],
+    durations: &[u32; 48],
     total: u32,
     earliest: &[i32],
     latest: &[i32],
 ) -> u32
-    requires { ⌜ WholeOrders (now first) (now second) ⌝ }
-    ensures { λ r. ⌜ r ≡ inputNumber (recordOf n (now (durations .entry)) (now (first .entry)) (now (second .entry)) total) (now (earliest .entry)) (now (latest .entry)) ⌝ }
+    ensures { λ r. ⌜ r ≡ inputNumber (recordOf n (now (durations .entry)) total) (now (earliest .entry)) (now (latest .entry)) ⌝ }
 {
-    if !super::record::lawful(n, durations, first, second, total) {
+    if !super::record::lawful(n, durations, total) {
         return 20;
     }
     if earliest.len() != n {
@@ -79,21 +76,18 @@ pub fn input_refusal<'a>(
 }
 
 // The number that turns a run back, or 0: 20, 10, 3, 4, 9.
-pub fn run_refusal<'a>(
+pub fn run_refusal(
     n: usize,
-    durations: &'a [u32; 48],
-    first: &'a [usize; 48],
-    second: &'a [usize; 48],
+    durations: &[u32; 48],
     total: u32,
     earliest: &[i32],
     latest: &[i32],
     post_words: usize,
     atom_words: usize,
 ) -> u32
-    requires { ⌜ WholeOrders (now first) (now second) ⌝ }
-    ensures { λ r. ⌜ r ≡ runNumber (recordOf n (now (durations .entry)) (now (first .entry)) (now (second .entry)) total) (now (earliest .entry)) (now (latest .entry)) «post_words» «atom_words» ⌝ }
+    ensures { λ r. ⌜ r ≡ runNumber (recordOf n (now (durations .entry)) total) (now (earliest .entry)) (now (latest .entry)) «post_words» «atom_words» ⌝ }
 {
-    let number = input_refusal(n, durations, first, second, total, earliest, latest);
+    let number = input_refusal(n, durations, total, earliest, latest);
     if number != 0 {
         return number;
     }

@@ -4,7 +4,6 @@ use mathlib.Core.Path.{_≡_, refl}
 use mathlib.Core.List.{List, [], _∷_}
 use lib.IntN.{ℤ, pos, negsuc}
 use Rattle.integers.specs.Filling.{filled}
-use Rattle.integers.specs.Orders.{has, isPermutation}
 use Rattle.integers.specs.Tests.{allBelow, refusal}
 use Rattle.integers.specs.Extremes.{minℤ, maxℤ}
 use Rattle.scheduling.specs.Scheduling.{total}
@@ -44,17 +43,17 @@ from-last = refl
 
 -- the limits of 23, which is tried after 14
 longest : stretchNumber two starts starts (pos 400000000) ≡ 0
-unfolding two starts refusal lawfulRecord isPermutation allBelow unusedAt has filled total
+unfolding two starts refusal lawfulRecord allBelow unusedAt filled total
 longest = refl
 
 too-long : stretchNumber two starts starts (pos 400000001) ≡ 23
-unfolding two starts refusal lawfulRecord isPermutation allBelow unusedAt has filled total
+unfolding two starts refusal lawfulRecord allBelow unusedAt filled total
 too-long = refl
 
 no-time : stretchNumber two starts starts (pos 0) ≡ 23
-unfolding two starts refusal lawfulRecord isPermutation allBelow unusedAt has filled total
+unfolding two starts refusal lawfulRecord allBelow unusedAt filled total
 no-time = refl
 
 overlap : stretchNumber two (pos 1 ∷ pos 1 ∷ []) (pos 1 ∷ pos 1 ∷ []) (pos 0) ≡ 14
-unfolding two refusal lawfulRecord isPermutation allBelow unusedAt has filled total
+unfolding two refusal lawfulRecord allBelow unusedAt filled total
 overlap = refl

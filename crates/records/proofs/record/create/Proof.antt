@@ -48,16 +48,13 @@ cast-total c =
     let m = made (c .before .before .before) in
     record { fits = omega (arith, m .sum, c .total-of .ensures, ap (λ (l : List ℕ). total (λ k. getD l k 0) (length ds)) (c .before .before .durations-of .ensures)) }
 
-identity-requires : tie.Need-identity-requires
-identity-requires c κs = made (c .before .before .before) .few
-
 returns-2 : tie.Need-returns-2
 returns-2 c =
-    let ds = c .before .before .before .before .before .before .args .durations .now in
-    let d = c .before .before .before .durations-of .ensures in
-    let sum = c .before .total-of .ensures ∙ ap (λ (l : List ℕ). total (λ k. getD l k 0) (length ds)) d ∙ same-sum ds (made (c .before .before .before .before) .few) in
-    let new = created-new ds (none (c .before .before .before .before)) in
-    numbered ds _ (cc (d, sum, c .identity .ensures, new))
+    let ds = c .before .before .before .before .before .args .durations .now in
+    let d = c .before .before .durations-of .ensures in
+    let sum = c .total-of .ensures ∙ ap (λ (l : List ℕ). total (λ k. getD l k 0) (length ds)) d ∙ same-sum ds (made (c .before .before .before) .few) in
+    let new = created-new ds (none (c .before .before .before)) in
+    numbered ds _ (cc (d, sum, new))
 
 pub create-spec : {M : Type 1} → statement M
 create-spec =
@@ -69,5 +66,4 @@ create-spec =
     durations-of-requires
     total-of-requires
     cast-total
-    identity-requires
     returns-2)

@@ -1,3 +1,5 @@
+-- `lawful`: the tests in their order; the last is that of the unused places, where those before it are passed.
+-- Assumes nothing.
 use mathlib.Core.Path.{_≡_, sym, _∙_}
 use mathlib.Core.Bool.{true}
 use Prim.Native.Nat.{ℕ, _≤_}
@@ -50,32 +52,18 @@ returns-4 c =
     let args = c .before .before .before .before .before .before .before .args in
     sym (unlawful _ (λ p. absurd (omega (arith, c .if4 .taken, summed (c .before), leb-true (total (λ k. getD (args .durations .now) k 0) (args .n)) DURATIONS (p .summed)))))
 
-permutation-requires : tie.Need-permutation-requires
-permutation-requires c κs = (few (c .before .before .before .before .before), c .before .before .before .before .before .before .before .pre .one)
+unused-zero-requires : tie.Need-unused-zero-requires
+unused-zero-requires c κs = few (c .before .before .before .before .before)
 
 returns-5 : tie.Need-returns-5
-returns-5 c = sym (unlawful _ (λ p. clash (p .first) (sym (c .before .permutation .ensures) ∙ not-true _ (c .if5 .taken))))
-
-permutation-requires-2 : tie.Need-permutation-requires-2
-permutation-requires-2 c κs = (few (c .before .before .before .before .before .before .before), c .before .before .before .before .before .before .before .before .before .pre .other)
-
-returns-6 : tie.Need-returns-6
-returns-6 c = sym (unlawful _ (λ p. clash (p .second) (sym (c .before .permutation2 .ensures) ∙ not-true _ (c .if6 .taken))))
-
-unused-zero-requires : tie.Need-unused-zero-requires
-unused-zero-requires c κs = few (c .before .before .before .before .before .before .before .before .before)
-
-returns-7 : tie.Need-returns-7
-returns-7 c =
-    let args = c .before .before .before .before .before .before .before .before .before .before .before .before .args in
+returns-5 c =
+    let args = c .before .before .before .before .before .before .before .before .args in
     c .unused-zero .ensures
     ∙ sym (last-test _
-    (counted (c .before .before .before .before .before .before .before .before .before .before))
-    (sym (c .before .before .before .before .before .before .before .before .before .all-last .ensures) ∙ not-false _ (c .before .before .before .before .before .before .before .before .if2 .left))
-    (le-leb (total (λ k. getD (args .durations .now) k 0) (args .n)) DURATIONS (omega (arith, c .before .before .before .before .before .if4 .left, summed (c .before .before .before .before .before .before))))
-    (stored (c .before .before .before .before .before .before))
-    (sym (c .before .before .before .before .permutation .ensures) ∙ not-false _ (c .before .before .before .if5 .left))
-    (sym (c .before .before .permutation2 .ensures) ∙ not-false _ (c .before .if6 .left)))
+    (counted (c .before .before .before .before .before .before))
+    (sym (c .before .before .before .before .before .all-last .ensures) ∙ not-false _ (c .before .before .before .before .if2 .left))
+    (le-leb (total (λ k. getD (args .durations .now) k 0) (args .n)) DURATIONS (omega (arith, c .before .if4 .left, summed (c .before .before))))
+    (stored (c .before .before)))
 
 pub lawful-spec : {M : Type 1} → statement M
 lawful-spec =
@@ -88,9 +76,5 @@ lawful-spec =
     total-true-requires
     returns-3
     returns-4
-    permutation-requires
-    returns-5
-    permutation-requires-2
-    returns-6
     unused-zero-requires
-    returns-7)
+    returns-5)

@@ -8,31 +8,19 @@ use Rattle.records.proofs.record.unused_zero.Statement.{statement}
 use Rattle.records.proofs.record.unused_zero.Tie as tie
 
 abbrev Inv-loop : tie.InvT-loop
-Inv-loop durations first second n used₀ i₀ used i = (n ≤ i) × ((i ≤ 48) × Gathered durations first second n used i)
+Inv-loop durations n used₀ i₀ used i = (n ≤ i) × ((i ≤ 48) × Gathered durations n used i)
 
 abbrev μ-loop : tie.MeasureT-loop
-μ-loop durations first second n used₀ i₀ used i = 48 - i
+μ-loop durations n used₀ i₀ used i = 48 - i
 
 loop-holds : tie.Need-loop-holds Inv-loop μ-loop
-loop-holds c = let a = c .args in (omega arith, (c .pre, gathered-none (a .durations .now) (a .first .now) (a .second .now) (a .n)))
+loop-holds c = let a = c .args in (omega arith, (c .pre, gathered-none (a .durations .now) (a .n)))
 
 mul-with-place : tie.Need-mul-with-place Inv-loop μ-loop
 mul-with-place c = search needs
 
 element-copy-out-with-place : tie.Need-element-copy-out-with-place Inv-loop μ-loop
 element-copy-out-with-place c = search needs
-
-mul-with-place-2 : tie.Need-mul-with-place-2 Inv-loop μ-loop
-mul-with-place-2 c = search needs
-
-element-copy-out-with-place-2 : tie.Need-element-copy-out-with-place-2 Inv-loop μ-loop
-element-copy-out-with-place-2 c = search needs
-
-mul-with-place-3 : tie.Need-mul-with-place-3 Inv-loop μ-loop
-mul-with-place-3 c = search needs
-
-element-copy-out-with-place-3 : tie.Need-element-copy-out-with-place-3 Inv-loop μ-loop
-element-copy-out-with-place-3 c = search needs
 
 with-place-requires : tie.Need-with-place-requires Inv-loop μ-loop
 with-place-requires c κs = search needs
@@ -45,15 +33,15 @@ loop-less c = search needs
 
 loop-again : tie.Need-loop-again Inv-loop μ-loop
 loop-again c =
-    let a = c .before .before .before .before .before .before .args in
-    let loop = c .before .before .before .before .before .loop in
-    (omega arith, (omega arith, gathered-more (a .durations .now) (a .first .now) (a .second .now) (a .n) (loop .used) (c .with-place .result) (loop .i) (loop .inv .0) (omega arith) (c .with-place .ensures) (loop .inv .1 .1)))
+    let a = c .before .before .before .before .args in
+    let loop = c .before .before .before .loop in
+    (omega arith, (omega arith, gathered-more (a .durations .now) (a .n) (loop .used) (c .with-place .result) (loop .i) (loop .inv .0) (omega arith) (c .with-place .ensures) (loop .inv .1 .1)))
 
 returns : tie.Need-returns Inv-loop μ-loop
 returns c =
     let a = c .before .before .args in
     let loop = c .before .loop in
-    gathered-all (a .durations .now) (a .first .now) (a .second .now) (a .n) (loop .used) (loop .i) (omega arith) (loop .inv .1 .1)
+    gathered-all (a .durations .now) (a .n) (loop .used) (loop .i) (omega arith) (loop .inv .1 .1)
 
 pub unused-zero-spec : {M : Type 1} → statement M
 unused-zero-spec =
@@ -64,10 +52,6 @@ unused-zero-spec =
     loop-holds
     mul-with-place
     element-copy-out-with-place
-    mul-with-place-2
-    element-copy-out-with-place-2
-    mul-with-place-3
-    element-copy-out-with-place-3
     with-place-requires
     add-i
     loop-less
