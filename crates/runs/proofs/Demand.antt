@@ -12,9 +12,10 @@ use lib.ListN.{length, getD}
 use lib.Dec.{leb}
 use borrow.Author.Tests.{leb-true}
 use Rattle.integers.specs.Moments.{moment, Above, zeroAt}
-use Rattle.integers.specs.Orders.{sort, index, Permutes, Ordered}
+use Rattle.integers.specs.Orders.{index, numbers, Ordered}
 use Rattle.integers.proofs.Ints.{ints}
 use Rattle.integers.proofs.Moments.{above-up, more-above, at-moment}
+use Rattle.integers.proofs.Permutations.{numbers-permute}
 use Rattle.integers.proofs.Sorting.{sort-ordered, key-whole, key-chain}
 use Rattle.scheduling.specs.Scheduling.{whole, natural, Tasks, tasksOf, Proper, TaskSet, total, In, processing, completion, EdgeFindingBound, Overloads, Schedule, Done, Conflict}
 use Rattle.scheduling.proofs.Processing.{processing-all}
@@ -22,14 +23,14 @@ use Rattle.scheduling.proofs.Transfer.{sound, done←, conflict←}
 use Rattle.scheduling.specs.Moments.{moments, ByEarliest, ByCompletion}
 use Rattle.scheduling.proofs.Schedules.{conflict-sound}
 use Rattle.runs.specs.Traces.{Post, End, done, overload, emptied, Trace}
-use Rattle.runs.specs.Runs.{run, propagate, byEarliest, byCompletion}
+use Rattle.runs.specs.Runs.{run, propagate, byEarliest, byCompletion, earliestOrder, completionOrder}
 use Rattle.runs.specs.Demand.{Right, PostRight, OverloadRight, post}
 use Rattle.runs.proofs.Steps.{OutOk, run-ok}
 use Rattle.runs.proofs.Good.{all-right}
 
--- What no number turns back: between 1 and 48 tasks, durations of 1 or more with a sum of at most 200,000,000, starts within ±limit, each earliest at most its latest, two permutations.
+-- What no number turns back: between 1 and 48 tasks, durations of 1 or more with a sum of at most 200,000,000, starts within ±limit, each earliest at most its latest.
 -- The caller's limit is 200,000,000; mirrored, such starts are within 400,000,000.
-pub record Accepted (limit : ℕ) (ds : List ℕ) (es ls : List ℤ) (first second : List ℕ) : Type 0 where
+pub record Accepted (limit : ℕ) (ds : List ℕ) (es ls : List ℤ) : Type 0 where
   pub some : 1 ≤ length ds
   pub few : length ds ≤ 48
   pub lasts : (k : ℕ) → k < length ds → 1 ≤ getD ds k 0
@@ -37,8 +38,6 @@ pub record Accepted (limit : ℕ) (ds : List ℕ) (es ls : List ℤ) (first seco
   pub from : (k : ℕ) → k < length ds → Above limit (getD es k (pos 0))
   pub to : (k : ℕ) → k < length ds → getD ls k (pos 0) ≤ℤ pos limit
   pub ranges : (k : ℕ) → k < length ds → getD es k (pos 0) ≤ℤ getD ls k (pos 0)
-  pub first-permutes : Permutes (length ds) first
-  pub second-permutes : Permutes (length ds) second
 
 weaker : (a b : ℤ) → a <ℤ b → a ≤ℤ b
 weaker a b h = omega ints
@@ -81,24 +80,24 @@ module _ (o : ℕ) (Z : Tasks whole) (okz : Proper Z) (deepz : (k : ℕ) → k <
     overloads = out .over;
   }
 
--- the two orders of a run, sorted
-pub by-earliest : (J : Tasks natural) (l : List ℕ) → Permutes (J .count) l → ByEarliest J (λ j. getD (sort (byEarliest J) l) j 0) (λ k. index (sort (byEarliest J) l) k)
-by-earliest J l p =
-    let r : Ordered (J .count) (λ j. getD (sort (byEarliest J) l) j 0) (λ k. index (sort (byEarliest J) l) k) (λ j k. byEarliest J j k ≡ true)
-    = sort-ordered (byEarliest J) (key-whole (J .earliest)) (key-chain (J .earliest)) (J .count) l p in
+-- the two orders of a run
+pub by-earliest : (J : Tasks natural) → ByEarliest J (λ j. getD (earliestOrder J) j 0) (λ k. index (earliestOrder J) k)
+by-earliest J =
+    let r : Ordered (J .count) (λ j. getD (earliestOrder J) j 0) (λ k. index (earliestOrder J) k) (λ j k. byEarliest J j k ≡ true)
+    = sort-ordered (byEarliest J) (key-whole (J .earliest)) (key-chain (J .earliest)) (J .count) (numbers 0 (J .count)) (numbers-permute (J .count)) in
     record { task = r .task; placed = r .placed; there = r .there; back = r .back; sorted = λ s t q h. leb-true _ _ (r .sorted s t q h) }
 
-pub by-completion : (J : Tasks natural) (l : List ℕ) → Permutes (J .count) l → ByCompletion J (λ j. getD (sort (byCompletion J) l) j 0) (λ k. index (sort (byCompletion J) l) k)
-by-completion J l p =
-    let r : Ordered (J .count) (λ j. getD (sort (byCompletion J) l) j 0) (λ k. index (sort (byCompletion J) l) k) (λ j k. byCompletion J j k ≡ true)
-    = sort-ordered (byCompletion J) (λ a b. key-whole (completion J) b a) (λ a b c h k. key-chain (completion J) c b a k h) (J .count) l p in
+pub by-completion : (J : Tasks natural) → ByCompletion J (λ j. getD (completionOrder J) j 0) (λ k. index (completionOrder J) k)
+by-completion J =
+    let r : Ordered (J .count) (λ j. getD (completionOrder J) j 0) (λ k. index (completionOrder J) k) (λ j k. byCompletion J j k ≡ true)
+    = sort-ordered (byCompletion J) (λ a b. key-whole (completion J) b a) (λ a b c h k. key-chain (completion J) c b a k h) (J .count) (numbers 0 (J .count)) (numbers-permute (J .count)) in
     record { task = r .task; placed = r .placed; there = r .there; back = r .back; sorted = λ s t q h. leb-true _ _ (r .sorted s t q h) }
 
 -- within a limit that leaves room before the least moment for all durations
-pub demand-3 : (limit : ℕ) → limit ≤ 400000000 → (ds : List ℕ) (es ls : List ℤ) (first second : List ℕ) → Accepted limit ds es ls first second → Right (tasksOf ds es ls) (propagate ds es ls first second)
+pub demand-3 : (limit : ℕ) → limit ≤ 400000000 → (ds : List ℕ) (es ls : List ℤ) → Accepted limit ds es ls → Right (tasksOf ds es ls) (propagate ds es ls)
 unfolding propagate
-demand-3 limit near ds es ls first second a =
-    run-right zeroAt (tasksOf ds es ls) okz deepz (a .some) room (sort (byEarliest J) first) (sort (byCompletion J) second) (by-earliest J first (a .first-permutes)) (by-completion J second (a .second-permutes))
+demand-3 limit near ds es ls a =
+    run-right zeroAt (tasksOf ds es ls) okz deepz (a .some) room (earliestOrder J) (completionOrder J) (by-earliest J) (by-completion J)
   where
     J : Tasks natural
     J = moments zeroAt (tasksOf ds es ls)

@@ -18,10 +18,10 @@ use Rattle.scheduling.proofs.Sets.{_less_}
 use Rattle.scheduling.proofs.Cards.{card, card-less, card-zero, card-same}
 use Rattle.scheduling.specs.Moments.{moments, ByEarliest}
 use Rattle.integers.specs.Moments.{zeroAt}
-use Rattle.integers.specs.Orders.{sort, index}
+use Rattle.integers.specs.Orders.{index}
 use Rattle.trees.specs.Leaves.{Leaf, empty, white, sum, theta, inTheta, inLambda, whiteAt, grayAt, ect, ect-bar, responsible}
 use Rattle.runs.specs.Traces.{done, overload, emptied}
-use Rattle.runs.specs.Runs.{State, Turn, on, stop, inner, outer, run, ended, grayed, tabulate, conflict, posted, raised, dropped, lct, byEarliest, byCompletion, propagate}
+use Rattle.runs.specs.Runs.{State, Turn, on, stop, inner, outer, run, ended, grayed, tabulate, conflict, posted, raised, dropped, lct, earliestOrder, completionOrder, propagate}
 use Rattle.trees.proofs.Roots as tree
 
 -- a leaf is found or not, and the inner loop goes on or stops
@@ -133,10 +133,9 @@ module _ (o : ℕ) (J : Tasks natural) (ok : Proper J) (first second : List ℕ)
           (fewer (st .leaves) q f (w .0) (tree.one-found J ok first rk (st .leaves) (λ k. whiteAt (st .leaves) (index first k)) (lam (st .leaves)) (shape (st .leaves) q) (w .0) (w .1)) few)
 
 -- the whole run's definition, and the outer loop's clauses
-pub propagate-is : (ds : List ℕ) (es ls : List ℤ) (first second : List ℕ)
-    → let J = moments zeroAt (tasksOf ds es ls) in propagate ds es ls first second ≡ run zeroAt J (sort (byEarliest J) first) (sort (byCompletion J) second)
+pub propagate-is : (ds : List ℕ) (es ls : List ℤ) → let J = moments zeroAt (tasksOf ds es ls) in propagate ds es ls ≡ run zeroAt J (earliestOrder J) (completionOrder J)
 unfolding propagate
-propagate-is ds es ls first second = refl
+propagate-is ds es ls = refl
 
 module _ (o : ℕ) (J : Tasks natural) (first second : List ℕ) where
   pub run-is : run o J first second ≡ outer o J first second (J .count - 1) 0 (record { leaves = replicate (J .count) white; starts = tabulate (J .earliest) 0 (J .count); posts = [] })

@@ -14,11 +14,9 @@ use mir.Syntax.{w32}
 use mir.Val.{SFits}
 use Rattle.integers.specs.Filling.{filled}
 use Rattle.integers.specs.Moments.{Above, instant, zeroAt}
-use Rattle.integers.specs.Orders.{numbers, sort}
 use Rattle.integers.proofs.Filling.{getD-map-in, filled-none, filled-more, filled-length, filled-past, filled-at, filled-all}
 use Rattle.integers.proofs.Ints.{up, dn, ints, sumℤ, sub-law, fits-show}
 use Rattle.integers.proofs.Moments.{above-show, at-moment, more-above}
-use Rattle.integers.proofs.Permutations.{numbers-permute}
 use Rattle.scheduling.specs.Scheduling.{whole, natural, Tasks, tasksOf, Proper, Atom, Every, PassesWith, PassesAlone}
 use Rattle.scheduling.specs.Words.{atomWords, no-atom}
 use Rattle.scheduling.specs.Mirroring.{mirrorStart, mirror, mirrorKind, mirrorAtom, mirrorAtoms, MirroredDone}
@@ -29,7 +27,7 @@ use Rattle.scheduling.proofs.Transfer.{sound}
 use Rattle.scheduling.specs.Moments.{moments}
 use Rattle.scheduling.proofs.Words.{Three, three-words, atoms-length, atom-set}
 use Rattle.runs.specs.Traces.{Post, End, done, overload, emptied, Trace}
-use Rattle.runs.specs.Runs.{byEarliest, byCompletion}
+use Rattle.runs.specs.Runs.{earliestOrder, completionOrder}
 use Rattle.runs.specs.Demand.{Right, PostRight, OverloadRight, consequentOf, no-post, post}
 use Rattle.runs.specs.Words.{postWords, reasons, endReason, atomsIn, postsAfter, atomsAfter}
 use Rattle.runs.specs.MirroredWords.{Near, postsTo, atomsTo}
@@ -190,7 +188,7 @@ unfolding up dn
 near-fits n p a h r = fits-show w32 (mirrorStart p (a .value)) (omega (ints, at-mirror p (a .value), at-moment 1400000000 (a .value) (r .low), r .high)) (omega (ints, at-mirror p (a .value), at-moment 1400000000 (a .value) (r .low), r .high))
 
 -- What the caller lends, mirrored, is accepted with the wider limit.
-module _ (ds : List ℕ) (es ls : List ℤ) (first second : List ℕ) (a : Accepted 200000000 ds es ls first second) (long-es : length es ≡ length ds) (long-ls : length ls ≡ length ds) where
+module _ (ds : List ℕ) (es ls : List ℤ) (a : Accepted 200000000 ds es ls) (long-es : length es ≡ length ds) (long-ls : length ls ≡ length ds) where
   -- what the run is called with
   abbrev early : List ℤ
   early = mirrorStarts ds ls
@@ -198,13 +196,10 @@ module _ (ds : List ℕ) (es ls : List ℤ) (first second : List ℕ) (a : Accep
   abbrev late : List ℤ
   late = mirrorStarts ds es
 
-  abbrev order : List ℕ
-  order = numbers 0 (length ds)
-
   lasting : (k : ℕ) → k < length ds → getD ds k 0 ≤ 200000000
   lasting k q = let N = moments zeroAt (tasksOf ds es ls) in omega (arith, a .sum, processing-all N, processing-less N (λ _. true) k (record { small = q; mem = refl }))
 
-  pub mirrored-accepted : Accepted 400000000 ds (mirrorStarts ds ls) (mirrorStarts ds es) (numbers 0 (length ds)) (numbers 0 (length ds))
+  pub mirrored-accepted : Accepted 400000000 ds (mirrorStarts ds ls) (mirrorStarts ds es)
   mirrored-accepted = record {
     some = a .some;
     few = a .few;
@@ -214,40 +209,38 @@ module _ (ds : List ℕ) (es ls : List ℤ) (first second : List ℕ) (a : Accep
     to = λ k q. subst (λ (z : ℤ). z ≤ℤ pos 400000000) (sym (mirror-at ds es long-es k)) (high (getD ds k 0) (getD es k (pos 0)) (a .from k q));
     ranges = λ k q. subst (λ (z : ℤ). z ≤ℤ getD (mirrorStarts ds es) k (pos 0)) (sym (mirror-at ds ls long-ls k))
         (subst (λ (z : ℤ). mirrorStart (getD ds k 0) (getD ls k (pos 0)) ≤ℤ z) (sym (mirror-at ds es long-es k)) (start-falls (getD ds k 0) (getD es k (pos 0)) (getD ls k (pos 0)) (a .ranges k q)));
-    first-permutes = numbers-permute (length ds);
-    second-permutes = numbers-permute (length ds);
   }
 
   pub mirrored-right : MirroredRight (tasksOf ds es ls) (mirroredPass ds es ls)
-  mirrored-right = right-mirrored ds es ls (mirroredRun ds es ls) (starts-length ds early late order order)
+  mirrored-right = right-mirrored ds es ls (mirroredRun ds es ls) (starts-length ds early late)
       (subst (λ (K : Tasks whole). Right K (mirroredRun ds es ls)) (mirror-tasks ds es ls long-es long-ls)
-      (demand-3 400000000 (omega arith) ds early late order order mirrored-accepted))
+      (demand-3 400000000 (omega arith) ds early late mirrored-accepted))
 
   -- However the pass ends, each latest start that it leaves is in its task's range,
   pub latest-between : (k : ℕ) → k < length ds → (getD es k (pos 0) ≤ℤ getD (mirroredPass ds es ls .starts) k (pos 0)) × (getD (mirroredPass ds es ls .starts) k (pos 0) ≤ℤ getD ls k (pos 0))
   latest-between k q =
-      let h = starts-between ds early late order order 400000000 (omega arith) mirrored-accepted k q in
+      let h = starts-between ds early late 400000000 (omega arith) mirrored-accepted k q in
       let d : ℕ = getD ds k 0 in
       let s : ℤ = getD (mirroredRun ds es ls .starts) k (pos 0) in
-      subst (λ (z : ℤ). (getD es k (pos 0) ≤ℤ z) × (z ≤ℤ getD ls k (pos 0))) (sym (mirror-at ds (mirroredRun ds es ls .starts) (starts-length ds early late order order) k)) (
+      subst (λ (z : ℤ). (getD es k (pos 0) ≤ℤ z) × (z ≤ℤ getD ls k (pos 0))) (sym (mirror-at ds (mirroredRun ds es ls .starts) (starts-length ds early late) k)) (
         above d (getD es k (pos 0)) s (subst (λ (z : ℤ). s ≤ℤ z) (mirror-at ds es long-es k) (h .1)),
         below d (getD ls k (pos 0)) s (subst (λ (z : ℤ). z ≤ℤ s) (mirror-at ds ls long-ls k) (h .0)),
       )
 
   -- and the run's bounds and reasons are near, so that they can be mirrored in words.
   pub post-near : (j : ℕ) → j < length (mirroredRun ds es ls .posts) → Near (length ds) (consequentOf (post (mirroredRun ds es ls) j))
-  post-near j q = shaped-near (length ds) (consequentOf (post (mirroredRun ds es ls) j)) (post-shaped 400000000 (omega arith) ds early late order order mirrored-accepted j q .says)
+  post-near j q = shaped-near (length ds) (consequentOf (post (mirroredRun ds es ls) j)) (post-shaped 400000000 (omega arith) ds early late mirrored-accepted j q .says)
 
   pub atoms-near : Every (Near (length ds)) (reasons (mirroredRun ds es ls .posts) ++ endReason (mirroredRun ds es ls .end))
   atoms-near = every-append (Near (length ds)) (reasons (mirroredRun ds es ls .posts)) (endReason (mirroredRun ds es ls .end))
       (all-reasons (Near (length ds)) (mirroredRun ds es ls .posts) (λ j q. all-near (length ds) (post (mirroredRun ds es ls) j .reason)
-      (post-shaped 400000000 (omega arith) ds early late order order mirrored-accepted j q .because)))
+      (post-shaped 400000000 (omega arith) ds early late mirrored-accepted j q .because)))
       (ended (mirroredRun ds es ls .end) refl)
     where
       ended : (e : End) → mirroredRun ds es ls .end ≡ e → Every (Near (length ds)) (endReason e)
       ended done z = tt
       ended (overload r) z = all-near (length ds) r
-          (overload-shaped 400000000 (omega arith) ds early late order order mirrored-accepted r z .because)
+          (overload-shaped 400000000 (omega arith) ds early late mirrored-accepted r z .because)
       ended emptied z = tt
 
   -- They fit the lent slices as a run's do.
@@ -259,12 +252,12 @@ module _ (ds : List ℕ) (es ls : List ℤ) (first second : List ℕ) (a : Accep
       (λ k q. more-above 400000000 zeroAt (omega arith) (getD early k (pos 0)) (mirrored-accepted .from k q))
 
   pub mirrored-posts-fit : length (postWords 0 (mirroredRun ds es ls .posts)) ≤ 4 * length ds
-  mirrored-posts-fit = subst (λ (t : Trace). length (postWords 0 (t .posts)) ≤ 4 * length ds) (sym (propagate-is ds early late order order))
-      (posts-fit zeroAt N proper (sort (byEarliest N) order) (sort (byCompletion N) order) (by-earliest N order (numbers-permute (length ds))) (by-completion N order (numbers-permute (length ds))) (a .some))
+  mirrored-posts-fit = subst (λ (t : Trace). length (postWords 0 (t .posts)) ≤ 4 * length ds) (sym (propagate-is ds early late))
+      (posts-fit zeroAt N proper (earliestOrder N) (completionOrder N) (by-earliest N) (by-completion N) (a .some))
 
   pub mirrored-atoms-fit : length (atomWords (reasons (mirroredRun ds es ls .posts) ++ endReason (mirroredRun ds es ls .end))) ≤ 6 * (length ds * length ds)
-  mirrored-atoms-fit = subst (λ (t : Trace). length (atomWords (reasons (t .posts) ++ endReason (t .end))) ≤ 6 * (length ds * length ds)) (sym (propagate-is ds early late order order))
-      (atoms-fit zeroAt N proper (sort (byEarliest N) order) (sort (byCompletion N) order) (by-earliest N order (numbers-permute (length ds))) (by-completion N order (numbers-permute (length ds))) (a .some))
+  mirrored-atoms-fit = subst (λ (t : Trace). length (atomWords (reasons (t .posts) ++ endReason (t .end))) ≤ 6 * (length ds * length ds)) (sym (propagate-is ds early late))
+      (atoms-fit zeroAt N proper (earliestOrder N) (completionOrder N) (by-earliest N) (by-completion N) (a .some))
 
 -- Words ------------------------------------------------------------------------------------------------------------------------
 

@@ -25,7 +25,7 @@ use Rattle.trees.specs.Leaves as leaves
 use Rattle.trees.proofs.Roots as tree
 use Rattle.runs.specs.Traces.{Post, Trace, overload}
 use Rattle.runs.specs.Demand.{consequentOf, post}
-use Rattle.runs.specs.Runs.{atLeast, atMost, within, conflict, conflict-of, bounds, propagation, propagation-of, propagate, byEarliest, byCompletion}
+use Rattle.runs.specs.Runs.{atLeast, atMost, within, conflict, conflict-of, bounds, propagation, propagation-of, propagate, earliestOrder, completionOrder}
 use Rattle.runs.proofs.Demand.{Accepted, by-earliest, by-completion}
 use Rattle.runs.proofs.Room as room
 use Rattle.runs.proofs.Steps.{Measure, OutOk, run-ok}
@@ -179,9 +179,9 @@ module _ (o : ℕ) (J : Tasks natural) (ok : Proper J) (low high d : ℕ) (early
     }
 
 -- Of an accepted run: its starts lie within ±limit, and the durations sum to at most 200,000,000.
-module _ (limit : ℕ) (near : limit ≤ 400000000) (ds : List ℕ) (es ls : List ℤ) (first second : List ℕ) (a : Accepted limit ds es ls first second) where
+module _ (limit : ℕ) (near : limit ≤ 400000000) (ds : List ℕ) (es ls : List ℤ) (a : Accepted limit ds es ls) where
   abbrev tr : Trace
-  tr = propagate ds es ls first second
+  tr = propagate ds es ls
 
   abbrev J : Tasks natural
   J = moments zeroAt (tasksOf ds es ls)
@@ -213,11 +213,11 @@ module _ (limit : ℕ) (near : limit ≤ 400000000) (ds : List ℕ) (es ls : Lis
   abbrev End′ : List Atom → Type 0
   End′ = ShapedEnd zeroAt (length ds) least greatest 200000000
 
-  out : OutOk zeroAt J proper (sort (byEarliest J) first) (sort (byCompletion J) second) (by-earliest J first (a .first-permutes)) (by-completion J second (a .second-permutes)) Post′ End′
-      (shaped zeroAt J proper least greatest 200000000 from to short (sort (byEarliest J) first) (sort (byCompletion J) second) (by-earliest J first (a .first-permutes)) (by-completion J second (a .second-permutes))) tr
+  out : OutOk zeroAt J proper (earliestOrder J) (completionOrder J) (by-earliest J) (by-completion J) Post′ End′
+      (shaped zeroAt J proper least greatest 200000000 from to short (earliestOrder J) (completionOrder J) (by-earliest J) (by-completion J)) tr
   unfolding propagate
-  out = run-ok zeroAt J proper (sort (byEarliest J) first) (sort (byCompletion J) second) (by-earliest J first (a .first-permutes)) (by-completion J second (a .second-permutes)) Post′ End′
-      (shaped zeroAt J proper least greatest 200000000 from to short (sort (byEarliest J) first) (sort (byCompletion J) second) (by-earliest J first (a .first-permutes)) (by-completion J second (a .second-permutes))) (a .some)
+  out = run-ok zeroAt J proper (earliestOrder J) (completionOrder J) (by-earliest J) (by-completion J) Post′ End′
+      (shaped zeroAt J proper least greatest 200000000 from to short (earliestOrder J) (completionOrder J) (by-earliest J) (by-completion J)) (a .some)
 
   pub post-shaped : (j : ℕ) → j < length (tr .posts) → ShapedPost zeroAt (length ds) (zeroAt - limit) (zeroAt + limit) 200000000 (post tr j)
   post-shaped = out .goods

@@ -23,7 +23,7 @@ use Rattle.scheduling.specs.Scheduling.{natural, Tasks, tasksOf}
 use Rattle.scheduling.specs.Moments.{moments}
 use Rattle.trees.specs.Leaves.{ect, ect-bar, responsible}
 use Rattle.runs.specs.Traces.{Trace}
-use Rattle.runs.specs.Runs.{State, Turn, on, stop, inner, outer, run, lct, grayed, dropped, raised, posted, tabulate, propagate, byEarliest, byCompletion}
+use Rattle.runs.specs.Runs.{State, Turn, on, stop, inner, outer, run, lct, grayed, dropped, raised, posted, tabulate, propagate, earliestOrder, completionOrder}
 use Rattle.runs.proofs.Demand.{Accepted}
 use Rattle.runs.proofs.Fuel.{opt, turn, inner-end, inner-off, inner-none, inner-pass, inner-stop, inner-raise, propagate-is, run-is, outer-end, outer-over, outer-on, outer-stop}
 use Rattle.runs.proofs.Tables.{tab-length, tab-at}
@@ -85,19 +85,19 @@ module _ (o : ℕ) (J : Tasks natural) (first second : List ℕ) (P : List ℕ �
   run-keeps : P (tabulate (J .earliest) 0 (J .count)) → Left (run o J first second)
   run-keeps h = subst Left (sym (run-is o J first second)) (outer-keeps (J .count - 1) 0 _ h)
 
-module _ (ds : List ℕ) (es ls : List ℤ) (first second : List ℕ) where
+module _ (ds : List ℕ) (es ls : List ℤ) where
   abbrev J : Tasks natural
   J = moments zeroAt (tasksOf ds es ls)
 
   abbrev tr : Trace
-  tr = propagate ds es ls first second
+  tr = propagate ds es ls
 
   keeps : (P : List ℕ → Type 0) → ((l : List ℕ) (i b : ℕ) → J .earliest i < b → b ≤ J .latest i → P l → P (set l i b)) → P (tabulate (J .earliest) 0 (length ds))
       → (l : List ℕ) × (tr .starts ≡ map (instant zeroAt) l) × P l
-  keeps P raises h = subst (λ (r : Trace). (l : List ℕ) × (r .starts ≡ map (instant zeroAt) l) × P l) (sym (propagate-is ds es ls first second))
-      (run-keeps zeroAt J (sort (byEarliest J) first) (sort (byCompletion J) second) P raises h)
+  keeps P raises h = subst (λ (r : Trace). (l : List ℕ) × (r .starts ≡ map (instant zeroAt) l) × P l) (sym (propagate-is ds es ls))
+      (run-keeps zeroAt J (earliestOrder J) (completionOrder J) P raises h)
 
-  pub starts-length : length (propagate ds es ls first second .starts) ≡ length ds
+  pub starts-length : length (propagate ds es ls .starts) ≡ length ds
   starts-length =
       let (l, e, h) = keeps (λ l. length l ≡ length ds) (λ l i b p q h. length-set l i b ∙ h) (tab-length (J .earliest) 0 (length ds)) in
       ap length e ∙ length-map l (instant zeroAt) ∙ h
@@ -121,7 +121,7 @@ module _ (ds : List ℕ) (es ls : List ℤ) (first second : List ℕ) where
     to = λ k r. at (λ k v. v ≤ J .latest k) l i b q k (omega (arith, h .long)) (h .to k r);
   }
 
-  module _ (limit : ℕ) (near : limit ≤ 400000000) (a : Accepted limit ds es ls first second) where
+  module _ (limit : ℕ) (near : limit ≤ 400000000) (a : Accepted limit ds es ls) where
     above : (k : ℕ) → k < length ds → Above zeroAt (getD es k (pos 0))
     above k q = more-above limit zeroAt (omega arith) (getD es k (pos 0)) (a .from k q)
 
@@ -136,7 +136,7 @@ module _ (ds : List ℕ) (es ls : List ℤ) (first second : List ℕ) where
     }
 
     pub starts-between : (k : ℕ) → k < length ds
-        → (getD es k (pos 0) ≤ℤ getD (propagate ds es ls first second .starts) k (pos 0)) × (getD (propagate ds es ls first second .starts) k (pos 0) ≤ℤ getD ls k (pos 0))
+        → (getD es k (pos 0) ≤ℤ getD (propagate ds es ls .starts) k (pos 0)) × (getD (propagate ds es ls .starts) k (pos 0) ≤ℤ getD ls k (pos 0))
     starts-between k q =
         let (l, e, h) = keeps Between raised-between entry in
         let is : getD (tr .starts) k (pos 0) ≡ instant zeroAt (getD l k 0) = ap (λ (m : List ℤ). getD m k (pos 0)) e ∙ getD-map-in (instant zeroAt) l k 0 (pos 0) (omega (arith, h .long)) in

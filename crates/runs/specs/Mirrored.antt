@@ -1,4 +1,4 @@
--- The mirrored pass: a run on mirrored tasks from the orders 0 to n − 1, told in the caller's time; and what it must be.
+-- The mirrored pass: a run on mirrored tasks, told in the caller's time; and what it must be.
 use mathlib.Core.Path.{_≡_}
 use mathlib.Core.Logic.{_↔_}
 use mathlib.Core.List.{List, [], _∷_, map}
@@ -6,7 +6,6 @@ use Prim.Native.Nat.{ℕ, _<_}
 use lib.IntN.{ℤ, pos}
 use lib.Signed.{_≤ℤ_, _<ℤ_}
 use lib.ListN.{length, getD}
-use Rattle.integers.specs.Orders.{numbers}
 use Rattle.scheduling.specs.Scheduling.{whole, Tasks, Schedule, Atom, HoldsAtEntry, PassesWith, PassesAlone}
 use Rattle.scheduling.specs.Mirroring.{mirrorStart, mirror, mirrorAtom, mirrorAtoms, MirroredBound, MirroredConflict, MirroredDone}
 use Rattle.runs.specs.Traces.{Post, End, done, overload, emptied, Trace}
@@ -35,11 +34,11 @@ module _ (ds : List ℕ) where
 
   -- a trace in the caller's time: its starts are the latest starts
   abbrev pub mirrorTrace : Trace → Trace
-  mirrorTrace t = record { posts = map mirrorPost (t .posts); end = mirrorEnd (t .end); starts = mirrorStarts ds (t .starts); first = t .first; second = t .second }
+  mirrorTrace t = record { posts = map mirrorPost (t .posts); end = mirrorEnd (t .end); starts = mirrorStarts ds (t .starts) }
 
 -- the run on mirrored tasks, in mirrored time
 abbrev pub mirroredRun : List ℕ → List ℤ → List ℤ → Trace
-mirroredRun ds es ls = propagate ds (mirrorStarts ds ls) (mirrorStarts ds es) (numbers 0 (length ds)) (numbers 0 (length ds))
+mirroredRun ds es ls = propagate ds (mirrorStarts ds ls) (mirrorStarts ds es)
 
 -- the pass on tasks with the ranges es to ls
 abbrev pub mirroredPass : List ℕ → List ℤ → List ℤ → Trace

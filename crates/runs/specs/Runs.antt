@@ -10,7 +10,7 @@ use lib.IntN.{ℤ}
 use lib.Dec.{eqb, leb, ltb}
 use lib.ListN.{length, getD, set, replicate}
 use Rattle.integers.specs.Moments.{instant, zeroAt}
-use Rattle.integers.specs.Orders.{sort, index}
+use Rattle.integers.specs.Orders.{sort, index, numbers}
 use Rattle.scheduling.specs.Scheduling.{natural, Tasks, tasksOf, completion, Atom}
 use Rattle.scheduling.specs.Moments.{moments}
 use Rattle.trees.specs.Leaves.{Leaf, empty, white, gray, taskAt, ect, ect-bar, sum, responsible, theta}
@@ -130,7 +130,7 @@ module _ (o : ℕ) (J : Tasks natural) (first second : List ℕ) where
   ]
 
   abbrev pub ended : State → End → Trace
-  ended st end = record { posts = st .posts; end = end; starts = map (instant o) (st .starts); first = first; second = second }
+  ended st end = record { posts = st .posts; end = end; starts = map (instant o) (st .starts) }
 
   -- while index < tasks.len() - 1
   unfoldable pub outer : ℕ → ℕ → State → Trace
@@ -154,7 +154,14 @@ byEarliest J j k = leb (J .earliest j) (J .earliest k)
 abbrev pub byCompletion : Tasks natural → ℕ → ℕ → Bool
 byCompletion J j k = leb (completion J k) (completion J j)
 
-unfoldable pub propagate : List ℕ → List ℤ → List ℤ → List ℕ → List ℕ → Trace
-propagate ds es ls first second =
+-- the tasks by earliest start, least first, and by latest completion, greatest first; ties go to the lower number
+abbrev pub earliestOrder : Tasks natural → List ℕ
+earliestOrder J = sort (byEarliest J) (numbers 0 (J .count))
+
+abbrev pub completionOrder : Tasks natural → List ℕ
+completionOrder J = sort (byCompletion J) (numbers 0 (J .count))
+
+unfoldable pub propagate : List ℕ → List ℤ → List ℤ → Trace
+propagate ds es ls =
     let J = moments zeroAt (tasksOf ds es ls) in
-    run zeroAt J (sort (byEarliest J) first) (sort (byCompletion J) second)
+    run zeroAt J (earliestOrder J) (completionOrder J)

@@ -1,4 +1,4 @@
--- What a run leaves: its posts with their reasons, how it ended, the earliest starts and the two orders.
+-- What a run leaves: its posts with their reasons, how it ended, and the earliest starts.
 use mathlib.Core.List.{List}
 use Prim.Native.Nat.{ℕ}
 use lib.IntN.{ℤ}
@@ -20,5 +20,3 @@ pub record Trace : Type 0 where
   pub posts : List Post
   pub end : End
   pub starts : List ℤ
-  pub first : List ℕ
-  pub second : List ℕ
