@@ -9,17 +9,15 @@ use native.Mathlib.Omega.{arith}
 use lib.Dec.{leb}
 use lib.IntN.{ℤ, pos, negsuc}
 use lib.Signed.{leZ, _≤ℤ_}
-use lib.ListN.{length, getD, take, length-map}
-use lib.Seq.{length-take-le, getD-take}
+use lib.ListN.{length, getD, length-map}
 use borrow.Author.Tests.{leb-true, le-leb}
 use Rattle.integers.specs.Limits.{TASKS, DURATIONS}
 use Rattle.integers.specs.Filling.{filled}
-use Rattle.integers.specs.Orders.{has, Permutes, numbers}
+use Rattle.integers.specs.Orders.{has}
 use Rattle.integers.specs.Tests.{Test, test, allBelow, refusal, AllPassed}
 use Rattle.integers.proofs.Bools.{clash, and-true}
-use Rattle.integers.proofs.Filling.{filled-at, filled-past, filled-length, getD-fresh}
+use Rattle.integers.proofs.Filling.{filled-at, filled-past, getD-fresh}
 use Rattle.integers.proofs.Ints.{leZ-true, le-leZ}
-use Rattle.integers.proofs.Permutations.{own-numbers, numbers-permute}
 use Rattle.integers.proofs.Tests.{all-at, all-show, all-ext, accepts, accepted, ground, refuses, broken}
 use Rattle.scheduling.specs.Scheduling.{total}
 use Rattle.scheduling.proofs.Sets.{total-ext}
@@ -27,15 +25,6 @@ use Rattle.records.specs.declared.record.Creation.the-variants.{Accepted
 use Rattle.records.specs.Orders.{noTasks}
 use Rattle.records.specs.Records.{countFits, sumFits, lastsAt, Lawful, durationOf, durationAt, positiveAt, creationTests, newRecord, zeroRecord, creationNumber, created, createdAt}
 use Rattle.records.proofs.Lawful.{count-is}
-
--- the order 0 to n − 1, as `identity` gives it
-pub own-front : (n : ℕ) → n ≤ TASKS → take n (filled (λ k. k) n noTasks) ≡ numbers 0 n
-own-front n h =
-    let l = filled (λ k. k) n noTasks in
-    own-numbers n (take n l) (length-take-le n l (omega (arith, filled-length (λ k. k) n noTasks))) (λ k q. getD-take n l k 0 q ∙ filled-at (λ k. k) n noTasks 0 k q h)
-
-pub own-order : (n : ℕ) → n ≤ TASKS → Permutes n (take n (filled (λ k. k) n noTasks))
-own-order n h = subst (Permutes n) (sym (own-front n h)) (numbers-permute n)
 
 pub negative : (z : ℤ) → leZ (pos 0) z ≡ false → durationOf z ≡ 0
 negative (pos n) h = clash (le-leb 0 n (omega arith)) h
