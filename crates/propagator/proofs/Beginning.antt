@@ -56,7 +56,7 @@ use Rattle.propagator.specs.Ran.{Runnable, traceOf, Left}
 zeros-long : length noTasks ≡ TASKS
 zeros-long = length-replicate {A = ℕ} 48 0
 
-module _ (r : Propagator) (es ls : List ℤ) (posts atoms : ℕ) (a : Runnable r es ls posts atoms) (long : length (r .durations) ≡ TASKS) (long₁ : length (r .first) ≡ TASKS) (long₂ : length (r .second) ≡ TASKS) where
+module _ (r : Propagator) (es ls : List ℤ) (posts atoms : ℕ) (a : Runnable r es ls posts atoms) (long : length (r .durations) ≡ TASKS) where
   abbrev n : ℕ
   n = r .count
 
@@ -82,7 +82,7 @@ module _ (r : Propagator) (es ls : List ℤ) (posts atoms : ℕ) (a : Runnable r
   sum-is = ap (total (λ k. getD ds k 0)) count ∙ total-ext (λ k. getD ds k 0) (λ k. getD (r .durations) k 0) n lasts-at
 
   -- the same input, as the run's definition accepts it
-  pub accepted : demand.Accepted 400000000 ds es ls (take n (r .first)) (take n (r .second))
+  pub accepted : demand.Accepted 400000000 ds es ls
   accepted = record {
     some = omega (arith, count, a .lawful .some);
     few = omega (arith, count, few);
@@ -91,15 +91,13 @@ module _ (r : Propagator) (es ls : List ℤ) (posts atoms : ℕ) (a : Runnable r
     from = λ k q. a .from k (omega (arith, count));
     to = λ k q. a .to k (omega (arith, count));
     ranges = λ k q. a .ranges k (omega (arith, count, a .counts .earliest));
-    first-permutes = subst (λ (m : ℕ). Permutes m (take n (r .first))) (sym count) (a .lawful .first);
-    second-permutes = subst (λ (m : ℕ). Permutes m (take n (r .second))) (sym count) (a .lawful .second);
   }
 
   abbrev pub first : List ℕ
-  first = sort (byEarliest J) (take (r .count) (r .first))
+  first = earliestOrder J
 
   abbrev pub second : List ℕ
-  second = sort (byCompletion J) (take (r .count) (r .second))
+  second = completionOrder J
 
   -- the arrays
   pub holds-starts : (xs : List ℤ) → length xs ≡ n → Holds n (momentAt xs) (filled (momentAt xs) (length xs) noTasks)
@@ -117,22 +115,12 @@ module _ (r : Propagator) (es ls : List ℤ) (posts atoms : ℕ) (a : Runnable r
     at = λ k q. filled-at (completionAt lst (r .durations)) n noTasks 0 k q (omega (arith, few, zeros-long)) ∙ ap₂ _+_ (h .at k q) (holds-durations .at k q);
   }
 
-  -- an order sorted by an array's keys
-  below : (l : List ℕ) → Permutes n (take n l) → (k : ℕ) → has (take n l) k ≡ true → k < n
-  below l p k h = p .below k h
+  -- an order sorted by an array's keys is that of the tasks
+  pub sorted-first : (est : List ℕ) → Holds n (J .earliest) est → {tasks : List ℕ} → SortedBy (byKey est) n tasks → take n tasks ≡ first
+  sorted-first est h s = sorted-as s (byEarliest J) (λ j k p q. ap₂ leb (h .at j p) (h .at k q)) ∙ ap (λ (m : ℕ). sort (byEarliest J) (numbers 0 m)) (sym count)
 
-  pub order-first : (est : List ℕ) → Holds n (J .earliest) est → sort (byKey est) (take n (r .first)) ≡ first
-  order-first est h = sort-ext (byKey est) (byEarliest J) (take n (r .first)) (λ j k p q. ap₂ leb (h .at j (below (r .first) (a .lawful .first) j p)) (h .at k (below (r .first) (a .lawful .first) k q)))
-
-  pub sorted-first : (est : List ℕ) → Holds n (J .earliest) est → take n (sortedOrder (byKey est) n (r .first)) ≡ first
-  sorted-first est h = sorted-front (byKey est) n (r .first) (omega (arith, few, long₁)) ∙ order-first est h
-
-  pub order-second : (lct : List ℕ) → Holds n (completion J) lct → ((k : ℕ) → k < n → getD lct k 0 ≤ largestKey) → sort (byKey (filled (reversedAt lct) n noTasks)) (take n (r .second)) ≡ second
-  order-second lct h small = sort-reversed lct n (take n (r .second)) few small (below (r .second) (a .lawful .second))
-      ∙ sort-ext (byKeyDown lct) (byCompletion J) (take n (r .second)) (λ j k p q. ap₂ leb (h .at k (below (r .second) (a .lawful .second) k q)) (h .at j (below (r .second) (a .lawful .second) j p)))
-
-  pub sorted-second : (lct : List ℕ) → Holds n (completion J) lct → ((k : ℕ) → k < n → getD lct k 0 ≤ largestKey) → take n (sortedOrder (byKey (filled (reversedAt lct) n noTasks)) n (r .second)) ≡ second
-  sorted-second lct h small = sorted-front (byKey (filled (reversedAt lct) n noTasks)) n (r .second) (omega (arith, few, long₂)) ∙ order-second lct h small
+  pub sorted-second : (lct : List ℕ) → Holds n (completion J) lct → {candidates : List ℕ} → SortedBy (byKeyDown lct) n candidates → take n candidates ≡ second
+  sorted-second lct h s = sorted-as s (byCompletion J) (λ j k p q. ap₂ leb (h .at k q) (h .at j p)) ∙ ap (λ (m : ℕ). sort (byCompletion J) (numbers 0 m)) (sym count)
 
   pub holds-order : (l m : List ℕ) → take n l ≡ m → length l ≡ TASKS → Holds n (λ j. getD m j 0) l
   holds-order l m z size = record { size = size; at = λ k q. sym (getD-take n l k 0 q) ∙ ap (λ (o : List ℕ). getD o k 0) z }
@@ -163,14 +151,14 @@ module _ (r : Propagator) (es ls : List ℤ) (posts atoms : ℕ) (a : Runnable r
   proper = sound zeroAt Z (record { ranges = accepted .ranges; lasts = accepted .lasts }) above
 
   pub by-earliest : ByEarliest J (λ j. getD first j 0) (λ k. index first k)
-  by-earliest = demand.by-earliest J (take n (r .first)) (accepted .first-permutes)
+  by-earliest = demand.by-earliest J
 
   pub ordered : Ordered J first second
   ordered = record {
     proper = proper;
     some = accepted .some;
     by-earliest = by-earliest;
-    by-completion = demand.by-completion J (take n (r .second)) (accepted .second-permutes);
+    by-completion = demand.by-completion J;
     limited = tree.limited J proper first by-earliest (accepted .few) (λ k q. omega (arith, early k q .1, early k q .2)) (omega (arith, accepted .sum));
     room = λ k q. omega (arith, short, early k q .0);
     fits = λ k q. omega (arith, short, early k q .2, lasting k q);
@@ -199,7 +187,7 @@ module _ (r : Propagator) (es ls : List ℤ) (posts atoms : ℕ) (a : Runnable r
 
   -- the trace that it leaves, and that its words fit the lent slices
   trace-is : traceOf r es ls ≡ run zeroAt J first second
-  trace-is = propagate-is ds es ls (take n (r .first)) (take n (r .second))
+  trace-is = propagate-is ds es ls
 
   posts-fit : length (postWords 0 (run zeroAt J first second .posts)) ≤ posts
   posts-fit = omega (arith, few-words.posts-fit zeroAt J proper first second by-earliest (ordered .by-completion) (accepted .some), count, a .words .posts)
@@ -220,25 +208,18 @@ module _ (r : Propagator) (es ls : List ℤ) (posts atoms : ℕ) (a : Runnable r
     pub latest : Holds n (J .latest) lst
     latest = subst (Holds n (J .latest)) (sym l) (holds-starts ls (a .counts .latest))
 
-    module _ {lct tasks keys candidates : List ℕ} (c : lct ≡ filled (completionAt lst (r .durations)) n noTasks) (f : tasks ≡ sortedOrder (byKey est) n (r .first)) (k : keys ≡ filled (reversedAt lct) n noTasks) (g : candidates ≡ sortedOrder (byKey keys) n (r .second)) where
+    module _ {lct tasks candidates : List ℕ} (c : lct ≡ filled (completionAt lst (r .durations)) n noTasks) (f : SortedBy (byKey est) n tasks) (g : SortedBy (byKeyDown lct) n candidates) where
       pub completions : Holds n (completion J) lct
       completions = subst (Holds n (completion J)) (sym c) (holds-completions lst latest)
 
-      keys-small : (x : ℕ) → x < n → getD lct x 0 ≤ largestKey
-      keys-small x q = omega (arith, completions .at x q, completion-small x q)
-
       front : take n tasks ≡ first
-      front = ap (take n) f ∙ sorted-first est starts
+      front = sorted-first est starts f
 
       pub order : Holds n (λ j. getD first j 0) tasks
-      order = holds-order tasks first front (ap length f ∙ sorted-length (byKey est) n (r .first) (omega (arith, few, long₁)) ∙ long₁)
-
-      g-is : candidates ≡ sortedOrder (byKey (filled (reversedAt lct) n noTasks)) n (r .second)
-      g-is = g ∙ ap (λ (m : List ℕ). sortedOrder (byKey m) n (r .second)) k
+      order = holds-order tasks first front (f .size)
 
       pub candidates-order : Holds n (λ t. getD second t 0) candidates
-      candidates-order = holds-order candidates second (ap (take n) g-is ∙ sorted-second lct completions keys-small)
-          (ap length g-is ∙ sorted-length (byKey (filled (reversedAt lct) n noTasks)) n (r .second) (omega (arith, few, long₂)) ∙ long₂)
+      candidates-order = holds-order candidates second (sorted-second lct completions g) (g .size)
 
       -- the tree: made for n tasks, updated by the order
       module _ {new tree′ : ThetaLambdaTree} (sz : Sized n (new .«number_of_internal_nodes») (new .height)) (cn : new .count ≡ n) (u : Updated new tree′ tasks) where
@@ -285,14 +266,8 @@ module _ (r : Propagator) (es ls : List ℤ) (posts atoms : ℕ) (a : Runnable r
         }
 
       -- and what a run leaves
-      first-carried : tasks ≡ sortedOrder (byEarliest J) n (r .first)
-      first-carried = f ∙ ap (λ (o : List ℕ). o ++ drop n (r .first)) (order-first est starts)
-
-      second-carried : candidates ≡ sortedOrder (byCompletion J) n (r .second)
-      second-carried = g-is ∙ ap (λ (o : List ℕ). o ++ drop n (r .second)) (order-second lct completions keys-small)
-
       pub left : {ps as′ es′ ps′ bs : List ℤ} {o : Outcome} → posts ≡ length ps → atoms ≡ length as′ → Ended J first second ps as′ o es′ ps′ bs
-          → Left r es ls ps as′ (record { «record» = record { count = n; durations = r .durations; first = tasks; second = candidates; total = r .total }; outcome = o }) es′ ps′ bs
+          → Left r es ls ps as′ o es′ ps′ bs
       left {ps} {as′} {es′} {ps′} {bs} {o} p q d = record {
         answer = d .answer ∙ ap (λ (t : Trace). outcomeOf (reasons (t .posts)) (length (t .posts)) (t .end)) (sym trace-is);
         starts = d .starts ∙ ap (λ (t : Trace). t .starts) (sym trace-is);
@@ -300,11 +275,10 @@ module _ (r : Propagator) (es ls : List ℤ) (posts atoms : ℕ) (a : Runnable r
         atom-words = d .atoms ∙ overwrites as′ (atomWords (reasons (run zeroAt J first second .posts) ++ endReason (run zeroAt J first second .end))) (omega (arith, atoms-fit, q)) ∙ ap (atomsAfter as′) (sym trace-is);
         posts-fit = subst (λ (t : Trace). length (postWords 0 (t .posts)) ≤ length ps) (sym trace-is) (omega (arith, posts-fit, p));
         atoms-fit = subst (λ (t : Trace). length (atomWords (reasons (t .posts) ++ endReason (t .end))) ≤ length as′) (sym trace-is) (omega (arith, atoms-fit, q));
-        carries = ap₂ (λ (x y : List ℕ). record { count = n; durations = r .durations; first = x; second = y; total = r .total }) first-carried second-carried;
       }
 
   pub right : Right (tasksIn r es ls) (traceOf r es ls)
-  right = demand.demand-3 400000000 (omega arith) ds es ls (take n (r .first)) (take n (r .second)) accepted
+  right = demand.demand-3 400000000 (omega arith) ds es ls accepted
 
 wider : (z : ℤ) → z ≤ℤ pos 200000000 → z ≤ℤ pos 400000000
 unfolding up dn
@@ -324,11 +298,10 @@ module _ (r : Propagator) (es ls : List ℤ) (posts atoms : ℕ) (a : Accepted r
   }
 
   -- as the run's definition has it.
-  pub narrow : length (r .durations) ≡ TASKS → length (r .first) ≡ TASKS → length (r .second) ≡ TASKS
-      → demand.Accepted 200000000 (take (r .count) (r .durations)) es ls (take (r .count) (r .first)) (take (r .count) (r .second))
-  narrow long long₁ long₂ =
-      let b = accepted r es ls posts atoms runnable long long₁ long₂ in
-      let c = count r es ls posts atoms runnable long long₁ long₂ in
+  pub narrow : length (r .durations) ≡ TASKS → demand.Accepted 200000000 (take (r .count) (r .durations)) es ls
+  narrow long =
+      let b = accepted r es ls posts atoms runnable long in
+      let c = count r es ls posts atoms runnable long in
       record {
         some = b .some;
         few = b .few;
@@ -337,6 +310,4 @@ module _ (r : Propagator) (es ls : List ℤ) (posts atoms : ℕ) (a : Accepted r
         from = λ k q. a .starts .earliest k (omega (arith, c, a .counts .earliest)) .low;
         to = λ k q. a .starts .latest k (omega (arith, c, a .counts .latest)) .high;
         ranges = b .ranges;
-        first-permutes = b .first-permutes;
-        second-permutes = b .second-permutes;
       }

@@ -9,17 +9,17 @@ use Rattle.integers.specs.Answers.{refusedBy}
 use Rattle.integers.specs.Moments.{Above}
 use Rattle.scheduling.specs.Scheduling.{Atom}
 use Rattle.runs.specs.Traces.{Post, Trace, overload}
-use Rattle.runs.specs.Runs.{propagate, byEarliest, byCompletion}
+use Rattle.runs.specs.Runs.{propagate}
 use Rattle.scheduling.specs.Words.{atomWords}
 use Rattle.runs.specs.Words.{postWords, reasons, endReason, postsAfter, atomsAfter}
 use Rattle.runs.specs.Demand.{Right, consequentOf, post}
 use Rattle.records.specs.declared.record.Propagator.{Propagator}
-use Rattle.records.specs.Orders.{sortedOrder}
 use Rattle.records.specs.Posts.{postNumber, reasonWords}
-use Rattle.records.specs.Records.{tasksIn, momentsIn, Lawful}
+use Rattle.records.specs.Records.{tasksIn, Lawful}
 use Rattle.records.specs.Refusals.{CountsFit, RangesFit, WordsFit, runNumber}
 use Rattle.checker.specs.declared.checker.Verdict.the-variants.{Passed}
 use Rattle.checker.specs.Checks.{checkOf}
+use Rattle.propagator.specs.declared.disjunctive_propagator.Outcome.{Outcome}
 use Rattle.propagator.specs.declared.disjunctive_propagator.Run.{Run}
 use Rattle.propagator.specs.Finding.{outcomeOf}
 use Rattle.propagator.specs.Outcomes.{outcomeNumbers}
@@ -55,29 +55,18 @@ pub record Handed (t : Trace) (posts′ atoms′ : List ℤ) : Type 0 where
   pub overloads : (reason : List Atom) → t .end ≡ overload reason → ReadOverload reason atoms′ (length (reasons (t .posts)))
 
 module _ (before : Propagator) (es ls : List ℤ) where
-  -- the run on a record's tasks, with the orders that it carries
+  -- the run on a record's tasks
   abbrev pub traceOf : Trace
-  traceOf = propagate (take (before .count) (before .durations)) es ls (take (before .count) (before .first)) (take (before .count) (before .second))
+  traceOf = propagate (take (before .count) (before .durations)) es ls
 
-  -- the record that a run leaves: both orders sorted
-  abbrev pub carried : Propagator
-  carried = record {
-    count = before .count;
-    durations = before .durations;
-    first = sortedOrder (byEarliest (momentsIn before es ls)) (before .count) (before .first);
-    second = sortedOrder (byCompletion (momentsIn before es ls)) (before .count) (before .second);
-    total = before .total;
-  }
-
-  -- An accepted run leaves that trace: its answer, the earliest starts, the words of its posts and reasons over what stood in the lent slices, which have room for them, and the record.
-  pub record Left (posts atoms : List ℤ) (r : Run) (es′ posts′ atoms′ : List ℤ) : Type 0 where
-    pub answer : r .outcome ≡ outcomeOf (reasons (traceOf .posts)) (length (traceOf .posts)) (traceOf .end)
+  -- An accepted run leaves that trace: its answer, the earliest starts, the words of its posts and reasons over what stood in the lent slices, which have room for them.
+  pub record Left (posts atoms : List ℤ) (r : Outcome) (es′ posts′ atoms′ : List ℤ) : Type 0 where
+    pub answer : r ≡ outcomeOf (reasons (traceOf .posts)) (length (traceOf .posts)) (traceOf .end)
     pub starts : es′ ≡ traceOf .starts
     pub post-words : posts′ ≡ postsAfter posts traceOf
     pub atom-words : atoms′ ≡ atomsAfter atoms traceOf
     pub posts-fit : length (postWords 0 (traceOf .posts)) ≤ length posts
     pub atoms-fit : length (atomWords (reasons (traceOf .posts) ++ endReason (traceOf .end))) ≤ length atoms
-    pub carries : r .«record» ≡ carried
 
   -- Every reason passes the check: a post's with the post as its consequent, an overload's with none.
   pub record Passing : Type 0 where
@@ -85,21 +74,21 @@ module _ (before : Propagator) (es ls : List ℤ) where
     pub overloads : (reason : List Atom) → traceOf .end ≡ overload reason → checkOf (checkDurations before) (atomWords reason) [] ≡ Passed
 
   -- It is right, its reasons pass the check, and the slices hand them out.
-  pub record AcceptedRun (posts atoms : List ℤ) (r : Run) (es′ posts′ atoms′ : List ℤ) : Type 0 where
+  pub record AcceptedRun (posts atoms : List ℤ) (r : Outcome) (es′ posts′ atoms′ : List ℤ) : Type 0 where
     pub left : Left posts atoms r es′ posts′ atoms′
     pub right : Right (tasksIn before es ls) traceOf
     pub passes : Passing
     pub handed : Handed traceOf posts′ atoms′
 
   -- A refused run leaves everything as it was.
-  pub record Kept (number : ℕ) (posts atoms : List ℤ) (r : Run) (es′ posts′ atoms′ : List ℤ) : Type 0 where
-    pub answer : outcomeNumbers (r .outcome) ≡ refusedBy number
-    pub keeps : r .«record» ≡ before
+  pub record Kept (number : ℕ) (posts atoms : List ℤ) (r : Outcome) (es′ posts′ atoms′ : List ℤ) : Type 0 where
+    pub answer : outcomeNumbers r ≡ refusedBy number
     pub starts : es′ ≡ es
     pub post-words : posts′ ≡ posts
     pub atom-words : atoms′ ≡ atoms
 
--- A run: the first test that fails turns it back, and nothing changes; else it is accepted.
+-- A run hands back the record that it was lent. The first test that fails turns it back, and nothing changes; else it is accepted.
 pub record Ran (before : Propagator) (es ls posts atoms : List ℤ) (r : Run) (es′ posts′ atoms′ : List ℤ) : Type 0 where
-  pub refused : (runNumber before es ls (length posts) (length atoms) ≡ 0 → ⊥) → Kept before es ls (runNumber before es ls (length posts) (length atoms)) posts atoms r es′ posts′ atoms′
-  pub accepted : runNumber before es ls (length posts) (length atoms) ≡ 0 → AcceptedRun before es ls posts atoms r es′ posts′ atoms′
+  pub keeps : r .«record» ≡ before
+  pub refused : (runNumber before es ls (length posts) (length atoms) ≡ 0 → ⊥) → Kept before es ls (runNumber before es ls (length posts) (length atoms)) posts atoms (r .outcome) es′ posts′ atoms′
+  pub accepted : runNumber before es ls (length posts) (length atoms) ≡ 0 → AcceptedRun before es ls posts atoms (r .outcome) es′ posts′ atoms′

@@ -5,8 +5,8 @@ use explanations::write_post;
 use integers::start_of;
 use records::orders::completions;
 use records::orders::moments_of;
-use records::orders::reversed;
-use records::orders::sort_by_key;
+use records::orders::sorted_by_key;
+use records::orders::sorted_down_by_key;
 use records::record::Propagator;
 use records::refusals::run_refusal;
 use trees::complete_tree::leaf_places;
@@ -47,7 +47,7 @@ pub enum Outcome {
     Refused(u32),
 }
 
-// What a run hands back: the record with its orders as they are now, and how the run ended.
+// What a run hands back: the record, and how the run ended.
 pub struct Run {
     pub record: Propagator,
     pub outcome: Outcome,
@@ -378,14 +378,13 @@ fn fill<'a>(
 }
 
 // The core of a run, for this pass and the mirrored one. It is public for the crate of the other pass, and not an open call: it tests nothing.
-// The record's orders are sorted where they stand, so that no array of it is copied.
 pub fn run_accepted(
-    mut record: Propagator,
+    record: Propagator,
     earliest: &mut [i32],
     latest: &[i32],
     posts: &mut [i32],
     atoms: &mut [i32],
-) -> Run
+) -> Outcome
     requires { ⌜ Runnable «record» (now earliest) (now latest) (length (now posts)) (length (now atoms)) ⌝ }
     ensures { λ r. ⌜ Left «record» (now (earliest .entry)) (now (latest .entry)) (now (posts .entry)) (now (atoms .entry)) r (now (earliest .exit)) (now (posts .exit)) (now (atoms .exit)) ⌝ }
 {
@@ -396,25 +395,23 @@ pub fn run_accepted(
     moments_of(&mut lst, latest);
     let mut lct: [u32; 48] = [0; 48];
     completions(&mut lct, &lst, &record.durations, n);
-    sort_by_key(&mut record.first, n, &est);
-    let mut keys: [u32; 48] = [0; 48];
-    reversed(&mut keys, &lct, n);
-    sort_by_key(&mut record.second, n, &keys);
+    let tasks = sorted_by_key(n, &est);
+    let candidates = sorted_down_by_key(n, &lct);
     let size = size_for(n);
     let inner = size.number_of_internal_nodes;
     let height = size.height;
     let mut mapping: [usize; 48] = [0; 48];
-    leaf_places(&mut mapping, &record.first, n);
+    leaf_places(&mut mapping, &tasks, n);
     let mut nodes: [u32; 508] = [0; 508];
-    fill(&mut nodes, inner, &record.first, &est, &record.durations, n);
-    let outcome = edge_finding(
+    fill(&mut nodes, inner, &tasks, &est, &record.durations, n);
+    edge_finding(
         &mut nodes,
         earliest,
         posts,
         atoms,
         &mapping,
-        &record.first,
-        &record.second,
+        &tasks,
+        &candidates,
         &est,
         &lst,
         &lct,
@@ -422,11 +419,10 @@ pub fn run_accepted(
         inner,
         height,
         n,
-    );
-    Run { record, outcome }
+    )
 }
 
-// A run on the record and the ranges.
+// A run on the record and the ranges. It hands back the record, which no run changes.
 pub fn propagate(
     record: Propagator,
     earliest: &mut [i32],
@@ -439,8 +435,6 @@ pub fn propagate(
     let number = run_refusal(
         record.count,
         &record.durations,
-        &record.first,
-        &record.second,
         record.total,
         earliest,
         latest,
@@ -453,5 +447,6 @@ pub fn propagate(
             outcome: Outcome::Refused(number),
         };
     }
-    run_accepted(record, earliest, latest, posts, atoms)
+    let outcome = run_accepted(record, earliest, latest, posts, atoms);
+    Run { record, outcome }
 }

@@ -57,8 +57,8 @@ completions-requires c κs =
     let s = c .before .before .before .before .before .before .before .before .before in
     let a = s .args in (
       s .pre .lawful .few,
-      key-small (a .t1) (a .earliest .now) (a .latest .now) (length (a .posts .now)) (length (a .atoms .now)) (s .pre) (long s) (long₁ s) (long₂ s) (c .before .before .before .before .moments-of2 .last .0)
-          (latest (a .t1) (a .earliest .now) (a .latest .now) (length (a .posts .now)) (length (a .atoms .now)) (s .pre) (long s) (long₁ s) (long₂ s) (c .before .before .before .before .before .before .moments-of .ensures) (c .before .before .before .before .moments-of2 .ensures)),
+      key-small (a .t1) (a .earliest .now) (a .latest .now) (length (a .posts .now)) (length (a .atoms .now)) (s .pre) (long s) (c .before .before .before .before .moments-of2 .last .0)
+          (latest (a .t1) (a .earliest .now) (a .latest .now) (length (a .posts .now)) (length (a .atoms .now)) (s .pre) (long s) (c .before .before .before .before .before .before .moments-of .ensures) (c .before .before .before .before .moments-of2 .ensures)),
     )
 
 sort-by-key-requires : tie.Need-sort-by-key-requires
@@ -105,15 +105,15 @@ fill-requires c κs =
     let u = c .before .before .before .before .before in
     let n = sizes u in
     let q = n .before in
-    fillable (start q .args .t1) (start q .args .earliest .now) (start q .args .latest .now) (length (start q .args .posts .now)) (length (start q .args .atoms .now)) (start q .pre) (long (start q)) (long₁ (start q)) (long₂ (start q)) (est q .moments-of .ensures) (lst q .moments-of2 .ensures) (lct q .completions .ensures) (first q .sort-by-key .ensures) (keys q .reversed .ensures) (q .sort-by-key2 .ensures) {new = blank u} {tree′ = blank u} (n .size-for .ensures) refl (updated u)
+    fillable (start q .args .t1) (start q .args .earliest .now) (start q .args .latest .now) (length (start q .args .posts .now)) (length (start q .args .atoms .now)) (start q .pre) (long (start q)) (est q .moments-of .ensures) (lst q .moments-of2 .ensures) (lct q .completions .ensures) (first q .sort-by-key .ensures) (keys q .reversed .ensures) (q .sort-by-key2 .ensures) {new = blank u} {tree′ = blank u} (n .size-for .ensures) refl (updated u)
 
 edge-finding-requires : tie.Need-edge-finding-requires
 edge-finding-requires c κs =
     let u = c .before .before .before .before .before .before .before .before .before .before .before .before .before .before .before .before .before .before in
     let n = sizes u in
     let q = n .before in
-    begun (start q .args .t1) (start q .args .earliest .now) (start q .args .latest .now) (length (start q .args .posts .now)) (length (start q .args .atoms .now)) (start q .pre) (long (start q)) (long₁ (start q)) (long₂ (start q)) (est q .moments-of .ensures) (lst q .moments-of2 .ensures) (lct q .completions .ensures) (first q .sort-by-key .ensures) (keys q .reversed .ensures) (q .sort-by-key2 .ensures) {new = blank u} {tree′ = blank u} (n .size-for .ensures) refl (updated u)
-    (c .before .before .before .before .before .before .before .before .before .before .before .before .fill .ensures (fillable (start q .args .t1) (start q .args .earliest .now) (start q .args .latest .now) (length (start q .args .posts .now)) (length (start q .args .atoms .now)) (start q .pre) (long (start q)) (long₁ (start q)) (long₂ (start q)) (est q .moments-of .ensures) (lst q .moments-of2 .ensures) (lct q .completions .ensures) (first q .sort-by-key .ensures) (keys q .reversed .ensures) (q .sort-by-key2 .ensures) {new = blank u} {tree′ = blank u} (n .size-for .ensures) refl (updated u))) refl refl
+    begun (start q .args .t1) (start q .args .earliest .now) (start q .args .latest .now) (length (start q .args .posts .now)) (length (start q .args .atoms .now)) (start q .pre) (long (start q)) (est q .moments-of .ensures) (lst q .moments-of2 .ensures) (lct q .completions .ensures) (first q .sort-by-key .ensures) (keys q .reversed .ensures) (q .sort-by-key2 .ensures) {new = blank u} {tree′ = blank u} (n .size-for .ensures) refl (updated u)
+    (c .before .before .before .before .before .before .before .before .before .before .before .before .fill .ensures (fillable (start q .args .t1) (start q .args .earliest .now) (start q .args .latest .now) (length (start q .args .posts .now)) (length (start q .args .atoms .now)) (start q .pre) (long (start q)) (est q .moments-of .ensures) (lst q .moments-of2 .ensures) (lct q .completions .ensures) (first q .sort-by-key .ensures) (keys q .reversed .ensures) (q .sort-by-key2 .ensures) {new = blank u} {tree′ = blank u} (n .size-for .ensures) refl (updated u))) refl refl
 
 same-length : tie.Need-same-length
 same-length c = search needs
@@ -129,9 +129,9 @@ returns c =
     let u = c .before .before .before .before .before .before .before .before .before .before .before .before .before .before .before .before .before .before .before .before .before .before in
     let n = sizes u in
     let q = n .before in
-    left (start q .args .t1) (start q .args .earliest .now) (start q .args .latest .now) (length (start q .args .posts .now)) (length (start q .args .atoms .now)) (start q .pre) (long (start q)) (long₁ (start q)) (long₂ (start q)) (est q .moments-of .ensures) (lst q .moments-of2 .ensures) (lct q .completions .ensures) (first q .sort-by-key .ensures) (keys q .reversed .ensures) (q .sort-by-key2 .ensures) refl refl
-    (c .before .before .before .edge-finding .ensures (begun (start q .args .t1) (start q .args .earliest .now) (start q .args .latest .now) (length (start q .args .posts .now)) (length (start q .args .atoms .now)) (start q .pre) (long (start q)) (long₁ (start q)) (long₂ (start q)) (est q .moments-of .ensures) (lst q .moments-of2 .ensures) (lct q .completions .ensures) (first q .sort-by-key .ensures) (keys q .reversed .ensures) (q .sort-by-key2 .ensures) {new = blank u} {tree′ = blank u} (n .size-for .ensures) refl (updated u)
-    (c .before .before .before .before .before .before .before .before .before .before .before .before .before .before .before .before .fill .ensures (fillable (start q .args .t1) (start q .args .earliest .now) (start q .args .latest .now) (length (start q .args .posts .now)) (length (start q .args .atoms .now)) (start q .pre) (long (start q)) (long₁ (start q)) (long₂ (start q)) (est q .moments-of .ensures) (lst q .moments-of2 .ensures) (lct q .completions .ensures) (first q .sort-by-key .ensures) (keys q .reversed .ensures) (q .sort-by-key2 .ensures) {new = blank u} {tree′ = blank u} (n .size-for .ensures) refl (updated u))) refl refl))
+    left (start q .args .t1) (start q .args .earliest .now) (start q .args .latest .now) (length (start q .args .posts .now)) (length (start q .args .atoms .now)) (start q .pre) (long (start q)) (est q .moments-of .ensures) (lst q .moments-of2 .ensures) (lct q .completions .ensures) (first q .sort-by-key .ensures) (keys q .reversed .ensures) (q .sort-by-key2 .ensures) refl refl
+    (c .before .before .before .edge-finding .ensures (begun (start q .args .t1) (start q .args .earliest .now) (start q .args .latest .now) (length (start q .args .posts .now)) (length (start q .args .atoms .now)) (start q .pre) (long (start q)) (est q .moments-of .ensures) (lst q .moments-of2 .ensures) (lct q .completions .ensures) (first q .sort-by-key .ensures) (keys q .reversed .ensures) (q .sort-by-key2 .ensures) {new = blank u} {tree′ = blank u} (n .size-for .ensures) refl (updated u)
+    (c .before .before .before .before .before .before .before .before .before .before .before .before .before .before .before .before .fill .ensures (fillable (start q .args .t1) (start q .args .earliest .now) (start q .args .latest .now) (length (start q .args .posts .now)) (length (start q .args .atoms .now)) (start q .pre) (long (start q)) (est q .moments-of .ensures) (lst q .moments-of2 .ensures) (lct q .completions .ensures) (first q .sort-by-key .ensures) (keys q .reversed .ensures) (q .sort-by-key2 .ensures) {new = blank u} {tree′ = blank u} (n .size-for .ensures) refl (updated u))) refl refl))
 
 pub run-accepted-spec : {M : Type 1} → statement M
 run-accepted-spec =
