@@ -17,9 +17,8 @@ use Rattle.integers.proofs.Filling.{getD-map-in, filled-none, filled-more, fill
 use Rattle.integers.proofs.Permutations.{numbers-permute}
 use Rattle.integers.proofs.Sorting.{sort-ext}
 use Rattle.scheduling.specs.Scheduling.{natural, Tasks, TaskSet, total}
-use Rattle.records.specs.Orders.{Numbered, byKey, noTasks, sortedOrder}
-use Rattle.records.proofs.Creation.{own-front, own-order}
-use Rattle.records.proofs.Sorted.{sorted-front, sorted-permutes, numbered}
+use Rattle.records.specs.Orders.{SortedBy, byKey}
+use Rattle.records.proofs.Sorted.{sorted-as}
 use Rattle.trees.specs.declared.theta_tree.ThetaTree.{ThetaTree}
 use Rattle.trees.specs.Leaves.{Leaf, empty, white, Limited, IsPlainTree}
 use Rattle.trees.specs.Mappings.{PlainNew}
@@ -32,32 +31,6 @@ use Rattle.checker.specs.Colouring.{Takes, Took, Colourable}
 use Rattle.checker.specs.Formulas.{order, colours, ectOf}
 use Rattle.checker.specs.Holding.{Held}
 use Rattle.checker.proofs.Gathering.{by-order, order-size}
-
--- The order array --------------------------------------------------------------------------------------------------------------
-
-zeros-long : length noTasks ≡ TASKS
-zeros-long = length-replicate {A = ℕ} 48 0
-
-own-long : (n : ℕ) → length (filled (λ k. k) n noTasks) ≡ TASKS
-own-long n = filled-length (λ k. k) n noTasks ∙ zeros-long
-
--- of n tasks it can be sorted,
-pub own-numbered : (n : ℕ) → n ≤ TASKS → {l : List ℕ} → l ≡ filled (λ k. k) n noTasks → Numbered n l
-own-numbered n few z = subst (Numbered n) (sym z) (numbered n (filled (λ k. k) n noTasks) few (own-long n) (own-order n few))
-
--- and then permutes them
-pub sorted-own : (n : ℕ) → n ≤ TASKS → (le : ℕ → ℕ → Bool) {l m : List ℕ} → l ≡ filled (λ k. k) n noTasks → m ≡ sortedOrder le n l → Permutes n (take n m)
-sorted-own n few le {l} {m} z s =
-    subst (λ (o : List ℕ). Permutes n (take n o)) (sym (s ∙ ap (sortedOrder le n) z))
-    (sorted-permutes le n (filled (λ k. k) n noTasks) (omega (arith, own-long n)) (own-order n few))
-
--- sorted by keys that an array holds, it is their order
-pub sorted-numbers : (n : ℕ) → n ≤ TASKS → (key : List ℕ) (f : ℕ → ℕ) → ((k : ℕ) → k < n → getD key k 0 ≡ f k) → {l m : List ℕ} → l ≡ filled (λ k. k) n noTasks → m ≡ sortedOrder (byKey key) n l → take n m ≡ sort (λ j k. leb (f j) (f k)) (numbers 0 n)
-sorted-numbers n few key f h {l} {m} z s =
-    ap (take n) (s ∙ ap (sortedOrder (byKey key) n) z)
-    ∙ sorted-front (byKey key) n (filled (λ k. k) n noTasks) (omega (arith, own-long n, few))
-    ∙ ap (sort (byKey key)) (own-front n few)
-    ∙ sort-ext (byKey key) (λ j k. leb (f j) (f k)) (numbers 0 n) (λ j k p q. ap₂ leb (h j (numbers-permute n .below j p)) (h k (numbers-permute n .below k q)))
 
 -- The tree of the tasks that the arrays hold -----------------------------------------------------------------------------------
 
@@ -72,21 +45,21 @@ module _ {J : Tasks natural} {Ω : TaskSet} {n : ℕ} {chosen : List Bool} {est 
   below x q = omega (arith, h .count, by-order J Ω .task x (omega (arith, h .count)))
 
   -- sorted by the keys in the array, the order is that of the earliest starts
-  pub front-is : {l m : List ℕ} → l ≡ filled (λ k. k) n noTasks → m ≡ sortedOrder (byKey est) n l → take n m ≡ order J Ω
-  front-is z s = sorted-numbers n (h .few) est (J .earliest) (h .start) z s ∙ ap (λ (m : ℕ). sort (λ j k. leb (J .earliest j) (J .earliest k)) (numbers 0 m)) (sym (h .count))
+  pub front-is : {m : List ℕ} → SortedBy (byKey est) n m → take n m ≡ order J Ω
+  front-is s = sorted-as s (λ j k. leb (J .earliest j) (J .earliest k)) (λ j k p q. ap₂ leb (h .start j p) (h .start k q)) ∙ ap (λ (m : ℕ). sort (λ j k. leb (J .earliest j) (J .earliest k)) (numbers 0 m)) (sym (h .count))
 
   -- so each place of the sorted array has the task of its leaf
-  pub task-at : {l m : List ℕ} → l ≡ filled (λ k. k) n noTasks → m ≡ sortedOrder (byKey est) n l → (x : ℕ) → x < n → getD m x 0 ≡ getD (order J Ω) x 0
-  task-at {l} {m} z s x q = sym (getD-take n m x 0 q) ∙ ap (λ (o : List ℕ). getD o x 0) (front-is z s)
+  pub task-at : {m : List ℕ} → SortedBy (byKey est) n m → (x : ℕ) → x < n → getD m x 0 ≡ getD (order J Ω) x 0
+  task-at {m} s x q = sym (getD-take n m x 0 q) ∙ ap (λ (o : List ℕ). getD o x 0) (front-is s)
 
   -- a new tree over the sorted order
-  abbrev pub colourable : {l m : List ℕ} {t : ThetaTree} → l ≡ filled (λ k. k) n noTasks → m ≡ sortedOrder (byKey est) n l → PlainNew n m t → Colourable (t .«number_of_internal_nodes») n (t .nodes) m chosen est durations
-  colourable {t = t} z s new = record {
+  abbrev pub colourable : {m : List ℕ} {t : ThetaTree} → SortedBy (byKey est) n m → PlainNew n m t → Colourable (t .«number_of_internal_nodes») n (t .nodes) m chosen est durations
+  colourable {t = t} s new = record {
     J = J;
     Ω = Ω;
     held = h;
     tree = new-plain-tree J (order J Ω) (t .«number_of_internal_nodes») (t .nodes) (new .nodes) (new .size .complete ∙ ap (λ (m : ℕ). width (heightFor m)) (sym (h .count)));
-    task = task-at z s;
+    task = task-at s;
   }
 
   -- the root's ect

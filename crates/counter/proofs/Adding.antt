@@ -30,7 +30,7 @@ use Rattle.records.specs.Refusals.{AcceptedInput}
 use Rattle.records.proofs.Accepting.{count, completion-small, completions-are, completions-at}
 use Rattle.checker.specs.Formulas.{order, colours, ectOf}
 use Rattle.checker.specs.Holding.{Held}
-use Rattle.checker.proofs.Colouring.{sorted-numbers, limited, front-is}
+use Rattle.checker.proofs.Colouring.{limited, front-is}
 use Rattle.checker.proofs.Gathering.{by-order}
 use Rattle.checker.proofs.Ranging.{held as in-arrays, late}
 use Rattle.counter.specs.Reading.{byCompletion, read, overloadsAt, answerFrom, answerOf}
@@ -128,21 +128,20 @@ module _ (r : Propagator) (es ls : List ℤ) (a : AcceptedInput r es ls) (long :
     pub ends : (k : ℕ) → k < r .count → getD lct k 0 ≡ completion M k
     ends k q = ap (λ (o : List ℕ). getD o k 0) c ∙ completions-at r es ls a long lst latest k q
 
-    pub order-is : {own tasks : List ℕ} → own ≡ filled (λ k. k) (r .count) noTasks → tasks ≡ sortedOrder (byKey lct) (r .count) own → take (r .count) tasks ≡ byCompletion M
-    order-is z s = sorted-numbers (r .count) (a .lawful .few) lct (completion M) ends z s ∙ ap (λ (m : ℕ). sort (λ j k. leb (completion M j) (completion M k)) (numbers 0 m)) (sym (count r es ls a long))
+    pub order-is : {tasks : List ℕ} → SortedBy (byKey lct) (r .count) tasks → take (r .count) tasks ≡ byCompletion M
+    order-is s = sorted-as s (λ j k. leb (completion M j) (completion M k)) (λ j k p q. ap₂ leb (ends j p) (ends k q)) ∙ ap (λ (m : ℕ). sort (λ j k. leb (completion M j) (completion M k)) (numbers 0 m)) (sym (count r es ls a long))
 
     pub tree-is : {leaves : List ℕ} {t : ThetaTree} → PlainNew (r .count) leaves t → IsPlainTree M (order M noTask) (colours M noTask) (t .«number_of_internal_nodes») (t .nodes)
     tree-is {t = t} new = subst (λ (cs : List Leaf). IsPlainTree M (order M noTask) cs (t .«number_of_internal_nodes») (t .nodes)) (all-blank M)
         (new-plain-tree M (order M noTask) (t .«number_of_internal_nodes») (t .nodes) (new .nodes) (new .size .complete ∙ ap (λ (m : ℕ). width (heightFor m)) (sym (count r es ls a long))))
 
-    abbrev pub readable : {own leaves own′ tasks : List ℕ} {t : ThetaTree} → own ≡ filled (λ k. k) (r .count) noTasks → leaves ≡ sortedOrder (byKey est) (r .count) own
-        → own′ ≡ filled (λ k. k) (r .count) noTasks → tasks ≡ sortedOrder (byKey lct) (r .count) own′ → PlainNew (r .count) leaves t
+    abbrev pub readable : {leaves tasks : List ℕ} {t : ThetaTree} → SortedBy (byKey est) (r .count) leaves → SortedBy (byKey lct) (r .count) tasks → PlainNew (r .count) leaves t
         → Readable (t .«number_of_internal_nodes») (r .count) (t .nodes) (t .mapping) tasks est lct (r .durations)
-    readable {tasks = tasks} z s z′ s′ new = record {
+    readable {tasks = tasks} s s′ new = record {
       J = M;
       held = held;
       ends = ends;
       tree = tree-is new;
-      place = λ k q. new .mapping .leaf k q ∙ ap (λ (o : List ℕ). index o k) (front-is held z s);
-      task = λ k q. sym (getD-take (r .count) tasks k 0 q) ∙ ap (λ (o : List ℕ). getD o k 0) (order-is z′ s′);
+      place = λ k q. new .mapping .leaf k q ∙ ap (λ (o : List ℕ). index o k) (front-is held s);
+      task = λ k q. sym (getD-take (r .count) tasks k 0 q) ∙ ap (λ (o : List ℕ). getD o k 0) (order-is s′);
     }

@@ -1,8 +1,7 @@
 // Whether some set of the tasks overloads: the tasks go into the theta tree by latest completion, least first, until those read overload.
 use records::orders::completions;
-use records::orders::identity;
 use records::orders::moments_of;
-use records::orders::sort_by_key;
+use records::orders::sorted_by_key;
 use records::record::Propagator;
 use records::refusals::input_refusal;
 use trees::disjunctive_task::DisjunctiveTask;
@@ -68,10 +67,8 @@ fn accepted(record: Propagator, earliest: &[i32], latest: &[i32]) -> Overload
     moments_of(&mut lst, latest);
     let mut lct: [u32; 48] = [0; 48];
     completions(&mut lct, &lst, &durations, n);
-    let mut leaves = identity(n);
-    sort_by_key(&mut leaves, n, &est);
-    let mut tasks = identity(n);
-    sort_by_key(&mut tasks, n, &lct);
+    let leaves = sorted_by_key(n, &est);
+    let tasks = sorted_by_key(n, &lct);
     let tree = ThetaTree::new(&leaves, n);
     let inner = tree.number_of_internal_nodes;
     let mapping = tree.mapping;
@@ -95,8 +92,6 @@ pub fn overload_test(record: Propagator, earliest: &[i32], latest: &[i32]) -> Ov
     let number = input_refusal(
         record.count,
         &record.durations,
-        &record.first,
-        &record.second,
         record.total,
         earliest,
         latest,

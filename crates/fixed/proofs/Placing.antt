@@ -82,28 +82,11 @@ module _ (es : List ℤ) where
   pub key-at : (keys : List ℕ) → length es ≤ TASKS → keys ≡ filled (momentAt es) (length es) noTasks → (k : ℕ) → k < length es → getD keys k 0 ≡ momentAt es k
   key-at keys h e k q = ap (λ (l : List ℕ). getD l k 0) e ∙ filled-at (momentAt es) (length es) noTasks 0 k q h
 
-  pub order-is : (keys : List ℕ) → Started es → keys ≡ filled (momentAt es) (length es) noTasks
-      → take (length es) (sortedOrder (byKey keys) (length es) (filled (λ k. k) (length es) noTasks)) ≡ orderOf es
-  order-is keys h e =
-      sorted-front (byKey keys) (length es) (filled (λ k. k) (length es) noTasks) (omega (arith, h .few, filled-length (λ (k : ℕ). k) (length es) noTasks))
-      ∙ ap (sort (byKey keys)) (own-front (length es) (h .few))
-      ∙ sort-ext (byKey keys) (byStart es) (numbers 0 (length es)) agree
-    where
-      at : (k : ℕ) → k < length es → getD keys k 0 ≡ momentAt es k
-      at = key-at keys (h .few) e
-
-      below : (k : ℕ) → has (numbers 0 (length es)) k ≡ true → k < length es
-      below k q = numbers-permute (length es) .below k q
-
-      agree : (j k : ℕ) → has (numbers 0 (length es)) j ≡ true → has (numbers 0 (length es)) k ≡ true → byKey keys j k ≡ byStart es j k
-      agree j k p q =
-          ap (λ (x : ℕ). leb x (getD keys k 0)) (at j (below j p))
-          ∙ ap (λ (x : ℕ). leb (momentAt es j) x) (at k (below k q))
-          ∙ moment-test (startAt es j) (startAt es k) (start-above (startAt es j) (h .starts j (below j p))) (start-above (startAt es k) (h .starts k (below k q)))
-
-  -- and the numbers 0 to n − 1 can be sorted
-  pub own-numbered : Started es → Numbered (length es) (filled (λ k. k) (length es) noTasks)
-  own-numbered h = numbered (length es) (filled (λ k. k) (length es) noTasks) (h .few) (filled-length (λ (k : ℕ). k) (length es) noTasks) (own-order (length es) (h .few))
+  -- so the numbers sorted by them are the tasks by start
+  pub order-is : (keys order : List ℕ) → Started es → keys ≡ filled (momentAt es) (length es) noTasks → SortedBy (byKey keys) (length es) order → take (length es) order ≡ orderOf es
+  order-is keys order h e s = sorted-as s (byStart es) (λ j k p q.
+      ap₂ leb (key-at keys (h .few) e j p) (key-at keys (h .few) e k q)
+      ∙ moment-test (startAt es j) (startAt es k) (start-above (startAt es j) (h .starts j p)) (start-above (startAt es k) (h .starts k q)))
 
   -- an array that has the order in its first places has the tasks by the moments of their starts
   pub ordered-moments : (order keys : List ℕ) → take (length es) order ≡ orderOf es → ((k : ℕ) → k < length es → getD keys k 0 ≡ momentAt es k)

@@ -1,8 +1,7 @@
 // The tasks of a schedule by start, and the test that no two of them overlap.
 use integers::moment_of;
-use records::orders::identity;
 use records::orders::moments_of;
-use records::orders::sort_by_key;
+use records::orders::sorted_by_key;
 ghost use mathlib.Core.Path.{_≡_};
 ghost use Prim.Native.Nat.{_-_};
 ghost use lib.ListN.{length, take};
@@ -43,9 +42,7 @@ pub fn order_of(earliest: &[i32]) -> [usize; 48]
     let n = earliest.len();
     let mut key = [0u32; 48];
     moments_of(&mut key, earliest);
-    let mut order = identity(n);
-    sort_by_key(&mut order, n, &key);
-    order
+    sorted_by_key(n, &key)
 }
 
 // Whether each task of an order ends by the start of the next.

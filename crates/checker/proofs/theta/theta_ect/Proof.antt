@@ -1,39 +1,31 @@
--- `checker::theta::theta_ect` meets its contract.
+-- `theta_ect`: the chosen tasks go into a new tree over the tasks by earliest start, and its root has their ect.
 -- Assumes nothing.
 use mathlib.Core.Path.{_∙_}
 use borrow.Author.Needs.{needs}
 use Rattle.scheduling.specs.Scheduling.{natural, Tasks, TaskSet}
-use Rattle.records.specs.Orders.{byKey}
+use Rattle.records.proofs.Sorted.{sorted-permutes}
 use Rattle.checker.specs.Colouring.{Colourable}
 use Rattle.checker.specs.Holding.{Held}
-use Rattle.checker.proofs.Colouring.{own-numbered, sorted-own, colourable, root-ect}
+use Rattle.checker.proofs.Colouring.{colourable, root-ect}
 use Rattle.checker.proofs.theta.theta_ect.Statement.{statement}
 use Rattle.checker.proofs.theta.theta_ect.Tie as tie
 
 -- when the tree is made: what each call before left
 abbrev start : tie.After-new → tie.Start
-start c = c .before .before .before .before .before
+start c = c .before .before .before
 
-abbrev own : tie.After-new → tie.After-identity
-own c = c .before .before .before .before
-
-abbrev sorted : tie.After-new → tie.After-sort-by-key
+abbrev sorted : tie.After-new → tie.After-sorted-by-key
 sorted c = c .before .before
 
 abbrev ready : (c : tie.After-new) → let a = start c .args in (J : Tasks natural) (Ω : TaskSet) → Held J Ω (a .n) (a .chosen .now) (a .est .now) (a .durations .now)
-    → Colourable (c .new .result .«number_of_internal_nodes») (a .n) (c .new .result .nodes) (sorted c .sort-by-key .last .0) (a .chosen .now) (a .est .now) (a .durations .now)
-ready c J Ω h = colourable h (own c .identity .ensures) (sorted c .sort-by-key .ensures) (c .new .ensures)
+    → Colourable (c .new .result .«number_of_internal_nodes») (a .n) (c .new .result .nodes) (sorted c .sorted-by-key .result) (a .chosen .now) (a .est .now) (a .durations .now)
+ready c J Ω h = colourable h (sorted c .sorted-by-key .ensures) (c .new .ensures)
 
-identity-requires : tie.Need-identity-requires
-identity-requires c κs = search needs
-
-sort-by-key-requires : tie.Need-sort-by-key-requires
-sort-by-key-requires c κs = let s = c .before .before in own-numbered (s .args .n) (s .pre .2 .few) (c .before .identity .ensures)
+sorted-by-key-requires : tie.Need-sorted-by-key-requires
+sorted-by-key-requires c κs = search needs
 
 new-requires : tie.Need-new-requires
-new-requires c κs =
-    let s = c .before .before .before .before in
-    (s .pre .2 .few, sorted-own (s .args .n) (s .pre .2 .few) (byKey (s .args .est .now)) (c .before .before .before .identity .ensures) (c .before .sort-by-key .ensures))
+new-requires c κs = let s = c .before .before in (s .pre .2 .few, sorted-permutes (c .before .sorted-by-key .ensures))
 
 fill-requires : tie.Need-fill-requires
 fill-requires c κs = let s = c .before .before .before in ready s (start s .pre .0) (start s .pre .1) (start s .pre .2)
@@ -48,8 +40,7 @@ pub theta-ect-spec : {M : Type 1} → statement M
 theta-ect-spec =
     tie.close
     (tie.spec
-    identity-requires
-    sort-by-key-requires
+    sorted-by-key-requires
     new-requires
     fill-requires
     ect-requires

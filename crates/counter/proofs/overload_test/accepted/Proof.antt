@@ -4,8 +4,7 @@ use mathlib.Core.Path.{_≡_}
 use lib.ListN.{length}
 use borrow.Author.Needs.{needs}
 use Rattle.integers.specs.Limits.{TASKS}
-use Rattle.records.specs.Orders.{byKey}
-use Rattle.checker.proofs.Colouring.{own-numbered, sorted-own}
+use Rattle.records.proofs.Sorted.{sorted-permutes}
 use Rattle.counter.specs.Holding.{Readable}
 use Rattle.counter.proofs.Adding.{keys-small, readable}
 use Rattle.counter.proofs.overload_test.accepted.Statement.{statement}
@@ -17,30 +16,30 @@ long c = search needs
 
 -- when the tree is made: what each call before left
 abbrev start : tie.After-new → tie.Start
-start c = c .before .before .before .before .before .before .before .before .before .before .before .before .before .before .before .before .before .before .before
+start c = c .before .before .before .before .before .before .before .before .before .before .before .before .before
 
 abbrev est : tie.After-new → tie.After-moments-of
-est c = c .before .before .before .before .before .before .before .before .before .before .before .before .before .before .before .before
+est c = c .before .before .before .before .before .before .before .before .before .before
 
 abbrev lst : tie.After-new → tie.After-moments-of2
-lst c = c .before .before .before .before .before .before .before .before .before .before .before .before .before .before
+lst c = c .before .before .before .before .before .before .before .before
 
 abbrev lct : tie.After-new → tie.After-completions
-lct c = c .before .before .before .before .before .before .before .before .before .before
+lct c = c .before .before .before .before .before .before
 
-abbrev leaves : tie.After-new → tie.After-sort-by-key
-leaves c = c .before .before .before .before .before .before
+abbrev leaves : tie.After-new → tie.After-sorted-by-key
+leaves c = c .before .before .before .before
 
-abbrev tasks : tie.After-new → tie.After-sort-by-key2
+abbrev tasks : tie.After-new → tie.After-sorted-by-key2
 tasks c = c .before .before
 
 abbrev ready : (c : tie.After-new) → let r = start c .args .«record» in
-    Readable (c .new .result .«number_of_internal_nodes») (r .count) (c .new .result .nodes) (c .new .result .mapping) (tasks c .sort-by-key2 .last .0) (est c .moments-of .last .0) (lct c .completions .last .0) (r .durations)
+    Readable (c .new .result .«number_of_internal_nodes») (r .count) (c .new .result .nodes) (c .new .result .mapping) (tasks c .sorted-by-key2 .result) (est c .moments-of .last .0) (lct c .completions .last .0) (r .durations)
 ready c =
     let s = start c in
     let a = s .args in
     readable (a .«record») (a .earliest .now) (a .latest .now) (s .pre) (long s) (est c .moments-of .ensures) (lst c .moments-of2 .ensures) (lct c .completions .ensures)
-    (c .before .before .before .before .before .before .before .before .before .identity .ensures) (leaves c .sort-by-key .ensures) (c .before .before .before .before .before .identity2 .ensures) (tasks c .sort-by-key2 .ensures) (c .new .ensures)
+    (leaves c .sorted-by-key .ensures) (tasks c .sorted-by-key2 .ensures) (c .new .ensures)
 
 moments-of-requires : tie.Need-moments-of-requires
 moments-of-requires c κs = search needs
@@ -54,22 +53,14 @@ completions-requires c κs =
     let a = s .args in
     (s .pre .lawful .few, keys-small (a .«record») (a .earliest .now) (a .latest .now) (s .pre) (long s) (c .before .before .before .before .before .moments-of .ensures) (c .before .before .before .moments-of2 .ensures))
 
-identity-requires : tie.Need-identity-requires
-identity-requires c κs = search needs
+sorted-by-key-requires : tie.Need-sorted-by-key-requires
+sorted-by-key-requires c κs = search needs
 
-sort-by-key-requires : tie.Need-sort-by-key-requires
-sort-by-key-requires c κs = let s = c .before .before .before .before .before .before .before .before .before .before .before .before in own-numbered (s .args .«record» .count) (s .pre .lawful .few) (c .before .before .identity .ensures)
-
-identity-requires-2 : tie.Need-identity-requires-2
-identity-requires-2 c κs = search needs
-
-sort-by-key-requires-2 : tie.Need-sort-by-key-requires-2
-sort-by-key-requires-2 c κs = let s = c .before .before .before .before .before .before .before .before .before .before .before .before .before .before .before .before in own-numbered (s .args .«record» .count) (s .pre .lawful .few) (c .before .before .identity2 .ensures)
+sorted-by-key-requires-2 : tie.Need-sorted-by-key-requires-2
+sorted-by-key-requires-2 c κs = search needs
 
 new-requires : tie.Need-new-requires
-new-requires c κs =
-    let s = c .before .before .before .before .before .before .before .before .before .before .before .before .before .before .before .before .before .before in
-    (s .pre .lawful .few, sorted-own (s .args .«record» .count) (s .pre .lawful .few) (byKey (c .before .before .before .before .before .before .before .before .before .before .before .before .before .before .before .moments-of .last .0)) (c .before .before .before .before .before .before .before .before .identity .ensures) (c .before .before .before .before .before .sort-by-key .ensures))
+new-requires c κs = ?
 
 read-tasks-requires : tie.Need-read-tasks-requires
 read-tasks-requires c κs = ready (c .before .before .before .before .before .before .before .before)
@@ -84,10 +75,8 @@ accepted-spec =
     moments-of-requires
     moments-of-requires-2
     completions-requires
-    identity-requires
-    sort-by-key-requires
-    identity-requires-2
-    sort-by-key-requires-2
+    sorted-by-key-requires
+    sorted-by-key-requires-2
     new-requires
     read-tasks-requires
     returns)
