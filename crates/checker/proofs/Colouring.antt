@@ -10,12 +10,10 @@ use lib.Dec.{leb}
 use lib.ListN.{length, getD, set, take, replicate, length-replicate, length-map}
 use lib.Seq.{set-getD, ext-getD, getD-take}
 use Rattle.integers.specs.Filling.{filled}
-use Rattle.integers.specs.Limits.{TASKS, DURATIONS}
-use Rattle.integers.specs.Orders.{sort, numbers, Permutes}
+use Rattle.integers.specs.Limits.{DURATIONS}
+use Rattle.integers.specs.Orders.{sort, numbers}
 use Rattle.integers.proofs.Bools.{bool}
 use Rattle.integers.proofs.Filling.{getD-map-in, filled-none, filled-more, filled-length, filled-at, filled-past, getD-fresh}
-use Rattle.integers.proofs.Permutations.{numbers-permute}
-use Rattle.integers.proofs.Sorting.{sort-ext}
 use Rattle.scheduling.specs.Scheduling.{natural, Tasks, TaskSet, total}
 use Rattle.records.specs.Orders.{SortedBy, byKey}
 use Rattle.records.proofs.Sorted.{sorted-as}

@@ -15,17 +15,15 @@ use borrow.Author.Tests.{le-leb, leb-true}
 use Rattle.integers.specs.Limits.{TASKS, START}
 use Rattle.integers.specs.Filling.{filled}
 use Rattle.integers.specs.Moments.{moment, instant, zeroAt, Above}
-use Rattle.integers.specs.Orders.{has, index, sort, numbers, Permutes, Ordered}
+use Rattle.integers.specs.Orders.{index, numbers, Permutes, Ordered}
 use Rattle.integers.proofs.Bools.{bool, clash}
-use Rattle.integers.proofs.Filling.{filled-at, filled-length}
+use Rattle.integers.proofs.Filling.{filled-at}
 use Rattle.integers.proofs.Ints.{ints, up, dn, up-neg, dn-neg, leZ-true, le-leZ}
 use Rattle.integers.proofs.Moments.{mono, reflect, plus, plus-above, above-show, at-moment, instant-moment}
 use Rattle.integers.proofs.Permutations.{numbers-permute, numbers-length}
-use Rattle.integers.proofs.Sorting.{sort-ext, sort-length, sort-permutes, sort-ordered}
+use Rattle.integers.proofs.Sorting.{sort-length, sort-permutes, sort-ordered}
 use Rattle.records.specs.Refusals.{StartFits}
-use Rattle.records.specs.Orders.{byKey, noTasks, momentAt, sortedOrder, Numbered}
-use Rattle.records.proofs.Creation.{own-front, own-order}
-use Rattle.records.proofs.Sorted.{sorted-front, numbered}
+use Rattle.records.specs.Orders.{byKey, noTasks, momentAt}
 use Rattle.fixed.specs.FixedSchedules.{startAt, byStart, orderOf}
 use Rattle.fixed.specs.Holding.{Started}
 

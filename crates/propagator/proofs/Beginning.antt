@@ -1,37 +1,35 @@
--- What a run that is accepted, or that the core may run, brings to edge finding: the tasks' moments in arrays, both orders sorted, the tree of all tasks.
+-- What a run that is accepted, or that the core may run, brings to edge finding: the tasks' moments in arrays, in both orders, and the tree of all tasks.
 -- Assumes nothing.
 use mathlib.Core.Path.{_≡_, refl, sym, ap, ap₂, subst, _∙_}
-use mathlib.Core.Bool.{Bool, true, false}
+use mathlib.Core.Bool.{true}
 use mathlib.Core.List.{List, _++_, map}
 use Prim.Native.Nat.{ℕ, _+_, _-_, _*_, _≤_, _<_}
 use native.Mathlib.Omega.{arith}
 use lib.Dec.{leb}
 use lib.IntN.{ℤ, pos, negsuc}
-use lib.ListN.{length, getD, take, drop, replicate, length-replicate}
+use lib.ListN.{length, getD, take, replicate, length-replicate}
 use lib.Seq.{getD-take, length-take-le}
 use lib.Signed.{_≤ℤ_}
-use Rattle.integers.specs.Limits.{TASKS, DURATIONS, START}
+use Rattle.integers.specs.Limits.{TASKS}
 use Rattle.integers.specs.Filling.{filled}
-use Rattle.integers.specs.Moments.{moment, instant, zeroAt, Above}
-use Rattle.integers.specs.Orders.{sort, index, has, Permutes}
+use Rattle.integers.specs.Moments.{instant, zeroAt, Above}
+use Rattle.integers.specs.Orders.{sort, index, numbers}
 use Rattle.integers.proofs.Filling.{filled-length, filled-at}
 use Rattle.integers.proofs.Ints.{up, dn, ints}
 use Rattle.integers.proofs.Moments.{mono, above-up, above-show, more-above, instant-moment}
-use Rattle.integers.proofs.Sorting.{sort-ext}
 use Rattle.scheduling.specs.Scheduling.{whole, natural, Tasks, tasksOf, Proper, total, processing, completion}
 use Rattle.scheduling.proofs.Processing.{processing-less, processing-all}
 use Rattle.scheduling.proofs.Sets.{total-ext}
 use Rattle.scheduling.proofs.Transfer.{sound}
-use Rattle.scheduling.specs.Moments.{moments, ByEarliest, ByCompletion}
-use Rattle.trees.specs.Leaves.{Limited, white, IsTree}
-use Rattle.trees.specs.declared.theta_lambda_tree.ThetaLambdaTree.{ThetaLambdaTree}
-use Rattle.trees.specs.Mappings.{Updated}
+use Rattle.scheduling.specs.Moments.{moments, ByEarliest}
+use Rattle.trees.specs.Leaves.{white, IsTree}
+use Rattle.trees.specs.Mappings.{Maps}
 use Rattle.trees.specs.Shapes.{width, heightFor, Sized}
 use Rattle.trees.proofs.Heights.{sized}
 use Rattle.trees.proofs.Roots as tree
 use Rattle.trees.proofs.Trees.{new-tree}
 use Rattle.runs.specs.Traces.{Trace}
-use Rattle.runs.specs.Runs.{tabulate, byEarliest, byCompletion, run, allWhite}
+use Rattle.runs.specs.Runs.{tabulate, byEarliest, byCompletion, earliestOrder, completionOrder, run, allWhite}
 use Rattle.runs.specs.Demand.{Right}
 use Rattle.scheduling.specs.Words.{atomWords}
 use Rattle.runs.specs.Words.{postWords, reasons, endReason, postsAfter, atomsAfter}
@@ -42,12 +40,11 @@ use Rattle.runs.proofs.Few as few-words
 use Rattle.runs.proofs.Fuel.{propagate-is}
 use Rattle.runs.proofs.Tables.{tabulated}
 use Rattle.records.specs.declared.record.Propagator.{Propagator}
-use Rattle.records.specs.Orders.{noTasks, momentAt, completionAt, byKey, byKeyDown, largestKey, reversedAt, sortedOrder}
-use Rattle.records.specs.Records.{Lawful, tasksIn}
+use Rattle.records.specs.Orders.{SortedBy, noTasks, momentAt, completionAt, byKey, byKeyDown, largestKey}
+use Rattle.records.specs.Records.{tasksIn}
 use Rattle.records.specs.Refusals.{Accepted}
-use Rattle.records.proofs.Keys.{sort-reversed}
-use Rattle.records.proofs.Sorted.{sorted-front, sorted-length, sorted-permutes}
-use Rattle.propagator.specs.Holding.{Ordered, Holds, Arrays, At}
+use Rattle.records.proofs.Sorted.{sorted-as}
+use Rattle.propagator.specs.Holding.{Ordered, Holds, At}
 use Rattle.propagator.specs.declared.disjunctive_propagator.Outcome.{Outcome}
 use Rattle.propagator.specs.Filling.{Fillable}
 use Rattle.propagator.specs.Finding.{outcomeOf, Begun, Ended}
@@ -208,6 +205,9 @@ module _ (r : Propagator) (es ls : List ℤ) (posts atoms : ℕ) (a : Runnable r
     pub latest : Holds n (J .latest) lst
     latest = subst (Holds n (J .latest)) (sym l) (holds-starts ls (a .counts .latest))
 
+    pub keys-small : {lct : List ℕ} → lct ≡ filled (completionAt lst (r .durations)) n noTasks → (k : ℕ) → k < n → getD lct k 0 ≤ largestKey
+    keys-small {lct} c k q = omega (arith, ap (λ (o : List ℕ). getD o k 0) c ∙ holds-completions lst latest .at k q, completion-small k q)
+
     module _ {lct tasks candidates : List ℕ} (c : lct ≡ filled (completionAt lst (r .durations)) n noTasks) (f : SortedBy (byKey est) n tasks) (g : SortedBy (byKeyDown lct) n candidates) where
       pub completions : Holds n (completion J) lct
       completions = subst (Holds n (completion J)) (sym c) (holds-completions lst latest)
@@ -221,27 +221,21 @@ module _ (r : Propagator) (es ls : List ℤ) (posts atoms : ℕ) (a : Runnable r
       pub candidates-order : Holds n (λ t. getD second t 0) candidates
       candidates-order = holds-order candidates second (sorted-second lct completions g) (g .size)
 
-      -- the tree: made for n tasks, updated by the order
-      module _ {new tree′ : ThetaLambdaTree} (sz : Sized n (new .«number_of_internal_nodes») (new .height)) (cn : new .count ≡ n) (u : Updated new tree′ tasks) where
-        abbrev inner : ℕ
-        inner = tree′ .«number_of_internal_nodes»
-
+      -- the tree: sized for n tasks, every word 0, and the leaf of each task by the order
+      module _ {inner height : ℕ} {mapping words₀ : List ℕ} (sz : Sized n inner height) (m : Maps n tasks mapping) (z : words₀ ≡ replicate 508 0) where
         pub complete : inner + 1 ≡ width (heightFor (J .count))
-        complete = ap (λ (m : ℕ). m + 1) (u .inner) ∙ sized n (new .«number_of_internal_nodes») (new .height) sz ∙ ap (λ (m : ℕ). width (heightFor m)) (sym count)
+        complete = sized n inner height sz ∙ ap (λ (m : ℕ). width (heightFor m)) (sym count)
 
-        pub tall : tree′ .height ≡ heightFor n
-        tall = u .height ∙ sz .least
+        pub places : (x : ℕ) → x < n → getD mapping x 0 ≡ index first x
+        places x q = m .leaf x q ∙ ap (λ (o : List ℕ). index o x) front
 
-        pub places : (x : ℕ) → x < n → getD (tree′ .mapping) x 0 ≡ index first x
-        places x q = u .mapping .leaf x (omega (arith, cn)) ∙ ap (λ (m : ℕ). index (take m tasks) x) cn ∙ ap (λ (o : List ℕ). index o x) front
-
-        abbrev pub fillable : Fillable inner n (tree′ .nodes) tasks est (r .durations)
+        abbrev pub fillable : Fillable inner n words₀ tasks est (r .durations)
         fillable = record {
           J = J;
           first = first;
           limited = ordered .limited;
           count = count;
-          tree = new-tree J first inner (tree′ .nodes) (u .nodes) complete;
+          tree = new-tree J first inner words₀ z complete;
           few = few;
           task = order .at;
           known = λ x q. omega (arith, few, count, by-earliest .task x (omega (arith, count)));
@@ -250,13 +244,13 @@ module _ (r : Propagator) (es ls : List ℤ) (posts atoms : ℕ) (a : Runnable r
         }
 
         abbrev pub begun : {words : List ℕ} {ps as′ : List ℤ} → IsTree J first (replicate (J .count) white) inner words → posts ≡ length ps → atoms ≡ length as′
-            → Begun n inner (tree′ .height) words es ps as′ est lst lct (r .durations) tasks candidates (tree′ .mapping)
+            → Begun n inner height words es ps as′ est lst lct (r .durations) tasks candidates mapping
         begun {words} {ps} {as′} t p q = record {
           J = J;
           first = first;
           second = second;
           ordered = ordered;
-          arrays = record { count = count; starts = starts; durations = holds-durations; tasks = order; places = places; tall = tall };
+          arrays = record { count = count; starts = starts; durations = holds-durations; tasks = order; places = places; tall = sz .least };
           latest = latest;
           completions = completions;
           order = candidates-order;

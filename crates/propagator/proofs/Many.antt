@@ -19,9 +19,9 @@ use Rattle.propagator.specs.declared.disjunctive_propagator.Run.{Run}
 use Rattle.propagator.specs.Ran.{Kept, Ran}
 
 -- what is said of an accepted run is not said of it
-pub turned-back : (before : Propagator) (es ls posts atoms : List ℤ) (r : Run) (es′ posts′ atoms′ : List ℤ) → (runNumber before es ls (length posts) (length atoms) ≡ 0 → ⊥)
-    → Kept before es ls (runNumber before es ls (length posts) (length atoms)) posts atoms r es′ posts′ atoms′ → Ran before es ls posts atoms r es′ posts′ atoms′
-turned-back before es ls posts atoms r es′ posts′ atoms′ not k = record { refused = λ n. k; accepted = λ z. absurd (not z) }
+pub turned-back : (before : Propagator) (es ls posts atoms : List ℤ) (r : Run) (es′ posts′ atoms′ : List ℤ) → r .«record» ≡ before → (runNumber before es ls (length posts) (length atoms) ≡ 0 → ⊥)
+    → Kept before es ls (runNumber before es ls (length posts) (length atoms)) posts atoms (r .outcome) es′ posts′ atoms′ → Ran before es ls posts atoms r es′ posts′ atoms′
+turned-back before es ls posts atoms r es′ posts′ atoms′ e not k = record { keeps = e; refused = λ n. k; accepted = λ z. absurd (not z) }
 
 module _ (before : Propagator) (es ls : List ℤ) (posts atoms : ℕ) (h : 48 < length es) where
   -- both are turned back by one number, 20 or 10
@@ -37,5 +37,5 @@ pub too-many : (before : Propagator) (es ls posts atoms : List ℤ) (r : Run) (e
 too-many before es ls posts atoms r es′ posts′ atoms′ h q a =
     let (m, none, many, not) = one-number before es ls (length posts) (length atoms) h in
     let k = a .refused (λ z. not (sym none ∙ z)) in
-    turned-back before es ls posts atoms r es posts′ atoms′ (λ z. not (sym many ∙ z))
-    (record { answer = k .answer ∙ ap refusedBy (none ∙ sym many); keeps = k .keeps; starts = refl; post-words = k .post-words; atom-words = k .atom-words })
+    turned-back before es ls posts atoms r es posts′ atoms′ (a .keeps) (λ z. not (sym many ∙ z))
+    (record { answer = k .answer ∙ ap refusedBy (none ∙ sym many); starts = refl; post-words = k .post-words; atom-words = k .atom-words })

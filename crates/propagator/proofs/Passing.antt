@@ -45,16 +45,15 @@ below-bound : (u b : ℤ) → u <ℤ b → u ≤ℤ (b +ℤ negsuc 0)
 unfolding up dn
 below-bound u b h = omega (ints, sumℤ b (negsuc 0))
 
-module _ (before : Propagator) (es ls : List ℤ) (posts atoms : ℕ) (a : Accepted before es ls posts atoms)
-    (long : length (before .durations) ≡ TASKS) (long₁ : length (before .first) ≡ TASKS) (long₂ : length (before .second) ≡ TASKS) where
+module _ (before : Propagator) (es ls : List ℤ) (posts atoms : ℕ) (a : Accepted before es ls posts atoms) (long : length (before .durations) ≡ TASKS) where
   abbrev l : List ℕ
   l = take (before .count) (before .durations)
 
   abbrev J : Tasks whole
   J = tasksIn before es ls
 
-  accepted : demand.Accepted 200000000 l es ls (take (before .count) (before .first)) (take (before .count) (before .second))
-  accepted = beginning.narrow before es ls posts atoms a long long₁ long₂
+  accepted : demand.Accepted 200000000 l es ls
+  accepted = beginning.narrow before es ls posts atoms a long
 
   lawful : refusal (creationTests (checkDurations before)) ≡ 0
   lawful = natural-accepted l (accepted .some) (accepted .few) (accepted .lasts) (accepted .sum)
@@ -75,8 +74,8 @@ module _ (before : Propagator) (es ls : List ℤ) (posts atoms : ℕ) (a : Accep
       → checkOf (checkDurations before) (atomWords (post (traceOf before es ls) j .reason)) (atomWords (consequentOf (post (traceOf before es ls) j) ∷ [])) ≡ Passed
   post-passes j q =
       let p : Post = post (traceOf before es ls) j in
-      let r : PostRight J p = beginning.right before es ls posts atoms (beginning.runnable before es ls posts atoms a) long long₁ long₂ .posts j q in
-      let s = post-shaped 200000000 (omega arith) l es ls (take (before .count) (before .first)) (take (before .count) (before .second)) accepted j q in
+      let r : PostRight J p = beginning.right before es ls posts atoms (beginning.runnable before es ls posts atoms a) long .posts j q in
+      let s = post-shaped 200000000 (omega arith) l es ls accepted j q in
       checked (p .reason) (some (consequentOf p)) (s .few) (s .because) (shaped-bound (length l) (accepted .few) (consequentOf p) (s .says))
       (every-append (Meets (J .earliest)) (p .reason) (negation (consequentOf p) ∷ []) (met (p .reason) (r .reason-holds)) (below-bound (J .earliest (p .task)) (p .bound) (r .raises), tt))
       (r .reason-passes)
@@ -84,8 +83,8 @@ module _ (before : Propagator) (es ls : List ℤ) (posts atoms : ℕ) (a : Accep
   -- an overload's with none,
   overload-passes : (reason : List Atom) → traceOf before es ls .end ≡ overload reason → checkOf (checkDurations before) (atomWords reason) [] ≡ Passed
   overload-passes reason e =
-      let r = beginning.right before es ls posts atoms (beginning.runnable before es ls posts atoms a) long long₁ long₂ .overloads reason e in
-      let s = overload-shaped 200000000 (omega arith) l es ls (take (before .count) (before .first)) (take (before .count) (before .second)) accepted reason e in
+      let r = beginning.right before es ls posts atoms (beginning.runnable before es ls posts atoms a) long .overloads reason e in
+      let s = overload-shaped 200000000 (omega arith) l es ls accepted reason e in
       checked reason none (s .few) (s .because) tt (met reason (r .reason-holds)) (r .reason-passes)
 
   -- and these are all the reasons.

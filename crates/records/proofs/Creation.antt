@@ -15,7 +15,7 @@ use Rattle.integers.specs.Limits.{TASKS, DURATIONS}
 use Rattle.integers.specs.Filling.{filled}
 use Rattle.integers.specs.Orders.{has}
 use Rattle.integers.specs.Tests.{Test, test, allBelow, refusal, AllPassed}
-use Rattle.integers.proofs.Bools.{clash, and-true}
+use Rattle.integers.proofs.Bools.{clash}
 use Rattle.integers.proofs.Filling.{filled-at, filled-past, getD-fresh}
 use Rattle.integers.proofs.Ints.{leZ-true, le-leZ}
 use Rattle.integers.proofs.Tests.{all-at, all-show, all-ext, accepts, accepted, ground, refuses, broken}

@@ -19,18 +19,12 @@ use Rattle.propagator.proofs.disjunctive_propagator.propagate.Tie as ti
 long : (c : tie.Start) → length (c .args .t1 .durations) ≡ TASKS
 long c = search needs
 
-long₁ : (c : tie.Start) → length (c .args .t1 .first) ≡ TASKS
-long₁ c = search needs
-
-long₂ : (c : tie.Start) → length (c .args .t1 .second) ≡ TASKS
-long₂ c = search needs
-
 -- no test failed
-passed : (c : tie.After-run-accepted-arg) → let a = c .before .before .before .before .before .before .before .before .args in Accepted (a .t1) (a .earliest .now) (a .latest .now) (length (a .posts .now)) (length (a .atoms .now))
-passed c = let a = c .before .before .before .before .before .before .before .before .args in accepted-run (a .t1) (a .earliest .now) (a .latest .now) (length (a .posts .now)) (length (a .atoms .now)) .0 (omega (arith, c .before .before .run-refusal .ensures))
+passed : (c : tie.After-run-accepted-arg) → let a = c .before .before .before .before .before .before .args in Accepted (a .t1) (a .earliest .now) (a .latest .now) (length (a .posts .now)) (length (a .atoms .now))
+passed c = let a = c .before .before .before .before .before .before .args in accepted-run (a .t1) (a .earliest .now) (a .latest .now) (length (a .posts .now)) (length (a .atoms .now)) .0 (omega (arith, c .before .before .run-refusal .ensures))
 
 run-refusal-requires : tie.Need-run-refusal-requires
-run-refusal-requires c κs = let s = c .before .before .before .before .before in record { one = long₁ s; other = long₂ s }
+run-refusal-requires c κs = search needs
 
 same-length : tie.Need-same-length
 same-length c = search needs
@@ -38,12 +32,12 @@ same-length c = search needs
 returns : tie.Need-returns
 returns c =
     let n = c .before in
-    let a = n .before .before .before .before .before .before .args in
-    turned-back (a .t1) (a .earliest .now) (a .latest .now) (a .posts .now) (a .atoms .now) _ _ _ _ (λ z. omega (arith, n .run-refusal .ensures))
-    (record { answer = ap refusedBy (n .run-refusal .ensures); keeps = refl; starts = refl; post-words = refl; atom-words = refl })
+    let a = n .before .before .before .before .args in
+    turned-back (a .t1) (a .earliest .now) (a .latest .now) (a .posts .now) (a .atoms .now) _ _ _ _ refl (λ z. omega (arith, n .run-refusal .ensures))
+    (record { answer = ap refusedBy (n .run-refusal .ensures); starts = refl; post-words = refl; atom-words = refl })
 
 run-accepted-requires : tie.Need-run-accepted-requires
-run-accepted-requires c κs = let a = c .before .before .before .before .before .before .before .before .before .before .args in runnable (a .t1) (a .earliest .now) (a .latest .now) (length (a .posts .now)) (length (a .atoms .now)) (passed (c .before .before))
+run-accepted-requires c κs = let a = c .before .before .before .before .before .before .before .before .args in runnable (a .t1) (a .earliest .now) (a .latest .now) (length (a .posts .now)) (length (a .atoms .now)) (passed (c .before .before))
 
 same-length-2 : tie.Need-same-length-2
 same-length-2 c = search needs
@@ -57,15 +51,16 @@ same-length-4 c = search needs
 returns-2 : tie.Need-returns-2
 returns-2 c =
     let at = c .before .before .before .before .before .before in
-    let s = at .before .before .before .before .before .before .before .before in
+    let s = at .before .before .before .before .before .before in
     let a = s .args in
     let l = c .before .before .before .run-accepted .ensures in
     record {
+      keeps = refl;
       refused = λ h. absurd (h (accepted-run (a .t1) (a .earliest .now) (a .latest .now) (length (a .posts .now)) (length (a .atoms .now)) .1 (passed at)));
       accepted = λ z. record {
         left = l;
-        right = right (a .t1) (a .earliest .now) (a .latest .now) (length (a .posts .now)) (length (a .atoms .now)) (runnable (a .t1) (a .earliest .now) (a .latest .now) (length (a .posts .now)) (length (a .atoms .now)) (passed at)) (long s) (long₁ s) (long₂ s);
-        passes = passing (a .t1) (a .earliest .now) (a .latest .now) (length (a .posts .now)) (length (a .atoms .now)) (passed at) (long s) (long₁ s) (long₂ s);
+        right = right (a .t1) (a .earliest .now) (a .latest .now) (length (a .posts .now)) (length (a .atoms .now)) (runnable (a .t1) (a .earliest .now) (a .latest .now) (length (a .posts .now)) (length (a .atoms .now)) (passed at)) (long s);
+        passes = passing (a .t1) (a .earliest .now) (a .latest .now) (length (a .posts .now)) (length (a .atoms .now)) (passed at) (long s);
         handed = handed (traceOf (a .t1) (a .earliest .now) (a .latest .now)) (a .posts .now) (a .atoms .now) (l .post-words) (l .atom-words);
       };
     }

@@ -1,50 +1,61 @@
--- `propagator::disjunctive_propagator::run_accepted` meets its contract.
+-- `run_accepted`: the arrays and the tree of all tasks are what edge finding asks for, and what it leaves is the trace.
 -- Assumes nothing.
-use mathlib.Core.Path.{_≡_, refl, sym, subst}
+use mathlib.Core.Path.{_≡_, refl}
 use mathlib.Core.List.{List}
 use Prim.Native.Nat.{ℕ}
-use native.Mathlib.Omega.{arith}
-use lib.ListN.{length, take, replicate}
+use lib.ListN.{length, replicate}
 use borrow.Author.Needs.{needs}
 use Rattle.integers.specs.Limits.{TASKS}
-use Rattle.integers.specs.Orders.{Permutes}
-use Rattle.trees.specs.declared.theta_lambda_tree.ThetaLambdaTree.{ThetaLambdaTree}
-use Rattle.trees.specs.Mappings.{Updated}
-use Rattle.records.specs.declared.record.Propagator.{Propagator}
-use Rattle.records.specs.Orders.{byKey}
-use Rattle.records.proofs.Sorted.{numbered, sorted-permutes}
-use Rattle.propagator.proofs.Beginning.{key-small, latest, fillable, begun, left}
+use Rattle.records.proofs.Sorted.{sorted-permutes}
+use Rattle.propagator.specs.Filling.{Fillable, Filled}
+use Rattle.propagator.specs.Finding.{Begun}
+use Rattle.propagator.proofs.Beginning.{key-small, keys-small, latest, fillable, begun, left}
 use Rattle.propagator.proofs.disjunctive_propagator.run_accepted.Statement.{statement}
 use Rattle.propagator.proofs.disjunctive_propagator.run_accepted.Tie as tie
 
--- the arrays of a record have TASKS places
+-- the durations have TASKS places
 long : (c : tie.Start) → length (c .args .t1 .durations) ≡ TASKS
 long c = search needs
 
-long₁ : (c : tie.Start) → length (c .args .t1 .first) ≡ TASKS
-long₁ c = search needs
+-- when the leaves have their places: what each call before left
+abbrev start : tie.After-leaf-places → tie.Start
+start c = c .before .before .before .before .before .before .before .before .before .before .before .before .before .before .before .before .before .before
 
-long₂ : (c : tie.Start) → length (c .args .t1 .second) ≡ TASKS
-long₂ c = search needs
+abbrev est : tie.After-leaf-places → tie.After-moments-of
+est c = c .before .before .before .before .before .before .before .before .before .before .before .before .before .before .before
 
--- when both orders are sorted: what each call before left
-abbrev start : tie.After-sort-by-key2 → tie.Start
-start c = c .before .before .before .before .before .before .before .before .before .before .before .before .before .before .before .before .before .before .before
+abbrev lst : tie.After-leaf-places → tie.After-moments-of2
+lst c = c .before .before .before .before .before .before .before .before .before .before .before .before .before
 
-abbrev est : tie.After-sort-by-key2 → tie.After-moments-of
-est c = c .before .before .before .before .before .before .before .before .before .before .before .before .before .before .before .before
+abbrev lct : tie.After-leaf-places → tie.After-completions
+lct c = c .before .before .before .before .before .before .before .before
 
-abbrev lst : tie.After-sort-by-key2 → tie.After-moments-of2
-lst c = c .before .before .before .before .before .before .before .before .before .before .before .before .before .before
+abbrev tasks : tie.After-leaf-places → tie.After-sorted-by-key
+tasks c = c .before .before .before .before .before .before
 
-abbrev lct : tie.After-sort-by-key2 → tie.After-completions
-lct c = c .before .before .before .before .before .before .before .before .before
+abbrev candidates : tie.After-leaf-places → tie.After-sorted-down-by-key
+candidates c = c .before .before .before .before
 
-abbrev first : tie.After-sort-by-key2 → tie.After-sort-by-key
-first c = c .before .before .before .before .before .before
+abbrev size : tie.After-leaf-places → tie.After-size-for
+size c = c .before .before .before
 
-abbrev keys : tie.After-sort-by-key2 → tie.After-reversed
-keys c = c .before .before .before
+-- the tree of no task can be filled,
+abbrev can-fill : (c : tie.After-leaf-places) → let a = start c .args in
+    Fillable (size c .size-for .result .«number_of_internal_nodes») (a .t1 .count) (replicate 508 0) (tasks c .sorted-by-key .result) (est c .moments-of .last .0) (a .t1 .durations)
+can-fill c =
+    let s = start c in
+    let a = s .args in
+    fillable (a .t1) (a .earliest .now) (a .latest .now) (length (a .posts .now)) (length (a .atoms .now)) (s .pre) (long s) (est c .moments-of .ensures) (lst c .moments-of2 .ensures) (lct c .completions .ensures)
+    (tasks c .sorted-by-key .ensures) (candidates c .sorted-down-by-key .ensures) (size c .size-for .ensures) (c .leaf-places .ensures .0) refl
+
+-- and that of all tasks is what edge finding begins with
+abbrev can-begin : (c : tie.After-leaf-places) (words : List ℕ) → let a = start c .args in Filled (size c .size-for .result .«number_of_internal_nodes») (a .t1 .count) (replicate 508 0) words (tasks c .sorted-by-key .result) (est c .moments-of .last .0) (a .t1 .durations)
+    → Begun (a .t1 .count) (size c .size-for .result .«number_of_internal_nodes») (size c .size-for .result .height) words (a .earliest .now) (a .posts .now) (a .atoms .now) (est c .moments-of .last .0) (lst c .moments-of2 .last .0) (lct c .completions .last .0) (a .t1 .durations) (tasks c .sorted-by-key .result) (candidates c .sorted-down-by-key .result) (c .leaf-places .last .0)
+can-begin c words filled =
+    let s = start c in
+    let a = s .args in
+    begun (a .t1) (a .earliest .now) (a .latest .now) (length (a .posts .now)) (length (a .atoms .now)) (s .pre) (long s) (est c .moments-of .ensures) (lst c .moments-of2 .ensures) (lct c .completions .ensures)
+    (tasks c .sorted-by-key .ensures) (candidates c .sorted-down-by-key .ensures) (size c .size-for .ensures) (c .leaf-places .ensures .0) refl (filled (can-fill c)) refl refl
 
 moments-of-requires : tie.Need-moments-of-requires
 moments-of-requires c κs = search needs
@@ -61,59 +72,26 @@ completions-requires c κs =
           (latest (a .t1) (a .earliest .now) (a .latest .now) (length (a .posts .now)) (length (a .atoms .now)) (s .pre) (long s) (c .before .before .before .before .before .before .moments-of .ensures) (c .before .before .before .before .moments-of2 .ensures)),
     )
 
-sort-by-key-requires : tie.Need-sort-by-key-requires
-sort-by-key-requires c κs = let s = c .before .before .before .before .before .before .before .before .before .before .before .before in numbered (s .args .t1 .count) (s .args .t1 .first) (s .pre .lawful .few) (long₁ s) (s .pre .lawful .first)
+sorted-by-key-requires : tie.Need-sorted-by-key-requires
+sorted-by-key-requires c κs = search needs
 
-reversed-requires : tie.Need-reversed-requires
-reversed-requires c κs = search needs
-
-sort-by-key-requires-2 : tie.Need-sort-by-key-requires-2
-sort-by-key-requires-2 c κs = let s = c .before .before .before .before .before .before .before .before .before .before .before .before .before .before .before .before .before .before in numbered (s .args .t1 .count) (s .args .t1 .second) (s .pre .lawful .few) (long₂ s) (s .pre .lawful .second)
+sorted-down-by-key-requires : tie.Need-sorted-down-by-key-requires
+sorted-down-by-key-requires c κs =
+    let s = c .before .before .before .before .before .before .before .before .before .before .before .before .before in
+    let a = s .args in
+    (s .pre .lawful .few, keys-small (a .t1) (a .earliest .now) (a .latest .now) (length (a .posts .now)) (length (a .atoms .now)) (s .pre) (long s) (c .before .before .before .before .before .before .before .before .before .before .moments-of .ensures) (c .before .before .before .before .before .before .before .before .moments-of2 .ensures) (c .before .before .before .completions .ensures))
 
 size-for-requires : tie.Need-size-for-requires
 size-for-requires c κs = search needs
 
 leaf-places-requires : tie.Need-leaf-places-requires
-leaf-places-requires c κs =
-    let q = c .before .before .before .before in
-    let r = start q .args .t1 in (
-      start q .pre .lawful .few,
-      refl,
-      subst (λ (l : List ℕ). Permutes (r .count) (take (r .count) l)) (sym (first q .sort-by-key .ensures))
-          (sorted-permutes (byKey (est q .moments-of .last .0)) (r .count) (r .first) (omega (arith, long₁ (start q), start q .pre .lawful .few)) (start q .pre .lawful .first)),
-    )
-
--- the tree that `new` and `update` give: its size, the order, and every word 0
-abbrev sizes : tie.After-leaf-places → tie.After-size-for
-sizes l = l .before .before .before .before
-
-abbrev blank : tie.After-leaf-places → ThetaLambdaTree
-blank l = record {
-  nodes = replicate 508 0;
-  mapping = l .leaf-places .last .0;
-  «reverse_mapping» = first (sizes l .before) .sort-by-key .last .0;
-  «number_of_internal_nodes» = sizes l .size-for .result .«number_of_internal_nodes»;
-  height = sizes l .size-for .result .height;
-  count = start (sizes l .before) .args .t1 .count;
-}
-
-updated : (l : tie.After-leaf-places) → Updated (blank l) (blank l) (first (sizes l .before) .sort-by-key .last .0)
-updated l = record { nodes = refl; mapping = l .leaf-places .ensures .0; reverse-mapping = refl; inner = refl; height = refl; count = refl }
+leaf-places-requires c κs = (c .before .before .before .before .before .before .before .before .before .before .before .before .before .before .before .before .before .pre .lawful .few, refl, sorted-permutes (c .before .before .before .before .before .sorted-by-key .ensures))
 
 fill-requires : tie.Need-fill-requires
-fill-requires c κs =
-    let u = c .before .before .before .before .before in
-    let n = sizes u in
-    let q = n .before in
-    fillable (start q .args .t1) (start q .args .earliest .now) (start q .args .latest .now) (length (start q .args .posts .now)) (length (start q .args .atoms .now)) (start q .pre) (long (start q)) (est q .moments-of .ensures) (lst q .moments-of2 .ensures) (lct q .completions .ensures) (first q .sort-by-key .ensures) (keys q .reversed .ensures) (q .sort-by-key2 .ensures) {new = blank u} {tree′ = blank u} (n .size-for .ensures) refl (updated u)
+fill-requires c κs = can-fill (c .before .before .before .before .before)
 
 edge-finding-requires : tie.Need-edge-finding-requires
-edge-finding-requires c κs =
-    let u = c .before .before .before .before .before .before .before .before .before .before .before .before .before .before .before .before .before .before in
-    let n = sizes u in
-    let q = n .before in
-    begun (start q .args .t1) (start q .args .earliest .now) (start q .args .latest .now) (length (start q .args .posts .now)) (length (start q .args .atoms .now)) (start q .pre) (long (start q)) (est q .moments-of .ensures) (lst q .moments-of2 .ensures) (lct q .completions .ensures) (first q .sort-by-key .ensures) (keys q .reversed .ensures) (q .sort-by-key2 .ensures) {new = blank u} {tree′ = blank u} (n .size-for .ensures) refl (updated u)
-    (c .before .before .before .before .before .before .before .before .before .before .before .before .fill .ensures (fillable (start q .args .t1) (start q .args .earliest .now) (start q .args .latest .now) (length (start q .args .posts .now)) (length (start q .args .atoms .now)) (start q .pre) (long (start q)) (est q .moments-of .ensures) (lst q .moments-of2 .ensures) (lct q .completions .ensures) (first q .sort-by-key .ensures) (keys q .reversed .ensures) (q .sort-by-key2 .ensures) {new = blank u} {tree′ = blank u} (n .size-for .ensures) refl (updated u))) refl refl
+edge-finding-requires c κs = can-begin (c .before .before .before .before .before .before .before .before .before .before .before .before .before .before .before .before .before .before) _ (c .before .before .before .before .before .before .before .before .before .before .before .before .fill .ensures)
 
 same-length : tie.Need-same-length
 same-length c = search needs
@@ -127,11 +105,10 @@ same-length-3 c = search needs
 returns : tie.Need-returns
 returns c =
     let u = c .before .before .before .before .before .before .before .before .before .before .before .before .before .before .before .before .before .before .before .before .before .before in
-    let n = sizes u in
-    let q = n .before in
-    left (start q .args .t1) (start q .args .earliest .now) (start q .args .latest .now) (length (start q .args .posts .now)) (length (start q .args .atoms .now)) (start q .pre) (long (start q)) (est q .moments-of .ensures) (lst q .moments-of2 .ensures) (lct q .completions .ensures) (first q .sort-by-key .ensures) (keys q .reversed .ensures) (q .sort-by-key2 .ensures) refl refl
-    (c .before .before .before .edge-finding .ensures (begun (start q .args .t1) (start q .args .earliest .now) (start q .args .latest .now) (length (start q .args .posts .now)) (length (start q .args .atoms .now)) (start q .pre) (long (start q)) (est q .moments-of .ensures) (lst q .moments-of2 .ensures) (lct q .completions .ensures) (first q .sort-by-key .ensures) (keys q .reversed .ensures) (q .sort-by-key2 .ensures) {new = blank u} {tree′ = blank u} (n .size-for .ensures) refl (updated u)
-    (c .before .before .before .before .before .before .before .before .before .before .before .before .before .before .before .before .fill .ensures (fillable (start q .args .t1) (start q .args .earliest .now) (start q .args .latest .now) (length (start q .args .posts .now)) (length (start q .args .atoms .now)) (start q .pre) (long (start q)) (est q .moments-of .ensures) (lst q .moments-of2 .ensures) (lct q .completions .ensures) (first q .sort-by-key .ensures) (keys q .reversed .ensures) (q .sort-by-key2 .ensures) {new = blank u} {tree′ = blank u} (n .size-for .ensures) refl (updated u))) refl refl))
+    let s = start u in
+    let a = s .args in
+    left (a .t1) (a .earliest .now) (a .latest .now) (length (a .posts .now)) (length (a .atoms .now)) (s .pre) (long s) (est u .moments-of .ensures) (lst u .moments-of2 .ensures) (lct u .completions .ensures)
+    (tasks u .sorted-by-key .ensures) (candidates u .sorted-down-by-key .ensures) refl refl (c .before .before .before .edge-finding .ensures (can-begin u _ (c .before .before .before .before .before .before .before .before .before .before .before .before .before .before .before .before .fill .ensures)))
 
 pub run-accepted-spec : {M : Type 1} → statement M
 run-accepted-spec =
@@ -140,9 +117,8 @@ run-accepted-spec =
     moments-of-requires
     moments-of-requires-2
     completions-requires
-    sort-by-key-requires
-    reversed-requires
-    sort-by-key-requires-2
+    sorted-by-key-requires
+    sorted-down-by-key-requires
     size-for-requires
     leaf-places-requires
     fill-requires
