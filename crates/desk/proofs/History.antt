@@ -145,6 +145,6 @@ remove-step r t c a = elim (ℕ-discrete (removeNumber r t) 0) [
 
 pub run-step : (r : Propagator) (es ls posts atoms : List ℤ) (c : Run) (es′ posts′ atoms′ : List ℤ) → Ran r es ls posts atoms c es′ posts′ atoms′ → c .«record» ≡ leaves (runNumber r es ls (length posts) (length atoms)) (carried r es ls) r
 run-step r es ls posts atoms c es′ posts′ atoms′ a = elim (ℕ-discrete (runNumber r es ls (length posts) (length atoms)) 0) [
-  | yes e ↦ a .ran e .carries ∙ leaves-new (runNumber r es ls (length posts) (length atoms)) r (carried r es ls) e
+  | yes e ↦ a .accepted e .left .carries ∙ leaves-new (runNumber r es ls (length posts) (length atoms)) r (carried r es ls) e
   | no e ↦ a .refused e .keeps ∙ leaves-old (runNumber r es ls (length posts) (length atoms)) r (carried r es ls) e
 ]

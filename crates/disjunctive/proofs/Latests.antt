@@ -10,11 +10,15 @@ use lib.ListN.{length, getD, set, take, length-map}
 use lib.Seq.{length-take-le}
 use Rattle.integers.specs.Limits.{TASKS}
 use Rattle.records.specs.declared.record.Propagator.{Propagator}
+use Rattle.propagator.specs.declared.disjunctive_propagator.Outcome.{Outcome}
+use Rattle.mirrored.specs.RanMirrored.{RanMirrored}
 use Rattle.mirrored.proofs.TurnedBack.{too-many-mirrored}
 use Rattle.disjunctive.specs.declared.ranges.Range.{Range}
 use Rattle.disjunctive.specs.declared.ranges.CoreMirrored.{CoreMirrored}
-use Rattle.disjunctive.specs.Ranges.{earliests, latests, RanMirroredLent, RanMirroredCore, startsOf, withLatest}
-use Rattle.disjunctive.proofs.Starts.{anyRange, fits-or-not, taken-all, taken-none, padded-all}
+use Rattle.disjunctive.specs.Ranges.{earliests, latests, RanMirroredCore, startsOf, withLatest}
+use Rattle.disjunctive.specs.RanLent.{RanMirroredLent}
+use Rattle.disjunctive.proofs.MirroredPromising.{promised}
+use Rattle.disjunctive.proofs.Starts.{anyRange, fits-or-not, taken-all, taken-none, padded-all, same-ranges}
 
 pub latest-none : (ys : List Range) → withLatest ys [] ≡ ys
 unfolding withLatest
@@ -49,6 +53,14 @@ earliests-with [] ls = refl
 earliests-with (y ∷ ys) [] = refl
 earliests-with (y ∷ ys) (l ∷ ls) = ap (λ (us : List ℤ). y .earliest ∷ us) (earliests-with ys ls)
 
+-- what a mirrored pass leaves of the ranges' numbers is what the open pass leaves, if no earliest start changes
+kept : (before : Propagator) (ys : List Range) (posts atoms : List ℤ) (answer : Outcome) (zs : List Range) (posts′ atoms′ : List ℤ)
+    → RanMirrored before (earliests ys) (latests ys) posts atoms answer (latests zs) posts′ atoms′ → earliests zs ≡ earliests ys → RanMirroredLent before ys posts atoms answer zs posts′ atoms′
+kept before ys posts atoms answer zs posts′ atoms′ ran same = record {
+  refused = λ n. (let k = ran .refused n in record { number = k .answer; same-ranges = same-ranges ys zs same (k .starts); same-posts = k .post-words; same-atoms = k .atom-words });
+  accepted = λ z. record { promise = promised before ys zs posts atoms posts′ atoms′ answer (ran .accepted z) same; left = ran .accepted z .left };
+}
+
 -- what the core leaves of the ranges taken apart is, put together, what the open pass leaves; where there are too many, the core was passed none
 pub lent-mirrored : (before : Propagator) (ys : List Range) (posts atoms : List ℤ) (r : CoreMirrored) (posts′ atoms′ : List ℤ) → RanMirroredCore before (startsOf ys) posts atoms r posts′ atoms′
     → RanMirroredLent before ys posts atoms (r .outcome) (withLatest ys (take (r .starts .count) (r .starts .latest))) posts′ atoms′
@@ -65,14 +77,13 @@ lent-mirrored before ys posts atoms r posts′ atoms′ c = ⊎-elim few many (f
     few h =
         let e : r .starts .count ≡ n = c .same-count ∙ taken-all n h in
         let l : length ls ≡ n = ap (λ (k : ℕ). length (take k (r .starts .latest))) e ∙ length-take-le n (r .starts .latest) (omega (arith, c .whole)) in
-        record {
-          ran = rw (latests-with ys ls l, c .same-count) (rw (padded-all n (earliests ys) (length-map ys (λ (y : Range). y .earliest)) h, padded-all n (latests ys) (length-map ys (λ (y : Range). y .latest)) h) at (c .ran));
-          same-earliest = earliests-with ys ls;
-        }
+        kept before ys posts atoms (r .outcome) (withLatest ys ls) posts′ atoms′
+        (rw (latests-with ys ls l, c .same-count) (rw (padded-all n (earliests ys) (length-map ys (λ (y : Range). y .earliest)) h, padded-all n (latests ys) (length-map ys (λ (y : Range). y .latest)) h) at (c .ran)))
+        (earliests-with ys ls)
 
     many : TASKS < n → RanMirroredLent before ys posts atoms (r .outcome) (withLatest ys ls) posts′ atoms′
     many h =
         let e : ls ≡ [] = ap (λ (k : ℕ). take k (r .starts .latest)) (c .same-count ∙ taken-none n h) in
         let z : withLatest ys ls ≡ ys = ap (withLatest ys) e ∙ latest-none ys in
         let l : length (earliests ys) ≡ n = length-map ys (λ (y : Range). y .earliest) in
-        rw z (record { ran = too-many-mirrored before (earliests ys) (latests ys) posts atoms _ [] posts′ atoms′ (omega arith) (rw (taken-none n h) at (c .ran)); same-earliest = refl })
+        rw z (kept before ys posts atoms (r .outcome) ys posts′ atoms′ (too-many-mirrored before (earliests ys) (latests ys) posts atoms _ [] posts′ atoms′ (omega arith) (rw (taken-none n h) at (c .ran))) refl)

@@ -1,3 +1,6 @@
+pub mod Answers
+pub mod Promising
+pub mod MirroredPromising
 pub mod Starts
 pub mod Latests
 pub mod Rows

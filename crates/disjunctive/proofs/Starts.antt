@@ -16,6 +16,8 @@ use Rattle.records.specs.declared.record.Propagator.{Propagator}
 use Rattle.counter.specs.declared.overload_test.Overload.{Overload}
 use Rattle.counter.specs.Tested.{OverloadTested}
 use Rattle.counter.proofs.Many.{too-many as overload-too-many}
+use Rattle.propagator.specs.declared.disjunctive_propagator.Outcome.{Outcome}
+use Rattle.propagator.specs.Ran.{Ran}
 use Rattle.propagator.proofs.Many.{too-many}
 use Rattle.charges.specs.declared.answer.Charges.{Charges}
 use Rattle.charges.specs.Charging.{Charged}
@@ -26,7 +28,9 @@ use Rattle.pages.proofs.Paging.{too-many as no-page}
 use Rattle.disjunctive.specs.declared.ranges.Range.{Range}
 use Rattle.disjunctive.specs.declared.ranges.Starts.{Starts}
 use Rattle.disjunctive.specs.declared.ranges.CoreRun.{CoreRun}
-use Rattle.disjunctive.specs.Ranges.{earliests, latests, RanLent, RanCore, taken, padded, startsOf, withStarts}
+use Rattle.disjunctive.specs.Ranges.{earliests, latests, RanCore, taken, padded, startsOf, withStarts}
+use Rattle.disjunctive.specs.RanLent.{RanLent}
+use Rattle.disjunctive.proofs.Promising.{promised}
 
 -- what a list of ranges is read to hold past its end
 abbrev pub anyRange : Range
@@ -120,7 +124,24 @@ only-starts [] (z ∷ zs) e = absurd (cons-ne-nil _ _ e)
 only-starts (y ∷ ys) [] e = absurd (cons-ne-nil _ _ (sym e))
 only-starts (y ∷ ys) (z ∷ zs) e = λ i. record { earliest = z .earliest; latest = head-eq-of-cons-eq e i } ∷ only-starts ys zs (tail-eq-of-cons-eq e) i
 
+-- and where they keep both, they are the old ones
+own-starts : (ys : List Range) → withStarts ys (earliests ys) ≡ ys
+unfolding withStarts
+own-starts [] = refl
+own-starts (y ∷ ys) = ap (λ (us : List Range). y ∷ us) (own-starts ys)
+
+pub same-ranges : (ys zs : List Range) → earliests zs ≡ earliests ys → latests zs ≡ latests ys → zs ≡ ys
+same-ranges ys zs e l = only-starts ys zs l ∙ ap (withStarts ys) e ∙ own-starts ys
+
 -- ---- the whole run
+-- what a run leaves of the ranges' numbers is what the open run leaves, if no latest start changes
+kept : (before : Propagator) (ys : List Range) (posts atoms : List ℤ) (answer : Outcome) (after : Propagator) (zs : List Range) (posts′ atoms′ : List ℤ)
+    → Ran before (earliests ys) (latests ys) posts atoms (record { «record» = after; outcome = answer }) (earliests zs) posts′ atoms′ → latests zs ≡ latests ys → RanLent before ys posts atoms answer after zs posts′ atoms′
+kept before ys posts atoms answer after zs posts′ atoms′ ran same = record {
+  refused = λ n. (let k = ran .refused n in record { number = k .answer; same-record = k .keeps; same-ranges = same-ranges ys zs (k .starts) same; same-posts = k .post-words; same-atoms = k .atom-words });
+  accepted = λ z. record { promise = promised before after ys zs posts atoms posts′ atoms′ answer (ran .accepted z) same; left = ran .accepted z .left };
+}
+
 -- what the core leaves of the ranges taken apart is, put together, what the open run leaves; where there are too many, the core was passed none
 pub lent : (before : Propagator) (ys : List Range) (posts atoms : List ℤ) (r : CoreRun) (posts′ atoms′ : List ℤ) → RanCore before (startsOf ys) posts atoms r posts′ atoms′
     → RanLent before ys posts atoms (r .outcome) (r .«record») (withStarts ys (take (r .starts .count) (r .starts .earliest))) posts′ atoms′
@@ -137,10 +158,9 @@ lent before ys posts atoms r posts′ atoms′ c = ⊎-elim few many (fits-or-no
     few h =
         let e : r .starts .count ≡ n = c .same-count ∙ taken-all n h in
         let l : length es ≡ n = ap (λ (k : ℕ). length (take k (r .starts .earliest))) e ∙ length-take-le n (r .starts .earliest) (omega (arith, c .whole)) in
-        record {
-          ran = rw (earliests-with ys es l, c .same-count) (rw (padded-all n (earliests ys) (length-map ys (λ (y : Range). y .earliest)) h, padded-all n (latests ys) (length-map ys (λ (y : Range). y .latest)) h) at (c .ran));
-          same-latest = latests-with ys es;
-        }
+        kept before ys posts atoms (r .outcome) (r .«record») (withStarts ys es) posts′ atoms′
+        (rw (earliests-with ys es l, c .same-count) (rw (padded-all n (earliests ys) (length-map ys (λ (y : Range). y .earliest)) h, padded-all n (latests ys) (length-map ys (λ (y : Range). y .latest)) h) at (c .ran)))
+        (latests-with ys es)
 
     many : TASKS < n → RanLent before ys posts atoms (r .outcome) (r .«record») (withStarts ys es) posts′ atoms′
     many h =
@@ -148,7 +168,7 @@ lent before ys posts atoms r posts′ atoms′ c = ⊎-elim few many (fits-or-no
         let z : withStarts ys es ≡ ys = ap (withStarts ys) e ∙ with-none ys in
         let l : length (earliests ys) ≡ n = length-map ys (λ (y : Range). y .earliest) in
         let m : length (latests ys) ≡ n = length-map ys (λ (y : Range). y .latest) in
-        rw z (record { ran = too-many before (earliests ys) (latests ys) posts atoms _ [] posts′ atoms′ (omega arith) (m ∙ sym l) (rw (taken-none n h) at (c .ran)); same-latest = refl })
+        rw z (kept before ys posts atoms (r .outcome) (r .«record») ys posts′ atoms′ (too-many before (earliests ys) (latests ys) posts atoms _ [] posts′ atoms′ (omega arith) (m ∙ sym l) (rw (taken-none n h) at (c .ran))) refl)
 
 -- ---- calls that leave the ranges as they are
 -- what a core says of the ranges taken apart holds of the ranges; where there are too many, the core was passed none

@@ -1,4 +1,4 @@
--- What the open run leaves of the record, the ranges, the posts and the atoms that it is lent; then what the functions give that it is made of.
+-- Ranges as lists of numbers, and what the functions give that the calls on lent ranges are made of.
 use mathlib.Core.Bool.{cond}
 use mathlib.Core.List.{List, [], _∷_, _++_, map}
 use mathlib.Core.Path.{_≡_}
@@ -10,7 +10,6 @@ use Rattle.integers.specs.Limits.{TASKS}
 use Rattle.propagator.specs.Ran.{Ran}
 use Rattle.mirrored.specs.RanMirrored.{RanMirrored}
 use Rattle.records.specs.declared.record.Propagator.{Propagator}
-use Rattle.propagator.specs.declared.disjunctive_propagator.Outcome.{Outcome}
 use Rattle.disjunctive.specs.declared.ranges.Range.{Range}
 use Rattle.disjunctive.specs.declared.ranges.Starts.{Starts}
 use Rattle.disjunctive.specs.declared.ranges.CoreRun.{CoreRun}
@@ -23,17 +22,6 @@ earliests ys = map (λ (y : Range). y .earliest) ys
 abbrev pub latests : List Range → List ℤ
 latests ys = map (λ (y : Range). y .latest) ys
 
--- what the open run leaves: of the record, the ranges' earliest starts, the posts and the atoms what a run leaves; and each range keeps its latest start
-pub record RanLent (before : Propagator) (ranges : List Range) (posts atoms : List ℤ) (outcome : Outcome) (after : Propagator) (ranges′ : List Range) (posts′ atoms′ : List ℤ) : Type 0 where
-  pub ran : Ran before (earliests ranges) (latests ranges) posts atoms (record { «record» = after; outcome = outcome }) (earliests ranges′) posts′ atoms′
-  pub same-latest : latests ranges′ ≡ latests ranges
-
--- what the open mirrored pass leaves: of the ranges' latest starts, the posts and the atoms what a mirrored pass leaves; each range keeps its earliest start
-pub record RanMirroredLent (before : Propagator) (ranges : List Range) (posts atoms : List ℤ) (outcome : Outcome) (ranges′ : List Range) (posts′ atoms′ : List ℤ) : Type 0 where
-  pub ran : RanMirrored before (earliests ranges) (latests ranges) posts atoms outcome (latests ranges′) posts′ atoms′
-  pub same-earliest : earliests ranges′ ≡ earliests ranges
-
--- ---- the functions that they are made of
 -- how many of n ranges are taken apart: all of them, and none where there are more than any record has tasks
 unfoldable pub taken : ℕ → ℕ
 taken n = cond (leb n TASKS) n 0

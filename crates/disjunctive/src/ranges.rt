@@ -16,7 +16,8 @@ ghost use Rattle.integers.specs.Limits.{TASKS};
 ghost use Rattle.counter.specs.Tested.{OverloadTested};
 ghost use Rattle.charges.specs.Charging.{Charged};
 ghost use Rattle.pages.specs.Pages.{Paged};
-ghost use Rattle.disjunctive.specs.Ranges.{earliests, latests, RanLent, RanMirroredLent, RanCore, RanMirroredCore, taken, startsOf, withStarts, withLatest};
+ghost use Rattle.disjunctive.specs.Ranges.{earliests, latests, RanCore, RanMirroredCore, taken, startsOf, withStarts, withLatest};
+ghost use Rattle.disjunctive.specs.RanLent.{RanLent, RanMirroredLent};
 
 // A task may start from `earliest` to `latest`.
 #[repr(C)]

@@ -16,7 +16,7 @@ use Rattle.checker.specs.declared.checker.Verdict.{Verdict}
 use Rattle.checker.specs.Checks.{Checked}
 use Rattle.propagator.specs.declared.disjunctive_propagator.Outcome.{Outcome}
 use Rattle.disjunctive.specs.declared.ranges.Range.{Range}
-use Rattle.disjunctive.specs.Ranges.{RanLent}
+use Rattle.disjunctive.specs.RanLent.{RanLent}
 use Rattle.exports.specs.declared.answers.NewPropagator.{NewPropagator}
 use Rattle.exports.specs.declared.answers.RunAnswer.{RunAnswer}
 use Rattle.exports.specs.declared.answers.PostAnswer.{PostAnswer}

@@ -46,10 +46,11 @@ use Rattle.propagator.specs.declared.disjunctive_propagator.Outcome.the-variant
 use Rattle.propagator.specs.declared.disjunctive_propagator.Run.{Run}
 use Rattle.propagator.specs.Finding.{outcomeOf}
 use Rattle.propagator.specs.Ran.{Runnable, traceOf, Left}
+use Rattle.propagator.specs.Outcomes.{valueOf}
+use Rattle.propagator.proofs.Answering.{posts-made}
 use Rattle.propagator.proofs.Beginning.{narrow}
 use Rattle.mirrored.specs.RanMirrored.{mirroredOf, LeftMirrored}
-use Rattle.mirrored.specs.Telling.{Reflectable, Durations, PostsHeld, PostsTold, AtomsHeld, AtomsTold, postsIn, Answered, Ended, Told, RanInMirror}
-use Rattle.mirrored.proofs.Telling.{told-posts}
+use Rattle.mirrored.specs.Telling.{Reflectable, Durations, PostsHeld, PostsTold, AtomsHeld, AtomsTold, Answered, Ended, Told, RanInMirror}
 
 -- What is told ---------------------------------------------------------------------------------------------------------------------
 
@@ -57,8 +58,8 @@ module _ {r : Outcome} {posts atoms : List ℤ} {array : List ℕ} (e : Ended r 
   abbrev pub answered : Answered r posts
   answered = record { trace = e .trace; old = e .old-posts; answer = e .answer; words-are = e .post-words; few = e .few; small = e .small }
 
-  pub post-count : (m : ℕ) → m ≡ postsIn r → m ≡ length (e .trace .posts)
-  post-count m z = z ∙ ap postsIn (e .answer) ∙ told-posts (reasons (e .trace .posts)) (length (e .trace .posts)) (e .trace .end)
+  pub post-count : (m : ℕ) → m ≡ valueOf r 0 → m ≡ length (e .trace .posts)
+  post-count m z = z ∙ ap (λ (o : Outcome). valueOf o 0) (e .answer) ∙ posts-made (reasons (e .trace .posts)) (length (e .trace .posts)) (e .trace .end)
 
   abbrev pub posts-held : (m : ℕ) → m ≡ length (e .trace .posts) → PostsHeld posts m array
   posts-held m z = record {
@@ -292,13 +293,23 @@ module _ (before : Propagator) (es ls : List ℤ) (postCount atomCount : ℕ) (a
       small = few-atoms;
     }
 
-    pub left-mirrored : {posts″ atoms″ : List ℤ} → Told ended posts″ atoms″ → LeftMirrored before es ls posts atoms r ls′ posts″ atoms″
-    left-mirrored t = record {
+    pub left-mirrored : postCount ≤ length posts → atomCount ≤ length atoms → {posts″ atoms″ : List ℤ} → Told ended posts″ atoms″ → LeftMirrored before es ls posts atoms r ls′ posts″ atoms″
+    left-mirrored p q t = record {
       answer = m .answer ∙ sym (same-answer ds (mirroredRun ds es ls));
       starts = m .starts;
       post-words = t .post-words;
       atom-words = t .atom-words;
+      posts-fit = omega (arith, laws.post-words-length ds (mirroredRun ds es ls .posts) 0, laws.mirrored-posts-fit ds es ls (take n (before .first)) (take n (before .second)) here es-long ls-long, count, a .words .posts);
+      atoms-fit = omega (
+        arith,
+        ap (λ (xs : List Atom). length (atomWords xs)) (laws.atoms-mirrored ds (mirroredRun ds es ls)) ∙ laws.atom-words-length ds (atomsIn (mirroredRun ds es ls)),
+        squared,
+        a .words .atoms,
+      );
     }
+      where
+        squared : length (atomWords (atomsIn (mirroredRun ds es ls))) ≤ 6 * (n * n)
+        squared = subst (λ (k : ℕ). length (atomWords (atomsIn (mirroredRun ds es ls))) ≤ 6 * (k * k)) count (laws.mirrored-atoms-fit ds es ls (take n (before .first)) (take n (before .second)) here es-long ls-long)
 
   pub right : MirroredRight (tasksIn before es ls) (mirroredOf before es ls)
   right = laws.mirrored-right ds es ls (take n (before .first)) (take n (before .second)) here es-long ls-long

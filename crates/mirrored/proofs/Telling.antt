@@ -29,7 +29,9 @@ use Rattle.runs.proofs.Readers.{startOf, four-words, last-ends}
 use Rattle.propagator.specs.declared.disjunctive_propagator.Outcome.{Outcome}
 use Rattle.propagator.specs.declared.disjunctive_propagator.Outcome.the-variants as outcome
 use Rattle.propagator.specs.Finding.{outcomeOf}
-use Rattle.mirrored.specs.Telling.{mirroredWord, Mirrorable, Durations, PostsHeld, AtomsHeld, Counted, postsIn, Answered}
+use Rattle.propagator.specs.Outcomes.{valueOf}
+use Rattle.propagator.proofs.Answering.{posts-made}
+use Rattle.mirrored.specs.Telling.{mirroredWord, Mirrorable, Durations, PostsHeld, AtomsHeld, Counted, Answered}
 
 -- Starts, filled in from the front -----------------------------------------------------------------------------------------------
 
@@ -188,13 +190,7 @@ last-counted {words} {count} c h = record {
     at : (i : ℕ) → i < 4 → getD words (4 * j + i) (pos 0) ≡ getD (postWords 0 (c .posts)) (4 * j + i) (pos 0)
     at i q = ap (λ (l : List ℤ). getD l (4 * j + i) (pos 0)) (c .words-are) ∙ List·getD-append (postWords 0 (c .posts)) (c .tail) (pos 0) (4 * j + i) (omega (arith, posts-length (c .posts) 0, inside))
 
--- an outcome tells the number of posts
-pub told-posts : (before : List Atom) (n : ℕ) (e : End) → postsIn (outcomeOf before n e) ≡ n
-told-posts before n done = refl
-told-posts before n (overload r) = refl
-told-posts before n emptied = refl
-
--- which its answer shows, and how many atoms follow them
+-- an answer shows how many atoms follow those of the posts
 done-alone : (m : ℕ) (before : List Atom) (n : ℕ) (e : End) → outcome.Done m ≡ outcomeOf before n e → length (endReason e) ≡ 0
 done-alone m before n done z = refl
 done-alone m before n (overload r) z = let y : _≡_ {A = ℕ} 0 1 = cc in absurd (omega arith)
@@ -226,10 +222,10 @@ module _ {r : Outcome} {words : List ℤ} (a : Answered r words) where
   all-atoms = length-append (reasons ps) (endReason end)
 
   -- the posts that it tells of are counted
-  pub many-posts : postsIn r ≡ length ps
-  many-posts = ap postsIn (a .answer) ∙ told-posts (reasons ps) (length ps) end
+  pub many-posts : valueOf r 0 ≡ length ps
+  many-posts = ap (λ (o : Outcome). valueOf o 0) (a .answer) ∙ posts-made (reasons ps) (length ps) end
 
-  abbrev pub counted : (m : ℕ) → postsIn r ≡ m → Counted words m
+  abbrev pub counted : (m : ℕ) → valueOf r 0 ≡ m → Counted words m
   counted m z = record {
     posts = ps;
     tail = drop (length (postWords 0 ps)) (a .old);

@@ -5,9 +5,9 @@ use mathlib.Core.List.{List, []}
 use Prim.Native.Nat.{_<_}
 use lib.IntN.{ℤ}
 use lib.ListN.{length}
+use Rattle.integers.specs.Answers.{refusedBy}
 use Rattle.records.specs.declared.record.Propagator.{Propagator}
 use Rattle.propagator.specs.declared.disjunctive_propagator.Outcome.{Outcome}
-use Rattle.propagator.specs.declared.disjunctive_propagator.Outcome.the-variants as outcome
 use Rattle.propagator.proofs.Many.{one-number}
 use Rattle.mirrored.specs.RanMirrored.{RanMirrored}
 
@@ -17,7 +17,6 @@ too-many-mirrored before es ls posts atoms r ls′ posts′ atoms′ h a =
     let (m, none, many, not) = one-number before es ls (length posts) (length atoms) h in
     let k = a .refused (λ z. not (sym none ∙ z)) in
     record {
-      refused = λ n. record { answer = k .answer ∙ ap outcome.Refused (none ∙ sym many); starts = refl; post-words = k .post-words; atom-words = k .atom-words };
-      ran = λ z. absurd (not (sym many ∙ z));
-      right = λ z. absurd (not (sym many ∙ z));
+      refused = λ n. record { answer = k .answer ∙ ap refusedBy (none ∙ sym many); starts = refl; post-words = k .post-words; atom-words = k .atom-words };
+      accepted = λ z. absurd (not (sym many ∙ z));
     }

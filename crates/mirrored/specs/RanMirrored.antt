@@ -1,40 +1,50 @@
 -- What the mirrored pass leaves, by its definition, and what that means.
 use mathlib.Core.Path.{_≡_}
 use mathlib.Core.List.{List}
-use Prim.Native.Nat.{ℕ}
+use Prim.Native.Nat.{ℕ, _≤_}
 use lib.IntN.{ℤ}
 use lib.ListN.{length, take}
+use Rattle.integers.specs.Answers.{refusedBy}
+use Rattle.scheduling.specs.Words.{atomWords}
 use Rattle.runs.specs.Traces.{Trace}
-use Rattle.runs.specs.Words.{reasons, postsAfter, atomsAfter}
+use Rattle.runs.specs.Words.{postWords, reasons, atomsIn, postsAfter, atomsAfter}
 use Rattle.runs.specs.Mirrored.{mirroredPass, MirroredRight}
 use Rattle.records.specs.declared.record.Propagator.{Propagator}
+use Rattle.records.specs.Records.{tasksIn}
 use Rattle.records.specs.Refusals.{runNumber}
 use Rattle.propagator.specs.declared.disjunctive_propagator.Outcome.{Outcome}
-use Rattle.propagator.specs.declared.disjunctive_propagator.Outcome.the-variants as outcome
 use Rattle.propagator.specs.Finding.{outcomeOf}
-use Rattle.records.specs.Records.{tasksIn}
+use Rattle.propagator.specs.Outcomes.{outcomeNumbers}
+use Rattle.propagator.specs.Ran.{Handed}
 
 module _ (before : Propagator) (es ls : List ℤ) where
   -- the pass on the record's tasks, in the caller's time; the orders that the record carries are not asked
   abbrev pub mirroredOf : Trace
   mirroredOf = mirroredPass (take (before .count) (before .durations)) es ls
 
-  -- An accepted pass leaves that trace: its answer, the latest starts, and the words of its posts and reasons over what stood in the lent slices.
+  -- An accepted pass leaves that trace: its answer, the latest starts, and the words of its posts and reasons over what stood in the lent slices, which have room for them.
   pub record LeftMirrored (posts atoms : List ℤ) (r : Outcome) (ls′ posts′ atoms′ : List ℤ) : Type 0 where
     pub answer : r ≡ outcomeOf (reasons (mirroredOf .posts)) (length (mirroredOf .posts)) (mirroredOf .end)
     pub starts : ls′ ≡ mirroredOf .starts
     pub post-words : posts′ ≡ postsAfter posts mirroredOf
     pub atom-words : atoms′ ≡ atomsAfter atoms mirroredOf
+    pub posts-fit : length (postWords 0 (mirroredOf .posts)) ≤ length posts
+    pub atoms-fit : length (atomWords (atomsIn mirroredOf)) ≤ length atoms
+
+  -- It is what the mirrored rule gives, and the slices hand out its posts and reasons.
+  pub record AcceptedMirrored (posts atoms : List ℤ) (r : Outcome) (ls′ posts′ atoms′ : List ℤ) : Type 0 where
+    pub left : LeftMirrored posts atoms r ls′ posts′ atoms′
+    pub right : MirroredRight (tasksIn before es ls) mirroredOf
+    pub handed : Handed mirroredOf posts′ atoms′
 
   -- A refused pass leaves everything as it was.
   pub record KeptMirrored (number : ℕ) (posts atoms : List ℤ) (r : Outcome) (ls′ posts′ atoms′ : List ℤ) : Type 0 where
-    pub answer : r ≡ outcome.Refused number
+    pub answer : outcomeNumbers r ≡ refusedBy number
     pub starts : ls′ ≡ ls
     pub post-words : posts′ ≡ posts
     pub atom-words : atoms′ ≡ atoms
 
--- A mirrored pass: the first test of a run that fails on the caller's own numbers turns it back; else it leaves the definition's trace, which is what the mirrored rule gives.
+-- A mirrored pass: the first test of a run that fails on the caller's own numbers turns it back, and nothing changes; else it is accepted.
 pub record RanMirrored (before : Propagator) (es ls posts atoms : List ℤ) (r : Outcome) (ls′ posts′ atoms′ : List ℤ) : Type 0 where
   pub refused : (runNumber before es ls (length posts) (length atoms) ≡ 0 → ⊥) → KeptMirrored before es ls (runNumber before es ls (length posts) (length atoms)) posts atoms r ls′ posts′ atoms′
-  pub ran : runNumber before es ls (length posts) (length atoms) ≡ 0 → LeftMirrored before es ls posts atoms r ls′ posts′ atoms′
-  pub right : runNumber before es ls (length posts) (length atoms) ≡ 0 → MirroredRight (tasksIn before es ls) (mirroredOf before es ls)
+  pub accepted : runNumber before es ls (length posts) (length atoms) ≡ 0 → AcceptedMirrored before es ls posts atoms r ls′ posts′ atoms′

@@ -18,7 +18,6 @@ use Rattle.runs.specs.Demand.{consequentOf, no-post, post}
 use Rattle.runs.specs.MirroredWords.{Near, postsTo, atomsTo}
 use Rattle.records.specs.declared.record.Propagator.{Propagator}
 use Rattle.propagator.specs.declared.disjunctive_propagator.Outcome.{Outcome}
-use Rattle.propagator.specs.declared.disjunctive_propagator.Outcome.the-variants as outcome
 use Rattle.propagator.specs.Finding.{outcomeOf}
 
 -- The starts have a place each, and mirrored they are i32s.
@@ -84,13 +83,6 @@ pub record Counted (words : List ℤ) (count : ℕ) : Type 0 where
   pub number : length posts ≡ count
   pub few : count ≤ TASKS
   pub small : length (reasons posts) ≤ 4608
-
--- how many posts an outcome tells of
-abbrev pub postsIn : Outcome → ℕ
-postsIn (outcome.Done m) = m
-postsIn (outcome.Overload m first count) = m
-postsIn (outcome.Emptied m) = m
-postsIn (outcome.Refused number) = 0
 
 -- A run's answer, and the words of its posts over what stood in the slice.
 pub record Answered (r : Outcome) (words : List ℤ) : Type 0 where

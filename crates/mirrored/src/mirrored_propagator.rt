@@ -16,8 +16,9 @@ ghost use Rattle.scheduling.specs.Mirroring.{mirrorStart};
 ghost use Rattle.runs.specs.Words.{reasons, atomsIn};
 ghost use Rattle.runs.specs.Mirrored.{mirrorStarts};
 ghost use Rattle.records.specs.Refusals.{Accepted};
+ghost use Rattle.propagator.specs.Outcomes.{valueOf};
 ghost use Rattle.mirrored.specs.RanMirrored.{RanMirrored};
-ghost use Rattle.mirrored.specs.Telling.{Reflectable, mirroredWord, Mirrorable, PostsHeld, PostsTold, AtomsHeld, AtomsTold, Counted, postsIn, Answered, Ended, Told, RanInMirror};
+ghost use Rattle.mirrored.specs.Telling.{Reflectable, mirroredWord, Mirrorable, PostsHeld, PostsTold, AtomsHeld, AtomsTold, Counted, Answered, Ended, Told, RanInMirror};
 
 // A start of a task that lasts p, in mirrored time; and back.
 fn mirror_start(x: i32, p: u32) -> i32
@@ -97,7 +98,7 @@ fn atoms_of_posts(posts: &[i32], count: usize) -> usize
 
 // How many posts an outcome tells of.
 fn posts_of(outcome: Outcome) -> usize
-    ensures { λ r. ⌜ r ≡ postsIn outcome ⌝ }
+    ensures { λ r. ⌜ r ≡ valueOf outcome 0 ⌝ }
 {
     match outcome {
         Outcome::Done(m) => m,

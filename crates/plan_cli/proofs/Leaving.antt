@@ -24,7 +24,8 @@ use Rattle.records.specs.Refusals.{runNumber}
 use Rattle.records.proofs.Creation.{created-new, answer-number}
 use Rattle.propagator.specs.declared.disjunctive_propagator.Outcome.the-variants as outcome
 use Rattle.propagator.specs.declared.disjunctive_propagator.Run.{Run}
-use Rattle.propagator.specs.Ran.{traceOf, Left, Handed, Ran}
+use Rattle.propagator.specs.Ran.{traceOf, AcceptedRun, Ran}
+use Rattle.propagator.proofs.Answering.{outcomes-apart}
 use Rattle.plan_cli.specs.Holding.{ATOMS, Held, Holds, ShowsRun, Shown}
 use Rattle.plan_cli.specs.Printed.{numbered, ranOn, planned}
 
@@ -34,8 +35,10 @@ module _ (r : Propagator) (es ls : List ℤ) where
   tr = traceOf r es ls
 
   module _ (p₀ a₀ : List ℤ) (room-p : length p₀ ≡ 4 * TASKS) (room-a : length a₀ ≡ 3 * ATOMS) (ran : Run) (es′ posts atoms : List ℤ) where
-    left-shows : length es′ ≤ TASKS → Left r es ls p₀ a₀ ran es′ posts atoms → Handed r es ls posts atoms → ShowsRun tr (ran .outcome) posts atoms es′
-    left-shows few l h =
+    left-shows : length es′ ≤ TASKS → AcceptedRun r es ls p₀ a₀ ran es′ posts atoms → ShowsRun tr (ran .outcome) posts atoms es′
+    left-shows few a =
+        let l = a .left in
+        let h = a .handed in
         let few-posts : length (tr .posts) ≤ TASKS = omega (arith, l .posts-fit, posts-length (tr .posts) 0, room-p) in
         let few-atoms : length (reasons (tr .posts)) + length (endReason (tr .end)) ≤ ATOMS = omega (arith, l .atoms-fit, atoms-length (reasons (tr .posts) ++ endReason (tr .end)), length-append (reasons (tr .posts)) (endReason (tr .end)), room-a) in
         let long-p : length posts ≡ 4 * TASKS = ap length (l .post-words) ∙ overwritten-length p₀ (postWords 0 (tr .posts)) (l .posts-fit) ∙ room-p in
@@ -56,8 +59,8 @@ module _ (r : Propagator) (es ls : List ℤ) where
     shows few w = subst (λ (k : ℕ). Shown (numbered k (inr tr)) (ran .outcome) posts atoms es′) (λ i. runNumber r es ls (room-p i) (room-a i)) (by (runNumber r es ls (length p₀) (length a₀)) refl)
       where
         by : (k : ℕ) → runNumber r es ls (length p₀) (length a₀) ≡ k → Shown (numbered k (inr tr)) (ran .outcome) posts atoms es′
-        by zero z = left-shows few (w .ran z) (w .handed z)
-        by (suc k) z = w .refused (λ y. omega (arith, y, z)) .answer ∙ ap outcome.Refused z
+        by zero z = left-shows few (w .accepted z)
+        by (suc k) z = outcomes-apart (ran .outcome) (outcome.Refused (runNumber r es ls (length p₀) (length a₀))) (w .refused (λ y. omega (arith, y, z)) .answer) ∙ ap outcome.Refused z
 
 -- ---- creation before it
 module _ (es ls ds : List ℤ) (r : Created) (made : r ≡ created ds) where

@@ -9,3 +9,4 @@ pub mod Beginning
 pub mod Many
 pub mod Passing
 pub mod Handing
+pub mod Answering

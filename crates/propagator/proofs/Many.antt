@@ -8,20 +8,20 @@ use Prim.Native.Nat.{ℕ, _<_}
 use native.Mathlib.Omega.{arith}
 use lib.IntN.{ℤ}
 use lib.ListN.{length}
+use Rattle.integers.specs.Answers.{refusedBy}
 use Rattle.integers.proofs.Bools.{bool, clash}
 use Rattle.records.specs.declared.record.Propagator.{Propagator}
 use Rattle.records.specs.Records.{lawfulRecord}
 use Rattle.records.specs.Refusals.{runNumber}
 use Rattle.records.proofs.Lawful.{lawful-is}
 use Rattle.records.proofs.Refused.{refused-20, refused-10}
-use Rattle.propagator.specs.declared.disjunctive_propagator.Outcome.the-variants as outcome
 use Rattle.propagator.specs.declared.disjunctive_propagator.Run.{Run}
 use Rattle.propagator.specs.Ran.{Kept, Ran}
 
 -- what is said of an accepted run is not said of it
 pub turned-back : (before : Propagator) (es ls posts atoms : List ℤ) (r : Run) (es′ posts′ atoms′ : List ℤ) → (runNumber before es ls (length posts) (length atoms) ≡ 0 → ⊥)
     → Kept before es ls (runNumber before es ls (length posts) (length atoms)) posts atoms r es′ posts′ atoms′ → Ran before es ls posts atoms r es′ posts′ atoms′
-turned-back before es ls posts atoms r es′ posts′ atoms′ not k = record { refused = λ n. k; ran = λ z. absurd (not z); right = λ z. absurd (not z); passes = λ z. absurd (not z); handed = λ z. absurd (not z) }
+turned-back before es ls posts atoms r es′ posts′ atoms′ not k = record { refused = λ n. k; accepted = λ z. absurd (not z) }
 
 module _ (before : Propagator) (es ls : List ℤ) (posts atoms : ℕ) (h : 48 < length es) where
   -- both are turned back by one number, 20 or 10
@@ -38,4 +38,4 @@ too-many before es ls posts atoms r es′ posts′ atoms′ h q a =
     let (m, none, many, not) = one-number before es ls (length posts) (length atoms) h in
     let k = a .refused (λ z. not (sym none ∙ z)) in
     turned-back before es ls posts atoms r es posts′ atoms′ (λ z. not (sym many ∙ z))
-    (record { answer = k .answer ∙ ap outcome.Refused (none ∙ sym many); keeps = k .keeps; starts = refl; post-words = k .post-words; atom-words = k .atom-words })
+    (record { answer = k .answer ∙ ap refusedBy (none ∙ sym many); keeps = k .keeps; starts = refl; post-words = k .post-words; atom-words = k .atom-words })

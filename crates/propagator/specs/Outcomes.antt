@@ -1,6 +1,8 @@
 -- Outcomes by the papers' numbers.
 use mathlib.Core.List.{[], _∷_}
-use lib.IntN.{pos}
+use Prim.Native.Nat.{ℕ}
+use lib.IntN.{pos, natAbs}
+use lib.ListN.{getD}
 use Rattle.integers.specs.Answers.{Answer, answered, refusedBy}
 use Rattle.propagator.specs.declared.disjunctive_propagator.Outcome.{Outcome}
 use Rattle.propagator.specs.declared.disjunctive_propagator.Outcome.the-variants as outcome
@@ -11,3 +13,7 @@ outcomeNumbers (outcome.Done posts) = answered 0 (pos posts ∷ [])
 outcomeNumbers (outcome.Overload posts first count) = answered 1 (pos posts ∷ pos first ∷ pos count ∷ [])
 outcomeNumbers (outcome.Emptied posts) = answered 2 (pos posts ∷ [])
 outcomeNumbers (outcome.Refused number) = refusedBy number
+
+-- value k of an outcome; 0 where it has none
+abbrev pub valueOf : Outcome → ℕ → ℕ
+valueOf o k = natAbs (getD (outcomeNumbers o .values) k (pos 0))

@@ -5,6 +5,7 @@ use Prim.Native.Nat.{ℕ, _+_, _*_, _≤_, _<_}
 use lib.IntN.{ℤ, pos}
 use lib.ListN.{length, getD, take, drop}
 use lib.Signed.{_≤ℤ_}
+use Rattle.integers.specs.Answers.{refusedBy}
 use Rattle.integers.specs.Moments.{Above}
 use Rattle.scheduling.specs.Scheduling.{Atom}
 use Rattle.runs.specs.Traces.{Post, Trace, overload}
@@ -19,10 +20,9 @@ use Rattle.records.specs.Records.{tasksIn, momentsIn, Lawful}
 use Rattle.records.specs.Refusals.{CountsFit, RangesFit, WordsFit, runNumber}
 use Rattle.checker.specs.declared.checker.Verdict.the-variants.{Passed}
 use Rattle.checker.specs.Checks.{checkOf}
-use Rattle.propagator.specs.declared.disjunctive_propagator.Outcome.{Outcome}
-use Rattle.propagator.specs.declared.disjunctive_propagator.Outcome.the-variants as outcome
 use Rattle.propagator.specs.declared.disjunctive_propagator.Run.{Run}
 use Rattle.propagator.specs.Finding.{outcomeOf}
+use Rattle.propagator.specs.Outcomes.{outcomeNumbers}
 
 -- What the core of a run takes for given: what an accepted run does, but that starts may lie twice as far out. So it serves starts in mirrored time too.
 pub record Runnable (before : Propagator) (es ls : List ℤ) (postCount atomCount : ℕ) : Type 0 where
@@ -43,6 +43,16 @@ pub record Read (p : Post) (posts atoms : List ℤ) (count j : ℕ) : Type 0 whe
   pub reason : reasonWords posts atoms count j ≡ atomWords (p .reason)
   pub task : getD posts (4 * j) (pos 0) ≡ pos (p .task)
   pub bound : getD posts (4 * j + 1) (pos 0) ≡ p .bound
+
+-- An overload's reason, as a caller reads it from the slice of atoms, from atom `first` on.
+pub record ReadOverload (reason : List Atom) (atoms : List ℤ) (first : ℕ) : Type 0 where
+  pub inside : 3 * first + 3 * length reason ≤ length atoms
+  pub words : take (3 * length reason) (drop (3 * first) atoms) ≡ atomWords reason
+
+-- The slices hand out each post of a trace, and an overload's reason where the outcome says that it stands.
+pub record Handed (t : Trace) (posts′ atoms′ : List ℤ) : Type 0 where
+  pub posts : (j : ℕ) → j < length (t .posts) → Read (post t j) posts′ atoms′ (length (t .posts)) j
+  pub overloads : (reason : List Atom) → t .end ≡ overload reason → ReadOverload reason atoms′ (length (reasons (t .posts)))
 
 module _ (before : Propagator) (es ls : List ℤ) where
   -- the run on a record's tasks, with the orders that it carries
@@ -74,23 +84,22 @@ module _ (before : Propagator) (es ls : List ℤ) where
     pub posts : (j : ℕ) → j < length (traceOf .posts) → checkOf (checkDurations before) (atomWords (post traceOf j .reason)) (atomWords (consequentOf (post traceOf j) ∷ [])) ≡ Passed
     pub overloads : (reason : List Atom) → traceOf .end ≡ overload reason → checkOf (checkDurations before) (atomWords reason) [] ≡ Passed
 
-  -- The slices hand out each post, and an overload's reason where the outcome says that it stands.
-  pub record Handed (posts′ atoms′ : List ℤ) : Type 0 where
-    pub posts : (j : ℕ) → j < length (traceOf .posts) → Read (post traceOf j) posts′ atoms′ (length (traceOf .posts)) j
-    pub overloads : (reason : List Atom) → traceOf .end ≡ overload reason → take (3 * length reason) (drop (3 * length (reasons (traceOf .posts))) atoms′) ≡ atomWords reason
+  -- It is right, its reasons pass the check, and the slices hand them out.
+  pub record AcceptedRun (posts atoms : List ℤ) (r : Run) (es′ posts′ atoms′ : List ℤ) : Type 0 where
+    pub left : Left posts atoms r es′ posts′ atoms′
+    pub right : Right (tasksIn before es ls) traceOf
+    pub passes : Passing
+    pub handed : Handed traceOf posts′ atoms′
 
   -- A refused run leaves everything as it was.
   pub record Kept (number : ℕ) (posts atoms : List ℤ) (r : Run) (es′ posts′ atoms′ : List ℤ) : Type 0 where
-    pub answer : r .outcome ≡ outcome.Refused number
+    pub answer : outcomeNumbers (r .outcome) ≡ refusedBy number
     pub keeps : r .«record» ≡ before
     pub starts : es′ ≡ es
     pub post-words : posts′ ≡ posts
     pub atom-words : atoms′ ≡ atoms
 
--- A run: the first test that fails turns it back; else it leaves the definition's trace, which is right, its reasons pass the check, and the slices hand them out.
+-- A run: the first test that fails turns it back, and nothing changes; else it is accepted.
 pub record Ran (before : Propagator) (es ls posts atoms : List ℤ) (r : Run) (es′ posts′ atoms′ : List ℤ) : Type 0 where
   pub refused : (runNumber before es ls (length posts) (length atoms) ≡ 0 → ⊥) → Kept before es ls (runNumber before es ls (length posts) (length atoms)) posts atoms r es′ posts′ atoms′
-  pub ran : runNumber before es ls (length posts) (length atoms) ≡ 0 → Left before es ls posts atoms r es′ posts′ atoms′
-  pub right : runNumber before es ls (length posts) (length atoms) ≡ 0 → Right (tasksIn before es ls) (traceOf before es ls)
-  pub passes : runNumber before es ls (length posts) (length atoms) ≡ 0 → Passing before es ls
-  pub handed : runNumber before es ls (length posts) (length atoms) ≡ 0 → Handed before es ls posts′ atoms′
+  pub accepted : runNumber before es ls (length posts) (length atoms) ≡ 0 → AcceptedRun before es ls posts atoms r es′ posts′ atoms′

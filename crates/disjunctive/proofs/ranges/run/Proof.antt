@@ -53,7 +53,8 @@ use Rattle.records.proofs.record.Propagator as P
 use Rattle.records.proofs.record.Propagator.Laws as P′
 use Rattle.propagator.proofs.disjunctive_propagator.Outcome as O
 use Rattle.propagator.proofs.disjunctive_propagator.Outcome.Laws as O′
-use Rattle.disjunctive.specs.Ranges.{RanLent, RanCore, startsOf, withStarts}
+use Rattle.disjunctive.specs.Ranges.{RanCore, startsOf, withStarts}
+use Rattle.disjunctive.specs.RanLent.{RanLent}
 use Rattle.disjunctive.specs.declared.ranges.Range.{Range}
 use Rattle.disjunctive.specs.declared.ranges.Starts.{Starts}
 use Rattle.disjunctive.specs.declared.ranges.CoreRun.{CoreRun}

@@ -52,7 +52,8 @@ use Rattle.records.proofs.record.Propagator as P
 use Rattle.records.proofs.record.Propagator.Laws as P′
 use Rattle.propagator.proofs.disjunctive_propagator.Outcome as O
 use Rattle.propagator.proofs.disjunctive_propagator.Outcome.Laws as O′
-use Rattle.disjunctive.specs.Ranges.{RanMirroredLent, RanMirroredCore, startsOf, withLatest}
+use Rattle.disjunctive.specs.Ranges.{RanMirroredCore, startsOf, withLatest}
+use Rattle.disjunctive.specs.RanLent.{RanMirroredLent}
 use Rattle.disjunctive.specs.declared.ranges.Range.{Range}
 use Rattle.disjunctive.specs.declared.ranges.Starts.{Starts}
 use Rattle.disjunctive.specs.declared.ranges.CoreMirrored.{CoreMirrored}

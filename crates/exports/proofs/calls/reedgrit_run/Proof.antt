@@ -41,7 +41,7 @@ use Rattle.records.proofs.record.Propagator as P
 use Rattle.propagator.specs.declared.disjunctive_propagator.Outcome.{Outcome}
 use Rattle.propagator.proofs.disjunctive_propagator.Outcome as O
 use Rattle.propagator.proofs.disjunctive_propagator.Outcome.Laws as O′
-use Rattle.disjunctive.specs.Ranges.{RanLent}
+use Rattle.disjunctive.specs.RanLent.{RanLent}
 use Rattle.disjunctive.specs.declared.ranges.Range.{Range}
 use Rattle.disjunctive.proofs.ranges.Range as T
 use Rattle.disjunctive.proofs.ranges.run as lent

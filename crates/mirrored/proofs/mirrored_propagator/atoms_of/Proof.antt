@@ -4,7 +4,8 @@ use mathlib.Core.Path.{sym, ap, _∙_}
 use native.Mathlib.Omega.{arith}
 use lib.ListN.{length}
 use Rattle.runs.specs.Words.{reasons}
-use Rattle.mirrored.specs.Telling.{postsIn}
+use Rattle.propagator.specs.declared.disjunctive_propagator.Outcome.{Outcome}
+use Rattle.propagator.specs.Outcomes.{valueOf}
 use Rattle.mirrored.proofs.Telling.{counted, done-atoms, emptied-atoms, overload-atoms, no-refusal}
 use borrow.Author.Needs.{needs}
 use Rattle.mirrored.proofs.mirrored_propagator.atoms_of.Statement.{statement}
@@ -14,7 +15,7 @@ enum-known-outcome : tie.Need-enum-known-outcome
 enum-known-outcome c = search needs
 
 atoms-of-posts-requires : tie.Need-atoms-of-posts-requires
-atoms-of-posts-requires c κs = let o = c .before .outcome .given in counted (c .before .before .before .pre) (o .0 .0) (ap postsIn (o .1))
+atoms-of-posts-requires c κs = let o = c .before .outcome .given in counted (c .before .before .before .pre) (o .0 .0) (ap (λ (r : Outcome). valueOf r 0) (o .1))
 
 enum-known-outcome-2 : tie.Need-enum-known-outcome-2
 enum-known-outcome-2 c = search needs
@@ -29,19 +30,19 @@ enum-known-outcome-3 : tie.Need-enum-known-outcome-3
 enum-known-outcome-3 c = search needs
 
 atoms-of-posts-requires-2 : tie.Need-atoms-of-posts-requires-2
-atoms-of-posts-requires-2 c κs = let o = c .before .outcome3 .given in counted (c .before .before .before .pre) (o .0 .0) (ap postsIn (o .1))
+atoms-of-posts-requires-2 c κs = let o = c .before .outcome3 .given in counted (c .before .before .before .pre) (o .0 .0) (ap (λ (r : Outcome). valueOf r 0) (o .1))
 
 enum-told : tie.Need-enum-told
 enum-told c = search needs
 
 returns : tie.Need-returns
-returns c = λ a. let o = c .before .before .outcome .given in c .atoms-of-posts .ensures (counted a (o .0 .0) (ap postsIn (o .1))) ∙ done-atoms a (o .0 .0) (o .1)
+returns c = λ a. let o = c .before .before .outcome .given in c .atoms-of-posts .ensures (counted a (o .0 .0) (ap (λ (r : Outcome). valueOf r 0) (o .1))) ∙ done-atoms a (o .0 .0) (o .1)
 
 returns-2 : tie.Need-returns-2
 returns-2 c = λ a. let o = c .before .outcome2 .given in overload-atoms a (o .0 .0) (o .0 .1 .0) (o .0 .1 .1 .0) (o .1)
 
 returns-3 : tie.Need-returns-3
-returns-3 c = λ a. let o = c .before .before .outcome3 .given in c .atoms-of-posts2 .ensures (counted a (o .0 .0) (ap postsIn (o .1))) ∙ emptied-atoms a (o .0 .0) (o .1)
+returns-3 c = λ a. let o = c .before .before .outcome3 .given in c .atoms-of-posts2 .ensures (counted a (o .0 .0) (ap (λ (r : Outcome). valueOf r 0) (o .1))) ∙ emptied-atoms a (o .0 .0) (o .1)
 
 returns-4 : tie.Need-returns-4
 returns-4 c = λ a. let o = c .enum-told .given in absurd (no-refusal (o .0 .0) (reasons (a .trace .posts)) (length (a .trace .posts)) (a .trace .end) (sym (o .1) ∙ a .answer))

@@ -1,12 +1,14 @@
--- `mirrored::mirrored_propagator::propagate_mirrored` meets its contract.
+-- `mirrored::mirrored_propagator::propagate_mirrored` meets its contract: what no test turns back is run in mirrored time and told in the caller's.
 -- Assumes nothing.
 use mathlib.Core.Path.{_≡_, refl, ap}
 use native.Mathlib.Omega.{arith}
 use lib.ListN.{length}
+use Rattle.integers.specs.Answers.{refusedBy}
 use Rattle.integers.specs.Limits.{TASKS}
 use Rattle.records.specs.Refusals.{Accepted}
 use Rattle.records.proofs.Refused.{accepted-run}
-use Rattle.propagator.specs.declared.disjunctive_propagator.Outcome.the-variants as outcome
+use Rattle.propagator.proofs.Handing.{handed}
+use Rattle.mirrored.specs.RanMirrored.{mirroredOf}
 use Rattle.mirrored.proofs.Endings.{ended, left-mirrored, right}
 use borrow.Author.Needs.{needs}
 use Rattle.mirrored.proofs.mirrored_propagator.propagate_mirrored.Statement.{statement}
@@ -36,9 +38,8 @@ returns : tie.Need-returns
 returns c =
     let e = c .before .run-refusal .ensures in
     record {
-      refused = λ z. record { answer = ap outcome.Refused e; starts = refl; post-words = refl; atom-words = refl };
-      ran = λ z. absurd (omega (arith, e, z));
-      right = λ z. absurd (omega (arith, e, z));
+      refused = λ z. record { answer = ap refusedBy e; starts = refl; post-words = refl; atom-words = refl };
+      accepted = λ z. absurd (omega (arith, e, z));
     }
 
 run-in-mirror-requires : tie.Need-run-in-mirror-requires
@@ -66,10 +67,15 @@ returns-2 c =
     let s = e .before .before .before .before .before .before .before in
     let a = s .args in
     let r = c .before .before .before .before .before .before .before .before .before .run-in-mirror .ensures in
+    let l = left-mirrored (a .t1) (a .earliest .now) (a .latest .now) (length (a .posts .now)) (length (a .atoms .now)) (passed e) (long s) (long₁ s) (long₂ s) r (omega arith) (omega arith)
+    (c .before .before .tell .ensures (ended (a .t1) (a .earliest .now) (a .latest .now) (length (a .posts .now)) (length (a .atoms .now)) (passed e) (long s) (long₁ s) (long₂ s) r)) in
     record {
       refused = λ h. absurd (h (accepted-run (a .t1) (a .earliest .now) (a .latest .now) (length (a .posts .now)) (length (a .atoms .now)) .1 (passed e)));
-      ran = λ z. left-mirrored (a .t1) (a .earliest .now) (a .latest .now) (length (a .posts .now)) (length (a .atoms .now)) (passed e) (long s) (long₁ s) (long₂ s) r (c .before .before .tell .ensures (ended (a .t1) (a .earliest .now) (a .latest .now) (length (a .posts .now)) (length (a .atoms .now)) (passed e) (long s) (long₁ s) (long₂ s) r));
-      right = λ z. right (a .t1) (a .earliest .now) (a .latest .now) (length (a .posts .now)) (length (a .atoms .now)) (passed e) (long s) (long₁ s) (long₂ s);
+      accepted = λ z. record {
+        left = l;
+        right = right (a .t1) (a .earliest .now) (a .latest .now) (length (a .posts .now)) (length (a .atoms .now)) (passed e) (long s) (long₁ s) (long₂ s);
+        handed = handed (mirroredOf (a .t1) (a .earliest .now) (a .latest .now)) (a .posts .now) (a .atoms .now) (l .post-words) (l .atom-words);
+      };
     }
 
 pub propagate-mirrored-spec : {M : Type 1} → statement M

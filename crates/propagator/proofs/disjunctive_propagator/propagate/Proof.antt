@@ -1,13 +1,14 @@
--- `propagator::disjunctive_propagator::propagate` meets its contract.
+-- `propagator::disjunctive_propagator::propagate` meets its contract: what no test turns back is run, and what is true of the definition's trace is true of what was left.
 -- Assumes nothing.
 use mathlib.Core.Path.{_≡_, refl, sym, ap, _∙_}
 use native.Mathlib.Omega.{arith}
 use lib.ListN.{length}
 use borrow.Author.Needs.{needs}
+use Rattle.integers.specs.Answers.{refusedBy}
 use Rattle.integers.specs.Limits.{TASKS}
 use Rattle.records.specs.Refusals.{Accepted, runNumber}
 use Rattle.records.proofs.Refused.{accepted-run}
-use Rattle.propagator.specs.declared.disjunctive_propagator.Outcome.the-variants as outcome
+use Rattle.propagator.specs.Ran.{traceOf}
 use Rattle.propagator.proofs.Beginning.{runnable, right}
 use Rattle.propagator.proofs.Many.{turned-back}
 use Rattle.propagator.proofs.Passing.{passing}
@@ -39,7 +40,7 @@ returns c =
     let n = c .before in
     let a = n .before .before .before .before .before .before .args in
     turned-back (a .t1) (a .earliest .now) (a .latest .now) (a .posts .now) (a .atoms .now) _ _ _ _ (λ z. omega (arith, n .run-refusal .ensures))
-    (record { answer = ap outcome.Refused (n .run-refusal .ensures); keeps = refl; starts = refl; post-words = refl; atom-words = refl })
+    (record { answer = ap refusedBy (n .run-refusal .ensures); keeps = refl; starts = refl; post-words = refl; atom-words = refl })
 
 run-accepted-requires : tie.Need-run-accepted-requires
 run-accepted-requires c κs = let a = c .before .before .before .before .before .before .before .before .before .before .args in runnable (a .t1) (a .earliest .now) (a .latest .now) (length (a .posts .now)) (length (a .atoms .now)) (passed (c .before .before))
@@ -58,12 +59,15 @@ returns-2 c =
     let at = c .before .before .before .before .before .before in
     let s = at .before .before .before .before .before .before .before .before in
     let a = s .args in
+    let l = c .before .before .before .run-accepted .ensures in
     record {
       refused = λ h. absurd (h (accepted-run (a .t1) (a .earliest .now) (a .latest .now) (length (a .posts .now)) (length (a .atoms .now)) .1 (passed at)));
-      ran = λ z. c .before .before .before .run-accepted .ensures;
-      right = λ z. right (a .t1) (a .earliest .now) (a .latest .now) (length (a .posts .now)) (length (a .atoms .now)) (runnable (a .t1) (a .earliest .now) (a .latest .now) (length (a .posts .now)) (length (a .atoms .now)) (passed at)) (long s) (long₁ s) (long₂ s);
-      passes = λ z. passing (a .t1) (a .earliest .now) (a .latest .now) (length (a .posts .now)) (length (a .atoms .now)) (passed at) (long s) (long₁ s) (long₂ s);
-      handed = λ z. handed (a .t1) (a .earliest .now) (a .latest .now) (a .posts .now) (a .atoms .now) (c .before .before .before .run-accepted .ensures);
+      accepted = λ z. record {
+        left = l;
+        right = right (a .t1) (a .earliest .now) (a .latest .now) (length (a .posts .now)) (length (a .atoms .now)) (runnable (a .t1) (a .earliest .now) (a .latest .now) (length (a .posts .now)) (length (a .atoms .now)) (passed at)) (long s) (long₁ s) (long₂ s);
+        passes = passing (a .t1) (a .earliest .now) (a .latest .now) (length (a .posts .now)) (length (a .atoms .now)) (passed at) (long s) (long₁ s) (long₂ s);
+        handed = handed (traceOf (a .t1) (a .earliest .now) (a .latest .now)) (a .posts .now) (a .atoms .now) (l .post-words) (l .atom-words);
+      };
     }
 
 pub propagate-spec : {M : Type 1} → statement M

@@ -1,0 +1,85 @@
+-- What an accepted mirrored pass promises its caller, as `Promise` does for a run: latest starts fall by the mirrored rule, and posts and reasons are in the caller's time.
+use mathlib.Core.Path.{_≡_}
+use mathlib.Core.Logic.{_↔_}
+use mathlib.Core.List.{List}
+use Prim.Native.Nat.{ℕ, _+_, _*_, _≤_, _<_}
+use lib.IntN.{ℤ, pos}
+use lib.ListN.{length, getD}
+use lib.Signed.{_≤ℤ_, _<ℤ_}
+use Rattle.scheduling.specs.Scheduling.{whole, Tasks, Schedule, Atom, HoldsAtEntry, PassesWith, PassesAlone}
+use Rattle.scheduling.specs.Mirroring.{mirror, mirrorAtom, mirrorAtoms, MirroredBound, MirroredConflict, MirroredDone}
+use Rattle.checking.specs.Atoms.{atomsOf}
+use Rattle.records.specs.declared.record.Propagator.{Propagator}
+use Rattle.records.specs.Posts.{postNumber}
+use Rattle.propagator.specs.declared.disjunctive_propagator.Outcome.{Outcome}
+use Rattle.propagator.specs.Outcomes.{outcomeNumbers, valueOf}
+use Rattle.disjunctive.specs.declared.ranges.Range.{Range}
+use Rattle.disjunctive.specs.Ranges.{earliests, latests}
+use Rattle.disjunctive.specs.Promise.{tasksLent, taskOf, boundOf, reasonOf, overloadOf}
+
+module _ (before : Propagator) (ranges : List Range) (answer : Outcome) (ranges′ : List Range) (posts atoms : List ℤ) where
+  -- the tasks at entry
+  abbrev J : Tasks whole
+  J = tasksLent before ranges
+
+  -- the answer's kind: 0 is Done, 1 Overload, 2 Emptied
+  abbrev kind : ℕ
+  kind = outcomeNumbers answer .kind
+
+  -- how many posts there are, and the task and the bound of each
+  abbrev made : ℕ
+  made = valueOf answer 0
+
+  abbrev task : ℕ → ℕ
+  task = taskOf posts
+
+  abbrev bound : ℕ → ℤ
+  bound = boundOf posts
+
+  -- the latest start that task k is left with
+  abbrev now : ℕ → ℤ
+  now k = getD (latests ranges′) k (pos 0)
+
+  -- the atoms of a reason, mirrored
+  abbrev mirrored : List ℤ → List Atom
+  mirrored words = mirrorAtoms (J .duration) (atomsOf words)
+
+  -- Post j.
+  pub record MirroredPostPromise (j : ℕ) : Type 0 where
+    -- The post reader takes it.
+    pub read : postNumber posts atoms made j ≡ 0
+    -- Its first word is a task's number.
+    pub names : getD posts (4 * j) (pos 0) ≡ pos (task j)
+    pub small : task j < J .count
+    -- Its bound is one of the mirrored rule for the task, below the latest start.
+    pub rule : MirroredBound J (task j) (bound j)
+    pub lowers : bound j <ℤ J .latest (task j)
+    -- It holds in all schedules.
+    pub holds : (s : ℕ → ℤ) → Schedule J s → s (task j) ≤ℤ bound j
+    -- The reason that the reader hands out holds at entry and, mirrored, meets the checker's formula for task ≤ bound, mirrored.
+    pub reason-holds : HoldsAtEntry J (atomsOf (reasonOf answer posts atoms j))
+    pub reason-passes : PassesWith (mirror J) (mirrored (reasonOf answer posts atoms j)) (mirrorAtom (J .duration) (record { variable = task j; kind = 1; value = bound j }))
+
+  -- An overload.
+  pub record MirroredOverloadPromise : Type 0 where
+    -- The atoms of its reason are inside the slice.
+    pub inside : 3 * valueOf answer 1 + 3 * valueOf answer 2 ≤ length atoms
+    -- The reason holds at entry and, mirrored, meets the checker's formula without consequent.
+    pub reason-holds : HoldsAtEntry J (atomsOf (overloadOf answer atoms))
+    pub reason-passes : PassesAlone (mirror J) (mirrored (overloadOf answer atoms))
+
+  pub record MirroredPromise : Type 0 where
+    -- The pass is Done, or it ends in Overload or Emptied.
+    pub ends : kind < 3
+    -- It is Done exactly when no set of tasks overloads its span and no bound of the mirrored rule is below an earliest start, over every set and every task outside it.
+    pub exactly : kind ≡ 0 ↔ (MirroredConflict J → ⊥)
+    -- Each latest start is then the smallest of its old value and all bounds that the mirrored rule gives; the posts are one for each task so moved, at the smallest of its bounds, and no others.
+    pub when-done : kind ≡ 0 → MirroredDone J now made task bound
+    -- An overload or emptied range means that no schedule exists.
+    pub otherwise : (kind ≡ 0 → ⊥) → (s : ℕ → ℤ) → Schedule J s → ⊥
+    -- Whatever the outcome, every post holds in all schedules, and its reason holds at entry and, mirrored, meets the checker's formula.
+    pub every-post : (j : ℕ) → j < made → MirroredPostPromise j
+    -- So does an overload's reason.
+    pub overload : kind ≡ 1 → MirroredOverloadPromise
+    -- No earliest start changes.
+    pub same-earliest : earliests ranges′ ≡ earliests ranges

@@ -1,0 +1,60 @@
+-- The contracts of the open run and the open mirrored pass, on a lent record, lent ranges and lent words: refused or accepted.
+use mathlib.Core.Path.{_≡_}
+use mathlib.Core.List.{List}
+use Prim.Native.Nat.{ℕ}
+use lib.IntN.{ℤ}
+use lib.ListN.{length}
+use Rattle.integers.specs.Answers.{refusedBy}
+use Rattle.records.specs.declared.record.Propagator.{Propagator}
+use Rattle.records.specs.Refusals.{runNumber}
+use Rattle.propagator.specs.declared.disjunctive_propagator.Outcome.{Outcome}
+use Rattle.propagator.specs.Outcomes.{outcomeNumbers}
+use Rattle.propagator.specs.Ran.{Left}
+use Rattle.mirrored.specs.RanMirrored.{LeftMirrored}
+use Rattle.disjunctive.specs.declared.ranges.Range.{Range}
+use Rattle.disjunctive.specs.Ranges.{earliests, latests}
+use Rattle.disjunctive.specs.Promise.{Promise}
+use Rattle.disjunctive.specs.MirroredPromise.{MirroredPromise}
+
+-- the number that turns a run or a mirrored pass back; 0 where none does
+abbrev pub lentNumber : Propagator → List Range → List ℤ → List ℤ → ℕ
+lentNumber before ranges posts atoms = runNumber before (earliests ranges) (latests ranges) (length posts) (length atoms)
+
+-- The run ----------------------------------------------------------------------------------------------------------------------
+
+module _ (before : Propagator) (ranges : List Range) (posts atoms : List ℤ) (answer : Outcome) (after : Propagator) (ranges′ : List Range) (posts′ atoms′ : List ℤ) where
+  -- A refused run answers the number and changes nothing.
+  pub record RefusedLent : Type 0 where
+    pub number : outcomeNumbers answer ≡ refusedBy (lentNumber before ranges posts atoms)
+    pub same-record : after ≡ before
+    pub same-ranges : ranges′ ≡ ranges
+    pub same-posts : posts′ ≡ posts
+    pub same-atoms : atoms′ ≡ atoms
+
+  -- An accepted one keeps the promise, and leaves what the run's definition does: the answer, the earliest starts, the words of posts and reasons over what stood there, and the record.
+  pub record AcceptedLent : Type 0 where
+    pub promise : Promise before ranges answer ranges′ posts′ atoms′
+    pub left : Left before (earliests ranges) (latests ranges) posts atoms (record { «record» = after; outcome = answer }) (earliests ranges′) posts′ atoms′
+
+  pub record RanLent : Type 0 where
+    pub refused : (lentNumber before ranges posts atoms ≡ 0 → ⊥) → RefusedLent
+    pub accepted : lentNumber before ranges posts atoms ≡ 0 → AcceptedLent
+
+-- The mirrored pass ------------------------------------------------------------------------------------------------------------
+
+module _ (before : Propagator) (ranges : List Range) (posts atoms : List ℤ) (answer : Outcome) (ranges′ : List Range) (posts′ atoms′ : List ℤ) where
+  -- A refused pass answers the number and changes nothing.
+  pub record RefusedMirroredLent : Type 0 where
+    pub number : outcomeNumbers answer ≡ refusedBy (lentNumber before ranges posts atoms)
+    pub same-ranges : ranges′ ≡ ranges
+    pub same-posts : posts′ ≡ posts
+    pub same-atoms : atoms′ ≡ atoms
+
+  -- An accepted one keeps its promise, and leaves what the pass's definition does: the answer, the latest starts, and the words of posts and reasons over what stood there.
+  pub record AcceptedMirroredLent : Type 0 where
+    pub promise : MirroredPromise before ranges answer ranges′ posts′ atoms′
+    pub left : LeftMirrored before (earliests ranges) (latests ranges) posts atoms answer (latests ranges′) posts′ atoms′
+
+  pub record RanMirroredLent : Type 0 where
+    pub refused : (lentNumber before ranges posts atoms ≡ 0 → ⊥) → RefusedMirroredLent
+    pub accepted : lentNumber before ranges posts atoms ≡ 0 → AcceptedMirroredLent
