@@ -5,6 +5,7 @@ pub mod Filling
 pub mod Words
 pub mod Permutations
 pub mod Tests
+pub mod Answers
 pub mod Pigeonhole
 pub mod Sorting
 pub mod Reversal
