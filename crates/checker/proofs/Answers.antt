@@ -25,14 +25,16 @@ use Rattle.checker.specs.declared.checker.Verdict.the-variants.{Passed, 
 use Rattle.checker.specs.declared.bounds.Bounds.{Bounds}
 use Rattle.checker.specs.Checks.{judged, concluded, checkAfter, checkOf, Checked}
 use Rattle.checker.specs.Holding.{boundsOf, Judgeable, Consequent}
+use Rattle.checker.proofs.Apart.{verdicts-apart}
 use Rattle.checker.proofs.Soundness.{check-sound}
 use Rattle.checker.proofs.Verdicts.{judgeable}
 
 module _ (ds ps cs : List ℤ) where
   pub checked : (r : Verdict) → r ≡ checkOf ds ps cs → Checked ds ps cs r
-  checked r e = record { answer = e; sound = λ p. check-sound ds ps cs (sym e ∙ p) }
+  checked r e = record { answer = e; sound = λ p. check-sound ds ps cs (sym e ∙ verdicts-apart r Passed p) }
 
-  check-after : (n : ℕ) → refusal (creationTests ds) ≡ n → checkOf ds ps cs ≡ checkAfter ds n ps cs
+  -- what comes after 1, 2 and 5
+  pub check-after : (n : ℕ) → refusal (creationTests ds) ≡ n → checkOf ds ps cs ≡ checkAfter ds n ps cs
   unfolding checkOf
   check-after n e = ap (λ (m : ℕ). checkAfter ds m ps cs) e
 

@@ -91,13 +91,13 @@ module _ (J : Tasks whole) (lasts : (k : ℕ) → k < J .count → 1 ≤ J .dura
       by (inl (u, p)) (inr q) = inr q
       by (inr p) q = inl p
 
-  least-of : (k : ℕ) → In J X k → Least whole (Admits atoms k) (R .earliest k)
+  pub least-of : (k : ℕ) → In J X k → Least whole (Admits atoms k) (R .earliest k)
   least-of k h = let t = two k (h .mem) in subst (Least whole (Admits atoms k)) (sym (t .early)) (r .least k (h .small) (t .low) (t .lower-is))
 
-  greatest-of : (k : ℕ) → In J X k → Largest whole (Admits atoms k) (R .latest k)
+  pub greatest-of : (k : ℕ) → In J X k → Largest whole (Admits atoms k) (R .latest k)
   greatest-of k h = let t = two k (h .mem) in subst (Largest whole (Admits atoms k)) (sym (t .late)) (r .greatest k (h .small) (t .high) (t .upper-is))
 
-  none-of : (k : ℕ) → k < n → X k ≡ false → (u v : ℤ) → Least whole (Admits atoms k) u → Largest whole (Admits atoms k) v → ⊥
+  pub none-of : (k : ℕ) → k < n → X k ≡ false → (u v : ℤ) → Least whole (Admits atoms k) u → Largest whole (Admits atoms k) v → ⊥
   none-of k q y u v a b = elim (lacks k y) [ inl z ↦ r .no-least k q z u a | inr z ↦ r .no-greatest k q z v b ]
 
   all-bounded : (Ω : TaskSet) → ((k : ℕ) → k < n → Ω k ≡ X k) → Bounded J atoms Ω R

@@ -1,3 +1,4 @@
+pub mod Apart
 pub mod Gathering
 pub mod Steps
 pub mod Colouring
@@ -7,4 +8,5 @@ pub mod Formulas
 pub mod Soundness
 pub mod Verdicts
 pub mod Answers
+pub mod Refused
 pub mod Reasons

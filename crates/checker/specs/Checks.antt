@@ -7,6 +7,7 @@ use Prim.Native.Nat.{ℕ, zero, suc}
 use lib.Dec.{ltb}
 use lib.IntN.{ℤ, pos}
 use lib.ListN.{length}
+use Rattle.integers.specs.Answers.{answered}
 use Rattle.integers.specs.Tests.{refusal}
 use Rattle.scheduling.specs.Scheduling.{whole, Tasks, Atom, Contradicts}
 use Rattle.scheduling.specs.Words.{atomWords}
@@ -20,6 +21,7 @@ use Rattle.checking.specs.States.{domainAt, prepared}
 use Rattle.records.specs.Records.{durationAt, creationTests}
 use Rattle.checker.specs.declared.checker.Verdict.{Verdict}
 use Rattle.checker.specs.declared.checker.Verdict.the-variants.{Passed, NotPassed, Contradiction, Refused}
+use Rattle.checker.specs.Verdicts.{verdictNumbers}
 use Rattle.checker.specs.Formulas.{bounded, overloaded, implied}
 
 -- a bound of a domain as a number, where it is one
@@ -73,7 +75,7 @@ consequentWords (some a) = atomWords (a ∷ [])
 abbrev pub tasksWith : List ℤ → Tasks whole
 tasksWith ds = record { count = length ds; earliest = λ k. pos 0; latest = λ k. pos 0; duration = durationAt ds }
 
--- The check answers as defined; and where it answers Passed, no starts contradict it.
+-- The check answers as defined; and where it answers Passed, whose kind is 0, no starts contradict it.
 pub record Checked (ds premises consequent : List ℤ) (r : Verdict) : Type 0 where
   pub answer : r ≡ checkOf ds premises consequent
-  pub sound : r ≡ Passed → (s : ℕ → ℤ) → Contradicts (tasksWith ds) (atomsOf premises) (consequentOf consequent) s → ⊥
+  pub sound : verdictNumbers r ≡ answered 0 [] → (s : ℕ → ℤ) → Contradicts (tasksWith ds) (atomsOf premises) (consequentOf consequent) s → ⊥

@@ -4,6 +4,7 @@ use records::orders::sort_by_key;
 use trees::disjunctive_task::DisjunctiveTask;
 use trees::disjunctive_task::LeafPlace;
 use trees::disjunctive_task::LocalId;
+use trees::disjunctive_task::task_of;
 use trees::theta_tree::ThetaTree;
 ghost use mathlib.Core.Path.{_≡_};
 ghost use Prim.Native.Nat.{ℕ};
@@ -12,26 +13,26 @@ ghost use Rattle.checker.specs.Colouring.{Takes, Took, Colourable, Colou
 ghost use Rattle.checker.specs.Formulas.{ectOf};
 ghost use Rattle.checker.specs.Holding.{Held};
 
-// Puts task i into the leaf at place x, where it is chosen.
+// Puts a task into the leaf at a place, where it is chosen.
 fn put_chosen(
     nodes: &mut [u32; 254],
     inner: usize,
-    x: usize,
-    i: usize,
+    place: LeafPlace,
+    id: LocalId,
     chosen: bool,
     est: u32,
     p: u32,
 )
-    requires { ⌜ Takes inner (now nodes) x chosen est p ⌝ }
-    ensures { λ _. ⌜ Took inner (now (nodes .entry)) (now (nodes .exit)) x chosen est p ⌝ }
+    requires { ⌜ Takes inner (now nodes) (place .0) chosen est p ⌝ }
+    ensures { λ _. ⌜ Took inner (now (nodes .entry)) (now (nodes .exit)) (place .0) chosen est p ⌝ }
 {
     if chosen {
         let task = DisjunctiveTask {
             start_time: est,
             processing_time: p,
-            id: LocalId(i),
+            id,
         };
-        ThetaTree::add(nodes, inner, LeafPlace(x), task);
+        ThetaTree::add(nodes, inner, place, task);
     }
 }
 
@@ -39,19 +40,28 @@ fn put_chosen(
 fn fill<'a>(
     nodes: &mut [u32; 254],
     inner: usize,
-    order: &'a [usize; 48],
+    tasks: &'a [usize; 48],
     chosen: &'a [bool; 48],
     est: &'a [u32; 48],
     durations: &'a [u32; 48],
     n: usize,
 )
-    requires { ⌜ Colourable inner n (now nodes) (now order) (now chosen) (now est) (now durations) ⌝ }
-    ensures { λ _. ⌜ Coloured inner n (now (nodes .entry)) (now (nodes .exit)) (now (order .entry)) (now (chosen .entry)) (now (est .entry)) (now (durations .entry)) ⌝ }
+    requires { ⌜ Colourable inner n (now nodes) (now tasks) (now chosen) (now est) (now durations) ⌝ }
+    ensures { λ _. ⌜ Coloured inner n (now (nodes .entry)) (now (nodes .exit)) (now (tasks .entry)) (now (chosen .entry)) (now (est .entry)) (now (durations .entry)) ⌝ }
 {
     let mut x: usize = 0;
     while x < n {
-        let i = order[x];
-        put_chosen(nodes, inner, x, i, chosen[i], est[i], durations[i]);
+        let id = task_of(tasks, LeafPlace(x));
+        let i = id.0;
+        put_chosen(
+            nodes,
+            inner,
+            LeafPlace(x),
+            id,
+            chosen[i],
+            est[i],
+            durations[i],
+        );
         x += 1;
     }
 }

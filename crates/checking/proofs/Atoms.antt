@@ -12,7 +12,7 @@ use lib.Dec.{leb}
 use lib.IntN.{ℤ, pos, negsuc, negℤ, natAbs}
 use lib.ListN.{length, getD, drop}
 use lib.Seq.{drop-cons}
-use lib.Signed.{leZ, ltZ, _≤ℤ_}
+use lib.Signed.{leZ, ltZ, _≤ℤ_, _<ℤ_}
 use Rattle.integers.specs.Limits.{VARIABLES, VALUE}
 use Rattle.integers.proofs.Bools.{bool, clash, and-true, and-yes}
 use Rattle.integers.proofs.Ints.{ints, up, dn, sumℤ}
@@ -21,16 +21,9 @@ use Rattle.checking.specs.Holes.{Within, eqZ}
 use Rattle.checking.proofs.Steps.{wider, step-within, one-up, one-down}
 use Rattle.checking.proofs.Tests.{le-leZ, lt-ltZ, eqZ-same, eqZ-other}
 use Rattle.scheduling.specs.Words.{atomWords}
-use Rattle.checking.specs.Atoms.{atomFrom, atomsOf, consequentOf, atomAt, rightVariable, rightAtom, rightWords, rightLists}
+use Rattle.checking.specs.Atoms.{atomFrom, atomsOf, consequentOf, atomAt, rightVariable, rightAtom, rightWords, rightLists, RightAtom}
 
 -- ---- what a right atom is
-pub record RightAtom (x k v : ℤ) : Type 0 where
-  pub variable : pos 0 ≤ℤ x
-  pub known : natAbs x < VARIABLES
-  pub kind-low : pos 0 ≤ℤ k
-  pub kind-high : k ≤ℤ pos 3
-  pub value : Within VALUE v
-
 pub right-variable : (x : ℤ) → rightVariable x ≡ true → (pos 0 ≤ℤ x) × (natAbs x < VARIABLES)
 unfolding up dn
 right-variable x y = let (p, q) = and-true (leZ (pos 0) x) (ltZ x (pos VARIABLES)) y in (omega ints, below x p q)
@@ -48,6 +41,19 @@ right-atom x k v y =
     let (e, f) = and-true (leZ (negℤ (pos VALUE)) v) (leZ v (pos VALUE)) s in
     let (m, n) = right-variable x p in
     record { variable = m; known = n; kind-low = omega ints; kind-high = omega ints; value = record { low = omega ints; high = omega ints } }
+
+pub atom-right : (x k v : ℤ) → RightAtom x k v → rightAtom x k v ≡ true
+unfolding rightAtom up dn
+atom-right x k v r =
+    and-yes (rightVariable x) ((leZ (pos 0) k && leZ k (pos 3)) && (leZ (negℤ (pos VALUE)) v && leZ v (pos VALUE)))
+    (and-yes (leZ (pos 0) x) (ltZ x (pos VARIABLES)) (le-leZ (pos 0) x (r .variable)) (lt-ltZ x (pos VARIABLES) (below x (r .variable) (r .known))))
+    (and-yes (leZ (pos 0) k && leZ k (pos 3)) (leZ (negℤ (pos VALUE)) v && leZ v (pos VALUE))
+    (and-yes (leZ (pos 0) k) (leZ k (pos 3)) (le-leZ (pos 0) k (r .kind-low)) (le-leZ k (pos 3) (r .kind-high)))
+    (and-yes (leZ (negℤ (pos VALUE)) v) (leZ v (pos VALUE)) (le-leZ (negℤ (pos VALUE)) v (r .value .low)) (le-leZ v (pos VALUE) (r .value .high))))
+  where
+    below : (x : ℤ) → pos 0 ≤ℤ x → natAbs x < VARIABLES → x <ℤ pos VARIABLES
+    below (pos n) p q = omega ints
+    below (negsuc n) p q = absurd (omega ints)
 
 pub third : (k : ℤ) → pos 0 ≤ℤ k → k ≤ℤ pos 3 → (k ≡ pos 0 → ⊥) → (k ≡ pos 1 → ⊥) → (k ≡ pos 2 → ⊥) → 3 ≡ natAbs k
 unfolding up dn
@@ -179,13 +185,9 @@ pub record WellFormed (a : Atom) : Type 0 where
   pub value : Within VALUE (a .value)
 
 well-right : (a : Atom) → WellFormed a → rightAtom (pos (a .variable)) (pos (a .kind)) (a .value) ≡ true
-unfolding rightAtom up dn
-well-right a w =
-    let x : leZ (pos 0) (pos (a .variable)) && ltZ (pos (a .variable)) (pos VARIABLES) ≡ true = and-yes (leZ (pos 0) (pos (a .variable))) (ltZ (pos (a .variable)) (pos VARIABLES)) (le-leZ (pos 0) (pos (a .variable)) (omega ints)) (lt-ltZ (pos (a .variable)) (pos VARIABLES) (omega (ints, w .known))) in
-    let k : leZ (pos 0) (pos (a .kind)) && leZ (pos (a .kind)) (pos 3) ≡ true = and-yes (leZ (pos 0) (pos (a .kind))) (leZ (pos (a .kind)) (pos 3)) (le-leZ (pos 0) (pos (a .kind)) (omega ints)) (le-leZ (pos (a .kind)) (pos 3) (omega (ints, w .kind))) in
-    let v : leZ (negℤ (pos VALUE)) (a .value) && leZ (a .value) (pos VALUE) ≡ true = and-yes (leZ (negℤ (pos VALUE)) (a .value)) (leZ (a .value) (pos VALUE)) (le-leZ (negℤ (pos VALUE)) (a .value) (w .value .low)) (le-leZ (a .value) (pos VALUE) (w .value .high)) in
-    and-yes (leZ (pos 0) (pos (a .variable)) && ltZ (pos (a .variable)) (pos VARIABLES)) ((leZ (pos 0) (pos (a .kind)) && leZ (pos (a .kind)) (pos 3)) && (leZ (negℤ (pos VALUE)) (a .value) && leZ (a .value) (pos VALUE))) x
-    (and-yes (leZ (pos 0) (pos (a .kind)) && leZ (pos (a .kind)) (pos 3)) (leZ (negℤ (pos VALUE)) (a .value) && leZ (a .value) (pos VALUE)) k v)
+unfolding up dn
+well-right a w = atom-right (pos (a .variable)) (pos (a .kind)) (a .value)
+    (record { variable = omega ints; known = w .known; kind-low = omega ints; kind-high = omega (ints, w .kind); value = w .value })
 
 pub words-right : (l : List Atom) → Every WellFormed l → rightWords (atomWords l) ≡ true
 unfolding rightWords atomWords

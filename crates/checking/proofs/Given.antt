@@ -14,9 +14,9 @@ use lib.ListN.{length, getD, drop, length-drop, drop-of-length-le}
 use Rattle.integers.specs.Limits.{VARIABLES, VALUE}
 use Rattle.integers.proofs.Bools.{bool}
 use Rattle.scheduling.specs.Scheduling.{Atom, negation, given}
-use Rattle.checking.specs.Atoms.{atomsOf, atomAt, first, consequentOf, givenAt, rightWords, rightLists, rightFrom}
+use Rattle.checking.specs.Atoms.{atomsOf, atomAt, first, consequentOf, givenAt, rightWords, rightLists, rightFrom, RightAtom}
 use Rattle.checking.specs.Holes.{Within}
-use Rattle.checking.proofs.Atoms.{RightAtom, right-atom, right-lists, lists-right, words-at, words-three, words-none, atoms-on, atoms-none, negation-within}
+use Rattle.checking.proofs.Atoms.{right-atom, right-lists, lists-right, words-at, words-three, words-none, atoms-on, atoms-none, negation-within}
 use Rattle.checking.proofs.Steps.{wider}
 
 -- a first premise comes first

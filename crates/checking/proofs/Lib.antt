@@ -1,8 +1,10 @@
 pub mod Tests
+pub mod Apart
 pub mod Steps
 pub mod Ascending
 pub mod Padding
 pub mod Atoms
+pub mod Right
 pub mod Given
 pub mod Bounds
 pub mod Domains
@@ -13,6 +15,7 @@ pub mod Values
 pub mod Meaning
 pub mod Promises
 pub mod Prepared
+pub mod Refused
 pub mod OneState
 pub mod Near
 pub mod Instances

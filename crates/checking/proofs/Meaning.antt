@@ -19,12 +19,13 @@ use Rattle.checking.specs.declared.variable_state.Application.{Applicati
 use Rattle.checking.specs.declared.variable_state.Application.the-variants.{Consistent, Contradiction, Refused}
 use Rattle.checking.specs.declared.variable_state.Applied.{Applied}
 use Rattle.checking.specs.Domains.{Admitted, allIntegers, applied}
-use Rattle.checking.specs.States.{Proper, Accepted, noDomain, domainAt, put, emptyState, stepped, applyAll, refusal}
+use Rattle.checking.specs.States.{Proper, Accepted, noDomain, domainAt, put, emptyState, stepped, applyAll}
+use Rattle.checking.specs.Answers.{applicationNumbers}
 use Rattle.checking.specs.Promises.{Narrows, Excludes, lacksRoom}
 use Rattle.checking.specs.declared.int_ext.IntExt.the-variants.{NegativeInf, PositiveInf}
 use Rattle.checking.proofs.Ascending.{has-none}
 use Rattle.checking.proofs.Narrowing.{applied-tight, applied-to, applied-of, made-admits}
-use Rattle.checking.proofs.States.{put-same, put-other, stepped-case, stepped-accepted, all-case, all-end, all-consistent}
+use Rattle.checking.proofs.States.{put-same, put-other, stepped-case, stepped-accepted, all-case, all-end, all-consistent, all-contradiction, all-refused}
 use Rattle.checking.proofs.Values.{crossed-none, some-value}
 
 -- ---- answers differ
@@ -78,8 +79,8 @@ module _ (s : VariableState) (a : Atom) (acc : Accepted s) (known : a .variable 
       (λ _ _ e. differ Consistent (Refused n) e (omega arith))
       (λ _ _ e. differ (Contradiction (a .variable)) (Refused n) e (omega arith))
 
-  pub step-number : refusal (stepped s a .answer) ≡ cond (lacksRoom s a) 21 0
-  step-number = stepped-case s a (λ r. refusal (r .answer) ≡ cond (lacksRoom s a) 21 0) (λ p. rw p) (λ p _. rw p) (λ p _. rw p)
+  pub step-number : applicationNumbers (stepped s a .answer) .number ≡ cond (lacksRoom s a) 21 0
+  step-number = stepped-case s a (λ r. applicationNumbers (r .answer) .number ≡ cond (lacksRoom s a) 21 0) (λ p. rw p) (λ p _. rw p) (λ p _. rw p)
 
   -- what each variable then admits
   pub step-admits : stepped s a .answer ≡ Consistent → (x : ℕ) (z : ℤ) → Admitted (domainAt (stepped s a .state) x) z ↔ (Admitted (domainAt s x) z × (a .variable ≡ x → Allows a z))
@@ -109,6 +110,19 @@ all-admits (a ∷ rest) k s acc e x z =
     let j = step-admits s a acc (k .0) n x z in
     (λ m. let (u, w) = i .0 m in let (f, g) = j .0 u in (f, (g, w)), λ m. i .1 (j .1 (m .0, m .1 .0), m .1 .1)))
     (λ y _ q. differ (Contradiction y) Consistent q (omega arith)) (λ y _ q. differ (Refused y) Consistent q (omega arith)) e
+
+-- a consistent list, and then others
+pub all-append : (xs ys : List Atom) (s t : VariableState) → applyAll xs s ≡ record { answer = Consistent; state = t } → applyAll (xs ++ ys) s ≡ applyAll ys t
+all-append [] ys s t e = ap (applyAll ys) (ap (λ (r : Applied). r .state) (sym (all-end s) ∙ e))
+all-append (a ∷ xs) ys s t e = by (stepped s a .answer) refl (λ n. all-append xs ys (stepped s a .state) t (sym (all-consistent s a xs (stepped s a .state) (was Consistent n)) ∙ e))
+  where
+    was : (w : Application) → stepped s a .answer ≡ w → stepped s a ≡ record { answer = w; state = stepped s a .state }
+    was w n = λ i. record { answer = n i; state = stepped s a .state }
+
+    by : (w : Application) → stepped s a .answer ≡ w → (stepped s a .answer ≡ Consistent → applyAll (xs ++ ys) (stepped s a .state) ≡ applyAll ys t) → applyAll (a ∷ xs ++ ys) s ≡ applyAll ys t
+    by Consistent n ih = all-consistent s a (xs ++ ys) (stepped s a .state) (was Consistent n) ∙ ih n
+    by (Contradiction x) n ih = differ (Contradiction x) Consistent (ap (λ (r : Applied). r .answer) (sym (all-contradiction s a xs x (stepped s a .state) (was (Contradiction x) n)) ∙ e)) (omega arith)
+    by (Refused m) n ih = differ (Refused m) Consistent (ap (λ (r : Applied). r .answer) (sym (all-refused s a xs m (stepped s a .state) (was (Refused m) n)) ∙ e)) (omega arith)
 
 -- where a list stops
 pub record Stops (atoms : List Atom) (s : VariableState) : Type 0 where

@@ -2,34 +2,35 @@
 -- Assumes nothing.
 use mathlib.Core.Path.{_≡_, refl, sym, ap, subst, _∙_}
 use mathlib.Core.Logic.{_↔_}
-use mathlib.Core.Bool.{Bool, true, false, not, _&&_}
+use mathlib.Core.Bool.{true, false, not, _&&_}
 use mathlib.Core.List.{List, [], _∷_, _++_}
-use Prim.Native.Nat.{ℕ, zero, suc, _<_}
+use mathlib.Core.Option.{Option, some, none}
+use Prim.Native.Nat.{ℕ, zero, suc, _+_, _*_, _≤_, _<_}
 use native.Mathlib.Omega.{arith}
-use lib.Dec.{leb}
-use lib.IntN.{ℤ}
-use lib.ListN.{length}
-use borrow.Author.Tests.{not-true, not-false}
-use Rattle.integers.specs.Limits.{VARIABLES, HOLES}
+use lib.Dec.{leb, ltb}
+use lib.IntN.{ℤ, pos}
+use lib.ListN.{length, getD, length-append}
+use borrow.Author.Tests.{not-true, le-ltb}
+use Rattle.integers.specs.Limits.{VARIABLES, HOLES, PREMISES}
 use Rattle.integers.proofs.Bools.{clash, and-true}
-use Rattle.scheduling.specs.Scheduling.{Atom, Compares, Allows, Every, Admits, given}
+use Rattle.scheduling.specs.Scheduling.{Atom, Compares, Allows, Every, Admits, given, negation}
 use Rattle.scheduling.proofs.Passed.{every-append}
 use Rattle.checking.specs.declared.int_ext.IntExt.the-variants.{Int}
 use Rattle.checking.specs.declared.variable_state.Domain.{Domain}
 use Rattle.checking.specs.declared.variable_state.VariableState.{VariableState}
 use Rattle.checking.specs.declared.variable_state.Application.the-variants.{Consistent, Contradiction, Refused}
-use Rattle.checking.specs.declared.variable_state.Applied.{Applied}
-use Rattle.checking.specs.Atoms.{atomsOf, consequentOf, rightLists}
+use Rattle.checking.specs.Atoms.{atomsOf, consequentOf, rightWords, rightLists}
 use Rattle.checking.specs.Domains.{Admitted, holesOf, between, crowded, needsRoom, ltExt}
 use Rattle.checking.specs.Holes.{has}
 use Rattle.checking.specs.Shuffles.{Shuffled}
-use Rattle.checking.specs.States.{Accepted, domainAt, emptyState, stepped, applyAll, prepared}
-use Rattle.checking.proofs.Atoms.{given-none}
+use Rattle.checking.specs.States.{Accepted, domainAt, emptyState, stepped, appliedTo, applyAll, prepared}
+use Rattle.checking.proofs.Atoms.{given-none, right-lists}
 use Rattle.checking.proofs.Bounds.{lt-to-le}
-use Rattle.checking.proofs.Meaning.{Known, differ, step-admits, step-contradiction, step-refused}
-use Rattle.checking.proofs.Prepared.{prepared-accepted, prepared-admits, prepared-right, every-left, every-at}
-use Rattle.checking.proofs.Promises.{given-known, same-state}
-use Rattle.checking.proofs.States.{stepped-accepted, all-case, all-end}
+use Rattle.checking.proofs.Meaning.{Known, all-append, step-admits, step-contradiction, step-refused}
+use Rattle.checking.proofs.Prepared.{prepared-accepted, prepared-admits, prepared-right, prepared-runs, every-left, every-at}
+use Rattle.checking.proofs.Promises.{prepare-means, given-known, same-state}
+use Rattle.checking.proofs.Right.{words-each, words-append, atoms-append}
+use Rattle.checking.proofs.States.{stepped-accepted, all-consistent, all-end}
 use Rattle.checking.proofs.Values.{some-value}
 
 -- Two premise lists --------------------------------------------------------------------------------------------------------------
@@ -111,18 +112,62 @@ met-step s a acc h met = by (stepped s a .answer) refl
     by (Contradiction y) e = let (z, m) = some-value (domainAt s (a .variable)) (acc .each (a .variable) h) in absurd (step-contradiction s a acc h y e .2 z m (met z m))
     by (Refused n) e = absurd (met-room (domainAt s (a .variable)) (a .kind) (a .value) met (step-refused s a acc h n e .2))
 
-met-all : (atoms : List Atom) → Known atoms → (s : VariableState) → Accepted s → ((x : ℕ) → x < VARIABLES → (z : ℤ) → Admitted (domainAt s x) z → Admits atoms x z)
-    → applyAll atoms s ≡ record { answer = Consistent; state = s }
-met-all [] known s acc met = all-end s
-met-all (a ∷ rest) known s acc met =
+-- so with each atom of a list
+each-met : (atoms : List Atom) → Known atoms → (s : VariableState) → Accepted s → ((x : ℕ) → x < VARIABLES → (z : ℤ) → Admitted (domainAt s x) z → Admits atoms x z)
+    → Every (λ a. stepped s a ≡ record { answer = Consistent; state = s }) atoms
+each-met [] known s acc met = tt
+each-met (a ∷ rest) known s acc met =
     let (e, same) = met-step s a acc (known .0) (λ z m. met (a .variable) (known .0) z m .0 refl) in
-    all-case s a rest (λ r. r ≡ record { answer = Consistent; state = s })
-    (λ _. subst (λ (t : VariableState). applyAll rest t ≡ record { answer = Consistent; state = s }) (sym same) (met-all rest (known .1) s acc (λ x h z m. met x h z m .1)))
-    (λ y f. differ (Contradiction y) Consistent (sym f ∙ e) (omega arith))
-    (λ n f. differ (Refused n) Consistent (sym f ∙ e) (omega arith))
+    (λ i. record { answer = e i; state = same i }, each-met rest (known .1) s acc (λ x h z m. met x h z m .1))
 
--- applied again to the state that it left, a list leaves it as it is
-pub applied-again : (p : List ℤ) → prepared p [] .answer ≡ Consistent → applyAll (atomsOf p) (prepared p [] .state) ≡ record { answer = Consistent; state = prepared p [] .state }
-applied-again p ok =
-    met-all (atomsOf p) (subst Known (no-consequent p) (given-known p [] (prepared-right p [] ok))) (prepared p [] .state) (prepared-accepted p [])
-    (λ x h z m. subst (λ (l : List Atom). Admits l x z) (no-consequent p) (prepared-admits p [] ok x h z .0 m))
+-- and with the list
+met-all : (atoms : List Atom) (s : VariableState) → Every (λ a. stepped s a ≡ record { answer = Consistent; state = s }) atoms → applyAll atoms s ≡ record { answer = Consistent; state = s }
+met-all [] s e = all-end s
+met-all (a ∷ rest) s e = all-consistent s a rest s (e .0) ∙ met-all rest s (e .1)
+
+module _ (p : List ℤ) (ok : prepared p [] .answer ≡ Consistent) where
+  abbrev left : VariableState
+  left = prepared p [] .state
+
+  right : rightWords p ≡ true
+  right = right-lists p [] (prepared-right p [] ok) .0
+
+  nothing-new : Every (λ a. stepped left a ≡ record { answer = Consistent; state = left }) (atomsOf p)
+  nothing-new = each-met (atomsOf p) (subst Known (no-consequent p) (given-known p [] (prepared-right p [] ok))) left (prepared-accepted p [])
+      (λ x h z m. subst (λ (l : List Atom). Admits l x z) (no-consequent p) (prepared-admits p [] ok x h z .0 m))
+
+  -- applied again to the state that it left, a list leaves it as it is
+  pub applied-again : applyAll (atomsOf p) (prepared p [] .state) ≡ record { answer = Consistent; state = prepared p [] .state }
+  applied-again = met-all (atomsOf p) left nothing-new
+
+  -- each of its atoms, given to `apply`, leaves it too
+  pub atom-again : (k : ℕ) → 3 * k < length p
+      → appliedTo (prepared p [] .state) (getD p (3 * k) (pos 0)) (getD p (3 * k + 1) (pos 0)) (getD p (3 * k + 2) (pos 0)) ≡ record { answer = Consistent; state = prepared p [] .state }
+  unfolding appliedTo
+  atom-again k h =
+      let (atom, same) = words-each (λ a. stepped left a ≡ record { answer = Consistent; state = left }) p right nothing-new k h in
+      rw (prepare-means p [] .again, atom) same
+
+  -- and given twice in one call, it gives the same answer and the same state, whatever the consequent
+  module _ (c : List ℤ) (few : length (p ++ p) ≤ 3 * PREMISES + 2) where
+    short : length p ≤ 3 * PREMISES + 2
+    short = omega (arith, length-append p p)
+
+    once : applyAll (atomsOf p) emptyState ≡ record { answer = Consistent; state = left }
+    once =
+        let whole = sym (prepared-runs p [] short (prepared-right p [] ok) ∙ ap (λ (l : List Atom). applyAll l emptyState) (no-consequent p)) in
+        whole ∙ (λ i. record { answer = ok i; state = left })
+
+    twice : applyAll (atomsOf p ++ atomsOf p) emptyState ≡ record { answer = Consistent; state = left }
+    twice = all-append (atomsOf p) (atomsOf p) emptyState left once ∙ applied-again
+
+    with-consequent : (o : Option Atom) → applyAll (given (atomsOf p ++ atomsOf p) o) emptyState ≡ applyAll (given (atomsOf p) o) emptyState
+    with-consequent none = twice ∙ sym once
+    with-consequent (some a) = all-append (atomsOf p ++ atomsOf p) (negation a ∷ []) emptyState left twice ∙ sym (all-append (atomsOf p) (negation a ∷ []) emptyState left once)
+
+    pub given-twice : prepared (p ++ p) c ≡ prepared p c
+    unfolding prepared rightLists
+    given-twice =
+        let many : ltb (3 * PREMISES + 2) (length (p ++ p)) ≡ false = le-ltb (3 * PREMISES + 2) (length (p ++ p)) few in
+        let less : ltb (3 * PREMISES + 2) (length p) ≡ false = le-ltb (3 * PREMISES + 2) (length p) short in
+        rw (many, less, words-append p p right, atoms-append p p right, with-consequent (consequentOf c)) refl

@@ -1,6 +1,6 @@
 -- Laws on a prepared state, for the checker: what it admits, its bounds, when it succeeds, what a contradiction means.
 -- Assumes nothing.
-use mathlib.Core.Path.{_≡_, refl, sym, ap, subst}
+use mathlib.Core.Path.{_≡_, refl, sym, ap, subst, _∙_}
 use mathlib.Core.Logic.{_↔_}
 use mathlib.Core.Bool.{Bool, true, false, cond}
 use mathlib.Core.List.{List, [], _∷_, _++_}
@@ -21,6 +21,7 @@ use Rattle.checking.specs.declared.variable_state.Application.the-varian
 use Rattle.checking.specs.declared.variable_state.Applied.{Applied}
 use Rattle.checking.specs.Atoms.{atomsOf, consequentOf, rightLists}
 use Rattle.checking.specs.Domains.{Admitted, needsRoom}
+use Rattle.checking.specs.Answers.{applicationNumbers}
 use Rattle.checking.specs.States.{Proper, Accepted, domainAt, emptyState, stepped, applyAll, prepared}
 use Rattle.checking.proofs.Meaning.{differ, step-admits, step-contradiction, step-refused, Known, all-admits, all-contradiction-at, empty-admits}
 use Rattle.checking.proofs.Promises.{prepare-means, given-known}
@@ -69,6 +70,10 @@ module _ (premises consequent : List ℤ) where
       by false true q = f q
       by false false q = g 6
 
+  pub prepared-runs : length premises ≤ 3 * PREMISES + 2 → rightLists premises consequent ≡ true → prepared premises consequent ≡ applyAll atoms emptyState
+  unfolding prepared
+  prepared-runs l r = let few : ltb (3 * PREMISES + 2) (length premises) ≡ false = le-ltb (3 * PREMISES + 2) (length premises) l in rw (few, r) refl
+
   pub prepared-right : prepared premises consequent .answer ≡ Consistent → rightLists premises consequent ≡ true
   prepared-right = ran (λ r. r .answer ≡ Consistent → rightLists premises consequent ≡ true) (λ r _. r) (λ n e. differ (Refused n) Consistent e (omega arith))
 
@@ -81,7 +86,7 @@ module _ (premises consequent : List ℤ) where
   -- on success the state admits what the atoms admit
   module _ (ok : prepared premises consequent .answer ≡ Consistent) (x : ℕ) (h : x < VARIABLES) where
     pub prepared-admits : (z : ℤ) → Admitted (domainAt state x) z ↔ Admits atoms x z
-    prepared-admits z = prepare-means premises consequent .consistent ok x h z
+    prepared-admits z = prepare-means premises consequent .consistent (ap applicationNumbers ok) x h z
 
     pub prepared-least : (u : ℤ) → domainAt state x .«lower_bound» ≡ Int u → Least whole (Admits atoms x) u
     prepared-least u e =
@@ -115,10 +120,9 @@ module _ (premises consequent : List ℤ) where
   -- with kinds ≥, ≤ and = alone, atoms that each variable can meet are consistent
   pub prepared-success : length premises ≤ 3 * PREMISES + 2 → rightLists premises consequent ≡ true → Every (λ a. a .kind < 3) atoms → ((x : ℕ) → x < VARIABLES → (z : ℤ) × Admits atoms x z)
       → prepared premises consequent .answer ≡ Consistent
-  unfolding prepared
   prepared-success l r kinds w =
-      let few : ltb (3 * PREMISES + 2) (length premises) ≡ false = le-ltb (3 * PREMISES + 2) (length premises) l in
-      rw (few, r) (all-success atoms (given-known premises consequent r) kinds emptyState empty-accepted (λ x h. let (z, m) = w x h in (z, empty-admits x h z, m)))
+      ap (λ (t : Applied). t .answer) (prepared-runs l r)
+      ∙ all-success atoms (given-known premises consequent r) kinds emptyState empty-accepted (λ x h. let (z, m) = w x h in (z, empty-admits x h z, m))
 
   -- a contradiction: no value of its variable meets all the atoms
   pub prepared-contradiction : (y : ℕ) → prepared premises consequent .answer ≡ Contradiction y → (z : ℤ) → Admits atoms y z → ⊥

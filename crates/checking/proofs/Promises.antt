@@ -8,9 +8,10 @@ use Prim.Native.Nat.{ℕ, zero, suc, _+_, _*_, _≤_, _<_}
 use native.Mathlib.Omega.{arith}
 use borrow.Author.Tests.{ltb-true, ltb-false}
 use lib.Dec.{ltb}
-use lib.IntN.{ℤ, pos, natAbs}
+use lib.IntN.{ℤ, pos, negsuc, natAbs}
 use lib.ListN.{length, getD}
 use lib.Seq.{ext-getD}
+use Rattle.integers.specs.Answers.{answered, refusedBy}
 use Rattle.integers.specs.Limits.{VARIABLES, PREMISES}
 use Rattle.integers.proofs.Bools.{clash}
 use Rattle.scheduling.specs.Scheduling.{Atom, Every, given, negation}
@@ -28,9 +29,10 @@ use Rattle.checking.specs.Atoms.{atomFrom, atomAt, atomsOf, consequentOf
 use Rattle.checking.specs.Domains.{Admitted, isTrue}
 use Rattle.checking.specs.States.{Accepted, Sized, noDomain, domainAt, emptyState, accepted, stepped, appliedTo, truthOf, boundOf, lowerOf, upperOf, applyAll, prepared}
 use Rattle.checking.specs.Promises.{lacksRoom, queryRefusal, EmptyMeans, ApplyMeans, TruthMeans, LowerMeans, UpperMeans, Reaches, PrepareMeans}
+use Rattle.checking.proofs.Apart.{other-kind, applications-apart, ext-number, exts-apart}
 use Rattle.checking.proofs.Accepting.{state-accepted, proper-state}
 use Rattle.checking.proofs.Atoms.{right-atom, right-variable, right-lists, words-known, words-three, words-at, given-none, given-one, every-map}
-use Rattle.checking.proofs.Meaning.{differ, step-consistent, step-contradiction, step-refused, step-number, Known, all-admits, Stops, all-contradiction-at, all-refused-at, empty-admits}
+use Rattle.checking.proofs.Meaning.{step-consistent, step-contradiction, step-refused, step-number, Known, all-admits, Stops, all-contradiction-at, all-refused-at, empty-admits}
 use Rattle.checking.proofs.States.{stepped-accepted, all-accepted, empty-accepted}
 use Rattle.checking.proofs.Values.{lower-least, upper-largest, lower-none, upper-none, not-plus, not-minus, true-all, true-not, same-values}
 
@@ -44,8 +46,8 @@ module _ (s : VariableState) (x k v : ℤ) (proper : accepted (s .domains) ≡ t
   turned-back n e = record {
     number = e;
     refused = λ _ _. refl;
-    contradiction = λ y q. differ (Refused n) (Contradiction y) q (omega arith);
-    consistent = λ q. differ (Refused n) Consistent q (omega arith);
+    contradiction = λ y q. other-kind (refusedBy n) (answered 2 (pos y ∷ [])) q (omega arith);
+    consistent = λ q. other-kind (refusedBy n) (answered 0 []) q (omega arith);
     again = λ y. y;
   }
 
@@ -55,9 +57,9 @@ module _ (s : VariableState) (x k v : ℤ) (proper : accepted (s .domains) ≡ t
       let known = right-atom x k v r .known in
       record {
         number = rw (y, r) (step-number s (atomFrom x k v) acc known);
-        refused = λ n q. step-refused s (atomFrom x k v) acc known n q .1;
-        contradiction = λ w q. step-contradiction s (atomFrom x k v) acc known w q;
-        consistent = λ q. step-consistent s (atomFrom x k v) acc known q;
+        refused = λ n q. step-refused s (atomFrom x k v) acc known n (applications-apart _ (Refused n) q) .1;
+        contradiction = λ w q. step-contradiction s (atomFrom x k v) acc known w (applications-apart _ (Contradiction w) q);
+        consistent = λ q. step-consistent s (atomFrom x k v) acc known (applications-apart _ Consistent q);
         again = λ _. state-accepted (stepped s (atomFrom x k v) .state .domains) (stepped-accepted s (atomFrom x k v) acc known);
       }
 
@@ -75,17 +77,9 @@ module _ (s : VariableState) (x k v : ℤ) (proper : accepted (s .domains) ≡ t
   apply-promise r e = (e, subst (ApplyMeans s x k v) (sym e) apply-means)
 
 -- ---- is_true
-abbrev truth-code : Truth → ℕ
-truth-code truth.True = 0
-truth-code truth.False = 1
-truth-code (truth.Refused n) = 2
-
-other-truth {ℓ} : {X : Type ℓ} (a b : Truth) → a ≡ b → (truth-code a ≡ truth-code b → ⊥) → X
-other-truth a b e n = absurd (n (ap truth-code e))
-
 module _ (s : VariableState) (x k v : ℤ) (proper : accepted (s .domains) ≡ true → Accepted s) where
   truth-back : (n : ℕ) → n ≡ queryRefusal s (rightAtom x k v) → TruthMeans s x k v (truth.Refused n)
-  truth-back n e = record { number = e; holds = λ q. other-truth (truth.Refused n) truth.True q (omega arith); fails = λ q. other-truth (truth.Refused n) truth.False q (omega arith) }
+  truth-back n e = record { number = e; holds = λ q. other-kind (refusedBy n) (answered 0 []) q (omega arith); fails = λ q. other-kind (refusedBy n) (answered 1 []) q (omega arith) }
 
   pub truth-means : TruthMeans s x k v (truthOf s x k v)
   unfolding truthOf
@@ -96,11 +90,11 @@ module _ (s : VariableState) (x k v : ℤ) (proper : accepted (s .domains) ≡ t
       by true p true q true t = record {
         number = rw (p, q);
         holds = λ _ z m. true-all (domainAt s (natAbs x)) (proper p .each (natAbs x) (right-atom x k v q .known)) (natAbs k) v t z m;
-        fails = λ e. other-truth truth.True truth.False e (omega arith);
+        fails = λ e. other-kind (answered 0 []) (answered 1 []) e (omega arith);
       }
       by true p true q false t = record {
         number = rw (p, q);
-        holds = λ e. other-truth truth.False truth.True e (omega arith);
+        holds = λ e. other-kind (answered 1 []) (answered 0 []) e (omega arith);
         fails = λ _. true-not (domainAt s (natAbs x)) (proper p .each (natAbs x) (right-atom x k v q .known)) (natAbs k) v t;
       }
       by true p false q c t = truth-back 6 (rw (p, q))
@@ -110,16 +104,6 @@ module _ (s : VariableState) (x k v : ℤ) (proper : accepted (s .domains) ≡ t
   truth-promise r e = (e, subst (TruthMeans s x k v) (sym e) truth-means)
 
 -- ---- bounds
-abbrev bound-code : Bound → ℕ
-bound-code (bound.At b) = 0
-bound-code (bound.Refused n) = 1
-
-no-bound {ℓ} : {X : Type ℓ} (n : ℕ) (b : IntExt) → bound.Refused n ≡ bound.At b → X
-no-bound n b e = let z : _≡_ {A = ℕ} 1 0 = ap bound-code e in absurd (omega arith)
-
-same-bound : (a b : IntExt) → bound.At a ≡ bound.At b → a ≡ b
-same-bound a b e = cc
-
 module _ (s : VariableState) (x : ℤ) (proper : accepted (s .domains) ≡ true → Accepted s) where
   abbrev d : Domain
   d = domainAt s (natAbs x)
@@ -137,22 +121,22 @@ module _ (s : VariableState) (x : ℤ) (proper : accepted (s .domains) ≡ true 
   pub lower-means : LowerMeans s x (boundOf lowerOf s x)
   lower-means = bound-case lowerOf (LowerMeans s x)
       (λ p q. let w = proper p .each (natAbs x) (right-variable x q .1) in record {
-        number = rw (p, q);
-        least = λ u e. lower-least d w u (same-bound (lowerOf d) (Int u) e);
-        unbounded = λ e. lower-none d w (same-bound (lowerOf d) NegativeInf e);
-        never = λ e. not-plus d w (same-bound (lowerOf d) PositiveInf e);
+        number = rw (p, q) (ext-number (lowerOf d));
+        least = λ u e. lower-least d w u (exts-apart (lowerOf d) (Int u) e);
+        unbounded = λ e. lower-none d w (exts-apart (lowerOf d) NegativeInf e);
+        never = λ e. not-plus d w (exts-apart (lowerOf d) PositiveInf e);
       })
-      (λ n e. record { number = e; least = λ u q. no-bound n (Int u) q; unbounded = λ q. no-bound n NegativeInf q; never = λ q. no-bound n PositiveInf q })
+      (λ n e. record { number = e; least = λ u q. other-kind (refusedBy n) (answered 0 (pos 0 ∷ u ∷ [])) q (omega arith); unbounded = λ q. other-kind (refusedBy n) (answered 0 (negsuc 0 ∷ [])) q (omega arith); never = λ q. other-kind (refusedBy n) (answered 0 (pos 1 ∷ [])) q (omega arith) })
 
   pub upper-means : UpperMeans s x (boundOf upperOf s x)
   upper-means = bound-case upperOf (UpperMeans s x)
       (λ p q. let w = proper p .each (natAbs x) (right-variable x q .1) in record {
-        number = rw (p, q);
-        largest = λ u e. upper-largest d w u (same-bound (upperOf d) (Int u) e);
-        unbounded = λ e. upper-none d w (same-bound (upperOf d) PositiveInf e);
-        never = λ e. not-minus d w (same-bound (upperOf d) NegativeInf e);
+        number = rw (p, q) (ext-number (upperOf d));
+        largest = λ u e. upper-largest d w u (exts-apart (upperOf d) (Int u) e);
+        unbounded = λ e. upper-none d w (exts-apart (upperOf d) PositiveInf e);
+        never = λ e. not-minus d w (exts-apart (upperOf d) NegativeInf e);
       })
-      (λ n e. record { number = e; largest = λ u q. no-bound n (Int u) q; unbounded = λ q. no-bound n PositiveInf q; never = λ q. no-bound n NegativeInf q })
+      (λ n e. record { number = e; largest = λ u q. other-kind (refusedBy n) (answered 0 (pos 0 ∷ u ∷ [])) q (omega arith); unbounded = λ q. other-kind (refusedBy n) (answered 0 (pos 1 ∷ [])) q (omega arith); never = λ q. other-kind (refusedBy n) (answered 0 (negsuc 0 ∷ [])) q (omega arith) })
 
   pub lower-promise : (r : Bound) → r ≡ boundOf lowerOf s x → (r ≡ boundOf lowerOf s x) × LowerMeans s x r
   lower-promise r e = (e, subst (LowerMeans s x) (sym e) lower-means)
@@ -191,12 +175,12 @@ module _ (premises consequent : List ℤ) where
   list-back : (n : ℕ) → (3 * PREMISES + 2 < length premises → n ≡ 7) → (length premises ≤ 3 * PREMISES + 2 → rightLists premises consequent ≡ false → n ≡ 6)
       → (length premises ≤ 3 * PREMISES + 2 → rightLists premises consequent ≡ true → ⊥) → PrepareMeans premises consequent (record { answer = Refused n; state = emptyState })
   list-back n f g h = record {
-    many = λ l. ap Refused (f l);
-    malformed = λ l r. ap Refused (g l r);
+    many = λ l. ap refusedBy (f l);
+    malformed = λ l r. ap refusedBy (g l r);
     refused = λ _ _. refl;
     room = λ l r. absurd (h l r);
-    contradiction = λ y q. differ (Refused n) (Contradiction y) q (omega arith);
-    consistent = λ q. differ (Refused n) Consistent q (omega arith);
+    contradiction = λ y q. other-kind (refusedBy n) (answered 2 (pos y ∷ [])) q (omega arith);
+    consistent = λ q. other-kind (refusedBy n) (answered 0 []) q (omega arith);
     again = state-accepted (emptyState .domains) empty-accepted;
   }
 
@@ -206,10 +190,10 @@ module _ (premises consequent : List ℤ) where
       record {
         many = λ m. absurd (omega arith);
         malformed = λ _ n. clash r n;
-        refused = λ n q. all-refused-at atoms known emptyState empty-accepted n q .1;
-        room = λ _ _ n q. let (u, v, p, w) = all-refused-at atoms known emptyState empty-accepted n q in (u, reaches p, w);
-        contradiction = λ y q. let (p, u, v, w) = all-contradiction-at atoms known emptyState empty-accepted y q in (reaches p, u, v, w);
-        consistent = λ q x h z. let (to, of) = all-admits atoms known emptyState empty-accepted q x z in (λ m. to m .1, λ m. of (empty-admits x h z, m));
+        refused = λ n q. all-refused-at atoms known emptyState empty-accepted n (applications-apart _ (Refused n) q) .1;
+        room = λ _ _ n q. let (u, v, p, w) = all-refused-at atoms known emptyState empty-accepted n (applications-apart _ (Refused n) q) in (u, reaches p, w);
+        contradiction = λ y q. let (p, u, v, w) = all-contradiction-at atoms known emptyState empty-accepted y (applications-apart _ (Contradiction y) q) in (reaches p, u, v, w);
+        consistent = λ q x h z. let (to, of) = all-admits atoms known emptyState empty-accepted (applications-apart _ Consistent q) x z in (λ m. to m .1, λ m. of (empty-admits x h z, m));
         again = state-accepted (applyAll atoms emptyState .state .domains) (all-accepted atoms known emptyState empty-accepted);
       }
 

@@ -1,17 +1,19 @@
 -- Atoms as words, three to an atom: variable, kind (0 is ≥, 1 is ≤, 2 is =, 3 is ≠), value.
+use mathlib.Core.Path.{_≡_}
 use mathlib.Core.Bool.{Bool, true, false, cond, _&&_}
 use mathlib.Core.List.{List, [], _∷_}
 use mathlib.Core.Option.{Option, some, none}
-use Prim.Native.Nat.{ℕ, _+_, _-_}
+use Prim.Native.Nat.{ℕ, _+_, _-_, _*_, _≤_, _<_}
 use lib.Dec.{leb, ltb}
 use lib.IntN.{ℤ, pos, negℤ, natAbs}
 use lib.ListN.{length, getD, drop}
-use lib.Signed.{leZ, ltZ}
+use lib.Signed.{leZ, ltZ, _≤ℤ_}
 use Rattle.integers.specs.Limits.{VARIABLES, VALUE}
 use Rattle.scheduling.specs.Scheduling.{Atom, negation}
 use Rattle.checking.specs.declared.atomic_constraint.AtomicConstraint.{AtomicConstraint}
 use Rattle.checking.specs.declared.atomic_constraint.Comparison.{Comparison}
 use Rattle.checking.specs.declared.atomic_constraint.Comparison.the-variants.{GreaterEqual, LessEqual, Equal, NotEqual}
+use Rattle.checking.specs.Holes.{Within}
 
 -- the kind's number
 abbrev pub kindOf : Comparison → ℕ
@@ -75,3 +77,25 @@ rightLists premises consequent = rightWords premises && (leb (length consequent)
 -- the words from place i on are right, of the premises' words followed by the consequent's
 abbrev pub rightFrom : List ℤ → List ℤ → ℕ → Bool
 rightFrom premises consequent i = rightLists (drop i premises) (drop (i - length premises) consequent)
+
+-- The same as facts ------------------------------------------------------------------------------------------------------------
+
+-- A known variable, a known kind, a value within the limits.
+pub record RightAtom (x k v : ℤ) : Type 0 where
+  pub variable : pos 0 ≤ℤ x
+  pub known : natAbs x < VARIABLES
+  pub kind-low : pos 0 ≤ℤ k
+  pub kind-high : k ≤ℤ pos 3
+  pub value : Within VALUE v
+
+-- The words are a multiple of three, and every atom is right.
+pub record RightWords (words : List ℤ) : Type 0 where
+  pub count : ℕ
+  pub threes : length words ≡ 3 * count
+  pub atom : (k : ℕ) → k < count → RightAtom (getD words (3 * k) (pos 0)) (getD words (3 * k + 1) (pos 0)) (getD words (3 * k + 2) (pos 0))
+
+-- The premises are right, and the consequent is one right atom or none.
+pub record RightLists (premises consequent : List ℤ) : Type 0 where
+  pub first : RightWords premises
+  pub short : length consequent ≤ 3
+  pub second : RightWords consequent

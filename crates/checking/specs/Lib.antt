@@ -2,5 +2,6 @@ pub mod Holes
 pub mod Domains
 pub mod Atoms
 pub mod States
+pub mod Answers
 pub mod Promises
 pub mod Shuffles

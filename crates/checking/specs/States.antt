@@ -15,7 +15,6 @@ use Rattle.checking.specs.declared.variable_state.Domain.{Domain}
 use Rattle.checking.specs.declared.variable_state.Effect.the-variants.{Narrowed, Emptied, Full}
 use Rattle.checking.specs.declared.variable_state.Reduced.{Reduced}
 use Rattle.checking.specs.declared.variable_state.VariableState.{VariableState}
-use Rattle.checking.specs.declared.variable_state.Application.{Application}
 use Rattle.checking.specs.declared.variable_state.Application.the-variants as application
 use Rattle.checking.specs.declared.variable_state.Applied.{Applied}
 use Rattle.checking.specs.declared.variable_state.Truth.{Truth}
@@ -65,22 +64,6 @@ pub record AllProper (ds : List Domain) : Type 0 where
 
 abbrev pub Accepted : VariableState → Type 0
 Accepted s = AllProper (s .domains)
-
--- Answers: the refusal's number, 0 where there is none ---------------------------------------------------------------------------
-
-abbrev pub refusal : Application → ℕ
-refusal application.Consistent = 0
-refusal (application.Contradiction x) = 0
-refusal (application.Refused n) = n
-
-abbrev pub refusalOfTruth : Truth → ℕ
-refusalOfTruth truth.True = 0
-refusalOfTruth truth.False = 0
-refusalOfTruth (truth.Refused n) = n
-
-abbrev pub refusalOfBound : Bound → ℕ
-refusalOfBound (bound.At b) = 0
-refusalOfBound (bound.Refused n) = n
 
 -- One atom ---------------------------------------------------------------------------------------------------------------------
 

@@ -1,4 +1,4 @@
--- `checker::theta::put_chosen` meets its contract.
+-- `checker::theta::put_chosen` meets its contract: where the task is not chosen, no word changes.
 -- Assumes nothing.
 use mathlib.Core.Path.{refl}
 use Rattle.integers.proofs.Bools.{clash}
