@@ -1,11 +1,12 @@
 -- The bill of an accepted call, and what the call answers.
 -- Assumes nothing.
-use mathlib.Core.Path.{_≡_, refl, sym, ap, ap₂, _∙_}
-use mathlib.Core.List.{List, []}
+use mathlib.Core.Path.{_≡_, sym, ap, _∙_}
+use mathlib.Core.List.{List, [], _∷_}
 use Prim.Native.Nat.{ℕ, _<_}
 use native.Mathlib.Omega.{arith}
-use lib.IntN.{ℤ}
+use lib.IntN.{ℤ, pos}
 use lib.ListN.{length, getD, length-replicate}
+use Rattle.integers.specs.Answers.{answered, refusedBy}
 use Rattle.integers.specs.Limits.{TASKS}
 use Rattle.integers.proofs.Filling.{filled-at, filled-past, filled-length, getD-fresh}
 use Rattle.scheduling.specs.Scheduling.{total}
@@ -19,9 +20,6 @@ use Rattle.charges.specs.Charging.{chargeAt, noBill, chargesNumber, Acce
 use Rattle.charges.specs.Holding.{Chargeable, Summed}
 use Rattle.charges.proofs.Refusing.{accepted-charges, charges-many}
 
-abbrev turnedBack : Bill → ℕ → Charges
-turnedBack b number = record { bill = b; answer = Refused number }
-
 module _ (r : Propagator) (es ls due : List ℤ) where
   pub chargeable : Accepted r es ls due → Chargeable (r .durations) es due
   chargeable a = record {
@@ -31,10 +29,10 @@ module _ (r : Propagator) (es ls due : List ℤ) where
   }
 
   pub refused : (m : ℕ) (b : Bill) → m ≡ chargesNumber r es ls due → (m ≡ 0 → ⊥) → b ≡ noBill → Charged r es ls due (record { bill = b; answer = Refused m })
-  refused m b e not none = record { refused = λ _. ap₂ turnedBack none e; made = λ z. absurd (not (e ∙ z)) }
+  refused m b e not none = record { refused = λ _. (ap refusedBy e, none); made = λ z. absurd (not (e ∙ z)) }
 
   pub made : (b : Bill) → chargesNumber r es ls due ≡ 0 → Summed (r .durations) es due b → Charged r es ls due (record { bill = b; answer = Made })
-  made b z s = record { refused = λ not. absurd (not z); made = λ _. (refl, right) }
+  made b z s = record { refused = λ not. absurd (not z); made = λ _. (ap (λ (n : ℕ). answered 0 (pos n ∷ [])) (right .total), right) }
     where
       f : ℕ → ℕ
       f = chargeAt (r .durations) es due
@@ -60,4 +58,5 @@ module _ (r : Propagator) (es ls due : List ℤ) where
 pub too-many : (r : Propagator) (es ls due : List ℤ) (c : Charges) → TASKS < length es → Charged r [] [] due c → Charged r es ls due c
 too-many r es ls due c many p =
     let (same, not) = charges-many r es ls due many in
-    record { refused = λ _. p .refused (λ z. not (sym same ∙ z)) ∙ ap (turnedBack noBill) same; made = λ z. absurd (not z) }
+    let (answer, none) = p .refused (λ z. not (sym same ∙ z)) in
+    record { refused = λ _. (answer ∙ ap refusedBy same, none); made = λ z. absurd (not z) }

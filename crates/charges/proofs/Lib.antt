@@ -2,3 +2,4 @@ pub mod Costs
 pub mod Lateness
 pub mod Refusing
 pub mod Billing
+pub mod Apart

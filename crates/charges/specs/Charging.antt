@@ -7,6 +7,7 @@ use lib.Dec.{eqb}
 use lib.IntN.{ℤ, pos, negℤ}
 use lib.Signed.{leZ, _≤ℤ_}
 use lib.ListN.{length, getD}
+use Rattle.integers.specs.Answers.{answered, refusedBy}
 use Rattle.integers.specs.Limits.{TASKS, DUE}
 use Rattle.integers.specs.Tests.{Test, test, allBelow, refusal}
 use Rattle.scheduling.specs.Scheduling.{total}
@@ -16,7 +17,7 @@ use Rattle.fixed.specs.FixedSchedules.{endAt, fixedTests, AcceptedFixed}
 use Rattle.charges.specs.Tariff.{costOf, minutesLate}
 use Rattle.charges.specs.declared.answer.Bill.{Bill}
 use Rattle.charges.specs.declared.answer.Charges.{Charges}
-use Rattle.charges.specs.declared.answer.Billing.the-variants.{Made, Refused}
+use Rattle.charges.specs.Numbers.{chargesNumbers}
 
 -- The tests ---------------------------------------------------------------------------------------------------------------------
 
@@ -66,7 +67,7 @@ pub record BillRight (r : Propagator) (es due : List ℤ) (b : Bill) : Type 0 wh
 abbrev pub noBill : Bill
 noBill = record { charges = noTasks; total = 0 }
 
--- The call: the first test that fails turns it back, with the bill of zeros; else it answers the bill.
+-- The call: the first test that fails turns it back, with the bill of zeros; else it answers the bill and its total.
 pub record Charged (r : Propagator) (es ls due : List ℤ) (c : Charges) : Type 0 where
-  pub refused : (chargesNumber r es ls due ≡ 0 → ⊥) → c ≡ record { bill = noBill; answer = Refused (chargesNumber r es ls due) }
-  pub made : chargesNumber r es ls due ≡ 0 → (c .answer ≡ Made) × BillRight r es due (c .bill)
+  pub refused : (chargesNumber r es ls due ≡ 0 → ⊥) → (chargesNumbers c ≡ refusedBy (chargesNumber r es ls due)) × (c .bill ≡ noBill)
+  pub made : chargesNumber r es ls due ≡ 0 → (chargesNumbers c ≡ answered 0 (pos (total (chargeAt (r .durations) es due) (r .count)) ∷ [])) × BillRight r es due (c .bill)

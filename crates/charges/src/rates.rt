@@ -1,7 +1,7 @@
 // The tariff as code: its table, and what a number of minutes costs by it.
 ghost use mathlib.Core.Path.{_≡_};
 ghost use Prim.Native.Nat.{_≤_, min};
-ghost use Rattle.charges.specs.Tariff.{tariff, costOf};
+ghost use Rattle.charges.specs.Tariff.{costOf};
 
 // A row of the tariff: the last hour that it is for, and what each hour begun of it costs, in cents.
 pub struct Row {
@@ -9,21 +9,17 @@ pub struct Row {
     pub cents: u32,
 }
 
-// The table, all of the tariff that the code has.
-fn table() -> [Row; 2]
-    ensures { λ r. ⌜ r ≡ tariff ⌝ }
-{
-    [
-        Row {
-            upto: 24,
-            cents: 25,
-        },
-        Row {
-            upto: 59,
-            cents: 40,
-        },
-    ]
-}
+// The table, all of the tariff that the code has: `tariff` is its definition.
+const TARIFF: [Row; 2] = [
+    Row {
+        upto: 24,
+        cents: 25,
+    },
+    Row {
+        upto: 59,
+        cents: 40,
+    },
+];
 
 // The smaller of two counts of hours.
 fn smaller(a: u32, b: u32) -> u32
@@ -41,11 +37,11 @@ pub fn cost_of(minutes: u32) -> u32
     ensures { λ r. ⌜ r ≡ costOf minutes ⌝ }
 {
     let hours = (minutes + 59) / 60;
-    let rows = table();
+    let rows = TARIFF;
     let mut done = 0;
     let mut cost = 0;
     let mut i = 0;
-    while i < 2 {
+    while i < rows.len() {
         let row = rows[i];
         let reached = smaller(hours, row.upto);
         cost += (reached - done) * row.cents;

@@ -1,17 +1,19 @@
 -- The answer: yes with the first place at which the tasks read overload, or no where there is none; and what that means over whole numbers.
 -- Assumes nothing.
 use mathlib.Core.Path.{_≡_, refl, sym, ap, _∙_}
-use mathlib.Core.Bool.{Bool, true, false}
+use mathlib.Core.Bool.{true, false}
 use mathlib.Core.Logic.{_⊎_, inl, inr, _↔_}
-use mathlib.Core.List.{List}
+use mathlib.Core.List.{List, [], _∷_}
 use Prim.Native.Nat.{ℕ, zero, suc, _+_, _-_, _≤_, _<_}
 use native.Mathlib.Omega.{arith}
 use native.Mathlib.Numerals.{add-one}
 use native.Mathlib.Decide.{ℕ-discrete}
-use lib.IntN.{ℤ}
+use lib.IntN.{ℤ, pos}
 use lib.ListN.{length}
+use Rattle.integers.specs.Answers.{answered, refusedBy}
 use Rattle.integers.specs.Limits.{TASKS}
 use Rattle.integers.specs.Moments.{zeroAt}
+use Rattle.integers.proofs.Answers.{same-kind, same-count}
 use Rattle.integers.proofs.Bools.{bool, clash}
 use Rattle.scheduling.specs.Scheduling.{natural, Tasks, Proper, TaskSet, Overloads}
 use Rattle.scheduling.proofs.Transfer.{overload→, overload←}
@@ -21,16 +23,11 @@ use Rattle.records.specs.Refusals.{AcceptedInput, inputNumber}
 use Rattle.records.proofs.Accepting.{count, proper-whole, above, proper}
 use Rattle.records.proofs.Refused.{accepted-input}
 use Rattle.counter.specs.declared.overload_test.Overload.{Overload}
-use Rattle.counter.specs.declared.overload_test.Overload.the-variants.{Yes, No, Refused}
+use Rattle.counter.specs.declared.overload_test.Overload.the-variants.{Yes, No}
 use Rattle.counter.specs.Reading.{overloadsAt, answerFrom, answerOf}
+use Rattle.counter.specs.Numbers.{overloadNumbers}
 use Rattle.counter.specs.Tested.{OverloadTested}
 use Rattle.counter.proofs.Reading.{shown, met}
-
--- an answer is not two
-abbrev isYes : Overload → Bool
-isYes (Yes k) = true
-isYes No = false
-isYes (Refused n) = false
 
 module _ (J : Tasks natural) where
   -- step by step
@@ -82,9 +79,9 @@ module _ (J : Tasks natural) where
 
   -- yes with some number of them, or no, exactly where some set overloads, or none
   pub record Says (r : Overload) : Type 0 where
-    pub yes : ((k : ℕ) × (r ≡ Yes k)) ↔ ((Ω : TaskSet) × Overloads J Ω)
-    pub no : (r ≡ No) ↔ ((Ω : TaskSet) → Overloads J Ω → ⊥)
-    pub many : (k : ℕ) → r ≡ Yes k → (1 ≤ k) × (k ≤ J .count)
+    pub yes : ((k : ℕ) × (overloadNumbers r ≡ answered 0 (pos k ∷ []))) ↔ ((Ω : TaskSet) × Overloads J Ω)
+    pub no : (overloadNumbers r ≡ answered 1 []) ↔ ((Ω : TaskSet) → Overloads J Ω → ⊥)
+    pub many : (k : ℕ) → overloadNumbers r ≡ answered 0 (pos k ∷ []) → (1 ≤ k) × (k ≤ J .count)
 
   pub says : Proper J → (r : Overload) → r ≡ answerOf J → Says r
   says ok r z = by (told 0 (J .count))
@@ -92,19 +89,19 @@ module _ (J : Tasks natural) where
       by : Stopped 0 (J .count) ⊎ Passed 0 (J .count) → Says r
       by (inl s) =
           let found = shown J ok (s .at) (omega (arith, s .small)) (s .over) in
-          let is : r ≡ Yes (suc (s .at)) = z ∙ s .is in
+          let is : overloadNumbers r ≡ answered 0 (pos (suc (s .at)) ∷ []) = ap overloadNumbers (z ∙ s .is) in
           record {
             yes = (λ w. found, λ w. (suc (s .at), is));
-            no = (λ e. clash (ap isYes is) (ap isYes e), λ f. absurd (f (found .0) (found .1)));
-            many = λ k e. (let same : Yes (suc (s .at)) ≡ Yes k = sym is ∙ e in let m : suc (s .at) ≡ k = cc same in (omega (arith, m), omega (arith, m, s .small)));
+            no = (λ e. absurd (omega (arith, same-kind (sym is ∙ e))), λ f. absurd (f (found .0) (found .1)));
+            many = λ k e. (let m : suc (s .at) ≡ k = same-count (sym is ∙ e) 0 in (omega arith, omega (arith, s .small)));
           }
       by (inr p) =
-          let is : r ≡ No = z ∙ p .is in
+          let is : overloadNumbers r ≡ answered 1 [] = ap overloadNumbers (z ∙ p .is) in
           let none : (Ω : TaskSet) → Overloads J Ω → ⊥ = λ Ω o. (let w = met J ok Ω o in clash (w .2) (p .none (w .0) (omega arith) (omega (arith, w .1)))) in
           record {
-            yes = (λ w. clash (ap isYes (w .1)) (ap isYes is), λ w. absurd (none (w .0) (w .1)));
+            yes = (λ w. absurd (omega (arith, same-kind (sym is ∙ w .1))), λ w. absurd (none (w .0) (w .1)));
             no = (λ e. none, λ f. is);
-            many = λ k e. clash (ap isYes e) (ap isYes is);
+            many = λ k e. absurd (omega (arith, same-kind (sym is ∙ e)));
           }
 
 -- the contract, of a record and ranges that are accepted, and of others
@@ -122,11 +119,11 @@ tested before es ls r a long z =
       many = λ k e. (let m = s .many k e in (m .0, omega (arith, m .1, count before es ls a long)));
     }
 
-pub turned-back : (before : Propagator) (es ls : List ℤ) (r : Overload) → (inputNumber before es ls ≡ 0 → ⊥) → r ≡ Refused (inputNumber before es ls) → OverloadTested before es ls r
+pub turned-back : (before : Propagator) (es ls : List ℤ) (r : Overload) → (inputNumber before es ls ≡ 0 → ⊥) → overloadNumbers r ≡ refusedBy (inputNumber before es ls) → OverloadTested before es ls r
 turned-back before es ls r h z = record {
   refused = λ _. z;
   answer = λ e. absurd (h e);
   yes = λ e. absurd (h e);
   no = λ e. absurd (h e);
-  many = λ k e. clash (ap isYes e) (ap isYes z);
+  many = λ k e. absurd (omega (arith, same-kind (sym z ∙ e)));
 }

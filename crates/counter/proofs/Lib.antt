@@ -2,3 +2,4 @@ pub mod Reading
 pub mod Answers
 pub mod Adding
 pub mod Many
+pub mod Apart

@@ -7,6 +7,7 @@ use Prim.Native.Nat.{ℕ, _<_}
 use native.Mathlib.Omega.{arith}
 use lib.IntN.{ℤ}
 use lib.ListN.{length}
+use Rattle.integers.specs.Answers.{refusedBy}
 use Rattle.integers.proofs.Bools.{bool, clash}
 use Rattle.records.specs.declared.record.Propagator.{Propagator}
 use Rattle.records.specs.Records.{lawfulRecord, Lawful}
@@ -14,7 +15,6 @@ use Rattle.records.specs.Refusals.{inputNumber, CountsFit}
 use Rattle.records.proofs.Lawful.{lawful-is}
 use Rattle.records.proofs.Refused.{accepted-input, run-too, refused-20, refused-10}
 use Rattle.counter.specs.declared.overload_test.Overload.{Overload}
-use Rattle.counter.specs.declared.overload_test.Overload.the-variants.{Refused}
 use Rattle.counter.specs.Tested.{OverloadTested}
 use Rattle.counter.proofs.Answers.{turned-back}
 
@@ -34,4 +34,4 @@ one-number before es ls h = elim (bool (lawfulRecord before)) [
 pub too-many : (before : Propagator) (es ls : List ℤ) (r : Overload) → 48 < length es → OverloadTested before [] [] r → OverloadTested before es ls r
 too-many before es ls r h t =
     let (m, none, many, not) = one-number before es ls h in
-    turned-back before es ls r (λ z. not (sym many ∙ z)) (t .refused (λ z. not (sym none ∙ z)) ∙ ap Refused (none ∙ sym many))
+    turned-back before es ls r (λ z. not (sym many ∙ z)) (t .refused (λ z. not (sym none ∙ z)) ∙ ap refusedBy (none ∙ sym many))

@@ -22,9 +22,11 @@ use Rattle.records.specs.declared.record.Propagator.{Propagator}
 use Rattle.records.specs.Records.{Lawful, durationOf}
 use Rattle.records.proofs.Lawful.{count-is, lawful-is}
 use Rattle.desk.specs.declared.changes.Changed.{Changed}
+use Rattle.desk.specs.declared.changes.Change.{Change}
 use Rattle.desk.specs.declared.changes.Change.the-variants.{Made, Refused}
 use Rattle.desk.specs.Lists.{placed, sumOf, without, closedGap}
-use Rattle.desk.specs.Changes.{durationsOf, firstOf, secondOf, added, removed, addTests, addNumber, removeTests, removeNumber, TaskAdded, TaskRemoved}
+use Rattle.desk.specs.Numbers.{changeNumbers}
+use Rattle.desk.specs.Changes.{Left, durationsOf, firstOf, secondOf, added, removed, addTests, addNumber, removeTests, removeNumber, TaskAdded, TaskRemoved}
 use Rattle.desk.proofs.Placing.{placed-front, placed-at, placed-past, last-stored}
 use Rattle.desk.proofs.Leaving.{without-length, without-all, last-permutes, closed-permutes}
 use Rattle.desk.proofs.Sums.{sum-more, sum-without, sum-placed}
@@ -159,14 +161,17 @@ removable r t h = facts (accepted (removeTests r t) refl h)
     facts (a, (b, (c, _))) = record { lawful = lawful-is r .0 a; there = ltb-true t (r .count) b; many = omega (arith, count-is (r .count - 1) .0 c .0) }
 
 -- What the calls meet.
+left : {c : Changed} {after : Propagator} {x : Change} → c ≡ record { «record» = after; answer = x } → Left (changeNumbers x) after c
+left e = record { answer = ap (λ (y : Changed). changeNumbers (y .answer)) e; stands = ap (λ (y : Changed). y .«record») e }
+
 module _ (r : Propagator) (d : ℤ) (c : Changed) where
   pub add-refused : (addNumber r d ≡ 0 → ⊥) → c ≡ record { «record» = r; answer = Refused (addNumber r d) } → TaskAdded r d c
-  add-refused h e = record { refused = λ _. e; made = λ z. absurd (h z); lawful = λ z. absurd (h z) }
+  add-refused h e = record { refused = λ _. left e; made = λ z. absurd (h z); lawful = λ z. absurd (h z) }
 
   pub add-made : length (r .durations) ≡ TASKS → addNumber r d ≡ 0 → c ≡ record { «record» = added r (durationOf d); answer = Made } → TaskAdded r d c
   add-made long h e =
       let a = addable r d h in
-      record { refused = λ z. absurd (z h); made = λ _. e; lawful = λ _. subst (λ (x : Changed). Lawful (x .«record»)) (sym e) (added-lawful r (a .lawful) long (durationOf d) (a .room) (lasting d (a .lasts)) (a .fits)) }
+      record { refused = λ z. absurd (z h); made = λ _. left e; lawful = λ _. subst (λ (x : Changed). Lawful (x .«record»)) (sym e) (added-lawful r (a .lawful) long (durationOf d) (a .room) (lasting d (a .lasts)) (a .fits)) }
 
 -- the record as the code stores it
 pub stored-is : (r : Propagator) {d : ℤ} → Addable r d → length (r .durations) ≡ TASKS → length (r .first) ≡ TASKS → length (r .second) ≡ TASKS → (more : ℕ) → more ≡ durationOf d
@@ -181,9 +186,9 @@ stored-is r {d} a long long₁ long₂ more e =
 
 module _ (r : Propagator) (t : ℕ) (c : Changed) where
   pub remove-refused : (removeNumber r t ≡ 0 → ⊥) → c ≡ record { «record» = r; answer = Refused (removeNumber r t) } → TaskRemoved r t c
-  remove-refused h e = record { refused = λ _. e; made = λ z. absurd (h z); lawful = λ z. absurd (h z) }
+  remove-refused h e = record { refused = λ _. left e; made = λ z. absurd (h z); lawful = λ z. absurd (h z) }
 
   pub remove-made : length (r .durations) ≡ TASKS → removeNumber r t ≡ 0 → c ≡ record { «record» = removed r t; answer = Made } → TaskRemoved r t c
   remove-made long h e =
       let a = removable r t h in
-      record { refused = λ z. absurd (z h); made = λ _. e; lawful = λ _. subst (λ (x : Changed). Lawful (x .«record»)) (sym e) (removed-lawful r (a .lawful) long t (a .there) (a .many)) }
+      record { refused = λ z. absurd (z h); made = λ _. left e; lawful = λ _. subst (λ (x : Changed). Lawful (x .«record»)) (sym e) (removed-lawful r (a .lawful) long t (a .there) (a .many)) }

@@ -133,14 +133,14 @@ leaves-old (suc k) r r′ h = refl
 
 pub add-step : (r : Propagator) (d : ℤ) (c : Changed) → TaskAdded r d c → c .«record» ≡ leaves (addNumber r d) (added r (durationOf d)) r
 add-step r d c a = elim (ℕ-discrete (addNumber r d) 0) [
-  | yes e ↦ ap (λ (x : Changed). x .«record») (a .made e) ∙ leaves-new (addNumber r d) r (added r (durationOf d)) e
-  | no e ↦ ap (λ (x : Changed). x .«record») (a .refused e) ∙ leaves-old (addNumber r d) r (added r (durationOf d)) e
+  | yes e ↦ a .made e .stands ∙ leaves-new (addNumber r d) r (added r (durationOf d)) e
+  | no e ↦ a .refused e .stands ∙ leaves-old (addNumber r d) r (added r (durationOf d)) e
 ]
 
 pub remove-step : (r : Propagator) (t : ℕ) (c : Changed) → TaskRemoved r t c → c .«record» ≡ leaves (removeNumber r t) (removed r t) r
 remove-step r t c a = elim (ℕ-discrete (removeNumber r t) 0) [
-  | yes e ↦ ap (λ (x : Changed). x .«record») (a .made e) ∙ leaves-new (removeNumber r t) r (removed r t) e
-  | no e ↦ ap (λ (x : Changed). x .«record») (a .refused e) ∙ leaves-old (removeNumber r t) r (removed r t) e
+  | yes e ↦ a .made e .stands ∙ leaves-new (removeNumber r t) r (removed r t) e
+  | no e ↦ a .refused e .stands ∙ leaves-old (removeNumber r t) r (removed r t) e
 ]
 
 pub run-step : (r : Propagator) (es ls posts atoms : List ℤ) (c : Run) (es′ posts′ atoms′ : List ℤ) → Ran r es ls posts atoms c es′ posts′ atoms′ → c .«record» ≡ leaves (runNumber r es ls (length posts) (length atoms)) (carried r es ls) r

@@ -6,14 +6,20 @@ use lib.Dec.{leb, ltb}
 use lib.IntN.{ℤ, pos}
 use lib.Signed.{leZ}
 use lib.ListN.{getD, take}
+use Rattle.integers.specs.Answers.{Answer, answered, refusedBy}
 use Rattle.integers.specs.Limits.{DURATIONS}
 use Rattle.integers.specs.Tests.{Test, test, refusal}
 use Rattle.records.specs.declared.record.Propagator.{Propagator}
 use Rattle.records.specs.Records.{countFits, durationOf, lawfulRecord, Lawful}
 use Rattle.desk.specs.declared.changes.Changed.{Changed}
 use Rattle.desk.specs.declared.changes.Change.{Change}
-use Rattle.desk.specs.declared.changes.Change.the-variants.{Made, Refused}
+use Rattle.desk.specs.Numbers.{changeNumbers}
 use Rattle.desk.specs.Lists.{placed, without, closedGap}
+
+-- What a call leaves: its answer, by the papers' numbers, and the record.
+pub record Left (a : Answer) (after : Propagator) (c : Changed) : Type 0 where
+  pub answer : changeNumbers (c .answer) ≡ a
+  pub stands : c .«record» ≡ after
 
 module _ (r : Propagator) where
   -- the durations of a record's tasks, by number
@@ -72,13 +78,13 @@ module _ (r : Propagator) where
 
   -- The first test that fails turns a call back, and the record stays as it was; else the record is the definition's, and lawful.
   pub record TaskAdded (d : ℤ) (c : Changed) : Type 0 where
-    pub refused : (addNumber d ≡ 0 → ⊥) → c ≡ record { «record» = r; answer = Refused (addNumber d) }
-    pub made : addNumber d ≡ 0 → c ≡ record { «record» = added (durationOf d); answer = Made }
+    pub refused : (addNumber d ≡ 0 → ⊥) → Left (refusedBy (addNumber d)) r c
+    pub made : addNumber d ≡ 0 → Left (answered 0 []) (added (durationOf d)) c
     pub lawful : addNumber d ≡ 0 → Lawful (c .«record»)
 
   pub record TaskRemoved (t : ℕ) (c : Changed) : Type 0 where
-    pub refused : (removeNumber t ≡ 0 → ⊥) → c ≡ record { «record» = r; answer = Refused (removeNumber t) }
-    pub made : removeNumber t ≡ 0 → c ≡ record { «record» = removed t; answer = Made }
+    pub refused : (removeNumber t ≡ 0 → ⊥) → Left (refusedBy (removeNumber t)) r c
+    pub made : removeNumber t ≡ 0 → Left (answered 0 []) (removed t) c
     pub lawful : removeNumber t ≡ 0 → Lawful (c .«record»)
 
   -- the same on a lent record: what stands there at the end, and the answer

@@ -1,4 +1,5 @@
 pub mod Lists
+pub mod Numbers
 pub mod Changes
 pub mod Histories
 pub mod Examples

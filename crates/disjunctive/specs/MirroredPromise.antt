@@ -26,7 +26,7 @@ module _ (before : Propagator) (ranges : List Range) (answer : Outcome) (ranges�
   abbrev kind : ℕ
   kind = outcomeNumbers answer .kind
 
-  -- how many posts there are; the task and the bound of each
+  -- how many posts there are, and the task and the bound of each
   abbrev made : ℕ
   made = valueOf answer 0
 
@@ -44,21 +44,27 @@ module _ (before : Propagator) (ranges : List Range) (answer : Outcome) (ranges�
   abbrev mirrored : List ℤ → List Atom
   mirrored words = mirrorAtoms (J .duration) (atomsOf words)
 
-  -- Post j: the post reader takes it; its bound is one of the mirrored rule for its task, below the latest start; it holds in all schedules.
-  -- The reason that is handed out holds at entry and, mirrored, meets the checker's formula for task ≤ bound, mirrored.
+  -- Post j.
   pub record MirroredPostPromise (j : ℕ) : Type 0 where
+    -- The post reader takes it.
     pub read : postNumber posts atoms made j ≡ 0
+    -- Its first word is a task's number.
     pub names : getD posts (4 * j) (pos 0) ≡ pos (task j)
     pub small : task j < J .count
-    pub lowers : bound j <ℤ J .latest (task j)
+    -- Its bound is one of the mirrored rule for the task, below the latest start.
     pub rule : MirroredBound J (task j) (bound j)
+    pub lowers : bound j <ℤ J .latest (task j)
+    -- It holds in all schedules.
     pub holds : (s : ℕ → ℤ) → Schedule J s → s (task j) ≤ℤ bound j
+    -- The reason that the reader hands out holds at entry and, mirrored, meets the checker's formula for task ≤ bound, mirrored.
     pub reason-holds : HoldsAtEntry J (atomsOf (reasonOf answer posts atoms j))
     pub reason-passes : PassesWith (mirror J) (mirrored (reasonOf answer posts atoms j)) (mirrorAtom (J .duration) (record { variable = task j; kind = 1; value = bound j }))
 
-  -- An overload: its reason is inside the slice; it holds at entry and, mirrored, meets the checker's formula with no consequent.
+  -- An overload.
   pub record MirroredOverloadPromise : Type 0 where
+    -- The atoms of its reason are inside the slice.
     pub inside : 3 * valueOf answer 1 + 3 * valueOf answer 2 ≤ length atoms
+    -- The reason holds at entry and, mirrored, meets the checker's formula without consequent.
     pub reason-holds : HoldsAtEntry J (atomsOf (overloadOf answer atoms))
     pub reason-passes : PassesAlone (mirror J) (mirrored (overloadOf answer atoms))
 
@@ -71,9 +77,9 @@ module _ (before : Propagator) (ranges : List Range) (answer : Outcome) (ranges�
     pub when-done : kind ≡ 0 → MirroredDone J now made task bound
     -- An overload or emptied range means that no schedule exists.
     pub otherwise : (kind ≡ 0 → ⊥) → (s : ℕ → ℤ) → Schedule J s → ⊥
-    -- Whatever the outcome, every post holds in all schedules, and its reason holds at entry and, mirrored, meets the checker's formula;
+    -- Whatever the outcome, every post holds in all schedules, and its reason holds at entry and, mirrored, meets the checker's formula.
     pub every-post : (j : ℕ) → j < made → MirroredPostPromise j
-    -- an overload's reason does, too.
+    -- So does an overload's reason.
     pub overload : kind ≡ 1 → MirroredOverloadPromise
     -- No earliest start changes.
     pub same-earliest : earliests ranges′ ≡ earliests ranges

@@ -52,7 +52,7 @@ module _ (before : Propagator) (ranges : List Range) (answer : Outcome) (ranges�
   abbrev kind : ℕ
   kind = outcomeNumbers answer .kind
 
-  -- how many posts there are; the task and the bound of each
+  -- how many posts there are, and the task and the bound of each
   abbrev made : ℕ
   made = valueOf answer 0
 
@@ -66,24 +66,37 @@ module _ (before : Propagator) (ranges : List Range) (answer : Outcome) (ranges�
   abbrev now : ℕ → ℤ
   now k = getD (earliests ranges′) k (pos 0)
 
-  -- A reason, and what it is a reason for: an atom, or none. It holds at entry, and the check of the record's durations passes it.
-  pub record Reason (words : List ℤ) (consequent : Option Atom) : Type 0 where
-    pub holds : HoldsAtEntry J (atomsOf words)
-    pub passes : checkOf (map pos (take (before .count) (before .durations))) words (consequentWords consequent) ≡ Passed
+  -- the durations of the record, as a check takes them
+  abbrev durations : List ℤ
+  durations = map pos (take (before .count) (before .durations))
 
-  -- Post j: the post reader takes it; its bound is an edge-finding bound of its task, above the earliest start; it holds in all schedules; and the reason that is handed out is one for task ≥ bound.
+  -- A reason, for an atom or for none.
+  pub record Reason (words : List ℤ) (consequent : Option Atom) : Type 0 where
+    -- Every choice of starts from the entry ranges meets its atoms.
+    pub holds : HoldsAtEntry J (atomsOf words)
+    -- The check answers Passed.
+    pub passes : checkOf durations words (consequentWords consequent) ≡ Passed
+
+  -- Post j.
   pub record PostPromise (j : ℕ) : Type 0 where
+    -- The post reader takes it.
     pub read : postNumber posts atoms made j ≡ 0
+    -- Its first word is a task's number.
     pub names : getD posts (4 * j) (pos 0) ≡ pos (task j)
     pub small : task j < J .count
-    pub raises : J .earliest (task j) <ℤ bound j
+    -- Its bound is an edge-finding bound of the task, above the earliest start.
     pub edge : EdgeFindingBound J (task j) (bound j)
+    pub raises : J .earliest (task j) <ℤ bound j
+    -- It holds in all schedules.
     pub holds : (s : ℕ → ℤ) → Schedule J s → bound j ≤ℤ s (task j)
+    -- What the reader hands out is a reason for task ≥ bound.
     pub reason : Reason (reasonOf answer posts atoms j) (some (record { variable = task j; kind = 0; value = bound j }))
 
-  -- An overload: its reason is inside the slice, and is one with no consequent.
+  -- An overload.
   pub record OverloadPromise : Type 0 where
+    -- Its atoms are inside the slice.
     pub inside : 3 * valueOf answer 1 + 3 * valueOf answer 2 ≤ length atoms
+    -- They are a reason without consequent.
     pub reason : Reason (overloadOf answer atoms) none
 
   pub record Promise : Type 0 where
@@ -95,9 +108,9 @@ module _ (before : Propagator) (ranges : List Range) (answer : Outcome) (ranges�
     pub when-done : kind ≡ 0 → Done J now made task bound
     -- An overload or emptied range means that no schedule exists.
     pub otherwise : (kind ≡ 0 → ⊥) → (s : ℕ → ℤ) → Schedule J s → ⊥
-    -- Whatever the outcome, every post holds in all schedules, and its reason holds at entry and passes the check;
+    -- Whatever the outcome, every post holds in all schedules, and its reason holds at entry and passes the check.
     pub every-post : (j : ℕ) → j < made → PostPromise j
-    -- an overload's reason does, too.
+    -- So does an overload's reason.
     pub overload : kind ≡ 1 → OverloadPromise
     -- No latest start changes.
     pub same-latest : latests ranges′ ≡ latests ranges

@@ -7,6 +7,7 @@ use Prim.Native.Nat.{ℕ, _+_, _≤_, _<_}
 use native.Mathlib.Omega.{arith}
 use lib.IntN.{ℤ, pos}
 use lib.ListN.{length, take}
+use Rattle.integers.specs.Answers.{refusedBy}
 use Rattle.integers.specs.Limits.{TASKS}
 use Rattle.integers.specs.Filling.{filled}
 use Rattle.integers.specs.Moments.{moment, instant, zeroAt, Above}
@@ -24,6 +25,7 @@ use Rattle.fixed.proofs.Accepting.{Told, input-of, short, told, by-moments, mom
 use Rattle.fixed.proofs.Asking.{asked-above, asked-moment}
 use Rattle.free_starts.specs.declared.free_start.FreeStart.{FreeStart}
 use Rattle.free_starts.specs.declared.free_start.FreeStart.the-variants.{At, Refused}
+use Rattle.free_starts.specs.Numbers.{freeStartNumbers}
 use Rattle.free_starts.specs.FreeStarts.{LATEST, Free, EarliestFree, freeNumber, Found, Answered}
 use Rattle.free_starts.specs.Holding.{Askable}
 use Rattle.free_starts.proofs.Refusing.{free-many}
@@ -81,7 +83,7 @@ module _ (r : Propagator) (es ls : List ℤ) (t d : ℤ) (a : AcceptedFixed r es
   unfolding up dn
   found free e l x z = record {
     start = instant zeroAt free;
-    answer = ap At z;
+    answer = ap (λ (s : ℤ). freeStartNumbers (At s)) z;
     earliest = subst (λ (n : ℕ). EarliestFree (tasksOn r es ls) t n (instant zeroAt free)) (ap durationOf p) (earliest-up zeroAt (tasksOn r es ls) (inMoments (r .count) starts (r .durations)) (told r es ls (input-of a) starts s) t lasting free (asked-above t (q .1)) (rw m at e));
     limit = omega (ints, at-moment zeroAt (instant zeroAt free) (instant-above zeroAt free), moment-instant zeroAt free);
   }
@@ -89,7 +91,7 @@ module _ (r : Propagator) (es ls : List ℤ) (t d : ℤ) (a : AcceptedFixed r es
 -- ---- the call
 module _ (r : Propagator) (es ls : List ℤ) (t d : ℤ) where
   pub refused : (m : ℕ) → m ≡ freeNumber r es ls t d → (m ≡ 0 → ⊥) → Answered r es ls t d (Refused m)
-  refused m e not = record { refused = λ _. ap Refused e; found = λ z. absurd (not (e ∙ z)) }
+  refused m e not = record { refused = λ _. ap refusedBy e; found = λ z. absurd (not (e ∙ z)) }
 
   pub answered : (x : FreeStart) → freeNumber r es ls t d ≡ 0 → Found r es ls t d x → Answered r es ls t d x
   answered x z f = record { refused = λ not. absurd (not z); found = λ _. f }
@@ -98,4 +100,4 @@ module _ (r : Propagator) (es ls : List ℤ) (t d : ℤ) where
 pub too-many : (r : Propagator) (es ls : List ℤ) (t d : ℤ) (x : FreeStart) → TASKS < length es → Answered r [] [] t d x → Answered r es ls t d x
 too-many r es ls t d x many a =
     let (same, not) = free-many r es ls t d many in
-    record { refused = λ _. a .refused (λ z. not (sym same ∙ z)) ∙ ap Refused same; found = λ z. absurd (not z) }
+    record { refused = λ _. a .refused (λ z. not (sym same ∙ z)) ∙ ap refusedBy same; found = λ z. absurd (not z) }

@@ -1,3 +1,4 @@
 pub mod Passing
 pub mod Refusing
 pub mod Answers
+pub mod Apart

@@ -6,6 +6,7 @@ use mathlib.Core.Logic.{_⊎_}
 use Prim.Native.Nat.{ℕ, _<_}
 use lib.IntN.{ℤ, pos}
 use lib.Signed.{_≤ℤ_}
+use Rattle.integers.specs.Answers.{answered, refusedBy}
 use Rattle.integers.specs.Tests.{Test, test, refusal}
 use Rattle.scheduling.specs.Scheduling.{Clock, Tasks}
 use Rattle.records.specs.declared.record.Propagator.{Propagator}
@@ -13,7 +14,7 @@ use Rattle.records.specs.Records.{durationOf}
 use Rattle.fixed.specs.FixedSchedules.{tasksOn, fixedTests}
 use Rattle.fixed.specs.Asked.{momentFits, lengthFits}
 use Rattle.free_starts.specs.declared.free_start.FreeStart.{FreeStart}
-use Rattle.free_starts.specs.declared.free_start.FreeStart.the-variants.{At, Refused}
+use Rattle.free_starts.specs.Numbers.{freeStartNumbers}
 
 module _ {C : Clock} (J : Tasks C) where
   -- a volume of duration d that starts at s overlaps no task: it ends by the task's start, or starts at the task's end or later
@@ -40,11 +41,11 @@ LATEST = 800000000
 -- The answer is a start, the earliest free one, over all whole numbers.
 pub record Found (r : Propagator) (es ls : List ℤ) (t d : ℤ) (a : FreeStart) : Type 0 where
   pub start : ℤ
-  pub answer : a ≡ At start
+  pub answer : freeStartNumbers a ≡ answered 0 (start ∷ [])
   pub earliest : EarliestFree (tasksOn r es ls) t (durationOf d) start
   pub limit : start ≤ℤ pos LATEST
 
 -- The first test that fails turns the question back; else there is a free start, and the answer is the earliest.
 pub record Answered (r : Propagator) (es ls : List ℤ) (t d : ℤ) (a : FreeStart) : Type 0 where
-  pub refused : (freeNumber r es ls t d ≡ 0 → ⊥) → a ≡ Refused (freeNumber r es ls t d)
+  pub refused : (freeNumber r es ls t d ≡ 0 → ⊥) → freeStartNumbers a ≡ refusedBy (freeNumber r es ls t d)
   pub found : freeNumber r es ls t d ≡ 0 → Found r es ls t d a

@@ -1,3 +1,4 @@
+pub mod Numbers
 pub mod FreeStarts
 pub mod Holding
 pub mod Examples

@@ -5,5 +5,6 @@ pub mod Filling
 pub mod Words
 pub mod Permutations
 pub mod Tests
+pub mod Answers
 pub mod Sorting
 pub mod Reversal

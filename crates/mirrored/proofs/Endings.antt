@@ -300,8 +300,12 @@ module _ (before : Propagator) (es ls : List ℤ) (postCount atomCount : ℕ) (a
       post-words = t .post-words;
       atom-words = t .atom-words;
       posts-fit = omega (arith, laws.post-words-length ds (mirroredRun ds es ls .posts) 0, laws.mirrored-posts-fit ds es ls (take n (before .first)) (take n (before .second)) here es-long ls-long, count, a .words .posts);
-      atoms-fit = omega (arith, ap (λ (xs : List Atom). length (atomWords xs)) (laws.atoms-mirrored ds (mirroredRun ds es ls)) ∙ laws.atom-words-length ds (atomsIn (mirroredRun ds es ls)),
-          squared, a .words .atoms);
+      atoms-fit = omega (
+        arith,
+        ap (λ (xs : List Atom). length (atomWords xs)) (laws.atoms-mirrored ds (mirroredRun ds es ls)) ∙ laws.atom-words-length ds (atomsIn (mirroredRun ds es ls)),
+        squared,
+        a .words .atoms,
+      );
     }
       where
         squared : length (atomWords (atomsIn (mirroredRun ds es ls))) ≤ 6 * (n * n)

@@ -1,3 +1,4 @@
 pub mod Padding
 pub mod Refusing
 pub mod Paging
+pub mod Apart

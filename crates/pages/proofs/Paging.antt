@@ -9,6 +9,7 @@ use native.Mathlib.Omega.{arith}
 use lib.IntN.{ℤ}
 use lib.ListN.{length, getD, take, drop, length-append}
 use lib.Seq.{take-suc, take-at, drop-append-add}
+use Rattle.integers.specs.Answers.{refusedBy}
 use Rattle.integers.specs.Limits.{TASKS, DURATIONS}
 use Rattle.integers.specs.Orders.{has}
 use Rattle.integers.proofs.Words.{overwrites}
@@ -23,6 +24,7 @@ use Rattle.text.proofs.Putting.{puts-append}
 use Rattle.pages.specs.Lines.{LINE, heading}
 use Rattle.pages.specs.declared.answer.Page.{Page}
 use Rattle.pages.specs.declared.answer.Page.the-variants.{Written, Refused}
+use Rattle.pages.specs.Numbers.{pageNumbers}
 use Rattle.pages.specs.Pages.{lineAt, pageOf, pageNumber, Accepted, OneLineEach, Paged}
 use Rattle.pages.proofs.Padding.{line-length, line-once}
 use Rattle.pages.proofs.Refusing.{page-many, accepted-page}
@@ -102,7 +104,7 @@ module _ (ds : List ℕ) (es : List ℤ) (s : Started es) (short : (k : ℕ) →
 module _ (r : Propagator) (es ls : List ℤ) (out : List ℕ) where
   pub refused : {out′ : List ℕ} (m : ℕ) → m ≡ pageNumber r es ls (length out) → (m ≡ 0 → ⊥) → out′ ≡ out → Paged r es ls out (Refused m) out′
   refused m e not k = record {
-    refused = λ h. record { answer = ap Refused e; keeps = k };
+    refused = λ h. record { answer = ap refusedBy e; keeps = k };
     written = λ z. absurd (not (e ∙ z));
     lines = λ z. absurd (not (e ∙ z));
   }
@@ -112,7 +114,7 @@ module _ (r : Propagator) (es ls : List ℤ) (out : List ℕ) where
   written {out′} order n z e q = record {
     refused = λ not. absurd (not z);
     written = λ _. record {
-      answer = ap Written size;
+      answer = ap (λ (m : ℕ). pageNumbers (Written m)) size;
       text = page .text ∙ overwrites out (pageOf (r .durations) es) (omega (arith, one .long, a .schedule .counts .earliest, a .room));
     };
     lines = λ _. one;
@@ -135,4 +137,4 @@ pub too-many : (r : Propagator) (es ls : List ℤ) (out : List ℕ) (page : Page
 too-many r es ls out page out′ many p =
     let (same, not) = page-many r es ls (length out) many in
     let k = p .refused (λ z. not (sym same ∙ z)) in
-    record { refused = λ _. record { answer = k .answer ∙ ap Refused same; keeps = k .keeps }; written = λ z. absurd (not z); lines = λ z. absurd (not z) }
+    record { refused = λ _. record { answer = k .answer ∙ ap refusedBy same; keeps = k .keeps }; written = λ z. absurd (not z); lines = λ z. absurd (not z) }

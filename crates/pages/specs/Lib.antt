@@ -1,3 +1,4 @@
 pub mod Lines
+pub mod Numbers
 pub mod Pages
 pub mod Examples

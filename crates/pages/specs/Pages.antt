@@ -3,9 +3,10 @@ use mathlib.Core.Path.{_≡_}
 use mathlib.Core.List.{List, [], _∷_, _++_, flatMap}
 use Prim.Native.Nat.{ℕ, _+_, _*_, _≤_, _<_}
 use lib.Dec.{leb}
-use lib.IntN.{ℤ}
+use lib.IntN.{ℤ, pos}
 use lib.Signed.{_≤ℤ_}
 use lib.ListN.{length, getD, take, drop}
+use Rattle.integers.specs.Answers.{answered, refusedBy}
 use Rattle.integers.specs.Words.{overwritten}
 use Rattle.integers.specs.Orders.{index, Ordered}
 use Rattle.integers.specs.Tests.{Test, test, refusal}
@@ -13,7 +14,7 @@ use Rattle.records.specs.declared.record.Propagator.{Propagator}
 use Rattle.fixed.specs.FixedSchedules.{startAt, endAt, fixedTests, AcceptedFixed, orderOf}
 use Rattle.pages.specs.Lines.{LINE, heading, lineOf}
 use Rattle.pages.specs.declared.answer.Page.{Page}
-use Rattle.pages.specs.declared.answer.Page.the-variants.{Written, Refused}
+use Rattle.pages.specs.Numbers.{pageNumbers}
 
 -- The tests ---------------------------------------------------------------------------------------------------------------------
 
@@ -52,12 +53,12 @@ pub record OneLineEach (ds : List ℕ) (es : List ℤ) (page : List ℕ) : Type 
 
 -- A refused page leaves the buffer as it was.
 pub record Kept (number : ℕ) (bytes : List ℕ) (p : Page) (bytes′ : List ℕ) : Type 0 where
-  pub answer : p ≡ Refused number
+  pub answer : pageNumbers p ≡ refusedBy number
   pub keeps : bytes′ ≡ bytes
 
 -- A page that is written stands at the front of the buffer, and the bytes beyond it are as they were.
 pub record Left (r : Propagator) (es : List ℤ) (bytes : List ℕ) (p : Page) (bytes′ : List ℕ) : Type 0 where
-  pub answer : p ≡ Written (LINE * (r .count + 1))
+  pub answer : pageNumbers p ≡ answered 0 (pos (LINE * (r .count + 1)) ∷ [])
   pub text : bytes′ ≡ overwritten bytes (pageOf (r .durations) es)
 
 -- A page: the first test that fails turns it back; else the page is written, which has one line for each task.

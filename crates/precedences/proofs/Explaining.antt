@@ -12,6 +12,7 @@ use lib.Signed.{_≤ℤ_, clashℤ}
 use lib.ListN.{length, getD, replicate}
 use borrow.Author.Tests.{eq-eqb}
 use lib.Seq.{sets}
+use Rattle.integers.specs.Answers.{answered, refusedBy}
 use Rattle.integers.specs.Filling.{filled}
 use Rattle.integers.specs.Limits.{TASKS}
 use Rattle.integers.specs.Moments.{instant, zeroAt}
@@ -28,7 +29,8 @@ use Rattle.records.specs.Records.{tasksIn, momentsIn}
 use Rattle.records.specs.Refusals.{AcceptedInput}
 use Rattle.records.proofs.Accepting.{count, proper-whole, above}
 use Rattle.precedences.specs.declared.answers.Reason.{Reason}
-use Rattle.precedences.specs.declared.answers.Reason.the-variants.{Written, Refused}
+use Rattle.precedences.specs.declared.answers.Reason.the-variants.{Written}
+use Rattle.precedences.specs.Numbers.{reasonNumbers}
 use Rattle.precedences.specs.Precedences.{predecessors, PrecedenceBound}
 use Rattle.precedences.specs.Reasons.{atLeast, atMost, bothOf, bothBounds, reasonOf, Raises, Explained, AcceptedReason, reasonNumber, ReasonGiven}
 use Rattle.precedences.specs.Holding.{precedesAt, comesBefore, boundAt, startAt, memberAt, Ranged, reasonAt, ReasonLeft}
@@ -77,7 +79,7 @@ module _ (J : Tasks whole) (i : ℕ) (q : i < J .count) where
 
   -- the contract from what stands in the words
   pub explained : ((k : ℕ) → k < J .count → 1 ≤ J .duration k) → (ws : List ℤ) (r : Reason) (ws′ : List ℤ)
-      → (Raises J i → (r ≡ Written (length (reasonOf J i))) × (ws′ ≡ overwritten ws (atomWords (reasonOf J i)))) → ((Raises J i → ⊥) → (r ≡ Written 0) × (ws′ ≡ ws)) → Explained J i ws r ws′
+      → (Raises J i → (reasonNumbers r ≡ answered 0 (pos (length (reasonOf J i)) ∷ [])) × (ws′ ≡ overwritten ws (atomWords (reasonOf J i)))) → ((Raises J i → ⊥) → (reasonNumbers r ≡ answered 0 (pos 0 ∷ [])) × (ws′ ≡ ws)) → Explained J i ws r ws′
   explained lasts ws r ws′ w n = record { written = w; nothing = n; few = few; holds = holds; sound = λ b e s. sound lasts b e s }
 
 -- The atoms that the arrays give.
@@ -137,28 +139,28 @@ module _ (r : Propagator) (es ls : List ℤ) (a : AcceptedInput r es ls) (long :
       enough : length (atomWords (reasonOf Z i)) ≤ length ws
       enough = omega (arith, atoms-length (reasonOf Z i), few Z i q, b .room, count r es ls a long)
 
-      stands : M .earliest i < boundAt M i → (Written c ≡ Written (length (reasonOf Z i))) × (ws′ ≡ overwritten ws (atomWords (reasonOf Z i)))
+      stands : M .earliest i < boundAt M i → (answered 0 (pos c ∷ []) ≡ answered 0 (pos (length (reasonOf Z i)) ∷ [])) × (ws′ ≡ overwritten ws (atomWords (reasonOf Z i)))
       stands h =
           let s : Stored ws ws′ 0 c (reasonOf Z i) = subst (Stored ws ws′ 0 c) same-reason (left .some h) in
           let z : c ≡ length (reasonOf Z i) = omega (arith, s .count) in
-          (ap Written z, s .words ∙ overwrites ws (atomWords (reasonOf Z i)) enough)
+          (ap (λ (n : ℕ). reasonNumbers (Written n)) z, s .words ∙ overwrites ws (atomWords (reasonOf Z i)) enough)
 
-      written : Raises Z i → (Written c ≡ Written (length (reasonOf Z i))) × (ws′ ≡ overwritten ws (atomWords (reasonOf Z i)))
+      written : Raises Z i → (answered 0 (pos c ∷ []) ≡ answered 0 (pos (length (reasonOf Z i)) ∷ [])) × (ws′ ≡ overwritten ws (atomWords (reasonOf Z i)))
       written w = elim (decLt (M .earliest i) (boundAt M i)) [
         | yes h ↦ stands h
         | no h ↦ absurd (clashℤ (w .above) (raises-not Z (proper-whole r es ls a long) (above r es ls a long) i q (omega arith) (w .bound) (w .is-bound)))
       ]
 
-      nothing : (Raises Z i → ⊥) → (Written c ≡ Written 0) × (ws′ ≡ ws)
+      nothing : (Raises Z i → ⊥) → (answered 0 (pos c ∷ []) ≡ answered 0 (pos 0 ∷ [])) × (ws′ ≡ ws)
       nothing no-raise = elim (decLt (M .earliest i) (boundAt M i)) [
         | yes h ↦ (let w = raises Z (proper-whole r es ls a long) (above r es ls a long) i q h in absurd (no-raise (record { bound = w .0; is-bound = w .1; above = w .2 })))
-        | no h ↦ (let w = left .none (omega arith) in (ap Written (w .0), w .1))
+        | no h ↦ (let w = left .none (omega arith) in (ap (λ (n : ℕ). reasonNumbers (Written n)) (w .0), w .1))
       ]
 
 -- The contract, of a call that is accepted, and of others.
 pub given : (before : Propagator) (es ls : List ℤ) (task : ℕ) (ws : List ℤ) (r : Reason) (ws′ : List ℤ) → reasonNumber before es ls task (length ws) ≡ 0 → Explained (tasksIn before es ls) task ws r ws′ → ReasonGiven before es ls task ws r ws′
 given before es ls task ws r ws′ z e = record { refused = λ h. absurd (h z); given = λ _. e }
 
-pub turned-back : (before : Propagator) (es ls : List ℤ) (task : ℕ) (ws : List ℤ) (r : Reason) (ws′ : List ℤ) → (reasonNumber before es ls task (length ws) ≡ 0 → ⊥) → r ≡ Refused (reasonNumber before es ls task (length ws)) → ws′ ≡ ws
+pub turned-back : (before : Propagator) (es ls : List ℤ) (task : ℕ) (ws : List ℤ) (r : Reason) (ws′ : List ℤ) → (reasonNumber before es ls task (length ws) ≡ 0 → ⊥) → reasonNumbers r ≡ refusedBy (reasonNumber before es ls task (length ws)) → ws′ ≡ ws
     → ReasonGiven before es ls task ws r ws′
 turned-back before es ls task ws r ws′ h z y = record { refused = λ _. record { answer = z; words = y }; given = λ e. absurd (h e) }

@@ -1,7 +1,6 @@
 -- What a pass leaves meets its contract.
 -- Assumes nothing.
 use mathlib.Core.Path.{_≡_, refl, sym, ap, subst, _∙_}
-use mathlib.Core.Bool.{Bool, true, false}
 use mathlib.Core.List.{List}
 use mathlib.Core.Logic.{_⊎_, inl, inr}
 use Prim.Native.Nat.{ℕ, _≤_, _<_}
@@ -10,10 +9,11 @@ use native.Mathlib.Decide.{decLt}
 use lib.IntN.{ℤ, pos}
 use lib.Signed.{_≤ℤ_, clashℤ, <ℤ-≤ℤ-trans}
 use lib.ListN.{length, getD, length-replicate}
+use Rattle.integers.specs.Answers.{refusedBy}
 use Rattle.integers.specs.Filling.{filled}
 use Rattle.integers.specs.Limits.{TASKS}
 use Rattle.integers.specs.Moments.{instant, zeroAt}
-use Rattle.integers.proofs.Bools.{clash}
+use Rattle.integers.proofs.Answers.{same-kind, same-count}
 use Rattle.integers.proofs.Filling.{filled-at, filled-length}
 use Rattle.scheduling.specs.Scheduling.{whole, natural, Tasks, Proper, Largest, Schedule}
 use Rattle.records.specs.declared.record.Propagator.{Propagator}
@@ -24,17 +24,12 @@ use Rattle.records.proofs.Accepting.{count, proper-whole, proper, above}
 use Rattle.records.proofs.Refused.{accepted-input}
 use Rattle.checker.proofs.Ranging.{held, late}
 use Rattle.precedences.specs.declared.answers.Precedences.{Precedences}
-use Rattle.precedences.specs.declared.answers.Precedences.the-variants.{Done, Emptied, Refused}
+use Rattle.precedences.specs.declared.answers.Precedences.the-variants.{Done, Emptied}
+use Rattle.precedences.specs.Numbers.{precedencesNumbers}
 use Rattle.precedences.specs.Precedences.{PrecedenceBound, FirstEmptied, NoneEmptied, LeftPrecedences, RanPrecedences}
 use Rattle.precedences.specs.Holding.{raisedAt, startAt, Ranged, FirstPast}
 use Rattle.precedences.proofs.Soundness.{bound-sound}
 use Rattle.precedences.proofs.Bounding.{passes, fits, raised-is}
-
--- an answer is not two
-abbrev isDone : Precedences → Bool
-isDone Done = true
-isDone (Emptied i) = false
-isDone (Refused n) = false
 
 module _ (J : Tasks whole) (ok : Proper J) where
   -- no two tasks are the lowest
@@ -53,24 +48,24 @@ module _ (J : Tasks whole) (ok : Proper J) where
 
   pub ended-emptied : (es : List ℤ) (i : ℕ) → FirstEmptied J i → LeftPrecedences J es (Emptied i) es
   ended-emptied es i a = record {
-    emptied = λ k. (λ e. (let z : i ≡ k = cc e in subst (FirstEmptied J) z a), λ b. ap Emptied (one-lowest i k a b));
-    done = (λ e. clash (ap isDone e) refl, λ f. absurd (clashℤ (a .passes) (f i (a .small) (a .bound) (a .is-bound))));
-    kept = λ k e. refl;
+    emptied = λ k. (λ e. subst (FirstEmptied J) (same-count e 0) a, λ b. ap (λ (j : ℕ). precedencesNumbers (Emptied j)) (one-lowest i k a b));
+    done = (λ e. absurd (omega (arith, same-kind e)), λ f. absurd (clashℤ (a .passes) (f i (a .small) (a .bound) (a .is-bound))));
+    kept = λ _. refl;
     size = refl;
-    starts = λ e. clash (ap isDone e) refl;
-    no-schedule = λ k e. none-starts i a;
-    holds = λ e. clash (ap isDone e) refl;
+    starts = λ e. absurd (omega arith);
+    no-schedule = λ _. none-starts i a;
+    holds = λ e. absurd (omega arith);
   }
 
   pub ended-done : (es es′ : List ℤ) → NoneEmptied J → length es′ ≡ length es
       → ((i : ℕ) → i < J .count → Largest whole (λ v. (J .earliest i ≡ v) ⊎ PrecedenceBound J i v) (getD es′ i (pos 0))) → LeftPrecedences J es Done es′
   ended-done es es′ none size starts = record {
-    emptied = λ k. (λ e. clash (ap isDone (sym e)) refl, λ a. absurd (clashℤ (a .passes) (none k (a .small) (a .bound) (a .is-bound))));
+    emptied = λ k. (λ e. absurd (omega (arith, same-kind e)), λ a. absurd (clashℤ (a .passes) (none k (a .small) (a .bound) (a .is-bound))));
     done = (λ _. none, λ _. refl);
-    kept = λ k e. clash (ap isDone (sym e)) refl;
+    kept = λ e. absurd (omega arith);
     size = size;
     starts = λ _. starts;
-    no-schedule = λ k e. clash (ap isDone (sym e)) refl;
+    no-schedule = λ e. absurd (omega arith);
     holds = λ _ s h i q. elim (starts i q .holds) [ inl e ↦ subst (λ (v : ℤ). v ≤ℤ s i) e (h .from i q) | inr e ↦ bound-sound J ok s h i q (getD es′ i (pos 0)) e ];
   }
 
@@ -122,5 +117,5 @@ module _ (r : Propagator) (es ls : List ℤ) (a : AcceptedInput r es ls) (long :
 pub went : (before : Propagator) (es ls : List ℤ) (r : Precedences) (es′ : List ℤ) → AcceptedInput before es ls → LeftPrecedences (tasksIn before es ls) es r es′ → RanPrecedences before es ls r es′
 went before es ls r es′ a p = record { refused = λ h. absurd (h (accepted-input before es ls .1 a)); ran = λ _. p }
 
-pub turned-back : (before : Propagator) (es ls : List ℤ) (r : Precedences) (es′ : List ℤ) → (inputNumber before es ls ≡ 0 → ⊥) → r ≡ Refused (inputNumber before es ls) → es′ ≡ es → RanPrecedences before es ls r es′
+pub turned-back : (before : Propagator) (es ls : List ℤ) (r : Precedences) (es′ : List ℤ) → (inputNumber before es ls ≡ 0 → ⊥) → precedencesNumbers r ≡ refusedBy (inputNumber before es ls) → es′ ≡ es → RanPrecedences before es ls r es′
 turned-back before es ls r es′ h z y = record { refused = λ _. record { answer = z; starts = y }; ran = λ e. absurd (h e) }

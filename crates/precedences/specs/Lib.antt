@@ -1,3 +1,4 @@
+pub mod Numbers
 pub mod Precedences
 pub mod Reasons
 pub mod Holding

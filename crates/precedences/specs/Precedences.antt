@@ -1,19 +1,20 @@
 -- Precedences that can be read off the ranges: the tasks that must come before a task, the bound that they give, and what a pass by these bounds leaves.
 use mathlib.Core.Path.{_≡_}
 use mathlib.Core.Bool.{not, _&&_}
-use mathlib.Core.List.{List}
+use mathlib.Core.List.{List, [], _∷_}
 use mathlib.Core.Logic.{_⊎_, _↔_}
 use Prim.Native.Nat.{ℕ, _<_}
 use lib.Dec.{eqb}
 use lib.IntN.{ℤ, pos, _+ℤ_}
 use lib.Signed.{ltZ, _≤ℤ_, _<ℤ_}
 use lib.ListN.{length, getD}
+use Rattle.integers.specs.Answers.{answered, refusedBy}
 use Rattle.scheduling.specs.Scheduling.{whole, Tasks, TaskSet, Largest, Ect, Schedule}
 use Rattle.records.specs.declared.record.Propagator.{Propagator}
 use Rattle.records.specs.Records.{tasksIn}
 use Rattle.records.specs.Refusals.{inputNumber}
 use Rattle.precedences.specs.declared.answers.Precedences.{Precedences}
-use Rattle.precedences.specs.declared.answers.Precedences.the-variants.{Done, Emptied, Refused}
+use Rattle.precedences.specs.Numbers.{precedencesNumbers}
 
 module _ (J : Tasks whole) where
   -- P of task i: the other tasks whose latest start is below i's earliest start plus i's duration
@@ -40,17 +41,17 @@ module _ (J : Tasks whole) where
   -- changes; then there is no schedule. Else it is Done: each start is the larger of its old value and its bound, both from the ranges at entry,
   -- and every schedule starts each task at or after that.
   pub record LeftPrecedences (es : List ℤ) (r : Precedences) (es′ : List ℤ) : Type 0 where
-    pub emptied : (i : ℕ) → (r ≡ Emptied i) ↔ FirstEmptied i
-    pub done : (r ≡ Done) ↔ NoneEmptied
-    pub kept : (i : ℕ) → r ≡ Emptied i → es′ ≡ es
+    pub emptied : (i : ℕ) → (precedencesNumbers r ≡ answered 1 (pos i ∷ [])) ↔ FirstEmptied i
+    pub done : (precedencesNumbers r ≡ answered 0 []) ↔ NoneEmptied
+    pub kept : precedencesNumbers r .kind ≡ 1 → es′ ≡ es
     pub size : length es′ ≡ length es
-    pub starts : r ≡ Done → (i : ℕ) → i < J .count → Largest whole (λ v. (J .earliest i ≡ v) ⊎ PrecedenceBound i v) (getD es′ i (pos 0))
-    pub no-schedule : (i : ℕ) → r ≡ Emptied i → (s : ℕ → ℤ) → Schedule J s → ⊥
-    pub holds : r ≡ Done → (s : ℕ → ℤ) → Schedule J s → (i : ℕ) → i < J .count → getD es′ i (pos 0) ≤ℤ s i
+    pub starts : precedencesNumbers r .kind ≡ 0 → (i : ℕ) → i < J .count → Largest whole (λ v. (J .earliest i ≡ v) ⊎ PrecedenceBound i v) (getD es′ i (pos 0))
+    pub no-schedule : precedencesNumbers r .kind ≡ 1 → (s : ℕ → ℤ) → Schedule J s → ⊥
+    pub holds : precedencesNumbers r .kind ≡ 0 → (s : ℕ → ℤ) → Schedule J s → (i : ℕ) → i < J .count → getD es′ i (pos 0) ≤ℤ s i
 
 -- A refused pass changes no start.
 pub record KeptStarts (es : List ℤ) (number : ℕ) (r : Precedences) (es′ : List ℤ) : Type 0 where
-  pub answer : r ≡ Refused number
+  pub answer : precedencesNumbers r ≡ refusedBy number
   pub starts : es′ ≡ es
 
 -- The first of a run's tests on the record and its ranges that fails turns the pass back.

@@ -5,9 +5,10 @@ use mathlib.Core.List.{List, [], _∷_, _++_}
 use mathlib.Core.Option.{some}
 use Prim.Native.Nat.{ℕ, zero, suc, _+_, _*_, _≤_, _<_}
 use lib.Dec.{leb, ltb}
-use lib.IntN.{ℤ}
+use lib.IntN.{ℤ, pos}
 use lib.Signed.{_<ℤ_}
 use lib.ListN.{length}
+use Rattle.integers.specs.Answers.{answered, refusedBy}
 use Rattle.integers.specs.Tests.{Test, test, refusal}
 use Rattle.integers.specs.Words.{overwritten}
 use Rattle.scheduling.specs.Scheduling.{whole, Tasks, TaskSet, Atom, HoldsAtEntry, Contradicts}
@@ -16,7 +17,7 @@ use Rattle.records.specs.declared.record.Propagator.{Propagator}
 use Rattle.records.specs.Records.{tasksIn}
 use Rattle.records.specs.Refusals.{inputTests}
 use Rattle.precedences.specs.declared.answers.Reason.{Reason}
-use Rattle.precedences.specs.declared.answers.Reason.the-variants.{Written, Refused}
+use Rattle.precedences.specs.Numbers.{reasonNumbers}
 use Rattle.precedences.specs.Precedences.{predecessors, PrecedenceBound}
 
 -- task j starts at v or later; at v or earlier
@@ -50,8 +51,8 @@ module _ (J : Tasks whole) (i : ℕ) where
   -- An accepted call, from the words ws to ws′. Where the bound raises i, the reason stands at the front, with every word after it as it was, and the answer is
   -- its atom count; elsewhere that is 0, and no word changes. The reason holds at entry, and no starts, of whatever range, meet it and are below the bound at i.
   pub record Explained (ws : List ℤ) (r : Reason) (ws′ : List ℤ) : Type 0 where
-    pub written : Raises → (r ≡ Written (length reasonOf)) × (ws′ ≡ overwritten ws (atomWords reasonOf))
-    pub nothing : (Raises → ⊥) → (r ≡ Written 0) × (ws′ ≡ ws)
+    pub written : Raises → (reasonNumbers r ≡ answered 0 (pos (length reasonOf) ∷ [])) × (ws′ ≡ overwritten ws (atomWords reasonOf))
+    pub nothing : (Raises → ⊥) → (reasonNumbers r ≡ answered 0 (pos 0 ∷ [])) × (ws′ ≡ ws)
     pub few : length reasonOf + 1 ≤ 2 * J .count
     pub holds : HoldsAtEntry J reasonOf
     pub sound : (b : ℤ) → PrecedenceBound J i b → (s : ℕ → ℤ) → Contradicts J reasonOf (some (atLeast i b)) s → ⊥
@@ -65,7 +66,7 @@ reasonNumber r es ls task words = refusal (reasonTests r es ls task words)
 
 -- A refused call changes no word.
 pub record KeptWords (ws : List ℤ) (number : ℕ) (r : Reason) (ws′ : List ℤ) : Type 0 where
-  pub answer : r ≡ Refused number
+  pub answer : reasonNumbers r ≡ refusedBy number
   pub words : ws′ ≡ ws
 
 -- The first test that fails turns the call back.

@@ -4,6 +4,7 @@ pub mod Sorted
 pub mod Lawful
 pub mod Unused
 pub mod Creation
+pub mod Apart
 pub mod Refused
 pub mod Accepting
 pub mod Reading

@@ -10,6 +10,7 @@ use lib.ListN.{length, getD, take}
 use Rattle.integers.specs.Limits.{TASKS, DURATIONS}
 use Rattle.integers.specs.Filling.{filled}
 use Rattle.integers.specs.Moments.{zeroAt}
+use Rattle.integers.specs.Answers.{Answer, answered, refusedBy}
 use Rattle.integers.specs.Tests.{Test, test, refusal, allBelow}
 use Rattle.scheduling.specs.Scheduling.{whole, natural, Tasks, tasksOf, total}
 use Rattle.scheduling.specs.Moments.{moments}
@@ -100,10 +101,13 @@ creationTests ds =
     ∷ test 5 (sumFits (durationAt ds) (length ds))
     ∷ []
 
--- the number that an answer stands for; 0 where the record is made
+-- the answer by the papers' numbers, and the number that turned creation back; 0 where the record is made
+abbrev pub creationNumbers : Creation → Answer
+creationNumbers Accepted = answered 0 []
+creationNumbers (Refused number) = refusedBy number
+
 abbrev pub creationNumber : Creation → ℕ
-creationNumber Accepted = 0
-creationNumber (Refused number) = number
+creationNumber answer = creationNumbers answer .number
 
 -- a new record: the durations with their sum
 abbrev pub newRecord : List ℤ → Propagator

@@ -7,6 +7,7 @@ use Prim.Native.Nat.{ℕ, _+_, _-_, _≤_, _<_, min, max}
 use native.Mathlib.Omega.{arith}
 use lib.IntN.{ℤ, pos, negsuc, _+ℤ_, _-ℤ_}
 use lib.ListN.{length, getD, take}
+use Rattle.integers.specs.Answers.{refusedBy}
 use Rattle.integers.specs.Limits.{TASKS}
 use Rattle.integers.specs.Filling.{filled}
 use Rattle.integers.specs.Moments.{moment, instant, zeroAt, Above}
@@ -25,6 +26,7 @@ use Rattle.fixed.specs.Asked.{LengthFits}
 use Rattle.fixed.proofs.Accepting.{Told, input-of, told, by-moments, moment-low, moment-high}
 use Rattle.stretches.specs.declared.answer.Busiest.{Busiest}
 use Rattle.stretches.specs.declared.answer.Busiest.the-variants.{Stretch, Refused}
+use Rattle.stretches.specs.Numbers.{busiestNumbers}
 use Rattle.stretches.specs.Stretches.{common, covered, Counts, BusiestAt, stretchNumber, Found, Answered}
 use Rattle.stretches.specs.Holding.{commonIn, commonAt, coveredIn, Slidable, Run, BusiestMoment}
 use Rattle.stretches.proofs.Refusing.{stretch-many}
@@ -131,14 +133,14 @@ module _ (r : Propagator) (es ls : List ℤ) (w : ℤ) (a : AcceptedFixed r es l
   found c m b x z = record {
     time = c;
     start = instant zeroAt m;
-    answer = ap (Stretch c) z;
+    answer = ap (λ (s : ℤ). busiestNumbers (Stretch c s)) z;
     busiest = subst (λ (n : ℕ). BusiestAt (tasksOn r es ls) n c (instant zeroAt m)) (ap durationOf p) (busiest-up zeroAt (tasksOn r es ls) (inMoments (r .count) starts (r .durations)) (told r es ls (input-of a) starts s) (getD starts (getD order 0 0) 0) (getD starts (getD order (r .count - 1) 0) 0) (runs .least) (runs .greatest) (runs .starts-first) (runs .starts-last) length′ c m b);
   }
 
 -- ---- the call
 module _ (r : Propagator) (es ls : List ℤ) (w : ℤ) where
   pub refused : (m : ℕ) → m ≡ stretchNumber r es ls w → (m ≡ 0 → ⊥) → Answered r es ls w (Refused m)
-  refused m e not = record { refused = λ _. ap Refused e; found = λ z. absurd (not (e ∙ z)) }
+  refused m e not = record { refused = λ _. ap refusedBy e; found = λ z. absurd (not (e ∙ z)) }
 
   pub answered : (x : Busiest) → stretchNumber r es ls w ≡ 0 → Found r es ls w x → Answered r es ls w x
   answered x z f = record { refused = λ not. absurd (not z); found = λ _. f }
@@ -147,4 +149,4 @@ module _ (r : Propagator) (es ls : List ℤ) (w : ℤ) where
 pub too-many : (r : Propagator) (es ls : List ℤ) (w : ℤ) (x : Busiest) → TASKS < length es → Answered r [] [] w x → Answered r es ls w x
 too-many r es ls w x many a =
     let (same, not) = stretch-many r es ls w many in
-    record { refused = λ _. a .refused (λ z. not (sym same ∙ z)) ∙ ap Refused same; found = λ z. absurd (not z) }
+    record { refused = λ _. a .refused (λ z. not (sym same ∙ z)) ∙ ap refusedBy same; found = λ z. absurd (not z) }

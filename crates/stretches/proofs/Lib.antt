@@ -3,3 +3,4 @@ pub mod Climbing
 pub mod Trying
 pub mod Refusing
 pub mod Answers
+pub mod Apart

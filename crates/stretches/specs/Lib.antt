@@ -1,3 +1,4 @@
+pub mod Numbers
 pub mod Stretches
 pub mod Holding
 pub mod Examples

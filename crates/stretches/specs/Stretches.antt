@@ -4,6 +4,7 @@ use mathlib.Core.List.{List, [], _∷_, _++_}
 use Prim.Native.Nat.{ℕ, _≤_, _<_}
 use lib.IntN.{ℤ, pos, _+ℤ_, _-ℤ_}
 use lib.Signed.{_≤ℤ_, _<ℤ_}
+use Rattle.integers.specs.Answers.{answered, refusedBy}
 use Rattle.integers.specs.Tests.{Test, test, refusal}
 use Rattle.integers.specs.Extremes.{minℤ, maxℤ}
 use Rattle.scheduling.specs.Scheduling.{whole, Tasks, total}
@@ -12,7 +13,7 @@ use Rattle.records.specs.Records.{durationOf}
 use Rattle.fixed.specs.FixedSchedules.{tasksOn, fixedTests}
 use Rattle.fixed.specs.Asked.{lengthFits}
 use Rattle.stretches.specs.declared.answer.Busiest.{Busiest}
-use Rattle.stretches.specs.declared.answer.Busiest.the-variants.{Stretch, Refused}
+use Rattle.stretches.specs.Numbers.{busiestNumbers}
 
 -- the time that [a, b) and [x, y) have in common: from the later start to the earlier end, or 0 where that is negative
 abbrev pub common : ℤ → ℤ → ℤ → ℤ → ℕ
@@ -46,10 +47,10 @@ stretchNumber r es ls w = refusal (stretchTests r es ls w)
 pub record Found (r : Propagator) (es ls : List ℤ) (w : ℤ) (a : Busiest) : Type 0 where
   pub time : ℕ
   pub start : ℤ
-  pub answer : a ≡ Stretch time start
+  pub answer : busiestNumbers a ≡ answered 0 (pos time ∷ start ∷ [])
   pub busiest : BusiestAt (tasksOn r es ls) (durationOf w) time start
 
 -- The first test that fails turns the question back; else the answer is the busiest stretch.
 pub record Answered (r : Propagator) (es ls : List ℤ) (w : ℤ) (a : Busiest) : Type 0 where
-  pub refused : (stretchNumber r es ls w ≡ 0 → ⊥) → a ≡ Refused (stretchNumber r es ls w)
+  pub refused : (stretchNumber r es ls w ≡ 0 → ⊥) → busiestNumbers a ≡ refusedBy (stretchNumber r es ls w)
   pub found : stretchNumber r es ls w ≡ 0 → Found r es ls w a

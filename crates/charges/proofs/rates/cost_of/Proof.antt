@@ -1,34 +1,33 @@
-use mathlib.Core.Path.{_≡_}
+-- `charges::rates::cost_of` meets its contract: the code's array is the tariff's table, and each turn charges the hours of one of its rows.
+-- Assumes nothing.
+use mathlib.Core.Path.{_≡_, refl}
 use Prim.Native.Nat.{_-_, _≤_, min}
 use native.Mathlib.Omega.{arith}
 use borrow.Author.Needs.{needs}
-use Rattle.charges.specs.Tariff.{costOfHours, hoursBegun}
+use Rattle.charges.specs.Tariff.{tariff, costOfHours, hoursBegun}
 use Rattle.charges.proofs.Costs.{from, RowTurn, row-turn, rows-none, rows-end}
 use Rattle.charges.proofs.rates.cost_of.Statement.{statement}
 use Rattle.charges.proofs.rates.cost_of.Tie as tie
 
--- the rows before row i are charged
+-- the rows are the tariff's, and those before row i are charged
 abbrev Inv-loop : tie.InvT-loop
-Inv-loop minutes hours rows done₀ cost₀ i₀ done cost i = (i ≤ 2) × ((done ≡ min hours (from i)) × (cost ≡ costOfHours done))
+Inv-loop minutes hours rows done₀ cost₀ i₀ done cost i = (rows ≡ tariff) × ((i ≤ 2) × ((done ≡ min hours (from i)) × (cost ≡ costOfHours done)))
 
 abbrev μ-loop : tie.MeasureT-loop
 μ-loop minutes hours rows done₀ cost₀ i₀ done cost i = 2 - i
 
+loop-holds : tie.Need-loop-holds Inv-loop μ-loop
+loop-holds c = (refl, (omega arith, (omega arith, rows-none)))
+
 -- what a turn does
 turn : (c : tie.After-smaller Inv-loop μ-loop) → let loop = c .before .before .before .loop in
-    RowTurn (c .before .before .before .before .table .result) (hoursBegun (c .before .before .before .before .before .args .minutes)) (loop .i) (loop .done) (loop .cost) (c .smaller .result)
+    RowTurn tariff (hoursBegun (c .before .before .before .before .args .minutes)) (loop .i) (loop .done) (loop .cost) (c .smaller .result)
 turn c =
     let loop = c .before .before .before .loop in
-    row-turn (hoursBegun (c .before .before .before .before .before .args .minutes)) (loop .i) (c .before .before .before .before .table .ensures) (omega arith) (loop .inv .1 .0) (loop .inv .1 .1) (c .smaller .ensures)
+    row-turn (hoursBegun (c .before .before .before .before .args .minutes)) (loop .i) (loop .inv .0) (omega arith) (loop .inv .1 .1 .0) (loop .inv .1 .1 .1) (c .smaller .ensures)
 
 add-hours : tie.Need-add-hours Inv-loop μ-loop
 add-hours c = search needs
-
-table-requires : tie.Need-table-requires Inv-loop μ-loop
-table-requires c κs = search needs
-
-loop-holds : tie.Need-loop-holds Inv-loop μ-loop
-loop-holds c = (omega arith, (omega arith, rows-none))
 
 mul-row : tie.Need-mul-row Inv-loop μ-loop
 mul-row c = search needs
@@ -55,12 +54,12 @@ loop-less : tie.Need-loop-less Inv-loop μ-loop
 loop-less c = search needs
 
 loop-again : tie.Need-loop-again Inv-loop μ-loop
-loop-again c = (omega arith, (turn (c .before) .next, turn (c .before) .sum))
+loop-again c = (c .before .before .before .before .loop .inv .0, (omega arith, (turn (c .before) .next, turn (c .before) .sum)))
 
 returns : tie.Need-returns Inv-loop μ-loop
 returns c =
     let loop = c .before .loop in
-    rows-end (hoursBegun (c .before .before .before .args .minutes)) (loop .i) (loop .done) (loop .cost) (omega arith) (loop .inv .1 .0) (loop .inv .1 .1)
+    rows-end (hoursBegun (c .before .before .args .minutes)) (loop .i) (loop .done) (loop .cost) (omega arith) (loop .inv .1 .1 .0) (loop .inv .1 .1 .1)
 
 pub cost-of-spec : {M : Type 1} → statement M
 cost-of-spec =
@@ -69,7 +68,6 @@ cost-of-spec =
     Inv-loop
     μ-loop
     add-hours
-    table-requires
     loop-holds
     mul-row
     array-copy-out-row

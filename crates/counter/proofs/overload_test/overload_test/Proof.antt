@@ -3,11 +3,11 @@
 use mathlib.Core.Path.{_≡_, sym, ap, _∙_}
 use lib.ListN.{length}
 use borrow.Author.Needs.{needs}
+use Rattle.integers.specs.Answers.{refusedBy}
 use Rattle.integers.specs.Limits.{TASKS}
 use Rattle.records.specs.Records.{WholeOrders}
 use Rattle.records.specs.Refusals.{AcceptedInput}
 use Rattle.records.proofs.Refused.{accepted-input}
-use Rattle.counter.specs.declared.overload_test.Overload.the-variants.{Refused}
 use Rattle.counter.proofs.Answers.{tested, turned-back}
 use Rattle.counter.proofs.overload_test.overload_test.Statement.{statement}
 use Rattle.counter.proofs.overload_test.overload_test.Tie as tie
@@ -29,7 +29,7 @@ returns : tie.Need-returns
 returns c =
     let n = c .before in
     let a = n .before .before .before .before .before .args in
-    turned-back (a .t1) (a .earliest .now) (a .latest .now) _ (λ z. c .if1 .taken (n .input-refusal .ensures ∙ z)) (ap Refused (n .input-refusal .ensures))
+    turned-back (a .t1) (a .earliest .now) (a .latest .now) _ (λ z. c .if1 .taken (n .input-refusal .ensures ∙ z)) (ap refusedBy (n .input-refusal .ensures))
 
 accepted-requires : tie.Need-accepted-requires
 accepted-requires c κs = passed c

@@ -1,9 +1,9 @@
 -- `precedences::pass::precedences` meets its contract.
 -- Assumes nothing.
 use mathlib.Core.Path.{refl, sym, ap, _∙_}
+use Rattle.integers.specs.Answers.{refusedBy}
 use Rattle.records.specs.Refusals.{AcceptedInput}
 use Rattle.records.proofs.Refused.{accepted-input}
-use Rattle.precedences.specs.declared.answers.Precedences.the-variants.{Refused}
 use Rattle.precedences.proofs.Passing.{went, turned-back}
 use borrow.Author.Needs.{needs}
 use Rattle.precedences.proofs.pass.precedences.Statement.{statement}
@@ -26,7 +26,7 @@ returns : tie.Need-returns
 returns c =
     let n = c .before in
     let a = start n .args in
-    turned-back (a .t1) (a .earliest .now) (a .latest .now) _ _ (λ z. c .if1 .taken (n .input-refusal .ensures ∙ z)) (ap Refused (n .input-refusal .ensures)) refl
+    turned-back (a .t1) (a .earliest .now) (a .latest .now) _ _ (λ z. c .if1 .taken (n .input-refusal .ensures ∙ z)) (ap refusedBy (n .input-refusal .ensures)) refl
 
 accepted-requires : tie.Need-accepted-requires
 accepted-requires c κs = passed (c .before)

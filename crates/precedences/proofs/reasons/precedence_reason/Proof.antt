@@ -2,7 +2,7 @@
 -- Assumes nothing.
 use mathlib.Core.Path.{_≡_, refl, sym, ap, _∙_}
 use lib.ListN.{length}
-use Rattle.precedences.specs.declared.answers.Reason.the-variants.{Refused}
+use Rattle.integers.specs.Answers.{refusedBy}
 use Rattle.precedences.specs.Reasons.{reasonNumber}
 use Rattle.precedences.proofs.Explaining.{given, turned-back}
 use Rattle.precedences.proofs.Refusing.{accepted-reason}
@@ -24,7 +24,7 @@ returns : tie.Need-returns
 returns c =
     let n = c .before in
     let a = start n .args in
-    turned-back (a .t1) (a .earliest .now) (a .latest .now) (a .task) (a .atoms .now) _ _ (λ z. c .if1 .taken (n .reason-refusal .ensures ∙ z)) (ap Refused (n .reason-refusal .ensures)) refl
+    turned-back (a .t1) (a .earliest .now) (a .latest .now) (a .task) (a .atoms .now) _ _ (λ z. c .if1 .taken (n .reason-refusal .ensures ∙ z)) (ap refusedBy (n .reason-refusal .ensures)) refl
 
 accepted-reason-requires : tie.Need-accepted-reason-requires
 accepted-reason-requires c κs =

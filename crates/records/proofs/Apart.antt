@@ -1,0 +1,20 @@
+-- The numbers tell creation's answers apart.
+-- Assumes nothing.
+use mathlib.Core.Path.{_≡_, refl}
+use Prim.Native.Nat.{ℕ, zero, suc}
+use Rattle.integers.specs.Answers.{Answer}
+use Rattle.integers.proofs.Answers.{told-apart}
+use Rattle.records.specs.declared.record.Creation.{Creation}
+use Rattle.records.specs.declared.record.Creation.the-variants.{Accepted, Refused}
+use Rattle.records.specs.Records.{creationNumbers}
+
+abbrev creationOf : ℕ → Answer → Creation
+creationOf zero a = Accepted
+creationOf (suc k) a = Refused (a .number)
+
+read : (x : Creation) → creationOf (creationNumbers x .kind) (creationNumbers x) ≡ x
+read Accepted = refl
+read (Refused number) = refl
+
+pub creations-apart : (x y : Creation) → creationNumbers x ≡ creationNumbers y → x ≡ y
+creations-apart = told-apart creationNumbers (λ a. creationOf (a .kind) a) read
