@@ -12,10 +12,7 @@ use lib.Signed.{_≤ℤ_}
 use mir.Syntax.{w32}
 use mir.Val.{SFits}
 use Rattle.integers.specs.Limits.{TASKS}
-use Rattle.integers.specs.Filling.{filled}
 use Rattle.integers.specs.Moments.{Above, zeroAt}
-use Rattle.integers.specs.Orders.{numbers}
-use Rattle.integers.proofs.Filling.{filled-past, getD-fresh}
 use Rattle.integers.proofs.Ints.{up, dn, ints, fits-show}
 use Rattle.integers.proofs.Moments.{at-moment, above-up, more-above}
 use mathlib.Core.Bool.{true}
@@ -25,9 +22,8 @@ use Rattle.scheduling.specs.Moments.{moments}
 use Rattle.scheduling.specs.Mirroring.{mirrorStart, mirrorAtom}
 use Rattle.scheduling.specs.Words.{atomWords}
 use Rattle.scheduling.proofs.Words.{atoms-length}
-use Rattle.runs.specs.Traces.{Post, End, done, overload, emptied, Trace}
+use Rattle.runs.specs.Traces.{End, done, overload, emptied, Trace}
 use Rattle.runs.specs.Demand.{consequentOf, post}
-use Rattle.runs.specs.Runs.{propagate}
 use Rattle.runs.specs.Words.{postWords, reasons, postsAfter, atomsAfter, atomsIn}
 use Rattle.runs.specs.Mirrored.{mirrorStarts, durationIn, mirrorPost, mirrorEnd, mirrorTrace, mirroredRun, MirroredRight}
 use Rattle.runs.proofs.Buffers.{posts-length}
@@ -37,13 +33,10 @@ use Rattle.runs.proofs.Mirrored.{posts-after, atoms-after}
 use Rattle.runs.specs.MirroredWords.{Near, postsTo, atomsTo}
 use Rattle.runs.proofs.Starts.{starts-length}
 use Rattle.records.specs.declared.record.Propagator.{Propagator}
-use Rattle.records.specs.Orders.{noTasks}
-use Rattle.records.specs.Records.{Lawful, tasksIn}
+use Rattle.records.specs.Records.{tasksIn}
 use Rattle.records.specs.Refusals.{Accepted}
-use Rattle.records.proofs.Creation.{own-front, own-order}
 use Rattle.propagator.specs.declared.disjunctive_propagator.Outcome.{Outcome}
 use Rattle.propagator.specs.declared.disjunctive_propagator.Outcome.the-variants as outcome
-use Rattle.propagator.specs.declared.disjunctive_propagator.Run.{Run}
 use Rattle.propagator.specs.Finding.{outcomeOf}
 use Rattle.propagator.specs.Ran.{Runnable, traceOf, Left}
 use Rattle.propagator.specs.Outcomes.{valueOf}
@@ -133,8 +126,7 @@ wider-high : (a : ℤ) → a ≤ℤ pos 200000000 → a ≤ℤ pos 400000000
 unfolding up dn
 wider-high a h = omega ints
 
-module _ (before : Propagator) (es ls : List ℤ) (postCount atomCount : ℕ) (a : Accepted before es ls postCount atomCount)
-    (long : length (before .durations) ≡ TASKS) (long₁ : length (before .first) ≡ TASKS) (long₂ : length (before .second) ≡ TASKS) where
+module _ (before : Propagator) (es ls : List ℤ) (postCount atomCount : ℕ) (a : Accepted before es ls postCount atomCount) (long : length (before .durations) ≡ TASKS) where
   abbrev n : ℕ
   n = before .count
 
@@ -150,8 +142,8 @@ module _ (before : Propagator) (es ls : List ℤ) (postCount atomCount : ℕ) (a
   count : length ds ≡ n
   count = length-take-le n (before .durations) (omega (arith, a .lawful .few, long))
 
-  here : demand.Accepted 200000000 ds es ls (take n (before .first)) (take n (before .second))
-  here = narrow before es ls postCount atomCount a long long₁ long₂
+  here : demand.Accepted 200000000 ds es ls
+  here = narrow before es ls postCount atomCount a long
 
   es-long : length es ≡ length ds
   es-long = a .counts .earliest ∙ sym count
@@ -159,11 +151,11 @@ module _ (before : Propagator) (es ls : List ℤ) (postCount atomCount : ℕ) (a
   ls-long : length ls ≡ length ds
   ls-long = a .counts .latest ∙ sym count
 
-  there : demand.Accepted 400000000 ds early late (numbers 0 (length ds)) (numbers 0 (length ds))
-  there = laws.mirrored-accepted ds es ls (take n (before .first)) (take n (before .second)) here es-long ls-long
+  there : demand.Accepted 400000000 ds early late
+  there = laws.mirrored-accepted ds es ls here es-long ls-long
 
   run-long : length (mirroredRun ds es ls .starts) ≡ length ds
-  run-long = starts-length ds early late (numbers 0 (length ds)) (numbers 0 (length ds))
+  run-long = starts-length ds early late
 
   lasts-at : (k : ℕ) → k < n → getD ds k 0 ≡ getD (before .durations) k 0
   lasts-at k q = getD-take n (before .durations) k 0 q
@@ -187,32 +179,14 @@ module _ (before : Propagator) (es ls : List ℤ) (postCount atomCount : ℕ) (a
   -- and back
   back-fits : (k : ℕ) → k < length ds → SFits w32 (getD (mirrorStarts ds (mirroredRun ds es ls .starts)) k (pos 0))
   back-fits k q =
-      let b = laws.latest-between ds es ls (take n (before .first)) (take n (before .second)) here es-long ls-long k q in
+      let b = laws.latest-between ds es ls here es-long ls-long k q in
       let z = getD (mirrorStarts ds (mirroredRun ds es ls .starts)) k (pos 0) in
       wide-fits z (lower (getD es k (pos 0)) z (wider-low (getD es k (pos 0)) (here .from k q)) (b .0)) (higher z (getD ls k (pos 0)) (b .1) (wider-high (getD ls k (pos 0)) (here .to k q)))
 
-  -- the record that the core is called with, and that it may run
-  abbrev pub mirroredRecord : Propagator
-  mirroredRecord = record { count = before .count; durations = before .durations; first = filled (λ k. k) (before .count) noTasks; second = filled (λ k. k) (before .count) noTasks; total = before .total }
-
-  unused-at : (k : ℕ) → n ≤ k → getD (filled (λ j. j) n noTasks) k 0 ≡ 0
-  unused-at k q = filled-past (λ j. j) n noTasks 0 k q ∙ getD-fresh 0 TASKS k
-
-  lawful : Lawful mirroredRecord
-  lawful = record {
-    some = a .lawful .some;
-    few = a .lawful .few;
-    lasts = a .lawful .lasts;
-    sum = a .lawful .sum;
-    stored = a .lawful .stored;
-    first = own-order n (a .lawful .few);
-    second = own-order n (a .lawful .few);
-    unused = λ k q h. (a .lawful .unused k q h .0, (unused-at k q, unused-at k q));
-  }
-
-  runnable : Runnable mirroredRecord early late postCount atomCount
+  -- the core may run in mirrored time,
+  runnable : Runnable before early late postCount atomCount
   runnable = record {
-    lawful = lawful;
+    lawful = a .lawful;
     counts = record { earliest = laws.mirror-length ds ls ls-long ∙ count; latest = laws.mirror-length ds es es-long ∙ count };
     from = λ k q. there .from k (omega (arith, count));
     to = λ k q. there .to k (omega (arith, count));
@@ -220,23 +194,21 @@ module _ (before : Propagator) (es ls : List ℤ) (postCount atomCount : ℕ) (a
     words = a .words;
   }
 
-  -- as the code holds it
-  pub runnable-at : {from to : List ℤ} {order : List ℕ} → from ≡ mirrorStarts (take (length ls) (before .durations)) ls → to ≡ mirrorStarts (take (length es) (before .durations)) es → order ≡ filled (λ k. k) n noTasks
-      → Runnable (record { count = before .count; durations = before .durations; first = order; second = order; total = before .total }) from to postCount atomCount
-  runnable-at {from} {to} {order} f t o =
-      subst (λ (x : List ℕ). Runnable (record { count = before .count; durations = before .durations; first = x; second = x; total = before .total }) from to postCount atomCount) (sym o)
-      (subst (λ (x : List ℤ). Runnable mirroredRecord x to postCount atomCount) (sym (f ∙ ap (λ (m : ℕ). mirrorStarts (take m (before .durations)) ls) (a .counts .latest)))
-      (subst (λ (x : List ℤ). Runnable mirroredRecord early x postCount atomCount) (sym (t ∙ ap (λ (m : ℕ). mirrorStarts (take m (before .durations)) es) (a .counts .earliest))) runnable))
+  -- on starts as the code holds them
+  from-is : {from : List ℤ} → from ≡ mirrorStarts (take (length ls) (before .durations)) ls → from ≡ early
+  from-is f = f ∙ ap (λ (m : ℕ). mirrorStarts (take m (before .durations)) ls) (a .counts .latest)
 
-  trace-is : traceOf mirroredRecord early late ≡ mirroredRun ds es ls
-  trace-is = ap (λ (o : List ℕ). propagate ds early late o o) (own-front n (a .lawful .few) ∙ ap (numbers 0) (sym count))
+  to-is : {to : List ℤ} → to ≡ mirrorStarts (take (length es) (before .durations)) es → to ≡ late
+  to-is t = t ∙ ap (λ (m : ℕ). mirrorStarts (take m (before .durations)) es) (a .counts .earliest)
+
+  pub runnable-at : {from to : List ℤ} → from ≡ mirrorStarts (take (length ls) (before .durations)) ls → to ≡ mirrorStarts (take (length es) (before .durations)) es → Runnable before from to postCount atomCount
+  runnable-at {from} {to} f t = subst (λ (x : List ℤ). Runnable before x to postCount atomCount) (sym (from-is f)) (subst (λ (x : List ℤ). Runnable before early x postCount atomCount) (sym (to-is t)) runnable)
 
   -- what the core leaves
-  module _ {from to posts atoms from′ posts′ atoms′ : List ℤ} {order : List ℕ} {r : Run} (f : from ≡ mirrorStarts (take (length ls) (before .durations)) ls) (t : to ≡ mirrorStarts (take (length es) (before .durations)) es) (o : order ≡ filled (λ k. k) n noTasks)
-      (l : Left (record { count = before .count; durations = before .durations; first = order; second = order; total = before .total }) from to posts atoms r from′ posts′ atoms′) where
-    core-is : traceOf (record { count = before .count; durations = before .durations; first = order; second = order; total = before .total }) from to ≡ mirroredRun ds es ls
-    core-is = ap (λ (x : List ℕ). traceOf (record { count = before .count; durations = before .durations; first = x; second = x; total = before .total }) from to) o
-        ∙ ap₂ (λ (x y : List ℤ). traceOf mirroredRecord x y) (f ∙ ap (λ (m : ℕ). mirrorStarts (take m (before .durations)) ls) (a .counts .latest)) (t ∙ ap (λ (m : ℕ). mirrorStarts (take m (before .durations)) es) (a .counts .earliest)) ∙ trace-is
+  module _ {from to posts atoms from′ posts′ atoms′ : List ℤ} {r : Outcome} (f : from ≡ mirrorStarts (take (length ls) (before .durations)) ls) (t : to ≡ mirrorStarts (take (length es) (before .durations)) es)
+      (l : Left before from to posts atoms r from′ posts′ atoms′) where
+    core-is : traceOf before from to ≡ mirroredRun ds es ls
+    core-is = ap₂ (λ (x y : List ℤ). traceOf before x y) (from-is f) (to-is t)
 
     pub left-starts : from′ ≡ mirroredRun ds es ls .starts
     left-starts = l .starts ∙ ap (λ (x : Trace). x .starts) core-is
@@ -244,7 +216,7 @@ module _ (before : Propagator) (es ls : List ℤ) (postCount atomCount : ℕ) (a
     pub reflect-back : (out : List ℤ) → length out ≡ n → Reflectable out from′ (before .durations)
     reflect-back out e = subst (λ (zs : List ℤ). Reflectable out zs (before .durations)) (sym left-starts) (reflectable (mirroredRun ds es ls .starts) run-long back-fits out e)
 
-    pub ran-in-mirror : {ls′ : List ℤ} → ls′ ≡ mirrorStarts (take (length from′) (before .durations)) from′ → RanInMirror before es ls posts atoms (r .outcome) ls′ posts′ atoms′
+    pub ran-in-mirror : {ls′ : List ℤ} → ls′ ≡ mirrorStarts (take (length from′) (before .durations)) from′ → RanInMirror before es ls posts atoms r ls′ posts′ atoms′
     ran-in-mirror z = record {
       answer = l .answer ∙ ap (λ (x : Trace). outcomeOf (reasons (x .posts)) (length (x .posts)) (x .end)) core-is;
       starts = z ∙ ap (λ (zs : List ℤ). mirrorStarts (take (length zs) (before .durations)) zs) left-starts ∙ ap (λ (m : ℕ). mirrorStarts (take m (before .durations)) (mirroredRun ds es ls .starts)) (run-long ∙ count);
@@ -262,19 +234,19 @@ module _ (before : Propagator) (es ls : List ℤ) (postCount atomCount : ℕ) (a
           omega (arith, here .sum, processing-all N, processing-less N (λ _. true) k (record { small = q; mem = refl }))
 
   pub posts-near-here : (j : ℕ) → j < length (mirroredRun (take (before .count) (before .durations)) es ls .posts) → Near (length (take (before .count) (before .durations))) (consequentOf (post (mirroredRun (take (before .count) (before .durations)) es ls) j))
-  posts-near-here = laws.post-near ds es ls (take n (before .first)) (take n (before .second)) here es-long ls-long
+  posts-near-here = laws.post-near ds es ls here es-long ls-long
 
   pub atoms-near-here : Every (Near (length (take (before .count) (before .durations)))) (atomsIn (mirroredRun (take (before .count) (before .durations)) es ls))
-  atoms-near-here = laws.atoms-near ds es ls (take n (before .first)) (take n (before .second)) here es-long ls-long
+  atoms-near-here = laws.atoms-near ds es ls here es-long ls-long
 
   pub few-posts : length (mirroredRun (take (before .count) (before .durations)) es ls .posts) ≤ TASKS
-  few-posts = omega (arith, laws.mirrored-posts-fit ds es ls (take n (before .first)) (take n (before .second)) here es-long ls-long, posts-length (mirroredRun ds es ls .posts) 0, count, a .lawful .few)
+  few-posts = omega (arith, laws.mirrored-posts-fit ds es ls here es-long ls-long, posts-length (mirroredRun ds es ls .posts) 0, count, a .lawful .few)
 
   squares : (m x : ℕ) → m ≤ 48 → x ≤ 6 * (m * m) → x ≤ 13824
   squares m x h q = omega (arith, q, mul-le-mul {n₁ = m} {m₁ = m} {n₂ = 48} {m₂ = 48} h h)
 
   pub few-atoms : length (atomsIn (mirroredRun (take (before .count) (before .durations)) es ls)) ≤ 4608
-  few-atoms = omega (arith, squares (length ds) (length (atomWords (atomsIn (mirroredRun ds es ls)))) (here .few) (laws.mirrored-atoms-fit ds es ls (take n (before .first)) (take n (before .second)) here es-long ls-long), atoms-length (atomsIn (mirroredRun ds es ls)))
+  few-atoms = omega (arith, squares (length ds) (length (atomWords (atomsIn (mirroredRun ds es ls)))) (here .few) (laws.mirrored-atoms-fit ds es ls here es-long ls-long), atoms-length (atomsIn (mirroredRun ds es ls)))
 
   module _ {posts atoms posts′ atoms′ ls′ : List ℤ} {r : Outcome} (m : RanInMirror before es ls posts atoms r ls′ posts′ atoms′) where
     abbrev pub ended : Ended r posts′ atoms′ (before .durations)
@@ -299,7 +271,7 @@ module _ (before : Propagator) (es ls : List ℤ) (postCount atomCount : ℕ) (a
       starts = m .starts;
       post-words = t .post-words;
       atom-words = t .atom-words;
-      posts-fit = omega (arith, laws.post-words-length ds (mirroredRun ds es ls .posts) 0, laws.mirrored-posts-fit ds es ls (take n (before .first)) (take n (before .second)) here es-long ls-long, count, a .words .posts);
+      posts-fit = omega (arith, laws.post-words-length ds (mirroredRun ds es ls .posts) 0, laws.mirrored-posts-fit ds es ls here es-long ls-long, count, a .words .posts);
       atoms-fit = omega (
         arith,
         ap (λ (xs : List Atom). length (atomWords xs)) (laws.atoms-mirrored ds (mirroredRun ds es ls)) ∙ laws.atom-words-length ds (atomsIn (mirroredRun ds es ls)),
@@ -309,7 +281,7 @@ module _ (before : Propagator) (es ls : List ℤ) (postCount atomCount : ℕ) (a
     }
       where
         squared : length (atomWords (atomsIn (mirroredRun ds es ls))) ≤ 6 * (n * n)
-        squared = subst (λ (k : ℕ). length (atomWords (atomsIn (mirroredRun ds es ls))) ≤ 6 * (k * k)) count (laws.mirrored-atoms-fit ds es ls (take n (before .first)) (take n (before .second)) here es-long ls-long)
+        squared = subst (λ (k : ℕ). length (atomWords (atomsIn (mirroredRun ds es ls))) ≤ 6 * (k * k)) count (laws.mirrored-atoms-fit ds es ls here es-long ls-long)
 
   pub right : MirroredRight (tasksIn before es ls) (mirroredOf before es ls)
-  right = laws.mirrored-right ds es ls (take n (before .first)) (take n (before .second)) here es-long ls-long
+  right = laws.mirrored-right ds es ls here es-long ls-long

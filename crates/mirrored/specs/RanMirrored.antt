@@ -18,7 +18,7 @@ use Rattle.propagator.specs.Outcomes.{outcomeNumbers}
 use Rattle.propagator.specs.Ran.{Handed}
 
 module _ (before : Propagator) (es ls : List ℤ) where
-  -- the pass on the record's tasks, in the caller's time; the orders that the record carries are not asked
+  -- the pass on the record's tasks, in the caller's time
   abbrev pub mirroredOf : Trace
   mirroredOf = mirroredPass (take (before .count) (before .durations)) es ls
 

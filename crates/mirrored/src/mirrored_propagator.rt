@@ -2,7 +2,6 @@
 use integers::nat_of;
 use propagator::disjunctive_propagator::Outcome;
 use propagator::disjunctive_propagator::run_accepted;
-use records::orders::identity;
 use records::record::Propagator;
 use records::refusals::run_refusal;
 ghost use mathlib.Core.Path.{_≡_};
@@ -140,7 +139,7 @@ fn tell(outcome: Outcome, posts: &mut [i32], atoms: &mut [i32], durations: &[u32
     mirror_atoms(atoms, many, durations);
 }
 
-// A run on the mirrored ranges from the orders 0 to n - 1; the latest starts are what it left of the earliest, mirrored back.
+// A run on the mirrored ranges; the latest starts are what it left of the earliest, mirrored back.
 fn run_in_mirror(
     record: Propagator,
     earliest: &[i32],
@@ -157,17 +156,9 @@ fn run_in_mirror(
     mirror_starts(&mut from[..n], latest, &durations);
     let mut to: [i32; 48] = [0; 48];
     mirror_starts(&mut to[..n], earliest, &durations);
-    let order = identity(n);
-    let mirrored = Propagator {
-        count: n,
-        durations,
-        first: order,
-        second: order,
-        total: record.total,
-    };
-    let ran = run_accepted(mirrored, &mut from[..n], &to[..n], posts, atoms);
+    let outcome = run_accepted(record, &mut from[..n], &to[..n], posts, atoms);
     mirror_starts(latest, &from[..n], &durations);
-    ran.outcome
+    outcome
 }
 
 // A mirrored pass on the record's durations and the ranges.
@@ -183,8 +174,6 @@ pub fn propagate_mirrored(
     let number = run_refusal(
         record.count,
         &record.durations,
-        &record.first,
-        &record.second,
         record.total,
         earliest,
         latest,

@@ -14,22 +14,16 @@ use borrow.Author.Needs.{needs}
 use Rattle.mirrored.proofs.mirrored_propagator.propagate_mirrored.Statement.{statement}
 use Rattle.mirrored.proofs.mirrored_propagator.propagate_mirrored.Tie as tie
 
--- the arrays of a record have TASKS places
+-- the durations have TASKS places
 long : (c : tie.Start) → length (c .args .t1 .durations) ≡ TASKS
 long c = search needs
 
-long₁ : (c : tie.Start) → length (c .args .t1 .first) ≡ TASKS
-long₁ c = search needs
-
-long₂ : (c : tie.Start) → length (c .args .t1 .second) ≡ TASKS
-long₂ c = search needs
-
 -- no test failed
-passed : (c : tie.Else1) → let a = c .before .before .before .before .before .before .before .args in Accepted (a .t1) (a .earliest .now) (a .latest .now) (length (a .posts .now)) (length (a .atoms .now))
-passed c = let a = c .before .before .before .before .before .before .before .args in accepted-run (a .t1) (a .earliest .now) (a .latest .now) (length (a .posts .now)) (length (a .atoms .now)) .0 (omega (arith, c .before .run-refusal .ensures))
+passed : (c : tie.Else1) → let a = c .before .before .before .before .before .args in Accepted (a .t1) (a .earliest .now) (a .latest .now) (length (a .posts .now)) (length (a .atoms .now))
+passed c = let a = c .before .before .before .before .before .args in accepted-run (a .t1) (a .earliest .now) (a .latest .now) (length (a .posts .now)) (length (a .atoms .now)) .0 (omega (arith, c .before .run-refusal .ensures))
 
 run-refusal-requires : tie.Need-run-refusal-requires
-run-refusal-requires c κs = let s = c .before .before .before .before .before in record { one = long₁ s; other = long₂ s }
+run-refusal-requires c κs = search needs
 
 same-length : tie.Need-same-length
 same-length c = search needs
@@ -48,9 +42,9 @@ run-in-mirror-requires c κs = passed (c .before .before .before .before)
 tell-requires : tie.Need-tell-requires
 tell-requires c κs =
     let e = c .before .before .before .before .before .before .before .before .before .before .before in
-    let s = e .before .before .before .before .before .before .before in
+    let s = e .before .before .before .before .before in
     let a = s .args in
-    ended (a .t1) (a .earliest .now) (a .latest .now) (length (a .posts .now)) (length (a .atoms .now)) (passed e) (long s) (long₁ s) (long₂ s) (c .before .before .before .before .before .before .run-in-mirror .ensures)
+    ended (a .t1) (a .earliest .now) (a .latest .now) (length (a .posts .now)) (length (a .atoms .now)) (passed e) (long s) (c .before .before .before .before .before .before .run-in-mirror .ensures)
 
 same-length-2 : tie.Need-same-length-2
 same-length-2 c = search needs
@@ -64,16 +58,16 @@ same-length-4 c = search needs
 returns-2 : tie.Need-returns-2
 returns-2 c =
     let e = c .before .before .before .before .before .before .before .before .before .before .before .before .before .before in
-    let s = e .before .before .before .before .before .before .before in
+    let s = e .before .before .before .before .before in
     let a = s .args in
     let r = c .before .before .before .before .before .before .before .before .before .run-in-mirror .ensures in
-    let l = left-mirrored (a .t1) (a .earliest .now) (a .latest .now) (length (a .posts .now)) (length (a .atoms .now)) (passed e) (long s) (long₁ s) (long₂ s) r (omega arith) (omega arith)
-    (c .before .before .tell .ensures (ended (a .t1) (a .earliest .now) (a .latest .now) (length (a .posts .now)) (length (a .atoms .now)) (passed e) (long s) (long₁ s) (long₂ s) r)) in
+    let l = left-mirrored (a .t1) (a .earliest .now) (a .latest .now) (length (a .posts .now)) (length (a .atoms .now)) (passed e) (long s) r (omega arith) (omega arith)
+    (c .before .before .tell .ensures (ended (a .t1) (a .earliest .now) (a .latest .now) (length (a .posts .now)) (length (a .atoms .now)) (passed e) (long s) r)) in
     record {
       refused = λ h. absurd (h (accepted-run (a .t1) (a .earliest .now) (a .latest .now) (length (a .posts .now)) (length (a .atoms .now)) .1 (passed e)));
       accepted = λ z. record {
         left = l;
-        right = right (a .t1) (a .earliest .now) (a .latest .now) (length (a .posts .now)) (length (a .atoms .now)) (passed e) (long s) (long₁ s) (long₂ s);
+        right = right (a .t1) (a .earliest .now) (a .latest .now) (length (a .posts .now)) (length (a .atoms .now)) (passed e) (long s);
         handed = handed (mirroredOf (a .t1) (a .earliest .now) (a .latest .now)) (a .posts .now) (a .atoms .now) (l .post-words) (l .atom-words);
       };
     }

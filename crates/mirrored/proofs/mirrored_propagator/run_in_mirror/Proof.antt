@@ -1,6 +1,6 @@
--- `mirrored::mirrored_propagator::run_in_mirror` meets its contract.
+-- `run_in_mirror`: the ranges are mirrored, the core runs, and what it left of the earliest starts is mirrored back.
 -- Assumes nothing.
-use mathlib.Core.Path.{_≡_, refl, sym, ap, subst, _∙_}
+use mathlib.Core.Path.{_≡_, sym, ap, subst, _∙_}
 use mathlib.Core.List.{List, _++_}
 use Prim.Native.Nat.{ℕ, _≤_}
 use native.Mathlib.Omega.{arith}
@@ -15,15 +15,9 @@ use borrow.Author.Needs.{needs}
 use Rattle.mirrored.proofs.mirrored_propagator.run_in_mirror.Statement.{statement}
 use Rattle.mirrored.proofs.mirrored_propagator.run_in_mirror.Tie as tie
 
--- the arrays of a record have TASKS places
+-- the durations have TASKS places
 long : (c : tie.Start) → length (c .args .«record» .durations) ≡ TASKS
 long c = search needs
-
-long₁ : (c : tie.Start) → length (c .args .«record» .first) ≡ TASKS
-long₁ c = search needs
-
-long₂ : (c : tie.Start) → length (c .args .«record» .second) ≡ TASKS
-long₂ c = search needs
 
 -- an array as it is made
 abbrev zeros : List ℤ
@@ -33,44 +27,44 @@ front : (n : ℕ) → n ≤ TASKS → length (take n zeros) ≡ n
 front n h = length-take-le n zeros (omega (arith, length-replicate 48 (pos 0)))
 
 -- when both are filled: what each call before left
-abbrev start : tie.After-identity → tie.Start
-start c = c .before .before .before .before .before .before .before .before .before .before .before
+abbrev start : tie.After-to2 → tie.Start
+start c = c .before .before .before .before .before .before .before .before .before .before
 
-abbrev first : tie.After-identity → tie.After-mirror-starts
-first c = c .before .before .before .before .before .before
+abbrev first : tie.After-to2 → tie.After-mirror-starts
+first c = c .before .before .before .before .before
 
-abbrev second : tie.After-identity → tie.After-mirror-starts2
-second c = c .before .before
+abbrev second : tie.After-to2 → tie.After-mirror-starts2
+second c = c .before
 
-abbrev n : tie.After-identity → ℕ
+abbrev n : tie.After-to2 → ℕ
 n c = start c .args .«record» .count
 
-first-long : (c : tie.After-identity) → length (first c .mirror-starts .last .0) ≡ n c
+first-long : (c : tie.After-to2) → length (first c .mirror-starts .last .0) ≡ n c
 first-long c = first c .mirror-starts .kept .0 ∙ front (n c) (start c .pre .lawful .few)
 
-second-long : (c : tie.After-identity) → length (second c .mirror-starts2 .last .0) ≡ n c
+second-long : (c : tie.After-to2) → length (second c .mirror-starts2 .last .0) ≡ n c
 second-long c = second c .mirror-starts2 .kept .0 ∙ front (n c) (start c .pre .lawful .few)
 
-abbrev from : tie.After-identity → List ℤ
+abbrev from : tie.After-to2 → List ℤ
 from c = first c .mirror-starts .last .0 ++ drop (n c) zeros
 
-abbrev to : tie.After-identity → List ℤ
+abbrev to : tie.After-to2 → List ℤ
 to c = second c .mirror-starts2 .last .0 ++ drop (n c) zeros
 
-from-long : (c : tie.After-identity) → length (from c) ≡ TASKS
+from-long : (c : tie.After-to2) → length (from c) ≡ TASKS
 from-long c = length-front zeros (first c .mirror-starts .last .0) (n c) (first c .mirror-starts .kept .0) ∙ length-replicate 48 (pos 0)
 
-to-long : (c : tie.After-identity) → length (to c) ≡ TASKS
+to-long : (c : tie.After-to2) → length (to c) ≡ TASKS
 to-long c = length-front zeros (second c .mirror-starts2 .last .0) (n c) (second c .mirror-starts2 .kept .0) ∙ length-replicate 48 (pos 0)
 
-from-is : (c : tie.After-identity) → take (n c) (from c) ≡ mirrorStarts (take (length (start c .args .latest .now)) (start c .args .«record» .durations)) (start c .args .latest .now)
+from-is : (c : tie.After-to2) → take (n c) (from c) ≡ mirrorStarts (take (length (start c .args .latest .now)) (start c .args .«record» .durations)) (start c .args .latest .now)
 from-is c = take-at (first c .mirror-starts .last .0) (drop (n c) zeros) (n c) (first-long c) ∙ first c .mirror-starts .ensures
 
-to-is : (c : tie.After-identity) → take (n c) (to c) ≡ mirrorStarts (take (length (start c .args .earliest .now)) (start c .args .«record» .durations)) (start c .args .earliest .now)
+to-is : (c : tie.After-to2) → take (n c) (to c) ≡ mirrorStarts (take (length (start c .args .earliest .now)) (start c .args .«record» .durations)) (start c .args .earliest .now)
 to-is c = take-at (second c .mirror-starts2 .last .0) (drop (n c) zeros) (n c) (second-long c) ∙ second c .mirror-starts2 .ensures
 
 -- what the core left
-abbrev made : tie.After-run-accepted → tie.After-identity
+abbrev made : tie.After-run-accepted → tie.After-to2
 made c = c .before .before .before .before .before
 
 abbrev left : tie.After-run-accepted → List ℤ
@@ -95,7 +89,7 @@ mirror-starts-requires : tie.Need-mirror-starts-requires
 mirror-starts-requires c κs =
     let s = c .before .before .before .before in
     let a = s .args in
-    reflect-latest (a .«record») (a .earliest .now) (a .latest .now) (length (a .posts .now)) (length (a .atoms .now)) (s .pre) (long s) (long₁ s) (long₂ s) (take (a .«record» .count) zeros) (front (a .«record» .count) (s .pre .lawful .few))
+    reflect-latest (a .«record») (a .earliest .now) (a .latest .now) (length (a .posts .now)) (length (a .atoms .now)) (s .pre) (long s) (take (a .«record» .count) zeros) (front (a .«record» .count) (s .pre .lawful .few))
 
 array-borrow-prefix-to : tie.Need-array-borrow-prefix-to
 array-borrow-prefix-to c = search needs
@@ -107,10 +101,7 @@ mirror-starts-requires-2 : tie.Need-mirror-starts-requires-2
 mirror-starts-requires-2 c κs =
     let s = c .before .before .before .before .before .before .before .before in
     let a = s .args in
-    reflect-earliest (a .«record») (a .earliest .now) (a .latest .now) (length (a .posts .now)) (length (a .atoms .now)) (s .pre) (long s) (long₁ s) (long₂ s) (take (a .«record» .count) zeros) (front (a .«record» .count) (s .pre .lawful .few))
-
-identity-requires : tie.Need-identity-requires
-identity-requires c κs = search needs
+    reflect-earliest (a .«record») (a .earliest .now) (a .latest .now) (length (a .posts .now)) (length (a .atoms .now)) (s .pre) (long s) (take (a .«record» .count) zeros) (front (a .«record» .count) (s .pre .lawful .few))
 
 array-borrow-prefix-from-2 : tie.Need-array-borrow-prefix-from-2
 array-borrow-prefix-from-2 c = omega (arith, from-long c, start c .pre .lawful .few)
@@ -129,7 +120,7 @@ run-accepted-requires c κs =
     let i = c .before .before .before .before in
     let s = start i in
     let a = s .args in
-    runnable-at (a .«record») (a .earliest .now) (a .latest .now) (length (a .posts .now)) (length (a .atoms .now)) (s .pre) (long s) (long₁ s) (long₂ s) (from-is i) (to-is i) (i .identity .ensures)
+    runnable-at (a .«record») (a .earliest .now) (a .latest .now) (length (a .posts .now)) (length (a .atoms .now)) (s .pre) (long s) (from-is i) (to-is i)
 
 array-share-prefix-from : tie.Need-array-share-prefix-from
 array-share-prefix-from c = let r = c .before .before .before .before in omega (arith, back-long r, start (made r) .pre .lawful .few)
@@ -144,7 +135,7 @@ mirror-starts-requires-3 c κs =
     let s = start i in
     let a = s .args in
     subst (λ (zs : List ℤ). Reflectable (a .latest .now) zs (a .«record» .durations)) (sym (back-is r))
-    (reflect-back (a .«record») (a .earliest .now) (a .latest .now) (length (a .posts .now)) (length (a .atoms .now)) (s .pre) (long s) (long₁ s) (long₂ s) (from-is i) (to-is i) (i .identity .ensures) (r .run-accepted .ensures) (a .latest .now) (s .pre .counts .latest))
+    (reflect-back (a .«record») (a .earliest .now) (a .latest .now) (length (a .posts .now)) (length (a .atoms .now)) (s .pre) (long s) (from-is i) (to-is i) (r .run-accepted .ensures) (a .latest .now) (s .pre .counts .latest))
 
 same-length : tie.Need-same-length
 same-length c = search needs
@@ -161,7 +152,7 @@ returns c =
     let i = made r in
     let s = start i in
     let a = s .args in
-    ran-in-mirror (a .«record») (a .earliest .now) (a .latest .now) (length (a .posts .now)) (length (a .atoms .now)) (s .pre) (long s) (long₁ s) (long₂ s) (from-is i) (to-is i) (i .identity .ensures) (r .run-accepted .ensures)
+    ran-in-mirror (a .«record») (a .earliest .now) (a .latest .now) (length (a .posts .now)) (length (a .atoms .now)) (s .pre) (long s) (from-is i) (to-is i) (r .run-accepted .ensures)
     (c .before .mirror-starts3 .ensures ∙ ap (λ (zs : List ℤ). mirrorStarts (take (length zs) (a .«record» .durations)) zs) (back-is r))
 
 pub run-in-mirror-spec : {M : Type 1} → statement M
@@ -174,7 +165,6 @@ run-in-mirror-spec =
     array-borrow-prefix-to
     slice-aggregate-mirror-starts-2
     mirror-starts-requires-2
-    identity-requires
     array-borrow-prefix-from-2
     slice-aggregate-run-accepted
     array-share-prefix-to
