@@ -11,7 +11,7 @@ use lib.ListN.{length, getD, take, set, length-append, List·getD-append}
 use lib.Seq.{length-take-le, getD-take, getD-append-seam}
 use borrow.Author.Tests.{leb-true, le-leb, ltb-true}
 use Rattle.integers.specs.Limits.{TASKS, DURATIONS}
-use Rattle.integers.specs.Orders.{has, Permutes}
+use Rattle.integers.specs.Orders.{has}
 use Rattle.integers.specs.Tests.{AllPassed}
 use Rattle.integers.proofs.Bools.{clash}
 use Rattle.integers.proofs.Ints.{leZ-true, le-leZ}
@@ -24,36 +24,29 @@ use Rattle.records.proofs.Lawful.{count-is, lawful-is}
 use Rattle.desk.specs.declared.changes.Changed.{Changed}
 use Rattle.desk.specs.declared.changes.Change.{Change}
 use Rattle.desk.specs.declared.changes.Change.the-variants.{Made, Refused}
-use Rattle.desk.specs.Lists.{placed, sumOf, without, closedGap}
+use Rattle.desk.specs.Lists.{placed, sumOf, without}
 use Rattle.desk.specs.Numbers.{changeNumbers}
-use Rattle.desk.specs.Changes.{Left, durationsOf, firstOf, secondOf, added, removed, addTests, addNumber, removeTests, removeNumber, TaskAdded, TaskRemoved}
+use Rattle.desk.specs.Changes.{Left, durationsOf, added, removed, addTests, addNumber, removeTests, removeNumber, TaskAdded, TaskRemoved}
 use Rattle.desk.proofs.Placing.{placed-front, placed-at, placed-past, last-stored}
-use Rattle.desk.proofs.Leaving.{without-length, without-all, last-permutes, closed-permutes}
+use Rattle.desk.proofs.Leaving.{without-length, without-all}
 use Rattle.desk.proofs.Sums.{sum-more, sum-without, sum-placed}
 
--- A record of lists: lawful where they are.
-pub record Lists (n : ℕ) (ds one other : List ℕ) : Type 0 where
+-- A record of a list of durations: lawful where they are.
+pub record Listed (n : ℕ) (ds : List ℕ) : Type 0 where
   pub some : 1 ≤ n
   pub few : n ≤ TASKS
   pub long : length ds ≡ n
   pub lasts : (k : ℕ) → k < length ds → 1 ≤ getD ds k 0
   pub sum : sumOf ds ≤ DURATIONS
-  pub first : Permutes n one
-  pub second : Permutes n other
 
-placed-permutes : (n : ℕ) (l : List ℕ) → Permutes n l → Permutes n (take n (placed l))
-placed-permutes n l p = subst (Permutes n) (sym (ap (λ (k : ℕ). take k (placed l)) (sym (p .size)) ∙ placed-front l)) p
-
-lists-lawful : (n : ℕ) (ds first second : List ℕ) (stored : ℕ) → Lists n ds first second → stored ≡ sumOf ds → Lawful (record { count = n; durations = placed ds; first = placed first; second = placed second; total = stored })
-lists-lawful n ds first second stored l s = record {
+listed-lawful : (n : ℕ) (ds : List ℕ) (stored : ℕ) → Listed n ds → stored ≡ sumOf ds → Lawful (record { count = n; durations = placed ds; total = stored })
+listed-lawful n ds stored l s = record {
   some = l .some;
   few = l .few;
   lasts = λ k q. subst (λ (x : ℕ). 1 ≤ x) (sym (placed-at ds k (omega (arith, l .long)))) (l .lasts k (omega (arith, l .long)));
   sum = omega (arith, same, l .sum);
   stored = s ∙ sym same;
-  first = placed-permutes n first (l .first);
-  second = placed-permutes n second (l .second);
-  unused = λ k q h. (placed-past ds k (omega (arith, l .long)), (placed-past first k (omega (arith, l .first .size)), placed-past second k (omega (arith, l .second .size))));
+  unused = λ k q h. placed-past ds k (omega (arith, l .long));
 }
   where
     same : total (λ k. getD (placed ds) k 0) n ≡ sumOf ds
@@ -77,14 +70,12 @@ module _ (r : Propagator) (l : Lawful r) (long : length (r .durations) ≡ TASKS
   lasts k q = subst (λ (x : ℕ). 1 ≤ x) (sym (getD-take n (r .durations) k 0 (omega (arith, count)))) (l .lasts k (omega (arith, count)))
 
   pub added-lawful : (d : ℕ) → r .count < TASKS → 1 ≤ d → r .total + d ≤ DURATIONS → Lawful (added r d)
-  added-lawful d few last fits = lists-lawful (n + 1) (ds ++ (d ∷ [])) (firstOf r ++ (n ∷ [])) (secondOf r ++ (n ∷ [])) (r .total + d) (record {
+  added-lawful d few last fits = listed-lawful (n + 1) (ds ++ (d ∷ [])) (r .total + d) (record {
     some = omega arith;
     few = omega arith;
     long = omega (arith, length-append ds (d ∷ []), count);
     lasts = each;
     sum = omega (arith, sum-more ds d, sum, fits);
-    first = last-permutes n (firstOf r) (l .first);
-    second = last-permutes n (secondOf r) (l .second);
   }) (omega (arith, sum-more ds d, sum))
     where
       each : (k : ℕ) → k < length (ds ++ (d ∷ [])) → 1 ≤ getD (ds ++ (d ∷ [])) k 0
@@ -102,14 +93,12 @@ module _ (r : Propagator) (l : Lawful r) (long : length (r .durations) ≡ TASKS
   part t q = omega (arith, l .stored, total-part (λ k. getD (r .durations) k 0) n t q)
 
   pub removed-lawful : (t : ℕ) → t < r .count → 2 ≤ r .count → Lawful (removed r t)
-  removed-lawful t q many = lists-lawful (n - 1) (without ds t) (closedGap t (firstOf r)) (closedGap t (secondOf r)) (r .total - getD (r .durations) t 0) (record {
+  removed-lawful t q many = listed-lawful (n - 1) (without ds t) (r .total - getD (r .durations) t 0) (record {
     some = omega (arith, many);
     few = omega (arith, l .few);
     long = omega (arith, shorter, count);
     lasts = without-all (λ x. 1 ≤ x) ds t lasts;
     sum = omega (arith, less, sum, l .sum, l .stored);
-    first = closed-permutes t n (firstOf r) (l .first) q;
-    second = closed-permutes t n (secondOf r) (l .second) q;
   }) (omega (arith, less, sum, here))
     where
       shorter : length (without ds t) + 1 ≡ length ds
@@ -174,15 +163,12 @@ module _ (r : Propagator) (d : ℤ) (c : Changed) where
       record { refused = λ z. absurd (z h); made = λ _. left e; lawful = λ _. subst (λ (x : Changed). Lawful (x .«record»)) (sym e) (added-lawful r (a .lawful) long (durationOf d) (a .room) (lasting d (a .lasts)) (a .fits)) }
 
 -- the record as the code stores it
-pub stored-is : (r : Propagator) {d : ℤ} → Addable r d → length (r .durations) ≡ TASKS → length (r .first) ≡ TASKS → length (r .second) ≡ TASKS → (more : ℕ) → more ≡ durationOf d
-    → _≡_ {A = Changed} (record { «record» = record { count = r .count + 1; durations = set (r .durations) (r .count) more; first = set (r .first) (r .count) (r .count); second = set (r .second) (r .count) (r .count); total = r .total + more }; answer = Made })
+pub stored-is : (r : Propagator) {d : ℤ} → Addable r d → length (r .durations) ≡ TASKS → (more : ℕ) → more ≡ durationOf d
+    → _≡_ {A = Changed} (record { «record» = record { count = r .count + 1; durations = set (r .durations) (r .count) more; total = r .total + more }; answer = Made })
     (record { «record» = added r (durationOf d); answer = Made })
-stored-is r {d} a long long₁ long₂ more e =
-    let u = a .lawful .unused in
-    let ds = last-stored (r .count) (r .durations) more long (a .room) (λ k q s. u k q s .0) in
-    let first = last-stored (r .count) (r .first) (r .count) long₁ (a .room) (λ k q s. u k q s .1 .0) in
-    let second = last-stored (r .count) (r .second) (r .count) long₂ (a .room) (λ k q s. u k q s .1 .1) in
-    cc (ds, first, second, e)
+stored-is r {d} a long more e =
+    let ds = last-stored (r .count) (r .durations) more long (a .room) (a .lawful .unused) in
+    cc (ds, e)
 
 module _ (r : Propagator) (t : ℕ) (c : Changed) where
   pub remove-refused : (removeNumber r t ≡ 0 → ⊥) → c ≡ record { «record» = r; answer = Refused (removeNumber r t) } → TaskRemoved r t c

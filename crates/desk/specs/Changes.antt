@@ -14,7 +14,7 @@ use Rattle.records.specs.Records.{countFits, durationOf, lawfulRecord, Lawful}
 use Rattle.desk.specs.declared.changes.Changed.{Changed}
 use Rattle.desk.specs.declared.changes.Change.{Change}
 use Rattle.desk.specs.Numbers.{changeNumbers}
-use Rattle.desk.specs.Lists.{placed, without, closedGap}
+use Rattle.desk.specs.Lists.{placed, without}
 
 -- What a call leaves: its answer, by the papers' numbers, and the record.
 pub record Left (a : Answer) (after : Propagator) (c : Changed) : Type 0 where
@@ -26,30 +26,19 @@ module _ (r : Propagator) where
   abbrev pub durationsOf : List ℕ
   durationsOf = take (r .count) (r .durations)
 
-  -- its two orders
-  abbrev pub firstOf : List ℕ
-  firstOf = take (r .count) (r .first)
-
-  abbrev pub secondOf : List ℕ
-  secondOf = take (r .count) (r .second)
-
-  -- the record with a task of duration d, which takes number n and stands last in both orders
+  -- the record with a task of duration d, which takes number n
   abbrev pub added : ℕ → Propagator
   added d = record {
     count = r .count + 1;
     durations = placed (durationsOf ++ (d ∷ []));
-    first = placed (firstOf ++ (r .count ∷ []));
-    second = placed (secondOf ++ (r .count ∷ []));
     total = r .total + d;
   }
 
-  -- the record without task t
+  -- the record without task t, and its gap in the numbers closed
   abbrev pub removed : ℕ → Propagator
   removed t = record {
     count = r .count - 1;
     durations = placed (without durationsOf t);
-    first = placed (closedGap t firstOf);
-    second = placed (closedGap t secondOf);
     total = r .total - getD (r .durations) t 0;
   }
 

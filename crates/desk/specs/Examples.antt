@@ -9,32 +9,27 @@ use Rattle.scheduling.specs.Scheduling.{total}
 use Rattle.records.specs.declared.record.Propagator.{Propagator}
 use Rattle.records.specs.Records.{unusedAt, lawfulRecord, newRecord, recordOf}
 use Rattle.records.specs.Refusals.{runNumber}
-use Rattle.desk.specs.Lists.{placed, without, loweredPast, closedGap}
+use Rattle.desk.specs.Lists.{placed, without}
 use Rattle.desk.specs.Changes.{added, removed, addNumber, removeNumber}
 
--- the order 2 0 3 1 without task 1: 2 and 3 are one lower
-gap-closed : closedGap 1 (2 ∷ 0 ∷ 3 ∷ 1 ∷ []) ≡ 1 ∷ 0 ∷ 2 ∷ []
-unfolding closedGap loweredPast
-gap-closed = refl
-
--- three tasks, the first order 2 0 1
+-- three tasks
 three : Propagator
-three = recordOf 3 (placed (4 ∷ 5 ∷ 6 ∷ [])) (placed (2 ∷ 0 ∷ 1 ∷ [])) (placed (0 ∷ 1 ∷ 2 ∷ [])) 15
+three = recordOf 3 (placed (4 ∷ 5 ∷ 6 ∷ [])) 15
 
-without-the-first : removed three 0 ≡ recordOf 2 (placed (5 ∷ 6 ∷ [])) (placed (1 ∷ 0 ∷ [])) (placed (0 ∷ 1 ∷ [])) 11
-unfolding three without closedGap loweredPast
+without-the-first : removed three 0 ≡ recordOf 2 (placed (5 ∷ 6 ∷ [])) 11
+unfolding three without
 without-the-first = refl
 
-with-one-more : added three 7 ≡ recordOf 4 (placed (4 ∷ 5 ∷ 6 ∷ 7 ∷ [])) (placed (2 ∷ 0 ∷ 1 ∷ 3 ∷ [])) (placed (0 ∷ 1 ∷ 2 ∷ 3 ∷ [])) 22
+with-one-more : added three 7 ≡ recordOf 4 (placed (4 ∷ 5 ∷ 6 ∷ 7 ∷ [])) 22
 unfolding three
 with-one-more = refl
 
 -- a stored total that is one too small falls under 20, before anything else
-total-false : addNumber (recordOf 1 (placed (4 ∷ [])) (placed (0 ∷ [])) (placed (0 ∷ [])) 3) (pos 0) ≡ 20
+total-false : addNumber (recordOf 1 (placed (4 ∷ [])) 3) (pos 0) ≡ 20
 unfolding refusal lawfulRecord allBelow unusedAt total
 total-false = refl
 
-run-turned-back : runNumber (recordOf 1 (placed (4 ∷ [])) (placed (0 ∷ [])) (placed (0 ∷ [])) 5) [] [] 0 0 ≡ 20
+run-turned-back : runNumber (recordOf 1 (placed (4 ∷ [])) 5) [] [] 0 0 ≡ 20
 unfolding refusal lawfulRecord allBelow unusedAt total
 run-turned-back = refl
 

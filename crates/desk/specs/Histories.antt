@@ -5,8 +5,6 @@ use lib.IntN.{ℤ}
 use Rattle.integers.specs.Tests.{refusal}
 use Rattle.records.specs.declared.record.Propagator.{Propagator}
 use Rattle.records.specs.Records.{durationOf, creationTests, created}
-use Rattle.records.specs.Refusals.{runNumber}
-use Rattle.propagator.specs.Ran.{carried}
 use Rattle.desk.specs.Lists.{without}
 use Rattle.desk.specs.Changes.{added, removed, addNumber, removeNumber}
 
@@ -16,7 +14,7 @@ pub data History : Type 0 where
   removing : History → ℕ → History
   running : History → List ℤ → List ℤ → ℕ → ℕ → History
 
--- what a call of this number leaves: a refused one changes nothing
+-- what a change of this number leaves: a refused one changes nothing
 abbrev pub leaves : {A : Type 0} → ℕ → A → A → A
 leaves zero new old = new
 leaves (suc n) new old = old
@@ -33,7 +31,7 @@ unfoldable pub recordAfter : History → Propagator
 recordAfter (creation ds) = created ds .«record»
 recordAfter (adding h d) = leaves (addNumber (recordAfter h) d) (added (recordAfter h) (durationOf d)) (recordAfter h)
 recordAfter (removing h t) = leaves (removeNumber (recordAfter h) t) (removed (recordAfter h) t) (recordAfter h)
-recordAfter (running h es ls posts atoms) = leaves (runNumber (recordAfter h) es ls posts atoms) (carried (recordAfter h) es ls) (recordAfter h)
+recordAfter (running h es ls posts atoms) = recordAfter h
 
 -- the durations of the tasks that it leaves, by number: an added one comes last, and one taken off is left out
 unfoldable pub durationsAfter : History → List ℕ

@@ -1,4 +1,4 @@
-// The desk adds a task to the record, or takes one off, while it plans.
+// A task added to the record, or taken off.
 use integers::limits::DURATIONS;
 use integers::limits::TASKS;
 use records::record::Propagator;
@@ -7,8 +7,8 @@ ghost use mathlib.Core.Path.{_≡_};
 ghost use Prim.Native.Nat.{_≤_};
 ghost use lib.ListN.{length, take};
 ghost use Rattle.integers.specs.Limits.{TASKS};
-ghost use Rattle.records.specs.Records.{WholeOrders, recordOf};
-ghost use Rattle.desk.specs.Lists.{placed, without, loweredPast, closedGap};
+ghost use Rattle.records.specs.Records.{recordOf};
+ghost use Rattle.desk.specs.Lists.{placed, without};
 ghost use Rattle.desk.specs.Changes.{addNumber, removeNumber, TaskAdded, TaskRemoved};
 
 pub enum Change {
@@ -22,18 +22,15 @@ pub struct Changed {
 }
 
 // The number that turns an added task back, or 0: 20, 1, 2, 5.
-fn add_refusal<'a>(
+fn add_refusal(
     n: usize,
-    durations: &'a [u32; 48],
-    first: &'a [usize; 48],
-    second: &'a [usize; 48],
+    durations: &[u32; 48],
     total: u32,
     duration: i32,
 ) -> u32
-    requires { ⌜ WholeOrders (now first) (now second) ⌝ }
-    ensures { λ r. ⌜ r ≡ addNumber (recordOf n (now (durations .entry)) (now (first .entry)) (now (second .entry)) total) duration ⌝ }
+    ensures { λ r. ⌜ r ≡ addNumber (recordOf n (now (durations .entry)) total) duration ⌝ }
 {
-    if !lawful(n, durations, first, second, total) {
+    if !lawful(n, durations, total) {
         return 20;
     }
     if n >= TASKS {
@@ -49,15 +46,13 @@ fn add_refusal<'a>(
     0
 }
 
-// The record with one task more, which takes number n and stands last in both orders.
+// The record with one task more, which takes number n.
 pub fn add(record: Propagator, duration: i32) -> Changed
     ensures { λ r. ⌜ TaskAdded «record» duration r ⌝ }
 {
     let number = add_refusal(
         record.count,
         &record.durations,
-        &record.first,
-        &record.second,
         record.total,
         duration,
     );
@@ -71,30 +66,14 @@ pub fn add(record: Propagator, duration: i32) -> Changed
     let more = integers::nat_of(duration);
     let mut durations = record.durations;
     durations[n] = more;
-    let mut first = record.first;
-    first[n] = n;
-    let mut second = record.second;
-    second[n] = n;
     Changed {
         record: Propagator {
             count: n + 1,
             durations,
-            first,
-            second,
             total: record.total + more,
         },
         answer: Change::Made,
     }
-}
-
-// A task's number once task t is off: those above t are one lower.
-fn lowered(k: usize, t: usize) -> usize
-    ensures { λ r. ⌜ r ≡ loweredPast t k ⌝ }
-{
-    if k <= t {
-        return k;
-    }
-    k - 1
 }
 
 // The durations of the first n tasks without task t's.
@@ -115,38 +94,16 @@ fn without_task(durations: &[u32; 48], n: usize, t: usize) -> [u32; 48]
     out
 }
 
-// The order of the first n tasks without task t, and its gap in the numbers closed.
-fn closed_gap(order: &[usize; 48], n: usize, t: usize) -> [usize; 48]
-    requires { ⌜ (n ≤ TASKS) × (length (now order) ≡ TASKS) ⌝ }
-    ensures { λ r. ⌜ r ≡ placed (closedGap t (take n (now (order .entry)))) ⌝ }
-{
-    let mut out = [0usize; 48];
-    let mut j = 0;
-    let mut i = 0;
-    while i < n {
-        let k = order[i];
-        if k != t {
-            out[j] = lowered(k, t);
-            j += 1;
-        }
-        i += 1;
-    }
-    out
-}
-
 // The number that turns a removal back, or 0: 20, 12, 1.
-fn remove_refusal<'a>(
+fn remove_refusal(
     n: usize,
-    durations: &'a [u32; 48],
-    first: &'a [usize; 48],
-    second: &'a [usize; 48],
+    durations: &[u32; 48],
     total: u32,
     task: usize,
 ) -> u32
-    requires { ⌜ WholeOrders (now first) (now second) ⌝ }
-    ensures { λ r. ⌜ r ≡ removeNumber (recordOf n (now (durations .entry)) (now (first .entry)) (now (second .entry)) total) task ⌝ }
+    ensures { λ r. ⌜ r ≡ removeNumber (recordOf n (now (durations .entry)) total) task ⌝ }
 {
-    if !lawful(n, durations, first, second, total) {
+    if !lawful(n, durations, total) {
         return 20;
     }
     if task >= n {
@@ -158,15 +115,13 @@ fn remove_refusal<'a>(
     0
 }
 
-// The record without a task: the numbers above it are one lower, and each order keeps its sequence.
+// The record without a task: the numbers above it are one lower.
 pub fn remove(record: Propagator, task: usize) -> Changed
     ensures { λ r. ⌜ TaskRemoved «record» task r ⌝ }
 {
     let number = remove_refusal(
         record.count,
         &record.durations,
-        &record.first,
-        &record.second,
         record.total,
         task,
     );
@@ -179,14 +134,10 @@ pub fn remove(record: Propagator, task: usize) -> Changed
     let n = record.count;
     let less = record.durations[task];
     let durations = without_task(&record.durations, n, task);
-    let first = closed_gap(&record.first, n, task);
-    let second = closed_gap(&record.second, n, task);
     Changed {
         record: Propagator {
             count: n - 1,
             durations,
-            first,
-            second,
             total: record.total - less,
         },
         answer: Change::Made,

@@ -1,2 +1,3 @@
+// Tasks added to a record and taken off.
 pub mod changes;
 pub mod lent;

@@ -6,7 +6,7 @@ use lib.ListN.{length}
 use borrow.Author.Needs.{needs}
 use Rattle.integers.specs.Limits.{TASKS}
 use Rattle.integers.proofs.Ints.{back}
-use Rattle.records.specs.Records.{WholeOrders, durationOf}
+use Rattle.records.specs.Records.{durationOf}
 use Rattle.desk.specs.declared.changes.Change.{Change}
 use Rattle.desk.specs.declared.changes.Change.the-variants.{Refused}
 use Rattle.desk.specs.Changes.{addNumber}
@@ -17,29 +17,26 @@ use Rattle.desk.proofs.changes.add.Tie as tie
 long : (c : tie.Start) → length (c .args .t1 .durations) ≡ TASKS
 long c = search needs
 
-whole : (c : tie.Start) → WholeOrders (c .args .t1 .first) (c .args .t1 .second)
-whole c = record { one = search needs; other = search needs }
-
 -- the number
-number : (c : tie.After-add-refusal) → let a = c .before .before .before .before .before .args in c .add-refusal .result ≡ addNumber (a .t1) (a .duration)
-number c = let s = c .before .before .before .before .before in c .add-refusal .ensures ∙ ap (addNumber (s .args .t1)) (back (s .fits .duration))
+number : (c : tie.After-add-refusal) → let a = c .before .before .before .args in c .add-refusal .result ≡ addNumber (a .t1) (a .duration)
+number c = let s = c .before .before .before in c .add-refusal .ensures ∙ ap (addNumber (s .args .t1)) (back (s .fits .duration))
 
-passed : (c : tie.Else1) → let a = c .before .before .before .before .before .before .args in Addable (a .t1) (a .duration)
-passed c = let a = c .before .before .before .before .before .before .args in addable (a .t1) (a .duration) (sym (number (c .before)) ∙ c .if1 .left)
+passed : (c : tie.Else1) → let a = c .before .before .before .before .args in Addable (a .t1) (a .duration)
+passed c = let a = c .before .before .before .before .args in addable (a .t1) (a .duration) (sym (number (c .before)) ∙ c .if1 .left)
 
-more-is : (c : tie.After-nat-of) → c .nat-of .result ≡ durationOf (c .before .before .before .before .before .before .before .args .duration)
-more-is c = ap durationOf (c .nat-of .ensures ∙ back (c .before .before .before .before .before .before .before .fits .duration))
+more-is : (c : tie.After-nat-of) → c .nat-of .result ≡ durationOf (c .before .before .before .before .before .args .duration)
+more-is c = ap durationOf (c .nat-of .ensures ∙ back (c .before .before .before .before .before .fits .duration))
 
 add-refusal-requires : tie.Need-add-refusal-requires
-add-refusal-requires c κs = whole (c .before .before .before .before)
+add-refusal-requires c κs = search needs
 
 returns : tie.Need-returns
 returns c =
-    let a = c .before .before .before .before .before .before .args in
+    let a = c .before .before .before .before .args in
     add-refused (a .t1) (a .duration) _ (λ z. c .if1 .taken (number (c .before) ∙ z)) (ap (λ (x : Change). record { «record» = a .t1; answer = x }) (ap Refused (number (c .before))))
 
 nat-of-requires : tie.Need-nat-of-requires
-nat-of-requires c κs = let s = c .before .before .before .before .before .before in subst (λ (z : ℤ). pos 0 ≤ℤ z) (sym (back (s .fits .duration))) (not-negative (s .args .duration) (passed c .lasts))
+nat-of-requires c κs = let s = c .before .before .before .before in subst (λ (z : ℤ). pos 0 ≤ℤ z) (sym (back (s .fits .duration))) (not-negative (s .args .duration) (passed c .lasts))
 
 mul-durations : tie.Need-mul-durations
 mul-durations c = record { fits = omega (arith, passed (c .before .before) .room) }
@@ -47,31 +44,17 @@ mul-durations c = record { fits = omega (arith, passed (c .before .before) .room
 array-write-durations : tie.Need-array-write-durations
 array-write-durations c = passed (c .before .before) .room
 
-mul-first : tie.Need-mul-first
-mul-first c = record { fits = omega (arith, passed (c .before .before .before) .room) }
+add-t8 : tie.Need-add-t8
+add-t8 c = record { fits = omega (arith, passed (c .before .before) .room) }
 
-array-write-first : tie.Need-array-write-first
-array-write-first c = passed (c .before .before .before) .room
-
-mul-second : tie.Need-mul-second
-mul-second c = record { fits = omega (arith, passed (c .before .before .before .before) .room) }
-
-array-write-second : tie.Need-array-write-second
-array-write-second c = passed (c .before .before .before .before) .room
-
-add-t10 : tie.Need-add-t10
-add-t10 c = record { fits = omega (arith, passed (c .before .before .before .before) .room) }
-
-add-t27 : tie.Need-add-t27
-add-t27 c = record { fits = omega (arith, passed (c .before .before .before .before) .fits, more-is (c .before .before .before)) }
+add-t17 : tie.Need-add-t17
+add-t17 c = record { fits = omega (arith, passed (c .before .before) .fits, more-is (c .before)) }
 
 returns-2 : tie.Need-returns-2
 returns-2 c =
-    let s = c .before .before .before .before .before .before .before .before .before .before in
+    let s = c .before .before .before .before .before .before in
     let a = s .args in
-    let w = whole s in
-    add-made (a .t1) (a .duration) _ (long s) (sym (number (c .before .before .before .before .before)) ∙ c .before .before .before .before .if1 .left)
-    (stored-is (a .t1) (passed (c .before .before .before .before)) (long s) (w .one) (w .other) _ (more-is (c .before .before .before)))
+    add-made (a .t1) (a .duration) _ (long s) (sym (number (c .before .before .before)) ∙ c .before .before .if1 .left) (stored-is (a .t1) (passed (c .before .before)) (long s) _ (more-is (c .before)))
 
 pub add-spec : {M : Type 1} → statement M
 add-spec =
@@ -82,10 +65,6 @@ add-spec =
     nat-of-requires
     mul-durations
     array-write-durations
-    mul-first
-    array-write-first
-    mul-second
-    array-write-second
-    add-t10
-    add-t27
+    add-t8
+    add-t17
     returns-2)

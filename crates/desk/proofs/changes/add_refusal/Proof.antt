@@ -21,7 +21,7 @@ use Rattle.desk.proofs.changes.add_refusal.Tie as tie
 
 -- the record that the call is lent
 abbrev lent : tie.Start → Propagator
-lent c = recordOf (c .args .n) (c .args .durations .now) (c .args .first .now) (c .args .second .now) (c .args .total)
+lent c = recordOf (c .args .n) (c .args .durations .now) (c .args .total)
 
 -- the tests that are passed at each place
 first-one : (c : tie.Else1) → AllPassed (take 1 (addTests (lent (c .before .before)) (c .before .before .args .duration)))

@@ -3,7 +3,6 @@ use native.Mathlib.Omega.{arith}
 use lib.ListN.{length}
 use borrow.Author.Needs.{needs}
 use Rattle.integers.specs.Limits.{TASKS}
-use Rattle.records.specs.Records.{WholeOrders}
 use Rattle.desk.specs.declared.changes.Change.{Change}
 use Rattle.desk.specs.declared.changes.Change.the-variants.{Refused}
 use Rattle.desk.proofs.Changing.{Removable, removable, part, remove-refused, remove-made}
@@ -13,19 +12,16 @@ use Rattle.desk.proofs.changes.remove.Tie as tie
 long : (c : tie.Start) → length (c .args .t1 .durations) ≡ TASKS
 long c = search needs
 
-whole : (c : tie.Start) → WholeOrders (c .args .t1 .first) (c .args .t1 .second)
-whole c = record { one = search needs; other = search needs }
-
 -- no test failed
-passed : (c : tie.Else1) → let a = c .before .before .before .before .before .before .args in Removable (a .t1) (a .task)
-passed c = let a = c .before .before .before .before .before .before .args in removable (a .t1) (a .task) (sym (c .before .remove-refusal .ensures) ∙ c .if1 .left)
+passed : (c : tie.Else1) → let a = c .before .before .before .before .args in Removable (a .t1) (a .task)
+passed c = let a = c .before .before .before .before .args in removable (a .t1) (a .task) (sym (c .before .remove-refusal .ensures) ∙ c .if1 .left)
 
 remove-refusal-requires : tie.Need-remove-refusal-requires
-remove-refusal-requires c κs = whole (c .before .before .before .before)
+remove-refusal-requires c κs = search needs
 
 returns : tie.Need-returns
 returns c =
-    let a = c .before .before .before .before .before .before .args in
+    let a = c .before .before .before .before .args in
     let number = c .before .remove-refusal .ensures in
     remove-refused (a .t1) (a .task) _ (λ z. c .if1 .taken (number ∙ z)) (ap (λ (x : Change). record { «record» = a .t1; answer = x }) (ap Refused number))
 
@@ -36,26 +32,20 @@ element-copy-out-less : tie.Need-element-copy-out-less
 element-copy-out-less c = let p = passed c in omega (arith, p .there, p .lawful .few)
 
 without-task-requires : tie.Need-without-task-requires
-without-task-requires c κs = (passed (c .before .before .before) .lawful .few, long (c .before .before .before .before .before .before .before .before .before))
+without-task-requires c κs = (passed (c .before .before .before) .lawful .few, long (c .before .before .before .before .before .before .before))
 
-closed-gap-requires : tie.Need-closed-gap-requires
-closed-gap-requires c κs = (passed (c .before .before .before .before .before .before) .lawful .few, whole (c .before .before .before .before .before .before .before .before .before .before .before .before) .one)
+sub-t8 : tie.Need-sub-t8
+sub-t8 c = omega (arith, passed (c .before .before .before .before) .many)
 
-closed-gap-requires-2 : tie.Need-closed-gap-requires-2
-closed-gap-requires-2 c κs = (passed (c .before .before .before .before .before .before .before .before .before) .lawful .few, whole (c .before .before .before .before .before .before .before .before .before .before .before .before .before .before .before) .other)
-
-sub-t10 : tie.Need-sub-t10
-sub-t10 c = omega (arith, passed (c .before .before .before .before .before .before .before .before .before .before) .many)
-
-sub-t23 : tie.Need-sub-t23
-sub-t23 c = let a = c .before .before .before .before .before .before .before .before .before .before .before .before .before .before .before .before .args in let p = passed (c .before .before .before .before .before .before .before .before .before .before) in part (a .t1) (p .lawful) (long (c .before .before .before .before .before .before .before .before .before .before .before .before .before .before .before .before)) (a .task) (p .there)
+sub-t17 : tie.Need-sub-t17
+sub-t17 c = let s = c .before .before .before .before .before .before .before .before in let p = passed (c .before .before .before .before) in part (s .args .t1) (p .lawful) (long s) (s .args .task) (p .there)
 
 returns-2 : tie.Need-returns-2
 returns-2 c =
-    let s = c .before .before .before .before .before .before .before .before .before .before .before .before .before .before .before .before in
+    let s = c .before .before .before .before .before .before .before .before in
     let a = s .args in
-    remove-made (a .t1) (a .task) _ (long s) (sym (c .before .before .before .before .before .before .before .before .before .before .before .remove-refusal .ensures) ∙ c .before .before .before .before .before .before .before .before .before .before .if1 .left)
-    (cc (c .before .before .before .before .before .before .without-task .ensures, c .before .before .before .closed-gap .ensures, c .closed-gap2 .ensures))
+    let made = c .without-task .ensures in
+    remove-made (a .t1) (a .task) _ (long s) (sym (c .before .before .before .before .before .remove-refusal .ensures) ∙ c .before .before .before .before .if1 .left) (cc made)
 
 pub remove-spec : {M : Type 1} → statement M
 remove-spec =
@@ -66,8 +56,6 @@ remove-spec =
     mul-less
     element-copy-out-less
     without-task-requires
-    closed-gap-requires
-    closed-gap-requires-2
-    sub-t10
-    sub-t23
+    sub-t8
+    sub-t17
     returns-2)
