@@ -2,7 +2,7 @@
 -- Assumes nothing.
 use mathlib.Core.List.{List, [], _∷_, _++_, map, append-assoc, head-eq-of-cons-eq, tail-eq-of-cons-eq, cons-ne-nil}
 use mathlib.Core.Logic.{_⊎_, inl, inr, ⊎-elim}
-use mathlib.Core.Path.{_≡_, refl, sym, ap, _∙_}
+use mathlib.Core.Path.{_≡_, refl, sym, ap, subst, _∙_}
 use Prim.Native.Nat.{ℕ, zero, suc, _+_, _-_, _≤_, _<_}
 use native.Mathlib.Omega.{arith}
 use lib.Dec.{leb}
@@ -13,16 +13,7 @@ use borrow.Author.Tests.{le-leb, lt-leb, leb-true, leb-false}
 use Rattle.integers.proofs.Bools.{bool}
 use Rattle.integers.specs.Limits.{TASKS}
 use Rattle.records.specs.declared.record.Propagator.{Propagator}
-use Rattle.counter.specs.declared.overload_test.Overload.{Overload}
-use Rattle.counter.specs.Tested.{OverloadTested}
-use Rattle.counter.proofs.Many.{too-many as overload-too-many}
 use Rattle.propagator.proofs.Many.{too-many}
-use Rattle.charges.specs.declared.answer.Charges.{Charges}
-use Rattle.charges.specs.Charging.{Charged}
-use Rattle.charges.proofs.Billing.{too-many as no-charges}
-use Rattle.pages.specs.declared.answer.Page.{Page}
-use Rattle.pages.specs.Pages.{Paged}
-use Rattle.pages.proofs.Paging.{too-many as no-page}
 use Rattle.disjunctive.specs.declared.ranges.Range.{Range}
 use Rattle.disjunctive.specs.declared.ranges.Starts.{Starts}
 use Rattle.disjunctive.specs.declared.ranges.CoreRun.{CoreRun}
@@ -152,30 +143,22 @@ lent before ys posts atoms r posts′ atoms′ c = ⊎-elim few many (fits-or-no
 
 -- ---- calls that leave the ranges as they are
 -- what a core says of the ranges taken apart holds of the ranges; where there are too many, the core was passed none
-apart : (Said : List ℤ → List ℤ → Type 0) (ys : List Range) → (TASKS < length (earliests ys) → Said [] [] → Said (earliests ys) (latests ys))
-    → Said (take (startsOf ys .count) (startsOf ys .earliest)) (take (startsOf ys .count) (startsOf ys .latest)) → Said (earliests ys) (latests ys)
+pub apart : (Said : List ℤ → List ℤ → Type 0) (ys : List Range) (s : Starts) → s ≡ startsOf ys → (TASKS < length (earliests ys) → Said [] [] → Said (earliests ys) (latests ys))
+    → Said (take (s .count) (s .earliest)) (take (s .count) (s .latest)) → Said (earliests ys) (latests ys)
 unfolding startsOf
-apart Said ys as-none c = ⊎-elim few many (fits-or-not n)
+apart Said ys s e as-none c = ⊎-elim few many (fits-or-not n)
   where
     n : ℕ
     n = length ys
 
+    said : Said (take (startsOf ys .count) (startsOf ys .earliest)) (take (startsOf ys .count) (startsOf ys .latest))
+    said = subst (λ (u : Starts). Said (take (u .count) (u .earliest)) (take (u .count) (u .latest))) e c
+
     few : n ≤ TASKS → Said (earliests ys) (latests ys)
-    few h = rw (padded-all n (earliests ys) (length-map ys (λ (y : Range). y .earliest)) h, padded-all n (latests ys) (length-map ys (λ (y : Range). y .latest)) h) at c
+    few h = rw (padded-all n (earliests ys) (length-map ys (λ (y : Range). y .earliest)) h, padded-all n (latests ys) (length-map ys (λ (y : Range). y .latest)) h) at said
 
     many : TASKS < n → Said (earliests ys) (latests ys)
-    many h = as-none (omega (arith, length-map ys (λ (y : Range). y .earliest))) (rw (taken-none n h) at c)
-
--- the overload test, the page, the charges
-pub lent-test : (before : Propagator) (ys : List Range) (s : Starts) (r : Overload) → s ≡ startsOf ys → OverloadTested before (take (s .count) (s .earliest)) (take (s .count) (s .latest)) r → OverloadTested before (earliests ys) (latests ys) r
-lent-test before ys s r e t = apart (λ es ls. OverloadTested before es ls r) ys (overload-too-many before (earliests ys) (latests ys) r) (rw e at t)
-
-pub paged : (before : Propagator) (ys : List Range) (out : List ℕ) (p : Page) (out′ : List ℕ) → Paged before (take (startsOf ys .count) (startsOf ys .earliest)) (take (startsOf ys .count) (startsOf ys .latest)) out p out′
-    → Paged before (earliests ys) (latests ys) out p out′
-paged before ys out p out′ c = apart (λ es ls. Paged before es ls out p out′) ys (no-page before (earliests ys) (latests ys) out p out′) c
-
-pub charged : (before : Propagator) (ys : List Range) (due : List ℤ) (s : Starts) (r : Charges) → s ≡ startsOf ys → Charged before (take (s .count) (s .earliest)) (take (s .count) (s .latest)) due r → Charged before (earliests ys) (latests ys) due r
-charged before ys due s r e t = apart (λ es ls. Charged before es ls due r) ys (no-charges before (earliests ys) (latests ys) due r) (rw e at t)
+    many h = as-none (omega (arith, length-map ys (λ (y : Range). y .earliest))) (rw (taken-none n h) at said)
 
 -- starts that have the count of the ranges taken apart fit an array, and the ranges
 pub starts-fit : (ys : List Range) (s r : Starts) → s ≡ startsOf ys → r .count ≡ s .count → (r .count ≤ TASKS) × (r .count ≤ length ys)

@@ -42,12 +42,13 @@ use Rattle.records.proofs.record.Propagator as P
 use Rattle.records.proofs.record.Propagator.Laws as P′
 use Rattle.charges.specs.declared.answer.Charges.{Charges}
 use Rattle.charges.specs.Charging.{Charged}
+use Rattle.charges.proofs.Billing.{too-many}
 use Rattle.charges.proofs.answer.Charges as G
 use Rattle.charges.proofs.answer.Charges.Laws as G′
 use Rattle.disjunctive.specs.Ranges.{earliests, latests, startsOf}
 use Rattle.disjunctive.specs.declared.ranges.Range.{Range}
 use Rattle.disjunctive.specs.declared.ranges.Starts.{Starts}
-use Rattle.disjunctive.proofs.Starts.{starts-fit, charged}
+use Rattle.disjunctive.proofs.Starts.{starts-fit, apart}
 use Rattle.disjunctive.proofs.ranges.Range as T
 use Rattle.disjunctive.proofs.ranges.Starts as S
 use Rattle.disjunctive.proofs.ranges.Starts.Laws as S′
@@ -178,7 +179,7 @@ module _ {M : Type 1} (𝓤 : URA M) (H : Heap 𝓤) (A : Atoms 𝓤) (W : Given
         -- [what the answer owns; the due moments' token; the ranges' token; _4; …; _0]
         returns ! (look ! 11 refl) $ forget ! 11 refl $ forget ! 9 refl $ forget ! 7 refl $ forget ! 5 refl $ forget ! 3 refl $
         move ! (11 ∷ 12 ∷ []) $ free1 ! $ move ! (9 ∷ 10 ∷ []) $ free1 ! $ move ! (7 ∷ 8 ∷ []) $ free1 ! $ move ! (5 ∷ 6 ∷ []) $ free1 ! $ move ! (3 ∷ 4 ∷ []) $ free1 ! $ free0 ! $
-        keep ! (2 ∷ 1 ∷ 0 ∷ []) $ by ! (exits r w₂ (charged h ys (now xd) s r e₁ e₂)))))))))))))))
+        keep ! (2 ∷ 1 ∷ 0 ∷ []) $ by ! (exits r w₂ (apart (λ es ls. Charged h es ls (now xd) r) ys s e₁ (too-many h (earliests ys) (latests ys) (now xd) r) e₂)))))))))))))))
 
 module _ {M : Type 1} (𝓤 : URA M) (H : Heap 𝓤) (A : Atoms 𝓤) (W : Given 𝓤 H A) (at-mem : Memory → SProp 𝓤) (run : Routine → Fun 𝓤) where
   f-walks : (C : Calls 𝓤 H) (Λ : Loops 𝓤 H) → FmC 𝓤 H (W .laws) C → Triple 𝓤 (C #starts-of) (StartsOf 𝓤 H A at-mem run) → Triple 𝓤 (C #charges-core) (Core 𝓤 H A at-mem run) → Walks 𝓤 H A f.ended stayed (WpFn 𝓤 H C Λ code.function) (f.clauses 𝓤 H A at-mem run)

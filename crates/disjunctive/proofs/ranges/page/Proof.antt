@@ -1,6 +1,6 @@
 -- `ranges::page` meets its contract: a walk of its MIR, by hand. The ranges' `&` is passed to `starts_of` as a copy, and the buffer is passed on for good to `page_core`.
 -- Assumes nothing.
-use mathlib.Core.Path.{_≡_, refl, subst}
+use mathlib.Core.Path.{_≡_, refl}
 use Prim.Native.Nat.{ℕ, _≤_}
 use mathlib.Core.List.{List, [], _∷_}
 use lib.ListN.{length, take}
@@ -42,12 +42,13 @@ use Rattle.records.proofs.record.Propagator as P
 use Rattle.records.proofs.record.Propagator.Laws as P′
 use Rattle.pages.specs.declared.answer.Page.{Page}
 use Rattle.pages.specs.Pages.{Paged}
+use Rattle.pages.proofs.Paging.{too-many}
 use Rattle.pages.proofs.answer.Page as G
 use Rattle.pages.proofs.answer.Page.Laws as G′
 use Rattle.disjunctive.specs.Ranges.{earliests, latests, startsOf}
 use Rattle.disjunctive.specs.declared.ranges.Range.{Range}
 use Rattle.disjunctive.specs.declared.ranges.Starts.{Starts}
-use Rattle.disjunctive.proofs.Starts.{starts-fit, paged}
+use Rattle.disjunctive.proofs.Starts.{starts-fit, apart}
 use Rattle.disjunctive.proofs.ranges.Range as T
 use Rattle.disjunctive.proofs.ranges.Starts as S
 use Rattle.disjunctive.proofs.ranges.Starts.Laws as S′
@@ -183,7 +184,7 @@ module _ {M : Type 1} (𝓤 : URA M) (H : Heap 𝓤) (A : Atoms 𝓤) (W : Given
         returns ! (look ! 18 refl) $ forget ! 18 refl $ forget ! 16 refl $ forget ! 14 refl $ forget ! 12 refl $ forget ! 10 refl $ forget ! 8 refl $ forget ! 6 refl $
         move ! (18 ∷ 19 ∷ []) $ free1 ! $ move ! (16 ∷ 17 ∷ []) $ free1 ! $ move ! (14 ∷ 15 ∷ []) $ free1 ! $ move ! (12 ∷ 13 ∷ []) $ free1 ! $ move ! (10 ∷ 11 ∷ []) $ free1 ! $ move ! (8 ∷ 9 ∷ []) $ free1 ! $ move ! (6 ∷ 7 ∷ []) $ free1 ! $ free0 ! $
         keep ! (4 ∷ 1 ∷ 5 ∷ 2 ∷ 0 ∷ []) $
-        by ! (exits p w₂ (us .1 .1 .0) gh (paged h ys (now xo) p (us .1 .1 .0) (subst (λ (st : Starts). Written st p (us .1 .1 .0)) e₁ e₂)) lo))))))))))))))))))
+        by ! (exits p w₂ (us .1 .1 .0) gh (apart (λ es ls. Paged h es ls (now xo) p (us .1 .1 .0)) ys s e₁ (too-many h (earliests ys) (latests ys) (now xo) p (us .1 .1 .0)) e₂) lo))))))))))))))))))
 
 module _ {M : Type 1} (𝓤 : URA M) (H : Heap 𝓤) (A : Atoms 𝓤) (W : Given 𝓤 H A) (at-mem : Memory → SProp 𝓤) (run : Routine → Fun 𝓤) where
   f-walks : (C : Calls 𝓤 H) (Λ : Loops 𝓤 H) → FmC 𝓤 H (W .laws) C → Triple 𝓤 (C #starts-of) (StartsOf 𝓤 H A at-mem run) → Triple 𝓤 (C #page-core) (Core 𝓤 H A at-mem run) → Walks 𝓤 H A f.ended stayed (WpFn 𝓤 H C Λ code.function) (f.clauses 𝓤 H A at-mem run)
