@@ -1,4 +1,4 @@
--- Ranges that are taken apart into two arrays and put together again: what a turn of each loop does, and what the whole run leaves of the ranges.
+-- Ranges that are taken apart into two arrays and put together again: what a turn of each loop does, and what a call that goes by the arrays says of the ranges.
 -- Assumes nothing.
 use mathlib.Core.List.{List, [], _∷_, _++_, map, append-assoc, head-eq-of-cons-eq, tail-eq-of-cons-eq, cons-ne-nil}
 use mathlib.Core.Logic.{_⊎_, inl, inr, ⊎-elim}
@@ -13,11 +13,16 @@ use borrow.Author.Tests.{le-leb, lt-leb, leb-true, leb-false}
 use Rattle.integers.proofs.Bools.{bool}
 use Rattle.integers.specs.Limits.{TASKS}
 use Rattle.records.specs.declared.record.Propagator.{Propagator}
+use Rattle.propagator.specs.Ran.{Ran}
 use Rattle.propagator.proofs.Many.{too-many}
+use Rattle.precedences.specs.Precedences.{RanPrecedences}
+use Rattle.precedences.proofs.Many.{too-many as no-precedences}
 use Rattle.disjunctive.specs.declared.ranges.Range.{Range}
 use Rattle.disjunctive.specs.declared.ranges.Starts.{Starts}
 use Rattle.disjunctive.specs.declared.ranges.CoreRun.{CoreRun}
+use Rattle.disjunctive.specs.declared.ranges.by_precedence.CorePrecedences.{CorePrecedences}
 use Rattle.disjunctive.specs.Ranges.{earliests, latests, RanLent, RanCore, taken, padded, startsOf, withStarts}
+use Rattle.disjunctive.specs.LentCalls.{PrecedencesLent, PrecedencesCore}
 
 -- what a list of ranges is read to hold past its end
 abbrev pub anyRange : Range
@@ -111,35 +116,50 @@ only-starts [] (z ∷ zs) e = absurd (cons-ne-nil _ _ e)
 only-starts (y ∷ ys) [] e = absurd (cons-ne-nil _ _ (sym e))
 only-starts (y ∷ ys) (z ∷ zs) e = λ i. record { earliest = z .earliest; latest = head-eq-of-cons-eq e i } ∷ only-starts ys zs (tail-eq-of-cons-eq e) i
 
--- ---- the whole run
--- what the core leaves of the ranges taken apart is, put together, what the open run leaves; where there are too many, the core was passed none
-pub lent : (before : Propagator) (ys : List Range) (posts atoms : List ℤ) (r : CoreRun) (posts′ atoms′ : List ℤ) → RanCore before (startsOf ys) posts atoms r posts′ atoms′
-    → RanLent before ys posts atoms (r .outcome) (r .«record») (withStarts ys (take (r .starts .count) (r .starts .earliest))) posts′ atoms′
+-- ---- calls that store earliest starts
+-- what a core says of the ranges taken apart and of the earliest starts that it leaves holds of the ranges before and after; where there are too many, the core was passed none
+pub stored : (Said : List ℤ → List ℤ → List ℤ → Type 0) (ys : List Range) (s r : Starts) → s ≡ startsOf ys → r .count ≡ s .count → length (r .earliest) ≡ TASKS
+    → (TASKS < length (earliests ys) → Said [] [] [] → Said (earliests ys) (latests ys) (earliests ys))
+    → Said (take (s .count) (s .earliest)) (take (s .count) (s .latest)) (take (s .count) (r .earliest)) → Said (earliests ys) (latests ys) (earliests (withStarts ys (take (r .count) (r .earliest))))
 unfolding startsOf
-lent before ys posts atoms r posts′ atoms′ c = ⊎-elim few many (fits-or-not n)
+stored Said ys s r e same whole as-none c = ⊎-elim few many (fits-or-not n)
   where
     n : ℕ
     n = length ys
 
     es : List ℤ
-    es = take (r .starts .count) (r .starts .earliest)
+    es = take (r .count) (r .earliest)
 
-    few : n ≤ TASKS → RanLent before ys posts atoms (r .outcome) (r .«record») (withStarts ys es) posts′ atoms′
+    count : r .count ≡ taken n
+    count = same ∙ ap (λ (u : Starts). u .count) e
+
+    said : Said (take (startsOf ys .count) (startsOf ys .earliest)) (take (startsOf ys .count) (startsOf ys .latest)) (take (startsOf ys .count) (r .earliest))
+    said = subst (λ (u : Starts). Said (take (u .count) (u .earliest)) (take (u .count) (u .latest)) (take (u .count) (r .earliest))) e c
+
+    few : n ≤ TASKS → Said (earliests ys) (latests ys) (earliests (withStarts ys es))
     few h =
-        let e : r .starts .count ≡ n = c .same-count ∙ taken-all n h in
-        let l : length es ≡ n = ap (λ (k : ℕ). length (take k (r .starts .earliest))) e ∙ length-take-le n (r .starts .earliest) (omega (arith, c .whole)) in
-        record {
-          ran = rw (earliests-with ys es l, c .same-count) (rw (padded-all n (earliests ys) (length-map ys (λ (y : Range). y .earliest)) h, padded-all n (latests ys) (length-map ys (λ (y : Range). y .latest)) h) at (c .ran));
-          same-latest = latests-with ys es;
-        }
+        let l : length es ≡ n = ap (λ (k : ℕ). length (take k (r .earliest))) (count ∙ taken-all n h) ∙ length-take-le n (r .earliest) (omega (arith, whole)) in
+        rw (earliests-with ys es l, count) (rw (padded-all n (earliests ys) (length-map ys (λ (y : Range). y .earliest)) h, padded-all n (latests ys) (length-map ys (λ (y : Range). y .latest)) h) at said)
 
-    many : TASKS < n → RanLent before ys posts atoms (r .outcome) (r .«record») (withStarts ys es) posts′ atoms′
+    many : TASKS < n → Said (earliests ys) (latests ys) (earliests (withStarts ys es))
     many h =
-        let e : es ≡ [] = ap (λ (k : ℕ). take k (r .starts .earliest)) (c .same-count ∙ taken-none n h) in
-        let z : withStarts ys es ≡ ys = ap (withStarts ys) e ∙ with-none ys in
-        let l : length (earliests ys) ≡ n = length-map ys (λ (y : Range). y .earliest) in
-        let m : length (latests ys) ≡ n = length-map ys (λ (y : Range). y .latest) in
-        rw z (record { ran = too-many before (earliests ys) (latests ys) posts atoms _ [] posts′ atoms′ (omega arith) (m ∙ sym l) (rw (taken-none n h) at (c .ran)); same-latest = refl })
+        let z : withStarts ys es ≡ ys = ap (λ (k : ℕ). withStarts ys (take k (r .earliest))) (count ∙ taken-none n h) ∙ with-none ys in
+        rw z (as-none (omega (arith, length-map ys (λ (y : Range). y .earliest))) (rw (taken-none n h) at said))
+
+-- the run, and the pass by precedences
+pub lent : (before : Propagator) (ys : List Range) (posts atoms : List ℤ) (r : CoreRun) (posts′ atoms′ : List ℤ) → RanCore before (startsOf ys) posts atoms r posts′ atoms′
+    → RanLent before ys posts atoms (r .outcome) (r .«record») (withStarts ys (take (r .starts .count) (r .starts .earliest))) posts′ atoms′
+lent before ys posts atoms r posts′ atoms′ c = record {
+  ran = stored (λ es ls es′. Ran before es ls posts atoms (record { «record» = r .«record»; outcome = r .outcome }) es′ posts′ atoms′) ys (startsOf ys) (r .starts) refl (c .same-count) (c .whole)
+      (λ h a. too-many before (earliests ys) (latests ys) posts atoms _ [] posts′ atoms′ h (length-map ys (λ (y : Range). y .latest) ∙ sym (length-map ys (λ (y : Range). y .earliest))) a) (c .ran);
+  same-latest = latests-with ys (take (r .starts .count) (r .starts .earliest));
+}
+
+pub lent-precedences : (before : Propagator) (ys : List Range) (s : Starts) (r : CorePrecedences) → s ≡ startsOf ys → PrecedencesCore before s r → PrecedencesLent before ys (r .answer) (withStarts ys (take (r .starts .count) (r .starts .earliest)))
+lent-precedences before ys s r e c = record {
+  ran = stored (λ es ls es′. RanPrecedences before es ls (r .answer) es′) ys s (r .starts) e (c .same-count) (c .whole) (λ h a. no-precedences before (earliests ys) (latests ys) (r .answer) [] h a) (c .ran);
+  same-latest = latests-with ys (take (r .starts .count) (r .starts .earliest));
+}
 
 -- ---- calls that leave the ranges as they are
 -- what a core says of the ranges taken apart holds of the ranges; where there are too many, the core was passed none

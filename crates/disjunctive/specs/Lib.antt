@@ -1,3 +1,4 @@
 pub mod Ranges
+pub mod LentCalls
 pub mod Instances
 pub mod Examples

@@ -1,6 +1,7 @@
 // The open calls on lent data: a record, and a slice of ranges, one for each task. A run changes both, the mirrored pass the ranges, the overload test, the
 // page and the charges neither.
 // The core takes the record by value and the starts as slices of numbers; here the ranges are taken apart for it, and what it leaves is stored back.
+pub mod by_precedence;
 pub mod fixed_schedules;
 
 use charges::answer::Charges;

@@ -5,3 +5,4 @@ pub mod Passing
 pub mod Members
 pub mod Explaining
 pub mod Refusing
+pub mod Many
