@@ -1,8 +1,8 @@
--- Ranges that are taken apart into two arrays and put together again: what a turn of each loop does, and what the whole run leaves of the ranges.
+-- Ranges that are taken apart into two arrays and put together again: what a turn of each loop does, and what a call that goes by the arrays says of the ranges.
 -- Assumes nothing.
 use mathlib.Core.List.{List, [], _∷_, _++_, map, append-assoc, head-eq-of-cons-eq, tail-eq-of-cons-eq, cons-ne-nil}
 use mathlib.Core.Logic.{_⊎_, inl, inr, ⊎-elim}
-use mathlib.Core.Path.{_≡_, refl, sym, ap, _∙_}
+use mathlib.Core.Path.{_≡_, refl, sym, ap, subst, _∙_}
 use Prim.Native.Nat.{ℕ, zero, suc, _+_, _-_, _≤_, _<_}
 use native.Mathlib.Omega.{arith}
 use lib.Dec.{leb}
@@ -13,23 +13,18 @@ use borrow.Author.Tests.{le-leb, lt-leb, leb-true, leb-false}
 use Rattle.integers.proofs.Bools.{bool}
 use Rattle.integers.specs.Limits.{TASKS}
 use Rattle.records.specs.declared.record.Propagator.{Propagator}
-use Rattle.counter.specs.declared.overload_test.Overload.{Overload}
-use Rattle.counter.specs.Tested.{OverloadTested}
-use Rattle.counter.proofs.Many.{too-many as overload-too-many}
 use Rattle.propagator.specs.declared.disjunctive_propagator.Outcome.{Outcome}
 use Rattle.propagator.specs.Ran.{Ran}
 use Rattle.propagator.proofs.Many.{too-many}
-use Rattle.charges.specs.declared.answer.Charges.{Charges}
-use Rattle.charges.specs.Charging.{Charged}
-use Rattle.charges.proofs.Billing.{too-many as no-charges}
-use Rattle.pages.specs.declared.answer.Page.{Page}
-use Rattle.pages.specs.Pages.{Paged}
-use Rattle.pages.proofs.Paging.{too-many as no-page}
+use Rattle.precedences.specs.Precedences.{RanPrecedences}
+use Rattle.precedences.proofs.Many.{too-many as no-precedences}
 use Rattle.disjunctive.specs.declared.ranges.Range.{Range}
 use Rattle.disjunctive.specs.declared.ranges.Starts.{Starts}
 use Rattle.disjunctive.specs.declared.ranges.CoreRun.{CoreRun}
+use Rattle.disjunctive.specs.declared.ranges.by_precedence.CorePrecedences.{CorePrecedences}
 use Rattle.disjunctive.specs.Ranges.{earliests, latests, RanCore, taken, padded, startsOf, withStarts}
 use Rattle.disjunctive.specs.RanLent.{RanLent}
+use Rattle.disjunctive.specs.LentCalls.{PrecedencesLent, PrecedencesCore}
 use Rattle.disjunctive.proofs.Promising.{promised}
 
 -- what a list of ranges is read to hold past its end
@@ -142,60 +137,68 @@ kept before ys posts atoms answer after zs posts′ atoms′ ran same = record {
   accepted = λ z. record { promise = promised before after ys zs posts atoms posts′ atoms′ answer (ran .accepted z) same; left = ran .accepted z .left };
 }
 
--- what the core leaves of the ranges taken apart is, put together, what the open run leaves; where there are too many, the core was passed none
-pub lent : (before : Propagator) (ys : List Range) (posts atoms : List ℤ) (r : CoreRun) (posts′ atoms′ : List ℤ) → RanCore before (startsOf ys) posts atoms r posts′ atoms′
-    → RanLent before ys posts atoms (r .outcome) (r .«record») (withStarts ys (take (r .starts .count) (r .starts .earliest))) posts′ atoms′
+-- ---- calls that store earliest starts
+-- what a core says of the ranges taken apart and of the earliest starts that it leaves holds of the ranges before and after; where there are too many, the core was passed none
+pub stored : (Said : List ℤ → List ℤ → List ℤ → Type 0) (ys : List Range) (s r : Starts) → s ≡ startsOf ys → r .count ≡ s .count → length (r .earliest) ≡ TASKS
+    → (TASKS < length (earliests ys) → Said [] [] [] → Said (earliests ys) (latests ys) (earliests ys))
+    → Said (take (s .count) (s .earliest)) (take (s .count) (s .latest)) (take (s .count) (r .earliest)) → Said (earliests ys) (latests ys) (earliests (withStarts ys (take (r .count) (r .earliest))))
 unfolding startsOf
-lent before ys posts atoms r posts′ atoms′ c = ⊎-elim few many (fits-or-not n)
+stored Said ys s r e same whole as-none c = ⊎-elim few many (fits-or-not n)
   where
     n : ℕ
     n = length ys
 
     es : List ℤ
-    es = take (r .starts .count) (r .starts .earliest)
+    es = take (r .count) (r .earliest)
 
-    few : n ≤ TASKS → RanLent before ys posts atoms (r .outcome) (r .«record») (withStarts ys es) posts′ atoms′
+    count : r .count ≡ taken n
+    count = same ∙ ap (λ (u : Starts). u .count) e
+
+    said : Said (take (startsOf ys .count) (startsOf ys .earliest)) (take (startsOf ys .count) (startsOf ys .latest)) (take (startsOf ys .count) (r .earliest))
+    said = subst (λ (u : Starts). Said (take (u .count) (u .earliest)) (take (u .count) (u .latest)) (take (u .count) (r .earliest))) e c
+
+    few : n ≤ TASKS → Said (earliests ys) (latests ys) (earliests (withStarts ys es))
     few h =
-        let e : r .starts .count ≡ n = c .same-count ∙ taken-all n h in
-        let l : length es ≡ n = ap (λ (k : ℕ). length (take k (r .starts .earliest))) e ∙ length-take-le n (r .starts .earliest) (omega (arith, c .whole)) in
-        kept before ys posts atoms (r .outcome) (r .«record») (withStarts ys es) posts′ atoms′
-        (rw (earliests-with ys es l, c .same-count) (rw (padded-all n (earliests ys) (length-map ys (λ (y : Range). y .earliest)) h, padded-all n (latests ys) (length-map ys (λ (y : Range). y .latest)) h) at (c .ran)))
-        (latests-with ys es)
+        let l : length es ≡ n = ap (λ (k : ℕ). length (take k (r .earliest))) (count ∙ taken-all n h) ∙ length-take-le n (r .earliest) (omega (arith, whole)) in
+        rw (earliests-with ys es l, count) (rw (padded-all n (earliests ys) (length-map ys (λ (y : Range). y .earliest)) h, padded-all n (latests ys) (length-map ys (λ (y : Range). y .latest)) h) at said)
 
-    many : TASKS < n → RanLent before ys posts atoms (r .outcome) (r .«record») (withStarts ys es) posts′ atoms′
+    many : TASKS < n → Said (earliests ys) (latests ys) (earliests (withStarts ys es))
     many h =
-        let e : es ≡ [] = ap (λ (k : ℕ). take k (r .starts .earliest)) (c .same-count ∙ taken-none n h) in
-        let z : withStarts ys es ≡ ys = ap (withStarts ys) e ∙ with-none ys in
-        let l : length (earliests ys) ≡ n = length-map ys (λ (y : Range). y .earliest) in
-        let m : length (latests ys) ≡ n = length-map ys (λ (y : Range). y .latest) in
-        rw z (kept before ys posts atoms (r .outcome) (r .«record») ys posts′ atoms′ (too-many before (earliests ys) (latests ys) posts atoms _ [] posts′ atoms′ (omega arith) (m ∙ sym l) (rw (taken-none n h) at (c .ran))) refl)
+        let z : withStarts ys es ≡ ys = ap (λ (k : ℕ). withStarts ys (take k (r .earliest))) (count ∙ taken-none n h) ∙ with-none ys in
+        rw z (as-none (omega (arith, length-map ys (λ (y : Range). y .earliest))) (rw (taken-none n h) at said))
+
+-- the run, and the pass by precedences
+pub lent : (before : Propagator) (ys : List Range) (posts atoms : List ℤ) (r : CoreRun) (posts′ atoms′ : List ℤ) → RanCore before (startsOf ys) posts atoms r posts′ atoms′
+    → RanLent before ys posts atoms (r .outcome) (r .«record») (withStarts ys (take (r .starts .count) (r .starts .earliest))) posts′ atoms′
+lent before ys posts atoms r posts′ atoms′ c = kept before ys posts atoms (r .outcome) (r .«record») (withStarts ys (take (r .starts .count) (r .starts .earliest))) posts′ atoms′
+    (stored (λ es ls es′. Ran before es ls posts atoms (record { «record» = r .«record»; outcome = r .outcome }) es′ posts′ atoms′) ys (startsOf ys) (r .starts) refl (c .same-count) (c .whole)
+    (λ h a. too-many before (earliests ys) (latests ys) posts atoms _ [] posts′ atoms′ h (length-map ys (λ (y : Range). y .latest) ∙ sym (length-map ys (λ (y : Range). y .earliest))) a) (c .ran))
+    (latests-with ys (take (r .starts .count) (r .starts .earliest)))
+
+pub lent-precedences : (before : Propagator) (ys : List Range) (s : Starts) (r : CorePrecedences) → s ≡ startsOf ys → PrecedencesCore before s r → PrecedencesLent before ys (r .answer) (withStarts ys (take (r .starts .count) (r .starts .earliest)))
+lent-precedences before ys s r e c = record {
+  ran = stored (λ es ls es′. RanPrecedences before es ls (r .answer) es′) ys s (r .starts) e (c .same-count) (c .whole) (λ h a. no-precedences before (earliests ys) (latests ys) (r .answer) [] h a) (c .ran);
+  same-latest = latests-with ys (take (r .starts .count) (r .starts .earliest));
+}
 
 -- ---- calls that leave the ranges as they are
 -- what a core says of the ranges taken apart holds of the ranges; where there are too many, the core was passed none
-apart : (Said : List ℤ → List ℤ → Type 0) (ys : List Range) → (TASKS < length (earliests ys) → Said [] [] → Said (earliests ys) (latests ys))
-    → Said (take (startsOf ys .count) (startsOf ys .earliest)) (take (startsOf ys .count) (startsOf ys .latest)) → Said (earliests ys) (latests ys)
+pub apart : (Said : List ℤ → List ℤ → Type 0) (ys : List Range) (s : Starts) → s ≡ startsOf ys → (TASKS < length (earliests ys) → Said [] [] → Said (earliests ys) (latests ys))
+    → Said (take (s .count) (s .earliest)) (take (s .count) (s .latest)) → Said (earliests ys) (latests ys)
 unfolding startsOf
-apart Said ys as-none c = ⊎-elim few many (fits-or-not n)
+apart Said ys s e as-none c = ⊎-elim few many (fits-or-not n)
   where
     n : ℕ
     n = length ys
 
+    said : Said (take (startsOf ys .count) (startsOf ys .earliest)) (take (startsOf ys .count) (startsOf ys .latest))
+    said = subst (λ (u : Starts). Said (take (u .count) (u .earliest)) (take (u .count) (u .latest))) e c
+
     few : n ≤ TASKS → Said (earliests ys) (latests ys)
-    few h = rw (padded-all n (earliests ys) (length-map ys (λ (y : Range). y .earliest)) h, padded-all n (latests ys) (length-map ys (λ (y : Range). y .latest)) h) at c
+    few h = rw (padded-all n (earliests ys) (length-map ys (λ (y : Range). y .earliest)) h, padded-all n (latests ys) (length-map ys (λ (y : Range). y .latest)) h) at said
 
     many : TASKS < n → Said (earliests ys) (latests ys)
-    many h = as-none (omega (arith, length-map ys (λ (y : Range). y .earliest))) (rw (taken-none n h) at c)
-
--- the overload test, the page, the charges
-pub lent-test : (before : Propagator) (ys : List Range) (s : Starts) (r : Overload) → s ≡ startsOf ys → OverloadTested before (take (s .count) (s .earliest)) (take (s .count) (s .latest)) r → OverloadTested before (earliests ys) (latests ys) r
-lent-test before ys s r e t = apart (λ es ls. OverloadTested before es ls r) ys (overload-too-many before (earliests ys) (latests ys) r) (rw e at t)
-
-pub paged : (before : Propagator) (ys : List Range) (out : List ℕ) (p : Page) (out′ : List ℕ) → Paged before (take (startsOf ys .count) (startsOf ys .earliest)) (take (startsOf ys .count) (startsOf ys .latest)) out p out′
-    → Paged before (earliests ys) (latests ys) out p out′
-paged before ys out p out′ c = apart (λ es ls. Paged before es ls out p out′) ys (no-page before (earliests ys) (latests ys) out p out′) c
-
-pub charged : (before : Propagator) (ys : List Range) (due : List ℤ) (s : Starts) (r : Charges) → s ≡ startsOf ys → Charged before (take (s .count) (s .earliest)) (take (s .count) (s .latest)) due r → Charged before (earliests ys) (latests ys) due r
-charged before ys due s r e t = apart (λ es ls. Charged before es ls due r) ys (no-charges before (earliests ys) (latests ys) due r) (rw e at t)
+    many h = as-none (omega (arith, length-map ys (λ (y : Range). y .earliest))) (rw (taken-none n h) at said)
 
 -- starts that have the count of the ranges taken apart fit an array, and the ranges
 pub starts-fit : (ys : List Range) (s r : Starts) → s ≡ startsOf ys → r .count ≡ s .count → (r .count ≤ TASKS) × (r .count ≤ length ys)

@@ -1,11 +1,13 @@
-// The open calls on lent data: a record, and a slice of ranges, one for each task. A run changes both, the mirrored pass the ranges, the overload test, the
-// page and the charges neither.
+// The open calls on lent data: a record, and a slice of ranges, one for each task. Here are the run, which changes both, the mirrored pass, which changes the
+// ranges, and the overload test, which changes neither; below, the calls by precedences and those on a fixed schedule.
+// A call takes the record as `&mut` where it changes it, else as `&`.
 // The core takes the record by value and the starts as slices of numbers; here the ranges are taken apart for it, and what it leaves is stored back.
-use charges::answer::Charges;
+pub mod by_precedence;
+pub mod fixed_schedules;
+
 use counter::overload_test::Overload;
 use integers::limits::TASKS;
 use mirrored::mirrored_propagator::propagate_mirrored;
-use pages::answer::Page;
 use propagator::disjunctive_propagator::Outcome;
 use propagator::disjunctive_propagator::propagate;
 use records::record::Propagator;
@@ -14,8 +16,6 @@ ghost use Prim.Native.Nat.{_≤_};
 ghost use lib.ListN.{length, take};
 ghost use Rattle.integers.specs.Limits.{TASKS};
 ghost use Rattle.counter.specs.Tested.{OverloadTested};
-ghost use Rattle.charges.specs.Charging.{Charged};
-ghost use Rattle.pages.specs.Pages.{Paged};
 ghost use Rattle.disjunctive.specs.Ranges.{earliests, latests, RanCore, RanMirroredCore, taken, startsOf, withStarts, withLatest};
 ghost use Rattle.disjunctive.specs.RanLent.{RanLent, RanMirroredLent};
 
@@ -167,17 +167,17 @@ fn mirrored_core(
     }
 }
 
-// Latest starts fall in the ranges; no earliest start changes. The record is read only.
+// Latest starts fall in the ranges; no earliest start changes.
 pub fn run_mirrored(
-    propagator: Propagator,
+    propagator: &Propagator,
     ranges: &mut [Range],
     posts: &mut [i32],
     atoms: &mut [i32],
 ) -> Outcome
-    ensures { λ r. ⌜ RanMirroredLent propagator (now (ranges .entry)) (now (posts .entry)) (now (atoms .entry)) r (now (ranges .exit)) (now (posts .exit)) (now (atoms .exit)) ⌝ }
+    ensures { λ r. ⌜ RanMirroredLent (now (propagator .entry)) (now (ranges .entry)) (now (posts .entry)) (now (atoms .entry)) r (now (ranges .exit)) (now (posts .exit)) (now (atoms .exit)) ⌝ }
 {
     let starts = starts_of(ranges);
-    let ran = mirrored_core(propagator, starts, posts, atoms);
+    let ran = mirrored_core(*propagator, starts, posts, atoms);
     store_latest(ranges, ran.starts);
     ran.outcome
 }
@@ -199,42 +199,4 @@ pub fn overload_test(propagator: &Propagator, ranges: &[Range]) -> Overload
 {
     let starts = starts_of(ranges);
     overload_core(*propagator, starts)
-}
-
-// The page of the first `count` places of the arrays.
-fn page_core(record: Propagator, starts: Starts, out: &mut [u8]) -> Page
-    requires { ⌜ starts .count ≤ TASKS ⌝ }
-    ensures { λ r. ⌜ Paged «record» (take (starts .count) (starts .earliest)) (take (starts .count) (starts .latest)) (now (out .entry)) r (now (out .exit)) ⌝ }
-{
-    let n = starts.count;
-    let earliest = starts.earliest;
-    let latest = starts.latest;
-    pages::page::page(record, &earliest[..n], &latest[..n], out)
-}
-
-// The page of a fixed schedule, on lent ranges. The record is looked at alone, so it is taken by value.
-pub fn page(propagator: Propagator, ranges: &[Range], out: &mut [u8]) -> Page
-    ensures { λ r. ⌜ Paged propagator (earliests (now (ranges .entry))) (latests (now (ranges .entry))) (now (out .entry)) r (now (out .exit)) ⌝ }
-{
-    let starts = starts_of(ranges);
-    page_core(propagator, starts, out)
-}
-
-// The charges of the first `count` places of the arrays.
-fn charges_core(record: Propagator, starts: Starts, due: &[i32]) -> Charges
-    requires { ⌜ starts .count ≤ TASKS ⌝ }
-    ensures { λ r. ⌜ Charged «record» (take (starts .count) (starts .earliest)) (take (starts .count) (starts .latest)) (now (due .entry)) r ⌝ }
-{
-    let n = starts.count;
-    let earliest = starts.earliest;
-    let latest = starts.latest;
-    charges::charging::charges(record, &earliest[..n], &latest[..n], due)
-}
-
-// The charges of a fixed schedule, on lent ranges. The record is looked at alone, so it is taken by value.
-pub fn charges(propagator: Propagator, ranges: &[Range], due: &[i32]) -> Charges
-    ensures { λ r. ⌜ Charged propagator (earliests (now (ranges .entry))) (latests (now (ranges .entry))) (now (due .entry)) r ⌝ }
-{
-    let starts = starts_of(ranges);
-    charges_core(propagator, starts, due)
 }

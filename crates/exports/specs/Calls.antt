@@ -1,9 +1,14 @@
 -- What the exported calls answer: the numbers of what the open calls of their names answer, which keep their contracts.
-use mathlib.Core.List.{List, []}
+use mathlib.Core.Bool.{Bool, _&&_}
+use mathlib.Core.List.{List, [], _∷_}
 use mathlib.Core.Path.{_≡_}
 use Prim.Native.Nat.{ℕ, zero, suc, _+_, _*_}
+use lib.Dec.{leb}
 use lib.IntN.{ℤ, pos}
-use lib.ListN.{getD}
+use lib.ListN.{length, getD}
+use Rattle.integers.specs.Answers.{Answer, refusedBy}
+use Rattle.integers.specs.Limits.{PREMISES}
+use Rattle.integers.specs.Tests.{Test, test, refusal}
 use Rattle.records.specs.declared.record.Propagator.{Propagator}
 use Rattle.records.specs.Records.{creationNumber, created}
 use Rattle.records.specs.Posts.{stretchStart, stretchLength, postNumber}
@@ -11,10 +16,14 @@ use Rattle.checking.specs.declared.variable_state.VariableState.{VariableState}
 use Rattle.checking.specs.declared.variable_state.Application.{Application}
 use Rattle.checking.specs.declared.variable_state.Application.the-variants as application
 use Rattle.checking.specs.declared.variable_state.Applied.{Applied}
+use Rattle.checking.specs.Answers.{applicationNumbers, truthNumbers, boundNumbers}
+use Rattle.checking.specs.Atoms.{rightVariable, rightAtom, rightWords}
 use Rattle.checking.specs.States.{prepared, truthOf, boundOf, lowerOf, upperOf}
 use Rattle.checker.specs.declared.checker.Verdict.{Verdict}
 use Rattle.checker.specs.Checks.{Checked}
+use Rattle.checker.specs.Verdicts.{verdictNumbers}
 use Rattle.propagator.specs.declared.disjunctive_propagator.Outcome.{Outcome}
+use Rattle.propagator.specs.Outcomes.{outcomeNumbers}
 use Rattle.disjunctive.specs.declared.ranges.Range.{Range}
 use Rattle.disjunctive.specs.RanLent.{RanLent}
 use Rattle.exports.specs.declared.answers.NewPropagator.{NewPropagator}
@@ -22,7 +31,7 @@ use Rattle.exports.specs.declared.answers.RunAnswer.{RunAnswer}
 use Rattle.exports.specs.declared.answers.PostAnswer.{PostAnswer}
 use Rattle.exports.specs.declared.answers.CheckAnswer.{CheckAnswer}
 use Rattle.exports.specs.declared.answers.StateAnswer.{StateAnswer}
-use Rattle.exports.specs.Answers.{outcomeNumbers, verdictNumbers, contradictionNumbers, refusalNumbers, truthNumbers, boundNumbers}
+use Rattle.exports.specs.Answers.{runAnswer, checkAnswer, stateAnswer}
 
 -- creation: the record and its answer's number
 abbrev pub newNumbers : List ℤ → NewPropagator
@@ -31,7 +40,7 @@ newNumbers ds = record { propagator = created ds .«record»; number = creationN
 -- A run: what the open run leaves, and the numbers of its outcome.
 pub record RanNumbers (before : Propagator) (ranges : List Range) (posts atoms : List ℤ) (answer : RunAnswer) (after : Propagator) (ranges′ : List Range) (posts′ atoms′ : List ℤ) : Type 0 where
   pub outcome : Outcome
-  pub numbers : answer ≡ outcomeNumbers outcome
+  pub numbers : answer ≡ runAnswer (outcomeNumbers outcome)
   pub ran : RanLent before ranges posts atoms outcome after ranges′ posts′ atoms′
 
 -- the post reader: a post's two words and its stretch, in words; nothing but the number where that is 11
@@ -51,23 +60,33 @@ postNumbers posts atoms count index = postAt (postNumber posts atoms count index
 -- A check: the numbers of a verdict, which is the check's.
 pub record CheckedNumbers (ds premises consequent : List ℤ) (answer : CheckAnswer) : Type 0 where
   pub verdict : Verdict
-  pub numbers : answer ≡ verdictNumbers verdict
+  pub numbers : answer ≡ checkAnswer (verdictNumbers verdict)
   pub checked : Checked ds premises consequent verdict
 
--- what a question to the state that premises lead to answers: `here`, unless they lead to none
+-- A question to the state that premises lead to ---------------------------------------------------------------------------------
+
+-- its tests over the whole input: 7, then 6, of the premises' words and of the question's own
+abbrev pub questionTests : List ℤ → Bool → List Test
+questionTests premises right = test 7 (leb (length premises) (3 * PREMISES + 2)) ∷ test 6 (rightWords premises && right) ∷ []
+
+-- what the state says, unless the premises lead to none: 21 or a contradiction
 abbrev pub askedAt : Application → StateAnswer → StateAnswer
 askedAt application.Consistent here = here
-askedAt (application.Contradiction x) here = contradictionNumbers x
-askedAt (application.Refused n) here = refusalNumbers n
+askedAt (application.Contradiction x) here = stateAnswer (applicationNumbers (application.Contradiction x))
+askedAt (application.Refused n) here = stateAnswer (applicationNumbers (application.Refused n))
 
-abbrev pub asked : (VariableState → StateAnswer) → Applied → StateAnswer
-asked question applied = askedAt (applied .answer) (question (applied .state))
+abbrev pub askedAfter : ℕ → Applied → (VariableState → Answer) → StateAnswer
+askedAfter zero applied question = askedAt (applied .answer) (stateAnswer (question (applied .state)))
+askedAfter (suc n) applied question = stateAnswer (refusedBy (suc n))
+
+abbrev pub asked : List ℤ → Bool → (VariableState → Answer) → StateAnswer
+asked premises right question = askedAfter (refusal (questionTests premises right)) (prepared premises []) question
 
 abbrev pub truthAfter : List ℤ → ℤ → ℤ → ℤ → StateAnswer
-truthAfter premises x k v = asked (λ s. truthNumbers (truthOf s x k v)) (prepared premises [])
+truthAfter premises x k v = asked premises (rightAtom x k v) (λ s. truthNumbers (truthOf s x k v))
 
 abbrev pub lowerAfter : List ℤ → ℤ → StateAnswer
-lowerAfter premises x = asked (λ s. boundNumbers (boundOf lowerOf s x)) (prepared premises [])
+lowerAfter premises x = asked premises (rightVariable x) (λ s. boundNumbers (boundOf lowerOf s x))
 
 abbrev pub upperAfter : List ℤ → ℤ → StateAnswer
-upperAfter premises x = asked (λ s. boundNumbers (boundOf upperOf s x)) (prepared premises [])
+upperAfter premises x = asked premises (rightVariable x) (λ s. boundNumbers (boundOf upperOf s x))

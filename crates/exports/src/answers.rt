@@ -8,8 +8,14 @@ use propagator::disjunctive_propagator::Outcome;
 use records::record::Creation;
 use records::record::Propagator;
 ghost use mathlib.Core.Path.{_≡_};
+ghost use mathlib.Core.List.{[], _∷_};
+ghost use lib.IntN.{pos};
+ghost use Rattle.integers.specs.Answers.{answered, refusedBy};
 ghost use Rattle.records.specs.Records.{creationNumber};
-ghost use Rattle.exports.specs.Answers.{outcomeNumbers, verdictNumbers, truthNumbers, extNumbers, boundNumbers, contradictionNumbers, refusalNumbers};
+ghost use Rattle.checking.specs.Answers.{truthNumbers, extNumbers, boundNumbers};
+ghost use Rattle.checker.specs.Verdicts.{verdictNumbers};
+ghost use Rattle.propagator.specs.Outcomes.{outcomeNumbers};
+ghost use Rattle.exports.specs.Answers.{runAnswer, checkAnswer, stateAnswer};
 ghost use Rattle.exports.specs.Calls.{askedAt};
 
 // A new record, and the number that turned its durations back, or 0.
@@ -71,75 +77,57 @@ pub fn creation_number(answer: Creation) -> u32
 
 // The numbers of a run's outcome.
 pub fn outcome_numbers(outcome: Outcome) -> RunAnswer
-    ensures { λ r. ⌜ r ≡ outcomeNumbers outcome ⌝ }
+    ensures { λ r. ⌜ r ≡ runAnswer (outcomeNumbers outcome) ⌝ }
 {
     match outcome {
-        Outcome::Done(posts) => RunAnswer {
-            kind: 0,
-            number: 0,
-            posts,
-            first: 0,
-            count: 0,
-        },
+        Outcome::Done(posts) => run_answer(0, 0, posts, 0, 0),
         Outcome::Overload {
             posts,
             first,
             count,
-        } => RunAnswer {
-            kind: 1,
-            number: 0,
-            posts,
-            first,
-            count,
-        },
-        Outcome::Emptied(posts) => RunAnswer {
-            kind: 2,
-            number: 0,
-            posts,
-            first: 0,
-            count: 0,
-        },
-        Outcome::Refused(number) => RunAnswer {
-            kind: 3,
-            number,
-            posts: 0,
-            first: 0,
-            count: 0,
-        },
+        } => run_answer(1, 0, posts, first, count),
+        Outcome::Emptied(posts) => run_answer(2, 0, posts, 0, 0),
+        Outcome::Refused(number) => run_answer(3, number, 0, 0, 0),
+    }
+}
+
+fn run_answer(kind: u32, number: u32, posts: usize, first: usize, count: usize) -> RunAnswer
+    ensures { λ r. ⌜ r ≡ record { kind = kind; number = number; posts = posts; first = first; count = count } ⌝ }
+{
+    RunAnswer {
+        kind,
+        number,
+        posts,
+        first,
+        count,
     }
 }
 
 // The numbers of a check's verdict.
 pub fn verdict_numbers(verdict: Verdict) -> CheckAnswer
-    ensures { λ r. ⌜ r ≡ verdictNumbers verdict ⌝ }
+    ensures { λ r. ⌜ r ≡ checkAnswer (verdictNumbers verdict) ⌝ }
 {
     match verdict {
-        Verdict::Passed => CheckAnswer {
-            kind: 0,
-            number: 0,
-            variable: 0,
-        },
-        Verdict::NotPassed => CheckAnswer {
-            kind: 1,
-            number: 0,
-            variable: 0,
-        },
-        Verdict::Contradiction(variable) => CheckAnswer {
-            kind: 2,
-            number: 0,
-            variable,
-        },
-        Verdict::Refused(number) => CheckAnswer {
-            kind: 3,
-            number,
-            variable: 0,
-        },
+        Verdict::Passed => check_answer(0, 0, 0),
+        Verdict::NotPassed => check_answer(1, 0, 0),
+        Verdict::Contradiction(variable) => check_answer(2, 0, variable),
+        Verdict::Refused(number) => check_answer(3, number, 0),
+    }
+}
+
+fn check_answer(kind: u32, number: u32, variable: usize) -> CheckAnswer
+    ensures { λ r. ⌜ r ≡ record { kind = kind; number = number; variable = variable } ⌝ }
+{
+    CheckAnswer {
+        kind,
+        number,
+        variable,
     }
 }
 
 // The atoms that were to lead to a state contradict each other.
 fn contradiction_numbers(variable: usize) -> StateAnswer
-    ensures { λ r. ⌜ r ≡ contradictionNumbers variable ⌝ }
+    ensures { λ r. ⌜ r ≡ stateAnswer (answered 2 (pos variable ∷ [])) ⌝ }
 {
     StateAnswer {
         kind: 2,
@@ -150,9 +138,9 @@ fn contradiction_numbers(variable: usize) -> StateAnswer
     }
 }
 
-// They, or the query, are turned back.
-fn refusal_numbers(number: u32) -> StateAnswer
-    ensures { λ r. ⌜ r ≡ refusalNumbers number ⌝ }
+// They, or the question, are turned back.
+pub fn refusal_numbers(number: u32) -> StateAnswer
+    ensures { λ r. ⌜ r ≡ stateAnswer (refusedBy number) ⌝ }
 {
     StateAnswer {
         kind: 3,
@@ -165,7 +153,7 @@ fn refusal_numbers(number: u32) -> StateAnswer
 
 // Whether the atom is true.
 pub fn truth_numbers(truth: Truth) -> StateAnswer
-    ensures { λ r. ⌜ r ≡ truthNumbers truth ⌝ }
+    ensures { λ r. ⌜ r ≡ stateAnswer (truthNumbers truth) ⌝ }
 {
     match truth {
         Truth::True => StateAnswer {
@@ -188,7 +176,7 @@ pub fn truth_numbers(truth: Truth) -> StateAnswer
 
 // A bound that is there.
 fn ext_numbers(bound: IntExt) -> StateAnswer
-    ensures { λ r. ⌜ r ≡ extNumbers bound ⌝ }
+    ensures { λ r. ⌜ r ≡ stateAnswer (extNumbers bound) ⌝ }
 {
     match bound {
         IntExt::Int(value) => StateAnswer {
@@ -217,7 +205,7 @@ fn ext_numbers(bound: IntExt) -> StateAnswer
 
 // The numbers of a bound.
 pub fn bound_numbers(bound: Bound) -> StateAnswer
-    ensures { λ r. ⌜ r ≡ boundNumbers bound ⌝ }
+    ensures { λ r. ⌜ r ≡ stateAnswer (boundNumbers bound) ⌝ }
 {
     match bound {
         Bound::At(x) => ext_numbers(x),

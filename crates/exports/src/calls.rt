@@ -7,24 +7,30 @@ use crate::answers::StateAnswer;
 use crate::answers::bound_numbers;
 use crate::answers::creation_number;
 use crate::answers::outcome_numbers;
+use crate::answers::refusal_numbers;
 use crate::answers::state_numbers;
 use crate::answers::truth_numbers;
 use crate::answers::verdict_numbers;
 use checker::checker::check;
+use checking::atomic_constraint::atom_is_accepted;
+use checking::atomic_constraint::variable_is_accepted;
 use checking::variable_state::VariableState;
 use disjunctive::ranges::Range;
 use disjunctive::ranges::run;
+use integers::limits::PREMISES;
 use integers::nat_of;
 use records::posts::post_number;
 use records::record::Propagator;
 use records::record::create;
 ghost use mathlib.Core.Path.{_≡_};
+ghost use mathlib.Core.Bool.{false};
 ghost use Prim.Native.Nat.{_+_, _*_, _≤_};
 ghost use lib.IntN.{pos};
 ghost use lib.ListN.{length};
 ghost use lib.Signed.{_≤ℤ_};
+ghost use Rattle.integers.specs.Tests.{refusal};
 ghost use Rattle.records.specs.Posts.{firstAtom, atomCount};
-ghost use Rattle.exports.specs.Calls.{newNumbers, readPost, postNumbers, RanNumbers, CheckedNumbers, truthAfter, lowerAfter, upperAfter};
+ghost use Rattle.exports.specs.Calls.{newNumbers, readPost, postNumbers, RanNumbers, CheckedNumbers, questionTests, truthAfter, lowerAfter, upperAfter};
 
 // A record of the durations, or the record of zeros with the number that turned them back.
 #[no_mangle]
@@ -103,6 +109,16 @@ pub extern "C" fn reedgrit_check(
     verdict_numbers(check(durations, premises, consequent))
 }
 
+// The number of a question whose own words are not accepted: more premises than there may be come first.
+fn unfit_number(premises: &[i32]) -> u32
+    ensures { λ r. ⌜ r ≡ refusal (questionTests (now (premises .entry)) false) ⌝ }
+{
+    if 3 * PREMISES + 2 < premises.len() {
+        return 7;
+    }
+    6
+}
+
 // Whether every value that the premises leave to a variable meets the atom (variable, kind, value).
 #[no_mangle]
 pub extern "C" fn reedgrit_is_true(
@@ -113,6 +129,9 @@ pub extern "C" fn reedgrit_is_true(
 ) -> StateAnswer
     ensures { λ r. ⌜ r ≡ truthAfter (now (premises .entry)) variable kind value ⌝ }
 {
+    if !atom_is_accepted(variable, kind, value) {
+        return refusal_numbers(unfit_number(premises));
+    }
     let applied = VariableState::prepare_for_conflict_check(premises, &premises[..0]);
     let here = truth_numbers(applied.state.is_true(variable, kind, value));
     let answer = applied.answer;
@@ -124,6 +143,9 @@ pub extern "C" fn reedgrit_is_true(
 pub extern "C" fn reedgrit_lower_bound(premises: &[i32], variable: i32) -> StateAnswer
     ensures { λ r. ⌜ r ≡ lowerAfter (now (premises .entry)) variable ⌝ }
 {
+    if !variable_is_accepted(variable) {
+        return refusal_numbers(unfit_number(premises));
+    }
     let applied = VariableState::prepare_for_conflict_check(premises, &premises[..0]);
     let here = bound_numbers(applied.state.lower_bound(variable));
     let answer = applied.answer;
@@ -135,6 +157,9 @@ pub extern "C" fn reedgrit_lower_bound(premises: &[i32], variable: i32) -> State
 pub extern "C" fn reedgrit_upper_bound(premises: &[i32], variable: i32) -> StateAnswer
     ensures { λ r. ⌜ r ≡ upperAfter (now (premises .entry)) variable ⌝ }
 {
+    if !variable_is_accepted(variable) {
+        return refusal_numbers(unfit_number(premises));
+    }
     let applied = VariableState::prepare_for_conflict_check(premises, &premises[..0]);
     let here = bound_numbers(applied.state.upper_bound(variable));
     let answer = applied.answer;

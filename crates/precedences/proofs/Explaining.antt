@@ -3,7 +3,7 @@
 use mathlib.Core.Path.{_≡_, refl, sym, ap, subst, _∙_}
 use mathlib.Core.Bool.{Bool, true, false}
 use mathlib.Core.List.{List, [], _∷_}
-use mathlib.Core.Option.{some}
+use mathlib.Core.Option.{Option}
 use Prim.Native.Nat.{ℕ, _+_, _*_, _≤_, _<_}
 use native.Mathlib.Omega.{arith}
 use native.Mathlib.Decide.{decLt}
@@ -31,13 +31,13 @@ use Rattle.records.proofs.Accepting.{count, proper-whole, above}
 use Rattle.precedences.specs.declared.answers.Reason.{Reason}
 use Rattle.precedences.specs.declared.answers.Reason.the-variants.{Written}
 use Rattle.precedences.specs.Numbers.{reasonNumbers}
-use Rattle.precedences.specs.Precedences.{predecessors, PrecedenceBound}
+use Rattle.precedences.specs.Precedences.{predecessors, AllBefore, PrecedenceBound}
 use Rattle.precedences.specs.Reasons.{atLeast, atMost, bothOf, bothBounds, reasonOf, Raises, Explained, AcceptedReason, reasonNumber, ReasonGiven}
 use Rattle.precedences.specs.Holding.{precedesAt, comesBefore, boundAt, startAt, memberAt, Ranged, reasonAt, ReasonLeft}
 use Rattle.precedences.proofs.Bounding.{high, same-tasks, raises, raises-not}
 use Rattle.precedences.proofs.Members.{both-none, fewer, every-member, member-every, both-same}
 use Rattle.precedences.proofs.Ranging.{chosen}
-use Rattle.precedences.proofs.Soundness.{bound-holds}
+use Rattle.precedences.proofs.Soundness.{all-before, bound-holds}
 
 -- one atom in the slice
 pub atom-stored : {l m : List ℤ} {k : ℕ} (a : Atom) → m ≡ sets l (3 * k) (pos (a .variable) ∷ pos (a .kind) ∷ a .value ∷ []) → Stored l m k (k + 1) (a ∷ [])
@@ -70,17 +70,24 @@ module _ (J : Tasks whole) (i : ℕ) (q : i < J .count) where
   holds : HoldsAtEntry J (reasonOf J i)
   holds s h = (h i q .0, member-every (J .earliest) (J .latest) P (Meets s) (J .count) (λ k r _. h k r))
 
-  module _ (lasts : (k : ℕ) → k < J .count → 1 ≤ J .duration k) (b : ℤ) (e : PrecedenceBound J i b) (s : ℕ → ℤ) where
-    sound : Contradicts J (reasonOf J i) (some (atLeast i b)) s → ⊥
-    sound c = c .consequent-not (bound-holds J lasts s (c .apart) i q (c .premises-met .0 q) ranges b e)
-      where
-        ranges : (k : ℕ) → In J P k → (J .earliest k ≤ℤ s k) × (s k ≤ℤ J .latest k)
-        ranges k h = let w = every-member (J .earliest) (J .latest) P (λ a. a .variable < J .count → Meets s a) (J .count) (c .premises-met .1) k (h .small) (h .mem) in (w .0 (h .small), w .1 (h .small))
+  -- starts that meet the reason
+  module _ (s : ℕ → ℤ) {a : Option Atom} (c : Contradicts J (reasonOf J i) a s) where
+    from : J .earliest i ≤ℤ s i
+    from = c .premises-met .0 q
+
+    ranges : (k : ℕ) → In J P k → (J .earliest k ≤ℤ s k) × (s k ≤ℤ J .latest k)
+    ranges k h = let w = every-member (J .earliest) (J .latest) P (λ a. a .variable < J .count → Meets s a) (J .count) (c .premises-met .1) k (h .small) (h .mem) in (w .0 (h .small), w .1 (h .small))
+
+    first : AllBefore J i s
+    first = all-before J s (c .apart) i q from (λ k h. ranges k h .1)
+
+    bounded : ((k : ℕ) → k < J .count → 1 ≤ J .duration k) → (b : ℤ) → PrecedenceBound J i b → b ≤ℤ s i
+    bounded lasts = bound-holds J lasts s (c .apart) i q from ranges
 
   -- the contract from what stands in the words
   pub explained : ((k : ℕ) → k < J .count → 1 ≤ J .duration k) → (ws : List ℤ) (r : Reason) (ws′ : List ℤ)
       → (Raises J i → (reasonNumbers r ≡ answered 0 (pos (length (reasonOf J i)) ∷ [])) × (ws′ ≡ overwritten ws (atomWords (reasonOf J i)))) → ((Raises J i → ⊥) → (reasonNumbers r ≡ answered 0 (pos 0 ∷ [])) × (ws′ ≡ ws)) → Explained J i ws r ws′
-  explained lasts ws r ws′ w n = record { written = w; nothing = n; few = few; holds = holds; sound = λ b e s. sound lasts b e s }
+  explained lasts ws r ws′ w n = record { written = w; nothing = n; few = few; holds = holds; before = λ s c. first s c; sound = λ b e s c. c .consequent-not (bounded s c lasts b e) }
 
 -- The atoms that the arrays give.
 module _ {n : ℕ} {est lst durations : List ℕ} (f : Ranged n est lst durations) (i : ℕ) (q : i < n) {before : List Bool} (e : before ≡ filled (precedesAt est lst durations i) n (replicate TASKS false)) where

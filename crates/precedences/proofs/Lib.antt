@@ -6,3 +6,4 @@ pub mod Apart
 pub mod Members
 pub mod Explaining
 pub mod Refusing
+pub mod Many

@@ -28,7 +28,7 @@ use Rattle.precedences.specs.declared.answers.Precedences.the-variants.{
 use Rattle.precedences.specs.Numbers.{precedencesNumbers}
 use Rattle.precedences.specs.Precedences.{PrecedenceBound, FirstEmptied, NoneEmptied, LeftPrecedences, RanPrecedences}
 use Rattle.precedences.specs.Holding.{raisedAt, startAt, Ranged, FirstPast}
-use Rattle.precedences.proofs.Soundness.{bound-sound}
+use Rattle.precedences.proofs.Soundness.{before-sound, bound-sound}
 use Rattle.precedences.proofs.Bounding.{passes, fits, raised-is}
 
 module _ (J : Tasks whole) (ok : Proper J) where
@@ -48,6 +48,7 @@ module _ (J : Tasks whole) (ok : Proper J) where
 
   pub ended-emptied : (es : List ℤ) (i : ℕ) → FirstEmptied J i → LeftPrecedences J es (Emptied i) es
   ended-emptied es i a = record {
+    before = before-sound J;
     emptied = λ k. (λ e. subst (FirstEmptied J) (same-count e 0) a, λ b. ap (λ (j : ℕ). precedencesNumbers (Emptied j)) (one-lowest i k a b));
     done = (λ e. absurd (omega (arith, same-kind e)), λ f. absurd (clashℤ (a .passes) (f i (a .small) (a .bound) (a .is-bound))));
     kept = λ _. refl;
@@ -60,6 +61,7 @@ module _ (J : Tasks whole) (ok : Proper J) where
   pub ended-done : (es es′ : List ℤ) → NoneEmptied J → length es′ ≡ length es
       → ((i : ℕ) → i < J .count → Largest whole (λ v. (J .earliest i ≡ v) ⊎ PrecedenceBound J i v) (getD es′ i (pos 0))) → LeftPrecedences J es Done es′
   ended-done es es′ none size starts = record {
+    before = before-sound J;
     emptied = λ k. (λ e. absurd (omega (arith, same-kind e)), λ a. absurd (clashℤ (a .passes) (none k (a .small) (a .bound) (a .is-bound))));
     done = (λ _. none, λ _. refl);
     kept = λ e. absurd (omega arith);

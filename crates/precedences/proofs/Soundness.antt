@@ -16,7 +16,7 @@ use Rattle.integers.proofs.Moments.{mono, reflect, plus, plus-above, deep, more
 use Rattle.scheduling.specs.Scheduling.{whole, Tasks, Proper, TaskSet, In, processing, EstPlusP, NoOverlap, Schedule}
 use Rattle.scheduling.specs.Moments.{moments}
 use Rattle.scheduling.proofs.Windows as nat
-use Rattle.precedences.specs.Precedences.{predecessors, PrecedenceBound}
+use Rattle.precedences.specs.Precedences.{predecessors, AllBefore, PrecedenceBound}
 
 through : (a b c : ℤ) → a ≤ℤ b → b ≤ℤ c → a ≤ℤ c
 through a b c h k = omega ints
@@ -28,6 +28,13 @@ before a b c d h k = omega (ints, sumℤ b (pos d))
 -- a task k cannot start after task i, which starts at e or later and lasts d, where its latest start l is below e + d
 not-after : (e l si sk : ℤ) (d : ℕ) → ltZ l (e +ℤ pos d) ≡ true → e ≤ℤ si → sk ≤ℤ l → (si +ℤ pos d) ≤ℤ sk → ⊥
 not-after e l si sk d y h k after = omega (ints, sumℤ e (pos d), sumℤ si (pos d))
+
+-- At starts where no two tasks overlap, the tasks of P, started by their latest starts, end by the start of i, where that is not before its earliest.
+pub all-before : (J : Tasks whole) (s : ℕ → ℤ) → NoOverlap J s → (i : ℕ) → i < J .count → J .earliest i ≤ℤ s i → ((k : ℕ) → In J (predecessors J i) k → s k ≤ℤ J .latest k) → AllBefore J i s
+all-before J s apart i q from to k h =
+    let m = and-true (not (eqb k i)) (ltZ (J .latest k) (J .earliest i +ℤ pos (J .duration i))) (h .mem) in
+    elim (apart k i (h .small) q (eqb-false k i (not-true (eqb k i) (m .0))))
+    [ inl y ↦ y | inr y ↦ absurd (not-after (J .earliest i) (J .latest k) (s i) (s k) (J .duration i) (m .1) from (to k h) y) ]
 
 -- Whole-number starts at which no two tasks overlap.
 module _ (J : Tasks whole) (lasts : (k : ℕ) → k < J .count → 1 ≤ J .duration k) (s : ℕ → ℤ) (apart : NoOverlap J s) where
@@ -74,17 +81,14 @@ module _ (J : Tasks whole) (lasts : (k : ℕ) → k < J .count → 1 ≤ J .dura
       lo : (j : ℕ) → In J (f .part) j → f .start ≤ℤ s j
       lo j h = through (f .start) (J .earliest j) (s j) (f .est .bounds (J .earliest j) (j, h, refl)) (low j (record { small = h .small; mem = f .within j h }))
 
-  -- The tasks of P, started in their ranges, end by the start of i, which is not before its earliest; so that start is no less than ect(P).
+  -- All of P come before i, so where they start in their ranges, i's start is no less than ect(P).
   pub bound-holds : (i : ℕ) → i < J .count → J .earliest i ≤ℤ s i → ((k : ℕ) → In J (predecessors J i) k → (J .earliest k ≤ℤ s k) × (s k ≤ℤ J .latest k))
       → (b : ℤ) → PrecedenceBound J i b → b ≤ℤ s i
-  bound-holds i q from ranges b e = ends-by (predecessors J i) (s i) b (λ k h. ranges k h .0) first (e .holds)
-    where
-      first : (k : ℕ) → In J (predecessors J i) k → (s k +ℤ pos (J .duration k)) ≤ℤ s i
-      first k h =
-          let m = and-true (not (eqb k i)) (ltZ (J .latest k) (J .earliest i +ℤ pos (J .duration i))) (h .mem) in
-          elim (apart k i (h .small) q (eqb-false k i (not-true (eqb k i) (m .0))))
-          [ inl y ↦ y | inr y ↦ absurd (not-after (J .earliest i) (J .latest k) (s i) (s k) (J .duration i) (m .1) from (ranges k h .1) y) ]
+  bound-holds i q from ranges b e = ends-by (predecessors J i) (s i) b (λ k h. ranges k h .0) (all-before J s apart i q from (λ k h. ranges k h .1)) (e .holds)
 
--- So it holds in every schedule.
+-- Both hold in every schedule.
+pub before-sound : (J : Tasks whole) (s : ℕ → ℤ) → Schedule J s → (i : ℕ) → i < J .count → AllBefore J i s
+before-sound J s h i q = all-before J s (h .apart) i q (h .from i q) (λ k m. h .to k (m .small))
+
 pub bound-sound : (J : Tasks whole) → Proper J → (s : ℕ → ℤ) → Schedule J s → (i : ℕ) → i < J .count → (b : ℤ) → PrecedenceBound J i b → b ≤ℤ s i
 bound-sound J ok s h i q = bound-holds J (ok .lasts) s (h .apart) i q (h .from i q) (λ k m. (h .from k (m .small), h .to k (m .small)))

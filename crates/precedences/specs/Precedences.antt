@@ -9,7 +9,7 @@ use lib.IntN.{ℤ, pos, _+ℤ_}
 use lib.Signed.{ltZ, _≤ℤ_, _<ℤ_}
 use lib.ListN.{length, getD}
 use Rattle.integers.specs.Answers.{answered, refusedBy}
-use Rattle.scheduling.specs.Scheduling.{whole, Tasks, TaskSet, Largest, Ect, Schedule}
+use Rattle.scheduling.specs.Scheduling.{whole, Tasks, TaskSet, In, Largest, Ect, Schedule}
 use Rattle.records.specs.declared.record.Propagator.{Propagator}
 use Rattle.records.specs.Records.{tasksIn}
 use Rattle.records.specs.Refusals.{inputNumber}
@@ -20,6 +20,10 @@ module _ (J : Tasks whole) where
   -- P of task i: the other tasks whose latest start is below i's earliest start plus i's duration
   abbrev pub predecessors : ℕ → TaskSet
   predecessors i j = not (eqb j i) && ltZ (J .latest j) (J .earliest i +ℤ pos (J .duration i))
+
+  -- at the starts s all of P come before i: each ends by i's start
+  abbrev pub AllBefore : ℕ → (ℕ → ℤ) → Type 0
+  AllBefore i s = (j : ℕ) → In J (predecessors i) j → (s j +ℤ pos (J .duration j)) ≤ℤ s i
 
   -- b is the bound of i: ect(P); where P is empty there is none
   abbrev pub PrecedenceBound : ℕ → ℤ → Type 0
@@ -39,8 +43,9 @@ module _ (J : Tasks whole) where
 
   -- An accepted pass, from the earliest starts es to es′. It ends Emptied exactly with the lowest task whose bound passes its latest start, and no start
   -- changes; then there is no schedule. Else it is Done: each start is the larger of its old value and its bound, both from the ranges at entry,
-  -- and every schedule starts each task at or after that.
+  -- and every schedule starts each task at or after that. However it ends, all of P come before i in every schedule.
   pub record LeftPrecedences (es : List ℤ) (r : Precedences) (es′ : List ℤ) : Type 0 where
+    pub before : (s : ℕ → ℤ) → Schedule J s → (i : ℕ) → i < J .count → AllBefore i s
     pub emptied : (i : ℕ) → (precedencesNumbers r ≡ answered 1 (pos i ∷ [])) ↔ FirstEmptied i
     pub done : (precedencesNumbers r ≡ answered 0 []) ↔ NoneEmptied
     pub kept : precedencesNumbers r .kind ≡ 1 → es′ ≡ es

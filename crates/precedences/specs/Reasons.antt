@@ -2,7 +2,7 @@
 use mathlib.Core.Path.{_≡_}
 use mathlib.Core.Bool.{Bool, true, false}
 use mathlib.Core.List.{List, [], _∷_, _++_}
-use mathlib.Core.Option.{some}
+use mathlib.Core.Option.{some, none}
 use Prim.Native.Nat.{ℕ, zero, suc, _+_, _*_, _≤_, _<_}
 use lib.Dec.{leb, ltb}
 use lib.IntN.{ℤ, pos}
@@ -18,7 +18,7 @@ use Rattle.records.specs.Records.{tasksIn}
 use Rattle.records.specs.Refusals.{inputTests}
 use Rattle.precedences.specs.declared.answers.Reason.{Reason}
 use Rattle.precedences.specs.Numbers.{reasonNumbers}
-use Rattle.precedences.specs.Precedences.{predecessors, PrecedenceBound}
+use Rattle.precedences.specs.Precedences.{predecessors, AllBefore, PrecedenceBound}
 
 -- task j starts at v or later; at v or earlier
 abbrev pub atLeast : ℕ → ℤ → Atom
@@ -49,12 +49,14 @@ module _ (J : Tasks whole) (i : ℕ) where
     pub above : J .earliest i <ℤ bound
 
   -- An accepted call, from the words ws to ws′. Where the bound raises i, the reason stands at the front, with every word after it as it was, and the answer is
-  -- its atom count; elsewhere that is 0, and no word changes. The reason holds at entry, and no starts, of whatever range, meet it and are below the bound at i.
+  -- its atom count; elsewhere that is 0, and no word changes. The reason holds at entry. Starts of whatever range that meet it, no two
+  -- tasks overlapping, have all of P before i, and none of them are below the bound at i.
   pub record Explained (ws : List ℤ) (r : Reason) (ws′ : List ℤ) : Type 0 where
     pub written : Raises → (reasonNumbers r ≡ answered 0 (pos (length reasonOf) ∷ [])) × (ws′ ≡ overwritten ws (atomWords reasonOf))
     pub nothing : (Raises → ⊥) → (reasonNumbers r ≡ answered 0 (pos 0 ∷ [])) × (ws′ ≡ ws)
     pub few : length reasonOf + 1 ≤ 2 * J .count
     pub holds : HoldsAtEntry J reasonOf
+    pub before : (s : ℕ → ℤ) → Contradicts J reasonOf none s → AllBefore J i s
     pub sound : (b : ℤ) → PrecedenceBound J i b → (s : ℕ → ℤ) → Contradicts J reasonOf (some (atLeast i b)) s → ⊥
 
 -- A run's tests on the record and its ranges; then 17: a task that is none of the record's; 16: no room for its reason

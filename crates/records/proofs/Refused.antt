@@ -1,8 +1,8 @@
 -- What turns a run or a page back: what holds where nothing does, and the sole ground for each number of a run.
 -- Assumes nothing.
-use mathlib.Core.Path.{_≡_, refl, _∙_}
+use mathlib.Core.Path.{_≡_, refl, sym, _∙_}
 use mathlib.Core.Bool.{true, false, _&&_}
-use mathlib.Core.Logic.{_↔_}
+use mathlib.Core.Logic.{_↔_, inl, inr}
 use mathlib.Core.List.{List, [], _∷_, _++_}
 use Prim.Native.Nat.{ℕ, _*_, _<_}
 use native.Mathlib.Omega.{arith}
@@ -11,10 +11,10 @@ use lib.IntN.{ℤ, pos, negℤ}
 use lib.Signed.{leZ}
 use lib.ListN.{length, getD}
 use borrow.Author.Tests.{leb-true, le-leb, eqb-true, eq-eqb}
-use Rattle.integers.specs.Limits.{START}
+use Rattle.integers.specs.Limits.{START, TASKS}
 use Rattle.integers.specs.Orders.{has}
 use Rattle.integers.specs.Tests.{Test, test, allBelow, refusal, AllPassed, numbers}
-use Rattle.integers.proofs.Bools.{and-true, and-yes}
+use Rattle.integers.proofs.Bools.{bool, and-true, and-yes}
 use Rattle.integers.proofs.Ints.{leZ-true, le-leZ}
 use Rattle.integers.proofs.Tests.{all-at, all-show, accepts, accepted, ground, refuses, refusal-before, refusal-after, broken}
 use Rattle.records.specs.declared.record.Propagator.{Propagator}
@@ -116,6 +116,23 @@ module _ (r : Propagator) (es ls : List ℤ) (after : List Test) where
     λ h. (let g = ground (t20 ∷ t10 ∷ t3 ∷ []) t4 after refl other (λ z. omega arith) h in (lawful-is r .0 (g .0 .0), (counts-are (r .count) es ls .0 (g .0 .1 .0), (starts-are (r .count) es ls .0 (g .0 .1 .1 .0), broken (ranges-are (r .count) es ls) .0 (g .1))))),
     λ f. refuses (t20 ∷ t10 ∷ t3 ∷ []) t4 after (lawful-is r .1 (f .0), (counts-are (r .count) es ls .1 (f .1 .0), (starts-are (r .count) es ls .1 (f .1 .1 .0), tt))) (broken (ranges-are (r .count) es ls) .1 (f .1 .1 .1)),
   )
+
+-- More ranges than any record has tasks are turned back by the number that turns none back, 20 or 10, whatever tests follow.
+pub input-many : (r : Propagator) (es ls : List ℤ) (after after′ : List Test) → TASKS < length es
+    → (refusal (inputTests r [] [] ++ after) ≡ refusal (inputTests r es ls ++ after′)) × (refusal (inputTests r es ls ++ after′) ≡ 0 → ⊥)
+input-many r es ls after after′ many = elim (bool (lawfulRecord r)) [
+  | inl y ↦
+      (let w = lawful-is r .0 y in
+      let b = by-10 es ls after′ y (λ c. omega (arith, many, c .earliest, w .few)) in
+      (by-10 [] [] after y (λ c. omega (arith, c .earliest, w .some)) ∙ sym b, λ z. omega arith))
+  | inr y ↦ (let b = by-20 es ls after′ y in (by-20 [] [] after y ∙ sym b, λ z. omega arith))
+]
+  where
+    by-20 : (xs zs : List ℤ) (rest : List Test) → lawfulRecord r ≡ false → refusal (inputTests r xs zs ++ rest) ≡ 20
+    by-20 xs zs rest y = refuses [] (t20 r xs zs rest) (t10 r xs zs rest ∷ t3 r xs zs rest ∷ t4 r xs zs rest ∷ rest) tt y
+
+    by-10 : (xs zs : List ℤ) (rest : List Test) → lawfulRecord r ≡ true → (CountsFit (r .count) xs zs → ⊥) → refusal (inputTests r xs zs ++ rest) ≡ 10
+    by-10 xs zs rest y not = refuses (t20 r xs zs rest ∷ []) (t10 r xs zs rest) (t3 r xs zs rest ∷ t4 r xs zs rest ∷ rest) (y, tt) (broken (counts-are (r .count) xs zs) .1 not)
 
 module _ (r : Propagator) (es ls : List ℤ) (posts atoms : ℕ) where
   abbrev t9 : Test

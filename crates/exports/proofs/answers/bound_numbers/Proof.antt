@@ -1,7 +1,8 @@
 -- `exports::answers::bound_numbers` meets its contract.
 -- Assumes nothing.
 use mathlib.Core.Path.{sym, _∙_}
-use Rattle.exports.specs.Answers.{boundNumbers}
+use Rattle.checking.specs.Answers.{boundNumbers}
+use Rattle.exports.specs.Answers.{stateAnswer}
 use borrow.Author.Needs.{needs}
 use Rattle.exports.proofs.answers.bound_numbers.Statement.{statement}
 use Rattle.exports.proofs.answers.bound_numbers.Tie as tie
@@ -19,10 +20,10 @@ refusal-numbers-requires : tie.Need-refusal-numbers-requires
 refusal-numbers-requires c κs = search needs
 
 returns : tie.Need-returns
-returns c = search needs
+returns c = c .ext-numbers .ensures ∙ sym (λ i. stateAnswer (boundNumbers (c .before .before .bound .given .1 i)))
 
 returns-2 : tie.Need-returns-2
-returns-2 c = c .refusal-numbers .ensures ∙ sym (λ i. boundNumbers (c .before .before .bound2 .given .1 i))
+returns-2 c = c .refusal-numbers .ensures ∙ sym (λ i. stateAnswer (boundNumbers (c .before .before .bound2 .given .1 i)))
 
 pub bound-numbers-spec : {M : Type 1} → statement M
 bound-numbers-spec =

@@ -1,7 +1,8 @@
 -- `exports::answers::truth_numbers` meets its contract.
 -- Assumes nothing.
 use mathlib.Core.Path.{sym, _∙_}
-use Rattle.exports.specs.Answers.{truthNumbers}
+use Rattle.checking.specs.Answers.{truthNumbers}
+use Rattle.exports.specs.Answers.{stateAnswer}
 use borrow.Author.Needs.{needs}
 use Rattle.exports.proofs.answers.truth_numbers.Statement.{statement}
 use Rattle.exports.proofs.answers.truth_numbers.Tie as tie
@@ -19,13 +20,13 @@ refusal-numbers-requires : tie.Need-refusal-numbers-requires
 refusal-numbers-requires c κs = search needs
 
 returns : tie.Need-returns
-returns c = sym (λ i. truthNumbers (c .enum-told .given .1 i))
+returns c = sym (λ i. stateAnswer (truthNumbers (c .enum-told .given .1 i)))
 
 returns-2 : tie.Need-returns-2
-returns-2 c = sym (λ i. truthNumbers (c .enum-told2 .given .1 i))
+returns-2 c = sym (λ i. stateAnswer (truthNumbers (c .enum-told2 .given .1 i)))
 
 returns-3 : tie.Need-returns-3
-returns-3 c = c .refusal-numbers .ensures ∙ sym (λ i. truthNumbers (c .before .before .truth .given .1 i))
+returns-3 c = c .refusal-numbers .ensures ∙ sym (λ i. stateAnswer (truthNumbers (c .before .before .truth .given .1 i)))
 
 pub truth-numbers-spec : {M : Type 1} → statement M
 truth-numbers-spec =

@@ -1,13 +1,38 @@
--- `exports::calls::reedgrit_lower_bound` meets its contract.
+-- `exports::calls::reedgrit_lower_bound` meets its contract: where the question's variable is known, the premises' tests are the question's.
 -- Assumes nothing.
-use mathlib.Core.Path.{ap, _∙_}
+use mathlib.Core.Path.{_≡_, sym, ap, _∙_}
 use borrow.Author.Needs.{needs}
+use borrow.Author.Tests.{not-true, not-false}
 use Rattle.integers.proofs.Ints.{back}
+use Rattle.checking.specs.Answers.{boundNumbers}
+use Rattle.checking.specs.Atoms.{rightVariable}
 use Rattle.checking.specs.States.{boundOf, lowerOf}
-use Rattle.exports.specs.Answers.{boundNumbers}
-use Rattle.exports.specs.Calls.{askedAt, asked}
+use Rattle.exports.specs.Answers.{stateAnswer}
+use Rattle.exports.specs.Calls.{askedAt}
+use Rattle.exports.proofs.Asking.{unfit, fit}
 use Rattle.exports.proofs.calls.reedgrit_lower_bound.Statement.{statement}
 use Rattle.exports.proofs.calls.reedgrit_lower_bound.Tie as tie
+
+-- what the test of the question's variable says
+said : (c : tie.After-variable-is-accepted) → c .variable-is-accepted .result ≡ rightVariable (c .before .args .variable)
+said c = c .variable-is-accepted .ensures ∙ ap rightVariable (back (c .before .fits .variable))
+
+variable-is-accepted-requires : tie.Need-variable-is-accepted-requires
+variable-is-accepted-requires c κs = search needs
+
+unfit-number-requires : tie.Need-unfit-number-requires
+unfit-number-requires c κs = search needs
+
+refusal-numbers-requires : tie.Need-refusal-numbers-requires
+refusal-numbers-requires c κs = search needs
+
+returns : tie.Need-returns
+returns c =
+    let a = c .before .before .before .before .args in
+    c .refusal-numbers .ensures
+    ∙ unfit (a .premises .now) (rightVariable (a .variable)) (λ t. boundNumbers (boundOf lowerOf t (a .variable)))
+    (sym (said (c .before .before .before)) ∙ not-true (c .before .before .before .variable-is-accepted .result) (c .before .before .if1 .taken))
+    (c .before .unfit-number .result) (c .before .unfit-number .ensures)
 
 slice-aggregate-prepare-for-conflict-check : tie.Need-slice-aggregate-prepare-for-conflict-check
 slice-aggregate-prepare-for-conflict-check c = search needs
@@ -24,22 +49,28 @@ bound-numbers-requires c κs = search needs
 state-numbers-requires : tie.Need-state-numbers-requires
 state-numbers-requires c κs = search needs
 
-returns : tie.Need-returns
-returns c =
-    let start = c .before .before .before .before .before in
+returns-2 : tie.Need-returns-2
+returns-2 c =
+    let test = c .before .before .before .before .before in
+    let s = test .before .before in
+    let a = s .args in
     let made = c .before .before .before .prepare-for-conflict-check in
-    let s = made .result .state in
     c .state-numbers .ensures
-    ∙ ap (askedAt (made .result .answer)) (c .before .bound-numbers .ensures ∙ ap boundNumbers (c .before .before .lower-bound .ensures .0) ∙ (λ i. boundNumbers (boundOf lowerOf s (back (start .fits .variable) i))))
-    ∙ ap (asked (λ s. boundNumbers (boundOf lowerOf s (start .args .variable)))) (made .ensures .0)
+    ∙ ap (askedAt (made .result .answer)) (c .before .bound-numbers .ensures ∙ (λ i. stateAnswer (boundNumbers (c .before .before .lower-bound .ensures .0 i))) ∙ (λ i. stateAnswer (boundNumbers (boundOf lowerOf (made .result .state) (back (s .fits .variable) i)))))
+    ∙ fit (a .premises .now) (rightVariable (a .variable)) (λ t. boundNumbers (boundOf lowerOf t (a .variable)))
+    (sym (said (test .before)) ∙ not-false (test .before .variable-is-accepted .result) (test .if1 .left)) (made .result) (made .ensures .0)
 
 pub reedgrit-lower-bound-spec : {M : Type 1} → statement M
 reedgrit-lower-bound-spec =
     tie.close
     (tie.spec
+    variable-is-accepted-requires
+    unfit-number-requires
+    refusal-numbers-requires
+    returns
     slice-aggregate-prepare-for-conflict-check
     prepare-for-conflict-check-requires
     lower-bound-requires
     bound-numbers-requires
     state-numbers-requires
-    returns)
+    returns-2)

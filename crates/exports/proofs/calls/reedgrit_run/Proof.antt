@@ -41,6 +41,7 @@ use Rattle.records.proofs.record.Propagator as P
 use Rattle.propagator.specs.declared.disjunctive_propagator.Outcome.{Outcome}
 use Rattle.propagator.proofs.disjunctive_propagator.Outcome as O
 use Rattle.propagator.proofs.disjunctive_propagator.Outcome.Laws as O′
+use Rattle.propagator.specs.Outcomes.{outcomeNumbers}
 use Rattle.disjunctive.specs.RanLent.{RanLent}
 use Rattle.disjunctive.specs.declared.ranges.Range.{Range}
 use Rattle.disjunctive.proofs.ranges.Range as T
@@ -48,7 +49,7 @@ use Rattle.disjunctive.proofs.ranges.run as lent
 use Rattle.disjunctive.proofs.ranges.run.Symbol as lent-def
 use Rattle.disjunctive.proofs.ranges.run.Symbol.{name as #lent}
 use Rattle.disjunctive.proofs.ranges.run.Met as lent-thm
-use Rattle.exports.specs.Answers.{outcomeNumbers}
+use Rattle.exports.specs.Answers.{runAnswer}
 use Rattle.exports.specs.Calls.{RanNumbers}
 use Rattle.exports.specs.declared.answers.RunAnswer.{RunAnswer}
 use Rattle.exports.proofs.answers.RunAnswer as N
@@ -80,8 +81,8 @@ module _ {M : Type 1} (𝓤 : URA M) (H : Heap 𝓤) (A : Atoms 𝓤) (at-mem : 
   abbrev Numbers : Contract 𝓤
   Numbers = tripleOf 𝓤 H A numbers.signature (numbers.spec 𝓤 H A at-mem run)
 
-  numbers-said : (r : Outcome) (a : RunAnswer) → ent 𝓤 (ensured 𝓤 H A numbers.ended (numbers.clauses 𝓤 H A at-mem run) tt (r, tt) tt a) (fact 𝓤 (a ≡ outcomeNumbers r))
-  numbers-said r a = exE 𝓤 _ (λ ws. snd∗ 𝓤 (sem 𝓤 H A (lasts numbers.ended tt (r, tt) ws)) (fact 𝓤 (a ≡ outcomeNumbers r)))
+  numbers-said : (r : Outcome) (a : RunAnswer) → ent 𝓤 (ensured 𝓤 H A numbers.ended (numbers.clauses 𝓤 H A at-mem run) tt (r, tt) tt a) (fact 𝓤 (a ≡ runAnswer (outcomeNumbers r)))
+  numbers-said r a = exE 𝓤 _ (λ ws. snd∗ 𝓤 (sem 𝓤 H A (lasts numbers.ended tt (r, tt) ws)) (fact 𝓤 (a ≡ runAnswer (outcomeNumbers r))))
 
 module _ {M : Type 1} (𝓤 : URA M) (H : Heap 𝓤) (A : Atoms 𝓤) (W : Given 𝓤 H A) (at-mem : Memory → SProp 𝓤) (run : Routine → Fun 𝓤) (κ κ₁ κ₂ κ₃ : Lft) (q q₁ q₂ q₃ : Share) (xo : RefT Propagator) (xr : RefT (List Range)) (xp xa : RefT (List ℤ)) where
   -- the machine values of the reference and of the three slices
@@ -169,7 +170,7 @@ module _ {M : Type 1} (𝓤 : URA M) (H : Heap 𝓤) (A : Atoms 𝓤) (W : Given
         use1 W (raw (Numbers 𝓤 H A at-mem run .pre (to-numbers r v))) (goes-numbers r v) $
         calls-at ! fm (Numbers 𝓤 H A at-mem run) known-numbers (to-numbers r v) (and-then ! (load ! (from ! (stop !)) (look ! 21 refl)) (no-more !)) (λ w.
         use1 W (later (some (λ (a : RunAnswer). (‵ ftrue ⊛ ‵ (N.the-row .own a (w ∷ []))) ⊛ raw (ensured 𝓤 H A numbers.ended (numbers.clauses 𝓤 H A at-mem run) tt (r, tt) tt a)))) (id⊢ 𝓤 _) $ await ! tt $ pick ! (λ a.
-        split ! $ move ! (1 ∷ []) $ use1 W (raw (fact 𝓤 (a ≡ outcomeNumbers r))) (numbers-said 𝓤 H A at-mem run r a) $ heard ! (a ≡ outcomeNumbers r) (λ e₂. split ! $ move ! (1 ∷ []) $
+        split ! $ move ! (1 ∷ []) $ use1 W (raw (fact 𝓤 (a ≡ runAnswer (outcomeNumbers r)))) (numbers-said 𝓤 H A at-mem run r a) $ heard ! (a ≡ runAnswer (outcomeNumbers r)) (λ e₂. split ! $ move ! (1 ∷ []) $
         peeks ! N.the-row (Is N.the-row) (shows 𝓤 H A N.the-row) a (w ∷ []) (λ is₂.
         land ! (from ! (stop !)) (init ! 32 refl (LL.lawful N.the-type N′.the-laws 𝓤 H A W .typed a _ is₂ .0)) $
         -- [what the answer owns; true; the tokens; the last atoms; true; the last posts; the last ranges; the last record; _12; …; _0; …]
