@@ -133,8 +133,9 @@ same-ranges ys zs e l = only-starts ys zs l ∙ ap (withStarts ys) e ∙ own-sta
 kept : (before : Propagator) (ys : List Range) (posts atoms : List ℤ) (answer : Outcome) (after : Propagator) (zs : List Range) (posts′ atoms′ : List ℤ)
     → Ran before (earliests ys) (latests ys) posts atoms (record { «record» = after; outcome = answer }) (earliests zs) posts′ atoms′ → latests zs ≡ latests ys → RanLent before ys posts atoms answer after zs posts′ atoms′
 kept before ys posts atoms answer after zs posts′ atoms′ ran same = record {
-  refused = λ n. (let k = ran .refused n in record { number = k .answer; same-record = k .keeps; same-ranges = same-ranges ys zs (k .starts) same; same-posts = k .post-words; same-atoms = k .atom-words });
-  accepted = λ z. record { promise = promised before after ys zs posts atoms posts′ atoms′ answer (ran .accepted z) same; left = ran .accepted z .left };
+  same-record = ran .keeps;
+  refused = λ n. (let k = ran .refused n in record { number = k .answer; same-ranges = same-ranges ys zs (k .starts) same; same-posts = k .post-words; same-atoms = k .atom-words });
+  accepted = λ z. record { promise = promised before ys zs posts atoms posts′ atoms′ answer (ran .accepted z) same; left = ran .accepted z .left };
 }
 
 -- ---- calls that store earliest starts

@@ -26,17 +26,18 @@ module _ (before : Propagator) (ranges : List Range) (posts atoms : List ℤ) (a
   -- A refused run answers the number and changes nothing.
   pub record RefusedLent : Type 0 where
     pub number : outcomeNumbers answer ≡ refusedBy (lentNumber before ranges posts atoms)
-    pub same-record : after ≡ before
     pub same-ranges : ranges′ ≡ ranges
     pub same-posts : posts′ ≡ posts
     pub same-atoms : atoms′ ≡ atoms
 
-  -- An accepted one keeps the promise, and leaves what the run's definition does: the answer, the earliest starts, the words of posts and reasons over what stood there, and the record.
+  -- An accepted one keeps the promise, and leaves what the run's definition does: the answer, the earliest starts, and the words of posts and reasons over what stood there.
   pub record AcceptedLent : Type 0 where
     pub promise : Promise before ranges answer ranges′ posts′ atoms′
-    pub left : Left before (earliests ranges) (latests ranges) posts atoms (record { «record» = after; outcome = answer }) (earliests ranges′) posts′ atoms′
+    pub left : Left before (earliests ranges) (latests ranges) posts atoms answer (earliests ranges′) posts′ atoms′
 
+  -- The record stays as it was.
   pub record RanLent : Type 0 where
+    pub same-record : after ≡ before
     pub refused : (lentNumber before ranges posts atoms ≡ 0 → ⊥) → RefusedLent
     pub accepted : lentNumber before ranges posts atoms ≡ 0 → AcceptedLent
 
