@@ -22,12 +22,7 @@ pub struct Changed {
 }
 
 // The number that turns an added task back, or 0: 20, 1, 2, 5.
-fn add_refusal(
-    n: usize,
-    durations: &[u32; 48],
-    total: u32,
-    duration: i32,
-) -> u32
+fn add_refusal(n: usize, durations: &[u32; 48], total: u32, duration: i32) -> u32
     ensures { λ r. ⌜ r ≡ addNumber (recordOf n (now (durations .entry)) total) duration ⌝ }
 {
     if !lawful(n, durations, total) {
@@ -50,12 +45,7 @@ fn add_refusal(
 pub fn add(record: Propagator, duration: i32) -> Changed
     ensures { λ r. ⌜ TaskAdded «record» duration r ⌝ }
 {
-    let number = add_refusal(
-        record.count,
-        &record.durations,
-        record.total,
-        duration,
-    );
+    let number = add_refusal(record.count, &record.durations, record.total, duration);
     if number != 0 {
         return Changed {
             record,
@@ -95,12 +85,7 @@ fn without_task(durations: &[u32; 48], n: usize, t: usize) -> [u32; 48]
 }
 
 // The number that turns a removal back, or 0: 20, 12, 1.
-fn remove_refusal(
-    n: usize,
-    durations: &[u32; 48],
-    total: u32,
-    task: usize,
-) -> u32
+fn remove_refusal(n: usize, durations: &[u32; 48], total: u32, task: usize) -> u32
     ensures { λ r. ⌜ r ≡ removeNumber (recordOf n (now (durations .entry)) total) task ⌝ }
 {
     if !lawful(n, durations, total) {
@@ -119,12 +104,7 @@ fn remove_refusal(
 pub fn remove(record: Propagator, task: usize) -> Changed
     ensures { λ r. ⌜ TaskRemoved «record» task r ⌝ }
 {
-    let number = remove_refusal(
-        record.count,
-        &record.durations,
-        record.total,
-        task,
-    );
+    let number = remove_refusal(record.count, &record.durations, record.total, task);
     if number != 0 {
         return Changed {
             record,

@@ -1,6 +1,7 @@
 pub mod Tables
 pub mod Steps
 pub mod Reached
+pub mod Ties
 pub mod Buffers
 pub mod Readers
 pub mod Fuel

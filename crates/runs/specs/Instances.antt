@@ -3,14 +3,15 @@ use mathlib.Core.Path.{_≡_, refl}
 use mathlib.Core.List.{List, [], _∷_, map}
 use Prim.Native.Nat.{ℕ, zero, suc}
 use lib.IntN.{ℤ, pos}
+use lib.ListN.{getD}
 use Rattle.integers.specs.Orders.{sort, insert, index, numbers}
-use Rattle.scheduling.specs.Scheduling.{Atom}
+use Rattle.scheduling.specs.Scheduling.{natural, Tasks, Atom}
 use Rattle.trees.specs.Leaves.{root, responsible, theta}
 use Rattle.trees.specs.Nodes.{joinOf, isEmpty}
 use Rattle.trees.specs.Searches.{gray, tested, descentP, descentEct, stepP, stepEct, searchP, searchEct, thetaOf}
 use Rattle.trees.specs.Shapes.{width, heightFrom, nodeOver}
 use Rattle.runs.specs.Traces.{Post, End, done, overload, emptied, Trace}
-use Rattle.runs.specs.Runs.{propagate, run, outer, inner, conflict, propagation, bounds, within, tabulate}
+use Rattle.runs.specs.Runs.{propagate, run, outer, inner, conflict, propagation, bounds, within, tabulate, earliestOrder, completionOrder}
 
 abbrev atLeast : ℕ → ℕ → Atom
 atLeast k v = record { variable = k; kind = 0; value = pos v }
@@ -83,3 +84,11 @@ nine i = record { task = i; bound = pos 9; reason = atLeast 0 0 ∷ atMost 0 7 �
 pub two-raised : answer both ≡ trace (nine 3 ∷ nine 2 ∷ []) done (0 ∷ 1 ∷ 9 ∷ 9 ∷ [])
 unfolding propagate run outer inner conflict propagation bounds within tabulate heightFrom sort insert index numbers width root responsible theta joinOf isEmpty gray tested descentP descentEct stepP stepEct searchP searchEct thetaOf nodeOver
 two-raised = refl
+
+-- Three tasks with one earliest start, two of them with one latest completion: ties go to the lower number in both orders.
+abbrev tied : Tasks natural
+tied = record { count = 3; earliest = λ k. 0; latest = λ k. getD (0 ∷ 5 ∷ 5 ∷ []) k 0; duration = λ k. 1 }
+
+pub ties-by-number : (earliestOrder tied ≡ 0 ∷ 1 ∷ 2 ∷ []) × (completionOrder tied ≡ 1 ∷ 2 ∷ 0 ∷ [])
+unfolding sort insert numbers
+ties-by-number = (refl, refl)
