@@ -65,9 +65,13 @@ pub record CheckedNumbers (ds premises consequent : List ℤ) (answer : CheckAns
 
 -- A question to the state that premises lead to ---------------------------------------------------------------------------------
 
--- its tests over the whole input: 7, then 6, of the premises' words and of the question's own
+-- the words of the premises and those of the question are right
+abbrev pub rightQuestion : List ℤ → Bool → Bool
+rightQuestion premises own = rightWords premises && own
+
+-- its tests, each over the whole input: 7, then 6
 abbrev pub questionTests : List ℤ → Bool → List Test
-questionTests premises right = test 7 (leb (length premises) (3 * PREMISES + 2)) ∷ test 6 (rightWords premises && right) ∷ []
+questionTests premises own = test 7 (leb (length premises) (3 * PREMISES + 2)) ∷ test 6 (rightQuestion premises own) ∷ []
 
 -- what the state says, unless the premises lead to none: 21 or a contradiction
 abbrev pub askedAt : Application → StateAnswer → StateAnswer
@@ -80,7 +84,7 @@ askedAfter zero applied question = askedAt (applied .answer) (stateAnswer (quest
 askedAfter (suc n) applied question = stateAnswer (refusedBy (suc n))
 
 abbrev pub asked : List ℤ → Bool → (VariableState → Answer) → StateAnswer
-asked premises right question = askedAfter (refusal (questionTests premises right)) (prepared premises []) question
+asked premises own question = askedAfter (refusal (questionTests premises own)) (prepared premises []) question
 
 abbrev pub truthAfter : List ℤ → ℤ → ℤ → ℤ → StateAnswer
 truthAfter premises x k v = asked premises (rightAtom x k v) (λ s. truthNumbers (truthOf s x k v))
