@@ -25,7 +25,7 @@ use Rattle.scheduling.specs.Moments.{moments}
 use Rattle.scheduling.specs.Mirroring.{mirrorStart, mirrorAtom}
 use Rattle.scheduling.specs.Words.{atomWords}
 use Rattle.scheduling.proofs.Words.{atoms-length}
-use Rattle.runs.specs.Traces.{Post, End, done, overload, emptied, Trace}
+use Rattle.runs.specs.Traces.{End, done, overload, emptied, Trace}
 use Rattle.runs.specs.Demand.{consequentOf, post}
 use Rattle.runs.specs.Runs.{propagate}
 use Rattle.runs.specs.Words.{postWords, reasons, postsAfter, atomsAfter, atomsIn}
