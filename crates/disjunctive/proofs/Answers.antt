@@ -7,7 +7,6 @@ use Prim.Native.Nat.{ℕ, _+_, _*_, _≤_, _<_}
 use native.Mathlib.Omega.{arith}
 use lib.IntN.{ℤ, pos, natAbs}
 use lib.ListN.{length, getD, take, drop}
-use Rattle.scheduling.specs.Scheduling.{Atom}
 use Rattle.scheduling.specs.Words.{atomWords}
 use Rattle.runs.specs.Traces.{Trace, done}
 use Rattle.runs.specs.Words.{reasons}

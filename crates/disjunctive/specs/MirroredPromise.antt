@@ -62,7 +62,7 @@ module _ (before : Propagator) (ranges : List Range) (answer : Outcome) (rangesâ
 
   -- An overload.
   pub record MirroredOverloadPromise : Type 0 where
-    -- The atoms of its reason are inside the slice.
+    -- The atoms of its reason are inside the slice: value 1 is the first one's index, value 2 their count.
     pub inside : 3 * valueOf answer 1 + 3 * valueOf answer 2 â‰¤ length atoms
     -- The reason holds at entry and, mirrored, meets the checker's formula without consequent.
     pub reason-holds : HoldsAtEntry J (atomsOf (overloadOf answer atoms))

@@ -1,5 +1,5 @@
 -- What an accepted run promises its caller: of the record and the ranges that it is lent, its answer, and the ranges and the words that it leaves.
--- Nothing here knows how a run goes. There are sets of tasks, schedules, the post reader and the check.
+-- Nothing here knows how a run goes. There are sets of tasks, schedules, the post reader and the check. What becomes of the record, `RanLent` says.
 use mathlib.Core.Path.{_≡_}
 use mathlib.Core.Logic.{_↔_}
 use mathlib.Core.List.{List, map}
@@ -94,7 +94,7 @@ module _ (before : Propagator) (ranges : List Range) (answer : Outcome) (ranges�
 
   -- An overload.
   pub record OverloadPromise : Type 0 where
-    -- Its atoms are inside the slice.
+    -- Its atoms are inside the slice: value 1 is the first one's index, value 2 their count.
     pub inside : 3 * valueOf answer 1 + 3 * valueOf answer 2 ≤ length atoms
     -- They are a reason without consequent.
     pub reason : Reason (overloadOf answer atoms) none

@@ -3,7 +3,7 @@
 use mathlib.Core.Path.{_≡_, refl, sym, ap, subst, _∙_}
 use mathlib.Core.List.{List, _++_}
 use mathlib.Core.Logic.{inl, inr}
-use Prim.Native.Nat.{ℕ, zero, suc, _+_, _*_, _≤_, _<_}
+use Prim.Native.Nat.{ℕ, zero, suc, _+_, _*_, _≤_}
 use native.Mathlib.Omega.{arith}
 use lib.IntN.{ℤ}
 use lib.ListN.{length, take, drop, length-append}
@@ -26,7 +26,7 @@ use Rattle.propagator.specs.declared.disjunctive_propagator.Outcome.the-variant
 use Rattle.propagator.specs.declared.disjunctive_propagator.Run.{Run}
 use Rattle.propagator.specs.Ran.{traceOf, AcceptedRun, Ran}
 use Rattle.propagator.proofs.Answering.{outcomes-apart}
-use Rattle.plan_cli.specs.Holding.{ATOMS, Held, Holds, ShowsRun, Shown}
+use Rattle.plan_cli.specs.Holding.{ATOMS, ShowsRun, Shown}
 use Rattle.plan_cli.specs.Printed.{numbered, ranOn, planned}
 
 -- a run that no number turned back

@@ -7,7 +7,7 @@ use Prim.Native.Nat.{ℕ, zero, suc, _<_}
 use native.Mathlib.Omega.{arith}
 use lib.IntN.{pos, natAbs}
 use lib.ListN.{length, getD}
-use Rattle.integers.specs.Answers.{Answer, refusedBy}
+use Rattle.integers.specs.Answers.{Answer}
 use Rattle.scheduling.specs.Scheduling.{Atom}
 use Rattle.runs.specs.Traces.{End, done, overload, emptied}
 use Rattle.propagator.specs.declared.disjunctive_propagator.Outcome.{Outcome}

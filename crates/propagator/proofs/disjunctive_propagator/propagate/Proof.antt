@@ -1,12 +1,12 @@
 -- `propagator::disjunctive_propagator::propagate` meets its contract: what no test turns back is run, and what is true of the definition's trace is true of what was left.
 -- Assumes nothing.
-use mathlib.Core.Path.{_≡_, refl, sym, ap, _∙_}
+use mathlib.Core.Path.{_≡_, refl, ap}
 use native.Mathlib.Omega.{arith}
 use lib.ListN.{length}
 use borrow.Author.Needs.{needs}
 use Rattle.integers.specs.Answers.{refusedBy}
 use Rattle.integers.specs.Limits.{TASKS}
-use Rattle.records.specs.Refusals.{Accepted, runNumber}
+use Rattle.records.specs.Refusals.{Accepted}
 use Rattle.records.proofs.Refused.{accepted-run}
 use Rattle.propagator.specs.Ran.{traceOf}
 use Rattle.propagator.proofs.Beginning.{runnable, right}
