@@ -12,7 +12,7 @@ use mir.Syntax.{Ty, named}
 use mir.Table.{spell}
 use mir.Val.{Val, vptr}
 use base.Logic.{SProp, ent, sep, via, emp, fst∗, id⊢}
-use base.Fml.{Lft, GName, Share, Fml, ftrue, fat, flft, flent}
+use base.Fml.{Lft, GName, Share, Fml, ftrue, fat, flft}
 use prog.Memory.{Memory}
 use prog.Routine.{Routine}
 use prog.Wp.{Heap, Calls, Loops, WpFn, Tables}
@@ -20,21 +20,17 @@ use ghost.Atoms.{Atoms, sem}
 use contract.Monad.{Fun, fact}
 use contract.Running.{givenOf, tables, tablesOf}
 use sound.WpLaws.{FmC, fmOf, WpFn-mono}
-use types.Kit.{Given, Item, ‵, raw, _⊛_, some, later, ⋆, _$_, _∵_, !, qed, by, move, keep, drop, use1, use2, split, join, pick, rewrite, fsplit, fsplit3, fjoin, feqI, feqL, suffices, frame, await, done}
+use types.Kit.{Given, Item, ‵, raw, _⊛_, some, later, ⋆, _$_, _∵_, !, qed, by, move, keep, drop, use1, use2, split, join, pick, rewrite, fsplit, fsplit3, fjoin, feqL, suffices, frame, await, done}
 use types.Part.{whole, sub, look-in, agg}
 use types.Run.{look, init, forget, stop, hop, fld, from, load, of-opd, addr, assigns, returns, enter, alloc1, alloc0, params1, pass1, pass0, free1, free0, and-then, no-more, land}
-use types.Share.{arr-parts}
-use types.Tokens.{lft-new, lft-end, lent-back}
 use denote.RattleType.{owns}
 use denote.Laws.{Is, shows}
-use denote.Memory.{shares, pointee}
+use denote.Memory.{pointee}
 use denote.Exit.{yes}
 use denote.Plain.{nothing-lawful}
 use denote.Builtin.{i32, unit}
 use denote.Ref.{RefT, ShrRef, now, ptr-vals, shr-tells}
-use denote.Slice.{sliceVal, MutSlice, ShrSlice, Room, slice-vals, mut-slice-tells, finally}
-use denote.Lend.{lends-shr-slice}
-use denote.Index.{opens-slice, closes-slice}
+use denote.Slice.{sliceVal, MutSlice, Room, slice-vals, mut-slice-tells, finally}
 use denote.Signature.{plain, shrRefTo}
 use denote.Steps.{only, nothing, owned, peeks, heard}
 use denote.Struct.Laws as LL
@@ -59,7 +55,7 @@ use Rattle.disjunctive.specs.declared.ranges.Starts.{Starts}
 use Rattle.disjunctive.specs.declared.ranges.CoreMirrored.{CoreMirrored}
 use Rattle.disjunctive.proofs.Starts.{starts-fit}
 use Rattle.disjunctive.proofs.Latests.{lent-mirrored}
-use Rattle.disjunctive.proofs.ranges.Lending.{machP, rangesVal, StartsOf, calls-starts, looks-into, shuts-record}
+use Rattle.disjunctive.proofs.ranges.Lending.{machP, machS, rangesVal, rangesAt, StartsOf, calls-starts-mut, looks-into, shuts-record}
 use Rattle.disjunctive.proofs.ranges.Range as T
 use Rattle.disjunctive.proofs.ranges.Starts as S
 use Rattle.disjunctive.proofs.ranges.Starts.Laws as S′
@@ -88,9 +84,6 @@ Arg = RefT Propagator × (RefT (List Range) × (RefT (List ℤ) × (RefT (List �
 abbrev stayed : Stays (f.ended .signature .params) (f.ended .kept)
 stayed = (stay-dropped (shrRefTo (0 ∷ []) tt (plain (λ _. P.the-row))) yes, (gave-slice (1 ∷ []) tt (plain (λ _. T.the-row)), (gave-slice (2 ∷ []) tt (plain (λ _. i32)), (gave-slice (3 ∷ []) tt (plain (λ _. i32)), tt))))
 
-abbrev machS : Starts → Val
-machS d = LL.tuple-val S.the-type S′.the-laws (S.the-type .to d)
-
 abbrev core-mirrored : Ty
 core-mirrored = spell table (pointee (R.the-row .written))
 
@@ -104,12 +97,12 @@ module _ {M : Type 1} (𝓤 : URA M) (H : Heap 𝓤) (A : Atoms 𝓤) (at-mem : 
 
 module _ {M : Type 1} (𝓤 : URA M) (H : Heap 𝓤) (A : Atoms 𝓤) (W : Given 𝓤 H A) (at-mem : Memory → SProp 𝓤) (run : Routine → Fun 𝓤) (κ κ₁ κ₂ κ₃ : Lft) (q q₁ q₂ q₃ : Share) (b o : ℕ) (γ : GName) (h : Propagator) (b₁ o₁ : ℕ) (γ₁ : GName) (ys : List Range)
     (xp xa : RefT (List ℤ)) where
-  abbrev xr : GName → RefT (List Range)
-  xr δ = record { ptr = (b₁, o₁); name = δ; now = ys }
+  abbrev xr : RefT (List Range)
+  xr = rangesAt b₁ o₁ ys γ₁
 
   -- the machine values of the three slices
   abbrev vr : Val
-  vr = rangesVal (xr γ₁)
+  vr = rangesVal xr
 
   abbrev vp : Val
   vp = sliceVal (xp .ptr) (length (xp .now))
@@ -118,7 +111,7 @@ module _ {M : Type 1} (𝓤 : URA M) (H : Heap 𝓤) (A : Atoms 𝓤) (W : Given
   va = sliceVal (xa .ptr) (length (xa .now))
 
   abbrev x : Arg
-  x = (record { ptr = (b, o); name = γ; now = h }, (xr γ₁, (xp, (xa, tt))))
+  x = (record { ptr = (b, o); name = γ; now = h }, (xr, (xp, (xa, tt))))
 
   abbrev at : Vals f.signature (κ, (κ₁, (κ₂, (κ₃, tt))))
   at = (vptr b o ∷ [], (vr ∷ [], (vp ∷ [], (va ∷ [], tt))))
@@ -163,10 +156,10 @@ module _ {M : Type 1} (𝓤 : URA M) (H : Heap 𝓤) (A : Atoms 𝓤) (W : Given
   goes-core s w fit = qed W (Tokens ∷ ‵ (OwnsC s w) ∷ []) ∵ says ! fit $ frame ! $ done !
 
   abbrev to-store : Starts → Store 𝓤 H A at-mem run .Ghost
-  to-store s = (((κ₁, tt), (q₁, tt), tt, (xr γ₁, (s, tt)), (vr ∷ [], (machS s ∷ [], tt))), tt)
+  to-store s = (((κ₁, tt), (q₁, tt), tt, (xr, (s, tt)), (vr ∷ [], (machS s ∷ [], tt))), tt)
 
-  goes-store : (s : Starts) → (s .count ≤ TASKS) × (s .count ≤ length ys) → Is S.the-row s (machS s ∷ []) → ent 𝓤 (sep 𝓤 (sep 𝓤 (A .lft κ₁ q₁) (sem 𝓤 H A ftrue)) (sem 𝓤 H A (MutSlice (named 0) κ₁ T.the-row .own (xr γ₁) (vr ∷ [])))) (Store 𝓤 H A at-mem run .pre (to-store s))
-  goes-store s fit gs = qed W ((‵ (flft κ₁ q₁) ⊛ ‵ ftrue) ∷ ‵ (MutSlice (named 0) κ₁ T.the-row .own (xr γ₁) (vr ∷ [])) ∷ []) ∵ says ! fit $
+  goes-store : (s : Starts) → (s .count ≤ TASKS) × (s .count ≤ length ys) → Is S.the-row s (machS s ∷ []) → ent 𝓤 (sep 𝓤 (sep 𝓤 (A .lft κ₁ q₁) (sem 𝓤 H A ftrue)) (sem 𝓤 H A (MutSlice (named 0) κ₁ T.the-row .own xr (vr ∷ [])))) (Store 𝓤 H A at-mem run .pre (to-store s))
+  goes-store s fit gs = qed W ((‵ (flft κ₁ q₁) ⊛ ‵ ftrue) ∷ ‵ (MutSlice (named 0) κ₁ T.the-row .own xr (vr ∷ [])) ∷ []) ∵ says ! fit $
       nothing ! $ owned ! S.the-row (Is S.the-row) ((LL.makes S.the-type S′.the-plain) 𝓤 H A) s _ gs $ fjoin ! $ move ! (2 ∷ 0 ∷ []) $ fjoin ! $ move ! (1 ∷ 0 ∷ []) $ frame ! $ done !
 
   module _ (C : Calls 𝓤 H) (Λ : Loops 𝓤 H) (fm : FmC 𝓤 H (W .laws) C) (known-starts : Triple 𝓤 (C #starts-of) (StartsOf 𝓤 H A at-mem run)) (known-core : Triple 𝓤 (C #mirrored-core) (Core 𝓤 H A at-mem run)) (known-store : Triple 𝓤 (C #store-latest) (Store 𝓤 H A at-mem run))
@@ -181,44 +174,38 @@ module _ {M : Type 1} (𝓤 : URA M) (H : Heap 𝓤) (A : Atoms 𝓤) (W : Given
         -- [the ranges' obs; their borrow; their token; their fact; the posts; the atoms; the tokens of both; the record's borrow; its token; _16; …; _0; …]
         assigns ! (addr ! (from ! (fld ! refl (hop ! (look-in ! 37 (sub ! 0 refl (whole !))) (stop !))))) (from ! (stop !)) (init ! 27 refl (tt, tt)) $
         assigns ! (agg ! (and-then ! (load ! (from ! (stop !)) (look ! 27 refl)) (and-then ! (load ! (from ! (fld ! refl (stop !))) (look-in ! 37 (sub ! 1 refl (whole !)))) (no-more !)))) (from ! (stop !)) (init ! 25 refl (tt, (tt, (record { fits = g .0 }, tt)))) $
-        -- the ranges are opened, and lent as a `&` for a lifetime of the call
-        opens-slice ! tt T.the-row ys b₁ o₁ $ feqI ! ℕ (length ys) (length ys) refl $ fjoin ! $ lft-new ! tt (λ ν. move ! (1 ∷ []) $
-        use1 W (later (some (λ (δ : GName). ‵ (ShrSlice (named 0) (ν ∷ []) T.the-row .own (xr δ) (vr ∷ [])) ⊛ ‵ (flent (ν ∷ []) (arr-parts (shares T.the-row) (length ys) .part fullShare ys b₁ o₁))))) (lends-shr-slice 𝓤 H A W T.the-row (named 0) (ν ∷ []) fullShare ys b₁ o₁ g) $ await ! tt $ pick ! (λ δ. split ! $
-        move ! (2 ∷ 0 ∷ []) $ calls-starts ! fm at-mem run known-starts (ν ∷ []) fullShare (xr δ) (and-then ! (load ! (from ! (stop !)) (look ! 27 refl)) (no-more !)) (λ w s e₁ is₁.
-        land ! (from ! (stop !)) (init ! 34 refl (LL.lawful S.the-type S′.the-laws 𝓤 H A W .typed s _ is₁ .0)) $
-        -- the lifetime is ended, the ranges come back and are closed
-        move ! (1 ∷ []) $ split ! $ lft-end ! tt $ move ! (0 ∷ 3 ∷ []) $ lent-back ! tt $ fsplit ! $ drop ! $
-        move ! (0 ∷ 3 ∷ 4 ∷ 5 ∷ []) $ closes-slice ! tt T.the-row ys ys refl b₁ o₁ $
-        -- [the ranges' obs; their borrow; their token; true; what the starts own; the ranges' fact; the posts; the atoms; the tokens of both; the record's borrow; its token; _16; …; _0; …]
-        move ! (9 ∷ 10 ∷ []) $ looks-into ! tt h b o (λ q′ gh.
-        -- [a share of the record's cell; what it owns; what shuts it; its borrow; the ranges' obs; their borrow; their token; true; what the starts own; the ranges' fact; the posts; the atoms; the tokens of both; _16; …; _0; …]
-        assigns ! (of-opd ! (load ! (from ! (hop ! (look ! 43 refl) (stop !))) (look ! 0 refl))) (from ! (stop !)) (init ! 27 refl (LL.lawful P.the-type P′.the-laws 𝓤 H A W .typed h (machP h ∷ []) gh .0)) $
+        calls-starts-mut ! fm at-mem run known-starts κ₁ q₁ b₁ o₁ γ₁ ys g (λ ν δ. and-then ! (load ! (from ! (stop !)) (look ! 27 refl)) (no-more !)) (λ w s e₁ is₁.
+        land ! (from ! (stop !)) (init ! 32 refl (LL.lawful S.the-type S′.the-laws 𝓤 H A W .typed s _ is₁ .0)) $
+        -- [the ranges' obs; their borrow; their token; what the starts own; the ranges' fact; the posts; the atoms; the tokens of both; the record's borrow; its token; _16; …; _0; …]
+        move ! (8 ∷ 9 ∷ []) $ looks-into ! tt h b o (λ q′ gh.
+        -- [a share of the record's cell; what it owns; what shuts it; its borrow; the ranges' obs; their borrow; their token; what the starts own; the ranges' fact; the posts; the atoms; the tokens of both; _16; …; _0; …]
+        assigns ! (of-opd ! (load ! (from ! (hop ! (look ! 42 refl) (stop !))) (look ! 0 refl))) (from ! (stop !)) (init ! 26 refl (LL.lawful P.the-type P′.the-laws 𝓤 H A W .typed h (machP h ∷ []) gh .0)) $
         shuts-record ! tt q′ h b o $
-        -- [the record's token; its borrow; the ranges' obs; their borrow; their token; true; what the starts own; the ranges' fact; the posts; the atoms; the tokens of both; _16; …; _0; …]
-        assigns ! (addr ! (from ! (fld ! refl (hop ! (look-in ! 37 (sub ! 0 refl (whole !))) (stop !))))) (from ! (stop !)) (init ! 23 refl (tt, tt)) $
-        assigns ! (agg ! (and-then ! (load ! (from ! (stop !)) (look ! 23 refl)) (and-then ! (load ! (from ! (fld ! refl (stop !))) (look-in ! 37 (sub ! 1 refl (whole !)))) (no-more !)))) (from ! (stop !)) (init ! 21 refl (tt, (tt, (record { fits = gp .0 }, tt)))) $
-        assigns ! (addr ! (from ! (fld ! refl (hop ! (look-in ! 35 (sub ! 0 refl (whole !))) (stop !))))) (from ! (stop !)) (init ! 19 refl (tt, tt)) $
-        assigns ! (agg ! (and-then ! (load ! (from ! (stop !)) (look ! 19 refl)) (and-then ! (load ! (from ! (fld ! refl (stop !))) (look-in ! 35 (sub ! 1 refl (whole !)))) (no-more !)))) (from ! (stop !)) (init ! 17 refl (tt, (tt, (record { fits = ga .0 }, tt)))) $
+        -- [the record's token; its borrow; the ranges' obs; their borrow; their token; what the starts own; the ranges' fact; the posts; the atoms; the tokens of both; _16; …; _0; …]
+        assigns ! (addr ! (from ! (fld ! refl (hop ! (look-in ! 36 (sub ! 0 refl (whole !))) (stop !))))) (from ! (stop !)) (init ! 22 refl (tt, tt)) $
+        assigns ! (agg ! (and-then ! (load ! (from ! (stop !)) (look ! 22 refl)) (and-then ! (load ! (from ! (fld ! refl (stop !))) (look-in ! 36 (sub ! 1 refl (whole !)))) (no-more !)))) (from ! (stop !)) (init ! 20 refl (tt, (tt, (record { fits = gp .0 }, tt)))) $
+        assigns ! (addr ! (from ! (fld ! refl (hop ! (look-in ! 34 (sub ! 0 refl (whole !))) (stop !))))) (from ! (stop !)) (init ! 18 refl (tt, tt)) $
+        assigns ! (agg ! (and-then ! (load ! (from ! (stop !)) (look ! 18 refl)) (and-then ! (load ! (from ! (fld ! refl (stop !))) (look-in ! 34 (sub ! 1 refl (whole !)))) (no-more !)))) (from ! (stop !)) (init ! 16 refl (tt, (tt, (record { fits = ga .0 }, tt)))) $
         -- the posts and the atoms are passed on for good
-        nothing ! $ move ! (10 ∷ 0 ∷ []) $ fjoin ! $ move ! (9 ∷ 0 ∷ []) $ fjoin ! $ move ! (7 ∷ 0 ∷ []) $ fjoin ! $ owned ! P.the-row (Is P.the-row) ((LL.makes P.the-type P′.the-plain) 𝓤 H A) h _ gh $ fjoin ! $ move ! (8 ∷ 0 ∷ []) $
+        nothing ! $ move ! (9 ∷ 0 ∷ []) $ fjoin ! $ move ! (8 ∷ 0 ∷ []) $ fjoin ! $ move ! (6 ∷ 0 ∷ []) $ fjoin ! $ owned ! P.the-row (Is P.the-row) ((LL.makes P.the-type P′.the-plain) 𝓤 H A) h _ gh $ fjoin ! $ move ! (7 ∷ 0 ∷ []) $
         use2 W (raw (Core 𝓤 H A at-mem run .pre (to-core s w))) (goes-core s w (starts-fit ys s s e₁ refl .0)) $
-        calls-at ! fm (Core 𝓤 H A at-mem run) known-core (to-core s w) (and-then ! (load ! (from ! (stop !)) (look ! 22 refl)) (and-then ! (load ! (from ! (stop !)) (look ! 30 refl)) (and-then ! (load ! (from ! (stop !)) (look ! 18 refl)) (and-then ! (load ! (from ! (stop !)) (look ! 14 refl)) (no-more !))))) (λ w₂.
+        calls-at ! fm (Core 𝓤 H A at-mem run) known-core (to-core s w) (and-then ! (load ! (from ! (stop !)) (look ! 21 refl)) (and-then ! (load ! (from ! (stop !)) (look ! 29 refl)) (and-then ! (load ! (from ! (stop !)) (look ! 17 refl)) (and-then ! (load ! (from ! (stop !)) (look ! 13 refl)) (no-more !))))) (λ w₂.
         use1 W (later (some (λ (r : CoreMirrored). (Tokens ⊛ ‵ (R.the-row .own r (w₂ ∷ []))) ⊛ raw (ensured 𝓤 H A mirrored-core.ended (mirrored-core.clauses 𝓤 H A at-mem run) (κ₂, (κ₃, tt)) (xc s) tt r)))) (id⊢ 𝓤 _) $ await ! tt $ pick ! (λ r.
         split ! $ move ! (1 ∷ []) $ use1 W (some (λ (us : Unit {0} × (Unit {0} × (List ℤ × (List ℤ × Unit {0})))). ‵ (lasts mirrored-core.ended (κ₂, (κ₃, tt)) (xc s) us) ⊛ raw (fact 𝓤 (RanMirroredCore h s (now xp) (now xa) r (us .1 .1 .0) (us .1 .1 .1 .0))))) (id⊢ 𝓤 _) $ pick ! (λ us.
         split ! $ move ! (1 ∷ []) $ heard ! (RanMirroredCore h s (now xp) (now xa) r (us .1 .1 .0) (us .1 .1 .1 .0)) (λ e₂.
         fsplit ! $ drop ! $ fsplit ! $ drop ! $ fsplit ! $ fsplit ! $ move ! (1 ∷ []) $ feqL ! (λ lp. move ! (1 ∷ []) $ fsplit ! $ fsplit ! $ move ! (1 ∷ []) $ feqL ! (λ la. move ! (3 ∷ []) $ split ! $ move ! (1 ∷ []) $
         peeks ! R.the-row (Is R.the-row) (shows 𝓤 H A R.the-row) r (w₂ ∷ []) (λ is₂.
-        land ! (from ! (stop !)) (init ! 32 refl (LL.lawful R.the-type R′.the-laws 𝓤 H A W .typed r _ is₂ .0)) $
-        rewrite ! 32 (λ (u : Val). ‵ (fat fullShare core-mirrored l₆ 0 u)) (ap only (LL.tells R.the-type R′.the-laws r (w₂ ∷ []) is₂)) refl $ drop ! $
-        -- [the tokens of both; the last atoms; true; the last posts; the record's token; its borrow; the ranges' obs; their borrow; their token; true; their fact; _16; …; _0; …]
-        assigns ! (addr ! (from ! (fld ! refl (hop ! (look-in ! 39 (sub ! 0 refl (whole !))) (stop !))))) (from ! (stop !)) (init ! 13 refl (tt, tt)) $
-        assigns ! (agg ! (and-then ! (load ! (from ! (stop !)) (look ! 13 refl)) (and-then ! (load ! (from ! (fld ! refl (stop !))) (look-in ! 39 (sub ! 1 refl (whole !)))) (no-more !)))) (from ! (stop !)) (init ! 11 refl (tt, (tt, (record { fits = g .0 }, tt)))) $
+        land ! (from ! (stop !)) (init ! 31 refl (LL.lawful R.the-type R′.the-laws 𝓤 H A W .typed r _ is₂ .0)) $
+        rewrite ! 31 (λ (u : Val). ‵ (fat fullShare core-mirrored l₆ 0 u)) (ap only (LL.tells R.the-type R′.the-laws r (w₂ ∷ []) is₂)) refl $ drop ! $
+        -- [the tokens of both; the last atoms; true; the last posts; the record's token; its borrow; the ranges' obs; their borrow; their token; their fact; _16; …; _0; …]
+        assigns ! (addr ! (from ! (fld ! refl (hop ! (look-in ! 38 (sub ! 0 refl (whole !))) (stop !))))) (from ! (stop !)) (init ! 12 refl (tt, tt)) $
+        assigns ! (agg ! (and-then ! (load ! (from ! (stop !)) (look ! 12 refl)) (and-then ! (load ! (from ! (fld ! refl (stop !))) (look-in ! 38 (sub ! 1 refl (whole !)))) (no-more !)))) (from ! (stop !)) (init ! 10 refl (tt, (tt, (record { fits = g .0 }, tt)))) $
         -- the ranges are passed on for good
-        move ! (6 ∷ 7 ∷ []) $ fjoin ! $ move ! (9 ∷ 0 ∷ []) $ fjoin ! $ move ! (7 ∷ 8 ∷ 0 ∷ []) $ join ! $
+        move ! (6 ∷ 7 ∷ []) $ fjoin ! $ move ! (8 ∷ 0 ∷ []) $ fjoin ! $ nothing ! $ move ! (8 ∷ 0 ∷ 1 ∷ []) $ join ! $
         use2 W (raw (Store 𝓤 H A at-mem run .pre (to-store (r .starts)))) (goes-store (r .starts) (starts-fit ys s (r .starts) e₁ (e₂ .same-count)) (LL.owed R.the-type R′.the-laws r _ is₂ .1 .0)) $
         calls-at ! fm (Store 𝓤 H A at-mem run) known-store (to-store (r .starts)) (and-then ! (load ! (from ! (stop !)) (look ! 7 refl)) (and-then ! (load ! (from ! (fld ! refl (stop !))) (look-in ! 27 (sub ! 1 refl (whole !)))) (no-more !))) (λ w₃.
-        use1 W (later (some (λ (u : Unit {0}). ((‵ (flft κ₁ q₁) ⊛ ‵ ftrue) ⊛ ‵ (unit .own u (w₃ ∷ []))) ⊛ raw (ensured 𝓤 H A store-latest.ended (store-latest.clauses 𝓤 H A at-mem run) (κ₁, tt) (xr γ₁, (r .starts, tt)) tt u)))) (id⊢ 𝓤 _) $ await ! tt $ pick ! (λ u.
-        split ! $ move ! (1 ∷ []) $ use1 W (some (λ (zs : List Range × (Unit {0} × Unit {0})). ‵ (lasts store-latest.ended (κ₁, tt) (xr γ₁, (r .starts, tt)) zs) ⊛ raw (fact 𝓤 (zs .0 ≡ withLatest ys (take (r .starts .count) (r .starts .latest)))))) (id⊢ 𝓤 _) $ pick ! (λ zs.
+        use1 W (later (some (λ (u : Unit {0}). ((‵ (flft κ₁ q₁) ⊛ ‵ ftrue) ⊛ ‵ (unit .own u (w₃ ∷ []))) ⊛ raw (ensured 𝓤 H A store-latest.ended (store-latest.clauses 𝓤 H A at-mem run) (κ₁, tt) (xr, (r .starts, tt)) tt u)))) (id⊢ 𝓤 _) $ await ! tt $ pick ! (λ u.
+        split ! $ move ! (1 ∷ []) $ use1 W (some (λ (zs : List Range × (Unit {0} × Unit {0})). ‵ (lasts store-latest.ended (κ₁, tt) (xr, (r .starts, tt)) zs) ⊛ raw (fact 𝓤 (zs .0 ≡ withLatest ys (take (r .starts .count) (r .starts .latest)))))) (id⊢ 𝓤 _) $ pick ! (λ zs.
         split ! $ move ! (1 ∷ []) $ heard ! (zs .0 ≡ withLatest ys (take (r .starts .count) (r .starts .latest))) (λ e₃. fsplit ! $ fsplit ! $ move ! (1 ∷ []) $ feqL ! (λ lr. move ! (2 ∷ []) $ split ! $ move ! (1 ∷ []) $
         peeks ! unit (Is unit) (shows 𝓤 H A unit) u (w₃ ∷ []) (λ is₃.
         land ! (from ! (stop !)) (init ! 14 refl (nothing-lawful 𝓤 H A W .typed u _ is₃ .0)) $
@@ -228,7 +215,7 @@ module _ {M : Type 1} (𝓤 : URA M) (H : Heap 𝓤) (A : Atoms 𝓤) (W : Given
         move ! (42 ∷ 43 ∷ []) $ free1 ! $ move ! (40 ∷ 41 ∷ []) $ free1 ! $ move ! (38 ∷ 39 ∷ []) $ free1 ! $ move ! (36 ∷ 37 ∷ []) $ free1 ! $ move ! (34 ∷ 35 ∷ []) $ free1 ! $ move ! (32 ∷ 33 ∷ []) $ free1 ! $ move ! (30 ∷ 31 ∷ []) $ free1 ! $ move ! (28 ∷ 29 ∷ []) $ free1 ! $ move ! (26 ∷ 27 ∷ []) $ free1 ! $ move ! (24 ∷ 25 ∷ []) $ free1 ! $ move ! (22 ∷ 23 ∷ []) $ free1 ! $ move ! (20 ∷ 21 ∷ []) $ free1 ! $ move ! (18 ∷ 19 ∷ []) $ free1 ! $ move ! (16 ∷ 17 ∷ []) $ free1 ! $ move ! (14 ∷ 15 ∷ []) $ free1 ! $ move ! (12 ∷ 13 ∷ []) $ free1 ! $ move ! (10 ∷ 11 ∷ []) $ free1 ! $ free0 ! $
         keep ! (8 ∷ 1 ∷ 4 ∷ 2 ∷ 7 ∷ 5 ∷ []) $
         by ! (exits r (zs .0) (us .1 .1 .0) (us .1 .1 .1 .0) (subst (λ (rs : List Range). RanMirroredLent h ys (now xp) (now xa) (r .outcome) rs (us .1 .1 .0) (us .1 .1 .1 .0)) (sym e₃) (lent-mirrored h ys (now xp) (now xa) r (us .1 .1 .0) (us .1 .1 .1 .0)
-        (subst (λ (st : Starts). RanMirroredCore h st (now xp) (now xa) r (us .1 .1 .0) (us .1 .1 .1 .0)) e₁ e₂))) lr lp la (LL.owed R.the-type R′.the-laws r _ is₂ .0))))))))))))))))))))))))))))))))))))
+        (subst (λ (st : Starts). RanMirroredCore h st (now xp) (now xa) r (us .1 .1 .0) (us .1 .1 .1 .0)) e₁ e₂))) lr lp la (LL.owed R.the-type R′.the-laws r _ is₂ .0))))))))))))))))))))))))))))))))))
 
 module _ {M : Type 1} (𝓤 : URA M) (H : Heap 𝓤) (A : Atoms 𝓤) (W : Given 𝓤 H A) (at-mem : Memory → SProp 𝓤) (run : Routine → Fun 𝓤) where
   f-walks : (C : Calls 𝓤 H) (Λ : Loops 𝓤 H) → FmC 𝓤 H (W .laws) C → Triple 𝓤 (C #starts-of) (StartsOf 𝓤 H A at-mem run) → Triple 𝓤 (C #mirrored-core) (Core 𝓤 H A at-mem run) → Triple 𝓤 (C #store-latest) (Store 𝓤 H A at-mem run)
