@@ -24,10 +24,11 @@ use Rattle.trees.specs.Shapes.{width, heightFor}
 use Rattle.trees.specs.Words.{plainAt}
 use Rattle.trees.proofs.Trees.{new-plain-tree, may-put-plain, was-put-plain, plain-root-of}
 use Rattle.records.specs.declared.record.Propagator.{Propagator}
-use Rattle.records.specs.Orders.{byKey, noTasks, momentAt, completionAt, largestKey}
+use Rattle.records.specs.Orders.{SortedBy, byKey, noTasks, momentAt, completionAt, largestKey}
 use Rattle.records.specs.Records.{momentsIn}
 use Rattle.records.specs.Refusals.{AcceptedInput}
 use Rattle.records.proofs.Accepting.{count, completion-small, completions-are, completions-at}
+use Rattle.records.proofs.Sorted.{sorted-as}
 use Rattle.checker.specs.Formulas.{order, colours, ectOf}
 use Rattle.checker.specs.Holding.{Held}
 use Rattle.checker.proofs.Colouring.{limited, front-is}

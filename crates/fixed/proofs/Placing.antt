@@ -1,6 +1,6 @@
 -- The order of a fixed schedule: a sort by moments is the sort by starts, and it is a permutation of the tasks.
 -- Assumes nothing.
-use mathlib.Core.Path.{_≡_, sym, ap, _∙_}
+use mathlib.Core.Path.{_≡_, sym, ap, ap₂, _∙_}
 use mathlib.Core.Bool.{true, false}
 use mathlib.Core.Logic.{_⊎_, inl, inr}
 use mathlib.Core.List.{List}
@@ -23,7 +23,8 @@ use Rattle.integers.proofs.Moments.{mono, reflect, plus, plus-above, above-show
 use Rattle.integers.proofs.Permutations.{numbers-permute, numbers-length}
 use Rattle.integers.proofs.Sorting.{sort-length, sort-permutes, sort-ordered}
 use Rattle.records.specs.Refusals.{StartFits}
-use Rattle.records.specs.Orders.{byKey, noTasks, momentAt}
+use Rattle.records.specs.Orders.{SortedBy, byKey, noTasks, momentAt}
+use Rattle.records.proofs.Sorted.{sorted-as}
 use Rattle.fixed.specs.FixedSchedules.{startAt, byStart, orderOf}
 use Rattle.fixed.specs.Holding.{Started}
 

@@ -14,8 +14,6 @@ pub fn fixed_refusal(record: Propagator, earliest: &[i32], latest: &[i32]) -> u3
     let number = input_refusal(
         record.count,
         &record.durations,
-        &record.first,
-        &record.second,
         record.total,
         earliest,
         latest,

@@ -5,7 +5,7 @@ use mathlib.Core.List.{[], _∷_, _++_, flatMap}
 use lib.IntN.{pos, negsuc}
 use lib.ListN.{replicate}
 use Rattle.integers.specs.Filling.{filled}
-use Rattle.integers.specs.Orders.{insert, sort, has, numbers}
+use Rattle.integers.specs.Orders.{insert, sort, numbers}
 use Rattle.integers.specs.Tests.{allBelow, refusal}
 use Rattle.scheduling.specs.Scheduling.{total}
 use Rattle.records.specs.declared.record.Propagator.{Propagator}

@@ -5,13 +5,12 @@ use mathlib.Core.List.{List, []}
 use Prim.Native.Nat.{ℕ, _<_}
 use lib.IntN.{ℤ}
 use lib.ListN.{length}
+use Rattle.integers.specs.Answers.{refusedBy}
 use Rattle.integers.specs.Limits.{TASKS}
 use Rattle.records.specs.declared.record.Propagator.{Propagator}
 use Rattle.records.proofs.Refused.{input-many}
 use Rattle.precedences.specs.declared.answers.Precedences.{Precedences}
-use Rattle.precedences.specs.declared.answers.Precedences.the-variants as precedences
 use Rattle.precedences.specs.declared.answers.Reason.{Reason}
-use Rattle.precedences.specs.declared.answers.Reason.the-variants as reason
 use Rattle.precedences.specs.Precedences.{RanPrecedences}
 use Rattle.precedences.specs.Reasons.{ReasonGiven}
 use Rattle.precedences.proofs.Passing.{turned-back as pass-turned-back}
@@ -20,10 +19,10 @@ use Rattle.precedences.proofs.Explaining.{turned-back as reason-turned-
 pub too-many : (before : Propagator) (es ls : List ℤ) (r : Precedences) (es′ : List ℤ) → TASKS < length es → RanPrecedences before [] [] r es′ → RanPrecedences before es ls r es
 too-many before es ls r es′ many a =
     let (same, not) = input-many before es ls [] [] many in
-    pass-turned-back before es ls r es not (a .refused (λ z. not (sym same ∙ z)) .answer ∙ ap precedences.Refused same) refl
+    pass-turned-back before es ls r es not (a .refused (λ z. not (sym same ∙ z)) .answer ∙ ap refusedBy same) refl
 
 pub too-many-reason : (before : Propagator) (es ls : List ℤ) (task : ℕ) (ws : List ℤ) (r : Reason) (ws′ : List ℤ) → TASKS < length es → ReasonGiven before [] [] task ws r ws′ → ReasonGiven before es ls task ws r ws′
 too-many-reason before es ls task ws r ws′ many a =
     let (same, not) = input-many before es ls _ _ many in
     let k = a .refused (λ z. not (sym same ∙ z)) in
-    reason-turned-back before es ls task ws r ws′ not (k .answer ∙ ap reason.Refused same) (k .words)
+    reason-turned-back before es ls task ws r ws′ not (k .answer ∙ ap refusedBy same) (k .words)

@@ -90,8 +90,6 @@ pub fn precedences(record: Propagator, earliest: &mut [i32], latest: &[i32]) -> 
     let number = input_refusal(
         record.count,
         &record.durations,
-        &record.first,
-        &record.second,
         record.total,
         earliest,
         latest,

@@ -15,7 +15,7 @@ ghost use lib.ListN.{length};
 ghost use Rattle.integers.specs.Limits.{TASKS};
 ghost use Rattle.integers.specs.Moments.{instant, zeroAt};
 ghost use Rattle.explanations.specs.Explanations.{Stored};
-ghost use Rattle.records.specs.Records.{tasksIn, WholeOrders, recordOf};
+ghost use Rattle.records.specs.Records.{tasksIn, recordOf};
 ghost use Rattle.records.specs.Refusals.{AcceptedInput};
 ghost use Rattle.precedences.specs.Holding.{startAt, memberAt, Ranged, ReasonLeft};
 ghost use Rattle.precedences.specs.Reasons.{bothOf, bothBounds, Explained, reasonNumber, ReasonGiven, AcceptedReason};
@@ -98,18 +98,15 @@ fn accepted_reason(
 fn reason_refusal<'a>(
     n: usize,
     durations: &'a [u32; 48],
-    first: &'a [usize; 48],
-    second: &'a [usize; 48],
     total: u32,
     earliest: &[i32],
     latest: &[i32],
     task: usize,
     words: usize,
 ) -> u32
-    requires { ⌜ WholeOrders (now first) (now second) ⌝ }
-    ensures { λ r. ⌜ r ≡ reasonNumber (recordOf n (now (durations .entry)) (now (first .entry)) (now (second .entry)) total) (now (earliest .entry)) (now (latest .entry)) task words ⌝ }
+    ensures { λ r. ⌜ r ≡ reasonNumber (recordOf n (now (durations .entry)) total) (now (earliest .entry)) (now (latest .entry)) task words ⌝ }
 {
-    let number = input_refusal(n, durations, first, second, total, earliest, latest);
+    let number = input_refusal(n, durations, total, earliest, latest);
     if number != 0 {
         return number;
     }
@@ -135,8 +132,6 @@ pub fn precedence_reason(
     let number = reason_refusal(
         record.count,
         &record.durations,
-        &record.first,
-        &record.second,
         record.total,
         earliest,
         latest,

@@ -16,13 +16,13 @@ long c = search needs
 
 -- when the tree is made: what each call before left
 abbrev start : tie.After-new → tie.Start
-start c = c .before .before .before .before .before .before .before .before .before .before .before .before .before
+start c = c .before .before .before .before .before .before .before .before .before .before .before .before .before .before .before
 
 abbrev est : tie.After-new → tie.After-moments-of
-est c = c .before .before .before .before .before .before .before .before .before .before
+est c = c .before .before .before .before .before .before .before .before .before .before .before .before
 
 abbrev lst : tie.After-new → tie.After-moments-of2
-lst c = c .before .before .before .before .before .before .before .before
+lst c = c .before .before .before .before .before .before .before .before .before .before
 
 abbrev lct : tie.After-new → tie.After-completions
 lct c = c .before .before .before .before .before .before
@@ -60,7 +60,7 @@ sorted-by-key-requires-2 : tie.Need-sorted-by-key-requires-2
 sorted-by-key-requires-2 c κs = search needs
 
 new-requires : tie.Need-new-requires
-new-requires c κs = ?
+new-requires c κs = (c .before .before .before .before .before .before .before .before .before .before .before .before .before .before .pre .lawful .few, sorted-permutes (c .before .before .before .sorted-by-key .ensures))
 
 read-tasks-requires : tie.Need-read-tasks-requires
 read-tasks-requires c κs = ready (c .before .before .before .before .before .before .before .before)

@@ -5,7 +5,6 @@ use lib.ListN.{length}
 use borrow.Author.Needs.{needs}
 use Rattle.integers.specs.Answers.{refusedBy}
 use Rattle.integers.specs.Limits.{TASKS}
-use Rattle.records.specs.Records.{WholeOrders}
 use Rattle.records.specs.Refusals.{AcceptedInput}
 use Rattle.records.proofs.Refused.{accepted-input}
 use Rattle.counter.proofs.Answers.{tested, turned-back}
@@ -15,20 +14,17 @@ use Rattle.counter.proofs.overload_test.overload_test.Tie as tie
 long : (c : tie.Start) → length (c .args .t1 .durations) ≡ TASKS
 long c = search needs
 
-whole : (c : tie.Start) → WholeOrders (c .args .t1 .first) (c .args .t1 .second)
-whole c = record { one = search needs; other = search needs }
-
 -- no test failed
-passed : (c : tie.Else1) → let a = c .before .before .before .before .before .before .args in AcceptedInput (a .t1) (a .earliest .now) (a .latest .now)
-passed c = let a = c .before .before .before .before .before .before .args in accepted-input (a .t1) (a .earliest .now) (a .latest .now) .0 (sym (c .before .input-refusal .ensures) ∙ c .if1 .left)
+passed : (c : tie.Else1) → let a = c .before .before .before .before .args in AcceptedInput (a .t1) (a .earliest .now) (a .latest .now)
+passed c = let a = c .before .before .before .before .args in accepted-input (a .t1) (a .earliest .now) (a .latest .now) .0 (sym (c .before .input-refusal .ensures) ∙ c .if1 .left)
 
 input-refusal-requires : tie.Need-input-refusal-requires
-input-refusal-requires c κs = whole (c .before .before .before .before)
+input-refusal-requires c κs = search needs
 
 returns : tie.Need-returns
 returns c =
     let n = c .before in
-    let a = n .before .before .before .before .before .args in
+    let a = n .before .before .before .args in
     turned-back (a .t1) (a .earliest .now) (a .latest .now) _ (λ z. c .if1 .taken (n .input-refusal .ensures ∙ z)) (ap refusedBy (n .input-refusal .ensures))
 
 accepted-requires : tie.Need-accepted-requires
@@ -36,7 +32,7 @@ accepted-requires c κs = passed c
 
 returns-2 : tie.Need-returns-2
 returns-2 c =
-    let s = c .before .before .before .before .before .before .before in
+    let s = c .before .before .before .before .before in
     let a = s .args in
     tested (a .t1) (a .earliest .now) (a .latest .now) _ (passed (c .before)) (long s) (c .accepted .ensures)
 

@@ -10,7 +10,7 @@ use Rattle.precedences.proofs.pass.precedences.Statement.{statement}
 use Rattle.precedences.proofs.pass.precedences.Tie as tie
 
 abbrev start : tie.After-input-refusal → tie.Start
-start n = n .before .before .before .before .before .before
+start n = n .before .before .before .before
 
 -- no test failed
 passed : (c : tie.Else1) → let a = start (c .before) .args in AcceptedInput (a .t1) (a .earliest .now) (a .latest .now)

@@ -11,7 +11,7 @@ use Rattle.precedences.proofs.reasons.precedence_reason.Statement.{stat
 use Rattle.precedences.proofs.reasons.precedence_reason.Tie as tie
 
 abbrev start : tie.After-reason-refusal → tie.Start
-start n = n .before .before .before .before .before
+start n = n .before .before .before
 
 -- no test failed
 passed : (c : tie.Else1) → let a = start (c .before) .args in reasonNumber (a .t1) (a .earliest .now) (a .latest .now) (a .task) (length (a .atoms .now)) ≡ 0

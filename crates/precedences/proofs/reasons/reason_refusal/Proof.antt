@@ -18,7 +18,7 @@ use Rattle.precedences.proofs.reasons.reason_refusal.Tie as tie
 
 -- the record that the call is lent
 abbrev lent : tie.Start → Propagator
-lent c = recordOf (c .args .n) (c .args .durations .now) (c .args .first .now) (c .args .second .now) (c .args .total)
+lent c = recordOf (c .args .n) (c .args .durations .now) (c .args .total)
 
 -- the record and its ranges pass, so there are few tasks
 passed : (c : tie.Else1) → let start = c .before .before in let args = start .args in AllPassed (inputTests (lent start) (args .earliest .now) (args .latest .now))
