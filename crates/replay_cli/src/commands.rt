@@ -1,4 +1,7 @@
 // A line's command, and its answer.
+use crate::changes::adds;
+use crate::changes::creates;
+use crate::changes::removes;
 use crate::checks::checks;
 use crate::lines::put_line;
 use crate::parts::WORDS;
@@ -9,16 +12,10 @@ use crate::parts::first_word;
 use crate::parts::numbers_in;
 use crate::parts::part;
 use crate::parts::same;
-use crate::requests::bills;
-use crate::requests::busies;
-use crate::requests::explains;
-use crate::requests::frees;
-use crate::requests::mirrors;
-use crate::requests::precedes;
-use crate::requests::prints;
-use crate::requests::quick;
-use crate::running::creates;
-use crate::running::runs;
+use crate::requests::RANGES;
+use crate::requests::behind;
+use crate::requests::put_asked;
+use crate::requests::spread;
 use crate::states::applies;
 use crate::states::bounds;
 use crate::states::empties;
@@ -32,7 +29,8 @@ use records::record::create;
 // The commands that are understood.
 pub enum Command {
     Create,
-    Run,
+    Add,
+    Remove,
     Check,
     State,
     Apply,
@@ -41,6 +39,7 @@ pub enum Command {
     Upper,
     Show,
     Prepare,
+    Run,
     Mirror,
     Quick,
     Page,
@@ -131,7 +130,8 @@ impl Session {
     fn call(self, out: &mut [u8], command: Command, a: &[i32], b: &[i32], c: &[i32]) -> Session {
         match command {
             Command::Create => creates(self, out, a),
-            Command::Run => runs(self, out, a),
+            Command::Add => adds(self, out, a),
+            Command::Remove => removes(self, out, a),
             Command::Check => checks(self, out, a, b, c),
             Command::State => empties(self, out),
             Command::Apply => applies(self, out, a),
@@ -140,16 +140,37 @@ impl Session {
             Command::Upper => bounds(self, out, a, false),
             Command::Show => shows(self, out, a),
             Command::Prepare => prepares(self, out, a, b),
-            Command::Mirror => mirrors(self, out, a),
-            Command::Quick => quick(self, out, a),
-            Command::Page => prints(self, out, a),
-            Command::Charges => bills(self, out, a, b),
-            Command::Free => frees(self, out, a, b),
-            Command::Busiest => busies(self, out, a, b),
-            Command::Precede => precedes(self, out, a),
-            Command::PrecedeWhy => explains(self, out, a),
+            Command::PrecedeWhy => self.ask(out, command, behind(a), a),
             Command::Unknown => self.failed(out),
+            _ => self.ask(out, command, a, b),
         }
+    }
+
+    // The lines of a call on the record and on ranges, whose numbers are pairs. The record stays as it is.
+    fn ask(self, out: &mut [u8], command: Command, words: &[i32], more: &[i32]) -> Session {
+        if !self.made {
+            return self.failed(out);
+        }
+        if words.len() % 2 != 0 {
+            return self.failed(out);
+        }
+        let at = self.at;
+        let record = self.record;
+        let mut earliest = [0i32; RANGES];
+        let mut latest = [0i32; RANGES];
+        spread(&mut earliest, words, 0);
+        spread(&mut latest, words, 1);
+        let n = words.len() / 2;
+        self.said(put_asked(
+            out,
+            at,
+            command,
+            record,
+            &mut earliest,
+            &mut latest,
+            n,
+            more,
+        ))
     }
 
     // A command that is not understood.
@@ -208,8 +229,11 @@ fn command_of(word: &[u8]) -> Command {
     if same(word, b"create") {
         return Command::Create;
     }
-    if same(word, b"run") {
-        return Command::Run;
+    if same(word, b"add") {
+        return Command::Add;
+    }
+    if same(word, b"remove") {
+        return Command::Remove;
     }
     if same(word, b"check") {
         return Command::Check;
@@ -238,8 +262,11 @@ fn command_of(word: &[u8]) -> Command {
     request_of(word)
 }
 
-// The command of a word that asks for one of the further calls.
+// The command of a word that asks for a call on ranges.
 fn request_of(word: &[u8]) -> Command {
+    if same(word, b"run") {
+        return Command::Run;
+    }
     if same(word, b"mirror") {
         return Command::Mirror;
     }

@@ -107,14 +107,3 @@ pub fn put_numbers(out: &mut [u8], at: usize, xs: &[i32]) -> usize {
     }
     put_end(out, end)
 }
-
-// The first n numbers of an order, in the same way.
-pub fn put_order(out: &mut [u8], at: usize, order: &[usize; 48], n: usize) -> usize {
-    let mut end = at;
-    let mut i = 0;
-    while i < n && i < 48 {
-        end = put_spaced_count(out, end, order[i]);
-        i += 1;
-    }
-    put_end(out, end)
-}

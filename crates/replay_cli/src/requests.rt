@@ -1,24 +1,20 @@
-// The further calls: the mirrored pass, the overload test, the page, the charges, the earliest free start, the busiest stretch and the precedences.
-use crate::commands::Session;
+// The calls on the record and on ranges: the run, the mirrored pass, the overload test, the page, the charges, the earliest free start,
+// the busiest stretch and the precedences.
+use crate::commands::Command;
 use crate::lines::put;
 use crate::lines::put_counted;
 use crate::lines::put_end;
 use crate::lines::put_line;
-use crate::lines::put_numbers;
 use crate::lines::put_refused;
 use crate::lines::put_spaced;
 use crate::lines::put_spaced_count;
-use crate::parts::first;
+use crate::parts::WORDS;
 use crate::parts::stretch;
-use crate::running::ATOMS;
-use crate::running::POSTS;
-use crate::running::RANGES;
 use crate::running::atoms_of;
-use crate::running::posts_of;
-use crate::running::put_outcome;
-use crate::running::put_posts;
+use crate::running::put_mirrored;
 use crate::running::put_reason;
-use crate::running::spread;
+use crate::running::put_run;
+use crate::running::put_starts;
 use crate::states::place_of;
 use charges::answer::Bill;
 use charges::answer::Billing;
@@ -27,17 +23,19 @@ use counter::overload_test::Overload;
 use counter::overload_test::overload_test;
 use free_starts::free_start::FreeStart;
 use free_starts::free_start::free_start;
-use mirrored::mirrored_propagator::propagate_mirrored;
 use pages::answer::Page;
 use pages::page::page;
 use precedences::answers::Precedences;
 use precedences::answers::Reason;
 use precedences::pass::precedences;
 use precedences::reasons::precedence_reason;
-use propagator::disjunctive_propagator::Outcome;
 use records::record::Propagator;
 use stretches::answer::Busiest;
 use stretches::stretch::busiest_stretch;
+ghost use Prim.Native.Nat.{_≤_};
+
+// Ranges of one command that are kept.
+pub const RANGES: usize = WORDS / 2;
 
 // Bytes of a page of 48 tasks, and of each of its lines.
 const PAGE: usize = 1519;
@@ -47,93 +45,78 @@ const LINE: usize = 31;
 // Words of the reason of one bound of 48 tasks.
 const REASON: usize = 288;
 
-// The ranges of a command: their numbers stand in the first `count` places.
-struct Ranges {
-    earliest: [i32; RANGES],
-    latest: [i32; RANGES],
-    count: usize,
-}
-
-// The ranges that the numbers are.
-fn ranges_of(words: &[i32]) -> Ranges {
-    let mut earliest = [0i32; RANGES];
-    let mut latest = [0i32; RANGES];
-    spread(&mut earliest, words, 0);
-    spread(&mut latest, words, 1);
-    Ranges {
-        earliest,
-        latest,
-        count: words.len() / 2,
+// Every second number, from the first or the second on.
+pub fn spread(starts: &mut [i32; RANGES], words: &[i32], from: usize)
+    requires { ⌜ from ≤ 1 ⌝ }
+{
+    let n = words.len() / 2;
+    let mut i = 0;
+    while i < n && i < RANGES {
+        starts[i] = words[2 * i + from];
+        i += 1;
     }
 }
 
-// Whether there is a record, and the numbers are pairs.
-fn ready(session: Session, words: &[i32]) -> bool {
-    if words.len() % 2 != 0 {
-        return false;
+// The numbers behind the first.
+pub fn behind(words: &[i32]) -> &[i32] {
+    if words.len() == 0 {
+        return &words[0..0];
     }
-    session.made
+    &words[1..]
 }
 
-// `mirror`: the mirrored pass of the record on the ranges. The record stays as it is.
-pub fn mirrors(session: Session, out: &mut [u8], words: &[i32]) -> Session {
-    if !ready(session, words) {
-        return session.failed(out);
-    }
-    let at = session.at;
-    let record = session.record;
-    let ranges = ranges_of(words);
-    session.said(put_mirrored(out, at, record, ranges))
-}
-
-// Its lines: posts, the end, and the latest starts; or the number that turned it back.
-fn put_mirrored(out: &mut [u8], at: usize, record: Propagator, ranges: Ranges) -> usize {
-    let n = ranges.count;
-    let earliest = ranges.earliest;
-    let mut latest = ranges.latest;
-    let mut posts = [0i32; POSTS];
-    let mut atoms = [0i32; ATOMS];
-    let outcome = lent_pass(record, &earliest, &mut latest, n, &mut posts, &mut atoms);
-    if let Outcome::Refused(number) = outcome {
-        return put_refused(out, at, number);
-    }
-    let a = put_posts(out, at, &posts, &atoms, posts_of(outcome));
-    let b = put_outcome(out, a, outcome, &atoms);
-    let c = put_line(out, b, b"starts");
-    put_numbers(out, c, first(&latest, n))
-}
-
-// The pass on the first n places of the two slices.
-fn lent_pass(
+// The lines of a command on the first n ranges.
+pub fn put_asked(
+    out: &mut [u8],
+    at: usize,
+    command: Command,
     record: Propagator,
-    earliest: &[i32],
+    earliest: &mut [i32],
     latest: &mut [i32],
     n: usize,
-    posts: &mut [i32],
-    atoms: &mut [i32],
-) -> Outcome {
-    if n > latest.len() {
-        return Outcome::Refused(10);
+    more: &[i32],
+) -> usize {
+    if n > earliest.len() {
+        return put_refused(out, at, 10);
     }
-    propagate_mirrored(record, first(earliest, n), &mut latest[0..n], posts, atoms)
+    if n > latest.len() {
+        return put_refused(out, at, 10);
+    }
+    put_on(
+        out,
+        at,
+        command,
+        record,
+        &mut earliest[0..n],
+        &mut latest[0..n],
+        more,
+    )
+}
+
+// The lines of a command on ranges; behind them stand what more is asked.
+fn put_on(
+    out: &mut [u8],
+    at: usize,
+    command: Command,
+    record: Propagator,
+    earliest: &mut [i32],
+    latest: &mut [i32],
+    more: &[i32],
+) -> usize {
+    match command {
+        Command::Run => put_run(out, at, record, earliest, latest),
+        Command::Mirror => put_mirrored(out, at, record, earliest, latest),
+        Command::Quick => put_overloads(out, at, overload_test(record, earliest, latest)),
+        Command::Page => put_paged(out, at, record, earliest, latest),
+        Command::Charges => put_billed(out, at, record, earliest, latest, more),
+        Command::Free => put_free(out, at, record, earliest, latest, more),
+        Command::Busiest => put_busiest(out, at, record, earliest, latest, more),
+        Command::Precede => put_raised(out, at, record, earliest, latest),
+        _ => put_why_raised(out, at, record, earliest, latest, more),
+    }
 }
 
 // `quick`: whether some set overloads.
-pub fn quick(session: Session, out: &mut [u8], words: &[i32]) -> Session {
-    if !ready(session, words) {
-        return session.failed(out);
-    }
-    let at = session.at;
-    let record = session.record;
-    let ranges = ranges_of(words);
-    let n = ranges.count;
-    let earliest = ranges.earliest;
-    let latest = ranges.latest;
-    let answer = overload_test(record, first(&earliest, n), first(&latest, n));
-    session.said(put_overloads(out, at, answer))
-}
-
-// Its line.
 fn put_overloads(out: &mut [u8], at: usize, answer: Overload) -> usize {
     match answer {
         Overload::Yes(read) => put_counted(out, at, b"yes", read),
@@ -143,21 +126,18 @@ fn put_overloads(out: &mut [u8], at: usize, answer: Overload) -> usize {
 }
 
 // `page`: the page of a fixed schedule.
-pub fn prints(session: Session, out: &mut [u8], words: &[i32]) -> Session {
-    if !ready(session, words) {
-        return session.failed(out);
-    }
-    let at = session.at;
-    let record = session.record;
-    let ranges = ranges_of(words);
-    let n = ranges.count;
-    let earliest = ranges.earliest;
-    let latest = ranges.latest;
+fn put_paged(
+    out: &mut [u8],
+    at: usize,
+    record: Propagator,
+    earliest: &[i32],
+    latest: &[i32],
+) -> usize {
     let mut sheet = [0u8; PAGE];
-    let answer = page(record, first(&earliest, n), first(&latest, n), &mut sheet);
+    let answer = page(record, earliest, latest, &mut sheet);
     match answer {
-        Page::Written(bytes) => session.said(put_page(out, at, &sheet, bytes / LINE)),
-        Page::Refused(number) => session.said(put_refused(out, at, number)),
+        Page::Written(bytes) => put_page(out, at, &sheet, bytes / LINE),
+        Page::Refused(number) => put_refused(out, at, number),
     }
 }
 
@@ -181,22 +161,20 @@ fn put_page(out: &mut [u8], at: usize, sheet: &[u8], lines: usize) -> usize {
 }
 
 // `charges`: the charges of a fixed schedule by the due moments.
-pub fn bills(session: Session, out: &mut [u8], words: &[i32], due: &[i32]) -> Session {
-    if !ready(session, words) {
-        return session.failed(out);
-    }
-    let at = session.at;
-    let record = session.record;
-    let ranges = ranges_of(words);
-    let n = ranges.count;
-    let earliest = ranges.earliest;
-    let latest = ranges.latest;
-    let made = charges(record, first(&earliest, n), first(&latest, n), due);
+fn put_billed(
+    out: &mut [u8],
+    at: usize,
+    record: Propagator,
+    earliest: &[i32],
+    latest: &[i32],
+    due: &[i32],
+) -> usize {
+    let made = charges(record, earliest, latest, due);
     let answer = made.answer;
     let bill = made.bill;
     match answer {
-        Billing::Made => session.said(put_bill(out, at, bill, n)),
-        Billing::Refused(number) => session.said(put_refused(out, at, number)),
+        Billing::Made => put_bill(out, at, bill, earliest.len()),
+        Billing::Refused(number) => put_refused(out, at, number),
     }
 }
 
@@ -226,31 +204,18 @@ fn put_charges(out: &mut [u8], at: usize, charges: &[u32; 48], n: usize) -> usiz
 }
 
 // `free`: the earliest free start beside a fixed schedule, for a moment and a duration.
-pub fn frees(session: Session, out: &mut [u8], words: &[i32], asked: &[i32]) -> Session {
-    if !ready(session, words) {
-        return session.failed(out);
-    }
+fn put_free(
+    out: &mut [u8],
+    at: usize,
+    record: Propagator,
+    earliest: &[i32],
+    latest: &[i32],
+    asked: &[i32],
+) -> usize {
     if asked.len() != 2 {
-        return session.failed(out);
+        return put_line(out, at, b"error\n");
     }
-    let at = session.at;
-    let record = session.record;
-    let ranges = ranges_of(words);
-    let n = ranges.count;
-    let earliest = ranges.earliest;
-    let latest = ranges.latest;
-    let answer = free_start(
-        record,
-        first(&earliest, n),
-        first(&latest, n),
-        asked[0],
-        asked[1],
-    );
-    session.said(put_free(out, at, answer))
-}
-
-// Its line.
-fn put_free(out: &mut [u8], at: usize, answer: FreeStart) -> usize {
+    let answer = free_start(record, earliest, latest, asked[0], asked[1]);
     match answer {
         FreeStart::At(start) => put_started(out, at, start),
         FreeStart::Refused(number) => put_refused(out, at, number),
@@ -265,25 +230,18 @@ fn put_started(out: &mut [u8], at: usize, start: i32) -> usize {
 }
 
 // `busiest`: the busiest stretch of a fixed schedule, for a length.
-pub fn busies(session: Session, out: &mut [u8], words: &[i32], asked: &[i32]) -> Session {
-    if !ready(session, words) {
-        return session.failed(out);
-    }
+fn put_busiest(
+    out: &mut [u8],
+    at: usize,
+    record: Propagator,
+    earliest: &[i32],
+    latest: &[i32],
+    asked: &[i32],
+) -> usize {
     if asked.len() != 1 {
-        return session.failed(out);
+        return put_line(out, at, b"error\n");
     }
-    let at = session.at;
-    let record = session.record;
-    let ranges = ranges_of(words);
-    let n = ranges.count;
-    let earliest = ranges.earliest;
-    let latest = ranges.latest;
-    let answer = busiest_stretch(record, first(&earliest, n), first(&latest, n), asked[0]);
-    session.said(put_busiest(out, at, answer))
-}
-
-// Its line.
-fn put_busiest(out: &mut [u8], at: usize, answer: Busiest) -> usize {
+    let answer = busiest_stretch(record, earliest, latest, asked[0]);
     match answer {
         Busiest::Stretch(covered, start) => put_covered(out, at, covered, start),
         Busiest::Refused(number) => put_refused(out, at, number),
@@ -299,105 +257,44 @@ fn put_covered(out: &mut [u8], at: usize, covered: u32, start: i32) -> usize {
     put_end(out, d)
 }
 
-// `precede`: the pass by the precedences that can be read off.
-pub fn precedes(session: Session, out: &mut [u8], words: &[i32]) -> Session {
-    if !ready(session, words) {
-        return session.failed(out);
-    }
-    let at = session.at;
-    let record = session.record;
-    let ranges = ranges_of(words);
-    session.said(put_raised(out, at, record, ranges))
-}
-
-// Its line: the earliest starts, or the task whose bound passes its latest start.
-fn put_raised(out: &mut [u8], at: usize, record: Propagator, ranges: Ranges) -> usize {
-    let n = ranges.count;
-    let latest = ranges.latest;
-    let mut earliest = ranges.earliest;
-    let answer = lent_precedences(record, &mut earliest, &latest, n);
+// `precede`: the pass by the precedences that can be read off leaves earliest starts, or names the task whose bound passes its latest start.
+fn put_raised(
+    out: &mut [u8],
+    at: usize,
+    record: Propagator,
+    earliest: &mut [i32],
+    latest: &[i32],
+) -> usize {
+    let answer = precedences(record, earliest, latest);
     match answer {
-        Precedences::Done => put_starts(out, at, first(&earliest, n)),
+        Precedences::Done => put_starts(out, at, earliest),
         Precedences::Emptied(task) => put_counted(out, at, b"passes", task),
         Precedences::Refused(number) => put_refused(out, at, number),
     }
 }
 
-// The pass on the first n places of the two slices.
-fn lent_precedences(
-    record: Propagator,
-    earliest: &mut [i32],
-    latest: &[i32],
-    n: usize,
-) -> Precedences {
-    if n > earliest.len() {
-        return Precedences::Refused(10);
-    }
-    precedences(record, &mut earliest[0..n], first(latest, n))
-}
-
-// The line of starts.
-fn put_starts(out: &mut [u8], at: usize, starts: &[i32]) -> usize {
-    let from = put_line(out, at, b"starts");
-    put_numbers(out, from, starts)
-}
-
-// The numbers behind the first.
-fn behind(words: &[i32]) -> &[i32] {
-    if words.len() == 0 {
-        return &words[0..0];
-    }
-    &words[1..]
-}
-
 // `precede-why`: the reason of the bound of the task that is named first.
-pub fn explains(session: Session, out: &mut [u8], words: &[i32]) -> Session {
-    let rest = behind(words);
-    if !ready(session, rest) {
-        return session.failed(out);
-    }
-    if words.len() == 0 {
-        return session.failed(out);
-    }
-    let task = place_of(words[0]);
-    let at = session.at;
-    let record = session.record;
-    let ranges = ranges_of(rest);
-    session.said(put_why_raised(out, at, record, ranges, task))
-}
-
-// Its lines: the atom count, and the atoms.
 fn put_why_raised(
     out: &mut [u8],
     at: usize,
     record: Propagator,
-    ranges: Ranges,
-    task: usize,
+    earliest: &[i32],
+    latest: &[i32],
+    named: &[i32],
 ) -> usize {
-    let n = ranges.count;
-    let earliest = ranges.earliest;
-    let latest = ranges.latest;
+    if named.len() == 0 {
+        return put_line(out, at, b"error\n");
+    }
     let mut atoms = [0i32; REASON];
-    let answer = precedence_reason(
-        record,
-        first(&earliest, n),
-        first(&latest, n),
-        task,
-        &mut atoms,
-    );
+    let answer = precedence_reason(record, earliest, latest, place_of(named[0]), &mut atoms);
     match answer {
-        Reason::Written(count) => put_counted_reason(
-            out,
-            at,
-            first(&atoms, 3 * (count % REASON)),
-            count,
-        ),
+        Reason::Written(count) => put_counted_reason(out, at, &atoms, count),
         Reason::Refused(number) => put_refused(out, at, number),
     }
 }
 
 // The count of a reason's atoms, and then these.
-fn put_counted_reason(out: &mut [u8], at: usize, words: &[i32], count: usize) -> usize {
+fn put_counted_reason(out: &mut [u8], at: usize, atoms: &[i32], count: usize) -> usize {
     let from = put_counted(out, at, b"count", count);
-    put_reason(out, from, words)
+    put_reason(out, from, atoms_of(atoms, 0, count))
 }

@@ -1,7 +1,7 @@
 use Prim.Native.Nat.{_-_}
 use borrow.Author.Needs.{needs}
-use Rattle.replay_cli.proofs.running.spread.Statement.{statement}
-use Rattle.replay_cli.proofs.running.spread.Tie as tie
+use Rattle.replay_cli.proofs.requests.spread.Statement.{statement}
+use Rattle.replay_cli.proofs.requests.spread.Tie as tie
 
 abbrev Inv-loop : tie.InvT-loop
 Inv-loop starts₀ words from n i₀ starts i = Unit {0}
