@@ -9,7 +9,7 @@ int main(void) {
     int32_t posts[4 * 3], atoms[6 * 3 * 3];
 
     reedgrit_new made = reedgrit_create(durations, 3);
-    assert(made.number == 0);
+    assert(made.number == 0 && sizeof made.propagator == 208);
     reedgrit_run_answer ran = reedgrit_run(&made.propagator, ranges, 3, posts, 12, atoms, 54);
     assert(ran.kind == REEDGRIT_DONE);
     for (size_t k = 0; k < ran.posts; k++) {
@@ -23,10 +23,23 @@ int main(void) {
     }
     printf("done %d %d %d\n", (int)ranges[0].earliest, (int)ranges[1].earliest, (int)ranges[2].earliest);
 
+    /* The run left the record as it was: another run on these ranges finds nothing more to post, and one on the first ranges answers as before. */
+    assert(made.propagator.count == 3 && made.propagator.durations[0] == 4 && made.propagator.total == 12);
+    assert(reedgrit_run(&made.propagator, ranges, 3, posts, 12, atoms, 54).posts == 0);
+    reedgrit_range again[] = {{0, 6}, {1, 5}, {0, 20}};
+    assert(reedgrit_run(&made.propagator, again, 3, posts, 12, atoms, 54).posts == 1 && again[2].earliest == 9);
+
     const int32_t no_tasks[] = {0};
     assert(reedgrit_create(no_tasks, 0).number == 1);
     const int32_t premises[] = {0, REEDGRIT_NOT_EQUAL, 5, 0, REEDGRIT_GREATER_EQUAL, 5};
     reedgrit_state_answer least = reedgrit_lower_bound(premises, 6, 0);
     assert(least.kind == REEDGRIT_YES && least.infinity == 0 && least.value == 6);
+
+    /* The premises contradict each other; but a question on an unknown variable is turned back before they are applied. */
+    const int32_t crossed[] = {0, REEDGRIT_GREATER_EQUAL, 1, 0, REEDGRIT_LESS_EQUAL, 0};
+    reedgrit_state_answer none = reedgrit_lower_bound(crossed, 6, 1);
+    assert(none.kind == REEDGRIT_NO_STATE && none.variable == 0);
+    reedgrit_state_answer unknown = reedgrit_lower_bound(crossed, 6, 64);
+    assert(unknown.kind == REEDGRIT_STATE_REFUSED && unknown.number == 6);
     return 0;
 }

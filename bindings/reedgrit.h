@@ -26,14 +26,14 @@ enum { REEDGRIT_GREATER_EQUAL = 0, REEDGRIT_LESS_EQUAL = 1, REEDGRIT_EQUAL = 2, 
  *  7 more than 512 premises               8 a consequent on no task, or on one without finite bounds
  *  9 post words below 4n, atom words below 6n*n
  * 10 another number of ranges than n     11 a post that is not there
- * 20 a record that no call left          21 a seventeenth hole */
+ * 20 a record that no creation makes     21 a seventeenth hole
+ * A function tries its numbers in the order in which it names them below, each over the whole input before the next. A contradiction is
+ * tried together with 21: the first atom that leads to one of the two decides. */
 
-/* The task count, the durations, two orders that each run leaves sorted for the next, and the sum of the durations. Places from the count on are 0. */
+/* The task count, the durations and their sum. Places from the count on are 0. */
 typedef struct {
     size_t count;
     uint32_t durations[REEDGRIT_TASKS];
-    size_t first[REEDGRIT_TASKS];
-    size_t second[REEDGRIT_TASKS];
     uint32_t total;
 } reedgrit_propagator;
 
@@ -83,11 +83,13 @@ typedef struct {
     int32_t value;
 } reedgrit_state_answer;
 
-/* A record of the durations, with both orders 0 to n - 1. Refuses by 1, 2, 5. */
+/* A record of the durations. Refuses by 1, 2, 5. */
 reedgrit_new reedgrit_create(const int32_t *durations, size_t count);
 
 /* A run: raises earliest starts, writes four words for each post (task, bound, first atom, atom count) and the atoms of their reasons.
- * Words that it does not write keep what they held. Refuses by 20, 10, 3, 4, 9. */
+ * Words that it does not write keep what they held. It leaves the record as it was: whatever runs came before, the same durations and
+ * ranges give the same outcome, posts and reasons. Among tasks with equal earliest starts, or equal latest completions, the lower number
+ * comes first. Refuses by 20, 10, 3, 4, 9. */
 reedgrit_run_answer reedgrit_run(reedgrit_propagator *propagator, reedgrit_range *ranges, size_t range_count, int32_t *posts,
                                  size_t post_words, int32_t *atoms, size_t atom_words);
 
@@ -100,7 +102,8 @@ reedgrit_check_answer reedgrit_check(const int32_t *durations, size_t count, con
                                      const int32_t *consequent, size_t consequent_words);
 
 /* Questions to the state that the premises leave, from all integers for each variable: whether every value meets an atom, and the least
- * and the greatest value. Refuse by 7, 6, 21. */
+ * and the greatest value. Refuse by 7, 6, 21, where 6 is tried over the premises' words and the question's own, and so before 21 and before
+ * a contradiction. */
 reedgrit_state_answer reedgrit_is_true(const int32_t *premises, size_t premise_words, int32_t variable, int32_t kind, int32_t value);
 reedgrit_state_answer reedgrit_lower_bound(const int32_t *premises, size_t premise_words, int32_t variable);
 reedgrit_state_answer reedgrit_upper_bound(const int32_t *premises, size_t premise_words, int32_t variable);

@@ -93,16 +93,16 @@ pub fn ranges(rng: &mut Rng, durations: &[i32]) -> Vec<Range> {
         .collect()
 }
 
-/// What the two range sets of a case, which are run in turn, are to be like.
+/// What the ranges of the runs are to be like.
 #[derive(Clone, Copy, Debug, PartialEq, Eq)]
 pub enum Family {
     /// Any.
     Mixed,
     /// Every run ends in Done.
     Done,
-    /// Both are the same and end in Done: each run finds its orders sorted.
+    /// Every run ends in Done, and 0 to n - 1 is sorted in both orders: by earliest start, and by latest completion with the greatest first.
     Sorted,
-    /// The second is the first with time reversed, and both end in Done: each run finds its orders reversed.
+    /// The same with the tasks numbered the other way round: both orders are n - 1 to 0.
     Reversed,
 }
 
@@ -119,10 +119,10 @@ impl Family {
     }
 }
 
-/// Tasks, and two sets of ranges for them.
+/// Tasks, and ranges for them.
 pub struct Case {
     pub durations: Vec<i32>,
-    pub ranges: [Vec<Range>; 2],
+    pub ranges: Vec<Range>,
 }
 
 fn is_done(durations: &[i32], ranges: &[Range]) -> bool {
@@ -131,30 +131,38 @@ fn is_done(durations: &[i32], ranges: &[Range]) -> bool {
     matches!(propagator.run(&mut ranges.to_vec(), &mut words), Ok(Outcome::Done { .. }))
 }
 
-/// A schedule's tasks with one slack for all: both orders are the schedule's. The second set has time reversed.
-fn there_and_back(rng: &mut Rng, durations: &[i32]) -> [Vec<Range>; 2] {
-    let total: i64 = durations.iter().map(|d| i64::from(*d)).sum();
-    let slack = rng.to(1, (total / 4).max(1));
-    let there: Vec<Range> =
-        schedule(rng, durations, 0, 1).into_iter().map(|start| Range::new((start - slack) as i32, (start + slack) as i32)).collect();
-    let back = there.iter().zip(durations).map(|(r, d)| Range::new(-(r.latest + d), -(r.earliest + d))).collect();
-    [there, back]
+/// Ranges of which each lies within the one before: from the last task on, which starts in the middle, each further task has room for itself
+/// and for those within, and a slack that is parted at random between both ends.
+fn nested(rng: &mut Rng, durations: &[i32]) -> Vec<Range> {
+    let unit = (durations.iter().map(|d| i64::from(*d)).sum::<i64>() / durations.len() as i64).max(1);
+    let slack = rng.pick(&[0, 1, unit, 3 * unit]);
+    let (mut start, mut end) = (0, 0);
+    let mut made = Vec::new();
+    for duration in durations.iter().rev() {
+        let room = i64::from(*duration).max(2) + rng.to(0, slack);
+        let before = rng.to(1, room - 1);
+        start -= before;
+        end += room - before;
+        made.push(Range::new(start as i32, (end - i64::from(*duration)) as i32));
+    }
+    made.reverse();
+    made
 }
 
 pub fn cases(family: Family, n: usize, count: usize, seed: u64) -> Vec<Case> {
     let mut rng = Rng::new(seed + 1000 * n as u64);
     let mut made = Vec::new();
     while made.len() < count {
-        let durations = durations(&mut rng, n);
-        let ranges = match family {
-            Family::Mixed | Family::Done => [ranges(&mut rng, &durations), ranges(&mut rng, &durations)],
-            Family::Sorted => {
-                let same = ranges(&mut rng, &durations);
-                [same.clone(), same]
-            }
-            Family::Reversed => there_and_back(&mut rng, &durations),
+        let mut durations = durations(&mut rng, n);
+        let mut ranges = match family {
+            Family::Mixed | Family::Done => ranges(&mut rng, &durations),
+            Family::Sorted | Family::Reversed => nested(&mut rng, &durations),
         };
-        if family == Family::Mixed || ranges.iter().all(|ranges| is_done(&durations, ranges)) {
+        if family == Family::Reversed {
+            durations.reverse();
+            ranges.reverse();
+        }
+        if family == Family::Mixed || is_done(&durations, &ranges) {
             made.push(Case { durations, ranges });
         }
     }

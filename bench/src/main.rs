@@ -14,18 +14,17 @@ use bench::published::{Atom, Checker, Domains, Published, atom, domains};
 use reedgrit::{Propagator, Range, Words, check};
 
 const SIZES: [usize; 4] = [8, 16, 32, 48];
-const CASES: usize = 200;
+const CASES: usize = 400;
 /// So many are timed together: the clock's own time is lost in theirs, and what they touch stays in the cache.
 const BATCH: usize = 25;
-const ROUNDS: usize = 201;
+const ROUNDS: usize = 101;
 const SEED: u64 = 20_261_115;
 
 /// One case, both ways, with all that a run needs.
 struct Runner {
+    case: Case,
     ours: Propagator,
     published: Published,
-    ranges: [Vec<Range>; 2],
-    domains: [Domains; 2],
     our_ranges: Vec<Range>,
     their_domains: Domains,
 }
@@ -35,18 +34,20 @@ impl Runner {
         Runner {
             ours: Propagator::new(&case.durations).expect("durations within the limits"),
             published: Published::new(&case.durations),
-            domains: [domains(&case.ranges[0]), domains(&case.ranges[1])],
-            our_ranges: case.ranges[0].clone(),
-            their_domains: domains(&case.ranges[0]),
-            ranges: case.ranges,
+            our_ranges: case.ranges.clone(),
+            their_domains: domains(&case.ranges),
+            case,
         }
     }
 
-    /// The entry ranges of a round, put in place outside the clock. The published Rust gets an empty post list that keeps its room. Our
-    /// words are not cleared.
-    fn ready(&mut self, round: usize) {
-        self.our_ranges.copy_from_slice(&self.ranges[round % 2]);
-        self.their_domains.ranges.clone_from(&self.domains[round % 2].ranges);
+    /// What is put in place for a run outside the clock: the ranges of both, and for the published Rust a new propagator and an empty post
+    /// list that keeps its room. Our record is the one that the run before was lent, and our words are not cleared.
+    fn ready(&mut self) {
+        self.our_ranges.copy_from_slice(&self.case.ranges);
+        self.published = Published::new(&self.case.durations);
+        for (domain, range) in self.their_domains.ranges.iter_mut().zip(&self.case.ranges) {
+            (domain.lower, domain.upper) = (range.earliest, range.latest);
+        }
         self.their_domains.posts.clear();
     }
 }
@@ -115,7 +116,7 @@ fn median(mut numbers: Vec<f64>) -> f64 {
 /// rounds, so that what else the machine does in some of them does not count; a call's is the mean over the batches.
 fn figure<T>(
     items: &mut [T],
-    mut ready: impl FnMut(&mut T, usize),
+    mut ready: impl FnMut(&mut T),
     mut ours: impl FnMut(&mut [T]),
     mut published: impl FnMut(&mut [T]),
 ) -> Figure {
@@ -123,7 +124,7 @@ fn figure<T>(
     let mut times = vec![[Vec::new(), Vec::new()]; items.len().div_ceil(BATCH)];
     for round in 0..ROUNDS + 2 {
         for (number, batch) in items.chunks_mut(BATCH).enumerate() {
-            batch.iter_mut().for_each(|item| ready(item, round));
+            batch.iter_mut().for_each(&mut ready);
             for turn in 0..2 {
                 let side = (turn + number + round) % 2;
                 let began = Instant::now();
@@ -132,7 +133,7 @@ fn figure<T>(
                 } else {
                     published(batch)
                 }
-                // the first two rounds bring the carried orders to where they stay
+                // the first two rounds fill caches and give lists their room
                 if round >= 2 {
                     times[number][side].push(began.elapsed().as_nanos() as f64);
                 }
@@ -151,7 +152,7 @@ fn runs(family: Family, n: usize) -> Figure {
 
 fn check_figures(changed: bool, n: usize) -> Figure {
     let mut items: Vec<Checking> = checks(n, CASES, changed, SEED).into_iter().map(Checking::new).collect();
-    figure(&mut items, |_, _| (), |batch| check_ours(batch), |batch| check_published(batch))
+    figure(&mut items, |_| (), |batch| check_ours(batch), |batch| check_published(batch))
 }
 
 struct Row {
@@ -270,8 +271,8 @@ fn spin(whose: &str, what: &str, n: usize, rounds: usize) {
     let family = Family::ALL.into_iter().find(|family| family.name() == what).expect("a family's name");
     let mut runners: Vec<Runner> = cases(family, n, CASES, SEED).into_iter().map(Runner::new).collect();
     let mut words = Words::new(n);
-    for round in 0..rounds {
-        runners.iter_mut().for_each(|runner| runner.ready(round));
+    for _ in 0..rounds {
+        runners.iter_mut().for_each(Runner::ready);
         if ours { run_ours(&mut runners, &mut words) } else { run_published(&mut runners) }
     }
 }

@@ -7,9 +7,7 @@ use pumpkin_core::state::Conflict;
 use pumpkin_core::variables::Plain;
 use pumpkin_propagators::propagators::disjunctive::ArgDisjunctiveTask;
 use pumpkin_propagators::propagators::disjunctive::checker::DisjunctiveEdgeFindingChecker;
-use pumpkin_propagators::propagators::disjunctive::disjunctive_propagator::{
-    DisjunctiveConstructor, DisjunctivePropagator, orders, set_orders,
-};
+use pumpkin_propagators::propagators::disjunctive::disjunctive_propagator::{DisjunctiveConstructor, DisjunctivePropagator};
 
 pub use pumpkin_core::predicates::Predicate as Atom;
 pub use pumpkin_core::propagation::Store as Domains;
@@ -19,7 +17,7 @@ fn tasks(durations: &[i32]) -> impl Iterator<Item = ArgDisjunctiveTask<Plain>> +
     durations.iter().enumerate().map(|(k, p)| ArgDisjunctiveTask { start_time: Plain(k as u32), processing_time: *p })
 }
 
-/// The published propagator.
+/// The published propagator. It keeps its orders for the run after; one newly made runs as ours does.
 pub struct Published(DisjunctivePropagator<Plain>);
 
 impl Published {
@@ -30,15 +28,6 @@ impl Published {
 
     pub fn run(&mut self, domains: &mut Store) -> Result<(), Conflict> {
         self.0.propagate(PropagationContext(domains))
-    }
-
-    /// The carried orders: by earliest start, and by latest completion.
-    pub fn orders(&self) -> (Vec<usize>, Vec<usize>) {
-        orders(&self.0)
-    }
-
-    pub fn set_orders(&mut self, first: &[usize], second: &[usize]) {
-        set_orders(&mut self.0, first, second);
     }
 }
 

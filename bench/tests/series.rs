@@ -1,49 +1,87 @@
-//! Random series through the binding against the published Rust: runs with carried orders, checks, states.
-use bench::inputs::{Rng, any_atom, checks, durations, ranges};
+//! Random series through the binding against the published Rust: runs, checks, states.
+use bench::inputs::{Case, Family, Rng, any_atom, cases, checks, durations, ranges};
 use bench::published::{Checked, Checker, Conflicted, Published, atom, domains};
 use pumpkin_checking::{IntExt, VariableState};
 use reedgrit::state::{Bound, NoState, lower_bound, upper_bound};
-use reedgrit::{Outcome, Propagator, Verdict, check};
+use reedgrit::{Outcome, Propagator, Verdict, Words, check};
+use std::cmp::Ordering;
 
-/// Series of runs on one record: posts, reasons, outcome, starts and both carried orders are the published Rust's.
+/// How often each thing occurred in runs.
+#[derive(Debug, Default)]
+struct Seen {
+    done: usize,
+    overload: usize,
+    emptied: usize,
+    posts: usize,
+}
+
+/// One run of ours and one of a newly made published propagator: outcome, posts, reasons and starts are the same, and our record stays.
+fn same_run(ours: &mut Propagator, words: &mut Words, case: &Case, seen: &mut Seen) {
+    let before = *ours;
+    let mut ranges = case.ranges.clone();
+    let mut store = domains(&ranges);
+    let outcome = ours.run(&mut ranges, words).unwrap();
+    match (&outcome, Published::new(&case.durations).run(&mut store)) {
+        (Outcome::Done { .. }, Ok(())) => seen.done += 1,
+        (Outcome::Overload { reason, .. }, Err(Conflicted::Propagator(why))) => {
+            seen.overload += 1;
+            assert_eq!(reason.iter().map(atom).collect::<Vec<_>>(), why);
+        }
+        (Outcome::Emptied { .. }, Err(Conflicted::EmptyDomain)) => seen.emptied += 1,
+        (ours, theirs) => panic!("{:?} {:?} {ours} {theirs:?}", case.durations, case.ranges),
+    }
+    assert_eq!(outcome.posts().len(), store.posts.len());
+    for (post, (predicate, why)) in outcome.posts().zip(&store.posts) {
+        seen.posts += 1;
+        assert_eq!(atom(&post.atom()), *predicate);
+        assert_eq!(post.reason.iter().map(atom).collect::<Vec<_>>(), *why);
+    }
+    let starts: Vec<(i32, i32)> = ranges.iter().map(|r| (r.earliest, r.latest)).collect();
+    assert_eq!(starts, store.ranges.iter().map(|r| (r.lower, r.upper)).collect::<Vec<_>>());
+    assert_eq!(*ours, before);
+}
+
+/// Series of runs on one record of ours, each against a newly made published propagator.
 #[test]
 fn runs() {
     let mut rng = Rng::new(1);
-    let (mut done, mut overload, mut emptied, mut posts) = (0, 0, 0, 0);
+    let mut seen = Seen::default();
     for series in 0..4000 {
         let n = if series % 4 == 0 { rng.to(1, 48) } else { rng.to(1, 9) } as usize;
         let durations = durations(&mut rng, n);
         let mut ours = Propagator::new(&durations).unwrap();
-        let mut theirs = Published::new(&durations);
         let mut words = ours.words();
         for _ in 0..rng.to(1, 5) {
-            let mut ranges = ranges(&mut rng, &durations);
-            let mut store = domains(&ranges);
-            let outcome = ours.run(&mut ranges, &mut words).unwrap();
-            let ended = theirs.run(&mut store);
-            match (&outcome, ended) {
-                (Outcome::Done { .. }, Ok(())) => done += 1,
-                (Outcome::Overload { reason, .. }, Err(Conflicted::Propagator(why))) => {
-                    overload += 1;
-                    assert_eq!(reason.iter().map(atom).collect::<Vec<_>>(), why);
-                }
-                (Outcome::Emptied { .. }, Err(Conflicted::EmptyDomain)) => emptied += 1,
-                (ours, theirs) => panic!("{durations:?} {ours} {theirs:?}"),
-            }
-            assert_eq!(outcome.posts().len(), store.posts.len());
-            for (post, (predicate, why)) in outcome.posts().zip(&store.posts) {
-                posts += 1;
-                assert_eq!(atom(&post.atom()), *predicate);
-                assert_eq!(post.reason.iter().map(atom).collect::<Vec<_>>(), *why);
-            }
-            let starts: Vec<(i32, i32)> = ranges.iter().map(|r| (r.earliest, r.latest)).collect();
-            assert_eq!(starts, store.ranges.iter().map(|r| (r.lower, r.upper)).collect::<Vec<_>>());
-            let (first, second) = theirs.orders();
-            assert_eq!((ours.by_earliest_start(), ours.by_latest_completion()), (&first[..], &second[..]));
+            let case = Case { durations: durations.clone(), ranges: ranges(&mut rng, &durations) };
+            same_run(&mut ours, &mut words, &case, &mut seen);
         }
     }
     // every outcome occurred, often
-    assert!(done > 500 && overload > 500 && emptied > 100 && posts > 1000, "{done} {overload} {emptied} {posts}");
+    assert!(seen.done > 500 && seen.overload > 500 && seen.emptied > 100 && seen.posts > 1000, "{seen:?}");
+}
+
+/// Whether each task compares so with the next by the keys of both orders, earliest start and latest completion with the greatest first.
+fn follow(case: &Case, way: Ordering) -> bool {
+    let keys: Vec<(i32, i32)> = case.ranges.iter().zip(&case.durations).map(|(r, d)| (r.earliest, -(r.latest + d))).collect();
+    keys.windows(2).all(|two| two[0].0.cmp(&two[1].0) == way && two[0].1.cmp(&two[1].1) == way)
+}
+
+/// The runs that the benchmark times; those of the families that are to end in Done do.
+#[test]
+fn timed_runs() {
+    for family in Family::ALL {
+        let mut seen = Seen::default();
+        for n in [8, 16, 32, 48] {
+            for case in cases(family, n, 100, 5) {
+                let mut ours = Propagator::new(&case.durations).unwrap();
+                let mut words = ours.words();
+                same_run(&mut ours, &mut words, &case, &mut seen);
+                assert!(family != Family::Sorted || follow(&case, Ordering::Less));
+                assert!(family != Family::Reversed || follow(&case, Ordering::Greater));
+            }
+        }
+        assert!(family == Family::Mixed || seen.done == 400, "{seen:?}");
+    }
 }
 
 /// Checks of reasons, as they are and changed: the published Rust's answers.

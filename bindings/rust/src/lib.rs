@@ -171,7 +171,7 @@ pub enum Refused {
     RangeCount,
     /// 11: a post that is not there.
     Post,
-    /// 20: a record that creation and runs do not leave.
+    /// 20: a record that no creation makes.
     Record,
     /// 21: an atom that needs a seventeenth hole.
     Holes,
@@ -235,7 +235,7 @@ impl fmt::Display for Refused {
             Refused::Room => "too few words for posts or atoms",
             Refused::RangeCount => "another number of ranges than of tasks",
             Refused::Post => "a post that is not there",
-            Refused::Record => "a record that creation and runs do not leave",
+            Refused::Record => "a record that no creation makes",
             Refused::Holes => "an atom that needs a seventeenth hole",
             Refused::State => "a variable state that no call leaves",
         };
@@ -260,9 +260,10 @@ impl Words {
     }
 }
 
-/// A propagator: the durations of its tasks, and two orders of them that each run leaves sorted for the next.
+/// A propagator: the durations of its tasks. It is plain data of 208 bytes.
 ///
-/// It is plain data of less than a kilobyte. A copy of it, taken before a run, takes the run back.
+/// A run leaves it as it was, so that a run answers as on a propagator newly made: whatever runs came before, the same ranges give the same
+/// outcome, posts and reasons.
 #[derive(Clone, Copy, PartialEq, Eq)]
 pub struct Propagator {
     record: raw::Record,
@@ -298,23 +299,14 @@ impl Propagator {
         raw::signed(&self.record.durations[..self.len()])
     }
 
-    /// The tasks by earliest start, as the last run left them.
-    pub fn by_earliest_start(&self) -> &[usize] {
-        &self.record.first[..self.len()]
-    }
-
-    /// The tasks by latest completion, greatest first, as the last run left them.
-    pub fn by_latest_completion(&self) -> &[usize] {
-        &self.record.second[..self.len()]
-    }
-
     /// Words with room for this propagator's runs.
     pub fn words(&self) -> Words {
         Words::new(self.len())
     }
 
     /// Runs edge finding on the ranges, one for each task. Each post raises the earliest start of its range, but for the last one of
-    /// [`Outcome::Emptied`]. No latest start changes. A refused run changes nothing.
+    /// [`Outcome::Emptied`]. No latest start changes. Among tasks with equal earliest starts, or equal latest completions, the lower number
+    /// comes first. A refused run changes nothing.
     ///
     /// # Errors
     /// [`Refused::RangeCount`], [`Refused::Start`], [`Refused::Crossed`], and [`Refused::Room`] for the words of fewer tasks.
@@ -354,11 +346,7 @@ impl Propagator {
 
 impl fmt::Debug for Propagator {
     fn fmt(&self, f: &mut fmt::Formatter<'_>) -> fmt::Result {
-        f.debug_struct("Propagator")
-            .field("durations", &self.durations())
-            .field("by_earliest_start", &self.by_earliest_start())
-            .field("by_latest_completion", &self.by_latest_completion())
-            .finish()
+        f.debug_struct("Propagator").field("durations", &self.durations()).finish()
     }
 }
 
@@ -499,14 +487,16 @@ pub fn check(durations: &[i32], premises: &[Atom], consequent: Option<Atom>) -> 
     }
 }
 
-/// Questions to the state that atoms leave, from all integers for each variable.
+/// Questions to the state that atoms leave, from all integers for each variable. The premises and the question's own words are looked at
+/// first, and then the premises are applied.
 ///
 /// ```
-/// use reedgrit::{Atom, Comparison, state};
+/// use reedgrit::{Atom, Comparison, Refused, state};
 /// // Once 5 is excluded, at least 5 is at least 6.
 /// let premises = [Atom::new(0, Comparison::NotEqual, 5), Atom::new(0, Comparison::GreaterEqual, 5)];
 /// assert_eq!(state::lower_bound(&premises, 0), Ok(state::Bound::At(6)));
 /// assert_eq!(state::upper_bound(&premises, 0), Ok(state::Bound::PositiveInfinity));
+/// assert_eq!(state::upper_bound(&premises, 64), Err(state::NoState::Refused(Refused::Atoms)));
 /// ```
 pub mod state {
     use super::{Atom, Refused, raw};
@@ -546,7 +536,8 @@ pub mod state {
     /// The least value that the premises leave to the variable.
     ///
     /// # Errors
-    /// A contradiction among the premises, or [`Refused::Premises`], [`Refused::Atoms`], [`Refused::Holes`].
+    /// [`Refused::Premises`]; [`Refused::Atoms`], also for the variable asked about; then [`Refused::Holes`] or a contradiction, by the first
+    /// premise that leads to one of them.
     pub fn lower_bound(premises: &[Atom], variable: u32) -> Result<Bound, NoState> {
         bound(raw::lower_bound(raw::words(premises), variable as i32))
     }

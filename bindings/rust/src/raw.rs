@@ -7,14 +7,12 @@ use crate::{Atom, Range};
 
 pub(crate) const TASKS: usize = 48;
 
-/// The record of a propagator: the task count, the durations, the two carried orders and the sum of the durations. Places from the count on are 0.
+/// The record of a propagator: the task count, the durations and their sum. Places from the count on are 0.
 #[repr(C)]
 #[derive(Clone, Copy, Debug, PartialEq, Eq)]
 pub(crate) struct Record {
     pub count: usize,
     pub durations: [u32; TASKS],
-    pub first: [usize; TASKS],
-    pub second: [usize; TASKS],
     pub total: u32,
 }
 
@@ -147,8 +145,8 @@ mod tests {
     // The layouts that the archive is compiled for.
     #[test]
     fn sizes() {
-        assert_eq!(size_of::<Record>(), 8 + 48 * 20 + 8);
-        assert_eq!(size_of::<NewRecord>(), size_of::<Record>() + 8);
+        assert_eq!(size_of::<Record>(), 208);
+        assert_eq!(size_of::<NewRecord>(), 216);
         assert_eq!(size_of::<RunAnswer>(), 32);
         assert_eq!(size_of::<PostAnswer>(), 32);
         assert_eq!(size_of::<CheckAnswer>(), 16);
@@ -170,14 +168,13 @@ mod tests {
             |r: &mut Record| r.durations[1] = 0,
             |r: &mut Record| r.durations[0] = 200_000_000,
             |r: &mut Record| r.durations[0] = u32::MAX,
-            |r: &mut Record| r.first[0] = 1,
-            |r: &mut Record| r.first[2] = 3,
-            |r: &mut Record| r.second[1] = usize::MAX,
             |r: &mut Record| r.durations[3] = 1,
-            |r: &mut Record| r.first[47] = 1,
-            |r: &mut Record| r.second[47] = 1,
+            |r: &mut Record| r.durations[47] = 1,
+            |r: &mut Record| r.count = 4,
+            |r: &mut Record| (r.count, r.total) = (2, 9),
             |r: &mut Record| r.total = 11,
             |r: &mut Record| r.total = 0,
+            |r: &mut Record| (r.durations[0], r.total) = (200_000_000, 200_000_008),
         ] {
             let mut record = whole;
             change(&mut record);
@@ -198,7 +195,7 @@ mod tests {
     // A refused creation gives the record of zeros.
     #[test]
     fn record_of_zeros() {
-        let zeros = Record { count: 0, durations: [0; TASKS], first: [0; TASKS], second: [0; TASKS], total: 0 };
+        let zeros = Record { count: 0, durations: [0; TASKS], total: 0 };
         for (durations, number) in [(&[][..], 1), (&[1; 49], 1), (&[1, 0], 2), (&[-1], 2), (&[200_000_000, 1], 5)] {
             let made = create(durations);
             assert_eq!((made.record, made.number), (zeros, number));

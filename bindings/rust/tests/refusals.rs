@@ -1,24 +1,18 @@
 //! What a refusal leaves: the propagator, the ranges and the lent words as they were; and what a run leaves of words it does not write.
-use reedgrit::Comparison::{GreaterEqual, NotEqual};
-use reedgrit::{Atom, Outcome, Propagator, Range, Refused, Verdict, Words, check};
+use reedgrit::Comparison::{GreaterEqual, LessEqual, NotEqual};
+use reedgrit::state::{Bound, NoState, is_true, lower_bound, upper_bound};
+use reedgrit::{Atom, Propagator, Range, Refused, Verdict, Words, check};
 
 const DURATIONS: [i32; 3] = [4, 5, 3];
 const RANGES: [Range; 3] = [Range::new(0, 6), Range::new(1, 5), Range::new(0, 20)];
 
-/// A propagator whose orders an earlier run has changed.
-fn used() -> Propagator {
-    let mut propagator = Propagator::new(&DURATIONS).unwrap();
-    let mut words = propagator.words();
-    let mut ranges = [Range::new(9, 20), Range::new(5, 30), Range::new(0, 40)];
-    assert!(matches!(propagator.run(&mut ranges, &mut words), Ok(Outcome::Done { .. })));
-    assert_eq!(propagator.by_earliest_start(), [2, 1, 0]);
-    assert_eq!(propagator.by_latest_completion(), [2, 1, 0]);
-    propagator
+fn made() -> Propagator {
+    Propagator::new(&DURATIONS).unwrap()
 }
 
 /// The run is refused, and nothing that was lent has changed.
 fn refuses(ranges: &[Range], post_words: usize, atom_words: usize, why: Refused) {
-    let mut propagator = used();
+    let mut propagator = made();
     let before = propagator;
     let mut after = ranges.to_vec();
     let mut posts: Vec<i32> = (0..post_words as i32).map(|k| 1000 + k).collect();
@@ -53,7 +47,7 @@ fn refused_runs_leave_everything() {
 
 #[test]
 fn the_words_of_fewer_tasks_are_refused() {
-    let mut propagator = used();
+    let mut propagator = made();
     let before = propagator;
     let mut ranges = RANGES;
     assert_eq!(propagator.run(&mut ranges, &mut Words::new(2)).map(drop), Err(Refused::Room));
@@ -63,7 +57,7 @@ fn the_words_of_fewer_tasks_are_refused() {
 
 #[test]
 fn unused_words_keep_what_they_held() {
-    let mut propagator = Propagator::new(&DURATIONS).unwrap();
+    let mut propagator = made();
     let (mut posts, mut atoms) = ([-7; 20], [-8; 60]);
     let mut ranges = RANGES;
     let outcome = propagator.run_on(&mut ranges, &mut posts, &mut atoms).unwrap();
@@ -101,6 +95,43 @@ fn checks_refuse_in_order() {
     assert_eq!(check(&DURATIONS, &holes, None), Ok(Verdict::NotPassed));
 }
 
+/// The three questions on a variable answer that there is no state.
+fn no_state(premises: &[Atom], variable: u32, why: NoState) {
+    assert_eq!(lower_bound(premises, variable), Err(why));
+    assert_eq!(upper_bound(premises, variable), Err(why));
+    assert_eq!(is_true(premises, Atom::new(variable, GreaterEqual, 0)), Err(why));
+}
+
+#[test]
+fn questions_refuse_in_order() {
+    let at = |variable, value| Atom::new(variable, GreaterEqual, value);
+    let holes: Vec<Atom> = (1..=17).map(|k| Atom::new(0, NotEqual, k)).collect();
+    let crossed = [at(0, 1), Atom::new(0, LessEqual, 0)];
+    // what the premises lead to, whichever variable is asked about
+    no_state(&holes, 1, NoState::Refused(Refused::Holes));
+    no_state(&crossed, 1, NoState::Contradiction(0));
+    // 6 comes before both: of the question's own words, and of a premise behind the one that decides
+    for variable in [64, u32::MAX] {
+        no_state(&[], variable, NoState::Refused(Refused::Atoms));
+        no_state(&holes, variable, NoState::Refused(Refused::Atoms));
+        no_state(&crossed, variable, NoState::Refused(Refused::Atoms));
+    }
+    for premises in [&holes[..], &crossed] {
+        no_state(&[premises, &[at(64, 0)]].concat(), 1, NoState::Refused(Refused::Atoms));
+        assert_eq!(is_true(premises, at(1, 900_000_001)), Err(NoState::Refused(Refused::Atoms)));
+        assert_eq!(is_true(premises, at(1, i32::MIN)), Err(NoState::Refused(Refused::Atoms)));
+    }
+    // 7 comes before 6
+    for variable in [1, 64] {
+        no_state(&[at(64, 0); 513], variable, NoState::Refused(Refused::Premises));
+    }
+    no_state(&[at(0, 0); 512], 64, NoState::Refused(Refused::Atoms));
+    assert_eq!(lower_bound(&[at(0, 0); 512], 0), Ok(Bound::At(0)));
+    // 21 or a contradiction, by the atom that comes first
+    no_state(&[&holes[..], &crossed].concat(), 0, NoState::Refused(Refused::Holes));
+    no_state(&[&crossed[..], &holes].concat(), 0, NoState::Contradiction(0));
+}
+
 #[test]
 fn refusals_say_why() {
     assert_eq!(Refused::Room.to_string(), "refused 9: too few words for posts or atoms");
@@ -110,21 +141,9 @@ fn refusals_say_why() {
 }
 
 #[test]
-fn a_copy_takes_a_run_back() {
-    let mut propagator = used();
-    let before = propagator;
-    let mut words = propagator.words();
-    let mut ranges = RANGES;
-    propagator.run(&mut ranges, &mut words).unwrap();
-    assert_ne!(propagator, before);
-    propagator = before;
-    assert_eq!(propagator.by_earliest_start(), [2, 1, 0]);
-}
-
-#[test]
 fn it_moves_between_threads() {
     fn sent<T: Send + Sync + 'static>(_: &T) {}
-    let propagator = used();
+    let propagator = made();
     sent(&propagator);
     sent(&propagator.words());
 }
