@@ -22,30 +22,15 @@ use Rattle.checker.proofs.Apart.{verdicts-apart}
 use Rattle.propagator.specs.declared.disjunctive_propagator.Outcome.{Outcome}
 use Rattle.propagator.specs.declared.disjunctive_propagator.Outcome.the-variants as outcome
 use Rattle.propagator.specs.Outcomes.{outcomeNumbers}
+use Rattle.propagator.proofs.Answering.{outcomes-apart}
 use Rattle.exports.specs.declared.answers.RunAnswer.{RunAnswer}
 use Rattle.exports.specs.declared.answers.CheckAnswer.{CheckAnswer}
 use Rattle.exports.specs.declared.answers.StateAnswer.{StateAnswer}
-use Rattle.exports.specs.Answers.{natAt, runAnswer, checkAnswer, stateAnswer}
+use Rattle.exports.specs.Answers.{runAnswer, checkAnswer, stateAnswer}
 
 -- Runs -------------------------------------------------------------------------------------------------------------------------
 
--- an outcome is read back from its numbers,
-abbrev outcomeAt : ℕ → Answer → Outcome
-outcomeAt zero a = outcome.Done (natAt 0 a)
-outcomeAt (suc zero) a = outcome.Overload (natAt 0 a) (natAt 1 a) (natAt 2 a)
-outcomeAt (suc (suc zero)) a = outcome.Emptied (natAt 0 a)
-outcomeAt (suc (suc (suc k))) a = outcome.Refused (a .number)
-
-outcome-back : (o : Outcome) → outcomeAt (outcomeNumbers o .kind) (outcomeNumbers o) ≡ o
-outcome-back (outcome.Done posts) = refl
-outcome-back (outcome.Overload posts first count) = refl
-outcome-back (outcome.Emptied posts) = refl
-outcome-back (outcome.Refused number) = refl
-
-pub outcomes-apart : (o o′ : Outcome) → outcomeNumbers o ≡ outcomeNumbers o′ → o ≡ o′
-outcomes-apart o o′ e = sym (outcome-back o) ∙ ap (λ (a : Answer). outcomeAt (a .kind) a) e ∙ outcome-back o′
-
--- and the numbers from the struct
+-- an outcome's numbers are read back from the struct
 abbrev runAt : ℕ → RunAnswer → Answer
 runAt zero a = answered 0 (pos (a .posts) ∷ [])
 runAt (suc zero) a = answered 1 (pos (a .posts) ∷ pos (a .first) ∷ pos (a .count) ∷ [])
