@@ -27,14 +27,12 @@ fn put_creation(out: &mut [u8], at: usize, answer: Creation, n: usize) -> usize 
     }
 }
 
-// Whether there is a record, and one number to change it by.
-fn ready(session: Session, words: &[i32]) -> bool {
-    session.made && words.len() == 1
-}
-
 // `add`: the record with a task of the duration.
 pub fn adds(session: Session, out: &mut [u8], words: &[i32]) -> Session {
-    if !ready(session, words) {
+    if !session.made {
+        return session.failed(out);
+    }
+    if words.len() != 1 {
         return session.failed(out);
     }
     let at = session.at;
@@ -46,7 +44,10 @@ pub fn adds(session: Session, out: &mut [u8], words: &[i32]) -> Session {
 
 // `remove`: the record without the task.
 pub fn removes(session: Session, out: &mut [u8], words: &[i32]) -> Session {
-    if !ready(session, words) {
+    if !session.made {
+        return session.failed(out);
+    }
+    if words.len() != 1 {
         return session.failed(out);
     }
     let at = session.at;

@@ -46,12 +46,12 @@ const LINE: usize = 31;
 const REASON: usize = 288;
 
 // Every second number, from the first or the second on.
-pub fn spread(starts: &mut [i32; RANGES], words: &[i32], from: usize)
+pub fn spread(starts: &mut [i32], words: &[i32], from: usize)
     requires { ⌜ from ≤ 1 ⌝ }
 {
     let n = words.len() / 2;
     let mut i = 0;
-    while i < n && i < RANGES {
+    while i < n && i < starts.len() {
         starts[i] = words[2 * i + from];
         i += 1;
     }

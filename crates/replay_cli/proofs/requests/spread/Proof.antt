@@ -1,10 +1,12 @@
+use mathlib.Core.Path.{_≡_}
 use Prim.Native.Nat.{_-_}
+use lib.ListN.{length}
 use borrow.Author.Needs.{needs}
 use Rattle.replay_cli.proofs.requests.spread.Statement.{statement}
 use Rattle.replay_cli.proofs.requests.spread.Tie as tie
 
 abbrev Inv-loop : tie.InvT-loop
-Inv-loop starts₀ words from n i₀ starts i = Unit {0}
+Inv-loop starts₀ words from n i₀ starts i = length starts ≡ length starts₀
 
 abbrev μ-loop : tie.MeasureT-loop
 μ-loop starts₀ words from n i₀ starts i = n - i
@@ -24,11 +26,11 @@ mul-starts-2 c = search needs
 shared-slice-copy-out-starts : tie.Need-shared-slice-copy-out-starts Inv-loop μ-loop
 shared-slice-copy-out-starts c = search needs
 
-mul-t14 : tie.Need-mul-t14 Inv-loop μ-loop
-mul-t14 c = search needs
+mul-t15 : tie.Need-mul-t15 Inv-loop μ-loop
+mul-t15 c = search needs
 
-element-set-from-starts : tie.Need-element-set-from-starts Inv-loop μ-loop
-element-set-from-starts c = search needs
+slice-set-from-starts : tie.Need-slice-set-from-starts Inv-loop μ-loop
+slice-set-from-starts c = search needs
 
 add-i : tie.Need-add-i Inv-loop μ-loop
 add-i c = search needs
@@ -39,8 +41,14 @@ loop-less c = search needs
 loop-again : tie.Need-loop-again Inv-loop μ-loop
 loop-again c = search needs
 
+same-length : tie.Need-same-length Inv-loop μ-loop
+same-length c = search needs
+
 returns : tie.Need-returns Inv-loop μ-loop
 returns c = search needs
+
+same-length-2 : tie.Need-same-length-2 Inv-loop μ-loop
+same-length-2 c = search needs
 
 returns-2 : tie.Need-returns-2 Inv-loop μ-loop
 returns-2 c = search needs
@@ -56,10 +64,12 @@ spread-spec =
     add-starts
     mul-starts-2
     shared-slice-copy-out-starts
-    mul-t14
-    element-set-from-starts
+    mul-t15
+    slice-set-from-starts
     add-i
     loop-less
     loop-again
+    same-length
     returns
+    same-length-2
     returns-2)
