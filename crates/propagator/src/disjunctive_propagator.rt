@@ -10,7 +10,6 @@ use records::orders::sorted_down_by_key;
 use records::record::Propagator;
 use records::refusals::run_refusal;
 use trees::complete_tree::leaf_places;
-use trees::complete_tree::size_for;
 use trees::disjunctive_task::DisjunctiveTask;
 use trees::disjunctive_task::LeafPlace;
 use trees::disjunctive_task::LocalId;
@@ -397,15 +396,14 @@ pub fn run_accepted(
     completions(&mut lct, &lst, &record.durations, n);
     let tasks = sorted_by_key(n, &est);
     let candidates = sorted_down_by_key(n, &lct);
-    let size = size_for(n);
-    let inner = size.number_of_internal_nodes;
-    let height = size.height;
     let mut mapping: [usize; 48] = [0; 48];
     leaf_places(&mut mapping, &tasks, n);
-    let mut nodes: [u32; 508] = [0; 508];
-    fill(&mut nodes, inner, &tasks, &est, &record.durations, n);
+    let mut tree = ThetaLambdaTree::new(n);
+    let inner = tree.number_of_internal_nodes;
+    let height = tree.height;
+    fill(&mut tree.nodes, inner, &tasks, &est, &record.durations, n);
     edge_finding(
-        &mut nodes,
+        &mut tree.nodes,
         earliest,
         posts,
         atoms,

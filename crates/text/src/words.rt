@@ -1,12 +1,9 @@
 // Words of a line that is at hand whole.
-use crate::reading::Reading;
-use crate::reading::Word;
 use crate::reading::is_space;
 ghost use mathlib.Core.Path.{_≡_};
 ghost use Prim.Native.Nat.{_+_};
 ghost use lib.ListN.{drop};
-ghost use Rattle.text.specs.Numbers.{run, numberOf};
-ghost use Rattle.text.specs.Scanning.{given};
+ghost use Rattle.text.specs.Numbers.{run};
 
 // The first place from `from` on whose byte is no white space or, where `white` is false, is white space; the end where there is none.
 pub fn run_end(line: &[u8], from: usize, white: bool) -> usize
@@ -20,20 +17,4 @@ pub fn run_end(line: &[u8], from: usize, white: bool) -> usize
         i += 1;
     }
     i
-}
-
-// The number that a word writes.
-pub fn number_in(word: &[u8]) -> Reading
-    ensures { λ r. ⌜ r ≡ given (numberOf (now (word .entry))) ⌝ }
-{
-    if word.len() == 0 {
-        return Reading::Wrong;
-    }
-    let mut read = Word::Empty;
-    let mut i = 0;
-    while i < word.len() {
-        read = read.next(word[i]);
-        i += 1;
-    }
-    read.reading()
 }

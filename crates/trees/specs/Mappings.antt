@@ -1,4 +1,4 @@
--- The tree's record: the order of the tasks as the task of each leaf, and the leaf of each task.
+-- New trees, and the leaf of each task by the order of the tasks.
 use mathlib.Core.Path.{_≡_}
 use mathlib.Core.List.{List}
 use Prim.Native.Nat.{ℕ, _<_}
@@ -12,14 +12,10 @@ use Rattle.trees.specs.Shapes.{heightFor, Sized}
 pub record Maps (n : ℕ) (order mapping : List ℕ) : Type 0 where
   pub leaf : (k : ℕ) → k < n → getD mapping k 0 ≡ index (take n order) k
 
--- `update`: both mappings by the order, and every word 0.
-pub record Updated (before after : ThetaLambdaTree) (order : List ℕ) : Type 0 where
-  pub nodes : after .nodes ≡ replicate 508 0
-  pub mapping : Maps (before .count) order (after .mapping)
-  pub reverse-mapping : after .«reverse_mapping» ≡ order
-  pub inner : after .«number_of_internal_nodes» ≡ before .«number_of_internal_nodes»
-  pub height : after .height ≡ before .height
-  pub count : after .count ≡ before .count
+-- A new theta-lambda tree: the size by the count, and every word 0.
+pub record New (n : ℕ) (tree : ThetaLambdaTree) : Type 0 where
+  pub nodes : tree .nodes ≡ replicate 508 0
+  pub size : Sized n (tree .«number_of_internal_nodes») (tree .height)
 
 -- A new theta tree: the mapping by the order, the size by the count, and every word 0.
 pub record PlainNew (n : ℕ) (order : List ℕ) (tree : ThetaTree) : Type 0 where

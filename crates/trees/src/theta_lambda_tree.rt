@@ -7,7 +7,6 @@ use crate::complete_tree::get_left_child_index;
 use crate::complete_tree::get_parent;
 use crate::complete_tree::get_right_child_index;
 use crate::complete_tree::is_leaf;
-use crate::complete_tree::leaf_places;
 use crate::complete_tree::max;
 use crate::complete_tree::size_for;
 use crate::disjunctive_task::DisjunctiveTask;
@@ -16,14 +15,13 @@ use crate::disjunctive_task::LocalId;
 use crate::disjunctive_task::task_of;
 ghost use mathlib.Core.Path.{_≡_};
 ghost use Prim.Native.Nat.{ℕ, _+_, _*_, _-_, _≤_, _<_};
-ghost use lib.ListN.{getD, length, take};
-ghost use Rattle.integers.specs.Orders.{Permutes};
-ghost use Rattle.trees.specs.Shapes.{Sized, leftmost, changed, leavesOf, TreeOf};
+ghost use lib.ListN.{length, take};
+ghost use Rattle.trees.specs.Shapes.{leftmost, changed, leavesOf, TreeOf};
 ghost use Rattle.trees.specs.Nodes.{emptyOf, whiteOf, grayOf, joinOf, isEmpty};
 ghost use Rattle.trees.specs.Words.{nodeAt};
 ghost use Rattle.trees.specs.Bounds.{Fair, size, Fits, NeedsUpheap};
 ghost use Rattle.trees.specs.Puts.{whiteTask, grayTask, Puttable, Put, Layable, Laid, Rebuildable, Rebuilt};
-ghost use Rattle.trees.specs.Mappings.{Updated};
+ghost use Rattle.trees.specs.Mappings.{New};
 ghost use Rattle.trees.specs.Searches.{Searched, Searchable, gray, tested, descentP, descentEct, AroundFits, aroundOf, stepAtP, stepAtEct, searchP, searchEct, foundAt, responsibleOf, whiteIn, Next};
 
 // A node which keeps track of the ect and the sum of processing times of the tasks below it, and of both if a single gray task can be added.
@@ -262,52 +260,25 @@ fn store(nodes: &mut [u32; 508], i: usize, n: Node)
     nodes[k + 3] = n.sum_of_processing_times_bar;
 }
 
-// A structure for calculating the ect of a set of tasks while allowing one element from another set.
+// A structure for calculating the ect of a set of tasks while allowing one element from another set: its 127 nodes, as words, and its size.
 pub struct ThetaLambdaTree {
     pub nodes: [u32; 508],
-    // The place of the leaf of each task, and the task of each leaf.
-    pub mapping: [usize; 48],
-    pub reverse_mapping: [usize; 48],
     pub number_of_internal_nodes: usize,
     pub height: usize,
-    // The tasks that the tree is made for.
-    pub count: usize,
 }
 
 // The operations take the words of the tree and the number of its internal nodes, `inner`.
 impl ThetaLambdaTree {
-    // Initialises the tree; `update` gives it the tasks' order.
+    // Initialises the tree for so many tasks, with theta and lambda the empty set.
     pub fn new(count: usize) -> ThetaLambdaTree
         requires { ⌜ count ≤ 48 ⌝ }
-        ensures { λ r. ⌜ Sized count (r .«number_of_internal_nodes») (r .height) × (r .count ≡ count) ⌝ }
+        ensures { λ r. ⌜ New count r ⌝ }
     {
         let size = size_for(count);
         ThetaLambdaTree {
             nodes: [0; 508],
-            mapping: [0; 48],
-            reverse_mapping: [0; 48],
             number_of_internal_nodes: size.number_of_internal_nodes,
             height: size.height,
-            count,
-        }
-    }
-
-    // Sets both mappings by the order of the tasks, and resets theta and lambda to be the empty set.
-    pub fn update(self, order: &[usize; 48]) -> ThetaLambdaTree
-        requires { ⌜ (self .count ≤ 48) × Permutes (self .count) (take (self .count) (now order)) ⌝ }
-        ensures { λ r. ⌜ Updated self r (now (order .entry)) ⌝ }
-    {
-        let count = self.count;
-        let mut mapping = [0; 48];
-        leaf_places(&mut mapping, order, count);
-        let reverse_mapping = *order;
-        ThetaLambdaTree {
-            nodes: [0; 508],
-            mapping,
-            reverse_mapping,
-            number_of_internal_nodes: self.number_of_internal_nodes,
-            height: self.height,
-            count,
         }
     }
 
@@ -474,22 +445,7 @@ impl ThetaLambdaTree {
         ThetaLambdaTree::put(nodes, inner, place, Node::empty());
     }
 
-    // Adds the provided task to Theta.
-    pub fn add_to_theta(
-        nodes: &mut [u32; 508],
-        inner: usize,
-        place: LeafPlace,
-        task: DisjunctiveTask,
-    )
-        requires { ⌜ Puttable inner (now nodes) (place .0) (whiteTask task) ⌝ }
-        ensures { λ _. ⌜ Put inner (now (nodes .entry)) (now (nodes .exit)) (place .0) (whiteTask task) ⌝ }
-    {
-        let ect = task.start_time + task.processing_time;
-        let n = Node::new_white_node(ect, task.processing_time);
-        ThetaLambdaTree::put(nodes, inner, place, n);
-    }
-
-    // Adds the provided task to Theta as `add_to_theta` does, but for its ancestors, which are left to `rebuild`.
+    // Adds the provided task to Theta, but for the leaf's ancestors, which are left to `rebuild`.
     pub fn lay_in_theta(
         nodes: &mut [u32; 508],
         inner: usize,
@@ -520,14 +476,6 @@ impl ThetaLambdaTree {
             let n = Node::join(l, r);
             store(nodes, i, n);
         }
-    }
-
-    // Removes a task from Theta.
-    pub fn remove_from_theta(nodes: &mut [u32; 508], inner: usize, place: LeafPlace)
-        requires { ⌜ Puttable inner (now nodes) (place .0) emptyOf ⌝ }
-        ensures { λ _. ⌜ Put inner (now (nodes .entry)) (now (nodes .exit)) (place .0) emptyOf ⌝ }
-    {
-        ThetaLambdaTree::put(nodes, inner, place, Node::empty());
     }
 
     // Calculates the new values for the ancestors of the provided index.

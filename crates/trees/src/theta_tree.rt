@@ -119,14 +119,6 @@ impl ThetaTree {
         root.ect
     }
 
-    // Returns the sum of processing times of Theta.
-    pub fn sum_of_processing_times(nodes: &[u32; 254]) -> u32
-        ensures { λ r. ⌜ r ≡ plainAt (now (nodes .entry)) 0 .«sum_of_processing_times» ⌝ }
-    {
-        let root = load(nodes, 0);
-        root.sum_of_processing_times
-    }
-
     // A leaf becomes the provided node.
     fn put(nodes: &mut [u32; 254], inner: usize, place: LeafPlace, n: Node)
         requires { ⌜ PlainPuttable inner (now nodes) (place .0) n ⌝ }
@@ -145,14 +137,6 @@ impl ThetaTree {
         let ect = task.start_time + task.processing_time;
         let n = Node::new(ect, task.processing_time);
         ThetaTree::put(nodes, inner, place, n);
-    }
-
-    // Removes a task from Theta.
-    pub fn remove(nodes: &mut [u32; 254], inner: usize, place: LeafPlace)
-        requires { ⌜ PlainPuttable inner (now nodes) (place .0) plainEmptyOf ⌝ }
-        ensures { λ _. ⌜ PlainPut inner (now (nodes .entry)) (now (nodes .exit)) (place .0) plainEmptyOf ⌝ }
-    {
-        ThetaTree::put(nodes, inner, place, Node::empty());
     }
 
     // Calculates the new values for the ancestors of the provided index.

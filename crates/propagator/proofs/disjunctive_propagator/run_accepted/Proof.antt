@@ -3,7 +3,7 @@
 use mathlib.Core.Path.{_≡_, refl}
 use mathlib.Core.List.{List}
 use Prim.Native.Nat.{ℕ}
-use lib.ListN.{length, replicate}
+use lib.ListN.{length}
 use borrow.Author.Needs.{needs}
 use Rattle.integers.specs.Limits.{TASKS}
 use Rattle.records.proofs.Sorted.{sorted-permutes}
@@ -17,45 +17,45 @@ use Rattle.propagator.proofs.disjunctive_propagator.run_accepted.Tie as
 long : (c : tie.Start) → length (c .args .t1 .durations) ≡ TASKS
 long c = search needs
 
--- when the leaves have their places: what each call before left
-abbrev start : tie.After-leaf-places → tie.Start
+-- when the tree is made: what each call before left
+abbrev start : tie.After-new → tie.Start
 start c = c .before .before .before .before .before .before .before .before .before .before .before .before .before .before .before .before .before .before
 
-abbrev est : tie.After-leaf-places → tie.After-moments-of
+abbrev est : tie.After-new → tie.After-moments-of
 est c = c .before .before .before .before .before .before .before .before .before .before .before .before .before .before .before
 
-abbrev lst : tie.After-leaf-places → tie.After-moments-of2
+abbrev lst : tie.After-new → tie.After-moments-of2
 lst c = c .before .before .before .before .before .before .before .before .before .before .before .before .before
 
-abbrev lct : tie.After-leaf-places → tie.After-completions
+abbrev lct : tie.After-new → tie.After-completions
 lct c = c .before .before .before .before .before .before .before .before
 
-abbrev tasks : tie.After-leaf-places → tie.After-sorted-by-key
+abbrev tasks : tie.After-new → tie.After-sorted-by-key
 tasks c = c .before .before .before .before .before .before
 
-abbrev candidates : tie.After-leaf-places → tie.After-sorted-down-by-key
+abbrev candidates : tie.After-new → tie.After-sorted-down-by-key
 candidates c = c .before .before .before .before
 
-abbrev size : tie.After-leaf-places → tie.After-size-for
-size c = c .before .before .before
+abbrev places : tie.After-new → tie.After-leaf-places
+places c = c .before
 
 -- the tree of no task can be filled,
-abbrev can-fill : (c : tie.After-leaf-places) → let a = start c .args in
-    Fillable (size c .size-for .result .«number_of_internal_nodes») (a .t1 .count) (replicate 508 0) (tasks c .sorted-by-key .result) (est c .moments-of .last .0) (a .t1 .durations)
+abbrev can-fill : (c : tie.After-new) → let a = start c .args in
+    Fillable (c .new .result .«number_of_internal_nodes») (a .t1 .count) (c .new .result .nodes) (tasks c .sorted-by-key .result) (est c .moments-of .last .0) (a .t1 .durations)
 can-fill c =
     let s = start c in
     let a = s .args in
     fillable (a .t1) (a .earliest .now) (a .latest .now) (length (a .posts .now)) (length (a .atoms .now)) (s .pre) (long s) (est c .moments-of .ensures) (lst c .moments-of2 .ensures) (lct c .completions .ensures)
-    (tasks c .sorted-by-key .ensures) (candidates c .sorted-down-by-key .ensures) (size c .size-for .ensures) (c .leaf-places .ensures .0) refl
+    (tasks c .sorted-by-key .ensures) (candidates c .sorted-down-by-key .ensures) (c .new .ensures .size) (places c .leaf-places .ensures .0) (c .new .ensures .nodes)
 
 -- and that of all tasks is what edge finding begins with
-abbrev can-begin : (c : tie.After-leaf-places) (words : List ℕ) → let a = start c .args in Filled (size c .size-for .result .«number_of_internal_nodes») (a .t1 .count) (replicate 508 0) words (tasks c .sorted-by-key .result) (est c .moments-of .last .0) (a .t1 .durations)
-    → Begun (a .t1 .count) (size c .size-for .result .«number_of_internal_nodes») (size c .size-for .result .height) words (a .earliest .now) (a .posts .now) (a .atoms .now) (est c .moments-of .last .0) (lst c .moments-of2 .last .0) (lct c .completions .last .0) (a .t1 .durations) (tasks c .sorted-by-key .result) (candidates c .sorted-down-by-key .result) (c .leaf-places .last .0)
+abbrev can-begin : (c : tie.After-new) (words : List ℕ) → let a = start c .args in Filled (c .new .result .«number_of_internal_nodes») (a .t1 .count) (c .new .result .nodes) words (tasks c .sorted-by-key .result) (est c .moments-of .last .0) (a .t1 .durations)
+    → Begun (a .t1 .count) (c .new .result .«number_of_internal_nodes») (c .new .result .height) words (a .earliest .now) (a .posts .now) (a .atoms .now) (est c .moments-of .last .0) (lst c .moments-of2 .last .0) (lct c .completions .last .0) (a .t1 .durations) (tasks c .sorted-by-key .result) (candidates c .sorted-down-by-key .result) (places c .leaf-places .last .0)
 can-begin c words filled =
     let s = start c in
     let a = s .args in
     begun (a .t1) (a .earliest .now) (a .latest .now) (length (a .posts .now)) (length (a .atoms .now)) (s .pre) (long s) (est c .moments-of .ensures) (lst c .moments-of2 .ensures) (lct c .completions .ensures)
-    (tasks c .sorted-by-key .ensures) (candidates c .sorted-down-by-key .ensures) (size c .size-for .ensures) (c .leaf-places .ensures .0) refl (filled (can-fill c)) refl refl
+    (tasks c .sorted-by-key .ensures) (candidates c .sorted-down-by-key .ensures) (c .new .ensures .size) (places c .leaf-places .ensures .0) (c .new .ensures .nodes) (filled (can-fill c)) refl refl
 
 moments-of-requires : tie.Need-moments-of-requires
 moments-of-requires c κs = search needs
@@ -81,11 +81,11 @@ sorted-down-by-key-requires c κs =
     let a = s .args in
     (s .pre .lawful .few, keys-small (a .t1) (a .earliest .now) (a .latest .now) (length (a .posts .now)) (length (a .atoms .now)) (s .pre) (long s) (c .before .before .before .before .before .before .before .before .before .before .moments-of .ensures) (c .before .before .before .before .before .before .before .before .moments-of2 .ensures) (c .before .before .before .completions .ensures))
 
-size-for-requires : tie.Need-size-for-requires
-size-for-requires c κs = search needs
-
 leaf-places-requires : tie.Need-leaf-places-requires
-leaf-places-requires c κs = (c .before .before .before .before .before .before .before .before .before .before .before .before .before .before .before .before .before .pre .lawful .few, refl, sorted-permutes (c .before .before .before .before .before .sorted-by-key .ensures))
+leaf-places-requires c κs = (c .before .before .before .before .before .before .before .before .before .before .before .before .before .before .before .before .pre .lawful .few, refl, sorted-permutes (c .before .before .before .before .sorted-by-key .ensures))
+
+new-requires : tie.Need-new-requires
+new-requires c κs = search needs
 
 fill-requires : tie.Need-fill-requires
 fill-requires c κs = can-fill (c .before .before .before .before .before)
@@ -119,8 +119,8 @@ run-accepted-spec =
     completions-requires
     sorted-by-key-requires
     sorted-down-by-key-requires
-    size-for-requires
     leaf-places-requires
+    new-requires
     fill-requires
     edge-finding-requires
     same-length
