@@ -104,7 +104,7 @@ module _ (J : Tasks natural) (first : List ℕ) where
 -- the theta-lambda tree --------------------------------------------------------------------------------------------------------
 
 module _ {J : Tasks natural} {first : List ℕ} (lim : Limited J first) {ls : List Leaf} {inner : ℕ} {words : List ℕ} (t : IsTree J first ls inner words) where
-  -- the leaf of a task may get a colour: white by `add_to_theta`, gray by `add_to_lambda`, empty by the removals
+  -- the leaf of a task may get a colour: white when Theta is filled, gray by `add_to_lambda`, empty by `remove_from_lambda`
   pub may-put : (k : ℕ) → k < J .count → (c : Leaf) {n : Node} → n ≡ leafNode c (startAt J first k) (durationAt J first k) → Puttable inner words k n
   may-put k q c {n} z = record {
     length = t .words-length;
