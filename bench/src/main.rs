@@ -225,7 +225,9 @@ fn measure(folder: Option<String>) {
     println!(
         "{CASES} inputs of each kind in batches of {BATCH}, {ROUNDS} rounds in turn, the medians of the rounds. Ours writes over what the run before"
     );
-    println!("left in its words; the published Rust gets, outside the clock, a new propagator for each run and an empty post list that keeps its room.");
+    println!(
+        "left in its words; the published Rust gets, outside the clock, a new propagator for each run and an empty post list that keeps its room."
+    );
     let mut rows = Vec::new();
     for family in Family::ALL {
         rows.push(Row { what: "run", family: family.name(), figures: SIZES.map(|n| runs(family, n)) });
