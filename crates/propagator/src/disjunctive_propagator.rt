@@ -5,11 +5,12 @@ use explanations::write_post;
 use integers::start_of;
 use records::orders::completions;
 use records::orders::moments_of;
-use records::orders::sorted_by_key;
-use records::orders::sorted_down_by_key;
+use records::orders::sort_numbers;
+use records::orders::sort_numbers_down;
 use records::record::Propagator;
 use records::refusals::run_refusal;
 use trees::complete_tree::leaf_places;
+use trees::complete_tree::size_for;
 use trees::disjunctive_task::DisjunctiveTask;
 use trees::disjunctive_task::LeafPlace;
 use trees::disjunctive_task::LocalId;
@@ -394,13 +395,20 @@ pub fn run_accepted(
     moments_of(&mut lst, latest);
     let mut lct: [u32; 48] = [0; 48];
     completions(&mut lct, &lst, &record.durations, n);
-    let tasks = sorted_by_key(n, &est);
-    let candidates = sorted_down_by_key(n, &lct);
+    let mut tasks: [usize; 48] = [0; 48];
+    sort_numbers(&mut tasks, n, &est);
+    let mut candidates: [usize; 48] = [0; 48];
+    sort_numbers_down(&mut candidates, n, &lct);
     let mut mapping: [usize; 48] = [0; 48];
     leaf_places(&mut mapping, &tasks, n);
-    let mut tree = ThetaLambdaTree::new(n);
-    let inner = tree.number_of_internal_nodes;
-    let height = tree.height;
+    let size = size_for(n);
+    let inner = size.number_of_internal_nodes;
+    let height = size.height;
+    let mut tree = ThetaLambdaTree {
+        nodes: [0; 508],
+        number_of_internal_nodes: inner,
+        height,
+    };
     fill(&mut tree.nodes, inner, &tasks, &est, &record.durations, n);
     edge_finding(
         &mut tree.nodes,

@@ -8,7 +8,6 @@ use crate::complete_tree::get_parent;
 use crate::complete_tree::get_right_child_index;
 use crate::complete_tree::is_leaf;
 use crate::complete_tree::max;
-use crate::complete_tree::size_for;
 use crate::disjunctive_task::DisjunctiveTask;
 use crate::disjunctive_task::LeafPlace;
 use crate::disjunctive_task::LocalId;
@@ -21,7 +20,6 @@ ghost use Rattle.trees.specs.Nodes.{emptyOf, whiteOf, grayOf, joinOf, is
 ghost use Rattle.trees.specs.Words.{nodeAt};
 ghost use Rattle.trees.specs.Bounds.{Fair, size, Fits, NeedsUpheap};
 ghost use Rattle.trees.specs.Puts.{whiteTask, grayTask, Puttable, Put, Layable, Laid, Rebuildable, Rebuilt};
-ghost use Rattle.trees.specs.Mappings.{New};
 ghost use Rattle.trees.specs.Searches.{Searched, Searchable, gray, tested, descentP, descentEct, AroundFits, aroundOf, stepAtP, stepAtEct, searchP, searchEct, foundAt, responsibleOf, whiteIn, Next};
 
 // A node which keeps track of the ect and the sum of processing times of the tasks below it, and of both if a single gray task can be added.
@@ -260,7 +258,8 @@ fn store(nodes: &mut [u32; 508], i: usize, n: Node)
     nodes[k + 3] = n.sum_of_processing_times_bar;
 }
 
-// A structure for calculating the ect of a set of tasks while allowing one element from another set: its 127 nodes, as words, and its size.
+// A structure for calculating the ect of a set of tasks while allowing one element from another set: its 127 nodes, as words, and its size. It is made where
+// it is used, with every word 0, so that it is not copied.
 pub struct ThetaLambdaTree {
     pub nodes: [u32; 508],
     pub number_of_internal_nodes: usize,
@@ -269,19 +268,6 @@ pub struct ThetaLambdaTree {
 
 // The operations take the words of the tree and the number of its internal nodes, `inner`.
 impl ThetaLambdaTree {
-    // Initialises the tree for so many tasks, with theta and lambda the empty set.
-    pub fn new(count: usize) -> ThetaLambdaTree
-        requires { ⌜ count ≤ 48 ⌝ }
-        ensures { λ r. ⌜ New count r ⌝ }
-    {
-        let size = size_for(count);
-        ThetaLambdaTree {
-            nodes: [0; 508],
-            number_of_internal_nodes: size.number_of_internal_nodes,
-            height: size.height,
-        }
-    }
-
     // Returns the earliest completion time of Theta.
     pub fn ect(nodes: &[u32; 508]) -> u32
         ensures { λ r. ⌜ r ≡ nodeAt (now (nodes .entry)) 0 .ect ⌝ }

@@ -3,7 +3,7 @@
 use mathlib.Core.Path.{_≡_, refl}
 use mathlib.Core.List.{List}
 use Prim.Native.Nat.{ℕ}
-use lib.ListN.{length}
+use lib.ListN.{length, replicate}
 use borrow.Author.Needs.{needs}
 use Rattle.integers.specs.Limits.{TASKS}
 use Rattle.records.proofs.Sorted.{sorted-permutes}
@@ -18,44 +18,44 @@ long : (c : tie.Start) → length (c .args .t1 .durations) ≡ TASKS
 long c = search needs
 
 -- when the tree is made: what each call before left
-abbrev start : tie.After-new → tie.Start
-start c = c .before .before .before .before .before .before .before .before .before .before .before .before .before .before .before .before .before .before
+abbrev start : tie.After-size-for → tie.Start
+start c = c .before .before .before .before .before .before .before .before .before .before .before .before .before .before .before .before .before .before .before .before
 
-abbrev est : tie.After-new → tie.After-moments-of
-est c = c .before .before .before .before .before .before .before .before .before .before .before .before .before .before .before
+abbrev est : tie.After-size-for → tie.After-moments-of
+est c = c .before .before .before .before .before .before .before .before .before .before .before .before .before .before .before .before .before
 
-abbrev lst : tie.After-new → tie.After-moments-of2
-lst c = c .before .before .before .before .before .before .before .before .before .before .before .before .before
+abbrev lst : tie.After-size-for → tie.After-moments-of2
+lst c = c .before .before .before .before .before .before .before .before .before .before .before .before .before .before .before
 
-abbrev lct : tie.After-new → tie.After-completions
-lct c = c .before .before .before .before .before .before .before .before
+abbrev lct : tie.After-size-for → tie.After-completions
+lct c = c .before .before .before .before .before .before .before .before .before .before
 
-abbrev tasks : tie.After-new → tie.After-sorted-by-key
-tasks c = c .before .before .before .before .before .before
+abbrev tasks : tie.After-size-for → tie.After-sort-numbers
+tasks c = c .before .before .before .before .before .before .before
 
-abbrev candidates : tie.After-new → tie.After-sorted-down-by-key
+abbrev candidates : tie.After-size-for → tie.After-sort-numbers-down
 candidates c = c .before .before .before .before
 
-abbrev places : tie.After-new → tie.After-leaf-places
+abbrev places : tie.After-size-for → tie.After-leaf-places
 places c = c .before
 
 -- the tree of no task can be filled,
-abbrev can-fill : (c : tie.After-new) → let a = start c .args in
-    Fillable (c .new .result .«number_of_internal_nodes») (a .t1 .count) (c .new .result .nodes) (tasks c .sorted-by-key .result) (est c .moments-of .last .0) (a .t1 .durations)
+abbrev can-fill : (c : tie.After-size-for) → let a = start c .args in
+    Fillable (c .size-for .result .«number_of_internal_nodes») (a .t1 .count) (replicate 508 0) (tasks c .sort-numbers .last .0) (est c .moments-of .last .0) (a .t1 .durations)
 can-fill c =
     let s = start c in
     let a = s .args in
     fillable (a .t1) (a .earliest .now) (a .latest .now) (length (a .posts .now)) (length (a .atoms .now)) (s .pre) (long s) (est c .moments-of .ensures) (lst c .moments-of2 .ensures) (lct c .completions .ensures)
-    (tasks c .sorted-by-key .ensures) (candidates c .sorted-down-by-key .ensures) (c .new .ensures .size) (places c .leaf-places .ensures .0) (c .new .ensures .nodes)
+    (tasks c .sort-numbers .ensures) (candidates c .sort-numbers-down .ensures) (c .size-for .ensures) (places c .leaf-places .ensures .0) refl
 
 -- and that of all tasks is what edge finding begins with
-abbrev can-begin : (c : tie.After-new) (words : List ℕ) → let a = start c .args in Filled (c .new .result .«number_of_internal_nodes») (a .t1 .count) (c .new .result .nodes) words (tasks c .sorted-by-key .result) (est c .moments-of .last .0) (a .t1 .durations)
-    → Begun (a .t1 .count) (c .new .result .«number_of_internal_nodes») (c .new .result .height) words (a .earliest .now) (a .posts .now) (a .atoms .now) (est c .moments-of .last .0) (lst c .moments-of2 .last .0) (lct c .completions .last .0) (a .t1 .durations) (tasks c .sorted-by-key .result) (candidates c .sorted-down-by-key .result) (places c .leaf-places .last .0)
+abbrev can-begin : (c : tie.After-size-for) (words : List ℕ) → let a = start c .args in Filled (c .size-for .result .«number_of_internal_nodes») (a .t1 .count) (replicate 508 0) words (tasks c .sort-numbers .last .0) (est c .moments-of .last .0) (a .t1 .durations)
+    → Begun (a .t1 .count) (c .size-for .result .«number_of_internal_nodes») (c .size-for .result .height) words (a .earliest .now) (a .posts .now) (a .atoms .now) (est c .moments-of .last .0) (lst c .moments-of2 .last .0) (lct c .completions .last .0) (a .t1 .durations) (tasks c .sort-numbers .last .0) (candidates c .sort-numbers-down .last .0) (places c .leaf-places .last .0)
 can-begin c words filled =
     let s = start c in
     let a = s .args in
     begun (a .t1) (a .earliest .now) (a .latest .now) (length (a .posts .now)) (length (a .atoms .now)) (s .pre) (long s) (est c .moments-of .ensures) (lst c .moments-of2 .ensures) (lct c .completions .ensures)
-    (tasks c .sorted-by-key .ensures) (candidates c .sorted-down-by-key .ensures) (c .new .ensures .size) (places c .leaf-places .ensures .0) (c .new .ensures .nodes) (filled (can-fill c)) refl refl
+    (tasks c .sort-numbers .ensures) (candidates c .sort-numbers-down .ensures) (c .size-for .ensures) (places c .leaf-places .ensures .0) refl (filled (can-fill c)) refl refl
 
 moments-of-requires : tie.Need-moments-of-requires
 moments-of-requires c κs = search needs
@@ -72,20 +72,20 @@ completions-requires c κs =
           (latest (a .t1) (a .earliest .now) (a .latest .now) (length (a .posts .now)) (length (a .atoms .now)) (s .pre) (long s) (c .before .before .before .before .before .before .moments-of .ensures) (c .before .before .before .before .moments-of2 .ensures)),
     )
 
-sorted-by-key-requires : tie.Need-sorted-by-key-requires
-sorted-by-key-requires c κs = search needs
+sort-numbers-requires : tie.Need-sort-numbers-requires
+sort-numbers-requires c κs = search needs
 
-sorted-down-by-key-requires : tie.Need-sorted-down-by-key-requires
-sorted-down-by-key-requires c κs =
-    let s = c .before .before .before .before .before .before .before .before .before .before .before .before .before in
+sort-numbers-down-requires : tie.Need-sort-numbers-down-requires
+sort-numbers-down-requires c κs =
+    let s = c .before .before .before .before .before .before .before .before .before .before .before .before .before .before .before in
     let a = s .args in
-    (s .pre .lawful .few, keys-small (a .t1) (a .earliest .now) (a .latest .now) (length (a .posts .now)) (length (a .atoms .now)) (s .pre) (long s) (c .before .before .before .before .before .before .before .before .before .before .moments-of .ensures) (c .before .before .before .before .before .before .before .before .moments-of2 .ensures) (c .before .before .before .completions .ensures))
+    (s .pre .lawful .few, refl, keys-small (a .t1) (a .earliest .now) (a .latest .now) (length (a .posts .now)) (length (a .atoms .now)) (s .pre) (long s) (c .before .before .before .before .before .before .before .before .before .before .before .before .moments-of .ensures) (c .before .before .before .before .before .before .before .before .before .before .moments-of2 .ensures) (c .before .before .before .before .before .completions .ensures))
 
 leaf-places-requires : tie.Need-leaf-places-requires
-leaf-places-requires c κs = (c .before .before .before .before .before .before .before .before .before .before .before .before .before .before .before .before .pre .lawful .few, refl, sorted-permutes (c .before .before .before .before .sorted-by-key .ensures))
+leaf-places-requires c κs = (c .before .before .before .before .before .before .before .before .before .before .before .before .before .before .before .before .before .before .pre .lawful .few, refl, sorted-permutes (c .before .before .before .before .before .sort-numbers .ensures))
 
-new-requires : tie.Need-new-requires
-new-requires c κs = search needs
+size-for-requires : tie.Need-size-for-requires
+size-for-requires c κs = search needs
 
 fill-requires : tie.Need-fill-requires
 fill-requires c κs = can-fill (c .before .before .before .before .before)
@@ -108,7 +108,7 @@ returns c =
     let s = start u in
     let a = s .args in
     left (a .t1) (a .earliest .now) (a .latest .now) (length (a .posts .now)) (length (a .atoms .now)) (s .pre) (long s) (est u .moments-of .ensures) (lst u .moments-of2 .ensures) (lct u .completions .ensures)
-    (tasks u .sorted-by-key .ensures) (candidates u .sorted-down-by-key .ensures) refl refl (c .before .before .before .edge-finding .ensures (can-begin u _ (c .before .before .before .before .before .before .before .before .before .before .before .before .before .before .before .before .fill .ensures)))
+    (tasks u .sort-numbers .ensures) (candidates u .sort-numbers-down .ensures) refl refl (c .before .before .before .edge-finding .ensures (can-begin u _ (c .before .before .before .before .before .before .before .before .before .before .before .before .before .before .before .before .fill .ensures)))
 
 pub run-accepted-spec : {M : Type 1} → statement M
 run-accepted-spec =
@@ -117,10 +117,10 @@ run-accepted-spec =
     moments-of-requires
     moments-of-requires-2
     completions-requires
-    sorted-by-key-requires
-    sorted-down-by-key-requires
+    sort-numbers-requires
+    sort-numbers-down-requires
     leaf-places-requires
-    new-requires
+    size-for-requires
     fill-requires
     edge-finding-requires
     same-length
