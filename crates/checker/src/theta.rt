@@ -1,5 +1,5 @@
 // The ect of a set of tasks, by the theta tree.
-use records::orders::sorted_by_key;
+use records::orders::sort_numbers;
 use trees::disjunctive_task::DisjunctiveTask;
 use trees::disjunctive_task::LeafPlace;
 use trees::disjunctive_task::LocalId;
@@ -75,7 +75,8 @@ pub fn theta_ect<'a>(
     requires { ⌜ ((J : Tasks natural) × (Ω : TaskSet) × Held J Ω n (now chosen) (now est) (now durations)) ⌝ }
     ensures { λ r. ⌜ ((J : Tasks natural) (Ω : TaskSet) → Held J Ω n (now (chosen .entry)) (now (est .entry)) (now (durations .entry)) → r ≡ ectOf J Ω) ⌝ }
 {
-    let order = sorted_by_key(n, est);
+    let mut order: [usize; 48] = [0; 48];
+    sort_numbers(&mut order, n, est);
     let tree = ThetaTree::new(&order, n);
     let inner = tree.number_of_internal_nodes;
     let mut nodes = tree.nodes;

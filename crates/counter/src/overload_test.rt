@@ -1,7 +1,7 @@
 // Whether some set of the tasks overloads: the tasks go into the theta tree by latest completion, least first, until those read overload.
 use records::orders::completions;
 use records::orders::moments_of;
-use records::orders::sorted_by_key;
+use records::orders::sort_numbers;
 use records::record::Propagator;
 use records::refusals::input_refusal;
 use trees::disjunctive_task::DisjunctiveTask;
@@ -67,8 +67,10 @@ fn accepted(record: Propagator, earliest: &[i32], latest: &[i32]) -> Overload
     moments_of(&mut lst, latest);
     let mut lct: [u32; 48] = [0; 48];
     completions(&mut lct, &lst, &durations, n);
-    let leaves = sorted_by_key(n, &est);
-    let tasks = sorted_by_key(n, &lct);
+    let mut leaves: [usize; 48] = [0; 48];
+    sort_numbers(&mut leaves, n, &est);
+    let mut tasks: [usize; 48] = [0; 48];
+    sort_numbers(&mut tasks, n, &lct);
     let tree = ThetaTree::new(&leaves, n);
     let inner = tree.number_of_internal_nodes;
     let mapping = tree.mapping;

@@ -1,7 +1,7 @@
 // The tasks of a schedule by start, and the test that no two of them overlap.
 use integers::moment_of;
 use records::orders::moments_of;
-use records::orders::sorted_by_key;
+use records::orders::sort_numbers;
 ghost use mathlib.Core.Path.{_≡_};
 ghost use Prim.Native.Nat.{_-_};
 ghost use lib.ListN.{length, take};
@@ -42,7 +42,9 @@ pub fn order_of(earliest: &[i32]) -> [usize; 48]
     let n = earliest.len();
     let mut key = [0u32; 48];
     moments_of(&mut key, earliest);
-    sorted_by_key(n, &key)
+    let mut order: [usize; 48] = [0; 48];
+    sort_numbers(&mut order, n, &key);
+    order
 }
 
 // Whether each task of an order ends by the start of the next.

@@ -12,20 +12,20 @@ use Rattle.checker.proofs.theta.theta_ect.Tie as tie
 
 -- when the tree is made: what each call before left
 abbrev start : tie.After-new → tie.Start
-start c = c .before .before .before
+start c = c .before .before .before .before
 
-abbrev sorted : tie.After-new → tie.After-sorted-by-key
+abbrev sorted : tie.After-new → tie.After-sort-numbers
 sorted c = c .before .before
 
 abbrev ready : (c : tie.After-new) → let a = start c .args in (J : Tasks natural) (Ω : TaskSet) → Held J Ω (a .n) (a .chosen .now) (a .est .now) (a .durations .now)
-    → Colourable (c .new .result .«number_of_internal_nodes») (a .n) (c .new .result .nodes) (sorted c .sorted-by-key .result) (a .chosen .now) (a .est .now) (a .durations .now)
-ready c J Ω h = colourable h (sorted c .sorted-by-key .ensures) (c .new .ensures)
+    → Colourable (c .new .result .«number_of_internal_nodes») (a .n) (c .new .result .nodes) (sorted c .sort-numbers .last .0) (a .chosen .now) (a .est .now) (a .durations .now)
+ready c J Ω h = colourable h (sorted c .sort-numbers .ensures) (c .new .ensures)
 
-sorted-by-key-requires : tie.Need-sorted-by-key-requires
-sorted-by-key-requires c κs = search needs
+sort-numbers-requires : tie.Need-sort-numbers-requires
+sort-numbers-requires c κs = search needs
 
 new-requires : tie.Need-new-requires
-new-requires c κs = let s = c .before .before in (s .pre .2 .few, sorted-permutes (c .before .sorted-by-key .ensures))
+new-requires c κs = let s = c .before .before .before in (s .pre .2 .few, sorted-permutes (c .before .sort-numbers .ensures))
 
 fill-requires : tie.Need-fill-requires
 fill-requires c κs = let s = c .before .before .before in ready s (start s .pre .0) (start s .pre .1) (start s .pre .2)
@@ -40,7 +40,7 @@ pub theta-ect-spec : {M : Type 1} → statement M
 theta-ect-spec =
     tie.close
     (tie.spec
-    sorted-by-key-requires
+    sort-numbers-requires
     new-requires
     fill-requires
     ect-requires

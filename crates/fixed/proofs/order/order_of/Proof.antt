@@ -8,13 +8,13 @@ use Rattle.fixed.proofs.order.order_of.Tie as tie
 moments-of-requires : tie.Need-moments-of-requires
 moments-of-requires c κs = search needs
 
-sorted-by-key-requires : tie.Need-sorted-by-key-requires
-sorted-by-key-requires c κs = search needs
+sort-numbers-requires : tie.Need-sort-numbers-requires
+sort-numbers-requires c κs = search needs
 
 returns : tie.Need-returns
 returns c =
-    let s = c .before .before .before .before in
-    order-is (s .args .earliest .now) (c .before .before .moments-of .last .0) (c .sorted-by-key .result) (s .pre) (c .before .before .moments-of .ensures) (c .sorted-by-key .ensures)
+    let s = c .before .before .before .before .before in
+    order-is (s .args .earliest .now) (c .before .before .before .moments-of .last .0) (c .sort-numbers .last .0) (s .pre) (c .before .before .before .moments-of .ensures) (c .sort-numbers .ensures)
 
 pub order-of-spec : {M : Type 1} → statement M
-order-of-spec = tie.close (tie.spec moments-of-requires sorted-by-key-requires returns)
+order-of-spec = tie.close (tie.spec moments-of-requires sort-numbers-requires returns)
