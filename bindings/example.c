@@ -29,6 +29,14 @@ int main(void) {
     reedgrit_range again[] = {{0, 6}, {1, 5}, {0, 20}};
     assert(reedgrit_run(&made.propagator, again, 3, posts, 12, atoms, 54).posts == 1 && again[2].earliest == 9);
 
+    /* An overload: two tasks that do not fit. Its reason is told in atoms, a post's in words; without consequent it passes the check. */
+    const int32_t fours[] = {4, 4};
+    reedgrit_range tight[] = {{0, 2}, {1, 2}};
+    reedgrit_new two = reedgrit_create(fours, 2);
+    reedgrit_run_answer overload = reedgrit_run(&two.propagator, tight, 2, posts, 12, atoms, 54);
+    assert(overload.kind == REEDGRIT_OVERLOAD && overload.posts == 0 && overload.count == 4);
+    assert(reedgrit_check(fours, 2, atoms + 3 * overload.first, 3 * overload.count, posts, 0).kind == REEDGRIT_PASSED);
+
     const int32_t no_tasks[] = {0};
     assert(reedgrit_create(no_tasks, 0).number == 1);
     const int32_t premises[] = {0, REEDGRIT_NOT_EQUAL, 5, 0, REEDGRIT_GREATER_EQUAL, 5};

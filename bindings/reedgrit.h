@@ -3,7 +3,8 @@
  * (refusals below). A function reads and writes only what it is lent, for as long as the call lasts; it allocates nothing, keeps nothing,
  * and may be called from several threads on different data.
  *
- * No pointer may be NULL, not even of a slice of length 0. What one call is lent must not overlap. */
+ * The caller answers for the pointers: none may be NULL, not even of a slice of length 0; each has its type's alignment and as many
+ * elements (ranges, durations, words) as the length behind it says; and no part of what one call may write is lent to it twice. */
 #ifndef REEDGRIT_H
 #define REEDGRIT_H
 
@@ -53,7 +54,7 @@ typedef struct {
     uint32_t kind;
     uint32_t number; /* of a refusal */
     size_t posts;
-    size_t first; /* an overload's reason: its first atom, and how many it has */
+    size_t first; /* an overload's reason: its first atom, and how many atoms it has (a post's is told in words) */
     size_t count;
 } reedgrit_run_answer;
 
@@ -61,7 +62,7 @@ typedef struct {
     uint32_t number; /* 0, or 11: then all else is 0 */
     int32_t task;
     int32_t bound;
-    size_t first; /* the reason: its first word, and how many it has */
+    size_t first; /* the reason: its first word, and how many words it has */
     size_t count;
 } reedgrit_post_answer;
 
@@ -89,7 +90,11 @@ reedgrit_new reedgrit_create(const int32_t *durations, size_t count);
 /* A run: raises earliest starts, writes four words for each post (task, bound, first atom, atom count) and the atoms of their reasons.
  * Words that it does not write keep what they held. It leaves the record as it was: whatever runs came before, the same durations and
  * ranges give the same outcome, posts and reasons. Among tasks with equal earliest starts, or equal latest completions, the lower number
- * comes first. Refuses by 20, 10, 3, 4, 9. */
+ * comes first. Refuses by 20, 10, 3, 4, 9.
+ *
+ * REEDGRIT_DONE does not mean that a schedule exists, and one run is no fixpoint: durations 1 1 2 on 1..1, 1..3, 0..2 are done with the
+ * earliest starts 1 2 2, and the next run on these is an overload. The conflict of REEDGRIT_EMPTIED is its last post's reason with the
+ * task's latest start; it is checked as that post, with the post as consequent. */
 reedgrit_run_answer reedgrit_run(reedgrit_propagator *propagator, reedgrit_range *ranges, size_t range_count, int32_t *posts,
                                  size_t post_words, int32_t *atoms, size_t atom_words);
 

@@ -219,5 +219,5 @@ pub fn any_atom(rng: &mut Rng, variables: i64, base: i64, width: i64) -> Atom {
         Comparison::NotEqual,
     ]);
     let value = (base + rng.to(-width, width)).clamp(-900_000_000, 900_000_000) as i32;
-    Atom::new(rng.to(0, variables - 1) as u32, comparison, value)
+    Atom::new(rng.to(0, variables - 1) as usize, comparison, value)
 }

@@ -38,7 +38,7 @@ pub fn domains(ranges: &[reedgrit::Range]) -> Store {
 
 pub fn atom(atom: &reedgrit::Atom) -> Predicate {
     Predicate {
-        variable: atom.variable(),
+        variable: atom.variable() as u32,
         comparison: match atom.comparison() {
             reedgrit::Comparison::GreaterEqual => Comparison::GreaterEqual,
             reedgrit::Comparison::LessEqual => Comparison::LessEqual,
@@ -57,7 +57,7 @@ pub struct Checker(DisjunctiveEdgeFindingChecker<Plain>);
 pub enum Checked {
     Passed,
     NotPassed,
-    Contradiction(u32),
+    Contradiction(usize),
 }
 
 impl Checker {
@@ -67,7 +67,7 @@ impl Checker {
 
     pub fn check(&self, premises: &[Predicate], consequent: Option<Predicate>) -> Checked {
         match VariableState::prepare_for_conflict_check(premises.iter().copied(), consequent) {
-            Err(variable) => Checked::Contradiction(variable),
+            Err(variable) => Checked::Contradiction(variable as usize),
             Ok(state) => {
                 if self.0.check(state, premises, consequent.as_ref()) {
                     Checked::Passed

@@ -17,7 +17,7 @@ struct Seen {
 
 /// One run of ours and one of a newly made published propagator: outcome, posts, reasons and starts are the same, and our record stays.
 fn same_run(ours: &mut Propagator, words: &mut Words, case: &Case, seen: &mut Seen) {
-    let before = *ours;
+    let before = ours.clone();
     let mut ranges = case.ranges.clone();
     let mut store = domains(&ranges);
     let outcome = ours.run(&mut ranges, words).unwrap();
@@ -161,11 +161,13 @@ fn states() {
                         IntExt::NegativeInf => Ok(Bound::NegativeInfinity),
                         IntExt::PositiveInf => Ok(Bound::PositiveInfinity),
                     };
-                    assert_eq!(bounds, (own(state.lower_bound(&variable)), own(state.upper_bound(&variable))));
+                    let asked = variable as u32;
+                    assert_eq!(bounds, (own(state.lower_bound(&asked)), own(state.upper_bound(&asked))));
                 }
                 Err(x) => {
                     contradictions += 1;
-                    assert_eq!(bounds, (Err(NoState::Contradiction(*x)), Err(NoState::Contradiction(*x))));
+                    let none = Err(NoState::Contradiction(*x as usize));
+                    assert_eq!(bounds, (none, none));
                 }
             }
         }

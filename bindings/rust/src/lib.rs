@@ -4,6 +4,9 @@
 //! `docs/TRUST.md`). This crate gives them Rust's types. It has no dependency, and nothing in it is unsafe for its user: every input is
 //! answered, a wrong one by [`Refused`].
 //!
+//! A call reads and writes what it is lent, for as long as it lasts. It allocates nothing and keeps nothing between calls, so that all types
+//! are `Send` and `Sync`; only [`Words::new`] allocates, on the Rust side.
+//!
 //! ```
 //! use reedgrit::{Comparison, Outcome, Propagator, Range, Verdict, check};
 //!
@@ -27,6 +30,48 @@
 //! assert_eq!(ranges[2].earliest, 9);
 //! # Ok::<(), reedgrit::Refused>(())
 //! ```
+//!
+//! # What a run does not promise
+//!
+//! `Done` does not mean that a schedule exists: here task 0 takes 1 to 2, and neither of the others can go before it or both behind it. Nor is
+//! one run a fixpoint: the next one, on the ranges that this one left, sees the overload.
+//!
+//! ```
+//! use reedgrit::{Outcome, Propagator, Range};
+//! let mut propagator = Propagator::new(&[1, 1, 2])?;
+//! let mut words = propagator.words();
+//! let mut ranges = [Range::new(1, 1), Range::new(1, 3), Range::new(0, 2)];
+//! assert!(matches!(propagator.run(&mut ranges, &mut words)?, Outcome::Done { .. }));
+//! assert_eq!(ranges.map(|range| range.earliest), [1, 2, 2]);
+//! assert!(matches!(propagator.run(&mut ranges, &mut words)?, Outcome::Overload { .. }));
+//!
+//! // A latest start more for task 2, and there are schedules; the next run raises it once more.
+//! let mut ranges = [Range::new(1, 1), Range::new(1, 3), Range::new(0, 3)];
+//! propagator.run(&mut ranges, &mut words)?;
+//! assert_eq!(ranges.map(|range| range.earliest), [1, 2, 2]);
+//! propagator.run(&mut ranges, &mut words)?;
+//! assert_eq!(ranges.map(|range| range.earliest), [1, 2, 3]);
+//! # Ok::<(), reedgrit::Refused>(())
+//! ```
+//!
+//! The conflict of [`Outcome::Emptied`] is its last post's reason together with the task's latest start. It is checked as that post, with the
+//! post as consequent; as premises alone the two need not pass.
+//!
+//! ```
+//! use reedgrit::{Atom, Outcome, Propagator, Range, Verdict, check};
+//! let durations = [3, 5];
+//! let mut propagator = Propagator::new(&durations)?;
+//! let mut words = propagator.words();
+//! let mut ranges = [Range::new(0, 5), Range::new(1, 1)];
+//! let outcome = propagator.run(&mut ranges, &mut words)?;
+//! assert!(matches!(outcome, Outcome::Emptied { .. }));
+//! let last = outcome.posts().last().expect("a post emptied the range");
+//! assert_eq!(last.atom(), Atom::at_least(0, 6));
+//! assert_eq!(check(&durations, last.reason, Some(last.atom()))?, Verdict::Passed);
+//! let conflict = [last.reason, &[Atom::at_most(0, 5)]].concat();
+//! assert_eq!(check(&durations, &conflict, None)?, Verdict::NotPassed);
+//! # Ok::<(), reedgrit::Refused>(())
+//! ```
 #![deny(unsafe_code)]
 #![warn(missing_docs)]
 
@@ -34,6 +79,7 @@ mod raw;
 
 use std::fmt;
 use std::iter::FusedIterator;
+use std::ops::Not;
 
 /// A record has this many tasks at most.
 pub const TASKS: usize = raw::TASKS;
@@ -108,13 +154,23 @@ pub struct Atom {
 impl Atom {
     /// The atom of a variable, a comparison and a value. A variable above 63 or a value beyond ±900,000,000 is refused where the atom is
     /// used ([`Refused::Atoms`]).
-    pub const fn new(variable: u32, comparison: Comparison, value: i32) -> Atom {
-        Atom { variable: variable as i32, kind: comparison.kind(), value }
+    pub const fn new(variable: usize, comparison: Comparison, value: i32) -> Atom {
+        Atom { variable: number(variable), kind: comparison.kind(), value }
+    }
+
+    /// The variable is the value or above it.
+    pub const fn at_least(variable: usize, value: i32) -> Atom {
+        Atom::new(variable, Comparison::GreaterEqual, value)
+    }
+
+    /// The variable is the value or below it.
+    pub const fn at_most(variable: usize, value: i32) -> Atom {
+        Atom::new(variable, Comparison::LessEqual, value)
     }
 
     /// The variable's number.
-    pub const fn variable(&self) -> u32 {
-        self.variable as u32
+    pub const fn variable(&self) -> usize {
+        self.variable as usize
     }
 
     /// The comparison.
@@ -132,6 +188,51 @@ impl Atom {
     pub const fn value(&self) -> i32 {
         self.value
     }
+
+    /// Whether every start in its task's range meets the atom. The start of a task that has no range here may be any.
+    ///
+    /// ```
+    /// use reedgrit::{Atom, Comparison, Range};
+    /// let ranges = [Range::new(3, 5)];
+    /// assert!(Atom::at_least(0, 3).holds(&ranges) && !Atom::at_least(0, 4).holds(&ranges));
+    /// assert!(Atom::at_most(0, 5).holds(&ranges) && !Atom::at_most(0, 4).holds(&ranges));
+    /// assert!(Atom::new(0, Comparison::NotEqual, 6).holds(&ranges) && !Atom::new(0, Comparison::NotEqual, 4).holds(&ranges));
+    /// assert!(!Atom::new(0, Comparison::Equal, 4).holds(&ranges) && !Atom::at_least(1, 0).holds(&ranges));
+    /// ```
+    pub fn holds(&self, ranges: &[Range]) -> bool {
+        let Some(range) = ranges.get(self.variable()) else { return false };
+        match self.comparison() {
+            Comparison::GreaterEqual => range.earliest >= self.value,
+            Comparison::LessEqual => range.latest <= self.value,
+            Comparison::Equal => range.earliest == self.value && range.latest == self.value,
+            Comparison::NotEqual => self.value < range.earliest || range.latest < self.value,
+        }
+    }
+}
+
+/// The atom that holds exactly where this one does not, for every value that a call accepts.
+///
+/// ```
+/// use reedgrit::Atom;
+/// assert_eq!(!Atom::at_least(2, 9), Atom::at_most(2, 8));
+/// assert_eq!(!!Atom::at_most(2, 9), Atom::at_most(2, 9));
+/// ```
+impl Not for Atom {
+    type Output = Atom;
+
+    fn not(self) -> Atom {
+        match self.comparison() {
+            Comparison::GreaterEqual => Atom::at_most(self.variable(), self.value.saturating_sub(1)),
+            Comparison::LessEqual => Atom::at_least(self.variable(), self.value.saturating_add(1)),
+            Comparison::Equal => Atom::new(self.variable(), Comparison::NotEqual, self.value),
+            Comparison::NotEqual => Atom::new(self.variable(), Comparison::Equal, self.value),
+        }
+    }
+}
+
+/// A variable's number as a word; one that no word has stays one that no call accepts.
+const fn number(variable: usize) -> i32 {
+    if variable > i32::MAX as usize { i32::MAX } else { variable as i32 }
 }
 
 impl fmt::Display for Atom {
@@ -148,6 +249,7 @@ impl fmt::Debug for Atom {
 
 /// Why an input was turned back. A refusal changes nothing that was lent.
 #[derive(Clone, Copy, Debug, PartialEq, Eq, Hash)]
+#[non_exhaustive]
 pub enum Refused {
     /// 1: no tasks, or more than 48.
     TaskCount,
@@ -264,7 +366,7 @@ impl Words {
 ///
 /// A run leaves it as it was, so that a run answers as on a propagator newly made: whatever runs came before, the same ranges give the same
 /// outcome, posts and reasons.
-#[derive(Clone, Copy, PartialEq, Eq)]
+#[derive(Clone, PartialEq, Eq)]
 pub struct Propagator {
     record: raw::Record,
 }
@@ -405,7 +507,7 @@ pub struct Post<'w> {
 impl Post<'_> {
     /// The post as an atom, which is what a check takes as consequent.
     pub fn atom(&self) -> Atom {
-        Atom::new(self.task as u32, Comparison::GreaterEqual, self.bound)
+        Atom::at_least(self.task, self.bound)
     }
 }
 
@@ -459,7 +561,7 @@ pub enum Verdict {
     /// The checker's formula does not show that.
     NotPassed,
     /// The premises and the negated consequent leave this variable no value; the first atom to do so decides.
-    Contradiction(u32),
+    Contradiction(usize),
 }
 
 impl fmt::Display for Verdict {
@@ -482,7 +584,7 @@ pub fn check(durations: &[i32], premises: &[Atom], consequent: Option<Atom>) -> 
     match answer.kind {
         0 => Ok(Verdict::Passed),
         1 => Ok(Verdict::NotPassed),
-        2 => Ok(Verdict::Contradiction(answer.variable as u32)),
+        2 => Ok(Verdict::Contradiction(answer.variable)),
         _ => Err(Refused::of(answer.number)),
     }
 }
@@ -499,7 +601,7 @@ pub fn check(durations: &[i32], premises: &[Atom], consequent: Option<Atom>) -> 
 /// assert_eq!(state::upper_bound(&premises, 64), Err(state::NoState::Refused(Refused::Atoms)));
 /// ```
 pub mod state {
-    use super::{Atom, Refused, raw};
+    use super::{Atom, Refused, number, raw};
     use std::fmt;
 
     /// The least or the greatest value of a variable.
@@ -517,7 +619,7 @@ pub mod state {
     #[derive(Clone, Copy, Debug, PartialEq, Eq, Hash)]
     pub enum NoState {
         /// This variable is left no value.
-        Contradiction(u32),
+        Contradiction(usize),
         /// The atoms, or the question, were turned back.
         Refused(Refused),
     }
@@ -538,16 +640,16 @@ pub mod state {
     /// # Errors
     /// [`Refused::Premises`]; [`Refused::Atoms`], also for the variable asked about; then [`Refused::Holes`] or a contradiction, by the first
     /// premise that leads to one of them.
-    pub fn lower_bound(premises: &[Atom], variable: u32) -> Result<Bound, NoState> {
-        bound(raw::lower_bound(raw::words(premises), variable as i32))
+    pub fn lower_bound(premises: &[Atom], variable: usize) -> Result<Bound, NoState> {
+        bound(raw::lower_bound(raw::words(premises), number(variable)))
     }
 
     /// The greatest value that the premises leave to the variable.
     ///
     /// # Errors
     /// As [`lower_bound`]'s.
-    pub fn upper_bound(premises: &[Atom], variable: u32) -> Result<Bound, NoState> {
-        bound(raw::upper_bound(raw::words(premises), variable as i32))
+    pub fn upper_bound(premises: &[Atom], variable: usize) -> Result<Bound, NoState> {
+        bound(raw::upper_bound(raw::words(premises), number(variable)))
     }
 
     /// Whether every value that the premises leave meets the atom.
@@ -574,7 +676,7 @@ pub mod state {
 
     fn no_state(answer: raw::StateAnswer) -> NoState {
         if answer.kind == 2 {
-            return NoState::Contradiction(answer.variable as u32);
+            return NoState::Contradiction(answer.variable);
         }
         NoState::Refused(Refused::of(answer.number))
     }

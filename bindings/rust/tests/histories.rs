@@ -10,7 +10,7 @@ fn said(propagator: &mut Propagator, ranges: &[Range], words: &mut Words) -> Str
 }
 
 /// The variables of the first post's reason, in the order of its atoms.
-fn reason_of(propagator: &mut Propagator, ranges: &[Range]) -> Vec<u32> {
+fn reason_of(propagator: &mut Propagator, ranges: &[Range]) -> Vec<usize> {
     let mut words = propagator.words();
     let outcome = propagator.run(&mut ranges.to_vec(), &mut words).unwrap();
     let post = outcome.posts().next().expect("a post");
@@ -21,7 +21,7 @@ fn reason_of(propagator: &mut Propagator, ranges: &[Range]) -> Vec<u32> {
 fn equal_starts_go_by_number() {
     let made = Propagator::new(&[4, 5, 3]).unwrap();
     let equal = [Range::new(0, 6), Range::new(0, 5), Range::new(0, 20)];
-    let mut propagator = made;
+    let mut propagator = made.clone();
     assert_eq!(reason_of(&mut propagator, &equal), [0, 0, 1, 1, 2]);
     // a run in which the tasks start in the other order, and one that is turned back
     let falling = [Range::new(9, 20), Range::new(5, 30), Range::new(0, 40)];
@@ -46,7 +46,7 @@ fn any_history() {
     for _ in 0..300 {
         let durations: Vec<i32> = (0..1 + below(8)).map(|_| 1 + below(4)).collect();
         let made = Propagator::new(&durations).unwrap();
-        let mut propagator = made;
+        let mut propagator = made.clone();
         let mut words = propagator.words();
         let total: i32 = durations.iter().sum();
         for _ in 0..20 {

@@ -147,3 +147,47 @@ fn l_passes_its_bound_and_not_the_next() {
     assert_eq!(check(&A, &[], Some(Atom::new(2, GreaterEqual, 9))), Err(Refused::Consequent));
     assert_eq!(check(&A, &reason_of_a(), Some(Atom::new(3, GreaterEqual, 9))), Err(Refused::Consequent));
 }
+
+// Every type may go to another thread and be shared.
+#[test]
+fn send_and_sync() {
+    fn both<T: Send + Sync>() {}
+    both::<Propagator>();
+    both::<Range>();
+    both::<Atom>();
+    both::<reedgrit::Words>();
+    both::<Outcome>();
+    both::<Verdict>();
+    both::<Refused>();
+}
+
+// An atom and its negation: of every start of a range, exactly one of them holds.
+#[test]
+fn negations() {
+    for value in -2..=2 {
+        for comparison in [GreaterEqual, LessEqual, Equal, NotEqual] {
+            let atom = Atom::new(0, comparison, value);
+            assert_eq!(!!atom, atom);
+            for start in -4..=4 {
+                let ranges = [Range::new(start, start)];
+                assert_ne!(atom.holds(&ranges), (!atom).holds(&ranges), "{atom} at {start}");
+            }
+        }
+    }
+}
+
+// A post's reason holds in the ranges at entry.
+#[test]
+fn reasons_hold_at_entry() {
+    let entry = [Range::new(0, 6), Range::new(1, 5), Range::new(0, 20)];
+    let mut propagator = Propagator::new(&A).unwrap();
+    let mut words = propagator.words();
+    let mut ranges = entry;
+    let outcome = propagator.run(&mut ranges, &mut words).unwrap();
+    assert_eq!(outcome.posts().len(), 1);
+    assert!(
+        outcome
+            .posts()
+            .all(|post| post.reason.iter().all(|atom| atom.holds(&entry)) && !post.atom().holds(&entry) && post.atom().holds(&ranges))
+    );
+}

@@ -13,7 +13,7 @@ fn made() -> Propagator {
 /// The run is refused, and nothing that was lent has changed.
 fn refuses(ranges: &[Range], post_words: usize, atom_words: usize, why: Refused) {
     let mut propagator = made();
-    let before = propagator;
+    let before = propagator.clone();
     let mut after = ranges.to_vec();
     let mut posts: Vec<i32> = (0..post_words as i32).map(|k| 1000 + k).collect();
     let mut atoms: Vec<i32> = (0..atom_words as i32).map(|k| 2000 + k).collect();
@@ -48,10 +48,10 @@ fn refused_runs_leave_everything() {
 #[test]
 fn the_words_of_fewer_tasks_are_refused() {
     let mut propagator = made();
-    let before = propagator;
+    let before = propagator.clone();
     let mut ranges = RANGES;
     assert_eq!(propagator.run(&mut ranges, &mut Words::new(2)).map(drop), Err(Refused::Room));
-    assert_eq!((propagator, ranges), (before, RANGES));
+    assert_eq!((&propagator, ranges), (&before, RANGES));
     assert!(propagator.run(&mut ranges, &mut Words::new(48)).is_ok());
 }
 
@@ -85,7 +85,7 @@ fn checks_refuse_in_order() {
     assert_eq!(check(&[1, 0], &[at(64, 0); 513], None), Err(Refused::Duration));
     assert_eq!(check(&DURATIONS, &[at(64, 0); 513], None), Err(Refused::Premises));
     assert_eq!(check(&DURATIONS, &[at(64, 0); 512], None), Err(Refused::Atoms));
-    assert_eq!(check(&DURATIONS, &[at(u32::MAX, 0)], None), Err(Refused::Atoms));
+    assert_eq!(check(&DURATIONS, &[at(usize::MAX, 0)], None), Err(Refused::Atoms));
     assert_eq!(check(&DURATIONS, &[at(0, 900_000_001)], None), Err(Refused::Atoms));
     assert_eq!(check(&DURATIONS, &[at(0, i32::MIN)], None), Err(Refused::Atoms));
     assert_eq!(check(&DURATIONS, &[at(63, 900_000_000); 512], None), Ok(Verdict::NotPassed));
@@ -96,7 +96,7 @@ fn checks_refuse_in_order() {
 }
 
 /// The three questions on a variable answer that there is no state.
-fn no_state(premises: &[Atom], variable: u32, why: NoState) {
+fn no_state(premises: &[Atom], variable: usize, why: NoState) {
     assert_eq!(lower_bound(premises, variable), Err(why));
     assert_eq!(upper_bound(premises, variable), Err(why));
     assert_eq!(is_true(premises, Atom::new(variable, GreaterEqual, 0)), Err(why));
@@ -111,7 +111,7 @@ fn questions_refuse_in_order() {
     no_state(&holes, 1, NoState::Refused(Refused::Holes));
     no_state(&crossed, 1, NoState::Contradiction(0));
     // 6 comes before both: of the question's own words, and of a premise behind the one that decides
-    for variable in [64, u32::MAX] {
+    for variable in [64, 1 << 32, usize::MAX] {
         no_state(&[], variable, NoState::Refused(Refused::Atoms));
         no_state(&holes, variable, NoState::Refused(Refused::Atoms));
         no_state(&crossed, variable, NoState::Refused(Refused::Atoms));
