@@ -1,0 +1,284 @@
+//! A planner on one machine, to learn the crate from: it reads registers, searches for a plan, prints it and draws it.
+//!
+//!     cargo run --example planner -- examples/registers.txt [plan.svg]
+//!
+//! A line of the file is a register: its name, earliest start, latest start and duration. What is printed is a plan, a line for each register by
+//! start, or that there is none.
+use reedgrit::{Atom, Outcome, Propagator, Range, Refused, Verdict, Words, check};
+use std::fmt::Write;
+
+/// A register that is to be read on the machine.
+#[derive(Clone, Debug)]
+struct Register {
+    name: String,
+    range: Range,
+    duration: i32,
+}
+
+/// A reason that a run gave: the atoms, and the post that follows from them; none for an overload.
+struct Kept {
+    reason: Vec<Atom>,
+    post: Option<Atom>,
+}
+
+impl Kept {
+    /// Keeps a reason that passes the check, as each reason of a run does.
+    fn new(durations: &[i32], reason: &[Atom], post: Option<Atom>) -> Kept {
+        assert_eq!(check(durations, reason, post), Ok(Verdict::Passed));
+        Kept { reason: reason.to_vec(), post }
+    }
+}
+
+/// There is no plan in the ranges.
+#[derive(Debug)]
+struct Conflict;
+
+/// One direction of time, with the reasons that its runs gave. They hold for whatever ranges meet their atoms, so they are tried at each later
+/// node of the search before a run is made.
+#[derive(Default)]
+struct Direction {
+    kept: Vec<Kept>,
+}
+
+impl Direction {
+    /// Raises the earliest starts by what was kept, and says whether one rose.
+    fn recall(&self, ranges: &mut [Range]) -> Result<bool, Conflict> {
+        let mut raised = false;
+        for kept in &self.kept {
+            if !kept.reason.iter().all(|atom| atom.holds(ranges)) {
+                continue;
+            }
+            let post = kept.post.ok_or(Conflict)?;
+            let range = &mut ranges[post.variable()];
+            if post.value() > range.latest {
+                return Err(Conflict);
+            }
+            if post.value() > range.earliest {
+                range.earliest = post.value();
+                raised = true;
+            }
+        }
+        Ok(raised)
+    }
+
+    /// Raises the earliest starts by one run, keeps its reasons, and says whether one rose.
+    fn run(&mut self, propagator: &mut Propagator, words: &mut Words, ranges: &mut [Range]) -> Result<bool, Conflict> {
+        let outcome = propagator.run(ranges, words).expect("as many ranges as tasks, within the limits");
+        let durations = propagator.durations();
+        for post in outcome.posts() {
+            self.kept.push(Kept::new(durations, post.reason, Some(post.atom())));
+        }
+        match outcome {
+            Outcome::Done { posts } => Ok(posts.len() > 0),
+            // The last post's reason is kept, and with it the conflict: wherever it holds, the post passes the latest start.
+            Outcome::Emptied { .. } => Err(Conflict),
+            Outcome::Overload { reason, .. } => {
+                self.kept.push(Kept::new(durations, reason, None));
+                Err(Conflict)
+            }
+        }
+    }
+}
+
+/// The ranges in mirrored time, in which a task that starts at s and lasts p starts at −s − p. What raises earliest starts there lowers latest
+/// starts here. Mirrored twice, ranges are as they were.
+fn mirrored(ranges: &mut [Range], durations: &[i32]) {
+    for (range, duration) in ranges.iter_mut().zip(durations) {
+        *range = Range::new(-range.latest - duration, -range.earliest - duration);
+    }
+}
+
+/// The search: depth first, on which register goes next.
+struct Planner {
+    propagator: Propagator,
+    words: Words,
+    forward: Direction,
+    backward: Direction,
+    nodes: usize,
+}
+
+impl Planner {
+    fn new(durations: &[i32]) -> Result<Planner, Refused> {
+        let propagator = Propagator::new(durations)?;
+        let words = propagator.words();
+        Ok(Planner { propagator, words, forward: Direction::default(), backward: Direction::default(), nodes: 0 })
+    }
+
+    /// Narrows the ranges from both sides until nothing changes. No plan is lost.
+    fn narrow(&mut self, ranges: &mut [Range]) -> Result<(), Conflict> {
+        let durations = self.propagator.durations().to_vec();
+        loop {
+            while self.forward.recall(ranges)? {}
+            let raised = self.forward.run(&mut self.propagator, &mut self.words, ranges)?;
+            mirrored(ranges, &durations);
+            while self.backward.recall(ranges)? {}
+            let lowered = self.backward.run(&mut self.propagator, &mut self.words, ranges)?;
+            mirrored(ranges, &durations);
+            if !raised && !lowered {
+                return Ok(());
+            }
+        }
+    }
+
+    /// The starts of a plan in which the tasks that are left come behind the others, which have one start each.
+    fn search(&mut self, mut ranges: Vec<Range>, left: &[usize]) -> Option<Vec<i32>> {
+        self.nodes += 1;
+        self.narrow(&mut ranges).ok()?;
+        if left.is_empty() {
+            return Some(ranges.iter().map(|range| range.earliest).collect());
+        }
+        // The one that can start first is tried first.
+        let mut order = left.to_vec();
+        order.sort_by_key(|task| ranges[*task].earliest);
+        for next in order {
+            // It goes next: at its earliest start, since a later one gives the others no more room, and the others go behind it.
+            let end = ranges[next].earliest + self.propagator.durations()[next];
+            let others: Vec<usize> = left.iter().copied().filter(|task| *task != next).collect();
+            let mut behind = ranges.clone();
+            behind[next].latest = behind[next].earliest;
+            for other in &others {
+                behind[*other].earliest = behind[*other].earliest.max(end);
+            }
+            if others.iter().all(|other| behind[*other].earliest <= behind[*other].latest) {
+                if let Some(plan) = self.search(behind, &others) {
+                    return Some(plan);
+                }
+            }
+        }
+        None
+    }
+}
+
+/// The starts of a plan, or none where there is no plan, and the planner that searched.
+fn plan(registers: &[Register]) -> Result<(Option<Vec<i32>>, Planner), Refused> {
+    let durations: Vec<i32> = registers.iter().map(|register| register.duration).collect();
+    let ranges: Vec<Range> = registers.iter().map(|register| register.range).collect();
+    let mut planner = Planner::new(&durations)?;
+    // The first run says whether the ranges are within the limits; those of the search lie within them, mirrored too where these do.
+    let mut turned = ranges.clone();
+    planner.propagator.run(&mut turned, &mut planner.words)?;
+    turned.clone_from(&ranges);
+    mirrored(&mut turned, &durations);
+    planner.propagator.run(&mut turned, &mut planner.words)?;
+    let all: Vec<usize> = (0..registers.len()).collect();
+    let found = planner.search(ranges, &all);
+    Ok((found, planner))
+}
+
+/// The registers of a file, or the line that is none.
+fn registers(text: &str) -> Result<Vec<Register>, String> {
+    text.lines()
+        .filter(|line| !line.trim().is_empty())
+        .map(|line| {
+            let wrong = || format!("no register: {line}");
+            let words: Vec<&str> = line.split_whitespace().collect();
+            let [name, earliest, latest, duration] = words[..] else { return Err(wrong()) };
+            let number = |word: &str| word.parse::<i32>().map_err(|_| wrong());
+            Ok(Register { name: name.to_string(), range: Range::new(number(earliest)?, number(latest)?), duration: number(duration)? })
+        })
+        .collect()
+}
+
+/// The plan as a picture: a bar for each register, over its range in gray.
+fn drawn(registers: &[Register], starts: &[i32]) -> String {
+    let first = registers.iter().map(|register| register.range.earliest).min().unwrap_or(0);
+    let last = registers.iter().map(|register| register.range.latest + register.duration).max().unwrap_or(1);
+    let x = |moment: i32| 120.0 + 640.0 * f64::from(moment - first) / f64::from((last - first).max(1));
+    let mut svg = format!(
+        "<svg xmlns=\"http://www.w3.org/2000/svg\" viewBox=\"0 0 780 {}\" font-family=\"sans-serif\" font-size=\"13\">\n",
+        26 * registers.len() + 10
+    );
+    for (row, (register, start)) in registers.iter().zip(starts).enumerate() {
+        let y = 26 * row + 8;
+        let mut bar = |from: i32, to: i32, colour: &str| {
+            writeln!(svg, "<rect x=\"{:.1}\" y=\"{y}\" width=\"{:.1}\" height=\"18\" fill=\"{colour}\"/>", x(from), x(to) - x(from))
+                .expect("a string takes it");
+        };
+        bar(register.range.earliest, register.range.latest + register.duration, "#dde3e8");
+        bar(*start, start + register.duration, "#48606f");
+        let name = register.name.replace('&', "&amp;").replace('<', "&lt;");
+        writeln!(svg, "<text x=\"8\" y=\"{}\">{name}</text>", y + 14).expect("a string takes it");
+    }
+    svg + "</svg>\n"
+}
+
+fn main() -> Result<(), Box<dyn std::error::Error>> {
+    let words: Vec<String> = std::env::args().skip(1).collect();
+    let Some(file) = words.first() else { return Err("usage: planner FILE [SVG]".into()) };
+    let registers = registers(&std::fs::read_to_string(file)?)?;
+    let (found, planner) = plan(&registers)?;
+    let kept = planner.forward.kept.len() + planner.backward.kept.len();
+    eprintln!("{} nodes, {kept} reasons kept and checked", planner.nodes);
+    let Some(starts) = found else {
+        println!("there is no plan");
+        return Ok(());
+    };
+    let mut lines: Vec<_> = registers.iter().zip(&starts).collect();
+    lines.sort_by_key(|(_, start)| **start);
+    for (register, start) in lines {
+        println!("{} from {start} to {}", register.name, start + register.duration);
+    }
+    if let Some(picture) = words.get(1) {
+        std::fs::write(picture, drawn(&registers, &starts))?;
+    }
+    Ok(())
+}
+
+#[cfg(test)]
+mod tests {
+    use super::*;
+
+    /// Whether some order of the registers is a plan, each at its earliest start behind those before it.
+    fn some_order(registers: &[Register], left: &mut Vec<usize>, end: i32) -> bool {
+        if left.is_empty() {
+            return true;
+        }
+        (0..left.len()).any(|at| {
+            let next = left.remove(at);
+            let start = registers[next].range.earliest.max(end);
+            let fits = start <= registers[next].range.latest && some_order(registers, left, start + registers[next].duration);
+            left.insert(at, next);
+            fits
+        })
+    }
+
+    // On random registers the planner finds a plan exactly where some order is one, and what it finds is a plan.
+    #[test]
+    fn as_brute_force_says() {
+        let mut seed = 20_261_116_u64;
+        let mut below = |n: u64| {
+            seed ^= seed << 13;
+            seed ^= seed >> 7;
+            seed ^= seed << 17;
+            (seed % n) as i32
+        };
+        let mut plans = 0;
+        for _ in 0..2_000 {
+            let count = 2 + below(6);
+            let registers: Vec<Register> = (0..count)
+                .map(|k| {
+                    let earliest = below(12) - 4;
+                    Register { name: k.to_string(), range: Range::new(earliest, earliest + below(10)), duration: 1 + below(5) }
+                })
+                .collect();
+            let (found, _) = plan(&registers).unwrap();
+            let mut all = (0..registers.len()).collect();
+            assert_eq!(found.is_some(), some_order(&registers, &mut all, i32::MIN / 2), "{registers:?}");
+            let Some(starts) = found else { continue };
+            plans += 1;
+            for (j, first) in registers.iter().enumerate() {
+                assert!(first.range.earliest <= starts[j] && starts[j] <= first.range.latest);
+                for (k, second) in registers.iter().enumerate().skip(j + 1) {
+                    assert!(starts[j] + first.duration <= starts[k] || starts[k] + second.duration <= starts[j]);
+                }
+            }
+        }
+        assert!(plans > 500 && plans < 1_500, "{plans} of 2,000 have a plan");
+    }
+
+    #[test]
+    fn lines_that_are_none() {
+        assert!(registers("Maria 0 4").is_err() && registers("Maria 0 x 4").is_err());
+        assert_eq!(registers("Maria 0 4 2\n\nJohannes -3 9 5\n").unwrap().len(), 2);
+    }
+}
