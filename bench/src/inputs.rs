@@ -40,7 +40,7 @@ pub fn durations(rng: &mut Rng, n: usize) -> Vec<i32> {
 }
 
 /// Starts of a schedule of the tasks in a random order, with gaps.
-fn schedule(rng: &mut Rng, durations: &[i32], base: i64, gap: i64) -> Vec<i64> {
+pub fn schedule(rng: &mut Rng, durations: &[i32], base: i64, gap: i64) -> Vec<i64> {
     let mut order: Vec<usize> = (0..durations.len()).collect();
     for k in (1..order.len()).rev() {
         order.swap(k, rng.to(0, k as i64) as usize);

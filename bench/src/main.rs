@@ -9,8 +9,9 @@ use std::fmt::Write as _;
 use std::hint::black_box;
 use std::time::Instant;
 
-use bench::inputs::{Case, Check, Family, cases, checks};
+use bench::inputs::{Case, Check, Family, Rng, cases, checks};
 use bench::published::{Atom, Checker, Domains, Published, atom, domains};
+use bench::search::{Machine, Ours, Search, Theirs, instance};
 use reedgrit::{Propagator, Range, Words, check};
 
 const SIZES: [usize; 4] = [8, 16, 32, 48];
@@ -155,6 +156,46 @@ fn check_figures(changed: bool, n: usize) -> Figure {
     figure(&mut items, |_| (), |batch| check_ours(batch), |batch| check_published(batch))
 }
 
+const SEARCHES: usize = 400;
+const NODES: usize = 2_000;
+
+/// One library's searches: how many nodes in all, and how many seconds.
+fn searched<M: Machine>(n: usize, machine: impl Fn(&[i32]) -> M) -> (usize, f64) {
+    let mut rng = Rng::new(SEED);
+    let (mut nodes, mut seconds) = (0, 0.0);
+    for _ in 0..SEARCHES {
+        let (durations, ranges) = instance(&mut rng, n);
+        let mut search = Search { machine: machine(&durations), durations: &durations, nodes: 0, most: NODES };
+        let all: Vec<usize> = (0..n).collect();
+        let began = Instant::now();
+        black_box(search.found(ranges, &all));
+        seconds += began.elapsed().as_secs_f64();
+        nodes += search.nodes;
+    }
+    (nodes, seconds)
+}
+
+/// The same searches on both sides, nine times in turn; the middle of each side's times.
+fn search_table() -> String {
+    let mut text = String::from("| search | nodes | ours, nodes a second | published | ratio |\n|---|---|---|---|---|\n");
+    for n in SIZES {
+        let (mut ours, mut theirs) = (Vec::new(), Vec::new());
+        let mut visited = [0, 0];
+        for _ in 0..9 {
+            let (nodes, seconds) = searched(n, Ours::new);
+            visited[0] = nodes;
+            ours.push(seconds);
+            let (nodes, seconds) = searched(n, Theirs::new);
+            visited[1] = nodes;
+            theirs.push(seconds);
+        }
+        assert_eq!(visited[0], visited[1], "both sides narrow the same");
+        let (ours, theirs) = (visited[0] as f64 / median(ours), visited[0] as f64 / median(theirs));
+        let _ = writeln!(text, "| n = {n} | {} | {ours:.0} | {theirs:.0} | **{:.2}** |", visited[0], ours / theirs);
+    }
+    text
+}
+
 struct Row {
     what: &'static str,
     family: &'static str,
@@ -235,7 +276,7 @@ fn measure(folder: Option<String>) {
     for (changed, name) in [(false, "reasons"), (true, "changed")] {
         rows.push(Row { what: "check", family: name, figures: SIZES.map(|n| check_figures(changed, n)) });
     }
-    let text = table(&rows);
+    let text = table(&rows) + "\n" + &search_table();
     print!("{text}");
     let mut misses = Vec::new();
     for row in &rows {
