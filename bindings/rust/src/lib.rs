@@ -84,6 +84,9 @@ use std::ops::Not;
 /// A record has this many tasks at most.
 pub const TASKS: usize = raw::TASKS;
 
+/// Starts lie from −200,000,000 to this.
+pub const START: i32 = 200_000_000;
+
 /// A task may start from `earliest` to `latest`, both included.
 #[repr(C)]
 #[derive(Clone, Copy, Debug, PartialEq, Eq, Hash)]
@@ -253,12 +256,12 @@ impl fmt::Debug for Atom {
 pub enum Refused {
     /// 1: no tasks, or more than 48.
     TaskCount,
-    /// 2: a duration below 1.
-    Duration,
-    /// 3: a start outside −200,000,000 to 200,000,000.
-    Start,
-    /// 4: an earliest start above its latest.
-    Crossed,
+    /// 2: a duration below 1; that of this task and perhaps of further ones.
+    Duration(usize),
+    /// 3: a start outside −200,000,000 to 200,000,000; one of this task's and perhaps of further ones'.
+    Start(usize),
+    /// 4: an earliest start above its latest; this task's and perhaps further ones'.
+    Crossed(usize),
     /// 5: durations that sum to more than 200,000,000.
     DurationSum,
     /// 6: an unknown variable, or a value beyond ±900,000,000.
@@ -286,9 +289,9 @@ impl Refused {
     pub const fn number(self) -> u32 {
         match self {
             Refused::TaskCount => 1,
-            Refused::Duration => 2,
-            Refused::Start => 3,
-            Refused::Crossed => 4,
+            Refused::Duration(_) => 2,
+            Refused::Start(_) => 3,
+            Refused::Crossed(_) => 4,
             Refused::DurationSum => 5,
             Refused::Atoms => 6,
             Refused::Premises => 7,
@@ -302,12 +305,14 @@ impl Refused {
         }
     }
 
-    fn of(number: u32) -> Refused {
+    /// The refusal of a number, where the number is about a task by the lowest one that it is true of. The library answers the number alone.
+    fn of(number: u32, durations: &[i32], ranges: &[Range]) -> Refused {
+        let far = |start: i32| !(-START..=START).contains(&start);
         match number {
             1 => Refused::TaskCount,
-            2 => Refused::Duration,
-            3 => Refused::Start,
-            4 => Refused::Crossed,
+            2 => Refused::Duration(durations.iter().position(|duration| *duration < 1).unwrap_or_default()),
+            3 => Refused::Start(ranges.iter().position(|range| far(range.earliest) || far(range.latest)).unwrap_or_default()),
+            4 => Refused::Crossed(ranges.iter().position(|range| range.earliest > range.latest).unwrap_or_default()),
             5 => Refused::DurationSum,
             6 => Refused::Atoms,
             7 => Refused::Premises,
@@ -327,9 +332,9 @@ impl fmt::Display for Refused {
     fn fmt(&self, f: &mut fmt::Formatter<'_>) -> fmt::Result {
         let text = match self {
             Refused::TaskCount => "no tasks, or more than 48",
-            Refused::Duration => "a duration below 1",
-            Refused::Start => "a start outside -200000000 to 200000000",
-            Refused::Crossed => "an earliest start above its latest",
+            Refused::Duration(_) => "a duration below 1",
+            Refused::Start(_) => "a start outside -200000000 to 200000000",
+            Refused::Crossed(_) => "an earliest start above its latest",
             Refused::DurationSum => "durations that sum to more than 200000000",
             Refused::Atoms => "an unknown variable, or a value beyond 900000000",
             Refused::Premises => "more than 512 premises",
@@ -341,7 +346,11 @@ impl fmt::Display for Refused {
             Refused::Holes => "an atom that needs a seventeenth hole",
             Refused::State => "a variable state that no call leaves",
         };
-        write!(f, "refused {}: {text}", self.number())
+        write!(f, "refused {}: {text}", self.number())?;
+        match self {
+            Refused::Duration(task) | Refused::Start(task) | Refused::Crossed(task) => write!(f, " (task {task})"),
+            _ => Ok(()),
+        }
     }
 }
 
@@ -377,7 +386,7 @@ impl Propagator {
     /// ```
     /// use reedgrit::{Propagator, Refused};
     /// assert_eq!(Propagator::new(&[4, 5, 3]).unwrap().len(), 3);
-    /// assert_eq!(Propagator::new(&[4, 0]), Err(Refused::Duration));
+    /// assert_eq!(Propagator::new(&[4, 0]), Err(Refused::Duration(1)));
     /// ```
     ///
     /// # Errors
@@ -385,7 +394,7 @@ impl Propagator {
     pub fn new(durations: &[i32]) -> Result<Propagator, Refused> {
         let made = raw::create(durations);
         if made.number != 0 {
-            return Err(Refused::of(made.number));
+            return Err(Refused::of(made.number, durations, &[]));
         }
         Ok(Propagator { record: made.record })
     }
@@ -441,7 +450,7 @@ impl Propagator {
                 Ok(Outcome::Overload { posts: made, reason: raw::atoms(words) })
             }
             2 => Ok(Outcome::Emptied { posts: made }),
-            _ => Err(Refused::of(answer.number)),
+            _ => Err(Refused::of(answer.number, &[], ranges)),
         }
     }
 }
@@ -585,7 +594,7 @@ pub fn check(durations: &[i32], premises: &[Atom], consequent: Option<Atom>) -> 
         0 => Ok(Verdict::Passed),
         1 => Ok(Verdict::NotPassed),
         2 => Ok(Verdict::Contradiction(answer.variable)),
-        _ => Err(Refused::of(answer.number)),
+        _ => Err(Refused::of(answer.number, durations, &[])),
     }
 }
 
@@ -678,6 +687,6 @@ pub mod state {
         if answer.kind == 2 {
             return NoState::Contradiction(answer.variable);
         }
-        NoState::Refused(Refused::of(answer.number))
+        NoState::Refused(Refused::of(answer.number, &[], &[]))
     }
 }

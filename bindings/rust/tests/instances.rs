@@ -126,7 +126,7 @@ fn j_starts_up_to_the_limit() {
         assert!(propagator.run(&mut [Range::new(start, start)], &mut words).is_ok());
     }
     for range in [Range::new(0, 200_000_001), Range::new(-200_000_001, 0)] {
-        assert_eq!(propagator.run(&mut [range], &mut words).map(drop), Err(Refused::Start));
+        assert_eq!(propagator.run(&mut [range], &mut words).map(drop), Err(Refused::Start(0)));
     }
 }
 

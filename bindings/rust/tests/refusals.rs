@@ -33,15 +33,18 @@ fn refused_runs_leave_everything() {
     refuses(&[Range::new(0, 1); 49], 12, 54, Refused::RangeCount);
     refuses(&[Range::new(0, 1); 1000], 12, 54, Refused::RangeCount);
     for limit in [200_000_001, i32::MAX, -200_000_001, i32::MIN] {
-        refuses(&[RANGES[0], RANGES[1], Range::new(limit, 0)], 12, 54, Refused::Start);
-        refuses(&[RANGES[0], RANGES[1], Range::new(0, limit)], 12, 54, Refused::Start);
+        refuses(&[RANGES[0], RANGES[1], Range::new(limit, 0)], 12, 54, Refused::Start(2));
+        refuses(&[RANGES[0], RANGES[1], Range::new(0, limit)], 12, 54, Refused::Start(2));
     }
-    refuses(&[RANGES[0], Range::new(6, 5), RANGES[2]], 12, 54, Refused::Crossed);
+    refuses(&[RANGES[0], Range::new(6, 5), RANGES[2]], 12, 54, Refused::Crossed(1));
+    // The lowest task of several is named.
+    refuses(&[RANGES[0], Range::new(6, 5), Range::new(1, 0)], 12, 54, Refused::Crossed(1));
+    refuses(&[Range::new(0, i32::MAX), Range::new(i32::MIN, 5), RANGES[2]], 12, 54, Refused::Start(0));
     refuses(&RANGES, 11, 54, Refused::Room);
     refuses(&RANGES, 12, 53, Refused::Room);
     refuses(&RANGES, 0, 0, Refused::Room);
     // each test is tried over the whole input before the next
-    refuses(&[RANGES[0], Range::new(6, 5), Range::new(0, 200_000_001)], 0, 0, Refused::Start);
+    refuses(&[RANGES[0], Range::new(6, 5), Range::new(0, 200_000_001)], 0, 0, Refused::Start(2));
     refuses(&[Range::new(6, 5)], 0, 0, Refused::RangeCount);
 }
 
@@ -72,8 +75,8 @@ fn unused_words_keep_what_they_held() {
 fn creation_refuses_in_order() {
     assert_eq!(Propagator::new(&[]), Err(Refused::TaskCount));
     assert_eq!(Propagator::new(&[0; 49]), Err(Refused::TaskCount));
-    assert_eq!(Propagator::new(&[200_000_001, 0]), Err(Refused::Duration));
-    assert_eq!(Propagator::new(&[i32::MIN]), Err(Refused::Duration));
+    assert_eq!(Propagator::new(&[200_000_001, 0]), Err(Refused::Duration(1)));
+    assert_eq!(Propagator::new(&[i32::MIN]), Err(Refused::Duration(0)));
     assert_eq!(Propagator::new(&[100_000_000, 100_000_001]), Err(Refused::DurationSum));
     assert_eq!(Propagator::new(&[i32::MAX; 48]), Err(Refused::DurationSum));
     assert_eq!(Propagator::new(&[100_000_000, 100_000_000]).unwrap().durations(), [100_000_000; 2]);
@@ -82,7 +85,7 @@ fn creation_refuses_in_order() {
 #[test]
 fn checks_refuse_in_order() {
     let at = |variable, value| Atom::new(variable, GreaterEqual, value);
-    assert_eq!(check(&[1, 0], &[at(64, 0); 513], None), Err(Refused::Duration));
+    assert_eq!(check(&[1, 0], &[at(64, 0); 513], None), Err(Refused::Duration(1)));
     assert_eq!(check(&DURATIONS, &[at(64, 0); 513], None), Err(Refused::Premises));
     assert_eq!(check(&DURATIONS, &[at(64, 0); 512], None), Err(Refused::Atoms));
     assert_eq!(check(&DURATIONS, &[at(usize::MAX, 0)], None), Err(Refused::Atoms));
@@ -136,14 +139,6 @@ fn questions_refuse_in_order() {
 fn refusals_say_why() {
     assert_eq!(Refused::Room.to_string(), "refused 9: too few words for posts or atoms");
     assert_eq!(Refused::Record.number(), 20);
-    let error: Box<dyn std::error::Error> = Box::new(Refused::Start);
-    assert!(error.to_string().starts_with("refused 3"));
-}
-
-#[test]
-fn it_moves_between_threads() {
-    fn sent<T: Send + Sync + 'static>(_: &T) {}
-    let propagator = made();
-    sent(&propagator);
-    sent(&propagator.words());
+    let error: Box<dyn std::error::Error> = Box::new(Refused::Start(2));
+    assert_eq!(error.to_string(), "refused 3: a start outside -200000000 to 200000000 (task 2)");
 }
