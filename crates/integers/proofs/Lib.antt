@@ -7,4 +7,3 @@ pub mod Permutations
 pub mod Tests
 pub mod Answers
 pub mod Sorting
-pub mod Reversal

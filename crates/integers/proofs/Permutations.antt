@@ -9,7 +9,6 @@ use native.Mathlib.Omega.{arith}
 use native.Mathlib.Decide.{ℕ-discrete}
 use lib.Dec.{eqb}
 use lib.ListN.{length, getD}
-use lib.Seq.{ext-getD}
 use borrow.Author.Tests.{ne-eqb, eq-eqb, eqb-true, eqb-false}
 use Rattle.integers.specs.Orders.{index, has, Distinct, Permutes, Ordered, numbers}
 use Rattle.integers.proofs.Bools.{bool, clash, or-true, or-false, or-right}
@@ -79,7 +78,7 @@ unfolding numbers
 numbers-length a zero = refl
 numbers-length a (suc d) = ap suc (numbers-length (suc a) d)
 
-numbers-below : (a d k : ℕ) → has (numbers a d) k ≡ true → (a ≤ k) × (k < a + d)
+pub numbers-below : (a d k : ℕ) → has (numbers a d) k ≡ true → (a ≤ k) × (k < a + d)
 unfolding numbers
 numbers-below a zero k h = clash h (has-nil k)
 numbers-below a (suc d) k h = elim (has-cases a k (numbers (suc a) d) h) [ inl z ↦ (omega arith, omega arith) | inr y ↦ (let r = numbers-below (suc a) d k y in (omega (arith, r .0), omega (arith, r .1))) ]
@@ -97,13 +96,3 @@ numbers-distinct a (suc d) = (elim (bool (has (numbers (suc a) d) a)) [ inl y �
 
 pub numbers-permute : (n : ℕ) → Permutes n (numbers 0 n)
 numbers-permute n = record { size = numbers-length 0 n; below = λ k h. let r = numbers-below 0 n k h in omega (arith, r .1); every = λ k q. numbers-every 0 n k (omega arith) (omega arith); distinct = numbers-distinct 0 n }
-
-numbers-at : (a d k : ℕ) → k < d → getD (numbers a d) k 0 ≡ a + k
-unfolding numbers
-numbers-at a zero k q = absurd (omega arith)
-numbers-at a (suc d) zero q = omega arith
-numbers-at a (suc d) (suc k) q = omega (arith, numbers-at (suc a) d k (omega arith))
-
--- a list with each number at its own place
-pub own-numbers : (n : ℕ) (l : List ℕ) → length l ≡ n → ((k : ℕ) → k < n → getD l k 0 ≡ k) → l ≡ numbers 0 n
-own-numbers n l e own = ext-getD 0 l (numbers 0 n) (e ∙ sym (numbers-length 0 n)) (λ k q. omega (arith, own k (omega (arith, e)), numbers-at 0 n k (omega (arith, e))))

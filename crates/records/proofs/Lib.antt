@@ -1,4 +1,4 @@
-pub mod Insertion
+pub mod Ranks
 pub mod Keys
 pub mod Sorted
 pub mod Lawful

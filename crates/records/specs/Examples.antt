@@ -2,16 +2,16 @@
 -- Assumes nothing.
 use mathlib.Core.Path.{_≡_, refl}
 use mathlib.Core.Bool.{Bool}
-use mathlib.Core.List.{List, [], _∷_}
+use mathlib.Core.List.{List, [], _∷_, map}
 use Prim.Native.Nat.{ℕ}
 use lib.IntN.{ℤ, pos, negsuc}
 use lib.ListN.{replicate}
 use Rattle.integers.specs.Filling.{filled}
-use Rattle.integers.specs.Orders.{insert, sort}
+use Rattle.integers.specs.Orders.{insert, sort, numbers}
 use Rattle.integers.specs.Tests.{allBelow, refusal}
 use Rattle.scheduling.specs.Scheduling.{total}
 use Rattle.records.specs.declared.record.Propagator.{Propagator}
-use Rattle.records.specs.Orders.{byKey, byKeyDown, sortedOrder}
+use Rattle.records.specs.Orders.{byKey, byKeyDown, rank}
 use Rattle.records.specs.Records.{unusedAt, lawfulRecord, creationTests, newRecord, zeroRecord}
 use Rattle.records.specs.Refusals.{runNumber}
 use Rattle.records.specs.Posts.{postNumber, reasonWords}
@@ -69,17 +69,25 @@ accepted : runNumber two (negsuc 4 ∷ pos 0 ∷ []) (pos 0 ∷ pos 200000000 �
 unfolding two refusal lawfulRecord allBelow unusedAt filled total
 accepted = refl
 
--- Sorts by a key: tied tasks stay as they stood, whichever comes first.
+-- Sorts by a key: of tied tasks the lower number comes first, whichever key does; and the ranks are the places.
 keys : List ℕ
 keys = 7 ∷ 9 ∷ 7 ∷ 5 ∷ []
 
-least-first : sortedOrder (byKey keys) 4 (2 ∷ 1 ∷ 0 ∷ 3 ∷ 0 ∷ []) ≡ 3 ∷ 2 ∷ 0 ∷ 1 ∷ 0 ∷ []
-unfolding keys sort insert
+least-first : sort (byKey keys) (numbers 0 4) ≡ 3 ∷ 0 ∷ 2 ∷ 1 ∷ []
+unfolding keys sort insert numbers
 least-first = refl
 
-greatest-first : sortedOrder (byKeyDown keys) 4 (2 ∷ 1 ∷ 0 ∷ 3 ∷ 0 ∷ []) ≡ 1 ∷ 2 ∷ 0 ∷ 3 ∷ 0 ∷ []
-unfolding keys sort insert
+greatest-first : sort (byKeyDown keys) (numbers 0 4) ≡ 1 ∷ 0 ∷ 2 ∷ 3 ∷ []
+unfolding keys sort insert numbers
 greatest-first = refl
+
+least-ranks : map (rank (byKey keys) 4) (numbers 0 4) ≡ 1 ∷ 3 ∷ 2 ∷ 0 ∷ []
+unfolding keys numbers total
+least-ranks = refl
+
+greatest-ranks : map (rank (byKeyDown keys) 4) (numbers 0 4) ≡ 1 ∷ 0 ∷ 2 ∷ 3 ∷ []
+unfolding keys numbers total
+greatest-ranks = refl
 
 -- The post reader: two posts, of one atom and of two.
 posts : List ℤ
