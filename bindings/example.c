@@ -11,7 +11,7 @@ int main(void) {
     reedgrit_new made = reedgrit_create(durations, 3);
     assert(made.number == 0 && sizeof made.propagator == 208);
     reedgrit_run_answer ran = reedgrit_run(&made.propagator, ranges, 3, posts, 12, atoms, 54);
-    assert(ran.kind == REEDGRIT_DONE);
+    assert(ran.kind == REEDGRIT_DONE && ran.changes == 8);
     for (size_t k = 0; k < ran.posts; k++) {
         reedgrit_post_answer post = reedgrit_post(posts, 12, atoms, 54, ran.posts, k);
         assert(post.number == 0);
@@ -34,7 +34,7 @@ int main(void) {
     reedgrit_range tight[] = {{0, 2}, {1, 2}};
     reedgrit_new two = reedgrit_create(fours, 2);
     reedgrit_run_answer overload = reedgrit_run(&two.propagator, tight, 2, posts, 12, atoms, 54);
-    assert(overload.kind == REEDGRIT_OVERLOAD && overload.posts == 0 && overload.count == 4);
+    assert(overload.kind == REEDGRIT_OVERLOAD && overload.posts == 0 && overload.count == 4 && overload.changes == 2);
     assert(reedgrit_check(fours, 2, atoms + 3 * overload.first, 3 * overload.count, posts, 0).kind == REEDGRIT_PASSED);
 
     const int32_t no_tasks[] = {0};

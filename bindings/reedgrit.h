@@ -56,6 +56,7 @@ typedef struct {
     size_t posts;
     size_t first; /* an overload's reason: its first atom, and how many atoms it has (a post's is told in words) */
     size_t count;
+    size_t changes; /* leaf changes; 0 of a refusal */
 } reedgrit_run_answer;
 
 typedef struct {
@@ -90,7 +91,8 @@ reedgrit_new reedgrit_create(const int32_t *durations, size_t count);
 /* A run: raises earliest starts, writes four words for each post (task, bound, first atom, atom count) and the atoms of their reasons.
  * Words that it does not write keep what they held. It leaves the record as it was: whatever runs came before, the same durations and
  * ranges give the same outcome, posts and reasons. Among tasks with equal earliest starts, or equal latest completions, the lower number
- * comes first. Refuses by 20, 10, 3, 4, 9.
+ * comes first. The leaf changes are those that the solver's propagator makes on its tree, at most 4n-3: each task put into Theta is one,
+ * a task that goes from Theta to Lambda is two, and one that leaves Lambda is one. Refuses by 20, 10, 3, 4, 9.
  *
  * REEDGRIT_DONE does not mean that a schedule exists, and one run is no fixpoint: durations 1 1 2 on 1..1, 1..3, 0..2 are done with the
  * earliest starts 1 2 2, and the next run on these is an overload. The conflict of REEDGRIT_EMPTIED is its last post's reason with the

@@ -27,7 +27,7 @@ impl Machine for Ours {
     fn run(&mut self, ranges: &mut [Range], _: bool) -> Option<bool> {
         self.lent.clear();
         self.lent.extend_from_slice(ranges);
-        let Outcome::Done { posts } = self.propagator.run(&mut self.lent, &mut self.words).expect("ranges within the limits") else {
+        let Outcome::Done { posts, .. } = self.propagator.run(&mut self.lent, &mut self.words).expect("ranges within the limits") else {
             return None;
         };
         ranges.copy_from_slice(&self.lent);

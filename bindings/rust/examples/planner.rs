@@ -69,7 +69,7 @@ impl Direction {
             self.kept.push(Kept::new(durations, post.reason, Some(post.atom())));
         }
         match outcome {
-            Outcome::Done { posts } => Ok(posts.len() > 0),
+            Outcome::Done { posts, .. } => Ok(posts.len() > 0),
             // The last post's reason is kept, and with it the conflict: wherever it holds, the post passes the latest start.
             Outcome::Emptied { .. } => Err(Conflict),
             Outcome::Overload { reason, .. } => {

@@ -432,9 +432,10 @@ impl Propagator {
     /// let mut propagator = Propagator::new(&[4, 4])?;
     /// let (mut posts, mut atoms) = ([0; 8], [0; 24]);
     /// let mut ranges = [Range::new(0, 2), Range::new(1, 2)];
-    /// let Outcome::Overload { posts, reason } = propagator.run_on(&mut ranges, &mut posts, &mut atoms)? else { panic!() };
+    /// let Outcome::Overload { posts, reason, changes } = propagator.run_on(&mut ranges, &mut posts, &mut atoms)? else { panic!() };
     /// assert_eq!(posts.len(), 0);
     /// assert_eq!(reason.len(), 4);
+    /// assert_eq!(changes, 2);
     /// # Ok::<(), reedgrit::Refused>(())
     /// ```
     ///
@@ -443,13 +444,14 @@ impl Propagator {
     pub fn run_on<'w>(&mut self, ranges: &mut [Range], posts: &'w mut [i32], atoms: &'w mut [i32]) -> Result<Outcome<'w>, Refused> {
         let answer = raw::run(&mut self.record, ranges, posts, atoms);
         let made = Posts { posts, atoms, count: answer.posts, next: 0 };
+        let changes = answer.changes;
         match answer.kind {
-            0 => Ok(Outcome::Done { posts: made }),
+            0 => Ok(Outcome::Done { posts: made, changes }),
             1 => {
                 let words = &made.atoms[3 * answer.first..3 * (answer.first + answer.count)];
-                Ok(Outcome::Overload { posts: made, reason: raw::atoms(words) })
+                Ok(Outcome::Overload { posts: made, reason: raw::atoms(words), changes })
             }
-            2 => Ok(Outcome::Emptied { posts: made }),
+            2 => Ok(Outcome::Emptied { posts: made, changes }),
             _ => Err(Refused::of(answer.number, &[], ranges)),
         }
     }
@@ -461,13 +463,15 @@ impl fmt::Debug for Propagator {
     }
 }
 
-/// How a run ended, with its posts. There is no schedule in the ranges where it is `Overload` or `Emptied`.
+/// How a run ended, with its posts and its leaf changes ([`Outcome::changes`]). There is no schedule in the ranges where it is `Overload` or `Emptied`.
 #[derive(Clone, Debug)]
 pub enum Outcome<'w> {
     /// Every task was considered.
     Done {
         /// The run's posts.
         posts: Posts<'w>,
+        /// The run's leaf changes.
+        changes: usize,
     },
     /// A set of tasks overloads its span.
     Overload {
@@ -475,11 +479,15 @@ pub enum Outcome<'w> {
         posts: Posts<'w>,
         /// The atoms that no schedule meets.
         reason: &'w [Atom],
+        /// The run's leaf changes.
+        changes: usize,
     },
     /// The last post is above its task's latest start. It is in the list and not in the range.
     Emptied {
         /// The run's posts.
         posts: Posts<'w>,
+        /// The run's leaf changes.
+        changes: usize,
     },
 }
 
@@ -487,7 +495,15 @@ impl<'w> Outcome<'w> {
     /// The run's posts, from the first on.
     pub fn posts(&self) -> Posts<'w> {
         match self {
-            Outcome::Done { posts } | Outcome::Overload { posts, .. } | Outcome::Emptied { posts } => posts.clone(),
+            Outcome::Done { posts, .. } | Outcome::Overload { posts, .. } | Outcome::Emptied { posts, .. } => posts.clone(),
+        }
+    }
+
+    /// How many leaf changes the solver's propagator makes on its tree in this run, at most 4n − 3 for n tasks: one for each task that is
+    /// put into Theta, two for one that goes from Theta to Lambda, and one for one that leaves Lambda.
+    pub fn changes(&self) -> usize {
+        match self {
+            Outcome::Done { changes, .. } | Outcome::Overload { changes, .. } | Outcome::Emptied { changes, .. } => *changes,
         }
     }
 }

@@ -31,6 +31,7 @@ pub(crate) struct RunAnswer {
     pub posts: usize,
     pub first: usize,
     pub count: usize,
+    pub changes: usize,
 }
 
 #[repr(C)]
@@ -147,7 +148,7 @@ mod tests {
     fn sizes() {
         assert_eq!(size_of::<Record>(), 208);
         assert_eq!(size_of::<NewRecord>(), 216);
-        assert_eq!(size_of::<RunAnswer>(), 32);
+        assert_eq!(size_of::<RunAnswer>(), 40);
         assert_eq!(size_of::<PostAnswer>(), 32);
         assert_eq!(size_of::<CheckAnswer>(), 16);
         assert_eq!(size_of::<StateAnswer>(), 24);
@@ -185,7 +186,7 @@ mod tests {
             let mut ranges = [Range::new(0, 6), Range::new(1, 5), Range::new(0, 20)];
             let (mut posts, mut atoms) = ([7; 12], [8; 54]);
             let answer = run(&mut after, &mut ranges, &mut posts, &mut atoms);
-            assert_eq!(answer, RunAnswer { kind: 3, number: 20, posts: 0, first: 0, count: 0 });
+            assert_eq!(answer, RunAnswer { kind: 3, number: 20, posts: 0, first: 0, count: 0, changes: 0 });
             assert_eq!(after, record);
             assert_eq!(ranges, [Range::new(0, 6), Range::new(1, 5), Range::new(0, 20)]);
             assert!(posts.iter().all(|word| *word == 7) && atoms.iter().all(|word| *word == 8));

@@ -100,6 +100,35 @@ fn g_is_one_task() {
     assert_eq!(run(&[(7, 7, 1)]), said(&[], "done", &[], &[7]));
 }
 
+/// The leaf changes of a run on a new propagator.
+fn changes(tasks: &[(i32, i32, i32)]) -> usize {
+    let durations: Vec<i32> = tasks.iter().map(|task| task.2).collect();
+    let mut ranges: Vec<Range> = tasks.iter().map(|task| Range::new(task.0, task.1)).collect();
+    let mut propagator = Propagator::new(&durations).unwrap();
+    let mut words = propagator.words();
+    let outcome = propagator.run(&mut ranges, &mut words).unwrap();
+    outcome.changes()
+}
+
+#[test]
+fn leaf_changes_of_a_to_g() {
+    assert_eq!(changes(&[(0, 6, 4), (1, 5, 5), (0, 20, 3)]), 8);
+    assert_eq!(changes(&[(0, 2, 4), (1, 2, 4)]), 2);
+    assert_eq!(changes(&[(0, 4, 4), (1, 4, 4)]), 4);
+    assert_eq!(changes(&[(0, 13, 1), (10, 11, 3), (10, 11, 3)]), 3);
+    assert_eq!(changes(&[(0, 5, 3), (1, 1, 5)]), 4);
+    assert_eq!(changes(&[(0, 6, 3), (1, 1, 5)]), 5);
+    assert_eq!(changes(&[(7, 7, 1)]), 1);
+}
+
+#[test]
+fn most_leaf_changes() {
+    for n in 1..=48 {
+        let tasks: Vec<_> = (0..n).map(|k| (10 * k, 10 * k, 10)).collect();
+        assert_eq!(changes(&tasks), 4 * n as usize - 3);
+    }
+}
+
 #[test]
 fn h_skips_the_hole() {
     let premises = [Atom::new(3, NotEqual, 5), Atom::new(3, GreaterEqual, 5)];

@@ -25,8 +25,8 @@ use Rattle.disjunctive.specs.Ranges.{earliests, latests}
 use Rattle.disjunctive.specs.Promise.{tasksLent, taskOf, boundOf, reasonOf, PostPromise, OverloadPromise, Promise}
 use Rattle.disjunctive.proofs.Answers as read
 
-module _ (before : Propagator) (ranges ranges′ : List Range) (posts atoms posts′ atoms′ : List ℤ) (answer : Outcome)
-    (ran : AcceptedRun before (earliests ranges) (latests ranges) posts atoms answer (earliests ranges′) posts′ atoms′) where
+module _ (before : Propagator) (ranges ranges′ : List Range) (posts atoms posts′ atoms′ : List ℤ) (answer : Outcome) {changed : ℕ}
+    (ran : AcceptedRun before (earliests ranges) (latests ranges) posts atoms answer changed (earliests ranges′) posts′ atoms′) where
   abbrev J : Tasks whole
   J = tasksLent before ranges
 

@@ -22,8 +22,8 @@ use Rattle.disjunctive.proofs.Answers as read
 use Rattle.disjunctive.proofs.Starts.{same-ranges}
 
 -- two accepted runs on one record and the same ranges
-module _ (before : Propagator) (ranges : List Range) (posts atoms posts₁ atoms₁ posts₂ atoms₂ posts₃ atoms₃ : List ℤ) (answer answer′ : Outcome) (after after′ : Propagator) (ranges₁ ranges₃ : List Range)
-    (a : AcceptedLent before ranges posts atoms answer after ranges₁ posts₁ atoms₁) (b : AcceptedLent before ranges posts₂ atoms₂ answer′ after′ ranges₃ posts₃ atoms₃) where
+module _ (before : Propagator) (ranges : List Range) (posts atoms posts₁ atoms₁ posts₂ atoms₂ posts₃ atoms₃ : List ℤ) (answer answer′ : Outcome) {changed changed′ : ℕ} (after after′ : Propagator) (ranges₁ ranges₃ : List Range)
+    (a : AcceptedLent before ranges posts atoms answer changed after ranges₁ posts₁ atoms₁) (b : AcceptedLent before ranges posts₂ atoms₂ answer′ changed′ after′ ranges₃ posts₃ atoms₃) where
   abbrev t : Trace
   t = traceOf before (earliests ranges) (latests ranges)
 
@@ -47,10 +47,10 @@ module _ (before : Propagator) (ranges : List Range) (posts atoms posts₁ atoms
   })
 
 -- Two histories that leave the same durations: two runs of the open call on the same ranges that are not turned back give the same.
-pub same-runs : (h h′ : History) → durationsAfter h ≡ durationsAfter h′ → (ranges : List Range) {posts atoms posts₁ atoms₁ posts₂ atoms₂ posts₃ atoms₃ : List ℤ} {answer answer′ : Outcome} {after after′ : Propagator} {ranges₁ ranges₃ : List Range}
-    → RanLent (recordAfter h) ranges posts atoms answer after ranges₁ posts₁ atoms₁ → lentNumber (recordAfter h) ranges posts atoms ≡ 0
-    → RanLent (recordAfter h′) ranges posts₂ atoms₂ answer′ after′ ranges₃ posts₃ atoms₃ → lentNumber (recordAfter h′) ranges posts₂ atoms₂ ≡ 0
+pub same-runs : (h h′ : History) → durationsAfter h ≡ durationsAfter h′ → (ranges : List Range) {posts atoms posts₁ atoms₁ posts₂ atoms₂ posts₃ atoms₃ : List ℤ} {answer answer′ : Outcome} {changed changed′ : ℕ} {after after′ : Propagator} {ranges₁ ranges₃ : List Range}
+    → RanLent (recordAfter h) ranges posts atoms answer changed after ranges₁ posts₁ atoms₁ → lentNumber (recordAfter h) ranges posts atoms ≡ 0
+    → RanLent (recordAfter h′) ranges posts₂ atoms₂ answer′ changed′ after′ ranges₃ posts₃ atoms₃ → lentNumber (recordAfter h′) ranges posts₂ atoms₂ ≡ 0
     → SameRun answer ranges₁ posts₁ atoms₁ answer′ ranges₃ posts₃ atoms₃
-same-runs h h′ e ranges {posts} {atoms} {posts₁} {atoms₁} {posts₂} {atoms₂} {posts₃} {atoms₃} {answer} {answer′} {after} {after′} {ranges₁} {ranges₃} one z other z′ =
+same-runs h h′ e ranges {posts} {atoms} {posts₁} {atoms₁} {posts₂} {atoms₂} {posts₃} {atoms₃} {answer} {answer′} {changed} {changed′} {after} {after′} {ranges₁} {ranges₃} one z other z′ =
     one-record (recordAfter h) ranges posts atoms posts₁ atoms₁ posts₂ atoms₂ posts₃ atoms₃ answer answer′ after after′ ranges₁ ranges₃ (one .accepted z)
-    (subst (λ (r : Propagator). AcceptedLent r ranges posts₂ atoms₂ answer′ after′ ranges₃ posts₃ atoms₃) (sym (same-record h h′ e)) (other .accepted z′))
+    (subst (λ (r : Propagator). AcceptedLent r ranges posts₂ atoms₂ answer′ changed′ after′ ranges₃ posts₃ atoms₃) (sym (same-record h h′ e)) (other .accepted z′))

@@ -130,11 +130,11 @@ same-ranges ys zs e l = only-starts ys zs l ∙ ap (withStarts ys) e ∙ own-sta
 
 -- ---- the whole run
 -- what a run leaves of the ranges' numbers is what the open run leaves, if no latest start changes
-kept : (before : Propagator) (ys : List Range) (posts atoms : List ℤ) (answer : Outcome) (after : Propagator) (zs : List Range) (posts′ atoms′ : List ℤ)
-    → Ran before (earliests ys) (latests ys) posts atoms (record { «record» = after; outcome = answer }) (earliests zs) posts′ atoms′ → latests zs ≡ latests ys → RanLent before ys posts atoms answer after zs posts′ atoms′
-kept before ys posts atoms answer after zs posts′ atoms′ ran same = record {
+kept : (before : Propagator) (ys : List Range) (posts atoms : List ℤ) (answer : Outcome) (changed : ℕ) (after : Propagator) (zs : List Range) (posts′ atoms′ : List ℤ)
+    → Ran before (earliests ys) (latests ys) posts atoms (record { «record» = after; outcome = answer; changes = changed }) (earliests zs) posts′ atoms′ → latests zs ≡ latests ys → RanLent before ys posts atoms answer changed after zs posts′ atoms′
+kept before ys posts atoms answer changed after zs posts′ atoms′ ran same = record {
   same-record = ran .keeps;
-  refused = λ n. (let k = ran .refused n in record { number = k .answer; same-ranges = same-ranges ys zs (k .starts) same; same-posts = k .post-words; same-atoms = k .atom-words });
+  refused = λ n. (let k = ran .refused n in record { number = k .answer; no-changes = k .changes; same-ranges = same-ranges ys zs (k .starts) same; same-posts = k .post-words; same-atoms = k .atom-words });
   accepted = λ z. record { promise = promised before ys zs posts atoms posts′ atoms′ answer (ran .accepted z) same; left = ran .accepted z .left };
 }
 
@@ -170,9 +170,9 @@ stored Said ys s r e same whole as-none c = ⊎-elim few many (fits-or-not n)
 
 -- the run, and the pass by precedences
 pub lent : (before : Propagator) (ys : List Range) (posts atoms : List ℤ) (r : CoreRun) (posts′ atoms′ : List ℤ) → RanCore before (startsOf ys) posts atoms r posts′ atoms′
-    → RanLent before ys posts atoms (r .outcome) (r .«record») (withStarts ys (take (r .starts .count) (r .starts .earliest))) posts′ atoms′
-lent before ys posts atoms r posts′ atoms′ c = kept before ys posts atoms (r .outcome) (r .«record») (withStarts ys (take (r .starts .count) (r .starts .earliest))) posts′ atoms′
-    (stored (λ es ls es′. Ran before es ls posts atoms (record { «record» = r .«record»; outcome = r .outcome }) es′ posts′ atoms′) ys (startsOf ys) (r .starts) refl (c .same-count) (c .whole)
+    → RanLent before ys posts atoms (r .finished .outcome) (r .finished .changes) (r .«record») (withStarts ys (take (r .starts .count) (r .starts .earliest))) posts′ atoms′
+lent before ys posts atoms r posts′ atoms′ c = kept before ys posts atoms (r .finished .outcome) (r .finished .changes) (r .«record») (withStarts ys (take (r .starts .count) (r .starts .earliest))) posts′ atoms′
+    (stored (λ es ls es′. Ran before es ls posts atoms (record { «record» = r .«record»; outcome = r .finished .outcome; changes = r .finished .changes }) es′ posts′ atoms′) ys (startsOf ys) (r .starts) refl (c .same-count) (c .whole)
     (λ h a. too-many before (earliests ys) (latests ys) posts atoms _ [] posts′ atoms′ h (length-map ys (λ (y : Range). y .latest) ∙ sym (length-map ys (λ (y : Range). y .earliest))) a) (c .ran))
     (latests-with ys (take (r .starts .count) (r .starts .earliest)))
 

@@ -22,18 +22,19 @@ lentNumber before ranges posts atoms = runNumber before (earliests ranges) (late
 
 -- The run ----------------------------------------------------------------------------------------------------------------------
 
-module _ (before : Propagator) (ranges : List Range) (posts atoms : List ℤ) (answer : Outcome) (after : Propagator) (ranges′ : List Range) (posts′ atoms′ : List ℤ) where
-  -- A refused run answers the number and changes nothing.
+module _ (before : Propagator) (ranges : List Range) (posts atoms : List ℤ) (answer : Outcome) (changed : ℕ) (after : Propagator) (ranges′ : List Range) (posts′ atoms′ : List ℤ) where
+  -- A refused run answers the number, counts no leaf change, and changes nothing.
   pub record RefusedLent : Type 0 where
     pub number : outcomeNumbers answer ≡ refusedBy (lentNumber before ranges posts atoms)
+    pub no-changes : changed ≡ 0
     pub same-ranges : ranges′ ≡ ranges
     pub same-posts : posts′ ≡ posts
     pub same-atoms : atoms′ ≡ atoms
 
-  -- An accepted one keeps the promise, and leaves what the run's definition does: the answer, the earliest starts, and the words of posts and reasons over what stood there.
+  -- An accepted one keeps the promise, and leaves what the run's definition does: the answer, the count of leaf changes, which is at most 4n − 3, the earliest starts, and the words of posts and reasons over what stood there.
   pub record AcceptedLent : Type 0 where
     pub promise : Promise before ranges answer ranges′ posts′ atoms′
-    pub left : Left before (earliests ranges) (latests ranges) posts atoms answer (earliests ranges′) posts′ atoms′
+    pub left : Left before (earliests ranges) (latests ranges) posts atoms answer changed (earliests ranges′) posts′ atoms′
 
   -- The record stays as it was.
   pub record RanLent : Type 0 where

@@ -24,6 +24,7 @@ pub use free_starts::free_start::FreeStart;
 pub use pages::answer::Page;
 pub use precedences::answers::Precedences;
 pub use precedences::answers::Reason;
+pub use propagator::disjunctive_propagator::Finished;
 pub use propagator::disjunctive_propagator::Outcome;
 pub use records::posts::post_number;
 pub use records::posts::post_reason;

@@ -8,6 +8,7 @@ pub mod fixed_schedules;
 use counter::overload_test::Overload;
 use integers::limits::TASKS;
 use mirrored::mirrored_propagator::propagate_mirrored;
+use propagator::disjunctive_propagator::Finished;
 use propagator::disjunctive_propagator::Outcome;
 use propagator::disjunctive_propagator::propagate;
 use records::record::Propagator;
@@ -36,7 +37,7 @@ pub struct Starts {
 // What a run on ranges that are taken apart returns.
 pub struct CoreRun {
     pub record: Propagator,
-    pub outcome: Outcome,
+    pub finished: Finished,
     pub starts: Starts,
 }
 
@@ -102,9 +103,13 @@ fn run_core(record: Propagator, starts: Starts, posts: &mut [i32], atoms: &mut [
     let ran = propagate(record, &mut earliest[..n], &latest[..n], posts, atoms);
     let record = ran.record;
     let outcome = ran.outcome;
+    let finished = Finished {
+        outcome,
+        changes: ran.changes,
+    };
     CoreRun {
         record,
-        outcome,
+        finished,
         starts: Starts {
             count: n,
             earliest,
@@ -113,20 +118,21 @@ fn run_core(record: Propagator, starts: Starts, posts: &mut [i32], atoms: &mut [
     }
 }
 
-// Earliest starts are raised in the ranges, the record becomes the one that the run leaves, and no latest start changes.
+// Earliest starts are raised in the ranges, the record becomes the one that the run leaves, and no latest start changes. Beside the outcome stands the count of
+// leaf changes.
 pub fn run(
     propagator: &mut Propagator,
     ranges: &mut [Range],
     posts: &mut [i32],
     atoms: &mut [i32],
-) -> Outcome
-    ensures { λ r. ⌜ RanLent (now (propagator .entry)) (now (ranges .entry)) (now (posts .entry)) (now (atoms .entry)) r (now (propagator .exit)) (now (ranges .exit)) (now (posts .exit)) (now (atoms .exit)) ⌝ }
+) -> Finished
+    ensures { λ r. ⌜ RanLent (now (propagator .entry)) (now (ranges .entry)) (now (posts .entry)) (now (atoms .entry)) (r .outcome) (r .changes) (now (propagator .exit)) (now (ranges .exit)) (now (posts .exit)) (now (atoms .exit)) ⌝ }
 {
     let starts = starts_of(ranges);
     let ran = run_core(*propagator, starts, posts, atoms);
     store_starts(ranges, ran.starts);
     *propagator = ran.record;
-    ran.outcome
+    ran.finished
 }
 
 // The latest starts, put back into the ranges that they were taken from.

@@ -37,14 +37,14 @@ runAt (suc zero) a = answered 1 (pos (a .posts) ∷ pos (a .first) ∷ pos (a .c
 runAt (suc (suc zero)) a = answered 2 (pos (a .posts) ∷ [])
 runAt (suc (suc (suc k))) a = refusedBy (a .number)
 
-run-back : (o : Outcome) → runAt (outcomeNumbers o .kind) (runAnswer (outcomeNumbers o)) ≡ outcomeNumbers o
-run-back (outcome.Done posts) = refl
-run-back (outcome.Overload posts first count) = refl
-run-back (outcome.Emptied posts) = refl
-run-back (outcome.Refused number) = refl
+run-back : (o : Outcome) (c : ℕ) → runAt (outcomeNumbers o .kind) (runAnswer (outcomeNumbers o) c) ≡ outcomeNumbers o
+run-back (outcome.Done posts) c = refl
+run-back (outcome.Overload posts first count) c = refl
+run-back (outcome.Emptied posts) c = refl
+run-back (outcome.Refused number) c = refl
 
-pub runs-apart : (o o′ : Outcome) → runAnswer (outcomeNumbers o) ≡ runAnswer (outcomeNumbers o′) → o ≡ o′
-runs-apart o o′ e = outcomes-apart o o′ (sym (run-back o) ∙ ap (λ (a : RunAnswer). runAt (a .kind) a) e ∙ run-back o′)
+pub runs-apart : (o o′ : Outcome) (c c′ : ℕ) → runAnswer (outcomeNumbers o) c ≡ runAnswer (outcomeNumbers o′) c′ → (o ≡ o′) × (c ≡ c′)
+runs-apart o o′ c c′ e = (outcomes-apart o o′ (sym (run-back o c) ∙ ap (λ (a : RunAnswer). runAt (a .kind) a) e ∙ run-back o′ c′), ap (λ (a : RunAnswer). a .changes) e)
 
 -- Checks -----------------------------------------------------------------------------------------------------------------------
 

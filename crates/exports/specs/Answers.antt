@@ -17,9 +17,9 @@ valueAt k a = getD (a .values) k (pos 0)
 abbrev pub natAt : ℕ → Answer → ℕ
 natAt k a = natAbs (valueAt k a)
 
--- a run: its post count and, of an overload's reason, the first atom's index and the atom count
-abbrev pub runAnswer : Answer → RunAnswer
-runAnswer a = record { kind = a .kind; number = a .number; posts = natAt 0 a; first = natAt 1 a; count = natAt 2 a }
+-- a run: its post count and, of an overload's reason, the first atom's index and the atom count; and its leaf changes
+abbrev pub runAnswer : Answer → ℕ → RunAnswer
+runAnswer a changed = record { kind = a .kind; number = a .number; posts = natAt 0 a; first = natAt 1 a; count = natAt 2 a; changes = changed }
 
 -- a check: a contradiction's variable
 abbrev pub checkAnswer : Answer → CheckAnswer

@@ -22,7 +22,7 @@ use Rattle.checking.specs.States.{prepared, truthOf, boundOf, lowerOf, upperOf}
 use Rattle.checker.specs.declared.checker.Verdict.{Verdict}
 use Rattle.checker.specs.Checks.{Checked}
 use Rattle.checker.specs.Verdicts.{verdictNumbers}
-use Rattle.propagator.specs.declared.disjunctive_propagator.Outcome.{Outcome}
+use Rattle.propagator.specs.declared.disjunctive_propagator.Finished.{Finished}
 use Rattle.propagator.specs.Outcomes.{outcomeNumbers}
 use Rattle.disjunctive.specs.declared.ranges.Range.{Range}
 use Rattle.disjunctive.specs.RanLent.{RanLent}
@@ -37,11 +37,11 @@ use Rattle.exports.specs.Answers.{runAnswer, checkAnswer, stateAnswer}
 abbrev pub newNumbers : List ℤ → NewPropagator
 newNumbers ds = record { propagator = created ds .«record»; number = creationNumber (created ds .answer) }
 
--- A run: what the open run leaves, and the numbers of its outcome.
+-- A run: what the open run leaves, the numbers of its outcome, and its leaf changes.
 pub record RanNumbers (before : Propagator) (ranges : List Range) (posts atoms : List ℤ) (answer : RunAnswer) (after : Propagator) (ranges′ : List Range) (posts′ atoms′ : List ℤ) : Type 0 where
-  pub outcome : Outcome
-  pub numbers : answer ≡ runAnswer (outcomeNumbers outcome)
-  pub ran : RanLent before ranges posts atoms outcome after ranges′ posts′ atoms′
+  pub finished : Finished
+  pub numbers : answer ≡ runAnswer (outcomeNumbers (finished .outcome)) (finished .changes)
+  pub ran : RanLent before ranges posts atoms (finished .outcome) (finished .changes) after ranges′ posts′ atoms′
 
 -- the post reader: a post's two words and its stretch, in words; nothing but the number where that is 11
 abbrev pub postAnswer : ℕ → ℤ → ℤ → ℕ → ℕ → PostAnswer

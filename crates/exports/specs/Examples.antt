@@ -14,8 +14,8 @@ use Rattle.propagator.specs.Outcomes.{outcomeNumbers}
 use Rattle.exports.specs.Answers.{runAnswer, stateAnswer}
 use Rattle.exports.specs.Calls.{truthAfter, lowerAfter}
 
--- an overload after two posts, whose reason is the four atoms from the tenth on
-overloaded : runAnswer (outcomeNumbers (outcome.Overload 2 9 4)) ≡ record { kind = 1; number = 0; posts = 2; first = 9; count = 4 }
+-- an overload after two posts, whose reason is the four atoms from the tenth on, and 12 leaf changes
+overloaded : runAnswer (outcomeNumbers (outcome.Overload 2 9 4)) 12 ≡ record { kind = 1; number = 0; posts = 2; first = 9; count = 4; changes = 12 }
 overloaded = refl
 
 -- 0 ≠ v for v from 1 to 17: seventeen holes

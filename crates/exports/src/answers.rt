@@ -4,6 +4,7 @@ use checking::int_ext::IntExt;
 use checking::variable_state::Application;
 use checking::variable_state::Bound;
 use checking::variable_state::Truth;
+use propagator::disjunctive_propagator::Finished;
 use propagator::disjunctive_propagator::Outcome;
 use records::record::Creation;
 use records::record::Propagator;
@@ -25,8 +26,8 @@ pub struct NewPropagator {
     pub number: u32,
 }
 
-// How a run ended. Kind 0 is Done, 1 Overload with the first atom and the atom count of its reason, 2 Emptied, 3 Refused with its number.
-// What a kind does not have is 0.
+// How a run ended, and its leaf changes. Kind 0 is Done, 1 Overload with the first atom and the atom count of its reason, 2 Emptied, 3 Refused with its
+// number. What a kind does not have is 0.
 #[repr(C)]
 pub struct RunAnswer {
     pub kind: u32,
@@ -34,6 +35,7 @@ pub struct RunAnswer {
     pub posts: usize,
     pub first: usize,
     pub count: usize,
+    pub changes: usize,
 }
 
 // A post and the stretch of atom words that belongs to it: its first word and how many there are. All but the number is 0 where that is 11.
@@ -75,24 +77,33 @@ pub fn creation_number(answer: Creation) -> u32
     }
 }
 
-// The numbers of a run's outcome.
-pub fn outcome_numbers(outcome: Outcome) -> RunAnswer
-    ensures { λ r. ⌜ r ≡ runAnswer (outcomeNumbers outcome) ⌝ }
+// The numbers of a run's outcome, and its leaf changes.
+pub fn finished_numbers(finished: Finished) -> RunAnswer
+    ensures { λ r. ⌜ r ≡ runAnswer (outcomeNumbers (finished .outcome)) (finished .changes) ⌝ }
 {
+    let outcome = finished.outcome;
+    let changes = finished.changes;
     match outcome {
-        Outcome::Done(posts) => run_answer(0, 0, posts, 0, 0),
+        Outcome::Done(posts) => run_answer(0, 0, posts, 0, 0, changes),
         Outcome::Overload {
             posts,
             first,
             count,
-        } => run_answer(1, 0, posts, first, count),
-        Outcome::Emptied(posts) => run_answer(2, 0, posts, 0, 0),
-        Outcome::Refused(number) => run_answer(3, number, 0, 0, 0),
+        } => run_answer(1, 0, posts, first, count, changes),
+        Outcome::Emptied(posts) => run_answer(2, 0, posts, 0, 0, changes),
+        Outcome::Refused(number) => run_answer(3, number, 0, 0, 0, changes),
     }
 }
 
-fn run_answer(kind: u32, number: u32, posts: usize, first: usize, count: usize) -> RunAnswer
-    ensures { λ r. ⌜ r ≡ record { kind = kind; number = number; posts = posts; first = first; count = count } ⌝ }
+fn run_answer(
+    kind: u32,
+    number: u32,
+    posts: usize,
+    first: usize,
+    count: usize,
+    changes: usize,
+) -> RunAnswer
+    ensures { λ r. ⌜ r ≡ record { kind = kind; number = number; posts = posts; first = first; count = count; changes = changes } ⌝ }
 {
     RunAnswer {
         kind,
@@ -100,6 +111,7 @@ fn run_answer(kind: u32, number: u32, posts: usize, first: usize, count: usize) 
         posts,
         first,
         count,
+        changes,
     }
 }
 

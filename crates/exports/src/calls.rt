@@ -6,7 +6,7 @@ use crate::answers::RunAnswer;
 use crate::answers::StateAnswer;
 use crate::answers::bound_numbers;
 use crate::answers::creation_number;
-use crate::answers::outcome_numbers;
+use crate::answers::finished_numbers;
 use crate::answers::refusal_numbers;
 use crate::answers::state_numbers;
 use crate::answers::truth_numbers;
@@ -54,7 +54,7 @@ pub extern "C" fn reedgrit_run(
 ) -> RunAnswer
     ensures { λ r. ⌜ RanNumbers (now (propagator .entry)) (now (ranges .entry)) (now (posts .entry)) (now (atoms .entry)) r (now (propagator .exit)) (now (ranges .exit)) (now (posts .exit)) (now (atoms .exit)) ⌝ }
 {
-    outcome_numbers(run(propagator, ranges, posts, atoms))
+    finished_numbers(run(propagator, ranges, posts, atoms))
 }
 
 // The words of a post that the reader accepts.

@@ -205,8 +205,8 @@ module _ (before : Propagator) (es ls : List ℤ) (postCount atomCount : ℕ) (a
   runnable-at {from} {to} f t = subst (λ (x : List ℤ). Runnable before x to postCount atomCount) (sym (from-is f)) (subst (λ (x : List ℤ). Runnable before early x postCount atomCount) (sym (to-is t)) runnable)
 
   -- what the core leaves
-  module _ {from to posts atoms from′ posts′ atoms′ : List ℤ} {r : Outcome} (f : from ≡ mirrorStarts (take (length ls) (before .durations)) ls) (t : to ≡ mirrorStarts (take (length es) (before .durations)) es)
-      (l : Left before from to posts atoms r from′ posts′ atoms′) where
+  module _ {from to posts atoms from′ posts′ atoms′ : List ℤ} {r : Outcome} {changed : ℕ} (f : from ≡ mirrorStarts (take (length ls) (before .durations)) ls) (t : to ≡ mirrorStarts (take (length es) (before .durations)) es)
+      (l : Left before from to posts atoms r changed from′ posts′ atoms′) where
     core-is : traceOf before from to ≡ mirroredRun ds es ls
     core-is = ap₂ (λ (x y : List ℤ). traceOf before x y) (from-is f) (to-is t)
 

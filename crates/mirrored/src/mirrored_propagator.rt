@@ -156,9 +156,9 @@ fn run_in_mirror(
     mirror_starts(&mut from[..n], latest, &durations);
     let mut to: [i32; 48] = [0; 48];
     mirror_starts(&mut to[..n], earliest, &durations);
-    let outcome = run_accepted(record, &mut from[..n], &to[..n], posts, atoms);
+    let finished = run_accepted(record, &mut from[..n], &to[..n], posts, atoms);
     mirror_starts(latest, &from[..n], &durations);
-    outcome
+    finished.outcome
 }
 
 // A mirrored pass on the record's durations and the ranges.

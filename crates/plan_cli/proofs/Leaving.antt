@@ -35,7 +35,7 @@ module _ (r : Propagator) (es ls : List ℤ) where
   tr = traceOf r es ls
 
   module _ (p₀ a₀ : List ℤ) (room-p : length p₀ ≡ 4 * TASKS) (room-a : length a₀ ≡ 3 * ATOMS) (ran : Run) (es′ posts atoms : List ℤ) where
-    left-shows : length es′ ≤ TASKS → AcceptedRun r es ls p₀ a₀ (ran .outcome) es′ posts atoms → ShowsRun tr (ran .outcome) posts atoms es′
+    left-shows : length es′ ≤ TASKS → AcceptedRun r es ls p₀ a₀ (ran .outcome) (ran .changes) es′ posts atoms → ShowsRun tr (ran .outcome) posts atoms es′
     left-shows few a =
         let l = a .left in
         let h = a .handed in

@@ -36,6 +36,7 @@ use Rattle.runs.specs.Words.{postWords, reasons, endReason, postsAfter, atomsAf
 use Rattle.integers.proofs.Words.{overwrites}
 use Rattle.runs.proofs.Buffers.{no-posts-stored, no-atoms-stored, no-reasons}
 use Rattle.runs.proofs.Demand as demand
+use Rattle.runs.proofs.Changes.{changes-most}
 use Rattle.runs.proofs.Few as few-words
 use Rattle.runs.proofs.Fuel.{propagate-is}
 use Rattle.runs.proofs.Tables.{tabulated}
@@ -169,7 +170,7 @@ module _ (r : Propagator) (es ls : List ℤ) (posts atoms : ℕ) (a : Runnable r
   completion-small k q = let z : k < length ds = omega (arith, count) in omega (arith, early k z .2, lasting k z)
 
   -- the state at the start: nothing is written
-  pub at-start : (inner : ℕ) (words : List ℕ) (ps as′ : List ℤ) → IsTree J first (replicate (J .count) white) inner words → At J first ps as′ (allWhite J) inner words es ps as′ 0 0
+  pub at-start : (inner : ℕ) (words : List ℕ) (ps as′ : List ℤ) → IsTree J first (replicate (J .count) white) inner words → At J first ps as′ (allWhite J) inner words es ps as′ 0 0 n
   at-start inner words ps as′ t = record {
     tree = t;
     starts = subst (λ (m : ℕ). es ≡ map (instant zeroAt) (tabulate (J .earliest) 0 m)) (a .counts .earliest ∙ sym count) (tabulated zeroAt es (J .earliest) 0 (λ k q. back k (omega (arith, q, a .counts .earliest, count))));
@@ -177,6 +178,7 @@ module _ (r : Propagator) (es ls : List ℤ) (posts atoms : ℕ) (a : Runnable r
     atoms = no-atoms-stored as′;
     posted = refl;
     explained = sym no-reasons;
+    counted = sym count;
   }
     where
       back : (k : ℕ) → k < length ds → instant zeroAt (J .earliest (0 + k)) ≡ getD es k (pos 0)
@@ -260,10 +262,12 @@ module _ (r : Propagator) (es ls : List ℤ) (posts atoms : ℕ) (a : Runnable r
         }
 
       -- and what a run leaves
-      pub left : {ps as′ es′ ps′ bs : List ℤ} {o : Outcome} → posts ≡ length ps → atoms ≡ length as′ → Ended J first second ps as′ o es′ ps′ bs
-          → Left r es ls ps as′ o es′ ps′ bs
-      left {ps} {as′} {es′} {ps′} {bs} {o} p q d = record {
+      pub left : {ps as′ es′ ps′ bs : List ℤ} {o : Outcome} {c : ℕ} → posts ≡ length ps → atoms ≡ length as′ → Ended J first second ps as′ o c es′ ps′ bs
+          → Left r es ls ps as′ o c es′ ps′ bs
+      left {ps} {as′} {es′} {ps′} {bs} {o} {c} p q d = record {
         answer = d .answer ∙ ap (λ (t : Trace). outcomeOf (reasons (t .posts)) (length (t .posts)) (t .end)) (sym trace-is);
+        changes = d .changes ∙ ap (λ (t : Trace). t .changes) (sym trace-is);
+        changes-most = omega (arith, d .changes, changes-most zeroAt J proper first second by-earliest (ordered .by-completion) (accepted .some), count);
         starts = d .starts ∙ ap (λ (t : Trace). t .starts) (sym trace-is);
         post-words = d .posts ∙ overwrites ps (postWords 0 (run zeroAt J first second .posts)) (omega (arith, posts-fit, p)) ∙ ap (postsAfter ps) (sym trace-is);
         atom-words = d .atoms ∙ overwrites as′ (atomWords (reasons (run zeroAt J first second .posts) ++ endReason (run zeroAt J first second .end))) (omega (arith, atoms-fit, q)) ∙ ap (atomsAfter as′) (sym trace-is);

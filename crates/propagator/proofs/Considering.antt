@@ -30,6 +30,7 @@ use Rattle.runs.specs.Traces.{Post}
 use Rattle.runs.specs.Runs.{State, Turn, on, stop, inner, dropped, raised, posted, conflict, propagation}
 use Rattle.scheduling.specs.Words.{atomWords}
 use Rattle.runs.specs.Words.{postWords, reasons}
+use Rattle.runs.proofs.Changes.{reached-changes}
 use Rattle.runs.proofs.Buffers.{post-stored, reason-stored, reasons-more, fourOf}
 use Rattle.runs.proofs.Fuel.{inner-pass, inner-stop, inner-raise}
 use Rattle.runs.proofs.Room as room
@@ -49,6 +50,10 @@ pub map-set : {A B : Type 0} (f : A → B) (l : List A) (k : ℕ) (x : A) → ma
 map-set f [] k x = refl
 map-set f (y ∷ l) zero x = refl
 map-set f (y ∷ l) (suc k) x = ap (λ (r : List _). f y ∷ r) (map-set f l k x)
+
+-- one leaf change more
+abbrev pub one-change : Written → Written
+one-change w = record { posts = w .posts; atoms = w .atoms; changes = w .changes + 1 }
 
 -- what is asked of, and said by, an explanation, with other names for the same values
 preceded-at : {size k : ℕ} {est dur θ θ′ : List ℕ} {p p′ c c′ i i′ b b′ : ℕ} → θ ≡ θ′ → p ≡ p′ → c ≡ c′ → i ≡ i′ → b ≡ b′ → Preceded size k θ′ est dur p′ c′ i′ b′ → Preceded size k θ est dur p c i b
@@ -136,6 +141,9 @@ module _ {n inn height lct : ℕ} {words : List ℕ} {es ps as′ : List ℤ} {w
 
   pub inner-few : inn ≤ 63
   inner-few = omega (arith, s .at .tree .complete, room-for (J .count) (omega (arith, G .limited .count)))
+
+  pub few-changes : w .changes ≤ 192
+  few-changes = omega (arith, s .at .counted, reached-changes zeroAt J (G .proper) first second (G .by-earliest) (G .by-completion) t (s .st) (s .reached) (s .small), s .small, few, s .arrays .count)
 
   -- a number of each task, by the tasks' count
   pub held : {f : ℕ → ℕ} {array : List ℕ} → Holds n f array → Holds (J .count) f array
@@ -312,13 +320,14 @@ module _ {n inn height lct : ℕ} {words : List ℕ} {es ps as′ : List ℤ} {w
           atoms = atoms-at (s .as₀) (s .st .posts) made (s .at .atoms) (s .at .explained) (ap atomWords reason-is) (p .atom-words);
           posted = omega (arith, p .posts, s .at .posted, length-append (s .st .posts) (made ∷ []));
           explained = omega (arith, p .atoms, s .at .explained, ap length reason-is, ap length (reasons-more (s .st .posts) made), length-append (reasons (s .st .posts)) now);
+          counted = p .changes ∙ s .at .counted;
         }
 
         pub emptied : getD est i 0 < b → getD lst i 0 < b → Considered s (turn.Emptied w′) words es ps′ bs
         emptied up high = (after, post-at, λ f. inner-stop zeroAt J first second f t (s .st) x passes (r .found) (lt-ltb (J .earliest (T x)) ect (omega (arith, up, task-start, bound-is))) (lt-ltb (J .latest (T x)) ect (omega (arith, high, task-latest, bound-is))))
 
         pub raised-on : {words′ : List ℕ} {es′ : List ℤ} → getD est i 0 < b → b ≤ getD lst i 0 → es′ ≡ set es i (instant zeroAt b) → Put inn words words′ (getD mapping i 0) emptyOf
-            → Considered s (turn.On w′) words′ es′ ps′ bs
+            → Considered s (turn.On (one-change w′)) words′ es′ ps′ bs
         raised-on {words′} {es′} up low e q = (
           next,
           at-next,
@@ -334,7 +343,7 @@ module _ {n inn height lct : ℕ} {words : List ℕ} {es ps as′ : List ℤ} {w
             low′ : ect ≤ J .latest (T x)
             low′ = omega (arith, low, task-latest, bound-is)
 
-            at-next : AtNow s next words′ es′ ps′ bs w′
+            at-next : AtNow s next words′ es′ ps′ bs (one-change w′)
             at-next = record {
               tree = cleared words′ q;
               starts = starts-at (s .st .starts) (s .at .starts) (r .task) bound-is e;
@@ -342,13 +351,14 @@ module _ {n inn height lct : ℕ} {words : List ℕ} {es ps as′ : List ℤ} {w
               atoms = post-at .atoms;
               posted = post-at .posted;
               explained = post-at .explained;
+              counted = ap (λ (c : ℕ). c + 1) (post-at .counted);
             }
 
       -- no post
-      pub passed-on : {words′ : List ℕ} → b ≤ getD est i 0 → Put inn words words′ (getD mapping i 0) emptyOf → Considered s (turn.On w) words′ es ps as′
+      pub passed-on : {words′ : List ℕ} → b ≤ getD est i 0 → Put inn words words′ (getD mapping i 0) emptyOf → Considered s (turn.On (one-change w)) words′ es ps as′
       passed-on {words′} low q = (
         dropped (s .st) x,
-        record { tree = cleared words′ q; starts = s .at .starts; posts = s .at .posts; atoms = s .at .atoms; posted = s .at .posted; explained = s .at .explained },
+        record { tree = cleared words′ q; starts = s .at .starts; posts = s .at .posts; atoms = s .at .atoms; posted = s .at .posted; explained = s .at .explained; counted = ap (λ (c : ℕ). c + 1) (s .at .counted) },
         λ f. inner-pass zeroAt J first second f t (s .st) x passes (r .found) (le-ltb (J .earliest (T x)) ect low′),
       )
         where

@@ -60,7 +60,7 @@ module _ {n inn height : ℕ} {words : List ℕ} {es ps as′ : List ℤ} {est l
     pub st : State
     pub small : t < n
     pub entered : Entered zeroAt J first second t st
-    pub at : At J first ps as′ st inn words′ es′ ps′ bs (w′ .posts) (w′ .atoms)
+    pub at : At J first ps as′ st inn words′ es′ ps′ bs (w′ .posts) (w′ .atoms) (w′ .changes)
     pub rest : whole ≡ rest-of (n - 1 - t) t st
 
   pub few : n ≤ TASKS
@@ -69,7 +69,7 @@ module _ {n inn height : ℕ} {words : List ℕ} {es ps as′ : List ℤ} {est l
   pub candidate-small : (t : ℕ) → t < n → getD candidates t 0 < n
   candidate-small t q = omega (arith, s .order .at t q, G .by-completion .task t (omega (arith, q, s .arrays .count)), s .arrays .count)
 
-  pub first-level : Level 0 words es ps as′ (record { posts = 0; atoms = 0 })
+  pub first-level : Level 0 words es ps as′ (record { posts = 0; atoms = 0; changes = n })
   first-level = record {
     st = allWhite J;
     small = omega (arith, G .some, s .arrays .count);
@@ -82,10 +82,11 @@ module _ {n inn height : ℕ} {words : List ℕ} {es ps as′ : List ℤ} {est l
       turns = omega (arith, s .arrays .count)
 
   -- how the run ends from a state
-  module _ (st : State) (end : End) (is : whole ≡ ended zeroAt J first second st end) {words′ : List ℕ} {es′ ps′ bs : List ℤ} {w′ : Written} (a : At J first ps as′ st inn words′ es′ ps′ bs (w′ .posts) (w′ .atoms)) where
-    ends : {bs′ : List ℤ} → bs′ ≡ sets as′ 0 (atomWords (reasons (st .posts) ++ endReason end)) → Ended J first second ps as′ (outcomeOf (reasons (st .posts)) (length (st .posts)) end) es′ ps′ bs′
+  module _ (st : State) (end : End) (is : whole ≡ ended zeroAt J first second st end) {words′ : List ℕ} {es′ ps′ bs : List ℤ} {w′ : Written} (a : At J first ps as′ st inn words′ es′ ps′ bs (w′ .posts) (w′ .atoms) (w′ .changes)) where
+    ends : {bs′ : List ℤ} → bs′ ≡ sets as′ 0 (atomWords (reasons (st .posts) ++ endReason end)) → Ended J first second ps as′ (outcomeOf (reasons (st .posts)) (length (st .posts)) end) (w′ .changes) es′ ps′ bs′
     ends z = record {
       answer = sym (ap (λ (t : Trace). outcomeOf (reasons (t .posts)) (length (t .posts)) (t .end)) is);
+      changes = a .counted ∙ sym (ap (λ (t : Trace). t .changes) is);
       starts = a .starts ∙ sym (ap (λ (t : Trace). t .starts) is);
       posts = a .posts ∙ sym (ap (λ (t : Trace). sets ps 0 (postWords 0 (t .posts))) is);
       atoms = z ∙ sym (ap (λ (t : Trace). sets as′ 0 (atomWords (reasons (t .posts) ++ endReason (t .end)))) is);
@@ -97,8 +98,8 @@ module _ {n inn height : ℕ} {words : List ℕ} {es ps as′ : List ℤ} {est l
 
   module _ {t : ℕ} {words′ : List ℕ} {es′ ps′ bs : List ℤ} {w′ : Written} (v : Level t words′ es′ ps′ bs w′) where
     -- all levels are done
-    pub all-done : n ≤ t + 1 → Ended J first second ps as′ (outcome.Done (w′ .posts)) es′ ps′ bs
-    all-done q = subst (λ (k : ℕ). Ended J first second ps as′ (outcome.Done k) es′ ps′ bs) (sym (v .at .posted))
+    pub all-done : n ≤ t + 1 → Ended J first second ps as′ (outcome.Done (w′ .posts)) (w′ .changes) es′ ps′ bs
+    all-done q = subst (λ (k : ℕ). Ended J first second ps as′ (outcome.Done k) (w′ .changes) es′ ps′ bs) (sym (v .at .posted))
         (ends (v .st) done is (v .at) (no-more (v .st) done is (v .at) refl))
       where
         none : n - 1 - t ≡ 0
@@ -149,6 +150,9 @@ module _ {n inn height : ℕ} {words : List ℕ} {es ps as′ : List ℤ} {est l
       pub ect-is : nodeAt words′ 0 .ect ≡ ect
       ect-is = considering.ect-is here
 
+      pub few-changes : w′ .changes ≤ 192
+      few-changes = considering.few-changes here
+
       -- the white tasks overload
       pub over-asked : c < nodeAt words′ 0 .ect → Overloaded (length bs) (w′ .atoms) (thetaIn words′ inn tasks n) est dur (sumIn words′) c
       over-asked q = considering.over-asked here (omega (arith, q, ect-is))
@@ -156,8 +160,8 @@ module _ {n inn height : ℕ} {words : List ℕ} {es ps as′ : List ℤ} {est l
       pub over-inner : inn ≤ 63
       over-inner = considering.inner-few here
 
-      pub overloads : {r : Outcome} {bs′ : List ℤ} → c < nodeAt words′ 0 .ect → Conflicted bs bs′ w′ r (conflictIn words′ inn tasks n est dur c) → Ended J first second ps as′ r es′ ps′ bs′
-      overloads {r} {bs′} q k = subst (λ (r : Outcome). Ended J first second ps as′ r es′ ps′ bs′) (sym answer) (ends (v .st) (overload reason) is (v .at) words-are)
+      pub overloads : {r : Outcome} {bs′ : List ℤ} → c < nodeAt words′ 0 .ect → Conflicted bs bs′ w′ r (conflictIn words′ inn tasks n est dur c) → Ended J first second ps as′ r (w′ .changes) es′ ps′ bs′
+      overloads {r} {bs′} q k = subst (λ (r : Outcome). Ended J first second ps as′ r (w′ .changes) es′ ps′ bs′) (sym answer) (ends (v .st) (overload reason) is (v .at) words-are)
         where
           reason : List Atom
           reason = conflict zeroAt J end (leaves.sum J first (v .st .leaves)) (leaves.theta J first (v .st .leaves))
@@ -192,7 +196,8 @@ module _ {n inn height : ℕ} {words : List ℕ} {es ps as′ : List ℤ} {est l
         pub not-over : ltb end ect ≡ false
         not-over = le-ltb end ect quiet-here
 
-        abbrev pub goes-on : Standing n inn height d words″ es′ ps′ bs w′ est lst dur tasks mapping
+        -- which the source makes in two leaf changes
+        abbrev pub goes-on : Standing n inn height d words″ es′ ps′ bs (record { posts = w′ .posts; atoms = w′ .atoms; changes = w′ .changes + 2 }) est lst dur tasks mapping
         goes-on = record {
           J = J;
           first = first;
@@ -209,7 +214,7 @@ module _ {n inn height : ℕ} {words : List ℕ} {es ps as′ : List ℤ} {est l
           post-room = s .post-room;
           atom-room = s .atom-room;
           reached = moved t (v .st) (v .entered) not-over;
-          at = record { tree = subst (λ (k : ℕ). leaves.IsTree J first (set (v .st .leaves) k gray) inn words″) (considering.gray-place here j j-is) (m moves); starts = v .at .starts; posts = v .at .posts; atoms = v .at .atoms; posted = v .at .posted; explained = v .at .explained };
+          at = record { tree = subst (λ (k : ℕ). leaves.IsTree J first (set (v .st .leaves) k gray) inn words″) (considering.gray-place here j j-is) (m moves); starts = v .at .starts; posts = v .at .posts; atoms = v .at .atoms; posted = v .at .posted; explained = v .at .explained; counted = ap (λ (c : ℕ). c + 2) (v .at .counted) };
         }
 
         unfold-level : whole ≡ rest-of (suc (n - 1 - suc t)) t (v .st)
@@ -232,8 +237,8 @@ module _ {n inn height : ℕ} {words : List ℕ} {es ps as′ : List ℤ} {est l
             one = omega arith
 
         -- or a post emptied a range
-        pub one-emptied : {words‴ : List ℕ} {es″ ps″ bs′ : List ℤ} {w″ : Written} → AllConsidered goes-on (turn.Emptied w″) words‴ es″ ps″ bs′ → Ended J first second ps as′ (outcome.Emptied (w″ .posts)) es″ ps″ bs′
-        one-emptied {words‴} {es″} {ps″} {bs′} {w″} (st′, a, z) = subst (λ (k : ℕ). Ended J first second ps as′ (outcome.Emptied k) es″ ps″ bs′) (sym (a .posted)) (ends st′ emptied is a (no-more st′ emptied is a refl))
+        pub one-emptied : {words‴ : List ℕ} {es″ ps″ bs′ : List ℤ} {w″ : Written} → AllConsidered goes-on (turn.Emptied w″) words‴ es″ ps″ bs′ → Ended J first second ps as′ (outcome.Emptied (w″ .posts)) (w″ .changes) es″ ps″ bs′
+        one-emptied {words‴} {es″} {ps″} {bs′} {w″} (st′, a, z) = subst (λ (k : ℕ). Ended J first second ps as′ (outcome.Emptied k) (w″ .changes) es″ ps″ bs′) (sym (a .posted)) (ends st′ emptied is a (no-more st′ emptied is a refl))
           where
             is : whole ≡ ended zeroAt J first second st′ emptied
             is = unfold-level ∙ outer-stop zeroAt J first second (n - 1 - suc t) t (v .st) st′ not-over (inner-is z)

@@ -19,7 +19,7 @@ use Rattle.propagator.specs.Ran.{Kept, Ran}
 
 -- what is said of an accepted run is not said of it
 pub turned-back : (before : Propagator) (es ls posts atoms : List ℤ) (r : Run) (es′ posts′ atoms′ : List ℤ) → r .«record» ≡ before → (runNumber before es ls (length posts) (length atoms) ≡ 0 → ⊥)
-    → Kept before es ls (runNumber before es ls (length posts) (length atoms)) posts atoms (r .outcome) es′ posts′ atoms′ → Ran before es ls posts atoms r es′ posts′ atoms′
+    → Kept before es ls (runNumber before es ls (length posts) (length atoms)) posts atoms (r .outcome) (r .changes) es′ posts′ atoms′ → Ran before es ls posts atoms r es′ posts′ atoms′
 turned-back before es ls posts atoms r es′ posts′ atoms′ e not k = record { keeps = e; refused = λ n. k; accepted = λ z. absurd (not z) }
 
 module _ (before : Propagator) (es ls : List ℤ) (posts atoms : ℕ) (h : 48 < length es) where
@@ -37,4 +37,4 @@ too-many before es ls posts atoms r es′ posts′ atoms′ h q a =
     let (m, none, many, not) = one-number before es ls (length posts) (length atoms) h in
     let k = a .refused (λ z. not (sym none ∙ z)) in
     turned-back before es ls posts atoms r es posts′ atoms′ (a .keeps) (λ z. not (sym many ∙ z))
-    (record { answer = k .answer ∙ ap refusedBy (none ∙ sym many); starts = refl; post-words = k .post-words; atom-words = k .atom-words })
+    (record { answer = k .answer ∙ ap refusedBy (none ∙ sym many); changes = k .changes; starts = refl; post-words = k .post-words; atom-words = k .atom-words })

@@ -47,15 +47,16 @@ module _ {as′ bs : List ℤ} {k end : ℕ} {reason : List Atom} (s : Stored as
   pub post-fits : {i room j : ℕ} → i < TASKS → 4 * j + 4 ≤ room → k ≤ 4608 → length reason ≤ 97 → PostFits room j i k (end - k)
   post-fits small r q few = record { room = r; task = small; first = omega arith; count = omega (arith, long) }
 
-  pub post-done : {ps ps′ : List ℤ} {before after : Written} {i b : ℕ} → before .atoms ≡ k → after .posts ≡ before .posts + 1 → after .atoms ≡ end
+  pub post-done : {ps ps′ : List ℤ} {before after : Written} {i b : ℕ} → before .atoms ≡ k → after .posts ≡ before .posts + 1 → after .atoms ≡ end → after .changes ≡ before .changes
       → ps′ ≡ sets ps (4 * before .posts) (pos i ∷ instant zeroAt b ∷ pos k ∷ pos (end - k) ∷ [])
       → Posted ps as′ ps′ bs before after i b (atomWords reason) (length reason)
-  post-done {ps} {ps′} {before} {after} {i} {b} z u v w = record {
+  post-done {ps} {ps′} {before} {after} {i} {b} z u v x w = record {
     post-words = w ∙ ap (λ (n : ℕ). sets ps (4 * before .posts) (pos i ∷ instant zeroAt b ∷ pos k ∷ pos n ∷ [])) long
         ∙ ap (λ (n : ℕ). sets ps (4 * before .posts) (pos i ∷ instant zeroAt b ∷ pos n ∷ pos (length reason) ∷ [])) (sym z);
     atom-words = s .words ∙ ap (λ (n : ℕ). sets as′ (3 * n) (atomWords reason)) (sym z);
     posts = u;
     atoms = omega (arith, s .count, v, z);
+    changes = x;
   }
 
   pub conflict-done : {w : Written} → w .atoms ≡ k → Conflicted as′ bs w (outcome.Overload (w .posts) k (end - k)) reason

@@ -45,11 +45,12 @@ pub record Begun (n inner height : ℕ) (words : List ℕ) (es ps as′ : List �
   pub order : Holds n (λ t. getD second t 0) candidates
   pub post-room : 4 * n ≤ length ps
   pub atom-room : 6 * (n * n) ≤ length as′
-  pub at : At J first ps as′ (allWhite J) inner words es ps as′ 0 0
+  pub at : At J first ps as′ (allWhite J) inner words es ps as′ 0 0 n
 
 -- What it leaves: the trace of the run's definition.
-pub record Ended (J : Tasks natural) (first second : List ℕ) (ps as′ : List ℤ) (r : Outcome) (es′ ps′ bs : List ℤ) : Type 0 where
+pub record Ended (J : Tasks natural) (first second : List ℕ) (ps as′ : List ℤ) (r : Outcome) (changed : ℕ) (es′ ps′ bs : List ℤ) : Type 0 where
   pub answer : r ≡ outcomeOf (reasons (run zeroAt J first second .posts)) (length (run zeroAt J first second .posts)) (run zeroAt J first second .end)
+  pub changes : changed ≡ run zeroAt J first second .changes
   pub starts : es′ ≡ run zeroAt J first second .starts
   pub posts : ps′ ≡ sets ps 0 (postWords 0 (run zeroAt J first second .posts))
   pub atoms : bs ≡ sets as′ 0 (atomWords (reasons (run zeroAt J first second .posts) ++ endReason (run zeroAt J first second .end)))

@@ -41,11 +41,12 @@ pub record Arrays (J : Tasks natural) (first : List ℕ) (n inner height : ℕ) 
   pub places : (k : ℕ) → k < n → getD mapping k 0 ≡ index first k
   pub tall : height ≡ heightFor n
 
--- What a run has got to, at the state st: the tree shows its leaves, and the slices hold its starts, posts and reasons over what stood there at entry.
-pub record At (J : Tasks natural) (first : List ℕ) (ps₀ as₀ : List ℤ) (st : State) (inner : ℕ) (words : List ℕ) (es ps as′ : List ℤ) (many far : ℕ) : Type 0 where
+-- What a run has got to, at the state st: the tree shows its leaves, the slices hold its starts, posts and reasons over what stood there at entry, and its leaf changes are counted.
+pub record At (J : Tasks natural) (first : List ℕ) (ps₀ as₀ : List ℤ) (st : State) (inner : ℕ) (words : List ℕ) (es ps as′ : List ℤ) (many far changed : ℕ) : Type 0 where
   pub tree : IsTree J first (st .leaves) inner words
   pub starts : es ≡ map (instant zeroAt) (st .starts)
   pub posts : ps ≡ sets ps₀ 0 (postWords 0 (st .posts))
   pub atoms : as′ ≡ sets as₀ 0 (atomWords (reasons (st .posts)))
   pub posted : many ≡ length (st .posts)
   pub explained : far ≡ length (reasons (st .posts))
+  pub counted : changed ≡ st .changes

@@ -1,7 +1,7 @@
 -- What a run leaves, by the run's definition, and what that means.
 use mathlib.Core.Path.{_≡_}
 use mathlib.Core.List.{List, [], _∷_, _++_, map}
-use Prim.Native.Nat.{ℕ, _+_, _*_, _≤_, _<_}
+use Prim.Native.Nat.{ℕ, _+_, _-_, _*_, _≤_, _<_}
 use lib.IntN.{ℤ, pos}
 use lib.ListN.{length, getD, take, drop}
 use lib.Signed.{_≤ℤ_}
@@ -59,9 +59,11 @@ module _ (before : Propagator) (es ls : List ℤ) where
   abbrev pub traceOf : Trace
   traceOf = propagate (take (before .count) (before .durations)) es ls
 
-  -- An accepted run leaves that trace: its answer, the earliest starts, the words of its posts and reasons over what stood in the lent slices, which have room for them.
-  pub record Left (posts atoms : List ℤ) (r : Outcome) (es′ posts′ atoms′ : List ℤ) : Type 0 where
+  -- An accepted run leaves that trace: its answer, its leaf changes, the earliest starts, the words of its posts and reasons over what stood in the lent slices, which have room for them.
+  pub record Left (posts atoms : List ℤ) (r : Outcome) (changed : ℕ) (es′ posts′ atoms′ : List ℤ) : Type 0 where
     pub answer : r ≡ outcomeOf (reasons (traceOf .posts)) (length (traceOf .posts)) (traceOf .end)
+    pub changes : changed ≡ traceOf .changes
+    pub changes-most : changed ≤ 4 * before .count - 3
     pub starts : es′ ≡ traceOf .starts
     pub post-words : posts′ ≡ postsAfter posts traceOf
     pub atom-words : atoms′ ≡ atomsAfter atoms traceOf
@@ -74,15 +76,16 @@ module _ (before : Propagator) (es ls : List ℤ) where
     pub overloads : (reason : List Atom) → traceOf .end ≡ overload reason → checkOf (checkDurations before) (atomWords reason) [] ≡ Passed
 
   -- It is right, its reasons pass the check, and the slices hand them out.
-  pub record AcceptedRun (posts atoms : List ℤ) (r : Outcome) (es′ posts′ atoms′ : List ℤ) : Type 0 where
-    pub left : Left posts atoms r es′ posts′ atoms′
+  pub record AcceptedRun (posts atoms : List ℤ) (r : Outcome) (changed : ℕ) (es′ posts′ atoms′ : List ℤ) : Type 0 where
+    pub left : Left posts atoms r changed es′ posts′ atoms′
     pub right : Right (tasksIn before es ls) traceOf
     pub passes : Passing
     pub handed : Handed traceOf posts′ atoms′
 
-  -- A refused run leaves everything as it was.
-  pub record Kept (number : ℕ) (posts atoms : List ℤ) (r : Outcome) (es′ posts′ atoms′ : List ℤ) : Type 0 where
+  -- A refused run leaves everything as it was, and counts no leaf change.
+  pub record Kept (number : ℕ) (posts atoms : List ℤ) (r : Outcome) (changed : ℕ) (es′ posts′ atoms′ : List ℤ) : Type 0 where
     pub answer : outcomeNumbers r ≡ refusedBy number
+    pub changes : changed ≡ 0
     pub starts : es′ ≡ es
     pub post-words : posts′ ≡ posts
     pub atom-words : atoms′ ≡ atoms
@@ -90,5 +93,5 @@ module _ (before : Propagator) (es ls : List ℤ) where
 -- A run hands back the record that it was lent. The first test that fails turns it back, and nothing changes; else it is accepted.
 pub record Ran (before : Propagator) (es ls posts atoms : List ℤ) (r : Run) (es′ posts′ atoms′ : List ℤ) : Type 0 where
   pub keeps : r .«record» ≡ before
-  pub refused : (runNumber before es ls (length posts) (length atoms) ≡ 0 → ⊥) → Kept before es ls (runNumber before es ls (length posts) (length atoms)) posts atoms (r .outcome) es′ posts′ atoms′
-  pub accepted : runNumber before es ls (length posts) (length atoms) ≡ 0 → AcceptedRun before es ls posts atoms (r .outcome) es′ posts′ atoms′
+  pub refused : (runNumber before es ls (length posts) (length atoms) ≡ 0 → ⊥) → Kept before es ls (runNumber before es ls (length posts) (length atoms)) posts atoms (r .outcome) (r .changes) es′ posts′ atoms′
+  pub accepted : runNumber before es ls (length posts) (length atoms) ≡ 0 → AcceptedRun before es ls posts atoms (r .outcome) (r .changes) es′ posts′ atoms′

@@ -37,12 +37,13 @@ candidateIn words inner height tasks lct = elim (ltb lct (nodeAt words 0 .«ect_
   | false ↦ responsible.Nothing
 ]
 
--- A post: its four words and its reason's stand after those written so far.
+-- A post: its four words and its reason's stand after those written so far. It changes no leaf.
 pub record Posted (ps as′ ps′ bs : List ℤ) (before after : Written) (i bound : ℕ) (reason : List ℤ) (many : ℕ) : Type 0 where
   pub post-words : ps′ ≡ sets ps (4 * before .posts) (pos i ∷ instant zeroAt bound ∷ pos (before .atoms) ∷ pos many ∷ [])
   pub atom-words : bs ≡ sets as′ (3 * before .atoms) reason
   pub posts : after .posts ≡ before .posts + 1
   pub atoms : after .atoms ≡ before .atoms + many
+  pub changes : after .changes ≡ before .changes
 
 -- What stands at a level of a run: the tasks and orders, the arrays that hold them, and the state st that the definition goes through and that tree and slices are at.
 pub record Standing (n inner height lct : ℕ) (words : List ℕ) (es ps as′ : List ℤ) (w : Written) (est lst dur tasks mapping : List ℕ) : Type 0 where
@@ -61,12 +62,12 @@ pub record Standing (n inner height lct : ℕ) (words : List ℕ) (es ps as′ :
   pub post-room : 4 * n ≤ length ps₀
   pub atom-room : 6 * (n * n) ≤ length as₀
   pub reached : Reached zeroAt J first second level st
-  pub at : At J first ps₀ as₀ st inner words es ps as′ (w .posts) (w .atoms)
+  pub at : At J first ps₀ as₀ st inner words es ps as′ (w .posts) (w .atoms) (w .changes)
 
 module _ {n inn height lct : ℕ} {words : List ℕ} {es ps as′ : List ℤ} {w : Written} {est lst dur tasks mapping : List ℕ} (s : Standing n inn height lct words es ps as′ w est lst dur tasks mapping) where
   -- the state st′ follows: tree and slices are at it
   abbrev pub AtNow : State → List ℕ → List ℤ → List ℤ → List ℤ → Written → Type 0
-  AtNow st′ words′ es′ ps′ bs w′ = At (s .J) (s .first) (s .ps₀) (s .as₀) st′ inn words′ es′ ps′ bs (w′ .posts) (w′ .atoms)
+  AtNow st′ words′ es′ ps′ bs w′ = At (s .J) (s .first) (s .ps₀) (s .as₀) st′ inn words′ es′ ps′ bs (w′ .posts) (w′ .atoms) (w′ .changes)
 
   abbrev pub turns : ℕ → State → Turn
   turns f st′ = inner zeroAt (s .J) (s .first) (s .second) f (s .level) st′

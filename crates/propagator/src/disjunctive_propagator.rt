@@ -47,16 +47,24 @@ pub enum Outcome {
     Refused(u32),
 }
 
-// What a run hands back: the record, and how the run ended.
+// How a run ended, and how many leaf changes the source would have made; 0 where the input was turned back.
+pub struct Finished {
+    pub outcome: Outcome,
+    pub changes: usize,
+}
+
+// What a run hands back: the record, how the run ended, and its leaf changes.
 pub struct Run {
     pub record: Propagator,
     pub outcome: Outcome,
+    pub changes: usize,
 }
 
-// The posts and the atoms written so far.
+// The posts and the atoms written so far, and the leaf changes so far as the source makes them: it empties a leaf before it changes its colour.
 pub struct Written {
     pub posts: usize,
     pub atoms: usize,
+    pub changes: usize,
 }
 
 // The tasks of Lambda were considered, or a post emptied a range.
@@ -123,6 +131,7 @@ fn post<'a>(
     Written {
         posts: written.posts + 1,
         atoms: end,
+        changes: written.changes,
     }
 }
 
@@ -152,7 +161,12 @@ fn consider<'a>(
     let place = leaf_of(mapping, id);
     if bound <= est[i] {
         ThetaLambdaTree::remove_from_lambda(nodes, inner, place);
-        return Turn::On(written);
+        let changes = written.changes + 1;
+        return Turn::On(Written {
+            posts: written.posts,
+            atoms: written.atoms,
+            changes,
+        });
     }
     let w = post(
         posts,
@@ -173,7 +187,12 @@ fn consider<'a>(
     }
     earliest[i] = start_of(bound);
     ThetaLambdaTree::remove_from_lambda(nodes, inner, place);
-    Turn::On(w)
+    let changes = w.changes + 1;
+    Turn::On(Written {
+        posts: w.posts,
+        atoms: w.atoms,
+        changes,
+    })
 }
 
 // Considers the tasks of Lambda for which the edge-finding condition holds, one after the other. Each turn takes one out, so n turns are enough.
@@ -306,20 +325,34 @@ fn edge_finding<'a>(
     inner: usize,
     height: usize,
     n: usize,
-) -> Outcome
+) -> Finished
     requires { ⌜ Begun n inner height (now nodes) (now earliest) (now posts) (now atoms) (now est) (now lst) (now lct) (now durations) (now tasks) (now candidates) (now mapping) ⌝ }
     ensures { λ r. ⌜ ((s : Begun n inner height (now (nodes .entry)) (now (earliest .entry)) (now (posts .entry)) (now (atoms .entry)) (now (est .entry)) (now (lst .entry)) (now (lct .entry)) (now (durations .entry)) (now (tasks .entry)) (now (candidates .entry)) (now (mapping .entry)))
-        → Ended (s .J) (s .first) (s .second) (now (posts .entry)) (now (atoms .entry)) r (now (earliest .exit)) (now (posts .exit)) (now (atoms .exit))) ⌝ }
+        → Ended (s .J) (s .first) (s .second) (now (posts .entry)) (now (atoms .entry)) (r .outcome) (r .changes) (now (earliest .exit)) (now (posts .exit)) (now (atoms .exit))) ⌝ }
 {
-    let mut w = Written { posts: 0, atoms: 0 };
+    let mut w = Written {
+        posts: 0,
+        atoms: 0,
+        changes: n,
+    };
     let mut index: usize = 0;
     while index + 1 < n {
         let j = candidates[index];
         let lct_j = lct[j];
         if ThetaLambdaTree::ect(nodes) > lct_j {
-            return overload(atoms, w, nodes, tasks, est, durations, inner, n, lct_j);
+            let outcome = overload(atoms, w, nodes, tasks, est, durations, inner, n, lct_j);
+            return Finished {
+                outcome,
+                changes: w.changes,
+            };
         }
         move_to_lambda(nodes, inner, mapping, est, durations, j);
+        let changes = w.changes + 2;
+        let moved = Written {
+            posts: w.posts,
+            atoms: w.atoms,
+            changes,
+        };
         index += 1;
         let lct_next = lct[candidates[index]];
         let turn = consider_all(
@@ -327,7 +360,7 @@ fn edge_finding<'a>(
             earliest,
             posts,
             atoms,
-            w,
+            moved,
             mapping,
             tasks,
             est,
@@ -343,11 +376,17 @@ fn edge_finding<'a>(
                 w = x;
             }
             Turn::Emptied(x) => {
-                return Outcome::Emptied(x.posts);
+                return Finished {
+                    outcome: Outcome::Emptied(x.posts),
+                    changes: x.changes,
+                };
             }
         }
     }
-    Outcome::Done(w.posts)
+    Finished {
+        outcome: Outcome::Done(w.posts),
+        changes: w.changes,
+    }
 }
 
 // Puts every task into Theta. The source adds them one by one; here the leaves come first and then each inner node once, which leaves the same tree.
@@ -384,9 +423,9 @@ pub fn run_accepted(
     latest: &[i32],
     posts: &mut [i32],
     atoms: &mut [i32],
-) -> Outcome
+) -> Finished
     requires { ⌜ Runnable «record» (now earliest) (now latest) (length (now posts)) (length (now atoms)) ⌝ }
-    ensures { λ r. ⌜ Left «record» (now (earliest .entry)) (now (latest .entry)) (now (posts .entry)) (now (atoms .entry)) r (now (earliest .exit)) (now (posts .exit)) (now (atoms .exit)) ⌝ }
+    ensures { λ r. ⌜ Left «record» (now (earliest .entry)) (now (latest .entry)) (now (posts .entry)) (now (atoms .entry)) (r .outcome) (r .changes) (now (earliest .exit)) (now (posts .exit)) (now (atoms .exit)) ⌝ }
 {
     let n = record.count;
     let mut est: [u32; 48] = [0; 48];
@@ -451,8 +490,14 @@ pub fn propagate(
         return Run {
             record,
             outcome: Outcome::Refused(number),
+            changes: 0,
         };
     }
-    let outcome = run_accepted(record, earliest, latest, posts, atoms);
-    Run { record, outcome }
+    let finished = run_accepted(record, earliest, latest, posts, atoms);
+    let outcome = finished.outcome;
+    Run {
+        record,
+        outcome,
+        changes: finished.changes,
+    }
 }

@@ -30,7 +30,18 @@ pub fn put_run(
     let mut atoms = [0i32; ATOMS];
     let ran = propagate(record, earliest, latest, &mut posts, &mut atoms);
     let outcome = ran.outcome;
-    put_ran(out, at, outcome, &posts, &atoms, earliest)
+    let end = put_ran(out, at, outcome, &posts, &atoms, earliest);
+    put_changes(out, end, outcome, ran.changes)
+}
+
+// The line of a run's leaf changes; none where it was turned back.
+fn put_changes(out: &mut [u8], at: usize, outcome: Outcome, changes: usize) -> usize {
+    if let Outcome::Refused(_) = outcome {
+        return at;
+    }
+    let a = put_line(out, at, b"changes");
+    let b = put_spaced_count(out, a, changes);
+    put_end(out, b)
 }
 
 // `mirror`: the mirrored pass of the record on the ranges.

@@ -15,7 +15,7 @@ use borrow.Author.Tests.{ne-eqb, eq-eqb}
 use Rattle.scheduling.specs.Scheduling.{natural, Tasks, tasksOf, Proper, TaskSet, In}
 use Rattle.integers.proofs.Bools.{bool}
 use Rattle.scheduling.proofs.Sets.{_less_}
-use Rattle.scheduling.proofs.Cards.{card, card-less, card-zero, card-same}
+use Rattle.scheduling.proofs.Cards.{card, card-less, card-same}
 use Rattle.scheduling.specs.Moments.{moments, ByEarliest}
 use Rattle.integers.specs.Moments.{zeroAt}
 use Rattle.integers.specs.Orders.{index}
@@ -76,9 +76,13 @@ module _ (o : ℕ) (J : Tasks natural) (ok : Proper J) (first second : List ℕ)
   shape : (ls : List Leaf) → length ls ≡ J .count → tree.Represents J ok first rk ls (λ k. whiteAt ls (index first k)) (lam ls)
   shape ls q = record { size = q; whites = λ k h. refl; grays = λ k h. refl }
 
-  fewer : (ls : List Leaf) (q : length ls ≡ J .count) (f x : ℕ) → tree.Found J ok first rk ls (λ k. whiteAt ls (index first k)) (lam ls) (shape ls q) x → card J (lam ls) ≤ suc f → card J (lam (set ls x empty)) ≤ f
-  fewer ls q f x g h = omega (arith, card-less J (lam ls) i (g .gray), card-same J (lam ls less i) (lam (set ls x empty)) same)
+  -- a found task leaves Λ
+  pub fewer : (ls : List Leaf) (q : length ls ≡ J .count) (x : ℕ) → responsible J first ls ≡ some x → card J (lam ls) ≡ suc (card J (lam (set ls x empty)))
+  fewer ls q x w = omega (arith, card-less J (lam ls) i (g .gray), card-same J (lam ls less i) (lam (set ls x empty)) same)
     where
+      g : tree.Found J ok first rk ls (λ k. whiteAt ls (index first k)) (lam ls) (shape ls q) x
+      g = tree.one-found J ok first rk ls (λ k. whiteAt ls (index first k)) (lam ls) (shape ls q) x w
+
       i : ℕ
       i = getD first x 0
 
@@ -107,8 +111,7 @@ module _ (o : ℕ) (J : Tasks natural) (ok : Proper J) (first second : List ℕ)
           → (responsible J first (st .leaves) ≡ none) ⊎ ((x : ℕ) × (responsible J first (st .leaves) ≡ some x)) → I 1 t st ≡ I 0 t st
       by (inr z) w = inner-off o J first second 0 t st z ∙ sym (inner-zero t st)
       by (inl z) (inl w) = inner-none o J first second 0 t st z w ∙ sym (inner-zero t st)
-      by (inl z) (inr w) = let g = tree.one-found J ok first rk (st .leaves) (λ k. whiteAt (st .leaves) (index first k)) (lam (st .leaves)) (shape (st .leaves) q) (w .0) (w .1) in
-          absurd (card-zero J (lam (st .leaves)) few (getD first (w .0) 0) (g .gray))
+      by (inl z) (inr w) = absurd (omega (arith, fewer (st .leaves) q (w .0) (w .1), few))
   inner-more (suc f) t st q few = by (λ st′. inner-more f t st′) (bool (ltb (lct o J first second t) (ect-bar J first (st .leaves)))) (opt (responsible J first (st .leaves)))
     where
       IH : Type 0
@@ -129,8 +132,7 @@ module _ (o : ℕ) (J : Tasks natural) (ok : Proper J) (first second : List ℕ)
           → (responsible J first (st .leaves) ≡ none) ⊎ ((x : ℕ) × (responsible J first (st .leaves) ≡ some x)) → I (suc (suc f)) t st ≡ I (suc f) t st
       by ih (inr z) w = inner-off o J first second (suc f) t st z ∙ sym (inner-off o J first second f t st z)
       by ih (inl z) (inl w) = inner-none o J first second (suc f) t st z w ∙ sym (inner-none o J first second f t st z w)
-      by ih (inl z) (inr w) = took ih (w .0) z (w .1)
-          (fewer (st .leaves) q f (w .0) (tree.one-found J ok first rk (st .leaves) (λ k. whiteAt (st .leaves) (index first k)) (lam (st .leaves)) (shape (st .leaves) q) (w .0) (w .1)) few)
+      by ih (inl z) (inr w) = took ih (w .0) z (w .1) (omega (arith, fewer (st .leaves) q (w .0) (w .1), few))
 
 -- the whole run's definition, and the outer loop's clauses
 pub propagate-is : (ds : List ℕ) (es ls : List ℤ) → let J = moments zeroAt (tasksOf ds es ls) in propagate ds es ls ≡ run zeroAt J (earliestOrder J) (completionOrder J)
@@ -138,7 +140,7 @@ unfolding propagate
 propagate-is ds es ls = refl
 
 module _ (o : ℕ) (J : Tasks natural) (first second : List ℕ) where
-  pub run-is : run o J first second ≡ outer o J first second (J .count - 1) 0 (record { leaves = replicate (J .count) white; starts = tabulate (J .earliest) 0 (J .count); posts = [] })
+  pub run-is : run o J first second ≡ outer o J first second (J .count - 1) 0 (record { leaves = replicate (J .count) white; starts = tabulate (J .earliest) 0 (J .count); posts = []; changes = J .count })
   unfolding run
   run-is = refl
 

@@ -12,6 +12,7 @@ pub mod Demand
 pub mod Lengths
 pub mod Room
 pub mod Few
+pub mod Changes
 pub mod Stops
 pub mod Shapes
 pub mod Starts

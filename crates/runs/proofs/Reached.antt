@@ -23,7 +23,7 @@ use Rattle.runs.specs.Reached.{Quiet, movedOn, Entered, begins, follows,
 use Rattle.runs.proofs.Fuel.{opt, inner-end, inner-off, inner-none, inner-pass, inner-stop, inner-raise}
 use Rattle.runs.proofs.Steps as steps
 
-abbrev state-of : Turn → State
+abbrev pub state-of : Turn → State
 state-of (on st) = st
 state-of (stop st) = st
 

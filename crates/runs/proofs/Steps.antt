@@ -364,7 +364,7 @@ module _ (o : ℕ) (J : Tasks natural) (ok : Proper J) (first second : List ℕ)
 
     -- the start
     abbrev pub st₀ : State
-    st₀ = record { leaves = replicate n white; starts = tabulate (J .earliest) 0 n; posts = [] }
+    st₀ = record { leaves = replicate n white; starts = tabulate (J .earliest) 0 n; posts = []; changes = n }
 
     now₀ : (k : ℕ) → k < n → now st₀ k ≡ J .earliest k
     now₀ k q = let z : 0 + k ≡ k = omega arith in tab-at (J .earliest) 0 n k q ∙ ap (J .earliest) z

@@ -1,4 +1,4 @@
--- Runs, by computing: posts, reasons, how each ended and starts. A to G are the paper's.
+-- Runs, by computing: posts, reasons, how each ended, starts and leaf changes. A to G are the paper's.
 use mathlib.Core.Path.{_≡_, refl}
 use mathlib.Core.List.{List, [], _∷_, map}
 use Prim.Native.Nat.{ℕ, zero, suc}
@@ -26,8 +26,8 @@ Input = List (ℕ × ℕ × ℕ)
 abbrev answer : Input → Trace
 answer ts = propagate (map (λ (t : ℕ × ℕ × ℕ). t .2) ts) (map (λ (t : ℕ × ℕ × ℕ). pos (t .0)) ts) (map (λ (t : ℕ × ℕ × ℕ). pos (t .1)) ts)
 
-abbrev trace : List Post → End → List ℕ → Trace
-trace ps end ss = record { posts = ps; end = end; starts = map pos ss }
+abbrev trace : List Post → End → List ℕ → ℕ → Trace
+trace ps end ss c = record { posts = ps; end = end; starts = map pos ss; changes = c }
 
 abbrev A : Input
 A = (0, 6, 4) ∷ (1, 5, 5) ∷ (0, 20, 3) ∷ []
@@ -55,13 +55,13 @@ six = atLeast 1 1 ∷ atMost 1 2 ∷ atLeast 0 0 ∷ []
 
 -- A to G, in this order.
 pub instances : map answer (A ∷ B ∷ C ∷ D ∷ E ∷ F ∷ G ∷ [])
-    ≡ trace (record { task = 2; bound = pos 9; reason = atLeast 0 0 ∷ atMost 0 7 ∷ atLeast 1 0 ∷ atMost 1 6 ∷ atLeast 2 0 ∷ [] } ∷ []) done (0 ∷ 1 ∷ 9 ∷ [])
-    ∷ trace [] (overload (atLeast 0 0 ∷ atMost 0 3 ∷ atLeast 1 0 ∷ atMost 1 3 ∷ [])) (0 ∷ 1 ∷ [])
-    ∷ trace [] done (0 ∷ 1 ∷ [])
-    ∷ trace [] (overload (atLeast 1 10 ∷ atMost 1 12 ∷ atLeast 2 10 ∷ atMost 2 12 ∷ [])) (0 ∷ 10 ∷ 10 ∷ [])
-    ∷ trace (record { task = 0; bound = pos 6; reason = six } ∷ []) emptied (0 ∷ 1 ∷ [])
-    ∷ trace (record { task = 0; bound = pos 6; reason = six } ∷ []) done (6 ∷ 1 ∷ [])
-    ∷ trace [] done (7 ∷ [])
+    ≡ trace (record { task = 2; bound = pos 9; reason = atLeast 0 0 ∷ atMost 0 7 ∷ atLeast 1 0 ∷ atMost 1 6 ∷ atLeast 2 0 ∷ [] } ∷ []) done (0 ∷ 1 ∷ 9 ∷ []) 8
+    ∷ trace [] (overload (atLeast 0 0 ∷ atMost 0 3 ∷ atLeast 1 0 ∷ atMost 1 3 ∷ [])) (0 ∷ 1 ∷ []) 2
+    ∷ trace [] done (0 ∷ 1 ∷ []) 4
+    ∷ trace [] (overload (atLeast 1 10 ∷ atMost 1 12 ∷ atLeast 2 10 ∷ atMost 2 12 ∷ [])) (0 ∷ 10 ∷ 10 ∷ []) 3
+    ∷ trace (record { task = 0; bound = pos 6; reason = six } ∷ []) emptied (0 ∷ 1 ∷ []) 4
+    ∷ trace (record { task = 0; bound = pos 6; reason = six } ∷ []) done (6 ∷ 1 ∷ []) 5
+    ∷ trace [] done (7 ∷ []) 1
     ∷ []
 unfolding propagate run outer inner conflict propagation bounds within tabulate heightFrom sort insert index numbers width root responsible theta joinOf isEmpty gray tested descentP descentEct stepP stepEct searchP searchEct thetaOf nodeOver
 instances = refl
@@ -70,7 +70,7 @@ instances = refl
 abbrev later : Input
 later = (0, 8, 1) ∷ (5, 5, 4) ∷ (0, 20, 5) ∷ []
 
-pub own-latest-start : answer later ≡ trace (record { task = 2; bound = pos 9; reason = atLeast 0 0 ∷ atMost 0 8 ∷ atLeast 1 5 ∷ atMost 1 5 ∷ atLeast 2 0 ∷ [] } ∷ []) done (0 ∷ 5 ∷ 9 ∷ [])
+pub own-latest-start : answer later ≡ trace (record { task = 2; bound = pos 9; reason = atLeast 0 0 ∷ atMost 0 8 ∷ atLeast 1 5 ∷ atMost 1 5 ∷ atLeast 2 0 ∷ [] } ∷ []) done (0 ∷ 5 ∷ 9 ∷ []) 8
 unfolding propagate run outer inner conflict propagation bounds within tabulate heightFrom sort insert index numbers width root responsible theta joinOf isEmpty gray tested descentP descentEct stepP stepEct searchP searchEct thetaOf nodeOver
 own-latest-start = refl
 
@@ -81,7 +81,7 @@ both = (0, 6, 4) ∷ (1, 5, 5) ∷ (0, 20, 3) ∷ (0, 30, 3) ∷ []
 abbrev nine : ℕ → Post
 nine i = record { task = i; bound = pos 9; reason = atLeast 0 0 ∷ atMost 0 7 ∷ atLeast 1 0 ∷ atMost 1 6 ∷ atLeast i 0 ∷ [] }
 
-pub two-raised : answer both ≡ trace (nine 3 ∷ nine 2 ∷ []) done (0 ∷ 1 ∷ 9 ∷ 9 ∷ [])
+pub two-raised : answer both ≡ trace (nine 3 ∷ nine 2 ∷ []) done (0 ∷ 1 ∷ 9 ∷ 9 ∷ []) 12
 unfolding propagate run outer inner conflict propagation bounds within tabulate heightFrom sort insert index numbers width root responsible theta joinOf isEmpty gray tested descentP descentEct stepP stepEct searchP searchEct thetaOf nodeOver
 two-raised = refl
 

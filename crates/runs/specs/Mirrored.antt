@@ -34,7 +34,7 @@ module _ (ds : List ℕ) where
 
   -- a trace in the caller's time: its starts are the latest starts
   abbrev pub mirrorTrace : Trace → Trace
-  mirrorTrace t = record { posts = map mirrorPost (t .posts); end = mirrorEnd (t .end); starts = mirrorStarts ds (t .starts) }
+  mirrorTrace t = record { posts = map mirrorPost (t .posts); end = mirrorEnd (t .end); starts = mirrorStarts ds (t .starts); changes = t .changes }
 
 -- the run on mirrored tasks, in mirrored time
 abbrev pub mirroredRun : List ℕ → List ℤ → List ℤ → Trace

@@ -64,34 +64,35 @@ module _ (o : ℕ) (J : Tasks natural) where
 
 -- the run -----------------------------------------------------------------------------------------------------------------------
 
--- The state of a run: the leaves, the starts, the posts.
+-- The state of a run: the leaves, the starts, the posts, and how many leaves were put in or taken out.
 pub record State : Type 0 where
   pub leaves : List Leaf
   pub starts : List ℕ
   pub posts : List Post
+  pub changes : ℕ
 
 -- the inner loop ends, or a post empties a range
 pub data Turn : Type 0 where
   on : State → Turn
   stop : State → Turn
 
--- `add_to_lambda` after `remove_from_theta`, and `remove_from_lambda`, at leaf x; the start of i is raised to b
+-- `add_to_lambda` after `remove_from_theta`, which are two changes, and `remove_from_lambda`, at leaf x; the start of i is raised to b
 abbrev pub grayed : State → ℕ → State
-grayed st x = record { leaves = set (st .leaves) x gray; starts = st .starts; posts = st .posts }
+grayed st x = record { leaves = set (st .leaves) x gray; starts = st .starts; posts = st .posts; changes = st .changes + 2 }
 
 abbrev pub dropped : State → ℕ → State
-dropped st x = record { leaves = set (st .leaves) x empty; starts = st .starts; posts = st .posts }
+dropped st x = record { leaves = set (st .leaves) x empty; starts = st .starts; posts = st .posts; changes = st .changes + 1 }
 
 abbrev pub raised : State → ℕ → ℕ → State
-raised st i b = record { leaves = st .leaves; starts = set (st .starts) i b; posts = st .posts }
+raised st i b = record { leaves = st .leaves; starts = set (st .starts) i b; posts = st .posts; changes = st .changes }
 
 unfoldable pub tabulate : {A : Type 0} → (ℕ → A) → ℕ → ℕ → List A
 tabulate f a zero = []
 tabulate f a (suc d) = f a ∷ tabulate f (suc a) d
 
--- every task in Θ, no post
+-- every task put into Θ, no post
 abbrev pub allWhite : Tasks natural → State
-allWhite J = record { leaves = replicate (J .count) white; starts = tabulate (J .earliest) 0 (J .count); posts = [] }
+allWhite J = record { leaves = replicate (J .count) white; starts = tabulate (J .earliest) 0 (J .count); posts = []; changes = J .count }
 
 -- The two orders are sorted.
 module _ (o : ℕ) (J : Tasks natural) (first second : List ℕ) where
@@ -110,6 +111,7 @@ module _ (o : ℕ) (J : Tasks natural) (first second : List ℕ) where
     leaves = st .leaves;
     starts = st .starts;
     posts = st .posts ++ (record { task = i; bound = instant o b; reason = propagation o J i b (lct t) (sum J first (st .leaves)) (theta J first (st .leaves)) } ∷ []);
+    changes = st .changes;
   }
 
   -- while ect_bar() > lct_j; at most f turns
@@ -130,7 +132,7 @@ module _ (o : ℕ) (J : Tasks natural) (first second : List ℕ) where
   ]
 
   abbrev pub ended : State → End → Trace
-  ended st end = record { posts = st .posts; end = end; starts = map (instant o) (st .starts) }
+  ended st end = record { posts = st .posts; end = end; starts = map (instant o) (st .starts); changes = st .changes }
 
   -- while index < tasks.len() - 1
   unfoldable pub outer : ℕ → ℕ → State → Trace

@@ -1,4 +1,4 @@
--- What a run leaves: its posts with their reasons, how it ended, and the earliest starts.
+-- What a run leaves: its posts with their reasons, how it ended, the earliest starts, and how many leaf changes it made.
 use mathlib.Core.List.{List}
 use Prim.Native.Nat.{ℕ}
 use lib.IntN.{ℤ}
@@ -20,3 +20,4 @@ pub record Trace : Type 0 where
   pub posts : List Post
   pub end : End
   pub starts : List ℤ
+  pub changes : ℕ

@@ -48,7 +48,6 @@ pub fn show_outcome(o: &Outcome, out: &mut String) {
     out.push_str(&format!("starts{}\n", join(&o.starts)));
     out.push_str(&format!("first{}\n", join(&o.first)));
     out.push_str(&format!("second{}\n", join(&o.second)));
-    out.push_str(&format!("changes {}\n", o.changes));
 }
 
 /// Mirrors a run's answer back into the caller's time.
@@ -106,6 +105,9 @@ impl Session {
         };
         let o = if mirror { mirrored_back(&o, &durations) } else { o };
         show_outcome(&o, out);
+        if !mirror {
+            out.push_str(&format!("changes {}\n", o.changes));
+        }
         Some(())
     }
 

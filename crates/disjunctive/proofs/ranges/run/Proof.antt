@@ -35,7 +35,6 @@ use denote.Signature.{plain}
 use denote.Steps.{only, opens, closes, nothing, owned, peeks, heard}
 use denote.Struct.Steps.{spelt}
 use denote.Struct.Laws as LL
-use denote.Enum.Laws as EL
 use denote.Triple.Statement.{Contract, Triple}
 use denote.Triple.Call.{calls-at}
 use denote.Triple.Clauses.{ensured, lasts}
@@ -47,8 +46,9 @@ use Rattle.integers.specs.Limits.{TASKS}
 use Rattle.records.specs.declared.record.Propagator.{Propagator}
 use Rattle.records.proofs.record.Propagator as P
 use Rattle.records.proofs.record.Propagator.Laws as P′
-use Rattle.propagator.proofs.disjunctive_propagator.Outcome as O
-use Rattle.propagator.proofs.disjunctive_propagator.Outcome.Laws as O′
+use Rattle.propagator.specs.declared.disjunctive_propagator.Finished.{Finished}
+use Rattle.propagator.proofs.disjunctive_propagator.Finished as F
+use Rattle.propagator.proofs.disjunctive_propagator.Finished.Laws as F′
 use Rattle.disjunctive.specs.Ranges.{RanCore}
 use Rattle.disjunctive.specs.RanLent.{RanLent}
 use Rattle.disjunctive.specs.declared.ranges.Range.{Range}
@@ -82,6 +82,9 @@ Arg = RefT Propagator × (RefT (List Range) × (RefT (List ℤ) × (RefT (List �
 
 abbrev stayed : Stays (f.ended .signature .params) (f.ended .kept)
 stayed = (stay-ref (0 ∷ []) tt (plain (λ _. P.the-row)), (gave-slice (1 ∷ []) tt (plain (λ _. T.the-row)), (gave-slice (2 ∷ []) tt (plain (λ _. i32)), (gave-slice (3 ∷ []) tt (plain (λ _. i32)), tt))))
+
+abbrev machF : Finished → Val
+machF d = LL.tuple-val F.the-type F′.the-laws (F.the-type .to d)
 
 abbrev core-run : Ty
 core-run = spell table (pointee (R.the-row .written))
@@ -122,15 +125,15 @@ module _ {M : Type 1} (𝓤 : URA M) (H : Heap 𝓤) (A : Atoms 𝓤) (W : Given
   abbrev Had : CoreRun → List Range → List ℤ → List ℤ → List (Item 𝓤)
   Had r zs ps ats = ‵ (fobs γ (P.the-row .coded .code (r .«record»))) ∷ ‵ (fbor κ (Body (mem P.the-row) b o γ)) ∷ ‵ (flft κ q) ∷ (‵ (flft κ₁ q₁) ⊛ ‵ ftrue) ∷ Tokens ∷ ‵ (finally T.the-row γ₁ zs) ∷ ‵ (finally i32 (xp .name) ps) ∷ ‵ (finally i32 (xa .name) ats) ∷ []
 
-  exits : (r : CoreRun) (zs : List Range) (ps ats : List ℤ) → RanLent h ys (now xp) (now xa) (r .outcome) (r .«record») zs ps ats → length zs ≡ length ys → length ps ≡ length (now xp) → length ats ≡ length (now xa)
-      → Is O.the-row (r .outcome) (EL.vals O.the-type O′.the-laws (r .outcome)) → ent 𝓤 (⋆ 𝓤 H A (Had r zs ps ats)) (Post (EL.val O.the-type O′.the-laws (r .outcome)))
+  exits : (r : CoreRun) (zs : List Range) (ps ats : List ℤ) → RanLent h ys (now xp) (now xa) (r .finished .outcome) (r .finished .changes) (r .«record») zs ps ats → length zs ≡ length ys → length ps ≡ length (now xp) → length ats ≡ length (now xa)
+      → Is F.the-row (r .finished) (machF (r .finished) ∷ []) → ent 𝓤 (⋆ 𝓤 H A (Had r zs ps ats)) (Post (machF (r .finished)))
   exits r zs ps ats e lr lp la go =
       qed W (Had r zs ps ats) ∵
-      suffices ! _ (ends-at 𝓤 H A f.ended stayed (f.clauses 𝓤 H A at-mem run) W (((κ, (κ₁, (κ₂, (κ₃, tt)))), (q, (q₁, (q₂, (q₃, tt)))), tt, x, at), tt) (EL.val O.the-type O′.the-laws (r .outcome)) (r .outcome) (r .«record», (zs, (ps, (ats, tt)))) (tt, (lr, (lp, (la, tt))))) $ says ! e $
+      suffices ! _ (ends-at 𝓤 H A f.ended stayed (f.clauses 𝓤 H A at-mem run) W (((κ, (κ₁, (κ₂, (κ₃, tt)))), (q, (q₁, (q₂, (q₃, tt)))), tt, x, at), tt) (machF (r .finished)) (r .finished) (r .«record», (zs, (ps, (ats, tt)))) (tt, (lr, (lp, (la, tt))))) $ says ! e $
       move ! (3 ∷ []) $ split ! $ move ! (0 ∷ 5 ∷ []) $ join ! $ move ! (4 ∷ 0 ∷ []) $ join ! $ frame ! $
       -- [true; the record's obs; its borrow; the last ranges; the last posts; the last atoms]
       move ! (5 ∷ 0 ∷ []) $ fjoin ! $ move ! (4 ∷ 0 ∷ []) $ fjoin ! $ move ! (3 ∷ 0 ∷ []) $ fjoin ! $ move ! (1 ∷ 2 ∷ 0 ∷ []) $ feqI ! (List Val) (vptr b o ∷ []) (vptr b o ∷ []) refl $ fjoin3 ! $ fjoin ! $
-      owned ! O.the-row (Is O.the-row) ((EL.makes O.the-type O′.the-plain) 𝓤 H A) (r .outcome) _ go $ move ! (1 ∷ 0 ∷ []) $ done !
+      owned ! F.the-row (Is F.the-row) ((LL.makes F.the-type F′.the-plain) 𝓤 H A) (r .finished) _ go $ move ! (1 ∷ 0 ∷ []) $ done !
 
   -- what `run_core` is passed, and what it owns of that
   abbrev ArgC : Type 0
@@ -198,14 +201,14 @@ module _ {M : Type 1} (𝓤 : URA M) (H : Heap 𝓤) (A : Atoms 𝓤) (W : Given
         -- the record is stored, and its borrow closed
         -- [the ranges' token; the last ranges; the tokens of both; the last atoms; true; the last posts; the record's cell; its open borrow; obs; auth; _16; …; _0; …]
         assigns ! (of-opd ! (load ! (from ! (fld ! refl (stop !))) (look-in ! 30 (sub ! 0 refl (whole !))))) (from ! (hop ! (look ! 40 refl) (stop !))) (store ! 6 refl (LL.lawful P.the-type P′.the-laws 𝓤 H A W .typed (r .«record») (machP (r .«record») ∷ []) (LL.owed R.the-type R′.the-laws r _ is₂ .0) .0)) $
-        assigns ! (of-opd ! (load ! (from ! (fld ! refl (stop !))) (look-in ! 30 (sub ! 1 refl (whole !))))) (from ! (stop !)) (init ! 42 refl (EL.lawful O.the-type O′.the-laws 𝓤 H A W tt .typed (r .outcome) (EL.vals O.the-type O′.the-laws (r .outcome)) (LL.owed R.the-type R′.the-laws r _ is₂ .1 .0) .0)) $
+        assigns ! (of-opd ! (load ! (from ! (fld ! refl (stop !))) (look-in ! 30 (sub ! 1 refl (whole !))))) (from ! (stop !)) (init ! 42 refl (LL.lawful F.the-type F′.the-laws 𝓤 H A W .typed (r .finished) (machF (r .finished) ∷ []) (LL.owed R.the-type R′.the-laws r _ is₂ .1 .0) .0)) $
         move ! (6 ∷ []) $ use1 W (‵ (cellAt fullShare (P.the-row .mir) (machP (r .«record») ∷ []) b o)) (W .laws .at-raw fullShare P′.mir b o (machP (r .«record»))) $
         owned ! P.the-row (Is P.the-row) ((LL.makes P.the-type P′.the-plain) 𝓤 H A) (r .«record») _ (LL.owed R.the-type R′.the-laws r _ is₂ .0) $ move ! (1 ∷ 0 ∷ 8 ∷ 9 ∷ 10 ∷ []) $ closes ! tt P.the-row (r .«record») (machP (r .«record») ∷ []) b o $
         -- [the record's obs; its borrow; its token; the ranges' token; the last ranges; the tokens of both; the last atoms; true; the last posts; _16; …; _0; …]
         returns ! (look ! 41 refl) $ forget ! 41 refl $ forget ! 39 refl $ forget ! 37 refl $ forget ! 35 refl $ forget ! 33 refl $ forget ! 31 refl $ forget ! 29 refl $ forget ! 27 refl $ forget ! 25 refl $ forget ! 23 refl $ forget ! 21 refl $ forget ! 19 refl $ forget ! 17 refl $ forget ! 15 refl $ forget ! 13 refl $ forget ! 11 refl $ forget ! 9 refl $
         move ! (41 ∷ 42 ∷ []) $ free1 ! $ move ! (39 ∷ 40 ∷ []) $ free1 ! $ move ! (37 ∷ 38 ∷ []) $ free1 ! $ move ! (35 ∷ 36 ∷ []) $ free1 ! $ move ! (33 ∷ 34 ∷ []) $ free1 ! $ move ! (31 ∷ 32 ∷ []) $ free1 ! $ move ! (29 ∷ 30 ∷ []) $ free1 ! $ move ! (27 ∷ 28 ∷ []) $ free1 ! $ move ! (25 ∷ 26 ∷ []) $ free1 ! $ move ! (23 ∷ 24 ∷ []) $ free1 ! $ move ! (21 ∷ 22 ∷ []) $ free1 ! $ move ! (19 ∷ 20 ∷ []) $ free1 ! $ move ! (17 ∷ 18 ∷ []) $ free1 ! $ move ! (15 ∷ 16 ∷ []) $ free1 ! $ move ! (13 ∷ 14 ∷ []) $ free1 ! $ move ! (11 ∷ 12 ∷ []) $ free1 ! $ move ! (9 ∷ 10 ∷ []) $ free1 ! $ free0 ! $
         keep ! (0 ∷ 1 ∷ 2 ∷ 3 ∷ 5 ∷ 4 ∷ 8 ∷ 6 ∷ []) $
-        by ! (exits r zs (us .1 .1 .0) (us .1 .1 .1 .0) (subst (λ (rs : List Range). RanLent h ys (now xp) (now xa) (r .outcome) (r .«record») rs (us .1 .1 .0) (us .1 .1 .1 .0)) (sym e₃) (lent h ys (now xp) (now xa) r (us .1 .1 .0) (us .1 .1 .1 .0)
+        by ! (exits r zs (us .1 .1 .0) (us .1 .1 .1 .0) (subst (λ (rs : List Range). RanLent h ys (now xp) (now xa) (r .finished .outcome) (r .finished .changes) (r .«record») rs (us .1 .1 .0) (us .1 .1 .1 .0)) (sym e₃) (lent h ys (now xp) (now xa) r (us .1 .1 .0) (us .1 .1 .1 .0)
         (subst (λ (st : Starts). RanCore h st (now xp) (now xa) r (us .1 .1 .0) (us .1 .1 .1 .0)) e₁ e₂))) lr lp la (LL.owed R.the-type R′.the-laws r _ is₂ .1 .0))))))))))))))))))))))))))))))
 
 module _ {M : Type 1} (𝓤 : URA M) (H : Heap 𝓤) (A : Atoms 𝓤) (W : Given 𝓤 H A) (at-mem : Memory → SProp 𝓤) (run : Routine → Fun 𝓤) where

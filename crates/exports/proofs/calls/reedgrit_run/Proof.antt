@@ -1,4 +1,4 @@
--- `calls::reedgrit_run` meets its contract: a walk of its MIR, by hand. The record, the ranges, the posts and the atoms are passed on to the open run for good; what that ensures is kept, and the numbers of its outcome are returned.
+-- `calls::reedgrit_run` meets its contract: a walk of its MIR, by hand. The record, the ranges, the posts and the atoms are passed on to the open run for good; what that ensures is kept, and the numbers of its outcome and its leaf changes are returned.
 -- Assumes nothing.
 use mathlib.Core.Path.{_≡_, refl}
 use Prim.Native.Nat.{ℕ}
@@ -28,7 +28,6 @@ use denote.Slice.{sliceVal, MutSlice, Room, slice-vals, mut-slice-tells, finally
 use denote.Signature.{plain}
 use denote.Steps.{nothing, peeks, heard}
 use denote.Struct.Laws as LL
-use denote.Enum.Laws as EL
 use denote.Triple.Statement.{Contract, Triple}
 use denote.Triple.Call.{calls-at}
 use denote.Triple.Clauses.{ensured, lasts}
@@ -38,9 +37,9 @@ use denote.Triple.Table.{entered, cited}
 use denote.Triple.Walked.{says, Stays, gave-ref, gave-slice, walkOf, Walks, ends-at, walked, goes-gave-ref, goes-gave-slice, walk-meets}
 use Rattle.records.specs.declared.record.Propagator.{Propagator}
 use Rattle.records.proofs.record.Propagator as P
-use Rattle.propagator.specs.declared.disjunctive_propagator.Outcome.{Outcome}
-use Rattle.propagator.proofs.disjunctive_propagator.Outcome as O
-use Rattle.propagator.proofs.disjunctive_propagator.Outcome.Laws as O′
+use Rattle.propagator.specs.declared.disjunctive_propagator.Finished.{Finished}
+use Rattle.propagator.proofs.disjunctive_propagator.Finished as F
+use Rattle.propagator.proofs.disjunctive_propagator.Finished.Laws as F′
 use Rattle.propagator.specs.Outcomes.{outcomeNumbers}
 use Rattle.disjunctive.specs.RanLent.{RanLent}
 use Rattle.disjunctive.specs.declared.ranges.Range.{Range}
@@ -54,10 +53,10 @@ use Rattle.exports.specs.Calls.{RanNumbers}
 use Rattle.exports.specs.declared.answers.RunAnswer.{RunAnswer}
 use Rattle.exports.proofs.answers.RunAnswer as N
 use Rattle.exports.proofs.answers.RunAnswer.Laws as N′
-use Rattle.exports.proofs.answers.outcome_numbers as numbers
-use Rattle.exports.proofs.answers.outcome_numbers.Symbol as numbers-def
-use Rattle.exports.proofs.answers.outcome_numbers.Symbol.{name as #numbers}
-use Rattle.exports.proofs.answers.outcome_numbers.Met as numbers-thm
+use Rattle.exports.proofs.answers.finished_numbers as numbers
+use Rattle.exports.proofs.answers.finished_numbers.Symbol as numbers-def
+use Rattle.exports.proofs.answers.finished_numbers.Symbol.{name as #numbers}
+use Rattle.exports.proofs.answers.finished_numbers.Met as numbers-thm
 use Rattle.exports.proofs.calls.reedgrit_run.Key.{name as #reedgrit-run}
 use Rattle.exports.proofs.calls.reedgrit_run as f
 use Rattle.exports.proofs.calls.reedgrit_run.Statement as stated
@@ -81,8 +80,8 @@ module _ {M : Type 1} (𝓤 : URA M) (H : Heap 𝓤) (A : Atoms 𝓤) (at-mem : 
   abbrev Numbers : Contract 𝓤
   Numbers = tripleOf 𝓤 H A numbers.signature (numbers.spec 𝓤 H A at-mem run)
 
-  numbers-said : (r : Outcome) (a : RunAnswer) → ent 𝓤 (ensured 𝓤 H A numbers.ended (numbers.clauses 𝓤 H A at-mem run) tt (r, tt) tt a) (fact 𝓤 (a ≡ runAnswer (outcomeNumbers r)))
-  numbers-said r a = exE 𝓤 _ (λ ws. snd∗ 𝓤 (sem 𝓤 H A (lasts numbers.ended tt (r, tt) ws)) (fact 𝓤 (a ≡ runAnswer (outcomeNumbers r))))
+  numbers-said : (r : Finished) (a : RunAnswer) → ent 𝓤 (ensured 𝓤 H A numbers.ended (numbers.clauses 𝓤 H A at-mem run) tt (r, tt) tt a) (fact 𝓤 (a ≡ runAnswer (outcomeNumbers (r .outcome)) (r .changes)))
+  numbers-said r a = exE 𝓤 _ (λ ws. snd∗ 𝓤 (sem 𝓤 H A (lasts numbers.ended tt (r, tt) ws)) (fact 𝓤 (a ≡ runAnswer (outcomeNumbers (r .outcome)) (r .changes))))
 
 module _ {M : Type 1} (𝓤 : URA M) (H : Heap 𝓤) (A : Atoms 𝓤) (W : Given 𝓤 H A) (at-mem : Memory → SProp 𝓤) (run : Routine → Fun 𝓤) (κ κ₁ κ₂ κ₃ : Lft) (q q₁ q₂ q₃ : Share) (xo : RefT Propagator) (xr : RefT (List Range)) (xp xa : RefT (List ℤ)) where
   -- the machine values of the reference and of the three slices
@@ -114,8 +113,8 @@ module _ {M : Type 1} (𝓤 : URA M) (H : Heap 𝓤) (A : Atoms 𝓤) (W : Given
   Owns = owns (MutRef (named 0) κ P.the-row ∷ MutSlice (named 1) κ₁ T.the-row ∷ MutSlice (named 2) κ₂ i32 ∷ MutSlice (named 3) κ₃ i32 ∷ []) x at
 
   -- what the open run says of what it leaves
-  abbrev Leaves : Outcome → Last → Type 0
-  Leaves r us = RanLent (now xo) (now xr) (now xp) (now xa) r (us .0) (us .1 .0) (us .1 .1 .0) (us .1 .1 .1 .0)
+  abbrev Leaves : Finished → Last → Type 0
+  Leaves r us = RanLent (now xo) (now xr) (now xp) (now xa) (r .outcome) (r .changes) (us .0) (us .1 .0) (us .1 .1 .0) (us .1 .1 .1 .0)
 
   abbrev Had : RunAnswer → Val → Last → List (Item 𝓤)
   Had a v us = ‵ (N.the-row .own a (v ∷ [])) ∷ Tokens ∷ ‵ (finally i32 (xa .name) (us .1 .1 .1 .0)) ∷ ‵ (finally i32 (xp .name) (us .1 .1 .0)) ∷ ‵ (finally T.the-row (xr .name) (us .1 .0)) ∷ ‵ (fres (xo .name) (P.the-row .coded .code (us .0))) ∷ []
@@ -135,11 +134,11 @@ module _ {M : Type 1} (𝓤 : URA M) (H : Heap 𝓤) (A : Atoms 𝓤) (W : Given
   goes-lent : ent 𝓤 (sep 𝓤 (sep 𝓤 (A .lft κ q) (sep 𝓤 (A .lft κ₁ q₁) (sep 𝓤 (A .lft κ₂ q₂) (sep 𝓤 (A .lft κ₃ q₃) (sem 𝓤 H A ftrue))))) (sem 𝓤 H A Owns)) (Lent 𝓤 H A at-mem run .pre to-lent)
   goes-lent = qed W (Tokens ∷ ‵ Owns ∷ []) ∵ join ! $ frame ! $ done !
 
-  abbrev to-numbers : Outcome → Val → Numbers 𝓤 H A at-mem run .Ghost
+  abbrev to-numbers : Finished → Val → Numbers 𝓤 H A at-mem run .Ghost
   to-numbers r v = ((tt, tt, tt, (r, tt), (v ∷ [], tt)), tt)
 
-  goes-numbers : (r : Outcome) (v : Val) → ent 𝓤 (sem 𝓤 H A (O.the-row .own r (v ∷ []))) (Numbers 𝓤 H A at-mem run .pre (to-numbers r v))
-  goes-numbers r v = qed W (‵ (O.the-row .own r (v ∷ [])) ∷ []) ∵ nothing ! $ move ! (1 ∷ 0 ∷ []) $ fjoin ! $ nothing ! $ join ! $ frame ! $ done !
+  goes-numbers : (r : Finished) (v : Val) → ent 𝓤 (sem 𝓤 H A (F.the-row .own r (v ∷ []))) (Numbers 𝓤 H A at-mem run .pre (to-numbers r v))
+  goes-numbers r v = qed W (‵ (F.the-row .own r (v ∷ [])) ∷ []) ∵ nothing ! $ move ! (1 ∷ 0 ∷ []) $ fjoin ! $ nothing ! $ join ! $ frame ! $ done !
 
   module _ (C : Calls 𝓤 H) (Λ : Loops 𝓤 H) (fm : FmC 𝓤 H (W .laws) C) (known-lent : Triple 𝓤 (C #lent) (Lent 𝓤 H A at-mem run)) (known-numbers : Triple 𝓤 (C #numbers) (Numbers 𝓤 H A at-mem run))
       (g : Room T.the-row (length (now xr))) (gp : Room i32 (length (now xp))) (ga : Room i32 (length (now xa))) where
@@ -159,25 +158,25 @@ module _ {M : Type 1} (𝓤 : URA M) (H : Heap 𝓤) (A : Atoms 𝓤) (W : Given
         -- all four are passed on for good
         move ! (26 ∷ 27 ∷ []) $ use2 W (raw (Lent 𝓤 H A at-mem run .pre to-lent)) goes-lent $
         calls-at ! fm (Lent 𝓤 H A at-mem run) known-lent to-lent (and-then ! (load ! (from ! (stop !)) (look ! 13 refl)) (and-then ! (load ! (from ! (stop !)) (look ! 9 refl)) (and-then ! (load ! (from ! (stop !)) (look ! 5 refl)) (and-then ! (load ! (from ! (stop !)) (look ! 1 refl)) (no-more !))))) (λ v.
-        use1 W (later (some (λ (r : Outcome). (Tokens ⊛ ‵ (O.the-row .own r (v ∷ []))) ⊛ raw (ensured 𝓤 H A lent.ended (lent.clauses 𝓤 H A at-mem run) (κ, (κ₁, (κ₂, (κ₃, tt)))) x tt r)))) (id⊢ 𝓤 _) $ await ! tt $ pick ! (λ r.
+        use1 W (later (some (λ (r : Finished). (Tokens ⊛ ‵ (F.the-row .own r (v ∷ []))) ⊛ raw (ensured 𝓤 H A lent.ended (lent.clauses 𝓤 H A at-mem run) (κ, (κ₁, (κ₂, (κ₃, tt)))) x tt r)))) (id⊢ 𝓤 _) $ await ! tt $ pick ! (λ r.
         split ! $ move ! (1 ∷ []) $ use1 W (some (λ (us : Last). ‵ (lasts lent.ended (κ, (κ₁, (κ₂, (κ₃, tt)))) x us) ⊛ raw (fact 𝓤 (Leaves r us)))) (id⊢ 𝓤 _) $ pick ! (λ us.
         split ! $ move ! (1 ∷ []) $ heard ! (Leaves r us) (λ e₁.
         fsplit ! $ move ! (1 ∷ []) $ fsplit ! $ fsplit ! $ move ! (1 ∷ []) $ feqL ! (λ lr. move ! (1 ∷ []) $ fsplit ! $ fsplit ! $ move ! (1 ∷ []) $ feqL ! (λ lp. move ! (1 ∷ []) $ fsplit ! $ fsplit ! $ move ! (1 ∷ []) $ feqL ! (λ la.
-        -- [the last atoms; true; the last posts; the last ranges; the last record; the tokens, what the outcome owns; _12; …; _0; …]
-        move ! (5 ∷ []) $ split ! $ move ! (1 ∷ []) $ peeks ! O.the-row (Is O.the-row) (shows 𝓤 H A O.the-row) r (v ∷ []) (λ is₁.
-        land ! (from ! (stop !)) (init ! 21 refl (EL.lawful O.the-type O′.the-laws 𝓤 H A W tt .typed r _ is₁ .0)) $
-        -- [what the outcome owns; the tokens; the last atoms; true; the last posts; the last ranges; the last record; _12; …; _0; …]
+        -- [the last atoms; true; the last posts; the last ranges; the last record; the tokens, what the result owns; _12; …; _0; …]
+        move ! (5 ∷ []) $ split ! $ move ! (1 ∷ []) $ peeks ! F.the-row (Is F.the-row) (shows 𝓤 H A F.the-row) r (v ∷ []) (λ is₁.
+        land ! (from ! (stop !)) (init ! 21 refl (LL.lawful F.the-type F′.the-laws 𝓤 H A W .typed r _ is₁ .0)) $
+        -- [what the result owns; the tokens; the last atoms; true; the last posts; the last ranges; the last record; _12; …; _0; …]
         use1 W (raw (Numbers 𝓤 H A at-mem run .pre (to-numbers r v))) (goes-numbers r v) $
         calls-at ! fm (Numbers 𝓤 H A at-mem run) known-numbers (to-numbers r v) (and-then ! (load ! (from ! (stop !)) (look ! 21 refl)) (no-more !)) (λ w.
         use1 W (later (some (λ (a : RunAnswer). (‵ ftrue ⊛ ‵ (N.the-row .own a (w ∷ []))) ⊛ raw (ensured 𝓤 H A numbers.ended (numbers.clauses 𝓤 H A at-mem run) tt (r, tt) tt a)))) (id⊢ 𝓤 _) $ await ! tt $ pick ! (λ a.
-        split ! $ move ! (1 ∷ []) $ use1 W (raw (fact 𝓤 (a ≡ runAnswer (outcomeNumbers r)))) (numbers-said 𝓤 H A at-mem run r a) $ heard ! (a ≡ runAnswer (outcomeNumbers r)) (λ e₂. split ! $ move ! (1 ∷ []) $
+        split ! $ move ! (1 ∷ []) $ use1 W (raw (fact 𝓤 (a ≡ runAnswer (outcomeNumbers (r .outcome)) (r .changes)))) (numbers-said 𝓤 H A at-mem run r a) $ heard ! (a ≡ runAnswer (outcomeNumbers (r .outcome)) (r .changes)) (λ e₂. split ! $ move ! (1 ∷ []) $
         peeks ! N.the-row (Is N.the-row) (shows 𝓤 H A N.the-row) a (w ∷ []) (λ is₂.
         land ! (from ! (stop !)) (init ! 32 refl (LL.lawful N.the-type N′.the-laws 𝓤 H A W .typed a _ is₂ .0)) $
         -- [what the answer owns; true; the tokens; the last atoms; true; the last posts; the last ranges; the last record; _12; …; _0; …]
         returns ! (look ! 32 refl) $ forget ! 32 refl $ forget ! 30 refl $ forget ! 28 refl $ forget ! 26 refl $ forget ! 24 refl $ forget ! 22 refl $ forget ! 20 refl $ forget ! 18 refl $ forget ! 16 refl $ forget ! 14 refl $ forget ! 12 refl $ forget ! 10 refl $ forget ! 8 refl $
         move ! (32 ∷ 33 ∷ []) $ free1 ! $ move ! (30 ∷ 31 ∷ []) $ free1 ! $ move ! (28 ∷ 29 ∷ []) $ free1 ! $ move ! (26 ∷ 27 ∷ []) $ free1 ! $ move ! (24 ∷ 25 ∷ []) $ free1 ! $ move ! (22 ∷ 23 ∷ []) $ free1 ! $ move ! (20 ∷ 21 ∷ []) $ free1 ! $ move ! (18 ∷ 19 ∷ []) $ free1 ! $ move ! (16 ∷ 17 ∷ []) $ free1 ! $ move ! (14 ∷ 15 ∷ []) $ free1 ! $ move ! (12 ∷ 13 ∷ []) $ free1 ! $ move ! (10 ∷ 11 ∷ []) $ free1 ! $ move ! (8 ∷ 9 ∷ []) $ free1 ! $ free0 ! $
         keep ! (0 ∷ 2 ∷ 3 ∷ 5 ∷ 6 ∷ 7 ∷ []) $
-        by ! (exits a w us (record { outcome = r; numbers = e₂; ran = e₁ }) lr lp la))))))))))))))))))))))))))
+        by ! (exits a w us (record { finished = r; numbers = e₂; ran = e₁ }) lr lp la))))))))))))))))))))))))))
 
 module _ {M : Type 1} (𝓤 : URA M) (H : Heap 𝓤) (A : Atoms 𝓤) (W : Given 𝓤 H A) (at-mem : Memory → SProp 𝓤) (run : Routine → Fun 𝓤) where
   f-walks : (C : Calls 𝓤 H) (Λ : Loops 𝓤 H) → FmC 𝓤 H (W .laws) C → Triple 𝓤 (C #lent) (Lent 𝓤 H A at-mem run) → Triple 𝓤 (C #numbers) (Numbers 𝓤 H A at-mem run) → Walks 𝓤 H A f.ended stayed (WpFn 𝓤 H C Λ code.function) (f.clauses 𝓤 H A at-mem run)
@@ -199,4 +198,4 @@ reedgrit-run-spec 𝓤 H 𝓜 𝓖 𝓡 =
     (tables 𝓤 H 𝓜 𝓡 code.env .C) (tables 𝓤 H 𝓜 𝓡 code.env .Λ) #reedgrit-run code.function (code.unfolded 𝓤 H 𝓜 𝓡)
     (f-meets 𝓤 H (𝓖 .A) (givenOf 𝓤 H 𝓜 𝓖) (𝓜 .mem) (𝓡 .run) (tablesOf 𝓤 H 𝓜 (tables 𝓤 H 𝓜 𝓡 code.env))
     (cited 𝓤 H (Lent 𝓤 H (𝓖 .A) (𝓜 .mem) (𝓡 .run)) 𝓜 𝓡 code.env #lent lent-def.routine code.calls-disjunctive·ranges·run (lent-thm.met 𝓤 H 𝓜 𝓖 𝓡))
-    (cited 𝓤 H (Numbers 𝓤 H (𝓖 .A) (𝓜 .mem) (𝓡 .run)) 𝓜 𝓡 code.env #numbers numbers-def.routine code.calls-exports·answers·outcome-numbers (numbers-thm.met 𝓤 H 𝓜 𝓖 𝓡)))
+    (cited 𝓤 H (Numbers 𝓤 H (𝓖 .A) (𝓜 .mem) (𝓡 .run)) 𝓜 𝓡 code.env #numbers numbers-def.routine code.calls-exports·answers·finished-numbers (numbers-thm.met 𝓤 H 𝓜 𝓖 𝓡)))

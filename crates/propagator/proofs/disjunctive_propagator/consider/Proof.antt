@@ -12,7 +12,7 @@ use mir.Syntax.{w32}
 use Rattle.trees.specs.Nodes.{emptyOf}
 use Rattle.trees.specs.Puts.{Puttable, Put}
 use Rattle.propagator.specs.Turns.{Standing, Responsible-for}
-use Rattle.propagator.proofs.Considering.{few, inner-few, known, post-room, many-atoms, start-inside, may-clear, asked, emptied, raised-on, passed-on}
+use Rattle.propagator.proofs.Considering.{few, inner-few, few-changes, known, post-room, many-atoms, start-inside, may-clear, asked, emptied, raised-on, passed-on}
 use Rattle.propagator.proofs.disjunctive_propagator.consider.Statement.{statement}
 use Rattle.propagator.proofs.disjunctive_propagator.consider.Tie as tie
 
@@ -47,10 +47,13 @@ element-copy-out-if1 c = index (c .before .before .before)
 remove-from-lambda-requires : tie.Need-remove-from-lambda-requires
 remove-from-lambda-requires c κs = place-may (c .before .before .before)
 
+add-changes : tie.Need-add-changes
+add-changes c = omega (arith, few-changes (asks (c .before .before .before .before .before .before .before .before) .2))
+
 returns : tie.Need-returns
 returns c = λ height x s r.
-    let at = c .before .before .before .before in
-    passed-on s r (at .before .ect .result) (at .before .ect .ensures) (omega arith) (place-put at (c .remove-from-lambda .ensures))
+    let at = c .before .before .before .before .before in
+    passed-on s r (at .before .ect .result) (at .before .ect .ensures) (omega arith) (place-put at (c .before .remove-from-lambda .ensures))
 
 post-requires : tie.Need-post-requires
 post-requires c κs =
@@ -79,14 +82,17 @@ returns-2 c = λ height x s r.
 start-of-requires : tie.Need-start-of-requires
 start-of-requires c κs = search needs
 
-mul-t20 : tie.Need-mul-t20
-mul-t20 c = omega (arith, index (c .before .before .before .before .before .before .before .before .before .before .before .before .before .before))
+mul-t22 : tie.Need-mul-t22
+mul-t22 c = omega (arith, index (c .before .before .before .before .before .before .before .before .before .before .before .before .before .before))
 
 slice-set-from-earliest : tie.Need-slice-set-from-earliest
 slice-set-from-earliest c = start-inside (asks (c .before .before .before .before .before .before .before .before .before .before .before .before .before .before) .2) (asks (c .before .before .before .before .before .before .before .before .before .before .before .before .before .before) .3)
 
 remove-from-lambda-requires-2 : tie.Need-remove-from-lambda-requires-2
 remove-from-lambda-requires-2 c κs = place-may (c .before .before .before .before .before .before .before .before .before .before .before .before)
+
+add-changes-2 : tie.Need-add-changes-2
+add-changes-2 c = omega (arith, c .before .before .before .before .before .before .before .before .post .ensures .changes, few-changes (asks (c .before .before .before .before .before .before .before .before .before .before .before .before .before .before .before .before .before) .2))
 
 same-length-3 : tie.Need-same-length-3
 same-length-3 c = search needs
@@ -99,9 +105,9 @@ same-length-5 c = search needs
 
 returns-3 : tie.Need-returns-3
 returns-3 c = λ height x s r.
-    let post = c .before .before .before .before .before .before .before in
+    let post = c .before .before .before .before .before .before .before .before in
     let at = post .before .before .before .before .before .before in
-    raised-on s r (at .before .ect .result) (at .before .ect .ensures) (post .post .ensures) (omega arith) (omega arith) (ap (set (at .before .before .before .args .earliest .now) (at .before .before .before .args .id .0)) (back-of w32 (c .before .before .start-of .result) (c .before .before .start-of .ok) ∙ c .before .before .start-of .ensures)) (place-put at (c .remove-from-lambda2 .ensures))
+    raised-on s r (at .before .ect .result) (at .before .ect .ensures) (post .post .ensures) (omega arith) (omega arith) (ap (set (at .before .before .before .args .earliest .now) (at .before .before .before .args .id .0)) (back-of w32 (c .before .before .before .start-of .result) (c .before .before .before .start-of .ok) ∙ c .before .before .before .start-of .ensures)) (place-put at (c .before .remove-from-lambda2 .ensures))
 
 pub consider-spec : {M : Type 1} → statement M
 consider-spec =
@@ -112,6 +118,7 @@ consider-spec =
     mul-if1
     element-copy-out-if1
     remove-from-lambda-requires
+    add-changes
     returns
     post-requires
     mul-if2
@@ -120,9 +127,10 @@ consider-spec =
     same-length-2
     returns-2
     start-of-requires
-    mul-t20
+    mul-t22
     slice-set-from-earliest
     remove-from-lambda-requires-2
+    add-changes-2
     same-length-3
     same-length-4
     same-length-5

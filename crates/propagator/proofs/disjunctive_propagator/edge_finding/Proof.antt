@@ -13,7 +13,7 @@ use Rattle.propagator.specs.declared.disjunctive_propagator.Turn.{Turn}
 use Rattle.propagator.specs.declared.disjunctive_propagator.Written.{Written}
 use Rattle.propagator.specs.Turns.{AllConsidered}
 use Rattle.propagator.specs.Finding.{Begun}
-use Rattle.propagator.proofs.Levels.{Level, few, candidate-small, first-level, all-done, over-asked, over-inner, overloads, moves, goes-on, one-more, one-emptied}
+use Rattle.propagator.proofs.Levels.{Level, few, candidate-small, first-level, all-done, over-asked, over-inner, few-changes, overloads, moves, goes-on, one-more, one-emptied}
 use Rattle.propagator.proofs.disjunctive_propagator.edge_finding.Statement.{statement}
 use Rattle.propagator.proofs.disjunctive_propagator.edge_finding.Tie as tie
 
@@ -103,6 +103,11 @@ move-to-lambda-requires c κs =
     let v = c .before .before .before .before .before .before .before .loop .inv in
     moves (v .begun) (v .level (v .begun)) (task (c .before .before .before .before .before .before)) (end (c .before .before .before .before .before .before)) (more (c .before .before .before .before .before .before)) refl refl
 
+add-changes : tie.Need-add-changes Inv-loop μ-loop
+add-changes c =
+    let v = c .before .before .before .before .before .before .before .before .before .loop .inv in
+    omega (arith, few-changes (v .begun) (v .level (v .begun)) (task (c .before .before .before .before .before .before .before .before)) (end (c .before .before .before .before .before .before .before .before)) (more (c .before .before .before .before .before .before .before .before)) refl refl)
+
 add-index : tie.Need-add-index Inv-loop μ-loop
 add-index c = search needs
 
@@ -113,15 +118,15 @@ element-copy-out-lct-next : tie.Need-element-copy-out-lct-next Inv-loop μ-loop
 element-copy-out-lct-next c = search needs
 
 mul-lct-next-2 : tie.Need-mul-lct-next-2 Inv-loop μ-loop
-mul-lct-next-2 c = omega (arith, following (c .before .before .before .before .before .before .before .before))
+mul-lct-next-2 c = omega (arith, following (c .before .before .before .before .before .before .before .before .before))
 
 element-copy-out-lct-next-2 : tie.Need-element-copy-out-lct-next-2 Inv-loop μ-loop
-element-copy-out-lct-next-2 c = following (c .before .before .before .before .before .before .before .before)
+element-copy-out-lct-next-2 c = following (c .before .before .before .before .before .before .before .before .before)
 
 consider-all-requires : tie.Need-consider-all-requires Inv-loop μ-loop
 consider-all-requires c κs =
-    let v = c .before .before .before .before .before .before .before .before .before .before .before .before .before .before .loop .inv in
-    goes-on (v .begun) (v .level (v .begun)) (task (c .before .before .before .before .before .before .before .before .before .before .before .before .before)) (end (c .before .before .before .before .before .before .before .before .before .before .before .before .before)) (more (c .before .before .before .before .before .before .before .before .before .before .before .before .before)) refl refl (quiet (c .before .before .before .before .before .before)) (c .before .before .before .before .before .before .move-to-lambda .ensures) (getD (c .before .before .before .before .before .before .before .before .before .before .before .before .before .before .before .args .lct .now) (getD (c .before .before .before .before .before .before .before .before .before .before .before .before .before .before .before .args .candidates .now) (c .before .before .before .before .before .before .before .before .before .before .before .before .before .before .loop .index + 1) 0) 0) refl
+    let v = c .before .before .before .before .before .before .before .before .before .before .before .before .before .before .before .loop .inv in
+    goes-on (v .begun) (v .level (v .begun)) (task (c .before .before .before .before .before .before .before .before .before .before .before .before .before .before)) (end (c .before .before .before .before .before .before .before .before .before .before .before .before .before .before)) (more (c .before .before .before .before .before .before .before .before .before .before .before .before .before .before)) refl refl (quiet (c .before .before .before .before .before .before .before)) (c .before .before .before .before .before .before .before .move-to-lambda .ensures) (getD (c .before .before .before .before .before .before .before .before .before .before .before .before .before .before .before .before .args .lct .now) (getD (c .before .before .before .before .before .before .before .before .before .before .before .before .before .before .before .before .args .candidates .now) (c .before .before .before .before .before .before .before .before .before .before .before .before .before .before .before .loop .index + 1) 0) 0) refl
 
 enum-known-turn : tie.Need-enum-known-turn Inv-loop μ-loop
 enum-known-turn c = search needs
@@ -131,16 +136,16 @@ loop-less c = search needs
 
 loop-again : tie.Need-loop-again Inv-loop μ-loop
 loop-again c =
-    let v = c .before .before .before .before .before .before .before .before .before .before .before .before .before .before .before .before .before .before .before .before .before .loop .inv in
+    let v = c .before .before .before .before .before .before .before .before .before .before .before .before .before .before .before .before .before .before .before .before .before .before .loop .inv in
     record {
       begun = v .begun;
       level = λ s.
           let l = v .level s in
-          let d = getD (c .before .before .before .before .before .before .before .before .before .before .before .before .before .before .before .before .before .before .before .before .before .before .args .lct .now) (getD (c .before .before .before .before .before .before .before .before .before .before .before .before .before .before .before .before .before .before .before .before .before .before .args .candidates .now) (c .before .before .before .before .before .before .before .before .before .before .before .before .before .before .before .before .before .before .before .before .before .loop .index + 1) 0) 0 in
-          let g = goes-on s l (task (c .before .before .before .before .before .before .before .before .before .before .before .before .before .before .before .before .before .before .before .before)) (end (c .before .before .before .before .before .before .before .before .before .before .before .before .before .before .before .before .before .before .before .before)) (more (c .before .before .before .before .before .before .before .before .before .before .before .before .before .before .before .before .before .before .before .before)) refl refl (quiet (c .before .before .before .before .before .before .before .before .before .before .before .before .before)) (c .before .before .before .before .before .before .before .before .before .before .before .before .before .move-to-lambda .ensures) d refl in
-          one-more s l (task (c .before .before .before .before .before .before .before .before .before .before .before .before .before .before .before .before .before .before .before .before)) (end (c .before .before .before .before .before .before .before .before .before .before .before .before .before .before .before .before .before .before .before .before)) (more (c .before .before .before .before .before .before .before .before .before .before .before .before .before .before .before .before .before .before .before .before)) refl refl (quiet (c .before .before .before .before .before .before .before .before .before .before .before .before .before)) (c .before .before .before .before .before .before .before .before .before .before .before .before .before .move-to-lambda .ensures) d refl
+          let d = getD (c .before .before .before .before .before .before .before .before .before .before .before .before .before .before .before .before .before .before .before .before .before .before .before .args .lct .now) (getD (c .before .before .before .before .before .before .before .before .before .before .before .before .before .before .before .before .before .before .before .before .before .before .before .args .candidates .now) (c .before .before .before .before .before .before .before .before .before .before .before .before .before .before .before .before .before .before .before .before .before .before .loop .index + 1) 0) 0 in
+          let g = goes-on s l (task (c .before .before .before .before .before .before .before .before .before .before .before .before .before .before .before .before .before .before .before .before .before)) (end (c .before .before .before .before .before .before .before .before .before .before .before .before .before .before .before .before .before .before .before .before .before)) (more (c .before .before .before .before .before .before .before .before .before .before .before .before .before .before .before .before .before .before .before .before .before)) refl refl (quiet (c .before .before .before .before .before .before .before .before .before .before .before .before .before .before)) (c .before .before .before .before .before .before .before .before .before .before .before .before .before .before .move-to-lambda .ensures) d refl in
+          one-more s l (task (c .before .before .before .before .before .before .before .before .before .before .before .before .before .before .before .before .before .before .before .before .before)) (end (c .before .before .before .before .before .before .before .before .before .before .before .before .before .before .before .before .before .before .before .before .before)) (more (c .before .before .before .before .before .before .before .before .before .before .before .before .before .before .before .before .before .before .before .before .before)) refl refl (quiet (c .before .before .before .before .before .before .before .before .before .before .before .before .before .before)) (c .before .before .before .before .before .before .before .before .before .before .before .before .before .before .move-to-lambda .ensures) d refl
           (subst (λ (t : Turn). AllConsidered g t (c .before .before .before .before .before .before .consider-all .last .0) (c .before .before .before .before .before .before .consider-all .last .1 .0) (c .before .before .before .before .before .before .consider-all .last .1 .1 .0) (c .before .before .before .before .before .before .consider-all .last .1 .1 .1 .0)) (c .before .turn .given .1) (c .before .before .before .before .before .before .consider-all .ensures g));
-      small = more (c .before .before .before .before .before .before .before .before .before .before .before .before .before .before .before .before .before .before .before .before);
+      small = more (c .before .before .before .before .before .before .before .before .before .before .before .before .before .before .before .before .before .before .before .before .before);
       count = v .count;
       starts-length = search needs;
       posts-length = search needs;
@@ -161,11 +166,11 @@ same-length-6 c = search needs
 
 returns-2 : tie.Need-returns-2 Inv-loop μ-loop
 returns-2 c = λ s.
-    let v = c .before .before .before .before .before .before .before .before .before .before .before .before .before .before .before .before .before .before .before .before .before .loop .inv in
+    let v = c .before .before .before .before .before .before .before .before .before .before .before .before .before .before .before .before .before .before .before .before .before .before .loop .inv in
     let l = v .level s in
-    let d = getD (c .before .before .before .before .before .before .before .before .before .before .before .before .before .before .before .before .before .before .before .before .before .before .args .lct .now) (getD (c .before .before .before .before .before .before .before .before .before .before .before .before .before .before .before .before .before .before .before .before .before .before .args .candidates .now) (c .before .before .before .before .before .before .before .before .before .before .before .before .before .before .before .before .before .before .before .before .before .loop .index + 1) 0) 0 in
-    let g = goes-on s l (task (c .before .before .before .before .before .before .before .before .before .before .before .before .before .before .before .before .before .before .before .before)) (end (c .before .before .before .before .before .before .before .before .before .before .before .before .before .before .before .before .before .before .before .before)) (more (c .before .before .before .before .before .before .before .before .before .before .before .before .before .before .before .before .before .before .before .before)) refl refl (quiet (c .before .before .before .before .before .before .before .before .before .before .before .before .before)) (c .before .before .before .before .before .before .before .before .before .before .before .before .before .move-to-lambda .ensures) d refl in
-    one-emptied s l (task (c .before .before .before .before .before .before .before .before .before .before .before .before .before .before .before .before .before .before .before .before)) (end (c .before .before .before .before .before .before .before .before .before .before .before .before .before .before .before .before .before .before .before .before)) (more (c .before .before .before .before .before .before .before .before .before .before .before .before .before .before .before .before .before .before .before .before)) refl refl (quiet (c .before .before .before .before .before .before .before .before .before .before .before .before .before)) (c .before .before .before .before .before .before .before .before .before .before .before .before .before .move-to-lambda .ensures) d refl
+    let d = getD (c .before .before .before .before .before .before .before .before .before .before .before .before .before .before .before .before .before .before .before .before .before .before .before .args .lct .now) (getD (c .before .before .before .before .before .before .before .before .before .before .before .before .before .before .before .before .before .before .before .before .before .before .before .args .candidates .now) (c .before .before .before .before .before .before .before .before .before .before .before .before .before .before .before .before .before .before .before .before .before .before .loop .index + 1) 0) 0 in
+    let g = goes-on s l (task (c .before .before .before .before .before .before .before .before .before .before .before .before .before .before .before .before .before .before .before .before .before)) (end (c .before .before .before .before .before .before .before .before .before .before .before .before .before .before .before .before .before .before .before .before .before)) (more (c .before .before .before .before .before .before .before .before .before .before .before .before .before .before .before .before .before .before .before .before .before)) refl refl (quiet (c .before .before .before .before .before .before .before .before .before .before .before .before .before .before)) (c .before .before .before .before .before .before .before .before .before .before .before .before .before .before .move-to-lambda .ensures) d refl in
+    one-emptied s l (task (c .before .before .before .before .before .before .before .before .before .before .before .before .before .before .before .before .before .before .before .before .before)) (end (c .before .before .before .before .before .before .before .before .before .before .before .before .before .before .before .before .before .before .before .before .before)) (more (c .before .before .before .before .before .before .before .before .before .before .before .before .before .before .before .before .before .before .before .before .before)) refl refl (quiet (c .before .before .before .before .before .before .before .before .before .before .before .before .before .before)) (c .before .before .before .before .before .before .before .before .before .before .before .before .before .before .move-to-lambda .ensures) d refl
     (subst (λ (t : Turn). AllConsidered g t (c .before .before .before .before .before .before .consider-all .last .0) (c .before .before .before .before .before .before .consider-all .last .1 .0) (c .before .before .before .before .before .before .consider-all .last .1 .1 .0) (c .before .before .before .before .before .before .consider-all .last .1 .1 .1 .0)) (c .before .turn2 .given .1) (c .before .before .before .before .before .before .consider-all .ensures g))
 
 same-length-7 : tie.Need-same-length-7 Inv-loop μ-loop
@@ -199,6 +204,7 @@ edge-finding-spec =
     same-length-3
     returns
     move-to-lambda-requires
+    add-changes
     add-index
     mul-lct-next
     element-copy-out-lct-next

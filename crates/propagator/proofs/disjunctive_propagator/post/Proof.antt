@@ -56,11 +56,11 @@ returns c =
     let made = c .before .before .before .before .before in
     let s = sums made in
     let a = s .before .args in
-    subst (λ (p : ℕ). Posted (a .posts .now) (a .atoms .now) (c .before .before .write-post .last .0) (made .create-propagation-explanation .last .0) (a .written) (record { posts = a .written .posts + 1; atoms = made .create-propagation-explanation .result }) (a .i) (a .bound)
+    subst (λ (p : ℕ). Posted (a .posts .now) (a .atoms .now) (c .before .before .write-post .last .0) (made .create-propagation-explanation .last .0) (a .written) (record { posts = a .written .posts + 1; atoms = made .create-propagation-explanation .result; changes = a .written .changes }) (a .i) (a .bound)
     (atomWords (propagation zeroAt (starting (a .est .now) (a .durations .now)) (a .i) (a .bound) (a .lct) p (thetaIn (a .nodes .now) (a .inner) (a .tasks .now) (a .n))))
     (length (propagation zeroAt (starting (a .est .now) (a .durations .now)) (a .i) (a .bound) (a .lct) p (thetaIn (a .nodes .now) (a .inner) (a .tasks .now) (a .n)))))
     (s .sum-of-processing-times .ensures)
-    (post-done (made .create-propagation-explanation .ensures) refl refl refl (c .before .before .write-post .ensures))
+    (post-done (made .create-propagation-explanation .ensures) refl refl refl refl (c .before .before .write-post .ensures))
 
 pub post-spec : {M : Type 1} → statement M
 post-spec =

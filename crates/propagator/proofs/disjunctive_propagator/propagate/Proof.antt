@@ -34,7 +34,7 @@ returns c =
     let n = c .before in
     let a = n .before .before .before .before .args in
     turned-back (a .t1) (a .earliest .now) (a .latest .now) (a .posts .now) (a .atoms .now) _ _ _ _ refl (λ z. omega (arith, n .run-refusal .ensures))
-    (record { answer = ap refusedBy (n .run-refusal .ensures); starts = refl; post-words = refl; atom-words = refl })
+    (record { answer = ap refusedBy (n .run-refusal .ensures); changes = refl; starts = refl; post-words = refl; atom-words = refl })
 
 run-accepted-requires : tie.Need-run-accepted-requires
 run-accepted-requires c κs = let a = c .before .before .before .before .before .before .before .before .args in runnable (a .t1) (a .earliest .now) (a .latest .now) (length (a .posts .now)) (length (a .atoms .now)) (passed (c .before .before))

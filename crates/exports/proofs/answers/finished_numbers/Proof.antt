@@ -1,11 +1,11 @@
--- `exports::answers::outcome_numbers` meets its contract: each case gives its own numbers.
+-- `exports::answers::finished_numbers` meets its contract: each case gives its own numbers, and the leaf changes stand beside them.
 -- Assumes nothing.
 use mathlib.Core.Path.{sym, _∙_}
 use borrow.Author.Needs.{needs}
 use Rattle.propagator.specs.Outcomes.{outcomeNumbers}
 use Rattle.exports.specs.Answers.{runAnswer}
-use Rattle.exports.proofs.answers.outcome_numbers.Statement.{statement}
-use Rattle.exports.proofs.answers.outcome_numbers.Tie as tie
+use Rattle.exports.proofs.answers.finished_numbers.Statement.{statement}
+use Rattle.exports.proofs.answers.finished_numbers.Tie as tie
 
 enum-known-outcome : tie.Need-enum-known-outcome
 enum-known-outcome c = search needs
@@ -32,19 +32,19 @@ run-answer-requires-4 : tie.Need-run-answer-requires-4
 run-answer-requires-4 c κs = search needs
 
 returns : tie.Need-returns
-returns c = c .run-answer .ensures ∙ sym (λ i. runAnswer (outcomeNumbers (c .before .before .outcome .given .1 i)))
+returns c = c .run-answer .ensures ∙ sym (λ i. runAnswer (outcomeNumbers (c .before .before .outcome .given .1 i)) (c .before .before .before .before .args .finished .changes))
 
 returns-2 : tie.Need-returns-2
-returns-2 c = c .run-answer2 .ensures ∙ sym (λ i. runAnswer (outcomeNumbers (c .before .before .outcome2 .given .1 i)))
+returns-2 c = c .run-answer2 .ensures ∙ sym (λ i. runAnswer (outcomeNumbers (c .before .before .outcome2 .given .1 i)) (c .before .before .before .before .args .finished .changes))
 
 returns-3 : tie.Need-returns-3
-returns-3 c = c .run-answer3 .ensures ∙ sym (λ i. runAnswer (outcomeNumbers (c .before .before .outcome3 .given .1 i)))
+returns-3 c = c .run-answer3 .ensures ∙ sym (λ i. runAnswer (outcomeNumbers (c .before .before .outcome3 .given .1 i)) (c .before .before .before .before .args .finished .changes))
 
 returns-4 : tie.Need-returns-4
-returns-4 c = c .run-answer4 .ensures ∙ sym (λ i. runAnswer (outcomeNumbers (c .before .before .outcome4 .given .1 i)))
+returns-4 c = c .run-answer4 .ensures ∙ sym (λ i. runAnswer (outcomeNumbers (c .before .before .outcome4 .given .1 i)) (c .before .before .before .before .args .finished .changes))
 
-pub outcome-numbers-spec : {M : Type 1} → statement M
-outcome-numbers-spec =
+pub finished-numbers-spec : {M : Type 1} → statement M
+finished-numbers-spec =
     tie.close
     (tie.spec
     enum-known-outcome
