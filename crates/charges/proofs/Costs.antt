@@ -10,7 +10,7 @@ use native.Mathlib.Numerals.{add-one}
 use lib.ListN.{getD}
 use borrow.Author.Tests.{le-leb, lt-leb}
 use Rattle.scheduling.specs.Scheduling.{total}
-use Rattle.scheduling.proofs.Sets.{total-none, total-more, total-part}
+use Rattle.scheduling.proofs.Sets.{total-none, total-more, total-up}
 use Rattle.charges.specs.declared.rates.Row.{Row}
 use Rattle.charges.specs.Tariff.{tariff, rate, costOfHours, hoursBegun, costOf, printed}
 
@@ -21,10 +21,6 @@ total-even f c a zero h = let e : a + 0 ≡ a = omega arith in ap (total f) e �
 total-even f c a (suc d) h =
     let e : a + suc d ≡ (a + d) + 1 = omega arith in
     omega (arith, ap (total f) e, total-more f (a + d), total-even f c a d (λ k p q. h k p (omega arith)), h (a + d) (omega arith) (omega arith), suc-mul d c)
-
--- it does not fall
-total-up : (f : ℕ → ℕ) (a b : ℕ) → a ≤ b → total f a ≤ total f b
-total-up f a b h = elim (decLt a b) [ yes q ↦ omega (arith, total-part f b a q) | no q ↦ (let e : a ≡ b = omega arith in omega (arith, ap (total f) e)) ]
 
 -- ---- the rows
 -- row i of the table, and the hours that the rows before it go up to

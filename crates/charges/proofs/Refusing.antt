@@ -1,34 +1,29 @@
 -- What turns a call for charges back: what holds where nothing does, and the sole ground for each number.
 -- Assumes nothing.
-use mathlib.Core.Path.{_≡_, refl, sym, _∙_}
+use mathlib.Core.Path.{_≡_, refl, _∙_}
 use mathlib.Core.Bool.{true, false, _&&_}
 use mathlib.Core.Logic.{_↔_}
 use mathlib.Core.List.{List, [], _∷_}
 use Prim.Native.Nat.{ℕ, _<_}
-use native.Mathlib.Omega.{arith}
 use lib.Dec.{eqb}
 use lib.IntN.{ℤ, pos, negℤ}
 use lib.Signed.{leZ}
 use lib.ListN.{length, getD}
 use borrow.Author.Tests.{eqb-true, eq-eqb}
 use Rattle.integers.specs.Limits.{TASKS, DUE}
-use Rattle.integers.specs.Orders.{has}
 use Rattle.integers.specs.Tests.{Test, test, allBelow}
 use Rattle.integers.proofs.Bools.{and-true, and-yes}
-use Rattle.integers.proofs.Ints.{leZ-true, le-leZ}
-use Rattle.integers.proofs.Tests.{all-at, all-show, accepts, refuses}
+use Rattle.integers.proofs.Tests.{all-at, all-show, accepts, refuses, more-accepted, more-refused}
 use Rattle.records.specs.declared.record.Propagator.{Propagator}
 use Rattle.records.specs.Records.{Lawful}
 use Rattle.records.specs.Refusals.{CountsFit, StartsFit, RangesFit}
-use Rattle.fixed.specs.FixedSchedules.{fixedNumber, Fixed, AcceptedFixed}
-use Rattle.fixed.proofs.Refusing.{fixed-first, fixed-then, fixed-20, fixed-10, fixed-3, fixed-4, fixed-14, fixed-many, last-accepted, last-refused}
-use Rattle.charges.specs.Charging.{dueFits, dueFitsAt, chargesNumber, DueFits, DuesFit, Accepted}
+use Rattle.records.proofs.Refused.{within-is}
+use Rattle.fixed.specs.FixedSchedules.{fixedTests, fixedNumber, Fixed, AcceptedFixed}
+use Rattle.fixed.proofs.Refusing.{fixed-first, fixed-then, fixed-20, fixed-10, fixed-3, fixed-4, fixed-14, fixed-many, passed-fixed}
+use Rattle.charges.specs.Charging.{dueFitsAt, chargesNumber, DueFits, DuesFit, Accepted}
 
-due-is : (z : ℤ) → dueFits z ≡ true ↔ DueFits z
-due-is z = (
-  λ h. (let a = and-true (leZ (negℤ (pos DUE)) z) (leZ z (pos DUE)) h in record { low = leZ-true (negℤ (pos DUE)) z (a .0); high = leZ-true z (pos DUE) (a .1) }),
-  λ f. and-yes (leZ (negℤ (pos DUE)) z) (leZ z (pos DUE)) (le-leZ (negℤ (pos DUE)) z (f .low)) (le-leZ z (pos DUE) (f .high)),
-)
+due-is : (z : ℤ) → leZ (negℤ (pos DUE)) z && leZ z (pos DUE) ≡ true ↔ DueFits z
+due-is z = let w = within-is (negℤ (pos DUE)) (pos DUE) z in (λ h. record { low = w .0 h .0; high = w .0 h .1 }, λ f. w .1 (f .low, f .high))
 
 pub dues-are : (n : ℕ) (due : List ℤ) → eqb (length due) n && allBelow (dueFitsAt due) (length due) ≡ true ↔ DuesFit n due
 dues-are n due = (
@@ -45,9 +40,8 @@ module _ (r : Propagator) (es ls due : List ℤ) where
 
   -- nothing turns the call back
   pub accepted-charges : chargesNumber r es ls due ≡ 0 ↔ Accepted r es ls due
-  unfolding has
   accepted-charges =
-      let w = last-accepted r es ls t19 (dues-are (r .count) due) refl in
+      let w = more-accepted (fixedTests r es ls) t19 (passed-fixed r es ls) (dues-are (r .count) due) refl refl in
       (λ h. (let f = w .0 h in record { schedule = f .0; dues = f .1 }), λ a. w .1 (a .schedule, a .dues))
 
   -- what is wrong with the schedule goes before
@@ -63,32 +57,23 @@ module _ (r : Propagator) (es ls due : List ℤ) where
 
   -- The sole ground for each number: all before it hold, and its own does not.
   pub refused-20 : chargesNumber r es ls due ≡ 20 ↔ (Lawful r → ⊥)
-  unfolding has
   refused-20 = fixed-20 r es ls (t19 ∷ []) refl
 
   pub refused-10 : chargesNumber r es ls due ≡ 10 ↔ (Lawful r × (CountsFit (r .count) es ls → ⊥))
-  unfolding has
   refused-10 = fixed-10 r es ls (t19 ∷ []) refl
 
   pub refused-3 : chargesNumber r es ls due ≡ 3 ↔ (Lawful r × (CountsFit (r .count) es ls × (StartsFit es ls → ⊥)))
-  unfolding has
   refused-3 = fixed-3 r es ls (t19 ∷ []) refl
 
   pub refused-4 : chargesNumber r es ls due ≡ 4 ↔ (Lawful r × (CountsFit (r .count) es ls × (StartsFit es ls × (RangesFit es ls → ⊥))))
-  unfolding has
   refused-4 = fixed-4 r es ls (t19 ∷ []) refl
 
   pub refused-14 : chargesNumber r es ls due ≡ 14 ↔ (Lawful r × (CountsFit (r .count) es ls × (StartsFit es ls × (RangesFit es ls × (Fixed r es ls → ⊥)))))
-  unfolding has
   refused-14 = fixed-14 r es ls (t19 ∷ []) refl
 
   pub refused-19 : chargesNumber r es ls due ≡ 19 ↔ (AcceptedFixed r es ls × (DuesFit (r .count) due → ⊥))
-  unfolding has
-  refused-19 = last-refused r es ls t19 (dues-are (r .count) due) refl (λ z. omega arith)
+  refused-19 = more-refused (fixedTests r es ls) t19 (passed-fixed r es ls) (dues-are (r .count) due) refl refl
 
 -- more ranges than any record has tasks are turned back by the number that turns none back
 pub charges-many : (r : Propagator) (es ls due : List ℤ) → TASKS < length es → (chargesNumber r [] [] due ≡ chargesNumber r es ls due) × (chargesNumber r es ls due ≡ 0 → ⊥)
-charges-many r es ls due many =
-    let (same, not) = fixed-many r es ls many in
-    let a = schedule-first r es ls due not in
-    (schedule-first r [] [] due (λ z. not (sym same ∙ z)) ∙ same ∙ sym a, λ z. not (sym a ∙ z))
+charges-many r es ls due many = fixed-many r es ls (t19 r [] [] due ∷ []) (t19 r es ls due ∷ []) many

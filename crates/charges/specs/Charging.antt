@@ -5,7 +5,7 @@ use mathlib.Core.List.{List, [], _∷_, _++_}
 use Prim.Native.Nat.{ℕ, _≤_, _<_}
 use lib.Dec.{eqb}
 use lib.IntN.{ℤ, pos, negℤ}
-use lib.Signed.{leZ, _≤ℤ_}
+use lib.Signed.{_≤ℤ_}
 use lib.ListN.{length, getD}
 use Rattle.integers.specs.Answers.{answered, refusedBy}
 use Rattle.integers.specs.Limits.{TASKS, DUE}
@@ -13,6 +13,7 @@ use Rattle.integers.specs.Tests.{Test, test, allBelow, refusal}
 use Rattle.scheduling.specs.Scheduling.{total}
 use Rattle.records.specs.declared.record.Propagator.{Propagator}
 use Rattle.records.specs.Orders.{noTasks}
+use Rattle.records.specs.Refusals.{withinAt}
 use Rattle.fixed.specs.FixedSchedules.{endAt, fixedTests, AcceptedFixed}
 use Rattle.charges.specs.Tariff.{costOf, minutesLate}
 use Rattle.charges.specs.declared.answer.Bill.{Bill}
@@ -21,13 +22,9 @@ use Rattle.charges.specs.Numbers.{chargesNumbers}
 
 -- The tests ---------------------------------------------------------------------------------------------------------------------
 
--- a due moment is from −DUE to DUE
-abbrev pub dueFits : ℤ → Bool
-dueFits z = leZ (negℤ (pos DUE)) z && leZ z (pos DUE)
-
--- task k's due moment is
+-- task k's due moment is from −DUE to DUE
 abbrev pub dueFitsAt : List ℤ → ℕ → Bool
-dueFitsAt due k = dueFits (getD due k (pos 0))
+dueFitsAt due k = withinAt (negℤ (pos DUE)) (pos DUE) due k
 
 -- those of a fixed schedule; then 19: a due list not of length n, or a due moment out of range
 abbrev pub chargesTests : Propagator → List ℤ → List ℤ → List ℤ → List Test

@@ -1,33 +1,17 @@
 // What turns a call for charges back.
 use fixed::refusals::fixed_refusal;
 use records::record::Propagator;
+use records::refusals::all_within;
 ghost use mathlib.Core.Path.{_≡_};
 ghost use lib.ListN.{length};
 ghost use Rattle.integers.specs.Tests.{allBelow};
-ghost use Rattle.charges.specs.Charging.{dueFits, dueFitsAt, chargesNumber};
+ghost use Rattle.charges.specs.Charging.{dueFitsAt, chargesNumber};
 
-// Whether a due moment is within the limits.
-fn due_fits(x: i32) -> bool
-    ensures { λ r. ⌜ r ≡ dueFits x ⌝ }
-{
-    if !integers::at_most(-integers::limits::DUE, x) {
-        return false;
-    }
-    integers::at_most(x, integers::limits::DUE)
-}
-
-// Whether every due moment is.
+// Whether every due moment is within the limits.
 fn dues_fit(due: &[i32]) -> bool
     ensures { λ r. ⌜ r ≡ allBelow (dueFitsAt (now (due .entry))) (length (now (due .entry))) ⌝ }
 {
-    let mut i = 0;
-    while i < due.len() {
-        if !due_fits(due[i]) {
-            return false;
-        }
-        i += 1;
-    }
-    true
+    all_within(due, -integers::limits::DUE, integers::limits::DUE)
 }
 
 // The number that turns a call back, or 0: 20, 10, 3, 4, 14, 19.

@@ -2,7 +2,7 @@
 -- Assumes nothing.
 use mathlib.Core.Path.{_≡_, refl, sym, ap, _∙_}
 use mathlib.Core.Bool.{Bool, true, false, _&&_}
-use mathlib.Core.List.{List, [], _∷_}
+use mathlib.Core.List.{List, []}
 use mathlib.Core.Logic.{_⊎_, inl, inr, _↔_}
 use mathlib.Core.Option.{Option, some, none}
 use Prim.Native.Nat.{ℕ, zero, suc, _+_, _*_, _≤_, _<_}
@@ -14,10 +14,9 @@ use lib.Signed.{_≤ℤ_}
 use borrow.Author.Tests.{ltb-true, lt-ltb}
 use Rattle.integers.specs.Answers.{Answer, answered, refusedBy}
 use Rattle.integers.specs.Limits.{TASKS, DURATIONS, PREMISES}
-use Rattle.integers.specs.Orders.{has}
-use Rattle.integers.specs.Tests.{test, refusal, numbers}
-use Rattle.integers.proofs.Bools.{bool, clash, and-true, and-yes}
-use Rattle.integers.proofs.Tests.{accepts, ground, refusal-before, broken}
+use Rattle.integers.specs.Tests.{refusal}
+use Rattle.integers.proofs.Bools.{bool, and-true, and-yes}
+use Rattle.integers.proofs.Tests.{unused, not-given, broken}
 use Rattle.scheduling.specs.Scheduling.{whole, Least, Largest, Atom, Admits, given, total}
 use Rattle.checking.specs.declared.variable_state.VariableState.{VariableState}
 use Rattle.checking.specs.declared.variable_state.Application.{Application}
@@ -60,13 +59,6 @@ module _ (ds ps cs : List ℤ) where
   Accepted = refusal (creationTests ds) ≡ 0
 
   -- The numbers of creation, and those after them --------------------------------------------------------------------------------
-
-  -- creation has no other numbers than those of its tests
-  not-created : (n : ℕ) → has (numbers (creationTests ds)) n ≡ false → (n ≡ 0 → ⊥) → refusal (creationTests ds) ≡ n → ⊥
-  unfolding has
-  not-created n d z h =
-      let t = test n false in
-      z (sym h ∙ accepts (creationTests ds) (ground (creationTests ds) t [] d refl z (refusal-before (creationTests ds) (t ∷ []) (λ q. z (sym h ∙ q)) ∙ h) .0))
 
   -- the consequent's variable has two bounds
   abbrev two : VariableState → ℕ → Bool
@@ -113,50 +105,47 @@ module _ (ds ps cs : List ℤ) where
       by (suc m) z = let s : suc m ≡ n = ap (λ (r : Answer). r .number) (ap verdictNumbers (sym (check-after ds ps cs (suc m) z)) ∙ e) in inl (z ∙ s, λ w. omega arith)
 
   -- 1, 2, 5
-  early : (n : ℕ) → has (7 ∷ 6 ∷ 21 ∷ []) n ≡ false → (n ≡ 8 → ⊥) → (n ≡ 0 → ⊥) → answer ≡ refusedBy n ↔ (refusal (creationTests ds) ≡ n)
-  early n d o z = (
-    λ e. elim (grounds n e) [ inl w ↦ w .0 | inr w ↦ elim (w .1) [ inl p ↦ clash (prepared-number ps cs n p) d | inr p ↦ absurd (o (p .1 .eight)) ] ],
-    λ h. to n z h,
+  early : (n : ℕ) → 1 ≤ n → n ≤ 5 → answer ≡ refusedBy n ↔ (refusal (creationTests ds) ≡ n)
+  early n low high = (
+    λ e. elim (grounds n e) [ inl w ↦ w .0 | inr w ↦ elim (w .1) [ inl p ↦ other p | inr p ↦ absurd (omega (arith, p .1 .eight)) ] ],
+    λ h. to n low h,
   )
     where
-      to : (n : ℕ) → (n ≡ 0 → ⊥) → refusal (creationTests ds) ≡ n → answer ≡ refusedBy n
-      to zero z h = absurd (z refl)
+      other : applicationNumbers (prepared ps cs .answer) ≡ refusedBy n → refusal (creationTests ds) ≡ n
+      other p = let v : n ≡ 21 = prepared-number ps cs n p (λ z. omega arith) (λ z. omega arith) in absurd (omega arith)
+
+      to : (n : ℕ) → 1 ≤ n → refusal (creationTests ds) ≡ n → answer ≡ refusedBy n
+      to zero z h = absurd (omega arith)
       to (suc m) z h = ap verdictNumbers (check-after ds ps cs (suc m) h)
 
   pub refused-1 : verdictNumbers (checkOf ds ps cs) ≡ refusedBy 1 ↔ ((1 ≤ length ds) × (length ds ≤ TASKS) → ⊥)
-  unfolding has
-  refused-1 = let w = early 1 refl (λ z. omega arith) (λ z. omega arith) in (λ e. creation.refused-1 ds .0 (w .0 e), λ f. w .1 (creation.refused-1 ds .1 f))
+  refused-1 = let w = early 1 (omega arith) (omega arith) in (λ e. creation.refused-1 ds .0 (w .0 e), λ f. w .1 (creation.refused-1 ds .1 f))
 
   pub refused-2 : verdictNumbers (checkOf ds ps cs) ≡ refusedBy 2 ↔ (((1 ≤ length ds) × (length ds ≤ TASKS)) × (((k : ℕ) → k < length ds → pos 1 ≤ℤ getD ds k (pos 0)) → ⊥))
-  unfolding has
-  refused-2 = let w = early 2 refl (λ z. omega arith) (λ z. omega arith) in (λ e. creation.refused-2 ds .0 (w .0 e), λ f. w .1 (creation.refused-2 ds .1 f))
+  refused-2 = let w = early 2 (omega arith) (omega arith) in (λ e. creation.refused-2 ds .0 (w .0 e), λ f. w .1 (creation.refused-2 ds .1 f))
 
   pub refused-5 : verdictNumbers (checkOf ds ps cs) ≡ refusedBy 5
       ↔ (((1 ≤ length ds) × (length ds ≤ TASKS)) × (((k : ℕ) → k < length ds → pos 1 ≤ℤ getD ds k (pos 0)) × (total (durationAt ds) (length ds) ≤ DURATIONS → ⊥)))
-  unfolding has
-  refused-5 = let w = early 5 refl (λ z. omega arith) (λ z. omega arith) in (λ e. creation.refused-5 ds .0 (w .0 e), λ f. w .1 (creation.refused-5 ds .1 f))
+  refused-5 = let w = early 5 (omega arith) (omega arith) in (λ e. creation.refused-5 ds .0 (w .0 e), λ f. w .1 (creation.refused-5 ds .1 f))
 
   -- 7, 6, 21: the durations are accepted, and the atoms are turned back by this number
-  of-atoms : (n : ℕ) → has (numbers (creationTests ds)) n ≡ false → (n ≡ 8 → ⊥) → answer ≡ refusedBy n ↔ (Accepted × (applicationNumbers (prepared ps cs .answer) ≡ refusedBy n))
+  of-atoms : (n : ℕ) → unused (creationTests ds) n ≡ true → (n ≡ 8 → ⊥) → answer ≡ refusedBy n ↔ (Accepted × (applicationNumbers (prepared ps cs .answer) ≡ refusedBy n))
   of-atoms n d o = (
-    λ e. elim (grounds n e) [ inl w ↦ absurd (not-created n d (w .1) (w .0)) | inr w ↦ (w .0, elim (w .1) [ inl p ↦ p | inr p ↦ absurd (o (p .1 .eight)) ]) ],
+    λ e. elim (grounds n e) [ inl w ↦ absurd (not-given (creationTests ds) n d (w .0)) | inr w ↦ (w .0, elim (w .1) [ inl p ↦ p | inr p ↦ absurd (o (p .1 .eight)) ]) ],
     λ h. ap verdictNumbers (check-after ds ps cs 0 (h .0)) ∙ (let p = applications-apart (prepared ps cs .answer) (application.Refused n) (h .1) in rw p refl),
   )
 
   -- more than 512 premises
   pub refused-7 : verdictNumbers (checkOf ds ps cs) ≡ refusedBy 7 ↔ ((refusal (creationTests ds) ≡ 0) × (3 * PREMISES + 2 < length ps))
-  unfolding has
   refused-7 = let w = of-atoms 7 refl (λ z. omega arith) in (λ e. (w .0 e .0, prepared-7 ps cs .0 (w .0 e .1)), λ f. w .1 (f .0, prepared-7 ps cs .1 (f .1)))
 
   -- words that are no atoms within the limits, or a consequent of more than one
   pub refused-6 : verdictNumbers (checkOf ds ps cs) ≡ refusedBy 6 ↔ ((refusal (creationTests ds) ≡ 0) × ((length ps ≤ 3 * PREMISES + 2) × (RightLists ps cs → ⊥)))
-  unfolding has
   refused-6 = let w = of-atoms 6 refl (λ z. omega arith) in (λ e. (w .0 e .0, prepared-6 ps cs .0 (w .0 e .1)), λ f. w .1 (f .0, prepared-6 ps cs .1 (f .1)))
 
   -- the first atom that needs a seventeenth hole, with no contradiction before it
   pub refused-21 : verdictNumbers (checkOf ds ps cs) ≡ refusedBy 21
       ↔ ((refusal (creationTests ds) ≡ 0) × ((length ps ≤ 3 * PREMISES + 2) × (RightLists ps cs × ((p : Reaches (given (atomsOf ps) (consequentOf cs))) × (lacksRoom (p .state) (p .atom) ≡ true)))))
-  unfolding has
   refused-21 = let w = of-atoms 21 refl (λ z. omega arith) in (λ e. (w .0 e .0, prepared-21 ps cs .0 (w .0 e .1)), λ f. w .1 (f .0, prepared-21 ps cs .1 (f .1)))
 
   -- 8: the atoms are consistent, and there is a consequent, whose variable is no task's or lacks a bound
@@ -185,12 +174,11 @@ module _ (ds ps cs : List ℤ) where
 
   pub refused-8 : verdictNumbers (checkOf ds ps cs) ≡ refusedBy 8
       ↔ ((refusal (creationTests ds) ≡ 0) × ((prepared ps cs .answer ≡ application.Consistent) × ((a : Atom) × ((consequentOf cs ≡ some a) × (TwoSided (length ds) (given (atomsOf ps) (consequentOf cs)) (a .variable) → ⊥)))))
-  unfolding has
   refused-8 = (
     λ e. elim (grounds 8 e) [
-      | inl w ↦ absurd (not-created 8 refl (w .1) (w .0))
+      | inl w ↦ absurd (not-given (creationTests ds) 8 refl (w .0))
       | inr w ↦ elim (w .1) [
-        | inl p ↦ clash (prepared-number ps cs 8 p) refl
+        | inl p ↦ absurd (omega (arith, prepared-number ps cs 8 p (λ z. omega arith) (λ z. omega arith)))
         | inr p ↦ (w .0, (p .0, (p .1 .atom, (p .1 .consequent, broken (two-sided (w .0) (p .0) (p .1 .atom .variable)) .0 (p .1 .unbounded)))))
       ]
     ],

@@ -12,9 +12,9 @@ use lib.ListN.{length, getD, take, drop}
 use lib.Seq.{slice-cons, slice-empty}
 use lib.Signed.{leZ, ltZ, _≤ℤ_, _<ℤ_}
 use Rattle.integers.proofs.Bools.{bool, clash, or-true, or-right}
-use Rattle.integers.proofs.Ints.{ints, up, dn, sumℤ}
+use Rattle.integers.proofs.Ints.{ints, up, dn, sumℤ, le-leZ}
 use Rattle.checking.specs.Holes.{eqZ, has, Ascending, kept, below, above, inserted, rank, stepUp, stepDown, firstFrom, lastUpTo}
-use Rattle.checking.proofs.Tests.{le-leZ, lt-leZ, lt-ltZ, le-ltZ, eqZ-same, eqZ-refl, eqZ-other}
+use Rattle.checking.proofs.Tests.{lt-leZ, lt-ltZ, le-ltZ, eqZ-same, eqZ-refl, eqZ-other}
 
 -- ---- a walk over the first n places of an array
 module _ (l : List ℤ) (n i : ℕ) (small : i < n) (fits : n ≤ length l) where

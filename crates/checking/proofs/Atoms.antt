@@ -1,11 +1,11 @@
 -- Atoms as words.
 -- Assumes nothing.
 use mathlib.Core.Path.{_≡_, refl, sym, ap, _∙_}
-use mathlib.Core.Logic.{_⊎_, inl, inr, ⊎-elim, _↔_}
+use mathlib.Core.Logic.{_⊎_, inl, inr, ⊎-elim}
 use mathlib.Core.Bool.{true, false, _&&_}
 use mathlib.Core.List.{List, [], _∷_, _++_}
 use mathlib.Core.Option.{some, none}
-use Prim.Native.Nat.{ℕ, zero, suc, _+_, _*_, _≤_, _<_}
+use Prim.Native.Nat.{ℕ, zero, suc, _+_, _≤_, _<_}
 use native.Mathlib.Omega.{arith}
 use borrow.Author.Tests.{leb-true, le-leb}
 use lib.Dec.{leb}
@@ -14,12 +14,12 @@ use lib.ListN.{length, getD, drop}
 use lib.Seq.{drop-cons}
 use lib.Signed.{leZ, ltZ, _≤ℤ_, _<ℤ_}
 use Rattle.integers.specs.Limits.{VARIABLES, VALUE}
-use Rattle.integers.proofs.Bools.{bool, clash, and-true, and-yes}
-use Rattle.integers.proofs.Ints.{ints, up, dn, sumℤ}
-use Rattle.scheduling.specs.Scheduling.{Atom, Allows, Compares, Every, negation, negatedValue, given}
-use Rattle.checking.specs.Holes.{Within, eqZ}
+use Rattle.integers.proofs.Bools.{clash, and-true, and-yes}
+use Rattle.integers.proofs.Ints.{ints, up, dn, le-leZ}
+use Rattle.scheduling.specs.Scheduling.{Atom, Every, negation, negatedValue, given}
+use Rattle.checking.specs.Holes.{Within}
 use Rattle.checking.proofs.Steps.{wider, step-within, one-up, one-down}
-use Rattle.checking.proofs.Tests.{le-leZ, lt-ltZ, eqZ-same, eqZ-other}
+use Rattle.checking.proofs.Tests.{lt-ltZ}
 use Rattle.scheduling.specs.Words.{atomWords}
 use Rattle.checking.specs.Atoms.{atomFrom, atomsOf, consequentOf, atomAt, rightVariable, rightAtom, rightWords, rightLists, RightAtom}
 
@@ -129,17 +129,6 @@ pub atoms-words : (l : List Atom) → atomsOf (atomWords l) ≡ l
 unfolding atomsOf atomWords
 atoms-words [] = refl
 atoms-words (a ∷ l) = ap (λ (m : List Atom). a ∷ m) (atoms-words l)
-
--- ---- negation: a whole number meets the negated atom exactly where it does not meet the atom
-pub negation-meets : (a : Atom) (z : ℤ) → Allows (negation a) z ↔ (Allows a z → ⊥)
-unfolding up dn
-negation-meets a z = by (a .kind) (a .value)
-  where
-    by : (k : ℕ) (v : ℤ) → Allows (negation (record { variable = a .variable; kind = k; value = v })) z ↔ (Compares k v z → ⊥)
-    by zero v = (λ h k. omega (ints, sumℤ v (negsuc 0)), λ n. ⊎-elim (λ y. omega (ints, sumℤ v (negsuc 0))) (λ y. absurd (n (omega ints))) (bool (ltZ z v)))
-    by (suc zero) v = (λ h k. omega (ints, sumℤ v (pos 1)), λ n. ⊎-elim (λ y. omega (ints, sumℤ v (pos 1))) (λ y. absurd (n (omega ints))) (bool (ltZ v z)))
-    by (suc (suc zero)) v = (λ h. h, λ h. h)
-    by (suc (suc (suc k))) v = (λ h n. n h, λ n. ⊎-elim (λ y. eqZ-same z v y) (λ y. absurd (n (eqZ-other {a = z} {b = v} y))) (bool (eqZ z v)))
 
 -- a negated value lies one further out at most
 pub negation-within : (k : ℕ) (v : ℤ) → Within VALUE v → Within (VALUE + 1) (negatedValue k v)

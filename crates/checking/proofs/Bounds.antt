@@ -7,11 +7,11 @@ use borrow.Author.Tests.{not-true}
 use lib.IntN.{ℤ}
 use lib.Signed.{leZ, _≤ℤ_, _<ℤ_}
 use Rattle.integers.proofs.Bools.{bool, clash}
-use Rattle.integers.proofs.Ints.{ints}
+use Rattle.integers.proofs.Ints.{ints, le-leZ}
 use Rattle.checking.specs.declared.int_ext.IntExt.{IntExt}
 use Rattle.checking.specs.declared.int_ext.IntExt.the-variants.{Int, NegativeInf, PositiveInf}
 use Rattle.checking.specs.Domains.{leExt, ltExt, eqExt}
-use Rattle.checking.proofs.Tests.{le-leZ, lt-leZ, eqZ-same}
+use Rattle.checking.proofs.Tests.{lt-leZ, eqZ-same}
 
 pub le-trans : (a b c : IntExt) → leExt a b ≡ true → leExt b c ≡ true → leExt a c ≡ true
 le-trans NegativeInf b c p q = refl

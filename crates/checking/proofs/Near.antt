@@ -14,6 +14,7 @@ use Rattle.integers.specs.Limits.{VARIABLES, VALUE, HOLES}
 use Rattle.integers.proofs.Bools.{bool}
 use Rattle.integers.proofs.Ints.{ints, up, dn, sumℤ}
 use Rattle.scheduling.specs.Scheduling.{Atom, Every, given, negation, negatedKind, negatedValue}
+use Rattle.scheduling.proofs.Passed.{every-append}
 use Rattle.checking.specs.declared.int_ext.IntExt.the-variants.{Int, NegativeInf, PositiveInf}
 use Rattle.checking.specs.declared.variable_state.Domain.{Domain}
 use Rattle.checking.specs.declared.variable_state.VariableState.{VariableState}
@@ -28,7 +29,7 @@ use Rattle.checking.proofs.Domains.{used}
 use Rattle.checking.proofs.Meaning.{Known}
 use Rattle.checking.proofs.Narrowing.{lower-case, lower-tight, upper-case, low, low-cut, high, high-cut}
 use Rattle.checking.proofs.Prepared.{ran}
-use Rattle.checking.proofs.Promises.{given-known, every-append}
+use Rattle.checking.proofs.Promises.{given-known}
 use Rattle.checking.proofs.States.{put-same, put-other, stepped-case, stepped-accepted, all-case, all-end, empty-accepted}
 use Rattle.checking.proofs.Steps.{wider, step-within, one-up, one-down}
 

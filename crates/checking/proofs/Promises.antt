@@ -3,7 +3,7 @@
 use mathlib.Core.Path.{_≡_, refl, sym, ap, _∙_, subst}
 use mathlib.Core.Logic.{_↔_}
 use mathlib.Core.Bool.{Bool, true, false, cond}
-use mathlib.Core.List.{List, [], _∷_, _++_}
+use mathlib.Core.List.{List, [], _∷_}
 use Prim.Native.Nat.{ℕ, zero, suc, _+_, _*_, _≤_, _<_}
 use native.Mathlib.Omega.{arith}
 use borrow.Author.Tests.{ltb-true, ltb-false}
@@ -14,7 +14,8 @@ use lib.Seq.{ext-getD}
 use Rattle.integers.specs.Answers.{answered, refusedBy}
 use Rattle.integers.specs.Limits.{VARIABLES, PREMISES}
 use Rattle.integers.proofs.Bools.{clash}
-use Rattle.scheduling.specs.Scheduling.{Atom, Every, given, negation}
+use Rattle.scheduling.specs.Scheduling.{Atom, given, negation}
+use Rattle.scheduling.proofs.Passed.{every-append}
 use Rattle.checking.specs.declared.int_ext.IntExt.{IntExt}
 use Rattle.checking.specs.declared.int_ext.IntExt.the-variants.{Int, NegativeInf, PositiveInf}
 use Rattle.checking.specs.declared.variable_state.Domain.{Domain}
@@ -145,10 +146,6 @@ module _ (s : VariableState) (x : ℤ) (proper : accepted (s .domains) ≡ true 
   upper-promise r e = (e, subst (UpperMeans s x) (sym e) upper-means)
 
 -- ---- prepare_for_conflict_check
-pub every-append : (P : Atom → Type 0) (p q : List Atom) → Every P p → Every P q → Every P (p ++ q)
-every-append P [] q e f = f
-every-append P (a ∷ p) q e f = (e .0, every-append P p q (e .1) f)
-
 module _ (premises consequent : List ℤ) where
   abbrev atoms : List Atom
   atoms = given (atomsOf premises) (consequentOf consequent)

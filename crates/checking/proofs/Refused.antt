@@ -3,15 +3,14 @@
 use mathlib.Core.Path.{_≡_, refl, sym, ap, _∙_}
 use mathlib.Core.Logic.{inl, inr, _↔_}
 use mathlib.Core.Bool.{true}
-use mathlib.Core.List.{List, [], _∷_}
+use mathlib.Core.List.{List, _∷_}
 use Prim.Native.Nat.{ℕ, _+_, _*_, _≤_, _<_}
 use native.Mathlib.Omega.{arith}
-use native.Mathlib.Decide.{decLt, ℕ-discrete}
+use native.Mathlib.Decide.{decLt}
 use lib.IntN.{ℤ}
 use lib.ListN.{length}
 use Rattle.integers.specs.Answers.{Answer, refusedBy}
 use Rattle.integers.specs.Limits.{PREMISES}
-use Rattle.integers.specs.Orders.{has}
 use Rattle.integers.proofs.Bools.{bool, clash}
 use Rattle.integers.proofs.Tests.{broken}
 use Rattle.scheduling.specs.Scheduling.{Atom, given}
@@ -84,9 +83,5 @@ module _ (ps cs : List ℤ) where
   )
 
   -- no other number
-  pub prepared-number : (n : ℕ) → applicationNumbers (prepared ps cs .answer) ≡ refusedBy n → has (7 ∷ 6 ∷ 21 ∷ []) n ≡ true
-  unfolding has
-  prepared-number n e = elim (ℕ-discrete n 7) [
-    | yes z ↦ rw z
-    | no z ↦ elim (ℕ-discrete n 6) [ yes w ↦ rw w | no w ↦ (let l = few n e z in let v : n ≡ 21 = prepare-means ps cs .room l (right n e l w) n e .0 in rw v) ]
-  ]
+  pub prepared-number : (n : ℕ) → applicationNumbers (prepared ps cs .answer) ≡ refusedBy n → (n ≡ 7 → ⊥) → (n ≡ 6 → ⊥) → n ≡ 21
+  prepared-number n e z w = let l = few n e z in prepare-means ps cs .room l (right n e l w) n e .0

@@ -6,11 +6,8 @@ use mathlib.Core.Bool.{true, false}
 use lib.IntN.{ℤ}
 use lib.Signed.{leZ, ltZ, _≤ℤ_, _<ℤ_}
 use Rattle.integers.proofs.Bools.{bool, clash, and-true, and-yes}
-use Rattle.integers.proofs.Ints.{ints}
+use Rattle.integers.proofs.Ints.{ints, le-leZ}
 use Rattle.checking.specs.Holes.{eqZ}
-
-pub le-leZ : (a b : ℤ) → a ≤ℤ b → leZ a b ≡ true
-le-leZ a b h = ⊎-elim (λ y. y) (λ n. absurd (omega ints)) (bool (leZ a b))
 
 pub lt-leZ : (a b : ℤ) → b <ℤ a → leZ a b ≡ false
 lt-leZ a b h = ⊎-elim (λ y. absurd (omega ints)) (λ n. n) (bool (leZ a b))

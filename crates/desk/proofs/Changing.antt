@@ -11,7 +11,6 @@ use lib.ListN.{length, getD, take, set, length-append, List·getD-append}
 use lib.Seq.{length-take-le, getD-take, getD-append-seam}
 use borrow.Author.Tests.{leb-true, le-leb, ltb-true}
 use Rattle.integers.specs.Limits.{TASKS, DURATIONS}
-use Rattle.integers.specs.Orders.{has}
 use Rattle.integers.specs.Tests.{AllPassed}
 use Rattle.integers.proofs.Bools.{clash}
 use Rattle.integers.proofs.Ints.{leZ-true, le-leZ}
@@ -136,14 +135,12 @@ not-negative (pos n) h = leZ-true (pos 0) (pos n) (le-leb 0 n (omega arith))
 not-negative (negsuc n) h = clash (le-leZ (pos 1) (negsuc n) h) refl
 
 pub addable : (r : Propagator) (d : ℤ) → addNumber r d ≡ 0 → Addable r d
-unfolding has
 addable r d h = facts (accepted (addTests r d) refl h)
   where
     facts : AllPassed (addTests r d) → Addable r d
     facts (a, (b, (c, (e, _)))) = record { lawful = lawful-is r .0 a; room = omega (arith, count-is (r .count + 1) .0 b .1); lasts = leZ-true (pos 1) d c; fits = leb-true (r .total + durationOf d) DURATIONS e }
 
 pub removable : (r : Propagator) (t : ℕ) → removeNumber r t ≡ 0 → Removable r t
-unfolding has
 removable r t h = facts (accepted (removeTests r t) refl h)
   where
     facts : AllPassed (removeTests r t) → Removable r t

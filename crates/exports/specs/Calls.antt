@@ -12,6 +12,8 @@ use Rattle.integers.specs.Tests.{Test, test, refusal}
 use Rattle.records.specs.declared.record.Propagator.{Propagator}
 use Rattle.records.specs.Records.{creationNumber, created}
 use Rattle.records.specs.Posts.{stretchStart, stretchLength, postNumber}
+use Rattle.checking.specs.declared.int_ext.IntExt.{IntExt}
+use Rattle.checking.specs.declared.variable_state.Domain.{Domain}
 use Rattle.checking.specs.declared.variable_state.VariableState.{VariableState}
 use Rattle.checking.specs.declared.variable_state.Application.{Application}
 use Rattle.checking.specs.declared.variable_state.Application.the-variants as application
@@ -89,8 +91,11 @@ asked premises own question = askedAfter (refusal (questionTests premises own)) 
 abbrev pub truthAfter : List ℤ → ℤ → ℤ → ℤ → StateAnswer
 truthAfter premises x k v = asked premises (rightAtom x k v) (λ s. truthNumbers (truthOf s x k v))
 
+abbrev pub boundAfter : (Domain → IntExt) → List ℤ → ℤ → StateAnswer
+boundAfter side premises x = asked premises (rightVariable x) (λ s. boundNumbers (boundOf side s x))
+
 abbrev pub lowerAfter : List ℤ → ℤ → StateAnswer
-lowerAfter premises x = asked premises (rightVariable x) (λ s. boundNumbers (boundOf lowerOf s x))
+lowerAfter premises x = boundAfter lowerOf premises x
 
 abbrev pub upperAfter : List ℤ → ℤ → StateAnswer
-upperAfter premises x = asked premises (rightVariable x) (λ s. boundNumbers (boundOf upperOf s x))
+upperAfter premises x = boundAfter upperOf premises x

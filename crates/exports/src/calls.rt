@@ -14,6 +14,7 @@ use crate::answers::verdict_numbers;
 use checker::checker::check;
 use checking::atomic_constraint::atom_is_accepted;
 use checking::atomic_constraint::variable_is_accepted;
+use checking::variable_state::Bound;
 use checking::variable_state::VariableState;
 use disjunctive::ranges::Range;
 use disjunctive::ranges::run;
@@ -29,8 +30,9 @@ ghost use lib.IntN.{pos};
 ghost use lib.ListN.{length};
 ghost use lib.Signed.{_≤ℤ_};
 ghost use Rattle.integers.specs.Tests.{refusal};
+ghost use Rattle.checking.specs.States.{sideOf, boundOf};
 ghost use Rattle.records.specs.Posts.{firstAtom, atomCount};
-ghost use Rattle.exports.specs.Calls.{newNumbers, readPost, postNumbers, RanNumbers, CheckedNumbers, questionTests, truthAfter, lowerAfter, upperAfter};
+ghost use Rattle.exports.specs.Calls.{newNumbers, readPost, postNumbers, RanNumbers, CheckedNumbers, questionTests, truthAfter, boundAfter, lowerAfter, upperAfter};
 
 // A record of the durations, or the record of zeros with the number that turned them back.
 #[no_mangle]
@@ -138,18 +140,35 @@ pub extern "C" fn reedgrit_is_true(
     state_numbers(answer, here)
 }
 
-// The least value that the premises leave to a variable.
-#[no_mangle]
-pub extern "C" fn reedgrit_lower_bound(premises: &[i32], variable: i32) -> StateAnswer
-    ensures { λ r. ⌜ r ≡ lowerAfter (now (premises .entry)) variable ⌝ }
+// One of the two bounds that the state gives a variable.
+fn bound_in(state: VariableState, variable: i32, lower: bool) -> Bound
+    ensures { λ r. ⌜ r ≡ boundOf (sideOf lower) state variable ⌝ }
+{
+    if lower {
+        return state.lower_bound(variable);
+    }
+    state.upper_bound(variable)
+}
+
+// One of the two bounds that the premises leave to a variable.
+fn bound_after(premises: &[i32], variable: i32, lower: bool) -> StateAnswer
+    ensures { λ r. ⌜ r ≡ boundAfter (sideOf lower) (now (premises .entry)) variable ⌝ }
 {
     if !variable_is_accepted(variable) {
         return refusal_numbers(unfit_number(premises));
     }
     let applied = VariableState::prepare_for_conflict_check(premises, &premises[..0]);
-    let here = bound_numbers(applied.state.lower_bound(variable));
+    let here = bound_numbers(bound_in(applied.state, variable, lower));
     let answer = applied.answer;
     state_numbers(answer, here)
+}
+
+// The least value that the premises leave to a variable.
+#[no_mangle]
+pub extern "C" fn reedgrit_lower_bound(premises: &[i32], variable: i32) -> StateAnswer
+    ensures { λ r. ⌜ r ≡ lowerAfter (now (premises .entry)) variable ⌝ }
+{
+    bound_after(premises, variable, true)
 }
 
 // The greatest value that they leave to it.
@@ -157,11 +176,5 @@ pub extern "C" fn reedgrit_lower_bound(premises: &[i32], variable: i32) -> State
 pub extern "C" fn reedgrit_upper_bound(premises: &[i32], variable: i32) -> StateAnswer
     ensures { λ r. ⌜ r ≡ upperAfter (now (premises .entry)) variable ⌝ }
 {
-    if !variable_is_accepted(variable) {
-        return refusal_numbers(unfit_number(premises));
-    }
-    let applied = VariableState::prepare_for_conflict_check(premises, &premises[..0]);
-    let here = bound_numbers(applied.state.upper_bound(variable));
-    let answer = applied.answer;
-    state_numbers(answer, here)
+    bound_after(premises, variable, false)
 }

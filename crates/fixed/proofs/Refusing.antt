@@ -1,8 +1,8 @@
 -- What turns a fixed schedule back: what holds where nothing does, the sole ground for each number, and the same where other tests follow.
 -- Assumes nothing.
-use mathlib.Core.Path.{_≡_, refl, sym, _∙_}
+use mathlib.Core.Path.{_≡_, refl, _∙_}
 use mathlib.Core.Bool.{true, false, _&&_}
-use mathlib.Core.Logic.{inl, inr, _↔_, ⊎-elim}
+use mathlib.Core.Logic.{_↔_, ⊎-elim}
 use mathlib.Core.List.{List, [], _∷_, _++_}
 use Prim.Native.Nat.{ℕ, _<_}
 use native.Mathlib.Omega.{arith}
@@ -10,17 +10,15 @@ use lib.IntN.{ℤ, pos}
 use lib.Signed.{leZ}
 use lib.ListN.{length, getD}
 use Rattle.integers.specs.Limits.{TASKS}
-use Rattle.integers.specs.Orders.{has}
-use Rattle.integers.specs.Tests.{Test, test, allBelow, refusal, AllPassed, numbers}
-use Rattle.integers.proofs.Bools.{bool, clash, and-true, and-yes, and-left, and-right}
+use Rattle.integers.specs.Tests.{Test, test, allBelow, refusal, AllPassed}
+use Rattle.integers.proofs.Bools.{and-true, and-yes, and-left, and-right}
 use Rattle.integers.proofs.Ints.{ints, leZ-true, le-leZ}
-use Rattle.integers.proofs.Tests.{all-at, all-show, accepts, accepted, ground, refuses, refusal-before, refusal-after, broken}
+use Rattle.integers.proofs.Tests.{all-at, all-show, unused, accepts, accepted, refuses, refusal-before, refusal-after, first-refuses}
 use Rattle.scheduling.specs.Scheduling.{NoOverlap}
 use Rattle.records.specs.declared.record.Propagator.{Propagator}
-use Rattle.records.specs.Records.{lawfulRecord, Lawful}
+use Rattle.records.specs.Records.{Lawful}
 use Rattle.records.specs.Refusals.{inputTests, inputNumber, CountsFit, StartsFit, RangesFit}
-use Rattle.records.proofs.Lawful.{lawful-is}
-use Rattle.records.proofs.Refused.{counts-are, starts-are, ranges-are, input-20, input-10, input-3, input-4}
+use Rattle.records.proofs.Refused.{passed-input, input-20, input-10, input-3, input-4, input-holds, input-many}
 use Rattle.fixed.specs.FixedSchedules.{startAt, sameStart, oneStartAt, apartAt, allApart, fixedTests, fixedNumber, tasksOn, Fixed, AcceptedFixed}
 use Rattle.fixed.proofs.Turns.{apart-read, apart-show}
 
@@ -60,15 +58,16 @@ module _ (r : Propagator) (es ls : List ℤ) where
     where
       facts : AllPassed (fixedTests r es ls) → AcceptedFixed r es ls
       facts (a, (b, (c, (d, (e, _))))) =
-          let n = counts-are (r .count) es ls .0 b in
-          record { lawful = lawful-is r .0 a; counts = n; starts = starts-are (r .count) es ls .0 c; ranges = ranges-are (r .count) es ls .0 d; fixed = fixed-is r es ls (n .earliest) .0 e }
+          let f = passed-input r es ls .0 (a, (b, (c, (d, tt)))) in
+          record { lawful = f .lawful; counts = f .counts; starts = f .starts; ranges = f .ranges; fixed = fixed-is r es ls (f .counts .earliest) .0 e }
 
       tests : AcceptedFixed r es ls → AllPassed (fixedTests r es ls)
-      tests f = (lawful-is r .1 (f .lawful), (counts-are (r .count) es ls .1 (f .counts), (starts-are (r .count) es ls .1 (f .starts), (ranges-are (r .count) es ls .1 (f .ranges), (fixed-is r es ls (f .counts .earliest) .1 (f .fixed), tt)))))
+      tests f =
+          let (a, (b, (c, (d, _)))) = passed-input r es ls .1 (record { lawful = f .lawful; counts = f .counts; starts = f .starts; ranges = f .ranges }) in
+          (a, (b, (c, (d, (fixed-is r es ls (f .counts .earliest) .1 (f .fixed), tt)))))
 
   -- nothing turns the schedule back
   pub accepted-fixed : fixedNumber r es ls ≡ 0 ↔ AcceptedFixed r es ls
-  unfolding has
   accepted-fixed = (λ h. passed-fixed .0 (accepted (fixedTests r es ls) refl h), λ f. accepts (fixedTests r es ls) (passed-fixed .1 f))
 
   -- what is wrong with the record or its ranges goes before
@@ -95,56 +94,22 @@ module _ (r : Propagator) (es ls : List ℤ) (after : List Test) where
   fixed-then h = refusal-after (fixedTests r es ls) after (passed-fixed r es ls .1 (accepted-fixed r es ls .0 h))
 
   -- The sole ground for each number, which no later test has: all before it hold, and its own does not.
-  pub fixed-20 : has (numbers after) 20 ≡ false → refusal (fixedTests r es ls ++ after) ≡ 20 ↔ (Lawful r → ⊥)
-  unfolding has
+  pub fixed-20 : unused after 20 ≡ true → refusal (fixedTests r es ls ++ after) ≡ 20 ↔ (Lawful r → ⊥)
   fixed-20 other = input-20 r es ls (t14 r es ls ∷ after) other
 
-  pub fixed-10 : has (numbers after) 10 ≡ false → refusal (fixedTests r es ls ++ after) ≡ 10 ↔ (Lawful r × (CountsFit (r .count) es ls → ⊥))
-  unfolding has
+  pub fixed-10 : unused after 10 ≡ true → refusal (fixedTests r es ls ++ after) ≡ 10 ↔ (Lawful r × (CountsFit (r .count) es ls → ⊥))
   fixed-10 other = input-10 r es ls (t14 r es ls ∷ after) other
 
-  pub fixed-3 : has (numbers after) 3 ≡ false → refusal (fixedTests r es ls ++ after) ≡ 3 ↔ (Lawful r × (CountsFit (r .count) es ls × (StartsFit es ls → ⊥)))
-  unfolding has
+  pub fixed-3 : unused after 3 ≡ true → refusal (fixedTests r es ls ++ after) ≡ 3 ↔ (Lawful r × (CountsFit (r .count) es ls × (StartsFit es ls → ⊥)))
   fixed-3 other = input-3 r es ls (t14 r es ls ∷ after) other
 
-  pub fixed-4 : has (numbers after) 4 ≡ false → refusal (fixedTests r es ls ++ after) ≡ 4 ↔ (Lawful r × (CountsFit (r .count) es ls × (StartsFit es ls × (RangesFit es ls → ⊥))))
-  unfolding has
+  pub fixed-4 : unused after 4 ≡ true → refusal (fixedTests r es ls ++ after) ≡ 4 ↔ (Lawful r × (CountsFit (r .count) es ls × (StartsFit es ls × (RangesFit es ls → ⊥))))
   fixed-4 other = input-4 r es ls (t14 r es ls ∷ after) other
 
-  pub fixed-14 : has (numbers after) 14 ≡ false → refusal (fixedTests r es ls ++ after) ≡ 14 ↔ (Lawful r × (CountsFit (r .count) es ls × (StartsFit es ls × (RangesFit es ls × (Fixed r es ls → ⊥)))))
-  unfolding has
-  fixed-14 other = (
-    λ h.
-        (let g = ground (inputTests r es ls) (t14 r es ls) after refl other (λ z. omega arith) h in
-        let n = counts-are (r .count) es ls .0 (g .0 .1 .0) in
-        (lawful-is r .0 (g .0 .0), (n, (starts-are (r .count) es ls .0 (g .0 .1 .1 .0), (ranges-are (r .count) es ls .0 (g .0 .1 .1 .1 .0), broken (fixed-is r es ls (n .earliest)) .0 (g .1)))))),
-    λ f. refuses (inputTests r es ls) (t14 r es ls) after (lawful-is r .1 (f .0), (counts-are (r .count) es ls .1 (f .1 .0), (starts-are (r .count) es ls .1 (f .1 .1 .0), (ranges-are (r .count) es ls .1 (f .1 .1 .1 .0), tt)))) (broken (fixed-is r es ls (f .1 .0 .earliest)) .1 (f .1 .1 .1 .1)),
-  )
+  pub fixed-14 : unused after 14 ≡ true → refusal (fixedTests r es ls ++ after) ≡ 14 ↔ (Lawful r × (CountsFit (r .count) es ls × (StartsFit es ls × (RangesFit es ls × (Fixed r es ls → ⊥)))))
+  fixed-14 other = input-holds r es ls (t14 r es ls ∷ after) refl (λ n. first-refuses (t14 r es ls) after (fixed-is r es ls (n .earliest)) other)
 
--- Where one test follows, with a number of its own.
-module _ (r : Propagator) (es ls : List ℤ) (t : Test) {F : Type 0} (is : t .passed ≡ true ↔ F) where
-  pub last-accepted : has (numbers (fixedTests r es ls ++ (t ∷ []))) 0 ≡ false → refusal (fixedTests r es ls ++ (t ∷ [])) ≡ 0 ↔ (AcceptedFixed r es ls × F)
-  last-accepted other = (λ h. facts (accepted (fixedTests r es ls ++ (t ∷ [])) other h), λ f. fixed-then r es ls (t ∷ []) (accepted-fixed r es ls .1 (f .0)) ∙ accepts (t ∷ []) (is .1 (f .1), tt))
-    where
-      facts : AllPassed (fixedTests r es ls ++ (t ∷ [])) → AcceptedFixed r es ls × F
-      facts (a, (b, (c, (d, (e, (f, _)))))) = (passed-fixed r es ls .0 (a, (b, (c, (d, (e, tt))))), is .0 f)
-
-  pub last-refused : has (numbers (fixedTests r es ls)) (t .number) ≡ false → (t .number ≡ 0 → ⊥) → refusal (fixedTests r es ls ++ (t ∷ [])) ≡ t .number ↔ (AcceptedFixed r es ls × (F → ⊥))
-  unfolding has
-  last-refused other some = (
-    λ h. (let g = ground (fixedTests r es ls) t [] other refl some h in (passed-fixed r es ls .0 (g .0), broken is .0 (g .1))),
-    λ f. refuses (fixedTests r es ls) t [] (passed-fixed r es ls .1 (f .0)) (broken is .1 (f .1)),
-  )
-
--- more ranges than any record has tasks are turned back by the number that turns none back
-pub fixed-many : (r : Propagator) (es ls : List ℤ) → TASKS < length es → (fixedNumber r [] [] ≡ fixedNumber r es ls) × (fixedNumber r es ls ≡ 0 → ⊥)
-unfolding has
-fixed-many r es ls many = elim (bool (lawfulRecord r)) [
-  | inl y ↦
-      (let w = lawful-is r .0 y in
-      let b = fixed-10 r es ls [] refl .1 (w, λ c. omega (arith, many, c .earliest, w .few)) in
-      (fixed-10 r [] [] [] refl .1 (w, λ c. omega (arith, c .earliest, w .some)) ∙ sym b, λ z. omega arith))
-  | inr y ↦
-      (let b = fixed-20 r es ls [] refl .1 (λ w. clash (lawful-is r .1 w) y) in
-      (fixed-20 r [] [] [] refl .1 (λ w. clash (lawful-is r .1 w) y) ∙ sym b, λ z. omega arith))
-]
+-- more ranges than any record has tasks are turned back by the number that turns none back, whatever tests follow
+pub fixed-many : (r : Propagator) (es ls : List ℤ) (after after′ : List Test) → TASKS < length es
+    → (refusal (fixedTests r [] [] ++ after) ≡ refusal (fixedTests r es ls ++ after′)) × (refusal (fixedTests r es ls ++ after′) ≡ 0 → ⊥)
+fixed-many r es ls after after′ many = input-many r es ls (t14 r [] [] ∷ after) (t14 r es ls ∷ after′) many

@@ -1,4 +1,5 @@
 // What a call on a fixed schedule is asked besides it: a moment, or a length of time.
+use records::refusals::within;
 ghost use mathlib.Core.Path.{_≡_};
 ghost use Rattle.fixed.specs.Asked.{momentFits, lengthFits};
 
@@ -6,18 +7,12 @@ ghost use Rattle.fixed.specs.Asked.{momentFits, lengthFits};
 pub fn moment_fits(t: i32) -> bool
     ensures { λ r. ⌜ r ≡ momentFits t ⌝ }
 {
-    if !integers::at_most(-integers::limits::MOMENT, t) {
-        return false;
-    }
-    integers::at_most(t, integers::limits::MOMENT)
+    within(t, -integers::limits::MOMENT, integers::limits::MOMENT)
 }
 
 // Whether a length of time is.
 pub fn length_fits(d: i32) -> bool
     ensures { λ r. ⌜ r ≡ lengthFits d ⌝ }
 {
-    if !integers::at_most(1, d) {
-        return false;
-    }
-    integers::at_most(d, integers::limits::LENGTH)
+    within(d, 1, integers::limits::LENGTH)
 }

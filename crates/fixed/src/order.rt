@@ -2,36 +2,23 @@
 use integers::moment_of;
 use records::orders::moments_of;
 use records::orders::sort_numbers;
+use records::refusals::ranges_fit;
 ghost use mathlib.Core.Path.{_≡_};
 ghost use Prim.Native.Nat.{_-_};
 ghost use lib.ListN.{length, take};
 ghost use Rattle.integers.specs.Tests.{allBelow};
-ghost use Rattle.fixed.specs.FixedSchedules.{sameStart, oneStartAt, orderOf};
+ghost use Rattle.fixed.specs.FixedSchedules.{oneStartAt, orderOf};
 ghost use Rattle.fixed.specs.Holding.{Started, Listed, inTurnAt};
 
-// Whether two starts are equal.
-fn same_start(a: i32, b: i32) -> bool
-    ensures { λ r. ⌜ r ≡ sameStart a b ⌝ }
-{
-    if !integers::at_most(a, b) {
-        return false;
-    }
-    integers::at_most(b, a)
-}
-
-// Whether every range holds one start.
+// Whether every range holds one start: no earliest start is above its latest, nor the latest above the earliest.
 pub fn one_start(earliest: &[i32], latest: &[i32]) -> bool
     requires { ⌜ length (now earliest) ≡ length (now latest) ⌝ }
     ensures { λ r. ⌜ r ≡ allBelow (oneStartAt (now (earliest .entry)) (now (latest .entry))) (length (now (earliest .entry))) ⌝ }
 {
-    let mut i = 0;
-    while i < earliest.len() {
-        if !same_start(earliest[i], latest[i]) {
-            return false;
-        }
-        i += 1;
+    if !ranges_fit(earliest, latest) {
+        return false;
     }
-    true
+    ranges_fit(latest, earliest)
 }
 
 // The tasks by start, least first.

@@ -1,25 +1,23 @@
 -- What turns a question back: what holds where nothing does, and the sole ground for each number.
 -- Assumes nothing.
-use mathlib.Core.Path.{_≡_, refl, sym, _∙_}
+use mathlib.Core.Path.{_≡_, refl, _∙_}
 use mathlib.Core.Bool.{true, false, _&&_}
 use mathlib.Core.Logic.{_↔_}
 use mathlib.Core.List.{List, [], _∷_}
 use Prim.Native.Nat.{_<_}
-use native.Mathlib.Omega.{arith}
 use lib.IntN.{ℤ}
 use lib.ListN.{length}
 use Rattle.integers.specs.Limits.{TASKS}
-use Rattle.integers.specs.Orders.{has}
 use Rattle.integers.specs.Tests.{Test, test}
 use Rattle.integers.proofs.Bools.{and-true, and-yes, and-left, and-right}
-use Rattle.integers.proofs.Tests.{accepts, refuses}
+use Rattle.integers.proofs.Tests.{accepts, refuses, more-accepted, more-refused}
 use Rattle.records.specs.declared.record.Propagator.{Propagator}
 use Rattle.records.specs.Records.{Lawful}
 use Rattle.records.specs.Refusals.{CountsFit, StartsFit, RangesFit}
-use Rattle.fixed.specs.FixedSchedules.{fixedNumber, Fixed, AcceptedFixed}
+use Rattle.fixed.specs.FixedSchedules.{fixedTests, fixedNumber, Fixed, AcceptedFixed}
 use Rattle.fixed.specs.Asked.{momentFits, lengthFits, MomentFits, LengthFits}
 use Rattle.fixed.proofs.Asking.{moment-is, length-is}
-use Rattle.fixed.proofs.Refusing.{fixed-first, fixed-then, fixed-20, fixed-10, fixed-3, fixed-4, fixed-14, fixed-many, last-accepted, last-refused}
+use Rattle.fixed.proofs.Refusing.{fixed-first, fixed-then, fixed-20, fixed-10, fixed-3, fixed-4, fixed-14, fixed-many, passed-fixed}
 use Rattle.free_starts.specs.FreeStarts.{freeNumber}
 
 module _ (r : Propagator) (es ls : List ℤ) (t d : ℤ) where
@@ -32,8 +30,7 @@ module _ (r : Propagator) (es ls : List ℤ) (t d : ℤ) where
 
   -- nothing turns the question back
   pub accepted-question : freeNumber r es ls t d ≡ 0 ↔ (AcceptedFixed r es ls × (LengthFits d × MomentFits t))
-  unfolding has
-  accepted-question = last-accepted r es ls t18 asked-is refl
+  accepted-question = more-accepted (fixedTests r es ls) t18 (passed-fixed r es ls) asked-is refl refl
 
   -- what is wrong with the schedule goes before
   pub schedule-first : (fixedNumber r es ls ≡ 0 → ⊥) → freeNumber r es ls t d ≡ fixedNumber r es ls
@@ -52,32 +49,23 @@ module _ (r : Propagator) (es ls : List ℤ) (t d : ℤ) where
 
   -- The sole ground for each number: all before it hold, and its own does not.
   pub refused-20 : freeNumber r es ls t d ≡ 20 ↔ (Lawful r → ⊥)
-  unfolding has
   refused-20 = fixed-20 r es ls (t18 ∷ []) refl
 
   pub refused-10 : freeNumber r es ls t d ≡ 10 ↔ (Lawful r × (CountsFit (r .count) es ls → ⊥))
-  unfolding has
   refused-10 = fixed-10 r es ls (t18 ∷ []) refl
 
   pub refused-3 : freeNumber r es ls t d ≡ 3 ↔ (Lawful r × (CountsFit (r .count) es ls × (StartsFit es ls → ⊥)))
-  unfolding has
   refused-3 = fixed-3 r es ls (t18 ∷ []) refl
 
   pub refused-4 : freeNumber r es ls t d ≡ 4 ↔ (Lawful r × (CountsFit (r .count) es ls × (StartsFit es ls × (RangesFit es ls → ⊥))))
-  unfolding has
   refused-4 = fixed-4 r es ls (t18 ∷ []) refl
 
   pub refused-14 : freeNumber r es ls t d ≡ 14 ↔ (Lawful r × (CountsFit (r .count) es ls × (StartsFit es ls × (RangesFit es ls × (Fixed r es ls → ⊥)))))
-  unfolding has
   refused-14 = fixed-14 r es ls (t18 ∷ []) refl
 
   pub refused-18 : freeNumber r es ls t d ≡ 18 ↔ (AcceptedFixed r es ls × (LengthFits d × MomentFits t → ⊥))
-  unfolding has
-  refused-18 = last-refused r es ls t18 asked-is refl (λ z. omega arith)
+  refused-18 = more-refused (fixedTests r es ls) t18 (passed-fixed r es ls) asked-is refl refl
 
 -- more ranges than any record has tasks are turned back by the number that turns none back
 pub free-many : (r : Propagator) (es ls : List ℤ) (t d : ℤ) → TASKS < length es → (freeNumber r [] [] t d ≡ freeNumber r es ls t d) × (freeNumber r es ls t d ≡ 0 → ⊥)
-free-many r es ls t d many =
-    let (same, not) = fixed-many r es ls many in
-    let a = schedule-first r es ls t d not in
-    (schedule-first r [] [] t d (λ z. not (sym same ∙ z)) ∙ same ∙ sym a, λ z. not (sym a ∙ z))
+free-many r es ls t d many = fixed-many r es ls (t18 r [] [] t d ∷ []) (t18 r es ls t d ∷ []) many

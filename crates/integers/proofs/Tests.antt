@@ -1,17 +1,17 @@
 -- Tests over all numbers below a bound, and the first number of a list of tests that turns an input back.
 -- Assumes nothing.
 use mathlib.Core.Path.{_≡_, refl, sym, ap, _∙_}
-use mathlib.Core.Bool.{Bool, true, false, _&&_}
+use mathlib.Core.Bool.{Bool, true, false, not, _&&_}
 use mathlib.Core.Logic.{_⊎_, inl, inr, _↔_}
 use mathlib.Core.List.{List, [], _∷_, _++_}
 use Prim.Native.Nat.{ℕ, zero, suc, _+_, _<_}
 use native.Mathlib.Omega.{arith}
 use native.Mathlib.Numerals.{add-one}
 use native.Mathlib.Decide.{decLt}
-use Rattle.integers.specs.Tests.{allBelow, Test, refusal, AllPassed, numbers}
-use Rattle.integers.specs.Orders.{has}
+use lib.Dec.{eqb}
+use borrow.Author.Tests.{eqb-false}
+use Rattle.integers.specs.Tests.{allBelow, Test, refusal, AllPassed}
 use Rattle.integers.proofs.Bools.{bool, clash, and-true, and-yes}
-use Rattle.integers.proofs.Permutations.{has-not}
 
 module _ (pass : ℕ → Bool) where
   all-suc : (n : ℕ) → allBelow pass (suc n) ≡ allBelow pass n && pass n
@@ -68,46 +68,81 @@ pub accepts : (ts : List Test) → AllPassed ts → refusal ts ≡ 0
 accepts [] h = refusal-none
 accepts (t ∷ ts) h = refusal-next t ts (h .0) ∙ accepts ts (h .1)
 
--- and only there, as no test has the number 0
-pub accepted : (ts : List Test) → has (numbers ts) 0 ≡ false → refusal ts ≡ 0 → AllPassed ts
-accepted [] d h = tt
-accepted (t ∷ ts) d h = by (bool (t .passed)) (accepted ts (other .1))
-  where
-    other : (t .number ≡ 0 → ⊥) × (has (numbers ts) 0 ≡ false)
-    other = has-not (t .number) 0 (numbers ts) d
+-- tests that are passed, before others
+pub refusal-after : (ts us : List Test) → AllPassed ts → refusal (ts ++ us) ≡ refusal us
+refusal-after [] us h = refl
+refusal-after (t ∷ ts) us h = refusal-next t (ts ++ us) (h .0) ∙ refusal-after ts us (h .1)
 
+-- Numbers that no test of a list has: computed, so that `refl` decides it of a list that is written out.
+abbrev pub other : List Test → ℕ → Bool
+other [] n = true
+other (t ∷ ts) n = not (eqb (t .number) n) && other ts n
+
+-- nor are they 0, which is the number of a list that is passed
+abbrev pub unused : List Test → ℕ → Bool
+unused ts n = other ts n && not (eqb n 0)
+
+not-yes : (b : Bool) → not b ≡ true → b ≡ false
+not-yes true h = clash h refl
+not-yes false h = refl
+
+other-cons : (t : Test) (ts : List Test) (n : ℕ) → other (t ∷ ts) n ≡ true → (t .number ≡ n → ⊥) × (other ts n ≡ true)
+other-cons t ts n h = let (p, q) = and-true (not (eqb (t .number) n)) (other ts n) h in (eqb-false (t .number) n (not-yes _ p), q)
+
+-- and only there, as no test has the number 0
+pub accepted : (ts : List Test) → other ts 0 ≡ true → refusal ts ≡ 0 → AllPassed ts
+accepted [] d h = tt
+accepted (t ∷ ts) d h = by (bool (t .passed)) (accepted ts (other-cons t ts 0 d .1))
+  where
     by : (t .passed ≡ true) ⊎ (t .passed ≡ false) → (refusal ts ≡ 0 → AllPassed ts) → AllPassed (t ∷ ts)
     by (inl y) ih = (y, ih (sym (refusal-next t ts y) ∙ h))
-    by (inr y) ih = absurd (other .0 (sym (refusal-here t ts y) ∙ h))
+    by (inr y) ih = absurd (other-cons t ts 0 d .0 (sym (refusal-here t ts y) ∙ h))
 
 -- a number that is none of the tests' is not given
-not-given : (ts : List Test) (n : ℕ) → has (numbers ts) n ≡ false → (n ≡ 0 → ⊥) → refusal ts ≡ n → ⊥
-not-given [] n d z h = z (sym h ∙ refusal-none)
-not-given (t ∷ ts) n d z h = by (bool (t .passed)) (not-given ts n (other .1) z)
+pub not-given : (ts : List Test) (n : ℕ) → unused ts n ≡ true → refusal ts ≡ n → ⊥
+not-given ts n d = let (p, q) = and-true (other ts n) (not (eqb n 0)) d in from ts p (eqb-false n 0 (not-yes _ q))
   where
-    other : (t .number ≡ n → ⊥) × (has (numbers ts) n ≡ false)
-    other = has-not (t .number) n (numbers ts) d
+    from : (ts : List Test) → other ts n ≡ true → (n ≡ 0 → ⊥) → refusal ts ≡ n → ⊥
+    from [] p z h = z (sym h ∙ refusal-none)
+    from (t ∷ ts) p z h = elim (bool (t .passed)) [ inl y ↦ from ts (other-cons t ts n p .1) z (sym (refusal-next t ts y) ∙ h) | inr y ↦ other-cons t ts n p .0 (sym (refusal-here t ts y) ∙ h) ]
 
-    by : (t .passed ≡ true) ⊎ (t .passed ≡ false) → (refusal ts ≡ n → ⊥) → ⊥
-    by (inl y) ih = ih (sym (refusal-next t ts y) ∙ h)
-    by (inr y) ih = other .0 (sym (refusal-here t ts y) ∙ h)
+-- a test is not passed exactly where its fact does not hold
+pub broken : {F : Type 0} {b : Bool} → (b ≡ true ↔ F) → (b ≡ false ↔ (F → ⊥))
+broken {F} {b} w = (λ h f. clash (w .1 f) h, λ h. elim (bool b) [ inl y ↦ absurd (h (w .0 y)) | inr y ↦ y ])
 
--- The sole ground for a test's number, where no other test has it: all before it are passed, and it is not.
-pub ground : (before : List Test) (t : Test) (after : List Test) → has (numbers before) (t .number) ≡ false → has (numbers after) (t .number) ≡ false → (t .number ≡ 0 → ⊥)
-    → refusal (before ++ (t ∷ after)) ≡ t .number → AllPassed before × (t .passed ≡ false)
-ground [] t after p q z h = (tt, by (bool (t .passed)))
+-- The sole ground for a test's number, where no later test has it: the test's fact does not hold.
+pub first-refuses : (t : Test) (ts : List Test) {F : Type 0} → (t .passed ≡ true ↔ F) → unused ts (t .number) ≡ true → refusal (t ∷ ts) ≡ t .number ↔ (F → ⊥)
+first-refuses t ts is d = (
+  λ h. elim (bool (t .passed)) [ inl y ↦ absurd (not-given ts (t .number) d (sym (refusal-next t ts y) ∙ h)) | inr y ↦ broken is .0 y ],
+  λ f. refusal-here t ts (broken is .1 f),
+)
+
+-- Tests, and others behind them: a number that is none of the first is given where those are passed and the others give it.
+-- What holds where the first are passed may be used for the others.
+pub behind : (ts us : List Test) {n : ℕ} {F G : Type 0} → (AllPassed ts ↔ F) → other ts n ≡ true → (F → refusal us ≡ n ↔ G) → refusal (ts ++ us) ≡ n ↔ (F × G)
+behind ts us {n} {F} {G} is d rest = (
+  λ h. (let (p, q) = passed ts d h in (is .0 p, rest (is .0 p) .0 q)),
+  λ f. refusal-after ts us (is .1 (f .0)) ∙ rest (f .0) .1 (f .1),
+)
   where
-    by : (t .passed ≡ true) ⊎ (t .passed ≡ false) → t .passed ≡ false
-    by (inl y) = absurd (not-given after (t .number) q z (sym (refusal-next t after y) ∙ h))
-    by (inr y) = y
-ground (b ∷ bs) t after p q z h = by (bool (b .passed)) (ground bs t after (other .1) q z)
-  where
-    other : (b .number ≡ t .number → ⊥) × (has (numbers bs) (t .number) ≡ false)
-    other = has-not (b .number) (t .number) (numbers bs) p
+    passed : (ts : List Test) → other ts n ≡ true → refusal (ts ++ us) ≡ n → AllPassed ts × (refusal us ≡ n)
+    passed [] d h = (tt, h)
+    passed (t ∷ ts) d h = elim (bool (t .passed)) [
+      | inl y ↦ (let (p, q) = passed ts (other-cons t ts n d .1) (sym (refusal-next t (ts ++ us) y) ∙ h) in ((y, p), q))
+      | inr y ↦ absurd (other-cons t ts n d .0 (sym (refusal-here t (ts ++ us) y) ∙ h))
+    ]
 
-    by : (b .passed ≡ true) ⊎ (b .passed ≡ false) → (refusal (bs ++ (t ∷ after)) ≡ t .number → AllPassed bs × (t .passed ≡ false)) → AllPassed (b ∷ bs) × (t .passed ≡ false)
-    by (inl y) ih = let r = ih (sym (refusal-next b (bs ++ (t ∷ after)) y) ∙ h) in ((y, r .0), r .1)
-    by (inr y) ih = absurd (other .0 (sym (refusal-here b (bs ++ (t ∷ after)) y) ∙ h))
+-- one test, and others behind it
+pub first-holds : (t : Test) (us : List Test) {n : ℕ} {F G : Type 0} → (t .passed ≡ true ↔ F) → other (t ∷ []) n ≡ true → (F → refusal us ≡ n ↔ G) → refusal (t ∷ us) ≡ n ↔ (F × G)
+first-holds t us is d rest = behind (t ∷ []) us (λ p. is .0 (p .0), λ f. (is .1 f, tt)) d rest
+
+-- these tests and one more: nothing is given where all hold, and the last one's number where it alone does not
+module _ (ts : List Test) (t : Test) {F G : Type 0} (is : AllPassed ts ↔ F) (own : t .passed ≡ true ↔ G) where
+  pub more-accepted : other ts 0 ≡ true → other (t ∷ []) 0 ≡ true → refusal (ts ++ (t ∷ [])) ≡ 0 ↔ (F × G)
+  more-accepted d e = behind ts (t ∷ []) is d (λ _. (λ h. own .0 (accepted (t ∷ []) e h .0), λ g. accepts (t ∷ []) (own .1 g, tt)))
+
+  pub more-refused : other ts (t .number) ≡ true → unused [] (t .number) ≡ true → refusal (ts ++ (t ∷ [])) ≡ t .number ↔ (F × (G → ⊥))
+  more-refused d e = behind ts (t ∷ []) is d (λ _. first-refuses t [] own e)
 
 pub refuses : (before : List Test) (t : Test) (after : List Test) → AllPassed before → t .passed ≡ false → refusal (before ++ (t ∷ after)) ≡ t .number
 refuses [] t after h q = refusal-here t after q
@@ -121,11 +156,3 @@ refusal-before (t ∷ ts) us h = by (bool (t .passed)) (refusal-before ts us)
     by : (t .passed ≡ true) ⊎ (t .passed ≡ false) → ((refusal ts ≡ 0 → ⊥) → refusal (ts ++ us) ≡ refusal ts) → refusal (t ∷ ts ++ us) ≡ refusal (t ∷ ts)
     by (inl y) ih = refusal-next t (ts ++ us) y ∙ ih (λ z. h (refusal-next t ts y ∙ z)) ∙ sym (refusal-next t ts y)
     by (inr y) ih = refusal-here t (ts ++ us) y ∙ sym (refusal-here t ts y)
-
-pub refusal-after : (ts us : List Test) → AllPassed ts → refusal (ts ++ us) ≡ refusal us
-refusal-after [] us h = refl
-refusal-after (t ∷ ts) us h = refusal-next t (ts ++ us) (h .0) ∙ refusal-after ts us (h .1)
-
--- a test is not passed exactly where its fact does not hold
-pub broken : {F : Type 0} {b : Bool} → (b ≡ true ↔ F) → (b ≡ false ↔ (F → ⊥))
-broken {F} {b} w = (λ h f. clash (w .1 f) h, λ h. elim (bool b) [ inl y ↦ absurd (h (w .0 y)) | inr y ↦ y ])

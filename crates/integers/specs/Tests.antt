@@ -26,8 +26,3 @@ refusal (t ∷ ts) = elim (t .passed) [ true ↦ refusal ts | false ↦ t .numbe
 abbrev pub AllPassed : List Test → Type 0
 AllPassed [] = Unit {0}
 AllPassed (t ∷ ts) = (t .passed ≡ true) × AllPassed ts
-
--- the numbers of the tests
-abbrev pub numbers : List Test → List ℕ
-numbers [] = []
-numbers (t ∷ ts) = t .number ∷ numbers ts

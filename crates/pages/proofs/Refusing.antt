@@ -1,24 +1,22 @@
 -- What turns a page back: what holds where nothing does, and the sole ground for each number.
 -- Assumes nothing.
-use mathlib.Core.Path.{_≡_, refl, sym, _∙_}
+use mathlib.Core.Path.{_≡_, refl, _∙_}
 use mathlib.Core.Bool.{true}
 use mathlib.Core.Logic.{_↔_}
 use mathlib.Core.List.{List, [], _∷_}
 use Prim.Native.Nat.{ℕ, _+_, _*_, _≤_, _<_}
-use native.Mathlib.Omega.{arith}
 use lib.Dec.{leb}
 use lib.IntN.{ℤ}
 use lib.ListN.{length}
 use borrow.Author.Tests.{leb-true, le-leb, lt-leb}
 use Rattle.integers.specs.Limits.{TASKS}
-use Rattle.integers.specs.Orders.{has}
 use Rattle.integers.specs.Tests.{Test, test}
-use Rattle.integers.proofs.Tests.{accepts, refuses}
+use Rattle.integers.proofs.Tests.{accepts, refuses, more-accepted, more-refused}
 use Rattle.records.specs.declared.record.Propagator.{Propagator}
 use Rattle.records.specs.Records.{Lawful}
 use Rattle.records.specs.Refusals.{CountsFit, StartsFit, RangesFit}
-use Rattle.fixed.specs.FixedSchedules.{fixedNumber, Fixed, AcceptedFixed}
-use Rattle.fixed.proofs.Refusing.{fixed-first, fixed-then, fixed-20, fixed-10, fixed-3, fixed-4, fixed-14, fixed-many, last-accepted, last-refused}
+use Rattle.fixed.specs.FixedSchedules.{fixedTests, fixedNumber, Fixed, AcceptedFixed}
+use Rattle.fixed.proofs.Refusing.{fixed-first, fixed-then, fixed-20, fixed-10, fixed-3, fixed-4, fixed-14, fixed-many, passed-fixed}
 use Rattle.pages.specs.Lines.{LINE}
 use Rattle.pages.specs.Pages.{pageNumber, Accepted}
 
@@ -32,9 +30,8 @@ module _ (r : Propagator) (es ls : List ℤ) (bytes : ℕ) where
 
   -- nothing turns the page back
   pub accepted-page : pageNumber r es ls bytes ≡ 0 ↔ Accepted r es ls bytes
-  unfolding has
   accepted-page =
-      let w = last-accepted r es ls t15 room-is refl in
+      let w = more-accepted (fixedTests r es ls) t15 (passed-fixed r es ls) room-is refl refl in
       (λ h. (let f = w .0 h in record { schedule = f .0; room = f .1 }), λ a. w .1 (a .schedule, a .room))
 
   -- what is wrong with the schedule goes before
@@ -50,32 +47,23 @@ module _ (r : Propagator) (es ls : List ℤ) (bytes : ℕ) where
 
   -- The sole ground for each number: all before it hold, and its own does not.
   pub refused-20 : pageNumber r es ls bytes ≡ 20 ↔ (Lawful r → ⊥)
-  unfolding has
   refused-20 = fixed-20 r es ls (t15 ∷ []) refl
 
   pub refused-10 : pageNumber r es ls bytes ≡ 10 ↔ (Lawful r × (CountsFit (r .count) es ls → ⊥))
-  unfolding has
   refused-10 = fixed-10 r es ls (t15 ∷ []) refl
 
   pub refused-3 : pageNumber r es ls bytes ≡ 3 ↔ (Lawful r × (CountsFit (r .count) es ls × (StartsFit es ls → ⊥)))
-  unfolding has
   refused-3 = fixed-3 r es ls (t15 ∷ []) refl
 
   pub refused-4 : pageNumber r es ls bytes ≡ 4 ↔ (Lawful r × (CountsFit (r .count) es ls × (StartsFit es ls × (RangesFit es ls → ⊥))))
-  unfolding has
   refused-4 = fixed-4 r es ls (t15 ∷ []) refl
 
   pub refused-14 : pageNumber r es ls bytes ≡ 14 ↔ (Lawful r × (CountsFit (r .count) es ls × (StartsFit es ls × (RangesFit es ls × (Fixed r es ls → ⊥)))))
-  unfolding has
   refused-14 = fixed-14 r es ls (t15 ∷ []) refl
 
   pub refused-15 : pageNumber r es ls bytes ≡ 15 ↔ (AcceptedFixed r es ls × (LINE * (r .count + 1) ≤ bytes → ⊥))
-  unfolding has
-  refused-15 = last-refused r es ls t15 room-is refl (λ z. omega arith)
+  refused-15 = more-refused (fixedTests r es ls) t15 (passed-fixed r es ls) room-is refl refl
 
 -- more ranges than any record has tasks are turned back by the number that turns none back
 pub page-many : (r : Propagator) (es ls : List ℤ) (bytes : ℕ) → TASKS < length es → (pageNumber r [] [] bytes ≡ pageNumber r es ls bytes) × (pageNumber r es ls bytes ≡ 0 → ⊥)
-page-many r es ls bytes many =
-    let (same, not) = fixed-many r es ls many in
-    let a = schedule-first r es ls bytes not in
-    (schedule-first r [] [] bytes (λ z. not (sym same ∙ z)) ∙ same ∙ sym a, λ z. not (sym a ∙ z))
+page-many r es ls bytes many = fixed-many r es ls (t15 r [] [] bytes ∷ []) (t15 r es ls bytes ∷ []) many

@@ -3,19 +3,17 @@
 use mathlib.Core.Path.{_≡_, refl, _∙_}
 use mathlib.Core.Bool.{true, false}
 use mathlib.Core.Logic.{_↔_}
-use mathlib.Core.List.{List, [], _∷_, _++_}
+use mathlib.Core.List.{List, [], _∷_}
 use Prim.Native.Nat.{ℕ, _*_, _≤_, _<_}
-use native.Mathlib.Omega.{arith}
 use lib.Dec.{leb, ltb}
 use lib.IntN.{ℤ}
 use borrow.Author.Tests.{ltb-true, lt-ltb, leb-true, le-leb}
-use Rattle.integers.specs.Orders.{has}
 use Rattle.integers.specs.Tests.{Test, test, AllPassed}
-use Rattle.integers.proofs.Tests.{accepts, accepted, ground, refuses, refusal-after, broken}
+use Rattle.integers.proofs.Tests.{accepts, accepted, refuses, refusal-after, first-refuses, first-holds, behind}
 use Rattle.records.specs.declared.record.Propagator.{Propagator}
 use Rattle.records.specs.Records.{Lawful}
 use Rattle.records.specs.Refusals.{inputTests, CountsFit, StartsFit, RangesFit, AcceptedInput}
-use Rattle.records.proofs.Refused.{accepted-input, input-passed, input-20, input-10, input-3, input-4}
+use Rattle.records.proofs.Refused.{passed-input, input-20, input-10, input-3, input-4}
 use Rattle.precedences.specs.Reasons.{reasonTests, reasonNumber, AcceptedReason}
 
 small-is : (task n : ℕ) → ltb task n ≡ true ↔ (task < n)
@@ -43,43 +41,27 @@ module _ (r : Propagator) (es ls : List ℤ) (task words : ℕ) where
 
   -- nothing turns the call back
   pub accepted-reason : reasonNumber r es ls task words ≡ 0 → AcceptedInput r es ls × AcceptedReason r task words
-  unfolding has
   accepted-reason h = facts (accepted (reasonTests r es ls task words) refl h)
     where
       facts : AllPassed (reasonTests r es ls task words) → AcceptedInput r es ls × AcceptedReason r task words
       facts (a, (b, (c, (d, (p, (q, _)))))) =
-          (accepted-input r es ls .0 (accepts (inputTests r es ls) (a, (b, (c, (d, tt))))), record { small = small-is task (r .count) .0 p; room = room-is (r .count) words .0 q })
+          (passed-input r es ls .0 (a, (b, (c, (d, tt)))), record { small = small-is task (r .count) .0 p; room = room-is (r .count) words .0 q })
 
   -- The sole ground for each number: all before it hold, and its own does not.
   pub refused-20 : reasonNumber r es ls task words ≡ 20 ↔ (Lawful r → ⊥)
-  unfolding has
   refused-20 = input-20 r es ls (t17 ∷ t16 ∷ []) refl
 
   pub refused-10 : reasonNumber r es ls task words ≡ 10 ↔ (Lawful r × (CountsFit (r .count) es ls → ⊥))
-  unfolding has
   refused-10 = input-10 r es ls (t17 ∷ t16 ∷ []) refl
 
   pub refused-3 : reasonNumber r es ls task words ≡ 3 ↔ (Lawful r × (CountsFit (r .count) es ls × (StartsFit es ls → ⊥)))
-  unfolding has
   refused-3 = input-3 r es ls (t17 ∷ t16 ∷ []) refl
 
   pub refused-4 : reasonNumber r es ls task words ≡ 4 ↔ (Lawful r × (CountsFit (r .count) es ls × (StartsFit es ls × (RangesFit es ls → ⊥))))
-  unfolding has
   refused-4 = input-4 r es ls (t17 ∷ t16 ∷ []) refl
 
   pub refused-17 : reasonNumber r es ls task words ≡ 17 ↔ (AcceptedInput r es ls × (task < r .count → ⊥))
-  unfolding has
-  refused-17 = (
-    λ h. (let g = ground (inputTests r es ls) t17 (t16 ∷ []) refl refl (λ z. omega arith) h in (accepted-input r es ls .0 (accepts (inputTests r es ls) (g .0)), broken (small-is task (r .count)) .0 (g .1))),
-    λ f. no-task (input-passed r es ls (accepted-input r es ls .1 (f .0))) (broken (small-is task (r .count)) .1 (f .1)),
-  )
+  refused-17 = behind (inputTests r es ls) (t17 ∷ t16 ∷ []) (passed-input r es ls) refl (λ _. first-refuses t17 (t16 ∷ []) (small-is task (r .count)) refl)
 
   pub refused-16 : reasonNumber r es ls task words ≡ 16 ↔ (AcceptedInput r es ls × ((task < r .count) × (6 * r .count ≤ words → ⊥)))
-  unfolding has
-  refused-16 = (
-    λ h. (let g = ground (inputTests r es ls ++ (t17 ∷ [])) t16 [] refl refl (λ z. omega arith) h in found (g .0) (g .1)),
-    λ f. no-room (input-passed r es ls (accepted-input r es ls .1 (f .0))) (lt-ltb task (r .count) (f .1 .0)) (broken (room-is (r .count) words) .1 (f .1 .1)),
-  )
-    where
-      found : AllPassed (inputTests r es ls ++ (t17 ∷ [])) → leb (6 * r .count) words ≡ false → AcceptedInput r es ls × ((task < r .count) × (6 * r .count ≤ words → ⊥))
-      found (a, (b, (c, (d, (p, _))))) q = (accepted-input r es ls .0 (accepts (inputTests r es ls) (a, (b, (c, (d, tt))))), (small-is task (r .count) .0 p, broken (room-is (r .count) words) .0 q))
+  refused-16 = behind (inputTests r es ls) (t17 ∷ t16 ∷ []) (passed-input r es ls) refl (λ _. first-holds t17 (t16 ∷ []) (small-is task (r .count)) refl (λ _. first-refuses t16 [] (room-is (r .count) words) refl))

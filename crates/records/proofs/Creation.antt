@@ -13,17 +13,16 @@ use lib.ListN.{length, getD, length-map}
 use borrow.Author.Tests.{leb-true, le-leb}
 use Rattle.integers.specs.Limits.{TASKS, DURATIONS}
 use Rattle.integers.specs.Filling.{filled}
-use Rattle.integers.specs.Orders.{has}
-use Rattle.integers.specs.Tests.{Test, test, allBelow, refusal, AllPassed}
+use Rattle.integers.specs.Tests.{allBelow, refusal, AllPassed}
 use Rattle.integers.proofs.Bools.{clash}
 use Rattle.integers.proofs.Filling.{filled-at, filled-past, getD-fresh}
 use Rattle.integers.proofs.Ints.{leZ-true, le-leZ}
-use Rattle.integers.proofs.Tests.{all-at, all-show, all-ext, accepts, accepted, ground, refuses, broken}
+use Rattle.integers.proofs.Tests.{all-at, all-show, all-ext, accepts, accepted, first-refuses, first-holds}
 use Rattle.scheduling.specs.Scheduling.{total}
 use Rattle.scheduling.proofs.Sets.{total-ext}
 use Rattle.records.specs.declared.record.Creation.the-variants.{Accepted, Refused}
 use Rattle.records.specs.Orders.{noTasks}
-use Rattle.records.specs.Records.{countFits, sumFits, lastsAt, Lawful, durationOf, durationAt, positiveAt, creationTests, newRecord, zeroRecord, creationNumber, created, createdAt}
+use Rattle.records.specs.Records.{sumFits, lastsAt, Lawful, durationOf, durationAt, positiveAt, creationTests, newRecord, zeroRecord, creationNumber, created, createdAt}
 use Rattle.records.proofs.Lawful.{count-is}
 
 pub negative : (z : ℤ) → leZ (pos 0) z ≡ false → durationOf z ≡ 0
@@ -59,7 +58,6 @@ answer-number ds = at (refusal (creationTests ds))
 
 -- A created record is lawful, so that no run turns it back with 20.
 pub created-lawful : (ds : List ℤ) → refusal (creationTests ds) ≡ 0 → Lawful (newRecord ds)
-unfolding has
 created-lawful ds h = made (accepted (creationTests ds) refl h)
   where
     n : ℕ
@@ -80,15 +78,6 @@ created-lawful ds h = made (accepted (creationTests ds) refl h)
 
 -- The sole ground for each number: all before it hold, and its own does not.
 module _ (ds : List ℤ) where
-  abbrev t1 : Test
-  t1 = test 1 (countFits (length ds))
-
-  abbrev t2 : Test
-  t2 = test 2 (allBelow (positiveAt ds) (length ds))
-
-  abbrev t5 : Test
-  t5 = test 5 (sumFits (durationAt ds) (length ds))
-
   durations-are : allBelow (positiveAt ds) (length ds) ≡ true ↔ ((k : ℕ) → k < length ds → pos 1 ≤ℤ getD ds k (pos 0))
   durations-are = (
     λ h k q. leZ-true (pos 1) (getD ds k (pos 0)) (all-at (positiveAt ds) (length ds) h k q),
@@ -99,25 +88,13 @@ module _ (ds : List ℤ) where
   sum-is = (leb-true (total (durationAt ds) (length ds)) DURATIONS, le-leb (total (durationAt ds) (length ds)) DURATIONS)
 
   pub refused-1 : refusal (creationTests ds) ≡ 1 ↔ ((1 ≤ length ds) × (length ds ≤ TASKS) → ⊥)
-  unfolding has
-  refused-1 = (
-    λ h. broken (count-is (length ds)) .0 (ground [] t1 (t2 ∷ t5 ∷ []) refl refl (λ z. omega arith) h .1),
-    λ f. refuses [] t1 (t2 ∷ t5 ∷ []) tt (broken (count-is (length ds)) .1 f),
-  )
+  refused-1 = first-refuses _ _ (count-is (length ds)) refl
 
   pub refused-2 : refusal (creationTests ds) ≡ 2 ↔ (((1 ≤ length ds) × (length ds ≤ TASKS)) × (((k : ℕ) → k < length ds → pos 1 ≤ℤ getD ds k (pos 0)) → ⊥))
-  unfolding has
-  refused-2 = (
-    λ h. (let g = ground (t1 ∷ []) t2 (t5 ∷ []) refl refl (λ z. omega arith) h in (count-is (length ds) .0 (g .0 .0), broken durations-are .0 (g .1))),
-    λ f. refuses (t1 ∷ []) t2 (t5 ∷ []) (count-is (length ds) .1 (f .0), tt) (broken durations-are .1 (f .1)),
-  )
+  refused-2 = first-holds _ _ (count-is (length ds)) refl (λ _. first-refuses _ _ durations-are refl)
 
   pub refused-5 : refusal (creationTests ds) ≡ 5 ↔ (((1 ≤ length ds) × (length ds ≤ TASKS)) × (((k : ℕ) → k < length ds → pos 1 ≤ℤ getD ds k (pos 0)) × (total (durationAt ds) (length ds) ≤ DURATIONS → ⊥)))
-  unfolding has
-  refused-5 = (
-    λ h. (let g = ground (t1 ∷ t2 ∷ []) t5 [] refl refl (λ z. omega arith) h in (count-is (length ds) .0 (g .0 .0), (durations-are .0 (g .0 .1 .0), broken sum-is .0 (g .1)))),
-    λ f. refuses (t1 ∷ t2 ∷ []) t5 [] (count-is (length ds) .1 (f .0), (durations-are .1 (f .1 .0), tt)) (broken sum-is .1 (f .1 .1)),
-  )
+  refused-5 = first-holds _ _ (count-is (length ds)) refl (λ _. first-holds _ _ durations-are refl (λ _. first-refuses _ _ sum-is refl))
 
 -- Natural numbers as durations: task k's is the k-th, and they are accepted where they are 1 or more and sum to at most DURATIONS.
 module _ (l : List ℕ) where

@@ -9,7 +9,6 @@ use lib.Dec.{eqb}
 use lib.IntN.{ℤ, pos, natAbs}
 use lib.ListN.{length, take, drop}
 use borrow.Author.Tests.{ltb-true, leb-true, lt-ltb, le-leb, eq-eqb, ne-eqb}
-use Rattle.integers.specs.Orders.{has}
 use Rattle.integers.specs.Tests.{AllPassed}
 use Rattle.integers.proofs.Ints.{ints, up, dn, leZ-true, le-leZ}
 use Rattle.integers.proofs.Tests.{accepts, accepted}
@@ -18,7 +17,6 @@ use Rattle.records.specs.Posts.{firstAtom, atomCount, stretchStart, stre
 module _ (posts atoms : List ℤ) (count index : ℕ) where
   -- 0 is for the posts that can be read
   pub readable : postNumber posts atoms count index ≡ 0 ↔ Readable posts atoms count index
-  unfolding has
   readable = (λ h. facts (accepted (postTests posts atoms count index) refl h), λ r. accepts (postTests posts atoms count index) (tests r))
     where
       facts : AllPassed (postTests posts atoms count index) → Readable posts atoms count index

@@ -8,28 +8,31 @@ use Prim.Native.Nat.{ℕ, _*_, _<_}
 use native.Mathlib.Omega.{arith}
 use lib.Dec.{leb, eqb}
 use lib.IntN.{ℤ, pos, negℤ}
-use lib.Signed.{leZ}
+use lib.Signed.{leZ, _≤ℤ_}
 use lib.ListN.{length, getD}
 use borrow.Author.Tests.{leb-true, le-leb, eqb-true, eq-eqb}
 use Rattle.integers.specs.Limits.{START, TASKS}
-use Rattle.integers.specs.Orders.{has}
-use Rattle.integers.specs.Tests.{Test, test, allBelow, refusal, AllPassed, numbers}
+use Rattle.integers.specs.Tests.{Test, test, allBelow, refusal, AllPassed}
 use Rattle.integers.proofs.Bools.{bool, and-true, and-yes}
 use Rattle.integers.proofs.Ints.{leZ-true, le-leZ}
-use Rattle.integers.proofs.Tests.{all-at, all-show, accepts, accepted, ground, refuses, refusal-before, refusal-after, broken}
+use Rattle.integers.proofs.Tests.{all-at, all-show, other, unused, accepts, accepted, refuses, refusal-before, refusal-after, broken, first-refuses, first-holds, behind, more-accepted}
 use Rattle.records.specs.declared.record.Propagator.{Propagator}
 use Rattle.records.specs.Records.{lawfulRecord, Lawful}
-use Rattle.records.specs.Refusals.{startFits, startFitsAt, rangeFitsAt, inputTests, inputNumber, runTests, runNumber, StartFits, CountsFit, StartsFit, RangesFit, WordsFit, AcceptedInput, Accepted}
+use Rattle.records.specs.Refusals.{startFitsAt, rangeFitsAt, inputTests, inputNumber, runNumber, StartFits, CountsFit, StartsFit, RangesFit, WordsFit, AcceptedInput, Accepted}
 use Rattle.records.proofs.Lawful.{lawful-is}
 
-start-is : (z : ℤ) → startFits z ≡ true ↔ StartFits z
-start-is z = (
-  λ h. (let a = and-true (leZ (negℤ (pos START)) z) (leZ z (pos START)) h in record { low = leZ-true (negℤ (pos START)) z (a .0); high = leZ-true z (pos START) (a .1) }),
-  λ f. and-yes (leZ (negℤ (pos START)) z) (leZ z (pos START)) (le-leZ (negℤ (pos START)) z (f .low)) (le-leZ z (pos START) (f .high)),
+-- a number from low to high, tested and as a fact
+pub within-is : (low high z : ℤ) → leZ low z && leZ z high ≡ true ↔ ((low ≤ℤ z) × (z ≤ℤ high))
+within-is low high z = (
+  λ h. (let a = and-true (leZ low z) (leZ z high) h in (leZ-true low z (a .0), leZ-true z high (a .1))),
+  λ f. and-yes (leZ low z) (leZ z high) (le-leZ low z (f .0)) (le-leZ z high (f .1)),
 )
 
 starts-in : (xs : List ℤ) → allBelow (startFitsAt xs) (length xs) ≡ true ↔ ((k : ℕ) → k < length xs → StartFits (getD xs k (pos 0)))
-starts-in xs = (λ h k q. start-is (getD xs k (pos 0)) .0 (all-at (startFitsAt xs) (length xs) h k q), λ f. all-show (startFitsAt xs) (length xs) (λ k q. start-is (getD xs k (pos 0)) .1 (f k q)))
+starts-in xs = (
+  λ h k q. (let f = within-is (negℤ (pos START)) (pos START) (getD xs k (pos 0)) .0 (all-at (startFitsAt xs) (length xs) h k q) in record { low = f .0; high = f .1 }),
+  λ f. all-show (startFitsAt xs) (length xs) (λ k q. within-is (negℤ (pos START)) (pos START) (getD xs k (pos 0)) .1 (f k q .low, f k q .high)),
+)
 
 module _ (n : ℕ) (es ls : List ℤ) where
   pub counts-are : eqb (length es) n && eqb (length ls) n ≡ true ↔ CountsFit n es ls
@@ -56,13 +59,9 @@ words-are n posts atoms = (
   λ f. and-yes (leb (4 * n) posts) (leb (6 * (n * n)) atoms) (le-leb (4 * n) posts (f .posts)) (le-leb (6 * (n * n)) atoms (f .atoms)),
 )
 
--- nothing is wrong with the record and its ranges
-pub input-passed : (r : Propagator) (es ls : List ℤ) → inputNumber r es ls ≡ 0 → AllPassed (inputTests r es ls)
-unfolding has
-input-passed r es ls h = accepted (inputTests r es ls) refl h
-
-pub accepted-input : (r : Propagator) (es ls : List ℤ) → inputNumber r es ls ≡ 0 ↔ AcceptedInput r es ls
-accepted-input r es ls = (λ h. facts (input-passed r es ls h), λ f. accepts (inputTests r es ls) (tests f))
+-- all tests of the record and its ranges are passed
+pub passed-input : (r : Propagator) (es ls : List ℤ) → AllPassed (inputTests r es ls) ↔ AcceptedInput r es ls
+passed-input r es ls = (facts, tests)
   where
     facts : AllPassed (inputTests r es ls) → AcceptedInput r es ls
     facts (a, (b, (c, (d, _)))) = record { lawful = lawful-is r .0 a; counts = counts-are (r .count) es ls .0 b; starts = starts-are (r .count) es ls .0 c; ranges = ranges-are (r .count) es ls .0 d }
@@ -70,51 +69,37 @@ accepted-input r es ls = (λ h. facts (input-passed r es ls h), λ f. accepts (i
     tests : AcceptedInput r es ls → AllPassed (inputTests r es ls)
     tests f = (lawful-is r .1 (f .lawful), (counts-are (r .count) es ls .1 (f .counts), (starts-are (r .count) es ls .1 (f .starts), (ranges-are (r .count) es ls .1 (f .ranges), tt))))
 
+-- nothing is wrong with them
+pub input-passed : (r : Propagator) (es ls : List ℤ) → inputNumber r es ls ≡ 0 → AllPassed (inputTests r es ls)
+input-passed r es ls h = accepted (inputTests r es ls) refl h
+
+pub accepted-input : (r : Propagator) (es ls : List ℤ) → inputNumber r es ls ≡ 0 ↔ AcceptedInput r es ls
+accepted-input r es ls = (λ h. passed-input r es ls .0 (input-passed r es ls h), λ f. accepts (inputTests r es ls) (passed-input r es ls .1 f))
+
 -- where something is, a run is turned back by the same number
 pub run-too : (r : Propagator) (es ls : List ℤ) (posts atoms : ℕ) → (inputNumber r es ls ≡ 0 → ⊥) → runNumber r es ls posts atoms ≡ inputNumber r es ls
 run-too r es ls posts atoms h = refusal-before (inputTests r es ls) _ h
 
 -- The sole ground for each number of a record and its ranges, where other tests follow that do not have it: all before it hold, and its own does not.
 module _ (r : Propagator) (es ls : List ℤ) (after : List Test) where
-  -- the tests by their numbers
-  abbrev t20 : Test
-  t20 = test 20 (lawfulRecord r)
+  pub input-20 : unused after 20 ≡ true → refusal (inputTests r es ls ++ after) ≡ 20 ↔ (Lawful r → ⊥)
+  input-20 other = first-refuses _ _ (lawful-is r) other
 
-  abbrev t10 : Test
-  t10 = test 10 (eqb (length es) (r .count) && eqb (length ls) (r .count))
+  pub input-10 : unused after 10 ≡ true → refusal (inputTests r es ls ++ after) ≡ 10 ↔ (Lawful r × (CountsFit (r .count) es ls → ⊥))
+  input-10 other = first-holds _ _ (lawful-is r) refl (λ _. first-refuses _ _ (counts-are (r .count) es ls) other)
 
-  abbrev t3 : Test
-  t3 = test 3 (allBelow (startFitsAt es) (length es) && allBelow (startFitsAt ls) (length ls))
+  pub input-3 : unused after 3 ≡ true → refusal (inputTests r es ls ++ after) ≡ 3 ↔ (Lawful r × (CountsFit (r .count) es ls × (StartsFit es ls → ⊥)))
+  input-3 other = first-holds _ _ (lawful-is r) refl (λ _. first-holds _ _ (counts-are (r .count) es ls) refl (λ _. first-refuses _ _ (starts-are (r .count) es ls) other))
 
-  abbrev t4 : Test
-  t4 = test 4 (allBelow (rangeFitsAt es ls) (length es))
+  pub input-4 : unused after 4 ≡ true → refusal (inputTests r es ls ++ after) ≡ 4 ↔ (Lawful r × (CountsFit (r .count) es ls × (StartsFit es ls × (RangesFit es ls → ⊥))))
+  input-4 other = first-holds _ _ (lawful-is r) refl (λ _. first-holds _ _ (counts-are (r .count) es ls) refl (λ _. first-holds _ _ (starts-are (r .count) es ls) refl (λ _. first-refuses _ _ (ranges-are (r .count) es ls) other)))
 
-  pub input-20 : has (numbers after) 20 ≡ false → refusal (inputTests r es ls ++ after) ≡ 20 ↔ (Lawful r → ⊥)
-  unfolding has
-  input-20 other = (
-    λ h. broken (lawful-is r) .0 (ground [] t20 (t10 ∷ t3 ∷ t4 ∷ after) refl other (λ z. omega arith) h .1),
-    λ f. refuses [] t20 (t10 ∷ t3 ∷ t4 ∷ after) tt (broken (lawful-is r) .1 f),
-  )
-
-  pub input-10 : has (numbers after) 10 ≡ false → refusal (inputTests r es ls ++ after) ≡ 10 ↔ (Lawful r × (CountsFit (r .count) es ls → ⊥))
-  unfolding has
-  input-10 other = (
-    λ h. (let g = ground (t20 ∷ []) t10 (t3 ∷ t4 ∷ after) refl other (λ z. omega arith) h in (lawful-is r .0 (g .0 .0), broken (counts-are (r .count) es ls) .0 (g .1))),
-    λ f. refuses (t20 ∷ []) t10 (t3 ∷ t4 ∷ after) (lawful-is r .1 (f .0), tt) (broken (counts-are (r .count) es ls) .1 (f .1)),
-  )
-
-  pub input-3 : has (numbers after) 3 ≡ false → refusal (inputTests r es ls ++ after) ≡ 3 ↔ (Lawful r × (CountsFit (r .count) es ls × (StartsFit es ls → ⊥)))
-  unfolding has
-  input-3 other = (
-    λ h. (let g = ground (t20 ∷ t10 ∷ []) t3 (t4 ∷ after) refl other (λ z. omega arith) h in (lawful-is r .0 (g .0 .0), (counts-are (r .count) es ls .0 (g .0 .1 .0), broken (starts-are (r .count) es ls) .0 (g .1)))),
-    λ f. refuses (t20 ∷ t10 ∷ []) t3 (t4 ∷ after) (lawful-is r .1 (f .0), (counts-are (r .count) es ls .1 (f .1 .0), tt)) (broken (starts-are (r .count) es ls) .1 (f .1 .1)),
-  )
-
-  pub input-4 : has (numbers after) 4 ≡ false → refusal (inputTests r es ls ++ after) ≡ 4 ↔ (Lawful r × (CountsFit (r .count) es ls × (StartsFit es ls × (RangesFit es ls → ⊥))))
-  unfolding has
-  input-4 other = (
-    λ h. (let g = ground (t20 ∷ t10 ∷ t3 ∷ []) t4 after refl other (λ z. omega arith) h in (lawful-is r .0 (g .0 .0), (counts-are (r .count) es ls .0 (g .0 .1 .0), (starts-are (r .count) es ls .0 (g .0 .1 .1 .0), broken (ranges-are (r .count) es ls) .0 (g .1))))),
-    λ f. refuses (t20 ∷ t10 ∷ t3 ∷ []) t4 after (lawful-is r .1 (f .0), (counts-are (r .count) es ls .1 (f .1 .0), (starts-are (r .count) es ls .1 (f .1 .1 .0), tt))) (broken (ranges-are (r .count) es ls) .1 (f .1 .1 .1)),
+  -- a number that is none of theirs: all of them hold, and the tests behind them give it
+  pub input-holds : {n : ℕ} {G : Type 0} → other (inputTests r es ls) n ≡ true → (CountsFit (r .count) es ls → refusal after ≡ n ↔ G)
+      → refusal (inputTests r es ls ++ after) ≡ n ↔ (Lawful r × (CountsFit (r .count) es ls × (StartsFit es ls × (RangesFit es ls × G))))
+  input-holds d rest = let w = behind (inputTests r es ls) after (passed-input r es ls) d (λ a. rest (a .counts)) in (
+    λ h. (let (a, g) = w .0 h in (a .lawful, (a .counts, (a .starts, (a .ranges, g))))),
+    λ f. w .1 (record { lawful = f .0; counts = f .1 .0; starts = f .1 .1 .0; ranges = f .1 .1 .1 .0 }, f .1 .1 .1 .1),
   )
 
 -- More ranges than any record has tasks are turned back by the number that turns none back, 20 or 10, whatever tests follow.
@@ -129,10 +114,10 @@ input-many r es ls after after′ many = elim (bool (lawfulRecord r)) [
 ]
   where
     by-20 : (xs zs : List ℤ) (rest : List Test) → lawfulRecord r ≡ false → refusal (inputTests r xs zs ++ rest) ≡ 20
-    by-20 xs zs rest y = refuses [] (t20 r xs zs rest) (t10 r xs zs rest ∷ t3 r xs zs rest ∷ t4 r xs zs rest ∷ rest) tt y
+    by-20 xs zs rest y = refuses [] (test 20 _) _ tt y
 
     by-10 : (xs zs : List ℤ) (rest : List Test) → lawfulRecord r ≡ true → (CountsFit (r .count) xs zs → ⊥) → refusal (inputTests r xs zs ++ rest) ≡ 10
-    by-10 xs zs rest y not = refuses (t20 r xs zs rest ∷ []) (t10 r xs zs rest) (t3 r xs zs rest ∷ t4 r xs zs rest ∷ rest) (y, tt) (broken (counts-are (r .count) xs zs) .1 not)
+    by-10 xs zs rest y not = refuses (test 20 _ ∷ []) (test 10 _) _ (y, tt) (broken (counts-are (r .count) xs zs) .1 not)
 
 module _ (r : Propagator) (es ls : List ℤ) (posts atoms : ℕ) where
   abbrev t9 : Test
@@ -147,35 +132,23 @@ module _ (r : Propagator) (es ls : List ℤ) (posts atoms : ℕ) where
 
   -- nothing turns the run back
   pub accepted-run : runNumber r es ls posts atoms ≡ 0 ↔ Accepted r es ls posts atoms
-  unfolding has
-  accepted-run = (λ h. facts (accepted (runTests r es ls posts atoms) refl h), λ f. accepts (runTests r es ls posts atoms) (tests f))
-    where
-      facts : AllPassed (runTests r es ls posts atoms) → Accepted r es ls posts atoms
-      facts (a, (b, (c, (d, (e, _))))) = record { lawful = lawful-is r .0 a; counts = counts-are (r .count) es ls .0 b; starts = starts-are (r .count) es ls .0 c; ranges = ranges-are (r .count) es ls .0 d; words = words-are (r .count) posts atoms .0 e }
-
-      tests : Accepted r es ls posts atoms → AllPassed (runTests r es ls posts atoms)
-      tests f = (lawful-is r .1 (f .lawful), (counts-are (r .count) es ls .1 (f .counts), (starts-are (r .count) es ls .1 (f .starts), (ranges-are (r .count) es ls .1 (f .ranges), (words-are (r .count) posts atoms .1 (f .words), tt)))))
+  accepted-run = let w = more-accepted (inputTests r es ls) t9 (passed-input r es ls) (words-are (r .count) posts atoms) refl refl in (
+    λ h. (let (a, w) = w .0 h in record { lawful = a .lawful; counts = a .counts; starts = a .starts; ranges = a .ranges; words = w }),
+    λ f. w .1 (record { lawful = f .lawful; counts = f .counts; starts = f .starts; ranges = f .ranges }, f .words),
+  )
 
   -- The sole ground for each number: all before it hold, and its own does not.
   pub refused-20 : runNumber r es ls posts atoms ≡ 20 ↔ (Lawful r → ⊥)
-  unfolding has
   refused-20 = input-20 r es ls (t9 ∷ []) refl
 
   pub refused-10 : runNumber r es ls posts atoms ≡ 10 ↔ (Lawful r × (CountsFit (r .count) es ls → ⊥))
-  unfolding has
   refused-10 = input-10 r es ls (t9 ∷ []) refl
 
   pub refused-3 : runNumber r es ls posts atoms ≡ 3 ↔ (Lawful r × (CountsFit (r .count) es ls × (StartsFit es ls → ⊥)))
-  unfolding has
   refused-3 = input-3 r es ls (t9 ∷ []) refl
 
   pub refused-4 : runNumber r es ls posts atoms ≡ 4 ↔ (Lawful r × (CountsFit (r .count) es ls × (StartsFit es ls × (RangesFit es ls → ⊥))))
-  unfolding has
   refused-4 = input-4 r es ls (t9 ∷ []) refl
 
   pub refused-9 : runNumber r es ls posts atoms ≡ 9 ↔ (Lawful r × (CountsFit (r .count) es ls × (StartsFit es ls × (RangesFit es ls × (WordsFit (r .count) posts atoms → ⊥)))))
-  unfolding has
-  refused-9 = (
-    λ h. (let g = ground (inputTests r es ls) t9 [] refl refl (λ z. omega arith) h in (lawful-is r .0 (g .0 .0), (counts-are (r .count) es ls .0 (g .0 .1 .0), (starts-are (r .count) es ls .0 (g .0 .1 .1 .0), (ranges-are (r .count) es ls .0 (g .0 .1 .1 .1 .0), broken (words-are (r .count) posts atoms) .0 (g .1)))))),
-    λ f. refuses (inputTests r es ls) t9 [] (lawful-is r .1 (f .0), (counts-are (r .count) es ls .1 (f .1 .0), (starts-are (r .count) es ls .1 (f .1 .1 .0), (ranges-are (r .count) es ls .1 (f .1 .1 .1 .0), tt)))) (broken (words-are (r .count) posts atoms) .1 (f .1 .1 .1 .1)),
-  )
+  refused-9 = input-holds r es ls (t9 ∷ []) refl (λ _. first-refuses t9 [] (words-are (r .count) posts atoms) refl)

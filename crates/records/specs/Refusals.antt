@@ -12,13 +12,13 @@ use Rattle.integers.specs.Tests.{Test, test, allBelow, refusal}
 use Rattle.records.specs.declared.record.Propagator.{Propagator}
 use Rattle.records.specs.Records.{lawfulRecord, Lawful}
 
--- a start is from −START to START
-abbrev pub startFits : ℤ → Bool
-startFits z = leZ (negℤ (pos START)) z && leZ z (pos START)
+-- the number at k is from low to high
+abbrev pub withinAt : ℤ → ℤ → List ℤ → ℕ → Bool
+withinAt low high xs k = leZ low (getD xs k (pos 0)) && leZ (getD xs k (pos 0)) high
 
--- task k's start is
+-- task k's start is from −START to START
 abbrev pub startFitsAt : List ℤ → ℕ → Bool
-startFitsAt xs k = startFits (getD xs k (pos 0))
+startFitsAt xs k = withinAt (negℤ (pos START)) (pos START) xs k
 
 -- task k's earliest start is not above its latest
 abbrev pub rangeFitsAt : List ℤ → List ℤ → ℕ → Bool

@@ -1,27 +1,29 @@
 // What turns a run back: the number of the first test that is broken, each tried over the whole input.
 ghost use mathlib.Core.Path.{_≡_};
+ghost use mathlib.Core.Bool.{_&&_};
 ghost use lib.ListN.{length};
+ghost use lib.Signed.{leZ};
 ghost use Rattle.integers.specs.Tests.{allBelow};
 ghost use Rattle.records.specs.Records.{recordOf};
-ghost use Rattle.records.specs.Refusals.{startFits, startFitsAt, rangeFitsAt, inputNumber, runNumber};
+ghost use Rattle.records.specs.Refusals.{withinAt, startFitsAt, rangeFitsAt, inputNumber, runNumber};
 
-// Whether a start is within the limits.
-fn start_fits(x: i32) -> bool
-    ensures { λ r. ⌜ r ≡ startFits x ⌝ }
+// Whether x is from low to high.
+pub fn within(x: i32, low: i32, high: i32) -> bool
+    ensures { λ r. ⌜ r ≡ leZ low x && leZ x high ⌝ }
 {
-    if !integers::at_most(-integers::limits::START, x) {
+    if !integers::at_most(low, x) {
         return false;
     }
-    integers::at_most(x, integers::limits::START)
+    integers::at_most(x, high)
 }
 
-// Whether every start is.
-fn starts_fit(xs: &[i32]) -> bool
-    ensures { λ r. ⌜ r ≡ allBelow (startFitsAt (now (xs .entry))) (length (now (xs .entry))) ⌝ }
+// Whether every number is.
+pub fn all_within(xs: &[i32], low: i32, high: i32) -> bool
+    ensures { λ r. ⌜ r ≡ allBelow (withinAt low high (now (xs .entry))) (length (now (xs .entry))) ⌝ }
 {
     let mut i = 0;
     while i < xs.len() {
-        if !start_fits(xs[i]) {
+        if !within(xs[i], low, high) {
             return false;
         }
         i += 1;
@@ -29,8 +31,15 @@ fn starts_fit(xs: &[i32]) -> bool
     true
 }
 
+// Whether every start is within the limits.
+fn starts_fit(xs: &[i32]) -> bool
+    ensures { λ r. ⌜ r ≡ allBelow (startFitsAt (now (xs .entry))) (length (now (xs .entry))) ⌝ }
+{
+    all_within(xs, -integers::limits::START, integers::limits::START)
+}
+
 // Whether no earliest start is above its latest.
-fn ranges_fit(earliest: &[i32], latest: &[i32]) -> bool
+pub fn ranges_fit(earliest: &[i32], latest: &[i32]) -> bool
     requires { ⌜ length (now earliest) ≡ length (now latest) ⌝ }
     ensures { λ r. ⌜ r ≡ allBelow (rangeFitsAt (now (earliest .entry)) (now (latest .entry))) (length (now (earliest .entry))) ⌝ }
 {

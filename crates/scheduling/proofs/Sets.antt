@@ -63,6 +63,10 @@ unfolding total
 total-part f zero i q = absurd (omega arith)
 total-part f (suc n) i q = elim (decLt i n) [ yes r ↦ omega (arith, total-part f n i r) | no r ↦ (let e : i ≡ n = omega arith in rw e (omega arith)) ]
 
+-- more numbers, no smaller sum
+pub total-up : (f : ℕ → ℕ) (m n : ℕ) → m ≤ n → total f m ≤ total f n
+total-up f m n q = elim (decLt m n) [ yes r ↦ omega (arith, total-part f n m r) | no r ↦ (let e : m ≡ n = omega arith in omega (arith, ap (total f) e)) ]
+
 -- g is f but for the term at i
 pub total-swap : (f g : ℕ → ℕ) (n i : ℕ) → i < n → ((k : ℕ) → (k ≡ i → ⊥) → f k ≡ g k) → total f n + g i ≡ total g n + f i
 unfolding total

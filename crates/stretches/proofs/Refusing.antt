@@ -1,24 +1,22 @@
 -- What turns a question back: what holds where nothing does, and the sole ground for each number.
 -- Assumes nothing.
-use mathlib.Core.Path.{_≡_, refl, sym, _∙_}
+use mathlib.Core.Path.{_≡_, refl, _∙_}
 use mathlib.Core.Bool.{true, false}
 use mathlib.Core.Logic.{_↔_}
 use mathlib.Core.List.{List, [], _∷_}
 use Prim.Native.Nat.{_<_}
-use native.Mathlib.Omega.{arith}
 use lib.IntN.{ℤ}
 use lib.ListN.{length}
 use Rattle.integers.specs.Limits.{TASKS}
-use Rattle.integers.specs.Orders.{has}
 use Rattle.integers.specs.Tests.{Test, test}
-use Rattle.integers.proofs.Tests.{accepts, refuses}
+use Rattle.integers.proofs.Tests.{accepts, refuses, more-accepted, more-refused}
 use Rattle.records.specs.declared.record.Propagator.{Propagator}
 use Rattle.records.specs.Records.{Lawful}
 use Rattle.records.specs.Refusals.{CountsFit, StartsFit, RangesFit}
-use Rattle.fixed.specs.FixedSchedules.{fixedNumber, Fixed, AcceptedFixed}
+use Rattle.fixed.specs.FixedSchedules.{fixedTests, fixedNumber, Fixed, AcceptedFixed}
 use Rattle.fixed.specs.Asked.{lengthFits, LengthFits}
 use Rattle.fixed.proofs.Asking.{length-is}
-use Rattle.fixed.proofs.Refusing.{fixed-first, fixed-then, fixed-20, fixed-10, fixed-3, fixed-4, fixed-14, fixed-many, last-accepted, last-refused}
+use Rattle.fixed.proofs.Refusing.{fixed-first, fixed-then, fixed-20, fixed-10, fixed-3, fixed-4, fixed-14, fixed-many, passed-fixed}
 use Rattle.stretches.specs.Stretches.{stretchNumber}
 
 module _ (r : Propagator) (es ls : List ℤ) (w : ℤ) where
@@ -28,8 +26,7 @@ module _ (r : Propagator) (es ls : List ℤ) (w : ℤ) where
 
   -- nothing turns the question back
   pub accepted-question : stretchNumber r es ls w ≡ 0 ↔ (AcceptedFixed r es ls × LengthFits w)
-  unfolding has
-  accepted-question = last-accepted r es ls t23 (length-is w) refl
+  accepted-question = more-accepted (fixedTests r es ls) t23 (passed-fixed r es ls) (length-is w) refl refl
 
   -- what is wrong with the schedule goes before
   pub schedule-first : (fixedNumber r es ls ≡ 0 → ⊥) → stretchNumber r es ls w ≡ fixedNumber r es ls
@@ -44,32 +41,23 @@ module _ (r : Propagator) (es ls : List ℤ) (w : ℤ) where
 
   -- The sole ground for each number: all before it hold, and its own does not.
   pub refused-20 : stretchNumber r es ls w ≡ 20 ↔ (Lawful r → ⊥)
-  unfolding has
   refused-20 = fixed-20 r es ls (t23 ∷ []) refl
 
   pub refused-10 : stretchNumber r es ls w ≡ 10 ↔ (Lawful r × (CountsFit (r .count) es ls → ⊥))
-  unfolding has
   refused-10 = fixed-10 r es ls (t23 ∷ []) refl
 
   pub refused-3 : stretchNumber r es ls w ≡ 3 ↔ (Lawful r × (CountsFit (r .count) es ls × (StartsFit es ls → ⊥)))
-  unfolding has
   refused-3 = fixed-3 r es ls (t23 ∷ []) refl
 
   pub refused-4 : stretchNumber r es ls w ≡ 4 ↔ (Lawful r × (CountsFit (r .count) es ls × (StartsFit es ls × (RangesFit es ls → ⊥))))
-  unfolding has
   refused-4 = fixed-4 r es ls (t23 ∷ []) refl
 
   pub refused-14 : stretchNumber r es ls w ≡ 14 ↔ (Lawful r × (CountsFit (r .count) es ls × (StartsFit es ls × (RangesFit es ls × (Fixed r es ls → ⊥)))))
-  unfolding has
   refused-14 = fixed-14 r es ls (t23 ∷ []) refl
 
   pub refused-23 : stretchNumber r es ls w ≡ 23 ↔ (AcceptedFixed r es ls × (LengthFits w → ⊥))
-  unfolding has
-  refused-23 = last-refused r es ls t23 (length-is w) refl (λ z. omega arith)
+  refused-23 = more-refused (fixedTests r es ls) t23 (passed-fixed r es ls) (length-is w) refl refl
 
 -- more ranges than any record has tasks are turned back by the number that turns none back
 pub stretch-many : (r : Propagator) (es ls : List ℤ) (w : ℤ) → TASKS < length es → (stretchNumber r [] [] w ≡ stretchNumber r es ls w) × (stretchNumber r es ls w ≡ 0 → ⊥)
-stretch-many r es ls w many =
-    let (same, not) = fixed-many r es ls many in
-    let a = schedule-first r es ls w not in
-    (schedule-first r [] [] w (λ z. not (sym same ∙ z)) ∙ same ∙ sym a, λ z. not (sym a ∙ z))
+stretch-many r es ls w many = fixed-many r es ls (t23 r [] [] w ∷ []) (t23 r es ls w ∷ []) many

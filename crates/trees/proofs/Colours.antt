@@ -6,13 +6,14 @@ use mathlib.Core.Logic.{inl, inr}
 use mathlib.Core.List.{List}
 use Prim.Native.Nat.{ℕ, zero, suc, _+_, _≤_, _<_}
 use native.Mathlib.Omega.{arith}
-use native.Mathlib.Decide.{decLt, ℕ-discrete}
+use native.Mathlib.Decide.{decLt}
 use lib.Dec.{eqb}
 use lib.ListN.{length, getD, set, List·getD-eq-default}
 use lib.Seq.{getD-set-same, getD-set-other}
 use borrow.Author.Tests.{ne-eqb}
 use Rattle.integers.proofs.Bools.{bool}
 use Rattle.scheduling.specs.Scheduling.{natural, Tasks, total}
+use Rattle.scheduling.proofs.Sets.{total-none, total-up}
 use Rattle.trees.specs.Shapes.{changed}
 use Rattle.trees.specs.Nodes.{emptyOf, whiteOf, grayOf}
 use Rattle.trees.specs.Bounds.{LATEST, Fair, size, PlainFair, plainSize, Bounded}
@@ -63,17 +64,9 @@ total-suc : (f : ℕ → ℕ) (n : ℕ) → total f (suc n) ≡ total f n + f n
 unfolding total
 total-suc f n = refl
 
-total-zero : (f : ℕ → ℕ) → total f 0 ≡ 0
-unfolding total
-total-zero f = refl
-
-total-up : (f : ℕ → ℕ) (m n : ℕ) → m ≤ n → total f m ≤ total f n
-total-up f m zero q = let z : m ≡ 0 = omega arith in rw z (omega arith)
-total-up f m (suc n) q = elim (ℕ-discrete m (suc n)) [ yes z ↦ rw z (omega arith) | no z ↦ omega (arith, total-suc f n, total-up f m n (omega arith)) ]
-
 -- a sum of which only the terms below n count, each at most that of another
 total-under : (f h : ℕ → ℕ) (n : ℕ) → ((k : ℕ) → f k ≤ h k) → ((k : ℕ) → n ≤ k → f k ≡ 0) → (d : ℕ) → (total f d ≤ total h n) × (d ≤ n → total f d ≤ total h d)
-total-under f h n le past zero = (omega (arith, total-zero f), λ _. omega (arith, total-zero f))
+total-under f h n le past zero = (omega (arith, total-none f), λ _. omega (arith, total-none f))
 total-under f h n le past (suc d) = step (total-under f h n le past d)
   where
     below : d < n → total f d ≤ total h d → total f (suc d) ≤ total h (suc d)

@@ -1,3 +1,4 @@
+-- Only where both ends are numbers is there something to compute: their two moments.
 use mathlib.Core.Path.{sym, ap, ap₂, _∙_}
 use mir.Syntax.{w32}
 use Rattle.integers.specs.Moments.{moment, zeroAt}

@@ -1,3 +1,4 @@
+-- Each way out is one case of `checkOf`; where the atoms are consistent, the state's bounds are what `judge` asks for.
 use mathlib.Core.Path.{_≡_, sym, ap, _∙_}
 use borrow.Author.Needs.{needs}
 use Rattle.checker.proofs.Answers.{checked, turned-back, contradicted, refused-atoms, few-tasks, can-judge, consequent-right, concluded-by}
@@ -32,13 +33,14 @@ bounds-of-requires c κs =
 
 judge-requires : tie.Need-judge-requires
 judge-requires c κs =
+    let start = c .before .before .before .before .before .before .before .before .before .before in
     let m = c .before .before .before .before .before .before .before .before .before .create in
     let p = c .before .before .before .before .before .prepare-for-conflict-check in
     let a = c .before .before .before .before .before .before .before .enum-told .given .1 in
     let e = c .before .before .before .enum-told2 .given .1 in
     let b = c .before .before .bounds-of in (
-      ((c .before .before .before .before .before .before .before .before .before .before .args .durations .now), p .result .state, can-judge (c .before .before .before .before .before .before .before .before .before .before .args .durations .now) (c .before .before .before .before .before .before .before .before .before .before .args .premises .now) (c .before .before .before .before .before .before .before .before .before .before .args .consequent .now) (m .result) (m .ensures .0) a (p .result) (p .ensures .0) e (b .result) (b .ensures)),
-      consequent-right (c .before .before .before .before .before .before .before .before .before .before .args .durations .now) (c .before .before .before .before .before .before .before .before .before .before .args .premises .now) (c .before .before .before .before .before .before .before .before .before .before .args .consequent .now) (m .result) (m .ensures .0) a (p .result) (p .ensures .0) e,
+      ((start .args .durations .now), p .result .state, can-judge (start .args .durations .now) (start .args .premises .now) (start .args .consequent .now) (m .result) (m .ensures .0) a (p .result) (p .ensures .0) e (b .result) (b .ensures)),
+      consequent-right (start .args .durations .now) (start .args .premises .now) (start .args .consequent .now) (m .result) (m .ensures .0) a (p .result) (p .ensures .0) e,
     )
 
 enum-known-answer : tie.Need-enum-known-answer
@@ -49,26 +51,29 @@ enum-known-answer-2 c = search needs
 
 returns-2 : tie.Need-returns-2
 returns-2 c =
+    let start = c .before .before .before .before .before .before .before .before .before .before .before in
     let m = c .before .before .before .before .before .before .before .before .before .before .create in
     let p = c .before .before .before .before .before .before .prepare-for-conflict-check in
     let a = c .before .before .before .before .before .before .before .before .enum-told .given .1 in
     let e = c .before .before .before .before .enum-told2 .given .1 in
     let b = c .before .before .before .bounds-of in
-    checked (c .before .before .before .before .before .before .before .before .before .before .before .args .durations .now) (c .before .before .before .before .before .before .before .before .before .before .before .args .premises .now) (c .before .before .before .before .before .before .before .before .before .before .before .args .consequent .now) (c .judge .result)
-    (concluded-by (c .before .before .before .before .before .before .before .before .before .before .before .args .durations .now) (c .before .before .before .before .before .before .before .before .before .before .before .args .premises .now) (c .before .before .before .before .before .before .before .before .before .before .before .args .consequent .now) (m .result) (m .ensures .0) a (p .result) (p .ensures .0) e (c .judge .result)
-    (c .judge .ensures (c .before .before .before .before .before .before .before .before .before .before .before .args .durations .now) (p .result .state) (can-judge (c .before .before .before .before .before .before .before .before .before .before .before .args .durations .now) (c .before .before .before .before .before .before .before .before .before .before .before .args .premises .now) (c .before .before .before .before .before .before .before .before .before .before .before .args .consequent .now) (m .result) (m .ensures .0) a (p .result) (p .ensures .0) e (b .result) (b .ensures))))
+    checked (start .args .durations .now) (start .args .premises .now) (start .args .consequent .now) (c .judge .result)
+    (concluded-by (start .args .durations .now) (start .args .premises .now) (start .args .consequent .now) (m .result) (m .ensures .0) a (p .result) (p .ensures .0) e (c .judge .result)
+    (c .judge .ensures (start .args .durations .now) (p .result .state) (can-judge (start .args .durations .now) (start .args .premises .now) (start .args .consequent .now) (m .result) (m .ensures .0) a (p .result) (p .ensures .0) e (b .result) (b .ensures))))
 
 returns-3 : tie.Need-returns-3
 returns-3 c =
+    let start = c .before .before .before .before .before .before .before .before in
     let m = c .before .before .before .before .before .before .before .create in
     let p = c .before .before .before .prepare-for-conflict-check in
-    checked (c .before .before .before .before .before .before .before .before .args .durations .now) (c .before .before .before .before .before .before .before .before .args .premises .now) (c .before .before .before .before .before .before .before .before .args .consequent .now) _ (contradicted (c .before .before .before .before .before .before .before .before .args .durations .now) (c .before .before .before .before .before .before .before .before .args .premises .now) (c .before .before .before .before .before .before .before .before .args .consequent .now) (m .result) (m .ensures .0) (c .before .before .before .before .before .enum-told .given .1) (p .result) (p .ensures .0) (c .before .answer .given .0 .0) (c .before .answer .given .1))
+    checked (start .args .durations .now) (start .args .premises .now) (start .args .consequent .now) _ (contradicted (start .args .durations .now) (start .args .premises .now) (start .args .consequent .now) (m .result) (m .ensures .0) (c .before .before .before .before .before .enum-told .given .1) (p .result) (p .ensures .0) (c .before .answer .given .0 .0) (c .before .answer .given .1))
 
 returns-4 : tie.Need-returns-4
 returns-4 c =
+    let start = c .before .before .before .before .before .before .before .before in
     let m = c .before .before .before .before .before .before .before .create in
     let p = c .before .before .before .prepare-for-conflict-check in
-    checked (c .before .before .before .before .before .before .before .before .args .durations .now) (c .before .before .before .before .before .before .before .before .args .premises .now) (c .before .before .before .before .before .before .before .before .args .consequent .now) _ (refused-atoms (c .before .before .before .before .before .before .before .before .args .durations .now) (c .before .before .before .before .before .before .before .before .args .premises .now) (c .before .before .before .before .before .before .before .before .args .consequent .now) (m .result) (m .ensures .0) (c .before .before .before .before .before .enum-told .given .1) (p .result) (p .ensures .0) (c .before .answer2 .given .0 .0) (c .before .answer2 .given .1))
+    checked (start .args .durations .now) (start .args .premises .now) (start .args .consequent .now) _ (refused-atoms (start .args .durations .now) (start .args .premises .now) (start .args .consequent .now) (m .result) (m .ensures .0) (c .before .before .before .before .before .enum-told .given .1) (p .result) (p .ensures .0) (c .before .answer2 .given .0 .0) (c .before .answer2 .given .1))
 
 pub check-spec : {M : Type 1} → statement M
 check-spec =

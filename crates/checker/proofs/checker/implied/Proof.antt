@@ -1,3 +1,4 @@
+-- With place i cleared the array holds the set without i, so that `gather` and `theta_ect` speak of the other tasks.
 use mathlib.Core.Path.{_≡_, sym, ap, subst, _∙_}
 use mathlib.Core.Bool.{Bool, true, false}
 use mathlib.Core.List.{List}
@@ -29,10 +30,12 @@ gather-requires c κs =
     (J, Ω but c .before .before .before .before .before .args .i, held c d, d .late)
 
 returns : tie.Need-returns
-returns c = λ J Ω d.
+returns c =
+    let start = c .before .before .before .before .before .before .before .before in
+    λ J Ω d.
     let g = c .before .before .gather in
     let h = held (c .before .before .before) d in
-    none-after h (g .result) (g .ensures J (Ω but c .before .before .before .before .before .before .before .before .args .i) h (d .late)) (d .late) (c .before .before .before .before .before .before .before .before .args .i) (c .before .before .before .before .before .before .before .before .pre .0) (not-true (g .result .some) (c .if1 .taken))
+    none-after h (g .result) (g .ensures J (Ω but start .args .i) h (d .late)) (d .late) (start .args .i) (start .pre .0) (not-true (g .result .some) (c .if1 .taken))
 
 mul-min : tie.Need-mul-min
 mul-min c = search needs
@@ -45,10 +48,11 @@ min-requires c κs = search needs
 
 add-if2 : tie.Need-add-if2
 add-if2 c =
-    let (q, (J, Ω, d)) = c .before .before .before .before .before .before .before .before .before .before .before .pre in
+    let start = c .before .before .before .before .before .before .before .before .before .before .before in
+    let (q, (J, Ω, d)) = start .pre in
     let g = c .before .before .before .before .before .gather in
     let h = held (c .before .before .before .before .before .before) d in
-    omega (arith, c .before .min .ensures, joint-fits h (g .result) (g .ensures J (Ω but c .before .before .before .before .before .before .before .before .before .before .before .args .i) h (d .late)) (d .late) (c .before .before .before .before .before .before .before .before .before .before .before .args .i) q (not-false (g .result .some) (c .before .before .before .if1 .left)) .0)
+    omega (arith, c .before .min .ensures, joint-fits h (g .result) (g .ensures J (Ω but start .args .i) h (d .late)) (d .late) (start .args .i) q (not-false (g .result .some) (c .before .before .before .if1 .left)) .0)
 
 mul-if2 : tie.Need-mul-if2
 mul-if2 c = search needs
@@ -58,22 +62,28 @@ element-copy-out-if2 c = search needs
 
 add-if2-2 : tie.Need-add-if2-2
 add-if2-2 c =
-    let (q, (J, Ω, d)) = c .before .before .before .before .before .before .before .before .before .before .before .before .pre in
+    let start = c .before .before .before .before .before .before .before .before .before .before .before .before in
+    let (q, (J, Ω, d)) = start .pre in
     let g = c .before .before .before .before .before .before .gather in
     let h = held (c .before .before .before .before .before .before .before) d in
-    omega (arith, c .before .before .min .ensures, joint-fits h (g .result) (g .ensures J (Ω but c .before .before .before .before .before .before .before .before .before .before .before .before .args .i) h (d .late)) (d .late) (c .before .before .before .before .before .before .before .before .before .before .before .before .args .i) q (not-false (g .result .some) (c .before .before .before .before .if1 .left)) .1)
+    omega (arith, c .before .before .min .ensures, joint-fits h (g .result) (g .ensures J (Ω but start .args .i) h (d .late)) (d .late) (start .args .i) q (not-false (g .result .some) (c .before .before .before .before .if1 .left)) .1)
 
 returns-2 : tie.Need-returns-2
-returns-2 c = λ J Ω d.
+returns-2 c =
+    let s = c .before .before .before .before .before .before .before .before .before in
+    let start = s .before .before .before .before .before in
+    λ J Ω d.
     let g = c .before .before .before .before .before .before .before .before .gather in
-    let h = held (c .before .before .before .before .before .before .before .before .before) d in
-    room-before h (g .result) (g .ensures J (Ω but c .before .before .before .before .before .before .before .before .before .before .before .before .before .before .args .i) h (d .late)) (d .late) (c .before .before .before .before .before .before .before .before .before .before .before .before .before .before .args .i) (c .before .before .before .before .before .before .before .before .before .before .before .before .before .before .pre .0) (not-false (g .result .some) (c .before .before .before .before .before .before .if1 .left))
+    let h = held s d in
+    room-before h (g .result) (g .ensures J (Ω but start .args .i) h (d .late)) (d .late) (start .args .i) (start .pre .0) (not-false (g .result .some) (c .before .before .before .before .before .before .if1 .left))
     (omega (arith, c .before .before .before .before .min .ensures, c .if2 .taken))
 
 theta-ect-requires : tie.Need-theta-ect-requires
 theta-ect-requires c κs =
-    let (q, (J, Ω, d)) = c .before .before .before .before .before .before .before .before .before .before .before .before .before .before .before .before .before .pre in
-    (J, Ω but c .before .before .before .before .before .before .before .before .before .before .before .before .before .before .before .before .before .args .i, held (c .before .before .before .before .before .before .before .before .before .before .before .before) d)
+    let s = c .before .before .before .before .before .before .before .before .before .before .before .before in
+    let start = s .before .before .before .before .before in
+    let (q, (J, Ω, d)) = start .pre in
+    (J, Ω but start .args .i, held s d)
 
 mul-result : tie.Need-mul-result
 mul-result c = search needs
@@ -82,11 +92,16 @@ element-copy-out-result : tie.Need-element-copy-out-result
 element-copy-out-result c = search needs
 
 returns-3 : tie.Need-returns-3
-returns-3 c = λ J Ω d.
+returns-3 c =
+    let s = c .before .before .before .before .before .before .before .before .before in
+    let at = s .before .before in
+    let here = at .before .before .before in
+    let start = here .before .before .before .before .before in
+    λ J Ω d.
     let g = c .before .before .before .before .before .before .before .before .before .before .before .before .before .gather in
-    let h = held (c .before .before .before .before .before .before .before .before .before .before .before .before .before .before) d in
-    after-where h (g .result) (g .ensures J (Ω but c .before .before .before .before .before .before .before .before .before .before .before .before .before .before .before .before .before .before .before .args .i) h (d .late)) (d .late) (c .before .before .before .before .before .before .before .before .before .before .before .before .before .before .before .before .before .before .before .args .i) (c .before .before .before .before .before .before .before .before .before .before .before .before .before .before .before .before .before .before .before .pre .0) (not-false (g .result .some) (c .before .before .before .before .before .before .before .before .before .before .before .if1 .left))
-    (omega (arith, c .before .before .before .before .before .before .before .before .before .min .ensures, c .before .before .before .before .before .if2 .left)) (c .before .theta-ect .result) (c .before .theta-ect .ensures J (Ω but c .before .before .before .before .before .before .before .before .before .before .before .before .before .before .before .before .before .before .before .args .i) h)
+    let h = held here d in
+    after-where h (g .result) (g .ensures J (Ω but start .args .i) h (d .late)) (d .late) (start .args .i) (start .pre .0) (not-false (g .result .some) (at .if1 .left))
+    (omega (arith, s .min .ensures, c .before .before .before .before .before .if2 .left)) (c .before .theta-ect .result) (c .before .theta-ect .ensures J (Ω but start .args .i) h)
 
 pub implied-spec : {M : Type 1} → statement M
 implied-spec =

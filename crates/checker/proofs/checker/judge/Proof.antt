@@ -1,3 +1,4 @@
+-- The consequent's first word is its variable; each way out is one case of `judged`.
 use mathlib.Core.Path.{_≡_, sym, subst, _∙_}
 use mathlib.Core.Bool.{false}
 use native.Mathlib.Omega.{arith}

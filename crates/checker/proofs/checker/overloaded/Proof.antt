@@ -1,3 +1,4 @@
+-- What `gather` found decides: nothing, and nothing overloads; else the three numbers of the span are compared.
 use mathlib.Core.Path.{sym}
 use Prim.Native.Nat.{_+_}
 use native.Mathlib.Omega.{arith}
@@ -15,8 +16,9 @@ returns c = λ J Ω d. let g = c .before .before .gather in none-overloads (d .h
 
 add-result : tie.Need-add-result
 add-result c =
+    let start = c .before .before .before .before .before .before .before .before in
     let g = c .before .before .before .gather in
-    let (J, Ω, d) = c .before .before .before .before .before .before .before .before .pre in
+    let (J, Ω, d) = start .pre in
     omega (arith, reach-fits (d .held) (g .result) (g .ensures J Ω (d .held) (d .late)) (not-false (g .result .some) (c .before .if1 .left)))
 
 returns-2 : tie.Need-returns-2

@@ -1,3 +1,4 @@
+-- The invariant: `gathered` is the interval of the chosen ones among the first i tasks, for every reading of the arrays as tasks and a set.
 use mathlib.Core.Path.{_≡_, sym, ap, subst, _∙_}
 use mathlib.Core.Bool.{Bool}
 use mathlib.Core.List.{List}

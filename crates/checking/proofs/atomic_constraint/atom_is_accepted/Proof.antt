@@ -4,9 +4,9 @@ use borrow.Author.Tests.{not-true, not-false}
 use lib.IntN.{ℤ, pos, negℤ}
 use lib.Signed.{leZ}
 use Rattle.integers.specs.Limits.{VALUE}
-use Rattle.integers.proofs.Ints.{ints, back}
+use Rattle.integers.proofs.Ints.{ints, back, le-leZ}
 use Rattle.checking.specs.Atoms.{rightVariable, rightAtom}
-use Rattle.checking.proofs.Tests.{le-leZ, lt-leZ}
+use Rattle.checking.proofs.Tests.{lt-leZ}
 use borrow.Author.Needs.{needs}
 use Rattle.checking.proofs.atomic_constraint.atom_is_accepted.Statement.{statement}
 use Rattle.checking.proofs.atomic_constraint.atom_is_accepted.Tie as tie

@@ -3,8 +3,8 @@ use mathlib.Core.Bool.{true, false}
 use lib.IntN.{ℤ, pos}
 use lib.Signed.{leZ, ltZ}
 use Rattle.integers.specs.Limits.{VARIABLES}
-use Rattle.integers.proofs.Ints.{ints, back}
-use Rattle.checking.proofs.Tests.{le-leZ, lt-leZ}
+use Rattle.integers.proofs.Ints.{ints, back, le-leZ}
+use Rattle.checking.proofs.Tests.{lt-leZ}
 use borrow.Author.Needs.{needs}
 use Rattle.checking.proofs.atomic_constraint.variable_is_accepted.Statement.{statement}
 use Rattle.checking.proofs.atomic_constraint.variable_is_accepted.Tie as tie

@@ -1,3 +1,4 @@
+-- The number is that of the tests; where it is 0, `addable` gives room for the place and for the sum, and `add-made` the record.
 use mathlib.Core.Path.{_≡_, sym, ap, subst, _∙_}
 use native.Mathlib.Omega.{arith}
 use lib.IntN.{ℤ, pos}

@@ -1,3 +1,4 @@
+-- The number is that of the tests; where it is 0, the duration is a part of the stored total, and `remove-made` gives the record.
 use mathlib.Core.Path.{_≡_, sym, ap, _∙_}
 use native.Mathlib.Omega.{arith}
 use lib.ListN.{length}

@@ -1,3 +1,4 @@
+-- At each return the tests before it are passed and its own is not.
 use mathlib.Core.Path.{sym, _∙_}
 use mathlib.Core.List.{[], _∷_}
 use Prim.Native.Nat.{_-_}

@@ -1,3 +1,4 @@
+-- The invariant: `out` has the first i durations without task t's, and j counts them.
 use mathlib.Core.Path.{_≡_, sym, ap, _∙_}
 use mathlib.Core.Logic.{⊎-elim}
 use mathlib.Core.List.{List, [], _∷_, _++_}

@@ -1,76 +1,17 @@
--- `exports::calls::reedgrit_lower_bound` meets its contract: where the question's variable is known, the premises' tests are the question's.
+-- `exports::calls::reedgrit_lower_bound` meets its contract, which is that of `bound_after` on its side.
 -- Assumes nothing.
-use mathlib.Core.Path.{_≡_, sym, ap, _∙_}
+use mathlib.Core.Path.{ap, _∙_}
 use borrow.Author.Needs.{needs}
-use borrow.Author.Tests.{not-true, not-false}
 use Rattle.integers.proofs.Ints.{back}
-use Rattle.checking.specs.Answers.{boundNumbers}
-use Rattle.checking.specs.Atoms.{rightVariable}
-use Rattle.checking.specs.States.{boundOf, lowerOf}
-use Rattle.exports.specs.Answers.{stateAnswer}
-use Rattle.exports.specs.Calls.{askedAt}
-use Rattle.exports.proofs.Asking.{unfit, fit}
+use Rattle.exports.specs.Calls.{lowerAfter}
 use Rattle.exports.proofs.calls.reedgrit_lower_bound.Statement.{statement}
 use Rattle.exports.proofs.calls.reedgrit_lower_bound.Tie as tie
 
--- what the test of the question's variable says
-said : (c : tie.After-variable-is-accepted) → c .variable-is-accepted .result ≡ rightVariable (c .before .args .variable)
-said c = c .variable-is-accepted .ensures ∙ ap rightVariable (back (c .before .fits .variable))
-
-variable-is-accepted-requires : tie.Need-variable-is-accepted-requires
-variable-is-accepted-requires c κs = search needs
-
-unfit-number-requires : tie.Need-unfit-number-requires
-unfit-number-requires c κs = search needs
-
-refusal-numbers-requires : tie.Need-refusal-numbers-requires
-refusal-numbers-requires c κs = search needs
+bound-after-requires : tie.Need-bound-after-requires
+bound-after-requires c κs = search needs
 
 returns : tie.Need-returns
-returns c =
-    let a = c .before .before .before .before .args in
-    c .refusal-numbers .ensures
-    ∙ unfit (a .premises .now) (rightVariable (a .variable)) (λ t. boundNumbers (boundOf lowerOf t (a .variable)))
-    (sym (said (c .before .before .before)) ∙ not-true (c .before .before .before .variable-is-accepted .result) (c .before .before .if1 .taken))
-    (c .before .unfit-number .result) (c .before .unfit-number .ensures)
-
-slice-aggregate-prepare-for-conflict-check : tie.Need-slice-aggregate-prepare-for-conflict-check
-slice-aggregate-prepare-for-conflict-check c = search needs
-
-prepare-for-conflict-check-requires : tie.Need-prepare-for-conflict-check-requires
-prepare-for-conflict-check-requires c κs = search needs
-
-lower-bound-requires : tie.Need-lower-bound-requires
-lower-bound-requires c κs = search needs
-
-bound-numbers-requires : tie.Need-bound-numbers-requires
-bound-numbers-requires c κs = search needs
-
-state-numbers-requires : tie.Need-state-numbers-requires
-state-numbers-requires c κs = search needs
-
-returns-2 : tie.Need-returns-2
-returns-2 c =
-    let test = c .before .before .before .before .before in
-    let s = test .before .before in
-    let a = s .args in
-    let made = c .before .before .before .prepare-for-conflict-check in
-    c .state-numbers .ensures
-    ∙ ap (askedAt (made .result .answer)) (c .before .bound-numbers .ensures ∙ (λ i. stateAnswer (boundNumbers (c .before .before .lower-bound .ensures .0 i))) ∙ (λ i. stateAnswer (boundNumbers (boundOf lowerOf (made .result .state) (back (s .fits .variable) i)))))
-    ∙ fit (a .premises .now) (rightVariable (a .variable)) (λ t. boundNumbers (boundOf lowerOf t (a .variable)))
-    (sym (said (test .before)) ∙ not-false (test .before .variable-is-accepted .result) (test .if1 .left)) (made .result) (made .ensures .0)
+returns c = let s = c .before in c .bound-after .ensures ∙ ap (lowerAfter (s .args .premises .now)) (back (s .fits .variable))
 
 pub reedgrit-lower-bound-spec : {M : Type 1} → statement M
-reedgrit-lower-bound-spec =
-    tie.close
-    (tie.spec
-    variable-is-accepted-requires
-    unfit-number-requires
-    refusal-numbers-requires
-    returns
-    slice-aggregate-prepare-for-conflict-check
-    prepare-for-conflict-check-requires
-    lower-bound-requires
-    bound-numbers-requires
-    state-numbers-requires
-    returns-2)
+reedgrit-lower-bound-spec = tie.close (tie.spec bound-after-requires returns)

@@ -35,7 +35,7 @@ moment-is : (c : tie.After-moment-of Inv-loop μ-loop) → c .moment-of .result 
 moment-is c = c .moment-of .ensures ∙ ap (moment zeroAt) (back-of w32 (startAt (c .before .before .before .before .before .before .args .earliest .now) (getD (c .before .before .before .before .before .before .args .order .now) (c .before .before .before .before .before .loop .i) 0)) (c .before .moment-of-arg .given))
 
 -- what the test of the two says
-seen : (c : tie.After-moment-of2 Inv-loop μ-loop) → leb (c .before .before .before .moment-of .result + getD (c .before .before .before .before .before .before .before .before .before .args .durations .now) (getD (c .before .before .before .before .before .before .before .before .before .args .order .now) (c .before .before .before .before .before .before .before .before .loop .i) 0) 0) (c .moment-of2 .result) ≡ inTurnAt (c .before .before .before .before .before .before .before .before .before .args .order .now) (c .before .before .before .before .before .before .before .before .before .args .earliest .now) (c .before .before .before .before .before .before .before .before .before .args .durations .now) (c .before .before .before .before .before .before .before .before .loop .i)
+seen : (c : tie.After-moment-of2 Inv-loop μ-loop) → let s = c .before .before .before .before .before .before .before .before in let start = s .before in leb (c .before .before .before .moment-of .result + getD (start .args .durations .now) (getD (start .args .order .now) (s .loop .i) 0) 0) (c .moment-of2 .result) ≡ inTurnAt (start .args .order .now) (start .args .earliest .now) (start .args .durations .now) (s .loop .i)
 seen c =
     let s = c .before .before .before .before .before .before .before .before .before in
     let i = c .before .before .before .before .before .before .before .before .loop .i in
@@ -100,7 +100,10 @@ moment-of-requires-2 : tie.Need-moment-of-requires-2 Inv-loop μ-loop
 moment-of-requires-2 c κs = search needs
 
 returns : tie.Need-returns Inv-loop μ-loop
-returns c = sym (all-broken _ _ (c .before .before .before .before .before .before .before .before .before .loop .i) (omega (arith, c .before .before .before .before .before .before .before .before .loop-test .taken)) (sym (seen (c .before)) ∙ lt-leb _ _ (c .if1 .taken)))
+returns c =
+    let s = c .before .before .before .before .before .before .before .before in
+    let start = s .before in
+    sym (all-broken _ _ (start .loop .i) (omega (arith, s .loop-test .taken)) (sym (seen (c .before)) ∙ lt-leb _ _ (c .if1 .taken)))
 
 add-i : tie.Need-add-i Inv-loop μ-loop
 add-i c = search needs
@@ -109,7 +112,10 @@ loop-less : tie.Need-loop-less Inv-loop μ-loop
 loop-less c = search needs
 
 loop-again : tie.Need-loop-again Inv-loop μ-loop
-loop-again c = (omega (arith, c .before .before .before .before .before .before .before .before .loop-test .taken), all-more _ _ (c .before .before .before .before .before .before .before .before .before .loop .inv .1) (sym (seen (c .before)) ∙ le-leb _ _ (c .if1 .left)))
+loop-again c =
+    let s = c .before .before .before .before .before .before .before .before in
+    let start = s .before in
+    (omega (arith, s .loop-test .taken), all-more _ _ (start .loop .inv .1) (sym (seen (c .before)) ∙ le-leb _ _ (c .if1 .left)))
 
 returns-2 : tie.Need-returns-2 Inv-loop μ-loop
 returns-2 c =

@@ -1,85 +1,49 @@
+-- A range holds one start where neither end is above the other: the two tests of all ranges, one after the other.
 use mathlib.Core.Path.{_≡_, sym, ap, _∙_}
-use mathlib.Core.Bool.{true}
-use Prim.Native.Nat.{_-_, _≤_}
+use mathlib.Core.Bool.{true, false}
+use mathlib.Core.Logic.{inl, inr}
+use mathlib.Core.List.{List}
+use Prim.Native.Nat.{ℕ}
 use native.Mathlib.Omega.{arith}
-use lib.ListN.{length, getD}
-use lib.IntN.{ℤ, pos}
+use lib.IntN.{ℤ}
+use lib.ListN.{length}
 use borrow.Author.Tests.{not-true, not-false}
 use borrow.Author.Needs.{needs}
-use mir.Val.{toZ, ofZ}
-use mir.Syntax.{w32}
 use Rattle.integers.specs.Tests.{allBelow}
-use Rattle.integers.proofs.Tests.{all-none, all-more, all-broken}
-use Rattle.integers.proofs.Ints.{back-of}
-use Rattle.fixed.specs.FixedSchedules.{sameStart, oneStartAt}
+use Rattle.integers.proofs.Bools.{bool, clash, and-true, and-is}
+use Rattle.integers.proofs.Tests.{all-at, all-show, all-ext}
+use Rattle.records.specs.Refusals.{rangeFitsAt}
+use Rattle.fixed.specs.FixedSchedules.{oneStartAt}
 use Rattle.fixed.proofs.order.one_start.Statement.{statement}
 use Rattle.fixed.proofs.order.one_start.Tie as tie
 
-abbrev Inv-loop : tie.InvT-loop
-Inv-loop earliest latest i₀ i = (i ≤ length earliest) × (allBelow (oneStartAt earliest latest) i ≡ true)
+module _ (es ls : List ℤ) (n : ℕ) where
+  not-one : allBelow (rangeFitsAt es ls) n ≡ false → allBelow (oneStartAt es ls) n ≡ false
+  not-one h = elim (bool (allBelow (oneStartAt es ls) n)) [
+    | inl y ↦ clash (all-show (rangeFitsAt es ls) n (λ k q. and-true (rangeFitsAt es ls k) (rangeFitsAt ls es k) (all-at (oneStartAt es ls) n y k q) .0)) h
+    | inr y ↦ y
+  ]
 
-abbrev μ-loop : tie.MeasureT-loop
-μ-loop earliest latest i₀ i = length earliest - i
+  one-too : allBelow (rangeFitsAt es ls) n ≡ true → allBelow (rangeFitsAt ls es) n ≡ allBelow (oneStartAt es ls) n
+  one-too h = all-ext (rangeFitsAt ls es) (oneStartAt es ls) n (λ k q. sym (and-is (rangeFitsAt es ls k) (rangeFitsAt ls es k) (all-at (rangeFitsAt es ls) n h k q)))
 
--- what the call says of the two elements
-seen : (c : tie.After-same-start Inv-loop μ-loop) → c .same-start .result ≡ oneStartAt (c .before .before .before .before .before .args .earliest .now) (c .before .before .before .before .before .args .latest .now) (c .before .before .before .before .loop .i)
-seen c =
-    let args = c .before .before .before .before .before .args in
-    let i = c .before .before .before .before .loop .i in
-    let e = getD (args .earliest .now) i (pos 0) in
-    let l = getD (args .latest .now) i (pos 0) in
-    c .same-start .ensures ∙ ap (λ (z : ℤ). sameStart z (toZ w32 (ofZ w32 l))) (back-of w32 e (c .before .before .same-start-arg .given)) ∙ ap (sameStart e) (back-of w32 l (c .before .same-start-arg2 .given))
+ranges-fit-requires : tie.Need-ranges-fit-requires
+ranges-fit-requires c κs = search needs
 
-loop-holds : tie.Need-loop-holds Inv-loop μ-loop
-loop-holds c = (omega arith, all-none _)
+returns : tie.Need-returns
+returns c = let a = c .before .before .args in
+    sym (not-one (a .earliest .now) (a .latest .now) (length (a .earliest .now)) (sym (c .before .ranges-fit .ensures) ∙ not-true _ (c .if1 .taken)))
 
-mul-same-start : tie.Need-mul-same-start Inv-loop μ-loop
-mul-same-start c = search needs
+ranges-fit-requires-2 : tie.Need-ranges-fit-requires-2
+ranges-fit-requires-2 c κs = omega arith
 
-shared-slice-copy-out-same-start : tie.Need-shared-slice-copy-out-same-start Inv-loop μ-loop
-shared-slice-copy-out-same-start c = search needs
-
-mul-same-start-2 : tie.Need-mul-same-start-2 Inv-loop μ-loop
-mul-same-start-2 c = search needs
-
-shared-slice-copy-out-same-start-2 : tie.Need-shared-slice-copy-out-same-start-2 Inv-loop μ-loop
-shared-slice-copy-out-same-start-2 c = search needs
-
-same-start-requires : tie.Need-same-start-requires Inv-loop μ-loop
-same-start-requires c κs = search needs
-
-returns : tie.Need-returns Inv-loop μ-loop
-returns c = sym (all-broken _ _ (c .before .before .before .before .before .loop .i) (omega arith) (sym (seen (c .before)) ∙ not-true _ (c .if1 .taken)))
-
-add-i : tie.Need-add-i Inv-loop μ-loop
-add-i c = search needs
-
-loop-less : tie.Need-loop-less Inv-loop μ-loop
-loop-less c = search needs
-
-loop-again : tie.Need-loop-again Inv-loop μ-loop
-loop-again c = (omega arith, all-more _ _ (c .before .before .before .before .before .loop .inv .1) (sym (seen (c .before)) ∙ not-false _ (c .if1 .left)))
-
-returns-2 : tie.Need-returns-2 Inv-loop μ-loop
+returns-2 : tie.Need-returns-2
 returns-2 c =
-    let args = c .before .before .args in
-    let e : length (args .earliest .now) ≡ c .before .loop .i = omega arith in
-    sym (ap (allBelow (oneStartAt (args .earliest .now) (args .latest .now))) e ∙ c .before .loop .inv .1)
+    let s = c .before .before .before in
+    let es = s .args .earliest .now in
+    let ls = s .args .latest .now in
+    let same : length ls ≡ length es = omega arith in
+    c .ranges-fit2 .ensures ∙ ap (allBelow (rangeFitsAt ls es)) same ∙ one-too es ls (length es) (sym (c .before .before .ranges-fit .ensures) ∙ not-false _ (c .before .if1 .left))
 
 pub one-start-spec : {M : Type 1} → statement M
-one-start-spec =
-    tie.close
-    (tie.spec
-    Inv-loop
-    μ-loop
-    loop-holds
-    mul-same-start
-    shared-slice-copy-out-same-start
-    mul-same-start-2
-    shared-slice-copy-out-same-start-2
-    same-start-requires
-    returns
-    add-i
-    loop-less
-    loop-again
-    returns-2)
+one-start-spec = tie.close (tie.spec ranges-fit-requires returns ranges-fit-requires-2 returns-2)

@@ -53,10 +53,14 @@ in-turn-requires : tie.Need-in-turn-requires
 in-turn-requires c κs = let a = c .before .before .before .before .before .before .before .before .before .before .args in listed (a .t1) (a .earliest .now) (a .latest .now) (held (c .before .before .before .before .before .before)) _ (c .before .before .before .order-of .ensures)
 
 returns-3 : tie.Need-returns-3
-returns-3 c = let a = c .before .before .before .before .before .before .before .before .before .before .before .before .args in sym (overlapping (a .t1) (a .earliest .now) (a .latest .now) (passed (c .before .before .before .before .before .before .before .before)) (sym (pairs (c .before)) ∙ not-true _ (c .if3 .taken)))
+returns-3 c =
+    let start = c .before .before .before .before .before .before .before .before in
+    let a = c .before .before .before .before .before .before .before .before .before .before .before .before .args in sym (overlapping (a .t1) (a .earliest .now) (a .latest .now) (passed start) (sym (pairs (c .before)) ∙ not-true _ (c .if3 .taken)))
 
 returns-4 : tie.Need-returns-4
-returns-4 c = let a = c .before .before .before .before .before .before .before .before .before .before .before .before .args in sym (none-wrong (a .t1) (a .earliest .now) (a .latest .now) (passed (c .before .before .before .before .before .before .before .before)) (one (c .before .before .before .before .before .before)) (apart c))
+returns-4 c =
+    let start = c .before .before .before .before .before .before .before .before in
+    let a = c .before .before .before .before .before .before .before .before .before .before .before .before .args in sym (none-wrong (a .t1) (a .earliest .now) (a .latest .now) (passed start) (one (c .before .before .before .before .before .before)) (apart c))
 
 pub fixed-refusal-spec : {M : Type 1} → statement M
 fixed-refusal-spec =

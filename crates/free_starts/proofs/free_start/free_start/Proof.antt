@@ -59,19 +59,23 @@ nat-of-requires c κs = omega (ints, back (c .before .before .before .before .be
 
 first-free-requires : tie.Need-first-free-requires
 first-free-requires c κs =
+    let s = c .before .before .before .before .before .before .before .before in
+    let start = s .before in
     let a = c .before .before .before .before .before .before .before .before .before .before .before .args in
-    let h = held (c .before .before .before .before .before .before .before .before .before) in
-    askable (a .t1) (a .earliest .now) (a .latest .now) (a .t) (a .d) (h .0) (h .1) _ (c .before .before .before .before .before .before .moments-of .ensures) _ _ (from (c .before .before .before .before .before)) (lasting (c .before .before .before .before)) _ (c .before .before .before .before .before .before .before .before .order-of .ensures)
+    let h = held start in
+    askable (a .t1) (a .earliest .now) (a .latest .now) (a .t) (a .d) (h .0) (h .1) _ (c .before .before .before .before .before .before .moments-of .ensures) _ _ (from (c .before .before .before .before .before)) (lasting (c .before .before .before .before)) _ (s .order-of .ensures)
 
 start-of-requires : tie.Need-start-of-requires
 start-of-requires c κs = search needs
 
 returns-2 : tie.Need-returns-2
 returns-2 c =
+    let s = c .before .before .before .before .before .before .before .before in
+    let start = s .before .before .before in
     let a = c .before .before .before .before .before .before .before .before .before .before .before .before .before .args in
-    let h = held (c .before .before .before .before .before .before .before .before .before .before .before) in
+    let h = held start in
     let free = c .before .first-free in
-    answered (a .t1) (a .earliest .now) (a .latest .now) (a .t) (a .d) _ (number (c .before .before .before .before .before .before .before .before .before .before .before)) (found (a .t1) (a .earliest .now) (a .latest .now) (a .t) (a .d) (h .0) (h .1) _ (c .before .before .before .before .before .before .before .before .moments-of .ensures) _ _ (from (c .before .before .before .before .before .before .before)) (lasting (c .before .before .before .before .before .before)) (free .result) (free .ensures .0) (free .ensures .1) _ (back-of w32 (c .start-of .result) (c .start-of .ok) ∙ c .start-of .ensures))
+    answered (a .t1) (a .earliest .now) (a .latest .now) (a .t) (a .d) _ (number start) (found (a .t1) (a .earliest .now) (a .latest .now) (a .t) (a .d) (h .0) (h .1) _ (s .moments-of .ensures) _ _ (from (c .before .before .before .before .before .before .before)) (lasting (c .before .before .before .before .before .before)) (free .result) (free .ensures .0) (free .ensures .1) _ (back-of w32 (c .start-of .result) (c .start-of .ok) ∙ c .start-of .ensures))
 
 pub free-start-spec : {M : Type 1} → statement M
 free-start-spec =

@@ -1,3 +1,4 @@
+-- Each field has its width, so that its place is known, and the fields behind one another are the line.
 use mathlib.Core.Path.{_≡_, ap, _∙_}
 use Prim.Native.Nat.{_+_}
 use native.Mathlib.Omega.{arith}
@@ -31,23 +32,25 @@ task-is c = back-of w32 (c .word-of .result) (c .word-of .ok) ∙ c .word-of .en
 after-task : (c : tie.After-put-right) → (c .put-right .result ≡ c .before .before .before .before .before .before .args .at + 2) × (length (c .put-right .last .0) ≡ length (c .before .before .before .before .before .before .args .out .now))
 after-task c = puts-wide 2 (pos (c .before .before .before .before .before .before .args .task)) (task-is (c .before)) (c .put-right .ensures) (task-fits (c .before .before .before .before .before .before .args .task) (c .before .before .before .before .before .before .pre .1))
 
-after-space : (c : tie.After-put-bytes) → (c .put-bytes .result ≡ c .before .before .before .before .before .before .before .before .before .before .before .args .at + 3) × (length (c .put-bytes .last .0) ≡ length (c .before .before .before .before .before .before .before .before .before .before .before .args .out .now))
+after-space : (c : tie.After-put-bytes) → let start = c .before .before .before .before .before .before .before .before .before .before .before in (c .put-bytes .result ≡ start .args .at + 3) × (length (c .put-bytes .last .0) ≡ length (start .args .out .now))
 after-space c = let a = after-task (c .before .before .before .before .before) in (omega (arith, a .0, c .put-bytes .ensures .end), puts-length (c .put-bytes .ensures) ∙ a .1)
 
-after-start : (c : tie.After-put-right2) → (c .put-right2 .result ≡ c .before .before .before .before .before .before .before .before .before .before .before .before .before .before .before .args .at + 14) × (length (c .put-right2 .last .0) ≡ length (c .before .before .before .before .before .before .before .before .before .before .before .before .before .before .before .args .out .now))
+after-start : (c : tie.After-put-right2) → let start = c .before .before .before .before .before .before .before .before .before .before .before .before .before .before .before in (c .put-right2 .result ≡ start .args .at + 14) × (length (c .put-right2 .last .0) ≡ length (start .args .out .now))
 after-start c =
+    let s = c .before .before .before .before .before .before .before .before .before .before .before .before .before .before .before in
     let a = after-space (c .before .before .before .before) in
-    let b = puts-wide 11 (c .before .before .before .before .before .before .before .before .before .before .before .before .before .before .before .args .start) (back (c .before .before .before .before .before .before .before .before .before .before .before .before .before .before .before .fits .start)) (c .put-right2 .ensures) (start-fits (c .before .before .before .before .before .before .before .before .before .before .before .before .before .before .before .args .start) (c .before .before .before .before .before .before .before .before .before .before .before .before .before .before .before .pre .2)) in
+    let b = puts-wide 11 (s .args .start) (back (s .fits .start)) (c .put-right2 .ensures) (start-fits (s .args .start) (s .pre .2)) in
     (omega (arith, a .0, b .0), b .1 ∙ a .1)
 
-after-space-2 : (c : tie.After-put-bytes2) → (c .put-bytes2 .result ≡ c .before .before .before .before .before .before .before .before .before .before .before .before .before .before .before .before .before .before .before .before .args .at + 15) × (length (c .put-bytes2 .last .0) ≡ length (c .before .before .before .before .before .before .before .before .before .before .before .before .before .before .before .before .before .before .before .before .args .out .now))
+after-space-2 : (c : tie.After-put-bytes2) → let start = c .before .before .before .before .before .before .before .before .before .before .before .before .before .before .before .before .before .before .before .before in (c .put-bytes2 .result ≡ start .args .at + 15) × (length (c .put-bytes2 .last .0) ≡ length (start .args .out .now))
 after-space-2 c = let a = after-start (c .before .before .before .before .before) in (omega (arith, a .0, c .put-bytes2 .ensures .end), puts-length (c .put-bytes2 .ensures) ∙ a .1)
 
-after-end : (c : tie.After-put-right3) → (c .put-right3 .result ≡ c .before .before .before .before .before .before .before .before .before .before .before .before .before .before .before .before .before .before .before .before .before .before .before .before .args .at + 26) × (length (c .put-right3 .last .0) ≡ length (c .before .before .before .before .before .before .before .before .before .before .before .before .before .before .before .before .before .before .before .before .before .before .before .before .args .out .now))
+after-end : (c : tie.After-put-right3) → let start = c .before .before .before .before .before .before .before .before .before .before .before .before .before .before .before .before .before .before .before .before .before .before .before .before in (c .put-right3 .result ≡ start .args .at + 26) × (length (c .put-right3 .last .0) ≡ length (start .args .out .now))
 after-end c =
+    let at = c .before .before .before .before .before .before .before .before .before .before .before .before .before .before .before .before .before .before .before .before .before in
     let s = c .before .before .before .before .before .before .before .before .before .before .before .before .before .before .before .before .before .before .before .before .before .before .before .before in
     let a = after-space-2 (c .before .before .before .before) in
-    let b = puts-wide 11 (s .args .start +ℤ pos (s .args .duration)) (end-is (c .before .before .before .before .before .before .before .before .before .before .before .before .before .before .before .before .before .before .before .before .before)) (c .put-right3 .ensures) (end-fits (s .args .start) (s .args .duration) (s .pre .2) (s .pre .3)) in
+    let b = puts-wide 11 (s .args .start +ℤ pos (s .args .duration)) (end-is at) (c .put-right3 .ensures) (end-fits (s .args .start) (s .args .duration) (s .pre .2) (s .pre .3)) in
     (omega (arith, a .0, b .0), b .1 ∙ a .1)
 
 moment-of-requires : tie.Need-moment-of-requires
@@ -69,25 +72,36 @@ slice-aggregate-put-bytes : tie.Need-slice-aggregate-put-bytes
 slice-aggregate-put-bytes c = search needs
 
 put-bytes-requires : tie.Need-put-bytes-requires
-put-bytes-requires c κs = omega (arith, after-task (c .before .before .before .before), c .before .before .before .before .before .before .before .before .before .before .pre .0)
+put-bytes-requires c κs =
+    let start = c .before .before .before .before .before .before .before .before .before .before in
+    omega (arith, after-task (c .before .before .before .before), start .pre .0)
 
 put-right-requires-2 : tie.Need-put-right-requires-2
-put-right-requires-2 c κs = (omega (arith, after-space (c .before .before .before), c .before .before .before .before .before .before .before .before .before .before .before .before .before .before .pre .0), rw (back (c .before .before .before .before .before .before .before .before .before .before .before .before .before .before .fits .start)) (start-fits (c .before .before .before .before .before .before .before .before .before .before .before .before .before .before .args .start) (c .before .before .before .before .before .before .before .before .before .before .before .before .before .before .pre .2)), omega arith)
+put-right-requires-2 c κs =
+    let s = c .before .before .before .before .before .before .before .before .before .before .before .before .before .before in
+    (omega (arith, after-space (c .before .before .before), s .pre .0), rw (back (s .fits .start)) (start-fits (s .args .start) (s .pre .2)), omega arith)
 
 slice-aggregate-put-bytes-2 : tie.Need-slice-aggregate-put-bytes-2
 slice-aggregate-put-bytes-2 c = search needs
 
 put-bytes-requires-2 : tie.Need-put-bytes-requires-2
-put-bytes-requires-2 c κs = omega (arith, after-start (c .before .before .before .before), c .before .before .before .before .before .before .before .before .before .before .before .before .before .before .before .before .before .before .before .pre .0)
+put-bytes-requires-2 c κs =
+    let start = c .before .before .before .before .before .before .before .before .before .before .before .before .before .before .before .before .before .before .before in
+    omega (arith, after-start (c .before .before .before .before), start .pre .0)
 
 put-right-requires-3 : tie.Need-put-right-requires-3
-put-right-requires-3 c κs = (omega (arith, after-space-2 (c .before .before .before), c .before .before .before .before .before .before .before .before .before .before .before .before .before .before .before .before .before .before .before .before .before .before .before .pre .0), rw (end-is (c .before .before .before .before .before .before .before .before .before .before .before .before .before .before .before .before .before .before .before .before)) (end-fits (c .before .before .before .before .before .before .before .before .before .before .before .before .before .before .before .before .before .before .before .before .before .before .before .args .start) (c .before .before .before .before .before .before .before .before .before .before .before .before .before .before .before .before .before .before .before .before .before .before .before .args .duration) (c .before .before .before .before .before .before .before .before .before .before .before .before .before .before .before .before .before .before .before .before .before .before .before .pre .2) (c .before .before .before .before .before .before .before .before .before .before .before .before .before .before .before .before .before .before .before .before .before .before .before .pre .3)), omega arith)
+put-right-requires-3 c κs =
+    let at = c .before .before .before .before .before .before .before .before .before .before .before .before .before .before .before .before .before .before .before .before in
+    let s = at .before .before .before in
+    (omega (arith, after-space-2 (c .before .before .before), s .pre .0), rw (end-is at) (end-fits (s .args .start) (s .args .duration) (s .pre .2) (s .pre .3)), omega arith)
 
 slice-aggregate-put-bytes-3 : tie.Need-slice-aggregate-put-bytes-3
 slice-aggregate-put-bytes-3 c = search needs
 
 put-bytes-requires-3 : tie.Need-put-bytes-requires-3
-put-bytes-requires-3 c κs = omega (arith, after-end (c .before .before .before .before), c .before .before .before .before .before .before .before .before .before .before .before .before .before .before .before .before .before .before .before .before .before .before .before .before .before .before .before .before .pre .0)
+put-bytes-requires-3 c κs =
+    let start = c .before .before .before .before .before .before .before .before .before .before .before .before .before .before .before .before .before .before .before .before .before .before .before .before .before .before .before .before in
+    omega (arith, after-end (c .before .before .before .before), start .pre .0)
 
 same-length : tie.Need-same-length
 same-length c = search needs

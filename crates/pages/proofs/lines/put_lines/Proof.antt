@@ -1,3 +1,4 @@
+-- The invariant: behind the heading stand the lines of the first i tasks of the order, LINE bytes each.
 use mathlib.Core.Path.{_≡_, refl, _∙_}
 use mathlib.Core.List.{flatMap}
 use Prim.Native.Nat.{_+_, _-_, _*_, _≤_, _<_}
@@ -27,8 +28,10 @@ abbrev μ-loop : tie.MeasureT-loop
 small : (c : tie.In-loop Inv-loop μ-loop) → getD (c .before .before .before .before .before .before .before .args .order .now) (c .before .loop .i) 0 < length (c .before .before .before .before .before .before .before .args .earliest .now)
 small c = c .before .before .before .before .before .before .before .pre .0 .tasks (c .before .loop .i) (omega (arith, c .loop-test .taken))
 
-start-is : (c : tie.After-put-line-arg2 Inv-loop μ-loop) → toZ w32 (ofZ w32 (startAt (c .before .before .before .before .before .before .before .before .before .before .args .earliest .now) (getD (c .before .before .before .before .before .before .before .before .before .before .args .order .now) (c .before .before .before .before .loop .i) 0))) ≡ startAt (c .before .before .before .before .before .before .before .before .before .before .args .earliest .now) (getD (c .before .before .before .before .before .before .before .before .before .before .args .order .now) (c .before .before .before .before .loop .i) 0)
-start-is c = back-of w32 (startAt (c .before .before .before .before .before .before .before .before .before .before .args .earliest .now) (getD (c .before .before .before .before .before .before .before .before .before .before .args .order .now) (c .before .before .before .before .loop .i) 0)) (c .put-line-arg2 .given)
+start-is : (c : tie.After-put-line-arg2 Inv-loop μ-loop) → let start = c .before .before .before .before .before .before .before .before .before .before in toZ w32 (ofZ w32 (startAt (start .args .earliest .now) (getD (start .args .order .now) (c .before .before .before .before .loop .i) 0))) ≡ startAt (start .args .earliest .now) (getD (start .args .order .now) (c .before .before .before .before .loop .i) 0)
+start-is c =
+    let start = c .before .before .before .before .before .before .before .before .before .before in
+    back-of w32 (startAt (start .args .earliest .now) (getD (start .args .order .now) (c .before .before .before .before .loop .i) 0)) (c .put-line-arg2 .given)
 
 put-heading-requires : tie.Need-put-heading-requires Inv-loop μ-loop
 put-heading-requires c κs = omega (arith, c .before .before .pre .1)
@@ -43,24 +46,31 @@ element-copy-out-task : tie.Need-element-copy-out-task Inv-loop μ-loop
 element-copy-out-task c = omega (arith, c .before .before .before .before .before .before .before .pre .0 .started .few, c .loop-test .taken)
 
 mul-put-line : tie.Need-mul-put-line Inv-loop μ-loop
-mul-put-line c = record { fits = omega (arith, small (c .before .before), c .before .before .before .before .before .before .before .before .before .pre .0 .started .few) }
+mul-put-line c =
+    let start = c .before .before .before .before .before .before .before .before .before in
+    record { fits = omega (arith, small (c .before .before), start .pre .0 .started .few) }
 
 shared-slice-copy-out-put-line : tie.Need-shared-slice-copy-out-put-line Inv-loop μ-loop
 shared-slice-copy-out-put-line c = small (c .before .before)
 
 mul-put-line-2 : tie.Need-mul-put-line-2 Inv-loop μ-loop
-mul-put-line-2 c = record { fits = omega (arith, small (c .before .before .before), c .before .before .before .before .before .before .before .before .before .before .pre .0 .started .few) }
+mul-put-line-2 c =
+    let start = c .before .before .before .before .before .before .before .before .before .before in
+    record { fits = omega (arith, small (c .before .before .before), start .pre .0 .started .few) }
 
 element-copy-out-put-line : tie.Need-element-copy-out-put-line Inv-loop μ-loop
-element-copy-out-put-line c = omega (arith, small (c .before .before .before), c .before .before .before .before .before .before .before .before .before .before .pre .0 .started .few)
+element-copy-out-put-line c =
+    let start = c .before .before .before .before .before .before .before .before .before .before in
+    omega (arith, small (c .before .before .before), start .pre .0 .started .few)
 
 put-line-requires : tie.Need-put-line-requires Inv-loop μ-loop
 put-line-requires c κs =
+    let start = c .before .before .before .before .before .before .before .before in
     let s = c .before .before .before .before .before .before .before .before .before .before .before in
     let l = c .before .before .before .before .before .loop in
     let k = getD (s .args .order .now) (l .i) 0 in
     let q = small (c .before .before .before .before) in
-    (omega (arith, l .inv .1, l .inv .2, c .before .before .before .before .before .before .before .before .put-heading .ensures .end, puts-length (c .before .before .before .before .before .before .before .before .put-heading .ensures), s .pre .1, c .before .before .before .before .loop-test .taken), omega (arith, q, s .pre .0 .started .few), rw (start-is (c .before)) (s .pre .0 .started .starts k q), s .pre .0 .durations k q)
+    (omega (arith, l .inv .1, l .inv .2, start .put-heading .ensures .end, puts-length (start .put-heading .ensures), s .pre .1, c .before .before .before .before .loop-test .taken), omega (arith, q, s .pre .0 .started .few), rw (start-is (c .before)) (s .pre .0 .started .starts k q), s .pre .0 .durations k q)
 
 add-i : tie.Need-add-i Inv-loop μ-loop
 add-i c = search needs

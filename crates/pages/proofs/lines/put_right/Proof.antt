@@ -1,3 +1,4 @@
+-- Eleven spaces stand before the number, so the last `width` bytes of the two are the number padded on the left.
 use borrow.Author.Needs.{needs}
 use Rattle.integers.proofs.Ints.{back}
 use Rattle.pages.proofs.Padding.{right-aligned}

@@ -1,3 +1,4 @@
+-- Where no test fails, the order and the room are what `put_lines` asks for, and `written` says that its lines are the page.
 use mathlib.Core.Path.{_≡_, refl, sym, _∙_}
 use native.Mathlib.Omega.{arith}
 use lib.ListN.{length}
@@ -36,8 +37,9 @@ same-length c = search needs
 
 returns-2 : tie.Need-returns-2
 returns-2 c =
+    let start = c .before .before .before .before .before .before .before .before in
     let a = c .before .before .before .before .before .before .before .before .before .before .before .args in
-    written (a .t1) (a .earliest .now) (a .latest .now) (a .out .now) _ (c .before .before .put-lines .result) (number (c .before .before .before .before .before .before .before .before)) (c .before .before .before .before .before .before .before .order-of .ensures) (c .before .before .put-lines .ensures)
+    written (a .t1) (a .earliest .now) (a .latest .now) (a .out .now) _ (c .before .before .put-lines .result) (number start) (c .before .before .before .before .before .before .before .order-of .ensures) (c .before .before .put-lines .ensures)
 
 pub page-spec : {M : Type 1} → statement M
 page-spec =

@@ -1,3 +1,4 @@
+-- Each way out is one case of `answered`: what is no list of tasks, too many tasks, and a list whose columns are its starts and durations.
 use mathlib.Core.Path.{sym, ap, _∙_}
 use native.Mathlib.Omega.{arith}
 use Rattle.plan_cli.specs.Lines.{answerLines}
@@ -23,7 +24,9 @@ same-length : tie.Need-same-length
 same-length c = search needs
 
 returns : tie.Need-returns
-returns c = (λ xs h. puts-as (ap answerLines (sym (not-listed xs (sym (c .before .before .before .before .enum-told .given .1) ∙ c .before .before .before .before .before .before .task-count .ensures xs h)))) (c .before .before .put-refused .ensures .0), omega (arith, c .before .before .put-refused .ensures .1, c .before .before .before .before .before .before .before .before .pre))
+returns c =
+    let start = c .before .before .before .before .before .before .before .before in
+    (λ xs h. puts-as (ap answerLines (sym (not-listed xs (sym (c .before .before .before .before .enum-told .given .1) ∙ c .before .before .before .before .before .before .task-count .ensures xs h)))) (c .before .before .put-refused .ensures .0), omega (arith, c .before .before .put-refused .ensures .1, start .pre))
 
 put-refused-requires-2 : tie.Need-put-refused-requires-2
 put-refused-requires-2 c κs = search needs
@@ -32,7 +35,10 @@ same-length-2 : tie.Need-same-length-2
 same-length-2 c = search needs
 
 returns-2 : tie.Need-returns-2
-returns-2 c = let n = c .before .before .before .before .before .before .counted .given .0 .0 in (λ xs h. puts-as (ap answerLines (many-listed xs n (listed xs n (sym (c .before .before .before .before .before .before .counted .given .1) ∙ c .before .before .before .before .before .before .before .before .task-count .ensures xs h)) (omega (arith, c .before .before .before .before .if1 .taken)))) (c .before .before .put-refused2 .ensures .0), omega (arith, c .before .before .put-refused2 .ensures .1, c .before .before .before .before .before .before .before .before .before .before .pre))
+returns-2 c =
+    let s = c .before .before .before .before .before .before .before .before in
+    let start = s .before .before in
+    let n = c .before .before .before .before .before .before .counted .given .0 .0 in (λ xs h. puts-as (ap answerLines (many-listed xs n (listed xs n (sym (c .before .before .before .before .before .before .counted .given .1) ∙ s .task-count .ensures xs h)) (omega (arith, c .before .before .before .before .if1 .taken)))) (c .before .before .put-refused2 .ensures .0), omega (arith, c .before .before .put-refused2 .ensures .1, start .pre))
 
 column-of-requires : tie.Need-column-of-requires
 column-of-requires c κs = search needs
@@ -51,9 +57,14 @@ same-length-3 c = search needs
 
 returns-3 : tie.Need-returns-3
 returns-3 c =
-    let n = c .before .before .before .before .before .before .before .before .before .before .before .before .before .counted .given .0 .0 in
+    let s = c .before .before .before .before .before .before .before .before in
+    let at = s .before .before .before in
+    let here = at .before .before in
+    let there = here .before .before in
+    let start = there .before .before in
+    let n = here .counted .given .0 .0 in
     let e = c .before .before .put-planned .ensures in (
-      λ xs h. (let l = listed xs n (sym (c .before .before .before .before .before .before .before .before .before .before .before .before .before .counted .given .1) ∙ c .before .before .before .before .before .before .before .before .before .before .before .before .before .before .before .task-count .ensures xs h) in puts-as (ap answerLines (few-listed (c .before .before .before .before .before .before .before .before .before .before .before .before .before .before .before .before .before .args .numbers) xs n h l (omega (arith, c .before .before .before .before .before .before .before .before .before .before .before .if1 .left)) (c .before .before .before .before .before .before .before .before .column-of .ensures) (c .before .before .before .before .before .before .column-of2 .ensures) (c .before .before .before .before .column-of3 .ensures))) (e .0)),
+      λ xs h. (let l = listed xs n (sym (here .counted .given .1) ∙ there .task-count .ensures xs h) in puts-as (ap answerLines (few-listed (start .args .numbers) xs n h l (omega (arith, at .if1 .left)) (s .column-of .ensures) (c .before .before .before .before .before .before .column-of2 .ensures) (c .before .before .before .before .column-of3 .ensures))) (e .0)),
       e .1,
     )
 

@@ -1,3 +1,4 @@
+-- By creation's answer: its number is printed, or the run on the record that it made.
 use mathlib.Core.Path.{_≡_, sym, ap}
 use native.Mathlib.Omega.{arith}
 use lib.ListN.{length, take}
@@ -48,9 +49,10 @@ same-length-2 c = search needs
 
 returns-2 : tie.Need-returns-2
 returns-2 c =
+    let start = c .before .before .before .before .before .before .before .before in
     let s = c .before .before .before .before .before .before .before .before .before .before .before in
     let n = s .args .n in
-    (puts-as (ap answerLines (refused-planned (take n (s .args .earliest)) (take n (s .args .latest)) (take n (s .args .t5)) (c .before .before .before .before .before .before .before .before .create .result) (c .before .before .before .before .before .before .before .before .create .ensures .0) (c .before .before .before .before .before .answer .given .0 .0) (c .before .before .before .before .before .answer .given .1))) (c .before .before .put-refused .ensures .0), omega (arith, c .before .before .put-refused .ensures .1, s .pre .1))
+    (puts-as (ap answerLines (refused-planned (take n (s .args .earliest)) (take n (s .args .latest)) (take n (s .args .t5)) (start .create .result) (start .create .ensures .0) (c .before .before .before .before .before .answer .given .0 .0) (c .before .before .before .before .before .answer .given .1))) (c .before .before .put-refused .ensures .0), omega (arith, c .before .before .put-refused .ensures .1, s .pre .1))
 
 pub put-planned-spec : {M : Type 1} → statement M
 put-planned-spec =

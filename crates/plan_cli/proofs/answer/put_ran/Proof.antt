@@ -1,3 +1,4 @@
+-- What `propagate` left in the three arrays is what `put_run` asks for, with room for the longest answer.
 use mathlib.Core.Path.{_≡_, sym, ap, subst, _∙_}
 use mathlib.Core.List.{List, _++_}
 use mathlib.Core.Logic.{_⊎_}
@@ -75,13 +76,17 @@ slice-aggregate-put-run-3 : tie.Need-slice-aggregate-put-run-3
 slice-aggregate-put-run-3 c = sym (ap length (starts-front (c .before .before .before .before .before .before .before)) ∙ starts-long (c .before .before .before .before .before .before .before))
 
 put-run-requires : tie.Need-put-run-requires
-put-run-requires c κs = record { what = answer-of (c .before .before .before .before .before .before .before); shows = shown (c .before .before .before .before .before .before .before); fits = c .before .before .before .before .before .before .before .before .before .before .before .before .before .pre .1 }
+put-run-requires c κs =
+    let start = c .before .before .before .before .before .before .before .before .before .before .before .before .before in
+    record { what = answer-of (c .before .before .before .before .before .before .before); shows = shown (c .before .before .before .before .before .before .before); fits = start .pre .1 }
 
 same-length : tie.Need-same-length
 same-length c = search needs
 
 returns : tie.Need-returns
-returns c = let e = c .before .before .put-run .ensures in (e .0 (answer-of (c .before .before .before .before .before .before .before .before .before .before)) (shown (c .before .before .before .before .before .before .before .before .before .before)), e .1)
+returns c =
+    let start = c .before .before .before .before .before .before .before .before .before .before in
+    let e = c .before .before .put-run .ensures in (e .0 (answer-of start) (shown start), e .1)
 
 pub put-ran-spec : {M : Type 1} → statement M
 put-ran-spec =

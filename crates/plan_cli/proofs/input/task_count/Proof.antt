@@ -1,3 +1,4 @@
+-- Each test rules out one shape of the list; past them the first number counts the triples behind it.
 use mathlib.Core.Path.{_≡_, sym, ap, _∙_}
 use native.Mathlib.Omega.{arith}
 use lib.IntN.{pos}
@@ -44,10 +45,14 @@ add-if4 : tie.Need-add-if4
 add-if4 c = search needs
 
 returns-4 : tie.Need-returns-4
-returns-4 c xs h = other (c .before .before .before .before .before .before .before .before .before .args .numbers) (c .before .nat-of .result) (omega arith) (c .before .nat-of .ensures ∙ first-is (c .before .before .before .before)) xs h (λ z. absurd (omega (arith, z, c .if4 .taken)))
+returns-4 c xs h =
+    let start = c .before .before .before .before .before .before .before .before .before in
+    other (start .args .numbers) (c .before .nat-of .result) (omega arith) (c .before .nat-of .ensures ∙ first-is (c .before .before .before .before)) xs h (λ z. absurd (omega (arith, z, c .if4 .taken)))
 
 returns-5 : tie.Need-returns-5
-returns-5 c xs h = right (c .before .before .before .before .before .before .before .before .before .args .numbers) (c .before .nat-of .result) (omega arith) (c .before .nat-of .ensures ∙ first-is (c .before .before .before .before)) xs h (not-false _ (c .before .before .before .before .before .before .before .if1 .left)) (omega (arith, c .if4 .left))
+returns-5 c xs h =
+    let start = c .before .before .before .before .before .before .before .before .before in
+    right (start .args .numbers) (c .before .nat-of .result) (omega arith) (c .before .nat-of .ensures ∙ first-is (c .before .before .before .before)) xs h (not-false _ (c .before .before .before .before .before .before .before .if1 .left)) (omega (arith, c .if4 .left))
 
 pub task-count-spec : {M : Type 1} → statement M
 task-count-spec =

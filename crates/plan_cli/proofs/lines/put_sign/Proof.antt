@@ -1,3 +1,4 @@
+-- By the kind, both signs four bytes wide.
 use mathlib.Core.Path.{sym, ap, _∙_}
 use lib.IntN.{pos}
 use lib.Signed.{leZ}

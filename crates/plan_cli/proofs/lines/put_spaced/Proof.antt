@@ -1,3 +1,4 @@
+-- A space and the number behind it, 12 bytes at most.
 use native.Mathlib.Omega.{arith}
 use Rattle.integers.proofs.Ints.{back}
 use Rattle.text.proofs.Putting.{puts-append}
@@ -20,9 +21,10 @@ same-length c = search needs
 
 returns : tie.Need-returns
 returns c =
+    let start = c .before .before .before .before .before .before .before .before .before .before in
     let a = c .before .before .before .before .before .before .put-bytes .ensures in
     let b = c .before .before .put-number .ensures in
-    (puts-append a (puts-number (back (c .before .before .before .before .before .before .before .before .before .before .fits .x)) (b .0)), omega (arith, a .end, b .1))
+    (puts-append a (puts-number (back (start .fits .x)) (b .0)), omega (arith, a .end, b .1))
 
 pub put-spaced-spec : {M : Type 1} → statement M
 put-spaced-spec =

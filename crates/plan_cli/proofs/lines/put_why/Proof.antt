@@ -1,3 +1,4 @@
+-- The five parts behind one another are the line, and their widths add up to at most 33.
 use native.Mathlib.Omega.{arith}
 use Rattle.integers.proofs.Ints.{back}
 use Rattle.plan_cli.proofs.Printing.{puts-why}

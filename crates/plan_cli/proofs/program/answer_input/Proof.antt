@@ -1,3 +1,4 @@
+-- The text that was read is the one whose answer is printed.
 use Rattle.text.specs.Numbers.{numbersOf}
 use Rattle.plan_cli.specs.Printed.{printed}
 use Rattle.plan_cli.proofs.Printing.{written}

@@ -1,3 +1,4 @@
+-- The numbers of the text are those that `put_answer` answers.
 use Rattle.text.specs.Numbers.{numbersOf}
 use Rattle.plan_cli.specs.Printed.{printed}
 use Rattle.plan_cli.proofs.Printing.{written}

@@ -1,3 +1,4 @@
+-- The invariant: the scanner has gone over some bytes, those of the pieces read so far.
 use mathlib.Core.List.{List, [], foldl, _++_, foldl-append}
 use mathlib.Core.Path.{_≡_, sym, ap, _∙_}
 use Prim.Native.Nat.{ℕ}

@@ -1,3 +1,4 @@
+-- The three parts behind one another are the line.
 use native.Mathlib.Omega.{arith}
 use Rattle.plan_cli.proofs.Reporting.{puts-done}
 use borrow.Author.Needs.{needs}
@@ -24,10 +25,11 @@ same-length c = search needs
 
 returns : tie.Need-returns
 returns c =
+    let start = c .before .before .before .before .before .before .before .before .before .before .before .before .before .before .before in
     let a = c .before .before .before .before .before .before .before .before .before .before .before .put-bytes .ensures in
     let b = c .before .before .before .before .before .before .before .put-starts .ensures in
     let e = c .before .before .put-bytes2 .ensures in
-    (puts-done (c .before .before .before .before .before .before .before .before .before .before .before .before .before .before .before .args .starts .now) a (b .0) e, omega (arith, a .end, b .1, e .end))
+    (puts-done (start .args .starts .now) a (b .0) e, omega (arith, a .end, b .1, e .end))
 
 pub put-done-spec : {M : Type 1} → statement M
 put-done-spec =

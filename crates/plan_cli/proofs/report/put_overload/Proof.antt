@@ -1,3 +1,4 @@
+-- The words between the two places are the reason's, and its lines stand before the last.
 use native.Mathlib.Nat.{add-sub-cancel-left}
 use Prim.Native.Nat.{_+_, _*_, _-_}
 use native.Mathlib.Omega.{arith}

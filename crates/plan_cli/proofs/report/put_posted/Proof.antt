@@ -1,3 +1,4 @@
+-- The post's own line, and behind it the lines of what `post_reason` reads of the atoms.
 use mathlib.Core.Path.{ap}
 use Prim.Native.Nat.{_+_, _*_}
 use native.Mathlib.Omega.{arith}
@@ -38,19 +39,23 @@ post-reason-requires : tie.Need-post-reason-requires
 post-reason-requires c κs = search needs
 
 put-reason-requires : tie.Need-put-reason-requires
-put-reason-requires c κs = omega (arith, ap length (c .post-reason .ensures), c .before .before .before .before .put-post .ensures .1, c .before .before .before .before .put-post .kept .0, c .before .before .before .before .before .before .before .before .before .pre .1)
+put-reason-requires c κs =
+    let start = c .before .before .before .before .before .before .before .before .before in
+    omega (arith, ap length (c .post-reason .ensures), c .before .before .before .before .put-post .ensures .1, c .before .before .before .before .put-post .kept .0, start .pre .1)
 
 same-length : tie.Need-same-length
 same-length c = search needs
 
 returns : tie.Need-returns
 returns c =
+    let at = c .before .before .before .before .before .before .before .before in
+    let start = at .before in
     let s = c .before .before .before .before .before .before .before .before .before .before .before .before in
     let posts = s .args .posts .now in
     let line = c .before .before .before .before .before .before .before .put-post .ensures in
     let words = c .before .before .before .post-reason in
     let why = c .before .before .put-reason .ensures in (
-      puts-posted posts (s .args .atoms .now) _ (s .args .count) (s .args .j) (back-of w32 (getD posts (4 * s .args .j) (pos 0)) (c .before .before .before .before .before .before .before .before .before .put-post-arg2 .given)) (back-of w32 (getD posts (4 * s .args .j + 1) (pos 0)) (c .before .before .before .before .before .before .before .before .put-post-arg3 .given)) (words .ensures) (line .0) (why .0),
+      puts-posted posts (s .args .atoms .now) _ (s .args .count) (s .args .j) (back-of w32 (getD posts (4 * s .args .j) (pos 0)) (start .put-post-arg2 .given)) (back-of w32 (getD posts (4 * s .args .j + 1) (pos 0)) (at .put-post-arg3 .given)) (words .ensures) (line .0) (why .0),
       omega (arith, ap length (words .ensures), line .1, why .1),
     )
 

@@ -1,3 +1,4 @@
+-- The invariant `Reached`: the lines of the first j posts stand in front, in the room that posts and atoms of that many take.
 use mathlib.Core.Path.{_≡_, refl, _∙_}
 use Prim.Native.Nat.{_-_, _≤_}
 use native.Mathlib.Omega.{arith}

@@ -1,3 +1,4 @@
+-- By the outcome, each way one shape of the answer; `Printable` gives its room.
 use mathlib.Core.Path.{_≡_, sym, subst}
 use mathlib.Core.Logic.{_⊎_}
 use Prim.Native.Nat.{ℕ, _≤_}
@@ -69,39 +70,44 @@ same-length c = search needs
 
 returns : tie.Need-returns
 returns c =
+    let start = c .before .before .before .before .before .before .before .before .before in
     let s = c .before .before .before .before .before .before .before .before .before .before .before .before .pre in
-    let p = done (c .before .before .before .before .before .before .before .before .before) (s .what) (s .shows) in
+    let p = done start (s .what) (s .shows) in
     let w = c .before .before .before .before .before .before .put-posts .ensures in
     let e = c .before .before .put-done .ensures in
-    (λ what h. (let q = done (c .before .before .before .before .before .before .before .before .before) what h .0 in puts-as (sym (q .text)) (puts-append (w .0 (q .list) (q .holds)) (e .0))), omega (arith, p .0 .few, p .1, s .fits, w .1 (p .0 .list) (p .0 .holds), e .1))
+    (λ what h. (let q = done start what h .0 in puts-as (sym (q .text)) (puts-append (w .0 (q .list) (q .holds)) (e .0))), omega (arith, p .0 .few, p .1, s .fits, w .1 (p .0 .list) (p .0 .holds), e .1))
 
 same-length-2 : tie.Need-same-length-2
 same-length-2 c = search needs
 
 returns-2 : tie.Need-returns-2
 returns-2 c =
+    let start = c .before .before .before .before .before .before .before .before .before in
     let s = c .before .before .before .before .before .before .before .before .before .before .before .before .pre in
-    let p = overloaded (c .before .before .before .before .before .before .before .before .before) (s .what) (s .shows) .parts in
+    let p = overloaded start (s .what) (s .shows) .parts in
     let w = c .before .before .before .before .before .before .put-posts2 .ensures in
     let e = c .before .before .put-overload .ensures in
-    (λ what h. (let q = overloaded (c .before .before .before .before .before .before .before .before .before) what h in puts-as (sym (q .parts .text)) (puts-append (w .0 (q .parts .list) (q .parts .holds)) (e .0 (q .reason) (q .words)))), omega (arith, p .few, s .fits, w .1 (p .list) (p .holds), e .1))
+    (λ what h. (let q = overloaded start what h in puts-as (sym (q .parts .text)) (puts-append (w .0 (q .parts .list) (q .parts .holds)) (e .0 (q .reason) (q .words)))), omega (arith, p .few, s .fits, w .1 (p .list) (p .holds), e .1))
 
 same-length-3 : tie.Need-same-length-3
 same-length-3 c = search needs
 
 returns-3 : tie.Need-returns-3
 returns-3 c =
+    let start = c .before .before .before .before .before .before .before .before .before .before in
     let s = c .before .before .before .before .before .before .before .before .before .before .before .before .before .pre in
-    let p = emptied (c .before .before .before .before .before .before .before .before .before .before) (s .what) (s .shows) in
+    let p = emptied start (s .what) (s .shows) in
     let w = c .before .before .before .before .before .before .before .put-posts3 .ensures in
     let e = c .before .before .put-bytes .ensures in
-    (λ what h. (let q = emptied (c .before .before .before .before .before .before .before .before .before .before) what h in puts-as (sym (q .text)) (puts-append (w .0 (q .list) (q .holds)) e)), omega (arith, p .few, s .fits, w .1 (p .list) (p .holds), e .end))
+    (λ what h. (let q = emptied start what h in puts-as (sym (q .text)) (puts-append (w .0 (q .list) (q .holds)) e)), omega (arith, p .few, s .fits, w .1 (p .list) (p .holds), e .end))
 
 same-length-4 : tie.Need-same-length-4
 same-length-4 c = search needs
 
 returns-4 : tie.Need-returns-4
-returns-4 c = let e = c .before .before .put-refused .ensures in (λ what h. puts-as (sym (refused (c .before .before .before .before .before) what h)) (e .0), omega (arith, e .1, c .before .before .before .before .before .before .before .before .pre .fits))
+returns-4 c =
+    let start = c .before .before .before .before .before .before .before .before in
+    let e = c .before .before .put-refused .ensures in (λ what h. puts-as (sym (refused (c .before .before .before .before .before) what h)) (e .0), omega (arith, e .1, start .pre .fits))
 
 pub put-run-spec : {M : Type 1} → statement M
 put-run-spec =

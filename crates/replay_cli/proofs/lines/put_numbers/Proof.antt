@@ -1,3 +1,4 @@
+-- The invariant: the buffer keeps its length.
 use mathlib.Core.Path.{_≡_}
 use Prim.Native.Nat.{_-_}
 use lib.ListN.{length}

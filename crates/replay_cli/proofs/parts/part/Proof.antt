@@ -1,3 +1,4 @@
+-- Only the measure is needed: the parts that are left to skip.
 use borrow.Author.Needs.{needs}
 use Rattle.replay_cli.proofs.parts.part.Statement.{statement}
 use Rattle.replay_cli.proofs.parts.part.Tie as tie

@@ -1,3 +1,4 @@
+-- Only the measure is needed; the two lengths are equal, so that both places exist.
 use Prim.Native.Nat.{_-_}
 use lib.ListN.{length}
 use borrow.Author.Needs.{needs}

@@ -1,3 +1,4 @@
+-- The invariant: the buffer keeps its length, whatever part of the sheet a line is.
 use mathlib.Core.Path.{_≡_}
 use Prim.Native.Nat.{_-_}
 use lib.ListN.{length}

@@ -1,3 +1,4 @@
+-- The invariant: the starts keep their length; twice i and one more is inside the words.
 use mathlib.Core.Path.{_≡_}
 use Prim.Native.Nat.{_-_}
 use lib.ListN.{length}

@@ -1,3 +1,4 @@
+-- The invariant: the buffer keeps its length; three words to an atom are inside the slice.
 use mathlib.Core.Path.{_≡_}
 use Prim.Native.Nat.{_-_}
 use lib.ListN.{length}

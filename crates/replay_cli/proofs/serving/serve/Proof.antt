@@ -1,3 +1,4 @@
+-- The invariant: line and buffer keep their lengths; the turns are the measure.
 use mathlib.Core.Path.{_≡_}
 use lib.ListN.{length}
 use borrow.Author.Needs.{needs}

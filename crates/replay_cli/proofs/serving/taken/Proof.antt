@@ -1,3 +1,4 @@
+-- The invariant: line and buffer keep their lengths; each pass goes past one line feed.
 use mathlib.Core.Path.{_≡_}
 use Prim.Native.Nat.{_-_}
 use lib.ListN.{length}

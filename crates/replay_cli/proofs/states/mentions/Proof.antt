@@ -1,3 +1,4 @@
+-- Only the measure is needed; the first word of each atom is inside the slice.
 use Prim.Native.Nat.{_-_}
 use borrow.Author.Needs.{needs}
 use Rattle.replay_cli.proofs.states.mentions.Statement.{statement}

@@ -1,3 +1,4 @@
+-- A variable that is accepted is not negative.
 use mathlib.Core.Path.{sym, ap, subst, _∙_}
 use lib.IntN.{ℤ, pos}
 use lib.Signed.{_≤ℤ_}

@@ -1,3 +1,4 @@
+-- The definition with the two ends named: where they cross, the difference of natural numbers is 0.
 use mathlib.Core.Path.{_≡_}
 use Prim.Native.Nat.{ℕ, _-_, _≤_, min, max}
 use native.Mathlib.Omega.{arith}

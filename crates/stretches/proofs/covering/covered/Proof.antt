@@ -1,3 +1,4 @@
+-- The invariant: `sum` is what the first k tasks have in common with the stretch; being apart, they cover no more than w.
 use mathlib.Core.Path.{_≡_, sym, ap, _∙_}
 use Prim.Native.Nat.{_-_, _≤_}
 use native.Mathlib.Omega.{arith}

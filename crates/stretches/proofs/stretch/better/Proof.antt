@@ -1,3 +1,4 @@
+-- Each early return keeps the best (`stays`), as x does not count, covers less, or covers as much from a later start; else x takes its place (`gives-way`).
 use mathlib.Core.Path.{sym, _∙_}
 use mathlib.Core.Logic.{inl, inr}
 use native.Mathlib.Omega.{arith}
@@ -34,8 +35,9 @@ returns-4 c =
 
 returns-5 : tie.Need-returns-5
 returns-5 c =
+    let at = c .before .before .before .before .before .before .before .before in
     let s = c .before .before .before .before .before .before .before .before .before in
-    gives-way (inMoments (s .args .n) (s .args .starts .now) (s .args .durations .now)) (s .args .w) (s .args .first) (s .args .last) (s .args .x) (s .args .best .covered) (s .args .best .start) _ (omega (arith, c .before .before .before .before .before .before .before .before .if1 .left)) (omega (arith, c .before .before .before .before .before .before .before .if2 .left)) (c .before .before .before .before .before .before .covered .ensures) (inr (sym (c .before .before .if4 .taken), omega (arith, c .if5 .left)))
+    gives-way (inMoments (s .args .n) (s .args .starts .now) (s .args .durations .now)) (s .args .w) (s .args .first) (s .args .last) (s .args .x) (s .args .best .covered) (s .args .best .start) _ (omega (arith, at .if1 .left)) (omega (arith, c .before .before .before .before .before .before .before .if2 .left)) (c .before .before .before .before .before .before .covered .ensures) (inr (sym (c .before .before .if4 .taken), omega (arith, c .if5 .left)))
 
 returns-6 : tie.Need-returns-6
 returns-6 c =

@@ -1,3 +1,4 @@
+-- The invariant `Best`: no stretch that starts or ends with one of the first k tasks is better than the best so far.
 use mathlib.Core.Path.{_≡_, sym}
 use Prim.Native.Nat.{_-_, _≤_}
 use native.Mathlib.Omega.{arith}

@@ -1,3 +1,4 @@
+-- The search runs in moments: the first and the last start are those of the order's ends, and its answer is carried back to whole numbers.
 use mathlib.Core.Path.{_≡_, sym, ap, _∙_}
 use Prim.Native.Nat.{ℕ, _-_, _<_}
 use native.Mathlib.Omega.{arith}
@@ -96,10 +97,12 @@ start-of-requires c κs = search needs
 
 returns-2 : tie.Need-returns-2
 returns-2 c =
+    let at = c .before .before .before .before .before .before .before .before in
+    let s = at .before in
     let a = c .before .before .before .before .before .before .before .before .before .before .before .args in
-    let h = held (c .before .before .before .before .before .before .before .before .before) in
+    let h = held s in
     let best = c .before .busiest in
-    answered (a .t1) (a .earliest .now) (a .latest .now) (a .w) _ (number (c .before .before .before .before .before .before .before .before .before)) (found (a .t1) (a .earliest .now) (a .latest .now) (a .w) (h .0) (h .1) _ (c .before .before .before .before .before .before .moments-of .ensures) _ (lasting (c .before .before .before .before .before)) _ (c .before .before .before .before .before .before .before .before .order-of .ensures) (best .result .covered) (best .result .start) (best .ensures) _ (back-of w32 (c .start-of .result) (c .start-of .ok) ∙ c .start-of .ensures))
+    answered (a .t1) (a .earliest .now) (a .latest .now) (a .w) _ (number s) (found (a .t1) (a .earliest .now) (a .latest .now) (a .w) (h .0) (h .1) _ (c .before .before .before .before .before .before .moments-of .ensures) _ (lasting (c .before .before .before .before .before)) _ (at .order-of .ensures) (best .result .covered) (best .result .start) (best .ensures) _ (back-of w32 (c .start-of .result) (c .start-of .ok) ∙ c .start-of .ensures))
 
 pub busiest-stretch-spec : {M : Type 1} → statement M
 busiest-stretch-spec =
