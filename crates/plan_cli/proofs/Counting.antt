@@ -40,7 +40,7 @@ module _ (ns : Numbers) where
   nothing (some (x ∷ xs)) h v = absurd (omega (arith, ap (λ (m : Numbers). m .count) h))
 
   -- the first number
-  first-is : (x : ℤ) (xs : List ℤ) → ns ≡ gathered (some (x ∷ xs)) → getD (ns .kept) 0 (pos 0) ≡ x
+  pub first-is : (x : ℤ) (xs : List ℤ) → ns ≡ gathered (some (x ∷ xs)) → getD (ns .kept) 0 (pos 0) ≡ x
   first-is x xs h = ap (λ (m : Numbers). getD (m .kept) 0 (pos 0)) h ∙ kept-at (x ∷ xs) 0 (omega arith)
 
   pub negative : (xs : Option (List ℤ)) → ns ≡ gathered xs → leZ (pos 0) (getD (ns .kept) 0 (pos 0)) ≡ false → counted.Wrong ≡ countIn xs

@@ -25,7 +25,7 @@ module _ (es ls ds : List ℤ) (accepted : refusal (creationTests ds) ≡ 0) (sa
   counts : CountsFit (length ds) es ls
   counts = record { earliest = same-earliest; latest = same-latest }
 
-  words : WordsFit (length ds) (4 * TASKS) (3 * ATOMS)
+  pub words : WordsFit (length ds) (4 * TASKS) (3 * ATOMS)
   words = let few : length ds ≤ TASKS = lawful .few in
       record { posts = omega arith; atoms = omega (arith, mul-le-mul {n₁ = length ds} {m₁ = length ds} {n₂ = TASKS} {m₂ = TASKS} few few) }
 

@@ -45,7 +45,7 @@ fn read_piece(scanner: Scanner) -> Piece
 }
 
 // The numbers of the whole input. A loop must end, so its turns are counted down from more than any input takes.
-fn read_numbers() -> Numbers
+pub fn read_numbers() -> Numbers
     ensures { λ r. ⌜ ((text : List ℕ) × (r ≡ gathered (numbersOf text))) ⌝ }
 {
     let mut scanner = Scanner::new();

@@ -16,4 +16,5 @@ pub mod Changes
 pub mod Stops
 pub mod Shapes
 pub mod Starts
+pub mod Costliest
 pub mod Mirrored

@@ -126,7 +126,7 @@ module _ (ds : List ℕ) (es ls : List ℤ) where
     above k q = more-above limit zeroAt (omega arith) (getD es k (pos 0)) (a .from k q)
 
     start : (k : ℕ) → k < length ds → getD (tabulate (J .earliest) 0 (length ds)) k 0 ≡ J .earliest k
-    start k q = let z : 0 + k ≡ k = omega arith in tab-at (J .earliest) 0 (length ds) k q ∙ ap (J .earliest) z
+    start k q = let z : 0 + k ≡ k = omega arith in tab-at (J .earliest) 0 (length ds) k 0 q ∙ ap (J .earliest) z
 
     entry : Between (tabulate (J .earliest) 0 (length ds))
     entry = record {

@@ -367,7 +367,7 @@ module _ (o : ℕ) (J : Tasks natural) (ok : Proper J) (first second : List ℕ)
     st₀ = record { leaves = replicate n white; starts = tabulate (J .earliest) 0 n; posts = []; changes = n }
 
     now₀ : (k : ℕ) → k < n → now st₀ k ≡ J .earliest k
-    now₀ k q = let z : 0 + k ≡ k = omega arith in tab-at (J .earliest) 0 n k q ∙ ap (J .earliest) z
+    now₀ k q = let z : 0 + k ≡ k = omega arith in tab-at (J .earliest) 0 n k 0 q ∙ ap (J .earliest) z
 
     leaf₀ : (k : ℕ) → k < n → getD (replicate n white) (rank k) empty ≡ white
     leaf₀ k q = getD-replicate n (rank k) white empty (rk .placed k q)

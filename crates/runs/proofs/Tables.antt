@@ -1,4 +1,4 @@
--- The numbers of all tasks in a list: how many there are, which one stands where, and which list it is.
+-- What there is of each task, in a list: how many there are, which one stands where, and which list it is.
 -- Assumes nothing.
 use mathlib.Core.Path.{_≡_, refl, sym, ap, ap₂, _∙_}
 use mathlib.Core.List.{List, [], _∷_, map}
@@ -9,16 +9,21 @@ use lib.ListN.{length, getD}
 use Rattle.integers.specs.Moments.{instant}
 use Rattle.runs.specs.Runs.{tabulate}
 
-pub tab-length : (f : ℕ → ℕ) (a d : ℕ) → length (tabulate f a d) ≡ d
+pub tab-length : {A : Type 0} (f : ℕ → A) (a d : ℕ) → length (tabulate f a d) ≡ d
 unfolding tabulate
 tab-length f a zero = refl
 tab-length f a (suc d) = ap suc (tab-length f (suc a) d)
 
-pub tab-at : (f : ℕ → ℕ) (a d k : ℕ) → k < d → getD (tabulate f a d) k 0 ≡ f (a + k)
+pub tab-at : {A : Type 0} (f : ℕ → A) (a d k : ℕ) (none : A) → k < d → getD (tabulate f a d) k none ≡ f (a + k)
 unfolding tabulate
-tab-at f a zero k q = absurd (omega arith)
-tab-at f a (suc d) zero q = let z : a ≡ a + 0 = omega arith in ap f z
-tab-at f a (suc d) (suc k) q = let z : suc a + k ≡ a + suc k = omega arith in tab-at f (suc a) d k (omega arith) ∙ ap f z
+tab-at f a zero k none q = absurd (omega arith)
+tab-at f a (suc d) zero none q = let z : a ≡ a + 0 = omega arith in ap f z
+tab-at f a (suc d) (suc k) none q = let z : suc a + k ≡ a + suc k = omega arith in tab-at f (suc a) d k none (omega arith) ∙ ap f z
+
+pub tab-map : {A B : Type 0} (f : A → B) (g : ℕ → A) (a d : ℕ) → map f (tabulate g a d) ≡ tabulate (λ k. f (g k)) a d
+unfolding tabulate
+tab-map f g a zero = refl
+tab-map {A} {B} f g a (suc d) = ap (λ (l : List B). f (g a) ∷ l) (tab-map f g (suc a) d)
 
 -- numbers that come back from their moments
 pub tabulated : (o : ℕ) (xs : List ℤ) (f : ℕ → ℕ) (b : ℕ) → ((k : ℕ) → k < length xs → instant o (f (b + k)) ≡ getD xs k (pos 0)) → xs ≡ map (instant o) (tabulate f b (length xs))

@@ -12,6 +12,7 @@ use Rattle.trees.specs.Searches.{gray, tested, descentP, descentEct, stepP, ste
 use Rattle.trees.specs.Shapes.{width, heightFrom, nodeOver}
 use Rattle.runs.specs.Traces.{Post, End, done, overload, emptied, Trace}
 use Rattle.runs.specs.Runs.{propagate, run, outer, inner, conflict, propagation, bounds, within, tabulate, earliestOrder, completionOrder}
+use Rattle.runs.specs.Costliest.{costliestStarts, costliestDurations}
 
 abbrev atLeast : ℕ → ℕ → Atom
 atLeast k v = record { variable = k; kind = 0; value = pos v }
@@ -84,6 +85,11 @@ nine i = record { task = i; bound = pos 9; reason = atLeast 0 0 ∷ atMost 0 7 �
 pub two-raised : answer both ≡ trace (nine 3 ∷ nine 2 ∷ []) done (0 ∷ 1 ∷ 9 ∷ 9 ∷ []) 12
 unfolding propagate run outer inner conflict propagation bounds within tabulate heightFrom sort insert index numbers width root responsible theta joinOf isEmpty gray tested descentP descentEct stepP stepEct searchP searchEct thetaOf nodeOver
 two-raised = refl
+
+-- Three of the costliest tasks: 4 · 3 − 3 leaf changes.
+pub three-costliest : propagate (costliestDurations 3) (costliestStarts 3) (costliestStarts 3) ≡ trace [] done (0 ∷ 10 ∷ 20 ∷ []) 9
+unfolding propagate run outer inner conflict propagation bounds within tabulate heightFrom sort insert index numbers width root responsible theta joinOf isEmpty gray tested descentP descentEct stepP stepEct searchP searchEct thetaOf nodeOver
+three-costliest = refl
 
 -- Three tasks with one earliest start, two of them with one latest completion: ties go to the lower number in both orders.
 abbrev tied : Tasks natural

@@ -2,6 +2,7 @@ pub mod Traces
 pub mod Words
 pub mod Runs
 pub mod Reached
+pub mod Costliest
 pub mod Demand
 pub mod Mirrored
 pub mod MirroredWords

@@ -98,10 +98,10 @@ value-snoc m [] b = refl
 value-snoc m (x ∷ xs) b = value-snoc (m * 10 + (x - 48)) xs b
 
 -- The digits of n are digits, and they have the value n.
-record Reads (n : ℕ) (bs : List ℕ) : Type 0 where
-  some-digit : 0 < length bs
-  only-digits : digits bs ≡ true
-  value-is : value 0 bs ≡ n
+pub record Reads (n : ℕ) (bs : List ℕ) : Type 0 where
+  pub some-digit : 0 < length bs
+  pub only-digits : digits bs ≡ true
+  pub value-is : value 0 bs ≡ n
 
 one-reads : (n : ℕ) → n < 10 → Reads n ((48 + n) ∷ [])
 unfolding value
@@ -121,7 +121,7 @@ figures-read (suc k) n h = elim (decLt n 10) [
   | no q ↦ rw (figures-large k n (omega arith)) (more-reads n (figures k (n / 10)) (figures-read k (n / 10) (omega arith)))
 ]
 
-natural-reads : (n : ℕ) → Reads n (natural n)
+pub natural-reads : (n : ℕ) → Reads n (natural n)
 unfolding natural
 natural-reads n = figures-read n n (omega arith)
 

@@ -5,4 +5,5 @@ pub mod Spelling
 pub mod Gathering
 pub mod Tokens
 pub mod Decimals
+pub mod ReadBack
 pub mod Putting

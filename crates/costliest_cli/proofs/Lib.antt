@@ -1,0 +1,4 @@
+pub mod Asking
+pub mod Putting
+pub mod Reading
+pub mod Reaching

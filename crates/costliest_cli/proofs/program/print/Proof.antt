@@ -1,0 +1,24 @@
+use Rattle.text.specs.Numbers.{numbersOf}
+use Rattle.costliest_cli.specs.Written.{written}
+use Rattle.plan_cli.proofs.Printing as printing
+use borrow.Author.Needs.{needs}
+use Rattle.costliest_cli.proofs.program.print.Statement.{statement}
+use Rattle.costliest_cli.proofs.program.print.Tie as tie
+
+numbers-of-requires : tie.Need-numbers-of-requires
+numbers-of-requires c κs = search needs
+
+put-answer-requires : tie.Need-put-answer-requires
+put-answer-requires c κs = search needs
+
+same-length : tie.Need-same-length
+same-length c = search needs
+
+returns : tie.Need-returns
+unfolding written
+returns c =
+    let e = c .before .before .put-answer .ensures in
+    printing.written (e .0 (numbersOf (c .before .before .before .before .before .before .before .args .text .now)) (c .before .before .before .numbers-of .ensures)) (e .1)
+
+pub print-spec : {M : Type 1} → statement M
+print-spec = tie.close (tie.spec numbers-of-requires put-answer-requires same-length returns)

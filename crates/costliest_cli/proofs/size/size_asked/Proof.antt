@@ -1,0 +1,63 @@
+use mathlib.Core.Path.{_≡_, sym, ap, _∙_}
+use native.Mathlib.Omega.{arith}
+use lib.IntN.{pos}
+use lib.Signed.{leZ}
+use lib.ListN.{getD}
+use borrow.Author.Tests.{not-true, not-false}
+use mir.Syntax.{w32}
+use mir.Val.{toZ, ofZ}
+use Prim.Native.Nat.{_≤_}
+use Rattle.integers.proofs.Ints.{back-of}
+use Rattle.costliest_cli.proofs.Asking.{invalid, not-one, low, high, right, not-negative, one-or-more}
+use borrow.Author.Needs.{needs}
+use Rattle.costliest_cli.proofs.size.size_asked.Statement.{statement}
+use Rattle.costliest_cli.proofs.size.size_asked.Tie as tie
+
+-- the first number, from its bits
+first-is : (c : tie.After-first) → toZ w32 (ofZ w32 (getD (c .before .before .before .before .before .before .args .numbers .kept) 0 (pos 0))) ≡ getD (c .before .before .before .before .before .before .args .numbers .kept) 0 (pos 0)
+first-is c = back-of w32 (getD (c .before .before .before .before .before .before .args .numbers .kept) 0 (pos 0)) (c .first .given)
+
+returns : tie.Need-returns
+returns c = (λ xs h. invalid (c .before .before .args .numbers) xs h (not-true _ (c .if1 .taken)), tt)
+
+returns-2 : tie.Need-returns-2
+returns-2 c = (λ xs h. not-one (c .before .before .before .before .args .numbers) xs h (λ z. absurd (omega (arith, z, c .if2 .taken))), tt)
+
+array-copy-out-first : tie.Need-array-copy-out-first
+array-copy-out-first c = search needs
+
+at-most-requires : tie.Need-at-most-requires
+at-most-requires c κs = search needs
+
+returns-3 : tie.Need-returns-3
+returns-3 c = (λ xs h. low (c .before .before .before .before .before .before .before .before .args .numbers) xs h (ap (leZ (pos 1)) (sym (first-is (c .before .before))) ∙ sym (c .before .at-most .ensures) ∙ not-true _ (c .if3 .taken)), tt)
+
+nat-of-requires : tie.Need-nat-of-requires
+nat-of-requires c κs = not-negative _ (sym (c .before .at-most .ensures) ∙ not-false _ (c .if3 .left))
+
+cast-n : tie.Need-cast-n
+cast-n c = search needs
+
+returns-4 : tie.Need-returns-4
+returns-4 c = (λ xs h. high (c .before .before .before .before .before .before .before .before .before .before .args .numbers) (c .before .nat-of .result) (c .before .nat-of .ensures ∙ first-is (c .before .before .before .before)) xs h (omega (arith, c .if4 .taken)), tt)
+
+returns-5 : tie.Need-returns-5
+returns-5 c =
+    let least : 1 ≤ c .before .nat-of .result = one-or-more (c .before .nat-of .result) _ (c .before .nat-of .ensures) (sym (c .before .before .before .at-most .ensures) ∙ not-false _ (c .before .before .if3 .left)) in (
+      λ xs h. right (c .before .before .before .before .before .before .before .before .before .before .args .numbers) (c .before .nat-of .result) (c .before .nat-of .ensures ∙ first-is (c .before .before .before .before)) xs h (not-false _ (c .before .before .before .before .before .before .before .before .if1 .left)) (omega (arith, c .before .before .before .before .before .before .if2 .left)) least (omega (arith, c .if4 .left)),
+      omega (arith, c .if4 .left),
+    )
+
+pub size-asked-spec : {M : Type 1} → statement M
+size-asked-spec =
+    tie.close
+    (tie.spec
+    returns
+    returns-2
+    array-copy-out-first
+    at-most-requires
+    returns-3
+    nat-of-requires
+    cast-n
+    returns-4
+    returns-5)

@@ -1,0 +1,64 @@
+use mathlib.Core.Path.{_≡_, refl, _∙_}
+use Prim.Native.Nat.{_+_, _*_, _-_, _≤_}
+use native.Mathlib.Omega.{arith}
+use lib.ListN.{length, take}
+use Rattle.text.specs.Writing.{Puts}
+use Rattle.text.proofs.Putting.{puts-length}
+use Rattle.plan_cli.specs.Lines.{lines}
+use Rattle.plan_cli.proofs.Printing.{puts-first, puts-all}
+use Rattle.costliest_cli.specs.Tasks.{taskLine, costliestTask, costliest}
+use Rattle.costliest_cli.proofs.Putting.{costliest-length, puts-one-more}
+use borrow.Author.Needs.{needs}
+use Rattle.costliest_cli.proofs.tasks.put_tasks.Statement.{statement}
+use Rattle.costliest_cli.proofs.tasks.put_tasks.Tie as tie
+
+abbrev Inv-loop : tie.InvT-loop
+Inv-loop out₀ at n end₀ k₀ out end k = (k ≤ n) × (length out ≡ length out₀) × (end ≤ at + 63 * k) × Puts out₀ out at (lines taskLine (take k (costliest n))) end
+
+abbrev μ-loop : tie.MeasureT-loop
+μ-loop out₀ at n end₀ k₀ out end k = n - k
+
+loop-holds : tie.Need-loop-holds Inv-loop μ-loop
+loop-holds c = (omega arith, refl, omega arith, puts-first taskLine (costliestTask 0) _ _ (costliest (c .before .args .n)))
+
+put-task-requires : tie.Need-put-task-requires Inv-loop μ-loop
+put-task-requires c κs = search needs
+
+add-k : tie.Need-add-k Inv-loop μ-loop
+add-k c = search needs
+
+loop-less : tie.Need-loop-less Inv-loop μ-loop
+loop-less c = search needs
+
+loop-again : tie.Need-loop-again Inv-loop μ-loop
+loop-again c =
+    let w = c .before .before .put-task in
+    let l = c .before .before .before .before .before .loop in (
+      omega (arith, c .before .before .before .before .loop-test .taken),
+      puts-length (w .ensures .0) ∙ l .inv .1,
+      omega (arith, w .ensures .1, l .inv .2),
+      puts-one-more _ (l .k) (c .before .before .before .before .loop-test .taken) (l .inv .3) (w .ensures .0),
+    )
+
+same-length : tie.Need-same-length Inv-loop μ-loop
+same-length c = search needs
+
+returns : tie.Need-returns Inv-loop μ-loop
+returns c =
+    let l = c .before .loop in
+    let n = c .before .before .before .args .n in
+    (puts-all taskLine (costliestTask 0) (costliest n) (l .k) (omega (arith, c .loop-test .left, costliest-length n)) (l .inv .3), omega (arith, l .inv .2, l .inv .0))
+
+pub put-tasks-spec : {M : Type 1} → statement M
+put-tasks-spec =
+    tie.close
+    (tie.spec
+    Inv-loop
+    μ-loop
+    loop-holds
+    put-task-requires
+    add-k
+    loop-less
+    loop-again
+    same-length
+    returns)

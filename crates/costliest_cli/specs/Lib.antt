@@ -1,0 +1,4 @@
+pub mod Asked
+pub mod Tasks
+pub mod Written
+pub mod Examples

@@ -1,0 +1,49 @@
+// Further inputs of the program, each ended by a '%'. For each the program's answer is written, and a '%' on a line behind it.
+use costliest_cli::program::ROOM;
+use costliest_cli::program::print;
+use libc::STDIN_FILENO;
+use libc::STDOUT_FILENO;
+ghost use Prim.Native.Nat.{_≤_};
+ghost use lib.ListN.{length};
+
+// Bytes for all inputs.
+const INPUTS: usize = 4096;
+
+// The place of the first '%' from `from` on, or the end.
+fn end_of(inputs: &[u8], from: usize) -> usize
+    requires { ⌜ from ≤ length (now inputs) ⌝ }
+    ensures { λ r. ⌜ (from ≤ r) × (r ≤ length (now (inputs .entry))) ⌝ }
+{
+    let mut i = from;
+    while i < inputs.len() {
+        if inputs[i] == b'%' {
+            return i;
+        }
+        i += 1;
+    }
+    i
+}
+
+// The answer to one input.
+fn answer(input: &[u8]) {
+    let mut out = [0u8; ROOM];
+    let n = print(&mut out, input);
+    io::write_all(STDOUT_FILENO, &out[..n]);
+    io::write_all(STDOUT_FILENO, b"%\n");
+}
+
+// The answers to all, one after the other.
+fn answer_all(inputs: &[u8]) {
+    let mut from = 0;
+    while from < inputs.len() {
+        let end = end_of(inputs, from);
+        answer(&inputs[from..end]);
+        from = end + 1;
+    }
+}
+
+fn main() {
+    let mut inputs = [0u8; INPUTS];
+    let n = io::read_full(STDIN_FILENO, &mut inputs);
+    answer_all(&inputs[..n]);
+}
