@@ -22,8 +22,8 @@ enum { REEDGRIT_GREATER_EQUAL = 0, REEDGRIT_LESS_EQUAL = 1, REEDGRIT_EQUAL = 2, 
 
 /* Refusals:
  *  1 no tasks, or more than 48            2 a duration below 1
- *  3 a start beyond +-200000000           4 earliest above latest
- *  5 durations sum above 200000000        6 words that are no atoms
+ *  3 a start beyond +-400000000           4 earliest above latest
+ *  5 durations sum above 400000000        6 words that are no atoms
  *  7 more than 512 premises               8 a consequent on no task, or on one without finite bounds
  *  9 post words below 4n, atom words below 6n*n
  * 10 another number of ranges than n     11 a post that is not there

@@ -30,7 +30,7 @@ impl Rng {
     }
 }
 
-const LIMIT: i64 = 200_000_000;
+const LIMIT: i64 = 400_000_000;
 
 /// Durations of n tasks: equal ones, short ones, long ones up to the limit of their sum.
 pub fn durations(rng: &mut Rng, n: usize) -> Vec<i32> {

@@ -84,8 +84,8 @@ use std::ops::Not;
 /// A record has this many tasks at most.
 pub const TASKS: usize = raw::TASKS;
 
-/// Starts lie from −200,000,000 to this.
-pub const START: i32 = 200_000_000;
+/// Starts lie from −400,000,000 to this.
+pub const START: i32 = 400_000_000;
 
 /// A task may start from `earliest` to `latest`, both included.
 #[repr(C)]
@@ -258,11 +258,11 @@ pub enum Refused {
     TaskCount,
     /// 2: a duration below 1; that of this task and perhaps of further ones.
     Duration(usize),
-    /// 3: a start outside −200,000,000 to 200,000,000; one of this task's and perhaps of further ones'.
+    /// 3: a start outside −400,000,000 to 400,000,000; one of this task's and perhaps of further ones'.
     Start(usize),
     /// 4: an earliest start above its latest; this task's and perhaps further ones'.
     Crossed(usize),
-    /// 5: durations that sum to more than 200,000,000.
+    /// 5: durations that sum to more than 400,000,000.
     DurationSum,
     /// 6: an unknown variable, or a value beyond ±900,000,000.
     Atoms,
@@ -333,9 +333,9 @@ impl fmt::Display for Refused {
         let text = match self {
             Refused::TaskCount => "no tasks, or more than 48",
             Refused::Duration(_) => "a duration below 1",
-            Refused::Start(_) => "a start outside -200000000 to 200000000",
+            Refused::Start(_) => "a start outside -400000000 to 400000000",
             Refused::Crossed(_) => "an earliest start above its latest",
-            Refused::DurationSum => "durations that sum to more than 200000000",
+            Refused::DurationSum => "durations that sum to more than 400000000",
             Refused::Atoms => "an unknown variable, or a value beyond 900000000",
             Refused::Premises => "more than 512 premises",
             Refused::Consequent => "a consequent whose variable is no task's, or lacks a finite bound",

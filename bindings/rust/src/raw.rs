@@ -133,7 +133,7 @@ pub(crate) fn atoms(words: &[i32]) -> &[Atom] {
     unsafe { std::slice::from_raw_parts(words.as_ptr().cast(), words.len() / 3) }
 }
 
-/// The durations as a caller gives them. They are 200,000,000 at most.
+/// The durations as a caller gives them. They are 400,000,000 at most.
 pub(crate) fn signed(durations: &[u32]) -> &[i32] {
     // SAFETY: both types have the same size and alignment, and every bit pattern is a value of either.
     unsafe { std::slice::from_raw_parts(durations.as_ptr().cast(), durations.len()) }
@@ -167,7 +167,7 @@ mod tests {
             |r: &mut Record| r.count = 49,
             |r: &mut Record| r.count = usize::MAX,
             |r: &mut Record| r.durations[1] = 0,
-            |r: &mut Record| r.durations[0] = 200_000_000,
+            |r: &mut Record| r.durations[0] = 400_000_000,
             |r: &mut Record| r.durations[0] = u32::MAX,
             |r: &mut Record| r.durations[3] = 1,
             |r: &mut Record| r.durations[47] = 1,
@@ -175,7 +175,7 @@ mod tests {
             |r: &mut Record| (r.count, r.total) = (2, 9),
             |r: &mut Record| r.total = 11,
             |r: &mut Record| r.total = 0,
-            |r: &mut Record| (r.durations[0], r.total) = (200_000_000, 200_000_008),
+            |r: &mut Record| (r.durations[0], r.total) = (400_000_000, 400_000_008),
         ] {
             let mut record = whole;
             change(&mut record);
@@ -197,7 +197,7 @@ mod tests {
     #[test]
     fn record_of_zeros() {
         let zeros = Record { count: 0, durations: [0; TASKS], total: 0 };
-        for (durations, number) in [(&[][..], 1), (&[1; 49], 1), (&[1, 0], 2), (&[-1], 2), (&[200_000_000, 1], 5)] {
+        for (durations, number) in [(&[][..], 1), (&[1; 49], 1), (&[1, 0], 2), (&[-1], 2), (&[400_000_000, 1], 5)] {
             let made = create(durations);
             assert_eq!((made.record, made.number), (zeros, number));
         }

@@ -151,10 +151,10 @@ fn i_checks_nothing() {
 fn j_starts_up_to_the_limit() {
     let mut propagator = Propagator::new(&[1]).unwrap();
     let mut words = propagator.words();
-    for start in [200_000_000, -200_000_000] {
+    for start in [400_000_000, -400_000_000] {
         assert!(propagator.run(&mut [Range::new(start, start)], &mut words).is_ok());
     }
-    for range in [Range::new(0, 200_000_001), Range::new(-200_000_001, 0)] {
+    for range in [Range::new(0, 400_000_001), Range::new(-400_000_001, 0)] {
         assert_eq!(propagator.run(&mut [range], &mut words).map(drop), Err(Refused::Start(0)));
     }
 }

@@ -32,7 +32,7 @@ fn refused_runs_leave_everything() {
     refuses(&[Range::new(0, 1); 4], 12, 54, Refused::RangeCount);
     refuses(&[Range::new(0, 1); 49], 12, 54, Refused::RangeCount);
     refuses(&[Range::new(0, 1); 1000], 12, 54, Refused::RangeCount);
-    for limit in [200_000_001, i32::MAX, -200_000_001, i32::MIN] {
+    for limit in [400_000_001, i32::MAX, -400_000_001, i32::MIN] {
         refuses(&[RANGES[0], RANGES[1], Range::new(limit, 0)], 12, 54, Refused::Start(2));
         refuses(&[RANGES[0], RANGES[1], Range::new(0, limit)], 12, 54, Refused::Start(2));
     }
@@ -44,7 +44,7 @@ fn refused_runs_leave_everything() {
     refuses(&RANGES, 12, 53, Refused::Room);
     refuses(&RANGES, 0, 0, Refused::Room);
     // each test is tried over the whole input before the next
-    refuses(&[RANGES[0], Range::new(6, 5), Range::new(0, 200_000_001)], 0, 0, Refused::Start(2));
+    refuses(&[RANGES[0], Range::new(6, 5), Range::new(0, 400_000_001)], 0, 0, Refused::Start(2));
     refuses(&[Range::new(6, 5)], 0, 0, Refused::RangeCount);
 }
 
@@ -75,11 +75,11 @@ fn unused_words_keep_what_they_held() {
 fn creation_refuses_in_order() {
     assert_eq!(Propagator::new(&[]), Err(Refused::TaskCount));
     assert_eq!(Propagator::new(&[0; 49]), Err(Refused::TaskCount));
-    assert_eq!(Propagator::new(&[200_000_001, 0]), Err(Refused::Duration(1)));
+    assert_eq!(Propagator::new(&[400_000_001, 0]), Err(Refused::Duration(1)));
     assert_eq!(Propagator::new(&[i32::MIN]), Err(Refused::Duration(0)));
-    assert_eq!(Propagator::new(&[100_000_000, 100_000_001]), Err(Refused::DurationSum));
+    assert_eq!(Propagator::new(&[200_000_000, 200_000_001]), Err(Refused::DurationSum));
     assert_eq!(Propagator::new(&[i32::MAX; 48]), Err(Refused::DurationSum));
-    assert_eq!(Propagator::new(&[100_000_000, 100_000_000]).unwrap().durations(), [100_000_000; 2]);
+    assert_eq!(Propagator::new(&[200_000_000, 200_000_000]).unwrap().durations(), [200_000_000; 2]);
 }
 
 #[test]
@@ -140,5 +140,5 @@ fn refusals_say_why() {
     assert_eq!(Refused::Room.to_string(), "refused 9: too few words for posts or atoms");
     assert_eq!(Refused::Record.number(), 20);
     let error: Box<dyn std::error::Error> = Box::new(Refused::Start(2));
-    assert_eq!(error.to_string(), "refused 3: a start outside -200000000 to 200000000 (task 2)");
+    assert_eq!(error.to_string(), "refused 3: a start outside -400000000 to 400000000 (task 2)");
 }

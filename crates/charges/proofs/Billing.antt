@@ -25,7 +25,7 @@ module _ (r : Propagator) (es ls due : List ℤ) where
   chargeable a = record {
     started = started r es ls (input-of (a .schedule));
     durations = short r es ls (input-of (a .schedule));
-    dues = a .dues .long ∙ sym (a .schedule .counts .earliest);
+    dues = record { long = a .dues .long ∙ sym (a .schedule .counts .earliest); within = a .dues .within };
   }
 
   pub refused : (m : ℕ) (b : Bill) → m ≡ chargesNumber r es ls due → (m ≡ 0 → ⊥) → b ≡ noBill → Charged r es ls due (record { bill = b; answer = Refused m })

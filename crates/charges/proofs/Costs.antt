@@ -13,6 +13,7 @@ use Rattle.scheduling.specs.Scheduling.{total}
 use Rattle.scheduling.proofs.Sets.{total-none, total-more, total-up}
 use Rattle.charges.specs.declared.rates.Row.{Row}
 use Rattle.charges.specs.Tariff.{tariff, rate, costOfHours, hoursBegun, costOf, printed}
+use Rattle.charges.specs.Charging.{MINUTES}
 
 -- ---- a sum
 -- d places from a on that hold c each
@@ -106,9 +107,9 @@ cost-most minutes = hours-most (hoursBegun minutes)
 pub cost-mono : (a b : ℕ) → a ≤ b → costOf a ≤ costOf b
 cost-mono a b h = total-up (λ k. rate tariff (k + 1)) (hoursBegun a) (hoursBegun b) (omega arith)
 
--- a task that ends as late as can be, at 400,000,000, and was due as early as can be, at −400,000,000
-far-late : costOf 800000000 ≡ 2000
-far-late = as-printed (hoursBegun 800000000)
+-- a task that is as late as can be
+far-late : costOf MINUTES ≡ 2000
+far-late = as-printed (hoursBegun MINUTES)
 
 -- ---- a turn of the code's loop
 -- After the rows before i, and row i of the table.

@@ -2,13 +2,13 @@
 use mathlib.Core.Path.{_≡_}
 use mathlib.Core.Bool.{Bool, _&&_}
 use mathlib.Core.List.{List, [], _∷_, _++_}
-use Prim.Native.Nat.{ℕ, _≤_, _<_}
+use Prim.Native.Nat.{ℕ, _+_, _≤_, _<_}
 use lib.Dec.{eqb}
 use lib.IntN.{ℤ, pos, negℤ}
 use lib.Signed.{_≤ℤ_}
 use lib.ListN.{length, getD}
 use Rattle.integers.specs.Answers.{answered, refusedBy}
-use Rattle.integers.specs.Limits.{TASKS, DUE}
+use Rattle.integers.specs.Limits.{TASKS, START, DURATIONS, DUE}
 use Rattle.integers.specs.Tests.{Test, test, allBelow, refusal}
 use Rattle.scheduling.specs.Scheduling.{total}
 use Rattle.records.specs.declared.record.Propagator.{Propagator}
@@ -48,6 +48,10 @@ pub record Accepted (r : Propagator) (es ls due : List ℤ) : Type 0 where
   pub dues : DuesFit (r .count) due
 
 -- The charges -------------------------------------------------------------------------------------------------------------------
+
+-- the most minutes that a task can be late: due as early as can be, it starts as late and lasts as long
+abbrev pub MINUTES : ℕ
+MINUTES = DUE + START + DURATIONS
 
 -- task k's charge: what the tariff has for the minutes from its due moment to its end
 abbrev pub chargeAt : List ℕ → List ℤ → List ℤ → ℕ → ℕ

@@ -2,8 +2,10 @@
 -- Assumes nothing.
 use mathlib.Core.Path.{_≡_, refl}
 use mathlib.Core.List.{[], _∷_}
-use lib.IntN.{pos, negsuc}
+use Prim.Native.Nat.{_+_}
+use lib.IntN.{pos, negsuc, negℤ}
 use Rattle.integers.specs.Filling.{filled}
+use Rattle.integers.specs.Limits.{DUE}
 use Rattle.integers.specs.Tests.{allBelow, refusal}
 use Rattle.scheduling.specs.Scheduling.{total}
 use Rattle.records.specs.declared.record.Propagator.{Propagator}
@@ -76,11 +78,11 @@ unfolding total rate
 second-charge = refl
 
 -- due moments at the limits are in range; past them, or of another count, they are not
-at-the-limits : chargesNumber two (pos 3 ∷ negsuc 11 ∷ []) (pos 3 ∷ negsuc 11 ∷ []) (negsuc 399999999 ∷ pos 400000000 ∷ []) ≡ 0
+at-the-limits : chargesNumber two (pos 3 ∷ negsuc 11 ∷ []) (pos 3 ∷ negsuc 11 ∷ []) (negℤ (pos DUE) ∷ pos DUE ∷ []) ≡ 0
 unfolding two refusal lawfulRecord allBelow unusedAt filled total
 at-the-limits = refl
 
-out-of-range : chargesNumber two (pos 3 ∷ negsuc 11 ∷ []) (pos 3 ∷ negsuc 11 ∷ []) (negsuc 400000000 ∷ pos 3 ∷ []) ≡ 19
+out-of-range : chargesNumber two (pos 3 ∷ negsuc 11 ∷ []) (pos 3 ∷ negsuc 11 ∷ []) (negℤ (pos (DUE + 1)) ∷ pos 3 ∷ []) ≡ 19
 unfolding two refusal lawfulRecord allBelow unusedAt filled total
 out-of-range = refl
 

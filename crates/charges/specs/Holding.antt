@@ -10,13 +10,13 @@ use Rattle.scheduling.specs.Scheduling.{total}
 use Rattle.records.specs.Orders.{noTasks}
 use Rattle.fixed.specs.Holding.{Started}
 use Rattle.charges.specs.declared.answer.Bill.{Bill}
-use Rattle.charges.specs.Charging.{chargeAt}
+use Rattle.charges.specs.Charging.{DuesFit, chargeAt}
 
--- Starts and durations within the limits, and a due moment for each task.
+-- Starts, durations and due moments within the limits, and a due moment for each task.
 pub record Chargeable (ds : List ℕ) (es due : List ℤ) : Type 0 where
   pub started : Started es
   pub durations : (k : ℕ) → k < length es → getD ds k 0 ≤ DURATIONS
-  pub dues : length due ≡ length es
+  pub dues : DuesFit (length es) due
 
 -- The tasks' charges in the first places of an array of zeros, and their sum.
 pub record Summed (ds : List ℕ) (es due : List ℤ) (b : Bill) : Type 0 where

@@ -12,13 +12,13 @@ ghost use lib.IntN.{pos, _+ℤ_};
 ghost use Rattle.integers.specs.Limits.{DURATIONS};
 ghost use Rattle.records.specs.Refusals.{StartFits};
 ghost use Rattle.charges.specs.Tariff.{minutesLate, costOf};
-ghost use Rattle.charges.specs.Charging.{noBill, Charged};
+ghost use Rattle.charges.specs.Charging.{DueFits, MINUTES, noBill, Charged};
 ghost use Rattle.charges.specs.Holding.{Chargeable, Summed};
 
 // How many minutes after its due moment a task ends.
 fn minutes_late(start: i32, duration: u32, due: i32) -> u32
-    requires { ⌜ StartFits start × (duration ≤ DURATIONS) ⌝ }
-    ensures { λ r. ⌜ (r ≡ minutesLate (start +ℤ pos duration) due) × (r ≤ 4000000000) ⌝ }
+    requires { ⌜ StartFits start × (duration ≤ DURATIONS) × DueFits due ⌝ }
+    ensures { λ r. ⌜ (r ≡ minutesLate (start +ℤ pos duration) due) × (r ≤ MINUTES) ⌝ }
 {
     let end = moment_of(start) + duration;
     let moment = moment_of(due);
@@ -30,7 +30,7 @@ fn minutes_late(start: i32, duration: u32, due: i32) -> u32
 
 // What a task costs.
 fn charge_of(start: i32, duration: u32, due: i32) -> u32
-    requires { ⌜ StartFits start × (duration ≤ DURATIONS) ⌝ }
+    requires { ⌜ StartFits start × (duration ≤ DURATIONS) × DueFits due ⌝ }
     ensures { λ r. ⌜ r ≡ costOf (minutesLate (start +ℤ pos duration) due) ⌝ }
 {
     cost_of(minutes_late(start, duration, due))

@@ -2,6 +2,7 @@
 ghost use mathlib.Core.Path.{_≡_};
 ghost use Prim.Native.Nat.{_≤_, min};
 ghost use Rattle.charges.specs.Tariff.{costOf};
+ghost use Rattle.charges.specs.Charging.{MINUTES};
 
 // A row of the tariff: the last hour that it is for, and what each hour begun of it costs, in cents.
 pub struct Row {
@@ -33,7 +34,7 @@ fn smaller(a: u32, b: u32) -> u32
 
 // What so many minutes cost: of each row, the hours that are begun and not charged yet, all at once.
 pub fn cost_of(minutes: u32) -> u32
-    requires { ⌜ minutes ≤ 4000000000 ⌝ }
+    requires { ⌜ minutes ≤ MINUTES ⌝ }
     ensures { λ r. ⌜ r ≡ costOf minutes ⌝ }
 {
     let hours = (minutes + 59) / 60;

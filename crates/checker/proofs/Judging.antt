@@ -4,7 +4,7 @@ use mathlib.Core.Path.{_≡_, refl, sym, ap, subst, _∙_}
 use mathlib.Core.Bool.{Bool, true, false, not, cond, _&&_}
 use mathlib.Core.List.{List}
 use mathlib.Core.Logic.{_⊎_, inl, inr}
-use Prim.Native.Nat.{ℕ, suc, _+_, _≤_, _<_, min}
+use Prim.Native.Nat.{ℕ, suc, _+_, _^_, _≤_, _<_, min}
 use native.Mathlib.Omega.{arith}
 use native.Mathlib.Decide.{ℕ-discrete}
 use lib.Dec.{eqb, ltb}
@@ -51,7 +51,7 @@ module _ {J : Tasks natural} {Ω : TaskSet} {n : ℕ} {chosen : List Bool} {est 
   pub none-overloads : v .some ≡ false → false ≡ overloadsSpan J Ω
   none-overloads y = rw (sym some-is ∙ y) refl
 
-  pub reach-fits : v .some ≡ true → v .lb + v .p < 4294967296
+  pub reach-fits : v .some ≡ true → v .lb + v .p < 2 ^ 64
   reach-fits y = omega (arith, lb-most y, p-most, h .sum)
 
   pub some-overloads : v .some ≡ true → ltb (v .ub) (v .lb + v .p) ≡ overloadsSpan J Ω
@@ -62,7 +62,7 @@ module _ {J : Tasks natural} {Ω : TaskSet} {n : ℕ} {chosen : List Bool} {est 
     abbrev reach : ℕ
     reach = min (getD est i 0) (v .lb) + v .p + getD durations i 0
 
-    pub joint-fits : v .some ≡ true → (min (getD est i 0) (v .lb) + v .p < 4294967296) × (reach < 4294967296)
+    pub joint-fits : v .some ≡ true → (min (getD est i 0) (v .lb) + v .p < 2 ^ 64) × (reach < 2 ^ 64)
     joint-fits y = (omega (arith, lb-most y, p-most, h .sum), omega (arith, lb-most y, p-most, h .sum, h .lasts i q, total-part (J .duration) n i q))
 
     pub none-after : v .some ≡ false → false ≡ comesAfter J Ω i

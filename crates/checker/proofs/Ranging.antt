@@ -3,12 +3,13 @@
 use mathlib.Core.Path.{_≡_, ap, subst, _∙_}
 use mathlib.Core.Bool.{Bool, false}
 use mathlib.Core.List.{List}
-use Prim.Native.Nat.{ℕ, _≤_, _<_}
+use Prim.Native.Nat.{ℕ, _+_, _-_, _≤_, _<_}
 use native.Mathlib.Omega.{arith}
 use lib.IntN.{ℤ}
 use lib.ListN.{length, getD}
-use Rattle.integers.specs.Limits.{TASKS, DURATIONS}
+use Rattle.integers.specs.Limits.{TASKS, START, DURATIONS}
 use Rattle.integers.specs.Filling.{filled}
+use Rattle.integers.specs.Moments.{zeroAt}
 use Rattle.scheduling.specs.Scheduling.{natural, Tasks, TaskSet, total}
 use Rattle.records.specs.declared.record.Propagator.{Propagator}
 use Rattle.records.specs.Orders.{noTasks, momentAt}
@@ -21,7 +22,7 @@ module _ (r : Propagator) (es ls : List ℤ) (a : AcceptedInput r es ls) (long :
   abbrev M : Tasks natural
   M = momentsIn r es ls
 
-  limits : (k : ℕ) → k < r .count → (1947483648 ≤ M .earliest k) × (M .earliest k ≤ M .latest k) × (M .latest k ≤ 2347483648)
+  limits : (k : ℕ) → k < r .count → (zeroAt - START ≤ M .earliest k) × (M .earliest k ≤ M .latest k) × (M .latest k ≤ zeroAt + START)
   limits k q = between r es ls a long k (omega (arith, count r es ls a long))
 
   pub held : {est : List ℕ} → est ≡ filled (momentAt es) (length es) noTasks → {Ω : TaskSet} {chosen : List Bool} → ((k : ℕ) → k < r .count → getD chosen k false ≡ Ω k) → Held M Ω (r .count) chosen est (r .durations)

@@ -3,7 +3,7 @@
 use mathlib.Core.Path.{_≡_, refl, ap, _∙_}
 use mathlib.Core.Bool.{Bool, true, false, cond, _||_}
 use mathlib.Core.List.{List}
-use Prim.Native.Nat.{ℕ, suc, _+_, _≤_, _<_, min, max}
+use Prim.Native.Nat.{ℕ, suc, _+_, _^_, _≤_, _<_, min, max}
 use native.Mathlib.Numerals.{add-one}
 use native.Mathlib.Omega.{arith}
 use lib.ListN.{getD}
@@ -32,10 +32,20 @@ module _ (J : Tasks natural) (Ω : TaskSet) where
       by false false l h t = ap (interval false l h) (omega arith)
 
 module _ {J : Tasks natural} {Ω : TaskSet} {n : ℕ} {chosen : List Bool} {est durations lst : List ℕ} (h : Held J Ω n chosen est durations) (l : Late J n lst) (i : ℕ) (q : i < n) where
-  pub completion-fits : getD lst i 0 + getD durations i 0 < 4294967296
+  -- no number of task i, nor a sum of them, leaves 64 bits
+  pub duration-fits : getD durations i 0 < 2 ^ 64
+  duration-fits = omega (arith, h .lasts i q, h .sum, total-part (J .duration) n i q)
+
+  pub start-fits : getD est i 0 < 2 ^ 64
+  start-fits = omega (arith, h .start i q, h .early i q)
+
+  pub latest-fits : getD lst i 0 < 2 ^ 64
+  latest-fits = omega (arith, l .at i q, l .fits i q)
+
+  pub completion-fits : getD lst i 0 + getD durations i 0 < 2 ^ 64
   completion-fits = omega (arith, l .at i q, l .fits i q, h .lasts i q, h .sum, total-part (J .duration) n i q)
 
-  pub sum-fits : intervalOf J Ω i .p + getD durations i 0 < 4294967296
+  pub sum-fits : intervalOf J Ω i .p + getD durations i 0 < 2 ^ 64
   sum-fits = omega (arith, h .lasts i q, h .sum, total-part (J .duration) n i q, total-mono (λ k. cond (Ω k) (J .duration k) 0) (J .duration) i (λ k r. cond-most (Ω k) (J .duration k)))
 
   pub next-gathered : (v r : Interval) → v ≡ intervalOf J Ω i → r ≡ gathered v (getD chosen i false) (getD est i 0) (getD lst i 0 + getD durations i 0) (getD durations i 0) → r ≡ intervalOf J Ω (i + 1)

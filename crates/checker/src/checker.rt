@@ -50,7 +50,7 @@ fn implied(bounds: Bounds, durations: &[u32; 48], n: usize, i: usize) -> bool
     if !v.some {
         return false;
     }
-    if min(bounds.est[i], v.lb) + v.p + durations[i] <= v.ub {
+    if min(bounds.est[i] as u64, v.lb) + v.p + durations[i] as u64 <= v.ub {
         return false;
     }
     theta_ect(&others, &bounds.est, durations, n) > bounds.lst[i]

@@ -1,29 +1,35 @@
 // What the source's loop over the tasks gathers of a set: whether it has a task, its least earliest start, its greatest latest completion, its
-// duration sum.
-use trees::complete_tree::max;
+// duration sum. Moments are of 32 bits, and sums of them are formed in 64.
 ghost use mathlib.Core.Path.{_≡_};
-ghost use Prim.Native.Nat.{ℕ, _+_, _≤_, _<_, min};
+ghost use Prim.Native.Nat.{ℕ, _+_, _≤_, _^_, _<_, min, max};
 ghost use Rattle.scheduling.specs.Scheduling.{natural, Tasks, TaskSet};
 ghost use Rattle.checker.specs.Holding.{Held, Late, gathered, intervalOf};
 
 pub struct Interval {
     pub some: bool,
-    pub lb: u32,
-    pub ub: u32,
-    pub p: u32,
+    pub lb: u64,
+    pub ub: u64,
+    pub p: u64,
 }
 
 // The smaller of two numbers.
-pub fn min(a: u32, b: u32) -> u32
+pub fn min(a: u64, b: u64) -> u64
     ensures { λ r. ⌜ r ≡ min a b ⌝ }
 {
     if a < b { a } else { b }
 }
 
+// The larger of two numbers.
+fn max(a: u64, b: u64) -> u64
+    ensures { λ r. ⌜ r ≡ max a b ⌝ }
+{
+    if a < b { b } else { a }
+}
+
 impl Interval {
     // One task more, where it is chosen.
-    fn with(self, chosen: bool, est: u32, lct: u32, p: u32) -> Interval
-        requires { ⌜ self .p + p < 4294967296 ⌝ }
+    fn with(self, chosen: bool, est: u64, lct: u64, p: u64) -> Interval
+        requires { ⌜ self .p + p < 2 ^ 64 ⌝ }
         ensures { λ r. ⌜ r ≡ gathered self chosen est lct p ⌝ }
     {
         if !chosen {
@@ -51,14 +57,14 @@ pub fn gather<'a>(
 {
     let mut gathered = Interval {
         some: false,
-        lb: u32::MAX,
+        lb: 4294967295,
         ub: 0,
         p: 0,
     };
     let mut i = 0;
     while i < n {
-        let p = durations[i];
-        gathered = gathered.with(chosen[i], est[i], lst[i] + p, p);
+        let p = durations[i] as u64;
+        gathered = gathered.with(chosen[i], est[i] as u64, lst[i] as u64 + p, p);
         i += 1;
     }
     gathered

@@ -2,8 +2,10 @@
 -- Assumes nothing.
 use mathlib.Core.Path.{_≡_, refl}
 use mathlib.Core.List.{[], _∷_}
+use Prim.Native.Nat.{_-_}
 use lib.IntN.{pos}
 use Rattle.integers.specs.Filling.{filled}
+use Rattle.integers.specs.Limits.{DURATIONS}
 use Rattle.integers.specs.Tests.{allBelow, refusal}
 use Rattle.scheduling.specs.Scheduling.{total}
 use Rattle.records.specs.declared.record.Propagator.{Propagator}
@@ -33,11 +35,11 @@ run-turned-back : runNumber (recordOf 1 (placed (4 ∷ [])) 5) [] [] 0 0 ≡ 20
 unfolding refusal lawfulRecord allBelow unusedAt total
 run-turned-back = refl
 
-sum-above : addNumber three (pos 199999986) ≡ 5
+sum-above : addNumber three (pos (DURATIONS - 14)) ≡ 5
 unfolding three refusal lawfulRecord allBelow unusedAt total
 sum-above = refl
 
-sum-fits : addNumber three (pos 199999985) ≡ 0
+sum-fits : addNumber three (pos (DURATIONS - 15)) ≡ 0
 unfolding three refusal lawfulRecord allBelow unusedAt total
 sum-fits = refl
 

@@ -1,18 +1,21 @@
 -- The definitions at small inputs.
 -- Assumes nothing.
 use mathlib.Core.Path.{_≡_, refl}
-use mathlib.Core.Logic.{inl, inr}
+use mathlib.Core.Logic.{inl, inr, ⊎-elim}
 use mathlib.Core.List.{List, [], _∷_}
-use Prim.Native.Nat.{ℕ, zero, suc}
+use Prim.Native.Nat.{ℕ, zero, suc, _+_, _<_}
 use native.Mathlib.Omega.{arith}
-use lib.IntN.{ℤ, pos, negsuc}
+use lib.IntN.{ℤ, pos, negsuc, negℤ, _+ℤ_}
+use lib.Signed.{_≤ℤ_}
 use Rattle.integers.specs.Filling.{filled}
+use Rattle.integers.specs.Limits.{START, DURATIONS, MOMENT, LENGTH}
 use Rattle.integers.specs.Tests.{allBelow, refusal}
+use Rattle.integers.proofs.Ints.{ints, up, dn, sumℤ}
 use Rattle.scheduling.specs.Scheduling.{total}
 use Rattle.records.specs.declared.record.Propagator.{Propagator}
 use Rattle.records.specs.Records.{unusedAt, lawfulRecord, newRecord}
 use Rattle.fixed.specs.FixedSchedules.{tasksOn}
-use Rattle.free_starts.specs.FreeStarts.{Free, freeNumber}
+use Rattle.free_starts.specs.FreeStarts.{LATEST, Free, EarliestFree, freeNumber}
 
 -- task 0 starts at 3 and lasts 4, task 1 starts at −12 and lasts 15: they touch at 3
 two : Propagator
@@ -45,12 +48,32 @@ after-both d zero q = inr (record { le = tt })
 after-both d (suc zero) q = inr (record { le = tt })
 after-both d (suc (suc k)) q = absurd (omega arith)
 
+-- one task that starts as late as can be and lasts as long: asked about the moment of its start, or a later one, the first free start is at the latest
+one : Propagator
+one = newRecord (pos DURATIONS ∷ [])
+
+reaches : EarliestFree (tasksOn one (pos START ∷ []) (pos START ∷ [])) (pos MOMENT) 1 (pos LATEST)
+unfolding one filled up dn
+reaches = record {
+  from = omega ints;
+  free = λ k q. inr (one-end k q);
+  none-before = λ u h l f. ⊎-elim (λ w. omega (ints, h, l, w, sumℤ u (pos 1))) (λ w. omega (ints, h, l, w)) (f 0 (omega arith));
+}
+  where
+    one-end : (k : ℕ) → k < 1 → (tasksOn one (pos START ∷ []) (pos START ∷ []) .earliest k +ℤ pos (tasksOn one (pos START ∷ []) (pos START ∷ []) .duration k)) ≤ℤ pos LATEST
+    one-end zero q = record { le = tt }
+    one-end (suc k) q = absurd (omega arith)
+
+asked : freeNumber one (pos START ∷ []) (pos START ∷ []) (pos MOMENT) (pos 1) ≡ 0
+unfolding one refusal lawfulRecord allBelow unusedAt filled total
+asked = refl
+
 -- the limits of 18, which is tried after 14
-longest : freeNumber two starts starts (negsuc 399999999) (pos 400000000) ≡ 0
+longest : freeNumber two starts starts (negℤ (pos MOMENT)) (pos LENGTH) ≡ 0
 unfolding two starts refusal lawfulRecord allBelow unusedAt filled total
 longest = refl
 
-too-early : freeNumber two starts starts (negsuc 400000000) (pos 1) ≡ 18
+too-early : freeNumber two starts starts (negℤ (pos (MOMENT + 1))) (pos 1) ≡ 18
 unfolding two starts refusal lawfulRecord allBelow unusedAt filled total
 too-early = refl
 

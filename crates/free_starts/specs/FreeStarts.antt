@@ -3,10 +3,11 @@ use mathlib.Core.Path.{_≡_}
 use mathlib.Core.Bool.{_&&_}
 use mathlib.Core.List.{List, [], _∷_, _++_}
 use mathlib.Core.Logic.{_⊎_}
-use Prim.Native.Nat.{ℕ, _<_}
+use Prim.Native.Nat.{ℕ, _+_, _<_}
 use lib.IntN.{ℤ, pos}
 use lib.Signed.{_≤ℤ_}
 use Rattle.integers.specs.Answers.{answered, refusedBy}
+use Rattle.integers.specs.Limits.{START, DURATIONS}
 use Rattle.integers.specs.Tests.{Test, test, refusal}
 use Rattle.scheduling.specs.Scheduling.{Clock, Tasks}
 use Rattle.records.specs.declared.record.Propagator.{Propagator}
@@ -34,9 +35,9 @@ freeTests r es ls t d = fixedTests r es ls ++ (test 18 (lengthFits d && momentFi
 abbrev pub freeNumber : Propagator → List ℤ → List ℤ → ℤ → ℤ → ℕ
 freeNumber r es ls t d = refusal (freeTests r es ls t d)
 
--- no free start is later
+-- no free start is later: no task ends later, and no moment that is asked about is later
 abbrev pub LATEST : ℕ
-LATEST = 800000000
+LATEST = START + DURATIONS
 
 -- The answer is a start, the earliest free one, over all whole numbers.
 pub record Found (r : Propagator) (es ls : List ℤ) (t d : ℤ) (a : FreeStart) : Type 0 where

@@ -232,7 +232,7 @@ ex₂ a b c h k = omega ints
 ex₃ : (a b c : ℤ) → (a +ℤ c) ≤ℤ (b +ℤ c) → a ≤ℤ b
 ex₃ a b c h = omega (ints, sumℤ a c, sumℤ b c)
 
-ex₄ : (a : ℤ) → negsuc 199999999 ≤ℤ a → a ≤ℤ pos 200000000 → (negsuc 2147483647 ≤ℤ (a +ℤ pos 5)) × ((a +ℤ pos 5) <ℤ pos 300000000)
+ex₄ : (a : ℤ) → negsuc 999 ≤ℤ a → a ≤ℤ pos 1000 → (negsuc 2147483647 ≤ℤ (a +ℤ pos 5)) × ((a +ℤ pos 5) <ℤ pos 2000)
 unfolding up dn
 ex₄ a h k = omega (ints, sumℤ a (pos 5))
 

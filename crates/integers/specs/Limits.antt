@@ -1,5 +1,5 @@
--- The limits of the port, all in one place; src/limits.rt has the same numbers under the same names.
-use Prim.Native.Nat.{ℕ}
+-- The limits of the port, all in one place; src/limits.rt has those that code reads, under the same names.
+use Prim.Native.Nat.{ℕ, _+_}
 
 -- tasks of a record, and variables of a state
 abbrev pub TASKS : ℕ
@@ -10,10 +10,14 @@ VARIABLES = 64
 
 -- starts lie from −START to START, and durations sum to at most DURATIONS
 abbrev pub START : ℕ
-START = 200000000
+START = 400000000
 
 abbrev pub DURATIONS : ℕ
-DURATIONS = 200000000
+DURATIONS = 400000000
+
+-- mirrored, such starts lie from −MIRRORED to MIRRORED
+abbrev pub MIRRORED : ℕ
+MIRRORED = START + DURATIONS
 
 -- due moments lie from −DUE to DUE
 abbrev pub DUE : ℕ

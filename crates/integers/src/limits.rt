@@ -5,9 +5,9 @@ pub const TASKS: usize = 48;
 
 pub const VARIABLES: usize = 64;
 // Starts lie from -START to START, and durations sum to at most DURATIONS.
-pub const START: i32 = 200_000_000;
+pub const START: i32 = 400_000_000;
 
-pub const DURATIONS: u32 = 200_000_000;
+pub const DURATIONS: u32 = 400_000_000;
 // Due moments lie from -DUE to DUE.
 pub const DUE: i32 = 400_000_000;
 // An atom's value lies from -VALUE to VALUE.

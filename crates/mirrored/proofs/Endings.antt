@@ -11,7 +11,7 @@ use lib.Seq.{getD-take, length-take-le}
 use lib.Signed.{_≤ℤ_}
 use mir.Syntax.{w32}
 use mir.Val.{SFits}
-use Rattle.integers.specs.Limits.{TASKS}
+use Rattle.integers.specs.Limits.{TASKS, START, MIRRORED}
 use Rattle.integers.specs.Moments.{Above, zeroAt}
 use Rattle.integers.proofs.Ints.{up, dn, ints, fits-show}
 use Rattle.integers.proofs.Moments.{at-moment, above-up, more-above}
@@ -109,20 +109,20 @@ same-answer ds t = each (t .end)
 -- The pass -------------------------------------------------------------------------------------------------------------------------
 
 -- numbers that are near are i32s
-wide-fits : (z : ℤ) → Above 400000000 z → z ≤ℤ pos 400000000 → SFits w32 z
+wide-fits : (z : ℤ) → Above MIRRORED z → z ≤ℤ pos MIRRORED → SFits w32 z
 unfolding up dn
-wide-fits z h k = fits-show w32 z (omega (ints, at-moment 400000000 z h, k)) (omega (ints, at-moment 400000000 z h, k))
+wide-fits z h k = fits-show w32 z (omega (ints, at-moment MIRRORED z h, k)) (omega (ints, at-moment MIRRORED z h, k))
 
-lower : (a b : ℤ) → Above 400000000 a → a ≤ℤ b → Above 400000000 b
-lower a b h q = above-up 400000000 a b q h
+lower : (a b : ℤ) → Above MIRRORED a → a ≤ℤ b → Above MIRRORED b
+lower a b h q = above-up MIRRORED a b q h
 
-higher : (a b : ℤ) → a ≤ℤ b → b ≤ℤ pos 400000000 → a ≤ℤ pos 400000000
+higher : (a b : ℤ) → a ≤ℤ b → b ≤ℤ pos MIRRORED → a ≤ℤ pos MIRRORED
 higher a b h k = omega ints
 
-wider-low : (a : ℤ) → Above 200000000 a → Above 400000000 a
-wider-low a h = more-above 200000000 400000000 (omega arith) a h
+wider-low : (a : ℤ) → Above START a → Above MIRRORED a
+wider-low a h = more-above START MIRRORED (omega arith) a h
 
-wider-high : (a : ℤ) → a ≤ℤ pos 200000000 → a ≤ℤ pos 400000000
+wider-high : (a : ℤ) → a ≤ℤ pos START → a ≤ℤ pos MIRRORED
 unfolding up dn
 wider-high a h = omega ints
 
@@ -142,7 +142,7 @@ module _ (before : Propagator) (es ls : List ℤ) (postCount atomCount : ℕ) (a
   count : length ds ≡ n
   count = length-take-le n (before .durations) (omega (arith, a .lawful .few, long))
 
-  here : demand.Accepted 200000000 ds es ls
+  here : demand.Accepted START ds es ls
   here = narrow before es ls postCount atomCount a long
 
   es-long : length es ≡ length ds
@@ -151,7 +151,7 @@ module _ (before : Propagator) (es ls : List ℤ) (postCount atomCount : ℕ) (a
   ls-long : length ls ≡ length ds
   ls-long = a .counts .latest ∙ sym count
 
-  there : demand.Accepted 400000000 ds early late
+  there : demand.Accepted MIRRORED ds early late
   there = laws.mirrored-accepted ds es ls here es-long ls-long
 
   run-long : length (mirroredRun ds es ls .starts) ≡ length ds
@@ -226,17 +226,12 @@ module _ (before : Propagator) (es ls : List ℤ) (postCount atomCount : ℕ) (a
 
   -- what is told of it
   pub durations-are : Durations ds (before .durations)
-  durations-are = record { few = omega (arith, count, a .lawful .few); same = λ k q. sym (lasts-at k (omega (arith, count))); short = λ k q. lasting k q }
-    where
-      lasting : (k : ℕ) → k < length ds → getD ds k 0 ≤ 200000000
-      lasting k q =
-          let N = moments zeroAt (tasksOf ds es ls) in
-          omega (arith, here .sum, processing-all N, processing-less N (λ _. true) k (record { small = q; mem = refl }))
+  durations-are = record { few = omega (arith, count, a .lawful .few); same = λ k q. sym (lasts-at k (omega (arith, count))) }
 
-  pub posts-near-here : (j : ℕ) → j < length (mirroredRun (take (before .count) (before .durations)) es ls .posts) → Near (length (take (before .count) (before .durations))) (consequentOf (post (mirroredRun (take (before .count) (before .durations)) es ls) j))
+  pub posts-near-here : (j : ℕ) → j < length (mirroredRun (take (before .count) (before .durations)) es ls .posts) → Near (take (before .count) (before .durations)) (consequentOf (post (mirroredRun (take (before .count) (before .durations)) es ls) j))
   posts-near-here = laws.post-near ds es ls here es-long ls-long
 
-  pub atoms-near-here : Every (Near (length (take (before .count) (before .durations)))) (atomsIn (mirroredRun (take (before .count) (before .durations)) es ls))
+  pub atoms-near-here : Every (Near (take (before .count) (before .durations))) (atomsIn (mirroredRun (take (before .count) (before .durations)) es ls))
   atoms-near-here = laws.atoms-near ds es ls here es-long ls-long
 
   pub few-posts : length (mirroredRun (take (before .count) (before .durations)) es ls .posts) ≤ TASKS

@@ -50,7 +50,7 @@ unfolding up dn
 natural n = omega ints
 
 -- a start of a known task, in the two words
-module _ (ds array : List ℕ) (d : Durations ds array) (words : List ℤ) (of at : ℕ) (a : Atom) (near : Near (length ds) a) (task : getD words of (pos 0) ≡ pos (a .variable)) (start : getD words at (pos 0) ≡ a .value) where
+module _ (ds array : List ℕ) (d : Durations ds array) (words : List ℤ) (of at : ℕ) (a : Atom) (near : Near ds a) (task : getD words of (pos 0) ≡ pos (a .variable)) (start : getD words at (pos 0) ≡ a .value) where
   pub word-is : mirroredWord words of at array ≡ mirrorStart (durationIn ds (a .variable)) (a .value)
   word-is = ap₂ (λ (t z : ℤ). mirrorStart (getD array (natAbs t) 0) z) task start ∙ ap (λ (p : ℕ). mirrorStart p (a .value)) (d .same (a .variable) (near .task))
 
@@ -60,7 +60,7 @@ module _ (ds array : List ℕ) (d : Durations ds array) (words : List ℤ) (of a
     at-inside = q;
     natural = subst (λ (z : ℤ). pos 0 ≤ℤ z) (sym task) (natural (a .variable));
     known = subst (λ (z : ℤ). natAbs z < TASKS) (sym task) (omega (arith, near .task, d .few));
-    fits = subst (SFits w32) (sym word-is) (near-fits (length ds) (getD ds (a .variable) 0) a (d .short (a .variable) (near .task)) near);
+    fits = subst (SFits w32) (sym word-is) (near-fits ds a near);
   }
 
 -- Posts --------------------------------------------------------------------------------------------------------------------------
@@ -109,8 +109,8 @@ module _ {old : List ℤ} {count : ℕ} {array : List ℕ} (h : AtomsHeld old co
   within : k < length (h .atoms)
   within = omega (arith, h .number)
 
-  near : Near (length (h .ds)) a
-  near = near-at (length (h .ds)) (h .atoms) (h .near) k within
+  near : Near (h .ds) a
+  near = near-at (h .ds) (h .atoms) (h .near) k within
 
   variable : getD words (3 * k) (pos 0) ≡ pos (a .variable)
   variable = ap (λ (l : List ℤ). getD l (3 * k) (pos 0)) e ∙ atom-read (h .ds) (h .atoms) (h .tail) k within .variable

@@ -1,7 +1,9 @@
 -- The mirrored pass at two tasks, by computing. The second must end before the first begins: around zero, at the late end of the limits, and at the early end.
 use mathlib.Core.Path.{_≡_, refl}
 use mathlib.Core.List.{List, [], _∷_, map}
-use lib.IntN.{ℤ, pos, negsuc, _+ℤ_}
+use Prim.Native.Nat.{_-_}
+use lib.IntN.{ℤ, pos, negsuc, negℤ, _+ℤ_}
+use Rattle.integers.specs.Limits.{START}
 use Rattle.integers.specs.Orders.{sort, insert, index, numbers}
 use Rattle.trees.specs.Leaves.{root, responsible, theta}
 use Rattle.trees.specs.Nodes.{joinOf, isEmpty}
@@ -19,7 +21,8 @@ pass z = mirroredPass (4 ∷ 2 ∷ []) (z ∷ (z +ℤ negsuc 9) ∷ []) ((z +ℤ
 abbrev left : ℤ → List ℤ
 left z = pass z .starts
 
-pub falls : map left (pos 0 ∷ pos 199999998 ∷ negsuc 199999989 ∷ []) ≡ (pos 1 ∷ negsuc 0 ∷ []) ∷ (pos 199999999 ∷ pos 199999997 ∷ []) ∷ (negsuc 199999988 ∷ negsuc 199999990 ∷ []) ∷ []
+pub falls : map left (pos 0 ∷ pos (START - 2) ∷ negℤ (pos (START - 10)) ∷ [])
+    ≡ (pos 1 ∷ negsuc 0 ∷ []) ∷ (pos (START - 1) ∷ pos (START - 3) ∷ []) ∷ (negℤ (pos (START - 11)) ∷ negℤ (pos (START - 9)) ∷ []) ∷ []
 unfolding propagate run outer inner conflict propagation bounds within tabulate heightFrom sort insert index numbers width root responsible theta joinOf isEmpty gray tested descentP descentEct stepP stepEct searchP searchEct thetaOf nodeOver
 falls = refl
 

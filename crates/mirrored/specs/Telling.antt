@@ -39,11 +39,10 @@ pub record Mirrorable (words : List ℤ) (of at : ℕ) (durations : List ℕ) : 
   pub known : natAbs (getD words of (pos 0)) < TASKS
   pub fits : SFits w32 (mirroredWord words of at durations)
 
--- The durations ds stand at the front of the array, and none is above the limit of their sum.
+-- The durations ds stand at the front of the array.
 pub record Durations (ds array : List ℕ) : Type 0 where
   pub few : length ds ≤ TASKS
   pub same : (k : ℕ) → k < length ds → getD array k 0 ≡ getD ds k 0
-  pub short : (k : ℕ) → k < length ds → getD ds k 0 ≤ 200000000
 
 -- The words of `count` posts of a run in mirrored time, and after them any.
 pub record PostsHeld (words : List ℤ) (count : ℕ) (array : List ℕ) : Type 0 where
@@ -54,7 +53,7 @@ pub record PostsHeld (words : List ℤ) (count : ℕ) (array : List ℕ) : Type 
   pub words-are : words ≡ postWords 0 posts ++ tail
   pub number : length posts ≡ count
   pub few : count ≤ TASKS
-  pub near : (j : ℕ) → j < count → Near (length ds) (consequentOf (getD posts j no-post))
+  pub near : (j : ℕ) → j < count → Near ds (consequentOf (getD posts j no-post))
 
 -- They are mirrored, whatever posts they are.
 abbrev pub PostsTold : List ℤ → ℕ → List ℕ → List ℤ → Type 0
@@ -69,7 +68,7 @@ pub record AtomsHeld (words : List ℤ) (count : ℕ) (array : List ℕ) : Type 
   pub words-are : words ≡ atomWords atoms ++ tail
   pub number : length atoms ≡ count
   pub few : count ≤ 4608
-  pub near : Every (Near (length ds)) atoms
+  pub near : Every (Near ds) atoms
 
 -- They are mirrored, whatever atoms they are.
 abbrev pub AtomsTold : List ℤ → ℕ → List ℕ → List ℤ → Type 0
@@ -103,8 +102,8 @@ pub record Ended (r : Outcome) (posts atoms : List ℤ) (array : List ℕ) : Typ
   pub answer : r ≡ outcomeOf (reasons (trace .posts)) (length (trace .posts)) (trace .end)
   pub post-words : posts ≡ postsAfter old-posts trace
   pub atom-words : atoms ≡ atomsAfter old-atoms trace
-  pub posts-near : (j : ℕ) → j < length (trace .posts) → Near (length ds) (consequentOf (post trace j))
-  pub atoms-near : Every (Near (length ds)) (atomsIn trace)
+  pub posts-near : (j : ℕ) → j < length (trace .posts) → Near ds (consequentOf (post trace j))
+  pub atoms-near : Every (Near ds) (atomsIn trace)
   pub few : length (trace .posts) ≤ TASKS
   pub small : length (atomsIn trace) ≤ 4608
 

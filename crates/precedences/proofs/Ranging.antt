@@ -9,14 +9,14 @@ use lib.ListN.{getD, replicate, length-replicate}
 use Rattle.integers.specs.Limits.{TASKS}
 use Rattle.integers.specs.Filling.{filled}
 use Rattle.integers.proofs.Filling.{filled-at}
+use Rattle.scheduling.proofs.Sets.{total-part}
 use Rattle.checker.specs.Holding.{Held}
-use Rattle.checker.proofs.Steps.{completion-fits}
 use Rattle.precedences.specs.Holding.{precedesAt, comesBefore, Ranged}
 
 module _ {n : ℕ} {est lst durations : List ℕ} (f : Ranged n est lst durations) (i : ℕ) (q : i < n) where
   -- the moment before which their latest starts lie
   pub end-fits : getD est i 0 + getD durations i 0 < 4294967296
-  end-fits = omega (arith, completion-fits (f .held) (f .late) i q, f .held .start i q, f .late .at i q, f .held .proper .ranges i (omega (arith, f .held .count)))
+  end-fits = omega (arith, f .held .start i q, f .held .early i q, f .held .lasts i q, f .held .sum, total-part (f .J .duration) n i q)
 
   precedes-is : (k : ℕ) → k < n → precedesAt est lst durations i k ≡ comesBefore (f .J) i k
   precedes-is k r = rw (f .late .at k r, f .held .start i q, f .held .lasts i q)

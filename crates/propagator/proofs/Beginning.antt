@@ -6,11 +6,11 @@ use mathlib.Core.List.{List, _++_, map}
 use Prim.Native.Nat.{ℕ, _+_, _-_, _*_, _≤_, _<_}
 use native.Mathlib.Omega.{arith}
 use lib.Dec.{leb}
-use lib.IntN.{ℤ, pos, negsuc}
+use lib.IntN.{ℤ, pos, negℤ}
 use lib.ListN.{length, getD, take, replicate, length-replicate}
 use lib.Seq.{getD-take, length-take-le}
 use lib.Signed.{_≤ℤ_}
-use Rattle.integers.specs.Limits.{TASKS}
+use Rattle.integers.specs.Limits.{TASKS, START, DURATIONS, MIRRORED}
 use Rattle.integers.specs.Filling.{filled}
 use Rattle.integers.specs.Moments.{instant, zeroAt, Above}
 use Rattle.integers.specs.Orders.{sort, index, numbers}
@@ -52,7 +52,7 @@ use Rattle.propagator.specs.Finding.{outcomeOf, Begun, Ended}
 use Rattle.propagator.specs.Ran.{Runnable, traceOf, Left}
 
 zeros-long : length noTasks ≡ TASKS
-zeros-long = length-replicate {A = ℕ} 48 0
+zeros-long = length-replicate {A = ℕ} TASKS 0
 
 module _ (r : Propagator) (es ls : List ℤ) (posts atoms : ℕ) (a : Runnable r es ls posts atoms) (long : length (r .durations) ≡ TASKS) where
   abbrev n : ℕ
@@ -80,7 +80,7 @@ module _ (r : Propagator) (es ls : List ℤ) (posts atoms : ℕ) (a : Runnable r
   sum-is = ap (total (λ k. getD ds k 0)) count ∙ total-ext (λ k. getD ds k 0) (λ k. getD (r .durations) k 0) n lasts-at
 
   -- the same input, as the run's definition accepts it
-  pub accepted : demand.Accepted 400000000 ds es ls
+  pub accepted : demand.Accepted MIRRORED ds es ls
   accepted = record {
     some = omega (arith, count, a .lawful .some);
     few = omega (arith, count, few);
@@ -124,25 +124,25 @@ module _ (r : Propagator) (es ls : List ℤ) (posts atoms : ℕ) (a : Runnable r
   holds-order l m z size = record { size = size; at = λ k q. sym (getD-take n l k 0 q) ∙ ap (λ (o : List ℕ). getD o k 0) z }
 
   -- the moments are in the limits
-  deep : Above zeroAt (negsuc 399999999)
+  deep : Above zeroAt (negℤ (pos MIRRORED))
   unfolding up dn
-  deep = above-show zeroAt (negsuc 399999999) (omega arith)
+  deep = above-show zeroAt (negℤ (pos MIRRORED)) (omega arith)
 
   above : (k : ℕ) → k < length ds → Above zeroAt (getD es k (pos 0))
-  above k q = above-up zeroAt (negsuc 399999999) (getD es k (pos 0)) (accepted .from k q) deep
+  above k q = above-up zeroAt (negℤ (pos MIRRORED)) (getD es k (pos 0)) (accepted .from k q) deep
 
-  early : (k : ℕ) → k < length ds → (1747483648 ≤ J .earliest k) × (J .earliest k ≤ J .latest k) × (J .latest k ≤ 2547483648)
+  early : (k : ℕ) → k < length ds → (zeroAt - MIRRORED ≤ J .earliest k) × (J .earliest k ≤ J .latest k) × (J .latest k ≤ zeroAt + MIRRORED)
   unfolding up dn
   early k q = (
-    omega (arith, mono zeroAt (negsuc 399999999) (getD es k (pos 0)) (accepted .from k q)),
+    omega (arith, mono zeroAt (negℤ (pos MIRRORED)) (getD es k (pos 0)) (accepted .from k q)),
     mono zeroAt (getD es k (pos 0)) (getD ls k (pos 0)) (accepted .ranges k q),
-    omega (arith, mono zeroAt (getD ls k (pos 0)) (pos 400000000) (accepted .to k q)),
+    omega (arith, mono zeroAt (getD ls k (pos 0)) (pos MIRRORED) (accepted .to k q)),
   )
 
-  short : processing J (λ _. true) ≤ 200000000
+  short : processing J (λ _. true) ≤ DURATIONS
   short = omega (arith, processing-all J, accepted .sum)
 
-  lasting : (k : ℕ) → k < length ds → J .duration k ≤ 200000000
+  lasting : (k : ℕ) → k < length ds → J .duration k ≤ DURATIONS
   lasting k q = omega (arith, short, processing-less J (λ _. true) k (record { small = q; mem = refl }))
 
   proper : Proper J
@@ -276,9 +276,9 @@ module _ (r : Propagator) (es ls : List ℤ) (posts atoms : ℕ) (a : Runnable r
       }
 
   pub right : Right (tasksIn r es ls) (traceOf r es ls)
-  right = demand.demand-3 400000000 (omega arith) ds es ls accepted
+  right = demand.demand-3 MIRRORED (omega arith) ds es ls accepted
 
-wider : (z : ℤ) → z ≤ℤ pos 200000000 → z ≤ℤ pos 400000000
+wider : (z : ℤ) → z ≤ℤ pos START → z ≤ℤ pos MIRRORED
 unfolding up dn
 wider z h = omega ints
 
@@ -289,14 +289,14 @@ module _ (r : Propagator) (es ls : List ℤ) (posts atoms : ℕ) (a : Accepted r
   runnable = record {
     lawful = a .lawful;
     counts = a .counts;
-    from = λ k q. more-above 200000000 400000000 (omega arith) (getD es k (pos 0)) (a .starts .earliest k (omega (arith, a .counts .earliest)) .low);
+    from = λ k q. more-above START MIRRORED (omega arith) (getD es k (pos 0)) (a .starts .earliest k (omega (arith, a .counts .earliest)) .low);
     to = λ k q. wider (getD ls k (pos 0)) (a .starts .latest k (omega (arith, a .counts .latest)) .high);
     ranges = a .ranges;
     words = a .words;
   }
 
   -- as the run's definition has it.
-  pub narrow : length (r .durations) ≡ TASKS → demand.Accepted 200000000 (take (r .count) (r .durations)) es ls
+  pub narrow : length (r .durations) ≡ TASKS → demand.Accepted START (take (r .count) (r .durations)) es ls
   narrow long =
       let b = accepted r es ls posts atoms runnable long in
       let c = count r es ls posts atoms runnable long in

@@ -3,16 +3,18 @@
 use mathlib.Core.Path.{_≡_, sym, subst}
 use mathlib.Core.List.{List, [], _∷_}
 use mathlib.Core.Option.{Option, some, none}
-use Prim.Native.Nat.{ℕ, _*_, _≤_, _<_}
+use Prim.Native.Nat.{ℕ, _+_, _-_, _*_, _≤_, _<_}
 use native.Mathlib.Omega.{arith}
-use lib.IntN.{ℤ, negsuc, _+ℤ_}
-use lib.ListN.{length, take}
+use lib.IntN.{ℤ, pos, negsuc, _+ℤ_}
+use lib.ListN.{length, getD, take}
 use lib.Signed.{_≤ℤ_, _<ℤ_, ≤ℤ-refl}
-use Rattle.integers.specs.Limits.{TASKS, VALUE}
-use Rattle.integers.specs.Moments.{zeroAt}
+use Rattle.integers.specs.Limits.{TASKS, START, DURATIONS, VALUE}
+use Rattle.integers.specs.Moments.{Above, zeroAt}
 use Rattle.integers.specs.Tests.{refusal}
 use Rattle.integers.proofs.Ints.{ints, up, dn, sumℤ, sub-law}
-use Rattle.scheduling.specs.Scheduling.{whole, Tasks, Atom, Meets, Every, HoldsAtEntry, given, negation, PassesFormula}
+use Rattle.integers.proofs.Moments.{plus-above}
+use Rattle.scheduling.specs.Scheduling.{whole, natural, Tasks, tasksOf, Atom, Meets, Every, HoldsAtEntry, given, negation, PassesFormula}
+use Rattle.scheduling.specs.Moments.{moments}
 use Rattle.scheduling.specs.Words.{atomWords}
 use Rattle.scheduling.proofs.Passed.{every-append}
 use Rattle.runs.specs.Traces.{Post, overload}
@@ -31,10 +33,10 @@ use Rattle.checker.proofs.Reasons.{Bound, BoundIfAny, reason-check, passes-alik
 use Rattle.propagator.specs.Ran.{traceOf, checkDurations, Passing}
 use Rattle.propagator.proofs.Beginning as beginning
 
--- an atom near the starts of at most 48 tasks is within the limits of a check
-shaped-bound : (n : ℕ) → n ≤ TASKS → (a : Atom) → Shaped zeroAt n 1947483648 2347483648 200000000 a → Bound a
+-- an atom near the starts of at most TASKS tasks is within the limits of a check
+shaped-bound : (N : Tasks natural) → N .count ≤ TASKS → (a : Atom) → Shaped zeroAt N (zeroAt - START) (zeroAt + START) DURATIONS a → Bound a
 unfolding up dn
-shaped-bound n few a s = record {
+shaped-bound N few a s = record {
   known = omega (arith, s .task);
   kind = s .kind;
   value = subst (Within VALUE) (sym (s .value)) (record { low = omega (ints, sub-law (s .at) zeroAt, s .from); high = omega (ints, sub-law (s .at) zeroAt, s .to) });
@@ -52,8 +54,15 @@ module _ (before : Propagator) (es ls : List ℤ) (posts atoms : ℕ) (a : Accep
   abbrev J : Tasks whole
   J = tasksIn before es ls
 
-  accepted : demand.Accepted 200000000 l es ls
+  accepted : demand.Accepted START l es ls
   accepted = beginning.narrow before es ls posts atoms a long
+
+  -- their moments; none ends before −START, nor starts after START
+  abbrev N : Tasks natural
+  N = moments zeroAt (tasksOf l es ls)
+
+  ending : (k : ℕ) → k < length l → Above START (getD es k (pos 0) +ℤ pos (getD l k 0))
+  ending k q = plus-above START (getD es k (pos 0)) (getD l k 0) (accepted .from k q)
 
   lawful : refusal (creationTests (checkDurations before)) ≡ 0
   lawful = natural-accepted l (accepted .some) (accepted .few) (accepted .lasts) (accepted .sum)
@@ -62,10 +71,10 @@ module _ (before : Propagator) (es ls : List ℤ) (posts atoms : ℕ) (a : Accep
   met : (reason : List Atom) → HoldsAtEntry J reason → Every (Meets (J .earliest)) reason
   met reason h = h (J .earliest) (λ k q. (≤ℤ-refl (J .earliest k), accepted .ranges k q))
 
-  checked : (reason : List Atom) (c : Option Atom) → length reason ≤ 2 * length l → Every (Shaped zeroAt (length l) 1947483648 2347483648 200000000) reason → BoundIfAny c
+  checked : (reason : List Atom) (c : Option Atom) → length reason ≤ 2 * length l → Every (Shaped zeroAt N (zeroAt - START) (zeroAt + START) DURATIONS) reason → BoundIfAny c
       → Every (Meets (J .earliest)) (given reason c) → PassesFormula J reason c → checkOf (checkDurations before) (atomWords reason) (consequentWords c) ≡ Passed
   checked reason c few s b m p =
-      reason-check (checkDurations before) reason c lawful (omega (arith, few, accepted .few)) (every-map (shaped-bound (length l) (accepted .few)) reason s) b
+      reason-check (checkDurations before) reason c lawful (omega (arith, few, accepted .few)) (every-map (shaped-bound N (accepted .few)) reason s) b
       (λ x q. (J .earliest x, meets-admits (J .earliest) (given reason c) m x))
       (passes-alike J (tasksWith (checkDurations before)) (sym (natural-count l)) (λ k. sym (natural-duration l k)) reason c p)
 
@@ -75,8 +84,8 @@ module _ (before : Propagator) (es ls : List ℤ) (posts atoms : ℕ) (a : Accep
   post-passes j q =
       let p : Post = post (traceOf before es ls) j in
       let r : PostRight J p = beginning.right before es ls posts atoms (beginning.runnable before es ls posts atoms a) long .posts j q in
-      let s = post-shaped 200000000 (omega arith) l es ls accepted j q in
-      checked (p .reason) (some (consequentOf p)) (s .few) (s .because) (shaped-bound (length l) (accepted .few) (consequentOf p) (s .says))
+      let s = post-shaped START START (omega arith) (omega arith) l es ls accepted ending (accepted .to) j q in
+      checked (p .reason) (some (consequentOf p)) (s .few) (s .because) (shaped-bound N (accepted .few) (consequentOf p) (s .says))
       (every-append (Meets (J .earliest)) (p .reason) (negation (consequentOf p) ∷ []) (met (p .reason) (r .reason-holds)) (below-bound (J .earliest (p .task)) (p .bound) (r .raises), tt))
       (r .reason-passes)
 
@@ -84,7 +93,7 @@ module _ (before : Propagator) (es ls : List ℤ) (posts atoms : ℕ) (a : Accep
   overload-passes : (reason : List Atom) → traceOf before es ls .end ≡ overload reason → checkOf (checkDurations before) (atomWords reason) [] ≡ Passed
   overload-passes reason e =
       let r = beginning.right before es ls posts atoms (beginning.runnable before es ls posts atoms a) long .overloads reason e in
-      let s = overload-shaped 200000000 (omega arith) l es ls accepted reason e in
+      let s = overload-shaped START START (omega arith) (omega arith) l es ls accepted ending (accepted .to) reason e in
       checked reason none (s .few) (s .because) tt (met reason (r .reason-holds)) (r .reason-passes)
 
   -- and these are all the reasons.

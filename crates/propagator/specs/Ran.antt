@@ -6,6 +6,7 @@ use lib.IntN.{ℤ, pos}
 use lib.ListN.{length, getD, take, drop}
 use lib.Signed.{_≤ℤ_}
 use Rattle.integers.specs.Answers.{refusedBy}
+use Rattle.integers.specs.Limits.{MIRRORED}
 use Rattle.integers.specs.Moments.{Above}
 use Rattle.scheduling.specs.Scheduling.{Atom}
 use Rattle.runs.specs.Traces.{Post, Trace, overload}
@@ -24,12 +25,12 @@ use Rattle.propagator.specs.declared.disjunctive_propagator.Run.{Run}
 use Rattle.propagator.specs.Finding.{outcomeOf}
 use Rattle.propagator.specs.Outcomes.{outcomeNumbers}
 
--- What the core of a run takes for given: what an accepted run does, but that starts may lie twice as far out. So it serves starts in mirrored time too.
+-- What the core of a run takes for given: what an accepted run does, but that starts may lie as far out as in mirrored time, so that it serves both.
 pub record Runnable (before : Propagator) (es ls : List ℤ) (postCount atomCount : ℕ) : Type 0 where
   pub lawful : Lawful before
   pub counts : CountsFit (before .count) es ls
-  pub from : (k : ℕ) → k < before .count → Above 400000000 (getD es k (pos 0))
-  pub to : (k : ℕ) → k < before .count → getD ls k (pos 0) ≤ℤ pos 400000000
+  pub from : (k : ℕ) → k < before .count → Above MIRRORED (getD es k (pos 0))
+  pub to : (k : ℕ) → k < before .count → getD ls k (pos 0) ≤ℤ pos MIRRORED
   pub ranges : RangesFit es ls
   pub words : WordsFit (before .count) postCount atomCount
 

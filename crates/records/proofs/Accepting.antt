@@ -3,12 +3,12 @@
 use mathlib.Core.Path.{_≡_, refl, sym, ap, ap₂, _∙_}
 use mathlib.Core.Bool.{true}
 use mathlib.Core.List.{List}
-use Prim.Native.Nat.{ℕ, _+_, _≤_, _<_}
+use Prim.Native.Nat.{ℕ, _+_, _-_, _≤_, _<_}
 use native.Mathlib.Omega.{arith}
-use lib.IntN.{ℤ, pos, negsuc}
+use lib.IntN.{ℤ, pos, negℤ}
 use lib.ListN.{length, getD, take, length-replicate}
 use lib.Seq.{getD-take, length-take-le}
-use Rattle.integers.specs.Limits.{TASKS, DURATIONS}
+use Rattle.integers.specs.Limits.{TASKS, START, DURATIONS}
 use Rattle.integers.specs.Filling.{filled}
 use Rattle.integers.specs.Moments.{zeroAt, Above}
 use Rattle.integers.proofs.Filling.{filled-at}
@@ -28,12 +28,12 @@ pub input-of : {r : Propagator} {es ls : List ℤ} {posts atoms : ℕ} → Accep
 input-of a = record { lawful = a .lawful; counts = a .counts; starts = a .starts; ranges = a .ranges }
 
 zeros-long : length noTasks ≡ TASKS
-zeros-long = length-replicate {A = ℕ} 48 0
+zeros-long = length-replicate {A = ℕ} TASKS 0
 
 -- the least start has a moment
-deep : Above zeroAt (negsuc 199999999)
+deep : Above zeroAt (negℤ (pos START))
 unfolding up dn
-deep = above-show zeroAt (negsuc 199999999) (omega arith)
+deep = above-show zeroAt (negℤ (pos START)) (omega arith)
 
 module _ (r : Propagator) (es ls : List ℤ) (a : AcceptedInput r es ls) (long : length (r .durations) ≡ TASKS) where
   abbrev n : ℕ
@@ -65,18 +65,18 @@ module _ (r : Propagator) (es ls : List ℤ) (a : AcceptedInput r es ls) (long :
   }
 
   pub above : (k : ℕ) → k < Z .count → Above zeroAt (Z .earliest k)
-  above k q = above-up zeroAt (negsuc 199999999) (getD es k (pos 0)) (a .starts .earliest k (omega (arith, count, a .counts .earliest)) .low) deep
+  above k q = above-up zeroAt (negℤ (pos START)) (getD es k (pos 0)) (a .starts .earliest k (omega (arith, count, a .counts .earliest)) .low) deep
 
   pub proper : Proper J
   proper = sound zeroAt Z proper-whole above
 
   -- and their moments are within the limits
-  pub between : (k : ℕ) → k < J .count → (1947483648 ≤ J .earliest k) × (J .earliest k ≤ J .latest k) × (J .latest k ≤ 2347483648)
+  pub between : (k : ℕ) → k < J .count → (zeroAt - START ≤ J .earliest k) × (J .earliest k ≤ J .latest k) × (J .latest k ≤ zeroAt + START)
   unfolding up dn
   between k q = (
-    omega (arith, mono zeroAt (negsuc 199999999) (getD es k (pos 0)) (a .starts .earliest k (omega (arith, count, a .counts .earliest)) .low)),
+    omega (arith, mono zeroAt (negℤ (pos START)) (getD es k (pos 0)) (a .starts .earliest k (omega (arith, count, a .counts .earliest)) .low)),
     proper .ranges k q,
-    omega (arith, mono zeroAt (getD ls k (pos 0)) (pos 200000000) (a .starts .latest k (omega (arith, count, a .counts .latest)) .high)),
+    omega (arith, mono zeroAt (getD ls k (pos 0)) (pos START) (a .starts .latest k (omega (arith, count, a .counts .latest)) .high)),
   )
 
   pub short : processing J (λ _. true) ≤ DURATIONS

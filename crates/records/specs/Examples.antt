@@ -3,10 +3,11 @@
 use mathlib.Core.Path.{_≡_, refl}
 use mathlib.Core.Bool.{Bool}
 use mathlib.Core.List.{List, [], _∷_, map}
-use Prim.Native.Nat.{ℕ}
+use Prim.Native.Nat.{ℕ, _+_, _-_}
 use lib.IntN.{ℤ, pos, negsuc}
 use lib.ListN.{replicate}
 use Rattle.integers.specs.Filling.{filled}
+use Rattle.integers.specs.Limits.{TASKS, START, DURATIONS}
 use Rattle.integers.specs.Orders.{insert, sort, numbers}
 use Rattle.integers.specs.Tests.{allBelow, refusal}
 use Rattle.scheduling.specs.Scheduling.{total}
@@ -16,28 +17,28 @@ use Rattle.records.specs.Records.{unusedAt, lawfulRecord, creationTests,
 use Rattle.records.specs.Refusals.{runNumber}
 use Rattle.records.specs.Posts.{postNumber, reasonWords}
 
--- Creation: 48 tasks pass and 49 do not; each number is tried over the whole input before the next.
-tasks-48 : refusal (creationTests (replicate 48 (pos 1))) ≡ 0
+-- Creation: TASKS tasks pass and one more does not; each number is tried over the whole input before the next.
+tasks-most : refusal (creationTests (replicate TASKS (pos 1))) ≡ 0
 unfolding refusal allBelow total
-tasks-48 = refl
+tasks-most = refl
 
-tasks-49 : refusal (creationTests (replicate 49 (pos 0))) ≡ 1
+tasks-above : refusal (creationTests (replicate (TASKS + 1) (pos 0))) ≡ 1
 unfolding refusal allBelow total
-tasks-49 = refl
+tasks-above = refl
 
 tasks-none : refusal (creationTests []) ≡ 1
 unfolding refusal allBelow total
 tasks-none = refl
 
-duration-zero : refusal (creationTests (pos 200000001 ∷ pos 0 ∷ [])) ≡ 2
+duration-zero : refusal (creationTests (pos (DURATIONS + 1) ∷ pos 0 ∷ [])) ≡ 2
 unfolding refusal allBelow total
 duration-zero = refl
 
-sum-fits : refusal (creationTests (pos 199999999 ∷ pos 1 ∷ [])) ≡ 0
+sum-fits : refusal (creationTests (pos (DURATIONS - 1) ∷ pos 1 ∷ [])) ≡ 0
 unfolding refusal allBelow total
 sum-fits = refl
 
-sum-above : refusal (creationTests (pos 199999999 ∷ pos 2 ∷ [])) ≡ 5
+sum-above : refusal (creationTests (pos (DURATIONS - 1) ∷ pos 2 ∷ [])) ≡ 5
 unfolding refusal allBelow total
 sum-above = refl
 
@@ -49,23 +50,23 @@ record-first : runNumber zeroRecord (pos 0 ∷ []) [] 0 0 ≡ 20
 unfolding refusal lawfulRecord allBelow
 record-first = refl
 
-counts-next : runNumber two (pos 300000000 ∷ pos 0 ∷ []) (pos 0 ∷ []) 0 0 ≡ 10
+counts-next : runNumber two (pos (START + 1) ∷ pos 0 ∷ []) (pos 0 ∷ []) 0 0 ≡ 10
 unfolding two refusal lawfulRecord allBelow unusedAt filled total
 counts-next = refl
 
-starts-next : runNumber two (pos 1 ∷ pos 0 ∷ []) (pos 0 ∷ pos 200000001 ∷ []) 0 0 ≡ 3
+starts-next : runNumber two (pos 1 ∷ pos 0 ∷ []) (pos 0 ∷ pos (START + 1) ∷ []) 0 0 ≡ 3
 unfolding two refusal lawfulRecord allBelow unusedAt filled total
 starts-next = refl
 
-ranges-next : runNumber two (pos 1 ∷ pos 0 ∷ []) (pos 0 ∷ pos 200000000 ∷ []) 0 0 ≡ 4
+ranges-next : runNumber two (pos 1 ∷ pos 0 ∷ []) (pos 0 ∷ pos START ∷ []) 0 0 ≡ 4
 unfolding two refusal lawfulRecord allBelow unusedAt filled total
 ranges-next = refl
 
-words-last : runNumber two (negsuc 4 ∷ pos 0 ∷ []) (pos 0 ∷ pos 200000000 ∷ []) 8 23 ≡ 9
+words-last : runNumber two (negsuc 4 ∷ pos 0 ∷ []) (pos 0 ∷ pos START ∷ []) 8 23 ≡ 9
 unfolding two refusal lawfulRecord allBelow unusedAt filled total
 words-last = refl
 
-accepted : runNumber two (negsuc 4 ∷ pos 0 ∷ []) (pos 0 ∷ pos 200000000 ∷ []) 8 24 ≡ 0
+accepted : runNumber two (negsuc 4 ∷ pos 0 ∷ []) (pos 0 ∷ pos START ∷ []) 8 24 ≡ 0
 unfolding two refusal lawfulRecord allBelow unusedAt filled total
 accepted = refl
 

@@ -11,6 +11,7 @@ use lib.Signed.{_≤ℤ_, _<ℤ_, clashℤ}
 use lib.ListN.{length, getD}
 use lib.Dec.{leb}
 use borrow.Author.Tests.{leb-true}
+use Rattle.integers.specs.Limits.{TASKS, DURATIONS, MIRRORED}
 use Rattle.integers.specs.Moments.{moment, Above, zeroAt}
 use Rattle.integers.specs.Orders.{index, numbers, Ordered}
 use Rattle.integers.proofs.Ints.{ints}
@@ -28,13 +29,13 @@ use Rattle.runs.specs.Demand.{Right, PostRight, OverloadRight, post}
 use Rattle.runs.proofs.Steps.{OutOk, run-ok}
 use Rattle.runs.proofs.Good.{all-right}
 
--- What no number turns back: between 1 and 48 tasks, durations of 1 or more with a sum of at most 200,000,000, starts within ±limit, each earliest at most its latest.
--- The caller's limit is 200,000,000; mirrored, such starts are within 400,000,000.
+-- What no number turns back: from 1 to TASKS tasks, durations of 1 or more with a sum of at most DURATIONS, starts within ±limit, each earliest at most its latest.
+-- The caller's limit is START; mirrored, such starts are within MIRRORED.
 pub record Accepted (limit : ℕ) (ds : List ℕ) (es ls : List ℤ) : Type 0 where
   pub some : 1 ≤ length ds
-  pub few : length ds ≤ 48
+  pub few : length ds ≤ TASKS
   pub lasts : (k : ℕ) → k < length ds → 1 ≤ getD ds k 0
-  pub sum : total (λ k. getD ds k 0) (length ds) ≤ 200000000
+  pub sum : total (λ k. getD ds k 0) (length ds) ≤ DURATIONS
   pub from : (k : ℕ) → k < length ds → Above limit (getD es k (pos 0))
   pub to : (k : ℕ) → k < length ds → getD ls k (pos 0) ≤ℤ pos limit
   pub ranges : (k : ℕ) → k < length ds → getD es k (pos 0) ≤ℤ getD ls k (pos 0)
@@ -94,7 +95,7 @@ by-completion J =
     record { task = r .task; placed = r .placed; there = r .there; back = r .back; sorted = λ s t q h. leb-true _ _ (r .sorted s t q h) }
 
 -- within a limit that leaves room before the least moment for all durations
-pub demand-3 : (limit : ℕ) → limit ≤ 400000000 → (ds : List ℕ) (es ls : List ℤ) → Accepted limit ds es ls → Right (tasksOf ds es ls) (propagate ds es ls)
+pub demand-3 : (limit : ℕ) → limit ≤ MIRRORED → (ds : List ℕ) (es ls : List ℤ) → Accepted limit ds es ls → Right (tasksOf ds es ls) (propagate ds es ls)
 unfolding propagate
 demand-3 limit near ds es ls a =
     run-right zeroAt (tasksOf ds es ls) okz deepz (a .some) room (earliestOrder J) (completionOrder J) (by-earliest J) (by-completion J)

@@ -13,6 +13,7 @@ use lib.Signed.{_≤ℤ_, _<ℤ_}
 use mir.Syntax.{w32}
 use mir.Val.{SFits}
 use Rattle.integers.specs.Filling.{filled}
+use Rattle.integers.specs.Limits.{START, DURATIONS, MIRRORED}
 use Rattle.integers.specs.Moments.{Above, instant, zeroAt}
 use Rattle.integers.proofs.Filling.{getD-map-in, filled-none, filled-more, filled-length, filled-past, filled-at, filled-all}
 use Rattle.integers.proofs.Ints.{up, dn, ints, sumℤ, sub-law, fits-show}
@@ -140,14 +141,22 @@ module _ (ds : List ℕ) (es ls : List ℤ) where
 
 -- The pass ---------------------------------------------------------------------------------------------------------------------
 
--- the limits of mirrored starts
-low : (p : ℕ) (z : ℤ) → p ≤ 200000000 → z ≤ℤ pos 200000000 → Above 400000000 (mirrorStart p z)
+-- the limits of mirrored starts, and of their ends
+low : (p : ℕ) (z : ℤ) → p ≤ DURATIONS → z ≤ℤ pos START → Above MIRRORED (mirrorStart p z)
 unfolding up dn
 low p z h k = omega (ints, at-mirror p z)
 
-high : (p : ℕ) (z : ℤ) → Above 200000000 z → mirrorStart p z ≤ℤ pos 400000000
+low-end : (p : ℕ) (z : ℤ) → z ≤ℤ pos START → Above START (mirrorStart p z +ℤ pos p)
+unfolding up dn
+low-end p z k = omega (ints, at-mirror p z, sumℤ (mirrorStart p z) (pos p))
+
+high : (p : ℕ) (z : ℤ) → Above START z → mirrorStart p z ≤ℤ pos START
 unfolding up dn
 high p z h = omega (ints, at-mirror p z)
+
+wider : (z : ℤ) → z ≤ℤ pos START → z ≤ℤ pos MIRRORED
+unfolding up dn
+wider z h = omega ints
 
 -- and of the starts that they are mirrored back from
 above : (p : ℕ) (z s : ℤ) → s ≤ℤ mirrorStart p z → z ≤ℤ mirrorStart p s
@@ -156,39 +165,52 @@ above p z s h = omega (ints, at-mirror p z, at-mirror p s)
 below : (p : ℕ) (z s : ℤ) → mirrorStart p z ≤ℤ s → mirrorStart p s ≤ℤ z
 below p z s h = omega (ints, at-mirror p z, at-mirror p s)
 
-shaped-near : (n : ℕ) (a : Atom) → Shaped zeroAt n (zeroAt - 400000000) (zeroAt + 400000000) 200000000 a → Near n a
+shaped-near : (ds : List ℕ) (es ls : List ℤ) (a : Atom) → Shaped zeroAt (moments zeroAt (tasksOf ds es ls)) (zeroAt - START) (zeroAt + START) DURATIONS a → Near ds a
 unfolding up dn
-shaped-near n a s = record {
+shaped-near ds es ls a s = record {
   task = s .task;
   kind = s .kind;
-  low = subst (Above 1400000000) (sym (s .value)) (above-show 1400000000 (instant zeroAt (s .at)) (omega (arith, sub-law (s .at) zeroAt, s .from)));
-  high = subst (λ (z : ℤ). z ≤ℤ pos 800000000) (sym (s .value)) (omega (ints, sub-law (s .at) zeroAt, s .to));
+  low = subst (Above MIRRORED) (sym (s .value)) (above-show MIRRORED (instant zeroAt (s .at)) (omega (arith, sub-law (s .at) zeroAt, s .from)));
+  high = subst (λ (z : ℤ). (z +ℤ pos p) ≤ℤ pos MIRRORED) (sym (s .value)) (omega (ints, sumℤ (instant zeroAt (s .at)) (pos p), sub-law (s .at) zeroAt, s .to));
 }
+  where
+    p : ℕ
+    p = durationIn ds (a .variable)
 
-all-near : (n : ℕ) (xs : List Atom) → Every (Shaped zeroAt n (zeroAt - 400000000) (zeroAt + 400000000) 200000000) xs → Every (Near n) xs
-all-near n [] h = tt
-all-near n (a ∷ rest) h = (shaped-near n a (h .0), all-near n rest (h .1))
+all-near : (ds : List ℕ) (es ls : List ℤ) (xs : List Atom) → Every (Shaped zeroAt (moments zeroAt (tasksOf ds es ls)) (zeroAt - START) (zeroAt + START) DURATIONS) xs → Every (Near ds) xs
+all-near ds es ls [] h = tt
+all-near ds es ls (a ∷ rest) h = (shaped-near ds es ls a (h .0), all-near ds es ls rest (h .1))
 
 all-reasons : (P : Atom → Type 0) (ps : List Post) → ((j : ℕ) → j < length ps → Every P (getD ps j no-post .reason)) → Every P (reasons ps)
 unfolding reasons
 all-reasons P [] h = tt
 all-reasons P (p ∷ ps) h = every-append P (p .reason) (reasons ps) (h 0 (omega arith)) (all-reasons P ps (λ j q. h (suc j) (omega arith)))
 
-pub near-at : (n : ℕ) (xs : List Atom) → Every (Near n) xs → (m : ℕ) → m < length xs → Near n (getD xs m no-atom)
-near-at n [] h m q = absurd (omega arith)
-near-at n (a ∷ rest) h zero q = h .0
-near-at n (a ∷ rest) h (suc m) q = near-at n rest (h .1) m (omega arith)
+pub near-at : (ds : List ℕ) (xs : List Atom) → Every (Near ds) xs → (m : ℕ) → m < length xs → Near ds (getD xs m no-atom)
+near-at ds [] h m q = absurd (omega arith)
+near-at ds (a ∷ rest) h zero q = h .0
+near-at ds (a ∷ rest) h (suc m) q = near-at ds rest (h .1) m (omega arith)
 
-pub near-sum : (n p : ℕ) (a : Atom) → p ≤ 200000000 → Near n a → SFits w32 (a .value +ℤ pos p)
+-- Told in the caller's time, what is near is within ±MIRRORED, and so an i32.
+pub near-told : (ds : List ℕ) (a : Atom) → Near ds a → Above MIRRORED (mirrorStart (durationIn ds (a .variable)) (a .value)) × (mirrorStart (durationIn ds (a .variable)) (a .value) ≤ℤ pos MIRRORED)
 unfolding up dn
-near-sum n p a h r = fits-show w32 (a .value +ℤ pos p) (omega (ints, sumℤ (a .value) (pos p), at-moment 1400000000 (a .value) (r .low), r .high)) (omega (ints, sumℤ (a .value) (pos p), at-moment 1400000000 (a .value) (r .low), r .high))
+near-told ds a r = (above-show MIRRORED (mirrorStart p (a .value)) (omega (ints, at-mirror p (a .value), sumℤ (a .value) (pos p), r .high)), omega (ints, at-mirror p (a .value), at-moment MIRRORED (a .value) (r .low)))
+  where
+    p : ℕ
+    p = durationIn ds (a .variable)
 
-pub near-fits : (n p : ℕ) (a : Atom) → p ≤ 200000000 → Near n a → SFits w32 (mirrorStart p (a .value))
+pub near-fits : (ds : List ℕ) (a : Atom) → Near ds a → SFits w32 (mirrorStart (durationIn ds (a .variable)) (a .value))
 unfolding up dn
-near-fits n p a h r = fits-show w32 (mirrorStart p (a .value)) (omega (ints, at-mirror p (a .value), at-moment 1400000000 (a .value) (r .low), r .high)) (omega (ints, at-mirror p (a .value), at-moment 1400000000 (a .value) (r .low), r .high))
+near-fits ds a r = fits-show w32 z (omega (ints, at-moment MIRRORED z (t .0), t .1)) (omega (ints, at-moment MIRRORED z (t .0), t .1))
+  where
+    z : ℤ
+    z = mirrorStart (durationIn ds (a .variable)) (a .value)
+
+    t : Above MIRRORED (mirrorStart (durationIn ds (a .variable)) (a .value)) × (mirrorStart (durationIn ds (a .variable)) (a .value) ≤ℤ pos MIRRORED)
+    t = near-told ds a r
 
 -- What the caller lends, mirrored, is accepted with the wider limit.
-module _ (ds : List ℕ) (es ls : List ℤ) (a : Accepted 200000000 ds es ls) (long-es : length es ≡ length ds) (long-ls : length ls ≡ length ds) where
+module _ (ds : List ℕ) (es ls : List ℤ) (a : Accepted START ds es ls) (long-es : length es ≡ length ds) (long-ls : length ls ≡ length ds) where
   -- what the run is called with
   abbrev early : List ℤ
   early = mirrorStarts ds ls
@@ -196,17 +218,24 @@ module _ (ds : List ℕ) (es ls : List ℤ) (a : Accepted 200000000 ds es ls) (l
   abbrev late : List ℤ
   late = mirrorStarts ds es
 
-  lasting : (k : ℕ) → k < length ds → getD ds k 0 ≤ 200000000
+  lasting : (k : ℕ) → k < length ds → getD ds k 0 ≤ DURATIONS
   lasting k q = let N = moments zeroAt (tasksOf ds es ls) in omega (arith, a .sum, processing-all N, processing-less N (λ _. true) k (record { small = q; mem = refl }))
 
-  pub mirrored-accepted : Accepted 400000000 ds (mirrorStarts ds ls) (mirrorStarts ds es)
+  -- none ends before −START, nor starts after START
+  ending : (k : ℕ) → k < length ds → Above START (getD early k (pos 0) +ℤ pos (getD ds k 0))
+  ending k q = subst (λ (z : ℤ). Above START (z +ℤ pos (getD ds k 0))) (sym (mirror-at ds ls long-ls k)) (low-end (getD ds k 0) (getD ls k (pos 0)) (a .to k q))
+
+  starting : (k : ℕ) → k < length ds → getD late k (pos 0) ≤ℤ pos START
+  starting k q = subst (λ (z : ℤ). z ≤ℤ pos START) (sym (mirror-at ds es long-es k)) (high (getD ds k 0) (getD es k (pos 0)) (a .from k q))
+
+  pub mirrored-accepted : Accepted MIRRORED ds (mirrorStarts ds ls) (mirrorStarts ds es)
   mirrored-accepted = record {
     some = a .some;
     few = a .few;
     lasts = a .lasts;
     sum = a .sum;
-    from = λ k q. subst (Above 400000000) (sym (mirror-at ds ls long-ls k)) (low (getD ds k 0) (getD ls k (pos 0)) (lasting k q) (a .to k q));
-    to = λ k q. subst (λ (z : ℤ). z ≤ℤ pos 400000000) (sym (mirror-at ds es long-es k)) (high (getD ds k 0) (getD es k (pos 0)) (a .from k q));
+    from = λ k q. subst (Above MIRRORED) (sym (mirror-at ds ls long-ls k)) (low (getD ds k 0) (getD ls k (pos 0)) (lasting k q) (a .to k q));
+    to = λ k q. wider (getD late k (pos 0)) (starting k q);
     ranges = λ k q. subst (λ (z : ℤ). z ≤ℤ getD (mirrorStarts ds es) k (pos 0)) (sym (mirror-at ds ls long-ls k))
         (subst (λ (z : ℤ). mirrorStart (getD ds k 0) (getD ls k (pos 0)) ≤ℤ z) (sym (mirror-at ds es long-es k)) (start-falls (getD ds k 0) (getD es k (pos 0)) (getD ls k (pos 0)) (a .ranges k q)));
   }
@@ -214,12 +243,12 @@ module _ (ds : List ℕ) (es ls : List ℤ) (a : Accepted 200000000 ds es ls) (l
   pub mirrored-right : MirroredRight (tasksOf ds es ls) (mirroredPass ds es ls)
   mirrored-right = right-mirrored ds es ls (mirroredRun ds es ls) (starts-length ds early late)
       (subst (λ (K : Tasks whole). Right K (mirroredRun ds es ls)) (mirror-tasks ds es ls long-es long-ls)
-      (demand-3 400000000 (omega arith) ds early late mirrored-accepted))
+      (demand-3 MIRRORED (omega arith) ds early late mirrored-accepted))
 
   -- However the pass ends, each latest start that it leaves is in its task's range,
   pub latest-between : (k : ℕ) → k < length ds → (getD es k (pos 0) ≤ℤ getD (mirroredPass ds es ls .starts) k (pos 0)) × (getD (mirroredPass ds es ls .starts) k (pos 0) ≤ℤ getD ls k (pos 0))
   latest-between k q =
-      let h = starts-between ds early late 400000000 (omega arith) mirrored-accepted k q in
+      let h = starts-between ds early late MIRRORED (omega arith) mirrored-accepted k q in
       let d : ℕ = getD ds k 0 in
       let s : ℤ = getD (mirroredRun ds es ls .starts) k (pos 0) in
       subst (λ (z : ℤ). (getD es k (pos 0) ≤ℤ z) × (z ≤ℤ getD ls k (pos 0))) (sym (mirror-at ds (mirroredRun ds es ls .starts) (starts-length ds early late) k)) (
@@ -228,19 +257,19 @@ module _ (ds : List ℕ) (es ls : List ℤ) (a : Accepted 200000000 ds es ls) (l
       )
 
   -- and the run's bounds and reasons are near, so that they can be mirrored in words.
-  pub post-near : (j : ℕ) → j < length (mirroredRun ds es ls .posts) → Near (length ds) (consequentOf (post (mirroredRun ds es ls) j))
-  post-near j q = shaped-near (length ds) (consequentOf (post (mirroredRun ds es ls) j)) (post-shaped 400000000 (omega arith) ds early late mirrored-accepted j q .says)
+  pub post-near : (j : ℕ) → j < length (mirroredRun ds es ls .posts) → Near ds (consequentOf (post (mirroredRun ds es ls) j))
+  post-near j q = shaped-near ds early late (consequentOf (post (mirroredRun ds es ls) j)) (post-shaped MIRRORED START (omega arith) (omega arith) ds early late mirrored-accepted ending starting j q .says)
 
-  pub atoms-near : Every (Near (length ds)) (reasons (mirroredRun ds es ls .posts) ++ endReason (mirroredRun ds es ls .end))
-  atoms-near = every-append (Near (length ds)) (reasons (mirroredRun ds es ls .posts)) (endReason (mirroredRun ds es ls .end))
-      (all-reasons (Near (length ds)) (mirroredRun ds es ls .posts) (λ j q. all-near (length ds) (post (mirroredRun ds es ls) j .reason)
-      (post-shaped 400000000 (omega arith) ds early late mirrored-accepted j q .because)))
+  pub atoms-near : Every (Near ds) (reasons (mirroredRun ds es ls .posts) ++ endReason (mirroredRun ds es ls .end))
+  atoms-near = every-append (Near ds) (reasons (mirroredRun ds es ls .posts)) (endReason (mirroredRun ds es ls .end))
+      (all-reasons (Near ds) (mirroredRun ds es ls .posts) (λ j q. all-near ds early late (post (mirroredRun ds es ls) j .reason)
+      (post-shaped MIRRORED START (omega arith) (omega arith) ds early late mirrored-accepted ending starting j q .because)))
       (ended (mirroredRun ds es ls .end) refl)
     where
-      ended : (e : End) → mirroredRun ds es ls .end ≡ e → Every (Near (length ds)) (endReason e)
+      ended : (e : End) → mirroredRun ds es ls .end ≡ e → Every (Near ds) (endReason e)
       ended done z = tt
-      ended (overload r) z = all-near (length ds) r
-          (overload-shaped 400000000 (omega arith) ds early late mirrored-accepted r z .because)
+      ended (overload r) z = all-near ds early late r
+          (overload-shaped MIRRORED START (omega arith) (omega arith) ds early late mirrored-accepted ending starting r z .because)
       ended emptied z = tt
 
   -- They fit the lent slices as a run's do.
@@ -249,7 +278,7 @@ module _ (ds : List ℕ) (es ls : List ℤ) (a : Accepted 200000000 ds es ls) (l
 
   proper : Proper N
   proper = sound zeroAt (tasksOf ds early late) (record { ranges = mirrored-accepted .ranges; lasts = mirrored-accepted .lasts })
-      (λ k q. more-above 400000000 zeroAt (omega arith) (getD early k (pos 0)) (mirrored-accepted .from k q))
+      (λ k q. more-above MIRRORED zeroAt (omega arith) (getD early k (pos 0)) (mirrored-accepted .from k q))
 
   pub mirrored-posts-fit : length (postWords 0 (mirroredRun ds es ls .posts)) ≤ 4 * length ds
   mirrored-posts-fit = subst (λ (t : Trace). length (postWords 0 (t .posts)) ≤ 4 * length ds) (sym (propagate-is ds early late))

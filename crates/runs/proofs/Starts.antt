@@ -14,6 +14,7 @@ use lib.ListN.{length, getD, set, length-map, length-set}
 use lib.Seq.{getD-set-same, getD-set-other}
 use lib.Signed.{_≤ℤ_}
 use borrow.Author.Tests.{ltb-true, ltb-false}
+use Rattle.integers.specs.Limits.{MIRRORED}
 use Rattle.integers.specs.Moments.{Above, instant, zeroAt}
 use Rattle.integers.specs.Orders.{sort, index}
 use Rattle.integers.proofs.Bools.{bool}
@@ -121,7 +122,7 @@ module _ (ds : List ℕ) (es ls : List ℤ) where
     to = λ k r. at (λ k v. v ≤ J .latest k) l i b q k (omega (arith, h .long)) (h .to k r);
   }
 
-  module _ (limit : ℕ) (near : limit ≤ 400000000) (a : Accepted limit ds es ls) where
+  module _ (limit : ℕ) (near : limit ≤ MIRRORED) (a : Accepted limit ds es ls) where
     above : (k : ℕ) → k < length ds → Above zeroAt (getD es k (pos 0))
     above k q = more-above limit zeroAt (omega arith) (getD es k (pos 0)) (a .from k q)
 

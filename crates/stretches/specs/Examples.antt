@@ -2,8 +2,10 @@
 -- Assumes nothing.
 use mathlib.Core.Path.{_≡_, refl}
 use mathlib.Core.List.{List, [], _∷_}
+use Prim.Native.Nat.{_+_}
 use lib.IntN.{ℤ, pos, negsuc}
 use Rattle.integers.specs.Filling.{filled}
+use Rattle.integers.specs.Limits.{LENGTH}
 use Rattle.integers.specs.Tests.{allBelow, refusal}
 use Rattle.integers.specs.Extremes.{minℤ, maxℤ}
 use Rattle.scheduling.specs.Scheduling.{total}
@@ -42,11 +44,11 @@ unfolding two starts minℤ maxℤ total filled
 from-last = refl
 
 -- the limits of 23, which is tried after 14
-longest : stretchNumber two starts starts (pos 400000000) ≡ 0
+longest : stretchNumber two starts starts (pos LENGTH) ≡ 0
 unfolding two starts refusal lawfulRecord allBelow unusedAt filled total
 longest = refl
 
-too-long : stretchNumber two starts starts (pos 400000001) ≡ 23
+too-long : stretchNumber two starts starts (pos (LENGTH + 1)) ≡ 23
 unfolding two starts refusal lawfulRecord allBelow unusedAt filled total
 too-long = refl
 

@@ -4,10 +4,9 @@ use crate::cli::Session;
 use crate::judge::Task;
 use crate::rng::Rng;
 
-/// The start limit and the duration total's limit; 400,000,000 once request (g) has landed.
-pub static LIMIT_NOW: std::sync::atomic::AtomicI64 = std::sync::atomic::AtomicI64::new(200_000_000);
+/// The start limit and the duration total's limit.
 pub fn limit() -> i64 {
-    LIMIT_NOW.load(std::sync::atomic::Ordering::Relaxed)
+    400_000_000
 }
 pub const VALUE: i64 = 900_000_000;
 

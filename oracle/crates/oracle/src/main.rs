@@ -15,9 +15,6 @@ fn main() {
     let number = |k: usize, default: i64| args.get(k).and_then(|a| a.parse().ok()).unwrap_or(default);
     let (seed, count) = (number(1, 1) as u64, number(2, 100) as usize);
     let (nmax, spread) = (number(3, 6), number(4, 12));
-    if std::env::var("FINER").is_ok() {
-        r#gen::LIMIT_NOW.store(400_000_000, std::sync::atomic::Ordering::Relaxed);
-    }
     match args.first().map(String::as_str) {
         None | Some("--echo") => {
             let echo = !args.is_empty();

@@ -14,7 +14,7 @@ use Rattle.records.specs.Orders.{noTasks}
 use Rattle.records.specs.Refusals.{StartFits}
 use Rattle.fixed.specs.FixedSchedules.{startAt, endAt}
 use Rattle.charges.specs.Tariff.{minutesLate, costOf}
-use Rattle.charges.specs.Charging.{chargeAt}
+use Rattle.charges.specs.Charging.{DueFits, chargeAt}
 use Rattle.charges.proofs.Costs.{cost-most}
 use Rattle.charges.proofs.charging.bill_of.Statement.{statement}
 use Rattle.charges.proofs.charging.bill_of.Tie as tie
@@ -67,13 +67,16 @@ mul-charge-of-3 : tie.Need-mul-charge-of-3 Inv-loop μ-loop
 mul-charge-of-3 c = search needs
 
 shared-slice-copy-out-charge-of-2 : tie.Need-shared-slice-copy-out-charge-of-2 Inv-loop μ-loop
-shared-slice-copy-out-charge-of-2 c = omega (arith, c .before .before .before .before .pre .dues)
+shared-slice-copy-out-charge-of-2 c = omega (arith, c .before .before .before .before .pre .dues .long)
 
 charge-of-requires : tie.Need-charge-of-requires Inv-loop μ-loop
 charge-of-requires c κs =
     let s = c .before .before .before .before .before in
-    let i = c .before .before .before .before .loop .i in
-    (subst StartFits (sym (back-of w32 (startAt (s .args .earliest .now) i) (c .before .before .charge-of-arg .given))) (s .pre .started .starts i (omega arith)), s .pre .durations i (omega arith))
+    let i = c .before .before .before .before .loop .i in (
+      subst StartFits (sym (back-of w32 (startAt (s .args .earliest .now) i) (c .before .before .charge-of-arg .given))) (s .pre .started .starts i (omega arith)),
+      s .pre .durations i (omega arith),
+      subst DueFits (sym (back-of w32 (getD (s .args .due .now) i (pos 0)) (c .charge-of-arg3 .given))) (s .pre .dues .within i (omega (arith, s .pre .dues .long))),
+    )
 
 mul-out : tie.Need-mul-out Inv-loop μ-loop
 mul-out c = search needs

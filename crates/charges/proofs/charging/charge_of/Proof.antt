@@ -4,11 +4,12 @@ use borrow.Author.Needs.{needs}
 use Rattle.integers.proofs.Ints.{back}
 use Rattle.records.specs.Refusals.{StartFits}
 use Rattle.charges.specs.Tariff.{minutesLate, costOf}
+use Rattle.charges.specs.Charging.{DueFits}
 use Rattle.charges.proofs.charging.charge_of.Statement.{statement}
 use Rattle.charges.proofs.charging.charge_of.Tie as tie
 
 minutes-late-requires : tie.Need-minutes-late-requires
-minutes-late-requires c κs = (subst StartFits (sym (back (c .fits .start))) (c .pre .0), c .pre .1)
+minutes-late-requires c κs = (subst StartFits (sym (back (c .fits .start))) (c .pre .0), c .pre .1, subst DueFits (sym (back (c .fits .due))) (c .pre .2))
 
 cost-of-requires : tie.Need-cost-of-requires
 cost-of-requires c κs = search needs

@@ -7,7 +7,7 @@ use Rattle.integers.specs.Moments.{moment, zeroAt}
 use Rattle.integers.proofs.Ints.{back}
 use Rattle.integers.proofs.Moments.{plus, plus-above, i32-above}
 use Rattle.fixed.proofs.Placing.{start-above, start-moment}
-use Rattle.charges.proofs.Lateness.{not-late, late}
+use Rattle.charges.proofs.Lateness.{due-moment, not-late, late}
 use Rattle.charges.proofs.charging.minutes_late.Statement.{statement}
 use Rattle.charges.proofs.charging.minutes_late.Tie as tie
 
@@ -50,7 +50,7 @@ returns-2 c =
     let above = plus-above zeroAt (a .start) (a .duration) (start-above (a .start) (s .pre .0)) in
     let h = late (a .start +ℤ pos (a .duration)) (a .due) above (i32-above (s .fits .due)) (omega (arith, end-is (c .before), due-is (c .before), c .if1 .left)) in (
       omega (arith, h, end-is (c .before), due-is (c .before)),
-      omega (arith, start-is (c .before .before), start-moment (a .start) (s .pre .0), s .pre .1),
+      omega (arith, start-is (c .before .before), start-moment (a .start) (s .pre .0), s .pre .1, due-is (c .before), due-moment (a .due) (s .pre .2)),
     )
 
 pub minutes-late-spec : {M : Type 1} → statement M

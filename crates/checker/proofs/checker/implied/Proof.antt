@@ -2,11 +2,12 @@
 use mathlib.Core.Path.{_≡_, sym, ap, subst, _∙_}
 use mathlib.Core.Bool.{Bool, true, false}
 use mathlib.Core.List.{List}
-use Prim.Native.Nat.{ℕ, _+_, _≤_, _<_, min}
+use Prim.Native.Nat.{ℕ, _+_, _^_, _≤_, _<_, min}
 use native.Mathlib.Omega.{arith}
 use lib.ListN.{length, getD, set}
 use borrow.Author.Needs.{needs}
 use borrow.Author.Tests.{not-true, not-false}
+use Rattle.integers.specs.Limits.{TASKS}
 use Rattle.scheduling.specs.Scheduling.{natural, Tasks, TaskSet}
 use Rattle.checker.specs.Formulas.{_but_}
 use Rattle.checker.specs.Holding.{Held, Bounding}
@@ -14,7 +15,7 @@ use Rattle.checker.proofs.Judging.{none-after, joint-fits, room-before,
 use Rattle.checker.proofs.checker.implied.Statement.{statement}
 use Rattle.checker.proofs.checker.implied.Tie as tie
 
-size : (c : tie.After-gather-arg2) → length (c .before .before .before .before .before .args .t1 .bounded) ≡ 48
+size : (c : tie.After-gather-arg2) → length (c .before .before .before .before .before .args .t1 .bounded) ≡ TASKS
 size c = search needs
 
 -- the tasks but i are those of the changed array
@@ -43,6 +44,9 @@ mul-min c = search needs
 element-copy-out-min : tie.Need-element-copy-out-min
 element-copy-out-min c = search needs
 
+cast-min : tie.Need-cast-min
+cast-min c = search needs
+
 min-requires : tie.Need-min-requires
 min-requires c κs = search needs
 
@@ -59,6 +63,14 @@ mul-if2 c = search needs
 
 element-copy-out-if2 : tie.Need-element-copy-out-if2
 element-copy-out-if2 c = search needs
+
+cast-if2 : tie.Need-cast-if2
+cast-if2 c =
+    let (q, (J, Ω, d)) = c .before .before .before .before .before .before .before .before .before .before .before .before .pre in
+    let g = c .before .before .before .before .before .before .gather in
+    let h = held (c .before .before .before .before .before .before .before) d in
+    let z : getD (c .before .before .before .before .before .before .before .before .before .before .before .before .args .durations .now) (c .before .before .before .before .before .before .before .before .before .before .before .before .args .i) 0 < 2 ^ 64 = omega (arith, joint-fits h (g .result) (g .ensures J (Ω but c .before .before .before .before .before .before .before .before .before .before .before .before .args .i) h (d .late)) (d .late) (c .before .before .before .before .before .before .before .before .before .before .before .before .args .i) q (not-false (g .result .some) (c .before .before .before .before .if1 .left)) .1) in
+    record { fits = z }
 
 add-if2-2 : tie.Need-add-if2-2
 add-if2-2 c =
@@ -112,10 +124,12 @@ implied-spec =
     returns
     mul-min
     element-copy-out-min
+    cast-min
     min-requires
     add-if2
     mul-if2
     element-copy-out-if2
+    cast-if2
     add-if2-2
     returns-2
     theta-ect-requires

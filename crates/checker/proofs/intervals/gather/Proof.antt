@@ -2,14 +2,14 @@
 use mathlib.Core.Path.{_≡_, sym, ap, subst, _∙_}
 use mathlib.Core.Bool.{Bool}
 use mathlib.Core.List.{List}
-use Prim.Native.Nat.{ℕ, suc, _+_, _-_, _≤_, _<_}
+use Prim.Native.Nat.{ℕ, suc, _+_, _-_, _^_, _≤_, _<_}
 use native.Mathlib.Omega.{arith}
 use lib.ListN.{getD}
 use borrow.Author.Needs.{needs}
 use Rattle.scheduling.specs.Scheduling.{natural, Tasks, TaskSet}
 use Rattle.checker.specs.declared.intervals.Interval.{Interval}
 use Rattle.checker.specs.Holding.{Held, Late, intervalOf}
-use Rattle.checker.proofs.Steps.{none-gathered, completion-fits, sum-fits, next-gathered}
+use Rattle.checker.proofs.Steps.{none-gathered, duration-fits, start-fits, latest-fits, completion-fits, sum-fits, next-gathered}
 use Rattle.checker.proofs.intervals.gather.Statement.{statement}
 use Rattle.checker.proofs.intervals.gather.Tie as tie
 
@@ -37,6 +37,11 @@ mul-p c = search needs
 element-copy-out-p : tie.Need-element-copy-out-p Inv-loop μ-loop
 element-copy-out-p c = search needs
 
+cast-p : tie.Need-cast-p Inv-loop μ-loop
+cast-p c =
+    let v = c .before .before .loop .inv .some in
+    record { fits = duration-fits (v .2) (v .3) (c .before .before .loop .i) (inside (c .before)) }
+
 element-copy-out-with : tie.Need-element-copy-out-with Inv-loop μ-loop
 element-copy-out-with c = search needs
 
@@ -46,11 +51,21 @@ mul-with c = search needs
 element-copy-out-with-2 : tie.Need-element-copy-out-with-2 Inv-loop μ-loop
 element-copy-out-with-2 c = search needs
 
+cast-with : tie.Need-cast-with Inv-loop μ-loop
+cast-with c =
+    let v = c .before .before .before .before .loop .inv .some in
+    record { fits = start-fits (v .2) (v .3) (c .before .before .before .before .loop .i) (inside (c .before .before .before)) }
+
 mul-with-2 : tie.Need-mul-with-2 Inv-loop μ-loop
 mul-with-2 c = search needs
 
 element-copy-out-with-3 : tie.Need-element-copy-out-with-3 Inv-loop μ-loop
 element-copy-out-with-3 c = search needs
+
+cast-with-2 : tie.Need-cast-with-2 Inv-loop μ-loop
+cast-with-2 c =
+    let v = c .before .before .before .before .before .loop .inv .some in
+    record { fits = latest-fits (v .2) (v .3) (c .before .before .before .before .before .loop .i) (inside (c .before .before .before .before)) }
 
 add-with : tie.Need-add-with Inv-loop μ-loop
 add-with c =
@@ -63,7 +78,7 @@ with-requires c κs =
     let v = w .some in
     let i = c .before .before .before .before .before .loop .i in
     let d = getD (c .before .before .before .before .before .before .args .durations .now) i 0 in
-    subst (λ (x : Interval). x .p + d < 4294967296) (sym (w .at (v .0) (v .1) (v .2) (v .3))) (sum-fits (v .2) (v .3) i (inside (c .before .before .before .before)))
+    subst (λ (x : Interval). x .p + d < 2 ^ 64) (sym (w .at (v .0) (v .1) (v .2) (v .3))) (sum-fits (v .2) (v .3) i (inside (c .before .before .before .before)))
 
 add-i : tie.Need-add-i Inv-loop μ-loop
 add-i c = search needs
@@ -93,11 +108,14 @@ gather-spec =
     loop-holds
     mul-p
     element-copy-out-p
+    cast-p
     element-copy-out-with
     mul-with
     element-copy-out-with-2
+    cast-with
     mul-with-2
     element-copy-out-with-3
+    cast-with-2
     add-with
     with-requires
     add-i
