@@ -1,28 +1,31 @@
 -- The formula that the source computes holds exactly where the checker's formula over the premises does.
 -- Assumes nothing.
-use mathlib.Core.Path.{_≡_, refl, sym, ap, subst, _∙_}
-use mathlib.Core.Bool.{Bool, true, false, cond, not, _&&_, _||_}
-use mathlib.Core.List.{List, [], _∷_}
-use mathlib.Core.Logic.{_⊎_, inl, inr, _↔_}
+use mathlib.Core.Path.{_≡_, refl, sym, subst, _∙_}
+use mathlib.Core.Bool.{Bool, true, false, _&&_, _||_}
+use mathlib.Core.List.{List}
+use mathlib.Core.Logic.{_⊎_, inl, inr}
 use mathlib.Core.Option.{Option, some, none}
-use Prim.Native.Nat.{ℕ, zero, suc, _+_, _≤_, _<_, min}
+use Prim.Native.Nat.{ℕ, _+_, _≤_, _<_, min}
 use native.Mathlib.Omega.{arith}
 use native.Mathlib.Nat.{le-antisymm}
 use native.Mathlib.Decide.{ℕ-discrete}
 use lib.Dec.{eqb, ltb}
-use lib.IntN.{ℤ, pos, negsuc}
+use lib.IntN.{ℤ, negsuc}
 use lib.Signed.{_≤ℤ_, ≤ℤ-refl}
-use borrow.Author.Tests.{ltb-true, lt-ltb, ne-eqb, eq-eqb, eqb-false}
+use borrow.Author.Tests.{ltb-true, lt-ltb, ne-eqb, eq-eqb}
 use Rattle.integers.specs.Moments.{moment, Above, zeroAt}
 use Rattle.integers.proofs.Bools.{bool, clash, and-true, and-yes}
 use Rattle.integers.proofs.Ints.{up, dn, ints}
 use Rattle.integers.proofs.Moments.{above-show}
-use Rattle.scheduling.specs.Scheduling.{whole, natural, Tasks, Proper, TaskSet, _with_, Largest, Least, In, Outside, NonEmpty, completion, Est, Lct, Ect, processing, Overloads, Atom, Admits, given, Bounded, RuleFormula, PassesWith, PassesAlone}
+use Rattle.scheduling.specs.Scheduling.{whole, natural, Tasks, Proper, TaskSet, _with_, Largest, Least, In, NonEmpty, Est, Lct, processing, Overloads, Atom, Admits, given, Bounded, RuleFormula, PassesWith, PassesAlone}
 use Rattle.scheduling.proofs.Agreement.{Agree, overloads→, formula→, set-overloads, set-formula}
 use Rattle.scheduling.proofs.Transfer.{sound, overload→, overload←, checks→, checks←}
-use Rattle.scheduling.specs.Moments.{moments}
-use Rattle.checker.specs.Formulas.{known, valueOf, bounded, others, ranges, tasks, any, lowest, highest, ectOf, overloaded, implied}
-use Rattle.checker.proofs.Gathering.{any-yes, any-some, lowest-is, highest-is, ect-is}
+use Rattle.trees.specs.Ects.{exceeds}
+use Rattle.trees.proofs.Ects.{exceeds-yes, some-exceeds}
+use Rattle.chosen_sets.specs.ChosenSets.{ectOf}
+use Rattle.chosen_sets.proofs.Ects.{ect-is}
+use Rattle.checker.specs.Formulas.{bounded, others, ranges, tasks, any, lowest, highest, overloaded, implied}
+use Rattle.checker.proofs.Gathering.{any-yes, any-some, lowest-is, highest-is}
 
 -- The bounds of each task are the least and the greatest value that the atoms admit, in the range of an i32; none where there is none.
 pub record Reads (n : ℕ) (atoms : List Atom) (lower upper : ℕ → Option ℤ) : Type 0 where
@@ -48,9 +51,6 @@ est-same N Ω u v a b = le-antisymm (a .bounds v (b .holds)) (b .bounds u (a .ho
 
 lct-same : (N : Tasks natural) (Ω : TaskSet) (u v : ℕ) → Lct N Ω u → Lct N Ω v → u ≡ v
 lct-same N Ω u v a b = le-antisymm (b .bounds u (a .holds)) (a .bounds v (b .holds))
-
-ect-same : (N : Tasks natural) (Ω : TaskSet) (u v : ℕ) → Ect N Ω u → Ect N Ω v → u ≡ v
-ect-same N Ω u v a b = le-antisymm (b .bounds u (a .holds)) (a .bounds v (b .holds))
 
 module _ (J : Tasks whole) (lasts : (k : ℕ) → k < J .count → 1 ≤ J .duration k) (atoms : List Atom) (lower upper : ℕ → Option ℤ) (r : Reads (J .count) atoms lower upper) where
   abbrev n : ℕ
@@ -204,21 +204,22 @@ module _ (J : Tasks whole) (lasts : (k : ℕ) → k < J .count → 1 ≤ J .dura
       pub implied-sound : X i ≡ true → implied n (J .duration) lower upper i ≡ true → PassesWith J premises a
       unfolding implied
       implied-sound yi y =
-          let (b, c) = and-true (some-in Ω) (ltb (high Ω) reach && ltb (N .latest i) (ectOf N Ω)) y in
-          let (d, e) = and-true (ltb (high Ω) reach) (ltb (N .latest i) (ectOf N Ω)) c in
+          let (b, c) = and-true (some-in Ω) (ltb (high Ω) reach && exceeds (ectOf N Ω) (N .latest i)) y in
+          let (d, e) = and-true (ltb (high Ω) reach) (exceeds (ectOf N Ω) (N .latest i)) c in
           let ne : NonEmpty N Ω = any-some N Ω b in
+          let (v, is, past) = exceeds-yes (ectOf N Ω) (N .latest i) e in
           let over : high Ω < reach = ltb-true (high Ω) reach d in
           let f : RuleFormula N Ω i = record {
             outside = record { small = small; mem = self-out };
             start = low Ω;
             end = high Ω;
-            joint = ectOf N Ω;
+            joint = v;
             est = lowest-is N Ω fits-N ne;
             lct = highest-is N Ω ne;
-            ect = ect-is N Ω moments-proper ne;
+            ect = ect-is N Ω moments-proper v .0 is;
             over-i = omega arith;
             over-Ω = omega arith;
-            passes = ltb-true (N .latest i) (ectOf N Ω) e;
+            passes = past;
           } in
           record {
             set = Ω;
@@ -237,10 +238,9 @@ module _ (J : Tasks whole) (lasts : (k : ℕ) → k < J .count → 1 ≤ J .dura
           let ne : NonEmpty N Ω = (f .est .holds .0, f .est .holds .1) in
           let s : f .start ≡ low Ω = est-same N Ω (f .start) (low Ω) (f .est) (lowest-is N Ω fits-N ne) in
           let e : f .end ≡ high Ω = lct-same N Ω (f .end) (high Ω) (f .lct) (highest-is N Ω ne) in
-          let j : f .joint ≡ ectOf N Ω = ect-same N Ω (f .joint) (ectOf N Ω) (f .ect) (ect-is N Ω moments-proper ne) in
-          and-yes (some-in Ω) (ltb (high Ω) reach && ltb (N .latest i) (ectOf N Ω)) (any-yes N Ω ne)
-          (and-yes (ltb (high Ω) reach) (ltb (N .latest i) (ectOf N Ω)) (lt-ltb (high Ω) reach (omega (arith, f .over-i, f .over-Ω)))
-          (lt-ltb (N .latest i) (ectOf N Ω) (omega (arith, f .passes))))
+          and-yes (some-in Ω) (ltb (high Ω) reach && exceeds (ectOf N Ω) (N .latest i)) (any-yes N Ω ne)
+          (and-yes (ltb (high Ω) reach) (exceeds (ectOf N Ω) (N .latest i)) (lt-ltb (high Ω) reach (omega (arith, f .over-i, f .over-Ω)))
+          (some-exceeds (ectOf N Ω) (f .joint) (N .latest i) (ect-is N Ω moments-proper (f .joint) .1 (f .ect)) (f .passes)))
         where
           with-more : (S : TaskSet) (k : ℕ) → S k ≡ true → (S with i) k ≡ true
           with-more S k y = elim (bool (eqb k i)) [ inl z ↦ rw z | inr z ↦ rw z y ]

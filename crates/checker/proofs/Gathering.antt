@@ -1,27 +1,14 @@
--- What the source's loop over the tasks gathers: whether there is a task, the least earliest start, the greatest latest completion, and the tree's ect.
+-- What the source's loop over the tasks gathers: whether there is a task, the least earliest start and the greatest latest completion.
 -- Assumes nothing.
-use mathlib.Core.Path.{_≡_, refl, sym, ap, subst, _∙_}
-use mathlib.Core.Bool.{Bool, true, false, cond, not, _&&_, _||_}
-use mathlib.Core.List.{List, [], _∷_, map}
+use mathlib.Core.Path.{_≡_, refl, sym, ap, _∙_}
+use mathlib.Core.Bool.{Bool, true, false, _||_}
 use mathlib.Core.Logic.{_⊎_, inl, inr}
-use Prim.Native.Nat.{ℕ, zero, suc, _+_, _≤_, _<_, min, max}
+use Prim.Native.Nat.{ℕ, zero, suc, _≤_, _<_, min, max}
 use native.Mathlib.Omega.{arith}
 use native.Mathlib.Decide.{decLe}
-use lib.Dec.{eqb, leb, ltb}
-use lib.IntN.{ℤ, pos}
-use lib.ListN.{length, getD, length-map}
-use borrow.Author.Tests.{leb-true}
-use Rattle.integers.specs.Orders.{sort, index, numbers, Ordered}
 use Rattle.integers.proofs.Bools.{bool, clash, or-true, or-right, below-suc}
-use Rattle.integers.proofs.Filling.{getD-map-in}
-use Rattle.integers.proofs.Permutations.{numbers-length, numbers-permute}
-use Rattle.integers.proofs.Sorting.{sort-length, sort-ordered, key-whole, key-chain}
-use Rattle.scheduling.specs.Scheduling.{natural, Tasks, Proper, TaskSet, In, NonEmpty, Est, Lct, Ect, completion}
-use Rattle.scheduling.specs.Moments.{ByEarliest}
-use Rattle.scheduling.proofs.Sets.{Empty}
-use Rattle.trees.specs.Leaves.{Leaf, empty, white, inTheta, inLambda}
-use Rattle.trees.proofs.Roots as tree
-use Rattle.checker.specs.Formulas.{any, lowest, highest, order, ectOf}
+use Rattle.scheduling.specs.Scheduling.{natural, Tasks, TaskSet, NonEmpty, Est, Lct, completion}
+use Rattle.checker.specs.Formulas.{any, lowest, highest}
 
 module _ (J : Tasks natural) where
   abbrev n : ℕ
@@ -152,45 +139,3 @@ module _ (J : Tasks natural) where
           ];
           bounds = λ w h. omega (arith, h .2, r .greatest (h .0) (h .1 .small) (h .1 .mem));
         }
-
-    -- the tree
-    abbrev first : List ℕ
-    first = order J Ω
-
-    abbrev colour : ℕ → Leaf
-    colour k = cond (Ω k) white empty
-
-    white-cond : (b : Bool) → inTheta (cond b white empty) ≡ b
-    white-cond true = refl
-    white-cond false = refl
-
-    gray-cond : (b : Bool) → inLambda (cond b white empty) ≡ false
-    gray-cond true = refl
-    gray-cond false = refl
-
-    pub by-order : ByEarliest J (λ j. getD first j 0) (λ k. index first k)
-    by-order =
-        let r : Ordered n (λ j. getD first j 0) (λ k. index first k) (λ j k. leb (J .earliest j) (J .earliest k) ≡ true)
-        = sort-ordered (λ j k. leb (J .earliest j) (J .earliest k)) (key-whole (J .earliest)) (key-chain (J .earliest)) n (numbers 0 n) (numbers-permute n) in
-        record { task = r .task; placed = r .placed; there = r .there; back = r .back; sorted = λ s t q h. leb-true _ _ (r .sorted s t q h) }
-
-    pub order-size : length first ≡ n
-    order-size = sort-length (λ j k. leb (J .earliest j) (J .earliest k)) (numbers 0 n) ∙ numbers-length 0 n
-
-    module _ (ok : Proper J) where
-      shape : tree.Represents J ok first by-order (map colour first) Ω (λ _. false)
-      shape = record {
-        size = length-map first colour ∙ order-size;
-        whites = λ k q. ap inTheta (at k q) ∙ white-cond (Ω k);
-        grays = λ k q. ap inLambda (at k q) ∙ gray-cond (Ω k);
-      }
-        where
-          at : (k : ℕ) → k < n → getD (map colour first) (index first k) empty ≡ colour k
-          at k q = getD-map-in colour first (index first k) 0 empty (omega (arith, order-size, by-order .placed k q)) ∙ ap colour (by-order .there k q)
-
-      pub ect-is : NonEmpty J Ω → Ect J Ω (ectOf J Ω)
-      ect-is = tree.ect-of J ok first by-order (map colour first) Ω (λ _. false) shape
-
-      -- and 0 where there is no task
-      pub ect-none : Empty Ω n → ectOf J Ω ≡ 0
-      ect-none = tree.ect-none J ok first by-order (map colour first) Ω (λ _. false) shape

@@ -1,26 +1,29 @@
 -- The formula from what is gathered: no sum wraps, and each early answer is the formula's.
 -- Assumes nothing.
-use mathlib.Core.Path.{_≡_, refl, sym, ap, subst, _∙_}
-use mathlib.Core.Bool.{Bool, true, false, not, cond, _&&_}
+use mathlib.Core.Path.{_≡_, refl, sym, ap, _∙_}
+use mathlib.Core.Bool.{Bool, true, false, cond}
 use mathlib.Core.List.{List}
 use mathlib.Core.Logic.{_⊎_, inl, inr}
+use mathlib.Core.Option.{Option}
 use Prim.Native.Nat.{ℕ, suc, _+_, _^_, _≤_, _<_, min}
 use native.Mathlib.Omega.{arith}
 use native.Mathlib.Decide.{ℕ-discrete}
-use lib.Dec.{eqb, ltb}
+use lib.Dec.{ltb}
 use lib.ListN.{length, getD, set}
 use lib.Seq.{getD-set-same, getD-set-other}
 use borrow.Author.Tests.{eq-eqb, ne-eqb, lt-ltb, le-ltb}
-use Rattle.integers.specs.Limits.{TASKS, DURATIONS}
+use Rattle.integers.specs.Limits.{TASKS}
 use Rattle.integers.proofs.Bools.{cond-most}
 use Rattle.scheduling.specs.Scheduling.{natural, Tasks, TaskSet, total, NonEmpty, Est, processing}
 use Rattle.scheduling.proofs.Sets.{total-part, total-mono}
 use Rattle.scheduling.proofs.Processing.{processing-is}
 use Rattle.trees.specs.Bounds.{LATEST}
-use Rattle.checker.specs.declared.bounds.Bounds.{Bounds}
+use Rattle.trees.specs.Ects.{exceeds}
+use Rattle.chosen_sets.specs.ChosenSets.{ectOf}
+use Rattle.chosen_sets.specs.Holding.{Held, Late}
 use Rattle.checker.specs.declared.intervals.Interval.{Interval}
-use Rattle.checker.specs.Formulas.{_but_, any, lowest, highest, ectOf, overloadsSpan, comesAfter}
-use Rattle.checker.specs.Holding.{Held, Late, Bounding, intervalOf}
+use Rattle.checker.specs.Formulas.{_but_, any, lowest, highest, overloadsSpan, comesAfter}
+use Rattle.checker.specs.Holding.{intervalOf}
 use Rattle.checker.proofs.Gathering.{any-some, lowest-is}
 
 module _ {J : Tasks natural} {Ω : TaskSet} {n : ℕ} {chosen : List Bool} {est durations : List ℕ} (h : Held J Ω n chosen est durations) (v : Interval) (z : v ≡ intervalOf J Ω n) where
@@ -79,7 +82,7 @@ module _ {J : Tasks natural} {Ω : TaskSet} {n : ℕ} {chosen : List Bool} {est 
         let no : ltb (highest J Ω (J .count)) whole-reach ≡ false = le-ltb (highest J Ω (J .count)) whole-reach (omega (arith, r, reach-is, ub-is)) in
         rw (sym some-is ∙ y, no) refl
 
-    pub after-where : v .some ≡ true → v .ub < reach → (e : ℕ) → e ≡ ectOf J Ω → ltb (getD lst i 0) e ≡ comesAfter J Ω i
+    pub after-where : v .some ≡ true → v .ub < reach → (e : Option ℕ) → e ≡ ectOf J Ω → exceeds e (getD lst i 0) ≡ comesAfter J Ω i
     after-where y r e w =
         let yes-so : ltb (highest J Ω (J .count)) whole-reach ≡ true = lt-ltb (highest J Ω (J .count)) whole-reach (omega (arith, r, reach-is, ub-is)) in
         rw (sym some-is ∙ y, yes-so, l .at i q, w) refl

@@ -1,8 +1,6 @@
 pub mod Apart
 pub mod Gathering
 pub mod Steps
-pub mod Colouring
-pub mod Ranging
 pub mod Judging
 pub mod Formulas
 pub mod Soundness

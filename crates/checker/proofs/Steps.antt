@@ -7,13 +7,13 @@ use Prim.Native.Nat.{ℕ, suc, _+_, _^_, _≤_, _<_, min, max}
 use native.Mathlib.Numerals.{add-one}
 use native.Mathlib.Omega.{arith}
 use lib.ListN.{getD}
-use Rattle.integers.specs.Limits.{DURATIONS}
 use Rattle.integers.proofs.Bools.{cond-most}
 use Rattle.scheduling.specs.Scheduling.{natural, Tasks, TaskSet, total, completion}
 use Rattle.scheduling.proofs.Sets.{total-part, total-mono}
 use Rattle.checker.specs.declared.intervals.Interval.{Interval}
 use Rattle.checker.specs.Formulas.{any, lowest, highest}
-use Rattle.checker.specs.Holding.{Held, Late, interval, gathered, intervalOf}
+use Rattle.chosen_sets.specs.Holding.{Held, Late}
+use Rattle.checker.specs.Holding.{interval, gathered, intervalOf}
 
 module _ (J : Tasks natural) (Ω : TaskSet) where
   pub none-gathered : interval false 4294967295 0 0 ≡ intervalOf J Ω 0

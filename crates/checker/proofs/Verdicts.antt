@@ -35,7 +35,8 @@ use Rattle.checker.specs.declared.checker.Verdict.the-variants.{Passed, 
 use Rattle.checker.specs.declared.bounds.Bounds.{Bounds}
 use Rattle.checker.specs.Formulas.{known, valueOf, bounded, tasks, _but_, overloadsSpan, comesAfter, overloaded, implied}
 use Rattle.checker.specs.Checks.{finite, lowerIn, upperIn, verdict, judged}
-use Rattle.checker.specs.Holding.{boundsBetween, knownAt, estAt, lstAt, boundsOf, Held, Late, Judgeable, Consequent}
+use Rattle.chosen_sets.specs.Holding.{Held, Late}
+use Rattle.checker.specs.Holding.{boundsBetween, knownAt, estAt, lstAt, boundsOf, Judgeable, Consequent}
 use Rattle.checker.proofs.Formulas.{Reads, moments-proper}
 use Rattle.checker.proofs.Soundness.{reads, near-latest, durations-last}
 

@@ -1,15 +1,14 @@
 -- The checker's formula as the source computes it, from the bounds that the premises and the negated consequent leave to each task: a whole number, or none.
 use mathlib.Core.Bool.{Bool, true, false, cond, not, _&&_, _||_}
-use mathlib.Core.List.{List, [], _∷_, map}
 use mathlib.Core.Option.{Option, some, none}
 use Prim.Native.Nat.{ℕ, zero, suc, _+_, min, max}
-use lib.Dec.{eqb, leb, ltb}
+use lib.Dec.{eqb, ltb}
 use lib.IntN.{ℤ, pos, negsuc}
 use Rattle.integers.specs.Moments.{zeroAt}
-use Rattle.integers.specs.Orders.{sort, numbers}
 use Rattle.scheduling.specs.Scheduling.{whole, natural, Tasks, TaskSet, completion, processing}
 use Rattle.scheduling.specs.Moments.{moments}
-use Rattle.trees.specs.Leaves.{Leaf, empty, white, ect}
+use Rattle.trees.specs.Ects.{exceeds}
+use Rattle.chosen_sets.specs.ChosenSets.{ectOf}
 
 -- What the loop over the tasks gathers ------------------------------------------------------------------------------------------
 
@@ -28,16 +27,6 @@ module _ (J : Tasks natural) (Ω : TaskSet) where
   highest zero = 0
   highest (suc k) = cond (Ω k) (max (highest k) (completion J k)) (highest k)
 
-  -- the tree's ect with the tasks of Ω in theta; its leaves stand in the order of earliest starts
-  abbrev pub order : List ℕ
-  order = sort (λ j k. leb (J .earliest j) (J .earliest k)) (numbers 0 (J .count))
-
-  abbrev pub colours : List Leaf
-  colours = map (λ k. cond (Ω k) white empty) order
-
-  abbrev pub ectOf : ℕ
-  ectOf = ect J order colours
-
   -- Ω has a task, and overloads its span
   abbrev pub overloadsSpan : Bool
   overloadsSpan = any Ω (J .count) && ltb (highest (J .count)) (lowest (J .count) + processing J Ω)
@@ -47,7 +36,7 @@ module _ (J : Tasks natural) (Ω : TaskSet) where
   comesAfter i =
       any Ω (J .count)
       && (ltb (highest (J .count)) (min (J .earliest i) (lowest (J .count)) + processing J Ω + J .duration i)
-      && ltb (J .latest i) ectOf)
+      && exceeds (ectOf J Ω) (J .latest i))
 
 infixl 20 _but_
 -- Ω without i

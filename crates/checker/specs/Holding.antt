@@ -1,15 +1,14 @@
--- What the code of a check holds: the bounds of the tasks in arrays, a set of tasks, what the loop gathers.
+-- What the code of a check holds: the bounds of the tasks in arrays, and what the loop gathers.
 use mathlib.Core.Path.{_≡_}
 use mathlib.Core.Bool.{Bool, true, false, cond}
 use mathlib.Core.List.{List}
-use Prim.Native.Nat.{ℕ, _+_, _≤_, _<_, min, max}
+use Prim.Native.Nat.{ℕ, _+_, _≤_, min, max}
 use lib.IntN.{ℤ}
-use lib.ListN.{length, getD, replicate}
-use Rattle.integers.specs.Limits.{TASKS, DURATIONS}
+use lib.ListN.{length, replicate}
+use Rattle.integers.specs.Limits.{TASKS}
 use Rattle.integers.specs.Filling.{filled}
 use Rattle.integers.specs.Moments.{moment, zeroAt}
-use Rattle.scheduling.specs.Scheduling.{natural, Tasks, Proper, TaskSet, total}
-use Rattle.trees.specs.Bounds.{LATEST}
+use Rattle.scheduling.specs.Scheduling.{natural, Tasks, TaskSet, total}
 use Rattle.checking.specs.declared.int_ext.IntExt.{IntExt}
 use Rattle.checking.specs.declared.int_ext.IntExt.the-variants.{Int, NegativeInf, PositiveInf}
 use Rattle.checking.specs.declared.variable_state.Domain.{Domain}
@@ -17,6 +16,7 @@ use Rattle.checking.specs.declared.variable_state.VariableState.{VariableState}
 use Rattle.checking.specs.Atoms.{rightWords}
 use Rattle.checking.specs.States.{domainAt}
 use Rattle.records.specs.Records.{durationAt}
+use Rattle.chosen_sets.specs.Holding.{Held, Late}
 use Rattle.checker.specs.declared.bounds.TaskBounds.{TaskBounds}
 use Rattle.checker.specs.declared.bounds.Bounds.{Bounds}
 use Rattle.checker.specs.declared.intervals.Interval.{Interval}
@@ -59,23 +59,6 @@ boundsOf s n = record {
   est = filled (estAt s) n (replicate TASKS 0);
   lst = filled (lstAt s) n (replicate TASKS 0);
 }
-
--- Tasks and a set of them in arrays --------------------------------------------------------------------------------------------
-
-pub record Held (J : Tasks natural) (Ω : TaskSet) (n : ℕ) (chosen : List Bool) (est durations : List ℕ) : Type 0 where
-  pub proper : Proper J
-  pub count : J .count ≡ n
-  pub few : n ≤ TASKS
-  pub member : (k : ℕ) → k < n → getD chosen k false ≡ Ω k
-  pub start : (k : ℕ) → k < n → getD est k 0 ≡ J .earliest k
-  pub lasts : (k : ℕ) → k < n → getD durations k 0 ≡ J .duration k
-  pub early : (k : ℕ) → k < n → J .earliest k ≤ LATEST
-  pub sum : total (J .duration) n ≤ DURATIONS
-
--- and their latest starts
-pub record Late (J : Tasks natural) (n : ℕ) (lst : List ℕ) : Type 0 where
-  pub at : (k : ℕ) → k < n → getD lst k 0 ≡ J .latest k
-  pub fits : (k : ℕ) → k < n → J .latest k ≤ LATEST
 
 -- the bounds are those of J's tasks in Ω
 pub record Bounding (J : Tasks natural) (Ω : TaskSet) (n : ℕ) (b : Bounds) (durations : List ℕ) : Type 0 where

@@ -2,4 +2,3 @@ pub mod Formulas
 pub mod Verdicts
 pub mod Checks
 pub mod Holding
-pub mod Colouring

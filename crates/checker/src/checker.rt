@@ -3,9 +3,9 @@ use crate::bounds::Bounds;
 use crate::bounds::bounds_of;
 use crate::intervals::gather;
 use crate::intervals::min;
-use crate::theta::theta_ect;
 use checking::variable_state::Application;
 use checking::variable_state::VariableState;
+use chosen_sets::theta::theta_ect;
 use records::record::Creation;
 use records::record::create;
 ghost use mathlib.Core.Path.{_≡_};
@@ -53,7 +53,8 @@ fn implied(bounds: Bounds, durations: &[u32; 48], n: usize, i: usize) -> bool
     if min(bounds.est[i] as u64, v.lb) + v.p + durations[i] as u64 <= v.ub {
         return false;
     }
-    theta_ect(&others, &bounds.est, durations, n) > bounds.lst[i]
+    let ect = theta_ect(&others, &bounds.est, durations, n);
+    ect.exceeds(bounds.lst[i])
 }
 
 // What the formula says.

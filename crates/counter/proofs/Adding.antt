@@ -3,6 +3,7 @@
 use mathlib.Core.Path.{_≡_, refl, sym, ap, ap₂, subst, _∙_, fun-ext}
 use mathlib.Core.Bool.{true, false}
 use mathlib.Core.List.{List, []}
+use mathlib.Core.Option.{Option}
 use Prim.Native.Nat.{ℕ, suc, _+_, _-_, _≤_, _<_}
 use native.Mathlib.Omega.{arith}
 use native.Mathlib.Numerals.{add-one}
@@ -10,30 +11,30 @@ use lib.Dec.{leb}
 use lib.IntN.{ℤ}
 use lib.ListN.{length, getD, set, take}
 use lib.Seq.{getD-take}
-use borrow.Author.Tests.{lt-ltb, le-ltb}
 use Rattle.integers.specs.Limits.{TASKS}
 use Rattle.integers.specs.Filling.{filled}
 use Rattle.integers.specs.Orders.{index, numbers, sort}
 use Rattle.scheduling.specs.Scheduling.{natural, Tasks, TaskSet, completion}
 use Rattle.trees.specs.declared.theta_tree.ThetaTree.{ThetaTree}
+use Rattle.trees.specs.Ects.{exceeds}
 use Rattle.trees.specs.Leaves.{Leaf, white, IsPlainTree}
 use Rattle.trees.specs.Mappings.{PlainNew}
 use Rattle.trees.specs.Nodes.{plainOf}
 use Rattle.trees.specs.Puts.{PlainPuttable, PlainPut}
 use Rattle.trees.specs.Shapes.{width, heightFor}
-use Rattle.trees.specs.Words.{plainAt}
-use Rattle.trees.proofs.Trees.{new-plain-tree, may-put-plain, was-put-plain, plain-root-of}
+use Rattle.trees.specs.Words.{plainEctIn}
+use Rattle.trees.proofs.Trees.{new-plain-tree, may-put-plain, was-put-plain, plain-ect-of}
 use Rattle.records.specs.declared.record.Propagator.{Propagator}
 use Rattle.records.specs.Orders.{SortedBy, byKey, noTasks, momentAt, completionAt, largestKey}
 use Rattle.records.specs.Records.{momentsIn}
 use Rattle.records.specs.Refusals.{AcceptedInput}
 use Rattle.records.proofs.Accepting.{count, completion-small, completions-are, completions-at}
 use Rattle.records.proofs.Sorted.{sorted-as}
-use Rattle.checker.specs.Formulas.{order, colours, ectOf}
-use Rattle.checker.specs.Holding.{Held}
-use Rattle.checker.proofs.Colouring.{limited, front-is}
-use Rattle.checker.proofs.Gathering.{by-order}
-use Rattle.checker.proofs.Ranging.{held as in-arrays, late}
+use Rattle.chosen_sets.specs.ChosenSets.{order, colours, ectOf}
+use Rattle.chosen_sets.specs.Holding.{Held}
+use Rattle.chosen_sets.proofs.Colouring.{limited, front-is}
+use Rattle.chosen_sets.proofs.Ects.{by-order}
+use Rattle.chosen_sets.proofs.Ranging.{held as in-arrays, late}
 use Rattle.counter.specs.Reading.{byCompletion, read, overloadsAt, answerFrom, answerOf}
 use Rattle.counter.specs.Holding.{noTask, Readable}
 use Rattle.counter.proofs.Reading.{by-completion, read-none, all-blank, next-coloured}
@@ -97,18 +98,8 @@ module _ {inner n : ℕ} {words mapping tasks est lct durations : List ℕ} (f :
         coloured = ap (λ (y : ℕ). set (colours J (read J k)) (index first y) white) is-next ∙ next-coloured J k inside ∙ ap (λ (m : ℕ). colours J (read J m)) (sym (add-one k))
 
     -- the test, by what the root says
-    module _ {now : List ℕ} (t : Shows (k + 1) now) (v : ℕ) (is : v ≡ plainAt now 0 .ect) where
-      root-is : v ≡ ectOf J (read J (suc k))
-      root-is = is ∙ ap (λ n. n .ect) (plain-root-of (limited (f .held)) t) ∙ ap (λ (m : ℕ). ectOf J (read J m)) (add-one k)
-
-      end-is : getD lct i 0 ≡ completion J (getD (byCompletion J) k 0)
-      end-is = f .ends i small ∙ ap (completion J) is-next
-
-      pub overloads : getD lct i 0 < v → overloadsAt J k ≡ true
-      overloads h = lt-ltb (completion J (getD (byCompletion J) k 0)) (ectOf J (read J (suc k))) (omega (arith, root-is, end-is))
-
-      pub fits : v ≤ getD lct i 0 → overloadsAt J k ≡ false
-      fits h = le-ltb (completion J (getD (byCompletion J) k 0)) (ectOf J (read J (suc k))) (omega (arith, root-is, end-is))
+    pub test-is : {now : List ℕ} → Shows (k + 1) now → (ect : Option ℕ) → ect ≡ plainEctIn now → exceeds ect (getD lct i 0) ≡ overloadsAt J k
+    test-is t ect is = ap₂ exceeds (is ∙ plain-ect-of (limited (f .held)) t ∙ ap (λ (m : ℕ). ectOf J (read J m)) (add-one k)) (f .ends i small ∙ ap (completion J) is-next)
 
 -- How the arrays come to hold the tasks -------------------------------------------------------------------------------------------
 

@@ -10,7 +10,7 @@ use native.Mathlib.Decide.{ℕ-discrete}
 use lib.Dec.{leb}
 use lib.ListN.{length, getD, set, take, replicate, length-take, length-map, length-set, length-replicate}
 use lib.Seq.{getD-take, ext-getD, getD-set-same, getD-set-other}
-use borrow.Author.Tests.{leb-true, ltb-true, lt-ltb}
+use borrow.Author.Tests.{leb-true}
 use Rattle.integers.specs.Orders.{index, has, Distinct, Permutes, numbers, Ordered}
 use Rattle.integers.proofs.Bools.{bool, clash}
 use Rattle.integers.proofs.Filling.{getD-fresh, getD-map-in}
@@ -19,8 +19,9 @@ use Rattle.integers.proofs.Sorting.{sort-permutes, sort-ordered, key-whole, key
 use Rattle.scheduling.specs.Scheduling.{natural, Tasks, Proper, TaskSet, In, NonEmpty, EstPlusP, Overloads, completion, processing}
 use Rattle.scheduling.proofs.Exists.{largest-at}
 use Rattle.trees.specs.Leaves.{empty, white}
-use Rattle.checker.specs.Formulas.{order, colours, ectOf}
-use Rattle.checker.proofs.Gathering.{by-order, order-size, ect-is}
+use Rattle.trees.proofs.Ects.{exceeds-yes, some-exceeds}
+use Rattle.chosen_sets.specs.ChosenSets.{order, colours, ectOf}
+use Rattle.chosen_sets.proofs.Ects.{by-order, order-size, ect-is, ect-some}
 use Rattle.counter.specs.Reading.{byCompletion, read, overloadsAt}
 
 -- The front of a list ----------------------------------------------------------------------------------------------------------
@@ -133,13 +134,10 @@ module _ (J : Tasks natural) where
 
     -- where their ect is past it, the part of them that attains the ect overloads
     pub shown : (k : ℕ) → k < J .count → overloadsAt J k ≡ true → (Ω : TaskSet) × Overloads J Ω
-    shown k q y = go (ect-is J (read J (suc k)) ok (some-read k q) .holds)
+    shown k q y = let (v, is, over) = exceeds-yes (ectOf J (read J (suc k))) (completion J (at k)) y in go v over (ect-is J (read J (suc k)) ok v .0 is .holds)
       where
-        over : completion J (at k) < ectOf J (read J (suc k))
-        over = ltb-true (completion J (at k)) (ectOf J (read J (suc k))) y
-
-        go : EstPlusP J (read J (suc k)) (ectOf J (read J (suc k))) → (Ω : TaskSet) × Overloads J Ω
-        go f =
+        go : (v : ℕ) → completion J (at k) < v → EstPlusP J (read J (suc k)) v → (Ω : TaskSet) × Overloads J Ω
+        go v over f =
             let (m, mm, mt) = largest-at J (f .part) (completion J) (f .est .holds .0, f .est .holds .1) in (
               f .part,
               record {
@@ -157,7 +155,8 @@ module _ (J : Tasks natural) where
         let (m, mm, mt) = largest-at J Ω place (o .lct .holds .0, o .lct .holds .1) in
         let k : ℕ = place m in
         let q : k < J .count = by-completion .placed m (mm .small) in
-        let bound : o .start + processing J Ω ≤ ectOf J (read J (suc k))
-        = ect-is J (read J (suc k)) ok (some-read k q) .bounds (o .start + processing J Ω) (record { part = Ω; within = λ j h. read-yes (suc k) j (h .small) (omega (arith, mt j h)); start = o .start; est = o .est; sum = refl }) in
+        let (v, is, largest) = ect-some J (read J (suc k)) ok (some-read k q) in
+        let bound : o .start + processing J Ω ≤ v
+        = largest .bounds (o .start + processing J Ω) (record { part = Ω; within = λ j h. read-yes (suc k) j (h .small) (omega (arith, mt j h)); start = o .start; est = o .est; sum = refl }) in
         let same : completion J (at k) ≡ completion J m = ap (completion J) (by-completion .there m (mm .small)) in
-        (k, q, lt-ltb (completion J (at k)) (ectOf J (read J (suc k))) (omega (arith, o .over, o .lct .bounds (completion J m) (m, mm, refl), bound, same)))
+        (k, q, some-exceeds (ectOf J (read J (suc k))) v (completion J (at k)) is (omega (arith, o .over, o .lct .bounds (completion J m) (m, mm, refl), bound, same)))

@@ -7,8 +7,8 @@ use lib.ListN.{getD}
 use Rattle.integers.specs.Orders.{index}
 use Rattle.scheduling.specs.Scheduling.{natural, Tasks, TaskSet, completion}
 use Rattle.trees.specs.Leaves.{IsPlainTree}
-use Rattle.checker.specs.Formulas.{order, colours}
-use Rattle.checker.specs.Holding.{Held}
+use Rattle.chosen_sets.specs.ChosenSets.{order, colours}
+use Rattle.chosen_sets.specs.Holding.{Held}
 use Rattle.counter.specs.Reading.{byCompletion}
 
 -- no task is in theta yet

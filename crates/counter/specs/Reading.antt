@@ -2,11 +2,12 @@
 use mathlib.Core.Bool.{Bool, true, false}
 use mathlib.Core.List.{List}
 use Prim.Native.Nat.{ℕ, zero, suc}
-use lib.Dec.{leb, ltb}
+use lib.Dec.{leb}
 use lib.ListN.{getD, take}
 use Rattle.integers.specs.Orders.{sort, numbers, has}
 use Rattle.scheduling.specs.Scheduling.{natural, Tasks, TaskSet, completion}
-use Rattle.checker.specs.Formulas.{ectOf}
+use Rattle.trees.specs.Ects.{exceeds}
+use Rattle.chosen_sets.specs.ChosenSets.{ectOf}
 use Rattle.counter.specs.declared.overload_test.Overload.{Overload}
 use Rattle.counter.specs.declared.overload_test.Overload.the-variants.{Yes, No}
 
@@ -21,7 +22,7 @@ module _ (J : Tasks natural) where
 
   -- with the task at place k read, the ect is past its latest completion
   abbrev pub overloadsAt : ℕ → Bool
-  overloadsAt k = ltb (completion J (getD byCompletion k 0)) (ectOf J (read (suc k)))
+  overloadsAt k = exceeds (ectOf J (read (suc k))) (completion J (getD byCompletion k 0))
 
   -- the answer, with k tasks read and d left
   unfoldable pub answerFrom : ℕ → ℕ → Overload

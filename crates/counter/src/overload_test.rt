@@ -47,7 +47,8 @@ fn read_tasks<'a>(
         };
         ThetaTree::add(nodes, inner, place, task);
         k += 1;
-        if ThetaTree::ect(nodes) > lct[i] {
+        let ect = ThetaTree::ect(nodes);
+        if ect.exceeds(lct[i]) {
             return Overload::Yes(k);
         }
     }

@@ -7,6 +7,7 @@ use lib.ListN.{take}
 use Rattle.integers.specs.Filling.{filled}
 use Rattle.integers.specs.Orders.{sort, insert, index, numbers, has}
 use Rattle.scheduling.specs.Scheduling.{total, processing}
+use Rattle.trees.specs.Ects.{decoded}
 use Rattle.trees.specs.Leaves.{root, responsible, theta}
 use Rattle.trees.specs.Nodes.{joinOf, isEmpty}
 use Rattle.trees.specs.Searches.{gray, tested, descentP, descentEct, stepP, stepEct, searchP, searchEct, thetaOf}
@@ -53,5 +54,5 @@ latest : List ℤ
 latest = pos 6 ∷ pos 1 ∷ pos 1 ∷ []
 
 emptied-first : (traceOf three earliest latest .end ≡ emptied) × (answerOf (momentsIn three earliest latest) ≡ Yes 2)
-unfolding three earliest latest filled sort insert index numbers has total processing root responsible theta joinOf isEmpty gray tested descentP descentEct stepP stepEct searchP searchEct thetaOf width heightFrom nodeOver propagate run outer inner conflict propagation bounds within tabulate answerFrom
+unfolding three earliest latest filled sort insert index numbers has total processing root responsible theta joinOf isEmpty gray tested descentP descentEct stepP stepEct searchP searchEct thetaOf width heightFrom nodeOver propagate run outer inner decoded conflict propagation bounds within tabulate answerFrom
 emptied-first = (refl, refl)

@@ -10,6 +10,7 @@ use Rattle.integers.specs.Orders.{sort, insert, index, numbers}
 use Rattle.integers.specs.Tests.{allBelow, refusal}
 use Rattle.scheduling.specs.Scheduling.{Atom, total, processing}
 use Rattle.scheduling.specs.Words.{atomWords}
+use Rattle.trees.specs.Ects.{decoded}
 use Rattle.trees.specs.Leaves.{root, responsible, theta}
 use Rattle.trees.specs.Nodes.{joinOf, isEmpty}
 use Rattle.trees.specs.Searches.{gray, tested, descentP, descentEct, stepP, stepEct, searchP, searchEct, thetaOf}
@@ -97,6 +98,6 @@ starred =
 
 -- Every one of them holds.
 pub starred-hold : AllHold starred
-unfolding filled sort insert index numbers allBelow refusal total processing atomWords root responsible theta joinOf isEmpty gray tested descentP descentEct stepP stepEct searchP searchEct thetaOf width heightFrom nodeOver atomsOf rightAtom rightWords rightLists acceptedDomain ascend tightenedLower tightenedUpper withoutLower withoutUpper withHole without crowded settled reduced has kept inserted firstFrom lastUpTo zeros accepted stepped appliedTo boundOf applyAll prepared propagate run outer inner conflict propagation bounds within tabulate any lowest highest overloaded implied checkOf
+unfolding filled sort insert index numbers allBelow refusal total processing atomWords root responsible theta joinOf isEmpty gray tested descentP descentEct stepP stepEct searchP searchEct thetaOf width heightFrom nodeOver decoded atomsOf rightAtom rightWords rightLists acceptedDomain ascend tightenedLower tightenedUpper withoutLower withoutUpper withHole without crowded settled reduced has kept inserted firstFrom lastUpTo zeros accepted stepped appliedTo boundOf applyAll prepared propagate run outer inner conflict propagation bounds within tabulate any lowest highest overloaded implied checkOf
 starred-hold =
     ((refl, refl, refl), ((refl, refl, refl), ((refl, refl, refl), ((refl, refl, refl), ((refl, refl, refl), ((refl, refl, refl), ((refl, refl, refl), (refl, (refl, (refl, (refl, tt)))))))))))

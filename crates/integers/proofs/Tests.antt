@@ -63,7 +63,7 @@ pub refusal-none : refusal [] ≡ 0
 unfolding refusal
 refusal-none = refl
 
--- the number is 0 where all are passed,
+-- the number is 0 where all are passed
 pub accepts : (ts : List Test) → AllPassed ts → refusal ts ≡ 0
 accepts [] h = refusal-none
 accepts (t ∷ ts) h = refusal-next t ts (h .0) ∙ accepts ts (h .1)
@@ -89,7 +89,7 @@ not-yes false h = refl
 other-cons : (t : Test) (ts : List Test) (n : ℕ) → other (t ∷ ts) n ≡ true → (t .number ≡ n → ⊥) × (other ts n ≡ true)
 other-cons t ts n h = let (p, q) = and-true (not (eqb (t .number) n)) (other ts n) h in (eqb-false (t .number) n (not-yes _ p), q)
 
--- and only there, as no test has the number 0
+-- the number is 0 only where all are passed, as no test has the number 0
 pub accepted : (ts : List Test) → other ts 0 ≡ true → refusal ts ≡ 0 → AllPassed ts
 accepted [] d h = tt
 accepted (t ∷ ts) d h = by (bool (t .passed)) (accepted ts (other-cons t ts 0 d .1))
@@ -144,11 +144,12 @@ module _ (ts : List Test) (t : Test) {F G : Type 0} (is : AllPassed ts ↔ F) (o
   pub more-refused : other ts (t .number) ≡ true → unused [] (t .number) ≡ true → refusal (ts ++ (t ∷ [])) ≡ t .number ↔ (F × (G → ⊥))
   more-refused d e = behind ts (t ∷ []) is d (λ _. first-refuses t [] own e)
 
+-- a test behind others that are passed
 pub refuses : (before : List Test) (t : Test) (after : List Test) → AllPassed before → t .passed ≡ false → refusal (before ++ (t ∷ after)) ≡ t .number
 refuses [] t after h q = refusal-here t after q
 refuses (b ∷ bs) t after h q = refusal-next b (bs ++ (t ∷ after)) (h .0) ∙ refuses bs t after (h .1) q
 
--- tests before others: the first number that they give, and else that of the others
+-- tests before others: the first number that they give
 pub refusal-before : (ts us : List Test) → (refusal ts ≡ 0 → ⊥) → refusal (ts ++ us) ≡ refusal ts
 refusal-before [] us h = absurd (h refusal-none)
 refusal-before (t ∷ ts) us h = by (bool (t .passed)) (refusal-before ts us)

@@ -7,6 +7,7 @@ use Rattle.integers.specs.Filling.{filled}
 use Rattle.integers.specs.Orders.{numbers as upTo, sort, insert, index}
 use Rattle.integers.specs.Tests.{allBelow, refusal}
 use Rattle.scheduling.specs.Scheduling.{total}
+use Rattle.trees.specs.Ects.{decoded}
 use Rattle.trees.specs.Leaves.{root, responsible, theta}
 use Rattle.trees.specs.Nodes.{joinOf, isEmpty}
 use Rattle.trees.specs.Searches.{gray, tested, descentP, descentEct, stepP, stepEct, searchP, searchEct, thetaOf}
@@ -27,7 +28,7 @@ abbrev output : List ℕ
 output = 112 ∷ 111 ∷ 115 ∷ 116 ∷ 32 ∷ 50 ∷ 32 ∷ 57 ∷ 10 ∷ 119 ∷ 104 ∷ 121 ∷ 32 ∷ 48 ∷ 32 ∷ 62 ∷ 61 ∷ 32 ∷ 48 ∷ 10 ∷ 119 ∷ 104 ∷ 121 ∷ 32 ∷ 48 ∷ 32 ∷ 60 ∷ 61 ∷ 32 ∷ 55 ∷ 10 ∷ 119 ∷ 104 ∷ 121 ∷ 32 ∷ 49 ∷ 32 ∷ 62 ∷ 61 ∷ 32 ∷ 48 ∷ 10 ∷ 119 ∷ 104 ∷ 121 ∷ 32 ∷ 49 ∷ 32 ∷ 60 ∷ 61 ∷ 32 ∷ 54 ∷ 10 ∷ 119 ∷ 104 ∷ 121 ∷ 32 ∷ 50 ∷ 32 ∷ 62 ∷ 61 ∷ 32 ∷ 48 ∷ 10 ∷ 100 ∷ 111 ∷ 110 ∷ 101 ∷ 32 ∷ 48 ∷ 32 ∷ 49 ∷ 32 ∷ 57 ∷ 10 ∷ []
 
 instance-A : printed input ≡ output
-unfolding printed answered inputTasks triples sign postLine whyLine lines doneLine overloadLines runLines refusedLine figures natural decimal space stretches nonEmpty tokens digit digits value ranged unsigned numberOf before numbers numbersOf unusedAt lawfulRecord propagate run outer inner conflict propagation bounds within tabulate width heightFrom nodeOver gray tested descentP descentEct stepP stepEct searchP searchEct thetaOf joinOf isEmpty root responsible theta total allBelow refusal upTo sort insert index filled
+unfolding printed answered inputTasks triples sign postLine whyLine lines doneLine overloadLines runLines refusedLine figures natural decimal space stretches nonEmpty tokens digit digits value ranged unsigned numberOf before numbers numbersOf unusedAt lawfulRecord propagate run outer inner decoded conflict propagation bounds within tabulate width heightFrom nodeOver gray tested descentP descentEct stepP stepEct searchP searchEct thetaOf joinOf isEmpty root responsible theta total allBelow refusal upTo sort insert index filled
 instance-A = refl
 
 -- "refused 0"

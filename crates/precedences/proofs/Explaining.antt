@@ -2,11 +2,11 @@
 -- Assumes nothing.
 use mathlib.Core.Path.{_≡_, refl, sym, ap, subst, _∙_}
 use mathlib.Core.Bool.{Bool, true, false}
+use mathlib.Core.Logic.{inl, inr}
 use mathlib.Core.List.{List, [], _∷_}
 use mathlib.Core.Option.{Option}
 use Prim.Native.Nat.{ℕ, _+_, _*_, _≤_, _<_}
 use native.Mathlib.Omega.{arith}
-use native.Mathlib.Decide.{decLt}
 use lib.IntN.{ℤ, pos}
 use lib.Signed.{_≤ℤ_, clashℤ}
 use lib.ListN.{length, getD, replicate}
@@ -17,11 +17,13 @@ use Rattle.integers.specs.Filling.{filled}
 use Rattle.integers.specs.Limits.{TASKS}
 use Rattle.integers.specs.Moments.{instant, zeroAt}
 use Rattle.integers.specs.Words.{overwritten}
+use Rattle.integers.proofs.Bools.{bool, clash}
 use Rattle.integers.proofs.Moments.{instant-moment}
 use Rattle.integers.proofs.Words.{overwrites}
 use Rattle.scheduling.specs.Scheduling.{whole, natural, Tasks, TaskSet, In, Atom, Meets, HoldsAtEntry, Contradicts}
 use Rattle.scheduling.specs.Words.{atomWords}
 use Rattle.scheduling.proofs.Words.{atoms-none, atoms-more, atoms-length}
+use Rattle.trees.specs.Ects.{exceeds}
 use Rattle.explanations.specs.Explanations.{Stored}
 use Rattle.explanations.proofs.Storing.{stored-then}
 use Rattle.records.specs.declared.record.Propagator.{Propagator}
@@ -106,19 +108,23 @@ module _ {n : ℕ} {est lst durations : List ℕ} (f : Ranged n est lst duration
   pub members-fit : (size : ℕ) → 6 * n ≤ size → 3 * (1 + length (bothBounds (startAt est) (startAt lst) (memberAt before) n)) ≤ size
   members-fit size h = omega (arith, fewer (startAt est) (startAt lst) (memberAt before) i n q own-out)
 
-  pub reason-left : {l m o : List ℤ} {r v : ℕ} → v ≡ boundAt (f .J) i → getD est i 0 < v → m ≡ sets l (3 * 0) (pos i ∷ pos 0 ∷ instant zeroAt (getD est i 0) ∷ [])
+  -- the test of the array's start
+  from-start : {b : Bool} → exceeds (boundAt (f .J) i) (getD est i 0) ≡ b → exceeds (boundAt (f .J) i) (N .earliest i) ≡ b
+  from-start h = ap (exceeds (boundAt (f .J) i)) (sym (f .held .start i q)) ∙ h
+
+  pub reason-left : {l m o : List ℤ} {r : ℕ} → exceeds (boundAt (f .J) i) (getD est i 0) ≡ true → m ≡ sets l (3 * 0) (pos i ∷ pos 0 ∷ instant zeroAt (getD est i 0) ∷ [])
       → Stored m o 1 r (bothBounds (startAt est) (startAt lst) (memberAt before) n) → ReasonLeft (f .J) i l r o
-  reason-left {l} {m} {o} {r} {v} z h p t =
+  reason-left {l} {m} {o} {r} h p t =
       let s : Stored l o 0 r (atLeast i (instant zeroAt (getD est i 0)) ∷ bothBounds (startAt est) (startAt lst) (memberAt before) n) = stored-then (atom-stored (atLeast i (instant zeroAt (getD est i 0))) p) t in
       let own : instant zeroAt (getD est i 0) ≡ instant zeroAt (N .earliest i) = ap (instant zeroAt) (f .held .start i q) in
       record {
-        some = λ _. subst (λ (x : ℤ). Stored l o 0 r (atLeast i x ∷ bothBounds (λ k. instant zeroAt (N .earliest k)) (λ k. instant zeroAt (N .latest k)) (comesBefore N i) (N .count))) own
+        written = λ _. subst (λ (x : ℤ). Stored l o 0 r (atLeast i x ∷ bothBounds (λ k. instant zeroAt (N .earliest k)) (λ k. instant zeroAt (N .latest k)) (comesBefore N i) (N .count))) own
             (subst (λ (xs : List Atom). Stored l o 0 r (atLeast i (instant zeroAt (getD est i 0)) ∷ xs)) members-are s);
-        none = λ k. absurd (omega (arith, f .held .start i q));
+        nothing = λ k. clash (from-start h) k;
       }
 
-  pub nothing-left : {l : List ℤ} {v : ℕ} → v ≡ boundAt (f .J) i → v ≤ getD est i 0 → ReasonLeft (f .J) i l 0 l
-  nothing-left z h = record { some = λ k. absurd (omega (arith, f .held .start i q)); none = λ _. (refl, refl) }
+  pub nothing-left : {l : List ℤ} → exceeds (boundAt (f .J) i) (getD est i 0) ≡ false → ReasonLeft (f .J) i l 0 l
+  nothing-left h = record { written = λ k. clash k (from-start h); nothing = λ _. (refl, refl) }
 
 -- The accepted call.
 module _ (r : Propagator) (es ls : List ℤ) (a : AcceptedInput r es ls) (long : length (r .durations) ≡ TASKS) (i : ℕ) where
@@ -146,22 +152,22 @@ module _ (r : Propagator) (es ls : List ℤ) (a : AcceptedInput r es ls) (long :
       enough : length (atomWords (reasonOf Z i)) ≤ length ws
       enough = omega (arith, atoms-length (reasonOf Z i), few Z i q, b .room, count r es ls a long)
 
-      stands : M .earliest i < boundAt M i → (answered 0 (pos c ∷ []) ≡ answered 0 (pos (length (reasonOf Z i)) ∷ [])) × (ws′ ≡ overwritten ws (atomWords (reasonOf Z i)))
+      stands : exceeds (boundAt M i) (M .earliest i) ≡ true → (answered 0 (pos c ∷ []) ≡ answered 0 (pos (length (reasonOf Z i)) ∷ [])) × (ws′ ≡ overwritten ws (atomWords (reasonOf Z i)))
       stands h =
-          let s : Stored ws ws′ 0 c (reasonOf Z i) = subst (Stored ws ws′ 0 c) same-reason (left .some h) in
+          let s : Stored ws ws′ 0 c (reasonOf Z i) = subst (Stored ws ws′ 0 c) same-reason (left .written h) in
           let z : c ≡ length (reasonOf Z i) = omega (arith, s .count) in
           (ap (λ (n : ℕ). reasonNumbers (Written n)) z, s .words ∙ overwrites ws (atomWords (reasonOf Z i)) enough)
 
       written : Raises Z i → (answered 0 (pos c ∷ []) ≡ answered 0 (pos (length (reasonOf Z i)) ∷ [])) × (ws′ ≡ overwritten ws (atomWords (reasonOf Z i)))
-      written w = elim (decLt (M .earliest i) (boundAt M i)) [
-        | yes h ↦ stands h
-        | no h ↦ absurd (clashℤ (w .above) (raises-not Z (proper-whole r es ls a long) (above r es ls a long) i q (omega arith) (w .bound) (w .is-bound)))
+      written w = elim (bool (exceeds (boundAt M i) (M .earliest i))) [
+        | inl h ↦ stands h
+        | inr h ↦ absurd (clashℤ (w .above) (raises-not Z (proper-whole r es ls a long) (above r es ls a long) i q h (w .bound) (w .is-bound)))
       ]
 
       nothing : (Raises Z i → ⊥) → (answered 0 (pos c ∷ []) ≡ answered 0 (pos 0 ∷ [])) × (ws′ ≡ ws)
-      nothing no-raise = elim (decLt (M .earliest i) (boundAt M i)) [
-        | yes h ↦ (let w = raises Z (proper-whole r es ls a long) (above r es ls a long) i q h in absurd (no-raise (record { bound = w .0; is-bound = w .1; above = w .2 })))
-        | no h ↦ (let w = left .none (omega arith) in (ap (λ (n : ℕ). reasonNumbers (Written n)) (w .0), w .1))
+      nothing no-raise = elim (bool (exceeds (boundAt M i) (M .earliest i))) [
+        | inl h ↦ (let w = raises Z (proper-whole r es ls a long) (above r es ls a long) i q h in absurd (no-raise (record { bound = w .0; is-bound = w .1; above = w .2 })))
+        | inr h ↦ (let w = left .nothing h in (ap (λ (n : ℕ). reasonNumbers (Written n)) (w .0), w .1))
       ]
 
 -- The contract, of a call that is accepted, and of others.

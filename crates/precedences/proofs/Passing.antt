@@ -22,12 +22,13 @@ use Rattle.records.specs.Records.{tasksIn, momentsIn}
 use Rattle.records.specs.Refusals.{AcceptedInput, inputNumber}
 use Rattle.records.proofs.Accepting.{count, proper-whole, proper, above}
 use Rattle.records.proofs.Refused.{accepted-input}
-use Rattle.checker.proofs.Ranging.{held, late}
+use Rattle.trees.proofs.Ects.{past-by-bound, within-bound}
+use Rattle.chosen_sets.proofs.Ranging.{held, late}
 use Rattle.precedences.specs.declared.answers.Precedences.{Precedences}
 use Rattle.precedences.specs.declared.answers.Precedences.the-variants.{Done, Emptied}
 use Rattle.precedences.specs.Numbers.{precedencesNumbers}
 use Rattle.precedences.specs.Precedences.{PrecedenceBound, FirstEmptied, NoneEmptied, LeftPrecedences, RanPrecedences}
-use Rattle.precedences.specs.Holding.{raisedAt, startAt, Ranged, FirstPast}
+use Rattle.precedences.specs.Holding.{boundAt, raisedAt, startAt, Ranged, FirstPast}
 use Rattle.precedences.proofs.Soundness.{before-sound, bound-sound}
 use Rattle.precedences.proofs.Bounding.{passes, fits, raised-is}
 
@@ -99,11 +100,11 @@ module _ (r : Propagator) (es ls : List ℤ) (a : AcceptedInput r es ls) (long :
     latest-at k q = ranged .late .at k q
 
     not-past : (k : ℕ) → k < r .count → k < i → (b : ℤ) → PrecedenceBound Z k b → b ≤ℤ Z .latest k
-    not-past k q h = fits Z fine (above r es ls a long) k (known q) (omega (arith, p .none-before k h, raised-at k q, latest-at k q))
+    not-past k q h = fits Z fine (above r es ls a long) k (known q) (within-bound (M .earliest k) (M .latest k) (boundAt M k) (omega (arith, p .none-before k h, raised-at k q, latest-at k q)))
 
     pub some-past : i < r .count → LeftPrecedences (tasksIn r es ls) es (Emptied i) es
     some-past q =
-        let w = passes Z fine (above r es ls a long) i (known q) (omega (arith, p .past q, raised-at i q, latest-at i q, proper r es ls a long .ranges i (known q))) in
+        let w = passes Z fine (above r es ls a long) i (known q) (past-by-bound (M .earliest i) (M .latest i) (boundAt M i) (proper r es ls a long .ranges i (known q)) (omega (arith, p .past q, raised-at i q, latest-at i q))) in
         ended-emptied Z fine es i (record { small = known q; bound = w .0; is-bound = w .1; passes = w .2; lowest = λ k h. not-past k (omega arith) h })
 
     pub none-past : r .count ≤ i → {es′ : List ℤ} → es′ ≡ filled (startAt raised) (length es) es → LeftPrecedences (tasksIn r es ls) es Done es′

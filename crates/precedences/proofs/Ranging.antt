@@ -10,7 +10,7 @@ use Rattle.integers.specs.Limits.{TASKS}
 use Rattle.integers.specs.Filling.{filled}
 use Rattle.integers.proofs.Filling.{filled-at}
 use Rattle.scheduling.proofs.Sets.{total-part}
-use Rattle.checker.specs.Holding.{Held}
+use Rattle.chosen_sets.specs.Holding.{Held}
 use Rattle.precedences.specs.Holding.{precedesAt, comesBefore, Ranged}
 
 module _ {n : ℕ} {est lst durations : List ℕ} (f : Ranged n est lst durations) (i : ℕ) (q : i < n) where

@@ -1,16 +1,18 @@
 -- What the code holds: the tasks in arrays, over moments, and what it finds there.
 use mathlib.Core.Path.{_≡_}
-use mathlib.Core.Bool.{Bool, false, not, _&&_}
+use mathlib.Core.Bool.{Bool, true, false, not, _&&_}
 use mathlib.Core.List.{List, [], _∷_}
-use Prim.Native.Nat.{ℕ, _+_, _≤_, _<_, max}
+use mathlib.Core.Option.{Option}
+use Prim.Native.Nat.{ℕ, _+_, _≤_, _<_}
 use lib.Dec.{eqb, ltb}
 use lib.IntN.{ℤ}
 use lib.ListN.{getD}
 use Rattle.integers.specs.Moments.{instant, zeroAt}
 use Rattle.scheduling.specs.Scheduling.{natural, Tasks, TaskSet, Atom}
 use Rattle.explanations.specs.Explanations.{Stored}
-use Rattle.checker.specs.Formulas.{ectOf}
-use Rattle.checker.specs.Holding.{Held, Late}
+use Rattle.trees.specs.Ects.{exceeds, raisedTo}
+use Rattle.chosen_sets.specs.ChosenSets.{ectOf}
+use Rattle.chosen_sets.specs.Holding.{Held, Late}
 use Rattle.precedences.specs.Reasons.{atLeast, bothBounds}
 
 -- task j of the arrays must come before task i
@@ -22,13 +24,13 @@ module _ (J : Tasks natural) (i : ℕ) where
   abbrev pub comesBefore : TaskSet
   comesBefore j = not (eqb j i) && ltb (J .latest j) (J .earliest i + J .duration i)
 
-  -- their ect, 0 where there are none
-  abbrev pub boundAt : ℕ
+  -- their ect, or none where there are none
+  abbrev pub boundAt : Option ℕ
   boundAt = ectOf J comesBefore
 
   -- the earliest start, raised
   abbrev pub raisedAt : ℕ
-  raisedAt = max (J .earliest i) boundAt
+  raisedAt = raisedTo (J .earliest i) boundAt
 
 -- The arrays hold the ranges and the durations of n tasks.
 pub record Ranged (n : ℕ) (est lst durations : List ℕ) : Type 0 where
@@ -55,5 +57,5 @@ abbrev pub reasonAt : Tasks natural → ℕ → List Atom
 reasonAt J i = atLeast i (instant zeroAt (J .earliest i)) ∷ bothBounds (λ k. instant zeroAt (J .earliest k)) (λ k. instant zeroAt (J .latest k)) (comesBefore J i) (J .count)
 
 pub record ReasonLeft (J : Tasks natural) (i : ℕ) (ws : List ℤ) (count : ℕ) (ws′ : List ℤ) : Type 0 where
-  pub some : J .earliest i < boundAt J i → Stored ws ws′ 0 count (reasonAt J i)
-  pub none : boundAt J i ≤ J .earliest i → (count ≡ 0) × (ws′ ≡ ws)
+  pub written : exceeds (boundAt J i) (J .earliest i) ≡ true → Stored ws ws′ 0 count (reasonAt J i)
+  pub nothing : exceeds (boundAt J i) (J .earliest i) ≡ false → (count ≡ 0) × (ws′ ≡ ws)

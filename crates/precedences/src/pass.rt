@@ -5,7 +5,6 @@ use integers::start_of;
 use records::orders::moments_of;
 use records::record::Propagator;
 use records::refusals::input_refusal;
-use trees::complete_tree::max;
 ghost use mathlib.Core.Path.{_≡_};
 ghost use Prim.Native.Nat.{_≤_};
 ghost use lib.ListN.{length};
@@ -30,7 +29,8 @@ fn raised_starts<'a>(
     let mut raised = [0u32; 48];
     let mut i = 0;
     while i < n {
-        raised[i] = max(est[i], bound_of(est, lst, durations, n, i));
+        let bound = bound_of(est, lst, durations, n, i);
+        raised[i] = bound.raised(est[i]);
         i += 1;
     }
     raised

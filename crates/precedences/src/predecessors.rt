@@ -1,5 +1,6 @@
 // The tasks that must come before a task, and their ect. Starts are moments.
-use checker::theta::theta_ect;
+use chosen_sets::theta::theta_ect;
+use trees::earliest_completion::Ect;
 ghost use mathlib.Core.Path.{_≡_};
 ghost use mathlib.Core.Bool.{not, _&&_, false};
 ghost use Prim.Native.Nat.{_+_, _<_, _≤_};
@@ -7,6 +8,7 @@ ghost use lib.Dec.{eqb, ltb};
 ghost use lib.ListN.{getD, replicate};
 ghost use Rattle.integers.specs.Filling.{filled};
 ghost use Rattle.integers.specs.Limits.{TASKS};
+ghost use Rattle.trees.specs.Ects.{momentOf};
 ghost use Rattle.precedences.specs.Holding.{precedesAt, boundAt, Ranged};
 
 // Whether task j, with its latest start, must come before task i, which ends at `end` or later.
@@ -40,16 +42,16 @@ pub fn predecessors<'a>(
     before
 }
 
-// The ect of the tasks that must come before task i; 0 where there are none.
+// The ect of the tasks that must come before task i, or that there are none.
 pub fn bound_of<'a>(
     est: &'a [u32; 48],
     lst: &'a [u32; 48],
     durations: &'a [u32; 48],
     n: usize,
     i: usize,
-) -> u32
+) -> Ect
     requires { ⌜ Ranged n (now est) (now lst) (now durations) × (i < n) ⌝ }
-    ensures { λ r. ⌜ ((f : Ranged n (now (est .entry)) (now (lst .entry)) (now (durations .entry))) → r ≡ boundAt (f .J) i) ⌝ }
+    ensures { λ r. ⌜ ((f : Ranged n (now (est .entry)) (now (lst .entry)) (now (durations .entry))) → momentOf r ≡ boundAt (f .J) i) ⌝ }
 {
     let before = predecessors(est, lst, durations, n, i);
     theta_ect(&before, est, durations, n)

@@ -1,7 +1,7 @@
 // The reason of one task's bound, written as atoms.
 use crate::answers::Reason;
 use crate::predecessors::predecessors;
-use checker::theta::theta_ect;
+use chosen_sets::theta::theta_ect;
 use explanations::AT_LEAST;
 use explanations::AT_MOST;
 use explanations::write_atom;
@@ -67,7 +67,8 @@ fn write_reason<'a>(
 {
     let before = predecessors(est, lst, durations, n, i);
     let start = est[i];
-    if theta_ect(&before, est, durations, n) <= start {
+    let ect = theta_ect(&before, est, durations, n);
+    if !ect.exceeds(start) {
         return 0;
     }
     write_atom(atoms, 0, i, AT_LEAST, start);

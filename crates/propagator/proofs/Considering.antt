@@ -11,18 +11,20 @@ use lib.Dec.{ltb}
 use lib.IntN.{ℤ, pos}
 use lib.ListN.{length, getD, set, length-append, length-map}
 use lib.Seq.{sets, length-sets}
-use borrow.Author.Tests.{lt-ltb, le-ltb}
+use borrow.Author.Tests.{ltb-true, lt-ltb, le-ltb}
 use Rattle.integers.specs.Limits.{TASKS}
 use Rattle.integers.specs.Moments.{instant, zeroAt}
 use Rattle.integers.specs.Orders.{index}
 use Rattle.scheduling.specs.Scheduling.{natural, Tasks, Proper, TaskSet, Atom, completion}
 use Rattle.trees.specs.declared.theta_lambda_tree.Node.{Node}
+use Rattle.trees.specs.Ects.{exceeds}
 use Rattle.trees.specs.Leaves as leaves
 use Rattle.trees.specs.Leaves.{Leaf, empty, startAt, durationAt, leafNode}
 use Rattle.trees.specs.Nodes.{emptyOf}
 use Rattle.trees.specs.Puts.{Puttable, Put}
 use Rattle.trees.specs.Searches.{thetaIn}
 use Rattle.trees.specs.Words.{nodeAt}
+use Rattle.trees.proofs.Ects.{exceeds-decoded}
 use Rattle.trees.proofs.Heights.{room as room-for}
 use Rattle.trees.proofs.Roots as tree
 use Rattle.trees.proofs.Trees.{may-put, was-put, root-of, theta-of}
@@ -127,7 +129,7 @@ module _ {n inn height lct : ℕ} {words : List ℕ} {es ps as′ : List ℤ} {w
   pub root-is : nodeAt words 0 ≡ leaves.root J first ls
   root-is = root-of (G .limited) (s .at .tree)
 
-  pub ect-is : nodeAt words 0 .ect ≡ leaves.ect J first ls
+  pub ect-is : nodeAt words 0 .ect ≡ leaves.rootEct J first ls
   ect-is = ap (λ (r : Node). r .ect) root-is
 
   pub sum-is : sumIn words ≡ leaves.sum J first ls
@@ -173,7 +175,7 @@ module _ {n inn height lct : ℕ} {words : List ℕ} {es ps as′ : List ℤ} {w
       few-reasons = subst (λ (n : ℕ). length (reasons (s .st .posts)) + length (s .st .posts) ≤ length (s .st .posts) * (2 * n)) (s .arrays .count)
           (room.reasons-short zeroAt J (G .proper) first second (G .by-earliest) (G .by-completion) (s .st .posts) (inv .good))
 
-  pub over-asked : lct < leaves.ect J first ls → Overloaded (length as′) (w .atoms) (thetaIn words inn tasks n) est dur (sumIn words) lct
+  pub over-asked : lct < leaves.rootEct J first ls → Overloaded (length as′) (w .atoms) (thetaIn words inn tasks n) est dur (sumIn words) lct
   over-asked q = overloaded-at theta-is sum-is (s .ends)
       (meeting.overloaded J first second G est dur (held (s .arrays .starts)) (held (s .arrays .durations)) t ls Λ shape (s .small) (length as′) (w .atoms) (omega (arith, q, s .ends)) over-room)
 
@@ -182,7 +184,7 @@ module _ {n inn height lct : ℕ} {words : List ℕ} {es ps as′ : List ℤ} {w
       ∙ conflict-same zeroAt (starting est dur) J (completion J (getD second t 0)) (leaves.sum J first ls) (leaves.theta J first ls)
       (λ y q. meeting.alike J first second G est dur (held (s .arrays .starts)) (held (s .arrays .durations)) (getD (leaves.theta J first ls) y 0) (meeting.each-listed J first second G est dur (held (s .arrays .starts)) (held (s .arrays .durations)) t ls Λ shape (s .small) y q))
 
-  pub ect-scan : leaves.ect J first ls ≡ steps.E zeroAt J (G .proper) first second (G .by-earliest) (G .by-completion) Θ
+  pub ect-scan : leaves.rootEct J first ls ≡ steps.E zeroAt J (G .proper) first second (G .by-earliest) (G .by-completion) Θ
   ect-scan = tree.ect-is J (G .proper) first (G .by-earliest) ls Θ Λ shape
 
   -- the task of the level may leave Theta
@@ -217,11 +219,11 @@ module _ {n inn height lct : ℕ} {words : List ℕ} {es ps as′ : List ℤ} {w
     found : tree.Found J (G .proper) first (G .by-earliest) ls Θ Λ shape x
     found = tree.one-found J (G .proper) first (G .by-earliest) ls Θ Λ shape x (r .found)
 
-    over : completion J (getD second t 0) < leaves.ect-bar J first ls
-    over = omega (arith, r .over, s .ends)
+    passes : ltb (completion J (getD second t 0)) (leaves.rootEctBar J first ls) ≡ true
+    passes = sym (exceeds-decoded (leaves.rootEctBar J first ls) (completion J (getD second t 0))) ∙ ap (exceeds (leaves.ect-bar J first ls)) (sym (s .ends)) ∙ r .over
 
-    passes : ltb (completion J (getD second t 0)) (leaves.ect-bar J first ls) ≡ true
-    passes = lt-ltb (completion J (getD second t 0)) (leaves.ect-bar J first ls) over
+    over : completion J (getD second t 0) < leaves.rootEctBar J first ls
+    over = ltb-true (completion J (getD second t 0)) (leaves.rootEctBar J first ls) passes
 
     pub small : i < n
     small = omega (arith, r .task, found .gray .small, s .arrays .count)
@@ -281,7 +283,7 @@ module _ {n inn height lct : ℕ} {words : List ℕ} {es ps as′ : List ℤ} {w
     cleared words′ q = was-put (G .limited) (s .at .tree) x (found .small) empty refl (subst (λ (k : ℕ). Put inn words words′ k emptyOf) leaf q)
 
     module _ (b : ℕ) (is : b ≡ nodeAt words 0 .ect) where
-      bound-is : b ≡ leaves.ect J first ls
+      bound-is : b ≡ leaves.rootEct J first ls
       bound-is = is ∙ ect-is
 
       -- what `post` asks
@@ -290,7 +292,7 @@ module _ {n inn height lct : ℕ} {words : List ℕ} {es ps as′ : List ℤ} {w
           (meeting.preceded J first second G est dur (held (s .arrays .starts)) (held (s .arrays .durations)) t ls Λ shape (s .small) (length as′) (w .atoms) x found over (omega (arith, up, task-start, bound-is)) atom-room)
 
       abbrev ect : ℕ
-      ect = leaves.ect J first ls
+      ect = leaves.rootEct J first ls
 
       abbrev now : List Atom
       now = propagation zeroAt J (T x) ect (completion J (getD second t 0)) (leaves.sum J first ls) (leaves.theta J first ls)

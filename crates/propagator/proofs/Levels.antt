@@ -14,10 +14,12 @@ use Rattle.integers.specs.Limits.{TASKS}
 use Rattle.integers.specs.Moments.{instant, zeroAt}
 use Rattle.integers.specs.Orders.{index}
 use Rattle.scheduling.specs.Scheduling.{natural, Tasks, Atom, completion}
+use Rattle.trees.specs.Ects.{exceeds}
 use Rattle.trees.specs.Leaves as leaves
 use Rattle.trees.specs.Leaves.{gray}
 use Rattle.trees.specs.Searches.{thetaIn}
 use Rattle.trees.specs.Words.{nodeAt}
+use Rattle.trees.proofs.Ects.{exceeds-decoded}
 use Rattle.runs.specs.Traces.{Trace, End, done, overload, emptied}
 use Rattle.runs.specs.Runs.{State, Turn, conflict, inner, outer, run, ended, grayed, allWhite}
 use Rattle.scheduling.specs.Words.{atomWords}
@@ -142,7 +144,7 @@ module _ {n inn height : ℕ} {words : List ℕ} {es ps as′ : List ℤ} {est l
       next = omega arith
 
       abbrev ect : ℕ
-      ect = leaves.ect J first (v .st .leaves)
+      ect = leaves.rootEct J first (v .st .leaves)
 
       abbrev end : ℕ
       end = completion J (getD second t 0)
@@ -190,11 +192,14 @@ module _ {n inn height : ℕ} {words : List ℕ} {es ps as′ : List ℤ} {est l
         ends-d = let one : t + 1 ≡ suc t = omega arith in let k-small : getD second (suc t) 0 < n = omega (arith, G .by-completion .task (suc t) (omega (arith, more, s .arrays .count)), s .arrays .count) in
             is-d ∙ ap (λ (u : ℕ). getD lct (getD candidates u 0) 0) one ∙ ap (λ (k : ℕ). getD lct k 0) (s .order .at (suc t) (omega arith)) ∙ s .completions .at (getD second (suc t) 0) k-small
 
-        pub quiet-here : leaves.ect J first (v .st .leaves) ≤ end
+        pub quiet-here : leaves.rootEct J first (v .st .leaves) ≤ end
         quiet-here = omega (arith, quiet, ect-is, c-is)
 
         pub not-over : ltb end ect ≡ false
         not-over = le-ltb end ect quiet-here
+
+        pub still : exceeds (leaves.ect J first (v .st .leaves)) end ≡ false
+        still = exceeds-decoded ect end ∙ not-over
 
         -- which the source makes in two leaf changes
         abbrev pub goes-on : Standing n inn height d words″ es′ ps′ bs (record { posts = w′ .posts; atoms = w′ .atoms; changes = w′ .changes + 2 }) est lst dur tasks mapping
@@ -213,7 +218,7 @@ module _ {n inn height : ℕ} {words : List ℕ} {es ps as′ : List ℤ} {est l
           ends = ends-d;
           post-room = s .post-room;
           atom-room = s .atom-room;
-          reached = moved t (v .st) (v .entered) not-over;
+          reached = moved t (v .st) (v .entered) still;
           at = record { tree = subst (λ (k : ℕ). leaves.IsTree J first (set (v .st .leaves) k gray) inn words″) (considering.gray-place here j j-is) (m moves); starts = v .at .starts; posts = v .at .posts; atoms = v .at .atoms; posted = v .at .posted; explained = v .at .explained; counted = ap (λ (c : ℕ). c + 2) (v .at .counted) };
         }
 
@@ -229,7 +234,7 @@ module _ {n inn height : ℕ} {words : List ℕ} {es ps as′ : List ℤ} {est l
           st = st′;
           small = omega arith;
           at = a;
-          entered = follows t (v .st) st′ (v .entered) not-over (inner-is z);
+          entered = follows t (v .st) st′ (v .entered) still (inner-is z);
           rest = unfold-level ∙ outer-on zeroAt J first second (n - 1 - suc t) t (v .st) st′ not-over (inner-is z);
         })
           where

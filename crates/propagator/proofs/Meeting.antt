@@ -16,7 +16,7 @@ use Rattle.integers.proofs.Bools.{bool}
 use Rattle.integers.proofs.Permutations.{has-at}
 use Rattle.scheduling.specs.Scheduling.{natural, Tasks, Proper, TaskSet, In, completion, processing}
 use Rattle.scheduling.proofs.Processing.{processing-mono, processing-less}
-use Rattle.trees.specs.Leaves.{Leaf, whiteAt, taskAt, ect, ect-bar, sum, theta}
+use Rattle.trees.specs.Leaves.{Leaf, whiteAt, taskAt, rootEct, rootEctBar, sum, theta}
 use Rattle.trees.specs.Searches.{thetaOf}
 use Rattle.trees.proofs.Roots as tree
 use Rattle.trees.proofs.Thetas.{theta-none, theta-white, theta-skip, theta-is}
@@ -128,7 +128,7 @@ module _ (J : Tasks natural) (first second : List ℕ) (G : Ordered J first seco
     ends-fit = G .fits (getD second t 0) (G .by-completion .task t small)
 
     -- an overload
-    pub overloaded : (size k : ℕ) → c < ect J first ls → 3 * k + 6 * length θ ≤ size → Overloaded size k θ est dur (sum J first ls) c
+    pub overloaded : (size k : ℕ) → c < rootEct J first ls → 3 * k + 6 * length θ ≤ size → Overloaded size k θ est dur (sum J first ls) c
     overloaded size k over room =
         let o = stops.overload-stops zeroAt J ok first second (G .by-earliest) (G .by-completion) t ls Λ s small over in
         let (q, z, l) = at-spot (o .at) (o .inside) (o .white) in
@@ -141,8 +141,8 @@ module _ (J : Tasks natural) (first second : List ℕ) (G : Ordered J first seco
         }
 
     -- a post
-    pub preceded : (size k x : ℕ) → tree.Found J ok first (G .by-earliest) ls Θ Λ s x → c < ect-bar J first ls → J .earliest (T x) < ect J first ls → 3 * k + 6 * length θ + 3 ≤ size
-        → Preceded size k θ est dur (sum J first ls) c (T x) (ect J first ls)
+    pub preceded : (size k x : ℕ) → tree.Found J ok first (G .by-earliest) ls Θ Λ s x → c < rootEctBar J first ls → J .earliest (T x) < rootEct J first ls → 3 * k + 6 * length θ + 3 ≤ size
+        → Preceded size k θ est dur (sum J first ls) c (T x) (rootEct J first ls)
     preceded size k x f over up room =
         let one = stops.first-walk zeroAt J ok first second (G .by-earliest) (G .by-completion) t ls Λ s small x f over up in
         let two = stops.attaining-after zeroAt J ok first second (G .by-earliest) (G .by-completion) t ls Λ s small x f over up in
@@ -157,7 +157,7 @@ module _ (J : Tasks natural) (first second : List ℕ) (G : Ordered J first seco
           known = known (T x) i-small;
           room = room;
           precedes = record { place = spot (one .m); small = q; holds = subst (λ (j : ℕ). c < min (getD est (T x) 0) (getD est j 0) + lasts dur (drop (spot (one .m)) θ) + getD dur (T x) 0) (sym z) (rw (ei, di, em, l) (one .over)) };
-          attains = record { place = spot (two .at); small = q′; holds = subst (λ (j : ℕ). getD est j 0 + lasts dur (drop (spot (two .at)) θ) ≡ ect J first ls) (sym z′) (omega (arith, two .attains, l′, he .at (T (two .at)) (G .by-earliest .task (two .at) (two .inside)))) };
+          attains = record { place = spot (two .at); small = q′; holds = subst (λ (j : ℕ). getD est j 0 + lasts dur (drop (spot (two .at)) θ) ≡ rootEct J first ls) (sym z′) (omega (arith, two .attains, l′, he .at (T (two .at)) (G .by-earliest .task (two .at) (two .inside)))) };
           among = stops.spot-up zeroAt J ok first second (G .by-earliest) (G .by-completion) t ls Λ s small (one .m) (two .at) (two .after);
           fits = omega (arith, ends-fit, sum-most, di, processing-less J (λ _. true) (T x) (record { small = i-small; mem = refl }));
         }

@@ -8,14 +8,14 @@ use native.Mathlib.Omega.{arith}
 use lib.IntN.{ℤ, pos}
 use lib.ListN.{length}
 use lib.Seq.{sets}
-use borrow.Author.Tests.{lt-ltb, le-ltb}
 use Rattle.integers.specs.Limits.{TASKS}
 use Rattle.integers.specs.Moments.{instant, zeroAt}
 use Rattle.scheduling.specs.Scheduling.{Atom}
 use Rattle.trees.specs.declared.theta_lambda_tree.Responsible.the-variants as responsible
+use Rattle.trees.specs.Ects.{exceeds}
 use Rattle.trees.specs.Searches.{searchEct, responsibleOf, whiteIn, taskIn, thetaIn}
 use Rattle.trees.specs.Shapes.{leavesOf}
-use Rattle.trees.specs.Words.{nodeAt}
+use Rattle.trees.specs.Words.{nodeAt, ectBarIn}
 use Rattle.runs.specs.Runs.{propagation}
 use Rattle.scheduling.specs.Words.{atomWords}
 use Rattle.runs.proofs.Lengths.{propagation-length}
@@ -27,13 +27,13 @@ use Rattle.propagator.specs.Finding.{Conflicted}
 use Rattle.propagator.specs.Turns.{candidateIn, Posted}
 
 module _ (words : List ℕ) (inner height : ℕ) (tasks : List ℕ) (lct : ℕ) where
-  pub candidate-none : nodeAt words 0 .«ect_bar» ≤ lct → responsible.Nothing ≡ candidateIn words inner height tasks lct
+  pub candidate-none : exceeds (ectBarIn words) lct ≡ false → responsible.Nothing ≡ candidateIn words inner height tasks lct
   unfolding candidateIn
-  candidate-none q = rw (le-ltb lct (nodeAt words 0 .«ect_bar») q, candidateIn)
+  candidate-none q = rw (q, candidateIn)
 
-  pub candidate-some : lct < nodeAt words 0 .«ect_bar» → responsibleOf tasks (searchEct (leavesOf inner (nodeAt words)) height 0) ≡ candidateIn words inner height tasks lct
+  pub candidate-some : exceeds (ectBarIn words) lct ≡ true → responsibleOf tasks (searchEct (leavesOf inner (nodeAt words)) height 0) ≡ candidateIn words inner height tasks lct
   unfolding candidateIn
-  candidate-some q = rw (lt-ltb lct (nodeAt words 0 .«ect_bar») q, candidateIn)
+  candidate-some q = rw (q, candidateIn)
 
 -- the reason of a post is short, by the tasks of Theta
 pub reason-few : (words : List ℕ) (inner : ℕ) (tasks : List ℕ) (n : ℕ) (es ds : List ℕ) (i b lct p : ℕ) → n ≤ TASKS → length (propagation zeroAt (starting es ds) i b lct p (thetaIn words inner tasks n)) ≤ 97

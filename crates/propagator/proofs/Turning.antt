@@ -1,6 +1,6 @@
 -- The inner loop: what it has got to, and how a turn goes on from there.
 -- Assumes nothing.
-use mathlib.Core.Path.{_≡_, refl, sym, ap, _∙_}
+use mathlib.Core.Path.{_≡_, refl, sym, ap, ap₂, _∙_}
 use mathlib.Core.Bool.{Bool, true, false}
 use mathlib.Core.List.{List}
 use mathlib.Core.Logic.{_⊎_, inl, inr}
@@ -10,20 +10,19 @@ use native.Mathlib.Omega.{arith}
 use lib.Dec.{ltb}
 use lib.IntN.{ℤ}
 use lib.ListN.{getD}
-use borrow.Author.Tests.{ltb-true, ltb-false, lt-ltb, le-ltb}
 use Rattle.integers.specs.Moments.{zeroAt}
 use Rattle.integers.proofs.Bools.{bool, clash}
 use Rattle.scheduling.specs.Scheduling.{completion}
 use Rattle.trees.specs.declared.disjunctive_task.LocalId.{LocalId}
-use Rattle.trees.specs.declared.theta_lambda_tree.Node.{Node}
 use Rattle.trees.specs.declared.theta_lambda_tree.Responsible.{Responsible}
 use Rattle.trees.specs.declared.theta_lambda_tree.Responsible.the-variants as responsible
+use Rattle.trees.specs.Ects.{exceeds}
 use Rattle.trees.specs.Leaves as leaves
 use Rattle.trees.specs.Searches.{Searchable, searchEct, responsibleOf}
 use Rattle.trees.specs.Shapes.{heightFor, leavesOf}
-use Rattle.trees.specs.Words.{nodeAt}
-use Rattle.trees.proofs.Roots as tree
-use Rattle.trees.proofs.Trees.{root-of, searchable, responsible-of}
+use Rattle.trees.specs.Words.{nodeAt, ectBarIn}
+use Rattle.trees.proofs.Ects.{exceeds-decoded}
+use Rattle.trees.proofs.Trees.{bar-of-root, searchable, responsible-of}
 use Rattle.runs.specs.Runs.{State, on, stop}
 use Rattle.runs.specs.Reached.{Reached, turned}
 use Rattle.runs.proofs.Fuel.{inner-end, inner-off, inner-none}
@@ -89,8 +88,8 @@ module _ {n inn height lct : ℕ} {words : List ℕ} {es ps as′ : List ℤ} {w
       at = r .at;
     }
 
-    bar-is : nodeAt words′ 0 .«ect_bar» ≡ leaves.ect-bar (s .J) (s .first) (r .st .leaves)
-    bar-is = ap (λ (n : Node). n .«ect_bar») (considering.root-is stands)
+    bar-is : ectBarIn words′ ≡ leaves.ect-bar (s .J) (s .first) (r .st .leaves)
+    bar-is = bar-of-root (s .ordered .limited) (r .at .tree)
 
     search-is : searchEct (leavesOf inn (nodeAt words′)) height 0 ≡ leaves.responsible (s .J) (s .first) (r .st .leaves)
     search-is = responsible-of (s .ordered .limited) (r .at .tree) height (s .arrays .tall ∙ ap heightFor (sym (s .arrays .count)))
@@ -103,33 +102,34 @@ module _ {n inn height lct : ℕ} {words : List ℕ} {es ps as′ : List ℤ} {w
     ended z = (r .st, r .at, r .rest ∙ ap (λ (f : ℕ). turns s f (r .st)) z ∙ inner-end zeroAt (s .J) (s .first) (s .second) 0 (s .level) (r .st))
 
   module _ {f : ℕ} {words′ : List ℕ} {es′ ps′ bs : List ℤ} {w′ : Written} (r : Turned (suc f) words′ es′ ps′ bs w′) where
-    abbrev bar : ℕ
-    bar = nodeAt words′ 0 .«ect_bar»
-
     abbrev end : ℕ
     end = completion (s .J) (getD (s .second) (s .level) 0)
 
     abbrev top : ℕ
-    top = leaves.ect-bar (s .J) (s .first) (r .st .leaves)
+    top = leaves.rootEctBar (s .J) (s .first) (r .st .leaves)
+
+    -- the test, by the root's word
+    test-is : {v : Bool} → exceeds (ectBarIn words′) lct ≡ v → ltb end top ≡ v
+    test-is y = sym (exceeds-decoded top end) ∙ ap₂ exceeds (sym (bar-is r)) (sym (s .ends)) ∙ y
 
     -- there is no task to consider
     pub nothing-left : responsible.Nothing ≡ candidateIn words′ inn height tasks lct → AllConsidered s (turn.On w′) words′ es′ ps′ bs
     nothing-left z = (
       r .st,
       r .at,
-      r .rest ∙ elim (bool (ltb lct bar)) [
-        | inr y ↦ inner-off zeroAt (s .J) (s .first) (s .second) f (s .level) (r .st) (le-ltb end top (omega (arith, ltb-false lct bar y, bar-is r, s .ends)))
-        | inl y ↦ inner-none zeroAt (s .J) (s .first) (s .second) f (s .level) (r .st) (lt-ltb end top (omega (arith, ltb-true lct bar y, bar-is r, s .ends)))
-            (sym (search-is r) ∙ no-task tasks (searchEct (leavesOf inn (nodeAt words′)) height 0) (z ∙ sym (candidate-some words′ inn height tasks lct (ltb-true lct bar y))))
+      r .rest ∙ elim (bool (exceeds (ectBarIn words′) lct)) [
+        | inr y ↦ inner-off zeroAt (s .J) (s .first) (s .second) f (s .level) (r .st) (test-is y)
+        | inl y ↦ inner-none zeroAt (s .J) (s .first) (s .second) f (s .level) (r .st) (test-is y)
+            (sym (search-is r) ∙ no-task tasks (searchEct (leavesOf inn (nodeAt words′)) height 0) (z ∙ sym (candidate-some words′ inn height tasks lct y)))
       ],
     )
 
     -- there is one
     pub one-left : (id : LocalId) → responsible.Task id ≡ candidateIn words′ inn height tasks lct → (x : ℕ) × Responsible-for (stands r) (id .0) x
-    one-left id z = elim (bool (ltb lct bar)) [
-      | inr y ↦ clash {b = true} refl (ap is-task (z ∙ sym (candidate-none words′ inn height tasks lct (ltb-false lct bar y))))
-      | inl y ↦ (let (x, u, v) = some-task tasks (searchEct (leavesOf inn (nodeAt words′)) height 0) id (z ∙ sym (candidate-some words′ inn height tasks lct (ltb-true lct bar y))) in
-          (x, record { over = omega (arith, ltb-true lct bar y, bar-is r); found = sym (search-is r) ∙ u; task = v ∙ s .arrays .tasks .at x (found-small r x (sym (search-is r) ∙ u)) }))
+    one-left id z = elim (bool (exceeds (ectBarIn words′) lct)) [
+      | inr y ↦ clash {b = true} refl (ap is-task (z ∙ sym (candidate-none words′ inn height tasks lct y)))
+      | inl y ↦ (let (x, u, v) = some-task tasks (searchEct (leavesOf inn (nodeAt words′)) height 0) id (z ∙ sym (candidate-some words′ inn height tasks lct y)) in
+          (x, record { over = ap (λ (o : Option ℕ). exceeds o lct) (sym (bar-is r)) ∙ y; found = sym (search-is r) ∙ u; task = v ∙ s .arrays .tasks .at x (found-small r x (sym (search-is r) ∙ u)) }))
     ]
 
     -- it was considered

@@ -4,7 +4,6 @@ use mathlib.Core.Bool.{true, false}
 use mathlib.Core.List.{List, [], _∷_, _++_}
 use mathlib.Core.Option.{Option, some, none}
 use Prim.Native.Nat.{ℕ, suc, _+_, _*_, _^_, _≤_, _<_}
-use lib.Dec.{ltb}
 use lib.IntN.{ℤ, pos}
 use lib.ListN.{length, getD}
 use lib.Seq.{sets}
@@ -13,10 +12,11 @@ use Rattle.integers.specs.Orders.{index}
 use Rattle.scheduling.specs.Scheduling.{natural, Tasks, completion}
 use Rattle.trees.specs.declared.theta_lambda_tree.Responsible.{Responsible}
 use Rattle.trees.specs.declared.theta_lambda_tree.Responsible.the-variants as responsible
+use Rattle.trees.specs.Ects.{exceeds}
 use Rattle.trees.specs.Leaves as leaves
 use Rattle.trees.specs.Searches.{searchEct, responsibleOf}
 use Rattle.trees.specs.Shapes.{leavesOf}
-use Rattle.trees.specs.Words.{nodeAt}
+use Rattle.trees.specs.Words.{nodeAt, ectBarIn}
 use Rattle.runs.specs.Runs.{State, Turn, on, stop, inner, propagation}
 use Rattle.scheduling.specs.Words.{atomWords}
 use Rattle.runs.specs.Reached.{Reached}
@@ -30,9 +30,9 @@ use Rattle.propagator.specs.Holding.{Ordered, Holds, Arrays, At}
 abbrev pub sumIn : List ℕ → ℕ
 sumIn words = nodeAt words 0 .«sum_of_processing_times»
 
--- the task to consider next: none where ect_bar is at most lct
+-- the task to consider next: none where ect_bar is not past lct
 unfoldable pub candidateIn : List ℕ → ℕ → ℕ → List ℕ → ℕ → Responsible
-candidateIn words inner height tasks lct = elim (ltb lct (nodeAt words 0 .«ect_bar»)) [
+candidateIn words inner height tasks lct = elim (exceeds (ectBarIn words) lct) [
   | true ↦ responsibleOf tasks (searchEct (leavesOf inner (nodeAt words)) height 0)
   | false ↦ responsible.Nothing
 ]
@@ -84,6 +84,6 @@ module _ {n inn height lct : ℕ} {words : List ℕ} {es ps as′ : List ℤ} {w
 
   -- x is the leaf of the task i to consider
   pub record Responsible-for (i x : ℕ) : Type 0 where
-    pub over : lct < leaves.ect-bar (s .J) (s .first) (s .st .leaves)
+    pub over : exceeds (leaves.ect-bar (s .J) (s .first) (s .st .leaves)) lct ≡ true
     pub found : leaves.responsible (s .J) (s .first) (s .st .leaves) ≡ some x
     pub task : i ≡ getD (s .first) x 0

@@ -23,8 +23,9 @@ ghost use Prim.Native.Nat.{ℕ, _+_, _*_, _^_, _≤_, _<_};
 ghost use lib.ListN.{length, getD};
 ghost use Rattle.integers.specs.Limits.{TASKS};
 ghost use Rattle.integers.specs.Moments.{zeroAt};
+ghost use Rattle.trees.specs.Ects.{exceeds, raisedTo};
 ghost use Rattle.trees.specs.Searches.{Searchable, thetaIn};
-ghost use Rattle.trees.specs.Words.{nodeAt};
+ghost use Rattle.trees.specs.Words.{nodeAt, ectIn};
 ghost use Rattle.runs.specs.Runs.{propagation};
 ghost use Rattle.scheduling.specs.Words.{atomWords};
 ghost use Rattle.explanations.specs.Explanations.{starting, Preceded, Overloaded};
@@ -84,7 +85,8 @@ fn candidate<'a>(
     requires { ⌜ Searchable inner height (nodeAt (now nodes)) ⌝ }
     ensures { λ r. ⌜ r ≡ candidateIn (now (nodes .entry)) inner height (now (tasks .entry)) lct ⌝ }
 {
-    if ThetaLambdaTree::ect_bar(nodes) <= lct {
+    let ect_bar = ThetaLambdaTree::ect_bar(nodes);
+    if !ect_bar.exceeds(lct) {
         return Responsible::Nothing;
     }
     ThetaLambdaTree::responsible_ect_bar(nodes, tasks, inner, height)
@@ -135,6 +137,14 @@ fn post<'a>(
     }
 }
 
+// A task's earliest start, raised to the ect of Theta where that is later.
+fn raised_start(nodes: &[u32; 508], start: u32) -> u32
+    ensures { λ r. ⌜ r ≡ raisedTo start (ectIn (now (nodes .entry))) ⌝ }
+{
+    let ect = ThetaLambdaTree::ect(nodes);
+    ect.raised(start)
+}
+
 // Considers task i of Lambda: posts its bound where that is above its earliest start, and takes it out of Lambda.
 fn consider<'a>(
     nodes: &mut [u32; 508],
@@ -157,9 +167,10 @@ fn consider<'a>(
         → Responsible-for s (id .0) x → Considered s r (now (nodes .exit)) (now (earliest .exit)) (now (posts .exit)) (now (atoms .exit))) ⌝ }
 {
     let i = id.0;
-    let bound = ThetaLambdaTree::ect(nodes);
+    let start = est[i];
+    let bound = raised_start(nodes, start);
     let place = leaf_of(mapping, id);
-    if bound <= est[i] {
+    if bound <= start {
         ThetaLambdaTree::remove_from_lambda(nodes, inner, place);
         let changes = written.changes + 1;
         return Turn::On(Written {
@@ -309,6 +320,14 @@ fn move_to_lambda<'a>(
     ThetaLambdaTree::add_to_lambda(nodes, inner, place, task);
 }
 
+// Whether Theta overloads: its ect is past the level's lct.
+fn overloads(nodes: &[u32; 508], lct: u32) -> bool
+    ensures { λ r. ⌜ r ≡ exceeds (ectIn (now (nodes .entry))) lct ⌝ }
+{
+    let ect = ThetaLambdaTree::ect(nodes);
+    ect.exceeds(lct)
+}
+
 // The levels of edge finding: the candidates in order of falling lct go from Theta to Lambda, and Lambda is considered after each.
 fn edge_finding<'a>(
     nodes: &mut [u32; 508],
@@ -339,7 +358,7 @@ fn edge_finding<'a>(
     while index + 1 < n {
         let j = candidates[index];
         let lct_j = lct[j];
-        if ThetaLambdaTree::ect(nodes) > lct_j {
+        if overloads(nodes, lct_j) {
             let outcome = overload(atoms, w, nodes, tasks, est, durations, inner, n, lct_j);
             return Finished {
                 outcome,

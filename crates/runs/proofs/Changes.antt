@@ -17,7 +17,7 @@ use Rattle.integers.proofs.Bools.{bool}
 use Rattle.scheduling.specs.Scheduling.{natural, Tasks, Proper, TaskSet, _with_}
 use Rattle.scheduling.specs.Moments.{ByEarliest, ByCompletion}
 use Rattle.scheduling.proofs.Cards.{card, card-same, card-none, card-with}
-use Rattle.trees.specs.Leaves.{Leaf, empty, white, gray, inLambda, ect, ect-bar, responsible}
+use Rattle.trees.specs.Leaves.{Leaf, empty, white, gray, inLambda, rootEct, rootEctBar, responsible}
 use Rattle.runs.specs.Traces.{Trace}
 use Rattle.runs.specs.Runs.{State, Turn, inner, outer, run, lct, allWhite, grayed, dropped, raised, posted}
 use Rattle.runs.specs.Reached.{movedOn, Entered, begins, follows, Reached, at-head, moved, turned}
@@ -58,7 +58,7 @@ module _ (o : ℕ) (J : Tasks natural) (ok : Proper J) (first second : List ℕ)
 
   pub inner-counted : (w f t : ℕ) (st : State) → Counted w st → Counted w (state-of (inner o J first second f t st))
   inner-counted w zero t st c = subst (λ (u : Turn). Counted w (state-of u)) (sym (inner-end o J first second 0 t st)) c
-  inner-counted w (suc f) t st c = by (λ st′. inner-counted w f t st′) (bool (ltb (lct o J first second t) (ect-bar J first (st .leaves)))) (opt (responsible J first (st .leaves)))
+  inner-counted w (suc f) t st c = by (λ st′. inner-counted w f t st′) (bool (ltb (lct o J first second t) (rootEctBar J first (st .leaves)))) (opt (responsible J first (st .leaves)))
     where
       Few : Turn → Type 0
       Few u = Counted w (state-of u)
@@ -70,9 +70,9 @@ module _ (o : ℕ) (J : Tasks natural) (ok : Proper J) (first second : List ℕ)
       T x = getD first x 0
 
       b : ℕ
-      b = ect J first (st .leaves)
+      b = rootEct J first (st .leaves)
 
-      took : IH → (x : ℕ) → ltb (lct o J first second t) (ect-bar J first (st .leaves)) ≡ true → responsible J first (st .leaves) ≡ some x → Few (inner o J first second (suc f) t st)
+      took : IH → (x : ℕ) → ltb (lct o J first second t) (rootEctBar J first (st .leaves)) ≡ true → responsible J first (st .leaves) ≡ some x → Few (inner o J first second (suc f) t st)
       took ih x z y = elim (bool (ltb (J .earliest (T x)) b)) [
         | inr e ↦ subst Few (sym (inner-pass o J first second f t st x z y e)) (ih (dropped st x) (less-by-one w st x y c))
         | inl e ↦ elim (bool (ltb (J .latest (T x)) b)) [
@@ -82,7 +82,7 @@ module _ (o : ℕ) (J : Tasks natural) (ok : Proper J) (first second : List ℕ)
         ]
       ]
 
-      by : IH → (ltb (lct o J first second t) (ect-bar J first (st .leaves)) ≡ true) ⊎ (ltb (lct o J first second t) (ect-bar J first (st .leaves)) ≡ false)
+      by : IH → (ltb (lct o J first second t) (rootEctBar J first (st .leaves)) ≡ true) ⊎ (ltb (lct o J first second t) (rootEctBar J first (st .leaves)) ≡ false)
           → (responsible J first (st .leaves) ≡ none) ⊎ ((x : ℕ) × (responsible J first (st .leaves) ≡ some x)) → Few (inner o J first second (suc f) t st)
       by ih (inr z) y = subst Few (sym (inner-off o J first second f t st z)) c
       by ih (inl z) (inl y) = subst Few (sym (inner-none o J first second f t st z y)) c
@@ -106,7 +106,7 @@ module _ (o : ℕ) (J : Tasks natural) (ok : Proper J) (first second : List ℕ)
 
   pub outer-counted : (f t : ℕ) (st : State) → suc (t + f) ≡ n → Counted (n + 3 * t) st → outer o J first second f t st .changes ≤ 4 * n - 3
   outer-counted zero t st end c = subst (λ (r : Trace). r .changes ≤ 4 * n - 3) (sym (outer-end o J first second 0 t st)) (omega (arith, c .most))
-  outer-counted (suc f) t st end c = elim (bool (ltb (lct o J first second t) (ect J first (st .leaves)))) [
+  outer-counted (suc f) t st end c = elim (bool (ltb (lct o J first second t) (rootEct J first (st .leaves)))) [
     | inl z ↦ subst Few (sym (outer-over o J first second f t st z)) (omega (arith, c .most))
     | inr z ↦ elim (turn (inner o J first second n (suc t) next)) [
       | inl y ↦ subst Few (sym (outer-on o J first second f t st (y .0) z (y .1))) (outer-counted f (suc t) (y .0) (omega arith) (subst (λ (u : Turn). Counted (n + 3 * suc t) (state-of u)) (y .1) after))

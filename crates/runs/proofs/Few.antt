@@ -18,7 +18,7 @@ use Rattle.scheduling.specs.Words.{atomWords}
 use Rattle.scheduling.proofs.Cards.{card-most}
 use Rattle.scheduling.specs.Moments.{ByEarliest, ByCompletion}
 use Rattle.scheduling.proofs.Words.{atoms-length}
-use Rattle.trees.specs.Leaves.{ect, ect-bar, responsible}
+use Rattle.trees.specs.Leaves.{rootEct, rootEctBar, responsible}
 use Rattle.trees.proofs.Roots as tree
 use Rattle.runs.specs.Traces.{Post, End, done, overload, emptied, Trace}
 use Rattle.runs.specs.Runs.{State, Turn, on, stop, inner, outer, run, lct, grayed, dropped, raised, posted}
@@ -56,7 +56,7 @@ module _ (o : ℕ) (J : Tasks natural) (ok : Proper J) (first second : List ℕ)
   T x = getD first x 0
 
   abbrev Over : ℕ → State → Bool → Type 0
-  Over t st v = ltb (lct o J first second t) (ect-bar J first (st .leaves)) ≡ v
+  Over t st v = ltb (lct o J first second t) (rootEctBar J first (st .leaves)) ≡ v
 
   -- a task was found at leaf x
   module _ (t : ℕ) (st : State) (v : Inv t st) (x : ℕ) where
@@ -72,7 +72,7 @@ module _ (o : ℕ) (J : Tasks natural) (ok : Proper J) (first second : List ℕ)
   -- they are of tasks that come before place t
   pub inner-few : (f t : ℕ) (st : State) → t < n → Inv t st → length (postsOf (inner o J first second f t st)) ≤ t
   inner-few zero t st small v = subst (λ (u : Turn). length (postsOf u) ≤ t) (sym (inner-end o J first second 0 t st)) (room.posts-few o J ok first second rk ord t st v)
-  inner-few (suc f) t st small v = by (λ st′. inner-few f t st′ small) (bool (ltb (lct o J first second t) (ect-bar J first (st .leaves)))) (opt (responsible J first (st .leaves)))
+  inner-few (suc f) t st small v = by (λ st′. inner-few f t st′ small) (bool (ltb (lct o J first second t) (rootEctBar J first (st .leaves)))) (opt (responsible J first (st .leaves)))
     where
       Few : Turn → Type 0
       Few u = length (postsOf u) ≤ t
@@ -81,7 +81,7 @@ module _ (o : ℕ) (J : Tasks natural) (ok : Proper J) (first second : List ℕ)
       IH = (st′ : State) → Inv t st′ → Few (inner o J first second f t st′)
 
       b : ℕ
-      b = ect J first (st .leaves)
+      b = rootEct J first (st .leaves)
 
       took : IH → (x : ℕ) → Over t st true → responsible J first (st .leaves) ≡ some x → Found t st v x → Few (inner o J first second (suc f) t st)
       took ih x z w g = elim (bool (ltb (J .earliest (T x)) b)) [
@@ -104,7 +104,7 @@ module _ (o : ℕ) (J : Tasks natural) (ok : Proper J) (first second : List ℕ)
 
   pub outer-few : (f t : ℕ) (st : State) → suc (t + f) ≡ n → Closed t st → suc (length (outer o J first second f t st .posts)) ≤ n
   outer-few zero t st end c = subst (λ (r : Trace). suc (length (r .posts)) ≤ n) (sym (outer-end o J first second 0 t st)) (omega (arith, room.posts-few o J ok first second rk ord t st (c .inv)))
-  outer-few (suc f) t st end c = by (λ st′. outer-few f (suc t) st′ (omega arith)) (bool (ltb (lct o J first second t) (ect J first (st .leaves))))
+  outer-few (suc f) t st end c = by (λ st′. outer-few f (suc t) st′ (omega arith)) (bool (ltb (lct o J first second t) (rootEct J first (st .leaves))))
     where
       Few : Trace → Type 0
       Few r = suc (length (r .posts)) ≤ n
@@ -115,7 +115,7 @@ module _ (o : ℕ) (J : Tasks natural) (ok : Proper J) (first second : List ℕ)
       next : State
       next = grayed st (index first (getD second t 0))
 
-      go : IH → ltb (lct o J first second t) (ect J first (st .leaves)) ≡ false → Inv (suc t) next → Few (outer o J first second (suc f) t st)
+      go : IH → ltb (lct o J first second t) (rootEct J first (st .leaves)) ≡ false → Inv (suc t) next → Few (outer o J first second (suc f) t st)
       go ih z v = elim (turn (inner o J first second n (suc t) next)) [
         | inl w ↦ subst Few (sym (outer-on o J first second f t st (w .0) z (w .1)))
             (ih (w .0) (subst (steps.TurnOk o J ok first second rk ord Short ShortEnd short (suc t)) (w .1)
@@ -124,10 +124,10 @@ module _ (o : ℕ) (J : Tasks natural) (ok : Proper J) (first second : List ℕ)
             (omega (arith, subst (λ (u : Turn). length (postsOf u) ≤ suc t) (w .1) (inner-few n (suc t) next (omega arith) v)))
       ]
 
-      by : IH → (ltb (lct o J first second t) (ect J first (st .leaves)) ≡ true) ⊎ (ltb (lct o J first second t) (ect J first (st .leaves)) ≡ false) → Few (outer o J first second (suc f) t st)
+      by : IH → (ltb (lct o J first second t) (rootEct J first (st .leaves)) ≡ true) ⊎ (ltb (lct o J first second t) (rootEct J first (st .leaves)) ≡ false) → Few (outer o J first second (suc f) t st)
       by ih (inl z) = subst Few (sym (outer-over o J first second f t st z)) (omega (arith, room.posts-few o J ok first second rk ord t st (c .inv)))
       by ih (inr z) = go ih z (steps.gray-ok o J ok first second rk ord Short ShortEnd short t st (omega arith) c
-          (omega (arith, ltb-false (lct o J first second t) (ect J first (st .leaves)) z, tree.ect-is J ok first rk (st .leaves) (steps.Th o J ok first second rk ord t) (steps.lam o J ok first second rk ord Short ShortEnd short st) (steps.shape o J ok first second rk ord Short ShortEnd short t st (c .inv)))))
+          (omega (arith, ltb-false (lct o J first second t) (rootEct J first (st .leaves)) z, tree.ect-is J ok first rk (st .leaves) (steps.Th o J ok first second rk ord t) (steps.lam o J ok first second rk ord Short ShortEnd short st) (steps.shape o J ok first second rk ord Short ShortEnd short t st (c .inv)))))
 
   module _ (one : 1 ≤ n) where
     abbrev tr : Trace

@@ -11,7 +11,7 @@ use lib.Dec.{ltb, eqb}
 use lib.IntN.{ℤ}
 use lib.ListN.{length, getD, set, length-set, replicate}
 use lib.Seq.{getD-set-same, getD-set-other}
-use borrow.Author.Tests.{ne-eqb, eq-eqb}
+use borrow.Author.Tests.{ne-eqb, eq-eqb, ltb-true}
 use Rattle.scheduling.specs.Scheduling.{natural, Tasks, tasksOf, Proper, TaskSet, In}
 use Rattle.integers.proofs.Bools.{bool}
 use Rattle.scheduling.proofs.Sets.{_less_}
@@ -19,7 +19,9 @@ use Rattle.scheduling.proofs.Cards.{card, card-less, card-same}
 use Rattle.scheduling.specs.Moments.{moments, ByEarliest}
 use Rattle.integers.specs.Moments.{zeroAt}
 use Rattle.integers.specs.Orders.{index}
-use Rattle.trees.specs.Leaves.{Leaf, empty, white, sum, theta, inTheta, inLambda, whiteAt, grayAt, ect, ect-bar, responsible}
+use Rattle.trees.specs.Ects.{exceeds}
+use Rattle.trees.specs.Leaves.{Leaf, empty, white, sum, theta, inTheta, inLambda, whiteAt, grayAt, rootEct, rootEctBar, responsible, ect, ect-bar}
+use Rattle.trees.proofs.Ects.{decoded-some, decoded-cases, exceeds-decoded}
 use Rattle.runs.specs.Traces.{done, overload, emptied}
 use Rattle.runs.specs.Runs.{State, Turn, on, stop, inner, outer, run, ended, grayed, tabulate, conflict, posted, raised, dropped, lct, earliestOrder, completionOrder, propagate}
 use Rattle.trees.proofs.Roots as tree
@@ -38,35 +40,43 @@ module _ (o : ℕ) (J : Tasks natural) (first second : List ℕ) (f t : ℕ) (st
   T x = getD first x 0
 
   abbrev b : ℕ
-  b = ect J first (st .leaves)
+  b = rootEct J first (st .leaves)
 
   abbrev Over : Bool → Type 0
-  Over v = ltb (lct o J first second t) (ect-bar J first (st .leaves)) ≡ v
+  Over v = ltb (lct o J first second t) (rootEctBar J first (st .leaves)) ≡ v
 
   pub inner-end : inner o J first second 0 t st ≡ on st
   unfolding inner
   inner-end = refl
 
+  -- the test of the answer is that of the root's word
+  over-is : {v : Bool} → Over v → exceeds (ect-bar J first (st .leaves)) (lct o J first second t) ≡ v
+  over-is z = exceeds-decoded (rootEctBar J first (st .leaves)) (lct o J first second t) ∙ z
+
   pub inner-off : Over false → inner o J first second (suc f) t st ≡ on st
   unfolding inner
-  inner-off z = rw (z, inner)
+  inner-off z = rw (over-is z, inner)
 
   pub inner-none : Over true → responsible J first (st .leaves) ≡ none → inner o J first second (suc f) t st ≡ on st
   unfolding inner
-  inner-none z w = rw (z, w, inner)
+  inner-none z w = rw (over-is z, w, inner)
 
   module _ (x : ℕ) (z : Over true) (w : responsible J first (st .leaves) ≡ some x) where
+    -- an ect past a start is that of a task
+    bound-is : ltb (J .earliest (T x)) b ≡ true → ect J first (st .leaves) ≡ some b
+    bound-is y = decoded-some b (omega (arith, ltb-true (J .earliest (T x)) b y))
+
     pub inner-pass : ltb (J .earliest (T x)) b ≡ false → inner o J first second (suc f) t st ≡ inner o J first second f t (dropped st x)
     unfolding inner
-    inner-pass y = rw (z, w, y, inner) refl
+    inner-pass y = elim (decoded-cases b) [ inl d ↦ rw (over-is z, w, d, inner) refl | inr d ↦ rw (over-is z, w, d, y, inner) refl ]
 
     pub inner-stop : ltb (J .earliest (T x)) b ≡ true → ltb (J .latest (T x)) b ≡ true → inner o J first second (suc f) t st ≡ stop (posted o J first second st (T x) b t)
     unfolding inner
-    inner-stop y a = rw (z, w, y, a, inner)
+    inner-stop y a = rw (over-is z, w, bound-is y, y, a, inner)
 
     pub inner-raise : ltb (J .earliest (T x)) b ≡ true → ltb (J .latest (T x)) b ≡ false → inner o J first second (suc f) t st ≡ inner o J first second f t (dropped (raised (posted o J first second st (T x) b t) (T x) b) x)
     unfolding inner
-    inner-raise y a = rw (z, w, y, a, inner) refl
+    inner-raise y a = rw (over-is z, w, bound-is y, y, a, inner) refl
 
 module _ (o : ℕ) (J : Tasks natural) (ok : Proper J) (first second : List ℕ) (rk : ByEarliest J (λ j. getD first j 0) (λ k. index first k)) where
   -- the gray tasks of the leaves
@@ -105,30 +115,30 @@ module _ (o : ℕ) (J : Tasks natural) (ok : Proper J) (first second : List ℕ)
 
   -- one turn more changes nothing
   pub inner-more : (f t : ℕ) (st : State) → length (st .leaves) ≡ J .count → card J (lam (st .leaves)) ≤ f → I (suc f) t st ≡ I f t st
-  inner-more zero t st q few = by (bool (ltb (lct o J first second t) (ect-bar J first (st .leaves)))) (opt (responsible J first (st .leaves)))
+  inner-more zero t st q few = by (bool (ltb (lct o J first second t) (rootEctBar J first (st .leaves)))) (opt (responsible J first (st .leaves)))
     where
-      by : (ltb (lct o J first second t) (ect-bar J first (st .leaves)) ≡ true) ⊎ (ltb (lct o J first second t) (ect-bar J first (st .leaves)) ≡ false)
+      by : (ltb (lct o J first second t) (rootEctBar J first (st .leaves)) ≡ true) ⊎ (ltb (lct o J first second t) (rootEctBar J first (st .leaves)) ≡ false)
           → (responsible J first (st .leaves) ≡ none) ⊎ ((x : ℕ) × (responsible J first (st .leaves) ≡ some x)) → I 1 t st ≡ I 0 t st
       by (inr z) w = inner-off o J first second 0 t st z ∙ sym (inner-zero t st)
       by (inl z) (inl w) = inner-none o J first second 0 t st z w ∙ sym (inner-zero t st)
       by (inl z) (inr w) = absurd (omega (arith, fewer (st .leaves) q (w .0) (w .1), few))
-  inner-more (suc f) t st q few = by (λ st′. inner-more f t st′) (bool (ltb (lct o J first second t) (ect-bar J first (st .leaves)))) (opt (responsible J first (st .leaves)))
+  inner-more (suc f) t st q few = by (λ st′. inner-more f t st′) (bool (ltb (lct o J first second t) (rootEctBar J first (st .leaves)))) (opt (responsible J first (st .leaves)))
     where
       IH : Type 0
       IH = (st′ : State) → length (st′ .leaves) ≡ J .count → card J (lam (st′ .leaves)) ≤ f → I (suc f) t st′ ≡ I f t st′
 
-      took : IH → (x : ℕ) → ltb (lct o J first second t) (ect-bar J first (st .leaves)) ≡ true → responsible J first (st .leaves) ≡ some x → card J (lam (set (st .leaves) x empty)) ≤ f → I (suc (suc f)) t st ≡ I (suc f) t st
-      took ih x z w down = elim (bool (ltb (J .earliest (getD first x 0)) (ect J first (st .leaves)))) [
+      took : IH → (x : ℕ) → ltb (lct o J first second t) (rootEctBar J first (st .leaves)) ≡ true → responsible J first (st .leaves) ≡ some x → card J (lam (set (st .leaves) x empty)) ≤ f → I (suc (suc f)) t st ≡ I (suc f) t st
+      took ih x z w down = elim (bool (ltb (J .earliest (getD first x 0)) (rootEct J first (st .leaves)))) [
         | inr y ↦ inner-pass o J first second (suc f) t st x z w y ∙ ih (dropped st x) (length-set (st .leaves) x empty ∙ q) down ∙ sym (inner-pass o J first second f t st x z w y)
-        | inl y ↦ elim (bool (ltb (J .latest (getD first x 0)) (ect J first (st .leaves)))) [
+        | inl y ↦ elim (bool (ltb (J .latest (getD first x 0)) (rootEct J first (st .leaves)))) [
           | inl a ↦ inner-stop o J first second (suc f) t st x z w y a ∙ sym (inner-stop o J first second f t st x z w y a)
           | inr a ↦ inner-raise o J first second (suc f) t st x z w y a
-              ∙ ih (dropped (raised (posted o J first second st (getD first x 0) (ect J first (st .leaves)) t) (getD first x 0) (ect J first (st .leaves))) x) (length-set (st .leaves) x empty ∙ q) down
+              ∙ ih (dropped (raised (posted o J first second st (getD first x 0) (rootEct J first (st .leaves)) t) (getD first x 0) (rootEct J first (st .leaves))) x) (length-set (st .leaves) x empty ∙ q) down
               ∙ sym (inner-raise o J first second f t st x z w y a)
         ]
       ]
 
-      by : IH → (ltb (lct o J first second t) (ect-bar J first (st .leaves)) ≡ true) ⊎ (ltb (lct o J first second t) (ect-bar J first (st .leaves)) ≡ false)
+      by : IH → (ltb (lct o J first second t) (rootEctBar J first (st .leaves)) ≡ true) ⊎ (ltb (lct o J first second t) (rootEctBar J first (st .leaves)) ≡ false)
           → (responsible J first (st .leaves) ≡ none) ⊎ ((x : ℕ) × (responsible J first (st .leaves) ≡ some x)) → I (suc (suc f)) t st ≡ I (suc f) t st
       by ih (inr z) w = inner-off o J first second (suc f) t st z ∙ sym (inner-off o J first second f t st z)
       by ih (inl z) (inl w) = inner-none o J first second (suc f) t st z w ∙ sym (inner-none o J first second f t st z w)
@@ -149,16 +159,19 @@ module _ (o : ℕ) (J : Tasks natural) (first second : List ℕ) where
     unfolding outer
     outer-end = refl
 
-    pub outer-over : ltb (lct o J first second t) (ect J first (st .leaves)) ≡ true
+    level-is : {v : Bool} → ltb (lct o J first second t) (rootEct J first (st .leaves)) ≡ v → exceeds (ect J first (st .leaves)) (lct o J first second t) ≡ v
+    level-is z = exceeds-decoded (rootEct J first (st .leaves)) (lct o J first second t) ∙ z
+
+    pub outer-over : ltb (lct o J first second t) (rootEct J first (st .leaves)) ≡ true
         → outer o J first second (suc f) t st ≡ ended o J first second st (overload (conflict o J (lct o J first second t) (sum J first (st .leaves)) (theta J first (st .leaves))))
     unfolding outer
-    outer-over z = rw (z, outer)
+    outer-over z = rw (level-is z, outer)
 
-    module _ (st′ : State) (z : ltb (lct o J first second t) (ect J first (st .leaves)) ≡ false) where
+    module _ (st′ : State) (z : ltb (lct o J first second t) (rootEct J first (st .leaves)) ≡ false) where
       pub outer-on : inner o J first second (J .count) (suc t) (grayed st (index first (getD second t 0))) ≡ on st′ → outer o J first second (suc f) t st ≡ outer o J first second f (suc t) st′
       unfolding outer
-      outer-on y = rw (z, y, outer) refl
+      outer-on y = rw (level-is z, y, outer) refl
 
       pub outer-stop : inner o J first second (J .count) (suc t) (grayed st (index first (getD second t 0))) ≡ stop st′ → outer o J first second (suc f) t st ≡ ended o J first second st′ emptied
       unfolding outer
-      outer-stop y = rw (z, y, outer)
+      outer-stop y = rw (level-is z, y, outer)

@@ -110,10 +110,10 @@ module _ (o : ℕ) (Z : Tasks whole) (okz : Proper Z) (deepz : (k : ℕ) → k <
   E-is Ω = scan-is J T rank ok rk Ω
 
   abbrev ectOf : List Leaf → ℕ
-  ectOf = leaves.ect J first
+  ectOf = leaves.rootEct J first
 
   abbrev barOf : List Leaf → ℕ
-  barOf = leaves.ect-bar J first
+  barOf = leaves.rootEctBar J first
 
   abbrev En : ℕ → ℕ
   En t = completion J (L t)

@@ -9,13 +9,14 @@ use Prim.Native.Nat.{ℕ, suc, _≤_, _<_}
 use native.Mathlib.Omega.{arith}
 use lib.Dec.{ltb}
 use lib.ListN.{getD}
-use borrow.Author.Tests.{ltb-true, ltb-false}
+use borrow.Author.Tests.{le-leb, ltb-true, ltb-false}
 use Rattle.integers.specs.Orders.{index}
 use Rattle.integers.proofs.Bools.{bool, clash}
 use Rattle.scheduling.specs.Scheduling.{natural, Tasks, Proper, Atom}
 use Rattle.scheduling.specs.Moments.{ByEarliest, ByCompletion}
 use Rattle.scheduling.proofs.Cards.{card-most}
 use Rattle.trees.specs.Leaves as leaves
+use Rattle.trees.proofs.Ects.{exceeds-decoded}
 use Rattle.trees.proofs.Roots as tree
 use Rattle.runs.specs.Traces.{Post}
 use Rattle.runs.specs.Runs.{State, Turn, on, stop, inner, dropped, posted, raised}
@@ -42,7 +43,7 @@ module _ (o : ℕ) (J : Tasks natural) (ok : Proper J) (first second : List ℕ)
   -- at the head of a level, where Θ does not overload
   quiet-moved : (t : ℕ) (st : State) → t < J .count → Closed t st → Quiet o J first second t st → Inv (suc t) (movedOn o J first second t st)
   quiet-moved t st small c q = steps.gray-ok o J ok first second rk ord Good GoodEnd meas t st small c
-      (omega (arith, ltb-false (steps.En o J ok first second rk ord t) (leaves.ect J first (st .leaves)) q, tree.ect-is J ok first rk (st .leaves) (steps.Th o J ok first second rk ord t) (steps.lam o J ok first second rk ord Good GoodEnd meas st) (steps.shape o J ok first second rk ord Good GoodEnd meas t st (c .inv))))
+      (omega (arith, ltb-false (steps.En o J ok first second rk ord t) (leaves.rootEct J first (st .leaves)) (sym (exceeds-decoded (leaves.rootEct J first (st .leaves)) (steps.En o J ok first second rk ord t)) ∙ q), tree.ect-is J ok first rk (st .leaves) (steps.Th o J ok first second rk ord t) (steps.lam o J ok first second rk ord Good GoodEnd meas st) (steps.shape o J ok first second rk ord Good GoodEnd meas t st (c .inv))))
 
   pub entered-closed : (t : ℕ) (st : State) → Entered o J first second t st → t < J .count → Closed t st
   entered-closed t st begins small = steps.first-closed o J ok first second rk ord Good GoodEnd meas
@@ -55,7 +56,7 @@ module _ (o : ℕ) (J : Tasks natural) (ok : Proper J) (first second : List ℕ)
     T x = getD first x 0
 
     abbrev ect : ℕ
-    ect = leaves.ect J first (st .leaves)
+    ect = leaves.rootEct J first (st .leaves)
 
     abbrev Θ : ℕ → Bool
     Θ = steps.Th o J ok first second rk ord t
@@ -70,7 +71,7 @@ module _ (o : ℕ) (J : Tasks natural) (ok : Proper J) (first second : List ℕ)
     leads : {s : State} → inner o J first second 1 t st ≡ on s → Inv t s → inner o J first second 1 t st ≡ on st′ → Inv t st′
     leads {s} z w e = subst (Inv t) (ap state-of (sym z ∙ e)) w
 
-    took : (x : ℕ) → ltb (steps.En o J ok first second rk ord t) (leaves.ect-bar J first (st .leaves)) ≡ true → leaves.responsible J first (st .leaves) ≡ some x → inner o J first second 1 t st ≡ on st′ → Inv t st′
+    took : (x : ℕ) → ltb (steps.En o J ok first second rk ord t) (leaves.rootEctBar J first (st .leaves)) ≡ true → leaves.responsible J first (st .leaves) ≡ some x → inner o J first second 1 t st ≡ on st′ → Inv t st′
     took x z w e = elim (bool (ltb (J .earliest (T x)) ect)) [
       | inr y ↦ leads (inner-pass o J first second 0 t st x z w y ∙ inner-end o J first second 0 t (dropped st x)) (steps.pass-ok o J ok first second rk ord Good GoodEnd meas t st small v x found (ltb-true _ _ z) (ltb-false _ _ y)) e
       | inl y ↦ elim (bool (ltb (J .latest (T x)) ect)) [
@@ -84,7 +85,7 @@ module _ (o : ℕ) (J : Tasks natural) (ok : Proper J) (first second : List ℕ)
         found = tree.one-found J ok first rk (st .leaves) Θ Λ shape x w
 
     turn-inv : inner o J first second 1 t st ≡ on st′ → Inv t st′
-    turn-inv e = elim (bool (ltb (steps.En o J ok first second rk ord t) (leaves.ect-bar J first (st .leaves)))) [
+    turn-inv e = elim (bool (ltb (steps.En o J ok first second rk ord t) (leaves.rootEctBar J first (st .leaves)))) [
       | inr z ↦ leads (inner-off o J first second 0 t st z) v e
       | inl z ↦ elim (opt (leaves.responsible J first (st .leaves))) [
         | inl w ↦ leads (inner-none o J first second 0 t st z w) v e
@@ -96,3 +97,9 @@ module _ (o : ℕ) (J : Tasks natural) (ok : Proper J) (first second : List ℕ)
   reached-inv t st (at-head t₀ st₀ e) small = entered-closed t st e small .inv
   reached-inv t st (moved t₀ st₀ e q) small = quiet-moved t₀ st₀ (omega arith) (entered-closed t₀ st₀ e (omega arith)) q
   reached-inv t st (turned t₀ st₀ st₁ r e) small = turn-inv t st₀ st small (reached-inv t st₀ r small) e
+
+  -- Θ has a task at every one of them, so that its ect is a moment
+  pub reached-ect : (t : ℕ) (st : State) → Reached o J first second t st → t < J .count → leaves.ect J first (st .leaves) ≡ some (leaves.rootEct J first (st .leaves))
+  reached-ect t st r small =
+      tree.moment-some J ok first rk (st .leaves) (steps.Th o J ok first second rk ord t) (steps.lam o J ok first second rk ord Good GoodEnd meas st) (steps.shape o J ok first second rk ord Good GoodEnd meas t st (reached-inv t st r small))
+      (getD second t 0) (record { small = ord .task t small; mem = le-leb t (index second (getD second t 0)) (omega (arith, ord .back t small)) })

@@ -97,7 +97,7 @@ module _ (o : ℕ) (J : Tasks natural) (ok : Proper J) (first second : List ℕ)
     of-post = λ t ls Λ s x small f late over up.
         omega (
           arith,
-          propagation-length o J (getD first x 0) (Rattle.trees.specs.Leaves.ect J first ls) (Rattle.scheduling.specs.Scheduling.completion J (getD second t 0)) (Rattle.trees.specs.Leaves.sum J first ls) (theta J first ls),
+          propagation-length o J (getD first x 0) (Rattle.trees.specs.Leaves.rootEct J first ls) (Rattle.scheduling.specs.Scheduling.completion J (getD second t 0)) (Rattle.trees.specs.Leaves.sum J first ls) (theta J first ls),
           theta-less ls x (f .small) (found-not-white t ls Λ s x f),
         );
     of-end = λ t ls Λ s small over.

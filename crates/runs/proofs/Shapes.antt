@@ -171,7 +171,7 @@ module _ (o : ℕ) (J : Tasks natural) (ok : Proper J) (low high d : ℕ) (early
       last : Task (getD second t 0)
       last = task (getD second t 0) (ord .task t small)
 
-      ect-most : leaves.ect J first ls ≤ high + leaves.sum J first ls
+      ect-most : leaves.rootEct J first ls ≤ high + leaves.sum J first ls
       ect-most =
           let e = stops.ect-is o J ok first second rk ord t ls Λ s small .holds in
           let (k, m, z) = e .est .holds in
@@ -183,8 +183,8 @@ module _ (o : ℕ) (J : Tasks natural) (ok : Proper J) (low high d : ℕ) (early
           let i = task (getD first x 0) (f .gray .small) in
           let m : leaves.sum J first ls + J .duration (getD first x 0) ≤ d = sum-with t ls Λ s small (getD first x 0) (f .gray .small) (f .out) in
           record {
-            says = record { task = i .small; kind = omega arith; at = leaves.ect J first ls; value = refl; from = omega (arith, i .starts, i .short, up); to = omega (arith, m, ect-most t ls Λ s small) };
-            because = propagation-fits (getD first x 0) (leaves.ect J first ls) (completion J (getD second t 0)) (leaves.sum J first ls) i (last t ls Λ s small .ends) m (theta J first ls) (listed t ls Λ s small);
+            says = record { task = i .small; kind = omega arith; at = leaves.rootEct J first ls; value = refl; from = omega (arith, i .starts, i .short, up); to = omega (arith, m, ect-most t ls Λ s small) };
+            because = propagation-fits (getD first x 0) (leaves.rootEct J first ls) (completion J (getD second t 0)) (leaves.sum J first ls) i (last t ls Λ s small .ends) m (theta J first ls) (listed t ls Λ s small);
             few = omega (arith, room.short o J ok first second rk ord .of-post t ls Λ s x small f late over up);
           };
       of-end = λ t ls Λ s small over. record {

@@ -22,7 +22,7 @@ use Rattle.integers.proofs.Filling.{getD-map-in}
 use Rattle.integers.proofs.Moments.{mono, reflect, above-up, more-above, moment-instant, instant-above}
 use Rattle.scheduling.specs.Scheduling.{natural, Tasks, tasksOf}
 use Rattle.scheduling.specs.Moments.{moments}
-use Rattle.trees.specs.Leaves.{ect, ect-bar, responsible}
+use Rattle.trees.specs.Leaves.{rootEct, rootEctBar, responsible}
 use Rattle.runs.specs.Traces.{Trace}
 use Rattle.runs.specs.Runs.{State, Turn, on, stop, inner, outer, run, lct, grayed, dropped, raised, posted, tabulate, propagate, earliestOrder, completionOrder}
 use Rattle.runs.proofs.Demand.{Accepted}
@@ -38,7 +38,7 @@ startsOf (stop st) = st .starts
 module _ (o : ℕ) (J : Tasks natural) (first second : List ℕ) (P : List ℕ → Type 0) (raises : (l : List ℕ) (i b : ℕ) → J .earliest i < b → b ≤ J .latest i → P l → P (set l i b)) where
   inner-keeps : (f t : ℕ) (st : State) → P (st .starts) → P (startsOf (inner o J first second f t st))
   inner-keeps zero t st h = subst (λ (u : Turn). P (startsOf u)) (sym (inner-end o J first second 0 t st)) h
-  inner-keeps (suc f) t st h = by (inner-keeps f t) (bool (ltb (lct o J first second t) (ect-bar J first (st .leaves))))
+  inner-keeps (suc f) t st h = by (inner-keeps f t) (bool (ltb (lct o J first second t) (rootEctBar J first (st .leaves))))
     where
       Keeps : Turn → Type 0
       Keeps u = P (startsOf u)
@@ -46,8 +46,8 @@ module _ (o : ℕ) (J : Tasks natural) (first second : List ℕ) (P : List ℕ �
       IH : Type 0
       IH = (st′ : State) → P (st′ .starts) → P (startsOf (inner o J first second f t st′))
 
-      took : IH → (x : ℕ) → ltb (lct o J first second t) (ect-bar J first (st .leaves)) ≡ true → responsible J first (st .leaves) ≡ some x → Keeps (inner o J first second (suc f) t st)
-      took ih x z w = let i : ℕ = getD first x 0 in let b : ℕ = ect J first (st .leaves) in
+      took : IH → (x : ℕ) → ltb (lct o J first second t) (rootEctBar J first (st .leaves)) ≡ true → responsible J first (st .leaves) ≡ some x → Keeps (inner o J first second (suc f) t st)
+      took ih x z w = let i : ℕ = getD first x 0 in let b : ℕ = rootEct J first (st .leaves) in
           elim (bool (ltb (J .earliest i) b)) [
             | inr y ↦ subst Keeps (sym (inner-pass o J first second f t st x z w y)) (ih (dropped st x) h)
             | inl y ↦ elim (bool (ltb (J .latest i) b)) [
@@ -57,7 +57,7 @@ module _ (o : ℕ) (J : Tasks natural) (first second : List ℕ) (P : List ℕ �
             ]
           ]
 
-      by : IH → (ltb (lct o J first second t) (ect-bar J first (st .leaves)) ≡ true) ⊎ (ltb (lct o J first second t) (ect-bar J first (st .leaves)) ≡ false) → Keeps (inner o J first second (suc f) t st)
+      by : IH → (ltb (lct o J first second t) (rootEctBar J first (st .leaves)) ≡ true) ⊎ (ltb (lct o J first second t) (rootEctBar J first (st .leaves)) ≡ false) → Keeps (inner o J first second (suc f) t st)
       by ih (inr z) = subst Keeps (sym (inner-off o J first second f t st z)) h
       by ih (inl z) = elim (opt (responsible J first (st .leaves)))
           [ inl w ↦ subst Keeps (sym (inner-none o J first second f t st z w)) h | inr w ↦ took ih (w .0) z (w .1) ]
@@ -68,7 +68,7 @@ module _ (o : ℕ) (J : Tasks natural) (first second : List ℕ) (P : List ℕ �
 
   outer-keeps : (f t : ℕ) (st : State) → P (st .starts) → Left (outer o J first second f t st)
   outer-keeps zero t st h = subst Left (sym (outer-end o J first second 0 t st)) (st .starts, refl, h)
-  outer-keeps (suc f) t st h = by (outer-keeps f (suc t)) (bool (ltb (lct o J first second t) (ect J first (st .leaves))))
+  outer-keeps (suc f) t st h = by (outer-keeps f (suc t)) (bool (ltb (lct o J first second t) (rootEct J first (st .leaves))))
     where
       IH : Type 0
       IH = (st′ : State) → P (st′ .starts) → Left (outer o J first second f (suc t) st′)
@@ -76,7 +76,7 @@ module _ (o : ℕ) (J : Tasks natural) (first second : List ℕ) (P : List ℕ �
       turned : (u : Turn) → inner o J first second (J .count) (suc t) (grayed st (index first (getD second t 0))) ≡ u → P (startsOf u)
       turned u e = subst (λ (u : Turn). P (startsOf u)) e (inner-keeps (J .count) (suc t) (grayed st (index first (getD second t 0))) h)
 
-      by : IH → (ltb (lct o J first second t) (ect J first (st .leaves)) ≡ true) ⊎ (ltb (lct o J first second t) (ect J first (st .leaves)) ≡ false) → Left (outer o J first second (suc f) t st)
+      by : IH → (ltb (lct o J first second t) (rootEct J first (st .leaves)) ≡ true) ⊎ (ltb (lct o J first second t) (rootEct J first (st .leaves)) ≡ false) → Left (outer o J first second (suc f) t st)
       by ih (inl z) = subst Left (sym (outer-over o J first second f t st z)) (st .starts, refl, h)
       by ih (inr z) = elim (turn (inner o J first second (J .count) (suc t) (grayed st (index first (getD second t 0))))) [
         | inl w ↦ subst Left (sym (outer-on o J first second f t st (w .0) z (w .1))) (ih (w .0) (turned (on (w .0)) (w .1)))

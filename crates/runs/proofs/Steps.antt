@@ -33,7 +33,7 @@ use Rattle.runs.specs.Runs as edges
 use Rattle.trees.specs.Leaves as leaves
 use Rattle.trees.proofs.Roots as tree
 use Rattle.runs.specs.Demand.{no-post}
-use Rattle.runs.proofs.Fuel.{opt, turn}
+use Rattle.runs.proofs.Fuel.{opt, turn, inner-end, inner-off, inner-none, inner-pass, inner-stop, inner-raise, outer-end, outer-over, outer-on, outer-stop}
 use Rattle.runs.proofs.Tables.{tab-length, tab-at}
 
 -- lists
@@ -96,10 +96,10 @@ module _ (o : ℕ) (J : Tasks natural) (ok : Proper J) (first second : List ℕ)
   Found = tree.Found J ok first rk
 
   abbrev pub ectOf : List Leaf → ℕ
-  ectOf = leaves.ect J first
+  ectOf = leaves.rootEct J first
 
   abbrev pub barOf : List Leaf → ℕ
-  barOf = leaves.ect-bar J first
+  barOf = leaves.rootEctBar J first
 
   -- what a post and an overload's reason are to be
   pub record Measure (Good : Post → Type 0) (GoodEnd : List Atom → Type 0) : Type 0 where
@@ -262,8 +262,7 @@ module _ (o : ℕ) (J : Tasks natural) (ok : Proper J) (first second : List ℕ)
           (omega (arith, card-less J (lam st) i mem, card-same J (lam st less i) (λ k. grayAt (set (st .leaves) (rank i) empty) (rank k)) (drop-grays t (st .leaves) i (v .size) (mem .small) late)))
 
     pub inner-ok : (f t : ℕ) (st : State) → t < n → Inv t st → card J (lam st) ≤ f → TurnOk t (inner o J first second f t st)
-    unfolding inner
-    inner-ok zero t st small v few = record { inv = v; none-passes = λ q k h. absurd (card-zero J (lam st) few k h) }
+    inner-ok zero t st small v few = rw (inner-end o J first second 0 t st) (record { inv = v; none-passes = λ q k h. absurd (card-zero J (lam st) few k h) })
     inner-ok (suc f) t st small v few = by (λ st′. inner-ok f t st′ small) (bool (ltb (En t) (barOf (st .leaves))))
       where
         IH : Type 0
@@ -271,17 +270,17 @@ module _ (o : ℕ) (J : Tasks natural) (ok : Proper J) (first second : List ℕ)
 
         took : IH → ltb (En t) (barOf (st .leaves)) ≡ true → (x : ℕ) → leaves.responsible J first (st .leaves) ≡ some x → Found (st .leaves) (Th t) (lam st) (shape t st v) x → TurnOk t (inner o J first second (suc f) t st)
         took ih z x w g = elim (bool (ltb (J .earliest (T x)) (ectOf (st .leaves)))) [
-          | inr y ↦ rw (z, w, y, inner) (ih (edges.dropped st x) (pass-ok t st small v x g (ltb-true _ _ z) (ltb-false _ _ y)) (fewer t st small v x g (ltb-true _ _ z) f few))
+          | inr y ↦ rw (inner-pass o J first second f t st x z w y) (ih (edges.dropped st x) (pass-ok t st small v x g (ltb-true _ _ z) (ltb-false _ _ y)) (fewer t st small v x g (ltb-true _ _ z) f few))
           | inl y ↦ elim (bool (ltb (J .latest (T x)) (ectOf (st .leaves)))) [
-            | inl a ↦ rw (z, w, y, a, inner) (stop-ok t st small v x g (ltb-true _ _ z) (ltb-true _ _ y) (ltb-true _ _ a))
-            | inr a ↦ rw (z, w, y, a, inner) (ih _ (raise-ok t st small v x g (ltb-true _ _ z) (ltb-true _ _ y) (ltb-false _ _ a)) (fewer t st small v x g (ltb-true _ _ z) f few))
+            | inl a ↦ rw (inner-stop o J first second f t st x z w y a) (stop-ok t st small v x g (ltb-true _ _ z) (ltb-true _ _ y) (ltb-true _ _ a))
+            | inr a ↦ rw (inner-raise o J first second f t st x z w y a) (ih _ (raise-ok t st small v x g (ltb-true _ _ z) (ltb-true _ _ y) (ltb-false _ _ a)) (fewer t st small v x g (ltb-true _ _ z) f few))
           ]
         ]
 
         by : IH → (ltb (En t) (barOf (st .leaves)) ≡ true) ⊎ (ltb (En t) (barOf (st .leaves)) ≡ false) → TurnOk t (inner o J first second (suc f) t st)
-        by ih (inr z) = rw (z, inner) (record { inv = v; none-passes = λ q k h. omega (arith, tree.most J ok first rk (st .leaves) (Th t) (lam st) (shape t st v) k h, ltb-false (En t) (barOf (st .leaves)) z) })
+        by ih (inr z) = rw (inner-off o J first second f t st z) (record { inv = v; none-passes = λ q k h. omega (arith, tree.most J ok first rk (st .leaves) (Th t) (lam st) (shape t st v) k h, ltb-false (En t) (barOf (st .leaves)) z) })
         by ih (inl z) = elim (opt (leaves.responsible J first (st .leaves))) [
-          | inl w ↦ rw (z, w, inner) (record {
+          | inl w ↦ rw (inner-none o J first second f t st z w) (record {
             inv = v;
             none-passes = λ q. absurd (omega (
               arith,
@@ -342,8 +341,7 @@ module _ (o : ℕ) (J : Tasks natural) (ok : Proper J) (first second : List ℕ)
     empty-ok st w = record { goods = w .1; above = map-above o (st .starts); when-done = λ z. let y : _≡_ {A = ℕ} 0 1 = cc in absurd (omega arith); otherwise = λ _. w .0; over = λ r z. let y : _≡_ {A = ℕ} 0 1 = cc in absurd (omega arith) }
 
     outer-ok : (f t : ℕ) (st : State) → suc (t + f) ≡ n → Closed t st → OutOk (outer o J first second f t st)
-    unfolding outer
-    outer-ok zero t st end c = done-ok t st (omega arith) c
+    outer-ok zero t st end c = rw (outer-end o J first second 0 t st) (done-ok t st (omega arith) c)
     outer-ok (suc f) t st end c = by (λ st′. outer-ok f (suc t) st′ (omega arith)) (bool (ltb (En t) (ectOf (st .leaves))))
       where
         IH : Type 0
@@ -351,15 +349,15 @@ module _ (o : ℕ) (J : Tasks natural) (ok : Proper J) (first second : List ℕ)
 
         go : IH → ltb (En t) (ectOf (st .leaves)) ≡ false → E (Th t) ≤ En t → OutOk (outer o J first second (suc f) t st)
         go ih z q = elim (turn (inner o J first second n (suc t) (edges.grayed st (rank (L t))))) [
-          | inl w ↦ rw (z, w .1, outer) (ih (w .0) (rw (w .1) at r))
-          | inr w ↦ rw (z, w .1, outer) (empty-ok (w .0) (rw (w .1) at r))
+          | inl w ↦ rw (outer-on o J first second f t st (w .0) z (w .1)) (ih (w .0) (rw (w .1) at r))
+          | inr w ↦ rw (outer-stop o J first second f t st (w .0) z (w .1)) (empty-ok (w .0) (rw (w .1) at r))
         ]
           where
             r : TurnOk (suc t) (inner o J first second n (suc t) (edges.grayed st (rank (L t))))
             r = inner-ok n (suc t) (edges.grayed st (rank (L t))) (omega arith) (gray-ok t st (omega arith) c q) (card-most J (lam (edges.grayed st (rank (L t)))))
 
         by : IH → (ltb (En t) (ectOf (st .leaves)) ≡ true) ⊎ (ltb (En t) (ectOf (st .leaves)) ≡ false) → OutOk (outer o J first second (suc f) t st)
-        by ih (inl z) = rw (z, outer) (over-ok t st (omega arith) (c .inv) (ltb-true _ _ z))
+        by ih (inl z) = rw (outer-over o J first second f t st z) (over-ok t st (omega arith) (c .inv) (ltb-true _ _ z))
         by ih (inr z) = go ih z (omega (arith, ltb-false (En t) (ectOf (st .leaves)) z, tree.ect-is J ok first rk (st .leaves) (Th t) (lam st) (shape t st (c .inv))))
 
     -- the start

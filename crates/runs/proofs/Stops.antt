@@ -16,7 +16,7 @@ use Rattle.scheduling.specs.Scheduling.{natural, Tasks, Proper, TaskSet, _with_
 use Rattle.scheduling.specs.Moments.{ByEarliest, ByCompletion}
 use Rattle.scheduling.proofs.Suffixes.{attaining}
 use Rattle.scheduling.proofs.Walks.{passing, after-first}
-use Rattle.trees.specs.Leaves.{Leaf, whiteAt, taskAt, ect, ect-bar, sum, theta}
+use Rattle.trees.specs.Leaves.{Leaf, whiteAt, taskAt, rootEct, rootEctBar, sum, theta}
 use Rattle.trees.specs.Searches.{thetaOf}
 use Rattle.trees.proofs.Roots as tree
 use Rattle.trees.proofs.Thetas.{theta-none, theta-white, theta-skip, theta-is}
@@ -78,7 +78,7 @@ module _ (o : ℕ) (J : Tasks natural) (ok : Proper J) (first second : List ℕ)
     dr a = processing J (onward a)
 
     abbrev b : ℕ
-    b = ect J first ls
+    b = rootEct J first ls
 
     pub ect-is : Ect J Θ b
     ect-is = tree.ect-of J ok first rk ls Θ Λ s (getD second t 0, record { small = ord .task t small; mem = le-leb t (place (getD second t 0)) (omega (arith, ord .back t small)) })
@@ -127,7 +127,7 @@ module _ (o : ℕ) (J : Tasks natural) (ok : Proper J) (first second : List ℕ)
         record { at = rank j; inside = rk .placed j (jm .small); white = at-rank j (jm .small) (jm .mem); passes = omega (arith, h, over, ap (J .earliest) (rk .there j (jm .small))) }
 
     -- a post's two walks stop, the first no later than the second
-    module _ (x : ℕ) (f : tree.Found J ok first rk ls Θ Λ s x) (over : c < ect-bar J first ls) (up : J .earliest (T x) < b) where
+    module _ (x : ℕ) (f : tree.Found J ok first rk ls Θ Λ s x) (over : c < rootEctBar J first ls) (up : J .earliest (T x) < b) where
       abbrev i : ℕ
       i = T x
 

@@ -6,6 +6,7 @@ use lib.IntN.{ℤ, pos}
 use lib.ListN.{getD}
 use Rattle.integers.specs.Orders.{sort, insert, index, numbers}
 use Rattle.scheduling.specs.Scheduling.{natural, Tasks, Atom}
+use Rattle.trees.specs.Ects.{decoded}
 use Rattle.trees.specs.Leaves.{root, responsible, theta}
 use Rattle.trees.specs.Nodes.{joinOf, isEmpty}
 use Rattle.trees.specs.Searches.{gray, tested, descentP, descentEct, stepP, stepEct, searchP, searchEct, thetaOf}
@@ -64,7 +65,7 @@ pub instances : map answer (A ∷ B ∷ C ∷ D ∷ E ∷ F ∷ G ∷ [])
     ∷ trace (record { task = 0; bound = pos 6; reason = six } ∷ []) done (6 ∷ 1 ∷ []) 5
     ∷ trace [] done (7 ∷ []) 1
     ∷ []
-unfolding propagate run outer inner conflict propagation bounds within tabulate heightFrom sort insert index numbers width root responsible theta joinOf isEmpty gray tested descentP descentEct stepP stepEct searchP searchEct thetaOf nodeOver
+unfolding propagate run outer inner decoded conflict propagation bounds within tabulate heightFrom sort insert index numbers width root responsible theta joinOf isEmpty gray tested descentP descentEct stepP stepEct searchP searchEct thetaOf nodeOver
 instances = refl
 
 -- None of the paper's. The reason takes the first task's own latest start, 8, and not a later one.
@@ -72,7 +73,7 @@ abbrev later : Input
 later = (0, 8, 1) ∷ (5, 5, 4) ∷ (0, 20, 5) ∷ []
 
 pub own-latest-start : answer later ≡ trace (record { task = 2; bound = pos 9; reason = atLeast 0 0 ∷ atMost 0 8 ∷ atLeast 1 5 ∷ atMost 1 5 ∷ atLeast 2 0 ∷ [] } ∷ []) done (0 ∷ 5 ∷ 9 ∷ []) 8
-unfolding propagate run outer inner conflict propagation bounds within tabulate heightFrom sort insert index numbers width root responsible theta joinOf isEmpty gray tested descentP descentEct stepP stepEct searchP searchEct thetaOf nodeOver
+unfolding propagate run outer inner decoded conflict propagation bounds within tabulate heightFrom sort insert index numbers width root responsible theta joinOf isEmpty gray tested descentP descentEct stepP stepEct searchP searchEct thetaOf nodeOver
 own-latest-start = refl
 
 -- And two tasks are raised, each by its own post.
@@ -83,7 +84,7 @@ abbrev nine : ℕ → Post
 nine i = record { task = i; bound = pos 9; reason = atLeast 0 0 ∷ atMost 0 7 ∷ atLeast 1 0 ∷ atMost 1 6 ∷ atLeast i 0 ∷ [] }
 
 pub two-raised : answer both ≡ trace (nine 3 ∷ nine 2 ∷ []) done (0 ∷ 1 ∷ 9 ∷ 9 ∷ []) 12
-unfolding propagate run outer inner conflict propagation bounds within tabulate heightFrom sort insert index numbers width root responsible theta joinOf isEmpty gray tested descentP descentEct stepP stepEct searchP searchEct thetaOf nodeOver
+unfolding propagate run outer inner decoded conflict propagation bounds within tabulate heightFrom sort insert index numbers width root responsible theta joinOf isEmpty gray tested descentP descentEct stepP stepEct searchP searchEct thetaOf nodeOver
 two-raised = refl
 
 -- Three of the costliest tasks: 4 · 3 − 3 leaf changes.

@@ -3,16 +3,16 @@ use mathlib.Core.Path.{_≡_}
 use mathlib.Core.Bool.{false}
 use mathlib.Core.List.{List}
 use Prim.Native.Nat.{ℕ, suc}
-use lib.Dec.{ltb}
 use Rattle.integers.specs.Orders.{index}
 use Rattle.scheduling.specs.Scheduling.{natural, Tasks}
+use Rattle.trees.specs.Ects.{exceeds}
 use Rattle.trees.specs.Leaves.{ect}
 use Rattle.runs.specs.Runs.{State, Turn, on, grayed, allWhite, candidate, lct, inner}
 
 module _ (o : ℕ) (J : Tasks natural) (first second : List ℕ) where
   -- Θ does not overload at level t
   abbrev pub Quiet : ℕ → State → Type 0
-  Quiet t st = ltb (lct o J first second t) (ect J first (st .leaves)) ≡ false
+  Quiet t st = exceeds (ect J first (st .leaves)) (lct o J first second t) ≡ false
 
   -- the state in which the task of level t goes from Θ to Λ
   abbrev pub movedOn : ℕ → State → State

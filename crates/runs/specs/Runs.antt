@@ -1,7 +1,7 @@
 -- The run of edge finding, as a function on values: `edge_finding` with its two explanations, line by line.
 --
--- Inside, moments are natural numbers and 0 stands for the source's i32::MIN; atoms and posts leave as whole numbers. A start is read as it was at
--- entry: the source reads it from the store, but a task's start changes only when it leaves Λ, and after that it is never read again.
+-- Inside, moments are natural numbers; atoms and posts leave as whole numbers. A start is read as it was at entry: the source reads it from the store, but
+-- a task's start changes only when it leaves Λ, and after that it is never read again.
 use mathlib.Core.Bool.{Bool, true, false, _&&_, not}
 use mathlib.Core.List.{List, [], _∷_, _++_, map}
 use mathlib.Core.Option.{Option, some, none}
@@ -13,6 +13,7 @@ use Rattle.integers.specs.Moments.{instant, zeroAt}
 use Rattle.integers.specs.Orders.{sort, index, numbers}
 use Rattle.scheduling.specs.Scheduling.{natural, Tasks, tasksOf, completion, Atom}
 use Rattle.scheduling.specs.Moments.{moments}
+use Rattle.trees.specs.Ects.{exceeds}
 use Rattle.trees.specs.Leaves.{Leaf, empty, white, gray, taskAt, ect, ect-bar, sum, responsible, theta}
 use Rattle.runs.specs.Traces.{Post, End, done, overload, emptied, Trace}
 
@@ -114,18 +115,21 @@ module _ (o : ℕ) (J : Tasks natural) (first second : List ℕ) where
     changes = st .changes;
   }
 
-  -- while ect_bar() > lct_j; at most f turns
+  -- while ect_bar() > lct_j; at most f turns. Without a task in Θ there is no bound to post.
   unfoldable pub inner : ℕ → ℕ → State → Turn
   inner zero t st = on st
-  inner (suc f) t st = elim (ltb (lct t) (ect-bar J first (st .leaves))) [
+  inner (suc f) t st = elim (exceeds (ect-bar J first (st .leaves)) (lct t)) [
     | false ↦ on st
     | true ↦ elim (responsible J first (st .leaves)) [
       | none ↦ on st
-      | some x ↦ elim (ltb (J .earliest (taskAt J first x)) (ect J first (st .leaves))) [
-        | false ↦ inner f t (dropped st x)
-        | true ↦ elim (ltb (J .latest (taskAt J first x)) (ect J first (st .leaves))) [
-          | true ↦ stop (posted st (taskAt J first x) (ect J first (st .leaves)) t)
-          | false ↦ inner f t (dropped (raised (posted st (taskAt J first x) (ect J first (st .leaves)) t) (taskAt J first x) (ect J first (st .leaves))) x)
+      | some x ↦ elim (ect J first (st .leaves)) [
+        | none ↦ inner f t (dropped st x)
+        | some b ↦ elim (ltb (J .earliest (taskAt J first x)) b) [
+          | false ↦ inner f t (dropped st x)
+          | true ↦ elim (ltb (J .latest (taskAt J first x)) b) [
+            | true ↦ stop (posted st (taskAt J first x) b t)
+            | false ↦ inner f t (dropped (raised (posted st (taskAt J first x) b t) (taskAt J first x) b) x)
+          ]
         ]
       ]
     ]
@@ -137,7 +141,7 @@ module _ (o : ℕ) (J : Tasks natural) (first second : List ℕ) where
   -- while index < tasks.len() - 1
   unfoldable pub outer : ℕ → ℕ → State → Trace
   outer zero t st = ended st done
-  outer (suc f) t st = elim (ltb (lct t) (ect J first (st .leaves))) [
+  outer (suc f) t st = elim (exceeds (ect J first (st .leaves)) (lct t)) [
     | true ↦ ended st (overload (conflict o J (lct t) (sum J first (st .leaves)) (theta J first (st .leaves))))
     | false ↦ elim (inner n (suc t) (grayed st (index first (candidate t)))) [
       | on st′ ↦ outer f (suc t) st′

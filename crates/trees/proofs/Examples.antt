@@ -2,14 +2,15 @@
 -- Assumes nothing.
 use mathlib.Core.Path.{_≡_, refl}
 use mathlib.Core.List.{List, [], _∷_}
-use mathlib.Core.Option.{some}
+use mathlib.Core.Option.{some, none}
 use Prim.Native.Nat.{ℕ}
 use lib.ListN.{getD}
 use Rattle.scheduling.specs.Scheduling.{natural, Tasks}
+use Rattle.trees.specs.Ects.{decoded}
 use Rattle.trees.specs.Shapes.{width, heightFrom, nodeOver}
 use Rattle.trees.specs.Nodes.{joinOf, isEmpty}
 use Rattle.trees.specs.Searches as searches
-use Rattle.trees.specs.Leaves.{Leaf, white, gray, ect, ect-bar, sum, root, responsible, theta}
+use Rattle.trees.specs.Leaves.{Leaf, white, gray, empty, ect, ect-bar, sum, root, responsible, theta}
 
 abbrev J : Tasks natural
 J = record { count = 3; earliest = λ k. getD (0 ∷ 1 ∷ 0 ∷ []) k 0; latest = λ k. getD (6 ∷ 5 ∷ 20 ∷ []) k 0; duration = λ k. getD (4 ∷ 5 ∷ 3 ∷ []) k 0 }
@@ -22,6 +23,11 @@ abbrev ls : List Leaf
 ls = white ∷ gray ∷ white ∷ []
 
 -- ect(Θ) is 9, with one task of Λ 12, and the third task, at place 1, is responsible
-example : (ect J first ls ≡ 9) × (ect-bar J first ls ≡ 12) × (sum J first ls ≡ 9) × (responsible J first ls ≡ some 1) × (theta J first ls ≡ 0 ∷ 1 ∷ [])
-unfolding root responsible theta width heightFrom nodeOver joinOf isEmpty searches.gray searches.tested searches.descentP searches.descentEct searches.stepP searches.stepEct searches.searchP searches.searchEct searches.thetaOf
+example : (ect J first ls ≡ some 9) × (ect-bar J first ls ≡ some 12) × (sum J first ls ≡ 9) × (responsible J first ls ≡ some 1) × (theta J first ls ≡ 0 ∷ 1 ∷ [])
+unfolding root responsible theta width heightFrom nodeOver decoded joinOf isEmpty searches.gray searches.tested searches.descentP searches.descentEct searches.stepP searches.stepEct searches.searchP searches.searchEct searches.thetaOf
 example = (refl, refl, refl, refl, refl)
+
+-- a task of Λ alone: Θ has no ect, and with that task it has one; where neither has a task there is none
+gray-alone : (ect J first (empty ∷ gray ∷ empty ∷ []) ≡ none) × (ect-bar J first (empty ∷ gray ∷ empty ∷ []) ≡ some 3) × (ect-bar J first (empty ∷ empty ∷ empty ∷ []) ≡ none)
+unfolding root width heightFrom nodeOver decoded joinOf
+gray-alone = (refl, refl, refl)

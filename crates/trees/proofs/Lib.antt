@@ -1,3 +1,4 @@
+pub mod Ects
 pub mod Heights
 pub mod Wiring
 pub mod Storage

@@ -2,12 +2,12 @@
 -- Assumes nothing.
 use mathlib.Core.Path.{_≡_, refl, sym, ap, subst, _∙_, fun-ext}
 use mathlib.Core.Bool.{Bool, true, false}
-use mathlib.Core.Logic.{_⊎_, inl, inr}
+use mathlib.Core.Logic.{_⊎_, inl, inr, _↔_}
 use mathlib.Core.List.{List}
 use mathlib.Core.Option.{Option, some, none}
 use Prim.Native.Nat.{ℕ, zero, suc, _+_, _-_, _≤_, _<_, max}
 use native.Mathlib.Omega.{arith}
-use native.Mathlib.Nat.{zero-add, add-zero, add-suc}
+use native.Mathlib.Nat.{zero-add, add-zero, add-suc, le-antisymm}
 use native.Mathlib.Decide.{decLe, decLt, ℕ-discrete}
 use lib.ListN.{length, getD, set, length-set, replicate, length-replicate, List·getD-eq-default}
 use lib.Seq.{getD-set-same, getD-set-other}
@@ -28,6 +28,7 @@ use Rattle.trees.specs.Bounds.{LATEST}
 use Rattle.trees.specs.Searches.{searchP}
 use Rattle.trees.specs.Leaves as leaves
 use Rattle.trees.specs.Leaves.{Leaf, empty, inTheta, inLambda, whiteAt, grayAt, taskAt, startAt, durationAt, Limited}
+use Rattle.trees.proofs.Ects.{decoded-none, decoded-some, some-or-none, one-moment}
 use Rattle.trees.proofs.Heights.{enough}
 use Rattle.trees.proofs.Overs.{Holds, over-holds}
 use Rattle.trees.proofs.Thetas.{theta-in, theta-from, theta-distinct}
@@ -253,22 +254,57 @@ module _ (J : Tasks natural) (ok : Proper J) (first : List ℕ) (rk : ByEarliest
         let z : J .count + (width H - J .count) ≡ width H = omega (arith, enough (J .count)) in
         rw z at (stretches.past w g e p 0 (J .count) (width H - J .count) (λ j r. none-w j (omega arith)) (λ j r. none-g j (omega arith)))
 
-    pub ect-is : leaves.ect J first ls ≡ scan J T rank Ω (J .count)
+    pub ect-is : leaves.rootEct J first ls ≡ scan J T rank Ω (J .count)
     ect-is = root-holds .ect ∙ to-count .1 ∙ ect-scan (J .count) (omega arith)
 
-    pub bar-is : leaves.ect-bar J first ls ≡ bars.EB J ok T rank rk Ω Λ (J .count)
+    pub bar-is : leaves.rootEctBar J first ls ≡ bars.EB J ok T rank rk Ω Λ (J .count)
     bar-is = root-holds .ect-bar ∙ to-count .2 ∙ moved (λ v u. stretches.ect-bar v u e p 0 (J .count))
 
     -- ect(Θ), where Θ is not empty
-    pub ect-of : NonEmpty J Ω → Ect J Ω (leaves.ect J first ls)
+    pub ect-of : NonEmpty J Ω → Ect J Ω (leaves.rootEct J first ls)
     ect-of m = rw ect-is (scan-is J T rank ok rk Ω m)
 
     -- and the empty value exactly where it is
-    pub ect-some : (k : ℕ) → In J Ω k → 1 ≤ leaves.ect J first ls
+    pub ect-some : (k : ℕ) → In J Ω k → 1 ≤ leaves.rootEct J first ls
     ect-some k m = omega (arith, ect-is, scan-some Ω k m)
 
-    pub ect-none : Empty Ω (J .count) → leaves.ect J first ls ≡ 0
+    pub ect-none : Empty Ω (J .count) → leaves.rootEct J first ls ≡ 0
     ect-none nil = ect-is ∙ scan-none Ω nil
+
+    -- the answer `ect`: ect(Θ), or none exactly where no leaf is white
+    pub moment-some : (k : ℕ) → In J Ω k → leaves.ect J first ls ≡ some (leaves.rootEct J first ls)
+    moment-some k m = decoded-some (leaves.rootEct J first ls) (ect-some k m)
+
+    pub moment-none : Empty Ω (J .count) → leaves.ect J first ls ≡ none
+    moment-none nil = decoded-none (leaves.rootEct J first ls) (ect-none nil)
+
+    pub moment-is : (v : ℕ) → (leaves.ect J first ls ≡ some v) ↔ Ect J Ω v
+    moment-is v = (to, from)
+      where
+        to : leaves.ect J first ls ≡ some v → Ect J Ω v
+        to z = elim (top Ω (λ k. 0) (J .count)) [
+          | inl nil ↦ some-or-none z (moment-none nil)
+          | inr t ↦ (let m : In J Ω (t .at) = record { small = t .small; mem = t .mem } in subst (Ect J Ω) (one-moment (moment-some (t .at) m) z) (ect-of (t .at, m)))
+        ]
+
+        from : Ect J Ω v → leaves.ect J first ls ≡ some v
+        from h =
+            let (k, m, _) = h .holds .est .holds in
+            let km : In J Ω k = record { small = m .small; mem = h .holds .within k m } in
+            let r : Ect J Ω (leaves.rootEct J first ls) = ect-of (k, km) in
+            moment-some k km ∙ ap some (le-antisymm (h .bounds (leaves.rootEct J first ls) (r .holds)) (r .bounds v (h .holds)))
+
+    pub none-where-none-white : (leaves.ect J first ls ≡ none) ↔ ((j : ℕ) → j < J .count → whiteAt ls j ≡ false)
+    none-where-none-white = (to, from)
+      where
+        to : leaves.ect J first ls ≡ none → (j : ℕ) → j < J .count → whiteAt ls j ≡ false
+        to z j q = elim (bool (whiteAt ls j)) [
+          | inl y ↦ some-or-none (moment-some (T j) (record { small = rk .task j q; mem = sym (white-at j q) ∙ y })) z
+          | inr y ↦ y
+        ]
+
+        from : ((j : ℕ) → j < J .count → whiteAt ls j ≡ false) → leaves.ect J first ls ≡ none
+        from none-white = moment-none (λ k q. sym (s .whites k q) ∙ none-white (rank k) (rk .placed k q))
 
     -- the sum is p(Θ)
     sum-scan : (d : ℕ) → d ≤ J .count → stretches.sum w g e p 0 d ≡ processing J (upto J T rank Ω d)
@@ -350,17 +386,17 @@ module _ (J : Tasks natural) (ok : Proper J) (first : List ℕ) (rk : ByEarliest
             )
 
     -- the bar is at least the ect with each gray task
-    pub most : (k : ℕ) → In J Λ k → scan J T rank (Ω with k) (J .count) ≤ leaves.ect-bar J first ls
+    pub most : (k : ℕ) → In J Λ k → scan J T rank (Ω with k) (J .count) ≤ leaves.rootEctBar J first ls
     most k h = omega (arith, bar-is, bars.most J ok T rank rk Ω Λ k h (J .count) (omega arith))
 
     -- and it is the largest ect of Θ with at most one task of Λ
     abbrev pub AtMostOne : ℕ → Type 0
     AtMostOne v = Ect J Ω v ⊎ ((k : ℕ) × In J Λ k × Ect J (Ω with k) v)
 
-    plain-least : leaves.ect J first ls ≤ leaves.ect-bar J first ls
+    plain-least : leaves.rootEct J first ls ≤ leaves.rootEctBar J first ls
     plain-least = omega (arith, root-holds .ect, root-holds .ect-bar, stretches.bars w g e p 0 (width H) .later)
 
-    pub bar-of : NonEmpty J Ω ⊎ NonEmpty J Λ → Largest natural AtMostOne (leaves.ect-bar J first ls)
+    pub bar-of : NonEmpty J Ω ⊎ NonEmpty J Λ → Largest natural AtMostOne (leaves.rootEctBar J first ls)
     bar-of some-task = record { holds = rw bar-is (holds (bars.reached J ok T rank rk Ω Λ (J .count) (omega arith)) (top Ω (λ k. 0) (J .count))); bounds = bounds }
       where
         EB : ℕ
@@ -377,12 +413,23 @@ module _ (J : Tasks natural) (ok : Proper J) (first : List ℕ) (rk : ByEarliest
         holds (inl z) (inr t) = inl (rw z (scan-is J T rank ok rk Ω (t .at, record { small = t .small; mem = t .mem })))
         holds (inr o) t = inr (o .at, o .mem, rw (o .is) (scan-is J T rank ok rk (Ω with o .at) (o .at, record { small = o .mem .small; mem = with-new Ω (o .at) })))
 
-        bounds : (v : ℕ) → AtMostOne v → v ≤ leaves.ect-bar J first ls
+        bounds : (v : ℕ) → AtMostOne v → v ≤ leaves.rootEctBar J first ls
         bounds v (inl h) =
             let (i, im, _) = h .holds .est .holds in
             omega (arith, plain-least, ect-is, scan-is J T rank ok rk Ω (i, record { small = im .small; mem = h .holds .within i im }) .bounds v (h .holds))
         bounds v (inr (k, m, h)) =
             omega (arith, most k m, scan-is J T rank ok rk (Ω with k) (k, record { small = m .small; mem = with-new Ω k }) .bounds v (h .holds))
+
+    -- the answer `ect_bar`: that ect, or none exactly where no leaf is white or gray
+    pub bar-some : NonEmpty J Ω ⊎ NonEmpty J Λ → leaves.ect-bar J first ls ≡ some (leaves.rootEctBar J first ls)
+    bar-some some-task = decoded-some (leaves.rootEctBar J first ls) (elim some-task [
+      | inl m ↦ omega (arith, plain-least, ect-some (m .0) (m .1))
+      | inr m ↦ omega (arith, most (m .0) (m .1), scan-some (Ω with m .0) (m .0) (record { small = m .1 .small; mem = with-new Ω (m .0) }))
+    ])
+
+    pub bar-none : Empty Ω (J .count) → Empty Λ (J .count) → leaves.ect-bar J first ls ≡ none
+    bar-none nil no-gray = decoded-none (leaves.rootEctBar J first ls) (elim (bars.reached J ok T rank rk Ω Λ (J .count) (omega arith))
+        [ inl z ↦ bar-is ∙ z ∙ scan-none Ω nil | inr o ↦ clash (o .mem .mem) (no-gray (o .at) (o .mem .small)) ])
 
     -- the search's answer ------------------------------------------------------------------------------------------------------
 
@@ -391,7 +438,7 @@ module _ (J : Tasks natural) (ok : Proper J) (first : List ℕ) (rk : ByEarliest
     answered = by-ect-ok colour e p lasts H 0
 
     -- no task found: a gray one is not needed for the bar
-    pub none-found : leaves.responsible J first ls ≡ none → leaves.ect-bar J first ls ≤ leaves.ect J first ls
+    pub none-found : leaves.responsible J first ls ≡ none → leaves.rootEctBar J first ls ≤ leaves.rootEct J first ls
     none-found z =
         let f : stretches.ect-bar w g e p 0 (width H) ≤ stretches.ect w g e p 0 (width H) = subst (EctOk colour e p lasts H 0) z answered in
         omega (arith, f, root-holds .ect, root-holds .ect-bar)
@@ -404,7 +451,7 @@ module _ (J : Tasks natural) (ok : Proper J) (first : List ℕ) (rk : ByEarliest
       pub value : ℕ
       pub attains : EstPlusP J (Ω with T x) value
       pub has : attains .part (T x) ≡ true
-      pub reaches : leaves.ect-bar J first ls ≤ value
+      pub reaches : leaves.rootEctBar J first ls ≤ value
 
     pub one-found : (x : ℕ) → leaves.responsible J first ls ≡ some x → Found x
     one-found x z =

@@ -11,9 +11,10 @@ use Rattle.integers.proofs.Filling.{getD-fresh}
 use Rattle.scheduling.specs.Scheduling.{natural, Tasks}
 use Rattle.trees.specs.declared.theta_lambda_tree.Node.{Node}
 use Rattle.trees.specs.declared.theta_tree.Node as plain
+use Rattle.trees.specs.Ects.{decoded}
 use Rattle.trees.specs.Shapes.{width, heightFor, changed, leavesOf, nodeOver, TreeOf}
 use Rattle.trees.specs.Nodes.{joinOf, plainOf, plainJoinOf}
-use Rattle.trees.specs.Words.{nodeAt, plainAt}
+use Rattle.trees.specs.Words.{nodeAt, plainAt, ectIn, ectBarIn, plainEctIn}
 use Rattle.trees.specs.Bounds.{Fair, size, PlainFair, plainSize, Bounded, CanPut}
 use Rattle.trees.specs.Puts.{Puttable, Put, PlainPuttable, PlainPut}
 use Rattle.trees.specs.Searches.{Searchable, gray, searchEct, isWhite, thetaOf}
@@ -131,6 +132,13 @@ module _ {J : Tasks natural} {first : List ℕ} (lim : Limited J first) {ls : Li
   unfolding root
   root-of = root-is joinOf inner (heightFor (J .count)) (nodeAt words) (t .complete) own-is-tree ∙ ap (λ (leaf : ℕ → Node). nodeOver joinOf leaf (heightFor (J .count)) 0) own
 
+  -- what `ect` and `ect_bar` answer
+  pub ect-of-root : ectIn words ≡ leaves.ect J first ls
+  ect-of-root = ap (λ (n : Node). decoded (n .ect)) root-of
+
+  pub bar-of-root : ectBarIn words ≡ leaves.ect-bar J first ls
+  bar-of-root = ap (λ (n : Node). decoded (n .«ect_bar»)) root-of
+
   -- the search from the root, `responsible_ect_bar`
   pub searchable : (h : ℕ) → h ≡ heightFor (J .count) → Searchable inner h (nodeAt words)
   searchable h z = rw z (record {
@@ -168,8 +176,12 @@ module _ {J : Tasks natural} {first : List ℕ} (lim : Limited J first) {ls : Li
   }
 
   -- the root has the theta-lambda tree's plain values
-  pub plain-root-of : plainAt words 0 ≡ plainOf (leaves.ect J first ls) (leaves.sum J first ls)
+  pub plain-root-of : plainAt words 0 ≡ plainOf (leaves.rootEct J first ls) (leaves.sum J first ls)
   unfolding root
   plain-root-of = root-is plainJoinOf inner (heightFor (J .count)) (plainAt words) (t .complete) (own-tree plainJoinOf inner (plainLeaves J first ls) (plainAt words) (t .tree))
       ∙ ap (λ (leaf : ℕ → plain.Node). nodeOver plainJoinOf leaf (heightFor (J .count)) 0) (own-leaves plainJoinOf inner (plainLeaves J first ls) (plainAt words) (t .tree))
       ∙ plain-over (leaves.leaves J first ls) (plainLeaves J first ls) (λ j. plain-leaf (getD ls j empty) (startAt J first j) (durationAt J first j)) (heightFor (J .count)) 0
+
+  -- and answers Theta's ect
+  pub plain-ect-of : plainEctIn words ≡ leaves.ect J first ls
+  plain-ect-of = ap (λ (n : plain.Node). decoded (n .ect)) plain-root-of

@@ -9,6 +9,7 @@ use Rattle.integers.specs.Limits.{TASKS, DURATIONS}
 use Rattle.scheduling.specs.Scheduling.{natural, Tasks, total}
 use Rattle.trees.specs.declared.theta_lambda_tree.Node.{Node}
 use Rattle.trees.specs.declared.theta_tree.Node as plain
+use Rattle.trees.specs.Ects.{decoded}
 use Rattle.trees.specs.Shapes.{width, heightFor, nodeOver, TreeOf}
 use Rattle.trees.specs.Nodes.{emptyOf, whiteOf, grayOf, joinOf, plainEmptyOf, plainOf, plainJoinOf}
 use Rattle.trees.specs.Words.{nodeAt, plainAt}
@@ -66,12 +67,19 @@ module _ (J : Tasks natural) (first : List ℕ) where
   unfoldable pub root : List Leaf → Node
   root ls = nodeOver joinOf (leaves ls) (heightFor (J .count)) 0
 
-  -- `ect`, `ect_bar`, `sum_of_processing_times`
-  abbrev pub ect : List Leaf → ℕ
-  ect ls = root ls .ect
+  -- the root's words for the two ects
+  abbrev pub rootEct : List Leaf → ℕ
+  rootEct ls = root ls .ect
 
-  abbrev pub ect-bar : List Leaf → ℕ
-  ect-bar ls = root ls .«ect_bar»
+  abbrev pub rootEctBar : List Leaf → ℕ
+  rootEctBar ls = root ls .«ect_bar»
+
+  -- `ect`, `ect_bar`: a moment, or none where no leaf is white, and where none is white or gray; and `sum_of_processing_times`
+  abbrev pub ect : List Leaf → Option ℕ
+  ect ls = decoded (rootEct ls)
+
+  abbrev pub ect-bar : List Leaf → Option ℕ
+  ect-bar ls = decoded (rootEctBar ls)
 
   abbrev pub sum : List Leaf → ℕ
   sum ls = root ls .«sum_of_processing_times»

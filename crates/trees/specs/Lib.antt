@@ -1,3 +1,4 @@
+pub mod Ects
 pub mod Shapes
 pub mod Nodes
 pub mod Words

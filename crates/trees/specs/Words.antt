@@ -1,9 +1,11 @@
 -- Nodes as words of an array: four to a node of the theta-lambda tree, two to one of the theta tree.
 use mathlib.Core.List.{List}
+use mathlib.Core.Option.{Option}
 use Prim.Native.Nat.{ℕ, _+_, _*_}
 use lib.ListN.{getD}
 use Rattle.trees.specs.declared.theta_lambda_tree.Node.{Node}
 use Rattle.trees.specs.declared.theta_tree.Node as plain
+use Rattle.trees.specs.Ects.{decoded}
 
 -- the i-th node of the words
 abbrev pub nodeAt : List ℕ → ℕ → Node
@@ -11,3 +13,13 @@ nodeAt ws i = record { ect = getD ws (4 * i) 0; «sum_of_processing_times» = ge
 
 abbrev pub plainAt : List ℕ → ℕ → plain.Node
 plainAt ws i = record { ect = getD ws (2 * i) 0; «sum_of_processing_times» = getD ws (2 * i + 1) 0 }
+
+-- what the root's words answer for the ects
+abbrev pub ectIn : List ℕ → Option ℕ
+ectIn ws = decoded (nodeAt ws 0 .ect)
+
+abbrev pub ectBarIn : List ℕ → Option ℕ
+ectBarIn ws = decoded (nodeAt ws 0 .«ect_bar»)
+
+abbrev pub plainEctIn : List ℕ → Option ℕ
+plainEctIn ws = decoded (plainAt ws 0 .ect)

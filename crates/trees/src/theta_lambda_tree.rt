@@ -1,8 +1,8 @@
 // The theta-lambda tree: the ect of a set of tasks Theta, also with at most one task of a second set Lambda added.
 //
 // Its leaves stand for the tasks in order of earliest start, so that a node's values follow from those of its children. All numbers are moments and
-// durations; moment 0 is the source's i32::MIN, the ect of no task. The nodes stand as words, four to a node, which only `load` and `store` know,
-// and the operations borrow the words alone, so that none copies the tree.
+// durations; a node with no task has the word 0 for an ect, a coding that `Ect::decoded` undoes where the tree answers. The nodes stand as words, four to a
+// node, which only `load` and `store` know, and the operations borrow the words alone, so that none copies the tree.
 use crate::complete_tree::get_left_child_index;
 use crate::complete_tree::get_parent;
 use crate::complete_tree::get_right_child_index;
@@ -12,12 +12,14 @@ use crate::disjunctive_task::DisjunctiveTask;
 use crate::disjunctive_task::LeafPlace;
 use crate::disjunctive_task::LocalId;
 use crate::disjunctive_task::task_of;
+use crate::earliest_completion::Ect;
 ghost use mathlib.Core.Path.{_≡_};
 ghost use Prim.Native.Nat.{ℕ, _+_, _*_, _-_, _≤_, _<_};
 ghost use lib.ListN.{length, take};
+ghost use Rattle.trees.specs.Ects.{momentOf};
 ghost use Rattle.trees.specs.Shapes.{leftmost, changed, leavesOf, TreeOf};
 ghost use Rattle.trees.specs.Nodes.{emptyOf, whiteOf, grayOf, joinOf, isEmpty};
-ghost use Rattle.trees.specs.Words.{nodeAt};
+ghost use Rattle.trees.specs.Words.{nodeAt, ectIn, ectBarIn};
 ghost use Rattle.trees.specs.Bounds.{Fair, size, Fits, NeedsUpheap};
 ghost use Rattle.trees.specs.Puts.{whiteTask, grayTask, Puttable, Put, Layable, Laid, Rebuildable, Rebuilt};
 ghost use Rattle.trees.specs.Searches.{Searched, Searchable, gray, tested, descentP, descentEct, AroundFits, aroundOf, stepAtP, stepAtEct, searchP, searchEct, foundAt, responsibleOf, whiteIn, Next};
@@ -269,19 +271,19 @@ pub struct ThetaLambdaTree {
 // The operations take the words of the tree and the number of its internal nodes, `inner`.
 impl ThetaLambdaTree {
     // Returns the earliest completion time of Theta.
-    pub fn ect(nodes: &[u32; 508]) -> u32
-        ensures { λ r. ⌜ r ≡ nodeAt (now (nodes .entry)) 0 .ect ⌝ }
+    pub fn ect(nodes: &[u32; 508]) -> Ect
+        ensures { λ r. ⌜ momentOf r ≡ ectIn (now (nodes .entry)) ⌝ }
     {
         let root = load(nodes, 0);
-        root.ect
+        Ect::decoded(root.ect)
     }
 
     // Returns the earliest completion time of Theta while allowing one element of Lambda to be added.
-    pub fn ect_bar(nodes: &[u32; 508]) -> u32
-        ensures { λ r. ⌜ r ≡ nodeAt (now (nodes .entry)) 0 .«ect_bar» ⌝ }
+    pub fn ect_bar(nodes: &[u32; 508]) -> Ect
+        ensures { λ r. ⌜ momentOf r ≡ ectBarIn (now (nodes .entry)) ⌝ }
     {
         let root = load(nodes, 0);
-        root.ect_bar
+        Ect::decoded(root.ect_bar)
     }
 
     // Returns the total sum of processing times of the elements in the set theta.

@@ -1,8 +1,8 @@
 // The theta tree: the ect of a set of tasks Theta.
 //
 // Its leaves stand for the tasks in order of earliest start, so that a node's values follow from those of its children. All numbers are moments and
-// durations; moment 0 is the source's i32::MIN, the ect of no task. The nodes stand as words, two to a node, which only `load` and `store` know,
-// and the operations borrow the words alone, so that none copies the tree.
+// durations; a node with no task has the word 0 for its ect, a coding that `Ect::decoded` undoes where the tree answers. The nodes stand as words, two to a
+// node, which only `load` and `store` know, and the operations borrow the words alone, so that none copies the tree.
 use crate::complete_tree::get_left_child_index;
 use crate::complete_tree::get_parent;
 use crate::complete_tree::get_right_child_index;
@@ -11,13 +11,15 @@ use crate::complete_tree::max;
 use crate::complete_tree::size_for;
 use crate::disjunctive_task::DisjunctiveTask;
 use crate::disjunctive_task::LeafPlace;
+use crate::earliest_completion::Ect;
 ghost use mathlib.Core.Path.{_≡_};
 ghost use Prim.Native.Nat.{_+_, _≤_, _<_};
 ghost use lib.ListN.{length, take};
 ghost use Rattle.integers.specs.Orders.{Permutes};
+ghost use Rattle.trees.specs.Ects.{momentOf};
 ghost use Rattle.trees.specs.Shapes.{changed, leavesOf, TreeOf};
 ghost use Rattle.trees.specs.Nodes.{plainEmptyOf, plainOf, plainJoinOf};
-ghost use Rattle.trees.specs.Words.{plainAt};
+ghost use Rattle.trees.specs.Words.{plainAt, plainEctIn};
 ghost use Rattle.trees.specs.Bounds.{PlainFair, plainSize, Fits, NeedsUpheap};
 ghost use Rattle.trees.specs.Puts.{plainTask, PlainPuttable, PlainPut};
 ghost use Rattle.trees.specs.Mappings.{PlainNew};
@@ -112,11 +114,11 @@ impl ThetaTree {
     }
 
     // Returns the earliest completion time of Theta.
-    pub fn ect(nodes: &[u32; 254]) -> u32
-        ensures { λ r. ⌜ r ≡ plainAt (now (nodes .entry)) 0 .ect ⌝ }
+    pub fn ect(nodes: &[u32; 254]) -> Ect
+        ensures { λ r. ⌜ momentOf r ≡ plainEctIn (now (nodes .entry)) ⌝ }
     {
         let root = load(nodes, 0);
-        root.ect
+        Ect::decoded(root.ect)
     }
 
     // A leaf becomes the provided node.

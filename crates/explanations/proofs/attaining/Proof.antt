@@ -1,3 +1,4 @@
+-- The invariant `WalkedTo`: x is a leaf of Θ, q what the tasks from it on last, and none before it attains the bound; the walk must stop inside, as one does.
 use mathlib.Core.Path.{subst}
 use mathlib.Core.List.{List}
 use Prim.Native.Nat.{ℕ, _+_, _-_, _<_, _^_}

@@ -1,3 +1,4 @@
+-- ω passes lct (`overflow`), so that delta and its two shares are natural numbers; the atoms are those of `conflict`.
 use mathlib.Core.Path.{sym, subst}
 use mathlib.Core.Bool.{Bool}
 use mathlib.Core.List.{List}

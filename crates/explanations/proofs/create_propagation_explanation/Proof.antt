@@ -1,3 +1,4 @@
+-- The first walk gives ω and r, the second ω′ inside it; the atoms of ω and then the task's own are those of `propagation`.
 use mathlib.Core.Path.{_≡_, refl, sym, ap, subst, _∙_}
 use mathlib.Core.Bool.{Bool}
 use mathlib.Core.List.{List}

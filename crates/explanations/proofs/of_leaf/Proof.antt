@@ -1,3 +1,4 @@
+-- The leaf's task is the place to read.
 use mathlib.Core.Path.{ap}
 use Prim.Native.Nat.{ℕ}
 use lib.ListN.{getD}

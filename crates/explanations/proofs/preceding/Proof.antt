@@ -1,3 +1,4 @@
+-- The invariant `WalkedTo`: x is a leaf of Θ, q what the tasks from it on last, and none before it passes lct; the walk must stop inside, as one does.
 use Prim.Native.Nat.{ℕ, _+_, _-_, _<_, _^_}
 use native.Mathlib.Omega.{arith}
 use lib.ListN.{getD}

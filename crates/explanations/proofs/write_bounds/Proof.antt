@@ -1,3 +1,4 @@
+-- The leaves are split where ω′ begins, and the two halves are written one behind the other.
 use Prim.Native.Nat.{ℕ, _≤_}
 use native.Mathlib.Omega.{arith}
 use borrow.Author.Needs.{needs}

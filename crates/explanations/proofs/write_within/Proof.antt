@@ -1,3 +1,4 @@
+-- The invariant `Written`: the atoms of Θ's tasks before leaf x stand from place k up to `at`, and the rest is as it was.
 use mathlib.Core.Path.{_≡_, sym, ap, subst, _∙_}
 use mathlib.Core.Bool.{Bool, true}
 use mathlib.Core.List.{List, [], _∷_}

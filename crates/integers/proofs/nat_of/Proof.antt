@@ -1,3 +1,4 @@
+-- A number that is not negative keeps its value through the cast.
 use mathlib.Core.Path.{_≡_, refl, sym, ap, _∙_, subst}
 use lib.IntN.{ℤ, pos, natAbs}
 use lib.Signed.{_≤ℤ_, nonNeg, yes-nonNeg, pos-natAbs}

@@ -1,3 +1,4 @@
+-- In 64 bits the difference is the instant of the moment, and that fits 32 bits.
 use mathlib.Core.Path.{_≡_, refl, sym, ap, _∙_, subst}
 use lib.IntN.{ℤ, pos, _-ℤ_, subℕ}
 use Prim.Native.Nat.{ℕ, _<_, _^_}

@@ -1,3 +1,4 @@
+-- Below 2^31 the cast keeps the value.
 use native.Mathlib.Omega.{arith}
 use mir.Syntax.{w32}
 use mir.ValLaws.{toZ-pos}

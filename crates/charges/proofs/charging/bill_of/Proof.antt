@@ -1,3 +1,4 @@
+-- The invariant: the first i places hold their charges, `sum` is their total, and it is at most 2,000 a task, so it cannot overflow.
 use mathlib.Core.Path.{_≡_, sym, ap, ap₂, subst, _∙_}
 use Prim.Native.Nat.{ℕ, _+_, _-_, _*_, _≤_}
 use native.Mathlib.Omega.{arith}

@@ -1,3 +1,4 @@
+-- The two contracts, one after the other.
 use mathlib.Core.Path.{sym, ap, ap₂, subst, _∙_}
 use lib.IntN.{ℤ, pos, _+ℤ_}
 use borrow.Author.Needs.{needs}

@@ -1,3 +1,4 @@
+-- The number decides which bill there is: `refused` has that of zeros, `made` that of the accepted schedule.
 use mathlib.Core.Path.{_≡_, sym, _∙_}
 use borrow.Author.Needs.{needs}
 use Rattle.charges.specs.Charging.{chargesNumber}

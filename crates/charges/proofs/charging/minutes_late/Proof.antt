@@ -1,3 +1,4 @@
+-- End and due moment are compared as moments, whose difference is that of the whole numbers.
 use mathlib.Core.Path.{_≡_, sym, ap, _∙_}
 use Prim.Native.Nat.{ℕ, _+_}
 use native.Mathlib.Omega.{arith}

@@ -10,7 +10,9 @@ use borrow.Author.Tests.{not-true, not-false}
 use Rattle.integers.specs.Limits.{TASKS}
 use Rattle.scheduling.specs.Scheduling.{natural, Tasks, TaskSet}
 use Rattle.checker.specs.Formulas.{_but_}
-use Rattle.checker.specs.Holding.{Held, Bounding}
+use Rattle.trees.specs.Ects.{momentOf}
+use Rattle.chosen_sets.specs.Holding.{Held}
+use Rattle.checker.specs.Holding.{Bounding}
 use Rattle.checker.proofs.Judging.{none-after, joint-fits, room-before, after-where, others-held}
 use Rattle.checker.proofs.checker.implied.Statement.{statement}
 use Rattle.checker.proofs.checker.implied.Tie as tie
@@ -31,12 +33,10 @@ gather-requires c κs =
     (J, Ω but c .before .before .before .before .before .args .i, held c d, d .late)
 
 returns : tie.Need-returns
-returns c =
-    let start = c .before .before .before .before .before .before .before .before in
-    λ J Ω d.
+returns c = λ J Ω d.
     let g = c .before .before .gather in
     let h = held (c .before .before .before) d in
-    none-after h (g .result) (g .ensures J (Ω but start .args .i) h (d .late)) (d .late) (start .args .i) (start .pre .0) (not-true (g .result .some) (c .if1 .taken))
+    none-after h (g .result) (g .ensures J (Ω but c .before .before .before .before .before .before .before .before .args .i) h (d .late)) (d .late) (c .before .before .before .before .before .before .before .before .args .i) (c .before .before .before .before .before .before .before .before .pre .0) (not-true (g .result .some) (c .if1 .taken))
 
 mul-min : tie.Need-mul-min
 mul-min c = search needs
@@ -52,11 +52,10 @@ min-requires c κs = search needs
 
 add-if2 : tie.Need-add-if2
 add-if2 c =
-    let start = c .before .before .before .before .before .before .before .before .before .before .before in
-    let (q, (J, Ω, d)) = start .pre in
+    let (q, (J, Ω, d)) = c .before .before .before .before .before .before .before .before .before .before .before .pre in
     let g = c .before .before .before .before .before .gather in
     let h = held (c .before .before .before .before .before .before) d in
-    omega (arith, c .before .min .ensures, joint-fits h (g .result) (g .ensures J (Ω but start .args .i) h (d .late)) (d .late) (start .args .i) q (not-false (g .result .some) (c .before .before .before .if1 .left)) .0)
+    omega (arith, c .before .min .ensures, joint-fits h (g .result) (g .ensures J (Ω but c .before .before .before .before .before .before .before .before .before .before .before .args .i) h (d .late)) (d .late) (c .before .before .before .before .before .before .before .before .before .before .before .args .i) q (not-false (g .result .some) (c .before .before .before .if1 .left)) .0)
 
 mul-if2 : tie.Need-mul-if2
 mul-if2 c = search needs
@@ -74,46 +73,39 @@ cast-if2 c =
 
 add-if2-2 : tie.Need-add-if2-2
 add-if2-2 c =
-    let start = c .before .before .before .before .before .before .before .before .before .before .before .before in
-    let (q, (J, Ω, d)) = start .pre in
+    let (q, (J, Ω, d)) = c .before .before .before .before .before .before .before .before .before .before .before .before .pre in
     let g = c .before .before .before .before .before .before .gather in
     let h = held (c .before .before .before .before .before .before .before) d in
-    omega (arith, c .before .before .min .ensures, joint-fits h (g .result) (g .ensures J (Ω but start .args .i) h (d .late)) (d .late) (start .args .i) q (not-false (g .result .some) (c .before .before .before .before .if1 .left)) .1)
+    omega (arith, c .before .before .min .ensures, joint-fits h (g .result) (g .ensures J (Ω but c .before .before .before .before .before .before .before .before .before .before .before .before .args .i) h (d .late)) (d .late) (c .before .before .before .before .before .before .before .before .before .before .before .before .args .i) q (not-false (g .result .some) (c .before .before .before .before .if1 .left)) .1)
 
 returns-2 : tie.Need-returns-2
-returns-2 c =
-    let s = c .before .before .before .before .before .before .before .before .before in
-    let start = s .before .before .before .before .before in
-    λ J Ω d.
+returns-2 c = λ J Ω d.
     let g = c .before .before .before .before .before .before .before .before .gather in
-    let h = held s d in
-    room-before h (g .result) (g .ensures J (Ω but start .args .i) h (d .late)) (d .late) (start .args .i) (start .pre .0) (not-false (g .result .some) (c .before .before .before .before .before .before .if1 .left))
+    let h = held (c .before .before .before .before .before .before .before .before .before) d in
+    room-before h (g .result) (g .ensures J (Ω but c .before .before .before .before .before .before .before .before .before .before .before .before .before .before .args .i) h (d .late)) (d .late) (c .before .before .before .before .before .before .before .before .before .before .before .before .before .before .args .i) (c .before .before .before .before .before .before .before .before .before .before .before .before .before .before .pre .0) (not-false (g .result .some) (c .before .before .before .before .before .before .if1 .left))
     (omega (arith, c .before .before .before .before .min .ensures, c .if2 .taken))
 
 theta-ect-requires : tie.Need-theta-ect-requires
 theta-ect-requires c κs =
-    let s = c .before .before .before .before .before .before .before .before .before .before .before .before in
-    let start = s .before .before .before .before .before in
-    let (q, (J, Ω, d)) = start .pre in
-    (J, Ω but start .args .i, held s d)
+    let (q, (J, Ω, d)) = c .before .before .before .before .before .before .before .before .before .before .before .before .before .before .before .before .before .pre in
+    (J, Ω but c .before .before .before .before .before .before .before .before .before .before .before .before .before .before .before .before .before .args .i, held (c .before .before .before .before .before .before .before .before .before .before .before .before) d)
 
-mul-result : tie.Need-mul-result
-mul-result c = search needs
+mul-exceeds : tie.Need-mul-exceeds
+mul-exceeds c = search needs
 
-element-copy-out-result : tie.Need-element-copy-out-result
-element-copy-out-result c = search needs
+element-copy-out-exceeds : tie.Need-element-copy-out-exceeds
+element-copy-out-exceeds c = search needs
+
+exceeds-requires : tie.Need-exceeds-requires
+exceeds-requires c κs = search needs
 
 returns-3 : tie.Need-returns-3
-returns-3 c =
-    let s = c .before .before .before .before .before .before .before .before .before in
-    let at = s .before .before in
-    let here = at .before .before .before in
-    let start = here .before .before .before .before .before in
-    λ J Ω d.
-    let g = c .before .before .before .before .before .before .before .before .before .before .before .before .before .gather in
-    let h = held here d in
-    after-where h (g .result) (g .ensures J (Ω but start .args .i) h (d .late)) (d .late) (start .args .i) (start .pre .0) (not-false (g .result .some) (at .if1 .left))
-    (omega (arith, s .min .ensures, c .before .before .before .before .before .if2 .left)) (c .before .theta-ect .result) (c .before .theta-ect .ensures J (Ω but start .args .i) h)
+returns-3 c = λ J Ω d.
+    let g = c .before .before .before .before .before .before .before .before .before .before .before .before .before .before .gather in
+    let h = held (c .before .before .before .before .before .before .before .before .before .before .before .before .before .before .before) d in
+    c .exceeds .ensures
+    ∙ after-where h (g .result) (g .ensures J (Ω but c .before .before .before .before .before .before .before .before .before .before .before .before .before .before .before .before .before .before .before .before .args .i) h (d .late)) (d .late) (c .before .before .before .before .before .before .before .before .before .before .before .before .before .before .before .before .before .before .before .before .args .i) (c .before .before .before .before .before .before .before .before .before .before .before .before .before .before .before .before .before .before .before .before .pre .0) (not-false (g .result .some) (c .before .before .before .before .before .before .before .before .before .before .before .before .if1 .left))
+    (omega (arith, c .before .before .before .before .before .before .before .before .before .before .min .ensures, c .before .before .before .before .before .before .if2 .left)) (momentOf (c .before .before .theta-ect .result)) (c .before .before .theta-ect .ensures J (Ω but c .before .before .before .before .before .before .before .before .before .before .before .before .before .before .before .before .before .before .before .before .args .i) h)
 
 pub implied-spec : {M : Type 1} → statement M
 implied-spec =
@@ -133,6 +125,7 @@ implied-spec =
     add-if2-2
     returns-2
     theta-ect-requires
-    mul-result
-    element-copy-out-result
+    mul-exceeds
+    element-copy-out-exceeds
+    exceeds-requires
     returns-3)

@@ -1,3 +1,4 @@
+-- Right words from place i on begin with three that are an atom.
 use mathlib.Core.Path.{_∙_}
 use Prim.Native.Nat.{ℕ, _+_}
 use native.Mathlib.Omega.{arith}

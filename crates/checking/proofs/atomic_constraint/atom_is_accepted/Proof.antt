@@ -1,3 +1,4 @@
+-- At each return the tests before it are passed and its own is not, so the conjunction has that value.
 use mathlib.Core.Path.{_≡_, sym, ap, _∙_}
 use mathlib.Core.Bool.{true, false}
 use borrow.Author.Tests.{not-true, not-false}

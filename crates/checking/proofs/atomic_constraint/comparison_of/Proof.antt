@@ -1,3 +1,4 @@
+-- The three equal bits decide; past them only 3 is left.
 use mathlib.Core.Path.{sym, ap, _∙_}
 use lib.IntN.{natAbs}
 use mir.Syntax.{w32}

@@ -1,3 +1,4 @@
+-- The sign decides first, and the limit where it does not.
 use mathlib.Core.Path.{_≡_, ap}
 use mathlib.Core.Bool.{true, false}
 use lib.IntN.{ℤ, pos}

@@ -1,3 +1,4 @@
+-- The invariant: the domains from i on are accepted exactly where all are, and those before i are proper.
 use mathlib.Core.Path.{_≡_, refl, sym, ap, _∙_}
 use mathlib.Core.Bool.{true, false}
 use Prim.Native.Nat.{ℕ, _+_, _-_, _≤_, _<_}

@@ -1,3 +1,4 @@
+-- Place i is in the premises, or that many places further in the consequent, whose atom has a value that can be negated.
 use mathlib.Core.Path.{sym, ap, _∙_, subst}
 use native.Mathlib.Omega.{arith}
 use borrow.Author.Tests.{lt-ltb, le-ltb}

@@ -1,3 +1,4 @@
+-- The tests in the order of the definition; the conjunction has the value of the first that decides.
 use mathlib.Core.Path.{_≡_, sym, _∙_}
 use mathlib.Core.Bool.{true, false}
 use borrow.Author.Tests.{not-true, not-false, le-leb, lt-leb}

@@ -6,9 +6,10 @@ use Prim.Native.Nat.{ℕ, _+_, _-_, _≤_, _<_}
 use native.Mathlib.Omega.{arith}
 use lib.ListN.{getD}
 use borrow.Author.Needs.{needs}
+use Rattle.trees.specs.Ects.{momentOf}
 use Rattle.counter.specs.Holding.{Readable}
-use Rattle.counter.specs.Reading.{answerFrom, answerOf}
-use Rattle.counter.proofs.Adding.{Shows, none-shown, all-answer, task-known, may-add, was-added, overloads, fits}
+use Rattle.counter.specs.Reading.{overloadsAt, answerFrom, answerOf}
+use Rattle.counter.proofs.Adding.{Shows, none-shown, all-answer, task-known, may-add, was-added, test-is}
 use Rattle.counter.proofs.Answers.{answer-yes, answer-on, answer-no}
 use Rattle.counter.proofs.overload_test.read_tasks.Statement.{statement}
 use Rattle.counter.proofs.overload_test.read_tasks.Tie as tie
@@ -52,17 +53,17 @@ element-copy-out-i c = omega (arith, inside c, c .before .loop .inv .readable .h
 leaf-of-requires : tie.Need-leaf-of-requires Inv-loop μ-loop
 leaf-of-requires c κs = known (c .before)
 
-mul-if1 : tie.Need-mul-if1 Inv-loop μ-loop
-mul-if1 c = omega (arith, known (c .before .before))
+mul-exceeds : tie.Need-mul-exceeds Inv-loop μ-loop
+mul-exceeds c = omega (arith, known (c .before .before))
 
-element-copy-out-if1 : tie.Need-element-copy-out-if1 Inv-loop μ-loop
-element-copy-out-if1 c = known (c .before .before)
+element-copy-out-exceeds : tie.Need-element-copy-out-exceeds Inv-loop μ-loop
+element-copy-out-exceeds c = known (c .before .before)
 
-mul-if1-2 : tie.Need-mul-if1-2 Inv-loop μ-loop
-mul-if1-2 c = omega (arith, known (c .before .before .before))
+mul-t18 : tie.Need-mul-t18 Inv-loop μ-loop
+mul-t18 c = omega (arith, known (c .before .before .before))
 
-element-copy-out-if1-2 : tie.Need-element-copy-out-if1-2 Inv-loop μ-loop
-element-copy-out-if1-2 c = known (c .before .before .before)
+element-copy-out-t25 : tie.Need-element-copy-out-t25 Inv-loop μ-loop
+element-copy-out-t25 c = known (c .before .before .before)
 
 add-requires : tie.Need-add-requires Inv-loop μ-loop
 add-requires c κs =
@@ -76,31 +77,39 @@ add-k c = omega (arith, inside (c .before .before .before .before .before .befor
 ect-requires : tie.Need-ect-requires Inv-loop μ-loop
 ect-requires c κs = search needs
 
-mul-if1-3 : tie.Need-mul-if1-3 Inv-loop μ-loop
-mul-if1-3 c = omega (arith, known (c .before .before .before .before .before .before .before .before))
+mul-exceeds-2 : tie.Need-mul-exceeds-2 Inv-loop μ-loop
+mul-exceeds-2 c = omega (arith, known (c .before .before .before .before .before .before .before .before))
 
-element-copy-out-if1-3 : tie.Need-element-copy-out-if1-3 Inv-loop μ-loop
-element-copy-out-if1-3 c = known (c .before .before .before .before .before .before .before .before)
+element-copy-out-exceeds-2 : tie.Need-element-copy-out-exceeds-2 Inv-loop μ-loop
+element-copy-out-exceeds-2 c = known (c .before .before .before .before .before .before .before .before)
+
+exceeds-requires : tie.Need-exceeds-requires Inv-loop μ-loop
+exceeds-requires c κs = search needs
+
+-- the test is the definition's
+tested : (c : tie.After-exceeds Inv-loop μ-loop) → let at = c .before .before .before .before .before .before .before .before .before .before in let a = at .before .before .args in
+    (f : Readable (a .inner) (a .n) (a .nodes .now) (a .mapping .now) (a .tasks .now) (a .est .now) (a .lct .now) (a .durations .now)) → c .exceeds .result ≡ overloadsAt (f .J) (at .before .loop .k)
+tested c f =
+    let at = c .before .before .before .before .before .before .before .before .before .before in
+    c .exceeds .ensures ∙ test-is f (at .before .loop .k) (inside at) (added (c .before .before .before .before) f) (momentOf (c .before .before .ect .result)) (c .before .before .ect .ensures)
 
 returns : tie.Need-returns Inv-loop μ-loop
 returns c = λ f.
-    let at = c .before .before .before .before .before .before .before .before .before .before in
-    let k = at .before .loop .k in
-    let over = overloads f k (inside at) (added (c .before .before .before .before) f) (c .before .before .ect .result) (c .before .before .ect .ensures) (c .if1 .taken) in
-    sym (at .before .loop .inv .answer f ∙ answer-yes (f .J) (at .before .before .args .n) k (inside at) over)
+    let at = c .before .before .before .before .before .before .before .before .before .before .before in
+    sym (at .before .loop .inv .answer f ∙ answer-yes (f .J) (at .before .before .args .n) (at .before .loop .k) (inside at) (sym (tested (c .before) f) ∙ c .if1 .taken))
 
 loop-less : tie.Need-loop-less Inv-loop μ-loop
 loop-less c = search needs
 
 loop-again : tie.Need-loop-again Inv-loop μ-loop
 loop-again c =
-    let at = c .before .before .before .before .before .before .before .before .before .before in
+    let at = c .before .before .before .before .before .before .before .before .before .before .before in
     let k = at .before .loop .k in
     let v = at .before .loop .inv in
     record {
       readable = v .readable;
-      tree = added (c .before .before .before .before);
-      answer = λ f. v .answer f ∙ answer-on (f .J) (at .before .before .args .n) k (inside at) (fits f k (inside at) (added (c .before .before .before .before) f) (c .before .before .ect .result) (c .before .before .ect .ensures) (c .if1 .left));
+      tree = added (c .before .before .before .before .before);
+      answer = λ f. v .answer f ∙ answer-on (f .J) (at .before .before .args .n) k (inside at) (sym (tested (c .before) f) ∙ c .if1 .left);
       small = omega (arith, inside at);
     }
 
@@ -117,15 +126,16 @@ read-tasks-spec =
     mul-i
     element-copy-out-i
     leaf-of-requires
-    mul-if1
-    element-copy-out-if1
-    mul-if1-2
-    element-copy-out-if1-2
+    mul-exceeds
+    element-copy-out-exceeds
+    mul-t18
+    element-copy-out-t25
     add-requires
     add-k
     ect-requires
-    mul-if1-3
-    element-copy-out-if1-3
+    mul-exceeds-2
+    element-copy-out-exceeds-2
+    exceeds-requires
     returns
     loop-less
     loop-again

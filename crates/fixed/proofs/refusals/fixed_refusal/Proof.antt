@@ -1,3 +1,4 @@
+-- The record's own number goes before; neighbours in the order of starts then stand for all pairs of tasks, by `turns-are`.
 use mathlib.Core.Path.{_≡_, sym, _∙_}
 use mathlib.Core.Bool.{true}
 use lib.ListN.{length}

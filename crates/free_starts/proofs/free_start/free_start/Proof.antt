@@ -1,3 +1,4 @@
+-- The search runs in moments: an accepted schedule is sorted and limited as `first_free` asks, and its answer is carried back to whole numbers.
 use mathlib.Core.Path.{_≡_, sym, ap, _∙_}
 use native.Mathlib.Omega.{arith}
 use lib.IntN.{ℤ, pos}

@@ -2,11 +2,12 @@
 -- Assumes nothing.
 use mathlib.Core.Path.{_≡_, sym, ap, ap₂, _∙_}
 use mathlib.Core.List.{List}
-use Prim.Native.Nat.{ℕ, _-_, _≤_, _<_, max}
+use Prim.Native.Nat.{ℕ, _-_, _≤_, _<_}
 use native.Mathlib.Omega.{arith}
 use Rattle.integers.specs.Filling.{filled}
 use Rattle.integers.proofs.Filling.{filled-none, filled-store}
 use Rattle.records.specs.Orders.{noTasks}
+use Rattle.trees.specs.Ects.{raisedTo}
 use Rattle.precedences.specs.Holding.{raisedAt, Ranged}
 use borrow.Author.Needs.{needs}
 use Rattle.precedences.proofs.pass.raised_starts.Statement.{statement}
@@ -27,20 +28,20 @@ abbrev μ-loop : tie.MeasureT-loop
 loop-holds : tie.Need-loop-holds Inv-loop μ-loop
 loop-holds c = record { ranged = c .pre; at = λ f. sym (filled-none (raisedAt (f .J)) noTasks); small = omega arith }
 
-mul-max : tie.Need-mul-max Inv-loop μ-loop
-mul-max c = search needs
-
-element-copy-out-max : tie.Need-element-copy-out-max Inv-loop μ-loop
-element-copy-out-max c = omega (arith, c .before .loop .inv .ranged .held .few)
-
 bound-of-requires : tie.Need-bound-of-requires Inv-loop μ-loop
-bound-of-requires c κs = (c .before .before .loop .inv .ranged, omega arith)
-
-max-requires : tie.Need-max-requires Inv-loop μ-loop
-max-requires c κs = search needs
+bound-of-requires c κs = (c .before .loop .inv .ranged, omega arith)
 
 mul-raised : tie.Need-mul-raised Inv-loop μ-loop
 mul-raised c = search needs
+
+element-copy-out-raised : tie.Need-element-copy-out-raised Inv-loop μ-loop
+element-copy-out-raised c = omega (arith, c .before .before .loop .inv .ranged .held .few)
+
+raised-requires : tie.Need-raised-requires Inv-loop μ-loop
+raised-requires c κs = search needs
+
+mul-raised-2 : tie.Need-mul-raised-2 Inv-loop μ-loop
+mul-raised-2 c = search needs
 
 array-write-raised : tie.Need-array-write-raised Inv-loop μ-loop
 array-write-raised c = search needs
@@ -57,7 +58,7 @@ loop-again c =
     let q : l .i < c .before .before .before .before .before .args .n = omega arith in
     record {
       ranged = l .inv .ranged;
-      at = λ f. filled-store (raisedAt (f .J)) noTasks (l .raised) (l .i) (c .max .result) (l .inv .at f) (c .max .ensures ∙ ap₂ max (f .held .start (l .i) q) (c .before .bound-of .ensures f));
+      at = λ f. filled-store (raisedAt (f .J)) noTasks (l .raised) (l .i) (c .raised .result) (l .inv .at f) (c .raised .ensures ∙ ap₂ raisedTo (f .held .start (l .i) q) (c .before .before .bound-of .ensures f));
       small = omega arith;
     }
 
@@ -74,11 +75,11 @@ raised-starts-spec =
     Inv-loop
     μ-loop
     loop-holds
-    mul-max
-    element-copy-out-max
     bound-of-requires
-    max-requires
     mul-raised
+    element-copy-out-raised
+    raised-requires
+    mul-raised-2
     array-write-raised
     add-i
     loop-less

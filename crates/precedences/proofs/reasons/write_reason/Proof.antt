@@ -1,17 +1,20 @@
 -- `precedences::reasons::write_reason` meets its contract.
 -- Assumes nothing.
-use mathlib.Core.Path.{_≡_, ap, _∙_}
+use mathlib.Core.Path.{_≡_, sym, ap, _∙_}
 use mathlib.Core.List.{List, [], _∷_}
-use Prim.Native.Nat.{_*_}
+use mathlib.Core.Option.{Option}
+use Prim.Native.Nat.{ℕ, _*_}
 use native.Mathlib.Omega.{arith}
 use lib.IntN.{ℤ, pos}
 use lib.ListN.{length, getD}
 use lib.Seq.{sets, length-sets}
 use Rattle.integers.specs.Moments.{instant, zeroAt}
+use Rattle.trees.specs.Ects.{momentOf, exceeds}
 use Rattle.precedences.specs.Holding.{comesBefore, boundAt, Ranged}
 use Rattle.precedences.proofs.Ranging.{end-fits, chosen}
 use Rattle.precedences.proofs.Explaining.{members-fit, reason-left, nothing-left}
 use borrow.Author.Needs.{needs}
+use borrow.Author.Tests.{not-true, not-false}
 use Rattle.precedences.proofs.reasons.write_reason.Statement.{statement}
 use Rattle.precedences.proofs.reasons.write_reason.Tie as tie
 
@@ -22,21 +25,28 @@ start t = t .before .before .before .before
 abbrev found : tie.After-theta-ect → tie.After-predecessors
 found t = t .before .before .before
 
-bound-is : (t : tie.After-theta-ect) → let a = start t .args in (f : Ranged (a .n) (a .est .now) (a .lst .now) (a .durations .now)) → t .theta-ect .result ≡ boundAt (f .J) (a .i)
+bound-is : (t : tie.After-theta-ect) → let a = start t .args in (f : Ranged (a .n) (a .est .now) (a .lst .now) (a .durations .now)) → momentOf (t .theta-ect .result) ≡ boundAt (f .J) (a .i)
 bound-is t f = let s = start t in t .theta-ect .ensures (f .J) (comesBefore (f .J) (s .args .i)) (chosen f (s .args .i) (s .pre .1) (found t .predecessors .ensures))
+
+-- the test is the definition's
+tested : (x : tie.After-exceeds) → let a = start (x .before) .args in (f : Ranged (a .n) (a .est .now) (a .lst .now) (a .durations .now)) → x .exceeds .result ≡ exceeds (boundAt (f .J) (a .i)) (getD (a .est .now) (a .i) 0)
+tested x f = x .exceeds .ensures ∙ ap (λ (o : Option ℕ). exceeds o (getD (start (x .before) .args .est .now) (start (x .before) .args .i) 0)) (bound-is (x .before) f)
 
 -- the first atom, and the slice's length after it
 abbrev else1 : tie.After-write-atom → tie.Else1
 else1 c = c .before .before
 
-abbrev one : tie.After-write-atom → List ℤ
-one c = let a = start (else1 c .before) .args in pos (a .i) ∷ pos 0 ∷ instant zeroAt (getD (a .est .now) (a .i) 0) ∷ []
+abbrev ect-known : tie.After-write-atom → tie.After-theta-ect
+ect-known c = else1 c .before .before
 
-first : (c : tie.After-write-atom) → c .write-atom .last .0 ≡ sets (start (else1 c .before) .args .atoms .now) (3 * 0) (one c)
+abbrev one : tie.After-write-atom → List ℤ
+one c = let a = start (ect-known c) .args in pos (a .i) ∷ pos 0 ∷ instant zeroAt (getD (a .est .now) (a .i) 0) ∷ []
+
+first : (c : tie.After-write-atom) → c .write-atom .last .0 ≡ sets (start (ect-known c) .args .atoms .now) (3 * 0) (one c)
 first c = c .write-atom .ensures
 
-length-first : (c : tie.After-write-atom) → length (c .write-atom .last .0) ≡ length (start (else1 c .before) .args .atoms .now)
-length-first c = ap length (first c) ∙ length-sets (start (else1 c .before) .args .atoms .now) (3 * 0) (one c)
+length-first : (c : tie.After-write-atom) → length (c .write-atom .last .0) ≡ length (start (ect-known c) .args .atoms .now)
+length-first c = ap length (first c) ∙ length-sets (start (ect-known c) .args .atoms .now) (3 * 0) (one c)
 
 predecessors-requires : tie.Need-predecessors-requires
 predecessors-requires c κs = (c .pre .0 .held .few, c .pre .1, end-fits (c .pre .0) (c .args .i) (c .pre .1))
@@ -52,11 +62,14 @@ theta-ect-requires c κs =
     let s = c .before .before .before in
     (s .pre .0 .J, comesBefore (s .pre .0 .J) (s .args .i), chosen (s .pre .0) (s .args .i) (s .pre .1) (c .before .before .predecessors .ensures))
 
+exceeds-requires : tie.Need-exceeds-requires
+exceeds-requires c κs = search needs
+
 returns : tie.Need-returns
 returns c = λ f.
-    let t = c .before in
+    let t = c .before .before in
     let s = start t in
-    nothing-left f (s .args .i) (s .pre .1) (found t .predecessors .ensures) (bound-is t f) (c .if1 .taken)
+    nothing-left f (s .args .i) (s .pre .1) (found t .predecessors .ensures) (sym (tested (c .before) f) ∙ not-true (c .before .exceeds .result) (c .if1 .taken))
 
 write-atom-requires : tie.Need-write-atom-requires
 write-atom-requires c κs = search needs
@@ -64,7 +77,7 @@ write-atom-requires c κs = search needs
 write-members-requires : tie.Need-write-members-requires
 write-members-requires c κs =
     let w = c .before .before .before in
-    let t = else1 w .before in
+    let t = ect-known w in
     let s = start t in
     (s .pre .0 .held .few, members-fit (s .pre .0) (s .args .i) (s .pre .1) (found t .predecessors .ensures) (length (w .write-atom .last .0)) (omega (arith, s .pre .2, length-first w)))
 
@@ -75,9 +88,9 @@ returns-2 : tie.Need-returns-2
 returns-2 c = λ f.
     let y = c .before in
     let w = y .before .before .before .before in
-    let t = else1 w .before in
+    let t = ect-known w in
     let s = start t in
-    reason-left f (s .args .i) (s .pre .1) (found t .predecessors .ensures) (bound-is t f) (else1 w .if1 .left) (first w) (y .write-members .ensures)
+    reason-left f (s .args .i) (s .pre .1) (found t .predecessors .ensures) (sym (tested (else1 w .before) f) ∙ not-false (else1 w .before .exceeds .result) (else1 w .if1 .left)) (first w) (y .write-members .ensures)
 
 pub write-reason-spec : {M : Type 1} → statement M
 write-reason-spec =
@@ -87,6 +100,7 @@ write-reason-spec =
     mul-start
     element-copy-out-start
     theta-ect-requires
+    exceeds-requires
     returns
     write-atom-requires
     write-members-requires

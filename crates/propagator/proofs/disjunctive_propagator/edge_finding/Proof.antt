@@ -7,8 +7,10 @@ use native.Mathlib.Omega.{arith}
 use lib.IntN.{ℤ}
 use lib.ListN.{length, getD}
 use borrow.Author.Needs.{needs}
+use borrow.Author.Tests.{ltb-true, ltb-false}
 use Rattle.integers.specs.Limits.{TASKS}
 use Rattle.trees.specs.Words.{nodeAt}
+use Rattle.trees.proofs.Ects.{exceeds-decoded}
 use Rattle.propagator.specs.declared.disjunctive_propagator.Turn.{Turn}
 use Rattle.propagator.specs.declared.disjunctive_propagator.Written.{Written}
 use Rattle.propagator.specs.Turns.{AllConsidered}
@@ -68,12 +70,12 @@ mul-lct-j c = omega (arith, candidate (c .before))
 element-copy-out-lct-j : tie.Need-element-copy-out-lct-j Inv-loop μ-loop
 element-copy-out-lct-j c = candidate (c .before)
 
-ect-requires : tie.Need-ect-requires Inv-loop μ-loop
-ect-requires c κs = search needs
+overloads-requires : tie.Need-overloads-requires Inv-loop μ-loop
+overloads-requires c κs = search needs
 
 -- the test of the level
 passes : (c : tie.Then1 Inv-loop μ-loop) → end (c .before .before .before .before .before) < nodeAt (c .before .before .before .before .before .before .loop .nodes) 0 .ect
-passes c = omega (arith, c .before .ect .ensures)
+passes c = ltb-true _ _ (sym (exceeds-decoded (nodeAt (c .before .before .before .before .before .before .loop .nodes) 0 .ect) (end (c .before .before .before .before .before))) ∙ sym (c .before .overloads .ensures) ∙ c .if1 .taken)
 
 overload-requires : tie.Need-overload-requires Inv-loop μ-loop
 overload-requires c κs =
@@ -96,7 +98,7 @@ returns c = λ s.
     overloads s (v .level s) (task (c .before .before .before .before .before .before .before .before .before)) (end (c .before .before .before .before .before .before .before .before .before)) (more (c .before .before .before .before .before .before .before .before .before)) refl refl (passes (c .before .before .before .before)) (c .before .overload .ensures)
 
 quiet : (c : tie.After-move-to-lambda Inv-loop μ-loop) → nodeAt (c .before .before .before .before .before .before .before .before .loop .nodes) 0 .ect ≤ end (c .before .before .before .before .before .before .before)
-quiet c = omega (arith, c .before .before .before .ect .ensures)
+quiet c = ltb-false _ _ (sym (exceeds-decoded (nodeAt (c .before .before .before .before .before .before .before .before .loop .nodes) 0 .ect) (end (c .before .before .before .before .before .before .before))) ∙ sym (c .before .before .before .overloads .ensures) ∙ c .before .before .if1 .left)
 
 move-to-lambda-requires : tie.Need-move-to-lambda-requires Inv-loop μ-loop
 move-to-lambda-requires c κs =
@@ -156,13 +158,13 @@ enum-known-turn-2 : tie.Need-enum-known-turn-2 Inv-loop μ-loop
 enum-known-turn-2 c = search needs
 
 same-length-4 : tie.Need-same-length-4 Inv-loop μ-loop
-same-length-4 c = search needs
+same-length-4 c = search (needs, c .before .before .before .before .before .before .before .before .before .before .before .before .before .before .before .before .before .before .before .before .before .before .loop .inv .starts-length)
 
 same-length-5 : tie.Need-same-length-5 Inv-loop μ-loop
-same-length-5 c = search needs
+same-length-5 c = search (needs, c .before .before .before .before .before .before .before .before .before .before .before .before .before .before .before .before .before .before .before .before .before .before .loop .inv .posts-length)
 
 same-length-6 : tie.Need-same-length-6 Inv-loop μ-loop
-same-length-6 c = search needs
+same-length-6 c = search (needs, c .before .before .before .before .before .before .before .before .before .before .before .before .before .before .before .before .before .before .before .before .before .before .loop .inv .atoms-length)
 
 returns-2 : tie.Need-returns-2 Inv-loop μ-loop
 returns-2 c = λ s.
@@ -197,7 +199,7 @@ edge-finding-spec =
     element-copy-out-j
     mul-lct-j
     element-copy-out-lct-j
-    ect-requires
+    overloads-requires
     overload-requires
     same-length
     same-length-2

@@ -1,3 +1,4 @@
+-- Where the number is 0 the post can be read, so that the two ends lie inside the atoms.
 use mathlib.Core.Path.{_≡_, sym, ap, _∙_, subst}
 use Prim.Native.Nat.{_*_}
 use native.Mathlib.Omega.{arith}

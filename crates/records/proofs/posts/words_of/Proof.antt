@@ -1,3 +1,4 @@
+-- The number keeps its value, as it is not negative.
 use mathlib.Core.Path.{ap, _∙_}
 use Prim.Native.Nat.{ℕ, _*_}
 use lib.IntN.{natAbs}

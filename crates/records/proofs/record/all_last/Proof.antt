@@ -1,3 +1,4 @@
+-- The invariant: each of the first i durations is 1 or more.
 use mathlib.Core.Path.{_≡_, sym, ap, _∙_}
 use mathlib.Core.Bool.{true}
 use Prim.Native.Nat.{_-_, _≤_}

@@ -1,3 +1,4 @@
+-- The first test decides where it fails, and the second where it does not.
 use mathlib.Core.Path.{sym}
 use borrow.Author.Tests.{lt-leb, le-leb}
 use Rattle.integers.proofs.Bools.{and-left, and-is}

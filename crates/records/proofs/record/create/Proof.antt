@@ -1,3 +1,4 @@
+-- Where the number is 0 the record is lawful, so that its sum fits 32 bits.
 use mathlib.Core.Path.{_≡_, sym, ap, _∙_}
 use mathlib.Core.List.{List}
 use Prim.Native.Nat.{ℕ}

@@ -1,3 +1,4 @@
+-- The tests run on the record's durations, and `same-lasts` and `same-sum` say that they are those of the caller's.
 use mathlib.Core.Path.{_≡_, sym, ap, _∙_}
 use mathlib.Core.Bool.{true}
 use mathlib.Core.List.{List, [], _∷_}

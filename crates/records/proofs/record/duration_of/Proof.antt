@@ -1,3 +1,4 @@
+-- By the sign: a negative number counts as 0, any other keeps its value.
 use mathlib.Core.Path.{_≡_, sym, ap, _∙_, subst}
 use lib.IntN.{ℤ, pos}
 use lib.Signed.{leZ, _≤ℤ_}

@@ -1,3 +1,4 @@
+-- The invariant: the first i places are filled with the caller's durations, the others are 0.
 use mathlib.Core.Path.{_≡_, sym, ap, _∙_}
 use Prim.Native.Nat.{ℕ, _-_, _≤_}
 use native.Mathlib.Omega.{arith}

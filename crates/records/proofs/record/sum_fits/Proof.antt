@@ -1,3 +1,4 @@
+-- The sum is taken in 64 bits, so that the test is that of the definition.
 use mathlib.Core.Path.{ap}
 use Prim.Native.Nat.{ℕ}
 use lib.Dec.{leb}

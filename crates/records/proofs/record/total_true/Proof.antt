@@ -1,3 +1,4 @@
+-- The two sides are the stored total, widened, and the sum.
 use mathlib.Core.Path.{ap₂}
 use lib.Dec.{eqb}
 use borrow.Author.Needs.{needs}

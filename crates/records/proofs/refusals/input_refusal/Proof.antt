@@ -1,3 +1,4 @@
+-- At each return the tests before it are passed and its own is not; two returns share 10, and two share 3.
 use mathlib.Core.Path.{sym, _∙_}
 use mathlib.Core.List.{[], _∷_}
 use lib.ListN.{length, take}

@@ -1,3 +1,4 @@
+-- The invariant: no earliest start before place i is above its latest.
 use mathlib.Core.Path.{_≡_, sym, ap, _∙_}
 use mathlib.Core.Bool.{true}
 use Prim.Native.Nat.{_-_, _≤_}

@@ -1,3 +1,4 @@
+-- The number of the record and its ranges goes before; then the words, whose products fit as n is at most TASKS.
 use mathlib.Core.Path.{sym, _∙_}
 use Prim.Native.Nat.{_*_, _≤_}
 use native.Mathlib.Omega.{arith}

@@ -1,3 +1,4 @@
+-- The tests in the order of the definition.
 use borrow.Author.Tests.{eq-eqb, ne-eqb, le-leb, lt-leb}
 use Rattle.text.specs.Numbers.{space}
 use Rattle.text.proofs.reading.is_space.Statement.{statement}

@@ -1,3 +1,4 @@
+-- `scanned`: the scanner at the text's end has what the words of the text read.
 use borrow.Author.Needs.{needs}
 use Rattle.text.proofs.Gathering.{scanned}
 use Rattle.text.proofs.reading.numbers_of.Statement.{statement}

@@ -1,3 +1,4 @@
+-- A magnitude that an i32 holds, with its sign, is the instant that far from the zero moment.
 use mathlib.Core.Path.{ap, _∙_}
 use native.Mathlib.Omega.{arith}
 use mir.Syntax.{w32}

@@ -1,3 +1,4 @@
+-- A place outside the array is no place to set either.
 use mathlib.Core.Path.{sym}
 use native.Mathlib.Omega.{arith}
 use lib.Seq.{set-out}

@@ -1,3 +1,4 @@
+-- Beyond a tenth of BEYOND the next magnitude is beyond BEYOND, and up to it nothing overflows.
 use mathlib.Core.Path.{sym}
 use mathlib.Core.Logic.{⊎-elim}
 use native.Mathlib.Omega.{arith}

@@ -1,3 +1,4 @@
+-- The invariant: i and the run from i on end where the run from `from` on does.
 use mathlib.Core.Bool.{Bool, Bool·beq}
 use mathlib.Core.Path.{_≡_, refl, sym, ap, _∙_}
 use Prim.Native.Nat.{_+_, _-_}

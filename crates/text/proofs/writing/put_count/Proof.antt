@@ -1,3 +1,4 @@
+-- A count has at most 20 digits.
 use native.Mathlib.Omega.{arith}
 use borrow.Author.Needs.{needs}
 use Rattle.text.proofs.Decimals.{natural-fits}

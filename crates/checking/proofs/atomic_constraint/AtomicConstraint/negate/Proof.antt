@@ -1,3 +1,4 @@
+-- By the comparison; where the value moves by one, it stays far from the ends of an i32.
 use Prim.Native.Nat.{_+_}
 use native.Mathlib.Omega.{arith}
 use lib.IntN.{pos, negsuc}

@@ -1,3 +1,4 @@
+-- Words that are an atom have a variable that is not negative and one of the four kinds.
 use mathlib.Core.Path.{sym, ap, _∙_, subst}
 use lib.IntN.{ℤ, pos, natAbs}
 use lib.Signed.{_≤ℤ_}

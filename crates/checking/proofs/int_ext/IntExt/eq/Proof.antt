@@ -1,3 +1,4 @@
+-- Equality is the order both ways.
 use mathlib.Core.Path.{_≡_, sym, _∙_}
 use mathlib.Core.Bool.{true, false}
 use Rattle.checking.specs.Domains.{leExt}

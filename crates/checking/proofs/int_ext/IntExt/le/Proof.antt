@@ -1,3 +1,4 @@
+-- Only two numbers leave something to show: their values, read back from the bits.
 use mathlib.Core.Path.{sym, _∙_}
 use lib.Signed.{leZ}
 use mir.Syntax.{w32}

@@ -1,3 +1,4 @@
+-- By the comparison, each way the definition's: a tight domain and a value near the limits are what every call below asks for.
 use mathlib.Core.Path.{_≡_, sym, ap, _∙_, subst}
 use mathlib.Core.Bool.{true, false}
 use Prim.Native.Nat.{_+_}

@@ -1,3 +1,4 @@
+-- The tests in the order of the definition; each that is passed is what the next one asks for.
 use mathlib.Core.Path.{_≡_, sym, _∙_}
 use mathlib.Core.Bool.{true, false}
 use borrow.Author.Tests.{not-true, not-false, le-leb, lt-leb}

@@ -1,3 +1,4 @@
+-- The two tests, in terms of the value and not of its bits.
 use mathlib.Core.Path.{_≡_, sym, ap, _∙_}
 use lib.IntN.{ℤ}
 use Rattle.integers.proofs.Ints.{back}

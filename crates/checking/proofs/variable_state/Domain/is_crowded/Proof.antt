@@ -1,3 +1,4 @@
+-- The two tests of the definition, and the count where neither decides.
 use mathlib.Core.Path.{_≡_, sym, ap, _∙_}
 use mathlib.Core.Bool.{true}
 use borrow.Author.Tests.{not-true, not-false}

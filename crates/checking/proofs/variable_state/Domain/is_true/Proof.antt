@@ -1,3 +1,4 @@
+-- By the comparison, each way the definition's: the bounds decide, and for ≠ between them the holes, which ascend.
 use mathlib.Core.Path.{_≡_, sym, ap, _∙_}
 use mathlib.Core.Bool.{true, false}
 use borrow.Author.Tests.{not-true, not-false}

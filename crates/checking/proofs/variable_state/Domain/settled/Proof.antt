@@ -1,3 +1,4 @@
+-- The two cases of the definition, by whether a value is left.
 use mathlib.Core.Path.{_≡_, sym, _∙_}
 use mathlib.Core.Bool.{true, false}
 use Rattle.checking.specs.Domains.{consistent, settled}

@@ -1,3 +1,4 @@
+-- Where the bound rises, the holes from its rank on are those that are kept.
 use mathlib.Core.Path.{_≡_, sym, ap, _∙_}
 use mathlib.Core.Bool.{true, false}
 use mathlib.Core.List.{List}

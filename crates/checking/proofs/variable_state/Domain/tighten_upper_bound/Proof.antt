@@ -1,3 +1,4 @@
+-- Where the bound falls, the holes below its rank are those that are kept.
 use mathlib.Core.Path.{_≡_, sym, ap, _∙_}
 use mathlib.Core.Bool.{true, false}
 use mathlib.Core.List.{List}

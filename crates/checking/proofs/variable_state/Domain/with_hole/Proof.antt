@@ -1,3 +1,4 @@
+-- Not crowded, strictly between the bounds and no hole yet: there is room for one more.
 use mathlib.Core.Path.{_≡_, sym, ap, _∙_}
 use mathlib.Core.Bool.{true}
 use Prim.Native.Nat.{_+_, _<_}

@@ -1,3 +1,4 @@
+-- The value one higher is still near the limits, as `tighten_lower_bound` asks.
 use mathlib.Core.Path.{_≡_, sym, ap, _∙_, subst}
 use mathlib.Core.Bool.{true, false}
 use Prim.Native.Nat.{_+_}

@@ -1,3 +1,4 @@
+-- The two tests give an accepted state and an atom within the limits, which `apply_atom` asks for; `apply-promise` turns its equation into what it means.
 use mathlib.Core.Path.{_≡_, sym, ap, _∙_, subst}
 use mathlib.Core.Bool.{true, false}
 use Prim.Native.Nat.{_+_, _<_}

@@ -1,3 +1,4 @@
+-- The invariant: the state is accepted, and to apply what is left to it is to apply everything to the empty state.
 use mathlib.Core.Path.{_≡_, sym, ap, ap₂, _∙_, subst}
 use mathlib.Core.Bool.{true}
 use mathlib.Core.List.{List, _∷_}

@@ -1,3 +1,4 @@
+-- The domain's own answer decides: it is stored, or the state is handed back as it was.
 use mathlib.Core.Path.{_≡_, sym, ap, _∙_, subst}
 use Prim.Native.Nat.{_+_}
 use mir.Syntax.{w32}

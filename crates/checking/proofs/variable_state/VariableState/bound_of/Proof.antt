@@ -1,3 +1,4 @@
+-- The two tests in their order; an accepted variable is a place of the domains.
 use mathlib.Core.Path.{_≡_, sym, ap, _∙_, subst}
 use mathlib.Core.Bool.{true, false}
 use Prim.Native.Nat.{ℕ, _<_}

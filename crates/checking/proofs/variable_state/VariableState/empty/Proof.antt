@@ -1,3 +1,4 @@
+-- The array of one domain, which `empty-promise` says admits every whole number.
 use lib.ListN.{replicate}
 use Rattle.integers.specs.Limits.{VARIABLES}
 use Rattle.checking.proofs.Promises.{empty-promise}

@@ -1,3 +1,4 @@
+-- The two tests in their order; then the domain of the atom's variable decides, and `truth-promise` says what its answer means.
 use mathlib.Core.Path.{_≡_, sym, ap, _∙_}
 use mathlib.Core.Bool.{true, false}
 use Prim.Native.Nat.{_<_}

@@ -1,3 +1,4 @@
+-- The equation of `bound_of`, which `lower-promise` turns into what it means.
 use mathlib.Core.Path.{_∙_, ap}
 use Rattle.integers.proofs.Ints.{back}
 use Rattle.checking.specs.States.{boundOf, lowerOf}

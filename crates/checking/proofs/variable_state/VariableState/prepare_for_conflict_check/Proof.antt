@@ -1,3 +1,4 @@
+-- The two tests in their order, then the loop; `prepare-promise` turns each equation into what it means.
 use mathlib.Core.Path.{_≡_, sym, _∙_}
 use mathlib.Core.Bool.{true, false}
 use mathlib.Core.List.{List}

@@ -1,3 +1,4 @@
+-- The two cases of the definition, by whether the numbers so far are valid.
 use mathlib.Core.Path.{sym}
 use borrow.Author.Tests.{not-true, not-false}
 use borrow.Author.Needs.{needs}

@@ -1,3 +1,4 @@
+-- By the reading, each way the definition's.
 use mir.Syntax.{w32}
 use borrow.Author.Needs.{needs}
 use Rattle.integers.proofs.Ints.{back-of}

@@ -1,3 +1,4 @@
+-- The invariant: to go on from here over the bytes from i on is to go over all of them from the first.
 use mathlib.Core.List.{foldl}
 use mathlib.Core.Path.{_≡_, refl, sym, _∙_}
 use Prim.Native.Nat.{_-_, _≤_}

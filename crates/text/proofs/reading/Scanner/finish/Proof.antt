@@ -1,3 +1,4 @@
+-- What the last word reads, put behind the numbers.
 use mathlib.Core.Path.{ap, _∙_}
 use borrow.Author.Needs.{needs}
 use Rattle.text.specs.Scanning.{withReading}

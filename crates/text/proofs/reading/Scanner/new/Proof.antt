@@ -1,3 +1,4 @@
+-- No numbers and the empty word are the start.
 use borrow.Author.Needs.{needs}
 use Rattle.text.proofs.reading.Scanner.new.Statement.{statement}
 use Rattle.text.proofs.reading.Scanner.new.Tie as tie

@@ -1,3 +1,4 @@
+-- The two cases of the definition, by whether the byte is white space.
 use mathlib.Core.Path.{sym, _∙_}
 use borrow.Author.Needs.{needs}
 use Rattle.text.proofs.Steps.{step-space, step-other}

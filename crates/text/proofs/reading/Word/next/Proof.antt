@@ -1,3 +1,4 @@
+-- By the word, each way the definition's; in the empty word a minus goes before the digits.
 use borrow.Author.Tests.{eq-eqb, ne-eqb}
 use borrow.Author.Needs.{needs}
 use Rattle.text.specs.Scanning.{nextOf}

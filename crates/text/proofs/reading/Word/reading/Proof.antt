@@ -1,3 +1,4 @@
+-- By the word, each way the definition's.
 use borrow.Author.Needs.{needs}
 use Rattle.text.specs.Scanning.{readingOf}
 use Rattle.text.proofs.reading.Word.reading.Statement.{statement}

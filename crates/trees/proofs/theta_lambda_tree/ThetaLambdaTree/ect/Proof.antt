@@ -1,16 +1,20 @@
 -- `trees::theta_lambda_tree::ThetaLambdaTree::ect` meets its contract.
 -- Assumes nothing.
-use mathlib.Core.Path.{ap}
+use mathlib.Core.Path.{ap, _∙_}
 use borrow.Author.Needs.{needs}
 use Rattle.trees.specs.declared.theta_lambda_tree.Node.{Node}
+use Rattle.trees.specs.Ects.{decoded}
 use Rattle.trees.proofs.theta_lambda_tree.ThetaLambdaTree.ect.Statement.{statement}
 use Rattle.trees.proofs.theta_lambda_tree.ThetaLambdaTree.ect.Tie as tie
 
 load-requires : tie.Need-load-requires
 load-requires c κs = search needs
 
+decoded-requires : tie.Need-decoded-requires
+decoded-requires c κs = search needs
+
 returns : tie.Need-returns
-returns c = ap (λ (n : Node). n .ect) (c .load .ensures)
+returns c = c .decoded .ensures ∙ ap (λ (n : Node). decoded (n .ect)) (c .before .load .ensures)
 
 pub ect-spec : {M : Type 1} → statement M
-ect-spec = tie.close (tie.spec load-requires returns)
+ect-spec = tie.close (tie.spec load-requires decoded-requires returns)

@@ -1,9 +1,9 @@
--- `checker::theta::put_chosen` meets its contract: where the task is not chosen, no word changes.
+-- `chosen_sets::theta::put_chosen` meets its contract: where the task is not chosen, no word changes.
 -- Assumes nothing.
 use mathlib.Core.Path.{refl}
 use Rattle.integers.proofs.Bools.{clash}
-use Rattle.checker.proofs.theta.put_chosen.Statement.{statement}
-use Rattle.checker.proofs.theta.put_chosen.Tie as tie
+use Rattle.chosen_sets.proofs.theta.put_chosen.Statement.{statement}
+use Rattle.chosen_sets.proofs.theta.put_chosen.Tie as tie
 
 add-requires : tie.Need-add-requires
 add-requires c κs = c .before .before .pre (c .before .if1 .taken)

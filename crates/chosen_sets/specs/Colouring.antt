@@ -8,8 +8,8 @@ use Rattle.scheduling.specs.Scheduling.{natural, Tasks, TaskSet}
 use Rattle.trees.specs.Leaves.{empty, IsPlainTree}
 use Rattle.trees.specs.Nodes.{plainOf}
 use Rattle.trees.specs.Puts.{PlainPuttable, PlainPut}
-use Rattle.checker.specs.Formulas.{order, colours}
-use Rattle.checker.specs.Holding.{Held}
+use Rattle.chosen_sets.specs.ChosenSets.{order, colours}
+use Rattle.chosen_sets.specs.Holding.{Held}
 
 -- the leaf at place x may get a task, where it is chosen
 abbrev pub Takes : ℕ → List ℕ → ℕ → Bool → ℕ → ℕ → Type 0

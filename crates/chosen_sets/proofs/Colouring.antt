@@ -22,13 +22,13 @@ use Rattle.trees.specs.Leaves.{Leaf, empty, white, Limited, IsPlainTree}
 use Rattle.trees.specs.Mappings.{PlainNew}
 use Rattle.trees.specs.Nodes.{plainOf}
 use Rattle.trees.specs.Shapes.{width, heightFor}
-use Rattle.trees.specs.Words.{plainAt}
+use Rattle.trees.specs.Words.{plainEctIn}
 use Rattle.trees.proofs.Roots as tree
-use Rattle.trees.proofs.Trees.{new-plain-tree, may-put-plain, was-put-plain, plain-root-of}
-use Rattle.checker.specs.Colouring.{Takes, Took, Colourable}
-use Rattle.checker.specs.Formulas.{order, colours, ectOf}
-use Rattle.checker.specs.Holding.{Held}
-use Rattle.checker.proofs.Gathering.{by-order, order-size}
+use Rattle.trees.proofs.Trees.{new-plain-tree, may-put-plain, was-put-plain, plain-ect-of}
+use Rattle.chosen_sets.specs.Colouring.{Takes, Took, Colourable}
+use Rattle.chosen_sets.specs.ChosenSets.{order, colours, ectOf}
+use Rattle.chosen_sets.specs.Holding.{Held}
+use Rattle.chosen_sets.proofs.Ects.{by-order, order-size}
 
 -- The tree of the tasks that the arrays hold -----------------------------------------------------------------------------------
 
@@ -61,8 +61,8 @@ module _ {J : Tasks natural} {Ω : TaskSet} {n : ℕ} {chosen : List Bool} {est 
   }
 
   -- the root's ect
-  pub root-ect : {inner : ℕ} {words : List ℕ} → IsPlainTree J (order J Ω) (colours J Ω) inner words → plainAt words 0 .ect ≡ ectOf J Ω
-  root-ect t = ap (λ n. n .ect) (plain-root-of limited t)
+  pub root-ect : {inner : ℕ} {words : List ℕ} → IsPlainTree J (order J Ω) (colours J Ω) inner words → plainEctIn words ≡ ectOf J Ω
+  root-ect t = plain-ect-of limited t
 
 -- One leaf after the other -----------------------------------------------------------------------------------------------------
 

@@ -4,13 +4,15 @@ use trees::disjunctive_task::DisjunctiveTask;
 use trees::disjunctive_task::LeafPlace;
 use trees::disjunctive_task::LocalId;
 use trees::disjunctive_task::task_of;
+use trees::earliest_completion::Ect;
 use trees::theta_tree::ThetaTree;
 ghost use mathlib.Core.Path.{_≡_};
 ghost use Prim.Native.Nat.{ℕ};
 ghost use Rattle.scheduling.specs.Scheduling.{natural, Tasks, TaskSet};
-ghost use Rattle.checker.specs.Colouring.{Takes, Took, Colourable, Coloured};
-ghost use Rattle.checker.specs.Formulas.{ectOf};
-ghost use Rattle.checker.specs.Holding.{Held};
+ghost use Rattle.trees.specs.Ects.{momentOf};
+ghost use Rattle.chosen_sets.specs.Colouring.{Takes, Took, Colourable, Coloured};
+ghost use Rattle.chosen_sets.specs.ChosenSets.{ectOf};
+ghost use Rattle.chosen_sets.specs.Holding.{Held};
 
 // Puts a task into the leaf at a place, where it is chosen.
 fn put_chosen(
@@ -65,15 +67,15 @@ fn fill<'a>(
     }
 }
 
-// The ect of the chosen ones of n tasks.
+// The ect of the chosen ones of n tasks, or that none is chosen.
 pub fn theta_ect<'a>(
     chosen: &'a [bool; 48],
     est: &'a [u32; 48],
     durations: &'a [u32; 48],
     n: usize,
-) -> u32
+) -> Ect
     requires { ⌜ ((J : Tasks natural) × (Ω : TaskSet) × Held J Ω n (now chosen) (now est) (now durations)) ⌝ }
-    ensures { λ r. ⌜ ((J : Tasks natural) (Ω : TaskSet) → Held J Ω n (now (chosen .entry)) (now (est .entry)) (now (durations .entry)) → r ≡ ectOf J Ω) ⌝ }
+    ensures { λ r. ⌜ ((J : Tasks natural) (Ω : TaskSet) → Held J Ω n (now (chosen .entry)) (now (est .entry)) (now (durations .entry)) → momentOf r ≡ ectOf J Ω) ⌝ }
 {
     let mut order: [usize; 48] = [0; 48];
     sort_numbers(&mut order, n, est);

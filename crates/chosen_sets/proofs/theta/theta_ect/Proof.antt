@@ -4,11 +4,11 @@ use mathlib.Core.Path.{_∙_}
 use borrow.Author.Needs.{needs}
 use Rattle.scheduling.specs.Scheduling.{natural, Tasks, TaskSet}
 use Rattle.records.proofs.Sorted.{sorted-permutes}
-use Rattle.checker.specs.Colouring.{Colourable}
-use Rattle.checker.specs.Holding.{Held}
-use Rattle.checker.proofs.Colouring.{colourable, root-ect}
-use Rattle.checker.proofs.theta.theta_ect.Statement.{statement}
-use Rattle.checker.proofs.theta.theta_ect.Tie as tie
+use Rattle.chosen_sets.specs.Colouring.{Colourable}
+use Rattle.chosen_sets.specs.Holding.{Held}
+use Rattle.chosen_sets.proofs.Colouring.{colourable, root-ect}
+use Rattle.chosen_sets.proofs.theta.theta_ect.Statement.{statement}
+use Rattle.chosen_sets.proofs.theta.theta_ect.Tie as tie
 
 -- when the tree is made: what each call before left
 abbrev start : tie.After-new → tie.Start

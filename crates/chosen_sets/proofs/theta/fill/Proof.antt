@@ -1,4 +1,4 @@
--- `checker::theta::fill` meets its contract: after x turns the first x leaves have their colours.
+-- `chosen_sets::theta::fill` meets its contract: after x turns the first x leaves have their colours.
 -- Assumes nothing.
 use mathlib.Core.Path.{sym, subst}
 use mathlib.Core.Bool.{Bool, false}
@@ -7,10 +7,10 @@ use Prim.Native.Nat.{ℕ, _-_, _≤_, _<_}
 use native.Mathlib.Omega.{arith}
 use lib.ListN.{getD}
 use borrow.Author.Needs.{needs}
-use Rattle.checker.specs.Colouring.{Takes, Took, Colourable}
-use Rattle.checker.proofs.Colouring.{upTo, Shows, none-coloured, task-known, takes, one-more, all-coloured}
-use Rattle.checker.proofs.theta.fill.Statement.{statement}
-use Rattle.checker.proofs.theta.fill.Tie as tie
+use Rattle.chosen_sets.specs.Colouring.{Takes, Took, Colourable}
+use Rattle.chosen_sets.proofs.Colouring.{upTo, Shows, none-coloured, task-known, takes, one-more, all-coloured}
+use Rattle.chosen_sets.proofs.theta.fill.Statement.{statement}
+use Rattle.chosen_sets.proofs.theta.fill.Tie as tie
 
 -- the first x leaves have their colours
 record Loop (inner n : ℕ) (nodes₀ tasks : List ℕ) (chosen : List Bool) (est durations nodes : List ℕ) (x : ℕ) : Type 0 where

@@ -1,0 +1,3 @@
+pub mod Ects
+pub mod Colouring
+pub mod Ranging

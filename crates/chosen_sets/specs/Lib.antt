@@ -1,0 +1,4 @@
+pub mod ChosenSets
+pub mod Holding
+pub mod Colouring
+pub mod Examples
