@@ -1,12 +1,12 @@
 -- The answer of a check, test by test.
 -- Assumes nothing.
 use mathlib.Core.Path.{_≡_, refl, sym, ap, subst, _∙_}
+use mathlib.Core.Bool.{Bool, true, false}
 use mathlib.Core.List.{List}
 use Prim.Native.Nat.{ℕ, zero, suc, _≤_}
 use native.Mathlib.Omega.{arith}
 use native.Mathlib.Decide.{ℕ-discrete}
 use lib.IntN.{ℤ}
-use lib.ListN.{length}
 use Rattle.integers.specs.Limits.{TASKS}
 use Rattle.integers.specs.Tests.{refusal}
 use Rattle.checking.specs.declared.variable_state.Application.{Application}
@@ -18,74 +18,105 @@ use Rattle.checking.proofs.Atoms.{right-lists}
 use Rattle.checking.proofs.Prepared.{prepared-right}
 use Rattle.records.specs.declared.record.Created.{Created}
 use Rattle.records.specs.declared.record.Creation.the-variants as creation
-use Rattle.records.specs.Records.{creationTests, created, newRecord}
+use Rattle.records.specs.Records.{creationTests, created}
 use Rattle.records.proofs.Creation.{created-new, created-not}
 use Rattle.checker.specs.declared.checker.Verdict.{Verdict}
-use Rattle.checker.specs.declared.checker.Verdict.the-variants.{Passed, NotPassed, Contradiction, Refused}
+use Rattle.checker.specs.declared.checker.Verdict.the-variants.{Passed, Contradiction, Refused}
 use Rattle.checker.specs.declared.bounds.Bounds.{Bounds}
 use Rattle.checker.specs.Checks.{judged, concluded, checkAfter, checkOf, Checked}
-use Rattle.checker.specs.Holding.{boundsOf, Judgeable, Consequent}
+use Rattle.checker.specs.MirroredChecks.{lowerAs, upperAs, judgedAs, checkAs, checkMirroredOf, CheckedMirrored}
+use Rattle.checker.specs.Holding.{boundsOf, mirroredBounds, Judgeable, Consequent}
 use Rattle.checker.proofs.Apart.{verdicts-apart}
-use Rattle.checker.proofs.Soundness.{check-sound}
-use Rattle.checker.proofs.Verdicts.{judgeable}
+use Rattle.checker.proofs.Soundness.{check-sound, mirrored-sound}
+use Rattle.checker.proofs.Verdicts.{judgeable, mirrored-judgeable}
 
 module _ (ds ps cs : List ℤ) where
-  pub checked : (r : Verdict) → r ≡ checkOf ds ps cs → Checked ds ps cs r
-  checked r e = record { answer = e; sound = λ p. check-sound ds ps cs (sym e ∙ verdicts-apart r Passed p) }
+  same : checkAs false ds ps cs ≡ checkOf ds ps cs
+  unfolding checkOf
+  same = refl
+
+  same-mirrored : checkAs true ds ps cs ≡ checkMirroredOf ds ps cs
+  unfolding checkMirroredOf
+  same-mirrored = refl
+
+  -- the open calls, from the check in either time
+  pub checked : (r : Verdict) → r ≡ checkAs false ds ps cs → Checked ds ps cs r
+  checked r e = record { answer = e ∙ same; sound = λ p. check-sound ds ps cs (sym (e ∙ same) ∙ verdicts-apart r Passed p) }
+
+  pub checked-mirrored : (r : Verdict) → r ≡ checkAs true ds ps cs → CheckedMirrored ds ps cs r
+  checked-mirrored r e = record { answer = e ∙ same-mirrored; sound = λ p. mirrored-sound ds ps cs (sym (e ∙ same-mirrored) ∙ verdicts-apart r Passed p) }
 
   -- what comes after 1, 2 and 5
-  pub check-after : (n : ℕ) → refusal (creationTests ds) ≡ n → checkOf ds ps cs ≡ checkAfter ds n ps cs
+  pub check-after : (n : ℕ) → refusal (creationTests ds) ≡ n → checkOf ds ps cs ≡ checkAfter (judged ds) n ps cs
   unfolding checkOf
-  check-after n e = ap (λ (m : ℕ). checkAfter ds m ps cs) e
+  check-after n e = ap (λ (m : ℕ). checkAfter (judged ds) m ps cs) e
 
-  -- 1, 2 or 5
-  module _ (made : Created) (is : made ≡ created ds) where
-    pub turned-back : (n : ℕ) → made .answer ≡ creation.Refused n → Refused n ≡ checkOf ds ps cs
-    turned-back n a = elim (ℕ-discrete (refusal (creationTests ds)) 0) [
-      | yes z ↦ (let e : creation.Accepted ≡ creation.Refused n = sym (ap (λ (m : Created). m .answer) (is ∙ created-new ds z)) ∙ a in absurd (let w : _≡_ {A = ℕ} 0 1 = cc in omega arith))
-      | no z ↦ (let e : creation.Refused (refusal (creationTests ds)) ≡ creation.Refused n = sym (ap (λ (m : Created). m .answer) (is ∙ created-not ds (refusal (creationTests ds)) refl z)) ∙ a in by n z (let w : refusal (creationTests ds) ≡ n = cc in w))
-    ]
-      where
-        by : (n : ℕ) → (refusal (creationTests ds) ≡ 0 → ⊥) → refusal (creationTests ds) ≡ n → Refused n ≡ checkOf ds ps cs
-        by zero z e = absurd (z e)
-        by (suc n) z e = sym (check-after (suc n) e)
+  module _ (mirrored : Bool) where
+    after : (n : ℕ) → refusal (creationTests ds) ≡ n → checkAs mirrored ds ps cs ≡ checkAfter (judgedAs mirrored ds) n ps cs
+    after n e = ap (λ (m : ℕ). checkAfter (judgedAs mirrored ds) m ps cs) e
 
-    accepts : made .answer ≡ creation.Accepted → refusal (creationTests ds) ≡ 0
-    accepts a = elim (ℕ-discrete (refusal (creationTests ds)) 0) [
-      | yes z ↦ z
-      | no z ↦ (let e : creation.Refused (refusal (creationTests ds)) ≡ creation.Accepted = sym (ap (λ (m : Created). m .answer) (is ∙ created-not ds (refusal (creationTests ds)) refl z)) ∙ a in absurd (let w : _≡_ {A = ℕ} 0 1 = cc in omega arith))
-    ]
+    -- 1, 2 or 5
+    module _ (made : Created) (is : made ≡ created ds) where
+      pub turned-back : (n : ℕ) → made .answer ≡ creation.Refused n → Refused n ≡ checkAs mirrored ds ps cs
+      turned-back n a = elim (ℕ-discrete (refusal (creationTests ds)) 0) [
+        | yes z ↦ (let e : creation.Accepted ≡ creation.Refused n = sym (ap (λ (m : Created). m .answer) (is ∙ created-new ds z)) ∙ a in absurd (let w : _≡_ {A = ℕ} 0 1 = cc in omega arith))
+        | no z ↦ (let e : creation.Refused (refusal (creationTests ds)) ≡ creation.Refused n = sym (ap (λ (m : Created). m .answer) (is ∙ created-not ds (refusal (creationTests ds)) refl z)) ∙ a in by n z (let w : refusal (creationTests ds) ≡ n = cc in w))
+      ]
+        where
+          by : (n : ℕ) → (refusal (creationTests ds) ≡ 0 → ⊥) → refusal (creationTests ds) ≡ n → Refused n ≡ checkAs mirrored ds ps cs
+          by zero z e = absurd (z e)
+          by (suc n) z e = sym (after (suc n) e)
 
-    module _ (a : made .answer ≡ creation.Accepted) (applied : Applied) (same : applied ≡ prepared ps cs) where
-      check-is : checkOf ds ps cs ≡ concluded ds applied (consequentOf cs)
-      check-is = check-after 0 (accepts a) ∙ ap (λ (r : Applied). concluded ds r (consequentOf cs)) (sym same)
+      accepts : made .answer ≡ creation.Accepted → refusal (creationTests ds) ≡ 0
+      accepts a = elim (ℕ-discrete (refusal (creationTests ds)) 0) [
+        | yes z ↦ z
+        | no z ↦ (let e : creation.Refused (refusal (creationTests ds)) ≡ creation.Accepted = sym (ap (λ (m : Created). m .answer) (is ∙ created-not ds (refusal (creationTests ds)) refl z)) ∙ a in absurd (let w : _≡_ {A = ℕ} 0 1 = cc in omega arith))
+      ]
 
-      -- 7, 6, 21 and contradictions
-      concludes : (x : Application) → applied .answer ≡ x → checkOf ds ps cs ≡ concluded ds (record { answer = x; state = applied .state }) (consequentOf cs)
-      concludes x e = check-is ∙ ap (λ (y : Application). concluded ds (record { answer = y; state = applied .state }) (consequentOf cs)) e
+      module _ (a : made .answer ≡ creation.Accepted) (applied : Applied) (same : applied ≡ prepared ps cs) where
+        check-is : checkAs mirrored ds ps cs ≡ concluded (judgedAs mirrored ds) applied (consequentOf cs)
+        check-is = after 0 (accepts a) ∙ ap (λ (r : Applied). concluded (judgedAs mirrored ds) r (consequentOf cs)) (sym same)
 
-      pub contradicted : (x : ℕ) → applied .answer ≡ application.Contradiction x → Contradiction x ≡ checkOf ds ps cs
-      contradicted x e = sym (concludes (application.Contradiction x) e)
+        -- 7, 6, 21 and contradictions
+        concludes : (x : Application) → applied .answer ≡ x → checkAs mirrored ds ps cs ≡ concluded (judgedAs mirrored ds) (record { answer = x; state = applied .state }) (consequentOf cs)
+        concludes x e = check-is ∙ ap (λ (y : Application). concluded (judgedAs mirrored ds) (record { answer = y; state = applied .state }) (consequentOf cs)) e
 
-      pub refused-atoms : (n : ℕ) → applied .answer ≡ application.Refused n → Refused n ≡ checkOf ds ps cs
-      refused-atoms n e = sym (concludes (application.Refused n) e)
+        pub contradicted : (x : ℕ) → applied .answer ≡ application.Contradiction x → Contradiction x ≡ checkAs mirrored ds ps cs
+        contradicted x e = sym (concludes (application.Contradiction x) e)
 
-      -- 8 and the formula
-      module _ (e : applied .answer ≡ application.Consistent) where
-        consistent : prepared ps cs .answer ≡ application.Consistent
-        consistent = ap (λ (r : Applied). r .answer) (sym same) ∙ e
+        pub refused-atoms : (n : ℕ) → applied .answer ≡ application.Refused n → Refused n ≡ checkAs mirrored ds ps cs
+        refused-atoms n e = sym (concludes (application.Refused n) e)
 
-        judgeable-by-state : Judgeable ds (applied .state) (made .«record» .count) (boundsOf (applied .state) (made .«record» .count)) (made .«record» .durations)
-        judgeable-by-state = rw (is, created-new ds (accepts a), same) (judgeable ds ps cs (accepts a) consistent)
+        -- 8 and the formula
+        module _ (e : applied .answer ≡ application.Consistent) where
+          consistent : prepared ps cs .answer ≡ application.Consistent
+          consistent = ap (λ (r : Applied). r .answer) (sym same) ∙ e
 
-        pub few-tasks : made .«record» .count ≤ TASKS
-        few-tasks = judgeable-by-state .bounding .held .few
+          abbrev n : ℕ
+          n = made .«record» .count
 
-        pub can-judge : (b : Bounds) → b ≡ boundsOf (applied .state) (made .«record» .count) → Judgeable ds (applied .state) (made .«record» .count) b (made .«record» .durations)
-        can-judge b z = subst (λ (x : Bounds). Judgeable ds (applied .state) (made .«record» .count) x (made .«record» .durations)) (sym z) judgeable-by-state
+          abbrev durations : List ℕ
+          durations = made .«record» .durations
 
-        pub consequent-right : Consequent cs
-        consequent-right = let (p, short, right) = right-lists ps cs (prepared-right ps cs consistent) in record { short = short; right = right }
+          by-state : Judgeable ds (lowerAs false ds (applied .state)) (upperAs false ds (applied .state)) n (boundsOf (applied .state) n) durations
+          by-state = rw (is, created-new ds (accepts a), same) (judgeable ds ps cs (accepts a) consistent)
 
-        pub concluded-by : (r : Verdict) → r ≡ judged ds (applied .state) (consequentOf cs) → r ≡ checkOf ds ps cs
-        concluded-by r j = j ∙ sym (concludes application.Consistent e)
+          by-state-mirrored : Judgeable ds (lowerAs true ds (applied .state)) (upperAs true ds (applied .state)) n (mirroredBounds (boundsOf (applied .state) n) durations n) durations
+          by-state-mirrored = rw (is, created-new ds (accepts a), same) (mirrored-judgeable ds ps cs (accepts a) consistent)
+
+          pub few-tasks : made .«record» .count ≤ TASKS
+          few-tasks = by-state .bounding .held .few
+
+          pub can-judge : (b : Bounds) → b ≡ boundsOf (applied .state) (made .«record» .count)
+              → Judgeable ds (lowerAs false ds (applied .state)) (upperAs false ds (applied .state)) (made .«record» .count) b (made .«record» .durations)
+          can-judge b z = subst (λ (x : Bounds). Judgeable ds (lowerAs false ds (applied .state)) (upperAs false ds (applied .state)) n x durations) (sym z) by-state
+
+          pub can-judge-mirrored : (b b′ : Bounds) → b ≡ boundsOf (applied .state) (made .«record» .count) → b′ ≡ mirroredBounds b (made .«record» .durations) (made .«record» .count)
+              → Judgeable ds (lowerAs true ds (applied .state)) (upperAs true ds (applied .state)) (made .«record» .count) b′ (made .«record» .durations)
+          can-judge-mirrored b b′ z y = subst (λ (x : Bounds). Judgeable ds (lowerAs true ds (applied .state)) (upperAs true ds (applied .state)) n x durations) (sym (y ∙ ap (λ (x : Bounds). mirroredBounds x durations n) z)) by-state-mirrored
+
+          pub consequent-right : Consequent cs
+          consequent-right = let (p, short, right) = right-lists ps cs (prepared-right ps cs consistent) in record { short = short; right = right }
+
+          pub concluded-by : (r : Verdict) → r ≡ judgedAs mirrored ds (applied .state) (consequentOf cs) → r ≡ checkAs mirrored ds ps cs
+          concluded-by r j = j ∙ sym (concludes application.Consistent e)

@@ -3,8 +3,11 @@ pub mod Gathering
 pub mod Steps
 pub mod Judging
 pub mod Formulas
+pub mod Mirroring
+pub mod MirroredBounds
 pub mod Soundness
 pub mod Verdicts
 pub mod Answers
 pub mod Refused
+pub mod MirroredRefused
 pub mod Reasons

@@ -4,23 +4,25 @@ use mathlib.Core.Path.{_≡_, sym, ap, subst, _∙_}
 use mathlib.Core.Bool.{true}
 use mathlib.Core.List.{List, [], _∷_}
 use mathlib.Core.Option.{Option, some, none}
-use Prim.Native.Nat.{ℕ, zero, suc, _≤_, _<_}
+use Prim.Native.Nat.{ℕ, zero, suc, _+_, _*_, _≤_, _<_}
 use native.Mathlib.Omega.{arith}
 use lib.IntN.{ℤ}
 use lib.ListN.{length}
 use Rattle.integers.specs.Limits.{VARIABLES, VALUE, PREMISES}
 use Rattle.integers.specs.Tests.{refusal}
 use Rattle.scheduling.specs.Scheduling.{whole, Tasks, TaskSet, In, Atom, Allows, Meets, Every, Admits, given, negation, negatedKind, Bounded, PassesFormula}
+use Rattle.scheduling.specs.Mirroring.{mirrorAtoms}
 use Rattle.scheduling.specs.Words.{atomWords}
 use Rattle.scheduling.proofs.Passed.{every-append}
 use Rattle.scheduling.proofs.Words.{atoms-length}
-use Rattle.checking.specs.Atoms.{atomsOf, first, consequentOf, rightWords}
+use Rattle.checking.specs.Atoms.{atomsOf, first, consequentOf, rightWords, rightLists}
 use Rattle.checking.specs.Holes.{Within}
 use Rattle.checking.proofs.Atoms.{atoms-none, atoms-words, words-none, words-right, lists-right, every-map, WellFormed}
-use Rattle.records.specs.Records.{creationTests}
+use Rattle.records.specs.Records.{durationAt, creationTests}
 use Rattle.checker.specs.declared.checker.Verdict.the-variants.{Passed}
 use Rattle.checker.specs.Checks.{checkOf, consequentWords, tasksWith}
-use Rattle.checker.proofs.Soundness.{check-passes}
+use Rattle.checker.specs.MirroredChecks.{mirrorIfAny, checkMirroredOf}
+use Rattle.checker.proofs.Soundness.{check-passes, mirrored-passes}
 
 -- An atom of a reason: ≥ or ≤, on a known variable, with a value within the limits.
 pub record Bound (a : Atom) : Type 0 where
@@ -61,18 +63,31 @@ given-kinds : (as′ : List Atom) (c : Option Atom) → Every Bound as′ → Bo
 given-kinds as′ none b d = every-map (λ a q. omega (arith, q .kind)) as′ b
 given-kinds as′ (some a) b d = every-append (λ a. a .kind < 3) as′ (negation a ∷ []) (every-map (λ a q. omega (arith, q .kind)) as′ b) (negated-kind (a .kind) (d .kind), tt)
 
--- A reason that meets the formula, and whose atoms each variable can meet, passes the check.
-pub reason-check : (ds : List ℤ) (as′ : List Atom) (c : Option Atom) → refusal (creationTests ds) ≡ 0 → length as′ ≤ PREMISES → Every Bound as′ → BoundIfAny c
-    → ((x : ℕ) → x < VARIABLES → (z : ℤ) × Admits (given as′ c) x z) → PassesFormula (tasksWith ds) as′ c → checkOf ds (atomWords as′) (consequentWords c) ≡ Passed
-reason-check ds as′ c ok few b d w p =
-    check-passes ds (atomWords as′) (consequentWords c) ok (omega (arith, atoms-length as′, few))
-    (lists-right (atomWords as′) (consequentWords c) (words-of-reason as′ b) (consequent-few c) (consequent-right c d))
-    (back (Every (λ a. a .kind < 3)) (given-kinds as′ c b d))
-    (λ x h. let (z, m) = w x h in (z, back (λ l. Admits l x z) m))
-    (subst (λ (o : Option Atom). PassesFormula (tasksWith ds) (atomsOf (atomWords as′)) o) (sym (consequent-back c)) (subst (λ (l : List Atom). PassesFormula (tasksWith ds) l c) (sym (atoms-words as′)) p))
-  where
-    back : (P : List Atom → Type 0) → P (given as′ c) → P (given (atomsOf (atomWords as′)) (consequentOf (consequentWords c)))
-    back P h = subst (λ (o : Option Atom). P (given (atomsOf (atomWords as′)) o)) (sym (consequent-back c)) (subst (λ (l : List Atom). P (given l c)) (sym (atoms-words as′)) h)
+-- A reason whose atoms each variable can meet passes the check where it meets the formula, and the mirrored check where it meets the formula mirrored.
+module _ (ds : List ℤ) (as′ : List Atom) (c : Option Atom) (ok : refusal (creationTests ds) ≡ 0) (few : length as′ ≤ PREMISES) (b : Every Bound as′) (d : BoundIfAny c)
+    (w : (x : ℕ) → x < VARIABLES → (z : ℤ) × Admits (given as′ c) x z) where
+  back : (P : List Atom → Option Atom → Type 0) → P as′ c → P (atomsOf (atomWords as′)) (consequentOf (consequentWords c))
+  back P h = subst (λ (o : Option Atom). P (atomsOf (atomWords as′)) o) (sym (consequent-back c)) (subst (λ (l : List Atom). P l c) (sym (atoms-words as′)) h)
+
+  short : length (atomWords as′) ≤ 3 * PREMISES + 2
+  short = omega (arith, atoms-length as′, few)
+
+  right : rightLists (atomWords as′) (consequentWords c) ≡ true
+  right = lists-right (atomWords as′) (consequentWords c) (words-of-reason as′ b) (consequent-few c) (consequent-right c d)
+
+  kinds : Every (λ a. a .kind < 3) (given (atomsOf (atomWords as′)) (consequentOf (consequentWords c)))
+  kinds = back (λ l o. Every (λ a. a .kind < 3) (given l o)) (given-kinds as′ c b d)
+
+  met : (x : ℕ) → x < VARIABLES → (z : ℤ) × Admits (given (atomsOf (atomWords as′)) (consequentOf (consequentWords c))) x z
+  met x h = let (z, m) = w x h in (z, back (λ l o. Admits (given l o) x z) m)
+
+  pub reason-check : PassesFormula (tasksWith ds) as′ c → checkOf ds (atomWords as′) (consequentWords c) ≡ Passed
+  reason-check p = check-passes ds (atomWords as′) (consequentWords c) ok short right kinds met (back (PassesFormula (tasksWith ds)) p)
+
+  pub mirrored-reason-check : PassesFormula (tasksWith ds) (mirrorAtoms (durationAt ds) as′) (mirrorIfAny (durationAt ds) c) → checkMirroredOf ds (atomWords as′) (consequentWords c) ≡ Passed
+  mirrored-reason-check p =
+      mirrored-passes ds (atomWords as′) (consequentWords c) ok short right kinds met
+      (back (λ l o. PassesFormula (tasksWith ds) (mirrorAtoms (durationAt ds) l) (mirrorIfAny (durationAt ds) o)) p)
 
 -- The formula reads of the tasks their number and their durations.
 module _ (J K : Tasks whole) (count : J .count ≡ K .count) (duration : (k : ℕ) → J .duration k ≡ K .duration k) where

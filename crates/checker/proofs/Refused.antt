@@ -82,14 +82,14 @@ module _ (ds ps cs : List ℤ) where
     | inr y ↦ record { eight = ap (λ (r : Answer). r .number) (sym (rw y at e)); atom = a; consequent = refl; unbounded = y }
   ]
 
-  concluded-8 : prepared ps cs .answer ≡ application.Consistent → (a : Atom) → consequentOf cs ≡ some a → two state (a .variable) ≡ false → concluded ds (prepared ps cs) (consequentOf cs) ≡ Refused 8
+  concluded-8 : prepared ps cs .answer ≡ application.Consistent → (a : Atom) → consequentOf cs ≡ some a → two state (a .variable) ≡ false → concluded (judged ds) (prepared ps cs) (consequentOf cs) ≡ Refused 8
   concluded-8 p a e y = rw (p, e, y) refl
 
   -- past creation: 7, 6, 21 of the atoms, or 8
   abbrev Late : ℕ → Type 0
   Late n = (applicationNumbers (prepared ps cs .answer) ≡ refusedBy n) ⊎ ((prepared ps cs .answer ≡ application.Consistent) × Unjudged state (consequentOf cs) n)
 
-  late : (n : ℕ) → verdictNumbers (concluded ds (prepared ps cs) (consequentOf cs)) ≡ refusedBy n → Late n
+  late : (n : ℕ) → verdictNumbers (concluded (judged ds) (prepared ps cs) (consequentOf cs)) ≡ refusedBy n → Late n
   late n e = by (prepared ps cs .answer) refl
     where
       by : (w : Application) → prepared ps cs .answer ≡ w → Late n

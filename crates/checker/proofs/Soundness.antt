@@ -11,7 +11,7 @@ use borrow.Author.Tests.{ltb-true, lt-ltb, eq-eqb}
 use lib.Dec.{ltb}
 use lib.IntN.{ℤ}
 use lib.ListN.{length}
-use Rattle.integers.specs.Limits.{TASKS, VARIABLES, VALUE, PREMISES}
+use Rattle.integers.specs.Limits.{TASKS, VARIABLES, DURATIONS, VALUE, PREMISES}
 use Rattle.integers.specs.Moments.{moment, Above, zeroAt}
 use Rattle.integers.specs.Tests.{refusal}
 use Rattle.integers.proofs.Bools.{bool, and-true, and-yes}
@@ -19,7 +19,9 @@ use Rattle.integers.proofs.Filling.{filled-at}
 use Rattle.integers.proofs.Ints.{ints, up, dn}
 use Rattle.integers.proofs.Moments.{above-show, at-moment}
 use Rattle.scheduling.specs.Scheduling.{whole, Tasks, Atom, Every, Admits, given, PassesWith, PassesFormula, Contradicts}
+use Rattle.scheduling.specs.Mirroring.{mirrorStart, mirrorAtoms}
 use Rattle.scheduling.proofs.Passed.{passed-sound}
+use Rattle.scheduling.proofs.Sets.{total-part}
 use Rattle.trees.specs.Bounds.{LATEST}
 use Rattle.checking.specs.declared.int_ext.IntExt.{IntExt}
 use Rattle.checking.specs.declared.int_ext.IntExt.the-variants.{Int, NegativeInf, PositiveInf}
@@ -33,11 +35,13 @@ use Rattle.checking.proofs.Near.{prepared-near}
 use Rattle.checking.proofs.Prepared.{prepared-least, prepared-largest, prepared-no-least, prepared-no-largest, prepared-lower-never, prepared-upper-never, prepared-success}
 use Rattle.records.specs.Orders.{noTasks}
 use Rattle.records.specs.Records.{durationAt, creationTests}
-use Rattle.records.proofs.Creation.{created-lawful}
+use Rattle.records.proofs.Creation.{created-lawful, same-sum}
 use Rattle.checker.specs.declared.checker.Verdict.{Verdict}
 use Rattle.checker.specs.declared.checker.Verdict.the-variants.{Passed, NotPassed, Contradiction, Refused}
 use Rattle.checker.specs.Formulas.{bounded, implied}
-use Rattle.checker.specs.Checks.{finite, lowerIn, upperIn, verdict, judged, concluded, checkAfter, checkOf, tasksWith}
+use Rattle.checker.specs.Checks.{finite, lowerIn, upperIn, verdict, judgedBy, concluded, checkAfter, checkOf, tasksWith}
+use Rattle.checker.specs.MirroredChecks.{mirrorIfAny, lowerAs, upperAs, judgedAs, checkAs, checkMirroredOf}
+use Rattle.checker.proofs.Mirroring.{given-mirrored, contradicts-mirrored, mirrored-reads}
 use Rattle.checker.proofs.Formulas.{Reads, determined, overloaded-sound, overloaded-complete, implied-sound, implied-complete}
 
 -- ---- the bounds of a prepared state
@@ -111,60 +115,77 @@ module _ (ds : List ℤ) (ok : refusal (creationTests ds) ≡ 0) where
   pub durations-last : (k : ℕ) → k < length ds → 1 ≤ durationAt ds k
   durations-last k q = subst (λ (d : ℕ). 1 ≤ d) (filled-at (durationAt ds) (length ds) noTasks 0 k q few) (created-lawful ds ok .lasts k q)
 
+  pub durations-most : (k : ℕ) → k < length ds → durationAt ds k ≤ DURATIONS
+  durations-most k q = omega (arith, total-part (durationAt ds) (length ds) k q, created-lawful ds ok .sum, same-sum ds few)
+
+  module _ (lower upper : ℕ → Option ℤ) (premises : List Atom) where
+    judged-sound : (c : Option Atom) → Reads (length ds) (given premises c) lower upper → judgedBy ds lower upper c ≡ Passed → PassesFormula J premises c
+    unfolding code
+    judged-sound none r v = overloaded-sound J durations-last premises lower upper r (holds-of _ v)
+    judged-sound (some a) r v = by (bool test)
+      where
+        test : Bool
+        test = ltb (a .variable) (length ds) && bounded (length ds) (durationAt ds) lower upper (a .variable)
+
+        by : (test ≡ true) ⊎ (test ≡ false) → PassesWith J premises a
+        by (inl y) =
+            let (p, q) = and-true (ltb (a .variable) (length ds)) (bounded (length ds) (durationAt ds) lower upper (a .variable)) y in
+            implied-sound J durations-last (given premises (some a)) lower upper r (a .variable) (ltb-true (a .variable) (length ds) p) premises a refl refl q
+            (holds-of _ (sym (ap (λ (b : Bool). cond b (verdict (implied (length ds) (durationAt ds) lower upper (a .variable))) (Refused 8)) y) ∙ v))
+        by (inr n) = absurd (other (Refused 8) (omega arith) (sym (ap (λ (b : Bool). cond b (verdict (implied (length ds) (durationAt ds) lower upper (a .variable))) (Refused 8)) n) ∙ v))
+
+    judged-passes : (c : Option Atom) → Reads (length ds) (given premises c) lower upper → PassesFormula J premises c → judgedBy ds lower upper c ≡ Passed
+    judged-passes none r p = ap verdict (overloaded-complete J durations-last premises lower upper r p)
+    judged-passes (some a) r p =
+        let i = a .variable in
+        let small : i < length ds = subst (λ (n : ℕ). i < n) (p .bounded .same-count) (p .formula .outside .small) in
+        let two : bounded (length ds) (durationAt ds) lower upper i ≡ true
+        = sym (determined J durations-last (given premises (some a)) lower upper r _ (p .ranges) (p .bounded) i small) ∙ rw (eq-eqb i i refl) in
+        ap (λ (b : Bool). cond b (verdict (implied (length ds) (durationAt ds) lower upper i)) (Refused 8))
+        (and-yes (ltb i (length ds)) (bounded (length ds) (durationAt ds) lower upper i) (lt-ltb i (length ds) small) two)
+        ∙ ap verdict (implied-complete J durations-last (given premises (some a)) lower upper r i small premises a refl refl p)
+
   module _ (ps cs : List ℤ) (consistent : prepared ps cs .answer ≡ application.Consistent) where
     abbrev state : VariableState
     state = prepared ps cs .state
 
-    read : Reads (length ds) (given (atomsOf ps) (consequentOf cs)) (lowerIn state) (upperIn state)
-    read = reads ds ps cs few consistent
+    -- the mirrored bounds are those of the mirrored atoms
+    pub reads-mirrored : Reads (length ds) (given (mirrorAtoms (durationAt ds) (atomsOf ps)) (mirrorIfAny (durationAt ds) (consequentOf cs))) (lowerAs true ds (prepared ps cs .state)) (upperAs true ds (prepared ps cs .state))
+    reads-mirrored = subst (λ (l : List Atom). Reads (length ds) l (lowerAs true ds state) (upperAs true ds state)) (sym (given-mirrored (durationAt ds) (atomsOf ps) (consequentOf cs)))
+        (mirrored-reads (length ds) (durationAt ds) (given (atomsOf ps) (consequentOf cs)) (lowerIn state) (upperIn state) (λ k q. (durations-last k q, durations-most k q))
+        (λ k q z e. prepared-near ps cs k (omega (arith, few)) .upper z (finite-is (domainAt state k .«upper_bound») z e)) (reads ds ps cs few consistent))
 
-    judged-sound : (c : Option Atom) → consequentOf cs ≡ c → judged ds state c ≡ Passed → PassesFormula J (atomsOf ps) c
-    unfolding code
-    judged-sound none e v =
-        overloaded-sound J durations-last (atomsOf ps) (lowerIn state) (upperIn state)
-        (subst (λ (o : Option Atom). Reads (length ds) (given (atomsOf ps) o) (lowerIn state) (upperIn state)) e read) (holds-of _ v)
-    judged-sound (some a) e v = by (bool test)
-      where
-        test : Bool
-        test = ltb (a .variable) (length ds) && bounded (length ds) (durationAt ds) (lowerIn state) (upperIn state) (a .variable)
+-- the consequent's kind and value play no part in what is judged of the bounds
+alike : (ds : List ℤ) (d : ℕ → ℕ) (lower upper : ℕ → Option ℤ) (c : Option Atom) → judgedBy ds lower upper (mirrorIfAny d c) ≡ judgedBy ds lower upper c
+alike ds d lower upper none = refl
+alike ds d lower upper (some a) = refl
 
-        by : (test ≡ true) ⊎ (test ≡ false) → PassesWith J (atomsOf ps) a
-        by (inl y) =
-            let (p, q) = and-true (ltb (a .variable) (length ds)) (bounded (length ds) (durationAt ds) (lowerIn state) (upperIn state) (a .variable)) y in
-            implied-sound J durations-last (given (atomsOf ps) (some a)) (lowerIn state) (upperIn state)
-            (subst (λ (o : Option Atom). Reads (length ds) (given (atomsOf ps) o) (lowerIn state) (upperIn state)) e read)
-            (a .variable) (ltb-true (a .variable) (length ds) p) (atomsOf ps) a refl refl q
-            (holds-of _ (sym (ap (λ (b : Bool). cond b (verdict (implied (length ds) (durationAt ds) (lowerIn state) (upperIn state) (a .variable))) (Refused 8)) y) ∙ v))
-        by (inr n) = absurd (other (Refused 8) (omega arith) (sym (ap (λ (b : Bool). cond b (verdict (implied (length ds) (durationAt ds) (lowerIn state) (upperIn state) (a .variable))) (Refused 8)) n) ∙ v))
+-- A passed check in either time: the durations are accepted, the atoms consistent, and the bounds judged so.
+record Judged (mirrored : Bool) (ds ps cs : List ℤ) : Type 0 where
+  ok : refusal (creationTests ds) ≡ 0
+  consistent : prepared ps cs .answer ≡ application.Consistent
+  judgement : judgedAs mirrored ds (prepared ps cs .state) (consequentOf cs) ≡ Passed
 
-    judged-passes : (c : Option Atom) → consequentOf cs ≡ c → PassesFormula J (atomsOf ps) c → judged ds state c ≡ Passed
-    judged-passes none e p =
-        ap verdict
-        (overloaded-complete J durations-last (atomsOf ps) (lowerIn state) (upperIn state)
-        (subst (λ (o : Option Atom). Reads (length ds) (given (atomsOf ps) o) (lowerIn state) (upperIn state)) e read) p)
-    judged-passes (some a) e p =
-        let i = a .variable in
-        let r = subst (λ (o : Option Atom). Reads (length ds) (given (atomsOf ps) o) (lowerIn state) (upperIn state)) e read in
-        let small : i < length ds = subst (λ (n : ℕ). i < n) (p .bounded .same-count) (p .formula .outside .small) in
-        let two : bounded (length ds) (durationAt ds) (lowerIn state) (upperIn state) i ≡ true
-        = sym (determined J durations-last (given (atomsOf ps) (some a)) (lowerIn state) (upperIn state) r _ (p .ranges) (p .bounded) i small) ∙ rw (eq-eqb i i refl) in
-        ap (λ (b : Bool). cond b (verdict (implied (length ds) (durationAt ds) (lowerIn state) (upperIn state) i)) (Refused 8))
-        (and-yes (ltb i (length ds)) (bounded (length ds) (durationAt ds) (lowerIn state) (upperIn state) i) (lt-ltb i (length ds) small) two)
-        ∙ ap verdict (implied-complete J durations-last (given (atomsOf ps) (some a)) (lowerIn state) (upperIn state) r i small (atomsOf ps) a refl refl p)
-
--- A passed check meets the formula,
-pub check-formula : (ds ps cs : List ℤ) → checkOf ds ps cs ≡ Passed → (refusal (creationTests ds) ≡ 0) × PassesFormula (tasksWith ds) (atomsOf ps) (consequentOf cs)
-unfolding checkOf code
-check-formula ds ps cs e = by (refusal (creationTests ds)) refl e
+passed-judged : (m : Bool) (ds ps cs : List ℤ) → checkAs m ds ps cs ≡ Passed → Judged m ds ps cs
+unfolding code
+passed-judged m ds ps cs e = by (refusal (creationTests ds)) refl e
   where
-    on : refusal (creationTests ds) ≡ 0 → (w : Application) → prepared ps cs .answer ≡ w → concluded ds (prepared ps cs) (consequentOf cs) ≡ Passed → PassesFormula (tasksWith ds) (atomsOf ps) (consequentOf cs)
-    on ok application.Consistent p v = judged-sound ds ok ps cs p (consequentOf cs) refl (rw p at v)
+    on : refusal (creationTests ds) ≡ 0 → (w : Application) → prepared ps cs .answer ≡ w → concluded (judgedAs m ds) (prepared ps cs) (consequentOf cs) ≡ Passed → Judged m ds ps cs
+    on ok application.Consistent p v = record { ok = ok; consistent = p; judgement = rw p at v }
     on ok (application.Contradiction x) p v = absurd (other (Contradiction x) (omega arith) (rw p at v))
     on ok (application.Refused n) p v = absurd (other (Refused n) (omega arith) (rw p at v))
 
-    by : (n : ℕ) → refusal (creationTests ds) ≡ n → checkAfter ds n ps cs ≡ Passed → (refusal (creationTests ds) ≡ 0) × PassesFormula (tasksWith ds) (atomsOf ps) (consequentOf cs)
-    by zero p v = (p, on p (prepared ps cs .answer) refl v)
+    by : (n : ℕ) → refusal (creationTests ds) ≡ n → checkAfter (judgedAs m ds) n ps cs ≡ Passed → Judged m ds ps cs
+    by zero p v = on p (prepared ps cs .answer) refl v
     by (suc n) p v = absurd (other (Refused (suc n)) (omega arith) v)
+
+-- A passed check meets the formula,
+pub check-formula : (ds ps cs : List ℤ) → checkOf ds ps cs ≡ Passed → (refusal (creationTests ds) ≡ 0) × PassesFormula (tasksWith ds) (atomsOf ps) (consequentOf cs)
+unfolding checkOf
+check-formula ds ps cs e =
+    let j = passed-judged false ds ps cs e in
+    let s = prepared ps cs .state in
+    (j .ok, judged-sound ds (j .ok) (lowerIn s) (upperIn s) (atomsOf ps) (consequentOf cs) (reads ds ps cs (few ds (j .ok)) (j .consistent)) (j .judgement))
 
 -- so that no starts contradict it.
 pub check-sound : (ds ps cs : List ℤ) → checkOf ds ps cs ≡ Passed → (s : ℕ → ℤ) → Contradicts (tasksWith ds) (atomsOf ps) (consequentOf cs) s → ⊥
@@ -172,11 +193,42 @@ check-sound ds ps cs e s =
     let (ok, p) = check-formula ds ps cs e in
     passed-sound (tasksWith ds) s (atomsOf ps) (consequentOf cs) (durations-last ds ok) p
 
--- And a check that meets it passes, where its input is accepted, its atoms are of the kinds ≥, ≤ and =, and each variable can meet them.
-pub check-passes : (ds ps cs : List ℤ) → refusal (creationTests ds) ≡ 0 → length ps ≤ 3 * PREMISES + 2 → rightLists ps cs ≡ true
-    → Every (λ a. a .kind < 3) (given (atomsOf ps) (consequentOf cs)) → ((x : ℕ) → x < VARIABLES → (z : ℤ) × Admits (given (atomsOf ps) (consequentOf cs)) x z)
-    → PassesFormula (tasksWith ds) (atomsOf ps) (consequentOf cs) → checkOf ds ps cs ≡ Passed
-unfolding checkOf
-check-passes ds ps cs ok l r kinds w p =
-    let c = prepared-success ps cs l r kinds w in
-    rw (ok, c) (judged-passes ds ok ps cs c (consequentOf cs) refl p)
+-- A passed mirrored check meets it, mirrored,
+pub mirrored-formula : (ds ps cs : List ℤ) → checkMirroredOf ds ps cs ≡ Passed
+    → (refusal (creationTests ds) ≡ 0) × PassesFormula (tasksWith ds) (mirrorAtoms (durationAt ds) (atomsOf ps)) (mirrorIfAny (durationAt ds) (consequentOf cs))
+unfolding checkMirroredOf
+mirrored-formula ds ps cs e =
+    let j = passed-judged true ds ps cs e in
+    let s = prepared ps cs .state in
+    let d = durationAt ds in (
+      j .ok,
+      judged-sound ds (j .ok) (lowerAs true ds s) (upperAs true ds s) (mirrorAtoms d (atomsOf ps)) (mirrorIfAny d (consequentOf cs)) (reads-mirrored ds (j .ok) ps cs (j .consistent))
+          (alike ds d (lowerAs true ds s) (upperAs true ds s) (consequentOf cs) ∙ j .judgement),
+    )
+
+-- so that no starts, mirrored, contradict it.
+pub mirrored-sound : (ds ps cs : List ℤ) → checkMirroredOf ds ps cs ≡ Passed → (s : ℕ → ℤ) → Contradicts (tasksWith ds) (atomsOf ps) (consequentOf cs) s → ⊥
+mirrored-sound ds ps cs e s c =
+    let (ok, p) = mirrored-formula ds ps cs e in
+    let d = durationAt ds in
+    passed-sound (tasksWith ds) (λ k. mirrorStart (d k) (s k)) (mirrorAtoms d (atomsOf ps)) (mirrorIfAny d (consequentOf cs)) (durations-last ds ok) p (contradicts-mirrored (tasksWith ds) s (atomsOf ps) (consequentOf cs) c)
+
+-- And a check that meets the formula passes, where its input is accepted, its atoms are of the kinds ≥, ≤ and =, and each variable can meet them.
+module _ (ds ps cs : List ℤ) (ok : refusal (creationTests ds) ≡ 0) (short : length ps ≤ 3 * PREMISES + 2) (right : rightLists ps cs ≡ true)
+    (kinds : Every (λ a. a .kind < 3) (given (atomsOf ps) (consequentOf cs))) (met : (x : ℕ) → x < VARIABLES → (z : ℤ) × Admits (given (atomsOf ps) (consequentOf cs)) x z) where
+  consistent : prepared ps cs .answer ≡ application.Consistent
+  consistent = prepared-success ps cs short right kinds met
+
+  pub check-passes : PassesFormula (tasksWith ds) (atomsOf ps) (consequentOf cs) → checkOf ds ps cs ≡ Passed
+  unfolding checkOf
+  check-passes p =
+      let s = prepared ps cs .state in
+      rw (ok, consistent) (judged-passes ds ok (lowerIn s) (upperIn s) (atomsOf ps) (consequentOf cs) (reads ds ps cs (few ds ok) consistent) p)
+
+  pub mirrored-passes : PassesFormula (tasksWith ds) (mirrorAtoms (durationAt ds) (atomsOf ps)) (mirrorIfAny (durationAt ds) (consequentOf cs)) → checkMirroredOf ds ps cs ≡ Passed
+  unfolding checkMirroredOf
+  mirrored-passes p =
+      let s = prepared ps cs .state in
+      let d = durationAt ds in
+      rw (ok, consistent) (sym (alike ds d (lowerAs true ds s) (upperAs true ds s) (consequentOf cs))
+      ∙ judged-passes ds ok (lowerAs true ds s) (upperAs true ds s) (mirrorAtoms d (atomsOf ps)) (mirrorIfAny d (consequentOf cs)) (reads-mirrored ds ok ps cs consistent) p)

@@ -3,42 +3,43 @@
 use mathlib.Core.Path.{_≡_, refl, sym, ap, _∙_}
 use mathlib.Core.Bool.{Bool, true, false, cond, _&&_}
 use mathlib.Core.List.{List}
-use mathlib.Core.Option.{Option, some, none}
-use Prim.Native.Nat.{ℕ, _+_, _≤_, _<_}
+use mathlib.Core.Option.{Option}
+use Prim.Native.Nat.{ℕ, _≤_, _<_}
 use native.Mathlib.Omega.{arith}
 use lib.Dec.{ltb}
 use lib.IntN.{ℤ, pos, negsuc, natAbs}
 use lib.Signed.{_≤ℤ_}
 use lib.ListN.{length, getD, replicate, length-replicate}
 use borrow.Author.Tests.{lt-ltb, le-ltb}
-use Rattle.integers.specs.Limits.{TASKS, VALUE}
+use Rattle.integers.specs.Limits.{TASKS, DURATIONS}
 use Rattle.integers.specs.Moments.{moment, zeroAt}
 use Rattle.integers.specs.Filling.{filled}
 use Rattle.integers.specs.Tests.{refusal}
-use Rattle.integers.proofs.Bools.{bool}
 use Rattle.integers.proofs.Filling.{filled-at}
-use Rattle.scheduling.specs.Scheduling.{natural, Tasks, TaskSet, Atom, total, given}
+use Rattle.scheduling.specs.Scheduling.{whole, natural, Tasks, TaskSet, total, given}
+use Rattle.scheduling.specs.Mirroring.{mirrorAtoms}
 use Rattle.trees.specs.Bounds.{LATEST}
 use Rattle.checking.specs.declared.int_ext.IntExt.{IntExt}
 use Rattle.checking.specs.declared.int_ext.IntExt.the-variants.{Int, NegativeInf, PositiveInf}
 use Rattle.checking.specs.declared.variable_state.VariableState.{VariableState}
 use Rattle.checking.specs.declared.variable_state.Application.the-variants as application
-use Rattle.checking.specs.Atoms.{atomAt, atomsOf, consequentOf, rightWords}
+use Rattle.checking.specs.Atoms.{atomsOf, consequentOf}
 use Rattle.checking.specs.States.{domainAt, prepared}
-use Rattle.checking.proofs.Atoms.{words-three, words-at, consequent-none, consequent-one, right-atom, right-lists}
-use Rattle.checking.proofs.Near.{prepared-near}
-use Rattle.records.specs.Orders.{noTasks}
+use Rattle.checking.proofs.Atoms.{words-three, words-at, consequent-none, consequent-one, right-atom}
+use Rattle.checking.proofs.Near.{Near, prepared-near}
 use Rattle.records.specs.Records.{durationAt, creationTests, newRecord}
 use Rattle.records.proofs.Creation.{created-lawful, same-sum}
 use Rattle.checker.specs.declared.checker.Verdict.{Verdict}
-use Rattle.checker.specs.declared.checker.Verdict.the-variants.{Passed, NotPassed, Contradiction, Refused}
+use Rattle.checker.specs.declared.checker.Verdict.the-variants.{Refused}
 use Rattle.checker.specs.declared.bounds.Bounds.{Bounds}
 use Rattle.checker.specs.Formulas.{known, valueOf, bounded, tasks, _but_, overloadsSpan, comesAfter, overloaded, implied}
-use Rattle.checker.specs.Checks.{finite, lowerIn, upperIn, verdict, judged}
+use Rattle.checker.specs.Checks.{finite, lowerIn, upperIn, verdict, judgedBy, tasksWith}
+use Rattle.checker.specs.MirroredChecks.{mirrorIfAny, lowerAs, upperAs}
 use Rattle.chosen_sets.specs.Holding.{Held, Late}
-use Rattle.checker.specs.Holding.{boundsBetween, knownAt, estAt, lstAt, boundsOf, Judgeable, Consequent}
-use Rattle.checker.proofs.Formulas.{Reads, moments-proper}
-use Rattle.checker.proofs.Soundness.{reads, near-latest, durations-last}
+use Rattle.checker.specs.Holding.{boundsBetween, knownAt, estAt, lstAt, boundsOf, mirroredMoment, mirroredBounds, Judgeable, Consequent}
+use Rattle.checker.proofs.Formulas.{moments-proper}
+use Rattle.checker.proofs.MirroredBounds.{mirrored-known, est-mirrored, lst-mirrored, moment-alike, mirrored-most}
+use Rattle.checker.proofs.Soundness.{reads, reads-mirrored, near-latest, durations-last, durations-most}
 
 -- The words of a consequent ------------------------------------------------------------------------------------------------------
 module _ {words : List ℤ} (w : Consequent words) (some-words : length words ≡ 0 → ⊥) where
@@ -49,56 +50,56 @@ module _ {words : List ℤ} (w : Consequent words) (some-words : length words �
   variable-right = right-atom _ _ _ (words-at words 0 (omega (arith, three)) (w .right) .0) .variable
 
 -- The verdict --------------------------------------------------------------------------------------------------------------------
-module _ (ds : List ℤ) (s : VariableState) where
-  -- the tasks as the state bounds them, and those that it bounds on both sides
+module _ (ds : List ℤ) (lower upper : ℕ → Option ℤ) where
+  -- the tasks as they are bounded, and those that are bounded on both sides
   abbrev pub tasksOf : Tasks natural
-  tasksOf = tasks (length ds) (durationAt ds) (lowerIn s) (upperIn s)
+  tasksOf = tasks (length ds) (durationAt ds) lower upper
 
   abbrev pub twoSided : TaskSet
-  twoSided = bounded (length ds) (durationAt ds) (lowerIn s) (upperIn s)
+  twoSided = bounded (length ds) (durationAt ds) lower upper
 
-module _ {ds : List ℤ} {s : VariableState} {n : ℕ} {b : Bounds} {durations : List ℕ} (j : Judgeable ds s n b durations) where
+module _ {ds : List ℤ} {lower upper : ℕ → Option ℤ} {n : ℕ} {b : Bounds} {durations : List ℕ} (j : Judgeable ds lower upper n b durations) where
   abbrev J : Tasks natural
-  J = tasksOf ds s
+  J = tasksOf ds lower upper
 
   abbrev X : TaskSet
-  X = twoSided ds s
+  X = twoSided ds lower upper
 
   member : (i : ℕ) → i < n → getD (b .bounded) i false ≡ X i
   member i q = j .bounding .held .member i q
 
   module _ (words : List ℤ) where
-    pub alone : length words ≡ 0 → (o : Bool) → o ≡ overloadsSpan J X → verdict o ≡ judged ds s (consequentOf words)
+    pub alone : length words ≡ 0 → (o : Bool) → o ≡ overloadsSpan J X → verdict o ≡ judgedBy ds lower upper (consequentOf words)
     unfolding overloaded
-    alone e o z = ap verdict z ∙ ap (judged ds s) (sym (consequent-none words e))
+    alone e o z = ap verdict z ∙ ap (judgedBy ds lower upper) (sym (consequent-none words e))
 
     module _ (w : Consequent words) (some-words : length words ≡ 0 → ⊥) (i : ℕ) (z : pos i ≡ getD words 0 (pos 0)) where
       abbrev on : ℕ → Verdict
-      on k = cond (ltb k (length ds) && X k) (verdict (implied (length ds) (durationAt ds) (lowerIn s) (upperIn s) k)) (Refused 8)
+      on k = cond (ltb k (length ds) && X k) (verdict (implied (length ds) (durationAt ds) lower upper k)) (Refused 8)
 
-      judged-is : on i ≡ judged ds s (consequentOf words)
-      judged-is = ap (λ (x : ℤ). on (natAbs x)) z ∙ ap (judged ds s) (sym (consequent-one words (three w some-words)))
+      judged-is : on i ≡ judgedBy ds lower upper (consequentOf words)
+      judged-is = ap (λ (x : ℤ). on (natAbs x)) z ∙ ap (judgedBy ds lower upper) (sym (consequent-one words (three w some-words)))
 
-      pub no-task : n ≤ i → Refused 8 ≡ judged ds s (consequentOf words)
+      pub no-task : n ≤ i → Refused 8 ≡ judgedBy ds lower upper (consequentOf words)
       no-task q =
           let no : ltb i (length ds) ≡ false = le-ltb i (length ds) (omega (arith, j .count)) in
-          sym (ap (λ (b : Bool). cond (b && X i) (verdict (implied (length ds) (durationAt ds) (lowerIn s) (upperIn s) i)) (Refused 8)) no) ∙ judged-is
+          sym (ap (λ (b : Bool). cond (b && X i) (verdict (implied (length ds) (durationAt ds) lower upper i)) (Refused 8)) no) ∙ judged-is
 
-      pub no-bound : i < n → getD (b .bounded) i false ≡ false → Refused 8 ≡ judged ds s (consequentOf words)
+      pub no-bound : i < n → getD (b .bounded) i false ≡ false → Refused 8 ≡ judgedBy ds lower upper (consequentOf words)
       no-bound q y =
           let small : ltb i (length ds) ≡ true = lt-ltb i (length ds) (omega (arith, j .count)) in
           let out : X i ≡ false = sym (member i q) ∙ y in
-          sym (ap (λ (b : Bool). cond (b && X i) (verdict (implied (length ds) (durationAt ds) (lowerIn s) (upperIn s) i)) (Refused 8)) small
-          ∙ ap (λ (b : Bool). cond b (verdict (implied (length ds) (durationAt ds) (lowerIn s) (upperIn s) i)) (Refused 8)) out) ∙ judged-is
+          sym (ap (λ (b : Bool). cond (b && X i) (verdict (implied (length ds) (durationAt ds) lower upper i)) (Refused 8)) small
+          ∙ ap (λ (b : Bool). cond b (verdict (implied (length ds) (durationAt ds) lower upper i)) (Refused 8)) out) ∙ judged-is
 
-      pub bound-on : i < n → getD (b .bounded) i false ≡ true → (o : Bool) → o ≡ comesAfter J (X but i) i → verdict o ≡ judged ds s (consequentOf words)
+      pub bound-on : i < n → getD (b .bounded) i false ≡ true → (o : Bool) → o ≡ comesAfter J (X but i) i → verdict o ≡ judgedBy ds lower upper (consequentOf words)
       unfolding implied
       bound-on q y o e =
           let small : ltb i (length ds) ≡ true = lt-ltb i (length ds) (omega (arith, j .count)) in
           let inside : X i ≡ true = sym (member i q) ∙ y in
           ap verdict e
-          ∙ sym (ap (λ (b : Bool). cond (b && X i) (verdict (implied (length ds) (durationAt ds) (lowerIn s) (upperIn s) i)) (Refused 8)) small
-          ∙ ap (λ (b : Bool). cond b (verdict (implied (length ds) (durationAt ds) (lowerIn s) (upperIn s) i)) (Refused 8)) inside) ∙ judged-is
+          ∙ sym (ap (λ (b : Bool). cond (b && X i) (verdict (implied (length ds) (durationAt ds) lower upper i)) (Refused 8)) small
+          ∙ ap (λ (b : Bool). cond b (verdict (implied (length ds) (durationAt ds) lower upper i)) (Refused 8)) inside) ∙ judged-is
 
 -- A prepared state can be judged -------------------------------------------------------------------------------------------------
 known-is : (l u : IntExt) → boundsBetween l u .known ≡ known (finite l) && known (finite u)
@@ -154,23 +155,73 @@ module _ (ds ps cs : List ℤ) (ok : refusal (creationTests ds) ≡ 0) (consiste
   abbrev u : ℕ → IntExt
   u k = domainAt s k .«upper_bound»
 
-  pub judgeable : Judgeable ds s n (boundsOf s n) (newRecord ds .durations)
+  -- the bounds that the record's tasks have in arrays
+  abbrev B : Bounds
+  B = boundsOf s n
+
+  near : (k : ℕ) → k < n → Near (domainAt s k)
+  near k q = prepared-near ps cs k (omega (arith, few))
+
+  lasts : (k : ℕ) → k < n → getD (newRecord ds .durations) k 0 ≡ durationAt ds k
+  lasts k q = at (durationAt ds) 0 k q
+
+  abbrev J₀ : Tasks whole
+  J₀ = tasksWith ds
+
+  sum-fits : total (durationAt ds) n ≤ DURATIONS
+  sum-fits = omega (arith, created-lawful ds ok .sum, same-sum ds few)
+
+  pub judgeable : Judgeable ds (lowerAs false ds s) (upperAs false ds s) n B (newRecord ds .durations)
   judgeable = record {
     count = refl;
     bounding = record {
       held = record {
-        proper = moments-proper (record { count = n; earliest = λ k. pos 0; latest = λ k. pos 0; duration = durationAt ds }) (durations-last ds ok) (given (atomsOf ps) (consequentOf cs)) (lowerIn s) (upperIn s) (reads ds ps cs few consistent);
+        proper = moments-proper J₀ (durations-last ds ok) (given (atomsOf ps) (consequentOf cs)) (lowerIn s) (upperIn s) (reads ds ps cs few consistent);
         count = refl;
         few = few;
         member = λ k q. at (knownAt s) false k q ∙ known-is (l k) (u k);
         start = λ k q. at (estAt s) 0 k q ∙ est-is (l k) (u k);
-        lasts = λ k q. at (durationAt ds) 0 k q;
-        early = λ k q. side-most (l k) (u k) (l k) (λ z e. near-latest z (prepared-near ps cs k (omega (arith, few)) .lower z e));
-        sum = omega (arith, created-lawful ds ok .sum, same-sum ds few);
+        lasts = lasts;
+        early = λ k q. side-most (l k) (u k) (l k) (λ z e. near-latest z (near k q .lower z e));
+        sum = sum-fits;
       };
       late = record {
         at = λ k q. at (lstAt s) 0 k q ∙ lst-is (l k) (u k);
-        fits = λ k q. side-most (l k) (u k) (u k) (λ z e. near-latest z (prepared-near ps cs k (omega (arith, few)) .upper z e));
+        fits = λ k q. side-most (l k) (u k) (u k) (λ z e. near-latest z (near k q .upper z e));
+      };
+    };
+  }
+
+  -- in mirrored time
+  abbrev there : Tasks natural
+  there = tasksOf ds (lowerAs true ds s) (upperAs true ds s)
+
+  member-mirrored : (k : ℕ) → k < n → getD (B .bounded) k false ≡ twoSided ds (lowerAs true ds s) (upperAs true ds s) k
+  member-mirrored k q = at (knownAt s) false k q ∙ mirrored-known (durationAt ds k) (l k) (u k)
+
+  start-mirrored : (k : ℕ) → k < n → mirroredMoment (getD (B .bounded) k false) (getD (B .lst) k 0) (getD (newRecord ds .durations) k 0) ≡ there .earliest k
+  start-mirrored k q = moment-alike (at (knownAt s) false k q) (at (lstAt s) 0 k q) (lasts k q) ∙ est-mirrored (durationAt ds k) (durations-most ds ok k q) (l k) (u k) (near k q .upper)
+
+  late-mirrored : (k : ℕ) → k < n → mirroredMoment (getD (B .bounded) k false) (getD (B .est) k 0) (getD (newRecord ds .durations) k 0) ≡ there .latest k
+  late-mirrored k q = moment-alike (at (knownAt s) false k q) (at (estAt s) 0 k q) (lasts k q) ∙ lst-mirrored (durationAt ds k) (durations-most ds ok k q) (l k) (u k) (near k q .lower)
+
+  pub mirrored-judgeable : Judgeable ds (lowerAs true ds s) (upperAs true ds s) n (mirroredBounds B (newRecord ds .durations) n) (newRecord ds .durations)
+  mirrored-judgeable = record {
+    count = refl;
+    bounding = record {
+      held = record {
+        proper = moments-proper J₀ (durations-last ds ok) (given (mirrorAtoms (durationAt ds) (atomsOf ps)) (mirrorIfAny (durationAt ds) (consequentOf cs))) (lowerAs true ds s) (upperAs true ds s) (reads-mirrored ds ok ps cs consistent);
+        count = refl;
+        few = few;
+        member = member-mirrored;
+        start = λ k q. at (λ k. mirroredMoment (getD (B .bounded) k false) (getD (B .lst) k 0) (getD (newRecord ds .durations) k 0)) 0 k q ∙ start-mirrored k q;
+        lasts = lasts;
+        early = λ k q. mirrored-most (durationAt ds k) (durations-last ds ok k q) (durations-most ds ok k q) (l k) (u k) (u k) (near k q .upper);
+        sum = sum-fits;
+      };
+      late = record {
+        at = λ k q. at (λ k. mirroredMoment (getD (B .bounded) k false) (getD (B .est) k 0) (getD (newRecord ds .durations) k 0)) 0 k q ∙ late-mirrored k q;
+        fits = λ k q. mirrored-most (durationAt ds k) (durations-last ds ok k q) (durations-most ds ok k q) (l k) (u k) (l k) (near k q .lower);
       };
     };
   }

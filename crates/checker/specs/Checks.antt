@@ -41,18 +41,22 @@ upperIn s k = finite (domainAt s k .«upper_bound»)
 abbrev pub verdict : Bool → Verdict
 verdict holds = cond holds Passed NotPassed
 
-module _ (ds : List ℤ) where
-  -- the state of the premises and the negated consequent is judged: 8 where the consequent's variable is no task's, or lacks a finite bound
-  abbrev pub judged : VariableState → Option Atom → Verdict
-  judged s none = verdict (overloaded (length ds) (durationAt ds) (lowerIn s) (upperIn s))
-  judged s (some a) =
-      cond (ltb (a .variable) (length ds) && bounded (length ds) (durationAt ds) (lowerIn s) (upperIn s) (a .variable))
-      (verdict (implied (length ds) (durationAt ds) (lowerIn s) (upperIn s) (a .variable)))
-      (Refused 8)
+-- the bounds of each task's start are judged: 8 where the consequent's variable is no task's, or lacks a finite bound
+abbrev pub judgedBy : List ℤ → (ℕ → Option ℤ) → (ℕ → Option ℤ) → Option Atom → Verdict
+judgedBy ds lower upper none = verdict (overloaded (length ds) (durationAt ds) lower upper)
+judgedBy ds lower upper (some a) =
+    cond (ltb (a .variable) (length ds) && bounded (length ds) (durationAt ds) lower upper (a .variable))
+    (verdict (implied (length ds) (durationAt ds) lower upper (a .variable)))
+    (Refused 8)
 
+-- those that the state of the premises and the negated consequent leaves
+abbrev pub judged : List ℤ → VariableState → Option Atom → Verdict
+judged ds s = judgedBy ds (lowerIn s) (upperIn s)
+
+module _ (judge : VariableState → Option Atom → Verdict) where
   abbrev pub concluded : Applied → Option Atom → Verdict
   concluded r consequent = elim (r .answer) [
-    | application.Consistent ↦ judged (r .state) consequent
+    | application.Consistent ↦ judge (r .state) consequent
     | application.Contradiction x ↦ Contradiction x
     | application.Refused n ↦ Refused n
   ]
@@ -64,7 +68,7 @@ module _ (ds : List ℤ) where
 
 -- the answer: 1, 2, 5, 7, 6; then 21 or a contradiction, atom by atom; then 8; then the formula
 unfoldable pub checkOf : List ℤ → List ℤ → List ℤ → Verdict
-checkOf ds premises consequent = checkAfter ds (refusal (creationTests ds)) premises consequent
+checkOf ds premises consequent = checkAfter (judged ds) (refusal (creationTests ds)) premises consequent
 
 -- the words of a consequent: one atom's, or none
 abbrev pub consequentWords : Option Atom → List ℤ

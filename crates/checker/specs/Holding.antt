@@ -2,9 +2,10 @@
 use mathlib.Core.Path.{_≡_}
 use mathlib.Core.Bool.{Bool, true, false, cond}
 use mathlib.Core.List.{List}
-use Prim.Native.Nat.{ℕ, _+_, _≤_, min, max}
+use mathlib.Core.Option.{Option}
+use Prim.Native.Nat.{ℕ, _+_, _-_, _≤_, _<_, min, max}
 use lib.IntN.{ℤ}
-use lib.ListN.{length, replicate}
+use lib.ListN.{length, getD, replicate}
 use Rattle.integers.specs.Limits.{TASKS}
 use Rattle.integers.specs.Filling.{filled}
 use Rattle.integers.specs.Moments.{moment, zeroAt}
@@ -21,7 +22,6 @@ use Rattle.checker.specs.declared.bounds.TaskBounds.{TaskBounds}
 use Rattle.checker.specs.declared.bounds.Bounds.{Bounds}
 use Rattle.checker.specs.declared.intervals.Interval.{Interval}
 use Rattle.checker.specs.Formulas.{any, lowest, highest, bounded, tasks}
-use Rattle.checker.specs.Checks.{lowerIn, upperIn}
 
 -- Bounds -----------------------------------------------------------------------------------------------------------------------
 
@@ -60,15 +60,27 @@ boundsOf s n = record {
   lst = filled (lstAt s) n (replicate TASKS 0);
 }
 
+-- a moment t of the caller's time is 2^32 − t in mirrored time, where a task that starts at t starts p earlier; a task without two bounds stays at 0
+abbrev pub mirroredMoment : Bool → ℕ → ℕ → ℕ
+mirroredMoment known t p = cond known (4294967296 - (t + p)) 0
+
+-- the bounds in mirrored time
+abbrev pub mirroredBounds : Bounds → List ℕ → ℕ → Bounds
+mirroredBounds b durations n = record {
+  bounded = b .bounded;
+  est = filled (λ k. mirroredMoment (getD (b .bounded) k false) (getD (b .lst) k 0) (getD durations k 0)) n (replicate TASKS 0);
+  lst = filled (λ k. mirroredMoment (getD (b .bounded) k false) (getD (b .est) k 0) (getD durations k 0)) n (replicate TASKS 0);
+}
+
 -- the bounds are those of J's tasks in Ω
 pub record Bounding (J : Tasks natural) (Ω : TaskSet) (n : ℕ) (b : Bounds) (durations : List ℕ) : Type 0 where
   pub held : Held J Ω n (b .bounded) (b .est) durations
   pub late : Late J n (b .lst)
 
--- the bounds are those that the state leaves to a check's n tasks, and the durations are theirs
-pub record Judgeable (ds : List ℤ) (s : VariableState) (n : ℕ) (b : Bounds) (durations : List ℕ) : Type 0 where
+-- the bounds are those of a check's n tasks, and the durations are theirs
+pub record Judgeable (ds : List ℤ) (lower upper : ℕ → Option ℤ) (n : ℕ) (b : Bounds) (durations : List ℕ) : Type 0 where
   pub count : length ds ≡ n
-  pub bounding : Bounding (tasks (length ds) (durationAt ds) (lowerIn s) (upperIn s)) (bounded (length ds) (durationAt ds) (lowerIn s) (upperIn s)) n b durations
+  pub bounding : Bounding (tasks (length ds) (durationAt ds) lower upper) (bounded (length ds) (durationAt ds) lower upper) n b durations
 
 -- the words of a consequent that 6 lets pass
 pub record Consequent (words : List ℤ) : Type 0 where

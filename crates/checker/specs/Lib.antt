@@ -1,4 +1,5 @@
 pub mod Formulas
 pub mod Verdicts
 pub mod Checks
+pub mod MirroredChecks
 pub mod Holding

@@ -1,6 +1,7 @@
 // The check of a reason: the source's formula, on the state that the premises and the negated consequent leave.
 use crate::bounds::Bounds;
 use crate::bounds::bounds_of;
+use crate::bounds::mirrored_bounds;
 use crate::intervals::gather;
 use crate::intervals::min;
 use checking::variable_state::Application;
@@ -10,13 +11,14 @@ use records::record::Creation;
 use records::record::create;
 ghost use mathlib.Core.Path.{_≡_};
 ghost use mathlib.Core.List.{List};
+ghost use mathlib.Core.Option.{Option};
 ghost use Prim.Native.Nat.{ℕ, _<_};
 ghost use lib.IntN.{ℤ};
 ghost use Rattle.scheduling.specs.Scheduling.{natural, Tasks, TaskSet};
-ghost use Rattle.checking.specs.declared.variable_state.VariableState.{VariableState};
 ghost use Rattle.checking.specs.Atoms.{consequentOf};
 ghost use Rattle.checker.specs.Formulas.{_but_, overloadsSpan, comesAfter};
-ghost use Rattle.checker.specs.Checks.{verdict, judged, Checked};
+ghost use Rattle.checker.specs.Checks.{verdict, judgedBy, Checked};
+ghost use Rattle.checker.specs.MirroredChecks.{checkAs, CheckedMirrored};
 ghost use Rattle.checker.specs.Holding.{Bounding, Judgeable, Consequent};
 
 // The answer: a contradiction names the variable of the first failing atom.
@@ -70,8 +72,8 @@ fn verdict_of(holds: bool) -> Verdict
 
 // The formula for the consequent, or for none.
 fn judge(bounds: Bounds, durations: &[u32; 48], n: usize, consequent: &[i32]) -> Verdict
-    requires { ⌜ ((ds : List ℤ) × (s : VariableState) × Judgeable ds s n bounds (now durations)) × Consequent (now consequent) ⌝ }
-    ensures { λ r. ⌜ ((ds : List ℤ) (s : VariableState) → Judgeable ds s n bounds (now (durations .entry)) → r ≡ judged ds s (consequentOf (now (consequent .entry)))) ⌝ }
+    requires { ⌜ ((ds : List ℤ) × (lower : ℕ → Option ℤ) × (upper : ℕ → Option ℤ) × Judgeable ds lower upper n bounds (now durations)) × Consequent (now consequent) ⌝ }
+    ensures { λ r. ⌜ ((ds : List ℤ) (lower upper : ℕ → Option ℤ) → Judgeable ds lower upper n bounds (now (durations .entry)) → r ≡ judgedBy ds lower upper (consequentOf (now (consequent .entry)))) ⌝ }
 {
     if consequent.len() == 0 {
         return verdict_of(overloaded(bounds, durations, n));
@@ -86,9 +88,9 @@ fn judge(bounds: Bounds, durations: &[u32; 48], n: usize, consequent: &[i32]) ->
     verdict_of(implied(bounds, durations, n, i))
 }
 
-// Checks the premises and the consequent against the tasks.
-pub fn check(durations: &[i32], premises: &[i32], consequent: &[i32]) -> Verdict
-    ensures { λ r. ⌜ Checked (now (durations .entry)) (now (premises .entry)) (now (consequent .entry)) r ⌝ }
+// The check in the caller's time, or with its formula in mirrored time.
+fn check_as(mirrored: bool, durations: &[i32], premises: &[i32], consequent: &[i32]) -> Verdict
+    ensures { λ r. ⌜ r ≡ checkAs mirrored (now (durations .entry)) (now (premises .entry)) (now (consequent .entry)) ⌝ }
 {
     let made = create(durations);
     let creation = made.answer;
@@ -101,9 +103,27 @@ pub fn check(durations: &[i32], premises: &[i32], consequent: &[i32]) -> Verdict
     match answer {
         Application::Consistent => {
             let bounds = bounds_of(applied.state, tasks.count);
-            judge(bounds, &tasks.durations, tasks.count, consequent)
+            if !mirrored {
+                return judge(bounds, &tasks.durations, tasks.count, consequent);
+            }
+            let there = mirrored_bounds(bounds, &tasks.durations, tasks.count);
+            judge(there, &tasks.durations, tasks.count, consequent)
         }
         Application::Contradiction(x) => Verdict::Contradiction(x),
         Application::Refused(number) => Verdict::Refused(number),
     }
+}
+
+// Checks the premises and the consequent against the tasks.
+pub fn check(durations: &[i32], premises: &[i32], consequent: &[i32]) -> Verdict
+    ensures { λ r. ⌜ Checked (now (durations .entry)) (now (premises .entry)) (now (consequent .entry)) r ⌝ }
+{
+    check_as(false, durations, premises, consequent)
+}
+
+// The check for a reason of a latest start: in the caller's time too, but judged by the formula in mirrored time.
+pub fn check_mirrored(durations: &[i32], premises: &[i32], consequent: &[i32]) -> Verdict
+    ensures { λ r. ⌜ CheckedMirrored (now (durations .entry)) (now (premises .entry)) (now (consequent .entry)) r ⌝ }
+{
+    check_as(true, durations, premises, consequent)
 }

@@ -1,7 +1,7 @@
 -- An accepted mirrored pass keeps its promise, as a run does.
 -- Assumes nothing.
 use mathlib.Core.Path.{_≡_, sym, subst, _∙_}
-use mathlib.Core.List.{List}
+use mathlib.Core.List.{List, [], _∷_}
 use mathlib.Core.Logic.{_⊎_}
 use Prim.Native.Nat.{ℕ, _<_}
 use native.Mathlib.Omega.{arith}
@@ -10,15 +10,19 @@ use lib.ListN.{length, getD}
 use lib.Signed.{_≤ℤ_, _<ℤ_}
 use Rattle.scheduling.specs.Scheduling.{whole, Tasks, Schedule, Least, Atom, HoldsAtEntry, PassesWith, PassesAlone}
 use Rattle.scheduling.specs.Mirroring.{mirror, mirrorAtom, mirrorAtoms, MirroredBound, MirroredDone}
+use Rattle.scheduling.specs.Words.{atomWords}
 use Rattle.runs.specs.Traces.{Trace, done}
 use Rattle.runs.specs.Words.{reasons}
 use Rattle.runs.specs.Demand.{post}
 use Rattle.runs.specs.Mirrored.{mirroredConsequent}
 use Rattle.checking.specs.Atoms.{atomsOf}
+use Rattle.checker.specs.declared.checker.Verdict.the-variants.{Passed}
+use Rattle.checker.specs.MirroredChecks.{checkMirroredOf}
 use Rattle.records.specs.declared.record.Propagator.{Propagator}
 use Rattle.propagator.specs.declared.disjunctive_propagator.Outcome.{Outcome}
 use Rattle.propagator.specs.Finding.{outcomeOf}
 use Rattle.propagator.specs.Outcomes.{outcomeNumbers, valueOf}
+use Rattle.propagator.specs.Ran.{checkDurations}
 use Rattle.mirrored.specs.RanMirrored.{AcceptedMirrored, mirroredOf}
 use Rattle.disjunctive.specs.declared.ranges.Range.{Range}
 use Rattle.disjunctive.specs.Ranges.{earliests, latests}
@@ -50,7 +54,6 @@ module _ (before : Propagator) (ranges ranges′ : List Range) (posts atoms post
   every-post : (j : ℕ) → j < made → MirroredPostPromise before ranges answer ranges′ posts′ atoms′ j
   every-post j q =
       let r = ran .right .posts j (below j q) in
-      let same = sym (read.atoms-are t answer is posts′ atoms′ (ran .handed) j q) in
       record {
         read = read.read t answer is posts′ atoms′ (ran .handed) j q;
         names = read.names t answer is posts′ atoms′ (ran .handed) j q;
@@ -58,21 +61,26 @@ module _ (before : Propagator) (ranges ranges′ : List Range) (posts atoms post
         lowers = said j q (λ i b. b <ℤ J .latest i) (r .lowers);
         rule = said j q (MirroredBound J) (r .rule);
         holds = said j q (λ i b. (s : ℕ → ℤ) → Schedule J s → s i ≤ℤ b) (r .holds);
-        reason-holds = subst (HoldsAtEntry J) same (r .reason-holds);
-        reason-passes = said j q (λ i b. PassesWith (mirror J) (mirrorAtoms (J .duration) (atomsOf (reasonOf answer posts′ atoms′ j))) (mirrorAtom (J .duration) (record { variable = i; kind = 1; value = b })))
-            (subst (λ (xs : List Atom). PassesWith (mirror J) (mirrorAtoms (J .duration) xs) (mirrorAtom (J .duration) (mirroredConsequent (post t j)))) same (r .reason-passes));
+        reason = record {
+          holds = subst (HoldsAtEntry J) (sym (read.atoms-are t answer is posts′ atoms′ (ran .handed) j q)) (r .reason-holds);
+          formula = said j q (λ i b. PassesWith (mirror J) (mirrorAtoms (J .duration) (atomsOf (reasonOf answer posts′ atoms′ j))) (mirrorAtom (J .duration) (record { variable = i; kind = 1; value = b })))
+              (subst (λ (xs : List Atom). PassesWith (mirror J) (mirrorAtoms (J .duration) xs) (mirrorAtom (J .duration) (mirroredConsequent (post t j)))) (sym (read.atoms-are t answer is posts′ atoms′ (ran .handed) j q)) (r .reason-passes));
+          passes = said j q (λ i b. checkMirroredOf (checkDurations before) (reasonOf answer posts′ atoms′ j) (atomWords (record { variable = i; kind = 1; value = b } ∷ [])) ≡ Passed)
+              (subst (λ (ws : List ℤ). checkMirroredOf (checkDurations before) ws (atomWords (mirroredConsequent (post t j) ∷ [])) ≡ Passed) (sym (read.words-are t answer is posts′ atoms′ (ran .handed) j q)) (ran .passes .posts j (below j q)));
+        };
       }
 
   -- an overload
   overloaded : outcomeNumbers answer .kind ≡ 1 → MirroredOverloadPromise before ranges answer ranges′ posts′ atoms′
   overloaded k =
       let o = read.overloaded t answer is k in
-      let r = ran .right .overloads (o .reason) (o .ended) in
-      let same = sym (read.overload-atoms t answer is posts′ atoms′ (ran .handed) k) in
       record {
         inside = read.inside t answer is posts′ atoms′ (ran .handed) k;
-        reason-holds = subst (HoldsAtEntry J) same (r .reason-holds);
-        reason-passes = subst (λ (xs : List Atom). PassesAlone (mirror J) (mirrorAtoms (J .duration) xs)) same (r .reason-passes);
+        reason = record {
+          holds = subst (HoldsAtEntry J) (sym (read.overload-atoms t answer is posts′ atoms′ (ran .handed) k)) (ran .right .overloads (o .reason) (o .ended) .reason-holds);
+          formula = subst (λ (xs : List Atom). PassesAlone (mirror J) (mirrorAtoms (J .duration) xs)) (sym (read.overload-atoms t answer is posts′ atoms′ (ran .handed) k)) (ran .right .overloads (o .reason) (o .ended) .reason-passes);
+          passes = subst (λ (ws : List ℤ). checkMirroredOf (checkDurations before) ws [] ≡ Passed) (sym (read.overload-words t answer is posts′ atoms′ (ran .handed) k)) (ran .passes .overloads (o .reason) (o .ended));
+        };
       }
 
   -- a pass that is Done

@@ -1,14 +1,18 @@
 -- What an accepted mirrored pass promises its caller, as `Promise` does for a run: latest starts fall by the mirrored rule, and posts and reasons are in the caller's time.
 use mathlib.Core.Path.{_≡_}
 use mathlib.Core.Logic.{_↔_}
-use mathlib.Core.List.{List}
+use mathlib.Core.List.{List, map}
+use mathlib.Core.Option.{Option, some, none}
 use Prim.Native.Nat.{ℕ, _+_, _*_, _≤_, _<_}
 use lib.IntN.{ℤ, pos}
-use lib.ListN.{length, getD}
+use lib.ListN.{length, getD, take}
 use lib.Signed.{_≤ℤ_, _<ℤ_}
-use Rattle.scheduling.specs.Scheduling.{whole, Tasks, Schedule, Atom, HoldsAtEntry, PassesWith, PassesAlone}
-use Rattle.scheduling.specs.Mirroring.{mirror, mirrorAtom, mirrorAtoms, MirroredBound, MirroredConflict, MirroredDone}
+use Rattle.scheduling.specs.Scheduling.{whole, Tasks, Schedule, Atom, HoldsAtEntry, PassesFormula}
+use Rattle.scheduling.specs.Mirroring.{mirror, mirrorAtoms, MirroredBound, MirroredConflict, MirroredDone}
 use Rattle.checking.specs.Atoms.{atomsOf}
+use Rattle.checker.specs.declared.checker.Verdict.the-variants.{Passed}
+use Rattle.checker.specs.Checks.{consequentWords}
+use Rattle.checker.specs.MirroredChecks.{mirrorIfAny, checkMirroredOf}
 use Rattle.records.specs.declared.record.Propagator.{Propagator}
 use Rattle.records.specs.Posts.{postNumber}
 use Rattle.propagator.specs.declared.disjunctive_propagator.Outcome.{Outcome}
@@ -40,9 +44,18 @@ module _ (before : Propagator) (ranges : List Range) (answer : Outcome) (ranges�
   abbrev now : ℕ → ℤ
   now k = getD (latests ranges′) k (pos 0)
 
-  -- the atoms of a reason, mirrored
-  abbrev mirrored : List ℤ → List Atom
-  mirrored words = mirrorAtoms (J .duration) (atomsOf words)
+  -- the durations of the record, as a check takes them
+  abbrev durations : List ℤ
+  durations = map pos (take (before .count) (before .durations))
+
+  -- A reason, for an atom or for none.
+  pub record MirroredReason (words : List ℤ) (consequent : Option Atom) : Type 0 where
+    -- Every choice of starts from the entry ranges meets its atoms.
+    pub holds : HoldsAtEntry J (atomsOf words)
+    -- Mirrored, they meet the checker's formula.
+    pub formula : PassesFormula (mirror J) (mirrorAtoms (J .duration) (atomsOf words)) (mirrorIfAny (J .duration) consequent)
+    -- The mirrored check answers Passed.
+    pub passes : checkMirroredOf durations words (consequentWords consequent) ≡ Passed
 
   -- Post j.
   pub record MirroredPostPromise (j : ℕ) : Type 0 where
@@ -56,17 +69,15 @@ module _ (before : Propagator) (ranges : List Range) (answer : Outcome) (ranges�
     pub lowers : bound j <ℤ J .latest (task j)
     -- It holds in all schedules.
     pub holds : (s : ℕ → ℤ) → Schedule J s → s (task j) ≤ℤ bound j
-    -- The reason that the reader hands out holds at entry and, mirrored, meets the checker's formula for task ≤ bound, mirrored.
-    pub reason-holds : HoldsAtEntry J (atomsOf (reasonOf answer posts atoms j))
-    pub reason-passes : PassesWith (mirror J) (mirrored (reasonOf answer posts atoms j)) (mirrorAtom (J .duration) (record { variable = task j; kind = 1; value = bound j }))
+    -- What the reader hands out is a reason for task ≤ bound.
+    pub reason : MirroredReason (reasonOf answer posts atoms j) (some (record { variable = task j; kind = 1; value = bound j }))
 
   -- An overload.
   pub record MirroredOverloadPromise : Type 0 where
-    -- The atoms of its reason are inside the slice: value 1 is the first one's index, value 2 their count.
+    -- Its atoms are inside the slice: value 1 is the first one's index, value 2 their count.
     pub inside : 3 * valueOf answer 1 + 3 * valueOf answer 2 ≤ length atoms
-    -- The reason holds at entry and, mirrored, meets the checker's formula without consequent.
-    pub reason-holds : HoldsAtEntry J (atomsOf (overloadOf answer atoms))
-    pub reason-passes : PassesAlone (mirror J) (mirrored (overloadOf answer atoms))
+    -- They are a reason without consequent.
+    pub reason : MirroredReason (overloadOf answer atoms) none
 
   pub record MirroredPromise : Type 0 where
     -- The pass is Done, or it ends in Overload or Emptied.
@@ -77,7 +88,7 @@ module _ (before : Propagator) (ranges : List Range) (answer : Outcome) (ranges�
     pub when-done : kind ≡ 0 → MirroredDone J now made task bound
     -- An overload or emptied range means that no schedule exists.
     pub otherwise : (kind ≡ 0 → ⊥) → (s : ℕ → ℤ) → Schedule J s → ⊥
-    -- Whatever the outcome, every post holds in all schedules, and its reason holds at entry and, mirrored, meets the checker's formula.
+    -- Whatever the outcome, every post holds in all schedules, and its reason holds at entry, meets the checker's formula mirrored, and passes the mirrored check.
     pub every-post : (j : ℕ) → j < made → MirroredPostPromise j
     -- So does an overload's reason.
     pub overload : kind ≡ 1 → MirroredOverloadPromise

@@ -1,4 +1,4 @@
-// The open calls, all in one place: creation, a task added or taken off, the run, the mirrored pass, the pass by precedences and the reason of one task's bound, the overload test, the post reader, the check, the page, the charges, the earliest free start, the busiest stretch, and the calls of the variable state. None has a `requires`.
+// The open calls, all in one place: creation, a task added or taken off, the run, the mirrored pass, the pass by precedences and the reason of one task's bound, the overload test, the post reader, the check and the mirrored check, the page, the charges, the earliest free start, the busiest stretch, and the calls of the variable state. None has a `requires`.
 pub mod ranges;
 
 pub use crate::ranges::Range;
@@ -15,6 +15,7 @@ pub use charges::answer::Billing;
 pub use charges::answer::Charges;
 pub use checker::checker::Verdict;
 pub use checker::checker::check;
+pub use checker::checker::check_mirrored;
 pub use checking::variable_state::VariableState;
 pub use counter::overload_test::Overload;
 pub use desk::changes::Change;

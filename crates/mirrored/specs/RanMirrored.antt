@@ -1,21 +1,25 @@
 -- What the mirrored pass leaves, by its definition, and what that means.
 use mathlib.Core.Path.{_≡_}
-use mathlib.Core.List.{List}
-use Prim.Native.Nat.{ℕ, _≤_}
+use mathlib.Core.List.{List, [], _∷_}
+use Prim.Native.Nat.{ℕ, _≤_, _<_}
 use lib.IntN.{ℤ}
 use lib.ListN.{length, take}
 use Rattle.integers.specs.Answers.{refusedBy}
+use Rattle.scheduling.specs.Scheduling.{Atom}
 use Rattle.scheduling.specs.Words.{atomWords}
-use Rattle.runs.specs.Traces.{Trace}
+use Rattle.runs.specs.Traces.{Trace, overload}
+use Rattle.runs.specs.Demand.{post}
 use Rattle.runs.specs.Words.{postWords, reasons, atomsIn, postsAfter, atomsAfter}
-use Rattle.runs.specs.Mirrored.{mirroredPass, MirroredRight}
+use Rattle.runs.specs.Mirrored.{mirroredPass, mirroredConsequent, MirroredRight}
 use Rattle.records.specs.declared.record.Propagator.{Propagator}
 use Rattle.records.specs.Records.{tasksIn}
 use Rattle.records.specs.Refusals.{runNumber}
+use Rattle.checker.specs.declared.checker.Verdict.the-variants.{Passed}
+use Rattle.checker.specs.MirroredChecks.{checkMirroredOf}
 use Rattle.propagator.specs.declared.disjunctive_propagator.Outcome.{Outcome}
 use Rattle.propagator.specs.Finding.{outcomeOf}
 use Rattle.propagator.specs.Outcomes.{outcomeNumbers}
-use Rattle.propagator.specs.Ran.{Handed}
+use Rattle.propagator.specs.Ran.{checkDurations, Handed}
 
 module _ (before : Propagator) (es ls : List ℤ) where
   -- the pass on the record's tasks, in the caller's time
@@ -31,10 +35,16 @@ module _ (before : Propagator) (es ls : List ℤ) where
     pub posts-fit : length (postWords 0 (mirroredOf .posts)) ≤ length posts
     pub atoms-fit : length (atomWords (atomsIn mirroredOf)) ≤ length atoms
 
-  -- It is what the mirrored rule gives, and the slices hand out its posts and reasons.
+  -- Every reason passes the mirrored check: a post's with the post as its consequent, an overload's with none.
+  pub record PassingMirrored : Type 0 where
+    pub posts : (j : ℕ) → j < length (mirroredOf .posts) → checkMirroredOf (checkDurations before) (atomWords (post mirroredOf j .reason)) (atomWords (mirroredConsequent (post mirroredOf j) ∷ [])) ≡ Passed
+    pub overloads : (reason : List Atom) → mirroredOf .end ≡ overload reason → checkMirroredOf (checkDurations before) (atomWords reason) [] ≡ Passed
+
+  -- It is what the mirrored rule gives, its reasons pass the mirrored check, and the slices hand out its posts and reasons.
   pub record AcceptedMirrored (posts atoms : List ℤ) (r : Outcome) (ls′ posts′ atoms′ : List ℤ) : Type 0 where
     pub left : LeftMirrored posts atoms r ls′ posts′ atoms′
     pub right : MirroredRight (tasksIn before es ls) mirroredOf
+    pub passes : PassingMirrored
     pub handed : Handed mirroredOf posts′ atoms′
 
   -- A refused pass leaves everything as it was.

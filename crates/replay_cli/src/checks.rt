@@ -1,21 +1,31 @@
-// The check.
+// The check and the mirrored check.
 use crate::commands::Session;
 use crate::lines::put_contradiction;
 use crate::lines::put_line;
 use crate::lines::put_refused;
 use checker::checker::Verdict;
 use checker::checker::check;
+use checker::checker::check_mirrored;
 
-// `check`: the durations, the premises and the consequent.
+// The check, or the mirrored one.
+fn verdict_of(mirrored: bool, durations: &[i32], premises: &[i32], consequent: &[i32]) -> Verdict {
+    if mirrored {
+        return check_mirrored(durations, premises, consequent);
+    }
+    check(durations, premises, consequent)
+}
+
+// `check` and `check-mirrored`: the durations, the premises and the consequent.
 pub fn checks(
     session: Session,
     out: &mut [u8],
+    mirrored: bool,
     durations: &[i32],
     premises: &[i32],
     consequent: &[i32],
 ) -> Session {
     let at = session.at;
-    let verdict = check(durations, premises, consequent);
+    let verdict = verdict_of(mirrored, durations, premises, consequent);
     session.said(put_verdict(out, at, verdict))
 }
 

@@ -32,6 +32,7 @@ pub enum Command {
     Add,
     Remove,
     Check,
+    CheckMirrored,
     State,
     Apply,
     IsTrue,
@@ -132,7 +133,8 @@ impl Session {
             Command::Create => creates(self, out, a),
             Command::Add => adds(self, out, a),
             Command::Remove => removes(self, out, a),
-            Command::Check => checks(self, out, a, b, c),
+            Command::Check => checks(self, out, false, a, b, c),
+            Command::CheckMirrored => checks(self, out, true, a, b, c),
             Command::State => empties(self, out),
             Command::Apply => applies(self, out, a),
             Command::IsTrue => tells(self, out, a),
@@ -216,6 +218,7 @@ fn asked_of(line: &[u8]) -> &[u8] {
 fn mark_of(command: Command) -> u8 {
     match command {
         Command::Check => b';',
+        Command::CheckMirrored => b';',
         Command::Prepare => b';',
         Command::Charges => b';',
         Command::Free => b';',
@@ -237,6 +240,9 @@ fn command_of(word: &[u8]) -> Command {
     }
     if same(word, b"check") {
         return Command::Check;
+    }
+    if same(word, b"check-mirrored") {
+        return Command::CheckMirrored;
     }
     if same(word, b"state") {
         return Command::State;

@@ -23,7 +23,7 @@ use Rattle.scheduling.proofs.Sets.{with-in, with-new}
 use Rattle.scheduling.proofs.Processing.{processing-with, processing-empty}
 use Rattle.scheduling.proofs.Windows.{ends-by}
 use Rattle.scheduling.proofs.Exists.{ect-some}
-use Rattle.trees.specs.Leaves.{Leaf, empty, white, gray, inTheta, inLambda, ect, ect-bar, responsible}
+use Rattle.trees.specs.Leaves.{Leaf, empty, white, gray, inTheta, inLambda, rootEct, rootEctBar, responsible}
 use Rattle.trees.proofs.Roots as tree
 use Rattle.runs.specs.Traces.{done, Trace}
 use Rattle.runs.specs.Runs.{State, on, inner, outer, run, grayed, dropped, allWhite, lct, tabulate, earliestOrder, completionOrder, propagate}
@@ -128,20 +128,20 @@ module _ (z : ℕ) (J : Tasks natural) (c : Chain z J) where
 
       module _ (ls : List Leaf) (Λ : TaskSet) (s : Shows ls (below (suc f)) Λ) where
         -- ect(Θ) is lct, so there is no overload;
-        ect-f : ect J first ls ≡ z + 10 * suc f
-        ect-f = ect-last (below (suc f)) f (ect J first ls) last-in in-below (tree.ect-of J proper first rk ls (below (suc f)) Λ s (f, last-in))
+        ect-f : rootEct J first ls ≡ z + 10 * suc f
+        ect-f = ect-last (below (suc f)) f (rootEct J first ls) last-in in-below (tree.ect-of J proper first rk ls (below (suc f)) Λ s (f, last-in))
 
-        quiet : ltb (lct o J first second t) (ect J first ls) ≡ false
-        quiet = le-ltb (lct o J first second t) (ect J first ls) (omega (arith, lct-f, ect-f))
+        quiet : ltb (lct o J first second t) (rootEct J first ls) ≡ false
+        quiet = le-ltb (lct o J first second t) (rootEct J first ls) (omega (arith, lct-f, ect-f))
 
       -- where Λ is empty, the inner loop ends;
       module _ (ls : List Leaf) (s : Shows ls (below (suc f)) nothing) where
-        bar-f : tree.AtMostOne J proper first rk ls (below (suc f)) nothing s (ect-bar J first ls) → ect-bar J first ls ≡ z + 10 * suc f
-        bar-f (inl e) = ect-last (below (suc f)) f (ect-bar J first ls) last-in in-below e
+        bar-f : tree.AtMostOne J proper first rk ls (below (suc f)) nothing s (rootEctBar J first ls) → rootEctBar J first ls ≡ z + 10 * suc f
+        bar-f (inl e) = ect-last (below (suc f)) f (rootEctBar J first ls) last-in in-below e
         bar-f (inr e) = clash (e .1 .mem) refl
 
-        ends : ltb (lct o J first second t) (ect-bar J first ls) ≡ false
-        ends = le-ltb (lct o J first second t) (ect-bar J first ls) (omega (arith, lct-f, bar-f (tree.bar-of J proper first rk ls (below (suc f)) nothing s (inl (f, last-in)) .holds)))
+        ends : ltb (lct o J first second t) (rootEctBar J first ls) ≡ false
+        ends = le-ltb (lct o J first second t) (rootEctBar J first ls) (omega (arith, lct-f, bar-f (tree.bar-of J proper first rk ls (below (suc f)) nothing s (inl (f, last-in)) .holds)))
 
       -- where it is the task behind these, that task passes, is found, and is not raised
       module _ (small : suc f < n) (ls : List Leaf) (s : Shows ls (below (suc f)) (nothing with suc f)) where
@@ -152,13 +152,13 @@ module _ (z : ℕ) (J : Tasks natural) (c : Chain z J) where
         joint v = ect-last (below (suc f) with suc f) (suc f) v (record { small = small; mem = with-new (below (suc f)) (suc f) })
             (λ k h. elim (with-in (below (suc f)) (suc f) k (h .mem)) [ inl e ↦ omega (arith, e) | inr e ↦ omega (arith, ltb-true k (suc f) e) ])
 
-        bar-passes : z + 10 * suc (suc f) ≤ ect-bar J first ls
+        bar-passes : z + 10 * suc (suc f) ≤ rootEctBar J first ls
         bar-passes =
             let (v, e) = ect-some J (below (suc f) with suc f) (suc f, record { small = small; mem = with-new (below (suc f)) (suc f) }) in
             omega (arith, joint v e, tree.bar-of J proper first rk ls (below (suc f)) (nothing with suc f) s (inl (f, last-in)) .bounds v (inr (suc f, record { small = small; mem = with-new nothing (suc f) }, e)))
 
-        over : ltb (lct o J first second t) (ect-bar J first ls) ≡ true
-        over = lt-ltb (lct o J first second t) (ect-bar J first ls) (omega (arith, lct-f, bar-passes))
+        over : ltb (lct o J first second t) (rootEctBar J first ls) ≡ true
+        over = lt-ltb (lct o J first second t) (rootEctBar J first ls) (omega (arith, lct-f, bar-passes))
 
         found : (x : ℕ) → responsible J first ls ≡ some x → getD first x 0 ≡ suc f
         found x w = only (getD first x 0) (tree.one-found J proper first rk ls (below (suc f)) (nothing with suc f) s x w .gray .mem)
@@ -169,8 +169,8 @@ module _ (z : ℕ) (J : Tasks natural) (c : Chain z J) where
           | inr w ↦ w
         ]
 
-        stays : (x : ℕ) → responsible J first ls ≡ some x → ltb (J .earliest (getD first x 0)) (ect J first ls) ≡ false
-        stays x w = le-ltb (J .earliest (getD first x 0)) (ect J first ls) (omega (arith, ap (J .earliest) (found x w), c .start (suc f) small, ect-f ls (nothing with suc f) s))
+        stays : (x : ℕ) → responsible J first ls ≡ some x → ltb (J .earliest (getD first x 0)) (rootEct J first ls) ≡ false
+        stays x w = le-ltb (J .earliest (getD first x 0)) (rootEct J first ls) (omega (arith, ap (J .earliest) (found x w), c .start (suc f) small, ect-f ls (nothing with suc f) s))
 
         -- it leaves Λ
         left-alone : (x : ℕ) → responsible J first ls ≡ some x → Shows (set ls x empty) (below (suc f)) nothing

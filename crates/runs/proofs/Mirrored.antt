@@ -260,16 +260,25 @@ module _ (ds : List ℕ) (es ls : List ℤ) (a : Accepted START ds es ls) (long-
   pub post-near : (j : ℕ) → j < length (mirroredRun ds es ls .posts) → Near ds (consequentOf (post (mirroredRun ds es ls) j))
   post-near j q = shaped-near ds early late (consequentOf (post (mirroredRun ds es ls) j)) (post-shaped MIRRORED START (omega arith) (omega arith) ds early late mirrored-accepted ending starting j q .says)
 
+  -- a post's reason and an overload's have at most two atoms to a task
+  pub reason-near : (j : ℕ) → j < length (mirroredRun ds es ls .posts) → Every (Near ds) (post (mirroredRun ds es ls) j .reason) × (length (post (mirroredRun ds es ls) j .reason) ≤ 2 * length ds)
+  reason-near j q =
+      let s = post-shaped MIRRORED START (omega arith) (omega arith) ds early late mirrored-accepted ending starting j q in
+      (all-near ds early late (post (mirroredRun ds es ls) j .reason) (s .because), s .few)
+
+  pub overload-near : (reason : List Atom) → mirroredRun ds es ls .end ≡ overload reason → Every (Near ds) reason × (length reason ≤ 2 * length ds)
+  overload-near reason e =
+      let s = overload-shaped MIRRORED START (omega arith) (omega arith) ds early late mirrored-accepted ending starting reason e in
+      (all-near ds early late reason (s .because), s .few)
+
   pub atoms-near : Every (Near ds) (reasons (mirroredRun ds es ls .posts) ++ endReason (mirroredRun ds es ls .end))
   atoms-near = every-append (Near ds) (reasons (mirroredRun ds es ls .posts)) (endReason (mirroredRun ds es ls .end))
-      (all-reasons (Near ds) (mirroredRun ds es ls .posts) (λ j q. all-near ds early late (post (mirroredRun ds es ls) j .reason)
-      (post-shaped MIRRORED START (omega arith) (omega arith) ds early late mirrored-accepted ending starting j q .because)))
+      (all-reasons (Near ds) (mirroredRun ds es ls .posts) (λ j q. reason-near j q .0))
       (ended (mirroredRun ds es ls .end) refl)
     where
       ended : (e : End) → mirroredRun ds es ls .end ≡ e → Every (Near ds) (endReason e)
       ended done z = tt
-      ended (overload r) z = all-near ds early late r
-          (overload-shaped MIRRORED START (omega arith) (omega arith) ds early late mirrored-accepted ending starting r z .because)
+      ended (overload r) z = overload-near r z .0
       ended emptied z = tt
 
   -- They fit the lent slices as a run's do.

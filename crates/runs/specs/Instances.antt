@@ -89,7 +89,7 @@ two-raised = refl
 
 -- Three of the costliest tasks: 4 · 3 − 3 leaf changes.
 pub three-costliest : propagate (costliestDurations 3) (costliestStarts 3) (costliestStarts 3) ≡ trace [] done (0 ∷ 10 ∷ 20 ∷ []) 9
-unfolding propagate run outer inner conflict propagation bounds within tabulate heightFrom sort insert index numbers width root responsible theta joinOf isEmpty gray tested descentP descentEct stepP stepEct searchP searchEct thetaOf nodeOver
+unfolding propagate run outer inner decoded conflict propagation bounds within tabulate heightFrom sort insert index numbers width root responsible theta joinOf isEmpty gray tested descentP descentEct stepP stepEct searchP searchEct thetaOf nodeOver
 three-costliest = refl
 
 -- Three tasks with one earliest start, two of them with one latest completion: ties go to the lower number in both orders.

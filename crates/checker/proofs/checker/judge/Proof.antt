@@ -27,9 +27,9 @@ verdict-of-requires : tie.Need-verdict-of-requires
 verdict-of-requires c κs = search needs
 
 returns : tie.Need-returns
-returns c = λ ds s j.
+returns c = λ ds lower upper j.
     let a = c .before .before .before .args in
-    c .verdict-of .ensures ∙ alone j (a .consequent .now) (omega (arith, c .before .before .if1 .taken)) (c .before .overloaded .result) (c .before .overloaded .ensures (tasksOf ds s) (twoSided ds s) (j .bounding))
+    c .verdict-of .ensures ∙ alone j (a .consequent .now) (omega (arith, c .before .before .if1 .taken)) (c .before .overloaded .result) (c .before .overloaded .ensures (tasksOf ds lower upper) (twoSided ds lower upper) (j .bounding))
 
 shared-slice-copy-out-nat-of : tie.Need-shared-slice-copy-out-nat-of
 shared-slice-copy-out-nat-of c = search needs
@@ -43,7 +43,7 @@ cast-i : tie.Need-cast-i
 cast-i c = search needs
 
 returns-2 : tie.Need-returns-2
-returns-2 c = λ ds s j.
+returns-2 c = λ ds lower upper j.
     let f = c .before .before .before .before in
     no-task j (f .args .consequent .now) (f .pre .1) (some-words (c .before .before .before)) (c .before .nat-of .result) (variable (c .before)) (c .if2 .taken)
 
@@ -51,7 +51,7 @@ element-copy-out-if3 : tie.Need-element-copy-out-if3
 element-copy-out-if3 c = search needs
 
 returns-3 : tie.Need-returns-3
-returns-3 c = λ ds s j.
+returns-3 c = λ ds lower upper j.
     let f = c .before .before .before .before .before .before in
     let i = c .before .before .before .nat-of .result in
     no-bound j (f .args .consequent .now) (f .pre .1) (some-words (c .before .before .before .before .before)) i (variable (c .before .before .before)) (c .before .before .if2 .left)
@@ -64,12 +64,12 @@ verdict-of-requires-2 : tie.Need-verdict-of-requires-2
 verdict-of-requires-2 c κs = search needs
 
 returns-4 : tie.Need-returns-4
-returns-4 c = λ ds s j.
+returns-4 c = λ ds lower upper j.
     let f = c .before .before .before .before .before .before .before .before in
     let i = c .before .before .before .before .before .nat-of .result in
     c .verdict-of2 .ensures
     ∙ bound-on j (f .args .consequent .now) (f .pre .1) (some-words (c .before .before .before .before .before .before .before)) i (variable (c .before .before .before .before .before)) (c .before .before .before .before .if2 .left)
-    (not-false (getD (f .args .t1 .bounded) i false) (c .before .before .if3 .left)) (c .before .implied .result) (c .before .implied .ensures (tasksOf ds s) (twoSided ds s) (j .bounding))
+    (not-false (getD (f .args .t1 .bounded) i false) (c .before .before .if3 .left)) (c .before .implied .result) (c .before .implied .ensures (tasksOf ds lower upper) (twoSided ds lower upper) (j .bounding))
 
 pub judge-spec : {M : Type 1} → statement M
 judge-spec =

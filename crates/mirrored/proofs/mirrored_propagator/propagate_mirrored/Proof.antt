@@ -10,6 +10,7 @@ use Rattle.records.proofs.Refused.{accepted-run}
 use Rattle.propagator.proofs.Handing.{handed}
 use Rattle.mirrored.specs.RanMirrored.{mirroredOf}
 use Rattle.mirrored.proofs.Endings.{ended, left-mirrored, right}
+use Rattle.mirrored.proofs.Passing.{passing}
 use borrow.Author.Needs.{needs}
 use Rattle.mirrored.proofs.mirrored_propagator.propagate_mirrored.Statement.{statement}
 use Rattle.mirrored.proofs.mirrored_propagator.propagate_mirrored.Tie as tie
@@ -68,6 +69,7 @@ returns-2 c =
       accepted = λ z. record {
         left = l;
         right = right (a .t1) (a .earliest .now) (a .latest .now) (length (a .posts .now)) (length (a .atoms .now)) (passed e) (long s);
+        passes = passing (a .t1) (a .earliest .now) (a .latest .now) (length (a .posts .now)) (length (a .atoms .now)) (passed e) (long s);
         handed = handed (mirroredOf (a .t1) (a .earliest .now) (a .latest .now)) (a .posts .now) (a .atoms .now) (l .post-words) (l .atom-words);
       };
     }

@@ -1,0 +1,158 @@
+-- `check_as`: what is judged are the bounds that the state leaves, or these mirrored.
+-- Assumes nothing.
+use mathlib.Core.Path.{_≡_, sym, _∙_}
+use mathlib.Core.Bool.{Bool, true, false}
+use mathlib.Core.List.{List}
+use lib.IntN.{ℤ}
+use borrow.Author.Needs.{needs}
+use borrow.Author.Tests.{not-true, not-false}
+use Rattle.checking.specs.Atoms.{consequentOf}
+use Rattle.checker.specs.declared.bounds.Bounds.{Bounds}
+use Rattle.checker.specs.declared.checker.Verdict.{Verdict}
+use Rattle.checker.specs.Holding.{mirroredBounds, Judgeable, Consequent}
+use Rattle.checker.specs.MirroredChecks.{lowerAs, upperAs, judgedAs, checkAs}
+use Rattle.checker.proofs.Answers.{turned-back, contradicted, refused-atoms, few-tasks, can-judge, can-judge-mirrored, consequent-right, concluded-by}
+use Rattle.checker.proofs.Verdicts.{tasksOf, twoSided}
+use Rattle.checker.proofs.checker.check_as.Statement.{statement}
+use Rattle.checker.proofs.checker.check_as.Tie as tie
+
+-- Where the bounds are taken: what each call before left.
+module _ (c : tie.After-bounds-of) where
+  abbrev start : tie.Start
+  start = c .before .before .before .before .before .before .before .before
+
+  abbrev created : tie.After-create
+  created = c .before .before .before .before .before .before .before
+
+  abbrev applied : tie.After-prepare-for-conflict-check
+  applied = c .before .before .before
+
+  abbrev ds : List ℤ
+  ds = start .args .durations .now
+
+  abbrev ps : List ℤ
+  ps = start .args .premises .now
+
+  abbrev cs : List ℤ
+  cs = start .args .consequent .now
+
+  abbrev can : let n = created .create .result .«record» in let s = applied .prepare-for-conflict-check .result .state in
+      Judgeable ds (lowerAs false ds s) (upperAs false ds s) (n .count) (c .bounds-of .result) (n .durations)
+  can = can-judge ds ps cs (start .args .mirrored) (created .create .result) (created .create .ensures .0) (c .before .before .before .before .before .enum-told .given .1) (applied .prepare-for-conflict-check .result) (applied .prepare-for-conflict-check .ensures .0)
+      (c .before .enum-told2 .given .1) (c .bounds-of .result) (c .bounds-of .ensures)
+
+  abbrev can-mirrored : (b : Bounds) → b ≡ mirroredBounds (c .bounds-of .result) (created .create .result .«record» .durations) (created .create .result .«record» .count)
+      → let n = created .create .result .«record» in let s = applied .prepare-for-conflict-check .result .state in
+      Judgeable ds (lowerAs true ds s) (upperAs true ds s) (n .count) b (n .durations)
+  can-mirrored b z = can-judge-mirrored ds ps cs (start .args .mirrored) (created .create .result) (created .create .ensures .0) (c .before .before .before .before .before .enum-told .given .1) (applied .prepare-for-conflict-check .result) (applied .prepare-for-conflict-check .ensures .0)
+      (c .before .enum-told2 .given .1) (c .bounds-of .result) b (c .bounds-of .ensures) z
+
+  abbrev right : Consequent cs
+  right = consequent-right ds ps cs (start .args .mirrored) (created .create .result) (created .create .ensures .0) (c .before .before .before .before .before .enum-told .given .1) (applied .prepare-for-conflict-check .result) (applied .prepare-for-conflict-check .ensures .0)
+      (c .before .enum-told2 .given .1)
+
+  -- in the time that is asked for
+  concludes : (b : Bool) → start .args .mirrored ≡ b → (r : Verdict) → r ≡ judgedAs b ds (applied .prepare-for-conflict-check .result .state) (consequentOf cs) → r ≡ checkAs (start .args .mirrored) ds ps cs
+  concludes b e r j = concluded-by ds ps cs (start .args .mirrored) (created .create .result) (created .create .ensures .0) (c .before .before .before .before .before .enum-told .given .1) (applied .prepare-for-conflict-check .result) (applied .prepare-for-conflict-check .ensures .0)
+      (c .before .enum-told2 .given .1) r (j ∙ sym (λ i. judgedAs (e i) ds (applied .prepare-for-conflict-check .result .state) (consequentOf cs)))
+
+create-requires : tie.Need-create-requires
+create-requires c κs = search needs
+
+enum-known-creation : tie.Need-enum-known-creation
+enum-known-creation c = search needs
+
+returns : tie.Need-returns
+returns c =
+    let m = c .before .before .before .create in
+    let a = c .before .before .before .before .args in
+    turned-back (a .durations .now) (a .premises .now) (a .consequent .now) (a .mirrored) (m .result) (m .ensures .0) (c .before .creation .given .0 .0) (c .before .creation .given .1)
+
+enum-told : tie.Need-enum-told
+enum-told c = search needs
+
+prepare-for-conflict-check-requires : tie.Need-prepare-for-conflict-check-requires
+prepare-for-conflict-check-requires c κs = search needs
+
+enum-told-2 : tie.Need-enum-told-2
+enum-told-2 c = search needs
+
+bounds-of-requires : tie.Need-bounds-of-requires
+bounds-of-requires c κs =
+    let m = c .before .before .before .before .before .before .create in
+    let p = c .before .before .prepare-for-conflict-check in
+    let a = c .before .before .before .before .before .before .before .args in
+    few-tasks (a .durations .now) (a .premises .now) (a .consequent .now) (a .mirrored) (m .result) (m .ensures .0) (c .before .before .before .before .enum-told .given .1) (p .result) (p .ensures .0) (c .enum-told2 .given .1)
+
+judge-requires : tie.Need-judge-requires
+judge-requires c κs =
+    let b = c .before .before .before in
+    let s = applied b .prepare-for-conflict-check .result .state in
+    ((ds b, lowerAs false (ds b) s, upperAs false (ds b) s, can b), right b)
+
+returns-2 : tie.Need-returns-2
+returns-2 c =
+    let b = c .before .before .before .before in
+    let s = applied b .prepare-for-conflict-check .result .state in
+    concludes b false (not-true (start b .args .mirrored) (c .before .before .before .if1 .taken)) (c .judge .result) (c .judge .ensures (ds b) (lowerAs false (ds b) s) (upperAs false (ds b) s) (can b))
+
+mirrored-bounds-requires : tie.Need-mirrored-bounds-requires
+mirrored-bounds-requires c κs =
+    let b = c .before .before .before in
+    let s = applied b .prepare-for-conflict-check .result .state in
+    (tasksOf (ds b) (lowerAs false (ds b) s) (upperAs false (ds b) s), twoSided (ds b) (lowerAs false (ds b) s) (upperAs false (ds b) s), can b .bounding)
+
+judge-requires-2 : tie.Need-judge-requires-2
+judge-requires-2 c κs =
+    let b = c .before .before .before .before .before .before in
+    let m = c .before .before .mirrored-bounds in
+    let s = applied b .prepare-for-conflict-check .result .state in
+    ((ds b, lowerAs true (ds b) s, upperAs true (ds b) s, can-mirrored b (m .result) (m .ensures)), right b)
+
+enum-known-answer : tie.Need-enum-known-answer
+enum-known-answer c = search needs
+
+enum-known-answer-2 : tie.Need-enum-known-answer-2
+enum-known-answer-2 c = search needs
+
+returns-3 : tie.Need-returns-3
+returns-3 c =
+    let b = c .before .before .before .before .before .before .before in
+    let m = c .before .before .before .mirrored-bounds in
+    let s = applied b .prepare-for-conflict-check .result .state in
+    concludes b true (not-false (start b .args .mirrored) (c .before .before .before .before .before .before .if1 .left)) (c .judge2 .result) (c .judge2 .ensures (ds b) (lowerAs true (ds b) s) (upperAs true (ds b) s) (can-mirrored b (m .result) (m .ensures)))
+
+returns-4 : tie.Need-returns-4
+returns-4 c =
+    let m = c .before .before .before .before .before .before .before .create in
+    let p = c .before .before .before .prepare-for-conflict-check in
+    let a = c .before .before .before .before .before .before .before .before .args in
+    contradicted (a .durations .now) (a .premises .now) (a .consequent .now) (a .mirrored) (m .result) (m .ensures .0) (c .before .before .before .before .before .enum-told .given .1) (p .result) (p .ensures .0) (c .before .answer .given .0 .0) (c .before .answer .given .1)
+
+returns-5 : tie.Need-returns-5
+returns-5 c =
+    let m = c .before .before .before .before .before .before .before .create in
+    let p = c .before .before .before .prepare-for-conflict-check in
+    let a = c .before .before .before .before .before .before .before .before .args in
+    refused-atoms (a .durations .now) (a .premises .now) (a .consequent .now) (a .mirrored) (m .result) (m .ensures .0) (c .before .before .before .before .before .enum-told .given .1) (p .result) (p .ensures .0) (c .before .answer2 .given .0 .0) (c .before .answer2 .given .1)
+
+pub check-as-spec : {M : Type 1} → statement M
+check-as-spec =
+    tie.close
+    (tie.spec
+    create-requires
+    enum-known-creation
+    returns
+    enum-told
+    prepare-for-conflict-check-requires
+    enum-told-2
+    bounds-of-requires
+    judge-requires
+    returns-2
+    mirrored-bounds-requires
+    judge-requires-2
+    enum-known-answer
+    enum-known-answer-2
+    returns-3
+    returns-4
+    returns-5)

@@ -1,0 +1,52 @@
+-- The check of a reason of latest starts: the formula is judged in mirrored time, everything else in the caller's.
+use mathlib.Core.Path.{_≡_}
+use mathlib.Core.Bool.{Bool, true, false}
+use mathlib.Core.List.{List, []}
+use mathlib.Core.Option.{Option, some, none}
+use Prim.Native.Nat.{ℕ}
+use lib.IntN.{ℤ}
+use Rattle.integers.specs.Answers.{answered}
+use Rattle.integers.specs.Tests.{refusal}
+use Rattle.scheduling.specs.Scheduling.{Atom, Contradicts}
+use Rattle.scheduling.specs.Mirroring.{mirrorStart, mirrorAtom}
+use Rattle.checking.specs.declared.variable_state.VariableState.{VariableState}
+use Rattle.checking.specs.Atoms.{atomsOf, consequentOf}
+use Rattle.records.specs.Records.{durationAt, creationTests}
+use Rattle.checker.specs.declared.checker.Verdict.{Verdict}
+use Rattle.checker.specs.Verdicts.{verdictNumbers}
+use Rattle.checker.specs.Checks.{lowerIn, upperIn, judgedBy, checkAfter, tasksWith}
+
+-- a consequent mirrored, where there is one
+abbrev pub mirrorIfAny : (ℕ → ℕ) → Option Atom → Option Atom
+mirrorIfAny duration none = none
+mirrorIfAny duration (some a) = some (mirrorAtom duration a)
+
+-- a bound of the start of a task that lasts p, mirrored
+abbrev pub mirrorBound : ℕ → Option ℤ → Option ℤ
+mirrorBound p none = none
+mirrorBound p (some z) = some (mirrorStart p z)
+
+-- the bounds of task k's start in the caller's time, or in mirrored time, where lower and upper change places
+abbrev pub lowerAs : Bool → List ℤ → VariableState → ℕ → Option ℤ
+lowerAs false ds s k = lowerIn s k
+lowerAs true ds s k = mirrorBound (durationAt ds k) (upperIn s k)
+
+abbrev pub upperAs : Bool → List ℤ → VariableState → ℕ → Option ℤ
+upperAs false ds s k = upperIn s k
+upperAs true ds s k = mirrorBound (durationAt ds k) (lowerIn s k)
+
+-- a check in either time
+abbrev pub judgedAs : Bool → List ℤ → VariableState → Option Atom → Verdict
+judgedAs mirrored ds s = judgedBy ds (lowerAs mirrored ds s) (upperAs mirrored ds s)
+
+abbrev pub checkAs : Bool → List ℤ → List ℤ → List ℤ → Verdict
+checkAs mirrored ds premises consequent = checkAfter (judgedAs mirrored ds) (refusal (creationTests ds)) premises consequent
+
+-- the answer: 1, 2, 5, 7, 6 on the caller's own values; then 21 or a contradiction, atom by atom; then 8; then the formula in mirrored time
+unfoldable pub checkMirroredOf : List ℤ → List ℤ → List ℤ → Verdict
+checkMirroredOf = checkAs true
+
+-- The mirrored check answers as defined; and where it answers Passed, whose kind is 0, no starts contradict it.
+pub record CheckedMirrored (ds premises consequent : List ℤ) (r : Verdict) : Type 0 where
+  pub answer : r ≡ checkMirroredOf ds premises consequent
+  pub sound : verdictNumbers r ≡ answered 0 [] → (s : ℕ → ℤ) → Contradicts (tasksWith ds) (atomsOf premises) (consequentOf consequent) s → ⊥
