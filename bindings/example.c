@@ -49,5 +49,34 @@ int main(void) {
     assert(none.kind == REEDGRIT_NO_STATE && none.variable == 0);
     reedgrit_state_answer unknown = reedgrit_lower_bound(crossed, 6, 64);
     assert(unknown.kind == REEDGRIT_STATE_REFUSED && unknown.number == 6);
+
+    /* The calls beside the run. A reason of a latest start passes the mirrored check, and need not pass the other. */
+    assert(reedgrit_abi_version() == 2);
+    const int32_t short_ones[] = {1, 2, 1};
+    reedgrit_new three = reedgrit_create(short_ones, 3);
+    reedgrit_range late[] = {{-4, -3}, {-8, -6}, {-5, -5}};
+    reedgrit_mirrored_answer lowered = reedgrit_run_mirrored(&three.propagator, late, 3, posts, 12, atoms, 54);
+    assert(lowered.kind == REEDGRIT_DONE && lowered.posts == 1 && late[1].latest == -7);
+    reedgrit_post_answer why = reedgrit_post(posts, 12, atoms, 54, lowered.posts, 0);
+    const int32_t at_most[] = {why.task, REEDGRIT_LESS_EQUAL, why.bound};
+    assert(reedgrit_check_mirrored(short_ones, 3, atoms + why.first, why.count, at_most, 3).kind == REEDGRIT_PASSED);
+    assert(reedgrit_check(short_ones, 3, atoms + why.first, why.count, at_most, 3).kind == REEDGRIT_NOT_PASSED);
+    assert(reedgrit_overload_test(&two.propagator, tight, 2).kind == REEDGRIT_ANSWERED);
+
+    assert(reedgrit_add(&two.propagator, 15).kind == REEDGRIT_ANSWERED && two.propagator.count == 3);
+    assert(reedgrit_remove(&two.propagator, 0).kind == REEDGRIT_ANSWERED && two.propagator.durations[1] == 15);
+    assert(reedgrit_remove(&two.propagator, 2).number == 12);
+
+    const reedgrit_range fixed[] = {{3, 3}, {-12, -12}};
+    uint8_t page[31 * 3];
+    assert(reedgrit_page(&two.propagator, fixed, 2, page, sizeof page).count <= sizeof page);
+    const int32_t due[] = {7, 3};
+    reedgrit_charges_answer charged = reedgrit_charges(&two.propagator, fixed, 2, due, 2);
+    assert(charged.kind == REEDGRIT_ANSWERED && charged.total == 0 && sizeof charged == 204);
+    assert(reedgrit_free_start(&two.propagator, fixed, 2, -20, 8).start == -20);
+    assert(reedgrit_busiest_stretch(&two.propagator, fixed, 2, 15).time == 15);
+    reedgrit_range pair[] = {{0, 6}, {1, 1}};
+    assert(reedgrit_precedences(&two.propagator, pair, 2).kind != REEDGRIT_REFUSED);
+    assert(reedgrit_precedence_reason(&two.propagator, pair, 2, 2, atoms, 54).number == 17);
     return 0;
 }

@@ -27,7 +27,13 @@ enum { REEDGRIT_GREATER_EQUAL = 0, REEDGRIT_LESS_EQUAL = 1, REEDGRIT_EQUAL = 2, 
  *  7 more than 512 premises               8 a consequent on no task, or on one without finite bounds
  *  9 post words below 4n, atom words below 6n*n
  * 10 another number of ranges than n     11 a post that is not there
- * 20 a record that no creation makes     21 a seventeenth hole
+ * 12 a task to take off that is not there
+ * 14 a schedule that is not fixed, or overlaps
+ * 15 room for a page                     16 room for a reason
+ * 17 a task that is not there            18 a moment or a duration asked about, beyond +-400000000 or below 1
+ * 19 a due moment beyond +-400000000, or another number of them than n
+ * 20 a record that no call makes         21 a seventeenth hole
+ * 23 a stretch's length below 1 or above 400000000
  * A function tries its numbers in the order in which it names them below, each over the whole input before the next. A contradiction is
  * tried together with 21: the first atom that leads to one of the two decides. */
 
@@ -85,6 +91,53 @@ typedef struct {
     int32_t value;
 } reedgrit_state_answer;
 
+/* The mirrored pass: its kinds are a run's. */
+typedef struct {
+    uint32_t kind;
+    uint32_t number; /* of a refusal */
+    size_t posts;
+    size_t first; /* an overload's reason: its first atom, and how many atoms it has */
+    size_t count;
+} reedgrit_mirrored_answer;
+
+enum { REEDGRIT_ANSWERED = 0, REEDGRIT_OTHERWISE = 1, REEDGRIT_REFUSED = 3 };
+
+/* An answer with one count: what it counts, and what kind REEDGRIT_OTHERWISE is, each function says. */
+typedef struct {
+    uint32_t kind;
+    uint32_t number; /* of a refusal */
+    size_t count;
+} reedgrit_count_answer;
+
+typedef struct {
+    uint32_t kind; /* REEDGRIT_ANSWERED: the change is made */
+    uint32_t number;
+} reedgrit_change_answer;
+
+typedef struct {
+    uint32_t kind;
+    uint32_t number;
+    int32_t start;
+} reedgrit_start_answer;
+
+typedef struct {
+    uint32_t kind;
+    uint32_t number;
+    uint32_t time; /* that tasks cover */
+    int32_t start; /* of the stretch */
+} reedgrit_busiest_answer;
+
+/* In cents, by task number; 0 in the places that no task has, and everywhere where the call is refused. */
+typedef struct {
+    uint32_t kind;
+    uint32_t number;
+    uint32_t total;
+    uint32_t charges[REEDGRIT_TASKS];
+} reedgrit_charges_answer;
+
+/* 2: the version of these functions and structs. Another number is another header's. */
+uint32_t reedgrit_abi_version(void);
+
 /* A record of the durations. Refuses by 1, 2, 5. */
 reedgrit_new reedgrit_create(const int32_t *durations, size_t count);
 
@@ -107,6 +160,52 @@ reedgrit_post_answer reedgrit_post(const int32_t *posts, size_t post_words, cons
 /* Checks that the premises imply the consequent, which is one atom or none. Refuses by 1, 2, 5, 7, 6, 21, 8. */
 reedgrit_check_answer reedgrit_check(const int32_t *durations, size_t count, const int32_t *premises, size_t premise_words,
                                      const int32_t *consequent, size_t consequent_words);
+
+/* The check for a reason of the mirrored pass: the same words and answers, in the caller's time, judged by the formula in mirrored time. A
+ * reason that a run gives is checked by reedgrit_check, one that the mirrored pass gives by this. Refuses as reedgrit_check does. */
+reedgrit_check_answer reedgrit_check_mirrored(const int32_t *durations, size_t count, const int32_t *premises, size_t premise_words,
+                                              const int32_t *consequent, size_t consequent_words);
+
+/* The mirrored pass: lowers latest starts. A post says that its task starts at its bound or earlier; it is read by reedgrit_post. Words are
+ * written as a run writes them. Refuses by 20, 10, 3, 4, 9. */
+reedgrit_mirrored_answer reedgrit_run_mirrored(const reedgrit_propagator *propagator, reedgrit_range *ranges, size_t range_count,
+                                               int32_t *posts, size_t post_words, int32_t *atoms, size_t atom_words);
+
+/* Whether some set of the tasks overloads its span: REEDGRIT_ANSWERED is yes, with the tasks read until that is known, and
+ * REEDGRIT_OTHERWISE no. Refuses by 20, 10, 3, 4. */
+reedgrit_count_answer reedgrit_overload_test(const reedgrit_propagator *propagator, const reedgrit_range *ranges, size_t range_count);
+
+/* A task more, which takes the number n. Refuses by 20, 1, 2, 5. */
+reedgrit_change_answer reedgrit_add(reedgrit_propagator *propagator, int32_t duration);
+
+/* A task less; the numbers above it are one lower. Refuses by 20, 12, 1. */
+reedgrit_change_answer reedgrit_remove(reedgrit_propagator *propagator, size_t task);
+
+/* Raises earliest starts by the precedences that can be read off the ranges. REEDGRIT_ANSWERED is done; REEDGRIT_OTHERWISE is emptied, with
+ * the lowest task whose bound passes its latest start. Refuses by 20, 10, 3, 4. */
+reedgrit_count_answer reedgrit_precedences(const reedgrit_propagator *propagator, reedgrit_range *ranges, size_t range_count);
+
+/* The reason of a task's bound by precedences, three words to an atom; the count is that of its atoms. Refuses by 20, 10, 3, 4, 17, 16. */
+reedgrit_count_answer reedgrit_precedence_reason(const reedgrit_propagator *propagator, const reedgrit_range *ranges, size_t range_count,
+                                                 size_t task, int32_t *reason, size_t reason_words);
+
+/* A fixed schedule (each earliest start is the latest, and no two tasks overlap) as text; the count is that of its bytes. Refuses by 20, 10,
+ * 3, 4, 14, 15. */
+reedgrit_count_answer reedgrit_page(const reedgrit_propagator *propagator, const reedgrit_range *ranges, size_t range_count, uint8_t *out,
+                                    size_t out_bytes);
+
+/* What each task of a fixed schedule costs that ends after its due moment, and the sum. Refuses by 20, 10, 3, 4, 14, 19. */
+reedgrit_charges_answer reedgrit_charges(const reedgrit_propagator *propagator, const reedgrit_range *ranges, size_t range_count,
+                                         const int32_t *due, size_t due_count);
+
+/* The least start at or after t at which a task of duration d overlaps none of a fixed schedule. Refuses by 20, 10, 3, 4, 14, 18. */
+reedgrit_start_answer reedgrit_free_start(const reedgrit_propagator *propagator, const reedgrit_range *ranges, size_t range_count, int32_t t,
+                                          int32_t d);
+
+/* The greatest time that a fixed schedule covers of a stretch of the given length, and the least start that reaches it. Refuses by 20, 10,
+ * 3, 4, 14, 23. */
+reedgrit_busiest_answer reedgrit_busiest_stretch(const reedgrit_propagator *propagator, const reedgrit_range *ranges, size_t range_count,
+                                                 int32_t length);
 
 /* Questions to the state that the premises leave, from all integers for each variable: whether every value meets an atom, and the least
  * and the greatest value. Refuse by 7, 6, 21, where 6 is tried over the premises' words and the question's own, and so before 21 and before

@@ -76,6 +76,9 @@
 #![warn(missing_docs)]
 
 mod raw;
+mod requests;
+
+pub use requests::{Bill, LatestPost, LatestPosts, Mirrored, Precedences, Stretch};
 
 use std::fmt;
 use std::iter::FusedIterator;
@@ -276,12 +279,28 @@ pub enum Refused {
     RangeCount,
     /// 11: a post that is not there.
     Post,
+    /// 12: a task to take off that is not there.
+    Removed,
+    /// 14: ranges that are no fixed schedule: one with more than one start, or two tasks that overlap.
+    Schedule,
+    /// 15: too few bytes for a page.
+    PageRoom,
+    /// 16: too few words for a reason (6n).
+    ReasonRoom,
+    /// 17: a task that is not there.
+    Task,
+    /// 18: a moment or a duration asked about that is out of the limits.
+    Question,
+    /// 19: another number of due moments than of tasks, or one beyond ±400,000,000.
+    Due,
     /// 20: a record that no creation makes.
     Record,
     /// 21: an atom that needs a seventeenth hole.
     Holes,
     /// 22: a variable state that no call leaves.
     State,
+    /// 23: a stretch's length that is out of the limits.
+    Length,
 }
 
 impl Refused {
@@ -299,9 +318,17 @@ impl Refused {
             Refused::Room => 9,
             Refused::RangeCount => 10,
             Refused::Post => 11,
+            Refused::Removed => 12,
+            Refused::Schedule => 14,
+            Refused::PageRoom => 15,
+            Refused::ReasonRoom => 16,
+            Refused::Task => 17,
+            Refused::Question => 18,
+            Refused::Due => 19,
             Refused::Record => 20,
             Refused::Holes => 21,
             Refused::State => 22,
+            Refused::Length => 23,
         }
     }
 
@@ -320,9 +347,17 @@ impl Refused {
             9 => Refused::Room,
             10 => Refused::RangeCount,
             11 => Refused::Post,
+            12 => Refused::Removed,
+            14 => Refused::Schedule,
+            15 => Refused::PageRoom,
+            16 => Refused::ReasonRoom,
+            17 => Refused::Task,
+            18 => Refused::Question,
+            19 => Refused::Due,
             20 => Refused::Record,
             21 => Refused::Holes,
             22 => Refused::State,
+            23 => Refused::Length,
             _ => unreachable!("the library has no refusal {number}"),
         }
     }
@@ -342,9 +377,17 @@ impl fmt::Display for Refused {
             Refused::Room => "too few words for posts or atoms",
             Refused::RangeCount => "another number of ranges than of tasks",
             Refused::Post => "a post that is not there",
+            Refused::Removed => "a task to take off that is not there",
+            Refused::Schedule => "ranges that are no fixed schedule",
+            Refused::PageRoom => "too few bytes for a page",
+            Refused::ReasonRoom => "too few words for a reason",
+            Refused::Task => "a task that is not there",
+            Refused::Question => "a moment or a duration out of the limits",
+            Refused::Due => "a due moment out of the limits, or another number of them than of tasks",
             Refused::Record => "a record that no creation makes",
             Refused::Holes => "an atom that needs a seventeenth hole",
             Refused::State => "a variable state that no call leaves",
+            Refused::Length => "a length out of the limits",
         };
         write!(f, "refused {}: {text}", self.number())?;
         match self {
@@ -600,12 +643,36 @@ impl fmt::Display for Verdict {
 }
 
 /// Checks that the premises imply the consequent for tasks with these durations; without a consequent, that no schedule meets the premises.
+/// It is the check for the reasons of [`Propagator::run`]; those of [`Propagator::run_mirrored`] are checked by [`check_mirrored`].
 ///
 /// # Errors
 /// [`Refused::TaskCount`], [`Refused::Duration`], [`Refused::DurationSum`], [`Refused::Premises`], [`Refused::Atoms`],
 /// [`Refused::Holes`], [`Refused::Consequent`].
 pub fn check(durations: &[i32], premises: &[Atom], consequent: Option<Atom>) -> Result<Verdict, Refused> {
-    let answer = raw::check(durations, raw::words(premises), raw::words(consequent.as_slice()));
+    verdict(raw::check(durations, raw::words(premises), raw::words(consequent.as_slice())), durations)
+}
+
+/// The check for a reason of a latest start. Premises and consequent are in the caller's time; the formula is judged in mirrored time.
+///
+/// ```
+/// use reedgrit::{Propagator, Range, Verdict, check, check_mirrored};
+/// let durations = [1, 2, 1];
+/// let propagator = Propagator::new(&durations)?;
+/// let mut words = propagator.words();
+/// let mut ranges = [Range::new(-4, -3), Range::new(-8, -6), Range::new(-5, -5)];
+/// let post = propagator.run_mirrored(&mut ranges, &mut words)?.posts().next().expect("task 1 starts at -7 or earlier");
+/// assert_eq!(check_mirrored(&durations, post.reason, Some(post.atom()))?, Verdict::Passed);
+/// assert_eq!(check(&durations, post.reason, Some(post.atom()))?, Verdict::NotPassed);
+/// # Ok::<(), reedgrit::Refused>(())
+/// ```
+///
+/// # Errors
+/// As [`check`]'s.
+pub fn check_mirrored(durations: &[i32], premises: &[Atom], consequent: Option<Atom>) -> Result<Verdict, Refused> {
+    verdict(raw::check_mirrored(durations, raw::words(premises), raw::words(consequent.as_slice())), durations)
+}
+
+fn verdict(answer: raw::CheckAnswer, durations: &[i32]) -> Result<Verdict, Refused> {
     match answer.kind {
         0 => Ok(Verdict::Passed),
         1 => Ok(Verdict::NotPassed),

@@ -4,6 +4,7 @@
 #![allow(unsafe_code)]
 
 use crate::{Atom, Range};
+use std::sync::Once;
 
 pub(crate) const TASKS: usize = 48;
 
@@ -62,8 +63,89 @@ pub(crate) struct StateAnswer {
     pub value: i32,
 }
 
+#[repr(C)]
+#[derive(Clone, Copy, Debug, PartialEq, Eq)]
+pub(crate) struct MirroredAnswer {
+    pub kind: u32,
+    pub number: u32,
+    pub posts: usize,
+    pub first: usize,
+    pub count: usize,
+}
+
+#[repr(C)]
+#[derive(Clone, Copy, Debug, PartialEq, Eq)]
+pub(crate) struct CountAnswer {
+    pub kind: u32,
+    pub number: u32,
+    pub count: usize,
+}
+
+#[repr(C)]
+#[derive(Clone, Copy, Debug, PartialEq, Eq)]
+pub(crate) struct ChangeAnswer {
+    pub kind: u32,
+    pub number: u32,
+}
+
+#[repr(C)]
+#[derive(Clone, Copy, Debug, PartialEq, Eq)]
+pub(crate) struct StartAnswer {
+    pub kind: u32,
+    pub number: u32,
+    pub start: i32,
+}
+
+#[repr(C)]
+#[derive(Clone, Copy, Debug, PartialEq, Eq)]
+pub(crate) struct BusiestAnswer {
+    pub kind: u32,
+    pub number: u32,
+    pub time: u32,
+    pub start: i32,
+}
+
+#[repr(C)]
+#[derive(Clone, Copy, Debug, PartialEq, Eq)]
+pub(crate) struct ChargesAnswer {
+    pub kind: u32,
+    pub number: u32,
+    pub total: u32,
+    pub charges: [u32; TASKS],
+}
+
 #[rustfmt::skip]
 unsafe extern "C" {
+    fn reedgrit_abi_version() -> u32;
+    fn reedgrit_check_mirrored(
+        durations: *const i32, count: usize,
+        premises: *const i32, premise_words: usize,
+        consequent: *const i32, consequent_words: usize,
+    ) -> CheckAnswer;
+    fn reedgrit_run_mirrored(
+        record: *const Record,
+        ranges: *mut Range, range_count: usize,
+        posts: *mut i32, post_words: usize,
+        atoms: *mut i32, atom_words: usize,
+    ) -> MirroredAnswer;
+    fn reedgrit_overload_test(record: *const Record, ranges: *const Range, range_count: usize) -> CountAnswer;
+    fn reedgrit_add(record: *mut Record, duration: i32) -> ChangeAnswer;
+    fn reedgrit_remove(record: *mut Record, task: usize) -> ChangeAnswer;
+    fn reedgrit_precedences(record: *const Record, ranges: *mut Range, range_count: usize) -> CountAnswer;
+    fn reedgrit_precedence_reason(
+        record: *const Record,
+        ranges: *const Range, range_count: usize,
+        task: usize,
+        reason: *mut i32, reason_words: usize,
+    ) -> CountAnswer;
+    fn reedgrit_page(record: *const Record, ranges: *const Range, range_count: usize, out: *mut u8, out_bytes: usize) -> CountAnswer;
+    fn reedgrit_charges(
+        record: *const Record,
+        ranges: *const Range, range_count: usize,
+        due: *const i32, due_count: usize,
+    ) -> ChargesAnswer;
+    fn reedgrit_free_start(record: *const Record, ranges: *const Range, range_count: usize, t: i32, d: i32) -> StartAnswer;
+    fn reedgrit_busiest_stretch(record: *const Record, ranges: *const Range, range_count: usize, length: i32) -> BusiestAnswer;
     fn reedgrit_create(durations: *const i32, count: usize) -> NewRecord;
     fn reedgrit_run(
         record: *mut Record,
@@ -87,6 +169,7 @@ unsafe extern "C" {
 }
 
 pub(crate) fn create(durations: &[i32]) -> NewRecord {
+    agree();
     // SAFETY: as the module says.
     unsafe { reedgrit_create(durations.as_ptr(), durations.len()) }
 }
@@ -102,23 +185,100 @@ pub(crate) fn post(posts: &[i32], atoms: &[i32], count: usize, index: usize) -> 
 }
 
 pub(crate) fn check(durations: &[i32], premises: &[i32], consequent: &[i32]) -> CheckAnswer {
+    agree();
     // SAFETY: as the module says.
     unsafe { reedgrit_check(durations.as_ptr(), durations.len(), premises.as_ptr(), premises.len(), consequent.as_ptr(), consequent.len()) }
 }
 
 pub(crate) fn is_true(premises: &[i32], variable: i32, kind: i32, value: i32) -> StateAnswer {
+    agree();
     // SAFETY: as the module says.
     unsafe { reedgrit_is_true(premises.as_ptr(), premises.len(), variable, kind, value) }
 }
 
 pub(crate) fn lower_bound(premises: &[i32], variable: i32) -> StateAnswer {
+    agree();
     // SAFETY: as the module says.
     unsafe { reedgrit_lower_bound(premises.as_ptr(), premises.len(), variable) }
 }
 
 pub(crate) fn upper_bound(premises: &[i32], variable: i32) -> StateAnswer {
+    agree();
     // SAFETY: as the module says.
     unsafe { reedgrit_upper_bound(premises.as_ptr(), premises.len(), variable) }
+}
+
+/// The version of the functions and structs that this module declares.
+pub(crate) const ABI: u32 = 2;
+
+/// Compares the versions once, and panics where the archive is another's.
+fn agree() {
+    static AGREED: Once = Once::new();
+    AGREED.call_once(|| {
+        // SAFETY: it takes nothing.
+        let version = unsafe { reedgrit_abi_version() };
+        assert_eq!(version, ABI, "the static library has another version than this crate");
+    });
+}
+
+pub(crate) fn check_mirrored(durations: &[i32], premises: &[i32], consequent: &[i32]) -> CheckAnswer {
+    agree();
+    // SAFETY: as the module says.
+    unsafe {
+        reedgrit_check_mirrored(durations.as_ptr(), durations.len(), premises.as_ptr(), premises.len(), consequent.as_ptr(), consequent.len())
+    }
+}
+
+pub(crate) fn run_mirrored(record: &Record, ranges: &mut [Range], posts: &mut [i32], atoms: &mut [i32]) -> MirroredAnswer {
+    // SAFETY: as the module says; three `&mut` never overlap.
+    unsafe {
+        reedgrit_run_mirrored(record, ranges.as_mut_ptr(), ranges.len(), posts.as_mut_ptr(), posts.len(), atoms.as_mut_ptr(), atoms.len())
+    }
+}
+
+pub(crate) fn overload_test(record: &Record, ranges: &[Range]) -> CountAnswer {
+    // SAFETY: as the module says.
+    unsafe { reedgrit_overload_test(record, ranges.as_ptr(), ranges.len()) }
+}
+
+pub(crate) fn add(record: &mut Record, duration: i32) -> ChangeAnswer {
+    // SAFETY: as the module says.
+    unsafe { reedgrit_add(record, duration) }
+}
+
+pub(crate) fn remove(record: &mut Record, task: usize) -> ChangeAnswer {
+    // SAFETY: as the module says.
+    unsafe { reedgrit_remove(record, task) }
+}
+
+pub(crate) fn precedences(record: &Record, ranges: &mut [Range]) -> CountAnswer {
+    // SAFETY: as the module says.
+    unsafe { reedgrit_precedences(record, ranges.as_mut_ptr(), ranges.len()) }
+}
+
+pub(crate) fn precedence_reason(record: &Record, ranges: &[Range], task: usize, reason: &mut [i32]) -> CountAnswer {
+    // SAFETY: as the module says.
+    unsafe { reedgrit_precedence_reason(record, ranges.as_ptr(), ranges.len(), task, reason.as_mut_ptr(), reason.len()) }
+}
+
+pub(crate) fn page(record: &Record, ranges: &[Range], out: &mut [u8]) -> CountAnswer {
+    // SAFETY: as the module says.
+    unsafe { reedgrit_page(record, ranges.as_ptr(), ranges.len(), out.as_mut_ptr(), out.len()) }
+}
+
+pub(crate) fn charges(record: &Record, ranges: &[Range], due: &[i32]) -> ChargesAnswer {
+    // SAFETY: as the module says.
+    unsafe { reedgrit_charges(record, ranges.as_ptr(), ranges.len(), due.as_ptr(), due.len()) }
+}
+
+pub(crate) fn free_start(record: &Record, ranges: &[Range], t: i32, d: i32) -> StartAnswer {
+    // SAFETY: as the module says.
+    unsafe { reedgrit_free_start(record, ranges.as_ptr(), ranges.len(), t, d) }
+}
+
+pub(crate) fn busiest_stretch(record: &Record, ranges: &[Range], length: i32) -> BusiestAnswer {
+    // SAFETY: as the module says.
+    unsafe { reedgrit_busiest_stretch(record, ranges.as_ptr(), ranges.len(), length) }
 }
 
 /// The words of atoms, three to an atom.
@@ -152,9 +312,46 @@ mod tests {
         assert_eq!(size_of::<PostAnswer>(), 32);
         assert_eq!(size_of::<CheckAnswer>(), 16);
         assert_eq!(size_of::<StateAnswer>(), 24);
+        assert_eq!(size_of::<MirroredAnswer>(), 32);
+        assert_eq!(size_of::<CountAnswer>(), 16);
+        assert_eq!(size_of::<ChangeAnswer>(), 8);
+        assert_eq!(size_of::<StartAnswer>(), 12);
+        assert_eq!(size_of::<BusiestAnswer>(), 16);
+        assert_eq!(size_of::<ChargesAnswer>(), 204);
         assert_eq!(size_of::<Range>(), 8);
         assert_eq!(size_of::<Atom>(), 12);
         assert_eq!(align_of::<Atom>(), align_of::<i32>());
+    }
+
+    // The archive is the one that this module declares.
+    #[test]
+    fn version() {
+        // SAFETY: it takes nothing.
+        assert_eq!(unsafe { reedgrit_abi_version() }, ABI);
+    }
+
+    // A record that creation cannot make is turned back by 20 by the other calls too, and nothing that is lent changes.
+    #[test]
+    fn broken_records_elsewhere() {
+        let mut broken = create(&[4, 5, 3]).record;
+        broken.total = 11;
+        let before = broken;
+        let mut ranges = [Range::new(0, 6), Range::new(1, 5), Range::new(0, 20)];
+        let (mut posts, mut atoms, mut page_bytes) = ([7; 12], [8; 54], [9; 124]);
+        let refused = CountAnswer { kind: 3, number: 20, count: 0 };
+        assert_eq!(run_mirrored(&broken, &mut ranges, &mut posts, &mut atoms), MirroredAnswer { kind: 3, number: 20, posts: 0, first: 0, count: 0 });
+        assert_eq!(overload_test(&broken, &ranges), refused);
+        assert_eq!(precedences(&broken, &mut ranges), refused);
+        assert_eq!(precedence_reason(&broken, &ranges, 0, &mut atoms), refused);
+        assert_eq!(page(&broken, &ranges, &mut page_bytes), refused);
+        assert_eq!((charges(&broken, &ranges, &[0; 3]).kind, charges(&broken, &ranges, &[0; 3]).number), (3, 20));
+        assert_eq!(free_start(&broken, &ranges, 0, 1), StartAnswer { kind: 3, number: 20, start: 0 });
+        assert_eq!(busiest_stretch(&broken, &ranges, 1), BusiestAnswer { kind: 3, number: 20, time: 0, start: 0 });
+        assert_eq!(add(&mut broken, 1), ChangeAnswer { kind: 3, number: 20 });
+        assert_eq!(remove(&mut broken, 0), ChangeAnswer { kind: 3, number: 20 });
+        assert_eq!(broken, before);
+        assert_eq!(ranges, [Range::new(0, 6), Range::new(1, 5), Range::new(0, 20)]);
+        assert!(posts.iter().all(|word| *word == 7) && atoms.iter().all(|word| *word == 8) && page_bytes.iter().all(|byte| *byte == 9));
     }
 
     // A record that creation cannot make is turned back by 20, and it, the ranges and the words stay as they were.

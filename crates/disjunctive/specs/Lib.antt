@@ -6,3 +6,4 @@ pub mod SameRuns
 pub mod LentCalls
 pub mod Instances
 pub mod Examples
+pub mod MirroredInstances
