@@ -1,4 +1,5 @@
 // The tariff as code: its table, and what a number of minutes costs by it.
+use integers::min;
 ghost use mathlib.Core.Path.{_≡_};
 ghost use Prim.Native.Nat.{_≤_, min};
 ghost use Rattle.charges.specs.Tariff.{costOf};
@@ -22,16 +23,6 @@ const TARIFF: [Row; 2] = [
     },
 ];
 
-// The smaller of two counts of hours.
-fn smaller(a: u32, b: u32) -> u32
-    ensures { λ r. ⌜ r ≡ min a b ⌝ }
-{
-    if a <= b {
-        return a;
-    }
-    b
-}
-
 // What so many minutes cost: of each row, the hours that are begun and not charged yet, all at once.
 pub fn cost_of(minutes: u32) -> u32
     requires { ⌜ minutes ≤ MINUTES ⌝ }
@@ -44,7 +35,7 @@ pub fn cost_of(minutes: u32) -> u32
     let mut i = 0;
     while i < rows.len() {
         let row = rows[i];
-        let reached = smaller(hours, row.upto);
+        let reached = min(hours, row.upto);
         cost += (reached - done) * row.cents;
         done = reached;
         i += 1;

@@ -22,10 +22,11 @@ use Rattle.records.specs.Records.{creationTests, created}
 use Rattle.records.proofs.Creation.{created-new, created-not}
 use Rattle.checker.specs.declared.checker.Verdict.{Verdict}
 use Rattle.checker.specs.declared.checker.Verdict.the-variants.{Passed, Contradiction, Refused}
-use Rattle.checker.specs.declared.bounds.Bounds.{Bounds}
+use Rattle.checking.specs.declared.start_bounds.Bounds.{Bounds}
 use Rattle.checker.specs.Checks.{judged, concluded, checkAfter, checkOf, Checked}
 use Rattle.checker.specs.MirroredChecks.{lowerAs, upperAs, judgedAs, checkAs, checkMirroredOf, CheckedMirrored}
-use Rattle.checker.specs.Holding.{boundsOf, mirroredBounds, Judgeable, Consequent}
+use Rattle.checking.specs.TaskBounds.{boundsOf}
+use Rattle.checker.specs.Holding.{mirroredBounds, Judgeable, Consequent}
 use Rattle.checker.proofs.Apart.{verdicts-apart}
 use Rattle.checker.proofs.Soundness.{check-sound, mirrored-sound}
 use Rattle.checker.proofs.Verdicts.{judgeable, mirrored-judgeable}

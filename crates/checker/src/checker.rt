@@ -1,9 +1,9 @@
 // The check of a reason: the source's formula, on the state that the premises and the negated consequent leave.
-use crate::bounds::Bounds;
-use crate::bounds::bounds_of;
-use crate::bounds::mirrored_bounds;
 use crate::intervals::gather;
 use crate::intervals::min;
+use crate::mirrored_bounds::mirrored_bounds;
+use checking::start_bounds::Bounds;
+use checking::start_bounds::bounds_of;
 use checking::variable_state::Application;
 use checking::variable_state::VariableState;
 use chosen_sets::theta::theta_ect;

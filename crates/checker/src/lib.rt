@@ -1,3 +1,3 @@
-pub mod bounds;
 pub mod checker;
 pub mod intervals;
+pub mod mirrored_bounds;

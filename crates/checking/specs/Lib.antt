@@ -5,3 +5,4 @@ pub mod States
 pub mod Answers
 pub mod Promises
 pub mod Shuffles
+pub mod TaskBounds

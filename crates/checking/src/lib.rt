@@ -2,4 +2,5 @@
 pub mod atomic_constraint;
 mod holes;
 pub mod int_ext;
+pub mod start_bounds;
 pub mod variable_state;

@@ -11,6 +11,7 @@ ghost use Rattle.integers.specs.Limits.{TASKS};
 ghost use Rattle.trees.specs.Searches.{whiteIn, taskIn, thetaIn};
 ghost use Rattle.runs.specs.Runs.{within, conflict, bounds, propagation};
 ghost use Rattle.explanations.specs.Explanations.{starting, lasting, Precedes, Attains, thetaBetween, StopsAt, Walk, Writable, Overloaded, Preceded, PostFits, Stored};
+use integers::min;
 use integers::start_of;
 use integers::word_of;
 use trees::disjunctive_task::LeafPlace;
@@ -93,13 +94,6 @@ struct Suffix {
     lasts: u32,
 }
 
-// The smaller of the two.
-fn least(a: u32, b: u32) -> u32
-    ensures { λ r. ⌜ r ≡ min a b ⌝ }
-{
-    if a < b { a } else { b }
-}
-
 // ω: Θ, which lasts p, without its first tasks, as long as those left do not pass lct with a task that starts at e and lasts d.
 fn preceding(
     nodes: &[u32; 508],
@@ -120,7 +114,7 @@ fn preceding(
 {
     let mut x = ThetaLambdaTree::next_in_theta(nodes, inner, LeafPlace(0), n);
     let mut q = p;
-    while least(e, of_leaf(est, tasks, x)) + q + d <= lct {
+    while min(e, of_leaf(est, tasks, x)) + q + d <= lct {
         q -= of_leaf(dur, tasks, x);
         x = ThetaLambdaTree::next_in_theta(nodes, inner, LeafPlace(x.0 + 1), n);
     }
@@ -237,7 +231,7 @@ pub fn create_propagation_explanation(
     let omega = preceding(nodes, tasks, inner, n, est, dur, p, lct, e, d);
     let first = omega.first;
     let q = omega.lasts;
-    let r = least(e, of_leaf(est, tasks, first));
+    let r = min(e, of_leaf(est, tasks, first));
     let last = r + q + d - 1;
     let at = write_bounds(
         atoms,

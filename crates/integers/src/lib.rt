@@ -4,7 +4,7 @@ pub mod limits;
 ghost use mathlib.Core.Path.{_≡_};
 ghost use lib.IntN.{pos};
 ghost use lib.Signed.{_≤ℤ_, leZ};
-ghost use Prim.Native.Nat.{_<_};
+ghost use Prim.Native.Nat.{_<_, min, max};
 ghost use Rattle.integers.specs.Moments.{moment, instant, zeroAt};
 
 // The moment of a whole number.
@@ -49,4 +49,18 @@ pub fn at_most(a: i32, b: i32) -> bool
     ensures { λ r. ⌜ r ≡ leZ a b ⌝ }
 {
     a <= b
+}
+
+// The smaller of two numbers.
+pub fn min(a: u32, b: u32) -> u32
+    ensures { λ r. ⌜ r ≡ min a b ⌝ }
+{
+    if a < b { a } else { b }
+}
+
+// The larger of two numbers.
+pub fn max(a: u32, b: u32) -> u32
+    ensures { λ r. ⌜ r ≡ max a b ⌝ }
+{
+    if a < b { b } else { a }
 }

@@ -1,4 +1,6 @@
 // How much of a stretch the tasks cover, in moments.
+use integers::max;
+use integers::min;
 ghost use mathlib.Core.Path.{_≡_};
 ghost use Prim.Native.Nat.{_+_, _≤_, min, max};
 ghost use Rattle.integers.specs.Limits.{START};
@@ -6,25 +8,12 @@ ghost use Rattle.integers.specs.Moments.{zeroAt};
 ghost use Rattle.fixed.specs.Holding.{inMoments};
 ghost use Rattle.stretches.specs.Holding.{commonIn, coveredIn, Slidable};
 
-// The larger of two numbers, and the smaller.
-fn larger(a: u32, b: u32) -> u32
-    ensures { λ r. ⌜ r ≡ max a b ⌝ }
-{
-    if a < b { b } else { a }
-}
-
-fn smaller(a: u32, b: u32) -> u32
-    ensures { λ r. ⌜ r ≡ min a b ⌝ }
-{
-    if a < b { a } else { b }
-}
-
 // The time that a task from a to b and a stretch from x to y have in common.
 fn common(a: u32, b: u32, x: u32, y: u32) -> u32
     ensures { λ r. ⌜ r ≡ commonIn a b x y ⌝ }
 {
-    let from = larger(a, x);
-    let to = smaller(b, y);
+    let from = max(a, x);
+    let to = min(b, y);
     if to <= from {
         return 0;
     }

@@ -7,13 +7,6 @@ ghost use Rattle.integers.specs.Orders.{Permutes};
 ghost use Rattle.trees.specs.Shapes.{Sized};
 ghost use Rattle.trees.specs.Mappings.{Maps};
 
-// The larger of two numbers.
-pub fn max(a: u32, b: u32) -> u32
-    ensures { λ r. ⌜ r ≡ max a b ⌝ }
-{
-    if a < b { b } else { a }
-}
-
 // Returns the index of the left child of the provided index.
 pub fn get_left_child_index(index: usize) -> usize
     requires { ⌜ index < 127 ⌝ }

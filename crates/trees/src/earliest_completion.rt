@@ -1,5 +1,5 @@
 // The ect of a set of tasks as an answer: a moment, or none where the set has no task.
-use crate::complete_tree::max;
+use integers::max;
 ghost use mathlib.Core.Path.{_≡_};
 ghost use Rattle.trees.specs.Ects.{momentOf, decoded, exceeds, raisedTo};
 

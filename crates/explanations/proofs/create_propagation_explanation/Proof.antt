@@ -29,13 +29,13 @@ given c = let a = c .args in subst (λ (ks : List ℕ). Preceded (length (a .ato
 abbrev start : tie.After-preceding → tie.Start
 start c = c .before .before .before .before .before
 
-abbrev walk : tie.After-least → tie.After-preceding
+abbrev walk : tie.After-min → tie.After-preceding
 walk c = c .before .before .before
 
-early : (c : tie.After-least) → let a = start (walk c) .args in c .least .result ≡ min (getD (a .est .now) (a .i) 0) (getD (a .est .now) (tasks (start (walk c)) (walk c .preceding .result .first .0)) 0)
-early c = let a = start (walk c) .args in c .least .ensures ∙ ap (min (getD (a .est .now) (a .i) 0)) (c .before .of-leaf .ensures)
+early : (c : tie.After-min) → let a = start (walk c) .args in c .min .result ≡ min (getD (a .est .now) (a .i) 0) (getD (a .est .now) (tasks (start (walk c)) (walk c .preceding .result .first .0)) 0)
+early c = let a = start (walk c) .args in c .min .ensures ∙ ap (min (getD (a .est .now) (a .i) 0)) (c .before .of-leaf .ensures)
 
-numbers : (c : tie.After-least) → let w = walk c in let s = start w in Reach (white s) (tasks s) 0 (s .args .n) (given s) (w .preceding .ensures) (c .least .result)
+numbers : (c : tie.After-min) → let w = walk c in let s = start w in Reach (white s) (tasks s) 0 (s .args .n) (given s) (w .preceding .ensures) (c .min .result)
 numbers c = let w = walk c in let s = start w in reach (white s) (tasks s) 0 (s .args .n) (given s) (w .preceding .ensures) (early c)
 
 -- and that there is room for the last atom
@@ -44,7 +44,7 @@ room c =
     let least = c .before .before in
     let w = walk least in
     let s = start w in
-    let r = least .least .result in
+    let r = least .min .result in
     last-room (white s) (tasks s) 0 (s .args .n) (given s) (w .preceding .ensures) r (r + w .preceding .result .lasts + getD (s .args .dur .now) (s .args .i) 0 - 1) refl (c .write-bounds .ensures)
 
 mul-e : tie.Need-mul-e
@@ -65,8 +65,8 @@ preceding-requires c κs = let s = c .before .before .before .before in (post-wa
 of-leaf-requires : tie.Need-of-leaf-requires
 of-leaf-requires c κs = let w = c .before in let s = start w in (omega (arith, w .preceding .ensures .small, s .pre .1), post-known (white s) (tasks s) 0 (s .args .n) (given s) (w .preceding .ensures) .start)
 
-least-requires : tie.Need-least-requires
-least-requires c κs = search needs
+min-requires : tie.Need-min-requires
+min-requires c κs = search needs
 
 add-last : tie.Need-add-last
 add-last c = omega (arith, numbers c)
@@ -104,7 +104,7 @@ returns c =
     let s = start w in
     let a = s .args in
     subst (λ (ks : List ℕ). Stored (a .atoms .now) (c .before .write-atom .last .0) (a .k) (c .before .before .before .before .write-bounds .result + 1) (propagation zeroAt (starting (a .est .now) (a .dur .now)) (a .i) (a .bound) (a .lct) (a .p) ks)) (sym (all-leaves (white s) (tasks s) (a .n)))
-    (propagation-stored (white s) (tasks s) (a .est .now) (a .dur .now) 0 (a .n) (a .p) (w .preceding .result .first .0) (w .preceding .result .lasts) (given s .white .total) (a .i) (a .bound) (a .lct) (r .least .result) (w .preceding .ensures) (early r)
+    (propagation-stored (white s) (tasks s) (a .est .now) (a .dur .now) 0 (a .n) (a .p) (w .preceding .result .first .0) (w .preceding .result .lasts) (given s .white .total) (a .i) (a .bound) (a .lct) (r .min .result) (w .preceding .ensures) (early r)
     (c .before .before .before .before .write-bounds .ensures) (c .before .write-atom .ensures))
 
 pub create-propagation-explanation-spec : {M : Type 1} → statement M
@@ -117,7 +117,7 @@ create-propagation-explanation-spec =
     shared-slice-read-d
     preceding-requires
     of-leaf-requires
-    least-requires
+    min-requires
     add-last
     add-last-2
     sub-last

@@ -38,14 +38,14 @@ loop-holds c = sets-out (c .before .before .before .pre .0 .total) (c .before .b
 of-leaf-requires : tie.Need-of-leaf-requires Inv-loop μ-loop
 of-leaf-requires c κs = (omega (arith, c .loop .inv .small), task c .start)
 
-least-requires : tie.Need-least-requires Inv-loop μ-loop
-least-requires c κs = search needs
+min-requires : tie.Need-min-requires Inv-loop μ-loop
+min-requires c κs = search needs
 
 add-if1 : tie.Need-add-if1 Inv-loop μ-loop
-add-if1 c = omega (arith, c .least .ensures, c .before .of-leaf .ensures, sum (c .before .before))
+add-if1 c = omega (arith, c .min .ensures, c .before .of-leaf .ensures, sum (c .before .before))
 
 add-if1-2 : tie.Need-add-if1-2 Inv-loop μ-loop
-add-if1-2 c = omega (arith, c .least .ensures, c .before .of-leaf .ensures, sum (c .before .before))
+add-if1-2 c = omega (arith, c .min .ensures, c .before .of-leaf .ensures, sum (c .before .before))
 
 of-leaf-requires-2 : tie.Need-of-leaf-requires-2 Inv-loop μ-loop
 of-leaf-requires-2 c κs = (omega (arith, c .before .before .before .loop .inv .small), task (c .before .before .before) .duration)
@@ -66,10 +66,10 @@ loop-again : tie.Need-loop-again Inv-loop μ-loop
 loop-again c =
     let at = c .before .before .before .before .before .before in
     rw (c .before .before .of-leaf2 .ensures)
-    (walks-on (at .loop .inv) (start at .pre .0 .stops) (λ over. omega (arith, over, c .before .before .before .before .least .ensures, c .before .before .before .before .before .of-leaf .ensures)) (c .next-in-theta2 .ensures))
+    (walks-on (at .loop .inv) (start at .pre .0 .stops) (λ over. omega (arith, over, c .before .before .before .before .min .ensures, c .before .before .before .before .before .of-leaf .ensures)) (c .next-in-theta2 .ensures))
 
 returns : tie.Need-returns Inv-loop μ-loop
-returns c = halts (c .before .before .before .loop .inv) (omega (arith, c .before .least .ensures, c .before .before .of-leaf .ensures))
+returns c = halts (c .before .before .before .loop .inv) (omega (arith, c .before .min .ensures, c .before .before .of-leaf .ensures))
 
 pub preceding-spec : {M : Type 1} → statement M
 preceding-spec =
@@ -80,7 +80,7 @@ preceding-spec =
     next-in-theta-requires
     loop-holds
     of-leaf-requires
-    least-requires
+    min-requires
     add-if1
     add-if1-2
     of-leaf-requires-2

@@ -20,11 +20,11 @@ loop-holds : tie.Need-loop-holds Inv-loop μ-loop
 loop-holds c = (refl, (omega arith, (omega arith, rows-none)))
 
 -- what a turn does
-turn : (c : tie.After-smaller Inv-loop μ-loop) → let loop = c .before .before .before .loop in
-    RowTurn tariff (hoursBegun (c .before .before .before .before .args .minutes)) (loop .i) (loop .done) (loop .cost) (c .smaller .result)
+turn : (c : tie.After-min Inv-loop μ-loop) → let loop = c .before .before .before .loop in
+    RowTurn tariff (hoursBegun (c .before .before .before .before .args .minutes)) (loop .i) (loop .done) (loop .cost) (c .min .result)
 turn c =
     let loop = c .before .before .before .loop in
-    row-turn (hoursBegun (c .before .before .before .before .args .minutes)) (loop .i) (loop .inv .0) (omega arith) (loop .inv .1 .1 .0) (loop .inv .1 .1 .1) (c .smaller .ensures)
+    row-turn (hoursBegun (c .before .before .before .before .args .minutes)) (loop .i) (loop .inv .0) (omega arith) (loop .inv .1 .1 .0) (loop .inv .1 .1 .1) (c .min .ensures)
 
 add-hours : tie.Need-add-hours Inv-loop μ-loop
 add-hours c = search needs
@@ -35,8 +35,8 @@ mul-row c = search needs
 array-copy-out-row : tie.Need-array-copy-out-row Inv-loop μ-loop
 array-copy-out-row c = search needs
 
-smaller-requires : tie.Need-smaller-requires Inv-loop μ-loop
-smaller-requires c κs = search needs
+min-requires : tie.Need-min-requires Inv-loop μ-loop
+min-requires c κs = search needs
 
 sub-cost : tie.Need-sub-cost Inv-loop μ-loop
 sub-cost c = turn c .up
@@ -71,7 +71,7 @@ cost-of-spec =
     loop-holds
     mul-row
     array-copy-out-row
-    smaller-requires
+    min-requires
     sub-cost
     mul-cost
     add-cost

@@ -15,16 +15,16 @@ some : (a b x y from to : ℕ) → from ≡ max a x → to ≡ min b y → to - 
 unfolding commonIn
 some a b x y from to e f = rw (← e, ← f)
 
-larger-requires : tie.Need-larger-requires
-larger-requires c κs = search needs
+max-requires : tie.Need-max-requires
+max-requires c κs = search needs
 
-smaller-requires : tie.Need-smaller-requires
-smaller-requires c κs = search needs
+min-requires : tie.Need-min-requires
+min-requires c κs = search needs
 
 returns : tie.Need-returns
 returns c =
     let a = c .before .before .before .args in
-    none (a .a) (a .b) (a .x) (a .y) _ _ (c .before .before .larger .ensures) (c .before .smaller .ensures) (c .if1 .taken)
+    none (a .a) (a .b) (a .x) (a .y) _ _ (c .before .before .max .ensures) (c .before .min .ensures) (c .if1 .taken)
 
 sub-result : tie.Need-sub-result
 sub-result c = search needs
@@ -32,7 +32,7 @@ sub-result c = search needs
 returns-2 : tie.Need-returns-2
 returns-2 c =
     let a = c .before .before .before .args in
-    some (a .a) (a .b) (a .x) (a .y) _ _ (c .before .before .larger .ensures) (c .before .smaller .ensures)
+    some (a .a) (a .b) (a .x) (a .y) _ _ (c .before .before .max .ensures) (c .before .min .ensures)
 
 pub common-spec : {M : Type 1} → statement M
-common-spec = tie.close (tie.spec larger-requires smaller-requires returns sub-result returns-2)
+common-spec = tie.close (tie.spec max-requires min-requires returns sub-result returns-2)

@@ -8,10 +8,10 @@ use borrow.Author.Needs.{needs}
 use Rattle.integers.specs.Limits.{TASKS}
 use Rattle.integers.specs.Filling.{filled}
 use Rattle.integers.proofs.Filling.{filled-none, filled-store}
-use Rattle.checker.specs.declared.bounds.TaskBounds.{TaskBounds}
-use Rattle.checker.specs.Holding.{knownAt, estAt, lstAt, boundsOf}
-use Rattle.checker.proofs.bounds.bounds_of.Statement.{statement}
-use Rattle.checker.proofs.bounds.bounds_of.Tie as tie
+use Rattle.checking.specs.declared.start_bounds.TaskBounds.{TaskBounds}
+use Rattle.checking.specs.TaskBounds.{knownAt, estAt, lstAt, boundsOf}
+use Rattle.checking.proofs.start_bounds.bounds_of.Statement.{statement}
+use Rattle.checking.proofs.start_bounds.bounds_of.Tie as tie
 
 abbrev Inv-loop : tie.InvT-loop
 Inv-loop n state bounded₀ est₀ lst₀ i₀ bounded est lst i = (i ≤ n) × (bounded ≡ filled (knownAt state) i (replicate TASKS false)) × (est ≡ filled (estAt state) i (replicate TASKS 0)) × (lst ≡ filled (lstAt state) i (replicate TASKS 0))

@@ -1,13 +1,11 @@
-// The bounds that a state leaves to the tasks, as moments.
-use checking::int_ext::IntExt;
-use checking::variable_state::Domain;
-use checking::variable_state::VariableState;
+// The bounds that a state leaves to the tasks' starts, as moments: who checks asks for them here.
+use crate::int_ext::IntExt;
+use crate::variable_state::Domain;
+use crate::variable_state::VariableState;
 ghost use mathlib.Core.Path.{_≡_};
-ghost use Prim.Native.Nat.{_+_, _≤_, _<_};
-ghost use mathlib.Core.Bool.{true};
+ghost use Prim.Native.Nat.{_≤_};
 ghost use Rattle.integers.specs.Limits.{TASKS};
-ghost use Rattle.scheduling.specs.Scheduling.{natural, Tasks, TaskSet};
-ghost use Rattle.checker.specs.Holding.{noBounds, taskBounds, boundsOf, mirroredMoment, mirroredBounds, Bounding};
+ghost use Rattle.checking.specs.TaskBounds.{noBounds, taskBounds, boundsOf};
 
 // Both bounds of one start, where they are finite; else 0.
 pub struct TaskBounds {
@@ -72,36 +70,4 @@ pub fn bounds_of(state: VariableState, n: usize) -> Bounds
         i += 1;
     }
     Bounds { bounded, est, lst }
-}
-
-// The moment of −(x + p), from that of x; 0 where the task has no two bounds.
-fn mirrored_moment(known: bool, t: u32, p: u32) -> u32
-    requires { ⌜ (1 ≤ p) × (t + p < 4294967296) ⌝ }
-    ensures { λ r. ⌜ r ≡ mirroredMoment known t p ⌝ }
-{
-    if !known {
-        return 0;
-    }
-    u32::MAX - (t + p) + 1
-}
-
-// The bounds in mirrored time: a range a..b with duration p becomes −(b + p)..−(a + p).
-pub fn mirrored_bounds(bounds: Bounds, durations: &[u32; 48], n: usize) -> Bounds
-    requires { ⌜ ((J : Tasks natural) × (Ω : TaskSet) × Bounding J Ω n bounds (now durations)) ⌝ }
-    ensures { λ r. ⌜ r ≡ mirroredBounds bounds (now (durations .entry)) n ⌝ }
-{
-    let mut est = [0u32; 48];
-    let mut lst = [0u32; 48];
-    let mut i = 0;
-    while i < n {
-        let p = durations[i];
-        est[i] = mirrored_moment(bounds.bounded[i], bounds.lst[i], p);
-        lst[i] = mirrored_moment(bounds.bounded[i], bounds.est[i], p);
-        i += 1;
-    }
-    Bounds {
-        bounded: bounds.bounded,
-        est,
-        lst,
-    }
 }

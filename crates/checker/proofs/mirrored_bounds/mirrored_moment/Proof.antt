@@ -5,8 +5,8 @@ use native.Mathlib.Omega.{arith}
 use borrow.Author.Needs.{needs}
 use borrow.Author.Tests.{not-true, not-false}
 use Rattle.checker.specs.Holding.{mirroredMoment}
-use Rattle.checker.proofs.bounds.mirrored_moment.Statement.{statement}
-use Rattle.checker.proofs.bounds.mirrored_moment.Tie as tie
+use Rattle.checker.proofs.mirrored_bounds.mirrored_moment.Statement.{statement}
+use Rattle.checker.proofs.mirrored_bounds.mirrored_moment.Tie as tie
 
 returns : tie.Need-returns
 returns c =

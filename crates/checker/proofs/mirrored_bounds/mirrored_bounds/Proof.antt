@@ -8,11 +8,11 @@ use borrow.Author.Needs.{needs}
 use Rattle.integers.specs.Limits.{TASKS}
 use Rattle.integers.specs.Filling.{filled}
 use Rattle.integers.proofs.Filling.{filled-none, filled-store}
-use Rattle.checker.specs.declared.bounds.Bounds.{Bounds}
+use Rattle.checking.specs.declared.start_bounds.Bounds.{Bounds}
 use Rattle.checker.specs.Holding.{mirroredMoment, mirroredBounds}
 use Rattle.checker.proofs.MirroredBounds.{lasts-one, lst-mirrors, est-mirrors}
-use Rattle.checker.proofs.bounds.mirrored_bounds.Statement.{statement}
-use Rattle.checker.proofs.bounds.mirrored_bounds.Tie as tie
+use Rattle.checker.proofs.mirrored_bounds.mirrored_bounds.Statement.{statement}
+use Rattle.checker.proofs.mirrored_bounds.mirrored_bounds.Tie as tie
 
 -- the mirrored bounds of task k
 abbrev est-at : Bounds → List ℕ → ℕ → ℕ

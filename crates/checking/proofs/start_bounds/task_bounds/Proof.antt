@@ -3,10 +3,10 @@ use mathlib.Core.Path.{sym, ap, ap₂, _∙_}
 use mir.Syntax.{w32}
 use Rattle.integers.specs.Moments.{moment, zeroAt}
 use Rattle.integers.proofs.Ints.{back-of}
-use Rattle.checker.specs.Holding.{twoBounds, boundsBetween}
+use Rattle.checking.specs.TaskBounds.{twoBounds, boundsBetween}
 use borrow.Author.Needs.{needs}
-use Rattle.checker.proofs.bounds.task_bounds.Statement.{statement}
-use Rattle.checker.proofs.bounds.task_bounds.Tie as tie
+use Rattle.checking.proofs.start_bounds.task_bounds.Statement.{statement}
+use Rattle.checking.proofs.start_bounds.task_bounds.Tie as tie
 
 enum-told : tie.Need-enum-told
 enum-told c = search needs
