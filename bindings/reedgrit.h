@@ -1,5 +1,5 @@
-/* Edge finding on one machine, with a reason for each post, and the check of reasons: the functions of libexports.a, which
- * `rt staticlib exports` writes for x86-64. Every input is answered, a wrong one by a number above 0 that changes nothing that was lent
+/* Edge finding on one machine, with a reason for each post, and the check of reasons: the functions of libreedgrit.a, which
+ * `rt staticlib reedgrit` writes for x86-64. Every input is answered, a wrong one by a number above 0 that changes nothing that was lent
  * (refusals below). A function reads and writes only what it is lent, for as long as the call lasts; it allocates nothing, keeps nothing,
  * and may be called from several threads on different data.
  *

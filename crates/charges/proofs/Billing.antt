@@ -12,13 +12,13 @@ use Rattle.integers.proofs.Filling.{filled-at, filled-past, filled-length, getD
 use Rattle.scheduling.specs.Scheduling.{total}
 use Rattle.records.specs.declared.record.Propagator.{Propagator}
 use Rattle.records.specs.Orders.{noTasks}
-use Rattle.fixed.proofs.Accepting.{input-of, started, short}
+use Rattle.fixed_schedules.proofs.Accepting.{input-of, started, short}
 use Rattle.charges.specs.declared.answer.Bill.{Bill}
 use Rattle.charges.specs.declared.answer.Charges.{Charges}
 use Rattle.charges.specs.declared.answer.Billing.the-variants.{Made, Refused}
 use Rattle.charges.specs.Charging.{chargeAt, noBill, chargesNumber, Accepted, BillRight, Charged}
-use Rattle.charges.specs.Holding.{Chargeable, Summed}
-use Rattle.charges.proofs.Refusing.{accepted-charges, charges-many}
+use Rattle.charges.specs.Billed.{Chargeable, Summed}
+use Rattle.charges.proofs.ChargesRefused.{accepted-charges, charges-many}
 
 module _ (r : Propagator) (es ls due : List ℤ) where
   pub chargeable : Accepted r es ls due → Chargeable (r .durations) es due

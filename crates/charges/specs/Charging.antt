@@ -14,7 +14,7 @@ use Rattle.scheduling.specs.Scheduling.{total}
 use Rattle.records.specs.declared.record.Propagator.{Propagator}
 use Rattle.records.specs.Orders.{noTasks}
 use Rattle.records.specs.Refusals.{withinAt}
-use Rattle.fixed.specs.FixedSchedules.{endAt, fixedTests, AcceptedFixed}
+use Rattle.fixed_schedules.specs.FixedSchedules.{endAt, fixedTests, AcceptedFixed}
 use Rattle.charges.specs.Tariff.{costOf, minutesLate}
 use Rattle.charges.specs.declared.answer.Bill.{Bill}
 use Rattle.charges.specs.declared.answer.Charges.{Charges}

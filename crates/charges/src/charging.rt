@@ -13,7 +13,7 @@ ghost use Rattle.integers.specs.Limits.{DURATIONS};
 ghost use Rattle.records.specs.Refusals.{StartFits};
 ghost use Rattle.charges.specs.Tariff.{minutesLate, costOf};
 ghost use Rattle.charges.specs.Charging.{DueFits, MINUTES, noBill, Charged};
-ghost use Rattle.charges.specs.Holding.{Chargeable, Summed};
+ghost use Rattle.charges.specs.Billed.{Chargeable, Summed};
 
 // How many minutes after its due moment a task ends.
 fn minutes_late(start: i32, duration: u32, due: i32) -> u32

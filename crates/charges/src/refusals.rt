@@ -1,5 +1,5 @@
 // What turns a call for charges back.
-use fixed::refusals::fixed_refusal;
+use fixed_schedules::refusals::fixed_refusal;
 use records::record::Propagator;
 use records::refusals::all_within;
 ghost use mathlib.Core.Path.{_≡_};

@@ -26,7 +26,7 @@ use Rattle.checking.specs.declared.start_bounds.Bounds.{Bounds}
 use Rattle.checker.specs.Checks.{judged, concluded, checkAfter, checkOf, Checked}
 use Rattle.checker.specs.MirroredChecks.{lowerAs, upperAs, judgedAs, checkAs, checkMirroredOf, CheckedMirrored}
 use Rattle.checking.specs.TaskBounds.{boundsOf}
-use Rattle.checker.specs.Holding.{mirroredBounds, Judgeable, Consequent}
+use Rattle.checker.specs.CheckArrays.{mirroredBounds, Judgeable, Consequent}
 use Rattle.checker.proofs.Apart.{verdicts-apart}
 use Rattle.checker.proofs.Soundness.{check-sound, mirrored-sound}
 use Rattle.checker.proofs.Verdicts.{judgeable, mirrored-judgeable}

@@ -20,10 +20,10 @@ use Rattle.scheduling.proofs.Processing.{processing-is}
 use Rattle.trees.specs.Bounds.{LATEST}
 use Rattle.trees.specs.Ects.{exceeds}
 use Rattle.chosen_sets.specs.ChosenSets.{ectOf}
-use Rattle.chosen_sets.specs.Holding.{Held, Late}
+use Rattle.chosen_sets.specs.TaskArrays.{Held, Late}
 use Rattle.checker.specs.declared.intervals.Interval.{Interval}
 use Rattle.checker.specs.Formulas.{_but_, any, lowest, highest, overloadsSpan, comesAfter}
-use Rattle.checker.specs.Holding.{intervalOf}
+use Rattle.checker.specs.CheckArrays.{intervalOf}
 use Rattle.checker.proofs.Gathering.{any-some, lowest-is}
 
 module _ {J : Tasks natural} {Ω : TaskSet} {n : ℕ} {chosen : List Bool} {est durations : List ℕ} (h : Held J Ω n chosen est durations) (v : Interval) (z : v ≡ intervalOf J Ω n) where

@@ -19,9 +19,9 @@ use Rattle.checking.specs.declared.int_ext.IntExt.the-variants.{Int, NegativeIn
 use Rattle.checking.specs.Holes.{Within}
 use Rattle.checker.specs.Checks.{finite}
 use Rattle.checker.specs.Formulas.{known, valueOf}
-use Rattle.chosen_sets.specs.Holding.{Held, Late}
+use Rattle.chosen_sets.specs.TaskArrays.{Held, Late}
 use Rattle.checking.specs.TaskBounds.{boundsBetween}
-use Rattle.checker.specs.Holding.{mirroredMoment}
+use Rattle.checker.specs.CheckArrays.{mirroredMoment}
 use Rattle.checker.specs.MirroredChecks.{mirrorBound}
 use Rattle.checker.proofs.Mirroring.{mirrored-moment}
 

@@ -12,8 +12,8 @@ use Rattle.scheduling.specs.Scheduling.{natural, Tasks, TaskSet, total, complet
 use Rattle.scheduling.proofs.Sets.{total-part, total-mono}
 use Rattle.checker.specs.declared.intervals.Interval.{Interval}
 use Rattle.checker.specs.Formulas.{any, lowest, highest}
-use Rattle.chosen_sets.specs.Holding.{Held, Late}
-use Rattle.checker.specs.Holding.{interval, gathered, intervalOf}
+use Rattle.chosen_sets.specs.TaskArrays.{Held, Late}
+use Rattle.checker.specs.CheckArrays.{interval, gathered, intervalOf}
 
 module _ (J : Tasks natural) (Ω : TaskSet) where
   pub none-gathered : interval false 4294967295 0 0 ≡ intervalOf J Ω 0

@@ -35,9 +35,9 @@ use Rattle.checking.specs.declared.start_bounds.Bounds.{Bounds}
 use Rattle.checker.specs.Formulas.{known, valueOf, bounded, tasks, _but_, overloadsSpan, comesAfter, overloaded, implied}
 use Rattle.checker.specs.Checks.{finite, lowerIn, upperIn, verdict, judgedBy, tasksWith}
 use Rattle.checker.specs.MirroredChecks.{mirrorIfAny, lowerAs, upperAs}
-use Rattle.chosen_sets.specs.Holding.{Held, Late}
+use Rattle.chosen_sets.specs.TaskArrays.{Held, Late}
 use Rattle.checking.specs.TaskBounds.{boundsBetween, knownAt, estAt, lstAt, boundsOf}
-use Rattle.checker.specs.Holding.{mirroredMoment, mirroredBounds, Judgeable, Consequent}
+use Rattle.checker.specs.CheckArrays.{mirroredMoment, mirroredBounds, Judgeable, Consequent}
 use Rattle.checker.proofs.Formulas.{moments-proper}
 use Rattle.checker.proofs.MirroredBounds.{mirrored-known, est-mirrored, lst-mirrored, moment-alike, mirrored-most}
 use Rattle.checker.proofs.Soundness.{reads, reads-mirrored, near-latest, durations-last, durations-most}

@@ -2,4 +2,4 @@ pub mod Formulas
 pub mod Verdicts
 pub mod Checks
 pub mod MirroredChecks
-pub mod Holding
+pub mod CheckArrays

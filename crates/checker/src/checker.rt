@@ -19,7 +19,7 @@ ghost use Rattle.checking.specs.Atoms.{consequentOf};
 ghost use Rattle.checker.specs.Formulas.{_but_, overloadsSpan, comesAfter};
 ghost use Rattle.checker.specs.Checks.{verdict, judgedBy, Checked};
 ghost use Rattle.checker.specs.MirroredChecks.{checkAs, CheckedMirrored};
-ghost use Rattle.checker.specs.Holding.{Bounding, Judgeable, Consequent};
+ghost use Rattle.checker.specs.CheckArrays.{Bounding, Judgeable, Consequent};
 
 // The answer: a contradiction names the variable of the first failing atom.
 pub enum Verdict {

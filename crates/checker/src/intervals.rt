@@ -3,8 +3,8 @@
 ghost use mathlib.Core.Path.{_≡_};
 ghost use Prim.Native.Nat.{ℕ, _+_, _≤_, _^_, _<_, min, max};
 ghost use Rattle.scheduling.specs.Scheduling.{natural, Tasks, TaskSet};
-ghost use Rattle.chosen_sets.specs.Holding.{Held, Late};
-ghost use Rattle.checker.specs.Holding.{gathered, intervalOf};
+ghost use Rattle.chosen_sets.specs.TaskArrays.{Held, Late};
+ghost use Rattle.checker.specs.CheckArrays.{gathered, intervalOf};
 
 pub struct Interval {
     pub some: bool,

@@ -3,7 +3,7 @@ use checking::start_bounds::Bounds;
 ghost use mathlib.Core.Path.{_≡_};
 ghost use Prim.Native.Nat.{_+_, _≤_, _<_};
 ghost use Rattle.scheduling.specs.Scheduling.{natural, Tasks, TaskSet};
-ghost use Rattle.checker.specs.Holding.{mirroredMoment, mirroredBounds, Bounding};
+ghost use Rattle.checker.specs.CheckArrays.{mirroredMoment, mirroredBounds, Bounding};
 
 // The moment of −(x + p), from that of x; 0 where the task has no two bounds.
 fn mirrored_moment(known: bool, t: u32, p: u32) -> u32

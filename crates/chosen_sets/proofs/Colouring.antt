@@ -27,7 +27,7 @@ use Rattle.trees.proofs.Roots as tree
 use Rattle.trees.proofs.Trees.{new-plain-tree, may-put-plain, was-put-plain, plain-ect-of}
 use Rattle.chosen_sets.specs.Colouring.{Takes, Took, Colourable}
 use Rattle.chosen_sets.specs.ChosenSets.{order, colours, ectOf}
-use Rattle.chosen_sets.specs.Holding.{Held}
+use Rattle.chosen_sets.specs.TaskArrays.{Held}
 use Rattle.chosen_sets.proofs.Ects.{by-order, order-size}
 
 -- The tree of the tasks that the arrays hold -----------------------------------------------------------------------------------

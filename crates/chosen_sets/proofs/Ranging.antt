@@ -16,7 +16,7 @@ use Rattle.records.specs.Orders.{noTasks, momentAt}
 use Rattle.records.specs.Records.{momentsIn}
 use Rattle.records.specs.Refusals.{AcceptedInput}
 use Rattle.records.proofs.Accepting.{count, durations-at, sum-fits, proper, between, moments-at}
-use Rattle.chosen_sets.specs.Holding.{Held, Late}
+use Rattle.chosen_sets.specs.TaskArrays.{Held, Late}
 
 module _ (r : Propagator) (es ls : List ℤ) (a : AcceptedInput r es ls) (long : length (r .durations) ≡ TASKS) where
   abbrev M : Tasks natural

@@ -9,7 +9,7 @@ use Rattle.trees.specs.Leaves.{empty, IsPlainTree}
 use Rattle.trees.specs.Nodes.{plainOf}
 use Rattle.trees.specs.Puts.{PlainPuttable, PlainPut}
 use Rattle.chosen_sets.specs.ChosenSets.{order, colours}
-use Rattle.chosen_sets.specs.Holding.{Held}
+use Rattle.chosen_sets.specs.TaskArrays.{Held}
 
 -- the leaf at place x may get a task, where it is chosen
 abbrev pub Takes : ℕ → List ℕ → ℕ → Bool → ℕ → ℕ → Type 0

@@ -1,4 +1,4 @@
 pub mod ChosenSets
-pub mod Holding
+pub mod TaskArrays
 pub mod Colouring
 pub mod Examples

@@ -12,7 +12,7 @@ ghost use Rattle.scheduling.specs.Scheduling.{natural, Tasks, TaskSet};
 ghost use Rattle.trees.specs.Ects.{momentOf};
 ghost use Rattle.chosen_sets.specs.Colouring.{Takes, Took, Colourable, Coloured};
 ghost use Rattle.chosen_sets.specs.ChosenSets.{ectOf};
-ghost use Rattle.chosen_sets.specs.Holding.{Held};
+ghost use Rattle.chosen_sets.specs.TaskArrays.{Held};
 
 // Puts a task into the leaf at a place, where it is chosen.
 fn put_chosen(

@@ -26,10 +26,10 @@ use Rattle.records.proofs.Creation.{created-lawful, natural-count, natural-dura
 use Rattle.records.proofs.Refused.{accepted-run}
 use Rattle.propagator.specs.Ran.{traceOf}
 use Rattle.text.specs.Numbers.{numbersOf}
-use Rattle.plan_cli.specs.Holding.{ATOMS}
+use Rattle.plan_cli.specs.RunSlices.{ATOMS}
 use Rattle.plan_cli.specs.Lines.{lines, doneLine, runLines, answerLines}
 use Rattle.plan_cli.specs.Printed.{Triple, numbered, ranOn, planned, plannedOf, answered, printed}
-use Rattle.plan_cli.proofs.Refusing.{words}
+use Rattle.plan_cli.proofs.PrintedNumbers.{words}
 use Rattle.costliest_cli.specs.Tasks.{instanceLines, costliestTask, costliest}
 use Rattle.costliest_cli.proofs.Reading.{costliest-answered}
 

@@ -12,8 +12,8 @@ use Rattle.propagator.specs.declared.disjunctive_propagator.Outcome.{Outcome}
 use Rattle.propagator.specs.Finding.{outcomeOf}
 use Rattle.propagator.specs.Ran.{traceOf, Handed}
 use Rattle.propagator.proofs.Handing.{handed}
-use Rattle.desk.specs.Histories.{History, recordAfter, durationsAfter}
-use Rattle.desk.proofs.History.{same-record}
+use Rattle.task_changes.specs.Histories.{History, recordAfter, durationsAfter}
+use Rattle.task_changes.proofs.History.{same-record}
 use Rattle.disjunctive.specs.declared.ranges.Range.{Range}
 use Rattle.disjunctive.specs.Ranges.{earliests, latests}
 use Rattle.disjunctive.specs.RanLent.{lentNumber, AcceptedLent, RanLent}

@@ -16,8 +16,8 @@ use Rattle.runs.specs.Traces.{emptied}
 use Rattle.runs.specs.Runs.{propagate, run, outer, inner, conflict, propagation, bounds, within, tabulate}
 use Rattle.records.specs.declared.record.Propagator.{Propagator}
 use Rattle.records.specs.Records.{newRecord, momentsIn}
-use Rattle.counter.specs.declared.overload_test.Overload.the-variants.{Yes}
-use Rattle.counter.specs.Reading.{answerFrom, answerOf}
+use Rattle.overload_test.specs.declared.overload_test.Overload.the-variants.{Yes}
+use Rattle.overload_test.specs.Reading.{answerFrom, answerOf}
 use Rattle.propagator.specs.Ran.{traceOf}
 use Rattle.disjunctive.specs.declared.ranges.Range.{Range}
 use Rattle.disjunctive.specs.Ranges.{taken, padded, startsOf, withStarts}

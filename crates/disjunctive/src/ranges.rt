@@ -5,9 +5,9 @@
 pub mod by_precedence;
 pub mod fixed_schedules;
 
-use counter::overload_test::Overload;
 use integers::limits::TASKS;
 use mirrored::mirrored_propagator::propagate_mirrored;
+use overload_test::overload_test::Overload;
 use propagator::disjunctive_propagator::Finished;
 use propagator::disjunctive_propagator::Outcome;
 use propagator::disjunctive_propagator::propagate;
@@ -16,7 +16,7 @@ ghost use mathlib.Core.Path.{_≡_};
 ghost use Prim.Native.Nat.{_≤_};
 ghost use lib.ListN.{length, take};
 ghost use Rattle.integers.specs.Limits.{TASKS};
-ghost use Rattle.counter.specs.Tested.{OverloadTested};
+ghost use Rattle.overload_test.specs.Tested.{OverloadTested};
 ghost use Rattle.disjunctive.specs.Ranges.{earliests, latests, RanCore, RanMirroredCore, taken, startsOf, withStarts, withLatest};
 ghost use Rattle.disjunctive.specs.RanLent.{RanLent, RanMirroredLent};
 
@@ -196,7 +196,7 @@ fn overload_core(record: Propagator, starts: Starts) -> Overload
     let n = starts.count;
     let earliest = starts.earliest;
     let latest = starts.latest;
-    counter::overload_test::overload_test(record, &earliest[..n], &latest[..n])
+    overload_test::overload_test::overload_test(record, &earliest[..n], &latest[..n])
 }
 
 // Whether some set of the record's tasks overloads in these ranges. Nothing lent is changed.

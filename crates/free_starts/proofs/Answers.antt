@@ -18,17 +18,17 @@ use Rattle.scheduling.specs.Scheduling.{whole, natural, Tasks}
 use Rattle.records.specs.declared.record.Propagator.{Propagator}
 use Rattle.records.specs.Records.{durationOf}
 use Rattle.records.specs.Orders.{noTasks, momentAt}
-use Rattle.fixed.specs.FixedSchedules.{orderOf, tasksOn, AcceptedFixed}
-use Rattle.fixed.specs.Holding.{inMoments}
-use Rattle.fixed.specs.Asked.{MomentFits, LengthFits}
-use Rattle.fixed.proofs.Accepting.{Told, input-of, short, told, by-moments, moment-high}
-use Rattle.fixed.proofs.Asking.{asked-above, asked-moment}
+use Rattle.fixed_schedules.specs.FixedSchedules.{orderOf, tasksOn, AcceptedFixed}
+use Rattle.fixed_schedules.specs.Neighbours.{inMoments}
+use Rattle.fixed_schedules.specs.Asked.{MomentFits, LengthFits}
+use Rattle.fixed_schedules.proofs.Accepting.{Told, input-of, short, told, by-moments, moment-high}
+use Rattle.fixed_schedules.proofs.Asking.{asked-above, asked-moment}
 use Rattle.free_starts.specs.declared.free_start.FreeStart.{FreeStart}
 use Rattle.free_starts.specs.declared.free_start.FreeStart.the-variants.{At, Refused}
 use Rattle.free_starts.specs.Numbers.{freeStartNumbers}
 use Rattle.free_starts.specs.FreeStarts.{LATEST, Free, EarliestFree, freeNumber, Found, Answered}
-use Rattle.free_starts.specs.Holding.{Askable}
-use Rattle.free_starts.proofs.Refusing.{free-many}
+use Rattle.free_starts.specs.StartMoments.{Askable}
+use Rattle.free_starts.proofs.FreeStartRefused.{free-many}
 
 -- ---- the tasks J of whole numbers, and M of their moments
 module _ (o : ℕ) (J : Tasks whole) (M : Tasks natural) (told : Told o J M) where

@@ -1,4 +1,4 @@
-pub mod Passing
-pub mod Refusing
+pub mod FirstFree
+pub mod FreeStartRefused
 pub mod Answers
 pub mod Apart

@@ -14,7 +14,7 @@ use Rattle.integers.proofs.Ints.{ints, up, dn, sumℤ}
 use Rattle.scheduling.specs.Scheduling.{total}
 use Rattle.records.specs.declared.record.Propagator.{Propagator}
 use Rattle.records.specs.Records.{unusedAt, lawfulRecord, newRecord}
-use Rattle.fixed.specs.FixedSchedules.{tasksOn}
+use Rattle.fixed_schedules.specs.FixedSchedules.{tasksOn}
 use Rattle.free_starts.specs.FreeStarts.{LATEST, Free, EarliestFree, freeNumber}
 
 -- task 0 starts at 3 and lasts 4, task 1 starts at −12 and lasts 15: they touch at 3

@@ -12,8 +12,8 @@ use Rattle.integers.specs.Tests.{Test, test, refusal}
 use Rattle.scheduling.specs.Scheduling.{Clock, Tasks}
 use Rattle.records.specs.declared.record.Propagator.{Propagator}
 use Rattle.records.specs.Records.{durationOf}
-use Rattle.fixed.specs.FixedSchedules.{tasksOn, fixedTests}
-use Rattle.fixed.specs.Asked.{momentFits, lengthFits}
+use Rattle.fixed_schedules.specs.FixedSchedules.{tasksOn, fixedTests}
+use Rattle.fixed_schedules.specs.Asked.{momentFits, lengthFits}
 use Rattle.free_starts.specs.declared.free_start.FreeStart.{FreeStart}
 use Rattle.free_starts.specs.Numbers.{freeStartNumbers}
 

@@ -1,4 +1,4 @@
 pub mod Numbers
 pub mod FreeStarts
-pub mod Holding
+pub mod StartMoments
 pub mod Examples

@@ -1,8 +1,8 @@
 // The least start at or after a moment at which a volume overlaps no task of a fixed schedule.
-use fixed::asked::length_fits;
-use fixed::asked::moment_fits;
-use fixed::order::order_of;
-use fixed::refusals::fixed_refusal;
+use fixed_schedules::asked::length_fits;
+use fixed_schedules::asked::moment_fits;
+use fixed_schedules::order::order_of;
+use fixed_schedules::refusals::fixed_refusal;
 use integers::moment_of;
 use integers::nat_of;
 use integers::start_of;
@@ -11,9 +11,9 @@ use records::record::Propagator;
 ghost use mathlib.Core.Path.{_≡_};
 ghost use Prim.Native.Nat.{_+_, _≤_};
 ghost use Rattle.integers.specs.Moments.{zeroAt};
-ghost use Rattle.fixed.specs.Holding.{inMoments};
+ghost use Rattle.fixed_schedules.specs.Neighbours.{inMoments};
 ghost use Rattle.free_starts.specs.FreeStarts.{LATEST, EarliestFree, freeNumber, Answered};
-ghost use Rattle.free_starts.specs.Holding.{Askable};
+ghost use Rattle.free_starts.specs.StartMoments.{Askable};
 
 // The start, or the number that turned the question back.
 pub enum FreeStart {

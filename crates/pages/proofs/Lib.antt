@@ -1,4 +1,4 @@
 pub mod Padding
-pub mod Refusing
+pub mod PageRefused
 pub mod Paging
 pub mod Apart

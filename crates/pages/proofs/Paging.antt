@@ -15,10 +15,10 @@ use Rattle.integers.specs.Orders.{has}
 use Rattle.integers.proofs.Words.{overwrites}
 use Rattle.integers.proofs.Permutations.{has-here, has-later}
 use Rattle.records.specs.declared.record.Propagator.{Propagator}
-use Rattle.fixed.specs.FixedSchedules.{startAt, endAt, orderOf}
-use Rattle.fixed.specs.Holding.{Started}
-use Rattle.fixed.proofs.Placing.{ordered, order-length, order-permutes}
-use Rattle.fixed.proofs.Accepting.{input-of, started, short}
+use Rattle.fixed_schedules.specs.FixedSchedules.{startAt, endAt, orderOf}
+use Rattle.fixed_schedules.specs.Neighbours.{Started}
+use Rattle.fixed_schedules.proofs.Placing.{ordered, order-length, order-permutes}
+use Rattle.fixed_schedules.proofs.Accepting.{input-of, started, short}
 use Rattle.text.specs.Writing.{Puts}
 use Rattle.text.proofs.Putting.{puts-append}
 use Rattle.pages.specs.Lines.{LINE, heading}
@@ -27,7 +27,7 @@ use Rattle.pages.specs.declared.answer.Page.the-variants.{Written, Refus
 use Rattle.pages.specs.Numbers.{pageNumbers}
 use Rattle.pages.specs.Pages.{lineAt, pageOf, pageNumber, Accepted, OneLineEach, Paged}
 use Rattle.pages.proofs.Padding.{line-length, line-once}
-use Rattle.pages.proofs.Refusing.{page-many, accepted-page}
+use Rattle.pages.proofs.PageRefused.{page-many, accepted-page}
 
 module _ (f : ℕ → List ℕ) where
   flat-append : (ks js : List ℕ) → flatMap f (ks ++ js) ≡ flatMap f ks ++ flatMap f js

@@ -11,7 +11,7 @@ use Rattle.integers.specs.Words.{overwritten}
 use Rattle.integers.specs.Orders.{index, Ordered}
 use Rattle.integers.specs.Tests.{Test, test, refusal}
 use Rattle.records.specs.declared.record.Propagator.{Propagator}
-use Rattle.fixed.specs.FixedSchedules.{startAt, endAt, fixedTests, AcceptedFixed, orderOf}
+use Rattle.fixed_schedules.specs.FixedSchedules.{startAt, endAt, fixedTests, AcceptedFixed, orderOf}
 use Rattle.pages.specs.Lines.{LINE, heading, lineOf}
 use Rattle.pages.specs.declared.answer.Page.{Page}
 use Rattle.pages.specs.Numbers.{pageNumbers}

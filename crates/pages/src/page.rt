@@ -1,8 +1,8 @@
 // The page: refused by number with nothing changed, or written.
 use crate::answer::Page;
 use crate::lines::put_lines;
-use fixed::order::order_of;
-use fixed::refusals::fixed_refusal;
+use fixed_schedules::order::order_of;
+use fixed_schedules::refusals::fixed_refusal;
 use records::record::Propagator;
 ghost use mathlib.Core.Path.{_≡_};
 ghost use Rattle.pages.specs.Pages.{pageNumber, Paged};

@@ -26,7 +26,7 @@ use Rattle.propagator.specs.declared.disjunctive_propagator.Outcome.the-variant
 use Rattle.propagator.specs.declared.disjunctive_propagator.Run.{Run}
 use Rattle.propagator.specs.Ran.{traceOf, AcceptedRun, Ran}
 use Rattle.propagator.proofs.Answering.{outcomes-apart}
-use Rattle.plan_cli.specs.Holding.{ATOMS, ShowsRun, Shown}
+use Rattle.plan_cli.specs.RunSlices.{ATOMS, ShowsRun, Shown}
 use Rattle.plan_cli.specs.Printed.{numbered, ranOn, planned}
 
 -- a run that no number turned back

@@ -3,4 +3,4 @@ pub mod Reporting
 pub mod Showing
 pub mod Counting
 pub mod Leaving
-pub mod Refusing
+pub mod PrintedNumbers

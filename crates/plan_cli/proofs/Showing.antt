@@ -16,7 +16,7 @@ use Rattle.propagator.specs.Finding.{outcomeOf}
 use Rattle.propagator.specs.declared.disjunctive_propagator.Outcome.{Outcome}
 use Rattle.propagator.specs.declared.disjunctive_propagator.Outcome.the-variants as outcome
 use Rattle.plan_cli.specs.Lines.{postLines, doneLine, overloadLines, emptiedLine, endLines, runLines, refusedLine, answerLines}
-use Rattle.plan_cli.specs.Holding.{ATOMS, Holds, ShowsRun, Shown}
+use Rattle.plan_cli.specs.RunSlices.{ATOMS, Holds, ShowsRun, Shown}
 
 -- `count` posts that the slices hold, with room for them and for `more` atoms, and `rest` behind them
 pub record Parts (what : ℕ ⊎ Trace) (posts atoms : List ℤ) (count more : ℕ) (rest : List ℕ) : Type 0 where

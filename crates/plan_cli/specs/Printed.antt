@@ -16,7 +16,7 @@ use Rattle.records.specs.Records.{creationTests, newRecord}
 use Rattle.records.specs.Refusals.{runNumber}
 use Rattle.propagator.specs.Ran.{traceOf}
 use Rattle.text.specs.Numbers.{numbersOf}
-use Rattle.plan_cli.specs.Holding.{ATOMS}
+use Rattle.plan_cli.specs.RunSlices.{ATOMS}
 use Rattle.plan_cli.specs.Lines.{answerLines}
 
 -- a task of the input

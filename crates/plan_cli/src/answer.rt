@@ -20,7 +20,7 @@ ghost use Rattle.integers.specs.Limits.{TASKS};
 ghost use Rattle.text.specs.Scanning.{gathered};
 ghost use Rattle.text.specs.Writing.{Puts};
 ghost use Rattle.plan_cli.specs.Lines.{answerLines};
-ghost use Rattle.plan_cli.specs.Holding.{ROOM};
+ghost use Rattle.plan_cli.specs.RunSlices.{ROOM};
 ghost use Rattle.plan_cli.specs.Printed.{ranOn, planned, answered};
 
 // Words for the posts and the atoms of any run.

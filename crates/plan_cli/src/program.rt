@@ -11,7 +11,7 @@ ghost use Prim.Native.Nat.{ℕ, _≤_};
 ghost use lib.ListN.{length};
 ghost use Rattle.text.specs.Numbers.{numbersOf};
 ghost use Rattle.text.specs.Scanning.{stepOf, gathered};
-ghost use Rattle.plan_cli.specs.Holding.{ROOM};
+ghost use Rattle.plan_cli.specs.RunSlices.{ROOM};
 ghost use Rattle.plan_cli.specs.Printed.{printed, Written};
 
 // Bytes for the lines of any run.

@@ -18,7 +18,7 @@ ghost use Rattle.runs.specs.Words.{reasons};
 ghost use Rattle.records.specs.Posts.{reasonWords};
 ghost use Rattle.text.specs.Writing.{Puts};
 ghost use Rattle.plan_cli.specs.Lines.{postOf, postLines, doneLine, overloadLines, answerLines};
-ghost use Rattle.plan_cli.specs.Holding.{Held, Holds, Posts, Shown, Printable};
+ghost use Rattle.plan_cli.specs.RunSlices.{Held, Holds, Posts, Shown, Printable};
 
 // Post j of the two slices, with its reason.
 fn put_posted(

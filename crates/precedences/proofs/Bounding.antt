@@ -22,7 +22,7 @@ use Rattle.trees.specs.Ects.{exceeds}
 use Rattle.trees.proofs.Ects.{exceeds-yes, some-within, raised-from, raised-bound, raised-up, raised-not}
 use Rattle.chosen_sets.proofs.Ects.{ect-is}
 use Rattle.precedences.specs.Precedences.{predecessors, PrecedenceBound}
-use Rattle.precedences.specs.Holding.{comesBefore, boundAt, raisedAt}
+use Rattle.precedences.specs.TaskArrays.{comesBefore, boundAt, raisedAt}
 
 -- the test of whole numbers and that of their moments
 tests-agree : (o : ℕ) (a b : ℤ) → Above o a → Above o b → ltZ a b ≡ ltb (moment o a) (moment o b)

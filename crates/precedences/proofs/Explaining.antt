@@ -35,7 +35,7 @@ use Rattle.precedences.specs.declared.answers.Reason.the-variants.{Writt
 use Rattle.precedences.specs.Numbers.{reasonNumbers}
 use Rattle.precedences.specs.Precedences.{predecessors, AllBefore, PrecedenceBound}
 use Rattle.precedences.specs.Reasons.{atLeast, atMost, bothOf, bothBounds, reasonOf, Raises, Explained, AcceptedReason, reasonNumber, ReasonGiven}
-use Rattle.precedences.specs.Holding.{precedesAt, comesBefore, boundAt, startAt, memberAt, Ranged, reasonAt, ReasonLeft}
+use Rattle.precedences.specs.TaskArrays.{precedesAt, comesBefore, boundAt, startAt, memberAt, Ranged, reasonAt, ReasonLeft}
 use Rattle.precedences.proofs.Bounding.{high, same-tasks, raises, raises-not}
 use Rattle.precedences.proofs.Members.{both-none, fewer, every-member, member-every, both-same}
 use Rattle.precedences.proofs.Ranging.{chosen}

@@ -1,9 +1,9 @@
 pub mod Ranging
 pub mod Soundness
 pub mod Bounding
-pub mod Passing
+pub mod PassContract
 pub mod Apart
 pub mod Members
 pub mod Explaining
-pub mod Refusing
+pub mod ReasonRefused
 pub mod Many

@@ -13,7 +13,7 @@ use Rattle.precedences.specs.declared.answers.Precedences.{Precedences}
 use Rattle.precedences.specs.declared.answers.Reason.{Reason}
 use Rattle.precedences.specs.Precedences.{RanPrecedences}
 use Rattle.precedences.specs.Reasons.{ReasonGiven}
-use Rattle.precedences.proofs.Passing.{turned-back as pass-turned-back}
+use Rattle.precedences.proofs.PassContract.{turned-back as pass-turned-back}
 use Rattle.precedences.proofs.Explaining.{turned-back as reason-turned-back}
 
 pub too-many : (before : Propagator) (es ls : List ℤ) (r : Precedences) (es′ : List ℤ) → TASKS < length es → RanPrecedences before [] [] r es′ → RanPrecedences before es ls r es

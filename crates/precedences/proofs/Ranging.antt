@@ -10,8 +10,8 @@ use Rattle.integers.specs.Limits.{TASKS}
 use Rattle.integers.specs.Filling.{filled}
 use Rattle.integers.proofs.Filling.{filled-at}
 use Rattle.scheduling.proofs.Sets.{total-part}
-use Rattle.chosen_sets.specs.Holding.{Held}
-use Rattle.precedences.specs.Holding.{precedesAt, comesBefore, Ranged}
+use Rattle.chosen_sets.specs.TaskArrays.{Held}
+use Rattle.precedences.specs.TaskArrays.{precedesAt, comesBefore, Ranged}
 
 module _ {n : ℕ} {est lst durations : List ℕ} (f : Ranged n est lst durations) (i : ℕ) (q : i < n) where
   -- the moment before which their latest starts lie

@@ -1,5 +1,5 @@
 pub mod Numbers
 pub mod Precedences
 pub mod Reasons
-pub mod Holding
+pub mod TaskArrays
 pub mod Examples

@@ -13,7 +13,7 @@ ghost use Rattle.integers.specs.Limits.{TASKS};
 ghost use Rattle.records.specs.Orders.{noTasks};
 ghost use Rattle.records.specs.Records.{tasksIn};
 ghost use Rattle.records.specs.Refusals.{AcceptedInput};
-ghost use Rattle.precedences.specs.Holding.{raisedAt, startAt, Ranged, FirstPast};
+ghost use Rattle.precedences.specs.TaskArrays.{raisedAt, startAt, Ranged, FirstPast};
 ghost use Rattle.precedences.specs.Precedences.{LeftPrecedences, RanPrecedences};
 
 // Each of n tasks' earliest start or bound, whichever is later.

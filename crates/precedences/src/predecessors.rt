@@ -9,7 +9,7 @@ ghost use lib.ListN.{getD, replicate};
 ghost use Rattle.integers.specs.Filling.{filled};
 ghost use Rattle.integers.specs.Limits.{TASKS};
 ghost use Rattle.trees.specs.Ects.{momentOf};
-ghost use Rattle.precedences.specs.Holding.{precedesAt, boundAt, Ranged};
+ghost use Rattle.precedences.specs.TaskArrays.{precedesAt, boundAt, Ranged};
 
 // Whether task j, with its latest start, must come before task i, which ends at `end` or later.
 fn precedes(j: usize, latest: u32, i: usize, end: u32) -> bool

@@ -17,7 +17,7 @@ ghost use Rattle.integers.specs.Moments.{instant, zeroAt};
 ghost use Rattle.explanations.specs.Explanations.{Stored};
 ghost use Rattle.records.specs.Records.{tasksIn, recordOf};
 ghost use Rattle.records.specs.Refusals.{AcceptedInput};
-ghost use Rattle.precedences.specs.Holding.{startAt, memberAt, Ranged, ReasonLeft};
+ghost use Rattle.precedences.specs.TaskArrays.{startAt, memberAt, Ranged, ReasonLeft};
 ghost use Rattle.precedences.specs.Reasons.{bothOf, bothBounds, Explained, reasonNumber, ReasonGiven, AcceptedReason};
 
 // Both bounds of task j, where it is a member, from the k-th atom on. The number of the atom after them.

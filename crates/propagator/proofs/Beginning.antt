@@ -45,7 +45,7 @@ use Rattle.records.specs.Orders.{SortedBy, noTasks, momentAt, completionAt, byK
 use Rattle.records.specs.Records.{tasksIn}
 use Rattle.records.specs.Refusals.{Accepted}
 use Rattle.records.proofs.Sorted.{sorted-as}
-use Rattle.propagator.specs.Holding.{Ordered, Holds, At}
+use Rattle.propagator.specs.RunArrays.{Ordered, Holds, At}
 use Rattle.propagator.specs.declared.disjunctive_propagator.Outcome.{Outcome}
 use Rattle.propagator.specs.Filling.{Fillable}
 use Rattle.propagator.specs.Finding.{outcomeOf, Begun, Ended}

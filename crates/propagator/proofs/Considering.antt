@@ -42,7 +42,7 @@ use Rattle.explanations.specs.Explanations.{starting, Overloaded, Preceded}
 use Rattle.explanations.proofs.Explaining.{Alike, conflict-same, propagation-same}
 use Rattle.propagator.specs.declared.disjunctive_propagator.Written.{Written}
 use Rattle.propagator.specs.declared.disjunctive_propagator.Turn.the-variants as turn
-use Rattle.propagator.specs.Holding.{Ordered, Holds, Arrays, At}
+use Rattle.propagator.specs.RunArrays.{Ordered, Holds, Arrays, At}
 use Rattle.propagator.specs.Moving.{Movable}
 use Rattle.propagator.specs.Turns.{sumIn, Posted, Standing, AtNow, turns, Considered, Responsible-for}
 use Rattle.propagator.proofs.Meeting as meeting

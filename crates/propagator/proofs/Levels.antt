@@ -32,7 +32,7 @@ use Rattle.propagator.specs.declared.disjunctive_propagator.Outcome.{Out
 use Rattle.propagator.specs.declared.disjunctive_propagator.Outcome.the-variants as outcome
 use Rattle.propagator.specs.declared.disjunctive_propagator.Turn.the-variants as turn
 use Rattle.propagator.specs.declared.disjunctive_propagator.Written.{Written}
-use Rattle.propagator.specs.Holding.{Ordered, At}
+use Rattle.propagator.specs.RunArrays.{Ordered, At}
 use Rattle.propagator.specs.Turns.{sumIn, Standing, AllConsidered}
 use Rattle.propagator.specs.Moving.{Movable, Moved}
 use Rattle.propagator.specs.Finding.{outcomeOf, conflictIn, Conflicted, Begun, Ended}

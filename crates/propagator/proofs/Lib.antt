@@ -7,6 +7,6 @@ pub mod Levels
 pub mod Filling
 pub mod Beginning
 pub mod Many
-pub mod Passing
+pub mod ReasonsPass
 pub mod Handing
 pub mod Answering

@@ -25,7 +25,7 @@ use Rattle.runs.proofs.Stops as stops
 use Rattle.explanations.specs.Explanations.{starting, lasts, Each, Known, White, Somewhere, Overloads, Precedes, Attains, Overloaded, Preceded}
 use Rattle.explanations.proofs.Explaining.{Alike}
 use Rattle.explanations.proofs.Places.{lasts-none, lasts-more}
-use Rattle.propagator.specs.Holding.{Ordered, Holds}
+use Rattle.propagator.specs.RunArrays.{Ordered, Holds}
 
 module _ (J : Tasks natural) (first second : List ℕ) (G : Ordered J first second) (est dur : List ℕ) (he : Holds (J .count) (J .earliest) est) (hd : Holds (J .count) (J .duration) dur) where
   abbrev ok : Proper J

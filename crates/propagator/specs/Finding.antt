@@ -16,7 +16,7 @@ use Rattle.explanations.specs.Explanations.{starting}
 use Rattle.propagator.specs.declared.disjunctive_propagator.Outcome.{Outcome}
 use Rattle.propagator.specs.declared.disjunctive_propagator.Outcome.the-variants as outcome
 use Rattle.propagator.specs.declared.disjunctive_propagator.Written.{Written}
-use Rattle.propagator.specs.Holding.{Ordered, Holds, Arrays, At}
+use Rattle.propagator.specs.RunArrays.{Ordered, Holds, Arrays, At}
 use Rattle.propagator.specs.Turns.{sumIn}
 
 -- how a trace ended, with the number of its posts

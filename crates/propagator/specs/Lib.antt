@@ -1,5 +1,5 @@
 pub mod Outcomes
-pub mod Holding
+pub mod RunArrays
 pub mod Turns
 pub mod Finding
 pub mod Moving

@@ -24,7 +24,7 @@ use Rattle.explanations.specs.Explanations.{starting}
 use Rattle.propagator.specs.declared.disjunctive_propagator.Written.{Written}
 use Rattle.propagator.specs.declared.disjunctive_propagator.Turn as code
 use Rattle.propagator.specs.declared.disjunctive_propagator.Turn.the-variants as turn
-use Rattle.propagator.specs.Holding.{Ordered, Holds, Arrays, At}
+use Rattle.propagator.specs.RunArrays.{Ordered, Holds, Arrays, At}
 
 -- the sum of Theta, as the tree's words hold it
 abbrev pub sumIn : List ℕ → ℕ

@@ -4,11 +4,11 @@ use crate::lines::put_counted;
 use crate::lines::put_line;
 use crate::lines::put_refused;
 use crate::states::place_of;
-use desk::changes::Change;
-use desk::changes::add;
-use desk::changes::remove;
 use records::record::Creation;
 use records::record::create;
+use task_changes::changes::Change;
+use task_changes::changes::add;
+use task_changes::changes::remove;
 
 // `create`: the record of the durations.
 pub fn creates(session: Session, out: &mut [u8], durations: &[i32]) -> Session {

@@ -16,13 +16,15 @@ use crate::running::put_reason;
 use crate::running::put_run;
 use crate::running::put_starts;
 use crate::states::place_of;
+use busiest_stretch::answer::Busiest;
+use busiest_stretch::stretch::busiest_stretch;
 use charges::answer::Bill;
 use charges::answer::Billing;
 use charges::charging::charges;
-use counter::overload_test::Overload;
-use counter::overload_test::overload_test;
 use free_starts::free_start::FreeStart;
 use free_starts::free_start::free_start;
+use overload_test::overload_test::Overload;
+use overload_test::overload_test::overload_test;
 use pages::answer::Page;
 use pages::page::page;
 use precedences::answers::Precedences;
@@ -30,8 +32,6 @@ use precedences::answers::Reason;
 use precedences::pass::precedences;
 use precedences::reasons::precedence_reason;
 use records::record::Propagator;
-use stretches::answer::Busiest;
-use stretches::stretch::busiest_stretch;
 ghost use Prim.Native.Nat.{_≤_};
 
 // Ranges of one command that are kept.

@@ -3,19 +3,19 @@
 use crate::ranges::Range;
 use crate::ranges::Starts;
 use crate::ranges::starts_of;
+use busiest_stretch::answer::Busiest;
 use charges::answer::Charges;
 use free_starts::free_start::FreeStart;
 use integers::limits::TASKS;
 use pages::answer::Page;
 use records::record::Propagator;
-use stretches::answer::Busiest;
 ghost use Prim.Native.Nat.{_≤_};
 ghost use lib.ListN.{take};
 ghost use Rattle.integers.specs.Limits.{TASKS};
 ghost use Rattle.charges.specs.Charging.{Charged};
 ghost use Rattle.free_starts.specs.FreeStarts.{Answered as FreeStartAnswered};
 ghost use Rattle.pages.specs.Pages.{Paged};
-ghost use Rattle.stretches.specs.Stretches.{Answered as BusiestAnswered};
+ghost use Rattle.busiest_stretch.specs.Stretches.{Answered as BusiestAnswered};
 ghost use Rattle.disjunctive.specs.Ranges.{earliests, latests};
 
 // The page of the first `count` places of the arrays.
@@ -83,7 +83,7 @@ fn stretch_core(record: Propagator, starts: Starts, w: i32) -> Busiest
     let n = starts.count;
     let earliest = starts.earliest;
     let latest = starts.latest;
-    stretches::stretch::busiest_stretch(record, &earliest[..n], &latest[..n], w)
+    busiest_stretch::stretch::busiest_stretch(record, &earliest[..n], &latest[..n], w)
 }
 
 // The greatest time that tasks of the schedule cover of a stretch of length w, and the least start that reaches it.

@@ -13,7 +13,7 @@ use Rattle.scheduling.specs.Scheduling.{total}
 use Rattle.scheduling.proofs.Sets.{total-none, total-more}
 use Rattle.records.specs.Orders.{noTasks}
 use Rattle.records.specs.Refusals.{StartFits}
-use Rattle.fixed.specs.FixedSchedules.{startAt, endAt}
+use Rattle.fixed_schedules.specs.FixedSchedules.{startAt, endAt}
 use Rattle.charges.specs.Tariff.{minutesLate, costOf}
 use Rattle.charges.specs.Charging.{DueFits, chargeAt}
 use Rattle.charges.proofs.Costs.{cost-most}

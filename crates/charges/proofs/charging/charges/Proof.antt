@@ -2,7 +2,7 @@
 use mathlib.Core.Path.{_≡_, sym, _∙_}
 use borrow.Author.Needs.{needs}
 use Rattle.charges.specs.Charging.{chargesNumber}
-use Rattle.charges.proofs.Refusing.{accepted-charges}
+use Rattle.charges.proofs.ChargesRefused.{accepted-charges}
 use Rattle.charges.proofs.Billing.{chargeable, refused, made}
 use Rattle.charges.proofs.charging.charges.Statement.{statement}
 use Rattle.charges.proofs.charging.charges.Tie as tie

@@ -7,7 +7,7 @@ use borrow.Author.Needs.{needs}
 use Rattle.integers.specs.Moments.{moment, zeroAt}
 use Rattle.integers.proofs.Ints.{back}
 use Rattle.integers.proofs.Moments.{plus, plus-above, i32-above}
-use Rattle.fixed.proofs.Placing.{start-above, start-moment}
+use Rattle.fixed_schedules.proofs.Placing.{start-above, start-moment}
 use Rattle.charges.proofs.Lateness.{due-moment, not-late, late}
 use Rattle.charges.proofs.charging.minutes_late.Statement.{statement}
 use Rattle.charges.proofs.charging.minutes_late.Tie as tie

@@ -5,8 +5,8 @@ use borrow.Author.Needs.{needs}
 use lib.Dec.{eqb}
 use lib.ListN.{length}
 use Rattle.integers.proofs.Bools.{and-left, and-right, and-yes}
-use Rattle.fixed.specs.FixedSchedules.{fixedNumber}
-use Rattle.charges.proofs.Refusing.{schedule-first, wrong-dues, right-dues}
+use Rattle.fixed_schedules.specs.FixedSchedules.{fixedNumber}
+use Rattle.charges.proofs.ChargesRefused.{schedule-first, wrong-dues, right-dues}
 use Rattle.charges.proofs.refusals.charges_refusal.Statement.{statement}
 use Rattle.charges.proofs.refusals.charges_refusal.Tie as tie
 

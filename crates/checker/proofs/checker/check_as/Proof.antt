@@ -9,7 +9,7 @@ use borrow.Author.Tests.{not-true, not-false}
 use Rattle.checking.specs.Atoms.{consequentOf}
 use Rattle.checking.specs.declared.start_bounds.Bounds.{Bounds}
 use Rattle.checker.specs.declared.checker.Verdict.{Verdict}
-use Rattle.checker.specs.Holding.{mirroredBounds, Judgeable, Consequent}
+use Rattle.checker.specs.CheckArrays.{mirroredBounds, Judgeable, Consequent}
 use Rattle.checker.specs.MirroredChecks.{lowerAs, upperAs, judgedAs, checkAs}
 use Rattle.checker.proofs.Answers.{turned-back, contradicted, refused-atoms, few-tasks, can-judge, can-judge-mirrored, consequent-right, concluded-by}
 use Rattle.checker.proofs.Verdicts.{tasksOf, twoSided}

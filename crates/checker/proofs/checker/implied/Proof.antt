@@ -11,8 +11,8 @@ use Rattle.integers.specs.Limits.{TASKS}
 use Rattle.scheduling.specs.Scheduling.{natural, Tasks, TaskSet}
 use Rattle.checker.specs.Formulas.{_but_}
 use Rattle.trees.specs.Ects.{momentOf}
-use Rattle.chosen_sets.specs.Holding.{Held}
-use Rattle.checker.specs.Holding.{Bounding}
+use Rattle.chosen_sets.specs.TaskArrays.{Held}
+use Rattle.checker.specs.CheckArrays.{Bounding}
 use Rattle.checker.proofs.Judging.{none-after, joint-fits, room-before, after-where, others-held}
 use Rattle.checker.proofs.checker.implied.Statement.{statement}
 use Rattle.checker.proofs.checker.implied.Tie as tie

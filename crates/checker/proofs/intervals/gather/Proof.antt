@@ -8,8 +8,8 @@ use lib.ListN.{getD}
 use borrow.Author.Needs.{needs}
 use Rattle.scheduling.specs.Scheduling.{natural, Tasks, TaskSet}
 use Rattle.checker.specs.declared.intervals.Interval.{Interval}
-use Rattle.chosen_sets.specs.Holding.{Held, Late}
-use Rattle.checker.specs.Holding.{intervalOf}
+use Rattle.chosen_sets.specs.TaskArrays.{Held, Late}
+use Rattle.checker.specs.CheckArrays.{intervalOf}
 use Rattle.checker.proofs.Steps.{none-gathered, duration-fits, start-fits, latest-fits, completion-fits, sum-fits, next-gathered}
 use Rattle.checker.proofs.intervals.gather.Statement.{statement}
 use Rattle.checker.proofs.intervals.gather.Tie as tie

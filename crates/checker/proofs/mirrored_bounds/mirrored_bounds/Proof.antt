@@ -9,7 +9,7 @@ use Rattle.integers.specs.Limits.{TASKS}
 use Rattle.integers.specs.Filling.{filled}
 use Rattle.integers.proofs.Filling.{filled-none, filled-store}
 use Rattle.checking.specs.declared.start_bounds.Bounds.{Bounds}
-use Rattle.checker.specs.Holding.{mirroredMoment, mirroredBounds}
+use Rattle.checker.specs.CheckArrays.{mirroredMoment, mirroredBounds}
 use Rattle.checker.proofs.MirroredBounds.{lasts-one, lst-mirrors, est-mirrors}
 use Rattle.checker.proofs.mirrored_bounds.mirrored_bounds.Statement.{statement}
 use Rattle.checker.proofs.mirrored_bounds.mirrored_bounds.Tie as tie

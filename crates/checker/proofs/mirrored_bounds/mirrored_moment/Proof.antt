@@ -4,7 +4,7 @@ use Prim.Native.Nat.{_+_, _-_}
 use native.Mathlib.Omega.{arith}
 use borrow.Author.Needs.{needs}
 use borrow.Author.Tests.{not-true, not-false}
-use Rattle.checker.specs.Holding.{mirroredMoment}
+use Rattle.checker.specs.CheckArrays.{mirroredMoment}
 use Rattle.checker.proofs.mirrored_bounds.mirrored_moment.Statement.{statement}
 use Rattle.checker.proofs.mirrored_bounds.mirrored_moment.Tie as tie
 

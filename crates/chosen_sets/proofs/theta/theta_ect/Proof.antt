@@ -5,7 +5,7 @@ use borrow.Author.Needs.{needs}
 use Rattle.scheduling.specs.Scheduling.{natural, Tasks, TaskSet}
 use Rattle.records.proofs.Sorted.{sorted-permutes}
 use Rattle.chosen_sets.specs.Colouring.{Colourable}
-use Rattle.chosen_sets.specs.Holding.{Held}
+use Rattle.chosen_sets.specs.TaskArrays.{Held}
 use Rattle.chosen_sets.proofs.Colouring.{colourable, root-ect}
 use Rattle.chosen_sets.proofs.theta.theta_ect.Statement.{statement}
 use Rattle.chosen_sets.proofs.theta.theta_ect.Tie as tie

@@ -39,11 +39,11 @@ use Rattle.integers.specs.Limits.{TASKS}
 use Rattle.records.specs.declared.record.Propagator.{Propagator}
 use Rattle.records.proofs.record.Propagator as P
 use Rattle.records.proofs.record.Propagator.Laws as P′
-use Rattle.counter.specs.declared.overload_test.Overload.{Overload}
-use Rattle.counter.specs.Tested.{OverloadTested}
-use Rattle.counter.proofs.Many.{too-many}
-use Rattle.counter.proofs.overload_test.Overload as O
-use Rattle.counter.proofs.overload_test.Overload.Laws as O′
+use Rattle.overload_test.specs.declared.overload_test.Overload.{Overload}
+use Rattle.overload_test.specs.Tested.{OverloadTested}
+use Rattle.overload_test.proofs.Many.{too-many}
+use Rattle.overload_test.proofs.overload_test.Overload as O
+use Rattle.overload_test.proofs.overload_test.Overload.Laws as O′
 use Rattle.disjunctive.specs.Ranges.{earliests, latests}
 use Rattle.disjunctive.specs.declared.ranges.Range.{Range}
 use Rattle.disjunctive.specs.declared.ranges.Starts.{Starts}

@@ -6,9 +6,9 @@ use native.Mathlib.Omega.{arith}
 use lib.ListN.{getD}
 use borrow.Author.Needs.{needs}
 use Rattle.integers.specs.Moments.{zeroAt}
-use Rattle.fixed.specs.Holding.{inMoments}
+use Rattle.fixed_schedules.specs.Neighbours.{inMoments}
 use Rattle.free_starts.specs.FreeStarts.{LATEST}
-use Rattle.free_starts.proofs.Passing.{Passed, begins, waits, over, stops, ends}
+use Rattle.free_starts.proofs.FirstFree.{Passed, begins, waits, over, stops, ends}
 use Rattle.free_starts.proofs.free_start.first_free.Statement.{statement}
 use Rattle.free_starts.proofs.free_start.first_free.Tie as tie
 

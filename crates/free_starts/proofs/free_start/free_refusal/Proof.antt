@@ -3,9 +3,9 @@ use mathlib.Core.Path.{_≡_, sym, ap, _∙_}
 use borrow.Author.Tests.{not-true, not-false}
 use borrow.Author.Needs.{needs}
 use Rattle.integers.proofs.Ints.{back}
-use Rattle.fixed.specs.FixedSchedules.{fixedNumber}
-use Rattle.fixed.specs.Asked.{momentFits, lengthFits}
-use Rattle.free_starts.proofs.Refusing.{schedule-first, wrong-length, wrong-moment, none-wrong}
+use Rattle.fixed_schedules.specs.FixedSchedules.{fixedNumber}
+use Rattle.fixed_schedules.specs.Asked.{momentFits, lengthFits}
+use Rattle.free_starts.proofs.FreeStartRefused.{schedule-first, wrong-length, wrong-moment, none-wrong}
 use Rattle.free_starts.proofs.free_start.free_refusal.Statement.{statement}
 use Rattle.free_starts.proofs.free_start.free_refusal.Tie as tie
 

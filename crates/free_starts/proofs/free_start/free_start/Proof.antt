@@ -7,11 +7,11 @@ use mir.Syntax.{w32}
 use mir.Val.{toZ, ofZ}
 use Rattle.integers.specs.Moments.{moment, zeroAt}
 use Rattle.integers.proofs.Ints.{ints, up, dn, back, back-of}
-use Rattle.fixed.specs.FixedSchedules.{AcceptedFixed}
-use Rattle.fixed.specs.Asked.{MomentFits, LengthFits}
-use Rattle.fixed.proofs.Accepting.{input-of, started}
+use Rattle.fixed_schedules.specs.FixedSchedules.{AcceptedFixed}
+use Rattle.fixed_schedules.specs.Asked.{MomentFits, LengthFits}
+use Rattle.fixed_schedules.proofs.Accepting.{input-of, started}
 use Rattle.free_starts.specs.FreeStarts.{freeNumber}
-use Rattle.free_starts.proofs.Refusing.{accepted-question}
+use Rattle.free_starts.proofs.FreeStartRefused.{accepted-question}
 use Rattle.free_starts.proofs.Answers.{askable, found, refused, answered}
 use Rattle.free_starts.proofs.free_start.free_start.Statement.{statement}
 use Rattle.free_starts.proofs.free_start.free_start.Tie as tie

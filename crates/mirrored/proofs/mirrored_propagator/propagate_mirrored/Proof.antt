@@ -10,7 +10,7 @@ use Rattle.records.proofs.Refused.{accepted-run}
 use Rattle.propagator.proofs.Handing.{handed}
 use Rattle.mirrored.specs.RanMirrored.{mirroredOf}
 use Rattle.mirrored.proofs.Endings.{ended, left-mirrored, right}
-use Rattle.mirrored.proofs.Passing.{passing}
+use Rattle.mirrored.proofs.ReasonsPass.{passing}
 use borrow.Author.Needs.{needs}
 use Rattle.mirrored.proofs.mirrored_propagator.propagate_mirrored.Statement.{statement}
 use Rattle.mirrored.proofs.mirrored_propagator.propagate_mirrored.Tie as tie

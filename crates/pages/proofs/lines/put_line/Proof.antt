@@ -11,7 +11,7 @@ use Rattle.integers.specs.Moments.{moment, zeroAt}
 use Rattle.integers.proofs.Ints.{back, back-of}
 use Rattle.text.proofs.Putting.{puts-length}
 use Rattle.pages.proofs.Padding.{puts-wide, task-fits, start-fits, end-fits, puts-line}
-use Rattle.fixed.proofs.Placing.{start-moment, end-instant}
+use Rattle.fixed_schedules.proofs.Placing.{start-moment, end-instant}
 use Rattle.pages.proofs.lines.put_line.Statement.{statement}
 use Rattle.pages.proofs.lines.put_line.Tie as tie
 

@@ -8,7 +8,7 @@ use borrow.Author.Needs.{needs}
 use mir.Syntax.{w32}
 use mir.Val.{toZ, ofZ}
 use Rattle.integers.proofs.Ints.{back-of}
-use Rattle.fixed.specs.FixedSchedules.{startAt}
+use Rattle.fixed_schedules.specs.FixedSchedules.{startAt}
 use Rattle.text.specs.Writing.{Puts}
 use Rattle.text.proofs.Putting.{puts-length, puts-append}
 use Rattle.pages.specs.Lines.{LINE}

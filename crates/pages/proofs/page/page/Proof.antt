@@ -3,9 +3,9 @@ use mathlib.Core.Path.{_≡_, refl, sym, _∙_}
 use native.Mathlib.Omega.{arith}
 use lib.ListN.{length}
 use borrow.Author.Needs.{needs}
-use Rattle.fixed.proofs.Accepting.{input-of, started, listed}
+use Rattle.fixed_schedules.proofs.Accepting.{input-of, started, listed}
 use Rattle.pages.specs.Pages.{pageNumber, Accepted}
-use Rattle.pages.proofs.Refusing.{accepted-page}
+use Rattle.pages.proofs.PageRefused.{accepted-page}
 use Rattle.pages.proofs.Paging.{refused, written}
 use Rattle.pages.proofs.page.page.Statement.{statement}
 use Rattle.pages.proofs.page.page.Tie as tie

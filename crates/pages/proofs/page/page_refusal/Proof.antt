@@ -2,9 +2,9 @@
 use mathlib.Core.Path.{_≡_, sym, _∙_}
 use native.Mathlib.Omega.{arith}
 use borrow.Author.Needs.{needs}
-use Rattle.fixed.specs.FixedSchedules.{fixedNumber}
-use Rattle.fixed.proofs.Refusing.{accepted-fixed}
-use Rattle.pages.proofs.Refusing.{schedule-first, no-room, room-enough}
+use Rattle.fixed_schedules.specs.FixedSchedules.{fixedNumber}
+use Rattle.fixed_schedules.proofs.FixedRefused.{accepted-fixed}
+use Rattle.pages.proofs.PageRefused.{schedule-first, no-room, room-enough}
 use Rattle.pages.proofs.page.page_refusal.Statement.{statement}
 use Rattle.pages.proofs.page.page_refusal.Tie as tie
 

@@ -10,7 +10,7 @@ use lib.Seq.{length-take-le, length-front, take-at}
 use borrow.Author.Needs.{needs}
 use Rattle.integers.specs.Limits.{TASKS}
 use Rattle.runs.specs.Traces.{Trace}
-use Rattle.plan_cli.specs.Holding.{Shown}
+use Rattle.plan_cli.specs.RunSlices.{Shown}
 use Rattle.plan_cli.specs.Printed.{ranOn}
 use Rattle.plan_cli.proofs.Leaving.{shows}
 use Rattle.plan_cli.proofs.answer.put_ran.Statement.{statement}

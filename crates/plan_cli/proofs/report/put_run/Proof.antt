@@ -7,7 +7,7 @@ use Rattle.integers.specs.Limits.{TASKS}
 use Rattle.runs.specs.Traces.{Trace}
 use Rattle.propagator.specs.declared.disjunctive_propagator.Outcome.{Outcome}
 use Rattle.plan_cli.specs.Lines.{doneLine, emptiedLine, refusedLine, answerLines}
-use Rattle.plan_cli.specs.Holding.{Shown}
+use Rattle.plan_cli.specs.RunSlices.{Shown}
 use native.Mathlib.Omega.{arith}
 use Rattle.text.proofs.Putting.{puts-append}
 use Rattle.plan_cli.proofs.Printing.{puts-as}

@@ -4,7 +4,7 @@ use mathlib.Core.Path.{refl, sym, ap, _∙_}
 use Rattle.integers.specs.Answers.{refusedBy}
 use Rattle.records.specs.Refusals.{AcceptedInput}
 use Rattle.records.proofs.Refused.{accepted-input}
-use Rattle.precedences.proofs.Passing.{went, turned-back}
+use Rattle.precedences.proofs.PassContract.{went, turned-back}
 use borrow.Author.Needs.{needs}
 use Rattle.precedences.proofs.pass.precedences.Statement.{statement}
 use Rattle.precedences.proofs.pass.precedences.Tie as tie

@@ -8,7 +8,7 @@ use Rattle.integers.specs.Filling.{filled}
 use Rattle.integers.proofs.Filling.{filled-none, filled-store}
 use Rattle.records.specs.Orders.{noTasks}
 use Rattle.trees.specs.Ects.{raisedTo}
-use Rattle.precedences.specs.Holding.{raisedAt, Ranged}
+use Rattle.precedences.specs.TaskArrays.{raisedAt, Ranged}
 use borrow.Author.Needs.{needs}
 use Rattle.precedences.proofs.pass.raised_starts.Statement.{statement}
 use Rattle.precedences.proofs.pass.raised_starts.Tie as tie

@@ -1,6 +1,6 @@
 -- `precedences::predecessors::bound_of` meets its contract.
 -- Assumes nothing.
-use Rattle.precedences.specs.Holding.{comesBefore}
+use Rattle.precedences.specs.TaskArrays.{comesBefore}
 use Rattle.precedences.proofs.Ranging.{end-fits, chosen}
 use Rattle.precedences.proofs.predecessors.bound_of.Statement.{statement}
 use Rattle.precedences.proofs.predecessors.bound_of.Tie as tie

@@ -8,7 +8,7 @@ use lib.ListN.{getD, replicate}
 use Rattle.integers.specs.Limits.{TASKS}
 use Rattle.integers.specs.Filling.{filled}
 use Rattle.integers.proofs.Filling.{filled-none, filled-store}
-use Rattle.precedences.specs.Holding.{precedesAt}
+use Rattle.precedences.specs.TaskArrays.{precedesAt}
 use borrow.Author.Needs.{needs}
 use Rattle.precedences.proofs.predecessors.predecessors.Statement.{statement}
 use Rattle.precedences.proofs.predecessors.predecessors.Tie as tie

@@ -3,8 +3,8 @@
 use mathlib.Core.Path.{_≡_}
 use lib.ListN.{length}
 use Rattle.integers.specs.Limits.{TASKS}
-use Rattle.precedences.specs.Holding.{Ranged}
-use Rattle.precedences.proofs.Passing.{ranged}
+use Rattle.precedences.specs.TaskArrays.{Ranged}
+use Rattle.precedences.proofs.PassContract.{ranged}
 use Rattle.precedences.proofs.Explaining.{gave}
 use borrow.Author.Needs.{needs}
 use Rattle.precedences.proofs.reasons.accepted_reason.Statement.{statement}

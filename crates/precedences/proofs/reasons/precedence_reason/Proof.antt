@@ -5,7 +5,7 @@ use lib.ListN.{length}
 use Rattle.integers.specs.Answers.{refusedBy}
 use Rattle.precedences.specs.Reasons.{reasonNumber}
 use Rattle.precedences.proofs.Explaining.{given, turned-back}
-use Rattle.precedences.proofs.Refusing.{accepted-reason}
+use Rattle.precedences.proofs.ReasonRefused.{accepted-reason}
 use borrow.Author.Needs.{needs}
 use Rattle.precedences.proofs.reasons.precedence_reason.Statement.{statement}
 use Rattle.precedences.proofs.reasons.precedence_reason.Tie as tie

@@ -11,7 +11,7 @@ use Rattle.records.specs.Records.{recordOf}
 use Rattle.records.specs.Refusals.{inputTests}
 use Rattle.records.proofs.Lawful.{lawful-is}
 use Rattle.records.proofs.Refused.{input-passed}
-use Rattle.precedences.proofs.Refusing.{no-task, no-room, all-right}
+use Rattle.precedences.proofs.ReasonRefused.{no-task, no-room, all-right}
 use borrow.Author.Needs.{needs}
 use Rattle.precedences.proofs.reasons.reason_refusal.Statement.{statement}
 use Rattle.precedences.proofs.reasons.reason_refusal.Tie as tie

@@ -6,7 +6,7 @@ use native.Mathlib.Omega.{arith}
 use lib.ListN.{length}
 use Rattle.explanations.specs.Explanations.{Stored}
 use Rattle.explanations.proofs.Storing.{stored-then, stored-length}
-use Rattle.precedences.specs.Holding.{startAt, memberAt}
+use Rattle.precedences.specs.TaskArrays.{startAt, memberAt}
 use Rattle.precedences.specs.Reasons.{bothBounds}
 use Rattle.precedences.proofs.Explaining.{none-yet}
 use Rattle.precedences.proofs.Members.{both-more, part, two-of}

@@ -11,7 +11,7 @@ use Rattle.records.proofs.Refused.{accepted-run}
 use Rattle.propagator.specs.Ran.{traceOf}
 use Rattle.propagator.proofs.Beginning.{runnable, right}
 use Rattle.propagator.proofs.Many.{turned-back}
-use Rattle.propagator.proofs.Passing.{passing}
+use Rattle.propagator.proofs.ReasonsPass.{passing}
 use Rattle.propagator.proofs.Handing.{handed}
 use Rattle.propagator.proofs.disjunctive_propagator.propagate.Statement.{statement}
 use Rattle.propagator.proofs.disjunctive_propagator.propagate.Tie as tie

@@ -4,7 +4,7 @@ use mathlib.Core.Bool.{Bool, true}
 use Prim.Native.Nat.{ℕ, _+_, min, max}
 use borrow.Author.Needs.{needs}
 use borrow.Author.Tests.{not-true, not-false}
-use Rattle.checker.specs.Holding.{interval, gathered}
+use Rattle.checker.specs.CheckArrays.{interval, gathered}
 use Rattle.checker.proofs.intervals.Interval.with.Statement.{statement}
 use Rattle.checker.proofs.intervals.Interval.with.Tie as tie
 

@@ -43,11 +43,11 @@ use Rattle.integers.specs.Limits.{TASKS}
 use Rattle.records.specs.declared.record.Propagator.{Propagator}
 use Rattle.records.proofs.record.Propagator as P
 use Rattle.records.proofs.record.Propagator.Laws as P′
-use Rattle.stretches.specs.declared.answer.Busiest.{Busiest}
-use Rattle.stretches.specs.Stretches.{Answered}
-use Rattle.stretches.proofs.Answers.{too-many}
-use Rattle.stretches.proofs.answer.Busiest as O
-use Rattle.stretches.proofs.answer.Busiest.Laws as O′
+use Rattle.busiest_stretch.specs.declared.answer.Busiest.{Busiest}
+use Rattle.busiest_stretch.specs.Stretches.{Answered}
+use Rattle.busiest_stretch.proofs.Answers.{too-many}
+use Rattle.busiest_stretch.proofs.answer.Busiest as O
+use Rattle.busiest_stretch.proofs.answer.Busiest.Laws as O′
 use Rattle.disjunctive.specs.Ranges.{earliests, latests}
 use Rattle.disjunctive.specs.declared.ranges.Range.{Range}
 use Rattle.disjunctive.specs.declared.ranges.Starts.{Starts}

@@ -1,0 +1,152 @@
+-- From moments to whole numbers: the busiest stretch of a fixed schedule, and the call's answer.
+-- Assumes nothing.
+use mathlib.Core.Path.{_≡_, refl, sym, ap, subst, _∙_}
+use mathlib.Core.Logic.{⊎-elim}
+use mathlib.Core.List.{List, []}
+use Prim.Native.Nat.{ℕ, _+_, _-_, _≤_, _<_, min, max}
+use native.Mathlib.Omega.{arith}
+use lib.IntN.{ℤ, pos, negsuc, _+ℤ_, _-ℤ_}
+use lib.ListN.{length, getD, take}
+use Rattle.integers.specs.Answers.{refusedBy}
+use Rattle.integers.specs.Limits.{TASKS}
+use Rattle.integers.specs.Filling.{filled}
+use Rattle.integers.specs.Moments.{moment, instant, zeroAt, Above}
+use Rattle.integers.specs.Orders.{index, Ordered}
+use Rattle.integers.proofs.Ints.{ints, up, dn, subℤ, minℤ-is, maxℤ-is}
+use Rattle.integers.specs.Extremes.{minℤ, maxℤ}
+use Rattle.integers.proofs.Moments.{mono, reflect, mono<, plus, plus-above, above-up, at-moment, instant-above, moment-instant}
+use Rattle.scheduling.specs.Scheduling.{whole, natural, Tasks, total}
+use Rattle.scheduling.proofs.Sets.{total-ext}
+use Rattle.records.specs.declared.record.Propagator.{Propagator}
+use Rattle.records.specs.Records.{durationOf}
+use Rattle.records.specs.Orders.{noTasks, momentAt}
+use Rattle.fixed_schedules.specs.FixedSchedules.{orderOf, tasksOn, AcceptedFixed}
+use Rattle.fixed_schedules.specs.Neighbours.{inMoments}
+use Rattle.fixed_schedules.specs.Asked.{LengthFits}
+use Rattle.fixed_schedules.proofs.Accepting.{Told, input-of, told, by-moments, moment-low, moment-high}
+use Rattle.busiest_stretch.specs.declared.answer.Busiest.{Busiest}
+use Rattle.busiest_stretch.specs.declared.answer.Busiest.the-variants.{Stretch, Refused}
+use Rattle.busiest_stretch.specs.Numbers.{busiestNumbers}
+use Rattle.busiest_stretch.specs.Stretches.{common, covered, Counts, BusiestAt, stretchNumber, Found, Answered}
+use Rattle.busiest_stretch.specs.StretchMoments.{commonIn, commonAt, coveredIn, Slidable, Run, BusiestMoment}
+use Rattle.busiest_stretch.proofs.StretchRefused.{stretch-many}
+
+-- a difference that is not negative, or 0
+positive : (z : ℤ) (p q : ℕ) → up z + q ≡ p + dn z → durationOf z ≡ p - q
+unfolding up dn
+positive (pos n) p q e = omega arith
+positive (negsuc n) p q e = omega arith
+
+common-same : (o : ℕ) (a b x y : ℤ) → Above o a → Above o b → Above o x → Above o y → common a b x y ≡ commonIn (moment o a) (moment o b) (moment o x) (moment o y)
+unfolding commonIn
+common-same o a b x y p q r s = positive (minℤ b y -ℤ maxℤ a x) (min (moment o b) (moment o y)) (max (moment o a) (moment o x)) sums
+  where
+    earlier : up (minℤ b y) + o ≡ min (moment o b) (moment o y) + dn (minℤ b y)
+    earlier = ⊎-elim (λ h. omega (ints, h .0, h .1, at-moment o b q, at-moment o y s)) (λ h. omega (ints, h .0, h .1, at-moment o b q, at-moment o y s)) (minℤ-is b y)
+
+    later : up (maxℤ a x) + o ≡ max (moment o a) (moment o x) + dn (maxℤ a x)
+    later = ⊎-elim (λ h. omega (ints, h .0, h .1, at-moment o a p, at-moment o x r)) (λ h. omega (ints, h .0, h .1, at-moment o a p, at-moment o x r)) (maxℤ-is a x)
+
+    sums : up (minℤ b y -ℤ maxℤ a x) + max (moment o a) (moment o x) ≡ min (moment o b) (moment o y) + dn (minℤ b y -ℤ maxℤ a x)
+    sums = omega (arith, earlier, later, subℤ (minℤ b y) (maxℤ a x))
+
+-- ---- the tasks J of whole numbers, and M of their moments
+module _ (o : ℕ) (J : Tasks whole) (M : Tasks natural) (told : Told o J M) where
+  covered-same : (w : ℕ) (x : ℤ) → Above o x → covered J w x ≡ coveredIn M w (moment o x)
+  covered-same w x p =
+      total-ext (λ k. common (J .earliest k) (J .earliest k +ℤ pos (J .duration k)) x (x +ℤ pos w)) (commonAt M w (moment o x)) (J .count) each
+      ∙ ap (total (commonAt M w (moment o x))) (sym (told .count))
+    where
+      each : (k : ℕ) → k < J .count → common (J .earliest k) (J .earliest k +ℤ pos (J .duration k)) x (x +ℤ pos w) ≡ commonAt M w (moment o x) k
+      each k q =
+          let a = J .earliest k in
+          let d = J .duration k in
+          common-same o a (a +ℤ pos d) x (x +ℤ pos w) (told .above k q) (plus-above o a d (told .above k q)) p (plus-above o x w p)
+          ∙ ap (λ (e : ℕ). commonIn (moment o a) e (moment o x) (moment o (x +ℤ pos w))) (plus o a d (told .above k q))
+          ∙ ap (commonIn (moment o a) (moment o a + d) (moment o x)) (plus o x w p)
+          ∙ ap (λ (s : ℕ). commonIn s (s + d) (moment o x) (moment o x + w)) (sym (told .start k q))
+          ∙ ap (λ (n : ℕ). commonIn (M .earliest k) (M .earliest k + n) (moment o x) (moment o x + w)) (sym (told .lasts k q))
+
+  -- what is busiest in moments is so in whole numbers
+  module _ (first last : ℕ) (least : (k : ℕ) → k < J .count → first ≤ M .earliest k) (greatest : (k : ℕ) → k < J .count → M .earliest k ≤ last)
+      (starts-first : (k : ℕ) × (k < J .count) × (M .earliest k ≡ first)) (starts-last : (k : ℕ) × (k < J .count) × (M .earliest k ≡ last)) where
+    counts-above : (u : ℤ) → Counts J u → Above o u
+    counts-above u h = let (k, q, l) = h .from in above-up o (J .earliest k) u l (told .above k q)
+
+    counts-from : (u : ℤ) → Counts J u → first ≤ moment o u
+    counts-from u h = let (k, q, l) = h .from in omega (arith, least k q, told .start k q, mono o (J .earliest k) u l)
+
+    counts-to : (u : ℤ) → Counts J u → moment o u ≤ last
+    counts-to u h = let (k, q, l) = h .to in omega (arith, greatest k q, told .start k q, mono o u (J .earliest k) l)
+
+    counts-up : (m : ℕ) → first ≤ m → m ≤ last → Counts J (instant o m)
+    counts-up m l h = record {
+      from = (let (k, q, e) = starts-first in (k, q, reflect o (J .earliest k) (instant o m) (told .above k q) (instant-above o m) (omega (arith, e, told .start k q, moment-instant o m))));
+      to = (let (k, q, e) = starts-last in (k, q, reflect o (instant o m) (J .earliest k) (instant-above o m) (told .above k q) (omega (arith, e, told .start k q, moment-instant o m))));
+    }
+
+    busiest-up : (w c m : ℕ) → BusiestMoment M w first last c m → BusiestAt J w c (instant o m)
+    busiest-up w c m b = record {
+      counts = counts-up m (b .held .from) (b .held .to);
+      covers = covered-same w (instant o m) (instant-above o m) ∙ ap (coveredIn M w) (moment-instant o m) ∙ b .held .covers;
+      most = λ u h. ⊎-elim (λ l. omega (arith, l, covered-same w u (counts-above u h))) (λ l. omega (arith, l .0, covered-same w u (counts-above u h))) (b .most (moment o u) (counts-from u h) (counts-to u h));
+      least = λ u h q.
+          (let f = mono< o u (instant o m) (counts-above u h) (instant-above o m) q in
+          ⊎-elim (λ l. omega (arith, l, covered-same w u (counts-above u h))) (λ l. absurd (omega (arith, l .1, f, moment-instant o m))) (b .most (moment o u) (counts-from u h) (counts-to u h)));
+    }
+
+-- the first and the last of an order by start
+pub run-of : (n : ℕ) (order starts : List ℕ) (place : ℕ → ℕ) → Ordered n (λ t. getD order t 0) place (λ j k. getD starts j 0 ≤ getD starts k 0) → 1 ≤ n
+    → Run n starts (getD starts (getD order 0 0) 0) (getD starts (getD order (n - 1) 0) 0)
+run-of n order starts place o h = record {
+  least = λ k q. rw (o .there k q) at (o .sorted 0 (place k) (omega arith) (o .placed k q));
+  greatest = λ k q. rw (o .there k q) at (o .sorted (place k) (n - 1) (omega (arith, o .placed k q)) (omega arith));
+  starts-first = (getD order 0 0, o .task 0 (omega arith), refl);
+  starts-last = (getD order (n - 1) 0, o .task (n - 1) (omega arith), refl);
+}
+
+-- ---- an accepted question
+module _ (r : Propagator) (es ls : List ℤ) (w : ℤ) (a : AcceptedFixed r es ls) (q : LengthFits w) (starts : List ℕ) (s : starts ≡ filled (momentAt es) (length es) noTasks)
+    (length′ : ℕ) (p : pos length′ ≡ w) (order : List ℕ) (e : take (length es) order ≡ orderOf es) where
+  by-start : Ordered (r .count) (λ t. getD order t 0) (index (orderOf es)) (λ j k. getD starts j 0 ≤ getD starts k 0)
+  by-start = by-moments r es ls (input-of a) starts s order e
+
+  -- the places of the order hold tasks
+  pub task-small : (t : ℕ) → t < r .count → getD order t 0 < r .count
+  task-small t l = by-start .task t l
+
+  pub slidable : Slidable (r .count) starts (r .durations) length′
+  unfolding up dn
+  slidable = record {
+    few = a .lawful .few;
+    low = λ k l. omega (arith, moment-low r es ls (input-of a) starts s k l);
+    high = moment-high r es ls (input-of a) starts s;
+    sum = a .lawful .sum;
+    length = omega (ints, q .high);
+  }
+
+  pub runs : Run (r .count) starts (getD starts (getD order 0 0) 0) (getD starts (getD order (r .count - 1) 0) 0)
+  runs = run-of (r .count) order starts (index (orderOf es)) by-start (a .lawful .some)
+
+  pub found : (c m : ℕ) → BusiestMoment (inMoments (r .count) starts (r .durations)) length′ (getD starts (getD order 0 0) 0) (getD starts (getD order (r .count - 1) 0) 0) c m
+      → (x : ℤ) → x ≡ instant zeroAt m → Found r es ls w (Stretch c x)
+  found c m b x z = record {
+    time = c;
+    start = instant zeroAt m;
+    answer = ap (λ (s : ℤ). busiestNumbers (Stretch c s)) z;
+    busiest = subst (λ (n : ℕ). BusiestAt (tasksOn r es ls) n c (instant zeroAt m)) (ap durationOf p) (busiest-up zeroAt (tasksOn r es ls) (inMoments (r .count) starts (r .durations)) (told r es ls (input-of a) starts s) (getD starts (getD order 0 0) 0) (getD starts (getD order (r .count - 1) 0) 0) (runs .least) (runs .greatest) (runs .starts-first) (runs .starts-last) length′ c m b);
+  }
+
+-- ---- the call
+module _ (r : Propagator) (es ls : List ℤ) (w : ℤ) where
+  pub refused : (m : ℕ) → m ≡ stretchNumber r es ls w → (m ≡ 0 → ⊥) → Answered r es ls w (Refused m)
+  refused m e not = record { refused = λ _. ap refusedBy e; found = λ z. absurd (not (e ∙ z)) }
+
+  pub answered : (x : Busiest) → stretchNumber r es ls w ≡ 0 → Found r es ls w x → Answered r es ls w x
+  answered x z f = record { refused = λ not. absurd (not z); found = λ _. f }
+
+-- too many ranges are turned back as none are
+pub too-many : (r : Propagator) (es ls : List ℤ) (w : ℤ) (x : Busiest) → TASKS < length es → Answered r [] [] w x → Answered r es ls w x
+too-many r es ls w x many a =
+    let (same, not) = stretch-many r es ls w many in
+    record { refused = λ _. a .refused (λ z. not (sym same ∙ z)) ∙ ap refusedBy same; found = λ z. absurd (not z) }

@@ -1,0 +1,38 @@
+-- The definition with the two ends named: where they cross, the difference of natural numbers is 0.
+use mathlib.Core.Path.{_≡_}
+use Prim.Native.Nat.{ℕ, _-_, _≤_, min, max}
+use native.Mathlib.Omega.{arith}
+use borrow.Author.Needs.{needs}
+use Rattle.busiest_stretch.specs.StretchMoments.{commonIn}
+use Rattle.busiest_stretch.proofs.covering.common.Statement.{statement}
+use Rattle.busiest_stretch.proofs.covering.common.Tie as tie
+
+none : (a b x y from to : ℕ) → from ≡ max a x → to ≡ min b y → to ≤ from → 0 ≡ commonIn a b x y
+unfolding commonIn
+none a b x y from to e f h = rw (← e, ← f) (omega arith)
+
+some : (a b x y from to : ℕ) → from ≡ max a x → to ≡ min b y → to - from ≡ commonIn a b x y
+unfolding commonIn
+some a b x y from to e f = rw (← e, ← f)
+
+max-requires : tie.Need-max-requires
+max-requires c κs = search needs
+
+min-requires : tie.Need-min-requires
+min-requires c κs = search needs
+
+returns : tie.Need-returns
+returns c =
+    let a = c .before .before .before .args in
+    none (a .a) (a .b) (a .x) (a .y) _ _ (c .before .before .max .ensures) (c .before .min .ensures) (c .if1 .taken)
+
+sub-result : tie.Need-sub-result
+sub-result c = search needs
+
+returns-2 : tie.Need-returns-2
+returns-2 c =
+    let a = c .before .before .before .args in
+    some (a .a) (a .b) (a .x) (a .y) _ _ (c .before .before .max .ensures) (c .before .min .ensures)
+
+pub common-spec : {M : Type 1} → statement M
+common-spec = tie.close (tie.spec max-requires min-requires returns sub-result returns-2)

@@ -1,0 +1,100 @@
+-- The invariant: `sum` is what the first k tasks have in common with the stretch; being apart, they cover no more than w.
+use mathlib.Core.Path.{_≡_, sym, ap, _∙_}
+use Prim.Native.Nat.{_-_, _≤_}
+use native.Mathlib.Omega.{arith}
+use lib.ListN.{getD}
+use borrow.Author.Needs.{needs}
+use Rattle.scheduling.specs.Scheduling.{total}
+use Rattle.scheduling.proofs.Sets.{total-none, total-more, total-part}
+use Rattle.fixed_schedules.specs.Neighbours.{inMoments}
+use Rattle.busiest_stretch.specs.StretchMoments.{commonAt}
+use Rattle.busiest_stretch.proofs.Sliding.{covered-short}
+use Rattle.busiest_stretch.proofs.covering.covered.Statement.{statement}
+use Rattle.busiest_stretch.proofs.covering.covered.Tie as tie
+
+abbrev Inv-loop : tie.InvT-loop
+Inv-loop starts durations n w x sum₀ k₀ sum k = (k ≤ n) × (sum ≡ total (commonAt (inMoments n starts durations) w x) k)
+
+abbrev μ-loop : tie.MeasureT-loop
+μ-loop starts durations n w x sum₀ k₀ sum k = n - k
+
+loop-holds : tie.Need-loop-holds Inv-loop μ-loop
+loop-holds c = (omega arith, sym (total-none (commonAt (inMoments (c .args .n) (c .args .starts .now) (c .args .durations .now)) (c .args .w) (c .args .x))))
+
+mul-end : tie.Need-mul-end Inv-loop μ-loop
+mul-end c = search needs
+
+element-copy-out-end : tie.Need-element-copy-out-end Inv-loop μ-loop
+element-copy-out-end c = search needs
+
+mul-end-2 : tie.Need-mul-end-2 Inv-loop μ-loop
+mul-end-2 c = search needs
+
+element-copy-out-end-2 : tie.Need-element-copy-out-end-2 Inv-loop μ-loop
+element-copy-out-end-2 c = search needs
+
+add-end : tie.Need-add-end Inv-loop μ-loop
+add-end c =
+    let s = c .before .before .before .before in
+    let k = c .before .before .before .loop .k in
+    let q = c .before .before .loop-test .taken in
+    record { fits = omega (arith, s .pre .0 .high k q, total-part (λ j. getD (s .args .durations .now) j 0) (s .args .n) k q, s .pre .0 .sum) }
+
+mul-common : tie.Need-mul-common Inv-loop μ-loop
+mul-common c = search needs
+
+element-copy-out-common : tie.Need-element-copy-out-common Inv-loop μ-loop
+element-copy-out-common c = search needs
+
+add-common : tie.Need-add-common Inv-loop μ-loop
+add-common c = search needs
+
+common-requires : tie.Need-common-requires Inv-loop μ-loop
+common-requires c κs = search needs
+
+add-sum : tie.Need-add-sum Inv-loop μ-loop
+add-sum c =
+    let s = c .before .before .before .before .before .before in
+    let l = c .before .before .before .before .before .loop in
+    record { fits = omega (arith, l .inv .1, c .common .ensures, covered-short (inMoments (s .args .n) (s .args .starts .now) (s .args .durations .now)) (s .args .w) (s .args .x) (l .k) (c .before .before .before .before .loop-test .taken), s .pre .0 .sum) }
+
+add-k : tie.Need-add-k Inv-loop μ-loop
+add-k c = search needs
+
+loop-less : tie.Need-loop-less Inv-loop μ-loop
+loop-less c = search needs
+
+loop-again : tie.Need-loop-again Inv-loop μ-loop
+loop-again c =
+    let s = c .before .before .before .before .before .before in
+    let l = c .before .before .before .before .before .loop in
+    (omega (arith, c .before .before .before .before .loop-test .taken), omega (arith, l .inv .1, c .common .ensures, total-more (commonAt (inMoments (s .args .n) (s .args .starts .now) (s .args .durations .now)) (s .args .w) (s .args .x)) (l .k)))
+
+returns : tie.Need-returns Inv-loop μ-loop
+returns c =
+    let s = c .before .before in
+    let l = c .before .loop in
+    let e : l .k ≡ s .args .n = omega (arith, l .inv .0, c .loop-test .left) in
+    l .inv .1 ∙ ap (total (commonAt (inMoments (s .args .n) (s .args .starts .now) (s .args .durations .now)) (s .args .w) (s .args .x))) e
+
+pub covered-spec : {M : Type 1} → statement M
+covered-spec =
+    tie.close
+    (tie.spec
+    Inv-loop
+    μ-loop
+    loop-holds
+    mul-end
+    element-copy-out-end
+    mul-end-2
+    element-copy-out-end-2
+    add-end
+    mul-common
+    element-copy-out-common
+    add-common
+    common-requires
+    add-sum
+    add-k
+    loop-less
+    loop-again
+    returns)

@@ -1,0 +1,99 @@
+-- The invariant `Best`: no stretch that starts or ends with one of the first k tasks is better than the best so far.
+use mathlib.Core.Path.{_≡_, sym}
+use Prim.Native.Nat.{_-_, _≤_}
+use native.Mathlib.Omega.{arith}
+use lib.ListN.{getD}
+use borrow.Author.Needs.{needs}
+use Rattle.scheduling.proofs.Sets.{total-part}
+use Rattle.fixed_schedules.specs.Neighbours.{inMoments}
+use Rattle.busiest_stretch.proofs.Trying.{Best, none-yet, one-more, best-of-all}
+use Rattle.busiest_stretch.proofs.stretch.busiest.Statement.{statement}
+use Rattle.busiest_stretch.proofs.stretch.busiest.Tie as tie
+
+abbrev Inv-loop : tie.InvT-loop
+Inv-loop starts durations n w first last best₀ k₀ best k = (k ≤ n) × Best (inMoments n starts durations) w first last k (best .covered) (best .start)
+
+abbrev μ-loop : tie.MeasureT-loop
+μ-loop starts durations n w first last best₀ k₀ best k = n - k
+
+covered-requires : tie.Need-covered-requires Inv-loop μ-loop
+covered-requires c κs =
+    let (k, q, e) = c .pre .1 .starts-first in
+    (c .pre .0, omega (arith, e, c .pre .0 .high k q))
+
+loop-holds : tie.Need-loop-holds Inv-loop μ-loop
+loop-holds c =
+    let s = c .before in
+    let (k, q, e) = s .pre .1 .starts-first in
+    (omega arith, none-yet (inMoments (s .args .n) (s .args .starts .now) (s .args .durations .now)) (s .args .w) (s .args .first) (s .args .last) (c .covered .result) (s .args .first) (record { from = omega arith; to = omega (arith, e, s .pre .1 .greatest k q); covers = sym (c .covered .ensures) }))
+
+mul-start : tie.Need-mul-start Inv-loop μ-loop
+mul-start c = search needs
+
+element-copy-out-start : tie.Need-element-copy-out-start Inv-loop μ-loop
+element-copy-out-start c = search needs
+
+better-requires : tie.Need-better-requires Inv-loop μ-loop
+better-requires c κs = search needs
+
+mul-back : tie.Need-mul-back Inv-loop μ-loop
+mul-back c = search needs
+
+element-copy-out-back : tie.Need-element-copy-out-back Inv-loop μ-loop
+element-copy-out-back c = search needs
+
+add-back : tie.Need-add-back Inv-loop μ-loop
+add-back c =
+    let s = c .before .before .before .before .before .before in
+    let k = c .before .before .before .before .loop .k in
+    let q = c .before .before .before .loop-test .taken in
+    record { fits = omega (arith, s .pre .0 .high k q, total-part (λ j. getD (s .args .durations .now) j 0) (s .args .n) k q, s .pre .0 .sum) }
+
+sub-back : tie.Need-sub-back Inv-loop μ-loop
+sub-back c =
+    let s = c .before .before .before .before .before .before in
+    omega (arith, s .pre .0 .low (c .before .before .before .before .loop .k) (c .before .before .before .loop-test .taken), s .pre .0 .length)
+
+better-requires-2 : tie.Need-better-requires-2 Inv-loop μ-loop
+better-requires-2 c κs = search needs
+
+add-k : tie.Need-add-k Inv-loop μ-loop
+add-k c = search needs
+
+loop-less : tie.Need-loop-less Inv-loop μ-loop
+loop-less c = search needs
+
+loop-again : tie.Need-loop-again Inv-loop μ-loop
+loop-again c =
+    let s = c .before .before .before .before .before .before .before in
+    let k = c .before .before .before .before .before .loop .k in
+    let q = c .before .before .before .before .loop-test .taken in
+    (omega (arith, q), one-more (inMoments (s .args .n) (s .args .starts .now) (s .args .durations .now)) (s .args .w) (s .args .first) (s .args .last) _ (c .before .before .before .before .before .loop .inv .1) (c .before .before .better .ensures) (omega (arith, s .pre .0 .low k q, s .pre .0 .length)) (c .better2 .ensures))
+
+returns : tie.Need-returns Inv-loop μ-loop
+returns c =
+    let s = c .before .before .before in
+    let l = c .before .loop in
+    let e : l .k ≡ s .args .n = omega (arith, l .inv .0, c .loop-test .left) in
+    best-of-all (inMoments (s .args .n) (s .args .starts .now) (s .args .durations .now)) (s .args .w) (s .args .first) (s .args .last) (l .best .covered) (l .best .start) (rw e at (l .inv .1)) (s .pre .1 .starts-first) (s .pre .1 .starts-last)
+
+pub busiest-spec : {M : Type 1} → statement M
+busiest-spec =
+    tie.close
+    (tie.spec
+    Inv-loop
+    μ-loop
+    covered-requires
+    loop-holds
+    mul-start
+    element-copy-out-start
+    better-requires
+    mul-back
+    element-copy-out-back
+    add-back
+    sub-back
+    better-requires-2
+    add-k
+    loop-less
+    loop-again
+    returns)

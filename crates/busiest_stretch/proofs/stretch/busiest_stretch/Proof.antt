@@ -1,0 +1,126 @@
+-- The search runs in moments: the first and the last start are those of the order's ends, and its answer is carried back to whole numbers.
+use mathlib.Core.Path.{_≡_, sym, ap, _∙_}
+use Prim.Native.Nat.{ℕ, _-_, _<_}
+use native.Mathlib.Omega.{arith}
+use lib.IntN.{pos}
+use lib.ListN.{getD}
+use borrow.Author.Needs.{needs}
+use mir.Syntax.{w32}
+use Rattle.integers.proofs.Ints.{ints, up, dn, back, back-of}
+use Rattle.fixed_schedules.specs.FixedSchedules.{AcceptedFixed}
+use Rattle.fixed_schedules.specs.Asked.{LengthFits}
+use Rattle.fixed_schedules.proofs.Accepting.{input-of, started}
+use Rattle.busiest_stretch.specs.Stretches.{stretchNumber}
+use Rattle.busiest_stretch.proofs.StretchRefused.{accepted-question}
+use Rattle.busiest_stretch.proofs.Answers.{task-small, slidable, runs, found, refused, answered}
+use Rattle.busiest_stretch.proofs.stretch.busiest_stretch.Statement.{statement}
+use Rattle.busiest_stretch.proofs.stretch.busiest_stretch.Tie as tie
+
+-- the number that turns the question back
+said : (c : tie.After-stretch-refusal) → let a = c .before .args in c .stretch-refusal .result ≡ stretchNumber (a .t1) (a .earliest .now) (a .latest .now) (a .w)
+said c =
+    let s = c .before in
+    let a = s .args in
+    c .stretch-refusal .ensures ∙ ap (stretchNumber (a .t1) (a .earliest .now) (a .latest .now)) (back (s .fits .w))
+
+-- no test failed
+number : (c : tie.Else1) → let a = c .before .before .args in stretchNumber (a .t1) (a .earliest .now) (a .latest .now) (a .w) ≡ 0
+number c = sym (said (c .before)) ∙ c .if1 .left
+
+held : (c : tie.Else1) → let a = c .before .before .args in AcceptedFixed (a .t1) (a .earliest .now) (a .latest .now) × LengthFits (a .w)
+held c = let a = c .before .before .args in accepted-question (a .t1) (a .earliest .now) (a .latest .now) (a .w) .0 (number c)
+
+-- the length, and the order's places
+lasting : (c : tie.After-nat-of) → pos (c .nat-of .result) ≡ c .before .before .before .before .before .before .args .w
+lasting c = c .nat-of .ensures ∙ back (c .before .before .before .before .before .before .fits .w)
+
+some : (c : tie.After-nat-of) → 0 < c .before .before .before .before .before .before .args .t1 .count
+some c = held (c .before .before .before .before) .0 .lawful .some
+
+few : (c : tie.After-nat-of) (k : ℕ) → k < c .before .before .before .before .before .before .args .t1 .count → k < 48
+few c k q = omega (arith, held (c .before .before .before .before) .0 .lawful .few)
+
+placed : (c : tie.After-nat-of) (t : ℕ) → t < c .before .before .before .before .before .before .args .t1 .count → getD (c .before .before .before .order-of .result) t 0 < 48
+placed c t q =
+    let a = c .before .before .before .before .before .before .args in
+    let h = held (c .before .before .before .before) in
+    few c _ (task-small (a .t1) (a .earliest .now) (a .latest .now) (a .w) (h .0) (h .1) _ (c .before .moments-of .ensures) _ (lasting c) _ (c .before .before .before .order-of .ensures) t q)
+
+stretch-refusal-requires : tie.Need-stretch-refusal-requires
+stretch-refusal-requires c κs = search needs
+
+returns : tie.Need-returns
+returns c = let a = c .before .before .args in refused (a .t1) (a .earliest .now) (a .latest .now) (a .w) _ (said (c .before)) (c .if1 .taken)
+
+order-of-requires : tie.Need-order-of-requires
+order-of-requires c κs = let a = c .before .before .args in started (a .t1) (a .earliest .now) (a .latest .now) (input-of (held c .0))
+
+moments-of-requires : tie.Need-moments-of-requires
+moments-of-requires c κs = let h = held (c .before .before) .0 in omega (arith, h .counts .earliest, h .lawful .few)
+
+nat-of-requires : tie.Need-nat-of-requires
+unfolding up dn
+nat-of-requires c κs = omega (ints, back (c .before .before .before .before .before .fits .w), held (c .before .before .before) .1 .low)
+
+array-read-first : tie.Need-array-read-first
+array-read-first c = search needs
+
+mul-first : tie.Need-mul-first
+mul-first c = record { fits = omega (arith, placed c 0 (some c)) }
+
+array-read-first-2 : tie.Need-array-read-first-2
+array-read-first-2 c = placed c 0 (some c)
+
+sub-last : tie.Need-sub-last
+sub-last c = some c
+
+mul-last : tie.Need-mul-last
+mul-last c = record { fits = omega (arith, few c (c .before .before .before .before .before .before .args .t1 .count - 1) (omega (arith, some c))) }
+
+array-read-last : tie.Need-array-read-last
+array-read-last c = few c (c .before .before .before .before .before .before .args .t1 .count - 1) (omega (arith, some c))
+
+mul-last-2 : tie.Need-mul-last-2
+mul-last-2 c = record { fits = omega (arith, placed c (c .before .before .before .before .before .before .args .t1 .count - 1) (omega (arith, some c))) }
+
+array-read-last-2 : tie.Need-array-read-last-2
+array-read-last-2 c = placed c (c .before .before .before .before .before .before .args .t1 .count - 1) (omega (arith, some c))
+
+busiest-requires : tie.Need-busiest-requires
+busiest-requires c κs =
+    let a = c .before .before .before .before .before .before .before .before .before .args in
+    let h = held (c .before .before .before .before .before .before .before) in
+    (slidable (a .t1) (a .earliest .now) (a .latest .now) (a .w) (h .0) (h .1) _ (c .before .before .before .before .moments-of .ensures) _ (lasting (c .before .before .before)) _ (c .before .before .before .before .before .before .order-of .ensures), runs (a .t1) (a .earliest .now) (a .latest .now) (a .w) (h .0) (h .1) _ (c .before .before .before .before .moments-of .ensures) _ (lasting (c .before .before .before)) _ (c .before .before .before .before .before .before .order-of .ensures))
+
+start-of-requires : tie.Need-start-of-requires
+start-of-requires c κs = search needs
+
+returns-2 : tie.Need-returns-2
+returns-2 c =
+    let at = c .before .before .before .before .before .before .before .before in
+    let s = at .before in
+    let a = c .before .before .before .before .before .before .before .before .before .before .before .args in
+    let h = held s in
+    let best = c .before .busiest in
+    answered (a .t1) (a .earliest .now) (a .latest .now) (a .w) _ (number s) (found (a .t1) (a .earliest .now) (a .latest .now) (a .w) (h .0) (h .1) _ (c .before .before .before .before .before .before .moments-of .ensures) _ (lasting (c .before .before .before .before .before)) _ (at .order-of .ensures) (best .result .covered) (best .result .start) (best .ensures) _ (back-of w32 (c .start-of .result) (c .start-of .ok) ∙ c .start-of .ensures))
+
+pub busiest-stretch-spec : {M : Type 1} → statement M
+busiest-stretch-spec =
+    tie.close
+    (tie.spec
+    stretch-refusal-requires
+    returns
+    order-of-requires
+    moments-of-requires
+    nat-of-requires
+    array-read-first
+    mul-first
+    array-read-first-2
+    sub-last
+    mul-last
+    array-read-last
+    mul-last-2
+    array-read-last-2
+    busiest-requires
+    start-of-requires
+    returns-2)

@@ -1,0 +1,4 @@
+pub mod Numbers
+pub mod Stretches
+pub mod StretchMoments
+pub mod Examples

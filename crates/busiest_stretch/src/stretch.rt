@@ -1,0 +1,116 @@
+// The stretch of a given length that tasks cover most. Covered time stops rising only where a task starts at the stretch's start or ends at its end, so the
+// least start that reaches the most is a task's start, or one from which the stretch ends with a task.
+use crate::answer::Busiest;
+use crate::covering::covered;
+use fixed_schedules::asked::length_fits;
+use fixed_schedules::order::order_of;
+use fixed_schedules::refusals::fixed_refusal;
+use integers::nat_of;
+use integers::start_of;
+use records::orders::moments_of;
+use records::record::Propagator;
+ghost use mathlib.Core.Path.{_≡_};
+ghost use Rattle.fixed_schedules.specs.Neighbours.{inMoments};
+ghost use Rattle.busiest_stretch.specs.Stretches.{stretchNumber, Answered};
+ghost use Rattle.busiest_stretch.specs.StretchMoments.{Slidable, Run, Held, Tried, BusiestMoment};
+
+// A stretch by the moment of its start, and the time of it that tasks cover.
+pub struct Stretch {
+    pub covered: u32,
+    pub start: u32,
+}
+
+// The number that turns a question back, or 0: 20, 10, 3, 4, 14, 23.
+fn stretch_refusal(record: Propagator, earliest: &[i32], latest: &[i32], w: i32) -> u32
+    ensures { λ r. ⌜ r ≡ stretchNumber «record» (now (earliest .entry)) (now (latest .entry)) w ⌝ }
+{
+    let number = fixed_refusal(record, earliest, latest);
+    if number != 0 {
+        return number;
+    }
+    if !length_fits(w) {
+        return 23;
+    }
+    0
+}
+
+// The better of the best stretch so far and the one from x on, where that start counts: more is covered, or as much from an earlier start.
+fn better<'a>(
+    starts: &'a [u32; 48],
+    durations: &'a [u32; 48],
+    n: usize,
+    w: u32,
+    first: u32,
+    last: u32,
+    best: Stretch,
+    x: u32,
+) -> Stretch
+    requires { ⌜ Slidable n (now starts) (now durations) w × Run n (now starts) first last × Held (inMoments n (now starts) (now durations)) w first last (best .covered) (best .start) ⌝ }
+    ensures { λ r. ⌜ Tried (inMoments n (now (starts .entry)) (now (durations .entry))) w first last x (best .covered) (best .start) (r .covered) (r .start) ⌝ }
+{
+    if x < first {
+        return best;
+    }
+    if last < x {
+        return best;
+    }
+    let time = covered(starts, durations, n, w, x);
+    if time < best.covered {
+        return best;
+    }
+    if time == best.covered {
+        if best.start <= x {
+            return best;
+        }
+    }
+    Stretch {
+        covered: time,
+        start: x,
+    }
+}
+
+// The best of the stretches that start with a task or end with one.
+fn busiest<'a>(
+    starts: &'a [u32; 48],
+    durations: &'a [u32; 48],
+    n: usize,
+    w: u32,
+    first: u32,
+    last: u32,
+) -> Stretch
+    requires { ⌜ Slidable n (now starts) (now durations) w × Run n (now starts) first last ⌝ }
+    ensures { λ r. ⌜ BusiestMoment (inMoments n (now (starts .entry)) (now (durations .entry))) w first last (r .covered) (r .start) ⌝ }
+{
+    let mut best = Stretch {
+        covered: covered(starts, durations, n, w, first),
+        start: first,
+    };
+    let mut k = 0;
+    while k < n {
+        let start = starts[k];
+        best = better(starts, durations, n, w, first, last, best, start);
+        let back = start + durations[k] - w;
+        best = better(starts, durations, n, w, first, last, best, back);
+        k += 1;
+    }
+    best
+}
+
+// The greatest time that tasks cover of a stretch of length w, and the least start that reaches it.
+pub fn busiest_stretch(record: Propagator, earliest: &[i32], latest: &[i32], w: i32) -> Busiest
+    ensures { λ r. ⌜ Answered «record» (now (earliest .entry)) (now (latest .entry)) w r ⌝ }
+{
+    let number = stretch_refusal(record, earliest, latest, w);
+    if number != 0 {
+        return Busiest::Refused(number);
+    }
+    let n = record.count;
+    let order = order_of(earliest);
+    let mut starts: [u32; 48] = [0; 48];
+    moments_of(&mut starts, earliest);
+    let length = nat_of(w);
+    let first = starts[order[0]];
+    let last = starts[order[n - 1]];
+    let best = busiest(&starts, &record.durations, n, length, first, last);
+    Busiest::Stretch(best.covered, start_of(best.start))
+}

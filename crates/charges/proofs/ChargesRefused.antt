@@ -1,0 +1,79 @@
+-- What turns a call for charges back: what holds where nothing does, and the sole ground for each number.
+-- Assumes nothing.
+use mathlib.Core.Path.{_≡_, refl, _∙_}
+use mathlib.Core.Bool.{true, false, _&&_}
+use mathlib.Core.Logic.{_↔_}
+use mathlib.Core.List.{List, [], _∷_}
+use Prim.Native.Nat.{ℕ, _<_}
+use lib.Dec.{eqb}
+use lib.IntN.{ℤ, pos, negℤ}
+use lib.Signed.{leZ}
+use lib.ListN.{length, getD}
+use borrow.Author.Tests.{eqb-true, eq-eqb}
+use Rattle.integers.specs.Limits.{TASKS, DUE}
+use Rattle.integers.specs.Tests.{Test, test, allBelow}
+use Rattle.integers.proofs.Bools.{and-true, and-yes}
+use Rattle.integers.proofs.Tests.{all-at, all-show, accepts, refuses, more-accepted, more-refused}
+use Rattle.records.specs.declared.record.Propagator.{Propagator}
+use Rattle.records.specs.Records.{Lawful}
+use Rattle.records.specs.Refusals.{CountsFit, StartsFit, RangesFit}
+use Rattle.records.proofs.Refused.{within-is}
+use Rattle.fixed_schedules.specs.FixedSchedules.{fixedTests, fixedNumber, Fixed, AcceptedFixed}
+use Rattle.fixed_schedules.proofs.FixedRefused.{fixed-first, fixed-then, fixed-20, fixed-10, fixed-3, fixed-4, fixed-14, fixed-many, passed-fixed}
+use Rattle.charges.specs.Charging.{dueFitsAt, chargesNumber, DueFits, DuesFit, Accepted}
+
+due-is : (z : ℤ) → leZ (negℤ (pos DUE)) z && leZ z (pos DUE) ≡ true ↔ DueFits z
+due-is z = let w = within-is (negℤ (pos DUE)) (pos DUE) z in (λ h. record { low = w .0 h .0; high = w .0 h .1 }, λ f. w .1 (f .low, f .high))
+
+pub dues-are : (n : ℕ) (due : List ℤ) → eqb (length due) n && allBelow (dueFitsAt due) (length due) ≡ true ↔ DuesFit n due
+dues-are n due = (
+  λ h.
+      (let a = and-true (eqb (length due) n) (allBelow (dueFitsAt due) (length due)) h in
+      record { long = eqb-true (length due) n (a .0); within = λ k q. due-is (getD due k (pos 0)) .0 (all-at (dueFitsAt due) (length due) (a .1) k q) }),
+  λ f. and-yes (eqb (length due) n) (allBelow (dueFitsAt due) (length due)) (eq-eqb (length due) n (f .long)) (all-show (dueFitsAt due) (length due) (λ k q. due-is (getD due k (pos 0)) .1 (f .within k q))),
+)
+
+module _ (r : Propagator) (es ls due : List ℤ) where
+  -- the test that is the charges' own
+  abbrev t19 : Test
+  t19 = test 19 (eqb (length due) (r .count) && allBelow (dueFitsAt due) (length due))
+
+  -- nothing turns the call back
+  pub accepted-charges : chargesNumber r es ls due ≡ 0 ↔ Accepted r es ls due
+  accepted-charges =
+      let w = more-accepted (fixedTests r es ls) t19 (passed-fixed r es ls) (dues-are (r .count) due) refl refl in
+      (λ h. (let f = w .0 h in record { schedule = f .0; dues = f .1 }), λ a. w .1 (a .schedule, a .dues))
+
+  -- what is wrong with the schedule goes before
+  pub schedule-first : (fixedNumber r es ls ≡ 0 → ⊥) → chargesNumber r es ls due ≡ fixedNumber r es ls
+  schedule-first h = fixed-first r es ls (t19 ∷ []) h
+
+  -- the test that is left when the schedule has passed
+  pub wrong-dues : fixedNumber r es ls ≡ 0 → t19 .passed ≡ false → chargesNumber r es ls due ≡ 19
+  wrong-dues z h = fixed-then r es ls (t19 ∷ []) z ∙ refuses [] t19 [] tt h
+
+  pub right-dues : fixedNumber r es ls ≡ 0 → t19 .passed ≡ true → chargesNumber r es ls due ≡ 0
+  right-dues z h = fixed-then r es ls (t19 ∷ []) z ∙ accepts (t19 ∷ []) (h, tt)
+
+  -- The sole ground for each number: all before it hold, and its own does not.
+  pub refused-20 : chargesNumber r es ls due ≡ 20 ↔ (Lawful r → ⊥)
+  refused-20 = fixed-20 r es ls (t19 ∷ []) refl
+
+  pub refused-10 : chargesNumber r es ls due ≡ 10 ↔ (Lawful r × (CountsFit (r .count) es ls → ⊥))
+  refused-10 = fixed-10 r es ls (t19 ∷ []) refl
+
+  pub refused-3 : chargesNumber r es ls due ≡ 3 ↔ (Lawful r × (CountsFit (r .count) es ls × (StartsFit es ls → ⊥)))
+  refused-3 = fixed-3 r es ls (t19 ∷ []) refl
+
+  pub refused-4 : chargesNumber r es ls due ≡ 4 ↔ (Lawful r × (CountsFit (r .count) es ls × (StartsFit es ls × (RangesFit es ls → ⊥))))
+  refused-4 = fixed-4 r es ls (t19 ∷ []) refl
+
+  pub refused-14 : chargesNumber r es ls due ≡ 14 ↔ (Lawful r × (CountsFit (r .count) es ls × (StartsFit es ls × (RangesFit es ls × (Fixed r es ls → ⊥)))))
+  refused-14 = fixed-14 r es ls (t19 ∷ []) refl
+
+  pub refused-19 : chargesNumber r es ls due ≡ 19 ↔ (AcceptedFixed r es ls × (DuesFit (r .count) due → ⊥))
+  refused-19 = more-refused (fixedTests r es ls) t19 (passed-fixed r es ls) (dues-are (r .count) due) refl refl
+
+-- more ranges than any record has tasks are turned back by the number that turns none back
+pub charges-many : (r : Propagator) (es ls due : List ℤ) → TASKS < length es → (chargesNumber r [] [] due ≡ chargesNumber r es ls due) × (chargesNumber r es ls due ≡ 0 → ⊥)
+charges-many r es ls due many = fixed-many r es ls (t19 r [] [] due ∷ []) (t19 r es ls due ∷ []) many

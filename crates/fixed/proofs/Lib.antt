@@ -1,5 +1,0 @@
-pub mod Placing
-pub mod Turns
-pub mod Refusing
-pub mod Accepting
-pub mod Asking

@@ -1,4 +1,0 @@
-pub mod FixedSchedules
-pub mod Holding
-pub mod Asked
-pub mod Examples

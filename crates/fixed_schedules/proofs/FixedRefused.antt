@@ -1,0 +1,115 @@
+-- What turns a fixed schedule back: what holds where nothing does, the sole ground for each number, and the same where other tests follow.
+-- Assumes nothing.
+use mathlib.Core.Path.{_≡_, refl, _∙_}
+use mathlib.Core.Bool.{true, false, _&&_}
+use mathlib.Core.Logic.{_↔_, ⊎-elim}
+use mathlib.Core.List.{List, [], _∷_, _++_}
+use Prim.Native.Nat.{ℕ, _<_}
+use native.Mathlib.Omega.{arith}
+use lib.IntN.{ℤ, pos}
+use lib.Signed.{leZ}
+use lib.ListN.{length, getD}
+use Rattle.integers.specs.Limits.{TASKS}
+use Rattle.integers.specs.Tests.{Test, test, allBelow, refusal, AllPassed}
+use Rattle.integers.proofs.Bools.{and-true, and-yes, and-left, and-right}
+use Rattle.integers.proofs.Ints.{ints, leZ-true, le-leZ}
+use Rattle.integers.proofs.Tests.{all-at, all-show, unused, accepts, accepted, refuses, refusal-before, refusal-after, first-refuses}
+use Rattle.scheduling.specs.Scheduling.{NoOverlap}
+use Rattle.records.specs.declared.record.Propagator.{Propagator}
+use Rattle.records.specs.Records.{Lawful}
+use Rattle.records.specs.Refusals.{inputTests, inputNumber, CountsFit, StartsFit, RangesFit}
+use Rattle.records.proofs.Refused.{passed-input, input-20, input-10, input-3, input-4, input-holds, input-many}
+use Rattle.fixed_schedules.specs.FixedSchedules.{startAt, sameStart, oneStartAt, apartAt, allApart, fixedTests, fixedNumber, tasksOn, Fixed, AcceptedFixed}
+use Rattle.fixed_schedules.proofs.Turns.{apart-read, apart-show}
+
+same-is : (a b : ℤ) → sameStart a b ≡ true ↔ (a ≡ b)
+same-is a b = (
+  λ h. (let w = and-true (leZ a b) (leZ b a) h in let p = leZ-true a b (w .0) in let q = leZ-true b a (w .1) in omega ints),
+  λ e. and-yes (leZ a b) (leZ b a) (le-leZ a b (omega ints)) (le-leZ b a (omega ints)),
+)
+
+-- the test of 14 as a fact
+module _ (r : Propagator) (es ls : List ℤ) (c : length es ≡ r .count) where
+  one-is : allBelow (oneStartAt es ls) (length es) ≡ true ↔ ((k : ℕ) → k < r .count → getD es k (pos 0) ≡ getD ls k (pos 0))
+  one-is = (
+    λ h k q. same-is (getD es k (pos 0)) (getD ls k (pos 0)) .0 (all-at (oneStartAt es ls) (length es) h k (omega arith)),
+    λ f. all-show (oneStartAt es ls) (length es) (λ k q. same-is (getD es k (pos 0)) (getD ls k (pos 0)) .1 (f k (omega arith))),
+  )
+
+  apart-is : allApart (r .durations) es (length es) ≡ true ↔ NoOverlap (tasksOn r es ls) (startAt es)
+  apart-is = (
+    λ h j k p q ne. ⊎-elim (λ z. absurd (ne z)) (λ z. z) (apart-read (r .durations) es j k (all-at (apartAt (r .durations) es j) (length es) (all-at (λ i. allBelow (apartAt (r .durations) es i) (length es)) (length es) h j (omega arith)) k (omega arith))),
+    λ f. all-show (λ i. allBelow (apartAt (r .durations) es i) (length es)) (length es) (λ j p. all-show (apartAt (r .durations) es j) (length es) (λ k q. apart-show (r .durations) es j k (λ ne. f j k (omega arith) (omega arith) ne))),
+  )
+
+  pub fixed-is : allBelow (oneStartAt es ls) (length es) && allApart (r .durations) es (length es) ≡ true ↔ Fixed r es ls
+  fixed-is = (
+    λ h. (let w = and-true (allBelow (oneStartAt es ls) (length es)) (allApart (r .durations) es (length es)) h in record { one = one-is .0 (w .0); apart = apart-is .0 (w .1) }),
+    λ f. and-yes (allBelow (oneStartAt es ls) (length es)) (allApart (r .durations) es (length es)) (one-is .1 (f .one)) (apart-is .1 (f .apart)),
+  )
+
+module _ (r : Propagator) (es ls : List ℤ) where
+  abbrev t14 : Test
+  t14 = test 14 (allBelow (oneStartAt es ls) (length es) && allApart (r .durations) es (length es))
+
+  -- all tests are passed
+  pub passed-fixed : AllPassed (fixedTests r es ls) ↔ AcceptedFixed r es ls
+  passed-fixed = (facts, tests)
+    where
+      facts : AllPassed (fixedTests r es ls) → AcceptedFixed r es ls
+      facts (a, (b, (c, (d, (e, _))))) =
+          let f = passed-input r es ls .0 (a, (b, (c, (d, tt)))) in
+          record { lawful = f .lawful; counts = f .counts; starts = f .starts; ranges = f .ranges; fixed = fixed-is r es ls (f .counts .earliest) .0 e }
+
+      tests : AcceptedFixed r es ls → AllPassed (fixedTests r es ls)
+      tests f =
+          let (a, (b, (c, (d, _)))) = passed-input r es ls .1 (record { lawful = f .lawful; counts = f .counts; starts = f .starts; ranges = f .ranges }) in
+          (a, (b, (c, (d, (fixed-is r es ls (f .counts .earliest) .1 (f .fixed), tt)))))
+
+  -- nothing turns the schedule back
+  pub accepted-fixed : fixedNumber r es ls ≡ 0 ↔ AcceptedFixed r es ls
+  accepted-fixed = (λ h. passed-fixed .0 (accepted (fixedTests r es ls) refl h), λ f. accepts (fixedTests r es ls) (passed-fixed .1 f))
+
+  -- what is wrong with the record or its ranges goes before
+  pub input-first : (inputNumber r es ls ≡ 0 → ⊥) → fixedNumber r es ls ≡ inputNumber r es ls
+  input-first h = refusal-before (inputTests r es ls) (t14 ∷ []) h
+
+  -- the test that is left when the record and its ranges have passed
+  module _ (p : AllPassed (inputTests r es ls)) where
+    pub more-starts : allBelow (oneStartAt es ls) (length es) ≡ false → fixedNumber r es ls ≡ 14
+    more-starts h = refuses (inputTests r es ls) t14 [] p (and-left (allBelow (oneStartAt es ls) (length es)) (allApart (r .durations) es (length es)) h)
+
+    pub overlapping : allApart (r .durations) es (length es) ≡ false → fixedNumber r es ls ≡ 14
+    overlapping h = refuses (inputTests r es ls) t14 [] p (and-right (allBelow (oneStartAt es ls) (length es)) (allApart (r .durations) es (length es)) h)
+
+    pub none-wrong : allBelow (oneStartAt es ls) (length es) ≡ true → allApart (r .durations) es (length es) ≡ true → fixedNumber r es ls ≡ 0
+    none-wrong o a = refusal-after (inputTests r es ls) (t14 ∷ []) p ∙ accepts (t14 ∷ []) (and-yes (allBelow (oneStartAt es ls) (length es)) (allApart (r .durations) es (length es)) o a, tt)
+
+-- Where other tests follow.
+module _ (r : Propagator) (es ls : List ℤ) (after : List Test) where
+  pub fixed-first : (fixedNumber r es ls ≡ 0 → ⊥) → refusal (fixedTests r es ls ++ after) ≡ fixedNumber r es ls
+  fixed-first h = refusal-before (fixedTests r es ls) after h
+
+  pub fixed-then : fixedNumber r es ls ≡ 0 → refusal (fixedTests r es ls ++ after) ≡ refusal after
+  fixed-then h = refusal-after (fixedTests r es ls) after (passed-fixed r es ls .1 (accepted-fixed r es ls .0 h))
+
+  -- The sole ground for each number, which no later test has: all before it hold, and its own does not.
+  pub fixed-20 : unused after 20 ≡ true → refusal (fixedTests r es ls ++ after) ≡ 20 ↔ (Lawful r → ⊥)
+  fixed-20 other = input-20 r es ls (t14 r es ls ∷ after) other
+
+  pub fixed-10 : unused after 10 ≡ true → refusal (fixedTests r es ls ++ after) ≡ 10 ↔ (Lawful r × (CountsFit (r .count) es ls → ⊥))
+  fixed-10 other = input-10 r es ls (t14 r es ls ∷ after) other
+
+  pub fixed-3 : unused after 3 ≡ true → refusal (fixedTests r es ls ++ after) ≡ 3 ↔ (Lawful r × (CountsFit (r .count) es ls × (StartsFit es ls → ⊥)))
+  fixed-3 other = input-3 r es ls (t14 r es ls ∷ after) other
+
+  pub fixed-4 : unused after 4 ≡ true → refusal (fixedTests r es ls ++ after) ≡ 4 ↔ (Lawful r × (CountsFit (r .count) es ls × (StartsFit es ls × (RangesFit es ls → ⊥))))
+  fixed-4 other = input-4 r es ls (t14 r es ls ∷ after) other
+
+  pub fixed-14 : unused after 14 ≡ true → refusal (fixedTests r es ls ++ after) ≡ 14 ↔ (Lawful r × (CountsFit (r .count) es ls × (StartsFit es ls × (RangesFit es ls × (Fixed r es ls → ⊥)))))
+  fixed-14 other = input-holds r es ls (t14 r es ls ∷ after) refl (λ n. first-refuses (t14 r es ls) after (fixed-is r es ls (n .earliest)) other)
+
+-- more ranges than any record has tasks are turned back by the number that turns none back, whatever tests follow
+pub fixed-many : (r : Propagator) (es ls : List ℤ) (after after′ : List Test) → TASKS < length es
+    → (refusal (fixedTests r [] [] ++ after) ≡ refusal (fixedTests r es ls ++ after′)) × (refusal (fixedTests r es ls ++ after′) ≡ 0 → ⊥)
+fixed-many r es ls after after′ many = input-many r es ls (t14 r [] [] ∷ after) (t14 r es ls ∷ after′) many

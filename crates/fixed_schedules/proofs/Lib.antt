@@ -1,0 +1,5 @@
+pub mod Placing
+pub mod Turns
+pub mod FixedRefused
+pub mod Accepting
+pub mod Asking

@@ -1,0 +1,16 @@
+-- The test between two ends, at those of a length of time.
+use mathlib.Core.Path.{ap, _∙_}
+use borrow.Author.Needs.{needs}
+use Rattle.integers.proofs.Ints.{back}
+use Rattle.fixed_schedules.specs.Asked.{lengthFits}
+use Rattle.fixed_schedules.proofs.asked.length_fits.Statement.{statement}
+use Rattle.fixed_schedules.proofs.asked.length_fits.Tie as tie
+
+within-requires : tie.Need-within-requires
+within-requires c κs = search needs
+
+returns : tie.Need-returns
+returns c = c .within .ensures ∙ ap lengthFits (back (c .before .fits .d))
+
+pub length-fits-spec : {M : Type 1} → statement M
+length-fits-spec = tie.close (tie.spec within-requires returns)

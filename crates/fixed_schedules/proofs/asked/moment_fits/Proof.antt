@@ -1,0 +1,19 @@
+-- The test between two ends, at those of a moment.
+use mathlib.Core.Path.{ap, _∙_}
+use borrow.Author.Needs.{needs}
+use Rattle.integers.proofs.Ints.{back}
+use Rattle.fixed_schedules.specs.Asked.{momentFits}
+use Rattle.fixed_schedules.proofs.asked.moment_fits.Statement.{statement}
+use Rattle.fixed_schedules.proofs.asked.moment_fits.Tie as tie
+
+sub-within : tie.Need-sub-within
+sub-within c = search needs
+
+within-requires : tie.Need-within-requires
+within-requires c κs = search needs
+
+returns : tie.Need-returns
+returns c = c .within .ensures ∙ ap momentFits (back (c .before .fits .t))
+
+pub moment-fits-spec : {M : Type 1} → statement M
+moment-fits-spec = tie.close (tie.spec sub-within within-requires returns)

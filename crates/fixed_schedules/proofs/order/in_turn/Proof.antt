@@ -1,0 +1,153 @@
+-- The invariant: every task before place i ends by the start of the next one.
+use mathlib.Core.Path.{_≡_, sym, ap, _∙_}
+use mathlib.Core.Bool.{true}
+use Prim.Native.Nat.{ℕ, _+_, _-_, _≤_, _<_}
+use native.Mathlib.Omega.{arith}
+use lib.Dec.{leb}
+use lib.ListN.{length, getD}
+use borrow.Author.Tests.{le-leb, lt-leb}
+use borrow.Author.Needs.{needs}
+use mir.Syntax.{w32}
+use Rattle.integers.specs.Moments.{moment, zeroAt}
+use Rattle.integers.specs.Tests.{allBelow}
+use Rattle.integers.proofs.Ints.{back-of}
+use Rattle.integers.proofs.Tests.{all-none, all-more, all-broken}
+use Rattle.fixed_schedules.specs.FixedSchedules.{startAt}
+use Rattle.fixed_schedules.specs.Neighbours.{inTurnAt}
+use Rattle.fixed_schedules.proofs.Placing.{start-moment, turn-test}
+use Rattle.fixed_schedules.proofs.order.in_turn.Statement.{statement}
+use Rattle.fixed_schedules.proofs.order.in_turn.Tie as tie
+
+abbrev Inv-loop : tie.InvT-loop
+Inv-loop order earliest durations i₀ i = (i ≤ length earliest - 1) × (allBelow (inTurnAt order earliest durations) i ≡ true)
+
+abbrev μ-loop : tie.MeasureT-loop
+μ-loop order earliest durations i₀ i = length earliest - i
+
+-- the two tasks
+task-small : (c : tie.In-loop Inv-loop μ-loop) → getD (c .before .before .args .order .now) (c .before .loop .i) 0 < length (c .before .before .args .earliest .now)
+task-small c = c .before .before .pre .tasks (c .before .loop .i) (omega arith)
+
+next-small : (c : tie.In-loop Inv-loop μ-loop) → getD (c .before .before .args .order .now) (c .before .loop .i + 1) 0 < length (c .before .before .args .earliest .now)
+next-small c = c .before .before .pre .tasks (c .before .loop .i + 1) (omega arith)
+
+-- the moment of the first one's start
+moment-is : (c : tie.After-moment-of Inv-loop μ-loop) → c .moment-of .result ≡ moment zeroAt (startAt (c .before .before .before .before .before .before .args .earliest .now) (getD (c .before .before .before .before .before .before .args .order .now) (c .before .before .before .before .before .loop .i) 0))
+moment-is c = c .moment-of .ensures ∙ ap (moment zeroAt) (back-of w32 (startAt (c .before .before .before .before .before .before .args .earliest .now) (getD (c .before .before .before .before .before .before .args .order .now) (c .before .before .before .before .before .loop .i) 0)) (c .before .moment-of-arg .given))
+
+-- what the test of the two says
+seen : (c : tie.After-moment-of2 Inv-loop μ-loop) → let s = c .before .before .before .before .before .before .before .before in let start = s .before in leb (c .before .before .before .moment-of .result + getD (start .args .durations .now) (getD (start .args .order .now) (s .loop .i) 0) 0) (c .moment-of2 .result) ≡ inTurnAt (start .args .order .now) (start .args .earliest .now) (start .args .durations .now) (s .loop .i)
+seen c =
+    let s = c .before .before .before .before .before .before .before .before .before in
+    let i = c .before .before .before .before .before .before .before .before .loop .i in
+    let es = s .args .earliest .now in
+    let j = getD (s .args .order .now) i 0 in
+    let k = getD (s .args .order .now) (i + 1) 0 in
+    let d = getD (s .args .durations .now) j 0 in
+    ap (λ (m : ℕ). leb (m + d) (c .moment-of2 .result)) (moment-is (c .before .before .before))
+    ∙ ap (λ (m : ℕ). leb (moment zeroAt (startAt es j) + d) m) (c .moment-of2 .ensures ∙ ap (moment zeroAt) (back-of w32 (startAt es k) (c .before .moment-of-arg2 .given)))
+    ∙ turn-test (startAt es j) (startAt es k) d (s .pre .started .starts j (task-small (c .before .before .before .before .before .before .before))) (s .pre .started .starts k (next-small (c .before .before .before .before .before .before .before)))
+
+loop-holds : tie.Need-loop-holds Inv-loop μ-loop
+loop-holds c = (omega arith, all-none _)
+
+add-loop : tie.Need-add-loop Inv-loop μ-loop
+add-loop c = search needs
+
+mul-task : tie.Need-mul-task Inv-loop μ-loop
+mul-task c = search needs
+
+element-copy-out-task : tie.Need-element-copy-out-task Inv-loop μ-loop
+element-copy-out-task c = omega (arith, c .before .before .pre .started .few)
+
+add-next : tie.Need-add-next Inv-loop μ-loop
+add-next c = search needs
+
+mul-next : tie.Need-mul-next Inv-loop μ-loop
+mul-next c = search needs
+
+element-copy-out-next : tie.Need-element-copy-out-next Inv-loop μ-loop
+element-copy-out-next c = omega (arith, c .before .before .before .pre .started .few, c .before .loop-test .taken)
+
+mul-moment-of : tie.Need-mul-moment-of Inv-loop μ-loop
+mul-moment-of c = record { fits = omega (arith, task-small (c .before .before), c .before .before .before .before .pre .started .few) }
+
+shared-slice-copy-out-moment-of : tie.Need-shared-slice-copy-out-moment-of Inv-loop μ-loop
+shared-slice-copy-out-moment-of c = task-small (c .before .before)
+
+moment-of-requires : tie.Need-moment-of-requires Inv-loop μ-loop
+moment-of-requires c κs = search needs
+
+mul-end : tie.Need-mul-end Inv-loop μ-loop
+mul-end c = record { fits = omega (arith, task-small (c .before .before .before .before), c .before .before .before .before .before .before .pre .started .few) }
+
+element-copy-out-end : tie.Need-element-copy-out-end Inv-loop μ-loop
+element-copy-out-end c = omega (arith, task-small (c .before .before .before .before), c .before .before .before .before .before .before .pre .started .few)
+
+add-end : tie.Need-add-end Inv-loop μ-loop
+add-end c =
+    let s = c .before .before .before .before .before .before .before in
+    let j = getD (s .args .order .now) (c .before .before .before .before .before .before .loop .i) 0 in
+    let q = task-small (c .before .before .before .before .before) in
+    record { fits = omega (arith, moment-is (c .before), start-moment (startAt (s .args .earliest .now) j) (s .pre .started .starts j q), s .pre .durations j q) }
+
+mul-moment-of-2 : tie.Need-mul-moment-of-2 Inv-loop μ-loop
+mul-moment-of-2 c = record { fits = omega (arith, next-small (c .before .before .before .before .before), c .before .before .before .before .before .before .before .pre .started .few) }
+
+shared-slice-copy-out-moment-of-2 : tie.Need-shared-slice-copy-out-moment-of-2 Inv-loop μ-loop
+shared-slice-copy-out-moment-of-2 c = next-small (c .before .before .before .before .before)
+
+moment-of-requires-2 : tie.Need-moment-of-requires-2 Inv-loop μ-loop
+moment-of-requires-2 c κs = search needs
+
+returns : tie.Need-returns Inv-loop μ-loop
+returns c =
+    let s = c .before .before .before .before .before .before .before .before in
+    let start = s .before in
+    sym (all-broken _ _ (start .loop .i) (omega (arith, s .loop-test .taken)) (sym (seen (c .before)) ∙ lt-leb _ _ (c .if1 .taken)))
+
+add-i : tie.Need-add-i Inv-loop μ-loop
+add-i c = search needs
+
+loop-less : tie.Need-loop-less Inv-loop μ-loop
+loop-less c = search needs
+
+loop-again : tie.Need-loop-again Inv-loop μ-loop
+loop-again c =
+    let s = c .before .before .before .before .before .before .before .before in
+    let start = s .before in
+    (omega (arith, s .loop-test .taken), all-more _ _ (start .loop .inv .1) (sym (seen (c .before)) ∙ le-leb _ _ (c .if1 .left)))
+
+returns-2 : tie.Need-returns-2 Inv-loop μ-loop
+returns-2 c =
+    let args = c .before .before .args in
+    let e : length (args .earliest .now) - 1 ≡ c .before .loop .i = omega (arith, c .before .loop .inv .0, c .loop-test .left) in
+    sym (ap (allBelow (inTurnAt (args .order .now) (args .earliest .now) (args .durations .now))) e ∙ c .before .loop .inv .1)
+
+pub in-turn-spec : {M : Type 1} → statement M
+in-turn-spec =
+    tie.close
+    (tie.spec
+    Inv-loop
+    μ-loop
+    loop-holds
+    add-loop
+    mul-task
+    element-copy-out-task
+    add-next
+    mul-next
+    element-copy-out-next
+    mul-moment-of
+    shared-slice-copy-out-moment-of
+    moment-of-requires
+    mul-end
+    element-copy-out-end
+    add-end
+    mul-moment-of-2
+    shared-slice-copy-out-moment-of-2
+    moment-of-requires-2
+    returns
+    add-i
+    loop-less
+    loop-again
+    returns-2)

@@ -1,0 +1,77 @@
+-- The record's own number goes before; neighbours in the order of starts then stand for all pairs of tasks, by `turns-are`.
+use mathlib.Core.Path.{_≡_, sym, _∙_}
+use mathlib.Core.Bool.{true}
+use lib.ListN.{length}
+use borrow.Author.Tests.{not-true, not-false}
+use borrow.Author.Needs.{needs}
+use Rattle.integers.specs.Tests.{allBelow, AllPassed}
+use Rattle.records.specs.Refusals.{inputTests, AcceptedInput}
+use Rattle.records.proofs.Refused.{input-passed, accepted-input}
+use Rattle.fixed_schedules.specs.FixedSchedules.{oneStartAt, allApart}
+use Rattle.fixed_schedules.proofs.Turns.{turns-are}
+use Rattle.fixed_schedules.proofs.FixedRefused.{input-first, more-starts, overlapping, none-wrong}
+use Rattle.fixed_schedules.proofs.Accepting.{started, lasting, listed}
+use Rattle.fixed_schedules.proofs.refusals.fixed_refusal.Statement.{statement}
+use Rattle.fixed_schedules.proofs.refusals.fixed_refusal.Tie as tie
+
+-- the record and its ranges have passed
+passed : (c : tie.Else1) → let a = c .before .before .before .before .args in AllPassed (inputTests (a .t1) (a .earliest .now) (a .latest .now))
+passed c = let a = c .before .before .before .before .args in input-passed (a .t1) (a .earliest .now) (a .latest .now) (sym (c .before .input-refusal .ensures) ∙ c .if1 .left)
+
+held : (c : tie.Else1) → let a = c .before .before .before .before .args in AcceptedInput (a .t1) (a .earliest .now) (a .latest .now)
+held c = let a = c .before .before .before .before .args in accepted-input (a .t1) (a .earliest .now) (a .latest .now) .0 (sym (c .before .input-refusal .ensures) ∙ c .if1 .left)
+
+-- each range holds one start
+one : (c : tie.Else2) → let a = c .before .before .before .before .before .before .args in allBelow (oneStartAt (a .earliest .now) (a .latest .now)) (length (a .earliest .now)) ≡ true
+one c = sym (c .before .one-start .ensures) ∙ not-false _ (c .if2 .left)
+
+-- the test of neighbours is that of all pairs
+pairs : (c : tie.After-in-turn) → let a = c .before .before .before .before .before .before .before .before .before .before .before .args in c .in-turn .result ≡ allApart (a .t1 .durations) (a .earliest .now) (length (a .earliest .now))
+pairs c = let a = c .before .before .before .before .before .before .before .before .before .before .before .args in c .in-turn .ensures ∙ turns-are (a .t1 .durations) (a .earliest .now) _ (c .before .before .before .before .order-of .ensures) (lasting (a .t1) (a .earliest .now) (a .latest .now) (held (c .before .before .before .before .before .before .before)))
+
+-- no two tasks overlap
+apart : (c : tie.Else3) → let a = c .before .before .before .before .before .before .before .before .before .before .before .before .args in allApart (a .t1 .durations) (a .earliest .now) (length (a .earliest .now)) ≡ true
+apart c = sym (pairs (c .before)) ∙ not-false _ (c .if3 .left)
+
+input-refusal-requires : tie.Need-input-refusal-requires
+input-refusal-requires c κs = search needs
+
+returns : tie.Need-returns
+returns c =
+    let a = c .before .before .before .before .args in
+    c .before .input-refusal .ensures ∙ sym (input-first (a .t1) (a .earliest .now) (a .latest .now) (λ z. c .if1 .taken (c .before .input-refusal .ensures ∙ z)))
+
+one-start-requires : tie.Need-one-start-requires
+one-start-requires c κs = let n = held c .counts in n .earliest ∙ sym (n .latest)
+
+returns-2 : tie.Need-returns-2
+returns-2 c = let a = c .before .before .before .before .before .before .args in sym (more-starts (a .t1) (a .earliest .now) (a .latest .now) (passed (c .before .before)) (sym (c .before .one-start .ensures) ∙ not-true _ (c .if2 .taken)))
+
+order-of-requires : tie.Need-order-of-requires
+order-of-requires c κs = let a = c .before .before .before .before .before .before .args in started (a .t1) (a .earliest .now) (a .latest .now) (held (c .before .before))
+
+in-turn-requires : tie.Need-in-turn-requires
+in-turn-requires c κs = let a = c .before .before .before .before .before .before .before .before .before .before .args in listed (a .t1) (a .earliest .now) (a .latest .now) (held (c .before .before .before .before .before .before)) _ (c .before .before .before .order-of .ensures)
+
+returns-3 : tie.Need-returns-3
+returns-3 c =
+    let start = c .before .before .before .before .before .before .before .before in
+    let a = c .before .before .before .before .before .before .before .before .before .before .before .before .args in sym (overlapping (a .t1) (a .earliest .now) (a .latest .now) (passed start) (sym (pairs (c .before)) ∙ not-true _ (c .if3 .taken)))
+
+returns-4 : tie.Need-returns-4
+returns-4 c =
+    let start = c .before .before .before .before .before .before .before .before in
+    let a = c .before .before .before .before .before .before .before .before .before .before .before .before .args in sym (none-wrong (a .t1) (a .earliest .now) (a .latest .now) (passed start) (one (c .before .before .before .before .before .before)) (apart c))
+
+pub fixed-refusal-spec : {M : Type 1} → statement M
+fixed-refusal-spec =
+    tie.close
+    (tie.spec
+    input-refusal-requires
+    returns
+    one-start-requires
+    returns-2
+    order-of-requires
+    in-turn-requires
+    returns-3
+    returns-4)

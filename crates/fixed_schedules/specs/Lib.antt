@@ -1,0 +1,4 @@
+pub mod FixedSchedules
+pub mod Neighbours
+pub mod Asked
+pub mod Examples

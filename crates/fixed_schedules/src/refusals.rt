@@ -1,0 +1,32 @@
+// What turns a schedule back that is not fixed.
+use crate::order::in_turn;
+use crate::order::one_start;
+use crate::order::order_of;
+use records::record::Propagator;
+use records::refusals::input_refusal;
+ghost use mathlib.Core.Path.{_≡_};
+ghost use Rattle.fixed_schedules.specs.FixedSchedules.{fixedNumber};
+
+// The number that turns a schedule back, or 0: 20, 10, 3, 4, 14.
+pub fn fixed_refusal(record: Propagator, earliest: &[i32], latest: &[i32]) -> u32
+    ensures { λ r. ⌜ r ≡ fixedNumber «record» (now (earliest .entry)) (now (latest .entry)) ⌝ }
+{
+    let number = input_refusal(
+        record.count,
+        &record.durations,
+        record.total,
+        earliest,
+        latest,
+    );
+    if number != 0 {
+        return number;
+    }
+    if !one_start(earliest, latest) {
+        return 14;
+    }
+    let order = order_of(earliest);
+    if !in_turn(&order, earliest, &record.durations) {
+        return 14;
+    }
+    0
+}

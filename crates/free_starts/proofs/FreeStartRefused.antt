@@ -1,0 +1,71 @@
+-- What turns a question back: what holds where nothing does, and the sole ground for each number.
+-- Assumes nothing.
+use mathlib.Core.Path.{_≡_, refl, _∙_}
+use mathlib.Core.Bool.{true, false, _&&_}
+use mathlib.Core.Logic.{_↔_}
+use mathlib.Core.List.{List, [], _∷_}
+use Prim.Native.Nat.{_<_}
+use lib.IntN.{ℤ}
+use lib.ListN.{length}
+use Rattle.integers.specs.Limits.{TASKS}
+use Rattle.integers.specs.Tests.{Test, test}
+use Rattle.integers.proofs.Bools.{and-true, and-yes, and-left, and-right}
+use Rattle.integers.proofs.Tests.{accepts, refuses, more-accepted, more-refused}
+use Rattle.records.specs.declared.record.Propagator.{Propagator}
+use Rattle.records.specs.Records.{Lawful}
+use Rattle.records.specs.Refusals.{CountsFit, StartsFit, RangesFit}
+use Rattle.fixed_schedules.specs.FixedSchedules.{fixedTests, fixedNumber, Fixed, AcceptedFixed}
+use Rattle.fixed_schedules.specs.Asked.{momentFits, lengthFits, MomentFits, LengthFits}
+use Rattle.fixed_schedules.proofs.Asking.{moment-is, length-is}
+use Rattle.fixed_schedules.proofs.FixedRefused.{fixed-first, fixed-then, fixed-20, fixed-10, fixed-3, fixed-4, fixed-14, fixed-many, passed-fixed}
+use Rattle.free_starts.specs.FreeStarts.{freeNumber}
+
+module _ (r : Propagator) (es ls : List ℤ) (t d : ℤ) where
+  -- the test that is the question's own
+  abbrev t18 : Test
+  t18 = test 18 (lengthFits d && momentFits t)
+
+  asked-is : lengthFits d && momentFits t ≡ true ↔ (LengthFits d × MomentFits t)
+  asked-is = (λ h. (let w = and-true (lengthFits d) (momentFits t) h in (length-is d .0 (w .0), moment-is t .0 (w .1))), λ f. and-yes (lengthFits d) (momentFits t) (length-is d .1 (f .0)) (moment-is t .1 (f .1)))
+
+  -- nothing turns the question back
+  pub accepted-question : freeNumber r es ls t d ≡ 0 ↔ (AcceptedFixed r es ls × (LengthFits d × MomentFits t))
+  accepted-question = more-accepted (fixedTests r es ls) t18 (passed-fixed r es ls) asked-is refl refl
+
+  -- what is wrong with the schedule goes before
+  pub schedule-first : (fixedNumber r es ls ≡ 0 → ⊥) → freeNumber r es ls t d ≡ fixedNumber r es ls
+  schedule-first h = fixed-first r es ls (t18 ∷ []) h
+
+  -- the test that is left when the schedule has passed
+  module _ (z : fixedNumber r es ls ≡ 0) where
+    pub wrong-length : lengthFits d ≡ false → freeNumber r es ls t d ≡ 18
+    wrong-length h = fixed-then r es ls (t18 ∷ []) z ∙ refuses [] t18 [] tt (and-left (lengthFits d) (momentFits t) h)
+
+    pub wrong-moment : momentFits t ≡ false → freeNumber r es ls t d ≡ 18
+    wrong-moment h = fixed-then r es ls (t18 ∷ []) z ∙ refuses [] t18 [] tt (and-right (lengthFits d) (momentFits t) h)
+
+    pub none-wrong : lengthFits d ≡ true → momentFits t ≡ true → freeNumber r es ls t d ≡ 0
+    none-wrong p q = fixed-then r es ls (t18 ∷ []) z ∙ accepts (t18 ∷ []) (and-yes (lengthFits d) (momentFits t) p q, tt)
+
+  -- The sole ground for each number: all before it hold, and its own does not.
+  pub refused-20 : freeNumber r es ls t d ≡ 20 ↔ (Lawful r → ⊥)
+  refused-20 = fixed-20 r es ls (t18 ∷ []) refl
+
+  pub refused-10 : freeNumber r es ls t d ≡ 10 ↔ (Lawful r × (CountsFit (r .count) es ls → ⊥))
+  refused-10 = fixed-10 r es ls (t18 ∷ []) refl
+
+  pub refused-3 : freeNumber r es ls t d ≡ 3 ↔ (Lawful r × (CountsFit (r .count) es ls × (StartsFit es ls → ⊥)))
+  refused-3 = fixed-3 r es ls (t18 ∷ []) refl
+
+  pub refused-4 : freeNumber r es ls t d ≡ 4 ↔ (Lawful r × (CountsFit (r .count) es ls × (StartsFit es ls × (RangesFit es ls → ⊥))))
+  refused-4 = fixed-4 r es ls (t18 ∷ []) refl
+
+  pub refused-14 : freeNumber r es ls t d ≡ 14 ↔ (Lawful r × (CountsFit (r .count) es ls × (StartsFit es ls × (RangesFit es ls × (Fixed r es ls → ⊥)))))
+  refused-14 = fixed-14 r es ls (t18 ∷ []) refl
+
+  pub refused-18 : freeNumber r es ls t d ≡ 18 ↔ (AcceptedFixed r es ls × (LengthFits d × MomentFits t → ⊥))
+  refused-18 = more-refused (fixedTests r es ls) t18 (passed-fixed r es ls) asked-is refl refl
+
+-- more ranges than any record has tasks are turned back by the number that turns none back
+pub free-many : (r : Propagator) (es ls : List ℤ) (t d : ℤ) → TASKS < length es → (freeNumber r [] [] t d ≡ freeNumber r es ls t d) × (freeNumber r es ls t d ≡ 0 → ⊥)
+free-many r es ls t d many = fixed-many r es ls (t18 r [] [] t d ∷ []) (t18 r es ls t d ∷ []) many

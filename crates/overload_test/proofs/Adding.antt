@@ -1,0 +1,139 @@
+-- The next task goes into the theta tree: what its leaf gets, and what the root says then. And how the arrays come to hold the tasks.
+-- Assumes nothing.
+use mathlib.Core.Path.{_≡_, refl, sym, ap, ap₂, subst, _∙_, fun-ext}
+use mathlib.Core.Bool.{true, false}
+use mathlib.Core.List.{List, []}
+use mathlib.Core.Option.{Option}
+use Prim.Native.Nat.{ℕ, suc, _+_, _-_, _≤_, _<_}
+use native.Mathlib.Omega.{arith}
+use native.Mathlib.Numerals.{add-one}
+use lib.Dec.{leb}
+use lib.IntN.{ℤ}
+use lib.ListN.{length, getD, set, take}
+use lib.Seq.{getD-take}
+use Rattle.integers.specs.Limits.{TASKS}
+use Rattle.integers.specs.Filling.{filled}
+use Rattle.integers.specs.Orders.{index, numbers, sort}
+use Rattle.scheduling.specs.Scheduling.{natural, Tasks, TaskSet, completion}
+use Rattle.trees.specs.declared.theta_tree.ThetaTree.{ThetaTree}
+use Rattle.trees.specs.Ects.{exceeds}
+use Rattle.trees.specs.Leaves.{Leaf, white, IsPlainTree}
+use Rattle.trees.specs.Mappings.{PlainNew}
+use Rattle.trees.specs.Nodes.{plainOf}
+use Rattle.trees.specs.Puts.{PlainPuttable, PlainPut}
+use Rattle.trees.specs.Shapes.{width, heightFor}
+use Rattle.trees.specs.Words.{plainEctIn}
+use Rattle.trees.proofs.Trees.{new-plain-tree, may-put-plain, was-put-plain, plain-ect-of}
+use Rattle.records.specs.declared.record.Propagator.{Propagator}
+use Rattle.records.specs.Orders.{SortedBy, byKey, noTasks, momentAt, completionAt, largestKey}
+use Rattle.records.specs.Records.{momentsIn}
+use Rattle.records.specs.Refusals.{AcceptedInput}
+use Rattle.records.proofs.Accepting.{count, completion-small, completions-are, completions-at}
+use Rattle.records.proofs.Sorted.{sorted-as}
+use Rattle.chosen_sets.specs.ChosenSets.{order, colours, ectOf}
+use Rattle.chosen_sets.specs.TaskArrays.{Held}
+use Rattle.chosen_sets.proofs.Colouring.{limited, front-is}
+use Rattle.chosen_sets.proofs.Ects.{by-order}
+use Rattle.chosen_sets.proofs.Ranging.{held as in-arrays, late}
+use Rattle.overload_test.specs.Reading.{byCompletion, read, overloadsAt, answerFrom, answerOf}
+use Rattle.overload_test.specs.Readable.{noTask, Readable}
+use Rattle.overload_test.proofs.Reading.{by-completion, read-none, all-blank, next-coloured}
+
+module _ {inner n : ℕ} {words mapping tasks est lct durations : List ℕ} (f : Readable inner n words mapping tasks est lct durations) where
+  abbrev J : Tasks natural
+  J = f .J
+
+  abbrev first : List ℕ
+  first = order (f .J) noTask
+
+  -- the tree has the first k tasks
+  abbrev pub Shows : ℕ → List ℕ → Type 0
+  Shows k now = IsPlainTree (f .J) (order (f .J) noTask) (colours (f .J) (read (f .J) k)) inner now
+
+  pub none-shown : Shows 0 words
+  none-shown = subst (λ (S : TaskSet). IsPlainTree J first (colours J S) inner words) (fun-ext (λ j. sym (read-none J j))) (f .tree)
+
+  pub all-answer : answerOf J ≡ answerFrom J 0 (n - 0)
+  all-answer = let z : J .count ≡ n - 0 = omega (arith, f .held .count) in ap (answerFrom J 0) z
+
+  module _ (k : ℕ) (q : k < n) where
+    -- the task to read
+    abbrev i : ℕ
+    i = getD tasks k 0
+
+    inside : k < J .count
+    inside = omega (arith, f .held .count)
+
+    is-next : i ≡ getD (byCompletion J) k 0
+    is-next = f .task k q
+
+    small : i < n
+    small = omega (arith, is-next, f .held .count, by-completion J .task k inside)
+
+    pub task-known : i < 48
+    task-known = omega (arith, small, f .held .few)
+
+    -- its leaf
+    abbrev x : ℕ
+    x = index first i
+
+    x-small : x < J .count
+    x-small = by-order J noTask .placed i (omega (arith, small, f .held .count))
+
+    node-is : plainOf (getD est i 0 + getD durations i 0) (getD durations i 0) ≡ plainOf (J .earliest (getD first x 0) + J .duration (getD first x 0)) (J .duration (getD first x 0))
+    node-is =
+        let z : i ≡ getD first x 0 = sym (by-order J noTask .there i (omega (arith, small, f .held .count))) in
+        ap₂ (λ (e p : ℕ). plainOf (e + p) p) (f .held .start i small ∙ ap (J .earliest) z) (f .held .lasts i small ∙ ap (J .duration) z)
+
+    pub may-add : {now : List ℕ} (place : ℕ) → place ≡ getD mapping i 0 → Shows k now → PlainPuttable inner now place (plainOf (getD est i 0 + getD durations i 0) (getD durations i 0))
+    may-add {now} place e t =
+        subst (λ (y : ℕ). PlainPuttable inner now y (plainOf (getD est i 0 + getD durations i 0) (getD durations i 0))) (sym (e ∙ f .place i small)) (may-put-plain (limited (f .held)) t x x-small white node-is)
+
+    pub was-added : {now now′ : List ℕ} (place : ℕ) → place ≡ getD mapping i 0 → Shows k now → PlainPut inner now now′ place (plainOf (getD est i 0 + getD durations i 0) (getD durations i 0)) → Shows (k + 1) now′
+    was-added {now} {now′} place e t p =
+        subst (λ (ls : List Leaf). IsPlainTree J first ls inner now′) coloured
+        (was-put-plain (limited (f .held)) t x x-small white node-is (subst (λ (y : ℕ). PlainPut inner now now′ y (plainOf (getD est i 0 + getD durations i 0) (getD durations i 0))) (e ∙ f .place i small) p))
+      where
+        coloured : set (colours J (read J k)) x white ≡ colours J (read J (k + 1))
+        coloured = ap (λ (y : ℕ). set (colours J (read J k)) (index first y) white) is-next ∙ next-coloured J k inside ∙ ap (λ (m : ℕ). colours J (read J m)) (sym (add-one k))
+
+    -- the test, by what the root says
+    pub test-is : {now : List ℕ} → Shows (k + 1) now → (ect : Option ℕ) → ect ≡ plainEctIn now → exceeds ect (getD lct i 0) ≡ overloadsAt J k
+    test-is t ect is = ap₂ exceeds (is ∙ plain-ect-of (limited (f .held)) t ∙ ap (λ (m : ℕ). ectOf J (read J m)) (add-one k)) (f .ends i small ∙ ap (completion J) is-next)
+
+-- How the arrays come to hold the tasks -------------------------------------------------------------------------------------------
+
+module _ (r : Propagator) (es ls : List ℤ) (a : AcceptedInput r es ls) (long : length (r .durations) ≡ TASKS) {est lst : List ℕ} (e : est ≡ filled (momentAt es) (length es) noTasks) (l : lst ≡ filled (momentAt ls) (length ls) noTasks) where
+  abbrev M : Tasks natural
+  M = momentsIn r es ls
+
+  latest : (k : ℕ) → k < r .count → getD lst k 0 ≡ M .latest k
+  latest k q = late r es ls a long l .at k q
+
+  pub keys-small : (k : ℕ) → k < r .count → completionAt lst (r .durations) k ≤ largestKey
+  keys-small k q = omega (arith, completions-are r es ls a long lst latest k q, completion-small r es ls a long k q)
+
+  pub held : Held M noTask (r .count) [] est (r .durations)
+  held = in-arrays r es ls a long e (λ k q. refl)
+
+  module _ {lct : List ℕ} (c : lct ≡ filled (completionAt lst (r .durations)) (r .count) noTasks) where
+    pub ends : (k : ℕ) → k < r .count → getD lct k 0 ≡ completion M k
+    ends k q = ap (λ (o : List ℕ). getD o k 0) c ∙ completions-at r es ls a long lst latest k q
+
+    pub order-is : {tasks : List ℕ} → SortedBy (byKey lct) (r .count) tasks → take (r .count) tasks ≡ byCompletion M
+    order-is s = sorted-as s (λ j k. leb (completion M j) (completion M k)) (λ j k p q. ap₂ leb (ends j p) (ends k q)) ∙ ap (λ (m : ℕ). sort (λ j k. leb (completion M j) (completion M k)) (numbers 0 m)) (sym (count r es ls a long))
+
+    pub tree-is : {leaves : List ℕ} {t : ThetaTree} → PlainNew (r .count) leaves t → IsPlainTree M (order M noTask) (colours M noTask) (t .«number_of_internal_nodes») (t .nodes)
+    tree-is {t = t} new = subst (λ (cs : List Leaf). IsPlainTree M (order M noTask) cs (t .«number_of_internal_nodes») (t .nodes)) (all-blank M)
+        (new-plain-tree M (order M noTask) (t .«number_of_internal_nodes») (t .nodes) (new .nodes) (new .size .complete ∙ ap (λ (m : ℕ). width (heightFor m)) (sym (count r es ls a long))))
+
+    abbrev pub readable : {leaves tasks : List ℕ} {t : ThetaTree} → SortedBy (byKey est) (r .count) leaves → SortedBy (byKey lct) (r .count) tasks → PlainNew (r .count) leaves t
+        → Readable (t .«number_of_internal_nodes») (r .count) (t .nodes) (t .mapping) tasks est lct (r .durations)
+    readable {tasks = tasks} s s′ new = record {
+      J = M;
+      held = held;
+      ends = ends;
+      tree = tree-is new;
+      place = λ k q. new .mapping .leaf k q ∙ ap (λ (o : List ℕ). index o k) (front-is held s);
+      task = λ k q. sym (getD-take (r .count) tasks k 0 q) ∙ ap (λ (o : List ℕ). getD o k 0) (order-is s′);
+    }

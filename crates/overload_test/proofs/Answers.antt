@@ -1,0 +1,129 @@
+-- The answer: yes with the first place at which the tasks read overload, or no where there is none; and what that means over whole numbers.
+-- Assumes nothing.
+use mathlib.Core.Path.{_≡_, refl, sym, ap, _∙_}
+use mathlib.Core.Bool.{true, false}
+use mathlib.Core.Logic.{_⊎_, inl, inr, _↔_}
+use mathlib.Core.List.{List, [], _∷_}
+use Prim.Native.Nat.{ℕ, zero, suc, _+_, _-_, _≤_, _<_}
+use native.Mathlib.Omega.{arith}
+use native.Mathlib.Numerals.{add-one}
+use native.Mathlib.Decide.{ℕ-discrete}
+use lib.IntN.{ℤ, pos}
+use lib.ListN.{length}
+use Rattle.integers.specs.Answers.{answered, refusedBy}
+use Rattle.integers.specs.Limits.{TASKS}
+use Rattle.integers.specs.Moments.{zeroAt}
+use Rattle.integers.proofs.Answers.{same-kind, same-count}
+use Rattle.integers.proofs.Bools.{bool, clash}
+use Rattle.scheduling.specs.Scheduling.{natural, Tasks, Proper, TaskSet, Overloads}
+use Rattle.scheduling.proofs.Transfer.{overload→, overload←}
+use Rattle.records.specs.declared.record.Propagator.{Propagator}
+use Rattle.records.specs.Records.{tasksIn, momentsIn}
+use Rattle.records.specs.Refusals.{AcceptedInput, inputNumber}
+use Rattle.records.proofs.Accepting.{count, proper-whole, above, proper}
+use Rattle.records.proofs.Refused.{accepted-input}
+use Rattle.overload_test.specs.declared.overload_test.Overload.{Overload}
+use Rattle.overload_test.specs.declared.overload_test.Overload.the-variants.{Yes, No}
+use Rattle.overload_test.specs.Reading.{overloadsAt, answerFrom, answerOf}
+use Rattle.overload_test.specs.Numbers.{overloadNumbers}
+use Rattle.overload_test.specs.Tested.{OverloadTested}
+use Rattle.overload_test.proofs.Reading.{shown, met}
+
+module _ (J : Tasks natural) where
+  -- step by step
+  ends-no : (k : ℕ) → answerFrom J k 0 ≡ No
+  unfolding answerFrom
+  ends-no k = refl
+
+  stops : (k d : ℕ) → overloadsAt J k ≡ true → answerFrom J k (suc d) ≡ Yes (suc k)
+  unfolding answerFrom
+  stops k d y = rw (y, answerFrom) refl
+
+  goes-on : (k d : ℕ) → overloadsAt J k ≡ false → answerFrom J k (suc d) ≡ answerFrom J (suc k) d
+  unfolding answerFrom
+  goes-on k d y = rw (y, answerFrom) refl
+
+  -- the same of n tasks in all
+  module _ (n : ℕ) (k : ℕ) (q : k < n) where
+    left : n - k ≡ suc (n - (k + 1))
+    left = omega arith
+
+    pub answer-yes : overloadsAt J k ≡ true → answerFrom J k (n - k) ≡ Yes (k + 1)
+    answer-yes y = ap (answerFrom J k) left ∙ stops k (n - (k + 1)) y ∙ ap Yes (sym (add-one k))
+
+    pub answer-on : overloadsAt J k ≡ false → answerFrom J k (n - k) ≡ answerFrom J (k + 1) (n - (k + 1))
+    answer-on y = ap (answerFrom J k) left ∙ goes-on k (n - (k + 1)) y ∙ ap (λ (m : ℕ). answerFrom J m (n - (k + 1))) (sym (add-one k))
+
+  pub answer-no : (n k : ℕ) → n ≤ k → answerFrom J k (n - k) ≡ No
+  answer-no n k q = let z : n - k ≡ 0 = omega arith in ap (answerFrom J k) z ∙ ends-no k
+
+  -- yes at a place of the d from k on that overloads, or no where none of them does
+  record Stopped (k d : ℕ) : Type 0 where
+    at : ℕ
+    is : answerFrom J k d ≡ Yes (suc at)
+    small : at < k + d
+    over : overloadsAt J at ≡ true
+
+  record Passed (k d : ℕ) : Type 0 where
+    is : answerFrom J k d ≡ No
+    none : (j : ℕ) → k ≤ j → j < k + d → overloadsAt J j ≡ false
+
+  told : (k d : ℕ) → Stopped k d ⊎ Passed k d
+  told k zero = inr (record { is = ends-no k; none = λ j p q. absurd (omega arith) })
+  told k (suc d) = by (bool (overloadsAt J k)) (told (suc k) d)
+    where
+      by : (overloadsAt J k ≡ true) ⊎ (overloadsAt J k ≡ false) → Stopped (suc k) d ⊎ Passed (suc k) d → Stopped k (suc d) ⊎ Passed k (suc d)
+      by (inl y) t = inl (record { at = k; is = stops k d y; small = omega arith; over = y })
+      by (inr y) (inl s) = inl (record { at = s .at; is = goes-on k d y ∙ s .is; small = omega (arith, s .small); over = s .over })
+      by (inr y) (inr p) = inr (record { is = goes-on k d y ∙ p .is; none = λ j a b. elim (ℕ-discrete k j) [ yes z ↦ ap (overloadsAt J) (sym z) ∙ y | no z ↦ p .none j (omega arith) (omega arith) ] })
+
+  -- yes with some number of them, or no, exactly where some set overloads, or none
+  pub record Says (r : Overload) : Type 0 where
+    pub yes : ((k : ℕ) × (overloadNumbers r ≡ answered 0 (pos k ∷ []))) ↔ ((Ω : TaskSet) × Overloads J Ω)
+    pub no : (overloadNumbers r ≡ answered 1 []) ↔ ((Ω : TaskSet) → Overloads J Ω → ⊥)
+    pub many : (k : ℕ) → overloadNumbers r ≡ answered 0 (pos k ∷ []) → (1 ≤ k) × (k ≤ J .count)
+
+  pub says : Proper J → (r : Overload) → r ≡ answerOf J → Says r
+  says ok r z = by (told 0 (J .count))
+    where
+      by : Stopped 0 (J .count) ⊎ Passed 0 (J .count) → Says r
+      by (inl s) =
+          let found = shown J ok (s .at) (omega (arith, s .small)) (s .over) in
+          let is : overloadNumbers r ≡ answered 0 (pos (suc (s .at)) ∷ []) = ap overloadNumbers (z ∙ s .is) in
+          record {
+            yes = (λ w. found, λ w. (suc (s .at), is));
+            no = (λ e. absurd (omega (arith, same-kind (sym is ∙ e))), λ f. absurd (f (found .0) (found .1)));
+            many = λ k e. (let m : suc (s .at) ≡ k = same-count (sym is ∙ e) 0 in (omega arith, omega (arith, s .small)));
+          }
+      by (inr p) =
+          let is : overloadNumbers r ≡ answered 1 [] = ap overloadNumbers (z ∙ p .is) in
+          let none : (Ω : TaskSet) → Overloads J Ω → ⊥ = λ Ω o. (let w = met J ok Ω o in clash (w .2) (p .none (w .0) (omega arith) (omega (arith, w .1)))) in
+          record {
+            yes = (λ w. absurd (omega (arith, same-kind (sym is ∙ w .1))), λ w. absurd (none (w .0) (w .1)));
+            no = (λ e. none, λ f. is);
+            many = λ k e. absurd (omega (arith, same-kind (sym is ∙ e)));
+          }
+
+-- the contract, of a record and ranges that are accepted, and of others
+pub tested : (before : Propagator) (es ls : List ℤ) (r : Overload) → AcceptedInput before es ls → length (before .durations) ≡ TASKS → r ≡ answerOf (momentsIn before es ls) → OverloadTested before es ls r
+tested before es ls r a long z =
+    let Z = tasksIn before es ls in
+    let low = above before es ls a long in
+    let fine = proper-whole before es ls a long in
+    let s = says (momentsIn before es ls) (proper before es ls a long) r z in
+    record {
+      refused = λ h. absurd (h (accepted-input before es ls .1 a));
+      answer = λ _. z;
+      yes = λ _. (λ w. (let o = s .yes .0 w in (o .0, overload← zeroAt Z fine low (o .0) (o .1))), λ w. s .yes .1 (w .0, overload→ zeroAt Z fine low (w .0) (w .1)));
+      no = λ _. (λ e Ω o. s .no .0 e Ω (overload→ zeroAt Z fine low Ω o), λ f. s .no .1 (λ Ω o. f Ω (overload← zeroAt Z fine low Ω o)));
+      many = λ k e. (let m = s .many k e in (m .0, omega (arith, m .1, count before es ls a long)));
+    }
+
+pub turned-back : (before : Propagator) (es ls : List ℤ) (r : Overload) → (inputNumber before es ls ≡ 0 → ⊥) → overloadNumbers r ≡ refusedBy (inputNumber before es ls) → OverloadTested before es ls r
+turned-back before es ls r h z = record {
+  refused = λ _. z;
+  answer = λ e. absurd (h e);
+  yes = λ e. absurd (h e);
+  no = λ e. absurd (h e);
+  many = λ k e. absurd (omega (arith, same-kind (sym z ∙ e)));
+}

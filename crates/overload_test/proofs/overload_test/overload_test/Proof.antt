@@ -1,0 +1,46 @@
+-- `counter::overload_test::overload_test` meets its contract.
+-- Assumes nothing.
+use mathlib.Core.Path.{_≡_, sym, ap, _∙_}
+use lib.ListN.{length}
+use borrow.Author.Needs.{needs}
+use Rattle.integers.specs.Answers.{refusedBy}
+use Rattle.integers.specs.Limits.{TASKS}
+use Rattle.records.specs.Refusals.{AcceptedInput}
+use Rattle.records.proofs.Refused.{accepted-input}
+use Rattle.overload_test.proofs.Answers.{tested, turned-back}
+use Rattle.overload_test.proofs.overload_test.overload_test.Statement.{statement}
+use Rattle.overload_test.proofs.overload_test.overload_test.Tie as tie
+
+long : (c : tie.Start) → length (c .args .t1 .durations) ≡ TASKS
+long c = search needs
+
+-- no test failed
+passed : (c : tie.Else1) → let a = c .before .before .before .before .args in AcceptedInput (a .t1) (a .earliest .now) (a .latest .now)
+passed c = let a = c .before .before .before .before .args in accepted-input (a .t1) (a .earliest .now) (a .latest .now) .0 (sym (c .before .input-refusal .ensures) ∙ c .if1 .left)
+
+input-refusal-requires : tie.Need-input-refusal-requires
+input-refusal-requires c κs = search needs
+
+returns : tie.Need-returns
+returns c =
+    let n = c .before in
+    let a = n .before .before .before .args in
+    turned-back (a .t1) (a .earliest .now) (a .latest .now) _ (λ z. c .if1 .taken (n .input-refusal .ensures ∙ z)) (ap refusedBy (n .input-refusal .ensures))
+
+accepted-requires : tie.Need-accepted-requires
+accepted-requires c κs = passed c
+
+returns-2 : tie.Need-returns-2
+returns-2 c =
+    let s = c .before .before .before .before .before in
+    let a = s .args in
+    tested (a .t1) (a .earliest .now) (a .latest .now) _ (passed (c .before)) (long s) (c .accepted .ensures)
+
+pub overload-test-spec : {M : Type 1} → statement M
+overload-test-spec =
+    tie.close
+    (tie.spec
+    input-refusal-requires
+    returns
+    accepted-requires
+    returns-2)

@@ -1,0 +1,106 @@
+// Whether some set of the tasks overloads: the tasks go into the theta tree by latest completion, least first, until those read overload.
+use records::orders::completions;
+use records::orders::moments_of;
+use records::orders::sort_numbers;
+use records::record::Propagator;
+use records::refusals::input_refusal;
+use trees::disjunctive_task::DisjunctiveTask;
+use trees::disjunctive_task::LocalId;
+use trees::disjunctive_task::leaf_of;
+use trees::theta_tree::ThetaTree;
+ghost use mathlib.Core.Path.{_≡_};
+ghost use Rattle.records.specs.Records.{momentsIn};
+ghost use Rattle.records.specs.Refusals.{AcceptedInput};
+ghost use Rattle.overload_test.specs.Reading.{answerOf};
+ghost use Rattle.overload_test.specs.Readable.{Readable};
+ghost use Rattle.overload_test.specs.Tested.{OverloadTested};
+
+// Yes, with the number of tasks read; or the number that turned the input back.
+pub enum Overload {
+    Yes(usize),
+    No,
+    Refused(u32),
+}
+
+// Reads the tasks in their order, each into Theta.
+fn read_tasks<'a>(
+    nodes: &mut [u32; 254],
+    inner: usize,
+    mapping: &'a [usize; 48],
+    tasks: &'a [usize; 48],
+    est: &'a [u32; 48],
+    lct: &'a [u32; 48],
+    durations: &'a [u32; 48],
+    n: usize,
+) -> Overload
+    requires { ⌜ Readable inner n (now nodes) (now mapping) (now tasks) (now est) (now lct) (now durations) ⌝ }
+    ensures { λ r. ⌜ ((f : Readable inner n (now (nodes .entry)) (now (mapping .entry)) (now (tasks .entry)) (now (est .entry)) (now (lct .entry)) (now (durations .entry))) → r ≡ answerOf (f .J)) ⌝ }
+{
+    let mut k: usize = 0;
+    while k < n {
+        let i = tasks[k];
+        let place = leaf_of(mapping, LocalId(i));
+        let task = DisjunctiveTask {
+            start_time: est[i],
+            processing_time: durations[i],
+            id: LocalId(i),
+        };
+        ThetaTree::add(nodes, inner, place, task);
+        k += 1;
+        let ect = ThetaTree::ect(nodes);
+        if ect.exceeds(lct[i]) {
+            return Overload::Yes(k);
+        }
+    }
+    Overload::No
+}
+
+// The test of a record and ranges that nothing turns back.
+fn accepted(record: Propagator, earliest: &[i32], latest: &[i32]) -> Overload
+    requires { ⌜ AcceptedInput «record» (now earliest) (now latest) ⌝ }
+    ensures { λ r. ⌜ r ≡ answerOf (momentsIn «record» (now (earliest .entry)) (now (latest .entry))) ⌝ }
+{
+    let n = record.count;
+    let durations = record.durations;
+    let mut est: [u32; 48] = [0; 48];
+    moments_of(&mut est, earliest);
+    let mut lst: [u32; 48] = [0; 48];
+    moments_of(&mut lst, latest);
+    let mut lct: [u32; 48] = [0; 48];
+    completions(&mut lct, &lst, &durations, n);
+    let mut leaves: [usize; 48] = [0; 48];
+    sort_numbers(&mut leaves, n, &est);
+    let mut tasks: [usize; 48] = [0; 48];
+    sort_numbers(&mut tasks, n, &lct);
+    let tree = ThetaTree::new(&leaves, n);
+    let inner = tree.number_of_internal_nodes;
+    let mapping = tree.mapping;
+    let mut nodes = tree.nodes;
+    read_tasks(
+        &mut nodes,
+        inner,
+        &mapping,
+        &tasks,
+        &est,
+        &lct,
+        &durations,
+        n,
+    )
+}
+
+// Whether some set of the record's tasks overloads in these ranges.
+pub fn overload_test(record: Propagator, earliest: &[i32], latest: &[i32]) -> Overload
+    ensures { λ r. ⌜ OverloadTested «record» (now (earliest .entry)) (now (latest .entry)) r ⌝ }
+{
+    let number = input_refusal(
+        record.count,
+        &record.durations,
+        record.total,
+        earliest,
+        latest,
+    );
+    if number != 0 {
+        return Overload::Refused(number);
+    }
+    accepted(record, earliest, latest)
+}

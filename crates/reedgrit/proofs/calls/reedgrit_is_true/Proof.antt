@@ -1,0 +1,77 @@
+-- `exports::calls::reedgrit_is_true` meets its contract: where the question's own words are accepted, the premises' tests are the question's.
+-- Assumes nothing.
+use mathlib.Core.Path.{_≡_, sym, ap, _∙_}
+use borrow.Author.Needs.{needs}
+use borrow.Author.Tests.{not-true, not-false}
+use Rattle.integers.proofs.Ints.{back}
+use Rattle.checking.specs.Answers.{truthNumbers}
+use Rattle.checking.specs.Atoms.{rightAtom}
+use Rattle.checking.specs.States.{truthOf}
+use Rattle.reedgrit.specs.Answers.{stateAnswer}
+use Rattle.reedgrit.specs.Calls.{askedAt}
+use Rattle.reedgrit.proofs.Asking.{unfit, fit}
+use Rattle.reedgrit.proofs.calls.reedgrit_is_true.Statement.{statement}
+use Rattle.reedgrit.proofs.calls.reedgrit_is_true.Tie as tie
+
+-- what the test of the question's own words says
+said : (c : tie.After-atom-is-accepted) → c .atom-is-accepted .result ≡ rightAtom (c .before .args .variable) (c .before .args .kind) (c .before .args .value)
+said c = let s = c .before in c .atom-is-accepted .ensures ∙ (λ i. rightAtom (back (s .fits .variable) i) (back (s .fits .kind) i) (back (s .fits .value) i))
+
+atom-is-accepted-requires : tie.Need-atom-is-accepted-requires
+atom-is-accepted-requires c κs = search needs
+
+unfit-number-requires : tie.Need-unfit-number-requires
+unfit-number-requires c κs = search needs
+
+refusal-numbers-requires : tie.Need-refusal-numbers-requires
+refusal-numbers-requires c κs = search needs
+
+returns : tie.Need-returns
+returns c =
+    let s = c .before .before .before .before in
+    let a = s .args in
+    c .refusal-numbers .ensures
+    ∙ unfit (a .premises .now) (rightAtom (a .variable) (a .kind) (a .value)) (λ t. truthNumbers (truthOf t (a .variable) (a .kind) (a .value)))
+    (sym (said (c .before .before .before)) ∙ not-true (c .before .before .before .atom-is-accepted .result) (c .before .before .if1 .taken))
+    (c .before .unfit-number .result) (c .before .unfit-number .ensures)
+
+slice-aggregate-prepare-for-conflict-check : tie.Need-slice-aggregate-prepare-for-conflict-check
+slice-aggregate-prepare-for-conflict-check c = search needs
+
+prepare-for-conflict-check-requires : tie.Need-prepare-for-conflict-check-requires
+prepare-for-conflict-check-requires c κs = search needs
+
+is-true-requires : tie.Need-is-true-requires
+is-true-requires c κs = search needs
+
+truth-numbers-requires : tie.Need-truth-numbers-requires
+truth-numbers-requires c κs = search needs
+
+state-numbers-requires : tie.Need-state-numbers-requires
+state-numbers-requires c κs = search needs
+
+returns-2 : tie.Need-returns-2
+returns-2 c =
+    let test = c .before .before .before .before .before in
+    let s = test .before .before in
+    let a = s .args in
+    let made = c .before .before .before .prepare-for-conflict-check in
+    c .state-numbers .ensures
+    ∙ ap (askedAt (made .result .answer)) (c .before .truth-numbers .ensures ∙ (λ i. stateAnswer (truthNumbers (c .before .before .is-true .ensures .0 i))) ∙ (λ i. stateAnswer (truthNumbers (truthOf (made .result .state) (back (s .fits .variable) i) (back (s .fits .kind) i) (back (s .fits .value) i)))))
+    ∙ fit (a .premises .now) (rightAtom (a .variable) (a .kind) (a .value)) (λ t. truthNumbers (truthOf t (a .variable) (a .kind) (a .value)))
+    (sym (said (test .before)) ∙ not-false (test .before .atom-is-accepted .result) (test .if1 .left)) (made .result) (made .ensures .0)
+
+pub reedgrit-is-true-spec : {M : Type 1} → statement M
+reedgrit-is-true-spec =
+    tie.close
+    (tie.spec
+    atom-is-accepted-requires
+    unfit-number-requires
+    refusal-numbers-requires
+    returns
+    slice-aggregate-prepare-for-conflict-check
+    prepare-for-conflict-check-requires
+    is-true-requires
+    truth-numbers-requires
+    state-numbers-requires
+    returns-2)

@@ -1,0 +1,31 @@
+-- `exports::calls::reedgrit_post` meets its contract.
+-- Assumes nothing.
+use mathlib.Core.Path.{sym, _∙_}
+use borrow.Author.Needs.{needs}
+use Rattle.records.proofs.Reading.{readable}
+use Rattle.reedgrit.proofs.Reading.{turned-back, read}
+use Rattle.reedgrit.proofs.calls.reedgrit_post.Statement.{statement}
+use Rattle.reedgrit.proofs.calls.reedgrit_post.Tie as tie
+
+post-number-requires : tie.Need-post-number-requires
+post-number-requires c κs = search needs
+
+returns : tie.Need-returns
+returns c =
+    let args = c .before .before .args in
+    turned-back (args .posts .now) (args .atoms .now) (args .post-count) (args .index) (c .before .post-number .result) (c .before .post-number .ensures) (c .if1 .taken)
+
+read-post-requires : tie.Need-read-post-requires
+read-post-requires c κs =
+    let args = c .before .before .args in
+    let r = readable (args .posts .now) (args .atoms .now) (args .post-count) (args .index) .0 (sym (c .before .post-number .ensures) ∙ c .if1 .left) in
+    (r .inside, r .from, r .many)
+
+returns-2 : tie.Need-returns-2
+returns-2 c =
+    let args = c .before .before .before .args in
+    let number = c .before .before .post-number in
+    c .read-post .ensures ∙ read (args .posts .now) (args .atoms .now) (args .post-count) (args .index) (number .result) (number .ensures) (c .before .if1 .left)
+
+pub reedgrit-post-spec : {M : Type 1} → statement M
+reedgrit-post-spec = tie.close (tie.spec post-number-requires returns read-post-requires returns-2)

@@ -1,0 +1,24 @@
+-- `exports::calls::unfit_number` meets its contract: a question of which 6 is sure is turned back by 7 where there are too many premises.
+-- Assumes nothing.
+use mathlib.Core.Path.{sym}
+use mathlib.Core.Bool.{false}
+use native.Mathlib.Omega.{arith}
+use borrow.Author.Needs.{needs}
+use Rattle.reedgrit.proofs.Asking.{too-many, malformed-own}
+use Rattle.reedgrit.proofs.calls.unfit_number.Statement.{statement}
+use Rattle.reedgrit.proofs.calls.unfit_number.Tie as tie
+
+mul-if1 : tie.Need-mul-if1
+mul-if1 c = search needs
+
+add-if1 : tie.Need-add-if1
+add-if1 c = search needs
+
+returns : tie.Need-returns
+returns c = sym (too-many (c .before .args .premises .now) false (omega arith))
+
+returns-2 : tie.Need-returns-2
+returns-2 c = sym (malformed-own (c .before .args .premises .now) (omega arith))
+
+pub unfit-number-spec : {M : Type 1} → statement M
+unfit-number-spec = tie.close (tie.spec mul-if1 add-if1 returns returns-2)

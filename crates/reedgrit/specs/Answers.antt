@@ -1,0 +1,36 @@
+-- An answer by the papers' numbers as a struct: the kind, the number, and the values in their places; a value that its case does not have is 0.
+-- Different answers are different structs (proofs/Apart.antt).
+use mathlib.Core.Bool.{cond}
+use Prim.Native.Nat.{ℕ}
+use lib.Dec.{eqb}
+use lib.IntN.{ℤ, pos, natAbs}
+use lib.ListN.{getD}
+use Rattle.integers.specs.Answers.{Answer}
+use Rattle.reedgrit.specs.declared.answers.RunAnswer.{RunAnswer}
+use Rattle.reedgrit.specs.declared.answers.CheckAnswer.{CheckAnswer}
+use Rattle.reedgrit.specs.declared.answers.StateAnswer.{StateAnswer}
+
+-- the value at a place, and the same as a natural number
+abbrev pub valueAt : ℕ → Answer → ℤ
+valueAt k a = getD (a .values) k (pos 0)
+
+abbrev pub natAt : ℕ → Answer → ℕ
+natAt k a = natAbs (valueAt k a)
+
+-- a run: its post count and, of an overload's reason, the first atom's index and the atom count; and its leaf changes
+abbrev pub runAnswer : Answer → ℕ → RunAnswer
+runAnswer a changed = record { kind = a .kind; number = a .number; posts = natAt 0 a; first = natAt 1 a; count = natAt 2 a; changes = changed }
+
+-- a check: a contradiction's variable
+abbrev pub checkAnswer : Answer → CheckAnswer
+checkAnswer a = record { kind = a .kind; number = a .number; variable = natAt 0 a }
+
+-- a question to a state: a contradiction, which is kind 2, has its variable; a bound has an infinity's sign, or 0, and the whole number
+abbrev pub stateAnswer : Answer → StateAnswer
+stateAnswer a = record {
+  kind = a .kind;
+  number = a .number;
+  variable = cond (eqb (a .kind) 2) (natAt 0 a) 0;
+  infinity = cond (eqb (a .kind) 2) (pos 0) (valueAt 0 a);
+  value = valueAt 1 a;
+}

@@ -1,0 +1,83 @@
+-- What the exported calls beside the run answer: the numbers of what the open calls of their names answer, which keep their contracts.
+use mathlib.Core.List.{List}
+use mathlib.Core.Path.{_≡_}
+use Prim.Native.Nat.{ℕ}
+use lib.IntN.{ℤ}
+use Rattle.records.specs.declared.record.Propagator.{Propagator}
+use Rattle.checker.specs.declared.checker.Verdict.{Verdict}
+use Rattle.checker.specs.MirroredChecks.{CheckedMirrored}
+use Rattle.checker.specs.Verdicts.{verdictNumbers}
+use Rattle.charges.specs.Charging.{Charged}
+use Rattle.overload_test.specs.declared.overload_test.Overload.{Overload}
+use Rattle.overload_test.specs.Numbers.{overloadNumbers}
+use Rattle.overload_test.specs.Tested.{OverloadTested}
+use Rattle.task_changes.specs.declared.changes.Change.{Change}
+use Rattle.task_changes.specs.Changes.{AddedLent, RemovedLent}
+use Rattle.task_changes.specs.Numbers.{changeNumbers}
+use Rattle.free_starts.specs.declared.free_start.FreeStart.{FreeStart}
+use Rattle.free_starts.specs.FreeStarts.{Answered as FreeStartAnswered}
+use Rattle.free_starts.specs.Numbers.{freeStartNumbers}
+use Rattle.pages.specs.declared.answer.Page.{Page}
+use Rattle.pages.specs.Numbers.{pageNumbers}
+use Rattle.pages.specs.Pages.{Paged}
+use Rattle.precedences.specs.declared.answers.Precedences.{Precedences}
+use Rattle.precedences.specs.declared.answers.Reason.{Reason}
+use Rattle.precedences.specs.Numbers.{precedencesNumbers, reasonNumbers}
+use Rattle.precedences.specs.Reasons.{ReasonGiven}
+use Rattle.propagator.specs.declared.disjunctive_propagator.Outcome.{Outcome}
+use Rattle.propagator.specs.Outcomes.{outcomeNumbers}
+use Rattle.busiest_stretch.specs.declared.answer.Busiest.{Busiest}
+use Rattle.busiest_stretch.specs.Numbers.{busiestNumbers}
+use Rattle.busiest_stretch.specs.Stretches.{Answered as BusiestAnswered}
+use Rattle.disjunctive.specs.declared.ranges.Range.{Range}
+use Rattle.disjunctive.specs.LentCalls.{PrecedencesLent}
+use Rattle.disjunctive.specs.RanLent.{RanMirroredLent}
+use Rattle.disjunctive.specs.Ranges.{earliests, latests}
+use Rattle.reedgrit.specs.declared.answers.CheckAnswer.{CheckAnswer}
+use Rattle.reedgrit.specs.declared.request_answers.MirroredAnswer.{MirroredAnswer}
+use Rattle.reedgrit.specs.declared.request_answers.CountAnswer.{CountAnswer}
+use Rattle.reedgrit.specs.declared.request_answers.ChangeAnswer.{ChangeAnswer}
+use Rattle.reedgrit.specs.declared.request_answers.StartAnswer.{StartAnswer}
+use Rattle.reedgrit.specs.declared.request_answers.BusiestAnswer.{BusiestAnswer}
+use Rattle.reedgrit.specs.declared.request_answers.ChargesAnswer.{ChargesAnswer}
+use Rattle.reedgrit.specs.Answers.{checkAnswer}
+use Rattle.reedgrit.specs.RequestAnswers.{mirroredAnswer, countAnswer, changeAnswer, startAnswer, busiestAnswer, chargesAnswer}
+
+-- a is made of the numbers of an answer of which P holds
+pub record NumbersOf {R A : Type 0} (numbers : R → A) (P : R → Type 0) (a : A) : Type 0 where
+  pub answer : R
+  pub are : a ≡ numbers answer
+  pub promised : P answer
+
+abbrev pub CheckedMirroredNumbers : List ℤ → List ℤ → List ℤ → CheckAnswer → Type 0
+CheckedMirroredNumbers ds premises consequent = NumbersOf (λ r. checkAnswer (verdictNumbers r)) (CheckedMirrored ds premises consequent)
+
+abbrev pub MirroredNumbers : Propagator → List Range → List ℤ → List ℤ → MirroredAnswer → List Range → List ℤ → List ℤ → Type 0
+MirroredNumbers before ranges posts atoms a ranges′ posts′ atoms′ = NumbersOf (λ r. mirroredAnswer (outcomeNumbers r)) (λ r. RanMirroredLent before ranges posts atoms r ranges′ posts′ atoms′) a
+
+abbrev pub OverloadNumbers : Propagator → List Range → CountAnswer → Type 0
+OverloadNumbers before ranges = NumbersOf (λ r. countAnswer (overloadNumbers r)) (OverloadTested before (earliests ranges) (latests ranges))
+
+abbrev pub AddedNumbers : Propagator → ℤ → ChangeAnswer → Propagator → Type 0
+AddedNumbers before duration a after = NumbersOf (λ r. changeAnswer (changeNumbers r)) (λ r. AddedLent before duration r after) a
+
+abbrev pub RemovedNumbers : Propagator → ℕ → ChangeAnswer → Propagator → Type 0
+RemovedNumbers before task a after = NumbersOf (λ r. changeAnswer (changeNumbers r)) (λ r. RemovedLent before task r after) a
+
+abbrev pub PageNumbers : Propagator → List Range → List ℕ → CountAnswer → List ℕ → Type 0
+PageNumbers before ranges out a out′ = NumbersOf (λ r. countAnswer (pageNumbers r)) (λ r. Paged before (earliests ranges) (latests ranges) out r out′) a
+
+abbrev pub ChargesNumbers : Propagator → List Range → List ℤ → ChargesAnswer → Type 0
+ChargesNumbers before ranges due = NumbersOf chargesAnswer (Charged before (earliests ranges) (latests ranges) due)
+
+abbrev pub FreeStartNumbers : Propagator → List Range → ℤ → ℤ → StartAnswer → Type 0
+FreeStartNumbers before ranges t d = NumbersOf (λ r. startAnswer (freeStartNumbers r)) (FreeStartAnswered before (earliests ranges) (latests ranges) t d)
+
+abbrev pub BusiestNumbers : Propagator → List Range → ℤ → BusiestAnswer → Type 0
+BusiestNumbers before ranges w = NumbersOf (λ r. busiestAnswer (busiestNumbers r)) (BusiestAnswered before (earliests ranges) (latests ranges) w)
+
+abbrev pub PrecedencesNumbers : Propagator → List Range → CountAnswer → List Range → Type 0
+PrecedencesNumbers before ranges a ranges′ = NumbersOf (λ r. countAnswer (precedencesNumbers r)) (λ r. PrecedencesLent before ranges r ranges′) a
+
+abbrev pub ReasonNumbers : Propagator → List Range → ℕ → List ℤ → CountAnswer → List ℤ → Type 0
+ReasonNumbers before ranges task reason a reason′ = NumbersOf (λ r. countAnswer (reasonNumbers r)) (λ r. ReasonGiven before (earliests ranges) (latests ranges) task reason r reason′) a

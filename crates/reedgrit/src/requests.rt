@@ -1,0 +1,160 @@
+// The exported calls beside the run and the check. Each is the open call of its name, with the answer's numbers for the answer; none has a `requires`.
+use crate::answers::CheckAnswer;
+use crate::answers::verdict_numbers;
+use crate::request_answers::BusiestAnswer;
+use crate::request_answers::ChangeAnswer;
+use crate::request_answers::ChargesAnswer;
+use crate::request_answers::CountAnswer;
+use crate::request_answers::MirroredAnswer;
+use crate::request_answers::StartAnswer;
+use crate::request_answers::busiest_numbers;
+use crate::request_answers::change_numbers;
+use crate::request_answers::charges_numbers;
+use crate::request_answers::mirrored_numbers;
+use crate::request_answers::overload_numbers;
+use crate::request_answers::page_numbers;
+use crate::request_answers::precedences_numbers;
+use crate::request_answers::reason_numbers;
+use crate::request_answers::start_numbers;
+use checker::checker::check_mirrored;
+use disjunctive::ranges::Range;
+use disjunctive::ranges::by_precedence::precedence_reason;
+use disjunctive::ranges::by_precedence::precedences;
+use disjunctive::ranges::fixed_schedules::busiest_stretch;
+use disjunctive::ranges::fixed_schedules::charges;
+use disjunctive::ranges::fixed_schedules::free_start;
+use disjunctive::ranges::fixed_schedules::page;
+use disjunctive::ranges::overload_test;
+use disjunctive::ranges::run_mirrored;
+use records::record::Propagator;
+use task_changes::lent::add;
+use task_changes::lent::remove;
+ghost use mathlib.Core.Path.{_≡_};
+ghost use Rattle.reedgrit.specs.Requests.{CheckedMirroredNumbers, MirroredNumbers, OverloadNumbers, AddedNumbers, RemovedNumbers, PageNumbers, ChargesNumbers, FreeStartNumbers, BusiestNumbers, PrecedencesNumbers, ReasonNumbers};
+
+// The version of these functions and structs.
+#[no_mangle]
+pub extern "C" fn reedgrit_abi_version() -> u32
+    ensures { λ r. ⌜ r ≡ 2 ⌝ }
+{
+    2
+}
+
+// The check for a reason of a latest start.
+#[no_mangle]
+pub extern "C" fn reedgrit_check_mirrored(
+    durations: &[i32],
+    premises: &[i32],
+    consequent: &[i32],
+) -> CheckAnswer
+    ensures { λ r. ⌜ CheckedMirroredNumbers (now (durations .entry)) (now (premises .entry)) (now (consequent .entry)) r ⌝ }
+{
+    verdict_numbers(check_mirrored(durations, premises, consequent))
+}
+
+// The mirrored pass on the lent record and ranges.
+#[no_mangle]
+pub extern "C" fn reedgrit_run_mirrored(
+    propagator: &Propagator,
+    ranges: &mut [Range],
+    posts: &mut [i32],
+    atoms: &mut [i32],
+) -> MirroredAnswer
+    ensures { λ r. ⌜ MirroredNumbers (now (propagator .entry)) (now (ranges .entry)) (now (posts .entry)) (now (atoms .entry)) r (now (ranges .exit)) (now (posts .exit)) (now (atoms .exit)) ⌝ }
+{
+    mirrored_numbers(run_mirrored(propagator, ranges, posts, atoms))
+}
+
+// The overload test.
+#[no_mangle]
+pub extern "C" fn reedgrit_overload_test(propagator: &Propagator, ranges: &[Range]) -> CountAnswer
+    ensures { λ r. ⌜ OverloadNumbers (now (propagator .entry)) (now (ranges .entry)) r ⌝ }
+{
+    overload_numbers(overload_test(propagator, ranges))
+}
+
+// A task more.
+#[no_mangle]
+pub extern "C" fn reedgrit_add(propagator: &mut Propagator, duration: i32) -> ChangeAnswer
+    ensures { λ r. ⌜ AddedNumbers (now (propagator .entry)) duration r (now (propagator .exit)) ⌝ }
+{
+    change_numbers(add(propagator, duration))
+}
+
+// A task less.
+#[no_mangle]
+pub extern "C" fn reedgrit_remove(propagator: &mut Propagator, task: usize) -> ChangeAnswer
+    ensures { λ r. ⌜ RemovedNumbers (now (propagator .entry)) task r (now (propagator .exit)) ⌝ }
+{
+    change_numbers(remove(propagator, task))
+}
+
+// The page of a fixed schedule.
+#[no_mangle]
+pub extern "C" fn reedgrit_page(
+    propagator: &Propagator,
+    ranges: &[Range],
+    out: &mut [u8],
+) -> CountAnswer
+    ensures { λ r. ⌜ PageNumbers (now (propagator .entry)) (now (ranges .entry)) (now (out .entry)) r (now (out .exit)) ⌝ }
+{
+    page_numbers(page(propagator, ranges, out))
+}
+
+// The charges of a fixed schedule.
+#[no_mangle]
+pub extern "C" fn reedgrit_charges(
+    propagator: &Propagator,
+    ranges: &[Range],
+    due: &[i32],
+) -> ChargesAnswer
+    ensures { λ r. ⌜ ChargesNumbers (now (propagator .entry)) (now (ranges .entry)) (now (due .entry)) r ⌝ }
+{
+    charges_numbers(charges(propagator, ranges, due))
+}
+
+// The earliest free start beside a fixed schedule.
+#[no_mangle]
+pub extern "C" fn reedgrit_free_start(
+    propagator: &Propagator,
+    ranges: &[Range],
+    t: i32,
+    d: i32,
+) -> StartAnswer
+    ensures { λ r. ⌜ FreeStartNumbers (now (propagator .entry)) (now (ranges .entry)) t d r ⌝ }
+{
+    start_numbers(free_start(propagator, ranges, t, d))
+}
+
+// Its busiest stretch.
+#[no_mangle]
+pub extern "C" fn reedgrit_busiest_stretch(
+    propagator: &Propagator,
+    ranges: &[Range],
+    w: i32,
+) -> BusiestAnswer
+    ensures { λ r. ⌜ BusiestNumbers (now (propagator .entry)) (now (ranges .entry)) w r ⌝ }
+{
+    busiest_numbers(busiest_stretch(propagator, ranges, w))
+}
+
+// The pass by precedences on the lent record and ranges.
+#[no_mangle]
+pub extern "C" fn reedgrit_precedences(propagator: &Propagator, ranges: &mut [Range]) -> CountAnswer
+    ensures { λ r. ⌜ PrecedencesNumbers (now (propagator .entry)) (now (ranges .entry)) r (now (ranges .exit)) ⌝ }
+{
+    precedences_numbers(precedences(propagator, ranges))
+}
+
+// The reason of one task's bound by precedences.
+#[no_mangle]
+pub extern "C" fn reedgrit_precedence_reason(
+    propagator: &Propagator,
+    ranges: &[Range],
+    task: usize,
+    reason: &mut [i32],
+) -> CountAnswer
+    ensures { λ r. ⌜ ReasonNumbers (now (propagator .entry)) (now (ranges .entry)) task (now (reason .entry)) r (now (reason .exit)) ⌝ }
+{
+    reason_numbers(precedence_reason(propagator, ranges, task, reason))
+}

@@ -1,4 +1,0 @@
-pub mod Numbers
-pub mod Stretches
-pub mod Holding
-pub mod Examples

@@ -1,0 +1,179 @@
+-- After any history the record's durations are those of the tasks that it leaves, and the stored total is their sum. Each call is a step of a history.
+-- Assumes nothing.
+use mathlib.Core.Path.{_≡_, refl, sym, ap, ap₂, subst, _∙_}
+use mathlib.Core.List.{List, [], _∷_, _++_, map}
+use Prim.Native.Nat.{ℕ, zero, suc, _+_, _≤_, _<_}
+use native.Mathlib.Omega.{arith}
+use native.Mathlib.Decide.{ℕ-discrete}
+use lib.IntN.{ℤ, pos}
+use lib.ListN.{length, getD, take, length-map, length-append, length-replicate, List·getD-map}
+use lib.Seq.{length-take-le, getD-take, ext-getD}
+use Rattle.integers.specs.Limits.{TASKS}
+use Rattle.integers.specs.Filling.{filled}
+use Rattle.integers.specs.Tests.{refusal}
+use Rattle.integers.proofs.Filling.{filled-at, filled-length}
+use Rattle.scheduling.proofs.Sets.{total-none}
+use Rattle.records.specs.declared.record.Propagator.{Propagator}
+use Rattle.records.specs.Orders.{noTasks}
+use Rattle.records.specs.Records.{Lawful, recordOf, durationOf, durationAt, creationTests, newRecord, createdAt, created}
+use Rattle.records.specs.declared.record.Created.{Created}
+use Rattle.records.proofs.Creation.{created-lawful, created-new, natural-accepted}
+use Rattle.propagator.specs.declared.disjunctive_propagator.Run.{Run}
+use Rattle.propagator.specs.Ran.{Ran}
+use Rattle.task_changes.specs.declared.changes.Changed.{Changed}
+use Rattle.task_changes.specs.Lists.{placed, sumOf, without}
+use Rattle.task_changes.specs.Changes.{durationsOf, added, removed, addNumber, removeNumber, TaskAdded, TaskRemoved}
+use Rattle.task_changes.specs.Histories.{leaves, History, creation, adding, removing, running, startOf, recordAfter, durationsAfter}
+use Rattle.task_changes.proofs.Placing.{placed-length, placed-front, front-placed}
+use Rattle.task_changes.proofs.Leaving.{without-few, without-length}
+use Rattle.task_changes.proofs.Sums.{sum-more, sum-without, sum-given}
+use Rattle.task_changes.proofs.Changing.{lasts, lasting, added-lawful, added-tasks, removed-lawful, removed-tasks, addable, removable}
+
+-- A record is that of these durations: they stand in its first places, with their sum.
+record Holds (r : Propagator) (ds : List ℕ) : Type 0 where
+  count : r .count ≡ length ds
+  array : r .durations ≡ placed ds
+  sum : r .total ≡ sumOf ds
+  few : length ds ≤ TASKS
+
+long : {r : Propagator} {ds : List ℕ} → Holds r ds → length (r .durations) ≡ TASKS
+long {r} {ds} h = ap length (h .array) ∙ placed-length ds (h .few)
+
+tasks : {r : Propagator} {ds : List ℕ} → Holds r ds → durationsOf r ≡ ds
+tasks {r} {ds} h = ap₂ (λ (n : ℕ) (l : List ℕ). take n l) (h .count) (h .array) ∙ placed-front ds
+
+-- a step that is made and one that is refused
+made-or-not : (k : ℕ) {r r′ : Propagator} {ds ds′ : List ℕ} → (k ≡ 0 → Holds r′ ds′) → Holds r ds → Holds (leaves k r′ r) (leaves k ds′ ds)
+made-or-not zero new old = new refl
+made-or-not (suc k) new old = old
+
+created-or-not : (k : ℕ) (ds : List ℤ) → (k ≡ 0 → Holds (newRecord ds) (map durationOf ds)) → Holds (createdAt k ds .«record») (leaves k (map durationOf ds) [])
+created-or-not zero ds new = new refl
+created-or-not (suc k) ds new = record { count = refl; array = refl; sum = sym (total-none _); few = omega arith }
+
+new-holds : (ds : List ℤ) → refusal (creationTests ds) ≡ 0 → Holds (newRecord ds) (map durationOf ds)
+new-holds ds h = record {
+  count = sym (length-map ds durationOf);
+  array = front-placed (length ds) (filled (durationAt ds) (length ds) noTasks) long few (created-lawful ds h .unused)
+      ∙ ap placed (ext-getD 0 (take (length ds) (filled (durationAt ds) (length ds) noTasks)) (map durationOf ds) (size ∙ sym (length-map ds durationOf)) same);
+  sum = sum-given ds;
+  few = omega (arith, length-map ds durationOf, few);
+}
+  where
+    few : length ds ≤ TASKS
+    few = created-lawful ds h .few
+
+    long : length (filled (durationAt ds) (length ds) noTasks) ≡ TASKS
+    long = filled-length (durationAt ds) (length ds) noTasks ∙ length-replicate {A = ℕ} TASKS 0
+
+    size : length (take (length ds) (filled (durationAt ds) (length ds) noTasks)) ≡ length ds
+    size = length-take-le (length ds) (filled (durationAt ds) (length ds) noTasks) (omega (arith, few, long))
+
+    same : (k : ℕ) → k < length (take (length ds) (filled (durationAt ds) (length ds) noTasks)) → getD (take (length ds) (filled (durationAt ds) (length ds) noTasks)) k 0 ≡ getD (map durationOf ds) k 0
+    same k q =
+        let s : k < length ds = omega (arith, size) in
+        getD-take (length ds) (filled (durationAt ds) (length ds) noTasks) k 0 s ∙ filled-at (durationAt ds) (length ds) noTasks 0 k s few ∙ sym (List·getD-map durationOf ds k (pos 0))
+
+module _ (r : Propagator) (ds : List ℕ) (h : Holds r ds) where
+  added-holds : (d : ℤ) → addNumber r d ≡ 0 → Holds (added r (durationOf d)) (ds ++ (durationOf d ∷ []))
+  added-holds d e =
+      let a = addable r d e in
+      let size : length (ds ++ (durationOf d ∷ [])) ≡ r .count + 1 = omega (arith, length-append ds (durationOf d ∷ []), h .count) in
+      record {
+        count = sym size;
+        array = ap (λ (l : List ℕ). placed (l ++ (durationOf d ∷ []))) (tasks h);
+        sum = ap (λ (s : ℕ). s + durationOf d) (h .sum) ∙ sym (sum-more ds (durationOf d));
+        few = omega (arith, size, a .room);
+      }
+
+  removed-holds : (t : ℕ) → removeNumber r t ≡ 0 → Holds (removed r t) (without ds t)
+  removed-holds t e =
+      let a = removable r t e in
+      let here : getD ds t 0 ≡ getD (r .durations) t 0 = ap (λ (l : List ℕ). getD l t 0) (sym (tasks h)) ∙ getD-take (r .count) (r .durations) t 0 (a .there) in
+      record {
+        count = omega (arith, without-length ds t (omega (arith, h .count, a .there)), h .count);
+        array = ap (λ (l : List ℕ). placed (without l t)) (tasks h);
+        sum = omega (arith, h .sum, sum-without ds t (omega (arith, h .count, a .there)), here);
+        few = omega (arith, without-few ds t, h .few);
+      }
+
+holds : (h : History) → Holds (recordAfter h) (durationsAfter h)
+unfolding recordAfter durationsAfter
+holds (creation ds) = created-or-not (refusal (creationTests ds)) ds (new-holds ds)
+holds (adding h d) = made-or-not (addNumber (recordAfter h) d) (added-holds (recordAfter h) (durationsAfter h) (holds h) d) (holds h)
+holds (removing h t) = made-or-not (removeNumber (recordAfter h) t) (removed-holds (recordAfter h) (durationsAfter h) (holds h) t) (holds h)
+holds (running h es ls posts atoms) = holds h
+
+-- The stored total is the sum over the tasks that the history leaves, and the record's durations are theirs.
+pub total-true : (h : History) → (recordAfter h .total ≡ sumOf (durationsAfter h)) × (durationsOf (recordAfter h) ≡ durationsAfter h)
+total-true h = (holds h .sum, tasks (holds h))
+
+-- From an accepted creation on, every record is lawful: no call of the series is turned back by 20.
+kept : (k : ℕ) {r r′ : Propagator} → (k ≡ 0 → Lawful r′) → Lawful r → Lawful (leaves k r′ r)
+kept zero new old = new refl
+kept (suc k) new old = old
+
+pub lawful-after : (h : History) → refusal (creationTests (startOf h)) ≡ 0 → Lawful (recordAfter h)
+unfolding recordAfter
+lawful-after (creation ds) z = subst (λ (k : ℕ). Lawful (createdAt k ds .«record»)) (sym z) (created-lawful ds z)
+lawful-after (adding h d) z =
+    let r = recordAfter h in
+    kept (addNumber r d) (λ e. (let a = addable r d e in added-lawful r (a .lawful) (long (holds h)) (durationOf d) (a .room) (lasting d (a .lasts)) (a .fits))) (lawful-after h z)
+lawful-after (removing h t) z =
+    let r = recordAfter h in
+    kept (removeNumber r t) (λ e. (let a = removable r t e in removed-lawful r (a .lawful) (long (holds h)) t (a .there) (a .many))) (lawful-after h z)
+lawful-after (running h es ls posts atoms) z = lawful-after h z
+
+-- Each call leaves what its step in a history does.
+leaves-new : (k : ℕ) (r r′ : Propagator) → k ≡ 0 → r′ ≡ leaves k r′ r
+leaves-new k r r′ e = sym (ap (λ (j : ℕ). leaves j r′ r) e)
+
+leaves-old : (k : ℕ) (r r′ : Propagator) → (k ≡ 0 → ⊥) → r ≡ leaves k r′ r
+leaves-old zero r r′ h = absurd (h refl)
+leaves-old (suc k) r r′ h = refl
+
+pub add-step : (r : Propagator) (d : ℤ) (c : Changed) → TaskAdded r d c → c .«record» ≡ leaves (addNumber r d) (added r (durationOf d)) r
+add-step r d c a = elim (ℕ-discrete (addNumber r d) 0) [
+  | yes e ↦ a .made e .stands ∙ leaves-new (addNumber r d) r (added r (durationOf d)) e
+  | no e ↦ a .refused e .stands ∙ leaves-old (addNumber r d) r (added r (durationOf d)) e
+]
+
+pub remove-step : (r : Propagator) (t : ℕ) (c : Changed) → TaskRemoved r t c → c .«record» ≡ leaves (removeNumber r t) (removed r t) r
+remove-step r t c a = elim (ℕ-discrete (removeNumber r t) 0) [
+  | yes e ↦ a .made e .stands ∙ leaves-new (removeNumber r t) r (removed r t) e
+  | no e ↦ a .refused e .stands ∙ leaves-old (removeNumber r t) r (removed r t) e
+]
+
+pub run-step : (r : Propagator) (es ls posts atoms : List ℤ) (c : Run) (es′ posts′ atoms′ : List ℤ) → Ran r es ls posts atoms c es′ posts′ atoms′ → c .«record» ≡ r
+run-step r es ls posts atoms c es′ posts′ atoms′ a = a .keeps
+
+given-back : (l : List ℕ) → map durationOf (map pos l) ≡ l
+given-back [] = refl
+given-back (x ∷ xs) = ap (λ (m : List ℕ). x ∷ m) (given-back xs)
+
+-- The record is that of the durations which the history leaves, so two histories that leave the same durations leave the same record,
+pub record-is : (h : History) → recordAfter h ≡ recordOf (length (durationsAfter h)) (placed (durationsAfter h)) (sumOf (durationsAfter h))
+record-is h = let a = holds h in λ i. recordOf (a .count i) (a .array i) (a .sum i)
+
+pub same-record : (h h′ : History) → durationsAfter h ≡ durationsAfter h′ → recordAfter h ≡ recordAfter h′
+same-record h h′ e = record-is h ∙ ap (λ (ds : List ℕ). recordOf (length ds) (placed ds) (sumOf ds)) e ∙ sym (record-is h′)
+
+-- and it is the one that creation makes of them.
+pub as-created : (h : History) → refusal (creationTests (startOf h)) ≡ 0 → recordAfter h ≡ created (map pos (durationsAfter h)) .«record»
+as-created h z = record-is h ∙ sym (ap (λ (c : Created). c .«record») (created-new (map pos ds) accepted) ∙ made (new-holds (map pos ds) accepted))
+  where
+    ds : List ℕ
+    ds = durationsAfter h
+
+    r : Propagator
+    r = recordAfter h
+
+    l : Lawful (recordAfter h)
+    l = lawful-after h z
+
+    accepted : refusal (creationTests (map pos (durationsAfter h))) ≡ 0
+    accepted = natural-accepted (durationsAfter h) (omega (arith, holds h .count, l .some)) (holds h .few)
+        (subst (λ (xs : List ℕ). (k : ℕ) → k < length xs → 1 ≤ getD xs k 0) (tasks (holds h)) (lasts (recordAfter h) l (long (holds h)))) (omega (arith, holds h .sum, l .stored, l .sum))
+
+    made : Holds (newRecord (map pos (durationsAfter h))) (map durationOf (map pos (durationsAfter h))) → newRecord (map pos (durationsAfter h)) ≡ recordOf (length (durationsAfter h)) (placed (durationsAfter h)) (sumOf (durationsAfter h))
+    made a = subst (λ (xs : List ℕ). newRecord (map pos (durationsAfter h)) ≡ recordOf (length xs) (placed xs) (sumOf xs)) (given-back (durationsAfter h)) (λ i. recordOf (a .count i) (a .array i) (a .sum i))

@@ -1,0 +1,62 @@
+-- The number is that of the tests; where it is 0, the duration is a part of the stored total, and `remove-made` gives the record.
+use mathlib.Core.Path.{_≡_, sym, ap, _∙_}
+use native.Mathlib.Omega.{arith}
+use lib.ListN.{length}
+use borrow.Author.Needs.{needs}
+use Rattle.integers.specs.Limits.{TASKS}
+use Rattle.task_changes.specs.declared.changes.Change.{Change}
+use Rattle.task_changes.specs.declared.changes.Change.the-variants.{Refused}
+use Rattle.task_changes.proofs.Changing.{Removable, removable, part, remove-refused, remove-made}
+use Rattle.task_changes.proofs.changes.remove.Statement.{statement}
+use Rattle.task_changes.proofs.changes.remove.Tie as tie
+
+long : (c : tie.Start) → length (c .args .t1 .durations) ≡ TASKS
+long c = search needs
+
+-- no test failed
+passed : (c : tie.Else1) → let a = c .before .before .before .before .args in Removable (a .t1) (a .task)
+passed c = let a = c .before .before .before .before .args in removable (a .t1) (a .task) (sym (c .before .remove-refusal .ensures) ∙ c .if1 .left)
+
+remove-refusal-requires : tie.Need-remove-refusal-requires
+remove-refusal-requires c κs = search needs
+
+returns : tie.Need-returns
+returns c =
+    let a = c .before .before .before .before .args in
+    let number = c .before .remove-refusal .ensures in
+    remove-refused (a .t1) (a .task) _ (λ z. c .if1 .taken (number ∙ z)) (ap (λ (x : Change). record { «record» = a .t1; answer = x }) (ap Refused number))
+
+mul-less : tie.Need-mul-less
+mul-less c = let p = passed c in record { fits = omega (arith, p .there, p .lawful .few) }
+
+element-copy-out-less : tie.Need-element-copy-out-less
+element-copy-out-less c = let p = passed c in omega (arith, p .there, p .lawful .few)
+
+without-task-requires : tie.Need-without-task-requires
+without-task-requires c κs = (passed (c .before .before .before) .lawful .few, long (c .before .before .before .before .before .before .before))
+
+sub-t8 : tie.Need-sub-t8
+sub-t8 c = omega (arith, passed (c .before .before .before .before) .many)
+
+sub-t17 : tie.Need-sub-t17
+sub-t17 c = let s = c .before .before .before .before .before .before .before .before in let p = passed (c .before .before .before .before) in part (s .args .t1) (p .lawful) (long s) (s .args .task) (p .there)
+
+returns-2 : tie.Need-returns-2
+returns-2 c =
+    let s = c .before .before .before .before .before .before .before .before in
+    let a = s .args in
+    let made = c .without-task .ensures in
+    remove-made (a .t1) (a .task) _ (long s) (sym (c .before .before .before .before .before .remove-refusal .ensures) ∙ c .before .before .before .before .if1 .left) (cc made)
+
+pub remove-spec : {M : Type 1} → statement M
+remove-spec =
+    tie.close
+    (tie.spec
+    remove-refusal-requires
+    returns
+    mul-less
+    element-copy-out-less
+    without-task-requires
+    sub-t8
+    sub-t17
+    returns-2)

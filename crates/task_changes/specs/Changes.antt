@@ -1,0 +1,84 @@
+-- A record with a task more, and with a task less: what each call leaves, and what turns it back.
+use mathlib.Core.Path.{_≡_}
+use mathlib.Core.List.{List, [], _∷_, _++_}
+use Prim.Native.Nat.{ℕ, _+_, _-_}
+use lib.Dec.{leb, ltb}
+use lib.IntN.{ℤ, pos}
+use lib.Signed.{leZ}
+use lib.ListN.{getD, take}
+use Rattle.integers.specs.Answers.{Answer, answered, refusedBy}
+use Rattle.integers.specs.Limits.{DURATIONS}
+use Rattle.integers.specs.Tests.{Test, test, refusal}
+use Rattle.records.specs.declared.record.Propagator.{Propagator}
+use Rattle.records.specs.Records.{countFits, durationOf, lawfulRecord, Lawful}
+use Rattle.task_changes.specs.declared.changes.Changed.{Changed}
+use Rattle.task_changes.specs.declared.changes.Change.{Change}
+use Rattle.task_changes.specs.Numbers.{changeNumbers}
+use Rattle.task_changes.specs.Lists.{placed, without}
+
+-- What a call leaves: its answer, by the papers' numbers, and the record.
+pub record Left (a : Answer) (after : Propagator) (c : Changed) : Type 0 where
+  pub answer : changeNumbers (c .answer) ≡ a
+  pub stands : c .«record» ≡ after
+
+module _ (r : Propagator) where
+  -- the durations of a record's tasks, by number
+  abbrev pub durationsOf : List ℕ
+  durationsOf = take (r .count) (r .durations)
+
+  -- the record with a task of duration d, which takes number n
+  abbrev pub added : ℕ → Propagator
+  added d = record {
+    count = r .count + 1;
+    durations = placed (durationsOf ++ (d ∷ []));
+    total = r .total + d;
+  }
+
+  -- the record without task t, and its gap in the numbers closed
+  abbrev pub removed : ℕ → Propagator
+  removed t = record {
+    count = r .count - 1;
+    durations = placed (without durationsOf t);
+    total = r .total - getD (r .durations) t 0;
+  }
+
+  -- 20: a record that is not lawful; then, as for creation, 1: more than TASKS tasks; 2: a duration below 1; 5: a sum above DURATIONS
+  abbrev pub addTests : ℤ → List Test
+  addTests d =
+      test 20 (lawfulRecord r)
+      ∷ test 1 (countFits (r .count + 1))
+      ∷ test 2 (leZ (pos 1) d)
+      ∷ test 5 (leb (r .total + durationOf d) DURATIONS)
+      ∷ []
+
+  abbrev pub addNumber : ℤ → ℕ
+  addNumber d = refusal (addTests d)
+
+  -- 20; 12: a number that is not below n; 1: the only task
+  abbrev pub removeTests : ℕ → List Test
+  removeTests t =
+      test 20 (lawfulRecord r)
+      ∷ test 12 (ltb t (r .count))
+      ∷ test 1 (countFits (r .count - 1))
+      ∷ []
+
+  abbrev pub removeNumber : ℕ → ℕ
+  removeNumber t = refusal (removeTests t)
+
+  -- The first test that fails turns a call back, and the record stays as it was; else the record is the definition's, and lawful.
+  pub record TaskAdded (d : ℤ) (c : Changed) : Type 0 where
+    pub refused : (addNumber d ≡ 0 → ⊥) → Left (refusedBy (addNumber d)) r c
+    pub made : addNumber d ≡ 0 → Left (answered 0 []) (added (durationOf d)) c
+    pub lawful : addNumber d ≡ 0 → Lawful (c .«record»)
+
+  pub record TaskRemoved (t : ℕ) (c : Changed) : Type 0 where
+    pub refused : (removeNumber t ≡ 0 → ⊥) → Left (refusedBy (removeNumber t)) r c
+    pub made : removeNumber t ≡ 0 → Left (answered 0 []) (removed t) c
+    pub lawful : removeNumber t ≡ 0 → Lawful (c .«record»)
+
+  -- the same on a lent record: what stands there at the end, and the answer
+  abbrev pub AddedLent : ℤ → Change → Propagator → Type 0
+  AddedLent d answer after = TaskAdded d (record { «record» = after; answer = answer })
+
+  abbrev pub RemovedLent : ℕ → Change → Propagator → Type 0
+  RemovedLent t answer after = TaskRemoved t (record { «record» = after; answer = answer })

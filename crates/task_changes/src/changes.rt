@@ -1,0 +1,125 @@
+// A task added to the record, or taken off.
+use integers::limits::DURATIONS;
+use integers::limits::TASKS;
+use records::record::Propagator;
+use records::record::lawful;
+ghost use mathlib.Core.Path.{_≡_};
+ghost use Prim.Native.Nat.{_≤_};
+ghost use lib.ListN.{length, take};
+ghost use Rattle.integers.specs.Limits.{TASKS};
+ghost use Rattle.records.specs.Records.{recordOf};
+ghost use Rattle.task_changes.specs.Lists.{placed, without};
+ghost use Rattle.task_changes.specs.Changes.{addNumber, removeNumber, TaskAdded, TaskRemoved};
+
+pub enum Change {
+    Made,
+    Refused(u32),
+}
+
+pub struct Changed {
+    pub record: Propagator,
+    pub answer: Change,
+}
+
+// The number that turns an added task back, or 0: 20, 1, 2, 5.
+fn add_refusal(n: usize, durations: &[u32; 48], total: u32, duration: i32) -> u32
+    ensures { λ r. ⌜ r ≡ addNumber (recordOf n (now (durations .entry)) total) duration ⌝ }
+{
+    if !lawful(n, durations, total) {
+        return 20;
+    }
+    if n >= TASKS {
+        return 1;
+    }
+    if !integers::at_most(1, duration) {
+        return 2;
+    }
+    let more = integers::nat_of(duration);
+    if DURATIONS - total < more {
+        return 5;
+    }
+    0
+}
+
+// The record with one task more, which takes number n.
+pub fn add(record: Propagator, duration: i32) -> Changed
+    ensures { λ r. ⌜ TaskAdded «record» duration r ⌝ }
+{
+    let number = add_refusal(record.count, &record.durations, record.total, duration);
+    if number != 0 {
+        return Changed {
+            record,
+            answer: Change::Refused(number),
+        };
+    }
+    let n = record.count;
+    let more = integers::nat_of(duration);
+    let mut durations = record.durations;
+    durations[n] = more;
+    Changed {
+        record: Propagator {
+            count: n + 1,
+            durations,
+            total: record.total + more,
+        },
+        answer: Change::Made,
+    }
+}
+
+// The durations of the first n tasks without task t's.
+fn without_task(durations: &[u32; 48], n: usize, t: usize) -> [u32; 48]
+    requires { ⌜ (n ≤ TASKS) × (length (now durations) ≡ TASKS) ⌝ }
+    ensures { λ r. ⌜ r ≡ placed (without (take n (now (durations .entry))) t) ⌝ }
+{
+    let mut out = [0u32; 48];
+    let mut j = 0;
+    let mut i = 0;
+    while i < n {
+        if i != t {
+            out[j] = durations[i];
+            j += 1;
+        }
+        i += 1;
+    }
+    out
+}
+
+// The number that turns a removal back, or 0: 20, 12, 1.
+fn remove_refusal(n: usize, durations: &[u32; 48], total: u32, task: usize) -> u32
+    ensures { λ r. ⌜ r ≡ removeNumber (recordOf n (now (durations .entry)) total) task ⌝ }
+{
+    if !lawful(n, durations, total) {
+        return 20;
+    }
+    if task >= n {
+        return 12;
+    }
+    if n < 2 {
+        return 1;
+    }
+    0
+}
+
+// The record without a task: the numbers above it are one lower.
+pub fn remove(record: Propagator, task: usize) -> Changed
+    ensures { λ r. ⌜ TaskRemoved «record» task r ⌝ }
+{
+    let number = remove_refusal(record.count, &record.durations, record.total, task);
+    if number != 0 {
+        return Changed {
+            record,
+            answer: Change::Refused(number),
+        };
+    }
+    let n = record.count;
+    let less = record.durations[task];
+    let durations = without_task(&record.durations, n, task);
+    Changed {
+        record: Propagator {
+            count: n - 1,
+            durations,
+            total: record.total - less,
+        },
+        answer: Change::Made,
+    }
+}
