@@ -1,4 +1,5 @@
 // How much of a stretch the tasks cover, in moments.
+use integers::limits::TASKS;
 use integers::max;
 use integers::min;
 ghost use mathlib.Core.Path.{_≡_};
@@ -21,7 +22,13 @@ fn common(a: u32, b: u32, x: u32, y: u32) -> u32
 }
 
 // The time of the stretch from x on that tasks cover.
-pub fn covered<'a>(starts: &'a [u32; 48], durations: &'a [u32; 48], n: usize, w: u32, x: u32) -> u32
+pub fn covered<'a>(
+    starts: &'a [u32; TASKS],
+    durations: &'a [u32; TASKS],
+    n: usize,
+    w: u32,
+    x: u32,
+) -> u32
     requires { ⌜ Slidable n (now starts) (now durations) w × (x ≤ zeroAt + START) ⌝ }
     ensures { λ r. ⌜ r ≡ coveredIn (inMoments n (now (starts .entry)) (now (durations .entry))) w x ⌝ }
 {

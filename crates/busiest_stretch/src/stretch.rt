@@ -5,6 +5,7 @@ use crate::covering::covered;
 use fixed_schedules::asked::length_fits;
 use fixed_schedules::order::order_of;
 use fixed_schedules::refusals::fixed_refusal;
+use integers::limits::TASKS;
 use integers::nat_of;
 use integers::start_of;
 use records::orders::moments_of;
@@ -36,8 +37,8 @@ fn stretch_refusal(record: Propagator, earliest: &[i32], latest: &[i32], w: i32)
 
 // The better of the best stretch so far and the one from x on, where that start counts: more is covered, or as much from an earlier start.
 fn better<'a>(
-    starts: &'a [u32; 48],
-    durations: &'a [u32; 48],
+    starts: &'a [u32; TASKS],
+    durations: &'a [u32; TASKS],
     n: usize,
     w: u32,
     first: u32,
@@ -71,8 +72,8 @@ fn better<'a>(
 
 // The best of the stretches that start with a task or end with one.
 fn busiest<'a>(
-    starts: &'a [u32; 48],
-    durations: &'a [u32; 48],
+    starts: &'a [u32; TASKS],
+    durations: &'a [u32; TASKS],
     n: usize,
     w: u32,
     first: u32,
@@ -106,7 +107,7 @@ pub fn busiest_stretch(record: Propagator, earliest: &[i32], latest: &[i32], w: 
     }
     let n = record.count;
     let order = order_of(earliest);
-    let mut starts: [u32; 48] = [0; 48];
+    let mut starts: [u32; TASKS] = [0; TASKS];
     moments_of(&mut starts, earliest);
     let length = nat_of(w);
     let first = starts[order[0]];

@@ -1,6 +1,7 @@
+use integers::limits::TASKS;
 // The charges by task number, in cents, 0 in the places that no task has, and their sum.
 pub struct Bill {
-    pub charges: [u32; 48],
+    pub charges: [u32; TASKS],
     pub total: u32,
 }
 

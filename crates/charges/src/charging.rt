@@ -4,6 +4,7 @@ use crate::answer::Billing;
 use crate::answer::Charges;
 use crate::rates::cost_of;
 use crate::refusals::charges_refusal;
+use integers::limits::TASKS;
 use integers::moment_of;
 use records::record::Propagator;
 ghost use mathlib.Core.Path.{_≡_};
@@ -37,11 +38,11 @@ fn charge_of(start: i32, duration: u32, due: i32) -> u32
 }
 
 // The bill of a schedule.
-fn bill_of(earliest: &[i32], durations: &[u32; 48], due: &[i32]) -> Bill
+fn bill_of(earliest: &[i32], durations: &[u32; TASKS], due: &[i32]) -> Bill
     requires { ⌜ Chargeable (now durations) (now earliest) (now due) ⌝ }
     ensures { λ r. ⌜ Summed (now (durations .entry)) (now (earliest .entry)) (now (due .entry)) r ⌝ }
 {
-    let mut out = [0u32; 48];
+    let mut out = [0u32; TASKS];
     let mut sum = 0;
     let mut i = 0;
     while i < earliest.len() {
@@ -61,7 +62,7 @@ fn no_bill() -> Bill
     ensures { λ r. ⌜ r ≡ noBill ⌝ }
 {
     Bill {
-        charges: [0u32; 48],
+        charges: [0u32; TASKS],
         total: 0,
     }
 }

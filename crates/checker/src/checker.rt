@@ -7,6 +7,7 @@ use checking::start_bounds::bounds_of;
 use checking::variable_state::Application;
 use checking::variable_state::VariableState;
 use chosen_sets::theta::theta_ect;
+use integers::limits::TASKS;
 use records::record::Creation;
 use records::record::create;
 ghost use mathlib.Core.Path.{_≡_};
@@ -30,7 +31,7 @@ pub enum Verdict {
 }
 
 // Without a consequent: the tasks with two bounds overload their span.
-fn overloaded(bounds: Bounds, durations: &[u32; 48], n: usize) -> bool
+fn overloaded(bounds: Bounds, durations: &[u32; TASKS], n: usize) -> bool
     requires { ⌜ ((J : Tasks natural) × (Ω : TaskSet) × Bounding J Ω n bounds (now durations)) ⌝ }
     ensures { λ r. ⌜ ((J : Tasks natural) (Ω : TaskSet) → Bounding J Ω n bounds (now (durations .entry)) → r ≡ overloadsSpan J Ω) ⌝ }
 {
@@ -42,7 +43,7 @@ fn overloaded(bounds: Bounds, durations: &[u32; 48], n: usize) -> bool
 }
 
 // With a consequent on task i: it cannot start before the others, nor among them, and these end past its latest start.
-fn implied(bounds: Bounds, durations: &[u32; 48], n: usize, i: usize) -> bool
+fn implied(bounds: Bounds, durations: &[u32; TASKS], n: usize, i: usize) -> bool
     requires { ⌜ (i < n) × ((J : Tasks natural) × (Ω : TaskSet) × Bounding J Ω n bounds (now durations)) ⌝ }
     ensures { λ r. ⌜ ((J : Tasks natural) (Ω : TaskSet) → Bounding J Ω n bounds (now (durations .entry)) → r ≡ comesAfter J (Ω but i) i) ⌝ }
 {
@@ -71,7 +72,7 @@ fn verdict_of(holds: bool) -> Verdict
 }
 
 // The formula for the consequent, or for none.
-fn judge(bounds: Bounds, durations: &[u32; 48], n: usize, consequent: &[i32]) -> Verdict
+fn judge(bounds: Bounds, durations: &[u32; TASKS], n: usize, consequent: &[i32]) -> Verdict
     requires { ⌜ ((ds : List ℤ) × (lower : ℕ → Option ℤ) × (upper : ℕ → Option ℤ) × Judgeable ds lower upper n bounds (now durations)) × Consequent (now consequent) ⌝ }
     ensures { λ r. ⌜ ((ds : List ℤ) (lower upper : ℕ → Option ℤ) → Judgeable ds lower upper n bounds (now (durations .entry)) → r ≡ judgedBy ds lower upper (consequentOf (now (consequent .entry)))) ⌝ }
 {

@@ -1,5 +1,6 @@
 // What the source's loop over the tasks gathers of a set: whether it has a task, its least earliest start, its greatest latest completion, its
 // duration sum. Moments are of 32 bits, and sums of them are formed in 64.
+use integers::limits::TASKS;
 ghost use mathlib.Core.Path.{_≡_};
 ghost use Prim.Native.Nat.{ℕ, _+_, _≤_, _^_, _<_, min, max};
 ghost use Rattle.scheduling.specs.Scheduling.{natural, Tasks, TaskSet};
@@ -47,10 +48,10 @@ impl Interval {
 
 // The chosen ones of n tasks.
 pub fn gather<'a>(
-    chosen: &'a [bool; 48],
-    est: &'a [u32; 48],
-    lst: &'a [u32; 48],
-    durations: &'a [u32; 48],
+    chosen: &'a [bool; TASKS],
+    est: &'a [u32; TASKS],
+    lst: &'a [u32; TASKS],
+    durations: &'a [u32; TASKS],
     n: usize,
 ) -> Interval
     requires { ⌜ ((J : Tasks natural) × (Ω : TaskSet) × Held J Ω n (now chosen) (now est) (now durations) × Late J n (now lst)) ⌝ }

@@ -1,5 +1,6 @@
 // The bounds of the tasks in mirrored time.
 use checking::start_bounds::Bounds;
+use integers::limits::TASKS;
 ghost use mathlib.Core.Path.{_≡_};
 ghost use Prim.Native.Nat.{_+_, _≤_, _<_};
 ghost use Rattle.scheduling.specs.Scheduling.{natural, Tasks, TaskSet};
@@ -17,12 +18,12 @@ fn mirrored_moment(known: bool, t: u32, p: u32) -> u32
 }
 
 // The bounds in mirrored time: a range a..b with duration p becomes −(b + p)..−(a + p).
-pub fn mirrored_bounds(bounds: Bounds, durations: &[u32; 48], n: usize) -> Bounds
+pub fn mirrored_bounds(bounds: Bounds, durations: &[u32; TASKS], n: usize) -> Bounds
     requires { ⌜ ((J : Tasks natural) × (Ω : TaskSet) × Bounding J Ω n bounds (now durations)) ⌝ }
     ensures { λ r. ⌜ r ≡ mirroredBounds bounds (now (durations .entry)) n ⌝ }
 {
-    let mut est = [0u32; 48];
-    let mut lst = [0u32; 48];
+    let mut est = [0u32; TASKS];
+    let mut lst = [0u32; TASKS];
     let mut i = 0;
     while i < n {
         let p = durations[i];

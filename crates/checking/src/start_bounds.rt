@@ -2,6 +2,7 @@
 use crate::int_ext::IntExt;
 use crate::variable_state::Domain;
 use crate::variable_state::VariableState;
+use integers::limits::TASKS;
 ghost use mathlib.Core.Path.{_≡_};
 ghost use Prim.Native.Nat.{_≤_};
 ghost use Rattle.integers.specs.Limits.{TASKS};
@@ -16,9 +17,9 @@ pub struct TaskBounds {
 
 // The tasks with two finite bounds, and these.
 pub struct Bounds {
-    pub bounded: [bool; 48],
-    pub est: [u32; 48],
-    pub lst: [u32; 48],
+    pub bounded: [bool; TASKS],
+    pub est: [u32; TASKS],
+    pub lst: [u32; TASKS],
 }
 
 // No two bounds.
@@ -58,9 +59,9 @@ pub fn bounds_of(state: VariableState, n: usize) -> Bounds
     requires { ⌜ n ≤ TASKS ⌝ }
     ensures { λ r. ⌜ r ≡ boundsOf state n ⌝ }
 {
-    let mut bounded = [false; 48];
-    let mut est = [0u32; 48];
-    let mut lst = [0u32; 48];
+    let mut bounded = [false; TASKS];
+    let mut est = [0u32; TASKS];
+    let mut lst = [0u32; TASKS];
     let mut i = 0;
     while i < n {
         let b = task_bounds(state.domains[i]);

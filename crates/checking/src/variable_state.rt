@@ -104,7 +104,7 @@ impl Domain {
         Domain {
             lower_bound: IntExt::Int(raised),
             upper_bound,
-            holes: holes::stretch(holes, from, count),
+            holes: holes::part(holes, from, count),
             count: count - from,
         }
     }
@@ -126,7 +126,7 @@ impl Domain {
         Domain {
             lower_bound,
             upper_bound: IntExt::Int(lowered),
-            holes: holes::stretch(holes, 0, to),
+            holes: holes::part(holes, 0, to),
             count: to,
         }
     }

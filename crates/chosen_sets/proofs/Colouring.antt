@@ -10,7 +10,7 @@ use lib.Dec.{leb}
 use lib.ListN.{length, getD, set, take, replicate, length-replicate, length-map}
 use lib.Seq.{set-getD, ext-getD, getD-take}
 use Rattle.integers.specs.Filling.{filled}
-use Rattle.integers.specs.Limits.{DURATIONS}
+use Rattle.integers.specs.Limits.{DURATIONS, TASKS}
 use Rattle.integers.specs.Orders.{sort, numbers}
 use Rattle.integers.proofs.Bools.{bool}
 use Rattle.integers.proofs.Filling.{getD-map-in, filled-none, filled-more, filled-length, filled-at, filled-past, getD-fresh}
@@ -94,7 +94,7 @@ module _ {inner n : ℕ} {words tasks : List ℕ} {chosen : List Bool} {est dura
     small : t < n
     small = omega (arith, f .task x q, below (f .held) x q)
 
-    pub task-known : t < 48
+    pub task-known : t < TASKS
     task-known = omega (arith, small, f .held .few)
 
     inside : x < f .J .count

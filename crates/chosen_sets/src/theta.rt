@@ -1,4 +1,6 @@
 // The ect of a set of tasks, by the theta tree.
+use integers::limits::TASKS;
+use integers::limits::THETAWORDS;
 use records::orders::sort_numbers;
 use trees::disjunctive_task::DisjunctiveTask;
 use trees::disjunctive_task::LeafPlace;
@@ -16,7 +18,7 @@ ghost use Rattle.chosen_sets.specs.TaskArrays.{Held};
 
 // Puts a task into the leaf at a place, where it is chosen.
 fn put_chosen(
-    nodes: &mut [u32; 254],
+    nodes: &mut [u32; THETAWORDS],
     inner: usize,
     place: LeafPlace,
     id: LocalId,
@@ -39,12 +41,12 @@ fn put_chosen(
 
 // Puts the chosen tasks into Theta, leaf by leaf.
 fn fill<'a>(
-    nodes: &mut [u32; 254],
+    nodes: &mut [u32; THETAWORDS],
     inner: usize,
-    tasks: &'a [usize; 48],
-    chosen: &'a [bool; 48],
-    est: &'a [u32; 48],
-    durations: &'a [u32; 48],
+    tasks: &'a [usize; TASKS],
+    chosen: &'a [bool; TASKS],
+    est: &'a [u32; TASKS],
+    durations: &'a [u32; TASKS],
     n: usize,
 )
     requires { ⌜ Colourable inner n (now nodes) (now tasks) (now chosen) (now est) (now durations) ⌝ }
@@ -69,15 +71,15 @@ fn fill<'a>(
 
 // The ect of the chosen ones of n tasks, or that none is chosen.
 pub fn theta_ect<'a>(
-    chosen: &'a [bool; 48],
-    est: &'a [u32; 48],
-    durations: &'a [u32; 48],
+    chosen: &'a [bool; TASKS],
+    est: &'a [u32; TASKS],
+    durations: &'a [u32; TASKS],
     n: usize,
 ) -> Ect
     requires { ⌜ ((J : Tasks natural) × (Ω : TaskSet) × Held J Ω n (now chosen) (now est) (now durations)) ⌝ }
     ensures { λ r. ⌜ ((J : Tasks natural) (Ω : TaskSet) → Held J Ω n (now (chosen .entry)) (now (est .entry)) (now (durations .entry)) → momentOf r ≡ ectOf J Ω) ⌝ }
 {
-    let mut order: [usize; 48] = [0; 48];
+    let mut order: [usize; TASKS] = [0; TASKS];
     sort_numbers(&mut order, n, est);
     let tree = ThetaTree::new(&order, n);
     let inner = tree.number_of_internal_nodes;

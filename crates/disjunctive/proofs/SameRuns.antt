@@ -36,9 +36,10 @@ module _ (before : Propagator) (ranges : List Range) (posts atoms posts₁ atoms
   other : Handed t posts₃ atoms₃
   other = handed t posts₂ atoms₂ (b .left .post-words) (b .left .atom-words)
 
-  pub one-record : SameRun answer ranges₁ posts₁ atoms₁ answer′ ranges₃ posts₃ atoms₃
-  one-record = subst (λ (o : Outcome). SameRun answer ranges₁ posts₁ atoms₁ o ranges₃ posts₃ atoms₃) (is ∙ sym (b .left .answer)) (record {
+  pub one-record : SameRun answer changed ranges₁ posts₁ atoms₁ answer′ changed′ ranges₃ posts₃ atoms₃
+  one-record = subst (λ (o : Outcome). SameRun answer changed ranges₁ posts₁ atoms₁ o changed′ ranges₃ posts₃ atoms₃) (is ∙ sym (b .left .answer)) (record {
     outcome = refl;
+    changed = a .left .changes ∙ sym (b .left .changes);
     starts = same-ranges ranges₃ ranges₁ (a .left .starts ∙ sym (b .left .starts)) (a .promise .same-latest ∙ sym (b .promise .same-latest));
     tasks = λ j q. read.task-is t answer is posts₁ atoms₁ one j q ∙ sym (read.task-is t answer is posts₃ atoms₃ other j q);
     bounds = λ j q. read.bound-is t answer is posts₁ atoms₁ one j q ∙ sym (read.bound-is t answer is posts₃ atoms₃ other j q);
@@ -50,7 +51,7 @@ module _ (before : Propagator) (ranges : List Range) (posts atoms posts₁ atoms
 pub same-runs : (h h′ : History) → durationsAfter h ≡ durationsAfter h′ → (ranges : List Range) {posts atoms posts₁ atoms₁ posts₂ atoms₂ posts₃ atoms₃ : List ℤ} {answer answer′ : Outcome} {changed changed′ : ℕ} {after after′ : Propagator} {ranges₁ ranges₃ : List Range}
     → RanLent (recordAfter h) ranges posts atoms answer changed after ranges₁ posts₁ atoms₁ → lentNumber (recordAfter h) ranges posts atoms ≡ 0
     → RanLent (recordAfter h′) ranges posts₂ atoms₂ answer′ changed′ after′ ranges₃ posts₃ atoms₃ → lentNumber (recordAfter h′) ranges posts₂ atoms₂ ≡ 0
-    → SameRun answer ranges₁ posts₁ atoms₁ answer′ ranges₃ posts₃ atoms₃
+    → SameRun answer changed ranges₁ posts₁ atoms₁ answer′ changed′ ranges₃ posts₃ atoms₃
 same-runs h h′ e ranges {posts} {atoms} {posts₁} {atoms₁} {posts₂} {atoms₂} {posts₃} {atoms₃} {answer} {answer′} {changed} {changed′} {after} {after′} {ranges₁} {ranges₃} one z other z′ =
     one-record (recordAfter h) ranges posts atoms posts₁ atoms₁ posts₂ atoms₂ posts₃ atoms₃ answer answer′ after after′ ranges₁ ranges₃ (one .accepted z)
     (subst (λ (r : Propagator). AcceptedLent r ranges posts₂ atoms₂ answer′ changed′ after′ ranges₃ posts₃ atoms₃) (sym (same-record h h′ e)) (other .accepted z′))

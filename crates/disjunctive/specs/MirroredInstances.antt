@@ -10,6 +10,7 @@ use Rattle.integers.specs.Orders.{sort, insert, index, numbers}
 use Rattle.integers.specs.Tests.{allBelow, refusal}
 use Rattle.scheduling.specs.Scheduling.{Atom, total, processing}
 use Rattle.scheduling.specs.Words.{atomWords}
+use Rattle.trees.specs.Ects.{decoded}
 use Rattle.trees.specs.Leaves.{root, responsible, theta}
 use Rattle.trees.specs.Nodes.{joinOf, isEmpty}
 use Rattle.trees.specs.Searches.{gray, tested, descentP, descentEct, stepP, stepEct, searchP, searchEct, thetaOf}
@@ -40,13 +41,13 @@ abbrev durations : List ℤ
 durations = pos 1 ∷ pos 2 ∷ pos 1 ∷ []
 
 posted : mirroredPass (1 ∷ 2 ∷ 1 ∷ []) (negsuc 3 ∷ negsuc 7 ∷ negsuc 4 ∷ []) (negsuc 2 ∷ negsuc 5 ∷ negsuc 4 ∷ []) .posts ≡ record { task = 1; bound = negsuc 6; reason = reason } ∷ []
-unfolding propagate run outer inner conflict propagation bounds within tabulate heightFrom sort insert index numbers width root responsible theta joinOf isEmpty gray tested descentP descentEct stepP stepEct searchP searchEct thetaOf nodeOver
+unfolding propagate run outer inner decoded conflict propagation bounds within tabulate heightFrom sort insert index numbers width root responsible theta joinOf isEmpty gray tested descentP descentEct stepP stepEct searchP searchEct thetaOf nodeOver
 posted = refl
 
 not-passed : checkOf durations (atomWords reason) (consequentWords (some (atMost 1 6))) ≡ NotPassed
-unfolding filled sort insert index numbers allBelow refusal total processing atomWords root joinOf isEmpty width heightFrom nodeOver atomsOf rightAtom rightWords rightLists acceptedDomain ascend tightenedLower tightenedUpper withoutLower withoutUpper withHole without crowded settled reduced has kept inserted firstFrom lastUpTo zeros accepted stepped appliedTo applyAll prepared any lowest highest overloaded implied checkOf
+unfolding filled sort insert index numbers allBelow refusal total processing atomWords root joinOf isEmpty width heightFrom nodeOver decoded atomsOf rightAtom rightWords rightLists acceptedDomain ascend tightenedLower tightenedUpper withoutLower withoutUpper withHole without crowded settled reduced has kept inserted firstFrom lastUpTo zeros accepted stepped appliedTo applyAll prepared any lowest highest overloaded implied checkOf
 not-passed = refl
 
 passed : checkMirroredOf durations (atomWords reason) (consequentWords (some (atMost 1 6))) ≡ Passed
-unfolding filled sort insert index numbers allBelow refusal total processing atomWords root joinOf isEmpty width heightFrom nodeOver atomsOf rightAtom rightWords rightLists acceptedDomain ascend tightenedLower tightenedUpper withoutLower withoutUpper withHole without crowded settled reduced has kept inserted firstFrom lastUpTo zeros accepted stepped appliedTo applyAll prepared any lowest highest overloaded implied checkMirroredOf
+unfolding filled sort insert index numbers allBelow refusal total processing atomWords root joinOf isEmpty width heightFrom nodeOver decoded atomsOf rightAtom rightWords rightLists acceptedDomain ascend tightenedLower tightenedUpper withoutLower withoutUpper withHole without crowded settled reduced has kept inserted firstFrom lastUpTo zeros accepted stepped appliedTo applyAll prepared any lowest highest overloaded implied checkMirroredOf
 passed = refl

@@ -9,8 +9,9 @@ use Rattle.disjunctive.specs.declared.ranges.Range.{Range}
 use Rattle.disjunctive.specs.Promise.{taskOf, boundOf, reasonOf, overloadOf}
 
 -- What stands in the slices beyond the words of a run may differ.
-pub record SameRun (answer : Outcome) (ranges : List Range) (posts atoms : List ℤ) (answer′ : Outcome) (ranges′ : List Range) (posts′ atoms′ : List ℤ) : Type 0 where
+pub record SameRun (answer : Outcome) (changes : ℕ) (ranges : List Range) (posts atoms : List ℤ) (answer′ : Outcome) (changes′ : ℕ) (ranges′ : List Range) (posts′ atoms′ : List ℤ) : Type 0 where
   pub outcome : answer ≡ answer′
+  pub changed : changes ≡ changes′
   pub starts : ranges ≡ ranges′
   pub tasks : (j : ℕ) → j < valueOf answer 0 → taskOf posts j ≡ taskOf posts′ j
   pub bounds : (j : ℕ) → j < valueOf answer 0 → boundOf posts j ≡ boundOf posts′ j

@@ -3,7 +3,7 @@
 // A call takes the record as `&mut` where it changes it, else as `&`.
 // The core takes the record by value and the starts as slices of numbers; here the ranges are taken apart for it, and what it leaves is stored back.
 pub mod by_precedence;
-pub mod fixed_schedules;
+pub mod of_fixed_schedules;
 
 use integers::limits::TASKS;
 use mirrored::mirrored_propagator::propagate_mirrored;

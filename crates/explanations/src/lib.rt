@@ -1,5 +1,7 @@
 // The reasons of posts and overloads, as words in the lent slices. Starts and bounds are moments, and Θ is read from the leaves of a tree: its words,
 // the task of each leaf, the number of its inner nodes and that of its tasks.
+use integers::limits::TASKS;
+use integers::limits::TREEWORDS;
 ghost use mathlib.Core.Path.{_≡_};
 ghost use mathlib.Core.List.{[], _∷_};
 ghost use Prim.Native.Nat.{_+_, _*_, _<_, _≤_, min};
@@ -7,7 +9,7 @@ ghost use lib.IntN.{pos};
 ghost use lib.ListN.{length, getD};
 ghost use lib.Seq.{sets};
 ghost use Rattle.integers.specs.Moments.{instant, zeroAt};
-ghost use Rattle.integers.specs.Limits.{TASKS};
+ghost use Rattle.integers.specs.Limits.{TASKS, INNER};
 ghost use Rattle.trees.specs.Searches.{whiteIn, taskIn, thetaIn};
 ghost use Rattle.runs.specs.Runs.{within, conflict, bounds, propagation};
 ghost use Rattle.explanations.specs.Explanations.{starting, lasting, Precedes, Attains, thetaBetween, StopsAt, Walk, Writable, Overloaded, Preceded, PostFits, Stored};
@@ -47,7 +49,7 @@ pub fn write_atom(atoms: &mut [i32], k: usize, task: usize, kind: i32, value: u3
 }
 
 // What a list by task says of the task of a leaf.
-fn of_leaf(xs: &[u32], tasks: &[usize; 48], place: LeafPlace) -> u32
+fn of_leaf(xs: &[u32], tasks: &[usize; TASKS], place: LeafPlace) -> u32
     requires { ⌜ (place .0 < TASKS) × (taskIn (now tasks) (place .0) < length (now xs)) ⌝ }
     ensures { λ r. ⌜ r ≡ getD (now (xs .entry)) (taskIn (now (tasks .entry)) (place .0)) 0 ⌝ }
 {
@@ -61,8 +63,8 @@ fn of_leaf(xs: &[u32], tasks: &[usize; 48], place: LeafPlace) -> u32
 fn write_within(
     atoms: &mut [i32],
     k: usize,
-    nodes: &[u32; 508],
-    tasks: &[usize; 48],
+    nodes: &[u32; TREEWORDS],
+    tasks: &[usize; TASKS],
     inner: usize,
     from: LeafPlace,
     to: usize,
@@ -71,7 +73,7 @@ fn write_within(
     high: u32,
 ) -> usize
     requires { ⌜ Writable (length (now atoms)) k (thetaBetween (now nodes) inner (now tasks) (from .0) to) (now dur) high
-        × (from .0 ≤ to) × (to ≤ TASKS) × (inner ≤ 63) ⌝ }
+        × (from .0 ≤ to) × (to ≤ TASKS) × (inner ≤ INNER) ⌝ }
     ensures { λ m. ⌜ Stored (now (atoms .entry)) (now (atoms .exit)) k m
         (within zeroAt (lasting (now (dur .entry))) low high (thetaBetween (now (nodes .entry)) inner (now (tasks .entry)) (from .0) to)) ⌝ }
 {
@@ -96,8 +98,8 @@ struct Suffix {
 
 // ω: Θ, which lasts p, without its first tasks, as long as those left do not pass lct with a task that starts at e and lasts d.
 fn preceding(
-    nodes: &[u32; 508],
-    tasks: &[usize; 48],
+    nodes: &[u32; TREEWORDS],
+    tasks: &[usize; TASKS],
     inner: usize,
     n: usize,
     est: &[u32],
@@ -108,7 +110,7 @@ fn preceding(
     d: u32,
 ) -> Suffix
     requires { ⌜ Walk (Precedes (now est) lct e d) (thetaBetween (now nodes) inner (now tasks) 0 n) (now est) (now dur) p d
-        × (n ≤ TASKS) × (inner ≤ 63) ⌝ }
+        × (n ≤ TASKS) × (inner ≤ INNER) ⌝ }
     ensures { λ r. ⌜ StopsAt (whiteIn (now (nodes .entry)) inner) (taskIn (now (tasks .entry)))
         (Precedes (now (est .entry)) lct e d) (now (dur .entry)) 0 n (r .first .0) (r .lasts) ⌝ }
 {
@@ -123,8 +125,8 @@ fn preceding(
 
 // ω′: ω, the tasks of Θ from leaf `from` on, which last p, without its first tasks, as long as those left do not give the bound.
 fn attaining(
-    nodes: &[u32; 508],
-    tasks: &[usize; 48],
+    nodes: &[u32; TREEWORDS],
+    tasks: &[usize; TASKS],
     inner: usize,
     from: LeafPlace,
     n: usize,
@@ -134,7 +136,7 @@ fn attaining(
     bound: u32,
 ) -> Suffix
     requires { ⌜ Walk (Attains (now est) bound) (thetaBetween (now nodes) inner (now tasks) (from .0) n) (now est) (now dur) p 0
-        × (from .0 ≤ n) × (n ≤ TASKS) × (inner ≤ 63) ⌝ }
+        × (from .0 ≤ n) × (n ≤ TASKS) × (inner ≤ INNER) ⌝ }
     ensures { λ r. ⌜ StopsAt (whiteIn (now (nodes .entry)) inner) (taskIn (now (tasks .entry)))
         (Attains (now (est .entry)) bound) (now (dur .entry)) (from .0) n (r .first .0) (r .lasts) ⌝ }
 {
@@ -152,8 +154,8 @@ fn attaining(
 fn write_bounds(
     atoms: &mut [i32],
     k: usize,
-    nodes: &[u32; 508],
-    tasks: &[usize; 48],
+    nodes: &[u32; TREEWORDS],
+    tasks: &[usize; TASKS],
     inner: usize,
     from: LeafPlace,
     n: usize,
@@ -166,7 +168,7 @@ fn write_bounds(
 ) -> usize
     requires { ⌜ Walk (Attains (now est) bound) (thetaBetween (now nodes) inner (now tasks) (from .0) n) (now est) (now dur) p 0
         × Writable (length (now atoms)) k (thetaBetween (now nodes) inner (now tasks) (from .0) n) (now dur) last
-        × (from .0 ≤ n) × (n ≤ TASKS) × (inner ≤ 63) ⌝ }
+        × (from .0 ≤ n) × (n ≤ TASKS) × (inner ≤ INNER) ⌝ }
     ensures { λ m. ⌜ Stored (now (atoms .entry)) (now (atoms .exit)) k m
         (bounds zeroAt (starting (now (est .entry)) (now (dur .entry))) bound r last p (thetaBetween (now (nodes .entry)) inner (now (tasks .entry)) (from .0) n)) ⌝ }
 {
@@ -182,8 +184,8 @@ fn write_bounds(
 pub fn create_conflict_explanation(
     atoms: &mut [i32],
     k: usize,
-    nodes: &[u32; 508],
-    tasks: &[usize; 48],
+    nodes: &[u32; TREEWORDS],
+    tasks: &[usize; TASKS],
     inner: usize,
     n: usize,
     est: &[u32],
@@ -191,7 +193,7 @@ pub fn create_conflict_explanation(
     p: u32,
     lct: u32,
 ) -> usize
-    requires { ⌜ Overloaded (length (now atoms)) k (thetaIn (now nodes) inner (now tasks) n) (now est) (now dur) p lct × (n ≤ TASKS) × (inner ≤ 63) ⌝ }
+    requires { ⌜ Overloaded (length (now atoms)) k (thetaIn (now nodes) inner (now tasks) n) (now est) (now dur) p lct × (n ≤ TASKS) × (inner ≤ INNER) ⌝ }
     ensures { λ m. ⌜ Stored (now (atoms .entry)) (now (atoms .exit)) k m
         (conflict zeroAt (starting (now (est .entry)) (now (dur .entry))) lct p (thetaIn (now (nodes .entry)) inner (now (tasks .entry)) n)) ⌝ }
 {
@@ -211,8 +213,8 @@ pub fn create_conflict_explanation(
 pub fn create_propagation_explanation(
     atoms: &mut [i32],
     k: usize,
-    nodes: &[u32; 508],
-    tasks: &[usize; 48],
+    nodes: &[u32; TREEWORDS],
+    tasks: &[usize; TASKS],
     inner: usize,
     n: usize,
     est: &[u32],
@@ -222,7 +224,7 @@ pub fn create_propagation_explanation(
     i: usize,
     bound: u32,
 ) -> usize
-    requires { ⌜ Preceded (length (now atoms)) k (thetaIn (now nodes) inner (now tasks) n) (now est) (now dur) p lct i bound × (n ≤ TASKS) × (inner ≤ 63) ⌝ }
+    requires { ⌜ Preceded (length (now atoms)) k (thetaIn (now nodes) inner (now tasks) n) (now est) (now dur) p lct i bound × (n ≤ TASKS) × (inner ≤ INNER) ⌝ }
     ensures { λ m. ⌜ Stored (now (atoms .entry)) (now (atoms .exit)) k m
         (propagation zeroAt (starting (now (est .entry)) (now (dur .entry))) i bound lct p (thetaIn (now (nodes .entry)) inner (now (tasks .entry)) n)) ⌝ }
 {

@@ -1,4 +1,5 @@
 // The tasks of a schedule by start, and the test that no two of them overlap.
+use integers::limits::TASKS;
 use integers::moment_of;
 use records::orders::moments_of;
 use records::orders::sort_numbers;
@@ -22,20 +23,20 @@ pub fn one_start(earliest: &[i32], latest: &[i32]) -> bool
 }
 
 // The tasks by start, least first.
-pub fn order_of(earliest: &[i32]) -> [usize; 48]
+pub fn order_of(earliest: &[i32]) -> [usize; TASKS]
     requires { ⌜ Started (now earliest) ⌝ }
     ensures { λ r. ⌜ take (length (now (earliest .entry))) r ≡ orderOf (now (earliest .entry)) ⌝ }
 {
     let n = earliest.len();
-    let mut key = [0u32; 48];
+    let mut key = [0u32; TASKS];
     moments_of(&mut key, earliest);
-    let mut order: [usize; 48] = [0; 48];
+    let mut order: [usize; TASKS] = [0; TASKS];
     sort_numbers(&mut order, n, &key);
     order
 }
 
 // Whether each task of an order ends by the start of the next.
-pub fn in_turn(order: &[usize; 48], earliest: &[i32], durations: &[u32; 48]) -> bool
+pub fn in_turn(order: &[usize; TASKS], earliest: &[i32], durations: &[u32; TASKS]) -> bool
     requires { ⌜ Listed (now order) (now earliest) (now durations) ⌝ }
     ensures { λ r. ⌜ r ≡ allBelow (inTurnAt (now (order .entry)) (now (earliest .entry)) (now (durations .entry))) (length (now (earliest .entry)) - 1) ⌝ }
 {

@@ -3,6 +3,7 @@ use fixed_schedules::asked::length_fits;
 use fixed_schedules::asked::moment_fits;
 use fixed_schedules::order::order_of;
 use fixed_schedules::refusals::fixed_refusal;
+use integers::limits::TASKS;
 use integers::moment_of;
 use integers::nat_of;
 use integers::start_of;
@@ -40,9 +41,9 @@ fn free_refusal(record: Propagator, earliest: &[i32], latest: &[i32], t: i32, d:
 
 // One pass over the tasks by start: what does not end by the next task's start has to wait for that task's end.
 fn first_free<'a>(
-    order: &'a [usize; 48],
-    starts: &'a [u32; 48],
-    durations: &'a [u32; 48],
+    order: &'a [usize; TASKS],
+    starts: &'a [u32; TASKS],
+    durations: &'a [u32; TASKS],
     n: usize,
     t: u32,
     d: u32,
@@ -75,7 +76,7 @@ pub fn free_start(record: Propagator, earliest: &[i32], latest: &[i32], t: i32, 
         return FreeStart::Refused(number);
     }
     let order = order_of(earliest);
-    let mut starts: [u32; 48] = [0; 48];
+    let mut starts: [u32; TASKS] = [0; TASKS];
     moments_of(&mut starts, earliest);
     let from = moment_of(t);
     let length = nat_of(d);

@@ -5,6 +5,23 @@ use Prim.Native.Nat.{ℕ, _+_}
 abbrev pub TASKS : ℕ
 TASKS = 48
 
+-- nodes of a tree over so many tasks, those that are not leaves, and the words of each kind of tree: four or two to a node
+abbrev pub NODES : ℕ
+NODES = 127
+
+abbrev pub INNER : ℕ
+INNER = 63
+
+abbrev pub TREEWORDS : ℕ
+TREEWORDS = 508
+
+abbrev pub THETAWORDS : ℕ
+THETAWORDS = 254
+
+-- atoms of the reasons of a run: two for each pair of tasks
+abbrev pub ATOMS : ℕ
+ATOMS = 4608
+
 abbrev pub VARIABLES : ℕ
 VARIABLES = 64
 

@@ -1,8 +1,23 @@
 // The limits of the port, all in one place; specs/Limits.antt has the same numbers under the same names.
 
-// Tasks of a record, and variables of a state.
+// Tasks of a record.
 pub const TASKS: usize = 48;
 
+// Nodes of a tree over so many tasks, those that are not leaves, and the words of each kind of tree: four or two to a node.
+pub const NODES: usize = 127;
+
+pub const INNER: usize = 63;
+
+pub const TREEWORDS: usize = 508;
+
+pub const THETAWORDS: usize = 254;
+
+// Words of the posts and of the atoms of a run on so many tasks: four for each task, six for each pair.
+pub const POSTWORDS: usize = 192;
+
+pub const ATOMWORDS: usize = 13824;
+
+// Variables of a state.
 pub const VARIABLES: usize = 64;
 // Starts lie from -START to START, and durations sum to at most DURATIONS.
 pub const START: i32 = 400_000_000;

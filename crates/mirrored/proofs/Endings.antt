@@ -11,7 +11,7 @@ use lib.Seq.{getD-take, length-take-le}
 use lib.Signed.{_≤ℤ_}
 use mir.Syntax.{w32}
 use mir.Val.{SFits}
-use Rattle.integers.specs.Limits.{TASKS, START, MIRRORED}
+use Rattle.integers.specs.Limits.{TASKS, START, MIRRORED, ATOMS}
 use Rattle.integers.specs.Moments.{Above, zeroAt}
 use Rattle.integers.proofs.Ints.{up, dn, ints, fits-show}
 use Rattle.integers.proofs.Moments.{at-moment, above-up, more-above}
@@ -237,10 +237,10 @@ module _ (before : Propagator) (es ls : List ℤ) (postCount atomCount : ℕ) (a
   pub few-posts : length (mirroredRun (take (before .count) (before .durations)) es ls .posts) ≤ TASKS
   few-posts = omega (arith, laws.mirrored-posts-fit ds es ls here es-long ls-long, posts-length (mirroredRun ds es ls .posts) 0, count, a .lawful .few)
 
-  squares : (m x : ℕ) → m ≤ 48 → x ≤ 6 * (m * m) → x ≤ 13824
+  squares : (m x : ℕ) → m ≤ TASKS → x ≤ 6 * (m * m) → x ≤ 13824
   squares m x h q = omega (arith, q, mul-le-mul {n₁ = m} {m₁ = m} {n₂ = 48} {m₂ = 48} h h)
 
-  pub few-atoms : length (atomsIn (mirroredRun (take (before .count) (before .durations)) es ls)) ≤ 4608
+  pub few-atoms : length (atomsIn (mirroredRun (take (before .count) (before .durations)) es ls)) ≤ ATOMS
   few-atoms = omega (arith, squares (length ds) (length (atomWords (atomsIn (mirroredRun ds es ls)))) (here .few) (laws.mirrored-atoms-fit ds es ls here es-long ls-long), atoms-length (atomsIn (mirroredRun ds es ls)))
 
   module _ {posts atoms posts′ atoms′ ls′ : List ℤ} {r : Outcome} (m : RanInMirror before es ls posts atoms r ls′ posts′ atoms′) where

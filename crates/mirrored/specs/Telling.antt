@@ -7,7 +7,7 @@ use lib.ListN.{length, getD, take}
 use lib.Signed.{_≤ℤ_}
 use mir.Syntax.{w32}
 use mir.Val.{SFits}
-use Rattle.integers.specs.Limits.{TASKS}
+use Rattle.integers.specs.Limits.{TASKS, ATOMS}
 use Rattle.scheduling.specs.Scheduling.{Atom, Every}
 use Rattle.scheduling.specs.Words.{atomWords}
 use Rattle.scheduling.specs.Mirroring.{mirrorStart}
@@ -67,7 +67,7 @@ pub record AtomsHeld (words : List ℤ) (count : ℕ) (array : List ℕ) : Type 
   pub durations : Durations ds array
   pub words-are : words ≡ atomWords atoms ++ tail
   pub number : length atoms ≡ count
-  pub few : count ≤ 4608
+  pub few : count ≤ ATOMS
   pub near : Every (Near ds) atoms
 
 -- They are mirrored, whatever atoms they are.
@@ -81,7 +81,7 @@ pub record Counted (words : List ℤ) (count : ℕ) : Type 0 where
   pub words-are : words ≡ postWords 0 posts ++ tail
   pub number : length posts ≡ count
   pub few : count ≤ TASKS
-  pub small : length (reasons posts) ≤ 4608
+  pub small : length (reasons posts) ≤ ATOMS
 
 -- A run's answer, and the words of its posts over what stood in the slice.
 pub record Answered (r : Outcome) (words : List ℤ) : Type 0 where
@@ -90,7 +90,7 @@ pub record Answered (r : Outcome) (words : List ℤ) : Type 0 where
   pub answer : r ≡ outcomeOf (reasons (trace .posts)) (length (trace .posts)) (trace .end)
   pub words-are : words ≡ postsAfter old trace
   pub few : length (trace .posts) ≤ TASKS
-  pub small : length (atomsIn trace) ≤ 4608
+  pub small : length (atomsIn trace) ≤ ATOMS
 
 -- A run in mirrored time: its answer and its words over what stood in the slices; all its numbers are near.
 pub record Ended (r : Outcome) (posts atoms : List ℤ) (array : List ℕ) : Type 0 where
@@ -105,7 +105,7 @@ pub record Ended (r : Outcome) (posts atoms : List ℤ) (array : List ℕ) : Typ
   pub posts-near : (j : ℕ) → j < length (trace .posts) → Near ds (consequentOf (post trace j))
   pub atoms-near : Every (Near ds) (atomsIn trace)
   pub few : length (trace .posts) ≤ TASKS
-  pub small : length (atomsIn trace) ≤ 4608
+  pub small : length (atomsIn trace) ≤ ATOMS
 
 -- It is told in the caller's time.
 pub record Told {r : Outcome} {posts atoms : List ℤ} {array : List ℕ} (e : Ended r posts atoms array) (posts′ atoms′ : List ℤ) : Type 0 where

@@ -1,4 +1,5 @@
 // The mirrored pass: latest starts fall by the mirrored rule. It is a run in mirrored time, where the caller's moment t is -t, told in the caller's time.
+use integers::limits::TASKS;
 use integers::nat_of;
 use propagator::disjunctive_propagator::Outcome;
 use propagator::disjunctive_propagator::run_accepted;
@@ -28,7 +29,7 @@ fn mirror_start(x: i32, p: u32) -> i32
 }
 
 // Each start, mirrored, in its place of `out`.
-fn mirror_starts(out: &mut [i32], starts: &[i32], durations: &[u32; 48])
+fn mirror_starts(out: &mut [i32], starts: &[i32], durations: &[u32; TASKS])
     requires { ⌜ Reflectable (now out) (now starts) (now durations) ⌝ }
     ensures { λ _. ⌜ now (out .exit) ≡ mirrorStarts (take (length (now (starts .entry))) (now (durations .entry))) (now (starts .entry)) ⌝ }
 {
@@ -40,7 +41,7 @@ fn mirror_starts(out: &mut [i32], starts: &[i32], durations: &[u32; 48])
 }
 
 // The word at `at` is a start of the task that the word at `of` names: it is mirrored in its place.
-fn mirror_word(words: &mut [i32], of: usize, at: usize, durations: &[u32; 48])
+fn mirror_word(words: &mut [i32], of: usize, at: usize, durations: &[u32; TASKS])
     requires { ⌜ Mirrorable (now words) of at (now durations) ⌝ }
     ensures { λ _. ⌜ now (words .exit) ≡ set (now (words .entry)) at (mirroredWord (now (words .entry)) of at (now (durations .entry))) ⌝ }
 {
@@ -57,7 +58,7 @@ fn mirror_kind(words: &mut [i32], at: usize)
 }
 
 // Of each post the bound is mirrored.
-fn mirror_posts(posts: &mut [i32], count: usize, durations: &[u32; 48])
+fn mirror_posts(posts: &mut [i32], count: usize, durations: &[u32; TASKS])
     requires { ⌜ PostsHeld (now posts) count (now durations) ⌝ }
     ensures { λ _. ⌜ PostsTold (now (posts .entry)) count (now (durations .entry)) (now (posts .exit)) ⌝ }
 {
@@ -69,7 +70,7 @@ fn mirror_posts(posts: &mut [i32], count: usize, durations: &[u32; 48])
 }
 
 // Of each atom the kind and the value are.
-fn mirror_atoms(atoms: &mut [i32], count: usize, durations: &[u32; 48])
+fn mirror_atoms(atoms: &mut [i32], count: usize, durations: &[u32; TASKS])
     requires { ⌜ AtomsHeld (now atoms) count (now durations) ⌝ }
     ensures { λ _. ⌜ AtomsTold (now (atoms .entry)) count (now (durations .entry)) (now (atoms .exit)) ⌝ }
 {
@@ -129,7 +130,7 @@ fn atoms_of(outcome: Outcome, posts: &[i32]) -> usize
 }
 
 // What a run in mirrored time wrote is told in the caller's time.
-fn tell(outcome: Outcome, posts: &mut [i32], atoms: &mut [i32], durations: &[u32; 48])
+fn tell(outcome: Outcome, posts: &mut [i32], atoms: &mut [i32], durations: &[u32; TASKS])
     requires { ⌜ Ended outcome (now posts) (now atoms) (now durations) ⌝ }
     ensures { λ _. ⌜ ((e : Ended outcome (now (posts .entry)) (now (atoms .entry)) (now (durations .entry))) → Told e (now (posts .exit)) (now (atoms .exit))) ⌝ }
 {
@@ -152,9 +153,9 @@ fn run_in_mirror(
 {
     let n = record.count;
     let durations = record.durations;
-    let mut from: [i32; 48] = [0; 48];
+    let mut from: [i32; TASKS] = [0; TASKS];
     mirror_starts(&mut from[..n], latest, &durations);
-    let mut to: [i32; 48] = [0; 48];
+    let mut to: [i32; TASKS] = [0; TASKS];
     mirror_starts(&mut to[..n], earliest, &durations);
     let finished = run_accepted(record, &mut from[..n], &to[..n], posts, atoms);
     mirror_starts(latest, &from[..n], &durations);

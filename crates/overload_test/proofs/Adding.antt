@@ -70,7 +70,7 @@ module _ {inner n : ℕ} {words mapping tasks est lct durations : List ℕ} (f :
     small : i < n
     small = omega (arith, is-next, f .held .count, by-completion J .task k inside)
 
-    pub task-known : i < 48
+    pub task-known : i < TASKS
     task-known = omega (arith, small, f .held .few)
 
     -- its leaf

@@ -1,4 +1,6 @@
 // Whether some set of the tasks overloads: the tasks go into the theta tree by latest completion, least first, until those read overload.
+use integers::limits::TASKS;
+use integers::limits::THETAWORDS;
 use records::orders::completions;
 use records::orders::moments_of;
 use records::orders::sort_numbers;
@@ -24,13 +26,13 @@ pub enum Overload {
 
 // Reads the tasks in their order, each into Theta.
 fn read_tasks<'a>(
-    nodes: &mut [u32; 254],
+    nodes: &mut [u32; THETAWORDS],
     inner: usize,
-    mapping: &'a [usize; 48],
-    tasks: &'a [usize; 48],
-    est: &'a [u32; 48],
-    lct: &'a [u32; 48],
-    durations: &'a [u32; 48],
+    mapping: &'a [usize; TASKS],
+    tasks: &'a [usize; TASKS],
+    est: &'a [u32; TASKS],
+    lct: &'a [u32; TASKS],
+    durations: &'a [u32; TASKS],
     n: usize,
 ) -> Overload
     requires { ⌜ Readable inner n (now nodes) (now mapping) (now tasks) (now est) (now lct) (now durations) ⌝ }
@@ -62,15 +64,15 @@ fn accepted(record: Propagator, earliest: &[i32], latest: &[i32]) -> Overload
 {
     let n = record.count;
     let durations = record.durations;
-    let mut est: [u32; 48] = [0; 48];
+    let mut est: [u32; TASKS] = [0; TASKS];
     moments_of(&mut est, earliest);
-    let mut lst: [u32; 48] = [0; 48];
+    let mut lst: [u32; TASKS] = [0; TASKS];
     moments_of(&mut lst, latest);
-    let mut lct: [u32; 48] = [0; 48];
+    let mut lct: [u32; TASKS] = [0; TASKS];
     completions(&mut lct, &lst, &durations, n);
-    let mut leaves: [usize; 48] = [0; 48];
+    let mut leaves: [usize; TASKS] = [0; TASKS];
     sort_numbers(&mut leaves, n, &est);
-    let mut tasks: [usize; 48] = [0; 48];
+    let mut tasks: [usize; TASKS] = [0; TASKS];
     sort_numbers(&mut tasks, n, &lct);
     let tree = ThetaTree::new(&leaves, n);
     let inner = tree.number_of_internal_nodes;

@@ -1,4 +1,5 @@
 // The lines of a page, put into a buffer.
+use integers::limits::TASKS;
 use integers::moment_of;
 use integers::start_of;
 use integers::word_of;
@@ -50,9 +51,9 @@ fn put_heading(out: &mut [u8]) -> usize
 // The heading, and behind it the lines of the tasks in an order.
 pub fn put_lines(
     out: &mut [u8],
-    order: &[usize; 48],
+    order: &[usize; TASKS],
     earliest: &[i32],
-    durations: &[u32; 48],
+    durations: &[u32; TASKS],
 ) -> usize
     requires { ⌜ Listed (now order) (now earliest) (now durations) × (LINE * (length (now earliest) + 1) ≤ length (now out)) ⌝ }
     ensures { λ r. ⌜ Puts (now (out .entry)) (now (out .exit)) 0 (heading ++ flatMap (lineAt (now (durations .entry)) (now (earliest .entry))) (take (length (now (earliest .entry))) (now (order .entry)))) r ⌝ }

@@ -14,7 +14,7 @@ use Rattle.trees.specs.Searches.{gray, tested, descentP, descentEct, stepP, ste
 use Rattle.trees.specs.Shapes.{width, heightFrom, nodeOver}
 use Rattle.runs.specs.Runs.{propagate, run, outer, inner, conflict, propagation, bounds, within, tabulate}
 use Rattle.records.specs.Records.{unusedAt, lawfulRecord}
-use Rattle.text.specs.Numbers.{space, stretches, filled as nonEmpty, tokens, digit, digits, value, ranged, unsigned, numberOf, before, numbers, numbersOf}
+use Rattle.text.specs.Numbers.{space, pieces, filled as nonEmpty, tokens, digit, digits, value, ranged, unsigned, numberOf, before, numbers, numbersOf}
 use Rattle.text.specs.Writing.{figures, natural, decimal}
 use Rattle.plan_cli.specs.Lines.{sign, postLine, whyLine, lines, doneLine, overloadLines, runLines, refusedLine}
 use Rattle.plan_cli.specs.Printed.{triples, inputTasks, answered, printed}
@@ -28,10 +28,10 @@ abbrev output : List ℕ
 output = 112 ∷ 111 ∷ 115 ∷ 116 ∷ 32 ∷ 50 ∷ 32 ∷ 57 ∷ 10 ∷ 119 ∷ 104 ∷ 121 ∷ 32 ∷ 48 ∷ 32 ∷ 62 ∷ 61 ∷ 32 ∷ 48 ∷ 10 ∷ 119 ∷ 104 ∷ 121 ∷ 32 ∷ 48 ∷ 32 ∷ 60 ∷ 61 ∷ 32 ∷ 55 ∷ 10 ∷ 119 ∷ 104 ∷ 121 ∷ 32 ∷ 49 ∷ 32 ∷ 62 ∷ 61 ∷ 32 ∷ 48 ∷ 10 ∷ 119 ∷ 104 ∷ 121 ∷ 32 ∷ 49 ∷ 32 ∷ 60 ∷ 61 ∷ 32 ∷ 54 ∷ 10 ∷ 119 ∷ 104 ∷ 121 ∷ 32 ∷ 50 ∷ 32 ∷ 62 ∷ 61 ∷ 32 ∷ 48 ∷ 10 ∷ 100 ∷ 111 ∷ 110 ∷ 101 ∷ 32 ∷ 48 ∷ 32 ∷ 49 ∷ 32 ∷ 57 ∷ 10 ∷ []
 
 instance-A : printed input ≡ output
-unfolding printed answered inputTasks triples sign postLine whyLine lines doneLine overloadLines runLines refusedLine figures natural decimal space stretches nonEmpty tokens digit digits value ranged unsigned numberOf before numbers numbersOf unusedAt lawfulRecord propagate run outer inner decoded conflict propagation bounds within tabulate width heightFrom nodeOver gray tested descentP descentEct stepP stepEct searchP searchEct thetaOf joinOf isEmpty root responsible theta total allBelow refusal upTo sort insert index filled
+unfolding printed answered inputTasks triples sign postLine whyLine lines doneLine overloadLines runLines refusedLine figures natural decimal space pieces nonEmpty tokens digit digits value ranged unsigned numberOf before numbers numbersOf unusedAt lawfulRecord propagate run outer inner decoded conflict propagation bounds within tabulate width heightFrom nodeOver gray tested descentP descentEct stepP stepEct searchP searchEct thetaOf joinOf isEmpty root responsible theta total allBelow refusal upTo sort insert index filled
 instance-A = refl
 
 -- "refused 0"
 empty-input : printed [] ≡ 114 ∷ 101 ∷ 102 ∷ 117 ∷ 115 ∷ 101 ∷ 100 ∷ 32 ∷ 48 ∷ 10 ∷ []
-unfolding printed answered inputTasks stretches nonEmpty tokens numbers numbersOf refusedLine figures natural
+unfolding printed answered inputTasks pieces nonEmpty tokens numbers numbersOf refusedLine figures natural
 empty-input = refl

@@ -1,6 +1,7 @@
 // The pass: every bound is taken from the ranges at entry; where none passes a latest start, the earliest starts are raised.
 use crate::answers::Precedences;
 use crate::predecessors::bound_of;
+use integers::limits::TASKS;
 use integers::start_of;
 use records::orders::moments_of;
 use records::record::Propagator;
@@ -18,15 +19,15 @@ ghost use Rattle.precedences.specs.Precedences.{LeftPrecedences, RanPrec
 
 // Each of n tasks' earliest start or bound, whichever is later.
 fn raised_starts<'a>(
-    est: &'a [u32; 48],
-    lst: &'a [u32; 48],
-    durations: &'a [u32; 48],
+    est: &'a [u32; TASKS],
+    lst: &'a [u32; TASKS],
+    durations: &'a [u32; TASKS],
     n: usize,
-) -> [u32; 48]
+) -> [u32; TASKS]
     requires { ⌜ Ranged n (now est) (now lst) (now durations) ⌝ }
     ensures { λ r. ⌜ ((f : Ranged n (now (est .entry)) (now (lst .entry)) (now (durations .entry))) → r ≡ filled (raisedAt (f .J)) n noTasks) ⌝ }
 {
-    let mut raised = [0u32; 48];
+    let mut raised = [0u32; TASKS];
     let mut i = 0;
     while i < n {
         let bound = bound_of(est, lst, durations, n, i);
@@ -37,7 +38,7 @@ fn raised_starts<'a>(
 }
 
 // The first of n tasks whose raised start is past its latest start, or n.
-fn first_past<'a>(raised: &'a [u32; 48], lst: &'a [u32; 48], n: usize) -> usize
+fn first_past<'a>(raised: &'a [u32; TASKS], lst: &'a [u32; TASKS], n: usize) -> usize
     requires { ⌜ n ≤ TASKS ⌝ }
     ensures { λ r. ⌜ FirstPast (now (raised .entry)) (now (lst .entry)) n r ⌝ }
 {
@@ -52,7 +53,7 @@ fn first_past<'a>(raised: &'a [u32; 48], lst: &'a [u32; 48], n: usize) -> usize
 }
 
 // The raised starts go into the caller's slice.
-fn store(earliest: &mut [i32], raised: &[u32; 48])
+fn store(earliest: &mut [i32], raised: &[u32; TASKS])
     requires { ⌜ length (now earliest) ≤ TASKS ⌝ }
     ensures { λ _. ⌜ now (earliest .exit) ≡ filled (startAt (now (raised .entry))) (length (now (earliest .entry))) (now (earliest .entry)) ⌝ }
 {
@@ -70,9 +71,9 @@ fn accepted(record: Propagator, earliest: &mut [i32], latest: &[i32]) -> Precede
 {
     let n = record.count;
     let durations = record.durations;
-    let mut est: [u32; 48] = [0; 48];
+    let mut est: [u32; TASKS] = [0; TASKS];
     moments_of(&mut est, earliest);
-    let mut lst: [u32; 48] = [0; 48];
+    let mut lst: [u32; TASKS] = [0; TASKS];
     moments_of(&mut lst, latest);
     let raised = raised_starts(&est, &lst, &durations, n);
     let i = first_past(&raised, &lst, n);

@@ -1,5 +1,6 @@
 // The tasks that must come before a task, and their ect. Starts are moments.
 use chosen_sets::theta::theta_ect;
+use integers::limits::TASKS;
 use trees::earliest_completion::Ect;
 ghost use mathlib.Core.Path.{_≡_};
 ghost use mathlib.Core.Bool.{not, _&&_, false};
@@ -23,17 +24,17 @@ fn precedes(j: usize, latest: u32, i: usize, end: u32) -> bool
 
 // Which of n tasks must come before task i.
 pub fn predecessors<'a>(
-    est: &'a [u32; 48],
-    lst: &'a [u32; 48],
-    durations: &'a [u32; 48],
+    est: &'a [u32; TASKS],
+    lst: &'a [u32; TASKS],
+    durations: &'a [u32; TASKS],
     n: usize,
     i: usize,
-) -> [bool; 48]
+) -> [bool; TASKS]
     requires { ⌜ (n ≤ TASKS) × (i < n) × (getD (now est) i 0 + getD (now durations) i 0 < 4294967296) ⌝ }
     ensures { λ r. ⌜ r ≡ filled (precedesAt (now (est .entry)) (now (lst .entry)) (now (durations .entry)) i) n (replicate TASKS false) ⌝ }
 {
     let end = est[i] + durations[i];
-    let mut before = [false; 48];
+    let mut before = [false; TASKS];
     let mut j = 0;
     while j < n {
         before[j] = precedes(j, lst[j], i, end);
@@ -44,9 +45,9 @@ pub fn predecessors<'a>(
 
 // The ect of the tasks that must come before task i, or that there are none.
 pub fn bound_of<'a>(
-    est: &'a [u32; 48],
-    lst: &'a [u32; 48],
-    durations: &'a [u32; 48],
+    est: &'a [u32; TASKS],
+    lst: &'a [u32; TASKS],
+    durations: &'a [u32; TASKS],
     n: usize,
     i: usize,
 ) -> Ect

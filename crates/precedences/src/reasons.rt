@@ -5,6 +5,7 @@ use chosen_sets::theta::theta_ect;
 use explanations::AT_LEAST;
 use explanations::AT_MOST;
 use explanations::write_atom;
+use integers::limits::TASKS;
 use records::orders::moments_of;
 use records::record::Propagator;
 use records::refusals::input_refusal;
@@ -36,9 +37,9 @@ fn write_both(atoms: &mut [i32], k: usize, j: usize, member: bool, est: u32, lst
 // Both bounds of the members of n tasks, by number, from the second atom on. The number of the atom after them.
 fn write_members<'a>(
     atoms: &mut [i32],
-    members: &'a [bool; 48],
-    est: &'a [u32; 48],
-    lst: &'a [u32; 48],
+    members: &'a [bool; TASKS],
+    est: &'a [u32; TASKS],
+    lst: &'a [u32; TASKS],
     n: usize,
 ) -> usize
     requires { ⌜ (n ≤ TASKS) × (3 * (1 + length (bothBounds (startAt (now est)) (startAt (now lst)) (memberAt (now members)) n)) ≤ length (now atoms)) ⌝ }
@@ -56,9 +57,9 @@ fn write_members<'a>(
 // The reason of task i's bound, where that is above its earliest start, and its atom count; else 0.
 fn write_reason<'a>(
     atoms: &mut [i32],
-    est: &'a [u32; 48],
-    lst: &'a [u32; 48],
-    durations: &'a [u32; 48],
+    est: &'a [u32; TASKS],
+    lst: &'a [u32; TASKS],
+    durations: &'a [u32; TASKS],
     n: usize,
     i: usize,
 ) -> usize
@@ -88,9 +89,9 @@ fn accepted_reason(
 {
     let n = record.count;
     let durations = record.durations;
-    let mut est: [u32; 48] = [0; 48];
+    let mut est: [u32; TASKS] = [0; TASKS];
     moments_of(&mut est, earliest);
-    let mut lst: [u32; 48] = [0; 48];
+    let mut lst: [u32; TASKS] = [0; TASKS];
     moments_of(&mut lst, latest);
     Reason::Written(write_reason(atoms, &est, &lst, &durations, n, task))
 }
@@ -98,7 +99,7 @@ fn accepted_reason(
 // The number that turns the call back, or 0: 20, 10, 3, 4, 17, 16.
 fn reason_refusal<'a>(
     n: usize,
-    durations: &'a [u32; 48],
+    durations: &'a [u32; TASKS],
     total: u32,
     earliest: &[i32],
     latest: &[i32],

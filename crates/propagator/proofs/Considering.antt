@@ -12,7 +12,7 @@ use lib.IntN.{ℤ, pos}
 use lib.ListN.{length, getD, set, length-append, length-map}
 use lib.Seq.{sets, length-sets}
 use borrow.Author.Tests.{ltb-true, lt-ltb, le-ltb}
-use Rattle.integers.specs.Limits.{TASKS}
+use Rattle.integers.specs.Limits.{TASKS, ATOMS, INNER}
 use Rattle.integers.specs.Moments.{instant, zeroAt}
 use Rattle.integers.specs.Orders.{index}
 use Rattle.scheduling.specs.Scheduling.{natural, Tasks, Proper, TaskSet, Atom, completion}
@@ -141,7 +141,7 @@ module _ {n inn height lct : ℕ} {words : List ℕ} {es ps as′ : List ℤ} {w
   pub few : n ≤ TASKS
   few = omega (arith, G .limited .count, s .arrays .count)
 
-  pub inner-few : inn ≤ 63
+  pub inner-few : inn ≤ INNER
   inner-few = omega (arith, s .at .tree .complete, room-for (J .count) (omega (arith, G .limited .count)))
 
   pub few-changes : w .changes ≤ 192
@@ -260,7 +260,7 @@ module _ {n inn height lct : ℕ} {words : List ℕ} {es ps as′ : List ℤ} {w
           (tree.white-at J (G .proper) first (G .by-earliest) ls Θ Λ shape x (found .small) ∙ found .out),
     )
 
-    pub many-atoms : w .atoms ≤ 4608
+    pub many-atoms : w .atoms ≤ ATOMS
     many-atoms = omega (arith, s .at .explained, reasons-short, mul-le-mul {n₁ = length (s .st .posts)} {m₁ = 2 * n} {n₂ = 48} {m₂ = 96} (omega (arith, fewer, s .small, few, s .arrays .count)) (omega (arith, few)))
 
     atom-room : 3 * w .atoms + 6 * length (leaves.theta J first ls) + 3 ≤ length as′

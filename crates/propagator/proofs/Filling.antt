@@ -6,6 +6,7 @@ use Prim.Native.Nat.{ℕ, zero, suc, _+_, _≤_, _<_}
 use native.Mathlib.Omega.{arith}
 use lib.ListN.{length, getD, set, replicate, length-replicate, getD-replicate}
 use lib.Seq.{ext-getD}
+use Rattle.integers.specs.Limits.{TASKS}
 use Rattle.integers.specs.Filling.{filled}
 use Rattle.integers.proofs.Filling.{filled-none, filled-more, filled-length, filled-at}
 use Rattle.trees.specs.declared.theta_lambda_tree.Node.{Node}
@@ -27,7 +28,7 @@ module _ {inner n : ℕ} {words tasks est dur : List ℕ} (f : Fillable inner n 
     abbrev t : ℕ
     t = getD tasks x 0
 
-    pub task-known : t < 48
+    pub task-known : t < TASKS
     task-known = omega (arith, f .task x q, f .known x q)
 
     abbrev node : Node

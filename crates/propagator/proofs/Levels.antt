@@ -10,7 +10,7 @@ use lib.IntN.{ℤ}
 use lib.ListN.{length, getD, set}
 use lib.Seq.{sets}
 use borrow.Author.Tests.{lt-ltb, le-ltb}
-use Rattle.integers.specs.Limits.{TASKS}
+use Rattle.integers.specs.Limits.{TASKS, INNER}
 use Rattle.integers.specs.Moments.{instant, zeroAt}
 use Rattle.integers.specs.Orders.{index}
 use Rattle.scheduling.specs.Scheduling.{natural, Tasks, Atom, completion}
@@ -159,7 +159,7 @@ module _ {n inn height : ℕ} {words : List ℕ} {es ps as′ : List ℤ} {est l
       pub over-asked : c < nodeAt words′ 0 .ect → Overloaded (length bs) (w′ .atoms) (thetaIn words′ inn tasks n) est dur (sumIn words′) c
       over-asked q = considering.over-asked here (omega (arith, q, ect-is))
 
-      pub over-inner : inn ≤ 63
+      pub over-inner : inn ≤ INNER
       over-inner = considering.inner-few here
 
       pub overloads : {r : Outcome} {bs′ : List ℤ} → c < nodeAt words′ 0 .ect → Conflicted bs bs′ w′ r (conflictIn words′ inn tasks n est dur c) → Ended J first second ps as′ r (w′ .changes) es′ ps′ bs′

@@ -8,7 +8,7 @@ use native.Mathlib.Omega.{arith}
 use lib.IntN.{ℤ, pos}
 use lib.ListN.{length}
 use lib.Seq.{sets}
-use Rattle.integers.specs.Limits.{TASKS}
+use Rattle.integers.specs.Limits.{TASKS, ATOMS}
 use Rattle.integers.specs.Moments.{instant, zeroAt}
 use Rattle.scheduling.specs.Scheduling.{Atom}
 use Rattle.trees.specs.declared.theta_lambda_tree.Responsible.the-variants as responsible
@@ -44,7 +44,7 @@ module _ {as′ bs : List ℤ} {k end : ℕ} {reason : List Atom} (s : Stored as
   long : end - k ≡ length reason
   long = omega (arith, s .count)
 
-  pub post-fits : {i room j : ℕ} → i < TASKS → 4 * j + 4 ≤ room → k ≤ 4608 → length reason ≤ 97 → PostFits room j i k (end - k)
+  pub post-fits : {i room j : ℕ} → i < TASKS → 4 * j + 4 ≤ room → k ≤ ATOMS → length reason ≤ 97 → PostFits room j i k (end - k)
   post-fits small r q few = record { room = r; task = small; first = omega arith; count = omega (arith, long) }
 
   pub post-done : {ps ps′ : List ℤ} {before after : Written} {i b : ℕ} → before .atoms ≡ k → after .posts ≡ before .posts + 1 → after .atoms ≡ end → after .changes ≡ before .changes

@@ -3,6 +3,7 @@ use mathlib.Core.Path.{_≡_}
 use mathlib.Core.List.{List}
 use Prim.Native.Nat.{ℕ, _≤_, _<_}
 use lib.ListN.{getD, replicate}
+use Rattle.integers.specs.Limits.{TASKS}
 use Rattle.scheduling.specs.Scheduling.{natural, Tasks}
 use Rattle.trees.specs.Leaves.{empty, white, Limited, IsTree}
 
@@ -13,9 +14,9 @@ pub record Fillable (inner n : ℕ) (words tasks est dur : List ℕ) : Type 0 wh
   pub limited : Limited J first
   pub count : J .count ≡ n
   pub tree : IsTree J first (replicate (J .count) empty) inner words
-  pub few : n ≤ 48
+  pub few : n ≤ TASKS
   pub task : (x : ℕ) → x < n → getD tasks x 0 ≡ getD first x 0
-  pub known : (x : ℕ) → x < n → getD first x 0 < 48
+  pub known : (x : ℕ) → x < n → getD first x 0 < TASKS
   pub start : (x : ℕ) → x < n → getD est (getD first x 0) 0 ≡ J .earliest (getD first x 0)
   pub lasts : (x : ℕ) → x < n → getD dur (getD first x 0) 0 ≡ J .duration (getD first x 0)
 

@@ -3,6 +3,7 @@ use mathlib.Core.Path.{_≡_}
 use mathlib.Core.List.{List}
 use Prim.Native.Nat.{ℕ, _<_}
 use lib.ListN.{getD, set}
+use Rattle.integers.specs.Limits.{TASKS}
 use Rattle.scheduling.specs.Scheduling.{natural, Tasks}
 use Rattle.trees.specs.Leaves.{Leaf, gray, taskAt, Limited, IsTree}
 
@@ -13,7 +14,7 @@ pub record Movable (inner : ℕ) (words mapping est dur : List ℕ) (j : ℕ) : 
   pub leaves : List Leaf
   pub limited : Limited J first
   pub tree : IsTree J first leaves inner words
-  pub known : j < 48
+  pub known : j < TASKS
   pub inside : getD mapping j 0 < J .count
   pub task : taskAt J first (getD mapping j 0) ≡ j
   pub start : getD est j 0 ≡ J .earliest j

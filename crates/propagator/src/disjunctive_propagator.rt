@@ -2,6 +2,8 @@
 use explanations::create_conflict_explanation;
 use explanations::create_propagation_explanation;
 use explanations::write_post;
+use integers::limits::TASKS;
+use integers::limits::TREEWORDS;
 use integers::start_of;
 use records::orders::completions;
 use records::orders::moments_of;
@@ -21,7 +23,7 @@ use trees::theta_lambda_tree::ThetaLambdaTree;
 ghost use mathlib.Core.Path.{_≡_};
 ghost use Prim.Native.Nat.{ℕ, _+_, _*_, _^_, _≤_, _<_};
 ghost use lib.ListN.{length, getD};
-ghost use Rattle.integers.specs.Limits.{TASKS};
+ghost use Rattle.integers.specs.Limits.{TASKS, ATOMS, INNER};
 ghost use Rattle.integers.specs.Moments.{zeroAt};
 ghost use Rattle.trees.specs.Ects.{exceeds, raisedTo};
 ghost use Rattle.trees.specs.Searches.{Searchable, thetaIn};
@@ -76,8 +78,8 @@ pub enum Turn {
 
 // The task to consider next: one of Lambda for which the edge-finding condition holds.
 fn candidate<'a>(
-    nodes: &'a [u32; 508],
-    tasks: &'a [usize; 48],
+    nodes: &'a [u32; TREEWORDS],
+    tasks: &'a [usize; TASKS],
     inner: usize,
     height: usize,
     lct: u32,
@@ -97,10 +99,10 @@ fn post<'a>(
     posts: &mut [i32],
     atoms: &mut [i32],
     written: Written,
-    nodes: &'a [u32; 508],
-    tasks: &'a [usize; 48],
-    est: &'a [u32; 48],
-    durations: &'a [u32; 48],
+    nodes: &'a [u32; TREEWORDS],
+    tasks: &'a [usize; TASKS],
+    est: &'a [u32; TASKS],
+    durations: &'a [u32; TASKS],
     inner: usize,
     n: usize,
     i: usize,
@@ -108,7 +110,7 @@ fn post<'a>(
     lct: u32,
 ) -> Written
     requires { ⌜ (Preceded (length (now atoms)) (written .atoms) (thetaIn (now nodes) inner (now tasks) n) (now est) (now durations) (sumIn (now nodes)) lct i bound)
-        × (4 * written .posts + 4 ≤ length (now posts)) × (n ≤ 48) × (inner ≤ 63) × (written .atoms ≤ 4608) ⌝ }
+        × (4 * written .posts + 4 ≤ length (now posts)) × (n ≤ TASKS) × (inner ≤ INNER) × (written .atoms ≤ ATOMS) ⌝ }
     ensures { λ r. ⌜ Posted (now (posts .entry)) (now (atoms .entry)) (now (posts .exit)) (now (atoms .exit)) written r i bound
         (atomWords (propagation zeroAt (starting (now (est .entry)) (now (durations .entry))) i bound lct (sumIn (now (nodes .entry))) (thetaIn (now (nodes .entry)) inner (now (tasks .entry)) n)))
         (length (propagation zeroAt (starting (now (est .entry)) (now (durations .entry))) i bound lct (sumIn (now (nodes .entry))) (thetaIn (now (nodes .entry)) inner (now (tasks .entry)) n))) ⌝ }
@@ -138,7 +140,7 @@ fn post<'a>(
 }
 
 // A task's earliest start, raised to the ect of Theta where that is later.
-fn raised_start(nodes: &[u32; 508], start: u32) -> u32
+fn raised_start(nodes: &[u32; TREEWORDS], start: u32) -> u32
     ensures { λ r. ⌜ r ≡ raisedTo start (ectIn (now (nodes .entry))) ⌝ }
 {
     let ect = ThetaLambdaTree::ect(nodes);
@@ -147,16 +149,16 @@ fn raised_start(nodes: &[u32; 508], start: u32) -> u32
 
 // Considers task i of Lambda: posts its bound where that is above its earliest start, and takes it out of Lambda.
 fn consider<'a>(
-    nodes: &mut [u32; 508],
+    nodes: &mut [u32; TREEWORDS],
     earliest: &mut [i32],
     posts: &mut [i32],
     atoms: &mut [i32],
     written: Written,
-    mapping: &'a [usize; 48],
-    tasks: &'a [usize; 48],
-    est: &'a [u32; 48],
-    lst: &'a [u32; 48],
-    durations: &'a [u32; 48],
+    mapping: &'a [usize; TASKS],
+    tasks: &'a [usize; TASKS],
+    est: &'a [u32; TASKS],
+    lst: &'a [u32; TASKS],
+    durations: &'a [u32; TASKS],
     inner: usize,
     n: usize,
     id: LocalId,
@@ -208,16 +210,16 @@ fn consider<'a>(
 
 // Considers the tasks of Lambda for which the edge-finding condition holds, one after the other. Each turn takes one out, so n turns are enough.
 fn consider_all<'a>(
-    nodes: &mut [u32; 508],
+    nodes: &mut [u32; TREEWORDS],
     earliest: &mut [i32],
     posts: &mut [i32],
     atoms: &mut [i32],
     written: Written,
-    mapping: &'a [usize; 48],
-    tasks: &'a [usize; 48],
-    est: &'a [u32; 48],
-    lst: &'a [u32; 48],
-    durations: &'a [u32; 48],
+    mapping: &'a [usize; TASKS],
+    tasks: &'a [usize; TASKS],
+    est: &'a [u32; TASKS],
+    lst: &'a [u32; TASKS],
+    durations: &'a [u32; TASKS],
     inner: usize,
     height: usize,
     n: usize,
@@ -267,15 +269,15 @@ fn consider_all<'a>(
 fn overload<'a>(
     atoms: &mut [i32],
     written: Written,
-    nodes: &'a [u32; 508],
-    tasks: &'a [usize; 48],
-    est: &'a [u32; 48],
-    durations: &'a [u32; 48],
+    nodes: &'a [u32; TREEWORDS],
+    tasks: &'a [usize; TASKS],
+    est: &'a [u32; TASKS],
+    durations: &'a [u32; TASKS],
     inner: usize,
     n: usize,
     lct: u32,
 ) -> Outcome
-    requires { ⌜ (Overloaded (length (now atoms)) (written .atoms) (thetaIn (now nodes) inner (now tasks) n) (now est) (now durations) (sumIn (now nodes)) lct) × (n ≤ 48) × (inner ≤ 63) ⌝ }
+    requires { ⌜ (Overloaded (length (now atoms)) (written .atoms) (thetaIn (now nodes) inner (now tasks) n) (now est) (now durations) (sumIn (now nodes)) lct) × (n ≤ TASKS) × (inner ≤ INNER) ⌝ }
     ensures { λ r. ⌜ Conflicted (now (atoms .entry)) (now (atoms .exit)) written r (conflictIn (now (nodes .entry)) inner (now (tasks .entry)) n (now (est .entry)) (now (durations .entry)) lct) ⌝ }
 {
     let p = ThetaLambdaTree::sum_of_processing_times(nodes);
@@ -301,11 +303,11 @@ fn overload<'a>(
 
 // Moves task j from Theta to Lambda. The source empties its leaf first; the gray leaf goes over the white one here, which leaves the same tree.
 fn move_to_lambda<'a>(
-    nodes: &mut [u32; 508],
+    nodes: &mut [u32; TREEWORDS],
     inner: usize,
-    mapping: &'a [usize; 48],
-    est: &'a [u32; 48],
-    durations: &'a [u32; 48],
+    mapping: &'a [usize; TASKS],
+    est: &'a [u32; TASKS],
+    durations: &'a [u32; TASKS],
     j: usize,
 )
     requires { ⌜ Movable inner (now nodes) (now mapping) (now est) (now durations) j ⌝ }
@@ -321,7 +323,7 @@ fn move_to_lambda<'a>(
 }
 
 // Whether Theta overloads: its ect is past the level's lct.
-fn overloads(nodes: &[u32; 508], lct: u32) -> bool
+fn overloads(nodes: &[u32; TREEWORDS], lct: u32) -> bool
     ensures { λ r. ⌜ r ≡ exceeds (ectIn (now (nodes .entry))) lct ⌝ }
 {
     let ect = ThetaLambdaTree::ect(nodes);
@@ -330,17 +332,17 @@ fn overloads(nodes: &[u32; 508], lct: u32) -> bool
 
 // The levels of edge finding: the candidates in order of falling lct go from Theta to Lambda, and Lambda is considered after each.
 fn edge_finding<'a>(
-    nodes: &mut [u32; 508],
+    nodes: &mut [u32; TREEWORDS],
     earliest: &mut [i32],
     posts: &mut [i32],
     atoms: &mut [i32],
-    mapping: &'a [usize; 48],
-    tasks: &'a [usize; 48],
-    candidates: &'a [usize; 48],
-    est: &'a [u32; 48],
-    lst: &'a [u32; 48],
-    lct: &'a [u32; 48],
-    durations: &'a [u32; 48],
+    mapping: &'a [usize; TASKS],
+    tasks: &'a [usize; TASKS],
+    candidates: &'a [usize; TASKS],
+    est: &'a [u32; TASKS],
+    lst: &'a [u32; TASKS],
+    lct: &'a [u32; TASKS],
+    durations: &'a [u32; TASKS],
     inner: usize,
     height: usize,
     n: usize,
@@ -410,11 +412,11 @@ fn edge_finding<'a>(
 
 // Puts every task into Theta. The source adds them one by one; here the leaves come first and then each inner node once, which leaves the same tree.
 fn fill<'a>(
-    nodes: &mut [u32; 508],
+    nodes: &mut [u32; TREEWORDS],
     inner: usize,
-    tasks: &'a [usize; 48],
-    est: &'a [u32; 48],
-    durations: &'a [u32; 48],
+    tasks: &'a [usize; TASKS],
+    est: &'a [u32; TASKS],
+    durations: &'a [u32; TASKS],
     n: usize,
 )
     requires { ⌜ Fillable inner n (now nodes) (now tasks) (now est) (now durations) ⌝ }
@@ -447,23 +449,23 @@ pub fn run_accepted(
     ensures { λ r. ⌜ Left «record» (now (earliest .entry)) (now (latest .entry)) (now (posts .entry)) (now (atoms .entry)) (r .outcome) (r .changes) (now (earliest .exit)) (now (posts .exit)) (now (atoms .exit)) ⌝ }
 {
     let n = record.count;
-    let mut est: [u32; 48] = [0; 48];
+    let mut est: [u32; TASKS] = [0; TASKS];
     moments_of(&mut est, earliest);
-    let mut lst: [u32; 48] = [0; 48];
+    let mut lst: [u32; TASKS] = [0; TASKS];
     moments_of(&mut lst, latest);
-    let mut lct: [u32; 48] = [0; 48];
+    let mut lct: [u32; TASKS] = [0; TASKS];
     completions(&mut lct, &lst, &record.durations, n);
-    let mut tasks: [usize; 48] = [0; 48];
+    let mut tasks: [usize; TASKS] = [0; TASKS];
     sort_numbers(&mut tasks, n, &est);
-    let mut candidates: [usize; 48] = [0; 48];
+    let mut candidates: [usize; TASKS] = [0; TASKS];
     sort_numbers_down(&mut candidates, n, &lct);
-    let mut mapping: [usize; 48] = [0; 48];
+    let mut mapping: [usize; TASKS] = [0; TASKS];
     leaf_places(&mut mapping, &tasks, n);
     let size = size_for(n);
     let inner = size.number_of_internal_nodes;
     let height = size.height;
     let mut tree = ThetaLambdaTree {
-        nodes: [0; 508],
+        nodes: [0; TREEWORDS],
         number_of_internal_nodes: inner,
         height,
     };

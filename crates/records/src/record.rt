@@ -17,7 +17,7 @@ ghost use Rattle.records.specs.Records.{countFits, sumFits, totalTrue, l
 #[repr(C)]
 pub struct Propagator {
     pub count: usize,
-    pub durations: [u32; 48],
+    pub durations: [u32; TASKS],
     pub total: u32,
 }
 
@@ -42,7 +42,7 @@ fn count_fits(n: usize) -> bool
 }
 
 // The sum of the first n durations, in 64 bits.
-pub fn total_of(durations: &[u32; 48], n: usize) -> u64
+pub fn total_of(durations: &[u32; TASKS], n: usize) -> u64
     requires { ⌜ n ≤ TASKS ⌝ }
     ensures { λ r. ⌜ r ≡ total (λ k. getD (now (durations .entry)) k 0) n ⌝ }
 {
@@ -56,7 +56,7 @@ pub fn total_of(durations: &[u32; 48], n: usize) -> u64
 }
 
 // Whether that sum is within the limit.
-fn sum_fits(durations: &[u32; 48], n: usize) -> bool
+fn sum_fits(durations: &[u32; TASKS], n: usize) -> bool
     requires { ⌜ n ≤ TASKS ⌝ }
     ensures { λ r. ⌜ r ≡ sumFits (λ k. getD (now (durations .entry)) k 0) n ⌝ }
 {
@@ -64,7 +64,7 @@ fn sum_fits(durations: &[u32; 48], n: usize) -> bool
 }
 
 // Whether a stored total is that sum.
-fn total_true(stored: u32, durations: &[u32; 48], n: usize) -> bool
+fn total_true(stored: u32, durations: &[u32; TASKS], n: usize) -> bool
     requires { ⌜ n ≤ TASKS ⌝ }
     ensures { λ r. ⌜ r ≡ totalTrue stored (now (durations .entry)) n ⌝ }
 {
@@ -72,7 +72,7 @@ fn total_true(stored: u32, durations: &[u32; 48], n: usize) -> bool
 }
 
 // Whether each of the first n durations is 1 or more.
-fn all_last(durations: &[u32; 48], n: usize) -> bool
+fn all_last(durations: &[u32; TASKS], n: usize) -> bool
     requires { ⌜ n ≤ TASKS ⌝ }
     ensures { λ r. ⌜ r ≡ allBelow (lastsAt (now (durations .entry))) n ⌝ }
 {
@@ -97,11 +97,11 @@ fn duration_of(x: i32) -> u32
 }
 
 // The durations of a record from a caller's.
-fn durations_of(durations: &[i32]) -> [u32; 48]
+fn durations_of(durations: &[i32]) -> [u32; TASKS]
     requires { ⌜ length (now durations) ≤ TASKS ⌝ }
     ensures { λ r. ⌜ r ≡ filled (durationAt (now (durations .entry))) (length (now (durations .entry))) noTasks ⌝ }
 {
-    let mut out = [0u32; 48];
+    let mut out = [0u32; TASKS];
     let mut i = 0;
     while i < durations.len() {
         out[i] = duration_of(durations[i]);
@@ -134,7 +134,7 @@ fn zeros() -> Propagator
 {
     Propagator {
         count: 0,
-        durations: [0u32; 48],
+        durations: [0u32; TASKS],
         total: 0,
     }
 }
@@ -171,7 +171,7 @@ fn with_place(used: u32, duration: u32) -> u32
 }
 
 // Whether the places from n on are 0. All are read, with no test at each, which is the faster way.
-fn unused_zero(durations: &[u32; 48], n: usize) -> bool
+fn unused_zero(durations: &[u32; TASKS], n: usize) -> bool
     requires { ⌜ n ≤ TASKS ⌝ }
     ensures { λ r. ⌜ r ≡ unusedZero (now (durations .entry)) n ⌝ }
 {
@@ -185,7 +185,7 @@ fn unused_zero(durations: &[u32; 48], n: usize) -> bool
 }
 
 // Whether a record is one that creation leaves: what number 20 tests. The record comes as its fields, so that it is not copied.
-pub fn lawful(n: usize, durations: &[u32; 48], total: u32) -> bool
+pub fn lawful(n: usize, durations: &[u32; TASKS], total: u32) -> bool
     ensures { λ r. ⌜ r ≡ lawfulRecord (recordOf n (now (durations .entry)) total) ⌝ }
 {
     if !count_fits(n) {

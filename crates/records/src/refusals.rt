@@ -1,4 +1,5 @@
 // What turns a run back: the number of the first test that is broken, each tried over the whole input.
+use integers::limits::TASKS;
 ghost use mathlib.Core.Path.{_≡_};
 ghost use mathlib.Core.Bool.{_&&_};
 ghost use lib.ListN.{length};
@@ -56,7 +57,7 @@ pub fn ranges_fit(earliest: &[i32], latest: &[i32]) -> bool
 // The number that turns a run or a page back for its record and its ranges, or 0: 20, 10, 3, 4.
 pub fn input_refusal(
     n: usize,
-    durations: &[u32; 48],
+    durations: &[u32; TASKS],
     total: u32,
     earliest: &[i32],
     latest: &[i32],
@@ -87,7 +88,7 @@ pub fn input_refusal(
 // The number that turns a run back, or 0: 20, 10, 3, 4, 9.
 pub fn run_refusal(
     n: usize,
-    durations: &[u32; 48],
+    durations: &[u32; TASKS],
     total: u32,
     earliest: &[i32],
     latest: &[i32],

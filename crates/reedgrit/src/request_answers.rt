@@ -5,6 +5,7 @@ use charges::answer::Bill;
 use charges::answer::Billing;
 use charges::answer::Charges;
 use free_starts::free_start::FreeStart;
+use integers::limits::TASKS;
 use overload_test::overload_test::Overload;
 use pages::answer::Page;
 use precedences::answers::Precedences;
@@ -70,7 +71,7 @@ pub struct ChargesAnswer {
     pub kind: u32,
     pub number: u32,
     pub total: u32,
-    pub charges: [u32; 48],
+    pub charges: [u32; TASKS],
 }
 
 fn mirrored_answer(

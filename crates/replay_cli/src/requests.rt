@@ -23,6 +23,7 @@ use charges::answer::Billing;
 use charges::charging::charges;
 use free_starts::free_start::FreeStart;
 use free_starts::free_start::free_start;
+use integers::limits::TASKS;
 use overload_test::overload_test::Overload;
 use overload_test::overload_test::overload_test;
 use pages::answer::Page;
@@ -193,7 +194,7 @@ fn put_cents(out: &mut [u8], at: usize, cents: u32) -> usize {
 }
 
 // The first n charges, a space before each, and the end of the line.
-fn put_charges(out: &mut [u8], at: usize, charges: &[u32; 48], n: usize) -> usize {
+fn put_charges(out: &mut [u8], at: usize, charges: &[u32; TASKS], n: usize) -> usize {
     let mut end = at;
     let mut i = 0;
     while i < n && i < 48 {

@@ -6,17 +6,14 @@ use crate::lines::put_numbers;
 use crate::lines::put_refused;
 use crate::lines::put_spaced;
 use crate::lines::put_spaced_count;
+use integers::limits::ATOMWORDS;
+use integers::limits::POSTWORDS;
 use mirrored::mirrored_propagator::propagate_mirrored;
 use propagator::disjunctive_propagator::Outcome;
 use propagator::disjunctive_propagator::propagate;
 use records::posts::post_number;
 use records::posts::post_reason;
 use records::record::Propagator;
-
-// Words of the posts and of the atoms that a run of 48 tasks has room for.
-const POSTS: usize = 192;
-
-const ATOMS: usize = 13824;
 
 // `run`: one run of the record on the ranges.
 pub fn put_run(
@@ -26,8 +23,8 @@ pub fn put_run(
     earliest: &mut [i32],
     latest: &[i32],
 ) -> usize {
-    let mut posts = [0i32; POSTS];
-    let mut atoms = [0i32; ATOMS];
+    let mut posts = [0i32; POSTWORDS];
+    let mut atoms = [0i32; ATOMWORDS];
     let ran = propagate(record, earliest, latest, &mut posts, &mut atoms);
     let outcome = ran.outcome;
     let end = put_ran(out, at, outcome, &posts, &atoms, earliest);
@@ -52,8 +49,8 @@ pub fn put_mirrored(
     earliest: &[i32],
     latest: &mut [i32],
 ) -> usize {
-    let mut posts = [0i32; POSTS];
-    let mut atoms = [0i32; ATOMS];
+    let mut posts = [0i32; POSTWORDS];
+    let mut atoms = [0i32; ATOMWORDS];
     let outcome = propagate_mirrored(record, earliest, latest, &mut posts, &mut atoms);
     put_ran(out, at, outcome, &posts, &atoms, latest)
 }

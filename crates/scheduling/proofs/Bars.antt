@@ -13,7 +13,7 @@ use Rattle.scheduling.specs.Scheduling.{natural, Tasks, Proper, TaskSet,
 use Rattle.scheduling.proofs.Sets.{with-in, with-new, with-old}
 use Rattle.scheduling.proofs.Scan.{scan, scan-in, scan-out, scan-zero, scan-is}
 use Rattle.scheduling.specs.Moments.{ByEarliest}
-use Rattle.scheduling.proofs.Stretches as stretches
+use Rattle.scheduling.proofs.LeafRanges as leafRange
 
 module _ (J : Tasks natural) (ok : Proper J) (T rank : ℕ → ℕ) (rk : ByEarliest J T rank) (Ω Λ : TaskSet) where
   -- the leaves past the last task are empty
@@ -33,19 +33,19 @@ module _ (J : Tasks natural) (ok : Proper J) (T rank : ℕ → ℕ) (rk : ByEarl
   p j = J .duration (T j)
 
   abbrev pub E : ℕ → ℕ
-  E d = stretches.ect w g e p 0 d
+  E d = leafRange.ect w g e p 0 d
 
   abbrev pub EB : ℕ → ℕ
-  EB d = stretches.ect-bar w g e p 0 d
+  EB d = leafRange.ect-bar w g e p 0 d
 
   pub ect-scan : (d : ℕ) → d ≤ J .count → E d ≡ scan J T rank Ω d
-  ect-scan zero q = stretches.blank w g e p 0 .t ∙ sym (scan-zero J T rank ok rk Ω)
+  ect-scan zero q = leafRange.blank w g e p 0 .t ∙ sym (scan-zero J T rank ok rk Ω)
   ect-scan (suc d) q = step (ect-scan d (omega arith)) (bool (Ω (T d))) (bool (Λ (T d)))
     where
       step : E d ≡ scan J T rank Ω d → (Ω (T d) ≡ true) ⊎ (Ω (T d) ≡ false) → (Λ (T d) ≡ true) ⊎ (Λ (T d) ≡ false) → E (suc d) ≡ scan J T rank Ω (suc d)
-      step ih (inl y) v = omega (arith, stretches.white w g e p 0 d d (zero-add d) (held Ω d q y) .t, scan-in J T rank ok rk Ω d y)
-      step ih (inr y) (inl v) = omega (arith, stretches.gray w g e p 0 d d (zero-add d) (held Ω d q y) (held Λ d q v) .t, scan-out J T rank ok rk Ω d y)
-      step ih (inr y) (inr v) = omega (arith, stretches.no-leaf w g e p 0 d d (zero-add d) (held Ω d q y) (held Λ d q v) .t, scan-out J T rank ok rk Ω d y)
+      step ih (inl y) v = omega (arith, leafRange.white w g e p 0 d d (zero-add d) (held Ω d q y) .t, scan-in J T rank ok rk Ω d y)
+      step ih (inr y) (inl v) = omega (arith, leafRange.gray w g e p 0 d d (zero-add d) (held Ω d q y) (held Λ d q v) .t, scan-out J T rank ok rk Ω d y)
+      step ih (inr y) (inr v) = omega (arith, leafRange.no-leaf w g e p 0 d d (zero-add d) (held Ω d q y) (held Λ d q v) .t, scan-out J T rank ok rk Ω d y)
 
   with-other : (i d : ℕ) → (T d ≡ i → ⊥) → (Ω with i) (T d) ≡ Ω (T d)
   with-other i d ne = elim (bool (Ω (T d))) [
@@ -69,20 +69,20 @@ module _ (J : Tasks natural) (ok : Proper J) (T rank : ℕ → ℕ) (rk : ByEarl
   most i h (suc d) q = step (most i h d (omega arith)) (bool (Ω (T d))) (bool (Λ (T d)))
     where
       step : scan J T rank (Ω with i) d ≤ EB d → (Ω (T d) ≡ true) ⊎ (Ω (T d) ≡ false) → (Λ (T d) ≡ true) ⊎ (Λ (T d) ≡ false) → scan J T rank (Ω with i) (suc d) ≤ EB (suc d)
-      step ih (inl y) v = omega (arith, stretches.white w g e p 0 d d (zero-add d) (held Ω d q y) .tb, scan-in J T rank ok rk (Ω with i) d (with-old Ω i (T d) y))
+      step ih (inl y) v = omega (arith, leafRange.white w g e p 0 d d (zero-add d) (held Ω d q y) .tb, scan-in J T rank ok rk (Ω with i) d (with-old Ω i (T d) y))
       step ih (inr y) (inl v) = elim (ℕ-discrete (T d) i) [
         | yes z ↦ omega (
           arith,
-          stretches.gray w g e p 0 d d (zero-add d) (held Ω d q y) (held Λ d q v) .tb,
+          leafRange.gray w g e p 0 d d (zero-add d) (held Ω d q y) (held Λ d q v) .tb,
           scan-in J T rank ok rk (Ω with i) d (rw z (with-new Ω i)),
           ect-scan d (omega arith),
           before i d (h .small) (omega (arith, ap rank z, rk .back d q)),
         )
-        | no z ↦ omega (arith, stretches.gray w g e p 0 d d (zero-add d) (held Ω d q y) (held Λ d q v) .tb, scan-out J T rank ok rk (Ω with i) d (with-other i d z ∙ y))
+        | no z ↦ omega (arith, leafRange.gray w g e p 0 d d (zero-add d) (held Ω d q y) (held Λ d q v) .tb, scan-out J T rank ok rk (Ω with i) d (with-other i d z ∙ y))
       ]
       step ih (inr y) (inr v) = omega (
         arith,
-        stretches.no-leaf w g e p 0 d d (zero-add d) (held Ω d q y) (held Λ d q v) .tb,
+        leafRange.no-leaf w g e p 0 d d (zero-add d) (held Ω d q y) (held Λ d q v) .tb,
         scan-out J T rank ok rk (Ω with i) d (with-other i d (λ z. clash (h .mem) (rw z at v)) ∙ y),
       )
 
@@ -95,7 +95,7 @@ module _ (J : Tasks natural) (ok : Proper J) (T rank : ℕ → ℕ) (rk : ByEarl
     pub is : EB d ≡ scan J T rank (Ω with at) d
 
   pub reached : (d : ℕ) → d ≤ J .count → (EB d ≡ scan J T rank Ω d) ⊎ One d
-  reached zero q = inl (stretches.blank w g e p 0 .tb ∙ sym (scan-zero J T rank ok rk Ω))
+  reached zero q = inl (leafRange.blank w g e p 0 .tb ∙ sym (scan-zero J T rank ok rk Ω))
   reached (suc d) q = step (reached d (omega arith)) (bool (Ω (T d))) (bool (Λ (T d)))
     where
       -- the task found before stays
@@ -116,14 +116,14 @@ module _ (J : Tasks natural) (ok : Proper J) (T rank : ℕ → ℕ) (rk : ByEarl
       }
 
       step : (EB d ≡ scan J T rank Ω d) ⊎ One d → (Ω (T d) ≡ true) ⊎ (Ω (T d) ≡ false) → (Λ (T d) ≡ true) ⊎ (Λ (T d) ≡ false) → (EB (suc d) ≡ scan J T rank Ω (suc d)) ⊎ One (suc d)
-      step (inl h) (inl y) v = inl (omega (arith, stretches.white w g e p 0 d d (zero-add d) (held Ω d q y) .tb, scan-in J T rank ok rk Ω d y))
-      step (inr o) (inl y) v = inr (stay o (omega (arith, o .is, stretches.white w g e p 0 d d (zero-add d) (held Ω d q y) .tb, scan-in J T rank ok rk (Ω with o .at) d (with-old Ω (o .at) (T d) y))))
+      step (inl h) (inl y) v = inl (omega (arith, leafRange.white w g e p 0 d d (zero-add d) (held Ω d q y) .tb, scan-in J T rank ok rk Ω d y))
+      step (inr o) (inl y) v = inr (stay o (omega (arith, o .is, leafRange.white w g e p 0 d d (zero-add d) (held Ω d q y) .tb, scan-in J T rank ok rk (Ω with o .at) d (with-old Ω (o .at) (T d) y))))
       step h (inr y) (inl v) = elim (decLe (max (E d) (e d) + p d) (EB d)) [
         | yes c ↦ elim h [
-          | inl k ↦ inl (omega (arith, stretches.gray w g e p 0 d d (zero-add d) (held Ω d q y) (held Λ d q v) .tb, scan-out J T rank ok rk Ω d y))
-          | inr o ↦ inr (stay o (omega (arith, o .is, stretches.gray w g e p 0 d d (zero-add d) (held Ω d q y) (held Λ d q v) .tb, scan-out J T rank ok rk (Ω with o .at) d (with-other (o .at) d (keep o) ∙ y))))
+          | inl k ↦ inl (omega (arith, leafRange.gray w g e p 0 d d (zero-add d) (held Ω d q y) (held Λ d q v) .tb, scan-out J T rank ok rk Ω d y))
+          | inr o ↦ inr (stay o (omega (arith, o .is, leafRange.gray w g e p 0 d d (zero-add d) (held Ω d q y) (held Λ d q v) .tb, scan-out J T rank ok rk (Ω with o .at) d (with-other (o .at) d (keep o) ∙ y))))
         ]
-        | no c ↦ inr (new y v (omega (arith, stretches.gray w g e p 0 d d (zero-add d) (held Ω d q y) (held Λ d q v) .tb, ect-scan d (omega arith))))
+        | no c ↦ inr (new y v (omega (arith, leafRange.gray w g e p 0 d d (zero-add d) (held Ω d q y) (held Λ d q v) .tb, ect-scan d (omega arith))))
       ]
-      step (inl h) (inr y) (inr v) = inl (omega (arith, stretches.no-leaf w g e p 0 d d (zero-add d) (held Ω d q y) (held Λ d q v) .tb, scan-out J T rank ok rk Ω d y))
-      step (inr o) (inr y) (inr v) = inr (stay o (omega (arith, o .is, stretches.no-leaf w g e p 0 d d (zero-add d) (held Ω d q y) (held Λ d q v) .tb, scan-out J T rank ok rk (Ω with o .at) d (with-other (o .at) d (keep o) ∙ y))))
+      step (inl h) (inr y) (inr v) = inl (omega (arith, leafRange.no-leaf w g e p 0 d d (zero-add d) (held Ω d q y) (held Λ d q v) .tb, scan-out J T rank ok rk Ω d y))
+      step (inr o) (inr y) (inr v) = inr (stay o (omega (arith, o .is, leafRange.no-leaf w g e p 0 d d (zero-add d) (held Ω d q y) (held Λ d q v) .tb, scan-out J T rank ok rk (Ω with o .at) d (with-other (o .at) d (keep o) ∙ y))))

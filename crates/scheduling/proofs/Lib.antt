@@ -8,7 +8,7 @@ pub mod Exists
 pub mod Monotone
 pub mod Joins
 pub mod Scan
-pub mod Stretches
+pub mod LeafRanges
 pub mod Bars
 pub mod Suffixes
 pub mod Levels

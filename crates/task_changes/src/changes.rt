@@ -22,7 +22,7 @@ pub struct Changed {
 }
 
 // The number that turns an added task back, or 0: 20, 1, 2, 5.
-fn add_refusal(n: usize, durations: &[u32; 48], total: u32, duration: i32) -> u32
+fn add_refusal(n: usize, durations: &[u32; TASKS], total: u32, duration: i32) -> u32
     ensures { λ r. ⌜ r ≡ addNumber (recordOf n (now (durations .entry)) total) duration ⌝ }
 {
     if !lawful(n, durations, total) {
@@ -67,11 +67,11 @@ pub fn add(record: Propagator, duration: i32) -> Changed
 }
 
 // The durations of the first n tasks without task t's.
-fn without_task(durations: &[u32; 48], n: usize, t: usize) -> [u32; 48]
+fn without_task(durations: &[u32; TASKS], n: usize, t: usize) -> [u32; TASKS]
     requires { ⌜ (n ≤ TASKS) × (length (now durations) ≡ TASKS) ⌝ }
     ensures { λ r. ⌜ r ≡ placed (without (take n (now (durations .entry))) t) ⌝ }
 {
-    let mut out = [0u32; 48];
+    let mut out = [0u32; TASKS];
     let mut j = 0;
     let mut i = 0;
     while i < n {
@@ -85,7 +85,7 @@ fn without_task(durations: &[u32; 48], n: usize, t: usize) -> [u32; 48]
 }
 
 // The number that turns a removal back, or 0: 20, 12, 1.
-fn remove_refusal(n: usize, durations: &[u32; 48], total: u32, task: usize) -> u32
+fn remove_refusal(n: usize, durations: &[u32; TASKS], total: u32, task: usize) -> u32
     ensures { λ r. ⌜ r ≡ removeNumber (recordOf n (now (durations .entry)) total) task ⌝ }
 {
     if !lawful(n, durations, total) {

@@ -7,6 +7,7 @@ use Prim.Native.Nat.{ℕ, _+_, _-_, _*_, _≤_, _<_, min}
 use native.Mathlib.Omega.{arith}
 use lib.IntN.{pos, negℤ}
 use borrow.Author.Tests.{le-leb, lt-leb, leb-true}
+use Rattle.integers.specs.Limits.{TASKS}
 use Rattle.integers.specs.Moments.{instant, zeroAt}
 use Rattle.integers.proofs.Ints.{ints, up, dn, sub-law, up-neg, dn-neg}
 use Rattle.integers.proofs.Bools.{and-true, and-yes}
@@ -14,7 +15,7 @@ use Rattle.text.specs.Numbers.{digit, ranged}
 use Rattle.text.specs.Scanning.{BEYOND, digitAfter}
 use Rattle.text.specs.declared.reading.Word.the-variants.{Digits, Wrong}
 
-pub digit-low : (b : ℕ) → b < 48 → digit b ≡ false
+pub digit-low : (b : ℕ) → b < TASKS → digit b ≡ false
 unfolding digit
 digit-low b h = rw (lt-leb 48 b h)
 

@@ -15,12 +15,12 @@ use lib.Seq.{getD-append-add, getD-drop, take-append-seam, getD-take, sets, set-
 use Rattle.integers.specs.Words.{overwritten}
 use Rattle.integers.proofs.Words.{sets-append, overwrites}
 use Rattle.integers.proofs.Bools.{bool}
-use Rattle.text.specs.Numbers.{space, stretches, filled, tokens, numberOf, before, numbers, numbersOf}
+use Rattle.text.specs.Numbers.{space, pieces, filled, tokens, numberOf, before, numbers, numbersOf}
 use Rattle.text.specs.Scanning.{KEPT, zeros, MOST, nextOf, given, readingOf, notNumbers, withNumber, withReading, atStart, endOf, stepOf, gathered}
 use Rattle.text.specs.declared.reading.Numbers.{Numbers}
 use Rattle.text.specs.declared.reading.Word.the-variants.{Empty}
 use Rattle.text.proofs.Steps.{step-space, step-other}
-use Rattle.text.proofs.Tokens.{stretch-end, stretch-on}
+use Rattle.text.proofs.Tokens.{piece-end, piece-on}
 use Rattle.text.proofs.Spelling.{word-reading}
 
 -- ---- a number more at the end, and the first n kept over what stood there
@@ -95,17 +95,17 @@ unfolding over filled withReading readingOf
 word-end ns [] ws = refl
 word-end ns (b ∷ w) ws = ap (λ r. over (withReading ns r) (filled ws)) (word-reading (b ∷ w) (omega arith))
 
-scans : (ns : Numbers) (w bs : List ℕ) → endOf (foldl stepOf (record { numbers = ns; word = foldl nextOf Empty w }) bs) ≡ over ns (filled (stretches w bs))
-unfolding stretches filled over
+scans : (ns : Numbers) (w bs : List ℕ) → endOf (foldl stepOf (record { numbers = ns; word = foldl nextOf Empty w }) bs) ≡ over ns (filled (pieces w bs))
+unfolding pieces filled over
 scans ns w [] = word-end ns w []
 scans ns w (b ∷ bs) = by (bool (space b)) (scans (withReading ns (readingOf (foldl nextOf Empty w))) [] bs) (scans ns (w ++ b ∷ []) bs)
   where
     by : (space b ≡ true) ⊎ (space b ≡ false)
-        → endOf (foldl stepOf (record { numbers = withReading ns (readingOf (foldl nextOf Empty w)); word = Empty }) bs) ≡ over (withReading ns (readingOf (foldl nextOf Empty w))) (filled (stretches [] bs))
-        → endOf (foldl stepOf (record { numbers = ns; word = foldl nextOf Empty (w ++ b ∷ []) }) bs) ≡ over ns (filled (stretches (w ++ b ∷ []) bs))
-        → endOf (foldl stepOf (stepOf (record { numbers = ns; word = foldl nextOf Empty w }) b) bs) ≡ over ns (filled (stretches w (b ∷ bs)))
-    by (inl t) ends on = rw (step-space (record { numbers = ns; word = foldl nextOf Empty w }) b t, stretch-end w b bs t) (ends ∙ word-end ns w (stretches [] bs))
-    by (inr t) ends on = rw (step-other (record { numbers = ns; word = foldl nextOf Empty w }) b t, stretch-on w b bs t, sym (foldl-append nextOf Empty w (b ∷ []))) on
+        → endOf (foldl stepOf (record { numbers = withReading ns (readingOf (foldl nextOf Empty w)); word = Empty }) bs) ≡ over (withReading ns (readingOf (foldl nextOf Empty w))) (filled (pieces [] bs))
+        → endOf (foldl stepOf (record { numbers = ns; word = foldl nextOf Empty (w ++ b ∷ []) }) bs) ≡ over ns (filled (pieces (w ++ b ∷ []) bs))
+        → endOf (foldl stepOf (stepOf (record { numbers = ns; word = foldl nextOf Empty w }) b) bs) ≡ over ns (filled (pieces w (b ∷ bs)))
+    by (inl t) ends on = rw (step-space (record { numbers = ns; word = foldl nextOf Empty w }) b t, piece-end w b bs t) (ends ∙ word-end ns w (pieces [] bs))
+    by (inr t) ends on = rw (step-other (record { numbers = ns; word = foldl nextOf Empty w }) b t, piece-on w b bs t, sym (foldl-append nextOf Empty w (b ∷ []))) on
 
 -- The scanner that was fed a text from the start ends with the text's numbers.
 pub scanned : (bs : List ℕ) → endOf (foldl stepOf atStart bs) ≡ gathered (numbersOf bs)

@@ -12,11 +12,11 @@ use lib.ListN.{length}
 use lib.Signed.{_≤ℤ_}
 use borrow.Author.Tests.{ne-eqb, lt-leb}
 use Rattle.integers.proofs.Bools.{and-true, and-right, or-no}
-use Rattle.text.specs.Numbers.{space, stretches, filled, tokens, digit, digits, before, numbers, numbersOf}
+use Rattle.text.specs.Numbers.{space, pieces, filled, tokens, digit, digits, before, numbers, numbersOf}
 use Rattle.text.specs.Writing.{natural, decimal}
 use Rattle.text.proofs.Bytes.{digit-range}
 use Rattle.text.proofs.Decimals.{natural-reads, round-trip}
-use Rattle.text.proofs.Tokens.{stretch-end, stretch-on}
+use Rattle.text.proofs.Tokens.{piece-end, piece-on}
 
 -- A word: one byte or more, and none of them is white space.
 abbrev NoSpace : List ℕ → Type 0
@@ -46,17 +46,17 @@ decimal-word (pos n) = natural-word n
 decimal-word (negsuc n) = record { some-byte = omega arith; no-space = (high-byte 45 (omega arith), natural-word (suc n) .no-space) }
 
 -- ---- the word before white space is the first of the text
-stretch-word : (w v : List ℕ) (b : ℕ) (bs : List ℕ) → NoSpace v → space b ≡ true → stretches w (v ++ b ∷ bs) ≡ (w ++ v) ∷ stretches [] bs
-stretch-word w [] b bs n h = stretch-end w b bs h ∙ ap (λ (l : List ℕ). l ∷ stretches [] bs) (sym (append-nil w))
-stretch-word w (c ∷ v) b bs n h = stretch-on w c (v ++ b ∷ bs) (n .0) ∙ stretch-word (w ++ c ∷ []) v b bs (n .1) h ∙ ap (λ (l : List ℕ). l ∷ stretches [] bs) (append-assoc w (c ∷ []) v)
+piece-word : (w v : List ℕ) (b : ℕ) (bs : List ℕ) → NoSpace v → space b ≡ true → pieces w (v ++ b ∷ bs) ≡ (w ++ v) ∷ pieces [] bs
+piece-word w [] b bs n h = piece-end w b bs h ∙ ap (λ (l : List ℕ). l ∷ pieces [] bs) (sym (append-nil w))
+piece-word w (c ∷ v) b bs n h = piece-on w c (v ++ b ∷ bs) (n .0) ∙ piece-word (w ++ c ∷ []) v b bs (n .1) h ∙ ap (λ (l : List ℕ). l ∷ pieces [] bs) (append-assoc w (c ∷ []) v)
 
 tokens-word : (v : List ℕ) (b : ℕ) (bs : List ℕ) → IsWord v → space b ≡ true → tokens (v ++ b ∷ bs) ≡ v ∷ tokens bs
 unfolding tokens filled
 tokens-word [] b bs w h = absurd (omega (arith, w .some-byte))
-tokens-word (c ∷ v) b bs w h = ap filled (stretch-word [] (c ∷ v) b bs (w .no-space) h)
+tokens-word (c ∷ v) b bs w h = ap filled (piece-word [] (c ∷ v) b bs (w .no-space) h)
 
 pub no-numbers : numbersOf [] ≡ some []
-unfolding numbersOf tokens stretches filled numbers
+unfolding numbersOf tokens pieces filled numbers
 no-numbers = refl
 
 -- A number that is written before white space is read before the numbers behind it.

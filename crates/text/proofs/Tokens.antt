@@ -10,7 +10,7 @@ use native.Mathlib.Omega.{arith}
 use lib.ListN.{length, getD, take, drop, drop-of-length-le}
 use lib.Seq.{drop-cons}
 use Rattle.integers.proofs.Bools.{bool}
-use Rattle.text.specs.Numbers.{space, stretches, filled, tokens, run}
+use Rattle.text.specs.Numbers.{space, pieces, filled, tokens, run}
 
 module _ (white : Bool) where
   run-on : (b : ℕ) (bs : List ℕ) → Bool·beq (space b) white ≡ true → run white (b ∷ bs) ≡ suc (run white bs)
@@ -34,17 +34,17 @@ module _ (white : Bool) where
     run-more h d = rw (add-one i, drop-cons bs i 0 h) (run-on (getD bs i 0) (drop (suc i) bs) d ∙ sym (add-one (run white (drop (suc i) bs))))
 
 -- ---- the words
-pub stretch-end : (w : List ℕ) (b : ℕ) (bs : List ℕ) → space b ≡ true → stretches w (b ∷ bs) ≡ w ∷ stretches [] bs
-unfolding stretches
-stretch-end w b bs h = rw (h, stretches)
+pub piece-end : (w : List ℕ) (b : ℕ) (bs : List ℕ) → space b ≡ true → pieces w (b ∷ bs) ≡ w ∷ pieces [] bs
+unfolding pieces
+piece-end w b bs h = rw (h, pieces)
 
-pub stretch-on : (w : List ℕ) (b : ℕ) (bs : List ℕ) → space b ≡ false → stretches w (b ∷ bs) ≡ stretches (w ++ b ∷ []) bs
-unfolding stretches
-stretch-on w b bs h = rw (h, stretches)
+pub piece-on : (w : List ℕ) (b : ℕ) (bs : List ℕ) → space b ≡ false → pieces w (b ∷ bs) ≡ pieces (w ++ b ∷ []) bs
+unfolding pieces
+piece-on w b bs h = rw (h, pieces)
 
 tokens-space : (b : ℕ) (bs : List ℕ) → space b ≡ true → tokens (b ∷ bs) ≡ tokens bs
 unfolding tokens filled
-tokens-space b bs h = ap filled (stretch-end [] b bs h)
+tokens-space b bs h = ap filled (piece-end [] b bs h)
 
 -- white space before the first word makes no difference
 pub tokens-blank : (bs : List ℕ) → tokens (drop (run true bs) bs) ≡ tokens bs
@@ -57,16 +57,16 @@ tokens-blank (b ∷ bs) = by (tokens-blank bs) (bool (space b))
     by ih (inr h) = rw (run-stop true b bs (ap (λ (w : Bool). Bool·beq w true) h))
 
 -- a word that has begun with w goes on to the next white space
-word-whole : (c : ℕ) (w bs : List ℕ) → filled (stretches (c ∷ w) bs) ≡ (c ∷ w ++ take (run false bs) bs) ∷ tokens (drop (run false bs) bs)
-unfolding filled stretches run tokens
+word-whole : (c : ℕ) (w bs : List ℕ) → filled (pieces (c ∷ w) bs) ≡ (c ∷ w ++ take (run false bs) bs) ∷ tokens (drop (run false bs) bs)
+unfolding filled pieces run tokens
 word-whole c w [] = ap (λ (l : List ℕ). (c ∷ l) ∷ []) (sym (append-nil w))
 word-whole c w (b ∷ bs) = by (word-whole c (w ++ b ∷ []) bs) (bool (space b))
   where
-    by : filled (stretches (c ∷ w ++ b ∷ []) bs) ≡ (c ∷ (w ++ b ∷ []) ++ take (run false bs) bs) ∷ tokens (drop (run false bs) bs)
+    by : filled (pieces (c ∷ w ++ b ∷ []) bs) ≡ (c ∷ (w ++ b ∷ []) ++ take (run false bs) bs) ∷ tokens (drop (run false bs) bs)
         → (space b ≡ true) ⊎ (space b ≡ false)
-        → filled (stretches (c ∷ w) (b ∷ bs)) ≡ (c ∷ w ++ take (run false (b ∷ bs)) (b ∷ bs)) ∷ tokens (drop (run false (b ∷ bs)) (b ∷ bs))
-    by ih (inl h) = rw (run-stop false b bs (ap (λ (x : Bool). Bool·beq x false) h), stretch-end (c ∷ w) b bs h, stretch-end [] b bs h) (ap (λ (l : List ℕ). (c ∷ l) ∷ filled (stretches [] bs)) (sym (append-nil w)))
-    by ih (inr h) = rw (run-on false b bs (ap (λ (x : Bool). Bool·beq x false) h), stretch-on (c ∷ w) b bs h) (ih ∙ ap (λ (l : List ℕ). (c ∷ l) ∷ tokens (drop (run false bs) bs)) (append-assoc w (b ∷ []) (take (run false bs) bs)))
+        → filled (pieces (c ∷ w) (b ∷ bs)) ≡ (c ∷ w ++ take (run false (b ∷ bs)) (b ∷ bs)) ∷ tokens (drop (run false (b ∷ bs)) (b ∷ bs))
+    by ih (inl h) = rw (run-stop false b bs (ap (λ (x : Bool). Bool·beq x false) h), piece-end (c ∷ w) b bs h, piece-end [] b bs h) (ap (λ (l : List ℕ). (c ∷ l) ∷ filled (pieces [] bs)) (sym (append-nil w)))
+    by ih (inr h) = rw (run-on false b bs (ap (λ (x : Bool). Bool·beq x false) h), piece-on (c ∷ w) b bs h) (ih ∙ ap (λ (l : List ℕ). (c ∷ l) ∷ tokens (drop (run false bs) bs)) (append-assoc w (b ∷ []) (take (run false bs) bs)))
 
 -- where the white space ends there is none
 blank-whole : (bs : List ℕ) → run true (drop (run true bs) bs) ≡ 0
@@ -85,7 +85,7 @@ word-first (b ∷ bs) t h = by (bool (space b))
   where
     by : (space b ≡ true) ⊎ (space b ≡ false) → tokens (b ∷ bs) ≡ take (run false (b ∷ bs)) (b ∷ bs) ∷ tokens (drop (run false (b ∷ bs)) (b ∷ bs))
     by (inl e) = absurd (omega (arith, run-on true b bs (ap (λ (w : Bool). Bool·beq w true) e)))
-    by (inr e) = rw (run-on false b bs (ap (λ (w : Bool). Bool·beq w false) e)) (ap filled (stretch-on [] b bs e) ∙ word-whole b [] bs)
+    by (inr e) = rw (run-on false b bs (ap (λ (w : Bool). Bool·beq w false) e)) (ap filled (piece-on [] b bs e) ∙ word-whole b [] bs)
 
 -- The first word stands behind the white space, up to the next white space, and the other words are those of the rest.
 pub tokens-next : (bs us : List ℕ) → us ≡ drop (run true bs) bs → 0 < length us → tokens bs ≡ take (run false us) us ∷ tokens (drop (run false us) us)
@@ -93,7 +93,7 @@ tokens-next bs us e h = sym (tokens-blank bs) ∙ ap tokens (sym e) ∙ word-fir
 
 -- Where nothing stands behind the white space there is no word.
 pub tokens-none : (bs us : List ℕ) → us ≡ drop (run true bs) bs → length us ≡ 0 → tokens bs ≡ []
-unfolding tokens stretches filled
+unfolding tokens pieces filled
 tokens-none bs us e h = sym (tokens-blank bs) ∙ ap tokens (sym e) ∙ empty us h
   where
     empty : (us : List ℕ) → length us ≡ 0 → tokens us ≡ []

@@ -4,17 +4,17 @@ use mathlib.Core.Path.{_≡_, refl}
 use mathlib.Core.List.{[], _∷_}
 use mathlib.Core.Option.{none, some}
 use lib.IntN.{pos, negsuc}
-use Rattle.text.specs.Numbers.{space, stretches, filled, tokens, digit, digits, value, ranged, unsigned, numberOf, before, numbers, numbersOf}
+use Rattle.text.specs.Numbers.{space, pieces, filled, tokens, digit, digits, value, ranged, unsigned, numberOf, before, numbers, numbersOf}
 use Rattle.text.specs.Writing.{figures, natural, decimal}
 
 -- " -07 12" and a line feed
 two-numbers : numbersOf (32 ∷ 45 ∷ 48 ∷ 55 ∷ 32 ∷ 49 ∷ 50 ∷ 10 ∷ []) ≡ some (negsuc 6 ∷ pos 12 ∷ [])
-unfolding space stretches filled tokens digit digits value ranged unsigned numberOf before numbers numbersOf
+unfolding space pieces filled tokens digit digits value ranged unsigned numberOf before numbers numbersOf
 two-numbers = refl
 
 -- white space alone has no number
 no-numbers : numbersOf (32 ∷ 9 ∷ 10 ∷ []) ≡ some []
-unfolding space stretches filled tokens numbers numbersOf
+unfolding space pieces filled tokens numbers numbersOf
 no-numbers = refl
 
 -- "-0" is 0

@@ -11,10 +11,10 @@ use lib.IntN.{ℤ, pos, negℤ}
 unfoldable pub space : ℕ → Bool
 space b = eqb b 32 || (leb 9 b && leb b 13)
 
--- the stretches between white space, empty ones too, where w has been read of the first
-unfoldable pub stretches : List ℕ → List ℕ → List (List ℕ)
-stretches w [] = w ∷ []
-stretches w (b ∷ bs) = elim (space b) [ true ↦ w ∷ stretches [] bs | false ↦ stretches (w ++ b ∷ []) bs ]
+-- the pieces between white space, empty ones too, where w has been read of the first
+unfoldable pub pieces : List ℕ → List ℕ → List (List ℕ)
+pieces w [] = w ∷ []
+pieces w (b ∷ bs) = elim (space b) [ true ↦ w ∷ pieces [] bs | false ↦ pieces (w ++ b ∷ []) bs ]
 
 -- without the empty ones
 unfoldable pub filled : List (List ℕ) → List (List ℕ)
@@ -24,7 +24,7 @@ filled ((b ∷ w) ∷ ws) = (b ∷ w) ∷ filled ws
 
 -- the words: the longest runs of bytes that are no white space
 unfoldable pub tokens : List ℕ → List (List ℕ)
-tokens bs = filled (stretches [] bs)
+tokens bs = filled (pieces [] bs)
 
 -- how many bytes from the front on are white space or, where `white` is false, are none
 unfoldable pub run : Bool → List ℕ → ℕ

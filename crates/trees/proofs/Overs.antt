@@ -1,11 +1,11 @@
--- The node over a stretch of leaves has the values of the stretch.
+-- The node over a range of leaves has the values of the range.
 -- Assumes nothing.
 use mathlib.Core.Path.{_≡_, refl, sym, ap}
 use mathlib.Core.Bool.{Bool}
 use Prim.Native.Nat.{ℕ, zero, suc, _+_}
 use native.Mathlib.Omega.{arith}
 use native.Mathlib.Nat.{add-zero}
-use Rattle.scheduling.proofs.Stretches as stretches
+use Rattle.scheduling.proofs.LeafRanges as leafRange
 use Rattle.trees.specs.declared.theta_lambda_tree.Node.{Node}
 use Rattle.trees.specs.Shapes.{width, nodeOver}
 use Rattle.trees.specs.Nodes.{joinOf}
@@ -25,30 +25,30 @@ module _ (colour : ℕ → Leaf) (e p : ℕ → ℕ) where
 
   -- the four values of a node are those of d leaves from a on
   pub record Holds (n : Node) (a d : ℕ) : Type 0 where
-    pub ect : n .ect ≡ stretches.ect w g e p a d
-    pub sum : n .«sum_of_processing_times» ≡ stretches.sum w g e p a d
-    pub ect-bar : n .«ect_bar» ≡ stretches.ect-bar w g e p a d
-    pub sum-bar : n .«sum_of_processing_times_bar» ≡ stretches.sum-bar w g e p a d
+    pub ect : n .ect ≡ leafRange.ect w g e p a d
+    pub sum : n .«sum_of_processing_times» ≡ leafRange.sum w g e p a d
+    pub ect-bar : n .«ect_bar» ≡ leafRange.ect-bar w g e p a d
+    pub sum-bar : n .«sum_of_processing_times_bar» ≡ leafRange.sum-bar w g e p a d
 
   one : (a : ℕ) (c : Leaf) → colour a ≡ c → Holds (leafNode c (e a) (p a)) a 1
   one a empty z =
-      let b = stretches.blank w g e p a in
-      let s = stretches.no-leaf w g e p a 0 a (add-zero a) (ap inTheta z) (ap inLambda z) in
+      let b = leafRange.blank w g e p a in
+      let s = leafRange.no-leaf w g e p a 0 a (add-zero a) (ap inTheta z) (ap inLambda z) in
       record { ect = omega arith; sum = omega arith; ect-bar = omega arith; sum-bar = omega arith }
   one a white z =
-      let b = stretches.blank w g e p a in
-      let s = stretches.white w g e p a 0 a (add-zero a) (ap inTheta z) in
+      let b = leafRange.blank w g e p a in
+      let s = leafRange.white w g e p a 0 a (add-zero a) (ap inTheta z) in
       record { ect = omega arith; sum = omega arith; ect-bar = omega arith; sum-bar = omega arith }
   one a gray z =
-      let b = stretches.blank w g e p a in
-      let s = stretches.gray w g e p a 0 a (add-zero a) (ap inTheta z) (ap inLambda z) in
+      let b = leafRange.blank w g e p a in
+      let s = leafRange.gray w g e p a 0 a (add-zero a) (ap inTheta z) (ap inLambda z) in
       record { ect = omega arith; sum = omega arith; ect-bar = omega arith; sum-bar = omega arith }
 
-  -- two stretches beside each other
+  -- two ranges beside each other
   pub both : (l r : Node) (a b c : ℕ) → Holds l a b → Holds r (a + b) c → Holds (joinOf l r) a (b + c)
   unfolding joinOf
   both l r a b c x y =
-      let j = stretches.join w g e p a b c in
+      let j = leafRange.join w g e p a b c in
       record {
         ect = rw (x .ect, y .ect, y .sum) (sym (j .ects));
         sum = rw (x .sum, y .sum) (sym (j .sums));

@@ -7,6 +7,7 @@ use Prim.Native.Nat.{ℕ, zero, suc, _+_, _*_, _-_, _/_, _≤_, _<_}
 use native.Mathlib.Omega.{arith}
 use native.Mathlib.Decide.{ℕ-discrete}
 use lib.ListN.{length, getD, set, length-set}
+use Rattle.integers.specs.Limits.{INNER}
 use Rattle.scheduling.specs.Scheduling.{natural, Tasks}
 use Rattle.trees.specs.declared.theta_lambda_tree.Node.{Node}
 use Rattle.trees.specs.Shapes.{width, heightFor, leftmost, HasHeight, changed, leavesOf, nodeOver, TreeOf}
@@ -136,7 +137,7 @@ module _ {J : Tasks natural} {first : List ℕ} (lim : Limited J first) where
     own : leavesOf inner (nodeAt words) ≡ leaves.leaves J first ls
     own = fun-ext (t .nodes)
 
-    small : inner ≤ 63
+    small : inner ≤ INNER
     small = omega (arith, room (J .count) (omega (arith, lim .count)), t .complete)
 
     -- a leaf may get a colour, and then has it

@@ -8,8 +8,8 @@ use Prim.Native.Nat.{ℕ, zero, suc, _+_, _-_, _≤_, _<_, max}
 use native.Mathlib.Omega.{arith}
 use native.Mathlib.Nat.{add-zero}
 use Rattle.integers.proofs.Bools.{bool}
-use Rattle.scheduling.proofs.Stretches as stretches
-use Rattle.scheduling.proofs.Stretches.{Blank, Bars, Join}
+use Rattle.scheduling.proofs.LeafRanges as leafRange
+use Rattle.scheduling.proofs.LeafRanges.{Blank, Bars, Join}
 use Rattle.trees.specs.declared.theta_lambda_tree.Node.{Node}
 use Rattle.trees.specs.declared.theta_lambda_tree.PDescent.{PDescent}
 use Rattle.trees.specs.declared.theta_lambda_tree.PDescent.the-variants.{Left, Right, Here, Nothing}
@@ -37,16 +37,16 @@ module _ (colour : ℕ → Leaf) (e p : ℕ → ℕ) (lasts : (x : ℕ) → inLa
   leaf k = leafNode (colour k) (e k) (p k)
 
   abbrev S : ℕ → ℕ → ℕ
-  S = stretches.sum w g e p
+  S = leafRange.sum w g e p
 
   abbrev E : ℕ → ℕ → ℕ
-  E = stretches.ect w g e p
+  E = leafRange.ect w g e p
 
   abbrev SB : ℕ → ℕ → ℕ
-  SB = stretches.sum-bar w g e p
+  SB = leafRange.sum-bar w g e p
 
   abbrev EB : ℕ → ℕ → ℕ
-  EB = stretches.ect-bar w g e p
+  EB = leafRange.ect-bar w g e p
 
   abbrev node : ℕ → ℕ → Node
   node h a = nodeOver joinOf leaf h a
@@ -56,13 +56,13 @@ module _ (colour : ℕ → Leaf) (e p : ℕ → ℕ) (lasts : (x : ℕ) → inLa
 
   -- sums are at most ects
   low : (a d : ℕ) → S a d ≤ E a d
-  low a zero = let l = stretches.blank w g e p a in omega arith
+  low a zero = let l = leafRange.blank w g e p a in omega arith
   low a (suc d) = step (low a d) (bool (w (a + d))) (bool (g (a + d)))
     where
       step : S a d ≤ E a d → (w (a + d) ≡ true) ⊎ (w (a + d) ≡ false) → (g (a + d) ≡ true) ⊎ (g (a + d) ≡ false) → S a (suc d) ≤ E a (suc d)
-      step ih (inl y) v = omega (arith, stretches.white w g e p a d (a + d) refl y)
-      step ih (inr y) (inl v) = omega (arith, stretches.gray w g e p a d (a + d) refl y v)
-      step ih (inr y) (inr v) = omega (arith, stretches.no-leaf w g e p a d (a + d) refl y v)
+      step ih (inl y) v = omega (arith, leafRange.white w g e p a d (a + d) refl y)
+      step ih (inr y) (inl v) = omega (arith, leafRange.gray w g e p a d (a + d) refl y v)
+      step ih (inr y) (inr v) = omega (arith, leafRange.no-leaf w g e p a d (a + d) refl y v)
 
   -- the latest completion of a set of white leaves of the range with leaf x in it, as early as can be
   unfoldable pub through : ℕ → ℕ → ℕ → ℕ
@@ -71,8 +71,8 @@ module _ (colour : ℕ → Leaf) (e p : ℕ → ℕ) (lasts : (x : ℕ) → inLa
   -- a range cut at a leaf that is not white
   cut : (x a d : ℕ) → w x ≡ false → a ≤ x → x < a + d → S a d ≡ S a (x - a) + S (suc x) ((a + d) - suc x)
   cut x a d y lo hi =
-      let j = stretches.join w g e p a (x - a) (1 + ((a + d) - suc x)) in
-      let k = stretches.join w g e p x 1 ((a + d) - suc x) in
+      let j = leafRange.join w g e p a (x - a) (1 + ((a + d) - suc x)) in
+      let k = leafRange.join w g e p x 1 ((a + d) - suc x) in
       let n = nothing (bool (g x)) in
       omega (arith, ap (S a) len, j .sums, ap (λ (u : ℕ). S u (1 + ((a + d) - suc x))) here, k .sums, ap (λ (u : ℕ). S u ((a + d) - suc x)) next)
     where
@@ -86,12 +86,12 @@ module _ (colour : ℕ → Leaf) (e p : ℕ → ℕ) (lasts : (x : ℕ) → inLa
       next = omega arith
 
       nothing : (g x ≡ true) ⊎ (g x ≡ false) → S x 1 ≡ 0
-      nothing (inl v) = omega (arith, stretches.gray w g e p x 0 x (add-zero x) y v .s, stretches.blank w g e p x .s)
-      nothing (inr v) = omega (arith, stretches.no-leaf w g e p x 0 x (add-zero x) y v .s, stretches.blank w g e p x .s)
+      nothing (inl v) = omega (arith, leafRange.gray w g e p x 0 x (add-zero x) y v .s, leafRange.blank w g e p x .s)
+      nothing (inr v) = omega (arith, leafRange.no-leaf w g e p x 0 x (add-zero x) y v .s, leafRange.blank w g e p x .s)
 
   through-leaf : (a : ℕ) → through a a 1 ≡ e a + p a
   unfolding through
-  through-leaf a = omega (arith, ap (E a) (same a), stretches.blank w g e p a .t, ap (S (suc a)) (none-left a), stretches.blank w g e p (suc a) .s)
+  through-leaf a = omega (arith, ap (E a) (same a), leafRange.blank w g e p a .t, ap (S (suc a)) (none-left a), leafRange.blank w g e p (suc a) .s)
     where
       same : (a : ℕ) → a - a ≡ 0
       same a = omega arith
@@ -109,11 +109,11 @@ module _ (colour : ℕ → Leaf) (e p : ℕ → ℕ) (lasts : (x : ℕ) → inLa
 
     through-right : through x (a + b) c ≤ through x a (b + c)
     unfolding through
-    through-right = omega (arith, ap (E a) from-left, ap (S (suc x)) the-end, stretches.join w g e p a b (x - (a + b)) .ects)
+    through-right = omega (arith, ap (E a) from-left, ap (S (suc x)) the-end, leafRange.join w g e p a b (x - (a + b)) .ects)
 
     through-mid : E a b + (S (a + b) c + p x) ≤ through x a (b + c)
     unfolding through
-    through-mid = omega (arith, ap (E a) from-left, ap (S (suc x)) the-end, stretches.join w g e p a b (x - (a + b)) .ects, cut x (a + b) c y lo hi)
+    through-mid = omega (arith, ap (E a) from-left, ap (S (suc x)) the-end, leafRange.join w g e p a b (x - (a + b)) .ects, cut x (a + b) c y lo hi)
 
   -- x in the left half
   module _ (x a b c : ℕ) (hi : x < a + b) where
@@ -125,9 +125,9 @@ module _ (colour : ℕ → Leaf) (e p : ℕ → ℕ) (lasts : (x : ℕ) → inLa
 
     through-left : through x a b + S (a + b) c ≤ through x a (b + c)
     unfolding through
-    through-left = omega (arith, ap (S (suc x)) more-end, stretches.join w g e p (suc x) ((a + b) - suc x) c .sums, ap (λ (u : ℕ). S u c) start-right)
+    through-left = omega (arith, ap (S (suc x)) more-end, leafRange.join w g e p (suc x) ((a + b) - suc x) c .sums, ap (λ (u : ℕ). S u c) start-right)
 
-  -- a gray leaf of the stretch
+  -- a gray leaf of the range
   pub record Found (a d x : ℕ) : Type 0 where
     pub gray : g x ≡ true
     pub white : w x ≡ false
@@ -151,20 +151,20 @@ module _ (colour : ℕ → Leaf) (e p : ℕ → ℕ) (lasts : (x : ℕ) → inLa
   leaf-ok a = by (colour a) refl
     where
       l0 : Blank w g e p a
-      l0 = stretches.blank w g e p a
+      l0 = leafRange.blank w g e p a
 
       z0 : a + 0 ≡ a
       z0 = add-zero a
 
       by : (c : Leaf) → colour a ≡ c → LeafOk a (elim (gray (leafNode c (e a) (p a))) [ true ↦ some a | false ↦ none ])
       by leaves.empty z =
-          let l = stretches.no-leaf w g e p a 0 a z0 (ap inTheta z) (ap inLambda z) in
+          let l = leafRange.no-leaf w g e p a 0 a z0 (ap inTheta z) (ap inLambda z) in
           rw gray-empty (record { sums = rw once (omega (arith, l0)); ects = rw once (omega (arith, l0)) })
       by leaves.white z =
-          let l = stretches.white w g e p a 0 a z0 (ap inTheta z) in
+          let l = leafRange.white w g e p a 0 a z0 (ap inTheta z) in
           rw (gray-white (e a + p a) (p a)) (record { sums = rw once (omega (arith, l0)); ects = rw once (omega (arith, l0)) })
       by leaves.gray z =
-          let l = stretches.gray w g e p a 0 a z0 (ap inTheta z) (ap inLambda z) in
+          let l = leafRange.gray w g e p a 0 a z0 (ap inTheta z) (ap inLambda z) in
           let f : Found a 1 a = record { gray = ap inLambda z; white = ap inTheta z; from = omega arith; to = omega arith } in
           rw (gray-gray (e a + p a) (p a) (λ q. omega (arith, lasts a (ap inLambda z)))) (record { sums = rw once (f, omega (arith, l0)); ects = rw once (f, omega (arith, l0, through-leaf a)) })
 
@@ -178,7 +178,7 @@ module _ (colour : ℕ → Leaf) (e p : ℕ → ℕ) (lasts : (x : ℕ) → inLa
   right-in h a x f = record { gray = f .gray; white = f .white; from = omega (arith, f .from); to = omega (arith, f .to) }
 
   halves : (h a : ℕ) → Join w g e p a (width h) (width h)
-  halves h a = stretches.join w g e p a (width h) (width h)
+  halves h a = leafRange.join w g e p a (width h) (width h)
 
   sum-left : (h a : ℕ) (o : Option ℕ) → SumOk h a o → SB a (width (suc h)) ≡ SB a (width h) + S (a + width h) (width h) → SumOk (suc h) a o
   unfolding width
@@ -272,10 +272,10 @@ module _ (colour : ℕ → Leaf) (e p : ℕ → ℕ) (lasts : (x : ℕ) → inLa
       j = halves h a
 
       bl : Bars w g e p a (width h)
-      bl = stretches.bars w g e p a (width h)
+      bl = leafRange.bars w g e p a (width h)
 
       br : Bars w g e p (a + width h) (width h)
-      br = stretches.bars w g e p (a + width h) (width h)
+      br = leafRange.bars w g e p (a + width h) (width h)
 
       MissedLeft : Type 0
       MissedLeft = TestFailed (node h a) (node (suc h) a .«ect_bar») (node h a .«ect_bar» + node h (a + width h) .«sum_of_processing_times»)

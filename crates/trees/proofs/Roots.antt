@@ -21,7 +21,7 @@ use Rattle.scheduling.proofs.Sets.{Empty, Top, top, with-new, with-old}
 use Rattle.scheduling.proofs.Processing.{processing-all, processing-mono, processing-less, processing-with, processing-empty}
 use Rattle.scheduling.proofs.Scan.{scan, upto, and-in, and-out, widen, alone, joined, widen-part, alone-part, joined-new, joined-old, Reached, attained, scan-is, grow-in, grow-out}
 use Rattle.scheduling.specs.Moments.{ByEarliest}
-use Rattle.scheduling.proofs.Stretches as stretches
+use Rattle.scheduling.proofs.LeafRanges as leafRange
 use Rattle.scheduling.proofs.Bars as bars
 use Rattle.trees.specs.Shapes.{width, heightFor}
 use Rattle.trees.specs.Bounds.{LATEST}
@@ -154,8 +154,8 @@ module _ (J : Tasks natural) (ok : Proper J) (first : List ℕ) (rk : ByEarliest
     moved : {A : Type 0} (f : (ℕ → Bool) → (ℕ → Bool) → A) → f w g ≡ f (bars.w J ok T rank rk Ω Λ) (bars.g J ok T rank rk Ω Λ)
     moved f = ap (λ (v : ℕ → Bool). f v g) w-is ∙ ap (λ (v : ℕ → Bool). f (bars.w J ok T rank rk Ω Λ) v) g-is
 
-    ect-scan : (d : ℕ) → d ≤ J .count → stretches.ect w g e p 0 d ≡ scan J T rank Ω d
-    ect-scan d q = moved (λ v u. stretches.ect v u e p 0 d) ∙ bars.ect-scan J ok T rank rk Ω Λ d q
+    ect-scan : (d : ℕ) → d ≤ J .count → leafRange.ect w g e p 0 d ≡ scan J T rank Ω d
+    ect-scan d q = moved (λ v u. leafRange.ect v u e p 0 d) ∙ bars.ect-scan J ok T rank rk Ω Λ d q
 
     gray-in : (x : ℕ) → g x ≡ true → (x < J .count) × (Λ (T x) ≡ true)
     gray-in x h = elim (decLt x (J .count)) [ yes q ↦ (q, sym (gray-at x q) ∙ h) | no q ↦ clash h (none-g x (omega arith)) ]
@@ -194,15 +194,15 @@ module _ (J : Tasks natural) (ok : Proper J) (first : List ℕ) (rk : ByEarliest
           ]
 
       -- and each white leaf after it
-      extended : (m : ℕ) → suc x + m ≤ J .count → Holding i (suc x + m) (max (scan J T rank Ω x) (e x) + p x + stretches.sum w g e p (suc x) m)
-      extended zero q = rw (add-zero (suc x)) (subst (λ (v : ℕ). Holding i (suc x) v) (omega (arith, stretches.blank w g e p (suc x) .s)) start)
+      extended : (m : ℕ) → suc x + m ≤ J .count → Holding i (suc x + m) (max (scan J T rank Ω x) (e x) + p x + leafRange.sum w g e p (suc x) m)
+      extended zero q = rw (add-zero (suc x)) (subst (λ (v : ℕ). Holding i (suc x) v) (omega (arith, leafRange.blank w g e p (suc x) .s)) start)
       extended (suc m) q = step (extended m (omega arith)) (bool (Ω (T (suc x + m)))) (bool (Λ (T (suc x + m))))
         where
           d : ℕ
           d = suc x + m
 
           v : ℕ
-          v = max (scan J T rank Ω x) (e x) + p x + stretches.sum w g e p (suc x) m
+          v = max (scan J T rank Ω x) (e x) + p x + leafRange.sum w g e p (suc x) m
 
           in-d : suc x + m < J .count
           in-d = omega arith
@@ -210,30 +210,30 @@ module _ (J : Tasks natural) (ok : Proper J) (first : List ℕ) (rk : ByEarliest
           other : T (suc x + m) ≡ i → ⊥
           other z = omega (arith, ap rank z, rk .back x small, rk .back (suc x + m) in-d)
 
-          fit : (u : ℕ) → u ≡ max (scan J T rank Ω x) (e x) + p x + stretches.sum w g e p (suc x) (suc m) → Holding i (suc (suc x + m)) u → Holding i (suc x + suc m) (max (scan J T rank Ω x) (e x) + p x + stretches.sum w g e p (suc x) (suc m))
+          fit : (u : ℕ) → u ≡ max (scan J T rank Ω x) (e x) + p x + leafRange.sum w g e p (suc x) (suc m) → Holding i (suc (suc x + m)) u → Holding i (suc x + suc m) (max (scan J T rank Ω x) (e x) + p x + leafRange.sum w g e p (suc x) (suc m))
           fit u z h = rw (add-suc (suc x) m) (subst (λ (u : ℕ). Holding i (suc (suc x + m)) u) z h)
 
           -- an empty or gray leaf
-          skip : stretches.sum w g e p (suc x) (suc m) ≡ stretches.sum w g e p (suc x) m → Holding i d v → Holding i (suc x + suc m) (max (scan J T rank Ω x) (e x) + p x + stretches.sum w g e p (suc x) (suc m))
+          skip : leafRange.sum w g e p (suc x) (suc m) ≡ leafRange.sum w g e p (suc x) m → Holding i d v → Holding i (suc x + suc m) (max (scan J T rank Ω x) (e x) + p x + leafRange.sum w g e p (suc x) (suc m))
           skip z h = fit v (omega arith) (record { fill = widen J T rank ok rk (Ω with i) d v (h .fill); has = widen-part J T rank ok rk (Ω with i) d v (h .fill) i (h .has) })
 
           step : Holding i d v → (Ω (T (suc x + m)) ≡ true) ⊎ (Ω (T (suc x + m)) ≡ false) → (Λ (T (suc x + m)) ≡ true) ⊎ (Λ (T (suc x + m)) ≡ false)
-              → Holding i (suc x + suc m) (max (scan J T rank Ω x) (e x) + p x + stretches.sum w g e p (suc x) (suc m))
+              → Holding i (suc x + suc m) (max (scan J T rank Ω x) (e x) + p x + leafRange.sum w g e p (suc x) (suc m))
           step h (inl y) k =
-              fit (v + p d) (omega (arith, stretches.white w g e p (suc x) m (suc x + m) refl (white-at (suc x + m) in-d ∙ y) .s))
+              fit (v + p d) (omega (arith, leafRange.white w g e p (suc x) m (suc x + m) refl (white-at (suc x + m) in-d ∙ y) .s))
               (record { fill = joined J T rank ok rk (Ω with i) d v in-d (with-old Ω i (T d) y) (h .fill); has = joined-old J T rank ok rk (Ω with i) d v in-d (with-old Ω i (T d) y) (h .fill) i (h .has) })
-          step h (inr y) (inl k) = skip (stretches.gray w g e p (suc x) m (suc x + m) refl (white-at (suc x + m) in-d ∙ y) (gray-at (suc x + m) in-d ∙ k) .s) h
-          step h (inr y) (inr k) = skip (stretches.no-leaf w g e p (suc x) m (suc x + m) refl (white-at (suc x + m) in-d ∙ y) (gray-at (suc x + m) in-d ∙ k) .s) h
+          step h (inr y) (inl k) = skip (leafRange.gray w g e p (suc x) m (suc x + m) refl (white-at (suc x + m) in-d ∙ y) (gray-at (suc x + m) in-d ∙ k) .s) h
+          step h (inr y) (inr k) = skip (leafRange.no-leaf w g e p (suc x) m (suc x + m) refl (white-at (suc x + m) in-d ∙ y) (gray-at (suc x + m) in-d ∙ k) .s) h
 
       through-fill : (d : ℕ) → J .count ≤ d → (v : ℕ) × (f : EstPlusP J (Ω with i) v) × (f .part i ≡ true) × (through colour e p lasts x 0 d ≡ v)
       unfolding through
       through-fill d q =
           let m : ℕ = J .count - suc x in
-          let h : Holding i (suc x + m) (max (scan J T rank Ω x) (e x) + p x + stretches.sum w g e p (suc x) m) = extended m (omega arith) in (
-            max (scan J T rank Ω x) (e x) + p x + stretches.sum w g e p (suc x) m,
+          let h : Holding i (suc x + m) (max (scan J T rank Ω x) (e x) + p x + leafRange.sum w g e p (suc x) m) = extended m (omega arith) in (
+            max (scan J T rank Ω x) (e x) + p x + leafRange.sum w g e p (suc x) m,
             record { part = h .fill .part; within = λ k u. (and-in J T rank ok rk Ω (Ω with i) (suc x + m) k (h .fill .within k u)) .1; start = h .fill .start; est = h .fill .est; sum = h .fill .sum },
             h .has,
-            omega (arith, ap (stretches.ect w g e p 0) from-zero, ect-scan x (omega arith), ap (stretches.sum w g e p (suc x)) (rest d q), (stretches.past w g e p (suc x) (J .count - suc x) (d - J .count) (λ j r. none-w j (omega arith)) (λ j r. none-g j (omega arith))) .0),
+            omega (arith, ap (leafRange.ect w g e p 0) from-zero, ect-scan x (omega arith), ap (leafRange.sum w g e p (suc x)) (rest d q), (leafRange.past w g e p (suc x) (J .count - suc x) (d - J .count) (λ j r. none-w j (omega arith)) (λ j r. none-g j (omega arith))) .0),
           )
         where
           from-zero : x - 0 ≡ x
@@ -249,16 +249,16 @@ module _ (J : Tasks natural) (ok : Proper J) (first : List ℕ) (rk : ByEarliest
     unfolding leaves.root
     root-holds = over-holds colour e p H 0
 
-    to-count : (stretches.sum w g e p 0 (width H) ≡ stretches.sum w g e p 0 (J .count)) × (stretches.ect w g e p 0 (width H) ≡ stretches.ect w g e p 0 (J .count)) × (stretches.ect-bar w g e p 0 (width H) ≡ stretches.ect-bar w g e p 0 (J .count))
+    to-count : (leafRange.sum w g e p 0 (width H) ≡ leafRange.sum w g e p 0 (J .count)) × (leafRange.ect w g e p 0 (width H) ≡ leafRange.ect w g e p 0 (J .count)) × (leafRange.ect-bar w g e p 0 (width H) ≡ leafRange.ect-bar w g e p 0 (J .count))
     to-count =
         let z : J .count + (width H - J .count) ≡ width H = omega (arith, enough (J .count)) in
-        rw z at (stretches.past w g e p 0 (J .count) (width H - J .count) (λ j r. none-w j (omega arith)) (λ j r. none-g j (omega arith)))
+        rw z at (leafRange.past w g e p 0 (J .count) (width H - J .count) (λ j r. none-w j (omega arith)) (λ j r. none-g j (omega arith)))
 
     pub ect-is : leaves.rootEct J first ls ≡ scan J T rank Ω (J .count)
     ect-is = root-holds .ect ∙ to-count .1 ∙ ect-scan (J .count) (omega arith)
 
     pub bar-is : leaves.rootEctBar J first ls ≡ bars.EB J ok T rank rk Ω Λ (J .count)
-    bar-is = root-holds .ect-bar ∙ to-count .2 ∙ moved (λ v u. stretches.ect-bar v u e p 0 (J .count))
+    bar-is = root-holds .ect-bar ∙ to-count .2 ∙ moved (λ v u. leafRange.ect-bar v u e p 0 (J .count))
 
     -- ect(Θ), where Θ is not empty
     pub ect-of : NonEmpty J Ω → Ect J Ω (leaves.rootEct J first ls)
@@ -307,10 +307,10 @@ module _ (J : Tasks natural) (ok : Proper J) (first : List ℕ) (rk : ByEarliest
         from none-white = moment-none (λ k q. sym (s .whites k q) ∙ none-white (rank k) (rk .placed k q))
 
     -- the sum is p(Θ)
-    sum-scan : (d : ℕ) → d ≤ J .count → stretches.sum w g e p 0 d ≡ processing J (upto J T rank Ω d)
+    sum-scan : (d : ℕ) → d ≤ J .count → leafRange.sum w g e p 0 d ≡ processing J (upto J T rank Ω d)
     sum-scan zero q = omega (
       arith,
-      stretches.blank w g e p 0 .s,
+      leafRange.blank w g e p 0 .s,
       processing-empty J (upto J T rank Ω 0) (λ k r.
           elim (bool (upto J T rank Ω 0 k)) [ inl y ↦ absurd (omega (arith, (and-in J T rank ok rk Ω Ω 0 k y) .0)) | inr y ↦ y ]),
     )
@@ -320,11 +320,11 @@ module _ (J : Tasks natural) (ok : Proper J) (first : List ℕ) (rk : ByEarliest
         more = processing-mono J (upto J T rank Ω d) (upto J T rank Ω (suc d)) (λ k h.
             let u = and-in J T rank ok rk Ω Ω d k (h .mem) in and-out J T rank ok rk Ω Ω (suc d) k (omega (arith, u .0)) (u .1))
 
-        step : stretches.sum w g e p 0 d ≡ processing J (upto J T rank Ω d) → (Ω (T d) ≡ true) ⊎ (Ω (T d) ≡ false) → (Λ (T d) ≡ true) ⊎ (Λ (T d) ≡ false)
-            → stretches.sum w g e p 0 (suc d) ≡ processing J (upto J T rank Ω (suc d))
-        step ih (inl y) v = omega (arith, stretches.white w g e p 0 d d (zero-add d) (white-at d q ∙ y) .s, grow-in J T rank ok rk Ω Ω d q y)
-        step ih (inr y) (inl v) = omega (arith, more, stretches.gray w g e p 0 d d (zero-add d) (white-at d q ∙ y) (gray-at d q ∙ v) .s, grow-out J T rank ok rk Ω Ω d q y)
-        step ih (inr y) (inr v) = omega (arith, more, stretches.no-leaf w g e p 0 d d (zero-add d) (white-at d q ∙ y) (gray-at d q ∙ v) .s, grow-out J T rank ok rk Ω Ω d q y)
+        step : leafRange.sum w g e p 0 d ≡ processing J (upto J T rank Ω d) → (Ω (T d) ≡ true) ⊎ (Ω (T d) ≡ false) → (Λ (T d) ≡ true) ⊎ (Λ (T d) ≡ false)
+            → leafRange.sum w g e p 0 (suc d) ≡ processing J (upto J T rank Ω (suc d))
+        step ih (inl y) v = omega (arith, leafRange.white w g e p 0 d d (zero-add d) (white-at d q ∙ y) .s, grow-in J T rank ok rk Ω Ω d q y)
+        step ih (inr y) (inl v) = omega (arith, more, leafRange.gray w g e p 0 d d (zero-add d) (white-at d q ∙ y) (gray-at d q ∙ v) .s, grow-out J T rank ok rk Ω Ω d q y)
+        step ih (inr y) (inr v) = omega (arith, more, leafRange.no-leaf w g e p 0 d d (zero-add d) (white-at d q ∙ y) (gray-at d q ∙ v) .s, grow-out J T rank ok rk Ω Ω d q y)
 
     pub sum-of : leaves.sum J first ls ≡ processing J Ω
     sum-of =
@@ -335,20 +335,20 @@ module _ (J : Tasks natural) (ok : Proper J) (first : List ℕ) (rk : ByEarliest
         omega (arith, root-holds .sum, to-count .0, sum-scan (J .count) (omega arith), a, b)
 
     -- the sum bar is the largest p of Θ with at most one task of Λ
-    gray-sum : (x : ℕ) → g x ≡ true → (d : ℕ) → x < d → stretches.sum w g e p 0 d + p x ≤ stretches.sum-bar w g e p 0 d
+    gray-sum : (x : ℕ) → g x ≡ true → (d : ℕ) → x < d → leafRange.sum w g e p 0 d + p x ≤ leafRange.sum-bar w g e p 0 d
     gray-sum x h zero q = absurd (omega arith)
     gray-sum x h (suc d) q = step (bool (w d)) (bool (g d)) (ℕ-discrete x d) (gray-sum x h d)
       where
-        here : x ≡ d → w d ≡ false → stretches.sum w g e p 0 (suc d) + p x ≤ stretches.sum-bar w g e p 0 (suc d)
-        here z y = omega (arith, stretches.gray w g e p 0 d d (zero-add d) y (ap g (sym z) ∙ h), ap p z)
+        here : x ≡ d → w d ≡ false → leafRange.sum w g e p 0 (suc d) + p x ≤ leafRange.sum-bar w g e p 0 (suc d)
+        here z y = omega (arith, leafRange.gray w g e p 0 d d (zero-add d) y (ap g (sym z) ∙ h), ap p z)
 
-        step : (w d ≡ true) ⊎ (w d ≡ false) → (g d ≡ true) ⊎ (g d ≡ false) → Dec (x ≡ d) → (x < d → stretches.sum w g e p 0 d + p x ≤ stretches.sum-bar w g e p 0 d)
-            → stretches.sum w g e p 0 (suc d) + p x ≤ stretches.sum-bar w g e p 0 (suc d)
+        step : (w d ≡ true) ⊎ (w d ≡ false) → (g d ≡ true) ⊎ (g d ≡ false) → Dec (x ≡ d) → (x < d → leafRange.sum w g e p 0 d + p x ≤ leafRange.sum-bar w g e p 0 d)
+            → leafRange.sum w g e p 0 (suc d) + p x ≤ leafRange.sum-bar w g e p 0 (suc d)
         step (inl y) v (yes z) ih = one-colour (colour d) y (ap g (sym z) ∙ h)
-        step (inl y) v (no z) ih = omega (arith, stretches.white w g e p 0 d d (zero-add d) y, ih (omega arith))
+        step (inl y) v (no z) ih = omega (arith, leafRange.white w g e p 0 d d (zero-add d) y, ih (omega arith))
         step (inr y) v (yes z) ih = here z y
-        step (inr y) (inl v) (no z) ih = omega (arith, stretches.gray w g e p 0 d d (zero-add d) y v, ih (omega arith))
-        step (inr y) (inr v) (no z) ih = omega (arith, stretches.no-leaf w g e p 0 d d (zero-add d) y v, ih (omega arith))
+        step (inr y) (inl v) (no z) ih = omega (arith, leafRange.gray w g e p 0 d d (zero-add d) y v, ih (omega arith))
+        step (inr y) (inr v) (no z) ih = omega (arith, leafRange.no-leaf w g e p 0 d d (zero-add d) y v, ih (omega arith))
 
     pub sum-bar-of : Largest natural (λ v. (processing J Ω ≡ v) ⊎ ((k : ℕ) × In J Λ k × (processing J (Ω with k) ≡ v))) (leaves.root J first ls .«sum_of_processing_times_bar»)
     sum-bar-of = record { holds = holds (searchP (leaves.leaves J first ls) H 0) (by-sum-ok colour e p lasts H 0); bounds = bounds }
@@ -366,14 +366,14 @@ module _ (J : Tasks natural) (ok : Proper J) (first : List ℕ) (rk : ByEarliest
         enough-leaves x q = omega (arith, enough (J .count))
 
         holds : (o : Option ℕ) → SumOk colour e p lasts H 0 o → (processing J Ω ≡ SB) ⊎ ((k : ℕ) × In J Λ k × (processing J (Ω with k) ≡ SB))
-        holds none f = inl (omega (arith, f, root-holds .sum, root-holds .sum-bar, sum-of, stretches.bars w g e p 0 (width H) .more))
+        holds none f = inl (omega (arith, f, root-holds .sum, root-holds .sum-bar, sum-of, leafRange.bars w g e p 0 (width H) .more))
         holds (some x) f =
             let u = gray-in x (f .0 .gray) in
             let m : In J Λ (T x) = record { small = rk .task x (u .0); mem = u .1 } in
             inr (T x, m, omega (arith, f .1, root-holds .sum, root-holds .sum-bar, sum-of, gray-sum x (f .0 .gray) (width H) (enough-leaves x (u .0)), (with-gray (T x) m) .1))
 
         bounds : (v : ℕ) → (processing J Ω ≡ v) ⊎ ((k : ℕ) × In J Λ k × (processing J (Ω with k) ≡ v)) → v ≤ SB
-        bounds v (inl z) = omega (arith, root-holds .sum, root-holds .sum-bar, sum-of, stretches.bars w g e p 0 (width H) .more)
+        bounds v (inl z) = omega (arith, root-holds .sum, root-holds .sum-bar, sum-of, leafRange.bars w g e p 0 (width H) .more)
         bounds v (inr (k, m, z)) =
             omega (
               arith,
@@ -394,7 +394,7 @@ module _ (J : Tasks natural) (ok : Proper J) (first : List ℕ) (rk : ByEarliest
     AtMostOne v = Ect J Ω v ⊎ ((k : ℕ) × In J Λ k × Ect J (Ω with k) v)
 
     plain-least : leaves.rootEct J first ls ≤ leaves.rootEctBar J first ls
-    plain-least = omega (arith, root-holds .ect, root-holds .ect-bar, stretches.bars w g e p 0 (width H) .later)
+    plain-least = omega (arith, root-holds .ect, root-holds .ect-bar, leafRange.bars w g e p 0 (width H) .later)
 
     pub bar-of : NonEmpty J Ω ⊎ NonEmpty J Λ → Largest natural AtMostOne (leaves.rootEctBar J first ls)
     bar-of some-task = record { holds = rw bar-is (holds (bars.reached J ok T rank rk Ω Λ (J .count) (omega arith)) (top Ω (λ k. 0) (J .count))); bounds = bounds }
@@ -440,7 +440,7 @@ module _ (J : Tasks natural) (ok : Proper J) (first : List ℕ) (rk : ByEarliest
     -- no task found: a gray one is not needed for the bar
     pub none-found : leaves.responsible J first ls ≡ none → leaves.rootEctBar J first ls ≤ leaves.rootEct J first ls
     none-found z =
-        let f : stretches.ect-bar w g e p 0 (width H) ≤ stretches.ect w g e p 0 (width H) = subst (EctOk colour e p lasts H 0) z answered in
+        let f : leafRange.ect-bar w g e p 0 (width H) ≤ leafRange.ect w g e p 0 (width H) = subst (EctOk colour e p lasts H 0) z answered in
         omega (arith, f, root-holds .ect, root-holds .ect-bar)
 
     -- A task found: it is gray and not white, and a set of white tasks with it, and with it in the set, has an est + p that is no less than the bar.

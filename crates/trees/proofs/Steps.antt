@@ -11,6 +11,7 @@ use native.Mathlib.Decide.{decLt}
 use lib.Dec.{leb}
 use lib.ListN.{getD}
 use borrow.Author.Tests.{le-leb, lt-leb}
+use Rattle.integers.specs.Limits.{TASKS}
 use Rattle.integers.proofs.Bools.{bool, clash}
 use Rattle.trees.specs.declared.disjunctive_task.LocalId.{LocalId}
 use Rattle.trees.specs.declared.theta_lambda_tree.Responsible.the-variants as responsible
@@ -268,7 +269,7 @@ module _ (leaf : ℕ → Node) where
 pub record AnswerAt (m h : ℕ) (at : ℕ → Node) (position : ℕ) : Type 0 where
   pub place : ℕ
   pub is : position ≡ m + place
-  pub small : place < 48
+  pub small : place < TASKS
   pub same : searchEct (leavesOf m at) h 0 ≡ some place
 
 module _ (m h : ℕ) (at : ℕ → Node) (s : Searchable m h at) where
@@ -279,7 +280,7 @@ module _ (m h : ℕ) (at : ℕ → Node) (s : Searchable m h at) where
   from-first r e = e ∙ ap (λ (a : ℕ). foundAt m (searchEct (leavesOf m at) h a)) (root-first m h (s .complete))
 
   -- a leaf that the search answers is that of a task
-  below : (x : ℕ) → root ≡ some x → x < 48
+  below : (x : ℕ) → root ≡ some x → x < TASKS
   below x q = elim (decLt x 48) [ yes u ↦ u | no u ↦ clash (answer-ect (leavesOf m at) h 0 x q) (s .past x (omega arith)) ]
 
   pub answer-at : (r : ℕ) → r ≡ foundAt m (searchEct (leavesOf m at) h (leftmost h 0 - m)) → (r ≡ nowhere → ⊥) → AnswerAt m h at r

@@ -6,6 +6,7 @@ use Prim.Native.Nat.{ℕ, _+_, _*_, _<_}
 use native.Mathlib.Omega.{arith}
 use lib.ListN.{getD, set, length, length-set, replicate}
 use lib.Seq.{getD-set-same, getD-set-other}
+use Rattle.integers.specs.Limits.{NODES, THETAWORDS, TREEWORDS}
 use Rattle.integers.proofs.Filling.{getD-fresh}
 use Rattle.trees.specs.declared.theta_lambda_tree.Node.{Node}
 use Rattle.trees.specs.declared.theta_tree.Node as plain
@@ -38,8 +39,8 @@ plain-same : (m n : plain.Node) → m .ect ≡ n .ect → m .«sum_of_processing
 plain-same m n p q = λ t. record { ect = p t; «sum_of_processing_times» = q t }
 
 -- a node of the theta tree stored
-pub plain-stored : (ws : List ℕ) (i : ℕ) (n : plain.Node) → i < 127 → length ws ≡ 254
-    → (plainAt (pair ws (2 * i) (n .ect) (n .«sum_of_processing_times»)) ≡ changed (plainAt ws) i n) × (length (pair ws (2 * i) (n .ect) (n .«sum_of_processing_times»)) ≡ 254)
+pub plain-stored : (ws : List ℕ) (i : ℕ) (n : plain.Node) → i < NODES → length ws ≡ THETAWORDS
+    → (plainAt (pair ws (2 * i) (n .ect) (n .«sum_of_processing_times»)) ≡ changed (plainAt ws) i n) × (length (pair ws (2 * i) (n .ect) (n .«sum_of_processing_times»)) ≡ THETAWORDS)
 plain-stored ws i n h l = (
   changed-is (plainAt ws) (plainAt out) i n
       (plain-same (plainAt out i) n (pair-first ws (2 * i) a b (omega arith)) (pair-second ws (2 * i) a b (omega arith)))
@@ -60,7 +61,7 @@ plain-stored ws i n h l = (
 abbrev pub quad : List ℕ → ℕ → Node → List ℕ
 quad ws k n = set (set (pair ws k (n .ect) (n .«sum_of_processing_times»)) (k + 2) (n .«ect_bar»)) (k + 3) (n .«sum_of_processing_times_bar»)
 
-pub stored : (ws : List ℕ) (i : ℕ) (n : Node) → i < 127 → length ws ≡ 508 → (nodeAt (quad ws (4 * i) n) ≡ changed (nodeAt ws) i n) × (length (quad ws (4 * i) n) ≡ 508)
+pub stored : (ws : List ℕ) (i : ℕ) (n : Node) → i < NODES → length ws ≡ TREEWORDS → (nodeAt (quad ws (4 * i) n) ≡ changed (nodeAt ws) i n) × (length (quad ws (4 * i) n) ≡ TREEWORDS)
 stored ws i n h l = rw last (
   changed-is (nodeAt ws) (nodeAt out) i n
       (same (nodeAt out i) n (pair-other low (4 * i + 2) c d (4 * i) (λ e. omega arith) (λ e. omega arith) ∙ pair-first ws (4 * i) a b (omega arith))

@@ -7,6 +7,7 @@ use Prim.Native.Nat.{ℕ, zero, suc, _+_, _*_, _≤_, _<_}
 use native.Mathlib.Omega.{arith}
 use lib.Dec.{eqb}
 use lib.ListN.{length, getD, set, length-set, replicate, length-replicate}
+use Rattle.integers.specs.Limits.{TASKS}
 use Rattle.integers.proofs.Filling.{getD-fresh}
 use Rattle.scheduling.specs.Scheduling.{natural, Tasks}
 use Rattle.trees.specs.declared.theta_lambda_tree.Node.{Node}
@@ -32,7 +33,7 @@ module _ {A : Type 0} (size : A → ℕ) (Fair : A → Type 0) (join : A → A �
   over ls j = node (getD ls j empty) j
 
   -- the array of a tree over colours takes another colour
-  takes : (inner count : ℕ) (at : ℕ → A) (ls : List Leaf) → TreeOf join inner (over ls) at → inner + 1 ≡ width (heightFor count) → count ≤ 48 → length ls ≡ count
+  takes : (inner count : ℕ) (at : ℕ → A) (ls : List Leaf) → TreeOf join inner (over ls) at → inner + 1 ≡ width (heightFor count) → count ≤ TASKS → length ls ≡ count
       → (k : ℕ) → k < count → (c : Leaf) → Bounded size Fair (over (set ls k c)) → (n : A) → n ≡ node c k → CanPut size Fair join inner at k n
   takes inner count at ls t e small l k q c b n z = record {
     tree = own-tree join inner (over ls) at t;

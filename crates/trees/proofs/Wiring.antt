@@ -5,6 +5,7 @@ use Prim.Native.Nat.{ℕ, zero, suc, _+_, _*_, _-_, _/_, _≤_, _<_}
 use native.Mathlib.Omega.{arith}
 use native.Mathlib.Decide.{ℕ-discrete}
 use borrow.Author.Tests.{eq-eqb, ne-eqb}
+use Rattle.integers.specs.Limits.{INNER}
 use Rattle.scheduling.specs.Scheduling.{total}
 use Rattle.trees.specs.Shapes.{width, leftmost, HasHeight, changed, leavesOf, nodeOver, TreeOf}
 use Rattle.trees.specs.Bounds.{Fits, Bounded, NeedsUpheap, CanPut}
@@ -123,7 +124,7 @@ module _ {A : Type 0} {size : A → ℕ} {Fair : A → Type 0} {join : A → A �
     pub top-height : ℕ
     pub complete : m + 1 ≡ width top-height
     pub path : Path top-height height i
-    pub room : m ≤ 63
+    pub room : m ≤ INNER
 
   pub start : {m : ℕ} {at : ℕ → A} {i : ℕ} → NeedsUpheap size Fair join m at i → DuringUpheap m at at i
   start {m} {at} {i} r =

@@ -1,7 +1,7 @@
 -- What keeps the numbers of a tree within 32 bits: earliest starts up to LATEST, and durations that sum to at most DURATIONS.
 use mathlib.Core.Path.{_≡_}
 use Prim.Native.Nat.{ℕ, _+_, _*_, _≤_, _<_}
-use Rattle.integers.specs.Limits.{DURATIONS, VALUE, HOLES}
+use Rattle.integers.specs.Limits.{DURATIONS, VALUE, HOLES, INNER}
 use Rattle.integers.specs.Moments.{zeroAt}
 use Rattle.scheduling.specs.Scheduling.{total}
 use Rattle.trees.specs.declared.theta_lambda_tree.Node.{Node}
@@ -44,7 +44,7 @@ module _ {A : Type 0} (size : A → ℕ) (Fair : A → Type 0) where
     pub bounded : Bounded (leavesOf m at)
     pub height : ℕ
     pub complete : m + 1 ≡ width height
-    pub room : m ≤ 63
+    pub room : m ≤ INNER
     pub from : m ≤ index
     pub to : index ≤ 2 * m
 
@@ -54,5 +54,5 @@ module _ {A : Type 0} (size : A → ℕ) (Fair : A → Type 0) where
     pub bounded : Bounded (changed (leavesOf m at) place n)
     pub height : ℕ
     pub complete : m + 1 ≡ width height
-    pub room : m ≤ 63
+    pub room : m ≤ INNER
     pub inside : place ≤ m

@@ -5,7 +5,7 @@ use mathlib.Core.List.{List}
 use mathlib.Core.Option.{Option}
 use Prim.Native.Nat.{ℕ, _+_, _≤_, _<_}
 use lib.ListN.{length, getD}
-use Rattle.integers.specs.Limits.{TASKS, DURATIONS}
+use Rattle.integers.specs.Limits.{TASKS, DURATIONS, THETAWORDS, TREEWORDS}
 use Rattle.scheduling.specs.Scheduling.{natural, Tasks, total}
 use Rattle.trees.specs.declared.theta_lambda_tree.Node.{Node}
 use Rattle.trees.specs.declared.theta_tree.Node as plain
@@ -102,20 +102,20 @@ module _ (J : Tasks natural) (first : List ℕ) where
   -- The words hold the theta-lambda tree over these leaves.
   pub record IsTree (ls : List Leaf) (inner : ℕ) (words : List ℕ) : Type 0 where
     pub tree : TreeOf joinOf inner (leaves ls) (nodeAt words)
-    pub words-length : length words ≡ 508
+    pub words-length : length words ≡ TREEWORDS
     pub complete : inner + 1 ≡ width (heightFor (J .count))
     pub colours : length ls ≡ J .count
 
   -- The words hold these leaves, and the inner nodes may be anything.
   pub record HasLeaves (ls : List Leaf) (inner : ℕ) (words : List ℕ) : Type 0 where
     pub nodes : (k : ℕ) → nodeAt words (inner + k) ≡ leaves ls k
-    pub words-length : length words ≡ 508
+    pub words-length : length words ≡ TREEWORDS
     pub complete : inner + 1 ≡ width (heightFor (J .count))
     pub colours : length ls ≡ J .count
 
   -- The words hold the theta tree over the white ones of these leaves.
   pub record IsPlainTree (ls : List Leaf) (inner : ℕ) (words : List ℕ) : Type 0 where
     pub tree : TreeOf plainJoinOf inner (plainLeaves ls) (plainAt words)
-    pub words-length : length words ≡ 254
+    pub words-length : length words ≡ THETAWORDS
     pub complete : inner + 1 ≡ width (heightFor (J .count))
     pub colours : length ls ≡ J .count

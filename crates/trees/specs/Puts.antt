@@ -3,6 +3,7 @@ use mathlib.Core.Path.{_≡_}
 use mathlib.Core.List.{List}
 use Prim.Native.Nat.{ℕ, _+_, _≤_}
 use lib.ListN.{length}
+use Rattle.integers.specs.Limits.{INNER, THETAWORDS, TREEWORDS}
 use Rattle.trees.specs.declared.disjunctive_task.DisjunctiveTask.{DisjunctiveTask}
 use Rattle.trees.specs.declared.theta_lambda_tree.Node.{Node}
 use Rattle.trees.specs.declared.theta_tree.Node as plain
@@ -24,43 +25,43 @@ plainTask task = plainOf (task .«start_time» + task .«processing_time») (tas
 -- the leaf at `place` may become n
 pub record Puttable (inner : ℕ) (words : List ℕ) (place : ℕ) (n : Node) : Type 0 where
   pub takes : CanPut size Fair joinOf inner (nodeAt words) place n
-  pub length : length words ≡ 508
+  pub length : length words ≡ TREEWORDS
 
 -- the leaf at `place` became n
 pub record Put (inner : ℕ) (before after : List ℕ) (place : ℕ) (n : Node) : Type 0 where
   pub tree : TreeOf joinOf inner (changed (leavesOf inner (nodeAt before)) place n) (nodeAt after)
-  pub length : length after ≡ 508
+  pub length : length after ≡ TREEWORDS
 
 -- n may stand as the leaf at `place`, whatever its ancestors are
 pub record Layable (inner : ℕ) (words : List ℕ) (place : ℕ) (n : Node) : Type 0 where
   pub fits : Fits size Fair n
   pub inside : place ≤ inner
-  pub room : inner ≤ 63
-  pub length : length words ≡ 508
+  pub room : inner ≤ INNER
+  pub length : length words ≡ TREEWORDS
 
 -- n stands there, and nothing else changed
 pub record Laid (inner : ℕ) (before after : List ℕ) (place : ℕ) (n : Node) : Type 0 where
   pub nodes : nodeAt after ≡ changed (nodeAt before) (inner + place) n
-  pub length : length after ≡ 508
+  pub length : length after ≡ TREEWORDS
 
 -- the leaves stand, and the inner nodes may be anything
 pub record Rebuildable (inner : ℕ) (words : List ℕ) : Type 0 where
   pub bounded : Bounded size Fair (leavesOf inner (nodeAt words))
   pub height : ℕ
   pub complete : inner + 1 ≡ width height
-  pub room : inner ≤ 63
-  pub length : length words ≡ 508
+  pub room : inner ≤ INNER
+  pub length : length words ≡ TREEWORDS
 
 -- the leaves stayed, and every inner node is the join of its children
 pub record Rebuilt (inner : ℕ) (before after : List ℕ) : Type 0 where
   pub tree : TreeOf joinOf inner (leavesOf inner (nodeAt before)) (nodeAt after)
-  pub length : length after ≡ 508
+  pub length : length after ≡ TREEWORDS
 
 -- the same of a theta tree
 pub record PlainPuttable (inner : ℕ) (words : List ℕ) (place : ℕ) (n : plain.Node) : Type 0 where
   pub takes : CanPut plainSize PlainFair plainJoinOf inner (plainAt words) place n
-  pub length : length words ≡ 254
+  pub length : length words ≡ THETAWORDS
 
 pub record PlainPut (inner : ℕ) (before after : List ℕ) (place : ℕ) (n : plain.Node) : Type 0 where
   pub tree : TreeOf plainJoinOf inner (changed (leavesOf inner (plainAt before)) place n) (plainAt after)
-  pub length : length after ≡ 254
+  pub length : length after ≡ THETAWORDS

@@ -6,6 +6,7 @@ use mathlib.Core.Path.{_≡_}
 use Prim.Native.Nat.{ℕ, zero, suc, _+_, _*_, _≤_, _<_}
 use lib.Dec.{eqb, leb}
 use lib.ListN.{getD}
+use Rattle.integers.specs.Limits.{INNER}
 use Rattle.trees.specs.declared.theta_lambda_tree.Node.{Node}
 use Rattle.trees.specs.declared.theta_lambda_tree.Around.{Around}
 use Rattle.trees.specs.declared.theta_lambda_tree.Around.the-variants as around
@@ -107,7 +108,7 @@ pub record Searched (m h i : ℕ) (at : ℕ → Node) : Type 0 where
   pub tree : TreeOf joinOf m (leavesOf m at) at
   pub bounded : Bounded size Fair (leavesOf m at)
   pub has-height : HasHeight m h i
-  pub room : m ≤ 63
+  pub room : m ≤ INNER
 
 -- What a search from the root asks: the leaves past the tasks are not gray.
 pub record Searchable (m h : ℕ) (at : ℕ → Node) : Type 0 where

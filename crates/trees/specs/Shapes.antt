@@ -1,4 +1,4 @@
--- Complete binary trees over leaves 0, 1, .., at any type of nodes: the node over a stretch of leaves, and the tree in an array, where node i has the children 2i + 1 and 2i + 2.
+-- Complete binary trees over leaves 0, 1, .., at any type of nodes: the node over a range of leaves, and the tree in an array, where node i has the children 2i + 1 and 2i + 2.
 use mathlib.Core.Path.{_≡_}
 use mathlib.Core.Bool.{true, false}
 use Prim.Native.Nat.{ℕ, zero, suc, _+_, _*_, _≤_, _<_}

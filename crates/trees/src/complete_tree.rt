@@ -1,15 +1,17 @@
 // Complete binary trees in an array: where the children and the parent of a node stand, and how many inner nodes a number of leaves asks for.
+use integers::limits::TASKS;
 ghost use mathlib.Core.Path.{_≡_};
 ghost use Prim.Native.Nat.{_+_, _*_, _-_, _/_, _≤_, _<_, max};
 ghost use lib.Dec.{leb};
 ghost use lib.ListN.{take, length};
+ghost use Rattle.integers.specs.Limits.{NODES, TASKS};
 ghost use Rattle.integers.specs.Orders.{Permutes};
 ghost use Rattle.trees.specs.Shapes.{Sized};
 ghost use Rattle.trees.specs.Mappings.{Maps};
 
 // Returns the index of the left child of the provided index.
 pub fn get_left_child_index(index: usize) -> usize
-    requires { ⌜ index < 127 ⌝ }
+    requires { ⌜ index < NODES ⌝ }
     ensures { λ r. ⌜ r ≡ 2 * index + 1 ⌝ }
 {
     2 * index + 1
@@ -17,7 +19,7 @@ pub fn get_left_child_index(index: usize) -> usize
 
 // Returns the index of the right child of the provided index.
 pub fn get_right_child_index(index: usize) -> usize
-    requires { ⌜ index < 127 ⌝ }
+    requires { ⌜ index < NODES ⌝ }
     ensures { λ r. ⌜ r ≡ 2 * index + 2 ⌝ }
 {
     2 * index + 2
@@ -46,7 +48,7 @@ pub struct Size {
 
 // The least tree with a leaf for each of `count` tasks.
 pub fn size_for(count: usize) -> Size
-    requires { ⌜ count ≤ 48 ⌝ }
+    requires { ⌜ count ≤ TASKS ⌝ }
     ensures { λ r. ⌜ Sized count (r .«number_of_internal_nodes») (r .height) ⌝ }
 {
     let mut leaves: usize = 1;
@@ -62,9 +64,9 @@ pub fn size_for(count: usize) -> Size
 }
 
 // The place of each of the first `count` tasks in an order of them.
-pub fn leaf_places(mapping: &mut [usize; 48], order: &[usize; 48], count: usize)
-    requires { ⌜ (count ≤ 48) × (length (now mapping) ≡ 48) × Permutes count (take count (now order)) ⌝ }
-    ensures { λ _. ⌜ Maps count (now (order .entry)) (now (mapping .exit)) × (length (now (mapping .exit)) ≡ 48) ⌝ }
+pub fn leaf_places(mapping: &mut [usize; TASKS], order: &[usize; TASKS], count: usize)
+    requires { ⌜ (count ≤ TASKS) × (length (now mapping) ≡ TASKS) × Permutes count (take count (now order)) ⌝ }
+    ensures { λ _. ⌜ Maps count (now (order .entry)) (now (mapping .exit)) × (length (now (mapping .exit)) ≡ TASKS) ⌝ }
 {
     let mut i: usize = 0;
     while i < count {

@@ -1,7 +1,9 @@
 // A task, its number, and the place of its leaf in a tree: two kinds, converted only by the two mappings of the tree.
+use integers::limits::TASKS;
 ghost use mathlib.Core.Path.{_≡_};
 ghost use Prim.Native.Nat.{_<_};
 ghost use lib.ListN.{getD};
+ghost use Rattle.integers.specs.Limits.{TASKS};
 
 // The number of a task, which is also its start variable.
 pub struct LocalId(pub usize);
@@ -17,8 +19,8 @@ pub struct DisjunctiveTask {
 }
 
 // The leaf of a task.
-pub fn leaf_of(mapping: &[usize; 48], id: LocalId) -> LeafPlace
-    requires { ⌜ id .0 < 48 ⌝ }
+pub fn leaf_of(mapping: &[usize; TASKS], id: LocalId) -> LeafPlace
+    requires { ⌜ id .0 < TASKS ⌝ }
     ensures { λ r. ⌜ r .0 ≡ getD (now (mapping .entry)) (id .0) 0 ⌝ }
 {
     let i = id.0;
@@ -26,8 +28,8 @@ pub fn leaf_of(mapping: &[usize; 48], id: LocalId) -> LeafPlace
 }
 
 // The task of a leaf.
-pub fn task_of(reverse_mapping: &[usize; 48], place: LeafPlace) -> LocalId
-    requires { ⌜ place .0 < 48 ⌝ }
+pub fn task_of(reverse_mapping: &[usize; TASKS], place: LeafPlace) -> LocalId
+    requires { ⌜ place .0 < TASKS ⌝ }
     ensures { λ r. ⌜ r .0 ≡ getD (now («reverse_mapping» .entry)) (place .0) 0 ⌝ }
 {
     let i = place.0;

@@ -12,10 +12,14 @@ use crate::disjunctive_task::LeafPlace;
 use crate::disjunctive_task::LocalId;
 use crate::disjunctive_task::task_of;
 use crate::earliest_completion::Ect;
+use integers::limits::NODES;
+use integers::limits::TASKS;
+use integers::limits::TREEWORDS;
 use integers::max;
 ghost use mathlib.Core.Path.{_≡_};
 ghost use Prim.Native.Nat.{ℕ, _+_, _*_, _-_, _≤_, _<_};
 ghost use lib.ListN.{length, take};
+ghost use Rattle.integers.specs.Limits.{INNER, NODES, TASKS, TREEWORDS};
 ghost use Rattle.trees.specs.Ects.{momentOf};
 ghost use Rattle.trees.specs.Shapes.{leftmost, changed, leavesOf, TreeOf};
 ghost use Rattle.trees.specs.Nodes.{emptyOf, whiteOf, grayOf, joinOf, isEmpty};
@@ -56,7 +60,7 @@ pub enum Around {
 }
 
 // No position: there are as many nodes. A search answers with a number, not with an enum, so that a call at its end needs no room of its own.
-const NOWHERE: usize = 127;
+const NOWHERE: usize = NODES;
 
 // The task responsible for the value of ect_bar, or none.
 pub enum Responsible {
@@ -235,8 +239,8 @@ impl Around {
 }
 
 // The i-th node of the words.
-fn load(nodes: &[u32; 508], i: usize) -> Node
-    requires { ⌜ i < 127 ⌝ }
+fn load(nodes: &[u32; TREEWORDS], i: usize) -> Node
+    requires { ⌜ i < NODES ⌝ }
     ensures { λ r. ⌜ r ≡ nodeAt (now (nodes .entry)) i ⌝ }
 {
     let k = 4 * i;
@@ -249,9 +253,9 @@ fn load(nodes: &[u32; 508], i: usize) -> Node
 }
 
 // The i-th node of the words becomes n.
-fn store(nodes: &mut [u32; 508], i: usize, n: Node)
-    requires { ⌜ (i < 127) × (length (now nodes) ≡ 508) ⌝ }
-    ensures { λ _. ⌜ (nodeAt (now (nodes .exit)) ≡ changed (nodeAt (now (nodes .entry))) i n) × (length (now (nodes .exit)) ≡ 508) ⌝ }
+fn store(nodes: &mut [u32; TREEWORDS], i: usize, n: Node)
+    requires { ⌜ (i < NODES) × (length (now nodes) ≡ TREEWORDS) ⌝ }
+    ensures { λ _. ⌜ (nodeAt (now (nodes .exit)) ≡ changed (nodeAt (now (nodes .entry))) i n) × (length (now (nodes .exit)) ≡ TREEWORDS) ⌝ }
 {
     let k = 4 * i;
     nodes[k] = n.ect;
@@ -263,7 +267,7 @@ fn store(nodes: &mut [u32; 508], i: usize, n: Node)
 // A structure for calculating the ect of a set of tasks while allowing one element from another set: its 127 nodes, as words, and its size. It is made where
 // it is used, with every word 0, so that it is not copied.
 pub struct ThetaLambdaTree {
-    pub nodes: [u32; 508],
+    pub nodes: [u32; TREEWORDS],
     pub number_of_internal_nodes: usize,
     pub height: usize,
 }
@@ -271,7 +275,7 @@ pub struct ThetaLambdaTree {
 // The operations take the words of the tree and the number of its internal nodes, `inner`.
 impl ThetaLambdaTree {
     // Returns the earliest completion time of Theta.
-    pub fn ect(nodes: &[u32; 508]) -> Ect
+    pub fn ect(nodes: &[u32; TREEWORDS]) -> Ect
         ensures { λ r. ⌜ momentOf r ≡ ectIn (now (nodes .entry)) ⌝ }
     {
         let root = load(nodes, 0);
@@ -279,7 +283,7 @@ impl ThetaLambdaTree {
     }
 
     // Returns the earliest completion time of Theta while allowing one element of Lambda to be added.
-    pub fn ect_bar(nodes: &[u32; 508]) -> Ect
+    pub fn ect_bar(nodes: &[u32; TREEWORDS]) -> Ect
         ensures { λ r. ⌜ momentOf r ≡ ectBarIn (now (nodes .entry)) ⌝ }
     {
         let root = load(nodes, 0);
@@ -287,7 +291,7 @@ impl ThetaLambdaTree {
     }
 
     // Returns the total sum of processing times of the elements in the set theta.
-    pub fn sum_of_processing_times(nodes: &[u32; 508]) -> u32
+    pub fn sum_of_processing_times(nodes: &[u32; TREEWORDS]) -> u32
         ensures { λ r. ⌜ r ≡ nodeAt (now (nodes .entry)) 0 .«sum_of_processing_times» ⌝ }
     {
         let root = load(nodes, 0);
@@ -304,8 +308,8 @@ impl ThetaLambdaTree {
 
     // Returns the task in Lambda which was responsible for the value of `ect_bar`.
     pub fn responsible_ect_bar<'a>(
-        nodes: &'a [u32; 508],
-        reverse_mapping: &'a [usize; 48],
+        nodes: &'a [u32; TREEWORDS],
+        reverse_mapping: &'a [usize; TASKS],
         inner: usize,
         height: usize,
     ) -> Responsible
@@ -321,7 +325,7 @@ impl ThetaLambdaTree {
     }
 
     // What a search reads at a node.
-    fn around(nodes: &[u32; 508], inner: usize, position: usize) -> Around
+    fn around(nodes: &[u32; TREEWORDS], inner: usize, position: usize) -> Around
         requires { ⌜ ((h : ℕ) × Searched inner h position (nodeAt (now nodes))) ⌝ }
         ensures { λ r. ⌜ r ≡ aroundOf inner (nodeAt (now (nodes .entry))) position ⌝ }
     {
@@ -336,7 +340,7 @@ impl ThetaLambdaTree {
 
     // The leaf of the gray task, searched by ects below a node of the provided height.
     fn responsible_index_ect_bar_internal(
-        nodes: &[u32; 508],
+        nodes: &[u32; TREEWORDS],
         inner: usize,
         position: usize,
         height: usize,
@@ -372,7 +376,7 @@ impl ThetaLambdaTree {
 
     // The leaf of the gray task, searched by sums below a node of the provided height.
     fn responsible_index_p_internal(
-        nodes: &[u32; 508],
+        nodes: &[u32; TREEWORDS],
         inner: usize,
         position: usize,
         height: usize,
@@ -401,7 +405,7 @@ impl ThetaLambdaTree {
     }
 
     // A leaf becomes the provided node.
-    fn put(nodes: &mut [u32; 508], inner: usize, place: LeafPlace, n: Node)
+    fn put(nodes: &mut [u32; TREEWORDS], inner: usize, place: LeafPlace, n: Node)
         requires { ⌜ Puttable inner (now nodes) (place .0) n ⌝ }
         ensures { λ _. ⌜ Put inner (now (nodes .entry)) (now (nodes .exit)) (place .0) n ⌝ }
     {
@@ -412,7 +416,7 @@ impl ThetaLambdaTree {
 
     // Adds the provided task to Lambda.
     pub fn add_to_lambda(
-        nodes: &mut [u32; 508],
+        nodes: &mut [u32; TREEWORDS],
         inner: usize,
         place: LeafPlace,
         task: DisjunctiveTask,
@@ -426,7 +430,7 @@ impl ThetaLambdaTree {
     }
 
     // Removes a task from Lambda.
-    pub fn remove_from_lambda(nodes: &mut [u32; 508], inner: usize, place: LeafPlace)
+    pub fn remove_from_lambda(nodes: &mut [u32; TREEWORDS], inner: usize, place: LeafPlace)
         requires { ⌜ Puttable inner (now nodes) (place .0) emptyOf ⌝ }
         ensures { λ _. ⌜ Put inner (now (nodes .entry)) (now (nodes .exit)) (place .0) emptyOf ⌝ }
     {
@@ -435,7 +439,7 @@ impl ThetaLambdaTree {
 
     // Adds the provided task to Theta, but for the leaf's ancestors, which are left to `rebuild`.
     pub fn lay_in_theta(
-        nodes: &mut [u32; 508],
+        nodes: &mut [u32; TREEWORDS],
         inner: usize,
         place: LeafPlace,
         task: DisjunctiveTask,
@@ -450,7 +454,7 @@ impl ThetaLambdaTree {
     }
 
     // Calculates the values of all inner nodes, the last ones first.
-    pub fn rebuild(nodes: &mut [u32; 508], inner: usize)
+    pub fn rebuild(nodes: &mut [u32; TREEWORDS], inner: usize)
         requires { ⌜ Rebuildable inner (now nodes) ⌝ }
         ensures { λ _. ⌜ Rebuilt inner (now (nodes .entry)) (now (nodes .exit)) ⌝ }
     {
@@ -467,9 +471,9 @@ impl ThetaLambdaTree {
     }
 
     // Calculates the new values for the ancestors of the provided index.
-    fn upheap(nodes: &mut [u32; 508], inner: usize, index: usize)
-        requires { ⌜ NeedsUpheap size Fair joinOf inner (nodeAt (now nodes)) index × (length (now nodes) ≡ 508) ⌝ }
-        ensures { λ _. ⌜ TreeOf joinOf inner (leavesOf inner (nodeAt (now (nodes .entry)))) (nodeAt (now (nodes .exit))) × (length (now (nodes .exit)) ≡ 508) ⌝ }
+    fn upheap(nodes: &mut [u32; TREEWORDS], inner: usize, index: usize)
+        requires { ⌜ NeedsUpheap size Fair joinOf inner (nodeAt (now nodes)) index × (length (now nodes) ≡ TREEWORDS) ⌝ }
+        ensures { λ _. ⌜ TreeOf joinOf inner (leavesOf inner (nodeAt (now (nodes .entry)))) (nodeAt (now (nodes .exit))) × (length (now (nodes .exit)) ≡ TREEWORDS) ⌝ }
     {
         let mut i = index;
         while i != 0 {
@@ -487,12 +491,12 @@ impl ThetaLambdaTree {
     // Returns the place of the first leaf from `place` on, below `count`, whose task is in Theta, or `count` where there is none. The source collects these
     // leaves' tasks in a list (`get_theta`); here who wants them walks over the leaves.
     pub fn next_in_theta(
-        nodes: &[u32; 508],
+        nodes: &[u32; TREEWORDS],
         inner: usize,
         place: LeafPlace,
         count: usize,
     ) -> LeafPlace
-        requires { ⌜ (place .0 ≤ count) × (count ≤ 48) × (inner ≤ 63) ⌝ }
+        requires { ⌜ (place .0 ≤ count) × (count ≤ TASKS) × (inner ≤ INNER) ⌝ }
         ensures { λ r. ⌜ Next (whiteIn (now (nodes .entry)) inner) (place .0) count (r .0) ⌝ }
     {
         let mut x = place.0;

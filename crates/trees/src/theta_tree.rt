@@ -11,10 +11,13 @@ use crate::complete_tree::size_for;
 use crate::disjunctive_task::DisjunctiveTask;
 use crate::disjunctive_task::LeafPlace;
 use crate::earliest_completion::Ect;
+use integers::limits::TASKS;
+use integers::limits::THETAWORDS;
 use integers::max;
 ghost use mathlib.Core.Path.{_≡_};
 ghost use Prim.Native.Nat.{_+_, _≤_, _<_};
 ghost use lib.ListN.{length, take};
+ghost use Rattle.integers.specs.Limits.{NODES, TASKS, THETAWORDS};
 ghost use Rattle.integers.specs.Orders.{Permutes};
 ghost use Rattle.trees.specs.Ects.{momentOf};
 ghost use Rattle.trees.specs.Shapes.{changed, leavesOf, TreeOf};
@@ -67,8 +70,8 @@ impl Node {
 }
 
 // The i-th node of the words.
-fn load(nodes: &[u32; 254], i: usize) -> Node
-    requires { ⌜ i < 127 ⌝ }
+fn load(nodes: &[u32; THETAWORDS], i: usize) -> Node
+    requires { ⌜ i < NODES ⌝ }
     ensures { λ r. ⌜ r ≡ plainAt (now (nodes .entry)) i ⌝ }
 {
     let k = 2 * i;
@@ -79,9 +82,9 @@ fn load(nodes: &[u32; 254], i: usize) -> Node
 }
 
 // The i-th node of the words becomes n.
-fn store(nodes: &mut [u32; 254], i: usize, n: Node)
-    requires { ⌜ (i < 127) × (length (now nodes) ≡ 254) ⌝ }
-    ensures { λ _. ⌜ (plainAt (now (nodes .exit)) ≡ changed (plainAt (now (nodes .entry))) i n) × (length (now (nodes .exit)) ≡ 254) ⌝ }
+fn store(nodes: &mut [u32; THETAWORDS], i: usize, n: Node)
+    requires { ⌜ (i < NODES) × (length (now nodes) ≡ THETAWORDS) ⌝ }
+    ensures { λ _. ⌜ (plainAt (now (nodes .exit)) ≡ changed (plainAt (now (nodes .entry))) i n) × (length (now (nodes .exit)) ≡ THETAWORDS) ⌝ }
 {
     let k = 2 * i;
     nodes[k] = n.ect;
@@ -90,31 +93,31 @@ fn store(nodes: &mut [u32; 254], i: usize, n: Node)
 
 // A structure for calculating the ect of a set of tasks.
 pub struct ThetaTree {
-    pub nodes: [u32; 254],
+    pub nodes: [u32; THETAWORDS],
     // The place of the leaf of each task.
-    pub mapping: [usize; 48],
+    pub mapping: [usize; TASKS],
     pub number_of_internal_nodes: usize,
 }
 
 // The operations take the words of the tree and the number of its internal nodes, `inner`.
 impl ThetaTree {
     // The tree of no task, over the tasks in the order given.
-    pub fn new(order: &[usize; 48], count: usize) -> ThetaTree
-        requires { ⌜ (count ≤ 48) × Permutes count (take count (now order)) ⌝ }
+    pub fn new(order: &[usize; TASKS], count: usize) -> ThetaTree
+        requires { ⌜ (count ≤ TASKS) × Permutes count (take count (now order)) ⌝ }
         ensures { λ r. ⌜ PlainNew count (now (order .entry)) r ⌝ }
     {
-        let mut mapping = [0; 48];
+        let mut mapping = [0; TASKS];
         leaf_places(&mut mapping, order, count);
         let size = size_for(count);
         ThetaTree {
-            nodes: [0; 254],
+            nodes: [0; THETAWORDS],
             mapping,
             number_of_internal_nodes: size.number_of_internal_nodes,
         }
     }
 
     // Returns the earliest completion time of Theta.
-    pub fn ect(nodes: &[u32; 254]) -> Ect
+    pub fn ect(nodes: &[u32; THETAWORDS]) -> Ect
         ensures { λ r. ⌜ momentOf r ≡ plainEctIn (now (nodes .entry)) ⌝ }
     {
         let root = load(nodes, 0);
@@ -122,7 +125,7 @@ impl ThetaTree {
     }
 
     // A leaf becomes the provided node.
-    fn put(nodes: &mut [u32; 254], inner: usize, place: LeafPlace, n: Node)
+    fn put(nodes: &mut [u32; THETAWORDS], inner: usize, place: LeafPlace, n: Node)
         requires { ⌜ PlainPuttable inner (now nodes) (place .0) n ⌝ }
         ensures { λ _. ⌜ PlainPut inner (now (nodes .entry)) (now (nodes .exit)) (place .0) n ⌝ }
     {
@@ -132,7 +135,7 @@ impl ThetaTree {
     }
 
     // Adds the provided task to Theta.
-    pub fn add(nodes: &mut [u32; 254], inner: usize, place: LeafPlace, task: DisjunctiveTask)
+    pub fn add(nodes: &mut [u32; THETAWORDS], inner: usize, place: LeafPlace, task: DisjunctiveTask)
         requires { ⌜ PlainPuttable inner (now nodes) (place .0) (plainTask task) ⌝ }
         ensures { λ _. ⌜ PlainPut inner (now (nodes .entry)) (now (nodes .exit)) (place .0) (plainTask task) ⌝ }
     {
@@ -142,9 +145,9 @@ impl ThetaTree {
     }
 
     // Calculates the new values for the ancestors of the provided index.
-    fn upheap(nodes: &mut [u32; 254], inner: usize, index: usize)
-        requires { ⌜ NeedsUpheap plainSize PlainFair plainJoinOf inner (plainAt (now nodes)) index × (length (now nodes) ≡ 254) ⌝ }
-        ensures { λ _. ⌜ TreeOf plainJoinOf inner (leavesOf inner (plainAt (now (nodes .entry)))) (plainAt (now (nodes .exit))) × (length (now (nodes .exit)) ≡ 254) ⌝ }
+    fn upheap(nodes: &mut [u32; THETAWORDS], inner: usize, index: usize)
+        requires { ⌜ NeedsUpheap plainSize PlainFair plainJoinOf inner (plainAt (now nodes)) index × (length (now nodes) ≡ THETAWORDS) ⌝ }
+        ensures { λ _. ⌜ TreeOf plainJoinOf inner (leavesOf inner (plainAt (now (nodes .entry)))) (plainAt (now (nodes .exit))) × (length (now (nodes .exit)) ≡ THETAWORDS) ⌝ }
     {
         let mut i = index;
         while i != 0 {

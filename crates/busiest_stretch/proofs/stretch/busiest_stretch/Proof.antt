@@ -6,6 +6,7 @@ use lib.IntN.{pos}
 use lib.ListN.{getD}
 use borrow.Author.Needs.{needs}
 use mir.Syntax.{w32}
+use Rattle.integers.specs.Limits.{TASKS}
 use Rattle.integers.proofs.Ints.{ints, up, dn, back, back-of}
 use Rattle.fixed_schedules.specs.FixedSchedules.{AcceptedFixed}
 use Rattle.fixed_schedules.specs.Asked.{LengthFits}
@@ -37,10 +38,10 @@ lasting c = c .nat-of .ensures ∙ back (c .before .before .before .before .befo
 some : (c : tie.After-nat-of) → 0 < c .before .before .before .before .before .before .args .t1 .count
 some c = held (c .before .before .before .before) .0 .lawful .some
 
-few : (c : tie.After-nat-of) (k : ℕ) → k < c .before .before .before .before .before .before .args .t1 .count → k < 48
+few : (c : tie.After-nat-of) (k : ℕ) → k < c .before .before .before .before .before .before .args .t1 .count → k < TASKS
 few c k q = omega (arith, held (c .before .before .before .before) .0 .lawful .few)
 
-placed : (c : tie.After-nat-of) (t : ℕ) → t < c .before .before .before .before .before .before .args .t1 .count → getD (c .before .before .before .order-of .result) t 0 < 48
+placed : (c : tie.After-nat-of) (t : ℕ) → t < c .before .before .before .before .before .before .args .t1 .count → getD (c .before .before .before .order-of .result) t 0 < TASKS
 placed c t q =
     let a = c .before .before .before .before .before .before .args in
     let h = held (c .before .before .before .before) in

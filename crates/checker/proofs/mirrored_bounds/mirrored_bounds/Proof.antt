@@ -31,7 +31,7 @@ abbrev μ-loop : tie.MeasureT-loop
 inside : (c : tie.In-loop Inv-loop μ-loop) → c .before .loop .i < c .before .before .args .n
 inside c = omega arith
 
-small : (c : tie.In-loop Inv-loop μ-loop) → c .before .loop .i < 48
+small : (c : tie.In-loop Inv-loop μ-loop) → c .before .loop .i < TASKS
 small c = omega (arith, inside c, c .before .before .pre .2 .held .few)
 
 loop-holds : tie.Need-loop-holds Inv-loop μ-loop

@@ -7,6 +7,7 @@ use Prim.Native.Nat.{ℕ, _-_, _≤_, _<_}
 use native.Mathlib.Omega.{arith}
 use lib.ListN.{getD}
 use borrow.Author.Needs.{needs}
+use Rattle.integers.specs.Limits.{TASKS}
 use Rattle.chosen_sets.specs.Colouring.{Takes, Took, Colourable}
 use Rattle.chosen_sets.proofs.Colouring.{upTo, Shows, none-coloured, task-known, takes, one-more, all-coloured}
 use Rattle.chosen_sets.proofs.theta.fill.Statement.{statement}
@@ -31,7 +32,7 @@ inside c = omega arith
 abbrev task : tie.After-task-of Inv-loop μ-loop → ℕ
 task c = getD (c .before .before .before .args .tasks .now) (c .before .before .loop .x) 0
 
-known : (c : tie.After-task-of Inv-loop μ-loop) → c .task-of .result .0 < 48
+known : (c : tie.After-task-of Inv-loop μ-loop) → c .task-of .result .0 < TASKS
 known c = omega (arith, c .task-of .ensures, task-known (c .before .before .loop .inv .colourable) (c .before .before .loop .x) (inside (c .before)))
 
 -- what is asked and said of it is asked and said of the number that the mapping gives

@@ -6,6 +6,7 @@ use Prim.Native.Nat.{ℕ, _+_, _-_, _≤_, _<_}
 use native.Mathlib.Omega.{arith}
 use lib.ListN.{getD}
 use borrow.Author.Needs.{needs}
+use Rattle.integers.specs.Limits.{TASKS}
 use Rattle.trees.specs.Ects.{momentOf}
 use Rattle.overload_test.specs.Readable.{Readable}
 use Rattle.overload_test.specs.Reading.{overloadsAt, answerFrom, answerOf}
@@ -31,7 +32,7 @@ inside : (c : tie.In-loop Inv-loop μ-loop) → c .before .loop .k < c .before .
 inside c = omega arith
 
 -- the task to read
-known : (c : tie.In-loop Inv-loop μ-loop) → getD (c .before .before .args .tasks .now) (c .before .loop .k) 0 < 48
+known : (c : tie.In-loop Inv-loop μ-loop) → getD (c .before .before .args .tasks .now) (c .before .loop .k) 0 < TASKS
 known c = task-known (c .before .loop .inv .readable) (c .before .loop .k) (inside c)
 
 -- the tree when the task is added

@@ -4,6 +4,7 @@ use mathlib.Core.Path.{sym, _∙_}
 use Prim.Native.Nat.{_≤_}
 use native.Mathlib.Omega.{arith}
 use borrow.Author.Tests.{lt-ltb, le-ltb, le-leb, lt-leb}
+use Rattle.integers.specs.Limits.{TASKS}
 use Rattle.integers.specs.Tests.{AllPassed}
 use Rattle.integers.proofs.Tests.{refusal-before}
 use Rattle.records.specs.declared.record.Propagator.{Propagator}
@@ -24,7 +25,7 @@ lent c = recordOf (c .args .n) (c .args .durations .now) (c .args .total)
 passed : (c : tie.Else1) → let start = c .before .before in let args = start .args in AllPassed (inputTests (lent start) (args .earliest .now) (args .latest .now))
 passed c = let start = c .before .before in let args = start .args in input-passed (lent start) (args .earliest .now) (args .latest .now) (sym (c .before .input-refusal .ensures) ∙ c .if1 .left)
 
-few : (c : tie.Else1) → c .before .before .args .n ≤ 48
+few : (c : tie.Else1) → c .before .before .args .n ≤ TASKS
 few c = (lawful-is (lent (c .before .before)) .0 (passed c .0)) .few
 
 input-refusal-requires : tie.Need-input-refusal-requires

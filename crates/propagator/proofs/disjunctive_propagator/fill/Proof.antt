@@ -6,6 +6,7 @@ use Prim.Native.Nat.{ℕ, _+_, _-_, _≤_, _<_}
 use native.Mathlib.Omega.{arith}
 use lib.ListN.{getD}
 use borrow.Author.Needs.{needs}
+use Rattle.integers.specs.Limits.{TASKS}
 use Rattle.trees.specs.declared.theta_lambda_tree.Node.{Node}
 use Rattle.trees.specs.Leaves.{HasLeaves}
 use Rattle.trees.specs.Nodes.{whiteOf}
@@ -34,7 +35,7 @@ inside c = omega arith
 abbrev task : tie.After-task-of Inv-loop μ-loop → ℕ
 task c = getD (c .before .before .before .args .tasks .now) (c .before .before .loop .x) 0
 
-known : (c : tie.After-task-of Inv-loop μ-loop) → c .task-of .result .0 < 48
+known : (c : tie.After-task-of Inv-loop μ-loop) → c .task-of .result .0 < TASKS
 known c = omega (arith, c .task-of .ensures, task-known (c .before .before .loop .inv .fillable) (c .before .before .loop .x) (inside (c .before)))
 
 abbrev node : tie.After-task-of Inv-loop μ-loop → ℕ → Node

@@ -3,12 +3,13 @@
 use Prim.Native.Nat.{_-_, _≤_}
 use native.Mathlib.Omega.{arith}
 use borrow.Author.Needs.{needs}
+use Rattle.integers.specs.Limits.{TASKS}
 use Rattle.records.proofs.Unused.{Gathered, gathered-none, gathered-more, gathered-all}
 use Rattle.records.proofs.record.unused_zero.Statement.{statement}
 use Rattle.records.proofs.record.unused_zero.Tie as tie
 
 abbrev Inv-loop : tie.InvT-loop
-Inv-loop durations n used₀ i₀ used i = (n ≤ i) × ((i ≤ 48) × Gathered durations n used i)
+Inv-loop durations n used₀ i₀ used i = (n ≤ i) × ((i ≤ TASKS) × Gathered durations n used i)
 
 abbrev μ-loop : tie.MeasureT-loop
 μ-loop durations n used₀ i₀ used i = 48 - i

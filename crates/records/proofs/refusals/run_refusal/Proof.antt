@@ -6,6 +6,7 @@ use native.Mathlib.Nat.{mul-le-mul-left}
 use lib.Dec.{leb}
 use borrow.Author.Tests.{le-leb, lt-leb}
 use borrow.Author.Needs.{needs}
+use Rattle.integers.specs.Limits.{TASKS}
 use Rattle.integers.specs.Tests.{AllPassed}
 use Rattle.integers.proofs.Bools.{and-left, and-right, and-yes}
 use Rattle.integers.proofs.Tests.{refusal-before}
@@ -25,7 +26,7 @@ lent c = recordOf (c .args .n) (c .args .durations .now) (c .args .total)
 passed : (c : tie.Else1) → let start = c .before .before in let args = start .args in AllPassed (inputTests (lent start) (args .earliest .now) (args .latest .now))
 passed c = let start = c .before .before in let args = start .args in input-passed (lent start) (args .earliest .now) (args .latest .now) (sym (c .before .input-refusal .ensures) ∙ c .if1 .left)
 
-few : (c : tie.Else1) → c .before .before .args .n ≤ 48
+few : (c : tie.Else1) → c .before .before .args .n ≤ TASKS
 few c = (lawful-is (lent (c .before .before)) .0 (passed c .0)) .few
 
 squared : (c : tie.Else1) → c .before .before .args .n * c .before .before .args .n ≤ c .before .before .args .n * 48

@@ -43,10 +43,10 @@ use Rattle.charges.specs.Charging.{Charged}
 use Rattle.disjunctive.specs.Ranges.{earliests, latests}
 use Rattle.disjunctive.specs.declared.ranges.Range.{Range}
 use Rattle.disjunctive.proofs.ranges.Range as T
-use Rattle.disjunctive.proofs.ranges.fixed_schedules.charges as lent
-use Rattle.disjunctive.proofs.ranges.fixed_schedules.charges.Symbol as lent-def
-use Rattle.disjunctive.proofs.ranges.fixed_schedules.charges.Symbol.{name as #lent}
-use Rattle.disjunctive.proofs.ranges.fixed_schedules.charges.Met as lent-thm
+use Rattle.disjunctive.proofs.ranges.of_fixed_schedules.charges as lent
+use Rattle.disjunctive.proofs.ranges.of_fixed_schedules.charges.Symbol as lent-def
+use Rattle.disjunctive.proofs.ranges.of_fixed_schedules.charges.Symbol.{name as #lent}
+use Rattle.disjunctive.proofs.ranges.of_fixed_schedules.charges.Met as lent-thm
 use Rattle.reedgrit.specs.RequestAnswers.{chargesAnswer}
 use Rattle.reedgrit.specs.Requests.{ChargesNumbers}
 use Rattle.reedgrit.specs.declared.request_answers.ChargesAnswer.{ChargesAnswer}
@@ -180,5 +180,5 @@ reedgrit-charges-spec 𝓤 H 𝓜 𝓖 𝓡 =
     entered 𝓤 H (tripleOf 𝓤 H (𝓖 .A) f.signature (f.spec 𝓤 H (𝓖 .A) (𝓜 .mem) (𝓡 .run)))
     (tables 𝓤 H 𝓜 𝓡 code.env .C) (tables 𝓤 H 𝓜 𝓡 code.env .Λ) #reedgrit-charges code.function (code.unfolded 𝓤 H 𝓜 𝓡)
     (f-meets 𝓤 H (𝓖 .A) (givenOf 𝓤 H 𝓜 𝓖) (𝓜 .mem) (𝓡 .run) (tablesOf 𝓤 H 𝓜 (tables 𝓤 H 𝓜 𝓡 code.env))
-    (cited 𝓤 H (Lent 𝓤 H (𝓖 .A) (𝓜 .mem) (𝓡 .run)) 𝓜 𝓡 code.env #lent lent-def.routine code.calls-disjunctive·ranges·fixed-schedules·charges (lent-thm.met 𝓤 H 𝓜 𝓖 𝓡))
+    (cited 𝓤 H (Lent 𝓤 H (𝓖 .A) (𝓜 .mem) (𝓡 .run)) 𝓜 𝓡 code.env #lent lent-def.routine code.calls-disjunctive·ranges·of-fixed-schedules·charges (lent-thm.met 𝓤 H 𝓜 𝓖 𝓡))
     (cited 𝓤 H (Numbers 𝓤 H (𝓖 .A) (𝓜 .mem) (𝓡 .run)) 𝓜 𝓡 code.env #numbers numbers-def.routine code.calls-reedgrit·request-answers·charges-numbers (numbers-thm.met 𝓤 H 𝓜 𝓖 𝓡)))

@@ -47,10 +47,10 @@ use Rattle.free_starts.specs.FreeStarts.{Answered as FreeStartAnswered}
 use Rattle.disjunctive.specs.Ranges.{earliests, latests}
 use Rattle.disjunctive.specs.declared.ranges.Range.{Range}
 use Rattle.disjunctive.proofs.ranges.Range as T
-use Rattle.disjunctive.proofs.ranges.fixed_schedules.free_start as lent
-use Rattle.disjunctive.proofs.ranges.fixed_schedules.free_start.Symbol as lent-def
-use Rattle.disjunctive.proofs.ranges.fixed_schedules.free_start.Symbol.{name as #lent}
-use Rattle.disjunctive.proofs.ranges.fixed_schedules.free_start.Met as lent-thm
+use Rattle.disjunctive.proofs.ranges.of_fixed_schedules.free_start as lent
+use Rattle.disjunctive.proofs.ranges.of_fixed_schedules.free_start.Symbol as lent-def
+use Rattle.disjunctive.proofs.ranges.of_fixed_schedules.free_start.Symbol.{name as #lent}
+use Rattle.disjunctive.proofs.ranges.of_fixed_schedules.free_start.Met as lent-thm
 use Rattle.reedgrit.specs.RequestAnswers.{startAnswer}
 use Rattle.reedgrit.specs.Requests.{FreeStartNumbers}
 use Rattle.reedgrit.specs.declared.request_answers.StartAnswer.{StartAnswer}
@@ -187,5 +187,5 @@ reedgrit-free-start-spec 𝓤 H 𝓜 𝓖 𝓡 =
     entered 𝓤 H (tripleOf 𝓤 H (𝓖 .A) f.signature (f.spec 𝓤 H (𝓖 .A) (𝓜 .mem) (𝓡 .run)))
     (tables 𝓤 H 𝓜 𝓡 code.env .C) (tables 𝓤 H 𝓜 𝓡 code.env .Λ) #reedgrit-free-start code.function (code.unfolded 𝓤 H 𝓜 𝓡)
     (f-meets 𝓤 H (𝓖 .A) (givenOf 𝓤 H 𝓜 𝓖) (𝓜 .mem) (𝓡 .run) (tablesOf 𝓤 H 𝓜 (tables 𝓤 H 𝓜 𝓡 code.env))
-    (cited 𝓤 H (Lent 𝓤 H (𝓖 .A) (𝓜 .mem) (𝓡 .run)) 𝓜 𝓡 code.env #lent lent-def.routine code.calls-disjunctive·ranges·fixed-schedules·free-start (lent-thm.met 𝓤 H 𝓜 𝓖 𝓡))
+    (cited 𝓤 H (Lent 𝓤 H (𝓖 .A) (𝓜 .mem) (𝓡 .run)) 𝓜 𝓡 code.env #lent lent-def.routine code.calls-disjunctive·ranges·of-fixed-schedules·free-start (lent-thm.met 𝓤 H 𝓜 𝓖 𝓡))
     (cited 𝓤 H (Numbers 𝓤 H (𝓖 .A) (𝓜 .mem) (𝓡 .run)) 𝓜 𝓡 code.env #numbers numbers-def.routine code.calls-reedgrit·request-answers·start-numbers (numbers-thm.met 𝓤 H 𝓜 𝓖 𝓡)))

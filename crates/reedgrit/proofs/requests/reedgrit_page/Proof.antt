@@ -46,10 +46,10 @@ use Rattle.pages.specs.Pages.{Paged}
 use Rattle.disjunctive.specs.Ranges.{earliests, latests}
 use Rattle.disjunctive.specs.declared.ranges.Range.{Range}
 use Rattle.disjunctive.proofs.ranges.Range as T
-use Rattle.disjunctive.proofs.ranges.fixed_schedules.page as lent
-use Rattle.disjunctive.proofs.ranges.fixed_schedules.page.Symbol as lent-def
-use Rattle.disjunctive.proofs.ranges.fixed_schedules.page.Symbol.{name as #lent}
-use Rattle.disjunctive.proofs.ranges.fixed_schedules.page.Met as lent-thm
+use Rattle.disjunctive.proofs.ranges.of_fixed_schedules.page as lent
+use Rattle.disjunctive.proofs.ranges.of_fixed_schedules.page.Symbol as lent-def
+use Rattle.disjunctive.proofs.ranges.of_fixed_schedules.page.Symbol.{name as #lent}
+use Rattle.disjunctive.proofs.ranges.of_fixed_schedules.page.Met as lent-thm
 use Rattle.reedgrit.specs.RequestAnswers.{countAnswer}
 use Rattle.reedgrit.specs.Requests.{PageNumbers}
 use Rattle.reedgrit.specs.declared.request_answers.CountAnswer.{CountAnswer}
@@ -185,5 +185,5 @@ reedgrit-page-spec 𝓤 H 𝓜 𝓖 𝓡 =
     entered 𝓤 H (tripleOf 𝓤 H (𝓖 .A) f.signature (f.spec 𝓤 H (𝓖 .A) (𝓜 .mem) (𝓡 .run)))
     (tables 𝓤 H 𝓜 𝓡 code.env .C) (tables 𝓤 H 𝓜 𝓡 code.env .Λ) #reedgrit-page code.function (code.unfolded 𝓤 H 𝓜 𝓡)
     (f-meets 𝓤 H (𝓖 .A) (givenOf 𝓤 H 𝓜 𝓖) (𝓜 .mem) (𝓡 .run) (tablesOf 𝓤 H 𝓜 (tables 𝓤 H 𝓜 𝓡 code.env))
-    (cited 𝓤 H (Lent 𝓤 H (𝓖 .A) (𝓜 .mem) (𝓡 .run)) 𝓜 𝓡 code.env #lent lent-def.routine code.calls-disjunctive·ranges·fixed-schedules·page (lent-thm.met 𝓤 H 𝓜 𝓖 𝓡))
+    (cited 𝓤 H (Lent 𝓤 H (𝓖 .A) (𝓜 .mem) (𝓡 .run)) 𝓜 𝓡 code.env #lent lent-def.routine code.calls-disjunctive·ranges·of-fixed-schedules·page (lent-thm.met 𝓤 H 𝓜 𝓖 𝓡))
     (cited 𝓤 H (Numbers 𝓤 H (𝓖 .A) (𝓜 .mem) (𝓡 .run)) 𝓜 𝓡 code.env #numbers numbers-def.routine code.calls-reedgrit·request-answers·page-numbers (numbers-thm.met 𝓤 H 𝓜 𝓖 𝓡)))

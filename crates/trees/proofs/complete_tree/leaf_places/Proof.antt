@@ -4,12 +4,13 @@ use mathlib.Core.Path.{_≡_}
 use Prim.Native.Nat.{_≤_, _-_}
 use native.Mathlib.Omega.{arith}
 use lib.ListN.{length-set, length, take}
+use Rattle.integers.specs.Limits.{TASKS}
 use Rattle.trees.proofs.Places.{Placed, task-below, place-more, places-are}
 use Rattle.trees.proofs.complete_tree.leaf_places.Statement.{statement}
 use Rattle.trees.proofs.complete_tree.leaf_places.Tie as tie
 
 abbrev Inv-loop : tie.InvT-loop
-Inv-loop mapping₀ order count i₀ mapping i = (i ≤ count) × (length mapping ≡ 48) × Placed (take count order) mapping i
+Inv-loop mapping₀ order count i₀ mapping i = (i ≤ count) × (length mapping ≡ TASKS) × Placed (take count order) mapping i
 
 abbrev μ-loop : tie.MeasureT-loop
 μ-loop mapping₀ order count i₀ mapping i = count - i

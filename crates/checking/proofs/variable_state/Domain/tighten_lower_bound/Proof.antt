@@ -36,8 +36,8 @@ first-from-requires c κs = search needs
 place-requires : tie.Need-place-requires
 place-requires c κs = search needs
 
-stretch-requires : tie.Need-stretch-requires
-stretch-requires c κs =
+part-requires : tie.Need-part-requires
+part-requires c κs =
     let s = c .before .before .before .before .before in
     let e = c .place .ensures in
     let u = used (s .args .self) (s .pre .0) in
@@ -60,7 +60,7 @@ returns-2 c =
     let b : ℤ = firstFrom (s .args .bound) hs in
     let r : toZ w32 (ofZ w32 (c .before .before .first-from .result)) ≡ b = back-of w32 (c .before .before .first-from .result) (c .before .before .first-from .ok) ∙ c .before .before .first-from .ensures ∙ ap (λ (z : ℤ). firstFrom z hs) (back (s .fits .bound)) in
     let p : c .before .place .result ≡ rank b hs = c .before .place .ensures ∙ ap (λ (z : ℤ). rank z hs) r in
-    let h : c .stretch .result ≡ padded (drop (rank b hs) hs) = c .stretch .ensures ∙ ap (λ (i : ℕ). padded (drop i hs)) p in
+    let h : c .part .result ≡ padded (drop (rank b hs) hs) = c .part .ensures ∙ ap (λ (i : ℕ). padded (drop i hs)) p in
     let made : Domain = record { «lower_bound» = Int b; «upper_bound» = d .«upper_bound»; holes = padded (drop (rank b hs) hs); count = d .count - rank b hs } in
     rw f ((λ i. record { «lower_bound» = Int (r i); «upper_bound» = d .«upper_bound»; holes = h i; count = d .count - p i }) ∙ cut-above d (s .pre .0) (Int b) (d .«upper_bound») b (first-is (s .args .bound) hs (s .pre .0 .order) .free))
 
@@ -72,6 +72,6 @@ tighten-lower-bound-spec =
     returns
     first-from-requires
     place-requires
-    stretch-requires
+    part-requires
     sub-t12
     returns-2)

@@ -37,8 +37,8 @@ last-up-to-requires c κs = search needs
 place-requires : tie.Need-place-requires
 place-requires c κs = search needs
 
-stretch-requires : tie.Need-stretch-requires
-stretch-requires c κs =
+part-requires : tie.Need-part-requires
+part-requires c κs =
     let s = c .before .before .before .before .before in
     let e = c .place .ensures in
     let u = used (s .args .self) (s .pre .0) in
@@ -55,10 +55,10 @@ returns-2 c =
     let r : toZ w32 (ofZ w32 (c .before .before .last-up-to .result)) ≡ b = back-of w32 (c .before .before .last-up-to .result) (c .before .before .last-up-to .ok) ∙ c .before .before .last-up-to .ensures ∙ ap (λ (z : ℤ). lastUpTo z hs) (back (s .fits .bound)) in
     let p : c .before .place .result ≡ rank b hs = c .before .place .ensures ∙ ap (λ (z : ℤ). rank z hs) r in
     let q : take (rank b hs) (d .holes) ≡ take (rank b hs) hs = sym (take-take (rank b hs) (d .count) (d .holes) (omega (arith, rank-le b hs, used d (s .pre .0)))) in
-    let h : c .stretch .result ≡ padded (take (rank b hs) hs) = c .stretch .ensures ∙ ap (λ (i : ℕ). padded (take i (d .holes))) p ∙ ap padded q in
+    let h : c .part .result ≡ padded (take (rank b hs) hs) = c .part .ensures ∙ ap (λ (i : ℕ). padded (take i (d .holes))) p ∙ ap padded q in
     rw f ((λ i. record { «lower_bound» = d .«lower_bound»; «upper_bound» = Int (r i); holes = h i; count = p i }) ∙ cut-below d (s .pre .0) (d .«lower_bound») (Int b) b)
 
 pub tighten-upper-bound-spec : {M : Type 1} → statement M
 tighten-upper-bound-spec =
     tie.close
-    (tie.spec le-requires returns last-up-to-requires place-requires stretch-requires returns-2)
+    (tie.spec le-requires returns last-up-to-requires place-requires part-requires returns-2)

@@ -6,6 +6,7 @@ use Prim.Native.Nat.{ℕ, suc, _-_, _≤_, _<_}
 use native.Mathlib.Omega.{arith}
 use lib.ListN.{length}
 use borrow.Author.Needs.{needs}
+use Rattle.integers.specs.Limits.{INNER, TREEWORDS}
 use Rattle.trees.specs.Words.{nodeAt}
 use Rattle.trees.proofs.Joins.{additive}
 use Rattle.trees.proofs.Rebuilding.{DuringRebuild, begin, built, fits-left, fits-right, goes-on}
@@ -14,8 +15,8 @@ use Rattle.trees.proofs.theta_lambda_tree.ThetaLambdaTree.rebuild.Tie a
 
 record Loop (inner : ℕ) (nodes₀ nodes : List ℕ) (i : ℕ) : Type 0 where
   during : DuringRebuild additive inner (nodeAt nodes₀) (nodeAt nodes) i
-  long : length nodes ≡ 508
-  room : inner ≤ 63
+  long : length nodes ≡ TREEWORDS
+  room : inner ≤ INNER
 
 abbrev Inv-loop : tie.InvT-loop
 Inv-loop nodes₀ inner i₀ nodes i = Loop inner nodes₀ nodes i
@@ -30,7 +31,7 @@ node c = c .before .loop .i - 1
 next : (c : tie.In-loop Inv-loop μ-loop) → c .before .loop .i ≡ suc (node c)
 next c = omega (arith, c .loop-test .taken)
 
-inside : (c : tie.In-loop Inv-loop μ-loop) → node c < 63
+inside : (c : tie.In-loop Inv-loop μ-loop) → node c < INNER
 inside c = omega (arith, next c, c .before .loop .inv .during .inside, c .before .loop .inv .room)
 
 loop-holds : tie.Need-loop-holds Inv-loop μ-loop

@@ -5,6 +5,7 @@ use Prim.Native.Nat.{ℕ}
 use native.Mathlib.Omega.{arith}
 use lib.ListN.{length}
 use borrow.Author.Needs.{needs}
+use Rattle.integers.specs.Limits.{TREEWORDS}
 use Rattle.trees.specs.Words.{nodeAt}
 use Rattle.trees.proofs.Joins.{additive}
 use Rattle.trees.proofs.Wiring.{DuringUpheap, start, end, next-is, up-inner, fits-left, fits-right}
@@ -12,7 +13,7 @@ use Rattle.trees.proofs.theta_lambda_tree.ThetaLambdaTree.upheap.Statem
 use Rattle.trees.proofs.theta_lambda_tree.ThetaLambdaTree.upheap.Tie as tie
 
 abbrev Inv-loop : tie.InvT-loop
-Inv-loop nodes₀ inner index i₀ nodes i = DuringUpheap additive inner (nodeAt nodes₀) (nodeAt nodes) i × (length nodes ≡ 508)
+Inv-loop nodes₀ inner index i₀ nodes i = DuringUpheap additive inner (nodeAt nodes₀) (nodeAt nodes) i × (length nodes ≡ TREEWORDS)
 
 abbrev μ-loop : tie.MeasureT-loop
 μ-loop nodes₀ inner index i₀ nodes i = i

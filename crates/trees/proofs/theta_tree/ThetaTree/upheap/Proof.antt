@@ -5,6 +5,7 @@ use Prim.Native.Nat.{ℕ}
 use native.Mathlib.Omega.{arith}
 use lib.ListN.{length}
 use borrow.Author.Needs.{needs}
+use Rattle.integers.specs.Limits.{THETAWORDS}
 use Rattle.trees.specs.Words.{plainAt}
 use Rattle.trees.proofs.Joins.{plain-additive}
 use Rattle.trees.proofs.Wiring.{DuringUpheap, start, end, next-is, up-inner, fits-left, fits-right}
@@ -12,7 +13,7 @@ use Rattle.trees.proofs.theta_tree.ThetaTree.upheap.Statement.{statemen
 use Rattle.trees.proofs.theta_tree.ThetaTree.upheap.Tie as tie
 
 abbrev Inv-loop : tie.InvT-loop
-Inv-loop nodes₀ inner index i₀ nodes i = DuringUpheap plain-additive inner (plainAt nodes₀) (plainAt nodes) i × (length nodes ≡ 254)
+Inv-loop nodes₀ inner index i₀ nodes i = DuringUpheap plain-additive inner (plainAt nodes₀) (plainAt nodes) i × (length nodes ≡ THETAWORDS)
 
 abbrev μ-loop : tie.MeasureT-loop
 μ-loop nodes₀ inner index i₀ nodes i = i

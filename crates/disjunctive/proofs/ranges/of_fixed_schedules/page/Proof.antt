@@ -1,4 +1,4 @@
--- `ranges::fixed_schedules::page` meets its contract: a walk of its MIR, by hand. The ranges are passed on to `starts_of` as they are, the lent record is copied, and the buffer is passed on for good to `page_core`.
+-- `ranges::of_fixed_schedules::page` meets its contract: a walk of its MIR, by hand. The ranges are passed on to `starts_of` as they are, the lent record is copied, and the buffer is passed on for good to `page_core`.
 -- Assumes nothing.
 use mathlib.Core.Path.{_≡_, refl}
 use Prim.Native.Nat.{ℕ, _≤_}
@@ -56,14 +56,14 @@ use Rattle.disjunctive.proofs.ranges.Starts.Laws as S′
 use Rattle.disjunctive.proofs.ranges.starts_of.Symbol as starts-of-def
 use Rattle.disjunctive.proofs.ranges.starts_of.Symbol.{name as #starts-of}
 use Rattle.disjunctive.proofs.ranges.starts_of.Met as starts-of-thm
-use Rattle.disjunctive.proofs.ranges.fixed_schedules.page_core as page-core
-use Rattle.disjunctive.proofs.ranges.fixed_schedules.page_core.Symbol as page-core-def
-use Rattle.disjunctive.proofs.ranges.fixed_schedules.page_core.Symbol.{name as #page-core}
-use Rattle.disjunctive.proofs.ranges.fixed_schedules.page_core.Met as page-core-thm
-use Rattle.disjunctive.proofs.ranges.fixed_schedules.page.Key.{name as #page}
-use Rattle.disjunctive.proofs.ranges.fixed_schedules.page as f
-use Rattle.disjunctive.proofs.ranges.fixed_schedules.page.Statement as stated
-use Rattle.disjunctive.proofs.ranges.fixed_schedules.page.Code as code
+use Rattle.disjunctive.proofs.ranges.of_fixed_schedules.page_core as page-core
+use Rattle.disjunctive.proofs.ranges.of_fixed_schedules.page_core.Symbol as page-core-def
+use Rattle.disjunctive.proofs.ranges.of_fixed_schedules.page_core.Symbol.{name as #page-core}
+use Rattle.disjunctive.proofs.ranges.of_fixed_schedules.page_core.Met as page-core-thm
+use Rattle.disjunctive.proofs.ranges.of_fixed_schedules.page.Key.{name as #page}
+use Rattle.disjunctive.proofs.ranges.of_fixed_schedules.page as f
+use Rattle.disjunctive.proofs.ranges.of_fixed_schedules.page.Statement as stated
+use Rattle.disjunctive.proofs.ranges.of_fixed_schedules.page.Code as code
 
 abbrev Arg : Type 0
 Arg = RefT Propagator × (RefT (List Range) × (RefT (List ℕ) × Unit {0}))
@@ -184,4 +184,4 @@ page-spec 𝓤 H 𝓜 𝓖 𝓡 =
     (tables 𝓤 H 𝓜 𝓡 code.env .C) (tables 𝓤 H 𝓜 𝓡 code.env .Λ) #page code.function (code.unfolded 𝓤 H 𝓜 𝓡)
     (f-meets 𝓤 H (𝓖 .A) (givenOf 𝓤 H 𝓜 𝓖) (𝓜 .mem) (𝓡 .run) (tablesOf 𝓤 H 𝓜 (tables 𝓤 H 𝓜 𝓡 code.env))
     (cited 𝓤 H (StartsOf 𝓤 H (𝓖 .A) (𝓜 .mem) (𝓡 .run)) 𝓜 𝓡 code.env #starts-of starts-of-def.routine code.calls-disjunctive·ranges·starts-of (starts-of-thm.met 𝓤 H 𝓜 𝓖 𝓡))
-    (cited 𝓤 H (Core 𝓤 H (𝓖 .A) (𝓜 .mem) (𝓡 .run)) 𝓜 𝓡 code.env #page-core page-core-def.routine code.calls-disjunctive·ranges·fixed-schedules·page-core (page-core-thm.met 𝓤 H 𝓜 𝓖 𝓡)))
+    (cited 𝓤 H (Core 𝓤 H (𝓖 .A) (𝓜 .mem) (𝓡 .run)) 𝓜 𝓡 code.env #page-core page-core-def.routine code.calls-disjunctive·ranges·of-fixed-schedules·page-core (page-core-thm.met 𝓤 H 𝓜 𝓖 𝓡)))

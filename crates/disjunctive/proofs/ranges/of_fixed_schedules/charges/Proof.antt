@@ -1,4 +1,4 @@
--- `ranges::fixed_schedules::charges` meets its contract: a walk of its MIR, by hand. The ranges are passed on to `starts_of` as they are, the lent record is copied, and the due moments are passed on to `charges_core` as they are.
+-- `ranges::of_fixed_schedules::charges` meets its contract: a walk of its MIR, by hand. The ranges are passed on to `starts_of` as they are, the lent record is copied, and the due moments are passed on to `charges_core` as they are.
 -- Of what is lent nothing is kept: all references are shared.
 -- Assumes nothing.
 use mathlib.Core.Path.{refl}
@@ -56,14 +56,14 @@ use Rattle.disjunctive.proofs.ranges.Starts.Laws as S′
 use Rattle.disjunctive.proofs.ranges.starts_of.Symbol as starts-of-def
 use Rattle.disjunctive.proofs.ranges.starts_of.Symbol.{name as #starts-of}
 use Rattle.disjunctive.proofs.ranges.starts_of.Met as starts-of-thm
-use Rattle.disjunctive.proofs.ranges.fixed_schedules.charges_core as charges-core
-use Rattle.disjunctive.proofs.ranges.fixed_schedules.charges_core.Symbol as charges-core-def
-use Rattle.disjunctive.proofs.ranges.fixed_schedules.charges_core.Symbol.{name as #charges-core}
-use Rattle.disjunctive.proofs.ranges.fixed_schedules.charges_core.Met as charges-core-thm
-use Rattle.disjunctive.proofs.ranges.fixed_schedules.charges.Key.{name as #charges}
-use Rattle.disjunctive.proofs.ranges.fixed_schedules.charges as f
-use Rattle.disjunctive.proofs.ranges.fixed_schedules.charges.Statement as stated
-use Rattle.disjunctive.proofs.ranges.fixed_schedules.charges.Code as code
+use Rattle.disjunctive.proofs.ranges.of_fixed_schedules.charges_core as charges-core
+use Rattle.disjunctive.proofs.ranges.of_fixed_schedules.charges_core.Symbol as charges-core-def
+use Rattle.disjunctive.proofs.ranges.of_fixed_schedules.charges_core.Symbol.{name as #charges-core}
+use Rattle.disjunctive.proofs.ranges.of_fixed_schedules.charges_core.Met as charges-core-thm
+use Rattle.disjunctive.proofs.ranges.of_fixed_schedules.charges.Key.{name as #charges}
+use Rattle.disjunctive.proofs.ranges.of_fixed_schedules.charges as f
+use Rattle.disjunctive.proofs.ranges.of_fixed_schedules.charges.Statement as stated
+use Rattle.disjunctive.proofs.ranges.of_fixed_schedules.charges.Code as code
 
 abbrev Arg : Type 0
 Arg = RefT Propagator × (RefT (List Range) × (RefT (List ℤ) × Unit {0}))
@@ -182,4 +182,4 @@ charges-spec 𝓤 H 𝓜 𝓖 𝓡 =
     (tables 𝓤 H 𝓜 𝓡 code.env .C) (tables 𝓤 H 𝓜 𝓡 code.env .Λ) #charges code.function (code.unfolded 𝓤 H 𝓜 𝓡)
     (f-meets 𝓤 H (𝓖 .A) (givenOf 𝓤 H 𝓜 𝓖) (𝓜 .mem) (𝓡 .run) (tablesOf 𝓤 H 𝓜 (tables 𝓤 H 𝓜 𝓡 code.env))
     (cited 𝓤 H (StartsOf 𝓤 H (𝓖 .A) (𝓜 .mem) (𝓡 .run)) 𝓜 𝓡 code.env #starts-of starts-of-def.routine code.calls-disjunctive·ranges·starts-of (starts-of-thm.met 𝓤 H 𝓜 𝓖 𝓡))
-    (cited 𝓤 H (Core 𝓤 H (𝓖 .A) (𝓜 .mem) (𝓡 .run)) 𝓜 𝓡 code.env #charges-core charges-core-def.routine code.calls-disjunctive·ranges·fixed-schedules·charges-core (charges-core-thm.met 𝓤 H 𝓜 𝓖 𝓡)))
+    (cited 𝓤 H (Core 𝓤 H (𝓖 .A) (𝓜 .mem) (𝓡 .run)) 𝓜 𝓡 code.env #charges-core charges-core-def.routine code.calls-disjunctive·ranges·of-fixed-schedules·charges-core (charges-core-thm.met 𝓤 H 𝓜 𝓖 𝓡)))

@@ -1,4 +1,4 @@
--- `ranges::fixed_schedules::page_core` meets its contract: what `page` ensures of the first `count` places of the arrays.
+-- `ranges::of_fixed_schedules::page_core` meets its contract: what `page` ensures of the first `count` places of the arrays.
 -- Assumes nothing.
 use mathlib.Core.Path.{_≡_, sym, _∙_}
 use lib.ListN.{length, length-map}
@@ -6,8 +6,8 @@ use lib.Seq.{length-take-le}
 use native.Mathlib.Omega.{arith}
 use borrow.Author.Needs.{needs}
 use Rattle.integers.specs.Limits.{TASKS}
-use Rattle.disjunctive.proofs.ranges.fixed_schedules.page_core.Statement.{statement}
-use Rattle.disjunctive.proofs.ranges.fixed_schedules.page_core.Tie as tie
+use Rattle.disjunctive.proofs.ranges.of_fixed_schedules.page_core.Statement.{statement}
+use Rattle.disjunctive.proofs.ranges.of_fixed_schedules.page_core.Tie as tie
 
 -- both arrays have all their places
 all-earliest : (c : tie.Start) → length (c .args .starts .earliest) ≡ TASKS

@@ -1,4 +1,4 @@
--- `ranges::fixed_schedules::busiest_stretch` meets its contract: a walk of its MIR, by hand. The ranges are passed on to `starts_of` as they are; the record's borrow is looked into, the record copied, and the borrow shut.
+-- `ranges::of_fixed_schedules::busiest_stretch` meets its contract: a walk of its MIR, by hand. The ranges are passed on to `starts_of` as they are; the record's borrow is looked into, the record copied, and the borrow shut.
 -- Of what is lent nothing is kept: both references are shared.
 -- Assumes nothing.
 use mathlib.Core.Path.{refl}
@@ -59,14 +59,14 @@ use Rattle.disjunctive.proofs.ranges.Starts.Laws as S′
 use Rattle.disjunctive.proofs.ranges.starts_of.Symbol as starts-of-def
 use Rattle.disjunctive.proofs.ranges.starts_of.Symbol.{name as #starts-of}
 use Rattle.disjunctive.proofs.ranges.starts_of.Met as starts-of-thm
-use Rattle.disjunctive.proofs.ranges.fixed_schedules.stretch_core as stretch-core
-use Rattle.disjunctive.proofs.ranges.fixed_schedules.stretch_core.Symbol as stretch-core-def
-use Rattle.disjunctive.proofs.ranges.fixed_schedules.stretch_core.Symbol.{name as #stretch-core}
-use Rattle.disjunctive.proofs.ranges.fixed_schedules.stretch_core.Met as stretch-core-thm
-use Rattle.disjunctive.proofs.ranges.fixed_schedules.busiest_stretch.Key.{name as #busiest-stretch}
-use Rattle.disjunctive.proofs.ranges.fixed_schedules.busiest_stretch as f
-use Rattle.disjunctive.proofs.ranges.fixed_schedules.busiest_stretch.Statement as stated
-use Rattle.disjunctive.proofs.ranges.fixed_schedules.busiest_stretch.Code as code
+use Rattle.disjunctive.proofs.ranges.of_fixed_schedules.stretch_core as stretch-core
+use Rattle.disjunctive.proofs.ranges.of_fixed_schedules.stretch_core.Symbol as stretch-core-def
+use Rattle.disjunctive.proofs.ranges.of_fixed_schedules.stretch_core.Symbol.{name as #stretch-core}
+use Rattle.disjunctive.proofs.ranges.of_fixed_schedules.stretch_core.Met as stretch-core-thm
+use Rattle.disjunctive.proofs.ranges.of_fixed_schedules.busiest_stretch.Key.{name as #busiest-stretch}
+use Rattle.disjunctive.proofs.ranges.of_fixed_schedules.busiest_stretch as f
+use Rattle.disjunctive.proofs.ranges.of_fixed_schedules.busiest_stretch.Statement as stated
+use Rattle.disjunctive.proofs.ranges.of_fixed_schedules.busiest_stretch.Code as code
 
 abbrev Arg : Type 0
 Arg = RefT Propagator × (RefT (List Range) × (ℤ × Unit {0}))
@@ -172,4 +172,4 @@ busiest-stretch-spec 𝓤 H 𝓜 𝓖 𝓡 =
     (tables 𝓤 H 𝓜 𝓡 code.env .C) (tables 𝓤 H 𝓜 𝓡 code.env .Λ) #busiest-stretch code.function (code.unfolded 𝓤 H 𝓜 𝓡)
     (f-meets 𝓤 H (𝓖 .A) (givenOf 𝓤 H 𝓜 𝓖) (𝓜 .mem) (𝓡 .run) (tablesOf 𝓤 H 𝓜 (tables 𝓤 H 𝓜 𝓡 code.env))
     (cited 𝓤 H (StartsOf 𝓤 H (𝓖 .A) (𝓜 .mem) (𝓡 .run)) 𝓜 𝓡 code.env #starts-of starts-of-def.routine code.calls-disjunctive·ranges·starts-of (starts-of-thm.met 𝓤 H 𝓜 𝓖 𝓡))
-    (cited 𝓤 H (Core 𝓤 H (𝓖 .A) (𝓜 .mem) (𝓡 .run)) 𝓜 𝓡 code.env #stretch-core stretch-core-def.routine code.calls-disjunctive·ranges·fixed-schedules·stretch-core (stretch-core-thm.met 𝓤 H 𝓜 𝓖 𝓡)))
+    (cited 𝓤 H (Core 𝓤 H (𝓖 .A) (𝓜 .mem) (𝓡 .run)) 𝓜 𝓡 code.env #stretch-core stretch-core-def.routine code.calls-disjunctive·ranges·of-fixed-schedules·stretch-core (stretch-core-thm.met 𝓤 H 𝓜 𝓖 𝓡)))

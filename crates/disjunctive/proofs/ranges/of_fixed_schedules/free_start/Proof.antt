@@ -1,4 +1,4 @@
--- `ranges::fixed_schedules::free_start` meets its contract: a walk of its MIR, by hand. The ranges are passed on to `starts_of` as they are; the record's borrow is looked into, the record copied, and the borrow shut.
+-- `ranges::of_fixed_schedules::free_start` meets its contract: a walk of its MIR, by hand. The ranges are passed on to `starts_of` as they are; the record's borrow is looked into, the record copied, and the borrow shut.
 -- Of what is lent nothing is kept: both references are shared.
 -- Assumes nothing.
 use mathlib.Core.Path.{refl}
@@ -59,14 +59,14 @@ use Rattle.disjunctive.proofs.ranges.Starts.Laws as S′
 use Rattle.disjunctive.proofs.ranges.starts_of.Symbol as starts-of-def
 use Rattle.disjunctive.proofs.ranges.starts_of.Symbol.{name as #starts-of}
 use Rattle.disjunctive.proofs.ranges.starts_of.Met as starts-of-thm
-use Rattle.disjunctive.proofs.ranges.fixed_schedules.free_core as free-core
-use Rattle.disjunctive.proofs.ranges.fixed_schedules.free_core.Symbol as free-core-def
-use Rattle.disjunctive.proofs.ranges.fixed_schedules.free_core.Symbol.{name as #free-core}
-use Rattle.disjunctive.proofs.ranges.fixed_schedules.free_core.Met as free-core-thm
-use Rattle.disjunctive.proofs.ranges.fixed_schedules.free_start.Key.{name as #free-start}
-use Rattle.disjunctive.proofs.ranges.fixed_schedules.free_start as f
-use Rattle.disjunctive.proofs.ranges.fixed_schedules.free_start.Statement as stated
-use Rattle.disjunctive.proofs.ranges.fixed_schedules.free_start.Code as code
+use Rattle.disjunctive.proofs.ranges.of_fixed_schedules.free_core as free-core
+use Rattle.disjunctive.proofs.ranges.of_fixed_schedules.free_core.Symbol as free-core-def
+use Rattle.disjunctive.proofs.ranges.of_fixed_schedules.free_core.Symbol.{name as #free-core}
+use Rattle.disjunctive.proofs.ranges.of_fixed_schedules.free_core.Met as free-core-thm
+use Rattle.disjunctive.proofs.ranges.of_fixed_schedules.free_start.Key.{name as #free-start}
+use Rattle.disjunctive.proofs.ranges.of_fixed_schedules.free_start as f
+use Rattle.disjunctive.proofs.ranges.of_fixed_schedules.free_start.Statement as stated
+use Rattle.disjunctive.proofs.ranges.of_fixed_schedules.free_start.Code as code
 
 abbrev Arg : Type 0
 Arg = RefT Propagator × (RefT (List Range) × (ℤ × (ℤ × Unit {0})))
@@ -172,4 +172,4 @@ free-start-spec 𝓤 H 𝓜 𝓖 𝓡 =
     (tables 𝓤 H 𝓜 𝓡 code.env .C) (tables 𝓤 H 𝓜 𝓡 code.env .Λ) #free-start code.function (code.unfolded 𝓤 H 𝓜 𝓡)
     (f-meets 𝓤 H (𝓖 .A) (givenOf 𝓤 H 𝓜 𝓖) (𝓜 .mem) (𝓡 .run) (tablesOf 𝓤 H 𝓜 (tables 𝓤 H 𝓜 𝓡 code.env))
     (cited 𝓤 H (StartsOf 𝓤 H (𝓖 .A) (𝓜 .mem) (𝓡 .run)) 𝓜 𝓡 code.env #starts-of starts-of-def.routine code.calls-disjunctive·ranges·starts-of (starts-of-thm.met 𝓤 H 𝓜 𝓖 𝓡))
-    (cited 𝓤 H (Core 𝓤 H (𝓖 .A) (𝓜 .mem) (𝓡 .run)) 𝓜 𝓡 code.env #free-core free-core-def.routine code.calls-disjunctive·ranges·fixed-schedules·free-core (free-core-thm.met 𝓤 H 𝓜 𝓖 𝓡)))
+    (cited 𝓤 H (Core 𝓤 H (𝓖 .A) (𝓜 .mem) (𝓡 .run)) 𝓜 𝓡 code.env #free-core free-core-def.routine code.calls-disjunctive·ranges·of-fixed-schedules·free-core (free-core-thm.met 𝓤 H 𝓜 𝓖 𝓡)))
