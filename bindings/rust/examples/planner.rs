@@ -4,7 +4,7 @@
 //!
 //! A line of the file is a register: its name, earliest start, latest start and duration. What is printed is a plan, a line for each register by
 //! start, or that there is none.
-use reedgrit::{Atom, Outcome, Propagator, Range, Refused, Verdict, Words, check};
+use reedgrit::{Atom, Comparison, Mirrored, Outcome, Propagator, Range, Refused, Verdict, Words, check, check_mirrored};
 use std::fmt::Write;
 
 /// A register that is to be read on the machine.
@@ -15,16 +15,23 @@ struct Register {
     duration: i32,
 }
 
-/// A reason that a run gave: the atoms, and the post that follows from them; none for an overload.
+/// A reason that a pass gave: the atoms, and the post that follows from them; none for an overload. It holds for whatever ranges meet its atoms, so
+/// it is tried at each later node of the search before a pass is made.
 struct Kept {
     reason: Vec<Atom>,
     post: Option<Atom>,
 }
 
 impl Kept {
-    /// Keeps a reason that passes the check, as each reason of a run does.
-    fn new(durations: &[i32], reason: &[Atom], post: Option<Atom>) -> Kept {
+    /// Keeps a reason of a run, which passes the check.
+    fn of_run(durations: &[i32], reason: &[Atom], post: Option<Atom>) -> Kept {
         assert_eq!(check(durations, reason, post), Ok(Verdict::Passed));
+        Kept { reason: reason.to_vec(), post }
+    }
+
+    /// Keeps a reason of a mirrored pass, which passes the mirrored check.
+    fn of_mirrored(durations: &[i32], reason: &[Atom], post: Option<Atom>) -> Kept {
+        assert_eq!(check_mirrored(durations, reason, post), Ok(Verdict::Passed));
         Kept { reason: reason.to_vec(), post }
     }
 }
@@ -33,67 +40,22 @@ impl Kept {
 #[derive(Debug)]
 struct Conflict;
 
-/// One direction of time, with the reasons that its runs gave. They hold for whatever ranges meet their atoms, so they are tried at each later
-/// node of the search before a run is made.
-#[derive(Default)]
-struct Direction {
-    kept: Vec<Kept>,
-}
-
-impl Direction {
-    /// Raises the earliest starts by what was kept, and says whether one rose.
-    fn recall(&self, ranges: &mut [Range]) -> Result<bool, Conflict> {
-        let mut raised = false;
-        for kept in &self.kept {
-            if !kept.reason.iter().all(|atom| atom.holds(ranges)) {
-                continue;
-            }
-            let post = kept.post.ok_or(Conflict)?;
-            let range = &mut ranges[post.variable()];
-            if post.value() > range.latest {
-                return Err(Conflict);
-            }
-            if post.value() > range.earliest {
-                range.earliest = post.value();
-                raised = true;
-            }
-        }
-        Ok(raised)
+/// Narrows the range that a post is about, and says whether it changed.
+fn narrowed(post: Atom, ranges: &mut [Range]) -> Result<bool, Conflict> {
+    let range = &mut ranges[post.variable()];
+    let before = *range;
+    match post.comparison() {
+        Comparison::LessEqual => range.latest = range.latest.min(post.value()),
+        _ => range.earliest = range.earliest.max(post.value()),
     }
-
-    /// Raises the earliest starts by one run, keeps its reasons, and says whether one rose.
-    fn run(&mut self, propagator: &mut Propagator, words: &mut Words, ranges: &mut [Range]) -> Result<bool, Conflict> {
-        let outcome = propagator.run(ranges, words).expect("as many ranges as tasks, within the limits");
-        let durations = propagator.durations();
-        for post in outcome.posts() {
-            self.kept.push(Kept::new(durations, post.reason, Some(post.atom())));
-        }
-        match outcome {
-            Outcome::Done { posts, .. } => Ok(posts.len() > 0),
-            // The last post's reason is kept, and with it the conflict: wherever it holds, the post passes the latest start.
-            Outcome::Emptied { .. } => Err(Conflict),
-            Outcome::Overload { reason, .. } => {
-                self.kept.push(Kept::new(durations, reason, None));
-                Err(Conflict)
-            }
-        }
-    }
-}
-
-/// The ranges in mirrored time, in which a task that starts at s and lasts p starts at −s − p. What raises earliest starts there lowers latest
-/// starts here. Mirrored twice, ranges are as they were.
-fn mirrored(ranges: &mut [Range], durations: &[i32]) {
-    for (range, duration) in ranges.iter_mut().zip(durations) {
-        *range = Range::new(-range.latest - duration, -range.earliest - duration);
-    }
+    if range.earliest > range.latest { Err(Conflict) } else { Ok(*range != before) }
 }
 
 /// The search: depth first, on which register goes next.
 struct Planner {
     propagator: Propagator,
     words: Words,
-    forward: Direction,
-    backward: Direction,
+    kept: Vec<Kept>,
     nodes: usize,
 }
 
@@ -101,19 +63,61 @@ impl Planner {
     fn new(durations: &[i32]) -> Result<Planner, Refused> {
         let propagator = Propagator::new(durations)?;
         let words = propagator.words();
-        Ok(Planner { propagator, words, forward: Direction::default(), backward: Direction::default(), nodes: 0 })
+        Ok(Planner { propagator, words, kept: Vec::new(), nodes: 0 })
+    }
+
+    /// Narrows the ranges by what was kept, and says whether one changed.
+    fn recall(&self, ranges: &mut [Range]) -> Result<bool, Conflict> {
+        let mut changed = false;
+        for kept in &self.kept {
+            if kept.reason.iter().all(|atom| atom.holds(ranges)) {
+                changed |= narrowed(kept.post.ok_or(Conflict)?, ranges)?;
+            }
+        }
+        Ok(changed)
+    }
+
+    /// Raises the earliest starts by one run, keeps its reasons, and says whether one rose.
+    fn raise(&mut self, ranges: &mut [Range]) -> Result<bool, Conflict> {
+        let durations = self.propagator.durations().to_vec();
+        let outcome = self.propagator.run(ranges, &mut self.words).expect("as many ranges as tasks, within the limits");
+        for post in outcome.posts() {
+            self.kept.push(Kept::of_run(&durations, post.reason, Some(post.atom())));
+        }
+        match outcome {
+            Outcome::Done { posts, .. } => Ok(posts.len() > 0),
+            // The last post's reason is kept, and with it the conflict: wherever it holds, the post passes the latest start.
+            Outcome::Emptied { .. } => Err(Conflict),
+            Outcome::Overload { reason, .. } => {
+                self.kept.push(Kept::of_run(&durations, reason, None));
+                Err(Conflict)
+            }
+        }
+    }
+
+    /// Lowers the latest starts by one mirrored pass, keeps its reasons, and says whether one fell.
+    fn lower(&mut self, ranges: &mut [Range]) -> Result<bool, Conflict> {
+        let durations = self.propagator.durations().to_vec();
+        let outcome = self.propagator.run_mirrored(ranges, &mut self.words).expect("as many ranges as tasks, within the limits");
+        for post in outcome.posts() {
+            self.kept.push(Kept::of_mirrored(&durations, post.reason, Some(post.atom())));
+        }
+        match outcome {
+            Mirrored::Done { posts } => Ok(posts.len() > 0),
+            Mirrored::Emptied { .. } => Err(Conflict),
+            Mirrored::Overload { reason, .. } => {
+                self.kept.push(Kept::of_mirrored(&durations, reason, None));
+                Err(Conflict)
+            }
+        }
     }
 
     /// Narrows the ranges from both sides until nothing changes. No plan is lost.
     fn narrow(&mut self, ranges: &mut [Range]) -> Result<(), Conflict> {
-        let durations = self.propagator.durations().to_vec();
         loop {
-            while self.forward.recall(ranges)? {}
-            let raised = self.forward.run(&mut self.propagator, &mut self.words, ranges)?;
-            mirrored(ranges, &durations);
-            while self.backward.recall(ranges)? {}
-            let lowered = self.backward.run(&mut self.propagator, &mut self.words, ranges)?;
-            mirrored(ranges, &durations);
+            while self.recall(ranges)? {}
+            let raised = self.raise(ranges)?;
+            let lowered = self.lower(ranges)?;
             if !raised && !lowered {
                 return Ok(());
             }
@@ -154,12 +158,8 @@ fn plan(registers: &[Register]) -> Result<(Option<Vec<i32>>, Planner), Refused> 
     let durations: Vec<i32> = registers.iter().map(|register| register.duration).collect();
     let ranges: Vec<Range> = registers.iter().map(|register| register.range).collect();
     let mut planner = Planner::new(&durations)?;
-    // The first run says whether the ranges are within the limits; those of the search lie within them, mirrored too where these do.
-    let mut turned = ranges.clone();
-    planner.propagator.run(&mut turned, &mut planner.words)?;
-    turned.clone_from(&ranges);
-    mirrored(&mut turned, &durations);
-    planner.propagator.run(&mut turned, &mut planner.words)?;
+    // The first run says whether the ranges are within the limits; those of the search lie within these.
+    planner.propagator.run(&mut ranges.clone(), &mut planner.words)?;
     let all: Vec<usize> = (0..registers.len()).collect();
     let found = planner.search(ranges, &all);
     Ok((found, planner))
@@ -207,8 +207,7 @@ fn main() -> Result<(), Box<dyn std::error::Error>> {
     let Some(file) = words.first() else { return Err("usage: planner FILE [SVG]".into()) };
     let registers = registers(&std::fs::read_to_string(file)?)?;
     let (found, planner) = plan(&registers)?;
-    let kept = planner.forward.kept.len() + planner.backward.kept.len();
-    eprintln!("{} nodes, {kept} reasons kept and checked", planner.nodes);
+    eprintln!("{} nodes, {} reasons kept and checked", planner.nodes, planner.kept.len());
     let Some(starts) = found else {
         println!("there is no plan");
         return Ok(());

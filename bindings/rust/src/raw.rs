@@ -225,7 +225,14 @@ pub(crate) fn check_mirrored(durations: &[i32], premises: &[i32], consequent: &[
     agree();
     // SAFETY: as the module says.
     unsafe {
-        reedgrit_check_mirrored(durations.as_ptr(), durations.len(), premises.as_ptr(), premises.len(), consequent.as_ptr(), consequent.len())
+        reedgrit_check_mirrored(
+            durations.as_ptr(),
+            durations.len(),
+            premises.as_ptr(),
+            premises.len(),
+            consequent.as_ptr(),
+            consequent.len(),
+        )
     }
 }
 
@@ -339,7 +346,10 @@ mod tests {
         let mut ranges = [Range::new(0, 6), Range::new(1, 5), Range::new(0, 20)];
         let (mut posts, mut atoms, mut page_bytes) = ([7; 12], [8; 54], [9; 124]);
         let refused = CountAnswer { kind: 3, number: 20, count: 0 };
-        assert_eq!(run_mirrored(&broken, &mut ranges, &mut posts, &mut atoms), MirroredAnswer { kind: 3, number: 20, posts: 0, first: 0, count: 0 });
+        assert_eq!(
+            run_mirrored(&broken, &mut ranges, &mut posts, &mut atoms),
+            MirroredAnswer { kind: 3, number: 20, posts: 0, first: 0, count: 0 }
+        );
         assert_eq!(overload_test(&broken, &ranges), refused);
         assert_eq!(precedences(&broken, &mut ranges), refused);
         assert_eq!(precedence_reason(&broken, &ranges, 0, &mut atoms), refused);

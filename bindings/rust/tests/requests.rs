@@ -121,7 +121,9 @@ fn the_mirrored_pass_is_a_run_on_mirrored_input() {
 fn the_two_checks_are_turned_back_alike() {
     let premises = [Atom::at_least(0, 0), Atom::at_most(0, 5)];
     for durations in [&[][..], &[0], &[1; 49], &[200_000_000, 200_000_001], &[1, 2]] {
-        for consequent in [None, Some(Atom::at_least(1, 3)), Some(Atom::at_least(64, 3)), Some(Atom::at_most(0, -1)), Some(Atom::at_most(0, 900_000_001))] {
+        for consequent in
+            [None, Some(Atom::at_least(1, 3)), Some(Atom::at_least(64, 3)), Some(Atom::at_most(0, -1)), Some(Atom::at_most(0, 900_000_001))]
+        {
             let (here, there) = (check(durations, &premises, consequent), check_mirrored(durations, &premises, consequent));
             match here {
                 Ok(Verdict::Passed | Verdict::NotPassed) => assert!(matches!(there, Ok(Verdict::Passed | Verdict::NotPassed))),
@@ -212,7 +214,8 @@ fn fixed_schedules_minute_by_minute() {
     for _ in 0..500 {
         let (durations, ranges) = numbers.schedule();
         let propagator = Propagator::new(&durations).unwrap();
-        let covered = |minute: i32| (0..durations.len()).any(|k| ranges[k].earliest <= minute && minute < ranges[k].earliest + durations[k]);
+        let covered =
+            |minute: i32| (0..durations.len()).any(|k| ranges[k].earliest <= minute && minute < ranges[k].earliest + durations[k]);
         let (from, length) = (numbers.below(40) - 20, 1 + numbers.below(6));
         let free = (from..).find(|start| (*start..start + length).all(|minute| !covered(minute)));
         assert_eq!(propagator.free_start(&ranges, from, length).ok(), free);
