@@ -1,7 +1,7 @@
 -- The definitions at small inputs.
 -- Assumes nothing.
 use mathlib.Core.Path.{_≡_, refl}
-use mathlib.Core.Bool.{Bool}
+use mathlib.Core.Bool.{Bool, true, false}
 use mathlib.Core.List.{List, [], _∷_, map}
 use Prim.Native.Nat.{ℕ, _+_, _-_}
 use lib.IntN.{ℤ, pos, negsuc}
@@ -46,27 +46,31 @@ sum-above = refl
 two : Propagator
 two = newRecord (pos 4 ∷ pos 5 ∷ [])
 
-record-first : runNumber zeroRecord (pos 0 ∷ []) [] 0 0 ≡ 20
+record-first : runNumber zeroRecord (pos 0 ∷ []) [] false 0 0 ≡ 20
 unfolding refusal lawfulRecord allBelow
 record-first = refl
 
-counts-next : runNumber two (pos (START + 1) ∷ pos 0 ∷ []) (pos 0 ∷ []) 0 0 ≡ 10
+counts-next : runNumber two (pos (START + 1) ∷ pos 0 ∷ []) (pos 0 ∷ []) false 0 0 ≡ 10
 unfolding two refusal lawfulRecord allBelow unusedAt filled total
 counts-next = refl
 
-starts-next : runNumber two (pos 1 ∷ pos 0 ∷ []) (pos 0 ∷ pos (START + 1) ∷ []) 0 0 ≡ 3
+starts-next : runNumber two (pos 1 ∷ pos 0 ∷ []) (pos 0 ∷ pos (START + 1) ∷ []) false 0 0 ≡ 3
 unfolding two refusal lawfulRecord allBelow unusedAt filled total
 starts-next = refl
 
-ranges-next : runNumber two (pos 1 ∷ pos 0 ∷ []) (pos 0 ∷ pos START ∷ []) 0 0 ≡ 4
+ranges-next : runNumber two (pos 1 ∷ pos 0 ∷ []) (pos 0 ∷ pos START ∷ []) false 0 0 ≡ 4
 unfolding two refusal lawfulRecord allBelow unusedAt filled total
 ranges-next = refl
 
-words-last : runNumber two (negsuc 4 ∷ pos 0 ∷ []) (pos 0 ∷ pos START ∷ []) 8 23 ≡ 9
+bars-next : runNumber two (negsuc 4 ∷ pos 0 ∷ []) (pos 0 ∷ pos START ∷ []) false 0 0 ≡ 13
+unfolding two refusal lawfulRecord allBelow unusedAt filled total
+bars-next = refl
+
+words-last : runNumber two (negsuc 4 ∷ pos 0 ∷ []) (pos 0 ∷ pos START ∷ []) true 8 23 ≡ 9
 unfolding two refusal lawfulRecord allBelow unusedAt filled total
 words-last = refl
 
-accepted : runNumber two (negsuc 4 ∷ pos 0 ∷ []) (pos 0 ∷ pos START ∷ []) 8 24 ≡ 0
+accepted : runNumber two (negsuc 4 ∷ pos 0 ∷ []) (pos 0 ∷ pos START ∷ []) true 8 24 ≡ 0
 unfolding two refusal lawfulRecord allBelow unusedAt filled total
 accepted = refl
 

@@ -24,25 +24,33 @@ startFitsAt xs k = withinAt (negℤ (pos START)) (pos START) xs k
 abbrev pub rangeFitsAt : List ℤ → List ℤ → ℕ → Bool
 rangeFitsAt es ls k = leZ (getD es k (pos 0)) (getD ls k (pos 0))
 
--- What a run and a page refuse of a record and its ranges.
+-- What every call refuses of a record and its ranges; one on a fixed schedule reads no more of them.
 -- 20: a record that is not lawful; 10: a count of starts that differs from n; 3: a start out of the limits; 4: earliest above latest
-abbrev pub inputTests : Propagator → List ℤ → List ℤ → List Test
-inputTests r es ls =
+abbrev pub rangeTests : Propagator → List ℤ → List ℤ → List Test
+rangeTests r es ls =
     test 20 (lawfulRecord r)
     ∷ test 10 (eqb (length es) (r .count) && eqb (length ls) (r .count))
     ∷ test 3 (allBelow (startFitsAt es) (length es) && allBelow (startFitsAt ls) (length ls))
     ∷ test 4 (allBelow (rangeFitsAt es ls) (length es))
     ∷ []
 
-abbrev pub inputNumber : Propagator → List ℤ → List ℤ → ℕ
-inputNumber r es ls = refusal (inputTests r es ls)
+abbrev pub rangeNumber : Propagator → List ℤ → List ℤ → ℕ
+rangeNumber r es ls = refusal (rangeTests r es ls)
+
+-- What a call on ranges refuses of a record and its ranges.
+-- 20, 10, 3 and 4, and then 13: bars that do not fit; whoever holds them has tried it
+abbrev pub inputTests : Propagator → List ℤ → List ℤ → Bool → List Test
+inputTests r es ls bars = rangeTests r es ls ++ (test 13 bars ∷ [])
+
+abbrev pub inputNumber : Propagator → List ℤ → List ℤ → Bool → ℕ
+inputNumber r es ls bars = refusal (inputTests r es ls bars)
 
 -- those, and then 9: post words below 4n or atom words below 6n²
-abbrev pub runTests : Propagator → List ℤ → List ℤ → ℕ → ℕ → List Test
-runTests r es ls postWords atomWords = inputTests r es ls ++ (test 9 (leb (4 * r .count) postWords && leb (6 * (r .count * r .count)) atomWords) ∷ [])
+abbrev pub runTests : Propagator → List ℤ → List ℤ → Bool → ℕ → ℕ → List Test
+runTests r es ls bars postWords atomWords = inputTests r es ls bars ++ (test 9 (leb (4 * r .count) postWords && leb (6 * (r .count * r .count)) atomWords) ∷ [])
 
-abbrev pub runNumber : Propagator → List ℤ → List ℤ → ℕ → ℕ → ℕ
-runNumber r es ls postWords atomWords = refusal (runTests r es ls postWords atomWords)
+abbrev pub runNumber : Propagator → List ℤ → List ℤ → Bool → ℕ → ℕ → ℕ
+runNumber r es ls bars postWords atomWords = refusal (runTests r es ls bars postWords atomWords)
 
 -- The same tests as facts, one record for each number.
 pub record StartFits (z : ℤ) : Type 0 where

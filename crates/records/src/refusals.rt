@@ -6,7 +6,7 @@ ghost use lib.ListN.{length};
 ghost use lib.Signed.{leZ};
 ghost use Rattle.integers.specs.Tests.{allBelow};
 ghost use Rattle.records.specs.Records.{recordOf};
-ghost use Rattle.records.specs.Refusals.{withinAt, startFitsAt, rangeFitsAt, inputNumber, runNumber};
+ghost use Rattle.records.specs.Refusals.{withinAt, startFitsAt, rangeFitsAt, rangeNumber, inputNumber, runNumber};
 
 // Whether x is from low to high.
 pub fn within(x: i32, low: i32, high: i32) -> bool
@@ -54,15 +54,15 @@ pub fn ranges_fit(earliest: &[i32], latest: &[i32]) -> bool
     true
 }
 
-// The number that turns a run or a page back for its record and its ranges, or 0: 20, 10, 3, 4.
-pub fn input_refusal(
+// The number that turns any call back for its record and its ranges, or 0: 20, 10, 3, 4.
+pub fn range_refusal(
     n: usize,
     durations: &[u32; TASKS],
     total: u32,
     earliest: &[i32],
     latest: &[i32],
 ) -> u32
-    ensures { λ r. ⌜ r ≡ inputNumber (recordOf n (now (durations .entry)) total) (now (earliest .entry)) (now (latest .entry)) ⌝ }
+    ensures { λ r. ⌜ r ≡ rangeNumber (recordOf n (now (durations .entry)) total) (now (earliest .entry)) (now (latest .entry)) ⌝ }
 {
     if !super::record::lawful(n, durations, total) {
         return 20;
@@ -85,19 +85,38 @@ pub fn input_refusal(
     0
 }
 
-// The number that turns a run back, or 0: 20, 10, 3, 4, 9.
+// The number that turns a call on ranges back for its record, its ranges and their bars, or 0: 20, 10, 3, 4, 13.
+pub fn input_refusal(
+    n: usize,
+    durations: &[u32; TASKS],
+    total: u32,
+    earliest: &[i32],
+    latest: &[i32],
+    bars_fit: bool,
+) -> u32
+    ensures { λ r. ⌜ r ≡ inputNumber (recordOf n (now (durations .entry)) total) (now (earliest .entry)) (now (latest .entry)) «bars_fit» ⌝ }
+{
+    let number = range_refusal(n, durations, total, earliest, latest);
+    if number == 0 && !bars_fit {
+        return 13;
+    }
+    number
+}
+
+// The number that turns a run back, or 0: 20, 10, 3, 4, 13, 9.
 pub fn run_refusal(
     n: usize,
     durations: &[u32; TASKS],
     total: u32,
     earliest: &[i32],
     latest: &[i32],
+    bars_fit: bool,
     post_words: usize,
     atom_words: usize,
 ) -> u32
-    ensures { λ r. ⌜ r ≡ runNumber (recordOf n (now (durations .entry)) total) (now (earliest .entry)) (now (latest .entry)) «post_words» «atom_words» ⌝ }
+    ensures { λ r. ⌜ r ≡ runNumber (recordOf n (now (durations .entry)) total) (now (earliest .entry)) (now (latest .entry)) «bars_fit» «post_words» «atom_words» ⌝ }
 {
-    let number = input_refusal(n, durations, total, earliest, latest);
+    let number = input_refusal(n, durations, total, earliest, latest, bars_fit);
     if number != 0 {
         return number;
     }

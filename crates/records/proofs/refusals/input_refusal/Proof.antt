@@ -1,16 +1,16 @@
--- At each return the tests before it are passed and its own is not; two returns share 10, and two share 3.
+-- 13 stands where the record and its ranges pass and the bars do not; else their number is given.
 use mathlib.Core.Path.{sym, _∙_}
+use mathlib.Core.Logic.{⊎-elim}
 use mathlib.Core.List.{[], _∷_}
-use lib.ListN.{length, take}
-use lib.Dec.{eqb}
-use borrow.Author.Tests.{not-true, not-false, eq-eqb, ne-eqb}
+use native.Mathlib.Omega.{arith}
+use borrow.Author.Tests.{not-true, not-false}
 use borrow.Author.Needs.{needs}
-use Rattle.integers.specs.Tests.{allBelow, test, AllPassed}
-use Rattle.integers.proofs.Bools.{and-left, and-right, and-yes}
-use Rattle.integers.proofs.Tests.{refuses, accepts}
+use Rattle.integers.specs.Tests.{test}
+use Rattle.integers.proofs.Tests.{refuses, refusal-before}
 use Rattle.records.specs.declared.record.Propagator.{Propagator}
 use Rattle.records.specs.Records.{recordOf}
-use Rattle.records.specs.Refusals.{startFitsAt, inputTests}
+use Rattle.records.specs.Refusals.{rangeTests}
+use Rattle.records.proofs.Refused.{ranges-passed, accepted-ranges, accepted-input}
 use Rattle.records.proofs.refusals.input_refusal.Statement.{statement}
 use Rattle.records.proofs.refusals.input_refusal.Tie as tie
 
@@ -18,74 +18,28 @@ use Rattle.records.proofs.refusals.input_refusal.Tie as tie
 abbrev lent : tie.Start → Propagator
 lent c = recordOf (c .args .n) (c .args .durations .now) (c .args .total)
 
--- the tests that are passed at each place
-first-one : (c : tie.Else1) → AllPassed (take 1 (inputTests (lent (c .before .before)) (c .before .before .args .earliest .now) (c .before .before .args .latest .now)))
-first-one c = (sym (c .before .lawful .ensures) ∙ not-false _ (c .if1 .left), tt)
-
-first-two : (c : tie.Else3) → AllPassed (take 2 (inputTests (lent (c .before .before .before .before)) (c .before .before .before .before .args .earliest .now) (c .before .before .before .before .args .latest .now)))
-first-two c = (first-one (c .before .before) .0, (and-yes _ _ (eq-eqb _ _ (c .before .if2 .left)) (eq-eqb _ _ (c .if3 .left)), tt))
-
-first-three : (c : tie.Else5) → AllPassed (take 3 (inputTests (lent (c .before .before .before .before .before .before .before .before)) (c .before .before .before .before .before .before .before .before .args .earliest .now) (c .before .before .before .before .before .before .before .before .args .latest .now)))
-first-three c =
-    let two = first-two (c .before .before .before .before) in
-    (two .0, (two .1 .0, (and-yes _ _ (sym (c .before .before .before .starts-fit .ensures) ∙ not-false _ (c .before .before .if4 .left)) (sym (c .before .starts-fit2 .ensures) ∙ not-false _ (c .if5 .left)), tt)))
-
-first-four : (c : tie.Else6) → AllPassed (take 4 (inputTests (lent (c .before .before .before .before .before .before .before .before .before .before)) (c .before .before .before .before .before .before .before .before .before .before .args .earliest .now) (c .before .before .before .before .before .before .before .before .before .before .args .latest .now)))
-first-four c =
-    let three = first-three (c .before .before) in
-    (three .0, (three .1 .0, (three .1 .1 .0, (sym (c .before .ranges-fit .ensures) ∙ not-false _ (c .if6 .left), tt))))
-
-lawful-requires : tie.Need-lawful-requires
-lawful-requires c κs = search needs
+range-refusal-requires : tie.Need-range-refusal-requires
+range-refusal-requires c κs = search needs
 
 returns : tie.Need-returns
-returns c = sym (refuses [] (test 20 _) _ tt (sym (c .before .lawful .ensures) ∙ not-true _ (c .if1 .taken)))
+returns c =
+    let start = c .before .before .before in let args = start .args in
+    let r = lent start in
+    let es = args .earliest .now in
+    let ls = args .latest .now in
+    sym (refuses (rangeTests r es ls) (test 13 (args .bars-fit)) [] (ranges-passed r es ls (omega (arith, c .before .before .range-refusal .ensures, c .before .if1 .taken))) (not-true _ (c .if2 .taken)))
 
 returns-2 : tie.Need-returns-2
-returns-2 c = sym (refuses (test 20 _ ∷ []) (test 10 _) _ (first-one (c .before)) (and-left _ _ (ne-eqb _ _ (c .if2 .taken))))
-
-returns-3 : tie.Need-returns-3
-returns-3 c =
-    let start = c .before .before .before .before in let args = start .args in
-    sym (refuses (test 20 _ ∷ []) (test 10 _) _ (first-one (c .before .before)) (and-right (eqb (length (args .earliest .now)) (args .n)) (eqb (length (args .latest .now)) (args .n)) (ne-eqb _ _ (c .if3 .taken))))
-
-starts-fit-requires : tie.Need-starts-fit-requires
-starts-fit-requires c κs = search needs
-
-returns-4 : tie.Need-returns-4
-returns-4 c = sym (refuses (test 20 _ ∷ test 10 _ ∷ []) (test 3 _) _ (first-two (c .before .before)) (and-left _ _ (sym (c .before .starts-fit .ensures) ∙ not-true _ (c .if4 .taken))))
-
-starts-fit-requires-2 : tie.Need-starts-fit-requires-2
-starts-fit-requires-2 c κs = search needs
-
-returns-5 : tie.Need-returns-5
-returns-5 c =
-    let es = c .before .before .before .before .before .before .before .before .args .earliest .now in
-    sym (refuses (test 20 _ ∷ test 10 _ ∷ []) (test 3 _) _ (first-two (c .before .before .before .before)) (and-right (allBelow (startFitsAt es) (length es)) _ (sym (c .before .starts-fit2 .ensures) ∙ not-true _ (c .if5 .taken))))
-
-ranges-fit-requires : tie.Need-ranges-fit-requires
-ranges-fit-requires c κs = search needs
-
-returns-6 : tie.Need-returns-6
-returns-6 c = sym (refuses (test 20 _ ∷ test 10 _ ∷ test 3 _ ∷ []) (test 4 _) _ (first-three (c .before .before)) (sym (c .before .ranges-fit .ensures) ∙ not-true _ (c .if6 .taken)))
-
-returns-7 : tie.Need-returns-7
-returns-7 c =
-    let start = c .before .before .before .before .before .before .before .before .before .before in let args = start .args in
-    sym (accepts (inputTests (lent start) (args .earliest .now) (args .latest .now)) (first-four c))
+returns-2 c =
+    let start = c .before .before in let args = start .args in
+    let r = lent start in
+    let es = args .earliest .now in
+    let ls = args .latest .now in
+    let e = c .before .range-refusal .ensures in
+    ⊎-elim
+    (λ w. w .0 .taken ∙ sym (accepted-input r es ls (args .bars-fit) .1 (accepted-ranges r es ls .0 (omega (arith, e, w .0 .taken)), not-false _ (w .1 .left))))
+    (λ w. e ∙ sym (refusal-before (rangeTests r es ls) (test 13 (args .bars-fit) ∷ []) (λ z. w .left (e ∙ z))))
+    (c .if1 .came)
 
 pub input-refusal-spec : {M : Type 1} → statement M
-input-refusal-spec =
-    tie.close
-    (tie.spec
-    lawful-requires
-    returns
-    returns-2
-    returns-3
-    starts-fit-requires
-    returns-4
-    starts-fit-requires-2
-    returns-5
-    ranges-fit-requires
-    returns-6
-    returns-7)
+input-refusal-spec = tie.close (tie.spec range-refusal-requires returns returns-2)

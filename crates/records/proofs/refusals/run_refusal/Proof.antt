@@ -1,4 +1,4 @@
--- The number of the record and its ranges goes before; then the words, whose products fit as n is at most TASKS.
+-- The number of the record, its ranges and their bars goes before; then the words, whose products fit as n is at most TASKS.
 use mathlib.Core.Path.{sym, _∙_}
 use Prim.Native.Nat.{_*_, _≤_}
 use native.Mathlib.Omega.{arith}
@@ -22,9 +22,9 @@ use Rattle.records.proofs.refusals.run_refusal.Tie as tie
 abbrev lent : tie.Start → Propagator
 lent c = recordOf (c .args .n) (c .args .durations .now) (c .args .total)
 
--- the record and its ranges pass, so there are few tasks
-passed : (c : tie.Else1) → let start = c .before .before in let args = start .args in AllPassed (inputTests (lent start) (args .earliest .now) (args .latest .now))
-passed c = let start = c .before .before in let args = start .args in input-passed (lent start) (args .earliest .now) (args .latest .now) (sym (c .before .input-refusal .ensures) ∙ c .if1 .left)
+-- those pass, so there are few tasks
+passed : (c : tie.Else1) → let start = c .before .before in let args = start .args in AllPassed (inputTests (lent start) (args .earliest .now) (args .latest .now) (args .bars-fit))
+passed c = let start = c .before .before in let args = start .args in input-passed (lent start) (args .earliest .now) (args .latest .now) (args .bars-fit) (sym (c .before .input-refusal .ensures) ∙ c .if1 .left)
 
 few : (c : tie.Else1) → c .before .before .args .n ≤ TASKS
 few c = (lawful-is (lent (c .before .before)) .0 (passed c .0)) .few
@@ -38,7 +38,7 @@ input-refusal-requires c κs = search needs
 returns : tie.Need-returns
 returns c =
     let start = c .before .before in let args = start .args in
-    c .before .input-refusal .ensures ∙ sym (refusal-before (inputTests (lent start) (args .earliest .now) (args .latest .now)) _ (λ z. c .if1 .taken (c .before .input-refusal .ensures ∙ z)))
+    c .before .input-refusal .ensures ∙ sym (refusal-before (inputTests (lent start) (args .earliest .now) (args .latest .now) (args .bars-fit)) _ (λ z. c .if1 .taken (c .before .input-refusal .ensures ∙ z)))
 
 mul-if2 : tie.Need-mul-if2
 mul-if2 c = record { fits = omega (arith, few c) }
@@ -46,7 +46,7 @@ mul-if2 c = record { fits = omega (arith, few c) }
 returns-2 : tie.Need-returns-2
 returns-2 c =
     let start = c .before .before .before in let args = start .args in
-    sym (words-short (lent start) (args .earliest .now) (args .latest .now) (args .post-words) (args .atom-words) (passed (c .before)) (and-left _ _ (lt-leb _ _ (c .if2 .taken))))
+    sym (words-short (lent start) (args .earliest .now) (args .latest .now) (args .bars-fit) (args .post-words) (args .atom-words) (passed (c .before)) (and-left _ _ (lt-leb _ _ (c .if2 .taken))))
 
 mul-if3 : tie.Need-mul-if3
 mul-if3 c = record { fits = omega (arith, few (c .before), squared (c .before)) }
@@ -58,12 +58,12 @@ returns-3 : tie.Need-returns-3
 returns-3 c =
     let start = c .before .before .before .before in let args = start .args in
     let n = args .n in
-    sym (words-short (lent start) (args .earliest .now) (args .latest .now) (args .post-words) (args .atom-words) (passed (c .before .before)) (and-right (leb (4 * n) (args .post-words)) (leb (6 * (n * n)) (args .atom-words)) (lt-leb _ _ (c .if3 .taken))))
+    sym (words-short (lent start) (args .earliest .now) (args .latest .now) (args .bars-fit) (args .post-words) (args .atom-words) (passed (c .before .before)) (and-right (leb (4 * n) (args .post-words)) (leb (6 * (n * n)) (args .atom-words)) (lt-leb _ _ (c .if3 .taken))))
 
 returns-4 : tie.Need-returns-4
 returns-4 c =
     let start = c .before .before .before .before in let args = start .args in
-    sym (words-enough (lent start) (args .earliest .now) (args .latest .now) (args .post-words) (args .atom-words) (passed (c .before .before)) (and-yes _ _ (le-leb _ _ (c .before .if2 .left)) (le-leb _ _ (c .if3 .left))))
+    sym (words-enough (lent start) (args .earliest .now) (args .latest .now) (args .bars-fit) (args .post-words) (args .atom-words) (passed (c .before .before)) (and-yes _ _ (le-leb _ _ (c .before .if2 .left)) (le-leb _ _ (c .if3 .left))))
 
 pub run-refusal-spec : {M : Type 1} → statement M
 run-refusal-spec =
