@@ -1,5 +1,6 @@
 -- What a run leaves, by the run's definition, and what that means.
 use mathlib.Core.Path.{_≡_}
+use mathlib.Core.Bool.{Bool}
 use mathlib.Core.List.{List, [], _∷_, _++_, map}
 use Prim.Native.Nat.{ℕ, _+_, _-_, _*_, _≤_, _<_}
 use lib.IntN.{ℤ, pos}
@@ -91,8 +92,8 @@ module _ (before : Propagator) (es ls : List ℤ) where
     pub post-words : posts′ ≡ posts
     pub atom-words : atoms′ ≡ atoms
 
--- A run hands back the record that it was lent. The first test that fails turns it back, and nothing changes; else it is accepted.
-pub record Ran (before : Propagator) (es ls posts atoms : List ℤ) (r : Run) (es′ posts′ atoms′ : List ℤ) : Type 0 where
+-- A run hands back the record that it was lent, and is told whether the bars of its ranges fit. The first test that fails turns it back, and nothing changes; else it is accepted.
+pub record Ran (before : Propagator) (es ls : List ℤ) (bars : Bool) (posts atoms : List ℤ) (r : Run) (es′ posts′ atoms′ : List ℤ) : Type 0 where
   pub keeps : r .«record» ≡ before
-  pub refused : (runNumber before es ls (length posts) (length atoms) ≡ 0 → ⊥) → Kept before es ls (runNumber before es ls (length posts) (length atoms)) posts atoms (r .outcome) (r .changes) es′ posts′ atoms′
-  pub accepted : runNumber before es ls (length posts) (length atoms) ≡ 0 → AcceptedRun before es ls posts atoms (r .outcome) (r .changes) es′ posts′ atoms′
+  pub refused : (runNumber before es ls bars (length posts) (length atoms) ≡ 0 → ⊥) → Kept before es ls (runNumber before es ls bars (length posts) (length atoms)) posts atoms (r .outcome) (r .changes) es′ posts′ atoms′
+  pub accepted : runNumber before es ls bars (length posts) (length atoms) ≡ 0 → AcceptedRun before es ls posts atoms (r .outcome) (r .changes) es′ posts′ atoms′

@@ -488,15 +488,16 @@ pub fn run_accepted(
     )
 }
 
-// A run on the record and the ranges. It hands back the record, which no run changes.
+// A run on the record and the ranges, told whether their bars fit. It hands back the record, which no run changes.
 pub fn propagate(
     record: Propagator,
     earliest: &mut [i32],
     latest: &[i32],
+    bars_fit: bool,
     posts: &mut [i32],
     atoms: &mut [i32],
 ) -> Run
-    ensures { λ r. ⌜ Ran «record» (now (earliest .entry)) (now (latest .entry)) (now (posts .entry)) (now (atoms .entry)) r (now (earliest .exit)) (now (posts .exit)) (now (atoms .exit)) ⌝ }
+    ensures { λ r. ⌜ Ran «record» (now (earliest .entry)) (now (latest .entry)) «bars_fit» (now (posts .entry)) (now (atoms .entry)) r (now (earliest .exit)) (now (posts .exit)) (now (atoms .exit)) ⌝ }
 {
     let number = run_refusal(
         record.count,
@@ -504,6 +505,7 @@ pub fn propagate(
         record.total,
         earliest,
         latest,
+        bars_fit,
         posts.len(),
         atoms.len(),
     );

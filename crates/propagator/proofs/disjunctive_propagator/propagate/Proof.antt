@@ -1,6 +1,7 @@
 -- `propagator::disjunctive_propagator::propagate` meets its contract: what no test turns back is run, and what is true of the definition's trace is true of what was left.
 -- Assumes nothing.
 use mathlib.Core.Path.{_≡_, refl, ap}
+use mathlib.Core.Bool.{true}
 use native.Mathlib.Omega.{arith}
 use lib.ListN.{length}
 use borrow.Author.Needs.{needs}
@@ -20,8 +21,8 @@ long : (c : tie.Start) → length (c .args .t1 .durations) ≡ TASKS
 long c = search needs
 
 -- no test failed
-passed : (c : tie.After-run-accepted-arg) → let a = c .before .before .before .before .before .before .args in Accepted (a .t1) (a .earliest .now) (a .latest .now) (length (a .posts .now)) (length (a .atoms .now))
-passed c = let a = c .before .before .before .before .before .before .args in accepted-run (a .t1) (a .earliest .now) (a .latest .now) (length (a .posts .now)) (length (a .atoms .now)) .0 (omega (arith, c .before .before .run-refusal .ensures))
+passed : (c : tie.After-run-accepted-arg) → let a = c .before .before .before .before .before .before .args in Accepted (a .t1) (a .earliest .now) (a .latest .now) (length (a .posts .now)) (length (a .atoms .now)) × (a .bars-fit ≡ true)
+passed c = let a = c .before .before .before .before .before .before .args in accepted-run (a .t1) (a .earliest .now) (a .latest .now) (a .bars-fit) (length (a .posts .now)) (length (a .atoms .now)) .0 (omega (arith, c .before .before .run-refusal .ensures))
 
 run-refusal-requires : tie.Need-run-refusal-requires
 run-refusal-requires c κs = search needs
@@ -33,11 +34,11 @@ returns : tie.Need-returns
 returns c =
     let n = c .before in
     let a = n .before .before .before .before .args in
-    turned-back (a .t1) (a .earliest .now) (a .latest .now) (a .posts .now) (a .atoms .now) _ _ _ _ refl (λ z. omega (arith, n .run-refusal .ensures))
+    turned-back (a .t1) (a .earliest .now) (a .latest .now) (a .bars-fit) (a .posts .now) (a .atoms .now) _ _ _ _ refl (λ z. omega (arith, n .run-refusal .ensures))
     (record { answer = ap refusedBy (n .run-refusal .ensures); changes = refl; starts = refl; post-words = refl; atom-words = refl })
 
 run-accepted-requires : tie.Need-run-accepted-requires
-run-accepted-requires c κs = let a = c .before .before .before .before .before .before .before .before .args in runnable (a .t1) (a .earliest .now) (a .latest .now) (length (a .posts .now)) (length (a .atoms .now)) (passed (c .before .before))
+run-accepted-requires c κs = let a = c .before .before .before .before .before .before .before .before .args in runnable (a .t1) (a .earliest .now) (a .latest .now) (length (a .posts .now)) (length (a .atoms .now)) (passed (c .before .before) .0)
 
 same-length-2 : tie.Need-same-length-2
 same-length-2 c = search needs
@@ -56,11 +57,11 @@ returns-2 c =
     let l = c .before .before .before .run-accepted .ensures in
     record {
       keeps = refl;
-      refused = λ h. absurd (h (accepted-run (a .t1) (a .earliest .now) (a .latest .now) (length (a .posts .now)) (length (a .atoms .now)) .1 (passed at)));
+      refused = λ h. absurd (h (accepted-run (a .t1) (a .earliest .now) (a .latest .now) (a .bars-fit) (length (a .posts .now)) (length (a .atoms .now)) .1 (passed at)));
       accepted = λ z. record {
         left = l;
-        right = right (a .t1) (a .earliest .now) (a .latest .now) (length (a .posts .now)) (length (a .atoms .now)) (runnable (a .t1) (a .earliest .now) (a .latest .now) (length (a .posts .now)) (length (a .atoms .now)) (passed at)) (long s);
-        passes = passing (a .t1) (a .earliest .now) (a .latest .now) (length (a .posts .now)) (length (a .atoms .now)) (passed at) (long s);
+        right = right (a .t1) (a .earliest .now) (a .latest .now) (length (a .posts .now)) (length (a .atoms .now)) (runnable (a .t1) (a .earliest .now) (a .latest .now) (length (a .posts .now)) (length (a .atoms .now)) (passed at .0)) (long s);
+        passes = passing (a .t1) (a .earliest .now) (a .latest .now) (length (a .posts .now)) (length (a .atoms .now)) (passed at .0) (long s);
         handed = handed (traceOf (a .t1) (a .earliest .now) (a .latest .now)) (a .posts .now) (a .atoms .now) (l .post-words) (l .atom-words);
       };
     }
