@@ -162,15 +162,16 @@ fn run_in_mirror(
     finished.outcome
 }
 
-// A mirrored pass on the record's durations and the ranges.
+// A mirrored pass on the record's durations and the ranges, told whether their bars fit.
 pub fn propagate_mirrored(
     record: Propagator,
     earliest: &[i32],
     latest: &mut [i32],
+    bars_fit: bool,
     posts: &mut [i32],
     atoms: &mut [i32],
 ) -> Outcome
-    ensures { λ r. ⌜ RanMirrored «record» (now (earliest .entry)) (now (latest .entry)) (now (posts .entry)) (now (atoms .entry)) r (now (latest .exit)) (now (posts .exit)) (now (atoms .exit)) ⌝ }
+    ensures { λ r. ⌜ RanMirrored «record» (now (earliest .entry)) (now (latest .entry)) «bars_fit» (now (posts .entry)) (now (atoms .entry)) r (now (latest .exit)) (now (posts .exit)) (now (atoms .exit)) ⌝ }
 {
     let number = run_refusal(
         record.count,
@@ -178,6 +179,7 @@ pub fn propagate_mirrored(
         record.total,
         earliest,
         latest,
+        bars_fit,
         posts.len(),
         atoms.len(),
     );

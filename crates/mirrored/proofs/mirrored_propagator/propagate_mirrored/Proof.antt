@@ -1,6 +1,7 @@
 -- `mirrored::mirrored_propagator::propagate_mirrored` meets its contract: what no test turns back is run in mirrored time and told in the caller's.
 -- Assumes nothing.
 use mathlib.Core.Path.{_≡_, refl, ap}
+use mathlib.Core.Bool.{true}
 use native.Mathlib.Omega.{arith}
 use lib.ListN.{length}
 use Rattle.integers.specs.Answers.{refusedBy}
@@ -20,8 +21,8 @@ long : (c : tie.Start) → length (c .args .t1 .durations) ≡ TASKS
 long c = search needs
 
 -- no test failed
-passed : (c : tie.Else1) → let a = c .before .before .before .before .before .args in Accepted (a .t1) (a .earliest .now) (a .latest .now) (length (a .posts .now)) (length (a .atoms .now))
-passed c = let a = c .before .before .before .before .before .args in accepted-run (a .t1) (a .earliest .now) (a .latest .now) (length (a .posts .now)) (length (a .atoms .now)) .0 (omega (arith, c .before .run-refusal .ensures))
+passed : (c : tie.Else1) → let a = c .before .before .before .before .before .args in Accepted (a .t1) (a .earliest .now) (a .latest .now) (length (a .posts .now)) (length (a .atoms .now)) × (a .bars-fit ≡ true)
+passed c = let a = c .before .before .before .before .before .args in accepted-run (a .t1) (a .earliest .now) (a .latest .now) (a .bars-fit) (length (a .posts .now)) (length (a .atoms .now)) .0 (omega (arith, c .before .run-refusal .ensures))
 
 run-refusal-requires : tie.Need-run-refusal-requires
 run-refusal-requires c κs = search needs
@@ -38,14 +39,14 @@ returns c =
     }
 
 run-in-mirror-requires : tie.Need-run-in-mirror-requires
-run-in-mirror-requires c κs = passed (c .before .before .before .before)
+run-in-mirror-requires c κs = passed (c .before .before .before .before) .0
 
 tell-requires : tie.Need-tell-requires
 tell-requires c κs =
     let e = c .before .before .before .before .before .before .before .before .before .before .before in
     let s = e .before .before .before .before .before in
     let a = s .args in
-    ended (a .t1) (a .earliest .now) (a .latest .now) (length (a .posts .now)) (length (a .atoms .now)) (passed e) (long s) (c .before .before .before .before .before .before .run-in-mirror .ensures)
+    ended (a .t1) (a .earliest .now) (a .latest .now) (length (a .posts .now)) (length (a .atoms .now)) (passed e .0) (long s) (c .before .before .before .before .before .before .run-in-mirror .ensures)
 
 same-length-2 : tie.Need-same-length-2
 same-length-2 c = search needs
@@ -62,14 +63,14 @@ returns-2 c =
     let s = e .before .before .before .before .before in
     let a = s .args in
     let r = c .before .before .before .before .before .before .before .before .before .run-in-mirror .ensures in
-    let l = left-mirrored (a .t1) (a .earliest .now) (a .latest .now) (length (a .posts .now)) (length (a .atoms .now)) (passed e) (long s) r (omega arith) (omega arith)
-    (c .before .before .tell .ensures (ended (a .t1) (a .earliest .now) (a .latest .now) (length (a .posts .now)) (length (a .atoms .now)) (passed e) (long s) r)) in
+    let l = left-mirrored (a .t1) (a .earliest .now) (a .latest .now) (length (a .posts .now)) (length (a .atoms .now)) (passed e .0) (long s) r (omega arith) (omega arith)
+    (c .before .before .tell .ensures (ended (a .t1) (a .earliest .now) (a .latest .now) (length (a .posts .now)) (length (a .atoms .now)) (passed e .0) (long s) r)) in
     record {
-      refused = λ h. absurd (h (accepted-run (a .t1) (a .earliest .now) (a .latest .now) (length (a .posts .now)) (length (a .atoms .now)) .1 (passed e)));
+      refused = λ h. absurd (h (accepted-run (a .t1) (a .earliest .now) (a .latest .now) (a .bars-fit) (length (a .posts .now)) (length (a .atoms .now)) .1 (passed e)));
       accepted = λ z. record {
         left = l;
-        right = right (a .t1) (a .earliest .now) (a .latest .now) (length (a .posts .now)) (length (a .atoms .now)) (passed e) (long s);
-        passes = passing (a .t1) (a .earliest .now) (a .latest .now) (length (a .posts .now)) (length (a .atoms .now)) (passed e) (long s);
+        right = right (a .t1) (a .earliest .now) (a .latest .now) (length (a .posts .now)) (length (a .atoms .now)) (passed e .0) (long s);
+        passes = passing (a .t1) (a .earliest .now) (a .latest .now) (length (a .posts .now)) (length (a .atoms .now)) (passed e .0) (long s);
         handed = handed (mirroredOf (a .t1) (a .earliest .now) (a .latest .now)) (a .posts .now) (a .atoms .now) (l .post-words) (l .atom-words);
       };
     }
