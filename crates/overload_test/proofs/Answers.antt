@@ -1,7 +1,7 @@
 -- The answer: yes with the first place at which the tasks read overload, or no where there is none; and what that means over whole numbers.
 -- Assumes nothing.
 use mathlib.Core.Path.{_≡_, refl, sym, ap, _∙_}
-use mathlib.Core.Bool.{true, false}
+use mathlib.Core.Bool.{Bool, true, false}
 use mathlib.Core.Logic.{_⊎_, inl, inr, _↔_}
 use mathlib.Core.List.{List, [], _∷_}
 use Prim.Native.Nat.{ℕ, zero, suc, _+_, _-_, _≤_, _<_}
@@ -105,22 +105,22 @@ module _ (J : Tasks natural) where
           }
 
 -- the contract, of a record and ranges that are accepted, and of others
-pub tested : (before : Propagator) (es ls : List ℤ) (r : Overload) → AcceptedInput before es ls → length (before .durations) ≡ TASKS → r ≡ answerOf (momentsIn before es ls) → OverloadTested before es ls r
-tested before es ls r a long z =
+pub tested : (before : Propagator) (es ls : List ℤ) (bars : Bool) (r : Overload) → AcceptedInput before es ls → bars ≡ true → length (before .durations) ≡ TASKS → r ≡ answerOf (momentsIn before es ls) → OverloadTested before es ls bars r
+tested before es ls bars r a fit long z =
     let Z = tasksIn before es ls in
     let low = above before es ls a long in
     let fine = proper-whole before es ls a long in
     let s = says (momentsIn before es ls) (proper before es ls a long) r z in
     record {
-      refused = λ h. absurd (h (accepted-input before es ls .1 a));
+      refused = λ h. absurd (h (accepted-input before es ls bars .1 (a, fit)));
       answer = λ _. z;
       yes = λ _. (λ w. (let o = s .yes .0 w in (o .0, overload← zeroAt Z fine low (o .0) (o .1))), λ w. s .yes .1 (w .0, overload→ zeroAt Z fine low (w .0) (w .1)));
       no = λ _. (λ e Ω o. s .no .0 e Ω (overload→ zeroAt Z fine low Ω o), λ f. s .no .1 (λ Ω o. f Ω (overload← zeroAt Z fine low Ω o)));
       many = λ k e. (let m = s .many k e in (m .0, omega (arith, m .1, count before es ls a long)));
     }
 
-pub turned-back : (before : Propagator) (es ls : List ℤ) (r : Overload) → (inputNumber before es ls ≡ 0 → ⊥) → overloadNumbers r ≡ refusedBy (inputNumber before es ls) → OverloadTested before es ls r
-turned-back before es ls r h z = record {
+pub turned-back : (before : Propagator) (es ls : List ℤ) (bars : Bool) (r : Overload) → (inputNumber before es ls bars ≡ 0 → ⊥) → overloadNumbers r ≡ refusedBy (inputNumber before es ls bars) → OverloadTested before es ls bars r
+turned-back before es ls bars r h z = record {
   refused = λ _. z;
   answer = λ e. absurd (h e);
   yes = λ e. absurd (h e);

@@ -1,5 +1,6 @@
 -- What the call answers, and what that means.
 use mathlib.Core.Path.{_≡_}
+use mathlib.Core.Bool.{Bool}
 use mathlib.Core.List.{List, [], _∷_}
 use mathlib.Core.Logic.{_↔_}
 use Prim.Native.Nat.{ℕ, _≤_}
@@ -13,11 +14,11 @@ use Rattle.overload_test.specs.declared.overload_test.Overload.{Overload
 use Rattle.overload_test.specs.Reading.{answerOf}
 use Rattle.overload_test.specs.Numbers.{overloadNumbers}
 
--- The first test that fails turns the input back; else the answer is the definition's. It is yes exactly where some set of all the tasks overloads,
+-- The call is told whether the bars of its ranges fit. The first test that fails turns the input back; else the answer is the definition's. It is yes exactly where some set of all the tasks overloads,
 -- with the number of tasks read, and no exactly where none does.
-pub record OverloadTested (before : Propagator) (es ls : List ℤ) (r : Overload) : Type 0 where
-  pub refused : (inputNumber before es ls ≡ 0 → ⊥) → overloadNumbers r ≡ refusedBy (inputNumber before es ls)
-  pub answer : inputNumber before es ls ≡ 0 → r ≡ answerOf (momentsIn before es ls)
-  pub yes : inputNumber before es ls ≡ 0 → ((k : ℕ) × (overloadNumbers r ≡ answered 0 (pos k ∷ []))) ↔ ((Ω : TaskSet) × Overloads (tasksIn before es ls) Ω)
-  pub no : inputNumber before es ls ≡ 0 → (overloadNumbers r ≡ answered 1 []) ↔ ((Ω : TaskSet) → Overloads (tasksIn before es ls) Ω → ⊥)
+pub record OverloadTested (before : Propagator) (es ls : List ℤ) (bars : Bool) (r : Overload) : Type 0 where
+  pub refused : (inputNumber before es ls bars ≡ 0 → ⊥) → overloadNumbers r ≡ refusedBy (inputNumber before es ls bars)
+  pub answer : inputNumber before es ls bars ≡ 0 → r ≡ answerOf (momentsIn before es ls)
+  pub yes : inputNumber before es ls bars ≡ 0 → ((k : ℕ) × (overloadNumbers r ≡ answered 0 (pos k ∷ []))) ↔ ((Ω : TaskSet) × Overloads (tasksIn before es ls) Ω)
+  pub no : inputNumber before es ls bars ≡ 0 → (overloadNumbers r ≡ answered 1 []) ↔ ((Ω : TaskSet) → Overloads (tasksIn before es ls) Ω → ⊥)
   pub many : (k : ℕ) → overloadNumbers r ≡ answered 0 (pos k ∷ []) → (1 ≤ k) × (k ≤ before .count)

@@ -90,9 +90,14 @@ fn accepted(record: Propagator, earliest: &[i32], latest: &[i32]) -> Overload
     )
 }
 
-// Whether some set of the record's tasks overloads in these ranges.
-pub fn overload_test(record: Propagator, earliest: &[i32], latest: &[i32]) -> Overload
-    ensures { λ r. ⌜ OverloadTested «record» (now (earliest .entry)) (now (latest .entry)) r ⌝ }
+// Whether some set of the record's tasks overloads in these ranges, whose bars fit or do not.
+pub fn overload_test(
+    record: Propagator,
+    earliest: &[i32],
+    latest: &[i32],
+    bars_fit: bool,
+) -> Overload
+    ensures { λ r. ⌜ OverloadTested «record» (now (earliest .entry)) (now (latest .entry)) «bars_fit» r ⌝ }
 {
     let number = input_refusal(
         record.count,
@@ -100,6 +105,7 @@ pub fn overload_test(record: Propagator, earliest: &[i32], latest: &[i32]) -> Ov
         record.total,
         earliest,
         latest,
+        bars_fit,
     );
     if number != 0 {
         return Overload::Refused(number);

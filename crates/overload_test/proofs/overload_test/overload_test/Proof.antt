@@ -1,6 +1,7 @@
--- `counter::overload_test::overload_test` meets its contract.
+-- `overload_test::overload_test::overload_test` meets its contract.
 -- Assumes nothing.
 use mathlib.Core.Path.{_≡_, sym, ap, _∙_}
+use mathlib.Core.Bool.{true}
 use lib.ListN.{length}
 use borrow.Author.Needs.{needs}
 use Rattle.integers.specs.Answers.{refusedBy}
@@ -15,8 +16,8 @@ long : (c : tie.Start) → length (c .args .t1 .durations) ≡ TASKS
 long c = search needs
 
 -- no test failed
-passed : (c : tie.Else1) → let a = c .before .before .before .before .args in AcceptedInput (a .t1) (a .earliest .now) (a .latest .now)
-passed c = let a = c .before .before .before .before .args in accepted-input (a .t1) (a .earliest .now) (a .latest .now) .0 (sym (c .before .input-refusal .ensures) ∙ c .if1 .left)
+passed : (c : tie.Else1) → let a = c .before .before .before .before .args in AcceptedInput (a .t1) (a .earliest .now) (a .latest .now) × (a .bars-fit ≡ true)
+passed c = let a = c .before .before .before .before .args in accepted-input (a .t1) (a .earliest .now) (a .latest .now) (a .bars-fit) .0 (sym (c .before .input-refusal .ensures) ∙ c .if1 .left)
 
 input-refusal-requires : tie.Need-input-refusal-requires
 input-refusal-requires c κs = search needs
@@ -25,16 +26,16 @@ returns : tie.Need-returns
 returns c =
     let n = c .before in
     let a = n .before .before .before .args in
-    turned-back (a .t1) (a .earliest .now) (a .latest .now) _ (λ z. c .if1 .taken (n .input-refusal .ensures ∙ z)) (ap refusedBy (n .input-refusal .ensures))
+    turned-back (a .t1) (a .earliest .now) (a .latest .now) (a .bars-fit) _ (λ z. c .if1 .taken (n .input-refusal .ensures ∙ z)) (ap refusedBy (n .input-refusal .ensures))
 
 accepted-requires : tie.Need-accepted-requires
-accepted-requires c κs = passed c
+accepted-requires c κs = passed c .0
 
 returns-2 : tie.Need-returns-2
 returns-2 c =
     let s = c .before .before .before .before .before in
     let a = s .args in
-    tested (a .t1) (a .earliest .now) (a .latest .now) _ (passed (c .before)) (long s) (c .accepted .ensures)
+    tested (a .t1) (a .earliest .now) (a .latest .now) (a .bars-fit) _ (passed (c .before) .0) (passed (c .before) .1) (long s) (c .accepted .ensures)
 
 pub overload-test-spec : {M : Type 1} → statement M
 overload-test-spec =
