@@ -171,9 +171,9 @@ module _ (r : Propagator) (es ls : List ℤ) (a : AcceptedInput r es ls) (long :
       ]
 
 -- The contract, of a call that is accepted, and of others.
-pub given : (before : Propagator) (es ls : List ℤ) (task : ℕ) (ws : List ℤ) (r : Reason) (ws′ : List ℤ) → reasonNumber before es ls task (length ws) ≡ 0 → Explained (tasksIn before es ls) task ws r ws′ → ReasonGiven before es ls task ws r ws′
-given before es ls task ws r ws′ z e = record { refused = λ h. absurd (h z); given = λ _. e }
+pub given : (before : Propagator) (es ls : List ℤ) (bars : Bool) (task : ℕ) (ws : List ℤ) (r : Reason) (ws′ : List ℤ) → reasonNumber before es ls bars task (length ws) ≡ 0 → Explained (tasksIn before es ls) task ws r ws′ → ReasonGiven before es ls bars task ws r ws′
+given before es ls bars task ws r ws′ z e = record { refused = λ h. absurd (h z); given = λ _. e }
 
-pub turned-back : (before : Propagator) (es ls : List ℤ) (task : ℕ) (ws : List ℤ) (r : Reason) (ws′ : List ℤ) → (reasonNumber before es ls task (length ws) ≡ 0 → ⊥) → reasonNumbers r ≡ refusedBy (reasonNumber before es ls task (length ws)) → ws′ ≡ ws
-    → ReasonGiven before es ls task ws r ws′
-turned-back before es ls task ws r ws′ h z y = record { refused = λ _. record { answer = z; words = y }; given = λ e. absurd (h e) }
+pub turned-back : (before : Propagator) (es ls : List ℤ) (bars : Bool) (task : ℕ) (ws : List ℤ) (r : Reason) (ws′ : List ℤ) → (reasonNumber before es ls bars task (length ws) ≡ 0 → ⊥) → reasonNumbers r ≡ refusedBy (reasonNumber before es ls bars task (length ws)) → ws′ ≡ ws
+    → ReasonGiven before es ls bars task ws r ws′
+turned-back before es ls bars task ws r ws′ h z y = record { refused = λ _. record { answer = z; words = y }; given = λ e. absurd (h e) }

@@ -1,6 +1,7 @@
 -- What a pass leaves meets its contract.
 -- Assumes nothing.
 use mathlib.Core.Path.{_≡_, refl, sym, ap, subst, _∙_}
+use mathlib.Core.Bool.{Bool, true}
 use mathlib.Core.List.{List}
 use mathlib.Core.Logic.{_⊎_, inl, inr}
 use Prim.Native.Nat.{ℕ, _≤_, _<_}
@@ -117,8 +118,8 @@ module _ (r : Propagator) (es ls : List ℤ) (a : AcceptedInput r es ls) (long :
         starts k q = subst (Largest whole (λ v. (Z .earliest k ≡ v) ⊎ PrecedenceBound Z k v)) (sym (start-at k (small q))) (raised-is Z fine (above r es ls a long) k q)
 
 -- The contract, of a record and ranges that are accepted, and of others.
-pub went : (before : Propagator) (es ls : List ℤ) (r : Precedences) (es′ : List ℤ) → AcceptedInput before es ls → LeftPrecedences (tasksIn before es ls) es r es′ → RanPrecedences before es ls r es′
-went before es ls r es′ a p = record { refused = λ h. absurd (h (accepted-input before es ls .1 a)); ran = λ _. p }
+pub went : (before : Propagator) (es ls : List ℤ) (bars : Bool) (r : Precedences) (es′ : List ℤ) → AcceptedInput before es ls → bars ≡ true → LeftPrecedences (tasksIn before es ls) es r es′ → RanPrecedences before es ls bars r es′
+went before es ls bars r es′ a fit p = record { refused = λ h. absurd (h (accepted-input before es ls bars .1 (a, fit))); ran = λ _. p }
 
-pub turned-back : (before : Propagator) (es ls : List ℤ) (r : Precedences) (es′ : List ℤ) → (inputNumber before es ls ≡ 0 → ⊥) → precedencesNumbers r ≡ refusedBy (inputNumber before es ls) → es′ ≡ es → RanPrecedences before es ls r es′
-turned-back before es ls r es′ h z y = record { refused = λ _. record { answer = z; starts = y }; ran = λ e. absurd (h e) }
+pub turned-back : (before : Propagator) (es ls : List ℤ) (bars : Bool) (r : Precedences) (es′ : List ℤ) → (inputNumber before es ls bars ≡ 0 → ⊥) → precedencesNumbers r ≡ refusedBy (inputNumber before es ls bars) → es′ ≡ es → RanPrecedences before es ls bars r es′
+turned-back before es ls bars r es′ h z y = record { refused = λ _. record { answer = z; starts = y }; ran = λ e. absurd (h e) }

@@ -1,7 +1,7 @@
 -- The definitions at small tasks.
 -- Assumes nothing.
 use mathlib.Core.Path.{_≡_, refl}
-use mathlib.Core.Bool.{true, false}
+use mathlib.Core.Bool.{Bool, true, false}
 use mathlib.Core.List.{[], _∷_}
 use Prim.Native.Nat.{ℕ}
 use lib.IntN.{pos}
@@ -35,18 +35,22 @@ unfolding F bothBounds
 reason-of-zero = refl
 
 -- the reason's tests on those tasks
-number : ℕ → ℕ → ℕ
-number task words = reasonNumber (newRecord (pos 3 ∷ pos 5 ∷ [])) (pos 0 ∷ pos 1 ∷ []) (pos 6 ∷ pos 1 ∷ []) task words
+number : Bool → ℕ → ℕ → ℕ
+number bars task words = reasonNumber (newRecord (pos 3 ∷ pos 5 ∷ [])) (pos 0 ∷ pos 1 ∷ []) (pos 6 ∷ pos 1 ∷ []) bars task words
 
--- 17 is tried before 16
-no-such-task : number 2 11 ≡ 17
+-- 13 is tried before 17, and 17 before 16
+bars-first : number false 2 11 ≡ 13
+unfolding number refusal lawfulRecord allBelow unusedAt filled total
+bars-first = refl
+
+no-such-task : number true 2 11 ≡ 17
 unfolding number refusal lawfulRecord allBelow unusedAt filled total
 no-such-task = refl
 
-no-room : number 1 11 ≡ 16
+no-room : number true 1 11 ≡ 16
 unfolding number refusal lawfulRecord allBelow unusedAt filled total
 no-room = refl
 
-just-room : number 1 12 ≡ 0
+just-room : number true 1 12 ≡ 0
 unfolding number refusal lawfulRecord allBelow unusedAt filled total
 just-room = refl

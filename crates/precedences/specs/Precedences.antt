@@ -1,6 +1,6 @@
 -- Precedences that can be read off the ranges: the tasks that must come before a task, the bound that they give, and what a pass by these bounds leaves.
 use mathlib.Core.Path.{_≡_}
-use mathlib.Core.Bool.{not, _&&_}
+use mathlib.Core.Bool.{Bool, not, _&&_}
 use mathlib.Core.List.{List, [], _∷_}
 use mathlib.Core.Logic.{_⊎_, _↔_}
 use Prim.Native.Nat.{ℕ, _<_}
@@ -59,7 +59,7 @@ pub record KeptStarts (es : List ℤ) (number : ℕ) (r : Precedences) (es′ : 
   pub answer : precedencesNumbers r ≡ refusedBy number
   pub starts : es′ ≡ es
 
--- The first of a run's tests on the record and its ranges that fails turns the pass back.
-pub record RanPrecedences (before : Propagator) (es ls : List ℤ) (r : Precedences) (es′ : List ℤ) : Type 0 where
-  pub refused : (inputNumber before es ls ≡ 0 → ⊥) → KeptStarts es (inputNumber before es ls) r es′
-  pub ran : inputNumber before es ls ≡ 0 → LeftPrecedences (tasksIn before es ls) es r es′
+-- The pass is told whether the bars of its ranges fit. The first of a run's tests on the record and its ranges that fails turns it back.
+pub record RanPrecedences (before : Propagator) (es ls : List ℤ) (bars : Bool) (r : Precedences) (es′ : List ℤ) : Type 0 where
+  pub refused : (inputNumber before es ls bars ≡ 0 → ⊥) → KeptStarts es (inputNumber before es ls bars) r es′
+  pub ran : inputNumber before es ls bars ≡ 0 → LeftPrecedences (tasksIn before es ls) es r es′

@@ -60,21 +60,21 @@ module _ (J : Tasks whole) (i : ℕ) where
     pub sound : (b : ℤ) → PrecedenceBound J i b → (s : ℕ → ℤ) → Contradicts J reasonOf (some (atLeast i b)) s → ⊥
 
 -- A run's tests on the record and its ranges; then 17: a task that is none of the record's; 16: no room for its reason
-abbrev pub reasonTests : Propagator → List ℤ → List ℤ → ℕ → ℕ → List Test
-reasonTests r es ls task words = inputTests r es ls ++ (test 17 (ltb task (r .count)) ∷ test 16 (leb (6 * r .count) words) ∷ [])
+abbrev pub reasonTests : Propagator → List ℤ → List ℤ → Bool → ℕ → ℕ → List Test
+reasonTests r es ls bars task words = inputTests r es ls bars ++ (test 17 (ltb task (r .count)) ∷ test 16 (leb (6 * r .count) words) ∷ [])
 
-abbrev pub reasonNumber : Propagator → List ℤ → List ℤ → ℕ → ℕ → ℕ
-reasonNumber r es ls task words = refusal (reasonTests r es ls task words)
+abbrev pub reasonNumber : Propagator → List ℤ → List ℤ → Bool → ℕ → ℕ → ℕ
+reasonNumber r es ls bars task words = refusal (reasonTests r es ls bars task words)
 
 -- A refused call changes no word.
 pub record KeptWords (ws : List ℤ) (number : ℕ) (r : Reason) (ws′ : List ℤ) : Type 0 where
   pub answer : reasonNumbers r ≡ refusedBy number
   pub words : ws′ ≡ ws
 
--- The first test that fails turns the call back.
-pub record ReasonGiven (before : Propagator) (es ls : List ℤ) (task : ℕ) (ws : List ℤ) (r : Reason) (ws′ : List ℤ) : Type 0 where
-  pub refused : (reasonNumber before es ls task (length ws) ≡ 0 → ⊥) → KeptWords ws (reasonNumber before es ls task (length ws)) r ws′
-  pub given : reasonNumber before es ls task (length ws) ≡ 0 → Explained (tasksIn before es ls) task ws r ws′
+-- The call is told whether the bars of its ranges fit. The first test that fails turns it back.
+pub record ReasonGiven (before : Propagator) (es ls : List ℤ) (bars : Bool) (task : ℕ) (ws : List ℤ) (r : Reason) (ws′ : List ℤ) : Type 0 where
+  pub refused : (reasonNumber before es ls bars task (length ws) ≡ 0 → ⊥) → KeptWords ws (reasonNumber before es ls bars task (length ws)) r ws′
+  pub given : reasonNumber before es ls bars task (length ws) ≡ 0 → Explained (tasksIn before es ls) task ws r ws′
 
 -- The same tests as facts.
 pub record AcceptedReason (r : Propagator) (task words : ℕ) : Type 0 where

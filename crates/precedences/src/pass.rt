@@ -84,9 +84,14 @@ fn accepted(record: Propagator, earliest: &mut [i32], latest: &[i32]) -> Precede
     Precedences::Done
 }
 
-// Raises each earliest start to the ect of the tasks that must come before its task, where that is later.
-pub fn precedences(record: Propagator, earliest: &mut [i32], latest: &[i32]) -> Precedences
-    ensures { λ r. ⌜ RanPrecedences «record» (now (earliest .entry)) (now (latest .entry)) r (now (earliest .exit)) ⌝ }
+// Raises each earliest start to the ect of the tasks that must come before its task, where that is later; the bars of the ranges fit or do not.
+pub fn precedences(
+    record: Propagator,
+    earliest: &mut [i32],
+    latest: &[i32],
+    bars_fit: bool,
+) -> Precedences
+    ensures { λ r. ⌜ RanPrecedences «record» (now (earliest .entry)) (now (latest .entry)) «bars_fit» r (now (earliest .exit)) ⌝ }
 {
     let number = input_refusal(
         record.count,
@@ -94,6 +99,7 @@ pub fn precedences(record: Propagator, earliest: &mut [i32], latest: &[i32]) -> 
         record.total,
         earliest,
         latest,
+        bars_fit,
     );
     if number != 0 {
         return Precedences::Refused(number);

@@ -96,19 +96,20 @@ fn accepted_reason(
     Reason::Written(write_reason(atoms, &est, &lst, &durations, n, task))
 }
 
-// The number that turns the call back, or 0: 20, 10, 3, 4, 17, 16.
+// The number that turns the call back, or 0: 20, 10, 3, 4, 13, 17, 16.
 fn reason_refusal<'a>(
     n: usize,
     durations: &'a [u32; TASKS],
     total: u32,
     earliest: &[i32],
     latest: &[i32],
+    bars_fit: bool,
     task: usize,
     words: usize,
 ) -> u32
-    ensures { λ r. ⌜ r ≡ reasonNumber (recordOf n (now (durations .entry)) total) (now (earliest .entry)) (now (latest .entry)) task words ⌝ }
+    ensures { λ r. ⌜ r ≡ reasonNumber (recordOf n (now (durations .entry)) total) (now (earliest .entry)) (now (latest .entry)) «bars_fit» task words ⌝ }
 {
-    let number = input_refusal(n, durations, total, earliest, latest);
+    let number = input_refusal(n, durations, total, earliest, latest, bars_fit);
     if number != 0 {
         return number;
     }
@@ -121,15 +122,16 @@ fn reason_refusal<'a>(
     0
 }
 
-// Writes the reason of the task's bound over these ranges, and tells how many atoms it has.
+// Writes the reason of the task's bound over these ranges, whose bars fit or do not, and tells how many atoms it has.
 pub fn precedence_reason(
     record: Propagator,
     earliest: &[i32],
     latest: &[i32],
+    bars_fit: bool,
     task: usize,
     atoms: &mut [i32],
 ) -> Reason
-    ensures { λ r. ⌜ ReasonGiven «record» (now (earliest .entry)) (now (latest .entry)) task (now (atoms .entry)) r (now (atoms .exit)) ⌝ }
+    ensures { λ r. ⌜ ReasonGiven «record» (now (earliest .entry)) (now (latest .entry)) «bars_fit» task (now (atoms .entry)) r (now (atoms .exit)) ⌝ }
 {
     let number = reason_refusal(
         record.count,
@@ -137,6 +139,7 @@ pub fn precedence_reason(
         record.total,
         earliest,
         latest,
+        bars_fit,
         task,
         atoms.len(),
     );

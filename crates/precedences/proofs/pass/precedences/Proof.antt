@@ -1,6 +1,7 @@
 -- `precedences::pass::precedences` meets its contract.
 -- Assumes nothing.
-use mathlib.Core.Path.{refl, sym, ap, _∙_}
+use mathlib.Core.Path.{_≡_, refl, sym, ap, _∙_}
+use mathlib.Core.Bool.{true}
 use Rattle.integers.specs.Answers.{refusedBy}
 use Rattle.records.specs.Refusals.{AcceptedInput}
 use Rattle.records.proofs.Refused.{accepted-input}
@@ -13,8 +14,8 @@ abbrev start : tie.After-input-refusal → tie.Start
 start n = n .before .before .before .before
 
 -- no test failed
-passed : (c : tie.Else1) → let a = start (c .before) .args in AcceptedInput (a .t1) (a .earliest .now) (a .latest .now)
-passed c = let a = start (c .before) .args in accepted-input (a .t1) (a .earliest .now) (a .latest .now) .0 (sym (c .before .input-refusal .ensures) ∙ c .if1 .left)
+passed : (c : tie.Else1) → let a = start (c .before) .args in AcceptedInput (a .t1) (a .earliest .now) (a .latest .now) × (a .bars-fit ≡ true)
+passed c = let a = start (c .before) .args in accepted-input (a .t1) (a .earliest .now) (a .latest .now) (a .bars-fit) .0 (sym (c .before .input-refusal .ensures) ∙ c .if1 .left)
 
 input-refusal-requires : tie.Need-input-refusal-requires
 input-refusal-requires c κs = search needs
@@ -26,10 +27,10 @@ returns : tie.Need-returns
 returns c =
     let n = c .before in
     let a = start n .args in
-    turned-back (a .t1) (a .earliest .now) (a .latest .now) _ _ (λ z. c .if1 .taken (n .input-refusal .ensures ∙ z)) (ap refusedBy (n .input-refusal .ensures)) refl
+    turned-back (a .t1) (a .earliest .now) (a .latest .now) (a .bars-fit) _ _ (λ z. c .if1 .taken (n .input-refusal .ensures ∙ z)) (ap refusedBy (n .input-refusal .ensures)) refl
 
 accepted-requires : tie.Need-accepted-requires
-accepted-requires c κs = passed (c .before)
+accepted-requires c κs = passed (c .before) .0
 
 same-length-2 : tie.Need-same-length-2
 same-length-2 c = search needs
@@ -39,7 +40,7 @@ returns-2 c =
     let y = c .before in
     let e = y .before .before in
     let a = start (e .before) .args in
-    went (a .t1) (a .earliest .now) (a .latest .now) _ _ (passed e) (y .accepted .ensures)
+    went (a .t1) (a .earliest .now) (a .latest .now) (a .bars-fit) _ _ (passed e .0) (passed e .1) (y .accepted .ensures)
 
 pub precedences-spec : {M : Type 1} → statement M
 precedences-spec =

@@ -14,7 +14,7 @@ abbrev start : tie.After-reason-refusal → tie.Start
 start n = n .before .before .before
 
 -- no test failed
-passed : (c : tie.Else1) → let a = start (c .before) .args in reasonNumber (a .t1) (a .earliest .now) (a .latest .now) (a .task) (length (a .atoms .now)) ≡ 0
+passed : (c : tie.Else1) → let a = start (c .before) .args in reasonNumber (a .t1) (a .earliest .now) (a .latest .now) (a .bars-fit) (a .task) (length (a .atoms .now)) ≡ 0
 passed c = sym (c .before .reason-refusal .ensures) ∙ c .if1 .left
 
 reason-refusal-requires : tie.Need-reason-refusal-requires
@@ -24,12 +24,13 @@ returns : tie.Need-returns
 returns c =
     let n = c .before in
     let a = start n .args in
-    turned-back (a .t1) (a .earliest .now) (a .latest .now) (a .task) (a .atoms .now) _ _ (λ z. c .if1 .taken (n .reason-refusal .ensures ∙ z)) (ap refusedBy (n .reason-refusal .ensures)) refl
+    turned-back (a .t1) (a .earliest .now) (a .latest .now) (a .bars-fit) (a .task) (a .atoms .now) _ _ (λ z. c .if1 .taken (n .reason-refusal .ensures ∙ z)) (ap refusedBy (n .reason-refusal .ensures)) refl
 
 accepted-reason-requires : tie.Need-accepted-reason-requires
 accepted-reason-requires c κs =
     let a = start (c .before .before) .args in
-    accepted-reason (a .t1) (a .earliest .now) (a .latest .now) (a .task) (length (a .atoms .now)) (passed (c .before))
+    let ((input, _), asked) = accepted-reason (a .t1) (a .earliest .now) (a .latest .now) (a .bars-fit) (a .task) (length (a .atoms .now)) (passed (c .before)) in
+    (input, asked)
 
 same-length : tie.Need-same-length
 same-length c = search needs
@@ -39,7 +40,7 @@ returns-2 c =
     let y = c .before in
     let e = y .before .before in
     let a = start (e .before) .args in
-    given (a .t1) (a .earliest .now) (a .latest .now) (a .task) (a .atoms .now) _ _ (passed e) (y .accepted-reason .ensures)
+    given (a .t1) (a .earliest .now) (a .latest .now) (a .bars-fit) (a .task) (a .atoms .now) _ _ (passed e) (y .accepted-reason .ensures)
 
 pub precedence-reason-spec : {M : Type 1} → statement M
 precedence-reason-spec =

@@ -21,9 +21,9 @@ use Rattle.precedences.proofs.reasons.reason_refusal.Tie as tie
 abbrev lent : tie.Start → Propagator
 lent c = recordOf (c .args .n) (c .args .durations .now) (c .args .total)
 
--- the record and its ranges pass, so there are few tasks
-passed : (c : tie.Else1) → let start = c .before .before in let args = start .args in AllPassed (inputTests (lent start) (args .earliest .now) (args .latest .now))
-passed c = let start = c .before .before in let args = start .args in input-passed (lent start) (args .earliest .now) (args .latest .now) (sym (c .before .input-refusal .ensures) ∙ c .if1 .left)
+-- the record, its ranges and their bars pass, so there are few tasks
+passed : (c : tie.Else1) → let start = c .before .before in let args = start .args in AllPassed (inputTests (lent start) (args .earliest .now) (args .latest .now) (args .bars-fit))
+passed c = let start = c .before .before in let args = start .args in input-passed (lent start) (args .earliest .now) (args .latest .now) (args .bars-fit) (sym (c .before .input-refusal .ensures) ∙ c .if1 .left)
 
 few : (c : tie.Else1) → c .before .before .args .n ≤ TASKS
 few c = (lawful-is (lent (c .before .before)) .0 (passed c .0)) .few
@@ -35,13 +35,13 @@ returns : tie.Need-returns
 returns c =
     let start = c .before .before in
     let args = start .args in
-    c .before .input-refusal .ensures ∙ sym (refusal-before (inputTests (lent start) (args .earliest .now) (args .latest .now)) _ (λ z. c .if1 .taken (c .before .input-refusal .ensures ∙ z)))
+    c .before .input-refusal .ensures ∙ sym (refusal-before (inputTests (lent start) (args .earliest .now) (args .latest .now) (args .bars-fit)) _ (λ z. c .if1 .taken (c .before .input-refusal .ensures ∙ z)))
 
 returns-2 : tie.Need-returns-2
 returns-2 c =
     let start = c .before .before .before in
     let args = start .args in
-    sym (no-task (lent start) (args .earliest .now) (args .latest .now) (args .task) (args .words) (passed (c .before)) (le-ltb _ _ (c .if2 .taken)))
+    sym (no-task (lent start) (args .earliest .now) (args .latest .now) (args .bars-fit) (args .task) (args .words) (passed (c .before)) (le-ltb _ _ (c .if2 .taken)))
 
 mul-if3 : tie.Need-mul-if3
 mul-if3 c = record { fits = omega (arith, few (c .before)) }
@@ -50,13 +50,13 @@ returns-3 : tie.Need-returns-3
 returns-3 c =
     let start = c .before .before .before .before in
     let args = start .args in
-    sym (no-room (lent start) (args .earliest .now) (args .latest .now) (args .task) (args .words) (passed (c .before .before)) (lt-ltb _ _ (c .before .if2 .left)) (lt-leb _ _ (c .if3 .taken)))
+    sym (no-room (lent start) (args .earliest .now) (args .latest .now) (args .bars-fit) (args .task) (args .words) (passed (c .before .before)) (lt-ltb _ _ (c .before .if2 .left)) (lt-leb _ _ (c .if3 .taken)))
 
 returns-4 : tie.Need-returns-4
 returns-4 c =
     let start = c .before .before .before .before in
     let args = start .args in
-    sym (all-right (lent start) (args .earliest .now) (args .latest .now) (args .task) (args .words) (passed (c .before .before)) (lt-ltb _ _ (c .before .if2 .left)) (le-leb _ _ (c .if3 .left)))
+    sym (all-right (lent start) (args .earliest .now) (args .latest .now) (args .bars-fit) (args .task) (args .words) (passed (c .before .before)) (lt-ltb _ _ (c .before .if2 .left)) (le-leb _ _ (c .if3 .left)))
 
 pub reason-refusal-spec : {M : Type 1} → statement M
 reason-refusal-spec =
