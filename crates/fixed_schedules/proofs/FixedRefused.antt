@@ -17,8 +17,8 @@ use Rattle.integers.proofs.Tests.{all-at, all-show, unused, accepts, accepted, 
 use Rattle.scheduling.specs.Scheduling.{NoOverlap}
 use Rattle.records.specs.declared.record.Propagator.{Propagator}
 use Rattle.records.specs.Records.{Lawful}
-use Rattle.records.specs.Refusals.{inputTests, inputNumber, CountsFit, StartsFit, RangesFit}
-use Rattle.records.proofs.Refused.{passed-input, input-20, input-10, input-3, input-4, input-holds, input-many}
+use Rattle.records.specs.Refusals.{rangeTests, rangeNumber, CountsFit, StartsFit, RangesFit}
+use Rattle.records.proofs.Refused.{passed-ranges, range-20, range-10, range-3, range-4, range-holds, range-many}
 use Rattle.fixed_schedules.specs.FixedSchedules.{startAt, sameStart, oneStartAt, apartAt, allApart, fixedTests, fixedNumber, tasksOn, Fixed, AcceptedFixed}
 use Rattle.fixed_schedules.proofs.Turns.{apart-read, apart-show}
 
@@ -58,12 +58,12 @@ module _ (r : Propagator) (es ls : List ℤ) where
     where
       facts : AllPassed (fixedTests r es ls) → AcceptedFixed r es ls
       facts (a, (b, (c, (d, (e, _))))) =
-          let f = passed-input r es ls .0 (a, (b, (c, (d, tt)))) in
+          let f = passed-ranges r es ls .0 (a, (b, (c, (d, tt)))) in
           record { lawful = f .lawful; counts = f .counts; starts = f .starts; ranges = f .ranges; fixed = fixed-is r es ls (f .counts .earliest) .0 e }
 
       tests : AcceptedFixed r es ls → AllPassed (fixedTests r es ls)
       tests f =
-          let (a, (b, (c, (d, _)))) = passed-input r es ls .1 (record { lawful = f .lawful; counts = f .counts; starts = f .starts; ranges = f .ranges }) in
+          let (a, (b, (c, (d, _)))) = passed-ranges r es ls .1 (record { lawful = f .lawful; counts = f .counts; starts = f .starts; ranges = f .ranges }) in
           (a, (b, (c, (d, (fixed-is r es ls (f .counts .earliest) .1 (f .fixed), tt)))))
 
   -- nothing turns the schedule back
@@ -71,19 +71,19 @@ module _ (r : Propagator) (es ls : List ℤ) where
   accepted-fixed = (λ h. passed-fixed .0 (accepted (fixedTests r es ls) refl h), λ f. accepts (fixedTests r es ls) (passed-fixed .1 f))
 
   -- what is wrong with the record or its ranges goes before
-  pub input-first : (inputNumber r es ls ≡ 0 → ⊥) → fixedNumber r es ls ≡ inputNumber r es ls
-  input-first h = refusal-before (inputTests r es ls) (t14 ∷ []) h
+  pub ranges-first : (rangeNumber r es ls ≡ 0 → ⊥) → fixedNumber r es ls ≡ rangeNumber r es ls
+  ranges-first h = refusal-before (rangeTests r es ls) (t14 ∷ []) h
 
   -- the test that is left when the record and its ranges have passed
-  module _ (p : AllPassed (inputTests r es ls)) where
+  module _ (p : AllPassed (rangeTests r es ls)) where
     pub more-starts : allBelow (oneStartAt es ls) (length es) ≡ false → fixedNumber r es ls ≡ 14
-    more-starts h = refuses (inputTests r es ls) t14 [] p (and-left (allBelow (oneStartAt es ls) (length es)) (allApart (r .durations) es (length es)) h)
+    more-starts h = refuses (rangeTests r es ls) t14 [] p (and-left (allBelow (oneStartAt es ls) (length es)) (allApart (r .durations) es (length es)) h)
 
     pub overlapping : allApart (r .durations) es (length es) ≡ false → fixedNumber r es ls ≡ 14
-    overlapping h = refuses (inputTests r es ls) t14 [] p (and-right (allBelow (oneStartAt es ls) (length es)) (allApart (r .durations) es (length es)) h)
+    overlapping h = refuses (rangeTests r es ls) t14 [] p (and-right (allBelow (oneStartAt es ls) (length es)) (allApart (r .durations) es (length es)) h)
 
     pub none-wrong : allBelow (oneStartAt es ls) (length es) ≡ true → allApart (r .durations) es (length es) ≡ true → fixedNumber r es ls ≡ 0
-    none-wrong o a = refusal-after (inputTests r es ls) (t14 ∷ []) p ∙ accepts (t14 ∷ []) (and-yes (allBelow (oneStartAt es ls) (length es)) (allApart (r .durations) es (length es)) o a, tt)
+    none-wrong o a = refusal-after (rangeTests r es ls) (t14 ∷ []) p ∙ accepts (t14 ∷ []) (and-yes (allBelow (oneStartAt es ls) (length es)) (allApart (r .durations) es (length es)) o a, tt)
 
 -- Where other tests follow.
 module _ (r : Propagator) (es ls : List ℤ) (after : List Test) where
@@ -95,21 +95,21 @@ module _ (r : Propagator) (es ls : List ℤ) (after : List Test) where
 
   -- The sole ground for each number, which no later test has: all before it hold, and its own does not.
   pub fixed-20 : unused after 20 ≡ true → refusal (fixedTests r es ls ++ after) ≡ 20 ↔ (Lawful r → ⊥)
-  fixed-20 other = input-20 r es ls (t14 r es ls ∷ after) other
+  fixed-20 other = range-20 r es ls (t14 r es ls ∷ after) other
 
   pub fixed-10 : unused after 10 ≡ true → refusal (fixedTests r es ls ++ after) ≡ 10 ↔ (Lawful r × (CountsFit (r .count) es ls → ⊥))
-  fixed-10 other = input-10 r es ls (t14 r es ls ∷ after) other
+  fixed-10 other = range-10 r es ls (t14 r es ls ∷ after) other
 
   pub fixed-3 : unused after 3 ≡ true → refusal (fixedTests r es ls ++ after) ≡ 3 ↔ (Lawful r × (CountsFit (r .count) es ls × (StartsFit es ls → ⊥)))
-  fixed-3 other = input-3 r es ls (t14 r es ls ∷ after) other
+  fixed-3 other = range-3 r es ls (t14 r es ls ∷ after) other
 
   pub fixed-4 : unused after 4 ≡ true → refusal (fixedTests r es ls ++ after) ≡ 4 ↔ (Lawful r × (CountsFit (r .count) es ls × (StartsFit es ls × (RangesFit es ls → ⊥))))
-  fixed-4 other = input-4 r es ls (t14 r es ls ∷ after) other
+  fixed-4 other = range-4 r es ls (t14 r es ls ∷ after) other
 
   pub fixed-14 : unused after 14 ≡ true → refusal (fixedTests r es ls ++ after) ≡ 14 ↔ (Lawful r × (CountsFit (r .count) es ls × (StartsFit es ls × (RangesFit es ls × (Fixed r es ls → ⊥)))))
-  fixed-14 other = input-holds r es ls (t14 r es ls ∷ after) refl (λ n. first-refuses (t14 r es ls) after (fixed-is r es ls (n .earliest)) other)
+  fixed-14 other = range-holds r es ls (t14 r es ls ∷ after) refl (λ n. first-refuses (t14 r es ls) after (fixed-is r es ls (n .earliest)) other)
 
 -- more ranges than any record has tasks are turned back by the number that turns none back, whatever tests follow
 pub fixed-many : (r : Propagator) (es ls : List ℤ) (after after′ : List Test) → TASKS < length es
     → (refusal (fixedTests r [] [] ++ after) ≡ refusal (fixedTests r es ls ++ after′)) × (refusal (fixedTests r es ls ++ after′) ≡ 0 → ⊥)
-fixed-many r es ls after after′ many = input-many r es ls (t14 r [] [] ∷ after) (t14 r es ls ∷ after′) many
+fixed-many r es ls after after′ many = range-many r es ls (t14 r [] [] ∷ after) (t14 r es ls ∷ after′) many

@@ -12,7 +12,7 @@ use Rattle.integers.specs.Tests.{Test, test, allBelow, refusal}
 use Rattle.scheduling.specs.Scheduling.{whole, Tasks, NoOverlap}
 use Rattle.records.specs.declared.record.Propagator.{Propagator}
 use Rattle.records.specs.Records.{Lawful}
-use Rattle.records.specs.Refusals.{inputTests, CountsFit, StartsFit, RangesFit}
+use Rattle.records.specs.Refusals.{rangeTests, CountsFit, StartsFit, RangesFit}
 
 -- task k's start, which is its earliest, and its end
 abbrev pub startAt : List ℤ → ℕ → ℤ
@@ -41,7 +41,7 @@ allApart ds es n = allBelow (λ j. allBelow (apartAt ds es j) n) n
 
 -- those of a record and its ranges; then 14: a range with more than one start, or an overlap
 abbrev pub fixedTests : Propagator → List ℤ → List ℤ → List Test
-fixedTests r es ls = inputTests r es ls ++ (test 14 (allBelow (oneStartAt es ls) (length es) && allApart (r .durations) es (length es)) ∷ [])
+fixedTests r es ls = rangeTests r es ls ++ (test 14 (allBelow (oneStartAt es ls) (length es) && allApart (r .durations) es (length es)) ∷ [])
 
 abbrev pub fixedNumber : Propagator → List ℤ → List ℤ → ℕ
 fixedNumber r es ls = refusal (fixedTests r es ls)

@@ -3,7 +3,7 @@ use crate::order::in_turn;
 use crate::order::one_start;
 use crate::order::order_of;
 use records::record::Propagator;
-use records::refusals::input_refusal;
+use records::refusals::range_refusal;
 ghost use mathlib.Core.Path.{_≡_};
 ghost use Rattle.fixed_schedules.specs.FixedSchedules.{fixedNumber};
 
@@ -11,7 +11,7 @@ ghost use Rattle.fixed_schedules.specs.FixedSchedules.{fixedNumber};
 pub fn fixed_refusal(record: Propagator, earliest: &[i32], latest: &[i32]) -> u32
     ensures { λ r. ⌜ r ≡ fixedNumber «record» (now (earliest .entry)) (now (latest .entry)) ⌝ }
 {
-    let number = input_refusal(
+    let number = range_refusal(
         record.count,
         &record.durations,
         record.total,

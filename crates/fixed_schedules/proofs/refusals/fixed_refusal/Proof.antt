@@ -5,21 +5,21 @@ use lib.ListN.{length}
 use borrow.Author.Tests.{not-true, not-false}
 use borrow.Author.Needs.{needs}
 use Rattle.integers.specs.Tests.{allBelow, AllPassed}
-use Rattle.records.specs.Refusals.{inputTests, AcceptedInput}
-use Rattle.records.proofs.Refused.{input-passed, accepted-input}
+use Rattle.records.specs.Refusals.{rangeTests, AcceptedInput}
+use Rattle.records.proofs.Refused.{ranges-passed, accepted-ranges}
 use Rattle.fixed_schedules.specs.FixedSchedules.{oneStartAt, allApart}
 use Rattle.fixed_schedules.proofs.Turns.{turns-are}
-use Rattle.fixed_schedules.proofs.FixedRefused.{input-first, more-starts, overlapping, none-wrong}
+use Rattle.fixed_schedules.proofs.FixedRefused.{ranges-first, more-starts, overlapping, none-wrong}
 use Rattle.fixed_schedules.proofs.Accepting.{started, lasting, listed}
 use Rattle.fixed_schedules.proofs.refusals.fixed_refusal.Statement.{statement}
 use Rattle.fixed_schedules.proofs.refusals.fixed_refusal.Tie as tie
 
 -- the record and its ranges have passed
-passed : (c : tie.Else1) → let a = c .before .before .before .before .args in AllPassed (inputTests (a .t1) (a .earliest .now) (a .latest .now))
-passed c = let a = c .before .before .before .before .args in input-passed (a .t1) (a .earliest .now) (a .latest .now) (sym (c .before .input-refusal .ensures) ∙ c .if1 .left)
+passed : (c : tie.Else1) → let a = c .before .before .before .before .args in AllPassed (rangeTests (a .t1) (a .earliest .now) (a .latest .now))
+passed c = let a = c .before .before .before .before .args in ranges-passed (a .t1) (a .earliest .now) (a .latest .now) (sym (c .before .range-refusal .ensures) ∙ c .if1 .left)
 
 held : (c : tie.Else1) → let a = c .before .before .before .before .args in AcceptedInput (a .t1) (a .earliest .now) (a .latest .now)
-held c = let a = c .before .before .before .before .args in accepted-input (a .t1) (a .earliest .now) (a .latest .now) .0 (sym (c .before .input-refusal .ensures) ∙ c .if1 .left)
+held c = let a = c .before .before .before .before .args in accepted-ranges (a .t1) (a .earliest .now) (a .latest .now) .0 (sym (c .before .range-refusal .ensures) ∙ c .if1 .left)
 
 -- each range holds one start
 one : (c : tie.Else2) → let a = c .before .before .before .before .before .before .args in allBelow (oneStartAt (a .earliest .now) (a .latest .now)) (length (a .earliest .now)) ≡ true
@@ -33,13 +33,13 @@ pairs c = let a = c .before .before .before .before .before .before .before .bef
 apart : (c : tie.Else3) → let a = c .before .before .before .before .before .before .before .before .before .before .before .before .args in allApart (a .t1 .durations) (a .earliest .now) (length (a .earliest .now)) ≡ true
 apart c = sym (pairs (c .before)) ∙ not-false _ (c .if3 .left)
 
-input-refusal-requires : tie.Need-input-refusal-requires
-input-refusal-requires c κs = search needs
+range-refusal-requires : tie.Need-range-refusal-requires
+range-refusal-requires c κs = search needs
 
 returns : tie.Need-returns
 returns c =
     let a = c .before .before .before .before .args in
-    c .before .input-refusal .ensures ∙ sym (input-first (a .t1) (a .earliest .now) (a .latest .now) (λ z. c .if1 .taken (c .before .input-refusal .ensures ∙ z)))
+    c .before .range-refusal .ensures ∙ sym (ranges-first (a .t1) (a .earliest .now) (a .latest .now) (λ z. c .if1 .taken (c .before .range-refusal .ensures ∙ z)))
 
 one-start-requires : tie.Need-one-start-requires
 one-start-requires c κs = let n = held c .counts in n .earliest ∙ sym (n .latest)
@@ -67,7 +67,7 @@ pub fixed-refusal-spec : {M : Type 1} → statement M
 fixed-refusal-spec =
     tie.close
     (tie.spec
-    input-refusal-requires
+    range-refusal-requires
     returns
     one-start-requires
     returns-2
