@@ -1,6 +1,7 @@
 -- After any history the record's durations are those of the tasks that it leaves, and the stored total is their sum. Each call is a step of a history.
 -- Assumes nothing.
 use mathlib.Core.Path.{_≡_, refl, sym, ap, ap₂, subst, _∙_}
+use mathlib.Core.Bool.{Bool}
 use mathlib.Core.List.{List, [], _∷_, _++_, map}
 use Prim.Native.Nat.{ℕ, zero, suc, _+_, _≤_, _<_}
 use native.Mathlib.Omega.{arith}
@@ -144,8 +145,8 @@ remove-step r t c a = elim (ℕ-discrete (removeNumber r t) 0) [
   | no e ↦ a .refused e .stands ∙ leaves-old (removeNumber r t) r (removed r t) e
 ]
 
-pub run-step : (r : Propagator) (es ls posts atoms : List ℤ) (c : Run) (es′ posts′ atoms′ : List ℤ) → Ran r es ls posts atoms c es′ posts′ atoms′ → c .«record» ≡ r
-run-step r es ls posts atoms c es′ posts′ atoms′ a = a .keeps
+pub run-step : (r : Propagator) (es ls : List ℤ) (bars : Bool) (posts atoms : List ℤ) (c : Run) (es′ posts′ atoms′ : List ℤ) → Ran r es ls bars posts atoms c es′ posts′ atoms′ → c .«record» ≡ r
+run-step r es ls bars posts atoms c es′ posts′ atoms′ a = a .keeps
 
 given-back : (l : List ℕ) → map durationOf (map pos l) ≡ l
 given-back [] = refl

@@ -1,6 +1,7 @@
 -- The definitions at small inputs.
 -- Assumes nothing.
 use mathlib.Core.Path.{_≡_, refl}
+use mathlib.Core.Bool.{false}
 use mathlib.Core.List.{[], _∷_}
 use Prim.Native.Nat.{_-_}
 use lib.IntN.{pos}
@@ -31,7 +32,7 @@ total-false : addNumber (recordOf 1 (placed (4 ∷ [])) 3) (pos 0) ≡ 20
 unfolding refusal lawfulRecord allBelow unusedAt total
 total-false = refl
 
-run-turned-back : runNumber (recordOf 1 (placed (4 ∷ [])) 5) [] [] 0 0 ≡ 20
+run-turned-back : runNumber (recordOf 1 (placed (4 ∷ [])) 5) [] [] false 0 0 ≡ 20
 unfolding refusal lawfulRecord allBelow unusedAt total
 run-turned-back = refl
 
