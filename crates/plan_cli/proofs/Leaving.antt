@@ -1,6 +1,7 @@
 -- What a run leaves in its slices is what is printed of it.
 -- Assumes nothing.
 use mathlib.Core.Path.{_≡_, refl, sym, ap, subst, _∙_}
+use mathlib.Core.Bool.{true}
 use mathlib.Core.List.{List, _++_}
 use mathlib.Core.Logic.{inl, inr}
 use Prim.Native.Nat.{ℕ, zero, suc, _+_, _*_, _≤_}
@@ -55,12 +56,12 @@ module _ (r : Propagator) (es ls : List ℤ) where
         }
 
     -- what is left is what is shown
-    pub shows : length es′ ≤ TASKS → Ran r es ls p₀ a₀ ran es′ posts atoms → Shown (ranOn r es ls) (ran .outcome) posts atoms es′
-    shows few w = subst (λ (k : ℕ). Shown (numbered k (inr tr)) (ran .outcome) posts atoms es′) (λ i. runNumber r es ls (room-p i) (room-a i)) (by (runNumber r es ls (length p₀) (length a₀)) refl)
+    pub shows : length es′ ≤ TASKS → Ran r es ls true p₀ a₀ ran es′ posts atoms → Shown (ranOn r es ls) (ran .outcome) posts atoms es′
+    shows few w = subst (λ (k : ℕ). Shown (numbered k (inr tr)) (ran .outcome) posts atoms es′) (λ i. runNumber r es ls true (room-p i) (room-a i)) (by (runNumber r es ls true (length p₀) (length a₀)) refl)
       where
-        by : (k : ℕ) → runNumber r es ls (length p₀) (length a₀) ≡ k → Shown (numbered k (inr tr)) (ran .outcome) posts atoms es′
+        by : (k : ℕ) → runNumber r es ls true (length p₀) (length a₀) ≡ k → Shown (numbered k (inr tr)) (ran .outcome) posts atoms es′
         by zero z = left-shows few (w .accepted z)
-        by (suc k) z = outcomes-apart (ran .outcome) (outcome.Refused (runNumber r es ls (length p₀) (length a₀))) (w .refused (λ y. omega (arith, y, z)) .answer) ∙ ap outcome.Refused z
+        by (suc k) z = outcomes-apart (ran .outcome) (outcome.Refused (runNumber r es ls true (length p₀) (length a₀))) (w .refused (λ y. omega (arith, y, z)) .answer) ∙ ap outcome.Refused z
 
 -- ---- creation before it
 module _ (es ls ds : List ℤ) (r : Created) (made : r ≡ created ds) where

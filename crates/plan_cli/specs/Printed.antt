@@ -43,9 +43,9 @@ abbrev pub numbered : ℕ → ℕ ⊎ Trace → ℕ ⊎ Trace
 numbered zero otherwise = otherwise
 numbered (suc n) otherwise = inl (suc n)
 
--- a run on a record, with slices for the posts and the reasons of any run
+-- a run on a record and ranges without bars, with slices for the posts and the reasons of any run
 abbrev pub ranOn : Propagator → List ℤ → List ℤ → ℕ ⊎ Trace
-ranOn r es ls = numbered (runNumber r es ls (4 * TASKS) (3 * ATOMS)) (inr (traceOf r es ls))
+ranOn r es ls = numbered (runNumber r es ls true (4 * TASKS) (3 * ATOMS)) (inr (traceOf r es ls))
 
 -- creation, and a run on the new record
 abbrev pub planned : List ℤ → List ℤ → List ℤ → ℕ ⊎ Trace

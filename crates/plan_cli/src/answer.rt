@@ -28,7 +28,7 @@ const POST_WORDS: usize = 4 * TASKS;
 
 const ATOM_WORDS: usize = 6 * TASKS * TASKS;
 
-// A run on the first n ranges.
+// A run on the first n ranges. They have no bars, so none is unfit.
 fn put_ran(
     out: &mut [u8],
     record: Propagator,
@@ -47,6 +47,7 @@ fn put_ran(
         record,
         &mut starts[..n],
         &latest[..n],
+        true,
         &mut posts,
         &mut atoms,
     );

@@ -34,12 +34,12 @@ abbrev answer-of : tie.After-propagate → ℕ ⊎ Trace
 answer-of c = ranOn (c .before .before .before .before .before .before .args .«record») (take (c .before .before .before .before .before .before .args .n) (c .before .before .before .before .before .before .args .earliest)) (take (c .before .before .before .before .before .before .args .n) (c .before .before .before .before .before .before .args .t5))
 
 shown : (c : tie.After-propagate)
-    → Shown (answer-of c) (c .propagate .result .outcome) (c .propagate .last .1 .1 .1 .0) (c .propagate .last .1 .1 .1 .1 .0)
+    → Shown (answer-of c) (c .propagate .result .outcome) (c .propagate .last .1 .1 .1 .1 .0) (c .propagate .last .1 .1 .1 .1 .1 .0)
     (take (c .before .before .before .before .before .before .args .n) (c .propagate .last .1 .0 ++ drop (c .before .before .before .before .before .before .args .n) (c .before .before .before .before .before .before .args .earliest)))
 shown c =
     let s = c .before .before .before .before .before .before in
-    subst (λ (starts : List ℤ). Shown (answer-of c) (c .propagate .result .outcome) (c .propagate .last .1 .1 .1 .0) (c .propagate .last .1 .1 .1 .1 .0) starts) (sym (starts-front c))
-    (shows (s .args .«record») (take (s .args .n) (s .args .earliest)) (take (s .args .n) (s .args .t5)) _ _ (length-replicate {A = ℤ} 192 (pos 0)) (length-replicate {A = ℤ} 13824 (pos 0)) (c .propagate .result) (c .propagate .last .1 .0) (c .propagate .last .1 .1 .1 .0) (c .propagate .last .1 .1 .1 .1 .0)
+    subst (λ (starts : List ℤ). Shown (answer-of c) (c .propagate .result .outcome) (c .propagate .last .1 .1 .1 .1 .0) (c .propagate .last .1 .1 .1 .1 .1 .0) starts) (sym (starts-front c))
+    (shows (s .args .«record») (take (s .args .n) (s .args .earliest)) (take (s .args .n) (s .args .t5)) _ _ (length-replicate {A = ℤ} 192 (pos 0)) (length-replicate {A = ℤ} 13824 (pos 0)) (c .propagate .result) (c .propagate .last .1 .0) (c .propagate .last .1 .1 .1 .1 .0) (c .propagate .last .1 .1 .1 .1 .1 .0)
     (omega (arith, starts-long c, s .pre .0)) (c .propagate .ensures))
 
 array-borrow-prefix-starts : tie.Need-array-borrow-prefix-starts
