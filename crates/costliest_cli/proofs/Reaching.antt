@@ -1,6 +1,7 @@
 -- The program `plan`, reading the n tasks that are written, makes a run of 4n − 3 leaf changes.
 -- Assumes nothing.
 use mathlib.Core.Path.{_≡_, refl, sym, ap, subst, _∙_}
+use mathlib.Core.Bool.{true}
 use mathlib.Core.List.{List, [], _∷_, map}
 use mathlib.Core.Logic.{_⊎_, inr}
 use Prim.Native.Nat.{ℕ, zero, suc, _+_, _-_, _*_, _≤_, _<_}
@@ -90,15 +91,18 @@ module _ (n : ℕ) where
     same-long : length es ≡ length ds
     same-long = starts-long ∙ sym durations-long
 
-    accepted : runNumber (newRecord ds) es es (4 * TASKS) (3 * ATOMS) ≡ 0
+    accepted : runNumber (newRecord ds) es es true (4 * TASKS) (3 * ATOMS) ≡ 0
     unfolding up dn
-    accepted = accepted-run (newRecord ds) es es (4 * TASKS) (3 * ATOMS) .1 (record {
-      lawful = created-lawful ds created;
-      counts = record { earliest = same-long; latest = same-long };
-      starts = record { earliest = near; latest = near };
-      ranges = λ k q. omega ints;
-      words = words es es ds created same-long same-long;
-    })
+    accepted = accepted-run (newRecord ds) es es true (4 * TASKS) (3 * ATOMS) .1 (
+      record {
+        lawful = created-lawful ds created;
+        counts = record { earliest = same-long; latest = same-long };
+        starts = record { earliest = near; latest = near };
+        ranges = λ k q. omega ints;
+        words = words es es ds created same-long same-long;
+      },
+      refl,
+    )
 
     -- ---- the run that follows
     durations-are : take (newRecord ds .count) (newRecord ds .durations) ≡ costliestDurations n
