@@ -90,7 +90,7 @@ fn accepted(record: Propagator, earliest: &[i32], latest: &[i32]) -> Overload
     )
 }
 
-// Whether some set of the record's tasks overloads in these ranges, whose bars fit or do not.
+// Whether some set of the record's tasks overloads in these ranges. The call is told whether their bars fit.
 pub fn overload_test(
     record: Propagator,
     earliest: &[i32],

@@ -84,7 +84,7 @@ fn accepted(record: Propagator, earliest: &mut [i32], latest: &[i32]) -> Precede
     Precedences::Done
 }
 
-// Raises each earliest start to the ect of the tasks that must come before its task, where that is later; the bars of the ranges fit or do not.
+// Raises each earliest start to the ect of the tasks that must come before its task, where that is later. The call is told whether the bars of the ranges fit.
 pub fn precedences(
     record: Propagator,
     earliest: &mut [i32],

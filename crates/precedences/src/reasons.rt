@@ -122,7 +122,7 @@ fn reason_refusal<'a>(
     0
 }
 
-// Writes the reason of the task's bound over these ranges, whose bars fit or do not, and tells how many atoms it has.
+// Writes the reason of the task's bound over these ranges, and tells how many atoms it has. The call is told whether their bars fit.
 pub fn precedence_reason(
     record: Propagator,
     earliest: &[i32],
