@@ -1,9 +1,10 @@
 -- Ranges that are taken apart into two arrays and put together again: what a turn of each loop does, and what a call that goes by the arrays says of the ranges.
 -- Assumes nothing.
-use mathlib.Core.List.{List, [], _∷_, _++_, map, append-assoc, head-eq-of-cons-eq, tail-eq-of-cons-eq, cons-ne-nil}
+use mathlib.Core.Bool.{Bool}
+use mathlib.Core.List.{List, [], _∷_, _++_, map, append-assoc}
 use mathlib.Core.Logic.{_⊎_, inl, inr, ⊎-elim}
 use mathlib.Core.Path.{_≡_, refl, sym, ap, subst, _∙_}
-use Prim.Native.Nat.{ℕ, zero, suc, _+_, _-_, _≤_, _<_}
+use Prim.Native.Nat.{ℕ, suc, _≤_, _<_}
 use native.Mathlib.Omega.{arith}
 use lib.Dec.{leb}
 use lib.IntN.{ℤ, pos}
@@ -13,23 +14,26 @@ use borrow.Author.Tests.{le-leb, lt-leb, leb-true, leb-false}
 use Rattle.integers.proofs.Bools.{bool}
 use Rattle.integers.specs.Limits.{TASKS}
 use Rattle.records.specs.declared.record.Propagator.{Propagator}
-use Rattle.propagator.specs.declared.disjunctive_propagator.Outcome.{Outcome}
 use Rattle.propagator.specs.Ran.{Ran}
 use Rattle.propagator.proofs.Many.{too-many}
+use Rattle.mirrored.specs.RanMirrored.{RanMirrored}
+use Rattle.mirrored.proofs.TurnedBack.{too-many-mirrored}
 use Rattle.precedences.specs.Precedences.{RanPrecedences}
 use Rattle.precedences.proofs.Many.{too-many as no-precedences}
-use Rattle.disjunctive.specs.declared.ranges.Range.{Range}
+use Rattle.barred_starts.specs.declared.range.Range.{Range}
+use Rattle.barred_starts.specs.Bars.{allBarsFit}
+use Rattle.barred_starts.specs.Ranges.{earliests, latests, anyRange, withStarts, withLatests}
+use Rattle.barred_starts.proofs.Storing.{with-none, own-starts, latest-none, own-latests}
+use Rattle.promises.specs.RanLent.{RanLent, RanMirroredLent}
+use Rattle.promises.specs.PrecedencesLent.{PrecedencesLent}
+use Rattle.promises.proofs.Lent.{lent, lent-mirrored}
+use Rattle.promises.proofs.PrecedencesLent.{lent-precedences}
 use Rattle.disjunctive.specs.declared.ranges.Starts.{Starts}
 use Rattle.disjunctive.specs.declared.ranges.CoreRun.{CoreRun}
+use Rattle.disjunctive.specs.declared.ranges.CoreMirrored.{CoreMirrored}
 use Rattle.disjunctive.specs.declared.ranges.by_precedence.CorePrecedences.{CorePrecedences}
-use Rattle.disjunctive.specs.Ranges.{earliests, latests, RanCore, taken, padded, startsOf, withStarts}
-use Rattle.disjunctive.specs.RanLent.{RanLent}
-use Rattle.disjunctive.specs.LentCalls.{PrecedencesLent, PrecedencesCore}
-use Rattle.disjunctive.proofs.Promising.{promised}
-
--- what a list of ranges is read to hold past its end
-abbrev pub anyRange : Range
-anyRange = record { earliest = pos 0; latest = pos 0 }
+use Rattle.disjunctive.specs.Ranges.{RanCore, RanMirroredCore, taken, padded, startsOf}
+use Rattle.disjunctive.specs.LentCalls.{PrecedencesCore}
 
 -- ---- taken apart
 pub taken-all : (n : ℕ) → n ≤ TASKS → taken n ≡ n
@@ -77,110 +81,64 @@ padded-take n zs h = take-at (take n zs) (drop n (replicate TASKS (pos 0))) n (l
 pub padded-all : (n : ℕ) (zs : List ℤ) → length zs ≡ n → n ≤ TASKS → take (taken n) (padded (taken n) zs) ≡ zs
 padded-all n zs l h = rw (taken-all n h) (padded-take n zs (omega arith) ∙ take-all n zs (omega arith))
 
--- ---- put together
-pub with-none : (ys : List Range) → withStarts ys [] ≡ ys
-unfolding withStarts
-with-none [] = refl
-with-none (y ∷ ys) = refl
+-- ---- calls that store starts
+-- a core was passed all ranges, or, where there are too many, none: then what it leaves, none either, is as good as the old starts
+module _ (Said : List ℤ → List ℤ → List ℤ → Type 0) (ys : List Range) (s : Starts) (is : s ≡ startsOf ys) (n : ℕ) (same : n ≡ s .count) (zs : List ℤ) (whole : length zs ≡ TASKS)
+    (said : Said (take (s .count) (s .earliest)) (take (s .count) (s .latest)) (take (s .count) zs)) where
+  -- starts of which the core's contract says so, and which are stored as those are that it leaves
+  abbrev pub Stored : (List Range → List ℤ → List Range) → Type 0
+  Stored with = (us : List ℤ) × (length us ≡ length ys) × Said (earliests ys) (latests ys) us × (with ys (take n zs) ≡ with ys us)
 
-pub with-length : (ys : List Range) (es : List ℤ) → length (withStarts ys es) ≡ length ys
-unfolding withStarts
-with-length [] es = refl
-with-length (y ∷ ys) [] = refl
-with-length (y ∷ ys) (e ∷ es) = ap suc (with-length ys es)
+  count : n ≡ taken (length ys)
+  unfolding startsOf
+  count = same ∙ ap (λ (u : Starts). u .count) is
 
--- one more earliest start is stored
-pub with-more : (ys : List Range) (es : List ℤ) (i : ℕ) → i < length ys → i < length es
-    → set (withStarts ys (take i es)) i (record { earliest = getD es i (pos 0); latest = getD (withStarts ys (take i es)) i anyRange .latest }) ≡ withStarts ys (take (suc i) es)
-unfolding withStarts
-with-more [] es i h k = absurd (omega arith)
-with-more (y ∷ ys) [] i h k = absurd (omega arith)
-with-more (y ∷ ys) (e ∷ es) zero h k = ap (λ (us : List Range). record { earliest = e; latest = y .latest } ∷ us) (sym (with-none ys))
-with-more (y ∷ ys) (e ∷ es) (suc i) h k = ap (λ (us : List Range). record { earliest = e; latest = y .latest } ∷ us) (with-more ys es i (omega arith) (omega arith))
+  of-ranges : Said (take (startsOf ys .count) (startsOf ys .earliest)) (take (startsOf ys .count) (startsOf ys .latest)) (take (startsOf ys .count) zs)
+  of-ranges = subst (λ (u : Starts). Said (take (u .count) (u .earliest)) (take (u .count) (u .latest)) (take (u .count) zs)) is said
 
-pub earliests-with : (ys : List Range) (es : List ℤ) → length es ≡ length ys → earliests (withStarts ys es) ≡ es
-unfolding withStarts
-earliests-with [] [] h = refl
-earliests-with [] (e ∷ es) h = absurd (omega arith)
-earliests-with (y ∷ ys) [] h = absurd (omega arith)
-earliests-with (y ∷ ys) (e ∷ es) h = ap (λ (us : List ℤ). e ∷ us) (earliests-with ys es (omega arith))
+  few : (with : List Range → List ℤ → List Range) → length ys ≤ TASKS → Stored with
+  unfolding startsOf
+  few with h =
+      let e : taken (length ys) ≡ length ys = taken-all (length ys) h in
+      (take n zs, ap (λ (k : ℕ). length (take k zs)) (count ∙ e) ∙ length-take-le (length ys) zs (omega (arith, whole)), rw (count) (rw (padded-all (length ys) (earliests ys) (length-map ys (λ (y : Range). y .earliest)) h, padded-all (length ys) (latests ys) (length-map ys (λ (y : Range). y .latest)) h) at of-ranges), refl)
 
-pub latests-with : (ys : List Range) (es : List ℤ) → latests (withStarts ys es) ≡ latests ys
-unfolding withStarts
-latests-with [] es = refl
-latests-with (y ∷ ys) [] = refl
-latests-with (y ∷ ys) (e ∷ es) = ap (λ (us : List ℤ). y .latest ∷ us) (latests-with ys es)
+  many : (with : List Range → List ℤ → List Range) (own : List ℤ) → length own ≡ length ys → with ys [] ≡ ys → with ys own ≡ ys → (Said [] [] [] → Said (earliests ys) (latests ys) own) → TASKS < length ys → Stored with
+  unfolding startsOf
+  many with own size none all as-none h =
+      let e : taken (length ys) ≡ 0 = taken-none (length ys) h in
+      (own, size, as-none (rw (e) at of-ranges), ap (λ (k : ℕ). with ys (take k zs)) (count ∙ e) ∙ none ∙ sym all)
 
--- so ranges that keep their latest starts are the old ones with other earliest starts, and nothing else of them is free
-pub only-starts : (ys zs : List Range) → latests zs ≡ latests ys → zs ≡ withStarts ys (earliests zs)
-unfolding withStarts
-only-starts [] [] e = refl
-only-starts [] (z ∷ zs) e = absurd (cons-ne-nil _ _ e)
-only-starts (y ∷ ys) [] e = absurd (cons-ne-nil _ _ (sym e))
-only-starts (y ∷ ys) (z ∷ zs) e = λ i. record { earliest = z .earliest; latest = head-eq-of-cons-eq e i } ∷ only-starts ys zs (tail-eq-of-cons-eq e) i
+  pub stored : (with : List Range → List ℤ → List Range) (own : List ℤ) → length own ≡ length ys → with ys [] ≡ ys → with ys own ≡ ys → (TASKS < length (earliests ys) → Said [] [] [] → Said (earliests ys) (latests ys) own) → Stored with
+  stored with own size none all as-none = ⊎-elim (few with) (λ h. many with own size none all (as-none (omega (arith, h, length-map ys (λ (y : Range). y .earliest)))) h) (fits-or-not (length ys))
 
--- and where they keep both, they are the old ones
-own-starts : (ys : List Range) → withStarts ys (earliests ys) ≡ ys
-unfolding withStarts
-own-starts [] = refl
-own-starts (y ∷ ys) = ap (λ (us : List Range). y ∷ us) (own-starts ys)
+-- the run, the mirrored pass, and the pass by precedences
+module _ (before : Propagator) (ys : List Range) (s : Starts) (is : s ≡ startsOf ys) where
+  bars-of : (P : Bool → Type 0) → P (s .«bars_fit») → P (allBarsFit ys)
+  unfolding startsOf
+  bars-of P = subst P (ap (λ (u : Starts). u .«bars_fit») is)
 
-pub same-ranges : (ys zs : List Range) → earliests zs ≡ earliests ys → latests zs ≡ latests ys → zs ≡ ys
-same-ranges ys zs e l = only-starts ys zs l ∙ ap (withStarts ys) e ∙ own-starts ys
+  pub lent-run : (posts atoms : List ℤ) (r : CoreRun) (posts′ atoms′ : List ℤ) → RanCore before s posts atoms r posts′ atoms′
+      → RanLent before ys posts atoms (r .finished .outcome) (r .finished .changes) (r .«record») (withStarts ys (take (r .starts .count) (r .starts .earliest))) posts′ atoms′
+  lent-run posts atoms r posts′ atoms′ c =
+      let (us, size, ran, same) = stored (λ es ls es′. Ran before es ls (allBarsFit ys) posts atoms (record { «record» = r .«record»; outcome = r .finished .outcome; changes = r .finished .changes }) es′ posts′ atoms′) ys s is
+      (r .starts .count) (c .same-count) (r .starts .earliest) (c .whole) (bars-of (λ bars. Ran before (take (s .count) (s .earliest)) (take (s .count) (s .latest)) bars posts atoms (record { «record» = r .«record»; outcome = r .finished .outcome; changes = r .finished .changes }) (take (s .count) (r .starts .earliest)) posts′ atoms′) (c .ran)) withStarts (earliests ys) (length-map ys (λ (y : Range). y .earliest)) (with-none ys) (own-starts ys)
+      (λ h a. too-many before (earliests ys) (latests ys) (allBarsFit ys) (allBarsFit ys) posts atoms _ [] posts′ atoms′ h a) in
+      rw (same) (lent before ys posts atoms (r .finished .outcome) (r .finished .changes) (r .«record») us posts′ atoms′ size ran)
 
--- ---- the whole run
--- what a run leaves of the ranges' numbers is what the open run leaves, if no latest start changes
-kept : (before : Propagator) (ys : List Range) (posts atoms : List ℤ) (answer : Outcome) (changed : ℕ) (after : Propagator) (zs : List Range) (posts′ atoms′ : List ℤ)
-    → Ran before (earliests ys) (latests ys) posts atoms (record { «record» = after; outcome = answer; changes = changed }) (earliests zs) posts′ atoms′ → latests zs ≡ latests ys → RanLent before ys posts atoms answer changed after zs posts′ atoms′
-kept before ys posts atoms answer changed after zs posts′ atoms′ ran same = record {
-  same-record = ran .keeps;
-  refused = λ n. (let k = ran .refused n in record { number = k .answer; no-changes = k .changes; same-ranges = same-ranges ys zs (k .starts) same; same-posts = k .post-words; same-atoms = k .atom-words });
-  accepted = λ z. record { promise = promised before ys zs posts atoms posts′ atoms′ answer (ran .accepted z) same; left = ran .accepted z .left };
-}
+  pub lent-mirrored-run : (posts atoms : List ℤ) (r : CoreMirrored) (posts′ atoms′ : List ℤ) → RanMirroredCore before s posts atoms r posts′ atoms′
+      → RanMirroredLent before ys posts atoms (r .outcome) (withLatests ys (take (r .starts .count) (r .starts .latest))) posts′ atoms′
+  lent-mirrored-run posts atoms r posts′ atoms′ c =
+      let (us, size, ran, same) = stored (λ es ls ls′. RanMirrored before es ls (allBarsFit ys) posts atoms (r .outcome) ls′ posts′ atoms′) ys s is
+      (r .starts .count) (c .same-count) (r .starts .latest) (c .whole) (bars-of (λ bars. RanMirrored before (take (s .count) (s .earliest)) (take (s .count) (s .latest)) bars posts atoms (r .outcome) (take (s .count) (r .starts .latest)) posts′ atoms′) (c .ran)) withLatests (latests ys) (length-map ys (λ (y : Range). y .latest)) (latest-none ys) (own-latests ys)
+      (λ h a. too-many-mirrored before (earliests ys) (latests ys) (allBarsFit ys) (allBarsFit ys) posts atoms _ [] posts′ atoms′ h a) in
+      rw (same) (lent-mirrored before ys posts atoms (r .outcome) us posts′ atoms′ size ran)
 
--- ---- calls that store earliest starts
--- what a core says of the ranges taken apart and of the earliest starts that it leaves holds of the ranges before and after; where there are too many, the core was passed none
-pub stored : (Said : List ℤ → List ℤ → List ℤ → Type 0) (ys : List Range) (s r : Starts) → s ≡ startsOf ys → r .count ≡ s .count → length (r .earliest) ≡ TASKS
-    → (TASKS < length (earliests ys) → Said [] [] [] → Said (earliests ys) (latests ys) (earliests ys))
-    → Said (take (s .count) (s .earliest)) (take (s .count) (s .latest)) (take (s .count) (r .earliest)) → Said (earliests ys) (latests ys) (earliests (withStarts ys (take (r .count) (r .earliest))))
-unfolding startsOf
-stored Said ys s r e same whole as-none c = ⊎-elim few many (fits-or-not n)
-  where
-    n : ℕ
-    n = length ys
-
-    es : List ℤ
-    es = take (r .count) (r .earliest)
-
-    count : r .count ≡ taken n
-    count = same ∙ ap (λ (u : Starts). u .count) e
-
-    said : Said (take (startsOf ys .count) (startsOf ys .earliest)) (take (startsOf ys .count) (startsOf ys .latest)) (take (startsOf ys .count) (r .earliest))
-    said = subst (λ (u : Starts). Said (take (u .count) (u .earliest)) (take (u .count) (u .latest)) (take (u .count) (r .earliest))) e c
-
-    few : n ≤ TASKS → Said (earliests ys) (latests ys) (earliests (withStarts ys es))
-    few h =
-        let l : length es ≡ n = ap (λ (k : ℕ). length (take k (r .earliest))) (count ∙ taken-all n h) ∙ length-take-le n (r .earliest) (omega (arith, whole)) in
-        rw (earliests-with ys es l, count) (rw (padded-all n (earliests ys) (length-map ys (λ (y : Range). y .earliest)) h, padded-all n (latests ys) (length-map ys (λ (y : Range). y .latest)) h) at said)
-
-    many : TASKS < n → Said (earliests ys) (latests ys) (earliests (withStarts ys es))
-    many h =
-        let z : withStarts ys es ≡ ys = ap (λ (k : ℕ). withStarts ys (take k (r .earliest))) (count ∙ taken-none n h) ∙ with-none ys in
-        rw z (as-none (omega (arith, length-map ys (λ (y : Range). y .earliest))) (rw (taken-none n h) at said))
-
--- the run, and the pass by precedences
-pub lent : (before : Propagator) (ys : List Range) (posts atoms : List ℤ) (r : CoreRun) (posts′ atoms′ : List ℤ) → RanCore before (startsOf ys) posts atoms r posts′ atoms′
-    → RanLent before ys posts atoms (r .finished .outcome) (r .finished .changes) (r .«record») (withStarts ys (take (r .starts .count) (r .starts .earliest))) posts′ atoms′
-lent before ys posts atoms r posts′ atoms′ c = kept before ys posts atoms (r .finished .outcome) (r .finished .changes) (r .«record») (withStarts ys (take (r .starts .count) (r .starts .earliest))) posts′ atoms′
-    (stored (λ es ls es′. Ran before es ls posts atoms (record { «record» = r .«record»; outcome = r .finished .outcome; changes = r .finished .changes }) es′ posts′ atoms′) ys (startsOf ys) (r .starts) refl (c .same-count) (c .whole)
-    (λ h a. too-many before (earliests ys) (latests ys) posts atoms _ [] posts′ atoms′ h (length-map ys (λ (y : Range). y .latest) ∙ sym (length-map ys (λ (y : Range). y .earliest))) a) (c .ran))
-    (latests-with ys (take (r .starts .count) (r .starts .earliest)))
-
-pub lent-precedences : (before : Propagator) (ys : List Range) (s : Starts) (r : CorePrecedences) → s ≡ startsOf ys → PrecedencesCore before s r → PrecedencesLent before ys (r .answer) (withStarts ys (take (r .starts .count) (r .starts .earliest)))
-lent-precedences before ys s r e c = record {
-  ran = stored (λ es ls es′. RanPrecedences before es ls (r .answer) es′) ys s (r .starts) e (c .same-count) (c .whole) (λ h a. no-precedences before (earliests ys) (latests ys) (r .answer) [] h a) (c .ran);
-  same-latest = latests-with ys (take (r .starts .count) (r .starts .earliest));
-}
+  pub lent-pass : (r : CorePrecedences) → PrecedencesCore before s r → PrecedencesLent before ys (r .answer) (withStarts ys (take (r .starts .count) (r .starts .earliest)))
+  lent-pass r c =
+      let (us, size, ran, same) = stored (λ es ls es′. RanPrecedences before es ls (allBarsFit ys) (r .answer) es′) ys s is
+      (r .starts .count) (c .same-count) (r .starts .earliest) (c .whole) (bars-of (λ bars. RanPrecedences before (take (s .count) (s .earliest)) (take (s .count) (s .latest)) bars (r .answer) (take (s .count) (r .starts .earliest))) (c .ran)) withStarts (earliests ys) (length-map ys (λ (y : Range). y .earliest)) (with-none ys) (own-starts ys)
+      (λ h a. no-precedences before (earliests ys) (latests ys) (allBarsFit ys) (allBarsFit ys) (r .answer) [] h a) in
+      rw (same) (lent-precedences before ys (r .answer) us size ran)
 
 -- ---- calls that leave the ranges as they are
 -- what a core says of the ranges taken apart holds of the ranges; where there are too many, the core was passed none

@@ -19,11 +19,11 @@ use Rattle.records.specs.Records.{newRecord, momentsIn}
 use Rattle.overload_test.specs.declared.overload_test.Overload.the-variants.{Yes}
 use Rattle.overload_test.specs.Reading.{answerFrom, answerOf}
 use Rattle.propagator.specs.Ran.{traceOf}
-use Rattle.disjunctive.specs.declared.ranges.Range.{Range}
-use Rattle.disjunctive.specs.Ranges.{taken, padded, startsOf, withStarts}
+use Rattle.barred_starts.specs.declared.range.Range.{Range}
+use Rattle.disjunctive.specs.Ranges.{taken, padded, startsOf}
 
 range : ℤ → ℤ → Range
-range e l = record { earliest = e; latest = l }
+range e l = record { earliest = e; latest = l; count = 0; barred = [] }
 
 forty-eight : taken 48 ≡ 48
 unfolding taken
@@ -37,11 +37,6 @@ forty-nine = refl
 first-places : take 3 (startsOf (range (negsuc 6) (pos 6) ∷ range (pos 1) (pos 5) ∷ []) .earliest) ≡ negsuc 6 ∷ pos 1 ∷ pos 0 ∷ []
 unfolding taken padded startsOf range
 first-places = refl
-
--- the second of three is raised, none of the third is given
-raised : withStarts (range (pos 0) (pos 6) ∷ range (pos 1) (pos 5) ∷ range (pos 0) (pos 20) ∷ []) (pos 0 ∷ pos 4 ∷ []) ≡ range (pos 0) (pos 6) ∷ range (pos 4) (pos 5) ∷ range (pos 0) (pos 20) ∷ []
-unfolding withStarts range
-raised = refl
 
 -- the overload test says yes where the run meets an emptied range before the overload
 three : Propagator

@@ -1,9 +1,3 @@
 pub mod Ranges
-pub mod Promise
-pub mod MirroredPromise
-pub mod RanLent
-pub mod SameRuns
 pub mod LentCalls
-pub mod Instances
 pub mod Examples
-pub mod MirroredInstances

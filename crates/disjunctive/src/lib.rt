@@ -1,7 +1,6 @@
 // The open calls, all in one place: creation, a task added or taken off, the run, the mirrored pass, the pass by precedences and the reason of one task's bound, the overload test, the post reader, the check and the mirrored check, the page, the charges, the earliest free start, the busiest stretch, and the calls of the variable state. None has a `requires`.
 pub mod ranges;
 
-pub use crate::ranges::Range;
 pub use crate::ranges::by_precedence::precedence_reason;
 pub use crate::ranges::by_precedence::precedences;
 pub use crate::ranges::of_fixed_schedules::busiest_stretch;
@@ -11,6 +10,7 @@ pub use crate::ranges::of_fixed_schedules::page;
 pub use crate::ranges::overload_test;
 pub use crate::ranges::run;
 pub use crate::ranges::run_mirrored;
+pub use barred_starts::range::Range;
 pub use busiest_stretch::answer::Busiest;
 pub use charges::answer::Billing;
 pub use charges::answer::Charges;

@@ -5,6 +5,10 @@
 pub mod by_precedence;
 pub mod of_fixed_schedules;
 
+use barred_starts::bars::all_bars_fit;
+use barred_starts::moves::stored_latest;
+use barred_starts::moves::stored_start;
+use barred_starts::range::Range;
 use integers::limits::TASKS;
 use mirrored::mirrored_propagator::propagate_mirrored;
 use overload_test::overload_test::Overload;
@@ -17,21 +21,17 @@ ghost use Prim.Native.Nat.{_≤_};
 ghost use lib.ListN.{length, take};
 ghost use Rattle.integers.specs.Limits.{TASKS};
 ghost use Rattle.overload_test.specs.Tested.{OverloadTested};
-ghost use Rattle.disjunctive.specs.Ranges.{earliests, latests, RanCore, RanMirroredCore, taken, startsOf, withStarts, withLatest};
-ghost use Rattle.disjunctive.specs.RanLent.{RanLent, RanMirroredLent};
+ghost use Rattle.barred_starts.specs.Bars.{allBarsFit};
+ghost use Rattle.barred_starts.specs.Ranges.{earliests, latests, withStarts, withLatests};
+ghost use Rattle.promises.specs.RanLent.{RanLent, RanMirroredLent};
+ghost use Rattle.disjunctive.specs.Ranges.{RanCore, RanMirroredCore, taken, startsOf};
 
-// A task may start from `earliest` to `latest`.
-#[repr(C)]
-pub struct Range {
-    pub earliest: i32,
-    pub latest: i32,
-}
-
-// Ranges, taken apart: their numbers stand in the first `count` places, zeros after them.
+// Ranges, taken apart: their numbers stand in the first `count` places, zeros after them; of their bars there is whether they fit.
 pub struct Starts {
     pub count: usize,
     pub earliest: [i32; TASKS],
     pub latest: [i32; TASKS],
+    pub bars_fit: bool,
 }
 
 // What a run on ranges that are taken apart returns.
@@ -57,10 +57,11 @@ fn fitting(n: usize) -> usize
     0
 }
 
-// Two numbers are copied for each range, and no array.
+// Two numbers are copied for each range, and no array of bars.
 fn starts_of(ranges: &[Range]) -> Starts
     ensures { λ r. ⌜ r ≡ startsOf (now (ranges .entry)) ⌝ }
 {
+    let bars_fit = all_bars_fit(ranges);
     let count = fitting(ranges.len());
     let mut earliest = [0; TASKS];
     let mut latest = [0; TASKS];
@@ -75,10 +76,11 @@ fn starts_of(ranges: &[Range]) -> Starts
         count,
         earliest,
         latest,
+        bars_fit,
     }
 }
 
-// The earliest starts, put back into the ranges that they were taken from.
+// The earliest starts, put back into the ranges that they were taken from: one that was raised moves on to a permitted value.
 fn store_starts(ranges: &mut [Range], starts: Starts)
     requires { ⌜ (starts .count ≤ TASKS) × (starts .count ≤ length (now ranges)) ⌝ }
     ensures { λ _. ⌜ now (ranges .exit) ≡ withStarts (now (ranges .entry)) (take (starts .count) (starts .earliest)) ⌝ }
@@ -87,7 +89,7 @@ fn store_starts(ranges: &mut [Range], starts: Starts)
     let earliest = starts.earliest;
     let mut i = 0;
     while i < count {
-        ranges[i].earliest = earliest[i];
+        ranges[i].earliest = stored_start(ranges[i], earliest[i]);
         i += 1;
     }
 }
@@ -100,7 +102,14 @@ fn run_core(record: Propagator, starts: Starts, posts: &mut [i32], atoms: &mut [
     let n = starts.count;
     let mut earliest = starts.earliest;
     let latest = starts.latest;
-    let ran = propagate(record, &mut earliest[..n], &latest[..n], posts, atoms);
+    let ran = propagate(
+        record,
+        &mut earliest[..n],
+        &latest[..n],
+        starts.bars_fit,
+        posts,
+        atoms,
+    );
     let record = ran.record;
     let outcome = ran.outcome;
     let finished = Finished {
@@ -114,6 +123,7 @@ fn run_core(record: Propagator, starts: Starts, posts: &mut [i32], atoms: &mut [
             count: n,
             earliest,
             latest,
+            bars_fit: starts.bars_fit,
         },
     }
 }
@@ -135,16 +145,16 @@ pub fn run(
     ran.finished
 }
 
-// The latest starts, put back into the ranges that they were taken from.
+// The latest starts, put back into the ranges that they were taken from: one that was lowered moves back to a permitted value.
 fn store_latest(ranges: &mut [Range], starts: Starts)
     requires { ⌜ (starts .count ≤ TASKS) × (starts .count ≤ length (now ranges)) ⌝ }
-    ensures { λ _. ⌜ now (ranges .exit) ≡ withLatest (now (ranges .entry)) (take (starts .count) (starts .latest)) ⌝ }
+    ensures { λ _. ⌜ now (ranges .exit) ≡ withLatests (now (ranges .entry)) (take (starts .count) (starts .latest)) ⌝ }
 {
     let count = starts.count;
     let latest = starts.latest;
     let mut i = 0;
     while i < count {
-        ranges[i].latest = latest[i];
+        ranges[i].latest = stored_latest(ranges[i], latest[i]);
         i += 1;
     }
 }
@@ -162,13 +172,21 @@ fn mirrored_core(
     let n = starts.count;
     let earliest = starts.earliest;
     let mut latest = starts.latest;
-    let outcome = propagate_mirrored(record, &earliest[..n], &mut latest[..n], posts, atoms);
+    let outcome = propagate_mirrored(
+        record,
+        &earliest[..n],
+        &mut latest[..n],
+        starts.bars_fit,
+        posts,
+        atoms,
+    );
     CoreMirrored {
         outcome,
         starts: Starts {
             count: n,
             earliest,
             latest,
+            bars_fit: starts.bars_fit,
         },
     }
 }
@@ -191,17 +209,22 @@ pub fn run_mirrored(
 // The overload test on the first `count` places of the arrays.
 fn overload_core(record: Propagator, starts: Starts) -> Overload
     requires { ⌜ starts .count ≤ TASKS ⌝ }
-    ensures { λ r. ⌜ OverloadTested «record» (take (starts .count) (starts .earliest)) (take (starts .count) (starts .latest)) r ⌝ }
+    ensures { λ r. ⌜ OverloadTested «record» (take (starts .count) (starts .earliest)) (take (starts .count) (starts .latest)) (starts .«bars_fit») r ⌝ }
 {
     let n = starts.count;
     let earliest = starts.earliest;
     let latest = starts.latest;
-    overload_test::overload_test::overload_test(record, &earliest[..n], &latest[..n])
+    overload_test::overload_test::overload_test(
+        record,
+        &earliest[..n],
+        &latest[..n],
+        starts.bars_fit,
+    )
 }
 
 // Whether some set of the record's tasks overloads in these ranges. Nothing lent is changed.
 pub fn overload_test(propagator: &Propagator, ranges: &[Range]) -> Overload
-    ensures { λ r. ⌜ OverloadTested (now (propagator .entry)) (earliests (now (ranges .entry))) (latests (now (ranges .entry))) r ⌝ }
+    ensures { λ r. ⌜ OverloadTested (now (propagator .entry)) (earliests (now (ranges .entry))) (latests (now (ranges .entry))) (allBarsFit (now (ranges .entry))) r ⌝ }
 {
     let starts = starts_of(ranges);
     overload_core(*propagator, starts)

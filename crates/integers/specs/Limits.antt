@@ -51,6 +51,10 @@ PREMISES = 512
 abbrev pub HOLES : ℕ
 HOLES = 16
 
+-- barred starts of a range
+abbrev pub BARS : ℕ
+BARS = 16
+
 -- a moment that is asked about lies from −MOMENT to MOMENT, and a length of time from 1 to LENGTH
 abbrev pub MOMENT : ℕ
 MOMENT = 400000000

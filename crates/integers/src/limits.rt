@@ -31,6 +31,8 @@ pub const VALUE: i32 = 900_000_000;
 pub const PREMISES: usize = 512;
 
 pub const HOLES: usize = 16;
+// Barred starts of a range.
+pub const BARS: usize = 16;
 // A moment that is asked about lies from -MOMENT to MOMENT, and a length of time from 1 to LENGTH.
 pub const MOMENT: i32 = 400_000_000;
 

@@ -26,8 +26,8 @@ use Rattle.checker.specs.Checks.{Checked}
 use Rattle.checker.specs.Verdicts.{verdictNumbers}
 use Rattle.propagator.specs.declared.disjunctive_propagator.Finished.{Finished}
 use Rattle.propagator.specs.Outcomes.{outcomeNumbers}
-use Rattle.disjunctive.specs.declared.ranges.Range.{Range}
-use Rattle.disjunctive.specs.RanLent.{RanLent}
+use Rattle.barred_starts.specs.declared.range.Range.{Range}
+use Rattle.promises.specs.RanLent.{RanLent}
 use Rattle.reedgrit.specs.declared.answers.NewPropagator.{NewPropagator}
 use Rattle.reedgrit.specs.declared.answers.RunAnswer.{RunAnswer}
 use Rattle.reedgrit.specs.declared.answers.PostAnswer.{PostAnswer}

@@ -29,10 +29,10 @@ use Rattle.propagator.specs.Outcomes.{outcomeNumbers}
 use Rattle.busiest_stretch.specs.declared.answer.Busiest.{Busiest}
 use Rattle.busiest_stretch.specs.Numbers.{busiestNumbers}
 use Rattle.busiest_stretch.specs.Stretches.{Answered as BusiestAnswered}
-use Rattle.disjunctive.specs.declared.ranges.Range.{Range}
-use Rattle.disjunctive.specs.LentCalls.{PrecedencesLent}
-use Rattle.disjunctive.specs.RanLent.{RanMirroredLent}
-use Rattle.disjunctive.specs.Ranges.{earliests, latests}
+use Rattle.barred_starts.specs.declared.range.Range.{Range}
+use Rattle.promises.specs.PrecedencesLent.{PrecedencesLent}
+use Rattle.promises.specs.RanLent.{RanMirroredLent}
+use Rattle.barred_starts.specs.Ranges.{earliests, latests}
 use Rattle.reedgrit.specs.declared.answers.CheckAnswer.{CheckAnswer}
 use Rattle.reedgrit.specs.declared.request_answers.MirroredAnswer.{MirroredAnswer}
 use Rattle.reedgrit.specs.declared.request_answers.CountAnswer.{CountAnswer}

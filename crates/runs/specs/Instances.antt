@@ -15,14 +15,15 @@ use Rattle.runs.specs.Traces.{Post, End, done, overload, emptied, Trace}
 use Rattle.runs.specs.Runs.{propagate, run, outer, inner, conflict, propagation, bounds, within, tabulate, earliestOrder, completionOrder}
 use Rattle.runs.specs.Costliest.{costliestStarts, costliestDurations}
 
-abbrev atLeast : ℕ → ℕ → Atom
+-- task k starts at v or later; at v or earlier
+abbrev pub atLeast : ℕ → ℕ → Atom
 atLeast k v = record { variable = k; kind = 0; value = pos v }
 
-abbrev atMost : ℕ → ℕ → Atom
+abbrev pub atMost : ℕ → ℕ → Atom
 atMost k v = record { variable = k; kind = 1; value = pos v }
 
 -- earliest, latest, duration of each task
-abbrev Input : Type 0
+abbrev pub Input : Type 0
 Input = List (ℕ × ℕ × ℕ)
 
 abbrev answer : Input → Trace
@@ -31,40 +32,38 @@ answer ts = propagate (map (λ (t : ℕ × ℕ × ℕ). t .2) ts) (map (λ (t : 
 abbrev trace : List Post → End → List ℕ → ℕ → Trace
 trace ps end ss c = record { posts = ps; end = end; starts = map pos ss; changes = c }
 
-abbrev A : Input
+-- Tasks, and what a run on them leaves.
+pub record Instance : Type 0 where
+  pub tasks : Input
+  pub leaves : Trace
+
+abbrev instance : Input → List Post → End → List ℕ → ℕ → Instance
+instance ts ps end ss c = record { tasks = ts; leaves = trace ps end ss c }
+
+-- the tasks of A, and the reason of its post
+abbrev pub A : Input
 A = (0, 6, 4) ∷ (1, 5, 5) ∷ (0, 20, 3) ∷ []
 
-abbrev B : Input
-B = (0, 2, 4) ∷ (1, 2, 4) ∷ []
+abbrev pub five : List Atom
+five = atLeast 0 0 ∷ atMost 0 7 ∷ atLeast 1 0 ∷ atMost 1 6 ∷ atLeast 2 0 ∷ []
 
-abbrev C : Input
-C = (0, 4, 4) ∷ (1, 4, 4) ∷ []
-
-abbrev D : Input
-D = (0, 13, 1) ∷ (10, 11, 3) ∷ (10, 11, 3) ∷ []
-
-abbrev E : Input
-E = (0, 5, 3) ∷ (1, 1, 5) ∷ []
-
-abbrev F : Input
-F = (0, 6, 3) ∷ (1, 1, 5) ∷ []
-
-abbrev G : Input
-G = (7, 7, 1) ∷ []
-
-abbrev six : List Atom
-six = atLeast 1 1 ∷ atMost 1 2 ∷ atLeast 0 0 ∷ []
+-- the post of E and F
+abbrev six : Post
+six = record { task = 0; bound = pos 6; reason = atLeast 1 1 ∷ atMost 1 2 ∷ atLeast 0 0 ∷ [] }
 
 -- A to G, in this order.
-pub instances : map answer (A ∷ B ∷ C ∷ D ∷ E ∷ F ∷ G ∷ [])
-    ≡ trace (record { task = 2; bound = pos 9; reason = atLeast 0 0 ∷ atMost 0 7 ∷ atLeast 1 0 ∷ atMost 1 6 ∷ atLeast 2 0 ∷ [] } ∷ []) done (0 ∷ 1 ∷ 9 ∷ []) 8
-    ∷ trace [] (overload (atLeast 0 0 ∷ atMost 0 3 ∷ atLeast 1 0 ∷ atMost 1 3 ∷ [])) (0 ∷ 1 ∷ []) 2
-    ∷ trace [] done (0 ∷ 1 ∷ []) 4
-    ∷ trace [] (overload (atLeast 1 10 ∷ atMost 1 12 ∷ atLeast 2 10 ∷ atMost 2 12 ∷ [])) (0 ∷ 10 ∷ 10 ∷ []) 3
-    ∷ trace (record { task = 0; bound = pos 6; reason = six } ∷ []) emptied (0 ∷ 1 ∷ []) 4
-    ∷ trace (record { task = 0; bound = pos 6; reason = six } ∷ []) done (6 ∷ 1 ∷ []) 5
-    ∷ trace [] done (7 ∷ []) 1
+abbrev pub paper : List Instance
+paper =
+    instance A (record { task = 2; bound = pos 9; reason = five } ∷ []) done (0 ∷ 1 ∷ 9 ∷ []) 8
+    ∷ instance ((0, 2, 4) ∷ (1, 2, 4) ∷ []) [] (overload (atLeast 0 0 ∷ atMost 0 3 ∷ atLeast 1 0 ∷ atMost 1 3 ∷ [])) (0 ∷ 1 ∷ []) 2
+    ∷ instance ((0, 4, 4) ∷ (1, 4, 4) ∷ []) [] done (0 ∷ 1 ∷ []) 4
+    ∷ instance ((0, 13, 1) ∷ (10, 11, 3) ∷ (10, 11, 3) ∷ []) [] (overload (atLeast 1 10 ∷ atMost 1 12 ∷ atLeast 2 10 ∷ atMost 2 12 ∷ [])) (0 ∷ 10 ∷ 10 ∷ []) 3
+    ∷ instance ((0, 5, 3) ∷ (1, 1, 5) ∷ []) (six ∷ []) emptied (0 ∷ 1 ∷ []) 4
+    ∷ instance ((0, 6, 3) ∷ (1, 1, 5) ∷ []) (six ∷ []) done (6 ∷ 1 ∷ []) 5
+    ∷ instance ((7, 7, 1) ∷ []) [] done (7 ∷ []) 1
     ∷ []
+
+pub instances : map (λ (i : Instance). answer (i .tasks)) paper ≡ map (λ (i : Instance). i .leaves) paper
 unfolding propagate run outer inner decoded conflict propagation bounds within tabulate heightFrom sort insert index numbers width root responsible theta joinOf isEmpty gray tested descentP descentEct stepP stepEct searchP searchEct thetaOf nodeOver
 instances = refl
 

@@ -40,9 +40,9 @@ use Rattle.records.specs.declared.record.Propagator.{Propagator}
 use Rattle.records.proofs.record.Propagator as P
 use Rattle.records.proofs.record.Propagator.Laws as P′
 use Rattle.disjunctive.specs.Ranges.{startsOf, withStarts}
-use Rattle.disjunctive.specs.declared.ranges.Range.{Range}
+use Rattle.barred_starts.specs.declared.range.Range.{Range}
 use Rattle.disjunctive.specs.declared.ranges.Starts.{Starts}
-use Rattle.disjunctive.proofs.ranges.Range as T
+use Rattle.barred_starts.proofs.range.Range as T
 use Rattle.disjunctive.proofs.ranges.Starts as S
 use Rattle.disjunctive.proofs.ranges.Starts.Laws as S′
 use Rattle.disjunctive.proofs.ranges.starts_of as starts-of

@@ -1,8 +1,8 @@
 // The open calls on a fixed schedule in lent ranges: its page, its charges, the earliest free start beside it, and its busiest stretch. Of what is lent only the
 // page's buffer changes.
-use crate::ranges::Range;
 use crate::ranges::Starts;
 use crate::ranges::starts_of;
+use barred_starts::range::Range;
 use busiest_stretch::answer::Busiest;
 use charges::answer::Charges;
 use free_starts::free_start::FreeStart;
@@ -16,7 +16,7 @@ ghost use Rattle.charges.specs.Charging.{Charged};
 ghost use Rattle.free_starts.specs.FreeStarts.{Answered as FreeStartAnswered};
 ghost use Rattle.pages.specs.Pages.{Paged};
 ghost use Rattle.busiest_stretch.specs.Stretches.{Answered as BusiestAnswered};
-ghost use Rattle.disjunctive.specs.Ranges.{earliests, latests};
+ghost use Rattle.barred_starts.specs.Ranges.{earliests, latests};
 
 // The page of the first `count` places of the arrays.
 fn page_core(record: Propagator, starts: Starts, out: &mut [u8]) -> Page

@@ -51,12 +51,12 @@ use Rattle.propagator.proofs.disjunctive_propagator.Finished as F
 use Rattle.propagator.proofs.disjunctive_propagator.Finished.Laws as F′
 use Rattle.disjunctive.specs.Ranges.{RanCore}
 use Rattle.disjunctive.specs.RanLent.{RanLent}
-use Rattle.disjunctive.specs.declared.ranges.Range.{Range}
+use Rattle.barred_starts.specs.declared.range.Range.{Range}
 use Rattle.disjunctive.specs.declared.ranges.Starts.{Starts}
 use Rattle.disjunctive.specs.declared.ranges.CoreRun.{CoreRun}
 use Rattle.disjunctive.proofs.Starts.{starts-fit, lent}
 use Rattle.disjunctive.proofs.ranges.Lending.{machP, rangesVal, rangesAt, StartsOf, calls-starts-mut, Store, calls-store}
-use Rattle.disjunctive.proofs.ranges.Range as T
+use Rattle.barred_starts.proofs.range.Range as T
 use Rattle.disjunctive.proofs.ranges.Starts as S
 use Rattle.disjunctive.proofs.ranges.Starts.Laws as S′
 use Rattle.disjunctive.proofs.ranges.CoreRun as R

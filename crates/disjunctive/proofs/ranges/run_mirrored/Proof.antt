@@ -50,13 +50,13 @@ use Rattle.propagator.proofs.disjunctive_propagator.Outcome as O
 use Rattle.propagator.proofs.disjunctive_propagator.Outcome.Laws as O′
 use Rattle.disjunctive.specs.Ranges.{RanMirroredCore, withLatest}
 use Rattle.disjunctive.specs.RanLent.{RanMirroredLent}
-use Rattle.disjunctive.specs.declared.ranges.Range.{Range}
+use Rattle.barred_starts.specs.declared.range.Range.{Range}
 use Rattle.disjunctive.specs.declared.ranges.Starts.{Starts}
 use Rattle.disjunctive.specs.declared.ranges.CoreMirrored.{CoreMirrored}
 use Rattle.disjunctive.proofs.Starts.{starts-fit}
 use Rattle.disjunctive.proofs.Latests.{lent-mirrored}
 use Rattle.disjunctive.proofs.ranges.Lending.{machP, machS, rangesVal, rangesAt, StartsOf, calls-starts-mut, looks-into, shuts-record}
-use Rattle.disjunctive.proofs.ranges.Range as T
+use Rattle.barred_starts.proofs.range.Range as T
 use Rattle.disjunctive.proofs.ranges.Starts as S
 use Rattle.disjunctive.proofs.ranges.Starts.Laws as S′
 use Rattle.disjunctive.proofs.ranges.CoreMirrored as R

@@ -53,13 +53,13 @@ use denote.Triple.Table.{entered, cited}
 use denote.Triple.Walked.{says, Stays, stay-none-slice, walkOf, Walks, ends-at, walked, goes-none-slice, walk-meets}
 use Rattle.integers.specs.Limits.{TASKS}
 use Rattle.disjunctive.specs.Ranges.{earliests, latests, taken, padded, startsOf}
-use Rattle.disjunctive.specs.declared.ranges.Range.{Range}
+use Rattle.barred_starts.specs.declared.range.Range.{Range}
 use Rattle.disjunctive.specs.declared.ranges.Starts.{Starts}
 use Rattle.disjunctive.proofs.Starts.{anyRange, taken-fits, padded-none, padded-length, field-more}
 use Rattle.disjunctive.proofs.Counting.{Turn, counts}
 use Rattle.disjunctive.proofs.Rows.{Numbers, numbers, machine, zeros, as-row, as-array}
-use Rattle.disjunctive.proofs.ranges.Range as T
-use Rattle.disjunctive.proofs.ranges.Range.Laws as T′
+use Rattle.barred_starts.proofs.range.Range as T
+use Rattle.barred_starts.proofs.range.Range.Laws as T′
 use Rattle.disjunctive.proofs.ranges.Starts as S
 use Rattle.disjunctive.proofs.ranges.Starts.Laws as S′
 use Rattle.disjunctive.proofs.ranges.fitting as fitting

@@ -50,14 +50,14 @@ use denote.Triple.Table.{entered}
 use denote.Triple.Walked.{says, needs, Stays, stay-slice, stay-none, walkOf, Walks, ends-at, walked, goes-slice, goes-none, walk-meets}
 use Rattle.integers.specs.Limits.{TASKS}
 use Rattle.disjunctive.specs.Ranges.{withLatest}
-use Rattle.disjunctive.specs.declared.ranges.Range.{Range}
+use Rattle.barred_starts.specs.declared.range.Range.{Range}
 use Rattle.disjunctive.specs.declared.ranges.Starts.{Starts}
 use Rattle.disjunctive.proofs.Starts.{anyRange}
 use Rattle.disjunctive.proofs.Latests.{latest-none, latest-length, latest-more}
 use Rattle.disjunctive.proofs.Counting.{Turn, counts}
 use Rattle.disjunctive.proofs.Rows.{numbers, machine, as-row, as-array}
-use Rattle.disjunctive.proofs.ranges.Range as T
-use Rattle.disjunctive.proofs.ranges.Range.Laws as T′
+use Rattle.barred_starts.proofs.range.Range as T
+use Rattle.barred_starts.proofs.range.Range.Laws as T′
 use Rattle.disjunctive.proofs.ranges.Starts as S
 use Rattle.disjunctive.proofs.ranges.Starts.Laws as S′
 use Rattle.disjunctive.proofs.ranges.store_latest.Key.{name as #store-latest}

@@ -41,9 +41,9 @@ use Rattle.propagator.specs.declared.disjunctive_propagator.Finished.{Finished}
 use Rattle.propagator.proofs.disjunctive_propagator.Finished as F
 use Rattle.propagator.proofs.disjunctive_propagator.Finished.Laws as F′
 use Rattle.propagator.specs.Outcomes.{outcomeNumbers}
-use Rattle.disjunctive.specs.RanLent.{RanLent}
-use Rattle.disjunctive.specs.declared.ranges.Range.{Range}
-use Rattle.disjunctive.proofs.ranges.Range as T
+use Rattle.promises.specs.RanLent.{RanLent}
+use Rattle.barred_starts.specs.declared.range.Range.{Range}
+use Rattle.barred_starts.proofs.range.Range as T
 use Rattle.disjunctive.proofs.ranges.run as lent
 use Rattle.disjunctive.proofs.ranges.run.Symbol as lent-def
 use Rattle.disjunctive.proofs.ranges.run.Symbol.{name as #lent}

@@ -44,9 +44,9 @@ use Rattle.busiest_stretch.proofs.answer.Busiest as O
 use Rattle.busiest_stretch.proofs.answer.Busiest.Laws as O′
 use Rattle.busiest_stretch.specs.Numbers.{busiestNumbers}
 use Rattle.busiest_stretch.specs.Stretches.{Answered as BusiestAnswered}
-use Rattle.disjunctive.specs.Ranges.{earliests, latests}
-use Rattle.disjunctive.specs.declared.ranges.Range.{Range}
-use Rattle.disjunctive.proofs.ranges.Range as T
+use Rattle.barred_starts.specs.Ranges.{earliests, latests}
+use Rattle.barred_starts.specs.declared.range.Range.{Range}
+use Rattle.barred_starts.proofs.range.Range as T
 use Rattle.disjunctive.proofs.ranges.of_fixed_schedules.busiest_stretch as lent
 use Rattle.disjunctive.proofs.ranges.of_fixed_schedules.busiest_stretch.Symbol as lent-def
 use Rattle.disjunctive.proofs.ranges.of_fixed_schedules.busiest_stretch.Symbol.{name as #lent}

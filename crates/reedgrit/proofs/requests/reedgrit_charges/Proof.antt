@@ -40,9 +40,9 @@ use Rattle.charges.specs.declared.answer.Charges.{Charges}
 use Rattle.charges.proofs.answer.Charges as O
 use Rattle.charges.proofs.answer.Charges.Laws as O′
 use Rattle.charges.specs.Charging.{Charged}
-use Rattle.disjunctive.specs.Ranges.{earliests, latests}
-use Rattle.disjunctive.specs.declared.ranges.Range.{Range}
-use Rattle.disjunctive.proofs.ranges.Range as T
+use Rattle.barred_starts.specs.Ranges.{earliests, latests}
+use Rattle.barred_starts.specs.declared.range.Range.{Range}
+use Rattle.barred_starts.proofs.range.Range as T
 use Rattle.disjunctive.proofs.ranges.of_fixed_schedules.charges as lent
 use Rattle.disjunctive.proofs.ranges.of_fixed_schedules.charges.Symbol as lent-def
 use Rattle.disjunctive.proofs.ranges.of_fixed_schedules.charges.Symbol.{name as #lent}

@@ -44,9 +44,9 @@ use Rattle.free_starts.proofs.free_start.FreeStart as O
 use Rattle.free_starts.proofs.free_start.FreeStart.Laws as O′
 use Rattle.free_starts.specs.Numbers.{freeStartNumbers}
 use Rattle.free_starts.specs.FreeStarts.{Answered as FreeStartAnswered}
-use Rattle.disjunctive.specs.Ranges.{earliests, latests}
-use Rattle.disjunctive.specs.declared.ranges.Range.{Range}
-use Rattle.disjunctive.proofs.ranges.Range as T
+use Rattle.barred_starts.specs.Ranges.{earliests, latests}
+use Rattle.barred_starts.specs.declared.range.Range.{Range}
+use Rattle.barred_starts.proofs.range.Range as T
 use Rattle.disjunctive.proofs.ranges.of_fixed_schedules.free_start as lent
 use Rattle.disjunctive.proofs.ranges.of_fixed_schedules.free_start.Symbol as lent-def
 use Rattle.disjunctive.proofs.ranges.of_fixed_schedules.free_start.Symbol.{name as #lent}

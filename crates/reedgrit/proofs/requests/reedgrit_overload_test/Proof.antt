@@ -40,9 +40,9 @@ use Rattle.overload_test.proofs.overload_test.Overload as O
 use Rattle.overload_test.proofs.overload_test.Overload.Laws as O′
 use Rattle.overload_test.specs.Numbers.{overloadNumbers}
 use Rattle.overload_test.specs.Tested.{OverloadTested}
-use Rattle.disjunctive.specs.Ranges.{earliests, latests}
-use Rattle.disjunctive.specs.declared.ranges.Range.{Range}
-use Rattle.disjunctive.proofs.ranges.Range as T
+use Rattle.barred_starts.specs.Ranges.{earliests, latests}
+use Rattle.barred_starts.specs.declared.range.Range.{Range}
+use Rattle.barred_starts.proofs.range.Range as T
 use Rattle.disjunctive.proofs.ranges.overload_test as lent
 use Rattle.disjunctive.proofs.ranges.overload_test.Symbol as lent-def
 use Rattle.disjunctive.proofs.ranges.overload_test.Symbol.{name as #lent}

@@ -43,9 +43,9 @@ use Rattle.pages.proofs.answer.Page as O
 use Rattle.pages.proofs.answer.Page.Laws as O′
 use Rattle.pages.specs.Numbers.{pageNumbers}
 use Rattle.pages.specs.Pages.{Paged}
-use Rattle.disjunctive.specs.Ranges.{earliests, latests}
-use Rattle.disjunctive.specs.declared.ranges.Range.{Range}
-use Rattle.disjunctive.proofs.ranges.Range as T
+use Rattle.barred_starts.specs.Ranges.{earliests, latests}
+use Rattle.barred_starts.specs.declared.range.Range.{Range}
+use Rattle.barred_starts.proofs.range.Range as T
 use Rattle.disjunctive.proofs.ranges.of_fixed_schedules.page as lent
 use Rattle.disjunctive.proofs.ranges.of_fixed_schedules.page.Symbol as lent-def
 use Rattle.disjunctive.proofs.ranges.of_fixed_schedules.page.Symbol.{name as #lent}

@@ -45,9 +45,9 @@ use Rattle.precedences.proofs.answers.Reason as O
 use Rattle.precedences.proofs.answers.Reason.Laws as O′
 use Rattle.precedences.specs.Numbers.{reasonNumbers}
 use Rattle.precedences.specs.Reasons.{ReasonGiven}
-use Rattle.disjunctive.specs.Ranges.{earliests, latests}
-use Rattle.disjunctive.specs.declared.ranges.Range.{Range}
-use Rattle.disjunctive.proofs.ranges.Range as T
+use Rattle.barred_starts.specs.Ranges.{earliests, latests}
+use Rattle.barred_starts.specs.declared.range.Range.{Range}
+use Rattle.barred_starts.proofs.range.Range as T
 use Rattle.disjunctive.proofs.ranges.by_precedence.precedence_reason as lent
 use Rattle.disjunctive.proofs.ranges.by_precedence.precedence_reason.Symbol as lent-def
 use Rattle.disjunctive.proofs.ranges.by_precedence.precedence_reason.Symbol.{name as #lent}

@@ -40,9 +40,9 @@ use Rattle.precedences.specs.declared.answers.Precedences.{Precedences}
 use Rattle.precedences.proofs.answers.Precedences as O
 use Rattle.precedences.proofs.answers.Precedences.Laws as O′
 use Rattle.precedences.specs.Numbers.{precedencesNumbers}
-use Rattle.disjunctive.specs.LentCalls.{PrecedencesLent}
-use Rattle.disjunctive.specs.declared.ranges.Range.{Range}
-use Rattle.disjunctive.proofs.ranges.Range as T
+use Rattle.promises.specs.PrecedencesLent.{PrecedencesLent}
+use Rattle.barred_starts.specs.declared.range.Range.{Range}
+use Rattle.barred_starts.proofs.range.Range as T
 use Rattle.disjunctive.proofs.ranges.by_precedence.precedences as lent
 use Rattle.disjunctive.proofs.ranges.by_precedence.precedences.Symbol as lent-def
 use Rattle.disjunctive.proofs.ranges.by_precedence.precedences.Symbol.{name as #lent}

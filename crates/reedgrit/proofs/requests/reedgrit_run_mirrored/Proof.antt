@@ -42,9 +42,9 @@ use Rattle.propagator.specs.declared.disjunctive_propagator.Outcome.{Outcome}
 use Rattle.propagator.proofs.disjunctive_propagator.Outcome as O
 use Rattle.propagator.proofs.disjunctive_propagator.Outcome.Laws as O′
 use Rattle.propagator.specs.Outcomes.{outcomeNumbers}
-use Rattle.disjunctive.specs.RanLent.{RanMirroredLent}
-use Rattle.disjunctive.specs.declared.ranges.Range.{Range}
-use Rattle.disjunctive.proofs.ranges.Range as T
+use Rattle.promises.specs.RanLent.{RanMirroredLent}
+use Rattle.barred_starts.specs.declared.range.Range.{Range}
+use Rattle.barred_starts.proofs.range.Range as T
 use Rattle.disjunctive.proofs.ranges.run_mirrored as lent
 use Rattle.disjunctive.proofs.ranges.run_mirrored.Symbol as lent-def
 use Rattle.disjunctive.proofs.ranges.run_mirrored.Symbol.{name as #lent}

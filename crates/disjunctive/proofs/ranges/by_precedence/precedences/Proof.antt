@@ -47,12 +47,12 @@ use Rattle.records.proofs.record.Propagator.Laws as P′
 use Rattle.precedences.proofs.answers.Precedences as O
 use Rattle.precedences.proofs.answers.Precedences.Laws as O′
 use Rattle.disjunctive.specs.LentCalls.{PrecedencesLent, PrecedencesCore}
-use Rattle.disjunctive.specs.declared.ranges.Range.{Range}
+use Rattle.barred_starts.specs.declared.range.Range.{Range}
 use Rattle.disjunctive.specs.declared.ranges.Starts.{Starts}
 use Rattle.disjunctive.specs.declared.ranges.by_precedence.CorePrecedences.{CorePrecedences}
 use Rattle.disjunctive.proofs.Starts.{starts-fit, lent-precedences}
 use Rattle.disjunctive.proofs.ranges.Lending.{machP, rangesVal, rangesAt, StartsOf, calls-starts-mut, Store, calls-store, looks-into, shuts-record}
-use Rattle.disjunctive.proofs.ranges.Range as T
+use Rattle.barred_starts.proofs.range.Range as T
 use Rattle.disjunctive.proofs.ranges.Starts as S
 use Rattle.disjunctive.proofs.ranges.Starts.Laws as S′
 use Rattle.disjunctive.proofs.ranges.by_precedence.CorePrecedences as R

@@ -45,12 +45,12 @@ use Rattle.pages.specs.Pages.{Paged}
 use Rattle.pages.proofs.Paging.{too-many}
 use Rattle.pages.proofs.answer.Page as O
 use Rattle.pages.proofs.answer.Page.Laws as O′
-use Rattle.disjunctive.specs.Ranges.{earliests, latests}
-use Rattle.disjunctive.specs.declared.ranges.Range.{Range}
+use Rattle.barred_starts.specs.Ranges.{earliests, latests}
+use Rattle.barred_starts.specs.declared.range.Range.{Range}
 use Rattle.disjunctive.specs.declared.ranges.Starts.{Starts}
 use Rattle.disjunctive.proofs.Starts.{starts-fit, apart}
 use Rattle.disjunctive.proofs.ranges.Lending.{machP, rangesVal, StartsOf, calls-starts, looks-into, shuts-record}
-use Rattle.disjunctive.proofs.ranges.Range as T
+use Rattle.barred_starts.proofs.range.Range as T
 use Rattle.disjunctive.proofs.ranges.Starts as S
 use Rattle.disjunctive.proofs.ranges.Starts.Laws as S′
 use Rattle.disjunctive.proofs.ranges.starts_of.Symbol as starts-of-def

@@ -1,0 +1,4 @@
+pub mod Fits
+pub mod Moving
+pub mod Storing
+pub mod Turns

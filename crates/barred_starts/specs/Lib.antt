@@ -1,0 +1,5 @@
+pub mod Bars
+pub mod Moves
+pub mod Ranges
+pub mod Permitted
+pub mod Examples

@@ -1,0 +1,135 @@
+-- What an accepted run promises its caller: of the record and the ranges that it is lent, its answer, and the ranges and the words that it leaves.
+-- Nothing here knows how a run goes. There are sets of tasks, schedules, the post reader and the check. What becomes of the record, `RanLent` says.
+use mathlib.Core.Path.{_≡_}
+use mathlib.Core.Logic.{_↔_}
+use mathlib.Core.List.{List, map}
+use mathlib.Core.Option.{Option, some, none}
+use Prim.Native.Nat.{ℕ, _+_, _*_, _≤_, _<_}
+use lib.IntN.{ℤ, pos, natAbs}
+use lib.ListN.{length, getD, take, drop}
+use lib.Signed.{_≤ℤ_, _<ℤ_}
+use Rattle.scheduling.specs.Scheduling.{whole, Tasks, EdgeFindingBound, Schedule, Conflict, Done, Atom, HoldsAtEntry}
+use Rattle.checking.specs.Atoms.{atomsOf}
+use Rattle.checker.specs.declared.checker.Verdict.the-variants.{Passed}
+use Rattle.checker.specs.Checks.{checkOf, consequentWords}
+use Rattle.records.specs.declared.record.Propagator.{Propagator}
+use Rattle.records.specs.Posts.{postNumber, reasonWords}
+use Rattle.records.specs.Records.{tasksIn}
+use Rattle.propagator.specs.declared.disjunctive_propagator.Outcome.{Outcome}
+use Rattle.propagator.specs.Outcomes.{outcomeNumbers, valueOf}
+use Rattle.barred_starts.specs.declared.range.Range.{Range}
+use Rattle.barred_starts.specs.Ranges.{earliests, latests, counts, places, anyRange}
+use Rattle.barred_starts.specs.Permitted.{FirstPermitted, PermittedSchedule}
+
+-- What a caller reads ----------------------------------------------------------------------------------------------------------
+
+-- the tasks of a lent record and lent ranges
+abbrev pub tasksLent : Propagator → List Range → Tasks whole
+tasksLent before ranges = tasksIn before (earliests ranges) (latests ranges)
+
+-- post j is four words from 4j on: the first two are its task and its bound
+abbrev pub taskOf : List ℤ → ℕ → ℕ
+taskOf posts j = natAbs (getD posts (4 * j) (pos 0))
+
+abbrev pub boundOf : List ℤ → ℕ → ℤ
+boundOf posts j = getD posts (4 * j + 1) (pos 0)
+
+-- the words of its reason, as the post reader hands them out
+abbrev pub reasonOf : Outcome → List ℤ → List ℤ → ℕ → List ℤ
+reasonOf answer posts atoms j = reasonWords posts atoms (valueOf answer 0) j
+
+-- the words of an overload's reason, where the answer says that it stands
+abbrev pub overloadOf : Outcome → List ℤ → List ℤ
+overloadOf answer atoms = take (3 * valueOf answer 2) (drop (3 * valueOf answer 1) atoms)
+
+-- The promise ------------------------------------------------------------------------------------------------------------------
+
+module _ (before : Propagator) (ranges : List Range) (answer : Outcome) (ranges′ : List Range) (posts atoms : List ℤ) where
+  -- the tasks at entry
+  abbrev J : Tasks whole
+  J = tasksLent before ranges
+
+  -- the answer's kind: 0 is Done, 1 Overload, 2 Emptied
+  abbrev kind : ℕ
+  kind = outcomeNumbers answer .kind
+
+  -- how many posts there are, and the task and the bound of each
+  abbrev made : ℕ
+  made = valueOf answer 0
+
+  abbrev task : ℕ → ℕ
+  task = taskOf posts
+
+  abbrev bound : ℕ → ℤ
+  bound = boundOf posts
+
+  -- the range of task k at entry
+  abbrev range : ℕ → Range
+  range k = getD ranges k anyRange
+
+  -- the earliest start that task k is left with
+  abbrev now : ℕ → ℤ
+  now k = getD (earliests ranges′) k (pos 0)
+
+  -- the durations of the record, as a check takes them
+  abbrev durations : List ℤ
+  durations = map pos (take (before .count) (before .durations))
+
+  -- A reason, for an atom or for none.
+  pub record Reason (words : List ℤ) (consequent : Option Atom) : Type 0 where
+    -- Every choice of starts from the entry ranges meets its atoms.
+    pub holds : HoldsAtEntry J (atomsOf words)
+    -- The check answers Passed.
+    pub passes : checkOf durations words (consequentWords consequent) ≡ Passed
+
+  -- Post j.
+  pub record PostPromise (j : ℕ) : Type 0 where
+    -- The post reader takes it.
+    pub read : postNumber posts atoms made j ≡ 0
+    -- Its first word is a task's number.
+    pub names : getD posts (4 * j) (pos 0) ≡ pos (task j)
+    pub small : task j < J .count
+    -- Its bound is an edge-finding bound of the task, above the earliest start.
+    pub edge : EdgeFindingBound J (task j) (bound j)
+    pub raises : J .earliest (task j) <ℤ bound j
+    -- It holds in all schedules, and so in those of permitted starts.
+    pub holds : (s : ℕ → ℤ) → Schedule J s → bound j ≤ℤ s (task j)
+    pub holds-permitted : (s : ℕ → ℤ) → PermittedSchedule J ranges s → bound j ≤ℤ s (task j)
+    -- What the reader hands out is a reason for task ≥ bound.
+    pub reason : Reason (reasonOf answer posts atoms j) (some (record { variable = task j; kind = 0; value = bound j }))
+
+  -- An overload.
+  pub record OverloadPromise : Type 0 where
+    -- Its atoms are inside the slice: value 1 is the first one's index, value 2 their count.
+    pub inside : 3 * valueOf answer 1 + 3 * valueOf answer 2 ≤ length atoms
+    -- They are a reason without consequent.
+    pub reason : Reason (overloadOf answer atoms) none
+
+  -- A run that is Done.
+  pub record DonePromise : Type 0 where
+    -- The largest of each task's old earliest start and all its edge-finding bounds; the posts are one for each task that it raises, at the largest of its bounds, and no others.
+    pub largest : ℕ → ℤ
+    pub done : Done J largest made task bound
+    -- Each earliest start is the first permitted one from there on.
+    pub first : (k : ℕ) → k < J .count → FirstPermitted (range k) (largest k) (now k)
+
+  pub record Promise : Type 0 where
+    -- The run is Done, or it ends in Overload or Emptied.
+    pub ends : kind < 3
+    -- It is Done exactly when no set of tasks overloads its span and no edge-finding bound passes a latest start, over every set and every task outside it.
+    pub exactly : kind ≡ 0 ↔ (Conflict J → ⊥)
+    -- Each earliest start is then the first permitted value not below the largest of its old value and all its edge-finding bounds.
+    pub when-done : kind ≡ 0 → DonePromise
+    -- An overload or emptied range means that no schedule exists, and so none of permitted starts.
+    pub otherwise : (kind ≡ 0 → ⊥) → (s : ℕ → ℤ) → Schedule J s → ⊥
+    pub otherwise-permitted : (kind ≡ 0 → ⊥) → (s : ℕ → ℤ) → PermittedSchedule J ranges s → ⊥
+    -- No schedule of permitted starts is lost: each starts every task at or after the earliest start that the task is left with.
+    pub none-lost : (s : ℕ → ℤ) → PermittedSchedule J ranges s → (k : ℕ) → k < J .count → now k ≤ℤ s k
+    -- Whatever the outcome, every post holds in all schedules, and its reason holds at entry and passes the check.
+    pub every-post : (j : ℕ) → j < made → PostPromise j
+    -- So does an overload's reason.
+    pub overload : kind ≡ 1 → OverloadPromise
+    -- No latest start changes, and no bar.
+    pub same-latest : latests ranges′ ≡ latests ranges
+    pub same-counts : counts ranges′ ≡ counts ranges
+    pub same-places : places ranges′ ≡ places ranges
