@@ -14,9 +14,9 @@ use borrow.Author.Tests.{leb-true, le-leb, lt-leb}
 use Rattle.integers.specs.Limits.{BARS}
 use Rattle.integers.proofs.Bools.{clash, and-true, and-yes, and-left, and-is}
 use Rattle.integers.proofs.Ints.{ints}
-use Rattle.checking.specs.Holes.{has, Ascending}
-use Rattle.checking.proofs.Tests.{lt-ltZ}
-use Rattle.checking.proofs.Ascending.{has-head, has-cases, has-none}
+use Rattle.holes.specs.Holes.{has, Ascending}
+use Rattle.holes.proofs.Tests.{lt-ltZ}
+use Rattle.holes.proofs.Ascending.{has-head, has-cases, has-none}
 use Rattle.barred_starts.specs.declared.range.Range.{Range}
 use Rattle.barred_starts.specs.Bars.{barsOf, ascends, barsFit, allBarsFit, BarsFit}
 use Rattle.barred_starts.specs.Ranges.{anyRange}

@@ -8,9 +8,9 @@ use lib.IntN.{ℤ, pos, negsuc, _+ℤ_}
 use lib.Signed.{ltZ, _≤ℤ_, _<ℤ_}
 use Rattle.integers.proofs.Bools.{bool}
 use Rattle.integers.proofs.Ints.{ints, up, dn, sumℤ}
-use Rattle.checking.specs.Holes.{eqZ, has, stepUp, stepDown, firstFrom, lastUpTo}
-use Rattle.checking.proofs.Tests.{lt-ltZ, le-ltZ, eqZ-same}
-use Rattle.checking.proofs.Ascending.{First, Last, first-is, last-is, has-head, has-tail}
+use Rattle.holes.specs.Holes.{eqZ, has, stepUp, stepDown, firstFrom, lastUpTo, First, Last}
+use Rattle.holes.proofs.Tests.{lt-ltZ, le-ltZ, eqZ-same}
+use Rattle.holes.proofs.Ascending.{first-is, last-is, has-head, has-tail}
 use Rattle.barred_starts.specs.declared.range.Range.{Range}
 use Rattle.barred_starts.specs.Bars.{barsOf, BarsFit}
 use Rattle.barred_starts.specs.Moves.{pastBar, movedOn, storedStart, beforeBar, movedBack, storedLatest}

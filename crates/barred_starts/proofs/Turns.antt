@@ -14,7 +14,7 @@ use mir.Syntax.{w32}
 use mir.Val.{SFits}
 use Rattle.integers.specs.Limits.{BARS}
 use Rattle.integers.proofs.Ints.{ints, up, dn, sumℤ, fits-show, in-range}
-use Rattle.checking.specs.Holes.{eqZ, has}
+use Rattle.holes.specs.Holes.{eqZ, has}
 use Rattle.barred_starts.specs.declared.range.Range.{Range}
 use Rattle.barred_starts.specs.Bars.{barsOf, ascends, barsFit, allBarsFit}
 use Rattle.barred_starts.specs.Moves.{pastBar, movedOn, beforeBar, movedBack}

@@ -8,7 +8,7 @@ use lib.IntN.{ℤ}
 use lib.ListN.{take}
 use lib.Signed.{ltZ}
 use Rattle.integers.specs.Limits.{BARS}
-use Rattle.checking.specs.Holes.{has, Ascending}
+use Rattle.holes.specs.Holes.{has, Ascending}
 use Rattle.barred_starts.specs.declared.range.Range.{Range}
 
 -- the barred starts: the first `count` places, and no place past them

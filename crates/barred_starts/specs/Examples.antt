@@ -5,7 +5,7 @@ use mathlib.Core.Bool.{true, false}
 use mathlib.Core.List.{[], _∷_}
 use Prim.Native.Nat.{ℕ}
 use lib.IntN.{pos}
-use Rattle.checking.specs.Holes.{has}
+use Rattle.holes.specs.Holes.{has}
 use Rattle.barred_starts.specs.declared.range.Range.{Range}
 use Rattle.barred_starts.specs.Bars.{ascends, barsFit}
 use Rattle.barred_starts.specs.Moves.{movedOn, storedStart, movedBack, storedLatest}

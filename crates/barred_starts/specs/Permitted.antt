@@ -6,7 +6,7 @@ use Prim.Native.Nat.{ℕ, _<_}
 use lib.IntN.{ℤ}
 use lib.ListN.{getD}
 use lib.Signed.{_≤ℤ_}
-use Rattle.checking.specs.Holes.{has}
+use Rattle.holes.specs.Holes.{has}
 use Rattle.scheduling.specs.Scheduling.{whole, Tasks, Schedule, Least, Largest}
 use Rattle.barred_starts.specs.declared.range.Range.{Range}
 use Rattle.barred_starts.specs.Bars.{barsOf}

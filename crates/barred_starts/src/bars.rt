@@ -3,7 +3,7 @@ use crate::range::Range;
 use integers::limits::BARS;
 ghost use mathlib.Core.Path.{_≡_};
 ghost use lib.ListN.{length};
-ghost use Rattle.checking.specs.Holes.{has};
+ghost use Rattle.holes.specs.Holes.{has};
 ghost use Rattle.barred_starts.specs.Bars.{barsOf, ascends, barsFit, allBarsFit};
 
 // How many places are read: the count, and no more than there are.

@@ -9,12 +9,12 @@ use native.Mathlib.Decide.{ℕ-discrete}
 use lib.IntN.{ℤ}
 use Rattle.integers.specs.Limits.{TASKS}
 use Rattle.integers.specs.Tests.{refusal}
+use Rattle.atoms.specs.Atoms.{consequentOf}
+use Rattle.atoms.proofs.Atoms.{right-lists}
 use Rattle.checking.specs.declared.variable_state.Application.{Application}
 use Rattle.checking.specs.declared.variable_state.Application.the-variants as application
 use Rattle.checking.specs.declared.variable_state.Applied.{Applied}
-use Rattle.checking.specs.Atoms.{consequentOf}
 use Rattle.checking.specs.States.{prepared}
-use Rattle.checking.proofs.Atoms.{right-lists}
 use Rattle.checking.proofs.Prepared.{prepared-right}
 use Rattle.records.specs.declared.record.Created.{Created}
 use Rattle.records.specs.declared.record.Creation.the-variants as creation

@@ -14,9 +14,9 @@ use Rattle.scheduling.specs.Scheduling.{natural, Tasks, TaskSet}
 use Rattle.scheduling.specs.Mirroring.{mirrorStart}
 use Rattle.scheduling.proofs.Sets.{total-part}
 use Rattle.trees.specs.Bounds.{LATEST}
-use Rattle.checking.specs.declared.int_ext.IntExt.{IntExt}
-use Rattle.checking.specs.declared.int_ext.IntExt.the-variants.{Int, NegativeInf, PositiveInf}
-use Rattle.checking.specs.Holes.{Within}
+use Rattle.holes.specs.Holes.{Within}
+use Rattle.domains.specs.declared.int_ext.IntExt.{IntExt}
+use Rattle.domains.specs.declared.int_ext.IntExt.the-variants.{Int, NegativeInf, PositiveInf}
 use Rattle.checker.specs.Checks.{finite}
 use Rattle.checker.specs.Formulas.{known, valueOf}
 use Rattle.chosen_sets.specs.TaskArrays.{Held, Late}

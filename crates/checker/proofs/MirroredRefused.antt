@@ -13,10 +13,10 @@ use lib.ListN.{length}
 use Rattle.integers.specs.Answers.{Answer}
 use Rattle.integers.specs.Tests.{refusal}
 use Rattle.scheduling.specs.Scheduling.{Atom}
+use Rattle.atoms.specs.Atoms.{consequentOf}
 use Rattle.checking.specs.declared.variable_state.VariableState.{VariableState}
 use Rattle.checking.specs.declared.variable_state.Application.{Application}
 use Rattle.checking.specs.declared.variable_state.Application.the-variants as application
-use Rattle.checking.specs.Atoms.{consequentOf}
 use Rattle.checking.specs.States.{prepared}
 use Rattle.records.specs.Records.{durationAt, creationTests}
 use Rattle.checker.specs.declared.checker.Verdict.the-variants.{Refused}

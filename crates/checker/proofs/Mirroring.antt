@@ -16,7 +16,7 @@ use Rattle.scheduling.specs.Scheduling.{whole, Tasks, Largest, Least, NoOverlap
 use Rattle.scheduling.specs.Mirroring.{mirrorStart, mirrorKind, mirrorAtom, mirrorAtoms}
 use Rattle.scheduling.proofs.Mirroring.{at-mirror, start-twice, start-falls, largest-least, least-largest, atoms-twice, meets-mirrored}
 use Rattle.trees.specs.Bounds.{LATEST}
-use Rattle.checking.specs.Holes.{Within}
+use Rattle.holes.specs.Holes.{Within}
 use Rattle.checker.specs.MirroredChecks.{mirrorIfAny, mirrorBound}
 use Rattle.checker.proofs.Formulas.{Reads}
 

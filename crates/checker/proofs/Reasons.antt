@@ -15,9 +15,9 @@ use Rattle.scheduling.specs.Mirroring.{mirrorAtoms}
 use Rattle.scheduling.specs.Words.{atomWords}
 use Rattle.scheduling.proofs.Passed.{every-append}
 use Rattle.scheduling.proofs.Words.{atoms-length}
-use Rattle.checking.specs.Atoms.{atomsOf, first, consequentOf, rightWords, rightLists}
-use Rattle.checking.specs.Holes.{Within}
-use Rattle.checking.proofs.Atoms.{atoms-none, atoms-words, words-none, words-right, lists-right, every-map, WellFormed}
+use Rattle.holes.specs.Holes.{Within}
+use Rattle.atoms.specs.Atoms.{atomsOf, first, consequentOf, rightWords, rightLists}
+use Rattle.atoms.proofs.Atoms.{atoms-none, atoms-words, words-none, words-right, lists-right, every-map, WellFormed}
 use Rattle.records.specs.Records.{durationAt, creationTests}
 use Rattle.checker.specs.declared.checker.Verdict.the-variants.{Passed}
 use Rattle.checker.specs.Checks.{checkOf, consequentWords, tasksWith}

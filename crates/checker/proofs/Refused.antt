@@ -18,11 +18,11 @@ use Rattle.integers.specs.Tests.{refusal}
 use Rattle.integers.proofs.Bools.{bool, and-true, and-yes}
 use Rattle.integers.proofs.Tests.{unused, not-given, broken}
 use Rattle.scheduling.specs.Scheduling.{whole, Least, Largest, Atom, Admits, given, total}
+use Rattle.atoms.specs.Atoms.{atomsOf, consequentOf, RightLists}
 use Rattle.checking.specs.declared.variable_state.VariableState.{VariableState}
 use Rattle.checking.specs.declared.variable_state.Application.{Application}
 use Rattle.checking.specs.declared.variable_state.Application.the-variants as application
 use Rattle.checking.specs.Answers.{applicationNumbers}
-use Rattle.checking.specs.Atoms.{atomsOf, consequentOf, RightLists}
 use Rattle.checking.specs.Promises.{lacksRoom, Reaches}
 use Rattle.checking.specs.States.{prepared}
 use Rattle.checking.proofs.Apart.{other-kind, applications-apart}

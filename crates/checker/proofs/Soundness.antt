@@ -23,13 +23,13 @@ use Rattle.scheduling.specs.Mirroring.{mirrorStart, mirrorAtoms}
 use Rattle.scheduling.proofs.Passed.{passed-sound}
 use Rattle.scheduling.proofs.Sets.{total-part}
 use Rattle.trees.specs.Bounds.{LATEST}
-use Rattle.checking.specs.declared.int_ext.IntExt.{IntExt}
-use Rattle.checking.specs.declared.int_ext.IntExt.the-variants.{Int, NegativeInf, PositiveInf}
+use Rattle.holes.specs.Holes.{Within}
+use Rattle.atoms.specs.Atoms.{atomsOf, consequentOf, rightLists}
+use Rattle.domains.specs.declared.int_ext.IntExt.{IntExt}
+use Rattle.domains.specs.declared.int_ext.IntExt.the-variants.{Int, NegativeInf, PositiveInf}
 use Rattle.checking.specs.declared.variable_state.VariableState.{VariableState}
 use Rattle.checking.specs.declared.variable_state.Application.{Application}
 use Rattle.checking.specs.declared.variable_state.Application.the-variants as application
-use Rattle.checking.specs.Atoms.{atomsOf, consequentOf, rightLists}
-use Rattle.checking.specs.Holes.{Within}
 use Rattle.checking.specs.States.{domainAt, prepared}
 use Rattle.checking.proofs.Near.{prepared-near}
 use Rattle.checking.proofs.Prepared.{prepared-least, prepared-largest, prepared-no-least, prepared-no-largest, prepared-lower-never, prepared-upper-never, prepared-success}

@@ -19,13 +19,13 @@ use Rattle.integers.proofs.Filling.{filled-at}
 use Rattle.scheduling.specs.Scheduling.{whole, natural, Tasks, TaskSet, total, given}
 use Rattle.scheduling.specs.Mirroring.{mirrorAtoms}
 use Rattle.trees.specs.Bounds.{LATEST}
-use Rattle.checking.specs.declared.int_ext.IntExt.{IntExt}
-use Rattle.checking.specs.declared.int_ext.IntExt.the-variants.{Int, NegativeInf, PositiveInf}
+use Rattle.atoms.specs.Atoms.{atomsOf, consequentOf}
+use Rattle.atoms.proofs.Atoms.{words-three, words-at, consequent-none, consequent-one, right-atom}
+use Rattle.domains.specs.declared.int_ext.IntExt.{IntExt}
+use Rattle.domains.specs.declared.int_ext.IntExt.the-variants.{Int, NegativeInf, PositiveInf}
 use Rattle.checking.specs.declared.variable_state.VariableState.{VariableState}
 use Rattle.checking.specs.declared.variable_state.Application.the-variants as application
-use Rattle.checking.specs.Atoms.{atomsOf, consequentOf}
 use Rattle.checking.specs.States.{domainAt, prepared}
-use Rattle.checking.proofs.Atoms.{words-three, words-at, consequent-none, consequent-one, right-atom}
 use Rattle.checking.proofs.Near.{Near, prepared-near}
 use Rattle.records.specs.Records.{durationAt, creationTests, newRecord}
 use Rattle.records.proofs.Creation.{created-lawful, same-sum}

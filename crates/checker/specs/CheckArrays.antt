@@ -9,7 +9,7 @@ use lib.ListN.{length, getD, replicate}
 use Rattle.integers.specs.Limits.{TASKS}
 use Rattle.integers.specs.Filling.{filled}
 use Rattle.scheduling.specs.Scheduling.{natural, Tasks, TaskSet, total}
-use Rattle.checking.specs.Atoms.{rightWords}
+use Rattle.atoms.specs.Atoms.{rightWords}
 use Rattle.records.specs.Records.{durationAt}
 use Rattle.chosen_sets.specs.TaskArrays.{Held, Late}
 use Rattle.checking.specs.declared.start_bounds.Bounds.{Bounds}

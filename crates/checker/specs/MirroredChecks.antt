@@ -9,8 +9,8 @@ use Rattle.integers.specs.Answers.{answered}
 use Rattle.integers.specs.Tests.{refusal}
 use Rattle.scheduling.specs.Scheduling.{Atom, Contradicts}
 use Rattle.scheduling.specs.Mirroring.{mirrorStart, mirrorAtom}
+use Rattle.atoms.specs.Atoms.{atomsOf, consequentOf}
 use Rattle.checking.specs.declared.variable_state.VariableState.{VariableState}
-use Rattle.checking.specs.Atoms.{atomsOf, consequentOf}
 use Rattle.records.specs.Records.{durationAt, creationTests}
 use Rattle.checker.specs.declared.checker.Verdict.{Verdict}
 use Rattle.checker.specs.Verdicts.{verdictNumbers}

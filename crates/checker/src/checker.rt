@@ -16,7 +16,7 @@ ghost use mathlib.Core.Option.{Option};
 ghost use Prim.Native.Nat.{ℕ, _<_};
 ghost use lib.IntN.{ℤ};
 ghost use Rattle.scheduling.specs.Scheduling.{natural, Tasks, TaskSet};
-ghost use Rattle.checking.specs.Atoms.{consequentOf};
+ghost use Rattle.atoms.specs.Atoms.{consequentOf};
 ghost use Rattle.checker.specs.Formulas.{_but_, overloadsSpan, comesAfter};
 ghost use Rattle.checker.specs.Checks.{verdict, judgedBy, Checked};
 ghost use Rattle.checker.specs.MirroredChecks.{checkAs, CheckedMirrored};

@@ -1,17 +1,6 @@
-pub mod Tests
 pub mod Apart
-pub mod Steps
-pub mod Ascending
-pub mod Padding
-pub mod Atoms
-pub mod Right
-pub mod Given
-pub mod Bounds
-pub mod Domains
-pub mod Narrowing
 pub mod Accepting
 pub mod States
-pub mod Values
 pub mod Meaning
 pub mod Promises
 pub mod Prepared

@@ -13,20 +13,20 @@ use lib.ListN.{getD-replicate}
 use Rattle.integers.specs.Limits.{VARIABLES}
 use Rattle.integers.proofs.Bools.{bool}
 use Rattle.scheduling.specs.Scheduling.{Atom, Allows, Every, Admits}
-use Rattle.checking.specs.declared.variable_state.Domain.{Domain}
+use Rattle.holes.proofs.Ascending.{has-none}
+use Rattle.domains.specs.declared.domain.Domain.{Domain}
+use Rattle.domains.specs.Domains.{Admitted, allIntegers, applied, Proper}
+use Rattle.domains.specs.declared.int_ext.IntExt.the-variants.{NegativeInf, PositiveInf}
+use Rattle.domains.proofs.Narrowing.{applied-tight, applied-to, applied-of, made-admits}
+use Rattle.domains.proofs.Values.{crossed-none, some-value}
 use Rattle.checking.specs.declared.variable_state.VariableState.{VariableState}
 use Rattle.checking.specs.declared.variable_state.Application.{Application}
 use Rattle.checking.specs.declared.variable_state.Application.the-variants.{Consistent, Contradiction, Refused}
 use Rattle.checking.specs.declared.variable_state.Applied.{Applied}
-use Rattle.checking.specs.Domains.{Admitted, allIntegers, applied}
-use Rattle.checking.specs.States.{Proper, Accepted, noDomain, domainAt, put, emptyState, stepped, applyAll}
+use Rattle.checking.specs.States.{Accepted, noDomain, domainAt, put, emptyState, stepped, applyAll}
 use Rattle.checking.specs.Answers.{applicationNumbers}
 use Rattle.checking.specs.Promises.{Narrows, Excludes, lacksRoom}
-use Rattle.checking.specs.declared.int_ext.IntExt.the-variants.{NegativeInf, PositiveInf}
-use Rattle.checking.proofs.Ascending.{has-none}
-use Rattle.checking.proofs.Narrowing.{applied-tight, applied-to, applied-of, made-admits}
 use Rattle.checking.proofs.States.{put-same, put-other, stepped-case, stepped-accepted, all-case, all-end, all-consistent, all-contradiction, all-refused}
-use Rattle.checking.proofs.Values.{crossed-none, some-value}
 
 -- ---- answers differ
 abbrev pub code : Application → ℕ

@@ -15,23 +15,23 @@ use Rattle.integers.proofs.Bools.{bool}
 use Rattle.integers.proofs.Ints.{ints, up, dn, sumℤ}
 use Rattle.scheduling.specs.Scheduling.{Atom, Every, given, negation, negatedKind, negatedValue}
 use Rattle.scheduling.proofs.Passed.{every-append}
-use Rattle.checking.specs.declared.int_ext.IntExt.the-variants.{Int, NegativeInf, PositiveInf}
-use Rattle.checking.specs.declared.variable_state.Domain.{Domain}
+use Rattle.holes.specs.Holes.{Within, inserted, firstFrom, lastUpTo, First, Last}
+use Rattle.holes.proofs.Ascending.{first-is, last-is}
+use Rattle.holes.proofs.Steps.{wider, step-within, one-up, one-down}
+use Rattle.atoms.specs.Atoms.{atomAt, atomsOf, consequentOf, rightWords, rightLists}
+use Rattle.atoms.proofs.Atoms.{right-atom, right-lists, words-known, words-three, words-at, given-none, given-one, every-map}
+use Rattle.domains.specs.declared.int_ext.IntExt.the-variants.{Int, NegativeInf, PositiveInf}
+use Rattle.domains.specs.declared.domain.Domain.{Domain}
+use Rattle.domains.specs.Domains.{allIntegers, holesOf, domainOf, Tight, tightenedLower, tightenedUpper, withoutLower, withoutUpper, between, withHole, without, applied}
+use Rattle.domains.proofs.Domains.{used}
+use Rattle.domains.proofs.Narrowing.{lower-case, lower-tight, upper-case, low, low-cut, high, high-cut}
 use Rattle.checking.specs.declared.variable_state.VariableState.{VariableState}
 use Rattle.checking.specs.declared.variable_state.Applied.{Applied}
-use Rattle.checking.specs.Atoms.{atomAt, atomsOf, consequentOf, rightWords, rightLists}
-use Rattle.checking.specs.Holes.{Within, inserted, firstFrom, lastUpTo}
-use Rattle.checking.specs.Domains.{allIntegers, holesOf, domainOf, Tight, tightenedLower, tightenedUpper, withoutLower, withoutUpper, between, withHole, without, applied}
 use Rattle.checking.specs.States.{Accepted, noDomain, domainAt, put, emptyState, stepped, applyAll, prepared}
-use Rattle.checking.proofs.Ascending.{First, first-is, Last, last-is}
-use Rattle.checking.proofs.Atoms.{right-atom, right-lists, words-known, words-three, words-at, given-none, given-one, every-map}
-use Rattle.checking.proofs.Domains.{used}
 use Rattle.checking.proofs.Meaning.{Known}
-use Rattle.checking.proofs.Narrowing.{lower-case, lower-tight, upper-case, low, low-cut, high, high-cut}
 use Rattle.checking.proofs.Prepared.{ran}
 use Rattle.checking.proofs.Promises.{given-known}
 use Rattle.checking.proofs.States.{put-same, put-other, stepped-case, stepped-accepted, all-case, all-end, empty-accepted}
-use Rattle.checking.proofs.Steps.{wider, step-within, one-up, one-down}
 
 -- finite bounds within VALUE + 17
 pub record Near (d : Domain) : Type 0 where

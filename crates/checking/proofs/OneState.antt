@@ -15,23 +15,23 @@ use Rattle.integers.specs.Limits.{VARIABLES, HOLES, PREMISES}
 use Rattle.integers.proofs.Bools.{clash, and-true}
 use Rattle.scheduling.specs.Scheduling.{Atom, Compares, Allows, Every, Admits, given, negation}
 use Rattle.scheduling.proofs.Passed.{every-append}
-use Rattle.checking.specs.declared.int_ext.IntExt.the-variants.{Int}
-use Rattle.checking.specs.declared.variable_state.Domain.{Domain}
+use Rattle.holes.specs.Holes.{has}
+use Rattle.atoms.specs.Atoms.{atomsOf, consequentOf, rightWords, rightLists}
+use Rattle.atoms.proofs.Atoms.{given-none, right-lists}
+use Rattle.atoms.proofs.Right.{words-each, words-append, atoms-append}
+use Rattle.domains.specs.declared.int_ext.IntExt.the-variants.{Int}
+use Rattle.domains.specs.declared.domain.Domain.{Domain}
+use Rattle.domains.specs.Domains.{Admitted, holesOf, between, crowded, needsRoom, ltExt}
+use Rattle.domains.proofs.Bounds.{lt-to-le}
+use Rattle.domains.proofs.Values.{some-value}
 use Rattle.checking.specs.declared.variable_state.VariableState.{VariableState}
 use Rattle.checking.specs.declared.variable_state.Application.the-variants.{Consistent, Contradiction, Refused}
-use Rattle.checking.specs.Atoms.{atomsOf, consequentOf, rightWords, rightLists}
-use Rattle.checking.specs.Domains.{Admitted, holesOf, between, crowded, needsRoom, ltExt}
-use Rattle.checking.specs.Holes.{has}
 use Rattle.checking.specs.Shuffles.{Shuffled}
 use Rattle.checking.specs.States.{Accepted, domainAt, emptyState, stepped, appliedTo, applyAll, prepared}
-use Rattle.checking.proofs.Atoms.{given-none, right-lists}
-use Rattle.checking.proofs.Bounds.{lt-to-le}
 use Rattle.checking.proofs.Meaning.{Known, all-append, step-admits, step-contradiction, step-refused}
 use Rattle.checking.proofs.Prepared.{prepared-accepted, prepared-admits, prepared-right, prepared-runs, every-left, every-at}
 use Rattle.checking.proofs.Promises.{prepare-means, given-known, same-state}
-use Rattle.checking.proofs.Right.{words-each, words-append, atoms-append}
 use Rattle.checking.proofs.States.{stepped-accepted, all-consistent, all-end}
-use Rattle.checking.proofs.Values.{some-value}
 
 -- Two premise lists --------------------------------------------------------------------------------------------------------------
 

@@ -14,19 +14,19 @@ use Rattle.integers.specs.Limits.{VARIABLES, PREMISES}
 use Rattle.integers.proofs.Bools.{clash}
 use Rattle.integers.proofs.Ints.{ints}
 use Rattle.scheduling.specs.Scheduling.{whole, Least, Largest, Atom, Allows, Every, Admits, given}
-use Rattle.checking.specs.declared.int_ext.IntExt.the-variants.{Int, NegativeInf, PositiveInf}
-use Rattle.checking.specs.declared.variable_state.Domain.{Domain}
+use Rattle.atoms.specs.Atoms.{atomsOf, consequentOf, rightLists}
+use Rattle.domains.specs.declared.int_ext.IntExt.the-variants.{Int, NegativeInf, PositiveInf}
+use Rattle.domains.specs.declared.domain.Domain.{Domain}
+use Rattle.domains.specs.Domains.{Admitted, needsRoom, Proper}
+use Rattle.domains.proofs.Values.{lower-least, upper-largest, lower-none, upper-none, not-plus, not-minus}
 use Rattle.checking.specs.declared.variable_state.VariableState.{VariableState}
 use Rattle.checking.specs.declared.variable_state.Application.the-variants.{Consistent, Contradiction, Refused}
 use Rattle.checking.specs.declared.variable_state.Applied.{Applied}
-use Rattle.checking.specs.Atoms.{atomsOf, consequentOf, rightLists}
-use Rattle.checking.specs.Domains.{Admitted, needsRoom}
 use Rattle.checking.specs.Answers.{applicationNumbers}
-use Rattle.checking.specs.States.{Proper, Accepted, domainAt, emptyState, stepped, applyAll, prepared}
+use Rattle.checking.specs.States.{Accepted, domainAt, emptyState, stepped, applyAll, prepared}
 use Rattle.checking.proofs.Meaning.{differ, step-admits, step-contradiction, step-refused, Known, all-admits, all-contradiction-at, empty-admits}
 use Rattle.checking.proofs.Promises.{prepare-means, given-known}
 use Rattle.checking.proofs.States.{stepped-accepted, all-accepted, empty-accepted, all-case, all-end}
-use Rattle.checking.proofs.Values.{lower-least, upper-largest, lower-none, upper-none, not-plus, not-minus}
 
 -- ---- a list that succeeds
 no-room : (d : Domain) (k : ℕ) (v : ℤ) → k < 3 → needsRoom d k v ≡ false

@@ -16,9 +16,13 @@ use Rattle.integers.specs.Limits.{VARIABLES, PREMISES}
 use Rattle.integers.proofs.Bools.{clash}
 use Rattle.scheduling.specs.Scheduling.{Atom, given, negation}
 use Rattle.scheduling.proofs.Passed.{every-append}
-use Rattle.checking.specs.declared.int_ext.IntExt.{IntExt}
-use Rattle.checking.specs.declared.int_ext.IntExt.the-variants.{Int, NegativeInf, PositiveInf}
-use Rattle.checking.specs.declared.variable_state.Domain.{Domain}
+use Rattle.atoms.specs.Atoms.{atomFrom, atomAt, atomsOf, consequentOf, rightVariable, rightAtom, rightWords, rightLists}
+use Rattle.atoms.proofs.Atoms.{right-atom, right-variable, right-lists, words-known, words-three, words-at, given-none, given-one, every-map}
+use Rattle.domains.specs.declared.int_ext.IntExt.{IntExt}
+use Rattle.domains.specs.declared.int_ext.IntExt.the-variants.{Int, NegativeInf, PositiveInf}
+use Rattle.domains.specs.declared.domain.Domain.{Domain}
+use Rattle.domains.specs.Domains.{Admitted, isTrue}
+use Rattle.domains.proofs.Values.{lower-least, upper-largest, lower-none, upper-none, not-plus, not-minus, true-all, true-not, same-values}
 use Rattle.checking.specs.declared.variable_state.VariableState.{VariableState}
 use Rattle.checking.specs.declared.variable_state.Application.the-variants.{Consistent, Contradiction, Refused}
 use Rattle.checking.specs.declared.variable_state.Applied.{Applied}
@@ -26,16 +30,12 @@ use Rattle.checking.specs.declared.variable_state.Truth.{Truth}
 use Rattle.checking.specs.declared.variable_state.Truth.the-variants as truth
 use Rattle.checking.specs.declared.variable_state.Bound.{Bound}
 use Rattle.checking.specs.declared.variable_state.Bound.the-variants as bound
-use Rattle.checking.specs.Atoms.{atomFrom, atomAt, atomsOf, consequentOf, rightVariable, rightAtom, rightWords, rightLists}
-use Rattle.checking.specs.Domains.{Admitted, isTrue}
 use Rattle.checking.specs.States.{Accepted, Sized, noDomain, domainAt, emptyState, accepted, stepped, appliedTo, truthOf, boundOf, lowerOf, upperOf, applyAll, prepared}
 use Rattle.checking.specs.Promises.{lacksRoom, queryRefusal, EmptyMeans, ApplyMeans, TruthMeans, LowerMeans, UpperMeans, Reaches, PrepareMeans}
 use Rattle.checking.proofs.Apart.{other-kind, applications-apart, ext-number, exts-apart}
 use Rattle.checking.proofs.Accepting.{state-accepted, proper-state}
-use Rattle.checking.proofs.Atoms.{right-atom, right-variable, right-lists, words-known, words-three, words-at, given-none, given-one, every-map}
 use Rattle.checking.proofs.Meaning.{step-consistent, step-contradiction, step-refused, step-number, Known, all-admits, Stops, all-contradiction-at, all-refused-at, empty-admits}
 use Rattle.checking.proofs.States.{stepped-accepted, all-accepted, empty-accepted}
-use Rattle.checking.proofs.Values.{lower-least, upper-largest, lower-none, upper-none, not-plus, not-minus, true-all, true-not, same-values}
 
 -- ---- the empty state
 pub empty-promise : (r : VariableState) → r ≡ emptyState → (r ≡ emptyState) × EmptyMeans r

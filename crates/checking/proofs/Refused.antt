@@ -14,17 +14,17 @@ use Rattle.integers.specs.Limits.{PREMISES}
 use Rattle.integers.proofs.Bools.{bool, clash}
 use Rattle.integers.proofs.Tests.{broken}
 use Rattle.scheduling.specs.Scheduling.{Atom, given}
+use Rattle.atoms.specs.Atoms.{atomsOf, consequentOf, rightLists, RightLists}
+use Rattle.atoms.proofs.Right.{lists-are}
 use Rattle.checking.specs.declared.variable_state.VariableState.{VariableState}
 use Rattle.checking.specs.declared.variable_state.Application.the-variants.{Refused}
 use Rattle.checking.specs.declared.variable_state.Applied.{Applied}
 use Rattle.checking.specs.Answers.{applicationNumbers}
-use Rattle.checking.specs.Atoms.{atomsOf, consequentOf, rightLists, RightLists}
 use Rattle.checking.specs.Promises.{lacksRoom, Reaches}
 use Rattle.checking.specs.States.{emptyState, stepped, applyAll, prepared}
 use Rattle.checking.proofs.Meaning.{all-append}
 use Rattle.checking.proofs.Prepared.{prepared-runs}
 use Rattle.checking.proofs.Promises.{prepare-means}
-use Rattle.checking.proofs.Right.{lists-are}
 use Rattle.checking.proofs.States.{stepped-case, all-refused}
 
 -- an atom without room, once it is reached, turns the list back

@@ -14,18 +14,18 @@ use lib.Seq.{getD-set-same, getD-set-other}
 use Rattle.integers.specs.Limits.{VARIABLES}
 use Rattle.integers.proofs.Bools.{bool}
 use Rattle.scheduling.specs.Scheduling.{Atom, Every}
-use Rattle.checking.specs.declared.int_ext.IntExt.the-variants.{NegativeInf, PositiveInf}
-use Rattle.checking.specs.declared.variable_state.Domain.{Domain}
-use Rattle.checking.specs.declared.variable_state.Effect.the-variants.{Narrowed, Emptied, Full}
-use Rattle.checking.specs.declared.variable_state.Reduced.{Reduced}
+use Rattle.holes.proofs.Ascending.{has-none}
+use Rattle.domains.specs.declared.int_ext.IntExt.the-variants.{NegativeInf, PositiveInf}
+use Rattle.domains.specs.declared.domain.Domain.{Domain}
+use Rattle.domains.specs.declared.domain.Effect.the-variants.{Narrowed, Emptied, Full}
+use Rattle.domains.specs.declared.domain.Reduced.{Reduced}
+use Rattle.domains.specs.Domains.{Tight, consistent, applied, needsRoom, settled, reduced, allIntegers, Proper}
+use Rattle.domains.proofs.Narrowing.{made-tight, applied-tight}
 use Rattle.checking.specs.declared.variable_state.VariableState.{VariableState}
 use Rattle.checking.specs.declared.variable_state.Application.{Application}
 use Rattle.checking.specs.declared.variable_state.Application.the-variants.{Consistent, Contradiction, Refused}
 use Rattle.checking.specs.declared.variable_state.Applied.{Applied}
-use Rattle.checking.specs.Domains.{Tight, consistent, applied, needsRoom, settled, reduced, allIntegers}
-use Rattle.checking.specs.States.{Proper, Accepted, noDomain, domainAt, put, emptyState, outcome, stepped, applyAll}
-use Rattle.checking.proofs.Ascending.{has-none}
-use Rattle.checking.proofs.Narrowing.{made-tight, applied-tight}
+use Rattle.checking.specs.States.{Accepted, noDomain, domainAt, put, emptyState, outcome, stepped, applyAll}
 
 -- ---- what an atom does to a domain, by cases
 module _ (d : Domain) (k : ℕ) (v : ℤ) where

@@ -1,6 +1,3 @@
-pub mod Holes
-pub mod Domains
-pub mod Atoms
 pub mod States
 pub mod Answers
 pub mod Promises

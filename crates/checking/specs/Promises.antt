@@ -10,13 +10,13 @@ use lib.Signed.{_<ℤ_}
 use Rattle.integers.specs.Limits.{VARIABLES, PREMISES}
 use Rattle.integers.specs.Answers.{answered, refusedBy}
 use Rattle.scheduling.specs.Scheduling.{whole, Least, Largest, Atom, Compares, Allows, Admits, given}
+use Rattle.atoms.specs.Atoms.{atomFrom, atomsOf, consequentOf, rightVariable, rightAtom, rightLists}
+use Rattle.domains.specs.Domains.{Admitted, needsRoom}
 use Rattle.checking.specs.declared.variable_state.VariableState.{VariableState}
 use Rattle.checking.specs.declared.variable_state.Application.the-variants as application
 use Rattle.checking.specs.declared.variable_state.Applied.{Applied}
 use Rattle.checking.specs.declared.variable_state.Truth.{Truth}
 use Rattle.checking.specs.declared.variable_state.Bound.{Bound}
-use Rattle.checking.specs.Atoms.{atomFrom, atomsOf, consequentOf, rightVariable, rightAtom, rightLists}
-use Rattle.checking.specs.Domains.{Admitted, needsRoom}
 use Rattle.checking.specs.States.{domainAt, emptyState, accepted, applyAll}
 use Rattle.checking.specs.Answers.{applicationNumbers, truthNumbers, boundNumbers}
 

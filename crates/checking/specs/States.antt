@@ -9,11 +9,13 @@ use lib.IntN.{ℤ, pos, natAbs}
 use lib.ListN.{length, getD, set, replicate}
 use Rattle.integers.specs.Limits.{VARIABLES, HOLES, PREMISES}
 use Rattle.scheduling.specs.Scheduling.{Atom, given}
-use Rattle.checking.specs.declared.int_ext.IntExt.{IntExt}
-use Rattle.checking.specs.declared.int_ext.IntExt.the-variants.{Int}
-use Rattle.checking.specs.declared.variable_state.Domain.{Domain}
-use Rattle.checking.specs.declared.variable_state.Effect.the-variants.{Narrowed, Emptied, Full}
-use Rattle.checking.specs.declared.variable_state.Reduced.{Reduced}
+use Rattle.atoms.specs.Atoms.{atomFrom, atomsOf, consequentOf, rightVariable, rightAtom, rightLists}
+use Rattle.domains.specs.declared.int_ext.IntExt.{IntExt}
+use Rattle.domains.specs.declared.int_ext.IntExt.the-variants.{Int}
+use Rattle.domains.specs.declared.domain.Domain.{Domain}
+use Rattle.domains.specs.declared.domain.Effect.the-variants.{Narrowed, Emptied, Full}
+use Rattle.domains.specs.declared.domain.Reduced.{Reduced}
+use Rattle.domains.specs.Domains.{allIntegers, acceptedDomain, reduced, isTrue, Proper}
 use Rattle.checking.specs.declared.variable_state.VariableState.{VariableState}
 use Rattle.checking.specs.declared.variable_state.Application.the-variants as application
 use Rattle.checking.specs.declared.variable_state.Applied.{Applied}
@@ -21,8 +23,6 @@ use Rattle.checking.specs.declared.variable_state.Truth.{Truth}
 use Rattle.checking.specs.declared.variable_state.Truth.the-variants as truth
 use Rattle.checking.specs.declared.variable_state.Bound.{Bound}
 use Rattle.checking.specs.declared.variable_state.Bound.the-variants as bound
-use Rattle.checking.specs.Atoms.{atomFrom, atomsOf, consequentOf, rightVariable, rightAtom, rightLists}
-use Rattle.checking.specs.Domains.{allIntegers, acceptedDomain, reduced, isTrue, Tight, consistent}
 
 -- States -----------------------------------------------------------------------------------------------------------------------
 
@@ -52,12 +52,7 @@ unfoldable pub accepted : List Domain → Bool
 accepted [] = true
 accepted (d ∷ rest) = acceptedDomain d && accepted rest
 
--- What an accepted domain is: in form, and its bounds not crossed.
-pub record Proper (d : Domain) : Type 0 where
-  pub tight : Tight d
-  pub ordered : consistent d ≡ true
-
--- What an accepted state is: an array of 64 such domains.
+-- What an accepted state is: an array of 64 accepted domains.
 pub record AllProper (ds : List Domain) : Type 0 where
   pub size : length ds ≡ VARIABLES
   pub each : (x : ℕ) → x < VARIABLES → Proper (getD ds x noDomain)

@@ -5,9 +5,9 @@ use lib.ListN.{replicate}
 use Rattle.integers.specs.Limits.{TASKS}
 use Rattle.integers.specs.Filling.{filled}
 use Rattle.integers.specs.Moments.{moment, zeroAt}
-use Rattle.checking.specs.declared.int_ext.IntExt.{IntExt}
-use Rattle.checking.specs.declared.int_ext.IntExt.the-variants.{Int, NegativeInf, PositiveInf}
-use Rattle.checking.specs.declared.variable_state.Domain.{Domain}
+use Rattle.domains.specs.declared.int_ext.IntExt.{IntExt}
+use Rattle.domains.specs.declared.int_ext.IntExt.the-variants.{Int, NegativeInf, PositiveInf}
+use Rattle.domains.specs.declared.domain.Domain.{Domain}
 use Rattle.checking.specs.declared.variable_state.VariableState.{VariableState}
 use Rattle.checking.specs.declared.start_bounds.TaskBounds.{TaskBounds}
 use Rattle.checking.specs.declared.start_bounds.Bounds.{Bounds}

@@ -1,6 +1,3 @@
-// Atoms and the variable state, over i32 as in the source.
-pub mod atomic_constraint;
-mod holes;
-pub mod int_ext;
+// The variable state, over i32 as in the source.
 pub mod start_bounds;
 pub mod variable_state;

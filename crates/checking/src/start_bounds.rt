@@ -1,7 +1,7 @@
 // The bounds that a state leaves to the tasks' starts, as moments: who checks asks for them here.
-use crate::int_ext::IntExt;
-use crate::variable_state::Domain;
 use crate::variable_state::VariableState;
+use domains::domain::Domain;
+use domains::int_ext::IntExt;
 use integers::limits::TASKS;
 ghost use mathlib.Core.Path.{_≡_};
 ghost use Prim.Native.Nat.{_≤_};

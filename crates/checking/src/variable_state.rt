@@ -1,48 +1,25 @@
 // The domains of all variables.
-use crate::atomic_constraint::AtomicConstraint;
-use crate::atomic_constraint::Comparison;
-use crate::atomic_constraint::atom_at;
-use crate::atomic_constraint::atom_is_accepted;
-use crate::atomic_constraint::variable_is_accepted;
-use crate::atomic_constraint::words_are_accepted;
-use crate::holes;
-use crate::int_ext::IntExt;
-use integers::limits::HOLES;
+use atoms::atomic_constraint::AtomicConstraint;
+use atoms::atomic_constraint::atom_is_accepted;
+use atoms::atomic_constraint::given_at;
+use atoms::atomic_constraint::lists_are_accepted;
+use atoms::atomic_constraint::variable_is_accepted;
+use domains::domain::Domain;
+use domains::domain::Effect;
+use domains::int_ext::IntExt;
 use integers::limits::PREMISES;
 use integers::limits::VARIABLES;
 use integers::nat_of;
 ghost use mathlib.Core.Path.{_≡_};
-ghost use mathlib.Core.Bool.{true, false};
+ghost use mathlib.Core.Bool.{true};
 ghost use Prim.Native.Nat.{_+_, _*_, _≤_, _<_};
 ghost use lib.ListN.{length};
-ghost use Rattle.integers.specs.Limits.{VARIABLES, HOLES, PREMISES, VALUE};
+ghost use Rattle.integers.specs.Limits.{VARIABLES, PREMISES, VALUE};
 ghost use Rattle.scheduling.specs.Scheduling.{given};
-ghost use Rattle.checking.specs.Atoms.{kindOf, atomOf, atomsOf, consequentOf, givenAt, rightLists, rightFrom};
+ghost use Rattle.holes.specs.Holes.{Within};
+ghost use Rattle.atoms.specs.Atoms.{atomOf, atomsOf, consequentOf, rightLists};
 ghost use Rattle.checking.specs.Promises.{EmptyMeans, ApplyMeans, TruthMeans, LowerMeans, UpperMeans, PrepareMeans};
 ghost use Rattle.checking.specs.States.{emptyState, accepted, stepped, appliedTo, truthOf, boundOf, applyAll, prepared, AllProper, Accepted, lowerOf, upperOf, sideOf};
-ghost use Rattle.checking.specs.Holes.{Within};
-ghost use Rattle.checking.specs.Domains.{Tight, allIntegers, acceptedDomain, tightenedLower, tightenedUpper, withoutLower, withoutUpper, between, withHole, crowded, consistent, settled, reduced, isTrue};
-
-// A domain inside the variable state: the holes are the first `count` places, ascending, and the others are 0.
-pub struct Domain {
-    pub lower_bound: IntExt,
-    pub upper_bound: IntExt,
-    pub holes: [i32; HOLES],
-    pub count: usize,
-}
-
-// What applying an atom did to its variable's domain: it left a value, it left none, or it needs a hole too many.
-pub enum Effect {
-    Narrowed,
-    Emptied,
-    Full,
-}
-
-// The effect, and the domain after it, crossed where no value is left; where there is no room, the domain as it was.
-pub struct Reduced {
-    pub effect: Effect,
-    pub domain: Domain,
-}
 
 // The domains of the variables 0 to 63. An unmentioned variable may be any integer.
 pub struct VariableState {
@@ -73,249 +50,6 @@ pub enum Truth {
 pub enum Bound {
     At(IntExt),
     Refused(u32),
-}
-
-impl Domain {
-    pub fn all_integers() -> Domain
-        ensures { λ r. ⌜ r ≡ allIntegers ⌝ }
-    {
-        Domain {
-            lower_bound: IntExt::NegativeInf,
-            upper_bound: IntExt::PositiveInf,
-            holes: [0; HOLES],
-            count: 0,
-        }
-    }
-
-    // Tighten the lower bound, past holes, and drop the holes that are no longer above it.
-    fn tighten_lower_bound(self, bound: i32) -> Domain
-        requires { ⌜ Tight self × Within (VALUE + 2) bound ⌝ }
-        ensures { λ r. ⌜ r ≡ tightenedLower self bound ⌝ }
-    {
-        let lower_bound = self.lower_bound;
-        let upper_bound = self.upper_bound;
-        let holes = self.holes;
-        let count = self.count;
-        if IntExt::Int(bound).le(lower_bound) {
-            return self;
-        }
-        let raised = holes::first_from(holes, count, bound);
-        let from = holes::place(holes, count, raised);
-        Domain {
-            lower_bound: IntExt::Int(raised),
-            upper_bound,
-            holes: holes::part(holes, from, count),
-            count: count - from,
-        }
-    }
-
-    // Tighten the upper bound, past holes, and drop the holes that are no longer below it.
-    fn tighten_upper_bound(self, bound: i32) -> Domain
-        requires { ⌜ Tight self × Within (VALUE + 2) bound ⌝ }
-        ensures { λ r. ⌜ r ≡ tightenedUpper self bound ⌝ }
-    {
-        let lower_bound = self.lower_bound;
-        let upper_bound = self.upper_bound;
-        let holes = self.holes;
-        let count = self.count;
-        if upper_bound.le(IntExt::Int(bound)) {
-            return self;
-        }
-        let lowered = holes::last_up_to(holes, count, bound);
-        let to = holes::place(holes, count, lowered);
-        Domain {
-            lower_bound,
-            upper_bound: IntExt::Int(lowered),
-            holes: holes::part(holes, 0, to),
-            count: to,
-        }
-    }
-
-    // Whether the domain contains a value: its bounds are as tight as its holes allow.
-    fn is_consistent(self) -> bool
-        ensures { λ r. ⌜ r ≡ consistent self ⌝ }
-    {
-        let lower_bound = self.lower_bound;
-        let upper_bound = self.upper_bound;
-        lower_bound.le(upper_bound)
-    }
-
-    // A lower bound that is the value moves up.
-    fn without_lower(self, value: i32) -> Domain
-        requires { ⌜ Tight self × Within (VALUE + 1) value ⌝ }
-        ensures { λ r. ⌜ r ≡ withoutLower self value ⌝ }
-    {
-        let lower_bound = self.lower_bound;
-        if lower_bound.eq(IntExt::Int(value)) {
-            return self.tighten_lower_bound(value + 1);
-        }
-        self
-    }
-
-    // An upper bound that is the value moves down.
-    fn without_upper(self, value: i32) -> Domain
-        requires { ⌜ Tight self × Within (VALUE + 1) value ⌝ }
-        ensures { λ r. ⌜ r ≡ withoutUpper self value ⌝ }
-    {
-        let upper_bound = self.upper_bound;
-        if upper_bound.eq(IntExt::Int(value)) {
-            return self.tighten_upper_bound(value - 1);
-        }
-        self
-    }
-
-    // Whether the value lies strictly between the bounds.
-    fn is_between(self, value: i32) -> bool
-        ensures { λ r. ⌜ r ≡ between self value ⌝ }
-    {
-        let lower_bound = self.lower_bound;
-        let upper_bound = self.upper_bound;
-        if IntExt::Int(value).le(lower_bound) {
-            return false;
-        }
-        if upper_bound.le(IntExt::Int(value)) {
-            return false;
-        }
-        true
-    }
-
-    // A value strictly between the bounds becomes a hole.
-    fn with_hole(self, value: i32) -> Domain
-        requires { ⌜ Tight self × (crowded self value ≡ false) ⌝ }
-        ensures { λ r. ⌜ r ≡ withHole self value ⌝ }
-    {
-        if !self.is_between(value) {
-            return self;
-        }
-        let lower_bound = self.lower_bound;
-        let upper_bound = self.upper_bound;
-        let holes = self.holes;
-        let count = self.count;
-        if holes::contains(holes, count, value) {
-            return self;
-        }
-        Domain {
-            lower_bound,
-            upper_bound,
-            holes: holes::insert(holes, count, value),
-            count: count + 1,
-        }
-    }
-
-    // Whether the value would be a hole too many.
-    fn is_crowded(self, value: i32) -> bool
-        requires { ⌜ Tight self ⌝ }
-        ensures { λ r. ⌜ r ≡ crowded self value ⌝ }
-    {
-        if !self.is_between(value) {
-            return false;
-        }
-        let holes = self.holes;
-        let count = self.count;
-        if holes::contains(holes, count, value) {
-            return false;
-        }
-        HOLES <= count
-    }
-
-    // The domain after an atom, and whether a value is left in it.
-    fn settled(self) -> Reduced
-        ensures { λ r. ⌜ r ≡ settled self ⌝ }
-    {
-        if self.is_consistent() {
-            return Reduced {
-                effect: Effect::Narrowed,
-                domain: self,
-            };
-        }
-        Reduced {
-            effect: Effect::Emptied,
-            domain: self,
-        }
-    }
-
-    // Apply an atom on this domain's variable.
-    fn apply(self, comparison: Comparison, value: i32) -> Reduced
-        requires { ⌜ Tight self × Within (VALUE + 1) value ⌝ }
-        ensures { λ r. ⌜ r ≡ reduced self (kindOf comparison) value ⌝ }
-    {
-        match comparison {
-            Comparison::GreaterEqual => self.tighten_lower_bound(value).settled(),
-            Comparison::LessEqual => self.tighten_upper_bound(value).settled(),
-            Comparison::Equal => {
-                let raised = self.tighten_lower_bound(value);
-                raised.tighten_upper_bound(value).settled()
-            }
-            Comparison::NotEqual => {
-                if self.is_crowded(value) {
-                    return Reduced {
-                        effect: Effect::Full,
-                        domain: self,
-                    };
-                }
-                let raised = self.without_lower(value);
-                let lowered = raised.without_upper(value);
-                lowered.with_hole(value).settled()
-            }
-        }
-    }
-
-    // Whether every value of the domain meets an atom on its variable.
-    fn is_true(self, comparison: Comparison, value: i32) -> bool
-        requires { ⌜ Tight self ⌝ }
-        ensures { λ r. ⌜ r ≡ isTrue self (kindOf comparison) value ⌝ }
-    {
-        let lower_bound = self.lower_bound;
-        let upper_bound = self.upper_bound;
-        let holes = self.holes;
-        let count = self.count;
-        let bound = IntExt::Int(value);
-        match comparison {
-            Comparison::GreaterEqual => bound.le(lower_bound),
-            Comparison::LessEqual => upper_bound.le(bound),
-            Comparison::Equal => {
-                if bound.le(lower_bound) {
-                    return upper_bound.le(bound);
-                }
-                false
-            }
-            Comparison::NotEqual => {
-                if !lower_bound.le(bound) {
-                    return true;
-                }
-                if !bound.le(upper_bound) {
-                    return true;
-                }
-                holes::contains(holes, count, value)
-            }
-        }
-    }
-
-    // Whether the domain is one that a call may be given.
-    fn is_accepted(self) -> bool
-        ensures { λ r. ⌜ (r ≡ acceptedDomain self) × (r ≡ true → length (self .holes) ≡ HOLES) ⌝ }
-    {
-        let lower_bound = self.lower_bound;
-        let upper_bound = self.upper_bound;
-        let holes = self.holes;
-        let count = self.count;
-        if !lower_bound.le(upper_bound) {
-            return false;
-        }
-        if IntExt::PositiveInf.le(lower_bound) {
-            return false;
-        }
-        if upper_bound.le(IntExt::NegativeInf) {
-            return false;
-        }
-        if HOLES < count {
-            return false;
-        }
-        if !holes::ascend_between(holes, count, lower_bound, upper_bound) {
-            return false;
-        }
-        holes::rest_is_zero(holes, count)
-    }
 }
 
 impl VariableState {
@@ -508,30 +242,6 @@ impl VariableState {
         }
         VariableState::apply_all(premises, consequent)
     }
-}
-
-// The atom of the three words from place i on, of the premises' words followed by the consequent's, whose atom is negated.
-fn given_at(premises: &[i32], consequent: &[i32], i: usize) -> AtomicConstraint
-    requires { ⌜ (i < length (now premises) + length (now consequent)) × (rightFrom (now premises) (now consequent) i ≡ true) ⌝ }
-    ensures { λ r. ⌜ atomOf r ≡ givenAt (now (premises .entry)) (now (consequent .entry)) i ⌝ }
-{
-    if i < premises.len() {
-        return atom_at(premises, i);
-    }
-    atom_at(consequent, i - premises.len()).negate()
-}
-
-// Whether the premises are atoms, and the consequent one atom or none.
-fn lists_are_accepted(premises: &[i32], consequent: &[i32]) -> bool
-    ensures { λ r. ⌜ r ≡ rightLists (now (premises .entry)) (now (consequent .entry)) ⌝ }
-{
-    if !words_are_accepted(premises) {
-        return false;
-    }
-    if 3 < consequent.len() {
-        return false;
-    }
-    words_are_accepted(consequent)
 }
 
 // Whether every domain is accepted.

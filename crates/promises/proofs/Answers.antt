@@ -11,8 +11,8 @@ use Rattle.scheduling.specs.Words.{atomWords}
 use Rattle.runs.specs.Traces.{Trace, done}
 use Rattle.runs.specs.Words.{reasons}
 use Rattle.runs.specs.Demand.{post}
-use Rattle.checking.specs.Atoms.{atomsOf}
-use Rattle.checking.proofs.Atoms.{atoms-words}
+use Rattle.atoms.specs.Atoms.{atomsOf}
+use Rattle.atoms.proofs.Atoms.{atoms-words}
 use Rattle.records.specs.Posts.{postNumber, reasonWords}
 use Rattle.propagator.specs.declared.disjunctive_propagator.Outcome.{Outcome}
 use Rattle.propagator.specs.Finding.{outcomeOf}

@@ -19,7 +19,7 @@ use Rattle.runs.specs.Traces.{Trace, done}
 use Rattle.runs.specs.Words.{reasons}
 use Rattle.runs.specs.Demand.{post}
 use Rattle.runs.specs.Mirrored.{mirroredConsequent}
-use Rattle.checking.specs.Atoms.{atomsOf}
+use Rattle.atoms.specs.Atoms.{atomsOf}
 use Rattle.checker.specs.declared.checker.Verdict.the-variants.{Passed}
 use Rattle.checker.specs.MirroredChecks.{checkMirroredOf}
 use Rattle.records.specs.declared.record.Propagator.{Propagator}

@@ -15,11 +15,11 @@ use Rattle.trees.specs.Leaves.{root, responsible, theta}
 use Rattle.trees.specs.Nodes.{joinOf, isEmpty}
 use Rattle.trees.specs.Searches.{gray, tested, descentP, descentEct, stepP, stepEct, searchP, searchEct, thetaOf}
 use Rattle.trees.specs.Shapes.{width, heightFrom, nodeOver}
-use Rattle.checking.specs.declared.int_ext.IntExt.the-variants.{Int}
+use Rattle.holes.specs.Holes.{has, kept, inserted, firstFrom, lastUpTo, zeros}
+use Rattle.atoms.specs.Atoms.{atomsOf, rightAtom, rightWords, rightLists}
+use Rattle.domains.specs.declared.int_ext.IntExt.the-variants.{Int}
+use Rattle.domains.specs.Domains.{acceptedDomain, ascend, tightenedLower, tightenedUpper, withoutLower, withoutUpper, withHole, without, crowded, settled, reduced}
 use Rattle.checking.specs.declared.variable_state.Bound.the-variants.{At}
-use Rattle.checking.specs.Atoms.{atomsOf, rightAtom, rightWords, rightLists}
-use Rattle.checking.specs.Domains.{acceptedDomain, ascend, tightenedLower, tightenedUpper, withoutLower, withoutUpper, withHole, without, crowded, settled, reduced}
-use Rattle.checking.specs.Holes.{has, kept, inserted, firstFrom, lastUpTo, zeros}
 use Rattle.checking.specs.States.{emptyState, accepted, stepped, appliedTo, boundOf, lowerOf, applyAll, prepared}
 use Rattle.runs.specs.Instances.{Input, Instance, atLeast, A, five, paper}
 use Rattle.runs.specs.Traces.{Trace}

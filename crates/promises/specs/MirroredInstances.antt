@@ -15,9 +15,9 @@ use Rattle.trees.specs.Leaves.{root, responsible, theta}
 use Rattle.trees.specs.Nodes.{joinOf, isEmpty}
 use Rattle.trees.specs.Searches.{gray, tested, descentP, descentEct, stepP, stepEct, searchP, searchEct, thetaOf}
 use Rattle.trees.specs.Shapes.{width, heightFrom, nodeOver}
-use Rattle.checking.specs.Atoms.{atomsOf, rightAtom, rightWords, rightLists}
-use Rattle.checking.specs.Domains.{acceptedDomain, ascend, tightenedLower, tightenedUpper, withoutLower, withoutUpper, withHole, without, crowded, settled, reduced}
-use Rattle.checking.specs.Holes.{has, kept, inserted, firstFrom, lastUpTo, zeros}
+use Rattle.holes.specs.Holes.{has, kept, inserted, firstFrom, lastUpTo, zeros}
+use Rattle.atoms.specs.Atoms.{atomsOf, rightAtom, rightWords, rightLists}
+use Rattle.domains.specs.Domains.{acceptedDomain, ascend, tightenedLower, tightenedUpper, withoutLower, withoutUpper, withHole, without, crowded, settled, reduced}
 use Rattle.checking.specs.States.{accepted, stepped, appliedTo, applyAll, prepared}
 use Rattle.runs.specs.Mirrored.{mirroredPass}
 use Rattle.runs.specs.Runs.{propagate, run, outer, inner, conflict, propagation, bounds, within, tabulate}

@@ -9,7 +9,7 @@ use lib.ListN.{length, getD, take}
 use lib.Signed.{_≤ℤ_, _<ℤ_}
 use Rattle.scheduling.specs.Scheduling.{whole, Tasks, Schedule, Atom, HoldsAtEntry, PassesFormula}
 use Rattle.scheduling.specs.Mirroring.{mirror, mirrorAtoms, MirroredBound, MirroredConflict, MirroredDone}
-use Rattle.checking.specs.Atoms.{atomsOf}
+use Rattle.atoms.specs.Atoms.{atomsOf}
 use Rattle.checker.specs.declared.checker.Verdict.the-variants.{Passed}
 use Rattle.checker.specs.Checks.{consequentWords}
 use Rattle.checker.specs.MirroredChecks.{mirrorIfAny, checkMirroredOf}

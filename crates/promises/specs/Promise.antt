@@ -9,7 +9,7 @@ use lib.IntN.{ℤ, pos, natAbs}
 use lib.ListN.{length, getD, take, drop}
 use lib.Signed.{_≤ℤ_, _<ℤ_}
 use Rattle.scheduling.specs.Scheduling.{whole, Tasks, EdgeFindingBound, Schedule, Conflict, Done, Atom, HoldsAtEntry}
-use Rattle.checking.specs.Atoms.{atomsOf}
+use Rattle.atoms.specs.Atoms.{atomsOf}
 use Rattle.checker.specs.declared.checker.Verdict.the-variants.{Passed}
 use Rattle.checker.specs.Checks.{checkOf, consequentWords}
 use Rattle.records.specs.declared.record.Propagator.{Propagator}

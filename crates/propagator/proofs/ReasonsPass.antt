@@ -21,8 +21,8 @@ use Rattle.runs.specs.Traces.{Post, overload}
 use Rattle.runs.specs.Demand.{consequentOf, post, PostRight}
 use Rattle.runs.proofs.Demand as demand
 use Rattle.runs.proofs.Shapes.{Shaped, post-shaped, overload-shaped}
-use Rattle.checking.specs.Holes.{Within}
-use Rattle.checking.proofs.Atoms.{every-map}
+use Rattle.holes.specs.Holes.{Within}
+use Rattle.atoms.proofs.Atoms.{every-map}
 use Rattle.records.specs.declared.record.Propagator.{Propagator}
 use Rattle.records.specs.Records.{creationTests, tasksIn}
 use Rattle.records.specs.Refusals.{Accepted}

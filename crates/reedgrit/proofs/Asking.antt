@@ -15,17 +15,17 @@ use Rattle.integers.specs.Limits.{PREMISES}
 use Rattle.integers.specs.Tests.{Test, test, refusal}
 use Rattle.integers.proofs.Bools.{bool, clash, and-yes}
 use Rattle.integers.proofs.Tests.{accepts, refuses}
+use Rattle.atoms.specs.Atoms.{rightWords}
+use Rattle.atoms.proofs.Atoms.{right-lists}
+use Rattle.atoms.proofs.Right.{lists-are}
 use Rattle.checking.specs.declared.variable_state.VariableState.{VariableState}
 use Rattle.checking.specs.declared.variable_state.Application.{Application}
 use Rattle.checking.specs.declared.variable_state.Application.the-variants.{Refused}
 use Rattle.checking.specs.declared.variable_state.Applied.{Applied}
 use Rattle.checking.specs.Answers.{applicationNumbers}
-use Rattle.checking.specs.Atoms.{rightWords}
 use Rattle.checking.specs.States.{prepared}
 use Rattle.checking.proofs.Apart.{applications-apart}
-use Rattle.checking.proofs.Atoms.{right-lists}
 use Rattle.checking.proofs.Refused.{prepared-7, prepared-6}
-use Rattle.checking.proofs.Right.{lists-are}
 use Rattle.reedgrit.specs.Answers.{stateAnswer}
 use Rattle.reedgrit.specs.Calls.{rightQuestion, questionTests, askedAt, askedAfter, asked}
 

@@ -12,14 +12,14 @@ use Rattle.integers.specs.Tests.{Test, test, refusal}
 use Rattle.records.specs.declared.record.Propagator.{Propagator}
 use Rattle.records.specs.Records.{creationNumber, created}
 use Rattle.records.specs.Posts.{stretchStart, stretchLength, postNumber}
-use Rattle.checking.specs.declared.int_ext.IntExt.{IntExt}
-use Rattle.checking.specs.declared.variable_state.Domain.{Domain}
+use Rattle.atoms.specs.Atoms.{rightVariable, rightAtom, rightWords}
+use Rattle.domains.specs.declared.int_ext.IntExt.{IntExt}
+use Rattle.domains.specs.declared.domain.Domain.{Domain}
 use Rattle.checking.specs.declared.variable_state.VariableState.{VariableState}
 use Rattle.checking.specs.declared.variable_state.Application.{Application}
 use Rattle.checking.specs.declared.variable_state.Application.the-variants as application
 use Rattle.checking.specs.declared.variable_state.Applied.{Applied}
 use Rattle.checking.specs.Answers.{applicationNumbers, truthNumbers, boundNumbers}
-use Rattle.checking.specs.Atoms.{rightVariable, rightAtom, rightWords}
 use Rattle.checking.specs.States.{prepared, truthOf, boundOf, lowerOf, upperOf}
 use Rattle.checker.specs.declared.checker.Verdict.{Verdict}
 use Rattle.checker.specs.Checks.{Checked}

@@ -5,9 +5,9 @@ use mathlib.Core.List.{List, [], _∷_}
 use lib.IntN.{ℤ, pos}
 use Rattle.integers.specs.Answers.{answered, refusedBy}
 use Rattle.integers.specs.Tests.{refusal}
-use Rattle.checking.specs.Atoms.{atomsOf, rightAtom, rightWords, rightLists}
-use Rattle.checking.specs.Domains.{crowded, without, withoutLower, withoutUpper, withHole, tightenedLower, tightenedUpper, settled, reduced}
-use Rattle.checking.specs.Holes.{has, kept, inserted, firstFrom, lastUpTo}
+use Rattle.holes.specs.Holes.{has, kept, inserted, firstFrom, lastUpTo}
+use Rattle.atoms.specs.Atoms.{atomsOf, rightAtom, rightWords, rightLists}
+use Rattle.domains.specs.Domains.{crowded, without, withoutLower, withoutUpper, withHole, tightenedLower, tightenedUpper, settled, reduced}
 use Rattle.checking.specs.States.{stepped, applyAll, prepared}
 use Rattle.propagator.specs.declared.disjunctive_propagator.Outcome.the-variants as outcome
 use Rattle.propagator.specs.Outcomes.{outcomeNumbers}

@@ -1,9 +1,9 @@
 // The answers of the open calls as structs of numbers, and the functions that make them of the enums.
 use checker::checker::Verdict;
-use checking::int_ext::IntExt;
 use checking::variable_state::Application;
 use checking::variable_state::Bound;
 use checking::variable_state::Truth;
+use domains::int_ext::IntExt;
 use propagator::disjunctive_propagator::Finished;
 use propagator::disjunctive_propagator::Outcome;
 use records::record::Creation;

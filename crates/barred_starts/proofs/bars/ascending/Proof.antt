@@ -10,7 +10,7 @@ use borrow.Author.Needs.{needs}
 use Rattle.integers.specs.Limits.{BARS}
 use Rattle.integers.proofs.Bools.{and-left, and-is}
 use Rattle.integers.proofs.Ints.{ints, back-of}
-use Rattle.checking.proofs.Tests.{lt-ltZ, le-ltZ}
+use Rattle.holes.proofs.Tests.{lt-ltZ, le-ltZ}
 use Rattle.barred_starts.specs.Bars.{barsOf, ascends}
 use Rattle.barred_starts.proofs.Turns.{bars-fewer, ascends-on, ascends-end}
 use Rattle.barred_starts.proofs.bars.ascending.Statement.{statement}

@@ -9,7 +9,7 @@ use borrow.Author.Tests.{not-true, not-false}
 use Rattle.integers.specs.Limits.{BARS}
 use Rattle.integers.proofs.Bools.{and-left, and-right, and-is}
 use Rattle.integers.proofs.Ints.{back-of}
-use Rattle.checking.specs.Holes.{has}
+use Rattle.holes.specs.Holes.{has}
 use Rattle.barred_starts.specs.Bars.{barsOf, ascends}
 use Rattle.barred_starts.proofs.Fits.{fit-none, fit-many, fit-few}
 use Rattle.barred_starts.proofs.bars.bars_fit.Statement.{statement}

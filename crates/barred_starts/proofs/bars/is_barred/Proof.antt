@@ -10,8 +10,8 @@ use mir.Val.{toZ, ofZ}
 use borrow.Author.Needs.{needs}
 use Rattle.integers.specs.Limits.{BARS}
 use Rattle.integers.proofs.Ints.{back, same-bits}
-use Rattle.checking.specs.Holes.{has}
-use Rattle.checking.proofs.Tests.{same-eqZ, other-eqZ}
+use Rattle.holes.specs.Holes.{has}
+use Rattle.holes.proofs.Tests.{same-eqZ, other-eqZ}
 use Rattle.barred_starts.specs.Bars.{barsOf}
 use Rattle.barred_starts.proofs.Turns.{bars-fewer, has-on, has-end}
 use Rattle.barred_starts.proofs.bars.is_barred.Statement.{statement}

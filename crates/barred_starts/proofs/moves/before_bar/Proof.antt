@@ -5,7 +5,7 @@ use lib.Signed.{_≤ℤ_, _<ℤ_}
 use mir.Syntax.{w32}
 use mir.Val.{SFits, toZ, ofZ}
 use Rattle.integers.proofs.Ints.{ints, back, same-bits}
-use Rattle.checking.proofs.Tests.{same-eqZ, other-eqZ, lt-ltZ, le-ltZ}
+use Rattle.holes.proofs.Tests.{same-eqZ, other-eqZ, lt-ltZ, le-ltZ}
 use Rattle.barred_starts.proofs.Turns.{one-back}
 use Rattle.barred_starts.proofs.moves.before_bar.Statement.{statement}
 use Rattle.barred_starts.proofs.moves.before_bar.Tie as tie

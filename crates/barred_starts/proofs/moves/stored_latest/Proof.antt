@@ -5,7 +5,7 @@ use lib.Signed.{_≤ℤ_, _<ℤ_}
 use mir.Syntax.{w32}
 use borrow.Author.Needs.{needs}
 use Rattle.integers.proofs.Ints.{ints, back, back-of}
-use Rattle.checking.proofs.Tests.{lt-ltZ, le-ltZ}
+use Rattle.holes.proofs.Tests.{lt-ltZ, le-ltZ}
 use Rattle.barred_starts.specs.Bars.{barsOf}
 use Rattle.barred_starts.specs.Moves.{movedBack, storedLatest}
 use Rattle.barred_starts.proofs.moves.stored_latest.Statement.{statement}

@@ -3,7 +3,7 @@
 use mathlib.Core.Path.{sym, _∙_}
 use mir.Syntax.{w32}
 use Rattle.integers.proofs.Ints.{back-of}
-use Rattle.checking.specs.declared.int_ext.IntExt.the-variants.{Int}
+use Rattle.domains.specs.declared.int_ext.IntExt.the-variants.{Int}
 use Rattle.checking.specs.Answers.{extNumbers}
 use Rattle.reedgrit.specs.Answers.{stateAnswer}
 use borrow.Author.Needs.{needs}

@@ -4,8 +4,8 @@ use mathlib.Core.Path.{_≡_, sym, ap, _∙_}
 use borrow.Author.Needs.{needs}
 use borrow.Author.Tests.{not-true, not-false}
 use Rattle.integers.proofs.Ints.{back}
+use Rattle.atoms.specs.Atoms.{rightVariable}
 use Rattle.checking.specs.Answers.{boundNumbers}
-use Rattle.checking.specs.Atoms.{rightVariable}
 use Rattle.checking.specs.States.{sideOf, boundOf}
 use Rattle.reedgrit.specs.Answers.{stateAnswer}
 use Rattle.reedgrit.specs.Calls.{askedAt}

@@ -4,8 +4,8 @@ use mathlib.Core.Path.{_≡_, sym, ap, _∙_}
 use borrow.Author.Needs.{needs}
 use borrow.Author.Tests.{not-true, not-false}
 use Rattle.integers.proofs.Ints.{back}
+use Rattle.atoms.specs.Atoms.{rightAtom}
 use Rattle.checking.specs.Answers.{truthNumbers}
-use Rattle.checking.specs.Atoms.{rightAtom}
 use Rattle.checking.specs.States.{truthOf}
 use Rattle.reedgrit.specs.Answers.{stateAnswer}
 use Rattle.reedgrit.specs.Calls.{askedAt}

@@ -5,8 +5,8 @@ use lib.Signed.{_≤ℤ_}
 use borrow.Author.Tests.{not-false}
 use borrow.Author.Needs.{needs}
 use Rattle.integers.proofs.Ints.{back}
-use Rattle.checking.specs.Atoms.{rightVariable}
-use Rattle.checking.proofs.Atoms.{right-variable}
+use Rattle.atoms.specs.Atoms.{rightVariable}
+use Rattle.atoms.proofs.Atoms.{right-variable}
 use Rattle.replay_cli.proofs.states.place_of.Statement.{statement}
 use Rattle.replay_cli.proofs.states.place_of.Tie as tie
 

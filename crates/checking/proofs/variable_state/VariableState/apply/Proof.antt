@@ -8,12 +8,12 @@ use Rattle.integers.specs.Limits.{VARIABLES, VALUE}
 use Rattle.integers.proofs.Bools.{clash}
 use Rattle.integers.proofs.Ints.{back}
 use Rattle.scheduling.specs.Scheduling.{Atom}
-use Rattle.checking.specs.Atoms.{atomOf, atomFrom, rightAtom}
-use Rattle.checking.specs.Holes.{Within}
+use Rattle.holes.specs.Holes.{Within}
+use Rattle.holes.proofs.Steps.{wider}
+use Rattle.atoms.specs.Atoms.{atomOf, atomFrom, rightAtom}
+use Rattle.atoms.proofs.Atoms.{right-atom}
 use Rattle.checking.specs.States.{Accepted, accepted, stepped, appliedTo}
-use Rattle.checking.proofs.Atoms.{right-atom}
 use Rattle.checking.proofs.Promises.{apply-promise}
-use Rattle.checking.proofs.Steps.{wider}
 use borrow.Author.Needs.{needs}
 use Rattle.checking.proofs.variable_state.VariableState.apply.Statement.{statement}
 use Rattle.checking.proofs.variable_state.VariableState.apply.Tie as tie

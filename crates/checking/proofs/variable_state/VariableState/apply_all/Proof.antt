@@ -9,15 +9,15 @@ use mir.Syntax.{w32}
 use Rattle.integers.specs.Limits.{VARIABLES, VALUE}
 use Rattle.integers.proofs.Ints.{back-of}
 use Rattle.scheduling.specs.Scheduling.{Atom, given}
-use Rattle.checking.specs.declared.variable_state.Effect.the-variants.{Narrowed}
-use Rattle.checking.specs.declared.variable_state.Reduced.{Reduced}
+use Rattle.holes.specs.Holes.{Within}
+use Rattle.atoms.specs.Atoms.{kindOf, atomOf, atomsOf, consequentOf, givenAt, rightFrom}
+use Rattle.atoms.proofs.Atoms.{right-lists}
+use Rattle.atoms.proofs.Given.{Next, givenFrom, given-start, right-start, given-end, next}
+use Rattle.domains.specs.declared.domain.Effect.the-variants.{Narrowed}
+use Rattle.domains.specs.declared.domain.Reduced.{Reduced}
+use Rattle.domains.specs.Domains.{reduced, Proper}
 use Rattle.checking.specs.declared.variable_state.Application.the-variants.{Refused}
-use Rattle.checking.specs.Atoms.{kindOf, atomOf, atomsOf, consequentOf, givenAt, rightFrom}
-use Rattle.checking.specs.Domains.{reduced}
-use Rattle.checking.specs.Holes.{Within}
-use Rattle.checking.specs.States.{Proper, Accepted, domainAt, put, emptyState, applyAll}
-use Rattle.checking.proofs.Atoms.{right-lists}
-use Rattle.checking.proofs.Given.{Next, givenFrom, given-start, right-start, given-end, next}
+use Rattle.checking.specs.States.{Accepted, domainAt, put, emptyState, applyAll}
 use Rattle.checking.proofs.States.{empty-accepted, put-accepted, reduced-proper, stepped-is, when-narrowed, when-emptied, when-full, all-consistent, all-contradiction, all-refused, all-end}
 use borrow.Author.Needs.{needs}
 use Rattle.checking.proofs.variable_state.VariableState.apply_all.Statement.{statement}

@@ -4,9 +4,9 @@ use Prim.Native.Nat.{_+_}
 use mir.Syntax.{w32}
 use Rattle.integers.specs.Limits.{VALUE}
 use Rattle.integers.proofs.Ints.{back-of}
-use Rattle.checking.specs.Atoms.{kindOf, atomOf}
-use Rattle.checking.specs.Domains.{reduced}
-use Rattle.checking.specs.Holes.{Within}
+use Rattle.holes.specs.Holes.{Within}
+use Rattle.atoms.specs.Atoms.{kindOf, atomOf}
+use Rattle.domains.specs.Domains.{reduced}
 use Rattle.checking.specs.States.{domainAt}
 use Rattle.checking.proofs.States.{stepped-is, when-narrowed, when-emptied, when-full}
 use borrow.Author.Needs.{needs}

@@ -8,10 +8,10 @@ use lib.Signed.{_≤ℤ_}
 use Rattle.integers.specs.Limits.{VARIABLES}
 use Rattle.integers.proofs.Bools.{clash}
 use Rattle.integers.proofs.Ints.{back}
-use Rattle.checking.specs.Atoms.{rightVariable}
+use Rattle.atoms.specs.Atoms.{rightVariable}
+use Rattle.atoms.proofs.Atoms.{right-variable}
 use Rattle.checking.specs.declared.variable_state.Bound.the-variants.{At}
 use Rattle.checking.specs.States.{Accepted, domainAt, accepted, boundOf}
-use Rattle.checking.proofs.Atoms.{right-variable}
 use borrow.Author.Needs.{needs}
 use Rattle.checking.proofs.variable_state.VariableState.bound_of.Statement.{statement}
 use Rattle.checking.proofs.variable_state.VariableState.bound_of.Tie as tie

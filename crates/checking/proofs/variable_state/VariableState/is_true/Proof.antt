@@ -9,10 +9,10 @@ use Rattle.integers.specs.Limits.{VARIABLES}
 use Rattle.integers.proofs.Bools.{clash}
 use Rattle.integers.proofs.Ints.{back}
 use Rattle.scheduling.specs.Scheduling.{Atom}
-use Rattle.checking.specs.Atoms.{atomOf, atomFrom, rightAtom}
-use Rattle.checking.specs.Domains.{isTrue}
+use Rattle.atoms.specs.Atoms.{atomOf, atomFrom, rightAtom}
+use Rattle.atoms.proofs.Atoms.{right-atom}
+use Rattle.domains.specs.Domains.{isTrue}
 use Rattle.checking.specs.States.{Accepted, domainAt, accepted, truthOf}
-use Rattle.checking.proofs.Atoms.{right-atom}
 use Rattle.checking.proofs.Promises.{truth-promise}
 use borrow.Author.Needs.{needs}
 use Rattle.checking.proofs.variable_state.VariableState.is_true.Statement.{statement}

@@ -1,0 +1,46 @@
+-- The tests in the order of the definition; the conjunction has the value of the first that decides.
+use mathlib.Core.Path.{_≡_, sym, _∙_}
+use mathlib.Core.Bool.{true, false}
+use borrow.Author.Tests.{not-true, not-false, le-leb, lt-leb}
+use denote.Ref.{now}
+use lib.ListN.{length}
+use Rattle.atoms.specs.Atoms.{rightWords, rightLists}
+use borrow.Author.Needs.{needs}
+use Rattle.atoms.proofs.atomic_constraint.lists_are_accepted.Statement.{statement}
+use Rattle.atoms.proofs.atomic_constraint.lists_are_accepted.Tie as tie
+
+words-are-accepted-requires : tie.Need-words-are-accepted-requires
+words-are-accepted-requires c κs = search needs
+
+returns : tie.Need-returns
+unfolding rightLists
+returns c =
+    let t : rightWords (now (c .before .before .args .premises)) ≡ false = sym (c .before .words-are-accepted .ensures) ∙ not-true (c .before .words-are-accepted .result) (c .if1 .taken) in
+    rw t
+
+returns-2 : tie.Need-returns-2
+unfolding rightLists
+returns-2 c =
+    let s = c .before .before .before in
+    let t : rightWords (now (s .args .premises)) ≡ true = sym (c .before .before .words-are-accepted .ensures) ∙ not-false (c .before .before .words-are-accepted .result) (c .before .if1 .left) in
+    rw (t, lt-leb (length (now (s .args .consequent))) 3 (c .if2 .taken))
+
+words-are-accepted-requires-2 : tie.Need-words-are-accepted-requires-2
+words-are-accepted-requires-2 c κs = search needs
+
+returns-3 : tie.Need-returns-3
+unfolding rightLists
+returns-3 c =
+    let s = c .before .before .before .before in
+    let t : rightWords (now (s .args .premises)) ≡ true = sym (c .before .before .before .words-are-accepted .ensures) ∙ not-false (c .before .before .before .words-are-accepted .result) (c .before .before .if1 .left) in
+    rw (t, le-leb (length (now (s .args .consequent))) 3 (c .before .if2 .left)) (c .words-are-accepted2 .ensures)
+
+pub lists-are-accepted-spec : {M : Type 1} → statement M
+lists-are-accepted-spec =
+    tie.close
+    (tie.spec
+    words-are-accepted-requires
+    returns
+    returns-2
+    words-are-accepted-requires-2
+    returns-3)

@@ -1,0 +1,5 @@
+pub mod Bounds
+pub mod Domains
+pub mod Narrowing
+pub mod Accepting
+pub mod Values

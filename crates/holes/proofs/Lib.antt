@@ -1,0 +1,4 @@
+pub mod Tests
+pub mod Steps
+pub mod Ascending
+pub mod Padding
