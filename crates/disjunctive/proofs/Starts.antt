@@ -81,6 +81,11 @@ padded-take n zs h = take-at (take n zs) (drop n (replicate TASKS (pos 0))) n (l
 pub padded-all : (n : ℕ) (zs : List ℤ) → length zs ≡ n → n ≤ TASKS → take (taken n) (padded (taken n) zs) ≡ zs
 padded-all n zs l h = rw (taken-all n h) (padded-take n zs (omega arith) ∙ take-all n zs (omega arith))
 
+-- what is said by whether the bars fit in the starts is said by whether those of the ranges fit
+pub bars-of : (ys : List Range) (s : Starts) → s ≡ startsOf ys → (P : Bool → Type 0) → P (s .«bars_fit») → P (allBarsFit ys)
+unfolding startsOf
+bars-of ys s e P = subst P (ap (λ (u : Starts). u .«bars_fit») e)
+
 -- ---- calls that store starts
 -- a core was passed all ranges, or, where there are too many, none: then what it leaves, none either, is as good as the old starts
 module _ (Said : List ℤ → List ℤ → List ℤ → Type 0) (ys : List Range) (s : Starts) (is : s ≡ startsOf ys) (n : ℕ) (same : n ≡ s .count) (zs : List ℤ) (whole : length zs ≡ TASKS)
@@ -113,15 +118,11 @@ module _ (Said : List ℤ → List ℤ → List ℤ → Type 0) (ys : List Range
 
 -- the run, the mirrored pass, and the pass by precedences
 module _ (before : Propagator) (ys : List Range) (s : Starts) (is : s ≡ startsOf ys) where
-  bars-of : (P : Bool → Type 0) → P (s .«bars_fit») → P (allBarsFit ys)
-  unfolding startsOf
-  bars-of P = subst P (ap (λ (u : Starts). u .«bars_fit») is)
-
   pub lent-run : (posts atoms : List ℤ) (r : CoreRun) (posts′ atoms′ : List ℤ) → RanCore before s posts atoms r posts′ atoms′
       → RanLent before ys posts atoms (r .finished .outcome) (r .finished .changes) (r .«record») (withStarts ys (take (r .starts .count) (r .starts .earliest))) posts′ atoms′
   lent-run posts atoms r posts′ atoms′ c =
       let (us, size, ran, same) = stored (λ es ls es′. Ran before es ls (allBarsFit ys) posts atoms (record { «record» = r .«record»; outcome = r .finished .outcome; changes = r .finished .changes }) es′ posts′ atoms′) ys s is
-      (r .starts .count) (c .same-count) (r .starts .earliest) (c .whole) (bars-of (λ bars. Ran before (take (s .count) (s .earliest)) (take (s .count) (s .latest)) bars posts atoms (record { «record» = r .«record»; outcome = r .finished .outcome; changes = r .finished .changes }) (take (s .count) (r .starts .earliest)) posts′ atoms′) (c .ran)) withStarts (earliests ys) (length-map ys (λ (y : Range). y .earliest)) (with-none ys) (own-starts ys)
+      (r .starts .count) (c .same-count) (r .starts .earliest) (c .whole) (bars-of ys s is (λ bars. Ran before (take (s .count) (s .earliest)) (take (s .count) (s .latest)) bars posts atoms (record { «record» = r .«record»; outcome = r .finished .outcome; changes = r .finished .changes }) (take (s .count) (r .starts .earliest)) posts′ atoms′) (c .ran)) withStarts (earliests ys) (length-map ys (λ (y : Range). y .earliest)) (with-none ys) (own-starts ys)
       (λ h a. too-many before (earliests ys) (latests ys) (allBarsFit ys) (allBarsFit ys) posts atoms _ [] posts′ atoms′ h a) in
       rw (same) (lent before ys posts atoms (r .finished .outcome) (r .finished .changes) (r .«record») us posts′ atoms′ size ran)
 
@@ -129,14 +130,14 @@ module _ (before : Propagator) (ys : List Range) (s : Starts) (is : s ≡ starts
       → RanMirroredLent before ys posts atoms (r .outcome) (withLatests ys (take (r .starts .count) (r .starts .latest))) posts′ atoms′
   lent-mirrored-run posts atoms r posts′ atoms′ c =
       let (us, size, ran, same) = stored (λ es ls ls′. RanMirrored before es ls (allBarsFit ys) posts atoms (r .outcome) ls′ posts′ atoms′) ys s is
-      (r .starts .count) (c .same-count) (r .starts .latest) (c .whole) (bars-of (λ bars. RanMirrored before (take (s .count) (s .earliest)) (take (s .count) (s .latest)) bars posts atoms (r .outcome) (take (s .count) (r .starts .latest)) posts′ atoms′) (c .ran)) withLatests (latests ys) (length-map ys (λ (y : Range). y .latest)) (latest-none ys) (own-latests ys)
+      (r .starts .count) (c .same-count) (r .starts .latest) (c .whole) (bars-of ys s is (λ bars. RanMirrored before (take (s .count) (s .earliest)) (take (s .count) (s .latest)) bars posts atoms (r .outcome) (take (s .count) (r .starts .latest)) posts′ atoms′) (c .ran)) withLatests (latests ys) (length-map ys (λ (y : Range). y .latest)) (latest-none ys) (own-latests ys)
       (λ h a. too-many-mirrored before (earliests ys) (latests ys) (allBarsFit ys) (allBarsFit ys) posts atoms _ [] posts′ atoms′ h a) in
       rw (same) (lent-mirrored before ys posts atoms (r .outcome) us posts′ atoms′ size ran)
 
   pub lent-pass : (r : CorePrecedences) → PrecedencesCore before s r → PrecedencesLent before ys (r .answer) (withStarts ys (take (r .starts .count) (r .starts .earliest)))
   lent-pass r c =
       let (us, size, ran, same) = stored (λ es ls es′. RanPrecedences before es ls (allBarsFit ys) (r .answer) es′) ys s is
-      (r .starts .count) (c .same-count) (r .starts .earliest) (c .whole) (bars-of (λ bars. RanPrecedences before (take (s .count) (s .earliest)) (take (s .count) (s .latest)) bars (r .answer) (take (s .count) (r .starts .earliest))) (c .ran)) withStarts (earliests ys) (length-map ys (λ (y : Range). y .earliest)) (with-none ys) (own-starts ys)
+      (r .starts .count) (c .same-count) (r .starts .earliest) (c .whole) (bars-of ys s is (λ bars. RanPrecedences before (take (s .count) (s .earliest)) (take (s .count) (s .latest)) bars (r .answer) (take (s .count) (r .starts .earliest))) (c .ran)) withStarts (earliests ys) (length-map ys (λ (y : Range). y .earliest)) (with-none ys) (own-starts ys)
       (λ h a. no-precedences before (earliests ys) (latests ys) (allBarsFit ys) (allBarsFit ys) (r .answer) [] h a) in
       rw (same) (lent-precedences before ys (r .answer) us size ran)
 

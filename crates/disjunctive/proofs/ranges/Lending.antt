@@ -39,8 +39,9 @@ use Rattle.integers.specs.Limits.{TASKS}
 use Rattle.records.specs.declared.record.Propagator.{Propagator}
 use Rattle.records.proofs.record.Propagator as P
 use Rattle.records.proofs.record.Propagator.Laws as P′
-use Rattle.disjunctive.specs.Ranges.{startsOf, withStarts}
 use Rattle.barred_starts.specs.declared.range.Range.{Range}
+use Rattle.barred_starts.specs.Ranges.{withStarts}
+use Rattle.disjunctive.specs.Ranges.{startsOf}
 use Rattle.disjunctive.specs.declared.ranges.Starts.{Starts}
 use Rattle.barred_starts.proofs.range.Range as T
 use Rattle.disjunctive.proofs.ranges.Starts as S

@@ -44,10 +44,11 @@ use Rattle.overload_test.specs.Tested.{OverloadTested}
 use Rattle.overload_test.proofs.Many.{too-many}
 use Rattle.overload_test.proofs.overload_test.Overload as O
 use Rattle.overload_test.proofs.overload_test.Overload.Laws as O′
-use Rattle.barred_starts.specs.Ranges.{earliests, latests}
 use Rattle.barred_starts.specs.declared.range.Range.{Range}
+use Rattle.barred_starts.specs.Bars.{allBarsFit}
+use Rattle.barred_starts.specs.Ranges.{earliests, latests}
 use Rattle.disjunctive.specs.declared.ranges.Starts.{Starts}
-use Rattle.disjunctive.proofs.Starts.{starts-fit, apart}
+use Rattle.disjunctive.proofs.Starts.{starts-fit, bars-of, apart}
 use Rattle.disjunctive.proofs.ranges.Lending.{machP, rangesVal, StartsOf, calls-starts, looks-into, shuts-record}
 use Rattle.barred_starts.proofs.range.Range as T
 use Rattle.disjunctive.proofs.ranges.Starts as S
@@ -72,7 +73,7 @@ stayed = (stay-dropped (shrRefTo (0 ∷ []) tt (plain (λ _. P.the-row))) yes, (
 
 -- what the core is passed of the starts
 abbrev Tested : Propagator → Starts → Overload → Type 0
-Tested h s r = OverloadTested h (take (s .count) (s .earliest)) (take (s .count) (s .latest)) r
+Tested h s r = OverloadTested h (take (s .count) (s .earliest)) (take (s .count) (s .latest)) (s .«bars_fit») r
 
 module _ {M : Type 1} (𝓤 : URA M) (H : Heap 𝓤) (A : Atoms 𝓤) (at-mem : Memory → SProp 𝓤) (run : Routine → Fun 𝓤) where
   -- the contract that the proof cites
@@ -98,7 +99,7 @@ module _ {M : Type 1} (𝓤 : URA M) (H : Heap 𝓤) (A : Atoms 𝓤) (W : Given
   abbrev Had : Overload → Val → List (Item 𝓤)
   Had r v = ‵ (flft κ q) ∷ (‵ (flft κ₁ q₁) ⊛ ‵ ftrue) ∷ ‵ (O.the-row .own r (v ∷ [])) ∷ []
 
-  exits : (r : Overload) (v : Val) → OverloadTested h (earliests ys) (latests ys) r → ent 𝓤 (⋆ 𝓤 H A (Had r v)) (Post v)
+  exits : (r : Overload) (v : Val) → OverloadTested h (earliests ys) (latests ys) (allBarsFit ys) r → ent 𝓤 (⋆ 𝓤 H A (Had r v)) (Post v)
   exits r v e =
       qed W (Had r v) ∵
       suffices ! _ (ends-at 𝓤 H A f.ended stayed (f.clauses 𝓤 H A at-mem run) W (((κ, (κ₁, tt)), (q, (q₁, tt)), tt, x, at), tt) v r (tt, (tt, tt)) (tt, (tt, tt))) $ says ! e $
@@ -136,7 +137,8 @@ module _ {M : Type 1} (𝓤 : URA M) (H : Heap 𝓤) (A : Atoms 𝓤) (W : Given
         -- [what the answer owns; the record's token; its borrow; the ranges' token; true; true; res; _4; …; _0; …]
         returns ! (look ! 15 refl) $ forget ! 15 refl $ forget ! 13 refl $ forget ! 11 refl $ forget ! 9 refl $ forget ! 7 refl $
         move ! (15 ∷ 16 ∷ []) $ free1 ! $ move ! (13 ∷ 14 ∷ []) $ free1 ! $ move ! (11 ∷ 12 ∷ []) $ free1 ! $ move ! (9 ∷ 10 ∷ []) $ free1 ! $ move ! (7 ∷ 8 ∷ []) $ free1 ! $ free0 ! $
-        keep ! (1 ∷ 3 ∷ 0 ∷ []) $ by ! (exits r w₂ (apart (λ es ls. OverloadTested h es ls r) ys s e₁ (too-many h (earliests ys) (latests ys) r) e₂)))))))))))))
+        keep ! (1 ∷ 3 ∷ 0 ∷ []) $ by ! (exits r w₂ (apart (λ es ls. OverloadTested h es ls (allBarsFit ys) r) ys s e₁ (too-many h (earliests ys) (latests ys) (allBarsFit ys) (allBarsFit ys) r)
+        (bars-of ys s e₁ (λ bars. OverloadTested h (take (s .count) (s .earliest)) (take (s .count) (s .latest)) bars r) e₂))))))))))))))
 
 module _ {M : Type 1} (𝓤 : URA M) (H : Heap 𝓤) (A : Atoms 𝓤) (W : Given 𝓤 H A) (at-mem : Memory → SProp 𝓤) (run : Routine → Fun 𝓤) where
   f-walks : (C : Calls 𝓤 H) (Λ : Loops 𝓤 H) → FmC 𝓤 H (W .laws) C → Triple 𝓤 (C #starts-of) (StartsOf 𝓤 H A at-mem run) → Triple 𝓤 (C #overload-core) (Core 𝓤 H A at-mem run) → Walks 𝓤 H A f.ended stayed (WpFn 𝓤 H C Λ code.function) (f.clauses 𝓤 H A at-mem run)

@@ -49,12 +49,12 @@ use Rattle.records.proofs.record.Propagator.Laws as P′
 use Rattle.propagator.specs.declared.disjunctive_propagator.Finished.{Finished}
 use Rattle.propagator.proofs.disjunctive_propagator.Finished as F
 use Rattle.propagator.proofs.disjunctive_propagator.Finished.Laws as F′
-use Rattle.disjunctive.specs.Ranges.{RanCore}
-use Rattle.disjunctive.specs.RanLent.{RanLent}
 use Rattle.barred_starts.specs.declared.range.Range.{Range}
+use Rattle.promises.specs.RanLent.{RanLent}
+use Rattle.disjunctive.specs.Ranges.{RanCore}
 use Rattle.disjunctive.specs.declared.ranges.Starts.{Starts}
 use Rattle.disjunctive.specs.declared.ranges.CoreRun.{CoreRun}
-use Rattle.disjunctive.proofs.Starts.{starts-fit, lent}
+use Rattle.disjunctive.proofs.Starts.{starts-fit, lent-run}
 use Rattle.disjunctive.proofs.ranges.Lending.{machP, rangesVal, rangesAt, StartsOf, calls-starts-mut, Store, calls-store}
 use Rattle.barred_starts.proofs.range.Range as T
 use Rattle.disjunctive.proofs.ranges.Starts as S
@@ -208,8 +208,7 @@ module _ {M : Type 1} (𝓤 : URA M) (H : Heap 𝓤) (A : Atoms 𝓤) (W : Given
         returns ! (look ! 41 refl) $ forget ! 41 refl $ forget ! 39 refl $ forget ! 37 refl $ forget ! 35 refl $ forget ! 33 refl $ forget ! 31 refl $ forget ! 29 refl $ forget ! 27 refl $ forget ! 25 refl $ forget ! 23 refl $ forget ! 21 refl $ forget ! 19 refl $ forget ! 17 refl $ forget ! 15 refl $ forget ! 13 refl $ forget ! 11 refl $ forget ! 9 refl $
         move ! (41 ∷ 42 ∷ []) $ free1 ! $ move ! (39 ∷ 40 ∷ []) $ free1 ! $ move ! (37 ∷ 38 ∷ []) $ free1 ! $ move ! (35 ∷ 36 ∷ []) $ free1 ! $ move ! (33 ∷ 34 ∷ []) $ free1 ! $ move ! (31 ∷ 32 ∷ []) $ free1 ! $ move ! (29 ∷ 30 ∷ []) $ free1 ! $ move ! (27 ∷ 28 ∷ []) $ free1 ! $ move ! (25 ∷ 26 ∷ []) $ free1 ! $ move ! (23 ∷ 24 ∷ []) $ free1 ! $ move ! (21 ∷ 22 ∷ []) $ free1 ! $ move ! (19 ∷ 20 ∷ []) $ free1 ! $ move ! (17 ∷ 18 ∷ []) $ free1 ! $ move ! (15 ∷ 16 ∷ []) $ free1 ! $ move ! (13 ∷ 14 ∷ []) $ free1 ! $ move ! (11 ∷ 12 ∷ []) $ free1 ! $ move ! (9 ∷ 10 ∷ []) $ free1 ! $ free0 ! $
         keep ! (0 ∷ 1 ∷ 2 ∷ 3 ∷ 5 ∷ 4 ∷ 8 ∷ 6 ∷ []) $
-        by ! (exits r zs (us .1 .1 .0) (us .1 .1 .1 .0) (subst (λ (rs : List Range). RanLent h ys (now xp) (now xa) (r .finished .outcome) (r .finished .changes) (r .«record») rs (us .1 .1 .0) (us .1 .1 .1 .0)) (sym e₃) (lent h ys (now xp) (now xa) r (us .1 .1 .0) (us .1 .1 .1 .0)
-        (subst (λ (st : Starts). RanCore h st (now xp) (now xa) r (us .1 .1 .0) (us .1 .1 .1 .0)) e₁ e₂))) lr lp la (LL.owed R.the-type R′.the-laws r _ is₂ .1 .0))))))))))))))))))))))))))))))
+        by ! (exits r zs (us .1 .1 .0) (us .1 .1 .1 .0) (subst (λ (rs : List Range). RanLent h ys (now xp) (now xa) (r .finished .outcome) (r .finished .changes) (r .«record») rs (us .1 .1 .0) (us .1 .1 .1 .0)) (sym e₃) (lent-run h ys s e₁ (now xp) (now xa) r (us .1 .1 .0) (us .1 .1 .1 .0) e₂)) lr lp la (LL.owed R.the-type R′.the-laws r _ is₂ .1 .0))))))))))))))))))))))))))))))
 
 module _ {M : Type 1} (𝓤 : URA M) (H : Heap 𝓤) (A : Atoms 𝓤) (W : Given 𝓤 H A) (at-mem : Memory → SProp 𝓤) (run : Routine → Fun 𝓤) where
   f-walks : (C : Calls 𝓤 H) (Λ : Loops 𝓤 H) → FmC 𝓤 H (W .laws) C → Triple 𝓤 (C #starts-of) (StartsOf 𝓤 H A at-mem run) → Triple 𝓤 (C #run-core) (Core 𝓤 H A at-mem run) → Triple 𝓤 (C #store-starts) (Store 𝓤 H A at-mem run)

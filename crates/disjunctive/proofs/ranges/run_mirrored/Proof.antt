@@ -48,13 +48,13 @@ use Rattle.records.proofs.record.Propagator as P
 use Rattle.records.proofs.record.Propagator.Laws as P′
 use Rattle.propagator.proofs.disjunctive_propagator.Outcome as O
 use Rattle.propagator.proofs.disjunctive_propagator.Outcome.Laws as O′
-use Rattle.disjunctive.specs.Ranges.{RanMirroredCore, withLatest}
-use Rattle.disjunctive.specs.RanLent.{RanMirroredLent}
 use Rattle.barred_starts.specs.declared.range.Range.{Range}
+use Rattle.barred_starts.specs.Ranges.{withLatests}
+use Rattle.promises.specs.RanLent.{RanMirroredLent}
+use Rattle.disjunctive.specs.Ranges.{RanMirroredCore}
 use Rattle.disjunctive.specs.declared.ranges.Starts.{Starts}
 use Rattle.disjunctive.specs.declared.ranges.CoreMirrored.{CoreMirrored}
-use Rattle.disjunctive.proofs.Starts.{starts-fit}
-use Rattle.disjunctive.proofs.Latests.{lent-mirrored}
+use Rattle.disjunctive.proofs.Starts.{starts-fit, lent-mirrored-run}
 use Rattle.disjunctive.proofs.ranges.Lending.{machP, machS, rangesVal, rangesAt, StartsOf, calls-starts-mut, looks-into, shuts-record}
 use Rattle.barred_starts.proofs.range.Range as T
 use Rattle.disjunctive.proofs.ranges.Starts as S
@@ -205,8 +205,8 @@ module _ {M : Type 1} (𝓤 : URA M) (H : Heap 𝓤) (A : Atoms 𝓤) (W : Given
         use2 W (raw (Store 𝓤 H A at-mem run .pre (to-store (r .starts)))) (goes-store (r .starts) (starts-fit ys s (r .starts) e₁ (e₂ .same-count)) (LL.owed R.the-type R′.the-laws r _ is₂ .1 .0)) $
         calls-at ! fm (Store 𝓤 H A at-mem run) known-store (to-store (r .starts)) (and-then ! (load ! (from ! (stop !)) (look ! 7 refl)) (and-then ! (load ! (from ! (fld ! refl (stop !))) (look-in ! 27 (sub ! 1 refl (whole !)))) (no-more !))) (λ w₃.
         use1 W (later (some (λ (u : Unit {0}). ((‵ (flft κ₁ q₁) ⊛ ‵ ftrue) ⊛ ‵ (unit .own u (w₃ ∷ []))) ⊛ raw (ensured 𝓤 H A store-latest.ended (store-latest.clauses 𝓤 H A at-mem run) (κ₁, tt) (xr, (r .starts, tt)) tt u)))) (id⊢ 𝓤 _) $ await ! tt $ pick ! (λ u.
-        split ! $ move ! (1 ∷ []) $ use1 W (some (λ (zs : List Range × (Unit {0} × Unit {0})). ‵ (lasts store-latest.ended (κ₁, tt) (xr, (r .starts, tt)) zs) ⊛ raw (fact 𝓤 (zs .0 ≡ withLatest ys (take (r .starts .count) (r .starts .latest)))))) (id⊢ 𝓤 _) $ pick ! (λ zs.
-        split ! $ move ! (1 ∷ []) $ heard ! (zs .0 ≡ withLatest ys (take (r .starts .count) (r .starts .latest))) (λ e₃. fsplit ! $ fsplit ! $ move ! (1 ∷ []) $ feqL ! (λ lr. move ! (2 ∷ []) $ split ! $ move ! (1 ∷ []) $
+        split ! $ move ! (1 ∷ []) $ use1 W (some (λ (zs : List Range × (Unit {0} × Unit {0})). ‵ (lasts store-latest.ended (κ₁, tt) (xr, (r .starts, tt)) zs) ⊛ raw (fact 𝓤 (zs .0 ≡ withLatests ys (take (r .starts .count) (r .starts .latest)))))) (id⊢ 𝓤 _) $ pick ! (λ zs.
+        split ! $ move ! (1 ∷ []) $ heard ! (zs .0 ≡ withLatests ys (take (r .starts .count) (r .starts .latest))) (λ e₃. fsplit ! $ fsplit ! $ move ! (1 ∷ []) $ feqL ! (λ lr. move ! (2 ∷ []) $ split ! $ move ! (1 ∷ []) $
         peeks ! unit (Is unit) (shows 𝓤 H A unit) u (w₃ ∷ []) (λ is₃.
         land ! (from ! (stop !)) (init ! 14 refl (nothing-lawful 𝓤 H A W .typed u _ is₃ .0)) $
         -- [what () owns; the ranges' token; the last ranges; true; the tokens of both; the last atoms; true; the last posts; the record's token; its borrow; _16; …; _0; …]
@@ -214,8 +214,7 @@ module _ {M : Type 1} (𝓤 : URA M) (H : Heap 𝓤) (A : Atoms 𝓤) (W : Given
         returns ! (look ! 42 refl) $ forget ! 42 refl $ forget ! 40 refl $ forget ! 38 refl $ forget ! 36 refl $ forget ! 34 refl $ forget ! 32 refl $ forget ! 30 refl $ forget ! 28 refl $ forget ! 26 refl $ forget ! 24 refl $ forget ! 22 refl $ forget ! 20 refl $ forget ! 18 refl $ forget ! 16 refl $ forget ! 14 refl $ forget ! 12 refl $ forget ! 10 refl $
         move ! (42 ∷ 43 ∷ []) $ free1 ! $ move ! (40 ∷ 41 ∷ []) $ free1 ! $ move ! (38 ∷ 39 ∷ []) $ free1 ! $ move ! (36 ∷ 37 ∷ []) $ free1 ! $ move ! (34 ∷ 35 ∷ []) $ free1 ! $ move ! (32 ∷ 33 ∷ []) $ free1 ! $ move ! (30 ∷ 31 ∷ []) $ free1 ! $ move ! (28 ∷ 29 ∷ []) $ free1 ! $ move ! (26 ∷ 27 ∷ []) $ free1 ! $ move ! (24 ∷ 25 ∷ []) $ free1 ! $ move ! (22 ∷ 23 ∷ []) $ free1 ! $ move ! (20 ∷ 21 ∷ []) $ free1 ! $ move ! (18 ∷ 19 ∷ []) $ free1 ! $ move ! (16 ∷ 17 ∷ []) $ free1 ! $ move ! (14 ∷ 15 ∷ []) $ free1 ! $ move ! (12 ∷ 13 ∷ []) $ free1 ! $ move ! (10 ∷ 11 ∷ []) $ free1 ! $ free0 ! $
         keep ! (8 ∷ 1 ∷ 4 ∷ 2 ∷ 7 ∷ 5 ∷ []) $
-        by ! (exits r (zs .0) (us .1 .1 .0) (us .1 .1 .1 .0) (subst (λ (rs : List Range). RanMirroredLent h ys (now xp) (now xa) (r .outcome) rs (us .1 .1 .0) (us .1 .1 .1 .0)) (sym e₃) (lent-mirrored h ys (now xp) (now xa) r (us .1 .1 .0) (us .1 .1 .1 .0)
-        (subst (λ (st : Starts). RanMirroredCore h st (now xp) (now xa) r (us .1 .1 .0) (us .1 .1 .1 .0)) e₁ e₂))) lr lp la (LL.owed R.the-type R′.the-laws r _ is₂ .0))))))))))))))))))))))))))))))))))
+        by ! (exits r (zs .0) (us .1 .1 .0) (us .1 .1 .1 .0) (subst (λ (rs : List Range). RanMirroredLent h ys (now xp) (now xa) (r .outcome) rs (us .1 .1 .0) (us .1 .1 .1 .0)) (sym e₃) (lent-mirrored-run h ys s e₁ (now xp) (now xa) r (us .1 .1 .0) (us .1 .1 .1 .0) e₂)) lr lp la (LL.owed R.the-type R′.the-laws r _ is₂ .0))))))))))))))))))))))))))))))))))
 
 module _ {M : Type 1} (𝓤 : URA M) (H : Heap 𝓤) (A : Atoms 𝓤) (W : Given 𝓤 H A) (at-mem : Memory → SProp 𝓤) (run : Routine → Fun 𝓤) where
   f-walks : (C : Calls 𝓤 H) (Λ : Loops 𝓤 H) → FmC 𝓤 H (W .laws) C → Triple 𝓤 (C #starts-of) (StartsOf 𝓤 H A at-mem run) → Triple 𝓤 (C #mirrored-core) (Core 𝓤 H A at-mem run) → Triple 𝓤 (C #store-latest) (Store 𝓤 H A at-mem run)

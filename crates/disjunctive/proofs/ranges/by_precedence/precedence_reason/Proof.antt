@@ -47,10 +47,11 @@ use Rattle.precedences.specs.Reasons.{ReasonGiven}
 use Rattle.precedences.proofs.Many.{too-many-reason}
 use Rattle.precedences.proofs.answers.Reason as O
 use Rattle.precedences.proofs.answers.Reason.Laws as O′
-use Rattle.barred_starts.specs.Ranges.{earliests, latests}
 use Rattle.barred_starts.specs.declared.range.Range.{Range}
+use Rattle.barred_starts.specs.Bars.{allBarsFit}
+use Rattle.barred_starts.specs.Ranges.{earliests, latests}
 use Rattle.disjunctive.specs.declared.ranges.Starts.{Starts}
-use Rattle.disjunctive.proofs.Starts.{starts-fit, apart}
+use Rattle.disjunctive.proofs.Starts.{starts-fit, bars-of, apart}
 use Rattle.disjunctive.proofs.ranges.Lending.{machP, rangesVal, StartsOf, calls-starts, looks-into, shuts-record}
 use Rattle.barred_starts.proofs.range.Range as T
 use Rattle.disjunctive.proofs.ranges.Starts as S
@@ -101,7 +102,7 @@ module _ {M : Type 1} (𝓤 : URA M) (H : Heap 𝓤) (A : Atoms 𝓤) (W : Given
   abbrev Had : Reason → Val → List ℤ → List (Item 𝓤)
   Had r v ws = ‵ (flft κ q) ∷ (‵ (flft κ₁ q₁) ⊛ ‵ ftrue) ∷ (‵ (flft κ₂ q₂) ⊛ ‵ ftrue) ∷ ‵ (finally i32 (xw .name) ws) ∷ ‵ (O.the-row .own r (v ∷ [])) ∷ []
 
-  exits : (r : Reason) (v : Val) (ws : List ℤ) → ReasonGiven h (earliests ys) (latests ys) n (now xw) r ws → length ws ≡ length (now xw) → ent 𝓤 (⋆ 𝓤 H A (Had r v ws)) (Post v)
+  exits : (r : Reason) (v : Val) (ws : List ℤ) → ReasonGiven h (earliests ys) (latests ys) (allBarsFit ys) n (now xw) r ws → length ws ≡ length (now xw) → ent 𝓤 (⋆ 𝓤 H A (Had r v ws)) (Post v)
   exits r v ws e lw =
       qed W (Had r v ws) ∵
       suffices ! _ (ends-at 𝓤 H A f.ended stayed (f.clauses 𝓤 H A at-mem run) W (((κ, (κ₁, (κ₂, tt))), (q, (q₁, (q₂, tt))), tt, x, at), tt) v r (tt, (tt, (tt, (ws, tt)))) (tt, (tt, (tt, (lw, tt))))) $ says ! e $
@@ -130,7 +131,7 @@ module _ {M : Type 1} (𝓤 : URA M) (H : Heap 𝓤) (A : Atoms 𝓤) (W : Given
 
   -- what the core leaves
   abbrev Said : Starts → Reason → List ℤ → Type 0
-  Said s r ws = ReasonGiven h (take (s .count) (s .earliest)) (take (s .count) (s .latest)) n (now xw) r ws
+  Said s r ws = ReasonGiven h (take (s .count) (s .earliest)) (take (s .count) (s .latest)) (s .«bars_fit») n (now xw) r ws
 
   module _ (C : Calls 𝓤 H) (Λ : Loops 𝓤 H) (fm : FmC 𝓤 H (W .laws) C) (known-starts : Triple 𝓤 (C #starts-of) (StartsOf 𝓤 H A at-mem run)) (known-core : Triple 𝓤 (C #reason-core) (Core 𝓤 H A at-mem run))
       (g : Room T.the-row (length ys)) (gn : Is usize n (vn ∷ [])) (gw : Room i32 (length (now xw))) where
@@ -168,7 +169,8 @@ module _ {M : Type 1} (𝓤 : URA M) (H : Heap 𝓤) (A : Atoms 𝓤) (W : Given
         returns ! (look ! 23 refl) $ forget ! 23 refl $ forget ! 21 refl $ forget ! 19 refl $ forget ! 17 refl $ forget ! 15 refl $ forget ! 13 refl $ forget ! 11 refl $ forget ! 9 refl $ forget ! 7 refl $
         move ! (23 ∷ 24 ∷ []) $ free1 ! $ move ! (21 ∷ 22 ∷ []) $ free1 ! $ move ! (19 ∷ 20 ∷ []) $ free1 ! $ move ! (17 ∷ 18 ∷ []) $ free1 ! $ move ! (15 ∷ 16 ∷ []) $ free1 ! $ move ! (13 ∷ 14 ∷ []) $ free1 ! $ move ! (11 ∷ 12 ∷ []) $ free1 ! $ move ! (9 ∷ 10 ∷ []) $ free1 ! $ move ! (7 ∷ 8 ∷ []) $ free1 ! $ free0 ! $
         keep ! (4 ∷ 6 ∷ 1 ∷ 2 ∷ 0 ∷ []) $
-        by ! (exits r w₂ (us .1 .1 .1 .0) (apart (λ es ls. ReasonGiven h es ls n (now xw) r (us .1 .1 .1 .0)) ys s e₁ (too-many-reason h (earliests ys) (latests ys) n (now xw) r (us .1 .1 .1 .0)) e₂) lw))))))))))))))))))
+        by ! (exits r w₂ (us .1 .1 .1 .0) (apart (λ es ls. ReasonGiven h es ls (allBarsFit ys) n (now xw) r (us .1 .1 .1 .0)) ys s e₁ (too-many-reason h (earliests ys) (latests ys) (allBarsFit ys) (allBarsFit ys) n (now xw) r (us .1 .1 .1 .0))
+        (bars-of ys s e₁ (λ bars. ReasonGiven h (take (s .count) (s .earliest)) (take (s .count) (s .latest)) bars n (now xw) r (us .1 .1 .1 .0)) e₂)) lw))))))))))))))))))
 
 module _ {M : Type 1} (𝓤 : URA M) (H : Heap 𝓤) (A : Atoms 𝓤) (W : Given 𝓤 H A) (at-mem : Memory → SProp 𝓤) (run : Routine → Fun 𝓤) where
   f-walks : (C : Calls 𝓤 H) (Λ : Loops 𝓤 H) → FmC 𝓤 H (W .laws) C → Triple 𝓤 (C #starts-of) (StartsOf 𝓤 H A at-mem run) → Triple 𝓤 (C #reason-core) (Core 𝓤 H A at-mem run) → Walks 𝓤 H A f.ended stayed (WpFn 𝓤 H C Λ code.function) (f.clauses 𝓤 H A at-mem run)

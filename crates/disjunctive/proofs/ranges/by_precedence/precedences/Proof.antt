@@ -46,11 +46,12 @@ use Rattle.records.proofs.record.Propagator as P
 use Rattle.records.proofs.record.Propagator.Laws as P′
 use Rattle.precedences.proofs.answers.Precedences as O
 use Rattle.precedences.proofs.answers.Precedences.Laws as O′
-use Rattle.disjunctive.specs.LentCalls.{PrecedencesLent, PrecedencesCore}
 use Rattle.barred_starts.specs.declared.range.Range.{Range}
+use Rattle.promises.specs.PrecedencesLent.{PrecedencesLent}
+use Rattle.disjunctive.specs.LentCalls.{PrecedencesCore}
 use Rattle.disjunctive.specs.declared.ranges.Starts.{Starts}
 use Rattle.disjunctive.specs.declared.ranges.by_precedence.CorePrecedences.{CorePrecedences}
-use Rattle.disjunctive.proofs.Starts.{starts-fit, lent-precedences}
+use Rattle.disjunctive.proofs.Starts.{starts-fit, lent-pass}
 use Rattle.disjunctive.proofs.ranges.Lending.{machP, rangesVal, rangesAt, StartsOf, calls-starts-mut, Store, calls-store, looks-into, shuts-record}
 use Rattle.barred_starts.proofs.range.Range as T
 use Rattle.disjunctive.proofs.ranges.Starts as S
@@ -159,7 +160,7 @@ module _ {M : Type 1} (𝓤 : URA M) (H : Heap 𝓤) (A : Atoms 𝓤) (W : Given
         returns ! (look ! 24 refl) $ forget ! 24 refl $ forget ! 22 refl $ forget ! 20 refl $ forget ! 18 refl $ forget ! 16 refl $ forget ! 14 refl $ forget ! 12 refl $ forget ! 10 refl $ forget ! 8 refl $ forget ! 6 refl $ forget ! 4 refl $
         move ! (24 ∷ 25 ∷ []) $ free1 ! $ move ! (22 ∷ 23 ∷ []) $ free1 ! $ move ! (20 ∷ 21 ∷ []) $ free1 ! $ move ! (18 ∷ 19 ∷ []) $ free1 ! $ move ! (16 ∷ 17 ∷ []) $ free1 ! $ move ! (14 ∷ 15 ∷ []) $ free1 ! $ move ! (12 ∷ 13 ∷ []) $ free1 ! $ move ! (10 ∷ 11 ∷ []) $ free1 ! $ move ! (8 ∷ 9 ∷ []) $ free1 ! $ move ! (6 ∷ 7 ∷ []) $ free1 ! $ move ! (4 ∷ 5 ∷ []) $ free1 ! $ free0 ! $
         keep ! (2 ∷ 0 ∷ 1 ∷ []) $
-        by ! (exits r zs (subst (PrecedencesLent h ys (r .answer)) (sym e₃) (lent-precedences h ys s r e₁ e₂)) lr (LL.owed R.the-type R′.the-laws r _ is₂ .0))))))))))))))))))))
+        by ! (exits r zs (subst (PrecedencesLent h ys (r .answer)) (sym e₃) (lent-pass h ys s e₁ r e₂)) lr (LL.owed R.the-type R′.the-laws r _ is₂ .0))))))))))))))))))))
 
 module _ {M : Type 1} (𝓤 : URA M) (H : Heap 𝓤) (A : Atoms 𝓤) (W : Given 𝓤 H A) (at-mem : Memory → SProp 𝓤) (run : Routine → Fun 𝓤) where
   f-walks : (C : Calls 𝓤 H) (Λ : Loops 𝓤 H) → FmC 𝓤 H (W .laws) C → Triple 𝓤 (C #starts-of) (StartsOf 𝓤 H A at-mem run) → Triple 𝓤 (C #precedences-core) (Core 𝓤 H A at-mem run) → Triple 𝓤 (C #store-starts) (Store 𝓤 H A at-mem run)
