@@ -26,8 +26,8 @@ use Rattle.checking.specs.Answers.{applicationNumbers}
 use Rattle.checking.specs.States.{prepared}
 use Rattle.checking.proofs.Apart.{applications-apart}
 use Rattle.checking.proofs.Refused.{prepared-7, prepared-6}
-use Rattle.reedgrit.specs.Answers.{stateAnswer}
-use Rattle.reedgrit.specs.Calls.{rightQuestion, questionTests, askedAt, askedAfter, asked}
+use Rattle.answers.specs.Answers.{stateAnswer, askedAt}
+use Rattle.reedgrit.specs.Calls.{rightQuestion, questionTests, askedAfter, asked}
 
 module _ (premises : List ℤ) (own : Bool) where
   abbrev t7 : Test

@@ -1,4 +1,3 @@
+pub mod Words
 pub mod Reading
 pub mod Asking
-pub mod Apart
-pub mod RequestsApart

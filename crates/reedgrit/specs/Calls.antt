@@ -16,10 +16,8 @@ use Rattle.atoms.specs.Atoms.{rightVariable, rightAtom, rightWords}
 use Rattle.domains.specs.declared.int_ext.IntExt.{IntExt}
 use Rattle.domains.specs.declared.domain.Domain.{Domain}
 use Rattle.checking.specs.declared.variable_state.VariableState.{VariableState}
-use Rattle.checking.specs.declared.variable_state.Application.{Application}
-use Rattle.checking.specs.declared.variable_state.Application.the-variants as application
 use Rattle.checking.specs.declared.variable_state.Applied.{Applied}
-use Rattle.checking.specs.Answers.{applicationNumbers, truthNumbers, boundNumbers}
+use Rattle.checking.specs.Answers.{truthNumbers, boundNumbers}
 use Rattle.checking.specs.States.{prepared, truthOf, boundOf, lowerOf, upperOf}
 use Rattle.checker.specs.declared.checker.Verdict.{Verdict}
 use Rattle.checker.specs.Checks.{Checked}
@@ -28,12 +26,12 @@ use Rattle.propagator.specs.declared.disjunctive_propagator.Finished.{Finished}
 use Rattle.propagator.specs.Outcomes.{outcomeNumbers}
 use Rattle.barred_starts.specs.declared.range.Range.{Range}
 use Rattle.promises.specs.RanLent.{RanLent}
-use Rattle.reedgrit.specs.declared.answers.NewPropagator.{NewPropagator}
-use Rattle.reedgrit.specs.declared.answers.RunAnswer.{RunAnswer}
-use Rattle.reedgrit.specs.declared.answers.PostAnswer.{PostAnswer}
-use Rattle.reedgrit.specs.declared.answers.CheckAnswer.{CheckAnswer}
-use Rattle.reedgrit.specs.declared.answers.StateAnswer.{StateAnswer}
-use Rattle.reedgrit.specs.Answers.{runAnswer, checkAnswer, stateAnswer}
+use Rattle.answers.specs.declared.call_answers.NewPropagator.{NewPropagator}
+use Rattle.answers.specs.declared.call_answers.RunAnswer.{RunAnswer}
+use Rattle.answers.specs.declared.call_answers.PostAnswer.{PostAnswer}
+use Rattle.answers.specs.declared.call_answers.CheckAnswer.{CheckAnswer}
+use Rattle.answers.specs.declared.call_answers.StateAnswer.{StateAnswer}
+use Rattle.answers.specs.Answers.{runAnswer, checkAnswer, stateAnswer, askedAt}
 
 -- creation: the record and its answer's number
 abbrev pub newNumbers : List ℤ → NewPropagator
@@ -74,12 +72,6 @@ rightQuestion premises own = rightWords premises && own
 -- its tests, each over the whole input: 7, then 6
 abbrev pub questionTests : List ℤ → Bool → List Test
 questionTests premises own = test 7 (leb (length premises) (3 * PREMISES + 2)) ∷ test 6 (rightQuestion premises own) ∷ []
-
--- what the state says, unless the premises lead to none: 21 or a contradiction
-abbrev pub askedAt : Application → StateAnswer → StateAnswer
-askedAt application.Consistent here = here
-askedAt (application.Contradiction x) here = stateAnswer (applicationNumbers (application.Contradiction x))
-askedAt (application.Refused n) here = stateAnswer (applicationNumbers (application.Refused n))
 
 abbrev pub askedAfter : ℕ → Applied → (VariableState → Answer) → StateAnswer
 askedAfter zero applied question = askedAt (applied .answer) (stateAnswer (question (applied .state)))

@@ -1,4 +1,4 @@
--- The numbers at small answers, and the order of the tests of a question.
+-- The order of the tests of a question.
 -- Assumes nothing.
 use mathlib.Core.Path.{_≡_, refl}
 use mathlib.Core.List.{List, [], _∷_}
@@ -9,14 +9,8 @@ use Rattle.holes.specs.Holes.{has, kept, inserted, firstFrom, lastUpTo}
 use Rattle.atoms.specs.Atoms.{atomsOf, rightAtom, rightWords, rightLists}
 use Rattle.domains.specs.Domains.{crowded, without, withoutLower, withoutUpper, withHole, tightenedLower, tightenedUpper, settled, reduced}
 use Rattle.checking.specs.States.{stepped, applyAll, prepared}
-use Rattle.propagator.specs.declared.disjunctive_propagator.Outcome.the-variants as outcome
-use Rattle.propagator.specs.Outcomes.{outcomeNumbers}
-use Rattle.reedgrit.specs.Answers.{runAnswer, stateAnswer}
+use Rattle.answers.specs.Answers.{stateAnswer}
 use Rattle.reedgrit.specs.Calls.{truthAfter, lowerAfter}
-
--- an overload after two posts, whose reason is the four atoms from the tenth on, and 12 leaf changes
-overloaded : runAnswer (outcomeNumbers (outcome.Overload 2 9 4)) 12 ≡ record { kind = 1; number = 0; posts = 2; first = 9; count = 4; changes = 12 }
-overloaded = refl
 
 -- 0 ≠ v for v from 1 to 17: seventeen holes
 abbrev holes : List ℤ

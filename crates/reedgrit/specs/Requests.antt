@@ -32,16 +32,17 @@ use Rattle.busiest_stretch.specs.Stretches.{Answered as BusiestAnswered}
 use Rattle.barred_starts.specs.declared.range.Range.{Range}
 use Rattle.promises.specs.PrecedencesLent.{PrecedencesLent}
 use Rattle.promises.specs.RanLent.{RanMirroredLent}
+use Rattle.barred_starts.specs.Bars.{allBarsFit}
 use Rattle.barred_starts.specs.Ranges.{earliests, latests}
-use Rattle.reedgrit.specs.declared.answers.CheckAnswer.{CheckAnswer}
-use Rattle.reedgrit.specs.declared.request_answers.MirroredAnswer.{MirroredAnswer}
-use Rattle.reedgrit.specs.declared.request_answers.CountAnswer.{CountAnswer}
-use Rattle.reedgrit.specs.declared.request_answers.ChangeAnswer.{ChangeAnswer}
-use Rattle.reedgrit.specs.declared.request_answers.StartAnswer.{StartAnswer}
-use Rattle.reedgrit.specs.declared.request_answers.BusiestAnswer.{BusiestAnswer}
-use Rattle.reedgrit.specs.declared.request_answers.ChargesAnswer.{ChargesAnswer}
-use Rattle.reedgrit.specs.Answers.{checkAnswer}
-use Rattle.reedgrit.specs.RequestAnswers.{mirroredAnswer, countAnswer, changeAnswer, startAnswer, busiestAnswer, chargesAnswer}
+use Rattle.answers.specs.declared.call_answers.CheckAnswer.{CheckAnswer}
+use Rattle.answers.specs.declared.request_answers.MirroredAnswer.{MirroredAnswer}
+use Rattle.answers.specs.declared.request_answers.CountAnswer.{CountAnswer}
+use Rattle.answers.specs.declared.request_answers.ChangeAnswer.{ChangeAnswer}
+use Rattle.answers.specs.declared.request_answers.StartAnswer.{StartAnswer}
+use Rattle.answers.specs.declared.request_answers.BusiestAnswer.{BusiestAnswer}
+use Rattle.answers.specs.declared.request_answers.ChargesAnswer.{ChargesAnswer}
+use Rattle.answers.specs.Answers.{checkAnswer}
+use Rattle.answers.specs.RequestAnswers.{mirroredAnswer, countAnswer, changeAnswer, startAnswer, busiestAnswer, chargesAnswer}
 
 -- a is made of the numbers of an answer of which P holds
 pub record NumbersOf {R A : Type 0} (numbers : R → A) (P : R → Type 0) (a : A) : Type 0 where
@@ -56,7 +57,7 @@ abbrev pub MirroredNumbers : Propagator → List Range → List ℤ → List ℤ
 MirroredNumbers before ranges posts atoms a ranges′ posts′ atoms′ = NumbersOf (λ r. mirroredAnswer (outcomeNumbers r)) (λ r. RanMirroredLent before ranges posts atoms r ranges′ posts′ atoms′) a
 
 abbrev pub OverloadNumbers : Propagator → List Range → CountAnswer → Type 0
-OverloadNumbers before ranges = NumbersOf (λ r. countAnswer (overloadNumbers r)) (OverloadTested before (earliests ranges) (latests ranges))
+OverloadNumbers before ranges = NumbersOf (λ r. countAnswer (overloadNumbers r)) (OverloadTested before (earliests ranges) (latests ranges) (allBarsFit ranges))
 
 abbrev pub AddedNumbers : Propagator → ℤ → ChangeAnswer → Propagator → Type 0
 AddedNumbers before duration a after = NumbersOf (λ r. changeAnswer (changeNumbers r)) (λ r. AddedLent before duration r after) a
@@ -80,4 +81,4 @@ abbrev pub PrecedencesNumbers : Propagator → List Range → CountAnswer → Li
 PrecedencesNumbers before ranges a ranges′ = NumbersOf (λ r. countAnswer (precedencesNumbers r)) (λ r. PrecedencesLent before ranges r ranges′) a
 
 abbrev pub ReasonNumbers : Propagator → List Range → ℕ → List ℤ → CountAnswer → List ℤ → Type 0
-ReasonNumbers before ranges task reason a reason′ = NumbersOf (λ r. countAnswer (reasonNumbers r)) (λ r. ReasonGiven before (earliests ranges) (latests ranges) task reason r reason′) a
+ReasonNumbers before ranges task reason a reason′ = NumbersOf (λ r. countAnswer (reasonNumbers r)) (λ r. ReasonGiven before (earliests ranges) (latests ranges) (allBarsFit ranges) task reason r reason′) a

@@ -1,5 +1,3 @@
-// The open calls for C and Rust. An enum cannot cross, so each answer crosses as a struct of numbers; a lent slice crosses as a pointer and a length.
-pub mod answers;
+// The open calls for C and Rust. Each answers a struct of numbers of the crate `answers`; a lent slice crosses as a pointer and a length.
 pub mod calls;
-pub mod request_answers;
 pub mod requests;

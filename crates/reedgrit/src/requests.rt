@@ -1,21 +1,21 @@
 // The exported calls beside the run and the check. Each is the open call of its name, with the answer's numbers for the answer; none has a `requires`.
-use crate::answers::CheckAnswer;
-use crate::answers::verdict_numbers;
-use crate::request_answers::BusiestAnswer;
-use crate::request_answers::ChangeAnswer;
-use crate::request_answers::ChargesAnswer;
-use crate::request_answers::CountAnswer;
-use crate::request_answers::MirroredAnswer;
-use crate::request_answers::StartAnswer;
-use crate::request_answers::busiest_numbers;
-use crate::request_answers::change_numbers;
-use crate::request_answers::charges_numbers;
-use crate::request_answers::mirrored_numbers;
-use crate::request_answers::overload_numbers;
-use crate::request_answers::page_numbers;
-use crate::request_answers::precedences_numbers;
-use crate::request_answers::reason_numbers;
-use crate::request_answers::start_numbers;
+use answers::call_answers::CheckAnswer;
+use answers::call_answers::verdict_numbers;
+use answers::request_answers::BusiestAnswer;
+use answers::request_answers::ChangeAnswer;
+use answers::request_answers::ChargesAnswer;
+use answers::request_answers::CountAnswer;
+use answers::request_answers::MirroredAnswer;
+use answers::request_answers::StartAnswer;
+use answers::request_answers::busiest_numbers;
+use answers::request_answers::change_numbers;
+use answers::request_answers::charges_numbers;
+use answers::request_answers::mirrored_numbers;
+use answers::request_answers::overload_numbers;
+use answers::request_answers::page_numbers;
+use answers::request_answers::precedences_numbers;
+use answers::request_answers::reason_numbers;
+use answers::request_answers::start_numbers;
 use barred_starts::range::Range;
 use checker::checker::check_mirrored;
 use disjunctive::ranges::by_precedence::precedence_reason;
@@ -35,9 +35,9 @@ ghost use Rattle.reedgrit.specs.Requests.{CheckedMirroredNumbers, Mirror
 // The version of these functions and structs.
 #[no_mangle]
 pub extern "C" fn reedgrit_abi_version() -> u32
-    ensures { λ r. ⌜ r ≡ 2 ⌝ }
+    ensures { λ r. ⌜ r ≡ 3 ⌝ }
 {
-    2
+    3
 }
 
 // The check for a reason of a latest start.

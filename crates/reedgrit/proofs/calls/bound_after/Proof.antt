@@ -7,8 +7,7 @@ use Rattle.integers.proofs.Ints.{back}
 use Rattle.atoms.specs.Atoms.{rightVariable}
 use Rattle.checking.specs.Answers.{boundNumbers}
 use Rattle.checking.specs.States.{sideOf, boundOf}
-use Rattle.reedgrit.specs.Answers.{stateAnswer}
-use Rattle.reedgrit.specs.Calls.{askedAt}
+use Rattle.answers.specs.Answers.{stateAnswer, askedAt}
 use Rattle.reedgrit.proofs.Asking.{unfit, fit}
 use Rattle.reedgrit.proofs.calls.bound_after.Statement.{statement}
 use Rattle.reedgrit.proofs.calls.bound_after.Tie as tie

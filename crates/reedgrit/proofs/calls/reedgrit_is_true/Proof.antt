@@ -7,8 +7,7 @@ use Rattle.integers.proofs.Ints.{back}
 use Rattle.atoms.specs.Atoms.{rightAtom}
 use Rattle.checking.specs.Answers.{truthNumbers}
 use Rattle.checking.specs.States.{truthOf}
-use Rattle.reedgrit.specs.Answers.{stateAnswer}
-use Rattle.reedgrit.specs.Calls.{askedAt}
+use Rattle.answers.specs.Answers.{stateAnswer, askedAt}
 use Rattle.reedgrit.proofs.Asking.{unfit, fit}
 use Rattle.reedgrit.proofs.calls.reedgrit_is_true.Statement.{statement}
 use Rattle.reedgrit.proofs.calls.reedgrit_is_true.Tie as tie

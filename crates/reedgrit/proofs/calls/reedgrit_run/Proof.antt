@@ -48,15 +48,16 @@ use Rattle.disjunctive.proofs.ranges.run as lent
 use Rattle.disjunctive.proofs.ranges.run.Symbol as lent-def
 use Rattle.disjunctive.proofs.ranges.run.Symbol.{name as #lent}
 use Rattle.disjunctive.proofs.ranges.run.Met as lent-thm
-use Rattle.reedgrit.specs.Answers.{runAnswer}
+use Rattle.answers.specs.Answers.{ToldInWords, runAnswer}
 use Rattle.reedgrit.specs.Calls.{RanNumbers}
-use Rattle.reedgrit.specs.declared.answers.RunAnswer.{RunAnswer}
-use Rattle.reedgrit.proofs.answers.RunAnswer as N
-use Rattle.reedgrit.proofs.answers.RunAnswer.Laws as N′
-use Rattle.reedgrit.proofs.answers.finished_numbers as numbers
-use Rattle.reedgrit.proofs.answers.finished_numbers.Symbol as numbers-def
-use Rattle.reedgrit.proofs.answers.finished_numbers.Symbol.{name as #numbers}
-use Rattle.reedgrit.proofs.answers.finished_numbers.Met as numbers-thm
+use Rattle.answers.specs.declared.call_answers.RunAnswer.{RunAnswer}
+use Rattle.answers.proofs.call_answers.RunAnswer as N
+use Rattle.answers.proofs.call_answers.RunAnswer.Laws as N′
+use Rattle.answers.proofs.call_answers.finished_numbers as numbers
+use Rattle.answers.proofs.call_answers.finished_numbers.Symbol as numbers-def
+use Rattle.answers.proofs.call_answers.finished_numbers.Symbol.{name as #numbers}
+use Rattle.answers.proofs.call_answers.finished_numbers.Met as numbers-thm
+use Rattle.reedgrit.proofs.Words.{run-told}
 use Rattle.reedgrit.proofs.calls.reedgrit_run.Key.{name as #reedgrit-run}
 use Rattle.reedgrit.proofs.calls.reedgrit_run as f
 use Rattle.reedgrit.proofs.calls.reedgrit_run.Statement as stated
@@ -137,8 +138,8 @@ module _ {M : Type 1} (𝓤 : URA M) (H : Heap 𝓤) (A : Atoms 𝓤) (W : Given
   abbrev to-numbers : Finished → Val → Numbers 𝓤 H A at-mem run .Ghost
   to-numbers r v = ((tt, tt, tt, (r, tt), (v ∷ [], tt)), tt)
 
-  goes-numbers : (r : Finished) (v : Val) → ent 𝓤 (sem 𝓤 H A (F.the-row .own r (v ∷ []))) (Numbers 𝓤 H A at-mem run .pre (to-numbers r v))
-  goes-numbers r v = qed W (‵ (F.the-row .own r (v ∷ [])) ∷ []) ∵ nothing ! $ move ! (1 ∷ 0 ∷ []) $ fjoin ! $ nothing ! $ join ! $ frame ! $ done !
+  goes-numbers : (r : Finished) (v : Val) → ToldInWords (r .outcome) → ent 𝓤 (sem 𝓤 H A (F.the-row .own r (v ∷ []))) (Numbers 𝓤 H A at-mem run .pre (to-numbers r v))
+  goes-numbers r v fit = qed W (‵ (F.the-row .own r (v ∷ [])) ∷ []) ∵ says ! fit $ nothing ! $ move ! (1 ∷ 0 ∷ []) $ fjoin ! $ nothing ! $ frame ! $ done !
 
   module _ (C : Calls 𝓤 H) (Λ : Loops 𝓤 H) (fm : FmC 𝓤 H (W .laws) C) (known-lent : Triple 𝓤 (C #lent) (Lent 𝓤 H A at-mem run)) (known-numbers : Triple 𝓤 (C #numbers) (Numbers 𝓤 H A at-mem run))
       (g : Room T.the-row (length (now xr))) (gp : Room i32 (length (now xp))) (ga : Room i32 (length (now xa))) where
@@ -166,7 +167,7 @@ module _ {M : Type 1} (𝓤 : URA M) (H : Heap 𝓤) (A : Atoms 𝓤) (W : Given
         move ! (5 ∷ []) $ split ! $ move ! (1 ∷ []) $ peeks ! F.the-row (Is F.the-row) (shows 𝓤 H A F.the-row) r (v ∷ []) (λ is₁.
         land ! (from ! (stop !)) (init ! 21 refl (LL.lawful F.the-type F′.the-laws 𝓤 H A W .typed r _ is₁ .0)) $
         -- [what the result owns; the tokens; the last atoms; true; the last posts; the last ranges; the last record; _12; …; _0; …]
-        use1 W (raw (Numbers 𝓤 H A at-mem run .pre (to-numbers r v))) (goes-numbers r v) $
+        use1 W (raw (Numbers 𝓤 H A at-mem run .pre (to-numbers r v))) (goes-numbers r v (run-told (now xo) (now xr) (now xp) (now xa) (us .1 .0) (us .1 .1 .0) (us .1 .1 .1 .0) (r .outcome) (r .changes) (us .0) e₁ la (ga .0))) $
         calls-at ! fm (Numbers 𝓤 H A at-mem run) known-numbers (to-numbers r v) (and-then ! (load ! (from ! (stop !)) (look ! 21 refl)) (no-more !)) (λ w.
         use1 W (later (some (λ (a : RunAnswer). (‵ ftrue ⊛ ‵ (N.the-row .own a (w ∷ []))) ⊛ raw (ensured 𝓤 H A numbers.ended (numbers.clauses 𝓤 H A at-mem run) tt (r, tt) tt a)))) (id⊢ 𝓤 _) $ await ! tt $ pick ! (λ a.
         split ! $ move ! (1 ∷ []) $ use1 W (raw (fact 𝓤 (a ≡ runAnswer (outcomeNumbers (r .outcome)) (r .changes)))) (numbers-said 𝓤 H A at-mem run r a) $ heard ! (a ≡ runAnswer (outcomeNumbers (r .outcome)) (r .changes)) (λ e₂. split ! $ move ! (1 ∷ []) $
@@ -198,4 +199,4 @@ reedgrit-run-spec 𝓤 H 𝓜 𝓖 𝓡 =
     (tables 𝓤 H 𝓜 𝓡 code.env .C) (tables 𝓤 H 𝓜 𝓡 code.env .Λ) #reedgrit-run code.function (code.unfolded 𝓤 H 𝓜 𝓡)
     (f-meets 𝓤 H (𝓖 .A) (givenOf 𝓤 H 𝓜 𝓖) (𝓜 .mem) (𝓡 .run) (tablesOf 𝓤 H 𝓜 (tables 𝓤 H 𝓜 𝓡 code.env))
     (cited 𝓤 H (Lent 𝓤 H (𝓖 .A) (𝓜 .mem) (𝓡 .run)) 𝓜 𝓡 code.env #lent lent-def.routine code.calls-disjunctive·ranges·run (lent-thm.met 𝓤 H 𝓜 𝓖 𝓡))
-    (cited 𝓤 H (Numbers 𝓤 H (𝓖 .A) (𝓜 .mem) (𝓡 .run)) 𝓜 𝓡 code.env #numbers numbers-def.routine code.calls-reedgrit·answers·finished-numbers (numbers-thm.met 𝓤 H 𝓜 𝓖 𝓡)))
+    (cited 𝓤 H (Numbers 𝓤 H (𝓖 .A) (𝓜 .mem) (𝓡 .run)) 𝓜 𝓡 code.env #numbers numbers-def.routine code.calls-answers·call-answers·finished-numbers (numbers-thm.met 𝓤 H 𝓜 𝓖 𝓡)))

@@ -51,15 +51,15 @@ use Rattle.disjunctive.proofs.ranges.of_fixed_schedules.busiest_stretch as lent
 use Rattle.disjunctive.proofs.ranges.of_fixed_schedules.busiest_stretch.Symbol as lent-def
 use Rattle.disjunctive.proofs.ranges.of_fixed_schedules.busiest_stretch.Symbol.{name as #lent}
 use Rattle.disjunctive.proofs.ranges.of_fixed_schedules.busiest_stretch.Met as lent-thm
-use Rattle.reedgrit.specs.RequestAnswers.{busiestAnswer}
+use Rattle.answers.specs.RequestAnswers.{busiestAnswer}
 use Rattle.reedgrit.specs.Requests.{BusiestNumbers}
-use Rattle.reedgrit.specs.declared.request_answers.BusiestAnswer.{BusiestAnswer}
-use Rattle.reedgrit.proofs.request_answers.BusiestAnswer as N
-use Rattle.reedgrit.proofs.request_answers.BusiestAnswer.Laws as N′
-use Rattle.reedgrit.proofs.request_answers.busiest_numbers as numbers
-use Rattle.reedgrit.proofs.request_answers.busiest_numbers.Symbol as numbers-def
-use Rattle.reedgrit.proofs.request_answers.busiest_numbers.Symbol.{name as #numbers}
-use Rattle.reedgrit.proofs.request_answers.busiest_numbers.Met as numbers-thm
+use Rattle.answers.specs.declared.request_answers.BusiestAnswer.{BusiestAnswer}
+use Rattle.answers.proofs.request_answers.BusiestAnswer as N
+use Rattle.answers.proofs.request_answers.BusiestAnswer.Laws as N′
+use Rattle.answers.proofs.request_answers.busiest_numbers as numbers
+use Rattle.answers.proofs.request_answers.busiest_numbers.Symbol as numbers-def
+use Rattle.answers.proofs.request_answers.busiest_numbers.Symbol.{name as #numbers}
+use Rattle.answers.proofs.request_answers.busiest_numbers.Met as numbers-thm
 use Rattle.reedgrit.proofs.requests.reedgrit_busiest_stretch.Key.{name as #reedgrit-busiest-stretch}
 use Rattle.reedgrit.proofs.requests.reedgrit_busiest_stretch as f
 use Rattle.reedgrit.proofs.requests.reedgrit_busiest_stretch.Statement as stated
@@ -185,4 +185,4 @@ reedgrit-busiest-stretch-spec 𝓤 H 𝓜 𝓖 𝓡 =
     (tables 𝓤 H 𝓜 𝓡 code.env .C) (tables 𝓤 H 𝓜 𝓡 code.env .Λ) #reedgrit-busiest-stretch code.function (code.unfolded 𝓤 H 𝓜 𝓡)
     (f-meets 𝓤 H (𝓖 .A) (givenOf 𝓤 H 𝓜 𝓖) (𝓜 .mem) (𝓡 .run) (tablesOf 𝓤 H 𝓜 (tables 𝓤 H 𝓜 𝓡 code.env))
     (cited 𝓤 H (Lent 𝓤 H (𝓖 .A) (𝓜 .mem) (𝓡 .run)) 𝓜 𝓡 code.env #lent lent-def.routine code.calls-disjunctive·ranges·of-fixed-schedules·busiest-stretch (lent-thm.met 𝓤 H 𝓜 𝓖 𝓡))
-    (cited 𝓤 H (Numbers 𝓤 H (𝓖 .A) (𝓜 .mem) (𝓡 .run)) 𝓜 𝓡 code.env #numbers numbers-def.routine code.calls-reedgrit·request-answers·busiest-numbers (numbers-thm.met 𝓤 H 𝓜 𝓖 𝓡)))
+    (cited 𝓤 H (Numbers 𝓤 H (𝓖 .A) (𝓜 .mem) (𝓡 .run)) 𝓜 𝓡 code.env #numbers numbers-def.routine code.calls-answers·request-answers·busiest-numbers (numbers-thm.met 𝓤 H 𝓜 𝓖 𝓡)))

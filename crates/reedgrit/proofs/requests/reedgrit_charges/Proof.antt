@@ -47,15 +47,15 @@ use Rattle.disjunctive.proofs.ranges.of_fixed_schedules.charges as lent
 use Rattle.disjunctive.proofs.ranges.of_fixed_schedules.charges.Symbol as lent-def
 use Rattle.disjunctive.proofs.ranges.of_fixed_schedules.charges.Symbol.{name as #lent}
 use Rattle.disjunctive.proofs.ranges.of_fixed_schedules.charges.Met as lent-thm
-use Rattle.reedgrit.specs.RequestAnswers.{chargesAnswer}
+use Rattle.answers.specs.RequestAnswers.{chargesAnswer}
 use Rattle.reedgrit.specs.Requests.{ChargesNumbers}
-use Rattle.reedgrit.specs.declared.request_answers.ChargesAnswer.{ChargesAnswer}
-use Rattle.reedgrit.proofs.request_answers.ChargesAnswer as N
-use Rattle.reedgrit.proofs.request_answers.ChargesAnswer.Laws as N′
-use Rattle.reedgrit.proofs.request_answers.charges_numbers as numbers
-use Rattle.reedgrit.proofs.request_answers.charges_numbers.Symbol as numbers-def
-use Rattle.reedgrit.proofs.request_answers.charges_numbers.Symbol.{name as #numbers}
-use Rattle.reedgrit.proofs.request_answers.charges_numbers.Met as numbers-thm
+use Rattle.answers.specs.declared.request_answers.ChargesAnswer.{ChargesAnswer}
+use Rattle.answers.proofs.request_answers.ChargesAnswer as N
+use Rattle.answers.proofs.request_answers.ChargesAnswer.Laws as N′
+use Rattle.answers.proofs.request_answers.charges_numbers as numbers
+use Rattle.answers.proofs.request_answers.charges_numbers.Symbol as numbers-def
+use Rattle.answers.proofs.request_answers.charges_numbers.Symbol.{name as #numbers}
+use Rattle.answers.proofs.request_answers.charges_numbers.Met as numbers-thm
 use Rattle.reedgrit.proofs.requests.reedgrit_charges.Key.{name as #reedgrit-charges}
 use Rattle.reedgrit.proofs.requests.reedgrit_charges as f
 use Rattle.reedgrit.proofs.requests.reedgrit_charges.Statement as stated
@@ -181,4 +181,4 @@ reedgrit-charges-spec 𝓤 H 𝓜 𝓖 𝓡 =
     (tables 𝓤 H 𝓜 𝓡 code.env .C) (tables 𝓤 H 𝓜 𝓡 code.env .Λ) #reedgrit-charges code.function (code.unfolded 𝓤 H 𝓜 𝓡)
     (f-meets 𝓤 H (𝓖 .A) (givenOf 𝓤 H 𝓜 𝓖) (𝓜 .mem) (𝓡 .run) (tablesOf 𝓤 H 𝓜 (tables 𝓤 H 𝓜 𝓡 code.env))
     (cited 𝓤 H (Lent 𝓤 H (𝓖 .A) (𝓜 .mem) (𝓡 .run)) 𝓜 𝓡 code.env #lent lent-def.routine code.calls-disjunctive·ranges·of-fixed-schedules·charges (lent-thm.met 𝓤 H 𝓜 𝓖 𝓡))
-    (cited 𝓤 H (Numbers 𝓤 H (𝓖 .A) (𝓜 .mem) (𝓡 .run)) 𝓜 𝓡 code.env #numbers numbers-def.routine code.calls-reedgrit·request-answers·charges-numbers (numbers-thm.met 𝓤 H 𝓜 𝓖 𝓡)))
+    (cited 𝓤 H (Numbers 𝓤 H (𝓖 .A) (𝓜 .mem) (𝓡 .run)) 𝓜 𝓡 code.env #numbers numbers-def.routine code.calls-answers·request-answers·charges-numbers (numbers-thm.met 𝓤 H 𝓜 𝓖 𝓡)))

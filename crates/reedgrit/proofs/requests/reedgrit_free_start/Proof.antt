@@ -51,15 +51,15 @@ use Rattle.disjunctive.proofs.ranges.of_fixed_schedules.free_start as lent
 use Rattle.disjunctive.proofs.ranges.of_fixed_schedules.free_start.Symbol as lent-def
 use Rattle.disjunctive.proofs.ranges.of_fixed_schedules.free_start.Symbol.{name as #lent}
 use Rattle.disjunctive.proofs.ranges.of_fixed_schedules.free_start.Met as lent-thm
-use Rattle.reedgrit.specs.RequestAnswers.{startAnswer}
+use Rattle.answers.specs.RequestAnswers.{startAnswer}
 use Rattle.reedgrit.specs.Requests.{FreeStartNumbers}
-use Rattle.reedgrit.specs.declared.request_answers.StartAnswer.{StartAnswer}
-use Rattle.reedgrit.proofs.request_answers.StartAnswer as N
-use Rattle.reedgrit.proofs.request_answers.StartAnswer.Laws as N′
-use Rattle.reedgrit.proofs.request_answers.start_numbers as numbers
-use Rattle.reedgrit.proofs.request_answers.start_numbers.Symbol as numbers-def
-use Rattle.reedgrit.proofs.request_answers.start_numbers.Symbol.{name as #numbers}
-use Rattle.reedgrit.proofs.request_answers.start_numbers.Met as numbers-thm
+use Rattle.answers.specs.declared.request_answers.StartAnswer.{StartAnswer}
+use Rattle.answers.proofs.request_answers.StartAnswer as N
+use Rattle.answers.proofs.request_answers.StartAnswer.Laws as N′
+use Rattle.answers.proofs.request_answers.start_numbers as numbers
+use Rattle.answers.proofs.request_answers.start_numbers.Symbol as numbers-def
+use Rattle.answers.proofs.request_answers.start_numbers.Symbol.{name as #numbers}
+use Rattle.answers.proofs.request_answers.start_numbers.Met as numbers-thm
 use Rattle.reedgrit.proofs.requests.reedgrit_free_start.Key.{name as #reedgrit-free-start}
 use Rattle.reedgrit.proofs.requests.reedgrit_free_start as f
 use Rattle.reedgrit.proofs.requests.reedgrit_free_start.Statement as stated
@@ -188,4 +188,4 @@ reedgrit-free-start-spec 𝓤 H 𝓜 𝓖 𝓡 =
     (tables 𝓤 H 𝓜 𝓡 code.env .C) (tables 𝓤 H 𝓜 𝓡 code.env .Λ) #reedgrit-free-start code.function (code.unfolded 𝓤 H 𝓜 𝓡)
     (f-meets 𝓤 H (𝓖 .A) (givenOf 𝓤 H 𝓜 𝓖) (𝓜 .mem) (𝓡 .run) (tablesOf 𝓤 H 𝓜 (tables 𝓤 H 𝓜 𝓡 code.env))
     (cited 𝓤 H (Lent 𝓤 H (𝓖 .A) (𝓜 .mem) (𝓡 .run)) 𝓜 𝓡 code.env #lent lent-def.routine code.calls-disjunctive·ranges·of-fixed-schedules·free-start (lent-thm.met 𝓤 H 𝓜 𝓖 𝓡))
-    (cited 𝓤 H (Numbers 𝓤 H (𝓖 .A) (𝓜 .mem) (𝓡 .run)) 𝓜 𝓡 code.env #numbers numbers-def.routine code.calls-reedgrit·request-answers·start-numbers (numbers-thm.met 𝓤 H 𝓜 𝓖 𝓡)))
+    (cited 𝓤 H (Numbers 𝓤 H (𝓖 .A) (𝓜 .mem) (𝓡 .run)) 𝓜 𝓡 code.env #numbers numbers-def.routine code.calls-answers·request-answers·start-numbers (numbers-thm.met 𝓤 H 𝓜 𝓖 𝓡)))

@@ -40,6 +40,7 @@ use Rattle.overload_test.proofs.overload_test.Overload as O
 use Rattle.overload_test.proofs.overload_test.Overload.Laws as O′
 use Rattle.overload_test.specs.Numbers.{overloadNumbers}
 use Rattle.overload_test.specs.Tested.{OverloadTested}
+use Rattle.barred_starts.specs.Bars.{allBarsFit}
 use Rattle.barred_starts.specs.Ranges.{earliests, latests}
 use Rattle.barred_starts.specs.declared.range.Range.{Range}
 use Rattle.barred_starts.proofs.range.Range as T
@@ -47,15 +48,15 @@ use Rattle.disjunctive.proofs.ranges.overload_test as lent
 use Rattle.disjunctive.proofs.ranges.overload_test.Symbol as lent-def
 use Rattle.disjunctive.proofs.ranges.overload_test.Symbol.{name as #lent}
 use Rattle.disjunctive.proofs.ranges.overload_test.Met as lent-thm
-use Rattle.reedgrit.specs.RequestAnswers.{countAnswer}
+use Rattle.answers.specs.RequestAnswers.{countAnswer}
 use Rattle.reedgrit.specs.Requests.{OverloadNumbers}
-use Rattle.reedgrit.specs.declared.request_answers.CountAnswer.{CountAnswer}
-use Rattle.reedgrit.proofs.request_answers.CountAnswer as N
-use Rattle.reedgrit.proofs.request_answers.CountAnswer.Laws as N′
-use Rattle.reedgrit.proofs.request_answers.overload_numbers as numbers
-use Rattle.reedgrit.proofs.request_answers.overload_numbers.Symbol as numbers-def
-use Rattle.reedgrit.proofs.request_answers.overload_numbers.Symbol.{name as #numbers}
-use Rattle.reedgrit.proofs.request_answers.overload_numbers.Met as numbers-thm
+use Rattle.answers.specs.declared.request_answers.CountAnswer.{CountAnswer}
+use Rattle.answers.proofs.request_answers.CountAnswer as N
+use Rattle.answers.proofs.request_answers.CountAnswer.Laws as N′
+use Rattle.answers.proofs.request_answers.overload_numbers as numbers
+use Rattle.answers.proofs.request_answers.overload_numbers.Symbol as numbers-def
+use Rattle.answers.proofs.request_answers.overload_numbers.Symbol.{name as #numbers}
+use Rattle.answers.proofs.request_answers.overload_numbers.Met as numbers-thm
 use Rattle.reedgrit.proofs.requests.reedgrit_overload_test.Key.{name as #reedgrit-overload-test}
 use Rattle.reedgrit.proofs.requests.reedgrit_overload_test as f
 use Rattle.reedgrit.proofs.requests.reedgrit_overload_test.Statement as stated
@@ -107,7 +108,7 @@ module _ {M : Type 1} (𝓤 : URA M) (H : Heap 𝓤) (A : Atoms 𝓤) (W : Given
 
   -- what the open call says of what it leaves
   abbrev Leaves : Overload → Last → Type 0
-  Leaves r us = OverloadTested (now xo) (earliests (now xr)) (latests (now xr)) r
+  Leaves r us = OverloadTested (now xo) (earliests (now xr)) (latests (now xr)) (allBarsFit (now xr)) r
 
   abbrev Had : CountAnswer → Val → Last → List (Item 𝓤)
   Had a v us = ‵ (N.the-row .own a (v ∷ [])) ∷ Tokens ∷ []
@@ -178,4 +179,4 @@ reedgrit-overload-test-spec 𝓤 H 𝓜 𝓖 𝓡 =
     (tables 𝓤 H 𝓜 𝓡 code.env .C) (tables 𝓤 H 𝓜 𝓡 code.env .Λ) #reedgrit-overload-test code.function (code.unfolded 𝓤 H 𝓜 𝓡)
     (f-meets 𝓤 H (𝓖 .A) (givenOf 𝓤 H 𝓜 𝓖) (𝓜 .mem) (𝓡 .run) (tablesOf 𝓤 H 𝓜 (tables 𝓤 H 𝓜 𝓡 code.env))
     (cited 𝓤 H (Lent 𝓤 H (𝓖 .A) (𝓜 .mem) (𝓡 .run)) 𝓜 𝓡 code.env #lent lent-def.routine code.calls-disjunctive·ranges·overload-test (lent-thm.met 𝓤 H 𝓜 𝓖 𝓡))
-    (cited 𝓤 H (Numbers 𝓤 H (𝓖 .A) (𝓜 .mem) (𝓡 .run)) 𝓜 𝓡 code.env #numbers numbers-def.routine code.calls-reedgrit·request-answers·overload-numbers (numbers-thm.met 𝓤 H 𝓜 𝓖 𝓡)))
+    (cited 𝓤 H (Numbers 𝓤 H (𝓖 .A) (𝓜 .mem) (𝓡 .run)) 𝓜 𝓡 code.env #numbers numbers-def.routine code.calls-answers·request-answers·overload-numbers (numbers-thm.met 𝓤 H 𝓜 𝓖 𝓡)))

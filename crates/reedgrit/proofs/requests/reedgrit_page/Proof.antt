@@ -50,15 +50,15 @@ use Rattle.disjunctive.proofs.ranges.of_fixed_schedules.page as lent
 use Rattle.disjunctive.proofs.ranges.of_fixed_schedules.page.Symbol as lent-def
 use Rattle.disjunctive.proofs.ranges.of_fixed_schedules.page.Symbol.{name as #lent}
 use Rattle.disjunctive.proofs.ranges.of_fixed_schedules.page.Met as lent-thm
-use Rattle.reedgrit.specs.RequestAnswers.{countAnswer}
+use Rattle.answers.specs.RequestAnswers.{countAnswer}
 use Rattle.reedgrit.specs.Requests.{PageNumbers}
-use Rattle.reedgrit.specs.declared.request_answers.CountAnswer.{CountAnswer}
-use Rattle.reedgrit.proofs.request_answers.CountAnswer as N
-use Rattle.reedgrit.proofs.request_answers.CountAnswer.Laws as N′
-use Rattle.reedgrit.proofs.request_answers.page_numbers as numbers
-use Rattle.reedgrit.proofs.request_answers.page_numbers.Symbol as numbers-def
-use Rattle.reedgrit.proofs.request_answers.page_numbers.Symbol.{name as #numbers}
-use Rattle.reedgrit.proofs.request_answers.page_numbers.Met as numbers-thm
+use Rattle.answers.specs.declared.request_answers.CountAnswer.{CountAnswer}
+use Rattle.answers.proofs.request_answers.CountAnswer as N
+use Rattle.answers.proofs.request_answers.CountAnswer.Laws as N′
+use Rattle.answers.proofs.request_answers.page_numbers as numbers
+use Rattle.answers.proofs.request_answers.page_numbers.Symbol as numbers-def
+use Rattle.answers.proofs.request_answers.page_numbers.Symbol.{name as #numbers}
+use Rattle.answers.proofs.request_answers.page_numbers.Met as numbers-thm
 use Rattle.reedgrit.proofs.requests.reedgrit_page.Key.{name as #reedgrit-page}
 use Rattle.reedgrit.proofs.requests.reedgrit_page as f
 use Rattle.reedgrit.proofs.requests.reedgrit_page.Statement as stated
@@ -186,4 +186,4 @@ reedgrit-page-spec 𝓤 H 𝓜 𝓖 𝓡 =
     (tables 𝓤 H 𝓜 𝓡 code.env .C) (tables 𝓤 H 𝓜 𝓡 code.env .Λ) #reedgrit-page code.function (code.unfolded 𝓤 H 𝓜 𝓡)
     (f-meets 𝓤 H (𝓖 .A) (givenOf 𝓤 H 𝓜 𝓖) (𝓜 .mem) (𝓡 .run) (tablesOf 𝓤 H 𝓜 (tables 𝓤 H 𝓜 𝓡 code.env))
     (cited 𝓤 H (Lent 𝓤 H (𝓖 .A) (𝓜 .mem) (𝓡 .run)) 𝓜 𝓡 code.env #lent lent-def.routine code.calls-disjunctive·ranges·of-fixed-schedules·page (lent-thm.met 𝓤 H 𝓜 𝓖 𝓡))
-    (cited 𝓤 H (Numbers 𝓤 H (𝓖 .A) (𝓜 .mem) (𝓡 .run)) 𝓜 𝓡 code.env #numbers numbers-def.routine code.calls-reedgrit·request-answers·page-numbers (numbers-thm.met 𝓤 H 𝓜 𝓖 𝓡)))
+    (cited 𝓤 H (Numbers 𝓤 H (𝓖 .A) (𝓜 .mem) (𝓡 .run)) 𝓜 𝓡 code.env #numbers numbers-def.routine code.calls-answers·request-answers·page-numbers (numbers-thm.met 𝓤 H 𝓜 𝓖 𝓡)))

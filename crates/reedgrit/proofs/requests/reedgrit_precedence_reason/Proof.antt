@@ -45,6 +45,7 @@ use Rattle.precedences.proofs.answers.Reason as O
 use Rattle.precedences.proofs.answers.Reason.Laws as O′
 use Rattle.precedences.specs.Numbers.{reasonNumbers}
 use Rattle.precedences.specs.Reasons.{ReasonGiven}
+use Rattle.barred_starts.specs.Bars.{allBarsFit}
 use Rattle.barred_starts.specs.Ranges.{earliests, latests}
 use Rattle.barred_starts.specs.declared.range.Range.{Range}
 use Rattle.barred_starts.proofs.range.Range as T
@@ -52,15 +53,15 @@ use Rattle.disjunctive.proofs.ranges.by_precedence.precedence_reason as lent
 use Rattle.disjunctive.proofs.ranges.by_precedence.precedence_reason.Symbol as lent-def
 use Rattle.disjunctive.proofs.ranges.by_precedence.precedence_reason.Symbol.{name as #lent}
 use Rattle.disjunctive.proofs.ranges.by_precedence.precedence_reason.Met as lent-thm
-use Rattle.reedgrit.specs.RequestAnswers.{countAnswer}
+use Rattle.answers.specs.RequestAnswers.{countAnswer}
 use Rattle.reedgrit.specs.Requests.{ReasonNumbers}
-use Rattle.reedgrit.specs.declared.request_answers.CountAnswer.{CountAnswer}
-use Rattle.reedgrit.proofs.request_answers.CountAnswer as N
-use Rattle.reedgrit.proofs.request_answers.CountAnswer.Laws as N′
-use Rattle.reedgrit.proofs.request_answers.reason_numbers as numbers
-use Rattle.reedgrit.proofs.request_answers.reason_numbers.Symbol as numbers-def
-use Rattle.reedgrit.proofs.request_answers.reason_numbers.Symbol.{name as #numbers}
-use Rattle.reedgrit.proofs.request_answers.reason_numbers.Met as numbers-thm
+use Rattle.answers.specs.declared.request_answers.CountAnswer.{CountAnswer}
+use Rattle.answers.proofs.request_answers.CountAnswer as N
+use Rattle.answers.proofs.request_answers.CountAnswer.Laws as N′
+use Rattle.answers.proofs.request_answers.reason_numbers as numbers
+use Rattle.answers.proofs.request_answers.reason_numbers.Symbol as numbers-def
+use Rattle.answers.proofs.request_answers.reason_numbers.Symbol.{name as #numbers}
+use Rattle.answers.proofs.request_answers.reason_numbers.Met as numbers-thm
 use Rattle.reedgrit.proofs.requests.reedgrit_precedence_reason.Key.{name as #reedgrit-precedence-reason}
 use Rattle.reedgrit.proofs.requests.reedgrit_precedence_reason as f
 use Rattle.reedgrit.proofs.requests.reedgrit_precedence_reason.Statement as stated
@@ -118,7 +119,7 @@ module _ {M : Type 1} (𝓤 : URA M) (H : Heap 𝓤) (A : Atoms 𝓤) (W : Given
 
   -- what the open call says of what it leaves
   abbrev Leaves : Reason → Last → Type 0
-  Leaves r us = ReasonGiven (now xo) (earliests (now xr)) (latests (now xr)) n (now xw) r (us .1 .1 .1 .0)
+  Leaves r us = ReasonGiven (now xo) (earliests (now xr)) (latests (now xr)) (allBarsFit (now xr)) n (now xw) r (us .1 .1 .1 .0)
 
   abbrev Had : CountAnswer → Val → Last → List (Item 𝓤)
   Had a v us = ‵ (N.the-row .own a (v ∷ [])) ∷ Tokens ∷ ‵ (finally i32 (xw .name) (us .1 .1 .1 .0)) ∷ []
@@ -191,4 +192,4 @@ reedgrit-precedence-reason-spec 𝓤 H 𝓜 𝓖 𝓡 =
     (tables 𝓤 H 𝓜 𝓡 code.env .C) (tables 𝓤 H 𝓜 𝓡 code.env .Λ) #reedgrit-precedence-reason code.function (code.unfolded 𝓤 H 𝓜 𝓡)
     (f-meets 𝓤 H (𝓖 .A) (givenOf 𝓤 H 𝓜 𝓖) (𝓜 .mem) (𝓡 .run) (tablesOf 𝓤 H 𝓜 (tables 𝓤 H 𝓜 𝓡 code.env))
     (cited 𝓤 H (Lent 𝓤 H (𝓖 .A) (𝓜 .mem) (𝓡 .run)) 𝓜 𝓡 code.env #lent lent-def.routine code.calls-disjunctive·ranges·by-precedence·precedence-reason (lent-thm.met 𝓤 H 𝓜 𝓖 𝓡))
-    (cited 𝓤 H (Numbers 𝓤 H (𝓖 .A) (𝓜 .mem) (𝓡 .run)) 𝓜 𝓡 code.env #numbers numbers-def.routine code.calls-reedgrit·request-answers·reason-numbers (numbers-thm.met 𝓤 H 𝓜 𝓖 𝓡)))
+    (cited 𝓤 H (Numbers 𝓤 H (𝓖 .A) (𝓜 .mem) (𝓡 .run)) 𝓜 𝓡 code.env #numbers numbers-def.routine code.calls-answers·request-answers·reason-numbers (numbers-thm.met 𝓤 H 𝓜 𝓖 𝓡)))

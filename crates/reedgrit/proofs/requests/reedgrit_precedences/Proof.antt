@@ -47,15 +47,15 @@ use Rattle.disjunctive.proofs.ranges.by_precedence.precedences as lent
 use Rattle.disjunctive.proofs.ranges.by_precedence.precedences.Symbol as lent-def
 use Rattle.disjunctive.proofs.ranges.by_precedence.precedences.Symbol.{name as #lent}
 use Rattle.disjunctive.proofs.ranges.by_precedence.precedences.Met as lent-thm
-use Rattle.reedgrit.specs.RequestAnswers.{countAnswer}
+use Rattle.answers.specs.RequestAnswers.{countAnswer}
 use Rattle.reedgrit.specs.Requests.{PrecedencesNumbers}
-use Rattle.reedgrit.specs.declared.request_answers.CountAnswer.{CountAnswer}
-use Rattle.reedgrit.proofs.request_answers.CountAnswer as N
-use Rattle.reedgrit.proofs.request_answers.CountAnswer.Laws as N′
-use Rattle.reedgrit.proofs.request_answers.precedences_numbers as numbers
-use Rattle.reedgrit.proofs.request_answers.precedences_numbers.Symbol as numbers-def
-use Rattle.reedgrit.proofs.request_answers.precedences_numbers.Symbol.{name as #numbers}
-use Rattle.reedgrit.proofs.request_answers.precedences_numbers.Met as numbers-thm
+use Rattle.answers.specs.declared.request_answers.CountAnswer.{CountAnswer}
+use Rattle.answers.proofs.request_answers.CountAnswer as N
+use Rattle.answers.proofs.request_answers.CountAnswer.Laws as N′
+use Rattle.answers.proofs.request_answers.precedences_numbers as numbers
+use Rattle.answers.proofs.request_answers.precedences_numbers.Symbol as numbers-def
+use Rattle.answers.proofs.request_answers.precedences_numbers.Symbol.{name as #numbers}
+use Rattle.answers.proofs.request_answers.precedences_numbers.Met as numbers-thm
 use Rattle.reedgrit.proofs.requests.reedgrit_precedences.Key.{name as #reedgrit-precedences}
 use Rattle.reedgrit.proofs.requests.reedgrit_precedences as f
 use Rattle.reedgrit.proofs.requests.reedgrit_precedences.Statement as stated
@@ -180,4 +180,4 @@ reedgrit-precedences-spec 𝓤 H 𝓜 𝓖 𝓡 =
     (tables 𝓤 H 𝓜 𝓡 code.env .C) (tables 𝓤 H 𝓜 𝓡 code.env .Λ) #reedgrit-precedences code.function (code.unfolded 𝓤 H 𝓜 𝓡)
     (f-meets 𝓤 H (𝓖 .A) (givenOf 𝓤 H 𝓜 𝓖) (𝓜 .mem) (𝓡 .run) (tablesOf 𝓤 H 𝓜 (tables 𝓤 H 𝓜 𝓡 code.env))
     (cited 𝓤 H (Lent 𝓤 H (𝓖 .A) (𝓜 .mem) (𝓡 .run)) 𝓜 𝓡 code.env #lent lent-def.routine code.calls-disjunctive·ranges·by-precedence·precedences (lent-thm.met 𝓤 H 𝓜 𝓖 𝓡))
-    (cited 𝓤 H (Numbers 𝓤 H (𝓖 .A) (𝓜 .mem) (𝓡 .run)) 𝓜 𝓡 code.env #numbers numbers-def.routine code.calls-reedgrit·request-answers·precedences-numbers (numbers-thm.met 𝓤 H 𝓜 𝓖 𝓡)))
+    (cited 𝓤 H (Numbers 𝓤 H (𝓖 .A) (𝓜 .mem) (𝓡 .run)) 𝓜 𝓡 code.env #numbers numbers-def.routine code.calls-answers·request-answers·precedences-numbers (numbers-thm.met 𝓤 H 𝓜 𝓖 𝓡)))

@@ -45,15 +45,15 @@ use Rattle.task_changes.proofs.lent.remove as lent
 use Rattle.task_changes.proofs.lent.remove.Symbol as lent-def
 use Rattle.task_changes.proofs.lent.remove.Symbol.{name as #lent}
 use Rattle.task_changes.proofs.lent.remove.Met as lent-thm
-use Rattle.reedgrit.specs.RequestAnswers.{changeAnswer}
+use Rattle.answers.specs.RequestAnswers.{changeAnswer}
 use Rattle.reedgrit.specs.Requests.{RemovedNumbers}
-use Rattle.reedgrit.specs.declared.request_answers.ChangeAnswer.{ChangeAnswer}
-use Rattle.reedgrit.proofs.request_answers.ChangeAnswer as N
-use Rattle.reedgrit.proofs.request_answers.ChangeAnswer.Laws as N′
-use Rattle.reedgrit.proofs.request_answers.change_numbers as numbers
-use Rattle.reedgrit.proofs.request_answers.change_numbers.Symbol as numbers-def
-use Rattle.reedgrit.proofs.request_answers.change_numbers.Symbol.{name as #numbers}
-use Rattle.reedgrit.proofs.request_answers.change_numbers.Met as numbers-thm
+use Rattle.answers.specs.declared.request_answers.ChangeAnswer.{ChangeAnswer}
+use Rattle.answers.proofs.request_answers.ChangeAnswer as N
+use Rattle.answers.proofs.request_answers.ChangeAnswer.Laws as N′
+use Rattle.answers.proofs.request_answers.change_numbers as numbers
+use Rattle.answers.proofs.request_answers.change_numbers.Symbol as numbers-def
+use Rattle.answers.proofs.request_answers.change_numbers.Symbol.{name as #numbers}
+use Rattle.answers.proofs.request_answers.change_numbers.Met as numbers-thm
 use Rattle.reedgrit.proofs.requests.reedgrit_remove.Key.{name as #reedgrit-remove}
 use Rattle.reedgrit.proofs.requests.reedgrit_remove as f
 use Rattle.reedgrit.proofs.requests.reedgrit_remove.Statement as stated
@@ -177,4 +177,4 @@ reedgrit-remove-spec 𝓤 H 𝓜 𝓖 𝓡 =
     (tables 𝓤 H 𝓜 𝓡 code.env .C) (tables 𝓤 H 𝓜 𝓡 code.env .Λ) #reedgrit-remove code.function (code.unfolded 𝓤 H 𝓜 𝓡)
     (f-meets 𝓤 H (𝓖 .A) (givenOf 𝓤 H 𝓜 𝓖) (𝓜 .mem) (𝓡 .run) (tablesOf 𝓤 H 𝓜 (tables 𝓤 H 𝓜 𝓡 code.env))
     (cited 𝓤 H (Lent 𝓤 H (𝓖 .A) (𝓜 .mem) (𝓡 .run)) 𝓜 𝓡 code.env #lent lent-def.routine code.calls-task-changes·lent·remove (lent-thm.met 𝓤 H 𝓜 𝓖 𝓡))
-    (cited 𝓤 H (Numbers 𝓤 H (𝓖 .A) (𝓜 .mem) (𝓡 .run)) 𝓜 𝓡 code.env #numbers numbers-def.routine code.calls-reedgrit·request-answers·change-numbers (numbers-thm.met 𝓤 H 𝓜 𝓖 𝓡)))
+    (cited 𝓤 H (Numbers 𝓤 H (𝓖 .A) (𝓜 .mem) (𝓡 .run)) 𝓜 𝓡 code.env #numbers numbers-def.routine code.calls-answers·request-answers·change-numbers (numbers-thm.met 𝓤 H 𝓜 𝓖 𝓡)))

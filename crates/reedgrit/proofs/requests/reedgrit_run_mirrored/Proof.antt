@@ -49,15 +49,17 @@ use Rattle.disjunctive.proofs.ranges.run_mirrored as lent
 use Rattle.disjunctive.proofs.ranges.run_mirrored.Symbol as lent-def
 use Rattle.disjunctive.proofs.ranges.run_mirrored.Symbol.{name as #lent}
 use Rattle.disjunctive.proofs.ranges.run_mirrored.Met as lent-thm
-use Rattle.reedgrit.specs.RequestAnswers.{mirroredAnswer}
+use Rattle.answers.specs.Answers.{ToldInWords}
+use Rattle.answers.specs.RequestAnswers.{mirroredAnswer}
 use Rattle.reedgrit.specs.Requests.{MirroredNumbers}
-use Rattle.reedgrit.specs.declared.request_answers.MirroredAnswer.{MirroredAnswer}
-use Rattle.reedgrit.proofs.request_answers.MirroredAnswer as N
-use Rattle.reedgrit.proofs.request_answers.MirroredAnswer.Laws as N′
-use Rattle.reedgrit.proofs.request_answers.mirrored_numbers as numbers
-use Rattle.reedgrit.proofs.request_answers.mirrored_numbers.Symbol as numbers-def
-use Rattle.reedgrit.proofs.request_answers.mirrored_numbers.Symbol.{name as #numbers}
-use Rattle.reedgrit.proofs.request_answers.mirrored_numbers.Met as numbers-thm
+use Rattle.answers.specs.declared.request_answers.MirroredAnswer.{MirroredAnswer}
+use Rattle.answers.proofs.request_answers.MirroredAnswer as N
+use Rattle.answers.proofs.request_answers.MirroredAnswer.Laws as N′
+use Rattle.answers.proofs.request_answers.mirrored_numbers as numbers
+use Rattle.answers.proofs.request_answers.mirrored_numbers.Symbol as numbers-def
+use Rattle.answers.proofs.request_answers.mirrored_numbers.Symbol.{name as #numbers}
+use Rattle.answers.proofs.request_answers.mirrored_numbers.Met as numbers-thm
+use Rattle.reedgrit.proofs.Words.{mirrored-told}
 use Rattle.reedgrit.proofs.requests.reedgrit_run_mirrored.Key.{name as #reedgrit-run-mirrored}
 use Rattle.reedgrit.proofs.requests.reedgrit_run_mirrored as f
 use Rattle.reedgrit.proofs.requests.reedgrit_run_mirrored.Statement as stated
@@ -135,8 +137,8 @@ module _ {M : Type 1} (𝓤 : URA M) (H : Heap 𝓤) (A : Atoms 𝓤) (W : Given
   abbrev to-numbers : Outcome → Val → Numbers 𝓤 H A at-mem run .Ghost
   to-numbers r v = ((tt, tt, tt, (r, tt), (v ∷ [], tt)), tt)
 
-  goes-numbers : (r : Outcome) (v : Val) → ent 𝓤 (sem 𝓤 H A (O.the-row .own r (v ∷ []))) (Numbers 𝓤 H A at-mem run .pre (to-numbers r v))
-  goes-numbers r v = qed W (‵ (O.the-row .own r (v ∷ [])) ∷ []) ∵ nothing ! $ move ! (1 ∷ 0 ∷ []) $ fjoin ! $ nothing ! $ join ! $ frame ! $ done !
+  goes-numbers : (r : Outcome) (v : Val) → ToldInWords r → ent 𝓤 (sem 𝓤 H A (O.the-row .own r (v ∷ []))) (Numbers 𝓤 H A at-mem run .pre (to-numbers r v))
+  goes-numbers r v fit = qed W (‵ (O.the-row .own r (v ∷ [])) ∷ []) ∵ says ! fit $ nothing ! $ move ! (1 ∷ 0 ∷ []) $ fjoin ! $ nothing ! $ frame ! $ done !
 
   module _ (C : Calls 𝓤 H) (Λ : Loops 𝓤 H) (fm : FmC 𝓤 H (W .laws) C) (known-lent : Triple 𝓤 (C #lent) (Lent 𝓤 H A at-mem run)) (known-numbers : Triple 𝓤 (C #numbers) (Numbers 𝓤 H A at-mem run)) (gr : Room T.the-row (length (now xr))) (gp : Room i32 (length (now xp))) (ga : Room i32 (length (now xa))) where
     walk : ent 𝓤 (onEntry 𝓤 H A f.signature (κ, (κ₁, (κ₂, (κ₃, tt)))) (q, (q₁, (q₂, (q₃, tt)))) x at) (WpFn 𝓤 H C Λ code.function (vo ∷ vr ∷ vp ∷ va ∷ []) Post)
@@ -161,7 +163,7 @@ module _ {M : Type 1} (𝓤 : URA M) (H : Heap 𝓤) (A : Atoms 𝓤) (W : Given
         -- [what is left, the last first; the tokens, what the answer owns; the locals]
         move ! (3 ∷ []) $ split ! $ move ! (1 ∷ []) $ peeks ! O.the-row (Is O.the-row) (shows 𝓤 H A O.the-row) r (v ∷ []) (λ is₁.
         land ! (from ! (stop !)) (init ! 17 refl (EL.lawful O.the-type O′.the-laws 𝓤 H A W tt .typed r _ is₁ .0)) $
-        use1 W (raw (Numbers 𝓤 H A at-mem run .pre (to-numbers r v))) (goes-numbers r v) $
+        use1 W (raw (Numbers 𝓤 H A at-mem run .pre (to-numbers r v))) (goes-numbers r v (mirrored-told (now xo) (now xr) (now xp) (now xa) (us .1 .0) (us .1 .1 .0) (us .1 .1 .1 .0) r e₁ la (ga .0))) $
         calls-at ! fm (Numbers 𝓤 H A at-mem run) known-numbers (to-numbers r v) (and-then ! (load ! (from ! (stop !)) (look ! 17 refl)) (no-more !)) (λ w.
         use1 W (later (some (λ (a : MirroredAnswer). (‵ ftrue ⊛ ‵ (N.the-row .own a (w ∷ []))) ⊛ raw (ensured 𝓤 H A numbers.ended (numbers.clauses 𝓤 H A at-mem run) tt (r, tt) tt a)))) (id⊢ 𝓤 _) $ await ! tt $ pick ! (λ a.
         split ! $ move ! (1 ∷ []) $ use1 W (raw (fact 𝓤 (a ≡ mirroredAnswer (outcomeNumbers r)))) (numbers-said 𝓤 H A at-mem run r a) $ heard ! (a ≡ mirroredAnswer (outcomeNumbers r)) (λ e₂. split ! $ drop ! $
@@ -192,4 +194,4 @@ reedgrit-run-mirrored-spec 𝓤 H 𝓜 𝓖 𝓡 =
     (tables 𝓤 H 𝓜 𝓡 code.env .C) (tables 𝓤 H 𝓜 𝓡 code.env .Λ) #reedgrit-run-mirrored code.function (code.unfolded 𝓤 H 𝓜 𝓡)
     (f-meets 𝓤 H (𝓖 .A) (givenOf 𝓤 H 𝓜 𝓖) (𝓜 .mem) (𝓡 .run) (tablesOf 𝓤 H 𝓜 (tables 𝓤 H 𝓜 𝓡 code.env))
     (cited 𝓤 H (Lent 𝓤 H (𝓖 .A) (𝓜 .mem) (𝓡 .run)) 𝓜 𝓡 code.env #lent lent-def.routine code.calls-disjunctive·ranges·run-mirrored (lent-thm.met 𝓤 H 𝓜 𝓖 𝓡))
-    (cited 𝓤 H (Numbers 𝓤 H (𝓖 .A) (𝓜 .mem) (𝓡 .run)) 𝓜 𝓡 code.env #numbers numbers-def.routine code.calls-reedgrit·request-answers·mirrored-numbers (numbers-thm.met 𝓤 H 𝓜 𝓖 𝓡)))
+    (cited 𝓤 H (Numbers 𝓤 H (𝓖 .A) (𝓜 .mem) (𝓡 .run)) 𝓜 𝓡 code.env #numbers numbers-def.routine code.calls-answers·request-answers·mirrored-numbers (numbers-thm.met 𝓤 H 𝓜 𝓖 𝓡)))

@@ -1,0 +1,41 @@
+-- `call_answers::truth_numbers` meets its contract.
+-- Assumes nothing.
+use mathlib.Core.Path.{sym, _∙_}
+use Rattle.checking.specs.Answers.{truthNumbers}
+use Rattle.answers.specs.Answers.{stateAnswer}
+use borrow.Author.Needs.{needs}
+use Rattle.answers.proofs.call_answers.truth_numbers.Statement.{statement}
+use Rattle.answers.proofs.call_answers.truth_numbers.Tie as tie
+
+enum-told : tie.Need-enum-told
+enum-told c = search needs
+
+enum-told-2 : tie.Need-enum-told-2
+enum-told-2 c = search needs
+
+enum-known-truth : tie.Need-enum-known-truth
+enum-known-truth c = search needs
+
+refusal-numbers-requires : tie.Need-refusal-numbers-requires
+refusal-numbers-requires c κs = search needs
+
+returns : tie.Need-returns
+returns c = sym (λ i. stateAnswer (truthNumbers (c .enum-told .given .1 i)))
+
+returns-2 : tie.Need-returns-2
+returns-2 c = sym (λ i. stateAnswer (truthNumbers (c .enum-told2 .given .1 i)))
+
+returns-3 : tie.Need-returns-3
+returns-3 c = c .refusal-numbers .ensures ∙ sym (λ i. stateAnswer (truthNumbers (c .before .before .truth .given .1 i)))
+
+pub truth-numbers-spec : {M : Type 1} → statement M
+truth-numbers-spec =
+    tie.close
+    (tie.spec
+    enum-told
+    enum-told-2
+    enum-known-truth
+    refusal-numbers-requires
+    returns
+    returns-2
+    returns-3)

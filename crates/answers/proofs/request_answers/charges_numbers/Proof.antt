@@ -1,0 +1,36 @@
+-- `request_answers::charges_numbers` meets its contract: each case gives its own numbers, and the bill.
+-- Assumes nothing.
+use mathlib.Core.Path.{sym, _∙_}
+use Rattle.answers.specs.RequestAnswers.{chargesAnswer}
+use borrow.Author.Needs.{needs}
+use Rattle.answers.proofs.request_answers.charges_numbers.Statement.{statement}
+use Rattle.answers.proofs.request_answers.charges_numbers.Tie as tie
+
+enum-told : tie.Need-enum-told
+enum-told c = search needs
+
+charges-answer-requires : tie.Need-charges-answer-requires
+charges-answer-requires c κs = search needs
+
+enum-known-answer : tie.Need-enum-known-answer
+enum-known-answer c = search needs
+
+charges-answer-requires-2 : tie.Need-charges-answer-requires-2
+charges-answer-requires-2 c κs = search needs
+
+returns : tie.Need-returns
+returns c = c .charges-answer .ensures ∙ sym (λ i. chargesAnswer (record { bill = c .before .before .before .args .made .bill; answer = c .before .enum-told .given .1 i }))
+
+returns-2 : tie.Need-returns-2
+returns-2 c = c .charges-answer2 .ensures ∙ sym (λ i. chargesAnswer (record { bill = c .before .before .before .before .args .made .bill; answer = c .before .before .answer .given .1 i }))
+
+pub charges-numbers-spec : {M : Type 1} → statement M
+charges-numbers-spec =
+    tie.close
+    (tie.spec
+    enum-told
+    charges-answer-requires
+    enum-known-answer
+    charges-answer-requires-2
+    returns
+    returns-2)

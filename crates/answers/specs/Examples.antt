@@ -1,0 +1,10 @@
+-- The numbers at small answers.
+-- Assumes nothing.
+use mathlib.Core.Path.{_≡_, refl}
+use Rattle.propagator.specs.declared.disjunctive_propagator.Outcome.the-variants as outcome
+use Rattle.propagator.specs.Outcomes.{outcomeNumbers}
+use Rattle.answers.specs.Answers.{runAnswer}
+
+-- an overload after two posts, whose reason is the four atoms from the tenth on, and 12 leaf changes: 12 words from word 27 on
+overloaded : runAnswer (outcomeNumbers (outcome.Overload 2 9 4)) 12 ≡ record { kind = 1; number = 0; posts = 2; first = 27; count = 12; changes = 12 }
+overloaded = refl
