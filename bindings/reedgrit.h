@@ -3,8 +3,9 @@
  * (refusals below). A function reads and writes only what it is lent, for as long as the call lasts; it allocates nothing, keeps nothing,
  * and may be called from several threads on different data.
  *
- * The caller answers for the pointers: none may be NULL, not even of a slice of length 0; each has its type's alignment and as many
- * elements (ranges, durations, words) as the length behind it says; and no part of what one call may write is lent to it twice. */
+ * The caller answers for the pointers: each has its type's alignment and as many elements (ranges, durations, words, bytes) as the length
+ * behind it says, and no part of what one call may write is lent to it twice. NULL with length 0 is allowed: nothing is read or written
+ * there. NULL with a length above 0, or for a propagator, is the caller's fault, and no number answers it. */
 #ifndef REEDGRIT_H
 #define REEDGRIT_H
 
@@ -15,7 +16,7 @@
 extern "C" {
 #endif
 
-enum { REEDGRIT_TASKS = 48 };
+enum { REEDGRIT_TASKS = 48, REEDGRIT_BARS = 16 };
 
 /* An atom is three words: variable 0 to 63 (below the task count: the start of that task), kind, value. */
 enum { REEDGRIT_GREATER_EQUAL = 0, REEDGRIT_LESS_EQUAL = 1, REEDGRIT_EQUAL = 2, REEDGRIT_NOT_EQUAL = 3 };
@@ -28,6 +29,7 @@ enum { REEDGRIT_GREATER_EQUAL = 0, REEDGRIT_LESS_EQUAL = 1, REEDGRIT_EQUAL = 2, 
  *  9 post words below 4n, atom words below 6n*n
  * 10 another number of ranges than n     11 a post that is not there
  * 12 a task to take off that is not there
+ * 13 more than 16 barred starts, ones that do not ascend strictly, or the range's own earliest or latest start among them
  * 14 a schedule that is not fixed, or overlaps
  * 15 room for a page                     16 room for a reason
  * 17 a task that is not there            18 a moment or a duration asked about, beyond +-400000000 or below 1
@@ -44,9 +46,13 @@ typedef struct {
     uint32_t total;
 } reedgrit_propagator;
 
+/* A task may start from `earliest` to `latest`, but not at its barred starts: the first `count` places, strictly ascending, with neither end of
+ * the range among them. Those outside the range have no effect. Places past the count are not read. No call changes the count or a place. */
 typedef struct {
     int32_t earliest;
     int32_t latest;
+    size_t count; /* 0: no barred starts */
+    int32_t barred[REEDGRIT_BARS];
 } reedgrit_range;
 
 typedef struct {
@@ -60,7 +66,7 @@ typedef struct {
     uint32_t kind;
     uint32_t number; /* of a refusal */
     size_t posts;
-    size_t first; /* an overload's reason: its first atom, and how many atoms it has (a post's is told in words) */
+    size_t first; /* an overload's reason: its first word in `atoms`, and how many words it has, as a post's is told */
     size_t count;
     size_t changes; /* leaf changes; 0 of a refusal */
 } reedgrit_run_answer;
@@ -96,7 +102,7 @@ typedef struct {
     uint32_t kind;
     uint32_t number; /* of a refusal */
     size_t posts;
-    size_t first; /* an overload's reason: its first atom, and how many atoms it has */
+    size_t first; /* an overload's reason: its first word in `atoms`, and how many words it has */
     size_t count;
 } reedgrit_mirrored_answer;
 
@@ -135,7 +141,7 @@ typedef struct {
     uint32_t charges[REEDGRIT_TASKS];
 } reedgrit_charges_answer;
 
-/* 2: the version of these functions and structs. Another number is another header's. */
+/* 3: the version of these functions and structs. Another number is another header's. */
 uint32_t reedgrit_abi_version(void);
 
 /* A record of the durations. Refuses by 1, 2, 5. */
@@ -145,7 +151,10 @@ reedgrit_new reedgrit_create(const int32_t *durations, size_t count);
  * Words that it does not write keep what they held. It leaves the record as it was: whatever runs came before, the same durations and
  * ranges give the same outcome, posts and reasons. Among tasks with equal earliest starts, or equal latest completions, the lower number
  * comes first. The leaf changes are those that the solver's propagator makes on its tree, at most 4n-3: each task put into Theta is one,
- * a task that goes from Theta to Lambda is two, and one that leaves Lambda is one. Refuses by 20, 10, 3, 4, 9.
+ * a task that goes from Theta to Lambda is two, and one that leaves Lambda is one. Refuses by 20, 10, 3, 4, 13, 9.
+ *
+ * Barred starts change no outcome, no post and no reason: a task's earliest start then goes to the first permitted one at or after its post's
+ * bound, and one that no post raised stays.
  *
  * REEDGRIT_DONE does not mean that a schedule exists, and one run is no fixpoint: durations 1 1 2 on 1..1, 1..3, 0..2 are done with the
  * earliest starts 1 2 2, and the next run on these is an overload. The conflict of REEDGRIT_EMPTIED is its last post's reason with the
@@ -167,12 +176,13 @@ reedgrit_check_answer reedgrit_check_mirrored(const int32_t *durations, size_t c
                                               const int32_t *consequent, size_t consequent_words);
 
 /* The mirrored pass: lowers latest starts. A post says that its task starts at its bound or earlier; it is read by reedgrit_post. Words are
- * written as a run writes them. Refuses by 20, 10, 3, 4, 9. */
+ * written as a run writes them. A latest start goes back to the last permitted one at or before its post's bound. Refuses by 20, 10, 3, 4, 13,
+ * 9. */
 reedgrit_mirrored_answer reedgrit_run_mirrored(const reedgrit_propagator *propagator, reedgrit_range *ranges, size_t range_count,
                                                int32_t *posts, size_t post_words, int32_t *atoms, size_t atom_words);
 
 /* Whether some set of the tasks overloads its span: REEDGRIT_ANSWERED is yes, with the tasks read until that is known, and
- * REEDGRIT_OTHERWISE no. Refuses by 20, 10, 3, 4. */
+ * REEDGRIT_OTHERWISE no; barred starts change no answer. Refuses by 20, 10, 3, 4, 13. */
 reedgrit_count_answer reedgrit_overload_test(const reedgrit_propagator *propagator, const reedgrit_range *ranges, size_t range_count);
 
 /* A task more, which takes the number n. Refuses by 20, 1, 2, 5. */
@@ -182,15 +192,16 @@ reedgrit_change_answer reedgrit_add(reedgrit_propagator *propagator, int32_t dur
 reedgrit_change_answer reedgrit_remove(reedgrit_propagator *propagator, size_t task);
 
 /* Raises earliest starts by the precedences that can be read off the ranges. REEDGRIT_ANSWERED is done; REEDGRIT_OTHERWISE is emptied, with
- * the lowest task whose bound passes its latest start. Refuses by 20, 10, 3, 4. */
+ * the lowest task whose bound passes its latest start. A start that is raised to a barred one goes on to the next permitted one; one that is
+ * not raised stays. Refuses by 20, 10, 3, 4, 13. */
 reedgrit_count_answer reedgrit_precedences(const reedgrit_propagator *propagator, reedgrit_range *ranges, size_t range_count);
 
-/* The reason of a task's bound by precedences, three words to an atom; the count is that of its atoms. Refuses by 20, 10, 3, 4, 17, 16. */
+/* The reason of a task's bound by precedences, three words to an atom; the count is that of its atoms. Refuses by 20, 10, 3, 4, 13, 17, 16. */
 reedgrit_count_answer reedgrit_precedence_reason(const reedgrit_propagator *propagator, const reedgrit_range *ranges, size_t range_count,
                                                  size_t task, int32_t *reason, size_t reason_words);
 
-/* A fixed schedule (each earliest start is the latest, and no two tasks overlap) as text; the count is that of its bytes. Refuses by 20, 10,
- * 3, 4, 14, 15. */
+/* A fixed schedule (each earliest start is the latest, and no two tasks overlap) as text; the count is that of its bytes. This and the next
+ * three do not read barred starts. Refuses by 20, 10, 3, 4, 14, 15. */
 reedgrit_count_answer reedgrit_page(const reedgrit_propagator *propagator, const reedgrit_range *ranges, size_t range_count, uint8_t *out,
                                     size_t out_bytes);
 

@@ -93,6 +93,27 @@ pub fn ranges(rng: &mut Rng, durations: &[i32]) -> Vec<Range> {
         .collect()
 }
 
+/// The same ranges, each with up to 16 barred starts inside it: some in a row from where a run without bars takes the earliest start to, so that
+/// posts meet them, and the others anywhere.
+pub fn barred(rng: &mut Rng, durations: &[i32], ranges: &[Range]) -> Vec<Range> {
+    let mut after = ranges.to_vec();
+    let mut propagator = Propagator::new(durations).expect("durations within the limits");
+    let mut words = propagator.words();
+    propagator.run(&mut after, &mut words).expect("ranges within the limits");
+    let bars = |rng: &mut Rng, range: &Range, raised: i32| {
+        let (low, high) = (i64::from(range.earliest) + 1, i64::from(range.latest) - 1);
+        let count = if low <= high { rng.to(0, 16) } else { 0 };
+        let row = rng.to(0, count);
+        let first = i64::from(raised).max(low);
+        let mut bars: Vec<i32> = (0..count).map(|k| if k < row { first + k } else { rng.to(low, high) } as i32).collect();
+        bars.retain(|bar| (low..=high).contains(&i64::from(*bar)));
+        bars.sort_unstable();
+        bars.dedup();
+        range.barred(&bars)
+    };
+    ranges.iter().zip(&after).map(|(range, after)| bars(rng, range, after.earliest)).collect()
+}
+
 /// What the ranges of the runs are to be like.
 #[derive(Clone, Copy, Debug, PartialEq, Eq)]
 pub enum Family {
@@ -104,10 +125,12 @@ pub enum Family {
     Sorted,
     /// The same with the tasks numbered the other way round: both orders are n - 1 to 0.
     Reversed,
+    /// Any, with 0 to 16 barred starts for each task; the only one that has bars.
+    Barred,
 }
 
 impl Family {
-    pub const ALL: [Family; 4] = [Family::Mixed, Family::Done, Family::Sorted, Family::Reversed];
+    pub const ALL: [Family; 5] = [Family::Mixed, Family::Done, Family::Sorted, Family::Reversed, Family::Barred];
 
     pub fn name(self) -> &'static str {
         match self {
@@ -115,6 +138,7 @@ impl Family {
             Family::Done => "done",
             Family::Sorted => "sorted",
             Family::Reversed => "reversed",
+            Family::Barred => "barred",
         }
     }
 }
@@ -157,12 +181,16 @@ pub fn cases(family: Family, n: usize, count: usize, seed: u64) -> Vec<Case> {
         let mut ranges = match family {
             Family::Mixed | Family::Done => ranges(&mut rng, &durations),
             Family::Sorted | Family::Reversed => nested(&mut rng, &durations),
+            Family::Barred => {
+                let free = ranges(&mut rng, &durations);
+                barred(&mut rng, &durations, &free)
+            }
         };
         if family == Family::Reversed {
             durations.reverse();
             ranges.reverse();
         }
-        if family == Family::Mixed || is_done(&durations, &ranges) {
+        if matches!(family, Family::Mixed | Family::Barred) || is_done(&durations, &ranges) {
             made.push(Case { durations, ranges });
         }
     }

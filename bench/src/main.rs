@@ -3,7 +3,7 @@
 //! ```text
 //! bench [FOLDER]                   prints the tables; in FOLDER it leaves them as table.md, and the plot as plot.svg
 //! bench spin WHOSE WHAT N ROUNDS   works through one family without a clock, for an instruction count: WHOSE is ours or published,
-//!                                  WHAT is mixed, done, sorted, reversed, reasons or changed
+//!                                  WHAT is mixed, done, sorted, reversed, barred, reasons or changed
 //! ```
 use std::fmt::Write as _;
 use std::hint::black_box;
@@ -42,7 +42,7 @@ impl Runner {
     }
 
     /// What is put in place for a run outside the clock: the ranges of both, and for the published Rust a new propagator and an empty post
-    /// list that keeps its room. Our record is the one that the run before was lent, and our words are not cleared.
+    /// list that keeps its room. Our record is the one that the run before was lent, and our words are not cleared. No run changes a bar or a hole.
     fn ready(&mut self) {
         self.our_ranges.copy_from_slice(&self.case.ranges);
         self.published = Published::new(&self.case.durations);
@@ -223,13 +223,13 @@ fn table(rows: &[Row]) -> String {
     text
 }
 
-/// Lines over n, one panel for runs and one for checks.
+/// Lines over n: a panel for runs, one for runs with barred starts, and one for checks.
 fn plot(rows: &[Row]) -> String {
     let mut svg = String::from(
-        "<svg xmlns=\"http://www.w3.org/2000/svg\" viewBox=\"0 0 680 300\" font-family=\"sans-serif\" font-size=\"11\">\n\
-         <rect width=\"680\" height=\"300\" fill=\"white\"/>\n",
+        "<svg xmlns=\"http://www.w3.org/2000/svg\" viewBox=\"0 0 1010 300\" font-family=\"sans-serif\" font-size=\"11\">\n\
+         <rect width=\"1010\" height=\"300\" fill=\"white\"/>\n",
     );
-    for (panel, (what, family)) in [("run", "mixed"), ("check", "reasons")].into_iter().enumerate() {
+    for (panel, (what, family)) in [("run", "mixed"), ("run", "barred"), ("check", "reasons")].into_iter().enumerate() {
         let Some(row) = rows.iter().find(|row| row.what == what && row.family == family) else { continue };
         let left = 50.0 + 330.0 * panel as f64;
         let top = row.figures.iter().map(|figure| figure.ours.max(figure.published)).fold(0.0, f64::max);

@@ -31,9 +31,12 @@ impl Published {
     }
 }
 
-/// Domains with these ranges and no post.
+/// Domains with these ranges, their barred starts as holes, and no post.
 pub fn domains(ranges: &[reedgrit::Range]) -> Store {
-    Store { ranges: ranges.iter().map(|r| Range { lower: r.earliest, upper: r.latest, holes: Vec::new() }).collect(), posts: Vec::new() }
+    Store {
+        ranges: ranges.iter().map(|r| Range { lower: r.earliest, upper: r.latest, holes: r.bars().to_vec() }).collect(),
+        posts: Vec::new(),
+    }
 }
 
 pub fn atom(atom: &reedgrit::Atom) -> Predicate {

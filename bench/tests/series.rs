@@ -1,5 +1,5 @@
 //! Random series through the binding against the published Rust: runs, checks, states.
-use bench::inputs::{Case, Family, Rng, any_atom, cases, checks, durations, ranges};
+use bench::inputs::{Case, Family, Rng, any_atom, barred, cases, checks, durations, ranges};
 use bench::published::{Checked, Checker, Conflicted, Published, atom, domains};
 use pumpkin_checking::{IntExt, VariableState};
 use reedgrit::state::{Bound, NoState, lower_bound, upper_bound};
@@ -13,6 +13,8 @@ struct Seen {
     overload: usize,
     emptied: usize,
     posts: usize,
+    /// Posts whose task starts later than their bound, by its bars.
+    moved: usize,
 }
 
 /// One run of ours and one of a newly made published propagator: outcome, posts, reasons and starts are the same, and our record stays.
@@ -35,7 +37,9 @@ fn same_run(ours: &mut Propagator, words: &mut Words, case: &Case, seen: &mut Se
         seen.posts += 1;
         assert_eq!(atom(&post.atom()), *predicate);
         assert_eq!(post.reason.iter().map(atom).collect::<Vec<_>>(), *why);
+        seen.moved += usize::from(post.bound < ranges[post.task].earliest);
     }
+    assert!(ranges.iter().zip(&case.ranges).all(|(after, before)| after.bars() == before.bars()));
     let starts: Vec<(i32, i32)> = ranges.iter().map(|r| (r.earliest, r.latest)).collect();
     assert_eq!(starts, store.ranges.iter().map(|r| (r.lower, r.upper)).collect::<Vec<_>>());
     assert_eq!(*ours, before);
@@ -57,7 +61,26 @@ fn runs() {
         }
     }
     // every outcome occurred, often
-    assert!(seen.done > 500 && seen.overload > 500 && seen.emptied > 100 && seen.posts > 1000, "{seen:?}");
+    assert!(seen.done > 500 && seen.overload > 500 && seen.emptied > 100 && seen.posts > 1000 && seen.moved == 0, "{seen:?}");
+}
+
+/// The same with barred starts, which are holes of the published Rust's domains.
+#[test]
+fn barred_runs() {
+    let mut rng = Rng::new(6);
+    let mut seen = Seen::default();
+    for series in 0..4000 {
+        let n = if series % 4 == 0 { rng.to(1, 48) } else { rng.to(1, 9) } as usize;
+        let durations = durations(&mut rng, n);
+        let mut ours = Propagator::new(&durations).unwrap();
+        let mut words = ours.words();
+        for _ in 0..rng.to(1, 5) {
+            let free = ranges(&mut rng, &durations);
+            let case = Case { ranges: barred(&mut rng, &durations, &free), durations: durations.clone() };
+            same_run(&mut ours, &mut words, &case, &mut seen);
+        }
+    }
+    assert!(seen.done > 500 && seen.overload > 500 && seen.emptied > 100 && seen.posts > 1000 && seen.moved > 1000, "{seen:?}");
 }
 
 /// Whether each task compares so with the next by the keys of both orders, earliest start and latest completion with the greatest first.
@@ -80,7 +103,8 @@ fn timed_runs() {
                 assert!(family != Family::Reversed || follow(&case, Ordering::Greater));
             }
         }
-        assert!(family == Family::Mixed || seen.done == 400, "{seen:?}");
+        assert!(matches!(family, Family::Mixed | Family::Barred) || seen.done == 400, "{seen:?}");
+        assert_eq!(family == Family::Barred, seen.moved > 0, "{seen:?}");
     }
 }
 

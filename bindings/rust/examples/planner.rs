@@ -2,8 +2,11 @@
 //!
 //!     cargo run --example planner -- examples/registers.txt [plan.svg]
 //!
-//! A line of the file is a register: its name, earliest start, latest start and duration. What is printed is a plan, a line for each register by
-//! start, or that there is none.
+//! A line of the file is a register: its name, earliest start, latest start and duration, and behind the word `not`, where there are any, the starts
+//! between the two at which its reading may not begin, ascending, 16 at most. What is printed is a plan, a line for each register by start, or that
+//! there is none.
+//!
+//!     marriages-1688 12 25 7 not 15 16
 use reedgrit::{Atom, Comparison, Mirrored, Outcome, Propagator, Range, Refused, Verdict, Words, check, check_mirrored};
 use std::fmt::Write;
 
@@ -40,15 +43,27 @@ impl Kept {
 #[derive(Debug)]
 struct Conflict;
 
+/// Raises the earliest start to the first permitted one from `start` on.
+fn start_from(range: &mut Range, start: i32) -> Result<(), Conflict> {
+    range.earliest = (range.earliest.max(start)..=range.latest).find(|start| range.permits(*start)).ok_or(Conflict)?;
+    Ok(())
+}
+
+/// Lowers the latest start to the last permitted one up to `start`.
+fn start_up_to(range: &mut Range, start: i32) -> Result<(), Conflict> {
+    range.latest = (range.earliest..=range.latest.min(start)).rev().find(|start| range.permits(*start)).ok_or(Conflict)?;
+    Ok(())
+}
+
 /// Narrows the range that a post is about, and says whether it changed.
 fn narrowed(post: Atom, ranges: &mut [Range]) -> Result<bool, Conflict> {
     let range = &mut ranges[post.variable()];
     let before = *range;
     match post.comparison() {
-        Comparison::LessEqual => range.latest = range.latest.min(post.value()),
-        _ => range.earliest = range.earliest.max(post.value()),
+        Comparison::LessEqual => start_up_to(range, post.value())?,
+        _ => start_from(range, post.value())?,
     }
-    if range.earliest > range.latest { Err(Conflict) } else { Ok(*range != before) }
+    Ok(*range != before)
 }
 
 /// The search: depth first, on which register goes next.
@@ -80,7 +95,7 @@ impl Planner {
     /// Raises the earliest starts by one run, keeps its reasons, and says whether one rose.
     fn raise(&mut self, ranges: &mut [Range]) -> Result<bool, Conflict> {
         let durations = self.propagator.durations().to_vec();
-        let outcome = self.propagator.run(ranges, &mut self.words).expect("as many ranges as tasks, within the limits");
+        let outcome = self.propagator.run(ranges, &mut self.words).expect("as many ranges as tasks, within the limits, with bars that fit");
         for post in outcome.posts() {
             self.kept.push(Kept::of_run(&durations, post.reason, Some(post.atom())));
         }
@@ -98,7 +113,8 @@ impl Planner {
     /// Lowers the latest starts by one mirrored pass, keeps its reasons, and says whether one fell.
     fn lower(&mut self, ranges: &mut [Range]) -> Result<bool, Conflict> {
         let durations = self.propagator.durations().to_vec();
-        let outcome = self.propagator.run_mirrored(ranges, &mut self.words).expect("as many ranges as tasks, within the limits");
+        let outcome =
+            self.propagator.run_mirrored(ranges, &mut self.words).expect("as many ranges as tasks, within the limits, with bars that fit");
         for post in outcome.posts() {
             self.kept.push(Kept::of_mirrored(&durations, post.reason, Some(post.atom())));
         }
@@ -140,10 +156,7 @@ impl Planner {
             let others: Vec<usize> = left.iter().copied().filter(|task| *task != next).collect();
             let mut behind = ranges.clone();
             behind[next].latest = behind[next].earliest;
-            for other in &others {
-                behind[*other].earliest = behind[*other].earliest.max(end);
-            }
-            if others.iter().all(|other| behind[*other].earliest <= behind[*other].latest) {
+            if others.iter().all(|other| start_from(&mut behind[*other], end).is_ok()) {
                 if let Some(plan) = self.search(behind, &others) {
                     return Some(plan);
                 }
@@ -158,7 +171,7 @@ fn plan(registers: &[Register]) -> Result<(Option<Vec<i32>>, Planner), Refused> 
     let durations: Vec<i32> = registers.iter().map(|register| register.duration).collect();
     let ranges: Vec<Range> = registers.iter().map(|register| register.range).collect();
     let mut planner = Planner::new(&durations)?;
-    // The first run says whether the ranges are within the limits; those of the search lie within these.
+    // The first run says whether the ranges are within the limits and their bars fit; those of the search lie within these and have permitted ends.
     planner.propagator.run(&mut ranges.clone(), &mut planner.words)?;
     let all: Vec<usize> = (0..registers.len()).collect();
     let found = planner.search(ranges, &all);
@@ -172,14 +185,18 @@ fn registers(text: &str) -> Result<Vec<Register>, String> {
         .map(|line| {
             let wrong = || format!("no register: {line}");
             let words: Vec<&str> = line.split_whitespace().collect();
-            let [name, earliest, latest, duration] = words[..] else { return Err(wrong()) };
+            let ([name, earliest, latest, duration] | [name, earliest, latest, duration, "not", ..]) = words[..] else {
+                return Err(wrong());
+            };
             let number = |word: &str| word.parse::<i32>().map_err(|_| wrong());
-            Ok(Register { name: name.to_string(), range: Range::new(number(earliest)?, number(latest)?), duration: number(duration)? })
+            let barred = words.iter().skip(5).map(|word| number(word)).collect::<Result<Vec<i32>, String>>()?;
+            let range = Range::new(number(earliest)?, number(latest)?).barred(&barred);
+            Ok(Register { name: name.to_string(), range, duration: number(duration)? })
         })
         .collect()
 }
 
-/// The plan as a picture: a bar for each register, over its range in gray.
+/// The plan as a picture: a box for each register, over its range in gray, and below them the barred starts in red.
 fn drawn(registers: &[Register], starts: &[i32]) -> String {
     let first = registers.iter().map(|register| register.range.earliest).min().unwrap_or(0);
     let last = registers.iter().map(|register| register.range.latest + register.duration).max().unwrap_or(1);
@@ -190,12 +207,15 @@ fn drawn(registers: &[Register], starts: &[i32]) -> String {
     );
     for (row, (register, start)) in registers.iter().zip(starts).enumerate() {
         let y = 26 * row + 8;
-        let mut bar = |from: i32, to: i32, colour: &str| {
-            writeln!(svg, "<rect x=\"{:.1}\" y=\"{y}\" width=\"{:.1}\" height=\"18\" fill=\"{colour}\"/>", x(from), x(to) - x(from))
+        let mut drawn = |from: i32, to: i32, y: usize, height: usize, colour: &str| {
+            writeln!(svg, "<rect x=\"{:.1}\" y=\"{y}\" width=\"{:.1}\" height=\"{height}\" fill=\"{colour}\"/>", x(from), x(to) - x(from))
                 .expect("a string takes it");
         };
-        bar(register.range.earliest, register.range.latest + register.duration, "#dde3e8");
-        bar(*start, start + register.duration, "#48606f");
+        drawn(register.range.earliest, register.range.latest + register.duration, y, 18, "#dde3e8");
+        drawn(*start, start + register.duration, y, 18, "#48606f");
+        for bar in register.range.bars().iter().filter(|bar| register.range.earliest < **bar && **bar < register.range.latest) {
+            drawn(*bar, bar + 1, y + 18, 4, "#b5541c");
+        }
         let name = register.name.replace('&', "&amp;").replace('<', "&lt;");
         writeln!(svg, "<text x=\"8\" y=\"{}\">{name}</text>", y + 14).expect("a string takes it");
     }
@@ -227,21 +247,22 @@ fn main() -> Result<(), Box<dyn std::error::Error>> {
 mod tests {
     use super::*;
 
-    /// Whether some order of the registers is a plan, each at its earliest start behind those before it.
+    /// Whether some order of the registers is a plan, each at its earliest permitted start behind those before it.
     fn some_order(registers: &[Register], left: &mut Vec<usize>, end: i32) -> bool {
         if left.is_empty() {
             return true;
         }
         (0..left.len()).any(|at| {
             let next = left.remove(at);
-            let start = registers[next].range.earliest.max(end);
-            let fits = start <= registers[next].range.latest && some_order(registers, left, start + registers[next].duration);
+            let range = registers[next].range;
+            let start = (range.earliest.max(end)..=range.latest).find(|start| !range.bars().contains(start));
+            let fits = start.is_some_and(|start| some_order(registers, left, start + registers[next].duration));
             left.insert(at, next);
             fits
         })
     }
 
-    // On random registers the planner finds a plan exactly where some order is one, and what it finds is a plan.
+    // On random registers, every other time with barred starts, the planner finds a plan exactly where some order is one, and what it finds is a plan.
     #[test]
     fn as_brute_force_says() {
         let mut seed = 20_261_116_u64;
@@ -251,33 +272,54 @@ mod tests {
             seed ^= seed << 17;
             (seed % n) as i32
         };
-        let mut plans = 0;
-        for _ in 0..2_000 {
+        let (mut plans, mut by_bars) = (0, 0);
+        for round in 0..2_000 {
             let count = 2 + below(6);
             let registers: Vec<Register> = (0..count)
                 .map(|k| {
                     let earliest = below(12) - 4;
-                    Register { name: k.to_string(), range: Range::new(earliest, earliest + below(10)), duration: 1 + below(5) }
+                    let range = Range::new(earliest, earliest + below(10));
+                    let barred: Vec<i32> = (earliest - 1..range.latest + 3)
+                        .filter(|start| *start != earliest && *start != range.latest && round % 2 == 1 && below(6) > 0)
+                        .collect();
+                    Register { name: k.to_string(), range: range.barred(&barred), duration: 1 + below(5) }
                 })
                 .collect();
             let (found, _) = plan(&registers).unwrap();
             let mut all = (0..registers.len()).collect();
             assert_eq!(found.is_some(), some_order(&registers, &mut all, i32::MIN / 2), "{registers:?}");
-            let Some(starts) = found else { continue };
+            let Some(starts) = found else {
+                let free: Vec<Register> = registers.iter().map(|one| Register { range: one.range.barred(&[]), ..one.clone() }).collect();
+                by_bars += usize::from(some_order(&free, &mut all, i32::MIN / 2));
+                continue;
+            };
             plans += 1;
             for (j, first) in registers.iter().enumerate() {
-                assert!(first.range.earliest <= starts[j] && starts[j] <= first.range.latest);
+                assert!(first.range.permits(starts[j]));
                 for (k, second) in registers.iter().enumerate().skip(j + 1) {
                     assert!(starts[j] + first.duration <= starts[k] || starts[k] + second.duration <= starts[j]);
                 }
             }
         }
-        assert!(plans > 500 && plans < 1_500, "{plans} of 2,000 have a plan");
+        assert!(plans > 500 && plans < 1_500 && by_bars > 50, "{plans} of 2,000 have a plan, and {by_bars} would without bars");
+    }
+
+    // A register with bars has them marked in the picture, and those outside its range not.
+    #[test]
+    fn bars_are_drawn() {
+        let registers = registers("Maria 0 8 2 not -1 3 4 9").unwrap();
+        assert_eq!(drawn(&registers, &[5]).matches("#b5541c").count(), 2);
     }
 
     #[test]
     fn lines_that_are_none() {
         assert!(registers("Maria 0 4").is_err() && registers("Maria 0 x 4").is_err());
         assert_eq!(registers("Maria 0 4 2\n\nJohannes -3 9 5\n").unwrap().len(), 2);
+        assert!(registers("Maria 0 4 2 1").is_err() && registers("Maria 0 4 2 not x").is_err() && registers("Maria 0 4 not 1").is_err());
+        let barred = registers("Maria 0 4 2 not 1 3\nJohannes -3 9 5 not\n").unwrap();
+        assert_eq!((barred[0].range.bars(), barred[1].range), (&[1, 3][..], Range::new(-3, 9)));
+        // what the call turns back
+        assert_eq!(plan(&registers("Maria 0 4 2\nJohannes -3 9 5 not 4 2").unwrap()).err(), Some(Refused::Bars(1)));
+        assert_eq!(plan(&registers("Maria 0 4 2 not 4").unwrap()).err(), Some(Refused::Bars(0)));
     }
 }

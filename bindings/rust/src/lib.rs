@@ -5,7 +5,7 @@
 //! answered, a wrong one by [`Refused`].
 //!
 //! A call reads and writes what it is lent, for as long as it lasts. It allocates nothing and keeps nothing between calls, so that all types
-//! are `Send` and `Sync`; only [`Words::new`] allocates, on the Rust side.
+//! are `Send` and `Sync`; only [`Words::new`], [`Propagator::page`] and [`OwnedPost`] allocate, on the Rust side.
 //!
 //! ```
 //! use reedgrit::{Comparison, Outcome, Propagator, Range, Verdict, check};
@@ -81,6 +81,7 @@ mod requests;
 pub use requests::{Bill, LatestPost, LatestPosts, Mirrored, Precedences, Stretch};
 
 use std::fmt;
+use std::hash::{Hash, Hasher};
 use std::iter::FusedIterator;
 use std::ops::Not;
 
@@ -90,26 +91,106 @@ pub const TASKS: usize = raw::TASKS;
 /// Starts lie from −400,000,000 to this.
 pub const START: i32 = 400_000_000;
 
-/// A task may start from `earliest` to `latest`, both included.
+/// A range has this many barred starts at most.
+pub const BARS: usize = raw::BARS;
+
+/// A task may start from `earliest` to `latest`, both included, but not at its barred starts. Without bars it is `Range::new(0, 20)`; a struct
+/// literal cannot be written, since the bars are private.
+///
+/// Calls on ranges take at most 16 bars, strictly ascending, with neither end of the range among them, and answer [`Refused::Bars`] otherwise;
+/// those on a fixed schedule do not read bars. Bars outside the range have no effect, and no call changes a bar.
 #[repr(C)]
-#[derive(Clone, Copy, Debug, PartialEq, Eq, Hash)]
+#[derive(Clone, Copy)]
 pub struct Range {
     /// The earliest start.
     pub earliest: i32,
     /// The latest start.
     pub latest: i32,
+    count: usize,
+    barred: [i32; BARS],
 }
 
 impl Range {
-    /// The range from `earliest` to `latest`.
+    /// The range from `earliest` to `latest`, without bars.
     pub const fn new(earliest: i32, latest: i32) -> Range {
-        Range { earliest, latest }
+        Range { earliest, latest, count: 0, barred: [0; BARS] }
+    }
+
+    /// The same range with these barred starts in the place of those that it has. Nothing is refused here: of more than 16 the first 16 are kept,
+    /// with the count of all, so that the call turns them back.
+    ///
+    /// ```
+    /// use reedgrit::{Propagator, Range, Refused};
+    /// let range = Range::new(0, 20).barred(&[9, 10]);
+    /// assert_eq!(range.bars(), [9, 10]);
+    /// assert!(range.permits(8) && !range.permits(9) && !range.permits(21));
+    ///
+    /// let propagator = Propagator::new(&[4, 3])?;
+    /// let falling = Range::new(0, 20).barred(&[10, 9]);
+    /// assert_eq!(propagator.overload_test(&[range, falling]), Err(Refused::Bars(1)));
+    /// let at_its_end = Range::new(0, 20).barred(&[9, 20]);
+    /// assert_eq!(propagator.overload_test(&[at_its_end, falling]), Err(Refused::Bars(0)));
+    /// let too_many = Range::new(0, 20).barred(&[30; 17]);
+    /// assert_eq!(propagator.overload_test(&[range, too_many]), Err(Refused::Bars(1)));
+    /// # Ok::<(), reedgrit::Refused>(())
+    /// ```
+    #[must_use]
+    pub const fn barred(mut self, starts: &[i32]) -> Range {
+        self.count = starts.len();
+        self.barred = [0; BARS];
+        let mut k = 0;
+        while k < starts.len() && k < BARS {
+            self.barred[k] = starts[k];
+            k += 1;
+        }
+        self
+    }
+
+    /// The barred starts, the first 16 where there were more.
+    pub fn bars(&self) -> &[i32] {
+        &self.barred[..self.count.min(BARS)]
+    }
+
+    /// Whether the task may start there: within the range, and at no bar.
+    pub fn permits(&self, start: i32) -> bool {
+        self.earliest <= start && start <= self.latest && !self.bars().contains(&start)
+    }
+
+    /// Whether a call accepts the bars.
+    fn bars_fit(&self) -> bool {
+        let bars = self.bars();
+        let ascending = bars.windows(2).all(|two| two[0] < two[1]);
+        self.count <= BARS && ascending && !bars.contains(&self.earliest) && !bars.contains(&self.latest)
+    }
+}
+
+// Places past the count are no part of a range, so that equality, hash and text are written out.
+impl PartialEq for Range {
+    fn eq(&self, other: &Range) -> bool {
+        let ends = |range: &Range| (range.earliest, range.latest, range.count);
+        ends(self) == ends(other) && self.bars() == other.bars()
+    }
+}
+
+impl Eq for Range {}
+
+impl Hash for Range {
+    fn hash<H: Hasher>(&self, state: &mut H) {
+        (self.earliest, self.latest, self.count).hash(state);
+        self.bars().hash(state);
+    }
+}
+
+impl fmt::Debug for Range {
+    fn fmt(&self, f: &mut fmt::Formatter<'_>) -> fmt::Result {
+        write!(f, "Range({self})")
     }
 }
 
 impl fmt::Display for Range {
     fn fmt(&self, f: &mut fmt::Formatter<'_>) -> fmt::Result {
-        write!(f, "{}..{}", self.earliest, self.latest)
+        write!(f, "{}..{}", self.earliest, self.latest)?;
+        if self.count == 0 { Ok(()) } else { write!(f, " without {:?}", self.bars()) }
     }
 }
 
@@ -195,7 +276,8 @@ impl Atom {
         self.value
     }
 
-    /// Whether every start in its task's range meets the atom. The start of a task that has no range here may be any.
+    /// Whether every permitted start of its task meets the atom. The start of a task that has no range here may be any. A barred start is another
+    /// than all permitted ones; bounds do not change by bars, since both ends of a range are permitted.
     ///
     /// ```
     /// use reedgrit::{Atom, Comparison, Range};
@@ -204,6 +286,10 @@ impl Atom {
     /// assert!(Atom::at_most(0, 5).holds(&ranges) && !Atom::at_most(0, 4).holds(&ranges));
     /// assert!(Atom::new(0, Comparison::NotEqual, 6).holds(&ranges) && !Atom::new(0, Comparison::NotEqual, 4).holds(&ranges));
     /// assert!(!Atom::new(0, Comparison::Equal, 4).holds(&ranges) && !Atom::at_least(1, 0).holds(&ranges));
+    ///
+    /// let barred = [Range::new(3, 5).barred(&[4])];
+    /// assert!(Atom::new(0, Comparison::NotEqual, 4).holds(&barred) && !Atom::new(0, Comparison::NotEqual, 5).holds(&barred));
+    /// assert!(Atom::at_least(0, 3).holds(&barred) && !Atom::at_least(0, 4).holds(&barred));
     /// ```
     pub fn holds(&self, ranges: &[Range]) -> bool {
         let Some(range) = ranges.get(self.variable()) else { return false };
@@ -211,7 +297,7 @@ impl Atom {
             Comparison::GreaterEqual => range.earliest >= self.value,
             Comparison::LessEqual => range.latest <= self.value,
             Comparison::Equal => range.earliest == self.value && range.latest == self.value,
-            Comparison::NotEqual => self.value < range.earliest || range.latest < self.value,
+            Comparison::NotEqual => !range.permits(self.value),
         }
     }
 }
@@ -281,6 +367,8 @@ pub enum Refused {
     Post,
     /// 12: a task to take off that is not there.
     Removed,
+    /// 13: more than 16 barred starts, ones that do not ascend strictly, or an end of the range among them; this task's and perhaps further ones'.
+    Bars(usize),
     /// 14: ranges that are no fixed schedule: one with more than one start, or two tasks that overlap.
     Schedule,
     /// 15: too few bytes for a page.
@@ -319,6 +407,7 @@ impl Refused {
             Refused::RangeCount => 10,
             Refused::Post => 11,
             Refused::Removed => 12,
+            Refused::Bars(_) => 13,
             Refused::Schedule => 14,
             Refused::PageRoom => 15,
             Refused::ReasonRoom => 16,
@@ -348,6 +437,7 @@ impl Refused {
             10 => Refused::RangeCount,
             11 => Refused::Post,
             12 => Refused::Removed,
+            13 => Refused::Bars(ranges.iter().position(|range| !range.bars_fit()).unwrap_or_default()),
             14 => Refused::Schedule,
             15 => Refused::PageRoom,
             16 => Refused::ReasonRoom,
@@ -378,6 +468,7 @@ impl fmt::Display for Refused {
             Refused::RangeCount => "another number of ranges than of tasks",
             Refused::Post => "a post that is not there",
             Refused::Removed => "a task to take off that is not there",
+            Refused::Bars(_) => "barred starts that are more than 16, do not ascend, or have an end of their range among them",
             Refused::Schedule => "ranges that are no fixed schedule",
             Refused::PageRoom => "too few bytes for a page",
             Refused::ReasonRoom => "too few words for a reason",
@@ -391,7 +482,7 @@ impl fmt::Display for Refused {
         };
         write!(f, "refused {}: {text}", self.number())?;
         match self {
-            Refused::Duration(task) | Refused::Start(task) | Refused::Crossed(task) => write!(f, " (task {task})"),
+            Refused::Duration(task) | Refused::Start(task) | Refused::Crossed(task) | Refused::Bars(task) => write!(f, " (task {task})"),
             _ => Ok(()),
         }
     }
@@ -462,8 +553,22 @@ impl Propagator {
     /// [`Outcome::Emptied`]. No latest start changes. Among tasks with equal earliest starts, or equal latest completions, the lower number
     /// comes first. A refused run changes nothing.
     ///
+    /// Barred starts change no outcome, no post and no reason: the earliest start then goes to the first permitted one from the post's bound on.
+    ///
+    /// ```
+    /// use reedgrit::{Atom, Propagator, Range};
+    /// // The third cannot start before the other two are over, at 9, and not at 9 or 10.
+    /// let mut propagator = Propagator::new(&[4, 5, 3])?;
+    /// let mut words = propagator.words();
+    /// let mut ranges = [Range::new(0, 6), Range::new(1, 5), Range::new(0, 20).barred(&[9, 10])];
+    /// let outcome = propagator.run(&mut ranges, &mut words)?;
+    /// assert_eq!(outcome.posts().next().map(|post| post.atom()), Some(Atom::at_least(2, 9)));
+    /// assert_eq!(ranges[2], Range::new(11, 20).barred(&[9, 10]));
+    /// # Ok::<(), reedgrit::Refused>(())
+    /// ```
+    ///
     /// # Errors
-    /// [`Refused::RangeCount`], [`Refused::Start`], [`Refused::Crossed`], and [`Refused::Room`] for the words of fewer tasks.
+    /// [`Refused::RangeCount`], [`Refused::Start`], [`Refused::Crossed`], [`Refused::Bars`], and [`Refused::Room`] for the words of fewer tasks.
     pub fn run<'w>(&mut self, ranges: &mut [Range], words: &'w mut Words) -> Result<Outcome<'w>, Refused> {
         self.run_on(ranges, &mut words.posts, &mut words.atoms)
     }
@@ -491,7 +596,7 @@ impl Propagator {
         match answer.kind {
             0 => Ok(Outcome::Done { posts: made, changes }),
             1 => {
-                let words = &made.atoms[3 * answer.first..3 * (answer.first + answer.count)];
+                let words = &made.atoms[answer.first..answer.first + answer.count];
                 Ok(Outcome::Overload { posts: made, reason: raw::atoms(words), changes })
             }
             2 => Ok(Outcome::Emptied { posts: made, changes }),
@@ -582,6 +687,38 @@ impl Post<'_> {
 impl fmt::Display for Post<'_> {
     fn fmt(&self, f: &mut fmt::Formatter<'_>) -> fmt::Result {
         write!(f, "{}", self.atom())
+    }
+}
+
+/// A post, of a run or of a mirrored pass, with a reason of its own: it stays when the words are lent to the next run.
+///
+/// ```
+/// use reedgrit::{Atom, OwnedPost, Propagator, Range, Verdict, check};
+/// let durations = [4, 5, 3];
+/// let mut propagator = Propagator::new(&durations)?;
+/// let mut words = propagator.words();
+/// let mut ranges = [Range::new(0, 6), Range::new(1, 5), Range::new(0, 20)];
+/// let mut kept: Vec<OwnedPost> = propagator.run(&mut ranges, &mut words)?.posts().map(OwnedPost::from).collect();
+/// kept.extend(propagator.run_mirrored(&mut ranges, &mut words)?.posts().map(OwnedPost::from));
+///
+/// assert_eq!(kept[0].atom, Atom::at_least(2, 9));
+/// assert_eq!(check(&durations, &kept[0].reason, Some(kept[0].atom))?, Verdict::Passed);
+/// // The atoms go on by value, to wherever they are needed.
+/// let mut atoms: std::vec::IntoIter<Atom> = kept.remove(0).reason.into_iter();
+/// assert_eq!(atoms.next(), Some(Atom::at_least(0, 0)));
+/// # Ok::<(), reedgrit::Refused>(())
+/// ```
+#[derive(Clone, Debug, PartialEq, Eq, Hash)]
+pub struct OwnedPost {
+    /// The post as an atom.
+    pub atom: Atom,
+    /// The atoms that the post follows from.
+    pub reason: Vec<Atom>,
+}
+
+impl From<Post<'_>> for OwnedPost {
+    fn from(post: Post<'_>) -> OwnedPost {
+        OwnedPost { atom: post.atom(), reason: post.reason.to_vec() }
     }
 }
 

@@ -7,6 +7,7 @@ use crate::{Atom, Range};
 use std::sync::Once;
 
 pub(crate) const TASKS: usize = 48;
+pub(crate) const BARS: usize = 16;
 
 /// The record of a propagator: the task count, the durations and their sum. Places from the count on are 0.
 #[repr(C)]
@@ -209,7 +210,7 @@ pub(crate) fn upper_bound(premises: &[i32], variable: i32) -> StateAnswer {
 }
 
 /// The version of the functions and structs that this module declares.
-pub(crate) const ABI: u32 = 2;
+pub(crate) const ABI: u32 = 3;
 
 /// Compares the versions once, and panics where the archive is another's.
 fn agree() {
@@ -309,6 +310,7 @@ pub(crate) fn signed(durations: &[u32]) -> &[i32] {
 #[cfg(test)]
 mod tests {
     use super::*;
+    use std::hash::{BuildHasher, BuildHasherDefault, DefaultHasher};
 
     // The layouts that the archive is compiled for.
     #[test]
@@ -325,7 +327,7 @@ mod tests {
         assert_eq!(size_of::<StartAnswer>(), 12);
         assert_eq!(size_of::<BusiestAnswer>(), 16);
         assert_eq!(size_of::<ChargesAnswer>(), 204);
-        assert_eq!(size_of::<Range>(), 8);
+        assert_eq!((size_of::<Range>(), align_of::<Range>()), (80, 8));
         assert_eq!(size_of::<Atom>(), 12);
         assert_eq!(align_of::<Atom>(), align_of::<i32>());
     }
@@ -397,6 +399,61 @@ mod tests {
             assert_eq!(after, record);
             assert_eq!(ranges, [Range::new(0, 6), Range::new(1, 5), Range::new(0, 20)]);
             assert!(posts.iter().all(|word| *word == 7) && atoms.iter().all(|word| *word == 8));
+        }
+    }
+
+    // An overload's reason is told in words, as a post's is: here it stands behind the five atoms of a post.
+    #[test]
+    fn overloads_in_words() {
+        let durations = [2, 3, 4];
+        let mut record = create(&durations).record;
+        let (mut posts, mut atoms) = ([0; 12], [0; 54]);
+        let answer = run(&mut record, &mut [Range::new(3, 4), Range::new(5, 8), Range::new(1, 1)], &mut posts, &mut atoms);
+        assert_eq!((answer.kind, answer.posts, answer.first, answer.count), (1, 1, 15, 12));
+        assert_eq!(check(&durations, &atoms[15..27], &[]).kind, 0);
+
+        let durations = [4, 1, 3];
+        let record = create(&durations).record;
+        let answer = run_mirrored(&record, &mut [Range::new(2, 3), Range::new(-4, 0), Range::new(2, 2)], &mut posts, &mut atoms);
+        assert_eq!(answer, MirroredAnswer { kind: 1, number: 0, posts: 1, first: 15, count: 12 });
+        assert_eq!(check_mirrored(&durations, &atoms[15..27], &[]).kind, 0);
+    }
+
+    // Places past the count of bars: no call reads or writes them, and neither equality nor hash nor text has them.
+    #[test]
+    fn places_past_the_count() {
+        let hashed = |range: &Range| BuildHasherDefault::<DefaultHasher>::default().hash_one(range);
+        let other = [9, 10, -5, 0, 20, 11, 3, i32::MIN, 6, 6, 5, 4, i32::MAX, 12, 13, 14];
+        let (mut posts, mut atoms) = ([0; 12], [0; 54]);
+        let mut record = create(&[4, 5, 3]).record;
+        for count in 0..3 {
+            let third = Range { earliest: 0, latest: 20, count, barred: other };
+            assert_eq!((third, hashed(&third)), (third.barred(&other[..count]), hashed(&third.barred(&other[..count]))));
+            assert_eq!(format!("{third:?} {third}"), format!("{0:?} {0}", third.barred(&other[..count])));
+            let mut ranges = [Range::new(0, 6), Range::new(1, 5), third];
+            assert_eq!(run(&mut record, &mut ranges, &mut posts, &mut atoms).kind, 0);
+            assert_eq!((ranges[2].earliest, ranges[2].count, ranges[2].barred), ([9, 10, 11][count], count, other));
+            assert_eq!(run_mirrored(&record, &mut ranges, &mut posts, &mut atoms).kind, 0);
+            assert_eq!(precedences(&record, &mut ranges).kind, 0);
+            assert_eq!((overload_test(&record, &ranges).kind, ranges[2].count, ranges[2].barred), (1, count, other));
+            // and where a latest start goes back
+            let mut back = other;
+            (back[0], back[1]) = (-2, -1);
+            let mut late = [Range::new(0, 1), Range { earliest: -10, latest: 2, count, barred: back }];
+            assert_eq!(run_mirrored(&create(&[4, 2]).record, &mut late, &mut posts, &mut atoms).kind, 0);
+            assert_eq!((late[1].latest, late[1].count, late[1].barred), ([-1, -1, -3][count], count, back));
+        }
+    }
+
+    // A count above 16 is refused, whatever stands in the places.
+    #[test]
+    fn counts_of_bars() {
+        let barred = std::array::from_fn(|k| k as i32 + 1);
+        let record = create(&[3]).record;
+        for (count, number) in [(0, 0), (16, 0), (17, 13), (1 << 32, 13), (usize::MAX, 13)] {
+            let range = Range { earliest: 0, latest: 20, count, barred };
+            assert_eq!(overload_test(&record, &[range]).number, number);
+            assert_eq!(range.bars().len(), count.min(BARS));
         }
     }
 

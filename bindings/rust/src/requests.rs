@@ -1,6 +1,6 @@
 //! The calls of a propagator beside the run: the mirrored pass, the overload test, a task more or less, the pass by precedences, and those on a
 //! fixed schedule, in which each range has one start and no two tasks overlap.
-use crate::{Atom, Posts, Propagator, Range, Refused, Words, raw};
+use crate::{Atom, OwnedPost, Posts, Propagator, Range, Refused, Words, raw};
 use std::fmt;
 use std::iter::FusedIterator;
 
@@ -21,6 +21,12 @@ impl Propagator {
     /// assert!(matches!(ended, Mirrored::Done { .. }));
     /// assert_eq!(ended.posts().next().unwrap().atom(), Atom::at_most(1, -1));
     /// assert_eq!(ranges[1], Range::new(-10, -1));
+    ///
+    /// // Where -1 and -2 are barred, the latest start goes back to the last permitted one. The post keeps its bound.
+    /// let mut ranges = [Range::new(0, 1), Range::new(-10, 2).barred(&[-2, -1])];
+    /// let ended = propagator.run_mirrored(&mut ranges, &mut words)?;
+    /// assert_eq!(ended.posts().next().unwrap().atom(), Atom::at_most(1, -1));
+    /// assert_eq!(ranges[1].latest, -3);
     /// # Ok::<(), reedgrit::Refused>(())
     /// ```
     ///
@@ -40,7 +46,7 @@ impl Propagator {
         match answer.kind {
             0 => Ok(Mirrored::Done { posts: made }),
             1 => {
-                let words = &made.0.atoms[3 * answer.first..3 * (answer.first + answer.count)];
+                let words = &made.0.atoms[answer.first..answer.first + answer.count];
                 Ok(Mirrored::Overload { posts: made, reason: raw::atoms(words) })
             }
             2 => Ok(Mirrored::Emptied { posts: made }),
@@ -59,7 +65,7 @@ impl Propagator {
     /// ```
     ///
     /// # Errors
-    /// [`Refused::RangeCount`], [`Refused::Start`], [`Refused::Crossed`].
+    /// [`Refused::RangeCount`], [`Refused::Start`], [`Refused::Crossed`], [`Refused::Bars`].
     pub fn overload_test(&self, ranges: &[Range]) -> Result<Option<usize>, Refused> {
         let answer = raw::overload_test(&self.record, ranges);
         match answer.kind {
@@ -112,7 +118,8 @@ impl Propagator {
         }
     }
 
-    /// Raises earliest starts by the precedences that can be read off the ranges. No latest start changes.
+    /// Raises earliest starts by the precedences that can be read off the ranges. No latest start changes. A start that is raised to a barred one
+    /// goes on to the next permitted one.
     ///
     /// ```
     /// use reedgrit::{Precedences, Propagator, Range};
@@ -120,11 +127,15 @@ impl Propagator {
     /// let mut ranges = [Range::new(0, 6), Range::new(1, 1)];
     /// assert_eq!(propagator.precedences(&mut ranges)?, Precedences::Done);
     /// assert_eq!(ranges[0].earliest, 6);
+    ///
+    /// let mut ranges = [Range::new(0, 9).barred(&[1, 6, 7]), Range::new(1, 1)];
+    /// assert_eq!(propagator.precedences(&mut ranges)?, Precedences::Done);
+    /// assert_eq!(ranges[0].earliest, 8);
     /// # Ok::<(), reedgrit::Refused>(())
     /// ```
     ///
     /// # Errors
-    /// [`Refused::RangeCount`], [`Refused::Start`], [`Refused::Crossed`].
+    /// [`Refused::RangeCount`], [`Refused::Start`], [`Refused::Crossed`], [`Refused::Bars`].
     pub fn precedences(&self, ranges: &mut [Range]) -> Result<Precedences, Refused> {
         let answer = raw::precedences(&self.record, ranges);
         match answer.kind {
@@ -146,7 +157,7 @@ impl Propagator {
     /// ```
     ///
     /// # Errors
-    /// [`Refused::RangeCount`], [`Refused::Start`], [`Refused::Crossed`], [`Refused::Task`], [`Refused::ReasonRoom`].
+    /// [`Refused::RangeCount`], [`Refused::Start`], [`Refused::Crossed`], [`Refused::Bars`], [`Refused::Task`], [`Refused::ReasonRoom`].
     pub fn precedence_reason<'w>(&self, ranges: &[Range], task: usize, words: &'w mut [i32]) -> Result<&'w [Atom], Refused> {
         let answer = raw::precedence_reason(&self.record, ranges, task, words);
         match answer.kind {
@@ -314,6 +325,12 @@ impl LatestPost<'_> {
 impl fmt::Display for LatestPost<'_> {
     fn fmt(&self, f: &mut fmt::Formatter<'_>) -> fmt::Result {
         write!(f, "{}", self.atom())
+    }
+}
+
+impl From<LatestPost<'_>> for OwnedPost {
+    fn from(post: LatestPost<'_>) -> OwnedPost {
+        OwnedPost { atom: post.atom(), reason: post.reason.to_vec() }
     }
 }
 

@@ -1,42 +1,23 @@
 //! The calls beside the run, against brute force on small instances: the mirrored pass against a run on mirrored input, the overload test over
 //! all sets, and the questions to a fixed schedule minute by minute.
 use reedgrit::{Atom, Bill, Mirrored, Outcome, Precedences, Propagator, Range, Refused, Stretch, Verdict, check, check_mirrored};
+use small::{Numbers, schedules};
 
-/// Numbers from 0 to `bound` − 1, the same in each run.
-struct Numbers(u64);
+mod small;
 
-impl Numbers {
-    fn below(&mut self, bound: i32) -> i32 {
-        self.0 = self.0.wrapping_mul(6364136223846793005).wrapping_add(1442695040888963407);
-        ((self.0 >> 33) % bound as u64) as i32
+/// A fixed schedule: the tasks one after the other, with gaps, in an order of their own.
+fn schedule(numbers: &mut Numbers) -> (Vec<i32>, Vec<Range>) {
+    let tasks = 1 + numbers.below(5) as usize;
+    let durations: Vec<i32> = (0..tasks).map(|_| 1 + numbers.below(4)).collect();
+    let mut ranges = vec![Range::new(0, 0); tasks];
+    let (mut at, turn) = (numbers.below(9) - 8, numbers.below(5) as usize);
+    for k in 0..tasks {
+        let task = (k + turn) % tasks;
+        at += numbers.below(4);
+        ranges[task] = Range::new(at, at);
+        at += durations[task];
     }
-
-    fn instance(&mut self) -> (Vec<i32>, Vec<Range>) {
-        let tasks = 1 + self.below(5);
-        let durations: Vec<i32> = (0..tasks).map(|_| 1 + self.below(4)).collect();
-        let ranges = (0..tasks)
-            .map(|_| {
-                let earliest = self.below(13) - 6;
-                Range::new(earliest, earliest + self.below(9))
-            })
-            .collect();
-        (durations, ranges)
-    }
-
-    /// A fixed schedule: the tasks one after the other, with gaps, in an order of their own.
-    fn schedule(&mut self) -> (Vec<i32>, Vec<Range>) {
-        let tasks = 1 + self.below(5) as usize;
-        let durations: Vec<i32> = (0..tasks).map(|_| 1 + self.below(4)).collect();
-        let mut ranges = vec![Range::new(0, 0); tasks];
-        let (mut at, turn) = (self.below(9) - 8, self.below(5) as usize);
-        for k in 0..tasks {
-            let task = (k + turn) % tasks;
-            at += self.below(4);
-            ranges[task] = Range::new(at, at);
-            at += durations[task];
-        }
-        (durations, ranges)
-    }
+    (durations, ranges)
 }
 
 fn mirrored(range: Range, duration: i32) -> Range {
@@ -52,24 +33,6 @@ fn mirrored_atom(atom: &Atom, durations: &[i32]) -> Atom {
     let value: i32 = parts.next().unwrap().parse().unwrap();
     let other = -value - durations[task];
     if kind == ">=" { Atom::at_most(task, other) } else { Atom::at_least(task, other) }
-}
-
-/// All schedules of the ranges.
-fn schedules(durations: &[i32], ranges: &[Range]) -> Vec<Vec<i32>> {
-    let mut found = vec![Vec::new()];
-    for (task, range) in ranges.iter().enumerate() {
-        let mut longer = Vec::new();
-        for starts in &found {
-            for start in range.earliest..=range.latest {
-                let apart = |k: usize| starts[k] + durations[k] <= start || start + durations[task] <= starts[k];
-                if (0..task).all(apart) {
-                    longer.push([&starts[..], &[start]].concat());
-                }
-            }
-        }
-        found = longer;
-    }
-    found
 }
 
 fn overloads(durations: &[i32], ranges: &[Range]) -> bool {
@@ -212,7 +175,7 @@ fn changes_are_those_of_the_list() {
 fn fixed_schedules_minute_by_minute() {
     let mut numbers = Numbers(5);
     for _ in 0..500 {
-        let (durations, ranges) = numbers.schedule();
+        let (durations, ranges) = schedule(&mut numbers);
         let propagator = Propagator::new(&durations).unwrap();
         let covered =
             |minute: i32| (0..durations.len()).any(|k| ranges[k].earliest <= minute && minute < ranges[k].earliest + durations[k]);
