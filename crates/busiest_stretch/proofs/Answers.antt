@@ -17,9 +17,9 @@ use Rattle.integers.specs.Extremes.{minℤ, maxℤ}
 use Rattle.integers.proofs.Moments.{mono, reflect, mono<, plus, plus-above, above-up, at-moment, instant-above, moment-instant}
 use Rattle.scheduling.specs.Scheduling.{whole, natural, Tasks, total}
 use Rattle.scheduling.proofs.Sets.{total-ext}
+use Rattle.sorts.specs.Orders.{noTasks, momentAt}
 use Rattle.records.specs.declared.record.Propagator.{Propagator}
 use Rattle.records.specs.Records.{durationOf}
-use Rattle.records.specs.Orders.{noTasks, momentAt}
 use Rattle.fixed_schedules.specs.FixedSchedules.{orderOf, tasksOn, AcceptedFixed}
 use Rattle.fixed_schedules.specs.Neighbours.{inMoments}
 use Rattle.fixed_schedules.specs.Asked.{LengthFits}

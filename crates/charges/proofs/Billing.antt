@@ -10,8 +10,8 @@ use Rattle.integers.specs.Answers.{answered, refusedBy}
 use Rattle.integers.specs.Limits.{TASKS}
 use Rattle.integers.proofs.Filling.{filled-at, filled-past, filled-length, getD-fresh}
 use Rattle.scheduling.specs.Scheduling.{total}
+use Rattle.sorts.specs.Orders.{noTasks}
 use Rattle.records.specs.declared.record.Propagator.{Propagator}
-use Rattle.records.specs.Orders.{noTasks}
 use Rattle.fixed_schedules.proofs.Accepting.{input-of, started, short}
 use Rattle.charges.specs.declared.answer.Bill.{Bill}
 use Rattle.charges.specs.declared.answer.Charges.{Charges}

@@ -7,7 +7,7 @@ use lib.ListN.{length, getD}
 use Rattle.integers.specs.Filling.{filled}
 use Rattle.integers.specs.Limits.{DURATIONS}
 use Rattle.scheduling.specs.Scheduling.{total}
-use Rattle.records.specs.Orders.{noTasks}
+use Rattle.sorts.specs.Orders.{noTasks}
 use Rattle.fixed_schedules.specs.Neighbours.{Started}
 use Rattle.charges.specs.declared.answer.Bill.{Bill}
 use Rattle.charges.specs.Charging.{DuesFit, chargeAt}

@@ -20,8 +20,8 @@ use Rattle.integers.proofs.Moments.{above-show}
 use Rattle.scheduling.specs.Scheduling.{whole, natural, Tasks, Proper, TaskSet, _with_, Largest, Least, In, NonEmpty, Est, Lct, processing, Overloads, Atom, Admits, given, Bounded, RuleFormula, PassesWith, PassesAlone}
 use Rattle.scheduling.proofs.Agreement.{Agree, overloads→, formula→, set-overloads, set-formula}
 use Rattle.scheduling.proofs.Transfer.{sound, overload→, overload←, checks→, checks←}
-use Rattle.trees.specs.Ects.{exceeds}
-use Rattle.trees.proofs.Ects.{exceeds-yes, some-exceeds}
+use Rattle.ects.specs.Ects.{exceeds}
+use Rattle.ects.proofs.Ects.{exceeds-yes, some-exceeds}
 use Rattle.chosen_sets.specs.ChosenSets.{ectOf}
 use Rattle.chosen_sets.proofs.Ects.{ect-is}
 use Rattle.checker.specs.Formulas.{bounded, others, ranges, tasks, any, lowest, highest, overloaded, implied}

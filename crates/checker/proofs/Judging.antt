@@ -17,8 +17,8 @@ use Rattle.integers.proofs.Bools.{cond-most}
 use Rattle.scheduling.specs.Scheduling.{natural, Tasks, TaskSet, total, NonEmpty, Est, processing}
 use Rattle.scheduling.proofs.Sets.{total-part, total-mono}
 use Rattle.scheduling.proofs.Processing.{processing-is}
+use Rattle.ects.specs.Ects.{exceeds}
 use Rattle.trees.specs.Bounds.{LATEST}
-use Rattle.trees.specs.Ects.{exceeds}
 use Rattle.chosen_sets.specs.ChosenSets.{ectOf}
 use Rattle.chosen_sets.specs.TaskArrays.{Held, Late}
 use Rattle.checker.specs.declared.intervals.Interval.{Interval}

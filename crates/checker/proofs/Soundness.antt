@@ -33,7 +33,7 @@ use Rattle.checking.specs.declared.variable_state.Application.the-variants as a
 use Rattle.checking.specs.States.{domainAt, prepared}
 use Rattle.checking.proofs.Near.{prepared-near}
 use Rattle.checking.proofs.Prepared.{prepared-least, prepared-largest, prepared-no-least, prepared-no-largest, prepared-lower-never, prepared-upper-never, prepared-success}
-use Rattle.records.specs.Orders.{noTasks}
+use Rattle.sorts.specs.Orders.{noTasks}
 use Rattle.records.specs.Records.{durationAt, creationTests}
 use Rattle.records.proofs.Creation.{created-lawful, same-sum}
 use Rattle.checker.specs.declared.checker.Verdict.{Verdict}

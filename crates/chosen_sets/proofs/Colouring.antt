@@ -15,8 +15,8 @@ use Rattle.integers.specs.Orders.{sort, numbers}
 use Rattle.integers.proofs.Bools.{bool}
 use Rattle.integers.proofs.Filling.{getD-map-in, filled-none, filled-more, filled-length, filled-at, filled-past, getD-fresh}
 use Rattle.scheduling.specs.Scheduling.{natural, Tasks, TaskSet, total}
-use Rattle.records.specs.Orders.{SortedBy, byKey}
-use Rattle.records.proofs.Sorted.{sorted-as}
+use Rattle.sorts.specs.Orders.{SortedBy, byKey}
+use Rattle.sorts.proofs.Sorted.{sorted-as}
 use Rattle.trees.specs.declared.theta_tree.ThetaTree.{ThetaTree}
 use Rattle.trees.specs.Leaves.{Leaf, empty, white, Limited, IsPlainTree}
 use Rattle.trees.specs.Mappings.{PlainNew}

@@ -11,8 +11,8 @@ use Rattle.integers.specs.Limits.{TASKS, START, DURATIONS}
 use Rattle.integers.specs.Filling.{filled}
 use Rattle.integers.specs.Moments.{zeroAt}
 use Rattle.scheduling.specs.Scheduling.{natural, Tasks, TaskSet, total}
+use Rattle.sorts.specs.Orders.{noTasks, momentAt}
 use Rattle.records.specs.declared.record.Propagator.{Propagator}
-use Rattle.records.specs.Orders.{noTasks, momentAt}
 use Rattle.records.specs.Records.{momentsIn}
 use Rattle.records.specs.Refusals.{AcceptedInput}
 use Rattle.records.proofs.Accepting.{count, durations-at, sum-fits, proper, between, moments-at}

@@ -8,7 +8,7 @@ use lib.Dec.{ltb}
 use lib.ListN.{getD}
 use Rattle.integers.specs.Orders.{sort, insert, numbers}
 use Rattle.scheduling.specs.Scheduling.{natural, Tasks}
-use Rattle.trees.specs.Ects.{decoded, exceeds}
+use Rattle.ects.specs.Ects.{decoded, exceeds}
 use Rattle.trees.specs.Leaves.{root}
 use Rattle.trees.specs.Nodes.{joinOf}
 use Rattle.trees.specs.Shapes.{width, heightFrom, nodeOver}

@@ -1,17 +1,17 @@
 // The ect of a set of tasks, by the theta tree.
+use ects::earliest_completion::Ect;
 use integers::limits::TASKS;
 use integers::limits::THETAWORDS;
-use records::orders::sort_numbers;
+use sorts::orders::sort_numbers;
 use trees::disjunctive_task::DisjunctiveTask;
 use trees::disjunctive_task::LeafPlace;
 use trees::disjunctive_task::LocalId;
 use trees::disjunctive_task::task_of;
-use trees::earliest_completion::Ect;
 use trees::theta_tree::ThetaTree;
 ghost use mathlib.Core.Path.{_≡_};
 ghost use Prim.Native.Nat.{ℕ};
 ghost use Rattle.scheduling.specs.Scheduling.{natural, Tasks, TaskSet};
-ghost use Rattle.trees.specs.Ects.{momentOf};
+ghost use Rattle.ects.specs.Ects.{momentOf};
 ghost use Rattle.chosen_sets.specs.Colouring.{Takes, Took, Colourable, Coloured};
 ghost use Rattle.chosen_sets.specs.ChosenSets.{ectOf};
 ghost use Rattle.chosen_sets.specs.TaskArrays.{Held};

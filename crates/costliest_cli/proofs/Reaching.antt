@@ -20,7 +20,7 @@ use Rattle.runs.specs.Runs.{tabulate, propagate}
 use Rattle.runs.specs.Costliest.{costliestStarts, costliestDurations}
 use Rattle.runs.proofs.Tables.{tab-length, tab-at, tab-map}
 use Rattle.runs.proofs.Costliest.{costliest-run}
-use Rattle.records.specs.Orders.{noTasks}
+use Rattle.sorts.specs.Orders.{noTasks}
 use Rattle.records.specs.Records.{durationAt, creationTests, newRecord}
 use Rattle.records.specs.Refusals.{runNumber, StartFits}
 use Rattle.records.proofs.Creation.{created-lawful, natural-count, natural-duration, natural-accepted}

@@ -7,7 +7,7 @@ use lib.ListN.{take}
 use Rattle.integers.specs.Filling.{filled}
 use Rattle.integers.specs.Orders.{sort, insert, index, numbers, has}
 use Rattle.scheduling.specs.Scheduling.{total, processing}
-use Rattle.trees.specs.Ects.{decoded}
+use Rattle.ects.specs.Ects.{decoded}
 use Rattle.trees.specs.Leaves.{root, responsible, theta}
 use Rattle.trees.specs.Nodes.{joinOf, isEmpty}
 use Rattle.trees.specs.Searches.{gray, tested, descentP, descentEct, stepP, stepEct, searchP, searchEct, thetaOf}

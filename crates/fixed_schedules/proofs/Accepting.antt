@@ -15,8 +15,8 @@ use Rattle.integers.proofs.Ints.{ints, up, dn, up-neg, dn-neg}
 use Rattle.integers.proofs.Moments.{at-moment}
 use Rattle.scheduling.specs.Scheduling.{whole, natural, Tasks}
 use Rattle.scheduling.proofs.Sets.{total-part}
+use Rattle.sorts.specs.Orders.{noTasks, momentAt}
 use Rattle.records.specs.declared.record.Propagator.{Propagator}
-use Rattle.records.specs.Orders.{noTasks, momentAt}
 use Rattle.records.specs.Refusals.{AcceptedInput}
 use Rattle.fixed_schedules.specs.FixedSchedules.{startAt, orderOf, tasksOn, AcceptedFixed}
 use Rattle.fixed_schedules.specs.Neighbours.{Started, Listed, inMoments}

@@ -22,9 +22,9 @@ use Rattle.integers.proofs.Ints.{ints, up, dn, up-neg, dn-neg, leZ-true, le-leZ
 use Rattle.integers.proofs.Moments.{mono, reflect, plus, plus-above, above-show, at-moment, instant-moment}
 use Rattle.integers.proofs.Permutations.{numbers-permute, numbers-length}
 use Rattle.integers.proofs.Sorting.{sort-length, sort-permutes, sort-ordered}
+use Rattle.sorts.specs.Orders.{SortedBy, byKey, noTasks, momentAt}
+use Rattle.sorts.proofs.Sorted.{sorted-as}
 use Rattle.records.specs.Refusals.{StartFits}
-use Rattle.records.specs.Orders.{SortedBy, byKey, noTasks, momentAt}
-use Rattle.records.proofs.Sorted.{sorted-as}
 use Rattle.fixed_schedules.specs.FixedSchedules.{startAt, byStart, orderOf}
 use Rattle.fixed_schedules.specs.Neighbours.{Started}
 

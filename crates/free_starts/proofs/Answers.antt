@@ -15,9 +15,9 @@ use Rattle.integers.specs.Orders.{index}
 use Rattle.integers.proofs.Ints.{ints, up, dn, sumℤ}
 use Rattle.integers.proofs.Moments.{mono, reflect, mono<, above-up, at-moment, instant-above, moment-instant}
 use Rattle.scheduling.specs.Scheduling.{whole, natural, Tasks}
+use Rattle.sorts.specs.Orders.{noTasks, momentAt}
 use Rattle.records.specs.declared.record.Propagator.{Propagator}
 use Rattle.records.specs.Records.{durationOf}
-use Rattle.records.specs.Orders.{noTasks, momentAt}
 use Rattle.fixed_schedules.specs.FixedSchedules.{orderOf, tasksOn, AcceptedFixed}
 use Rattle.fixed_schedules.specs.Neighbours.{inMoments}
 use Rattle.fixed_schedules.specs.Asked.{MomentFits, LengthFits}

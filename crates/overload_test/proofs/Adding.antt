@@ -15,8 +15,8 @@ use Rattle.integers.specs.Limits.{TASKS}
 use Rattle.integers.specs.Filling.{filled}
 use Rattle.integers.specs.Orders.{index, numbers, sort}
 use Rattle.scheduling.specs.Scheduling.{natural, Tasks, TaskSet, completion}
+use Rattle.ects.specs.Ects.{exceeds}
 use Rattle.trees.specs.declared.theta_tree.ThetaTree.{ThetaTree}
-use Rattle.trees.specs.Ects.{exceeds}
 use Rattle.trees.specs.Leaves.{Leaf, white, IsPlainTree}
 use Rattle.trees.specs.Mappings.{PlainNew}
 use Rattle.trees.specs.Nodes.{plainOf}
@@ -24,12 +24,12 @@ use Rattle.trees.specs.Puts.{PlainPuttable, PlainPut}
 use Rattle.trees.specs.Shapes.{width, heightFor}
 use Rattle.trees.specs.Words.{plainEctIn}
 use Rattle.trees.proofs.Trees.{new-plain-tree, may-put-plain, was-put-plain, plain-ect-of}
+use Rattle.sorts.specs.Orders.{SortedBy, byKey, noTasks, momentAt, completionAt, largestKey}
+use Rattle.sorts.proofs.Sorted.{sorted-as}
 use Rattle.records.specs.declared.record.Propagator.{Propagator}
-use Rattle.records.specs.Orders.{SortedBy, byKey, noTasks, momentAt, completionAt, largestKey}
 use Rattle.records.specs.Records.{momentsIn}
 use Rattle.records.specs.Refusals.{AcceptedInput}
 use Rattle.records.proofs.Accepting.{count, completion-small, completions-are, completions-at}
-use Rattle.records.proofs.Sorted.{sorted-as}
 use Rattle.chosen_sets.specs.ChosenSets.{order, colours, ectOf}
 use Rattle.chosen_sets.specs.TaskArrays.{Held}
 use Rattle.chosen_sets.proofs.Colouring.{limited, front-is}

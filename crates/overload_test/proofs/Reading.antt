@@ -18,8 +18,8 @@ use Rattle.integers.proofs.Permutations.{has-at, index-at, index-back, numbers-
 use Rattle.integers.proofs.Sorting.{sort-permutes, sort-ordered, key-whole, key-chain}
 use Rattle.scheduling.specs.Scheduling.{natural, Tasks, Proper, TaskSet, In, NonEmpty, EstPlusP, Overloads, completion, processing}
 use Rattle.scheduling.proofs.Exists.{largest-at}
+use Rattle.ects.proofs.Ects.{exceeds-yes, some-exceeds}
 use Rattle.trees.specs.Leaves.{empty, white}
-use Rattle.trees.proofs.Ects.{exceeds-yes, some-exceeds}
 use Rattle.chosen_sets.specs.ChosenSets.{order, colours, ectOf}
 use Rattle.chosen_sets.proofs.Ects.{by-order, order-size, ect-is, ect-some}
 use Rattle.overload_test.specs.Reading.{byCompletion, read, overloadsAt}

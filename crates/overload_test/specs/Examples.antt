@@ -6,7 +6,7 @@ use Prim.Native.Nat.{ℕ}
 use lib.IntN.{pos}
 use Rattle.integers.specs.Filling.{filled}
 use Rattle.integers.specs.Orders.{sort, insert, numbers, has}
-use Rattle.trees.specs.Ects.{decoded}
+use Rattle.ects.specs.Ects.{decoded}
 use Rattle.trees.specs.Leaves.{root}
 use Rattle.trees.specs.Nodes.{joinOf}
 use Rattle.trees.specs.Shapes.{width, heightFrom, nodeOver}

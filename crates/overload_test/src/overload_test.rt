@@ -1,11 +1,11 @@
 // Whether some set of the tasks overloads: the tasks go into the theta tree by latest completion, least first, until those read overload.
 use integers::limits::TASKS;
 use integers::limits::THETAWORDS;
-use records::orders::completions;
-use records::orders::moments_of;
-use records::orders::sort_numbers;
 use records::record::Propagator;
 use records::refusals::input_refusal;
+use sorts::orders::completions;
+use sorts::orders::moments_of;
+use sorts::orders::sort_numbers;
 use trees::disjunctive_task::DisjunctiveTask;
 use trees::disjunctive_task::LocalId;
 use trees::disjunctive_task::leaf_of;

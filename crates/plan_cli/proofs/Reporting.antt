@@ -14,7 +14,7 @@ use Rattle.runs.specs.Traces.{Post}
 use Rattle.runs.specs.Demand.{no-post}
 use Rattle.runs.specs.Words.{reasons}
 use Rattle.runs.proofs.Buffers.{reasons-suc, reasons-most}
-use Rattle.records.specs.Posts.{reasonWords}
+use Rattle.post_words.specs.Posts.{reasonWords}
 use Rattle.text.specs.Writing.{Puts}
 use Rattle.text.proofs.Putting.{puts-append}
 use Rattle.plan_cli.specs.Lines.{newline, doneWord, overloadLine, postLine, lines, whyLines, postOf, spaced, doneLine, overloadLines}

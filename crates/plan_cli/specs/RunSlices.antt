@@ -10,7 +10,7 @@ use Rattle.scheduling.specs.Words.{atomWords}
 use Rattle.runs.specs.Traces.{Post, Trace}
 use Rattle.runs.specs.Demand.{no-post}
 use Rattle.runs.specs.Words.{reasons, endReason}
-use Rattle.records.specs.Posts.{reasonWords}
+use Rattle.post_words.specs.Posts.{reasonWords}
 use Rattle.propagator.specs.Finding.{outcomeOf}
 use Rattle.propagator.specs.declared.disjunctive_propagator.Outcome.{Outcome}
 use Rattle.propagator.specs.declared.disjunctive_propagator.Outcome.the-variants as outcome

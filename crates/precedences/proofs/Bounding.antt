@@ -18,8 +18,8 @@ use Rattle.scheduling.specs.Scheduling.{whole, natural, Tasks, Proper, TaskSet,
 use Rattle.scheduling.proofs.Agreement.{set-ect}
 use Rattle.scheduling.proofs.Transfer.{sound, Is, ect→, ect←, part-above}
 use Rattle.scheduling.specs.Moments.{moments}
-use Rattle.trees.specs.Ects.{exceeds}
-use Rattle.trees.proofs.Ects.{exceeds-yes, some-within, raised-from, raised-bound, raised-up, raised-not}
+use Rattle.ects.specs.Ects.{exceeds}
+use Rattle.ects.proofs.Ects.{exceeds-yes, some-within, raised-from, raised-bound, raised-up, raised-not}
 use Rattle.chosen_sets.proofs.Ects.{ect-is}
 use Rattle.precedences.specs.Precedences.{predecessors, PrecedenceBound}
 use Rattle.precedences.specs.TaskArrays.{comesBefore, boundAt, raisedAt}

@@ -23,7 +23,7 @@ use Rattle.integers.proofs.Words.{overwrites}
 use Rattle.scheduling.specs.Scheduling.{whole, natural, Tasks, TaskSet, In, Atom, Meets, HoldsAtEntry, Contradicts}
 use Rattle.scheduling.specs.Words.{atomWords}
 use Rattle.scheduling.proofs.Words.{atoms-none, atoms-more, atoms-length}
-use Rattle.trees.specs.Ects.{exceeds}
+use Rattle.ects.specs.Ects.{exceeds}
 use Rattle.explanations.specs.Explanations.{Stored}
 use Rattle.explanations.proofs.Storing.{stored-then}
 use Rattle.records.specs.declared.record.Propagator.{Propagator}

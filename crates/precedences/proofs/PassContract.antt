@@ -17,13 +17,13 @@ use Rattle.integers.specs.Moments.{instant, zeroAt}
 use Rattle.integers.proofs.Answers.{same-kind, same-count}
 use Rattle.integers.proofs.Filling.{filled-at, filled-length}
 use Rattle.scheduling.specs.Scheduling.{whole, natural, Tasks, Proper, Largest, Schedule}
+use Rattle.sorts.specs.Orders.{noTasks, momentAt}
 use Rattle.records.specs.declared.record.Propagator.{Propagator}
-use Rattle.records.specs.Orders.{noTasks, momentAt}
 use Rattle.records.specs.Records.{tasksIn, momentsIn}
 use Rattle.records.specs.Refusals.{AcceptedInput, inputNumber}
 use Rattle.records.proofs.Accepting.{count, proper-whole, proper, above}
 use Rattle.records.proofs.Refused.{accepted-input}
-use Rattle.trees.proofs.Ects.{past-by-bound, within-bound}
+use Rattle.ects.proofs.Ects.{past-by-bound, within-bound}
 use Rattle.chosen_sets.proofs.Ranging.{held, late}
 use Rattle.precedences.specs.declared.answers.Precedences.{Precedences}
 use Rattle.precedences.specs.declared.answers.Precedences.the-variants.{Done, Emptied}

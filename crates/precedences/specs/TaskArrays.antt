@@ -10,7 +10,7 @@ use lib.ListN.{getD}
 use Rattle.integers.specs.Moments.{instant, zeroAt}
 use Rattle.scheduling.specs.Scheduling.{natural, Tasks, TaskSet, Atom}
 use Rattle.explanations.specs.Explanations.{Stored}
-use Rattle.trees.specs.Ects.{exceeds, raisedTo}
+use Rattle.ects.specs.Ects.{exceeds, raisedTo}
 use Rattle.chosen_sets.specs.ChosenSets.{ectOf}
 use Rattle.chosen_sets.specs.TaskArrays.{Held, Late}
 use Rattle.precedences.specs.Reasons.{atLeast, bothBounds}

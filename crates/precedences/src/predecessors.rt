@@ -1,7 +1,7 @@
 // The tasks that must come before a task, and their ect. Starts are moments.
 use chosen_sets::theta::theta_ect;
+use ects::earliest_completion::Ect;
 use integers::limits::TASKS;
-use trees::earliest_completion::Ect;
 ghost use mathlib.Core.Path.{_≡_};
 ghost use mathlib.Core.Bool.{not, _&&_, false};
 ghost use Prim.Native.Nat.{_+_, _<_, _≤_};
@@ -9,7 +9,7 @@ ghost use lib.Dec.{eqb, ltb};
 ghost use lib.ListN.{getD, replicate};
 ghost use Rattle.integers.specs.Filling.{filled};
 ghost use Rattle.integers.specs.Limits.{TASKS};
-ghost use Rattle.trees.specs.Ects.{momentOf};
+ghost use Rattle.ects.specs.Ects.{momentOf};
 ghost use Rattle.precedences.specs.TaskArrays.{precedesAt, boundAt, Ranged};
 
 // Whether task j, with its latest start, must come before task i, which ends at `end` or later.

@@ -13,13 +13,13 @@ use Rattle.runs.specs.Words.{reasons}
 use Rattle.runs.specs.Demand.{post}
 use Rattle.atoms.specs.Atoms.{atomsOf}
 use Rattle.atoms.proofs.Atoms.{atoms-words}
-use Rattle.records.specs.Posts.{postNumber, reasonWords}
+use Rattle.post_words.specs.Posts.{taskOf, boundOf, postNumber, reasonWords}
 use Rattle.propagator.specs.declared.disjunctive_propagator.Outcome.{Outcome}
 use Rattle.propagator.specs.Finding.{outcomeOf}
 use Rattle.propagator.specs.Outcomes.{outcomeNumbers, valueOf}
 use Rattle.propagator.specs.Ran.{Handed}
 use Rattle.propagator.proofs.Answering.{Overloaded, not-refused, posts-made, kind-done, kind-overload}
-use Rattle.promises.specs.Promise.{taskOf, boundOf, reasonOf, overloadOf}
+use Rattle.promises.specs.Promise.{reasonOf, overloadOf}
 
 module _ (t : Trace) (answer : Outcome) (is : answer ≡ outcomeOf (reasons (t .posts)) (length (t .posts)) (t .end)) where
   pub ends : outcomeNumbers answer .kind < 3

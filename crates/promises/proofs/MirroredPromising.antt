@@ -22,6 +22,7 @@ use Rattle.runs.specs.Mirrored.{mirroredConsequent}
 use Rattle.atoms.specs.Atoms.{atomsOf}
 use Rattle.checker.specs.declared.checker.Verdict.the-variants.{Passed}
 use Rattle.checker.specs.MirroredChecks.{checkMirroredOf}
+use Rattle.post_words.specs.Posts.{taskOf, boundOf}
 use Rattle.records.specs.declared.record.Propagator.{Propagator}
 use Rattle.records.specs.Refusals.{Accepted}
 use Rattle.propagator.specs.declared.disjunctive_propagator.Outcome.{Outcome}
@@ -34,7 +35,7 @@ use Rattle.barred_starts.specs.Bars.{allBarsFit}
 use Rattle.barred_starts.specs.Permitted.{LastPermitted, PermittedSchedule}
 use Rattle.barred_starts.specs.Ranges.{earliests, latests, anyRange, withLatests}
 use Rattle.barred_starts.proofs.Storing.{earliests-with-latest, counts-with-latest, places-with-latest}
-use Rattle.promises.specs.Promise.{tasksLent, taskOf, boundOf, reasonOf}
+use Rattle.promises.specs.Promise.{tasksLent, reasonOf}
 use Rattle.promises.specs.MirroredPromise.{MirroredPostPromise, MirroredOverloadPromise, MirroredPromise}
 use Rattle.promises.proofs.Answers as read
 use Rattle.promises.proofs.Largest.{between-least, reached-least}

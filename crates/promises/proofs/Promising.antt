@@ -19,6 +19,7 @@ use Rattle.runs.specs.Words.{reasons}
 use Rattle.runs.specs.Demand.{consequentOf, post}
 use Rattle.checker.specs.declared.checker.Verdict.the-variants.{Passed}
 use Rattle.checker.specs.Checks.{checkOf}
+use Rattle.post_words.specs.Posts.{taskOf, boundOf}
 use Rattle.records.specs.declared.record.Propagator.{Propagator}
 use Rattle.records.specs.Refusals.{Accepted}
 use Rattle.propagator.specs.declared.disjunctive_propagator.Outcome.{Outcome}
@@ -30,7 +31,7 @@ use Rattle.barred_starts.specs.Bars.{allBarsFit}
 use Rattle.barred_starts.specs.Permitted.{FirstPermitted, PermittedSchedule}
 use Rattle.barred_starts.specs.Ranges.{earliests, latests, anyRange, withStarts}
 use Rattle.barred_starts.proofs.Storing.{latests-with, counts-with, places-with}
-use Rattle.promises.specs.Promise.{tasksLent, taskOf, boundOf, reasonOf, PostPromise, OverloadPromise, Promise}
+use Rattle.promises.specs.Promise.{tasksLent, reasonOf, PostPromise, OverloadPromise, Promise}
 use Rattle.promises.proofs.Answers as read
 use Rattle.promises.proofs.Largest.{between, reached}
 use Rattle.promises.proofs.Firsts.{few, moved-on}

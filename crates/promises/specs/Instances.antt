@@ -10,7 +10,7 @@ use Rattle.integers.specs.Orders.{sort, insert, index, numbers}
 use Rattle.integers.specs.Tests.{allBelow, refusal}
 use Rattle.scheduling.specs.Scheduling.{Atom, total, processing}
 use Rattle.scheduling.specs.Words.{atomWords}
-use Rattle.trees.specs.Ects.{decoded}
+use Rattle.ects.specs.Ects.{decoded}
 use Rattle.trees.specs.Leaves.{root, responsible, theta}
 use Rattle.trees.specs.Nodes.{joinOf, isEmpty}
 use Rattle.trees.specs.Searches.{gray, tested, descentP, descentEct, stepP, stepEct, searchP, searchEct, thetaOf}

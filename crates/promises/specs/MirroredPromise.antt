@@ -13,14 +13,14 @@ use Rattle.atoms.specs.Atoms.{atomsOf}
 use Rattle.checker.specs.declared.checker.Verdict.the-variants.{Passed}
 use Rattle.checker.specs.Checks.{consequentWords}
 use Rattle.checker.specs.MirroredChecks.{mirrorIfAny, checkMirroredOf}
+use Rattle.post_words.specs.Posts.{taskOf, boundOf, postNumber}
 use Rattle.records.specs.declared.record.Propagator.{Propagator}
-use Rattle.records.specs.Posts.{postNumber}
 use Rattle.propagator.specs.declared.disjunctive_propagator.Outcome.{Outcome}
 use Rattle.propagator.specs.Outcomes.{outcomeNumbers, valueOf}
 use Rattle.barred_starts.specs.declared.range.Range.{Range}
 use Rattle.barred_starts.specs.Ranges.{earliests, latests, counts, places, anyRange}
 use Rattle.barred_starts.specs.Permitted.{LastPermitted, PermittedSchedule}
-use Rattle.promises.specs.Promise.{tasksLent, taskOf, boundOf, reasonOf, overloadOf}
+use Rattle.promises.specs.Promise.{tasksLent, reasonOf, overloadOf}
 
 module _ (before : Propagator) (ranges : List Range) (answer : Outcome) (ranges′ : List Range) (posts atoms : List ℤ) where
   -- the tasks at entry

@@ -5,15 +5,15 @@ use mathlib.Core.Logic.{_↔_}
 use mathlib.Core.List.{List, map}
 use mathlib.Core.Option.{Option, some, none}
 use Prim.Native.Nat.{ℕ, _+_, _*_, _≤_, _<_}
-use lib.IntN.{ℤ, pos, natAbs}
+use lib.IntN.{ℤ, pos}
 use lib.ListN.{length, getD, take, drop}
 use lib.Signed.{_≤ℤ_, _<ℤ_}
 use Rattle.scheduling.specs.Scheduling.{whole, Tasks, EdgeFindingBound, Schedule, Conflict, Done, Atom, HoldsAtEntry}
 use Rattle.atoms.specs.Atoms.{atomsOf}
 use Rattle.checker.specs.declared.checker.Verdict.the-variants.{Passed}
 use Rattle.checker.specs.Checks.{checkOf, consequentWords}
+use Rattle.post_words.specs.Posts.{taskOf, boundOf, postNumber, reasonWords}
 use Rattle.records.specs.declared.record.Propagator.{Propagator}
-use Rattle.records.specs.Posts.{postNumber, reasonWords}
 use Rattle.records.specs.Records.{tasksIn}
 use Rattle.propagator.specs.declared.disjunctive_propagator.Outcome.{Outcome}
 use Rattle.propagator.specs.Outcomes.{outcomeNumbers, valueOf}
@@ -27,14 +27,7 @@ use Rattle.barred_starts.specs.Permitted.{FirstPermitted, PermittedSchedule}
 abbrev pub tasksLent : Propagator → List Range → Tasks whole
 tasksLent before ranges = tasksIn before (earliests ranges) (latests ranges)
 
--- post j is four words from 4j on: the first two are its task and its bound
-abbrev pub taskOf : List ℤ → ℕ → ℕ
-taskOf posts j = natAbs (getD posts (4 * j) (pos 0))
-
-abbrev pub boundOf : List ℤ → ℕ → ℤ
-boundOf posts j = getD posts (4 * j + 1) (pos 0)
-
--- the words of its reason, as the post reader hands them out
+-- the words of post j's reason, as the post reader hands them out
 abbrev pub reasonOf : Outcome → List ℤ → List ℤ → ℕ → List ℤ
 reasonOf answer posts atoms j = reasonWords posts atoms (valueOf answer 0) j
 

@@ -3,10 +3,11 @@ use mathlib.Core.Path.{_≡_}
 use mathlib.Core.List.{List}
 use Prim.Native.Nat.{ℕ, _<_}
 use lib.IntN.{ℤ}
+use Rattle.post_words.specs.Posts.{taskOf, boundOf}
 use Rattle.propagator.specs.declared.disjunctive_propagator.Outcome.{Outcome}
 use Rattle.propagator.specs.Outcomes.{outcomeNumbers, valueOf}
 use Rattle.barred_starts.specs.declared.range.Range.{Range}
-use Rattle.promises.specs.Promise.{taskOf, boundOf, reasonOf, overloadOf}
+use Rattle.promises.specs.Promise.{reasonOf, overloadOf}
 
 -- What stands in the slices beyond the words of a run may differ.
 pub record SameRun (answer : Outcome) (changes : ℕ) (ranges : List Range) (posts atoms : List ℤ) (answer′ : Outcome) (changes′ : ℕ) (ranges′ : List Range) (posts′ atoms′ : List ℤ) : Type 0 where

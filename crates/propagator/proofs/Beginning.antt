@@ -40,11 +40,11 @@ use Rattle.runs.proofs.Changes.{changes-most}
 use Rattle.runs.proofs.Few as few-words
 use Rattle.runs.proofs.Fuel.{propagate-is}
 use Rattle.runs.proofs.Tables.{tabulated}
+use Rattle.sorts.specs.Orders.{SortedBy, noTasks, momentAt, completionAt, byKey, byKeyDown, largestKey}
+use Rattle.sorts.proofs.Sorted.{sorted-as}
 use Rattle.records.specs.declared.record.Propagator.{Propagator}
-use Rattle.records.specs.Orders.{SortedBy, noTasks, momentAt, completionAt, byKey, byKeyDown, largestKey}
 use Rattle.records.specs.Records.{tasksIn}
 use Rattle.records.specs.Refusals.{Accepted}
-use Rattle.records.proofs.Sorted.{sorted-as}
 use Rattle.propagator.specs.RunArrays.{Ordered, Holds, At}
 use Rattle.propagator.specs.declared.disjunctive_propagator.Outcome.{Outcome}
 use Rattle.propagator.specs.Filling.{Fillable}

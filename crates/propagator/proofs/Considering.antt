@@ -16,15 +16,15 @@ use Rattle.integers.specs.Limits.{TASKS, ATOMS, INNER}
 use Rattle.integers.specs.Moments.{instant, zeroAt}
 use Rattle.integers.specs.Orders.{index}
 use Rattle.scheduling.specs.Scheduling.{natural, Tasks, Proper, TaskSet, Atom, completion}
+use Rattle.ects.specs.Ects.{exceeds}
+use Rattle.ects.proofs.Ects.{exceeds-decoded}
 use Rattle.trees.specs.declared.theta_lambda_tree.Node.{Node}
-use Rattle.trees.specs.Ects.{exceeds}
 use Rattle.trees.specs.Leaves as leaves
 use Rattle.trees.specs.Leaves.{Leaf, empty, startAt, durationAt, leafNode}
 use Rattle.trees.specs.Nodes.{emptyOf}
 use Rattle.trees.specs.Puts.{Puttable, Put}
 use Rattle.trees.specs.Searches.{thetaIn}
 use Rattle.trees.specs.Words.{nodeAt}
-use Rattle.trees.proofs.Ects.{exceeds-decoded}
 use Rattle.trees.proofs.Heights.{room as room-for}
 use Rattle.trees.proofs.Roots as tree
 use Rattle.trees.proofs.Trees.{may-put, was-put, root-of, theta-of}

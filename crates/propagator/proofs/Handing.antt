@@ -13,7 +13,7 @@ use Rattle.runs.specs.Traces.{End, Trace, overload}
 use Rattle.runs.specs.Words.{reasons, endReason, atomsIn, postsAfter, atomsAfter}
 use Rattle.runs.specs.Demand.{post}
 use Rattle.runs.proofs.Readers.{startOf, four-after, four-inside, reader, stretch-inside, end-reader}
-use Rattle.records.proofs.Reading.{read-at}
+use Rattle.post_words.proofs.Reading.{read-at}
 use Rattle.propagator.specs.Ran.{Read, ReadOverload, Handed}
 
 -- post j of a trace

@@ -14,12 +14,12 @@ use Rattle.integers.specs.Limits.{TASKS, INNER}
 use Rattle.integers.specs.Moments.{instant, zeroAt}
 use Rattle.integers.specs.Orders.{index}
 use Rattle.scheduling.specs.Scheduling.{natural, Tasks, Atom, completion}
-use Rattle.trees.specs.Ects.{exceeds}
+use Rattle.ects.specs.Ects.{exceeds}
+use Rattle.ects.proofs.Ects.{exceeds-decoded}
 use Rattle.trees.specs.Leaves as leaves
 use Rattle.trees.specs.Leaves.{gray}
 use Rattle.trees.specs.Searches.{thetaIn}
 use Rattle.trees.specs.Words.{nodeAt}
-use Rattle.trees.proofs.Ects.{exceeds-decoded}
 use Rattle.runs.specs.Traces.{Trace, End, done, overload, emptied}
 use Rattle.runs.specs.Runs.{State, Turn, conflict, inner, outer, run, ended, grayed, allWhite}
 use Rattle.scheduling.specs.Words.{atomWords}

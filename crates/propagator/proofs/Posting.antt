@@ -11,8 +11,8 @@ use lib.Seq.{sets}
 use Rattle.integers.specs.Limits.{TASKS, ATOMS}
 use Rattle.integers.specs.Moments.{instant, zeroAt}
 use Rattle.scheduling.specs.Scheduling.{Atom}
+use Rattle.ects.specs.Ects.{exceeds}
 use Rattle.trees.specs.declared.theta_lambda_tree.Responsible.the-variants as responsible
-use Rattle.trees.specs.Ects.{exceeds}
 use Rattle.trees.specs.Searches.{searchEct, responsibleOf, whiteIn, taskIn, thetaIn}
 use Rattle.trees.specs.Shapes.{leavesOf}
 use Rattle.trees.specs.Words.{nodeAt, ectBarIn}

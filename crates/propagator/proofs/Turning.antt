@@ -13,15 +13,15 @@ use lib.ListN.{getD}
 use Rattle.integers.specs.Moments.{zeroAt}
 use Rattle.integers.proofs.Bools.{bool, clash}
 use Rattle.scheduling.specs.Scheduling.{completion}
+use Rattle.ects.specs.Ects.{exceeds}
+use Rattle.ects.proofs.Ects.{exceeds-decoded}
 use Rattle.trees.specs.declared.disjunctive_task.LocalId.{LocalId}
 use Rattle.trees.specs.declared.theta_lambda_tree.Responsible.{Responsible}
 use Rattle.trees.specs.declared.theta_lambda_tree.Responsible.the-variants as responsible
-use Rattle.trees.specs.Ects.{exceeds}
 use Rattle.trees.specs.Leaves as leaves
 use Rattle.trees.specs.Searches.{Searchable, searchEct, responsibleOf}
 use Rattle.trees.specs.Shapes.{heightFor, leavesOf}
 use Rattle.trees.specs.Words.{nodeAt, ectBarIn}
-use Rattle.trees.proofs.Ects.{exceeds-decoded}
 use Rattle.trees.proofs.Trees.{bar-of-root, searchable, responsible-of}
 use Rattle.runs.specs.Runs.{State, on, stop}
 use Rattle.runs.specs.Reached.{Reached, turned}

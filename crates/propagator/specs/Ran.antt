@@ -15,8 +15,8 @@ use Rattle.runs.specs.Runs.{propagate}
 use Rattle.scheduling.specs.Words.{atomWords}
 use Rattle.runs.specs.Words.{postWords, reasons, endReason, postsAfter, atomsAfter}
 use Rattle.runs.specs.Demand.{Right, consequentOf, post}
+use Rattle.post_words.specs.Posts.{postNumber, reasonWords}
 use Rattle.records.specs.declared.record.Propagator.{Propagator}
-use Rattle.records.specs.Posts.{postNumber, reasonWords}
 use Rattle.records.specs.Records.{tasksIn, Lawful}
 use Rattle.records.specs.Refusals.{CountsFit, RangesFit, WordsFit, runNumber}
 use Rattle.checker.specs.declared.checker.Verdict.the-variants.{Passed}

@@ -10,9 +10,9 @@ use lib.Seq.{sets}
 use Rattle.integers.specs.Moments.{instant, zeroAt}
 use Rattle.integers.specs.Orders.{index}
 use Rattle.scheduling.specs.Scheduling.{natural, Tasks, completion}
+use Rattle.ects.specs.Ects.{exceeds}
 use Rattle.trees.specs.declared.theta_lambda_tree.Responsible.{Responsible}
 use Rattle.trees.specs.declared.theta_lambda_tree.Responsible.the-variants as responsible
-use Rattle.trees.specs.Ects.{exceeds}
 use Rattle.trees.specs.Leaves as leaves
 use Rattle.trees.specs.Searches.{searchEct, responsibleOf}
 use Rattle.trees.specs.Shapes.{leavesOf}

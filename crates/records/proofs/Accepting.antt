@@ -19,7 +19,7 @@ use Rattle.scheduling.proofs.Processing.{processing-less, processing-all}
 use Rattle.scheduling.proofs.Sets.{total-ext}
 use Rattle.scheduling.proofs.Transfer.{sound}
 use Rattle.records.specs.declared.record.Propagator.{Propagator}
-use Rattle.records.specs.Orders.{noTasks, momentAt, completionAt, largestKey}
+use Rattle.sorts.specs.Orders.{noTasks, momentAt, completionAt, largestKey}
 use Rattle.records.specs.Records.{tasksIn, momentsIn}
 use Rattle.records.specs.Refusals.{AcceptedInput, Accepted}
 

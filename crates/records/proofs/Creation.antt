@@ -21,7 +21,7 @@ use Rattle.integers.proofs.Tests.{all-at, all-show, all-ext, accepts, accepted,
 use Rattle.scheduling.specs.Scheduling.{total}
 use Rattle.scheduling.proofs.Sets.{total-ext}
 use Rattle.records.specs.declared.record.Creation.the-variants.{Accepted, Refused}
-use Rattle.records.specs.Orders.{noTasks}
+use Rattle.sorts.specs.Orders.{noTasks}
 use Rattle.records.specs.Records.{sumFits, lastsAt, Lawful, durationOf, durationAt, positiveAt, creationTests, newRecord, zeroRecord, creationNumber, created, createdAt}
 use Rattle.records.proofs.Lawful.{count-is}
 

@@ -1,10 +1,6 @@
-pub mod Ranks
-pub mod Keys
-pub mod Sorted
 pub mod Lawful
 pub mod Unused
 pub mod Creation
 pub mod Apart
 pub mod Refused
 pub mod Accepting
-pub mod Reading

@@ -14,7 +14,7 @@ use Rattle.integers.specs.Answers.{Answer, answered, refusedBy}
 use Rattle.integers.specs.Tests.{Test, test, refusal, allBelow}
 use Rattle.scheduling.specs.Scheduling.{whole, natural, Tasks, tasksOf, total}
 use Rattle.scheduling.specs.Moments.{moments}
-use Rattle.records.specs.Orders.{noTasks}
+use Rattle.sorts.specs.Orders.{noTasks}
 use Rattle.records.specs.declared.record.Propagator.{Propagator}
 use Rattle.records.specs.declared.record.Created.{Created}
 use Rattle.records.specs.declared.record.Creation.{Creation}

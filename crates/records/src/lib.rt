@@ -1,4 +1,2 @@
-pub mod orders;
-pub mod posts;
 pub mod record;
 pub mod refusals;

@@ -10,7 +10,7 @@ ghost use Rattle.integers.specs.Limits.{TASKS};
 ghost use Rattle.integers.specs.Filling.{filled};
 ghost use Rattle.integers.specs.Tests.{allBelow, refusal};
 ghost use Rattle.scheduling.specs.Scheduling.{total};
-ghost use Rattle.records.specs.Orders.{noTasks};
+ghost use Rattle.sorts.specs.Orders.{noTasks};
 ghost use Rattle.records.specs.Records.{countFits, sumFits, totalTrue, lastsAt, unusedZero, recordOf, lawfulRecord, durationOf, durationAt, creationTests, creationNumber, zeroRecord, created};
 
 // Places from the count on are 0.

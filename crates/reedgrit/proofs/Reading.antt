@@ -4,7 +4,7 @@ use mathlib.Core.Path.{_≡_, refl, sym, ap, _∙_}
 use mathlib.Core.List.{List}
 use Prim.Native.Nat.{ℕ, zero, suc, _*_}
 use lib.IntN.{ℤ, pos}
-use Rattle.records.specs.Posts.{postNumber}
+use Rattle.post_words.specs.Posts.{postNumber}
 use Rattle.reedgrit.specs.Calls.{postAnswer, readPost, postAt, postNumbers}
 
 -- a number that is not 0 stands alone

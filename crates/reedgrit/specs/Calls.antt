@@ -9,9 +9,9 @@ use lib.ListN.{length, getD}
 use Rattle.integers.specs.Answers.{Answer, refusedBy}
 use Rattle.integers.specs.Limits.{PREMISES}
 use Rattle.integers.specs.Tests.{Test, test, refusal}
+use Rattle.post_words.specs.Posts.{stretchStart, stretchLength, postNumber}
 use Rattle.records.specs.declared.record.Propagator.{Propagator}
 use Rattle.records.specs.Records.{creationNumber, created}
-use Rattle.records.specs.Posts.{stretchStart, stretchLength, postNumber}
 use Rattle.atoms.specs.Atoms.{rightVariable, rightAtom, rightWords}
 use Rattle.domains.specs.declared.int_ext.IntExt.{IntExt}
 use Rattle.domains.specs.declared.domain.Domain.{Domain}

@@ -20,7 +20,7 @@ use checking::variable_state::VariableState;
 use disjunctive::ranges::run;
 use integers::limits::PREMISES;
 use integers::nat_of;
-use records::posts::post_number;
+use post_words::posts::post_number;
 use records::record::Propagator;
 use records::record::create;
 ghost use mathlib.Core.Path.{_≡_};
@@ -31,7 +31,7 @@ ghost use lib.ListN.{length};
 ghost use lib.Signed.{_≤ℤ_};
 ghost use Rattle.integers.specs.Tests.{refusal};
 ghost use Rattle.checking.specs.States.{sideOf, boundOf};
-ghost use Rattle.records.specs.Posts.{firstAtom, atomCount};
+ghost use Rattle.post_words.specs.Posts.{firstAtom, atomCount};
 ghost use Rattle.reedgrit.specs.Calls.{newNumbers, readPost, postNumbers, RanNumbers, CheckedNumbers, questionTests, truthAfter, boundAfter, lowerAfter, upperAfter};
 
 // A record of the durations, or the record of zeros with the number that turned them back.

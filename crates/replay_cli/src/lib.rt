@@ -3,8 +3,10 @@
 pub mod changes;
 pub mod checks;
 pub mod commands;
+pub mod lent;
 pub mod lines;
 pub mod parts;
+pub mod ranges;
 pub mod requests;
 pub mod running;
 pub mod serving;

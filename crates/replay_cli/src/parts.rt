@@ -1,21 +1,20 @@
-// A line, taken apart: stretches of bytes, words, and numbers.
+// A line, taken apart: stretches of bytes, words, and lists of numbers.
 use text::reading::Reading;
 use text::reading::Word;
 use text::reading::is_space;
 use text::words::run_end;
-ghost use Prim.Native.Nat.{_≤_, max};
-ghost use lib.ListN.{length};
 
-// Numbers of one part of a line that are kept. A premise list this long is turned back for its length, and so is any longer one.
-pub const WORDS: usize = 2048;
+// Numbers of a line that are kept. A list of premises this long is turned back for its length.
+pub const WORDS: usize = 4096;
 
-// What counts as the count of words where one of them is no number.
-pub const WRONG: usize = WORDS + 1;
+// Lists of a line, parted by semicolons.
+pub const LISTS: usize = 64;
 
-// The words read so far, and the one that is being read.
+// The numbers and the lists read so far, and the word that is being read.
 struct Scan {
     valid: bool,
     count: usize,
+    lists: usize,
     word: Word,
 }
 
@@ -30,26 +29,23 @@ pub fn stretch(line: &[u8], from: usize, to: usize) -> &[u8] {
     &line[from..to]
 }
 
-// The first numbers, or none where there are not so many.
-pub fn first(numbers: &[i32], count: usize) -> &[i32] {
-    if count > numbers.len() {
+// The same of numbers.
+pub fn span(numbers: &[i32], from: usize, to: usize) -> &[i32] {
+    if from > to {
         return &numbers[0..0];
     }
-    &numbers[0..count]
+    if to > numbers.len() {
+        return &numbers[0..0];
+    }
+    &numbers[from..to]
 }
 
-// The first place from `from` on that has the byte; the end where there is none.
-pub fn find(line: &[u8], from: usize, byte: u8) -> usize
-    ensures { λ r. ⌜ (from ≤ r) × (r ≤ max from (length (now (line .entry)))) ⌝ }
-{
-    let mut i = from;
-    while i < line.len() {
-        if line[i] == byte {
-            return i;
-        }
-        i += 1;
+// Number k of a list, or 0 behind its end.
+pub fn number_at(numbers: &[i32], k: usize) -> i32 {
+    if k < numbers.len() {
+        return numbers[k];
     }
-    i
+    0
 }
 
 // Whether two stretches have the same bytes.
@@ -79,25 +75,6 @@ pub fn after_word(line: &[u8]) -> &[u8] {
     stretch(line, run_end(line, from, false), line.len())
 }
 
-// Part k of a line whose parts are parted by a byte; empty where there is none.
-pub fn part(line: &[u8], k: usize, byte: u8) -> &[u8] {
-    let mut from = 0;
-    let mut left = k;
-    while left > 0 {
-        from = behind(line, find(line, from, byte));
-        left -= 1;
-    }
-    stretch(line, from, find(line, from, byte))
-}
-
-// The place behind another, where that is one of the line's.
-fn behind(line: &[u8], at: usize) -> usize {
-    if at < line.len() {
-        return at + 1;
-    }
-    line.len()
-}
-
 // The numbers with one more, where there is a place for it.
 fn keep(kept: &mut [i32], count: usize, x: i32) -> usize {
     if count < kept.len() {
@@ -107,61 +84,99 @@ fn keep(kept: &mut [i32], count: usize, x: i32) -> usize {
     count
 }
 
-// A word ends here.
-fn ended(kept: &mut [i32], scan: Scan) -> Scan {
-    let valid = scan.valid;
-    let count = scan.count;
-    let word = scan.word;
-    let reading = word.reading();
-    match reading {
-        Reading::Nothing => Scan {
+impl Scan {
+    // The scan behind a word that has ended.
+    fn after(self, valid: bool, count: usize) -> Scan {
+        Scan {
             valid,
             count,
+            lists: self.lists,
             word: Word::Empty,
-        },
-        Reading::Number(x) => Scan {
+        }
+    }
+
+    // A word ends here.
+    fn ended(self, words: &mut [i32]) -> Scan {
+        let valid = self.valid;
+        let count = self.count;
+        let word = self.word;
+        let reading = word.reading();
+        match reading {
+            Reading::Nothing => self.after(valid, count),
+            Reading::Number(x) => self.after(valid, keep(words, count, x)),
+            Reading::Wrong => self.after(false, count),
+        }
+    }
+
+    // A list ends here.
+    fn closed(self, words: &mut [i32], ends: &mut [usize]) -> Scan {
+        let mut next = self.ended(words);
+        let k = next.lists;
+        if k >= ends.len() {
+            next.valid = false;
+            return next;
+        }
+        ends[k] = next.count;
+        next.lists = k + 1;
+        next
+    }
+
+    // One byte more: white space ends a word, a semicolon a list, and any other byte belongs to the word.
+    fn step(self, words: &mut [i32], ends: &mut [usize], byte: u8) -> Scan {
+        if is_space(byte) {
+            return self.ended(words);
+        }
+        if byte == b';' {
+            return self.closed(words, ends);
+        }
+        let valid = self.valid;
+        let count = self.count;
+        let lists = self.lists;
+        let word = self.word;
+        Scan {
             valid,
-            count: keep(kept, count, x),
-            word: Word::Empty,
-        },
-        Reading::Wrong => Scan {
-            valid: false,
             count,
-            word: Word::Empty,
-        },
+            lists,
+            word: word.next(byte),
+        }
     }
 }
 
-// One byte more: white space ends a word, and any other byte belongs to it.
-fn step(kept: &mut [i32], scan: Scan, byte: u8) -> Scan {
-    if is_space(byte) {
-        return ended(kept, scan);
-    }
-    let valid = scan.valid;
-    let count = scan.count;
-    let word = scan.word;
-    Scan {
-        valid,
-        count,
-        word: word.next(byte),
-    }
-}
-
-// The numbers of a part, put into `kept`; their count, or WRONG.
-pub fn numbers_in(kept: &mut [i32], part: &[u8]) -> usize {
+// The lists of a line, put into `words`, and their ends into `ends`; how many there are, or none where a word is no number.
+pub fn lists_in(words: &mut [i32], ends: &mut [usize], line: &[u8]) -> usize {
     let mut scan = Scan {
         valid: true,
         count: 0,
+        lists: 0,
         word: Word::Empty,
     };
     let mut i = 0;
-    while i < part.len() {
-        scan = step(kept, scan, part[i]);
+    while i < line.len() {
+        scan = scan.step(words, ends, line[i]);
         i += 1;
     }
-    let last = ended(kept, scan);
+    let last = scan.closed(words, ends);
     if last.valid {
-        return last.count;
+        return last.lists;
     }
-    WRONG
+    0
+}
+
+// The end of the list before list k.
+fn list_start(ends: &[usize], k: usize) -> usize {
+    if k == 0 {
+        return 0;
+    }
+    if k > ends.len() {
+        return 0;
+    }
+    ends[k - 1]
+}
+
+// List k of a line, or none where it has not so many.
+pub fn list<'a, 'b>(words: &'a [i32], ends: &'b [usize], k: usize) -> &'a [i32] {
+    if k >= ends.len() {
+        return &words[0..0];
+    }
+    span(words, list_start(ends, k), ends[k])
 }

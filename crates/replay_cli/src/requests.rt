@@ -1,301 +1,220 @@
-// The calls on the record and on ranges: the run, the mirrored pass, the overload test, the page, the charges, the earliest free start,
-// the busiest stretch and the precedences.
-use crate::commands::Command;
-use crate::lines::put;
-use crate::lines::put_counted;
-use crate::lines::put_end;
-use crate::lines::put_line;
-use crate::lines::put_refused;
-use crate::lines::put_spaced;
-use crate::lines::put_spaced_count;
-use crate::parts::WORDS;
+// The calls on the record and on ranges: the run, the mirrored pass, the overload test and those by precedences, whose ranges may have barred starts;
+// the page, the charges, the earliest free start and the busiest stretch of a fixed schedule.
+use crate::lent::busiest_stretch;
+use crate::lent::charges;
+use crate::lent::free_start;
+use crate::lent::overload_test;
+use crate::lent::page;
+use crate::lent::precedence_reason;
+use crate::lent::precedences;
+use crate::lines::say;
+use crate::lines::say_count;
+use crate::lines::say_counted;
+use crate::lines::say_error;
+use crate::lines::say_refused;
+use crate::lines::say_valued;
+use crate::parts::list;
+use crate::parts::number_at;
+use crate::parts::same;
+use crate::parts::span;
 use crate::parts::stretch;
-use crate::running::atoms_of;
-use crate::running::put_mirrored;
-use crate::running::put_reason;
-use crate::running::put_run;
-use crate::running::put_starts;
+use crate::ranges::RANGES;
+use crate::ranges::Ranges;
+use crate::ranges::ranges_of;
+use crate::running::mirrors;
+use crate::running::runs;
+use crate::running::say_atoms;
+use crate::running::say_starts;
 use crate::states::place_of;
-use busiest_stretch::answer::Busiest;
-use busiest_stretch::stretch::busiest_stretch;
-use charges::answer::Bill;
-use charges::answer::Billing;
-use charges::charging::charges;
-use free_starts::free_start::FreeStart;
-use free_starts::free_start::free_start;
+use disjunctive::Billing;
+use disjunctive::Busiest;
+use disjunctive::FreeStart;
+use disjunctive::Overload;
+use disjunctive::Page;
+use disjunctive::Precedences;
+use disjunctive::Propagator;
+use disjunctive::Reason;
 use integers::limits::TASKS;
-use overload_test::overload_test::Overload;
-use overload_test::overload_test::overload_test;
-use pages::answer::Page;
-use pages::page::page;
-use precedences::answers::Precedences;
-use precedences::answers::Reason;
-use precedences::pass::precedences;
-use precedences::reasons::precedence_reason;
-use records::record::Propagator;
 ghost use Prim.Native.Nat.{_≤_};
 
-// Ranges of one command that are kept.
-pub const RANGES: usize = WORDS / 2;
-
-// Bytes of a page of 48 tasks, and of each of its lines.
+// Bytes of a page of 48 tasks.
 const PAGE: usize = 1519;
-
-const LINE: usize = 31;
 
 // Words of the reason of one bound of 48 tasks.
 const REASON: usize = 288;
 
-// Every second number, from the first or the second on.
-pub fn spread(starts: &mut [i32], words: &[i32], from: usize)
-    requires { ⌜ from ≤ 1 ⌝ }
-{
-    let n = words.len() / 2;
-    let mut i = 0;
-    while i < n && i < starts.len() {
-        starts[i] = words[2 * i + from];
-        i += 1;
+// The answer to a command on ranges, with n lists.
+pub fn asks(record: Propagator, word: &[u8], words: &[i32], ends: &[usize], n: usize) {
+    let a = list(words, ends, 0);
+    if same(word, b"precede-why") {
+        let ranges = ranges_of(span(a, 1, a.len())).with_lists(words, ends, n);
+        return explains(record, ranges, a);
     }
+    let ranges = ranges_of(a);
+    if n <= 2 && tells_fixed(record, word, ranges, list(words, ends, 1)) {
+        return;
+    }
+    tells_barred(record, word, ranges.with_lists(words, ends, n));
 }
 
-// The numbers behind the first.
-pub fn behind(words: &[i32]) -> &[i32] {
-    if words.len() == 0 {
-        return &words[0..0];
+// The answer on ranges that may have barred starts.
+fn tells_barred(record: Propagator, word: &[u8], ranges: Ranges) {
+    if !ranges.valid {
+        return say_error();
     }
-    &words[1..]
+    if ranges.count > RANGES {
+        return say_error();
+    }
+    if same(word, b"run") {
+        return runs(record, ranges);
+    }
+    if same(word, b"mirror") {
+        return mirrors(record, ranges);
+    }
+    if same(word, b"quick") {
+        return says_overload(overload_test(record, ranges));
+    }
+    if same(word, b"precede") {
+        return raises(record, ranges);
+    }
+    say_error();
 }
 
-// The lines of a command on the first n ranges.
-pub fn put_asked(
-    out: &mut [u8],
-    at: usize,
-    command: Command,
-    record: Propagator,
-    earliest: &mut [i32],
-    latest: &mut [i32],
-    n: usize,
-    more: &[i32],
-) -> usize {
-    if n > earliest.len() {
-        return put_refused(out, at, 10);
+// The answer on a fixed schedule, and what more is asked. Whether the word asks for one.
+fn tells_fixed(record: Propagator, word: &[u8], ranges: Ranges, asked: &[i32]) -> bool {
+    if !ranges.valid {
+        return false;
     }
-    if n > latest.len() {
-        return put_refused(out, at, 10);
+    if ranges.count > RANGES {
+        return false;
     }
-    put_on(
-        out,
-        at,
-        command,
-        record,
-        &mut earliest[0..n],
-        &mut latest[0..n],
-        more,
-    )
-}
-
-// The lines of a command on ranges; behind them stand what more is asked.
-fn put_on(
-    out: &mut [u8],
-    at: usize,
-    command: Command,
-    record: Propagator,
-    earliest: &mut [i32],
-    latest: &mut [i32],
-    more: &[i32],
-) -> usize {
-    match command {
-        Command::Run => put_run(out, at, record, earliest, latest),
-        Command::Mirror => put_mirrored(out, at, record, earliest, latest),
-        Command::Quick => put_overloads(out, at, overload_test(record, earliest, latest)),
-        Command::Page => put_paged(out, at, record, earliest, latest),
-        Command::Charges => put_billed(out, at, record, earliest, latest, more),
-        Command::Free => put_free(out, at, record, earliest, latest, more),
-        Command::Busiest => put_busiest(out, at, record, earliest, latest, more),
-        Command::Precede => put_raised(out, at, record, earliest, latest),
-        _ => put_why_raised(out, at, record, earliest, latest, more),
+    let k = asked.len();
+    if k == 0 && same(word, b"page") {
+        pages(record, ranges);
+        return true;
     }
+    if same(word, b"charges") {
+        bills(record, ranges, asked);
+        return true;
+    }
+    if k == 2 && same(word, b"free") {
+        says_start(free_start(record, ranges, asked[0], asked[1]));
+        return true;
+    }
+    if k == 1 && same(word, b"busiest") {
+        says_stretch(busiest_stretch(record, ranges, asked[0]));
+        return true;
+    }
+    false
 }
 
 // `quick`: whether some set overloads.
-fn put_overloads(out: &mut [u8], at: usize, answer: Overload) -> usize {
+fn says_overload(answer: Overload) {
     match answer {
-        Overload::Yes(read) => put_counted(out, at, b"yes", read),
-        Overload::No => put_line(out, at, b"no\n"),
-        Overload::Refused(number) => put_refused(out, at, number),
+        Overload::Yes(read) => say_counted(b"yes", read),
+        Overload::No => say(b"no\n"),
+        Overload::Refused(number) => say_refused(number),
     }
 }
 
 // `page`: the page of a fixed schedule.
-fn put_paged(
-    out: &mut [u8],
-    at: usize,
-    record: Propagator,
-    earliest: &[i32],
-    latest: &[i32],
-) -> usize {
+fn pages(record: Propagator, ranges: Ranges)
+    requires { ⌜ ranges .count ≤ 64 ⌝ }
+{
     let mut sheet = [0u8; PAGE];
-    let answer = page(record, earliest, latest, &mut sheet);
+    let answer = page(record, ranges, &mut sheet);
     match answer {
-        Page::Written(bytes) => put_page(out, at, &sheet, bytes / LINE),
-        Page::Refused(number) => put_refused(out, at, number),
+        Page::Written(bytes) => say(stretch(&sheet, 0, bytes)),
+        Page::Refused(number) => say_refused(number),
     }
 }
 
-// Line i of a page, or nothing.
-fn page_line(sheet: &[u8], i: usize) -> &[u8] {
-    if i >= PAGE / LINE {
-        return &sheet[0..0];
-    }
-    stretch(sheet, LINE * i, LINE * i + LINE)
-}
-
-// So many lines of a page.
-fn put_page(out: &mut [u8], at: usize, sheet: &[u8], lines: usize) -> usize {
-    let mut end = at;
-    let mut i = 0;
-    while i < lines {
-        end = put_line(out, end, page_line(sheet, i));
-        i += 1;
-    }
-    end
-}
-
-// `charges`: the charges of a fixed schedule by the due moments.
-fn put_billed(
-    out: &mut [u8],
-    at: usize,
-    record: Propagator,
-    earliest: &[i32],
-    latest: &[i32],
-    due: &[i32],
-) -> usize {
-    let made = charges(record, earliest, latest, due);
+// `charges`: the charges of a fixed schedule by the due moments, and their total.
+fn bills(record: Propagator, ranges: Ranges, due: &[i32])
+    requires { ⌜ ranges .count ≤ 64 ⌝ }
+{
+    let made = charges(record, ranges, due);
     let answer = made.answer;
     let bill = made.bill;
     match answer {
-        Billing::Made => put_bill(out, at, bill, earliest.len()),
-        Billing::Refused(number) => put_refused(out, at, number),
+        Billing::Made => {
+            let charges = bill.charges;
+            let total = bill.total;
+            say_charges(charges, ranges.count);
+            say_counted(b"total", total as usize);
+        }
+        Billing::Refused(number) => say_refused(number),
     }
 }
 
-// The lines of a bill: the tasks' charges, and the total.
-fn put_bill(out: &mut [u8], at: usize, bill: Bill, n: usize) -> usize {
-    let a = put_line(out, at, b"charges");
-    let b = put_charges(out, a, &bill.charges, n);
-    let c = put_line(out, b, b"total");
-    let d = put_cents(out, c, bill.total);
-    put_end(out, d)
+// Charge i, or 0 behind the last.
+fn charge_at(charges: [u32; TASKS], i: usize) -> usize {
+    if i >= TASKS {
+        return 0;
+    }
+    charges[i] as usize
 }
 
-// A space and an amount.
-fn put_cents(out: &mut [u8], at: usize, cents: u32) -> usize {
-    put_spaced_count(out, at, cents as usize)
-}
-
-// The first n charges, a space before each, and the end of the line.
-fn put_charges(out: &mut [u8], at: usize, charges: &[u32; TASKS], n: usize) -> usize {
-    let mut end = at;
+// The line of the first n charges.
+fn say_charges(charges: [u32; TASKS], n: usize) {
+    say(b"charges");
     let mut i = 0;
-    while i < n && i < 48 {
-        end = put_cents(out, end, charges[i]);
+    while i < n {
+        say_count(charge_at(charges, i));
         i += 1;
     }
-    put_end(out, end)
+    say(b"\n");
 }
 
-// `free`: the earliest free start beside a fixed schedule, for a moment and a duration.
-fn put_free(
-    out: &mut [u8],
-    at: usize,
-    record: Propagator,
-    earliest: &[i32],
-    latest: &[i32],
-    asked: &[i32],
-) -> usize {
-    if asked.len() != 2 {
-        return put_line(out, at, b"error\n");
-    }
-    let answer = free_start(record, earliest, latest, asked[0], asked[1]);
+// `free`: the earliest free start beside a fixed schedule.
+fn says_start(answer: FreeStart) {
     match answer {
-        FreeStart::At(start) => put_started(out, at, start),
-        FreeStart::Refused(number) => put_refused(out, at, number),
+        FreeStart::At(start) => say_valued(b"start", start),
+        FreeStart::Refused(number) => say_refused(number),
     }
 }
 
-// The line of a start.
-fn put_started(out: &mut [u8], at: usize, start: i32) -> usize {
-    let a = put_line(out, at, b"start");
-    let b = put_spaced(out, a, start);
-    put_end(out, b)
-}
-
-// `busiest`: the busiest stretch of a fixed schedule, for a length.
-fn put_busiest(
-    out: &mut [u8],
-    at: usize,
-    record: Propagator,
-    earliest: &[i32],
-    latest: &[i32],
-    asked: &[i32],
-) -> usize {
-    if asked.len() != 1 {
-        return put_line(out, at, b"error\n");
-    }
-    let answer = busiest_stretch(record, earliest, latest, asked[0]);
+// `busiest`: the busiest stretch of a fixed schedule.
+fn says_stretch(answer: Busiest) {
     match answer {
-        Busiest::Stretch(covered, start) => put_covered(out, at, covered, start),
-        Busiest::Refused(number) => put_refused(out, at, number),
+        Busiest::Stretch(time, start) => {
+            say(b"covered");
+            say_count(time as usize);
+            say_valued(b" from", start);
+        }
+        Busiest::Refused(number) => say_refused(number),
     }
-}
-
-// The line of a stretch.
-fn put_covered(out: &mut [u8], at: usize, covered: u32, start: i32) -> usize {
-    let a = put_line(out, at, b"covered");
-    let b = put_spaced_count(out, a, covered as usize);
-    let c = put(out, b, b" from");
-    let d = put_spaced(out, c, start);
-    put_end(out, d)
 }
 
 // `precede`: the pass by the precedences that can be read off leaves earliest starts, or names the task whose bound passes its latest start.
-fn put_raised(
-    out: &mut [u8],
-    at: usize,
-    record: Propagator,
-    earliest: &mut [i32],
-    latest: &[i32],
-) -> usize {
-    let answer = precedences(record, earliest, latest);
+fn raises(record: Propagator, ranges: Ranges)
+    requires { ⌜ ranges .count ≤ 64 ⌝ }
+{
+    let now = precedences(record, ranges);
+    let answer = now.answer;
+    let kept = now.ranges;
     match answer {
-        Precedences::Done => put_starts(out, at, earliest),
-        Precedences::Emptied(task) => put_counted(out, at, b"passes", task),
-        Precedences::Refused(number) => put_refused(out, at, number),
+        Precedences::Done => say_starts(kept, ranges.count, false),
+        Precedences::Emptied(task) => say_counted(b"passes", task),
+        Precedences::Refused(number) => say_refused(number),
     }
 }
 
 // `precede-why`: the reason of the bound of the task that is named first.
-fn put_why_raised(
-    out: &mut [u8],
-    at: usize,
-    record: Propagator,
-    earliest: &[i32],
-    latest: &[i32],
-    named: &[i32],
-) -> usize {
-    if named.len() == 0 {
-        return put_line(out, at, b"error\n");
+fn explains(record: Propagator, ranges: Ranges, named: &[i32]) {
+    if !ranges.valid || named.len() == 0 {
+        return say_error();
+    }
+    if ranges.count > RANGES {
+        return say_error();
     }
     let mut atoms = [0i32; REASON];
-    let answer = precedence_reason(record, earliest, latest, place_of(named[0]), &mut atoms);
+    let answer = precedence_reason(record, ranges, place_of(number_at(named, 0)), &mut atoms);
     match answer {
-        Reason::Written(count) => put_counted_reason(out, at, &atoms, count),
-        Reason::Refused(number) => put_refused(out, at, number),
+        Reason::Written(count) => {
+            say_counted(b"count", count);
+            say_atoms(&atoms, 0, count);
+        }
+        Reason::Refused(number) => say_refused(number),
     }
-}
-
-// The count of a reason's atoms, and then these.
-fn put_counted_reason(out: &mut [u8], at: usize, atoms: &[i32], count: usize) -> usize {
-    let from = put_counted(out, at, b"count", count);
-    put_reason(out, from, atoms_of(atoms, 0, count))
 }

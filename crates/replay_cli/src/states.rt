@@ -1,20 +1,19 @@
 // The variable state's calls.
-use crate::commands::Session;
-use crate::lines::drained;
-use crate::lines::put;
-use crate::lines::put_contradiction;
-use crate::lines::put_end;
-use crate::lines::put_line;
-use crate::lines::put_numbers;
-use crate::lines::put_refused;
-use crate::lines::put_spaced_count;
-use crate::lines::put_whole;
-use crate::parts::first;
+use crate::lines::say;
+use crate::lines::say_contradiction;
+use crate::lines::say_count;
+use crate::lines::say_error;
+use crate::lines::say_numbers;
+use crate::lines::say_refused;
+use crate::lines::say_whole;
+use crate::parts::number_at;
+use crate::parts::same;
+use crate::parts::span;
 use atoms::atomic_constraint::variable_is_accepted;
 use checking::variable_state::Application;
 use checking::variable_state::Bound;
 use checking::variable_state::Truth;
-use checking::variable_state::VariableState;
+use disjunctive::VariableState;
 use domains::domain::Domain;
 use domains::int_ext::IntExt;
 use integers::limits::VARIABLES;
@@ -24,119 +23,92 @@ ghost use Prim.Native.Nat.{_<_};
 ghost use Rattle.integers.specs.Limits.{VARIABLES};
 
 // `state`: the empty state.
-pub fn empties(session: Session, out: &mut [u8]) -> Session {
-    let at = session.at;
-    session.stated(VariableState::empty(), put_line(out, at, b"empty\n"))
+pub fn emptied() -> VariableState {
+    say(b"empty\n");
+    VariableState::empty()
+}
+
+// Whether a list is one of atoms, and not empty.
+fn has_atoms(words: &[i32]) -> bool {
+    words.len() >= 3 && words.len() % 3 == 0
 }
 
 // `apply`: the state with the first atom of a list, or as it was.
-pub fn applies(session: Session, out: &mut [u8], words: &[i32]) -> Session {
-    if words.len() < 3 {
-        return session.failed(out);
+pub fn applied(state: VariableState, words: &[i32]) -> VariableState {
+    if !has_atoms(words) {
+        say_error();
+        return state;
     }
-    if words.len() % 3 != 0 {
-        return session.failed(out);
-    }
-    let at = session.at;
-    let state = session.state;
-    let applied = state.apply(words[0], words[1], words[2]);
-    let answer = applied.answer;
-    let next = applied.state;
-    session.stated(next, put_applied(out, at, answer, next, words[0]))
-}
-
-// The line of an atom that was applied.
-fn put_applied(
-    out: &mut [u8],
-    at: usize,
-    answer: Application,
-    state: VariableState,
-    variable: i32,
-) -> usize {
+    let next = state.apply(
+        number_at(words, 0),
+        number_at(words, 1),
+        number_at(words, 2),
+    );
+    let answer = next.answer;
+    let after = next.state;
     match answer {
-        Application::Consistent => put_variable(out, at, state, place_of(variable)),
-        Application::Contradiction(x) => put_contradiction(out, at, x),
-        Application::Refused(number) => put_refused(out, at, number),
+        Application::Consistent => say_variable(after, place_of(number_at(words, 0))),
+        Application::Contradiction(x) => say_contradiction(x),
+        Application::Refused(number) => say_refused(number),
     }
+    after
 }
 
-// `is-true`: the truth of the first atom of a list.
-pub fn tells(session: Session, out: &mut [u8], words: &[i32]) -> Session {
-    if words.len() < 3 {
-        return session.failed(out);
+// `is-true`, `lower`, `upper` and `show`, of the first atom or variable of a list. Whether the word is one of them.
+pub fn tells(state: VariableState, word: &[u8], words: &[i32]) -> bool {
+    if has_atoms(words) && same(word, b"is-true") {
+        say_truth(state.is_true(
+            number_at(words, 0),
+            number_at(words, 1),
+            number_at(words, 2),
+        ));
+        return true;
     }
-    if words.len() % 3 != 0 {
-        return session.failed(out);
+    if words.len() == 0 {
+        return false;
     }
-    let at = session.at;
-    let state = session.state;
-    let truth = state.is_true(words[0], words[1], words[2]);
-    session.said(put_truth(out, at, truth))
+    if same(word, b"lower") {
+        say_bound(state.lower_bound(words[0]));
+        return true;
+    }
+    if same(word, b"upper") {
+        say_bound(state.upper_bound(words[0]));
+        return true;
+    }
+    if same(word, b"show") {
+        say_variable(state, place_of(number_at(words, 0)));
+        return true;
+    }
+    false
 }
 
 // The line of a truth.
-fn put_truth(out: &mut [u8], at: usize, truth: Truth) -> usize {
+fn say_truth(truth: Truth) {
     match truth {
-        Truth::True => put_line(out, at, b"true\n"),
-        Truth::False => put_line(out, at, b"false\n"),
-        Truth::Refused(number) => put_refused(out, at, number),
+        Truth::True => say(b"true\n"),
+        Truth::False => say(b"false\n"),
+        Truth::Refused(number) => say_refused(number),
     }
-}
-
-// `lower`, or `upper`.
-pub fn bounds(session: Session, out: &mut [u8], words: &[i32], lower: bool) -> Session {
-    if words.len() == 0 {
-        return session.failed(out);
-    }
-    let at = session.at;
-    let state = session.state;
-    let bound = bound_of(state, words[0], lower);
-    session.said(put_bound(out, at, bound))
 }
 
 // The line of a bound.
-fn put_bound(out: &mut [u8], at: usize, bound: Bound) -> usize {
+fn say_bound(bound: Bound) {
     match bound {
         Bound::At(x) => {
-            let start = drained(out, at);
-            let end = put_ext(out, start, x);
-            put_end(out, end)
+            say_ext(x);
+            say(b"\n");
         }
-        Bound::Refused(number) => put_refused(out, at, number),
+        Bound::Refused(number) => say_refused(number),
     }
-}
-
-// The bound that was asked for.
-fn bound_of(state: VariableState, variable: i32, lower: bool) -> Bound {
-    if lower {
-        return state.lower_bound(variable);
-    }
-    state.upper_bound(variable)
 }
 
 // A whole number or an infinity.
-fn put_ext(out: &mut [u8], at: usize, x: IntExt) -> usize {
+fn say_ext(x: IntExt) {
     match x {
-        IntExt::Int(v) => put_whole(out, at, v),
-        IntExt::NegativeInf => put(out, at, b"-inf"),
-        IntExt::PositiveInf => put(out, at, b"+inf"),
+        IntExt::Int(v) => say_whole(v),
+        IntExt::NegativeInf => say(b"-inf"),
+        IntExt::PositiveInf => say(b"+inf"),
     }
-}
-
-// The same behind a space.
-fn put_spaced_ext(out: &mut [u8], at: usize, x: IntExt) -> usize {
-    let from = put(out, at, b" ");
-    put_ext(out, from, x)
-}
-
-// `show`.
-pub fn shows(session: Session, out: &mut [u8], words: &[i32]) -> Session {
-    if words.len() == 0 {
-        return session.failed(out);
-    }
-    let at = session.at;
-    let state = session.state;
-    session.said(put_variable(out, at, state, place_of(words[0])))
 }
 
 // A variable's number, or VARIABLES where it is not known.
@@ -148,25 +120,27 @@ pub fn place_of(variable: i32) -> usize {
 }
 
 // The line of a variable: its bounds and its holes.
-fn put_variable(out: &mut [u8], at: usize, state: VariableState, x: usize) -> usize {
+fn say_variable(state: VariableState, x: usize) {
     if x >= VARIABLES {
-        return put_refused(out, at, 6);
+        return say_refused(6);
     }
     let domain = state.domains[x];
-    let a = put_line(out, at, b"var");
-    let b = put_spaced_count(out, a, x);
-    put_domain(out, b, domain)
+    say(b"var");
+    say_count(x);
+    say_domain(domain);
 }
 
 // The rest of that line.
-fn put_domain(out: &mut [u8], at: usize, domain: Domain) -> usize {
+fn say_domain(domain: Domain) {
     let lower = domain.lower_bound;
     let upper = domain.upper_bound;
     let holes = domain.holes;
     let count = domain.count;
-    let a = put_spaced_ext(out, at, lower);
-    let b = put_spaced_ext(out, a, upper);
-    put_numbers(out, b, first(&holes, count))
+    say(b" ");
+    say_ext(lower);
+    say(b" ");
+    say_ext(upper);
+    say_numbers(span(&holes, 0, count));
 }
 
 // Whether an atom of the words is on a variable.
@@ -183,55 +157,37 @@ fn mentions(words: &[i32], variable: i32) -> bool {
 }
 
 // The line of a variable, where one of the atoms is on it.
-fn put_if_mentioned(
-    out: &mut [u8],
-    at: usize,
-    state: VariableState,
-    premises: &[i32],
-    consequent: &[i32],
-    x: usize,
-) -> usize
+fn say_if_mentioned(state: VariableState, premises: &[i32], consequent: &[i32], x: usize)
     requires { ⌜ x < VARIABLES ⌝ }
 {
     let variable = word_of(x);
-    if mentions(premises, variable) {
-        return put_variable(out, at, state, x);
+    if mentions(premises, variable) || mentions(consequent, variable) {
+        say_variable(state, x);
     }
-    if mentions(consequent, variable) {
-        return put_variable(out, at, state, x);
-    }
-    at
 }
 
 // The lines of the variables that the atoms are on.
-fn put_mentioned(
-    out: &mut [u8],
-    at: usize,
-    state: VariableState,
-    premises: &[i32],
-    consequent: &[i32],
-) -> usize {
-    let mut end = at;
+fn say_mentioned(state: VariableState, premises: &[i32], consequent: &[i32]) {
     let mut x = 0;
     while x < VARIABLES {
-        end = put_if_mentioned(out, end, state, premises, consequent, x);
+        say_if_mentioned(state, premises, consequent, x);
         x += 1;
     }
-    end
 }
 
 // `prepare`: the state of the premises and the negated consequent, or the state as it was.
-pub fn prepares(session: Session, out: &mut [u8], premises: &[i32], consequent: &[i32]) -> Session {
-    let at = session.at;
-    let applied = VariableState::prepare_for_conflict_check(premises, consequent);
-    let answer = applied.answer;
-    let next = applied.state;
+pub fn prepared(state: VariableState, premises: &[i32], consequent: &[i32]) -> VariableState {
+    let next = VariableState::prepare_for_conflict_check(premises, consequent);
+    let answer = next.answer;
+    let after = next.state;
     match answer {
         Application::Consistent => {
-            let end = put_line(out, at, b"prepared\n");
-            session.stated(next, put_mentioned(out, end, next, premises, consequent))
+            say(b"prepared\n");
+            say_mentioned(after, premises, consequent);
+            return after;
         }
-        Application::Contradiction(x) => session.said(put_contradiction(out, at, x)),
-        Application::Refused(number) => session.said(put_refused(out, at, number)),
+        Application::Contradiction(x) => say_contradiction(x),
+        Application::Refused(number) => say_refused(number),
     }
+    state
 }

@@ -19,9 +19,9 @@ use Rattle.scheduling.proofs.Cards.{card, card-less, card-same}
 use Rattle.scheduling.specs.Moments.{moments, ByEarliest}
 use Rattle.integers.specs.Moments.{zeroAt}
 use Rattle.integers.specs.Orders.{index}
-use Rattle.trees.specs.Ects.{exceeds}
+use Rattle.ects.specs.Ects.{exceeds}
+use Rattle.ects.proofs.Ects.{decoded-some, decoded-cases, exceeds-decoded}
 use Rattle.trees.specs.Leaves.{Leaf, empty, white, sum, theta, inTheta, inLambda, whiteAt, grayAt, rootEct, rootEctBar, responsible, ect, ect-bar}
-use Rattle.trees.proofs.Ects.{decoded-some, decoded-cases, exceeds-decoded}
 use Rattle.runs.specs.Traces.{done, overload, emptied}
 use Rattle.runs.specs.Runs.{State, Turn, on, stop, inner, outer, run, ended, grayed, tabulate, conflict, posted, raised, dropped, lct, earliestOrder, completionOrder, propagate}
 use Rattle.trees.proofs.Roots as tree

@@ -15,8 +15,8 @@ use Rattle.integers.proofs.Bools.{bool, clash}
 use Rattle.scheduling.specs.Scheduling.{natural, Tasks, Proper, Atom}
 use Rattle.scheduling.specs.Moments.{ByEarliest, ByCompletion}
 use Rattle.scheduling.proofs.Cards.{card-most}
+use Rattle.ects.proofs.Ects.{exceeds-decoded}
 use Rattle.trees.specs.Leaves as leaves
-use Rattle.trees.proofs.Ects.{exceeds-decoded}
 use Rattle.trees.proofs.Roots as tree
 use Rattle.runs.specs.Traces.{Post}
 use Rattle.runs.specs.Runs.{State, Turn, on, stop, inner, dropped, posted, raised}

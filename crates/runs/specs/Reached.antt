@@ -5,7 +5,7 @@ use mathlib.Core.List.{List}
 use Prim.Native.Nat.{ℕ, suc}
 use Rattle.integers.specs.Orders.{index}
 use Rattle.scheduling.specs.Scheduling.{natural, Tasks}
-use Rattle.trees.specs.Ects.{exceeds}
+use Rattle.ects.specs.Ects.{exceeds}
 use Rattle.trees.specs.Leaves.{ect}
 use Rattle.runs.specs.Runs.{State, Turn, on, grayed, allWhite, candidate, lct, inner}
 

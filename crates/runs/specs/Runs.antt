@@ -13,7 +13,7 @@ use Rattle.integers.specs.Moments.{instant, zeroAt}
 use Rattle.integers.specs.Orders.{sort, index, numbers}
 use Rattle.scheduling.specs.Scheduling.{natural, Tasks, tasksOf, completion, Atom}
 use Rattle.scheduling.specs.Moments.{moments}
-use Rattle.trees.specs.Ects.{exceeds}
+use Rattle.ects.specs.Ects.{exceeds}
 use Rattle.trees.specs.Leaves.{Leaf, empty, white, gray, taskAt, ect, ect-bar, sum, responsible, theta}
 use Rattle.runs.specs.Traces.{Post, End, done, overload, emptied, Trace}
 

@@ -14,8 +14,8 @@ use Rattle.integers.specs.Filling.{filled}
 use Rattle.integers.specs.Tests.{refusal}
 use Rattle.integers.proofs.Filling.{filled-at, filled-length}
 use Rattle.scheduling.proofs.Sets.{total-none}
+use Rattle.sorts.specs.Orders.{noTasks}
 use Rattle.records.specs.declared.record.Propagator.{Propagator}
-use Rattle.records.specs.Orders.{noTasks}
 use Rattle.records.specs.Records.{Lawful, recordOf, durationOf, durationAt, creationTests, newRecord, createdAt, created}
 use Rattle.records.specs.declared.record.Created.{Created}
 use Rattle.records.proofs.Creation.{created-lawful, created-new, natural-accepted}

@@ -1,4 +1,3 @@
-pub mod Ects
 pub mod Heights
 pub mod Wiring
 pub mod Storage

@@ -28,7 +28,7 @@ use Rattle.trees.specs.Bounds.{LATEST}
 use Rattle.trees.specs.Searches.{searchP}
 use Rattle.trees.specs.Leaves as leaves
 use Rattle.trees.specs.Leaves.{Leaf, empty, inTheta, inLambda, whiteAt, grayAt, taskAt, startAt, durationAt, Limited}
-use Rattle.trees.proofs.Ects.{decoded-none, decoded-some, some-or-none, one-moment}
+use Rattle.ects.proofs.Ects.{decoded-none, decoded-some, some-or-none, one-moment}
 use Rattle.trees.proofs.Heights.{enough}
 use Rattle.trees.proofs.Overs.{Holds, over-holds}
 use Rattle.trees.proofs.Thetas.{theta-in, theta-from, theta-distinct}

@@ -12,7 +12,7 @@ use Rattle.integers.proofs.Filling.{getD-fresh}
 use Rattle.scheduling.specs.Scheduling.{natural, Tasks}
 use Rattle.trees.specs.declared.theta_lambda_tree.Node.{Node}
 use Rattle.trees.specs.declared.theta_tree.Node as plain
-use Rattle.trees.specs.Ects.{decoded}
+use Rattle.ects.specs.Ects.{decoded}
 use Rattle.trees.specs.Shapes.{width, heightFor, changed, leavesOf, nodeOver, TreeOf}
 use Rattle.trees.specs.Nodes.{joinOf, plainOf, plainJoinOf}
 use Rattle.trees.specs.Words.{nodeAt, plainAt, ectIn, ectBarIn, plainEctIn}

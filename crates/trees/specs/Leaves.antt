@@ -9,7 +9,7 @@ use Rattle.integers.specs.Limits.{TASKS, DURATIONS, THETAWORDS, TREEWORDS}
 use Rattle.scheduling.specs.Scheduling.{natural, Tasks, total}
 use Rattle.trees.specs.declared.theta_lambda_tree.Node.{Node}
 use Rattle.trees.specs.declared.theta_tree.Node as plain
-use Rattle.trees.specs.Ects.{decoded}
+use Rattle.ects.specs.Ects.{decoded}
 use Rattle.trees.specs.Shapes.{width, heightFor, nodeOver, TreeOf}
 use Rattle.trees.specs.Nodes.{emptyOf, whiteOf, grayOf, joinOf, plainEmptyOf, plainOf, plainJoinOf}
 use Rattle.trees.specs.Words.{nodeAt, plainAt}

@@ -1,4 +1,3 @@
-pub mod Ects
 pub mod Shapes
 pub mod Nodes
 pub mod Words

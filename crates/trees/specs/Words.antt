@@ -5,7 +5,7 @@ use Prim.Native.Nat.{ℕ, _+_, _*_}
 use lib.ListN.{getD}
 use Rattle.trees.specs.declared.theta_lambda_tree.Node.{Node}
 use Rattle.trees.specs.declared.theta_tree.Node as plain
-use Rattle.trees.specs.Ects.{decoded}
+use Rattle.ects.specs.Ects.{decoded}
 
 -- the i-th node of the words
 abbrev pub nodeAt : List ℕ → ℕ → Node

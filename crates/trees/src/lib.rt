@@ -1,6 +1,5 @@
 // The theta tree and the theta-lambda tree of the disjunctive propagator: complete binary trees over the tasks in order of earliest start.
 pub mod complete_tree;
 pub mod disjunctive_task;
-pub mod earliest_completion;
 pub mod theta_lambda_tree;
 pub mod theta_tree;

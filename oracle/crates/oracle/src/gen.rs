@@ -1,6 +1,6 @@
 //! Random instances and vectors, the same for the same seed.
 use crate::api::*;
-use crate::cli::Session;
+use crate::cli::{Session, mirrored, mirrored_back};
 use crate::judge::Task;
 use crate::rng::Rng;
 
@@ -133,6 +133,28 @@ pub fn holes_for(rng: &mut Rng, tasks: &[Task]) -> Vec<Vec<i32>> {
         .collect()
 }
 
+/// Barred starts where a run, or a mirrored pass, comes to them: a stretch from each bound on, or back from it, now and then with a gap.
+pub fn holes_met(rng: &mut Rng, tasks: &[Task], p: &[i64]) -> Vec<Vec<i32>> {
+    let d: Vec<i32> = p.iter().map(|x| *x as i32).collect();
+    let there = Machine::create(&d).run(ranges(&pairs(tasks), &[]));
+    let (m, none) = mirrored(&pairs(tasks), &[], &d);
+    let back = mirrored_back(&Machine::create(&d).run(ranges(&m, &none)), &d);
+    let mut holes = vec![Vec::new(); tasks.len()];
+    for (o, step) in [(&there, 1), (&back, -1)] {
+        for (task, bound, _) in &o.posts {
+            let long = [1, 1, 2, 5, 8][rng.to(0, 4) as usize];
+            holes[*task].extend((0..long).map(|k| bound + step * k).filter(|_| !rng.one_in(8)));
+        }
+    }
+    for (h, t) in holes.iter_mut().zip(tasks) {
+        h.retain(|v| *v as i64 != t.e && *v as i64 != t.l);
+        h.sort();
+        h.dedup();
+        h.truncate(16);
+    }
+    holes
+}
+
 pub fn gen_runs(seed: u64, count: usize, nmax: i64, spread: i64, what: &str) {
     let mut rng = Rng(seed);
     let mut made = 0;
@@ -146,8 +168,9 @@ pub fn gen_runs(seed: u64, count: usize, nmax: i64, spread: i64, what: &str) {
             let tasks = ranges_for(&mut rng, &p, spread);
             let mut line: String = if what == "mirror" { "mirror" } else { "run" }.into();
             line.extend(tasks.iter().map(|t| format!(" {} {}", t.e, t.l)));
-            if what == "barred" {
-                for (k, h) in holes_for(&mut rng, &tasks).iter().enumerate() {
+            if what == "barred" || what == "met" {
+                let holes = if what == "met" { holes_met(&mut rng, &tasks, &p) } else { holes_for(&mut rng, &tasks) };
+                for (k, h) in holes.iter().enumerate() {
                     if !h.is_empty() {
                         line.push_str(&format!(" ; {k}"));
                         line.extend(h.iter().map(|v| format!(" {v}")));

@@ -39,6 +39,7 @@ fn main() {
         Some("gen-runs") => r#gen::gen_runs(seed, count, nmax, spread, "runs"),
         Some("gen-mirror") => r#gen::gen_runs(seed, count, nmax, spread, "mirror"),
         Some("gen-barred") => r#gen::gen_runs(seed, count, nmax, spread, "barred"),
+        Some("gen-met") => r#gen::gen_runs(seed, count, nmax, spread, "met"),
         Some("gen-quick") => r#gen::gen_runs(seed, count, nmax, spread, "quick"),
         Some("gen-checks") => r#gen::gen_checks(seed, count, nmax, spread),
         Some("gen-kinds") => r#gen::gen_kinds(seed, count, nmax, spread),

@@ -10,7 +10,7 @@ use borrow.Author.Tests.{not-true, not-false}
 use Rattle.integers.specs.Limits.{TASKS}
 use Rattle.scheduling.specs.Scheduling.{natural, Tasks, TaskSet}
 use Rattle.checker.specs.Formulas.{_but_}
-use Rattle.trees.specs.Ects.{momentOf}
+use Rattle.ects.specs.Ects.{momentOf}
 use Rattle.chosen_sets.specs.TaskArrays.{Held}
 use Rattle.checker.specs.CheckArrays.{Bounding}
 use Rattle.checker.proofs.Judging.{none-after, joint-fits, room-before, after-where, others-held}

@@ -3,7 +3,7 @@
 use mathlib.Core.Path.{_∙_}
 use borrow.Author.Needs.{needs}
 use Rattle.scheduling.specs.Scheduling.{natural, Tasks, TaskSet}
-use Rattle.records.proofs.Sorted.{sorted-permutes}
+use Rattle.sorts.proofs.Sorted.{sorted-permutes}
 use Rattle.chosen_sets.specs.Colouring.{Colourable}
 use Rattle.chosen_sets.specs.TaskArrays.{Held}
 use Rattle.chosen_sets.proofs.Colouring.{colourable, root-ect}

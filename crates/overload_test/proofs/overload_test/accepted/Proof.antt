@@ -4,7 +4,7 @@ use mathlib.Core.Path.{_≡_}
 use lib.ListN.{length}
 use borrow.Author.Needs.{needs}
 use Rattle.integers.specs.Limits.{TASKS}
-use Rattle.records.proofs.Sorted.{sorted-permutes}
+use Rattle.sorts.proofs.Sorted.{sorted-permutes}
 use Rattle.overload_test.specs.Readable.{Readable}
 use Rattle.overload_test.proofs.Adding.{keys-small, readable}
 use Rattle.overload_test.proofs.overload_test.accepted.Statement.{statement}

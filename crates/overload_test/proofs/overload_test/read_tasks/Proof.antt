@@ -7,7 +7,7 @@ use native.Mathlib.Omega.{arith}
 use lib.ListN.{getD}
 use borrow.Author.Needs.{needs}
 use Rattle.integers.specs.Limits.{TASKS}
-use Rattle.trees.specs.Ects.{momentOf}
+use Rattle.ects.specs.Ects.{momentOf}
 use Rattle.overload_test.specs.Readable.{Readable}
 use Rattle.overload_test.specs.Reading.{overloadsAt, answerFrom, answerOf}
 use Rattle.overload_test.proofs.Adding.{Shows, none-shown, all-answer, task-known, may-add, was-added, test-is}

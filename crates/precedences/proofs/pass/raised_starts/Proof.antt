@@ -6,8 +6,8 @@ use Prim.Native.Nat.{ℕ, _-_, _≤_, _<_}
 use native.Mathlib.Omega.{arith}
 use Rattle.integers.specs.Filling.{filled}
 use Rattle.integers.proofs.Filling.{filled-none, filled-store}
-use Rattle.records.specs.Orders.{noTasks}
-use Rattle.trees.specs.Ects.{raisedTo}
+use Rattle.sorts.specs.Orders.{noTasks}
+use Rattle.ects.specs.Ects.{raisedTo}
 use Rattle.precedences.specs.TaskArrays.{raisedAt, Ranged}
 use borrow.Author.Needs.{needs}
 use Rattle.precedences.proofs.pass.raised_starts.Statement.{statement}

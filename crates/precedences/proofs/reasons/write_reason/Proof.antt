@@ -9,7 +9,7 @@ use lib.IntN.{ℤ, pos}
 use lib.ListN.{length, getD}
 use lib.Seq.{sets, length-sets}
 use Rattle.integers.specs.Moments.{instant, zeroAt}
-use Rattle.trees.specs.Ects.{momentOf, exceeds}
+use Rattle.ects.specs.Ects.{momentOf, exceeds}
 use Rattle.precedences.specs.TaskArrays.{comesBefore, boundAt, Ranged}
 use Rattle.precedences.proofs.Ranging.{end-fits, chosen}
 use Rattle.precedences.proofs.Explaining.{members-fit, reason-left, nothing-left}

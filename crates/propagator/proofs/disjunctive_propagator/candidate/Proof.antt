@@ -5,7 +5,7 @@ use mathlib.Core.Option.{Option}
 use Prim.Native.Nat.{ℕ}
 use borrow.Author.Needs.{needs}
 use borrow.Author.Tests.{not-true, not-false}
-use Rattle.trees.specs.Ects.{exceeds}
+use Rattle.ects.specs.Ects.{exceeds}
 use Rattle.trees.specs.Words.{ectBarIn}
 use Rattle.propagator.proofs.Posting.{candidate-none, candidate-some}
 use Rattle.propagator.proofs.disjunctive_propagator.candidate.Statement.{statement}

@@ -9,10 +9,10 @@ use borrow.Author.Needs.{needs}
 use Rattle.integers.specs.Limits.{TASKS}
 use Rattle.integers.proofs.Ints.{back-of}
 use mir.Syntax.{w32}
+use Rattle.ects.proofs.Ects.{raised-word, kept-word}
 use Rattle.trees.specs.Nodes.{emptyOf}
 use Rattle.trees.specs.Puts.{Puttable, Put}
 use Rattle.trees.specs.Words.{nodeAt}
-use Rattle.trees.proofs.Ects.{raised-word, kept-word}
 use Rattle.propagator.specs.Turns.{Standing, Responsible-for}
 use Rattle.propagator.proofs.Considering.{few, inner-few, few-changes, known, post-room, many-atoms, start-inside, may-clear, asked, emptied, raised-on, passed-on}
 use Rattle.propagator.proofs.disjunctive_propagator.consider.Statement.{statement}

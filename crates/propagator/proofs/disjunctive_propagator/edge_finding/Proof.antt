@@ -9,8 +9,8 @@ use lib.ListN.{length, getD}
 use borrow.Author.Needs.{needs}
 use borrow.Author.Tests.{ltb-true, ltb-false}
 use Rattle.integers.specs.Limits.{TASKS}
+use Rattle.ects.proofs.Ects.{exceeds-decoded}
 use Rattle.trees.specs.Words.{nodeAt}
-use Rattle.trees.proofs.Ects.{exceeds-decoded}
 use Rattle.propagator.specs.declared.disjunctive_propagator.Turn.{Turn}
 use Rattle.propagator.specs.declared.disjunctive_propagator.Written.{Written}
 use Rattle.propagator.specs.Turns.{AllConsidered}

@@ -4,7 +4,7 @@ use mathlib.Core.Path.{ap, _∙_}
 use mathlib.Core.Option.{Option}
 use Prim.Native.Nat.{ℕ}
 use borrow.Author.Needs.{needs}
-use Rattle.trees.specs.Ects.{exceeds}
+use Rattle.ects.specs.Ects.{exceeds}
 use Rattle.propagator.proofs.disjunctive_propagator.overloads.Statement.{statement}
 use Rattle.propagator.proofs.disjunctive_propagator.overloads.Tie as tie
 

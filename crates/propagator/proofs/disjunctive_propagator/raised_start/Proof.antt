@@ -4,7 +4,7 @@ use mathlib.Core.Path.{ap, _∙_}
 use mathlib.Core.Option.{Option}
 use Prim.Native.Nat.{ℕ}
 use borrow.Author.Needs.{needs}
-use Rattle.trees.specs.Ects.{raisedTo}
+use Rattle.ects.specs.Ects.{raisedTo}
 use Rattle.propagator.proofs.disjunctive_propagator.raised_start.Statement.{statement}
 use Rattle.propagator.proofs.disjunctive_propagator.raised_start.Tie as tie
 

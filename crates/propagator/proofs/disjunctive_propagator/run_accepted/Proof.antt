@@ -6,7 +6,7 @@ use Prim.Native.Nat.{ℕ}
 use lib.ListN.{length, replicate}
 use borrow.Author.Needs.{needs}
 use Rattle.integers.specs.Limits.{TASKS}
-use Rattle.records.proofs.Sorted.{sorted-permutes}
+use Rattle.sorts.proofs.Sorted.{sorted-permutes}
 use Rattle.propagator.specs.Filling.{Fillable, Filled}
 use Rattle.propagator.specs.Finding.{Begun}
 use Rattle.propagator.proofs.Beginning.{key-small, keys-small, latest, fillable, begun, left}

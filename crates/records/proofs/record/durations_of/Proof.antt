@@ -9,7 +9,7 @@ use mir.Syntax.{w32}
 use Rattle.integers.specs.Filling.{filled}
 use Rattle.integers.proofs.Filling.{filled-none, filled-store, filled-length}
 use Rattle.integers.proofs.Ints.{back-of}
-use Rattle.records.specs.Orders.{noTasks}
+use Rattle.sorts.specs.Orders.{noTasks}
 use Rattle.records.specs.Records.{durationOf, durationAt}
 use Rattle.records.proofs.record.durations_of.Statement.{statement}
 use Rattle.records.proofs.record.durations_of.Tie as tie

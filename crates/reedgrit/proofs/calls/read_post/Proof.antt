@@ -6,7 +6,7 @@ use lib.IntN.{pos, natAbs}
 use lib.ListN.{getD}
 use mir.Syntax.{w32}
 use Rattle.integers.proofs.Ints.{back-of}
-use Rattle.records.specs.Posts.{firstAtom, atomCount}
+use Rattle.post_words.specs.Posts.{firstAtom, atomCount}
 use Rattle.reedgrit.proofs.Reading.{same-post}
 use borrow.Author.Needs.{needs}
 use Rattle.reedgrit.proofs.calls.read_post.Statement.{statement}

@@ -2,7 +2,7 @@
 -- Assumes nothing.
 use mathlib.Core.Path.{sym, _∙_}
 use borrow.Author.Needs.{needs}
-use Rattle.records.proofs.Reading.{readable}
+use Rattle.post_words.proofs.Reading.{readable}
 use Rattle.reedgrit.proofs.Reading.{turned-back, read}
 use Rattle.reedgrit.proofs.calls.reedgrit_post.Statement.{statement}
 use Rattle.reedgrit.proofs.calls.reedgrit_post.Tie as tie

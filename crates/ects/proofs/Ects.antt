@@ -1,0 +1,103 @@
+-- The answer none or a moment: what a node's word codes, when an ect is past a moment, and a start raised to one.
+-- Assumes nothing.
+use mathlib.Core.Path.{_≡_, refl, sym, ap, _∙_}
+use mathlib.Core.Bool.{Bool, true, false}
+use mathlib.Core.Logic.{_⊎_, inl, inr}
+use mathlib.Core.Option.{Option, some, none}
+use Prim.Native.Nat.{ℕ, zero, suc, _≤_, _<_}
+use native.Mathlib.Omega.{arith}
+use native.Mathlib.Decide.{decLe}
+use lib.Dec.{ltb}
+use borrow.Author.Tests.{ltb-true, ltb-false, lt-ltb, le-ltb}
+use Rattle.integers.proofs.Bools.{clash}
+use Rattle.ects.specs.Ects.{decoded, exceeds, raisedTo}
+
+-- The coding -------------------------------------------------------------------------------------------------------------------
+
+pub decoded-none : (v : ℕ) → v ≡ 0 → decoded v ≡ none
+unfolding decoded
+decoded-none v z = rw z refl
+
+pub decoded-some : (v : ℕ) → 1 ≤ v → decoded v ≡ some v
+unfolding decoded
+decoded-some zero q = absurd (omega arith)
+decoded-some (suc v) q = refl
+
+pub decoded-cases : (v : ℕ) → (decoded v ≡ none) ⊎ (decoded v ≡ some v)
+unfolding decoded
+decoded-cases zero = inl refl
+decoded-cases (suc v) = inr refl
+
+-- a word is past the same moments as the ect that it codes
+pub exceeds-decoded : (v m : ℕ) → exceeds (decoded v) m ≡ ltb m v
+unfolding decoded
+exceeds-decoded zero m = sym (le-ltb m 0 (omega arith))
+exceeds-decoded (suc v) m = refl
+
+-- Past a moment ----------------------------------------------------------------------------------------------------------------
+
+abbrev isSome : Option ℕ → Bool
+isSome none = false
+isSome (some v) = true
+
+abbrev theMoment : ℕ → Option ℕ → ℕ
+theMoment v none = v
+theMoment v (some w) = w
+
+-- an answer is not both
+pub some-or-none : {X : Type 0} {o : Option ℕ} {v : ℕ} → o ≡ some v → o ≡ none → X
+some-or-none z y = clash (ap isSome (sym y ∙ z)) refl
+
+pub one-moment : {o : Option ℕ} {v w : ℕ} → o ≡ some v → o ≡ some w → v ≡ w
+one-moment {v = v} z y = ap (theMoment v) (sym z ∙ y)
+
+-- an ect past a moment is that of some task
+pub exceeds-yes : (o : Option ℕ) (m : ℕ) → exceeds o m ≡ true → (v : ℕ) × (o ≡ some v) × (m < v)
+exceeds-yes none m y = clash y refl
+exceeds-yes (some v) m y = (v, refl, ltb-true m v y)
+
+pub some-exceeds : (o : Option ℕ) (v m : ℕ) → o ≡ some v → m < v → exceeds o m ≡ true
+some-exceeds o v m z q = rw z (lt-ltb m v q)
+
+pub some-within : (o : Option ℕ) (v m : ℕ) → o ≡ some v → exceeds o m ≡ false → v ≤ m
+some-within o v m z y = elim (decLe v m) [ yes q ↦ q | no q ↦ clash (some-exceeds o v m z (omega arith)) y ]
+
+pub none-within : (o : Option ℕ) (m : ℕ) → o ≡ none → exceeds o m ≡ false
+none-within o m z = rw z refl
+
+-- Raising a start --------------------------------------------------------------------------------------------------------------
+
+pub raised-from : (start : ℕ) (o : Option ℕ) → start ≤ raisedTo start o
+raised-from start none = omega arith
+raised-from start (some v) = omega arith
+
+pub raised-bound : (start : ℕ) (o : Option ℕ) (v : ℕ) → o ≡ some v → v ≤ raisedTo start o
+raised-bound start o v z = rw z (omega arith)
+
+-- to the ect exactly where that is later
+pub raised-up : (start : ℕ) (o : Option ℕ) (v : ℕ) → o ≡ some v → start < v → raisedTo start o ≡ v
+raised-up start o v z q = rw z (omega arith)
+
+pub raised-not : (start : ℕ) (o : Option ℕ) → exceeds o start ≡ false → raisedTo start o ≡ start
+raised-not start none y = refl
+raised-not start (some v) y = omega (arith, ltb-false start v y)
+
+-- past a moment that the start is not past, exactly where the ect is
+pub past-by-bound : (start m : ℕ) (o : Option ℕ) → start ≤ m → m < raisedTo start o → exceeds o m ≡ true
+past-by-bound start m none q r = absurd (omega arith)
+past-by-bound start m (some v) q r = lt-ltb m v (omega arith)
+
+pub within-bound : (start m : ℕ) (o : Option ℕ) → raisedTo start o ≤ m → exceeds o m ≡ false
+within-bound start m none r = refl
+within-bound start m (some v) r = le-ltb m v (omega arith)
+
+-- by the ect that a word codes
+pub raised-word : (start w b : ℕ) → b ≡ raisedTo start (decoded w) → start < b → b ≡ w
+unfolding decoded
+raised-word start zero b z q = absurd (omega arith)
+raised-word start (suc w) b z q = omega arith
+
+pub kept-word : (start w b : ℕ) → b ≡ raisedTo start (decoded w) → b ≤ start → w ≤ start
+unfolding decoded
+kept-word start zero b z q = omega arith
+kept-word start (suc w) b z q = omega arith

@@ -1,0 +1,23 @@
+-- `ects::earliest_completion::Ect::exceeds` meets its contract.
+-- Assumes nothing.
+use mathlib.Core.Path.{sym, ap}
+use borrow.Author.Needs.{needs}
+use Rattle.ects.specs.declared.earliest_completion.Ect.{Ect}
+use Rattle.ects.specs.Ects.{momentOf, exceeds}
+use Rattle.ects.proofs.earliest_completion.Ect.exceeds.Statement.{statement}
+use Rattle.ects.proofs.earliest_completion.Ect.exceeds.Tie as tie
+
+enum-told : tie.Need-enum-told
+enum-told c = search needs
+
+enum-known-self : tie.Need-enum-known-self
+enum-known-self c = search needs
+
+returns : tie.Need-returns
+returns c = search needs
+
+returns-2 : tie.Need-returns-2
+returns-2 c = sym (ap (λ (e : Ect). exceeds (momentOf e) (c .before .before .before .args .moment)) (c .before .self .given .1))
+
+pub exceeds-spec : {M : Type 1} → statement M
+exceeds-spec = tie.close (tie.spec enum-told enum-known-self returns returns-2)

@@ -1,0 +1,58 @@
+-- Posts and atoms as words, and the post reader: what belongs to a post of a run, read from its words alone.
+use mathlib.Core.Bool.{true, false}
+use mathlib.Core.List.{List, [], _∷_}
+use Prim.Native.Nat.{ℕ, _+_, _*_, _≤_, _<_}
+use lib.Dec.{leb, ltb, eqb}
+use lib.IntN.{ℤ, pos, natAbs}
+use lib.Signed.{leZ, _≤ℤ_}
+use lib.ListN.{length, getD, take, drop}
+use Rattle.integers.specs.Tests.{Test, test, refusal}
+
+-- A post is four words: task, bound, first atom's index, atom count.
+abbrev pub taskOf : List ℤ → ℕ → ℕ
+taskOf posts index = natAbs (getD posts (4 * index) (pos 0))
+
+abbrev pub boundOf : List ℤ → ℕ → ℤ
+boundOf posts index = getD posts (4 * index + 1) (pos 0)
+
+abbrev pub firstAtom : List ℤ → ℕ → ℤ
+firstAtom posts index = getD posts (4 * index + 2) (pos 0)
+
+abbrev pub atomCount : List ℤ → ℕ → ℤ
+atomCount posts index = getD posts (4 * index + 3) (pos 0)
+
+-- an atom is three words, so the stretch is words 3f to 3(f + c): its start and its length
+abbrev pub stretchStart : List ℤ → ℕ → ℕ
+stretchStart posts index = 3 * natAbs (firstAtom posts index)
+
+abbrev pub stretchLength : List ℤ → ℕ → ℕ
+stretchLength posts index = 3 * natAbs (atomCount posts index)
+
+-- 11: an index that is not below the post count, a post that is not inside its slice, a stretch that is not inside its own
+abbrev pub postTests : List ℤ → List ℤ → ℕ → ℕ → List Test
+postTests posts atoms count index =
+    test 11 (ltb index count)
+    ∷ test 11 (leb (4 * index + 4) (length posts))
+    ∷ test 11 (leZ (pos 0) (firstAtom posts index))
+    ∷ test 11 (leZ (pos 0) (atomCount posts index))
+    ∷ test 11 (leb (stretchStart posts index + stretchLength posts index) (length atoms))
+    ∷ []
+
+abbrev pub postNumber : List ℤ → List ℤ → ℕ → ℕ → ℕ
+postNumber posts atoms count index = refusal (postTests posts atoms count index)
+
+-- the words of the stretch; none where the number is 11
+unfoldable pub reasonWords : List ℤ → List ℤ → ℕ → ℕ → List ℤ
+reasonWords posts atoms count index =
+    elim (eqb (postNumber posts atoms count index) 0) [
+      | true ↦ take (stretchLength posts index) (drop (stretchStart posts index) atoms)
+      | false ↦ []
+    ]
+
+-- A post that the reader accepts.
+pub record Readable (posts atoms : List ℤ) (count index : ℕ) : Type 0 where
+  pub counted : index < count
+  pub inside : 4 * index + 4 ≤ length posts
+  pub from : pos 0 ≤ℤ firstAtom posts index
+  pub many : pos 0 ≤ℤ atomCount posts index
+  pub stretch : stretchStart posts index + stretchLength posts index ≤ length atoms

@@ -1,0 +1,2 @@
+// Posts and atoms as words: where each stands, and the post reader.
+pub mod posts;
