@@ -19,9 +19,9 @@ use Rattle.checker.specs.declared.checker.Verdict.{Verdict}
 use Rattle.checker.specs.declared.checker.Verdict.the-variants as verdict
 use Rattle.checker.specs.Verdicts.{verdictNumbers}
 use Rattle.checker.proofs.Apart.{verdicts-apart}
-use Rattle.propagator.specs.declared.disjunctive_propagator.Outcome.{Outcome}
-use Rattle.propagator.specs.declared.disjunctive_propagator.Outcome.the-variants as outcome
-use Rattle.propagator.specs.Outcomes.{outcomeNumbers}
+use Rattle.levels.specs.declared.outcome.Outcome.{Outcome}
+use Rattle.levels.specs.declared.outcome.Outcome.the-variants as outcome
+use Rattle.levels.specs.Outcomes.{outcomeNumbers}
 use Rattle.propagator.proofs.Answering.{outcomes-apart}
 use Rattle.answers.specs.declared.call_answers.RunAnswer.{RunAnswer}
 use Rattle.answers.specs.declared.call_answers.CheckAnswer.{CheckAnswer}

@@ -23,9 +23,9 @@ use Rattle.precedences.specs.declared.answers.Precedences.the-variants as pass
 use Rattle.precedences.specs.declared.answers.Reason.{Reason}
 use Rattle.precedences.specs.declared.answers.Reason.the-variants as reason
 use Rattle.precedences.specs.Numbers.{precedencesNumbers, reasonNumbers}
-use Rattle.propagator.specs.declared.disjunctive_propagator.Outcome.{Outcome}
-use Rattle.propagator.specs.declared.disjunctive_propagator.Outcome.the-variants as outcome
-use Rattle.propagator.specs.Outcomes.{outcomeNumbers}
+use Rattle.levels.specs.declared.outcome.Outcome.{Outcome}
+use Rattle.levels.specs.declared.outcome.Outcome.the-variants as outcome
+use Rattle.levels.specs.Outcomes.{outcomeNumbers}
 use Rattle.busiest_stretch.specs.declared.answer.Busiest.{Busiest}
 use Rattle.busiest_stretch.specs.declared.answer.Busiest.the-variants as busiest
 use Rattle.busiest_stretch.specs.Numbers.{busiestNumbers}

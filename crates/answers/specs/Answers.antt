@@ -9,8 +9,8 @@ use Rattle.integers.specs.Answers.{Answer}
 use Rattle.checking.specs.declared.variable_state.Application.{Application}
 use Rattle.checking.specs.declared.variable_state.Application.the-variants as application
 use Rattle.checking.specs.Answers.{applicationNumbers}
-use Rattle.propagator.specs.declared.disjunctive_propagator.Outcome.{Outcome}
-use Rattle.propagator.specs.Outcomes.{valueOf}
+use Rattle.levels.specs.declared.outcome.Outcome.{Outcome}
+use Rattle.levels.specs.Outcomes.{valueOf}
 use Rattle.answers.specs.declared.call_answers.RunAnswer.{RunAnswer}
 use Rattle.answers.specs.declared.call_answers.CheckAnswer.{CheckAnswer}
 use Rattle.answers.specs.declared.call_answers.StateAnswer.{StateAnswer}
@@ -22,7 +22,7 @@ valueAt k a = getD (a .values) k (pos 0)
 abbrev pub natAt : ℕ → Answer → ℕ
 natAt k a = natAbs (valueAt k a)
 
--- An overload's reason is told in words, as a post's is: an atom is three. So many there must be room for.
+-- An overload's reason is told in words, as a post's is, and an atom has three: a usize counts those up to its end.
 abbrev pub ToldInWords : Outcome → Type 0
 ToldInWords o = 3 * valueOf o 1 + 3 * valueOf o 2 < 2 ^ 64
 

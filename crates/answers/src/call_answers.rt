@@ -4,8 +4,8 @@ use checking::variable_state::Application;
 use checking::variable_state::Bound;
 use checking::variable_state::Truth;
 use domains::int_ext::IntExt;
-use propagator::disjunctive_propagator::Finished;
-use propagator::disjunctive_propagator::Outcome;
+use levels::outcome::Finished;
+use levels::outcome::Outcome;
 use records::record::Creation;
 use records::record::Propagator;
 ghost use mathlib.Core.Path.{_≡_};
@@ -15,7 +15,7 @@ ghost use Rattle.integers.specs.Answers.{answered, refusedBy};
 ghost use Rattle.records.specs.Records.{creationNumber};
 ghost use Rattle.checking.specs.Answers.{truthNumbers, extNumbers, boundNumbers};
 ghost use Rattle.checker.specs.Verdicts.{verdictNumbers};
-ghost use Rattle.propagator.specs.Outcomes.{outcomeNumbers};
+ghost use Rattle.levels.specs.Outcomes.{outcomeNumbers};
 ghost use Rattle.answers.specs.Answers.{ToldInWords, runAnswer, checkAnswer, stateAnswer, askedAt};
 
 // A new record, and the number that turned its durations back, or 0.
@@ -76,7 +76,7 @@ pub fn creation_number(answer: Creation) -> u32
     }
 }
 
-// The numbers of a run's outcome, and its leaf changes. The atoms are inside a slice, so that the words are counted without overflow.
+// The numbers of a run's outcome, and its leaf changes. An outcome alone does not say that its words can be counted; the run's promise does.
 pub fn finished_numbers(finished: Finished) -> RunAnswer
     requires { ⌜ ToldInWords (finished .outcome) ⌝ }
     ensures { λ r. ⌜ r ≡ runAnswer (outcomeNumbers (finished .outcome)) (finished .changes) ⌝ }

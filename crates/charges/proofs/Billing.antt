@@ -44,13 +44,13 @@ module _ (r : Propagator) (es ls due : List ℤ) where
       count = a .schedule .counts .earliest
 
       long : length noTasks ≡ TASKS
-      long = length-replicate {A = ℕ} 48 0
+      long = length-replicate {A = ℕ} TASKS 0
 
       right : BillRight r es due b
       right = record {
         long = ap length (s .charges) ∙ filled-length f (length es) noTasks ∙ long;
         charge = λ k q. ap (λ (l : List ℕ). getD l k 0) (s .charges) ∙ filled-at f (length es) noTasks 0 k (omega (arith, count)) (omega (arith, count, long, a .schedule .lawful .few));
-        unused = λ k q. ap (λ (l : List ℕ). getD l k 0) (s .charges) ∙ filled-past f (length es) noTasks 0 k (omega (arith, count)) ∙ getD-fresh 0 48 k;
+        unused = λ k q. ap (λ (l : List ℕ). getD l k 0) (s .charges) ∙ filled-past f (length es) noTasks 0 k (omega (arith, count)) ∙ getD-fresh 0 TASKS k;
         total = s .sum ∙ ap (total f) count;
       }
 

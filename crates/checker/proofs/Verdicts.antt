@@ -35,7 +35,6 @@ use Rattle.checking.specs.declared.start_bounds.Bounds.{Bounds}
 use Rattle.checker.specs.Formulas.{known, valueOf, bounded, tasks, _but_, overloadsSpan, comesAfter, overloaded, implied}
 use Rattle.checker.specs.Checks.{finite, lowerIn, upperIn, verdict, judgedBy, tasksWith}
 use Rattle.checker.specs.MirroredChecks.{mirrorIfAny, lowerAs, upperAs}
-use Rattle.chosen_sets.specs.TaskArrays.{Held, Late}
 use Rattle.checking.specs.TaskBounds.{boundsBetween, knownAt, estAt, lstAt, boundsOf}
 use Rattle.checker.specs.CheckArrays.{mirroredMoment, mirroredBounds, Judgeable, Consequent}
 use Rattle.checker.proofs.Formulas.{moments-proper}

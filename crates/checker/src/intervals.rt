@@ -2,7 +2,7 @@
 // duration sum. Moments are of 32 bits, and sums of them are formed in 64.
 use integers::limits::TASKS;
 ghost use mathlib.Core.Path.{_≡_};
-ghost use Prim.Native.Nat.{ℕ, _+_, _≤_, _^_, _<_, min, max};
+ghost use Prim.Native.Nat.{_+_, _^_, _<_, min, max};
 ghost use Rattle.scheduling.specs.Scheduling.{natural, Tasks, TaskSet};
 ghost use Rattle.chosen_sets.specs.TaskArrays.{Held, Late};
 ghost use Rattle.checker.specs.CheckArrays.{gathered, intervalOf};

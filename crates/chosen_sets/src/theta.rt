@@ -9,7 +9,6 @@ use trees::disjunctive_task::LocalId;
 use trees::disjunctive_task::task_of;
 use trees::theta_tree::ThetaTree;
 ghost use mathlib.Core.Path.{_≡_};
-ghost use Prim.Native.Nat.{ℕ};
 ghost use Rattle.scheduling.specs.Scheduling.{natural, Tasks, TaskSet};
 ghost use Rattle.ects.specs.Ects.{momentOf};
 ghost use Rattle.chosen_sets.specs.Colouring.{Takes, Took, Colourable, Coloured};

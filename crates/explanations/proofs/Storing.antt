@@ -5,16 +5,15 @@ use mathlib.Core.Bool.{Bool}
 use mathlib.Core.List.{List, [], _∷_, _++_}
 use Prim.Native.Nat.{ℕ, suc, _+_, _-_, _*_, _^_, _≤_, _<_, min}
 use native.Mathlib.Omega.{arith}
-use native.Mathlib.Numerals.{add-one}
 use native.Mathlib.Decide.{decLt}
 use lib.IntN.{ℤ, pos}
-use lib.ListN.{length, getD, take, drop, length-append, length-take, length-drop}
-use lib.Seq.{sets, length-sets, drop-cons, drop-drop, drop-length, getD-drop}
+use lib.ListN.{length, getD, length-append, length-take, length-drop}
+use lib.Seq.{sets, length-sets, drop-drop, getD-drop}
 use Rattle.integers.specs.Moments.{instant, zeroAt}
 use Rattle.scheduling.specs.Scheduling.{Atom}
 use Rattle.runs.specs.Runs.{atLeast, within, conflict, conflict-of, bounds, propagation}
 use Rattle.scheduling.specs.Words.{atomWords}
-use Rattle.explanations.specs.Explanations.{starting, lasting, lasts, Each, Overloads, Precedes, Attains, First, between, StopsAt, Known, Ends, Walk, Writable, White, Overloaded, Preceded, Stored}
+use Rattle.explanations.specs.Explanations.{starting, lasting, lasts, Each, Overloads, Precedes, Attains, between, StopsAt, Known, Ends, Walk, Writable, White, Overloaded, Preceded, Stored}
 use Rattle.scheduling.proofs.Words.{atoms-none, atoms-more}
 use Rattle.runs.proofs.Buffers.{atoms-stored}
 use Rattle.runs.proofs.Clauses.{within-none, within-more}

@@ -143,13 +143,6 @@ pub record Preceded (size k : ℕ) (theta es ds : List ℕ) (p lct i b : ℕ) : 
   pub fits : lct + p + getD ds i 0 < 2 ^ 32
   pub room : 3 * k + 6 * length theta + 3 ≤ size
 
--- Room for the j-th post in a slice of `size` words, and numbers that are words.
-pub record PostFits (size j i from atoms : ℕ) : Type 0 where
-  pub room : 4 * j + 4 ≤ size
-  pub task : i < TASKS
-  pub first : from < 2 ^ 31
-  pub count : atoms < 2 ^ 31
-
 -- What is left in the slice ---------------------------------------------------------------------------------------------------
 
 -- The atoms xs stand from the k-th on, every other word is as at entry, and `next` is the number of the atom after them.

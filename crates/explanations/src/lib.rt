@@ -3,50 +3,20 @@
 use integers::limits::TASKS;
 use integers::limits::TREEWORDS;
 ghost use mathlib.Core.Path.{_≡_};
-ghost use mathlib.Core.List.{[], _∷_};
-ghost use Prim.Native.Nat.{_+_, _*_, _<_, _≤_, min};
-ghost use lib.IntN.{pos};
+ghost use Prim.Native.Nat.{_<_, _≤_};
 ghost use lib.ListN.{length, getD};
-ghost use lib.Seq.{sets};
-ghost use Rattle.integers.specs.Moments.{instant, zeroAt};
+ghost use Rattle.integers.specs.Moments.{zeroAt};
 ghost use Rattle.integers.specs.Limits.{TASKS, INNER};
 ghost use Rattle.trees.specs.Searches.{whiteIn, taskIn, thetaIn};
 ghost use Rattle.runs.specs.Runs.{within, conflict, bounds, propagation};
-ghost use Rattle.explanations.specs.Explanations.{starting, lasting, Precedes, Attains, thetaBetween, StopsAt, Walk, Writable, Overloaded, Preceded, PostFits, Stored};
+ghost use Rattle.explanations.specs.Explanations.{starting, lasting, Precedes, Attains, thetaBetween, StopsAt, Walk, Writable, Overloaded, Preceded, Stored};
 use integers::min;
-use integers::start_of;
-use integers::word_of;
+use post_words::posts::AT_LEAST;
+use post_words::posts::AT_MOST;
+use post_words::posts::write_atom;
 use trees::disjunctive_task::LeafPlace;
 use trees::disjunctive_task::task_of;
 use trees::theta_lambda_tree::ThetaLambdaTree;
-
-// An atom's kinds.
-pub const AT_LEAST: i32 = 0;
-
-pub const AT_MOST: i32 = 1;
-
-// The j-th post's four words.
-pub fn write_post(posts: &mut [i32], j: usize, task: usize, bound: u32, first: usize, count: usize)
-    requires { ⌜ PostFits (length (now posts)) j task first count ⌝ }
-    ensures { λ _. ⌜ now (posts .exit) ≡ sets (now (posts .entry)) (4 * j) (pos task ∷ instant zeroAt bound ∷ pos first ∷ pos count ∷ []) ⌝ }
-{
-    let at = 4 * j;
-    posts[at] = word_of(task);
-    posts[at + 1] = start_of(bound);
-    posts[at + 2] = word_of(first);
-    posts[at + 3] = word_of(count);
-}
-
-// The k-th atom's three words: its variable is a task, its value the whole number at a moment.
-pub fn write_atom(atoms: &mut [i32], k: usize, task: usize, kind: i32, value: u32)
-    requires { ⌜ (3 * k + 3 ≤ length (now atoms)) × (task < TASKS) ⌝ }
-    ensures { λ _. ⌜ now (atoms .exit) ≡ sets (now (atoms .entry)) (3 * k) (pos task ∷ kind ∷ instant zeroAt value ∷ []) ⌝ }
-{
-    let at = 3 * k;
-    atoms[at] = word_of(task);
-    atoms[at + 1] = kind;
-    atoms[at + 2] = start_of(value);
-}
 
 // What a list by task says of the task of a leaf.
 fn of_leaf(xs: &[u32], tasks: &[usize; TASKS], place: LeafPlace) -> u32

@@ -1,6 +1,6 @@
 -- What the mirrored pass hands to the core, and what it makes of what the core leaves.
 -- Assumes nothing.
-use mathlib.Core.Path.{_≡_, refl, sym, ap, ap₂, subst, _∙_}
+use mathlib.Core.Path.{_≡_, sym, ap, ap₂, subst, _∙_}
 use mathlib.Core.List.{List, _++_}
 use Prim.Native.Nat.{ℕ, _*_, _≤_, _<_}
 use native.Mathlib.Nat.{mul-le-mul}
@@ -12,13 +12,10 @@ use lib.Signed.{_≤ℤ_}
 use mir.Syntax.{w32}
 use mir.Val.{SFits}
 use Rattle.integers.specs.Limits.{TASKS, START, MIRRORED, ATOMS}
-use Rattle.integers.specs.Moments.{Above, zeroAt}
+use Rattle.integers.specs.Moments.{Above}
 use Rattle.integers.proofs.Ints.{up, dn, ints, fits-show}
 use Rattle.integers.proofs.Moments.{at-moment, above-up, more-above}
-use mathlib.Core.Bool.{true}
-use Rattle.scheduling.specs.Scheduling.{tasksOf, Atom, Every}
-use Rattle.scheduling.proofs.Processing.{processing-all, processing-less}
-use Rattle.scheduling.specs.Moments.{moments}
+use Rattle.scheduling.specs.Scheduling.{Atom, Every}
 use Rattle.scheduling.specs.Mirroring.{mirrorStart, mirrorAtom}
 use Rattle.scheduling.specs.Words.{atomWords}
 use Rattle.scheduling.proofs.Words.{atoms-length}
@@ -35,11 +32,11 @@ use Rattle.runs.proofs.Starts.{starts-length}
 use Rattle.records.specs.declared.record.Propagator.{Propagator}
 use Rattle.records.specs.Records.{tasksIn}
 use Rattle.records.specs.Refusals.{Accepted}
-use Rattle.propagator.specs.declared.disjunctive_propagator.Outcome.{Outcome}
-use Rattle.propagator.specs.declared.disjunctive_propagator.Outcome.the-variants as outcome
-use Rattle.propagator.specs.Finding.{outcomeOf}
+use Rattle.levels.specs.declared.outcome.Outcome.{Outcome}
+use Rattle.levels.specs.declared.outcome.Outcome.the-variants as outcome
+use Rattle.levels.specs.Finding.{outcomeOf}
+use Rattle.levels.specs.Outcomes.{valueOf}
 use Rattle.propagator.specs.Ran.{Runnable, traceOf, Left}
-use Rattle.propagator.specs.Outcomes.{valueOf}
 use Rattle.propagator.proofs.Answering.{posts-made}
 use Rattle.propagator.proofs.Beginning.{narrow}
 use Rattle.mirrored.specs.RanMirrored.{mirroredOf, LeftMirrored}

@@ -26,10 +26,11 @@ use Rattle.runs.proofs.Buffers.{posts-length, no-reasons}
 use Rattle.runs.proofs.Mirrored.{mirror-at, mirror-length, near-at, near-fits, post-task, post-bound, posts-step, atom-read, atoms-step}
 use Rattle.runs.specs.MirroredWords.{Near, postsTo, atomsTo}
 use Rattle.runs.proofs.Readers.{startOf, four-words, last-ends}
-use Rattle.propagator.specs.declared.disjunctive_propagator.Outcome.{Outcome}
-use Rattle.propagator.specs.declared.disjunctive_propagator.Outcome.the-variants as outcome
-use Rattle.propagator.specs.Finding.{outcomeOf}
-use Rattle.propagator.specs.Outcomes.{valueOf}
+use Rattle.post_words.specs.Posts.{firstAtom, atomCount}
+use Rattle.levels.specs.declared.outcome.Outcome.{Outcome}
+use Rattle.levels.specs.declared.outcome.Outcome.the-variants as outcome
+use Rattle.levels.specs.Finding.{outcomeOf}
+use Rattle.levels.specs.Outcomes.{valueOf}
 use Rattle.propagator.proofs.Answering.{posts-made}
 use Rattle.mirrored.specs.Telling.{mirroredWord, Mirrorable, Durations, PostsHeld, AtomsHeld, Counted, Answered}
 
@@ -160,8 +161,8 @@ none-counted c z = none (c .posts) (c .number ∙ z)
 pub record Last (words : List ℤ) (count : ℕ) (all : ℕ) : Type 0 where
   pub first : ℕ
   pub many : ℕ
-  pub first-is : getD words (4 * (count - 1) + 2) (pos 0) ≡ pos first
-  pub many-is : getD words (4 * (count - 1) + 3) (pos 0) ≡ pos many
+  pub first-is : firstAtom words (count - 1) ≡ pos first
+  pub many-is : atomCount words (count - 1) ≡ pos many
   pub sum : first + many ≡ all
   pub inside : 4 * (count - 1) + 4 ≤ length words
 

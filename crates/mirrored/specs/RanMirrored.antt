@@ -17,9 +17,9 @@ use Rattle.records.specs.Records.{tasksIn}
 use Rattle.records.specs.Refusals.{runNumber}
 use Rattle.checker.specs.declared.checker.Verdict.the-variants.{Passed}
 use Rattle.checker.specs.MirroredChecks.{checkMirroredOf}
-use Rattle.propagator.specs.declared.disjunctive_propagator.Outcome.{Outcome}
-use Rattle.propagator.specs.Finding.{outcomeOf}
-use Rattle.propagator.specs.Outcomes.{outcomeNumbers}
+use Rattle.levels.specs.declared.outcome.Outcome.{Outcome}
+use Rattle.levels.specs.Finding.{outcomeOf}
+use Rattle.levels.specs.Outcomes.{outcomeNumbers}
 use Rattle.propagator.specs.Ran.{checkDurations, Handed}
 
 module _ (before : Propagator) (es ls : List ℤ) where

@@ -17,8 +17,8 @@ use Rattle.runs.specs.Mirrored.{mirrorStarts, mirrorTrace, mirroredRun}
 use Rattle.runs.specs.Demand.{consequentOf, no-post, post}
 use Rattle.runs.specs.MirroredWords.{Near, postsTo, atomsTo}
 use Rattle.records.specs.declared.record.Propagator.{Propagator}
-use Rattle.propagator.specs.declared.disjunctive_propagator.Outcome.{Outcome}
-use Rattle.propagator.specs.Finding.{outcomeOf}
+use Rattle.levels.specs.declared.outcome.Outcome.{Outcome}
+use Rattle.levels.specs.Finding.{outcomeOf}
 
 -- The starts have a place each, and mirrored they are i32s.
 pub record Reflectable (out starts : List ℤ) (durations : List ℕ) : Type 0 where

@@ -1,7 +1,9 @@
 // The mirrored pass: latest starts fall by the mirrored rule. It is a run in mirrored time, where the caller's moment t is -t, told in the caller's time.
 use integers::limits::TASKS;
 use integers::nat_of;
-use propagator::disjunctive_propagator::Outcome;
+use levels::outcome::Outcome;
+use post_words::posts::atom_count;
+use post_words::posts::first_atom;
 use propagator::disjunctive_propagator::run_accepted;
 use records::record::Propagator;
 use records::refusals::run_refusal;
@@ -16,7 +18,7 @@ ghost use Rattle.scheduling.specs.Mirroring.{mirrorStart};
 ghost use Rattle.runs.specs.Words.{reasons, atomsIn};
 ghost use Rattle.runs.specs.Mirrored.{mirrorStarts};
 ghost use Rattle.records.specs.Refusals.{Accepted};
-ghost use Rattle.propagator.specs.Outcomes.{valueOf};
+ghost use Rattle.levels.specs.Outcomes.{valueOf};
 ghost use Rattle.mirrored.specs.RanMirrored.{RanMirrored};
 ghost use Rattle.mirrored.specs.Telling.{Reflectable, mirroredWord, Mirrorable, PostsHeld, PostsTold, AtomsHeld, AtomsTold, Counted, Answered, Ended, Told, RanInMirror};
 
@@ -90,10 +92,8 @@ fn atoms_of_posts(posts: &[i32], count: usize) -> usize
     if count == 0 {
         return 0;
     }
-    let at = 4 * (count - 1);
-    let first = nat_of(posts[at + 2]) as usize;
-    let many = nat_of(posts[at + 3]) as usize;
-    first + many
+    let last = count - 1;
+    first_atom(posts, last) as usize + atom_count(posts, last) as usize
 }
 
 // How many posts an outcome tells of.

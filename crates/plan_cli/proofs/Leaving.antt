@@ -23,7 +23,7 @@ use Rattle.records.specs.declared.record.Creation.the-variants as creation
 use Rattle.records.specs.Records.{creationTests, creationNumber, newRecord, created}
 use Rattle.records.specs.Refusals.{runNumber}
 use Rattle.records.proofs.Creation.{created-new, answer-number}
-use Rattle.propagator.specs.declared.disjunctive_propagator.Outcome.the-variants as outcome
+use Rattle.levels.specs.declared.outcome.Outcome.the-variants as outcome
 use Rattle.propagator.specs.declared.disjunctive_propagator.Run.{Run}
 use Rattle.propagator.specs.Ran.{traceOf, AcceptedRun, Ran}
 use Rattle.propagator.proofs.Answering.{outcomes-apart}

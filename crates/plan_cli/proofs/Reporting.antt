@@ -5,7 +5,7 @@ use mathlib.Core.List.{List}
 use Prim.Native.Nat.{ℕ, suc, _+_, _*_, _≤_, _<_}
 use native.Mathlib.Omega.{arith}
 use native.Mathlib.Numerals.{add-one}
-use lib.IntN.{ℤ, pos}
+use lib.IntN.{ℤ}
 use lib.ListN.{length, getD, take}
 use Rattle.scheduling.specs.Scheduling.{Atom}
 use Rattle.scheduling.specs.Words.{atomWords}
@@ -14,7 +14,7 @@ use Rattle.runs.specs.Traces.{Post}
 use Rattle.runs.specs.Demand.{no-post}
 use Rattle.runs.specs.Words.{reasons}
 use Rattle.runs.proofs.Buffers.{reasons-suc, reasons-most}
-use Rattle.post_words.specs.Posts.{reasonWords}
+use Rattle.post_words.specs.Posts.{taskWord, boundOf, reasonWords}
 use Rattle.text.specs.Writing.{Puts}
 use Rattle.text.proofs.Putting.{puts-append}
 use Rattle.plan_cli.specs.Lines.{newline, doneWord, overloadLine, postLine, lines, whyLines, postOf, spaced, doneLine, overloadLines}
@@ -30,7 +30,7 @@ unfolding overloadLines
 puts-overload reason p q = puts-append p q
 
 -- a post's line, whose words come back from their bits, and its reason
-pub puts-posted : {o₀ o₁ o₂ : List ℕ} {a₀ a₁ a₂ : ℕ} {x y : ℤ} (posts atoms words : List ℤ) (count j : ℕ) → x ≡ getD posts (4 * j) (pos 0) → y ≡ getD posts (4 * j + 1) (pos 0) → words ≡ reasonWords posts atoms count j
+pub puts-posted : {o₀ o₁ o₂ : List ℕ} {a₀ a₁ a₂ : ℕ} {x y : ℤ} (posts atoms words : List ℤ) (count j : ℕ) → x ≡ taskWord posts j → y ≡ boundOf posts j → words ≡ reasonWords posts atoms count j
     → Puts o₀ o₁ a₀ (postLine x y) a₁ → ((reason : List Atom) → words ≡ atomWords reason → Puts o₁ o₂ a₁ (whyLines reason) a₂)
     → (p : Post) → Held posts atoms count j p → Puts o₀ o₂ a₀ (postOf p) a₂
 puts-posted posts atoms words count j e f w line why p h =

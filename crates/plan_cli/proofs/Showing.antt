@@ -12,9 +12,9 @@ use Rattle.scheduling.specs.Scheduling.{Atom}
 use Rattle.scheduling.specs.Words.{atomWords}
 use Rattle.runs.specs.Traces.{Post, End, done, overload, emptied, Trace}
 use Rattle.runs.specs.Words.{reasons, endReason}
-use Rattle.propagator.specs.Finding.{outcomeOf}
-use Rattle.propagator.specs.declared.disjunctive_propagator.Outcome.{Outcome}
-use Rattle.propagator.specs.declared.disjunctive_propagator.Outcome.the-variants as outcome
+use Rattle.levels.specs.Finding.{outcomeOf}
+use Rattle.levels.specs.declared.outcome.Outcome.{Outcome}
+use Rattle.levels.specs.declared.outcome.Outcome.the-variants as outcome
 use Rattle.plan_cli.specs.Lines.{postLines, doneLine, overloadLines, emptiedLine, endLines, runLines, refusedLine, answerLines}
 use Rattle.plan_cli.specs.RunSlices.{ATOMS, Holds, ShowsRun, Shown}
 

@@ -10,10 +10,10 @@ use Rattle.scheduling.specs.Words.{atomWords}
 use Rattle.runs.specs.Traces.{Post, Trace}
 use Rattle.runs.specs.Demand.{no-post}
 use Rattle.runs.specs.Words.{reasons, endReason}
-use Rattle.post_words.specs.Posts.{reasonWords}
-use Rattle.propagator.specs.Finding.{outcomeOf}
-use Rattle.propagator.specs.declared.disjunctive_propagator.Outcome.{Outcome}
-use Rattle.propagator.specs.declared.disjunctive_propagator.Outcome.the-variants as outcome
+use Rattle.post_words.specs.Posts.{taskWord, boundOf, reasonWords}
+use Rattle.levels.specs.Finding.{outcomeOf}
+use Rattle.levels.specs.declared.outcome.Outcome.{Outcome}
+use Rattle.levels.specs.declared.outcome.Outcome.the-variants as outcome
 
 -- atoms that a run has room for, 2n² of them
 abbrev pub ATOMS : ℕ
@@ -25,8 +25,8 @@ ROOM = 160000
 
 -- Post j: the two words that are printed, and the stretch of its reason.
 pub record Held (posts atoms : List ℤ) (count j : ℕ) (p : Post) : Type 0 where
-  pub task : getD posts (4 * j) (pos 0) ≡ pos (p .task)
-  pub bound : getD posts (4 * j + 1) (pos 0) ≡ p .bound
+  pub task : taskWord posts j ≡ pos (p .task)
+  pub bound : boundOf posts j ≡ p .bound
   pub reason : reasonWords posts atoms count j ≡ atomWords (p .reason)
 
 -- The slices hold the posts ps.

@@ -3,8 +3,10 @@ use crate::lines::put_post;
 use crate::lines::put_reason;
 use crate::lines::put_refused;
 use crate::lines::put_starts;
+use levels::outcome::Outcome;
+use post_words::posts::bound_word;
 use post_words::posts::post_reason;
-use propagator::disjunctive_propagator::Outcome;
+use post_words::posts::task_word;
 use text::writing::put_bytes;
 ghost use Prim.Native.Nat.{ℕ, _+_, _*_, _≤_};
 ghost use mathlib.Core.Path.{_≡_};
@@ -33,7 +35,7 @@ fn put_posted(
     ensures text { λ r. ⌜ ((p : Post) → Held (now (posts .entry)) (now (atoms .entry)) count j p → Puts (now (out .entry)) (now (out .exit)) at (postOf p) r) ⌝ }
     ensures within { λ r. ⌜ r ≤ at + 44 + 11 * length (reasonWords (now (posts .entry)) (now (atoms .entry)) count j) ⌝ }
 {
-    let end = put_post(out, at, posts[4 * j], posts[4 * j + 1]);
+    let end = put_post(out, at, task_word(posts, j), bound_word(posts, j));
     put_reason(out, end, post_reason(posts, atoms, count, j))
 }
 

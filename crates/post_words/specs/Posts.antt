@@ -1,16 +1,20 @@
 -- Posts and atoms as words, and the post reader: what belongs to a post of a run, read from its words alone.
 use mathlib.Core.Bool.{true, false}
 use mathlib.Core.List.{List, [], _∷_}
-use Prim.Native.Nat.{ℕ, _+_, _*_, _≤_, _<_}
+use Prim.Native.Nat.{ℕ, _+_, _*_, _^_, _≤_, _<_}
 use lib.Dec.{leb, ltb, eqb}
 use lib.IntN.{ℤ, pos, natAbs}
 use lib.Signed.{leZ, _≤ℤ_}
 use lib.ListN.{length, getD, take, drop}
+use Rattle.integers.specs.Limits.{TASKS}
 use Rattle.integers.specs.Tests.{Test, test, refusal}
 
 -- A post is four words: task, bound, first atom's index, atom count.
+abbrev pub taskWord : List ℤ → ℕ → ℤ
+taskWord posts index = getD posts (4 * index) (pos 0)
+
 abbrev pub taskOf : List ℤ → ℕ → ℕ
-taskOf posts index = natAbs (getD posts (4 * index) (pos 0))
+taskOf posts index = natAbs (taskWord posts index)
 
 abbrev pub boundOf : List ℤ → ℕ → ℤ
 boundOf posts index = getD posts (4 * index + 1) (pos 0)
@@ -27,6 +31,13 @@ stretchStart posts index = 3 * natAbs (firstAtom posts index)
 
 abbrev pub stretchLength : List ℤ → ℕ → ℕ
 stretchLength posts index = 3 * natAbs (atomCount posts index)
+
+-- Room for the j-th post in a slice of `size` words, and numbers that are words.
+pub record PostFits (size j i from atoms : ℕ) : Type 0 where
+  pub room : 4 * j + 4 ≤ size
+  pub task : i < TASKS
+  pub first : from < 2 ^ 31
+  pub count : atoms < 2 ^ 31
 
 -- 11: an index that is not below the post count, a post that is not inside its slice, a stretch that is not inside its own
 abbrev pub postTests : List ℤ → List ℤ → ℕ → ℕ → List Test

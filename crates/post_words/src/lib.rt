@@ -1,2 +1,2 @@
-// Posts and atoms as words: where each stands, and the post reader.
+// Posts and atoms as words: where each stands, what writes them, and the post reader.
 pub mod posts;

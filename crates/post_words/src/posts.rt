@@ -1,16 +1,82 @@
-// The post reader: the number 0 or 11, and the stretch of atoms that belongs to a post.
+// Posts and atoms as words: what writes them, what reads a word of a post, and the post reader, which gives the number 0 or 11 and the stretch of atoms that belongs to a post.
+use integers::nat_of;
+use integers::start_of;
+use integers::word_of;
 ghost use mathlib.Core.Path.{_≡_};
-ghost use Prim.Native.Nat.{_*_};
+ghost use mathlib.Core.List.{[], _∷_};
+ghost use Prim.Native.Nat.{_+_, _*_, _<_, _≤_};
 ghost use lib.IntN.{pos, natAbs};
+ghost use lib.ListN.{length};
+ghost use lib.Seq.{sets};
 ghost use lib.Signed.{_≤ℤ_};
-ghost use Rattle.post_words.specs.Posts.{postNumber, reasonWords};
+ghost use Rattle.integers.specs.Limits.{TASKS};
+ghost use Rattle.integers.specs.Moments.{instant, zeroAt};
+ghost use Rattle.post_words.specs.Posts.{taskWord, boundOf, firstAtom, atomCount, PostFits, postNumber, reasonWords};
+
+// An atom's kinds.
+pub const AT_LEAST: i32 = 0;
+
+pub const AT_MOST: i32 = 1;
+
+// The j-th post's four words.
+pub fn write_post(posts: &mut [i32], j: usize, task: usize, bound: u32, first: usize, count: usize)
+    requires { ⌜ PostFits (length (now posts)) j task first count ⌝ }
+    ensures { λ _. ⌜ now (posts .exit) ≡ sets (now (posts .entry)) (4 * j) (pos task ∷ instant zeroAt bound ∷ pos first ∷ pos count ∷ []) ⌝ }
+{
+    let at = 4 * j;
+    posts[at] = word_of(task);
+    posts[at + 1] = start_of(bound);
+    posts[at + 2] = word_of(first);
+    posts[at + 3] = word_of(count);
+}
+
+// The k-th atom's three words: its variable is a task, its value the whole number at a moment.
+pub fn write_atom(atoms: &mut [i32], k: usize, task: usize, kind: i32, value: u32)
+    requires { ⌜ (3 * k + 3 ≤ length (now atoms)) × (task < TASKS) ⌝ }
+    ensures { λ _. ⌜ now (atoms .exit) ≡ sets (now (atoms .entry)) (3 * k) (pos task ∷ kind ∷ instant zeroAt value ∷ []) ⌝ }
+{
+    let at = 3 * k;
+    atoms[at] = word_of(task);
+    atoms[at + 1] = kind;
+    atoms[at + 2] = start_of(value);
+}
+
+// The task of a post that stands in its slice, and its bound.
+pub fn task_word(posts: &[i32], index: usize) -> i32
+    requires { ⌜ 4 * index + 4 ≤ length (now posts) ⌝ }
+    ensures { λ r. ⌜ r ≡ taskWord (now (posts .entry)) index ⌝ }
+{
+    posts[4 * index]
+}
+
+pub fn bound_word(posts: &[i32], index: usize) -> i32
+    requires { ⌜ 4 * index + 4 ≤ length (now posts) ⌝ }
+    ensures { λ r. ⌜ r ≡ boundOf (now (posts .entry)) index ⌝ }
+{
+    posts[4 * index + 1]
+}
+
+// The number of its first atom, and how many atoms it has.
+pub fn first_atom(posts: &[i32], index: usize) -> u32
+    requires { ⌜ (4 * index + 4 ≤ length (now posts)) × (pos 0 ≤ℤ firstAtom (now posts) index) ⌝ }
+    ensures { λ r. ⌜ r ≡ natAbs (firstAtom (now (posts .entry)) index) ⌝ }
+{
+    nat_of(posts[4 * index + 2])
+}
+
+pub fn atom_count(posts: &[i32], index: usize) -> u32
+    requires { ⌜ (4 * index + 4 ≤ length (now posts)) × (pos 0 ≤ℤ atomCount (now posts) index) ⌝ }
+    ensures { λ r. ⌜ r ≡ natAbs (atomCount (now (posts .entry)) index) ⌝ }
+{
+    nat_of(posts[4 * index + 3])
+}
 
 // The words of x atoms.
 fn words_of(x: i32) -> usize
     requires { ⌜ pos 0 ≤ℤ x ⌝ }
     ensures { λ r. ⌜ r ≡ 3 * natAbs x ⌝ }
 {
-    3 * (integers::nat_of(x) as usize)
+    3 * (nat_of(x) as usize)
 }
 
 // 11 where the post is not below the post count, or it or its stretch is not inside its slice; else 0.

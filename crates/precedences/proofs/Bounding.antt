@@ -14,7 +14,7 @@ use Rattle.integers.specs.Moments.{moment, Above, instant, zeroAt}
 use Rattle.integers.proofs.Bools.{bool}
 use Rattle.integers.proofs.Ints.{ints}
 use Rattle.integers.proofs.Moments.{at-moment, above-up, reflect, reflect<, plus, plus-above, instant-above, moment-instant, instant-moment}
-use Rattle.scheduling.specs.Scheduling.{whole, natural, Tasks, Proper, TaskSet, Largest, Ect}
+use Rattle.scheduling.specs.Scheduling.{whole, natural, Tasks, Proper, Largest, Ect}
 use Rattle.scheduling.proofs.Agreement.{set-ect}
 use Rattle.scheduling.proofs.Transfer.{sound, Is, ect→, ect←, part-above}
 use Rattle.scheduling.specs.Moments.{moments}

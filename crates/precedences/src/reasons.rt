@@ -2,10 +2,10 @@
 use crate::answers::Reason;
 use crate::predecessors::predecessors;
 use chosen_sets::theta::theta_ect;
-use explanations::AT_LEAST;
-use explanations::AT_MOST;
-use explanations::write_atom;
 use integers::limits::TASKS;
+use post_words::posts::AT_LEAST;
+use post_words::posts::AT_MOST;
+use post_words::posts::write_atom;
 use records::record::Propagator;
 use records::refusals::input_refusal;
 use sorts::orders::moments_of;

@@ -6,17 +6,17 @@ use mathlib.Core.Logic.{_↔_}
 use Prim.Native.Nat.{ℕ, _+_, _*_, _≤_, _<_}
 use native.Mathlib.Omega.{arith}
 use lib.IntN.{ℤ, pos, natAbs}
-use lib.ListN.{length, getD, take, drop}
+use lib.ListN.{length, take, drop}
 use Rattle.scheduling.specs.Words.{atomWords}
 use Rattle.runs.specs.Traces.{Trace, done}
 use Rattle.runs.specs.Words.{reasons}
 use Rattle.runs.specs.Demand.{post}
 use Rattle.atoms.specs.Atoms.{atomsOf}
 use Rattle.atoms.proofs.Atoms.{atoms-words}
-use Rattle.post_words.specs.Posts.{taskOf, boundOf, postNumber, reasonWords}
-use Rattle.propagator.specs.declared.disjunctive_propagator.Outcome.{Outcome}
-use Rattle.propagator.specs.Finding.{outcomeOf}
-use Rattle.propagator.specs.Outcomes.{outcomeNumbers, valueOf}
+use Rattle.post_words.specs.Posts.{taskWord, taskOf, boundOf, postNumber, reasonWords}
+use Rattle.levels.specs.declared.outcome.Outcome.{Outcome}
+use Rattle.levels.specs.Finding.{outcomeOf}
+use Rattle.levels.specs.Outcomes.{outcomeNumbers, valueOf}
 use Rattle.propagator.specs.Ran.{Handed}
 use Rattle.propagator.proofs.Answering.{Overloaded, not-refused, posts-made, kind-done, kind-overload}
 use Rattle.promises.specs.Promise.{reasonOf, overloadOf}
@@ -49,7 +49,7 @@ module _ (t : Trace) (answer : Outcome) (is : answer ≡ outcomeOf (reasons (t .
       pub read : postNumber posts atoms (valueOf answer 0) j ≡ 0
       read = ap (λ (n : ℕ). postNumber posts atoms n j) made ∙ handed .posts j below .number
 
-      pub names : getD posts (4 * j) (pos 0) ≡ pos (taskOf posts j)
+      pub names : taskWord posts j ≡ pos (taskOf posts j)
       names = handed .posts j below .task ∙ ap pos (sym task-is)
 
       pub words-are : reasonOf answer posts atoms j ≡ atomWords (post t j .reason)

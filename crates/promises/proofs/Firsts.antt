@@ -1,6 +1,6 @@
 -- Starts that a call gives between the ends of their ranges are stored at the first permitted ones from there on, and latest starts at the last ones up to there.
 -- Assumes nothing.
-use mathlib.Core.Path.{_≡_, sym, ap, subst, _∙_}
+use mathlib.Core.Path.{_≡_, sym, subst}
 use mathlib.Core.Bool.{true}
 use mathlib.Core.List.{List, [], _∷_}
 use Prim.Native.Nat.{ℕ, zero, suc, _≤_, _<_}

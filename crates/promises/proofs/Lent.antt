@@ -1,29 +1,20 @@
 -- What a core leaves of the ranges' numbers, once its starts are stored in the ranges, is what the open call promises.
 -- Assumes nothing.
-use mathlib.Core.Path.{_≡_, refl, sym, ap, subst, _∙_}
-use mathlib.Core.Logic.{⊎-elim}
+use mathlib.Core.Path.{_≡_, ap, subst, _∙_}
 use mathlib.Core.List.{List}
-use Prim.Native.Nat.{ℕ, _<_}
-use native.Mathlib.Omega.{arith}
-use lib.Dec.{eqb}
-use lib.IntN.{ℤ, pos}
-use lib.ListN.{length, getD, length-map}
-use lib.Signed.{_≤ℤ_}
-use borrow.Author.Tests.{eqb-true, eqb-false}
+use Prim.Native.Nat.{ℕ}
+use lib.IntN.{ℤ}
+use lib.ListN.{length}
 use Rattle.records.specs.declared.record.Propagator.{Propagator}
-use Rattle.records.specs.Refusals.{AcceptedInput}
-use Rattle.records.proofs.Refused.{accepted-input, accepted-run}
-use Rattle.propagator.specs.declared.disjunctive_propagator.Outcome.{Outcome}
+use Rattle.records.proofs.Refused.{accepted-run}
+use Rattle.levels.specs.declared.outcome.Outcome.{Outcome}
 use Rattle.propagator.specs.Ran.{Left, Ran}
 use Rattle.mirrored.specs.RanMirrored.{LeftMirrored, RanMirrored}
-use Rattle.precedences.specs.declared.answers.Precedences.{Precedences}
-use Rattle.precedences.specs.Precedences.{PrecedenceBound, RanPrecedences}
 use Rattle.barred_starts.specs.declared.range.Range.{Range}
 use Rattle.barred_starts.specs.Bars.{allBarsFit}
 use Rattle.barred_starts.specs.Ranges.{earliests, latests, withStarts, withLatests}
 use Rattle.barred_starts.proofs.Storing.{own-starts, own-latests}
 use Rattle.promises.specs.RanLent.{RanLent, RanMirroredLent}
-use Rattle.promises.specs.PrecedencesLent.{PrecedencesLent}
 use Rattle.promises.proofs.Promising.{promised}
 use Rattle.promises.proofs.MirroredPromising.{promised as promised-mirrored}
 

@@ -1,6 +1,6 @@
 -- An accepted mirrored pass keeps its promise, as a run does.
 -- Assumes nothing.
-use mathlib.Core.Path.{_≡_, refl, sym, subst, _∙_}
+use mathlib.Core.Path.{_≡_, sym, subst, _∙_}
 use mathlib.Core.List.{List, [], _∷_}
 use mathlib.Core.Bool.{true}
 use mathlib.Core.Logic.{_⊎_, ⊎-elim}
@@ -25,9 +25,9 @@ use Rattle.checker.specs.MirroredChecks.{checkMirroredOf}
 use Rattle.post_words.specs.Posts.{taskOf, boundOf}
 use Rattle.records.specs.declared.record.Propagator.{Propagator}
 use Rattle.records.specs.Refusals.{Accepted}
-use Rattle.propagator.specs.declared.disjunctive_propagator.Outcome.{Outcome}
-use Rattle.propagator.specs.Finding.{outcomeOf}
-use Rattle.propagator.specs.Outcomes.{outcomeNumbers, valueOf}
+use Rattle.levels.specs.declared.outcome.Outcome.{Outcome}
+use Rattle.levels.specs.Finding.{outcomeOf}
+use Rattle.levels.specs.Outcomes.{outcomeNumbers, valueOf}
 use Rattle.propagator.specs.Ran.{checkDurations}
 use Rattle.mirrored.specs.RanMirrored.{AcceptedMirrored, mirroredOf}
 use Rattle.barred_starts.specs.declared.range.Range.{Range}

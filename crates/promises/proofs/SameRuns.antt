@@ -8,8 +8,8 @@ use lib.ListN.{length}
 use Rattle.records.specs.declared.record.Propagator.{Propagator}
 use Rattle.runs.specs.Traces.{Trace}
 use Rattle.runs.specs.Words.{reasons}
-use Rattle.propagator.specs.declared.disjunctive_propagator.Outcome.{Outcome}
-use Rattle.propagator.specs.Finding.{outcomeOf}
+use Rattle.levels.specs.declared.outcome.Outcome.{Outcome}
+use Rattle.levels.specs.Finding.{outcomeOf}
 use Rattle.propagator.specs.Ran.{traceOf, Handed}
 use Rattle.propagator.proofs.Handing.{handed}
 use Rattle.task_changes.specs.Histories.{History, recordAfter, durationsAfter}

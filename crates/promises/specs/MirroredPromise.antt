@@ -13,10 +13,10 @@ use Rattle.atoms.specs.Atoms.{atomsOf}
 use Rattle.checker.specs.declared.checker.Verdict.the-variants.{Passed}
 use Rattle.checker.specs.Checks.{consequentWords}
 use Rattle.checker.specs.MirroredChecks.{mirrorIfAny, checkMirroredOf}
-use Rattle.post_words.specs.Posts.{taskOf, boundOf, postNumber}
+use Rattle.post_words.specs.Posts.{taskWord, taskOf, boundOf, postNumber}
 use Rattle.records.specs.declared.record.Propagator.{Propagator}
-use Rattle.propagator.specs.declared.disjunctive_propagator.Outcome.{Outcome}
-use Rattle.propagator.specs.Outcomes.{outcomeNumbers, valueOf}
+use Rattle.levels.specs.declared.outcome.Outcome.{Outcome}
+use Rattle.levels.specs.Outcomes.{outcomeNumbers, valueOf}
 use Rattle.barred_starts.specs.declared.range.Range.{Range}
 use Rattle.barred_starts.specs.Ranges.{earliests, latests, counts, places, anyRange}
 use Rattle.barred_starts.specs.Permitted.{LastPermitted, PermittedSchedule}
@@ -67,7 +67,7 @@ module _ (before : Propagator) (ranges : List Range) (answer : Outcome) (ranges�
     -- The post reader takes it.
     pub read : postNumber posts atoms made j ≡ 0
     -- Its first word is a task's number.
-    pub names : getD posts (4 * j) (pos 0) ≡ pos (task j)
+    pub names : taskWord posts j ≡ pos (task j)
     pub small : task j < J .count
     -- Its bound is one of the mirrored rule for the task, below the latest start.
     pub rule : MirroredBound J (task j) (bound j)

@@ -12,11 +12,11 @@ use Rattle.scheduling.specs.Scheduling.{whole, Tasks, EdgeFindingBound, Schedul
 use Rattle.atoms.specs.Atoms.{atomsOf}
 use Rattle.checker.specs.declared.checker.Verdict.the-variants.{Passed}
 use Rattle.checker.specs.Checks.{checkOf, consequentWords}
-use Rattle.post_words.specs.Posts.{taskOf, boundOf, postNumber, reasonWords}
+use Rattle.post_words.specs.Posts.{taskWord, taskOf, boundOf, postNumber, reasonWords}
 use Rattle.records.specs.declared.record.Propagator.{Propagator}
 use Rattle.records.specs.Records.{tasksIn}
-use Rattle.propagator.specs.declared.disjunctive_propagator.Outcome.{Outcome}
-use Rattle.propagator.specs.Outcomes.{outcomeNumbers, valueOf}
+use Rattle.levels.specs.declared.outcome.Outcome.{Outcome}
+use Rattle.levels.specs.Outcomes.{outcomeNumbers, valueOf}
 use Rattle.barred_starts.specs.declared.range.Range.{Range}
 use Rattle.barred_starts.specs.Ranges.{earliests, latests, counts, places, anyRange}
 use Rattle.barred_starts.specs.Permitted.{FirstPermitted, PermittedSchedule}
@@ -80,7 +80,7 @@ module _ (before : Propagator) (ranges : List Range) (answer : Outcome) (ranges�
     -- The post reader takes it.
     pub read : postNumber posts atoms made j ≡ 0
     -- Its first word is a task's number.
-    pub names : getD posts (4 * j) (pos 0) ≡ pos (task j)
+    pub names : taskWord posts j ≡ pos (task j)
     pub small : task j < J .count
     -- Its bound is an edge-finding bound of the task, above the earliest start.
     pub edge : EdgeFindingBound J (task j) (bound j)

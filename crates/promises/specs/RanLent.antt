@@ -7,8 +7,8 @@ use lib.ListN.{length}
 use Rattle.integers.specs.Answers.{refusedBy}
 use Rattle.records.specs.declared.record.Propagator.{Propagator}
 use Rattle.records.specs.Refusals.{runNumber}
-use Rattle.propagator.specs.declared.disjunctive_propagator.Outcome.{Outcome}
-use Rattle.propagator.specs.Outcomes.{outcomeNumbers}
+use Rattle.levels.specs.declared.outcome.Outcome.{Outcome}
+use Rattle.levels.specs.Outcomes.{outcomeNumbers}
 use Rattle.propagator.specs.Ran.{traceOf, Left}
 use Rattle.mirrored.specs.RanMirrored.{mirroredOf, LeftMirrored}
 use Rattle.barred_starts.specs.declared.range.Range.{Range}

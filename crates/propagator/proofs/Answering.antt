@@ -10,10 +10,10 @@ use lib.ListN.{length, getD}
 use Rattle.integers.specs.Answers.{Answer}
 use Rattle.scheduling.specs.Scheduling.{Atom}
 use Rattle.runs.specs.Traces.{End, done, overload, emptied}
-use Rattle.propagator.specs.declared.disjunctive_propagator.Outcome.{Outcome}
-use Rattle.propagator.specs.declared.disjunctive_propagator.Outcome.the-variants as outcome
-use Rattle.propagator.specs.Finding.{outcomeOf}
-use Rattle.propagator.specs.Outcomes.{outcomeNumbers, valueOf}
+use Rattle.levels.specs.declared.outcome.Outcome.{Outcome}
+use Rattle.levels.specs.declared.outcome.Outcome.the-variants as outcome
+use Rattle.levels.specs.Finding.{outcomeOf}
+use Rattle.levels.specs.Outcomes.{outcomeNumbers, valueOf}
 
 -- an outcome, read back from its numbers
 abbrev outcomeAt : ℕ → Answer → Outcome

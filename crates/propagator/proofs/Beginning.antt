@@ -10,7 +10,7 @@ use lib.IntN.{ℤ, pos, negℤ}
 use lib.ListN.{length, getD, take, replicate, length-replicate}
 use lib.Seq.{getD-take, length-take-le}
 use lib.Signed.{_≤ℤ_}
-use Rattle.integers.specs.Limits.{TASKS, START, DURATIONS, MIRRORED}
+use Rattle.integers.specs.Limits.{TASKS, TREEWORDS, START, DURATIONS, MIRRORED}
 use Rattle.integers.specs.Filling.{filled}
 use Rattle.integers.specs.Moments.{instant, zeroAt, Above}
 use Rattle.integers.specs.Orders.{sort, index, numbers}
@@ -45,10 +45,10 @@ use Rattle.sorts.proofs.Sorted.{sorted-as}
 use Rattle.records.specs.declared.record.Propagator.{Propagator}
 use Rattle.records.specs.Records.{tasksIn}
 use Rattle.records.specs.Refusals.{Accepted}
-use Rattle.propagator.specs.RunArrays.{Ordered, Holds, At}
-use Rattle.propagator.specs.declared.disjunctive_propagator.Outcome.{Outcome}
-use Rattle.propagator.specs.Filling.{Fillable}
-use Rattle.propagator.specs.Finding.{outcomeOf, Begun, Ended}
+use Rattle.levels.specs.RunArrays.{Ordered, Holds, At}
+use Rattle.levels.specs.declared.outcome.Outcome.{Outcome}
+use Rattle.levels.specs.Filling.{Fillable}
+use Rattle.levels.specs.Finding.{outcomeOf, Begun, Ended}
 use Rattle.propagator.specs.Ran.{Runnable, traceOf, Left}
 
 zeros-long : length noTasks ≡ TASKS
@@ -224,7 +224,7 @@ module _ (r : Propagator) (es ls : List ℤ) (posts atoms : ℕ) (a : Runnable r
       candidates-order = holds-order candidates second (sorted-second lct completions g) (g .size)
 
       -- the tree: sized for n tasks, every word 0, and the leaf of each task by the order
-      module _ {inner height : ℕ} {mapping words₀ : List ℕ} (sz : Sized n inner height) (m : Maps n tasks mapping) (z : words₀ ≡ replicate 508 0) where
+      module _ {inner height : ℕ} {mapping words₀ : List ℕ} (sz : Sized n inner height) (m : Maps n tasks mapping) (z : words₀ ≡ replicate TREEWORDS 0) where
         pub complete : inner + 1 ≡ width (heightFor (J .count))
         complete = sized n inner height sz ∙ ap (λ (m : ℕ). width (heightFor m)) (sym count)
 

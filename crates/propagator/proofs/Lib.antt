@@ -1,10 +1,3 @@
-pub mod Meeting
-pub mod Posting
-pub mod Considering
-pub mod Turning
-pub mod Moving
-pub mod Levels
-pub mod Filling
 pub mod Beginning
 pub mod Many
 pub mod ReasonsPass

@@ -1,7 +1,1 @@
-pub mod Outcomes
-pub mod RunArrays
-pub mod Turns
-pub mod Finding
-pub mod Moving
-pub mod Filling
 pub mod Ran

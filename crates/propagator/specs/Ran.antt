@@ -15,16 +15,16 @@ use Rattle.runs.specs.Runs.{propagate}
 use Rattle.scheduling.specs.Words.{atomWords}
 use Rattle.runs.specs.Words.{postWords, reasons, endReason, postsAfter, atomsAfter}
 use Rattle.runs.specs.Demand.{Right, consequentOf, post}
-use Rattle.post_words.specs.Posts.{postNumber, reasonWords}
+use Rattle.post_words.specs.Posts.{taskWord, boundOf, postNumber, reasonWords}
 use Rattle.records.specs.declared.record.Propagator.{Propagator}
 use Rattle.records.specs.Records.{tasksIn, Lawful}
 use Rattle.records.specs.Refusals.{CountsFit, RangesFit, WordsFit, runNumber}
 use Rattle.checker.specs.declared.checker.Verdict.the-variants.{Passed}
 use Rattle.checker.specs.Checks.{checkOf}
-use Rattle.propagator.specs.declared.disjunctive_propagator.Outcome.{Outcome}
+use Rattle.levels.specs.declared.outcome.Outcome.{Outcome}
+use Rattle.levels.specs.Finding.{outcomeOf}
+use Rattle.levels.specs.Outcomes.{outcomeNumbers}
 use Rattle.propagator.specs.declared.disjunctive_propagator.Run.{Run}
-use Rattle.propagator.specs.Finding.{outcomeOf}
-use Rattle.propagator.specs.Outcomes.{outcomeNumbers}
 
 -- What the core of a run takes for given: what an accepted run does, but that starts may lie as far out as in mirrored time, so that it serves both.
 pub record Runnable (before : Propagator) (es ls : List ℤ) (postCount atomCount : ℕ) : Type 0 where
@@ -43,8 +43,8 @@ checkDurations before = map pos (take (before .count) (before .durations))
 pub record Read (p : Post) (posts atoms : List ℤ) (count j : ℕ) : Type 0 where
   pub number : postNumber posts atoms count j ≡ 0
   pub reason : reasonWords posts atoms count j ≡ atomWords (p .reason)
-  pub task : getD posts (4 * j) (pos 0) ≡ pos (p .task)
-  pub bound : getD posts (4 * j + 1) (pos 0) ≡ p .bound
+  pub task : taskWord posts j ≡ pos (p .task)
+  pub bound : boundOf posts j ≡ p .bound
 
 -- An overload's reason, as a caller reads it from the slice of atoms, from atom `first` on.
 pub record ReadOverload (reason : List Atom) (atoms : List ℤ) (first : ℕ) : Type 0 where

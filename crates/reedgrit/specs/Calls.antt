@@ -22,8 +22,8 @@ use Rattle.checking.specs.States.{prepared, truthOf, boundOf, lowerOf, upperOf}
 use Rattle.checker.specs.declared.checker.Verdict.{Verdict}
 use Rattle.checker.specs.Checks.{Checked}
 use Rattle.checker.specs.Verdicts.{verdictNumbers}
-use Rattle.propagator.specs.declared.disjunctive_propagator.Finished.{Finished}
-use Rattle.propagator.specs.Outcomes.{outcomeNumbers}
+use Rattle.levels.specs.declared.outcome.Finished.{Finished}
+use Rattle.levels.specs.Outcomes.{outcomeNumbers}
 use Rattle.barred_starts.specs.declared.range.Range.{Range}
 use Rattle.promises.specs.RanLent.{RanLent}
 use Rattle.answers.specs.declared.call_answers.NewPropagator.{NewPropagator}

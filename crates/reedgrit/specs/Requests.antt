@@ -4,29 +4,20 @@ use mathlib.Core.Path.{_≡_}
 use Prim.Native.Nat.{ℕ}
 use lib.IntN.{ℤ}
 use Rattle.records.specs.declared.record.Propagator.{Propagator}
-use Rattle.checker.specs.declared.checker.Verdict.{Verdict}
 use Rattle.checker.specs.MirroredChecks.{CheckedMirrored}
 use Rattle.checker.specs.Verdicts.{verdictNumbers}
 use Rattle.charges.specs.Charging.{Charged}
-use Rattle.overload_test.specs.declared.overload_test.Overload.{Overload}
 use Rattle.overload_test.specs.Numbers.{overloadNumbers}
 use Rattle.overload_test.specs.Tested.{OverloadTested}
-use Rattle.task_changes.specs.declared.changes.Change.{Change}
 use Rattle.task_changes.specs.Changes.{AddedLent, RemovedLent}
 use Rattle.task_changes.specs.Numbers.{changeNumbers}
-use Rattle.free_starts.specs.declared.free_start.FreeStart.{FreeStart}
 use Rattle.free_starts.specs.FreeStarts.{Answered as FreeStartAnswered}
 use Rattle.free_starts.specs.Numbers.{freeStartNumbers}
-use Rattle.pages.specs.declared.answer.Page.{Page}
 use Rattle.pages.specs.Numbers.{pageNumbers}
 use Rattle.pages.specs.Pages.{Paged}
-use Rattle.precedences.specs.declared.answers.Precedences.{Precedences}
-use Rattle.precedences.specs.declared.answers.Reason.{Reason}
 use Rattle.precedences.specs.Numbers.{precedencesNumbers, reasonNumbers}
 use Rattle.precedences.specs.Reasons.{ReasonGiven}
-use Rattle.propagator.specs.declared.disjunctive_propagator.Outcome.{Outcome}
-use Rattle.propagator.specs.Outcomes.{outcomeNumbers}
-use Rattle.busiest_stretch.specs.declared.answer.Busiest.{Busiest}
+use Rattle.levels.specs.Outcomes.{outcomeNumbers}
 use Rattle.busiest_stretch.specs.Numbers.{busiestNumbers}
 use Rattle.busiest_stretch.specs.Stretches.{Answered as BusiestAnswered}
 use Rattle.barred_starts.specs.declared.range.Range.{Range}

@@ -1,12 +1,12 @@
 -- A lent slice that is written from the front: one post or one reason more.
-use mathlib.Core.Path.{_≡_, refl, sym, ap, subst, _∙_}
+use mathlib.Core.Path.{_≡_, refl, sym, ap, _∙_}
 use mathlib.Core.List.{List, [], _∷_, _++_, append-assoc, append-nil}
 use Prim.Native.Nat.{ℕ, zero, suc, _+_, _*_, _≤_, _<_}
 use native.Mathlib.Omega.{arith}
-use native.Mathlib.Nat.{zero-add, add-zero, add-suc, suc-add}
+use native.Mathlib.Nat.{add-zero}
 use lib.IntN.{ℤ, pos}
-use lib.ListN.{length, getD, drop, take, set, length-append}
-use lib.Seq.{sets, length-sets}
+use lib.ListN.{length, getD, take, length-append}
+use lib.Seq.{sets}
 use Rattle.scheduling.specs.Scheduling.{Atom}
 use Rattle.scheduling.proofs.Words.{atoms-none, atoms-append, atoms-length}
 use Rattle.runs.specs.Traces.{Post}

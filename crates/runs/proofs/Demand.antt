@@ -1,15 +1,14 @@
 -- A run is correct: what its trace leaves is what demand 3 says, for every accepted input and any carried orders.
 -- Assumes nothing.
-use mathlib.Core.Path.{_≡_, refl, sym, ap, subst, _∙_}
-use mathlib.Core.Bool.{Bool, true, false}
-use mathlib.Core.Logic.{_⊎_, inl, inr, _↔_}
-use mathlib.Core.List.{List, [], _∷_}
-use Prim.Native.Nat.{ℕ, zero, suc, _+_, _-_, _≤_, _<_}
+use mathlib.Core.Path.{_≡_, refl}
+use mathlib.Core.Bool.{true}
+use mathlib.Core.Logic.{_⊎_, inl, inr}
+use mathlib.Core.List.{List}
+use Prim.Native.Nat.{ℕ, _-_, _≤_, _<_}
 use native.Mathlib.Omega.{arith}
 use lib.IntN.{ℤ, pos}
 use lib.Signed.{_≤ℤ_, _<ℤ_, clashℤ}
 use lib.ListN.{length, getD}
-use lib.Dec.{leb}
 use borrow.Author.Tests.{leb-true}
 use Rattle.integers.specs.Limits.{TASKS, DURATIONS, MIRRORED}
 use Rattle.integers.specs.Moments.{moment, Above, zeroAt}
@@ -18,12 +17,12 @@ use Rattle.integers.proofs.Ints.{ints}
 use Rattle.integers.proofs.Moments.{above-up, more-above, at-moment}
 use Rattle.integers.proofs.Permutations.{numbers-permute}
 use Rattle.integers.proofs.Sorting.{sort-ordered, key-whole, key-chain}
-use Rattle.scheduling.specs.Scheduling.{whole, natural, Tasks, tasksOf, Proper, TaskSet, total, In, processing, completion, EdgeFindingBound, Overloads, Schedule, Done, Conflict}
+use Rattle.scheduling.specs.Scheduling.{whole, natural, Tasks, tasksOf, Proper, total, processing, completion, Done, Conflict}
 use Rattle.scheduling.proofs.Processing.{processing-all}
 use Rattle.scheduling.proofs.Transfer.{sound, done←, conflict←}
 use Rattle.scheduling.specs.Moments.{moments, ByEarliest, ByCompletion}
 use Rattle.scheduling.proofs.Schedules.{conflict-sound}
-use Rattle.runs.specs.Traces.{Post, End, done, overload, emptied, Trace}
+use Rattle.runs.specs.Traces.{End, done, overload, emptied, Trace}
 use Rattle.runs.specs.Runs.{run, propagate, byEarliest, byCompletion, earliestOrder, completionOrder}
 use Rattle.runs.specs.Demand.{Right, PostRight, OverloadRight, post}
 use Rattle.runs.proofs.Steps.{OutOk, run-ok}

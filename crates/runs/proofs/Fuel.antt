@@ -1,18 +1,18 @@
 -- The inner loop's clauses, and that it needs no more turns than there are gray leaves.
 use mathlib.Core.Path.{_≡_, refl, sym, ap, subst, _∙_}
-use mathlib.Core.Bool.{Bool, true, false, _&&_, not}
+use mathlib.Core.Bool.{Bool, true, false}
 use mathlib.Core.Logic.{_⊎_, inl, inr}
-use mathlib.Core.List.{List, [], _∷_, _++_}
+use mathlib.Core.List.{List, []}
 use mathlib.Core.Option.{Option, some, none}
-use Prim.Native.Nat.{ℕ, zero, suc, _+_, _-_, _≤_, _<_}
+use Prim.Native.Nat.{ℕ, zero, suc, _-_, _≤_, _<_}
 use native.Mathlib.Omega.{arith}
 use native.Mathlib.Decide.{ℕ-discrete}
-use lib.Dec.{ltb, eqb}
+use lib.Dec.{ltb}
 use lib.IntN.{ℤ}
 use lib.ListN.{length, getD, set, length-set, replicate}
 use lib.Seq.{getD-set-same, getD-set-other}
 use borrow.Author.Tests.{ne-eqb, eq-eqb, ltb-true}
-use Rattle.scheduling.specs.Scheduling.{natural, Tasks, tasksOf, Proper, TaskSet, In}
+use Rattle.scheduling.specs.Scheduling.{natural, Tasks, tasksOf, Proper, TaskSet}
 use Rattle.integers.proofs.Bools.{bool}
 use Rattle.scheduling.proofs.Sets.{_less_}
 use Rattle.scheduling.proofs.Cards.{card, card-less, card-same}
@@ -21,7 +21,7 @@ use Rattle.integers.specs.Moments.{zeroAt}
 use Rattle.integers.specs.Orders.{index}
 use Rattle.ects.specs.Ects.{exceeds}
 use Rattle.ects.proofs.Ects.{decoded-some, decoded-cases, exceeds-decoded}
-use Rattle.trees.specs.Leaves.{Leaf, empty, white, sum, theta, inTheta, inLambda, whiteAt, grayAt, rootEct, rootEctBar, responsible, ect, ect-bar}
+use Rattle.trees.specs.Leaves.{Leaf, empty, white, sum, theta, inLambda, whiteAt, grayAt, rootEct, rootEctBar, responsible, ect, ect-bar}
 use Rattle.runs.specs.Traces.{done, overload, emptied}
 use Rattle.runs.specs.Runs.{State, Turn, on, stop, inner, outer, run, ended, grayed, tabulate, conflict, posted, raised, dropped, lct, earliestOrder, completionOrder, propagate}
 use Rattle.trees.proofs.Roots as tree

@@ -1,17 +1,17 @@
 -- Every post of a run and every overload's reason is right.
 use mathlib.Core.Path.{_≡_, refl, sym, ap, subst, _∙_}
-use mathlib.Core.Bool.{Bool, true, false, cond, _||_, _&&_, not}
-use mathlib.Core.Logic.{_⊎_, inl, inr}
+use mathlib.Core.Bool.{true, false}
+use mathlib.Core.Logic.{inl, inr}
 use mathlib.Core.List.{List, [], _∷_, _++_}
-use Prim.Native.Nat.{ℕ, zero, suc, _+_, _-_, _*_, _/_, _≤_, _<_, min}
+use Prim.Native.Nat.{ℕ, suc, _+_, _-_, _/_, _≤_, _<_, min}
 use native.Mathlib.Omega.{arith}
-use native.Mathlib.Decide.{decLe, decLt, ℕ-discrete}
-use lib.Dec.{eqb, leb, ltb}
+use native.Mathlib.Decide.{decLt, ℕ-discrete}
+use lib.Dec.{leb}
 use lib.IntN.{ℤ, pos, negsuc, _+ℤ_, subℕ}
-use lib.Signed.{_≤ℤ_, _<ℤ_, ≤ℤ-refl}
-use lib.ListN.{length, getD}
-use borrow.Author.Tests.{ne-eqb, eq-eqb, leb-true, le-leb, lt-leb, ltb-true, ltb-false, lt-ltb, le-ltb}
-use Rattle.scheduling.specs.Scheduling.{whole, natural, Tasks, Proper, TaskSet, _with_, Largest, Least, In, Outside, NonEmpty, Subset, completion, Est, EstPlusP, Ect, EdgeFindingBound, Overloads, Schedule, RuleFormula}
+use lib.Signed.{_≤ℤ_, ≤ℤ-refl}
+use lib.ListN.{getD}
+use borrow.Author.Tests.{ne-eqb, eq-eqb, leb-true, le-leb, lt-leb, lt-ltb, le-ltb}
+use Rattle.scheduling.specs.Scheduling.{whole, natural, Tasks, Proper, TaskSet, _with_, Largest, Least, In, Outside, NonEmpty, Subset, completion, Est, Ect, EdgeFindingBound, RuleFormula}
 use Rattle.scheduling.specs.Scheduling as defs
 use Rattle.integers.proofs.Bools.{bool, clash}
 use Rattle.scheduling.proofs.Sets.{with-in, with-new, with-old}
@@ -21,7 +21,7 @@ use Rattle.scheduling.proofs.Levels.{edge}
 use Rattle.scheduling.proofs.Reasons as why
 use Rattle.scheduling.proofs.Walks as stops
 use Rattle.scheduling.proofs.Suffixes as suffixes
-use Rattle.integers.specs.Moments.{moment, Above, instant}
+use Rattle.integers.specs.Moments.{Above}
 use Rattle.integers.proofs.Moments.{mono, reflect, reflect<, above-up, plus, same, deep, moment-instant, instant-above}
 use Rattle.integers.proofs.Ints.{ints}
 use Rattle.scheduling.proofs.Transfer.{sound, edge←, Is}
@@ -30,18 +30,17 @@ use Rattle.scheduling.proofs.Schedules.{rule-sound}
 use Rattle.scheduling.proofs.Checks.{checks-down, overloads-down}
 use Rattle.integers.specs.Orders.{index}
 use Rattle.scheduling.specs.Scheduling.{Atom}
-use Rattle.runs.specs.Traces.{Post}
 use Rattle.trees.specs.Leaves.{Leaf, theta, whiteAt, taskAt}
 use Rattle.trees.specs.Searches.{thetaOf}
-use Rattle.runs.specs.Runs.{within, conflict, conflict-of, bounds, propagation, propagation-of}
+use Rattle.runs.specs.Runs.{within, conflict, bounds, propagation}
 use Rattle.runs.specs.Runs as edges
 use Rattle.trees.specs.Leaves as leaves
 use Rattle.trees.proofs.Roots as tree
 use Rattle.trees.proofs.Thetas.{theta-is}
-use Rattle.scheduling.specs.Scheduling.{Allows, Meets, Every, Admits, negation, HoldsAtEntry, Bounded, PassesWith, PassesAlone}
+use Rattle.scheduling.specs.Scheduling.{Meets, Every, Admits, negation, HoldsAtEntry, Bounded, PassesWith, PassesAlone}
 use Rattle.runs.specs.Demand.{consequentOf, PostRight, OverloadRight}
 use Rattle.runs.proofs.Walks as walks
-use Rattle.runs.proofs.Walks.{Silent, Says, says-then, then-says, left-part, right-part, joined}
+use Rattle.runs.proofs.Walks.{Silent, Says, says-then, left-part, right-part, joined}
 use Rattle.runs.proofs.Steps.{Measure}
 
 -- atoms that are met at each variable's own start

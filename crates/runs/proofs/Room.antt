@@ -1,15 +1,13 @@
 -- There is room for what a run writes: it makes fewer posts than there are tasks, and a reason has fewer atoms than twice their number.
 -- Assumes nothing.
 use mathlib.Core.Path.{_≡_, refl, sym, ap, subst, _∙_}
-use mathlib.Core.Bool.{Bool, true, false, _&&_, not}
-use mathlib.Core.Logic.{_⊎_, inl, inr}
-use mathlib.Core.List.{List, [], _∷_, _++_}
+use mathlib.Core.Bool.{Bool, true, false}
+use mathlib.Core.Logic.{inl, inr}
+use mathlib.Core.List.{List, [], _∷_}
 use Prim.Native.Nat.{ℕ, zero, suc, _+_, _-_, _*_, _≤_, _<_}
 use native.Mathlib.Omega.{arith}
 use native.Mathlib.Decide.{decLe, ℕ-discrete}
-use lib.Dec.{leb}
 use lib.ListN.{length, getD, length-append}
-use borrow.Author.Tests.{lt-leb}
 use Rattle.integers.specs.Orders.{index}
 use Rattle.integers.proofs.Bools.{bool, clash}
 use Rattle.scheduling.specs.Scheduling.{natural, Tasks, Proper, TaskSet, _with_, In}
@@ -21,11 +19,10 @@ use Rattle.trees.specs.Searches.{thetaOf}
 use Rattle.trees.proofs.Roots as tree
 use Rattle.trees.proofs.Thetas.{theta-none, theta-white, theta-skip, theta-is}
 use Rattle.runs.specs.Traces.{Post}
-use Rattle.runs.specs.Demand.{no-post}
 use Rattle.runs.specs.Runs.{State}
 use Rattle.runs.specs.Words.{reasons}
 use Rattle.runs.proofs.Lengths.{conflict-length, propagation-length}
-use Rattle.runs.proofs.Steps.{Measure, Inv, Found, shape, Th, lam, taskOf, AllGood}
+use Rattle.runs.proofs.Steps.{Measure, Inv, Found, Th, lam, taskOf, AllGood}
 
 -- Numbers below t that are all different are at most t many.
 module _ (f : ℕ → ℕ) (t : ℕ) where

@@ -13,7 +13,7 @@ use lib.Signed.{_≤ℤ_}
 use borrow.Author.Tests.{eqb-true, ltb-true}
 use Rattle.integers.specs.Limits.{DURATIONS, MIRRORED}
 use Rattle.integers.specs.Moments.{moment, Above, instant, zeroAt}
-use Rattle.integers.specs.Orders.{index, has, sort}
+use Rattle.integers.specs.Orders.{index, has}
 use Rattle.integers.proofs.Bools.{bool}
 use Rattle.integers.proofs.Ints.{up, dn, ints, sumℤ}
 use Rattle.integers.proofs.Moments.{mono, more-above, at-moment}

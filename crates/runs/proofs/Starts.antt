@@ -16,7 +16,7 @@ use lib.Signed.{_≤ℤ_}
 use borrow.Author.Tests.{ltb-true, ltb-false}
 use Rattle.integers.specs.Limits.{MIRRORED}
 use Rattle.integers.specs.Moments.{Above, instant, zeroAt}
-use Rattle.integers.specs.Orders.{sort, index}
+use Rattle.integers.specs.Orders.{index}
 use Rattle.integers.proofs.Bools.{bool}
 use Rattle.integers.proofs.Filling.{getD-map-in}
 use Rattle.integers.proofs.Moments.{mono, reflect, above-up, more-above, moment-instant, instant-above}

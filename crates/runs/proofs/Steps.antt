@@ -1,32 +1,31 @@
 -- The run, step by step: what stands at each level, for posts and reasons that are good by any measure.
 use mathlib.Core.Path.{_≡_, refl, sym, ap, subst, _∙_}
-use mathlib.Core.Bool.{Bool, true, false, cond, _||_, _&&_, not}
+use mathlib.Core.Bool.{true, false}
 use mathlib.Core.Logic.{_⊎_, inl, inr}
 use mathlib.Core.List.{List, [], _∷_, _++_, map}
 use mathlib.Core.Option.{some}
-use Prim.Native.Nat.{ℕ, zero, suc, _+_, _-_, _≤_, _<_, max}
+use Prim.Native.Nat.{ℕ, zero, suc, _+_, _-_, _≤_, _<_}
 use native.Mathlib.Omega.{arith}
-use native.Mathlib.Decide.{decLe, decLt, ℕ-discrete}
-use lib.Dec.{eqb, leb, ltb}
-use lib.IntN.{ℤ, pos, negsuc, subℕ}
+use native.Mathlib.Decide.{ℕ-discrete}
+use lib.Dec.{leb, ltb}
+use lib.IntN.{pos, subℕ}
 use lib.ListN.{length, getD, set, replicate, length-set, length-append, length-replicate, getD-replicate, List·getD-append}
 use lib.Seq.{getD-set-same, getD-set-other, getD-append-seam}
-use borrow.Author.Tests.{ne-eqb, eq-eqb, leb-true, le-leb, lt-leb, ltb-true, ltb-false}
-use Rattle.scheduling.specs.Scheduling.{whole, natural, Tasks, Proper, TaskSet, total, _with_, In, Outside, NonEmpty, completion, EstPlusP, Ect, EdgeFindingBound, Done, Conflict}
+use borrow.Author.Tests.{ne-eqb, eq-eqb, le-leb, lt-leb, ltb-true, ltb-false}
+use Rattle.scheduling.specs.Scheduling.{natural, Tasks, Proper, TaskSet, _with_, In, NonEmpty, completion, Ect, Done, Conflict}
 use Rattle.integers.proofs.Bools.{leb-step, bool, clash, below-suc}
 use Rattle.integers.proofs.Filling.{getD-map-in}
-use Rattle.scheduling.proofs.Sets.{total-ext, _less_, with-in, with-new, with-old}
+use Rattle.scheduling.proofs.Sets.{_less_, with-new}
 use Rattle.scheduling.proofs.Scan.{scan, scan-is}
-use Rattle.scheduling.proofs.Levels.{Posts, Facts, no-posts, start, next, leave, facts-same, last-fits, edge, finish, overloaded}
+use Rattle.scheduling.proofs.Levels.{Posts, Facts, next, leave, facts-same, last-fits, edge, finish, overloaded}
 use Rattle.scheduling.proofs.Levels.{more}
-use Rattle.scheduling.proofs.Cards.{card, bit, card-less, card-zero, card-same, card-most}
+use Rattle.scheduling.proofs.Cards.{card, card-less, card-zero, card-same, card-most}
 use Rattle.integers.specs.Moments.{moment, Above, instant}
 use Rattle.integers.proofs.Moments.{moment-instant, instant-above, zero-above}
-use Rattle.scheduling.proofs.Transfer.{sound}
-use Rattle.scheduling.specs.Moments.{moments, ByEarliest, ByCompletion}
+use Rattle.scheduling.specs.Moments.{ByEarliest, ByCompletion}
 use Rattle.integers.specs.Orders.{index}
 use Rattle.scheduling.specs.Scheduling.{Atom}
-use Rattle.runs.specs.Traces.{Post, End, done, overload, emptied, Trace}
+use Rattle.runs.specs.Traces.{Post, done, overload, emptied, Trace}
 use Rattle.trees.specs.Leaves.{Leaf, empty, white, gray, inTheta, inLambda, whiteAt, grayAt, theta}
 use Rattle.runs.specs.Runs.{State, Turn, on, stop, inner, outer, run, tabulate, conflict, propagation}
 use Rattle.runs.specs.Runs as edges

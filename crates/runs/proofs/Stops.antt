@@ -1,10 +1,10 @@
 -- Where the walks of the reasons stop, at a level of a run: inside Θ.
 -- Assumes nothing.
-use mathlib.Core.Path.{_≡_, refl, sym, ap, subst, _∙_}
+use mathlib.Core.Path.{_≡_, sym, ap, subst, _∙_}
 use mathlib.Core.Bool.{Bool, true, false}
-use mathlib.Core.List.{List, [], _∷_, _++_}
+use mathlib.Core.List.{List, _∷_, _++_}
 use mathlib.Core.Logic.{_⊎_, inl, inr}
-use Prim.Native.Nat.{ℕ, zero, suc, _+_, _-_, _≤_, _<_, min}
+use Prim.Native.Nat.{ℕ, zero, suc, _+_, _-_, _≤_, _<_}
 use native.Mathlib.Omega.{arith}
 use lib.Dec.{leb}
 use lib.ListN.{length, getD, drop}
@@ -12,7 +12,7 @@ use lib.Seq.{drop-append-add}
 use borrow.Author.Tests.{leb-true, le-leb}
 use Rattle.integers.specs.Orders.{index}
 use Rattle.integers.proofs.Bools.{bool}
-use Rattle.scheduling.specs.Scheduling.{natural, Tasks, Proper, TaskSet, _with_, In, NonEmpty, completion, processing, Ect}
+use Rattle.scheduling.specs.Scheduling.{natural, Tasks, Proper, TaskSet, In, completion, processing, Ect}
 use Rattle.scheduling.specs.Moments.{ByEarliest, ByCompletion}
 use Rattle.scheduling.proofs.Suffixes.{attaining}
 use Rattle.scheduling.proofs.Walks.{passing, after-first}
@@ -20,7 +20,7 @@ use Rattle.trees.specs.Leaves.{Leaf, whiteAt, taskAt, rootEct, rootEctBar, sum,
 use Rattle.trees.specs.Searches.{thetaOf}
 use Rattle.trees.proofs.Roots as tree
 use Rattle.trees.proofs.Thetas.{theta-none, theta-white, theta-skip, theta-is}
-use Rattle.runs.specs.Runs.{conflict, propagation}
+use Rattle.runs.specs.Runs.{propagation}
 use Rattle.runs.proofs.Walks as walks
 
 -- the white tasks of two stretches of leaves, one after the other

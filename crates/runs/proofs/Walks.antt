@@ -1,25 +1,24 @@
 -- The walks over the white leaves: where they stop, and what the atoms that they leave say of each task.
 use mathlib.Core.Path.{_≡_, refl, sym, ap, subst, _∙_}
-use mathlib.Core.Bool.{Bool, true, false, cond, _||_, _&&_, not}
+use mathlib.Core.Bool.{Bool, true, false, cond, _&&_}
 use mathlib.Core.Logic.{_⊎_, inl, inr}
 use mathlib.Core.List.{List, [], _∷_, _++_}
 use Prim.Native.Nat.{ℕ, zero, suc, _+_, _-_, _≤_, _<_, min}
 use native.Mathlib.Omega.{arith}
-use native.Mathlib.Nat.{zero-add}
-use native.Mathlib.Decide.{decLe, decLt, ℕ-discrete}
+use native.Mathlib.Decide.{ℕ-discrete}
 use lib.Dec.{eqb, leb, ltb}
-use lib.IntN.{ℤ, pos, subℕ}
+use lib.IntN.{ℤ, subℕ}
 use lib.Signed.{_≤ℤ_}
-use lib.ListN.{length, getD}
+use lib.ListN.{getD}
 use borrow.Author.Tests.{ne-eqb, eq-eqb, eqb-true, eqb-false, leb-true, le-leb, lt-leb, ltb-true, ltb-false}
-use Rattle.scheduling.specs.Scheduling.{natural, Tasks, Proper, TaskSet, total, _with_, In, processing}
+use Rattle.scheduling.specs.Scheduling.{natural, Tasks, Proper, TaskSet, _with_, In, processing}
 use Rattle.integers.proofs.Bools.{leb-step, bool, clash}
-use Rattle.scheduling.proofs.Sets.{total-ext, _less_}
+use Rattle.scheduling.proofs.Sets.{_less_}
 use Rattle.scheduling.proofs.Processing.{processing-same, processing-less, processing-empty}
 use Rattle.scheduling.specs.Moments.{ByEarliest}
 use Rattle.integers.specs.Orders.{index}
 use Rattle.scheduling.specs.Scheduling.{Atom}
-use Rattle.trees.specs.Leaves.{Leaf, whiteAt, theta}
+use Rattle.trees.specs.Leaves.{Leaf, whiteAt}
 use Rattle.runs.specs.Runs.{within, conflict, conflict-of, bounds, propagation, propagation-of}
 use Rattle.runs.specs.Runs as edges
 use Rattle.trees.specs.Leaves as leaves
@@ -27,7 +26,7 @@ use Rattle.trees.specs.Leaves.{taskAt}
 use Rattle.trees.specs.Searches.{thetaOf}
 use Rattle.trees.proofs.Roots as tree
 use Rattle.trees.proofs.Thetas.{theta-none, theta-white, theta-skip}
-use Rattle.scheduling.specs.Scheduling.{Allows, Admits}
+use Rattle.scheduling.specs.Scheduling.{Admits}
 use Rattle.runs.proofs.Clauses.{within-none, within-more, conflict-hit, conflict-miss, propagation-hit, propagation-miss, bounds-hit, bounds-miss}
 
 -- what the atoms say of k: nothing, or u ≤ z ≤ v

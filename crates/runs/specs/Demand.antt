@@ -7,7 +7,7 @@ use lib.IntN.{ℤ, pos}
 use lib.Signed.{_≤ℤ_, _<ℤ_}
 use lib.ListN.{length, getD}
 use Rattle.scheduling.specs.Scheduling.{whole, Tasks, EdgeFindingBound, Schedule, Done, Conflict, Atom, HoldsAtEntry, PassesWith, PassesAlone}
-use Rattle.runs.specs.Traces.{Post, End, done, overload, emptied, Trace}
+use Rattle.runs.specs.Traces.{Post, done, overload, Trace}
 
 -- what a post says: its task starts at or after its bound
 abbrev pub consequentOf : Post → Atom

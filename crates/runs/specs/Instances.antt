@@ -1,8 +1,8 @@
 -- Runs, by computing: posts, reasons, how each ended, starts and leaf changes. A to G are the paper's.
 use mathlib.Core.Path.{_≡_, refl}
 use mathlib.Core.List.{List, [], _∷_, map}
-use Prim.Native.Nat.{ℕ, zero, suc}
-use lib.IntN.{ℤ, pos}
+use Prim.Native.Nat.{ℕ}
+use lib.IntN.{pos}
 use lib.ListN.{getD}
 use Rattle.integers.specs.Orders.{sort, insert, index, numbers}
 use Rattle.scheduling.specs.Scheduling.{natural, Tasks, Atom}

@@ -7,7 +7,7 @@ use Rattle.integers.specs.Orders.{index}
 use Rattle.scheduling.specs.Scheduling.{natural, Tasks}
 use Rattle.ects.specs.Ects.{exceeds}
 use Rattle.trees.specs.Leaves.{ect}
-use Rattle.runs.specs.Runs.{State, Turn, on, grayed, allWhite, candidate, lct, inner}
+use Rattle.runs.specs.Runs.{State, on, grayed, allWhite, candidate, lct, inner}
 
 module _ (o : ℕ) (J : Tasks natural) (first second : List ℕ) where
   -- Θ does not overload at level t

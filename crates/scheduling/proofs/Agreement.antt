@@ -1,10 +1,9 @@
 -- Two lists of tasks that agree on a set have the same est, lct, p and ect there, and so the same overloads and formulas.
 -- Assumes nothing.
-use mathlib.Core.Path.{_≡_, refl, sym, ap, subst, _∙_}
-use mathlib.Core.Bool.{Bool, true, false, cond, _||_}
-use mathlib.Core.Logic.{_⊎_, inl, inr}
-use Prim.Native.Nat.{ℕ, zero, suc, _+_, _<_}
-use Rattle.scheduling.specs.Scheduling.{Clock, Tasks, TaskSet, total, _with_, Largest, Least, In, Outside, Subset, completion, Est, Lct, processing, EstPlusP, Ect, Overloads, RuleFormula}
+use mathlib.Core.Path.{_≡_, sym, ap, subst, _∙_}
+use mathlib.Core.Bool.{Bool, true, cond}
+use Prim.Native.Nat.{ℕ, _+_, _<_}
+use Rattle.scheduling.specs.Scheduling.{Clock, Tasks, TaskSet, total, _with_, In, Subset, completion, Est, Lct, processing, EstPlusP, Ect, Overloads, RuleFormula}
 use Rattle.scheduling.proofs.Sets.{total-ext}
 
 -- The same count and durations, and on X the same ranges.

@@ -1,17 +1,17 @@
 -- The root's values over the leaves in the order of earliest starts: ect of the white set, and the largest ect with at most one gray task.
-use mathlib.Core.Path.{_≡_, refl, sym, ap, subst, _∙_}
-use mathlib.Core.Bool.{Bool, true, false, cond, _||_, _&&_}
+use mathlib.Core.Path.{_≡_, sym, ap, _∙_}
+use mathlib.Core.Bool.{Bool, true, false, _&&_}
 use mathlib.Core.Logic.{_⊎_, inl, inr}
 use Prim.Native.Nat.{ℕ, zero, suc, _+_, _-_, _≤_, _<_, max}
 use native.Mathlib.Omega.{arith}
 use native.Mathlib.Nat.{zero-add}
 use lib.Dec.{ltb}
-use borrow.Author.Tests.{lt-ltb, le-ltb}
-use native.Mathlib.Decide.{decLe, decLt, ℕ-discrete}
+use borrow.Author.Tests.{lt-ltb}
+use native.Mathlib.Decide.{decLe, ℕ-discrete}
 use Rattle.integers.proofs.Bools.{bool, clash}
-use Rattle.scheduling.specs.Scheduling.{natural, Tasks, Proper, TaskSet, _with_, In, Outside, NonEmpty, Ect}
+use Rattle.scheduling.specs.Scheduling.{natural, Tasks, Proper, TaskSet, _with_, In}
 use Rattle.scheduling.proofs.Sets.{with-in, with-new, with-old}
-use Rattle.scheduling.proofs.Scan.{scan, scan-in, scan-out, scan-zero, scan-is}
+use Rattle.scheduling.proofs.Scan.{scan, scan-in, scan-out, scan-zero}
 use Rattle.scheduling.specs.Moments.{ByEarliest}
 use Rattle.scheduling.proofs.LeafRanges as leafRange
 

@@ -1,21 +1,21 @@
 -- A check that passes is sound over all whole-number starts: only the ranges of the tasks that it looks at count.
 -- Assumes nothing.
-use mathlib.Core.Path.{_≡_, refl, sym, ap, subst, _∙_}
-use mathlib.Core.Bool.{Bool, true, false, cond, _||_, _&&_, not}
+use mathlib.Core.Path.{_≡_, refl, sym, ap, _∙_}
+use mathlib.Core.Bool.{true, cond}
 use mathlib.Core.Logic.{_⊎_, inl, inr}
-use Prim.Native.Nat.{ℕ, zero, suc, _+_, _-_, _≤_, _<_, max}
+use Prim.Native.Nat.{ℕ, _+_, _-_, _≤_, _<_}
 use native.Mathlib.Omega.{arith}
-use lib.IntN.{ℤ, pos, negsuc, _+ℤ_}
-use lib.Signed.{_≤ℤ_, _<ℤ_, ≤ℤ-refl, mag}
-use Rattle.scheduling.specs.Scheduling.{Clock, whole, natural, Tasks, Proper, TaskSet, total, _with_, Largest, Least, In, Outside, NonEmpty, Subset, completion, Est, Lct, processing, EstPlusP, Ect, Overloads, EdgeFindingBound, NoOverlap, RuleFormula}
+use lib.IntN.{ℤ, pos, _+ℤ_}
+use lib.Signed.{_≤ℤ_, ≤ℤ-refl}
+use Rattle.scheduling.specs.Scheduling.{Clock, whole, natural, Tasks, Proper, TaskSet, _with_, In, Subset, Overloads, NoOverlap, RuleFormula}
 use Rattle.scheduling.proofs.Agreement.{Agree, overloads→, formula→}
 use Rattle.scheduling.proofs.Sets.{with-new, with-old}
-use Rattle.integers.proofs.Bools.{bool, clash}
+use Rattle.integers.proofs.Bools.{bool}
 use Rattle.scheduling.proofs.Rule.{check-sound as nat-check-sound, overload-check as nat-overload-check}
 use Rattle.integers.specs.Moments.{moment, Above}
 use Rattle.integers.proofs.Moments.{mono, above-up, plus, deep, zero-above}
 use Rattle.integers.proofs.Ints.{ints}
-use Rattle.scheduling.proofs.Transfer.{sound, checks→, checks←, overload→, overload←}
+use Rattle.scheduling.proofs.Transfer.{checks→, checks←, overload→, overload←}
 use Rattle.scheduling.specs.Moments.{moments}
 
 -- other ranges outside X

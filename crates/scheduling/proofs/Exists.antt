@@ -1,15 +1,15 @@
 -- Every non-empty set has an est, an lct and an ect.
 -- Assumes nothing.
-use mathlib.Core.Path.{_≡_, refl, sym, ap, subst, _∙_}
-use mathlib.Core.Bool.{Bool, true, false, cond, _||_, _&&_, not}
-use mathlib.Core.Logic.{_⊎_, inl, inr}
-use Prim.Native.Nat.{ℕ, zero, suc, _+_, _-_, _≤_, _<_, max, min}
+use mathlib.Core.Path.{_≡_, refl}
+use mathlib.Core.Bool.{Bool, true, false, _&&_}
+use mathlib.Core.Logic.{inl, inr}
+use Prim.Native.Nat.{ℕ, _+_, _-_, _≤_}
 use native.Mathlib.Omega.{arith}
 use lib.Dec.{leb}
 use borrow.Author.Tests.{leb-true, le-leb}
-use Rattle.scheduling.specs.Scheduling.{natural, Tasks, Proper, TaskSet, total, _with_, Largest, Least, In, Outside, NonEmpty, Subset, completion, Est, Lct, processing, EstPlusP, Ect}
+use Rattle.scheduling.specs.Scheduling.{natural, Tasks, TaskSet, _with_, In, NonEmpty, completion, Est, Lct, processing, Ect}
 use Rattle.integers.proofs.Bools.{clash}
-use Rattle.scheduling.proofs.Sets.{Top, Empty, top}
+use Rattle.scheduling.proofs.Sets.{top}
 use Rattle.scheduling.proofs.Processing.{processing-mono}
 
 module _ (J : Tasks natural) where

@@ -1,13 +1,13 @@
 -- The join rule: where all of A starts before all of B, ect(A ∪ B) is the larger of ect(B) and ect(A) + p(B).
 -- Assumes nothing.
-use mathlib.Core.Path.{_≡_, refl, sym, ap, subst, _∙_}
-use mathlib.Core.Bool.{Bool, true, false, cond, _||_, _&&_}
-use mathlib.Core.Logic.{_⊎_, inl, inr}
+use mathlib.Core.Path.{_≡_, refl, sym, subst, _∙_}
+use mathlib.Core.Bool.{true, false, _||_, _&&_}
+use mathlib.Core.Logic.{inl, inr}
 use Prim.Native.Nat.{ℕ, zero, suc, _+_, _≤_, _<_, max}
 use native.Mathlib.Omega.{arith}
 use native.Mathlib.Decide.{decLe}
 use Rattle.integers.proofs.Bools.{bool, clash, and-true, and-yes, or-true, or-right}
-use Rattle.scheduling.specs.Scheduling.{natural, Tasks, TaskSet, total, In, Subset, Est, processing, EstPlusP, Ect}
+use Rattle.scheduling.specs.Scheduling.{natural, Tasks, TaskSet, total, In, Subset, processing, EstPlusP, Ect}
 use Rattle.scheduling.proofs.Sets.{Empty, top, total-ext, total-mono}
 use Rattle.scheduling.proofs.Processing.{term, term-true, term-false}
 use Rattle.scheduling.proofs.Monotone.{part-mono}

@@ -1,11 +1,11 @@
 -- What a node holds, over its range of leaves: d leaves from a on. Moment 0 stands for minus infinity.
-use mathlib.Core.Path.{_≡_, refl, sym, ap, subst, _∙_}
+use mathlib.Core.Path.{_≡_, refl, sym, subst, _∙_}
 use mathlib.Core.Bool.{Bool, true, false, cond}
 use mathlib.Core.Logic.{_⊎_, inl, inr}
-use Prim.Native.Nat.{ℕ, zero, suc, _+_, _-_, _≤_, _<_, max}
+use Prim.Native.Nat.{ℕ, zero, suc, _+_, _-_, _≤_, max}
 use native.Mathlib.Omega.{arith}
 use native.Mathlib.Nat.{add-suc, add-zero, add-assoc, le-antisymm}
-use Rattle.integers.proofs.Bools.{bool, clash}
+use Rattle.integers.proofs.Bools.{bool}
 
 -- the sums and maxima of two children and one leaf more; `omega` splits at most six maxima at a time
 ect-white : (R L S e p : ℕ) → max (max R (L + S)) e + p ≡ max (max R e + p) (L + (S + p))

@@ -1,21 +1,19 @@
 -- The run: what stands at each level, how each step keeps it, and what it comes to.
 use mathlib.Core.Path.{_≡_, refl, sym, ap, subst, _∙_}
-use mathlib.Core.Bool.{Bool, true, false, cond, _||_, _&&_, not}
+use mathlib.Core.Bool.{true, false}
 use mathlib.Core.Logic.{_⊎_, inl, inr}
-use Prim.Native.Nat.{ℕ, zero, suc, _+_, _-_, _≤_, _<_, max}
+use Prim.Native.Nat.{ℕ, suc, _+_, _-_, _≤_, _<_, max}
 use native.Mathlib.Omega.{arith}
 use native.Mathlib.Nat.{le-antisymm}
 use native.Mathlib.Decide.{decLe, decLt, ℕ-discrete}
-use borrow.Author.Tests.{ne-eqb, leb-true, leb-false, le-leb, lt-leb}
+use borrow.Author.Tests.{leb-true, le-leb, lt-leb}
 use lib.Dec.{leb}
-use Rattle.scheduling.specs.Scheduling.{natural, Tasks, Proper, TaskSet, total, _with_, Largest, Least, In, Outside, NonEmpty, Subset, completion, Est, Lct, processing, EstPlusP, Ect, Overloads, EdgeFindingBound, Schedule, Done, Conflict}
+use Rattle.scheduling.specs.Scheduling.{natural, Tasks, Proper, TaskSet, _with_, Largest, In, Outside, NonEmpty, Subset, completion, processing, EstPlusP, Ect, Overloads, EdgeFindingBound, Done}
 use Rattle.scheduling.specs.Moments.{ByCompletion}
 use Rattle.integers.proofs.Bools.{bool, clash, below-suc}
-use Rattle.integers.specs.Orders.{Ordered}
-use Rattle.scheduling.proofs.Sets.{Top, Empty, top, _less_, less-in, less-out, less-self, with-in, with-new, with-old}
+use Rattle.scheduling.proofs.Sets.{top, _less_, less-in, less-out, with-in, with-new, with-old}
 use Rattle.scheduling.proofs.Processing.{processing-less, processing-empty}
 use Rattle.scheduling.proofs.Monotone.{ect-mono}
-use Rattle.scheduling.proofs.Rule.{rule-sound, overload-sound}
 
 -- One post for each task whose start was raised, at its new earliest start.
 pub record Posts (J : Tasks natural) (now : ℕ → ℕ) (m : ℕ) (task bound : ℕ → ℕ) : Type 0 where

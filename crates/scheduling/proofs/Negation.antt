@@ -1,11 +1,9 @@
 -- A whole number meets the negation of an atom exactly where it does not meet the atom.
 -- Assumes nothing.
-use mathlib.Core.Path.{_≡_, refl}
-use mathlib.Core.Logic.{_⊎_, inl, inr, _↔_}
+use mathlib.Core.Logic.{inl, inr, _↔_}
 use Prim.Native.Nat.{ℕ, zero, suc}
-use native.Mathlib.Omega.{arith}
-use lib.IntN.{ℤ, pos, negsuc, _+ℤ_}
-use lib.Signed.{_≤ℤ_, _<ℤ_}
+use lib.IntN.{ℤ, pos, negsuc}
+use lib.Signed.{_≤ℤ_}
 use Rattle.integers.proofs.Ints.{up, dn, ints, sumℤ, equalℤ, ≤ℤ-cases}
 use Rattle.scheduling.specs.Scheduling.{Atom, Compares, Allows, negatedKind, negatedValue, negation}
 

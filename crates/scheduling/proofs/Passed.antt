@@ -1,13 +1,12 @@
 -- A check that meets the checker's formula is contradicted by no starts, of whatever range.
 -- Assumes nothing.
-use mathlib.Core.Path.{_≡_, refl, sym, ap, subst, _∙_}
+use mathlib.Core.Path.{sym, subst}
 use mathlib.Core.List.{List, [], _∷_, _++_}
-use mathlib.Core.Logic.{_⊎_, inl, inr}
 use mathlib.Core.Option.{Option, some, none}
 use Prim.Native.Nat.{ℕ, _≤_, _<_}
-use lib.IntN.{ℤ, pos, _+ℤ_}
+use lib.IntN.{ℤ}
 use lib.Signed.{_≤ℤ_}
-use Rattle.scheduling.specs.Scheduling.{whole, Tasks, TaskSet, _with_, In, NoOverlap, Atom, Allows, Meets, Every, Admits, given, negation, Bounded, PassesWith, PassesAlone, PassesFormula, Contradicts}
+use Rattle.scheduling.specs.Scheduling.{whole, Tasks, TaskSet, _with_, In, NoOverlap, Atom, Allows, Meets, Every, Admits, given, negation, Bounded, PassesFormula, Contradicts}
 use Rattle.scheduling.proofs.Negation.{negation-is}
 use Rattle.scheduling.proofs.Checks.{check-sound, overload-check}
 

@@ -1,11 +1,10 @@
 -- p of a set of tasks: more tasks, one task more, one less, none.
 -- Assumes nothing.
-use mathlib.Core.Path.{_≡_, refl, sym, ap, subst, _∙_}
-use mathlib.Core.Bool.{Bool, true, false, cond, _||_, _&&_, not}
+use mathlib.Core.Path.{_≡_, refl, ap}
+use mathlib.Core.Bool.{Bool, true, false, cond}
 use mathlib.Core.Logic.{_⊎_, inl, inr}
-use Prim.Native.Nat.{ℕ, zero, suc, _+_, _≤_, _<_, min}
+use Prim.Native.Nat.{ℕ, _+_, _≤_, _<_}
 use native.Mathlib.Omega.{arith}
-use native.Mathlib.Decide.{decLe}
 use borrow.Author.Tests.{ne-eqb}
 use Rattle.integers.proofs.Bools.{bool}
 use Rattle.scheduling.specs.Scheduling.{natural, Tasks, TaskSet, total, _with_, In, Outside, Subset, processing}

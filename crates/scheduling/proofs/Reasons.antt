@@ -1,18 +1,16 @@
 -- The reasons of posts and overloads: they hold at entry, and they pass the checker's formula.
-use mathlib.Core.Path.{_≡_, refl, sym, ap, subst, _∙_}
-use mathlib.Core.Bool.{Bool, true, false, cond, _||_, _&&_, not}
+use mathlib.Core.Path.{_≡_, refl}
+use mathlib.Core.Bool.{true, false, cond}
 use mathlib.Core.Logic.{_⊎_, inl, inr}
-use Prim.Native.Nat.{ℕ, zero, suc, _+_, _-_, _≤_, _<_, max, min}
+use Prim.Native.Nat.{ℕ, _+_, _-_, _≤_, _<_}
 use native.Mathlib.Omega.{arith}
-use native.Mathlib.Decide.{decLe, decLt, ℕ-discrete}
-use lib.Dec.{eqb, leb}
-use borrow.Author.Tests.{ne-eqb, eq-eqb, leb-true, le-leb}
+use lib.Dec.{eqb}
+use borrow.Author.Tests.{ne-eqb, eq-eqb}
 use Rattle.integers.proofs.Bools.{bool, clash}
-use Rattle.scheduling.specs.Scheduling.{natural, Tasks, Proper, TaskSet, total, _with_, Largest, Least, In, Outside, NonEmpty, Subset, completion, Est, Lct, processing, EstPlusP, Ect, Overloads, RuleFormula}
-use Rattle.scheduling.proofs.Sets.{Top, Empty, top, _less_, less-in, less-out, with-in}
-use Rattle.scheduling.proofs.Processing.{processing-less, processing-mono, processing-empty}
-use Rattle.scheduling.proofs.Exists.{est-some, lct-some, ect-some, least-at}
-use Rattle.scheduling.specs.Moments.{ByEarliest}
+use Rattle.scheduling.specs.Scheduling.{natural, Tasks, Proper, TaskSet, _with_, In, Outside, NonEmpty, Subset, completion, Est, processing, EstPlusP, Overloads, RuleFormula}
+use Rattle.scheduling.proofs.Sets.{_less_}
+use Rattle.scheduling.proofs.Processing.{processing-less}
+use Rattle.scheduling.proofs.Exists.{est-some, lct-some, ect-some}
 
 -- The reason of a post of i at b: the tasks of Ω start at r or later, those of Ω′ at its est or later, all of Ω ends before r + p Ω + p i, and i starts at r or later.
 module _ (J : Tasks natural) (ok : Proper J) (Ω Ω′ : TaskSet) (i r s′ b c : ℕ) (out : Outside J Ω i) (sub : Subset J Ω′ Ω) (est′ : Est J Ω′ s′) (bound : s′ + processing J Ω′ ≡ b)

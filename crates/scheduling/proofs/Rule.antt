@@ -1,14 +1,12 @@
 -- The edge-finding rule is sound, an overload leaves no schedule, and so it is with the checker's formula, over natural numbers.
 -- Assumes nothing.
-use mathlib.Core.Path.{_≡_, refl, sym, ap, subst, _∙_}
-use mathlib.Core.Bool.{Bool, true, false, cond, _||_, _&&_, not}
-use mathlib.Core.Logic.{_⊎_, inl, inr}
-use Prim.Native.Nat.{ℕ, zero, suc, _+_, _≤_, _<_, min}
+use mathlib.Core.Path.{_≡_, refl, ap}
+use mathlib.Core.Logic.{inl, inr}
+use Prim.Native.Nat.{ℕ, _+_, _≤_, _<_, min}
 use native.Mathlib.Omega.{arith}
 use native.Mathlib.Decide.{decLe}
-use borrow.Author.Tests.{ne-eqb}
 use Rattle.integers.proofs.Bools.{clash}
-use Rattle.scheduling.specs.Scheduling.{natural, Tasks, Proper, TaskSet, _with_, In, Outside, Subset, completion, Est, Lct, processing, EstPlusP, Ect, Overloads, EdgeFindingBound, NoOverlap, Schedule, RuleFormula}
+use Rattle.scheduling.specs.Scheduling.{natural, Tasks, Proper, TaskSet, _with_, In, Outside, completion, Lct, processing, EstPlusP, Overloads, EdgeFindingBound, NoOverlap, Schedule, RuleFormula}
 use Rattle.scheduling.proofs.Sets.{with-in, with-new, with-old}
 use Rattle.scheduling.proofs.Processing.{processing-with}
 use Rattle.scheduling.proofs.Windows.{ends-by}

@@ -1,17 +1,16 @@
 -- The ect of a set, one task after the other in the order of earliest starts: what the tree's root holds.
-use mathlib.Core.Path.{_≡_, refl, sym, ap, subst, _∙_}
-use mathlib.Core.Bool.{Bool, true, false, cond, _||_, _&&_, not}
+use mathlib.Core.Path.{_≡_, refl, sym, ap, _∙_}
+use mathlib.Core.Bool.{Bool, true, false, cond, _&&_}
 use mathlib.Core.Logic.{_⊎_, inl, inr}
 use Prim.Native.Nat.{ℕ, zero, suc, _+_, _-_, _≤_, _<_, max}
 use native.Mathlib.Omega.{arith}
-use native.Mathlib.Decide.{decLe, decLt, ℕ-discrete}
-use borrow.Author.Tests.{ne-eqb, eq-eqb, leb-true, leb-false, le-leb, lt-leb, ltb-true, ltb-false, lt-ltb, le-ltb}
-use lib.Dec.{leb, ltb, eqb}
+use native.Mathlib.Decide.{decLe, ℕ-discrete}
+use borrow.Author.Tests.{ltb-true, lt-ltb}
+use lib.Dec.{ltb}
 use Rattle.integers.proofs.Bools.{bool, clash}
-use Rattle.integers.specs.Orders.{Ordered}
-use Rattle.scheduling.specs.Scheduling.{natural, Tasks, Proper, TaskSet, total, _with_, Largest, Least, In, Outside, NonEmpty, Subset, completion, Est, Lct, processing, EstPlusP, Ect, Overloads, EdgeFindingBound, Schedule}
+use Rattle.scheduling.specs.Scheduling.{natural, Tasks, Proper, TaskSet, _with_, In, NonEmpty, Subset, processing, EstPlusP, Ect}
 use Rattle.scheduling.specs.Moments.{ByEarliest}
-use Rattle.scheduling.proofs.Sets.{Top, Empty, top, _less_, less-in, less-out, less-self, with-in, with-new, with-old}
+use Rattle.scheduling.proofs.Sets.{_less_, less-in, less-out, with-in, with-new, with-old}
 use Rattle.scheduling.proofs.Processing.{processing-less, processing-empty, processing-mono, processing-with}
 
 module _ (J : Tasks natural) (T rank : ℕ → ℕ) where

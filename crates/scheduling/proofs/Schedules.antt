@@ -1,7 +1,6 @@
 -- What overloads, edge-finding bounds and posts mean for schedules, over whole numbers.
 -- Assumes nothing.
-use mathlib.Core.Path.{_≡_}
-use mathlib.Core.Logic.{_⊎_, inl, inr}
+use mathlib.Core.Logic.{inl, inr}
 use Prim.Native.Nat.{ℕ, _<_}
 use lib.IntN.{ℤ}
 use lib.Signed.{_≤ℤ_, clashℤ, <ℤ-≤ℤ-trans}

@@ -1,14 +1,12 @@
 -- The ect of a set is est + p of a suffix of it in the order of earliest starts.
 -- Assumes nothing.
-use mathlib.Core.Path.{_≡_, refl, sym, ap, subst, _∙_}
-use mathlib.Core.Bool.{Bool, true, false, cond, _||_, _&&_, not}
-use mathlib.Core.Logic.{_⊎_, inl, inr}
-use Prim.Native.Nat.{ℕ, zero, suc, _+_, _-_, _≤_, _<_, max, min}
+use mathlib.Core.Path.{_≡_, refl, ap}
+use mathlib.Core.Bool.{Bool, true, false, _&&_}
+use Prim.Native.Nat.{ℕ, _+_, _-_, _≤_, _<_}
 use native.Mathlib.Omega.{arith}
-use native.Mathlib.Decide.{decLe}
 use lib.Dec.{leb}
 use borrow.Author.Tests.{leb-true, le-leb}
-use Rattle.integers.proofs.Bools.{bool, clash}
+use Rattle.integers.proofs.Bools.{clash}
 use Rattle.scheduling.specs.Scheduling.{natural, Tasks, TaskSet, _with_, In, NonEmpty, Subset, Est, processing, EstPlusP, Ect}
 use Rattle.scheduling.specs.Moments.{ByEarliest}
 use Rattle.scheduling.proofs.Processing.{processing-mono}

@@ -1,17 +1,14 @@
 -- The definitions over whole numbers, and over their moments: each says the same on both clocks.
 -- Assumes nothing.
 use mathlib.Core.Path.{_≡_, refl, sym, ap, subst, _∙_}
-use mathlib.Core.Bool.{Bool, true, false, cond, _||_, _&&_, not}
 use mathlib.Core.Logic.{_⊎_, inl, inr}
-use Prim.Native.Nat.{ℕ, zero, suc, _+_, _-_, _≤_, _<_, max}
+use Prim.Native.Nat.{ℕ, _+_, _-_, _≤_, _<_}
 use native.Mathlib.Omega.{arith}
-use lib.IntN.{ℤ, pos, negsuc, _+ℤ_, subℕ}
-use lib.Signed.{_≤ℤ_, _<ℤ_, clashℤ, <ℤ-≤ℤ-trans}
-use lib.Dec.{T, ltb, leb, leb→le, le→leb, ltb→lt, lt→ltb}
-use borrow.Author.Tests.{ltb-true, ltb-false}
+use lib.IntN.{ℤ, pos, _+ℤ_}
+use lib.Signed.{_≤ℤ_}
 use Rattle.integers.specs.Moments.{moment, Above}
 use Rattle.integers.proofs.Moments.{mono, reflect, mono<, reflect<, above-up, plus, plus-above, same}
-use Rattle.scheduling.specs.Scheduling.{Clock, whole, natural, Tasks, Proper, TaskSet, total, _with_, Largest, Least, In, Outside, NonEmpty, Subset, completion, Est, Lct, processing, EstPlusP, Ect, Overloads, EdgeFindingBound, Schedule, Done, Conflict, RuleFormula}
+use Rattle.scheduling.specs.Scheduling.{whole, natural, Tasks, Proper, TaskSet, _with_, In, completion, Est, Lct, processing, EstPlusP, Ect, Overloads, EdgeFindingBound, Schedule, Done, Conflict, RuleFormula}
 use Rattle.scheduling.specs.Moments.{moments}
 
 module _ (o : ℕ) where

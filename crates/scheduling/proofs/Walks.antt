@@ -1,16 +1,13 @@
 -- A reason's two walks over Θ, in the order of earliest starts, stop inside it: where i is posted some suffix passes lct, and the suffix
 -- whose est + p is ect(Θ) stands at or after the first that does.
 -- Assumes nothing.
-use mathlib.Core.Path.{_≡_, refl, sym, ap, subst, _∙_}
-use mathlib.Core.Bool.{Bool, true, false, cond, _||_, _&&_, not}
+use mathlib.Core.Path.{_≡_, refl}
+use mathlib.Core.Bool.{true}
 use mathlib.Core.Logic.{_⊎_, inl, inr}
-use Prim.Native.Nat.{ℕ, zero, suc, _+_, _-_, _≤_, _<_, max, min}
+use Prim.Native.Nat.{ℕ, _+_, _-_, _≤_, _<_, min}
 use native.Mathlib.Omega.{arith}
 use native.Mathlib.Decide.{decLe}
-use lib.Dec.{leb}
-use borrow.Author.Tests.{leb-true, le-leb}
-use Rattle.integers.proofs.Bools.{bool, clash}
-use Rattle.scheduling.specs.Scheduling.{natural, Tasks, TaskSet, _with_, In, NonEmpty, Subset, Est, processing, EstPlusP, Ect}
+use Rattle.scheduling.specs.Scheduling.{natural, Tasks, TaskSet, _with_, In, NonEmpty, Subset, processing, EstPlusP, Ect}
 use Rattle.scheduling.specs.Moments.{ByEarliest}
 use Rattle.scheduling.proofs.Sets.{Empty, top, _less_, less-in, with-in}
 use Rattle.scheduling.proofs.Processing.{processing-less, processing-mono, processing-empty}

@@ -1,15 +1,11 @@
 -- Tasks that do not overlap, in a window of time, fit there.
 -- Assumes nothing.
-use mathlib.Core.Path.{_≡_, refl, sym, ap, subst, _∙_}
-use mathlib.Core.Bool.{Bool, true, false, cond, _||_, _&&_, not}
-use mathlib.Core.Logic.{_⊎_, inl, inr}
-use Prim.Native.Nat.{ℕ, zero, suc, _+_, _≤_, _<_, min}
+use mathlib.Core.Path.{_≡_, refl}
+use mathlib.Core.Logic.{inl, inr}
+use Prim.Native.Nat.{ℕ, zero, suc, _+_, _≤_, _<_}
 use native.Mathlib.Omega.{arith}
-use native.Mathlib.Decide.{decLe}
-use borrow.Author.Tests.{ne-eqb}
-use Rattle.integers.proofs.Bools.{clash}
-use Rattle.scheduling.specs.Scheduling.{natural, Tasks, TaskSet, In, Subset, completion, Est, Lct, processing, EstPlusP, NoOverlap}
-use Rattle.scheduling.proofs.Sets.{Top, Empty, top, _less_, less-in}
+use Rattle.scheduling.specs.Scheduling.{natural, Tasks, TaskSet, In, processing, EstPlusP, NoOverlap}
+use Rattle.scheduling.proofs.Sets.{Top, top, _less_, less-in}
 use Rattle.scheduling.proofs.Processing.{processing-less, processing-empty}
 
 module _ (J : Tasks natural) where

@@ -1,14 +1,14 @@
 -- The definitions at small tasks, where a strict order or a proper subset decides.
 -- Assumes nothing.
-use mathlib.Core.Path.{_≡_, refl, sym, ap, subst, _∙_}
-use mathlib.Core.Bool.{Bool, true, false, cond, _||_}
+use mathlib.Core.Path.{_≡_, refl}
+use mathlib.Core.Bool.{Bool, true, false, cond}
 use mathlib.Core.List.{List, [], _∷_}
 use mathlib.Core.Logic.{_⊎_, inl, inr}
 use Prim.Native.Nat.{ℕ, zero, suc, _+_, _≤_, _<_}
 use native.Mathlib.Omega.{arith}
 use lib.ListN.{length, getD}
-use Rattle.integers.proofs.Bools.{bool, clash, below-suc}
-use Rattle.scheduling.specs.Scheduling.{natural, Tasks, TaskSet, total, _with_, Largest, Least, In, Outside, Est, Lct, processing, EstPlusP, Ect, Overloads, EdgeFindingBound, RuleFormula}
+use Rattle.integers.proofs.Bools.{clash, below-suc}
+use Rattle.scheduling.specs.Scheduling.{natural, Tasks, TaskSet, total, _with_, In, Est, processing, EstPlusP, Ect, Overloads, EdgeFindingBound, RuleFormula}
 
 -- durations, earliest and latest starts
 abbrev lined : List ℕ → List ℕ → List ℕ → Tasks natural

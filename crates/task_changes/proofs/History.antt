@@ -28,7 +28,7 @@ use Rattle.task_changes.specs.Histories.{leaves, History, creation, addi
 use Rattle.task_changes.proofs.Placing.{placed-length, placed-front, front-placed}
 use Rattle.task_changes.proofs.Leaving.{without-few, without-length}
 use Rattle.task_changes.proofs.Sums.{sum-more, sum-without, sum-given}
-use Rattle.task_changes.proofs.Changing.{lasts, lasting, added-lawful, added-tasks, removed-lawful, removed-tasks, addable, removable}
+use Rattle.task_changes.proofs.Changing.{lasts, lasting, added-lawful, removed-lawful, addable, removable}
 
 -- A record is that of these durations: they stand in its first places, with their sum.
 record Holds (r : Propagator) (ds : List ℕ) : Type 0 where

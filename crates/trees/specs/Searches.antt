@@ -6,7 +6,7 @@ use mathlib.Core.Path.{_≡_}
 use Prim.Native.Nat.{ℕ, zero, suc, _+_, _*_, _≤_, _<_}
 use lib.Dec.{eqb, leb}
 use lib.ListN.{getD}
-use Rattle.integers.specs.Limits.{INNER}
+use Rattle.integers.specs.Limits.{TASKS, NODES, INNER}
 use Rattle.trees.specs.declared.theta_lambda_tree.Node.{Node}
 use Rattle.trees.specs.declared.theta_lambda_tree.Around.{Around}
 use Rattle.trees.specs.declared.theta_lambda_tree.Around.the-variants as around
@@ -91,7 +91,7 @@ module _ (leaf : ℕ → Node) where
 
 -- no position: there are as many nodes
 abbrev pub nowhere : ℕ
-nowhere = 127
+nowhere = NODES
 
 -- the answer's position among the nodes, m of which are inner ones
 abbrev pub foundAt : ℕ → Option ℕ → ℕ
@@ -114,7 +114,7 @@ pub record Searched (m h i : ℕ) (at : ℕ → Node) : Type 0 where
 pub record Searchable (m h : ℕ) (at : ℕ → Node) : Type 0 where
   pub searched : Searched m h 0 at
   pub complete : m + 1 ≡ width h
-  pub past : (k : ℕ) → 48 ≤ k → gray (leavesOf m at k) ≡ false
+  pub past : (k : ℕ) → TASKS ≤ k → gray (leavesOf m at k) ≡ false
 
 -- Theta -----------------------------------------------------------------------------------------------------------------------
 

@@ -1,7 +1,7 @@
 // Complete binary trees in an array: where the children and the parent of a node stand, and how many inner nodes a number of leaves asks for.
 use integers::limits::TASKS;
 ghost use mathlib.Core.Path.{_≡_};
-ghost use Prim.Native.Nat.{_+_, _*_, _-_, _/_, _≤_, _<_, max};
+ghost use Prim.Native.Nat.{_+_, _*_, _-_, _/_, _≤_, _<_};
 ghost use lib.Dec.{leb};
 ghost use lib.ListN.{take, length};
 ghost use Rattle.integers.specs.Limits.{NODES, TASKS};

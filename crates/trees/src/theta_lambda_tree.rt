@@ -18,7 +18,7 @@ use integers::limits::TREEWORDS;
 use integers::max;
 ghost use mathlib.Core.Path.{_≡_};
 ghost use Prim.Native.Nat.{ℕ, _+_, _*_, _-_, _≤_, _<_};
-ghost use lib.ListN.{length, take};
+ghost use lib.ListN.{length};
 ghost use Rattle.integers.specs.Limits.{INNER, NODES, TASKS, TREEWORDS};
 ghost use Rattle.ects.specs.Ects.{momentOf};
 ghost use Rattle.trees.specs.Shapes.{leftmost, changed, leavesOf, TreeOf};

@@ -1,3 +1,4 @@
+-- The answer ends inside the buffer.
 use mathlib.Core.Path.{sym}
 use lib.Seq.{length-take-le}
 use borrow.Author.Needs.{needs}

@@ -1,3 +1,4 @@
+-- Only the measure is needed: each pass goes past one end.
 use Prim.Native.Nat.{_-_}
 use lib.ListN.{length}
 use borrow.Author.Needs.{needs}

@@ -1,3 +1,4 @@
+-- The invariant: i lies from `from` to the end.
 use Prim.Native.Nat.{_-_, _≤_}
 use lib.ListN.{length}
 use borrow.Author.Needs.{needs}

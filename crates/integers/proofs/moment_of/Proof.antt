@@ -1,5 +1,5 @@
 -- Widened to 64 bits the sum cannot overflow, and it is the moment, which fits 32 bits again.
-use mathlib.Core.Path.{_≡_, refl, sym, ap, _∙_, subst}
+use mathlib.Core.Path.{_≡_, sym, ap, _∙_, subst}
 use lib.IntN.{ℤ, pos, _+ℤ_, natAbs}
 use lib.Signed.{nonNeg}
 use lib.Dec.{T}

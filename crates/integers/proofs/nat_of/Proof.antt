@@ -1,10 +1,10 @@
 -- A number that is not negative keeps its value through the cast.
-use mathlib.Core.Path.{_≡_, refl, sym, ap, _∙_, subst}
-use lib.IntN.{ℤ, pos, natAbs}
-use lib.Signed.{_≤ℤ_, nonNeg, yes-nonNeg, pos-natAbs}
+use mathlib.Core.Path.{sym, subst}
+use lib.IntN.{ℤ, natAbs}
+use lib.Signed.{nonNeg, yes-nonNeg}
 use lib.Dec.{T}
-use mir.Syntax.{w32, w64}
-use mir.Val.{Fits, SFits}
+use mir.Syntax.{w32}
+use mir.Val.{Fits}
 use mir.Facts.{fits-natAbs}
 use Rattle.integers.proofs.Ints.{back, nonneg-cast}
 use Rattle.integers.proofs.nat_of.Statement.{statement}

@@ -1,6 +1,6 @@
 -- In 64 bits the difference is the instant of the moment, and that fits 32 bits.
-use mathlib.Core.Path.{_≡_, refl, sym, ap, _∙_, subst}
-use lib.IntN.{ℤ, pos, _-ℤ_, subℕ}
+use mathlib.Core.Path.{_≡_, sym, ap, _∙_, subst}
+use lib.IntN.{ℤ, pos, _-ℤ_}
 use Prim.Native.Nat.{ℕ, _<_, _^_}
 use native.Mathlib.Omega.{arith}
 use borrow.Author.Needs.{needs}

@@ -1,6 +1,6 @@
 -- `request_answers::change_numbers` meets its contract: each case gives its own numbers.
 -- Assumes nothing.
-use mathlib.Core.Path.{sym, _∙_}
+use mathlib.Core.Path.{sym}
 use Rattle.task_changes.specs.Numbers.{changeNumbers}
 use Rattle.answers.specs.RequestAnswers.{changeAnswer}
 use borrow.Author.Needs.{needs}

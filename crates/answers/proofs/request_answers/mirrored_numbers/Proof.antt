@@ -2,7 +2,7 @@
 -- Assumes nothing.
 use mathlib.Core.Path.{sym, subst, _∙_}
 use native.Mathlib.Omega.{arith}
-use Rattle.propagator.specs.Outcomes.{outcomeNumbers}
+use Rattle.levels.specs.Outcomes.{outcomeNumbers}
 use Rattle.answers.specs.Answers.{ToldInWords}
 use Rattle.answers.specs.RequestAnswers.{mirroredAnswer}
 use borrow.Author.Needs.{needs}

@@ -1,6 +1,4 @@
 -- What `gather` found decides: nothing, and nothing overloads; else the three numbers of the span are compared.
-use mathlib.Core.Path.{sym}
-use Prim.Native.Nat.{_+_}
 use native.Mathlib.Omega.{arith}
 use borrow.Author.Needs.{needs}
 use borrow.Author.Tests.{not-true, not-false}

@@ -1,3 +1,4 @@
+-- The invariant: the tasks below i have their mirrored bounds, and the places from i on are 0.
 use mathlib.Core.Path.{_≡_, sym, ap, _∙_}
 use mathlib.Core.Bool.{false}
 use mathlib.Core.List.{List}

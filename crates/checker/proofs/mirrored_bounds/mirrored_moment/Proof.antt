@@ -1,3 +1,4 @@
+-- 2³² less a sum is formed as the largest u32 less that sum, and one: neither step wraps.
 use mathlib.Core.Path.{_≡_, sym, ap, _∙_}
 use mathlib.Core.Bool.{Bool}
 use Prim.Native.Nat.{_+_, _-_}

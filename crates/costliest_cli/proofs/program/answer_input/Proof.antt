@@ -1,3 +1,4 @@
+-- The bytes are those of the text that was read.
 use Rattle.text.specs.Numbers.{numbersOf}
 use Rattle.costliest_cli.specs.Written.{written}
 use Rattle.plan_cli.proofs.Printing as printing

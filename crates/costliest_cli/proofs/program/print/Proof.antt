@@ -1,3 +1,4 @@
+-- What is put for the numbers of the text is what `written` says of it.
 use Rattle.text.specs.Numbers.{numbersOf}
 use Rattle.costliest_cli.specs.Written.{written}
 use Rattle.plan_cli.proofs.Printing as printing

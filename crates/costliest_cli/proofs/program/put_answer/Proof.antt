@@ -1,3 +1,4 @@
+-- By what the numbers ask for: a size, or the refusal.
 use mathlib.Core.Path.{sym, ap, subst, _∙_}
 use Prim.Native.Nat.{_≤_}
 use native.Mathlib.Omega.{arith}

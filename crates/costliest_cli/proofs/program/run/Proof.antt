@@ -1,3 +1,4 @@
+-- What is put ends inside the buffer, so that part of it can be written out.
 use mathlib.Core.Path.{sym}
 use lib.Seq.{length-take-le}
 use borrow.Author.Needs.{needs}

@@ -1,3 +1,4 @@
+-- Each way out is one case of `askedIn`: no list of numbers, another count than one, a number below 1 or above the limit, a size.
 use mathlib.Core.Path.{_≡_, sym, ap, _∙_}
 use native.Mathlib.Omega.{arith}
 use lib.IntN.{pos}

@@ -1,3 +1,4 @@
+-- The count's line, and the tasks' lines behind it.
 use native.Mathlib.Omega.{arith}
 use Rattle.costliest_cli.proofs.Putting.{puts-instance}
 use borrow.Author.Needs.{needs}

@@ -1,3 +1,4 @@
+-- Three numbers with what stands between them, put one behind the other; each has at most 20 bytes.
 use native.Mathlib.Omega.{arith}
 use Rattle.costliest_cli.proofs.Putting.{puts-task}
 use borrow.Author.Needs.{needs}

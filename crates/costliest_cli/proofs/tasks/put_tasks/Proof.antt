@@ -1,3 +1,4 @@
+-- The invariant: the lines of the tasks below k are put, with at most 63 bytes for each.
 use mathlib.Core.Path.{_≡_, refl, _∙_}
 use Prim.Native.Nat.{_+_, _*_, _-_, _≤_}
 use native.Mathlib.Omega.{arith}

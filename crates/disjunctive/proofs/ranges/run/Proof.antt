@@ -46,9 +46,9 @@ use Rattle.integers.specs.Limits.{TASKS}
 use Rattle.records.specs.declared.record.Propagator.{Propagator}
 use Rattle.records.proofs.record.Propagator as P
 use Rattle.records.proofs.record.Propagator.Laws as P′
-use Rattle.propagator.specs.declared.disjunctive_propagator.Finished.{Finished}
-use Rattle.propagator.proofs.disjunctive_propagator.Finished as F
-use Rattle.propagator.proofs.disjunctive_propagator.Finished.Laws as F′
+use Rattle.levels.specs.declared.outcome.Finished.{Finished}
+use Rattle.levels.proofs.outcome.Finished as F
+use Rattle.levels.proofs.outcome.Finished.Laws as F′
 use Rattle.barred_starts.specs.declared.range.Range.{Range}
 use Rattle.promises.specs.RanLent.{RanLent}
 use Rattle.disjunctive.specs.Ranges.{RanCore}

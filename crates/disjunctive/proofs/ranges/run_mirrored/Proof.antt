@@ -46,8 +46,8 @@ use Rattle.integers.specs.Limits.{TASKS}
 use Rattle.records.specs.declared.record.Propagator.{Propagator}
 use Rattle.records.proofs.record.Propagator as P
 use Rattle.records.proofs.record.Propagator.Laws as P′
-use Rattle.propagator.proofs.disjunctive_propagator.Outcome as O
-use Rattle.propagator.proofs.disjunctive_propagator.Outcome.Laws as O′
+use Rattle.levels.proofs.outcome.Outcome as O
+use Rattle.levels.proofs.outcome.Outcome.Laws as O′
 use Rattle.barred_starts.specs.declared.range.Range.{Range}
 use Rattle.barred_starts.specs.Ranges.{withLatests}
 use Rattle.promises.specs.RanLent.{RanMirroredLent}

@@ -21,10 +21,10 @@ long c = search needs
 
 -- an array as it is made
 abbrev zeros : List ℤ
-zeros = replicate 48 (pos 0)
+zeros = replicate TASKS (pos 0)
 
 front : (n : ℕ) → n ≤ TASKS → length (take n zeros) ≡ n
-front n h = length-take-le n zeros (omega (arith, length-replicate 48 (pos 0)))
+front n h = length-take-le n zeros (omega (arith, length-replicate TASKS (pos 0)))
 
 -- when both are filled: what each call before left
 abbrev start : tie.After-to2 → tie.Start
@@ -52,10 +52,10 @@ abbrev to : tie.After-to2 → List ℤ
 to c = second c .mirror-starts2 .last .0 ++ drop (n c) zeros
 
 from-long : (c : tie.After-to2) → length (from c) ≡ TASKS
-from-long c = length-front zeros (first c .mirror-starts .last .0) (n c) (first c .mirror-starts .kept .0) ∙ length-replicate 48 (pos 0)
+from-long c = length-front zeros (first c .mirror-starts .last .0) (n c) (first c .mirror-starts .kept .0) ∙ length-replicate TASKS (pos 0)
 
 to-long : (c : tie.After-to2) → length (to c) ≡ TASKS
-to-long c = length-front zeros (second c .mirror-starts2 .last .0) (n c) (second c .mirror-starts2 .kept .0) ∙ length-replicate 48 (pos 0)
+to-long c = length-front zeros (second c .mirror-starts2 .last .0) (n c) (second c .mirror-starts2 .kept .0) ∙ length-replicate TASKS (pos 0)
 
 from-is : (c : tie.After-to2) → take (n c) (from c) ≡ mirrorStarts (take (length (start c .args .latest .now)) (start c .args .«record» .durations)) (start c .args .latest .now)
 from-is c = take-at (first c .mirror-starts .last .0) (drop (n c) zeros) (n c) (first-long c) ∙ first c .mirror-starts .ensures

@@ -1,4 +1,4 @@
--- `counter::overload_test::accepted` meets its contract.
+-- `overload_test::accepted` meets its contract.
 -- Assumes nothing.
 use mathlib.Core.Path.{_≡_}
 use lib.ListN.{length}

@@ -1,4 +1,4 @@
--- `counter::overload_test::read_tasks` meets its contract.
+-- `overload_test::read_tasks` meets its contract.
 -- Assumes nothing.
 use mathlib.Core.Path.{_≡_, sym, _∙_}
 use mathlib.Core.List.{List}

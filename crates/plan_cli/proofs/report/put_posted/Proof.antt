@@ -1,9 +1,7 @@
 -- The post's own line, and behind it the lines of what `post_reason` reads of the atoms.
-use mathlib.Core.Path.{ap}
-use Prim.Native.Nat.{_+_, _*_}
+use mathlib.Core.Path.{ap, _∙_}
 use native.Mathlib.Omega.{arith}
-use lib.IntN.{pos}
-use lib.ListN.{length, getD}
+use lib.ListN.{length}
 use mir.Syntax.{w32}
 use Rattle.integers.proofs.Ints.{back-of}
 use Rattle.plan_cli.proofs.Reporting.{puts-posted}
@@ -11,26 +9,11 @@ use borrow.Author.Needs.{needs}
 use Rattle.plan_cli.proofs.report.put_posted.Statement.{statement}
 use Rattle.plan_cli.proofs.report.put_posted.Tie as tie
 
-mul-put-post : tie.Need-mul-put-post
-mul-put-post c = search needs
+task-word-requires : tie.Need-task-word-requires
+task-word-requires c κs = search needs
 
-mul-put-post-2 : tie.Need-mul-put-post-2
-mul-put-post-2 c = search needs
-
-shared-slice-copy-out-put-post : tie.Need-shared-slice-copy-out-put-post
-shared-slice-copy-out-put-post c = search needs
-
-mul-put-post-3 : tie.Need-mul-put-post-3
-mul-put-post-3 c = search needs
-
-add-put-post : tie.Need-add-put-post
-add-put-post c = search needs
-
-mul-put-post-4 : tie.Need-mul-put-post-4
-mul-put-post-4 c = search needs
-
-shared-slice-copy-out-put-post-2 : tie.Need-shared-slice-copy-out-put-post-2
-shared-slice-copy-out-put-post-2 c = search needs
+bound-word-requires : tie.Need-bound-word-requires
+bound-word-requires c κs = search needs
 
 put-post-requires : tie.Need-put-post-requires
 put-post-requires c κs = search needs
@@ -55,7 +38,7 @@ returns c =
     let line = c .before .before .before .before .before .before .before .put-post .ensures in
     let words = c .before .before .before .post-reason in
     let why = c .before .before .put-reason .ensures in (
-      puts-posted posts (s .args .atoms .now) _ (s .args .count) (s .args .j) (back-of w32 (getD posts (4 * s .args .j) (pos 0)) (start .put-post-arg2 .given)) (back-of w32 (getD posts (4 * s .args .j + 1) (pos 0)) (at .put-post-arg3 .given)) (words .ensures) (line .0) (why .0),
+      puts-posted posts (s .args .atoms .now) _ (s .args .count) (s .args .j) (back-of w32 (start .task-word .result) (start .task-word .ok) ∙ start .task-word .ensures) (back-of w32 (at .bound-word .result) (at .bound-word .ok) ∙ at .bound-word .ensures) (words .ensures) (line .0) (why .0),
       omega (arith, ap length (words .ensures), line .1, why .1),
     )
 
@@ -63,13 +46,8 @@ pub put-posted-spec : {M : Type 1} → statement M
 put-posted-spec =
     tie.close
     (tie.spec
-    mul-put-post
-    mul-put-post-2
-    shared-slice-copy-out-put-post
-    mul-put-post-3
-    add-put-post
-    mul-put-post-4
-    shared-slice-copy-out-put-post-2
+    task-word-requires
+    bound-word-requires
     put-post-requires
     post-reason-requires
     put-reason-requires

@@ -5,7 +5,7 @@ use Prim.Native.Nat.{ℕ, _≤_}
 use lib.ListN.{length}
 use Rattle.integers.specs.Limits.{TASKS}
 use Rattle.runs.specs.Traces.{Trace}
-use Rattle.propagator.specs.declared.disjunctive_propagator.Outcome.{Outcome}
+use Rattle.levels.specs.declared.outcome.Outcome.{Outcome}
 use Rattle.plan_cli.specs.Lines.{doneLine, emptiedLine, refusedLine, answerLines}
 use Rattle.plan_cli.specs.RunSlices.{Shown}
 use native.Mathlib.Omega.{arith}

@@ -5,10 +5,10 @@ use mathlib.Core.List.{List}
 use Prim.Native.Nat.{ℕ}
 use lib.ListN.{length, replicate}
 use borrow.Author.Needs.{needs}
-use Rattle.integers.specs.Limits.{TASKS}
+use Rattle.integers.specs.Limits.{TASKS, TREEWORDS}
 use Rattle.sorts.proofs.Sorted.{sorted-permutes}
-use Rattle.propagator.specs.Filling.{Fillable, Filled}
-use Rattle.propagator.specs.Finding.{Begun}
+use Rattle.levels.specs.Filling.{Fillable, Filled}
+use Rattle.levels.specs.Finding.{Begun}
 use Rattle.propagator.proofs.Beginning.{key-small, keys-small, latest, fillable, begun, left}
 use Rattle.propagator.proofs.disjunctive_propagator.run_accepted.Statement.{statement}
 use Rattle.propagator.proofs.disjunctive_propagator.run_accepted.Tie as tie
@@ -41,7 +41,7 @@ places c = c .before
 
 -- the tree of no task can be filled,
 abbrev can-fill : (c : tie.After-size-for) → let a = start c .args in
-    Fillable (c .size-for .result .«number_of_internal_nodes») (a .t1 .count) (replicate 508 0) (tasks c .sort-numbers .last .0) (est c .moments-of .last .0) (a .t1 .durations)
+    Fillable (c .size-for .result .«number_of_internal_nodes») (a .t1 .count) (replicate TREEWORDS 0) (tasks c .sort-numbers .last .0) (est c .moments-of .last .0) (a .t1 .durations)
 can-fill c =
     let s = start c in
     let a = s .args in
@@ -49,7 +49,7 @@ can-fill c =
     (tasks c .sort-numbers .ensures) (candidates c .sort-numbers-down .ensures) (c .size-for .ensures) (places c .leaf-places .ensures .0) refl
 
 -- and that of all tasks is what edge finding begins with
-abbrev can-begin : (c : tie.After-size-for) (words : List ℕ) → let a = start c .args in Filled (c .size-for .result .«number_of_internal_nodes») (a .t1 .count) (replicate 508 0) words (tasks c .sort-numbers .last .0) (est c .moments-of .last .0) (a .t1 .durations)
+abbrev can-begin : (c : tie.After-size-for) (words : List ℕ) → let a = start c .args in Filled (c .size-for .result .«number_of_internal_nodes») (a .t1 .count) (replicate TREEWORDS 0) words (tasks c .sort-numbers .last .0) (est c .moments-of .last .0) (a .t1 .durations)
     → Begun (a .t1 .count) (c .size-for .result .«number_of_internal_nodes») (c .size-for .result .height) words (a .earliest .now) (a .posts .now) (a .atoms .now) (est c .moments-of .last .0) (lst c .moments-of2 .last .0) (lct c .completions .last .0) (a .t1 .durations) (tasks c .sort-numbers .last .0) (candidates c .sort-numbers-down .last .0) (places c .leaf-places .last .0)
 can-begin c words filled =
     let s = start c in

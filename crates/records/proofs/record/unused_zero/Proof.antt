@@ -12,7 +12,7 @@ abbrev Inv-loop : tie.InvT-loop
 Inv-loop durations n used₀ i₀ used i = (n ≤ i) × ((i ≤ TASKS) × Gathered durations n used i)
 
 abbrev μ-loop : tie.MeasureT-loop
-μ-loop durations n used₀ i₀ used i = 48 - i
+μ-loop durations n used₀ i₀ used i = TASKS - i
 
 loop-holds : tie.Need-loop-holds Inv-loop μ-loop
 loop-holds c = let a = c .args in (omega arith, (c .pre, gathered-none (a .durations .now) (a .n)))

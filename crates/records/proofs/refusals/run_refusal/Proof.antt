@@ -29,7 +29,7 @@ passed c = let start = c .before .before in let args = start .args in input-pass
 few : (c : tie.Else1) → c .before .before .args .n ≤ TASKS
 few c = (lawful-is (lent (c .before .before)) .0 (passed c .0)) .few
 
-squared : (c : tie.Else1) → c .before .before .args .n * c .before .before .args .n ≤ c .before .before .args .n * 48
+squared : (c : tie.Else1) → c .before .before .args .n * c .before .before .args .n ≤ c .before .before .args .n * TASKS
 squared c = mul-le-mul-left (c .before .before .args .n) (few c)
 
 input-refusal-requires : tie.Need-input-refusal-requires

@@ -1,4 +1,4 @@
--- `exports::calls::bound_after` meets its contract: where the question's variable is known, the premises' tests are the question's.
+-- `calls::bound_after` meets its contract: where the question's variable is known, the premises' tests are the question's.
 -- Assumes nothing.
 use mathlib.Core.Path.{_≡_, sym, ap, _∙_}
 use borrow.Author.Needs.{needs}

@@ -1,4 +1,4 @@
--- `exports::calls::bound_in` meets its contract: the flag picks the side.
+-- `calls::bound_in` meets its contract: the flag picks the side.
 -- Assumes nothing.
 use mathlib.Core.Path.{ap, _∙_}
 use borrow.Author.Needs.{needs}

@@ -1,4 +1,4 @@
--- `exports::calls::read_post` meets its contract.
+-- `calls::read_post` meets its contract.
 -- Assumes nothing.
 use mathlib.Core.Path.{ap, _∙_}
 use Prim.Native.Nat.{_+_, _*_}

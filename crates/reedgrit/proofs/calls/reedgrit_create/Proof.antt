@@ -1,4 +1,4 @@
--- `exports::calls::reedgrit_create` meets its contract.
+-- `calls::reedgrit_create` meets its contract.
 -- Assumes nothing.
 use borrow.Author.Needs.{needs}
 use Rattle.reedgrit.proofs.calls.reedgrit_create.Statement.{statement}

@@ -1,4 +1,4 @@
--- `exports::calls::reedgrit_is_true` meets its contract: where the question's own words are accepted, the premises' tests are the question's.
+-- `calls::reedgrit_is_true` meets its contract: where the question's own words are accepted, the premises' tests are the question's.
 -- Assumes nothing.
 use mathlib.Core.Path.{_≡_, sym, ap, _∙_}
 use borrow.Author.Needs.{needs}

@@ -1,4 +1,4 @@
--- `exports::calls::reedgrit_lower_bound` meets its contract, which is that of `bound_after` on its side.
+-- `calls::reedgrit_lower_bound` meets its contract, which is that of `bound_after` on its side.
 -- Assumes nothing.
 use mathlib.Core.Path.{ap, _∙_}
 use borrow.Author.Needs.{needs}

@@ -1,4 +1,4 @@
--- `exports::calls::reedgrit_post` meets its contract.
+-- `calls::reedgrit_post` meets its contract.
 -- Assumes nothing.
 use mathlib.Core.Path.{sym, _∙_}
 use borrow.Author.Needs.{needs}

@@ -1,7 +1,6 @@
 -- `calls::reedgrit_run` meets its contract: a walk of its MIR, by hand. The record, the ranges, the posts and the atoms are passed on to the open run for good; what that ensures is kept, and the numbers of its outcome and its leaf changes are returned.
 -- Assumes nothing.
 use mathlib.Core.Path.{_≡_, refl}
-use Prim.Native.Nat.{ℕ}
 use mathlib.Core.List.{List, [], _∷_}
 use lib.IntN.{ℤ}
 use lib.ListN.{length}
@@ -37,10 +36,10 @@ use denote.Triple.Table.{entered, cited}
 use denote.Triple.Walked.{says, Stays, gave-ref, gave-slice, walkOf, Walks, ends-at, walked, goes-gave-ref, goes-gave-slice, walk-meets}
 use Rattle.records.specs.declared.record.Propagator.{Propagator}
 use Rattle.records.proofs.record.Propagator as P
-use Rattle.propagator.specs.declared.disjunctive_propagator.Finished.{Finished}
-use Rattle.propagator.proofs.disjunctive_propagator.Finished as F
-use Rattle.propagator.proofs.disjunctive_propagator.Finished.Laws as F′
-use Rattle.propagator.specs.Outcomes.{outcomeNumbers}
+use Rattle.levels.specs.declared.outcome.Finished.{Finished}
+use Rattle.levels.proofs.outcome.Finished as F
+use Rattle.levels.proofs.outcome.Finished.Laws as F′
+use Rattle.levels.specs.Outcomes.{outcomeNumbers}
 use Rattle.promises.specs.RanLent.{RanLent}
 use Rattle.barred_starts.specs.declared.range.Range.{Range}
 use Rattle.barred_starts.proofs.range.Range as T

@@ -1,4 +1,4 @@
--- `exports::calls::unfit_number` meets its contract: a question of which 6 is sure is turned back by 7 where there are too many premises.
+-- `calls::unfit_number` meets its contract: a question of which 6 is sure is turned back by 7 where there are too many premises.
 -- Assumes nothing.
 use mathlib.Core.Path.{sym}
 use mathlib.Core.Bool.{false}

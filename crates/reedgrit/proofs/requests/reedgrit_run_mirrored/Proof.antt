@@ -38,10 +38,10 @@ use denote.Triple.Table.{entered, cited}
 use denote.Triple.Walked.{says, Stays, gave-slice, stay-dropped, walkOf, Walks, ends-at, walked, goes-gave-slice, goes-dropped, walk-meets}
 use Rattle.records.specs.declared.record.Propagator.{Propagator}
 use Rattle.records.proofs.record.Propagator as P
-use Rattle.propagator.specs.declared.disjunctive_propagator.Outcome.{Outcome}
-use Rattle.propagator.proofs.disjunctive_propagator.Outcome as O
-use Rattle.propagator.proofs.disjunctive_propagator.Outcome.Laws as O′
-use Rattle.propagator.specs.Outcomes.{outcomeNumbers}
+use Rattle.levels.specs.declared.outcome.Outcome.{Outcome}
+use Rattle.levels.proofs.outcome.Outcome as O
+use Rattle.levels.proofs.outcome.Outcome.Laws as O′
+use Rattle.levels.specs.Outcomes.{outcomeNumbers}
 use Rattle.promises.specs.RanLent.{RanMirroredLent}
 use Rattle.barred_starts.specs.declared.range.Range.{Range}
 use Rattle.barred_starts.proofs.range.Range as T

@@ -1,5 +1,5 @@
 -- The two cases of the definition, by whether the task is chosen.
-use mathlib.Core.Path.{refl, sym, ap, _∙_}
+use mathlib.Core.Path.{sym, ap, _∙_}
 use mathlib.Core.Bool.{Bool, true}
 use Prim.Native.Nat.{ℕ, _+_, min, max}
 use borrow.Author.Needs.{needs}

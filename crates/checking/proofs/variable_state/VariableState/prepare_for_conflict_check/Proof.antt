@@ -15,9 +15,7 @@ use Rattle.checking.specs.declared.variable_state.Application.the-varian
 use Rattle.checking.specs.States.{prepared}
 use Rattle.checking.proofs.Promises.{prepare-promise}
 use borrow.Author.Needs.{needs}
-use Rattle.checking.proofs.variable_state.VariableState.prepare_for_conflict_check.Statement.{
-  statement,
-}
+use Rattle.checking.proofs.variable_state.VariableState.prepare_for_conflict_check.Statement.{statement}
 use Rattle.checking.proofs.variable_state.VariableState.prepare_for_conflict_check.Tie as tie
 
 mul-if1 : tie.Need-mul-if1

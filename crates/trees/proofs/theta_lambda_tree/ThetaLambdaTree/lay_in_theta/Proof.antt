@@ -1,7 +1,7 @@
 -- `trees::theta_lambda_tree::ThetaLambdaTree::lay_in_theta` meets its contract.
 -- Assumes nothing.
-use mathlib.Core.Path.{_≡_, ap, _∙_}
-use Prim.Native.Nat.{ℕ, _+_}
+use mathlib.Core.Path.{ap, _∙_}
+use Prim.Native.Nat.{_+_}
 use borrow.Author.Needs.{needs}
 use Rattle.trees.specs.Words.{nodeAt}
 use Rattle.trees.specs.Shapes.{changed}

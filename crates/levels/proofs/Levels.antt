@@ -1,0 +1,249 @@
+-- The outer loop: what it has got to at a level, and how it goes on or ends from there.
+-- Assumes nothing.
+use mathlib.Core.Path.{_≡_, refl, sym, ap, subst, _∙_}
+use mathlib.Core.Bool.{false}
+use mathlib.Core.List.{List, [], _++_, append-nil}
+use Prim.Native.Nat.{ℕ, suc, _+_, _*_, _-_, _≤_, _<_}
+use native.Mathlib.Omega.{arith}
+use lib.Dec.{ltb}
+use lib.IntN.{ℤ}
+use lib.ListN.{length, getD, set}
+use lib.Seq.{sets}
+use borrow.Author.Tests.{lt-ltb, le-ltb}
+use Rattle.integers.specs.Limits.{TASKS, INNER}
+use Rattle.integers.specs.Moments.{zeroAt}
+use Rattle.integers.specs.Orders.{index}
+use Rattle.scheduling.specs.Scheduling.{natural, Tasks, Atom, completion}
+use Rattle.ects.specs.Ects.{exceeds}
+use Rattle.ects.proofs.Ects.{exceeds-decoded}
+use Rattle.trees.specs.Leaves as leaves
+use Rattle.trees.specs.Leaves.{gray}
+use Rattle.trees.specs.Searches.{thetaIn}
+use Rattle.trees.specs.Words.{nodeAt}
+use Rattle.runs.specs.Traces.{Trace, End, done, overload, emptied}
+use Rattle.runs.specs.Runs.{State, Turn, conflict, inner, outer, run, ended, grayed, allWhite}
+use Rattle.scheduling.specs.Words.{atomWords}
+use Rattle.runs.specs.Words.{postWords, reasons, endReason}
+use Rattle.runs.proofs.Buffers.{reason-stored}
+use Rattle.runs.proofs.Fuel.{run-is, outer-end, outer-over, outer-on, outer-stop}
+use Rattle.runs.specs.Reached.{Entered, begins, follows, at-head, moved}
+use Rattle.explanations.specs.Explanations.{Overloaded}
+use Rattle.levels.specs.declared.outcome.Outcome.{Outcome}
+use Rattle.levels.specs.declared.outcome.Outcome.the-variants as outcome
+use Rattle.levels.specs.declared.run_levels.Turn.the-variants as turn
+use Rattle.levels.specs.declared.run_levels.Written.{Written}
+use Rattle.levels.specs.RunArrays.{Ordered, At}
+use Rattle.levels.specs.Turns.{sumIn, Standing, AllConsidered}
+use Rattle.levels.specs.Moving.{Movable, Moved}
+use Rattle.levels.specs.Finding.{outcomeOf, conflictIn, Conflicted, Begun, Ended}
+use Rattle.levels.proofs.Considering as considering
+
+module _ {n inn height : ℕ} {words : List ℕ} {es ps as′ : List ℤ} {est lst lct dur tasks candidates mapping : List ℕ} (s : Begun n inn height words es ps as′ est lst lct dur tasks candidates mapping) where
+  abbrev J : Tasks natural
+  J = s .J
+
+  abbrev first : List ℕ
+  first = s .first
+
+  abbrev second : List ℕ
+  second = s .second
+
+  abbrev G : Ordered J first second
+  G = s .ordered
+
+  abbrev whole : Trace
+  whole = run zeroAt J first second
+
+  abbrev rest-of : ℕ → ℕ → State → Trace
+  rest-of f t st = outer zeroAt J first second f t st
+
+  -- the loop stands at the head of level `t`
+  pub record Level (t : ℕ) (words′ : List ℕ) (es′ ps′ bs : List ℤ) (w′ : Written) : Type 0 where
+    pub st : State
+    pub small : t < n
+    pub entered : Entered zeroAt J first second t st
+    pub at : At J first ps as′ st inn words′ es′ ps′ bs (w′ .posts) (w′ .atoms) (w′ .changes)
+    pub rest : whole ≡ rest-of (n - 1 - t) t st
+
+  pub few : n ≤ TASKS
+  few = omega (arith, G .limited .count, s .arrays .count)
+
+  pub candidate-small : (t : ℕ) → t < n → getD candidates t 0 < n
+  candidate-small t q = omega (arith, s .order .at t q, G .by-completion .task t (omega (arith, q, s .arrays .count)), s .arrays .count)
+
+  pub first-level : Level 0 words es ps as′ (record { posts = 0; atoms = 0; changes = n })
+  first-level = record {
+    st = allWhite J;
+    small = omega (arith, G .some, s .arrays .count);
+    entered = begins;
+    at = s .at;
+    rest = run-is zeroAt J first second ∙ ap (λ (f : ℕ). rest-of f 0 (allWhite J)) turns;
+  }
+    where
+      turns : J .count - 1 ≡ n - 1 - 0
+      turns = omega (arith, s .arrays .count)
+
+  -- how the run ends from a state
+  module _ (st : State) (end : End) (is : whole ≡ ended zeroAt J first second st end) {words′ : List ℕ} {es′ ps′ bs : List ℤ} {w′ : Written} (a : At J first ps as′ st inn words′ es′ ps′ bs (w′ .posts) (w′ .atoms) (w′ .changes)) where
+    ends : {bs′ : List ℤ} → bs′ ≡ sets as′ 0 (atomWords (reasons (st .posts) ++ endReason end)) → Ended J first second ps as′ (outcomeOf (reasons (st .posts)) (length (st .posts)) end) (w′ .changes) es′ ps′ bs′
+    ends z = record {
+      answer = sym (ap (λ (t : Trace). outcomeOf (reasons (t .posts)) (length (t .posts)) (t .end)) is);
+      changes = a .counted ∙ sym (ap (λ (t : Trace). t .changes) is);
+      starts = a .starts ∙ sym (ap (λ (t : Trace). t .starts) is);
+      posts = a .posts ∙ sym (ap (λ (t : Trace). sets ps 0 (postWords 0 (t .posts))) is);
+      atoms = z ∙ sym (ap (λ (t : Trace). sets as′ 0 (atomWords (reasons (t .posts) ++ endReason (t .end)))) is);
+    }
+
+    -- with no reason more
+    no-more : endReason end ≡ [] → bs ≡ sets as′ 0 (atomWords (reasons (st .posts) ++ endReason end))
+    no-more z = a .atoms ∙ ap (λ (l : List Atom). sets as′ 0 (atomWords l)) (sym (ap (λ (l : List Atom). reasons (st .posts) ++ l) z ∙ append-nil (reasons (st .posts))))
+
+  module _ {t : ℕ} {words′ : List ℕ} {es′ ps′ bs : List ℤ} {w′ : Written} (v : Level t words′ es′ ps′ bs w′) where
+    -- all levels are done
+    pub all-done : n ≤ t + 1 → Ended J first second ps as′ (outcome.Done (w′ .posts)) (w′ .changes) es′ ps′ bs
+    all-done q = subst (λ (k : ℕ). Ended J first second ps as′ (outcome.Done k) (w′ .changes) es′ ps′ bs) (sym (v .at .posted))
+        (ends (v .st) done is (v .at) (no-more (v .st) done is (v .at) refl))
+      where
+        none : n - 1 - t ≡ 0
+        none = omega arith
+
+        is : whole ≡ ended zeroAt J first second (v .st) done
+        is = v .rest ∙ ap (λ (f : ℕ). rest-of f t (v .st)) none ∙ outer-end zeroAt J first second 0 t (v .st)
+
+    module _ (j c : ℕ) (more : t + 1 < n) (is-j : j ≡ getD candidates t 0) (is-c : c ≡ getD lct j 0) where
+      pub j-is : j ≡ getD second t 0
+      j-is = is-j ∙ s .order .at t (v .small)
+
+      pub j-small : j < n
+      j-small = omega (arith, j-is, G .by-completion .task t (omega (arith, v .small, s .arrays .count)), s .arrays .count)
+
+      pub c-is : c ≡ completion J (getD second t 0)
+      c-is = is-c ∙ s .completions .at j j-small ∙ ap (completion J) j-is
+
+      abbrev here : Standing n inn height c words′ es′ ps′ bs w′ est lst dur tasks mapping
+      here = record {
+        J = J;
+        first = first;
+        second = second;
+        level = t;
+        st = v .st;
+        ps₀ = ps;
+        as₀ = as′;
+        ordered = G;
+        arrays = s .arrays;
+        latest = s .latest;
+        small = omega (arith, v .small, s .arrays .count);
+        ends = c-is;
+        post-room = s .post-room;
+        atom-room = s .atom-room;
+        reached = at-head t (v .st) (v .entered);
+        at = v .at;
+      }
+
+      next : n - 1 - t ≡ suc (n - 1 - suc t)
+      next = omega arith
+
+      abbrev ect : ℕ
+      ect = leaves.rootEct J first (v .st .leaves)
+
+      abbrev end : ℕ
+      end = completion J (getD second t 0)
+
+      pub ect-is : nodeAt words′ 0 .ect ≡ ect
+      ect-is = considering.ect-is here
+
+      pub few-changes : w′ .changes ≤ 4 * TASKS
+      few-changes = considering.few-changes here
+
+      -- the white tasks overload
+      pub over-asked : c < nodeAt words′ 0 .ect → Overloaded (length bs) (w′ .atoms) (thetaIn words′ inn tasks n) est dur (sumIn words′) c
+      over-asked q = considering.over-asked here (omega (arith, q, ect-is))
+
+      pub over-inner : inn ≤ INNER
+      over-inner = considering.inner-few here
+
+      pub overloads : {r : Outcome} {bs′ : List ℤ} → c < nodeAt words′ 0 .ect → Conflicted bs bs′ w′ r (conflictIn words′ inn tasks n est dur c) → Ended J first second ps as′ r (w′ .changes) es′ ps′ bs′
+      overloads {r} {bs′} q k = subst (λ (r : Outcome). Ended J first second ps as′ r (w′ .changes) es′ ps′ bs′) (sym answer) (ends (v .st) (overload reason) is (v .at) words-are)
+        where
+          reason : List Atom
+          reason = conflict zeroAt J end (leaves.sum J first (v .st .leaves)) (leaves.theta J first (v .st .leaves))
+
+          reason-is : conflictIn words′ inn tasks n est dur c ≡ reason
+          reason-is = considering.conflict-is here
+
+          is : whole ≡ ended zeroAt J first second (v .st) (overload reason)
+          is = v .rest ∙ ap (λ (f : ℕ). rest-of f t (v .st)) next ∙ outer-over zeroAt J first second (n - 1 - suc t) t (v .st) (lt-ltb end ect (omega (arith, q, ect-is, c-is)))
+
+          answer : r ≡ outcomeOf (reasons (v .st .posts)) (length (v .st .posts)) (overload reason)
+          answer = k .answer ∙ rw (v .at .posted, v .at .explained, reason-is) refl
+
+          words-are : bs′ ≡ sets as′ 0 (atomWords (reasons (v .st .posts) ++ reason))
+          words-are = k .atom-words ∙ rw (v .at .atoms, v .at .explained, reason-is) (reason-stored as′ (reasons (v .st .posts)) reason)
+
+      -- they do not: the task of the level goes to Lambda
+      abbrev pub moves : Movable inn words′ mapping est dur j
+      moves = considering.movable here j j-is
+
+      module _ (quiet : nodeAt words′ 0 .ect ≤ c) {words″ : List ℕ} (m : Moved inn words′ words″ mapping est dur j) (d : ℕ) (is-d : d ≡ getD lct (getD candidates (t + 1) 0) 0) where
+        abbrev st₁ : State
+        st₁ = grayed (v .st) (index first (getD second t 0))
+
+        pub ends-d : d ≡ completion J (getD second (suc t) 0)
+        ends-d = let one : t + 1 ≡ suc t = omega arith in let k-small : getD second (suc t) 0 < n = omega (arith, G .by-completion .task (suc t) (omega (arith, more, s .arrays .count)), s .arrays .count) in
+            is-d ∙ ap (λ (u : ℕ). getD lct (getD candidates u 0) 0) one ∙ ap (λ (k : ℕ). getD lct k 0) (s .order .at (suc t) (omega arith)) ∙ s .completions .at (getD second (suc t) 0) k-small
+
+        pub quiet-here : leaves.rootEct J first (v .st .leaves) ≤ end
+        quiet-here = omega (arith, quiet, ect-is, c-is)
+
+        pub not-over : ltb end ect ≡ false
+        not-over = le-ltb end ect quiet-here
+
+        pub still : exceeds (leaves.ect J first (v .st .leaves)) end ≡ false
+        still = exceeds-decoded ect end ∙ not-over
+
+        -- which the source makes in two leaf changes
+        abbrev pub goes-on : Standing n inn height d words″ es′ ps′ bs (record { posts = w′ .posts; atoms = w′ .atoms; changes = w′ .changes + 2 }) est lst dur tasks mapping
+        goes-on = record {
+          J = J;
+          first = first;
+          second = second;
+          level = suc t;
+          st = st₁;
+          ps₀ = ps;
+          as₀ = as′;
+          ordered = G;
+          arrays = s .arrays;
+          latest = s .latest;
+          small = omega (arith, more, s .arrays .count);
+          ends = ends-d;
+          post-room = s .post-room;
+          atom-room = s .atom-room;
+          reached = moved t (v .st) (v .entered) still;
+          at = record { tree = subst (λ (k : ℕ). leaves.IsTree J first (set (v .st .leaves) k gray) inn words″) (considering.gray-place here j j-is) (m moves); starts = v .at .starts; posts = v .at .posts; atoms = v .at .atoms; posted = v .at .posted; explained = v .at .explained; counted = ap (λ (c : ℕ). c + 2) (v .at .counted) };
+        }
+
+        unfold-level : whole ≡ rest-of (suc (n - 1 - suc t)) t (v .st)
+        unfold-level = v .rest ∙ ap (λ (f : ℕ). rest-of f t (v .st)) next
+
+        inner-is : {u : Turn} → inner zeroAt J first second n (suc t) st₁ ≡ u → inner zeroAt J first second (J .count) (suc t) st₁ ≡ u
+        inner-is z = ap (λ (f : ℕ). inner zeroAt J first second f (suc t) st₁) (s .arrays .count) ∙ z
+
+        -- the inner loop ended,
+        pub one-more : {words‴ : List ℕ} {es″ ps″ bs′ : List ℤ} {w″ : Written} → AllConsidered goes-on (turn.On w″) words‴ es″ ps″ bs′ → Level (t + 1) words‴ es″ ps″ bs′ w″
+        one-more {words‴} {es″} {ps″} {bs′} {w″} (st′, a, z) = subst (λ (k : ℕ). Level k words‴ es″ ps″ bs′ w″) one (record {
+          st = st′;
+          small = omega arith;
+          at = a;
+          entered = follows t (v .st) st′ (v .entered) still (inner-is z);
+          rest = unfold-level ∙ outer-on zeroAt J first second (n - 1 - suc t) t (v .st) st′ not-over (inner-is z);
+        })
+          where
+            one : suc t ≡ t + 1
+            one = omega arith
+
+        -- or a post emptied a range
+        pub one-emptied : {words‴ : List ℕ} {es″ ps″ bs′ : List ℤ} {w″ : Written} → AllConsidered goes-on (turn.Emptied w″) words‴ es″ ps″ bs′ → Ended J first second ps as′ (outcome.Emptied (w″ .posts)) (w″ .changes) es″ ps″ bs′
+        one-emptied {words‴} {es″} {ps″} {bs′} {w″} (st′, a, z) = subst (λ (k : ℕ). Ended J first second ps as′ (outcome.Emptied k) (w″ .changes) es″ ps″ bs′) (sym (a .posted)) (ends st′ emptied is a (no-more st′ emptied is a refl))
+          where
+            is : whole ≡ ended zeroAt J first second st′ emptied
+            is = unfold-level ∙ outer-stop zeroAt J first second (n - 1 - suc t) t (v .st) st′ not-over (inner-is z)

@@ -1,0 +1,39 @@
+-- `levels::run_levels::candidate` meets its contract.
+-- Assumes nothing.
+use mathlib.Core.Path.{_≡_, sym, ap, _∙_}
+use mathlib.Core.Option.{Option}
+use Prim.Native.Nat.{ℕ}
+use borrow.Author.Needs.{needs}
+use borrow.Author.Tests.{not-true, not-false}
+use Rattle.ects.specs.Ects.{exceeds}
+use Rattle.trees.specs.Words.{ectBarIn}
+use Rattle.levels.proofs.Posting.{candidate-none, candidate-some}
+use Rattle.levels.proofs.run_levels.candidate.Statement.{statement}
+use Rattle.levels.proofs.run_levels.candidate.Tie as tie
+
+ect-bar-requires : tie.Need-ect-bar-requires
+ect-bar-requires c κs = search needs
+
+exceeds-requires : tie.Need-exceeds-requires
+exceeds-requires c κs = search needs
+
+-- the test is the definition's
+tested : (x : tie.After-exceeds) → let a = x .before .before .args in x .exceeds .result ≡ exceeds (ectBarIn (a .nodes .now)) (a .lct)
+tested x = x .exceeds .ensures ∙ ap (λ (o : Option ℕ). exceeds o (x .before .before .args .lct)) (x .before .ect-bar .ensures)
+
+returns : tie.Need-returns
+returns c =
+    let a = c .before .before .before .args in
+    candidate-none (a .nodes .now) (a .inner) (a .height) (a .tasks .now) (a .lct) (sym (tested (c .before)) ∙ not-true (c .before .exceeds .result) (c .if1 .taken))
+
+responsible-ect-bar-requires : tie.Need-responsible-ect-bar-requires
+responsible-ect-bar-requires c κs = search needs
+
+returns-2 : tie.Need-returns-2
+returns-2 c =
+    let a = c .before .before .before .before .args in
+    c .responsible-ect-bar .ensures ∙ candidate-some (a .nodes .now) (a .inner) (a .height) (a .tasks .now) (a .lct) (sym (tested (c .before .before)) ∙ not-false (c .before .before .exceeds .result) (c .before .if1 .left))
+
+pub candidate-spec : {M : Type 1} → statement M
+candidate-spec =
+    tie.close (tie.spec ect-bar-requires exceeds-requires returns responsible-ect-bar-requires returns-2)

@@ -1,0 +1,154 @@
+-- `levels::run_levels::consider_all` meets its contract.
+-- Assumes nothing.
+use mathlib.Core.Path.{_≡_, refl, sym, subst, _∙_}
+use mathlib.Core.List.{List}
+use Prim.Native.Nat.{ℕ, suc, _-_}
+use native.Mathlib.Omega.{arith}
+use lib.IntN.{ℤ}
+use lib.ListN.{length}
+use borrow.Author.Needs.{needs}
+use Rattle.levels.specs.declared.run_levels.Turn.{Turn}
+use Rattle.levels.specs.declared.run_levels.Written.{Written}
+use Rattle.levels.specs.Turns.{Standing, Considered}
+use Rattle.levels.proofs.Turning.{can-search, Turned, taken, none-yet, stands, ended, nothing-left, one-left, one-less, one-emptied}
+use Rattle.levels.proofs.run_levels.consider_all.Statement.{statement}
+use Rattle.levels.proofs.run_levels.consider_all.Tie as tie
+
+-- what the loop has got to; the slices keep their lengths
+record Loop (n inner height lct : ℕ) (nodes₀ : List ℕ) (earliest₀ posts₀ atoms₀ : List ℤ) (w₀ : Written) (est lst durations tasks mapping nodes : List ℕ) (earliest posts atoms : List ℤ) (w : Written) (left : ℕ) : Type 0 where
+  stood : Standing n inner height lct nodes₀ earliest₀ posts₀ atoms₀ w₀ est lst durations tasks mapping
+  reached : (s : Standing n inner height lct nodes₀ earliest₀ posts₀ atoms₀ w₀ est lst durations tasks mapping) → Turned s left nodes earliest posts atoms w
+  starts-length : length earliest ≡ length earliest₀
+  posts-length : length posts ≡ length posts₀
+  atoms-length : length atoms ≡ length atoms₀
+
+abbrev Inv-loop : tie.InvT-loop
+Inv-loop nodes₀ earliest₀ posts₀ atoms₀ mapping tasks est lst durations inner height n lct w₀ left₀ nodes earliest posts atoms w left =
+    Loop n inner height lct nodes₀ earliest₀ posts₀ atoms₀ w₀ est lst durations tasks mapping nodes earliest posts atoms w left
+
+abbrev μ-loop : tie.MeasureT-loop
+μ-loop nodes₀ earliest₀ posts₀ atoms₀ mapping tasks est lst durations inner height n lct w₀ left₀ nodes earliest posts atoms w left = left
+
+positive : (c : tie.In-loop Inv-loop μ-loop) → c .before .loop .left ≡ suc (c .before .loop .left - 1)
+positive c = omega arith
+
+loop-holds : tie.Need-loop-holds Inv-loop μ-loop
+loop-holds c = record { stood = c .pre; reached = λ s. none-yet s; starts-length = refl; posts-length = refl; atoms-length = refl }
+
+sub-left : tie.Need-sub-left Inv-loop μ-loop
+sub-left c = search needs
+
+candidate-requires : tie.Need-candidate-requires Inv-loop μ-loop
+candidate-requires c κs = let v = c .before .before .loop .inv in can-search (stands (v .stood) (v .reached (v .stood)))
+
+enum-known-next : tie.Need-enum-known-next Inv-loop μ-loop
+enum-known-next c = search needs
+
+enum-told : tie.Need-enum-told Inv-loop μ-loop
+enum-told c = search needs
+
+same-length : tie.Need-same-length Inv-loop μ-loop
+same-length c = search needs
+
+same-length-2 : tie.Need-same-length-2 Inv-loop μ-loop
+same-length-2 c = search needs
+
+same-length-3 : tie.Need-same-length-3 Inv-loop μ-loop
+same-length-3 c = search needs
+
+returns : tie.Need-returns Inv-loop μ-loop
+returns c = λ s.
+    let v = c .before .before .before .before .before .loop .inv in
+    nothing-left s (taken s {f = c .before .before .before .before .before .loop .left - 1} (omega arith) (v .reached s)) (sym (c .enum-told .given .1) ∙ c .before .before .candidate .ensures)
+
+consider-requires : tie.Need-consider-requires Inv-loop μ-loop
+consider-requires c κs =
+    let v = c .before .before .before .before .before .before .before .before .before .before .loop .inv in
+    let s = v .stood in
+    let r = taken s {f = c .before .before .before .before .before .before .before .before .before .before .loop .left - 1} (positive (c .before .before .before .before .before .before .before .before .before)) (v .reached s) in
+    let (x, o) = one-left s r (c .before .before .before .before .before .next .given .0 .0) (sym (c .before .before .before .before .before .next .given .1) ∙ c .before .before .before .before .before .before .before .candidate .ensures) in
+    (c .before .before .before .before .before .before .before .before .before .before .before .args .height, x, stands s r, o)
+
+enum-known-turn : tie.Need-enum-known-turn Inv-loop μ-loop
+enum-known-turn c = search needs
+
+loop-less : tie.Need-loop-less Inv-loop μ-loop
+loop-less c = search needs
+
+loop-again : tie.Need-loop-again Inv-loop μ-loop
+loop-again c =
+    let at = c .before .before .before .before .before .before .before .before .before .before .before .before .before .before .before .before .before in
+    let v = at .loop .inv in
+    record {
+      stood = v .stood;
+      reached = λ s.
+          let r = taken s {f = at .loop .left - 1} (positive (c .before .before .before .before .before .before .before .before .before .before .before .before .before .before .before .before)) (v .reached s) in
+          let (x, o) = one-left s r (c .before .before .before .before .before .before .before .before .before .before .before .before .next .given .0 .0) (sym (c .before .before .before .before .before .before .before .before .before .before .before .before .next .given .1) ∙ c .before .before .before .before .before .before .before .before .before .before .before .before .before .before .candidate .ensures) in
+          one-less s r (subst (λ (t : Turn). Considered (stands s r) t (c .before .before .before .before .before .before .consider .last .0) (c .before .before .before .before .before .before .consider .last .1 .0) (c .before .before .before .before .before .before .consider .last .1 .1 .0) (c .before .before .before .before .before .before .consider .last .1 .1 .1 .0)) (c .before .turn .given .1)
+          (c .before .before .before .before .before .before .consider .ensures (at .before .args .height) x (stands s r) o));
+      starts-length = search needs;
+      posts-length = search needs;
+      atoms-length = search needs;
+    }
+
+enum-known-turn-2 : tie.Need-enum-known-turn-2 Inv-loop μ-loop
+enum-known-turn-2 c = search needs
+
+same-length-4 : tie.Need-same-length-4 Inv-loop μ-loop
+same-length-4 c = search needs
+
+same-length-5 : tie.Need-same-length-5 Inv-loop μ-loop
+same-length-5 c = search needs
+
+same-length-6 : tie.Need-same-length-6 Inv-loop μ-loop
+same-length-6 c = search needs
+
+returns-2 : tie.Need-returns-2 Inv-loop μ-loop
+returns-2 c = λ s.
+    let at = c .before .before .before .before .before .before .before .before .before .before .before .before .before .before .before .before .before in
+    let v = at .loop .inv in
+    let r = taken s {f = at .loop .left - 1} (positive (c .before .before .before .before .before .before .before .before .before .before .before .before .before .before .before .before)) (v .reached s) in
+    let (x, o) = one-left s r (c .before .before .before .before .before .before .before .before .before .before .before .before .next .given .0 .0) (sym (c .before .before .before .before .before .before .before .before .before .before .before .before .next .given .1) ∙ c .before .before .before .before .before .before .before .before .before .before .before .before .before .before .candidate .ensures) in
+    one-emptied s r (subst (λ (t : Turn). Considered (stands s r) t (c .before .before .before .before .before .before .consider .last .0) (c .before .before .before .before .before .before .consider .last .1 .0) (c .before .before .before .before .before .before .consider .last .1 .1 .0) (c .before .before .before .before .before .before .consider .last .1 .1 .1 .0)) (c .before .turn2 .given .1)
+    (c .before .before .before .before .before .before .consider .ensures (at .before .args .height) x (stands s r) o))
+
+same-length-7 : tie.Need-same-length-7 Inv-loop μ-loop
+same-length-7 c = search needs
+
+same-length-8 : tie.Need-same-length-8 Inv-loop μ-loop
+same-length-8 c = search needs
+
+same-length-9 : tie.Need-same-length-9 Inv-loop μ-loop
+same-length-9 c = search needs
+
+returns-3 : tie.Need-returns-3 Inv-loop μ-loop
+returns-3 c = λ s. ended s (c .before .loop .inv .reached s) (omega arith)
+
+pub consider-all-spec : {M : Type 1} → statement M
+consider-all-spec =
+    tie.close
+    (tie.spec
+    Inv-loop
+    μ-loop
+    loop-holds
+    sub-left
+    candidate-requires
+    enum-known-next
+    enum-told
+    same-length
+    same-length-2
+    same-length-3
+    returns
+    consider-requires
+    enum-known-turn
+    loop-less
+    loop-again
+    enum-known-turn-2
+    same-length-4
+    same-length-5
+    same-length-6
+    returns-2
+    same-length-7
+    same-length-8
+    same-length-9
+    returns-3)

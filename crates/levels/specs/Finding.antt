@@ -1,0 +1,56 @@
+-- Edge finding as code: what stands when it begins, and what it leaves, by the run's definition.
+use mathlib.Core.Path.{_≡_}
+use mathlib.Core.List.{List, _++_}
+use Prim.Native.Nat.{ℕ, _+_, _*_, _≤_}
+use lib.IntN.{ℤ}
+use lib.ListN.{length, getD}
+use lib.Seq.{sets}
+use Rattle.integers.specs.Moments.{zeroAt}
+use Rattle.scheduling.specs.Scheduling.{natural, Tasks, Atom, completion}
+use Rattle.trees.specs.Searches.{thetaIn}
+use Rattle.runs.specs.Traces.{End, done, overload, emptied}
+use Rattle.runs.specs.Runs.{conflict, run, allWhite}
+use Rattle.scheduling.specs.Words.{atomWords}
+use Rattle.runs.specs.Words.{postWords, reasons, endReason}
+use Rattle.explanations.specs.Explanations.{starting}
+use Rattle.levels.specs.declared.outcome.Outcome.{Outcome}
+use Rattle.levels.specs.declared.outcome.Outcome.the-variants as outcome
+use Rattle.levels.specs.declared.run_levels.Written.{Written}
+use Rattle.levels.specs.RunArrays.{Ordered, Holds, Arrays, At}
+use Rattle.levels.specs.Turns.{sumIn}
+
+-- how a trace ended, with the number of its posts
+abbrev pub outcomeOf : List Atom → ℕ → End → Outcome
+outcomeOf before posts done = outcome.Done posts
+outcomeOf before posts (overload r) = outcome.Overload posts (length before) (length r)
+outcomeOf before posts emptied = outcome.Emptied posts
+
+-- the reason of an overload, after the atoms written so far
+abbrev pub conflictIn : List ℕ → ℕ → List ℕ → ℕ → List ℕ → List ℕ → ℕ → List Atom
+conflictIn words inner tasks n est dur lct = conflict zeroAt (starting est dur) lct (sumIn words) (thetaIn words inner tasks n)
+
+pub record Conflicted (as′ bs : List ℤ) (w : Written) (r : Outcome) (reason : List Atom) : Type 0 where
+  pub atom-words : bs ≡ sets as′ (3 * w .atoms) (atomWords reason)
+  pub answer : r ≡ outcome.Overload (w .posts) (w .atoms) (length reason)
+
+-- What edge finding is given: the tasks in both orders, the arrays that hold them, room for posts and reasons, and the tree of all tasks.
+pub record Begun (n inner height : ℕ) (words : List ℕ) (es ps as′ : List ℤ) (est lst lct dur tasks candidates mapping : List ℕ) : Type 0 where
+  pub J : Tasks natural
+  pub first : List ℕ
+  pub second : List ℕ
+  pub ordered : Ordered J first second
+  pub arrays : Arrays J first n inner height est dur tasks mapping
+  pub latest : Holds n (J .latest) lst
+  pub completions : Holds n (completion J) lct
+  pub order : Holds n (λ t. getD second t 0) candidates
+  pub post-room : 4 * n ≤ length ps
+  pub atom-room : 6 * (n * n) ≤ length as′
+  pub at : At J first ps as′ (allWhite J) inner words es ps as′ 0 0 n
+
+-- What it leaves: the trace of the run's definition.
+pub record Ended (J : Tasks natural) (first second : List ℕ) (ps as′ : List ℤ) (r : Outcome) (changed : ℕ) (es′ ps′ bs : List ℤ) : Type 0 where
+  pub answer : r ≡ outcomeOf (reasons (run zeroAt J first second .posts)) (length (run zeroAt J first second .posts)) (run zeroAt J first second .end)
+  pub changes : changed ≡ run zeroAt J first second .changes
+  pub starts : es′ ≡ run zeroAt J first second .starts
+  pub posts : ps′ ≡ sets ps 0 (postWords 0 (run zeroAt J first second .posts))
+  pub atoms : bs ≡ sets as′ 0 (atomWords (reasons (run zeroAt J first second .posts) ++ endReason (run zeroAt J first second .end)))
