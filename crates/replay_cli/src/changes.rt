@@ -1,7 +1,4 @@
 // The record: created, with a task more, and without a task.
-use crate::lent::Changed;
-use crate::lent::add;
-use crate::lent::remove;
 use crate::lines::say;
 use crate::lines::say_counted;
 use crate::lines::say_error;
@@ -11,6 +8,9 @@ use disjunctive::Change;
 use disjunctive::Propagator;
 use disjunctive::create;
 use records::record::Creation;
+use task_changes::changes::Changed;
+use task_changes::changes::add;
+use task_changes::changes::remove;
 
 // `create`: the record of the durations.
 pub fn created(durations: &[i32]) -> Propagator {

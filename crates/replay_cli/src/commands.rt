@@ -128,11 +128,11 @@ impl Session {
     // A line's answer, and `end` behind it. Empty lines and those that start with # have none.
     pub fn answer(self, line: &[u8]) -> Session {
         let asked = asked_of(line);
-        let word = first_word(asked);
-        if word.len() == 0 {
+        if asked.len() == 0 || asked[0] == b'#' {
             return self;
         }
-        if asked[0] == b'#' {
+        let word = first_word(asked);
+        if word.len() == 0 {
             return self;
         }
         let next = self.call(asked);

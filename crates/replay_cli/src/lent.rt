@@ -2,7 +2,6 @@
 use crate::ranges::RANGES;
 use crate::ranges::Ranges;
 use disjunctive::Busiest;
-use disjunctive::Change;
 use disjunctive::Charges;
 use disjunctive::FreeStart;
 use disjunctive::Outcome;
@@ -25,12 +24,6 @@ pub struct Ran {
 pub struct Raised {
     pub answer: Precedences,
     pub ranges: [Range; RANGES],
-}
-
-// A record that was to be changed, and the answer.
-pub struct Changed {
-    pub record: Propagator,
-    pub answer: Change,
 }
 
 // A run.
@@ -132,24 +125,4 @@ pub fn busiest_stretch(record: Propagator, ranges: Ranges, w: i32) -> Busiest
     let kept = ranges.kept;
     let n = ranges.count;
     disjunctive::busiest_stretch(&record, &kept[..n], w)
-}
-
-// A task more.
-pub fn add(record: Propagator, duration: i32) -> Changed {
-    let mut propagator = record;
-    let answer = disjunctive::add(&mut propagator, duration);
-    Changed {
-        record: propagator,
-        answer,
-    }
-}
-
-// A task less.
-pub fn remove(record: Propagator, task: usize) -> Changed {
-    let mut propagator = record;
-    let answer = disjunctive::remove(&mut propagator, task);
-    Changed {
-        record: propagator,
-        answer,
-    }
 }

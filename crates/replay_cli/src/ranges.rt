@@ -66,7 +66,8 @@ fn barred_by(range: Range, bars: &[i32]) -> Range {
     }
     let mut next = range;
     next.count = bars.len() - 1;
-    next.barred = bars_of(bars);
+    let barred = bars_of(bars);
+    next.barred = barred;
     next
 }
 
