@@ -32,6 +32,7 @@ static void empty_slices(reedgrit_propagator *three) {
     const int32_t durations[] = {4, 5, 3};
     assert(reedgrit_check(durations, 3, NULL, 0, NULL, 0).kind == REEDGRIT_NOT_PASSED);
     assert(reedgrit_check_mirrored(durations, 3, NULL, 0, NULL, 0).kind == REEDGRIT_NOT_PASSED);
+    assert(reedgrit_prepare(NULL, 0, NULL, 0).kind == REEDGRIT_YES);
     assert(reedgrit_is_true(NULL, 0, 0, REEDGRIT_GREATER_EQUAL, 0).kind == REEDGRIT_NO);
     assert(reedgrit_lower_bound(NULL, 0, 0).infinity == -1);
     assert(reedgrit_upper_bound(NULL, 0, 0).infinity == 1);

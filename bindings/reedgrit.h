@@ -218,6 +218,10 @@ reedgrit_start_answer reedgrit_free_start(const reedgrit_propagator *propagator,
 reedgrit_busiest_answer reedgrit_busiest_stretch(const reedgrit_propagator *propagator, const reedgrit_range *ranges, size_t range_count,
                                                  int32_t length);
 
+/* Whether the premises and the negated consequent, one atom or none, leave every variable a value: REEDGRIT_YES, or REEDGRIT_NO_STATE with
+ * the variable of the first atom that contradicts those before it. Refuses by 7, 6, 21. The state itself does not cross. */
+reedgrit_state_answer reedgrit_prepare(const int32_t *premises, size_t premise_words, const int32_t *consequent, size_t consequent_words);
+
 /* Questions to the state that the premises leave, from all integers for each variable: whether every value meets an atom, and the least
  * and the greatest value. Refuse by 7, 6, 21, where 6 is tried over the premises' words and the question's own, and so before 21 and before
  * a contradiction. */

@@ -864,6 +864,24 @@ pub mod state {
 
     impl std::error::Error for NoState {}
 
+    /// Whether the premises and the opposite of the consequent, where there is one, leave every variable a value.
+    ///
+    /// ```
+    /// use reedgrit::{Atom, state};
+    /// assert_eq!(state::prepare(&[Atom::at_least(0, 5)], Some(Atom::at_least(0, 6))), Ok(()));
+    /// assert_eq!(state::prepare(&[Atom::at_least(0, 5)], Some(Atom::at_least(0, 5))), Err(state::NoState::Contradiction(0)));
+    /// ```
+    ///
+    /// # Errors
+    /// [`Refused::Premises`]; [`Refused::Atoms`]; then [`Refused::Holes`] or a contradiction, by the first atom that leads to one of them.
+    pub fn prepare(premises: &[Atom], consequent: Option<Atom>) -> Result<(), NoState> {
+        let answer = raw::prepare(raw::words(premises), raw::words(consequent.as_slice()));
+        match answer.kind {
+            0 => Ok(()),
+            _ => Err(no_state(answer)),
+        }
+    }
+
     /// The least value that the premises leave to the variable.
     ///
     /// # Errors

@@ -164,6 +164,10 @@ unsafe extern "C" {
         premises: *const i32, premise_words: usize,
         consequent: *const i32, consequent_words: usize,
     ) -> CheckAnswer;
+    fn reedgrit_prepare(
+        premises: *const i32, premise_words: usize,
+        consequent: *const i32, consequent_words: usize,
+    ) -> StateAnswer;
     fn reedgrit_is_true(premises: *const i32, premise_words: usize, variable: i32, kind: i32, value: i32) -> StateAnswer;
     fn reedgrit_lower_bound(premises: *const i32, premise_words: usize, variable: i32) -> StateAnswer;
     fn reedgrit_upper_bound(premises: *const i32, premise_words: usize, variable: i32) -> StateAnswer;
@@ -189,6 +193,12 @@ pub(crate) fn check(durations: &[i32], premises: &[i32], consequent: &[i32]) -> 
     agree();
     // SAFETY: as the module says.
     unsafe { reedgrit_check(durations.as_ptr(), durations.len(), premises.as_ptr(), premises.len(), consequent.as_ptr(), consequent.len()) }
+}
+
+pub(crate) fn prepare(premises: &[i32], consequent: &[i32]) -> StateAnswer {
+    agree();
+    // SAFETY: as the module says.
+    unsafe { reedgrit_prepare(premises.as_ptr(), premises.len(), consequent.as_ptr(), consequent.len()) }
 }
 
 pub(crate) fn is_true(premises: &[i32], variable: i32, kind: i32, value: i32) -> StateAnswer {

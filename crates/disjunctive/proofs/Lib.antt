@@ -1,3 +1,1 @@
-pub mod Starts
-pub mod Rows
-pub mod Counting
+pub mod LentRuns

@@ -2,8 +2,7 @@
 -- Assumes nothing.
 use mathlib.Core.List.{List, [], _∷_}
 use mathlib.Core.Path.{_≡_, refl}
-use lib.IntN.{ℤ, pos, negsuc}
-use lib.ListN.{take}
+use lib.IntN.{ℤ, pos}
 use Rattle.integers.specs.Filling.{filled}
 use Rattle.integers.specs.Orders.{sort, insert, index, numbers, has}
 use Rattle.scheduling.specs.Scheduling.{total, processing}
@@ -19,24 +18,6 @@ use Rattle.records.specs.Records.{newRecord, momentsIn}
 use Rattle.overload_test.specs.declared.overload_test.Overload.the-variants.{Yes}
 use Rattle.overload_test.specs.Reading.{answerFrom, answerOf}
 use Rattle.propagator.specs.Ran.{traceOf}
-use Rattle.barred_starts.specs.declared.range.Range.{Range}
-use Rattle.disjunctive.specs.Ranges.{taken, padded, startsOf}
-
-range : ℤ → ℤ → Range
-range e l = record { earliest = e; latest = l; count = 0; barred = [] }
-
-forty-eight : taken 48 ≡ 48
-unfolding taken
-forty-eight = refl
-
-forty-nine : taken 49 ≡ 0
-unfolding taken
-forty-nine = refl
-
--- two ranges, taken apart
-first-places : take 3 (startsOf (range (negsuc 6) (pos 6) ∷ range (pos 1) (pos 5) ∷ []) .earliest) ≡ negsuc 6 ∷ pos 1 ∷ pos 0 ∷ []
-unfolding taken padded startsOf range
-first-places = refl
 
 -- the overload test says yes where the run meets an emptied range before the overload
 three : Propagator

@@ -4,7 +4,7 @@ use lib.ListN.{length, take}
 use Rattle.integers.specs.Limits.{TASKS}
 use Rattle.records.specs.declared.record.Propagator.{Propagator}
 use Rattle.precedences.specs.Precedences.{RanPrecedences}
-use Rattle.disjunctive.specs.declared.ranges.Starts.{Starts}
+use Rattle.lent_ranges.specs.declared.starts.Starts.{Starts}
 use Rattle.disjunctive.specs.declared.ranges.by_precedence.CorePrecedences.{CorePrecedences}
 
 -- what a pass on ranges that are taken apart leaves

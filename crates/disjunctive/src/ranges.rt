@@ -5,34 +5,26 @@
 pub mod by_precedence;
 pub mod of_fixed_schedules;
 
-use barred_starts::bars::all_bars_fit;
-use barred_starts::moves::stored_latest;
-use barred_starts::moves::stored_start;
 use barred_starts::range::Range;
 use integers::limits::TASKS;
+use lent_ranges::starts::Starts;
+use lent_ranges::starts::starts_of;
+use lent_ranges::starts::store_latest;
+use lent_ranges::starts::store_starts;
 use levels::outcome::Finished;
 use levels::outcome::Outcome;
 use mirrored::mirrored_propagator::propagate_mirrored;
 use overload_test::overload_test::Overload;
 use propagator::disjunctive_propagator::propagate;
 use records::record::Propagator;
-ghost use mathlib.Core.Path.{_≡_};
 ghost use Prim.Native.Nat.{_≤_};
-ghost use lib.ListN.{length, take};
+ghost use lib.ListN.{take};
 ghost use Rattle.integers.specs.Limits.{TASKS};
 ghost use Rattle.overload_test.specs.Tested.{OverloadTested};
 ghost use Rattle.barred_starts.specs.Bars.{allBarsFit};
-ghost use Rattle.barred_starts.specs.Ranges.{earliests, latests, withStarts, withLatests};
+ghost use Rattle.barred_starts.specs.Ranges.{earliests, latests};
 ghost use Rattle.promises.specs.RanLent.{RanLent, RanMirroredLent};
-ghost use Rattle.disjunctive.specs.Ranges.{RanCore, RanMirroredCore, taken, startsOf};
-
-// Ranges, taken apart: their numbers stand in the first `count` places, zeros after them; of their bars there is whether they fit.
-pub struct Starts {
-    pub count: usize,
-    pub earliest: [i32; TASKS],
-    pub latest: [i32; TASKS],
-    pub bars_fit: bool,
-}
+ghost use Rattle.disjunctive.specs.Ranges.{RanCore, RanMirroredCore};
 
 // What a run on ranges that are taken apart returns.
 pub struct CoreRun {
@@ -45,53 +37,6 @@ pub struct CoreRun {
 pub struct CoreMirrored {
     pub outcome: Outcome,
     pub starts: Starts,
-}
-
-// How many of `n` ranges are taken apart. More ranges than any record has tasks are turned back for their count, and so are none: then none is taken.
-fn fitting(n: usize) -> usize
-    ensures { λ r. ⌜ r ≡ taken n ⌝ }
-{
-    if n <= TASKS {
-        return n;
-    }
-    0
-}
-
-// Two numbers are copied for each range, and no array of bars.
-fn starts_of(ranges: &[Range]) -> Starts
-    ensures { λ r. ⌜ r ≡ startsOf (now (ranges .entry)) ⌝ }
-{
-    let bars_fit = all_bars_fit(ranges);
-    let count = fitting(ranges.len());
-    let mut earliest = [0; TASKS];
-    let mut latest = [0; TASKS];
-    let mut i = 0;
-    while i < count {
-        let range = ranges[i];
-        earliest[i] = range.earliest;
-        latest[i] = range.latest;
-        i += 1;
-    }
-    Starts {
-        count,
-        earliest,
-        latest,
-        bars_fit,
-    }
-}
-
-// The earliest starts, put back into the ranges that they were taken from: one that was raised moves on to a permitted value.
-fn store_starts(ranges: &mut [Range], starts: Starts)
-    requires { ⌜ (starts .count ≤ TASKS) × (starts .count ≤ length (now ranges)) ⌝ }
-    ensures { λ _. ⌜ now (ranges .exit) ≡ withStarts (now (ranges .entry)) (take (starts .count) (starts .earliest)) ⌝ }
-{
-    let count = starts.count;
-    let earliest = starts.earliest;
-    let mut i = 0;
-    while i < count {
-        ranges[i].earliest = stored_start(ranges[i], earliest[i]);
-        i += 1;
-    }
 }
 
 // The run on the first `count` places of the arrays.
@@ -143,20 +88,6 @@ pub fn run(
     store_starts(ranges, ran.starts);
     *propagator = ran.record;
     ran.finished
-}
-
-// The latest starts, put back into the ranges that they were taken from: one that was lowered moves back to a permitted value.
-fn store_latest(ranges: &mut [Range], starts: Starts)
-    requires { ⌜ (starts .count ≤ TASKS) × (starts .count ≤ length (now ranges)) ⌝ }
-    ensures { λ _. ⌜ now (ranges .exit) ≡ withLatests (now (ranges .entry)) (take (starts .count) (starts .latest)) ⌝ }
-{
-    let count = starts.count;
-    let latest = starts.latest;
-    let mut i = 0;
-    while i < count {
-        ranges[i].latest = stored_latest(ranges[i], latest[i]);
-        i += 1;
-    }
 }
 
 // The mirrored pass on the first `count` places of the arrays.

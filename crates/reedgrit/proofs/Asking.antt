@@ -20,7 +20,7 @@ use Rattle.atoms.proofs.Atoms.{right-lists}
 use Rattle.atoms.proofs.Right.{lists-are}
 use Rattle.checking.specs.declared.variable_state.VariableState.{VariableState}
 use Rattle.checking.specs.declared.variable_state.Application.{Application}
-use Rattle.checking.specs.declared.variable_state.Application.the-variants.{Refused}
+use Rattle.checking.specs.declared.variable_state.Application.the-variants.{Consistent, Contradiction, Refused}
 use Rattle.checking.specs.declared.variable_state.Applied.{Applied}
 use Rattle.checking.specs.Answers.{applicationNumbers}
 use Rattle.checking.specs.States.{prepared}
@@ -28,6 +28,12 @@ use Rattle.checking.proofs.Apart.{applications-apart}
 use Rattle.checking.proofs.Refused.{prepared-7, prepared-6}
 use Rattle.answers.specs.Answers.{stateAnswer, askedAt}
 use Rattle.reedgrit.specs.Calls.{rightQuestion, questionTests, askedAfter, asked}
+
+-- what is said of a list that leads to a state is said of every list, by its answer
+pub consistent : (w : Application) → askedAt w (stateAnswer (applicationNumbers Consistent)) ≡ stateAnswer (applicationNumbers w)
+consistent Consistent = refl
+consistent (Contradiction x) = refl
+consistent (Refused n) = refl
 
 module _ (premises : List ℤ) (own : Bool) where
   abbrev t7 : Test

@@ -17,7 +17,7 @@ use Rattle.domains.specs.declared.int_ext.IntExt.{IntExt}
 use Rattle.domains.specs.declared.domain.Domain.{Domain}
 use Rattle.checking.specs.declared.variable_state.VariableState.{VariableState}
 use Rattle.checking.specs.declared.variable_state.Applied.{Applied}
-use Rattle.checking.specs.Answers.{truthNumbers, boundNumbers}
+use Rattle.checking.specs.Answers.{applicationNumbers, truthNumbers, boundNumbers}
 use Rattle.checking.specs.States.{prepared, truthOf, boundOf, lowerOf, upperOf}
 use Rattle.checker.specs.declared.checker.Verdict.{Verdict}
 use Rattle.checker.specs.Checks.{Checked}
@@ -62,6 +62,10 @@ pub record CheckedNumbers (ds premises consequent : List ℤ) (answer : CheckAns
   pub verdict : Verdict
   pub numbers : answer ≡ checkAnswer (verdictNumbers verdict)
   pub checked : Checked ds premises consequent verdict
+
+-- prepare: whether premises and the negated consequent lead to a state, which is kind 0; a contradiction; or a refusal
+abbrev pub preparedAnswer : List ℤ → List ℤ → StateAnswer
+preparedAnswer premises consequent = stateAnswer (applicationNumbers (prepared premises consequent .answer))
 
 -- A question to the state that premises lead to ---------------------------------------------------------------------------------
 

@@ -32,7 +32,7 @@ ghost use lib.Signed.{_≤ℤ_};
 ghost use Rattle.integers.specs.Tests.{refusal};
 ghost use Rattle.checking.specs.States.{sideOf, boundOf};
 ghost use Rattle.post_words.specs.Posts.{firstAtom, atomCount};
-ghost use Rattle.reedgrit.specs.Calls.{newNumbers, readPost, postNumbers, RanNumbers, CheckedNumbers, questionTests, truthAfter, boundAfter, lowerAfter, upperAfter};
+ghost use Rattle.reedgrit.specs.Calls.{newNumbers, readPost, postNumbers, RanNumbers, CheckedNumbers, preparedAnswer, questionTests, truthAfter, boundAfter, lowerAfter, upperAfter};
 
 // A record of the durations, or the record of zeros with the number that turned them back.
 #[no_mangle]
@@ -109,6 +109,23 @@ pub extern "C" fn reedgrit_check(
     ensures { λ r. ⌜ CheckedNumbers (now (durations .entry)) (now (premises .entry)) (now (consequent .entry)) r ⌝ }
 {
     verdict_numbers(check(durations, premises, consequent))
+}
+
+// Whether the premises and the negated consequent, of one atom or none, lead to a state; the state itself does not cross.
+#[no_mangle]
+pub extern "C" fn reedgrit_prepare(premises: &[i32], consequent: &[i32]) -> StateAnswer
+    ensures { λ r. ⌜ r ≡ preparedAnswer (now (premises .entry)) (now (consequent .entry)) ⌝ }
+{
+    let applied = VariableState::prepare_for_conflict_check(premises, consequent);
+    let answer = applied.answer;
+    let consistent = StateAnswer {
+        kind: 0,
+        number: 0,
+        variable: 0,
+        infinity: 0,
+        value: 0,
+    };
+    state_numbers(answer, consistent)
 }
 
 // The number of a question whose own words are not accepted: more premises than there may be come first.

@@ -1,9 +1,9 @@
 // The open calls by precedences, on lent ranges: the pass raises earliest starts in them, and the reason of one task's bound is written from them.
-use crate::ranges::Starts;
-use crate::ranges::starts_of;
-use crate::ranges::store_starts;
 use barred_starts::range::Range;
 use integers::limits::TASKS;
+use lent_ranges::starts::Starts;
+use lent_ranges::starts::starts_of;
+use lent_ranges::starts::store_starts;
 use precedences::answers::Precedences;
 use precedences::answers::Reason;
 use records::record::Propagator;

@@ -1,12 +1,12 @@
 // The open calls on a fixed schedule in lent ranges: its page, its charges, the earliest free start beside it, and its busiest stretch. Of what is lent only the
 // page's buffer changes.
-use crate::ranges::Starts;
-use crate::ranges::starts_of;
 use barred_starts::range::Range;
 use busiest_stretch::answer::Busiest;
 use charges::answer::Charges;
 use free_starts::free_start::FreeStart;
 use integers::limits::TASKS;
+use lent_ranges::starts::Starts;
+use lent_ranges::starts::starts_of;
 use pages::answer::Page;
 use records::record::Propagator;
 ghost use Prim.Native.Nat.{_≤_};

@@ -52,25 +52,27 @@ use Rattle.levels.proofs.outcome.Finished.Laws as F′
 use Rattle.barred_starts.specs.declared.range.Range.{Range}
 use Rattle.promises.specs.RanLent.{RanLent}
 use Rattle.disjunctive.specs.Ranges.{RanCore}
-use Rattle.disjunctive.specs.declared.ranges.Starts.{Starts}
+use Rattle.lent_ranges.specs.declared.starts.Starts.{Starts}
 use Rattle.disjunctive.specs.declared.ranges.CoreRun.{CoreRun}
-use Rattle.disjunctive.proofs.Starts.{starts-fit, lent-run}
-use Rattle.disjunctive.proofs.ranges.Lending.{machP, rangesVal, rangesAt, StartsOf, calls-starts-mut, Store, calls-store}
+use Rattle.lent_ranges.proofs.TakenApart.{starts-fit}
+use Rattle.disjunctive.proofs.LentRuns.{lent-run}
+use Rattle.lent_ranges.proofs.starts.Lending.{rangesVal, rangesAt, StartsOf, calls-starts-mut, Store, calls-store}
+use Rattle.disjunctive.proofs.ranges.LentRecord.{machP}
 use Rattle.barred_starts.proofs.range.Range as T
-use Rattle.disjunctive.proofs.ranges.Starts as S
-use Rattle.disjunctive.proofs.ranges.Starts.Laws as S′
+use Rattle.lent_ranges.proofs.starts.Starts as S
+use Rattle.lent_ranges.proofs.starts.Starts.Laws as S′
 use Rattle.disjunctive.proofs.ranges.CoreRun as R
 use Rattle.disjunctive.proofs.ranges.CoreRun.Laws as R′
-use Rattle.disjunctive.proofs.ranges.starts_of.Symbol as starts-of-def
-use Rattle.disjunctive.proofs.ranges.starts_of.Symbol.{name as #starts-of}
-use Rattle.disjunctive.proofs.ranges.starts_of.Met as starts-of-thm
+use Rattle.lent_ranges.proofs.starts.starts_of.Symbol as starts-of-def
+use Rattle.lent_ranges.proofs.starts.starts_of.Symbol.{name as #starts-of}
+use Rattle.lent_ranges.proofs.starts.starts_of.Met as starts-of-thm
 use Rattle.disjunctive.proofs.ranges.run_core as run-core
 use Rattle.disjunctive.proofs.ranges.run_core.Symbol as run-core-def
 use Rattle.disjunctive.proofs.ranges.run_core.Symbol.{name as #run-core}
 use Rattle.disjunctive.proofs.ranges.run_core.Met as run-core-thm
-use Rattle.disjunctive.proofs.ranges.store_starts.Symbol as store-starts-def
-use Rattle.disjunctive.proofs.ranges.store_starts.Symbol.{name as #store-starts}
-use Rattle.disjunctive.proofs.ranges.store_starts.Met as store-starts-thm
+use Rattle.lent_ranges.proofs.starts.store_starts.Symbol as store-starts-def
+use Rattle.lent_ranges.proofs.starts.store_starts.Symbol.{name as #store-starts}
+use Rattle.lent_ranges.proofs.starts.store_starts.Met as store-starts-thm
 use Rattle.disjunctive.proofs.ranges.run.Key.{name as #run}
 use Rattle.disjunctive.proofs.ranges.run as f
 use Rattle.disjunctive.proofs.ranges.run.Statement as stated
@@ -230,6 +232,6 @@ run-spec 𝓤 H 𝓜 𝓖 𝓡 =
     entered 𝓤 H (tripleOf 𝓤 H (𝓖 .A) f.signature (f.spec 𝓤 H (𝓖 .A) (𝓜 .mem) (𝓡 .run)))
     (tables 𝓤 H 𝓜 𝓡 code.env .C) (tables 𝓤 H 𝓜 𝓡 code.env .Λ) #run code.function (code.unfolded 𝓤 H 𝓜 𝓡)
     (f-meets 𝓤 H (𝓖 .A) (givenOf 𝓤 H 𝓜 𝓖) (𝓜 .mem) (𝓡 .run) (tablesOf 𝓤 H 𝓜 (tables 𝓤 H 𝓜 𝓡 code.env))
-    (cited 𝓤 H (StartsOf 𝓤 H (𝓖 .A) (𝓜 .mem) (𝓡 .run)) 𝓜 𝓡 code.env #starts-of starts-of-def.routine code.calls-disjunctive·ranges·starts-of (starts-of-thm.met 𝓤 H 𝓜 𝓖 𝓡))
+    (cited 𝓤 H (StartsOf 𝓤 H (𝓖 .A) (𝓜 .mem) (𝓡 .run)) 𝓜 𝓡 code.env #starts-of starts-of-def.routine code.calls-lent-ranges·starts·starts-of (starts-of-thm.met 𝓤 H 𝓜 𝓖 𝓡))
     (cited 𝓤 H (Core 𝓤 H (𝓖 .A) (𝓜 .mem) (𝓡 .run)) 𝓜 𝓡 code.env #run-core run-core-def.routine code.calls-disjunctive·ranges·run-core (run-core-thm.met 𝓤 H 𝓜 𝓖 𝓡))
-    (cited 𝓤 H (Store 𝓤 H (𝓖 .A) (𝓜 .mem) (𝓡 .run)) 𝓜 𝓡 code.env #store-starts store-starts-def.routine code.calls-disjunctive·ranges·store-starts (store-starts-thm.met 𝓤 H 𝓜 𝓖 𝓡)))
+    (cited 𝓤 H (Store 𝓤 H (𝓖 .A) (𝓜 .mem) (𝓡 .run)) 𝓜 𝓡 code.env #store-starts store-starts-def.routine code.calls-lent-ranges·starts·store-starts (store-starts-thm.met 𝓤 H 𝓜 𝓖 𝓡)))

@@ -52,26 +52,28 @@ use Rattle.barred_starts.specs.declared.range.Range.{Range}
 use Rattle.barred_starts.specs.Ranges.{withLatests}
 use Rattle.promises.specs.RanLent.{RanMirroredLent}
 use Rattle.disjunctive.specs.Ranges.{RanMirroredCore}
-use Rattle.disjunctive.specs.declared.ranges.Starts.{Starts}
+use Rattle.lent_ranges.specs.declared.starts.Starts.{Starts}
 use Rattle.disjunctive.specs.declared.ranges.CoreMirrored.{CoreMirrored}
-use Rattle.disjunctive.proofs.Starts.{starts-fit, lent-mirrored-run}
-use Rattle.disjunctive.proofs.ranges.Lending.{machP, machS, rangesVal, rangesAt, StartsOf, calls-starts-mut, looks-into, shuts-record}
+use Rattle.lent_ranges.proofs.TakenApart.{starts-fit}
+use Rattle.disjunctive.proofs.LentRuns.{lent-mirrored-run}
+use Rattle.lent_ranges.proofs.starts.Lending.{machS, rangesVal, rangesAt, StartsOf, calls-starts-mut}
+use Rattle.disjunctive.proofs.ranges.LentRecord.{machP, looks-into, shuts-record}
 use Rattle.barred_starts.proofs.range.Range as T
-use Rattle.disjunctive.proofs.ranges.Starts as S
-use Rattle.disjunctive.proofs.ranges.Starts.Laws as S′
+use Rattle.lent_ranges.proofs.starts.Starts as S
+use Rattle.lent_ranges.proofs.starts.Starts.Laws as S′
 use Rattle.disjunctive.proofs.ranges.CoreMirrored as R
 use Rattle.disjunctive.proofs.ranges.CoreMirrored.Laws as R′
-use Rattle.disjunctive.proofs.ranges.starts_of.Symbol as starts-of-def
-use Rattle.disjunctive.proofs.ranges.starts_of.Symbol.{name as #starts-of}
-use Rattle.disjunctive.proofs.ranges.starts_of.Met as starts-of-thm
+use Rattle.lent_ranges.proofs.starts.starts_of.Symbol as starts-of-def
+use Rattle.lent_ranges.proofs.starts.starts_of.Symbol.{name as #starts-of}
+use Rattle.lent_ranges.proofs.starts.starts_of.Met as starts-of-thm
 use Rattle.disjunctive.proofs.ranges.mirrored_core as mirrored-core
 use Rattle.disjunctive.proofs.ranges.mirrored_core.Symbol as mirrored-core-def
 use Rattle.disjunctive.proofs.ranges.mirrored_core.Symbol.{name as #mirrored-core}
 use Rattle.disjunctive.proofs.ranges.mirrored_core.Met as mirrored-core-thm
-use Rattle.disjunctive.proofs.ranges.store_latest as store-latest
-use Rattle.disjunctive.proofs.ranges.store_latest.Symbol as store-latest-def
-use Rattle.disjunctive.proofs.ranges.store_latest.Symbol.{name as #store-latest}
-use Rattle.disjunctive.proofs.ranges.store_latest.Met as store-latest-thm
+use Rattle.lent_ranges.proofs.starts.store_latest as store-latest
+use Rattle.lent_ranges.proofs.starts.store_latest.Symbol as store-latest-def
+use Rattle.lent_ranges.proofs.starts.store_latest.Symbol.{name as #store-latest}
+use Rattle.lent_ranges.proofs.starts.store_latest.Met as store-latest-thm
 use Rattle.disjunctive.proofs.ranges.run_mirrored.Key.{name as #run-mirrored}
 use Rattle.disjunctive.proofs.ranges.run_mirrored as f
 use Rattle.disjunctive.proofs.ranges.run_mirrored.Statement as stated
@@ -236,6 +238,6 @@ run-mirrored-spec 𝓤 H 𝓜 𝓖 𝓡 =
     entered 𝓤 H (tripleOf 𝓤 H (𝓖 .A) f.signature (f.spec 𝓤 H (𝓖 .A) (𝓜 .mem) (𝓡 .run)))
     (tables 𝓤 H 𝓜 𝓡 code.env .C) (tables 𝓤 H 𝓜 𝓡 code.env .Λ) #run-mirrored code.function (code.unfolded 𝓤 H 𝓜 𝓡)
     (f-meets 𝓤 H (𝓖 .A) (givenOf 𝓤 H 𝓜 𝓖) (𝓜 .mem) (𝓡 .run) (tablesOf 𝓤 H 𝓜 (tables 𝓤 H 𝓜 𝓡 code.env))
-    (cited 𝓤 H (StartsOf 𝓤 H (𝓖 .A) (𝓜 .mem) (𝓡 .run)) 𝓜 𝓡 code.env #starts-of starts-of-def.routine code.calls-disjunctive·ranges·starts-of (starts-of-thm.met 𝓤 H 𝓜 𝓖 𝓡))
+    (cited 𝓤 H (StartsOf 𝓤 H (𝓖 .A) (𝓜 .mem) (𝓡 .run)) 𝓜 𝓡 code.env #starts-of starts-of-def.routine code.calls-lent-ranges·starts·starts-of (starts-of-thm.met 𝓤 H 𝓜 𝓖 𝓡))
     (cited 𝓤 H (Core 𝓤 H (𝓖 .A) (𝓜 .mem) (𝓡 .run)) 𝓜 𝓡 code.env #mirrored-core mirrored-core-def.routine code.calls-disjunctive·ranges·mirrored-core (mirrored-core-thm.met 𝓤 H 𝓜 𝓖 𝓡))
-    (cited 𝓤 H (Store 𝓤 H (𝓖 .A) (𝓜 .mem) (𝓡 .run)) 𝓜 𝓡 code.env #store-latest store-latest-def.routine code.calls-disjunctive·ranges·store-latest (store-latest-thm.met 𝓤 H 𝓜 𝓖 𝓡)))
+    (cited 𝓤 H (Store 𝓤 H (𝓖 .A) (𝓜 .mem) (𝓡 .run)) 𝓜 𝓡 code.env #store-latest store-latest-def.routine code.calls-lent-ranges·starts·store-latest (store-latest-thm.met 𝓤 H 𝓜 𝓖 𝓡)))

@@ -49,25 +49,27 @@ use Rattle.precedences.proofs.answers.Precedences.Laws as O′
 use Rattle.barred_starts.specs.declared.range.Range.{Range}
 use Rattle.promises.specs.PrecedencesLent.{PrecedencesLent}
 use Rattle.disjunctive.specs.LentCalls.{PrecedencesCore}
-use Rattle.disjunctive.specs.declared.ranges.Starts.{Starts}
+use Rattle.lent_ranges.specs.declared.starts.Starts.{Starts}
 use Rattle.disjunctive.specs.declared.ranges.by_precedence.CorePrecedences.{CorePrecedences}
-use Rattle.disjunctive.proofs.Starts.{starts-fit, lent-pass}
-use Rattle.disjunctive.proofs.ranges.Lending.{machP, rangesVal, rangesAt, StartsOf, calls-starts-mut, Store, calls-store, looks-into, shuts-record}
+use Rattle.lent_ranges.proofs.TakenApart.{starts-fit}
+use Rattle.disjunctive.proofs.LentRuns.{lent-pass}
+use Rattle.lent_ranges.proofs.starts.Lending.{rangesVal, rangesAt, StartsOf, calls-starts-mut, Store, calls-store}
+use Rattle.disjunctive.proofs.ranges.LentRecord.{machP, looks-into, shuts-record}
 use Rattle.barred_starts.proofs.range.Range as T
-use Rattle.disjunctive.proofs.ranges.Starts as S
-use Rattle.disjunctive.proofs.ranges.Starts.Laws as S′
+use Rattle.lent_ranges.proofs.starts.Starts as S
+use Rattle.lent_ranges.proofs.starts.Starts.Laws as S′
 use Rattle.disjunctive.proofs.ranges.by_precedence.CorePrecedences as R
 use Rattle.disjunctive.proofs.ranges.by_precedence.CorePrecedences.Laws as R′
-use Rattle.disjunctive.proofs.ranges.starts_of.Symbol as starts-of-def
-use Rattle.disjunctive.proofs.ranges.starts_of.Symbol.{name as #starts-of}
-use Rattle.disjunctive.proofs.ranges.starts_of.Met as starts-of-thm
+use Rattle.lent_ranges.proofs.starts.starts_of.Symbol as starts-of-def
+use Rattle.lent_ranges.proofs.starts.starts_of.Symbol.{name as #starts-of}
+use Rattle.lent_ranges.proofs.starts.starts_of.Met as starts-of-thm
 use Rattle.disjunctive.proofs.ranges.by_precedence.precedences_core as precedences-core
 use Rattle.disjunctive.proofs.ranges.by_precedence.precedences_core.Symbol as precedences-core-def
 use Rattle.disjunctive.proofs.ranges.by_precedence.precedences_core.Symbol.{name as #precedences-core}
 use Rattle.disjunctive.proofs.ranges.by_precedence.precedences_core.Met as precedences-core-thm
-use Rattle.disjunctive.proofs.ranges.store_starts.Symbol as store-starts-def
-use Rattle.disjunctive.proofs.ranges.store_starts.Symbol.{name as #store-starts}
-use Rattle.disjunctive.proofs.ranges.store_starts.Met as store-starts-thm
+use Rattle.lent_ranges.proofs.starts.store_starts.Symbol as store-starts-def
+use Rattle.lent_ranges.proofs.starts.store_starts.Symbol.{name as #store-starts}
+use Rattle.lent_ranges.proofs.starts.store_starts.Met as store-starts-thm
 use Rattle.disjunctive.proofs.ranges.by_precedence.precedences.Key.{name as #precedences}
 use Rattle.disjunctive.proofs.ranges.by_precedence.precedences as f
 use Rattle.disjunctive.proofs.ranges.by_precedence.precedences.Statement as stated
@@ -181,6 +183,6 @@ precedences-spec 𝓤 H 𝓜 𝓖 𝓡 =
     entered 𝓤 H (tripleOf 𝓤 H (𝓖 .A) f.signature (f.spec 𝓤 H (𝓖 .A) (𝓜 .mem) (𝓡 .run)))
     (tables 𝓤 H 𝓜 𝓡 code.env .C) (tables 𝓤 H 𝓜 𝓡 code.env .Λ) #precedences code.function (code.unfolded 𝓤 H 𝓜 𝓡)
     (f-meets 𝓤 H (𝓖 .A) (givenOf 𝓤 H 𝓜 𝓖) (𝓜 .mem) (𝓡 .run) (tablesOf 𝓤 H 𝓜 (tables 𝓤 H 𝓜 𝓡 code.env))
-    (cited 𝓤 H (StartsOf 𝓤 H (𝓖 .A) (𝓜 .mem) (𝓡 .run)) 𝓜 𝓡 code.env #starts-of starts-of-def.routine code.calls-disjunctive·ranges·starts-of (starts-of-thm.met 𝓤 H 𝓜 𝓖 𝓡))
+    (cited 𝓤 H (StartsOf 𝓤 H (𝓖 .A) (𝓜 .mem) (𝓡 .run)) 𝓜 𝓡 code.env #starts-of starts-of-def.routine code.calls-lent-ranges·starts·starts-of (starts-of-thm.met 𝓤 H 𝓜 𝓖 𝓡))
     (cited 𝓤 H (Core 𝓤 H (𝓖 .A) (𝓜 .mem) (𝓡 .run)) 𝓜 𝓡 code.env #precedences-core precedences-core-def.routine code.calls-disjunctive·ranges·by-precedence·precedences-core (precedences-core-thm.met 𝓤 H 𝓜 𝓖 𝓡))
-    (cited 𝓤 H (Store 𝓤 H (𝓖 .A) (𝓜 .mem) (𝓡 .run)) 𝓜 𝓡 code.env #store-starts store-starts-def.routine code.calls-disjunctive·ranges·store-starts (store-starts-thm.met 𝓤 H 𝓜 𝓖 𝓡)))
+    (cited 𝓤 H (Store 𝓤 H (𝓖 .A) (𝓜 .mem) (𝓡 .run)) 𝓜 𝓡 code.env #store-starts store-starts-def.routine code.calls-lent-ranges·starts·store-starts (store-starts-thm.met 𝓤 H 𝓜 𝓖 𝓡)))

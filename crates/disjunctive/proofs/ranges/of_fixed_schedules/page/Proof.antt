@@ -47,15 +47,16 @@ use Rattle.pages.proofs.answer.Page as O
 use Rattle.pages.proofs.answer.Page.Laws as O′
 use Rattle.barred_starts.specs.Ranges.{earliests, latests}
 use Rattle.barred_starts.specs.declared.range.Range.{Range}
-use Rattle.disjunctive.specs.declared.ranges.Starts.{Starts}
-use Rattle.disjunctive.proofs.Starts.{starts-fit, apart}
-use Rattle.disjunctive.proofs.ranges.Lending.{machP, rangesVal, StartsOf, calls-starts, looks-into, shuts-record}
+use Rattle.lent_ranges.specs.declared.starts.Starts.{Starts}
+use Rattle.lent_ranges.proofs.TakenApart.{starts-fit, apart}
+use Rattle.lent_ranges.proofs.starts.Lending.{rangesVal, StartsOf, calls-starts}
+use Rattle.disjunctive.proofs.ranges.LentRecord.{machP, looks-into, shuts-record}
 use Rattle.barred_starts.proofs.range.Range as T
-use Rattle.disjunctive.proofs.ranges.Starts as S
-use Rattle.disjunctive.proofs.ranges.Starts.Laws as S′
-use Rattle.disjunctive.proofs.ranges.starts_of.Symbol as starts-of-def
-use Rattle.disjunctive.proofs.ranges.starts_of.Symbol.{name as #starts-of}
-use Rattle.disjunctive.proofs.ranges.starts_of.Met as starts-of-thm
+use Rattle.lent_ranges.proofs.starts.Starts as S
+use Rattle.lent_ranges.proofs.starts.Starts.Laws as S′
+use Rattle.lent_ranges.proofs.starts.starts_of.Symbol as starts-of-def
+use Rattle.lent_ranges.proofs.starts.starts_of.Symbol.{name as #starts-of}
+use Rattle.lent_ranges.proofs.starts.starts_of.Met as starts-of-thm
 use Rattle.disjunctive.proofs.ranges.of_fixed_schedules.page_core as page-core
 use Rattle.disjunctive.proofs.ranges.of_fixed_schedules.page_core.Symbol as page-core-def
 use Rattle.disjunctive.proofs.ranges.of_fixed_schedules.page_core.Symbol.{name as #page-core}
@@ -183,5 +184,5 @@ page-spec 𝓤 H 𝓜 𝓖 𝓡 =
     entered 𝓤 H (tripleOf 𝓤 H (𝓖 .A) f.signature (f.spec 𝓤 H (𝓖 .A) (𝓜 .mem) (𝓡 .run)))
     (tables 𝓤 H 𝓜 𝓡 code.env .C) (tables 𝓤 H 𝓜 𝓡 code.env .Λ) #page code.function (code.unfolded 𝓤 H 𝓜 𝓡)
     (f-meets 𝓤 H (𝓖 .A) (givenOf 𝓤 H 𝓜 𝓖) (𝓜 .mem) (𝓡 .run) (tablesOf 𝓤 H 𝓜 (tables 𝓤 H 𝓜 𝓡 code.env))
-    (cited 𝓤 H (StartsOf 𝓤 H (𝓖 .A) (𝓜 .mem) (𝓡 .run)) 𝓜 𝓡 code.env #starts-of starts-of-def.routine code.calls-disjunctive·ranges·starts-of (starts-of-thm.met 𝓤 H 𝓜 𝓖 𝓡))
+    (cited 𝓤 H (StartsOf 𝓤 H (𝓖 .A) (𝓜 .mem) (𝓡 .run)) 𝓜 𝓡 code.env #starts-of starts-of-def.routine code.calls-lent-ranges·starts·starts-of (starts-of-thm.met 𝓤 H 𝓜 𝓖 𝓡))
     (cited 𝓤 H (Core 𝓤 H (𝓖 .A) (𝓜 .mem) (𝓡 .run)) 𝓜 𝓡 code.env #page-core page-core-def.routine code.calls-disjunctive·ranges·of-fixed-schedules·page-core (page-core-thm.met 𝓤 H 𝓜 𝓖 𝓡)))

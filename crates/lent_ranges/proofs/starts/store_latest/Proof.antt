@@ -1,4 +1,4 @@
--- `ranges::store_starts` meets its contract: a walk of its MIR, by hand. What is its own is the array that is copied, the function that is called, and the store in the first field of a range; the loop is that of `StoreLoop`.
+-- `starts::store_latest` meets its contract: a walk of its MIR, by hand. What is its own is the array that is copied, the function that is called, and the store in the second field of a range; the loop is that of `StoreLoop`.
 -- Assumes nothing.
 use mathlib.Core.Path.{_≡_, refl, sym, _∙_, ap, subst}
 use Prim.Native.Nat.{ℕ, _≤_}
@@ -40,26 +40,26 @@ use denote.Triple.Table.{entered, cited}
 use denote.Triple.Walked.{says, needs, Stays, stay-slice, stay-none, walkOf, Walks, ends-at, walked, goes-slice, goes-none, walk-meets}
 use Rattle.integers.specs.Limits.{TASKS}
 use Rattle.barred_starts.specs.declared.range.Range.{Range}
-use Rattle.barred_starts.specs.Moves.{storedStart}
-use Rattle.barred_starts.specs.Ranges.{withEarliest, withStarts}
-use Rattle.barred_starts.proofs.Storing.{with-none, with-length, with-more}
-use Rattle.disjunctive.specs.declared.ranges.Starts.{Starts}
-use Rattle.disjunctive.proofs.Rows.{machine}
-use Rattle.disjunctive.proofs.ranges.StoreLoop as L
-use Rattle.disjunctive.proofs.ranges.StoreLoop.{mach, machS, copied}
+use Rattle.barred_starts.specs.Moves.{storedLatest}
+use Rattle.barred_starts.specs.Ranges.{withLatest, withLatests}
+use Rattle.barred_starts.proofs.Storing.{latest-none, latest-length, latest-more}
+use Rattle.lent_ranges.specs.declared.starts.Starts.{Starts}
+use Rattle.lent_ranges.proofs.Rows.{machine}
+use Rattle.lent_ranges.proofs.starts.StoreLoop as L
+use Rattle.lent_ranges.proofs.starts.StoreLoop.{mach, machS, copied}
 use Rattle.barred_starts.proofs.range.Range as T
 use Rattle.barred_starts.proofs.range.Range.Laws as T′
-use Rattle.barred_starts.proofs.moves.stored_start as stored-start
-use Rattle.barred_starts.proofs.moves.stored_start.Symbol as stored-start-def
-use Rattle.barred_starts.proofs.moves.stored_start.Symbol.{name as #stored-start}
-use Rattle.barred_starts.proofs.moves.stored_start.Met as stored-start-thm
-use Rattle.disjunctive.proofs.ranges.Starts as S
-use Rattle.disjunctive.proofs.ranges.Starts.Laws as S′
-use Rattle.disjunctive.proofs.ranges.store_starts.Key.{name as #store-starts}
-use Rattle.disjunctive.proofs.ranges.store_starts as f
-use Rattle.disjunctive.proofs.ranges.store_starts.Statement as stated
-use Rattle.disjunctive.proofs.ranges.store_starts.Code as code
-use Rattle.disjunctive.proofs.ranges.store_starts.Code.Mir.{t-1}
+use Rattle.barred_starts.proofs.moves.stored_latest as stored-latest
+use Rattle.barred_starts.proofs.moves.stored_latest.Symbol as stored-latest-def
+use Rattle.barred_starts.proofs.moves.stored_latest.Symbol.{name as #stored-latest}
+use Rattle.barred_starts.proofs.moves.stored_latest.Met as stored-latest-thm
+use Rattle.lent_ranges.proofs.starts.Starts as S
+use Rattle.lent_ranges.proofs.starts.Starts.Laws as S′
+use Rattle.lent_ranges.proofs.starts.store_latest.Key.{name as #store-latest}
+use Rattle.lent_ranges.proofs.starts.store_latest as f
+use Rattle.lent_ranges.proofs.starts.store_latest.Statement as stated
+use Rattle.lent_ranges.proofs.starts.store_latest.Code as code
+use Rattle.lent_ranges.proofs.starts.store_latest.Code.Mir.{t-1}
 
 abbrev Arg : Type 0
 Arg = RefT (List Range) × (Starts × Unit {0})
@@ -70,13 +70,13 @@ stayed = (stay-slice (0 ∷ []) tt (plain (λ _. T.the-row)), (stay-none (λ _. 
 module _ {M : Type 1} (𝓤 : URA M) (H : Heap 𝓤) (A : Atoms 𝓤) (mem : Memory → SProp 𝓤) (run : Routine → Fun 𝓤) where
   -- the contract that the proof cites
   abbrev Moved : Contract 𝓤
-  Moved = tripleOf 𝓤 H A stored-start.signature (stored-start.spec 𝓤 H A mem run)
+  Moved = tripleOf 𝓤 H A stored-latest.signature (stored-latest.spec 𝓤 H A mem run)
 
   abbrev Said : Range → ℤ → ℤ → SProp 𝓤
-  Said y z r = ensured 𝓤 H A stored-start.ended (stored-start.clauses 𝓤 H A mem run) tt (y, (z, tt)) tt r
+  Said y z r = ensured 𝓤 H A stored-latest.ended (stored-latest.clauses 𝓤 H A mem run) tt (y, (z, tt)) tt r
 
-  said : (y : Range) (z r : ℤ) → ent 𝓤 (Said y z r) (fact 𝓤 (r ≡ storedStart y z))
-  said y z r = exE 𝓤 _ (λ ws. snd∗ 𝓤 (sem 𝓤 H A (lasts stored-start.ended tt (y, (z, tt)) ws)) (fact 𝓤 (r ≡ storedStart y z)))
+  said : (y : Range) (z r : ℤ) → ent 𝓤 (Said y z r) (fact 𝓤 (r ≡ storedLatest y z))
+  said y z r = exE 𝓤 _ (λ ws. snd∗ 𝓤 (sem 𝓤 H A (lasts stored-latest.ended tt (y, (z, tt)) ws)) (fact 𝓤 (r ≡ storedLatest y z)))
 
   abbrev to-moved : Range → ℤ → Moved .Ghost
   to-moved y z = ((tt, tt, tt, (y, (z, tt)), (mach y ∷ [], (sint-vals w32 z, tt))), tt)
@@ -90,7 +90,7 @@ module _ {M : Type 1} (𝓤 : URA M) (H : Heap 𝓤) (A : Atoms 𝓤) (W : Given
   n = s .count
 
   abbrev zs : List Range
-  zs = withStarts ys (take n (s .earliest))
+  zs = withLatests ys (take n (s .latest))
 
   abbrev x : Arg
   x = (record { ptr = (b, o); name = γ; now = ys }, (s, tt))
@@ -105,7 +105,7 @@ module _ {M : Type 1} (𝓤 : URA M) (H : Heap 𝓤) (A : Atoms 𝓤) (W : Given
   Post = walkOf 𝓤 H A f.ended stayed (f.clauses 𝓤 H A mem run) .post (((κ, tt), (q, tt), tt, x, at), tt)
 
   abbrev Had : List (Item 𝓤)
-  Had = L.Had 𝓤 H A W κ q b o γ ys s (s .earliest) withStarts storedStart withEarliest
+  Had = L.Had 𝓤 H A W κ q b o γ ys s (s .latest) withLatests storedLatest withLatest
 
   exits : Room T.the-row (length ys) → ent 𝓤 (⋆ 𝓤 H A Had) (Post vunit)
   exits g =
@@ -116,42 +116,42 @@ module _ {M : Type 1} (𝓤 : URA M) (H : Heap 𝓤) (A : Atoms 𝓤) (W : Given
       feqI ! (List Val) (vunit ∷ []) (vunit ∷ []) refl $ done !
     where
       size : length zs ≡ length ys
-      size = with-length ys (take n (s .earliest))
+      size = latest-length ys (take n (s .latest))
 
-  module _ (𝓣 : Tables 𝓤 H) (fm : FmC 𝓤 H (W .laws) (𝓣 .C)) (known : Triple 𝓤 (𝓣 .C #stored-start) (Moved 𝓤 H A mem run)) (g : Room T.the-row (length ys)) (gs : Is S.the-row s (machS s ∷ [])) (few : n ≤ TASKS) (within : n ≤ length ys) where
+  module _ (𝓣 : Tables 𝓤 H) (fm : FmC 𝓤 H (W .laws) (𝓣 .C)) (known : Triple 𝓤 (𝓣 .C #stored-latest) (Moved 𝓤 H A mem run)) (g : Room T.the-row (length ys)) (gs : Is S.the-row s (machS s ∷ [])) (few : n ≤ TASKS) (within : n ≤ length ys) where
     abbrev C : Calls 𝓤 H
     C = 𝓣 .C
 
     abbrev Λ : Loops 𝓤 H
     Λ = 𝓣 .Λ
 
-    all : length (s .earliest) ≡ TASKS
-    all = sym (length-map (s .earliest) (λ (z : ℤ). z)) ∙ LL.owed S.the-type S′.the-laws s _ gs .1 .0 .1 .0 .1
+    all : length (s .latest) ≡ TASKS
+    all = sym (length-map (s .latest) (λ (z : ℤ). z)) ∙ LL.owed S.the-type S′.the-laws s _ gs .1 .1 .0 .1 .0 .1
 
     module _ (l₀ l₁ l₂ l₃ l₄ l₅ l₆ l₇ l₈ l₉ l₁₀ l₁₁ l₁₂ l₁₃ l₁₄ l₁₅ l₁₆ : ℕ) where
       abbrev En : Env 𝓤 H
-      En = L.En 𝓤 H A W κ q b o γ ys s (s .earliest) withStarts storedStart withEarliest l₀ l₁ l₂ l₃ l₄ l₅ l₆ l₇ l₈ l₉ l₁₀ l₁₁ l₁₂ l₁₃ l₁₄ l₁₅ l₁₆
+      En = L.En 𝓤 H A W κ q b o γ ys s (s .latest) withLatests storedLatest withLatest l₀ l₁ l₂ l₃ l₄ l₅ l₆ l₇ l₈ l₉ l₁₀ l₁₁ l₁₂ l₁₃ l₁₄ l₁₅ l₁₆
 
       abbrev Begun : List (Item 𝓤)
-      Begun = L.Begun 𝓤 H A W κ q b o γ ys s (s .earliest) withStarts storedStart withEarliest l₀ l₁ l₂ l₃ l₄ l₅ l₆ l₇ l₈ l₉ l₁₀ l₁₁ l₁₂ l₁₃ l₁₄ l₁₅ l₁₆
+      Begun = L.Begun 𝓤 H A W κ q b o γ ys s (s .latest) withLatests storedLatest withLatest l₀ l₁ l₂ l₃ l₄ l₅ l₆ l₇ l₈ l₉ l₁₀ l₁₁ l₁₂ l₁₃ l₁₄ l₁₅ l₁₆
 
       abbrev Out-of : ℕ → Range → List (Item 𝓤)
-      Out-of = L.Out-of 𝓤 H A W κ q b o γ ys s (s .earliest) withStarts storedStart withEarliest l₀ l₁ l₂ l₃ l₄ l₅ l₆ l₇ l₈ l₉ l₁₀ l₁₁ l₁₂ l₁₃ l₁₄ l₁₅ l₁₆
+      Out-of = L.Out-of 𝓤 H A W κ q b o γ ys s (s .latest) withLatests storedLatest withLatest l₀ l₁ l₂ l₃ l₄ l₅ l₆ l₇ l₈ l₉ l₁₀ l₁₁ l₁₂ l₁₃ l₁₄ l₁₅ l₁₆
 
       abbrev old : ℕ → Range
-      old = L.old 𝓤 H A W κ q b o γ ys s (s .earliest) withStarts storedStart withEarliest
+      old = L.old 𝓤 H A W κ q b o γ ys s (s .latest) withLatests storedLatest withLatest
 
       abbrev moved : ℕ → ℤ
-      moved = L.moved 𝓤 H A W κ q b o γ ys s (s .earliest) withStarts storedStart withEarliest
+      moved = L.moved 𝓤 H A W κ q b o γ ys s (s .latest) withLatests storedLatest withLatest
 
-      -- the answer is stored in the first field
-      puts : (i : ℕ) → Is i32 (moved i) (sint-vals w32 (moved i)) → (P : Out → SProp 𝓤) → ent 𝓤 (⋆ 𝓤 H A (Out-of i (withEarliest (old i) (moved i)))) (Wp 𝓤 H C Λ En L.on P) → ent 𝓤 (⋆ 𝓤 H A (Out-of i (old i))) (Wp 𝓤 H C Λ En (L.stores 0) P)
+      -- the answer is stored in the second field
+      puts : (i : ℕ) → Is i32 (moved i) (sint-vals w32 (moved i)) → (P : Out → SProp 𝓤) → ent 𝓤 (⋆ 𝓤 H A (Out-of i (withLatest (old i) (moved i)))) (Wp 𝓤 H C Λ En L.on P) → ent 𝓤 (⋆ 𝓤 H A (Out-of i (old i))) (Wp 𝓤 H C Λ En (L.stores 1) P)
       puts i is P k =
-          qed W (Out-of i (old i)) ∵ exec ! C Λ En (L.stores 0) (anyQ P) $
-          assigns ! (of-opd ! (load ! (from ! (stop !)) (look ! 5 refl))) (from ! (hop ! (look ! 14 refl) (fld ! refl (stop !)))) (store-in ! 0 (sub ! 0 refl (whole !)) (sint-lawful 𝓤 H A W w32 .typed (moved i) (sint-vals w32 (moved i)) is .0)) $ by ! k
+          qed W (Out-of i (old i)) ∵ exec ! C Λ En (L.stores 1) (anyQ P) $
+          assigns ! (of-opd ! (load ! (from ! (stop !)) (look ! 5 refl))) (from ! (hop ! (look ! 14 refl) (fld ! refl (stop !)))) (store-in ! 0 (sub ! 1 refl (whole !)) (sint-lawful 𝓤 H A W w32 .typed (moved i) (sint-vals w32 (moved i)) is .0)) $ by ! k
 
-      fits-new : (d : Range) (z : ℤ) → Is T.the-row d (mach d ∷ []) → Is i32 z (sint-vals w32 z) → Is T.the-row (withEarliest d z) (mach (withEarliest d z) ∷ [])
-      fits-new d z gd gz = LL.owes T.the-type T′.the-laws (withEarliest d z) (gz, LL.owed T.the-type T′.the-laws d _ gd .1)
+      fits-new : (d : Range) (z : ℤ) → Is T.the-row d (mach d ∷ []) → Is i32 z (sint-vals w32 z) → Is T.the-row (withLatest d z) (mach (withLatest d z) ∷ [])
+      fits-new d z gd gz = LL.owes T.the-type T′.the-laws (withLatest d z) (LL.owed T.the-type T′.the-laws d _ gd .0, (gz, LL.owed T.the-type T′.the-laws d _ gd .1 .1))
 
       -- the body, up to the loop
       begins : ent 𝓤 (⋆ 𝓤 H A Begun) (Wp 𝓤 H C Λ En t-1 (atReturn 𝓤 H En Post))
@@ -159,9 +159,9 @@ module _ {M : Type 1} (𝓤 : URA M) (H : Heap 𝓤) (A : Atoms 𝓤) (W : Given
           let fields = LL.owed S.the-type S′.the-laws s _ gs in
           qed W Begun ∵ exec ! C Λ En t-1 (atRet En Post) $
           assigns ! (of-opd ! (load ! (from ! (fld ! refl (stop !))) (look-in ! 18 (sub ! 0 refl (whole !))))) (from ! (stop !)) (init ! 3 refl (tt, record { fits = fields .0 .1 })) $
-          assigns ! (of-opd ! (load ! (from ! (fld ! refl (stop !))) (look-in ! 18 (sub ! 1 refl (whole !))))) (from ! (stop !)) (init ! 4 refl (array-typed i32 (sint-lawful 𝓤 H A W w32 .typed) TASKS (copied (s .earliest)) (machine (copied (s .earliest)) ∷ []) (fields .1 .0) .0)) $
-          by ! (L.walks-on 𝓤 H A W κ q b o γ ys s (s .earliest) withStarts storedStart withEarliest l₀ l₁ l₂ l₃ l₄ l₅ l₆ l₇ l₈ l₉ l₁₀ l₁₁ l₁₂ l₁₃ l₁₄ l₁₅ l₁₆ 𝓣 fm #stored-start 0 (Said 𝓤 H A mem run) (said 𝓤 H A mem run)
-          (λ d z. via 𝓤 _ (goes-moved 𝓤 H A mem run W d z) (known (to-moved 𝓤 H A mem run d z))) puts fits-new (with-none ys) (with-length ys) (with-more ys (s .earliest)) gs all few within Post (exits g) (fields .1 .0))
+          assigns ! (of-opd ! (load ! (from ! (fld ! refl (stop !))) (look-in ! 18 (sub ! 2 refl (whole !))))) (from ! (stop !)) (init ! 4 refl (array-typed i32 (sint-lawful 𝓤 H A W w32 .typed) TASKS (copied (s .latest)) (machine (copied (s .latest)) ∷ []) (fields .1 .1 .0) .0)) $
+          by ! (L.walks-on 𝓤 H A W κ q b o γ ys s (s .latest) withLatests storedLatest withLatest l₀ l₁ l₂ l₃ l₄ l₅ l₆ l₇ l₈ l₉ l₁₀ l₁₁ l₁₂ l₁₃ l₁₄ l₁₅ l₁₆ 𝓣 fm #stored-latest 1 (Said 𝓤 H A mem run) (said 𝓤 H A mem run)
+          (λ d z. via 𝓤 _ (goes-moved 𝓤 H A mem run W d z) (known (to-moved 𝓤 H A mem run d z))) puts fits-new (latest-none ys) (latest-length ys) (latest-more ys (s .latest)) gs all few within Post (exits g) (fields .1 .1 .0))
 
     walk : ent 𝓤 (onEntry 𝓤 H A f.signature (κ, tt) (q, tt) x at) (WpFn 𝓤 H C Λ code.function (sliceVal (b, o) (length ys) ∷ machS s ∷ []) Post)
     walk =
@@ -175,19 +175,19 @@ module _ {M : Type 1} (𝓤 : URA M) (H : Heap 𝓤) (A : Atoms 𝓤) (W : Given
         by ! (begins l₀ l₁ l₂ l₃ l₄ l₅ l₆ l₇ l₈ l₉ l₁₀ l₁₁ l₁₂ l₁₃ l₁₄ l₁₅ l₁₆))))))))))))))))))
 
 module _ {M : Type 1} (𝓤 : URA M) (H : Heap 𝓤) (A : Atoms 𝓤) (W : Given 𝓤 H A) (mem : Memory → SProp 𝓤) (run : Routine → Fun 𝓤) where
-  f-walks : (𝓣 : Tables 𝓤 H) → Triple 𝓤 (𝓣 .C #stored-start) (Moved 𝓤 H A mem run) → Walks 𝓤 H A f.ended stayed (WpFn 𝓤 H (𝓣 .C) (𝓣 .Λ) code.function) (f.clauses 𝓤 H A mem run)
+  f-walks : (𝓣 : Tables 𝓤 H) → Triple 𝓤 (𝓣 .C #stored-latest) (Moved 𝓤 H A mem run) → Walks 𝓤 H A f.ended stayed (WpFn 𝓤 H (𝓣 .C) (𝓣 .Λ) code.function) (f.clauses 𝓤 H A mem run)
   f-walks 𝓣 known = walked 𝓤 H A f.ended stayed (f.clauses 𝓤 H A mem run) (WpFn 𝓤 H (𝓣 .C) (𝓣 .Λ) code.function) (λ κs. (slice-vals, (LL.vals S.the-type S′.the-laws, tt))) (λ κs. (mut-slice-tells (named 0) (κs .0) T.the-row, (LL.tells S.the-type S′.the-laws, tt)))
       (λ κs qs bounds a _ are. needs 𝓤 ((a .1 .0 .count ≤ TASKS) × (a .1 .0 .count ≤ length (now (a .0)))) _ (λ fit.
       walk 𝓤 H A W mem run (κs .0) (qs .0) (a .0 .ptr .0) (a .0 .ptr .1) (a .0 .name) (a .0 .now) (a .1 .0) 𝓣 (fmOf 𝓤 H (W .laws) 𝓣) known (are .0 .0 .1) (are .1 .0) (fit .0) (fit .1)))
 
-f-meets : {M : Type 1} (𝓤 : URA M) (H : Heap 𝓤) (A : Atoms 𝓤) (W : Given 𝓤 H A) (mem : Memory → SProp 𝓤) (run : Routine → Fun 𝓤) (𝓣 : Tables 𝓤 H) → Triple 𝓤 (𝓣 .C #stored-start) (Moved 𝓤 H A mem run)
+f-meets : {M : Type 1} (𝓤 : URA M) (H : Heap 𝓤) (A : Atoms 𝓤) (W : Given 𝓤 H A) (mem : Memory → SProp 𝓤) (run : Routine → Fun 𝓤) (𝓣 : Tables 𝓤 H) → Triple 𝓤 (𝓣 .C #stored-latest) (Moved 𝓤 H A mem run)
     → Meets 𝓤 H A f.signature (WpFn 𝓤 H (𝓣 .C) (𝓣 .Λ) code.function) (f.spec 𝓤 H A mem run)
 f-meets 𝓤 H A W mem run 𝓣 known = walk-meets 𝓤 H A f.ended stayed W (goes-slice 𝓤 H A W 1 0 tt (plain (λ _. T.the-row)), (goes-none 𝓤 H A W 1 (λ _. S.the-row) yes (λ κs x f. refl), tt)) (f.clauses 𝓤 H A mem run) (WpFn 𝓤 H (𝓣 .C) (𝓣 .Λ) code.function) (WpFn-mono 𝓤 H (W .laws) 𝓣 code.function) (f-walks 𝓤 H A W mem run 𝓣 known)
 
-pub store-starts-spec : {M : Type 1} → stated.statement M
+pub store-latest-spec : {M : Type 1} → stated.statement M
 unfolding code.routine tablesOf
-store-starts-spec 𝓤 H 𝓜 𝓖 𝓡 =
+store-latest-spec 𝓤 H 𝓜 𝓖 𝓡 =
     entered 𝓤 H (tripleOf 𝓤 H (𝓖 .A) f.signature (f.spec 𝓤 H (𝓖 .A) (𝓜 .mem) (𝓡 .run)))
-    (tables 𝓤 H 𝓜 𝓡 code.env .C) (tables 𝓤 H 𝓜 𝓡 code.env .Λ) #store-starts code.function (code.unfolded 𝓤 H 𝓜 𝓡)
+    (tables 𝓤 H 𝓜 𝓡 code.env .C) (tables 𝓤 H 𝓜 𝓡 code.env .Λ) #store-latest code.function (code.unfolded 𝓤 H 𝓜 𝓡)
     (f-meets 𝓤 H (𝓖 .A) (givenOf 𝓤 H 𝓜 𝓖) (𝓜 .mem) (𝓡 .run) (tablesOf 𝓤 H 𝓜 (tables 𝓤 H 𝓜 𝓡 code.env))
-    (cited 𝓤 H (Moved 𝓤 H (𝓖 .A) (𝓜 .mem) (𝓡 .run)) 𝓜 𝓡 code.env #stored-start stored-start-def.routine code.calls-barred-starts·moves·stored-start (stored-start-thm.met 𝓤 H 𝓜 𝓖 𝓡)))
+    (cited 𝓤 H (Moved 𝓤 H (𝓖 .A) (𝓜 .mem) (𝓡 .run)) 𝓜 𝓡 code.env #stored-latest stored-latest-def.routine code.calls-barred-starts·moves·stored-latest (stored-latest-thm.met 𝓤 H 𝓜 𝓖 𝓡)))

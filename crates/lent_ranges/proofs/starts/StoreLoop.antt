@@ -40,13 +40,13 @@ use denote.Triple.Call.{calls-from}
 use Rattle.integers.specs.Limits.{TASKS, BARS}
 use Rattle.barred_starts.specs.declared.range.Range.{Range}
 use Rattle.barred_starts.specs.Ranges.{anyRange}
-use Rattle.disjunctive.specs.declared.ranges.Starts.{Starts}
-use Rattle.disjunctive.proofs.Counting.{Turn, counts}
-use Rattle.disjunctive.proofs.Rows.{Numbers, numbers, machine, as-row, as-array}
+use Rattle.lent_ranges.specs.declared.starts.Starts.{Starts}
+use Rattle.lent_ranges.proofs.Counting.{Turn, counts}
+use Rattle.lent_ranges.proofs.Rows.{Numbers, numbers, machine, as-row, as-array}
 use Rattle.barred_starts.proofs.range.Range as T
 use Rattle.barred_starts.proofs.range.Range.Laws as T′
-use Rattle.disjunctive.proofs.ranges.Starts as S
-use Rattle.disjunctive.proofs.ranges.Starts.Laws as S′
+use Rattle.lent_ranges.proofs.starts.Starts as S
+use Rattle.lent_ranges.proofs.starts.Starts.Laws as S′
 
 abbrev pub mach : Range → Val
 mach d = LL.tuple-val T.the-type T′.the-laws (T.the-type .to d)

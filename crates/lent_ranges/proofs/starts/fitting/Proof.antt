@@ -1,10 +1,10 @@
--- `ranges::fitting` meets its contract.
+-- `starts::fitting` meets its contract.
 -- Assumes nothing.
 use mathlib.Core.Path.{sym}
 use native.Mathlib.Omega.{arith}
-use Rattle.disjunctive.proofs.Starts.{taken-all, taken-none}
-use Rattle.disjunctive.proofs.ranges.fitting.Statement.{statement}
-use Rattle.disjunctive.proofs.ranges.fitting.Tie as tie
+use Rattle.lent_ranges.proofs.TakenApart.{taken-all, taken-none}
+use Rattle.lent_ranges.proofs.starts.fitting.Statement.{statement}
+use Rattle.lent_ranges.proofs.starts.fitting.Tie as tie
 
 returns : tie.Need-returns
 returns c = sym (taken-all (c .before .args .n) (omega arith))

@@ -13,27 +13,11 @@ use lib.Seq.{length-take-le, take-all, take-suc, drop-cons, take-at, set-at}
 use borrow.Author.Tests.{le-leb, lt-leb, leb-true, leb-false}
 use Rattle.integers.proofs.Bools.{bool}
 use Rattle.integers.specs.Limits.{TASKS}
-use Rattle.records.specs.declared.record.Propagator.{Propagator}
-use Rattle.propagator.specs.Ran.{Ran}
-use Rattle.propagator.proofs.Many.{too-many}
-use Rattle.mirrored.specs.RanMirrored.{RanMirrored}
-use Rattle.mirrored.proofs.TurnedBack.{too-many-mirrored}
-use Rattle.precedences.specs.Precedences.{RanPrecedences}
-use Rattle.precedences.proofs.Many.{too-many as no-precedences}
 use Rattle.barred_starts.specs.declared.range.Range.{Range}
 use Rattle.barred_starts.specs.Bars.{allBarsFit}
-use Rattle.barred_starts.specs.Ranges.{earliests, latests, anyRange, withStarts, withLatests}
-use Rattle.barred_starts.proofs.Storing.{with-none, own-starts, latest-none, own-latests}
-use Rattle.promises.specs.RanLent.{RanLent, RanMirroredLent}
-use Rattle.promises.specs.PrecedencesLent.{PrecedencesLent}
-use Rattle.promises.proofs.Lent.{lent, lent-mirrored}
-use Rattle.promises.proofs.PrecedencesLent.{lent-precedences}
-use Rattle.disjunctive.specs.declared.ranges.Starts.{Starts}
-use Rattle.disjunctive.specs.declared.ranges.CoreRun.{CoreRun}
-use Rattle.disjunctive.specs.declared.ranges.CoreMirrored.{CoreMirrored}
-use Rattle.disjunctive.specs.declared.ranges.by_precedence.CorePrecedences.{CorePrecedences}
-use Rattle.disjunctive.specs.Ranges.{RanCore, RanMirroredCore, taken, padded, startsOf}
-use Rattle.disjunctive.specs.LentCalls.{PrecedencesCore}
+use Rattle.barred_starts.specs.Ranges.{earliests, latests, anyRange}
+use Rattle.lent_ranges.specs.declared.starts.Starts.{Starts}
+use Rattle.lent_ranges.specs.TakenApart.{taken, padded, startsOf}
 
 -- ---- taken apart
 pub taken-all : (n : ℕ) → n ≤ TASKS → taken n ≡ n
@@ -115,31 +99,6 @@ module _ (Said : List ℤ → List ℤ → List ℤ → Type 0) (ys : List Range
 
   pub stored : (with : List Range → List ℤ → List Range) (own : List ℤ) → length own ≡ length ys → with ys [] ≡ ys → with ys own ≡ ys → (TASKS < length (earliests ys) → Said [] [] [] → Said (earliests ys) (latests ys) own) → Stored with
   stored with own size none all as-none = ⊎-elim (few with) (λ h. many with own size none all (as-none (omega (arith, h, length-map ys (λ (y : Range). y .earliest)))) h) (fits-or-not (length ys))
-
--- the run, the mirrored pass, and the pass by precedences
-module _ (before : Propagator) (ys : List Range) (s : Starts) (is : s ≡ startsOf ys) where
-  pub lent-run : (posts atoms : List ℤ) (r : CoreRun) (posts′ atoms′ : List ℤ) → RanCore before s posts atoms r posts′ atoms′
-      → RanLent before ys posts atoms (r .finished .outcome) (r .finished .changes) (r .«record») (withStarts ys (take (r .starts .count) (r .starts .earliest))) posts′ atoms′
-  lent-run posts atoms r posts′ atoms′ c =
-      let (us, size, ran, same) = stored (λ es ls es′. Ran before es ls (allBarsFit ys) posts atoms (record { «record» = r .«record»; outcome = r .finished .outcome; changes = r .finished .changes }) es′ posts′ atoms′) ys s is
-      (r .starts .count) (c .same-count) (r .starts .earliest) (c .whole) (bars-of ys s is (λ bars. Ran before (take (s .count) (s .earliest)) (take (s .count) (s .latest)) bars posts atoms (record { «record» = r .«record»; outcome = r .finished .outcome; changes = r .finished .changes }) (take (s .count) (r .starts .earliest)) posts′ atoms′) (c .ran)) withStarts (earliests ys) (length-map ys (λ (y : Range). y .earliest)) (with-none ys) (own-starts ys)
-      (λ h a. too-many before (earliests ys) (latests ys) (allBarsFit ys) (allBarsFit ys) posts atoms _ [] posts′ atoms′ h a) in
-      rw (same) (lent before ys posts atoms (r .finished .outcome) (r .finished .changes) (r .«record») us posts′ atoms′ size ran)
-
-  pub lent-mirrored-run : (posts atoms : List ℤ) (r : CoreMirrored) (posts′ atoms′ : List ℤ) → RanMirroredCore before s posts atoms r posts′ atoms′
-      → RanMirroredLent before ys posts atoms (r .outcome) (withLatests ys (take (r .starts .count) (r .starts .latest))) posts′ atoms′
-  lent-mirrored-run posts atoms r posts′ atoms′ c =
-      let (us, size, ran, same) = stored (λ es ls ls′. RanMirrored before es ls (allBarsFit ys) posts atoms (r .outcome) ls′ posts′ atoms′) ys s is
-      (r .starts .count) (c .same-count) (r .starts .latest) (c .whole) (bars-of ys s is (λ bars. RanMirrored before (take (s .count) (s .earliest)) (take (s .count) (s .latest)) bars posts atoms (r .outcome) (take (s .count) (r .starts .latest)) posts′ atoms′) (c .ran)) withLatests (latests ys) (length-map ys (λ (y : Range). y .latest)) (latest-none ys) (own-latests ys)
-      (λ h a. too-many-mirrored before (earliests ys) (latests ys) (allBarsFit ys) (allBarsFit ys) posts atoms _ [] posts′ atoms′ h a) in
-      rw (same) (lent-mirrored before ys posts atoms (r .outcome) us posts′ atoms′ size ran)
-
-  pub lent-pass : (r : CorePrecedences) → PrecedencesCore before s r → PrecedencesLent before ys (r .answer) (withStarts ys (take (r .starts .count) (r .starts .earliest)))
-  lent-pass r c =
-      let (us, size, ran, same) = stored (λ es ls es′. RanPrecedences before es ls (allBarsFit ys) (r .answer) es′) ys s is
-      (r .starts .count) (c .same-count) (r .starts .earliest) (c .whole) (bars-of ys s is (λ bars. RanPrecedences before (take (s .count) (s .earliest)) (take (s .count) (s .latest)) bars (r .answer) (take (s .count) (r .starts .earliest))) (c .ran)) withStarts (earliests ys) (length-map ys (λ (y : Range). y .earliest)) (with-none ys) (own-starts ys)
-      (λ h a. no-precedences before (earliests ys) (latests ys) (allBarsFit ys) (allBarsFit ys) (r .answer) [] h a) in
-      rw (same) (lent-precedences before ys (r .answer) us size ran)
 
 -- ---- calls that leave the ranges as they are
 -- what a core says of the ranges taken apart holds of the ranges; where there are too many, the core was passed none

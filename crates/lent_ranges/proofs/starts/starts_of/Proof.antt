@@ -1,4 +1,4 @@
--- `ranges::starts_of` meets its contract: a walk of its MIR, by hand, with its loop. The slice is passed to `all_bars_fit`, and a copy of the reference stays. Both arrays are the rows of their numbers while the loop runs.
+-- `starts::starts_of` meets its contract: a walk of its MIR, by hand, with its loop. The slice is passed to `all_bars_fit`, and a copy of the reference stays. Both arrays are the rows of their numbers while the loop runs.
 -- A turn looks into the slice, copies range i out, and shuts the slice; then each of its two numbers is stored at place i of its array.
 -- The invariant, where t ranges are left: i + t is the count, and the arrays have the numbers of the first i ranges, and zeros after them.
 -- Assumes nothing.
@@ -55,28 +55,28 @@ use Rattle.integers.specs.Limits.{TASKS}
 use Rattle.barred_starts.specs.Bars.{allBarsFit}
 use Rattle.barred_starts.specs.Ranges.{earliests, latests, anyRange}
 use Rattle.barred_starts.specs.declared.range.Range.{Range}
-use Rattle.disjunctive.specs.declared.ranges.Starts.{Starts}
-use Rattle.disjunctive.specs.Ranges.{taken, padded, startsOf}
-use Rattle.disjunctive.proofs.Starts.{taken-fits, padded-none, padded-length, field-more}
-use Rattle.disjunctive.proofs.Counting.{Turn, counts}
-use Rattle.disjunctive.proofs.Rows.{Numbers, numbers, machine, zeros, as-row, as-array}
+use Rattle.lent_ranges.specs.declared.starts.Starts.{Starts}
+use Rattle.lent_ranges.specs.TakenApart.{taken, padded, startsOf}
+use Rattle.lent_ranges.proofs.TakenApart.{taken-fits, padded-none, padded-length, field-more}
+use Rattle.lent_ranges.proofs.Counting.{Turn, counts}
+use Rattle.lent_ranges.proofs.Rows.{Numbers, numbers, machine, zeros, as-row, as-array}
 use Rattle.barred_starts.proofs.range.Range as T
 use Rattle.barred_starts.proofs.range.Range.Laws as T′
 use Rattle.barred_starts.proofs.bars.all_bars_fit as all-bars-fit
 use Rattle.barred_starts.proofs.bars.all_bars_fit.Symbol as all-bars-fit-def
 use Rattle.barred_starts.proofs.bars.all_bars_fit.Symbol.{name as #all-bars-fit}
 use Rattle.barred_starts.proofs.bars.all_bars_fit.Met as all-bars-fit-thm
-use Rattle.disjunctive.proofs.ranges.Starts as S
-use Rattle.disjunctive.proofs.ranges.Starts.Laws as S′
-use Rattle.disjunctive.proofs.ranges.fitting as fitting
-use Rattle.disjunctive.proofs.ranges.fitting.Symbol as fitting-def
-use Rattle.disjunctive.proofs.ranges.fitting.Symbol.{name as #fitting}
-use Rattle.disjunctive.proofs.ranges.fitting.Met as fitting-thm
-use Rattle.disjunctive.proofs.ranges.starts_of.Key.{name as #starts-of}
-use Rattle.disjunctive.proofs.ranges.starts_of as f
-use Rattle.disjunctive.proofs.ranges.starts_of.Statement as stated
-use Rattle.disjunctive.proofs.ranges.starts_of.Code as code
-use Rattle.disjunctive.proofs.ranges.starts_of.Code.Mir.{table, turn-1, t-1, t-2, t-8}
+use Rattle.lent_ranges.proofs.starts.Starts as S
+use Rattle.lent_ranges.proofs.starts.Starts.Laws as S′
+use Rattle.lent_ranges.proofs.starts.fitting as fitting
+use Rattle.lent_ranges.proofs.starts.fitting.Symbol as fitting-def
+use Rattle.lent_ranges.proofs.starts.fitting.Symbol.{name as #fitting}
+use Rattle.lent_ranges.proofs.starts.fitting.Met as fitting-thm
+use Rattle.lent_ranges.proofs.starts.starts_of.Key.{name as #starts-of}
+use Rattle.lent_ranges.proofs.starts.starts_of as f
+use Rattle.lent_ranges.proofs.starts.starts_of.Statement as stated
+use Rattle.lent_ranges.proofs.starts.starts_of.Code as code
+use Rattle.lent_ranges.proofs.starts.starts_of.Code.Mir.{table, turn-1, t-1, t-2, t-8}
 
 abbrev Arg : Type 0
 Arg = RefT (List Range) × Unit {0}
@@ -388,4 +388,4 @@ starts-of-spec 𝓤 H 𝓜 𝓖 𝓡 =
     (tables 𝓤 H 𝓜 𝓡 code.env .C) (tables 𝓤 H 𝓜 𝓡 code.env .Λ) #starts-of code.function (code.unfolded 𝓤 H 𝓜 𝓡)
     (f-meets 𝓤 H (𝓖 .A) (givenOf 𝓤 H 𝓜 𝓖) (𝓜 .mem) (𝓡 .run) (tablesOf 𝓤 H 𝓜 (tables 𝓤 H 𝓜 𝓡 code.env))
     (cited 𝓤 H (AllFit 𝓤 H (𝓖 .A) (𝓜 .mem) (𝓡 .run)) 𝓜 𝓡 code.env #all-bars-fit all-bars-fit-def.routine code.calls-barred-starts·bars·all-bars-fit (all-bars-fit-thm.met 𝓤 H 𝓜 𝓖 𝓡))
-    (cited 𝓤 H (Fitting 𝓤 H (𝓖 .A) (𝓜 .mem) (𝓡 .run)) 𝓜 𝓡 code.env #fitting fitting-def.routine code.calls-disjunctive·ranges·fitting (fitting-thm.met 𝓤 H 𝓜 𝓖 𝓡)))
+    (cited 𝓤 H (Fitting 𝓤 H (𝓖 .A) (𝓜 .mem) (𝓡 .run)) 𝓜 𝓡 code.env #fitting fitting-def.routine code.calls-lent-ranges·starts·fitting (fitting-thm.met 𝓤 H 𝓜 𝓖 𝓡)))

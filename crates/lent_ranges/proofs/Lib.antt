@@ -1,0 +1,3 @@
+pub mod TakenApart
+pub mod Rows
+pub mod Counting

@@ -1,0 +1,2 @@
+pub mod TakenApart
+pub mod Examples
