@@ -40,9 +40,6 @@ task c = known-there (c .loop .inv) (Known (start c .args .est .now) (start c .a
 sum : (c : tie.At-loop Inv-loop μ-loop) → getD (start c .args .est .now) (here c) 0 + c .loop .q < 2 ^ 32
 sum c = let a = start c .args in omega (arith, known-there (c .loop .inv) (λ k. getD (a .est .now) k 0 + a .p + 0 < 2 ^ 32) (given (c .before) .fits), most-there (c .loop .inv), given (c .before) .total)
 
-next-in-theta-requires : tie.Need-next-in-theta-requires Inv-loop μ-loop
-next-in-theta-requires c κs = search needs
-
 loop-holds : tie.Need-loop-holds Inv-loop μ-loop
 loop-holds c = sets-out (given c .total) (given c .stops) (next-again (c .next-in-theta .ensures))
 
@@ -83,16 +80,5 @@ pub attaining-spec : {M : Type 1} → statement M
 attaining-spec =
     tie.close
     (tie.spec
-    Inv-loop
-    μ-loop
-    next-in-theta-requires
-    loop-holds
-    of-leaf-requires
-    add-if1
-    of-leaf-requires-2
-    sub-q
-    add-t15
-    next-in-theta-requires-2
-    loop-less
-    loop-again
-    returns)
+    Inv-loop μ-loop (λ c κs. search needs) loop-holds of-leaf-requires add-if1 of-leaf-requires-2 sub-q add-t15
+    next-in-theta-requires-2 loop-less loop-again returns)

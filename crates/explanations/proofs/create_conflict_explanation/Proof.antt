@@ -50,9 +50,6 @@ add-delta-2 c = omega (arith, numbers (c .before))
 sub-delta : tie.Need-sub-delta
 sub-delta c = omega (arith, numbers (c .before))
 
-sub-offset-right : tie.Need-sub-offset-right
-sub-offset-right c = search needs
-
 sub-low : tie.Need-sub-low
 sub-low c = omega (arith, numbers (c .before))
 
@@ -69,9 +66,6 @@ write-within-requires c κs =
       s .pre .2,
     )
 
-same-length : tie.Need-same-length
-same-length c = search needs
-
 returns : tie.Need-returns
 returns c =
     let at = c .before .before .before .before in
@@ -86,14 +80,5 @@ pub create-conflict-explanation-spec : {M : Type 1} → statement M
 create-conflict-explanation-spec =
     tie.close
     (tie.spec
-    preceding-requires
-    of-leaf-requires
-    add-delta
-    add-delta-2
-    sub-delta
-    sub-offset-right
-    sub-low
-    add-high
-    write-within-requires
-    same-length
-    returns)
+    preceding-requires of-leaf-requires add-delta add-delta-2 sub-delta (λ c. search needs) sub-low add-high
+    write-within-requires (λ c. search needs) returns)

@@ -47,26 +47,11 @@ room c =
     let r = least .min .result in
     last-room (white s) (tasks s) 0 (s .args .n) (given s) (w .preceding .ensures) r (r + w .preceding .result .lasts + getD (s .args .dur .now) (s .args .i) 0 - 1) refl (c .write-bounds .ensures)
 
-mul-e : tie.Need-mul-e
-mul-e c = search needs
-
-shared-slice-read-e : tie.Need-shared-slice-read-e
-shared-slice-read-e c = search needs
-
-mul-d : tie.Need-mul-d
-mul-d c = search needs
-
-shared-slice-read-d : tie.Need-shared-slice-read-d
-shared-slice-read-d c = search needs
-
 preceding-requires : tie.Need-preceding-requires
 preceding-requires c κs = let s = c .before .before .before .before in (post-walk (white s) (tasks s) 0 (s .args .n) (given s), s .pre .1, s .pre .2)
 
 of-leaf-requires : tie.Need-of-leaf-requires
 of-leaf-requires c κs = let w = c .before in let s = start w in (omega (arith, w .preceding .ensures .small, s .pre .1), post-known (white s) (tasks s) 0 (s .args .n) (given s) (w .preceding .ensures) .start)
-
-min-requires : tie.Need-min-requires
-min-requires c κs = search needs
 
 add-last : tie.Need-add-last
 add-last c = omega (arith, numbers c)
@@ -94,9 +79,6 @@ write-atom-requires c κs = (room (c .before .before), start (walk (c .before .b
 add-result : tie.Need-add-result
 add-result c = omega (arith, room (c .before .before .before .before), stored-length (c .before .before .before .before .write-bounds .ensures))
 
-same-length : tie.Need-same-length
-same-length c = search needs
-
 returns : tie.Need-returns
 returns c =
     let r = c .before .before .before .before .before .before in
@@ -111,18 +93,6 @@ pub create-propagation-explanation-spec : {M : Type 1} → statement M
 create-propagation-explanation-spec =
     tie.close
     (tie.spec
-    mul-e
-    shared-slice-read-e
-    mul-d
-    shared-slice-read-d
-    preceding-requires
-    of-leaf-requires
-    min-requires
-    add-last
-    add-last-2
-    sub-last
-    write-bounds-requires
-    write-atom-requires
-    add-result
-    same-length
-    returns)
+    (λ c. search needs) (λ c. search needs) (λ c. search needs) (λ c. search needs) preceding-requires
+    of-leaf-requires (λ c κs. search needs) add-last add-last-2 sub-last write-bounds-requires write-atom-requires
+    add-result (λ c. search needs) returns)

@@ -6,17 +6,8 @@ use borrow.Author.Needs.{needs}
 use Rattle.explanations.proofs.of_leaf.Statement.{statement}
 use Rattle.explanations.proofs.of_leaf.Tie as tie
 
-task-of-requires : tie.Need-task-of-requires
-task-of-requires c κs = search needs
-
-mul-result : tie.Need-mul-result
-mul-result c = search needs
-
-shared-slice-read-result : tie.Need-shared-slice-read-result
-shared-slice-read-result c = search needs
-
 returns : tie.Need-returns
 returns c = ap (λ (k : ℕ). getD (c .before .before .before .args .xs .now) k 0) (c .before .task-of .ensures)
 
 pub of-leaf-spec : {M : Type 1} → statement M
-of-leaf-spec = tie.close (tie.spec task-of-requires mul-result shared-slice-read-result returns)
+of-leaf-spec = tie.close (tie.spec (λ c κs. search needs) (λ c. search needs) (λ c. search needs) returns)

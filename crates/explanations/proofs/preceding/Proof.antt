@@ -29,17 +29,11 @@ task c = known-there (c .loop .inv) (Known (start c .args .est .now) (start c .a
 sum : (c : tie.At-loop Inv-loop μ-loop) → getD (start c .args .est .now) (here c) 0 + c .loop .q + start c .args .d < 2 ^ 32
 sum c = let a = start c .args in omega (arith, known-there (c .loop .inv) (λ k. getD (a .est .now) k 0 + a .p + a .d < 2 ^ 32) (start c .pre .0 .fits), most-there (c .loop .inv), start c .pre .0 .total)
 
-next-in-theta-requires : tie.Need-next-in-theta-requires Inv-loop μ-loop
-next-in-theta-requires c κs = search needs
-
 loop-holds : tie.Need-loop-holds Inv-loop μ-loop
 loop-holds c = sets-out (c .before .before .before .pre .0 .total) (c .before .before .before .pre .0 .stops) (c .next-in-theta .ensures)
 
 of-leaf-requires : tie.Need-of-leaf-requires Inv-loop μ-loop
 of-leaf-requires c κs = (omega (arith, c .loop .inv .small), task c .start)
-
-min-requires : tie.Need-min-requires Inv-loop μ-loop
-min-requires c κs = search needs
 
 add-if1 : tie.Need-add-if1 Inv-loop μ-loop
 add-if1 c = omega (arith, c .min .ensures, c .before .of-leaf .ensures, sum (c .before .before))
@@ -75,18 +69,5 @@ pub preceding-spec : {M : Type 1} → statement M
 preceding-spec =
     tie.close
     (tie.spec
-    Inv-loop
-    μ-loop
-    next-in-theta-requires
-    loop-holds
-    of-leaf-requires
-    min-requires
-    add-if1
-    add-if1-2
-    of-leaf-requires-2
-    sub-q
-    add-t19
-    next-in-theta-requires-2
-    loop-less
-    loop-again
-    returns)
+    Inv-loop μ-loop (λ c κs. search needs) loop-holds of-leaf-requires (λ c κs. search needs) add-if1 add-if1-2
+    of-leaf-requires-2 sub-q add-t19 next-in-theta-requires-2 loop-less loop-again returns)

@@ -17,12 +17,6 @@ first c = c .attaining .result .first .0
 inside : (c : tie.After-attaining) → first c ≤ start c .args .n
 inside c = omega (arith, c .attaining .ensures .small)
 
-attaining-requires : tie.Need-attaining-requires
-attaining-requires c κs = search needs
-
-sub-e : tie.Need-sub-e
-sub-e c = search needs
-
 write-within-requires : tie.Need-write-within-requires
 write-within-requires c κs =
     let at = c .before .before .before in
@@ -40,9 +34,6 @@ write-within-requires-2 c κs =
       start at .pre .4,
     )
 
-same-length : tie.Need-same-length
-same-length c = search needs
-
 returns : tie.Need-returns
 returns c =
     let at = c .before .before .before .before .before .before .before .before in
@@ -55,9 +46,5 @@ pub write-bounds-spec : {M : Type 1} → statement M
 write-bounds-spec =
     tie.close
     (tie.spec
-    attaining-requires
-    sub-e
-    write-within-requires
-    write-within-requires-2
-    same-length
+    (λ c κs. search needs) (λ c. search needs) write-within-requires write-within-requires-2 (λ c. search needs)
     returns)

@@ -61,17 +61,11 @@ length-first : (c : tie.After-write-atom Inv-loop μ-loop) → length (c .write-
 length-first c = let w = at-leaf (turn c) in let a = start w .args in
     ap length (c .write-atom .ensures) ∙ length-sets (w .loop .atoms) (3 * w .loop .at) (lower (a .dur .now) (a .low) (a .high) (turn c .task-of .result .0))
 
-next-in-theta-requires : tie.Need-next-in-theta-requires Inv-loop μ-loop
-next-in-theta-requires c κs = search needs
-
 loop-holds : tie.Need-loop-holds Inv-loop μ-loop
 loop-holds c =
     let a = c .before .before .args in
     let next = c .next-in-theta .ensures in
     (next .to, next .found, written-none (subst (λ (ks : List ℕ). Writable (length (a .atoms .now)) (a .k) ks (a .dur .now) (a .high)) (next-same (whiteIn (a .nodes .now) (a .inner)) (taskIn (a .tasks .now)) next) (c .before .before .pre .0)))
-
-task-of-requires : tie.Need-task-of-requires Inv-loop μ-loop
-task-of-requires c κs = search needs
 
 write-atom-requires : tie.Need-write-atom-requires Inv-loop μ-loop
 write-atom-requires c κs = (omega (arith, room (c .before)), task (c .before) .task)
@@ -90,9 +84,6 @@ sub-write-atom c = task (c .before .before .before .before .before) .short
 
 write-atom-requires-2 : tie.Need-write-atom-requires-2 Inv-loop μ-loop
 write-atom-requires-2 c κs = (omega (arith, length-first (c .before .before .before), room (c .before .before .before .before .before)), task (c .before .before .before .before .before) .task)
-
-add-t21 : tie.Need-add-t21 Inv-loop μ-loop
-add-t21 c = search needs
 
 next-in-theta-requires-2 : tie.Need-next-in-theta-requires-2 Inv-loop μ-loop
 next-in-theta-requires-2 c κs = search needs
@@ -134,21 +125,6 @@ pub write-within-spec : {M : Type 1} → statement M
 write-within-spec =
     tie.close
     (tie.spec
-    Inv-loop
-    μ-loop
-    next-in-theta-requires
-    loop-holds
-    task-of-requires
-    write-atom-requires
-    add-write-atom
-    mul-write-atom
-    shared-slice-read-write-atom
-    sub-write-atom
-    write-atom-requires-2
-    add-t21
-    next-in-theta-requires-2
-    add-at
-    loop-less
-    loop-again
-    same-length
-    returns)
+    Inv-loop μ-loop (λ c κs. search needs) loop-holds (λ c κs. search needs) write-atom-requires add-write-atom
+    mul-write-atom shared-slice-read-write-atom sub-write-atom write-atom-requires-2 (λ c. search needs)
+    next-in-theta-requires-2 add-at loop-less loop-again same-length returns)

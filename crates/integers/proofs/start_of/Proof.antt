@@ -19,9 +19,6 @@ diff m h = ap (λ (z : ℤ). z -ℤ pos 2147483648) (toZ-pos w64 m (omega arith)
 whole : (m : ℕ) → m < 2 ^ 32 → toZ w64 (ofZ w64 (toZ w64 m -ℤ pos 2147483648)) ≡ instant zeroAt m
 whole m h = ap (λ (z : ℤ). toZ w64 (ofZ w64 z)) (diff m h) ∙ toZ-ofZ w64 (instant zeroAt m) (sfits-widen tt (instant-fits m h))
 
-cast-result : tie.Need-cast-result
-cast-result c = search needs
-
 sub-result : tie.Need-sub-result
 sub-result c = subst (SFits w64) (sym (diff _ (c .fits .m .fits))) (sfits-widen tt (instant-fits _ (c .fits .m .fits)))
 
@@ -32,4 +29,4 @@ returns : tie.Need-returns
 returns c = ap (λ (z : ℤ). toZ w32 (ofZ w32 z)) (whole _ (c .fits .m .fits)) ∙ toZ-ofZ w32 _ (instant-fits _ (c .fits .m .fits))
 
 pub start-of-spec : {M : Type 1} → statement M
-start-of-spec = tie.close (tie.spec cast-result sub-result cast-result-2 returns)
+start-of-spec = tie.close (tie.spec (λ c. search needs) sub-result cast-result-2 returns)

@@ -10,15 +10,6 @@ use borrow.Author.Needs.{needs}
 use Rattle.answers.proofs.call_answers.ext_numbers.Statement.{statement}
 use Rattle.answers.proofs.call_answers.ext_numbers.Tie as tie
 
-enum-known-bound : tie.Need-enum-known-bound
-enum-known-bound c = search needs
-
-enum-told : tie.Need-enum-told
-enum-told c = search needs
-
-enum-told-2 : tie.Need-enum-told-2
-enum-told-2 c = search needs
-
 returns : tie.Need-returns
 returns c = (λ i. stateAnswer (extNumbers (Int (back-of w32 (c .before .bound .given .0 .0) (c .known-told .given .0 .1) i)))) ∙ sym (λ i. stateAnswer (extNumbers (c .before .bound .given .1 i)))
 
@@ -30,4 +21,4 @@ returns-3 c = sym (λ i. stateAnswer (extNumbers (c .enum-told2 .given .1 i)))
 
 pub ext-numbers-spec : {M : Type 1} → statement M
 ext-numbers-spec =
-    tie.close (tie.spec enum-known-bound enum-told enum-told-2 returns returns-2 returns-3)
+    tie.close (tie.spec (λ c. search needs) (λ c. search needs) (λ c. search needs) returns returns-2 returns-3)

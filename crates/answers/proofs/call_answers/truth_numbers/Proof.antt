@@ -7,18 +7,6 @@ use borrow.Author.Needs.{needs}
 use Rattle.answers.proofs.call_answers.truth_numbers.Statement.{statement}
 use Rattle.answers.proofs.call_answers.truth_numbers.Tie as tie
 
-enum-told : tie.Need-enum-told
-enum-told c = search needs
-
-enum-told-2 : tie.Need-enum-told-2
-enum-told-2 c = search needs
-
-enum-known-truth : tie.Need-enum-known-truth
-enum-known-truth c = search needs
-
-refusal-numbers-requires : tie.Need-refusal-numbers-requires
-refusal-numbers-requires c κs = search needs
-
 returns : tie.Need-returns
 returns c = sym (λ i. stateAnswer (truthNumbers (c .enum-told .given .1 i)))
 
@@ -32,10 +20,4 @@ pub truth-numbers-spec : {M : Type 1} → statement M
 truth-numbers-spec =
     tie.close
     (tie.spec
-    enum-told
-    enum-told-2
-    enum-known-truth
-    refusal-numbers-requires
-    returns
-    returns-2
-    returns-3)
+    (λ c. search needs) (λ c. search needs) (λ c. search needs) (λ c κs. search needs) returns returns-2 returns-3)

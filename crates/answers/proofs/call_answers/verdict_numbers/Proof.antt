@@ -7,30 +7,6 @@ use Rattle.answers.specs.Answers.{checkAnswer}
 use Rattle.answers.proofs.call_answers.verdict_numbers.Statement.{statement}
 use Rattle.answers.proofs.call_answers.verdict_numbers.Tie as tie
 
-enum-told : tie.Need-enum-told
-enum-told c = search needs
-
-check-answer-requires : tie.Need-check-answer-requires
-check-answer-requires c κs = search needs
-
-enum-told-2 : tie.Need-enum-told-2
-enum-told-2 c = search needs
-
-check-answer-requires-2 : tie.Need-check-answer-requires-2
-check-answer-requires-2 c κs = search needs
-
-enum-known-verdict : tie.Need-enum-known-verdict
-enum-known-verdict c = search needs
-
-check-answer-requires-3 : tie.Need-check-answer-requires-3
-check-answer-requires-3 c κs = search needs
-
-enum-known-verdict-2 : tie.Need-enum-known-verdict-2
-enum-known-verdict-2 c = search needs
-
-check-answer-requires-4 : tie.Need-check-answer-requires-4
-check-answer-requires-4 c κs = search needs
-
 returns : tie.Need-returns
 returns c = c .check-answer .ensures ∙ sym (λ i. checkAnswer (verdictNumbers (c .before .enum-told .given .1 i)))
 
@@ -47,15 +23,5 @@ pub verdict-numbers-spec : {M : Type 1} → statement M
 verdict-numbers-spec =
     tie.close
     (tie.spec
-    enum-told
-    check-answer-requires
-    enum-told-2
-    check-answer-requires-2
-    enum-known-verdict
-    check-answer-requires-3
-    enum-known-verdict-2
-    check-answer-requires-4
-    returns
-    returns-2
-    returns-3
-    returns-4)
+    (λ c. search needs) (λ c κs. search needs) (λ c. search needs) (λ c κs. search needs) (λ c. search needs)
+    (λ c κs. search needs) (λ c. search needs) (λ c κs. search needs) returns returns-2 returns-3 returns-4)

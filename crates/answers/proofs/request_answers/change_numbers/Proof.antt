@@ -7,12 +7,6 @@ use borrow.Author.Needs.{needs}
 use Rattle.answers.proofs.request_answers.change_numbers.Statement.{statement}
 use Rattle.answers.proofs.request_answers.change_numbers.Tie as tie
 
-enum-told : tie.Need-enum-told
-enum-told c = search needs
-
-enum-known-answer : tie.Need-enum-known-answer
-enum-known-answer c = search needs
-
 returns : tie.Need-returns
 returns c = sym (λ i. changeAnswer (changeNumbers (c .enum-told .given .1 i)))
 
@@ -20,4 +14,4 @@ returns-2 : tie.Need-returns-2
 returns-2 c = sym (λ i. changeAnswer (changeNumbers (c .before .answer .given .1 i)))
 
 pub change-numbers-spec : {M : Type 1} → statement M
-change-numbers-spec = tie.close (tie.spec enum-told enum-known-answer returns returns-2)
+change-numbers-spec = tie.close (tie.spec (λ c. search needs) (λ c. search needs) returns returns-2)

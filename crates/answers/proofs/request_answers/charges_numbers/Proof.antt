@@ -6,18 +6,6 @@ use borrow.Author.Needs.{needs}
 use Rattle.answers.proofs.request_answers.charges_numbers.Statement.{statement}
 use Rattle.answers.proofs.request_answers.charges_numbers.Tie as tie
 
-enum-told : tie.Need-enum-told
-enum-told c = search needs
-
-charges-answer-requires : tie.Need-charges-answer-requires
-charges-answer-requires c κs = search needs
-
-enum-known-answer : tie.Need-enum-known-answer
-enum-known-answer c = search needs
-
-charges-answer-requires-2 : tie.Need-charges-answer-requires-2
-charges-answer-requires-2 c κs = search needs
-
 returns : tie.Need-returns
 returns c = c .charges-answer .ensures ∙ sym (λ i. chargesAnswer (record { bill = c .before .before .before .args .made .bill; answer = c .before .enum-told .given .1 i }))
 
@@ -28,9 +16,4 @@ pub charges-numbers-spec : {M : Type 1} → statement M
 charges-numbers-spec =
     tie.close
     (tie.spec
-    enum-told
-    charges-answer-requires
-    enum-known-answer
-    charges-answer-requires-2
-    returns
-    returns-2)
+    (λ c. search needs) (λ c κs. search needs) (λ c. search needs) (λ c κs. search needs) returns returns-2)

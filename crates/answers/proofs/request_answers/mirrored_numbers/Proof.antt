@@ -9,35 +9,11 @@ use borrow.Author.Needs.{needs}
 use Rattle.answers.proofs.request_answers.mirrored_numbers.Statement.{statement}
 use Rattle.answers.proofs.request_answers.mirrored_numbers.Tie as tie
 
-enum-known-outcome : tie.Need-enum-known-outcome
-enum-known-outcome c = search needs
-
-mirrored-answer-requires : tie.Need-mirrored-answer-requires
-mirrored-answer-requires c κs = search needs
-
-enum-known-outcome-2 : tie.Need-enum-known-outcome-2
-enum-known-outcome-2 c = search needs
-
 mul-mirrored-answer : tie.Need-mul-mirrored-answer
 mul-mirrored-answer c = record { fits = omega (arith, subst ToldInWords (c .before .outcome2 .given .1) (c .before .before .before .pre)) }
 
 mul-mirrored-answer-2 : tie.Need-mul-mirrored-answer-2
 mul-mirrored-answer-2 c = record { fits = omega (arith, subst ToldInWords (c .before .outcome2 .given .1) (c .before .before .before .pre)) }
-
-mirrored-answer-requires-2 : tie.Need-mirrored-answer-requires-2
-mirrored-answer-requires-2 c κs = search needs
-
-enum-known-outcome-3 : tie.Need-enum-known-outcome-3
-enum-known-outcome-3 c = search needs
-
-mirrored-answer-requires-3 : tie.Need-mirrored-answer-requires-3
-mirrored-answer-requires-3 c κs = search needs
-
-enum-known-outcome-4 : tie.Need-enum-known-outcome-4
-enum-known-outcome-4 c = search needs
-
-mirrored-answer-requires-4 : tie.Need-mirrored-answer-requires-4
-mirrored-answer-requires-4 c κs = search needs
 
 returns : tie.Need-returns
 returns c = c .mirrored-answer .ensures ∙ sym (λ i. mirroredAnswer (outcomeNumbers (c .before .before .outcome .given .1 i)))
@@ -55,17 +31,6 @@ pub mirrored-numbers-spec : {M : Type 1} → statement M
 mirrored-numbers-spec =
     tie.close
     (tie.spec
-    enum-known-outcome
-    mirrored-answer-requires
-    enum-known-outcome-2
-    mul-mirrored-answer
-    mul-mirrored-answer-2
-    mirrored-answer-requires-2
-    enum-known-outcome-3
-    mirrored-answer-requires-3
-    enum-known-outcome-4
-    mirrored-answer-requires-4
-    returns
-    returns-2
-    returns-3
-    returns-4)
+    (λ c. search needs) (λ c κs. search needs) (λ c. search needs) mul-mirrored-answer mul-mirrored-answer-2
+    (λ c κs. search needs) (λ c. search needs) (λ c κs. search needs) (λ c. search needs) (λ c κs. search needs)
+    returns returns-2 returns-3 returns-4)

@@ -7,24 +7,6 @@ use borrow.Author.Needs.{needs}
 use Rattle.answers.proofs.request_answers.precedences_numbers.Statement.{statement}
 use Rattle.answers.proofs.request_answers.precedences_numbers.Tie as tie
 
-enum-told : tie.Need-enum-told
-enum-told c = search needs
-
-count-answer-requires : tie.Need-count-answer-requires
-count-answer-requires c κs = search needs
-
-enum-known-answer : tie.Need-enum-known-answer
-enum-known-answer c = search needs
-
-count-answer-requires-2 : tie.Need-count-answer-requires-2
-count-answer-requires-2 c κs = search needs
-
-enum-known-answer-2 : tie.Need-enum-known-answer-2
-enum-known-answer-2 c = search needs
-
-count-answer-requires-3 : tie.Need-count-answer-requires-3
-count-answer-requires-3 c κs = search needs
-
 returns : tie.Need-returns
 returns c = c .count-answer .ensures ∙ sym (λ i. countAnswer (precedencesNumbers (c .before .enum-told .given .1 i)))
 
@@ -38,12 +20,5 @@ pub precedences-numbers-spec : {M : Type 1} → statement M
 precedences-numbers-spec =
     tie.close
     (tie.spec
-    enum-told
-    count-answer-requires
-    enum-known-answer
-    count-answer-requires-2
-    enum-known-answer-2
-    count-answer-requires-3
-    returns
-    returns-2
-    returns-3)
+    (λ c. search needs) (λ c κs. search needs) (λ c. search needs) (λ c κs. search needs) (λ c. search needs)
+    (λ c κs. search needs) returns returns-2 returns-3)

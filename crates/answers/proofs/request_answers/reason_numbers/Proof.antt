@@ -7,18 +7,6 @@ use borrow.Author.Needs.{needs}
 use Rattle.answers.proofs.request_answers.reason_numbers.Statement.{statement}
 use Rattle.answers.proofs.request_answers.reason_numbers.Tie as tie
 
-enum-known-answer : tie.Need-enum-known-answer
-enum-known-answer c = search needs
-
-count-answer-requires : tie.Need-count-answer-requires
-count-answer-requires c κs = search needs
-
-enum-known-answer-2 : tie.Need-enum-known-answer-2
-enum-known-answer-2 c = search needs
-
-count-answer-requires-2 : tie.Need-count-answer-requires-2
-count-answer-requires-2 c κs = search needs
-
 returns : tie.Need-returns
 returns c = c .count-answer .ensures ∙ sym (λ i. countAnswer (reasonNumbers (c .before .before .answer .given .1 i)))
 
@@ -29,9 +17,4 @@ pub reason-numbers-spec : {M : Type 1} → statement M
 reason-numbers-spec =
     tie.close
     (tie.spec
-    enum-known-answer
-    count-answer-requires
-    enum-known-answer-2
-    count-answer-requires-2
-    returns
-    returns-2)
+    (λ c. search needs) (λ c κs. search needs) (λ c. search needs) (λ c κs. search needs) returns returns-2)

@@ -10,12 +10,6 @@ use borrow.Author.Needs.{needs}
 use Rattle.answers.proofs.request_answers.start_numbers.Statement.{statement}
 use Rattle.answers.proofs.request_answers.start_numbers.Tie as tie
 
-enum-known-answer : tie.Need-enum-known-answer
-enum-known-answer c = search needs
-
-enum-known-answer-2 : tie.Need-enum-known-answer-2
-enum-known-answer-2 c = search needs
-
 returns : tie.Need-returns
 returns c = (λ i. startAnswer (freeStartNumbers (At (back-of w32 (c .before .answer .given .0 .0) (c .known-told .given .0 .1) i)))) ∙ sym (λ i. startAnswer (freeStartNumbers (c .before .answer .given .1 i)))
 
@@ -23,4 +17,4 @@ returns-2 : tie.Need-returns-2
 returns-2 c = sym (λ i. startAnswer (freeStartNumbers (c .before .answer2 .given .1 i)))
 
 pub start-numbers-spec : {M : Type 1} → statement M
-start-numbers-spec = tie.close (tie.spec enum-known-answer enum-known-answer-2 returns returns-2)
+start-numbers-spec = tie.close (tie.spec (λ c. search needs) (λ c. search needs) returns returns-2)

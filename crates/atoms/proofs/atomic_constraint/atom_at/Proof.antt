@@ -12,26 +12,8 @@ use borrow.Author.Needs.{needs}
 use Rattle.atoms.proofs.atomic_constraint.atom_at.Statement.{statement}
 use Rattle.atoms.proofs.atomic_constraint.atom_at.Tie as tie
 
-mul-new : tie.Need-mul-new
-mul-new c = search needs
-
-shared-slice-copy-out-new : tie.Need-shared-slice-copy-out-new
-shared-slice-copy-out-new c = search needs
-
-add-new : tie.Need-add-new
-add-new c = search needs
-
-mul-new-2 : tie.Need-mul-new-2
-mul-new-2 c = search needs
-
 shared-slice-copy-out-new-2 : tie.Need-shared-slice-copy-out-new-2
 shared-slice-copy-out-new-2 c = omega arith
-
-add-new-2 : tie.Need-add-new-2
-add-new-2 c = search needs
-
-mul-new-3 : tie.Need-mul-new-3
-mul-new-3 c = search needs
 
 shared-slice-copy-out-new-3 : tie.Need-shared-slice-copy-out-new-3
 shared-slice-copy-out-new-3 c = omega arith
@@ -60,13 +42,5 @@ pub atom-at-spec : {M : Type 1} → statement M
 atom-at-spec =
     tie.close
     (tie.spec
-    mul-new
-    shared-slice-copy-out-new
-    add-new
-    mul-new-2
-    shared-slice-copy-out-new-2
-    add-new-2
-    mul-new-3
-    shared-slice-copy-out-new-3
-    new-requires
-    returns)
+    (λ c. search needs) (λ c. search needs) (λ c. search needs) (λ c. search needs) shared-slice-copy-out-new-2
+    (λ c. search needs) (λ c. search needs) shared-slice-copy-out-new-3 new-requires returns)

@@ -12,9 +12,6 @@ use borrow.Author.Needs.{needs}
 use Rattle.atoms.proofs.atomic_constraint.atom_is_accepted.Statement.{statement}
 use Rattle.atoms.proofs.atomic_constraint.atom_is_accepted.Tie as tie
 
-variable-is-accepted-requires : tie.Need-variable-is-accepted-requires
-variable-is-accepted-requires c κs = search needs
-
 returns : tie.Need-returns
 unfolding rightAtom
 returns c =
@@ -48,9 +45,6 @@ returns-3 c =
     let t : leZ (s .args .kind) (pos 3) ≡ false = lt-leZ (s .args .kind) (pos 3) (omega (ints, back (s .fits .kind))) in
     rw (known (c .before .before), kind-low (c .before), t)
 
-sub-if4 : tie.Need-sub-if4
-sub-if4 c = search needs
-
 returns-4 : tie.Need-returns-4
 unfolding rightAtom
 returns-4 c =
@@ -67,12 +61,4 @@ returns-5 c =
 
 pub atom-is-accepted-spec : {M : Type 1} → statement M
 atom-is-accepted-spec =
-    tie.close
-    (tie.spec
-    variable-is-accepted-requires
-    returns
-    returns-2
-    returns-3
-    sub-if4
-    returns-4
-    returns-5)
+    tie.close (tie.spec (λ c κs. search needs) returns returns-2 returns-3 (λ c. search needs) returns-4 returns-5)

@@ -24,9 +24,6 @@ returns c =
     let y = lt-ltb (s .args .i) (length (s .args .premises .now)) (c .before .if1 .taken) in
     rw y (c .atom-at .ensures)
 
-sub-atom-at : tie.Need-sub-atom-at
-sub-atom-at c = search needs
-
 atom-at-requires-2 : tie.Need-atom-at-requires-2
 atom-at-requires-2 c κs =
     let s = c .before in
@@ -47,5 +44,4 @@ returns-2 c =
 
 pub given-at-spec : {M : Type 1} → statement M
 given-at-spec =
-    tie.close
-    (tie.spec atom-at-requires returns sub-atom-at atom-at-requires-2 negate-requires returns-2)
+    tie.close (tie.spec atom-at-requires returns (λ c. search needs) atom-at-requires-2 negate-requires returns-2)

@@ -9,9 +9,6 @@ use borrow.Author.Needs.{needs}
 use Rattle.atoms.proofs.atomic_constraint.lists_are_accepted.Statement.{statement}
 use Rattle.atoms.proofs.atomic_constraint.lists_are_accepted.Tie as tie
 
-words-are-accepted-requires : tie.Need-words-are-accepted-requires
-words-are-accepted-requires c κs = search needs
-
 returns : tie.Need-returns
 unfolding rightLists
 returns c =
@@ -25,9 +22,6 @@ returns-2 c =
     let t : rightWords (now (s .args .premises)) ≡ true = sym (c .before .before .words-are-accepted .ensures) ∙ not-false (c .before .before .words-are-accepted .result) (c .before .if1 .left) in
     rw (t, lt-leb (length (now (s .args .consequent))) 3 (c .if2 .taken))
 
-words-are-accepted-requires-2 : tie.Need-words-are-accepted-requires-2
-words-are-accepted-requires-2 c κs = search needs
-
 returns-3 : tie.Need-returns-3
 unfolding rightLists
 returns-3 c =
@@ -37,10 +31,4 @@ returns-3 c =
 
 pub lists-are-accepted-spec : {M : Type 1} → statement M
 lists-are-accepted-spec =
-    tie.close
-    (tie.spec
-    words-are-accepted-requires
-    returns
-    returns-2
-    words-are-accepted-requires-2
-    returns-3)
+    tie.close (tie.spec (λ c κs. search needs) returns returns-2 (λ c κs. search needs) returns-3)

@@ -16,9 +16,6 @@ returns c =
     let t : leZ (pos 0) x ≡ false = lt-leZ (pos 0) x (omega (ints, back (c .before .fits .variable))) in
     rw t
 
-cast-result : tie.Need-cast-result
-cast-result c = search needs
-
 returns-2 : tie.Need-returns-2
 returns-2 c =
     let x : ℤ = c .before .args .variable in
@@ -26,4 +23,4 @@ returns-2 c =
     rw t (ap (λ (z : ℤ). ltZ z (pos VARIABLES)) (back (c .before .fits .variable)))
 
 pub variable-is-accepted-spec : {M : Type 1} → statement M
-variable-is-accepted-spec = tie.close (tie.spec returns cast-result returns-2)
+variable-is-accepted-spec = tie.close (tie.spec returns (λ c. search needs) returns-2)

@@ -23,44 +23,23 @@ abbrev μ-loop : tie.MeasureT-loop
 loop-holds : tie.Need-loop-holds Inv-loop μ-loop
 loop-holds c = (omega arith, refl)
 
-sub-if1 : tie.Need-sub-if1 Inv-loop μ-loop
-sub-if1 c = search needs
-
 returns : tie.Need-returns Inv-loop μ-loop
 returns c =
     let l = c .before .before .loop in
     let words = c .before .before .before .args .words .now in
     sym (sym (l .inv .1) ∙ words-short (drop (l .i) words) (simp length-drop (omega arith)) (simp length-drop (omega arith)))
 
-mul-atom-is-accepted : tie.Need-mul-atom-is-accepted Inv-loop μ-loop
-mul-atom-is-accepted c = search needs
-
 shared-slice-copy-out-atom-is-accepted :
     tie.Need-shared-slice-copy-out-atom-is-accepted Inv-loop μ-loop
 shared-slice-copy-out-atom-is-accepted c = search needs
-
-add-atom-is-accepted : tie.Need-add-atom-is-accepted Inv-loop μ-loop
-add-atom-is-accepted c = search needs
-
-mul-atom-is-accepted-2 : tie.Need-mul-atom-is-accepted-2 Inv-loop μ-loop
-mul-atom-is-accepted-2 c = search needs
 
 shared-slice-copy-out-atom-is-accepted-2 :
     tie.Need-shared-slice-copy-out-atom-is-accepted-2 Inv-loop μ-loop
 shared-slice-copy-out-atom-is-accepted-2 c = search needs
 
-add-atom-is-accepted-2 : tie.Need-add-atom-is-accepted-2 Inv-loop μ-loop
-add-atom-is-accepted-2 c = search needs
-
-mul-atom-is-accepted-3 : tie.Need-mul-atom-is-accepted-3 Inv-loop μ-loop
-mul-atom-is-accepted-3 c = search needs
-
 shared-slice-copy-out-atom-is-accepted-3 :
     tie.Need-shared-slice-copy-out-atom-is-accepted-3 Inv-loop μ-loop
 shared-slice-copy-out-atom-is-accepted-3 c = search needs
-
-atom-is-accepted-requires : tie.Need-atom-is-accepted-requires Inv-loop μ-loop
-atom-is-accepted-requires c κs = search needs
 
 -- what the call was asked of, in the words' own terms
 read : (c : tie.After-atom-is-accepted Inv-loop μ-loop) → rightAtom
@@ -83,12 +62,6 @@ returns-2 c =
     let f : rightAtom (getD words (l .i) (pos 0)) (getD words (l .i + 1) (pos 0)) (getD words (l .i + 2) (pos 0)) ≡ false = read (c .before) ∙ not-true (c .before .atom-is-accepted .result) (c .if2 .taken) in
     sym (sym (l .inv .1) ∙ words-on words (l .i) (omega arith) ∙ rw f)
 
-add-i : tie.Need-add-i Inv-loop μ-loop
-add-i c = search needs
-
-loop-less : tie.Need-loop-less Inv-loop μ-loop
-loop-less c = search needs
-
 loop-again : tie.Need-loop-again Inv-loop μ-loop
 loop-again c =
     let l = c .before .before .before .before .before .before .before .loop in
@@ -107,22 +80,7 @@ pub words-are-accepted-spec : {M : Type 1} → statement M
 words-are-accepted-spec =
     tie.close
     (tie.spec
-    Inv-loop
-    μ-loop
-    loop-holds
-    sub-if1
-    returns
-    mul-atom-is-accepted
-    shared-slice-copy-out-atom-is-accepted
-    add-atom-is-accepted
-    mul-atom-is-accepted-2
-    shared-slice-copy-out-atom-is-accepted-2
-    add-atom-is-accepted-2
-    mul-atom-is-accepted-3
-    shared-slice-copy-out-atom-is-accepted-3
-    atom-is-accepted-requires
-    returns-2
-    add-i
-    loop-less
-    loop-again
-    returns-3)
+    Inv-loop μ-loop loop-holds (λ c. search needs) returns (λ c. search needs) shared-slice-copy-out-atom-is-accepted
+    (λ c. search needs) (λ c. search needs) shared-slice-copy-out-atom-is-accepted-2 (λ c. search needs)
+    (λ c. search needs) shared-slice-copy-out-atom-is-accepted-3 (λ c κs. search needs) returns-2 (λ c. search needs)
+    (λ c. search needs) loop-again returns-3)

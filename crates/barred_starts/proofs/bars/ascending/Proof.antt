@@ -26,9 +26,6 @@ abbrev μ-loop : tie.MeasureT-loop
 few : (c : tie.Start Inv-loop μ-loop) → length (barsOf (c .args .t1)) ≤ BARS
 few c = bars-fewer (c .args .t1) (c .good .0 .1 .1 .1 .1 .1 .0 .1 .0 .1)
 
-places-requires : tie.Need-places-requires Inv-loop μ-loop
-places-requires c κs = search needs
-
 loop-holds : tie.Need-loop-holds Inv-loop μ-loop
 loop-holds c = (omega arith, refl)
 
@@ -37,9 +34,6 @@ mul-if1 c = record { fits = omega (arith, c .before .before .places .ensures, fe
 
 element-copy-out-if1 : tie.Need-element-copy-out-if1 Inv-loop μ-loop
 element-copy-out-if1 c = omega (arith, c .before .before .places .ensures, few (c .before .before .before))
-
-sub-if1 : tie.Need-sub-if1 Inv-loop μ-loop
-sub-if1 c = search needs
 
 mul-if1-2 : tie.Need-mul-if1-2 Inv-loop μ-loop
 mul-if1-2 c = record { fits = omega (arith, c .before .before .before .places .ensures, few (c .before .before .before .before)) }
@@ -56,12 +50,6 @@ returns c =
     let d : ℤ = getD (y .barred) (l .i) (pos 0) in
     let h : d ≤ℤ b = omega (ints, back-of w32 d (c .before .before .if12 .given), back-of w32 b (c .before .if13 .given)) in
     sym (sym (l .inv .1) ∙ ascends-on y (l .i) (l .inv .0) (omega (arith, c .before .before .before .before .before .places .ensures)) ∙ and-left _ _ (le-ltZ b d h))
-
-add-i : tie.Need-add-i Inv-loop μ-loop
-add-i c = search needs
-
-loop-less : tie.Need-loop-less Inv-loop μ-loop
-loop-less c = search needs
 
 loop-again : tie.Need-loop-again Inv-loop μ-loop
 loop-again c =
@@ -84,17 +72,5 @@ pub ascending-spec : {M : Type 1} → statement M
 ascending-spec =
     tie.close
     (tie.spec
-    Inv-loop
-    μ-loop
-    places-requires
-    loop-holds
-    mul-if1
-    element-copy-out-if1
-    sub-if1
-    mul-if1-2
-    element-copy-out-if1-2
-    returns
-    add-i
-    loop-less
-    loop-again
-    returns-2)
+    Inv-loop μ-loop (λ c κs. search needs) loop-holds mul-if1 element-copy-out-if1 (λ c. search needs) mul-if1-2
+    element-copy-out-if1-2 returns (λ c. search needs) (λ c. search needs) loop-again returns-2)

@@ -21,17 +21,11 @@ returns c = sym (fit-none (c .before .before .args .range) (c .if1 .taken))
 returns-2 : tie.Need-returns-2
 returns-2 c = sym (fit-many (c .before .before .before .before .args .range) (omega arith))
 
-ascending-requires : tie.Need-ascending-requires
-ascending-requires c κs = search needs
-
 returns-3 : tie.Need-returns-3
 returns-3 c =
     let y = c .before .before .before .before .before .before .args .range in
     let few : y .count ≤ BARS = omega arith in
     sym (fit-few y few ∙ and-left _ _ (sym (c .before .ascending .ensures) ∙ not-true _ (c .if3 .taken)))
-
-is-barred-requires : tie.Need-is-barred-requires
-is-barred-requires c κs = search needs
 
 returns-4 : tie.Need-returns-4
 returns-4 c =
@@ -39,9 +33,6 @@ returns-4 c =
     let few : y .count ≤ BARS = omega arith in
     let h : has (barsOf y) (y .earliest) ≡ true = ap (has (barsOf y)) (sym (back-of w32 (y .earliest) (c .before .before .struct-told .given .0 .1))) ∙ sym (c .before .is-barred .ensures) ∙ c .if4 .taken in
     sym (fit-few y few ∙ and-right (ascends (barsOf y)) _ (and-left _ _ (ap not h)))
-
-is-barred-requires-2 : tie.Need-is-barred-requires-2
-is-barred-requires-2 c κs = search needs
 
 returns-5 : tie.Need-returns-5
 returns-5 c =
@@ -55,11 +46,5 @@ pub bars-fit-spec : {M : Type 1} → statement M
 bars-fit-spec =
     tie.close
     (tie.spec
-    returns
-    returns-2
-    ascending-requires
-    returns-3
-    is-barred-requires
-    returns-4
-    is-barred-requires-2
+    returns returns-2 (λ c κs. search needs) returns-3 (λ c κs. search needs) returns-4 (λ c κs. search needs)
     returns-5)

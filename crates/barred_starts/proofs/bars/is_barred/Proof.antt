@@ -27,9 +27,6 @@ abbrev μ-loop : tie.MeasureT-loop
 few : (c : tie.Start Inv-loop μ-loop) → length (barsOf (c .args .t1)) ≤ BARS
 few c = bars-fewer (c .args .t1) (c .good .0 .1 .1 .1 .1 .1 .0 .1 .0 .1)
 
-places-requires : tie.Need-places-requires Inv-loop μ-loop
-places-requires c κs = search needs
-
 loop-holds : tie.Need-loop-holds Inv-loop μ-loop
 loop-holds c = refl
 
@@ -49,12 +46,6 @@ returns c =
     let e : b ≡ x = same-bits w32 (record { sfits = c .before .if12 .given }) (s .fits .start) (c .if1 .taken) ∙ sym (back (s .fits .start)) in
     let on = has-on y (l .i) (omega (arith, c .before .before .before .before .places .ensures)) x in
     sym (ap (has (barsOf y)) (sym (back (s .fits .start))) ∙ sym (l .inv) ∙ on ∙ ap (λ (t : Bool). t || has (drop (l .i + 1) (barsOf y)) x) (same-eqZ {a = b} {b = x} e))
-
-add-i : tie.Need-add-i Inv-loop μ-loop
-add-i c = search needs
-
-loop-less : tie.Need-loop-less Inv-loop μ-loop
-loop-less c = search needs
 
 loop-again : tie.Need-loop-again Inv-loop μ-loop
 loop-again c =
@@ -78,14 +69,5 @@ pub is-barred-spec : {M : Type 1} → statement M
 is-barred-spec =
     tie.close
     (tie.spec
-    Inv-loop
-    μ-loop
-    places-requires
-    loop-holds
-    mul-if1
-    element-copy-out-if1
-    returns
-    add-i
-    loop-less
-    loop-again
-    returns-2)
+    Inv-loop μ-loop (λ c κs. search needs) loop-holds mul-if1 element-copy-out-if1 returns (λ c. search needs)
+    (λ c. search needs) loop-again returns-2)

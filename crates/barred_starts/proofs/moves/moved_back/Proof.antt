@@ -25,26 +25,14 @@ abbrev μ-loop : tie.MeasureT-loop
 few : (c : tie.Start Inv-loop μ-loop) → length (barsOf (c .args .t1)) ≤ BARS
 few c = bars-fewer (c .args .t1) (c .good .0 .1 .1 .1 .1 .1 .0 .1 .0 .1)
 
-places-requires : tie.Need-places-requires Inv-loop μ-loop
-places-requires c κs = search needs
-
 loop-holds : tie.Need-loop-holds Inv-loop μ-loop
 loop-holds c = let y = c .before .args .t1 in (omega (arith, c .places .ensures), sym (back-end (barsOf y) (c .places .result) (y .earliest) _ (omega (arith, c .places .ensures))))
-
-sub-i : tie.Need-sub-i Inv-loop μ-loop
-sub-i c = search needs
 
 mul-before-bar : tie.Need-mul-before-bar Inv-loop μ-loop
 mul-before-bar c = record { fits = omega (arith, few (c .before .before .before .before)) }
 
 element-copy-out-before-bar : tie.Need-element-copy-out-before-bar Inv-loop μ-loop
 element-copy-out-before-bar c = omega (arith, few (c .before .before .before .before))
-
-before-bar-requires : tie.Need-before-bar-requires Inv-loop μ-loop
-before-bar-requires c κs = search needs
-
-loop-less : tie.Need-loop-less Inv-loop μ-loop
-loop-less c = search needs
 
 loop-again : tie.Need-loop-again Inv-loop μ-loop
 loop-again c =
@@ -75,14 +63,5 @@ pub moved-back-spec : {M : Type 1} → statement M
 moved-back-spec =
     tie.close
     (tie.spec
-    Inv-loop
-    μ-loop
-    places-requires
-    loop-holds
-    sub-i
-    mul-before-bar
-    element-copy-out-before-bar
-    before-bar-requires
-    loop-less
-    loop-again
-    returns)
+    Inv-loop μ-loop (λ c κs. search needs) loop-holds (λ c. search needs) mul-before-bar element-copy-out-before-bar
+    (λ c κs. search needs) (λ c. search needs) loop-again returns)

@@ -25,9 +25,6 @@ abbrev μ-loop : tie.MeasureT-loop
 few : (c : tie.Start Inv-loop μ-loop) → length (barsOf (c .args .t1)) ≤ BARS
 few c = bars-fewer (c .args .t1) (c .good .0 .1 .1 .1 .1 .1 .0 .1 .0 .1)
 
-places-requires : tie.Need-places-requires Inv-loop μ-loop
-places-requires c κs = search needs
-
 loop-holds : tie.Need-loop-holds Inv-loop μ-loop
 loop-holds c = refl
 
@@ -36,15 +33,6 @@ mul-past-bar c = record { fits = omega (arith, c .before .before .before .places
 
 element-copy-out-past-bar : tie.Need-element-copy-out-past-bar Inv-loop μ-loop
 element-copy-out-past-bar c = omega (arith, c .before .before .before .places .ensures, few (c .before .before .before .before))
-
-past-bar-requires : tie.Need-past-bar-requires Inv-loop μ-loop
-past-bar-requires c κs = search needs
-
-add-i : tie.Need-add-i Inv-loop μ-loop
-add-i c = search needs
-
-loop-less : tie.Need-loop-less Inv-loop μ-loop
-loop-less c = search needs
 
 loop-again : tie.Need-loop-again Inv-loop μ-loop
 loop-again c =
@@ -71,14 +59,5 @@ pub moved-on-spec : {M : Type 1} → statement M
 moved-on-spec =
     tie.close
     (tie.spec
-    Inv-loop
-    μ-loop
-    places-requires
-    loop-holds
-    mul-past-bar
-    element-copy-out-past-bar
-    past-bar-requires
-    add-i
-    loop-less
-    loop-again
-    returns)
+    Inv-loop μ-loop (λ c κs. search needs) loop-holds mul-past-bar element-copy-out-past-bar (λ c κs. search needs)
+    (λ c. search needs) (λ c. search needs) loop-again returns)

@@ -20,9 +20,6 @@ returns c =
     let h : y .latest ≤ℤ s .args .start = omega (ints, e, back (s .fits .start)) in
     rw (le-ltZ (s .args .start) (y .latest) h) e
 
-moved-back-requires : tie.Need-moved-back-requires
-moved-back-requires c κs = search needs
-
 returns-2 : tie.Need-returns-2
 unfolding storedLatest
 returns-2 c =
@@ -32,4 +29,4 @@ returns-2 c =
     rw (lt-ltZ (s .args .start) (y .latest) h) (back-of w32 (c .moved-back .result) (c .moved-back .ok) ∙ c .moved-back .ensures ∙ ap (λ (z : ℤ). movedBack (y .earliest) z (barsOf y)) (back (s .fits .start)))
 
 pub stored-latest-spec : {M : Type 1} → statement M
-stored-latest-spec = tie.close (tie.spec returns moved-back-requires returns-2)
+stored-latest-spec = tie.close (tie.spec returns (λ c κs. search needs) returns-2)

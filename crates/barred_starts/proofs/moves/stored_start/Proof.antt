@@ -20,9 +20,6 @@ returns c =
     let h : s .args .start ≤ℤ y .earliest = omega (ints, e, back (s .fits .start)) in
     rw (le-ltZ (y .earliest) (s .args .start) h) e
 
-moved-on-requires : tie.Need-moved-on-requires
-moved-on-requires c κs = search needs
-
 returns-2 : tie.Need-returns-2
 unfolding storedStart
 returns-2 c =
@@ -32,4 +29,4 @@ returns-2 c =
     rw (lt-ltZ (y .earliest) (s .args .start) h) (back-of w32 (c .moved-on .result) (c .moved-on .ok) ∙ c .moved-on .ensures ∙ ap (λ (z : ℤ). movedOn (y .latest) z (barsOf y)) (back (s .fits .start)))
 
 pub stored-start-spec : {M : Type 1} → statement M
-stored-start-spec = tie.close (tie.spec returns moved-on-requires returns-2)
+stored-start-spec = tie.close (tie.spec returns (λ c κs. search needs) returns-2)

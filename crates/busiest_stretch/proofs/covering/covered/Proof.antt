@@ -21,18 +21,6 @@ abbrev μ-loop : tie.MeasureT-loop
 loop-holds : tie.Need-loop-holds Inv-loop μ-loop
 loop-holds c = (omega arith, sym (total-none (commonAt (inMoments (c .args .n) (c .args .starts .now) (c .args .durations .now)) (c .args .w) (c .args .x))))
 
-mul-end : tie.Need-mul-end Inv-loop μ-loop
-mul-end c = search needs
-
-element-copy-out-end : tie.Need-element-copy-out-end Inv-loop μ-loop
-element-copy-out-end c = search needs
-
-mul-end-2 : tie.Need-mul-end-2 Inv-loop μ-loop
-mul-end-2 c = search needs
-
-element-copy-out-end-2 : tie.Need-element-copy-out-end-2 Inv-loop μ-loop
-element-copy-out-end-2 c = search needs
-
 add-end : tie.Need-add-end Inv-loop μ-loop
 add-end c =
     let s = c .before .before .before .before in
@@ -40,29 +28,11 @@ add-end c =
     let q = c .before .before .loop-test .taken in
     record { fits = omega (arith, s .pre .0 .high k q, total-part (λ j. getD (s .args .durations .now) j 0) (s .args .n) k q, s .pre .0 .sum) }
 
-mul-common : tie.Need-mul-common Inv-loop μ-loop
-mul-common c = search needs
-
-element-copy-out-common : tie.Need-element-copy-out-common Inv-loop μ-loop
-element-copy-out-common c = search needs
-
-add-common : tie.Need-add-common Inv-loop μ-loop
-add-common c = search needs
-
-common-requires : tie.Need-common-requires Inv-loop μ-loop
-common-requires c κs = search needs
-
 add-sum : tie.Need-add-sum Inv-loop μ-loop
 add-sum c =
     let s = c .before .before .before .before .before .before in
     let l = c .before .before .before .before .before .loop in
     record { fits = omega (arith, l .inv .1, c .common .ensures, covered-short (inMoments (s .args .n) (s .args .starts .now) (s .args .durations .now)) (s .args .w) (s .args .x) (l .k) (c .before .before .before .before .loop-test .taken), s .pre .0 .sum) }
-
-add-k : tie.Need-add-k Inv-loop μ-loop
-add-k c = search needs
-
-loop-less : tie.Need-loop-less Inv-loop μ-loop
-loop-less c = search needs
 
 loop-again : tie.Need-loop-again Inv-loop μ-loop
 loop-again c =
@@ -81,20 +51,6 @@ pub covered-spec : {M : Type 1} → statement M
 covered-spec =
     tie.close
     (tie.spec
-    Inv-loop
-    μ-loop
-    loop-holds
-    mul-end
-    element-copy-out-end
-    mul-end-2
-    element-copy-out-end-2
-    add-end
-    mul-common
-    element-copy-out-common
-    add-common
-    common-requires
-    add-sum
-    add-k
-    loop-less
-    loop-again
-    returns)
+    Inv-loop μ-loop loop-holds (λ c. search needs) (λ c. search needs) (λ c. search needs) (λ c. search needs) add-end
+    (λ c. search needs) (λ c. search needs) (λ c. search needs) (λ c κs. search needs) add-sum (λ c. search needs)
+    (λ c. search needs) loop-again returns)

@@ -45,5 +45,4 @@ returns-6 c =
     gives-way (inMoments (s .args .n) (s .args .starts .now) (s .args .durations .now)) (s .args .w) (s .args .first) (s .args .last) (s .args .x) (s .args .best .covered) (s .args .best .start) _ (omega (arith, c .before .before .before .before .before .before .if1 .left)) (omega (arith, c .before .before .before .before .before .if2 .left)) (c .before .before .before .before .covered .ensures) (inl (omega (arith, c .before .before .if3 .left, c .if4 .left)))
 
 pub better-spec : {M : Type 1} → statement M
-better-spec =
-    tie.close (tie.spec returns returns-2 covered-requires returns-3 returns-4 returns-5 returns-6)
+better-spec = tie.close (tie.spec returns returns-2 covered-requires returns-3 returns-4 returns-5 returns-6)

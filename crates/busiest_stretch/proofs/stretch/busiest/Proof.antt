@@ -27,21 +27,6 @@ loop-holds c =
     let (k, q, e) = s .pre .1 .starts-first in
     (omega arith, none-yet (inMoments (s .args .n) (s .args .starts .now) (s .args .durations .now)) (s .args .w) (s .args .first) (s .args .last) (c .covered .result) (s .args .first) (record { from = omega arith; to = omega (arith, e, s .pre .1 .greatest k q); covers = sym (c .covered .ensures) }))
 
-mul-start : tie.Need-mul-start Inv-loop μ-loop
-mul-start c = search needs
-
-element-copy-out-start : tie.Need-element-copy-out-start Inv-loop μ-loop
-element-copy-out-start c = search needs
-
-better-requires : tie.Need-better-requires Inv-loop μ-loop
-better-requires c κs = search needs
-
-mul-back : tie.Need-mul-back Inv-loop μ-loop
-mul-back c = search needs
-
-element-copy-out-back : tie.Need-element-copy-out-back Inv-loop μ-loop
-element-copy-out-back c = search needs
-
 add-back : tie.Need-add-back Inv-loop μ-loop
 add-back c =
     let s = c .before .before .before .before .before .before in
@@ -53,15 +38,6 @@ sub-back : tie.Need-sub-back Inv-loop μ-loop
 sub-back c =
     let s = c .before .before .before .before .before .before in
     omega (arith, s .pre .0 .low (c .before .before .before .before .loop .k) (c .before .before .before .loop-test .taken), s .pre .0 .length)
-
-better-requires-2 : tie.Need-better-requires-2 Inv-loop μ-loop
-better-requires-2 c κs = search needs
-
-add-k : tie.Need-add-k Inv-loop μ-loop
-add-k c = search needs
-
-loop-less : tie.Need-loop-less Inv-loop μ-loop
-loop-less c = search needs
 
 loop-again : tie.Need-loop-again Inv-loop μ-loop
 loop-again c =
@@ -81,19 +57,6 @@ pub busiest-spec : {M : Type 1} → statement M
 busiest-spec =
     tie.close
     (tie.spec
-    Inv-loop
-    μ-loop
-    covered-requires
-    loop-holds
-    mul-start
-    element-copy-out-start
-    better-requires
-    mul-back
-    element-copy-out-back
-    add-back
-    sub-back
-    better-requires-2
-    add-k
-    loop-less
-    loop-again
-    returns)
+    Inv-loop μ-loop covered-requires loop-holds (λ c. search needs) (λ c. search needs) (λ c κs. search needs)
+    (λ c. search needs) (λ c. search needs) add-back sub-back (λ c κs. search needs) (λ c. search needs)
+    (λ c. search needs) loop-again returns)

@@ -47,9 +47,6 @@ placed c t q =
     let h = held (c .before .before .before .before) in
     few c _ (task-small (a .t1) (a .earliest .now) (a .latest .now) (a .w) (h .0) (h .1) _ (c .before .moments-of .ensures) _ (lasting c) _ (c .before .before .before .order-of .ensures) t q)
 
-stretch-refusal-requires : tie.Need-stretch-refusal-requires
-stretch-refusal-requires c κs = search needs
-
 returns : tie.Need-returns
 returns c = let a = c .before .before .args in refused (a .t1) (a .earliest .now) (a .latest .now) (a .w) _ (said (c .before)) (c .if1 .taken)
 
@@ -62,9 +59,6 @@ moments-of-requires c κs = let h = held (c .before .before) .0 in omega (arith,
 nat-of-requires : tie.Need-nat-of-requires
 unfolding up dn
 nat-of-requires c κs = omega (ints, back (c .before .before .before .before .before .fits .w), held (c .before .before .before) .1 .low)
-
-array-read-first : tie.Need-array-read-first
-array-read-first c = search needs
 
 mul-first : tie.Need-mul-first
 mul-first c = record { fits = omega (arith, placed c 0 (some c)) }
@@ -93,9 +87,6 @@ busiest-requires c κs =
     let h = held (c .before .before .before .before .before .before .before) in
     (slidable (a .t1) (a .earliest .now) (a .latest .now) (a .w) (h .0) (h .1) _ (c .before .before .before .before .moments-of .ensures) _ (lasting (c .before .before .before)) _ (c .before .before .before .before .before .before .order-of .ensures), runs (a .t1) (a .earliest .now) (a .latest .now) (a .w) (h .0) (h .1) _ (c .before .before .before .before .moments-of .ensures) _ (lasting (c .before .before .before)) _ (c .before .before .before .before .before .before .order-of .ensures))
 
-start-of-requires : tie.Need-start-of-requires
-start-of-requires c κs = search needs
-
 returns-2 : tie.Need-returns-2
 returns-2 c =
     let at = c .before .before .before .before .before .before .before .before in
@@ -109,19 +100,6 @@ pub busiest-stretch-spec : {M : Type 1} → statement M
 busiest-stretch-spec =
     tie.close
     (tie.spec
-    stretch-refusal-requires
-    returns
-    order-of-requires
-    moments-of-requires
-    nat-of-requires
-    array-read-first
-    mul-first
-    array-read-first-2
-    sub-last
-    mul-last
-    array-read-last
-    mul-last-2
-    array-read-last-2
-    busiest-requires
-    start-of-requires
-    returns-2)
+    (λ c κs. search needs) returns order-of-requires moments-of-requires nat-of-requires (λ c. search needs) mul-first
+    array-read-first-2 sub-last mul-last array-read-last mul-last-2 array-read-last-2 busiest-requires
+    (λ c κs. search needs) returns-2)

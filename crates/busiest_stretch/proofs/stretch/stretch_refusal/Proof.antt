@@ -17,16 +17,10 @@ number c = sym (c .before .fixed-refusal .ensures) ∙ c .if1 .left
 lasting : (c : tie.After-length-fits) → c .length-fits .result ≡ lengthFits (c .before .before .before .args .w)
 lasting c = c .length-fits .ensures ∙ ap lengthFits (back (c .before .before .before .fits .w))
 
-fixed-refusal-requires : tie.Need-fixed-refusal-requires
-fixed-refusal-requires c κs = search needs
-
 returns : tie.Need-returns
 returns c =
     let a = c .before .before .args in
     c .before .fixed-refusal .ensures ∙ sym (schedule-first (a .«record») (a .earliest .now) (a .latest .now) (a .w) (λ z. c .if1 .taken (c .before .fixed-refusal .ensures ∙ z)))
-
-length-fits-requires : tie.Need-length-fits-requires
-length-fits-requires c κs = search needs
 
 returns-2 : tie.Need-returns-2
 returns-2 c =
@@ -39,5 +33,4 @@ returns-3 c =
     sym (none-wrong (a .«record») (a .earliest .now) (a .latest .now) (a .w) (number (c .before .before)) (sym (lasting (c .before)) ∙ not-false _ (c .if2 .left)))
 
 pub stretch-refusal-spec : {M : Type 1} → statement M
-stretch-refusal-spec =
-    tie.close (tie.spec fixed-refusal-requires returns length-fits-requires returns-2 returns-3)
+stretch-refusal-spec = tie.close (tie.spec (λ c κs. search needs) returns (λ c κs. search needs) returns-2 returns-3)

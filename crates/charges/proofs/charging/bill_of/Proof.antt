@@ -52,20 +52,8 @@ loop-holds c =
     let f = chargeAt (a .durations .now) (a .earliest .now) (a .due .now) in
     (omega arith, (sym (filled-none f noTasks), (sym (total-none f), omega arith)))
 
-mul-charge-of : tie.Need-mul-charge-of Inv-loop μ-loop
-mul-charge-of c = search needs
-
-shared-slice-copy-out-charge-of : tie.Need-shared-slice-copy-out-charge-of Inv-loop μ-loop
-shared-slice-copy-out-charge-of c = search needs
-
-mul-charge-of-2 : tie.Need-mul-charge-of-2 Inv-loop μ-loop
-mul-charge-of-2 c = search needs
-
 element-copy-out-charge-of : tie.Need-element-copy-out-charge-of Inv-loop μ-loop
 element-copy-out-charge-of c = omega (arith, c .before .before .before .pre .started .few)
-
-mul-charge-of-3 : tie.Need-mul-charge-of-3 Inv-loop μ-loop
-mul-charge-of-3 c = search needs
 
 shared-slice-copy-out-charge-of-2 : tie.Need-shared-slice-copy-out-charge-of-2 Inv-loop μ-loop
 shared-slice-copy-out-charge-of-2 c = omega (arith, c .before .before .before .before .pre .dues .long)
@@ -79,9 +67,6 @@ charge-of-requires c κs =
       subst DueFits (sym (back-of w32 (getD (s .args .due .now) i (pos 0)) (c .charge-of-arg3 .given))) (s .pre .dues .within i (omega (arith, s .pre .dues .long))),
     )
 
-mul-out : tie.Need-mul-out Inv-loop μ-loop
-mul-out c = search needs
-
 array-write-out : tie.Need-array-write-out Inv-loop μ-loop
 array-write-out c = omega (arith, c .before .before .before .before .before .before .pre .started .few)
 
@@ -89,12 +74,6 @@ add-sum : tie.Need-add-sum Inv-loop μ-loop
 add-sum c =
     let loop = c .before .before .before .before .before .loop in
     record { fits = omega (arith, cost-small c, loop .inv .1 .1 .1, c .before .before .before .before .before .before .pre .started .few) }
-
-add-i : tie.Need-add-i Inv-loop μ-loop
-add-i c = search needs
-
-loop-less : tie.Need-loop-less Inv-loop μ-loop
-loop-less c = search needs
 
 loop-again : tie.Need-loop-again Inv-loop μ-loop
 loop-again c =
@@ -119,20 +98,6 @@ pub bill-of-spec : {M : Type 1} → statement M
 bill-of-spec =
     tie.close
     (tie.spec
-    Inv-loop
-    μ-loop
-    loop-holds
-    mul-charge-of
-    shared-slice-copy-out-charge-of
-    mul-charge-of-2
-    element-copy-out-charge-of
-    mul-charge-of-3
-    shared-slice-copy-out-charge-of-2
-    charge-of-requires
-    mul-out
-    array-write-out
-    add-sum
-    add-i
-    loop-less
-    loop-again
-    returns)
+    Inv-loop μ-loop loop-holds (λ c. search needs) (λ c. search needs) (λ c. search needs) element-copy-out-charge-of
+    (λ c. search needs) shared-slice-copy-out-charge-of-2 charge-of-requires (λ c. search needs) array-write-out
+    add-sum (λ c. search needs) (λ c. search needs) loop-again returns)

@@ -12,13 +12,10 @@ use Rattle.charges.proofs.charging.charge_of.Tie as tie
 minutes-late-requires : tie.Need-minutes-late-requires
 minutes-late-requires c κs = (subst StartFits (sym (back (c .fits .start))) (c .pre .0), c .pre .1, subst DueFits (sym (back (c .fits .due))) (c .pre .2))
 
-cost-of-requires : tie.Need-cost-of-requires
-cost-of-requires c κs = search needs
-
 returns : tie.Need-returns
 returns c =
     let s = c .before .before in
     c .cost-of .ensures ∙ ap costOf (c .before .minutes-late .ensures .0 ∙ ap₂ (λ (x y : ℤ). minutesLate (x +ℤ pos (s .args .duration)) y) (back (s .fits .start)) (back (s .fits .due)))
 
 pub charge-of-spec : {M : Type 1} → statement M
-charge-of-spec = tie.close (tie.spec minutes-late-requires cost-of-requires returns)
+charge-of-spec = tie.close (tie.spec minutes-late-requires (λ c κs. search needs) returns)

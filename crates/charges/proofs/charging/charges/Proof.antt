@@ -11,12 +11,6 @@ use Rattle.charges.proofs.charging.charges.Tie as tie
 number : (c : tie.Else1) → let a = c .before .before .args in chargesNumber (a .t1) (a .earliest .now) (a .latest .now) (a .due .now) ≡ 0
 number c = sym (c .before .charges-refusal .ensures) ∙ c .if1 .left
 
-charges-refusal-requires : tie.Need-charges-refusal-requires
-charges-refusal-requires c κs = search needs
-
-no-bill-requires : tie.Need-no-bill-requires
-no-bill-requires c κs = search needs
-
 returns : tie.Need-returns
 returns c =
     let a = c .before .before .before .args in
@@ -33,6 +27,4 @@ returns-2 c =
     made (a .t1) (a .earliest .now) (a .latest .now) (a .due .now) (c .bill-of .result) (number (c .before .before .before)) (c .bill-of .ensures)
 
 pub charges-spec : {M : Type 1} → statement M
-charges-spec =
-    tie.close
-    (tie.spec charges-refusal-requires no-bill-requires returns bill-of-requires returns-2)
+charges-spec = tie.close (tie.spec (λ c κs. search needs) (λ c κs. search needs) returns bill-of-requires returns-2)

@@ -25,14 +25,8 @@ end-is c =
 due-is : (c : tie.After-moment-of2) → c .moment-of2 .result ≡ moment zeroAt (c .before .before .args .due)
 due-is c = c .moment-of2 .ensures ∙ ap (moment zeroAt) (back (c .before .before .fits .due))
 
-moment-of-requires : tie.Need-moment-of-requires
-moment-of-requires c κs = search needs
-
 add-end : tie.Need-add-end
 add-end c = record { fits = omega (arith, start-is c, start-moment (c .before .args .start) (c .before .pre .0), c .before .pre .1) }
-
-moment-of-requires-2 : tie.Need-moment-of-requires-2
-moment-of-requires-2 c κs = search needs
 
 returns : tie.Need-returns
 returns c =
@@ -40,9 +34,6 @@ returns c =
     let a = s .args in
     let above = plus-above zeroAt (a .start) (a .duration) (start-above (a .start) (s .pre .0)) in
     (sym (not-late (a .start +ℤ pos (a .duration)) (a .due) above (i32-above (s .fits .due)) (omega (arith, end-is (c .before), due-is (c .before), c .if1 .taken))), omega arith)
-
-sub-result : tie.Need-sub-result
-sub-result c = search needs
 
 returns-2 : tie.Need-returns-2
 returns-2 c =
@@ -56,5 +47,4 @@ returns-2 c =
 
 pub minutes-late-spec : {M : Type 1} → statement M
 minutes-late-spec =
-    tie.close
-    (tie.spec moment-of-requires add-end moment-of-requires-2 returns sub-result returns-2)
+    tie.close (tie.spec (λ c κs. search needs) add-end (λ c κs. search needs) returns (λ c. search needs) returns-2)

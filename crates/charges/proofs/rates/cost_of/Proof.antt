@@ -26,18 +26,6 @@ turn c =
     let loop = c .before .before .before .loop in
     row-turn (hoursBegun (c .before .before .before .before .args .minutes)) (loop .i) (loop .inv .0) (omega arith) (loop .inv .1 .1 .0) (loop .inv .1 .1 .1) (c .min .ensures)
 
-add-hours : tie.Need-add-hours Inv-loop μ-loop
-add-hours c = search needs
-
-mul-row : tie.Need-mul-row Inv-loop μ-loop
-mul-row c = search needs
-
-array-copy-out-row : tie.Need-array-copy-out-row Inv-loop μ-loop
-array-copy-out-row c = search needs
-
-min-requires : tie.Need-min-requires Inv-loop μ-loop
-min-requires c κs = search needs
-
 sub-cost : tie.Need-sub-cost Inv-loop μ-loop
 sub-cost c = turn c .up
 
@@ -46,12 +34,6 @@ mul-cost c = record { fits = omega (arith, turn (c .before) .most) }
 
 add-cost : tie.Need-add-cost Inv-loop μ-loop
 add-cost c = record { fits = omega (arith, turn (c .before) .most) }
-
-add-i : tie.Need-add-i Inv-loop μ-loop
-add-i c = search needs
-
-loop-less : tie.Need-loop-less Inv-loop μ-loop
-loop-less c = search needs
 
 loop-again : tie.Need-loop-again Inv-loop μ-loop
 loop-again c = (c .before .before .before .before .loop .inv .0, (omega arith, (turn (c .before) .next, turn (c .before) .sum)))
@@ -65,17 +47,5 @@ pub cost-of-spec : {M : Type 1} → statement M
 cost-of-spec =
     tie.close
     (tie.spec
-    Inv-loop
-    μ-loop
-    add-hours
-    loop-holds
-    mul-row
-    array-copy-out-row
-    min-requires
-    sub-cost
-    mul-cost
-    add-cost
-    add-i
-    loop-less
-    loop-again
-    returns)
+    Inv-loop μ-loop (λ c. search needs) loop-holds (λ c. search needs) (λ c. search needs) (λ c κs. search needs)
+    sub-cost mul-cost add-cost (λ c. search needs) (λ c. search needs) loop-again returns)

@@ -14,9 +14,6 @@ use Rattle.charges.proofs.refusals.charges_refusal.Tie as tie
 number : (c : tie.Else1) → let a = c .before .before .args in fixedNumber (a .«record») (a .earliest .now) (a .latest .now) ≡ 0
 number c = sym (c .before .fixed-refusal .ensures) ∙ c .if1 .left
 
-fixed-refusal-requires : tie.Need-fixed-refusal-requires
-fixed-refusal-requires c κs = search needs
-
 returns : tie.Need-returns
 returns c =
     let a = c .before .before .args in
@@ -26,9 +23,6 @@ returns-2 : tie.Need-returns-2
 returns-2 c =
     let a = c .before .before .before .before .args in
     sym (wrong-dues (a .«record») (a .earliest .now) (a .latest .now) (a .due .now) (number (c .before .before)) (and-left _ _ (ne-eqb _ _ (c .if2 .taken))))
-
-dues-fit-requires : tie.Need-dues-fit-requires
-dues-fit-requires c κs = search needs
 
 returns-3 : tie.Need-returns-3
 returns-3 c =
@@ -42,5 +36,4 @@ returns-4 c =
 
 pub charges-refusal-spec : {M : Type 1} → statement M
 charges-refusal-spec =
-    tie.close
-    (tie.spec fixed-refusal-requires returns returns-2 dues-fit-requires returns-3 returns-4)
+    tie.close (tie.spec (λ c κs. search needs) returns returns-2 (λ c κs. search needs) returns-3 returns-4)

@@ -3,14 +3,8 @@ use borrow.Author.Needs.{needs}
 use Rattle.charges.proofs.refusals.dues_fit.Statement.{statement}
 use Rattle.charges.proofs.refusals.dues_fit.Tie as tie
 
-sub-all-within : tie.Need-sub-all-within
-sub-all-within c = search needs
-
-all-within-requires : tie.Need-all-within-requires
-all-within-requires c κs = search needs
-
 returns : tie.Need-returns
 returns c = c .all-within .ensures
 
 pub dues-fit-spec : {M : Type 1} → statement M
-dues-fit-spec = tie.close (tie.spec sub-all-within all-within-requires returns)
+dues-fit-spec = tie.close (tie.spec (λ c. search needs) (λ c κs. search needs) returns)

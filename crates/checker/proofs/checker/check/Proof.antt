@@ -4,11 +4,8 @@ use Rattle.checker.proofs.Answers.{checked}
 use Rattle.checker.proofs.checker.check.Statement.{statement}
 use Rattle.checker.proofs.checker.check.Tie as tie
 
-check-as-requires : tie.Need-check-as-requires
-check-as-requires c κs = search needs
-
 returns : tie.Need-returns
 returns c = let a = c .before .args in checked (a .durations .now) (a .premises .now) (a .consequent .now) (c .check-as .result) (c .check-as .ensures)
 
 pub check-spec : {M : Type 1} → statement M
-check-spec = tie.close (tie.spec check-as-requires returns)
+check-spec = tie.close (tie.spec (λ c κs. search needs) returns)

@@ -56,26 +56,11 @@ module _ (c : tie.After-bounds-of) where
   concludes b e r j = concluded-by ds ps cs (start .args .mirrored) (created .create .result) (created .create .ensures .0) (c .before .before .before .before .before .enum-told .given .1) (applied .prepare-for-conflict-check .result) (applied .prepare-for-conflict-check .ensures .0)
       (c .before .enum-told2 .given .1) r (j ∙ sym (λ i. judgedAs (e i) ds (applied .prepare-for-conflict-check .result .state) (consequentOf cs)))
 
-create-requires : tie.Need-create-requires
-create-requires c κs = search needs
-
-enum-known-creation : tie.Need-enum-known-creation
-enum-known-creation c = search needs
-
 returns : tie.Need-returns
 returns c =
     let m = c .before .before .before .create in
     let a = c .before .before .before .before .args in
     turned-back (a .durations .now) (a .premises .now) (a .consequent .now) (a .mirrored) (m .result) (m .ensures .0) (c .before .creation .given .0 .0) (c .before .creation .given .1)
-
-enum-told : tie.Need-enum-told
-enum-told c = search needs
-
-prepare-for-conflict-check-requires : tie.Need-prepare-for-conflict-check-requires
-prepare-for-conflict-check-requires c κs = search needs
-
-enum-told-2 : tie.Need-enum-told-2
-enum-told-2 c = search needs
 
 bounds-of-requires : tie.Need-bounds-of-requires
 bounds-of-requires c κs =
@@ -109,12 +94,6 @@ judge-requires-2 c κs =
     let s = applied b .prepare-for-conflict-check .result .state in
     ((ds b, lowerAs true (ds b) s, upperAs true (ds b) s, can-mirrored b (m .result) (m .ensures)), right b)
 
-enum-known-answer : tie.Need-enum-known-answer
-enum-known-answer c = search needs
-
-enum-known-answer-2 : tie.Need-enum-known-answer-2
-enum-known-answer-2 c = search needs
-
 returns-3 : tie.Need-returns-3
 returns-3 c =
     let b = c .before .before .before .before .before .before .before in
@@ -140,19 +119,6 @@ pub check-as-spec : {M : Type 1} → statement M
 check-as-spec =
     tie.close
     (tie.spec
-    create-requires
-    enum-known-creation
-    returns
-    enum-told
-    prepare-for-conflict-check-requires
-    enum-told-2
-    bounds-of-requires
-    judge-requires
-    returns-2
-    mirrored-bounds-requires
-    judge-requires-2
-    enum-known-answer
-    enum-known-answer-2
-    returns-3
-    returns-4
-    returns-5)
+    (λ c κs. search needs) (λ c. search needs) returns (λ c. search needs) (λ c κs. search needs) (λ c. search needs)
+    bounds-of-requires judge-requires returns-2 mirrored-bounds-requires judge-requires-2 (λ c. search needs)
+    (λ c. search needs) returns-3 returns-4 returns-5)

@@ -4,11 +4,8 @@ use Rattle.checker.proofs.Answers.{checked-mirrored}
 use Rattle.checker.proofs.checker.check_mirrored.Statement.{statement}
 use Rattle.checker.proofs.checker.check_mirrored.Tie as tie
 
-check-as-requires : tie.Need-check-as-requires
-check-as-requires c κs = search needs
-
 returns : tie.Need-returns
 returns c = let a = c .before .args in checked-mirrored (a .durations .now) (a .premises .now) (a .consequent .now) (c .check-as .result) (c .check-as .ensures)
 
 pub check-mirrored-spec : {M : Type 1} → statement M
-check-mirrored-spec = tie.close (tie.spec check-as-requires returns)
+check-mirrored-spec = tie.close (tie.spec (λ c κs. search needs) returns)

@@ -23,9 +23,6 @@ size c = search needs
 held : (c : tie.After-gather-arg2) {J : Tasks natural} {Ω : TaskSet} → let a = c .before .before .before .before .before .args in Bounding J Ω (a .n) (a .t1) (a .durations .now) → Held J (Ω but a .i) (a .n) (set (a .t1 .bounded) (a .i) false) (a .t1 .est) (a .durations .now)
 held c d = let a = c .before .before .before .before .before in others-held (size c) (a .args .i) (a .pre .0) (d .held)
 
-array-write-others : tie.Need-array-write-others
-array-write-others c = search needs
-
 gather-requires : tie.Need-gather-requires
 gather-requires c κs =
     let (q, (J, Ω, d)) = c .before .before .before .before .before .pre in
@@ -37,30 +34,12 @@ returns c = λ J Ω d.
     let h = held (c .before .before .before) d in
     none-after h (g .result) (g .ensures J (Ω but c .before .before .before .before .before .before .before .before .args .i) h (d .late)) (d .late) (c .before .before .before .before .before .before .before .before .args .i) (c .before .before .before .before .before .before .before .before .pre .0) (not-true (g .result .some) (c .if1 .taken))
 
-mul-min : tie.Need-mul-min
-mul-min c = search needs
-
-element-copy-out-min : tie.Need-element-copy-out-min
-element-copy-out-min c = search needs
-
-cast-min : tie.Need-cast-min
-cast-min c = search needs
-
-min-requires : tie.Need-min-requires
-min-requires c κs = search needs
-
 add-if2 : tie.Need-add-if2
 add-if2 c =
     let (q, (J, Ω, d)) = c .before .before .before .before .before .before .before .before .before .before .before .pre in
     let g = c .before .before .before .before .before .gather in
     let h = held (c .before .before .before .before .before .before) d in
     omega (arith, c .before .min .ensures, joint-fits h (g .result) (g .ensures J (Ω but c .before .before .before .before .before .before .before .before .before .before .before .args .i) h (d .late)) (d .late) (c .before .before .before .before .before .before .before .before .before .before .before .args .i) q (not-false (g .result .some) (c .before .before .before .if1 .left)) .0)
-
-mul-if2 : tie.Need-mul-if2
-mul-if2 c = search needs
-
-element-copy-out-if2 : tie.Need-element-copy-out-if2
-element-copy-out-if2 c = search needs
 
 cast-if2 : tie.Need-cast-if2
 cast-if2 c =
@@ -89,15 +68,6 @@ theta-ect-requires c κs =
     let (q, (J, Ω, d)) = c .before .before .before .before .before .before .before .before .before .before .before .before .before .before .before .before .before .pre in
     (J, Ω but c .before .before .before .before .before .before .before .before .before .before .before .before .before .before .before .before .before .args .i, held (c .before .before .before .before .before .before .before .before .before .before .before .before) d)
 
-mul-exceeds : tie.Need-mul-exceeds
-mul-exceeds c = search needs
-
-element-copy-out-exceeds : tie.Need-element-copy-out-exceeds
-element-copy-out-exceeds c = search needs
-
-exceeds-requires : tie.Need-exceeds-requires
-exceeds-requires c κs = search needs
-
 returns-3 : tie.Need-returns-3
 returns-3 c = λ J Ω d.
     let g = c .before .before .before .before .before .before .before .before .before .before .before .before .before .before .gather in
@@ -110,21 +80,6 @@ pub implied-spec : {M : Type 1} → statement M
 implied-spec =
     tie.close
     (tie.spec
-    array-write-others
-    gather-requires
-    returns
-    mul-min
-    element-copy-out-min
-    cast-min
-    min-requires
-    add-if2
-    mul-if2
-    element-copy-out-if2
-    cast-if2
-    add-if2-2
-    returns-2
-    theta-ect-requires
-    mul-exceeds
-    element-copy-out-exceeds
-    exceeds-requires
-    returns-3)
+    (λ c. search needs) gather-requires returns (λ c. search needs) (λ c. search needs) (λ c. search needs)
+    (λ c κs. search needs) add-if2 (λ c. search needs) (λ c. search needs) cast-if2 add-if2-2 returns-2
+    theta-ect-requires (λ c. search needs) (λ c. search needs) (λ c κs. search needs) returns-3)

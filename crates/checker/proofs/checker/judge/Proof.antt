@@ -20,35 +20,20 @@ some-words c z = absurd (omega (arith, c .if1 .left))
 variable : (c : tie.After-nat-of) → pos (c .nat-of .result) ≡ getD (c .before .before .before .args .consequent .now) 0 (pos 0)
 variable c = c .nat-of .ensures ∙ back-of w32 (getD (c .before .before .before .args .consequent .now) 0 (pos 0)) (c .before .nat-of-arg .given)
 
-overloaded-requires : tie.Need-overloaded-requires
-overloaded-requires c κs = search needs
-
-verdict-of-requires : tie.Need-verdict-of-requires
-verdict-of-requires c κs = search needs
-
 returns : tie.Need-returns
 returns c = λ ds lower upper j.
     let a = c .before .before .before .args in
     c .verdict-of .ensures ∙ alone j (a .consequent .now) (omega (arith, c .before .before .if1 .taken)) (c .before .overloaded .result) (c .before .overloaded .ensures (tasksOf ds lower upper) (twoSided ds lower upper) (j .bounding))
-
-shared-slice-copy-out-nat-of : tie.Need-shared-slice-copy-out-nat-of
-shared-slice-copy-out-nat-of c = search needs
 
 nat-of-requires : tie.Need-nat-of-requires
 nat-of-requires c κs =
     let x = getD (c .before .before .args .consequent .now) 0 (pos 0) in
     subst (λ (z : ℤ). pos 0 ≤ℤ z) (sym (back-of w32 x (c .nat-of-arg .given))) (variable-right (c .before .before .pre .1) (some-words (c .before)))
 
-cast-i : tie.Need-cast-i
-cast-i c = search needs
-
 returns-2 : tie.Need-returns-2
 returns-2 c = λ ds lower upper j.
     let f = c .before .before .before .before in
     no-task j (f .args .consequent .now) (f .pre .1) (some-words (c .before .before .before)) (c .before .nat-of .result) (variable (c .before)) (c .if2 .taken)
-
-element-copy-out-if3 : tie.Need-element-copy-out-if3
-element-copy-out-if3 c = search needs
 
 returns-3 : tie.Need-returns-3
 returns-3 c = λ ds lower upper j.
@@ -56,12 +41,6 @@ returns-3 c = λ ds lower upper j.
     let i = c .before .before .before .nat-of .result in
     no-bound j (f .args .consequent .now) (f .pre .1) (some-words (c .before .before .before .before .before)) i (variable (c .before .before .before)) (c .before .before .if2 .left)
     (not-true (getD (f .args .t1 .bounded) i false) (c .if3 .taken))
-
-implied-requires : tie.Need-implied-requires
-implied-requires c κs = search needs
-
-verdict-of-requires-2 : tie.Need-verdict-of-requires-2
-verdict-of-requires-2 c κs = search needs
 
 returns-4 : tie.Need-returns-4
 returns-4 c = λ ds lower upper j.
@@ -75,15 +54,5 @@ pub judge-spec : {M : Type 1} → statement M
 judge-spec =
     tie.close
     (tie.spec
-    overloaded-requires
-    verdict-of-requires
-    returns
-    shared-slice-copy-out-nat-of
-    nat-of-requires
-    cast-i
-    returns-2
-    element-copy-out-if3
-    returns-3
-    implied-requires
-    verdict-of-requires-2
-    returns-4)
+    (λ c κs. search needs) (λ c κs. search needs) returns (λ c. search needs) nat-of-requires (λ c. search needs)
+    returns-2 (λ c. search needs) returns-3 (λ c κs. search needs) (λ c κs. search needs) returns-4)

@@ -6,9 +6,6 @@ use Rattle.checker.proofs.Judging.{none-overloads, reach-fits, some-ove
 use Rattle.checker.proofs.checker.overloaded.Statement.{statement}
 use Rattle.checker.proofs.checker.overloaded.Tie as tie
 
-gather-requires : tie.Need-gather-requires
-gather-requires c κs = search needs
-
 returns : tie.Need-returns
 returns c = λ J Ω d. let g = c .before .before .gather in none-overloads (d .held) (g .result) (g .ensures J Ω (d .held) (d .late)) (not-true (g .result .some) (c .if1 .taken))
 
@@ -25,4 +22,4 @@ returns-2 c = λ J Ω d.
     some-overloads (d .held) (g .result) (g .ensures J Ω (d .held) (d .late)) (not-false (g .result .some) (c .before .before .if1 .left))
 
 pub overloaded-spec : {M : Type 1} → statement M
-overloaded-spec = tie.close (tie.spec gather-requires returns add-result returns-2)
+overloaded-spec = tie.close (tie.spec (λ c κs. search needs) returns add-result returns-2)

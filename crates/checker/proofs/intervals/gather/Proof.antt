@@ -32,36 +32,15 @@ inside c = omega arith
 loop-holds : tie.Need-loop-holds Inv-loop μ-loop
 loop-holds c = record { some = c .pre; at = λ J Ω h l. none-gathered J Ω; small = omega arith }
 
-mul-p : tie.Need-mul-p Inv-loop μ-loop
-mul-p c = search needs
-
-element-copy-out-p : tie.Need-element-copy-out-p Inv-loop μ-loop
-element-copy-out-p c = search needs
-
 cast-p : tie.Need-cast-p Inv-loop μ-loop
 cast-p c =
     let v = c .before .before .loop .inv .some in
     record { fits = duration-fits (v .2) (v .3) (c .before .before .loop .i) (inside (c .before)) }
 
-element-copy-out-with : tie.Need-element-copy-out-with Inv-loop μ-loop
-element-copy-out-with c = search needs
-
-mul-with : tie.Need-mul-with Inv-loop μ-loop
-mul-with c = search needs
-
-element-copy-out-with-2 : tie.Need-element-copy-out-with-2 Inv-loop μ-loop
-element-copy-out-with-2 c = search needs
-
 cast-with : tie.Need-cast-with Inv-loop μ-loop
 cast-with c =
     let v = c .before .before .before .before .loop .inv .some in
     record { fits = start-fits (v .2) (v .3) (c .before .before .before .before .loop .i) (inside (c .before .before .before)) }
-
-mul-with-2 : tie.Need-mul-with-2 Inv-loop μ-loop
-mul-with-2 c = search needs
-
-element-copy-out-with-3 : tie.Need-element-copy-out-with-3 Inv-loop μ-loop
-element-copy-out-with-3 c = search needs
 
 cast-with-2 : tie.Need-cast-with-2 Inv-loop μ-loop
 cast-with-2 c =
@@ -81,12 +60,6 @@ with-requires c κs =
     let d = getD (c .before .before .before .before .before .before .args .durations .now) i 0 in
     subst (λ (x : Interval). x .p + d < 2 ^ 64) (sym (w .at (v .0) (v .1) (v .2) (v .3))) (sum-fits (v .2) (v .3) i (inside (c .before .before .before .before)))
 
-add-i : tie.Need-add-i Inv-loop μ-loop
-add-i c = search needs
-
-loop-less : tie.Need-loop-less Inv-loop μ-loop
-loop-less c = search needs
-
 loop-again : tie.Need-loop-again Inv-loop μ-loop
 loop-again c =
     let l = c .before .before .before .before .before .before .loop in
@@ -104,22 +77,6 @@ pub gather-spec : {M : Type 1} → statement M
 gather-spec =
     tie.close
     (tie.spec
-    Inv-loop
-    μ-loop
-    loop-holds
-    mul-p
-    element-copy-out-p
-    cast-p
-    element-copy-out-with
-    mul-with
-    element-copy-out-with-2
-    cast-with
-    mul-with-2
-    element-copy-out-with-3
-    cast-with-2
-    add-with
-    with-requires
-    add-i
-    loop-less
-    loop-again
-    returns)
+    Inv-loop μ-loop loop-holds (λ c. search needs) (λ c. search needs) cast-p (λ c. search needs) (λ c. search needs)
+    (λ c. search needs) cast-with (λ c. search needs) (λ c. search needs) cast-with-2 add-with with-requires
+    (λ c. search needs) (λ c. search needs) loop-again returns)

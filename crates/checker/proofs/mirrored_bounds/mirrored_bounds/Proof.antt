@@ -38,21 +38,6 @@ small c = omega (arith, inside c, c .before .before .pre .2 .held .few)
 loop-holds : tie.Need-loop-holds Inv-loop μ-loop
 loop-holds c = (omega arith, sym (filled-none (est-at (c .args .t1) (c .args .durations .now)) (replicate TASKS 0)), sym (filled-none (lst-at (c .args .t1) (c .args .durations .now)) (replicate TASKS 0)))
 
-mul-p : tie.Need-mul-p Inv-loop μ-loop
-mul-p c = search needs
-
-element-copy-out-p : tie.Need-element-copy-out-p Inv-loop μ-loop
-element-copy-out-p c = search needs
-
-element-copy-out-mirrored-moment : tie.Need-element-copy-out-mirrored-moment Inv-loop μ-loop
-element-copy-out-mirrored-moment c = search needs
-
-mul-mirrored-moment : tie.Need-mul-mirrored-moment Inv-loop μ-loop
-mul-mirrored-moment c = search needs
-
-element-copy-out-mirrored-moment-2 : tie.Need-element-copy-out-mirrored-moment-2 Inv-loop μ-loop
-element-copy-out-mirrored-moment-2 c = search needs
-
 mirrored-moment-requires : tie.Need-mirrored-moment-requires Inv-loop μ-loop
 mirrored-moment-requires c κs =
     let i = c .before .before .before .before .loop .i in
@@ -60,39 +45,12 @@ mirrored-moment-requires c κs =
     let q = inside (c .before .before .before) in
     (lasts-one (d .held) (d .late) i q, omega (arith, lst-mirrors (d .held) (d .late) i q, est-mirrors (d .held) (d .late) i q))
 
-mul-est : tie.Need-mul-est Inv-loop μ-loop
-mul-est c = search needs
-
-array-write-est : tie.Need-array-write-est Inv-loop μ-loop
-array-write-est c = search needs
-
-element-copy-out-mirrored-moment-3 : tie.Need-element-copy-out-mirrored-moment-3 Inv-loop μ-loop
-element-copy-out-mirrored-moment-3 c = search needs
-
-mul-mirrored-moment-2 : tie.Need-mul-mirrored-moment-2 Inv-loop μ-loop
-mul-mirrored-moment-2 c = search needs
-
-element-copy-out-mirrored-moment-4 : tie.Need-element-copy-out-mirrored-moment-4 Inv-loop μ-loop
-element-copy-out-mirrored-moment-4 c = search needs
-
 mirrored-moment-requires-2 : tie.Need-mirrored-moment-requires-2 Inv-loop μ-loop
 mirrored-moment-requires-2 c κs =
     let i = c .before .before .before .before .before .before .before .loop .i in
     let (J, Ω, d) = c .before .before .before .before .before .before .before .before .pre in
     let q = inside (c .before .before .before .before .before .before) in
     (lasts-one (d .held) (d .late) i q, omega (arith, lst-mirrors (d .held) (d .late) i q, est-mirrors (d .held) (d .late) i q))
-
-mul-lst : tie.Need-mul-lst Inv-loop μ-loop
-mul-lst c = search needs
-
-array-write-lst : tie.Need-array-write-lst Inv-loop μ-loop
-array-write-lst c = search needs
-
-add-i : tie.Need-add-i Inv-loop μ-loop
-add-i c = search needs
-
-loop-less : tie.Need-loop-less Inv-loop μ-loop
-loop-less c = search needs
 
 loop-again : tie.Need-loop-again Inv-loop μ-loop
 loop-again c =
@@ -114,24 +72,7 @@ pub mirrored-bounds-spec : {M : Type 1} → statement M
 mirrored-bounds-spec =
     tie.close
     (tie.spec
-    Inv-loop
-    μ-loop
-    loop-holds
-    mul-p
-    element-copy-out-p
-    element-copy-out-mirrored-moment
-    mul-mirrored-moment
-    element-copy-out-mirrored-moment-2
-    mirrored-moment-requires
-    mul-est
-    array-write-est
-    element-copy-out-mirrored-moment-3
-    mul-mirrored-moment-2
-    element-copy-out-mirrored-moment-4
-    mirrored-moment-requires-2
-    mul-lst
-    array-write-lst
-    add-i
-    loop-less
-    loop-again
-    returns)
+    Inv-loop μ-loop loop-holds (λ c. search needs) (λ c. search needs) (λ c. search needs) (λ c. search needs)
+    (λ c. search needs) mirrored-moment-requires (λ c. search needs) (λ c. search needs) (λ c. search needs)
+    (λ c. search needs) (λ c. search needs) mirrored-moment-requires-2 (λ c. search needs) (λ c. search needs)
+    (λ c. search needs) (λ c. search needs) loop-again returns)

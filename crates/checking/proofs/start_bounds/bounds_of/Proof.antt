@@ -22,36 +22,6 @@ abbrev μ-loop : tie.MeasureT-loop
 loop-holds : tie.Need-loop-holds Inv-loop μ-loop
 loop-holds c = (omega arith, sym (filled-none (knownAt (c .args .t1)) (replicate TASKS false)), sym (filled-none (estAt (c .args .t1)) (replicate TASKS 0)), sym (filled-none (lstAt (c .args .t1)) (replicate TASKS 0)))
 
-mul-task-bounds : tie.Need-mul-task-bounds Inv-loop μ-loop
-mul-task-bounds c = search needs
-
-element-copy-out-task-bounds : tie.Need-element-copy-out-task-bounds Inv-loop μ-loop
-element-copy-out-task-bounds c = search needs
-
-task-bounds-requires : tie.Need-task-bounds-requires Inv-loop μ-loop
-task-bounds-requires c κs = search needs
-
-array-write-bounded : tie.Need-array-write-bounded Inv-loop μ-loop
-array-write-bounded c = search needs
-
-mul-est : tie.Need-mul-est Inv-loop μ-loop
-mul-est c = search needs
-
-array-write-est : tie.Need-array-write-est Inv-loop μ-loop
-array-write-est c = search needs
-
-mul-lst : tie.Need-mul-lst Inv-loop μ-loop
-mul-lst c = search needs
-
-array-write-lst : tie.Need-array-write-lst Inv-loop μ-loop
-array-write-lst c = search needs
-
-add-i : tie.Need-add-i Inv-loop μ-loop
-add-i c = search needs
-
-loop-less : tie.Need-loop-less Inv-loop μ-loop
-loop-less c = search needs
-
 loop-again : tie.Need-loop-again Inv-loop μ-loop
 loop-again c =
     let start = c .before .before .before .before in
@@ -74,18 +44,6 @@ pub bounds-of-spec : {M : Type 1} → statement M
 bounds-of-spec =
     tie.close
     (tie.spec
-    Inv-loop
-    μ-loop
-    loop-holds
-    mul-task-bounds
-    element-copy-out-task-bounds
-    task-bounds-requires
-    array-write-bounded
-    mul-est
-    array-write-est
-    mul-lst
-    array-write-lst
-    add-i
-    loop-less
-    loop-again
-    returns)
+    Inv-loop μ-loop loop-holds (λ c. search needs) (λ c. search needs) (λ c κs. search needs) (λ c. search needs)
+    (λ c. search needs) (λ c. search needs) (λ c. search needs) (λ c. search needs) (λ c. search needs)
+    (λ c. search needs) loop-again returns)

@@ -8,54 +8,6 @@ use borrow.Author.Needs.{needs}
 use Rattle.checking.proofs.start_bounds.task_bounds.Statement.{statement}
 use Rattle.checking.proofs.start_bounds.task_bounds.Tie as tie
 
-enum-told : tie.Need-enum-told
-enum-told c = search needs
-
-unbounded-requires : tie.Need-unbounded-requires
-unbounded-requires c κs = search needs
-
-enum-told-2 : tie.Need-enum-told-2
-enum-told-2 c = search needs
-
-unbounded-requires-2 : tie.Need-unbounded-requires-2
-unbounded-requires-2 c κs = search needs
-
-enum-known-from : tie.Need-enum-known-from
-enum-known-from c = search needs
-
-enum-told-3 : tie.Need-enum-told-3
-enum-told-3 c = search needs
-
-unbounded-requires-3 : tie.Need-unbounded-requires-3
-unbounded-requires-3 c κs = search needs
-
-enum-told-4 : tie.Need-enum-told-4
-enum-told-4 c = search needs
-
-unbounded-requires-4 : tie.Need-unbounded-requires-4
-unbounded-requires-4 c κs = search needs
-
-enum-known-to : tie.Need-enum-known-to
-enum-known-to c = search needs
-
-moment-of-requires : tie.Need-moment-of-requires
-moment-of-requires c κs = search needs
-
-moment-of-requires-2 : tie.Need-moment-of-requires-2
-moment-of-requires-2 c κs = search needs
-
-returns : tie.Need-returns
-returns c = search needs
-
-returns-2 : tie.Need-returns-2
-returns-2 c = search needs
-
-returns-3 : tie.Need-returns-3
-returns-3 c = search needs
-
-returns-4 : tie.Need-returns-4
-returns-4 c = search needs
-
 returns-5 : tie.Need-returns-5
 returns-5 c =
     let a = c .before .before .before .before .before .before .from .given in
@@ -69,20 +21,7 @@ pub task-bounds-spec : {M : Type 1} → statement M
 task-bounds-spec =
     tie.close
     (tie.spec
-    enum-told
-    unbounded-requires
-    enum-told-2
-    unbounded-requires-2
-    enum-known-from
-    enum-told-3
-    unbounded-requires-3
-    enum-told-4
-    unbounded-requires-4
-    enum-known-to
-    moment-of-requires
-    moment-of-requires-2
-    returns
-    returns-2
-    returns-3
-    returns-4
-    returns-5)
+    (λ c. search needs) (λ c κs. search needs) (λ c. search needs) (λ c κs. search needs) (λ c. search needs)
+    (λ c. search needs) (λ c κs. search needs) (λ c. search needs) (λ c κs. search needs) (λ c. search needs)
+    (λ c κs. search needs) (λ c κs. search needs) (λ c. search needs) (λ c. search needs) (λ c. search needs)
+    (λ c. search needs) returns-5)

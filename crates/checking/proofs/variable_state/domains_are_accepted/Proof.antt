@@ -25,27 +25,12 @@ abbrev μ-loop : tie.MeasureT-loop
 loop-holds : tie.Need-loop-holds Inv-loop μ-loop
 loop-holds c = (omega arith, (refl, below-none _))
 
-mul-domain : tie.Need-mul-domain Inv-loop μ-loop
-mul-domain c = search needs
-
-array-copy-out-domain : tie.Need-array-copy-out-domain Inv-loop μ-loop
-array-copy-out-domain c = search needs
-
-is-accepted-requires : tie.Need-is-accepted-requires Inv-loop μ-loop
-is-accepted-requires c κs = search needs
-
 returns : tie.Need-returns Inv-loop μ-loop
 returns c =
     let s = c .before .before .before .before .before in
     let l = c .before .before .before .before .loop in
     let n : acceptedDomain (getD (s .args .t1) (l .i) noDomain) ≡ false = sym (c .before .is-accepted .ensures .0) ∙ not-true (c .before .is-accepted .result) (c .if1 .taken) in
     (sym (sym (l .inv .1 .0) ∙ accepted-on (s .args .t1) (l .i) (omega (arith, s .good .0 .1 .0 .1)) ∙ rw n), never)
-
-add-i : tie.Need-add-i Inv-loop μ-loop
-add-i c = search needs
-
-loop-less : tie.Need-loop-less Inv-loop μ-loop
-loop-less c = search needs
 
 loop-again : tie.Need-loop-again Inv-loop μ-loop
 loop-again c =
@@ -67,14 +52,5 @@ pub domains-are-accepted-spec : {M : Type 1} → statement M
 domains-are-accepted-spec =
     tie.close
     (tie.spec
-    Inv-loop
-    μ-loop
-    loop-holds
-    mul-domain
-    array-copy-out-domain
-    is-accepted-requires
-    returns
-    add-i
-    loop-less
-    loop-again
-    returns-2)
+    Inv-loop μ-loop loop-holds (λ c. search needs) (λ c. search needs) (λ c κs. search needs) returns
+    (λ c. search needs) (λ c. search needs) loop-again returns-2)

@@ -75,12 +75,6 @@ put-chosen-requires c κs =
     let v = at .before .before .loop .inv in
     may at (takes (v .colourable) (at .before .before .loop .x) (inside (at .before)) (v .tree (v .colourable)))
 
-add-x : tie.Need-add-x Inv-loop μ-loop
-add-x c = search needs
-
-loop-less : tie.Need-loop-less Inv-loop μ-loop
-loop-less c = search needs
-
 loop-again : tie.Need-loop-again Inv-loop μ-loop
 loop-again c =
     let at = c .before .before .before .before .before in
@@ -94,17 +88,6 @@ pub fill-spec : {M : Type 1} → statement M
 fill-spec =
     tie.close
     (tie.spec
-    Inv-loop
-    μ-loop
-    loop-holds
-    task-of-requires
-    element-copy-out-put-chosen
-    mul-put-chosen
-    element-copy-out-put-chosen-2
-    mul-put-chosen-2
-    element-copy-out-put-chosen-3
-    put-chosen-requires
-    add-x
-    loop-less
-    loop-again
-    returns)
+    Inv-loop μ-loop loop-holds task-of-requires element-copy-out-put-chosen mul-put-chosen
+    element-copy-out-put-chosen-2 mul-put-chosen-2 element-copy-out-put-chosen-3 put-chosen-requires
+    (λ c. search needs) (λ c. search needs) loop-again returns)

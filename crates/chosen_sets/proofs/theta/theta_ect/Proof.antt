@@ -21,27 +21,14 @@ abbrev ready : (c : tie.After-new) → let a = start c .args in (J : Tasks natur
     → Colourable (c .new .result .«number_of_internal_nodes») (a .n) (c .new .result .nodes) (sorted c .sort-numbers .last .0) (a .chosen .now) (a .est .now) (a .durations .now)
 ready c J Ω h = colourable h (sorted c .sort-numbers .ensures) (c .new .ensures)
 
-sort-numbers-requires : tie.Need-sort-numbers-requires
-sort-numbers-requires c κs = search needs
-
 new-requires : tie.Need-new-requires
 new-requires c κs = let s = c .before .before .before in (s .pre .2 .few, sorted-permutes (c .before .sort-numbers .ensures))
 
 fill-requires : tie.Need-fill-requires
 fill-requires c κs = let s = c .before .before .before in ready s (start s .pre .0) (start s .pre .1) (start s .pre .2)
 
-ect-requires : tie.Need-ect-requires
-ect-requires c κs = search needs
-
 returns : tie.Need-returns
 returns c = λ J Ω h. c .ect .ensures ∙ root-ect h (c .before .before .fill .ensures (ready (c .before .before .before .before .before .before) J Ω h))
 
 pub theta-ect-spec : {M : Type 1} → statement M
-theta-ect-spec =
-    tie.close
-    (tie.spec
-    sort-numbers-requires
-    new-requires
-    fill-requires
-    ect-requires
-    returns)
+theta-ect-spec = tie.close (tie.spec (λ c κs. search needs) new-requires fill-requires (λ c κs. search needs) returns)

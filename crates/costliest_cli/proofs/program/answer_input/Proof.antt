@@ -6,15 +6,6 @@ use borrow.Author.Needs.{needs}
 use Rattle.costliest_cli.proofs.program.answer_input.Statement.{statement}
 use Rattle.costliest_cli.proofs.program.answer_input.Tie as tie
 
-read-numbers-requires : tie.Need-read-numbers-requires
-read-numbers-requires c κs = search needs
-
-put-answer-requires : tie.Need-put-answer-requires
-put-answer-requires c κs = search needs
-
-same-length : tie.Need-same-length
-same-length c = search needs
-
 returns : tie.Need-returns
 unfolding written
 returns c =
@@ -23,5 +14,4 @@ returns c =
     (t .0, printing.written (e .0 (numbersOf (t .0)) (t .1)) (e .1))
 
 pub answer-input-spec : {M : Type 1} → statement M
-answer-input-spec =
-    tie.close (tie.spec read-numbers-requires put-answer-requires same-length returns)
+answer-input-spec = tie.close (tie.spec (λ c κs. search needs) (λ c κs. search needs) (λ c. search needs) returns)

@@ -6,15 +6,6 @@ use borrow.Author.Needs.{needs}
 use Rattle.costliest_cli.proofs.program.print.Statement.{statement}
 use Rattle.costliest_cli.proofs.program.print.Tie as tie
 
-numbers-of-requires : tie.Need-numbers-of-requires
-numbers-of-requires c κs = search needs
-
-put-answer-requires : tie.Need-put-answer-requires
-put-answer-requires c κs = search needs
-
-same-length : tie.Need-same-length
-same-length c = search needs
-
 returns : tie.Need-returns
 unfolding written
 returns c =
@@ -22,4 +13,4 @@ returns c =
     printing.written (e .0 (numbersOf (c .before .before .before .before .before .before .before .args .text .now)) (c .before .before .before .numbers-of .ensures)) (e .1)
 
 pub print-spec : {M : Type 1} → statement M
-print-spec = tie.close (tie.spec numbers-of-requires put-answer-requires same-length returns)
+print-spec = tie.close (tie.spec (λ c κs. search needs) (λ c κs. search needs) (λ c. search needs) returns)

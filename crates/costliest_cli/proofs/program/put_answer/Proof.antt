@@ -10,21 +10,6 @@ use borrow.Author.Needs.{needs}
 use Rattle.costliest_cli.proofs.program.put_answer.Statement.{statement}
 use Rattle.costliest_cli.proofs.program.put_answer.Tie as tie
 
-size-asked-requires : tie.Need-size-asked-requires
-size-asked-requires c κs = search needs
-
-enum-known-size : tie.Need-enum-known-size
-enum-known-size c = search needs
-
-enum-told : tie.Need-enum-told
-enum-told c = search needs
-
-put-refused-requires : tie.Need-put-refused-requires
-put-refused-requires c κs = search needs
-
-same-length : tie.Need-same-length
-same-length c = search needs
-
 returns : tie.Need-returns
 returns c = (
   λ xs h. puts-as (ap answerLines (sym (c .before .before .before .before .enum-told .given .1) ∙ c .before .before .before .before .before .before .size-asked .ensures .0 xs h)) (c .before .before .put-refused .ensures .0),
@@ -33,9 +18,6 @@ returns c = (
 
 put-instance-requires : tie.Need-put-instance-requires
 put-instance-requires c κs = let few : c .before .before .size .given .0 .0 ≤ TASKS = subst Fits (c .before .before .size .given .1) (c .before .before .before .before .size-asked .ensures .1) in (few, omega (arith, few, c .before .before .before .before .before .before .pre))
-
-same-length-2 : tie.Need-same-length-2
-same-length-2 c = search needs
 
 returns-2 : tie.Need-returns-2
 returns-2 c =
@@ -48,12 +30,5 @@ pub put-answer-spec : {M : Type 1} → statement M
 put-answer-spec =
     tie.close
     (tie.spec
-    size-asked-requires
-    enum-known-size
-    enum-told
-    put-refused-requires
-    same-length
-    returns
-    put-instance-requires
-    same-length-2
-    returns-2)
+    (λ c κs. search needs) (λ c. search needs) (λ c. search needs) (λ c κs. search needs) (λ c. search needs) returns
+    put-instance-requires (λ c. search needs) returns-2)

@@ -24,20 +24,11 @@ returns c = (λ xs h. invalid (c .before .before .args .numbers) xs h (not-true 
 returns-2 : tie.Need-returns-2
 returns-2 c = (λ xs h. not-one (c .before .before .before .before .args .numbers) xs h (λ z. absurd (omega (arith, z, c .if2 .taken))), tt)
 
-array-copy-out-first : tie.Need-array-copy-out-first
-array-copy-out-first c = search needs
-
-at-most-requires : tie.Need-at-most-requires
-at-most-requires c κs = search needs
-
 returns-3 : tie.Need-returns-3
 returns-3 c = (λ xs h. low (c .before .before .before .before .before .before .before .before .args .numbers) xs h (ap (leZ (pos 1)) (sym (first-is (c .before .before))) ∙ sym (c .before .at-most .ensures) ∙ not-true _ (c .if3 .taken)), tt)
 
 nat-of-requires : tie.Need-nat-of-requires
 nat-of-requires c κs = not-negative _ (sym (c .before .at-most .ensures) ∙ not-false _ (c .if3 .left))
-
-cast-n : tie.Need-cast-n
-cast-n c = search needs
 
 returns-4 : tie.Need-returns-4
 returns-4 c = (λ xs h. high (c .before .before .before .before .before .before .before .before .before .before .args .numbers) (c .before .nat-of .result) (c .before .nat-of .ensures ∙ first-is (c .before .before .before .before)) xs h (omega (arith, c .if4 .taken)), tt)
@@ -53,12 +44,5 @@ pub size-asked-spec : {M : Type 1} → statement M
 size-asked-spec =
     tie.close
     (tie.spec
-    returns
-    returns-2
-    array-copy-out-first
-    at-most-requires
-    returns-3
-    nat-of-requires
-    cast-n
-    returns-4
-    returns-5)
+    returns returns-2 (λ c. search needs) (λ c κs. search needs) returns-3 nat-of-requires (λ c. search needs)
+    returns-4 returns-5)

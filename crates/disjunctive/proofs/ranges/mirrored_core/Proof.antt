@@ -28,15 +28,6 @@ array-borrow-prefix-latest c = omega (arith, all-latest (c .before .before .befo
 slice-aggregate-propagate-mirrored-2 : tie.Need-slice-aggregate-propagate-mirrored-2
 slice-aggregate-propagate-mirrored-2 c = sym (length-take-le _ _ (omega (arith, all-latest (c .before .before .before .before))))
 
-propagate-mirrored-requires : tie.Need-propagate-mirrored-requires
-propagate-mirrored-requires c κs = search needs
-
-same-length : tie.Need-same-length
-same-length c = search needs
-
-same-length-2 : tie.Need-same-length-2
-same-length-2 c = search needs
-
 returns : tie.Need-returns
 returns c =
     let p = c .before .before .before in
@@ -54,11 +45,5 @@ pub mirrored-core-spec : {M : Type 1} → statement M
 mirrored-core-spec =
     tie.close
     (tie.spec
-    array-share-prefix-earliest
-    slice-aggregate-propagate-mirrored
-    array-borrow-prefix-latest
-    slice-aggregate-propagate-mirrored-2
-    propagate-mirrored-requires
-    same-length
-    same-length-2
-    returns)
+    array-share-prefix-earliest slice-aggregate-propagate-mirrored array-borrow-prefix-latest
+    slice-aggregate-propagate-mirrored-2 (λ c κs. search needs) (λ c. search needs) (λ c. search needs) returns)

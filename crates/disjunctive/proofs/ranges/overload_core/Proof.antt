@@ -28,19 +28,9 @@ array-share-prefix-latest c = omega (arith, all-latest (c .before .before .befor
 slice-aggregate-overload-test-2 : tie.Need-slice-aggregate-overload-test-2
 slice-aggregate-overload-test-2 c = sym (length-take-le _ _ (omega (arith, all-latest (c .before .before .before .before))))
 
-overload-test-requires : tie.Need-overload-test-requires
-overload-test-requires c κs = search needs
-
-returns : tie.Need-returns
-returns c = search needs
-
 pub overload-core-spec : {M : Type 1} → statement M
 overload-core-spec =
     tie.close
     (tie.spec
-    array-share-prefix-earliest
-    slice-aggregate-overload-test
-    array-share-prefix-latest
-    slice-aggregate-overload-test-2
-    overload-test-requires
-    returns)
+    array-share-prefix-earliest slice-aggregate-overload-test array-share-prefix-latest
+    slice-aggregate-overload-test-2 (λ c κs. search needs) (λ c. search needs))

@@ -28,15 +28,6 @@ array-share-prefix-latest c = omega (arith, all-latest (c .before .before .befor
 slice-aggregate-propagate-2 : tie.Need-slice-aggregate-propagate-2
 slice-aggregate-propagate-2 c = sym (length-take-le _ _ (omega (arith, all-latest (c .before .before .before .before))))
 
-propagate-requires : tie.Need-propagate-requires
-propagate-requires c κs = search needs
-
-same-length : tie.Need-same-length
-same-length c = search needs
-
-same-length-2 : tie.Need-same-length-2
-same-length-2 c = search needs
-
 returns : tie.Need-returns
 returns c =
     let p = c .before .before .before .before in
@@ -54,11 +45,5 @@ pub run-core-spec : {M : Type 1} → statement M
 run-core-spec =
     tie.close
     (tie.spec
-    array-borrow-prefix-earliest
-    slice-aggregate-propagate
-    array-share-prefix-latest
-    slice-aggregate-propagate-2
-    propagate-requires
-    same-length
-    same-length-2
-    returns)
+    array-borrow-prefix-earliest slice-aggregate-propagate array-share-prefix-latest slice-aggregate-propagate-2
+    (λ c κs. search needs) (λ c. search needs) (λ c. search needs) returns)

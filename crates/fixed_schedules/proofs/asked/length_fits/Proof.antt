@@ -6,11 +6,8 @@ use Rattle.fixed_schedules.specs.Asked.{lengthFits}
 use Rattle.fixed_schedules.proofs.asked.length_fits.Statement.{statement}
 use Rattle.fixed_schedules.proofs.asked.length_fits.Tie as tie
 
-within-requires : tie.Need-within-requires
-within-requires c κs = search needs
-
 returns : tie.Need-returns
 returns c = c .within .ensures ∙ ap lengthFits (back (c .before .fits .d))
 
 pub length-fits-spec : {M : Type 1} → statement M
-length-fits-spec = tie.close (tie.spec within-requires returns)
+length-fits-spec = tie.close (tie.spec (λ c κs. search needs) returns)

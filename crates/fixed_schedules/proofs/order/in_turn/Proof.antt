@@ -51,20 +51,8 @@ seen c =
 loop-holds : tie.Need-loop-holds Inv-loop μ-loop
 loop-holds c = (omega arith, all-none _)
 
-add-loop : tie.Need-add-loop Inv-loop μ-loop
-add-loop c = search needs
-
-mul-task : tie.Need-mul-task Inv-loop μ-loop
-mul-task c = search needs
-
 element-copy-out-task : tie.Need-element-copy-out-task Inv-loop μ-loop
 element-copy-out-task c = omega (arith, c .before .before .pre .started .few)
-
-add-next : tie.Need-add-next Inv-loop μ-loop
-add-next c = search needs
-
-mul-next : tie.Need-mul-next Inv-loop μ-loop
-mul-next c = search needs
 
 element-copy-out-next : tie.Need-element-copy-out-next Inv-loop μ-loop
 element-copy-out-next c = omega (arith, c .before .before .before .pre .started .few, c .before .loop-test .taken)
@@ -74,9 +62,6 @@ mul-moment-of c = record { fits = omega (arith, task-small (c .before .before), 
 
 shared-slice-copy-out-moment-of : tie.Need-shared-slice-copy-out-moment-of Inv-loop μ-loop
 shared-slice-copy-out-moment-of c = task-small (c .before .before)
-
-moment-of-requires : tie.Need-moment-of-requires Inv-loop μ-loop
-moment-of-requires c κs = search needs
 
 mul-end : tie.Need-mul-end Inv-loop μ-loop
 mul-end c = record { fits = omega (arith, task-small (c .before .before .before .before), c .before .before .before .before .before .before .pre .started .few) }
@@ -97,20 +82,11 @@ mul-moment-of-2 c = record { fits = omega (arith, next-small (c .before .before 
 shared-slice-copy-out-moment-of-2 : tie.Need-shared-slice-copy-out-moment-of-2 Inv-loop μ-loop
 shared-slice-copy-out-moment-of-2 c = next-small (c .before .before .before .before .before)
 
-moment-of-requires-2 : tie.Need-moment-of-requires-2 Inv-loop μ-loop
-moment-of-requires-2 c κs = search needs
-
 returns : tie.Need-returns Inv-loop μ-loop
 returns c =
     let s = c .before .before .before .before .before .before .before .before in
     let start = s .before in
     sym (all-broken _ _ (start .loop .i) (omega (arith, s .loop-test .taken)) (sym (seen (c .before)) ∙ lt-leb _ _ (c .if1 .taken)))
-
-add-i : tie.Need-add-i Inv-loop μ-loop
-add-i c = search needs
-
-loop-less : tie.Need-loop-less Inv-loop μ-loop
-loop-less c = search needs
 
 loop-again : tie.Need-loop-again Inv-loop μ-loop
 loop-again c =
@@ -128,26 +104,7 @@ pub in-turn-spec : {M : Type 1} → statement M
 in-turn-spec =
     tie.close
     (tie.spec
-    Inv-loop
-    μ-loop
-    loop-holds
-    add-loop
-    mul-task
-    element-copy-out-task
-    add-next
-    mul-next
-    element-copy-out-next
-    mul-moment-of
-    shared-slice-copy-out-moment-of
-    moment-of-requires
-    mul-end
-    element-copy-out-end
-    add-end
-    mul-moment-of-2
-    shared-slice-copy-out-moment-of-2
-    moment-of-requires-2
-    returns
-    add-i
-    loop-less
-    loop-again
-    returns-2)
+    Inv-loop μ-loop loop-holds (λ c. search needs) (λ c. search needs) element-copy-out-task (λ c. search needs)
+    (λ c. search needs) element-copy-out-next mul-moment-of shared-slice-copy-out-moment-of (λ c κs. search needs)
+    mul-end element-copy-out-end add-end mul-moment-of-2 shared-slice-copy-out-moment-of-2 (λ c κs. search needs)
+    returns (λ c. search needs) (λ c. search needs) loop-again returns-2)

@@ -27,9 +27,6 @@ module _ (es ls : List ℤ) (n : ℕ) where
   one-too : allBelow (rangeFitsAt es ls) n ≡ true → allBelow (rangeFitsAt ls es) n ≡ allBelow (oneStartAt es ls) n
   one-too h = all-ext (rangeFitsAt ls es) (oneStartAt es ls) n (λ k q. sym (and-is (rangeFitsAt es ls k) (rangeFitsAt ls es k) (all-at (rangeFitsAt es ls) n h k q)))
 
-ranges-fit-requires : tie.Need-ranges-fit-requires
-ranges-fit-requires c κs = search needs
-
 returns : tie.Need-returns
 returns c = let a = c .before .before .args in
     sym (not-one (a .earliest .now) (a .latest .now) (length (a .earliest .now)) (sym (c .before .ranges-fit .ensures) ∙ not-true _ (c .if1 .taken)))
@@ -46,4 +43,4 @@ returns-2 c =
     c .ranges-fit2 .ensures ∙ ap (allBelow (rangeFitsAt ls es)) same ∙ one-too es ls (length es) (sym (c .before .before .ranges-fit .ensures) ∙ not-false _ (c .before .if1 .left))
 
 pub one-start-spec : {M : Type 1} → statement M
-one-start-spec = tie.close (tie.spec ranges-fit-requires returns ranges-fit-requires-2 returns-2)
+one-start-spec = tie.close (tie.spec (λ c κs. search needs) returns ranges-fit-requires-2 returns-2)

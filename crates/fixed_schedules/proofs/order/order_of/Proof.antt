@@ -5,16 +5,10 @@ use Rattle.fixed_schedules.proofs.Placing.{order-is}
 use Rattle.fixed_schedules.proofs.order.order_of.Statement.{statement}
 use Rattle.fixed_schedules.proofs.order.order_of.Tie as tie
 
-moments-of-requires : tie.Need-moments-of-requires
-moments-of-requires c κs = search needs
-
-sort-numbers-requires : tie.Need-sort-numbers-requires
-sort-numbers-requires c κs = search needs
-
 returns : tie.Need-returns
 returns c =
     let s = c .before .before .before .before .before in
     order-is (s .args .earliest .now) (c .before .before .before .moments-of .last .0) (c .sort-numbers .last .0) (s .pre) (c .before .before .before .moments-of .ensures) (c .sort-numbers .ensures)
 
 pub order-of-spec : {M : Type 1} → statement M
-order-of-spec = tie.close (tie.spec moments-of-requires sort-numbers-requires returns)
+order-of-spec = tie.close (tie.spec (λ c κs. search needs) (λ c κs. search needs) returns)

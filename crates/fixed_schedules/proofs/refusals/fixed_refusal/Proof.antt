@@ -33,9 +33,6 @@ pairs c = let a = c .before .before .before .before .before .before .before .bef
 apart : (c : tie.Else3) → let a = c .before .before .before .before .before .before .before .before .before .before .before .before .args in allApart (a .t1 .durations) (a .earliest .now) (length (a .earliest .now)) ≡ true
 apart c = sym (pairs (c .before)) ∙ not-false _ (c .if3 .left)
 
-range-refusal-requires : tie.Need-range-refusal-requires
-range-refusal-requires c κs = search needs
-
 returns : tie.Need-returns
 returns c =
     let a = c .before .before .before .before .args in
@@ -67,11 +64,4 @@ pub fixed-refusal-spec : {M : Type 1} → statement M
 fixed-refusal-spec =
     tie.close
     (tie.spec
-    range-refusal-requires
-    returns
-    one-start-requires
-    returns-2
-    order-of-requires
-    in-turn-requires
-    returns-3
-    returns-4)
+    (λ c κs. search needs) returns one-start-requires returns-2 order-of-requires in-turn-requires returns-3 returns-4)

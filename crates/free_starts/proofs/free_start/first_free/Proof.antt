@@ -27,15 +27,6 @@ loop-holds c =
     let s = c in
     (omega arith, omega (arith, s .pre .moment), begins (inMoments (s .args .n) (s .args .starts .now) (s .args .durations .now)) (λ p. getD (s .args .order .now) p 0) (s .pre .place) (s .pre .by-start) (s .args .t) (s .args .d))
 
-mul-task : tie.Need-mul-task Inv-loop μ-loop
-mul-task c = search needs
-
-element-copy-out-task : tie.Need-element-copy-out-task Inv-loop μ-loop
-element-copy-out-task c = search needs
-
-add-if1 : tie.Need-add-if1 Inv-loop μ-loop
-add-if1 c = search needs
-
 mul-if1 : tie.Need-mul-if1 Inv-loop μ-loop
 mul-if1 c = record { fits = omega (arith, small (c .before), c .before .before .before .pre .few) }
 
@@ -65,12 +56,6 @@ add-end c =
     let s = c .before .before .before .before .before .before .before in
     record { fits = omega (arith, s .pre .ends (getD (s .args .order .now) (c .before .before .before .before .before .before .loop .i) 0) (small (c .before .before .before .before .before))) }
 
-add-i : tie.Need-add-i Inv-loop μ-loop
-add-i c = search needs
-
-loop-less : tie.Need-loop-less Inv-loop μ-loop
-loop-less c = search needs
-
 loop-again : tie.Need-loop-again Inv-loop μ-loop
 loop-again c =
     let s = c .before .before .before .before .before .before .before .before in
@@ -99,21 +84,6 @@ pub first-free-spec : {M : Type 1} → statement M
 first-free-spec =
     tie.close
     (tie.spec
-    Inv-loop
-    μ-loop
-    loop-holds
-    mul-task
-    element-copy-out-task
-    add-if1
-    mul-if1
-    element-copy-out-if1
-    returns
-    mul-end
-    element-copy-out-end
-    mul-end-2
-    element-copy-out-end-2
-    add-end
-    add-i
-    loop-less
-    loop-again
-    returns-2)
+    Inv-loop μ-loop loop-holds (λ c. search needs) (λ c. search needs) (λ c. search needs) mul-if1
+    element-copy-out-if1 returns mul-end element-copy-out-end mul-end-2 element-copy-out-end-2 add-end
+    (λ c. search needs) (λ c. search needs) loop-again returns-2)

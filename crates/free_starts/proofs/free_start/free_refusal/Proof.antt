@@ -20,24 +20,15 @@ lasting c = c .length-fits .ensures ∙ ap lengthFits (back (c .before .before .
 asked : (c : tie.After-moment-fits) → c .moment-fits .result ≡ momentFits (c .before .before .before .before .before .args .t)
 asked c = c .moment-fits .ensures ∙ ap momentFits (back (c .before .before .before .before .before .fits .t))
 
-fixed-refusal-requires : tie.Need-fixed-refusal-requires
-fixed-refusal-requires c κs = search needs
-
 returns : tie.Need-returns
 returns c =
     let a = c .before .before .args in
     c .before .fixed-refusal .ensures ∙ sym (schedule-first (a .«record») (a .earliest .now) (a .latest .now) (a .t) (a .d) (λ z. c .if1 .taken (c .before .fixed-refusal .ensures ∙ z)))
 
-length-fits-requires : tie.Need-length-fits-requires
-length-fits-requires c κs = search needs
-
 returns-2 : tie.Need-returns-2
 returns-2 c =
     let a = c .before .before .before .before .args in
     sym (wrong-length (a .«record») (a .earliest .now) (a .latest .now) (a .t) (a .d) (number (c .before .before)) (sym (lasting (c .before)) ∙ not-true _ (c .if2 .taken)))
-
-moment-fits-requires : tie.Need-moment-fits-requires
-moment-fits-requires c κs = search needs
 
 returns-3 : tie.Need-returns-3
 returns-3 c =
@@ -53,10 +44,4 @@ pub free-refusal-spec : {M : Type 1} → statement M
 free-refusal-spec =
     tie.close
     (tie.spec
-    fixed-refusal-requires
-    returns
-    length-fits-requires
-    returns-2
-    moment-fits-requires
-    returns-3
-    returns-4)
+    (λ c κs. search needs) returns (λ c κs. search needs) returns-2 (λ c κs. search needs) returns-3 returns-4)

@@ -39,9 +39,6 @@ from c = c .moment-of .ensures ∙ ap (moment zeroAt) (back (c .before .before .
 lasting : (c : tie.After-nat-of) → pos (c .nat-of .result) ≡ c .before .before .before .before .before .before .before .args .d
 lasting c = c .nat-of .ensures ∙ back (c .before .before .before .before .before .before .before .fits .d)
 
-free-refusal-requires : tie.Need-free-refusal-requires
-free-refusal-requires c κs = search needs
-
 returns : tie.Need-returns
 returns c = let a = c .before .before .args in refused (a .t1) (a .earliest .now) (a .latest .now) (a .t) (a .d) _ (said (c .before)) (c .if1 .taken)
 
@@ -50,9 +47,6 @@ order-of-requires c κs = let a = c .before .before .args in started (a .t1) (a 
 
 moments-of-requires : tie.Need-moments-of-requires
 moments-of-requires c κs = let h = held (c .before .before) .0 in omega (arith, h .counts .earliest, h .lawful .few)
-
-moment-of-requires : tie.Need-moment-of-requires
-moment-of-requires c κs = search needs
 
 nat-of-requires : tie.Need-nat-of-requires
 unfolding up dn
@@ -65,9 +59,6 @@ first-free-requires c κs =
     let a = c .before .before .before .before .before .before .before .before .before .before .before .args in
     let h = held start in
     askable (a .t1) (a .earliest .now) (a .latest .now) (a .t) (a .d) (h .0) (h .1) _ (c .before .before .before .before .before .before .moments-of .ensures) _ _ (from (c .before .before .before .before .before)) (lasting (c .before .before .before .before)) _ (s .order-of .ensures)
-
-start-of-requires : tie.Need-start-of-requires
-start-of-requires c κs = search needs
 
 returns-2 : tie.Need-returns-2
 returns-2 c =
@@ -82,12 +73,5 @@ pub free-start-spec : {M : Type 1} → statement M
 free-start-spec =
     tie.close
     (tie.spec
-    free-refusal-requires
-    returns
-    order-of-requires
-    moments-of-requires
-    moment-of-requires
-    nat-of-requires
-    first-free-requires
-    start-of-requires
-    returns-2)
+    (λ c κs. search needs) returns order-of-requires moments-of-requires (λ c κs. search needs) nat-of-requires
+    first-free-requires (λ c κs. search needs) returns-2)

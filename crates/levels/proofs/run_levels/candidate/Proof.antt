@@ -11,12 +11,6 @@ use Rattle.levels.proofs.Posting.{candidate-none, candidate-some}
 use Rattle.levels.proofs.run_levels.candidate.Statement.{statement}
 use Rattle.levels.proofs.run_levels.candidate.Tie as tie
 
-ect-bar-requires : tie.Need-ect-bar-requires
-ect-bar-requires c κs = search needs
-
-exceeds-requires : tie.Need-exceeds-requires
-exceeds-requires c κs = search needs
-
 -- the test is the definition's
 tested : (x : tie.After-exceeds) → let a = x .before .before .args in x .exceeds .result ≡ exceeds (ectBarIn (a .nodes .now)) (a .lct)
 tested x = x .exceeds .ensures ∙ ap (λ (o : Option ℕ). exceeds o (x .before .before .args .lct)) (x .before .ect-bar .ensures)
@@ -26,9 +20,6 @@ returns c =
     let a = c .before .before .before .args in
     candidate-none (a .nodes .now) (a .inner) (a .height) (a .tasks .now) (a .lct) (sym (tested (c .before)) ∙ not-true (c .before .exceeds .result) (c .if1 .taken))
 
-responsible-ect-bar-requires : tie.Need-responsible-ect-bar-requires
-responsible-ect-bar-requires c κs = search needs
-
 returns-2 : tie.Need-returns-2
 returns-2 c =
     let a = c .before .before .before .before .args in
@@ -36,4 +27,4 @@ returns-2 c =
 
 pub candidate-spec : {M : Type 1} → statement M
 candidate-spec =
-    tie.close (tie.spec ect-bar-requires exceeds-requires returns responsible-ect-bar-requires returns-2)
+    tie.close (tie.spec (λ c κs. search needs) (λ c κs. search needs) returns (λ c κs. search needs) returns-2)

@@ -47,9 +47,6 @@ mul-start c = omega (arith, index c)
 element-copy-out-start : tie.Need-element-copy-out-start
 element-copy-out-start c = index c
 
-raised-start-requires : tie.Need-raised-start-requires
-raised-start-requires c κs = search needs
-
 leaf-of-requires : tie.Need-leaf-of-requires
 leaf-of-requires c κs = index (c .before .before .before)
 
@@ -76,20 +73,11 @@ mul-if2 c = omega (arith, index (c .before .before .before .before .before .befo
 element-copy-out-if2 : tie.Need-element-copy-out-if2
 element-copy-out-if2 c = index (c .before .before .before .before .before .before .before .before .before .before .before)
 
-same-length : tie.Need-same-length
-same-length c = search needs
-
-same-length-2 : tie.Need-same-length-2
-same-length-2 c = search needs
-
 returns-2 : tie.Need-returns-2
 returns-2 c = λ height x s r.
     let post = c .before .before .before .before in
     let at = post .before .before .before .before .before in
     emptied s r (at .before .raised-start .result) (up-to (at .before) (omega arith)) (post .post .ensures) (omega arith) (omega arith)
-
-start-of-requires : tie.Need-start-of-requires
-start-of-requires c κs = search needs
 
 mul-t22 : tie.Need-mul-t22
 mul-t22 c = omega (arith, index (c .before .before .before .before .before .before .before .before .before .before .before .before .before .before))
@@ -103,15 +91,6 @@ remove-from-lambda-requires-2 c κs = place-may (c .before .before .before .befo
 add-changes-2 : tie.Need-add-changes-2
 add-changes-2 c = omega (arith, c .before .before .before .before .before .before .before .before .post .ensures .changes, few-changes (asks (c .before .before .before .before .before .before .before .before .before .before .before .before .before .before .before .before .before) .2))
 
-same-length-3 : tie.Need-same-length-3
-same-length-3 c = search needs
-
-same-length-4 : tie.Need-same-length-4
-same-length-4 c = search needs
-
-same-length-5 : tie.Need-same-length-5
-same-length-5 c = search needs
-
 returns-3 : tie.Need-returns-3
 returns-3 c = λ height x s r.
     let post = c .before .before .before .before .before .before .before .before in
@@ -122,25 +101,7 @@ pub consider-spec : {M : Type 1} → statement M
 consider-spec =
     tie.close
     (tie.spec
-    mul-start
-    element-copy-out-start
-    raised-start-requires
-    leaf-of-requires
-    remove-from-lambda-requires
-    add-changes
-    returns
-    post-requires
-    mul-if2
-    element-copy-out-if2
-    same-length
-    same-length-2
-    returns-2
-    start-of-requires
-    mul-t22
-    slice-set-from-earliest
-    remove-from-lambda-requires-2
-    add-changes-2
-    same-length-3
-    same-length-4
-    same-length-5
-    returns-3)
+    mul-start element-copy-out-start (λ c κs. search needs) leaf-of-requires remove-from-lambda-requires add-changes
+    returns post-requires mul-if2 element-copy-out-if2 (λ c. search needs) (λ c. search needs) returns-2
+    (λ c κs. search needs) mul-t22 slice-set-from-earliest remove-from-lambda-requires-2 add-changes-2
+    (λ c. search needs) (λ c. search needs) (λ c. search needs) returns-3)

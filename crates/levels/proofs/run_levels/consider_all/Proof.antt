@@ -35,26 +35,8 @@ positive c = omega arith
 loop-holds : tie.Need-loop-holds Inv-loop μ-loop
 loop-holds c = record { stood = c .pre; reached = λ s. none-yet s; starts-length = refl; posts-length = refl; atoms-length = refl }
 
-sub-left : tie.Need-sub-left Inv-loop μ-loop
-sub-left c = search needs
-
 candidate-requires : tie.Need-candidate-requires Inv-loop μ-loop
 candidate-requires c κs = let v = c .before .before .loop .inv in can-search (stands (v .stood) (v .reached (v .stood)))
-
-enum-known-next : tie.Need-enum-known-next Inv-loop μ-loop
-enum-known-next c = search needs
-
-enum-told : tie.Need-enum-told Inv-loop μ-loop
-enum-told c = search needs
-
-same-length : tie.Need-same-length Inv-loop μ-loop
-same-length c = search needs
-
-same-length-2 : tie.Need-same-length-2 Inv-loop μ-loop
-same-length-2 c = search needs
-
-same-length-3 : tie.Need-same-length-3 Inv-loop μ-loop
-same-length-3 c = search needs
 
 returns : tie.Need-returns Inv-loop μ-loop
 returns c = λ s.
@@ -68,12 +50,6 @@ consider-requires c κs =
     let r = taken s {f = c .before .before .before .before .before .before .before .before .before .before .loop .left - 1} (positive (c .before .before .before .before .before .before .before .before .before)) (v .reached s) in
     let (x, o) = one-left s r (c .before .before .before .before .before .next .given .0 .0) (sym (c .before .before .before .before .before .next .given .1) ∙ c .before .before .before .before .before .before .before .candidate .ensures) in
     (c .before .before .before .before .before .before .before .before .before .before .before .args .height, x, stands s r, o)
-
-enum-known-turn : tie.Need-enum-known-turn Inv-loop μ-loop
-enum-known-turn c = search needs
-
-loop-less : tie.Need-loop-less Inv-loop μ-loop
-loop-less c = search needs
 
 loop-again : tie.Need-loop-again Inv-loop μ-loop
 loop-again c =
@@ -91,18 +67,6 @@ loop-again c =
       atoms-length = search needs;
     }
 
-enum-known-turn-2 : tie.Need-enum-known-turn-2 Inv-loop μ-loop
-enum-known-turn-2 c = search needs
-
-same-length-4 : tie.Need-same-length-4 Inv-loop μ-loop
-same-length-4 c = search needs
-
-same-length-5 : tie.Need-same-length-5 Inv-loop μ-loop
-same-length-5 c = search needs
-
-same-length-6 : tie.Need-same-length-6 Inv-loop μ-loop
-same-length-6 c = search needs
-
 returns-2 : tie.Need-returns-2 Inv-loop μ-loop
 returns-2 c = λ s.
     let at = c .before .before .before .before .before .before .before .before .before .before .before .before .before .before .before .before .before in
@@ -112,15 +76,6 @@ returns-2 c = λ s.
     one-emptied s r (subst (λ (t : Turn). Considered (stands s r) t (c .before .before .before .before .before .before .consider .last .0) (c .before .before .before .before .before .before .consider .last .1 .0) (c .before .before .before .before .before .before .consider .last .1 .1 .0) (c .before .before .before .before .before .before .consider .last .1 .1 .1 .0)) (c .before .turn2 .given .1)
     (c .before .before .before .before .before .before .consider .ensures (at .before .args .height) x (stands s r) o))
 
-same-length-7 : tie.Need-same-length-7 Inv-loop μ-loop
-same-length-7 c = search needs
-
-same-length-8 : tie.Need-same-length-8 Inv-loop μ-loop
-same-length-8 c = search needs
-
-same-length-9 : tie.Need-same-length-9 Inv-loop μ-loop
-same-length-9 c = search needs
-
 returns-3 : tie.Need-returns-3 Inv-loop μ-loop
 returns-3 c = λ s. ended s (c .before .loop .inv .reached s) (omega arith)
 
@@ -128,27 +83,7 @@ pub consider-all-spec : {M : Type 1} → statement M
 consider-all-spec =
     tie.close
     (tie.spec
-    Inv-loop
-    μ-loop
-    loop-holds
-    sub-left
-    candidate-requires
-    enum-known-next
-    enum-told
-    same-length
-    same-length-2
-    same-length-3
-    returns
-    consider-requires
-    enum-known-turn
-    loop-less
-    loop-again
-    enum-known-turn-2
-    same-length-4
-    same-length-5
-    same-length-6
-    returns-2
-    same-length-7
-    same-length-8
-    same-length-9
-    returns-3)
+    Inv-loop μ-loop loop-holds (λ c. search needs) candidate-requires (λ c. search needs) (λ c. search needs)
+    (λ c. search needs) (λ c. search needs) (λ c. search needs) returns consider-requires (λ c. search needs)
+    (λ c. search needs) loop-again (λ c. search needs) (λ c. search needs) (λ c. search needs) (λ c. search needs)
+    returns-2 (λ c. search needs) (λ c. search needs) (λ c. search needs) returns-3)

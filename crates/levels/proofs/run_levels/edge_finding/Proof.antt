@@ -55,23 +55,11 @@ following c = omega (arith, candidate-small (c .before .loop .inv .begun) (c .be
 loop-holds : tie.Need-loop-holds Inv-loop μ-loop
 loop-holds c = let s = c .pre in record { begun = s; level = λ s. first-level s; small = first-level s .small; count = few s; starts-length = refl; posts-length = refl; atoms-length = refl }
 
-add-loop : tie.Need-add-loop Inv-loop μ-loop
-add-loop c = search needs
-
-mul-j : tie.Need-mul-j Inv-loop μ-loop
-mul-j c = search needs
-
-element-copy-out-j : tie.Need-element-copy-out-j Inv-loop μ-loop
-element-copy-out-j c = search needs
-
 mul-lct-j : tie.Need-mul-lct-j Inv-loop μ-loop
 mul-lct-j c = omega (arith, candidate (c .before))
 
 element-copy-out-lct-j : tie.Need-element-copy-out-lct-j Inv-loop μ-loop
 element-copy-out-lct-j c = candidate (c .before)
-
-overloads-requires : tie.Need-overloads-requires Inv-loop μ-loop
-overloads-requires c κs = search needs
 
 -- the test of the level
 passes : (c : tie.Then1 Inv-loop μ-loop) → end (c .before .before .before .before .before) < nodeAt (c .before .before .before .before .before .before .loop .nodes) 0 .ect
@@ -82,15 +70,6 @@ overload-requires c κs =
     let v = c .before .before .before .before .before .before .before .before .loop .inv in
     let m = more (c .before .before .before .before .before .before .before) in
     (over-asked (v .begun) (v .level (v .begun)) (task (c .before .before .before .before .before .before .before)) (end (c .before .before .before .before .before .before .before)) m refl refl (passes (c .before .before)), v .count, over-inner (v .begun) (v .level (v .begun)) (task (c .before .before .before .before .before .before .before)) (end (c .before .before .before .before .before .before .before)) m refl refl)
-
-same-length : tie.Need-same-length Inv-loop μ-loop
-same-length c = search needs
-
-same-length-2 : tie.Need-same-length-2 Inv-loop μ-loop
-same-length-2 c = search needs
-
-same-length-3 : tie.Need-same-length-3 Inv-loop μ-loop
-same-length-3 c = search needs
 
 returns : tie.Need-returns Inv-loop μ-loop
 returns c = λ s.
@@ -110,15 +89,6 @@ add-changes c =
     let v = c .before .before .before .before .before .before .before .before .before .loop .inv in
     omega (arith, few-changes (v .begun) (v .level (v .begun)) (task (c .before .before .before .before .before .before .before .before)) (end (c .before .before .before .before .before .before .before .before)) (more (c .before .before .before .before .before .before .before .before)) refl refl)
 
-add-index : tie.Need-add-index Inv-loop μ-loop
-add-index c = search needs
-
-mul-lct-next : tie.Need-mul-lct-next Inv-loop μ-loop
-mul-lct-next c = search needs
-
-element-copy-out-lct-next : tie.Need-element-copy-out-lct-next Inv-loop μ-loop
-element-copy-out-lct-next c = search needs
-
 mul-lct-next-2 : tie.Need-mul-lct-next-2 Inv-loop μ-loop
 mul-lct-next-2 c = omega (arith, following (c .before .before .before .before .before .before .before .before .before))
 
@@ -129,12 +99,6 @@ consider-all-requires : tie.Need-consider-all-requires Inv-loop μ-loop
 consider-all-requires c κs =
     let v = c .before .before .before .before .before .before .before .before .before .before .before .before .before .before .before .loop .inv in
     goes-on (v .begun) (v .level (v .begun)) (task (c .before .before .before .before .before .before .before .before .before .before .before .before .before .before)) (end (c .before .before .before .before .before .before .before .before .before .before .before .before .before .before)) (more (c .before .before .before .before .before .before .before .before .before .before .before .before .before .before)) refl refl (quiet (c .before .before .before .before .before .before .before)) (c .before .before .before .before .before .before .before .move-to-lambda .ensures) (getD (c .before .before .before .before .before .before .before .before .before .before .before .before .before .before .before .before .args .lct .now) (getD (c .before .before .before .before .before .before .before .before .before .before .before .before .before .before .before .before .args .candidates .now) (c .before .before .before .before .before .before .before .before .before .before .before .before .before .before .before .loop .index + 1) 0) 0) refl
-
-enum-known-turn : tie.Need-enum-known-turn Inv-loop μ-loop
-enum-known-turn c = search needs
-
-loop-less : tie.Need-loop-less Inv-loop μ-loop
-loop-less c = search needs
 
 loop-again : tie.Need-loop-again Inv-loop μ-loop
 loop-again c =
@@ -154,9 +118,6 @@ loop-again c =
       atoms-length = search needs;
     }
 
-enum-known-turn-2 : tie.Need-enum-known-turn-2 Inv-loop μ-loop
-enum-known-turn-2 c = search needs
-
 same-length-4 : tie.Need-same-length-4 Inv-loop μ-loop
 same-length-4 c = search (needs, c .before .before .before .before .before .before .before .before .before .before .before .before .before .before .before .before .before .before .before .before .before .before .loop .inv .starts-length)
 
@@ -175,15 +136,6 @@ returns-2 c = λ s.
     one-emptied s l (task (c .before .before .before .before .before .before .before .before .before .before .before .before .before .before .before .before .before .before .before .before .before)) (end (c .before .before .before .before .before .before .before .before .before .before .before .before .before .before .before .before .before .before .before .before .before)) (more (c .before .before .before .before .before .before .before .before .before .before .before .before .before .before .before .before .before .before .before .before .before)) refl refl (quiet (c .before .before .before .before .before .before .before .before .before .before .before .before .before .before)) (c .before .before .before .before .before .before .before .before .before .before .before .before .before .before .move-to-lambda .ensures) d refl
     (subst (λ (t : Turn). AllConsidered g t (c .before .before .before .before .before .before .consider-all .last .0) (c .before .before .before .before .before .before .consider-all .last .1 .0) (c .before .before .before .before .before .before .consider-all .last .1 .1 .0) (c .before .before .before .before .before .before .consider-all .last .1 .1 .1 .0)) (c .before .turn2 .given .1) (c .before .before .before .before .before .before .consider-all .ensures g))
 
-same-length-7 : tie.Need-same-length-7 Inv-loop μ-loop
-same-length-7 c = search needs
-
-same-length-8 : tie.Need-same-length-8 Inv-loop μ-loop
-same-length-8 c = search needs
-
-same-length-9 : tie.Need-same-length-9 Inv-loop μ-loop
-same-length-9 c = search needs
-
 returns-3 : tie.Need-returns-3 Inv-loop μ-loop
 returns-3 c = λ s. all-done s (c .before .loop .inv .level s) (omega arith)
 
@@ -191,37 +143,9 @@ pub edge-finding-spec : {M : Type 1} → statement M
 edge-finding-spec =
     tie.close
     (tie.spec
-    Inv-loop
-    μ-loop
-    loop-holds
-    add-loop
-    mul-j
-    element-copy-out-j
-    mul-lct-j
-    element-copy-out-lct-j
-    overloads-requires
-    overload-requires
-    same-length
-    same-length-2
-    same-length-3
-    returns
-    move-to-lambda-requires
-    add-changes
-    add-index
-    mul-lct-next
-    element-copy-out-lct-next
-    mul-lct-next-2
-    element-copy-out-lct-next-2
-    consider-all-requires
-    enum-known-turn
-    loop-less
-    loop-again
-    enum-known-turn-2
-    same-length-4
-    same-length-5
-    same-length-6
-    returns-2
-    same-length-7
-    same-length-8
-    same-length-9
-    returns-3)
+    Inv-loop μ-loop loop-holds (λ c. search needs) (λ c. search needs) (λ c. search needs) mul-lct-j
+    element-copy-out-lct-j (λ c κs. search needs) overload-requires (λ c. search needs) (λ c. search needs)
+    (λ c. search needs) returns move-to-lambda-requires add-changes (λ c. search needs) (λ c. search needs)
+    (λ c. search needs) mul-lct-next-2 element-copy-out-lct-next-2 consider-all-requires (λ c. search needs)
+    (λ c. search needs) loop-again (λ c. search needs) same-length-4 same-length-5 same-length-6 returns-2
+    (λ c. search needs) (λ c. search needs) (λ c. search needs) returns-3)

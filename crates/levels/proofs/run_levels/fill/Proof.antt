@@ -71,12 +71,6 @@ lay-in-theta-requires c κs =
     let v = at .before .before .loop .inv in
     may at (may-white (v .fillable) (at .before .before .loop .x) (inside (at .before)) (v .leaves (v .fillable)))
 
-add-x : tie.Need-add-x Inv-loop μ-loop
-add-x c = search needs
-
-loop-less : tie.Need-loop-less Inv-loop μ-loop
-loop-less c = search needs
-
 loop-again : tie.Need-loop-again Inv-loop μ-loop
 loop-again c =
     let at = c .before .before .before .before in
@@ -93,17 +87,5 @@ pub fill-spec : {M : Type 1} → statement M
 fill-spec =
     tie.close
     (tie.spec
-    Inv-loop
-    μ-loop
-    loop-holds
-    task-of-requires
-    mul-t13
-    element-copy-out-t16
-    mul-t17
-    element-copy-out-t20
-    lay-in-theta-requires
-    add-x
-    loop-less
-    loop-again
-    rebuild-requires
-    returns)
+    Inv-loop μ-loop loop-holds task-of-requires mul-t13 element-copy-out-t16 mul-t17 element-copy-out-t20
+    lay-in-theta-requires (λ c. search needs) (λ c. search needs) loop-again rebuild-requires returns)

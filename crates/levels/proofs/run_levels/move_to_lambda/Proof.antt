@@ -18,21 +18,6 @@ may c {words} {n} q = subst (λ (k : ℕ). Puttable (c .before .args .inner) wor
 was : (c : tie.After-leaf-of) {words words′ : List ℕ} {n : Node} → let a = c .before .args in Put (a .inner) words words′ (c .leaf-of .result .0) n → Put (a .inner) words words′ (getD (a .mapping .now) (a .j) 0) n
 was c {words} {words′} {n} q = subst (λ (k : ℕ). Put (c .before .args .inner) words words′ k n) (c .leaf-of .ensures) q
 
-leaf-of-requires : tie.Need-leaf-of-requires
-leaf-of-requires c κs = search needs
-
-mul-t10 : tie.Need-mul-t10
-mul-t10 c = search needs
-
-element-copy-out-t13 : tie.Need-element-copy-out-t13
-element-copy-out-t13 c = search needs
-
-mul-t14 : tie.Need-mul-t14
-mul-t14 c = search needs
-
-element-copy-out-t17 : tie.Need-element-copy-out-t17
-element-copy-out-t17 c = search needs
-
 add-to-lambda-requires : tie.Need-add-to-lambda-requires
 add-to-lambda-requires c κs =
     let at = c .before .before .before in
@@ -45,10 +30,5 @@ pub move-to-lambda-spec : {M : Type 1} → statement M
 move-to-lambda-spec =
     tie.close
     (tie.spec
-    leaf-of-requires
-    mul-t10
-    element-copy-out-t13
-    mul-t14
-    element-copy-out-t17
-    add-to-lambda-requires
-    returns)
+    (λ c κs. search needs) (λ c. search needs) (λ c. search needs) (λ c. search needs) (λ c. search needs)
+    add-to-lambda-requires returns)

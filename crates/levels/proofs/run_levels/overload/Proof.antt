@@ -24,17 +24,8 @@ given c = let a = c .before .args in
 abbrev sums : tie.After-create-conflict-explanation → tie.After-sum-of-processing-times
 sums c = c .before .before .before .before
 
-sum-of-processing-times-requires : tie.Need-sum-of-processing-times-requires
-sum-of-processing-times-requires c κs = search needs
-
 create-conflict-explanation-requires : tie.Need-create-conflict-explanation-requires
 create-conflict-explanation-requires c κs = let s = c .before .before .before in (given s, s .before .pre .1, s .before .pre .2)
-
-sub-t19 : tie.Need-sub-t19
-sub-t19 c = search needs
-
-same-length : tie.Need-same-length
-same-length c = search needs
 
 returns : tie.Need-returns
 returns c =
@@ -50,8 +41,4 @@ pub overload-spec : {M : Type 1} → statement M
 overload-spec =
     tie.close
     (tie.spec
-    sum-of-processing-times-requires
-    create-conflict-explanation-requires
-    sub-t19
-    same-length
-    returns)
+    (λ c κs. search needs) create-conflict-explanation-requires (λ c. search needs) (λ c. search needs) returns)

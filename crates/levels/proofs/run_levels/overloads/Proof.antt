@@ -8,14 +8,8 @@ use Rattle.ects.specs.Ects.{exceeds}
 use Rattle.levels.proofs.run_levels.overloads.Statement.{statement}
 use Rattle.levels.proofs.run_levels.overloads.Tie as tie
 
-ect-requires : tie.Need-ect-requires
-ect-requires c κs = search needs
-
-exceeds-requires : tie.Need-exceeds-requires
-exceeds-requires c κs = search needs
-
 returns : tie.Need-returns
 returns c = c .exceeds .ensures ∙ ap (λ (o : Option ℕ). exceeds o (c .before .before .args .lct)) (c .before .ect .ensures)
 
 pub overloads-spec : {M : Type 1} → statement M
-overloads-spec = tie.close (tie.spec ect-requires exceeds-requires returns)
+overloads-spec = tie.close (tie.spec (λ c κs. search needs) (λ c κs. search needs) returns)

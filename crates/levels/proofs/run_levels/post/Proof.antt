@@ -24,14 +24,8 @@ given c = let a = c .before .args in
 abbrev sums : tie.After-create-propagation-explanation → tie.After-sum-of-processing-times
 sums c = c .before .before .before .before
 
-sum-of-processing-times-requires : tie.Need-sum-of-processing-times-requires
-sum-of-processing-times-requires c κs = search needs
-
 create-propagation-explanation-requires : tie.Need-create-propagation-explanation-requires
 create-propagation-explanation-requires c κs = let s = c .before .before .before in (given s, s .before .pre .2, s .before .pre .3)
-
-sub-write-post : tie.Need-sub-write-post
-sub-write-post c = search needs
 
 write-post-requires : tie.Need-write-post-requires
 write-post-requires c κs =
@@ -41,15 +35,6 @@ write-post-requires c κs =
     let pre = s .before .pre in
     post-fits (made .create-propagation-explanation .ensures) (pre .0 .known .task) (pre .1) (pre .4)
     (reason-few (a .nodes .now) (a .inner) (a .tasks .now) (a .n) (a .est .now) (a .durations .now) (a .i) (a .bound) (a .lct) (s .sum-of-processing-times .result) (pre .2))
-
-add-t25 : tie.Need-add-t25
-add-t25 c = search needs
-
-same-length : tie.Need-same-length
-same-length c = search needs
-
-same-length-2 : tie.Need-same-length-2
-same-length-2 c = search needs
 
 returns : tie.Need-returns
 returns c =
@@ -66,11 +51,5 @@ pub post-spec : {M : Type 1} → statement M
 post-spec =
     tie.close
     (tie.spec
-    sum-of-processing-times-requires
-    create-propagation-explanation-requires
-    sub-write-post
-    write-post-requires
-    add-t25
-    same-length
-    same-length-2
-    returns)
+    (λ c κs. search needs) create-propagation-explanation-requires (λ c. search needs) write-post-requires
+    (λ c. search needs) (λ c. search needs) (λ c. search needs) returns)

@@ -8,14 +8,8 @@ use Rattle.ects.specs.Ects.{raisedTo}
 use Rattle.levels.proofs.run_levels.raised_start.Statement.{statement}
 use Rattle.levels.proofs.run_levels.raised_start.Tie as tie
 
-ect-requires : tie.Need-ect-requires
-ect-requires c κs = search needs
-
-raised-requires : tie.Need-raised-requires
-raised-requires c κs = search needs
-
 returns : tie.Need-returns
 returns c = c .raised .ensures ∙ ap (λ (o : Option ℕ). raisedTo (c .before .before .args .start) o) (c .before .ect .ensures)
 
 pub raised-start-spec : {M : Type 1} → statement M
-raised-start-spec = tie.close (tie.spec ect-requires raised-requires returns)
+raised-start-spec = tie.close (tie.spec (λ c κs. search needs) (λ c κs. search needs) returns)

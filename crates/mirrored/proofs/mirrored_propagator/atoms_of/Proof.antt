@@ -11,14 +11,8 @@ use borrow.Author.Needs.{needs}
 use Rattle.mirrored.proofs.mirrored_propagator.atoms_of.Statement.{statement}
 use Rattle.mirrored.proofs.mirrored_propagator.atoms_of.Tie as tie
 
-enum-known-outcome : tie.Need-enum-known-outcome
-enum-known-outcome c = search needs
-
 atoms-of-posts-requires : tie.Need-atoms-of-posts-requires
 atoms-of-posts-requires c κs = let o = c .before .outcome .given in counted (c .before .before .before .pre) (o .0 .0) (ap (λ (r : Outcome). valueOf r 0) (o .1))
-
-enum-known-outcome-2 : tie.Need-enum-known-outcome-2
-enum-known-outcome-2 c = search needs
 
 add-result : tie.Need-add-result
 add-result c =
@@ -26,14 +20,8 @@ add-result c =
     let p = c .before .before .before .pre in
     record { fits = omega (arith, overload-atoms p (o .0 .0) (o .0 .1 .0) (o .0 .1 .1 .0) (o .1), p .small) }
 
-enum-known-outcome-3 : tie.Need-enum-known-outcome-3
-enum-known-outcome-3 c = search needs
-
 atoms-of-posts-requires-2 : tie.Need-atoms-of-posts-requires-2
 atoms-of-posts-requires-2 c κs = let o = c .before .outcome3 .given in counted (c .before .before .before .pre) (o .0 .0) (ap (λ (r : Outcome). valueOf r 0) (o .1))
-
-enum-told : tie.Need-enum-told
-enum-told c = search needs
 
 returns : tie.Need-returns
 returns c = λ a. let o = c .before .before .outcome .given in c .atoms-of-posts .ensures (counted a (o .0 .0) (ap (λ (r : Outcome). valueOf r 0) (o .1))) ∙ done-atoms a (o .0 .0) (o .1)
@@ -51,14 +39,5 @@ pub atoms-of-spec : {M : Type 1} → statement M
 atoms-of-spec =
     tie.close
     (tie.spec
-    enum-known-outcome
-    atoms-of-posts-requires
-    enum-known-outcome-2
-    add-result
-    enum-known-outcome-3
-    atoms-of-posts-requires-2
-    enum-told
-    returns
-    returns-2
-    returns-3
-    returns-4)
+    (λ c. search needs) atoms-of-posts-requires (λ c. search needs) add-result (λ c. search needs)
+    atoms-of-posts-requires-2 (λ c. search needs) returns returns-2 returns-3 returns-4)

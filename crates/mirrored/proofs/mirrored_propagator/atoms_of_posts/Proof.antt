@@ -19,27 +19,15 @@ last c = last-counted (c .before .pre) (omega arith)
 returns : tie.Need-returns
 returns c = λ k. none-counted k (omega arith)
 
-sub-last : tie.Need-sub-last
-sub-last c = search needs
-
 first-atom-requires : tie.Need-first-atom-requires
 first-atom-requires c κs =
     let l = last c in
     (l .inside, subst (λ (z : ℤ). pos 0 ≤ℤ z) (sym (l .first-is)) (natural (l .first)))
 
-cast-result : tie.Need-cast-result
-cast-result c = search needs
-
 atom-count-requires : tie.Need-atom-count-requires
 atom-count-requires c κs =
     let l = last (c .before) in
     (l .inside, subst (λ (z : ℤ). pos 0 ≤ℤ z) (sym (l .many-is)) (natural (l .many)))
-
-cast-result-2 : tie.Need-cast-result-2
-cast-result-2 c = search needs
-
-add-result : tie.Need-add-result
-add-result c = search needs
 
 returns-2 : tie.Need-returns-2
 returns-2 c = λ k.
@@ -47,4 +35,8 @@ returns-2 c = λ k.
     ap₂ _+_ (c .before .first-atom .ensures ∙ ap natAbs (l .first-is)) (c .atom-count .ensures ∙ ap natAbs (l .many-is)) ∙ l .sum
 
 pub atoms-of-posts-spec : {M : Type 1} → statement M
-atoms-of-posts-spec = tie.close (tie.spec returns sub-last first-atom-requires cast-result atom-count-requires cast-result-2 add-result returns-2)
+atoms-of-posts-spec =
+    tie.close
+    (tie.spec
+    returns (λ c. search needs) first-atom-requires (λ c. search needs) atom-count-requires (λ c. search needs)
+    (λ c. search needs) returns-2)

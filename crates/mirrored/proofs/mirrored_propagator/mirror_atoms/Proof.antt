@@ -32,38 +32,17 @@ abbrev μ-loop : tie.MeasureT-loop
 loop-holds : tie.Need-loop-holds Inv-loop μ-loop
 loop-holds c = record { held = c .pre; told = λ h. h .words-are ∙ ap (λ (l : List Atom). atomWords l ++ h .tail) (sym (atoms-begin (h .ds) (h .atoms))); small = omega arith; size = refl }
 
-mul-mirror-kind : tie.Need-mul-mirror-kind Inv-loop μ-loop
-mul-mirror-kind c = search needs
-
-add-mirror-kind : tie.Need-add-mirror-kind Inv-loop μ-loop
-add-mirror-kind c = search needs
-
 mirror-kind-requires : tie.Need-mirror-kind-requires Inv-loop μ-loop
 mirror-kind-requires c κs =
     let l = c .before .before .loop in
     let v = l .inv in
     kind-mirrorable (v .held) (l .atoms) (l .k) (omega arith) (v .told (v .held))
 
-mul-mirror-word : tie.Need-mul-mirror-word Inv-loop μ-loop
-mul-mirror-word c = search needs
-
-mul-mirror-word-2 : tie.Need-mul-mirror-word-2 Inv-loop μ-loop
-mul-mirror-word-2 c = search needs
-
-add-mirror-word : tie.Need-add-mirror-word Inv-loop μ-loop
-add-mirror-word c = search needs
-
 mirror-word-requires : tie.Need-mirror-word-requires Inv-loop μ-loop
 mirror-word-requires c κs =
     let l = c .before .before .before .before .before .loop in
     let v = l .inv in
     value-mirrorable (v .held) (l .atoms) (l .k) (omega arith) (v .told (v .held)) (c .before .before .mirror-kind .ensures)
-
-add-k : tie.Need-add-k Inv-loop μ-loop
-add-k c = search needs
-
-loop-less : tie.Need-loop-less Inv-loop μ-loop
-loop-less c = search needs
 
 loop-again : tie.Need-loop-again Inv-loop μ-loop
 loop-again c =
@@ -76,9 +55,6 @@ loop-again c =
       size = search needs;
     }
 
-same-length : tie.Need-same-length Inv-loop μ-loop
-same-length c = search needs
-
 returns : tie.Need-returns Inv-loop μ-loop
 returns c =
     let l = c .before .loop in
@@ -89,18 +65,6 @@ pub mirror-atoms-spec : {M : Type 1} → statement M
 mirror-atoms-spec =
     tie.close
     (tie.spec
-    Inv-loop
-    μ-loop
-    loop-holds
-    mul-mirror-kind
-    add-mirror-kind
-    mirror-kind-requires
-    mul-mirror-word
-    mul-mirror-word-2
-    add-mirror-word
-    mirror-word-requires
-    add-k
-    loop-less
-    loop-again
-    same-length
-    returns)
+    Inv-loop μ-loop loop-holds (λ c. search needs) (λ c. search needs) mirror-kind-requires (λ c. search needs)
+    (λ c. search needs) (λ c. search needs) mirror-word-requires (λ c. search needs) (λ c. search needs) loop-again
+    (λ c. search needs) returns)

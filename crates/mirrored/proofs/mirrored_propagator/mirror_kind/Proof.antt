@@ -22,23 +22,8 @@ less-fits : (z : ℤ) → pos 0 ≤ℤ z → z ≤ℤ pos 1 → SFits w32 (pos 1
 unfolding up dn
 less-fits z h k = fits-show w32 (pos 1 -ℤ z) (omega (ints, subℤ (pos 1) z)) (omega (ints, subℤ (pos 1) z))
 
-mul-words : tie.Need-mul-words
-mul-words c = search needs
-
-slice-copy-out-words : tie.Need-slice-copy-out-words
-slice-copy-out-words c = search needs
-
 sub-words : tie.Need-sub-words
 sub-words c = subst (SFits w32) (sym (less (getD (c .before .args .words .now) (c .before .args .at) (pos 0)) (c .words .given))) (less-fits (getD (c .before .args .words .now) (c .before .args .at) (pos 0)) (c .before .pre .1) (c .before .pre .2))
-
-mul-t7 : tie.Need-mul-t7
-mul-t7 c = search needs
-
-slice-set-from-words : tie.Need-slice-set-from-words
-slice-set-from-words c = search needs
-
-same-length : tie.Need-same-length
-same-length c = search needs
 
 returns : tie.Need-returns
 returns c =
@@ -49,10 +34,5 @@ pub mirror-kind-spec : {M : Type 1} → statement M
 mirror-kind-spec =
     tie.close
     (tie.spec
-    mul-words
-    slice-copy-out-words
-    sub-words
-    mul-t7
-    slice-set-from-words
-    same-length
+    (λ c. search needs) (λ c. search needs) sub-words (λ c. search needs) (λ c. search needs) (λ c. search needs)
     returns)

@@ -32,26 +32,11 @@ abbrev μ-loop : tie.MeasureT-loop
 loop-holds : tie.Need-loop-holds Inv-loop μ-loop
 loop-holds c = record { held = c .pre; told = λ h. h .words-are ∙ ap (λ (l : List Post). postWords 0 l ++ h .tail) (sym (posts-begin (h .ds) (h .posts))); small = omega arith; size = refl }
 
-mul-mirror-word : tie.Need-mul-mirror-word Inv-loop μ-loop
-mul-mirror-word c = search needs
-
-mul-mirror-word-2 : tie.Need-mul-mirror-word-2 Inv-loop μ-loop
-mul-mirror-word-2 c = search needs
-
-add-mirror-word : tie.Need-add-mirror-word Inv-loop μ-loop
-add-mirror-word c = search needs
-
 mirror-word-requires : tie.Need-mirror-word-requires Inv-loop μ-loop
 mirror-word-requires c κs =
     let l = c .before .before .loop in
     let v = l .inv in
     post-mirrorable (v .held) (l .posts) (l .j) (omega arith) (v .told (v .held))
-
-add-j : tie.Need-add-j Inv-loop μ-loop
-add-j c = search needs
-
-loop-less : tie.Need-loop-less Inv-loop μ-loop
-loop-less c = search needs
 
 loop-again : tie.Need-loop-again Inv-loop μ-loop
 loop-again c =
@@ -64,9 +49,6 @@ loop-again c =
       size = search needs;
     }
 
-same-length : tie.Need-same-length Inv-loop μ-loop
-same-length c = search needs
-
 returns : tie.Need-returns Inv-loop μ-loop
 returns c =
     let l = c .before .loop in
@@ -77,15 +59,5 @@ pub mirror-posts-spec : {M : Type 1} → statement M
 mirror-posts-spec =
     tie.close
     (tie.spec
-    Inv-loop
-    μ-loop
-    loop-holds
-    mul-mirror-word
-    mul-mirror-word-2
-    add-mirror-word
-    mirror-word-requires
-    add-j
-    loop-less
-    loop-again
-    same-length
-    returns)
+    Inv-loop μ-loop loop-holds (λ c. search needs) (λ c. search needs) (λ c. search needs) mirror-word-requires
+    (λ c. search needs) (λ c. search needs) loop-again (λ c. search needs) returns)

@@ -52,5 +52,4 @@ returns : tie.Need-returns
 returns c = ap (λ (z : ℤ). toZ w32 (ofZ w32 z)) (whole _ _ (c .fits .x) (c .fits .p .fits) (c .pre)) ∙ toZ-ofZ w32 _ (c .pre)
 
 pub mirror-start-spec : {M : Type 1} → statement M
-mirror-start-spec =
-    tie.close (tie.spec cast-result cast-result-2 add-result sub-result cast-result-3 returns)
+mirror-start-spec = tie.close (tie.spec cast-result cast-result-2 add-result sub-result cast-result-3 returns)

@@ -31,35 +31,11 @@ abbrev μ-loop : tie.MeasureT-loop
 loop-holds : tie.Need-loop-holds Inv-loop μ-loop
 loop-holds c = let a = c .args in (omega arith, refl, sym (filled-none (mirroredAt (a .starts .now) (a .durations .now)) (a .out .now)))
 
-mul-mirror-start : tie.Need-mul-mirror-start Inv-loop μ-loop
-mul-mirror-start c = search needs
-
-shared-slice-copy-out-mirror-start : tie.Need-shared-slice-copy-out-mirror-start Inv-loop μ-loop
-shared-slice-copy-out-mirror-start c = search needs
-
-mul-mirror-start-2 : tie.Need-mul-mirror-start-2 Inv-loop μ-loop
-mul-mirror-start-2 c = search needs
-
-element-copy-out-mirror-start : tie.Need-element-copy-out-mirror-start Inv-loop μ-loop
-element-copy-out-mirror-start c = search needs
-
 mirror-start-requires : tie.Need-mirror-start-requires Inv-loop μ-loop
 mirror-start-requires c κs =
     let start = c .before .before .before .before in
     let k = c .before .before .before .loop .k in
     subst (λ (z : ℤ). SFits w32 (mirrorStart (getD (start .args .durations .now) k 0) z)) (sym (back-of w32 (getD (start .args .starts .now) k (pos 0)) (c .before .mirror-start-arg .given))) (start .pre .fits k (omega arith))
-
-mul-t14 : tie.Need-mul-t14 Inv-loop μ-loop
-mul-t14 c = search needs
-
-slice-set-from-out : tie.Need-slice-set-from-out Inv-loop μ-loop
-slice-set-from-out c = search needs
-
-add-k : tie.Need-add-k Inv-loop μ-loop
-add-k c = search needs
-
-loop-less : tie.Need-loop-less Inv-loop μ-loop
-loop-less c = search needs
 
 loop-again : tie.Need-loop-again Inv-loop μ-loop
 loop-again c =
@@ -71,9 +47,6 @@ loop-again c =
     let stored = filled-store (mirroredAt (start .args .starts .now) d) (start .args .out .now) (loop .out) k _ (loop .inv .2)
     (back-of w32 (c .mirror-start .result) (c .mirror-start .ok) ∙ c .mirror-start .ensures ∙ ap₂ mirrorStart (sym (getD-take (length (start .args .starts .now)) d k 0 (omega arith))) (back-of w32 x (c .before .before .mirror-start-arg .given))) in
     (omega arith, ap length stored ∙ filled-length (mirroredAt (start .args .starts .now) d) (k + 1) (start .args .out .now), stored)
-
-same-length : tie.Need-same-length Inv-loop μ-loop
-same-length c = search needs
 
 returns : tie.Need-returns Inv-loop μ-loop
 returns c =
@@ -88,18 +61,6 @@ pub mirror-starts-spec : {M : Type 1} → statement M
 mirror-starts-spec =
     tie.close
     (tie.spec
-    Inv-loop
-    μ-loop
-    loop-holds
-    mul-mirror-start
-    shared-slice-copy-out-mirror-start
-    mul-mirror-start-2
-    element-copy-out-mirror-start
-    mirror-start-requires
-    mul-t14
-    slice-set-from-out
-    add-k
-    loop-less
-    loop-again
-    same-length
-    returns)
+    Inv-loop μ-loop loop-holds (λ c. search needs) (λ c. search needs) (λ c. search needs) (λ c. search needs)
+    mirror-start-requires (λ c. search needs) (λ c. search needs) (λ c. search needs) (λ c. search needs) loop-again
+    (λ c. search needs) returns)

@@ -17,27 +17,6 @@ use Rattle.mirrored.proofs.mirrored_propagator.mirror_word.Tie as tie
 task : (c : tie.After-nat-of) → c .nat-of .result ≡ natAbs (getD (c .before .before .args .words .now) (c .before .before .args .of) (pos 0))
 task c = let a = c .before .before .args in ap natAbs (c .nat-of .ensures ∙ back-of w32 (getD (a .words .now) (a .of) (pos 0)) (c .before .nat-of-arg .given))
 
-mul-nat-of : tie.Need-mul-nat-of
-mul-nat-of c = search needs
-
-slice-copy-out-nat-of : tie.Need-slice-copy-out-nat-of
-slice-copy-out-nat-of c = search needs
-
-nat-of-requires : tie.Need-nat-of-requires
-nat-of-requires c κs = search needs
-
-cast-task : tie.Need-cast-task
-cast-task c = search needs
-
-mul-mirror-start : tie.Need-mul-mirror-start
-mul-mirror-start c = search needs
-
-slice-copy-out-mirror-start : tie.Need-slice-copy-out-mirror-start
-slice-copy-out-mirror-start c = search needs
-
-mul-mirror-start-2 : tie.Need-mul-mirror-start-2
-mul-mirror-start-2 c = search needs
-
 element-copy-out-mirror-start : tie.Need-element-copy-out-mirror-start
 element-copy-out-mirror-start c = omega (arith, task (c .before), c .before .before .before .pre .known)
 
@@ -47,15 +26,6 @@ mirror-start-requires c κs =
     let w = s .args .words .now in
     subst (λ (r : ℕ). SFits w32 (mirrorStart (getD (s .args .durations .now) r 0) (toZ w32 (ofZ w32 (getD w (s .args .at) (pos 0)))))) (sym (task (c .before .before)))
     (subst (λ (z : ℤ). SFits w32 (mirrorStart (getD (s .args .durations .now) (natAbs (getD w (s .args .of) (pos 0))) 0) z)) (sym (back-of w32 (getD w (s .args .at) (pos 0)) (c .before .mirror-start-arg .given))) (s .pre .fits))
-
-mul-t15 : tie.Need-mul-t15
-mul-t15 c = search needs
-
-slice-set-from-words : tie.Need-slice-set-from-words
-slice-set-from-words c = search needs
-
-same-length : tie.Need-same-length
-same-length c = search needs
 
 returns : tie.Need-returns
 returns c =
@@ -68,16 +38,6 @@ pub mirror-word-spec : {M : Type 1} → statement M
 mirror-word-spec =
     tie.close
     (tie.spec
-    mul-nat-of
-    slice-copy-out-nat-of
-    nat-of-requires
-    cast-task
-    mul-mirror-start
-    slice-copy-out-mirror-start
-    mul-mirror-start-2
-    element-copy-out-mirror-start
-    mirror-start-requires
-    mul-t15
-    slice-set-from-words
-    same-length
-    returns)
+    (λ c. search needs) (λ c. search needs) (λ c κs. search needs) (λ c. search needs) (λ c. search needs)
+    (λ c. search needs) (λ c. search needs) element-copy-out-mirror-start mirror-start-requires (λ c. search needs)
+    (λ c. search needs) (λ c. search needs) returns)

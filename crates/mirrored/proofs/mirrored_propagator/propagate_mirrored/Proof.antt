@@ -24,12 +24,6 @@ long c = search needs
 passed : (c : tie.Else1) → let a = c .before .before .before .before .before .args in Accepted (a .t1) (a .earliest .now) (a .latest .now) (length (a .posts .now)) (length (a .atoms .now)) × (a .bars-fit ≡ true)
 passed c = let a = c .before .before .before .before .before .args in accepted-run (a .t1) (a .earliest .now) (a .latest .now) (a .bars-fit) (length (a .posts .now)) (length (a .atoms .now)) .0 (omega (arith, c .before .run-refusal .ensures))
 
-run-refusal-requires : tie.Need-run-refusal-requires
-run-refusal-requires c κs = search needs
-
-same-length : tie.Need-same-length
-same-length c = search needs
-
 returns : tie.Need-returns
 returns c =
     let e = c .before .run-refusal .ensures in
@@ -47,15 +41,6 @@ tell-requires c κs =
     let s = e .before .before .before .before .before in
     let a = s .args in
     ended (a .t1) (a .earliest .now) (a .latest .now) (length (a .posts .now)) (length (a .atoms .now)) (passed e .0) (long s) (c .before .before .before .before .before .before .run-in-mirror .ensures)
-
-same-length-2 : tie.Need-same-length-2
-same-length-2 c = search needs
-
-same-length-3 : tie.Need-same-length-3
-same-length-3 c = search needs
-
-same-length-4 : tie.Need-same-length-4
-same-length-4 c = search needs
 
 returns-2 : tie.Need-returns-2
 returns-2 c =
@@ -79,12 +64,5 @@ pub propagate-mirrored-spec : {M : Type 1} → statement M
 propagate-mirrored-spec =
     tie.close
     (tie.spec
-    run-refusal-requires
-    same-length
-    returns
-    run-in-mirror-requires
-    tell-requires
-    same-length-2
-    same-length-3
-    same-length-4
-    returns-2)
+    (λ c κs. search needs) (λ c. search needs) returns run-in-mirror-requires tell-requires (λ c. search needs)
+    (λ c. search needs) (λ c. search needs) returns-2)

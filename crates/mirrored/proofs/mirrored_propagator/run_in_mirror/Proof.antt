@@ -79,9 +79,6 @@ back-long c = length-front (from (made c)) (left c) (n (made c)) (c .run-accepte
 back-is : (c : tie.After-run-accepted) → take (n (made c)) (left c ++ drop (n (made c)) (from (made c))) ≡ left c
 back-is c = take-at (left c) (drop (n (made c)) (from (made c))) (n (made c)) (left-long c)
 
-array-borrow-prefix-from : tie.Need-array-borrow-prefix-from
-array-borrow-prefix-from c = search needs
-
 slice-aggregate-mirror-starts : tie.Need-slice-aggregate-mirror-starts
 slice-aggregate-mirror-starts c = let s = c .before .before in sym (front (s .args .«record» .count) (s .pre .lawful .few))
 
@@ -90,9 +87,6 @@ mirror-starts-requires c κs =
     let s = c .before .before .before .before in
     let a = s .args in
     reflect-latest (a .«record») (a .earliest .now) (a .latest .now) (length (a .posts .now)) (length (a .atoms .now)) (s .pre) (long s) (take (a .«record» .count) zeros) (front (a .«record» .count) (s .pre .lawful .few))
-
-array-borrow-prefix-to : tie.Need-array-borrow-prefix-to
-array-borrow-prefix-to c = search needs
 
 slice-aggregate-mirror-starts-2 : tie.Need-slice-aggregate-mirror-starts-2
 slice-aggregate-mirror-starts-2 c = let s = c .before .before .before .before .before .before .before in sym (front (s .args .«record» .count) (s .pre .lawful .few))
@@ -137,15 +131,6 @@ mirror-starts-requires-3 c κs =
     subst (λ (zs : List ℤ). Reflectable (a .latest .now) zs (a .«record» .durations)) (sym (back-is r))
     (reflect-back (a .«record») (a .earliest .now) (a .latest .now) (length (a .posts .now)) (length (a .atoms .now)) (s .pre) (long s) (from-is i) (to-is i) (r .run-accepted .ensures) (a .latest .now) (s .pre .counts .latest))
 
-same-length : tie.Need-same-length
-same-length c = search needs
-
-same-length-2 : tie.Need-same-length-2
-same-length-2 c = search needs
-
-same-length-3 : tie.Need-same-length-3
-same-length-3 c = search needs
-
 returns : tie.Need-returns
 returns c =
     let r = c .before .before .before .before .before .before .before .before in
@@ -159,21 +144,8 @@ pub run-in-mirror-spec : {M : Type 1} → statement M
 run-in-mirror-spec =
     tie.close
     (tie.spec
-    array-borrow-prefix-from
-    slice-aggregate-mirror-starts
-    mirror-starts-requires
-    array-borrow-prefix-to
-    slice-aggregate-mirror-starts-2
-    mirror-starts-requires-2
-    array-borrow-prefix-from-2
-    slice-aggregate-run-accepted
-    array-share-prefix-to
-    slice-aggregate-run-accepted-2
-    run-accepted-requires
-    array-share-prefix-from
-    slice-aggregate-mirror-starts-3
-    mirror-starts-requires-3
-    same-length
-    same-length-2
-    same-length-3
-    returns)
+    (λ c. search needs) slice-aggregate-mirror-starts mirror-starts-requires (λ c. search needs)
+    slice-aggregate-mirror-starts-2 mirror-starts-requires-2 array-borrow-prefix-from-2 slice-aggregate-run-accepted
+    array-share-prefix-to slice-aggregate-run-accepted-2 run-accepted-requires array-share-prefix-from
+    slice-aggregate-mirror-starts-3 mirror-starts-requires-3 (λ c. search needs) (λ c. search needs)
+    (λ c. search needs) returns)

@@ -5,12 +5,6 @@ use borrow.Author.Needs.{needs}
 use Rattle.mirrored.proofs.mirrored_propagator.tell.Statement.{statement}
 use Rattle.mirrored.proofs.mirrored_propagator.tell.Tie as tie
 
-posts-of-requires : tie.Need-posts-of-requires
-posts-of-requires c κs = search needs
-
-atoms-of-requires : tie.Need-atoms-of-requires
-atoms-of-requires c κs = search needs
-
 mirror-posts-requires : tie.Need-mirror-posts-requires
 mirror-posts-requires c κs =
     let s = c .before .before .before .before in
@@ -22,12 +16,6 @@ mirror-atoms-requires c κs =
     let t = c .before .before .before .before in
     atoms-held (s .pre) (t .atoms-of .result) (t .atoms-of .ensures (answered (s .pre)))
 
-same-length : tie.Need-same-length
-same-length c = search needs
-
-same-length-2 : tie.Need-same-length-2
-same-length-2 c = search needs
-
 returns : tie.Need-returns
 returns c =
     let o = c .before .before .before .before .before .before .before .before .posts-of in
@@ -38,10 +26,5 @@ pub tell-spec : {M : Type 1} → statement M
 tell-spec =
     tie.close
     (tie.spec
-    posts-of-requires
-    atoms-of-requires
-    mirror-posts-requires
-    mirror-atoms-requires
-    same-length
-    same-length-2
-    returns)
+    (λ c κs. search needs) (λ c κs. search needs) mirror-posts-requires mirror-atoms-requires (λ c. search needs)
+    (λ c. search needs) returns)

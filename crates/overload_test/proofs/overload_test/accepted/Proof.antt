@@ -41,23 +41,11 @@ ready c =
     readable (a .«record») (a .earliest .now) (a .latest .now) (s .pre) (long s) (est c .moments-of .ensures) (lst c .moments-of2 .ensures) (lct c .completions .ensures)
     (leaves c .sort-numbers .ensures) (tasks c .sort-numbers2 .ensures) (c .new .ensures)
 
-moments-of-requires : tie.Need-moments-of-requires
-moments-of-requires c κs = search needs
-
-moments-of-requires-2 : tie.Need-moments-of-requires-2
-moments-of-requires-2 c κs = search needs
-
 completions-requires : tie.Need-completions-requires
 completions-requires c κs =
     let s = c .before .before .before .before .before .before .before .before in
     let a = s .args in
     (s .pre .lawful .few, keys-small (a .«record») (a .earliest .now) (a .latest .now) (s .pre) (long s) (c .before .before .before .before .before .moments-of .ensures) (c .before .before .before .moments-of2 .ensures))
-
-sort-numbers-requires : tie.Need-sort-numbers-requires
-sort-numbers-requires c κs = search needs
-
-sort-numbers-requires-2 : tie.Need-sort-numbers-requires-2
-sort-numbers-requires-2 c κs = search needs
 
 new-requires : tie.Need-new-requires
 new-requires c κs = let s = c .before .before .before .before .before .before .before .before .before .before .before .before .before .before .before .before in (s .pre .lawful .few, sorted-permutes (c .before .before .before .before .sort-numbers .ensures))
@@ -72,11 +60,5 @@ pub accepted-spec : {M : Type 1} → statement M
 accepted-spec =
     tie.close
     (tie.spec
-    moments-of-requires
-    moments-of-requires-2
-    completions-requires
-    sort-numbers-requires
-    sort-numbers-requires-2
-    new-requires
-    read-tasks-requires
-    returns)
+    (λ c κs. search needs) (λ c κs. search needs) completions-requires (λ c κs. search needs) (λ c κs. search needs)
+    new-requires read-tasks-requires returns)

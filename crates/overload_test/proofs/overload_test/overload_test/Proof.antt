@@ -19,9 +19,6 @@ long c = search needs
 passed : (c : tie.Else1) → let a = c .before .before .before .before .args in AcceptedInput (a .t1) (a .earliest .now) (a .latest .now) × (a .bars-fit ≡ true)
 passed c = let a = c .before .before .before .before .args in accepted-input (a .t1) (a .earliest .now) (a .latest .now) (a .bars-fit) .0 (sym (c .before .input-refusal .ensures) ∙ c .if1 .left)
 
-input-refusal-requires : tie.Need-input-refusal-requires
-input-refusal-requires c κs = search needs
-
 returns : tie.Need-returns
 returns c =
     let n = c .before in
@@ -38,10 +35,4 @@ returns-2 c =
     tested (a .t1) (a .earliest .now) (a .latest .now) (a .bars-fit) _ (passed (c .before) .0) (passed (c .before) .1) (long s) (c .accepted .ensures)
 
 pub overload-test-spec : {M : Type 1} → statement M
-overload-test-spec =
-    tie.close
-    (tie.spec
-    input-refusal-requires
-    returns
-    accepted-requires
-    returns-2)
+overload-test-spec = tie.close (tie.spec (λ c κs. search needs) returns accepted-requires returns-2)

@@ -75,17 +75,11 @@ add-requires c κs =
 add-k : tie.Need-add-k Inv-loop μ-loop
 add-k c = omega (arith, inside (c .before .before .before .before .before .before))
 
-ect-requires : tie.Need-ect-requires Inv-loop μ-loop
-ect-requires c κs = search needs
-
 mul-exceeds-2 : tie.Need-mul-exceeds-2 Inv-loop μ-loop
 mul-exceeds-2 c = omega (arith, known (c .before .before .before .before .before .before .before .before))
 
 element-copy-out-exceeds-2 : tie.Need-element-copy-out-exceeds-2 Inv-loop μ-loop
 element-copy-out-exceeds-2 c = known (c .before .before .before .before .before .before .before .before)
-
-exceeds-requires : tie.Need-exceeds-requires Inv-loop μ-loop
-exceeds-requires c κs = search needs
 
 -- the test is the definition's
 tested : (c : tie.After-exceeds Inv-loop μ-loop) → let at = c .before .before .before .before .before .before .before .before .before .before in let a = at .before .before .args in
@@ -98,9 +92,6 @@ returns : tie.Need-returns Inv-loop μ-loop
 returns c = λ f.
     let at = c .before .before .before .before .before .before .before .before .before .before .before in
     sym (at .before .loop .inv .answer f ∙ answer-yes (f .J) (at .before .before .args .n) (at .before .loop .k) (inside at) (sym (tested (c .before) f) ∙ c .if1 .taken))
-
-loop-less : tie.Need-loop-less Inv-loop μ-loop
-loop-less c = search needs
 
 loop-again : tie.Need-loop-again Inv-loop μ-loop
 loop-again c =
@@ -121,23 +112,6 @@ pub read-tasks-spec : {M : Type 1} → statement M
 read-tasks-spec =
     tie.close
     (tie.spec
-    Inv-loop
-    μ-loop
-    loop-holds
-    mul-i
-    element-copy-out-i
-    leaf-of-requires
-    mul-exceeds
-    element-copy-out-exceeds
-    mul-t18
-    element-copy-out-t25
-    add-requires
-    add-k
-    ect-requires
-    mul-exceeds-2
-    element-copy-out-exceeds-2
-    exceeds-requires
-    returns
-    loop-less
-    loop-again
-    returns-2)
+    Inv-loop μ-loop loop-holds mul-i element-copy-out-i leaf-of-requires mul-exceeds element-copy-out-exceeds mul-t18
+    element-copy-out-t25 add-requires add-k (λ c κs. search needs) mul-exceeds-2 element-copy-out-exceeds-2
+    (λ c κs. search needs) returns (λ c. search needs) loop-again returns-2)

@@ -53,23 +53,11 @@ after-end c =
     let b = puts-wide 11 (s .args .start +ℤ pos (s .args .duration)) (end-is at) (c .put-right3 .ensures) (end-fits (s .args .start) (s .args .duration) (s .pre .2) (s .pre .3)) in
     (omega (arith, a .0, b .0), b .1 ∙ a .1)
 
-moment-of-requires : tie.Need-moment-of-requires
-moment-of-requires c κs = search needs
-
 add-start-of : tie.Need-add-start-of
 add-start-of c = record { fits = omega (arith, moment-is c, start-moment (c .before .before .args .start) (c .before .before .pre .2), c .before .before .pre .3) }
 
-start-of-requires : tie.Need-start-of-requires
-start-of-requires c κs = search needs
-
-word-of-requires : tie.Need-word-of-requires
-word-of-requires c κs = search needs
-
 put-right-requires : tie.Need-put-right-requires
 put-right-requires c κs = (omega (arith, c .before .before .before .before .before .pre .0), rw (task-is c) (task-fits (c .before .before .before .before .before .args .task) (c .before .before .before .before .before .pre .1)), omega arith)
-
-slice-aggregate-put-bytes : tie.Need-slice-aggregate-put-bytes
-slice-aggregate-put-bytes c = search needs
 
 put-bytes-requires : tie.Need-put-bytes-requires
 put-bytes-requires c κs =
@@ -80,9 +68,6 @@ put-right-requires-2 : tie.Need-put-right-requires-2
 put-right-requires-2 c κs =
     let s = c .before .before .before .before .before .before .before .before .before .before .before .before .before .before in
     (omega (arith, after-space (c .before .before .before), s .pre .0), rw (back (s .fits .start)) (start-fits (s .args .start) (s .pre .2)), omega arith)
-
-slice-aggregate-put-bytes-2 : tie.Need-slice-aggregate-put-bytes-2
-slice-aggregate-put-bytes-2 c = search needs
 
 put-bytes-requires-2 : tie.Need-put-bytes-requires-2
 put-bytes-requires-2 c κs =
@@ -95,16 +80,10 @@ put-right-requires-3 c κs =
     let s = at .before .before .before in
     (omega (arith, after-space-2 (c .before .before .before), s .pre .0), rw (end-is at) (end-fits (s .args .start) (s .args .duration) (s .pre .2) (s .pre .3)), omega arith)
 
-slice-aggregate-put-bytes-3 : tie.Need-slice-aggregate-put-bytes-3
-slice-aggregate-put-bytes-3 c = search needs
-
 put-bytes-requires-3 : tie.Need-put-bytes-requires-3
 put-bytes-requires-3 c κs =
     let start = c .before .before .before .before .before .before .before .before .before .before .before .before .before .before .before .before .before .before .before .before .before .before .before .before .before .before .before .before in
     omega (arith, after-end (c .before .before .before .before), start .pre .0)
-
-same-length : tie.Need-same-length
-same-length c = search needs
 
 returns : tie.Need-returns
 returns c =
@@ -116,18 +95,6 @@ pub put-line-spec : {M : Type 1} → statement M
 put-line-spec =
     tie.close
     (tie.spec
-    moment-of-requires
-    add-start-of
-    start-of-requires
-    word-of-requires
-    put-right-requires
-    slice-aggregate-put-bytes
-    put-bytes-requires
-    put-right-requires-2
-    slice-aggregate-put-bytes-2
-    put-bytes-requires-2
-    put-right-requires-3
-    slice-aggregate-put-bytes-3
-    put-bytes-requires-3
-    same-length
-    returns)
+    (λ c κs. search needs) add-start-of (λ c κs. search needs) (λ c κs. search needs) put-right-requires
+    (λ c. search needs) put-bytes-requires put-right-requires-2 (λ c. search needs) put-bytes-requires-2
+    put-right-requires-3 (λ c. search needs) put-bytes-requires-3 (λ c. search needs) returns)

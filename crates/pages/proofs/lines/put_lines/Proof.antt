@@ -39,9 +39,6 @@ put-heading-requires c κs = omega (arith, c .before .before .pre .1)
 loop-holds : tie.Need-loop-holds Inv-loop μ-loop
 loop-holds c = (omega arith, refl, omega arith, puts-none (lineAt (c .before .before .before .before .before .args .durations .now) (c .before .before .before .before .before .args .earliest .now)) (c .before .before .before .before .before .args .order .now) _ _)
 
-mul-task : tie.Need-mul-task Inv-loop μ-loop
-mul-task c = search needs
-
 element-copy-out-task : tie.Need-element-copy-out-task Inv-loop μ-loop
 element-copy-out-task c = omega (arith, c .before .before .before .before .before .before .before .pre .0 .started .few, c .loop-test .taken)
 
@@ -72,12 +69,6 @@ put-line-requires c κs =
     let q = small (c .before .before .before .before) in
     (omega (arith, l .inv .1, l .inv .2, start .put-heading .ensures .end, puts-length (start .put-heading .ensures), s .pre .1, c .before .before .before .before .loop-test .taken), omega (arith, q, s .pre .0 .started .few), rw (start-is (c .before)) (s .pre .0 .started .starts k q), s .pre .0 .durations k q)
 
-add-i : tie.Need-add-i Inv-loop μ-loop
-add-i c = search needs
-
-loop-less : tie.Need-loop-less Inv-loop μ-loop
-loop-less c = search needs
-
 loop-again : tie.Need-loop-again Inv-loop μ-loop
 loop-again c =
     let s = c .before .before .before .before .before .before .before .before .before .before .before .before .before .before in
@@ -88,9 +79,6 @@ loop-again c =
     let q = small (c .before .before .before .before .before .before .before) in
     let w = puts-at k (getD ds k 0) (start-is (c .before .before .before .before)) (c .before .before .put-line .ensures) in
     (omega (arith, c .before .before .before .before .before .before .before .loop-test .taken), puts-length w ∙ l .inv .1, omega (arith, w .end, l .inv .2, each-line ds es (s .pre .0 .started) (s .pre .0 .durations) k q), puts-next (lineAt ds es) (s .args .order .now) (l .i) (omega (arith, s .pre .0 .long, c .before .before .before .before .before .before .before .loop-test .taken)) (l .inv .3) w)
-
-same-length : tie.Need-same-length Inv-loop μ-loop
-same-length c = search needs
 
 returns : tie.Need-returns Inv-loop μ-loop
 returns c =
@@ -103,19 +91,6 @@ pub put-lines-spec : {M : Type 1} → statement M
 put-lines-spec =
     tie.close
     (tie.spec
-    Inv-loop
-    μ-loop
-    put-heading-requires
-    loop-holds
-    mul-task
-    element-copy-out-task
-    mul-put-line
-    shared-slice-copy-out-put-line
-    mul-put-line-2
-    element-copy-out-put-line
-    put-line-requires
-    add-i
-    loop-less
-    loop-again
-    same-length
-    returns)
+    Inv-loop μ-loop put-heading-requires loop-holds (λ c. search needs) element-copy-out-task mul-put-line
+    shared-slice-copy-out-put-line mul-put-line-2 element-copy-out-put-line put-line-requires (λ c. search needs)
+    (λ c. search needs) loop-again (λ c. search needs) returns)

@@ -17,9 +17,6 @@ number c = sym (c .before .page-refusal .ensures) ∙ c .if1 .left
 held : (c : tie.Else1) → let a = c .before .before .before .args in Accepted (a .t1) (a .earliest .now) (a .latest .now) (length (a .out .now))
 held c = let a = c .before .before .before .args in accepted-page (a .t1) (a .earliest .now) (a .latest .now) (length (a .out .now)) .0 (number c)
 
-page-refusal-requires : tie.Need-page-refusal-requires
-page-refusal-requires c κs = search needs
-
 returns : tie.Need-returns
 returns c = let a = c .before .before .before .args in refused (a .t1) (a .earliest .now) (a .latest .now) (a .out .now) (c .before .page-refusal .result) (c .before .page-refusal .ensures) (c .if1 .taken) refl
 
@@ -32,9 +29,6 @@ put-lines-requires c κs =
     let h = held (c .before .before .before .before .before) in
     (listed (a .t1) (a .earliest .now) (a .latest .now) (input-of (h .schedule)) _ (c .before .before .before .before .order-of .ensures), omega (arith, h .room, h .schedule .counts .earliest))
 
-same-length : tie.Need-same-length
-same-length c = search needs
-
 returns-2 : tie.Need-returns-2
 returns-2 c =
     let start = c .before .before .before .before .before .before .before .before in
@@ -45,9 +39,4 @@ pub page-spec : {M : Type 1} → statement M
 page-spec =
     tie.close
     (tie.spec
-    page-refusal-requires
-    returns
-    order-of-requires
-    put-lines-requires
-    same-length
-    returns-2)
+    (λ c κs. search needs) returns order-of-requires put-lines-requires (λ c. search needs) returns-2)

@@ -12,9 +12,6 @@ use Rattle.pages.proofs.page.page_refusal.Tie as tie
 number : (c : tie.Else1) → let a = c .before .before .args in fixedNumber (a .«record») (a .earliest .now) (a .latest .now) ≡ 0
 number c = sym (c .before .fixed-refusal .ensures) ∙ c .if1 .left
 
-fixed-refusal-requires : tie.Need-fixed-refusal-requires
-fixed-refusal-requires c κs = search needs
-
 returns : tie.Need-returns
 returns c =
     let a = c .before .before .args in
@@ -33,5 +30,4 @@ returns-3 : tie.Need-returns-3
 returns-3 c = let a = c .before .before .before .before .args in sym (room-enough (a .«record») (a .earliest .now) (a .latest .now) (a .room) (number (c .before .before)) (c .if2 .left))
 
 pub page-refusal-spec : {M : Type 1} → statement M
-page-refusal-spec =
-    tie.close (tie.spec fixed-refusal-requires returns add-if2 mul-if2 returns-2 returns-3)
+page-refusal-spec = tie.close (tie.spec (λ c κs. search needs) returns add-if2 mul-if2 returns-2 returns-3)

@@ -14,38 +14,14 @@ use Rattle.plan_cli.proofs.answer.put_planned.Tie as tie
 all-durations : (c : tie.Start) → length (c .args .t5) ≡ TASKS
 all-durations c = search needs
 
-array-share-prefix-durations : tie.Need-array-share-prefix-durations
-array-share-prefix-durations c = search needs
-
 slice-aggregate-create : tie.Need-slice-aggregate-create
 slice-aggregate-create c = sym (length-take-le _ _ (omega (arith, all-durations (c .before .before), c .before .before .pre .0)))
-
-create-requires : tie.Need-create-requires
-create-requires c κs = search needs
-
-enum-told : tie.Need-enum-told
-enum-told c = search needs
-
-put-ran-requires : tie.Need-put-ran-requires
-put-ran-requires c κs = search needs
-
-enum-known-answer : tie.Need-enum-known-answer
-enum-known-answer c = search needs
-
-put-refused-requires : tie.Need-put-refused-requires
-put-refused-requires c κs = search needs
-
-same-length : tie.Need-same-length
-same-length c = search needs
 
 returns : tie.Need-returns
 returns c =
     let s = c .before .before .before .before .before .before .before .before .before .before in
     let n = s .args .n in
     (puts-as (ap answerLines (accepted-planned (take n (s .args .earliest)) (take n (s .args .latest)) (take n (s .args .t5)) (c .before .before .before .before .before .before .before .create .result) (c .before .before .before .before .before .before .before .create .ensures .0) (c .before .before .before .before .enum-told .given .1))) (c .before .before .put-ran .ensures .0), c .before .before .put-ran .ensures .1)
-
-same-length-2 : tie.Need-same-length-2
-same-length-2 c = search needs
 
 returns-2 : tie.Need-returns-2
 returns-2 c =
@@ -58,14 +34,5 @@ pub put-planned-spec : {M : Type 1} → statement M
 put-planned-spec =
     tie.close
     (tie.spec
-    array-share-prefix-durations
-    slice-aggregate-create
-    create-requires
-    enum-told
-    put-ran-requires
-    enum-known-answer
-    put-refused-requires
-    same-length
-    returns
-    same-length-2
-    returns-2)
+    (λ c. search needs) slice-aggregate-create (λ c κs. search needs) (λ c. search needs) (λ c κs. search needs)
+    (λ c. search needs) (λ c κs. search needs) (λ c. search needs) returns (λ c. search needs) returns-2)

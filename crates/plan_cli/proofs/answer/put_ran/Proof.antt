@@ -42,32 +42,11 @@ shown c =
     (shows (s .args .«record») (take (s .args .n) (s .args .earliest)) (take (s .args .n) (s .args .t5)) _ _ (length-replicate {A = ℤ} 192 (pos 0)) (length-replicate {A = ℤ} 13824 (pos 0)) (c .propagate .result) (c .propagate .last .1 .0) (c .propagate .last .1 .1 .1 .1 .0) (c .propagate .last .1 .1 .1 .1 .1 .0)
     (omega (arith, starts-long c, s .pre .0)) (c .propagate .ensures))
 
-array-borrow-prefix-starts : tie.Need-array-borrow-prefix-starts
-array-borrow-prefix-starts c = search needs
-
 slice-aggregate-propagate : tie.Need-slice-aggregate-propagate
 slice-aggregate-propagate c = sym (length-take-le _ _ (omega (arith, all-earliest (c .before .before), c .before .before .pre .0)))
 
-array-share-prefix-latest : tie.Need-array-share-prefix-latest
-array-share-prefix-latest c = search needs
-
 slice-aggregate-propagate-2 : tie.Need-slice-aggregate-propagate-2
 slice-aggregate-propagate-2 c = sym (length-take-le _ _ (omega (arith, all-latest (c .before .before .before), c .before .before .before .pre .0)))
-
-slice-aggregate-propagate-3 : tie.Need-slice-aggregate-propagate-3
-slice-aggregate-propagate-3 c = search needs
-
-slice-aggregate-propagate-4 : tie.Need-slice-aggregate-propagate-4
-slice-aggregate-propagate-4 c = search needs
-
-propagate-requires : tie.Need-propagate-requires
-propagate-requires c κs = search needs
-
-slice-aggregate-put-run : tie.Need-slice-aggregate-put-run
-slice-aggregate-put-run c = search needs
-
-slice-aggregate-put-run-2 : tie.Need-slice-aggregate-put-run-2
-slice-aggregate-put-run-2 c = search needs
 
 array-share-prefix-starts : tie.Need-array-share-prefix-starts
 array-share-prefix-starts c = let s = c .before .before .before .before .before .before .before .before .before .before .before .before in omega (arith, length-front (s .args .earliest) (c .before .before .before .before .before .before .propagate .last .1 .0) (s .args .n) (c .before .before .before .before .before .before .propagate .kept .1 .0), all-earliest s, s .pre .0)
@@ -80,9 +59,6 @@ put-run-requires c κs =
     let start = c .before .before .before .before .before .before .before .before .before .before .before .before .before in
     record { what = answer-of (c .before .before .before .before .before .before .before); shows = shown (c .before .before .before .before .before .before .before); fits = start .pre .1 }
 
-same-length : tie.Need-same-length
-same-length c = search needs
-
 returns : tie.Need-returns
 returns c =
     let start = c .before .before .before .before .before .before .before .before .before .before in
@@ -92,17 +68,6 @@ pub put-ran-spec : {M : Type 1} → statement M
 put-ran-spec =
     tie.close
     (tie.spec
-    array-borrow-prefix-starts
-    slice-aggregate-propagate
-    array-share-prefix-latest
-    slice-aggregate-propagate-2
-    slice-aggregate-propagate-3
-    slice-aggregate-propagate-4
-    propagate-requires
-    slice-aggregate-put-run
-    slice-aggregate-put-run-2
-    array-share-prefix-starts
-    slice-aggregate-put-run-3
-    put-run-requires
-    same-length
-    returns)
+    (λ c. search needs) slice-aggregate-propagate (λ c. search needs) slice-aggregate-propagate-2 (λ c. search needs)
+    (λ c. search needs) (λ c κs. search needs) (λ c. search needs) (λ c. search needs) array-share-prefix-starts
+    slice-aggregate-put-run-3 put-run-requires (λ c. search needs) returns)

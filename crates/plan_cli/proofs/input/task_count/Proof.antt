@@ -23,26 +23,11 @@ returns c xs h = invalid (c .before .before .args .numbers) xs h (not-true _ (c 
 returns-2 : tie.Need-returns-2
 returns-2 c xs h = nothing (c .before .before .before .args .numbers) xs h (c .if2 .taken)
 
-array-copy-out-first : tie.Need-array-copy-out-first
-array-copy-out-first c = search needs
-
-at-most-requires : tie.Need-at-most-requires
-at-most-requires c κs = search needs
-
 returns-3 : tie.Need-returns-3
 returns-3 c xs h = negative (c .before .before .before .before .before .before .before .args .numbers) xs h (ap (leZ (pos 0)) (sym (first-is (c .before .before))) ∙ sym (c .before .at-most .ensures) ∙ not-true _ (c .if3 .taken))
 
 nat-of-requires : tie.Need-nat-of-requires
 nat-of-requires c κs = leZ-true (pos 0) _ (sym (c .before .at-most .ensures) ∙ not-false _ (c .if3 .left))
-
-cast-n : tie.Need-cast-n
-cast-n c = search needs
-
-mul-if4 : tie.Need-mul-if4
-mul-if4 c = search needs
-
-add-if4 : tie.Need-add-if4
-add-if4 c = search needs
 
 returns-4 : tie.Need-returns-4
 returns-4 c xs h =
@@ -58,14 +43,5 @@ pub task-count-spec : {M : Type 1} → statement M
 task-count-spec =
     tie.close
     (tie.spec
-    returns
-    returns-2
-    array-copy-out-first
-    at-most-requires
-    returns-3
-    nat-of-requires
-    cast-n
-    mul-if4
-    add-if4
-    returns-4
-    returns-5)
+    returns returns-2 (λ c. search needs) (λ c κs. search needs) returns-3 nat-of-requires (λ c. search needs)
+    (λ c. search needs) (λ c. search needs) returns-4 returns-5)

@@ -27,47 +27,8 @@ abbrev μ-loop : tie.MeasureT-loop
 loop-holds : tie.Need-loop-holds Inv-loop μ-loop
 loop-holds c = (omega arith, refl, refl, omega arith, λ atoms w. puts-why-first _ _ atoms)
 
-mul-put-why : tie.Need-mul-put-why Inv-loop μ-loop
-mul-put-why c = search needs
-
-mul-put-why-2 : tie.Need-mul-put-why-2 Inv-loop μ-loop
-mul-put-why-2 c = search needs
-
-shared-slice-copy-out-put-why : tie.Need-shared-slice-copy-out-put-why Inv-loop μ-loop
-shared-slice-copy-out-put-why c = search needs
-
-mul-put-why-3 : tie.Need-mul-put-why-3 Inv-loop μ-loop
-mul-put-why-3 c = search needs
-
-add-put-why : tie.Need-add-put-why Inv-loop μ-loop
-add-put-why c = search needs
-
-mul-put-why-4 : tie.Need-mul-put-why-4 Inv-loop μ-loop
-mul-put-why-4 c = search needs
-
-shared-slice-copy-out-put-why-2 : tie.Need-shared-slice-copy-out-put-why-2 Inv-loop μ-loop
-shared-slice-copy-out-put-why-2 c = search needs
-
-mul-put-why-5 : tie.Need-mul-put-why-5 Inv-loop μ-loop
-mul-put-why-5 c = search needs
-
-add-put-why-2 : tie.Need-add-put-why-2 Inv-loop μ-loop
-add-put-why-2 c = search needs
-
-mul-put-why-6 : tie.Need-mul-put-why-6 Inv-loop μ-loop
-mul-put-why-6 c = search needs
-
-shared-slice-copy-out-put-why-3 : tie.Need-shared-slice-copy-out-put-why-3 Inv-loop μ-loop
-shared-slice-copy-out-put-why-3 c = search needs
-
 put-why-requires : tie.Need-put-why-requires Inv-loop μ-loop
 put-why-requires c κs = let l = c .before .before .before .before .before .loop in omega (arith, l .inv .1, l .inv .2, l .inv .3, c .before .before .before .before .before .before .before .pre, c .before .before .before .before .loop-test .taken)
-
-add-k : tie.Need-add-k Inv-loop μ-loop
-add-k c = search needs
-
-loop-less : tie.Need-loop-less Inv-loop μ-loop
-loop-less c = search needs
 
 loop-again : tie.Need-loop-again Inv-loop μ-loop
 loop-again c =
@@ -82,9 +43,6 @@ loop-again c =
       puts-why-next words (l .k) (omega (arith, c .before .before .before .before .before .before .before .loop-test .taken)) (back-of w32 (getD words at (pos 0)) (c .before .before .before .before .before .put-why-arg2 .given)) (back-of w32 (getD words (at + 1) (pos 0)) (c .before .before .before .before .put-why-arg3 .given)) (back-of w32 (getD words (at + 2) (pos 0)) (c .before .before .before .put-why-arg4 .given)) (w .ensures .0) (l .inv .4),
     )
 
-same-length : tie.Need-same-length Inv-loop μ-loop
-same-length c = search needs
-
 returns : tie.Need-returns Inv-loop μ-loop
 returns c =
     let l = c .before .loop in
@@ -94,23 +52,7 @@ pub put-reason-spec : {M : Type 1} → statement M
 put-reason-spec =
     tie.close
     (tie.spec
-    Inv-loop
-    μ-loop
-    loop-holds
-    mul-put-why
-    mul-put-why-2
-    shared-slice-copy-out-put-why
-    mul-put-why-3
-    add-put-why
-    mul-put-why-4
-    shared-slice-copy-out-put-why-2
-    mul-put-why-5
-    add-put-why-2
-    mul-put-why-6
-    shared-slice-copy-out-put-why-3
-    put-why-requires
-    add-k
-    loop-less
-    loop-again
-    same-length
-    returns)
+    Inv-loop μ-loop loop-holds (λ c. search needs) (λ c. search needs) (λ c. search needs) (λ c. search needs)
+    (λ c. search needs) (λ c. search needs) (λ c. search needs) (λ c. search needs) (λ c. search needs)
+    (λ c. search needs) (λ c. search needs) put-why-requires (λ c. search needs) (λ c. search needs) loop-again
+    (λ c. search needs) returns)

@@ -8,32 +8,11 @@ use borrow.Author.Needs.{needs}
 use Rattle.plan_cli.proofs.lines.put_sign.Statement.{statement}
 use Rattle.plan_cli.proofs.lines.put_sign.Tie as tie
 
-at-most-requires : tie.Need-at-most-requires
-at-most-requires c κs = search needs
-
-slice-aggregate-put-bytes : tie.Need-slice-aggregate-put-bytes
-slice-aggregate-put-bytes c = search needs
-
-put-bytes-requires : tie.Need-put-bytes-requires
-put-bytes-requires c κs = search needs
-
-same-length : tie.Need-same-length
-same-length c = search needs
-
 returns : tie.Need-returns
 returns c =
     let s = c .before .before .before .before .before .before .before .before in
     let w = c .before .before .put-bytes .ensures in
     (puts-as (sign-low (s .args .kind) (ap (λ z. leZ z (pos 0)) (sym (back (s .fits .kind))) ∙ sym (c .before .before .before .before .before .before .at-most .ensures) ∙ c .before .before .before .before .before .if1 .taken)) w, w .end)
-
-slice-aggregate-put-bytes-2 : tie.Need-slice-aggregate-put-bytes-2
-slice-aggregate-put-bytes-2 c = search needs
-
-put-bytes-requires-2 : tie.Need-put-bytes-requires-2
-put-bytes-requires-2 c κs = search needs
-
-same-length-2 : tie.Need-same-length-2
-same-length-2 c = search needs
 
 returns-2 : tie.Need-returns-2
 returns-2 c =
@@ -45,12 +24,5 @@ pub put-sign-spec : {M : Type 1} → statement M
 put-sign-spec =
     tie.close
     (tie.spec
-    at-most-requires
-    slice-aggregate-put-bytes
-    put-bytes-requires
-    same-length
-    returns
-    slice-aggregate-put-bytes-2
-    put-bytes-requires-2
-    same-length-2
-    returns-2)
+    (λ c κs. search needs) (λ c. search needs) (λ c κs. search needs) (λ c. search needs) returns (λ c. search needs)
+    (λ c κs. search needs) (λ c. search needs) returns-2)

@@ -23,20 +23,8 @@ abbrev μ-loop : tie.MeasureT-loop
 loop-holds : tie.Need-loop-holds Inv-loop μ-loop
 loop-holds c = (omega arith, refl, omega arith, puts-first spacedOne (pos 0) _ _ (c .before .args .starts .now))
 
-mul-put-spaced : tie.Need-mul-put-spaced Inv-loop μ-loop
-mul-put-spaced c = search needs
-
-shared-slice-copy-out-put-spaced : tie.Need-shared-slice-copy-out-put-spaced Inv-loop μ-loop
-shared-slice-copy-out-put-spaced c = search needs
-
 put-spaced-requires : tie.Need-put-spaced-requires Inv-loop μ-loop
 put-spaced-requires c κs = let l = c .before .before .before .loop in omega (arith, l .inv .1, l .inv .2, c .before .before .before .before .before .pre, c .before .before .loop-test .taken)
-
-add-i : tie.Need-add-i Inv-loop μ-loop
-add-i c = search needs
-
-loop-less : tie.Need-loop-less Inv-loop μ-loop
-loop-less c = search needs
 
 loop-again : tie.Need-loop-again Inv-loop μ-loop
 loop-again c =
@@ -49,9 +37,6 @@ loop-again c =
       puts-next spacedOne (pos 0) xs (l .i) (c .before .before .before .before .before .loop-test .taken) (l .inv .3) (puts-as (ap spacedOne (back-of w32 (getD xs (l .i) (pos 0)) (c .before .before .before .put-spaced-arg2 .given))) (w .ensures .0)),
     )
 
-same-length : tie.Need-same-length Inv-loop μ-loop
-same-length c = search needs
-
 returns : tie.Need-returns Inv-loop μ-loop
 returns c =
     let l = c .before .loop in
@@ -62,14 +47,5 @@ pub put-starts-spec : {M : Type 1} → statement M
 put-starts-spec =
     tie.close
     (tie.spec
-    Inv-loop
-    μ-loop
-    loop-holds
-    mul-put-spaced
-    shared-slice-copy-out-put-spaced
-    put-spaced-requires
-    add-i
-    loop-less
-    loop-again
-    same-length
-    returns)
+    Inv-loop μ-loop loop-holds (λ c. search needs) (λ c. search needs) put-spaced-requires (λ c. search needs)
+    (λ c. search needs) loop-again (λ c. search needs) returns)

@@ -22,32 +22,14 @@ further c =
     let p = c .read-piece .ensures in
     (i .0 ++ p .0, p .1 ∙ ap (λ (s : Scanner). foldl stepOf s (p .0)) (i .1) ∙ sym (foldl-append stepOf atStart (i .0) (p .0)))
 
-new-requires : tie.Need-new-requires Inv-loop μ-loop
-new-requires c κs = search needs
-
 loop-holds : tie.Need-loop-holds Inv-loop μ-loop
 loop-holds c = ([], c .new .ensures)
-
-read-piece-requires : tie.Need-read-piece-requires Inv-loop μ-loop
-read-piece-requires c κs = search needs
-
-sub-turns : tie.Need-sub-turns Inv-loop μ-loop
-sub-turns c = search needs
-
-loop-less : tie.Need-loop-less Inv-loop μ-loop
-loop-less c = search needs
 
 loop-again : tie.Need-loop-again Inv-loop μ-loop
 loop-again c = further (c .before .before .before)
 
-loop-less-2 : tie.Need-loop-less-2 Inv-loop μ-loop
-loop-less-2 c = search needs
-
 loop-again-2 : tie.Need-loop-again-2 Inv-loop μ-loop
 loop-again-2 c = further (c .before .before .before)
-
-finish-requires : tie.Need-finish-requires Inv-loop μ-loop
-finish-requires c κs = search needs
 
 returns : tie.Need-returns Inv-loop μ-loop
 returns c = let i = c .before .before .loop .inv in (i .0, c .finish .ensures ∙ ap endOf (i .1) ∙ scanned (i .0))
@@ -56,15 +38,5 @@ pub read-numbers-spec : {M : Type 1} → statement M
 read-numbers-spec =
     tie.close
     (tie.spec
-    Inv-loop
-    μ-loop
-    new-requires
-    loop-holds
-    read-piece-requires
-    sub-turns
-    loop-less
-    loop-again
-    loop-less-2
-    loop-again-2
-    finish-requires
-    returns)
+    Inv-loop μ-loop (λ c κs. search needs) loop-holds (λ c κs. search needs) (λ c. search needs) (λ c. search needs)
+    loop-again (λ c. search needs) loop-again-2 (λ c κs. search needs) returns)

@@ -9,25 +9,10 @@ use borrow.Author.Needs.{needs}
 use Rattle.plan_cli.proofs.report.put_posted.Statement.{statement}
 use Rattle.plan_cli.proofs.report.put_posted.Tie as tie
 
-task-word-requires : tie.Need-task-word-requires
-task-word-requires c κs = search needs
-
-bound-word-requires : tie.Need-bound-word-requires
-bound-word-requires c κs = search needs
-
-put-post-requires : tie.Need-put-post-requires
-put-post-requires c κs = search needs
-
-post-reason-requires : tie.Need-post-reason-requires
-post-reason-requires c κs = search needs
-
 put-reason-requires : tie.Need-put-reason-requires
 put-reason-requires c κs =
     let start = c .before .before .before .before .before .before .before .before .before in
     omega (arith, ap length (c .post-reason .ensures), c .before .before .before .before .put-post .ensures .1, c .before .before .before .before .put-post .kept .0, start .pre .1)
-
-same-length : tie.Need-same-length
-same-length c = search needs
 
 returns : tie.Need-returns
 returns c =
@@ -46,10 +31,5 @@ pub put-posted-spec : {M : Type 1} → statement M
 put-posted-spec =
     tie.close
     (tie.spec
-    task-word-requires
-    bound-word-requires
-    put-post-requires
-    post-reason-requires
-    put-reason-requires
-    same-length
-    returns)
+    (λ c κs. search needs) (λ c κs. search needs) (λ c κs. search needs) (λ c κs. search needs) put-reason-requires
+    (λ c. search needs) returns)

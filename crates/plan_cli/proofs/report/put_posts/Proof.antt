@@ -23,20 +23,11 @@ put-posted-requires c κs =
     let p = reached-room _ _ _ _ (l .out) (l .end) (l .j) (l .inv .2) _ (c .before .before .before .before .pre) (c .before .loop-test .taken) in
     (p .0, omega (arith, p .1, l .inv .1))
 
-add-j : tie.Need-add-j Inv-loop μ-loop
-add-j c = search needs
-
-loop-less : tie.Need-loop-less Inv-loop μ-loop
-loop-less c = search needs
-
 loop-again : tie.Need-loop-again Inv-loop μ-loop
 loop-again c =
     let w = c .before .before .put-posted in
     let l = c .before .before .before .before .before .loop in
     (omega (arith, c .before .before .before .before .loop-test .taken), w .kept .0 ∙ l .inv .1, reached-next _ _ _ _ (l .out) (l .end) (l .j) (l .inv .2) _ _ (c .before .before .before .before .loop-test .taken) (w .ensures .0) (w .ensures .1))
-
-same-length : tie.Need-same-length Inv-loop μ-loop
-same-length c = search needs
 
 returns : tie.Need-returns Inv-loop μ-loop
 returns c =
@@ -48,12 +39,5 @@ pub put-posts-spec : {M : Type 1} → statement M
 put-posts-spec =
     tie.close
     (tie.spec
-    Inv-loop
-    μ-loop
-    loop-holds
-    put-posted-requires
-    add-j
-    loop-less
-    loop-again
-    same-length
-    returns)
+    Inv-loop μ-loop loop-holds put-posted-requires (λ c. search needs) (λ c. search needs) loop-again
+    (λ c. search needs) returns)

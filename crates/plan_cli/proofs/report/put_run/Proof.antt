@@ -29,17 +29,11 @@ emptied c what s = emptied-parts (c .before .before .before .args .posts .now) (
 refused : (c : tie.After-outcome4) (what : ℕ ⊎ Trace) → Shown what (c .before .before .before .args .outcome) (c .before .before .before .args .posts .now) (c .before .before .before .args .atoms .now) (c .before .before .before .args .starts .now) → answerLines what ≡ refusedLine (c .outcome4 .given .0 .0)
 refused c what s = refused-part (c .before .before .before .args .posts .now) (c .before .before .before .args .atoms .now) (c .before .before .before .args .starts .now) what (c .outcome4 .given .0 .0) (subst (λ (r : Outcome). Shown what r (c .before .before .before .args .posts .now) (c .before .before .before .args .atoms .now) (c .before .before .before .args .starts .now)) (c .outcome4 .given .1) s)
 
-enum-known-outcome : tie.Need-enum-known-outcome
-enum-known-outcome c = search needs
-
 put-posts-requires : tie.Need-put-posts-requires
 put-posts-requires c κs = let s = c .before .before .before .before .before .pre in let p = done (c .before .before) (s .what) (s .shows) .0 in record { list = p .list; holds = p .holds; fits = omega (arith, p .few, s .fits) }
 
 put-done-requires : tie.Need-put-done-requires
 put-done-requires c κs = let s = c .before .before .before .before .before .before .before .before .before .pre in let p = done (c .before .before .before .before .before .before) (s .what) (s .shows) in omega (arith, p .0 .few, p .1, s .fits, c .before .before .before .put-posts .kept .0, c .before .before .before .put-posts .ensures .1 (p .0 .list) (p .0 .holds))
-
-enum-known-outcome-2 : tie.Need-enum-known-outcome-2
-enum-known-outcome-2 c = search needs
 
 put-posts-requires-2 : tie.Need-put-posts-requires-2
 put-posts-requires-2 c κs = let s = c .before .before .before .before .before .pre in let p = overloaded (c .before .before) (s .what) (s .shows) .parts in record { list = p .list; holds = p .holds; fits = omega (arith, p .few, s .fits) }
@@ -47,26 +41,11 @@ put-posts-requires-2 c κs = let s = c .before .before .before .before .before .
 put-overload-requires : tie.Need-put-overload-requires
 put-overload-requires c κs = let s = c .before .before .before .before .before .before .before .before .before .pre in let q = overloaded (c .before .before .before .before .before .before) (s .what) (s .shows) in let p = q .parts in (q .inside, omega (arith, p .few, s .fits, c .before .before .before .put-posts2 .kept .0, c .before .before .before .put-posts2 .ensures .1 (p .list) (p .holds)))
 
-enum-known-outcome-3 : tie.Need-enum-known-outcome-3
-enum-known-outcome-3 c = search needs
-
 put-posts-requires-3 : tie.Need-put-posts-requires-3
 put-posts-requires-3 c κs = let s = c .before .before .before .before .before .pre in let p = emptied (c .before .before) (s .what) (s .shows) in record { list = p .list; holds = p .holds; fits = omega (arith, p .few, s .fits) }
 
-slice-aggregate-put-bytes : tie.Need-slice-aggregate-put-bytes
-slice-aggregate-put-bytes c = search needs
-
 put-bytes-requires : tie.Need-put-bytes-requires
 put-bytes-requires c κs = let s = c .before .before .before .before .before .before .before .before .before .before .pre in let p = emptied (c .before .before .before .before .before .before .before) (s .what) (s .shows) in omega (arith, p .few, s .fits, c .before .before .before .before .put-posts3 .kept .0, c .before .before .before .before .put-posts3 .ensures .1 (p .list) (p .holds))
-
-enum-known-outcome-4 : tie.Need-enum-known-outcome-4
-enum-known-outcome-4 c = search needs
-
-put-refused-requires : tie.Need-put-refused-requires
-put-refused-requires c κs = search needs
-
-same-length : tie.Need-same-length
-same-length c = search needs
 
 returns : tie.Need-returns
 returns c =
@@ -77,9 +56,6 @@ returns c =
     let e = c .before .before .put-done .ensures in
     (λ what h. (let q = done start what h .0 in puts-as (sym (q .text)) (puts-append (w .0 (q .list) (q .holds)) (e .0))), omega (arith, p .0 .few, p .1, s .fits, w .1 (p .0 .list) (p .0 .holds), e .1))
 
-same-length-2 : tie.Need-same-length-2
-same-length-2 c = search needs
-
 returns-2 : tie.Need-returns-2
 returns-2 c =
     let start = c .before .before .before .before .before .before .before .before .before in
@@ -88,9 +64,6 @@ returns-2 c =
     let w = c .before .before .before .before .before .before .put-posts2 .ensures in
     let e = c .before .before .put-overload .ensures in
     (λ what h. (let q = overloaded start what h in puts-as (sym (q .parts .text)) (puts-append (w .0 (q .parts .list) (q .parts .holds)) (e .0 (q .reason) (q .words)))), omega (arith, p .few, s .fits, w .1 (p .list) (p .holds), e .1))
-
-same-length-3 : tie.Need-same-length-3
-same-length-3 c = search needs
 
 returns-3 : tie.Need-returns-3
 returns-3 c =
@@ -101,9 +74,6 @@ returns-3 c =
     let e = c .before .before .put-bytes .ensures in
     (λ what h. (let q = emptied start what h in puts-as (sym (q .text)) (puts-append (w .0 (q .list) (q .holds)) e)), omega (arith, p .few, s .fits, w .1 (p .list) (p .holds), e .end))
 
-same-length-4 : tie.Need-same-length-4
-same-length-4 c = search needs
-
 returns-4 : tie.Need-returns-4
 returns-4 c =
     let start = c .before .before .before .before .before .before .before .before in
@@ -113,23 +83,7 @@ pub put-run-spec : {M : Type 1} → statement M
 put-run-spec =
     tie.close
     (tie.spec
-    enum-known-outcome
-    put-posts-requires
-    put-done-requires
-    enum-known-outcome-2
-    put-posts-requires-2
-    put-overload-requires
-    enum-known-outcome-3
-    put-posts-requires-3
-    slice-aggregate-put-bytes
-    put-bytes-requires
-    enum-known-outcome-4
-    put-refused-requires
-    same-length
-    returns
-    same-length-2
-    returns-2
-    same-length-3
-    returns-3
-    same-length-4
-    returns-4)
+    (λ c. search needs) put-posts-requires put-done-requires (λ c. search needs) put-posts-requires-2
+    put-overload-requires (λ c. search needs) put-posts-requires-3 (λ c. search needs) put-bytes-requires
+    (λ c. search needs) (λ c κs. search needs) (λ c. search needs) returns (λ c. search needs) returns-2
+    (λ c. search needs) returns-3 (λ c. search needs) returns-4)

@@ -49,35 +49,8 @@ returns c = sym (refuses [] (test 11 _) _ tt (le-ltb _ _ (c .if1 .taken)))
 returns-2 : tie.Need-returns-2
 returns-2 c = sym (refuses (test 11 _ ∷ []) (test 11 _) _ (counted (c .before), tt) (lt-leb (4 * c .before .before .args .index + 4) (length (c .before .before .args .posts .now)) (omega arith)))
 
-mul-at : tie.Need-mul-at
-mul-at c = search needs
-
-add-first : tie.Need-add-first
-add-first c = search needs
-
-mul-first : tie.Need-mul-first
-mul-first c = search needs
-
-shared-slice-copy-out-first : tie.Need-shared-slice-copy-out-first
-shared-slice-copy-out-first c = search needs
-
-add-count : tie.Need-add-count
-add-count c = search needs
-
-mul-count : tie.Need-mul-count
-mul-count c = search needs
-
-shared-slice-copy-out-count : tie.Need-shared-slice-copy-out-count
-shared-slice-copy-out-count c = search needs
-
-at-most-requires : tie.Need-at-most-requires
-at-most-requires c κs = search needs
-
 returns-3 : tie.Need-returns-3
 returns-3 c = sym (refuses (test 11 _ ∷ test 11 _ ∷ []) (test 11 _) _ (counted (c .before .before .before .before .before), (inside (c .before .before .before .before), tt)) (sym (from (c .before)) ∙ not-true _ (c .if3 .taken)))
-
-at-most-requires-2 : tie.Need-at-most-requires-2
-at-most-requires-2 c κs = search needs
 
 returns-4 : tie.Need-returns-4
 returns-4 c = sym (refuses (test 11 _ ∷ test 11 _ ∷ test 11 _ ∷ []) (test 11 _) _ (counted (c .before .before .before .before .before .before .before), (inside (c .before .before .before .before .before .before), (sym (from (c .before .before .before)) ∙ not-false _ (c .before .before .if3 .left), tt))) (sym (many (c .before)) ∙ not-true _ (c .if4 .taken)))
@@ -119,21 +92,6 @@ pub post-number-spec : {M : Type 1} → statement M
 post-number-spec =
     tie.close
     (tie.spec
-    returns
-    returns-2
-    mul-at
-    add-first
-    mul-first
-    shared-slice-copy-out-first
-    add-count
-    mul-count
-    shared-slice-copy-out-count
-    at-most-requires
-    returns-3
-    at-most-requires-2
-    returns-4
-    words-of-requires
-    words-of-requires-2
-    add-if5
-    returns-5
-    returns-6)
+    returns returns-2 (λ c. search needs) (λ c. search needs) (λ c. search needs) (λ c. search needs)
+    (λ c. search needs) (λ c. search needs) (λ c. search needs) (λ c κs. search needs) returns-3
+    (λ c κs. search needs) returns-4 words-of-requires words-of-requires-2 add-if5 returns-5 returns-6)

@@ -13,12 +13,6 @@ use Rattle.post_words.proofs.Reading.{readable, reason-there, reason-no
 use Rattle.post_words.proofs.posts.post_reason.Statement.{statement}
 use Rattle.post_words.proofs.posts.post_reason.Tie as tie
 
-post-number-requires : tie.Need-post-number-requires
-post-number-requires c κs = search needs
-
-slice-aggregate-result : tie.Need-slice-aggregate-result
-slice-aggregate-result c = search needs
-
 -- the number is 0, so the post can be read
 read : (c : tie.Else1) → Readable (c .before .before .args .posts .now) (c .before .before .args .atoms .now) (c .before .before .args .post-count) (c .before .before .args .index)
 read c =
@@ -70,12 +64,6 @@ add-end c = record { fits = omega (arith, start-is c, length-is c, read (c .befo
 mul-result : tie.Need-mul-result
 mul-result c = record { fits = omega (arith, start-is c, length-is c, read (c .before .before .before .before) .stretch) }
 
-sub-result : tie.Need-sub-result
-sub-result c = search needs
-
-part-result-start : tie.Need-part-result-start
-part-result-start c = search needs
-
 part-result-end : tie.Need-part-result-end
 part-result-end c = omega (arith, start-is c, length-is c, read (c .before .before .before .before) .stretch)
 
@@ -90,21 +78,6 @@ pub post-reason-spec : {M : Type 1} → statement M
 post-reason-spec =
     tie.close
     (tie.spec
-    post-number-requires
-    slice-aggregate-result
-    returns
-    mul-at
-    add-first
-    mul-first
-    shared-slice-copy-out-first
-    add-count
-    mul-count
-    shared-slice-copy-out-count
-    words-of-requires
-    words-of-requires-2
-    add-end
-    mul-result
-    sub-result
-    part-result-start
-    part-result-end
-    returns-2)
+    (λ c κs. search needs) (λ c. search needs) returns mul-at add-first mul-first shared-slice-copy-out-first
+    add-count mul-count shared-slice-copy-out-count words-of-requires words-of-requires-2 add-end mul-result
+    (λ c. search needs) (λ c. search needs) part-result-end returns-2)

@@ -7,17 +7,8 @@ use Rattle.integers.proofs.Ints.{back}
 use Rattle.post_words.proofs.posts.words_of.Statement.{statement}
 use Rattle.post_words.proofs.posts.words_of.Tie as tie
 
-nat-of-requires : tie.Need-nat-of-requires
-nat-of-requires c κs = search needs
-
-cast-result : tie.Need-cast-result
-cast-result c = search needs
-
-mul-result : tie.Need-mul-result
-mul-result c = search needs
-
 returns : tie.Need-returns
 returns c = ap (λ (n : ℕ). 3 * n) (ap natAbs (c .nat-of .ensures ∙ back (c .before .fits .x)))
 
 pub words-of-spec : {M : Type 1} → statement M
-words-of-spec = tie.close (tie.spec nat-of-requires cast-result mul-result returns)
+words-of-spec = tie.close (tie.spec (λ c κs. search needs) (λ c. search needs) (λ c. search needs) returns)

@@ -29,20 +29,8 @@ ready c =
     let a = s .args in
     ranged (a .«record») (a .earliest .now) (a .latest .now) (s .pre) (long s) (est c .moments-of .ensures) (lst c .moments-of2 .ensures)
 
-moments-of-requires : tie.Need-moments-of-requires
-moments-of-requires c κs = search needs
-
-moments-of-requires-2 : tie.Need-moments-of-requires-2
-moments-of-requires-2 c κs = search needs
-
 raised-starts-requires : tie.Need-raised-starts-requires
 raised-starts-requires c κs = ready c
-
-first-past-requires : tie.Need-first-past-requires
-first-past-requires c κs = search needs
-
-same-length : tie.Need-same-length
-same-length c = search needs
 
 returns : tie.Need-returns
 returns c =
@@ -53,12 +41,6 @@ returns c =
     let a = s .args in
     some-past (a .«record») (a .earliest .now) (a .latest .now) (s .pre) (long s) (est m .moments-of .ensures) (lst m .moments-of2 .ensures)
     (w .raised-starts .ensures (ready m)) (f .first-past .result) (f .first-past .ensures) (c .if1 .taken)
-
-store-requires : tie.Need-store-requires
-store-requires c κs = search needs
-
-same-length-2 : tie.Need-same-length-2
-same-length-2 c = search needs
 
 returns-2 : tie.Need-returns-2
 returns-2 c =
@@ -76,12 +58,5 @@ pub accepted-spec : {M : Type 1} → statement M
 accepted-spec =
     tie.close
     (tie.spec
-    moments-of-requires
-    moments-of-requires-2
-    raised-starts-requires
-    first-past-requires
-    same-length
-    returns
-    store-requires
-    same-length-2
-    returns-2)
+    (λ c κs. search needs) (λ c κs. search needs) raised-starts-requires (λ c κs. search needs) (λ c. search needs)
+    returns (λ c κs. search needs) (λ c. search needs) returns-2)

@@ -17,12 +17,6 @@ start n = n .before .before .before .before
 passed : (c : tie.Else1) → let a = start (c .before) .args in AcceptedInput (a .t1) (a .earliest .now) (a .latest .now) × (a .bars-fit ≡ true)
 passed c = let a = start (c .before) .args in accepted-input (a .t1) (a .earliest .now) (a .latest .now) (a .bars-fit) .0 (sym (c .before .input-refusal .ensures) ∙ c .if1 .left)
 
-input-refusal-requires : tie.Need-input-refusal-requires
-input-refusal-requires c κs = search needs
-
-same-length : tie.Need-same-length
-same-length c = search needs
-
 returns : tie.Need-returns
 returns c =
     let n = c .before in
@@ -31,9 +25,6 @@ returns c =
 
 accepted-requires : tie.Need-accepted-requires
 accepted-requires c κs = passed (c .before) .0
-
-same-length-2 : tie.Need-same-length-2
-same-length-2 c = search needs
 
 returns-2 : tie.Need-returns-2
 returns-2 c =
@@ -45,4 +36,5 @@ returns-2 c =
 pub precedences-spec : {M : Type 1} → statement M
 precedences-spec =
     tie.close
-    (tie.spec input-refusal-requires same-length returns accepted-requires same-length-2 returns-2)
+    (tie.spec
+    (λ c κs. search needs) (λ c. search needs) returns accepted-requires (λ c. search needs) returns-2)

@@ -31,26 +31,8 @@ loop-holds c = record { ranged = c .pre; at = λ f. sym (filled-none (raisedAt (
 bound-of-requires : tie.Need-bound-of-requires Inv-loop μ-loop
 bound-of-requires c κs = (c .before .loop .inv .ranged, omega arith)
 
-mul-raised : tie.Need-mul-raised Inv-loop μ-loop
-mul-raised c = search needs
-
 element-copy-out-raised : tie.Need-element-copy-out-raised Inv-loop μ-loop
 element-copy-out-raised c = omega (arith, c .before .before .loop .inv .ranged .held .few)
-
-raised-requires : tie.Need-raised-requires Inv-loop μ-loop
-raised-requires c κs = search needs
-
-mul-raised-2 : tie.Need-mul-raised-2 Inv-loop μ-loop
-mul-raised-2 c = search needs
-
-array-write-raised : tie.Need-array-write-raised Inv-loop μ-loop
-array-write-raised c = search needs
-
-add-i : tie.Need-add-i Inv-loop μ-loop
-add-i c = search needs
-
-loop-less : tie.Need-loop-less Inv-loop μ-loop
-loop-less c = search needs
 
 loop-again : tie.Need-loop-again Inv-loop μ-loop
 loop-again c =
@@ -72,16 +54,5 @@ pub raised-starts-spec : {M : Type 1} → statement M
 raised-starts-spec =
     tie.close
     (tie.spec
-    Inv-loop
-    μ-loop
-    loop-holds
-    bound-of-requires
-    mul-raised
-    element-copy-out-raised
-    raised-requires
-    mul-raised-2
-    array-write-raised
-    add-i
-    loop-less
-    loop-again
-    returns)
+    Inv-loop μ-loop loop-holds bound-of-requires (λ c. search needs) element-copy-out-raised (λ c κs. search needs)
+    (λ c. search needs) (λ c. search needs) (λ c. search needs) (λ c. search needs) loop-again returns)

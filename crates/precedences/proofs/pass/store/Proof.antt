@@ -22,27 +22,6 @@ abbrev μ-loop : tie.MeasureT-loop
 loop-holds : tie.Need-loop-holds Inv-loop μ-loop
 loop-holds c = (omega arith, refl, sym (filled-none (startAt (c .args .raised .now)) (c .args .earliest .now)))
 
-mul-start-of : tie.Need-mul-start-of Inv-loop μ-loop
-mul-start-of c = search needs
-
-element-copy-out-start-of : tie.Need-element-copy-out-start-of Inv-loop μ-loop
-element-copy-out-start-of c = search needs
-
-start-of-requires : tie.Need-start-of-requires Inv-loop μ-loop
-start-of-requires c κs = search needs
-
-mul-t10 : tie.Need-mul-t10 Inv-loop μ-loop
-mul-t10 c = search needs
-
-slice-set-from-earliest : tie.Need-slice-set-from-earliest Inv-loop μ-loop
-slice-set-from-earliest c = search needs
-
-add-k : tie.Need-add-k Inv-loop μ-loop
-add-k c = search needs
-
-loop-less : tie.Need-loop-less Inv-loop μ-loop
-loop-less c = search needs
-
 loop-again : tie.Need-loop-again Inv-loop μ-loop
 loop-again c =
     let start = c .before .before .before .before in
@@ -50,9 +29,6 @@ loop-again c =
     let f = startAt (start .args .raised .now) in
     let stored = filled-store f (start .args .earliest .now) (l .earliest) (l .k) _ (l .inv .2) (back-of w32 (c .start-of .result) (c .start-of .ok) ∙ c .start-of .ensures) in
     (omega arith, ap length stored ∙ filled-length f (l .k + 1) (start .args .earliest .now), stored)
-
-same-length : tie.Need-same-length Inv-loop μ-loop
-same-length c = search needs
 
 returns : tie.Need-returns Inv-loop μ-loop
 returns c =
@@ -65,16 +41,5 @@ pub store-spec : {M : Type 1} → statement M
 store-spec =
     tie.close
     (tie.spec
-    Inv-loop
-    μ-loop
-    loop-holds
-    mul-start-of
-    element-copy-out-start-of
-    start-of-requires
-    mul-t10
-    slice-set-from-earliest
-    add-k
-    loop-less
-    loop-again
-    same-length
-    returns)
+    Inv-loop μ-loop loop-holds (λ c. search needs) (λ c. search needs) (λ c κs. search needs) (λ c. search needs)
+    (λ c. search needs) (λ c. search needs) (λ c. search needs) loop-again (λ c. search needs) returns)

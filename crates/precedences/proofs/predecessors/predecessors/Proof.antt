@@ -19,41 +19,8 @@ Inv-loop est lst durations n i end before₀ j₀ before j = (j ≤ n) × (end �
 abbrev μ-loop : tie.MeasureT-loop
 μ-loop est lst durations n i end before₀ j₀ before j = n - j
 
-mul-end : tie.Need-mul-end Inv-loop μ-loop
-mul-end c = search needs
-
-element-copy-out-end : tie.Need-element-copy-out-end Inv-loop μ-loop
-element-copy-out-end c = search needs
-
-mul-end-2 : tie.Need-mul-end-2 Inv-loop μ-loop
-mul-end-2 c = search needs
-
-element-copy-out-end-2 : tie.Need-element-copy-out-end-2 Inv-loop μ-loop
-element-copy-out-end-2 c = search needs
-
-add-end : tie.Need-add-end Inv-loop μ-loop
-add-end c = search needs
-
 loop-holds : tie.Need-loop-holds Inv-loop μ-loop
 loop-holds c = (omega arith, refl, sym (filled-none _ _))
-
-mul-precedes : tie.Need-mul-precedes Inv-loop μ-loop
-mul-precedes c = search needs
-
-element-copy-out-precedes : tie.Need-element-copy-out-precedes Inv-loop μ-loop
-element-copy-out-precedes c = search needs
-
-precedes-requires : tie.Need-precedes-requires Inv-loop μ-loop
-precedes-requires c κs = search needs
-
-array-write-before : tie.Need-array-write-before Inv-loop μ-loop
-array-write-before c = search needs
-
-add-j : tie.Need-add-j Inv-loop μ-loop
-add-j c = search needs
-
-loop-less : tie.Need-loop-less Inv-loop μ-loop
-loop-less c = search needs
 
 loop-again : tie.Need-loop-again Inv-loop μ-loop
 loop-again c =
@@ -73,19 +40,6 @@ pub predecessors-spec : {M : Type 1} → statement M
 predecessors-spec =
     tie.close
     (tie.spec
-    Inv-loop
-    μ-loop
-    mul-end
-    element-copy-out-end
-    mul-end-2
-    element-copy-out-end-2
-    add-end
-    loop-holds
-    mul-precedes
-    element-copy-out-precedes
-    precedes-requires
-    array-write-before
-    add-j
-    loop-less
-    loop-again
-    returns)
+    Inv-loop μ-loop (λ c. search needs) (λ c. search needs) (λ c. search needs) (λ c. search needs)
+    (λ c. search needs) loop-holds (λ c. search needs) (λ c. search needs) (λ c κs. search needs) (λ c. search needs)
+    (λ c. search needs) (λ c. search needs) loop-again returns)

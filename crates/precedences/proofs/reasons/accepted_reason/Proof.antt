@@ -27,17 +27,8 @@ ready c =
     let a = s .args in
     ranged (a .«record») (a .earliest .now) (a .latest .now) (s .pre .0) (long s) (est c .moments-of .ensures) (c .moments-of2 .ensures)
 
-moments-of-requires : tie.Need-moments-of-requires
-moments-of-requires c κs = search needs
-
-moments-of-requires-2 : tie.Need-moments-of-requires-2
-moments-of-requires-2 c κs = search needs
-
 write-reason-requires : tie.Need-write-reason-requires
 write-reason-requires c κs = let m = c .before .before .before .before in let p = start m .pre .1 in (ready m, p .small, p .room)
-
-same-length : tie.Need-same-length
-same-length c = search needs
 
 returns : tie.Need-returns
 returns c =
@@ -50,4 +41,5 @@ returns c =
 pub accepted-reason-spec : {M : Type 1} → statement M
 accepted-reason-spec =
     tie.close
-    (tie.spec moments-of-requires moments-of-requires-2 write-reason-requires same-length returns)
+    (tie.spec
+    (λ c κs. search needs) (λ c κs. search needs) write-reason-requires (λ c. search needs) returns)

@@ -17,9 +17,6 @@ start n = n .before .before .before
 passed : (c : tie.Else1) → let a = start (c .before) .args in reasonNumber (a .t1) (a .earliest .now) (a .latest .now) (a .bars-fit) (a .task) (length (a .atoms .now)) ≡ 0
 passed c = sym (c .before .reason-refusal .ensures) ∙ c .if1 .left
 
-reason-refusal-requires : tie.Need-reason-refusal-requires
-reason-refusal-requires c κs = search needs
-
 returns : tie.Need-returns
 returns c =
     let n = c .before in
@@ -32,9 +29,6 @@ accepted-reason-requires c κs =
     let ((input, _), asked) = accepted-reason (a .t1) (a .earliest .now) (a .latest .now) (a .bars-fit) (a .task) (length (a .atoms .now)) (passed (c .before)) in
     (input, asked)
 
-same-length : tie.Need-same-length
-same-length c = search needs
-
 returns-2 : tie.Need-returns-2
 returns-2 c =
     let y = c .before in
@@ -44,5 +38,4 @@ returns-2 c =
 
 pub precedence-reason-spec : {M : Type 1} → statement M
 precedence-reason-spec =
-    tie.close
-    (tie.spec reason-refusal-requires returns accepted-reason-requires same-length returns-2)
+    tie.close (tie.spec (λ c κs. search needs) returns accepted-reason-requires (λ c. search needs) returns-2)

@@ -28,9 +28,6 @@ passed c = let start = c .before .before in let args = start .args in input-pass
 few : (c : tie.Else1) → c .before .before .args .n ≤ TASKS
 few c = (lawful-is (lent (c .before .before)) .0 (passed c .0)) .few
 
-input-refusal-requires : tie.Need-input-refusal-requires
-input-refusal-requires c κs = search needs
-
 returns : tie.Need-returns
 returns c =
     let start = c .before .before in
@@ -59,5 +56,4 @@ returns-4 c =
     sym (all-right (lent start) (args .earliest .now) (args .latest .now) (args .bars-fit) (args .task) (args .words) (passed (c .before .before)) (lt-ltb _ _ (c .before .if2 .left)) (le-leb _ _ (c .if3 .left)))
 
 pub reason-refusal-spec : {M : Type 1} → statement M
-reason-refusal-spec =
-    tie.close (tie.spec input-refusal-requires returns returns-2 mul-if3 returns-3 returns-4)
+reason-refusal-spec = tie.close (tie.spec (λ c κs. search needs) returns returns-2 mul-if3 returns-3 returns-4)

@@ -46,9 +46,6 @@ write-atom-requires-2 c κs = (omega (arith, room (c .before .before .before .be
 add-result : tie.Need-add-result
 add-result c = omega (arith, room (c .before .before .before .before .before .before))
 
-same-length : tie.Need-same-length
-same-length c = search needs
-
 returns-2 : tie.Need-returns-2
 returns-2 c =
     let y = c .before in
@@ -60,10 +57,4 @@ pub write-both-spec : {M : Type 1} → statement M
 write-both-spec =
     tie.close
     (tie.spec
-    returns
-    write-atom-requires
-    add-write-atom
-    write-atom-requires-2
-    add-result
-    same-length
-    returns-2)
+    returns write-atom-requires add-write-atom write-atom-requires-2 add-result (λ c. search needs) returns-2)

@@ -23,21 +23,6 @@ abbrev μ-loop : tie.MeasureT-loop
 loop-holds : tie.Need-loop-holds Inv-loop μ-loop
 loop-holds c = let a = c .args in (omega arith, refl, none-yet (startAt (a .est .now)) (startAt (a .lst .now)) (memberAt (a .members .now)))
 
-element-copy-out-write-both : tie.Need-element-copy-out-write-both Inv-loop μ-loop
-element-copy-out-write-both c = search needs
-
-mul-write-both : tie.Need-mul-write-both Inv-loop μ-loop
-mul-write-both c = search needs
-
-element-copy-out-write-both-2 : tie.Need-element-copy-out-write-both-2 Inv-loop μ-loop
-element-copy-out-write-both-2 c = search needs
-
-mul-write-both-2 : tie.Need-mul-write-both-2 Inv-loop μ-loop
-mul-write-both-2 c = search needs
-
-element-copy-out-write-both-3 : tie.Need-element-copy-out-write-both-3 Inv-loop μ-loop
-element-copy-out-write-both-3 c = search needs
-
 write-both-requires : tie.Need-write-both-requires Inv-loop μ-loop
 write-both-requires c κs =
     let l = c .before .before .before .before .before .loop in
@@ -48,12 +33,6 @@ write-both-requires c κs =
     let m = memberAt (a .members .now) in
     let q : l .j < a .n = omega arith in
     (λ y. omega (arith, l .inv .1, l .inv .2 .count, part e v m (l .j) (a .n) q, two-of (m (l .j)) (l .j) (e (l .j)) (v (l .j)) y, s .pre .1), omega (arith, s .pre .0))
-
-add-j : tie.Need-add-j Inv-loop μ-loop
-add-j c = search needs
-
-loop-less : tie.Need-loop-less Inv-loop μ-loop
-loop-less c = search needs
 
 loop-again : tie.Need-loop-again Inv-loop μ-loop
 loop-again c =
@@ -66,9 +45,6 @@ loop-again c =
     let s : Stored (a .atoms .now) (w .last .0) 1 (w .result) (bothBounds e v m (l .j + 1)) = subst (Stored (a .atoms .now) (w .last .0) 1 (w .result)) (sym (both-more e v m (l .j))) (stored-then (l .inv .2) (w .ensures)) in
     (omega arith, stored-length s, s)
 
-same-length : tie.Need-same-length Inv-loop μ-loop
-same-length c = search needs
-
 returns : tie.Need-returns Inv-loop μ-loop
 returns c =
     let l = c .before .loop in
@@ -80,17 +56,6 @@ pub write-members-spec : {M : Type 1} → statement M
 write-members-spec =
     tie.close
     (tie.spec
-    Inv-loop
-    μ-loop
-    loop-holds
-    element-copy-out-write-both
-    mul-write-both
-    element-copy-out-write-both-2
-    mul-write-both-2
-    element-copy-out-write-both-3
-    write-both-requires
-    add-j
-    loop-less
-    loop-again
-    same-length
+    Inv-loop μ-loop loop-holds (λ c. search needs) (λ c. search needs) (λ c. search needs) (λ c. search needs)
+    (λ c. search needs) write-both-requires (λ c. search needs) (λ c. search needs) loop-again (λ c. search needs)
     returns)

@@ -51,19 +51,10 @@ length-first c = ap length (first c) ∙ length-sets (start (ect-known c) .args 
 predecessors-requires : tie.Need-predecessors-requires
 predecessors-requires c κs = (c .pre .0 .held .few, c .pre .1, end-fits (c .pre .0) (c .args .i) (c .pre .1))
 
-mul-start : tie.Need-mul-start
-mul-start c = search needs
-
-element-copy-out-start : tie.Need-element-copy-out-start
-element-copy-out-start c = search needs
-
 theta-ect-requires : tie.Need-theta-ect-requires
 theta-ect-requires c κs =
     let s = c .before .before .before in
     (s .pre .0 .J, comesBefore (s .pre .0 .J) (s .args .i), chosen (s .pre .0) (s .args .i) (s .pre .1) (c .before .before .predecessors .ensures))
-
-exceeds-requires : tie.Need-exceeds-requires
-exceeds-requires c κs = search needs
 
 returns : tie.Need-returns
 returns c = λ f.
@@ -71,18 +62,12 @@ returns c = λ f.
     let s = start t in
     nothing-left f (s .args .i) (s .pre .1) (found t .predecessors .ensures) (sym (tested (c .before) f) ∙ not-true (c .before .exceeds .result) (c .if1 .taken))
 
-write-atom-requires : tie.Need-write-atom-requires
-write-atom-requires c κs = search needs
-
 write-members-requires : tie.Need-write-members-requires
 write-members-requires c κs =
     let w = c .before .before .before in
     let t = ect-known w in
     let s = start t in
     (s .pre .0 .held .few, members-fit (s .pre .0) (s .args .i) (s .pre .1) (found t .predecessors .ensures) (length (w .write-atom .last .0)) (omega (arith, s .pre .2, length-first w)))
-
-same-length : tie.Need-same-length
-same-length c = search needs
 
 returns-2 : tie.Need-returns-2
 returns-2 c = λ f.
@@ -96,13 +81,5 @@ pub write-reason-spec : {M : Type 1} → statement M
 write-reason-spec =
     tie.close
     (tie.spec
-    predecessors-requires
-    mul-start
-    element-copy-out-start
-    theta-ect-requires
-    exceeds-requires
-    returns
-    write-atom-requires
-    write-members-requires
-    same-length
-    returns-2)
+    predecessors-requires (λ c. search needs) (λ c. search needs) theta-ect-requires (λ c κs. search needs) returns
+    (λ c κs. search needs) write-members-requires (λ c. search needs) returns-2)

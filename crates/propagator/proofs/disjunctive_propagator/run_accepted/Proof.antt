@@ -57,12 +57,6 @@ can-begin c words filled =
     begun (a .t1) (a .earliest .now) (a .latest .now) (length (a .posts .now)) (length (a .atoms .now)) (s .pre) (long s) (est c .moments-of .ensures) (lst c .moments-of2 .ensures) (lct c .completions .ensures)
     (tasks c .sort-numbers .ensures) (candidates c .sort-numbers-down .ensures) (c .size-for .ensures) (places c .leaf-places .ensures .0) refl (filled (can-fill c)) refl refl
 
-moments-of-requires : tie.Need-moments-of-requires
-moments-of-requires c κs = search needs
-
-moments-of-requires-2 : tie.Need-moments-of-requires-2
-moments-of-requires-2 c κs = search needs
-
 completions-requires : tie.Need-completions-requires
 completions-requires c κs =
     let s = c .before .before .before .before .before .before .before .before .before in
@@ -71,9 +65,6 @@ completions-requires c κs =
       key-small (a .t1) (a .earliest .now) (a .latest .now) (length (a .posts .now)) (length (a .atoms .now)) (s .pre) (long s) (c .before .before .before .before .moments-of2 .last .0)
           (latest (a .t1) (a .earliest .now) (a .latest .now) (length (a .posts .now)) (length (a .atoms .now)) (s .pre) (long s) (c .before .before .before .before .before .before .moments-of .ensures) (c .before .before .before .before .moments-of2 .ensures)),
     )
-
-sort-numbers-requires : tie.Need-sort-numbers-requires
-sort-numbers-requires c κs = search needs
 
 sort-numbers-down-requires : tie.Need-sort-numbers-down-requires
 sort-numbers-down-requires c κs =
@@ -84,23 +75,11 @@ sort-numbers-down-requires c κs =
 leaf-places-requires : tie.Need-leaf-places-requires
 leaf-places-requires c κs = (c .before .before .before .before .before .before .before .before .before .before .before .before .before .before .before .before .before .before .pre .lawful .few, refl, sorted-permutes (c .before .before .before .before .before .sort-numbers .ensures))
 
-size-for-requires : tie.Need-size-for-requires
-size-for-requires c κs = search needs
-
 fill-requires : tie.Need-fill-requires
 fill-requires c κs = can-fill (c .before .before .before .before .before)
 
 edge-finding-requires : tie.Need-edge-finding-requires
 edge-finding-requires c κs = can-begin (c .before .before .before .before .before .before .before .before .before .before .before .before .before .before .before .before .before .before) _ (c .before .before .before .before .before .before .before .before .before .before .before .before .fill .ensures)
-
-same-length : tie.Need-same-length
-same-length c = search needs
-
-same-length-2 : tie.Need-same-length-2
-same-length-2 c = search needs
-
-same-length-3 : tie.Need-same-length-3
-same-length-3 c = search needs
 
 returns : tie.Need-returns
 returns c =
@@ -114,16 +93,6 @@ pub run-accepted-spec : {M : Type 1} → statement M
 run-accepted-spec =
     tie.close
     (tie.spec
-    moments-of-requires
-    moments-of-requires-2
-    completions-requires
-    sort-numbers-requires
-    sort-numbers-down-requires
-    leaf-places-requires
-    size-for-requires
-    fill-requires
-    edge-finding-requires
-    same-length
-    same-length-2
-    same-length-3
-    returns)
+    (λ c κs. search needs) (λ c κs. search needs) completions-requires (λ c κs. search needs)
+    sort-numbers-down-requires leaf-places-requires (λ c κs. search needs) fill-requires edge-finding-requires
+    (λ c. search needs) (λ c. search needs) (λ c. search needs) returns)

@@ -25,12 +25,6 @@ made c = created-lawful (c .before .before .args .durations .now) (none c)
 numbered : (ds : List ℤ) (r : Created) → r ≡ created ds → (r ≡ created ds) × (creationNumber (r .answer) ≡ refusal (creationTests ds))
 numbered ds r e = (e, ap (λ (x : Created). creationNumber (x .answer)) e ∙ answer-number ds)
 
-creation-refusal-requires : tie.Need-creation-refusal-requires
-creation-refusal-requires c κs = search needs
-
-zeros-requires : tie.Need-zeros-requires
-zeros-requires c κs = search needs
-
 returns : tie.Need-returns
 returns c =
     let ds = c .before .before .before .args .durations .now in
@@ -61,10 +55,4 @@ pub create-spec : {M : Type 1} → statement M
 create-spec =
     tie.close
     (tie.spec
-    creation-refusal-requires
-    zeros-requires
-    returns
-    durations-of-requires
-    total-of-requires
-    cast-total
-    returns-2)
+    (λ c κs. search needs) (λ c κs. search needs) returns durations-of-requires total-of-requires cast-total returns-2)

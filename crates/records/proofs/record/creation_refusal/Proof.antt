@@ -37,9 +37,6 @@ summed c =
     let ds = c .before .before .before .before .before .before .before .before .args .durations .now in
     c .sum-fits .ensures ∙ ap (λ (l : List ℕ). sumFits (λ k. getD l k 0) (length ds)) (c .before .before .before .before .before .durations-of .ensures) ∙ ap (λ (s : ℕ). leb s DURATIONS) (same-sum ds (few (c .before .before .before .before .before .before)))
 
-count-fits-requires : tie.Need-count-fits-requires
-count-fits-requires c κs = search needs
-
 returns : tie.Need-returns
 returns c = sym (refuses [] (test 1 _) _ tt (sym (c .before .count-fits .ensures) ∙ not-true _ (c .if1 .taken)))
 
@@ -65,11 +62,5 @@ pub creation-refusal-spec : {M : Type 1} → statement M
 creation-refusal-spec =
     tie.close
     (tie.spec
-    count-fits-requires
-    returns
-    durations-of-requires
-    all-last-requires
-    returns-2
-    sum-fits-requires
-    returns-3
+    (λ c κs. search needs) returns durations-of-requires all-last-requires returns-2 sum-fits-requires returns-3
     returns-4)

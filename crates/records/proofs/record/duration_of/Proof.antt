@@ -14,9 +14,6 @@ use Rattle.records.proofs.record.duration_of.Tie as tie
 seen : (c : tie.After-at-most) → c .at-most .result ≡ leZ (pos 0) (c .before .args .x)
 seen c = c .at-most .ensures ∙ ap (leZ (pos 0)) (back (c .before .fits .x))
 
-at-most-requires : tie.Need-at-most-requires
-at-most-requires c κs = search needs
-
 returns : tie.Need-returns
 returns c = sym (negative (c .before .before .args .x) (sym (seen (c .before)) ∙ not-true _ (c .if1 .taken)))
 
@@ -27,4 +24,4 @@ returns-2 : tie.Need-returns-2
 returns-2 c = ap durationOf (c .nat-of .ensures ∙ back (c .before .before .before .fits .x))
 
 pub duration-of-spec : {M : Type 1} → statement M
-duration-of-spec = tie.close (tie.spec at-most-requires returns nat-of-requires returns-2)
+duration-of-spec = tie.close (tie.spec (λ c κs. search needs) returns nat-of-requires returns-2)

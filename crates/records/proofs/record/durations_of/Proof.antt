@@ -23,28 +23,10 @@ abbrev μ-loop : tie.MeasureT-loop
 loop-holds : tie.Need-loop-holds Inv-loop μ-loop
 loop-holds c = (omega arith, sym (filled-none (durationAt (c .args .durations .now)) noTasks))
 
-mul-duration-of : tie.Need-mul-duration-of Inv-loop μ-loop
-mul-duration-of c = search needs
-
-shared-slice-copy-out-duration-of : tie.Need-shared-slice-copy-out-duration-of Inv-loop μ-loop
-shared-slice-copy-out-duration-of c = search needs
-
-duration-of-requires : tie.Need-duration-of-requires Inv-loop μ-loop
-duration-of-requires c κs = search needs
-
-mul-out : tie.Need-mul-out Inv-loop μ-loop
-mul-out c = search needs
-
 array-write-out : tie.Need-array-write-out Inv-loop μ-loop
 array-write-out c =
     let loop = c .before .before .before .loop in
     omega (arith, ap length (loop .inv .1), filled-length (durationAt (c .before .before .before .before .args .durations .now)) (loop .i) noTasks)
-
-add-i : tie.Need-add-i Inv-loop μ-loop
-add-i c = search needs
-
-loop-less : tie.Need-loop-less Inv-loop μ-loop
-loop-less c = search needs
 
 loop-again : tie.Need-loop-again Inv-loop μ-loop
 loop-again c =
@@ -63,15 +45,5 @@ pub durations-of-spec : {M : Type 1} → statement M
 durations-of-spec =
     tie.close
     (tie.spec
-    Inv-loop
-    μ-loop
-    loop-holds
-    mul-duration-of
-    shared-slice-copy-out-duration-of
-    duration-of-requires
-    mul-out
-    array-write-out
-    add-i
-    loop-less
-    loop-again
-    returns)
+    Inv-loop μ-loop loop-holds (λ c. search needs) (λ c. search needs) (λ c κs. search needs) (λ c. search needs)
+    array-write-out (λ c. search needs) (λ c. search needs) loop-again returns)

@@ -22,9 +22,6 @@ counted c = sym (c .before .count-fits .ensures) ∙ not-false _ (c .if1 .left)
 few : (c : tie.Else1) → c .before .before .args .n ≤ TASKS
 few c = count-is (c .before .before .args .n) .0 (counted c) .1
 
-count-fits-requires : tie.Need-count-fits-requires
-count-fits-requires c κs = search needs
-
 returns : tie.Need-returns
 returns c = sym (unlawful _ (λ p. clash (p .counted) (sym (c .before .count-fits .ensures) ∙ not-true _ (c .if1 .taken))))
 
@@ -69,12 +66,5 @@ pub lawful-spec : {M : Type 1} → statement M
 lawful-spec =
     tie.close
     (tie.spec
-    count-fits-requires
-    returns
-    all-last-requires
-    returns-2
-    total-true-requires
-    returns-3
-    returns-4
-    unused-zero-requires
-    returns-5)
+    (λ c κs. search needs) returns all-last-requires returns-2 total-true-requires returns-3 returns-4
+    unused-zero-requires returns-5)

@@ -7,14 +7,8 @@ use Rattle.integers.specs.Limits.{DURATIONS}
 use Rattle.records.proofs.record.sum_fits.Statement.{statement}
 use Rattle.records.proofs.record.sum_fits.Tie as tie
 
-total-of-requires : tie.Need-total-of-requires
-total-of-requires c κs = search needs
-
-cast-result : tie.Need-cast-result
-cast-result c = search needs
-
 returns : tie.Need-returns
 returns c = ap (λ (s : ℕ). leb s DURATIONS) (c .total-of .ensures)
 
 pub sum-fits-spec : {M : Type 1} → statement M
-sum-fits-spec = tie.close (tie.spec total-of-requires cast-result returns)
+sum-fits-spec = tie.close (tie.spec (λ c κs. search needs) (λ c. search needs) returns)

@@ -5,14 +5,8 @@ use borrow.Author.Needs.{needs}
 use Rattle.records.proofs.record.total_true.Statement.{statement}
 use Rattle.records.proofs.record.total_true.Tie as tie
 
-wide-requires : tie.Need-wide-requires
-wide-requires c κs = search needs
-
-total-of-requires : tie.Need-total-of-requires
-total-of-requires c κs = search needs
-
 returns : tie.Need-returns
 returns c = ap₂ eqb (c .before .wide .ensures .0) (c .total-of .ensures)
 
 pub total-true-spec : {M : Type 1} → statement M
-total-true-spec = tie.close (tie.spec wide-requires total-of-requires returns)
+total-true-spec = tie.close (tie.spec (λ c κs. search needs) (λ c κs. search needs) returns)

@@ -18,9 +18,6 @@ use Rattle.records.proofs.refusals.input_refusal.Tie as tie
 abbrev lent : tie.Start → Propagator
 lent c = recordOf (c .args .n) (c .args .durations .now) (c .args .total)
 
-range-refusal-requires : tie.Need-range-refusal-requires
-range-refusal-requires c κs = search needs
-
 returns : tie.Need-returns
 returns c =
     let start = c .before .before .before in let args = start .args in
@@ -42,4 +39,4 @@ returns-2 c =
     (c .if1 .came)
 
 pub input-refusal-spec : {M : Type 1} → statement M
-input-refusal-spec = tie.close (tie.spec range-refusal-requires returns returns-2)
+input-refusal-spec = tie.close (tie.spec (λ c κs. search needs) returns returns-2)

@@ -35,9 +35,6 @@ first-four c =
     let three = first-three (c .before .before) in
     (three .0, (three .1 .0, (three .1 .1 .0, (sym (c .before .ranges-fit .ensures) ∙ not-false _ (c .if6 .left), tt))))
 
-lawful-requires : tie.Need-lawful-requires
-lawful-requires c κs = search needs
-
 returns : tie.Need-returns
 returns c = sym (refuses [] (test 20 _) _ tt (sym (c .before .lawful .ensures) ∙ not-true _ (c .if1 .taken)))
 
@@ -49,22 +46,13 @@ returns-3 c =
     let start = c .before .before .before .before in let args = start .args in
     sym (refuses (test 20 _ ∷ []) (test 10 _) _ (first-one (c .before .before)) (and-right (eqb (length (args .earliest .now)) (args .n)) (eqb (length (args .latest .now)) (args .n)) (ne-eqb _ _ (c .if3 .taken))))
 
-starts-fit-requires : tie.Need-starts-fit-requires
-starts-fit-requires c κs = search needs
-
 returns-4 : tie.Need-returns-4
 returns-4 c = sym (refuses (test 20 _ ∷ test 10 _ ∷ []) (test 3 _) _ (first-two (c .before .before)) (and-left _ _ (sym (c .before .starts-fit .ensures) ∙ not-true _ (c .if4 .taken))))
-
-starts-fit-requires-2 : tie.Need-starts-fit-requires-2
-starts-fit-requires-2 c κs = search needs
 
 returns-5 : tie.Need-returns-5
 returns-5 c =
     let es = c .before .before .before .before .before .before .before .before .args .earliest .now in
     sym (refuses (test 20 _ ∷ test 10 _ ∷ []) (test 3 _) _ (first-two (c .before .before .before .before)) (and-right (allBelow (startFitsAt es) (length es)) _ (sym (c .before .starts-fit2 .ensures) ∙ not-true _ (c .if5 .taken))))
-
-ranges-fit-requires : tie.Need-ranges-fit-requires
-ranges-fit-requires c κs = search needs
 
 returns-6 : tie.Need-returns-6
 returns-6 c = sym (refuses (test 20 _ ∷ test 10 _ ∷ test 3 _ ∷ []) (test 4 _) _ (first-three (c .before .before)) (sym (c .before .ranges-fit .ensures) ∙ not-true _ (c .if6 .taken)))
@@ -78,14 +66,5 @@ pub range-refusal-spec : {M : Type 1} → statement M
 range-refusal-spec =
     tie.close
     (tie.spec
-    lawful-requires
-    returns
-    returns-2
-    returns-3
-    starts-fit-requires
-    returns-4
-    starts-fit-requires-2
-    returns-5
-    ranges-fit-requires
-    returns-6
-    returns-7)
+    (λ c κs. search needs) returns returns-2 returns-3 (λ c κs. search needs) returns-4 (λ c κs. search needs)
+    returns-5 (λ c κs. search needs) returns-6 returns-7)

@@ -35,29 +35,8 @@ seen c =
 loop-holds : tie.Need-loop-holds Inv-loop μ-loop
 loop-holds c = (omega arith, all-none _)
 
-mul-at-most : tie.Need-mul-at-most Inv-loop μ-loop
-mul-at-most c = search needs
-
-shared-slice-copy-out-at-most : tie.Need-shared-slice-copy-out-at-most Inv-loop μ-loop
-shared-slice-copy-out-at-most c = search needs
-
-mul-at-most-2 : tie.Need-mul-at-most-2 Inv-loop μ-loop
-mul-at-most-2 c = search needs
-
-shared-slice-copy-out-at-most-2 : tie.Need-shared-slice-copy-out-at-most-2 Inv-loop μ-loop
-shared-slice-copy-out-at-most-2 c = search needs
-
-at-most-requires : tie.Need-at-most-requires Inv-loop μ-loop
-at-most-requires c κs = search needs
-
 returns : tie.Need-returns Inv-loop μ-loop
 returns c = sym (all-broken _ _ (c .before .before .before .before .before .loop .i) (omega arith) (sym (seen (c .before)) ∙ not-true _ (c .if1 .taken)))
-
-add-i : tie.Need-add-i Inv-loop μ-loop
-add-i c = search needs
-
-loop-less : tie.Need-loop-less Inv-loop μ-loop
-loop-less c = search needs
 
 loop-again : tie.Need-loop-again Inv-loop μ-loop
 loop-again c = (omega arith, all-more _ _ (c .before .before .before .before .before .loop .inv .1) (sym (seen (c .before)) ∙ not-false _ (c .if1 .left)))
@@ -72,16 +51,5 @@ pub ranges-fit-spec : {M : Type 1} → statement M
 ranges-fit-spec =
     tie.close
     (tie.spec
-    Inv-loop
-    μ-loop
-    loop-holds
-    mul-at-most
-    shared-slice-copy-out-at-most
-    mul-at-most-2
-    shared-slice-copy-out-at-most-2
-    at-most-requires
-    returns
-    add-i
-    loop-less
-    loop-again
-    returns-2)
+    Inv-loop μ-loop loop-holds (λ c. search needs) (λ c. search needs) (λ c. search needs) (λ c. search needs)
+    (λ c κs. search needs) returns (λ c. search needs) (λ c. search needs) loop-again returns-2)

@@ -32,9 +32,6 @@ few c = (lawful-is (lent (c .before .before)) .0 (passed c .0)) .few
 squared : (c : tie.Else1) → c .before .before .args .n * c .before .before .args .n ≤ c .before .before .args .n * TASKS
 squared c = mul-le-mul-left (c .before .before .args .n) (few c)
 
-input-refusal-requires : tie.Need-input-refusal-requires
-input-refusal-requires c κs = search needs
-
 returns : tie.Need-returns
 returns c =
     let start = c .before .before in let args = start .args in
@@ -67,13 +64,4 @@ returns-4 c =
 
 pub run-refusal-spec : {M : Type 1} → statement M
 run-refusal-spec =
-    tie.close
-    (tie.spec
-    input-refusal-requires
-    returns
-    mul-if2
-    returns-2
-    mul-if3
-    mul-if3-2
-    returns-3
-    returns-4)
+    tie.close (tie.spec (λ c κs. search needs) returns mul-if2 returns-2 mul-if3 mul-if3-2 returns-3 returns-4)

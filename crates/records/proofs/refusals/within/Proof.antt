@@ -15,14 +15,8 @@ use Rattle.records.proofs.refusals.within.Tie as tie
 low : (c : tie.After-at-most) → c .at-most .result ≡ leZ (c .before .args .low) (c .before .args .x)
 low c = c .at-most .ensures ∙ ap (λ (z : ℤ). leZ z (toZ w32 (ofZ w32 (c .before .args .x)))) (back (c .before .fits .low)) ∙ ap (leZ (c .before .args .low)) (back (c .before .fits .x))
 
-at-most-requires : tie.Need-at-most-requires
-at-most-requires c κs = search needs
-
 returns : tie.Need-returns
 returns c = sym (ap (λ (b : Bool). b && leZ (c .before .before .args .x) (c .before .before .args .high)) (sym (low (c .before)) ∙ not-true _ (c .if1 .taken)))
-
-at-most-requires-2 : tie.Need-at-most-requires-2
-at-most-requires-2 c κs = search needs
 
 returns-2 : tie.Need-returns-2
 returns-2 c =
@@ -35,5 +29,4 @@ returns-2 c =
     ∙ sym (ap (λ (b : Bool). b && leZ x high) (sym (low (c .before .before)) ∙ not-false _ (c .before .if1 .left)))
 
 pub within-spec : {M : Type 1} → statement M
-within-spec =
-    tie.close (tie.spec at-most-requires returns at-most-requires-2 returns-2)
+within-spec = tie.close (tie.spec (λ c κs. search needs) returns (λ c κs. search needs) returns-2)

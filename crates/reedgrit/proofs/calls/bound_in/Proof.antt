@@ -7,17 +7,11 @@ use Rattle.checking.specs.States.{boundOf, lowerOf, upperOf}
 use Rattle.reedgrit.proofs.calls.bound_in.Statement.{statement}
 use Rattle.reedgrit.proofs.calls.bound_in.Tie as tie
 
-lower-bound-requires : tie.Need-lower-bound-requires
-lower-bound-requires c κs = search needs
-
 returns : tie.Need-returns
 returns c = let s = c .before .before in rw (c .before .if1 .taken) (c .lower-bound .ensures .0 ∙ ap (boundOf lowerOf (s .args .state)) (back (s .fits .variable)))
-
-upper-bound-requires : tie.Need-upper-bound-requires
-upper-bound-requires c κs = search needs
 
 returns-2 : tie.Need-returns-2
 returns-2 c = let s = c .before .before in rw (c .before .if1 .left) (c .upper-bound .ensures .0 ∙ ap (boundOf upperOf (s .args .state)) (back (s .fits .variable)))
 
 pub bound-in-spec : {M : Type 1} → statement M
-bound-in-spec = tie.close (tie.spec lower-bound-requires returns upper-bound-requires returns-2)
+bound-in-spec = tie.close (tie.spec (λ c κs. search needs) returns (λ c κs. search needs) returns-2)

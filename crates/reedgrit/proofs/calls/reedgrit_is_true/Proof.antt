@@ -16,15 +16,6 @@ use Rattle.reedgrit.proofs.calls.reedgrit_is_true.Tie as tie
 said : (c : tie.After-atom-is-accepted) → c .atom-is-accepted .result ≡ rightAtom (c .before .args .variable) (c .before .args .kind) (c .before .args .value)
 said c = let s = c .before in c .atom-is-accepted .ensures ∙ (λ i. rightAtom (back (s .fits .variable) i) (back (s .fits .kind) i) (back (s .fits .value) i))
 
-atom-is-accepted-requires : tie.Need-atom-is-accepted-requires
-atom-is-accepted-requires c κs = search needs
-
-unfit-number-requires : tie.Need-unfit-number-requires
-unfit-number-requires c κs = search needs
-
-refusal-numbers-requires : tie.Need-refusal-numbers-requires
-refusal-numbers-requires c κs = search needs
-
 returns : tie.Need-returns
 returns c =
     let s = c .before .before .before .before in
@@ -33,21 +24,6 @@ returns c =
     ∙ unfit (a .premises .now) (rightAtom (a .variable) (a .kind) (a .value)) (λ t. truthNumbers (truthOf t (a .variable) (a .kind) (a .value)))
     (sym (said (c .before .before .before)) ∙ not-true (c .before .before .before .atom-is-accepted .result) (c .before .before .if1 .taken))
     (c .before .unfit-number .result) (c .before .unfit-number .ensures)
-
-slice-aggregate-prepare-for-conflict-check : tie.Need-slice-aggregate-prepare-for-conflict-check
-slice-aggregate-prepare-for-conflict-check c = search needs
-
-prepare-for-conflict-check-requires : tie.Need-prepare-for-conflict-check-requires
-prepare-for-conflict-check-requires c κs = search needs
-
-is-true-requires : tie.Need-is-true-requires
-is-true-requires c κs = search needs
-
-truth-numbers-requires : tie.Need-truth-numbers-requires
-truth-numbers-requires c κs = search needs
-
-state-numbers-requires : tie.Need-state-numbers-requires
-state-numbers-requires c κs = search needs
 
 returns-2 : tie.Need-returns-2
 returns-2 c =
@@ -64,13 +40,5 @@ pub reedgrit-is-true-spec : {M : Type 1} → statement M
 reedgrit-is-true-spec =
     tie.close
     (tie.spec
-    atom-is-accepted-requires
-    unfit-number-requires
-    refusal-numbers-requires
-    returns
-    slice-aggregate-prepare-for-conflict-check
-    prepare-for-conflict-check-requires
-    is-true-requires
-    truth-numbers-requires
-    state-numbers-requires
-    returns-2)
+    (λ c κs. search needs) (λ c κs. search needs) (λ c κs. search needs) returns (λ c. search needs)
+    (λ c κs. search needs) (λ c κs. search needs) (λ c κs. search needs) (λ c κs. search needs) returns-2)

@@ -7,9 +7,6 @@ use Rattle.reedgrit.proofs.Reading.{turned-back, read}
 use Rattle.reedgrit.proofs.calls.reedgrit_post.Statement.{statement}
 use Rattle.reedgrit.proofs.calls.reedgrit_post.Tie as tie
 
-post-number-requires : tie.Need-post-number-requires
-post-number-requires c κs = search needs
-
 returns : tie.Need-returns
 returns c =
     let args = c .before .before .args in
@@ -28,4 +25,4 @@ returns-2 c =
     c .read-post .ensures ∙ read (args .posts .now) (args .atoms .now) (args .post-count) (args .index) (number .result) (number .ensures) (c .before .if1 .left)
 
 pub reedgrit-post-spec : {M : Type 1} → statement M
-reedgrit-post-spec = tie.close (tie.spec post-number-requires returns read-post-requires returns-2)
+reedgrit-post-spec = tie.close (tie.spec (λ c κs. search needs) returns read-post-requires returns-2)

@@ -9,16 +9,10 @@ use Rattle.reedgrit.proofs.Asking.{consistent}
 use Rattle.reedgrit.proofs.calls.reedgrit_prepare.Statement.{statement}
 use Rattle.reedgrit.proofs.calls.reedgrit_prepare.Tie as tie
 
-prepare-for-conflict-check-requires : tie.Need-prepare-for-conflict-check-requires
-prepare-for-conflict-check-requires c κs = search needs
-
-state-numbers-requires : tie.Need-state-numbers-requires
-state-numbers-requires c κs = search needs
-
 returns : tie.Need-returns
 returns c =
     let made = c .before .prepare-for-conflict-check in
     c .state-numbers .ensures ∙ consistent (made .result .answer) ∙ ap (λ (w : Applied). stateAnswer (applicationNumbers (w .answer))) (made .ensures .0)
 
 pub reedgrit-prepare-spec : {M : Type 1} → statement M
-reedgrit-prepare-spec = tie.close (tie.spec prepare-for-conflict-check-requires state-numbers-requires returns)
+reedgrit-prepare-spec = tie.close (tie.spec (λ c κs. search needs) (λ c κs. search needs) returns)

@@ -7,11 +7,8 @@ use Rattle.reedgrit.specs.Calls.{upperAfter}
 use Rattle.reedgrit.proofs.calls.reedgrit_upper_bound.Statement.{statement}
 use Rattle.reedgrit.proofs.calls.reedgrit_upper_bound.Tie as tie
 
-bound-after-requires : tie.Need-bound-after-requires
-bound-after-requires c κs = search needs
-
 returns : tie.Need-returns
 returns c = let s = c .before in c .bound-after .ensures ∙ ap (upperAfter (s .args .premises .now)) (back (s .fits .variable))
 
 pub reedgrit-upper-bound-spec : {M : Type 1} → statement M
-reedgrit-upper-bound-spec = tie.close (tie.spec bound-after-requires returns)
+reedgrit-upper-bound-spec = tie.close (tie.spec (λ c κs. search needs) returns)

@@ -8,12 +8,6 @@ use Rattle.reedgrit.proofs.Asking.{too-many, malformed-own}
 use Rattle.reedgrit.proofs.calls.unfit_number.Statement.{statement}
 use Rattle.reedgrit.proofs.calls.unfit_number.Tie as tie
 
-mul-if1 : tie.Need-mul-if1
-mul-if1 c = search needs
-
-add-if1 : tie.Need-add-if1
-add-if1 c = search needs
-
 returns : tie.Need-returns
 returns c = sym (too-many (c .before .args .premises .now) false (omega arith))
 
@@ -21,4 +15,4 @@ returns-2 : tie.Need-returns-2
 returns-2 c = sym (malformed-own (c .before .args .premises .now) (omega arith))
 
 pub unfit-number-spec : {M : Type 1} → statement M
-unfit-number-spec = tie.close (tie.spec mul-if1 add-if1 returns returns-2)
+unfit-number-spec = tie.close (tie.spec (λ c. search needs) (λ c. search needs) returns returns-2)

@@ -10,25 +10,9 @@ Inv-loop posts atoms count j₀ j = Unit {0}
 abbrev μ-loop : tie.MeasureT-loop
 μ-loop posts atoms count j₀ j = count - j
 
-loop-holds : tie.Need-loop-holds Inv-loop μ-loop
-loop-holds c = search needs
-
-say-post-requires : tie.Need-say-post-requires Inv-loop μ-loop
-say-post-requires c κs = search needs
-
-add-j : tie.Need-add-j Inv-loop μ-loop
-add-j c = search needs
-
-loop-less : tie.Need-loop-less Inv-loop μ-loop
-loop-less c = search needs
-
-loop-again : tie.Need-loop-again Inv-loop μ-loop
-loop-again c = search needs
-
-returns : tie.Need-returns Inv-loop μ-loop
-returns c = search needs
-
 pub say-posts-spec : {M : Type 1} → statement M
 say-posts-spec =
     tie.close
-    (tie.spec Inv-loop μ-loop loop-holds say-post-requires add-j loop-less loop-again returns)
+    (tie.spec
+    Inv-loop μ-loop (λ c. search needs) (λ c κs. search needs) (λ c. search needs) (λ c. search needs)
+    (λ c. search needs) (λ c. search needs))

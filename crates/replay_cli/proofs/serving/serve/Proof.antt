@@ -11,57 +11,10 @@ Inv-loop line₀ session₀ more₀ lines₀ line session more lines = length li
 abbrev μ-loop : tie.MeasureT-loop
 μ-loop line₀ session₀ more₀ lines₀ line session more lines = lines
 
-new-requires : tie.Need-new-requires Inv-loop μ-loop
-new-requires c κs = search needs
-
-loop-holds : tie.Need-loop-holds Inv-loop μ-loop
-loop-holds c = search needs
-
-slice-aggregate-next-line : tie.Need-slice-aggregate-next-line Inv-loop μ-loop
-slice-aggregate-next-line c = search needs
-
-next-line-requires : tie.Need-next-line-requires Inv-loop μ-loop
-next-line-requires c κs = search needs
-
-slice-aggregate-stretch : tie.Need-slice-aggregate-stretch Inv-loop μ-loop
-slice-aggregate-stretch c = search needs
-
-stretch-requires : tie.Need-stretch-requires Inv-loop μ-loop
-stretch-requires c κs = search needs
-
-answer-requires : tie.Need-answer-requires Inv-loop μ-loop
-answer-requires c κs = search needs
-
-sub-lines : tie.Need-sub-lines Inv-loop μ-loop
-sub-lines c = search needs
-
-loop-less : tie.Need-loop-less Inv-loop μ-loop
-loop-less c = search needs
-
-loop-again : tie.Need-loop-again Inv-loop μ-loop
-loop-again c = search needs
-
-returns : tie.Need-returns Inv-loop μ-loop
-returns c = search needs
-
-returns-2 : tie.Need-returns-2 Inv-loop μ-loop
-returns-2 c = search needs
-
 pub serve-spec : {M : Type 1} → statement M
 serve-spec =
     tie.close
     (tie.spec
-    Inv-loop
-    μ-loop
-    new-requires
-    loop-holds
-    slice-aggregate-next-line
-    next-line-requires
-    slice-aggregate-stretch
-    stretch-requires
-    answer-requires
-    sub-lines
-    loop-less
-    loop-again
-    returns
-    returns-2)
+    Inv-loop μ-loop (λ c κs. search needs) (λ c. search needs) (λ c. search needs) (λ c κs. search needs)
+    (λ c. search needs) (λ c κs. search needs) (λ c κs. search needs) (λ c. search needs) (λ c. search needs)
+    (λ c. search needs) (λ c. search needs) (λ c. search needs))

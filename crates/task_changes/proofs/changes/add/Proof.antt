@@ -28,9 +28,6 @@ passed c = let a = c .before .before .before .before .args in addable (a .t1) (a
 more-is : (c : tie.After-nat-of) → c .nat-of .result ≡ durationOf (c .before .before .before .before .before .args .duration)
 more-is c = ap durationOf (c .nat-of .ensures ∙ back (c .before .before .before .before .before .fits .duration))
 
-add-refusal-requires : tie.Need-add-refusal-requires
-add-refusal-requires c κs = search needs
-
 returns : tie.Need-returns
 returns c =
     let a = c .before .before .before .before .args in
@@ -61,11 +58,4 @@ pub add-spec : {M : Type 1} → statement M
 add-spec =
     tie.close
     (tie.spec
-    add-refusal-requires
-    returns
-    nat-of-requires
-    mul-durations
-    array-write-durations
-    add-t8
-    add-t17
-    returns-2)
+    (λ c κs. search needs) returns nat-of-requires mul-durations array-write-durations add-t8 add-t17 returns-2)

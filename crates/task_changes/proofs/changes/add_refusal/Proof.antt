@@ -44,9 +44,6 @@ first-three c = let two = first-two (c .before .before) in (two .0, (two .1 .0, 
 more-is : (c : tie.After-nat-of) → c .nat-of .result ≡ durationOf (c .before .before .before .before .before .before .args .duration)
 more-is c = ap durationOf (c .nat-of .ensures ∙ back (c .before .before .before .before .before .before .fits .duration))
 
-lawful-requires : tie.Need-lawful-requires
-lawful-requires c κs = search needs
-
 returns : tie.Need-returns
 returns c = sym (refuses [] (test 20 _) _ tt (sym (c .before .lawful .ensures) ∙ not-true _ (c .if1 .taken)))
 
@@ -54,9 +51,6 @@ returns-2 : tie.Need-returns-2
 returns-2 c =
     let n = c .before .before .before .args .n in
     sym (refuses (test 20 _ ∷ []) (test 1 _) _ (first-one (c .before)) (broken (count-is (n + 1)) .1 (λ f. omega (arith, f .1, c .if2 .taken))))
-
-at-most-requires : tie.Need-at-most-requires
-at-most-requires c κs = search needs
 
 returns-3 : tie.Need-returns-3
 returns-3 c = sym (refuses (test 20 _ ∷ test 1 _ ∷ []) (test 2 _) _ (first-two (c .before .before)) (sym (seen (c .before)) ∙ not-true _ (c .if3 .taken)))
@@ -83,12 +77,5 @@ pub add-refusal-spec : {M : Type 1} → statement M
 add-refusal-spec =
     tie.close
     (tie.spec
-    lawful-requires
-    returns
-    returns-2
-    at-most-requires
-    returns-3
-    nat-of-requires
-    sub-if4
-    returns-4
+    (λ c κs. search needs) returns returns-2 (λ c κs. search needs) returns-3 nat-of-requires sub-if4 returns-4
     returns-5)

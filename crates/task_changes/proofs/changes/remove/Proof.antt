@@ -17,9 +17,6 @@ long c = search needs
 passed : (c : tie.Else1) → let a = c .before .before .before .before .args in Removable (a .t1) (a .task)
 passed c = let a = c .before .before .before .before .args in removable (a .t1) (a .task) (sym (c .before .remove-refusal .ensures) ∙ c .if1 .left)
 
-remove-refusal-requires : tie.Need-remove-refusal-requires
-remove-refusal-requires c κs = search needs
-
 returns : tie.Need-returns
 returns c =
     let a = c .before .before .before .before .args in
@@ -52,11 +49,4 @@ pub remove-spec : {M : Type 1} → statement M
 remove-spec =
     tie.close
     (tie.spec
-    remove-refusal-requires
-    returns
-    mul-less
-    element-copy-out-less
-    without-task-requires
-    sub-t8
-    sub-t17
-    returns-2)
+    (λ c κs. search needs) returns mul-less element-copy-out-less without-task-requires sub-t8 sub-t17 returns-2)

@@ -26,9 +26,6 @@ first-one c = (sym (c .before .lawful .ensures) ∙ not-false _ (c .if1 .left), 
 first-two : (c : tie.Else2) → AllPassed (take 2 (removeTests (lent (c .before .before .before)) (c .before .before .before .args .task)))
 first-two c = (first-one (c .before) .0, (lt-ltb (c .before .before .before .args .task) (c .before .before .before .args .n) (c .if2 .left), tt))
 
-lawful-requires : tie.Need-lawful-requires
-lawful-requires c κs = search needs
-
 returns : tie.Need-returns
 returns c = sym (refuses [] (test 20 _) _ tt (sym (c .before .lawful .ensures) ∙ not-true _ (c .if1 .taken)))
 
@@ -49,4 +46,4 @@ returns-4 c =
     sym (accepts (removeTests (lent start) (start .args .task)) (two .0, (two .1 .0, (count-is (n - 1) .1 (omega (arith, c .if3 .left), omega (arith, l .few)), tt))))
 
 pub remove-refusal-spec : {M : Type 1} → statement M
-remove-refusal-spec = tie.close (tie.spec lawful-requires returns returns-2 returns-3 returns-4)
+remove-refusal-spec = tie.close (tie.spec (λ c κs. search needs) returns returns-2 returns-3 returns-4)

@@ -31,12 +31,6 @@ small c =
 loop-holds : tie.Need-loop-holds Inv-loop μ-loop
 loop-holds c = (omega arith, (ap placed (sym (without-nil (c .args .t))), sym (ap length (without-nil (c .args .t)))))
 
-mul-out : tie.Need-mul-out Inv-loop μ-loop
-mul-out c = search needs
-
-element-copy-out-out : tie.Need-element-copy-out-out Inv-loop μ-loop
-element-copy-out-out c = search needs
-
 mul-out-2 : tie.Need-mul-out-2 Inv-loop μ-loop
 mul-out-2 c = record { fits = omega (arith, small (c .before .before)) }
 
@@ -45,12 +39,6 @@ array-write-out c = small (c .before .before)
 
 add-j : tie.Need-add-j Inv-loop μ-loop
 add-j c = record { fits = omega (arith, small (c .before .before)) }
-
-add-i : tie.Need-add-i Inv-loop μ-loop
-add-i c = search needs
-
-loop-less : tie.Need-loop-less Inv-loop μ-loop
-loop-less c = search needs
 
 loop-again : tie.Need-loop-again Inv-loop μ-loop
 loop-again c =
@@ -85,15 +73,5 @@ pub without-task-spec : {M : Type 1} → statement M
 without-task-spec =
     tie.close
     (tie.spec
-    Inv-loop
-    μ-loop
-    loop-holds
-    mul-out
-    element-copy-out-out
-    mul-out-2
-    array-write-out
-    add-j
-    add-i
-    loop-less
-    loop-again
-    returns)
+    Inv-loop μ-loop loop-holds (λ c. search needs) (λ c. search needs) mul-out-2 array-write-out add-j
+    (λ c. search needs) (λ c. search needs) loop-again returns)

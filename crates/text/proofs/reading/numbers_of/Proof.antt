@@ -4,17 +4,8 @@ use Rattle.text.proofs.Gathering.{scanned}
 use Rattle.text.proofs.reading.numbers_of.Statement.{statement}
 use Rattle.text.proofs.reading.numbers_of.Tie as tie
 
-new-requires : tie.Need-new-requires
-new-requires c κs = search needs
-
-feed-requires : tie.Need-feed-requires
-feed-requires c κs = search needs
-
-finish-requires : tie.Need-finish-requires
-finish-requires c κs = search needs
-
 returns : tie.Need-returns
 returns c = rw (c .finish .ensures, c .before .feed .ensures, c .before .before .new .ensures) (scanned _)
 
 pub numbers-of-spec : {M : Type 1} → statement M
-numbers-of-spec = tie.close (tie.spec new-requires feed-requires finish-requires returns)
+numbers-of-spec = tie.close (tie.spec (λ c κs. search needs) (λ c κs. search needs) (λ c κs. search needs) returns)

@@ -14,9 +14,6 @@ returns : tie.Need-returns
 unfolding given
 returns c = rw (c .before .if1 .taken, negative-over (c .before .before .args .magnitude) (omega arith))
 
-start-of-requires : tie.Need-start-of-requires
-start-of-requires c κs = search needs
-
 returns-2 : tie.Need-returns-2
 unfolding given
 returns-2 c = rw (c .before .before .if1 .taken, negative-fits (c .before .before .before .args .magnitude) (omega arith)) (ap Number (back-of w32 _ (c .start-of .ok) ∙ c .start-of .ensures ∙ instant-below (c .before .before .before .args .magnitude) (omega arith)))
@@ -24,12 +21,6 @@ returns-2 c = rw (c .before .before .if1 .taken, negative-fits (c .before .befor
 returns-3 : tie.Need-returns-3
 unfolding given
 returns-3 c = rw (c .before .if1 .left, positive-over (c .before .before .args .magnitude) (omega arith))
-
-add-start-of : tie.Need-add-start-of
-add-start-of c = search needs
-
-start-of-requires-2 : tie.Need-start-of-requires-2
-start-of-requires-2 c κs = search needs
 
 returns-4 : tie.Need-returns-4
 unfolding given
@@ -39,10 +30,4 @@ pub signed-spec : {M : Type 1} → statement M
 signed-spec =
     tie.close
     (tie.spec
-    returns
-    start-of-requires
-    returns-2
-    returns-3
-    add-start-of
-    start-of-requires-2
-    returns-4)
+    returns (λ c κs. search needs) returns-2 returns-3 (λ c. search needs) (λ c κs. search needs) returns-4)

@@ -18,19 +18,11 @@ returns-2 c =
     let s = c .before .before .before .args in
     sym (after-large _ (s .magnitude) (s .byte) (omega (arith, ltb-false)) (omega (arith, ltb-false)) (omega arith))
 
-cast-digit : tie.Need-cast-digit
-cast-digit c = search needs
-
-mul-larger : tie.Need-mul-larger
-mul-larger c = search needs
-
-add-larger : tie.Need-add-larger
-add-larger c = search needs
-
 returns-3 : tie.Need-returns-3
 returns-3 c =
     let s = c .before .before .before .args in
     sym (after-small _ (s .magnitude) (s .byte) (omega (arith, ltb-false)) (omega (arith, ltb-false)) (omega arith))
 
 pub with-digit-spec : {M : Type 1} → statement M
-with-digit-spec = tie.close (tie.spec returns returns-2 cast-digit mul-larger add-larger returns-3)
+with-digit-spec =
+    tie.close (tie.spec returns returns-2 (λ c. search needs) (λ c. search needs) (λ c. search needs) returns-3)

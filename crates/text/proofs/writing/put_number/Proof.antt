@@ -14,17 +14,8 @@ use Rattle.text.proofs.writing.put_number.Tie as tie
 moment-is : (c : tie.After-moment-of) → c .moment-of .result ≡ moment zeroAt (c .before .before .args .x)
 moment-is c = c .moment-of .ensures ∙ ap (moment zeroAt) (back (c .before .before .fits .x))
 
-moment-of-requires : tie.Need-moment-of-requires
-moment-of-requires c κs = search needs
-
-cast-moment : tie.Need-cast-moment
-cast-moment c = search needs
-
 put-digits-requires : tie.Need-put-digits-requires
 put-digits-requires c κs = omega (arith, natural-fits 9 (c .before .before .moment-of .result - zeroAt) (omega arith))
-
-same-length : tie.Need-same-length
-same-length c = search needs
 
 returns : tie.Need-returns
 returns c =
@@ -33,15 +24,6 @@ returns c =
       rw (decimal-above (s .args .x) h, ← moment-is (c .before .before .before .before .before)) (c .before .before .put-digits .ensures),
       omega (arith, c .before .before .put-digits .ensures .end, natural-fits 9 (c .before .before .before .before .before .moment-of .result - zeroAt) (omega arith)),
     )
-
-slice-write-out : tie.Need-slice-write-out
-slice-write-out c = search needs
-
-add-put-digits : tie.Need-add-put-digits
-add-put-digits c = search needs
-
-sub-put-digits : tie.Need-sub-put-digits
-sub-put-digits c = search needs
 
 put-digits-requires-2 : tie.Need-put-digits-requires-2
 put-digits-requires-2 c κs = simp length-set (omega (arith, natural-fits 9 (zeroAt - c .before .before .moment-of .result) (omega arith)))
@@ -61,14 +43,5 @@ pub put-number-spec : {M : Type 1} → statement M
 put-number-spec =
     tie.close
     (tie.spec
-    moment-of-requires
-    cast-moment
-    put-digits-requires
-    same-length
-    returns
-    slice-write-out
-    add-put-digits
-    sub-put-digits
-    put-digits-requires-2
-    same-length-2
-    returns-2)
+    (λ c κs. search needs) (λ c. search needs) put-digits-requires (λ c. search needs) returns (λ c. search needs)
+    (λ c. search needs) (λ c. search needs) put-digits-requires-2 same-length-2 returns-2)

@@ -46,14 +46,5 @@ pub leaf-places-spec : {M : Type 1} → statement M
 leaf-places-spec =
     tie.close
     (tie.spec
-    Inv-loop
-    μ-loop
-    loop-holds
-    mul-task
-    element-copy-out-task
-    mul-mapping
-    element-write-mapping
-    add-i
-    loop-less
-    loop-again
-    returns)
+    Inv-loop μ-loop loop-holds mul-task element-copy-out-task mul-mapping element-write-mapping add-i loop-less
+    loop-again returns)

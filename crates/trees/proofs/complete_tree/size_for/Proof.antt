@@ -18,12 +18,6 @@ abbrev μ-loop : tie.MeasureT-loop
 loop-holds : tie.Need-loop-holds Inv-loop μ-loop
 loop-holds c = let z : c .args .count - 0 ≡ c .args .count = omega arith in (sym once, omega arith, omega arith, rw z refl)
 
-mul-leaves : tie.Need-mul-leaves Inv-loop μ-loop
-mul-leaves c = search needs
-
-add-height : tie.Need-add-height Inv-loop μ-loop
-add-height c = search needs
-
 loop-less : tie.Need-loop-less Inv-loop μ-loop
 loop-less c = omega arith
 
@@ -42,4 +36,5 @@ returns c = let i = c .before .loop .inv in
 pub size-for-spec : {M : Type 1} → statement M
 size-for-spec =
     tie.close
-    (tie.spec Inv-loop μ-loop loop-holds mul-leaves add-height loop-less loop-again sub-t5 returns)
+    (tie.spec
+    Inv-loop μ-loop loop-holds (λ c. search needs) (λ c. search needs) loop-less loop-again sub-t5 returns)

@@ -5,24 +5,6 @@ use Rattle.trees.proofs.Storage.{plain-stored}
 use Rattle.trees.proofs.theta_tree.store.Statement.{statement}
 use Rattle.trees.proofs.theta_tree.store.Tie as tie
 
-mul-k : tie.Need-mul-k
-mul-k c = search needs
-
-mul-nodes : tie.Need-mul-nodes
-mul-nodes c = search needs
-
-element-write-nodes : tie.Need-element-write-nodes
-element-write-nodes c = search needs
-
-add-nodes : tie.Need-add-nodes
-add-nodes c = search needs
-
-mul-nodes-2 : tie.Need-mul-nodes-2
-mul-nodes-2 c = search needs
-
-element-write-nodes-2 : tie.Need-element-write-nodes-2
-element-write-nodes-2 c = search needs
-
 returns : tie.Need-returns
 returns c = plain-stored (c .args .nodes .now) (c .args .i) (c .args .n) (c .pre .0) (c .pre .1)
 
@@ -30,10 +12,5 @@ pub store-spec : {M : Type 1} → statement M
 store-spec =
     tie.close
     (tie.spec
-    mul-k
-    mul-nodes
-    element-write-nodes
-    add-nodes
-    mul-nodes-2
-    element-write-nodes-2
-    returns)
+    (λ c. search needs) (λ c. search needs) (λ c. search needs) (λ c. search needs) (λ c. search needs)
+    (λ c. search needs) returns)

@@ -9,27 +9,15 @@ use Rattle.holes.proofs.Steps.{step-fits, step-back, one-up, one-down, wider}
 use Rattle.atoms.proofs.atomic_constraint.AtomicConstraint.negate.Statement.{statement}
 use Rattle.atoms.proofs.atomic_constraint.AtomicConstraint.negate.Tie as tie
 
-enum-told : tie.Need-enum-told
-enum-told c = search needs
-
 sub-t7 : tie.Need-sub-t7
 sub-t7 c =
     let s = c .before .before .before in
     step-fits (s .args .self .value) (negsuc 0) (record { sfits = c .before .before .struct-told .given .1 .1 .0 .1 }) (wider VALUE (VALUE + 32) (s .args .self .value) (omega arith) (s .pre)) one-down
 
-enum-told-2 : tie.Need-enum-told-2
-enum-told-2 c = search needs
-
 add-t9 : tie.Need-add-t9
 add-t9 c =
     let s = c .before .before .before in
     step-fits (s .args .self .value) (pos 1) (record { sfits = c .before .before .struct-told .given .1 .1 .0 .1 }) (wider VALUE (VALUE + 32) (s .args .self .value) (omega arith) (s .pre)) one-up
-
-enum-told-3 : tie.Need-enum-told-3
-enum-told-3 c = search needs
-
-enum-told-4 : tie.Need-enum-told-4
-enum-told-4 c = search needs
 
 returns : tie.Need-returns
 returns c =
@@ -59,13 +47,5 @@ pub negate-spec : {M : Type 1} → statement M
 negate-spec =
     tie.close
     (tie.spec
-    enum-told
-    sub-t7
-    enum-told-2
-    add-t9
-    enum-told-3
-    enum-told-4
-    returns
-    returns-2
-    returns-3
-    returns-4)
+    (λ c. search needs) sub-t7 (λ c. search needs) add-t9 (λ c. search needs) (λ c. search needs) returns returns-2
+    returns-3 returns-4)

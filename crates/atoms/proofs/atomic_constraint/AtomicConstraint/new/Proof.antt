@@ -11,9 +11,6 @@ use Rattle.atoms.proofs.atomic_constraint.AtomicConstraint.new.Tie as t
 nat-of-requires : tie.Need-nat-of-requires
 nat-of-requires c κs = subst (λ (z : ℤ). pos 0 ≤ℤ z) (sym (back (c .fits .variable))) (right-atom _ _ _ (c .pre) .variable)
 
-cast-t5 : tie.Need-cast-t5
-cast-t5 c = search needs
-
 comparison-of-requires : tie.Need-comparison-of-requires
 comparison-of-requires c κs =
     let r = right-atom _ _ _ (c .before .pre) in
@@ -28,4 +25,4 @@ returns c =
     (λ i. record { variable = x i; kind = k i; value = v i })
 
 pub new-spec : {M : Type 1} → statement M
-new-spec = tie.close (tie.spec nat-of-requires cast-t5 comparison-of-requires returns)
+new-spec = tie.close (tie.spec nat-of-requires (λ c. search needs) comparison-of-requires returns)

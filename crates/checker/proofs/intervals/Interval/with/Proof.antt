@@ -11,15 +11,6 @@ use Rattle.checker.proofs.intervals.Interval.with.Tie as tie
 returns : tie.Need-returns
 returns c = let a = c .before .args in sym (ap (λ (b : Bool). gathered (a .self) b (a .est) (a .lct) (a .p)) (not-true (a .chosen) (c .if1 .taken)))
 
-min-requires : tie.Need-min-requires
-min-requires c κs = search needs
-
-max-requires : tie.Need-max-requires
-max-requires c κs = search needs
-
-add-t9 : tie.Need-add-t9
-add-t9 c = search needs
-
 returns-2 : tie.Need-returns-2
 returns-2 c =
     let a = c .before .before .before .before .args in
@@ -28,4 +19,4 @@ returns-2 c =
     ∙ sym (ap (λ (b : Bool). gathered (a .self) b (a .est) (a .lct) (a .p)) (not-false (a .chosen) (c .before .before .before .if1 .left)))
 
 pub with-spec : {M : Type 1} → statement M
-with-spec = tie.close (tie.spec returns min-requires max-requires add-t9 returns-2)
+with-spec = tie.close (tie.spec returns (λ c κs. search needs) (λ c κs. search needs) (λ c. search needs) returns-2)

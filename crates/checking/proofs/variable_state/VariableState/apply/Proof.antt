@@ -18,9 +18,6 @@ use borrow.Author.Needs.{needs}
 use Rattle.checking.proofs.variable_state.VariableState.apply.Statement.{statement}
 use Rattle.checking.proofs.variable_state.VariableState.apply.Tie as tie
 
-is-accepted-requires : tie.Need-is-accepted-requires
-is-accepted-requires c κs = search needs
-
 -- what the tests that were passed say
 state-right : (c : tie.Else1) → accepted (c .before .before .args .self .domains) ≡ true
 state-right c = sym (c .before .is-accepted .ensures .0) ∙ not-false (c .before .is-accepted .result) (c .if1 .left)
@@ -49,9 +46,6 @@ returns c =
     let t : accepted (s .args .self .domains) ≡ false = sym (c .before .is-accepted .ensures .0) ∙ not-true (c .before .is-accepted .result) (c .if1 .taken) in
     apply-promise (s .args .self) (s .args .variable) (s .args .kind) (s .args .value) (λ y. clash y t) _ (rw t)
 
-atom-is-accepted-requires : tie.Need-atom-is-accepted-requires
-atom-is-accepted-requires c κs = search needs
-
 returns-2 : tie.Need-returns-2
 unfolding appliedTo
 returns-2 c =
@@ -79,10 +73,4 @@ pub apply-spec : {M : Type 1} → statement M
 apply-spec =
     tie.close
     (tie.spec
-    is-accepted-requires
-    returns
-    atom-is-accepted-requires
-    returns-2
-    new-requires
-    apply-atom-requires
-    returns-3)
+    (λ c κs. search needs) returns (λ c κs. search needs) returns-2 new-requires apply-atom-requires returns-3)

@@ -32,9 +32,6 @@ abbrev μ-loop : tie.MeasureT-loop
 add-words : tie.Need-add-words Inv-loop μ-loop
 add-words c = omega (arith, right-lists (c .args .premises .now) (c .args .consequent .now) (c .pre .1) .1)
 
-empty-requires : tie.Need-empty-requires Inv-loop μ-loop
-empty-requires c κs = search needs
-
 loop-holds : tie.Need-loop-holds Inv-loop μ-loop
 loop-holds c =
     let ps = c .before .args .premises .now in
@@ -83,17 +80,11 @@ still c =
     let s = c .before .before .before .before .before .before .before in
     sym (l .inv .1 .1 .1) ∙ ap (λ (m : List Atom). applyAll m (l .state)) (here (c .before .before .before .before) .atoms ∙ ap (λ (a : Atom). a ∷ givenFrom (s .args .premises .now) (s .args .consequent .now) (l .i + 3)) (sym (c .before .before .before .given-at .ensures)))
 
-enum-told : tie.Need-enum-told Inv-loop μ-loop
-enum-told c = search needs
-
 mul-narrowed : tie.Need-mul-narrowed Inv-loop μ-loop
 mul-narrowed c = omega (arith, known (c .before .before .before .before .before .before))
 
 element-set-from-narrowed : tie.Need-element-set-from-narrowed Inv-loop μ-loop
 element-set-from-narrowed c = known (c .before .before .before .before .before .before)
-
-enum-told-2 : tie.Need-enum-told-2 Inv-loop μ-loop
-enum-told-2 c = search needs
 
 returns : tie.Need-returns Inv-loop μ-loop
 returns c =
@@ -103,12 +94,6 @@ returns c =
     let rest = givenFrom (c .before .before .before .before .before .before .before .before .before .args .premises .now) (c .before .before .before .before .before .before .before .before .before .args .consequent .now) (l .i + 3) in
     sym (still (c .before .before) ∙ all-contradiction (l .state) a rest (a .variable) (l .state) (stepped-is (l .state) a r (said (c .before .before)) ∙ when-emptied (l .state) a r (c .enum-told2 .given .1)))
 
-enum-told-3 : tie.Need-enum-told-3 Inv-loop μ-loop
-enum-told-3 c = search needs
-
-empty-requires-2 : tie.Need-empty-requires-2 Inv-loop μ-loop
-empty-requires-2 c κs = search needs
-
 returns-2 : tie.Need-returns-2 Inv-loop μ-loop
 returns-2 c =
     let a = atomOf (c .before .before .before .before .before .before .given-at .result) in
@@ -117,12 +102,6 @@ returns-2 c =
     let rest = givenFrom (c .before .before .before .before .before .before .before .before .before .before .args .premises .now) (c .before .before .before .before .before .before .before .before .before .before .args .consequent .now) (l .i + 3) in
     (λ i. record { answer = Refused 21; state = c .empty2 .ensures .0 i })
     ∙ sym (still (c .before .before .before) ∙ all-refused (l .state) a rest 21 (l .state) (stepped-is (l .state) a r (said (c .before .before .before)) ∙ when-full (l .state) a r (c .before .enum-told3 .given .1)))
-
-add-i : tie.Need-add-i Inv-loop μ-loop
-add-i c = search needs
-
-loop-less : tie.Need-loop-less Inv-loop μ-loop
-loop-less c = search needs
 
 loop-again : tie.Need-loop-again Inv-loop μ-loop
 loop-again c =
@@ -156,24 +135,6 @@ pub apply-all-spec : {M : Type 1} → statement M
 apply-all-spec =
     tie.close
     (tie.spec
-    Inv-loop
-    μ-loop
-    add-words
-    empty-requires
-    loop-holds
-    given-at-requires
-    mul-domain
-    element-copy-out-domain
-    apply-requires
-    enum-told
-    mul-narrowed
-    element-set-from-narrowed
-    enum-told-2
-    returns
-    enum-told-3
-    empty-requires-2
-    returns-2
-    add-i
-    loop-less
-    loop-again
-    returns-3)
+    Inv-loop μ-loop add-words (λ c κs. search needs) loop-holds given-at-requires mul-domain element-copy-out-domain
+    apply-requires (λ c. search needs) mul-narrowed element-set-from-narrowed (λ c. search needs) returns
+    (λ c. search needs) (λ c κs. search needs) returns-2 (λ c. search needs) (λ c. search needs) loop-again returns-3)

@@ -13,12 +13,6 @@ use borrow.Author.Needs.{needs}
 use Rattle.checking.proofs.variable_state.VariableState.apply_atom.Statement.{statement}
 use Rattle.checking.proofs.variable_state.VariableState.apply_atom.Tie as tie
 
-mul-domain : tie.Need-mul-domain
-mul-domain c = search needs
-
-element-copy-out-domain : tie.Need-element-copy-out-domain
-element-copy-out-domain c = search needs
-
 apply-requires : tie.Need-apply-requires
 apply-requires c κs =
     let s = c .before .before in
@@ -29,21 +23,6 @@ said : (c : tie.After-apply) → c .apply .result ≡ reduced (domainAt (c .befo
 said c =
     let s = c .before .before .before in
     c .apply .ensures ∙ ap (reduced (domainAt (s .args .t1) (s .args .atom .identifier)) (kindOf (s .args .atom .comparison))) (back-of w32 (s .args .atom .value) (c .before .before .struct-told .given .1 .1 .0 .1))
-
-enum-told : tie.Need-enum-told
-enum-told c = search needs
-
-mul-narrowed : tie.Need-mul-narrowed
-mul-narrowed c = search needs
-
-element-set-from-narrowed : tie.Need-element-set-from-narrowed
-element-set-from-narrowed c = search needs
-
-enum-told-2 : tie.Need-enum-told-2
-enum-told-2 c = search needs
-
-enum-told-3 : tie.Need-enum-told-3
-enum-told-3 c = search needs
 
 returns : tie.Need-returns
 returns c =
@@ -67,14 +46,5 @@ pub apply-atom-spec : {M : Type 1} → statement M
 apply-atom-spec =
     tie.close
     (tie.spec
-    mul-domain
-    element-copy-out-domain
-    apply-requires
-    enum-told
-    mul-narrowed
-    element-set-from-narrowed
-    enum-told-2
-    enum-told-3
-    returns
-    returns-2
-    returns-3)
+    (λ c. search needs) (λ c. search needs) apply-requires (λ c. search needs) (λ c. search needs) (λ c. search needs)
+    (λ c. search needs) (λ c. search needs) returns returns-2 returns-3)

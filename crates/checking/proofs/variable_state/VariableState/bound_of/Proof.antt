@@ -16,9 +16,6 @@ use borrow.Author.Needs.{needs}
 use Rattle.checking.proofs.variable_state.VariableState.bound_of.Statement.{statement}
 use Rattle.checking.proofs.variable_state.VariableState.bound_of.Tie as tie
 
-is-accepted-requires : tie.Need-is-accepted-requires
-is-accepted-requires c κs = search needs
-
 -- what the tests that were passed say
 state-right : (c : tie.Else1) → accepted (c .before .before .args .t1 .domains) ≡ true
 state-right c = sym (c .before .is-accepted .ensures .0) ∙ not-false (c .before .is-accepted .result) (c .if1 .left)
@@ -42,9 +39,6 @@ returns c =
     let t : accepted (s .args .t1 .domains) ≡ false = sym (c .before .is-accepted .ensures .0) ∙ not-true (c .before .is-accepted .result) (c .if1 .taken) in
     (rw t, λ y. clash y t)
 
-variable-is-accepted-requires : tie.Need-variable-is-accepted-requires
-variable-is-accepted-requires c κs = search needs
-
 returns-2 : tie.Need-returns-2
 unfolding boundOf
 returns-2 c =
@@ -54,12 +48,6 @@ returns-2 c =
 
 nat-of-requires : tie.Need-nat-of-requires
 nat-of-requires c κs = subst (λ (z : ℤ). pos 0 ≤ℤ z) (sym (back (c .before .before .before .before .fits .variable))) (right-variable (c .before .before .before .before .args .variable) (variable-right c) .0)
-
-cast-x : tie.Need-cast-x
-cast-x c = search needs
-
-mul-domain : tie.Need-mul-domain
-mul-domain c = search needs
 
 element-copy-out-domain : tie.Need-element-copy-out-domain
 element-copy-out-domain c = subst (λ (x : ℕ). x < VARIABLES) (sym (is c)) (right-variable (c .before .before .before .before .before .args .variable) (variable-right (c .before)) .1)
@@ -80,13 +68,5 @@ pub bound-of-spec : {M : Type 1} → statement M
 bound-of-spec =
     tie.close
     (tie.spec
-    is-accepted-requires
-    returns
-    variable-is-accepted-requires
-    returns-2
-    nat-of-requires
-    cast-x
-    mul-domain
-    element-copy-out-domain
-    returns-3
-    returns-4)
+    (λ c κs. search needs) returns (λ c κs. search needs) returns-2 nat-of-requires (λ c. search needs)
+    (λ c. search needs) element-copy-out-domain returns-3 returns-4)

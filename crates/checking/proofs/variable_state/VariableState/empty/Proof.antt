@@ -6,11 +6,8 @@ use borrow.Author.Needs.{needs}
 use Rattle.checking.proofs.variable_state.VariableState.empty.Statement.{statement}
 use Rattle.checking.proofs.variable_state.VariableState.empty.Tie as tie
 
-all-integers-requires : tie.Need-all-integers-requires
-all-integers-requires c κs = search needs
-
 returns : tie.Need-returns
 returns c = empty-promise _ (λ i. record { domains = replicate VARIABLES (c .all-integers .ensures i) })
 
 pub empty-spec : {M : Type 1} → statement M
-empty-spec = tie.close (tie.spec all-integers-requires returns)
+empty-spec = tie.close (tie.spec (λ c κs. search needs) returns)

@@ -18,9 +18,6 @@ use borrow.Author.Needs.{needs}
 use Rattle.checking.proofs.variable_state.VariableState.is_true.Statement.{statement}
 use Rattle.checking.proofs.variable_state.VariableState.is_true.Tie as tie
 
-is-accepted-requires : tie.Need-is-accepted-requires
-is-accepted-requires c κs = search needs
-
 -- what the tests that were passed say
 state-right : (c : tie.Else1) → accepted (c .before .before .args .t1 .domains) ≡ true
 state-right c = sym (c .before .is-accepted .ensures .0) ∙ not-false (c .before .is-accepted .result) (c .if1 .left)
@@ -48,9 +45,6 @@ returns c =
     let s = c .before .before in
     let t : accepted (s .args .t1 .domains) ≡ false = sym (c .before .is-accepted .ensures .0) ∙ not-true (c .before .is-accepted .result) (c .if1 .taken) in
     truth-promise (s .args .t1) (s .args .variable) (s .args .kind) (s .args .value) (λ y. clash y t) _ (rw t)
-
-atom-is-accepted-requires : tie.Need-atom-is-accepted-requires
-atom-is-accepted-requires c κs = search needs
 
 returns-2 : tie.Need-returns-2
 unfolding truthOf
@@ -98,13 +92,5 @@ pub is-true-spec : {M : Type 1} → statement M
 is-true-spec =
     tie.close
     (tie.spec
-    is-accepted-requires
-    returns
-    atom-is-accepted-requires
-    returns-2
-    new-requires
-    mul-domain
-    element-copy-out-domain
-    is-true-requires
-    returns-3
-    returns-4)
+    (λ c κs. search needs) returns (λ c κs. search needs) returns-2 new-requires mul-domain element-copy-out-domain
+    is-true-requires returns-3 returns-4)

@@ -18,26 +18,11 @@ use borrow.Author.Needs.{needs}
 use Rattle.checking.proofs.variable_state.VariableState.prepare_for_conflict_check.Statement.{statement}
 use Rattle.checking.proofs.variable_state.VariableState.prepare_for_conflict_check.Tie as tie
 
-mul-if1 : tie.Need-mul-if1
-mul-if1 c = search needs
-
-add-if1 : tie.Need-add-if1
-add-if1 c = search needs
-
-empty-requires : tie.Need-empty-requires
-empty-requires c κs = search needs
-
 returns : tie.Need-returns
 unfolding prepared
 returns c =
     let n : ltb (3 * PREMISES + 2) (length (now (c .before .before .args .premises))) ≡ true = lt-ltb (3 * PREMISES + 2) (length (now (c .before .before .args .premises))) (c .before .if1 .taken) in
     prepare-promise (now (c .before .before .args .premises)) (now (c .before .before .args .consequent)) _ (rw n (λ i. record { answer = Refused 7; state = c .empty .ensures .0 i }))
-
-lists-are-accepted-requires : tie.Need-lists-are-accepted-requires
-lists-are-accepted-requires c κs = search needs
-
-empty-requires-2 : tie.Need-empty-requires-2
-empty-requires-2 c κs = search needs
 
 few : (c : tie.Else1) → ltb (3 * PREMISES + 2) (length (now (c .before .args .premises))) ≡ false
 few c = le-ltb (3 * PREMISES + 2) (length (now (c .before .args .premises))) (c .if1 .left)
@@ -67,12 +52,5 @@ pub prepare-for-conflict-check-spec : {M : Type 1} → statement M
 prepare-for-conflict-check-spec =
     tie.close
     (tie.spec
-    mul-if1
-    add-if1
-    empty-requires
-    returns
-    lists-are-accepted-requires
-    empty-requires-2
-    returns-2
-    apply-all-requires
-    returns-3)
+    (λ c. search needs) (λ c. search needs) (λ c κs. search needs) returns (λ c κs. search needs)
+    (λ c κs. search needs) returns-2 apply-all-requires returns-3)

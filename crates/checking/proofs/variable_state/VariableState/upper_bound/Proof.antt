@@ -7,13 +7,10 @@ use borrow.Author.Needs.{needs}
 use Rattle.checking.proofs.variable_state.VariableState.upper_bound.Statement.{statement}
 use Rattle.checking.proofs.variable_state.VariableState.upper_bound.Tie as tie
 
-bound-of-requires : tie.Need-bound-of-requires
-bound-of-requires c κs = search needs
-
 returns : tie.Need-returns
 returns c =
     let s = c .before in
     upper-promise (s .args .self) (s .args .variable) (c .bound-of .ensures .1) _ (c .bound-of .ensures .0 ∙ ap (boundOf upperOf (s .args .self)) (back (s .fits .variable)))
 
 pub upper-bound-spec : {M : Type 1} → statement M
-upper-bound-spec = tie.close (tie.spec bound-of-requires returns)
+upper-bound-spec = tie.close (tie.spec (λ c κs. search needs) returns)

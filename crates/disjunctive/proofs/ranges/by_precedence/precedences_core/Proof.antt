@@ -28,9 +28,6 @@ array-share-prefix-latest c = omega (arith, all-latest (c .before .before .befor
 slice-aggregate-precedences-2 : tie.Need-slice-aggregate-precedences-2
 slice-aggregate-precedences-2 c = sym (length-take-le _ _ (omega (arith, all-latest (c .before .before .before .before))))
 
-precedences-requires : tie.Need-precedences-requires
-precedences-requires c κs = search needs
-
 returns : tie.Need-returns
 returns c =
     let p = c .before in
@@ -48,9 +45,5 @@ pub precedences-core-spec : {M : Type 1} → statement M
 precedences-core-spec =
     tie.close
     (tie.spec
-    array-borrow-prefix-earliest
-    slice-aggregate-precedences
-    array-share-prefix-latest
-    slice-aggregate-precedences-2
-    precedences-requires
-    returns)
+    array-borrow-prefix-earliest slice-aggregate-precedences array-share-prefix-latest slice-aggregate-precedences-2
+    (λ c κs. search needs) returns)

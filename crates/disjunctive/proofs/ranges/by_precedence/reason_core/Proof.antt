@@ -28,12 +28,6 @@ array-share-prefix-latest c = omega (arith, all-latest (c .before .before .befor
 slice-aggregate-precedence-reason-2 : tie.Need-slice-aggregate-precedence-reason-2
 slice-aggregate-precedence-reason-2 c = sym (length-take-le _ _ (omega (arith, all-latest (c .before .before .before .before))))
 
-precedence-reason-requires : tie.Need-precedence-reason-requires
-precedence-reason-requires c κs = search needs
-
-same-length : tie.Need-same-length
-same-length c = search needs
-
 returns : tie.Need-returns
 returns c = search needs
 
@@ -41,10 +35,5 @@ pub reason-core-spec : {M : Type 1} → statement M
 reason-core-spec =
     tie.close
     (tie.spec
-    array-share-prefix-earliest
-    slice-aggregate-precedence-reason
-    array-share-prefix-latest
-    slice-aggregate-precedence-reason-2
-    precedence-reason-requires
-    same-length
-    returns)
+    array-share-prefix-earliest slice-aggregate-precedence-reason array-share-prefix-latest
+    slice-aggregate-precedence-reason-2 (λ c κs. search needs) (λ c. search needs) returns)

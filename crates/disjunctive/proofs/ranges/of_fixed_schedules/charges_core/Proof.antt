@@ -28,19 +28,9 @@ array-share-prefix-latest c = omega (arith, all-latest (c .before .before .befor
 slice-aggregate-charges-2 : tie.Need-slice-aggregate-charges-2
 slice-aggregate-charges-2 c = sym (length-take-le _ _ (omega (arith, all-latest (c .before .before .before .before))))
 
-charges-requires : tie.Need-charges-requires
-charges-requires c κs = search needs
-
-returns : tie.Need-returns
-returns c = search needs
-
 pub charges-core-spec : {M : Type 1} → statement M
 charges-core-spec =
     tie.close
     (tie.spec
-    array-share-prefix-earliest
-    slice-aggregate-charges
-    array-share-prefix-latest
-    slice-aggregate-charges-2
-    charges-requires
-    returns)
+    array-share-prefix-earliest slice-aggregate-charges array-share-prefix-latest slice-aggregate-charges-2
+    (λ c κs. search needs) (λ c. search needs))

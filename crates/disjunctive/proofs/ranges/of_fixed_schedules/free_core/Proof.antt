@@ -29,9 +29,6 @@ array-share-prefix-latest c = omega (arith, all-latest (c .before .before .befor
 slice-aggregate-free-start-2 : tie.Need-slice-aggregate-free-start-2
 slice-aggregate-free-start-2 c = sym (length-take-le _ _ (omega (arith, all-latest (c .before .before .before .before))))
 
-free-start-requires : tie.Need-free-start-requires
-free-start-requires c κs = search needs
-
 returns : tie.Need-returns
 returns c = let s = c .before .before .before .before .before in rw (back (s .fits .t), back (s .fits .d)) at (c .free-start .ensures)
 
@@ -39,9 +36,5 @@ pub free-core-spec : {M : Type 1} → statement M
 free-core-spec =
     tie.close
     (tie.spec
-    array-share-prefix-earliest
-    slice-aggregate-free-start
-    array-share-prefix-latest
-    slice-aggregate-free-start-2
-    free-start-requires
-    returns)
+    array-share-prefix-earliest slice-aggregate-free-start array-share-prefix-latest slice-aggregate-free-start-2
+    (λ c κs. search needs) returns)

@@ -28,23 +28,9 @@ array-share-prefix-latest c = omega (arith, all-latest (c .before .before .befor
 slice-aggregate-page-2 : tie.Need-slice-aggregate-page-2
 slice-aggregate-page-2 c = sym (length-take-le _ _ (omega (arith, all-latest (c .before .before .before .before .before))))
 
-page-requires : tie.Need-page-requires
-page-requires c κs = search needs
-
-same-length : tie.Need-same-length
-same-length c = search needs
-
-returns : tie.Need-returns
-returns c = search needs
-
 pub page-core-spec : {M : Type 1} → statement M
 page-core-spec =
     tie.close
     (tie.spec
-    array-share-prefix-earliest
-    slice-aggregate-page
-    array-share-prefix-latest
-    slice-aggregate-page-2
-    page-requires
-    same-length
-    returns)
+    array-share-prefix-earliest slice-aggregate-page array-share-prefix-latest slice-aggregate-page-2
+    (λ c κs. search needs) (λ c. search needs) (λ c. search needs))

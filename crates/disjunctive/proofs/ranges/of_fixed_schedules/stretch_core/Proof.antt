@@ -29,9 +29,6 @@ array-share-prefix-latest c = omega (arith, all-latest (c .before .before .befor
 slice-aggregate-busiest-stretch-2 : tie.Need-slice-aggregate-busiest-stretch-2
 slice-aggregate-busiest-stretch-2 c = sym (length-take-le _ _ (omega (arith, all-latest (c .before .before .before .before))))
 
-busiest-stretch-requires : tie.Need-busiest-stretch-requires
-busiest-stretch-requires c κs = search needs
-
 returns : tie.Need-returns
 returns c = let s = c .before .before .before .before .before in rw (back (s .fits .w)) at (c .busiest-stretch .ensures)
 
@@ -39,9 +36,5 @@ pub stretch-core-spec : {M : Type 1} → statement M
 stretch-core-spec =
     tie.close
     (tie.spec
-    array-share-prefix-earliest
-    slice-aggregate-busiest-stretch
-    array-share-prefix-latest
-    slice-aggregate-busiest-stretch-2
-    busiest-stretch-requires
-    returns)
+    array-share-prefix-earliest slice-aggregate-busiest-stretch array-share-prefix-latest
+    slice-aggregate-busiest-stretch-2 (λ c κs. search needs) returns)

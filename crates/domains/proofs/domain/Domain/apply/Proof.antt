@@ -17,30 +17,15 @@ use borrow.Author.Needs.{needs}
 use Rattle.domains.proofs.domain.Domain.apply.Statement.{statement}
 use Rattle.domains.proofs.domain.Domain.apply.Tie as tie
 
-enum-told : tie.Need-enum-told
-enum-told c = search needs
-
 tighten-lower-bound-requires : tie.Need-tighten-lower-bound-requires
 tighten-lower-bound-requires c κs =
     let s = c .before .before in
     (s .pre .0, subst (Within (VALUE + 2)) (sym (back (s .fits .value))) (wider (VALUE + 1) (VALUE + 2) (s .args .value) (omega arith) (s .pre .1)))
 
-settled-requires : tie.Need-settled-requires
-settled-requires c κs = search needs
-
-enum-told-2 : tie.Need-enum-told-2
-enum-told-2 c = search needs
-
 tighten-upper-bound-requires : tie.Need-tighten-upper-bound-requires
 tighten-upper-bound-requires c κs =
     let s = c .before .before in
     (s .pre .0, subst (Within (VALUE + 2)) (sym (back (s .fits .value))) (wider (VALUE + 1) (VALUE + 2) (s .args .value) (omega arith) (s .pre .1)))
-
-settled-requires-2 : tie.Need-settled-requires-2
-settled-requires-2 c κs = search needs
-
-enum-told-3 : tie.Need-enum-told-3
-enum-told-3 c = search needs
 
 tighten-lower-bound-requires-2 : tie.Need-tighten-lower-bound-requires-2
 tighten-lower-bound-requires-2 c κs =
@@ -53,24 +38,12 @@ tighten-upper-bound-requires-2 c κs =
     let z : ℤ = toZ w32 (ofZ w32 (s .args .value)) in
     (subst Tight (sym (c .tighten-lower-bound2 .ensures)) (lower-tight (s .args .self) z (s .pre .0)), subst (Within (VALUE + 2)) (sym (back (s .fits .value))) (wider (VALUE + 1) (VALUE + 2) (s .args .value) (omega arith) (s .pre .1)))
 
-settled-requires-3 : tie.Need-settled-requires-3
-settled-requires-3 c κs = search needs
-
-enum-told-4 : tie.Need-enum-told-4
-enum-told-4 c = search needs
-
-is-crowded-requires : tie.Need-is-crowded-requires
-is-crowded-requires c κs = search needs
-
 returns : tie.Need-returns
 unfolding reduced
 returns c =
     let s = c .before .before .before .before in
     let t : crowded (s .args .self) (s .args .value) ≡ true = ap (crowded (s .args .self)) (sym (back (s .fits .value))) ∙ sym (c .before .is-crowded .ensures) ∙ c .if1 .taken in
     rw (c .before .before .enum-told4 .given .1, t)
-
-without-lower-requires : tie.Need-without-lower-requires
-without-lower-requires c κs = search needs
 
 without-upper-requires : tie.Need-without-upper-requires
 without-upper-requires c κs =
@@ -87,9 +60,6 @@ with-hole-requires c κs =
     let e : c .without-upper .result ≡ withoutUpper (withoutLower d z) z = c .without-upper .ensures ∙ ap (λ (x : Domain). withoutUpper x z) (c .before .without-lower .ensures) in
     let room : crowded d z ≡ false = sym (c .before .before .before .is-crowded .ensures) ∙ c .before .before .if1 .left in
     (subst Tight (sym e) (high-cut (withoutLower d z) z t .tight), subst (λ (x : Domain). crowded x z ≡ false) (sym e) (still-room d z (s .pre .0) room))
-
-settled-requires-4 : tie.Need-settled-requires-4
-settled-requires-4 c κs = search needs
 
 returns-2 : tie.Need-returns-2
 unfolding reduced
@@ -125,24 +95,8 @@ pub apply-spec : {M : Type 1} → statement M
 apply-spec =
     tie.close
     (tie.spec
-    enum-told
-    tighten-lower-bound-requires
-    settled-requires
-    enum-told-2
-    tighten-upper-bound-requires
-    settled-requires-2
-    enum-told-3
-    tighten-lower-bound-requires-2
-    tighten-upper-bound-requires-2
-    settled-requires-3
-    enum-told-4
-    is-crowded-requires
-    returns
-    without-lower-requires
-    without-upper-requires
-    with-hole-requires
-    settled-requires-4
-    returns-2
-    returns-3
-    returns-4
-    returns-5)
+    (λ c. search needs) tighten-lower-bound-requires (λ c κs. search needs) (λ c. search needs)
+    tighten-upper-bound-requires (λ c κs. search needs) (λ c. search needs) tighten-lower-bound-requires-2
+    tighten-upper-bound-requires-2 (λ c κs. search needs) (λ c. search needs) (λ c κs. search needs) returns
+    (λ c κs. search needs) without-upper-requires with-hole-requires (λ c κs. search needs) returns-2 returns-3
+    returns-4 returns-5)

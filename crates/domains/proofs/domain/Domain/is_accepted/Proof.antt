@@ -11,9 +11,6 @@ use borrow.Author.Needs.{needs}
 use Rattle.domains.proofs.domain.Domain.is_accepted.Statement.{statement}
 use Rattle.domains.proofs.domain.Domain.is_accepted.Tie as tie
 
-le-requires : tie.Need-le-requires
-le-requires c κs = search needs
-
 -- what each test that was passed says
 crossed-not : (c : tie.Else1) → leExt (c .before .before .before .args .self .«lower_bound») (c .before .before .before .args .self .«upper_bound») ≡ true
 crossed-not c = sym (c .before .le .ensures) ∙ not-false (c .before .le .result) (c .if1 .left)
@@ -36,17 +33,11 @@ returns c =
     let t : leExt (c .before .before .before .args .self .«lower_bound») (c .before .before .before .args .self .«upper_bound») ≡ false = sym (c .before .le .ensures) ∙ not-true (c .before .le .result) (c .if1 .taken) in
     (rw t, never)
 
-le-requires-2 : tie.Need-le-requires-2
-le-requires-2 c κs = search needs
-
 returns-2 : tie.Need-returns-2
 unfolding acceptedDomain
 returns-2 c =
     let t : leExt PositiveInf (c .before .before .before .before .before .args .self .«lower_bound») ≡ true = sym (c .before .le2 .ensures) ∙ c .if2 .taken in
     (rw (crossed-not (c .before .before), t), never)
-
-le-requires-3 : tie.Need-le-requires-3
-le-requires-3 c κs = search needs
 
 returns-3 : tie.Need-returns-3
 unfolding acceptedDomain
@@ -60,18 +51,12 @@ returns-4 c =
     let t : leb (c .before .before .before .before .before .before .before .before .args .self .count) HOLES ≡ false = lt-leb (c .before .before .before .before .before .before .before .before .args .self .count) HOLES (c .if4 .taken) in
     (rw (crossed-not (c .before .before .before .before .before), lower-right (c .before .before .before), upper-right (c .before), t), never)
 
-ascend-between-requires : tie.Need-ascend-between-requires
-ascend-between-requires c κs = search needs
-
 returns-5 : tie.Need-returns-5
 unfolding acceptedDomain
 returns-5 c =
     let s = c .before .before .before .before .before .before .before .before .before .before in
     let t : ascend (s .args .self .«lower_bound») (holesOf (s .args .self)) (s .args .self .«upper_bound») ≡ false = sym (c .before .ascend-between .ensures) ∙ not-true (c .before .ascend-between .result) (c .if5 .taken) in
     (rw (crossed-not (c .before .before .before .before .before .before .before), lower-right (c .before .before .before .before .before), upper-right (c .before .before .before), few (c .before .before), t), never)
-
-rest-is-zero-requires : tie.Need-rest-is-zero-requires
-rest-is-zero-requires c κs = search needs
 
 returns-6 : tie.Need-returns-6
 unfolding acceptedDomain
@@ -81,14 +66,5 @@ pub is-accepted-spec : {M : Type 1} → statement M
 is-accepted-spec =
     tie.close
     (tie.spec
-    le-requires
-    returns
-    le-requires-2
-    returns-2
-    le-requires-3
-    returns-3
-    returns-4
-    ascend-between-requires
-    returns-5
-    rest-is-zero-requires
-    returns-6)
+    (λ c κs. search needs) returns (λ c κs. search needs) returns-2 (λ c κs. search needs) returns-3 returns-4
+    (λ c κs. search needs) returns-5 (λ c κs. search needs) returns-6)

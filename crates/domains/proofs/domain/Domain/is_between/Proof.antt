@@ -8,9 +8,6 @@ use borrow.Author.Needs.{needs}
 use Rattle.domains.proofs.domain.Domain.is_between.Statement.{statement}
 use Rattle.domains.proofs.domain.Domain.is_between.Tie as tie
 
-le-requires : tie.Need-le-requires
-le-requires c κs = search needs
-
 -- the two tests, in the terms of the value
 lower-test : (c : tie.After-le) → leExt (Int (c .before .args .value)) (c .before .args .self .«lower_bound») ≡ c .le .result
 lower-test c = sym (c .le .ensures ∙ ap (λ (z : ℤ). leExt (Int z) (c .before .args .self .«lower_bound»)) (back (c .before .fits .value)))
@@ -21,9 +18,6 @@ upper-test c = sym (c .le2 .ensures ∙ ap (λ (z : ℤ). leExt (c .before .befo
 returns : tie.Need-returns
 returns c = rw (lower-test (c .before) ∙ c .if1 .taken)
 
-le-requires-2 : tie.Need-le-requires-2
-le-requires-2 c κs = search needs
-
 returns-2 : tie.Need-returns-2
 returns-2 c = rw (lower-test (c .before .before .before) ∙ c .before .before .if1 .left, upper-test (c .before) ∙ c .if2 .taken)
 
@@ -31,4 +25,4 @@ returns-3 : tie.Need-returns-3
 returns-3 c = rw (lower-test (c .before .before .before) ∙ c .before .before .if1 .left, upper-test (c .before) ∙ c .if2 .left)
 
 pub is-between-spec : {M : Type 1} → statement M
-is-between-spec = tie.close (tie.spec le-requires returns le-requires-2 returns-2 returns-3)
+is-between-spec = tie.close (tie.spec (λ c κs. search needs) returns (λ c κs. search needs) returns-2 returns-3)

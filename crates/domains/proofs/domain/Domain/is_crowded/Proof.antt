@@ -9,9 +9,6 @@ use borrow.Author.Needs.{needs}
 use Rattle.domains.proofs.domain.Domain.is_crowded.Statement.{statement}
 use Rattle.domains.proofs.domain.Domain.is_crowded.Tie as tie
 
-is-between-requires : tie.Need-is-between-requires
-is-between-requires c κs = search needs
-
 -- the two tests, in the terms of the value
 inside : (c : tie.After-is-between) → between (c .before .args .self) (c .before .args .value) ≡ c .is-between .result
 inside c = sym (c .is-between .ensures ∙ ap (between (c .before .args .self)) (back (c .before .fits .value)))
@@ -27,9 +24,6 @@ returns : tie.Need-returns
 unfolding crowded
 returns c = rw (inside (c .before) ∙ not-true (c .before .is-between .result) (c .if1 .taken))
 
-contains-requires : tie.Need-contains-requires
-contains-requires c κs = search needs
-
 returns-2 : tie.Need-returns-2
 unfolding crowded
 returns-2 c = rw (inside-yes (c .before .before .before), hole (c .before) ∙ c .if2 .taken)
@@ -39,5 +33,4 @@ unfolding crowded
 returns-3 c = rw (inside-yes (c .before .before .before), hole (c .before) ∙ c .if2 .left)
 
 pub is-crowded-spec : {M : Type 1} → statement M
-is-crowded-spec =
-    tie.close (tie.spec is-between-requires returns contains-requires returns-2 returns-3)
+is-crowded-spec = tie.close (tie.spec (λ c κs. search needs) returns (λ c κs. search needs) returns-2 returns-3)

@@ -11,38 +11,11 @@ use borrow.Author.Needs.{needs}
 use Rattle.domains.proofs.domain.Domain.is_true.Statement.{statement}
 use Rattle.domains.proofs.domain.Domain.is_true.Tie as tie
 
-enum-told : tie.Need-enum-told
-enum-told c = search needs
-
-le-requires : tie.Need-le-requires
-le-requires c κs = search needs
-
-enum-told-2 : tie.Need-enum-told-2
-enum-told-2 c = search needs
-
-le-requires-2 : tie.Need-le-requires-2
-le-requires-2 c κs = search needs
-
-enum-told-3 : tie.Need-enum-told-3
-enum-told-3 c = search needs
-
-le-requires-3 : tie.Need-le-requires-3
-le-requires-3 c κs = search needs
-
-le-requires-4 : tie.Need-le-requires-4
-le-requires-4 c κs = search needs
-
 returns : tie.Need-returns
 returns c =
     let s = c .before .before .before .before .before .before in
     let t : leExt (Int (s .args .value)) (s .args .self .«lower_bound») ≡ true = ap (λ (z : ℤ). leExt (Int z) (s .args .self .«lower_bound»)) (sym (back (s .fits .value))) ∙ sym (c .before .before .le3 .ensures) ∙ c .before .if1 .taken in
     rw (c .before .before .before .enum-told3 .given .1, t) (c .le4 .ensures ∙ ap (λ (z : ℤ). leExt (s .args .self .«upper_bound») (Int z)) (back (s .fits .value)))
-
-enum-told-4 : tie.Need-enum-told-4
-enum-told-4 c = search needs
-
-le-requires-5 : tie.Need-le-requires-5
-le-requires-5 c κs = search needs
 
 returns-2 : tie.Need-returns-2
 returns-2 c =
@@ -50,18 +23,12 @@ returns-2 c =
     let t : leExt (s .args .self .«lower_bound») (Int (s .args .value)) ≡ false = ap (λ (z : ℤ). leExt (s .args .self .«lower_bound») (Int z)) (sym (back (s .fits .value))) ∙ sym (c .before .le5 .ensures) ∙ not-true (c .before .le5 .result) (c .if2 .taken) in
     rw (c .before .before .enum-told4 .given .1, t)
 
-le-requires-6 : tie.Need-le-requires-6
-le-requires-6 c κs = search needs
-
 returns-3 : tie.Need-returns-3
 returns-3 c =
     let s = c .before .before .before .before .before .before .before in
     let t : leExt (s .args .self .«lower_bound») (Int (s .args .value)) ≡ true = ap (λ (z : ℤ). leExt (s .args .self .«lower_bound») (Int z)) (sym (back (s .fits .value))) ∙ sym (c .before .before .before .le5 .ensures) ∙ not-false (c .before .before .before .le5 .result) (c .before .before .if2 .left) in
     let u : leExt (Int (s .args .value)) (s .args .self .«upper_bound») ≡ false = ap (λ (z : ℤ). leExt (Int z) (s .args .self .«upper_bound»)) (sym (back (s .fits .value))) ∙ sym (c .before .le6 .ensures) ∙ not-true (c .before .le6 .result) (c .if3 .taken) in
     rw (c .before .before .before .before .enum-told4 .given .1, t, u)
-
-contains-requires : tie.Need-contains-requires
-contains-requires c κs = search needs
 
 returns-4 : tie.Need-returns-4
 returns-4 c =
@@ -90,21 +57,6 @@ pub is-true-spec : {M : Type 1} → statement M
 is-true-spec =
     tie.close
     (tie.spec
-    enum-told
-    le-requires
-    enum-told-2
-    le-requires-2
-    enum-told-3
-    le-requires-3
-    le-requires-4
-    returns
-    enum-told-4
-    le-requires-5
-    returns-2
-    le-requires-6
-    returns-3
-    contains-requires
-    returns-4
-    returns-5
-    returns-6
-    returns-7)
+    (λ c. search needs) (λ c κs. search needs) (λ c. search needs) (λ c κs. search needs) (λ c. search needs)
+    (λ c κs. search needs) (λ c κs. search needs) returns (λ c. search needs) (λ c κs. search needs) returns-2
+    (λ c κs. search needs) returns-3 (λ c κs. search needs) returns-4 returns-5 returns-6 returns-7)

@@ -6,9 +6,6 @@ use borrow.Author.Needs.{needs}
 use Rattle.domains.proofs.domain.Domain.settled.Statement.{statement}
 use Rattle.domains.proofs.domain.Domain.settled.Tie as tie
 
-is-consistent-requires : tie.Need-is-consistent-requires
-is-consistent-requires c κs = search needs
-
 returns : tie.Need-returns
 unfolding settled
 returns c =
@@ -22,4 +19,4 @@ returns-2 c =
     rw t
 
 pub settled-spec : {M : Type 1} → statement M
-settled-spec = tie.close (tie.spec is-consistent-requires returns returns-2)
+settled-spec = tie.close (tie.spec (λ c κs. search needs) returns returns-2)

@@ -19,9 +19,6 @@ use borrow.Author.Needs.{needs}
 use Rattle.domains.proofs.domain.Domain.tighten_lower_bound.Statement.{statement}
 use Rattle.domains.proofs.domain.Domain.tighten_lower_bound.Tie as tie
 
-le-requires : tie.Need-le-requires
-le-requires c κs = search needs
-
 returns : tie.Need-returns
 unfolding tightenedLower
 returns c =
@@ -29,12 +26,6 @@ returns c =
     let d : Domain = s .args .self in
     let t : leExt (Int (s .args .bound)) (d .«lower_bound») ≡ true = ap (λ (z : ℤ). leExt (Int z) (d .«lower_bound»)) (sym (back (s .fits .bound))) ∙ sym (c .before .le .ensures) ∙ c .if1 .taken in
     rw t
-
-first-from-requires : tie.Need-first-from-requires
-first-from-requires c κs = search needs
-
-place-requires : tie.Need-place-requires
-place-requires c κs = search needs
 
 part-requires : tie.Need-part-requires
 part-requires c κs =
@@ -68,10 +59,4 @@ pub tighten-lower-bound-spec : {M : Type 1} → statement M
 tighten-lower-bound-spec =
     tie.close
     (tie.spec
-    le-requires
-    returns
-    first-from-requires
-    place-requires
-    part-requires
-    sub-t12
-    returns-2)
+    (λ c κs. search needs) returns (λ c κs. search needs) (λ c κs. search needs) part-requires sub-t12 returns-2)

@@ -20,9 +20,6 @@ use borrow.Author.Needs.{needs}
 use Rattle.domains.proofs.domain.Domain.tighten_upper_bound.Statement.{statement}
 use Rattle.domains.proofs.domain.Domain.tighten_upper_bound.Tie as tie
 
-le-requires : tie.Need-le-requires
-le-requires c κs = search needs
-
 returns : tie.Need-returns
 unfolding tightenedUpper
 returns c =
@@ -30,12 +27,6 @@ returns c =
     let d : Domain = s .args .self in
     let t : leExt (d .«upper_bound») (Int (s .args .bound)) ≡ true = ap (λ (z : ℤ). leExt (d .«upper_bound») (Int z)) (sym (back (s .fits .bound))) ∙ sym (c .before .le .ensures) ∙ c .if1 .taken in
     rw t
-
-last-up-to-requires : tie.Need-last-up-to-requires
-last-up-to-requires c κs = search needs
-
-place-requires : tie.Need-place-requires
-place-requires c κs = search needs
 
 part-requires : tie.Need-part-requires
 part-requires c κs =
@@ -61,4 +52,5 @@ returns-2 c =
 pub tighten-upper-bound-spec : {M : Type 1} → statement M
 tighten-upper-bound-spec =
     tie.close
-    (tie.spec le-requires returns last-up-to-requires place-requires part-requires returns-2)
+    (tie.spec
+    (λ c κs. search needs) returns (λ c κs. search needs) (λ c κs. search needs) part-requires returns-2)

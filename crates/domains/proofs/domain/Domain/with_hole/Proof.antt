@@ -16,9 +16,6 @@ use borrow.Author.Needs.{needs}
 use Rattle.domains.proofs.domain.Domain.with_hole.Statement.{statement}
 use Rattle.domains.proofs.domain.Domain.with_hole.Tie as tie
 
-is-between-requires : tie.Need-is-between-requires
-is-between-requires c κs = search needs
-
 -- the two tests, in the terms of the value
 inside : (c : tie.After-is-between) → between (c .before .args .self) (c .before .args .value) ≡ c .is-between .result
 inside c = sym (c .is-between .ensures ∙ ap (between (c .before .args .self)) (back (c .before .fits .value)))
@@ -33,9 +30,6 @@ inside-yes c = inside (c .before) ∙ not-false (c .before .is-between .result) 
 returns : tie.Need-returns
 unfolding withHole
 returns c = rw (inside (c .before) ∙ not-true (c .before .is-between .result) (c .if1 .taken))
-
-contains-requires : tie.Need-contains-requires
-contains-requires c κs = search needs
 
 returns-2 : tie.Need-returns-2
 unfolding withHole
@@ -69,10 +63,4 @@ pub with-hole-spec : {M : Type 1} → statement M
 with-hole-spec =
     tie.close
     (tie.spec
-    is-between-requires
-    returns
-    contains-requires
-    returns-2
-    insert-requires
-    add-t11
-    returns-3)
+    (λ c κs. search needs) returns (λ c κs. search needs) returns-2 insert-requires add-t11 returns-3)

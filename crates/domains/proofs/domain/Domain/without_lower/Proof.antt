@@ -15,9 +15,6 @@ use borrow.Author.Needs.{needs}
 use Rattle.domains.proofs.domain.Domain.without_lower.Statement.{statement}
 use Rattle.domains.proofs.domain.Domain.without_lower.Tie as tie
 
-eq-requires : tie.Need-eq-requires
-eq-requires c κs = search needs
-
 add-tighten-lower-bound : tie.Need-add-tighten-lower-bound
 add-tighten-lower-bound c =
     let s = c .before .before in
@@ -48,5 +45,4 @@ returns-2 c =
 
 pub without-lower-spec : {M : Type 1} → statement M
 without-lower-spec =
-    tie.close
-    (tie.spec eq-requires add-tighten-lower-bound tighten-lower-bound-requires returns returns-2)
+    tie.close (tie.spec (λ c κs. search needs) add-tighten-lower-bound tighten-lower-bound-requires returns returns-2)

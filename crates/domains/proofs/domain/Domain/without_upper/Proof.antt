@@ -15,9 +15,6 @@ use borrow.Author.Needs.{needs}
 use Rattle.domains.proofs.domain.Domain.without_upper.Statement.{statement}
 use Rattle.domains.proofs.domain.Domain.without_upper.Tie as tie
 
-eq-requires : tie.Need-eq-requires
-eq-requires c κs = search needs
-
 sub-tighten-upper-bound : tie.Need-sub-tighten-upper-bound
 sub-tighten-upper-bound c =
     let s = c .before .before in
@@ -48,5 +45,4 @@ returns-2 c =
 
 pub without-upper-spec : {M : Type 1} → statement M
 without-upper-spec =
-    tie.close
-    (tie.spec eq-requires sub-tighten-upper-bound tighten-upper-bound-requires returns returns-2)
+    tie.close (tie.spec (λ c κs. search needs) sub-tighten-upper-bound tighten-upper-bound-requires returns returns-2)

@@ -6,12 +6,6 @@ use borrow.Author.Needs.{needs}
 use Rattle.domains.proofs.int_ext.IntExt.eq.Statement.{statement}
 use Rattle.domains.proofs.int_ext.IntExt.eq.Tie as tie
 
-le-requires : tie.Need-le-requires
-le-requires c κs = search needs
-
-le-requires-2 : tie.Need-le-requires-2
-le-requires-2 c κs = search needs
-
 returns : tie.Need-returns
 returns c =
     let s = c .before .before .before in
@@ -25,4 +19,4 @@ returns-2 c =
     rw t
 
 pub eq-spec : {M : Type 1} → statement M
-eq-spec = tie.close (tie.spec le-requires le-requires-2 returns returns-2)
+eq-spec = tie.close (tie.spec (λ c κs. search needs) (λ c κs. search needs) returns returns-2)

@@ -7,12 +7,6 @@ use Rattle.ects.specs.Ects.{momentOf, exceeds}
 use Rattle.ects.proofs.earliest_completion.Ect.exceeds.Statement.{statement}
 use Rattle.ects.proofs.earliest_completion.Ect.exceeds.Tie as tie
 
-enum-told : tie.Need-enum-told
-enum-told c = search needs
-
-enum-known-self : tie.Need-enum-known-self
-enum-known-self c = search needs
-
 returns : tie.Need-returns
 returns c = search needs
 
@@ -20,4 +14,4 @@ returns-2 : tie.Need-returns-2
 returns-2 c = sym (ap (λ (e : Ect). exceeds (momentOf e) (c .before .before .before .args .moment)) (c .before .self .given .1))
 
 pub exceeds-spec : {M : Type 1} → statement M
-exceeds-spec = tie.close (tie.spec enum-told enum-known-self returns returns-2)
+exceeds-spec = tie.close (tie.spec (λ c. search needs) (λ c. search needs) returns returns-2)

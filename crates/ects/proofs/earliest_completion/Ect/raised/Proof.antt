@@ -7,20 +7,9 @@ use Rattle.ects.specs.Ects.{momentOf, raisedTo}
 use Rattle.ects.proofs.earliest_completion.Ect.raised.Statement.{statement}
 use Rattle.ects.proofs.earliest_completion.Ect.raised.Tie as tie
 
-enum-told : tie.Need-enum-told
-enum-told c = search needs
-
-enum-known-self : tie.Need-enum-known-self
-enum-known-self c = search needs
-
-max-requires : tie.Need-max-requires
-max-requires c κs = search needs
-
-returns : tie.Need-returns
-returns c = search needs
-
 returns-2 : tie.Need-returns-2
 returns-2 c = c .max .ensures ∙ sym (ap (λ (b : Ect). raisedTo (c .before .before .before .before .args .start) (momentOf b)) (c .before .before .self .given .1))
 
 pub raised-spec : {M : Type 1} → statement M
-raised-spec = tie.close (tie.spec enum-told enum-known-self max-requires returns returns-2)
+raised-spec =
+    tie.close (tie.spec (λ c. search needs) (λ c. search needs) (λ c κs. search needs) (λ c. search needs) returns-2)

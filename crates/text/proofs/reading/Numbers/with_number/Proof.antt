@@ -10,14 +10,8 @@ use Rattle.text.proofs.reading.Numbers.with_number.Tie as tie
 returns : tie.Need-returns
 returns c = sym (number-out _ _ (not-true _ (c .if1 .taken)))
 
-one-more-requires : tie.Need-one-more-requires
-one-more-requires c κs = search needs
-
-stored-requires : tie.Need-stored-requires
-stored-requires c κs = search needs
-
 returns-2 : tie.Need-returns-2
 returns-2 c = rw (number-in (c .before .before .before .before .before .args .self) (c .before .before .before .before .before .args .x) (not-false (c .before .before .before .before .before .args .self .valid) (c .before .before .before .if1 .left)), c .before .one-more .ensures, c .stored .ensures, back (c .before .before .before .before .before .fits .x))
 
 pub with-number-spec : {M : Type 1} → statement M
-with-number-spec = tie.close (tie.spec returns one-more-requires stored-requires returns-2)
+with-number-spec = tie.close (tie.spec returns (λ c κs. search needs) (λ c κs. search needs) returns-2)

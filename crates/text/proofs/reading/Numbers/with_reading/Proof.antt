@@ -6,21 +6,6 @@ use Rattle.text.specs.Scanning.{withReading}
 use Rattle.text.proofs.reading.Numbers.with_reading.Statement.{statement}
 use Rattle.text.proofs.reading.Numbers.with_reading.Tie as tie
 
-enum-told : tie.Need-enum-told
-enum-told c = search needs
-
-enum-known-reading : tie.Need-enum-known-reading
-enum-known-reading c = search needs
-
-with-number-requires : tie.Need-with-number-requires
-with-number-requires c κs = search needs
-
-enum-told-2 : tie.Need-enum-told-2
-enum-told-2 c = search needs
-
-invalid-requires : tie.Need-invalid-requires
-invalid-requires c κs = search needs
-
 returns : tie.Need-returns
 unfolding withReading
 returns c = rw (c .enum-told .given .1)
@@ -37,11 +22,5 @@ pub with-reading-spec : {M : Type 1} → statement M
 with-reading-spec =
     tie.close
     (tie.spec
-    enum-told
-    enum-known-reading
-    with-number-requires
-    enum-told-2
-    invalid-requires
-    returns
-    returns-2
-    returns-3)
+    (λ c. search needs) (λ c. search needs) (λ c κs. search needs) (λ c. search needs) (λ c κs. search needs) returns
+    returns-2 returns-3)

@@ -5,30 +5,9 @@ use Rattle.text.specs.Scanning.{nextOf}
 use Rattle.text.proofs.reading.Word.next.Statement.{statement}
 use Rattle.text.proofs.reading.Word.next.Tie as tie
 
-enum-told : tie.Need-enum-told
-enum-told c = search needs
-
 returns : tie.Need-returns
 unfolding nextOf
 returns c = rw (c .before .enum-told .given .1, eq-eqb _ _ (c .if1 .taken), nextOf)
-
-with-digit-requires : tie.Need-with-digit-requires
-with-digit-requires c κs = search needs
-
-enum-told-2 : tie.Need-enum-told-2
-enum-told-2 c = search needs
-
-with-digit-requires-2 : tie.Need-with-digit-requires-2
-with-digit-requires-2 c κs = search needs
-
-enum-known-self : tie.Need-enum-known-self
-enum-known-self c = search needs
-
-with-digit-requires-3 : tie.Need-with-digit-requires-3
-with-digit-requires-3 c κs = search needs
-
-enum-told-3 : tie.Need-enum-told-3
-enum-told-3 c = search needs
 
 returns-2 : tie.Need-returns-2
 unfolding nextOf
@@ -50,15 +29,5 @@ pub next-spec : {M : Type 1} → statement M
 next-spec =
     tie.close
     (tie.spec
-    enum-told
-    returns
-    with-digit-requires
-    enum-told-2
-    with-digit-requires-2
-    enum-known-self
-    with-digit-requires-3
-    enum-told-3
-    returns-2
-    returns-3
-    returns-4
-    returns-5)
+    (λ c. search needs) returns (λ c κs. search needs) (λ c. search needs) (λ c κs. search needs) (λ c. search needs)
+    (λ c κs. search needs) (λ c. search needs) returns-2 returns-3 returns-4 returns-5)

@@ -4,21 +4,6 @@ use Rattle.text.specs.Scanning.{readingOf}
 use Rattle.text.proofs.reading.Word.reading.Statement.{statement}
 use Rattle.text.proofs.reading.Word.reading.Tie as tie
 
-enum-told : tie.Need-enum-told
-enum-told c = search needs
-
-enum-told-2 : tie.Need-enum-told-2
-enum-told-2 c = search needs
-
-enum-known-self : tie.Need-enum-known-self
-enum-known-self c = search needs
-
-signed-requires : tie.Need-signed-requires
-signed-requires c κs = search needs
-
-enum-told-3 : tie.Need-enum-told-3
-enum-told-3 c = search needs
-
 returns : tie.Need-returns
 unfolding readingOf
 returns c = rw (c .enum-told .given .1)
@@ -39,12 +24,5 @@ pub reading-spec : {M : Type 1} → statement M
 reading-spec =
     tie.close
     (tie.spec
-    enum-told
-    enum-told-2
-    enum-known-self
-    signed-requires
-    enum-told-3
-    returns
-    returns-2
-    returns-3
-    returns-4)
+    (λ c. search needs) (λ c. search needs) (λ c. search needs) (λ c κs. search needs) (λ c. search needs) returns
+    returns-2 returns-3 returns-4)

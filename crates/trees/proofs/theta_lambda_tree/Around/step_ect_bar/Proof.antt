@@ -6,17 +6,8 @@ use Rattle.trees.specs.Searches.{stepAtEct}
 use Rattle.trees.proofs.theta_lambda_tree.Around.step_ect_bar.Statement.{statement}
 use Rattle.trees.proofs.theta_lambda_tree.Around.step_ect_bar.Tie as tie
 
-enum-known-self : tie.Need-enum-known-self
-enum-known-self c = search needs
-
-is-gray-requires : tie.Need-is-gray-requires
-is-gray-requires c κs = search needs
-
 returns : tie.Need-returns
 returns c = rw (c .before .before .before .self .given .1, sym (c .before .is-gray .ensures) ∙ c .if1 .taken)
-
-enum-known-self-2 : tie.Need-enum-known-self-2
-enum-known-self-2 c = search needs
 
 descent-ect-bar-requires : tie.Need-descent-ect-bar-requires
 descent-ect-bar-requires c κs = rw (c .before .self2 .given .1) at (c .before .before .before .pre)
@@ -31,10 +22,5 @@ pub step-ect-bar-spec : {M : Type 1} → statement M
 step-ect-bar-spec =
     tie.close
     (tie.spec
-    enum-known-self
-    is-gray-requires
-    returns
-    enum-known-self-2
-    descent-ect-bar-requires
-    returns-2
+    (λ c. search needs) (λ c κs. search needs) returns (λ c. search needs) descent-ect-bar-requires returns-2
     returns-3)

@@ -6,28 +6,13 @@ use Rattle.trees.specs.Searches.{descentEct}
 use Rattle.trees.proofs.theta_lambda_tree.Node.descent_ect_bar.Statement.{statement}
 use Rattle.trees.proofs.theta_lambda_tree.Node.descent_ect_bar.Tie as tie
 
-tested-requires : tie.Need-tested-requires
-tested-requires c κs = search needs
-
 returns : tie.Need-returns
 unfolding descentEct
 returns c = rw (sym (c .before .tested .ensures) ∙ c .if1 .taken, descentEct)
 
-add-tested : tie.Need-add-tested
-add-tested c = search needs
-
-tested-requires-2 : tie.Need-tested-requires-2
-tested-requires-2 c κs = search needs
-
 returns-2 : tie.Need-returns-2
 unfolding descentEct
 returns-2 c = rw (sym (c .before .before .before .before .before .tested .ensures) ∙ c .before .before .before .before .if1 .left, sym (c .before .tested2 .ensures) ∙ c .if2 .taken, descentEct)
-
-add-tested-2 : tie.Need-add-tested-2
-add-tested-2 c = search needs
-
-tested-requires-3 : tie.Need-tested-requires-3
-tested-requires-3 c κs = search needs
 
 returns-3 : tie.Need-returns-3
 unfolding descentEct
@@ -41,12 +26,5 @@ pub descent-ect-bar-spec : {M : Type 1} → statement M
 descent-ect-bar-spec =
     tie.close
     (tie.spec
-    tested-requires
-    returns
-    add-tested
-    tested-requires-2
-    returns-2
-    add-tested-2
-    tested-requires-3
-    returns-3
-    returns-4)
+    (λ c κs. search needs) returns (λ c. search needs) (λ c κs. search needs) returns-2 (λ c. search needs)
+    (λ c κs. search needs) returns-3 returns-4)

@@ -6,21 +6,9 @@ use Rattle.trees.specs.Searches.{descentP}
 use Rattle.trees.proofs.theta_lambda_tree.Node.descent_p.Statement.{statement}
 use Rattle.trees.proofs.theta_lambda_tree.Node.descent_p.Tie as tie
 
-add-tested : tie.Need-add-tested
-add-tested c = search needs
-
-tested-requires : tie.Need-tested-requires
-tested-requires c κs = search needs
-
 returns : tie.Need-returns
 unfolding descentP
 returns c = rw (sym (c .before .tested .ensures) ∙ c .if1 .taken, descentP)
-
-add-tested-2 : tie.Need-add-tested-2
-add-tested-2 c = search needs
-
-tested-requires-2 : tie.Need-tested-requires-2
-tested-requires-2 c κs = search needs
 
 returns-2 : tie.Need-returns-2
 unfolding descentP
@@ -34,10 +22,4 @@ pub descent-p-spec : {M : Type 1} → statement M
 descent-p-spec =
     tie.close
     (tie.spec
-    add-tested
-    tested-requires
-    returns
-    add-tested-2
-    tested-requires-2
-    returns-2
-    returns-3)
+    (λ c. search needs) (λ c κs. search needs) returns (λ c. search needs) (λ c κs. search needs) returns-2 returns-3)

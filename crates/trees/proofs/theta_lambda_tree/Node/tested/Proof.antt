@@ -15,12 +15,9 @@ returns : tie.Need-returns
 unfolding tested
 returns c = let a = c .before .args in sym (and-right (not (isEmpty (a .self))) (eqb (a .value) (a .this)) (ne-eqb (a .value) (a .this) (c .if1 .taken)))
 
-is-empty-requires : tie.Need-is-empty-requires
-is-empty-requires c κs = search needs
-
 returns-2 : tie.Need-returns-2
 unfolding tested
 returns-2 c = let a = c .before .before .args in ap not (c .is-empty .ensures) ∙ sym (and-only (not (isEmpty (a .self))) (eqb (a .value) (a .this)) (eq-eqb (a .value) (a .this) (c .before .if1 .left)))
 
 pub tested-spec : {M : Type 1} → statement M
-tested-spec = tie.close (tie.spec returns is-empty-requires returns-2)
+tested-spec = tie.close (tie.spec returns (λ c κs. search needs) returns-2)

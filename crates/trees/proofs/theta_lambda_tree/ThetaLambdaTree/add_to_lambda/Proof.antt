@@ -10,9 +10,6 @@ use Rattle.trees.proofs.theta_lambda_tree.ThetaLambdaTree.add_to_lambda
 add-ect : tie.Need-add-ect
 add-ect c = let f = put-fits additive (c .before .pre .takes) in omega (arith, f .fair, f .small)
 
-new-gray-node-requires : tie.Need-new-gray-node-requires
-new-gray-node-requires c κs = search needs
-
 put-requires : tie.Need-put-requires
 put-requires c κs = rw (c .before .new-gray-node .ensures) (c .before .before .before .pre)
 
@@ -20,4 +17,4 @@ returns : tie.Need-returns
 returns c = rw (c .before .before .new-gray-node .ensures) at (c .put .ensures)
 
 pub add-to-lambda-spec : {M : Type 1} → statement M
-add-to-lambda-spec = tie.close (tie.spec add-ect new-gray-node-requires put-requires returns)
+add-to-lambda-spec = tie.close (tie.spec add-ect (λ c κs. search needs) put-requires returns)

@@ -16,9 +16,6 @@ use Rattle.trees.proofs.theta_lambda_tree.ThetaLambdaTree.around.Tie as
 load-requires : tie.Need-load-requires
 load-requires c κs = omega (arith, inside (c .pre .1), c .pre .1 .room)
 
-is-leaf-requires : tie.Need-is-leaf-requires
-is-leaf-requires c κs = search needs
-
 returns : tie.Need-returns
 unfolding aroundOf
 returns c = let a = c .before .before .before .args in
@@ -51,11 +48,5 @@ pub around-spec : {M : Type 1} → statement M
 around-spec =
     tie.close
     (tie.spec
-    load-requires
-    is-leaf-requires
-    returns
-    get-left-child-index-requires
-    load-requires-2
-    get-right-child-index-requires
-    load-requires-3
-    returns-2)
+    load-requires (λ c κs. search needs) returns get-left-child-index-requires load-requires-2
+    get-right-child-index-requires load-requires-3 returns-2)

@@ -9,18 +9,6 @@ use Rattle.trees.specs.declared.theta_lambda_tree.Node.{Node}
 use Rattle.trees.proofs.theta_lambda_tree.ThetaLambdaTree.lay_in_theta.Statement.{statement}
 use Rattle.trees.proofs.theta_lambda_tree.ThetaLambdaTree.lay_in_theta.Tie as tie
 
-add-ect : tie.Need-add-ect
-add-ect c = search needs
-
-new-white-node-requires : tie.Need-new-white-node-requires
-new-white-node-requires c κs = search needs
-
-add-position : tie.Need-add-position
-add-position c = search needs
-
-store-requires : tie.Need-store-requires
-store-requires c κs = search needs
-
 returns : tie.Need-returns
 returns c =
     let made = c .before .before .before in
@@ -28,4 +16,5 @@ returns c =
     record { nodes = c .store .ensures .0 ∙ ap (λ (n : Node). changed (nodeAt (a .nodes .now)) (a .inner + a .place .0) n) (made .new-white-node .ensures); length = c .store .ensures .1 }
 
 pub lay-in-theta-spec : {M : Type 1} → statement M
-lay-in-theta-spec = tie.close (tie.spec add-ect new-white-node-requires add-position store-requires returns)
+lay-in-theta-spec =
+    tie.close (tie.spec (λ c. search needs) (λ c κs. search needs) (λ c. search needs) (λ c κs. search needs) returns)

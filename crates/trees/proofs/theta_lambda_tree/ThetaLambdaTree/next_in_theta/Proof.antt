@@ -24,22 +24,10 @@ ect n = n .ect
 loop-holds : tie.Need-loop-holds Inv-loop μ-loop
 loop-holds c = (omega arith, omega arith, λ y lo hi. absurd (omega arith))
 
-add-load : tie.Need-add-load Inv-loop μ-loop
-add-load c = search needs
-
-load-requires : tie.Need-load-requires Inv-loop μ-loop
-load-requires c κs = search needs
-
 returns : tie.Need-returns Inv-loop μ-loop
 returns c =
     let l = c .before .before .before .before .loop in
     record { from = l .inv .0; to = l .inv .1; passed = l .inv .2; found = λ _. ap not (ne-eqb _ 0 (λ z. c .if1 .taken (ap ect (c .before .before .load .ensures) ∙ z))) }
-
-add-x : tie.Need-add-x Inv-loop μ-loop
-add-x c = search needs
-
-loop-less : tie.Need-loop-less Inv-loop μ-loop
-loop-less c = search needs
 
 loop-again : tie.Need-loop-again Inv-loop μ-loop
 loop-again c =
@@ -54,13 +42,5 @@ pub next-in-theta-spec : {M : Type 1} → statement M
 next-in-theta-spec =
     tie.close
     (tie.spec
-    Inv-loop
-    μ-loop
-    loop-holds
-    add-load
-    load-requires
-    returns
-    add-x
-    loop-less
-    loop-again
-    returns-2)
+    Inv-loop μ-loop loop-holds (λ c. search needs) (λ c κs. search needs) returns (λ c. search needs)
+    (λ c. search needs) loop-again returns-2)

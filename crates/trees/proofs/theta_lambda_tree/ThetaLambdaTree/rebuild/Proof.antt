@@ -37,9 +37,6 @@ inside c = omega (arith, next c, c .before .loop .inv .during .inside, c .before
 loop-holds : tie.Need-loop-holds Inv-loop μ-loop
 loop-holds c = record { during = begin additive (c .pre .bounded) (c .pre .height) (c .pre .complete); long = c .pre .length; room = c .pre .room }
 
-sub-i : tie.Need-sub-i Inv-loop μ-loop
-sub-i c = search needs
-
 get-left-child-index-requires : tie.Need-get-left-child-index-requires Inv-loop μ-loop
 get-left-child-index-requires c κs = omega (arith, inside c)
 
@@ -88,16 +85,5 @@ pub rebuild-spec : {M : Type 1} → statement M
 rebuild-spec =
     tie.close
     (tie.spec
-    Inv-loop
-    μ-loop
-    loop-holds
-    sub-i
-    get-left-child-index-requires
-    get-right-child-index-requires
-    load-requires
-    load-requires-2
-    join-requires
-    store-requires
-    loop-less
-    loop-again
-    returns)
+    Inv-loop μ-loop loop-holds (λ c. search needs) get-left-child-index-requires get-right-child-index-requires
+    load-requires load-requires-2 join-requires store-requires loop-less loop-again returns)

@@ -4,9 +4,6 @@ use borrow.Author.Needs.{needs}
 use Rattle.trees.proofs.theta_lambda_tree.ThetaLambdaTree.remove_from_lambda.Statement.{statement}
 use Rattle.trees.proofs.theta_lambda_tree.ThetaLambdaTree.remove_from_lambda.Tie as tie
 
-empty-requires : tie.Need-empty-requires
-empty-requires c κs = search needs
-
 put-requires : tie.Need-put-requires
 put-requires c κs = rw (c .empty .ensures) (c .before .before .pre)
 
@@ -14,4 +11,4 @@ returns : tie.Need-returns
 returns c = rw (c .before .empty .ensures) at (c .put .ensures)
 
 pub remove-from-lambda-spec : {M : Type 1} → statement M
-remove-from-lambda-spec = tie.close (tie.spec empty-requires put-requires returns)
+remove-from-lambda-spec = tie.close (tie.spec (λ c κs. search needs) put-requires returns)

@@ -11,9 +11,6 @@ use Rattle.trees.proofs.Steps.{answer-at, no-answer, task-is}
 use Rattle.trees.proofs.theta_lambda_tree.ThetaLambdaTree.responsible_ect_bar.Statement.{statement}
 use Rattle.trees.proofs.theta_lambda_tree.ThetaLambdaTree.responsible_ect_bar.Tie as tie
 
-responsible-index-ect-bar-internal-requires : tie.Need-responsible-index-ect-bar-internal-requires
-responsible-index-ect-bar-internal-requires c κs = search needs
-
 returns : tie.Need-returns
 returns c = let a = c .before .before .args in sym (ap (responsibleOf (a .reverse-mapping .now)) (no-answer (a .inner) (a .height) (nodeAt (a .nodes .now)) (c .before .before .pre) _ (c .before .responsible-index-ect-bar-internal .ensures) (c .if1 .taken)))
 
@@ -37,10 +34,4 @@ returns-2 c =
 
 pub responsible-ect-bar-spec : {M : Type 1} → statement M
 responsible-ect-bar-spec =
-    tie.close
-    (tie.spec
-    responsible-index-ect-bar-internal-requires
-    returns
-    get-leaf-node-index-requires
-    task-of-requires
-    returns-2)
+    tie.close (tie.spec (λ c κs. search needs) returns get-leaf-node-index-requires task-of-requires returns-2)

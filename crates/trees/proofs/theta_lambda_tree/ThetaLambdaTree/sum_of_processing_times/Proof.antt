@@ -6,11 +6,8 @@ use Rattle.trees.specs.declared.theta_lambda_tree.Node.{Node}
 use Rattle.trees.proofs.theta_lambda_tree.ThetaLambdaTree.sum_of_processing_times.Statement.{statement}
 use Rattle.trees.proofs.theta_lambda_tree.ThetaLambdaTree.sum_of_processing_times.Tie as tie
 
-load-requires : tie.Need-load-requires
-load-requires c κs = search needs
-
 returns : tie.Need-returns
 returns c = ap (λ (n : Node). n .«sum_of_processing_times») (c .load .ensures)
 
 pub sum-of-processing-times-spec : {M : Type 1} → statement M
-sum-of-processing-times-spec = tie.close (tie.spec load-requires returns)
+sum-of-processing-times-spec = tie.close (tie.spec (λ c κs. search needs) returns)

@@ -21,9 +21,6 @@ abbrev μ-loop : tie.MeasureT-loop
 loop-holds : tie.Need-loop-holds Inv-loop μ-loop
 loop-holds c = (start additive (c .pre .0), c .pre .1)
 
-get-parent-requires : tie.Need-get-parent-requires Inv-loop μ-loop
-get-parent-requires c κs = search needs
-
 get-left-child-index-requires : tie.Need-get-left-child-index-requires Inv-loop μ-loop
 get-left-child-index-requires c κs = omega (arith, up-inner additive (c .before .before .loop .inv .0) (c .before .loop-test .taken), c .before .before .loop .inv .0 .room, c .get-parent .ensures)
 
@@ -69,16 +66,5 @@ pub upheap-spec : {M : Type 1} → statement M
 upheap-spec =
     tie.close
     (tie.spec
-    Inv-loop
-    μ-loop
-    loop-holds
-    get-parent-requires
-    get-left-child-index-requires
-    get-right-child-index-requires
-    load-requires
-    load-requires-2
-    join-requires
-    store-requires
-    loop-less
-    loop-again
-    returns)
+    Inv-loop μ-loop loop-holds (λ c κs. search needs) get-left-child-index-requires get-right-child-index-requires
+    load-requires load-requires-2 join-requires store-requires loop-less loop-again returns)

@@ -10,9 +10,6 @@ use Rattle.trees.proofs.theta_tree.ThetaTree.add.Tie as tie
 add-ect : tie.Need-add-ect
 add-ect c = let f = put-fits plain-additive (c .before .pre .takes) in omega (arith, f .fair, f .small)
 
-new-requires : tie.Need-new-requires
-new-requires c κs = search needs
-
 put-requires : tie.Need-put-requires
 put-requires c κs = rw (c .before .new .ensures) (c .before .before .before .pre)
 
@@ -20,4 +17,4 @@ returns : tie.Need-returns
 returns c = rw (c .before .before .new .ensures) at (c .put .ensures)
 
 pub add-spec : {M : Type 1} → statement M
-add-spec = tie.close (tie.spec add-ect new-requires put-requires returns)
+add-spec = tie.close (tie.spec add-ect (λ c κs. search needs) put-requires returns)

@@ -7,14 +7,8 @@ use Rattle.ects.specs.Ects.{decoded}
 use Rattle.trees.proofs.theta_tree.ThetaTree.ect.Statement.{statement}
 use Rattle.trees.proofs.theta_tree.ThetaTree.ect.Tie as tie
 
-load-requires : tie.Need-load-requires
-load-requires c κs = search needs
-
-decoded-requires : tie.Need-decoded-requires
-decoded-requires c κs = search needs
-
 returns : tie.Need-returns
 returns c = c .decoded .ensures ∙ ap (λ (n : Node). decoded (n .ect)) (c .before .load .ensures)
 
 pub ect-spec : {M : Type 1} → statement M
-ect-spec = tie.close (tie.spec load-requires decoded-requires returns)
+ect-spec = tie.close (tie.spec (λ c κs. search needs) (λ c κs. search needs) returns)

@@ -6,14 +6,8 @@ use Rattle.trees.proofs.Heights.{sized}
 use Rattle.trees.proofs.theta_tree.ThetaTree.new.Statement.{statement}
 use Rattle.trees.proofs.theta_tree.ThetaTree.new.Tie as tie
 
-leaf-places-requires : tie.Need-leaf-places-requires
-leaf-places-requires c κs = search needs
-
-size-for-requires : tie.Need-size-for-requires
-size-for-requires c κs = search needs
-
 returns : tie.Need-returns
 returns c = record { nodes = refl; mapping = c .before .leaf-places .ensures .0; size = record { least = refl; complete = sized _ _ _ (c .size-for .ensures) } }
 
 pub new-spec : {M : Type 1} → statement M
-new-spec = tie.close (tie.spec leaf-places-requires size-for-requires returns)
+new-spec = tie.close (tie.spec (λ c κs. search needs) (λ c κs. search needs) returns)

@@ -12,12 +12,6 @@ use Rattle.trees.proofs.Wiring.{needs-upheap, changed-leaf}
 use Rattle.trees.proofs.theta_tree.ThetaTree.put.Statement.{statement}
 use Rattle.trees.proofs.theta_tree.ThetaTree.put.Tie as tie
 
-add-position : tie.Need-add-position
-add-position c = search needs
-
-store-requires : tie.Need-store-requires
-store-requires c κs = search needs
-
 upheap-requires : tie.Need-upheap-requires
 upheap-requires c κs = (rw (c .before .store .ensures .0) (needs-upheap plain-additive (c .before .before .before .before .pre .takes)), c .before .store .ensures .1)
 
@@ -28,4 +22,4 @@ returns c = let a = c .before .before .before .before .before .args in
     record { tree = subst (λ (leaf : ℕ → Node). TreeOf plainJoinOf (a .inner) leaf (plainAt (c .upheap .last .0))) leaves (c .upheap .ensures .0); length = c .upheap .ensures .1 }
 
 pub put-spec : {M : Type 1} → statement M
-put-spec = tie.close (tie.spec add-position store-requires upheap-requires returns)
+put-spec = tie.close (tie.spec (λ c. search needs) (λ c κs. search needs) upheap-requires returns)
