@@ -261,7 +261,7 @@ module _ {n inn height lct : ℕ} {words : List ℕ} {es ps as′ : List ℤ} {w
     )
 
     pub many-atoms : w .atoms ≤ ATOMS
-    many-atoms = omega (arith, s .at .explained, reasons-short, mul-le-mul {n₁ = length (s .st .posts)} {m₁ = 2 * n} {n₂ = 48} {m₂ = 96} (omega (arith, fewer, s .small, few, s .arrays .count)) (omega (arith, few)))
+    many-atoms = omega (arith, s .at .explained, reasons-short, mul-le-mul {n₁ = length (s .st .posts)} {m₁ = 2 * n} {n₂ = TASKS} {m₂ = 2 * TASKS} (omega (arith, fewer, s .small, few, s .arrays .count)) (omega (arith, few)))
 
     atom-room : 3 * w .atoms + 6 * length (leaves.theta J first ls) + 3 ≤ length as′
     atom-room = omega (arith, s .at .explained, reasons-short, theta-less, s .atom-room, size, twice, mul-le-mul-right {m = suc (length (s .st .posts))} {n = n} (2 * n) (omega (arith, fewer, s .small, s .arrays .count)))
@@ -276,11 +276,11 @@ module _ {n inn height lct : ℕ} {words : List ℕ} {es ps as′ : List ℤ} {w
     post-room = omega (arith, s .at .posted, fewer, s .small, s .post-room, s .arrays .count, ap length (s .at .posts) ∙ length-sets (s .ps₀) 0 (postWords 0 (s .st .posts)))
 
     -- the task's leaf may be emptied, and is then
-    pub may-clear : Puttable inn words (getD mapping i 0) emptyOf
-    may-clear = subst (λ (k : ℕ). Puttable inn words k emptyOf) (sym leaf) (may-put (G .limited) (s .at .tree) x (found .small) empty refl)
+    pub may-clear : {k : ℕ} → k ≡ getD mapping i 0 → Puttable inn words k emptyOf
+    may-clear e = rw (e ∙ leaf) (may-put (G .limited) (s .at .tree) x (found .small) empty refl)
 
-    cleared : (words′ : List ℕ) → Put inn words words′ (getD mapping i 0) emptyOf → leaves.IsTree J first (set ls x empty) inn words′
-    cleared words′ q = was-put (G .limited) (s .at .tree) x (found .small) empty refl (subst (λ (k : ℕ). Put inn words words′ k emptyOf) leaf q)
+    cleared : {k : ℕ} (words′ : List ℕ) → k ≡ getD mapping i 0 → Put inn words words′ k emptyOf → leaves.IsTree J first (set ls x empty) inn words′
+    cleared words′ e q = was-put (G .limited) (s .at .tree) x (found .small) empty refl (rw (e ∙ leaf) at q)
 
     module _ (b : ℕ) (is : b ≡ nodeAt words 0 .ect) where
       bound-is : b ≡ leaves.rootEct J first ls
@@ -328,9 +328,9 @@ module _ {n inn height lct : ℕ} {words : List ℕ} {es ps as′ : List ℤ} {w
         pub emptied : getD est i 0 < b → getD lst i 0 < b → Considered s (turn.Emptied w′) words es ps′ bs
         emptied up high = (after, post-at, λ f. inner-stop zeroAt J first second f t (s .st) x passes (r .found) (lt-ltb (J .earliest (T x)) ect (omega (arith, up, task-start, bound-is))) (lt-ltb (J .latest (T x)) ect (omega (arith, high, task-latest, bound-is))))
 
-        pub raised-on : {words′ : List ℕ} {es′ : List ℤ} → getD est i 0 < b → b ≤ getD lst i 0 → es′ ≡ set es i (instant zeroAt b) → Put inn words words′ (getD mapping i 0) emptyOf
+        pub raised-on : {k : ℕ} {words′ : List ℕ} {es′ : List ℤ} → getD est i 0 < b → b ≤ getD lst i 0 → es′ ≡ set es i (instant zeroAt b) → k ≡ getD mapping i 0 → Put inn words words′ k emptyOf
             → Considered s (turn.On (one-change w′)) words′ es′ ps′ bs
-        raised-on {words′} {es′} up low e q = (
+        raised-on {words′ = words′} {es′} up low e at-leaf q = (
           next,
           at-next,
           λ f. inner-raise zeroAt J first second f t (s .st) x passes (r .found) (lt-ltb (J .earliest (T x)) ect up′) (le-ltb (J .latest (T x)) ect low′),
@@ -347,7 +347,7 @@ module _ {n inn height lct : ℕ} {words : List ℕ} {es ps as′ : List ℤ} {w
 
             at-next : AtNow s next words′ es′ ps′ bs (one-change w′)
             at-next = record {
-              tree = cleared words′ q;
+              tree = cleared words′ at-leaf q;
               starts = starts-at (s .st .starts) (s .at .starts) (r .task) bound-is e;
               posts = post-at .posts;
               atoms = post-at .atoms;
@@ -357,10 +357,10 @@ module _ {n inn height lct : ℕ} {words : List ℕ} {es ps as′ : List ℤ} {w
             }
 
       -- no post
-      pub passed-on : {words′ : List ℕ} → b ≤ getD est i 0 → Put inn words words′ (getD mapping i 0) emptyOf → Considered s (turn.On (one-change w)) words′ es ps as′
-      passed-on {words′} low q = (
+      pub passed-on : {k : ℕ} {words′ : List ℕ} → b ≤ getD est i 0 → k ≡ getD mapping i 0 → Put inn words words′ k emptyOf → Considered s (turn.On (one-change w)) words′ es ps as′
+      passed-on {words′ = words′} low at-leaf q = (
         dropped (s .st) x,
-        record { tree = cleared words′ q; starts = s .at .starts; posts = s .at .posts; atoms = s .at .atoms; posted = s .at .posted; explained = s .at .explained; counted = ap (λ (c : ℕ). c + 1) (s .at .counted) },
+        record { tree = cleared words′ at-leaf q; starts = s .at .starts; posts = s .at .posts; atoms = s .at .atoms; posted = s .at .posted; explained = s .at .explained; counted = ap (λ (c : ℕ). c + 1) (s .at .counted) },
         λ f. inner-pass zeroAt J first second f t (s .st) x passes (r .found) (le-ltb (J .earliest (T x)) ect low′),
       )
         where

@@ -30,6 +30,7 @@ use Rattle.runs.specs.Reached.{Entered, begins, follows, at-head, moved}
 use Rattle.explanations.specs.Explanations.{Overloaded}
 use Rattle.levels.specs.declared.outcome.Outcome.{Outcome}
 use Rattle.levels.specs.declared.outcome.Outcome.the-variants as outcome
+use Rattle.levels.specs.declared.run_levels.Turn as code
 use Rattle.levels.specs.declared.run_levels.Turn.the-variants as turn
 use Rattle.levels.specs.declared.run_levels.Written.{Written}
 use Rattle.levels.specs.RunArrays.{Ordered, At}
@@ -68,8 +69,8 @@ module _ {n inn height : ℕ} {words : List ℕ} {es ps as′ : List ℤ} {est l
   pub few : n ≤ TASKS
   few = omega (arith, G .limited .count, s .arrays .count)
 
-  pub candidate-small : (t : ℕ) → t < n → getD candidates t 0 < n
-  candidate-small t q = omega (arith, s .order .at t q, G .by-completion .task t (omega (arith, q, s .arrays .count)), s .arrays .count)
+  pub candidate-small : (t : ℕ) → t < n → getD candidates t 0 < TASKS
+  candidate-small t q = omega (arith, s .order .at t q, G .by-completion .task t (omega (arith, q, s .arrays .count)), G .limited .count)
 
   pub first-level : Level 0 words es ps as′ (record { posts = 0; atoms = 0; changes = n })
   first-level = record {
@@ -110,15 +111,22 @@ module _ {n inn height : ℕ} {words : List ℕ} {es ps as′ : List ℤ} {est l
         is : whole ≡ ended zeroAt J first second (v .st) done
         is = v .rest ∙ ap (λ (f : ℕ). rest-of f t (v .st)) none ∙ outer-end zeroAt J first second 0 t (v .st)
 
-    module _ (j c : ℕ) (more : t + 1 < n) (is-j : j ≡ getD candidates t 0) (is-c : c ≡ getD lct j 0) where
+    module _ (more : t + 1 < n) where
+      -- the level's task, and its lct
+      abbrev pub j : ℕ
+      j = getD candidates t 0
+
+      abbrev pub c : ℕ
+      c = getD lct j 0
+
       pub j-is : j ≡ getD second t 0
-      j-is = is-j ∙ s .order .at t (v .small)
+      j-is = s .order .at t (v .small)
 
       pub j-small : j < n
       j-small = omega (arith, j-is, G .by-completion .task t (omega (arith, v .small, s .arrays .count)), s .arrays .count)
 
       pub c-is : c ≡ completion J (getD second t 0)
-      c-is = is-c ∙ s .completions .at j j-small ∙ ap (completion J) j-is
+      c-is = s .completions .at j j-small ∙ ap (completion J) j-is
 
       abbrev here : Standing n inn height c words′ es′ ps′ bs w′ est lst dur tasks mapping
       here = record {
@@ -184,13 +192,17 @@ module _ {n inn height : ℕ} {words : List ℕ} {es ps as′ : List ℤ} {est l
       abbrev pub moves : Movable inn words′ mapping est dur j
       moves = considering.movable here j j-is
 
-      module _ (quiet : nodeAt words′ 0 .ect ≤ c) {words″ : List ℕ} (m : Moved inn words′ words″ mapping est dur j) (d : ℕ) (is-d : d ≡ getD lct (getD candidates (t + 1) 0) 0) where
+      module _ (quiet : nodeAt words′ 0 .ect ≤ c) {words″ : List ℕ} (m : Moved inn words′ words″ mapping est dur j) where
+        -- the lct of the next level
+        abbrev pub d : ℕ
+        d = getD lct (getD candidates (t + 1) 0) 0
+
         abbrev st₁ : State
         st₁ = grayed (v .st) (index first (getD second t 0))
 
         pub ends-d : d ≡ completion J (getD second (suc t) 0)
         ends-d = let one : t + 1 ≡ suc t = omega arith in let k-small : getD second (suc t) 0 < n = omega (arith, G .by-completion .task (suc t) (omega (arith, more, s .arrays .count)), s .arrays .count) in
-            is-d ∙ ap (λ (u : ℕ). getD lct (getD candidates u 0) 0) one ∙ ap (λ (k : ℕ). getD lct k 0) (s .order .at (suc t) (omega arith)) ∙ s .completions .at (getD second (suc t) 0) k-small
+            ap (λ (u : ℕ). getD lct (getD candidates u 0) 0) one ∙ ap (λ (k : ℕ). getD lct k 0) (s .order .at (suc t) (omega arith)) ∙ s .completions .at (getD second (suc t) 0) k-small
 
         pub quiet-here : leaves.rootEct J first (v .st .leaves) ≤ end
         quiet-here = omega (arith, quiet, ect-is, c-is)
@@ -229,21 +241,21 @@ module _ {n inn height : ℕ} {words : List ℕ} {es ps as′ : List ℤ} {est l
         inner-is z = ap (λ (f : ℕ). inner zeroAt J first second f (suc t) st₁) (s .arrays .count) ∙ z
 
         -- the inner loop ended,
-        pub one-more : {words‴ : List ℕ} {es″ ps″ bs′ : List ℤ} {w″ : Written} → AllConsidered goes-on (turn.On w″) words‴ es″ ps″ bs′ → Level (t + 1) words‴ es″ ps″ bs′ w″
-        one-more {words‴} {es″} {ps″} {bs′} {w″} (st′, a, z) = subst (λ (k : ℕ). Level k words‴ es″ ps″ bs′ w″) one (record {
-          st = st′;
-          small = omega arith;
-          at = a;
-          entered = follows t (v .st) st′ (v .entered) still (inner-is z);
-          rest = unfold-level ∙ outer-on zeroAt J first second (n - 1 - suc t) t (v .st) st′ not-over (inner-is z);
-        })
-          where
-            one : suc t ≡ t + 1
-            one = omega arith
+        pub one-more : {words‴ : List ℕ} {es″ ps″ bs′ : List ℤ} {w″ : Written} {u : code.Turn} → u ≡ turn.On w″ → AllConsidered goes-on u words‴ es″ ps″ bs′ → Level (t + 1) words‴ es″ ps″ bs′ w″
+        one-more {words‴} {es″} {ps″} {bs′} {w″} is all =
+            let (st′, a, z) = rw is at all in
+            let one : suc t ≡ t + 1 = omega arith in
+            subst (λ (k : ℕ). Level k words‴ es″ ps″ bs′ w″) one (record {
+              st = st′;
+              small = omega arith;
+              at = a;
+              entered = follows t (v .st) st′ (v .entered) still (inner-is z);
+              rest = unfold-level ∙ outer-on zeroAt J first second (n - 1 - suc t) t (v .st) st′ not-over (inner-is z);
+            })
 
         -- or a post emptied a range
-        pub one-emptied : {words‴ : List ℕ} {es″ ps″ bs′ : List ℤ} {w″ : Written} → AllConsidered goes-on (turn.Emptied w″) words‴ es″ ps″ bs′ → Ended J first second ps as′ (outcome.Emptied (w″ .posts)) (w″ .changes) es″ ps″ bs′
-        one-emptied {words‴} {es″} {ps″} {bs′} {w″} (st′, a, z) = subst (λ (k : ℕ). Ended J first second ps as′ (outcome.Emptied k) (w″ .changes) es″ ps″ bs′) (sym (a .posted)) (ends st′ emptied is a (no-more st′ emptied is a refl))
-          where
-            is : whole ≡ ended zeroAt J first second st′ emptied
-            is = unfold-level ∙ outer-stop zeroAt J first second (n - 1 - suc t) t (v .st) st′ not-over (inner-is z)
+        pub one-emptied : (words‴ : List ℕ) {es″ ps″ bs′ : List ℤ} {w″ : Written} {u : code.Turn} → u ≡ turn.Emptied w″ → AllConsidered goes-on u words‴ es″ ps″ bs′ → Ended J first second ps as′ (outcome.Emptied (w″ .posts)) (w″ .changes) es″ ps″ bs′
+        one-emptied words‴ {es″} {ps″} {bs′} {w″} is all =
+            let (st′, a, z) = rw is at all in
+            let stops : whole ≡ ended zeroAt J first second st′ emptied = unfold-level ∙ outer-stop zeroAt J first second (n - 1 - suc t) t (v .st) st′ not-over (inner-is z) in
+            subst (λ (k : ℕ). Ended J first second ps as′ (outcome.Emptied k) (w″ .changes) es″ ps″ bs′) (sym (a .posted)) (ends st′ emptied stops a (no-more st′ emptied stops a refl))

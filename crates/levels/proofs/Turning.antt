@@ -27,6 +27,7 @@ use Rattle.runs.specs.Runs.{State}
 use Rattle.runs.specs.Reached.{Reached, turned}
 use Rattle.runs.proofs.Fuel.{inner-end, inner-off, inner-none}
 use Rattle.levels.specs.declared.run_levels.Written.{Written}
+use Rattle.levels.specs.declared.run_levels.Turn as code
 use Rattle.levels.specs.declared.run_levels.Turn.the-variants as turn
 use Rattle.levels.specs.Turns.{candidateIn, Standing, AtNow, turns, Considered, AllConsidered, Responsible-for}
 use Rattle.levels.proofs.Posting.{candidate-none, candidate-some}
@@ -59,10 +60,6 @@ module _ {n inn height lct : ℕ} {words : List ℕ} {es ps as′ : List ℤ} {w
     pub reached : Reached zeroAt (s .J) (s .first) (s .second) (s .level) st
     pub at : AtNow s st words′ es′ ps′ bs w′
     pub rest : turns s n (s .st) ≡ turns s left st
-
-  -- one turn is taken
-  abbrev pub taken : {left f : ℕ} {words′ : List ℕ} {es′ ps′ bs : List ℤ} {w′ : Written} → left ≡ suc f → Turned left words′ es′ ps′ bs w′ → Turned (suc f) words′ es′ ps′ bs w′
-  taken z r = record { st = r .st; reached = r .reached; at = r .at; rest = r .rest ∙ ap (λ (f : ℕ). turns s f (r .st)) z }
 
   pub none-yet : Turned n words es ps as′ w
   none-yet = record { st = s .st; reached = s .reached; at = s .at; rest = refl }
@@ -101,7 +98,6 @@ module _ {n inn height lct : ℕ} {words : List ℕ} {es ps as′ : List ℤ} {w
     pub ended : left ≡ 0 → AllConsidered s (turn.On w′) words′ es′ ps′ bs
     ended z = (r .st, r .at, r .rest ∙ ap (λ (f : ℕ). turns s f (r .st)) z ∙ inner-end zeroAt (s .J) (s .first) (s .second) 0 (s .level) (r .st))
 
-  module _ {f : ℕ} {words′ : List ℕ} {es′ ps′ bs : List ℤ} {w′ : Written} (r : Turned (suc f) words′ es′ ps′ bs w′) where
     abbrev end : ℕ
     end = completion (s .J) (getD (s .second) (s .level) 0)
 
@@ -110,31 +106,38 @@ module _ {n inn height lct : ℕ} {words : List ℕ} {es ps as′ : List ℤ} {w
 
     -- the test, by the root's word
     test-is : {v : Bool} → exceeds (ectBarIn words′) lct ≡ v → ltb end top ≡ v
-    test-is y = sym (exceeds-decoded top end) ∙ ap₂ exceeds (sym (bar-is r)) (sym (s .ends)) ∙ y
+    test-is y = sym (exceeds-decoded top end) ∙ ap₂ exceeds (sym bar-is) (sym (s .ends)) ∙ y
 
-    -- there is no task to consider
-    pub nothing-left : responsible.Nothing ≡ candidateIn words′ inn height tasks lct → AllConsidered s (turn.On w′) words′ es′ ps′ bs
-    nothing-left z = (
-      r .st,
-      r .at,
-      r .rest ∙ elim (bool (exceeds (ectBarIn words′) lct)) [
-        | inr y ↦ inner-off zeroAt (s .J) (s .first) (s .second) f (s .level) (r .st) (test-is y)
-        | inl y ↦ inner-none zeroAt (s .J) (s .first) (s .second) f (s .level) (r .st) (test-is y)
-            (sym (search-is r) ∙ no-task tasks (searchEct (leavesOf inn (nodeAt words′)) height 0) (z ∙ sym (candidate-some words′ inn height tasks lct y)))
-      ],
-    )
-
-    -- there is one
-    pub one-left : (id : LocalId) → responsible.Task id ≡ candidateIn words′ inn height tasks lct → (x : ℕ) × Responsible-for (stands r) (id .0) x
-    one-left id z = elim (bool (exceeds (ectBarIn words′) lct)) [
-      | inr y ↦ clash {b = true} refl (ap is-task (z ∙ sym (candidate-none words′ inn height tasks lct y)))
-      | inl y ↦ (let (x, u, v) = some-task tasks (searchEct (leavesOf inn (nodeAt words′)) height 0) id (z ∙ sym (candidate-some words′ inn height tasks lct y)) in
-          (x, record { over = ap (λ (o : Option ℕ). exceeds o lct) (sym (bar-is r)) ∙ y; found = sym (search-is r) ∙ u; task = v ∙ s .arrays .tasks .at x (found-small r x (sym (search-is r) ∙ u)) }))
+    -- there is a task to consider
+    pub one-left : {next : Responsible} {id : LocalId} → next ≡ responsible.Task id → next ≡ candidateIn words′ inn height tasks lct → (x : ℕ) × Responsible-for stands (id .0) x
+    one-left {id = id} is z = elim (bool (exceeds (ectBarIn words′) lct)) [
+      | inr y ↦ clash {b = true} refl (ap is-task (sym is ∙ z ∙ sym (candidate-none words′ inn height tasks lct y)))
+      | inl y ↦ (let (x, u, v) = some-task tasks (searchEct (leavesOf inn (nodeAt words′)) height 0) id (sym is ∙ z ∙ sym (candidate-some words′ inn height tasks lct y)) in
+          (x, record { over = ap (λ (o : Option ℕ). exceeds o lct) (sym bar-is) ∙ y; found = sym search-is ∙ u; task = v ∙ s .arrays .tasks .at x (found-small x (sym search-is ∙ u)) }))
     ]
 
-    -- it was considered
-    pub one-less : {words″ : List ℕ} {es″ ps″ bs′ : List ℤ} {w″ : Written} → Considered (stands r) (turn.On w″) words″ es″ ps″ bs′ → Turned f words″ es″ ps″ bs′ w″
-    one-less (st′, a, next) = record { st = st′; reached = turned (s .level) (r .st) st′ (r .reached) (next 0 ∙ inner-end zeroAt (s .J) (s .first) (s .second) 0 (s .level) st′); at = a; rest = r .rest ∙ next f }
+    -- a turn is taken
+    module _ {f : ℕ} (some-left : left ≡ suc f) where
+      rest-is : turns s n (s .st) ≡ turns s (suc f) (r .st)
+      rest-is = r .rest ∙ ap (λ (f : ℕ). turns s f (r .st)) some-left
 
-    pub one-emptied : {words″ : List ℕ} {es″ ps″ bs′ : List ℤ} {w″ : Written} → Considered (stands r) (turn.Emptied w″) words″ es″ ps″ bs′ → AllConsidered s (turn.Emptied w″) words″ es″ ps″ bs′
-    one-emptied (st′, a, next) = (st′, a, r .rest ∙ next f)
+      -- there is no task to consider
+      pub nothing-left : {next : Responsible} → next ≡ responsible.Nothing → next ≡ candidateIn words′ inn height tasks lct → AllConsidered s (turn.On w′) words′ es′ ps′ bs
+      nothing-left is z = (
+        r .st,
+        r .at,
+        rest-is ∙ elim (bool (exceeds (ectBarIn words′) lct)) [
+          | inr y ↦ inner-off zeroAt (s .J) (s .first) (s .second) f (s .level) (r .st) (test-is y)
+          | inl y ↦ inner-none zeroAt (s .J) (s .first) (s .second) f (s .level) (r .st) (test-is y)
+              (sym search-is ∙ no-task tasks (searchEct (leavesOf inn (nodeAt words′)) height 0) (sym is ∙ z ∙ sym (candidate-some words′ inn height tasks lct y)))
+        ],
+      )
+
+      -- one was considered
+      pub one-less : {words″ : List ℕ} {es″ ps″ bs′ : List ℤ} {w″ : Written} {u : code.Turn} → u ≡ turn.On w″ → Considered stands u words″ es″ ps″ bs′ → Turned f words″ es″ ps″ bs′ w″
+      one-less is all =
+          let (st′, a, next) = rw is at all in
+          record { st = st′; reached = turned (s .level) (r .st) st′ (r .reached) (next 0 ∙ inner-end zeroAt (s .J) (s .first) (s .second) 0 (s .level) st′); at = a; rest = rest-is ∙ next f }
+
+      pub one-emptied : {words″ : List ℕ} {es″ ps″ bs′ : List ℤ} {w″ : Written} {u : code.Turn} → u ≡ turn.Emptied w″ → Considered stands u words″ es″ ps″ bs′ → AllConsidered s (turn.Emptied w″) words″ es″ ps″ bs′
+      one-emptied is all = let (st′, a, next) = rw is at all in (st′, a, rest-is ∙ next f)

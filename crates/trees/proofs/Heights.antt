@@ -8,6 +8,7 @@ use native.Mathlib.Numerals.{add-one}
 use native.Mathlib.Decide.{decLt, ℕ-discrete}
 use lib.Dec.{ltb}
 use borrow.Author.Tests.{ltb-true, ltb-false}
+use Rattle.integers.specs.Limits.{INNER}
 use Rattle.integers.proofs.Bools.{bool}
 use Rattle.trees.specs.Shapes.{width, heightFrom, heightFor, Sized, leftmost, HasHeight}
 
@@ -56,8 +57,8 @@ height-enough n (suc f) h q = elim (decLt (width h) n)
 pub enough : (n : ℕ) → n ≤ width (heightFor n)
 enough n = height-enough n n 0 (omega (arith, once))
 
--- six levels are enough for 64 leaves
-pub low : (h : ℕ) → width h < 64 → width (suc h) ≤ 64
+-- six levels are enough for the leaves of the largest tree
+pub low : (h : ℕ) → width h ≤ INNER → width (suc h) ≤ INNER + 1
 unfolding width
 low zero q = omega arith
 low (suc zero) q = omega arith
@@ -67,13 +68,13 @@ low (suc (suc (suc (suc zero)))) q = omega arith
 low (suc (suc (suc (suc (suc zero))))) q = omega arith
 low (suc (suc (suc (suc (suc (suc h)))))) q = absurd (omega (arith, width-some h))
 
-height-low : (n f h : ℕ) → n ≤ 64 → width h ≤ 64 → width (heightFrom n f h) ≤ 64
+height-low : (n f h : ℕ) → n ≤ INNER + 1 → width h ≤ INNER + 1 → width (heightFrom n f h) ≤ INNER + 1
 height-low n zero h q r = rw (height-zero n h) r
 height-low n (suc f) h q r = elim (decLt (width h) n)
     [ yes y ↦ rw (height-on n f h y) (height-low n f (suc h) q (low h (omega arith))) | no y ↦ rw (height-reached n (suc f) h (omega arith)) r ]
 
 -- and not larger than the array
-pub room : (n : ℕ) → n ≤ 64 → width (heightFor n) ≤ 64
+pub room : (n : ℕ) → n ≤ INNER + 1 → width (heightFor n) ≤ INNER + 1
 room n q = height-low n n 0 q (omega (arith, once))
 
 -- the inner nodes of a tree of the size for n leaves

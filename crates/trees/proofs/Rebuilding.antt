@@ -7,7 +7,8 @@ use Prim.Native.Nat.{ℕ, zero, suc, _+_, _*_, _-_, _/_, _≤_, _<_}
 use native.Mathlib.Omega.{arith}
 use native.Mathlib.Decide.{ℕ-discrete}
 use lib.ListN.{length, getD, set, length-set}
-use Rattle.integers.specs.Limits.{INNER}
+use borrow.Author.Needs.{needs}
+use Rattle.integers.specs.Limits.{INNER, NODES}
 use Rattle.scheduling.specs.Scheduling.{natural, Tasks}
 use Rattle.trees.specs.declared.theta_lambda_tree.Node.{Node}
 use Rattle.trees.specs.Shapes.{width, heightFor, leftmost, HasHeight, changed, leavesOf, nodeOver, TreeOf}
@@ -17,8 +18,8 @@ use Rattle.trees.specs.Bounds.{Fair, size, Fits, Bounded}
 use Rattle.trees.specs.Puts.{Layable, Laid, Rebuildable, Rebuilt}
 use Rattle.trees.specs.Leaves as leaves
 use Rattle.trees.specs.Leaves.{Leaf, empty, leafNode, startAt, durationAt, Limited, IsTree, HasLeaves}
-use Rattle.trees.proofs.Heights.{leftmost-leaf, leftmost-left, leftmost-right, root-height, inner-height, left-height, right-height, leaf-at, enough, room}
-use Rattle.trees.proofs.Wiring.{Additive, changed-here, changed-other, changed-inner, changed-leaf, over-leaf, over-join, over-fits}
+use Rattle.trees.proofs.Heights.{root-height, inner-height, left-height, right-height, leaf-at, enough, room}
+use Rattle.trees.proofs.Wiring.{Additive, changed-here, changed-other, changed-inner, changed-leaf, over-leaf, over-is, over-fits}
 use Rattle.trees.proofs.Joins.{additive}
 use Rattle.trees.proofs.Colours.{bounded, coloured}
 
@@ -47,20 +48,7 @@ module _ {A : Type 0} (join : A → A → A) where
 
   -- so it is the one over its leaves
   over-from : (m : ℕ) (at : ℕ → A) (i : ℕ) → JoinsFrom m at i → (h j : ℕ) → HasHeight m h j → i ≤ j → at j ≡ nodeOver join (leavesOf m at) h (leftmost h j - m)
-  over-from m at i w zero j s q =
-      let z : j ≡ m + (leftmost 0 j - m) = omega (arith, s .from, leftmost-leaf j) in
-      ap at z ∙ sym (over-leaf join (leavesOf m at) (leftmost 0 j - m))
-  over-from m at i w (suc h) j s q =
-      w j q (inner-height m h j s)
-      ∙ ap₂ join (over-from m at i w h (2 * j + 1) (left-height m h j s) (omega arith) ∙ ap (nodeOver join (leavesOf m at) h) left)
-      (over-from m at i w h (2 * j + 2) (right-height m h j s) (omega arith) ∙ ap (nodeOver join (leavesOf m at) h) right)
-      ∙ sym (over-join join (leavesOf m at) h (leftmost (suc h) j - m))
-    where
-      left : leftmost h (2 * j + 1) - m ≡ leftmost (suc h) j - m
-      left = omega (arith, leftmost-left h j)
-
-      right : leftmost h (2 * j + 2) - m ≡ (leftmost (suc h) j - m) + width h
-      right = omega (arith, leftmost-right h j, s .from)
+  over-from m at i w = over-is join m at (λ h j. i ≤ j) (λ h j s q. (w j q (inner-height m h j s), omega arith, omega arith))
 
 module _ {A : Type 0} {size : A → ℕ} {Fair : A → Type 0} {join : A → A → A} (law : Additive size Fair join) where
   -- What holds whenever the loop is at node i: the leaves stay, and every inner node from i on is right.
@@ -71,25 +59,23 @@ module _ {A : Type 0} {size : A → ℕ} {Fair : A → Type 0} {join : A → A �
     pub height : ℕ
     pub complete : m + 1 ≡ width height
     pub inside : i ≤ m
+    pub room : m ≤ INNER
 
-  pub begin : {m : ℕ} {at : ℕ → A} → Bounded size Fair (leavesOf m at) → (height : ℕ) → m + 1 ≡ width height → DuringRebuild m at at m
-  begin b h e = record { joins = λ k q r. absurd (omega arith); leaves = refl; bounded = b; height = h; complete = e; inside = omega arith }
+  pub begin : {m : ℕ} {at : ℕ → A} → Bounded size Fair (leavesOf m at) → (height : ℕ) → m + 1 ≡ width height → m ≤ INNER → DuringRebuild m at at m
+  begin b height e r = record { joins = λ k q r. absurd (omega arith); leaves = refl; bounded = b; height = height; complete = e; inside = omega arith; room = r }
 
-  pub built : {m : ℕ} {at₀ at : ℕ → A} → DuringRebuild m at₀ at 0 → TreeOf join m (leavesOf m at₀) at
-  built c = record { joins = λ i q. c .joins i (omega arith) q; leaves = λ k. ap (λ (f : ℕ → A). f k) (c .leaves) }
+  pub built : {m : ℕ} {at₀ at : ℕ → A} {i : ℕ} → DuringRebuild m at₀ at i → i ≡ 0 → TreeOf join m (leavesOf m at₀) at
+  built c all = record { joins = λ i q. c .joins i (omega arith) q; leaves = λ k. ap (λ (f : ℕ → A). f k) (c .leaves) }
 
-  -- node j is next
-  module _ {m : ℕ} {at₀ at : ℕ → A} {i : ℕ} (c : DuringRebuild m at₀ at i) (j : ℕ) (next : i ≡ suc j) where
+  -- the node before i is next
+  module _ {m : ℕ} {at₀ at : ℕ → A} {i : ℕ} (c : DuringRebuild m at₀ at i) (q : i ≡ 0 → ⊥) where
+    abbrev j : ℕ
+    j = i - 1
+
     child-fits : (k : ℕ) → i ≤ k → k ≤ 2 * m → Fits size Fair (at k)
     child-fits k q r =
         let s = height-of m (c .height) (c .complete) k k (omega arith) r in
         rw (over-from join m at i (c .joins) (s .0) k (s .1) q) (over-fits law (leavesOf m at) (c .bounded) (s .0) (leftmost (s .0) k - m))
-
-    pub left-fits : Fits size Fair (at (2 * j + 1))
-    left-fits = child-fits (2 * j + 1) (omega arith) (omega (arith, c .inside))
-
-    pub right-fits : Fits size Fair (at (2 * j + 2))
-    right-fits = child-fits (2 * j + 2) (omega arith) (omega (arith, c .inside))
 
     abbrev n : A
     n = join (at (2 * j + 1)) (at (2 * j + 2))
@@ -97,7 +83,7 @@ module _ {A : Type 0} {size : A → ℕ} {Fair : A → Type 0} {join : A → A �
     other : (k : ℕ) → (k ≡ j → ⊥) → changed at j n k ≡ at k
     other k ne = changed-other at j n k ne
 
-    pub next-is : DuringRebuild m at₀ (changed at j n) j
+    next-is : DuringRebuild m at₀ (changed at j n) j
     next-is = record {
       joins = λ k q r. elim (ℕ-discrete k j) [
         | yes z ↦ rw z (changed-here at j n ∙ sym (ap₂ join (other (2 * j + 1) (λ y. omega arith)) (other (2 * j + 2) (λ y. omega arith))))
@@ -108,21 +94,35 @@ module _ {A : Type 0} {size : A → ℕ} {Fair : A → Type 0} {join : A → A �
       height = c .height;
       complete = c .complete;
       inside = omega (arith, c .inside);
+      room = c .room;
     }
       where
         leaves-stay : leavesOf m (changed at j n) ≡ leavesOf m at
         leaves-stay = changed-inner m at j n (omega (arith, c .inside))
 
+    -- it and its children are nodes
+    pub node-small : i - 1 < NODES
+    node-small = omega (arith, c .inside, c .room)
+
+    pub left-small : {l : ℕ} → l ≡ 2 * (i - 1) + 1 → l < NODES
+    left-small is-left = omega (arith, c .inside, c .room)
+
+    pub right-small : {r : ℕ} → r ≡ 2 * (i - 1) + 2 → r < NODES
+    right-small is-right = omega (arith, c .inside, c .room)
+
     -- the same with the children and their join by other names
-    module _ {l r : ℕ} (is-left : l ≡ 2 * j + 1) (is-right : r ≡ 2 * j + 2) where
+    module _ {l r : ℕ} (is-left : l ≡ 2 * (i - 1) + 1) (is-right : r ≡ 2 * (i - 1) + 2) where
       pub fits-left : {x : A} → x ≡ at l → Fits size Fair x
-      fits-left e = rw (e ∙ ap at is-left) left-fits
+      fits-left e = rw (e ∙ ap at is-left) (child-fits (2 * j + 1) (omega arith) (omega (arith, c .inside)))
 
       pub fits-right : {y : A} → y ≡ at r → Fits size Fair y
-      fits-right e = rw (e ∙ ap at is-right) right-fits
+      fits-right e = rw (e ∙ ap at is-right) (child-fits (2 * j + 2) (omega arith) (omega (arith, c .inside)))
 
-      pub goes-on : {x y n : A} → x ≡ at l → y ≡ at r → n ≡ join x y → {at′ : ℕ → A} → at′ ≡ changed at j n → DuringRebuild m at₀ at′ j
+      pub goes-on : {x y n : A} → x ≡ at l → y ≡ at r → n ≡ join x y → {at′ : ℕ → A} → at′ ≡ changed at (i - 1) n → DuringRebuild m at₀ at′ (i - 1)
       goes-on ex ey en e = rw (e ∙ ap (changed at j) (en ∙ ap₂ join (ex ∙ ap at is-left) (ey ∙ ap at is-right))) next-is
+
+-- what a loop that builds the inner nodes leaves to show
+pub ruleset rebuilds = (needs, begin, node-small, left-small, right-small, fits-left, fits-right, goes-on, built)
 
 -- the leaves of tasks ------------------------------------------------------------------------------------------------------------
 

@@ -1,7 +1,7 @@
 -- The steps of the two searches in the array are those over the leaves.
 -- Assumes nothing.
 use mathlib.Core.Path.{_≡_, refl, sym, ap, subst, _∙_}
-use mathlib.Core.Bool.{true, false}
+use mathlib.Core.Bool.{Bool, true, false}
 use mathlib.Core.Logic.{inl, inr}
 use mathlib.Core.List.{List}
 use mathlib.Core.Option.{Option, some, none}
@@ -10,8 +10,9 @@ use native.Mathlib.Omega.{arith}
 use native.Mathlib.Decide.{decLt}
 use lib.Dec.{leb}
 use lib.ListN.{getD}
-use borrow.Author.Tests.{le-leb, lt-leb}
-use Rattle.integers.specs.Limits.{TASKS}
+use borrow.Author.Needs.{needs}
+use borrow.Author.Tests.{le-leb, lt-leb, leb-false}
+use Rattle.integers.specs.Limits.{NODES, TASKS}
 use Rattle.integers.proofs.Bools.{bool, clash}
 use Rattle.trees.specs.declared.disjunctive_task.LocalId.{LocalId}
 use Rattle.trees.specs.declared.theta_lambda_tree.Responsible.the-variants as responsible
@@ -103,28 +104,25 @@ module _ (leaf : ℕ → Node) where
   here-search-ect zero a y = rw (y, searchEct)
   here-search-ect (suc g) a y = absurd (omega (arith, is-leaf-ect (suc g) a (ap tagEct y)))
 
-  pub nothing-p : (h a : ℕ) → stepP leaf h a ≡ Nothing → searchP leaf h a ≡ none
+  nothing-search-p : (h a : ℕ) → stepP leaf h a ≡ Nothing → searchP leaf h a ≡ none
   unfolding searchP
-  nothing-p zero a y = rw (y, searchP)
-  nothing-p (suc g) a y = rw (y, searchP)
+  nothing-search-p zero a y = rw (y, searchP)
+  nothing-search-p (suc g) a y = rw (y, searchP)
 
-  pub nothing-ect : (h a : ℕ) → stepEct leaf h a ≡ bar.Nothing → searchEct leaf h a ≡ none
+  nothing-search-ect : (h a : ℕ) → stepEct leaf h a ≡ bar.Nothing → searchEct leaf h a ≡ none
   unfolding searchEct
-  nothing-ect zero a y = rw (y, searchEct)
-  nothing-ect (suc g) a y = rw (y, searchEct)
+  nothing-search-ect zero a y = rw (y, searchEct)
+  nothing-search-ect (suc g) a y = rw (y, searchEct)
 
--- One step down from node i to its child j: what is left to search.
-pub record ChildSearch (m : ℕ) (at : ℕ → Node) (h i j : ℕ) (whole part : Option ℕ) : Type 0 where
-  pub inner : i < m
-  pub falls : h - 1 < h
-  pub child : Searched m (h - 1) j at
-  pub same : whole ≡ part
+-- what is left of the height falls
+pub falls : {h t : ℕ} → h ≡ t → 1 ≤ h → h - 1 < t
+falls is above = omega arith
 
 module _ {m : ℕ} {at : ℕ → Node} where
   -- a node of the array
   module _ {h i : ℕ} (s : Searched m h i at) where
-    pub inside : i ≤ 2 * m
-    inside = height-inside m h i (s .has-height)
+    pub node-small : i < NODES
+    node-small = omega (arith, height-inside m h i (s .has-height), s .room)
 
     node-fits : (g j : ℕ) → HasHeight m g j → Fits size Fair (at j)
     node-fits g j t = rw (node-is joinOf m at (s .tree) g j t) (over-fits additive (leavesOf m at) (s .bounded) g (leftmost g j - m))
@@ -140,7 +138,23 @@ module _ {m : ℕ} {at : ℕ → Node} where
     child : (g j : ℕ) → HasHeight m g j → Searched m g j at
     child g j t = record { tree = s .tree; bounded = s .bounded; has-height = t; room = s .room }
 
-  -- What is read at a node decides the step there.
+  -- What is read at a node, by whether it is a leaf: b is the test.
+  module _ {h i : ℕ} (s : Searched m h i at) {b : Bool} (test : b ≡ leb m i) where
+    pub leaf-read : {n : Node} → b ≡ true → n ≡ at i → around.Leaf n ≡ aroundOf m at i
+    unfolding aroundOf
+    leaf-read is e = rw (sym test ∙ is, aroundOf) (ap around.Leaf e)
+
+    pub inner-read : {n x y : Node} {l r : ℕ} → b ≡ false → n ≡ at i → l ≡ 2 * i + 1 → r ≡ 2 * i + 2 → x ≡ at l → y ≡ at r → around.Inner n x y ≡ aroundOf m at i
+    unfolding aroundOf
+    inner-read is e el er ex ey = rw (sym test ∙ is, aroundOf) (λ t. around.Inner (e t) ((ex ∙ ap at el) t) ((ey ∙ ap at er) t))
+
+    pub left-small : {l : ℕ} → b ≡ false → l ≡ 2 * i + 1 → l < NODES
+    left-small is e = omega (arith, leb-false m i (sym test ∙ is), s .room)
+
+    pub right-small : {r : ℕ} → b ≡ false → r ≡ 2 * i + 2 → r < NODES
+    right-small is e = omega (arith, leb-false m i (sym test ∙ is), s .room)
+
+  -- It decides the step there.
   module _ {h i : ℕ} (s : Searched m h i at) where
     over : {D : Type 0} (f : Node → Node → Node → D) (g : ℕ) → HasHeight m (suc g) i
         → f (nodeOver joinOf (leavesOf m at) (suc g) (leftmost (suc g) i - m)) (nodeOver joinOf (leavesOf m at) g (leftmost (suc g) i - m)) (nodeOver joinOf (leavesOf m at) g ((leftmost (suc g) i - m) + width g)) ≡ f (at i) (at (2 * i + 1)) (at (2 * i + 2))
@@ -162,65 +176,113 @@ module _ {m : ℕ} {at : ℕ → Node} where
     at-ect zero t = let y : leb m i ≡ true = le-leb m i (leaf-at m i t) in rw (y, aroundOf) (ap (λ (n : Node). stepAtEct (around.Leaf n)) (leaf-is t))
     at-ect (suc g) t = let y : leb m i ≡ false = lt-leb m i (inner-height m g i t) in rw (y, aroundOf) (sym (over descentEct g t))
 
-    pub step-p-is : {a : Around} {d : PDescent} → a ≡ aroundOf m at i → d ≡ stepAtP a → stepP (leavesOf m at) h (leftmost h i - m) ≡ d
-    step-p-is e f = sym (at-p h (s .has-height)) ∙ ap stepAtP (sym e) ∙ sym f
+    -- the children of a node above the leaves
+    abbrev raised : 1 ≤ h → HasHeight m (suc (h - 1)) i
+    raised above = let z : h ≡ suc (h - 1) = omega arith in subst (λ (g : ℕ). HasHeight m g i) z (s .has-height)
 
-    pub step-ect-is : {a : Around} {d : EctBarDescent} → a ≡ aroundOf m at i → d ≡ stepAtEct a → stepEct (leavesOf m at) h (leftmost h i - m) ≡ d
-    step-ect-is e f = sym (at-ect h (s .has-height)) ∙ ap stepAtEct (sym e) ∙ sym f
+    pub left-child : {j : ℕ} → j ≡ 2 * i + 1 → 1 ≤ h → Searched m (h - 1) j at
+    left-child {j} e above = child s (h - 1) j (rw e (left-height m (h - 1) i (raised above)))
 
-    pub around-fits : {a : Around} → a ≡ aroundOf m at i → AroundFits a
-    unfolding aroundOf
-    around-fits e = rw e (elim (decLt i m)
-        [ yes q ↦ (let y : leb m i ≡ false = lt-leb m i q in rw (y, aroundOf) (child-fits s q)) | no q ↦ (let y : leb m i ≡ true = le-leb m i (omega arith) in rw (y, aroundOf) tt) ])
+    pub right-child : {j : ℕ} → j ≡ 2 * i + 2 → 1 ≤ h → Searched m (h - 1) j at
+    right-child {j} e above = child s (h - 1) j (rw e (right-height m (h - 1) i (raised above)))
 
-  module _ {h i : ℕ} (s : Searched m h i at) where
-    -- The search below a child of the node goes on: `below` is it, by height and first (leavesOf m at).
-    to-left : {j : ℕ} → (whole : Option ℕ) (below : ℕ → ℕ → Option ℕ) → j ≡ 2 * i + 1 → (h ≡ 0 → ⊥) → ((g : ℕ) → h ≡ suc g → whole ≡ below g (leftmost h i - m)) → ChildSearch m at h i j whole (below (h - 1) ((leftmost (h - 1) j - m)))
-    to-left {j} whole below e ne is =
+    abbrev L : ℕ → Node
+    L = leavesOf m at
+
+    -- the first leaf below the node
+    abbrev a : ℕ
+    a = leftmost h i - m
+
+    -- The search below a child is the one below the node: `below` is it, by height and first leaf.
+    to-left : {j r : ℕ} {whole : Option ℕ} (below : ℕ → ℕ → Option ℕ) → j ≡ 2 * i + 1 → 1 ≤ h → ((g : ℕ) → h ≡ suc g → whole ≡ below g a) → r ≡ foundAt m (below (h - 1) (leftmost (h - 1) j - m)) → r ≡ foundAt m whole
+    to-left {j} below e above is found =
         let z : h ≡ suc (h - 1) = omega arith in
-        let t : HasHeight m (suc (h - 1)) i = subst (λ (g : ℕ). HasHeight m g i) z (s .has-height) in
-        let f : (leftmost (h - 1) j - m) ≡ (leftmost h i - m) = omega (arith, ap (λ (g : ℕ). leftmost g i) z, ap (leftmost (h - 1)) e, leftmost-left (h - 1) i) in
-        record { inner = inner-height m (h - 1) i t; falls = omega arith; child = child s (h - 1) j (rw e (left-height m (h - 1) i t)); same = is (h - 1) z ∙ ap (below (h - 1)) (sym f) }
+        let f : leftmost (h - 1) j - m ≡ a = omega (arith, ap (λ (g : ℕ). leftmost g i) z, ap (leftmost (h - 1)) e, leftmost-left (h - 1) i) in
+        found ∙ ap (foundAt m) (ap (below (h - 1)) f ∙ sym (is (h - 1) z))
 
-    to-right : {j : ℕ} → (whole : Option ℕ) (below : ℕ → ℕ → Option ℕ) → j ≡ 2 * i + 2 → (h ≡ 0 → ⊥) → ((g : ℕ) → h ≡ suc g → whole ≡ below g ((leftmost h i - m) + width g)) → ChildSearch m at h i j whole (below (h - 1) ((leftmost (h - 1) j - m)))
-    to-right {j} whole below e ne is =
+    to-right : {j r : ℕ} {whole : Option ℕ} (below : ℕ → ℕ → Option ℕ) → j ≡ 2 * i + 2 → 1 ≤ h → ((g : ℕ) → h ≡ suc g → whole ≡ below g (a + width g)) → r ≡ foundAt m (below (h - 1) (leftmost (h - 1) j - m)) → r ≡ foundAt m whole
+    to-right {j} below e above is found =
         let z : h ≡ suc (h - 1) = omega arith in
-        let t : HasHeight m (suc (h - 1)) i = subst (λ (g : ℕ). HasHeight m g i) z (s .has-height) in
-        let f : (leftmost (h - 1) j - m) ≡ (leftmost h i - m) + width (h - 1) = omega (arith, ap (λ (g : ℕ). leftmost g i) z, ap (leftmost (h - 1)) e, leftmost-right (h - 1) i, s .has-height .from) in
-        record { inner = inner-height m (h - 1) i t; falls = omega arith; child = child s (h - 1) j (rw e (right-height m (h - 1) i t)); same = is (h - 1) z ∙ ap (below (h - 1)) (sym f) }
+        let f : leftmost (h - 1) j - m ≡ a + width (h - 1) = omega (arith, ap (λ (g : ℕ). leftmost g i) z, ap (leftmost (h - 1)) e, leftmost-right (h - 1) i, s .has-height .from) in
+        found ∙ ap (foundAt m) (ap (below (h - 1)) f ∙ sym (is (h - 1) z))
 
-    at-leaf : h ≡ 0 → i ≡ m + (leftmost h i - m)
+    at-leaf : h ≡ 0 → i ≡ m + a
     at-leaf z = omega (arith, s .has-height .from, ap (λ (g : ℕ). leftmost g i) z, leftmost-leaf i)
 
-    -- by sums
-    pub left-p : {j : ℕ} → j ≡ 2 * i + 1 → stepP (leavesOf m at) h (leftmost h i - m) ≡ Left → ChildSearch m at h i j (searchP (leavesOf m at) h (leftmost h i - m)) (searchP (leavesOf m at) (h - 1) ((leftmost (h - 1) j - m)))
-    unfolding tagP
-    left-p e y = to-left (searchP (leavesOf m at) h (leftmost h i - m)) (searchP (leavesOf m at)) e (not-leaf-p (leavesOf m at) h (leftmost h i - m) (omega (arith, ap tagP y))) (λ g z. go-p (leavesOf m at) h g (leftmost h i - m) z Left y)
+    -- What a step from the node says, taken by what was read there.
+    module _ {x : Around} (read : x ≡ aroundOf m at i) where
+      pub around-fits : AroundFits x
+      unfolding aroundOf
+      around-fits = rw read (elim (decLt i m)
+          [ yes q ↦ (let y : leb m i ≡ false = lt-leb m i q in rw (y, aroundOf) (child-fits s q)) | no q ↦ (let y : leb m i ≡ true = le-leb m i (omega arith) in rw (y, aroundOf) tt) ])
 
-    pub right-p : {j : ℕ} → j ≡ 2 * i + 2 → stepP (leavesOf m at) h (leftmost h i - m) ≡ Right → ChildSearch m at h i j (searchP (leavesOf m at) h (leftmost h i - m)) (searchP (leavesOf m at) (h - 1) ((leftmost (h - 1) j - m)))
-    unfolding tagP
-    right-p e y = to-right (searchP (leavesOf m at) h (leftmost h i - m)) (searchP (leavesOf m at)) e (not-leaf-p (leavesOf m at) h (leftmost h i - m) (omega (arith, ap tagP y))) (λ g z. go-p (leavesOf m at) h g (leftmost h i - m) z Right y)
+      -- by sums
+      module _ {d : PDescent} (step : d ≡ stepAtP x) where
+        step-p : {e : PDescent} → d ≡ e → stepP L h a ≡ e
+        step-p is = sym (at-p h (s .has-height)) ∙ ap stepAtP (sym read) ∙ sym step ∙ is
 
-    pub here-p : stepP (leavesOf m at) h (leftmost h i - m) ≡ Here → i ≡ foundAt m (searchP (leavesOf m at) h (leftmost h i - m))
-    unfolding tagP
-    here-p y = rw (here-search-p (leavesOf m at) h (leftmost h i - m) y) (at-leaf (is-leaf-p (leavesOf m at) h (leftmost h i - m) (omega (arith, ap tagP y))))
+        pub above-left-p : d ≡ Left → 1 ≤ h
+        unfolding tagP
+        above-left-p is = omega (arith, not-leaf-p L h a (omega (arith, ap tagP (step-p is))))
 
-    -- by ects
-    pub right-ect : {j : ℕ} → j ≡ 2 * i + 2 → stepEct (leavesOf m at) h (leftmost h i - m) ≡ bar.Right → ChildSearch m at h i j (searchEct (leavesOf m at) h (leftmost h i - m)) (searchEct (leavesOf m at) (h - 1) ((leftmost (h - 1) j - m)))
-    unfolding tagEct
-    right-ect e y = to-right (searchEct (leavesOf m at) h (leftmost h i - m)) (searchEct (leavesOf m at)) e (not-leaf-ect (leavesOf m at) h (leftmost h i - m) (omega (arith, ap tagEct y))) (λ g z. go-ect (leavesOf m at) h g (leftmost h i - m) z bar.Right y)
+        pub above-right-p : d ≡ Right → 1 ≤ h
+        unfolding tagP
+        above-right-p is = omega (arith, not-leaf-p L h a (omega (arith, ap tagP (step-p is))))
 
-    pub right-mid : {j : ℕ} → j ≡ 2 * i + 2 → stepEct (leavesOf m at) h (leftmost h i - m) ≡ bar.RightP → ChildSearch m at h i j (searchEct (leavesOf m at) h (leftmost h i - m)) (searchP (leavesOf m at) (h - 1) ((leftmost (h - 1) j - m)))
-    unfolding tagEct
-    right-mid e y = to-right (searchEct (leavesOf m at) h (leftmost h i - m)) (searchP (leavesOf m at)) e (not-leaf-ect (leavesOf m at) h (leftmost h i - m) (omega (arith, ap tagEct y))) (λ g z. go-ect (leavesOf m at) h g (leftmost h i - m) z bar.RightP y)
+        pub left-p : {j r : ℕ} → d ≡ Left → j ≡ 2 * i + 1 → r ≡ foundAt m (searchP L (h - 1) (leftmost (h - 1) j - m)) → r ≡ foundAt m (searchP L h a)
+        left-p is e = to-left (searchP L) e (above-left-p is) (λ g z. go-p L h g a z Left (step-p is))
 
-    pub left-ect : {j : ℕ} → j ≡ 2 * i + 1 → stepEct (leavesOf m at) h (leftmost h i - m) ≡ bar.Left → ChildSearch m at h i j (searchEct (leavesOf m at) h (leftmost h i - m)) (searchEct (leavesOf m at) (h - 1) ((leftmost (h - 1) j - m)))
-    unfolding tagEct
-    left-ect e y = to-left (searchEct (leavesOf m at) h (leftmost h i - m)) (searchEct (leavesOf m at)) e (not-leaf-ect (leavesOf m at) h (leftmost h i - m) (omega (arith, ap tagEct y))) (λ g z. go-ect (leavesOf m at) h g (leftmost h i - m) z bar.Left y)
+        pub right-p : {j r : ℕ} → d ≡ Right → j ≡ 2 * i + 2 → r ≡ foundAt m (searchP L (h - 1) (leftmost (h - 1) j - m)) → r ≡ foundAt m (searchP L h a)
+        right-p is e = to-right (searchP L) e (above-right-p is) (λ g z. go-p L h g a z Right (step-p is))
 
-    pub here-ect : stepEct (leavesOf m at) h (leftmost h i - m) ≡ bar.Here → i ≡ foundAt m (searchEct (leavesOf m at) h (leftmost h i - m))
-    unfolding tagEct
-    here-ect y = rw (here-search-ect (leavesOf m at) h (leftmost h i - m) y) (at-leaf (is-leaf-ect (leavesOf m at) h (leftmost h i - m) (omega (arith, ap tagEct y))))
+        pub here-p : d ≡ Here → i ≡ foundAt m (searchP L h a)
+        unfolding tagP
+        here-p is = rw (here-search-p L h a (step-p is)) (at-leaf (is-leaf-p L h a (omega (arith, ap tagP (step-p is)))))
+
+        pub nothing-p : d ≡ Nothing → nowhere ≡ foundAt m (searchP L h a)
+        nothing-p is = sym (ap (foundAt m) (nothing-search-p L h a (step-p is)))
+
+      -- by ects
+      module _ {d : EctBarDescent} (step : d ≡ stepAtEct x) where
+        step-ect : {e : EctBarDescent} → d ≡ e → stepEct L h a ≡ e
+        step-ect is = sym (at-ect h (s .has-height)) ∙ ap stepAtEct (sym read) ∙ sym step ∙ is
+
+        pub above-right-ect : d ≡ bar.Right → 1 ≤ h
+        unfolding tagEct
+        above-right-ect is = omega (arith, not-leaf-ect L h a (omega (arith, ap tagEct (step-ect is))))
+
+        pub above-middle-ect : d ≡ bar.RightP → 1 ≤ h
+        unfolding tagEct
+        above-middle-ect is = omega (arith, not-leaf-ect L h a (omega (arith, ap tagEct (step-ect is))))
+
+        pub above-left-ect : d ≡ bar.Left → 1 ≤ h
+        unfolding tagEct
+        above-left-ect is = omega (arith, not-leaf-ect L h a (omega (arith, ap tagEct (step-ect is))))
+
+        pub right-ect : {j r : ℕ} → d ≡ bar.Right → j ≡ 2 * i + 2 → r ≡ foundAt m (searchEct L (h - 1) (leftmost (h - 1) j - m)) → r ≡ foundAt m (searchEct L h a)
+        right-ect is e = to-right (searchEct L) e (above-right-ect is) (λ g z. go-ect L h g a z bar.Right (step-ect is))
+
+        pub middle-ect : {j r : ℕ} → d ≡ bar.RightP → j ≡ 2 * i + 2 → r ≡ foundAt m (searchP L (h - 1) (leftmost (h - 1) j - m)) → r ≡ foundAt m (searchEct L h a)
+        middle-ect is e = to-right (searchP L) e (above-middle-ect is) (λ g z. go-ect L h g a z bar.RightP (step-ect is))
+
+        pub left-ect : {j r : ℕ} → d ≡ bar.Left → j ≡ 2 * i + 1 → r ≡ foundAt m (searchEct L (h - 1) (leftmost (h - 1) j - m)) → r ≡ foundAt m (searchEct L h a)
+        left-ect is e = to-left (searchEct L) e (above-left-ect is) (λ g z. go-ect L h g a z bar.Left (step-ect is))
+
+        pub here-ect : d ≡ bar.Here → i ≡ foundAt m (searchEct L h a)
+        unfolding tagEct
+        here-ect is = rw (here-search-ect L h a (step-ect is)) (at-leaf (is-leaf-ect L h a (omega (arith, ap tagEct (step-ect is)))))
+
+        pub nothing-ect : d ≡ bar.Nothing → nowhere ≡ foundAt m (searchEct L h a)
+        nothing-ect is = sym (ap (foundAt m) (nothing-search-ect L h a (step-ect is)))
+
+-- what reading at a node leaves to show, and each of the two searches
+pub ruleset reads = (needs, node-small, leaf-read, inner-read, left-small, right-small)
+
+pub ruleset descends = (needs, node-small, around-fits, falls, left-child, right-child)
+
+pub ruleset by-sums = (descends, above-left-p, above-right-p, left-p, right-p, here-p, nothing-p)
+
+pub ruleset by-ects = (descends, above-right-ect, above-middle-ect, above-left-ect, right-ect, middle-ect, left-ect, here-ect, nothing-ect)
 
 -- the answers ------------------------------------------------------------------------------------------------------------------
 
@@ -281,7 +343,7 @@ module _ (m h : ℕ) (at : ℕ → Node) (s : Searchable m h at) where
 
   -- a leaf that the search answers is that of a task
   below : (x : ℕ) → root ≡ some x → x < TASKS
-  below x q = elim (decLt x 48) [ yes u ↦ u | no u ↦ clash (answer-ect (leavesOf m at) h 0 x q) (s .past x (omega arith)) ]
+  below x q = elim (decLt x TASKS) [ yes u ↦ u | no u ↦ clash (answer-ect (leavesOf m at) h 0 x q) (s .past x (omega arith)) ]
 
   pub answer-at : (r : ℕ) → r ≡ foundAt m (searchEct (leavesOf m at) h (leftmost h 0 - m)) → (r ≡ nowhere → ⊥) → AnswerAt m h at r
   answer-at r e ne = by root refl (from-first r e)

@@ -100,8 +100,8 @@ stored ws i n h l = rw last (
     far j p q r s = pair-other low (4 * i + 2) c d j r s ∙ pair-other ws (4 * i) a b j p q
 
 -- words that are all 0 are empty nodes
-pub blank-nodes : (i : ℕ) → nodeAt (replicate 508 0) i ≡ emptyOf
-blank-nodes i = same (nodeAt (replicate 508 0) i) emptyOf (getD-fresh 0 508 (4 * i)) (getD-fresh 0 508 (4 * i + 1)) (getD-fresh 0 508 (4 * i + 2)) (getD-fresh 0 508 (4 * i + 3))
+pub blank-nodes : (i : ℕ) → nodeAt (replicate TREEWORDS 0) i ≡ emptyOf
+blank-nodes i = same (nodeAt (replicate TREEWORDS 0) i) emptyOf (getD-fresh 0 TREEWORDS (4 * i)) (getD-fresh 0 TREEWORDS (4 * i + 1)) (getD-fresh 0 TREEWORDS (4 * i + 2)) (getD-fresh 0 TREEWORDS (4 * i + 3))
 
-pub plain-blank-nodes : (i : ℕ) → plainAt (replicate 254 0) i ≡ plainEmptyOf
-plain-blank-nodes i = plain-same (plainAt (replicate 254 0) i) plainEmptyOf (getD-fresh 0 254 (2 * i)) (getD-fresh 0 254 (2 * i + 1))
+pub plain-blank-nodes : (i : ℕ) → plainAt (replicate THETAWORDS 0) i ≡ plainEmptyOf
+plain-blank-nodes i = plain-same (plainAt (replicate THETAWORDS 0) i) plainEmptyOf (getD-fresh 0 THETAWORDS (2 * i)) (getD-fresh 0 THETAWORDS (2 * i + 1))

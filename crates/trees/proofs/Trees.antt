@@ -7,7 +7,7 @@ use Prim.Native.Nat.{ℕ, zero, suc, _+_, _*_, _≤_, _<_}
 use native.Mathlib.Omega.{arith}
 use lib.Dec.{eqb}
 use lib.ListN.{length, getD, set, length-set, replicate, length-replicate}
-use Rattle.integers.specs.Limits.{TASKS}
+use Rattle.integers.specs.Limits.{TASKS, THETAWORDS, TREEWORDS}
 use Rattle.integers.proofs.Filling.{getD-fresh}
 use Rattle.scheduling.specs.Scheduling.{natural, Tasks}
 use Rattle.trees.specs.declared.theta_lambda_tree.Node.{Node}
@@ -79,7 +79,7 @@ module _ (J : Tasks natural) (first : List ℕ) where
   all-empty = getD-fresh empty
 
   -- after `update`, or of a new theta tree: every word 0, and every leaf empty
-  pub new-tree : (inner : ℕ) (words : List ℕ) → words ≡ replicate 508 0 → inner + 1 ≡ width (heightFor (J .count)) → IsTree J first (replicate (J .count) empty) inner words
+  pub new-tree : (inner : ℕ) (words : List ℕ) → words ≡ replicate TREEWORDS 0 → inner + 1 ≡ width (heightFor (J .count)) → IsTree J first (replicate (J .count) empty) inner words
   unfolding joinOf
   new-tree inner words z e = rw z (record {
     tree = record {
@@ -91,7 +91,7 @@ module _ (J : Tasks natural) (first : List ℕ) where
     colours = length-replicate (J .count) empty;
   })
 
-  pub new-plain-tree : (inner : ℕ) (words : List ℕ) → words ≡ replicate 254 0 → inner + 1 ≡ width (heightFor (J .count)) → IsPlainTree J first (replicate (J .count) empty) inner words
+  pub new-plain-tree : (inner : ℕ) (words : List ℕ) → words ≡ replicate THETAWORDS 0 → inner + 1 ≡ width (heightFor (J .count)) → IsPlainTree J first (replicate (J .count) empty) inner words
   unfolding plainJoinOf
   new-plain-tree inner words z e = rw z (record {
     tree = record {

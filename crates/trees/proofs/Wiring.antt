@@ -4,8 +4,9 @@ use mathlib.Core.Path.{_≡_, refl, sym, ap, ap₂, subst, _∙_, fun-ext}
 use Prim.Native.Nat.{ℕ, zero, suc, _+_, _*_, _-_, _/_, _≤_, _<_}
 use native.Mathlib.Omega.{arith}
 use native.Mathlib.Decide.{ℕ-discrete}
+use borrow.Author.Needs.{needs}
 use borrow.Author.Tests.{eq-eqb, ne-eqb}
-use Rattle.integers.specs.Limits.{INNER}
+use Rattle.integers.specs.Limits.{INNER, NODES}
 use Rattle.scheduling.specs.Scheduling.{total}
 use Rattle.trees.specs.Shapes.{width, leftmost, HasHeight, changed, leavesOf, nodeOver, TreeOf}
 use Rattle.trees.specs.Bounds.{Fits, Bounded, NeedsUpheap, CanPut}
@@ -47,16 +48,17 @@ module _ {A : Type 0} (join : A → A → A) where
   abbrev JoinsExcept : ℕ → (ℕ → A) → ℕ → Type 0
   JoinsExcept m at hole = (i : ℕ) → i < m → (hole ≡ 2 * i + 1 → ⊥) → (hole ≡ 2 * i + 2 → ⊥) → at i ≡ join (at (2 * i + 1)) (at (2 * i + 2))
 
-  -- a node is the one over its leaves, where each node up to its height is the join of its children
-  over-is : (m : ℕ) (at : ℕ → A) (g : ℕ) → ((h i : ℕ) → HasHeight m (suc h) i → h < g → at i ≡ join (at (2 * i + 1)) (at (2 * i + 2)))
-      → (h i : ℕ) → HasHeight m h i → h ≤ g → at i ≡ nodeOver join (leavesOf m at) h (leftmost h i - m)
-  over-is m at g w zero i s q =
+  -- `Right`, by height and node, makes a node the join of its children and holds of them too: where it holds, a node is the one over its leaves
+  pub over-is : (m : ℕ) (at : ℕ → A) (Right : ℕ → ℕ → Type 0)
+      → ((h i : ℕ) → HasHeight m (suc h) i → Right (suc h) i → (at i ≡ join (at (2 * i + 1)) (at (2 * i + 2))) × Right h (2 * i + 1) × Right h (2 * i + 2))
+      → (h i : ℕ) → HasHeight m h i → Right h i → at i ≡ nodeOver join (leavesOf m at) h (leftmost h i - m)
+  over-is m at Right w zero i s q =
       let z : i ≡ m + (leftmost 0 i - m) = omega (arith, s .from, leftmost-leaf i) in
       ap at z ∙ sym (over-leaf (leavesOf m at) (leftmost 0 i - m))
-  over-is m at g w (suc h) i s q =
-      w h i s (omega arith)
-      ∙ ap₂ join (over-is m at g w h (2 * i + 1) (left-height m h i s) (omega arith) ∙ ap (nodeOver join (leavesOf m at) h) left)
-      (over-is m at g w h (2 * i + 2) (right-height m h i s) (omega arith) ∙ ap (nodeOver join (leavesOf m at) h) right)
+  over-is m at Right w (suc h) i s q =
+      w h i s q .0
+      ∙ ap₂ join (over-is m at Right w h (2 * i + 1) (left-height m h i s) (w h i s q .1) ∙ ap (nodeOver join (leavesOf m at) h) left)
+      (over-is m at Right w h (2 * i + 2) (right-height m h i s) (w h i s q .2) ∙ ap (nodeOver join (leavesOf m at) h) right)
       ∙ sym (over-join (leavesOf m at) h (leftmost (suc h) i - m))
     where
       left : leftmost h (2 * i + 1) - m ≡ leftmost (suc h) i - m
@@ -68,12 +70,12 @@ module _ {A : Type 0} (join : A → A → A) where
   -- a node that is no higher than the hole
   below-exception : (m : ℕ) (at : ℕ → A) (hole g : ℕ) → JoinsExcept m at hole → HasHeight m g hole
       → (h i : ℕ) → HasHeight m h i → h ≤ g → at i ≡ nodeOver join (leavesOf m at) h (leftmost h i - m)
-  below-exception m at hole g w hs = over-is m at g (λ h i s q.
-      w i (inner-height m h i s) (λ z. one-height m h g (2 * i + 1) (left-height m h i s) (subst (HasHeight m g) z hs) q) (λ z. one-height m h g (2 * i + 2) (right-height m h i s) (subst (HasHeight m g) z hs) q))
+  below-exception m at hole g w hs = over-is m at (λ h i. h ≤ g) (λ h i s q.
+      (w i (inner-height m h i s) (λ z. one-height m h g (2 * i + 1) (left-height m h i s) (subst (HasHeight m g) z hs) q) (λ z. one-height m h g (2 * i + 2) (right-height m h i s) (subst (HasHeight m g) z hs) q), omega arith, omega arith))
 
   -- every node of a tree
   pub node-is : (m : ℕ) (at : ℕ → A) → TreeOf join m (leavesOf m at) at → (h i : ℕ) → HasHeight m h i → at i ≡ nodeOver join (leavesOf m at) h (leftmost h i - m)
-  node-is m at t h i s = over-is m at h (λ g j r q. t .joins j (inner-height m g j r)) h i s (omega arith)
+  node-is m at t h i s = over-is m at (λ h i. Unit {0}) (λ g j r q. (t .joins j (inner-height m g j r), tt, tt)) h i s tt
 
   pub root-is : (m H : ℕ) (at : ℕ → A) → m + 1 ≡ width H → TreeOf join m (leavesOf m at) at → at 0 ≡ nodeOver join (leavesOf m at) H 0
   root-is m H at e t = node-is m at t H 0 (root-height m H e) ∙ ap (nodeOver join (leavesOf m at) H) (root-first m H e)
@@ -81,6 +83,10 @@ module _ {A : Type 0} (join : A → A → A) where
   -- a tree over leaves is one over its own leaves
   pub own-leaves : (m : ℕ) (leaf at : ℕ → A) → TreeOf join m leaf at → leavesOf m at ≡ leaf
   own-leaves m leaf at t = fun-ext (t .leaves)
+
+  -- a tree over leaves of which one was put is one over them as they were, but for that one
+  pub put-tree : {m : ℕ} (at : ℕ → A) {at′ at″ : ℕ → A} (place : ℕ) (n : A) → at′ ≡ changed at (m + place) n → TreeOf join m (leavesOf m at′) at″ → TreeOf join m (changed (leavesOf m at) place n) at″
+  put-tree {m} at {at″ = at″} place n e = subst (λ (leaf : ℕ → A). TreeOf join m leaf at″) (ap (leavesOf m) e ∙ changed-leaf m at place n)
 
   pub own-tree : (m : ℕ) (leaf at : ℕ → A) → TreeOf join m leaf at → TreeOf join m (leavesOf m at) at
   own-tree m leaf at t = record { joins = t .joins; leaves = λ k. refl }
@@ -140,14 +146,14 @@ module _ {A : Type 0} {size : A → ℕ} {Fair : A → Type 0} {join : A → A �
         room = r .room;
       }
 
-  pub end : {m : ℕ} {at₀ at : ℕ → A} → DuringUpheap m at₀ at 0 → TreeOf join m (leavesOf m at₀) at
-  end c = record { joins = λ i q. c .joins i q (λ z. omega arith) (λ z. omega arith); leaves = λ k. ap (λ (f : ℕ → A). f k) (c .leaves) }
+  pub end : {m : ℕ} {at₀ at : ℕ → A} {i : ℕ} → DuringUpheap m at₀ at i → i ≡ 0 → TreeOf join m (leavesOf m at₀) at
+  end c root = record { joins = λ i q. c .joins i q (λ z. omega arith) (λ z. omega arith); leaves = λ k. ap (λ (f : ℕ → A). f k) (c .leaves) }
 
   module _ {m : ℕ} {at₀ at : ℕ → A} {i : ℕ} (c : DuringUpheap m at₀ at i) (q : i ≡ 0 → ⊥) where
     parent-height : HasHeight m (suc (c .height)) ((i - 1) / 2)
     parent-height = path-height m (c .top-height) (c .complete) (path-up (c .top-height) (c .path) q)
 
-    pub up-inner : ((i - 1) / 2) < m
+    up-inner : ((i - 1) / 2) < m
     up-inner = inner-height m (c .height) ((i - 1) / 2) parent-height
 
     -- both children of the parent are right
@@ -189,6 +195,15 @@ module _ {A : Type 0} {size : A → ℕ} {Fair : A → Type 0} {join : A → A �
     }
 
     -- the same with the parent, its children and their join by other names
+    pub parent-small : {p : ℕ} → p ≡ (i - 1) / 2 → p < NODES
+    parent-small is-up = omega (arith, up-inner, c .room)
+
+    pub left-small : {p l : ℕ} → p ≡ (i - 1) / 2 → l ≡ 2 * p + 1 → l < NODES
+    left-small is-up is-left = omega (arith, up-inner, c .room)
+
+    pub right-small : {p r : ℕ} → p ≡ (i - 1) / 2 → r ≡ 2 * p + 2 → r < NODES
+    right-small is-up is-right = omega (arith, up-inner, c .room)
+
     module _ {p l r : ℕ} (is-up : p ≡ (i - 1) / 2) (is-left : l ≡ 2 * p + 1) (is-right : r ≡ 2 * p + 2) where
       left-is : l ≡ 2 * ((i - 1) / 2) + 1
       left-is = omega arith
@@ -206,19 +221,24 @@ module _ {A : Type 0} {size : A → ℕ} {Fair : A → Type 0} {join : A → A �
       next-is ex ey en e =
           rw (e ∙ ap₂ (changed at) is-up (en ∙ ap₂ join (ex ∙ ap at left-is) (ey ∙ ap at right-is)), is-up) step
 
-  -- a leaf changed, and the ancestors not yet
-  pub needs-upheap : {m : ℕ} {at : ℕ → A} {place : ℕ} {n : A} → CanPut size Fair join m at place n → NeedsUpheap size Fair join m (changed at (m + place) n) (m + place)
-  needs-upheap {m} {at} {place} {n} t = record {
-    joins = λ i q a b. changed-other at (m + place) n i (λ z. omega arith) ∙ t .tree .joins i q
-        ∙ sym (ap₂ join (changed-other at (m + place) n (2 * i + 1) (λ z. a (sym z))) (changed-other at (m + place) n (2 * i + 2) (λ z. b (sym z))));
-    bounded = rw (changed-leaf m at place n) (t .bounded);
-    height = t .height;
-    complete = t .complete;
-    room = t .room;
-    from = omega arith;
-    to = omega (arith, t .inside);
-  }
-
   -- the leaf put fits
   pub put-fits : {m : ℕ} {at : ℕ → A} {place : ℕ} {n : A} → CanPut size Fair join m at place n → Fits size Fair n
   put-fits {m} {at} {place} {n} t = rw (over-leaf join (changed (leavesOf m at) place n) place ∙ changed-here (leavesOf m at) place n) at (over-fits (changed (leavesOf m at) place n) (t .bounded) 0 place)
+
+-- a leaf changed, and the ancestors not yet
+pub needs-upheap : {A : Type 0} {size : A → ℕ} {Fair : A → Type 0} {join : A → A → A} {m : ℕ} {at at′ : ℕ → A} {place : ℕ} {n : A} → CanPut size Fair join m at place n → at′ ≡ changed at (m + place) n → NeedsUpheap size Fair join m at′ (m + place)
+needs-upheap {join = join} {m} {at} {at′} {place} {n} t e = rw e (record {
+  joins = λ i q a b. changed-other at (m + place) n i (λ z. omega arith) ∙ t .tree .joins i q
+      ∙ sym (ap₂ join (changed-other at (m + place) n (2 * i + 1) (λ z. a (sym z))) (changed-other at (m + place) n (2 * i + 2) (λ z. b (sym z))));
+  bounded = rw (changed-leaf m at place n) (t .bounded);
+  height = t .height;
+  complete = t .complete;
+  room = t .room;
+  from = omega arith;
+  to = omega (arith, t .inside);
+})
+
+-- what is left to show, at any type of nodes, where a loop calculates the ancestors, and where a leaf is put
+pub ruleset upheaps = (needs, start, parent-small, left-small, right-small, fits-left, fits-right, next-is, end)
+
+pub ruleset puts = (needs, needs-upheap, put-tree)

@@ -264,7 +264,7 @@ fn store(nodes: &mut [u32; TREEWORDS], i: usize, n: Node)
     nodes[k + 3] = n.sum_of_processing_times_bar;
 }
 
-// A structure for calculating the ect of a set of tasks while allowing one element from another set: its 127 nodes, as words, and its size. It is made where
+// A structure for calculating the ect of a set of tasks while allowing one element from another set: its nodes, as words, and its size. It is made where
 // it is used, with every word 0, so that it is not copied.
 pub struct ThetaLambdaTree {
     pub nodes: [u32; TREEWORDS],
@@ -349,26 +349,19 @@ impl ThetaLambdaTree {
         ensures { λ r. ⌜ r ≡ foundAt inner (searchEct (leavesOf inner (nodeAt (now (nodes .entry)))) height (leftmost height position - inner)) ⌝ }
     {
         let around = ThetaLambdaTree::around(nodes, inner, position);
+        let left = get_left_child_index(position);
+        let right = get_right_child_index(position);
         let step = around.step_ect_bar();
         match step {
-            EctBarDescent::Right => ThetaLambdaTree::responsible_index_ect_bar_internal(
-                nodes,
-                inner,
-                get_right_child_index(position),
-                height - 1,
-            ),
-            EctBarDescent::RightP => ThetaLambdaTree::responsible_index_p_internal(
-                nodes,
-                inner,
-                get_right_child_index(position),
-                height - 1,
-            ),
-            EctBarDescent::Left => ThetaLambdaTree::responsible_index_ect_bar_internal(
-                nodes,
-                inner,
-                get_left_child_index(position),
-                height - 1,
-            ),
+            EctBarDescent::Right => {
+                ThetaLambdaTree::responsible_index_ect_bar_internal(nodes, inner, right, height - 1)
+            }
+            EctBarDescent::RightP => {
+                ThetaLambdaTree::responsible_index_p_internal(nodes, inner, right, height - 1)
+            }
+            EctBarDescent::Left => {
+                ThetaLambdaTree::responsible_index_ect_bar_internal(nodes, inner, left, height - 1)
+            }
             EctBarDescent::Here => position,
             EctBarDescent::Nothing => NOWHERE,
         }
@@ -385,20 +378,16 @@ impl ThetaLambdaTree {
         ensures { λ r. ⌜ r ≡ foundAt inner (searchP (leavesOf inner (nodeAt (now (nodes .entry)))) height (leftmost height position - inner)) ⌝ }
     {
         let around = ThetaLambdaTree::around(nodes, inner, position);
+        let left = get_left_child_index(position);
+        let right = get_right_child_index(position);
         let step = around.step_p();
         match step {
-            PDescent::Left => ThetaLambdaTree::responsible_index_p_internal(
-                nodes,
-                inner,
-                get_left_child_index(position),
-                height - 1,
-            ),
-            PDescent::Right => ThetaLambdaTree::responsible_index_p_internal(
-                nodes,
-                inner,
-                get_right_child_index(position),
-                height - 1,
-            ),
+            PDescent::Left => {
+                ThetaLambdaTree::responsible_index_p_internal(nodes, inner, left, height - 1)
+            }
+            PDescent::Right => {
+                ThetaLambdaTree::responsible_index_p_internal(nodes, inner, right, height - 1)
+            }
             PDescent::Here => position,
             PDescent::Nothing => NOWHERE,
         }

@@ -48,7 +48,7 @@ sub-q : tie.Need-sub-q Inv-loop μ-loop
 sub-q c = omega (arith, c .of-leaf2 .ensures, enough-there (c .before .before .before .before .loop .inv))
 
 add-t19 : tie.Need-add-t19 Inv-loop μ-loop
-add-t19 c = omega (arith, c .before .before .before .before .before .loop .inv .small)
+add-t19 c = let at = c .before .before .before .before .before in omega (arith, at .loop .inv .small)
 
 next-in-theta-requires-2 : tie.Need-next-in-theta-requires-2 Inv-loop μ-loop
 next-in-theta-requires-2 c κs = let at = c .before .before .before .before .before in (omega (arith, at .loop .inv .small), start at .pre .1, start at .pre .2)

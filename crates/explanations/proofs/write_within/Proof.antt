@@ -89,7 +89,7 @@ next-in-theta-requires-2 : tie.Need-next-in-theta-requires-2 Inv-loop μ-loop
 next-in-theta-requires-2 c κs = search needs
 
 add-at : tie.Need-add-at Inv-loop μ-loop
-add-at c = omega (arith, room (c .before .before .before .before .before .before .before .before .before))
+add-at c = let made = c .before .before .before .before .before .before .before in omega (arith, room (turn made))
 
 loop-less : tie.Need-loop-less Inv-loop μ-loop
 loop-less c = omega (arith, c .next-in-theta2 .ensures .from)

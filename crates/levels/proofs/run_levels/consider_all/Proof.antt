@@ -1,16 +1,15 @@
 -- `levels::run_levels::consider_all` meets its contract.
 -- Assumes nothing.
-use mathlib.Core.Path.{_≡_, refl, sym, subst, _∙_}
+use mathlib.Core.Path.{_≡_, refl}
 use mathlib.Core.List.{List}
 use Prim.Native.Nat.{ℕ, suc, _-_}
 use native.Mathlib.Omega.{arith}
 use lib.IntN.{ℤ}
 use lib.ListN.{length}
 use borrow.Author.Needs.{needs}
-use Rattle.levels.specs.declared.run_levels.Turn.{Turn}
 use Rattle.levels.specs.declared.run_levels.Written.{Written}
-use Rattle.levels.specs.Turns.{Standing, Considered}
-use Rattle.levels.proofs.Turning.{can-search, Turned, taken, none-yet, stands, ended, nothing-left, one-left, one-less, one-emptied}
+use Rattle.levels.specs.Turns.{Standing}
+use Rattle.levels.proofs.Turning.{can-search, Turned, none-yet, stands, ended, nothing-left, one-left, one-less, one-emptied}
 use Rattle.levels.proofs.run_levels.consider_all.Statement.{statement}
 use Rattle.levels.proofs.run_levels.consider_all.Tie as tie
 
@@ -32,6 +31,13 @@ abbrev μ-loop : tie.MeasureT-loop
 positive : (c : tie.In-loop Inv-loop μ-loop) → c .before .loop .left ≡ suc (c .before .loop .left - 1)
 positive c = omega arith
 
+-- the candidate's answer before the call, and where that turn was entered
+abbrev answered : tie.After-consider-arg4 Inv-loop μ-loop → tie.After-next Inv-loop μ-loop
+answered c = c .before .before .before .before .before
+
+abbrev entered : tie.After-next Inv-loop μ-loop → tie.In-loop Inv-loop μ-loop
+entered c = c .before .before .before .before
+
 loop-holds : tie.Need-loop-holds Inv-loop μ-loop
 loop-holds c = record { stood = c .pre; reached = λ s. none-yet s; starts-length = refl; posts-length = refl; atoms-length = refl }
 
@@ -40,28 +46,30 @@ candidate-requires c κs = let v = c .before .before .loop .inv in can-search (s
 
 returns : tie.Need-returns Inv-loop μ-loop
 returns c = λ s.
-    let v = c .before .before .before .before .before .loop .inv in
-    nothing-left s (taken s {f = c .before .before .before .before .before .loop .left - 1} (omega arith) (v .reached s)) (sym (c .enum-told .given .1) ∙ c .before .before .candidate .ensures)
+    let turn = c .before .before .before .before in
+    nothing-left s (turn .before .loop .inv .reached s) (positive turn) (c .enum-told .given .1) (c .before .before .candidate .ensures)
 
 consider-requires : tie.Need-consider-requires Inv-loop μ-loop
 consider-requires c κs =
-    let v = c .before .before .before .before .before .before .before .before .before .before .loop .inv in
-    let s = v .stood in
-    let r = taken s {f = c .before .before .before .before .before .before .before .before .before .before .loop .left - 1} (positive (c .before .before .before .before .before .before .before .before .before)) (v .reached s) in
-    let (x, o) = one-left s r (c .before .before .before .before .before .next .given .0 .0) (sym (c .before .before .before .before .before .next .given .1) ∙ c .before .before .before .before .before .before .before .candidate .ensures) in
-    (c .before .before .before .before .before .before .before .before .before .before .before .args .height, x, stands s r, o)
+    let next = answered c in
+    let turn = entered next in
+    let v = turn .before .loop .inv in
+    let r = v .reached (v .stood) in
+    let (x, o) = one-left (v .stood) r (next .next .given .1) (next .before .before .candidate .ensures) in
+    (turn .before .before .args .height, x, stands (v .stood) r, o)
 
 loop-again : tie.Need-loop-again Inv-loop μ-loop
 loop-again c =
-    let at = c .before .before .before .before .before .before .before .before .before .before .before .before .before .before .before .before .before in
-    let v = at .loop .inv in
+    let considered = c .before .before .before .before .before .before in
+    let next = answered (considered .before) in
+    let turn = entered next in
+    let v = turn .before .loop .inv in
     record {
       stood = v .stood;
       reached = λ s.
-          let r = taken s {f = at .loop .left - 1} (positive (c .before .before .before .before .before .before .before .before .before .before .before .before .before .before .before .before)) (v .reached s) in
-          let (x, o) = one-left s r (c .before .before .before .before .before .before .before .before .before .before .before .before .next .given .0 .0) (sym (c .before .before .before .before .before .before .before .before .before .before .before .before .next .given .1) ∙ c .before .before .before .before .before .before .before .before .before .before .before .before .before .before .candidate .ensures) in
-          one-less s r (subst (λ (t : Turn). Considered (stands s r) t (c .before .before .before .before .before .before .consider .last .0) (c .before .before .before .before .before .before .consider .last .1 .0) (c .before .before .before .before .before .before .consider .last .1 .1 .0) (c .before .before .before .before .before .before .consider .last .1 .1 .1 .0)) (c .before .turn .given .1)
-          (c .before .before .before .before .before .before .consider .ensures (at .before .args .height) x (stands s r) o));
+          let r = v .reached s in
+          let (x, o) = one-left s r (next .next .given .1) (next .before .before .candidate .ensures) in
+          one-less s r (positive turn) (c .before .turn .given .1) (considered .consider .ensures (turn .before .before .args .height) x (stands s r) o);
       starts-length = search needs;
       posts-length = search needs;
       atoms-length = search needs;
@@ -69,12 +77,12 @@ loop-again c =
 
 returns-2 : tie.Need-returns-2 Inv-loop μ-loop
 returns-2 c = λ s.
-    let at = c .before .before .before .before .before .before .before .before .before .before .before .before .before .before .before .before .before in
-    let v = at .loop .inv in
-    let r = taken s {f = at .loop .left - 1} (positive (c .before .before .before .before .before .before .before .before .before .before .before .before .before .before .before .before)) (v .reached s) in
-    let (x, o) = one-left s r (c .before .before .before .before .before .before .before .before .before .before .before .before .next .given .0 .0) (sym (c .before .before .before .before .before .before .before .before .before .before .before .before .next .given .1) ∙ c .before .before .before .before .before .before .before .before .before .before .before .before .before .before .candidate .ensures) in
-    one-emptied s r (subst (λ (t : Turn). Considered (stands s r) t (c .before .before .before .before .before .before .consider .last .0) (c .before .before .before .before .before .before .consider .last .1 .0) (c .before .before .before .before .before .before .consider .last .1 .1 .0) (c .before .before .before .before .before .before .consider .last .1 .1 .1 .0)) (c .before .turn2 .given .1)
-    (c .before .before .before .before .before .before .consider .ensures (at .before .args .height) x (stands s r) o))
+    let considered = c .before .before .before .before .before .before in
+    let next = answered (considered .before) in
+    let turn = entered next in
+    let r = turn .before .loop .inv .reached s in
+    let (x, o) = one-left s r (next .next .given .1) (next .before .before .candidate .ensures) in
+    one-emptied s r (positive turn) (c .before .turn2 .given .1) (considered .consider .ensures (turn .before .before .args .height) x (stands s r) o)
 
 returns-3 : tie.Need-returns-3 Inv-loop μ-loop
 returns-3 c = λ s. ended s (c .before .loop .inv .reached s) (omega arith)

@@ -1,6 +1,6 @@
 -- `levels::run_levels::edge_finding` meets its contract.
 -- Assumes nothing.
-use mathlib.Core.Path.{_≡_, refl, sym, subst, _∙_}
+use mathlib.Core.Path.{_≡_, refl, sym, _∙_}
 use mathlib.Core.List.{List}
 use Prim.Native.Nat.{ℕ, _+_, _-_, _<_, _≤_}
 use native.Mathlib.Omega.{arith}
@@ -8,12 +8,9 @@ use lib.IntN.{ℤ}
 use lib.ListN.{length, getD}
 use borrow.Author.Needs.{needs}
 use borrow.Author.Tests.{ltb-true, ltb-false}
-use Rattle.integers.specs.Limits.{TASKS}
 use Rattle.ects.proofs.Ects.{exceeds-decoded}
 use Rattle.trees.specs.Words.{nodeAt}
-use Rattle.levels.specs.declared.run_levels.Turn.{Turn}
 use Rattle.levels.specs.declared.run_levels.Written.{Written}
-use Rattle.levels.specs.Turns.{AllConsidered}
 use Rattle.levels.specs.Finding.{Begun}
 use Rattle.levels.proofs.Levels.{Level, few, candidate-small, first-level, all-done, over-asked, over-inner, few-changes, overloads, moves, goes-on, one-more, one-emptied}
 use Rattle.levels.proofs.run_levels.edge_finding.Statement.{statement}
@@ -24,7 +21,6 @@ record Loop (n inner height : ℕ) (nodes₀ : List ℕ) (earliest₀ posts₀ a
   begun : Begun n inner height nodes₀ earliest₀ posts₀ atoms₀ est lst lct durations tasks candidates mapping
   level : (s : Begun n inner height nodes₀ earliest₀ posts₀ atoms₀ est lst lct durations tasks candidates mapping) → Level s index nodes earliest posts atoms w
   small : index < n
-  count : n ≤ TASKS
   starts-length : length earliest ≡ length earliest₀
   posts-length : length posts ≡ length posts₀
   atoms-length : length atoms ≡ length atoms₀
@@ -36,105 +32,112 @@ Inv-loop nodes₀ earliest₀ posts₀ atoms₀ mapping tasks candidates est lst
 abbrev μ-loop : tie.MeasureT-loop
 μ-loop nodes₀ earliest₀ posts₀ atoms₀ mapping tasks candidates est lst lct durations inner height n w₀ index₀ nodes earliest posts atoms w index = n - index
 
--- inside the loop: the level's task and its lct, and that a level follows
+-- inside the loop: the level's task, its lct and the ect of Theta, and that a level follows
 abbrev task : tie.In-loop Inv-loop μ-loop → ℕ
 task c = getD (c .before .before .args .candidates .now) (c .before .loop .index) 0
 
 abbrev end : tie.In-loop Inv-loop μ-loop → ℕ
 end c = getD (c .before .before .args .lct .now) (task c) 0
 
+abbrev ect : tie.In-loop Inv-loop μ-loop → ℕ
+ect c = nodeAt (c .before .loop .nodes) 0 .ect
+
 more : (c : tie.In-loop Inv-loop μ-loop) → c .before .loop .index + 1 < c .before .before .args .n
 more c = omega arith
 
-candidate : (c : tie.In-loop Inv-loop μ-loop) → task c < TASKS
-candidate c = omega (arith, candidate-small (c .before .loop .inv .begun) (c .before .loop .index) (c .before .loop .inv .small), c .before .loop .inv .count)
+-- where the level was entered, from its test and from the move of its task; and that move, from the tasks considered
+abbrev entered : tie.After-overloads Inv-loop μ-loop → tie.In-loop Inv-loop μ-loop
+entered c = c .before .before .before .before
 
-following : (c : tie.In-loop Inv-loop μ-loop) → getD (c .before .before .args .candidates .now) (c .before .loop .index + 1) 0 < TASKS
-following c = omega (arith, candidate-small (c .before .loop .inv .begun) (c .before .loop .index + 1) (more c), c .before .loop .inv .count)
+abbrev level-of : tie.After-move-to-lambda Inv-loop μ-loop → tie.In-loop Inv-loop μ-loop
+level-of c = entered (c .before .before .before)
+
+abbrev moved : tie.After-consider-all Inv-loop μ-loop → tie.After-move-to-lambda Inv-loop μ-loop
+moved c = c .before .before .before .before .before .before .before .before
 
 loop-holds : tie.Need-loop-holds Inv-loop μ-loop
-loop-holds c = let s = c .pre in record { begun = s; level = λ s. first-level s; small = first-level s .small; count = few s; starts-length = refl; posts-length = refl; atoms-length = refl }
+loop-holds c = let s = c .pre in record { begun = s; level = λ s. first-level s; small = first-level s .small; starts-length = refl; posts-length = refl; atoms-length = refl }
 
 mul-lct-j : tie.Need-mul-lct-j Inv-loop μ-loop
-mul-lct-j c = omega (arith, candidate (c .before))
-
-element-copy-out-lct-j : tie.Need-element-copy-out-lct-j Inv-loop μ-loop
-element-copy-out-lct-j c = candidate (c .before)
+mul-lct-j c = let l = c .before .before .loop in omega (arith, candidate-small (l .inv .begun) (l .index) (l .inv .small))
 
 -- the test of the level
-passes : (c : tie.Then1 Inv-loop μ-loop) → end (c .before .before .before .before .before) < nodeAt (c .before .before .before .before .before .before .loop .nodes) 0 .ect
-passes c = ltb-true _ _ (sym (exceeds-decoded (nodeAt (c .before .before .before .before .before .before .loop .nodes) 0 .ect) (end (c .before .before .before .before .before))) ∙ sym (c .before .overloads .ensures) ∙ c .if1 .taken)
+passes : (c : tie.Then1 Inv-loop μ-loop) → end (entered (c .before)) < ect (entered (c .before))
+passes c = ltb-true _ _ (sym (exceeds-decoded (ect (entered (c .before))) (end (entered (c .before)))) ∙ sym (c .before .overloads .ensures) ∙ c .if1 .taken)
+
+quiet : (c : tie.After-move-to-lambda Inv-loop μ-loop) → ect (level-of c) ≤ end (level-of c)
+quiet c = ltb-false _ _ (sym (exceeds-decoded (ect (level-of c)) (end (level-of c))) ∙ sym (c .before .before .before .overloads .ensures) ∙ c .before .before .if1 .left)
 
 overload-requires : tie.Need-overload-requires Inv-loop μ-loop
 overload-requires c κs =
-    let v = c .before .before .before .before .before .before .before .before .loop .inv in
-    let m = more (c .before .before .before .before .before .before .before) in
-    (over-asked (v .begun) (v .level (v .begun)) (task (c .before .before .before .before .before .before .before)) (end (c .before .before .before .before .before .before .before)) m refl refl (passes (c .before .before)), v .count, over-inner (v .begun) (v .level (v .begun)) (task (c .before .before .before .before .before .before .before)) (end (c .before .before .before .before .before .before .before)) m refl refl)
+    let level = entered (c .before .before .before) in
+    let v = level .before .loop .inv in
+    let l = v .level (v .begun) in
+    (over-asked (v .begun) l (more level) (passes (c .before .before)), few (v .begun), over-inner (v .begun) l (more level))
 
 returns : tie.Need-returns Inv-loop μ-loop
 returns c = λ s.
-    let v = c .before .before .before .before .before .before .before .before .before .before .loop .inv in
-    overloads s (v .level s) (task (c .before .before .before .before .before .before .before .before .before)) (end (c .before .before .before .before .before .before .before .before .before)) (more (c .before .before .before .before .before .before .before .before .before)) refl refl (passes (c .before .before .before .before)) (c .before .overload .ensures)
-
-quiet : (c : tie.After-move-to-lambda Inv-loop μ-loop) → nodeAt (c .before .before .before .before .before .before .before .before .loop .nodes) 0 .ect ≤ end (c .before .before .before .before .before .before .before)
-quiet c = ltb-false _ _ (sym (exceeds-decoded (nodeAt (c .before .before .before .before .before .before .before .before .loop .nodes) 0 .ect) (end (c .before .before .before .before .before .before .before))) ∙ sym (c .before .before .before .overloads .ensures) ∙ c .before .before .if1 .left)
+    let test = c .before .before .before .before in
+    let level = entered (test .before) in
+    overloads s (level .before .loop .inv .level s) (more level) (passes test) (c .before .overload .ensures)
 
 move-to-lambda-requires : tie.Need-move-to-lambda-requires Inv-loop μ-loop
 move-to-lambda-requires c κs =
-    let v = c .before .before .before .before .before .before .before .loop .inv in
-    moves (v .begun) (v .level (v .begun)) (task (c .before .before .before .before .before .before)) (end (c .before .before .before .before .before .before)) (more (c .before .before .before .before .before .before)) refl refl
+    let level = entered (c .before .before) in
+    let v = level .before .loop .inv in
+    moves (v .begun) (v .level (v .begun)) (more level)
 
 add-changes : tie.Need-add-changes Inv-loop μ-loop
 add-changes c =
-    let v = c .before .before .before .before .before .before .before .before .before .loop .inv in
-    omega (arith, few-changes (v .begun) (v .level (v .begun)) (task (c .before .before .before .before .before .before .before .before)) (end (c .before .before .before .before .before .before .before .before)) (more (c .before .before .before .before .before .before .before .before)) refl refl)
+    let level = level-of (c .before) in
+    let v = level .before .loop .inv in
+    omega (arith, few-changes (v .begun) (v .level (v .begun)) (more level))
 
 mul-lct-next-2 : tie.Need-mul-lct-next-2 Inv-loop μ-loop
-mul-lct-next-2 c = omega (arith, following (c .before .before .before .before .before .before .before .before .before))
-
-element-copy-out-lct-next-2 : tie.Need-element-copy-out-lct-next-2 Inv-loop μ-loop
-element-copy-out-lct-next-2 c = following (c .before .before .before .before .before .before .before .before .before)
+mul-lct-next-2 c = let level = level-of (c .before .before) in omega (arith, candidate-small (level .before .loop .inv .begun) (level .before .loop .index + 1) (more level))
 
 consider-all-requires : tie.Need-consider-all-requires Inv-loop μ-loop
 consider-all-requires c κs =
-    let v = c .before .before .before .before .before .before .before .before .before .before .before .before .before .before .before .loop .inv in
-    goes-on (v .begun) (v .level (v .begun)) (task (c .before .before .before .before .before .before .before .before .before .before .before .before .before .before)) (end (c .before .before .before .before .before .before .before .before .before .before .before .before .before .before)) (more (c .before .before .before .before .before .before .before .before .before .before .before .before .before .before)) refl refl (quiet (c .before .before .before .before .before .before .before)) (c .before .before .before .before .before .before .before .move-to-lambda .ensures) (getD (c .before .before .before .before .before .before .before .before .before .before .before .before .before .before .before .before .args .lct .now) (getD (c .before .before .before .before .before .before .before .before .before .before .before .before .before .before .before .before .args .candidates .now) (c .before .before .before .before .before .before .before .before .before .before .before .before .before .before .before .loop .index + 1) 0) 0) refl
+    let move = c .before .before .before .before .before .before .before in
+    let v = level-of move .before .loop .inv in
+    goes-on (v .begun) (v .level (v .begun)) (more (level-of move)) (quiet move) (move .move-to-lambda .ensures)
 
 loop-again : tie.Need-loop-again Inv-loop μ-loop
 loop-again c =
-    let v = c .before .before .before .before .before .before .before .before .before .before .before .before .before .before .before .before .before .before .before .before .before .before .loop .inv in
+    let considered = c .before .before .before .before .before .before in
+    let move = moved considered in
+    let v = level-of move .before .loop .inv in
     record {
       begun = v .begun;
       level = λ s.
-          let l = v .level s in
-          let d = getD (c .before .before .before .before .before .before .before .before .before .before .before .before .before .before .before .before .before .before .before .before .before .before .before .args .lct .now) (getD (c .before .before .before .before .before .before .before .before .before .before .before .before .before .before .before .before .before .before .before .before .before .before .before .args .candidates .now) (c .before .before .before .before .before .before .before .before .before .before .before .before .before .before .before .before .before .before .before .before .before .before .loop .index + 1) 0) 0 in
-          let g = goes-on s l (task (c .before .before .before .before .before .before .before .before .before .before .before .before .before .before .before .before .before .before .before .before .before)) (end (c .before .before .before .before .before .before .before .before .before .before .before .before .before .before .before .before .before .before .before .before .before)) (more (c .before .before .before .before .before .before .before .before .before .before .before .before .before .before .before .before .before .before .before .before .before)) refl refl (quiet (c .before .before .before .before .before .before .before .before .before .before .before .before .before .before)) (c .before .before .before .before .before .before .before .before .before .before .before .before .before .before .move-to-lambda .ensures) d refl in
-          one-more s l (task (c .before .before .before .before .before .before .before .before .before .before .before .before .before .before .before .before .before .before .before .before .before)) (end (c .before .before .before .before .before .before .before .before .before .before .before .before .before .before .before .before .before .before .before .before .before)) (more (c .before .before .before .before .before .before .before .before .before .before .before .before .before .before .before .before .before .before .before .before .before)) refl refl (quiet (c .before .before .before .before .before .before .before .before .before .before .before .before .before .before)) (c .before .before .before .before .before .before .before .before .before .before .before .before .before .before .move-to-lambda .ensures) d refl
-          (subst (λ (t : Turn). AllConsidered g t (c .before .before .before .before .before .before .consider-all .last .0) (c .before .before .before .before .before .before .consider-all .last .1 .0) (c .before .before .before .before .before .before .consider-all .last .1 .1 .0) (c .before .before .before .before .before .before .consider-all .last .1 .1 .1 .0)) (c .before .turn .given .1) (c .before .before .before .before .before .before .consider-all .ensures g));
-      small = more (c .before .before .before .before .before .before .before .before .before .before .before .before .before .before .before .before .before .before .before .before .before);
-      count = v .count;
+          let g = goes-on s (v .level s) (more (level-of move)) (quiet move) (move .move-to-lambda .ensures) in
+          one-more s (v .level s) (more (level-of move)) (quiet move) (move .move-to-lambda .ensures) (c .before .turn .given .1) (considered .consider-all .ensures g);
+      small = more (level-of move);
       starts-length = search needs;
       posts-length = search needs;
       atoms-length = search needs;
     }
 
+-- the loop's head, from the return where a range is emptied
+abbrev head : tie.After-known-told2 Inv-loop μ-loop → tie.At-loop Inv-loop μ-loop
+head c = level-of (moved (c .before .before .before .before .before .before)) .before
+
 same-length-4 : tie.Need-same-length-4 Inv-loop μ-loop
-same-length-4 c = search (needs, c .before .before .before .before .before .before .before .before .before .before .before .before .before .before .before .before .before .before .before .before .before .before .loop .inv .starts-length)
+same-length-4 c = search (needs, head c .loop .inv .starts-length)
 
 same-length-5 : tie.Need-same-length-5 Inv-loop μ-loop
-same-length-5 c = search (needs, c .before .before .before .before .before .before .before .before .before .before .before .before .before .before .before .before .before .before .before .before .before .before .loop .inv .posts-length)
+same-length-5 c = search (needs, head c .loop .inv .posts-length)
 
 same-length-6 : tie.Need-same-length-6 Inv-loop μ-loop
-same-length-6 c = search (needs, c .before .before .before .before .before .before .before .before .before .before .before .before .before .before .before .before .before .before .before .before .before .before .loop .inv .atoms-length)
+same-length-6 c = search (needs, head c .loop .inv .atoms-length)
 
 returns-2 : tie.Need-returns-2 Inv-loop μ-loop
 returns-2 c = λ s.
-    let v = c .before .before .before .before .before .before .before .before .before .before .before .before .before .before .before .before .before .before .before .before .before .before .loop .inv in
-    let l = v .level s in
-    let d = getD (c .before .before .before .before .before .before .before .before .before .before .before .before .before .before .before .before .before .before .before .before .before .before .before .args .lct .now) (getD (c .before .before .before .before .before .before .before .before .before .before .before .before .before .before .before .before .before .before .before .before .before .before .before .args .candidates .now) (c .before .before .before .before .before .before .before .before .before .before .before .before .before .before .before .before .before .before .before .before .before .before .loop .index + 1) 0) 0 in
-    let g = goes-on s l (task (c .before .before .before .before .before .before .before .before .before .before .before .before .before .before .before .before .before .before .before .before .before)) (end (c .before .before .before .before .before .before .before .before .before .before .before .before .before .before .before .before .before .before .before .before .before)) (more (c .before .before .before .before .before .before .before .before .before .before .before .before .before .before .before .before .before .before .before .before .before)) refl refl (quiet (c .before .before .before .before .before .before .before .before .before .before .before .before .before .before)) (c .before .before .before .before .before .before .before .before .before .before .before .before .before .before .move-to-lambda .ensures) d refl in
-    one-emptied s l (task (c .before .before .before .before .before .before .before .before .before .before .before .before .before .before .before .before .before .before .before .before .before)) (end (c .before .before .before .before .before .before .before .before .before .before .before .before .before .before .before .before .before .before .before .before .before)) (more (c .before .before .before .before .before .before .before .before .before .before .before .before .before .before .before .before .before .before .before .before .before)) refl refl (quiet (c .before .before .before .before .before .before .before .before .before .before .before .before .before .before)) (c .before .before .before .before .before .before .before .before .before .before .before .before .before .before .move-to-lambda .ensures) d refl
-    (subst (λ (t : Turn). AllConsidered g t (c .before .before .before .before .before .before .consider-all .last .0) (c .before .before .before .before .before .before .consider-all .last .1 .0) (c .before .before .before .before .before .before .consider-all .last .1 .1 .0) (c .before .before .before .before .before .before .consider-all .last .1 .1 .1 .0)) (c .before .turn2 .given .1) (c .before .before .before .before .before .before .consider-all .ensures g))
+    let considered = c .before .before .before .before .before .before in
+    let move = moved considered in
+    let l = head c .loop .inv .level s in
+    let g = goes-on s l (more (level-of move)) (quiet move) (move .move-to-lambda .ensures) in
+    one-emptied s l (more (level-of move)) (quiet move) (move .move-to-lambda .ensures) (considered .consider-all .last .0) (c .before .turn2 .given .1) (considered .consider-all .ensures g)
 
 returns-3 : tie.Need-returns-3 Inv-loop μ-loop
 returns-3 c = λ s. all-done s (c .before .loop .inv .level s) (omega arith)
@@ -144,8 +147,8 @@ edge-finding-spec =
     tie.close
     (tie.spec
     Inv-loop μ-loop loop-holds (λ c. search needs) (λ c. search needs) (λ c. search needs) mul-lct-j
-    element-copy-out-lct-j (λ c κs. search needs) overload-requires (λ c. search needs) (λ c. search needs)
-    (λ c. search needs) returns move-to-lambda-requires add-changes (λ c. search needs) (λ c. search needs)
-    (λ c. search needs) mul-lct-next-2 element-copy-out-lct-next-2 consider-all-requires (λ c. search needs)
-    (λ c. search needs) loop-again (λ c. search needs) same-length-4 same-length-5 same-length-6 returns-2
-    (λ c. search needs) (λ c. search needs) (λ c. search needs) returns-3)
+    (λ c. search (needs, candidate-small)) (λ c κs. search needs) overload-requires (λ c. search needs)
+    (λ c. search needs) (λ c. search needs) returns move-to-lambda-requires add-changes (λ c. search needs)
+    (λ c. search needs) (λ c. search needs) mul-lct-next-2 (λ c. search (needs, candidate-small)) consider-all-requires
+    (λ c. search needs) (λ c. search needs) loop-again (λ c. search needs) same-length-4 same-length-5 same-length-6
+    returns-2 (λ c. search needs) (λ c. search needs) (λ c. search needs) returns-3)

@@ -8,7 +8,7 @@ use lib.Signed.{_≤ℤ_}
 use borrow.Author.Needs.{needs}
 use mir.Syntax.{w32}
 use Rattle.integers.proofs.Ints.{back-of}
-use Rattle.post_words.specs.Posts.{firstAtom, atomCount, stretchStart, stretchLength, Readable}
+use Rattle.post_words.specs.Posts.{firstAtom, atomCount, Readable}
 use Rattle.post_words.proofs.Reading.{readable, reason-there, reason-none}
 use Rattle.post_words.proofs.posts.post_reason.Statement.{statement}
 use Rattle.post_words.proofs.posts.post_reason.Tie as tie
@@ -19,12 +19,18 @@ read c =
     let args = c .before .before .args in
     readable (args .posts .now) (args .atoms .now) (args .post-count) (args .index) .0 (sym (c .before .post-number .ensures) ∙ c .if1 .left)
 
--- the words that the two calls give
-start-is : (c : tie.After-words-of2) → c .before .words-of .result ≡ stretchStart (c .before .before .before .before .before .before .args .posts .now) (c .before .before .before .before .before .before .args .index)
-start-is c = c .before .words-of .ensures ∙ ap (λ (z : ℤ). 3 * natAbs z) (back-of w32 (firstAtom (c .before .before .before .before .before .before .args .posts .now) (c .before .before .before .before .before .before .args .index)) (c .before .before .before .first .given))
+-- the post's two words, and the words that the two calls give
+abbrev first : tie.After-count → ℤ
+first c = let a = c .before .before .before .before .args in firstAtom (a .posts .now) (a .index)
 
-length-is : (c : tie.After-words-of2) → c .words-of2 .result ≡ stretchLength (c .before .before .before .before .before .before .args .posts .now) (c .before .before .before .before .before .before .args .index)
-length-is c = c .words-of2 .ensures ∙ ap (λ (z : ℤ). 3 * natAbs z) (back-of w32 (atomCount (c .before .before .before .before .before .before .args .posts .now) (c .before .before .before .before .before .before .args .index)) (c .before .before .count .given))
+abbrev count : tie.After-count → ℤ
+count c = let a = c .before .before .before .before .args in atomCount (a .posts .now) (a .index)
+
+start-is : (c : tie.After-words-of2) → c .before .words-of .result ≡ 3 * natAbs (first (c .before .before))
+start-is c = c .before .words-of .ensures ∙ ap (λ (z : ℤ). 3 * natAbs z) (back-of w32 (first (c .before .before)) (c .before .before .before .first .given))
+
+length-is : (c : tie.After-words-of2) → c .words-of2 .result ≡ 3 * natAbs (count (c .before .before))
+length-is c = c .words-of2 .ensures ∙ ap (λ (z : ℤ). 3 * natAbs z) (back-of w32 (count (c .before .before)) (c .before .before .count .given))
 
 returns : tie.Need-returns
 returns c =
@@ -53,10 +59,10 @@ shared-slice-copy-out-count : tie.Need-shared-slice-copy-out-count
 shared-slice-copy-out-count c = omega (arith, read (c .before) .inside)
 
 words-of-requires : tie.Need-words-of-requires
-words-of-requires c κs = subst (λ (z : ℤ). pos 0 ≤ℤ z) (sym (back-of w32 (firstAtom (c .before .before .before .before .args .posts .now) (c .before .before .before .before .args .index)) (c .before .first .given))) (read (c .before .before) .from)
+words-of-requires c κs = subst (λ (z : ℤ). pos 0 ≤ℤ z) (sym (back-of w32 (first c) (c .before .first .given))) (read (c .before .before) .from)
 
 words-of-requires-2 : tie.Need-words-of-requires-2
-words-of-requires-2 c κs = subst (λ (z : ℤ). pos 0 ≤ℤ z) (sym (back-of w32 (atomCount (c .before .before .before .before .before .args .posts .now) (c .before .before .before .before .before .args .index)) (c .before .count .given))) (read (c .before .before .before) .many)
+words-of-requires-2 c κs = subst (λ (z : ℤ). pos 0 ≤ℤ z) (sym (back-of w32 (count (c .before)) (c .before .count .given))) (read (c .before .before .before) .many)
 
 add-end : tie.Need-add-end
 add-end c = record { fits = omega (arith, start-is c, length-is c, read (c .before .before .before .before) .stretch) }
@@ -69,9 +75,9 @@ part-result-end c = omega (arith, start-is c, length-is c, read (c .before .befo
 
 returns-2 : tie.Need-returns-2
 returns-2 c =
-    let args = c .before .before .before .before .before .before .before .args in
-    let posts = args .posts .now in
-    let there = reason-there posts (args .atoms .now) (args .post-count) (args .index) (sym (c .before .before .before .before .before .before .post-number .ensures) ∙ c .before .before .before .before .before .if1 .left) in
+    let accepted = c .before .before .before .before .before in
+    let args = accepted .before .before .args in
+    let there = reason-there (args .posts .now) (args .atoms .now) (args .post-count) (args .index) (sym (accepted .before .post-number .ensures) ∙ accepted .if1 .left) in
     rw (add-sub-cancel-left, start-is (c .before), length-is (c .before)) (sym there)
 
 pub post-reason-spec : {M : Type 1} → statement M

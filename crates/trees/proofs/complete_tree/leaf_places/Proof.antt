@@ -4,6 +4,7 @@ use mathlib.Core.Path.{_≡_}
 use Prim.Native.Nat.{_≤_, _-_}
 use native.Mathlib.Omega.{arith}
 use lib.ListN.{length-set, length, take}
+use borrow.Author.Needs.{needs}
 use Rattle.integers.specs.Limits.{TASKS}
 use Rattle.trees.proofs.Places.{Placed, task-below, place-more, places-are}
 use Rattle.trees.proofs.complete_tree.leaf_places.Statement.{statement}
@@ -18,23 +19,11 @@ abbrev μ-loop : tie.MeasureT-loop
 loop-holds : tie.Need-loop-holds Inv-loop μ-loop
 loop-holds c = (omega arith, c .pre .1, λ j q. absurd (omega arith))
 
-mul-task : tie.Need-mul-task Inv-loop μ-loop
-mul-task c = omega arith
-
-element-copy-out-task : tie.Need-element-copy-out-task Inv-loop μ-loop
-element-copy-out-task c = omega arith
-
 mul-mapping : tie.Need-mul-mapping Inv-loop μ-loop
 mul-mapping c = omega (arith, task-below (c .before .before .before .args .count) (c .before .before .before .args .order .now) (c .before .before .before .pre .2) (c .before .before .loop .i) (c .before .loop-test .taken))
 
 element-write-mapping : tie.Need-element-write-mapping Inv-loop μ-loop
 element-write-mapping c = omega (arith, task-below (c .before .before .before .args .count) (c .before .before .before .args .order .now) (c .before .before .before .pre .2) (c .before .before .loop .i) (c .before .loop-test .taken), c .before .before .loop .inv .1)
-
-add-i : tie.Need-add-i Inv-loop μ-loop
-add-i c = omega arith
-
-loop-less : tie.Need-loop-less Inv-loop μ-loop
-loop-less c = omega arith
 
 loop-again : tie.Need-loop-again Inv-loop μ-loop
 loop-again c = (omega arith, simp length-set (c .before .before .loop .inv .1), place-more (c .before .before .before .args .count) (c .before .before .before .args .order .now) (c .before .before .before .pre .2) (c .before .before .loop .mapping) (c .before .before .loop .i) (omega arith) (c .before .loop-test .taken) (c .before .before .loop .inv .2))
@@ -46,5 +35,5 @@ pub leaf-places-spec : {M : Type 1} → statement M
 leaf-places-spec =
     tie.close
     (tie.spec
-    Inv-loop μ-loop loop-holds mul-task element-copy-out-task mul-mapping element-write-mapping add-i loop-less
-    loop-again returns)
+    Inv-loop μ-loop loop-holds (λ c. search needs) (λ c. search needs) mul-mapping element-write-mapping
+    (λ c. search needs) (λ c. search needs) loop-again returns)

@@ -1,16 +1,17 @@
 -- `trees::complete_tree::size_for` meets its contract. The loop's invariant: the leaves are those of the height, and from there on the least height is still the one looked for.
 -- Assumes nothing.
 use mathlib.Core.Path.{_≡_, refl, sym, _∙_}
-use Prim.Native.Nat.{_≤_, _<_, _-_}
+use Prim.Native.Nat.{_+_, _≤_, _<_, _-_}
 use native.Mathlib.Omega.{arith}
 use borrow.Author.Needs.{needs}
+use Rattle.integers.specs.Limits.{INNER}
 use Rattle.trees.specs.Shapes.{width, heightFrom, heightFor}
 use Rattle.trees.proofs.Heights.{once, twice, height-step, height-reached, low, width-step}
 use Rattle.trees.proofs.complete_tree.size_for.Statement.{statement}
 use Rattle.trees.proofs.complete_tree.size_for.Tie as tie
 
 abbrev Inv-loop : tie.InvT-loop
-Inv-loop count leaves₀ height₀ leaves height = (leaves ≡ width height) × (leaves ≤ 64) × (height < leaves) × (heightFrom count (count - height) height ≡ heightFor count)
+Inv-loop count leaves₀ height₀ leaves height = (leaves ≡ width height) × (leaves ≤ INNER + 1) × (height < leaves) × (heightFrom count (count - height) height ≡ heightFor count)
 
 abbrev μ-loop : tie.MeasureT-loop
 μ-loop count leaves₀ height₀ leaves height = count - height
@@ -18,16 +19,10 @@ abbrev μ-loop : tie.MeasureT-loop
 loop-holds : tie.Need-loop-holds Inv-loop μ-loop
 loop-holds c = let z : c .args .count - 0 ≡ c .args .count = omega arith in (sym once, omega arith, omega arith, rw z refl)
 
-loop-less : tie.Need-loop-less Inv-loop μ-loop
-loop-less c = omega arith
-
 loop-again : tie.Need-loop-again Inv-loop μ-loop
 loop-again c = let i = c .before .loop .inv in
     let h = c .before .loop .height in
     (omega (arith, width-step h), omega (arith, low h (omega arith), twice h), omega arith, height-step _ h (omega arith) (omega arith) ∙ i .3)
-
-sub-t5 : tie.Need-sub-t5 Inv-loop μ-loop
-sub-t5 c = omega arith
 
 returns : tie.Need-returns Inv-loop μ-loop
 returns c = let i = c .before .loop .inv in
@@ -37,4 +32,5 @@ pub size-for-spec : {M : Type 1} → statement M
 size-for-spec =
     tie.close
     (tie.spec
-    Inv-loop μ-loop loop-holds (λ c. search needs) (λ c. search needs) loop-less loop-again sub-t5 returns)
+    Inv-loop μ-loop loop-holds (λ c. search needs) (λ c. search needs) (λ c. search needs) loop-again (λ c. search needs)
+    returns)

@@ -16,11 +16,17 @@ returns-2 c = rw (sym (c .before .before .before .before .before .tested .ensure
 
 returns-3 : tie.Need-returns-3
 unfolding descentEct
-returns-3 c = rw (sym (c .before .before .before .before .before .before .before .before .before .tested .ensures) ∙ c .before .before .before .before .before .before .before .before .if1 .left, sym (c .before .before .before .before .before .tested2 .ensures) ∙ c .before .before .before .before .if2 .left, sym (c .before .tested3 .ensures) ∙ c .if3 .taken, descentEct)
+returns-3 c =
+    let second = c .before .before .before .before in
+    let first = second .before .before .before .before in
+    rw (sym (first .before .tested .ensures) ∙ first .if1 .left, sym (second .before .tested2 .ensures) ∙ second .if2 .left, sym (c .before .tested3 .ensures) ∙ c .if3 .taken, descentEct)
 
 returns-4 : tie.Need-returns-4
 unfolding descentEct
-returns-4 c = rw (sym (c .before .before .before .before .before .before .before .before .before .tested .ensures) ∙ c .before .before .before .before .before .before .before .before .if1 .left, sym (c .before .before .before .before .before .tested2 .ensures) ∙ c .before .before .before .before .if2 .left, sym (c .before .tested3 .ensures) ∙ c .if3 .left, descentEct)
+returns-4 c =
+    let second = c .before .before .before .before in
+    let first = second .before .before .before .before in
+    rw (sym (first .before .tested .ensures) ∙ first .if1 .left, sym (second .before .tested2 .ensures) ∙ second .if2 .left, sym (c .before .tested3 .ensures) ∙ c .if3 .left, descentEct)
 
 pub descent-ect-bar-spec : {M : Type 1} → statement M
 descent-ect-bar-spec =

@@ -15,11 +15,15 @@ returns-2 c = let n = c .before .before .before .before .args .self in rw (eq-eq
 
 returns-3 : tie.Need-returns-3
 unfolding isEmpty
-returns-3 c = let n = c .before .before .before .before .before .before .args .self in rw (eq-eqb (n .ect) 0 (c .before .before .before .before .if1 .left), eq-eqb (n .«sum_of_processing_times») 0 (c .before .before .if2 .left), ne-eqb (n .«ect_bar») 0 (c .if3 .taken))
+returns-3 c =
+    let n = c .before .before .before .before .before .before .args .self in
+    rw (eq-eqb (n .ect) 0 (c .before .before .before .before .if1 .left), eq-eqb (n .«sum_of_processing_times») 0 (c .before .before .if2 .left), ne-eqb (n .«ect_bar») 0 (c .if3 .taken))
 
 returns-4 : tie.Need-returns-4
 unfolding isEmpty
-returns-4 c = let n = c .before .before .before .before .before .before .before .args .self in rw (eq-eqb (n .ect) 0 (c .before .before .before .before .before .if1 .left), eq-eqb (n .«sum_of_processing_times») 0 (c .before .before .before .if2 .left), eq-eqb (n .«ect_bar») 0 (c .before .if3 .left))
+returns-4 c =
+    let n = c .before .before .before .before .before .before .before .args .self in
+    rw (eq-eqb (n .ect) 0 (c .before .before .before .before .before .if1 .left), eq-eqb (n .«sum_of_processing_times») 0 (c .before .before .before .if2 .left), eq-eqb (n .«ect_bar») 0 (c .before .if3 .left))
 
 pub is-empty-spec : {M : Type 1} → statement M
 is-empty-spec = tie.close (tie.spec returns returns-2 returns-3 returns-4)

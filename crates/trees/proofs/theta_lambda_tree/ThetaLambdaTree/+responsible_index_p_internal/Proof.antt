@@ -1,13 +1,9 @@
 -- The search by sums is `searchP` over the leaves: each call goes down to one child, and the height left falls.
 -- Assumes nothing.
-use mathlib.Core.Path.{sym, ap, _∙_, refl}
 use Prim.Native.Nat.{ℕ, _<_}
-use native.Mathlib.Omega.{arith}
-use borrow.Author.Needs.{needs}
 use borrow.Fn.Kinds.{In}
 use borrow.Fn.PlainCycle.{Measures, is, falls, and}
-use Rattle.trees.specs.Searches.{foundAt}
-use Rattle.trees.proofs.Steps.{around-fits, step-p-is, left-p, right-p, here-p, nothing-p}
+use Rattle.trees.proofs.Steps.{by-sums}
 use Rattle.trees.proofs.theta_lambda_tree.ThetaLambdaTree.responsible_index_p_internal.Reads as reads
 use Rattle.trees.proofs.theta_lambda_tree.ThetaLambdaTree.responsible_index_p_internal.Kinds as kinds
 use Rattle.trees.proofs.theta_lambda_tree.ThetaLambdaTree.+responsible_index_p_internal.Lts-responsible_index_p_internal as lts
@@ -30,72 +26,12 @@ module _ (t : ℕ) where
   below = and 1 kinds.ps (falls 1 kinds.ps _<_ μ t) reads.Pre
 
   abbrev claims : lts.Claims
-  claims = (around-reads.Asked, around-reads.Learnt, step-reads.Asked, step-reads.Learnt, left-reads.Asked, left-reads.Learnt, below, reads.Post, right-reads.Asked, right-reads.Learnt)
-
-  around-requires : lts.Need-around-requires claims here reads.Post
-  around-requires c κs = (_, c .pre .1)
-
-  step-p-requires : lts.Need-step-p-requires claims here reads.Post
-  step-p-requires c κs = around-fits (c .before .pre .1) (c .around .ensures)
-
-  enum-told : lts.Need-enum-told claims here reads.Post
-  enum-told c = search needs
-
-  get-left-child-index-requires : lts.Need-get-left-child-index-requires claims here reads.Post
-  get-left-child-index-requires c κs = omega (arith, (left-p (c .before .before .before .before .pre .1) refl (step-p-is (c .before .before .before .before .pre .1) (c .before .before .before .around .ensures) (c .before .before .step-p .ensures) ∙ c .enum-told .given .1)) .inner, c .before .before .before .before .pre .1 .room)
-
-  sub-responsible-index-p-internal : lts.Need-sub-responsible-index-p-internal claims here reads.Post
-  sub-responsible-index-p-internal c = omega (arith, (left-p (c .before .before .before .before .before .pre .1) (c .get-left-child-index .ensures) (step-p-is (c .before .before .before .before .before .pre .1) (c .before .before .before .before .around .ensures) (c .before .before .before .step-p .ensures) ∙ c .before .enum-told .given .1)) .falls)
-
-  responsible-index-p-internal-requires : lts.Need-responsible-index-p-internal-requires claims here reads.Post
-  responsible-index-p-internal-requires c κs = let d = left-p (c .before .before .before .before .before .pre .1) (c .get-left-child-index .ensures) (step-p-is (c .before .before .before .before .before .pre .1) (c .before .before .before .before .around .ensures) (c .before .before .before .step-p .ensures) ∙ c .before .enum-told .given .1) in (omega (arith, d .falls, c .before .before .before .before .before .pre .0), d .child)
-
-  enum-told-2 : lts.Need-enum-told-2 claims here reads.Post
-  enum-told-2 c = search needs
-
-  get-right-child-index-requires : lts.Need-get-right-child-index-requires claims here reads.Post
-  get-right-child-index-requires c κs = omega (arith, (right-p (c .before .before .before .before .pre .1) refl (step-p-is (c .before .before .before .before .pre .1) (c .before .before .before .around .ensures) (c .before .before .step-p .ensures) ∙ c .enum-told2 .given .1)) .inner, c .before .before .before .before .pre .1 .room)
-
-  sub-responsible-index-p-internal-2 : lts.Need-sub-responsible-index-p-internal-2 claims here reads.Post
-  sub-responsible-index-p-internal-2 c = omega (arith, (right-p (c .before .before .before .before .before .pre .1) (c .get-right-child-index .ensures) (step-p-is (c .before .before .before .before .before .pre .1) (c .before .before .before .before .around .ensures) (c .before .before .before .step-p .ensures) ∙ c .before .enum-told2 .given .1)) .falls)
-
-  responsible-index-p-internal-requires-2 : lts.Need-responsible-index-p-internal-requires-2 claims here reads.Post
-  responsible-index-p-internal-requires-2 c κs = let d = right-p (c .before .before .before .before .before .pre .1) (c .get-right-child-index .ensures) (step-p-is (c .before .before .before .before .before .pre .1) (c .before .before .before .before .around .ensures) (c .before .before .before .step-p .ensures) ∙ c .before .enum-told2 .given .1) in (omega (arith, d .falls, c .before .before .before .before .before .pre .0), d .child)
-
-  enum-told-3 : lts.Need-enum-told-3 claims here reads.Post
-  enum-told-3 c = search needs
-
-  enum-told-4 : lts.Need-enum-told-4 claims here reads.Post
-  enum-told-4 c = search needs
-
-  returns : lts.Need-returns claims here reads.Post
-  returns c = c .responsible-index-p-internal .ensures ∙ sym (ap (foundAt _) ((left-p (c .before .before .before .before .before .before .pre .1) (c .before .get-left-child-index .ensures) (step-p-is (c .before .before .before .before .before .before .pre .1) (c .before .before .before .before .before .around .ensures) (c .before .before .before .before .step-p .ensures) ∙ c .before .before .enum-told .given .1)) .same))
-
-  returns-2 : lts.Need-returns-2 claims here reads.Post
-  returns-2 c = c .responsible-index-p-internal2 .ensures ∙ sym (ap (foundAt _) ((right-p (c .before .before .before .before .before .before .pre .1) (c .before .get-right-child-index .ensures) (step-p-is (c .before .before .before .before .before .before .pre .1) (c .before .before .before .before .before .around .ensures) (c .before .before .before .before .step-p .ensures) ∙ c .before .before .enum-told2 .given .1)) .same))
-
-  returns-3 : lts.Need-returns-3 claims here reads.Post
-  returns-3 c = here-p (c .before .before .before .before .pre .1) (step-p-is (c .before .before .before .before .pre .1) (c .before .before .before .around .ensures) (c .before .before .step-p .ensures) ∙ c .enum-told3 .given .1)
-
-  returns-4 : lts.Need-returns-4 claims here reads.Post
-  returns-4 c = sym (ap (foundAt _) (nothing-p _ _ _ (step-p-is (c .before .before .before .before .pre .1) (c .before .before .before .around .ensures) (c .before .before .step-p .ensures) ∙ c .enum-told4 .given .1)))
+  claims = (around-reads.Asked, around-reads.Learnt, left-reads.Asked, left-reads.Learnt, right-reads.Asked, right-reads.Learnt, step-reads.Asked, step-reads.Learnt, below, reads.Post)
 
 pub +responsible-index-p-internal-spec : {M : Type 1} → statement M
 +responsible-index-p-internal-spec =
     close μ (λ t. lts.spec (claims t) (here t) reads.Post
-    (around-requires t)
-    (step-p-requires t)
-    (enum-told t)
-    (get-left-child-index-requires t)
-    (sub-responsible-index-p-internal t)
-    (responsible-index-p-internal-requires t)
-    (enum-told-2 t)
-    (get-right-child-index-requires t)
-    (sub-responsible-index-p-internal-2 t)
-    (responsible-index-p-internal-requires-2 t)
-    (enum-told-3 t)
-    (enum-told-4 t)
-    (returns t)
-    (returns-2 t)
-    (returns-3 t)
-    (returns-4 t))
+    (λ c κs. search by-sums) (λ c κs. search by-sums) (λ c κs. search by-sums) (λ c κs. search by-sums)
+    (λ c. search by-sums) (λ c. search by-sums) (λ c κs. search by-sums) (λ c. search by-sums) (λ c. search by-sums)
+    (λ c κs. search by-sums) (λ c. search by-sums) (λ c. search by-sums) (λ c. search by-sums) (λ c. search by-sums)
+    (λ c. search by-sums) (λ c. search by-sums))
