@@ -1,3 +1,4 @@
 pub mod Atoms
 pub mod Right
+pub mod Read
 pub mod Given

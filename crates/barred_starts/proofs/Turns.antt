@@ -1,8 +1,8 @@
 -- The bars from place i on, as the loops over the places meet them, and a step by one.
 -- Assumes nothing.
 use mathlib.Core.Path.{_≡_, refl, sym, ap, _∙_}
-use mathlib.Core.Bool.{true, false, _&&_, _||_}
-use mathlib.Core.List.{List, [], _∷_, map}
+use mathlib.Core.Bool.{Bool, true, false, cond, _&&_, _||_}
+use mathlib.Core.List.{List, [], _∷_}
 use Prim.Native.Nat.{ℕ, suc, _+_, _-_, _≤_, _<_}
 use native.Mathlib.Omega.{arith}
 use native.Mathlib.Numerals.{add-one}
@@ -11,19 +11,24 @@ use lib.ListN.{length, getD, drop, length-map, length-take, length-drop, drop-of
 use lib.Seq.{drop-cons, getD-take, length-take-le}
 use lib.Signed.{ltZ, _<ℤ_}
 use mir.Syntax.{w32}
-use mir.Val.{SFits}
+use mir.Val.{Val, SFits, toZ, ofZ}
+use denote.Laws.{Is}
+use denote.Struct.Laws as LL
 use Rattle.integers.specs.Limits.{BARS}
-use Rattle.integers.proofs.Ints.{ints, up, dn, sumℤ, fits-show, in-range}
+use Rattle.integers.proofs.Ints.{ints, up, dn, sumℤ, fits-show, in-range, back, same-bits}
 use Rattle.holes.specs.Holes.{eqZ, has}
+use Rattle.holes.proofs.Tests.{same-eqZ, other-eqZ}
 use Rattle.barred_starts.specs.declared.range.Range.{Range}
 use Rattle.barred_starts.specs.Bars.{barsOf, ascends, barsFit, allBarsFit}
 use Rattle.barred_starts.specs.Moves.{pastBar, movedOn, beforeBar, movedBack}
 use Rattle.barred_starts.specs.Ranges.{anyRange}
+use Rattle.barred_starts.proofs.range.Range as T
+use Rattle.barred_starts.proofs.range.Range.Laws as T′
 
--- how many there are, from the length of the array as a call is told it
-module _ (y : Range) (whole : length (map (λ (b : ℤ). b) (y .barred)) ≡ BARS) where
+-- how many there are, from what a call is told of a range that it is given
+module _ (y : Range) {vs : List Val} (is : Is T.the-row y vs) where
   room : length (y .barred) ≡ BARS
-  room = sym (length-map (y .barred) (λ (b : ℤ). b)) ∙ whole
+  room = sym (length-map (y .barred) (λ (b : ℤ). b)) ∙ LL.owed T.the-type T′.the-laws y vs is .1 .1 .1 .0 .1 .0 .1
 
   pub bars-length : y .count ≤ BARS → length (barsOf y) ≡ y .count
   bars-length h = length-take-le (y .count) (y .barred) (omega (arith, room))
@@ -100,3 +105,14 @@ module _ (z to : ℤ) (fits : SFits w32 z) (there : SFits w32 to) where
   pub one-back : to <ℤ z → SFits w32 (z +ℤ negsuc 0)
   unfolding up dn
   one-back h = fits-show w32 (z +ℤ negsuc 0) (omega (ints, sumℤ z (negsuc 0), in-range fits)) (omega (ints, sumℤ z (negsuc 0), in-range fits, in-range there))
+
+-- what is answered for a start and a bar, each as it was read: a step by d where they are the same and the test lets the start go, and else the start
+module _ (bar : ℤ) {start : ℤ} (fits : SFits w32 start) (lets : Bool) (d : ℤ) where
+  pub goes : SFits w32 bar → ofZ w32 bar ≡ ofZ w32 start → lets ≡ true → SFits w32 (start +ℤ d) → toZ w32 (ofZ w32 (toZ w32 (ofZ w32 start) +ℤ d)) ≡ cond (eqZ bar start && lets) (start +ℤ d) start
+  goes there same go next = rw (same-eqZ (same-bits w32 there fits same), go) (ap (λ (z : ℤ). toZ w32 (ofZ w32 (z +ℤ d))) (back fits) ∙ back next)
+
+  pub stays : SFits w32 bar → ofZ w32 bar ≡ ofZ w32 start → lets ≡ false → toZ w32 (ofZ w32 start) ≡ cond (eqZ bar start && lets) (start +ℤ d) start
+  stays there same stay = rw (same-eqZ (same-bits w32 there fits same), stay) (back fits)
+
+  pub meets-no-bar : (ofZ w32 bar ≡ ofZ w32 start → ⊥) → toZ w32 (ofZ w32 start) ≡ cond (eqZ bar start && lets) (start +ℤ d) start
+  meets-no-bar apart = rw (other-eqZ (λ e. apart (ap (ofZ w32) e))) (back fits)

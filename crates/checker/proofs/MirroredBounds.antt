@@ -8,7 +8,7 @@ use Prim.Native.Nat.{ℕ, _+_, _-_, _≤_, _<_}
 use native.Mathlib.Omega.{arith}
 use lib.IntN.{ℤ, negsuc}
 use lib.ListN.{getD}
-use Rattle.integers.specs.Limits.{DURATIONS, VALUE}
+use Rattle.integers.specs.Limits.{DURATIONS, VALUE, HOLES}
 use Rattle.integers.specs.Moments.{moment, zeroAt}
 use Rattle.scheduling.specs.Scheduling.{natural, Tasks, TaskSet}
 use Rattle.scheduling.specs.Mirroring.{mirrorStart}
@@ -43,11 +43,11 @@ abbrev mirroredSide : ℕ → IntExt → IntExt → Option ℤ → ℕ
 mirroredSide p l u o = moment zeroAt (cond (known (mirrorBound p (finite u)) && known (mirrorBound p (finite l))) (valueOf (mirrorBound p o)) (negsuc 2147483647))
 
 -- the code's moment is that of the mirrored bound
-moment-is : (p : ℕ) (z : ℤ) → p ≤ DURATIONS → Within (VALUE + 17) z → 4294967296 - (moment zeroAt z + p) ≡ moment zeroAt (mirrorStart p z)
+moment-is : (p : ℕ) (z : ℤ) → p ≤ DURATIONS → Within (VALUE + 1 + HOLES) z → 4294967296 - (moment zeroAt z + p) ≡ moment zeroAt (mirrorStart p z)
 moment-is p z h w = omega (arith, mirrored-moment p z h w .is)
 
 module _ (p : ℕ) (h : p ≤ DURATIONS) where
-  pub est-mirrored : (l u : IntExt) → ((z : ℤ) → u ≡ Int z → Within (VALUE + 17) z) → mirroredMoment (boundsBetween l u .known) (boundsBetween l u .lst) p ≡ mirroredSide p l u (finite u)
+  pub est-mirrored : (l u : IntExt) → ((z : ℤ) → u ≡ Int z → Within (VALUE + 1 + HOLES) z) → mirroredMoment (boundsBetween l u .known) (boundsBetween l u .lst) p ≡ mirroredSide p l u (finite u)
   est-mirrored (Int x) (Int y) w = moment-is p y h (w y refl)
   est-mirrored (Int x) NegativeInf w = refl
   est-mirrored (Int x) PositiveInf w = refl
@@ -58,7 +58,7 @@ module _ (p : ℕ) (h : p ≤ DURATIONS) where
   est-mirrored PositiveInf NegativeInf w = refl
   est-mirrored PositiveInf PositiveInf w = refl
 
-  pub lst-mirrored : (l u : IntExt) → ((z : ℤ) → l ≡ Int z → Within (VALUE + 17) z) → mirroredMoment (boundsBetween l u .known) (boundsBetween l u .est) p ≡ mirroredSide p l u (finite l)
+  pub lst-mirrored : (l u : IntExt) → ((z : ℤ) → l ≡ Int z → Within (VALUE + 1 + HOLES) z) → mirroredMoment (boundsBetween l u .known) (boundsBetween l u .est) p ≡ mirroredSide p l u (finite l)
   lst-mirrored (Int x) (Int y) w = moment-is p x h (w x refl)
   lst-mirrored (Int x) NegativeInf w = refl
   lst-mirrored (Int x) PositiveInf w = refl
@@ -72,10 +72,10 @@ module _ (p : ℕ) (h : p ≤ DURATIONS) where
 pub moment-alike : {b b′ : Bool} {t t′ p p′ : ℕ} → b ≡ b′ → t ≡ t′ → p ≡ p′ → mirroredMoment b t p ≡ mirroredMoment b′ t′ p′
 moment-alike x y z = λ i. mirroredMoment (x i) (y i) (z i)
 
-pub mirrored-most : (p : ℕ) → 1 ≤ p → p ≤ DURATIONS → (l u e : IntExt) → ((z : ℤ) → e ≡ Int z → Within (VALUE + 17) z) → mirroredSide p l u (finite e) ≤ LATEST
+pub mirrored-most : (p : ℕ) → 1 ≤ p → p ≤ DURATIONS → (l u e : IntExt) → ((z : ℤ) → e ≡ Int z → Within (VALUE + 1 + HOLES) z) → mirroredSide p l u (finite e) ≤ LATEST
 mirrored-most p one h l u e w = by (known (mirrorBound p (finite u)) && known (mirrorBound p (finite l))) e w
   where
-    by : (b : Bool) (e : IntExt) → ((z : ℤ) → e ≡ Int z → Within (VALUE + 17) z) → moment zeroAt (cond b (valueOf (mirrorBound p (finite e))) (negsuc 2147483647)) ≤ LATEST
+    by : (b : Bool) (e : IntExt) → ((z : ℤ) → e ≡ Int z → Within (VALUE + 1 + HOLES) z) → moment zeroAt (cond b (valueOf (mirrorBound p (finite e))) (negsuc 2147483647)) ≤ LATEST
     by true (Int z) w = mirrored-moment p z h (w z refl) .fits one
     by true NegativeInf w = omega arith
     by true PositiveInf w = omega arith

@@ -8,7 +8,7 @@ use Prim.Native.Nat.{ℕ, zero, suc, _+_, _≤_, _<_}
 use native.Mathlib.Omega.{arith}
 use lib.IntN.{ℤ, pos, negsuc, _+ℤ_}
 use lib.Signed.{_≤ℤ_}
-use Rattle.integers.specs.Limits.{DURATIONS, VALUE}
+use Rattle.integers.specs.Limits.{DURATIONS, VALUE, HOLES}
 use Rattle.integers.specs.Moments.{moment, Above, zeroAt}
 use Rattle.integers.proofs.Ints.{ints, up, dn, sumℤ}
 use Rattle.integers.proofs.Moments.{above-show, at-moment}
@@ -104,7 +104,7 @@ pub record MirroredMoment (p : ℕ) (z : ℤ) : Type 0 where
   pub is : moment zeroAt (mirrorStart p z) + (moment zeroAt z + p) ≡ 4294967296
   pub fits : 1 ≤ p → moment zeroAt (mirrorStart p z) ≤ LATEST
 
-pub mirrored-moment : (p : ℕ) (z : ℤ) → p ≤ DURATIONS → Within (VALUE + 17) z → MirroredMoment p z
+pub mirrored-moment : (p : ℕ) (z : ℤ) → p ≤ DURATIONS → Within (VALUE + 1 + HOLES) z → MirroredMoment p z
 unfolding up dn
 mirrored-moment p z h w =
     let here : Above zeroAt z = above-show zeroAt z (omega (ints, w .low)) in
@@ -125,7 +125,7 @@ bound-none p (some z) e = absurd (let z : _≡_ {A = ℕ} 0 1 = cc in omega arit
 
 -- The bounds that the atoms leave are, mirrored, those that the mirrored atoms leave.
 pub mirrored-reads : (n : ℕ) (d : ℕ → ℕ) (atoms : List Atom) (lower upper : ℕ → Option ℤ) → ((k : ℕ) → k < n → (1 ≤ d k) × (d k ≤ DURATIONS))
-    → ((k : ℕ) → k < n → (z : ℤ) → upper k ≡ some z → Within (VALUE + 17) z) → Reads n atoms lower upper
+    → ((k : ℕ) → k < n → (z : ℤ) → upper k ≡ some z → Within (VALUE + 1 + HOLES) z) → Reads n atoms lower upper
     → Reads n (mirrorAtoms d atoms) (λ k. mirrorBound (d k) (upper k)) (λ k. mirrorBound (d k) (lower k))
 mirrored-reads n d atoms lower upper lasts near r = record {
   least = λ k q u e. let (z, o, same) = bound-some (d k) (upper k) u e in subst (Least whole (Admits (mirrorAtoms d atoms) k)) same (least-mirrored d atoms k z .0 (r .greatest k q z o));

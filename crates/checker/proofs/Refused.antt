@@ -135,7 +135,7 @@ module _ (ds ps cs : List ℤ) where
     λ h. ap verdictNumbers (check-after ds ps cs 0 (h .0)) ∙ (let p = applications-apart (prepared ps cs .answer) (application.Refused n) (h .1) in rw p refl),
   )
 
-  -- more than 512 premises
+  -- more premises than a check takes
   pub refused-7 : verdictNumbers (checkOf ds ps cs) ≡ refusedBy 7 ↔ ((refusal (creationTests ds) ≡ 0) × (3 * PREMISES + 2 < length ps))
   refused-7 = let w = of-atoms 7 refl (λ z. omega arith) in (λ e. (w .0 e .0, prepared-7 ps cs .0 (w .0 e .1)), λ f. w .1 (f .0, prepared-7 ps cs .1 (f .1)))
 
@@ -143,7 +143,7 @@ module _ (ds ps cs : List ℤ) where
   pub refused-6 : verdictNumbers (checkOf ds ps cs) ≡ refusedBy 6 ↔ ((refusal (creationTests ds) ≡ 0) × ((length ps ≤ 3 * PREMISES + 2) × (RightLists ps cs → ⊥)))
   refused-6 = let w = of-atoms 6 refl (λ z. omega arith) in (λ e. (w .0 e .0, prepared-6 ps cs .0 (w .0 e .1)), λ f. w .1 (f .0, prepared-6 ps cs .1 (f .1)))
 
-  -- the first atom that needs a seventeenth hole, with no contradiction before it
+  -- the first atom that needs a hole too many, with no contradiction before it
   pub refused-21 : verdictNumbers (checkOf ds ps cs) ≡ refusedBy 21
       ↔ ((refusal (creationTests ds) ≡ 0) × ((length ps ≤ 3 * PREMISES + 2) × (RightLists ps cs × ((p : Reaches (given (atomsOf ps) (consequentOf cs))) × (lacksRoom (p .state) (p .atom) ≡ true)))))
   refused-21 = let w = of-atoms 21 refl (λ z. omega arith) in (λ e. (w .0 e .0, prepared-21 ps cs .0 (w .0 e .1)), λ f. w .1 (f .0, prepared-21 ps cs .1 (f .1)))

@@ -11,7 +11,7 @@ use borrow.Author.Tests.{ltb-true, lt-ltb, eq-eqb}
 use lib.Dec.{ltb}
 use lib.IntN.{ℤ}
 use lib.ListN.{length}
-use Rattle.integers.specs.Limits.{TASKS, VARIABLES, DURATIONS, VALUE, PREMISES}
+use Rattle.integers.specs.Limits.{TASKS, VARIABLES, DURATIONS, VALUE, PREMISES, HOLES}
 use Rattle.integers.specs.Moments.{moment, Above, zeroAt}
 use Rattle.integers.specs.Tests.{refusal}
 use Rattle.integers.proofs.Bools.{bool, and-true, and-yes}
@@ -60,15 +60,15 @@ no-upper (Int z) n h = absurd (let z : _≡_ {A = ℕ} 0 1 = cc in omega arith)
 no-upper NegativeInf n h = absurd (n refl)
 no-upper PositiveInf n h = refl
 
-near-above : (u : ℤ) → Within (VALUE + 17) u → Above zeroAt u
+near-above : (u : ℤ) → Within (VALUE + 1 + HOLES) u → Above zeroAt u
 unfolding up dn
 near-above u w = above-show zeroAt u (omega (ints, w .low))
 
-pub near-latest : (u : ℤ) → Within (VALUE + 17) u → moment zeroAt u ≤ LATEST
+pub near-latest : (u : ℤ) → Within (VALUE + 1 + HOLES) u → moment zeroAt u ≤ LATEST
 unfolding up dn
 near-latest u w = omega (ints, w .high, w .low, at-moment zeroAt u (near-above u w))
 
-near-fits : (u : ℤ) → Within (VALUE + 17) u → moment zeroAt u ≤ 4294967295
+near-fits : (u : ℤ) → Within (VALUE + 1 + HOLES) u → moment zeroAt u ≤ 4294967295
 near-fits u w = omega (arith, near-latest u w)
 
 -- Where the atoms are consistent, the bounds that the check reads are those that they leave.

@@ -1,4 +1,4 @@
--- The bounds of a prepared state lie near the limits of an atom's value: sixteen holes and a negation further out at most.
+-- The bounds of a prepared state lie near the limits of an atom's value: HOLES holes and a negation further out at most.
 -- Assumes nothing.
 use mathlib.Core.Path.{_≡_, refl, sym, subst}
 use mathlib.Core.Logic.{_⊎_, inl, inr}
@@ -33,10 +33,10 @@ use Rattle.checking.proofs.Prepared.{ran}
 use Rattle.checking.proofs.Promises.{given-known}
 use Rattle.checking.proofs.States.{put-same, put-other, stepped-case, stepped-accepted, all-case, all-end, empty-accepted}
 
--- finite bounds within VALUE + 17
+-- finite bounds: no further out than an atom's value, negated, past a chain of holes
 pub record Near (d : Domain) : Type 0 where
-  pub lower : (u : ℤ) → d .«lower_bound» ≡ Int u → Within (VALUE + 17) u
-  pub upper : (u : ℤ) → d .«upper_bound» ≡ Int u → Within (VALUE + 17) u
+  pub lower : (u : ℤ) → d .«lower_bound» ≡ Int u → Within (VALUE + 1 + HOLES) u
+  pub upper : (u : ℤ) → d .«upper_bound» ≡ Int u → Within (VALUE + 1 + HOLES) u
 
 -- the values of atoms: a ≠ atom is never a negation of an order
 pub record Valued (k : ℕ) (v : ℤ) : Type 0 where
@@ -52,11 +52,11 @@ no-int b e = let z : _≡_ {A = ℕ} 0 1 = cc in omega arith
 no-int′ : (b : ℤ) → PositiveInf ≡ Int b → ⊥
 no-int′ b e = let z : _≡_ {A = ℕ} 0 1 = cc in omega arith
 
-near-first : (v b : ℤ) (hs : List ℤ) → Within (VALUE + 1) v → First v hs b → length hs ≤ HOLES → Within (VALUE + 17) b
+near-first : (v b : ℤ) (hs : List ℤ) → Within (VALUE + 1) v → First v hs b → length hs ≤ HOLES → Within (VALUE + 1 + HOLES) b
 unfolding up dn
 near-first v b hs w f l = record { low = omega (ints, w .low, f .from); high = omega (ints, w .high, f .near, sumℤ v (pos (length hs))) }
 
-near-last : (v b : ℤ) (hs : List ℤ) → Within (VALUE + 1) v → Last v hs b → length hs ≤ HOLES → Within (VALUE + 17) b
+near-last : (v b : ℤ) (hs : List ℤ) → Within (VALUE + 1) v → Last v hs b → length hs ≤ HOLES → Within (VALUE + 1 + HOLES) b
 unfolding up dn
 near-last v b hs w f l = record { low = omega (ints, w .low, f .near, sumℤ b (pos (length hs))); high = omega (ints, w .high, f .to) }
 
@@ -66,14 +66,14 @@ module _ (d : Domain) (t : Tight d) (n : Near d) where
 
   near-lower : (v : ℤ) → Within (VALUE + 1) v → Near (tightenedLower d v)
   near-lower v w = lower-case d v t Near (λ _. n) (λ _. record {
-    lower = λ u e. subst (Within (VALUE + 17)) (same-int (firstFrom v (holesOf d)) u e) (near-first v (firstFrom v (holesOf d)) (holesOf d) w (first-is v (holesOf d) (t .order)) short);
+    lower = λ u e. subst (Within (VALUE + 1 + HOLES)) (same-int (firstFrom v (holesOf d)) u e) (near-first v (firstFrom v (holesOf d)) (holesOf d) w (first-is v (holesOf d) (t .order)) short);
     upper = n .upper;
   })
 
   near-upper : (v : ℤ) → Within (VALUE + 1) v → Near (tightenedUpper d v)
   near-upper v w = upper-case d v t Near (λ _. n) (λ _. record {
     lower = n .lower;
-    upper = λ u e. subst (Within (VALUE + 17)) (same-int (lastUpTo v (holesOf d)) u e) (near-last v (lastUpTo v (holesOf d)) (holesOf d) w (last-is v (holesOf d) (t .order)) short);
+    upper = λ u e. subst (Within (VALUE + 1 + HOLES)) (same-int (lastUpTo v (holesOf d)) u e) (near-last v (lastUpTo v (holesOf d)) (holesOf d) w (last-is v (holesOf d) (t .order)) short);
   })
 
   near-hole : (v : ℤ) → Near (withHole d v)

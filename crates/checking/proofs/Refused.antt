@@ -70,7 +70,7 @@ module _ (ps cs : List ℤ) where
     λ h. prepare-means ps cs .malformed (h .0) (broken (lists-are ps cs) .1 (h .1)),
   )
 
-  -- the first atom that needs a seventeenth hole, with no contradiction before it
+  -- the first atom that needs a hole too many, with no contradiction before it
   pub prepared-21 : applicationNumbers (prepared ps cs .answer) ≡ refusedBy 21
       ↔ ((length ps ≤ 3 * PREMISES + 2) × (RightLists ps cs × ((p : Reaches (given (atomsOf ps) (consequentOf cs))) × (lacksRoom (p .state) (p .atom) ≡ true))))
   prepared-21 = (

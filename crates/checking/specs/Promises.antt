@@ -37,7 +37,7 @@ pub record Narrows (s : VariableState) (a : Atom) (t : VariableState) : Type 0 w
 abbrev pub Excludes : VariableState → Atom → Type 0
 Excludes s a = (z : ℤ) → Admitted (domainAt s (a .variable)) z → Allows a z → ⊥
 
--- The atom needs a seventeenth hole.
+-- The atom needs a hole too many.
 abbrev pub lacksRoom : VariableState → Atom → Bool
 lacksRoom s a = needsRoom (domainAt s (a .variable)) (a .kind) (a .value)
 

@@ -42,7 +42,7 @@ put s x d = record { domains = set (s .domains) x d }
 abbrev pub emptyState : VariableState
 emptyState = record { domains = replicate VARIABLES allIntegers }
 
--- The state is an array of 64 domains with 16 places each.
+-- The state is an array of VARIABLES domains with HOLES places each.
 pub record Sized (s : VariableState) : Type 0 where
   pub size : length (s .domains) ≡ VARIABLES
   pub places : (x : ℕ) → x < VARIABLES → length (domainAt s x .holes) ≡ HOLES
@@ -52,7 +52,7 @@ unfoldable pub accepted : List Domain → Bool
 accepted [] = true
 accepted (d ∷ rest) = acceptedDomain d && accepted rest
 
--- What an accepted state is: an array of 64 accepted domains.
+-- What an accepted state is: an array of VARIABLES accepted domains.
 pub record AllProper (ds : List Domain) : Type 0 where
   pub size : length ds ≡ VARIABLES
   pub each : (x : ℕ) → x < VARIABLES → Proper (getD ds x noDomain)

@@ -21,7 +21,7 @@ ghost use Rattle.atoms.specs.Atoms.{atomOf, atomsOf, consequentOf, rightLists};
 ghost use Rattle.checking.specs.Promises.{EmptyMeans, ApplyMeans, TruthMeans, LowerMeans, UpperMeans, PrepareMeans};
 ghost use Rattle.checking.specs.States.{emptyState, accepted, stepped, appliedTo, truthOf, boundOf, applyAll, prepared, AllProper, Accepted, lowerOf, upperOf, sideOf};
 
-// The domains of the variables 0 to 63. An unmentioned variable may be any integer.
+// The domains of the variables, by number. An unmentioned variable may be any integer.
 pub struct VariableState {
     pub domains: [Domain; VARIABLES],
 }

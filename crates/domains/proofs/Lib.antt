@@ -3,3 +3,4 @@ pub mod Domains
 pub mod Narrowing
 pub mod Accepting
 pub mod Values
+pub mod Stepping

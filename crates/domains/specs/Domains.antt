@@ -66,7 +66,7 @@ unfoldable pub ascend : IntExt → List ℤ → IntExt → Bool
 ascend lower [] upper = true
 ascend lower (h ∷ hs) upper = ltExt lower (Int h) && (ltExt (Int h) upper && ascend (Int h) hs upper)
 
--- The bounds are not crossed, the lower one is not plus infinity and the upper one not minus infinity; there are at most 16 holes,
+-- The bounds are not crossed, the lower one is not plus infinity and the upper one not minus infinity; there are at most HOLES holes,
 -- in their order and between the bounds; and unused places are 0.
 unfoldable pub acceptedDomain : Domain → Bool
 acceptedDomain d =
@@ -127,7 +127,7 @@ applied d (suc zero) v = tightenedUpper d v
 applied d (suc (suc zero)) v = tightenedUpper (tightenedLower d v) v
 applied d (suc (suc (suc k))) v = without d v
 
--- a ≠ atom needs a seventeenth hole
+-- a ≠ atom needs a hole too many
 unfoldable pub crowded : Domain → ℤ → Bool
 crowded d v = between d v && (not (has (holesOf d) v) && leb HOLES (d .count))
 

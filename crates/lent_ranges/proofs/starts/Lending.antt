@@ -40,6 +40,7 @@ use Rattle.barred_starts.specs.Ranges.{withStarts}
 use Rattle.lent_ranges.specs.TakenApart.{startsOf}
 use Rattle.lent_ranges.specs.declared.starts.Starts.{Starts}
 use Rattle.barred_starts.proofs.range.Range as T
+use Rattle.barred_starts.proofs.range.Range.Laws as T′
 use Rattle.lent_ranges.proofs.starts.Starts as S
 use Rattle.lent_ranges.proofs.starts.Starts.Laws as S′
 use Rattle.lent_ranges.proofs.starts.starts_of as starts-of
@@ -47,7 +48,10 @@ use Rattle.lent_ranges.proofs.starts.starts_of.Symbol.{name as #starts-
 use Rattle.lent_ranges.proofs.starts.store_starts as store-starts
 use Rattle.lent_ranges.proofs.starts.store_starts.Symbol.{name as #store-starts}
 
--- the machine values of starts and of lent ranges
+-- the machine values of a range, of starts and of lent ranges
+abbrev pub mach : Range → Val
+mach d = LL.tuple-val T.the-type T′.the-laws (T.the-type .to d)
+
 abbrev pub machS : Starts → Val
 machS d = LL.tuple-val S.the-type S′.the-laws (S.the-type .to d)
 

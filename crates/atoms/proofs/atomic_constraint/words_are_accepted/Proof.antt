@@ -1,15 +1,14 @@
 -- The invariant: the words from i on are right exactly where all are.
 use mathlib.Core.Path.{_≡_, refl, sym, ap, _∙_}
-use mathlib.Core.Bool.{true, false}
-use Prim.Native.Nat.{ℕ, _+_, _-_, _≤_}
+use mathlib.Core.List.{List}
+use Prim.Native.Nat.{_+_, _-_, _≤_}
 use native.Mathlib.Omega.{arith}
 use borrow.Author.Tests.{not-true, not-false}
-use lib.IntN.{pos}
+use lib.IntN.{ℤ, pos}
 use lib.ListN.{length, getD, drop, length-drop, drop-of-length-le}
-use mir.Syntax.{w32}
-use Rattle.integers.proofs.Ints.{back-of}
 use Rattle.atoms.specs.Atoms.{rightAtom, rightWords}
 use Rattle.atoms.proofs.Atoms.{words-on, words-short, words-none}
+use Rattle.atoms.proofs.Read.{read-right}
 use borrow.Author.Needs.{needs}
 use Rattle.atoms.proofs.atomic_constraint.words_are_accepted.Statement.{statement}
 use Rattle.atoms.proofs.atomic_constraint.words_are_accepted.Tie as tie
@@ -29,45 +28,27 @@ returns c =
     let words = c .before .before .before .args .words .now in
     sym (sym (l .inv .1) ∙ words-short (drop (l .i) words) (simp length-drop (omega arith)) (simp length-drop (omega arith)))
 
-shared-slice-copy-out-atom-is-accepted :
-    tie.Need-shared-slice-copy-out-atom-is-accepted Inv-loop μ-loop
-shared-slice-copy-out-atom-is-accepted c = search needs
+-- the loop's head, and the words
+abbrev head : tie.After-atom-is-accepted Inv-loop μ-loop → tie.At-loop Inv-loop μ-loop
+head c = c .before .before .before .before .before .before
 
-shared-slice-copy-out-atom-is-accepted-2 :
-    tie.Need-shared-slice-copy-out-atom-is-accepted-2 Inv-loop μ-loop
-shared-slice-copy-out-atom-is-accepted-2 c = search needs
-
-shared-slice-copy-out-atom-is-accepted-3 :
-    tie.Need-shared-slice-copy-out-atom-is-accepted-3 Inv-loop μ-loop
-shared-slice-copy-out-atom-is-accepted-3 c = search needs
+abbrev words : tie.After-atom-is-accepted Inv-loop μ-loop → List ℤ
+words c = head c .before .args .words .now
 
 -- what the call was asked of, in the words' own terms
-read : (c : tie.After-atom-is-accepted Inv-loop μ-loop) → rightAtom
-    (getD (c .before .before .before .before .before .before .before .args .words .now) (c .before .before .before .before .before .before .loop .i) (pos 0))
-    (getD (c .before .before .before .before .before .before .before .args .words .now) (c .before .before .before .before .before .before .loop .i + 1) (pos 0))
-    (getD (c .before .before .before .before .before .before .before .args .words .now) (c .before .before .before .before .before .before .loop .i + 2) (pos 0))
-    ≡ c .atom-is-accepted .result
-read c =
-    let i : ℕ = c .before .before .before .before .before .before .loop .i in
-    let words = c .before .before .before .before .before .before .before .args .words .now in
-    let x = back-of w32 (getD words i (pos 0)) (c .before .before .before .atom-is-accepted-arg .given) in
-    let k = back-of w32 (getD words (i + 1) (pos 0)) (c .before .before .atom-is-accepted-arg2 .given) in
-    let v = back-of w32 (getD words (i + 2) (pos 0)) (c .before .atom-is-accepted-arg3 .given) in
-    sym (c .atom-is-accepted .ensures ∙ (λ j. rightAtom (x j) (k j) (v j)))
+read : (c : tie.After-atom-is-accepted Inv-loop μ-loop) → let i = head c .loop .i in
+    rightAtom (getD (words c) i (pos 0)) (getD (words c) (i + 1) (pos 0)) (getD (words c) (i + 2) (pos 0)) ≡ c .atom-is-accepted .result
+read c = sym (c .atom-is-accepted .ensures ∙ read-right (record { sfits = c .before .before .before .atom-is-accepted-arg .given }) (record { sfits = c .before .before .atom-is-accepted-arg2 .given }) (record { sfits = c .before .atom-is-accepted-arg3 .given }))
 
 returns-2 : tie.Need-returns-2 Inv-loop μ-loop
 returns-2 c =
-    let l = c .before .before .before .before .before .before .before .loop in
-    let words = c .before .before .before .before .before .before .before .before .args .words .now in
-    let f : rightAtom (getD words (l .i) (pos 0)) (getD words (l .i + 1) (pos 0)) (getD words (l .i + 2) (pos 0)) ≡ false = read (c .before) ∙ not-true (c .before .atom-is-accepted .result) (c .if2 .taken) in
-    sym (sym (l .inv .1) ∙ words-on words (l .i) (omega arith) ∙ rw f)
+    let l = head (c .before) .loop in
+    sym (sym (l .inv .1) ∙ words-on (words (c .before)) (l .i) (omega arith) ∙ rw (read (c .before) ∙ not-true _ (c .if2 .taken)))
 
 loop-again : tie.Need-loop-again Inv-loop μ-loop
 loop-again c =
-    let l = c .before .before .before .before .before .before .before .loop in
-    let words = c .before .before .before .before .before .before .before .before .args .words .now in
-    let t : rightAtom (getD words (l .i) (pos 0)) (getD words (l .i + 1) (pos 0)) (getD words (l .i + 2) (pos 0)) ≡ true = read (c .before) ∙ not-false (c .before .atom-is-accepted .result) (c .if2 .left) in
-    let e : rightWords (drop (l .i) words) ≡ rightWords (drop (l .i + 3) words) = words-on words (l .i) (omega arith) ∙ rw t in
+    let l = head (c .before) .loop in
+    let e : rightWords (drop (l .i) (words (c .before))) ≡ rightWords (drop (l .i + 3) (words (c .before))) = words-on (words (c .before)) (l .i) (omega arith) ∙ rw (read (c .before) ∙ not-false _ (c .if2 .left)) in
     (omega arith, sym e ∙ l .inv .1)
 
 returns-3 : tie.Need-returns-3 Inv-loop μ-loop
@@ -80,7 +61,7 @@ pub words-are-accepted-spec : {M : Type 1} → statement M
 words-are-accepted-spec =
     tie.close
     (tie.spec
-    Inv-loop μ-loop loop-holds (λ c. search needs) returns (λ c. search needs) shared-slice-copy-out-atom-is-accepted
-    (λ c. search needs) (λ c. search needs) shared-slice-copy-out-atom-is-accepted-2 (λ c. search needs)
-    (λ c. search needs) shared-slice-copy-out-atom-is-accepted-3 (λ c κs. search needs) returns-2 (λ c. search needs)
+    Inv-loop μ-loop loop-holds (λ c. search needs) returns (λ c. search needs) (λ c. search needs)
+    (λ c. search needs) (λ c. search needs) (λ c. search needs) (λ c. search needs)
+    (λ c. search needs) (λ c. search needs) (λ c κs. search needs) returns-2 (λ c. search needs)
     (λ c. search needs) loop-again returns-3)

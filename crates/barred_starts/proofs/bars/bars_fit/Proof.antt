@@ -36,10 +36,12 @@ returns-4 c =
 
 returns-5 : tie.Need-returns-5
 returns-5 c =
-    let y = c .before .before .before .before .before .before .before .before .before .before .before .args .range in
+    let told = c .before .before .before .before in
+    let sorted = told .before .before in
+    let y = sorted .before .before .before .before .before .args .range in
     let few : y .count ≤ BARS = omega arith in
-    let a : ascends (barsOf y) ≡ true = sym (c .before .before .before .before .before .before .ascending .ensures) ∙ not-false _ (c .before .before .before .before .before .if3 .left) in
-    let h : has (barsOf y) (y .earliest) ≡ false = ap (has (barsOf y)) (sym (back-of w32 (y .earliest) (c .before .before .before .before .struct-told .given .0 .1))) ∙ sym (c .before .before .before .is-barred .ensures) ∙ c .before .before .if4 .left in
+    let a : ascends (barsOf y) ≡ true = sym (sorted .ascending .ensures) ∙ not-false _ (told .before .if3 .left) in
+    let h : has (barsOf y) (y .earliest) ≡ false = ap (has (barsOf y)) (sym (back-of w32 (y .earliest) (told .struct-told .given .0 .1))) ∙ sym (c .before .before .before .is-barred .ensures) ∙ c .before .before .if4 .left in
     ap not (c .is-barred2 .ensures ∙ ap (has (barsOf y)) (back-of w32 (y .latest) (c .before .struct-told2 .given .1 .0 .1))) ∙ sym (fit-few y few ∙ and-is _ _ a ∙ and-is _ _ (ap not h))
 
 pub bars-fit-spec : {M : Type 1} → statement M

@@ -23,7 +23,7 @@ abbrev μ-loop : tie.MeasureT-loop
 
 -- there are no more bars than places
 few : (c : tie.Start Inv-loop μ-loop) → length (barsOf (c .args .t1)) ≤ BARS
-few c = bars-fewer (c .args .t1) (c .good .0 .1 .1 .1 .1 .1 .0 .1 .0 .1)
+few c = bars-fewer (c .args .t1) (c .good .0)
 
 loop-holds : tie.Need-loop-holds Inv-loop μ-loop
 loop-holds c = let y = c .before .args .t1 in (omega (arith, c .places .ensures), sym (back-end (barsOf y) (c .places .result) (y .earliest) _ (omega (arith, c .places .ensures))))

@@ -1,12 +1,11 @@
 -- Equal bits are equal numbers, and one more is inside an i32 where the latest start is above.
-use mathlib.Core.Path.{_≡_, ap, _∙_}
-use lib.IntN.{ℤ, pos, _+ℤ_}
+use lib.IntN.{pos, _+ℤ_}
 use lib.Signed.{_≤ℤ_, _<ℤ_}
 use mir.Syntax.{w32}
-use mir.Val.{SFits, toZ, ofZ}
-use Rattle.integers.proofs.Ints.{ints, back, same-bits}
-use Rattle.holes.proofs.Tests.{same-eqZ, other-eqZ, lt-ltZ, le-ltZ}
-use Rattle.barred_starts.proofs.Turns.{one-on}
+use mir.Val.{SFits}
+use Rattle.integers.proofs.Ints.{ints, back}
+use Rattle.holes.proofs.Tests.{lt-ltZ, le-ltZ}
+use Rattle.barred_starts.proofs.Turns.{one-on, goes, stays, meets-no-bar}
 use Rattle.barred_starts.proofs.moves.past_bar.Statement.{statement}
 use Rattle.barred_starts.proofs.moves.past_bar.Tie as tie
 
@@ -20,23 +19,16 @@ add-result : tie.Need-add-result
 add-result c = rw (back (c .before .before .fits .start)) (next c)
 
 returns : tie.Need-returns
-returns c =
-    let s = c .before .before in
-    let e : s .args .bar ≡ s .args .start = same-bits w32 (s .fits .bar) (s .fits .start) (c .before .if1 .taken) in
-    rw (same-eqZ e, lt-ltZ _ _ (below c)) (ap (λ (z : ℤ). toZ w32 (ofZ w32 (z +ℤ pos 1))) (back (s .fits .start)) ∙ back (next c))
+returns c = let s = c .before .before in goes (s .args .bar) (s .fits .start) _ (pos 1) (s .fits .bar) (c .before .if1 .taken) (lt-ltZ _ _ (below c)) (next c)
 
 returns-2 : tie.Need-returns-2
 returns-2 c =
     let s = c .before .before in
-    let e : s .args .bar ≡ s .args .start = same-bits w32 (s .fits .bar) (s .fits .start) (c .before .if1 .taken) in
     let h : s .args .latest ≤ℤ s .args .start = omega (ints, back (s .fits .start), back (s .fits .latest)) in
-    rw (same-eqZ e, le-ltZ _ _ h) (back (s .fits .start))
+    stays (s .args .bar) (s .fits .start) _ (pos 1) (s .fits .bar) (c .before .if1 .taken) (le-ltZ _ _ h)
 
 returns-3 : tie.Need-returns-3
-returns-3 c =
-    let s = c .before in
-    let n : s .args .bar ≡ s .args .start → ⊥ = λ e. c .if1 .left (ap (ofZ w32) e) in
-    rw (other-eqZ n) (back (s .fits .start))
+returns-3 c = meets-no-bar (c .before .args .bar) (c .before .fits .start) _ (pos 1) (c .if1 .left)
 
 pub past-bar-spec : {M : Type 1} → statement M
 past-bar-spec = tie.close (tie.spec add-result returns returns-2 returns-3)

@@ -18,11 +18,11 @@ use Rattle.checker.proofs.checker.check_as.Tie as tie
 
 -- Where the bounds are taken: what each call before left.
 module _ (c : tie.After-bounds-of) where
-  abbrev start : tie.Start
-  start = c .before .before .before .before .before .before .before .before
-
   abbrev created : tie.After-create
   created = c .before .before .before .before .before .before .before
+
+  abbrev start : tie.Start
+  start = created .before
 
   abbrev applied : tie.After-prepare-for-conflict-check
   applied = c .before .before .before
@@ -38,22 +38,22 @@ module _ (c : tie.After-bounds-of) where
 
   abbrev can : let n = created .create .result .«record» in let s = applied .prepare-for-conflict-check .result .state in
       Judgeable ds (lowerAs false ds s) (upperAs false ds s) (n .count) (c .bounds-of .result) (n .durations)
-  can = can-judge ds ps cs (start .args .mirrored) (created .create .result) (created .create .ensures .0) (c .before .before .before .before .before .enum-told .given .1) (applied .prepare-for-conflict-check .result) (applied .prepare-for-conflict-check .ensures .0)
+  can = can-judge ds ps cs (start .args .mirrored) (created .create .result) (created .create .ensures .0) (applied .before .before .enum-told .given .1) (applied .prepare-for-conflict-check .result) (applied .prepare-for-conflict-check .ensures .0)
       (c .before .enum-told2 .given .1) (c .bounds-of .result) (c .bounds-of .ensures)
 
   abbrev can-mirrored : (b : Bounds) → b ≡ mirroredBounds (c .bounds-of .result) (created .create .result .«record» .durations) (created .create .result .«record» .count)
       → let n = created .create .result .«record» in let s = applied .prepare-for-conflict-check .result .state in
       Judgeable ds (lowerAs true ds s) (upperAs true ds s) (n .count) b (n .durations)
-  can-mirrored b z = can-judge-mirrored ds ps cs (start .args .mirrored) (created .create .result) (created .create .ensures .0) (c .before .before .before .before .before .enum-told .given .1) (applied .prepare-for-conflict-check .result) (applied .prepare-for-conflict-check .ensures .0)
+  can-mirrored b z = can-judge-mirrored ds ps cs (start .args .mirrored) (created .create .result) (created .create .ensures .0) (applied .before .before .enum-told .given .1) (applied .prepare-for-conflict-check .result) (applied .prepare-for-conflict-check .ensures .0)
       (c .before .enum-told2 .given .1) (c .bounds-of .result) b (c .bounds-of .ensures) z
 
   abbrev right : Consequent cs
-  right = consequent-right ds ps cs (start .args .mirrored) (created .create .result) (created .create .ensures .0) (c .before .before .before .before .before .enum-told .given .1) (applied .prepare-for-conflict-check .result) (applied .prepare-for-conflict-check .ensures .0)
+  right = consequent-right ds ps cs (start .args .mirrored) (created .create .result) (created .create .ensures .0) (applied .before .before .enum-told .given .1) (applied .prepare-for-conflict-check .result) (applied .prepare-for-conflict-check .ensures .0)
       (c .before .enum-told2 .given .1)
 
   -- in the time that is asked for
   concludes : (b : Bool) → start .args .mirrored ≡ b → (r : Verdict) → r ≡ judgedAs b ds (applied .prepare-for-conflict-check .result .state) (consequentOf cs) → r ≡ checkAs (start .args .mirrored) ds ps cs
-  concludes b e r j = concluded-by ds ps cs (start .args .mirrored) (created .create .result) (created .create .ensures .0) (c .before .before .before .before .before .enum-told .given .1) (applied .prepare-for-conflict-check .result) (applied .prepare-for-conflict-check .ensures .0)
+  concludes b e r j = concluded-by ds ps cs (start .args .mirrored) (created .create .result) (created .create .ensures .0) (applied .before .before .enum-told .given .1) (applied .prepare-for-conflict-check .result) (applied .prepare-for-conflict-check .ensures .0)
       (c .before .enum-told2 .given .1) r (j ∙ sym (λ i. judgedAs (e i) ds (applied .prepare-for-conflict-check .result .state) (consequentOf cs)))
 
 returns : tie.Need-returns
@@ -96,24 +96,27 @@ judge-requires-2 c κs =
 
 returns-3 : tie.Need-returns-3
 returns-3 c =
-    let b = c .before .before .before .before .before .before .before in
+    let turned = c .before .before .before .before .before .before in
+    let b = turned .before in
     let m = c .before .before .before .mirrored-bounds in
     let s = applied b .prepare-for-conflict-check .result .state in
-    concludes b true (not-false (start b .args .mirrored) (c .before .before .before .before .before .before .if1 .left)) (c .judge2 .result) (c .judge2 .ensures (ds b) (lowerAs true (ds b) s) (upperAs true (ds b) s) (can-mirrored b (m .result) (m .ensures)))
+    concludes b true (not-false (start b .args .mirrored) (turned .if1 .left)) (c .judge2 .result) (c .judge2 .ensures (ds b) (lowerAs true (ds b) s) (upperAs true (ds b) s) (can-mirrored b (m .result) (m .ensures)))
 
 returns-4 : tie.Need-returns-4
 returns-4 c =
-    let m = c .before .before .before .before .before .before .before .create in
-    let p = c .before .before .before .prepare-for-conflict-check in
-    let a = c .before .before .before .before .before .before .before .before .args in
-    contradicted (a .durations .now) (a .premises .now) (a .consequent .now) (a .mirrored) (m .result) (m .ensures .0) (c .before .before .before .before .before .enum-told .given .1) (p .result) (p .ensures .0) (c .before .answer .given .0 .0) (c .before .answer .given .1)
+    let p = c .before .before .before in
+    let m = p .before .before .before .before .create in
+    let a = p .before .before .before .before .before .args in
+    let r = p .prepare-for-conflict-check in
+    contradicted (a .durations .now) (a .premises .now) (a .consequent .now) (a .mirrored) (m .result) (m .ensures .0) (p .before .before .enum-told .given .1) (r .result) (r .ensures .0) (c .before .answer .given .0 .0) (c .before .answer .given .1)
 
 returns-5 : tie.Need-returns-5
 returns-5 c =
-    let m = c .before .before .before .before .before .before .before .create in
-    let p = c .before .before .before .prepare-for-conflict-check in
-    let a = c .before .before .before .before .before .before .before .before .args in
-    refused-atoms (a .durations .now) (a .premises .now) (a .consequent .now) (a .mirrored) (m .result) (m .ensures .0) (c .before .before .before .before .before .enum-told .given .1) (p .result) (p .ensures .0) (c .before .answer2 .given .0 .0) (c .before .answer2 .given .1)
+    let p = c .before .before .before in
+    let m = p .before .before .before .before .create in
+    let a = p .before .before .before .before .before .args in
+    let r = p .prepare-for-conflict-check in
+    refused-atoms (a .durations .now) (a .premises .now) (a .consequent .now) (a .mirrored) (m .result) (m .ensures .0) (p .before .before .enum-told .given .1) (r .result) (r .ensures .0) (c .before .answer2 .given .0 .0) (c .before .answer2 .given .1)
 
 pub check-as-spec : {M : Type 1} → statement M
 check-as-spec =

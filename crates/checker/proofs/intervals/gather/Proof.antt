@@ -54,10 +54,11 @@ add-with c =
 
 with-requires : tie.Need-with-requires Inv-loop μ-loop
 with-requires c κs =
-    let w = c .before .before .before .before .before .loop .inv in
+    let head = c .before .before .before .before .before in
+    let w = head .loop .inv in
     let v = w .some in
-    let i = c .before .before .before .before .before .loop .i in
-    let d = getD (c .before .before .before .before .before .before .args .durations .now) i 0 in
+    let i = head .loop .i in
+    let d = getD (head .before .args .durations .now) i 0 in
     subst (λ (x : Interval). x .p + d < 2 ^ 64) (sym (w .at (v .0) (v .1) (v .2) (v .3))) (sum-fits (v .2) (v .3) i (inside (c .before .before .before .before)))
 
 loop-again : tie.Need-loop-again Inv-loop μ-loop

@@ -47,15 +47,17 @@ mirrored-moment-requires c κs =
 
 mirrored-moment-requires-2 : tie.Need-mirrored-moment-requires-2 Inv-loop μ-loop
 mirrored-moment-requires-2 c κs =
-    let i = c .before .before .before .before .before .before .before .loop .i in
-    let (J, Ω, d) = c .before .before .before .before .before .before .before .before .pre in
+    let head = c .before .before .before .before .before .before .before in
+    let (J, Ω, d) = head .before .pre in
+    let i = head .loop .i in
     let q = inside (c .before .before .before .before .before .before) in
     (lasts-one (d .held) (d .late) i q, omega (arith, lst-mirrors (d .held) (d .late) i q, est-mirrors (d .held) (d .late) i q))
 
 loop-again : tie.Need-loop-again Inv-loop μ-loop
 loop-again c =
-    let l = c .before .before .before .before .before .before .before .before .loop in
-    let a = c .before .before .before .before .before .before .before .before .before .args in (
+    let head = c .before .before .before .before .before .before .before .before in
+    let l = head .loop in
+    let a = head .before .args in (
       omega (arith, inside (c .before .before .before .before .before .before .before)),
       filled-store (est-at (a .t1) (a .durations .now)) (replicate TASKS 0) (l .est) (l .i) (c .before .before .before .mirrored-moment .result) (l .inv .1) (c .before .before .before .mirrored-moment .ensures),
       filled-store (lst-at (a .t1) (a .durations .now)) (replicate TASKS 0) (l .lst) (l .i) (c .mirrored-moment2 .result) (l .inv .2) (c .mirrored-moment2 .ensures),

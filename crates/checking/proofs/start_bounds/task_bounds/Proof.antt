@@ -10,10 +10,11 @@ use Rattle.checking.proofs.start_bounds.task_bounds.Tie as tie
 
 returns-5 : tie.Need-returns-5
 returns-5 c =
-    let a = c .before .before .before .before .before .before .from .given in
+    let told = c .before .before .before .before .before in
+    let a = told .before .from .given in
     let b = c .before .before .before .to .given in
     ap₂ twoBounds
-    (c .before .moment-of .ensures ∙ ap (moment zeroAt) (back-of w32 (a .0 .0) (c .before .before .before .before .before .known-told .given .0 .1)))
+    (c .before .moment-of .ensures ∙ ap (moment zeroAt) (back-of w32 (a .0 .0) (told .known-told .given .0 .1)))
     (c .moment-of2 .ensures ∙ ap (moment zeroAt) (back-of w32 (b .0 .0) (c .before .before .known-told2 .given .0 .1)))
     ∙ sym (λ i. boundsBetween (a .1 i) (b .1 i))
 

@@ -60,6 +60,7 @@ use Rattle.lent_ranges.specs.TakenApart.{taken, padded, startsOf}
 use Rattle.lent_ranges.proofs.TakenApart.{taken-fits, padded-none, padded-length, field-more}
 use Rattle.lent_ranges.proofs.Counting.{Turn, counts}
 use Rattle.lent_ranges.proofs.Rows.{Numbers, numbers, machine, zeros, as-row, as-array}
+use Rattle.lent_ranges.proofs.starts.Lending.{mach, machS}
 use Rattle.barred_starts.proofs.range.Range as T
 use Rattle.barred_starts.proofs.range.Range.Laws as T′
 use Rattle.barred_starts.proofs.bars.all_bars_fit as all-bars-fit
@@ -83,12 +84,6 @@ Arg = RefT (List Range) × Unit {0}
 
 abbrev stayed : Stays (f.ended .signature .params) (f.ended .kept)
 stayed = (stay-none-slice (0 ∷ []) tt (plain (λ _. T.the-row)) yes, tt)
-
-abbrev mach : Range → Val
-mach d = LL.tuple-val T.the-type T′.the-laws (T.the-type .to d)
-
-abbrev machS : Starts → Val
-machS d = LL.tuple-val S.the-type S′.the-laws (S.the-type .to d)
 
 abbrev word : Ty
 word = tyInt w64

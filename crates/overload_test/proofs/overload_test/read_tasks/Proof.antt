@@ -35,11 +35,14 @@ inside c = omega arith
 known : (c : tie.In-loop Inv-loop μ-loop) → getD (c .before .before .args .tasks .now) (c .before .loop .k) 0 < TASKS
 known c = task-known (c .before .loop .inv .readable) (c .before .loop .k) (inside c)
 
--- the tree when the task is added
-added : (c : tie.After-add Inv-loop μ-loop) → let at = c .before .before .before .before .before .before in let a = at .before .before .args in
+-- the turn in which a task is added, and the tree then
+abbrev turn : tie.After-add Inv-loop μ-loop → tie.In-loop Inv-loop μ-loop
+turn c = c .before .before .before .before .before .before
+
+added : (c : tie.After-add Inv-loop μ-loop) → let at = turn c in let a = at .before .before .args in
     (f : Readable (a .inner) (a .n) (a .nodes .now) (a .mapping .now) (a .tasks .now) (a .est .now) (a .lct .now) (a .durations .now)) → Shows f (at .before .loop .k + 1) (c .add .last .0)
 added c f =
-    let at = c .before .before .before .before .before .before in
+    let at = turn c in
     was-added f (at .before .loop .k) (inside at) (c .before .before .before .before .leaf-of .result .0) (c .before .before .before .before .leaf-of .ensures) (at .before .loop .inv .tree f) (c .add .ensures)
 
 loop-holds : tie.Need-loop-holds Inv-loop μ-loop
@@ -73,29 +76,29 @@ add-requires c κs =
     may-add (v .readable) (at .before .loop .k) (inside at) (c .before .before .before .leaf-of .result .0) (c .before .before .before .leaf-of .ensures) (v .tree (v .readable))
 
 add-k : tie.Need-add-k Inv-loop μ-loop
-add-k c = omega (arith, inside (c .before .before .before .before .before .before))
+add-k c = omega (arith, inside (turn c))
 
 mul-exceeds-2 : tie.Need-mul-exceeds-2 Inv-loop μ-loop
-mul-exceeds-2 c = omega (arith, known (c .before .before .before .before .before .before .before .before))
+mul-exceeds-2 c = omega (arith, known (turn (c .before .before)))
 
 element-copy-out-exceeds-2 : tie.Need-element-copy-out-exceeds-2 Inv-loop μ-loop
-element-copy-out-exceeds-2 c = known (c .before .before .before .before .before .before .before .before)
+element-copy-out-exceeds-2 c = known (turn (c .before .before))
 
 -- the test is the definition's
-tested : (c : tie.After-exceeds Inv-loop μ-loop) → let at = c .before .before .before .before .before .before .before .before .before .before in let a = at .before .before .args in
+tested : (c : tie.After-exceeds Inv-loop μ-loop) → let at = turn (c .before .before .before .before) in let a = at .before .before .args in
     (f : Readable (a .inner) (a .n) (a .nodes .now) (a .mapping .now) (a .tasks .now) (a .est .now) (a .lct .now) (a .durations .now)) → c .exceeds .result ≡ overloadsAt (f .J) (at .before .loop .k)
 tested c f =
-    let at = c .before .before .before .before .before .before .before .before .before .before in
+    let at = turn (c .before .before .before .before) in
     c .exceeds .ensures ∙ test-is f (at .before .loop .k) (inside at) (added (c .before .before .before .before) f) (momentOf (c .before .before .ect .result)) (c .before .before .ect .ensures)
 
 returns : tie.Need-returns Inv-loop μ-loop
 returns c = λ f.
-    let at = c .before .before .before .before .before .before .before .before .before .before .before in
+    let at = turn (c .before .before .before .before .before) in
     sym (at .before .loop .inv .answer f ∙ answer-yes (f .J) (at .before .before .args .n) (at .before .loop .k) (inside at) (sym (tested (c .before) f) ∙ c .if1 .taken))
 
 loop-again : tie.Need-loop-again Inv-loop μ-loop
 loop-again c =
-    let at = c .before .before .before .before .before .before .before .before .before .before .before in
+    let at = turn (c .before .before .before .before .before) in
     let k = at .before .loop .k in
     let v = at .before .loop .inv in
     record {

@@ -32,7 +32,9 @@ returns c =
     (record { answer = ap refusedBy (n .run-refusal .ensures); changes = refl; starts = refl; post-words = refl; atom-words = refl })
 
 run-accepted-requires : tie.Need-run-accepted-requires
-run-accepted-requires c κs = let a = c .before .before .before .before .before .before .before .before .args in runnable (a .t1) (a .earliest .now) (a .latest .now) (length (a .posts .now)) (length (a .atoms .now)) (passed (c .before .before) .0)
+run-accepted-requires c κs =
+    let a = c .before .before .before .before .before .before .before .before .args in
+    runnable (a .t1) (a .earliest .now) (a .latest .now) (length (a .posts .now)) (length (a .atoms .now)) (passed (c .before .before) .0)
 
 returns-2 : tie.Need-returns-2
 returns-2 c =

@@ -18,26 +18,26 @@ long : (c : tie.Start) → length (c .args .t1 .durations) ≡ TASKS
 long c = search needs
 
 -- when the tree is made: what each call before left
-abbrev start : tie.After-size-for → tie.Start
-start c = c .before .before .before .before .before .before .before .before .before .before .before .before .before .before .before .before .before .before .before .before
-
-abbrev est : tie.After-size-for → tie.After-moments-of
-est c = c .before .before .before .before .before .before .before .before .before .before .before .before .before .before .before .before .before
-
-abbrev lst : tie.After-size-for → tie.After-moments-of2
-lst c = c .before .before .before .before .before .before .before .before .before .before .before .before .before .before .before
-
-abbrev lct : tie.After-size-for → tie.After-completions
-lct c = c .before .before .before .before .before .before .before .before .before .before
-
-abbrev tasks : tie.After-size-for → tie.After-sort-numbers
-tasks c = c .before .before .before .before .before .before .before
-
-abbrev candidates : tie.After-size-for → tie.After-sort-numbers-down
-candidates c = c .before .before .before .before
-
 abbrev places : tie.After-size-for → tie.After-leaf-places
 places c = c .before
+
+abbrev candidates : tie.After-size-for → tie.After-sort-numbers-down
+candidates c = places c .before .before .before
+
+abbrev tasks : tie.After-size-for → tie.After-sort-numbers
+tasks c = candidates c .before .before .before
+
+abbrev lct : tie.After-size-for → tie.After-completions
+lct c = tasks c .before .before .before
+
+abbrev lst : tie.After-size-for → tie.After-moments-of2
+lst c = lct c .before .before .before .before .before
+
+abbrev est : tie.After-size-for → tie.After-moments-of
+est c = lst c .before .before
+
+abbrev start : tie.After-size-for → tie.Start
+start c = est c .before .before .before
 
 -- the tree of no task can be filled,
 abbrev can-fill : (c : tie.After-size-for) → let a = start c .args in
@@ -59,35 +59,44 @@ can-begin c words filled =
 
 completions-requires : tie.Need-completions-requires
 completions-requires c κs =
-    let s = c .before .before .before .before .before .before .before .before .before in
+    let first = c .before .before .before .before .before .before in
+    let second = c .before .before .before .before in
+    let s = first .before .before .before in
     let a = s .args in (
       s .pre .lawful .few,
-      key-small (a .t1) (a .earliest .now) (a .latest .now) (length (a .posts .now)) (length (a .atoms .now)) (s .pre) (long s) (c .before .before .before .before .moments-of2 .last .0)
-          (latest (a .t1) (a .earliest .now) (a .latest .now) (length (a .posts .now)) (length (a .atoms .now)) (s .pre) (long s) (c .before .before .before .before .before .before .moments-of .ensures) (c .before .before .before .before .moments-of2 .ensures)),
+      key-small (a .t1) (a .earliest .now) (a .latest .now) (length (a .posts .now)) (length (a .atoms .now)) (s .pre) (long s) (second .moments-of2 .last .0)
+          (latest (a .t1) (a .earliest .now) (a .latest .now) (length (a .posts .now)) (length (a .atoms .now)) (s .pre) (long s) (first .moments-of .ensures) (second .moments-of2 .ensures)),
     )
 
 sort-numbers-down-requires : tie.Need-sort-numbers-down-requires
 sort-numbers-down-requires c κs =
-    let s = c .before .before .before .before .before .before .before .before .before .before .before .before .before .before .before in
+    let first = c .before .before .before .before .before .before .before .before .before .before .before .before in
+    let second = c .before .before .before .before .before .before .before .before .before .before in
+    let s = first .before .before .before in
     let a = s .args in
-    (s .pre .lawful .few, refl, keys-small (a .t1) (a .earliest .now) (a .latest .now) (length (a .posts .now)) (length (a .atoms .now)) (s .pre) (long s) (c .before .before .before .before .before .before .before .before .before .before .before .before .moments-of .ensures) (c .before .before .before .before .before .before .before .before .before .before .moments-of2 .ensures) (c .before .before .before .before .before .completions .ensures))
+    (s .pre .lawful .few, refl, keys-small (a .t1) (a .earliest .now) (a .latest .now) (length (a .posts .now)) (length (a .atoms .now)) (s .pre) (long s) (first .moments-of .ensures) (second .moments-of2 .ensures) (c .before .before .before .before .before .completions .ensures))
 
 leaf-places-requires : tie.Need-leaf-places-requires
-leaf-places-requires c κs = (c .before .before .before .before .before .before .before .before .before .before .before .before .before .before .before .before .before .before .pre .lawful .few, refl, sorted-permutes (c .before .before .before .before .before .sort-numbers .ensures))
+leaf-places-requires c κs =
+    let few = c .before .before .before .before .before .before .before .before .before .before .before .before .before .before .before .before .before .before .pre .lawful .few in
+    (few, refl, sorted-permutes (c .before .before .before .before .before .sort-numbers .ensures))
 
 fill-requires : tie.Need-fill-requires
 fill-requires c κs = can-fill (c .before .before .before .before .before)
 
 edge-finding-requires : tie.Need-edge-finding-requires
-edge-finding-requires c κs = can-begin (c .before .before .before .before .before .before .before .before .before .before .before .before .before .before .before .before .before .before) _ (c .before .before .before .before .before .before .before .before .before .before .before .before .fill .ensures)
+edge-finding-requires c κs =
+    let full = c .before .before .before .before .before .before .before .before .before .before .before .before in
+    can-begin (full .before .before .before .before .before .before) _ (full .fill .ensures)
 
 returns : tie.Need-returns
 returns c =
-    let u = c .before .before .before .before .before .before .before .before .before .before .before .before .before .before .before .before .before .before .before .before .before .before in
+    let full = c .before .before .before .before .before .before .before .before .before .before .before .before .before .before .before .before in
+    let u = full .before .before .before .before .before .before in
     let s = start u in
     let a = s .args in
     left (a .t1) (a .earliest .now) (a .latest .now) (length (a .posts .now)) (length (a .atoms .now)) (s .pre) (long s) (est u .moments-of .ensures) (lst u .moments-of2 .ensures) (lct u .completions .ensures)
-    (tasks u .sort-numbers .ensures) (candidates u .sort-numbers-down .ensures) refl refl (c .before .before .before .edge-finding .ensures (can-begin u _ (c .before .before .before .before .before .before .before .before .before .before .before .before .before .before .before .before .fill .ensures)))
+    (tasks u .sort-numbers .ensures) (candidates u .sort-numbers-down .ensures) refl refl (c .before .before .before .edge-finding .ensures (can-begin u _ (full .fill .ensures)))
 
 pub run-accepted-spec : {M : Type 1} → statement M
 run-accepted-spec =

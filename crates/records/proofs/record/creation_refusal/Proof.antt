@@ -4,6 +4,7 @@ use mathlib.Core.Bool.{true}
 use mathlib.Core.List.{List, [], _∷_}
 use Prim.Native.Nat.{ℕ, _≤_}
 use lib.Dec.{leb}
+use lib.IntN.{ℤ}
 use lib.ListN.{length, getD}
 use borrow.Author.Tests.{not-true, not-false}
 use borrow.Author.Needs.{needs}
@@ -16,26 +17,31 @@ use Rattle.records.proofs.Creation.{same-lasts, same-sum}
 use Rattle.records.proofs.record.creation_refusal.Statement.{statement}
 use Rattle.records.proofs.record.creation_refusal.Tie as tie
 
+-- the durations given
+abbrev ds : tie.Else1 → List ℤ
+ds c = c .before .before .args .durations .now
+
 -- what each test showed
-counted : (c : tie.Else1) → countFits (length (c .before .before .args .durations .now)) ≡ true
+counted : (c : tie.Else1) → countFits (length (ds c)) ≡ true
 counted c = sym (c .before .count-fits .ensures) ∙ not-false _ (c .if1 .left)
 
-few : (c : tie.Else1) → length (c .before .before .args .durations .now) ≤ TASKS
-few c = count-is (length (c .before .before .args .durations .now)) .0 (counted c) .1
+few : (c : tie.Else1) → length (ds c) ≤ TASKS
+few c = count-is (length (ds c)) .0 (counted c) .1
 
 -- the tests of the record's durations are those of the caller's
-lasts : (c : tie.After-all-last) → c .all-last .result ≡ allBelow (positiveAt (c .before .before .before .before .before .args .durations .now)) (length (c .before .before .before .before .before .args .durations .now))
+lasts : (c : tie.After-all-last) → let l = ds (c .before .before .before) in c .all-last .result ≡ allBelow (positiveAt l) (length l)
 lasts c =
-    let ds = c .before .before .before .before .before .args .durations .now in
-    c .all-last .ensures ∙ ap (λ (l : List ℕ). allBelow (lastsAt l) (length ds)) (c .before .before .durations-of .ensures) ∙ same-lasts ds (few (c .before .before .before))
+    let first = c .before .before .before in
+    c .all-last .ensures ∙ ap (λ (l : List ℕ). allBelow (lastsAt l) (length (ds first))) (c .before .before .durations-of .ensures) ∙ same-lasts (ds first) (few first)
 
-lasting : (c : tie.Else2) → allBelow (positiveAt (c .before .before .before .before .before .before .args .durations .now)) (length (c .before .before .before .before .before .before .args .durations .now)) ≡ true
+lasting : (c : tie.Else2) → let l = ds (c .before .before .before .before) in allBelow (positiveAt l) (length l) ≡ true
 lasting c = sym (lasts (c .before)) ∙ not-false _ (c .if2 .left)
 
-summed : (c : tie.After-sum-fits) → c .sum-fits .result ≡ sumFits (durationAt (c .before .before .before .before .before .before .before .before .args .durations .now)) (length (c .before .before .before .before .before .before .before .before .args .durations .now))
+summed : (c : tie.After-sum-fits) → let l = ds (c .before .before .before .before .before .before) in c .sum-fits .result ≡ sumFits (durationAt l) (length l)
 summed c =
-    let ds = c .before .before .before .before .before .before .before .before .args .durations .now in
-    c .sum-fits .ensures ∙ ap (λ (l : List ℕ). sumFits (λ k. getD l k 0) (length ds)) (c .before .before .before .before .before .durations-of .ensures) ∙ ap (λ (s : ℕ). leb s DURATIONS) (same-sum ds (few (c .before .before .before .before .before .before)))
+    let read = c .before .before .before .before .before in
+    let first = read .before in
+    c .sum-fits .ensures ∙ ap (λ (l : List ℕ). sumFits (λ k. getD l k 0) (length (ds first))) (read .durations-of .ensures) ∙ ap (λ (s : ℕ). leb s DURATIONS) (same-sum (ds first) (few first))
 
 returns : tie.Need-returns
 returns c = sym (refuses [] (test 1 _) _ tt (sym (c .before .count-fits .ensures) ∙ not-true _ (c .if1 .taken)))
@@ -56,7 +62,9 @@ returns-3 : tie.Need-returns-3
 returns-3 c = sym (refuses (test 1 _ ∷ test 2 _ ∷ []) (test 5 _) [] (counted (c .before .before .before .before .before .before .before), (lasting (c .before .before .before), tt)) (sym (summed (c .before)) ∙ not-true _ (c .if3 .taken)))
 
 returns-4 : tie.Need-returns-4
-returns-4 c = sym (accepts (creationTests (c .before .before .before .before .before .before .before .before .before .args .durations .now)) (counted (c .before .before .before .before .before .before .before), (lasting (c .before .before .before), (sym (summed (c .before)) ∙ not-false _ (c .if3 .left), tt))))
+returns-4 c =
+    let first = c .before .before .before .before .before .before .before in
+    sym (accepts (creationTests (ds first)) (counted first, (lasting (c .before .before .before), (sym (summed (c .before)) ∙ not-false _ (c .if3 .left), tt))))
 
 pub creation-refusal-spec : {M : Type 1} → statement M
 creation-refusal-spec =

@@ -1,4 +1,4 @@
--- The invariant: `sum` is that of the first i durations, and each is below 2^32, so 48 of them fit 64 bits.
+-- The invariant: `sum` is that of the first i durations, and each is below 2^32, so TASKS of them fit 64 bits.
 use mathlib.Core.Path.{_≡_, sym, ap, _∙_}
 use Prim.Native.Nat.{ℕ, _+_, _-_, _*_, _≤_}
 use native.Mathlib.Omega.{arith}

@@ -1,36 +1,39 @@
 -- At each return the tests before it are passed and its own is not; two returns share 10, and two share 3.
 use mathlib.Core.Path.{sym, _∙_}
-use mathlib.Core.List.{[], _∷_}
+use mathlib.Core.List.{List, [], _∷_}
 use lib.ListN.{length, take}
 use lib.Dec.{eqb}
 use borrow.Author.Tests.{not-true, not-false, eq-eqb, ne-eqb}
 use borrow.Author.Needs.{needs}
-use Rattle.integers.specs.Tests.{allBelow, test, AllPassed}
+use Rattle.integers.specs.Tests.{Test, allBelow, test, AllPassed}
 use Rattle.integers.proofs.Bools.{and-left, and-right, and-yes}
 use Rattle.integers.proofs.Tests.{refuses, accepts}
-use Rattle.records.specs.declared.record.Propagator.{Propagator}
 use Rattle.records.specs.Records.{recordOf}
 use Rattle.records.specs.Refusals.{startFitsAt, rangeTests}
 use Rattle.records.proofs.refusals.range_refusal.Statement.{statement}
 use Rattle.records.proofs.refusals.range_refusal.Tie as tie
 
--- the record that the call is lent
-abbrev lent : tie.Start → Propagator
-lent c = recordOf (c .args .n) (c .args .durations .now) (c .args .total)
+-- the tests of the ranges against the record that the call is lent
+abbrev tests : tie.Start → List Test
+tests c = rangeTests (recordOf (c .args .n) (c .args .durations .now) (c .args .total)) (c .args .earliest .now) (c .args .latest .now)
+
+-- where the counts are tested, and what is behind it
+abbrev start : tie.Else3 → tie.Start
+start c = c .before .before .before .before
 
 -- the tests that are passed at each place
-first-one : (c : tie.Else1) → AllPassed (take 1 (rangeTests (lent (c .before .before)) (c .before .before .args .earliest .now) (c .before .before .args .latest .now)))
+first-one : (c : tie.Else1) → AllPassed (take 1 (tests (c .before .before)))
 first-one c = (sym (c .before .lawful .ensures) ∙ not-false _ (c .if1 .left), tt)
 
-first-two : (c : tie.Else3) → AllPassed (take 2 (rangeTests (lent (c .before .before .before .before)) (c .before .before .before .before .args .earliest .now) (c .before .before .before .before .args .latest .now)))
+first-two : (c : tie.Else3) → AllPassed (take 2 (tests (start c)))
 first-two c = (first-one (c .before .before) .0, (and-yes _ _ (eq-eqb _ _ (c .before .if2 .left)) (eq-eqb _ _ (c .if3 .left)), tt))
 
-first-three : (c : tie.Else5) → AllPassed (take 3 (rangeTests (lent (c .before .before .before .before .before .before .before .before)) (c .before .before .before .before .before .before .before .before .args .earliest .now) (c .before .before .before .before .before .before .before .before .args .latest .now)))
+first-three : (c : tie.Else5) → AllPassed (take 3 (tests (start (c .before .before .before .before))))
 first-three c =
     let two = first-two (c .before .before .before .before) in
     (two .0, (two .1 .0, (and-yes _ _ (sym (c .before .before .before .starts-fit .ensures) ∙ not-false _ (c .before .before .if4 .left)) (sym (c .before .starts-fit2 .ensures) ∙ not-false _ (c .if5 .left)), tt)))
 
-first-four : (c : tie.Else6) → AllPassed (take 4 (rangeTests (lent (c .before .before .before .before .before .before .before .before .before .before)) (c .before .before .before .before .before .before .before .before .before .before .args .earliest .now) (c .before .before .before .before .before .before .before .before .before .before .args .latest .now)))
+first-four : (c : tie.Else6) → AllPassed (take 4 (tests (start (c .before .before .before .before .before .before))))
 first-four c =
     let three = first-three (c .before .before) in
     (three .0, (three .1 .0, (three .1 .1 .0, (sym (c .before .ranges-fit .ensures) ∙ not-false _ (c .if6 .left), tt))))
@@ -51,16 +54,15 @@ returns-4 c = sym (refuses (test 20 _ ∷ test 10 _ ∷ []) (test 3 _) _ (first-
 
 returns-5 : tie.Need-returns-5
 returns-5 c =
-    let es = c .before .before .before .before .before .before .before .before .args .earliest .now in
-    sym (refuses (test 20 _ ∷ test 10 _ ∷ []) (test 3 _) _ (first-two (c .before .before .before .before)) (and-right (allBelow (startFitsAt es) (length es)) _ (sym (c .before .starts-fit2 .ensures) ∙ not-true _ (c .if5 .taken))))
+    let counted = c .before .before .before .before in
+    let es = start counted .args .earliest .now in
+    sym (refuses (test 20 _ ∷ test 10 _ ∷ []) (test 3 _) _ (first-two counted) (and-right (allBelow (startFitsAt es) (length es)) _ (sym (c .before .starts-fit2 .ensures) ∙ not-true _ (c .if5 .taken))))
 
 returns-6 : tie.Need-returns-6
 returns-6 c = sym (refuses (test 20 _ ∷ test 10 _ ∷ test 3 _ ∷ []) (test 4 _) _ (first-three (c .before .before)) (sym (c .before .ranges-fit .ensures) ∙ not-true _ (c .if6 .taken)))
 
 returns-7 : tie.Need-returns-7
-returns-7 c =
-    let start = c .before .before .before .before .before .before .before .before .before .before in let args = start .args in
-    sym (accepts (rangeTests (lent start) (args .earliest .now) (args .latest .now)) (first-four c))
+returns-7 c = sym (accepts (tests (start (c .before .before .before .before .before .before))) (first-four c))
 
 pub range-refusal-spec : {M : Type 1} → statement M
 range-refusal-spec =

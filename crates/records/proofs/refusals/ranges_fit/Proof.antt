@@ -24,10 +24,11 @@ abbrev μ-loop : tie.MeasureT-loop
 μ-loop earliest latest i₀ i = length earliest - i
 
 -- what the call says of the two elements
-seen : (c : tie.After-at-most Inv-loop μ-loop) → c .at-most .result ≡ rangeFitsAt (c .before .before .before .before .before .args .earliest .now) (c .before .before .before .before .before .args .latest .now) (c .before .before .before .before .loop .i)
+seen : (c : tie.After-at-most Inv-loop μ-loop) → let head = c .before .before .before .before in let args = head .before .args in c .at-most .result ≡ rangeFitsAt (args .earliest .now) (args .latest .now) (head .loop .i)
 seen c =
-    let args = c .before .before .before .before .before .args in
-    let i = c .before .before .before .before .loop .i in
+    let head = c .before .before .before .before in
+    let args = head .before .args in
+    let i = head .loop .i in
     let e = getD (args .earliest .now) i (pos 0) in
     let l = getD (args .latest .now) i (pos 0) in
     c .at-most .ensures ∙ ap (λ (z : ℤ). leZ z (toZ w32 (ofZ w32 l))) (back-of w32 e (c .before .before .at-most-arg .given)) ∙ ap (leZ e) (back-of w32 l (c .before .at-most-arg2 .given))
@@ -39,7 +40,7 @@ returns : tie.Need-returns Inv-loop μ-loop
 returns c = sym (all-broken _ _ (c .before .before .before .before .before .loop .i) (omega arith) (sym (seen (c .before)) ∙ not-true _ (c .if1 .taken)))
 
 loop-again : tie.Need-loop-again Inv-loop μ-loop
-loop-again c = (omega arith, all-more _ _ (c .before .before .before .before .before .loop .inv .1) (sym (seen (c .before)) ∙ not-false _ (c .if1 .left)))
+loop-again c = let l = c .before .before .before .before .before .loop in (omega arith, all-more _ _ (l .inv .1) (sym (seen (c .before)) ∙ not-false _ (c .if1 .left)))
 
 returns-2 : tie.Need-returns-2 Inv-loop μ-loop
 returns-2 c =

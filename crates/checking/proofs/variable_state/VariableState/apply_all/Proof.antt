@@ -4,6 +4,7 @@ use mathlib.Core.Bool.{true}
 use mathlib.Core.List.{List, _∷_}
 use Prim.Native.Nat.{_+_, _-_, _≤_, _<_}
 use native.Mathlib.Omega.{arith}
+use lib.IntN.{ℤ}
 use lib.ListN.{length}
 use mir.Syntax.{w32}
 use Rattle.integers.specs.Limits.{VARIABLES, VALUE}
@@ -38,12 +39,16 @@ loop-holds c =
     let cs = c .before .args .consequent .now in
     (omega arith, (right-start ps cs ∙ c .before .pre .1, (subst Accepted (sym (c .empty .ensures .0)) empty-accepted, ap₂ applyAll (given-start ps cs) (c .empty .ensures .0))))
 
+-- the lists given, at a turn
+abbrev ps : tie.In-loop Inv-loop μ-loop → List ℤ
+ps c = c .before .before .before .args .premises .now
+
+abbrev cs : tie.In-loop Inv-loop μ-loop → List ℤ
+cs c = c .before .before .before .args .consequent .now
+
 -- the atom to be read
-here : (c : tie.In-loop Inv-loop μ-loop) → Next (c .before .before .before .args .premises .now) (c .before .before .before .args .consequent .now) (c .before .loop .i) (givenAt (c .before .before .before .args .premises .now) (c .before .before .before .args .consequent .now) (c .before .loop .i))
-here c =
-    let l = c .before .loop in
-    let s = c .before .before .before in
-    next (s .args .premises .now) (s .args .consequent .now) (l .i) (omega arith) (l .inv .1 .0)
+here : (c : tie.In-loop Inv-loop μ-loop) → Next (ps c) (cs c) (c .before .loop .i) (givenAt (ps c) (cs c) (c .before .loop .i))
+here c = let l = c .before .loop in next (ps c) (cs c) (l .i) (omega arith) (l .inv .1 .0)
 
 given-at-requires : tie.Need-given-at-requires Inv-loop μ-loop
 given-at-requires c κs = (omega arith, c .before .loop .inv .1 .0)
@@ -63,66 +68,71 @@ element-copy-out-domain c = known (c .before)
 
 apply-requires : tie.Need-apply-requires Inv-loop μ-loop
 apply-requires c κs =
-    let a = c .before .before .given-at .result in
-    (c .before .before .before .before .loop .inv .1 .1 .0 .each (a .identifier) (known (c .before .before)) .tight, subst (Within (VALUE + 1)) (sym (back-of w32 (a .value) (c .before .struct-told .given .1 .1 .0 .1))) (value (c .before .before)))
+    let read = c .before .before in
+    let a = read .given-at .result in
+    let small = c .before .struct-told .given .1 .1 .0 .1 in
+    let accepted = read .before .before .loop .inv .1 .1 .0 in
+    (accepted .each (a .identifier) (known read) .tight, subst (Within (VALUE + 1)) (sym (back-of w32 (a .value) small)) (value read))
+
+-- where the atom was read that is applied
+abbrev read-at : tie.After-apply Inv-loop μ-loop → tie.After-given-at Inv-loop μ-loop
+read-at c = c .before .before .before
+
+abbrev loop-at : tie.After-apply Inv-loop μ-loop → tie.At-loop Inv-loop μ-loop
+loop-at c = read-at c .before .before
+
+-- what is given after it
+abbrev rest : tie.After-apply Inv-loop μ-loop → List Atom
+rest c = givenFrom (ps (read-at c .before)) (cs (read-at c .before)) (loop-at c .loop .i + 3)
 
 -- what the call says, of the atom's own value
-said : (c : tie.After-apply Inv-loop μ-loop) → c .apply .result ≡ reduced (domainAt (c .before .before .before .before .before .loop .state) (c .before .before .before .given-at .result .identifier)) (kindOf (c .before .before .before .given-at .result .comparison)) (c .before .before .before .given-at .result .value)
+said : (c : tie.After-apply Inv-loop μ-loop) → let a = read-at c .given-at .result in c .apply .result ≡ reduced (domainAt (loop-at c .loop .state) (a .identifier)) (kindOf (a .comparison)) (a .value)
 said c =
-    let a = c .before .before .before .given-at .result in
-    c .apply .ensures ∙ ap (reduced (domainAt (c .before .before .before .before .before .loop .state) (a .identifier)) (kindOf (a .comparison))) (back-of w32 (a .value) (c .before .before .struct-told .given .1 .1 .0 .1))
+    let a = read-at c .given-at .result in
+    let small = c .before .before .struct-told .given .1 .1 .0 .1 in
+    c .apply .ensures ∙ ap (reduced (domainAt (loop-at c .loop .state) (a .identifier)) (kindOf (a .comparison))) (back-of w32 (a .value) small)
 
 -- the whole, with this atom still to be applied
-still : (c : tie.After-apply Inv-loop μ-loop) → applyAll (given (atomsOf (c .before .before .before .before .before .before .before .args .premises .now)) (consequentOf (c .before .before .before .before .before .before .before .args .consequent .now))) emptyState
-    ≡ applyAll (atomOf (c .before .before .before .given-at .result) ∷ givenFrom (c .before .before .before .before .before .before .before .args .premises .now) (c .before .before .before .before .before .before .before .args .consequent .now) (c .before .before .before .before .before .loop .i + 3)) (c .before .before .before .before .before .loop .state)
+still : (c : tie.After-apply Inv-loop μ-loop) → let turn = read-at c .before in applyAll (given (atomsOf (ps turn)) (consequentOf (cs turn))) emptyState ≡ applyAll (atomOf (read-at c .given-at .result) ∷ rest c) (loop-at c .loop .state)
 still c =
-    let l = c .before .before .before .before .before .loop in
-    let s = c .before .before .before .before .before .before .before in
-    sym (l .inv .1 .1 .1) ∙ ap (λ (m : List Atom). applyAll m (l .state)) (here (c .before .before .before .before) .atoms ∙ ap (λ (a : Atom). a ∷ givenFrom (s .args .premises .now) (s .args .consequent .now) (l .i + 3)) (sym (c .before .before .before .given-at .ensures)))
+    let l = loop-at c .loop in
+    sym (l .inv .1 .1 .1) ∙ ap (λ (m : List Atom). applyAll m (l .state)) (here (read-at c .before) .atoms ∙ ap (λ (a : Atom). a ∷ rest c) (sym (read-at c .given-at .ensures)))
 
 mul-narrowed : tie.Need-mul-narrowed Inv-loop μ-loop
-mul-narrowed c = omega (arith, known (c .before .before .before .before .before .before))
+mul-narrowed c = omega (arith, known (read-at (c .before .before .before)))
 
 element-set-from-narrowed : tie.Need-element-set-from-narrowed Inv-loop μ-loop
-element-set-from-narrowed c = known (c .before .before .before .before .before .before)
+element-set-from-narrowed c = known (read-at (c .before .before .before))
 
 returns : tie.Need-returns Inv-loop μ-loop
 returns c =
-    let a = atomOf (c .before .before .before .before .before .given-at .result) in
-    let l = c .before .before .before .before .before .before .before .loop in
-    let r = c .before .before .apply .result in
-    let rest = givenFrom (c .before .before .before .before .before .before .before .before .before .args .premises .now) (c .before .before .before .before .before .before .before .before .before .args .consequent .now) (l .i + 3) in
-    sym (still (c .before .before) ∙ all-contradiction (l .state) a rest (a .variable) (l .state) (stepped-is (l .state) a r (said (c .before .before)) ∙ when-emptied (l .state) a r (c .enum-told2 .given .1)))
+    let applied = c .before .before in
+    let a = atomOf (read-at applied .given-at .result) in
+    let s = loop-at applied .loop .state in
+    let r = applied .apply .result in
+    sym (still applied ∙ all-contradiction s a (rest applied) (a .variable) s (stepped-is s a r (said applied) ∙ when-emptied s a r (c .enum-told2 .given .1)))
 
 returns-2 : tie.Need-returns-2 Inv-loop μ-loop
 returns-2 c =
-    let a = atomOf (c .before .before .before .before .before .before .given-at .result) in
-    let l = c .before .before .before .before .before .before .before .before .loop in
-    let r = c .before .before .before .apply .result in
-    let rest = givenFrom (c .before .before .before .before .before .before .before .before .before .before .args .premises .now) (c .before .before .before .before .before .before .before .before .before .before .args .consequent .now) (l .i + 3) in
-    (λ i. record { answer = Refused 21; state = c .empty2 .ensures .0 i })
-    ∙ sym (still (c .before .before .before) ∙ all-refused (l .state) a rest 21 (l .state) (stepped-is (l .state) a r (said (c .before .before .before)) ∙ when-full (l .state) a r (c .before .enum-told3 .given .1)))
+    let applied = c .before .before .before in
+    let a = atomOf (read-at applied .given-at .result) in
+    let s = loop-at applied .loop .state in
+    let r = applied .apply .result in
+    (λ i. record { answer = Refused 21; state = c .empty2 .ensures .0 i }) ∙ sym (still applied ∙ all-refused s a (rest applied) 21 s (stepped-is s a r (said applied) ∙ when-full s a r (c .before .enum-told3 .given .1)))
 
 loop-again : tie.Need-loop-again Inv-loop μ-loop
 loop-again c =
-    let a = atomOf (c .before .before .before .before .before .before .given-at .result) in
-    let l = c .before .before .before .before .before .before .before .before .loop in
-    let r = c .before .before .before .apply .result in
-    let s = c .before .before .before .before .before .before .before .before .before .before in
-    let d = domainAt (l .state) (a .variable) in
+    let applied = c .before .before .before in
+    let a = atomOf (read-at applied .given-at .result) in
+    let s = loop-at applied .loop .state in
+    let r = applied .apply .result in
     let e = c .before .enum-told .given .1 in
-    let acc = l .inv .1 .1 .0 in
-    let proper : Proper (r .domain) = subst (λ (q : Reduced). q .effect ≡ Narrowed → Proper (q .domain)) (sym (said (c .before .before .before))) (reduced-proper d (a .kind) (a .value) (acc .each (a .variable) (known (c .before .before .before .before .before .before)) .tight)) e in
-    let after = put (l .state) (a .variable) (r .domain) in (
-      here (c .before .before .before .before .before .before .before) .within,
-      (
-        here (c .before .before .before .before .before .before .before) .right,
-        (
-          put-accepted (l .state) (a .variable) (r .domain) acc (known (c .before .before .before .before .before .before)) proper,
-          sym (all-consistent (l .state) a (givenFrom (s .args .premises .now) (s .args .consequent .now) (l .i + 3)) after (stepped-is (l .state) a r (said (c .before .before .before)) ∙ when-narrowed (l .state) a r e)) ∙ sym (still (c .before .before .before)),
-        ),
-      ),
-    )
+    let turn = here (read-at applied .before) in
+    let acc = loop-at applied .loop .inv .1 .1 .0 in
+    let in-range = known (read-at applied) in
+    let proper : Proper (r .domain) = subst (λ (q : Reduced). q .effect ≡ Narrowed → Proper (q .domain)) (sym (said applied)) (reduced-proper (domainAt s (a .variable)) (a .kind) (a .value) (acc .each (a .variable) in-range .tight)) e in
+    let after = sym (all-consistent s a (rest applied) (put s (a .variable) (r .domain)) (stepped-is s a r (said applied) ∙ when-narrowed s a r e)) ∙ sym (still applied) in
+    (turn .within, (turn .right, (put-accepted s (a .variable) (r .domain) acc in-range proper, after)))
 
 returns-3 : tie.Need-returns-3 Inv-loop μ-loop
 returns-3 c =

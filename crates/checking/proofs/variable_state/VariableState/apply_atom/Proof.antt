@@ -19,10 +19,11 @@ apply-requires c κs =
     (s .pre .0 .each (s .args .atom .identifier) (s .pre .1 .0) .tight, subst (Within (VALUE + 1)) (sym (back-of w32 (s .args .atom .value) (c .before .struct-told .given .1 .1 .0 .1))) (s .pre .1 .1))
 
 -- what the call says, of the atom's own value
-said : (c : tie.After-apply) → c .apply .result ≡ reduced (domainAt (c .before .before .before .args .t1) (c .before .before .before .args .atom .identifier)) (kindOf (c .before .before .before .args .atom .comparison)) (c .before .before .before .args .atom .value)
+said : (c : tie.After-apply) → let a = c .before .before .before .args in c .apply .result ≡ reduced (domainAt (a .t1) (a .atom .identifier)) (kindOf (a .atom .comparison)) (a .atom .value)
 said c =
-    let s = c .before .before .before in
-    c .apply .ensures ∙ ap (reduced (domainAt (s .args .t1) (s .args .atom .identifier)) (kindOf (s .args .atom .comparison))) (back-of w32 (s .args .atom .value) (c .before .before .struct-told .given .1 .1 .0 .1))
+    let a = c .before .before .before .args in
+    let small = c .before .before .struct-told .given .1 .1 .0 .1 in
+    c .apply .ensures ∙ ap (reduced (domainAt (a .t1) (a .atom .identifier)) (kindOf (a .atom .comparison))) (back-of w32 (a .atom .value) small)
 
 returns : tie.Need-returns
 returns c =

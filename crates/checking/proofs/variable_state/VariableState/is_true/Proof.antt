@@ -1,16 +1,14 @@
 -- The two tests in their order; then the domain of the atom's variable decides, and `truth-promise` says what its answer means.
-use mathlib.Core.Path.{_≡_, sym, ap, _∙_}
-use mathlib.Core.Bool.{true, false}
+use mathlib.Core.Path.{_≡_, sym, _∙_}
+use mathlib.Core.Bool.{true}
 use Prim.Native.Nat.{_<_}
 use native.Mathlib.Omega.{arith}
 use borrow.Author.Tests.{not-true, not-false}
 use lib.IntN.{natAbs}
 use Rattle.integers.specs.Limits.{VARIABLES}
-use Rattle.integers.proofs.Bools.{clash}
 use Rattle.integers.proofs.Ints.{back}
-use Rattle.scheduling.specs.Scheduling.{Atom}
 use Rattle.atoms.specs.Atoms.{atomOf, atomFrom, rightAtom}
-use Rattle.atoms.proofs.Atoms.{right-atom}
+use Rattle.atoms.proofs.Read.{read-right, read-atom, made-known}
 use Rattle.domains.specs.Domains.{isTrue}
 use Rattle.checking.specs.States.{Accepted, domainAt, accepted, truthOf}
 use Rattle.checking.proofs.Promises.{truth-promise}
@@ -18,45 +16,36 @@ use borrow.Author.Needs.{needs}
 use Rattle.checking.proofs.variable_state.VariableState.is_true.Statement.{statement}
 use Rattle.checking.proofs.variable_state.VariableState.is_true.Tie as tie
 
--- what the tests that were passed say
+-- what the tests say: the state, and the words
+proper : (c : tie.After-is-accepted) → accepted (c .before .args .t1 .domains) ≡ true → Accepted (c .before .args .t1)
+proper c y = c .is-accepted .ensures .1 (c .is-accepted .ensures .0 ∙ y)
+
 state-right : (c : tie.Else1) → accepted (c .before .before .args .t1 .domains) ≡ true
-state-right c = sym (c .before .is-accepted .ensures .0) ∙ not-false (c .before .is-accepted .result) (c .if1 .left)
+state-right c = sym (c .before .is-accepted .ensures .0) ∙ not-false _ (c .if1 .left)
 
-state-accepted : (c : tie.Else1) → Accepted (c .before .before .args .t1)
-state-accepted c = c .before .is-accepted .ensures .1 (not-false (c .before .is-accepted .result) (c .if1 .left))
+tested : (c : tie.After-atom-is-accepted) → let a = c .before .before .before .args in rightAtom (a .variable) (a .kind) (a .value) ≡ c .atom-is-accepted .result
+tested c = let f = c .before .before .before .fits in sym (c .atom-is-accepted .ensures ∙ read-right (f .variable) (f .kind) (f .value))
 
-atom-right : (c : tie.Else2) → rightAtom (c .before .before .before .before .args .variable) (c .before .before .before .before .args .kind) (c .before .before .before .before .args .value) ≡ true
-atom-right c =
-    let s = c .before .before .before .before in
-    sym (λ i. rightAtom (back (s .fits .variable) i) (back (s .fits .kind) i) (back (s .fits .value) i)) ∙ sym (c .before .atom-is-accepted .ensures) ∙ not-false (c .before .atom-is-accepted .result) (c .if2 .left)
+atom-right : (c : tie.Else2) → let a = c .before .before .before .before .args in rightAtom (a .variable) (a .kind) (a .value) ≡ true
+atom-right c = tested (c .before) ∙ not-false _ (c .if2 .left)
 
 -- the atom that was made
-made : (c : tie.After-new) → atomOf (c .new .result) ≡ atomFrom (c .before .before .before .before .before .args .variable) (c .before .before .before .before .before .args .kind) (c .before .before .before .before .before .args .value)
-made c =
-    let s = c .before .before .before .before .before in
-    c .new .ensures ∙ (λ i. atomFrom (back (s .fits .variable) i) (back (s .fits .kind) i) (back (s .fits .value) i))
+made : (c : tie.After-new) → let a = c .before .before .before .before .before .args in atomOf (c .new .result) ≡ atomFrom (a .variable) (a .kind) (a .value)
+made c = let f = c .before .before .before .before .before .fits in c .new .ensures ∙ read-atom (f .variable) (f .kind) (f .value)
 
 known : (c : tie.After-new) → c .new .result .identifier < VARIABLES
-known c = let r = right-atom _ _ _ (atom-right (c .before)) .known in omega (arith, ap (λ (a : Atom). a .variable) (made c))
+known c = made-known _ _ _ (c .new .result) (made c) (atom-right (c .before))
 
 returns : tie.Need-returns
 unfolding truthOf
-returns c =
-    let s = c .before .before in
-    let t : accepted (s .args .t1 .domains) ≡ false = sym (c .before .is-accepted .ensures .0) ∙ not-true (c .before .is-accepted .result) (c .if1 .taken) in
-    truth-promise (s .args .t1) (s .args .variable) (s .args .kind) (s .args .value) (λ y. clash y t) _ (rw t)
+returns c = let a = c .before .before .args in truth-promise (a .t1) (a .variable) (a .kind) (a .value) (proper (c .before)) _ (rw (sym (c .before .is-accepted .ensures .0) ∙ not-true _ (c .if1 .taken)))
 
 returns-2 : tie.Need-returns-2
 unfolding truthOf
-returns-2 c =
-    let s = c .before .before .before .before in
-    let u : rightAtom (s .args .variable) (s .args .kind) (s .args .value) ≡ false = sym (λ i. rightAtom (back (s .fits .variable) i) (back (s .fits .kind) i) (back (s .fits .value) i)) ∙ sym (c .before .atom-is-accepted .ensures) ∙ not-true (c .before .atom-is-accepted .result) (c .if2 .taken) in
-    truth-promise (s .args .t1) (s .args .variable) (s .args .kind) (s .args .value) (λ _. state-accepted (c .before .before)) _ (rw (state-right (c .before .before), u))
+returns-2 c = let a = c .before .before .before .before .args in truth-promise (a .t1) (a .variable) (a .kind) (a .value) (proper (c .before .before .before)) _ (rw (state-right (c .before .before), tested (c .before) ∙ not-true _ (c .if2 .taken)))
 
 new-requires : tie.Need-new-requires
-new-requires c κs =
-    let s = c .before .before .before .before in
-    (λ i. rightAtom (back (s .fits .variable) i) (back (s .fits .kind) i) (back (s .fits .value) i)) ∙ atom-right c
+new-requires c κs = sym (c .before .atom-is-accepted .ensures) ∙ not-false _ (c .if2 .left)
 
 mul-domain : tie.Need-mul-domain
 mul-domain c = omega (arith, known c)
@@ -65,10 +54,12 @@ element-copy-out-domain : tie.Need-element-copy-out-domain
 element-copy-out-domain c = known c
 
 is-true-requires : tie.Need-is-true-requires
-is-true-requires c κs = state-accepted (c .before .before .before .before) .each (c .before .new .result .identifier) (known (c .before)) .tight
+is-true-requires c κs =
+    let right = c .before .before .before .before in
+    proper (right .before) (state-right right) .each (c .before .new .result .identifier) (known (c .before)) .tight
 
 -- what the domain's own test says, of the atom's words
-said : (c : tie.After-is-true) → c .is-true .result ≡ isTrue (domainAt (c .before .before .before .before .before .before .before .args .t1) (natAbs (c .before .before .before .before .before .before .before .args .variable))) (natAbs (c .before .before .before .before .before .before .before .args .kind)) (c .before .before .before .before .before .before .before .args .value)
+said : (c : tie.After-is-true) → let new = c .before .before in let a = new .before .before .before .before .before .args in c .is-true .result ≡ isTrue (domainAt (a .t1) (natAbs (a .variable))) (natAbs (a .kind)) (a .value)
 said c =
     let s = c .before .before .before .before .before .before .before in
     let m = made (c .before .before) in
@@ -77,16 +68,16 @@ said c =
 returns-3 : tie.Need-returns-3
 unfolding truthOf
 returns-3 c =
-    let s = c .before .before .before .before .before .before .before .before in
-    let t : isTrue (domainAt (s .args .t1) (natAbs (s .args .variable))) (natAbs (s .args .kind)) (s .args .value) ≡ true = sym (said (c .before)) ∙ c .if3 .taken in
-    truth-promise (s .args .t1) (s .args .variable) (s .args .kind) (s .args .value) (λ _. state-accepted (c .before .before .before .before .before .before)) _ (rw (state-right (c .before .before .before .before .before .before), atom-right (c .before .before .before .before), t))
+    let right = c .before .before .before .before .before .before in
+    let a = right .before .before .args in
+    truth-promise (a .t1) (a .variable) (a .kind) (a .value) (proper (right .before)) _ (rw (state-right right, atom-right (c .before .before .before .before), sym (said (c .before)) ∙ c .if3 .taken))
 
 returns-4 : tie.Need-returns-4
 unfolding truthOf
 returns-4 c =
-    let s = c .before .before .before .before .before .before .before .before in
-    let t : isTrue (domainAt (s .args .t1) (natAbs (s .args .variable))) (natAbs (s .args .kind)) (s .args .value) ≡ false = sym (said (c .before)) ∙ c .if3 .left in
-    truth-promise (s .args .t1) (s .args .variable) (s .args .kind) (s .args .value) (λ _. state-accepted (c .before .before .before .before .before .before)) _ (rw (state-right (c .before .before .before .before .before .before), atom-right (c .before .before .before .before), t))
+    let right = c .before .before .before .before .before .before in
+    let a = right .before .before .args in
+    truth-promise (a .t1) (a .variable) (a .kind) (a .value) (proper (right .before)) _ (rw (state-right right, atom-right (c .before .before .before .before), sym (said (c .before)) ∙ c .if3 .left))
 
 pub is-true-spec : {M : Type 1} → statement M
 is-true-spec =

@@ -84,12 +84,13 @@ returns-4 c =
 returns-5 : tie.Need-returns-5
 unfolding reduced without
 returns-5 c =
-    let s = c .before .before .before .before .before .before .before .before in
+    let tested = c .before .before .before .before .before in
+    let s = tested .before .before .before in
     let d : Domain = s .args .self in
     let z : ℤ = toZ w32 (ofZ w32 (s .args .value)) in
-    let n : crowded d (s .args .value) ≡ false = ap (crowded d) (sym (back (s .fits .value))) ∙ sym (c .before .before .before .before .before .is-crowded .ensures) ∙ c .before .before .before .before .if1 .left in
+    let n : crowded d (s .args .value) ≡ false = ap (crowded d) (sym (back (s .fits .value))) ∙ sym (tested .is-crowded .ensures) ∙ c .before .before .before .before .if1 .left in
     let e = c .before .with-hole .ensures ∙ ap (λ (x : Domain). withHole x z) (c .before .before .without-upper .ensures ∙ ap (λ (x : Domain). withoutUpper x z) (c .before .before .before .without-lower .ensures)) ∙ ap (without d) (back (s .fits .value)) in
-    rw (c .before .before .before .before .before .before .enum-told4 .given .1, n) (c .settled4 .ensures ∙ ap settled e)
+    rw (tested .before .enum-told4 .given .1, n) (c .settled4 .ensures ∙ ap settled e)
 
 pub apply-spec : {M : Type 1} → statement M
 apply-spec =

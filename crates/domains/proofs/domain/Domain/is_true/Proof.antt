@@ -48,10 +48,11 @@ returns-6 c =
 
 returns-7 : tie.Need-returns-7
 returns-7 c =
-    let s = c .before .before .before .before .before .before .before .before in
-    let t : leExt (s .args .self .«lower_bound») (Int (s .args .value)) ≡ true = ap (λ (z : ℤ). leExt (s .args .self .«lower_bound») (Int z)) (sym (back (s .fits .value))) ∙ sym (c .before .before .before .before .le5 .ensures) ∙ not-false (c .before .before .before .before .le5 .result) (c .before .before .before .if2 .left) in
+    let lower = c .before .before .before .before in
+    let s = lower .before .before .before .before in
+    let t : leExt (s .args .self .«lower_bound») (Int (s .args .value)) ≡ true = ap (λ (z : ℤ). leExt (s .args .self .«lower_bound») (Int z)) (sym (back (s .fits .value))) ∙ sym (lower .le5 .ensures) ∙ not-false (lower .le5 .result) (c .before .before .before .if2 .left) in
     let u : leExt (Int (s .args .value)) (s .args .self .«upper_bound») ≡ true = ap (λ (z : ℤ). leExt (Int z) (s .args .self .«upper_bound»)) (sym (back (s .fits .value))) ∙ sym (c .before .before .le6 .ensures) ∙ not-false (c .before .before .le6 .result) (c .before .if3 .left) in
-    rw (c .before .before .before .before .before .enum-told4 .given .1, t, u) (c .contains .ensures ∙ ap (has (holesOf (s .args .self))) (back (s .fits .value)))
+    rw (lower .before .enum-told4 .given .1, t, u) (c .contains .ensures ∙ ap (has (holesOf (s .args .self))) (back (s .fits .value)))
 
 pub is-true-spec : {M : Type 1} → statement M
 is-true-spec =

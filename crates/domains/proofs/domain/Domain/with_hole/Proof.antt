@@ -37,7 +37,7 @@ returns-2 c =
     let s = c .before .before .before .before .before in
     rw (inside-yes (c .before .before .before)) (sym (put-again (s .args .self) (s .pre .0) (s .args .value) (hole (c .before) ∙ c .if2 .taken)))
 
-room : (c : tie.Else2) → c .before .before .before .before .before .args .self .count < HOLES
+room : (c : tie.Else2) → let s = c .before .before .before .before .before in s .args .self .count < HOLES
 unfolding crowded
 room c =
     let s = c .before .before .before .before .before in

@@ -1,47 +1,28 @@
 -- The value one lower is still near the limits, as `tighten_upper_bound` asks.
-use mathlib.Core.Path.{_≡_, sym, ap, _∙_, subst}
-use mathlib.Core.Bool.{true, false}
-use Prim.Native.Nat.{_+_}
-use native.Mathlib.Omega.{arith}
-use lib.IntN.{ℤ, negsuc}
-use Rattle.integers.specs.Limits.{VALUE}
-use Rattle.integers.proofs.Ints.{back}
-use Rattle.holes.specs.Holes.{Within}
-use Rattle.holes.proofs.Steps.{step-fits, step-back, one-down, wider, step-within}
-use Rattle.domains.specs.declared.int_ext.IntExt.the-variants.{Int}
-use Rattle.domains.specs.declared.domain.Domain.{Domain}
-use Rattle.domains.specs.Domains.{eqExt, tightenedUpper, withoutUpper}
+use mathlib.Core.Path.{ap, _∙_}
+use lib.IntN.{negsuc}
+use Rattle.holes.proofs.Steps.{one-down}
+use Rattle.domains.specs.Domains.{tightenedUpper, withoutUpper}
+use Rattle.domains.proofs.Stepping.{beside-fits, beside-is, beside-near, at-value}
 use borrow.Author.Needs.{needs}
 use Rattle.domains.proofs.domain.Domain.without_upper.Statement.{statement}
 use Rattle.domains.proofs.domain.Domain.without_upper.Tie as tie
 
 sub-tighten-upper-bound : tie.Need-sub-tighten-upper-bound
-sub-tighten-upper-bound c =
-    let s = c .before .before in
-    step-fits (s .args .value) (negsuc 0) (s .fits .value) (wider (VALUE + 1) (VALUE + 32) (s .args .value) (omega arith) (s .pre .1)) one-down
+sub-tighten-upper-bound c = let s = c .before .before in beside-fits (s .args .value) (negsuc 0) (s .fits .value) (s .pre .1) one-down
 
 tighten-upper-bound-requires : tie.Need-tighten-upper-bound-requires
-tighten-upper-bound-requires c κs =
-    let s = c .before .before in
-    let near = wider (VALUE + 1) (VALUE + 32) (s .args .value) (omega arith) (s .pre .1) in
-    (s .pre .0, subst (Within (VALUE + 2)) (sym (step-back (s .args .value) (negsuc 0) (s .fits .value) near one-down)) (step-within (VALUE + 1) (s .args .value) (negsuc 0) (s .pre .1) one-down))
+tighten-upper-bound-requires c κs = let s = c .before .before in (s .pre .0, beside-near (s .args .value) (negsuc 0) (s .fits .value) (s .pre .1) one-down)
 
 returns : tie.Need-returns
 unfolding withoutUpper
 returns c =
     let s = c .before .before .before in
-    let d : Domain = s .args .self in
-    let t : eqExt (d .«upper_bound») (Int (s .args .value)) ≡ true = ap (λ (z : ℤ). eqExt (d .«upper_bound») (Int z)) (sym (back (s .fits .value))) ∙ sym (c .before .before .eq .ensures) ∙ c .before .if1 .taken in
-    let near = wider (VALUE + 1) (VALUE + 32) (s .args .value) (omega arith) (s .pre .1) in
-    rw t (c .tighten-upper-bound .ensures ∙ ap (tightenedUpper d) (step-back (s .args .value) (negsuc 0) (s .fits .value) near one-down))
+    rw (at-value (s .args .self .«upper_bound») (s .fits .value) (c .before .before .eq .ensures) (c .before .if1 .taken)) (c .tighten-upper-bound .ensures ∙ ap (tightenedUpper (s .args .self)) (beside-is (s .args .value) (negsuc 0) (s .fits .value) (s .pre .1) one-down))
 
 returns-2 : tie.Need-returns-2
 unfolding withoutUpper
-returns-2 c =
-    let s = c .before .before in
-    let d : Domain = s .args .self in
-    let t : eqExt (d .«upper_bound») (Int (s .args .value)) ≡ false = ap (λ (z : ℤ). eqExt (d .«upper_bound») (Int z)) (sym (back (s .fits .value))) ∙ sym (c .before .eq .ensures) ∙ c .if1 .left in
-    rw t
+returns-2 c = let s = c .before .before in rw (at-value (s .args .self .«upper_bound») (s .fits .value) (c .before .eq .ensures) (c .if1 .left))
 
 pub without-upper-spec : {M : Type 1} → statement M
 without-upper-spec =
