@@ -73,7 +73,7 @@ pub asks : (n : ℕ) → 1 ≤ n → n ≤ TASKS → askedIn (some (pos n ∷ []
 unfolding askedIn
 asks n a b = rw (and-yes (leb 1 n) (leb n TASKS) (le-leb 1 n a) (le-leb n TASKS b), askedIn)
 
--- An input that is one number from 1 to 48 is answered by the costliest tasks of that count.
+-- An input that is one number from 1 to TASKS is answered by the costliest tasks of that count.
 pub written-instance : (text : List ℕ) (n : ℕ) → numbersOf text ≡ some (pos n ∷ []) → 1 ≤ n → n ≤ TASKS → written text ≡ instanceLines (costliest n)
 unfolding written
 written-instance text n e a b = ap answerLines (ap askedIn e ∙ asks n a b)

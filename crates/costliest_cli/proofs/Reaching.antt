@@ -9,7 +9,7 @@ use native.Mathlib.Omega.{arith}
 use lib.IntN.{ℤ, pos}
 use lib.ListN.{length, getD, take, replicate, length-replicate, getD-replicate}
 use lib.Seq.{ext-getD, getD-take, length-take-le}
-use Rattle.integers.specs.Limits.{TASKS, START}
+use Rattle.integers.specs.Limits.{TASKS, START, ATOMS}
 use Rattle.integers.specs.Tests.{refusal}
 use Rattle.integers.specs.Filling.{filled}
 use Rattle.integers.proofs.Filling.{filled-at, filled-length}
@@ -27,7 +27,6 @@ use Rattle.records.proofs.Creation.{created-lawful, natural-count, natural-dura
 use Rattle.records.proofs.Refused.{accepted-run}
 use Rattle.propagator.specs.Ran.{traceOf}
 use Rattle.text.specs.Numbers.{numbersOf}
-use Rattle.plan_cli.specs.RunSlices.{ATOMS}
 use Rattle.plan_cli.specs.Lines.{lines, doneLine, runLines, answerLines}
 use Rattle.plan_cli.specs.Printed.{Triple, numbered, ranOn, planned, plannedOf, answered, printed}
 use Rattle.plan_cli.proofs.PrintedNumbers.{words}

@@ -8,7 +8,7 @@ use Rattle.costliest_cli.specs.declared.size.Asked.the-variants as asked
 use Rattle.costliest_cli.specs.Asked.{askedIn}
 use Rattle.costliest_cli.specs.Tasks.{instanceLines, costliest}
 
--- bytes for the line of a count, and 48 lines of at most 63
+-- bytes for the line of a count, and TASKS lines of at most 63
 abbrev pub ROOM : ℕ
 ROOM = 4096
 

@@ -1,4 +1,4 @@
-// The size that the input asks for: its one number, from 1 to 48.
+// The size that the input asks for: its one number, from 1 to TASKS.
 use integers::limits::TASKS;
 use text::reading::Numbers;
 ghost use mathlib.Core.List.{List};

@@ -2,34 +2,17 @@
 use costliest_cli::program::ROOM;
 use costliest_cli::program::print;
 use libc::STDIN_FILENO;
-use libc::STDOUT_FILENO;
-ghost use Prim.Native.Nat.{_≤_};
-ghost use lib.ListN.{length};
+use plan_cli::inputs::end_of;
+use plan_cli::inputs::write_answer;
 
 // Bytes for all inputs.
 const INPUTS: usize = 4096;
-
-// The place of the first '%' from `from` on, or the end.
-fn end_of(inputs: &[u8], from: usize) -> usize
-    requires { ⌜ from ≤ length (now inputs) ⌝ }
-    ensures { λ r. ⌜ (from ≤ r) × (r ≤ length (now (inputs .entry))) ⌝ }
-{
-    let mut i = from;
-    while i < inputs.len() {
-        if inputs[i] == b'%' {
-            return i;
-        }
-        i += 1;
-    }
-    i
-}
 
 // The answer to one input.
 fn answer(input: &[u8]) {
     let mut out = [0u8; ROOM];
     let n = print(&mut out, input);
-    io::write_all(STDOUT_FILENO, &out[..n]);
-    io::write_all(STDOUT_FILENO, b"%\n");
+    write_answer(&out, n);
 }
 
 // The answers to all, one after the other.

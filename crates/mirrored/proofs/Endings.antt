@@ -234,8 +234,8 @@ module _ (before : Propagator) (es ls : List ℤ) (postCount atomCount : ℕ) (a
   pub few-posts : length (mirroredRun (take (before .count) (before .durations)) es ls .posts) ≤ TASKS
   few-posts = omega (arith, laws.mirrored-posts-fit ds es ls here es-long ls-long, posts-length (mirroredRun ds es ls .posts) 0, count, a .lawful .few)
 
-  squares : (m x : ℕ) → m ≤ TASKS → x ≤ 6 * (m * m) → x ≤ 13824
-  squares m x h q = omega (arith, q, mul-le-mul {n₁ = m} {m₁ = m} {n₂ = 48} {m₂ = 48} h h)
+  squares : (m x : ℕ) → m ≤ TASKS → x ≤ 6 * (m * m) → x ≤ 3 * ATOMS
+  squares m x h q = omega (arith, q, mul-le-mul {n₁ = m} {m₁ = m} {n₂ = TASKS} {m₂ = TASKS} h h)
 
   pub few-atoms : length (atomsIn (mirroredRun (take (before .count) (before .durations)) es ls)) ≤ ATOMS
   few-atoms = omega (arith, squares (length ds) (length (atomWords (atomsIn (mirroredRun ds es ls)))) (here .few) (laws.mirrored-atoms-fit ds es ls here es-long ls-long), atoms-length (atomsIn (mirroredRun ds es ls)))

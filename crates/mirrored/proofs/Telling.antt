@@ -26,7 +26,7 @@ use Rattle.runs.proofs.Buffers.{posts-length, no-reasons}
 use Rattle.runs.proofs.Mirrored.{mirror-at, mirror-length, near-at, near-fits, post-task, post-bound, posts-step, atom-read, atoms-step}
 use Rattle.runs.specs.MirroredWords.{Near, postsTo, atomsTo}
 use Rattle.runs.proofs.Readers.{startOf, four-words, last-ends}
-use Rattle.post_words.specs.Posts.{firstAtom, atomCount}
+use Rattle.post_words.specs.Posts.{taskAt, boundAt, variableAt, kindAt, valueAt, firstAtom, atomCount}
 use Rattle.levels.specs.declared.outcome.Outcome.{Outcome}
 use Rattle.levels.specs.declared.outcome.Outcome.the-variants as outcome
 use Rattle.levels.specs.Finding.{outcomeOf}
@@ -73,11 +73,11 @@ module _ {old : List ℤ} {count : ℕ} {array : List ℕ} (h : PostsHeld old co
   inside : j < length (h .posts)
   inside = omega (arith, h .number)
 
-  task : getD words (4 * j) (pos 0) ≡ pos (p .task)
-  task = ap (λ (l : List ℤ). getD l (4 * j) (pos 0)) e ∙ post-task (h .ds) (h .posts) (h .tail) 0 j inside
+  task : getD words (taskAt j) (pos 0) ≡ pos (p .task)
+  task = ap (λ (l : List ℤ). getD l (taskAt j) (pos 0)) e ∙ post-task (h .ds) (h .posts) (h .tail) 0 j inside
 
-  bound : getD words (4 * j + 1) (pos 0) ≡ p .bound
-  bound = ap (λ (l : List ℤ). getD l (4 * j + 1) (pos 0)) e ∙ post-bound (h .ds) (h .posts) (h .tail) 0 j inside
+  bound : getD words (boundAt j) (pos 0) ≡ p .bound
+  bound = ap (λ (l : List ℤ). getD l (boundAt j) (pos 0)) e ∙ post-bound (h .ds) (h .posts) (h .tail) 0 j inside
 
   size : length words ≡ length (postWords 0 (postsTo (h .ds) j (h .posts))) + length (h .tail)
   size = ap length e ∙ length-append (postWords 0 (postsTo (h .ds) j (h .posts))) (h .tail)
@@ -85,11 +85,11 @@ module _ {old : List ℤ} {count : ℕ} {array : List ℕ} (h : PostsHeld old co
   room : 4 * j + 4 ≤ length words
   room = omega (arith, size, posts-length (postsTo (h .ds) j (h .posts)) 0, filled-length (λ k. mirrorPost (h .ds) (getD (h .posts) k no-post)) j (h .posts), inside)
 
-  pub post-mirrorable : Mirrorable words (4 * j) (4 * j + 1) array
-  post-mirrorable = word-mirrorable (h .ds) array (h .durations) words (4 * j) (4 * j + 1) (consequentOf p) (h .near j q) task bound (omega (arith, room)) (omega (arith, room))
+  pub post-mirrorable : Mirrorable words (taskAt j) (boundAt j) array
+  post-mirrorable = word-mirrorable (h .ds) array (h .durations) words (taskAt j) (boundAt j) (consequentOf p) (h .near j q) task bound (omega (arith, room)) (omega (arith, room))
 
-  pub post-told : {now : List ℤ} → now ≡ set words (4 * j + 1) (mirroredWord words (4 * j) (4 * j + 1) array) → now ≡ postWords 0 (postsTo (h .ds) (j + 1) (h .posts)) ++ h .tail
-  post-told z = z ∙ ap₂ (λ (l : List ℤ) (v : ℤ). set l (4 * j + 1) v) e (word-is (h .ds) array (h .durations) words (4 * j) (4 * j + 1) (consequentOf p) (h .near j q) task bound) ∙ posts-step (h .ds) (h .posts) (h .tail) 0 j inside
+  pub post-told : {now : List ℤ} {of at : ℕ} → of ≡ taskAt j → at ≡ boundAt j → now ≡ set words at (mirroredWord words of at array) → now ≡ postWords 0 (postsTo (h .ds) (j + 1) (h .posts)) ++ h .tail
+  post-told of-is at-is z = z ∙ ap₂ (λ (of at : ℕ). set words at (mirroredWord words of at array)) of-is at-is ∙ ap₂ (λ (l : List ℤ) (v : ℤ). set l (boundAt j) v) e (word-is (h .ds) array (h .durations) words (taskAt j) (boundAt j) (consequentOf p) (h .near j q) task bound) ∙ posts-step (h .ds) (h .posts) (h .tail) 0 j inside
 
 -- Atoms --------------------------------------------------------------------------------------------------------------------------
 
@@ -113,14 +113,14 @@ module _ {old : List ℤ} {count : ℕ} {array : List ℕ} (h : AtomsHeld old co
   near : Near (h .ds) a
   near = near-at (h .ds) (h .atoms) (h .near) k within
 
-  variable : getD words (3 * k) (pos 0) ≡ pos (a .variable)
-  variable = ap (λ (l : List ℤ). getD l (3 * k) (pos 0)) e ∙ atom-read (h .ds) (h .atoms) (h .tail) k within .variable
+  variable : getD words (variableAt k) (pos 0) ≡ pos (a .variable)
+  variable = ap (λ (l : List ℤ). getD l (variableAt k) (pos 0)) e ∙ atom-read (h .ds) (h .atoms) (h .tail) k within .variable
 
-  kind : getD words (3 * k + 1) (pos 0) ≡ pos (a .kind)
-  kind = ap (λ (l : List ℤ). getD l (3 * k + 1) (pos 0)) e ∙ atom-read (h .ds) (h .atoms) (h .tail) k within .kind
+  kind : getD words (kindAt k) (pos 0) ≡ pos (a .kind)
+  kind = ap (λ (l : List ℤ). getD l (kindAt k) (pos 0)) e ∙ atom-read (h .ds) (h .atoms) (h .tail) k within .kind
 
-  value : getD words (3 * k + 2) (pos 0) ≡ a .value
-  value = ap (λ (l : List ℤ). getD l (3 * k + 2) (pos 0)) e ∙ atom-read (h .ds) (h .atoms) (h .tail) k within .value
+  value : getD words (valueAt k) (pos 0) ≡ a .value
+  value = ap (λ (l : List ℤ). getD l (valueAt k) (pos 0)) e ∙ atom-read (h .ds) (h .atoms) (h .tail) k within .value
 
   wide : length words ≡ length (atomWords (atomsTo (h .ds) k (h .atoms))) + length (h .tail)
   wide = ap length e ∙ length-append (atomWords (atomsTo (h .ds) k (h .atoms))) (h .tail)
@@ -128,24 +128,27 @@ module _ {old : List ℤ} {count : ℕ} {array : List ℕ} (h : AtomsHeld old co
   long : 3 * k + 3 ≤ length words
   long = omega (arith, wide, atoms-length (atomsTo (h .ds) k (h .atoms)), filled-length (λ j. mirrorAtom (durationIn (h .ds)) (getD (h .atoms) j no-atom)) k (h .atoms), within)
 
-  pub kind-mirrorable : (3 * k + 1 < length words) × (pos 0 ≤ℤ getD words (3 * k + 1) (pos 0)) × (getD words (3 * k + 1) (pos 0) ≤ℤ pos 1)
+  pub kind-mirrorable : (kindAt k < length words) × (pos 0 ≤ℤ getD words (kindAt k) (pos 0)) × (getD words (kindAt k) (pos 0) ≤ℤ pos 1)
   kind-mirrorable = (omega (arith, long), subst (λ (z : ℤ). (pos 0 ≤ℤ z) × (z ≤ℤ pos 1)) (sym kind) (small-kind (a .kind) (near .kind)) .0, subst (λ (z : ℤ). (pos 0 ≤ℤ z) × (z ≤ℤ pos 1)) (sym kind) (small-kind (a .kind) (near .kind)) .1)
 
   -- after the kind
-  module _ {then : List ℤ} (t : then ≡ set words (3 * k + 1) (pos 1 -ℤ getD words (3 * k + 1) (pos 0))) where
-    still : (i : ℕ) → (i ≡ 3 * k + 1 → ⊥) → getD then i (pos 0) ≡ getD words i (pos 0)
-    still i n = ap (λ (l : List ℤ). getD l i (pos 0)) t ∙ getD-set-other words (3 * k + 1) i (pos 1 -ℤ getD words (3 * k + 1) (pos 0)) (pos 0) n
+  module _ {then : List ℤ} {place : ℕ} (place-is : place ≡ kindAt k) (exchanged : then ≡ set words place (pos 1 -ℤ getD words place (pos 0))) where
+    t : then ≡ set words (kindAt k) (pos 1 -ℤ getD words (kindAt k) (pos 0))
+    t = exchanged ∙ ap (λ (at : ℕ). set words at (pos 1 -ℤ getD words at (pos 0))) place-is
+
+    still : (i : ℕ) → (i ≡ kindAt k → ⊥) → getD then i (pos 0) ≡ getD words i (pos 0)
+    still i n = ap (λ (l : List ℤ). getD l i (pos 0)) t ∙ getD-set-other words (kindAt k) i (pos 1 -ℤ getD words (kindAt k) (pos 0)) (pos 0) n
 
     same : length then ≡ length words
-    same = ap length t ∙ length-set words (3 * k + 1) (pos 1 -ℤ getD words (3 * k + 1) (pos 0))
+    same = ap length t ∙ length-set words (kindAt k) (pos 1 -ℤ getD words (kindAt k) (pos 0))
 
-    pub value-mirrorable : Mirrorable then (3 * k) (3 * k + 2) array
-    value-mirrorable = word-mirrorable (h .ds) array (h .durations) then (3 * k) (3 * k + 2) a near (still (3 * k) (omega arith) ∙ variable) (still (3 * k + 2) (omega arith) ∙ value) (omega (arith, long, same)) (omega (arith, long, same))
+    pub value-mirrorable : Mirrorable then (variableAt k) (valueAt k) array
+    value-mirrorable = word-mirrorable (h .ds) array (h .durations) then (variableAt k) (valueAt k) a near (still (variableAt k) (omega arith) ∙ variable) (still (valueAt k) (omega arith) ∙ value) (omega (arith, long, same)) (omega (arith, long, same))
 
-    pub atom-told : {now : List ℤ} → now ≡ set then (3 * k + 2) (mirroredWord then (3 * k) (3 * k + 2) array) → now ≡ atomWords (atomsTo (h .ds) (k + 1) (h .atoms)) ++ h .tail
-    atom-told z = z ∙ ap₂ (λ (l : List ℤ) (v : ℤ). set l (3 * k + 2) v)
-        (t ∙ ap₂ (λ (l : List ℤ) (v : ℤ). set l (3 * k + 1) v) e (ap (λ (v : ℤ). pos 1 -ℤ v) kind ∙ kind-is (a .kind) (near .kind)))
-        (word-is (h .ds) array (h .durations) then (3 * k) (3 * k + 2) a near (still (3 * k) (omega arith) ∙ variable) (still (3 * k + 2) (omega arith) ∙ value))
+    pub atom-told : {now : List ℤ} {of at : ℕ} → of ≡ variableAt k → at ≡ valueAt k → now ≡ set then at (mirroredWord then of at array) → now ≡ atomWords (atomsTo (h .ds) (k + 1) (h .atoms)) ++ h .tail
+    atom-told of-is at-is z = z ∙ ap₂ (λ (of at : ℕ). set then at (mirroredWord then of at array)) of-is at-is ∙ ap₂ (λ (l : List ℤ) (v : ℤ). set l (valueAt k) v)
+        (t ∙ ap₂ (λ (l : List ℤ) (v : ℤ). set l (kindAt k) v) e (ap (λ (v : ℤ). pos 1 -ℤ v) kind ∙ kind-is (a .kind) (near .kind)))
+        (word-is (h .ds) array (h .durations) then (variableAt k) (valueAt k) a near (still (variableAt k) (omega arith) ∙ variable) (still (valueAt k) (omega arith) ∙ value))
         ∙ atoms-step (h .ds) (h .atoms) (h .tail) k within
 
 -- How many -----------------------------------------------------------------------------------------------------------------------

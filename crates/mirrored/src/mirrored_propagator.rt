@@ -3,7 +3,12 @@ use integers::limits::TASKS;
 use integers::nat_of;
 use levels::outcome::Outcome;
 use post_words::posts::atom_count;
+use post_words::posts::bound_at;
 use post_words::posts::first_atom;
+use post_words::posts::kind_at;
+use post_words::posts::task_at;
+use post_words::posts::value_at;
+use post_words::posts::variable_at;
 use propagator::disjunctive_propagator::run_accepted;
 use records::record::Propagator;
 use records::refusals::run_refusal;
@@ -66,7 +71,7 @@ fn mirror_posts(posts: &mut [i32], count: usize, durations: &[u32; TASKS])
 {
     let mut j = 0;
     while j < count {
-        mirror_word(posts, 4 * j, 4 * j + 1, durations);
+        mirror_word(posts, task_at(j), bound_at(j), durations);
         j += 1;
     }
 }
@@ -78,8 +83,8 @@ fn mirror_atoms(atoms: &mut [i32], count: usize, durations: &[u32; TASKS])
 {
     let mut k = 0;
     while k < count {
-        mirror_kind(atoms, 3 * k + 1);
-        mirror_word(atoms, 3 * k, 3 * k + 2, durations);
+        mirror_kind(atoms, kind_at(k));
+        mirror_word(atoms, variable_at(k), value_at(k), durations);
         k += 1;
     }
 }

@@ -8,7 +8,7 @@ use Prim.Native.Nat.{ℕ, zero, suc, _+_, _*_, _≤_}
 use native.Mathlib.Omega.{arith}
 use lib.IntN.{ℤ}
 use lib.ListN.{length, take, drop, length-append}
-use Rattle.integers.specs.Limits.{TASKS}
+use Rattle.integers.specs.Limits.{TASKS, ATOMS}
 use Rattle.integers.specs.Tests.{refusal}
 use Rattle.integers.proofs.Words.{overwritten-length}
 use Rattle.scheduling.specs.Words.{atomWords}
@@ -27,7 +27,7 @@ use Rattle.levels.specs.declared.outcome.Outcome.the-variants as outcome
 use Rattle.propagator.specs.declared.disjunctive_propagator.Run.{Run}
 use Rattle.propagator.specs.Ran.{traceOf, AcceptedRun, Ran}
 use Rattle.propagator.proofs.Answering.{outcomes-apart}
-use Rattle.plan_cli.specs.RunSlices.{ATOMS, ShowsRun, Shown}
+use Rattle.plan_cli.specs.RunSlices.{ShowsRun, Shown}
 use Rattle.plan_cli.specs.Printed.{numbered, ranOn, planned}
 
 -- a run that no number turned back

@@ -8,14 +8,13 @@ use native.Mathlib.Nat.{mul-le-mul}
 use native.Mathlib.Omega.{arith}
 use lib.IntN.{ℤ}
 use lib.ListN.{length}
-use Rattle.integers.specs.Limits.{TASKS}
+use Rattle.integers.specs.Limits.{TASKS, ATOMS}
 use Rattle.integers.specs.Tests.{refusal}
 use Rattle.integers.proofs.Bools.{clash}
 use Rattle.records.specs.Records.{Lawful, creationTests, newRecord}
 use Rattle.records.specs.Refusals.{runNumber, CountsFit, WordsFit}
 use Rattle.records.proofs.Creation.{created-lawful}
 use Rattle.records.proofs.Refused.{refused-20, refused-10, refused-13, refused-9}
-use Rattle.plan_cli.specs.RunSlices.{ATOMS}
 
 module _ (es ls ds : List ℤ) (accepted : refusal (creationTests ds) ≡ 0) (same-earliest : length es ≡ length ds) (same-latest : length ls ≡ length ds) where
   abbrev number : ℕ

@@ -7,7 +7,7 @@ use Prim.Native.Nat.{ℕ, _+_, _*_, _≤_}
 use native.Mathlib.Omega.{arith}
 use lib.IntN.{ℤ}
 use lib.ListN.{length, take, drop}
-use Rattle.integers.specs.Limits.{TASKS}
+use Rattle.integers.specs.Limits.{TASKS, ATOMS}
 use Rattle.scheduling.specs.Scheduling.{Atom}
 use Rattle.scheduling.specs.Words.{atomWords}
 use Rattle.runs.specs.Traces.{Post, End, done, overload, emptied, Trace}
@@ -16,7 +16,7 @@ use Rattle.levels.specs.Finding.{outcomeOf}
 use Rattle.levels.specs.declared.outcome.Outcome.{Outcome}
 use Rattle.levels.specs.declared.outcome.Outcome.the-variants as outcome
 use Rattle.plan_cli.specs.Lines.{postLines, doneLine, overloadLines, emptiedLine, endLines, runLines, refusedLine, answerLines}
-use Rattle.plan_cli.specs.RunSlices.{ATOMS, Holds, ShowsRun, Shown}
+use Rattle.plan_cli.specs.RunSlices.{Holds, ShowsRun, Shown}
 
 -- `count` posts that the slices hold, with room for them and for `more` atoms, and `rest` behind them
 pub record Parts (what : ℕ ⊎ Trace) (posts atoms : List ℤ) (count more : ℕ) (rest : List ℕ) : Type 0 where

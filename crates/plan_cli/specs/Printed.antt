@@ -8,7 +8,7 @@ use Prim.Native.Nat.{ℕ, zero, suc, _*_, _≤_}
 use lib.Dec.{eqb}
 use lib.IntN.{ℤ, pos, negsuc}
 use lib.ListN.{length, take}
-use Rattle.integers.specs.Limits.{TASKS}
+use Rattle.integers.specs.Limits.{TASKS, ATOMS}
 use Rattle.integers.specs.Tests.{refusal}
 use Rattle.runs.specs.Traces.{Trace}
 use Rattle.records.specs.declared.record.Propagator.{Propagator}
@@ -16,7 +16,6 @@ use Rattle.records.specs.Records.{creationTests, newRecord}
 use Rattle.records.specs.Refusals.{runNumber}
 use Rattle.propagator.specs.Ran.{traceOf}
 use Rattle.text.specs.Numbers.{numbersOf}
-use Rattle.plan_cli.specs.RunSlices.{ATOMS}
 use Rattle.plan_cli.specs.Lines.{answerLines}
 
 -- a task of the input

@@ -5,7 +5,7 @@ use mathlib.Core.Logic.{_⊎_, inl, inr}
 use Prim.Native.Nat.{ℕ, _+_, _*_, _≤_, _<_}
 use lib.IntN.{ℤ, pos}
 use lib.ListN.{length, getD, take, drop}
-use Rattle.integers.specs.Limits.{TASKS}
+use Rattle.integers.specs.Limits.{TASKS, ATOMS}
 use Rattle.scheduling.specs.Words.{atomWords}
 use Rattle.runs.specs.Traces.{Post, Trace}
 use Rattle.runs.specs.Demand.{no-post}
@@ -15,11 +15,7 @@ use Rattle.levels.specs.Finding.{outcomeOf}
 use Rattle.levels.specs.declared.outcome.Outcome.{Outcome}
 use Rattle.levels.specs.declared.outcome.Outcome.the-variants as outcome
 
--- atoms that a run has room for, 2n² of them
-abbrev pub ATOMS : ℕ
-ATOMS = 2 * (TASKS * TASKS)
-
--- bytes for 48 posts of at most 44, ATOMS atoms of at most 33, and a last line of at most 581
+-- bytes for TASKS posts of at most 44, ATOMS atoms of at most 33, and a last line of at most 581
 abbrev pub ROOM : ℕ
 ROOM = 160000
 
@@ -41,7 +37,7 @@ pub record Posts (posts atoms : List ℤ) (count room : ℕ) : Type 0 where
   pub holds : Holds list posts atoms count
   pub fits : 44 * length list + 33 * length (reasons list) ≤ room
 
--- The outcome and the slices show the run with trace t, which is not longer than any run of 48 tasks.
+-- The outcome and the slices show the run with trace t, which is not longer than any run of TASKS tasks.
 pub record ShowsRun (t : Trace) (r : Outcome) (posts atoms starts : List ℤ) : Type 0 where
   pub answer : r ≡ outcomeOf (reasons (t .posts)) (length (t .posts)) (t .end)
   pub starts-are : starts ≡ t .starts

@@ -4,6 +4,8 @@ use crate::input::column_of;
 use crate::input::task_count;
 use crate::lines::put_refused;
 use crate::report::put_run;
+use integers::limits::ATOMWORDS;
+use integers::limits::POSTWORDS;
 use integers::limits::TASKS;
 use propagator::disjunctive_propagator::propagate;
 use records::record::Creation;
@@ -23,11 +25,6 @@ ghost use Rattle.plan_cli.specs.Lines.{answerLines};
 ghost use Rattle.plan_cli.specs.RunSlices.{ROOM};
 ghost use Rattle.plan_cli.specs.Printed.{ranOn, planned, answered};
 
-// Words for the posts and the atoms of any run.
-const POST_WORDS: usize = 4 * TASKS;
-
-const ATOM_WORDS: usize = 6 * TASKS * TASKS;
-
 // A run on the first n ranges. They have no bars, so none is unfit.
 fn put_ran(
     out: &mut [u8],
@@ -41,8 +38,8 @@ fn put_ran(
     ensures within { λ r. ⌜ r ≤ length (now (out .entry)) ⌝ }
 {
     let mut starts = earliest;
-    let mut posts = [0i32; POST_WORDS];
-    let mut atoms = [0i32; ATOM_WORDS];
+    let mut posts = [0i32; POSTWORDS];
+    let mut atoms = [0i32; ATOMWORDS];
     let ran = propagate(
         record,
         &mut starts[..n],

@@ -1,4 +1,8 @@
 // The lines of a run, put into a buffer one behind the other.
+use post_words::posts::atoms_in;
+use post_words::posts::kind_at;
+use post_words::posts::value_at;
+use post_words::posts::variable_at;
 use text::writing::put_bytes;
 use text::writing::put_count;
 use text::writing::put_number;
@@ -60,17 +64,23 @@ pub fn put_refused(out: &mut [u8], at: usize, number: u32) -> usize
     put_bytes(out, b, b"\n")
 }
 
-// The lines of a reason: three words to an atom, for which 11 bytes each are room enough.
+// The lines of a reason, for whose words 11 bytes each are room enough.
 pub fn put_reason(out: &mut [u8], at: usize, words: &[i32]) -> usize
     requires { ⌜ at + 11 * length (now words) ≤ length (now out) ⌝ }
     ensures text { λ r. ⌜ ((atoms : List Atom) → now (words .entry) ≡ atomWords atoms → Puts (now (out .entry)) (now (out .exit)) at (whyLines atoms) r) ⌝ }
     ensures within { λ r. ⌜ r ≤ at + 11 * length (now (words .entry)) ⌝ }
 {
-    let n = words.len() / 3;
+    let n = atoms_in(words);
     let mut end = at;
     let mut k = 0;
     while k < n {
-        end = put_why(out, end, words[3 * k], words[3 * k + 1], words[3 * k + 2]);
+        end = put_why(
+            out,
+            end,
+            words[variable_at(k)],
+            words[kind_at(k)],
+            words[value_at(k)],
+        );
         k += 1;
     }
     end

@@ -6,6 +6,7 @@ use crate::lines::put_starts;
 use levels::outcome::Outcome;
 use post_words::posts::bound_word;
 use post_words::posts::post_reason;
+use post_words::posts::stretch;
 use post_words::posts::task_word;
 use text::writing::put_bytes;
 ghost use Prim.Native.Nat.{ℕ, _+_, _*_, _≤_};
@@ -71,9 +72,7 @@ fn put_overload(out: &mut [u8], at: usize, atoms: &[i32], first: usize, count: u
     ensures text { λ r. ⌜ ((reason : List Atom) → take (3 * count) (drop (3 * first) (now (atoms .entry))) ≡ atomWords reason → Puts (now (out .entry)) (now (out .exit)) at (overloadLines reason) r) ⌝ }
     ensures within { λ r. ⌜ r ≤ at + 33 * count + 9 ⌝ }
 {
-    let from = 3 * first;
-    let to = from + 3 * count;
-    let end = put_reason(out, at, &atoms[from..to]);
+    let end = put_reason(out, at, stretch(atoms, first, count));
     put_bytes(out, end, b"overload\n")
 }
 

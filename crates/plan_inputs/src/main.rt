@@ -1,36 +1,19 @@
 // Further inputs of the program, each ended by a '%'. For each the program's answer is written, and a '%' on a line behind it.
 // The answers in `stdout` are the published Rust's, behind the program's own reading of its input.
 use libc::STDIN_FILENO;
-use libc::STDOUT_FILENO;
+use plan_cli::inputs::end_of;
+use plan_cli::inputs::write_answer;
 use plan_cli::program::ROOM;
 use plan_cli::program::print;
-ghost use Prim.Native.Nat.{_≤_};
-ghost use lib.ListN.{length};
 
 // Bytes for all inputs.
 const INPUTS: usize = 65536;
-
-// The place of the first '%' from `from` on, or the end.
-fn end_of(inputs: &[u8], from: usize) -> usize
-    requires { ⌜ from ≤ length (now inputs) ⌝ }
-    ensures { λ r. ⌜ (from ≤ r) × (r ≤ length (now (inputs .entry))) ⌝ }
-{
-    let mut i = from;
-    while i < inputs.len() {
-        if inputs[i] == b'%' {
-            return i;
-        }
-        i += 1;
-    }
-    i
-}
 
 // The answer to one input.
 fn answer(input: &[u8]) {
     let mut out = [0u8; ROOM];
     let n = print(&mut out, input);
-    io::write_all(STDOUT_FILENO, &out[..n]);
-    io::write_all(STDOUT_FILENO, b"%\n");
+    write_answer(&out, n);
 }
 
 // The answers to all, one after the other.

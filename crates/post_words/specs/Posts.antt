@@ -10,14 +10,30 @@ use Rattle.integers.specs.Limits.{TASKS}
 use Rattle.integers.specs.Tests.{Test, test, refusal}
 
 -- A post is four words: task, bound, first atom's index, atom count.
+abbrev pub taskAt : ℕ → ℕ
+taskAt j = 4 * j
+
+abbrev pub boundAt : ℕ → ℕ
+boundAt j = 4 * j + 1
+
+-- An atom is three words: variable, kind, value.
+abbrev pub variableAt : ℕ → ℕ
+variableAt k = 3 * k
+
+abbrev pub kindAt : ℕ → ℕ
+kindAt k = 3 * k + 1
+
+abbrev pub valueAt : ℕ → ℕ
+valueAt k = 3 * k + 2
+
 abbrev pub taskWord : List ℤ → ℕ → ℤ
-taskWord posts index = getD posts (4 * index) (pos 0)
+taskWord posts index = getD posts (taskAt index) (pos 0)
 
 abbrev pub taskOf : List ℤ → ℕ → ℕ
 taskOf posts index = natAbs (taskWord posts index)
 
 abbrev pub boundOf : List ℤ → ℕ → ℤ
-boundOf posts index = getD posts (4 * index + 1) (pos 0)
+boundOf posts index = getD posts (boundAt index) (pos 0)
 
 abbrev pub firstAtom : List ℤ → ℕ → ℤ
 firstAtom posts index = getD posts (4 * index + 2) (pos 0)
@@ -25,7 +41,7 @@ firstAtom posts index = getD posts (4 * index + 2) (pos 0)
 abbrev pub atomCount : List ℤ → ℕ → ℤ
 atomCount posts index = getD posts (4 * index + 3) (pos 0)
 
--- an atom is three words, so the stretch is words 3f to 3(f + c): its start and its length
+-- the stretch is words 3f to 3(f + c): its start and its length
 abbrev pub stretchStart : List ℤ → ℕ → ℕ
 stretchStart posts index = 3 * natAbs (firstAtom posts index)
 

@@ -1,22 +1,90 @@
-// Posts and atoms as words: what writes them, what reads a word of a post, and the post reader, which gives the number 0 or 11 and the stretch of atoms that belongs to a post.
+// Posts and atoms as words: where each word stands, what writes them, what reads a word of a post, and the post reader, which gives the number 0 or 11 and the stretch of atoms that belongs to a post.
 use integers::nat_of;
 use integers::start_of;
 use integers::word_of;
 ghost use mathlib.Core.Path.{_≡_};
 ghost use mathlib.Core.List.{[], _∷_};
-ghost use Prim.Native.Nat.{_+_, _*_, _<_, _≤_};
+ghost use Prim.Native.Nat.{_+_, _*_, _/_, _^_, _<_, _≤_};
 ghost use lib.IntN.{pos, natAbs};
-ghost use lib.ListN.{length};
+ghost use lib.ListN.{length, take, drop};
 ghost use lib.Seq.{sets};
 ghost use lib.Signed.{_≤ℤ_};
 ghost use Rattle.integers.specs.Limits.{TASKS};
 ghost use Rattle.integers.specs.Moments.{instant, zeroAt};
-ghost use Rattle.post_words.specs.Posts.{taskWord, boundOf, firstAtom, atomCount, PostFits, postNumber, reasonWords};
+ghost use Rattle.post_words.specs.Posts.{taskAt, boundAt, variableAt, kindAt, valueAt, taskWord, boundOf, firstAtom, atomCount, PostFits, postNumber, reasonWords};
 
 // An atom's kinds.
 pub const AT_LEAST: i32 = 0;
 
 pub const AT_MOST: i32 = 1;
+
+// Where post j begins with its task, and where its bound stands.
+pub fn task_at(j: usize) -> usize
+    requires { ⌜ 4 * j + 4 < 2 ^ 64 ⌝ }
+    ensures { λ r. ⌜ r ≡ taskAt j ⌝ }
+{
+    4 * j
+}
+
+pub fn bound_at(j: usize) -> usize
+    requires { ⌜ 4 * j + 4 < 2 ^ 64 ⌝ }
+    ensures { λ r. ⌜ r ≡ boundAt j ⌝ }
+{
+    4 * j + 1
+}
+
+// Where atom k begins with its variable, and where its kind and its value stand.
+pub fn variable_at(k: usize) -> usize
+    requires { ⌜ 3 * k + 3 < 2 ^ 64 ⌝ }
+    ensures { λ r. ⌜ r ≡ variableAt k ⌝ }
+{
+    3 * k
+}
+
+pub fn kind_at(k: usize) -> usize
+    requires { ⌜ 3 * k + 3 < 2 ^ 64 ⌝ }
+    ensures { λ r. ⌜ r ≡ kindAt k ⌝ }
+{
+    3 * k + 1
+}
+
+pub fn value_at(k: usize) -> usize
+    requires { ⌜ 3 * k + 3 < 2 ^ 64 ⌝ }
+    ensures { λ r. ⌜ r ≡ valueAt k ⌝ }
+{
+    3 * k + 2
+}
+
+// How many posts, and how many atoms, a slice of words has room for.
+pub fn posts_in(posts: &[i32]) -> usize
+    ensures { λ r. ⌜ r ≡ length (now (posts .entry)) / 4 ⌝ }
+{
+    posts.len() / 4
+}
+
+pub fn atoms_in(atoms: &[i32]) -> usize
+    ensures { λ r. ⌜ r ≡ length (now (atoms .entry)) / 3 ⌝ }
+{
+    atoms.len() / 3
+}
+
+// How many words n atoms are.
+pub fn words_of(n: u32) -> usize
+    ensures { λ r. ⌜ r ≡ 3 * n ⌝ }
+{
+    3 * (n as usize)
+}
+
+// The words of `count` atoms from the one numbered `first` on.
+pub fn stretch(atoms: &[i32], first: usize, count: usize) -> &[i32]
+    requires { ⌜ 3 * first + 3 * count ≤ length (now atoms) ⌝ }
+    ensures words { λ r. ⌜ now r ≡ take (3 * count) (drop (3 * first) (now (atoms .entry))) ⌝ }
+    ensures long { λ r. ⌜ length (now r) ≡ 3 * count ⌝ }
+{
+    let from = 3 * first;
+    let end = from + 3 * count;
+    &atoms[from..end]
+}
 
 // The j-th post's four words.
 pub fn write_post(posts: &mut [i32], j: usize, task: usize, bound: u32, first: usize, count: usize)
@@ -71,14 +139,6 @@ pub fn atom_count(posts: &[i32], index: usize) -> u32
     nat_of(posts[4 * index + 3])
 }
 
-// The words of x atoms.
-fn words_of(x: i32) -> usize
-    requires { ⌜ pos 0 ≤ℤ x ⌝ }
-    ensures { λ r. ⌜ r ≡ 3 * natAbs x ⌝ }
-{
-    3 * (nat_of(x) as usize)
-}
-
 // 11 where the post is not below the post count, or it or its stretch is not inside its slice; else 0.
 pub fn post_number(posts: &[i32], atoms: &[i32], post_count: usize, index: usize) -> u32
     ensures { λ r. ⌜ r ≡ postNumber (now (posts .entry)) (now (atoms .entry)) «post_count» index ⌝ }
@@ -89,16 +149,13 @@ pub fn post_number(posts: &[i32], atoms: &[i32], post_count: usize, index: usize
     if index >= posts.len() / 4 {
         return 11;
     }
-    let at = 4 * index;
-    let first = posts[at + 2];
-    let count = posts[at + 3];
-    if !integers::at_most(0, first) {
+    if !integers::at_most(0, posts[4 * index + 2]) {
         return 11;
     }
-    if !integers::at_most(0, count) {
+    if !integers::at_most(0, posts[4 * index + 3]) {
         return 11;
     }
-    if words_of(first) + words_of(count) > atoms.len() {
+    if words_of(first_atom(posts, index)) + words_of(atom_count(posts, index)) > atoms.len() {
         return 11;
     }
     0
@@ -116,10 +173,7 @@ pub fn post_reason<'a, 'b>(
     if post_number(posts, atoms, post_count, index) != 0 {
         return &atoms[..0];
     }
-    let at = 4 * index;
-    let first = posts[at + 2];
-    let count = posts[at + 3];
-    let from = words_of(first);
-    let end = from + words_of(count);
-    &atoms[from..end]
+    let first = first_atom(posts, index) as usize;
+    let count = atom_count(posts, index) as usize;
+    stretch(atoms, first, count)
 }

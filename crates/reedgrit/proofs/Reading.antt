@@ -2,7 +2,7 @@
 -- Assumes nothing.
 use mathlib.Core.Path.{_≡_, refl, sym, ap, _∙_}
 use mathlib.Core.List.{List}
-use Prim.Native.Nat.{ℕ, zero, suc, _*_}
+use Prim.Native.Nat.{ℕ, zero, suc}
 use lib.IntN.{ℤ, pos}
 use Rattle.post_words.specs.Posts.{postNumber}
 use Rattle.reedgrit.specs.Calls.{postAnswer, readPost, postAt, postNumbers}
@@ -19,5 +19,5 @@ module _ (posts atoms : List ℤ) (count index : ℕ) where
   pub read : (n : ℕ) → n ≡ postNumber posts atoms count index → n ≡ 0 → readPost posts index ≡ postNumbers posts atoms count index
   read n e none = ap (λ (m : ℕ). postAt m posts index) (sym none ∙ e)
 
-pub same-post : {t t′ b b′ : ℤ} {f f′ n n′ : ℕ} → t ≡ t′ → b ≡ b′ → f ≡ f′ → n ≡ n′ → postAnswer 0 t b (3 * f) (3 * n) ≡ postAnswer 0 t′ b′ (3 * f′) (3 * n′)
-same-post et eb ef en = λ i. postAnswer 0 (et i) (eb i) (3 * ef i) (3 * en i)
+pub same-post : {t t′ b b′ : ℤ} {f f′ n n′ : ℕ} → t ≡ t′ → b ≡ b′ → f ≡ f′ → n ≡ n′ → postAnswer 0 t b f n ≡ postAnswer 0 t′ b′ f′ n′
+same-post et eb ef en = λ i. postAnswer 0 (et i) (eb i) (ef i) (en i)

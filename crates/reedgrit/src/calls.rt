@@ -19,8 +19,12 @@ use checking::variable_state::Bound;
 use checking::variable_state::VariableState;
 use disjunctive::ranges::run;
 use integers::limits::PREMISES;
-use integers::nat_of;
+use post_words::posts::atom_count;
+use post_words::posts::bound_word;
+use post_words::posts::first_atom;
 use post_words::posts::post_number;
+use post_words::posts::task_word;
+use post_words::posts::words_of;
 use records::record::Propagator;
 use records::record::create;
 ghost use mathlib.Core.Path.{_≡_};
@@ -64,15 +68,12 @@ fn read_post(posts: &[i32], index: usize) -> PostAnswer
     requires { ⌜ (4 * index + 4 ≤ length (now posts)) × (pos 0 ≤ℤ firstAtom (now posts) index) × (pos 0 ≤ℤ atomCount (now posts) index) ⌝ }
     ensures { λ r. ⌜ r ≡ readPost (now (posts .entry)) index ⌝ }
 {
-    let at = 4 * index;
-    let first = posts[at + 2];
-    let count = posts[at + 3];
     PostAnswer {
         number: 0,
-        task: posts[at],
-        bound: posts[at + 1],
-        first: 3 * (nat_of(first) as usize),
-        count: 3 * (nat_of(count) as usize),
+        task: task_word(posts, index),
+        bound: bound_word(posts, index),
+        first: words_of(first_atom(posts, index)),
+        count: words_of(atom_count(posts, index)),
     }
 }
 

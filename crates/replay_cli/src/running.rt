@@ -17,6 +17,13 @@ use disjunctive::post_number;
 use disjunctive::post_reason;
 use integers::limits::ATOMWORDS;
 use integers::limits::POSTWORDS;
+use post_words::posts::atoms_in;
+use post_words::posts::kind_at;
+use post_words::posts::posts_in;
+use post_words::posts::stretch;
+use post_words::posts::task_at;
+use post_words::posts::value_at;
+use post_words::posts::variable_at;
 ghost use Prim.Native.Nat.{_≤_};
 
 // `run`: its posts, its end, the earliest starts that it leaves and its leaf changes; or the number that turned it back.
@@ -108,18 +115,20 @@ fn say_post(posts: &[i32], atoms: &[i32], count: usize, j: usize) {
 
 // The four words of post j.
 fn say_words(posts: &[i32], j: usize) {
-    if j >= posts.len() / 4 {
+    if j >= posts_in(posts) {
         return;
     }
-    say_numbers(&posts[4 * j..4 * j + 4]);
+    let from = task_at(j);
+    let to = task_at(j + 1);
+    say_numbers(&posts[from..to]);
 }
 
-// The lines of a reason: three words to an atom.
+// The lines of a reason.
 fn say_reason(words: &[i32]) {
-    let n = words.len() / 3;
+    let n = atoms_in(words);
     let mut k = 0;
     while k < n {
-        say_why(words[3 * k], words[3 * k + 1], words[3 * k + 2]);
+        say_why(words[variable_at(k)], words[kind_at(k)], words[value_at(k)]);
         k += 1;
     }
 }
@@ -147,14 +156,12 @@ fn say_overload(atoms: &[i32], first: usize, count: usize) {
 
 // The lines of `count` atoms from the one numbered `first` on, or none where they are not in the slice.
 pub fn say_atoms(atoms: &[i32], first: usize, count: usize) {
-    let all = atoms.len() / 3;
+    let all = atoms_in(atoms);
     if first > all {
         return;
     }
     if count > all - first {
         return;
     }
-    let from = 3 * first;
-    let to = from + 3 * count;
-    say_reason(&atoms[from..to]);
+    say_reason(stretch(atoms, first, count));
 }

@@ -19,6 +19,8 @@ use domains::int_ext::IntExt;
 use integers::limits::VARIABLES;
 use integers::nat_of;
 use integers::word_of;
+use post_words::posts::atoms_in;
+use post_words::posts::variable_at;
 ghost use Prim.Native.Nat.{_<_};
 ghost use Rattle.integers.specs.Limits.{VARIABLES};
 
@@ -145,10 +147,10 @@ fn say_domain(domain: Domain) {
 
 // Whether an atom of the words is on a variable.
 fn mentions(words: &[i32], variable: i32) -> bool {
-    let n = words.len() / 3;
+    let n = atoms_in(words);
     let mut k = 0;
     while k < n {
-        if words[3 * k] == variable {
+        if words[variable_at(k)] == variable {
             return true;
         }
         k += 1;

@@ -30,19 +30,21 @@ returns-3 c =
 
 returns-4 : tie.Need-returns-4
 returns-4 c =
-    let s = c .before .before .before .before .before .before .before .before .before in
-    stays (inMoments (s .args .n) (s .args .starts .now) (s .args .durations .now)) (s .args .w) (s .args .first) (s .args .last) (s .args .x) (s .args .best .covered) (s .args .best .start) (s .pre .2) (λ l h. inr (sym (c .before .before .before .before .before .before .covered .ensures) ∙ c .before .before .if4 .taken, c .if5 .taken))
+    let known = c .before .before .before .before .before .before in
+    let s = known .before .before .before in
+    stays (inMoments (s .args .n) (s .args .starts .now) (s .args .durations .now)) (s .args .w) (s .args .first) (s .args .last) (s .args .x) (s .args .best .covered) (s .args .best .start) (s .pre .2) (λ l h. inr (sym (known .covered .ensures) ∙ c .before .before .if4 .taken, c .if5 .taken))
 
 returns-5 : tie.Need-returns-5
 returns-5 c =
-    let at = c .before .before .before .before .before .before .before .before in
-    let s = c .before .before .before .before .before .before .before .before .before in
-    gives-way (inMoments (s .args .n) (s .args .starts .now) (s .args .durations .now)) (s .args .w) (s .args .first) (s .args .last) (s .args .x) (s .args .best .covered) (s .args .best .start) _ (omega (arith, at .if1 .left)) (omega (arith, c .before .before .before .before .before .before .before .if2 .left)) (c .before .before .before .before .before .before .covered .ensures) (inr (sym (c .before .before .if4 .taken), omega (arith, c .if5 .left)))
+    let known = c .before .before .before .before .before .before in
+    let s = known .before .before .before in
+    gives-way (inMoments (s .args .n) (s .args .starts .now) (s .args .durations .now)) (s .args .w) (s .args .first) (s .args .last) (s .args .x) (s .args .best .covered) (s .args .best .start) _ (omega (arith, known .before .before .if1 .left)) (omega (arith, known .before .if2 .left)) (known .covered .ensures) (inr (sym (c .before .before .if4 .taken), omega (arith, c .if5 .left)))
 
 returns-6 : tie.Need-returns-6
 returns-6 c =
-    let s = c .before .before .before .before .before .before .before in
-    gives-way (inMoments (s .args .n) (s .args .starts .now) (s .args .durations .now)) (s .args .w) (s .args .first) (s .args .last) (s .args .x) (s .args .best .covered) (s .args .best .start) _ (omega (arith, c .before .before .before .before .before .before .if1 .left)) (omega (arith, c .before .before .before .before .before .if2 .left)) (c .before .before .before .before .covered .ensures) (inl (omega (arith, c .before .before .if3 .left, c .if4 .left)))
+    let known = c .before .before .before .before in
+    let s = known .before .before .before in
+    gives-way (inMoments (s .args .n) (s .args .starts .now) (s .args .durations .now)) (s .args .w) (s .args .first) (s .args .last) (s .args .x) (s .args .best .covered) (s .args .best .start) _ (omega (arith, known .before .before .if1 .left)) (omega (arith, known .before .if2 .left)) (known .covered .ensures) (inl (omega (arith, c .before .before .if3 .left, c .if4 .left)))
 
 pub better-spec : {M : Type 1} → statement M
 better-spec = tie.close (tie.spec returns returns-2 covered-requires returns-3 returns-4 returns-5 returns-6)

@@ -41,10 +41,11 @@ sub-back c =
 
 loop-again : tie.Need-loop-again Inv-loop μ-loop
 loop-again c =
-    let s = c .before .before .before .before .before .before .before in
-    let k = c .before .before .before .before .before .loop .k in
+    let head = c .before .before .before .before .before in
+    let s = head .before .before in
+    let k = head .loop .k in
     let q = c .before .before .before .before .loop-test .taken in
-    (omega (arith, q), one-more (inMoments (s .args .n) (s .args .starts .now) (s .args .durations .now)) (s .args .w) (s .args .first) (s .args .last) _ (c .before .before .before .before .before .loop .inv .1) (c .before .before .better .ensures) (omega (arith, s .pre .0 .low k q, s .pre .0 .length)) (c .better2 .ensures))
+    (omega (arith, q), one-more (inMoments (s .args .n) (s .args .starts .now) (s .args .durations .now)) (s .args .w) (s .args .first) (s .args .last) _ (head .loop .inv .1) (c .before .before .better .ensures) (omega (arith, s .pre .0 .low k q, s .pre .0 .length)) (c .better2 .ensures))
 
 returns : tie.Need-returns Inv-loop μ-loop
 returns c =

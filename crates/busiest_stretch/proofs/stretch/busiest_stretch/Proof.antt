@@ -31,19 +31,22 @@ number c = sym (said (c .before)) ∙ c .if1 .left
 held : (c : tie.Else1) → let a = c .before .before .args in AcceptedFixed (a .t1) (a .earliest .now) (a .latest .now) × LengthFits (a .w)
 held c = let a = c .before .before .args in accepted-question (a .t1) (a .earliest .now) (a .latest .now) (a .w) .0 (number c)
 
--- the length, and the order's places
-lasting : (c : tie.After-nat-of) → pos (c .nat-of .result) ≡ c .before .before .before .before .before .before .args .w
-lasting c = c .nat-of .ensures ∙ back (c .before .before .before .before .before .before .fits .w)
+-- the entry, the length, and the order's places
+abbrev start : tie.After-nat-of → tie.Start
+start c = c .before .before .before .before .before .before
 
-some : (c : tie.After-nat-of) → 0 < c .before .before .before .before .before .before .args .t1 .count
+lasting : (c : tie.After-nat-of) → pos (c .nat-of .result) ≡ start c .args .w
+lasting c = c .nat-of .ensures ∙ back (start c .fits .w)
+
+some : (c : tie.After-nat-of) → 0 < start c .args .t1 .count
 some c = held (c .before .before .before .before) .0 .lawful .some
 
-few : (c : tie.After-nat-of) (k : ℕ) → k < c .before .before .before .before .before .before .args .t1 .count → k < TASKS
+few : (c : tie.After-nat-of) (k : ℕ) → k < start c .args .t1 .count → k < TASKS
 few c k q = omega (arith, held (c .before .before .before .before) .0 .lawful .few)
 
-placed : (c : tie.After-nat-of) (t : ℕ) → t < c .before .before .before .before .before .before .args .t1 .count → getD (c .before .before .before .order-of .result) t 0 < TASKS
+placed : (c : tie.After-nat-of) (t : ℕ) → t < start c .args .t1 .count → getD (c .before .before .before .order-of .result) t 0 < TASKS
 placed c t q =
-    let a = c .before .before .before .before .before .before .args in
+    let a = start c .args in
     let h = held (c .before .before .before .before) in
     few c _ (task-small (a .t1) (a .earliest .now) (a .latest .now) (a .w) (h .0) (h .1) _ (c .before .moments-of .ensures) _ (lasting c) _ (c .before .before .before .order-of .ensures) t q)
 
@@ -70,31 +73,32 @@ sub-last : tie.Need-sub-last
 sub-last c = some c
 
 mul-last : tie.Need-mul-last
-mul-last c = record { fits = omega (arith, few c (c .before .before .before .before .before .before .args .t1 .count - 1) (omega (arith, some c))) }
+mul-last c = record { fits = omega (arith, few c (start c .args .t1 .count - 1) (omega (arith, some c))) }
 
 array-read-last : tie.Need-array-read-last
-array-read-last c = few c (c .before .before .before .before .before .before .args .t1 .count - 1) (omega (arith, some c))
+array-read-last c = few c (start c .args .t1 .count - 1) (omega (arith, some c))
 
 mul-last-2 : tie.Need-mul-last-2
-mul-last-2 c = record { fits = omega (arith, placed c (c .before .before .before .before .before .before .args .t1 .count - 1) (omega (arith, some c))) }
+mul-last-2 c = record { fits = omega (arith, placed c (start c .args .t1 .count - 1) (omega (arith, some c))) }
 
 array-read-last-2 : tie.Need-array-read-last-2
-array-read-last-2 c = placed c (c .before .before .before .before .before .before .args .t1 .count - 1) (omega (arith, some c))
+array-read-last-2 c = placed c (start c .args .t1 .count - 1) (omega (arith, some c))
 
 busiest-requires : tie.Need-busiest-requires
 busiest-requires c κs =
-    let a = c .before .before .before .before .before .before .before .before .before .args in
-    let h = held (c .before .before .before .before .before .before .before) in
-    (slidable (a .t1) (a .earliest .now) (a .latest .now) (a .w) (h .0) (h .1) _ (c .before .before .before .before .moments-of .ensures) _ (lasting (c .before .before .before)) _ (c .before .before .before .before .before .before .order-of .ensures), runs (a .t1) (a .earliest .now) (a .latest .now) (a .w) (h .0) (h .1) _ (c .before .before .before .before .moments-of .ensures) _ (lasting (c .before .before .before)) _ (c .before .before .before .before .before .before .order-of .ensures))
+    let asked = c .before .before .before in
+    let a = start asked .args in
+    let h = held (asked .before .before .before .before) in
+    (slidable (a .t1) (a .earliest .now) (a .latest .now) (a .w) (h .0) (h .1) _ (asked .before .moments-of .ensures) _ (lasting asked) _ (asked .before .before .before .order-of .ensures), runs (a .t1) (a .earliest .now) (a .latest .now) (a .w) (h .0) (h .1) _ (asked .before .moments-of .ensures) _ (lasting asked) _ (asked .before .before .before .order-of .ensures))
 
 returns-2 : tie.Need-returns-2
 returns-2 c =
-    let at = c .before .before .before .before .before .before .before .before in
-    let s = at .before in
-    let a = c .before .before .before .before .before .before .before .before .before .before .before .args in
+    let asked = c .before .before .before .before .before in
+    let a = start asked .args in
+    let s = asked .before .before .before .before in
     let h = held s in
     let best = c .before .busiest in
-    answered (a .t1) (a .earliest .now) (a .latest .now) (a .w) _ (number s) (found (a .t1) (a .earliest .now) (a .latest .now) (a .w) (h .0) (h .1) _ (c .before .before .before .before .before .before .moments-of .ensures) _ (lasting (c .before .before .before .before .before)) _ (at .order-of .ensures) (best .result .covered) (best .result .start) (best .ensures) _ (back-of w32 (c .start-of .result) (c .start-of .ok) ∙ c .start-of .ensures))
+    answered (a .t1) (a .earliest .now) (a .latest .now) (a .w) _ (number s) (found (a .t1) (a .earliest .now) (a .latest .now) (a .w) (h .0) (h .1) _ (asked .before .moments-of .ensures) _ (lasting asked) _ (asked .before .before .before .order-of .ensures) (best .result .covered) (best .result .start) (best .ensures) _ (back-of w32 (c .start-of .result) (c .start-of .ok) ∙ c .start-of .ensures))
 
 pub busiest-stretch-spec : {M : Type 1} → statement M
 busiest-stretch-spec =

@@ -68,12 +68,10 @@ charge-of-requires c κs =
     )
 
 array-write-out : tie.Need-array-write-out Inv-loop μ-loop
-array-write-out c = omega (arith, c .before .before .before .before .before .before .pre .started .few)
+array-write-out c = let s = c .before .before .before .before .before .before in omega (arith, s .pre .started .few)
 
 add-sum : tie.Need-add-sum Inv-loop μ-loop
-add-sum c =
-    let loop = c .before .before .before .before .before .loop in
-    record { fits = omega (arith, cost-small c, loop .inv .1 .1 .1, c .before .before .before .before .before .before .pre .started .few) }
+add-sum c = let head = c .before .before .before .before .before in record { fits = omega (arith, cost-small c, head .loop .inv .1 .1 .1, head .before .pre .started .few) }
 
 loop-again : tie.Need-loop-again Inv-loop μ-loop
 loop-again c =

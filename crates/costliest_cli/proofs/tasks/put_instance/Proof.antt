@@ -7,10 +7,10 @@ use Rattle.costliest_cli.proofs.tasks.put_instance.Tie as tie
 
 returns : tie.Need-returns
 returns c =
-    let t = c .before .before .put-tasks in
-    let b = c .before .before .before .before .before .before .put-bytes in
-    let a = c .before .before .before .before .before .before .before .before .before .before .before .put-count in
-    (puts-instance (c .before .before .before .before .before .before .before .before .before .before .before .before .before .before .args .n) (a .ensures .0) (b .ensures) (t .ensures .0), omega (arith, a .ensures .1, b .ensures .end, t .ensures .1))
+    let tasks = c .before .before in
+    let feed = tasks .before .before .before .before in
+    let count = feed .before .before .before .before .before in
+    (puts-instance (count .before .before .before .args .n) (count .put-count .ensures .0) (feed .put-bytes .ensures) (tasks .put-tasks .ensures .0), omega (arith, count .put-count .ensures .1, feed .put-bytes .ensures .end, tasks .put-tasks .ensures .1))
 
 pub put-instance-spec : {M : Type 1} → statement M
 put-instance-spec =

@@ -7,13 +7,13 @@ use Rattle.costliest_cli.proofs.tasks.put_task.Tie as tie
 
 returns : tie.Need-returns
 returns c =
-    let f = c .before .before .put-bytes3 in
-    let e = c .before .before .before .before .before .before .before .put-count3 in
-    let d = c .before .before .before .before .before .before .before .before .before .before .before .put-bytes2 in
-    let k = c .before .before .before .before .before .before .before .before .before .before .before .before .before .before .before .before .put-count2 in
-    let b = c .before .before .before .before .before .before .before .before .before .before .before .before .before .before .before .before .before .before .before .before .put-bytes in
-    let a = c .before .before .before .before .before .before .before .before .before .before .before .before .before .before .before .before .before .before .before .before .before .before .before .before .before .put-count in
-    (puts-task (c .before .before .before .before .before .before .before .before .before .before .before .before .before .before .before .before .before .before .before .before .before .before .before .before .before .before .before .before .args .k) (a .ensures .0) (b .ensures) (k .ensures .0) (d .ensures) (e .ensures .0) (f .ensures), omega (arith, a .ensures .1, b .ensures .end, k .ensures .1, d .ensures .end, e .ensures .1, f .ensures .end))
+    let last = c .before .before in
+    let third = last .before .before .before .before .before in
+    let gap2 = third .before .before .before .before in
+    let second = gap2 .before .before .before .before .before in
+    let gap1 = second .before .before .before .before in
+    let first = gap1 .before .before .before .before .before in
+    (puts-task (first .before .before .before .args .k) (first .put-count .ensures .0) (gap1 .put-bytes .ensures) (second .put-count2 .ensures .0) (gap2 .put-bytes2 .ensures) (third .put-count3 .ensures .0) (last .put-bytes3 .ensures), omega (arith, first .put-count .ensures .1, gap1 .put-bytes .ensures .end, second .put-count2 .ensures .1, gap2 .put-bytes2 .ensures .end, third .put-count3 .ensures .1, last .put-bytes3 .ensures .end))
 
 pub put-task-spec : {M : Type 1} → statement M
 put-task-spec =

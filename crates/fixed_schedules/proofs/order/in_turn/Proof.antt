@@ -24,29 +24,42 @@ Inv-loop order earliest durations i₀ i = (i ≤ length earliest - 1) × (allBe
 abbrev μ-loop : tie.MeasureT-loop
 μ-loop order earliest durations i₀ i = length earliest - i
 
--- the two tasks
-task-small : (c : tie.In-loop Inv-loop μ-loop) → getD (c .before .before .args .order .now) (c .before .loop .i) 0 < length (c .before .before .args .earliest .now)
-task-small c = c .before .before .pre .tasks (c .before .loop .i) (omega arith)
+-- the entry, and the two tasks
+abbrev begin : tie.In-loop Inv-loop μ-loop → tie.Start Inv-loop μ-loop
+begin c = c .before .before
 
-next-small : (c : tie.In-loop Inv-loop μ-loop) → getD (c .before .before .args .order .now) (c .before .loop .i + 1) 0 < length (c .before .before .args .earliest .now)
-next-small c = c .before .before .pre .tasks (c .before .loop .i + 1) (omega arith)
+abbrev task-of : tie.In-loop Inv-loop μ-loop → ℕ
+task-of c = getD (begin c .args .order .now) (c .before .loop .i) 0
+
+abbrev next-of : tie.In-loop Inv-loop μ-loop → ℕ
+next-of c = getD (begin c .args .order .now) (c .before .loop .i + 1) 0
+
+task-small : (c : tie.In-loop Inv-loop μ-loop) → task-of c < length (begin c .args .earliest .now)
+task-small c = begin c .pre .tasks (c .before .loop .i) (omega arith)
+
+next-small : (c : tie.In-loop Inv-loop μ-loop) → next-of c < length (begin c .args .earliest .now)
+next-small c = begin c .pre .tasks (c .before .loop .i + 1) (omega arith)
 
 -- the moment of the first one's start
-moment-is : (c : tie.After-moment-of Inv-loop μ-loop) → c .moment-of .result ≡ moment zeroAt (startAt (c .before .before .before .before .before .before .args .earliest .now) (getD (c .before .before .before .before .before .before .args .order .now) (c .before .before .before .before .before .loop .i) 0))
-moment-is c = c .moment-of .ensures ∙ ap (moment zeroAt) (back-of w32 (startAt (c .before .before .before .before .before .before .args .earliest .now) (getD (c .before .before .before .before .before .before .args .order .now) (c .before .before .before .before .before .loop .i) 0)) (c .before .moment-of-arg .given))
+moment-is : (c : tie.After-moment-of Inv-loop μ-loop) → let turn = c .before .before .before .before in c .moment-of .result ≡ moment zeroAt (startAt (begin turn .args .earliest .now) (task-of turn))
+moment-is c =
+    let turn = c .before .before .before .before in
+    c .moment-of .ensures ∙ ap (moment zeroAt) (back-of w32 (startAt (begin turn .args .earliest .now) (task-of turn)) (c .before .moment-of-arg .given))
 
 -- what the test of the two says
-seen : (c : tie.After-moment-of2 Inv-loop μ-loop) → let s = c .before .before .before .before .before .before .before .before in let start = s .before in leb (c .before .before .before .moment-of .result + getD (start .args .durations .now) (getD (start .args .order .now) (s .loop .i) 0) 0) (c .moment-of2 .result) ≡ inTurnAt (start .args .order .now) (start .args .earliest .now) (start .args .durations .now) (s .loop .i)
+seen : (c : tie.After-moment-of2 Inv-loop μ-loop) → let turn = c .before .before .before .before .before .before .before in
+    let a = begin turn .args in
+    leb (c .before .before .before .moment-of .result + getD (a .durations .now) (task-of turn) 0) (c .moment-of2 .result) ≡ inTurnAt (a .order .now) (a .earliest .now) (a .durations .now) (turn .before .loop .i)
 seen c =
-    let s = c .before .before .before .before .before .before .before .before .before in
-    let i = c .before .before .before .before .before .before .before .before .loop .i in
+    let turn = c .before .before .before .before .before .before .before in
+    let s = begin turn in
     let es = s .args .earliest .now in
-    let j = getD (s .args .order .now) i 0 in
-    let k = getD (s .args .order .now) (i + 1) 0 in
+    let j = task-of turn in
+    let k = next-of turn in
     let d = getD (s .args .durations .now) j 0 in
     ap (λ (m : ℕ). leb (m + d) (c .moment-of2 .result)) (moment-is (c .before .before .before))
     ∙ ap (λ (m : ℕ). leb (moment zeroAt (startAt es j) + d) m) (c .moment-of2 .ensures ∙ ap (moment zeroAt) (back-of w32 (startAt es k) (c .before .moment-of-arg2 .given)))
-    ∙ turn-test (startAt es j) (startAt es k) d (s .pre .started .starts j (task-small (c .before .before .before .before .before .before .before))) (s .pre .started .starts k (next-small (c .before .before .before .before .before .before .before)))
+    ∙ turn-test (startAt es j) (startAt es k) d (s .pre .started .starts j (task-small turn)) (s .pre .started .starts k (next-small turn))
 
 loop-holds : tie.Need-loop-holds Inv-loop μ-loop
 loop-holds c = (omega arith, all-none _)
@@ -64,35 +77,36 @@ shared-slice-copy-out-moment-of : tie.Need-shared-slice-copy-out-moment-of Inv-l
 shared-slice-copy-out-moment-of c = task-small (c .before .before)
 
 mul-end : tie.Need-mul-end Inv-loop μ-loop
-mul-end c = record { fits = omega (arith, task-small (c .before .before .before .before), c .before .before .before .before .before .before .pre .started .few) }
+mul-end c = let turn = c .before .before .before .before in record { fits = omega (arith, task-small turn, begin turn .pre .started .few) }
 
 element-copy-out-end : tie.Need-element-copy-out-end Inv-loop μ-loop
-element-copy-out-end c = omega (arith, task-small (c .before .before .before .before), c .before .before .before .before .before .before .pre .started .few)
+element-copy-out-end c = let turn = c .before .before .before .before in omega (arith, task-small turn, begin turn .pre .started .few)
 
 add-end : tie.Need-add-end Inv-loop μ-loop
 add-end c =
-    let s = c .before .before .before .before .before .before .before in
-    let j = getD (s .args .order .now) (c .before .before .before .before .before .before .loop .i) 0 in
-    let q = task-small (c .before .before .before .before .before) in
+    let turn = c .before .before .before .before .before in
+    let s = begin turn in
+    let j = task-of turn in
+    let q = task-small turn in
     record { fits = omega (arith, moment-is (c .before), start-moment (startAt (s .args .earliest .now) j) (s .pre .started .starts j q), s .pre .durations j q) }
 
 mul-moment-of-2 : tie.Need-mul-moment-of-2 Inv-loop μ-loop
-mul-moment-of-2 c = record { fits = omega (arith, next-small (c .before .before .before .before .before), c .before .before .before .before .before .before .before .pre .started .few) }
+mul-moment-of-2 c = let turn = c .before .before .before .before .before in record { fits = omega (arith, next-small turn, begin turn .pre .started .few) }
 
 shared-slice-copy-out-moment-of-2 : tie.Need-shared-slice-copy-out-moment-of-2 Inv-loop μ-loop
 shared-slice-copy-out-moment-of-2 c = next-small (c .before .before .before .before .before)
 
 returns : tie.Need-returns Inv-loop μ-loop
 returns c =
-    let s = c .before .before .before .before .before .before .before .before in
-    let start = s .before in
-    sym (all-broken _ _ (start .loop .i) (omega (arith, s .loop-test .taken)) (sym (seen (c .before)) ∙ lt-leb _ _ (c .if1 .taken)))
+    let turn = c .before .before .before .before .before .before .before .before in
+    let head = turn .before in
+    sym (all-broken _ _ (head .loop .i) (omega (arith, turn .loop-test .taken)) (sym (seen (c .before)) ∙ lt-leb _ _ (c .if1 .taken)))
 
 loop-again : tie.Need-loop-again Inv-loop μ-loop
 loop-again c =
-    let s = c .before .before .before .before .before .before .before .before in
-    let start = s .before in
-    (omega (arith, s .loop-test .taken), all-more _ _ (start .loop .inv .1) (sym (seen (c .before)) ∙ le-leb _ _ (c .if1 .left)))
+    let turn = c .before .before .before .before .before .before .before .before in
+    let head = turn .before in
+    (omega (arith, turn .loop-test .taken), all-more _ _ (head .loop .inv .1) (sym (seen (c .before)) ∙ le-leb _ _ (c .if1 .left)))
 
 returns-2 : tie.Need-returns-2 Inv-loop μ-loop
 returns-2 c =

@@ -25,12 +25,18 @@ held c = let a = c .before .before .before .before .args in accepted-ranges (a .
 one : (c : tie.Else2) → let a = c .before .before .before .before .before .before .args in allBelow (oneStartAt (a .earliest .now) (a .latest .now)) (length (a .earliest .now)) ≡ true
 one c = sym (c .before .one-start .ensures) ∙ not-false _ (c .if2 .left)
 
--- the test of neighbours is that of all pairs
-pairs : (c : tie.After-in-turn) → let a = c .before .before .before .before .before .before .before .before .before .before .before .args in c .in-turn .result ≡ allApart (a .t1 .durations) (a .earliest .now) (length (a .earliest .now))
-pairs c = let a = c .before .before .before .before .before .before .before .before .before .before .before .args in c .in-turn .ensures ∙ turns-are (a .t1 .durations) (a .earliest .now) _ (c .before .before .before .before .order-of .ensures) (lasting (a .t1) (a .earliest .now) (a .latest .now) (held (c .before .before .before .before .before .before .before)))
+-- the test of neighbours is that of all pairs, of a record and ranges that have passed
+abbrev passing : tie.After-in-turn → tie.Else1
+passing c = c .before .before .before .before .before .before .before
+
+pairs : (c : tie.After-in-turn) → let a = passing c .before .before .before .before .args in c .in-turn .result ≡ allApart (a .t1 .durations) (a .earliest .now) (length (a .earliest .now))
+pairs c =
+    let ranged = passing c in
+    let a = ranged .before .before .before .before .args in
+    c .in-turn .ensures ∙ turns-are (a .t1 .durations) (a .earliest .now) _ (c .before .before .before .before .order-of .ensures) (lasting (a .t1) (a .earliest .now) (a .latest .now) (held ranged))
 
 -- no two tasks overlap
-apart : (c : tie.Else3) → let a = c .before .before .before .before .before .before .before .before .before .before .before .before .args in allApart (a .t1 .durations) (a .earliest .now) (length (a .earliest .now)) ≡ true
+apart : (c : tie.Else3) → let a = passing (c .before) .before .before .before .before .args in allApart (a .t1 .durations) (a .earliest .now) (length (a .earliest .now)) ≡ true
 apart c = sym (pairs (c .before)) ∙ not-false _ (c .if3 .left)
 
 returns : tie.Need-returns
@@ -48,17 +54,19 @@ order-of-requires : tie.Need-order-of-requires
 order-of-requires c κs = let a = c .before .before .before .before .before .before .args in started (a .t1) (a .earliest .now) (a .latest .now) (held (c .before .before))
 
 in-turn-requires : tie.Need-in-turn-requires
-in-turn-requires c κs = let a = c .before .before .before .before .before .before .before .before .before .before .args in listed (a .t1) (a .earliest .now) (a .latest .now) (held (c .before .before .before .before .before .before)) _ (c .before .before .before .order-of .ensures)
+in-turn-requires c κs = let ranged = c .before .before .before .before .before .before in let a = ranged .before .before .before .before .args in listed (a .t1) (a .earliest .now) (a .latest .now) (held ranged) _ (c .before .before .before .order-of .ensures)
 
 returns-3 : tie.Need-returns-3
 returns-3 c =
-    let start = c .before .before .before .before .before .before .before .before in
-    let a = c .before .before .before .before .before .before .before .before .before .before .before .before .args in sym (overlapping (a .t1) (a .earliest .now) (a .latest .now) (passed start) (sym (pairs (c .before)) ∙ not-true _ (c .if3 .taken)))
+    let ranged = passing (c .before) in
+    let a = ranged .before .before .before .before .args in
+    sym (overlapping (a .t1) (a .earliest .now) (a .latest .now) (passed ranged) (sym (pairs (c .before)) ∙ not-true _ (c .if3 .taken)))
 
 returns-4 : tie.Need-returns-4
 returns-4 c =
-    let start = c .before .before .before .before .before .before .before .before in
-    let a = c .before .before .before .before .before .before .before .before .before .before .before .before .args in sym (none-wrong (a .t1) (a .earliest .now) (a .latest .now) (passed start) (one (c .before .before .before .before .before .before)) (apart c))
+    let ranged = passing (c .before) in
+    let a = ranged .before .before .before .before .args in
+    sym (none-wrong (a .t1) (a .earliest .now) (a .latest .now) (passed ranged) (one (c .before .before .before .before .before .before)) (apart c))
 
 pub fixed-refusal-spec : {M : Type 1} → statement M
 fixed-refusal-spec =

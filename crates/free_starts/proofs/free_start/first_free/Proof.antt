@@ -46,21 +46,23 @@ element-copy-out-end : tie.Need-element-copy-out-end Inv-loop μ-loop
 element-copy-out-end c = omega (arith, small (c .before .before .before), c .before .before .before .before .before .pre .few)
 
 mul-end-2 : tie.Need-mul-end-2 Inv-loop μ-loop
-mul-end-2 c = record { fits = omega (arith, small (c .before .before .before .before), c .before .before .before .before .before .before .pre .few) }
+mul-end-2 c = let turn = c .before .before .before .before in record { fits = omega (arith, small turn, turn .before .before .pre .few) }
 
 element-copy-out-end-2 : tie.Need-element-copy-out-end-2 Inv-loop μ-loop
-element-copy-out-end-2 c = omega (arith, small (c .before .before .before .before), c .before .before .before .before .before .before .pre .few)
+element-copy-out-end-2 c = let turn = c .before .before .before .before in omega (arith, small turn, turn .before .before .pre .few)
 
 add-end : tie.Need-add-end Inv-loop μ-loop
 add-end c =
-    let s = c .before .before .before .before .before .before .before in
-    record { fits = omega (arith, s .pre .ends (getD (s .args .order .now) (c .before .before .before .before .before .before .loop .i) 0) (small (c .before .before .before .before .before))) }
+    let turn = c .before .before .before .before .before in
+    let s = turn .before .before in
+    record { fits = omega (arith, s .pre .ends (getD (s .args .order .now) (turn .before .loop .i) 0) (small turn)) }
 
 loop-again : tie.Need-loop-again Inv-loop μ-loop
 loop-again c =
-    let s = c .before .before .before .before .before .before .before .before in
-    let l = c .before .before .before .before .before .before .before .loop in
-    let q = c .before .before .before .before .before .before .loop-test .taken in
+    let turn = c .before .before .before .before .before .before in
+    let s = turn .before .before in
+    let l = turn .before .loop in
+    let q = turn .loop-test .taken in
     let J = inMoments (s .args .n) (s .args .starts .now) (s .args .durations .now) in
     let at : ℕ → ℕ = λ p. getD (s .args .order .now) p 0 in
     let j = getD (s .args .order .now) (l .i) 0 in

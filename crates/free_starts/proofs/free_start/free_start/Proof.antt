@@ -32,12 +32,15 @@ number c = sym (said (c .before)) ∙ c .if1 .left
 held : (c : tie.Else1) → let a = c .before .before .args in AcceptedFixed (a .t1) (a .earliest .now) (a .latest .now) × (LengthFits (a .d) × MomentFits (a .t))
 held c = let a = c .before .before .args in accepted-question (a .t1) (a .earliest .now) (a .latest .now) (a .t) (a .d) .0 (number c)
 
--- what is asked, in moments
-from : (c : tie.After-moment-of) → c .moment-of .result ≡ moment zeroAt (c .before .before .before .before .before .before .args .t)
-from c = c .moment-of .ensures ∙ ap (moment zeroAt) (back (c .before .before .before .before .before .before .fits .t))
+-- the entry, and what is asked, in moments
+abbrev start : tie.After-moment-of → tie.Start
+start c = c .before .before .before .before .before .before
 
-lasting : (c : tie.After-nat-of) → pos (c .nat-of .result) ≡ c .before .before .before .before .before .before .before .args .d
-lasting c = c .nat-of .ensures ∙ back (c .before .before .before .before .before .before .before .fits .d)
+from : (c : tie.After-moment-of) → c .moment-of .result ≡ moment zeroAt (start c .args .t)
+from c = c .moment-of .ensures ∙ ap (moment zeroAt) (back (start c .fits .t))
+
+lasting : (c : tie.After-nat-of) → pos (c .nat-of .result) ≡ start (c .before) .args .d
+lasting c = c .nat-of .ensures ∙ back (start (c .before) .fits .d)
 
 returns : tie.Need-returns
 returns c = let a = c .before .before .args in refused (a .t1) (a .earliest .now) (a .latest .now) (a .t) (a .d) _ (said (c .before)) (c .if1 .taken)
@@ -50,24 +53,25 @@ moments-of-requires c κs = let h = held (c .before .before) .0 in omega (arith,
 
 nat-of-requires : tie.Need-nat-of-requires
 unfolding up dn
-nat-of-requires c κs = omega (ints, back (c .before .before .before .before .before .before .fits .d), held (c .before .before .before .before) .1 .0 .low)
+nat-of-requires c κs = omega (ints, back (start c .fits .d), held (c .before .before .before .before) .1 .0 .low)
 
 first-free-requires : tie.Need-first-free-requires
 first-free-requires c κs =
-    let s = c .before .before .before .before .before .before .before .before in
-    let start = s .before in
-    let a = c .before .before .before .before .before .before .before .before .before .before .before .args in
-    let h = held start in
-    askable (a .t1) (a .earliest .now) (a .latest .now) (a .t) (a .d) (h .0) (h .1) _ (c .before .before .before .before .before .before .moments-of .ensures) _ _ (from (c .before .before .before .before .before)) (lasting (c .before .before .before .before)) _ (s .order-of .ensures)
+    let moments = c .before .before .before .before .before .before in
+    let ordered = moments .before .before in
+    let passed = ordered .before in
+    let a = passed .before .before .args in
+    let h = held passed in
+    askable (a .t1) (a .earliest .now) (a .latest .now) (a .t) (a .d) (h .0) (h .1) _ (moments .moments-of .ensures) _ _ (from (c .before .before .before .before .before)) (lasting (c .before .before .before .before)) _ (ordered .order-of .ensures)
 
 returns-2 : tie.Need-returns-2
 returns-2 c =
-    let s = c .before .before .before .before .before .before .before .before in
-    let start = s .before .before .before in
-    let a = c .before .before .before .before .before .before .before .before .before .before .before .before .before .args in
-    let h = held start in
+    let moments = c .before .before .before .before .before .before .before .before in
+    let passed = moments .before .before .before in
+    let a = passed .before .before .args in
+    let h = held passed in
     let free = c .before .first-free in
-    answered (a .t1) (a .earliest .now) (a .latest .now) (a .t) (a .d) _ (number start) (found (a .t1) (a .earliest .now) (a .latest .now) (a .t) (a .d) (h .0) (h .1) _ (s .moments-of .ensures) _ _ (from (c .before .before .before .before .before .before .before)) (lasting (c .before .before .before .before .before .before)) (free .result) (free .ensures .0) (free .ensures .1) _ (back-of w32 (c .start-of .result) (c .start-of .ok) ∙ c .start-of .ensures))
+    answered (a .t1) (a .earliest .now) (a .latest .now) (a .t) (a .d) _ (number passed) (found (a .t1) (a .earliest .now) (a .latest .now) (a .t) (a .d) (h .0) (h .1) _ (moments .moments-of .ensures) _ _ (from (c .before .before .before .before .before .before .before)) (lasting (c .before .before .before .before .before .before)) (free .result) (free .ensures .0) (free .ensures .1) _ (back-of w32 (c .start-of .result) (c .start-of .ok) ∙ c .start-of .ensures))
 
 pub free-start-spec : {M : Type 1} → statement M
 free-start-spec =

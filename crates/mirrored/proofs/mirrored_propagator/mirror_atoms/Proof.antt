@@ -33,24 +33,24 @@ loop-holds : tie.Need-loop-holds Inv-loop μ-loop
 loop-holds c = record { held = c .pre; told = λ h. h .words-are ∙ ap (λ (l : List Atom). atomWords l ++ h .tail) (sym (atoms-begin (h .ds) (h .atoms))); small = omega arith; size = refl }
 
 mirror-kind-requires : tie.Need-mirror-kind-requires Inv-loop μ-loop
-mirror-kind-requires c κs =
-    let l = c .before .before .loop in
-    let v = l .inv in
-    kind-mirrorable (v .held) (l .atoms) (l .k) (omega arith) (v .told (v .held))
+mirror-kind-requires c κs = let l = c .before .before .before .loop in let v = l .inv in rw (c .kind-at .ensures) (kind-mirrorable (v .held) (l .atoms) (l .k) (omega arith) (v .told (v .held)))
 
 mirror-word-requires : tie.Need-mirror-word-requires Inv-loop μ-loop
 mirror-word-requires c κs =
-    let l = c .before .before .before .before .before .loop in
+    let called = c .before .before .before .before in
+    let l = called .before .before .before .before .loop in
     let v = l .inv in
-    value-mirrorable (v .held) (l .atoms) (l .k) (omega arith) (v .told (v .held)) (c .before .before .mirror-kind .ensures)
+    rw (c .before .variable-at .ensures, c .value-at .ensures) (value-mirrorable (v .held) (l .atoms) (l .k) (omega arith) (v .told (v .held)) (called .before .kind-at .ensures) (called .mirror-kind .ensures))
 
 loop-again : tie.Need-loop-again Inv-loop μ-loop
 loop-again c =
-    let l = c .before .before .before .before .before .before .before .loop in
+    let placed = c .before .before in
+    let called = placed .before .before .before .before in
+    let l = called .before .before .before .before .loop in
     let v = l .inv in
     record {
       held = v .held;
-      told = λ h. atom-told h (l .atoms) (l .k) (omega arith) (v .told h) (c .before .before .before .before .mirror-kind .ensures) (c .before .mirror-word .ensures);
+      told = λ h. atom-told h (l .atoms) (l .k) (omega arith) (v .told h) (called .before .kind-at .ensures) (called .mirror-kind .ensures) (placed .before .variable-at .ensures) (placed .value-at .ensures) (c .before .mirror-word .ensures);
       small = omega arith;
       size = search needs;
     }
@@ -65,6 +65,6 @@ pub mirror-atoms-spec : {M : Type 1} → statement M
 mirror-atoms-spec =
     tie.close
     (tie.spec
-    Inv-loop μ-loop loop-holds (λ c. search needs) (λ c. search needs) mirror-kind-requires (λ c. search needs)
-    (λ c. search needs) (λ c. search needs) mirror-word-requires (λ c. search needs) (λ c. search needs) loop-again
+    Inv-loop μ-loop loop-holds (λ c κs. search needs) mirror-kind-requires (λ c κs. search needs)
+    (λ c κs. search needs) mirror-word-requires (λ c. search needs) (λ c. search needs) loop-again
     (λ c. search needs) returns)

@@ -34,17 +34,18 @@ loop-holds c = record { held = c .pre; told = λ h. h .words-are ∙ ap (λ (l :
 
 mirror-word-requires : tie.Need-mirror-word-requires Inv-loop μ-loop
 mirror-word-requires c κs =
-    let l = c .before .before .loop in
+    let l = c .before .before .before .before .loop in
     let v = l .inv in
-    post-mirrorable (v .held) (l .posts) (l .j) (omega arith) (v .told (v .held))
+    rw (c .before .task-at .ensures, c .bound-at .ensures) (post-mirrorable (v .held) (l .posts) (l .j) (omega arith) (v .told (v .held)))
 
 loop-again : tie.Need-loop-again Inv-loop μ-loop
 loop-again c =
-    let l = c .before .before .before .before .loop in
+    let called = c .before .before in
+    let l = called .before .before .before .before .loop in
     let v = l .inv in
     record {
       held = v .held;
-      told = λ h. post-told h (l .posts) (l .j) (omega arith) (v .told h) (c .before .mirror-word .ensures);
+      told = λ h. post-told h (l .posts) (l .j) (omega arith) (v .told h) (called .before .task-at .ensures) (called .bound-at .ensures) (c .before .mirror-word .ensures);
       small = omega arith;
       size = search needs;
     }
@@ -59,5 +60,5 @@ pub mirror-posts-spec : {M : Type 1} → statement M
 mirror-posts-spec =
     tie.close
     (tie.spec
-    Inv-loop μ-loop loop-holds (λ c. search needs) (λ c. search needs) (λ c. search needs) mirror-word-requires
+    Inv-loop μ-loop loop-holds (λ c κs. search needs) (λ c κs. search needs) mirror-word-requires
     (λ c. search needs) (λ c. search needs) loop-again (λ c. search needs) returns)

@@ -37,17 +37,19 @@ run-in-mirror-requires c κs = passed (c .before .before .before .before) .0
 
 tell-requires : tie.Need-tell-requires
 tell-requires c κs =
-    let e = c .before .before .before .before .before .before .before .before .before .before .before in
+    let ran = c .before .before .before .before .before .before in
+    let e = ran .before .before .before .before .before in
     let s = e .before .before .before .before .before in
     let a = s .args in
-    ended (a .t1) (a .earliest .now) (a .latest .now) (length (a .posts .now)) (length (a .atoms .now)) (passed e .0) (long s) (c .before .before .before .before .before .before .run-in-mirror .ensures)
+    ended (a .t1) (a .earliest .now) (a .latest .now) (length (a .posts .now)) (length (a .atoms .now)) (passed e .0) (long s) (ran .run-in-mirror .ensures)
 
 returns-2 : tie.Need-returns-2
 returns-2 c =
-    let e = c .before .before .before .before .before .before .before .before .before .before .before .before .before .before in
+    let ran = c .before .before .before .before .before .before .before .before .before in
+    let e = ran .before .before .before .before .before in
     let s = e .before .before .before .before .before in
     let a = s .args in
-    let r = c .before .before .before .before .before .before .before .before .before .run-in-mirror .ensures in
+    let r = ran .run-in-mirror .ensures in
     let l = left-mirrored (a .t1) (a .earliest .now) (a .latest .now) (length (a .posts .now)) (length (a .atoms .now)) (passed e .0) (long s) r (omega arith) (omega arith)
     (c .before .before .tell .ensures (ended (a .t1) (a .earliest .now) (a .latest .now) (length (a .posts .now)) (length (a .atoms .now)) (passed e .0) (long s) r)) in
     record {

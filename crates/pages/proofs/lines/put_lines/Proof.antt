@@ -1,8 +1,9 @@
 -- The invariant: behind the heading stand the lines of the first i tasks of the order, LINE bytes each.
 use mathlib.Core.Path.{_≡_, refl, _∙_}
 use mathlib.Core.List.{flatMap}
-use Prim.Native.Nat.{_+_, _-_, _*_, _≤_, _<_}
+use Prim.Native.Nat.{ℕ, _+_, _-_, _*_, _≤_, _<_}
 use native.Mathlib.Omega.{arith}
+use lib.IntN.{ℤ}
 use lib.ListN.{length, getD, take}
 use borrow.Author.Needs.{needs}
 use mir.Syntax.{w32}
@@ -24,67 +25,69 @@ Inv-loop out₀ order earliest durations at₀ i₀ out at i = (i ≤ length ear
 abbrev μ-loop : tie.MeasureT-loop
 μ-loop out₀ order earliest durations at₀ i₀ out at i = length earliest - i
 
--- the task, and its start as the machine hands it on
-small : (c : tie.In-loop Inv-loop μ-loop) → getD (c .before .before .before .before .before .before .before .args .order .now) (c .before .loop .i) 0 < length (c .before .before .before .before .before .before .before .args .earliest .now)
-small c = c .before .before .before .before .before .before .before .pre .0 .tasks (c .before .loop .i) (omega (arith, c .loop-test .taken))
+-- the entry
+abbrev begin : tie.In-loop Inv-loop μ-loop → tie.Start Inv-loop μ-loop
+begin c = c .before .before .before .before .before .before .before
 
-start-is : (c : tie.After-put-line-arg2 Inv-loop μ-loop) → let start = c .before .before .before .before .before .before .before .before .before .before in toZ w32 (ofZ w32 (startAt (start .args .earliest .now) (getD (start .args .order .now) (c .before .before .before .before .loop .i) 0))) ≡ startAt (start .args .earliest .now) (getD (start .args .order .now) (c .before .before .before .before .loop .i) 0)
-start-is c =
-    let start = c .before .before .before .before .before .before .before .before .before .before in
-    back-of w32 (startAt (start .args .earliest .now) (getD (start .args .order .now) (c .before .before .before .before .loop .i) 0)) (c .put-line-arg2 .given)
+-- the task, and its start as the machine hands it on
+abbrev task-of : tie.In-loop Inv-loop μ-loop → ℕ
+task-of c = getD (begin c .args .order .now) (c .before .loop .i) 0
+
+small : (c : tie.In-loop Inv-loop μ-loop) → task-of c < length (begin c .args .earliest .now)
+small c = begin c .pre .0 .tasks (c .before .loop .i) (omega (arith, c .loop-test .taken))
+
+abbrev start-of : tie.In-loop Inv-loop μ-loop → ℤ
+start-of c = startAt (begin c .args .earliest .now) (task-of c)
+
+start-is : (c : tie.After-put-line-arg2 Inv-loop μ-loop) → let turn = c .before .before .before in toZ w32 (ofZ w32 (start-of turn)) ≡ start-of turn
+start-is c = back-of w32 (start-of (c .before .before .before)) (c .put-line-arg2 .given)
 
 put-heading-requires : tie.Need-put-heading-requires Inv-loop μ-loop
 put-heading-requires c κs = omega (arith, c .before .before .pre .1)
 
 loop-holds : tie.Need-loop-holds Inv-loop μ-loop
-loop-holds c = (omega arith, refl, omega arith, puts-none (lineAt (c .before .before .before .before .before .args .durations .now) (c .before .before .before .before .before .args .earliest .now)) (c .before .before .before .before .before .args .order .now) _ _)
+loop-holds c = let a = c .before .before .before .before .before .args in (omega arith, refl, omega arith, puts-none (lineAt (a .durations .now) (a .earliest .now)) (a .order .now) _ _)
 
 element-copy-out-task : tie.Need-element-copy-out-task Inv-loop μ-loop
-element-copy-out-task c = omega (arith, c .before .before .before .before .before .before .before .pre .0 .started .few, c .loop-test .taken)
+element-copy-out-task c = let few = begin c .pre .0 .started .few in omega (arith, few, c .loop-test .taken)
 
 mul-put-line : tie.Need-mul-put-line Inv-loop μ-loop
-mul-put-line c =
-    let start = c .before .before .before .before .before .before .before .before .before in
-    record { fits = omega (arith, small (c .before .before), start .pre .0 .started .few) }
+mul-put-line c = let turn = c .before .before in record { fits = omega (arith, small turn, begin turn .pre .0 .started .few) }
 
 shared-slice-copy-out-put-line : tie.Need-shared-slice-copy-out-put-line Inv-loop μ-loop
 shared-slice-copy-out-put-line c = small (c .before .before)
 
 mul-put-line-2 : tie.Need-mul-put-line-2 Inv-loop μ-loop
-mul-put-line-2 c =
-    let start = c .before .before .before .before .before .before .before .before .before .before in
-    record { fits = omega (arith, small (c .before .before .before), start .pre .0 .started .few) }
+mul-put-line-2 c = let turn = c .before .before .before in record { fits = omega (arith, small turn, begin turn .pre .0 .started .few) }
 
 element-copy-out-put-line : tie.Need-element-copy-out-put-line Inv-loop μ-loop
-element-copy-out-put-line c =
-    let start = c .before .before .before .before .before .before .before .before .before .before in
-    omega (arith, small (c .before .before .before), start .pre .0 .started .few)
+element-copy-out-put-line c = let turn = c .before .before .before in omega (arith, small turn, begin turn .pre .0 .started .few)
 
 put-line-requires : tie.Need-put-line-requires Inv-loop μ-loop
 put-line-requires c κs =
-    let start = c .before .before .before .before .before .before .before .before in
-    let s = c .before .before .before .before .before .before .before .before .before .before .before in
-    let l = c .before .before .before .before .before .loop in
-    let k = getD (s .args .order .now) (l .i) 0 in
-    let q = small (c .before .before .before .before) in
-    (omega (arith, l .inv .1, l .inv .2, start .put-heading .ensures .end, puts-length (start .put-heading .ensures), s .pre .1, c .before .before .before .before .loop-test .taken), omega (arith, q, s .pre .0 .started .few), rw (start-is (c .before)) (s .pre .0 .started .starts k q), s .pre .0 .durations k q)
+    let turn = c .before .before .before .before in
+    let s = begin turn in
+    let l = turn .before .loop in
+    let heading = turn .before .before .before .before .put-heading .ensures in
+    let q = small turn in
+    (omega (arith, l .inv .1, l .inv .2, heading .end, puts-length heading, s .pre .1, turn .loop-test .taken), omega (arith, q, s .pre .0 .started .few), rw (start-is (c .before)) (s .pre .0 .started .starts (task-of turn) q), s .pre .0 .durations (task-of turn) q)
 
 loop-again : tie.Need-loop-again Inv-loop μ-loop
 loop-again c =
-    let s = c .before .before .before .before .before .before .before .before .before .before .before .before .before .before in
-    let l = c .before .before .before .before .before .before .before .before .loop in
+    let turn = c .before .before .before .before .before .before .before in
+    let s = begin turn in
+    let l = turn .before .loop in
     let es = s .args .earliest .now in
     let ds = s .args .durations .now in
-    let k = getD (s .args .order .now) (l .i) 0 in
-    let q = small (c .before .before .before .before .before .before .before) in
+    let k = task-of turn in
     let w = puts-at k (getD ds k 0) (start-is (c .before .before .before .before)) (c .before .before .put-line .ensures) in
-    (omega (arith, c .before .before .before .before .before .before .before .loop-test .taken), puts-length w ∙ l .inv .1, omega (arith, w .end, l .inv .2, each-line ds es (s .pre .0 .started) (s .pre .0 .durations) k q), puts-next (lineAt ds es) (s .args .order .now) (l .i) (omega (arith, s .pre .0 .long, c .before .before .before .before .before .before .before .loop-test .taken)) (l .inv .3) w)
+    (omega (arith, turn .loop-test .taken), puts-length w ∙ l .inv .1, omega (arith, w .end, l .inv .2, each-line ds es (s .pre .0 .started) (s .pre .0 .durations) k (small turn)), puts-next (lineAt ds es) (s .args .order .now) (l .i) (omega (arith, s .pre .0 .long, turn .loop-test .taken)) (l .inv .3) w)
 
 returns : tie.Need-returns Inv-loop μ-loop
 returns c =
-    let a = c .before .before .before .before .before .before .before .args in
+    let s = c .before .before .before .before .before .before .before in
     let l = c .before .loop in
-    let e : l .i ≡ length (a .earliest .now) = omega (arith, l .inv .0, c .loop-test .left) in
+    let e : l .i ≡ length (s .args .earliest .now) = omega (arith, l .inv .0, c .loop-test .left) in
     puts-append (c .before .before .before .before .put-heading .ensures) (rw e at (l .inv .3))
 
 pub put-lines-spec : {M : Type 1} → statement M

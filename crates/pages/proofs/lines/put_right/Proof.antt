@@ -7,8 +7,9 @@ use Rattle.pages.proofs.lines.put_right.Tie as tie
 
 returns : tie.Need-returns
 returns c =
-    let s = c .before .before .before .before .before .before .before .before .before .before in
-    right-aligned (s .args .width) (s .args .x) (back (s .fits .x)) (c .before .before .before .before .before .before .before .put-number .ensures .0) (s .pre .1) (s .pre .2) (c .before .before .put-bytes .ensures)
+    let put = c .before .before .before .before .before .before .before in
+    let s = put .before .before .before in
+    right-aligned (s .args .width) (s .args .x) (back (s .fits .x)) (put .put-number .ensures .0) (s .pre .1) (s .pre .2) (c .before .before .put-bytes .ensures)
 
 pub put-right-spec : {M : Type 1} → statement M
 put-right-spec =

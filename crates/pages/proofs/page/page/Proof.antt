@@ -31,9 +31,10 @@ put-lines-requires c κs =
 
 returns-2 : tie.Need-returns-2
 returns-2 c =
-    let start = c .before .before .before .before .before .before .before .before in
-    let a = c .before .before .before .before .before .before .before .before .before .before .before .args in
-    written (a .t1) (a .earliest .now) (a .latest .now) (a .out .now) _ (c .before .before .put-lines .result) (number start) (c .before .before .before .before .before .before .before .order-of .ensures) (c .before .before .put-lines .ensures)
+    let ordered = c .before .before .before .before .before .before .before in
+    let passed = ordered .before in
+    let a = passed .before .before .before .args in
+    written (a .t1) (a .earliest .now) (a .latest .now) (a .out .now) _ (c .before .before .put-lines .result) (number passed) (ordered .order-of .ensures) (c .before .before .put-lines .ensures)
 
 pub page-spec : {M : Type 1} → statement M
 page-spec =

@@ -2,13 +2,13 @@
 use mathlib.Core.Path.{_≡_, sym, ap, subst, _∙_}
 use mathlib.Core.List.{List, _++_}
 use mathlib.Core.Logic.{_⊎_}
-use Prim.Native.Nat.{ℕ}
+use Prim.Native.Nat.{ℕ, _*_}
 use native.Mathlib.Omega.{arith}
 use lib.IntN.{ℤ, pos}
 use lib.ListN.{length, take, drop, length-replicate}
 use lib.Seq.{length-take-le, length-front, take-at}
 use borrow.Author.Needs.{needs}
-use Rattle.integers.specs.Limits.{TASKS}
+use Rattle.integers.specs.Limits.{TASKS, ATOMS}
 use Rattle.runs.specs.Traces.{Trace}
 use Rattle.plan_cli.specs.RunSlices.{Shown}
 use Rattle.plan_cli.specs.Printed.{ranOn}
@@ -16,30 +16,44 @@ use Rattle.plan_cli.proofs.Leaving.{shows}
 use Rattle.plan_cli.proofs.answer.put_ran.Statement.{statement}
 use Rattle.plan_cli.proofs.answer.put_ran.Tie as tie
 
+-- the entry
+abbrev start : tie.After-propagate → tie.Start
+start c = c .before .before .before .before .before .before
+
 all-earliest : (c : tie.Start) → length (c .args .earliest) ≡ TASKS
 all-earliest c = search needs
 
 all-latest : (c : tie.Start) → length (c .args .t5) ≡ TASKS
 all-latest c = search needs
 
--- the starts that the run left, in front of the array
-starts-long : (c : tie.After-propagate) → length (c .propagate .last .1 .0) ≡ c .before .before .before .before .before .before .args .n
-starts-long c = c .propagate .kept .1 .0 ∙ length-take-le (c .before .before .before .before .before .before .args .n) (c .before .before .before .before .before .before .args .earliest) (omega (arith, all-earliest (c .before .before .before .before .before .before), c .before .before .before .before .before .before .pre .0))
+-- what the run left: the starts, the posts and the atoms
+abbrev starts-left : tie.After-propagate → List ℤ
+starts-left c = c .propagate .last .1 .0
 
-starts-front : (c : tie.After-propagate) → take (c .before .before .before .before .before .before .args .n) (c .propagate .last .1 .0 ++ drop (c .before .before .before .before .before .before .args .n) (c .before .before .before .before .before .before .args .earliest)) ≡ c .propagate .last .1 .0
-starts-front c = take-at (c .propagate .last .1 .0) (drop (c .before .before .before .before .before .before .args .n) (c .before .before .before .before .before .before .args .earliest)) (c .before .before .before .before .before .before .args .n) (starts-long c)
+abbrev posts-left : tie.After-propagate → List ℤ
+posts-left c = c .propagate .last .1 .1 .1 .1 .0
 
--- what the run left is what is shown
+abbrev atoms-left : tie.After-propagate → List ℤ
+atoms-left c = c .propagate .last .1 .1 .1 .1 .1 .0
+
+-- the starts stand in front of the array
+starts-long : (c : tie.After-propagate) → length (starts-left c) ≡ start c .args .n
+starts-long c = c .propagate .kept .1 .0 ∙ length-take-le (start c .args .n) (start c .args .earliest) (omega (arith, all-earliest (start c), start c .pre .0))
+
+starts-front : (c : tie.After-propagate) → take (start c .args .n) (starts-left c ++ drop (start c .args .n) (start c .args .earliest)) ≡ starts-left c
+starts-front c = take-at (starts-left c) (drop (start c .args .n) (start c .args .earliest)) (start c .args .n) (starts-long c)
+
+-- they are what is shown
 abbrev answer-of : tie.After-propagate → ℕ ⊎ Trace
-answer-of c = ranOn (c .before .before .before .before .before .before .args .«record») (take (c .before .before .before .before .before .before .args .n) (c .before .before .before .before .before .before .args .earliest)) (take (c .before .before .before .before .before .before .args .n) (c .before .before .before .before .before .before .args .t5))
+answer-of c = ranOn (start c .args .«record») (take (start c .args .n) (start c .args .earliest)) (take (start c .args .n) (start c .args .t5))
 
 shown : (c : tie.After-propagate)
-    → Shown (answer-of c) (c .propagate .result .outcome) (c .propagate .last .1 .1 .1 .1 .0) (c .propagate .last .1 .1 .1 .1 .1 .0)
-    (take (c .before .before .before .before .before .before .args .n) (c .propagate .last .1 .0 ++ drop (c .before .before .before .before .before .before .args .n) (c .before .before .before .before .before .before .args .earliest)))
+    → Shown (answer-of c) (c .propagate .result .outcome) (posts-left c) (atoms-left c)
+    (take (start c .args .n) (starts-left c ++ drop (start c .args .n) (start c .args .earliest)))
 shown c =
-    let s = c .before .before .before .before .before .before in
-    subst (λ (starts : List ℤ). Shown (answer-of c) (c .propagate .result .outcome) (c .propagate .last .1 .1 .1 .1 .0) (c .propagate .last .1 .1 .1 .1 .1 .0) starts) (sym (starts-front c))
-    (shows (s .args .«record») (take (s .args .n) (s .args .earliest)) (take (s .args .n) (s .args .t5)) _ _ (length-replicate {A = ℤ} 192 (pos 0)) (length-replicate {A = ℤ} 13824 (pos 0)) (c .propagate .result) (c .propagate .last .1 .0) (c .propagate .last .1 .1 .1 .1 .0) (c .propagate .last .1 .1 .1 .1 .1 .0)
+    let s = start c in
+    subst (λ (starts : List ℤ). Shown (answer-of c) (c .propagate .result .outcome) (posts-left c) (atoms-left c) starts) (sym (starts-front c))
+    (shows (s .args .«record») (take (s .args .n) (s .args .earliest)) (take (s .args .n) (s .args .t5)) _ _ (length-replicate {A = ℤ} (4 * TASKS) (pos 0)) (length-replicate {A = ℤ} (3 * ATOMS) (pos 0)) (c .propagate .result) (starts-left c) (posts-left c) (atoms-left c)
     (omega (arith, starts-long c, s .pre .0)) (c .propagate .ensures))
 
 slice-aggregate-propagate : tie.Need-slice-aggregate-propagate
@@ -49,20 +63,21 @@ slice-aggregate-propagate-2 : tie.Need-slice-aggregate-propagate-2
 slice-aggregate-propagate-2 c = sym (length-take-le _ _ (omega (arith, all-latest (c .before .before .before), c .before .before .before .pre .0)))
 
 array-share-prefix-starts : tie.Need-array-share-prefix-starts
-array-share-prefix-starts c = let s = c .before .before .before .before .before .before .before .before .before .before .before .before in omega (arith, length-front (s .args .earliest) (c .before .before .before .before .before .before .propagate .last .1 .0) (s .args .n) (c .before .before .before .before .before .before .propagate .kept .1 .0), all-earliest s, s .pre .0)
+array-share-prefix-starts c =
+    let ran = c .before .before .before .before .before .before in
+    let s = start ran in
+    omega (arith, length-front (s .args .earliest) (starts-left ran) (s .args .n) (ran .propagate .kept .1 .0), all-earliest s, s .pre .0)
 
 slice-aggregate-put-run-3 : tie.Need-slice-aggregate-put-run-3
-slice-aggregate-put-run-3 c = sym (ap length (starts-front (c .before .before .before .before .before .before .before)) ∙ starts-long (c .before .before .before .before .before .before .before))
+slice-aggregate-put-run-3 c = let ran = c .before .before .before .before .before .before .before in sym (ap length (starts-front ran) ∙ starts-long ran)
 
 put-run-requires : tie.Need-put-run-requires
-put-run-requires c κs =
-    let start = c .before .before .before .before .before .before .before .before .before .before .before .before .before in
-    record { what = answer-of (c .before .before .before .before .before .before .before); shows = shown (c .before .before .before .before .before .before .before); fits = start .pre .1 }
+put-run-requires c κs = let ran = c .before .before .before .before .before .before .before in record { what = answer-of ran; shows = shown ran; fits = start ran .pre .1 }
 
 returns : tie.Need-returns
 returns c =
-    let start = c .before .before .before .before .before .before .before .before .before .before in
-    let e = c .before .before .put-run .ensures in (e .0 (answer-of start) (shown start), e .1)
+    let ran = c .before .before .before .before .before .before .before .before .before .before in
+    let e = c .before .before .put-run .ensures in (e .0 (answer-of ran) (shown ran), e .1)
 
 pub put-ran-spec : {M : Type 1} → statement M
 put-ran-spec =

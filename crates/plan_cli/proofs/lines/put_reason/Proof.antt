@@ -1,9 +1,9 @@
 -- The invariant: the lines of the first k atoms stand behind `at`, at most 33 bytes each.
-use mathlib.Core.Path.{_≡_, refl, _∙_}
+use mathlib.Core.Path.{_≡_, refl, ap, _∙_}
 use mathlib.Core.List.{List}
-use Prim.Native.Nat.{_+_, _*_, _/_, _-_, _≤_}
+use Prim.Native.Nat.{ℕ, _+_, _*_, _/_, _-_, _≤_}
 use native.Mathlib.Omega.{arith}
-use lib.IntN.{pos}
+use lib.IntN.{ℤ, pos}
 use lib.ListN.{length, getD, take}
 use mir.Syntax.{w32}
 use Rattle.integers.proofs.Ints.{back-of}
@@ -25,34 +25,43 @@ abbrev μ-loop : tie.MeasureT-loop
 μ-loop out₀ at words n end₀ k₀ out end k = n - k
 
 loop-holds : tie.Need-loop-holds Inv-loop μ-loop
-loop-holds c = (omega arith, refl, refl, omega arith, λ atoms w. puts-why-first _ _ atoms)
+loop-holds c = (omega arith, c .atoms-in .ensures, refl, omega arith, λ atoms w. puts-why-first _ _ atoms)
 
 put-why-requires : tie.Need-put-why-requires Inv-loop μ-loop
-put-why-requires c κs = let l = c .before .before .before .before .before .loop in omega (arith, l .inv .1, l .inv .2, l .inv .3, c .before .before .before .before .before .before .before .pre, c .before .before .before .before .loop-test .taken)
+put-why-requires c κs =
+    let turn = c .before .before .before .before .before .before .before in
+    let l = turn .before .loop in
+    omega (arith, l .inv .1, l .inv .2, l .inv .3, turn .before .before .before .before .pre, turn .loop-test .taken)
 
 loop-again : tie.Need-loop-again Inv-loop μ-loop
 loop-again c =
-    let w = c .before .before .put-why in
-    let l = c .before .before .before .before .before .before .before .before .loop in
-    let words = c .before .before .before .before .before .before .before .before .before .before .args .words .now in
-    let at = 3 * l .k in (
-      omega (arith, c .before .before .before .before .before .before .before .loop-test .taken),
-      refl,
+    let written = c .before .before in
+    let value = written .before in
+    let kind = value .before .before in
+    let variable = kind .before .before in
+    let turn = variable .before .before .before in
+    let l = turn .before .loop in
+    let words = turn .before .before .before .before .args .words .now in
+    let word : ℕ → ℤ = λ i. getD words i (pos 0) in
+    let w = written .put-why in (
+      omega (arith, turn .loop-test .taken),
+      l .inv .1,
       puts-length (w .ensures .0) ∙ l .inv .2,
       omega (arith, w .ensures .1, l .inv .3),
-      puts-why-next words (l .k) (omega (arith, c .before .before .before .before .before .before .before .loop-test .taken)) (back-of w32 (getD words at (pos 0)) (c .before .before .before .before .before .put-why-arg2 .given)) (back-of w32 (getD words (at + 1) (pos 0)) (c .before .before .before .before .put-why-arg3 .given)) (back-of w32 (getD words (at + 2) (pos 0)) (c .before .before .before .put-why-arg4 .given)) (w .ensures .0) (l .inv .4),
+      puts-why-next words (l .k) (omega (arith, turn .loop-test .taken))
+          (back-of w32 (word (variable .before .variable-at .result)) (variable .put-why-arg2 .given) ∙ ap word (variable .before .variable-at .ensures))
+          (back-of w32 (word (kind .before .kind-at .result)) (kind .put-why-arg3 .given) ∙ ap word (kind .before .kind-at .ensures))
+          (back-of w32 (word (value .before .value-at .result)) (value .put-why-arg4 .given) ∙ ap word (value .before .value-at .ensures))
+          (w .ensures .0) (l .inv .4),
     )
 
 returns : tie.Need-returns Inv-loop μ-loop
-returns c =
-    let l = c .before .loop in
-    (puts-why-all (c .before .before .before .args .words .now) (l .k) (omega (arith, c .loop-test .left, l .inv .1)) (l .inv .4), omega (arith, l .inv .0, l .inv .3))
+returns c = let l = c .before .loop in (puts-why-all (c .before .before .before .before .args .words .now) (l .k) (omega (arith, c .loop-test .left, l .inv .1)) (l .inv .4), omega (arith, l .inv .0, l .inv .3))
 
 pub put-reason-spec : {M : Type 1} → statement M
 put-reason-spec =
     tie.close
     (tie.spec
-    Inv-loop μ-loop loop-holds (λ c. search needs) (λ c. search needs) (λ c. search needs) (λ c. search needs)
-    (λ c. search needs) (λ c. search needs) (λ c. search needs) (λ c. search needs) (λ c. search needs)
-    (λ c. search needs) (λ c. search needs) put-why-requires (λ c. search needs) (λ c. search needs) loop-again
-    (λ c. search needs) returns)
+    Inv-loop μ-loop (λ c κs. search needs) loop-holds (λ c κs. search needs) (λ c. search needs) (λ c. search needs)
+    (λ c κs. search needs) (λ c. search needs) (λ c. search needs) (λ c κs. search needs) (λ c. search needs)
+    (λ c. search needs) put-why-requires (λ c. search needs) (λ c. search needs) loop-again (λ c. search needs) returns)

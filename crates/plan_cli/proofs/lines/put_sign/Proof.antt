@@ -10,15 +10,17 @@ use Rattle.plan_cli.proofs.lines.put_sign.Tie as tie
 
 returns : tie.Need-returns
 returns c =
-    let s = c .before .before .before .before .before .before .before .before in
+    let tested = c .before .before .before .before .before in
+    let s = tested .before .before .before in
     let w = c .before .before .put-bytes .ensures in
-    (puts-as (sign-low (s .args .kind) (ap (λ z. leZ z (pos 0)) (sym (back (s .fits .kind))) ∙ sym (c .before .before .before .before .before .before .at-most .ensures) ∙ c .before .before .before .before .before .if1 .taken)) w, w .end)
+    (puts-as (sign-low (s .args .kind) (ap (λ z. leZ z (pos 0)) (sym (back (s .fits .kind))) ∙ sym (tested .before .at-most .ensures) ∙ tested .if1 .taken)) w, w .end)
 
 returns-2 : tie.Need-returns-2
 returns-2 c =
-    let s = c .before .before .before .before .before .before .before .before in
+    let tested = c .before .before .before .before .before in
+    let s = tested .before .before .before in
     let w = c .before .before .put-bytes2 .ensures in
-    (puts-as (sign-high (s .args .kind) (ap (λ z. leZ z (pos 0)) (sym (back (s .fits .kind))) ∙ sym (c .before .before .before .before .before .before .at-most .ensures) ∙ c .before .before .before .before .before .if1 .left)) w, w .end)
+    (puts-as (sign-high (s .args .kind) (ap (λ z. leZ z (pos 0)) (sym (back (s .fits .kind))) ∙ sym (tested .before .at-most .ensures) ∙ tested .if1 .left)) w, w .end)
 
 pub put-sign-spec : {M : Type 1} → statement M
 put-sign-spec =

@@ -29,12 +29,13 @@ put-spaced-requires c κs = let l = c .before .before .before .loop in omega (ar
 loop-again : tie.Need-loop-again Inv-loop μ-loop
 loop-again c =
     let w = c .before .before .put-spaced in
-    let l = c .before .before .before .before .before .before .loop in
-    let xs = c .before .before .before .before .before .before .before .before .args .starts .now in (
-      omega (arith, c .before .before .before .before .before .loop-test .taken),
+    let turn = c .before .before .before .before .before in
+    let l = turn .before .loop in
+    let xs = turn .before .before .before .args .starts .now in (
+      omega (arith, turn .loop-test .taken),
       puts-length (w .ensures .0) ∙ l .inv .1,
       omega (arith, w .ensures .1, l .inv .2),
-      puts-next spacedOne (pos 0) xs (l .i) (c .before .before .before .before .before .loop-test .taken) (l .inv .3) (puts-as (ap spacedOne (back-of w32 (getD xs (l .i) (pos 0)) (c .before .before .before .put-spaced-arg2 .given))) (w .ensures .0)),
+      puts-next spacedOne (pos 0) xs (l .i) (turn .loop-test .taken) (l .inv .3) (puts-as (ap spacedOne (back-of w32 (getD xs (l .i) (pos 0)) (c .before .before .before .put-spaced-arg2 .given))) (w .ensures .0)),
     )
 
 returns : tie.Need-returns Inv-loop μ-loop

@@ -10,7 +10,8 @@ returns : tie.Need-returns
 unfolding printed
 returns c =
     let e = c .before .before .put-answer .ensures in
-    written (e .0 (numbersOf (c .before .before .before .before .before .before .before .args .text .now)) (c .before .before .before .numbers-of .ensures)) (e .1)
+    let read = c .before .before .before in
+    written (e .0 (numbersOf (read .before .before .before .before .args .text .now)) (read .numbers-of .ensures)) (e .1)
 
 pub print-spec : {M : Type 1} → statement M
 print-spec = tie.close (tie.spec (λ c κs. search needs) (λ c κs. search needs) (λ c. search needs) returns)

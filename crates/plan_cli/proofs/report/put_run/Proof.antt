@@ -33,51 +33,51 @@ put-posts-requires : tie.Need-put-posts-requires
 put-posts-requires c κs = let s = c .before .before .before .before .before .pre in let p = done (c .before .before) (s .what) (s .shows) .0 in record { list = p .list; holds = p .holds; fits = omega (arith, p .few, s .fits) }
 
 put-done-requires : tie.Need-put-done-requires
-put-done-requires c κs = let s = c .before .before .before .before .before .before .before .before .before .pre in let p = done (c .before .before .before .before .before .before) (s .what) (s .shows) in omega (arith, p .0 .few, p .1, s .fits, c .before .before .before .put-posts .kept .0, c .before .before .before .put-posts .ensures .1 (p .0 .list) (p .0 .holds))
+put-done-requires c κs = let outcome = c .before .before .before .before .before .before in let s = outcome .before .before .before .pre in let p = done outcome (s .what) (s .shows) in omega (arith, p .0 .few, p .1, s .fits, c .before .before .before .put-posts .kept .0, c .before .before .before .put-posts .ensures .1 (p .0 .list) (p .0 .holds))
 
 put-posts-requires-2 : tie.Need-put-posts-requires-2
 put-posts-requires-2 c κs = let s = c .before .before .before .before .before .pre in let p = overloaded (c .before .before) (s .what) (s .shows) .parts in record { list = p .list; holds = p .holds; fits = omega (arith, p .few, s .fits) }
 
 put-overload-requires : tie.Need-put-overload-requires
-put-overload-requires c κs = let s = c .before .before .before .before .before .before .before .before .before .pre in let q = overloaded (c .before .before .before .before .before .before) (s .what) (s .shows) in let p = q .parts in (q .inside, omega (arith, p .few, s .fits, c .before .before .before .put-posts2 .kept .0, c .before .before .before .put-posts2 .ensures .1 (p .list) (p .holds)))
+put-overload-requires c κs = let outcome = c .before .before .before .before .before .before in let s = outcome .before .before .before .pre in let q = overloaded outcome (s .what) (s .shows) in let p = q .parts in (q .inside, omega (arith, p .few, s .fits, c .before .before .before .put-posts2 .kept .0, c .before .before .before .put-posts2 .ensures .1 (p .list) (p .holds)))
 
 put-posts-requires-3 : tie.Need-put-posts-requires-3
 put-posts-requires-3 c κs = let s = c .before .before .before .before .before .pre in let p = emptied (c .before .before) (s .what) (s .shows) in record { list = p .list; holds = p .holds; fits = omega (arith, p .few, s .fits) }
 
 put-bytes-requires : tie.Need-put-bytes-requires
-put-bytes-requires c κs = let s = c .before .before .before .before .before .before .before .before .before .before .pre in let p = emptied (c .before .before .before .before .before .before .before) (s .what) (s .shows) in omega (arith, p .few, s .fits, c .before .before .before .before .put-posts3 .kept .0, c .before .before .before .before .put-posts3 .ensures .1 (p .list) (p .holds))
+put-bytes-requires c κs = let outcome = c .before .before .before .before .before .before .before in let s = outcome .before .before .before .pre in let p = emptied outcome (s .what) (s .shows) in omega (arith, p .few, s .fits, c .before .before .before .before .put-posts3 .kept .0, c .before .before .before .before .put-posts3 .ensures .1 (p .list) (p .holds))
 
 returns : tie.Need-returns
 returns c =
-    let start = c .before .before .before .before .before .before .before .before .before in
-    let s = c .before .before .before .before .before .before .before .before .before .before .before .before .pre in
-    let p = done start (s .what) (s .shows) in
+    let outcome = c .before .before .before .before .before .before .before .before .before in
+    let s = outcome .before .before .before .pre in
+    let p = done outcome (s .what) (s .shows) in
     let w = c .before .before .before .before .before .before .put-posts .ensures in
     let e = c .before .before .put-done .ensures in
-    (λ what h. (let q = done start what h .0 in puts-as (sym (q .text)) (puts-append (w .0 (q .list) (q .holds)) (e .0))), omega (arith, p .0 .few, p .1, s .fits, w .1 (p .0 .list) (p .0 .holds), e .1))
+    (λ what h. (let q = done outcome what h .0 in puts-as (sym (q .text)) (puts-append (w .0 (q .list) (q .holds)) (e .0))), omega (arith, p .0 .few, p .1, s .fits, w .1 (p .0 .list) (p .0 .holds), e .1))
 
 returns-2 : tie.Need-returns-2
 returns-2 c =
-    let start = c .before .before .before .before .before .before .before .before .before in
-    let s = c .before .before .before .before .before .before .before .before .before .before .before .before .pre in
-    let p = overloaded start (s .what) (s .shows) .parts in
+    let outcome = c .before .before .before .before .before .before .before .before .before in
+    let s = outcome .before .before .before .pre in
+    let p = overloaded outcome (s .what) (s .shows) .parts in
     let w = c .before .before .before .before .before .before .put-posts2 .ensures in
     let e = c .before .before .put-overload .ensures in
-    (λ what h. (let q = overloaded start what h in puts-as (sym (q .parts .text)) (puts-append (w .0 (q .parts .list) (q .parts .holds)) (e .0 (q .reason) (q .words)))), omega (arith, p .few, s .fits, w .1 (p .list) (p .holds), e .1))
+    (λ what h. (let q = overloaded outcome what h in puts-as (sym (q .parts .text)) (puts-append (w .0 (q .parts .list) (q .parts .holds)) (e .0 (q .reason) (q .words)))), omega (arith, p .few, s .fits, w .1 (p .list) (p .holds), e .1))
 
 returns-3 : tie.Need-returns-3
 returns-3 c =
-    let start = c .before .before .before .before .before .before .before .before .before .before in
-    let s = c .before .before .before .before .before .before .before .before .before .before .before .before .before .pre in
-    let p = emptied start (s .what) (s .shows) in
+    let outcome = c .before .before .before .before .before .before .before .before .before .before in
+    let s = outcome .before .before .before .pre in
+    let p = emptied outcome (s .what) (s .shows) in
     let w = c .before .before .before .before .before .before .before .put-posts3 .ensures in
     let e = c .before .before .put-bytes .ensures in
-    (λ what h. (let q = emptied start what h in puts-as (sym (q .text)) (puts-append (w .0 (q .list) (q .holds)) e)), omega (arith, p .few, s .fits, w .1 (p .list) (p .holds), e .end))
+    (λ what h. (let q = emptied outcome what h in puts-as (sym (q .text)) (puts-append (w .0 (q .list) (q .holds)) e)), omega (arith, p .few, s .fits, w .1 (p .list) (p .holds), e .end))
 
 returns-4 : tie.Need-returns-4
 returns-4 c =
-    let start = c .before .before .before .before .before .before .before .before in
-    let e = c .before .before .put-refused .ensures in (λ what h. puts-as (sym (refused (c .before .before .before .before .before) what h)) (e .0), omega (arith, e .1, start .pre .fits))
+    let outcome = c .before .before .before .before .before in
+    let e = c .before .before .put-refused .ensures in (λ what h. puts-as (sym (refused outcome what h)) (e .0), omega (arith, e .1, outcome .before .before .before .pre .fits))
 
 pub put-run-spec : {M : Type 1} → statement M
 put-run-spec =

@@ -25,107 +25,34 @@ abbrev put-digits-below : ℕ → In 1 put-digits-kinds.ps
 put-digits-below t =
     and 1 put-digits-kinds.ps (falls 1 put-digits-kinds.ps _<_ μ-put-digits t) put-digits.Pre
 
-put-digits-cast-out :
-    (t : ℕ) →
-    put-digits-lts.Need-cast-out
-    (put-digits-below t, put-digits.Post)
-    (put-digits-at t)
-    put-digits.Post
-put-digits-cast-out t c = search needs
-
-put-digits-add-out :
-    (t : ℕ) →
-    put-digits-lts.Need-add-out
-    (put-digits-below t, put-digits.Post)
-    (put-digits-at t)
-    put-digits.Post
-put-digits-add-out t c = search needs
-
-put-digits-slice-write-out : (t : ℕ) → put-digits-lts.Need-slice-write-out (
-  put-digits-below t,
-  put-digits.Post,
-) (put-digits-at t) put-digits.Post
+put-digits-slice-write-out : (t : ℕ) → put-digits-lts.Need-slice-write-out (put-digits-below t, put-digits.Post) (put-digits-at t) put-digits.Post
 put-digits-slice-write-out t c = omega (arith, ap length (natural-small (c .before .before .args .n) (omega arith)))
 
-put-digits-add-result : (t : ℕ) → put-digits-lts.Need-add-result (
-  put-digits-below t,
-  put-digits.Post,
-) (put-digits-at t) put-digits.Post
-put-digits-add-result t c = search needs
-
-put-digits-same-length : (t : ℕ) → put-digits-lts.Need-same-length (
-  put-digits-below t,
-  put-digits.Post,
-) (put-digits-at t) put-digits.Post
-put-digits-same-length t c = search needs
-
-put-digits-returns :
-    (t : ℕ) →
-    put-digits-lts.Need-returns
-    (put-digits-below t, put-digits.Post)
-    (put-digits-at t)
-    put-digits.Post
+put-digits-returns : (t : ℕ) → put-digits-lts.Need-returns (put-digits-below t, put-digits.Post) (put-digits-at t) put-digits.Post
 put-digits-returns t c = rw (natural-small (c .before .before .args .n) (omega arith)) (puts-one _ _ _)
 
-put-digits-put-digits-requires : (t : ℕ) → put-digits-lts.Need-put-digits-requires (
-  put-digits-below t,
-  put-digits.Post,
-) (put-digits-at t) put-digits.Post
+put-digits-put-digits-requires : (t : ℕ) → put-digits-lts.Need-put-digits-requires (put-digits-below t, put-digits.Post) (put-digits-at t) put-digits.Post
 put-digits-put-digits-requires t c κs = (omega (arith, c .before .before .before .pre .0), omega (arith, c .before .before .before .pre .1, natural-last (c .before .before .before .args .n) (omega arith)))
 
-put-digits-cast-out-2 : (t : ℕ) → put-digits-lts.Need-cast-out-2 (
-  put-digits-below t,
-  put-digits.Post,
-) (put-digits-at t) put-digits.Post
-put-digits-cast-out-2 t c = search needs
+put-digits-slice-write-out-2 : (t : ℕ) → put-digits-lts.Need-slice-write-out-2 (put-digits-below t, put-digits.Post) (put-digits-at t) put-digits.Post
+put-digits-slice-write-out-2 t c =
+    let called = c .before .before in
+    let s = called .before .before .before .before in
+    omega (arith, natural-last (s .args .n) (omega arith), called .put-digits .ensures .end, called .put-digits .kept .0, s .pre .1)
 
-put-digits-add-out-2 : (t : ℕ) → put-digits-lts.Need-add-out-2 (
-  put-digits-below t,
-  put-digits.Post,
-) (put-digits-at t) put-digits.Post
-put-digits-add-out-2 t c = search needs
+put-digits-add-result-2 : (t : ℕ) → put-digits-lts.Need-add-result-2 (put-digits-below t, put-digits.Post) (put-digits-at t) put-digits.Post
+put-digits-add-result-2 t c =
+    let called = c .before .before in
+    let s = called .before .before .before .before in
+    omega (arith, natural-last (s .args .n) (omega arith), called .put-digits .ensures .end, s .pre .1)
 
-put-digits-slice-write-out-2 : (t : ℕ) → put-digits-lts.Need-slice-write-out-2 (
-  put-digits-below t,
-  put-digits.Post,
-) (put-digits-at t) put-digits.Post
-put-digits-slice-write-out-2 t c = omega (arith, natural-last (c .before .before .before .before .before .before .args .n) (omega arith), c .before .before .put-digits .ensures .end, c .before .before .put-digits .kept .0, c .before .before .before .before .before .before .pre .1)
-
-put-digits-add-result-2 : (t : ℕ) → put-digits-lts.Need-add-result-2 (
-  put-digits-below t,
-  put-digits.Post,
-) (put-digits-at t) put-digits.Post
-put-digits-add-result-2 t c = omega (arith, natural-last (c .before .before .before .before .before .before .args .n) (omega arith), c .before .before .put-digits .ensures .end, c .before .before .before .before .before .before .pre .1)
-
-put-digits-same-length-2 : (t : ℕ) → put-digits-lts.Need-same-length-2 (
-  put-digits-below t,
-  put-digits.Post,
-) (put-digits-at t) put-digits.Post
-put-digits-same-length-2 t c = search needs
-
-put-digits-returns-2 : (t : ℕ) → put-digits-lts.Need-returns-2 (
-  put-digits-below t,
-  put-digits.Post,
-) (put-digits-at t) put-digits.Post
-put-digits-returns-2 t c = rw (natural-large (c .before .before .before .before .before .before .args .n) (omega arith)) (puts-append (c .before .before .put-digits .ensures) (puts-one _ _ _))
+put-digits-returns-2 : (t : ℕ) → put-digits-lts.Need-returns-2 (put-digits-below t, put-digits.Post) (put-digits-at t) put-digits.Post
+put-digits-returns-2 t c = let called = c .before .before in rw (natural-large (called .before .before .before .before .args .n) (omega arith)) (puts-append (called .put-digits .ensures) (puts-one _ _ _))
 
 pub +put-digits-spec : {M : Type 1} → statement M
-+put-digits-spec = close μ-put-digits λ t. put-digits-lts.spec (
-  put-digits-below t,
-  put-digits.Post,
-)
-    (put-digits-at t)
-    put-digits.Post
-    (put-digits-cast-out t)
-    (put-digits-add-out t)
-    (put-digits-slice-write-out t)
-    (put-digits-add-result t)
-    (put-digits-same-length t)
-    (put-digits-returns t)
-    (put-digits-put-digits-requires t)
-    (put-digits-cast-out-2 t)
-    (put-digits-add-out-2 t)
-    (put-digits-slice-write-out-2 t)
-    (put-digits-add-result-2 t)
-    (put-digits-same-length-2 t)
-    (put-digits-returns-2 t)
++put-digits-spec =
+    close μ-put-digits
+    (λ t. put-digits-lts.spec (put-digits-below t, put-digits.Post) (put-digits-at t) put-digits.Post
+    (λ c. search needs) (λ c. search needs) (put-digits-slice-write-out t) (λ c. search needs) (λ c. search needs)
+    (put-digits-returns t) (put-digits-put-digits-requires t) (λ c. search needs) (λ c. search needs)
+    (put-digits-slice-write-out-2 t) (put-digits-add-result-2 t) (λ c. search needs) (put-digits-returns-2 t))

@@ -11,7 +11,9 @@ returns : tie.Need-returns
 returns c = sym (number-out _ _ (not-true _ (c .if1 .taken)))
 
 returns-2 : tie.Need-returns-2
-returns-2 c = rw (number-in (c .before .before .before .before .before .args .self) (c .before .before .before .before .before .args .x) (not-false (c .before .before .before .before .before .args .self .valid) (c .before .before .before .if1 .left)), c .before .one-more .ensures, c .stored .ensures, back (c .before .before .before .before .before .fits .x))
+returns-2 c =
+    let s = c .before .before .before .before .before in
+    rw (number-in (s .args .self) (s .args .x) (not-false (s .args .self .valid) (c .before .before .before .if1 .left)), c .before .one-more .ensures, c .stored .ensures, back (s .fits .x))
 
 pub with-number-spec : {M : Type 1} → statement M
 with-number-spec = tie.close (tie.spec returns (λ c κs. search needs) (λ c κs. search needs) returns-2)

@@ -20,7 +20,9 @@ loop-holds : tie.Need-loop-holds Inv-loop μ-loop
 loop-holds c = (omega arith, refl)
 
 loop-again : tie.Need-loop-again Inv-loop μ-loop
-loop-again c = (omega arith, rw (c .step .ensures) (fold-more stepOf (c .before .before .before .loop .scanner) (c .before .before .before .before .before .args .bytes .now) (c .before .before .before .loop .i) (c .before .before .loop-test .taken) ∙ c .before .before .before .loop .inv .1))
+loop-again c =
+    let head = c .before .before .before in
+    (omega arith, rw (c .step .ensures) (fold-more stepOf (head .loop .scanner) (head .before .before .args .bytes .now) (head .loop .i) (c .before .before .loop-test .taken) ∙ head .loop .inv .1))
 
 returns : tie.Need-returns Inv-loop μ-loop
 returns c = sym (fold-none stepOf (c .before .loop .scanner) (c .before .before .before .args .bytes .now) (c .before .loop .i) (omega arith)) ∙ c .before .loop .inv .1

@@ -2,8 +2,8 @@
 use Prim.Native.Nat.{_-_, _≤_}
 use lib.ListN.{length}
 use borrow.Author.Needs.{needs}
-use Rattle.costliest_inputs.proofs.end_of.Statement.{statement}
-use Rattle.costliest_inputs.proofs.end_of.Tie as tie
+use Rattle.plan_cli.proofs.inputs.end_of.Statement.{statement}
+use Rattle.plan_cli.proofs.inputs.end_of.Tie as tie
 
 abbrev Inv-loop : tie.InvT-loop
 Inv-loop inputs from i₀ i = (from ≤ i) × (i ≤ length inputs)
