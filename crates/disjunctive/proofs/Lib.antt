@@ -1,1 +1,3 @@
 pub mod LentRuns
+pub mod Calls
+pub mod Routines

@@ -1,1 +1,3 @@
 pub mod LentRecord
+pub mod AllPlaces
+pub mod CoreCalls

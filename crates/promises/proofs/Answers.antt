@@ -2,11 +2,14 @@
 -- Assumes nothing.
 use mathlib.Core.Path.{_≡_, sym, ap, subst, _∙_}
 use mathlib.Core.List.{List}
-use mathlib.Core.Logic.{_↔_}
+use mathlib.Core.Logic.{_↔_, ⊎-elim}
 use Prim.Native.Nat.{ℕ, _+_, _*_, _≤_, _<_}
 use native.Mathlib.Omega.{arith}
+use lib.Dec.{eqb}
 use lib.IntN.{ℤ, pos, natAbs}
 use lib.ListN.{length, take, drop}
+use borrow.Author.Tests.{eqb-true, eqb-false}
+use Rattle.integers.proofs.Bools.{bool}
 use Rattle.scheduling.specs.Words.{atomWords}
 use Rattle.runs.specs.Traces.{Trace, done}
 use Rattle.runs.specs.Words.{reasons}
@@ -31,36 +34,40 @@ module _ (t : Trace) (answer : Outcome) (is : answer ≡ outcomeOf (reasons (t .
   pub is-done : outcomeNumbers answer .kind ≡ 0 ↔ t .end ≡ done
   is-done = subst (λ (o : Outcome). outcomeNumbers o .kind ≡ 0 ↔ t .end ≡ done) (sym is) (kind-done (reasons (t .posts)) (length (t .posts)) (t .end))
 
+  pub done-or : {X : Type 0} → (t .end ≡ done → X) → ((t .end ≡ done → ⊥) → X) → X
+  done-or f g = ⊎-elim (λ y. f (is-done .0 (eqb-true _ 0 y))) (λ y. g (λ e. eqb-false _ 0 y (is-done .1 e))) (bool (eqb (outcomeNumbers answer .kind) 0))
+
   pub overloaded : outcomeNumbers answer .kind ≡ 1 → Overloaded (reasons (t .posts)) answer (t .end)
   overloaded = subst (λ (o : Outcome). outcomeNumbers o .kind ≡ 1 → Overloaded (reasons (t .posts)) o (t .end)) (sym is) (kind-overload (reasons (t .posts)) (length (t .posts)) (t .end))
 
   module _ (posts atoms : List ℤ) (handed : Handed t posts atoms) where
-    -- post j
-    module _ (j : ℕ) (q : j < valueOf answer 0) where
+    -- post j: its place in the trace; the reader takes it; its words and its reason are the trace's, and what is true of the trace's post is true of them
+    pub record PostRead (j : ℕ) : Type 1 where
       pub below : j < length (t .posts)
-      below = omega (arith, made)
-
-      pub task-is : taskOf posts j ≡ post t j .task
-      task-is = ap natAbs (handed .posts j below .task)
-
-      pub bound-is : boundOf posts j ≡ post t j .bound
-      bound-is = handed .posts j below .bound
-
       pub read : postNumber posts atoms (valueOf answer 0) j ≡ 0
-      read = ap (λ (n : ℕ). postNumber posts atoms n j) made ∙ handed .posts j below .number
-
+      pub task-is : taskOf posts j ≡ post t j .task
+      pub bound-is : boundOf posts j ≡ post t j .bound
       pub names : taskWord posts j ≡ pos (taskOf posts j)
-      names = handed .posts j below .task ∙ ap pos (sym task-is)
-
       pub words-are : reasonOf answer posts atoms j ≡ atomWords (post t j .reason)
-      words-are = ap (λ (n : ℕ). reasonWords posts atoms n j) made ∙ handed .posts j below .reason
-
       pub atoms-are : atomsOf (reasonOf answer posts atoms j) ≡ post t j .reason
-      atoms-are = ap atomsOf words-are ∙ atoms-words (post t j .reason)
-
-      -- what is true of the trace's post is true of its words
       pub said : (P : ℕ → ℤ → Type 0) → P (post t j .task) (post t j .bound) → P (taskOf posts j) (boundOf posts j)
-      said P h = subst (λ (i : ℕ). P i (boundOf posts j)) (sym task-is) (subst (P (post t j .task)) (sym bound-is) h)
+
+    pub post-read : (j : ℕ) → j < valueOf answer 0 → PostRead j
+    post-read j q =
+        let below : j < length (t .posts) = omega (arith, made) in
+        let h = handed .posts j below in
+        let task-is : taskOf posts j ≡ post t j .task = ap natAbs (h .task) in
+        let words-are : reasonOf answer posts atoms j ≡ atomWords (post t j .reason) = ap (λ (n : ℕ). reasonWords posts atoms n j) made ∙ h .reason in
+        record {
+          below = below;
+          read = ap (λ (n : ℕ). postNumber posts atoms n j) made ∙ h .number;
+          task-is = task-is;
+          bound-is = h .bound;
+          names = h .task ∙ ap pos (sym task-is);
+          words-are = words-are;
+          atoms-are = ap atomsOf words-are ∙ atoms-words (post t j .reason);
+          said = λ P x. subst (λ (i : ℕ). P i (boundOf posts j)) (sym task-is) (subst (P (post t j .task)) (sym (h .bound)) x);
+        }
 
     -- an overload's reason
     module _ (k : outcomeNumbers answer .kind ≡ 1) where

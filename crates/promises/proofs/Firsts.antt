@@ -10,7 +10,7 @@ use lib.ListN.{length, getD, take, length-map, List·getD-map}
 use lib.Signed.{_≤ℤ_}
 use Rattle.scheduling.specs.Scheduling.{whole, Tasks}
 use Rattle.records.specs.declared.record.Propagator.{Propagator}
-use Rattle.records.specs.Refusals.{CountsFit}
+use Rattle.records.specs.Refusals.{Accepted, CountsFit}
 use Rattle.barred_starts.specs.declared.range.Range.{Range}
 use Rattle.barred_starts.specs.Bars.{allBarsFit}
 use Rattle.barred_starts.specs.Permitted.{FirstPermitted, LastPermitted}
@@ -32,6 +32,10 @@ module _ (before : Propagator) (ranges : List Range) where
   -- a task of the record has a duration in it
   pub few : (k : ℕ) → k < J .count → k < before .count
   few k q = omega (arith, take-most (before .count) (before .durations))
+
+  -- an accepted range has its ends in order
+  pub proper : {posts atoms : ℕ} → Accepted before (earliests ranges) (latests ranges) posts atoms → (k : ℕ) → k < J .count → J .earliest k ≤ℤ J .latest k
+  proper ok k q = ok .ranges k (omega (arith, few k q, ok .counts .earliest))
 
   -- the ends of range k are those of task k
   earliest-is : (k : ℕ) → getD ranges k anyRange .earliest ≡ J .earliest k

@@ -3,15 +3,12 @@
 use mathlib.Core.Path.{_≡_, sym, subst, _∙_}
 use mathlib.Core.List.{List, [], _∷_}
 use mathlib.Core.Bool.{true}
-use mathlib.Core.Logic.{_⊎_, ⊎-elim}
+use mathlib.Core.Logic.{_⊎_}
 use Prim.Native.Nat.{ℕ, _<_}
 use native.Mathlib.Omega.{arith}
-use lib.Dec.{eqb}
 use lib.IntN.{ℤ, pos}
 use lib.ListN.{length, getD}
 use lib.Signed.{_≤ℤ_, _<ℤ_}
-use borrow.Author.Tests.{eqb-true, eqb-false}
-use Rattle.integers.proofs.Bools.{bool}
 use Rattle.scheduling.specs.Scheduling.{whole, Tasks, Schedule, Least, Atom, HoldsAtEntry, PassesWith, PassesAlone}
 use Rattle.scheduling.specs.Mirroring.{mirror, mirrorAtom, mirrorAtoms, MirroredBound, MirroredDone}
 use Rattle.scheduling.specs.Words.{atomWords}
@@ -35,11 +32,11 @@ use Rattle.barred_starts.specs.Bars.{allBarsFit}
 use Rattle.barred_starts.specs.Permitted.{LastPermitted, PermittedSchedule}
 use Rattle.barred_starts.specs.Ranges.{earliests, latests, anyRange, withLatests}
 use Rattle.barred_starts.proofs.Storing.{earliests-with-latest, counts-with-latest, places-with-latest}
-use Rattle.promises.specs.Promise.{tasksLent, reasonOf}
-use Rattle.promises.specs.MirroredPromise.{MirroredPostPromise, MirroredOverloadPromise, MirroredPromise}
+use Rattle.promises.specs.Promise.{tasksLent, reasonOf, OverloadPromise}
+use Rattle.promises.specs.MirroredPromise.{MirroredReason, MirroredPostPromise, MirroredPromise}
 use Rattle.promises.proofs.Answers as read
 use Rattle.promises.proofs.Largest.{between-least, reached-least}
-use Rattle.promises.proofs.Firsts.{few, moved-back}
+use Rattle.promises.proofs.Firsts.{proper, moved-back}
 
 module _ (before : Propagator) (ranges : List Range) (posts atoms ls′ posts′ atoms′ : List ℤ) (answer : Outcome)
     (ok : Accepted before (earliests ranges) (latests ranges) (length posts) (length atoms)) (fit : allBarsFit ranges ≡ true) (size : length ls′ ≡ length ranges)
@@ -53,41 +50,36 @@ module _ (before : Propagator) (ranges : List Range) (posts atoms ls′ posts′
   abbrev t : Trace
   t = mirroredOf before (earliests ranges) (latests ranges)
 
-  abbrev made : ℕ
-  made = valueOf answer 0
-
   is : answer ≡ outcomeOf (reasons (t .posts)) (length (t .posts)) (t .end)
   is = ran .left .answer
 
-  below : (j : ℕ) → j < made → j < length (t .posts)
-  below = read.below t answer is posts′ atoms′ (ran .handed)
-
-  said : (j : ℕ) → j < made → (P : ℕ → ℤ → Type 0) → P (post t j .task) (post t j .bound) → P (taskOf posts′ j) (boundOf posts′ j)
-  said = read.said t answer is posts′ atoms′ (ran .handed)
+  at : (j : ℕ) → j < valueOf answer 0 → read.PostRead t answer is posts′ atoms′ (ran .handed) j
+  at = read.post-read t answer is posts′ atoms′ (ran .handed)
 
   -- the posts
-  every-post : (j : ℕ) → j < made → MirroredPostPromise before ranges answer ranges′ posts′ atoms′ j
+  every-post : (j : ℕ) → j < valueOf answer 0 → MirroredPostPromise before ranges answer ranges′ posts′ atoms′ j
   every-post j q =
-      let r = ran .right .posts j (below j q) in
+      let p = at j q in
+      let r = ran .right .posts j (p .below) in
       record {
-        read = read.read t answer is posts′ atoms′ (ran .handed) j q;
-        names = read.names t answer is posts′ atoms′ (ran .handed) j q;
-        small = said j q (λ i b. i < J .count) (r .small);
-        lowers = said j q (λ i b. b <ℤ J .latest i) (r .lowers);
-        rule = said j q (MirroredBound J) (r .rule);
-        holds = said j q (λ i b. (s : ℕ → ℤ) → Schedule J s → s i ≤ℤ b) (r .holds);
-        holds-permitted = λ s h. said j q (λ i b. (s : ℕ → ℤ) → Schedule J s → s i ≤ℤ b) (r .holds) s (h .schedule);
+        read = p .read;
+        names = p .names;
+        small = p .said (λ i b. i < J .count) (r .small);
+        lowers = p .said (λ i b. b <ℤ J .latest i) (r .lowers);
+        rule = p .said (MirroredBound J) (r .rule);
+        holds = p .said (λ i b. (s : ℕ → ℤ) → Schedule J s → s i ≤ℤ b) (r .holds);
+        holds-permitted = λ s h. p .said (λ i b. (s : ℕ → ℤ) → Schedule J s → s i ≤ℤ b) (r .holds) s (h .schedule);
         reason = record {
-          holds = subst (HoldsAtEntry J) (sym (read.atoms-are t answer is posts′ atoms′ (ran .handed) j q)) (r .reason-holds);
-          formula = said j q (λ i b. PassesWith (mirror J) (mirrorAtoms (J .duration) (atomsOf (reasonOf answer posts′ atoms′ j))) (mirrorAtom (J .duration) (record { variable = i; kind = 1; value = b })))
-              (subst (λ (xs : List Atom). PassesWith (mirror J) (mirrorAtoms (J .duration) xs) (mirrorAtom (J .duration) (mirroredConsequent (post t j)))) (sym (read.atoms-are t answer is posts′ atoms′ (ran .handed) j q)) (r .reason-passes));
-          passes = said j q (λ i b. checkMirroredOf (checkDurations before) (reasonOf answer posts′ atoms′ j) (atomWords (record { variable = i; kind = 1; value = b } ∷ [])) ≡ Passed)
-              (subst (λ (ws : List ℤ). checkMirroredOf (checkDurations before) ws (atomWords (mirroredConsequent (post t j) ∷ [])) ≡ Passed) (sym (read.words-are t answer is posts′ atoms′ (ran .handed) j q)) (ran .passes .posts j (below j q)));
+          holds = subst (HoldsAtEntry J) (sym (p .atoms-are)) (r .reason-holds);
+          formula = p .said (λ i b. PassesWith (mirror J) (mirrorAtoms (J .duration) (atomsOf (reasonOf answer posts′ atoms′ j))) (mirrorAtom (J .duration) (record { variable = i; kind = 1; value = b })))
+              (subst (λ (xs : List Atom). PassesWith (mirror J) (mirrorAtoms (J .duration) xs) (mirrorAtom (J .duration) (mirroredConsequent (post t j)))) (sym (p .atoms-are)) (r .reason-passes));
+          passes = p .said (λ i b. checkMirroredOf (checkDurations before) (reasonOf answer posts′ atoms′ j) (atomWords (record { variable = i; kind = 1; value = b } ∷ [])) ≡ Passed)
+              (subst (λ (ws : List ℤ). checkMirroredOf (checkDurations before) ws (atomWords (mirroredConsequent (post t j) ∷ [])) ≡ Passed) (sym (p .words-are)) (ran .passes .posts j (p .below)));
         };
       }
 
   -- an overload
-  overloaded : outcomeNumbers answer .kind ≡ 1 → MirroredOverloadPromise before ranges answer ranges′ posts′ atoms′
+  overloaded : outcomeNumbers answer .kind ≡ 1 → OverloadPromise (MirroredReason before ranges answer ranges′ posts′ atoms′) answer atoms′
   overloaded k =
       let o = read.overloaded t answer is k in
       record {
@@ -100,29 +92,26 @@ module _ (before : Propagator) (ranges : List Range) (posts atoms ls′ posts′
       }
 
   -- a pass that is Done: the latest starts that it gives
-  finished : t .end ≡ done → MirroredDone J (λ k. getD ls′ k (pos 0)) made (taskOf posts′) (boundOf posts′)
+  finished : t .end ≡ done → MirroredDone J (λ k. getD ls′ k (pos 0)) (valueOf answer 0) (taskOf posts′) (boundOf posts′)
   finished e =
       let d = ran .right .when-done e in
       record {
         no-overload = d .no-overload;
         no-passing = d .no-passing;
         starts = λ i q. subst (λ (ls : List ℤ). Least whole (λ v. (J .latest i ≡ v) ⊎ MirroredBound J i v) (getD ls i (pos 0))) (sym (ran .left .starts)) (d .starts i q);
-        small = λ j q. said j q (λ i b. i < J .count) (d .small j (below j q));
-        lowers = λ j q. said j q (λ i b. b <ℤ J .latest i) (d .lowers j (below j q));
-        at-smallest = λ j q. said j q (λ i b. Least whole (MirroredBound J i) b) (d .at-smallest j (below j q));
+        small = λ j q. at j q .said (λ i b. i < J .count) (d .small j (at j q .below));
+        lowers = λ j q. at j q .said (λ i b. b <ℤ J .latest i) (d .lowers j (at j q .below));
+        at-smallest = λ j q. at j q .said (λ i b. Least whole (MirroredBound J i) b) (d .at-smallest j (at j q .below));
         every = λ k q h.
             (let f = d .every k q (subst (λ (ls : List ℤ). getD ls k (pos 0) <ℤ J .latest k) (ran .left .starts) h) in
-            let small : f .0 < made = omega (arith, f .1, read.made t answer is) in
-            (f .0, small, read.task-is t answer is posts′ atoms′ (ran .handed) (f .0) small ∙ f .2));
-        once = λ i j p q h. d .once i j (below i p) (below j q) (sym (read.task-is t answer is posts′ atoms′ (ran .handed) i p) ∙ h ∙ read.task-is t answer is posts′ atoms′ (ran .handed) j q);
+            let small : f .0 < valueOf answer 0 = omega (arith, f .1, read.made t answer is) in
+            (f .0, small, at (f .0) small .task-is ∙ f .2));
+        once = λ i j p q h. d .once i j (at i p .below) (at j q .below) (sym (at i p .task-is) ∙ h ∙ at j q .task-is);
       }
-
-  proper : (k : ℕ) → k < J .count → J .earliest k ≤ℤ J .latest k
-  proper k q = ok .ranges k (omega (arith, few before ranges k q, ok .counts .earliest))
 
   -- and where they are moved to
   last : t .end ≡ done → (k : ℕ) → k < J .count → LastPermitted (getD ranges k anyRange) (getD ls′ k (pos 0)) (getD (latests ranges′) k (pos 0))
-  last e k q = let d = finished e in moved-back before ranges ls′ (ok .counts) fit size k q (between-least (d .starts k q) (d .no-passing k) (proper k q))
+  last e k q = let d = finished e in moved-back before ranges ls′ (ok .counts) fit size k q (between-least (d .starts k q) (d .no-passing k) (proper before ranges ok k q))
 
   -- a schedule starts no task after the smallest of its bounds, by the posts
   before-bounds : t .end ≡ done → (s : ℕ → ℤ) → Schedule J s → (k : ℕ) → k < J .count → s k ≤ℤ getD ls′ k (pos 0)
@@ -132,10 +121,7 @@ module _ (before : Propagator) (ranges : List Range) (posts atoms ls′ posts′
       (boundOf posts′ j, subst (λ (i : ℕ). s i ≤ℤ boundOf posts′ j) is-k (every-post j small .holds s h), λ b r. d .at-smallest j small .bounds b (subst (λ (i : ℕ). MirroredBound J i b) (sym is-k) r)))
 
   none-lost : (s : ℕ → ℤ) → PermittedSchedule J ranges s → (k : ℕ) → k < J .count → s k ≤ℤ getD (latests ranges′) k (pos 0)
-  none-lost s h k q = ⊎-elim
-      (λ y. let e = read.is-done t answer is .0 (eqb-true _ 0 y) in last e k q .bounds (s k) (h .permitted k q, before-bounds e s (h .schedule) k q))
-      (λ y. absurd (ran .right .otherwise (λ e. eqb-false _ 0 y (read.is-done t answer is .1 e)) s (h .schedule)))
-      (bool (eqb (outcomeNumbers answer .kind) 0))
+  none-lost s h k q = read.done-or t answer is (λ e. last e k q .bounds (s k) (h .permitted k q, before-bounds e s (h .schedule) k q)) (λ n. absurd (ran .right .otherwise n s (h .schedule)))
 
   pub promised : MirroredPromise before ranges answer ranges′ posts′ atoms′
   promised =

@@ -3,15 +3,12 @@
 use mathlib.Core.Path.{_≡_, sym, subst, _∙_}
 use mathlib.Core.List.{List, [], _∷_}
 use mathlib.Core.Bool.{true}
-use mathlib.Core.Logic.{_⊎_, ⊎-elim}
+use mathlib.Core.Logic.{_⊎_}
 use Prim.Native.Nat.{ℕ, _<_}
 use native.Mathlib.Omega.{arith}
-use lib.Dec.{eqb}
 use lib.IntN.{ℤ, pos}
 use lib.ListN.{length, getD}
 use lib.Signed.{_≤ℤ_, _<ℤ_}
-use borrow.Author.Tests.{eqb-true, eqb-false}
-use Rattle.integers.proofs.Bools.{bool}
 use Rattle.scheduling.specs.Scheduling.{whole, Tasks, EdgeFindingBound, Schedule, Done, Largest, HoldsAtEntry}
 use Rattle.scheduling.specs.Words.{atomWords}
 use Rattle.runs.specs.Traces.{Trace, done}
@@ -31,10 +28,10 @@ use Rattle.barred_starts.specs.Bars.{allBarsFit}
 use Rattle.barred_starts.specs.Permitted.{FirstPermitted, PermittedSchedule}
 use Rattle.barred_starts.specs.Ranges.{earliests, latests, anyRange, withStarts}
 use Rattle.barred_starts.proofs.Storing.{latests-with, counts-with, places-with}
-use Rattle.promises.specs.Promise.{tasksLent, reasonOf, PostPromise, OverloadPromise, Promise}
+use Rattle.promises.specs.Promise.{tasksLent, reasonOf, Reason, PostPromise, OverloadPromise, Promise}
 use Rattle.promises.proofs.Answers as read
 use Rattle.promises.proofs.Largest.{between, reached}
-use Rattle.promises.proofs.Firsts.{few, moved-on}
+use Rattle.promises.proofs.Firsts.{proper, moved-on}
 
 module _ (before : Propagator) (ranges : List Range) (posts atoms es′ posts′ atoms′ : List ℤ) (answer : Outcome) {changed : ℕ}
     (ok : Accepted before (earliests ranges) (latests ranges) (length posts) (length atoms)) (fit : allBarsFit ranges ≡ true) (size : length es′ ≡ length ranges)
@@ -48,39 +45,34 @@ module _ (before : Propagator) (ranges : List Range) (posts atoms es′ posts′
   abbrev t : Trace
   t = traceOf before (earliests ranges) (latests ranges)
 
-  abbrev made : ℕ
-  made = valueOf answer 0
-
   is : answer ≡ outcomeOf (reasons (t .posts)) (length (t .posts)) (t .end)
   is = ran .left .answer
 
-  below : (j : ℕ) → j < made → j < length (t .posts)
-  below = read.below t answer is posts′ atoms′ (ran .handed)
-
-  said : (j : ℕ) → j < made → (P : ℕ → ℤ → Type 0) → P (post t j .task) (post t j .bound) → P (taskOf posts′ j) (boundOf posts′ j)
-  said = read.said t answer is posts′ atoms′ (ran .handed)
+  at : (j : ℕ) → j < valueOf answer 0 → read.PostRead t answer is posts′ atoms′ (ran .handed) j
+  at = read.post-read t answer is posts′ atoms′ (ran .handed)
 
   -- the posts
-  every-post : (j : ℕ) → j < made → PostPromise before ranges answer ranges′ posts′ atoms′ j
+  every-post : (j : ℕ) → j < valueOf answer 0 → PostPromise before ranges answer ranges′ posts′ atoms′ j
   every-post j q =
-      let r = ran .right .posts j (below j q) in
+      let p = at j q in
+      let r = ran .right .posts j (p .below) in
       record {
-        read = read.read t answer is posts′ atoms′ (ran .handed) j q;
-        names = read.names t answer is posts′ atoms′ (ran .handed) j q;
-        small = said j q (λ i b. i < J .count) (r .small);
-        raises = said j q (λ i b. J .earliest i <ℤ b) (r .raises);
-        edge = said j q (EdgeFindingBound J) (r .edge);
-        holds = said j q (λ i b. (s : ℕ → ℤ) → Schedule J s → b ≤ℤ s i) (r .holds);
-        holds-permitted = λ s h. said j q (λ i b. (s : ℕ → ℤ) → Schedule J s → b ≤ℤ s i) (r .holds) s (h .schedule);
+        read = p .read;
+        names = p .names;
+        small = p .said (λ i b. i < J .count) (r .small);
+        raises = p .said (λ i b. J .earliest i <ℤ b) (r .raises);
+        edge = p .said (EdgeFindingBound J) (r .edge);
+        holds = p .said (λ i b. (s : ℕ → ℤ) → Schedule J s → b ≤ℤ s i) (r .holds);
+        holds-permitted = λ s h. p .said (λ i b. (s : ℕ → ℤ) → Schedule J s → b ≤ℤ s i) (r .holds) s (h .schedule);
         reason = record {
-          holds = subst (HoldsAtEntry J) (sym (read.atoms-are t answer is posts′ atoms′ (ran .handed) j q)) (r .reason-holds);
-          passes = said j q (λ i b. checkOf (checkDurations before) (reasonOf answer posts′ atoms′ j) (atomWords (record { variable = i; kind = 0; value = b } ∷ [])) ≡ Passed)
-              (subst (λ (ws : List ℤ). checkOf (checkDurations before) ws (atomWords (consequentOf (post t j) ∷ [])) ≡ Passed) (sym (read.words-are t answer is posts′ atoms′ (ran .handed) j q)) (ran .passes .posts j (below j q)));
+          holds = subst (HoldsAtEntry J) (sym (p .atoms-are)) (r .reason-holds);
+          passes = p .said (λ i b. checkOf (checkDurations before) (reasonOf answer posts′ atoms′ j) (atomWords (record { variable = i; kind = 0; value = b } ∷ [])) ≡ Passed)
+              (subst (λ (ws : List ℤ). checkOf (checkDurations before) ws (atomWords (consequentOf (post t j) ∷ [])) ≡ Passed) (sym (p .words-are)) (ran .passes .posts j (p .below)));
         };
       }
 
   -- an overload
-  overloaded : outcomeNumbers answer .kind ≡ 1 → OverloadPromise before ranges answer ranges′ posts′ atoms′
+  overloaded : outcomeNumbers answer .kind ≡ 1 → OverloadPromise (Reason before ranges answer ranges′ posts′ atoms′) answer atoms′
   overloaded k =
       let o = read.overloaded t answer is k in
       record {
@@ -92,29 +84,26 @@ module _ (before : Propagator) (ranges : List Range) (posts atoms es′ posts′
       }
 
   -- a run that is Done: the starts that it gives
-  finished : t .end ≡ done → Done J (λ k. getD es′ k (pos 0)) made (taskOf posts′) (boundOf posts′)
+  finished : t .end ≡ done → Done J (λ k. getD es′ k (pos 0)) (valueOf answer 0) (taskOf posts′) (boundOf posts′)
   finished e =
       let d = ran .right .when-done e in
       record {
         no-overload = d .no-overload;
         no-passing = d .no-passing;
         starts = λ i q. subst (λ (es : List ℤ). Largest whole (λ v. (J .earliest i ≡ v) ⊎ EdgeFindingBound J i v) (getD es i (pos 0))) (sym (ran .left .starts)) (d .starts i q);
-        small = λ j q. said j q (λ i b. i < J .count) (d .small j (below j q));
-        raises = λ j q. said j q (λ i b. J .earliest i <ℤ b) (d .raises j (below j q));
-        at-largest = λ j q. said j q (λ i b. Largest whole (EdgeFindingBound J i) b) (d .at-largest j (below j q));
+        small = λ j q. at j q .said (λ i b. i < J .count) (d .small j (at j q .below));
+        raises = λ j q. at j q .said (λ i b. J .earliest i <ℤ b) (d .raises j (at j q .below));
+        at-largest = λ j q. at j q .said (λ i b. Largest whole (EdgeFindingBound J i) b) (d .at-largest j (at j q .below));
         every = λ k q h.
             (let f = d .every k q (subst (λ (es : List ℤ). J .earliest k <ℤ getD es k (pos 0)) (ran .left .starts) h) in
-            let small : f .0 < made = omega (arith, f .1, read.made t answer is) in
-            (f .0, small, read.task-is t answer is posts′ atoms′ (ran .handed) (f .0) small ∙ f .2));
-        once = λ i j p q h. d .once i j (below i p) (below j q) (sym (read.task-is t answer is posts′ atoms′ (ran .handed) i p) ∙ h ∙ read.task-is t answer is posts′ atoms′ (ran .handed) j q);
+            let small : f .0 < valueOf answer 0 = omega (arith, f .1, read.made t answer is) in
+            (f .0, small, at (f .0) small .task-is ∙ f .2));
+        once = λ i j p q h. d .once i j (at i p .below) (at j q .below) (sym (at i p .task-is) ∙ h ∙ at j q .task-is);
       }
-
-  proper : (k : ℕ) → k < J .count → J .earliest k ≤ℤ J .latest k
-  proper k q = ok .ranges k (omega (arith, few before ranges k q, ok .counts .earliest))
 
   -- and where they are moved to
   first : t .end ≡ done → (k : ℕ) → k < J .count → FirstPermitted (getD ranges k anyRange) (getD es′ k (pos 0)) (getD (earliests ranges′) k (pos 0))
-  first e k q = let d = finished e in moved-on before ranges es′ (ok .counts) fit size k q (between (d .starts k q) (d .no-passing k) (proper k q))
+  first e k q = let d = finished e in moved-on before ranges es′ (ok .counts) fit size k q (between (d .starts k q) (d .no-passing k) (proper before ranges ok k q))
 
   -- a schedule starts no task before the largest of its bounds, by the posts
   after-bounds : t .end ≡ done → (s : ℕ → ℤ) → Schedule J s → (k : ℕ) → k < J .count → getD es′ k (pos 0) ≤ℤ s k
@@ -124,10 +113,7 @@ module _ (before : Propagator) (ranges : List Range) (posts atoms es′ posts′
       (boundOf posts′ j, subst (λ (i : ℕ). boundOf posts′ j ≤ℤ s i) is-k (every-post j small .holds s h), λ b r. d .at-largest j small .bounds b (subst (λ (i : ℕ). EdgeFindingBound J i b) (sym is-k) r)))
 
   none-lost : (s : ℕ → ℤ) → PermittedSchedule J ranges s → (k : ℕ) → k < J .count → getD (earliests ranges′) k (pos 0) ≤ℤ s k
-  none-lost s h k q = ⊎-elim
-      (λ y. let e = read.is-done t answer is .0 (eqb-true _ 0 y) in first e k q .bounds (s k) (h .permitted k q, after-bounds e s (h .schedule) k q))
-      (λ y. absurd (ran .right .otherwise (λ e. eqb-false _ 0 y (read.is-done t answer is .1 e)) s (h .schedule)))
-      (bool (eqb (outcomeNumbers answer .kind) 0))
+  none-lost s h k q = read.done-or t answer is (λ e. first e k q .bounds (s k) (h .permitted k q, after-bounds e s (h .schedule) k q)) (λ n. absurd (ran .right .otherwise n s (h .schedule)))
 
   pub promised : Promise before ranges answer ranges′ posts′ atoms′
   promised =

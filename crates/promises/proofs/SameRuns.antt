@@ -40,9 +40,9 @@ module _ (before : Propagator) (ranges : List Range) (posts atoms posts₁ atoms
     outcome = refl;
     changed = a .left .changes ∙ sym (b .left .changes);
     starts = a .stored ∙ sym (b .stored);
-    tasks = λ j q. read.task-is t answer is posts₁ atoms₁ one j q ∙ sym (read.task-is t answer is posts₃ atoms₃ other j q);
-    bounds = λ j q. read.bound-is t answer is posts₁ atoms₁ one j q ∙ sym (read.bound-is t answer is posts₃ atoms₃ other j q);
-    reasons = λ j q. read.words-are t answer is posts₁ atoms₁ one j q ∙ sym (read.words-are t answer is posts₃ atoms₃ other j q);
+    tasks = λ j q. read.post-read t answer is posts₁ atoms₁ one j q .task-is ∙ sym (read.post-read t answer is posts₃ atoms₃ other j q .task-is);
+    bounds = λ j q. read.post-read t answer is posts₁ atoms₁ one j q .bound-is ∙ sym (read.post-read t answer is posts₃ atoms₃ other j q .bound-is);
+    reasons = λ j q. read.post-read t answer is posts₁ atoms₁ one j q .words-are ∙ sym (read.post-read t answer is posts₃ atoms₃ other j q .words-are);
     overload = λ k. read.overload-words t answer is posts₁ atoms₁ one k ∙ sym (read.overload-words t answer is posts₃ atoms₃ other k);
   })
 

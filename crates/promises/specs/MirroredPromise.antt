@@ -2,10 +2,10 @@
 use mathlib.Core.Path.{_≡_}
 use mathlib.Core.Logic.{_↔_}
 use mathlib.Core.List.{List, map}
-use mathlib.Core.Option.{Option, some, none}
-use Prim.Native.Nat.{ℕ, _+_, _*_, _≤_, _<_}
+use mathlib.Core.Option.{Option, some}
+use Prim.Native.Nat.{ℕ, _<_}
 use lib.IntN.{ℤ, pos}
-use lib.ListN.{length, getD, take}
+use lib.ListN.{getD, take}
 use lib.Signed.{_≤ℤ_, _<ℤ_}
 use Rattle.scheduling.specs.Scheduling.{whole, Tasks, Schedule, Atom, HoldsAtEntry, PassesFormula}
 use Rattle.scheduling.specs.Mirroring.{mirror, mirrorAtoms, MirroredBound, MirroredConflict, MirroredDone}
@@ -20,7 +20,7 @@ use Rattle.levels.specs.Outcomes.{outcomeNumbers, valueOf}
 use Rattle.barred_starts.specs.declared.range.Range.{Range}
 use Rattle.barred_starts.specs.Ranges.{earliests, latests, counts, places, anyRange}
 use Rattle.barred_starts.specs.Permitted.{LastPermitted, PermittedSchedule}
-use Rattle.promises.specs.Promise.{tasksLent, reasonOf, overloadOf}
+use Rattle.promises.specs.Promise.{tasksLent, reasonOf, OverloadPromise}
 
 module _ (before : Propagator) (ranges : List Range) (answer : Outcome) (ranges′ : List Range) (posts atoms : List ℤ) where
   -- the tasks at entry
@@ -78,13 +78,6 @@ module _ (before : Propagator) (ranges : List Range) (answer : Outcome) (ranges�
     -- What the reader hands out is a reason for task ≤ bound.
     pub reason : MirroredReason (reasonOf answer posts atoms j) (some (record { variable = task j; kind = 1; value = bound j }))
 
-  -- An overload.
-  pub record MirroredOverloadPromise : Type 0 where
-    -- Its atoms are inside the slice: value 1 is the first one's index, value 2 their count.
-    pub inside : 3 * valueOf answer 1 + 3 * valueOf answer 2 ≤ length atoms
-    -- They are a reason without consequent.
-    pub reason : MirroredReason (overloadOf answer atoms) none
-
   -- A pass that is Done.
   pub record MirroredDonePromise : Type 0 where
     -- The smallest of each task's old latest start and all bounds that the mirrored rule gives it; the posts are one for each task that it lowers, at the smallest of its bounds, and no others.
@@ -108,7 +101,7 @@ module _ (before : Propagator) (ranges : List Range) (answer : Outcome) (ranges�
     -- Whatever the outcome, every post holds in all schedules, and its reason holds at entry, meets the checker's formula mirrored, and passes the mirrored check.
     pub every-post : (j : ℕ) → j < made → MirroredPostPromise j
     -- So does an overload's reason.
-    pub overload : kind ≡ 1 → MirroredOverloadPromise
+    pub overload : kind ≡ 1 → OverloadPromise MirroredReason answer atoms
     -- No earliest start changes, and no bar.
     pub same-earliest : earliests ranges′ ≡ earliests ranges
     pub same-counts : counts ranges′ ≡ counts ranges

@@ -35,6 +35,13 @@ reasonOf answer posts atoms j = reasonWords posts atoms (valueOf answer 0) j
 abbrev pub overloadOf : Outcome → List ℤ → List ℤ
 overloadOf answer atoms = take (3 * valueOf answer 2) (drop (3 * valueOf answer 1) atoms)
 
+-- An overload, whose words are a reason of either direction: `Reason` below, or `MirroredReason`.
+pub record OverloadPromise (Reason : List ℤ → Option Atom → Type 0) (answer : Outcome) (atoms : List ℤ) : Type 0 where
+  -- Its atoms are inside the slice: value 1 is the first one's index, value 2 their count.
+  pub inside : 3 * valueOf answer 1 + 3 * valueOf answer 2 ≤ length atoms
+  -- They are a reason without consequent.
+  pub reason : Reason (overloadOf answer atoms) none
+
 -- The promise ------------------------------------------------------------------------------------------------------------------
 
 module _ (before : Propagator) (ranges : List Range) (answer : Outcome) (ranges′ : List Range) (posts atoms : List ℤ) where
@@ -91,13 +98,6 @@ module _ (before : Propagator) (ranges : List Range) (answer : Outcome) (ranges�
     -- What the reader hands out is a reason for task ≥ bound.
     pub reason : Reason (reasonOf answer posts atoms j) (some (record { variable = task j; kind = 0; value = bound j }))
 
-  -- An overload.
-  pub record OverloadPromise : Type 0 where
-    -- Its atoms are inside the slice: value 1 is the first one's index, value 2 their count.
-    pub inside : 3 * valueOf answer 1 + 3 * valueOf answer 2 ≤ length atoms
-    -- They are a reason without consequent.
-    pub reason : Reason (overloadOf answer atoms) none
-
   -- A run that is Done.
   pub record DonePromise : Type 0 where
     -- The largest of each task's old earliest start and all its edge-finding bounds; the posts are one for each task that it raises, at the largest of its bounds, and no others.
@@ -121,7 +121,7 @@ module _ (before : Propagator) (ranges : List Range) (answer : Outcome) (ranges�
     -- Whatever the outcome, every post holds in all schedules, and its reason holds at entry and passes the check.
     pub every-post : (j : ℕ) → j < made → PostPromise j
     -- So does an overload's reason.
-    pub overload : kind ≡ 1 → OverloadPromise
+    pub overload : kind ≡ 1 → OverloadPromise Reason answer atoms
     -- No latest start changes, and no bar.
     pub same-latest : latests ranges′ ≡ latests ranges
     pub same-counts : counts ranges′ ≡ counts ranges

@@ -14,7 +14,7 @@ use Rattle.levels.specs.declared.outcome.Outcome.the-variants as outcome
 use Rattle.levels.specs.Outcomes.{outcomeNumbers, valueOf}
 use Rattle.barred_starts.specs.declared.range.Range.{Range}
 use Rattle.promises.specs.Promise.{Reason, OverloadPromise}
-use Rattle.promises.specs.MirroredPromise.{MirroredReason, MirroredOverloadPromise}
+use Rattle.promises.specs.MirroredPromise.{MirroredReason}
 use Rattle.promises.specs.RanLent.{lentNumber, RanLent, RanMirroredLent}
 use Rattle.answers.specs.declared.call_answers.RunAnswer.{RunAnswer}
 use Rattle.answers.specs.declared.request_answers.MirroredAnswer.{MirroredAnswer}
@@ -41,7 +41,7 @@ module _ (before : Propagator) (ranges : List Range) (posts atoms : List ℤ) (r
   -- The run --------------------------------------------------------------------------------------------------------------------
 
   module _ (o : Outcome) (changed : ℕ) (after : Propagator) (ran : RanLent before ranges posts atoms o changed after ranges′ posts′ atoms′) where
-    run-kept : outcomeNumbers o .kind ≡ 1 → OverloadPromise before ranges o ranges′ posts′ atoms′
+    run-kept : outcomeNumbers o .kind ≡ 1 → OverloadPromise (Reason before ranges o ranges′ posts′ atoms′) o atoms′
     run-kept k = ran .accepted (accepted o (lentNumber before ranges posts atoms) (λ e. ran .refused e .number) k) .promise .overload k
 
     pub run-told : length atoms′ ≡ length atoms → length atoms < 2 ^ 64 → ToldInWords o
@@ -55,13 +55,13 @@ module _ (before : Propagator) (ranges : List Range) (posts atoms : List ℤ) (r
       Pointed : RunAnswer → Type 0
       Pointed b = (b .first + b .count ≤ length atoms′) × Reason before ranges (n .finished .outcome) ranges′ posts′ atoms′ (take (b .count) (drop (b .first) atoms′)) none
 
-      kept : OverloadPromise before ranges (n .finished .outcome) ranges′ posts′ atoms′
+      kept : OverloadPromise (Reason before ranges (n .finished .outcome) ranges′ posts′ atoms′) (n .finished .outcome) atoms′
       kept = run-kept (n .finished .outcome) (n .finished .changes) after (n .ran) (sym (ap (λ (b : RunAnswer). b .kind) (n .numbers)) ∙ k)
 
   -- The mirrored pass ----------------------------------------------------------------------------------------------------------
 
   module _ (o : Outcome) (ran : RanMirroredLent before ranges posts atoms o ranges′ posts′ atoms′) where
-    mirrored-kept : outcomeNumbers o .kind ≡ 1 → MirroredOverloadPromise before ranges o ranges′ posts′ atoms′
+    mirrored-kept : outcomeNumbers o .kind ≡ 1 → OverloadPromise (MirroredReason before ranges o ranges′ posts′ atoms′) o atoms′
     mirrored-kept k = ran .accepted (accepted o (lentNumber before ranges posts atoms) (λ e. ran .refused e .number) k) .promise .overload k
 
     pub mirrored-told : length atoms′ ≡ length atoms → length atoms < 2 ^ 64 → ToldInWords o
@@ -74,5 +74,5 @@ module _ (before : Propagator) (ranges : List Range) (posts atoms : List ℤ) (r
       Pointed : MirroredAnswer → Type 0
       Pointed b = (b .first + b .count ≤ length atoms′) × MirroredReason before ranges (n .answer) ranges′ posts′ atoms′ (take (b .count) (drop (b .first) atoms′)) none
 
-      kept : MirroredOverloadPromise before ranges (n .answer) ranges′ posts′ atoms′
+      kept : OverloadPromise (MirroredReason before ranges (n .answer) ranges′ posts′ atoms′) (n .answer) atoms′
       kept = mirrored-kept (n .answer) (n .promised) (sym (ap (λ (b : MirroredAnswer). b .kind) (n .are)) ∙ k)

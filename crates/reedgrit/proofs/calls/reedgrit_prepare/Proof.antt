@@ -1,6 +1,6 @@
 -- `calls::reedgrit_prepare` meets its contract: where the list leads to a state, the struct handed in is the answer's.
 -- Assumes nothing.
-use mathlib.Core.Path.{_≡_, ap, _∙_}
+use mathlib.Core.Path.{ap, _∙_}
 use borrow.Author.Needs.{needs}
 use Rattle.checking.specs.declared.variable_state.Applied.{Applied}
 use Rattle.checking.specs.Answers.{applicationNumbers}

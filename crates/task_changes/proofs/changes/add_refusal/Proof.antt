@@ -41,8 +41,8 @@ seen c = c .at-most .ensures ∙ ap (leZ (pos 1)) (back (c .before .before .befo
 first-three : (c : tie.Else3) → AllPassed (take 3 (addTests (lent (c .before .before .before .before .before)) (c .before .before .before .before .before .args .duration)))
 first-three c = let two = first-two (c .before .before) in (two .0, (two .1 .0, (sym (seen (c .before)) ∙ not-false _ (c .if3 .left), tt)))
 
-more-is : (c : tie.After-nat-of) → c .nat-of .result ≡ durationOf (c .before .before .before .before .before .before .args .duration)
-more-is c = ap durationOf (c .nat-of .ensures ∙ back (c .before .before .before .before .before .before .fits .duration))
+more-is : (c : tie.After-nat-of) → let start = c .before .before .before .before .before .before in c .nat-of .result ≡ durationOf (start .args .duration)
+more-is c = let start = c .before .before .before .before .before .before in ap durationOf (c .nat-of .ensures ∙ back (start .fits .duration))
 
 returns : tie.Need-returns
 returns c = sym (refuses [] (test 20 _) _ tt (sym (c .before .lawful .ensures) ∙ not-true _ (c .if1 .taken)))

@@ -36,14 +36,17 @@ sub-t8 : tie.Need-sub-t8
 sub-t8 c = omega (arith, passed (c .before .before .before .before) .many)
 
 sub-t17 : tie.Need-sub-t17
-sub-t17 c = let s = c .before .before .before .before .before .before .before .before in let p = passed (c .before .before .before .before) in part (s .args .t1) (p .lawful) (long s) (s .args .task) (p .there)
+sub-t17 c =
+    let start = c .before .before .before .before .before .before .before .before in
+    let p = passed (c .before .before .before .before) in
+    part (start .args .t1) (p .lawful) (long start) (start .args .task) (p .there)
 
 returns-2 : tie.Need-returns-2
 returns-2 c =
-    let s = c .before .before .before .before .before .before .before .before in
-    let a = s .args in
+    let start = c .before .before .before .before .before .before .before .before in
+    let a = start .args in
     let made = c .without-task .ensures in
-    remove-made (a .t1) (a .task) _ (long s) (sym (c .before .before .before .before .before .remove-refusal .ensures) ∙ c .before .before .before .before .if1 .left) (cc made)
+    remove-made (a .t1) (a .task) _ (long start) (sym (c .before .before .before .before .before .remove-refusal .ensures) ∙ c .before .before .before .before .if1 .left) (cc made)
 
 pub remove-spec : {M : Type 1} → statement M
 remove-spec =

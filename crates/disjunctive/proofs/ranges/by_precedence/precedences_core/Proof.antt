@@ -1,39 +1,32 @@
 -- `ranges::by_precedence::precedences_core` meets its contract: what `precedences` ensures of the first `count` places of the arrays.
 -- Assumes nothing.
 use mathlib.Core.Path.{_≡_, refl, sym, _∙_}
-use lib.ListN.{length, drop, length-map}
+use lib.ListN.{length, drop}
 use lib.Seq.{length-take-le, length-front, take-at}
 use native.Mathlib.Omega.{arith}
 use borrow.Author.Needs.{needs}
-use Rattle.integers.specs.Limits.{TASKS}
+use Rattle.disjunctive.proofs.ranges.AllPlaces.{all-earliest, all-latest}
 use Rattle.disjunctive.proofs.ranges.by_precedence.precedences_core.Statement.{statement}
 use Rattle.disjunctive.proofs.ranges.by_precedence.precedences_core.Tie as tie
 
--- both arrays have all their places
-all-earliest : (c : tie.Start) → length (c .args .starts .earliest) ≡ TASKS
-all-earliest c = sym (length-map (c .args .starts .earliest) (λ v. v)) ∙ c .good .1 .0 .1 .1 .1 .0 .1 .0 .1
-
-all-latest : (c : tie.Start) → length (c .args .starts .latest) ≡ TASKS
-all-latest c = sym (length-map (c .args .starts .latest) (λ v. v)) ∙ c .good .1 .0 .1 .1 .1 .1 .0 .1 .0 .1
-
 array-borrow-prefix-earliest : tie.Need-array-borrow-prefix-earliest
-array-borrow-prefix-earliest c = omega (arith, all-earliest (c .before .before))
+array-borrow-prefix-earliest c = let p = c .before .before in omega (arith, all-earliest (p .args .starts) (p .good .1 .0))
 
 slice-aggregate-precedences : tie.Need-slice-aggregate-precedences
-slice-aggregate-precedences c = sym (length-take-le _ _ (omega (arith, all-earliest (c .before .before .before))))
+slice-aggregate-precedences c = let p = c .before .before .before in sym (length-take-le _ _ (omega (arith, all-earliest (p .args .starts) (p .good .1 .0))))
 
 array-share-prefix-latest : tie.Need-array-share-prefix-latest
-array-share-prefix-latest c = omega (arith, all-latest (c .before .before .before))
+array-share-prefix-latest c = let p = c .before .before .before in omega (arith, all-latest (p .args .starts) (p .good .1 .0))
 
 slice-aggregate-precedences-2 : tie.Need-slice-aggregate-precedences-2
-slice-aggregate-precedences-2 c = sym (length-take-le _ _ (omega (arith, all-latest (c .before .before .before .before))))
+slice-aggregate-precedences-2 c = let p = c .before .before .before .before in sym (length-take-le _ _ (omega (arith, all-latest (p .args .starts) (p .good .1 .0))))
 
 returns : tie.Need-returns
 returns c =
     let p = c .before in
     let a = p .before .before .before .before .before in
     let n = a .args .starts .count in
-    let all = all-earliest a in
+    let all = all-earliest (a .args .starts) (a .good .1 .0) in
     let l : length (p .precedences .last .1 .0) ≡ n = p .precedences .kept .1 .0 ∙ length-take-le n (a .args .starts .earliest) (omega arith) in
     record {
       ran = rw (take-at (p .precedences .last .1 .0) (drop n (a .args .starts .earliest)) n l) (p .precedences .ensures);

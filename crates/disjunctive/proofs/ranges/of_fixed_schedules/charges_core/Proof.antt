@@ -1,32 +1,24 @@
 -- `ranges::of_fixed_schedules::charges_core` meets its contract: what `charges` ensures of the first `count` places of the arrays.
 -- Assumes nothing.
-use mathlib.Core.Path.{_≡_, sym, _∙_}
-use lib.ListN.{length, length-map}
+use mathlib.Core.Path.{sym}
 use lib.Seq.{length-take-le}
 use native.Mathlib.Omega.{arith}
 use borrow.Author.Needs.{needs}
-use Rattle.integers.specs.Limits.{TASKS}
+use Rattle.disjunctive.proofs.ranges.AllPlaces.{all-earliest, all-latest}
 use Rattle.disjunctive.proofs.ranges.of_fixed_schedules.charges_core.Statement.{statement}
 use Rattle.disjunctive.proofs.ranges.of_fixed_schedules.charges_core.Tie as tie
 
--- both arrays have all their places
-all-earliest : (c : tie.Start) → length (c .args .starts .earliest) ≡ TASKS
-all-earliest c = sym (length-map (c .args .starts .earliest) (λ v. v)) ∙ c .good .1 .0 .1 .1 .1 .0 .1 .0 .1
-
-all-latest : (c : tie.Start) → length (c .args .starts .latest) ≡ TASKS
-all-latest c = sym (length-map (c .args .starts .latest) (λ v. v)) ∙ c .good .1 .0 .1 .1 .1 .1 .0 .1 .0 .1
-
 array-share-prefix-earliest : tie.Need-array-share-prefix-earliest
-array-share-prefix-earliest c = omega (arith, all-earliest (c .before .before))
+array-share-prefix-earliest c = let p = c .before .before in omega (arith, all-earliest (p .args .starts) (p .good .1 .0))
 
 slice-aggregate-charges : tie.Need-slice-aggregate-charges
-slice-aggregate-charges c = sym (length-take-le _ _ (omega (arith, all-earliest (c .before .before .before))))
+slice-aggregate-charges c = let p = c .before .before .before in sym (length-take-le _ _ (omega (arith, all-earliest (p .args .starts) (p .good .1 .0))))
 
 array-share-prefix-latest : tie.Need-array-share-prefix-latest
-array-share-prefix-latest c = omega (arith, all-latest (c .before .before .before))
+array-share-prefix-latest c = let p = c .before .before .before in omega (arith, all-latest (p .args .starts) (p .good .1 .0))
 
 slice-aggregate-charges-2 : tie.Need-slice-aggregate-charges-2
-slice-aggregate-charges-2 c = sym (length-take-le _ _ (omega (arith, all-latest (c .before .before .before .before))))
+slice-aggregate-charges-2 c = let p = c .before .before .before .before in sym (length-take-le _ _ (omega (arith, all-latest (p .args .starts) (p .good .1 .0))))
 
 pub charges-core-spec : {M : Type 1} → statement M
 charges-core-spec =
