@@ -180,31 +180,33 @@ impl VariableState {
         self.bound_of(variable, false)
     }
 
-    // Apply the premises and, if present, the negated consequent, one after the other, from the empty state.
+    // Apply the premises and, if present, the negated consequent, one after the other, from the empty state. Its domains are narrowed in an array and copied
+    // once, into what is returned.
     fn apply_all(premises: &[i32], consequent: &[i32]) -> Applied
         requires { ⌜ (length (now premises) ≤ 3 * PREMISES + 2) × (rightLists (now premises) (now consequent) ≡ true) ⌝ }
         ensures { λ r. ⌜ r ≡ applyAll (given (atomsOf (now (premises .entry))) (consequentOf (now (consequent .entry)))) emptyState ⌝ }
     {
         let words = premises.len() + consequent.len();
-        let mut state = VariableState::empty();
+        let domain = Domain::all_integers();
+        let mut domains = [domain; VARIABLES];
         let mut i = 0;
         while i < words {
             let atom = given_at(premises, consequent, i);
             let x = atom.identifier;
             let comparison = atom.comparison;
             let value = atom.value;
-            let domain = state.domains[x];
+            let domain = domains[x];
             let reduced = domain.apply(comparison, value);
             let effect = reduced.effect;
             match effect {
                 Effect::Narrowed => {
                     let narrowed = reduced.domain;
-                    state.domains[x] = narrowed;
+                    domains[x] = narrowed;
                 }
                 Effect::Emptied => {
                     return Applied {
                         answer: Application::Contradiction(x),
-                        state,
+                        state: VariableState { domains },
                     };
                 }
                 Effect::Full => {
@@ -218,7 +220,7 @@ impl VariableState {
         }
         Applied {
             answer: Application::Consistent,
-            state,
+            state: VariableState { domains },
         }
     }
 

@@ -26,9 +26,8 @@ ghost use Rattle.barred_starts.specs.Ranges.{earliests, latests};
 ghost use Rattle.promises.specs.RanLent.{RanLent, RanMirroredLent};
 ghost use Rattle.disjunctive.specs.Ranges.{RanCore, RanMirroredCore};
 
-// What a run on ranges that are taken apart returns.
+// What a run on ranges that are taken apart returns. The record is not among it: no run changes one.
 pub struct CoreRun {
-    pub record: Propagator,
     pub finished: Finished,
     pub starts: Starts,
 }
@@ -55,14 +54,12 @@ fn run_core(record: Propagator, starts: Starts, posts: &mut [i32], atoms: &mut [
         posts,
         atoms,
     );
-    let record = ran.record;
     let outcome = ran.outcome;
     let finished = Finished {
         outcome,
         changes: ran.changes,
     };
     CoreRun {
-        record,
         finished,
         starts: Starts {
             count: n,
@@ -73,8 +70,7 @@ fn run_core(record: Propagator, starts: Starts, posts: &mut [i32], atoms: &mut [
     }
 }
 
-// Earliest starts are raised in the ranges, the record becomes the one that the run leaves, and no latest start changes. Beside the outcome stands the count of
-// leaf changes.
+// Earliest starts are raised in the ranges; no latest start changes, and the record stays as it is. Beside the outcome stands the count of leaf changes.
 pub fn run(
     propagator: &mut Propagator,
     ranges: &mut [Range],
@@ -86,7 +82,6 @@ pub fn run(
     let starts = starts_of(ranges);
     let ran = run_core(*propagator, starts, posts, atoms);
     store_starts(ranges, ran.starts);
-    *propagator = ran.record;
     ran.finished
 }
 

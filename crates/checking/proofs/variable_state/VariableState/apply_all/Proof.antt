@@ -5,7 +5,7 @@ use mathlib.Core.List.{List, _∷_}
 use Prim.Native.Nat.{_+_, _-_, _≤_, _<_}
 use native.Mathlib.Omega.{arith}
 use lib.IntN.{ℤ}
-use lib.ListN.{length}
+use lib.ListN.{length, replicate}
 use mir.Syntax.{w32}
 use Rattle.integers.specs.Limits.{VARIABLES, VALUE}
 use Rattle.integers.proofs.Ints.{back-of}
@@ -18,6 +18,7 @@ use Rattle.domains.specs.declared.domain.Effect.the-variants.{Narrowed}
 use Rattle.domains.specs.declared.domain.Reduced.{Reduced}
 use Rattle.domains.specs.Domains.{reduced, Proper}
 use Rattle.checking.specs.declared.variable_state.Application.the-variants.{Refused}
+use Rattle.checking.specs.declared.variable_state.VariableState.{VariableState}
 use Rattle.checking.specs.States.{Accepted, domainAt, put, emptyState, applyAll}
 use Rattle.checking.proofs.States.{empty-accepted, put-accepted, reduced-proper, stepped-is, when-narrowed, when-emptied, when-full, all-consistent, all-contradiction, all-refused, all-end}
 use borrow.Author.Needs.{needs}
@@ -25,10 +26,10 @@ use Rattle.checking.proofs.variable_state.VariableState.apply_all.State
 use Rattle.checking.proofs.variable_state.VariableState.apply_all.Tie as tie
 
 abbrev Inv-loop : tie.InvT-loop
-Inv-loop premises consequent words state₀ i₀ state i = (i ≤ length premises + length consequent) × ((rightFrom premises consequent i ≡ true) × (Accepted state × (applyAll (givenFrom premises consequent i) state ≡ applyAll (given (atomsOf premises) (consequentOf consequent)) emptyState)))
+Inv-loop premises consequent words domains₀ i₀ domains i = (i ≤ length premises + length consequent) × ((rightFrom premises consequent i ≡ true) × (Accepted (record { domains = domains }) × (applyAll (givenFrom premises consequent i) (record { domains = domains }) ≡ applyAll (given (atomsOf premises) (consequentOf consequent)) emptyState)))
 
 abbrev μ-loop : tie.MeasureT-loop
-μ-loop premises consequent words state₀ i₀ state i = words - i
+μ-loop premises consequent words domains₀ i₀ domains i = words - i
 
 add-words : tie.Need-add-words Inv-loop μ-loop
 add-words c = omega (arith, right-lists (c .args .premises .now) (c .args .consequent .now) (c .pre .1) .1)
@@ -37,7 +38,8 @@ loop-holds : tie.Need-loop-holds Inv-loop μ-loop
 loop-holds c =
     let ps = c .before .args .premises .now in
     let cs = c .before .args .consequent .now in
-    (omega arith, (right-start ps cs ∙ c .before .pre .1, (subst Accepted (sym (c .empty .ensures .0)) empty-accepted, ap₂ applyAll (given-start ps cs) (c .empty .ensures .0))))
+    let is-empty : record { domains = replicate VARIABLES (c .all-integers .result) } ≡ emptyState = (λ i. record { domains = replicate VARIABLES (c .all-integers .ensures i) }) in
+    (omega arith, (right-start ps cs ∙ c .before .pre .1, (subst Accepted (sym is-empty) empty-accepted, ap₂ applyAll (given-start ps cs) is-empty)))
 
 -- the lists given, at a turn
 abbrev ps : tie.In-loop Inv-loop μ-loop → List ℤ
@@ -63,8 +65,8 @@ value c = subst (Within (VALUE + 1)) (sym (ap (λ (a : Atom). a .value) (c .give
 mul-domain : tie.Need-mul-domain Inv-loop μ-loop
 mul-domain c = omega (arith, known (c .before))
 
-element-copy-out-domain : tie.Need-element-copy-out-domain Inv-loop μ-loop
-element-copy-out-domain c = known (c .before)
+array-copy-out-domain : tie.Need-array-copy-out-domain Inv-loop μ-loop
+array-copy-out-domain c = known (c .before)
 
 apply-requires : tie.Need-apply-requires Inv-loop μ-loop
 apply-requires c κs =
@@ -81,34 +83,37 @@ read-at c = c .before .before .before
 abbrev loop-at : tie.After-apply Inv-loop μ-loop → tie.At-loop Inv-loop μ-loop
 loop-at c = read-at c .before .before
 
+abbrev state-at : tie.After-apply Inv-loop μ-loop → VariableState
+state-at c = record { domains = loop-at c .loop .domains }
+
 -- what is given after it
 abbrev rest : tie.After-apply Inv-loop μ-loop → List Atom
 rest c = givenFrom (ps (read-at c .before)) (cs (read-at c .before)) (loop-at c .loop .i + 3)
 
 -- what the call says, of the atom's own value
-said : (c : tie.After-apply Inv-loop μ-loop) → let a = read-at c .given-at .result in c .apply .result ≡ reduced (domainAt (loop-at c .loop .state) (a .identifier)) (kindOf (a .comparison)) (a .value)
+said : (c : tie.After-apply Inv-loop μ-loop) → let a = read-at c .given-at .result in c .apply .result ≡ reduced (domainAt (state-at c) (a .identifier)) (kindOf (a .comparison)) (a .value)
 said c =
     let a = read-at c .given-at .result in
     let small = c .before .before .struct-told .given .1 .1 .0 .1 in
-    c .apply .ensures ∙ ap (reduced (domainAt (loop-at c .loop .state) (a .identifier)) (kindOf (a .comparison))) (back-of w32 (a .value) small)
+    c .apply .ensures ∙ ap (reduced (domainAt (state-at c) (a .identifier)) (kindOf (a .comparison))) (back-of w32 (a .value) small)
 
 -- the whole, with this atom still to be applied
-still : (c : tie.After-apply Inv-loop μ-loop) → let turn = read-at c .before in applyAll (given (atomsOf (ps turn)) (consequentOf (cs turn))) emptyState ≡ applyAll (atomOf (read-at c .given-at .result) ∷ rest c) (loop-at c .loop .state)
+still : (c : tie.After-apply Inv-loop μ-loop) → let turn = read-at c .before in applyAll (given (atomsOf (ps turn)) (consequentOf (cs turn))) emptyState ≡ applyAll (atomOf (read-at c .given-at .result) ∷ rest c) (state-at c)
 still c =
     let l = loop-at c .loop in
-    sym (l .inv .1 .1 .1) ∙ ap (λ (m : List Atom). applyAll m (l .state)) (here (read-at c .before) .atoms ∙ ap (λ (a : Atom). a ∷ rest c) (sym (read-at c .given-at .ensures)))
+    sym (l .inv .1 .1 .1) ∙ ap (λ (m : List Atom). applyAll m (state-at c)) (here (read-at c .before) .atoms ∙ ap (λ (a : Atom). a ∷ rest c) (sym (read-at c .given-at .ensures)))
 
-mul-narrowed : tie.Need-mul-narrowed Inv-loop μ-loop
-mul-narrowed c = omega (arith, known (read-at (c .before .before .before)))
+mul-domains : tie.Need-mul-domains Inv-loop μ-loop
+mul-domains c = omega (arith, known (read-at (c .before .before .before)))
 
-element-set-from-narrowed : tie.Need-element-set-from-narrowed Inv-loop μ-loop
-element-set-from-narrowed c = known (read-at (c .before .before .before))
+array-set-from-domains : tie.Need-array-set-from-domains Inv-loop μ-loop
+array-set-from-domains c = known (read-at (c .before .before .before))
 
 returns : tie.Need-returns Inv-loop μ-loop
 returns c =
     let applied = c .before .before in
     let a = atomOf (read-at applied .given-at .result) in
-    let s = loop-at applied .loop .state in
+    let s = state-at applied in
     let r = applied .apply .result in
     sym (still applied ∙ all-contradiction s a (rest applied) (a .variable) s (stepped-is s a r (said applied) ∙ when-emptied s a r (c .enum-told2 .given .1)))
 
@@ -116,15 +121,15 @@ returns-2 : tie.Need-returns-2 Inv-loop μ-loop
 returns-2 c =
     let applied = c .before .before .before in
     let a = atomOf (read-at applied .given-at .result) in
-    let s = loop-at applied .loop .state in
+    let s = state-at applied in
     let r = applied .apply .result in
-    (λ i. record { answer = Refused 21; state = c .empty2 .ensures .0 i }) ∙ sym (still applied ∙ all-refused s a (rest applied) 21 s (stepped-is s a r (said applied) ∙ when-full s a r (c .before .enum-told3 .given .1)))
+    (λ i. record { answer = Refused 21; state = c .empty .ensures .0 i }) ∙ sym (still applied ∙ all-refused s a (rest applied) 21 s (stepped-is s a r (said applied) ∙ when-full s a r (c .before .enum-told3 .given .1)))
 
 loop-again : tie.Need-loop-again Inv-loop μ-loop
 loop-again c =
     let applied = c .before .before .before in
     let a = atomOf (read-at applied .given-at .result) in
-    let s = loop-at applied .loop .state in
+    let s = state-at applied in
     let r = applied .apply .result in
     let e = c .before .enum-told .given .1 in
     let turn = here (read-at applied .before) in
@@ -139,12 +144,12 @@ returns-3 c =
     let l = c .before .loop in
     let s = c .before .before .before in
     let e = given-end (s .args .premises .now) (s .args .consequent .now) (l .i) (omega arith) in
-    sym (sym (l .inv .1 .1 .1) ∙ ap (λ (m : List Atom). applyAll m (l .state)) e ∙ all-end (l .state))
+    sym (sym (l .inv .1 .1 .1) ∙ ap (λ (m : List Atom). applyAll m (record { domains = l .domains })) e ∙ all-end (record { domains = l .domains }))
 
 pub apply-all-spec : {M : Type 1} → statement M
 apply-all-spec =
     tie.close
     (tie.spec
-    Inv-loop μ-loop add-words (λ c κs. search needs) loop-holds given-at-requires mul-domain element-copy-out-domain
-    apply-requires (λ c. search needs) mul-narrowed element-set-from-narrowed (λ c. search needs) returns
+    Inv-loop μ-loop add-words (λ c κs. search needs) loop-holds given-at-requires mul-domain array-copy-out-domain
+    apply-requires (λ c. search needs) mul-domains array-set-from-domains (λ c. search needs) returns
     (λ c. search needs) (λ c κs. search needs) returns-2 (λ c. search needs) (λ c. search needs) loop-again returns-3)
