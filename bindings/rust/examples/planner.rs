@@ -318,7 +318,7 @@ mod tests {
         assert!(registers("Maria 0 4 2 1").is_err() && registers("Maria 0 4 2 not x").is_err() && registers("Maria 0 4 not 1").is_err());
         let barred = registers("Maria 0 4 2 not 1 3\nJohannes -3 9 5 not\n").unwrap();
         assert_eq!((barred[0].range.bars(), barred[1].range), (&[1, 3][..], Range::new(-3, 9)));
-        // what the call turns back
+        // what the call refuses
         assert_eq!(plan(&registers("Maria 0 4 2\nJohannes -3 9 5 not 4 2").unwrap()).err(), Some(Refused::Bars(1)));
         assert_eq!(plan(&registers("Maria 0 4 2 not 4").unwrap()).err(), Some(Refused::Bars(0)));
     }

@@ -117,7 +117,7 @@ impl Range {
     }
 
     /// The same range with these barred starts in the place of those that it has. Nothing is refused here: of more than 16 the first 16 are kept,
-    /// with the count of all, so that the call turns them back.
+    /// with the count of all, so that the call refuses them.
     ///
     /// ```
     /// use reedgrit::{Propagator, Range, Refused};
@@ -339,7 +339,7 @@ impl fmt::Debug for Atom {
     }
 }
 
-/// Why an input was turned back. A refusal changes nothing that was lent.
+/// Why an input was refused. A refusal changes nothing that was lent.
 #[derive(Clone, Copy, Debug, PartialEq, Eq, Hash)]
 #[non_exhaustive]
 pub enum Refused {
@@ -849,7 +849,7 @@ pub mod state {
     pub enum NoState {
         /// This variable is left no value.
         Contradiction(usize),
-        /// The atoms, or the question, were turned back.
+        /// The atoms, or the question, were refused.
         Refused(Refused),
     }
 

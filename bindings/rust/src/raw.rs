@@ -349,7 +349,7 @@ mod tests {
         assert_eq!(unsafe { reedgrit_abi_version() }, ABI);
     }
 
-    // A record that creation cannot make is turned back by 20 by the other calls too, and nothing that is lent changes.
+    // A record that creation cannot make is refused by 20 by the other calls too, and nothing that is lent changes.
     #[test]
     fn broken_records_elsewhere() {
         let mut broken = create(&[4, 5, 3]).record;
@@ -376,7 +376,7 @@ mod tests {
         assert!(posts.iter().all(|word| *word == 7) && atoms.iter().all(|word| *word == 8) && page_bytes.iter().all(|byte| *byte == 9));
     }
 
-    // A record that creation cannot make is turned back by 20, and it, the ranges and the words stay as they were.
+    // A record that creation cannot make is refused by 20, and it, the ranges and the words stay as they were.
     #[test]
     fn broken_records() {
         let whole = create(&[4, 5, 3]).record;

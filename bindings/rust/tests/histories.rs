@@ -23,7 +23,7 @@ fn equal_starts_go_by_number() {
     let equal = [Range::new(0, 6), Range::new(0, 5), Range::new(0, 20)];
     let mut propagator = made.clone();
     assert_eq!(reason_of(&mut propagator, &equal), [0, 0, 1, 1, 2]);
-    // a run in which the tasks start in the other order, and one that is turned back
+    // a run in which the tasks start in the other order, and one that is refused
     let falling = [Range::new(9, 20), Range::new(5, 30), Range::new(0, 40)];
     let mut words = propagator.words();
     assert!(matches!(propagator.run(&mut { falling }, &mut words), Ok(Outcome::Done { .. })));

@@ -1,7 +1,7 @@
 -- The answers of the calls beside the run as structs: the kind, the number, and the values in their places; a value that its case does not have is 0.
 -- Different answers of one call are different structs (proofs/RequestsApart.antt).
-use Prim.Native.Nat.{_*_}
 use Rattle.integers.specs.Answers.{Answer}
+use Rattle.post_words.specs.Posts.{wordsOf}
 use Rattle.charges.specs.declared.answer.Charges.{Charges}
 use Rattle.charges.specs.Numbers.{chargesNumbers}
 use Rattle.answers.specs.declared.request_answers.MirroredAnswer.{MirroredAnswer}
@@ -14,7 +14,7 @@ use Rattle.answers.specs.Answers.{valueAt, natAt}
 
 -- a mirrored pass: its post count and, of an overload's reason, the first word's index and the word count
 abbrev pub mirroredAnswer : Answer → MirroredAnswer
-mirroredAnswer a = record { kind = a .kind; number = a .number; posts = natAt 0 a; first = 3 * natAt 1 a; count = 3 * natAt 2 a }
+mirroredAnswer a = record { kind = a .kind; number = a .number; posts = natAt 0 a; first = wordsOf (natAt 1 a); count = wordsOf (natAt 2 a) }
 
 -- the tasks read, the bytes, the task or the atoms
 abbrev pub countAnswer : Answer → CountAnswer

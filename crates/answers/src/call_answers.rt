@@ -6,6 +6,7 @@ use checking::variable_state::Truth;
 use domains::int_ext::IntExt;
 use levels::outcome::Finished;
 use levels::outcome::Outcome;
+use post_words::posts::words_of;
 use records::record::Creation;
 use records::record::Propagator;
 ghost use mathlib.Core.Path.{_≡_};
@@ -18,7 +19,7 @@ ghost use Rattle.checker.specs.Verdicts.{verdictNumbers};
 ghost use Rattle.levels.specs.Outcomes.{outcomeNumbers};
 ghost use Rattle.answers.specs.Answers.{ToldInWords, runAnswer, checkAnswer, stateAnswer, askedAt};
 
-// A new record, and the number that turned its durations back, or 0.
+// A new record, and the number that refused its durations, or 0.
 #[repr(C)]
 pub struct NewPropagator {
     pub propagator: Propagator,
@@ -89,7 +90,7 @@ pub fn finished_numbers(finished: Finished) -> RunAnswer
             posts,
             first,
             count,
-        } => run_answer(1, 0, posts, 3 * first, 3 * count, changes),
+        } => run_answer(1, 0, posts, words_of(first), words_of(count), changes),
         Outcome::Emptied(posts) => run_answer(2, 0, posts, 0, 0, changes),
         Outcome::Refused(number) => run_answer(3, number, 0, 0, 0, changes),
     }
@@ -150,7 +151,7 @@ fn contradiction_numbers(variable: usize) -> StateAnswer
     }
 }
 
-// They, or the question, are turned back.
+// They, or the question, are refused.
 pub fn refusal_numbers(number: u32) -> StateAnswer
     ensures { λ r. ⌜ r ≡ stateAnswer (refusedBy number) ⌝ }
 {

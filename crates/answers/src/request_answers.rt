@@ -9,6 +9,7 @@ use integers::limits::TASKS;
 use levels::outcome::Outcome;
 use overload_test::overload_test::Overload;
 use pages::answer::Page;
+use post_words::posts::words_of;
 use precedences::answers::Precedences;
 use precedences::answers::Reason;
 use task_changes::changes::Change;
@@ -114,7 +115,7 @@ pub fn mirrored_numbers(outcome: Outcome) -> MirroredAnswer
             posts,
             first,
             count,
-        } => mirrored_answer(1, 0, posts, 3 * first, 3 * count),
+        } => mirrored_answer(1, 0, posts, words_of(first), words_of(count)),
         Outcome::Emptied(posts) => mirrored_answer(2, 0, posts, 0, 0),
         Outcome::Refused(number) => mirrored_answer(3, number, 0, 0, 0),
     }

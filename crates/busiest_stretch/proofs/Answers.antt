@@ -145,7 +145,7 @@ module _ (r : Propagator) (es ls : List ℤ) (w : ℤ) where
   pub answered : (x : Busiest) → stretchNumber r es ls w ≡ 0 → Found r es ls w x → Answered r es ls w x
   answered x z f = record { refused = λ not. absurd (not z); found = λ _. f }
 
--- too many ranges are turned back as none are
+-- too many ranges are refused as none are
 pub too-many : (r : Propagator) (es ls : List ℤ) (w : ℤ) (x : Busiest) → TASKS < length es → Answered r [] [] w x → Answered r es ls w x
 too-many r es ls w x many a =
     let (same, not) = stretch-many r es ls w many in

@@ -1,4 +1,4 @@
--- What turns a question back: what holds where nothing does, and the sole ground for each number.
+-- What refuses a question: what holds where nothing does, and the sole ground for each number.
 -- Assumes nothing.
 use mathlib.Core.Path.{_≡_, refl, _∙_}
 use mathlib.Core.Bool.{true, false}
@@ -24,7 +24,7 @@ module _ (r : Propagator) (es ls : List ℤ) (w : ℤ) where
   abbrev t23 : Test
   t23 = test 23 (lengthFits w)
 
-  -- nothing turns the question back
+  -- nothing refuses the question
   pub accepted-question : stretchNumber r es ls w ≡ 0 ↔ (AcceptedFixed r es ls × LengthFits w)
   accepted-question = more-accepted (fixedTests r es ls) t23 (passed-fixed r es ls) (length-is w) refl refl
 
@@ -58,6 +58,6 @@ module _ (r : Propagator) (es ls : List ℤ) (w : ℤ) where
   pub refused-23 : stretchNumber r es ls w ≡ 23 ↔ (AcceptedFixed r es ls × (LengthFits w → ⊥))
   refused-23 = more-refused (fixedTests r es ls) t23 (passed-fixed r es ls) (length-is w) refl refl
 
--- more ranges than any record has tasks are turned back by the number that turns none back
+-- more ranges than any record has tasks are refused by the number that refuses none
 pub stretch-many : (r : Propagator) (es ls : List ℤ) (w : ℤ) → TASKS < length es → (stretchNumber r [] [] w ≡ stretchNumber r es ls w) × (stretchNumber r es ls w ≡ 0 → ⊥)
 stretch-many r es ls w many = fixed-many r es ls (t23 r [] [] w ∷ []) (t23 r es ls w ∷ []) many

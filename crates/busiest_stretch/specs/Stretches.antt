@@ -1,4 +1,4 @@
--- The busiest stretch of a fixed schedule: how much of a stretch is covered, what turns the question back, and what the call answers.
+-- The busiest stretch of a fixed schedule: how much of a stretch is covered, what refuses the question, and what the call answers.
 use mathlib.Core.Path.{_≡_}
 use mathlib.Core.List.{List, [], _∷_, _++_}
 use Prim.Native.Nat.{ℕ, _≤_, _<_}
@@ -50,7 +50,7 @@ pub record Found (r : Propagator) (es ls : List ℤ) (w : ℤ) (a : Busiest) : T
   pub answer : busiestNumbers a ≡ answered 0 (pos time ∷ start ∷ [])
   pub busiest : BusiestAt (tasksOn r es ls) (durationOf w) time start
 
--- The first test that fails turns the question back; else the answer is the busiest stretch.
+-- The first test that fails refuses the question; else the answer is the busiest stretch.
 pub record Answered (r : Propagator) (es ls : List ℤ) (w : ℤ) (a : Busiest) : Type 0 where
   pub refused : (stretchNumber r es ls w ≡ 0 → ⊥) → busiestNumbers a ≡ refusedBy (stretchNumber r es ls w)
   pub found : stretchNumber r es ls w ≡ 0 → Found r es ls w a

@@ -1,4 +1,4 @@
-// The greatest covered time with the least stretch start that reaches it, or the number that turned the question back.
+// The greatest covered time with the least stretch start that reaches it, or the number that refused the question.
 pub enum Busiest {
     Stretch(u32, i32),
     Refused(u32),

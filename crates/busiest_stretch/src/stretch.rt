@@ -21,7 +21,7 @@ pub struct Stretch {
     pub start: u32,
 }
 
-// The number that turns a question back, or 0: 20, 10, 3, 4, 14, 23.
+// The number that refuses a question, or 0: 20, 10, 3, 4, 14, 23.
 fn stretch_refusal(record: Propagator, earliest: &[i32], latest: &[i32], w: i32) -> u32
     ensures { λ r. ⌜ r ≡ stretchNumber «record» (now (earliest .entry)) (now (latest .entry)) w ⌝ }
 {

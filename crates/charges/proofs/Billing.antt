@@ -54,7 +54,7 @@ module _ (r : Propagator) (es ls due : List ℤ) where
         total = s .sum ∙ ap (total f) count;
       }
 
--- too many ranges are turned back as none are
+-- too many ranges are refused as none are
 pub too-many : (r : Propagator) (es ls due : List ℤ) (c : Charges) → TASKS < length es → Charged r [] [] due c → Charged r es ls due c
 too-many r es ls due c many p =
     let (same, not) = charges-many r es ls due many in

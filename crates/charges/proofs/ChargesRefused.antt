@@ -1,4 +1,4 @@
--- What turns a call for charges back: what holds where nothing does, and the sole ground for each number.
+-- What refuses a call for charges: what holds where nothing does, and the sole ground for each number.
 -- Assumes nothing.
 use mathlib.Core.Path.{_≡_, refl, _∙_}
 use mathlib.Core.Bool.{true, false, _&&_}
@@ -38,7 +38,7 @@ module _ (r : Propagator) (es ls due : List ℤ) where
   abbrev t19 : Test
   t19 = test 19 (eqb (length due) (r .count) && allBelow (dueFitsAt due) (length due))
 
-  -- nothing turns the call back
+  -- nothing refuses the call
   pub accepted-charges : chargesNumber r es ls due ≡ 0 ↔ Accepted r es ls due
   accepted-charges =
       let w = more-accepted (fixedTests r es ls) t19 (passed-fixed r es ls) (dues-are (r .count) due) refl refl in
@@ -74,6 +74,6 @@ module _ (r : Propagator) (es ls due : List ℤ) where
   pub refused-19 : chargesNumber r es ls due ≡ 19 ↔ (AcceptedFixed r es ls × (DuesFit (r .count) due → ⊥))
   refused-19 = more-refused (fixedTests r es ls) t19 (passed-fixed r es ls) (dues-are (r .count) due) refl refl
 
--- more ranges than any record has tasks are turned back by the number that turns none back
+-- more ranges than any record has tasks are refused by the number that refuses none
 pub charges-many : (r : Propagator) (es ls due : List ℤ) → TASKS < length es → (chargesNumber r [] [] due ≡ chargesNumber r es ls due) × (chargesNumber r es ls due ≡ 0 → ⊥)
 charges-many r es ls due many = fixed-many r es ls (t19 r [] [] due ∷ []) (t19 r es ls due ∷ []) many

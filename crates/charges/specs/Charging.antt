@@ -1,4 +1,4 @@
--- Loan charges of a fixed schedule: what turns the call back, each task's charge, and what the call answers.
+-- Loan charges of a fixed schedule: what refuses the call, each task's charge, and what the call answers.
 use mathlib.Core.Path.{_≡_}
 use mathlib.Core.Bool.{Bool, _&&_}
 use mathlib.Core.List.{List, [], _∷_, _++_}
@@ -42,7 +42,7 @@ pub record DuesFit (n : ℕ) (due : List ℤ) : Type 0 where
   pub long : length due ≡ n
   pub within : (k : ℕ) → k < length due → DueFits (getD due k (pos 0))
 
--- and what holds of a call that no test turns back.
+-- and what holds of a call that no test refuses.
 pub record Accepted (r : Propagator) (es ls due : List ℤ) : Type 0 where
   pub schedule : AcceptedFixed r es ls
   pub dues : DuesFit (r .count) due
@@ -68,7 +68,7 @@ pub record BillRight (r : Propagator) (es due : List ℤ) (b : Bill) : Type 0 wh
 abbrev pub noBill : Bill
 noBill = record { charges = noTasks; total = 0 }
 
--- The call: the first test that fails turns it back, with the bill of zeros; else it answers the bill and its total.
+-- The call: the first test that fails refuses it, with the bill of zeros; else it answers the bill and its total.
 pub record Charged (r : Propagator) (es ls due : List ℤ) (c : Charges) : Type 0 where
   pub refused : (chargesNumber r es ls due ≡ 0 → ⊥) → (chargesNumbers c ≡ refusedBy (chargesNumber r es ls due)) × (c .bill ≡ noBill)
   pub made : chargesNumber r es ls due ≡ 0 → (chargesNumbers c ≡ answered 0 (pos (total (chargeAt (r .durations) es due) (r .count)) ∷ [])) × BillRight r es due (c .bill)

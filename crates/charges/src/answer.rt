@@ -5,7 +5,7 @@ pub struct Bill {
     pub total: u32,
 }
 
-// Whether a bill was made, or the number that turned the call back.
+// Whether a bill was made, or the number that refused the call.
 pub enum Billing {
     Made,
     Refused(u32),

@@ -67,7 +67,7 @@ fn no_bill() -> Bill
     }
 }
 
-// The charges of a fixed schedule; or the bill of zeros, with the number that turned the call back.
+// The charges of a fixed schedule; or the bill of zeros, with the number that refused the call.
 pub fn charges(record: Propagator, earliest: &[i32], latest: &[i32], due: &[i32]) -> Charges
     ensures { λ r. ⌜ Charged «record» (now (earliest .entry)) (now (latest .entry)) (now (due .entry)) r ⌝ }
 {

@@ -1,4 +1,4 @@
-// What turns a call for charges back.
+// What refuses a call for charges.
 use fixed_schedules::refusals::fixed_refusal;
 use records::record::Propagator;
 use records::refusals::all_within;
@@ -14,7 +14,7 @@ fn dues_fit(due: &[i32]) -> bool
     all_within(due, -integers::limits::DUE, integers::limits::DUE)
 }
 
-// The number that turns a call back, or 0: 20, 10, 3, 4, 14, 19.
+// The number that refuses a call, or 0: 20, 10, 3, 4, 14, 19.
 pub fn charges_refusal(record: Propagator, earliest: &[i32], latest: &[i32], due: &[i32]) -> u32
     ensures { λ r. ⌜ r ≡ chargesNumber «record» (now (earliest .entry)) (now (latest .entry)) (now (due .entry)) ⌝ }
 {

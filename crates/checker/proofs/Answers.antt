@@ -58,8 +58,8 @@ module _ (ds ps cs : List ℤ) where
 
     -- 1, 2 or 5
     module _ (made : Created) (is : made ≡ created ds) where
-      pub turned-back : (n : ℕ) → made .answer ≡ creation.Refused n → Refused n ≡ checkAs mirrored ds ps cs
-      turned-back n a = elim (ℕ-discrete (refusal (creationTests ds)) 0) [
+      pub is-refused : (n : ℕ) → made .answer ≡ creation.Refused n → Refused n ≡ checkAs mirrored ds ps cs
+      is-refused n a = elim (ℕ-discrete (refusal (creationTests ds)) 0) [
         | yes z ↦ (let e : creation.Accepted ≡ creation.Refused n = sym (ap (λ (m : Created). m .answer) (is ∙ created-new ds z)) ∙ a in absurd (let w : _≡_ {A = ℕ} 0 1 = cc in omega arith))
         | no z ↦ (let e : creation.Refused (refusal (creationTests ds)) ≡ creation.Refused n = sym (ap (λ (m : Created). m .answer) (is ∙ created-not ds (refusal (creationTests ds)) refl z)) ∙ a in by n z (let w : refusal (creationTests ds) ≡ n = cc in w))
       ]

@@ -1,4 +1,4 @@
--- The mirrored check is turned back, and finds a contradiction, exactly where the check does: by the same number, at the same variable.
+-- The mirrored check is refused, and finds a contradiction, exactly where the check does: by the same number, at the same variable.
 -- Assumes nothing.
 use mathlib.Core.Path.{_≡_, refl, sym, ap}
 use mathlib.Core.Bool.{Bool, true, false, cond, _&&_}
@@ -71,7 +71,7 @@ module _ (ds : List ℤ) (a : Answer) (o : Other a) where
       by (application.Contradiction x) p = rw p (λ h. h, λ h. h)
       by (application.Refused n) p = rw p (λ h. h, λ h. h)
 
--- kind 2 is a contradiction, kind 3 a number that turns the check back
+-- kind 2 is a contradiction, kind 3 a number that refuses the check
 pub same-refusals : (ds ps cs : List ℤ) (a : Answer) → 2 ≤ a .kind → verdictNumbers (checkMirroredOf ds ps cs) ≡ a ↔ verdictNumbers (checkOf ds ps cs) ≡ a
 unfolding checkOf checkMirroredOf
 same-refusals ds ps cs a o = after-same ds a o ps cs (refusal (creationTests ds))

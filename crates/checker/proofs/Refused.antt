@@ -1,4 +1,4 @@
--- The sole ground for each number that turns a check back, in the order 1, 2, 5, 7, 6, 21, 8: all before it hold, and its own does not.
+-- The sole ground for each number that refuses a check, in the order 1, 2, 5, 7, 6, 21, 8: all before it hold, and its own does not.
 -- Assumes nothing.
 use mathlib.Core.Path.{_≡_, refl, sym, ap, _∙_}
 use mathlib.Core.Bool.{Bool, true, false, _&&_}
@@ -128,7 +128,7 @@ module _ (ds ps cs : List ℤ) where
       ↔ (((1 ≤ length ds) × (length ds ≤ TASKS)) × (((k : ℕ) → k < length ds → pos 1 ≤ℤ getD ds k (pos 0)) × (total (durationAt ds) (length ds) ≤ DURATIONS → ⊥)))
   refused-5 = let w = early 5 (omega arith) (omega arith) in (λ e. creation.refused-5 ds .0 (w .0 e), λ f. w .1 (creation.refused-5 ds .1 f))
 
-  -- 7, 6, 21: the durations are accepted, and the atoms are turned back by this number
+  -- 7, 6, 21: the durations are accepted, and the atoms are refused by this number
   of-atoms : (n : ℕ) → unused (creationTests ds) n ≡ true → (n ≡ 8 → ⊥) → answer ≡ refusedBy n ↔ (Accepted × (applicationNumbers (prepared ps cs .answer) ≡ refusedBy n))
   of-atoms n d o = (
     λ e. elim (grounds n e) [ inl w ↦ absurd (not-given (creationTests ds) n d (w .0)) | inr w ↦ (w .0, elim (w .1) [ inl p ↦ p | inr p ↦ absurd (o (p .1 .eight)) ]) ],

@@ -43,8 +43,8 @@ empty-promise r e = (e, subst EmptyMeans (sym e) (record { any = empty-admits; a
 
 -- ---- apply
 module _ (s : VariableState) (x k v : ℤ) (proper : accepted (s .domains) ≡ true → Accepted s) where
-  turned-back : (n : ℕ) → n ≡ cond (accepted (s .domains)) (cond (rightAtom x k v) (cond (lacksRoom s (atomFrom x k v)) 21 0) 6) 22 → ApplyMeans s x k v (record { answer = Refused n; state = s })
-  turned-back n e = record {
+  is-refused : (n : ℕ) → n ≡ cond (accepted (s .domains)) (cond (rightAtom x k v) (cond (lacksRoom s (atomFrom x k v)) 21 0) 6) 22 → ApplyMeans s x k v (record { answer = Refused n; state = s })
+  is-refused n e = record {
     number = e;
     refused = λ _ _. refl;
     contradiction = λ y q. other-kind (refusedBy n) (answered 2 (pos y ∷ [])) q (omega arith);
@@ -71,8 +71,8 @@ module _ (s : VariableState) (x k v : ℤ) (proper : accepted (s .domains) ≡ t
       by : (a : Bool) → accepted (s .domains) ≡ a → (b : Bool) → rightAtom x k v ≡ b
           → ApplyMeans s x k v (cond a (cond b (stepped s (atomFrom x k v)) (record { answer = Refused 6; state = s })) (record { answer = Refused 22; state = s }))
       by true p true q = went p q
-      by true p false q = turned-back 6 (rw (p, q))
-      by false p b q = turned-back 22 (rw p)
+      by true p false q = is-refused 6 (rw (p, q))
+      by false p b q = is-refused 22 (rw p)
 
   pub apply-promise : (r : Applied) → r ≡ appliedTo s x k v → (r ≡ appliedTo s x k v) × ApplyMeans s x k v r
   apply-promise r e = (e, subst (ApplyMeans s x k v) (sym e) apply-means)
@@ -168,7 +168,7 @@ module _ (premises consequent : List ℤ) where
   abbrev reaches : Stops atoms emptyState → Reaches atoms
   reaches p = record { before = p .before; atom = p .atom; after = p .after; split = p .split; state = p .state; reached = p .reached }
 
-  -- turned back by 7 or 6
+  -- refused by 7 or 6
   list-back : (n : ℕ) → (3 * PREMISES + 2 < length premises → n ≡ 7) → (length premises ≤ 3 * PREMISES + 2 → rightLists premises consequent ≡ false → n ≡ 6)
       → (length premises ≤ 3 * PREMISES + 2 → rightLists premises consequent ≡ true → ⊥) → PrepareMeans premises consequent (record { answer = Refused n; state = emptyState })
   list-back n f g h = record {

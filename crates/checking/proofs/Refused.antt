@@ -1,4 +1,4 @@
--- The sole ground for each number that turns a list of atoms back: all before it hold, and its own does not.
+-- The sole ground for each number that refuses a list of atoms: all before it hold, and its own does not.
 -- Assumes nothing.
 use mathlib.Core.Path.{_≡_, refl, sym, ap, _∙_}
 use mathlib.Core.Logic.{inl, inr, _↔_}
@@ -27,7 +27,7 @@ use Rattle.checking.proofs.Prepared.{prepared-runs}
 use Rattle.checking.proofs.Promises.{prepare-means}
 use Rattle.checking.proofs.States.{stepped-case, all-refused}
 
--- an atom without room, once it is reached, turns the list back
+-- an atom without room, once it is reached, refuses the list
 full-step : (s : VariableState) (a : Atom) → lacksRoom s a ≡ true → stepped s a ≡ record { answer = Refused 21; state = s }
 full-step s a y = stepped-case s a (λ r. r ≡ record { answer = Refused 21; state = s }) (λ _. refl) (λ n _. clash y n) (λ n _. clash y n)
 

@@ -65,7 +65,7 @@ module _ (n : ℕ) where
   durations-long : length ds ≡ n
   durations-long = natural-count (costliestDurations n) ∙ length-replicate n 10
 
-  -- ---- no number turns them back
+  -- ---- no number refuses them
   total-most : (f : ℕ → ℕ) (m : ℕ) → ((k : ℕ) → k < m → f k ≤ 10) → total f m ≤ 10 * m
   unfolding total
   total-most f zero h = omega arith

@@ -8,7 +8,7 @@ use Rattle.records.specs.declared.record.Propagator.{Propagator}
 use Rattle.propagator.specs.Ran.{Ran}
 use Rattle.propagator.proofs.Many.{too-many}
 use Rattle.mirrored.specs.RanMirrored.{RanMirrored}
-use Rattle.mirrored.proofs.TurnedBack.{too-many-mirrored}
+use Rattle.mirrored.proofs.Many.{too-many-mirrored}
 use Rattle.precedences.specs.Precedences.{RanPrecedences}
 use Rattle.precedences.proofs.Many.{too-many as no-precedences}
 use Rattle.barred_starts.specs.declared.range.Range.{Range}

@@ -1,4 +1,4 @@
--- What turns a fixed schedule back: what holds where nothing does, the sole ground for each number, and the same where other tests follow.
+-- What refuses a fixed schedule: what holds where nothing does, the sole ground for each number, and the same where other tests follow.
 -- Assumes nothing.
 use mathlib.Core.Path.{_≡_, refl, _∙_}
 use mathlib.Core.Bool.{true, false, _&&_}
@@ -20,7 +20,7 @@ use Rattle.records.specs.Records.{Lawful}
 use Rattle.records.specs.Refusals.{rangeTests, rangeNumber, CountsFit, StartsFit, RangesFit}
 use Rattle.records.proofs.Refused.{passed-ranges, range-20, range-10, range-3, range-4, range-holds, range-many}
 use Rattle.fixed_schedules.specs.FixedSchedules.{startAt, sameStart, oneStartAt, apartAt, allApart, fixedTests, fixedNumber, tasksOn, Fixed, AcceptedFixed}
-use Rattle.fixed_schedules.proofs.Turns.{apart-read, apart-show}
+use Rattle.fixed_schedules.proofs.Neighbours.{apart-read, apart-show}
 
 same-is : (a b : ℤ) → sameStart a b ≡ true ↔ (a ≡ b)
 same-is a b = (
@@ -66,7 +66,7 @@ module _ (r : Propagator) (es ls : List ℤ) where
           let (a, (b, (c, (d, _)))) = passed-ranges r es ls .1 (record { lawful = f .lawful; counts = f .counts; starts = f .starts; ranges = f .ranges }) in
           (a, (b, (c, (d, (fixed-is r es ls (f .counts .earliest) .1 (f .fixed), tt)))))
 
-  -- nothing turns the schedule back
+  -- nothing refuses the schedule
   pub accepted-fixed : fixedNumber r es ls ≡ 0 ↔ AcceptedFixed r es ls
   accepted-fixed = (λ h. passed-fixed .0 (accepted (fixedTests r es ls) refl h), λ f. accepts (fixedTests r es ls) (passed-fixed .1 f))
 
@@ -109,7 +109,7 @@ module _ (r : Propagator) (es ls : List ℤ) (after : List Test) where
   pub fixed-14 : unused after 14 ≡ true → refusal (fixedTests r es ls ++ after) ≡ 14 ↔ (Lawful r × (CountsFit (r .count) es ls × (StartsFit es ls × (RangesFit es ls × (Fixed r es ls → ⊥)))))
   fixed-14 other = range-holds r es ls (t14 r es ls ∷ after) refl (λ n. first-refuses (t14 r es ls) after (fixed-is r es ls (n .earliest)) other)
 
--- more ranges than any record has tasks are turned back by the number that turns none back, whatever tests follow
+-- more ranges than any record has tasks are refused by the number that refuses none, whatever tests follow
 pub fixed-many : (r : Propagator) (es ls : List ℤ) (after after′ : List Test) → TASKS < length es
     → (refusal (fixedTests r [] [] ++ after) ≡ refusal (fixedTests r es ls ++ after′)) × (refusal (fixedTests r es ls ++ after′) ≡ 0 → ⊥)
 fixed-many r es ls after after′ many = range-many r es ls (t14 r [] [] ∷ after) (t14 r es ls ∷ after′) many

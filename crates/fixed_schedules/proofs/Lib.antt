@@ -1,5 +1,5 @@
 pub mod Placing
-pub mod Turns
+pub mod Neighbours
 pub mod FixedRefused
 pub mod Accepting
 pub mod Asking

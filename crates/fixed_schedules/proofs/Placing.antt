@@ -46,8 +46,8 @@ unfolding up dn
 start-moment z h = omega (ints, h .high, at-moment zeroAt z (start-above z h))
 
 -- a task ends by the start of another: the test in moments, and in whole numbers
-pub turn-test : (a b : ℤ) (d : ℕ) → StartFits a → StartFits b → leb (moment zeroAt a + d) (moment zeroAt b) ≡ leZ (a +ℤ pos d) b
-turn-test a b d p q =
+pub ends-by-test : (a b : ℤ) (d : ℕ) → StartFits a → StartFits b → leb (moment zeroAt a + d) (moment zeroAt b) ≡ leZ (a +ℤ pos d) b
+ends-by-test a b d p q =
     ap (λ (m : ℕ). leb m (moment zeroAt b)) (sym (plus zeroAt a d (start-above a p)))
     ∙ moment-test (a +ℤ pos d) b (plus-above zeroAt a d (start-above a p)) (start-above b q)
 

@@ -23,7 +23,7 @@ touching : fixedNumber two (pos 3 ∷ negsuc 11 ∷ []) (pos 3 ∷ negsuc 11 ∷
 unfolding two refusal lawfulRecord allBelow unusedAt filled total
 touching = refl
 
--- one unit less between the starts is an overlap, and a range of two starts is turned back too
+-- one unit less between the starts is an overlap, and a range of two starts is refused too
 overlap : fixedNumber two (pos 2 ∷ negsuc 11 ∷ []) (pos 2 ∷ negsuc 11 ∷ []) ≡ 14
 unfolding two refusal lawfulRecord allBelow unusedAt filled total
 overlap = refl

@@ -1,4 +1,4 @@
--- A fixed schedule: each range holds one start, and no two tasks overlap. What turns one back, what holds of one, and its tasks by start.
+-- A fixed schedule: each range holds one start, and no two tasks overlap. What refuses one, what holds of one, and its tasks by start.
 use mathlib.Core.Path.{_≡_}
 use mathlib.Core.Bool.{Bool, _&&_, _||_}
 use mathlib.Core.List.{List, [], _∷_, _++_}
@@ -55,7 +55,7 @@ pub record Fixed (r : Propagator) (es ls : List ℤ) : Type 0 where
   pub one : (k : ℕ) → k < r .count → getD es k (pos 0) ≡ getD ls k (pos 0)
   pub apart : NoOverlap (tasksOn r es ls) (startAt es)
 
--- and what holds of a schedule that no test turns back.
+-- and what holds of a schedule that no test refuses.
 pub record AcceptedFixed (r : Propagator) (es ls : List ℤ) : Type 0 where
   pub lawful : Lawful r
   pub counts : CountsFit (r .count) es ls

@@ -27,5 +27,5 @@ abbrev pub inMoments : ℕ → List ℕ → List ℕ → Tasks natural
 inMoments n starts ds = record { count = n; earliest = λ k. getD starts k 0; latest = λ k. getD starts k 0; duration = λ k. getD ds k 0 }
 
 -- the task at place t of an order ends by the start of the next
-abbrev pub inTurnAt : List ℕ → List ℤ → List ℕ → ℕ → Bool
-inTurnAt order es ds t = leZ (endAt ds es (getD order t 0)) (startAt es (getD order (t + 1) 0))
+abbrev pub neighboursApart : List ℕ → List ℤ → List ℕ → ℕ → Bool
+neighboursApart order es ds t = leZ (endAt ds es (getD order t 0)) (startAt es (getD order (t + 1) 0))

@@ -1,5 +1,5 @@
-// What turns a schedule back that is not fixed.
-use crate::order::in_turn;
+// What refuses a schedule that is not fixed.
+use crate::order::neighbours_apart;
 use crate::order::one_start;
 use crate::order::order_of;
 use records::record::Propagator;
@@ -7,7 +7,7 @@ use records::refusals::range_refusal;
 ghost use mathlib.Core.Path.{_≡_};
 ghost use Rattle.fixed_schedules.specs.FixedSchedules.{fixedNumber};
 
-// The number that turns a schedule back, or 0: 20, 10, 3, 4, 14.
+// The number that refuses a schedule, or 0: 20, 10, 3, 4, 14.
 pub fn fixed_refusal(record: Propagator, earliest: &[i32], latest: &[i32]) -> u32
     ensures { λ r. ⌜ r ≡ fixedNumber «record» (now (earliest .entry)) (now (latest .entry)) ⌝ }
 {
@@ -25,7 +25,7 @@ pub fn fixed_refusal(record: Propagator, earliest: &[i32], latest: &[i32]) -> u3
         return 14;
     }
     let order = order_of(earliest);
-    if !in_turn(&order, earliest, &record.durations) {
+    if !neighbours_apart(&order, earliest, &record.durations) {
         return 14;
     }
     0

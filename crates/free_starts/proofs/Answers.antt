@@ -96,7 +96,7 @@ module _ (r : Propagator) (es ls : List ℤ) (t d : ℤ) where
   pub answered : (x : FreeStart) → freeNumber r es ls t d ≡ 0 → Found r es ls t d x → Answered r es ls t d x
   answered x z f = record { refused = λ not. absurd (not z); found = λ _. f }
 
--- too many ranges are turned back as none are
+-- too many ranges are refused as none are
 pub too-many : (r : Propagator) (es ls : List ℤ) (t d : ℤ) (x : FreeStart) → TASKS < length es → Answered r [] [] t d x → Answered r es ls t d x
 too-many r es ls t d x many a =
     let (same, not) = free-many r es ls t d many in

@@ -1,4 +1,4 @@
--- What turns a question back: what holds where nothing does, and the sole ground for each number.
+-- What refuses a question: what holds where nothing does, and the sole ground for each number.
 -- Assumes nothing.
 use mathlib.Core.Path.{_≡_, refl, _∙_}
 use mathlib.Core.Bool.{true, false, _&&_}
@@ -28,7 +28,7 @@ module _ (r : Propagator) (es ls : List ℤ) (t d : ℤ) where
   asked-is : lengthFits d && momentFits t ≡ true ↔ (LengthFits d × MomentFits t)
   asked-is = (λ h. (let w = and-true (lengthFits d) (momentFits t) h in (length-is d .0 (w .0), moment-is t .0 (w .1))), λ f. and-yes (lengthFits d) (momentFits t) (length-is d .1 (f .0)) (moment-is t .1 (f .1)))
 
-  -- nothing turns the question back
+  -- nothing refuses the question
   pub accepted-question : freeNumber r es ls t d ≡ 0 ↔ (AcceptedFixed r es ls × (LengthFits d × MomentFits t))
   accepted-question = more-accepted (fixedTests r es ls) t18 (passed-fixed r es ls) asked-is refl refl
 
@@ -66,6 +66,6 @@ module _ (r : Propagator) (es ls : List ℤ) (t d : ℤ) where
   pub refused-18 : freeNumber r es ls t d ≡ 18 ↔ (AcceptedFixed r es ls × (LengthFits d × MomentFits t → ⊥))
   refused-18 = more-refused (fixedTests r es ls) t18 (passed-fixed r es ls) asked-is refl refl
 
--- more ranges than any record has tasks are turned back by the number that turns none back
+-- more ranges than any record has tasks are refused by the number that refuses none
 pub free-many : (r : Propagator) (es ls : List ℤ) (t d : ℤ) → TASKS < length es → (freeNumber r [] [] t d ≡ freeNumber r es ls t d) × (freeNumber r es ls t d ≡ 0 → ⊥)
 free-many r es ls t d many = fixed-many r es ls (t18 r [] [] t d ∷ []) (t18 r es ls t d ∷ []) many

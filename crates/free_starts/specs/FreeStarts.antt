@@ -1,4 +1,4 @@
--- The earliest free start beside a fixed schedule: what it is, what turns the question back, and what the call answers.
+-- The earliest free start beside a fixed schedule: what it is, what refuses the question, and what the call answers.
 use mathlib.Core.Path.{_≡_}
 use mathlib.Core.Bool.{_&&_}
 use mathlib.Core.List.{List, [], _∷_, _++_}
@@ -46,7 +46,7 @@ pub record Found (r : Propagator) (es ls : List ℤ) (t d : ℤ) (a : FreeStart)
   pub earliest : EarliestFree (tasksOn r es ls) t (durationOf d) start
   pub limit : start ≤ℤ pos LATEST
 
--- The first test that fails turns the question back; else there is a free start, and the answer is the earliest.
+-- The first test that fails refuses the question; else there is a free start, and the answer is the earliest.
 pub record Answered (r : Propagator) (es ls : List ℤ) (t d : ℤ) (a : FreeStart) : Type 0 where
   pub refused : (freeNumber r es ls t d ≡ 0 → ⊥) → freeStartNumbers a ≡ refusedBy (freeNumber r es ls t d)
   pub found : freeNumber r es ls t d ≡ 0 → Found r es ls t d a

@@ -16,13 +16,13 @@ ghost use Rattle.fixed_schedules.specs.Neighbours.{inMoments};
 ghost use Rattle.free_starts.specs.FreeStarts.{LATEST, EarliestFree, freeNumber, Answered};
 ghost use Rattle.free_starts.specs.StartMoments.{Askable};
 
-// The start, or the number that turned the question back.
+// The start, or the number that refused the question.
 pub enum FreeStart {
     At(i32),
     Refused(u32),
 }
 
-// The number that turns a question back, or 0: 20, 10, 3, 4, 14, 18.
+// The number that refuses a question, or 0: 20, 10, 3, 4, 14, 18.
 fn free_refusal(record: Propagator, earliest: &[i32], latest: &[i32], t: i32, d: i32) -> u32
     ensures { λ r. ⌜ r ≡ freeNumber «record» (now (earliest .entry)) (now (latest .entry)) t d ⌝ }
 {

@@ -9,7 +9,7 @@ unfoldable pub allBelow : (ℕ → Bool) → ℕ → Bool
 allBelow pass zero = true
 allBelow pass (suc n) = allBelow pass n && pass n
 
--- A test: the number that turns an input back, and whether the input passes.
+-- A test: the number that refuses an input, and whether the input passes.
 pub record Test : Type 0 where
   pub number : ℕ
   pub passed : Bool

@@ -20,7 +20,7 @@ pub struct Starts {
     pub bars_fit: bool,
 }
 
-// How many of `n` ranges are taken apart. More ranges than any record has tasks are turned back for their count, and so are none: then none is taken.
+// How many of `n` ranges are taken apart. More ranges than any record has tasks are refused for their count, and so are none: then none is taken.
 fn fitting(n: usize) -> usize
     ensures { λ r. ⌜ r ≡ taken n ⌝ }
 {

@@ -86,13 +86,13 @@ module _ {n inn height lct : ℕ} {words : List ℕ} {es ps as′ : List ℤ} {w
   abbrev J : Tasks natural
   J = s .J
 
-  abbrev first : List ℕ
-  first = s .first
+  abbrev estOrder : List ℕ
+  estOrder = s .estOrder
 
-  abbrev second : List ℕ
-  second = s .second
+  abbrev lctOrder : List ℕ
+  lctOrder = s .lctOrder
 
-  abbrev G : Ordered J first second
+  abbrev G : Ordered J estOrder lctOrder
   G = s .ordered
 
   abbrev ls : List Leaf
@@ -102,40 +102,40 @@ module _ {n inn height lct : ℕ} {words : List ℕ} {es ps as′ : List ℤ} {w
   t = s .level
 
   abbrev T : ℕ → ℕ
-  T x = getD first x 0
+  T x = getD estOrder x 0
 
   abbrev Short : Post → Type 0
-  Short = room.Short zeroAt J (G .proper) first second (G .by-earliest) (G .by-completion)
+  Short = room.Short zeroAt J (G .proper) estOrder lctOrder (G .by-earliest) (G .by-completion)
 
   abbrev ShortEnd : List Atom → Type 0
-  ShortEnd = room.ShortEnd zeroAt J (G .proper) first second (G .by-earliest) (G .by-completion)
+  ShortEnd = room.ShortEnd zeroAt J (G .proper) estOrder lctOrder (G .by-earliest) (G .by-completion)
 
-  abbrev short : steps.Measure zeroAt J (G .proper) first second (G .by-earliest) (G .by-completion) Short ShortEnd
-  short = room.short zeroAt J (G .proper) first second (G .by-earliest) (G .by-completion)
+  abbrev short : steps.Measure zeroAt J (G .proper) estOrder lctOrder (G .by-earliest) (G .by-completion) Short ShortEnd
+  short = room.short zeroAt J (G .proper) estOrder lctOrder (G .by-earliest) (G .by-completion)
 
-  inv : steps.Inv zeroAt J (G .proper) first second (G .by-earliest) (G .by-completion) Short ShortEnd short t (s .st)
-  inv = reached-inv zeroAt J (G .proper) first second (G .by-earliest) (G .by-completion) Short ShortEnd short t (s .st) (s .reached) (s .small)
+  inv : steps.Inv zeroAt J (G .proper) estOrder lctOrder (G .by-earliest) (G .by-completion) Short ShortEnd short t (s .st)
+  inv = reached-inv zeroAt J (G .proper) estOrder lctOrder (G .by-earliest) (G .by-completion) Short ShortEnd short t (s .st) (s .reached) (s .small)
 
   abbrev Θ : TaskSet
-  Θ = steps.Th zeroAt J (G .proper) first second (G .by-earliest) (G .by-completion) t
+  Θ = steps.Th zeroAt J (G .proper) estOrder lctOrder (G .by-earliest) (G .by-completion) t
 
   abbrev Λ : TaskSet
-  Λ = steps.lam zeroAt J (G .proper) first second (G .by-earliest) (G .by-completion) Short ShortEnd short (s .st)
+  Λ = steps.lam zeroAt J (G .proper) estOrder lctOrder (G .by-earliest) (G .by-completion) Short ShortEnd short (s .st)
 
-  abbrev shape : tree.Represents J (G .proper) first (G .by-earliest) ls Θ Λ
-  shape = steps.shape zeroAt J (G .proper) first second (G .by-earliest) (G .by-completion) Short ShortEnd short t (s .st) inv
+  abbrev shape : tree.Represents J (G .proper) estOrder (G .by-earliest) ls Θ Λ
+  shape = steps.shape zeroAt J (G .proper) estOrder lctOrder (G .by-earliest) (G .by-completion) Short ShortEnd short t (s .st) inv
 
   -- the root holds the definition's values
-  pub root-is : nodeAt words 0 ≡ leaves.root J first ls
+  pub root-is : nodeAt words 0 ≡ leaves.root J estOrder ls
   root-is = root-of (G .limited) (s .at .tree)
 
-  pub ect-is : nodeAt words 0 .ect ≡ leaves.rootEct J first ls
+  pub ect-is : nodeAt words 0 .ect ≡ leaves.rootEct J estOrder ls
   ect-is = ap (λ (r : Node). r .ect) root-is
 
-  pub sum-is : sumIn words ≡ leaves.sum J first ls
+  pub sum-is : sumIn words ≡ leaves.sum J estOrder ls
   sum-is = ap (λ (r : Node). r .«sum_of_processing_times») root-is
 
-  pub theta-is : thetaIn words inn tasks n ≡ leaves.theta J first ls
+  pub theta-is : thetaIn words inn tasks n ≡ leaves.theta J estOrder ls
   theta-is = ap (thetaIn words inn tasks) (sym (s .arrays .count)) ∙ theta-of (G .limited) (s .at .tree) tasks (λ j q. s .arrays .tasks .at j (omega (arith, s .arrays .count)))
 
   pub few : n ≤ TASKS
@@ -145,7 +145,7 @@ module _ {n inn height lct : ℕ} {words : List ℕ} {es ps as′ : List ℤ} {w
   inner-few = omega (arith, s .at .tree .complete, room-for (J .count) (omega (arith, G .limited .count)))
 
   pub few-changes : w .changes ≤ 4 * TASKS
-  few-changes = omega (arith, s .at .counted, reached-changes zeroAt J (G .proper) first second (G .by-earliest) (G .by-completion) t (s .st) (s .reached) (s .small), s .small, few, s .arrays .count)
+  few-changes = omega (arith, s .at .counted, reached-changes zeroAt J (G .proper) estOrder lctOrder (G .by-earliest) (G .by-completion) t (s .st) (s .reached) (s .small), s .small, few, s .arrays .count)
 
   -- a number of each task, by the tasks' count
   pub held : {f : ℕ → ℕ} {array : List ℕ} → Holds n f array → Holds (J .count) f array
@@ -153,14 +153,14 @@ module _ {n inn height lct : ℕ} {words : List ℕ} {es ps as′ : List ℤ} {w
 
   -- an overload: what its reason asks, and the reason
   posts-few : length (s .st .posts) ≤ t
-  posts-few = room.posts-few zeroAt J (G .proper) first second (G .by-earliest) (G .by-completion) t (s .st) inv
+  posts-few = room.posts-few zeroAt J (G .proper) estOrder lctOrder (G .by-earliest) (G .by-completion) t (s .st) inv
 
-  over-room : 3 * w .atoms + 6 * length (leaves.theta J first ls) ≤ length as′
+  over-room : 3 * w .atoms + 6 * length (leaves.theta J estOrder ls) ≤ length as′
   over-room = omega (
     arith,
     s .at .explained,
     few-reasons,
-    room.theta-most zeroAt J (G .proper) first second (G .by-earliest) (G .by-completion) ls,
+    room.theta-most zeroAt J (G .proper) estOrder lctOrder (G .by-earliest) (G .by-completion) ls,
     s .arrays .count,
     s .atom-room,
     size,
@@ -173,32 +173,32 @@ module _ {n inn height lct : ℕ} {words : List ℕ} {es ps as′ : List ℤ} {w
 
       few-reasons : length (reasons (s .st .posts)) + length (s .st .posts) ≤ length (s .st .posts) * (2 * n)
       few-reasons = subst (λ (n : ℕ). length (reasons (s .st .posts)) + length (s .st .posts) ≤ length (s .st .posts) * (2 * n)) (s .arrays .count)
-          (room.reasons-short zeroAt J (G .proper) first second (G .by-earliest) (G .by-completion) (s .st .posts) (inv .good))
+          (room.reasons-short zeroAt J (G .proper) estOrder lctOrder (G .by-earliest) (G .by-completion) (s .st .posts) (inv .good))
 
-  pub over-asked : lct < leaves.rootEct J first ls → Overloaded (length as′) (w .atoms) (thetaIn words inn tasks n) est dur (sumIn words) lct
+  pub over-asked : lct < leaves.rootEct J estOrder ls → Overloaded (length as′) (w .atoms) (thetaIn words inn tasks n) est dur (sumIn words) lct
   over-asked q = overloaded-at theta-is sum-is (s .ends)
-      (meeting.overloaded J first second G est dur (held (s .arrays .starts)) (held (s .arrays .durations)) t ls Λ shape (s .small) (length as′) (w .atoms) (omega (arith, q, s .ends)) over-room)
+      (meeting.overloaded J estOrder lctOrder G est dur (held (s .arrays .starts)) (held (s .arrays .durations)) t ls Λ shape (s .small) (length as′) (w .atoms) (omega (arith, q, s .ends)) over-room)
 
-  pub conflict-is : conflict zeroAt (starting est dur) lct (sumIn words) (thetaIn words inn tasks n) ≡ conflict zeroAt J (completion J (getD second t 0)) (leaves.sum J first ls) (leaves.theta J first ls)
+  pub conflict-is : conflict zeroAt (starting est dur) lct (sumIn words) (thetaIn words inn tasks n) ≡ conflict zeroAt J (completion J (getD lctOrder t 0)) (leaves.sum J estOrder ls) (leaves.theta J estOrder ls)
   conflict-is = conflict-at (starting est dur) theta-is sum-is (s .ends)
-      ∙ conflict-same zeroAt (starting est dur) J (completion J (getD second t 0)) (leaves.sum J first ls) (leaves.theta J first ls)
-      (λ y q. meeting.alike J first second G est dur (held (s .arrays .starts)) (held (s .arrays .durations)) (getD (leaves.theta J first ls) y 0) (meeting.each-listed J first second G est dur (held (s .arrays .starts)) (held (s .arrays .durations)) t ls Λ shape (s .small) y q))
+      ∙ conflict-same zeroAt (starting est dur) J (completion J (getD lctOrder t 0)) (leaves.sum J estOrder ls) (leaves.theta J estOrder ls)
+      (λ y q. meeting.alike J estOrder lctOrder G est dur (held (s .arrays .starts)) (held (s .arrays .durations)) (getD (leaves.theta J estOrder ls) y 0) (meeting.each-listed J estOrder lctOrder G est dur (held (s .arrays .starts)) (held (s .arrays .durations)) t ls Λ shape (s .small) y q))
 
-  pub ect-scan : leaves.rootEct J first ls ≡ steps.E zeroAt J (G .proper) first second (G .by-earliest) (G .by-completion) Θ
-  ect-scan = tree.ect-is J (G .proper) first (G .by-earliest) ls Θ Λ shape
+  pub ect-scan : leaves.rootEct J estOrder ls ≡ steps.E zeroAt J (G .proper) estOrder lctOrder (G .by-earliest) (G .by-completion) Θ
+  ect-scan = tree.ect-is J (G .proper) estOrder (G .by-earliest) ls Θ Λ shape
 
   -- the task of the level may leave Theta
-  module _ (j : ℕ) (z : j ≡ getD second t 0) where
+  module _ (j : ℕ) (z : j ≡ getD lctOrder t 0) where
     pub known-j : j < J .count
     known-j = omega (arith, z, G .by-completion .task t (s .small))
 
-    pub place-j : getD mapping j 0 ≡ index first j
+    pub place-j : getD mapping j 0 ≡ index estOrder j
     place-j = s .arrays .places j (omega (arith, known-j, s .arrays .count))
 
     abbrev pub movable : Movable inn words mapping est dur j
     movable = record {
       J = J;
-      first = first;
+      estOrder = estOrder;
       leaves = ls;
       limited = G .limited;
       tree = s .at .tree;
@@ -209,21 +209,21 @@ module _ {n inn height lct : ℕ} {words : List ℕ} {es ps as′ : List ℤ} {w
       lasts = s .arrays .durations .at j (omega (arith, known-j, s .arrays .count));
     }
 
-    pub gray-place : getD mapping j 0 ≡ index first (getD second t 0)
-    gray-place = place-j ∙ ap (λ (k : ℕ). index first k) z
+    pub gray-place : getD mapping j 0 ≡ index estOrder (getD lctOrder t 0)
+    gray-place = place-j ∙ ap (λ (k : ℕ). index estOrder k) z
 
-  pub found-inside : (x : ℕ) → leaves.responsible J first ls ≡ some x → x < J .count
-  found-inside x z = tree.one-found J (G .proper) first (G .by-earliest) ls Θ Λ shape x z .small
+  pub found-inside : (x : ℕ) → leaves.responsible J estOrder ls ≡ some x → x < J .count
+  found-inside x z = tree.one-found J (G .proper) estOrder (G .by-earliest) ls Θ Λ shape x z .small
 
   module _ {i x : ℕ} (r : Responsible-for s i x) where
-    found : tree.Found J (G .proper) first (G .by-earliest) ls Θ Λ shape x
-    found = tree.one-found J (G .proper) first (G .by-earliest) ls Θ Λ shape x (r .found)
+    found : tree.Found J (G .proper) estOrder (G .by-earliest) ls Θ Λ shape x
+    found = tree.one-found J (G .proper) estOrder (G .by-earliest) ls Θ Λ shape x (r .found)
 
-    passes : ltb (completion J (getD second t 0)) (leaves.rootEctBar J first ls) ≡ true
-    passes = sym (exceeds-decoded (leaves.rootEctBar J first ls) (completion J (getD second t 0))) ∙ ap (exceeds (leaves.ect-bar J first ls)) (sym (s .ends)) ∙ r .over
+    passes : ltb (completion J (getD lctOrder t 0)) (leaves.rootEctBar J estOrder ls) ≡ true
+    passes = sym (exceeds-decoded (leaves.rootEctBar J estOrder ls) (completion J (getD lctOrder t 0))) ∙ ap (exceeds (leaves.ect-bar J estOrder ls)) (sym (s .ends)) ∙ r .over
 
-    over : completion J (getD second t 0) < leaves.rootEctBar J first ls
-    over = ltb-true (completion J (getD second t 0)) (leaves.rootEctBar J first ls) passes
+    over : completion J (getD lctOrder t 0) < leaves.rootEctBar J estOrder ls
+    over = ltb-true (completion J (getD lctOrder t 0)) (leaves.rootEctBar J estOrder ls) passes
 
     pub small : i < n
     small = omega (arith, r .task, found .gray .small, s .arrays .count)
@@ -242,28 +242,28 @@ module _ {n inn height lct : ℕ} {words : List ℕ} {es ps as′ : List ℤ} {w
     task-latest = s .latest .at i small ∙ ap (J .latest) (r .task)
 
     leaf : getD mapping i 0 ≡ x
-    leaf = s .arrays .places i small ∙ ap (λ (k : ℕ). index first k) (r .task) ∙ G .by-earliest .back x (found .small)
+    leaf = s .arrays .places i small ∙ ap (λ (k : ℕ). index estOrder k) (r .task) ∙ G .by-earliest .back x (found .small)
 
     -- room for one post more
     fewer : suc (length (s .st .posts)) ≤ t
-    fewer = room.posts-fewer zeroAt J (G .proper) first second (G .by-earliest) (G .by-completion) t (s .st) inv (T x) (found .gray)
+    fewer = room.posts-fewer zeroAt J (G .proper) estOrder lctOrder (G .by-earliest) (G .by-completion) t (s .st) inv (T x) (found .gray)
 
     reasons-short : length (reasons (s .st .posts)) + length (s .st .posts) ≤ length (s .st .posts) * (2 * n)
     reasons-short = subst (λ (n : ℕ). length (reasons (s .st .posts)) + length (s .st .posts) ≤ length (s .st .posts) * (2 * n)) (s .arrays .count)
-        (room.reasons-short zeroAt J (G .proper) first second (G .by-earliest) (G .by-completion) (s .st .posts) (inv .good))
+        (room.reasons-short zeroAt J (G .proper) estOrder lctOrder (G .by-earliest) (G .by-completion) (s .st .posts) (inv .good))
 
-    theta-less : suc (length (leaves.theta J first ls)) ≤ n
+    theta-less : suc (length (leaves.theta J estOrder ls)) ≤ n
     theta-less = omega (
       arith,
       s .arrays .count,
-      room.theta-less zeroAt J (G .proper) first second (G .by-earliest) (G .by-completion) ls x (found .small)
-          (tree.white-at J (G .proper) first (G .by-earliest) ls Θ Λ shape x (found .small) ∙ found .out),
+      room.theta-less zeroAt J (G .proper) estOrder lctOrder (G .by-earliest) (G .by-completion) ls x (found .small)
+          (tree.white-at J (G .proper) estOrder (G .by-earliest) ls Θ Λ shape x (found .small) ∙ found .out),
     )
 
     pub many-atoms : w .atoms ≤ ATOMS
     many-atoms = omega (arith, s .at .explained, reasons-short, mul-le-mul {n₁ = length (s .st .posts)} {m₁ = 2 * n} {n₂ = TASKS} {m₂ = 2 * TASKS} (omega (arith, fewer, s .small, few, s .arrays .count)) (omega (arith, few)))
 
-    atom-room : 3 * w .atoms + 6 * length (leaves.theta J first ls) + 3 ≤ length as′
+    atom-room : 3 * w .atoms + 6 * length (leaves.theta J estOrder ls) + 3 ≤ length as′
     atom-room = omega (arith, s .at .explained, reasons-short, theta-less, s .atom-room, size, twice, mul-le-mul-right {m = suc (length (s .st .posts))} {n = n} (2 * n) (omega (arith, fewer, s .small, s .arrays .count)))
       where
         size : length as′ ≡ length (s .as₀)
@@ -279,38 +279,38 @@ module _ {n inn height lct : ℕ} {words : List ℕ} {es ps as′ : List ℤ} {w
     pub may-clear : {k : ℕ} → k ≡ getD mapping i 0 → Puttable inn words k emptyOf
     may-clear e = rw (e ∙ leaf) (may-put (G .limited) (s .at .tree) x (found .small) empty refl)
 
-    cleared : {k : ℕ} (words′ : List ℕ) → k ≡ getD mapping i 0 → Put inn words words′ k emptyOf → leaves.IsTree J first (set ls x empty) inn words′
+    cleared : {k : ℕ} (words′ : List ℕ) → k ≡ getD mapping i 0 → Put inn words words′ k emptyOf → leaves.IsTree J estOrder (set ls x empty) inn words′
     cleared words′ e q = was-put (G .limited) (s .at .tree) x (found .small) empty refl (rw (e ∙ leaf) at q)
 
     module _ (b : ℕ) (is : b ≡ nodeAt words 0 .ect) where
-      bound-is : b ≡ leaves.rootEct J first ls
+      bound-is : b ≡ leaves.rootEct J estOrder ls
       bound-is = is ∙ ect-is
 
       -- what `post` asks
       pub asked : getD est i 0 < b → Preceded (length as′) (w .atoms) (thetaIn words inn tasks n) est dur (sumIn words) lct i b
       asked up = preceded-at theta-is sum-is (s .ends) (r .task) bound-is
-          (meeting.preceded J first second G est dur (held (s .arrays .starts)) (held (s .arrays .durations)) t ls Λ shape (s .small) (length as′) (w .atoms) x found over (omega (arith, up, task-start, bound-is)) atom-room)
+          (meeting.preceded J estOrder lctOrder G est dur (held (s .arrays .starts)) (held (s .arrays .durations)) t ls Λ shape (s .small) (length as′) (w .atoms) x found over (omega (arith, up, task-start, bound-is)) atom-room)
 
       abbrev ect : ℕ
-      ect = leaves.rootEct J first ls
+      ect = leaves.rootEct J estOrder ls
 
       abbrev now : List Atom
-      now = propagation zeroAt J (T x) ect (completion J (getD second t 0)) (leaves.sum J first ls) (leaves.theta J first ls)
+      now = propagation zeroAt J (T x) ect (completion J (getD lctOrder t 0)) (leaves.sum J estOrder ls) (leaves.theta J estOrder ls)
 
       abbrev made : Post
       made = record { task = T x; bound = instant zeroAt ect; reason = now }
 
       reason-is : propagation zeroAt (starting est dur) i b lct (sumIn words) (thetaIn words inn tasks n) ≡ now
       reason-is = propagation-at (starting est dur) theta-is sum-is (s .ends) (r .task) bound-is
-          ∙ propagation-same zeroAt (starting est dur) J (T x) ect (completion J (getD second t 0)) (leaves.sum J first ls) (leaves.theta J first ls)
-          (alike (T x) (found .gray .small)) (λ y q. alike (getD (leaves.theta J first ls) y 0) (meeting.each-listed J first second G est dur (held (s .arrays .starts)) (held (s .arrays .durations)) t ls Λ shape (s .small) y q))
+          ∙ propagation-same zeroAt (starting est dur) J (T x) ect (completion J (getD lctOrder t 0)) (leaves.sum J estOrder ls) (leaves.theta J estOrder ls)
+          (alike (T x) (found .gray .small)) (λ y q. alike (getD (leaves.theta J estOrder ls) y 0) (meeting.each-listed J estOrder lctOrder G est dur (held (s .arrays .starts)) (held (s .arrays .durations)) t ls Λ shape (s .small) y q))
         where
           alike : (k : ℕ) → k < J .count → Alike (starting est dur) J k
-          alike = meeting.alike J first second G est dur (held (s .arrays .starts)) (held (s .arrays .durations))
+          alike = meeting.alike J estOrder lctOrder G est dur (held (s .arrays .starts)) (held (s .arrays .durations))
 
       -- the state with the post
       abbrev after : State
-      after = posted zeroAt J first second (s .st) (T x) ect t
+      after = posted zeroAt J estOrder lctOrder (s .st) (T x) ect t
 
       module _ {ps′ bs : List ℤ} {w′ : Written} (p : Posted ps as′ ps′ bs w w′ i b
           (atomWords (propagation zeroAt (starting est dur) i b lct (sumIn words) (thetaIn words inn tasks n))) (length (propagation zeroAt (starting est dur) i b lct (sumIn words) (thetaIn words inn tasks n)))) where
@@ -326,14 +326,14 @@ module _ {n inn height lct : ℕ} {words : List ℕ} {es ps as′ : List ℤ} {w
         }
 
         pub emptied : getD est i 0 < b → getD lst i 0 < b → Considered s (turn.Emptied w′) words es ps′ bs
-        emptied up high = (after, post-at, λ f. inner-stop zeroAt J first second f t (s .st) x passes (r .found) (lt-ltb (J .earliest (T x)) ect (omega (arith, up, task-start, bound-is))) (lt-ltb (J .latest (T x)) ect (omega (arith, high, task-latest, bound-is))))
+        emptied up high = (after, post-at, λ f. inner-stop zeroAt J estOrder lctOrder f t (s .st) x passes (r .found) (lt-ltb (J .earliest (T x)) ect (omega (arith, up, task-start, bound-is))) (lt-ltb (J .latest (T x)) ect (omega (arith, high, task-latest, bound-is))))
 
         pub raised-on : {k : ℕ} {words′ : List ℕ} {es′ : List ℤ} → getD est i 0 < b → b ≤ getD lst i 0 → es′ ≡ set es i (instant zeroAt b) → k ≡ getD mapping i 0 → Put inn words words′ k emptyOf
             → Considered s (turn.On (one-change w′)) words′ es′ ps′ bs
         raised-on {words′ = words′} {es′} up low e at-leaf q = (
           next,
           at-next,
-          λ f. inner-raise zeroAt J first second f t (s .st) x passes (r .found) (lt-ltb (J .earliest (T x)) ect up′) (le-ltb (J .latest (T x)) ect low′),
+          λ f. inner-raise zeroAt J estOrder lctOrder f t (s .st) x passes (r .found) (lt-ltb (J .earliest (T x)) ect up′) (le-ltb (J .latest (T x)) ect low′),
         )
           where
             next : State
@@ -361,7 +361,7 @@ module _ {n inn height lct : ℕ} {words : List ℕ} {es ps as′ : List ℤ} {w
       passed-on {words′ = words′} low at-leaf q = (
         dropped (s .st) x,
         record { tree = cleared words′ at-leaf q; starts = s .at .starts; posts = s .at .posts; atoms = s .at .atoms; posted = s .at .posted; explained = s .at .explained; counted = ap (λ (c : ℕ). c + 1) (s .at .counted) },
-        λ f. inner-pass zeroAt J first second f t (s .st) x passes (r .found) (le-ltb (J .earliest (T x)) ect low′),
+        λ f. inner-pass zeroAt J estOrder lctOrder f t (s .st) x passes (r .found) (le-ltb (J .earliest (T x)) ect low′),
       )
         where
           low′ : ect ≤ J .earliest (T x)

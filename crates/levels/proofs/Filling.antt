@@ -21,8 +21,8 @@ module _ {inner n : ℕ} {words tasks est dur : List ℕ} (f : Fillable inner n 
   abbrev pub upTo : ℕ → List Leaf
   upTo x = filled (λ _. white) x (replicate (f .J .count) empty)
 
-  pub none-white : HasLeaves (f .J) (f .first) (upTo 0) inner words
-  none-white = subst (λ (ls : List Leaf). HasLeaves (f .J) (f .first) ls inner words) (sym (filled-none (λ _. white) (replicate (f .J .count) empty))) (tree-leaves (f .limited) (f .tree))
+  pub none-white : HasLeaves (f .J) (f .estOrder) (upTo 0) inner words
+  none-white = subst (λ (ls : List Leaf). HasLeaves (f .J) (f .estOrder) ls inner words) (sym (filled-none (λ _. white) (replicate (f .J .count) empty))) (tree-leaves (f .limited) (f .tree))
 
   module _ (x : ℕ) (q : x < n) where
     abbrev t : ℕ
@@ -34,23 +34,23 @@ module _ {inner n : ℕ} {words tasks est dur : List ℕ} (f : Fillable inner n 
     abbrev node : Node
     node = whiteOf (getD est t 0 + getD dur t 0) (getD dur t 0)
 
-    node-is : node ≡ whiteOf (f .J .earliest (getD (f .first) x 0) + f .J .duration (getD (f .first) x 0)) (f .J .duration (getD (f .first) x 0))
+    node-is : node ≡ whiteOf (f .J .earliest (getD (f .estOrder) x 0) + f .J .duration (getD (f .estOrder) x 0)) (f .J .duration (getD (f .estOrder) x 0))
     node-is = rw (f .task x q, f .start x q, f .lasts x q) refl
 
     inside : x < f .J .count
     inside = omega (arith, f .count)
 
-    pub may-white : {now : List ℕ} → HasLeaves (f .J) (f .first) (upTo x) inner now → Layable inner now x node
+    pub may-white : {now : List ℕ} → HasLeaves (f .J) (f .estOrder) (upTo x) inner now → Layable inner now x node
     may-white i = may-lay (f .limited) i x inside white node-is
 
-    pub one-white : {now now′ : List ℕ} → HasLeaves (f .J) (f .first) (upTo x) inner now → Laid inner now now′ x node → HasLeaves (f .J) (f .first) (upTo (x + 1)) inner now′
-    one-white {now} {now′} i p = subst (λ (ls : List Leaf). HasLeaves (f .J) (f .first) ls inner now′) (sym (filled-more (λ _. white) x (replicate (f .J .count) empty))) (was-laid (f .limited) i x inside white node-is p)
+    pub one-white : {now now′ : List ℕ} → HasLeaves (f .J) (f .estOrder) (upTo x) inner now → Laid inner now now′ x node → HasLeaves (f .J) (f .estOrder) (upTo (x + 1)) inner now′
+    one-white {now} {now′} i p = subst (λ (ls : List Leaf). HasLeaves (f .J) (f .estOrder) ls inner now′) (sym (filled-more (λ _. white) x (replicate (f .J .count) empty))) (was-laid (f .limited) i x inside white node-is p)
 
-  pub may-build : (x : ℕ) {now : List ℕ} → HasLeaves (f .J) (f .first) (upTo x) inner now → Rebuildable inner now
+  pub may-build : (x : ℕ) {now : List ℕ} → HasLeaves (f .J) (f .estOrder) (upTo x) inner now → Rebuildable inner now
   may-build x i = may-rebuild (f .limited) i
 
-  pub all-white : (x : ℕ) → x ≡ n → {now now′ : List ℕ} → HasLeaves (f .J) (f .first) (upTo x) inner now → Rebuilt inner now now′ → IsTree (f .J) (f .first) (replicate (f .J .count) white) inner now′
-  all-white x z {now} {now′} i p = subst (λ (ls : List Leaf). IsTree (f .J) (f .first) ls inner now′) is (was-rebuilt (f .limited) i p)
+  pub all-white : (x : ℕ) → x ≡ n → {now now′ : List ℕ} → HasLeaves (f .J) (f .estOrder) (upTo x) inner now → Rebuilt inner now now′ → IsTree (f .J) (f .estOrder) (replicate (f .J .count) white) inner now′
+  all-white x z {now} {now′} i p = subst (λ (ls : List Leaf). IsTree (f .J) (f .estOrder) ls inner now′) is (was-rebuilt (f .limited) i p)
     where
       c : ℕ
       c = f .J .count

@@ -43,27 +43,27 @@ module _ {n inn height : ℕ} {words : List ℕ} {es ps as′ : List ℤ} {est l
   abbrev J : Tasks natural
   J = s .J
 
-  abbrev first : List ℕ
-  first = s .first
+  abbrev estOrder : List ℕ
+  estOrder = s .estOrder
 
-  abbrev second : List ℕ
-  second = s .second
+  abbrev lctOrder : List ℕ
+  lctOrder = s .lctOrder
 
-  abbrev G : Ordered J first second
+  abbrev G : Ordered J estOrder lctOrder
   G = s .ordered
 
   abbrev whole : Trace
-  whole = run zeroAt J first second
+  whole = run zeroAt J estOrder lctOrder
 
   abbrev rest-of : ℕ → ℕ → State → Trace
-  rest-of f t st = outer zeroAt J first second f t st
+  rest-of f t st = outer zeroAt J estOrder lctOrder f t st
 
   -- the loop stands at the head of level `t`
   pub record Level (t : ℕ) (words′ : List ℕ) (es′ ps′ bs : List ℤ) (w′ : Written) : Type 0 where
     pub st : State
     pub small : t < n
-    pub entered : Entered zeroAt J first second t st
-    pub at : At J first ps as′ st inn words′ es′ ps′ bs (w′ .posts) (w′ .atoms) (w′ .changes)
+    pub entered : Entered zeroAt J estOrder lctOrder t st
+    pub at : At J estOrder ps as′ st inn words′ es′ ps′ bs (w′ .posts) (w′ .atoms) (w′ .changes)
     pub rest : whole ≡ rest-of (n - 1 - t) t st
 
   pub few : n ≤ TASKS
@@ -78,15 +78,15 @@ module _ {n inn height : ℕ} {words : List ℕ} {es ps as′ : List ℤ} {est l
     small = omega (arith, G .some, s .arrays .count);
     entered = begins;
     at = s .at;
-    rest = run-is zeroAt J first second ∙ ap (λ (f : ℕ). rest-of f 0 (allWhite J)) turns;
+    rest = run-is zeroAt J estOrder lctOrder ∙ ap (λ (f : ℕ). rest-of f 0 (allWhite J)) turns;
   }
     where
       turns : J .count - 1 ≡ n - 1 - 0
       turns = omega (arith, s .arrays .count)
 
   -- how the run ends from a state
-  module _ (st : State) (end : End) (is : whole ≡ ended zeroAt J first second st end) {words′ : List ℕ} {es′ ps′ bs : List ℤ} {w′ : Written} (a : At J first ps as′ st inn words′ es′ ps′ bs (w′ .posts) (w′ .atoms) (w′ .changes)) where
-    ends : {bs′ : List ℤ} → bs′ ≡ sets as′ 0 (atomWords (reasons (st .posts) ++ endReason end)) → Ended J first second ps as′ (outcomeOf (reasons (st .posts)) (length (st .posts)) end) (w′ .changes) es′ ps′ bs′
+  module _ (st : State) (end : End) (is : whole ≡ ended zeroAt J estOrder lctOrder st end) {words′ : List ℕ} {es′ ps′ bs : List ℤ} {w′ : Written} (a : At J estOrder ps as′ st inn words′ es′ ps′ bs (w′ .posts) (w′ .atoms) (w′ .changes)) where
+    ends : {bs′ : List ℤ} → bs′ ≡ sets as′ 0 (atomWords (reasons (st .posts) ++ endReason end)) → Ended J estOrder lctOrder ps as′ (outcomeOf (reasons (st .posts)) (length (st .posts)) end) (w′ .changes) es′ ps′ bs′
     ends z = record {
       answer = sym (ap (λ (t : Trace). outcomeOf (reasons (t .posts)) (length (t .posts)) (t .end)) is);
       changes = a .counted ∙ sym (ap (λ (t : Trace). t .changes) is);
@@ -101,15 +101,15 @@ module _ {n inn height : ℕ} {words : List ℕ} {es ps as′ : List ℤ} {est l
 
   module _ {t : ℕ} {words′ : List ℕ} {es′ ps′ bs : List ℤ} {w′ : Written} (v : Level t words′ es′ ps′ bs w′) where
     -- all levels are done
-    pub all-done : n ≤ t + 1 → Ended J first second ps as′ (outcome.Done (w′ .posts)) (w′ .changes) es′ ps′ bs
-    all-done q = subst (λ (k : ℕ). Ended J first second ps as′ (outcome.Done k) (w′ .changes) es′ ps′ bs) (sym (v .at .posted))
+    pub all-done : n ≤ t + 1 → Ended J estOrder lctOrder ps as′ (outcome.Done (w′ .posts)) (w′ .changes) es′ ps′ bs
+    all-done q = subst (λ (k : ℕ). Ended J estOrder lctOrder ps as′ (outcome.Done k) (w′ .changes) es′ ps′ bs) (sym (v .at .posted))
         (ends (v .st) done is (v .at) (no-more (v .st) done is (v .at) refl))
       where
         none : n - 1 - t ≡ 0
         none = omega arith
 
-        is : whole ≡ ended zeroAt J first second (v .st) done
-        is = v .rest ∙ ap (λ (f : ℕ). rest-of f t (v .st)) none ∙ outer-end zeroAt J first second 0 t (v .st)
+        is : whole ≡ ended zeroAt J estOrder lctOrder (v .st) done
+        is = v .rest ∙ ap (λ (f : ℕ). rest-of f t (v .st)) none ∙ outer-end zeroAt J estOrder lctOrder 0 t (v .st)
 
     module _ (more : t + 1 < n) where
       -- the level's task, and its lct
@@ -119,20 +119,20 @@ module _ {n inn height : ℕ} {words : List ℕ} {es ps as′ : List ℤ} {est l
       abbrev pub c : ℕ
       c = getD lct j 0
 
-      pub j-is : j ≡ getD second t 0
+      pub j-is : j ≡ getD lctOrder t 0
       j-is = s .order .at t (v .small)
 
       pub j-small : j < n
       j-small = omega (arith, j-is, G .by-completion .task t (omega (arith, v .small, s .arrays .count)), s .arrays .count)
 
-      pub c-is : c ≡ completion J (getD second t 0)
+      pub c-is : c ≡ completion J (getD lctOrder t 0)
       c-is = s .completions .at j j-small ∙ ap (completion J) j-is
 
       abbrev here : Standing n inn height c words′ es′ ps′ bs w′ est lst dur tasks mapping
       here = record {
         J = J;
-        first = first;
-        second = second;
+        estOrder = estOrder;
+        lctOrder = lctOrder;
         level = t;
         st = v .st;
         ps₀ = ps;
@@ -152,10 +152,10 @@ module _ {n inn height : ℕ} {words : List ℕ} {es ps as′ : List ℤ} {est l
       next = omega arith
 
       abbrev ect : ℕ
-      ect = leaves.rootEct J first (v .st .leaves)
+      ect = leaves.rootEct J estOrder (v .st .leaves)
 
       abbrev end : ℕ
-      end = completion J (getD second t 0)
+      end = completion J (getD lctOrder t 0)
 
       pub ect-is : nodeAt words′ 0 .ect ≡ ect
       ect-is = considering.ect-is here
@@ -170,17 +170,17 @@ module _ {n inn height : ℕ} {words : List ℕ} {es ps as′ : List ℤ} {est l
       pub over-inner : inn ≤ INNER
       over-inner = considering.inner-few here
 
-      pub overloads : {r : Outcome} {bs′ : List ℤ} → c < nodeAt words′ 0 .ect → Conflicted bs bs′ w′ r (conflictIn words′ inn tasks n est dur c) → Ended J first second ps as′ r (w′ .changes) es′ ps′ bs′
-      overloads {r} {bs′} q k = subst (λ (r : Outcome). Ended J first second ps as′ r (w′ .changes) es′ ps′ bs′) (sym answer) (ends (v .st) (overload reason) is (v .at) words-are)
+      pub overloads : {r : Outcome} {bs′ : List ℤ} → c < nodeAt words′ 0 .ect → Conflicted bs bs′ w′ r (conflictIn words′ inn tasks n est dur c) → Ended J estOrder lctOrder ps as′ r (w′ .changes) es′ ps′ bs′
+      overloads {r} {bs′} q k = subst (λ (r : Outcome). Ended J estOrder lctOrder ps as′ r (w′ .changes) es′ ps′ bs′) (sym answer) (ends (v .st) (overload reason) is (v .at) words-are)
         where
           reason : List Atom
-          reason = conflict zeroAt J end (leaves.sum J first (v .st .leaves)) (leaves.theta J first (v .st .leaves))
+          reason = conflict zeroAt J end (leaves.sum J estOrder (v .st .leaves)) (leaves.theta J estOrder (v .st .leaves))
 
           reason-is : conflictIn words′ inn tasks n est dur c ≡ reason
           reason-is = considering.conflict-is here
 
-          is : whole ≡ ended zeroAt J first second (v .st) (overload reason)
-          is = v .rest ∙ ap (λ (f : ℕ). rest-of f t (v .st)) next ∙ outer-over zeroAt J first second (n - 1 - suc t) t (v .st) (lt-ltb end ect (omega (arith, q, ect-is, c-is)))
+          is : whole ≡ ended zeroAt J estOrder lctOrder (v .st) (overload reason)
+          is = v .rest ∙ ap (λ (f : ℕ). rest-of f t (v .st)) next ∙ outer-over zeroAt J estOrder lctOrder (n - 1 - suc t) t (v .st) (lt-ltb end ect (omega (arith, q, ect-is, c-is)))
 
           answer : r ≡ outcomeOf (reasons (v .st .posts)) (length (v .st .posts)) (overload reason)
           answer = k .answer ∙ rw (v .at .posted, v .at .explained, reason-is) refl
@@ -198,27 +198,27 @@ module _ {n inn height : ℕ} {words : List ℕ} {es ps as′ : List ℤ} {est l
         d = getD lct (getD candidates (t + 1) 0) 0
 
         abbrev st₁ : State
-        st₁ = grayed (v .st) (index first (getD second t 0))
+        st₁ = grayed (v .st) (index estOrder (getD lctOrder t 0))
 
-        pub ends-d : d ≡ completion J (getD second (suc t) 0)
-        ends-d = let one : t + 1 ≡ suc t = omega arith in let k-small : getD second (suc t) 0 < n = omega (arith, G .by-completion .task (suc t) (omega (arith, more, s .arrays .count)), s .arrays .count) in
-            ap (λ (u : ℕ). getD lct (getD candidates u 0) 0) one ∙ ap (λ (k : ℕ). getD lct k 0) (s .order .at (suc t) (omega arith)) ∙ s .completions .at (getD second (suc t) 0) k-small
+        pub ends-d : d ≡ completion J (getD lctOrder (suc t) 0)
+        ends-d = let one : t + 1 ≡ suc t = omega arith in let k-small : getD lctOrder (suc t) 0 < n = omega (arith, G .by-completion .task (suc t) (omega (arith, more, s .arrays .count)), s .arrays .count) in
+            ap (λ (u : ℕ). getD lct (getD candidates u 0) 0) one ∙ ap (λ (k : ℕ). getD lct k 0) (s .order .at (suc t) (omega arith)) ∙ s .completions .at (getD lctOrder (suc t) 0) k-small
 
-        pub quiet-here : leaves.rootEct J first (v .st .leaves) ≤ end
+        pub quiet-here : leaves.rootEct J estOrder (v .st .leaves) ≤ end
         quiet-here = omega (arith, quiet, ect-is, c-is)
 
         pub not-over : ltb end ect ≡ false
         not-over = le-ltb end ect quiet-here
 
-        pub still : exceeds (leaves.ect J first (v .st .leaves)) end ≡ false
+        pub still : exceeds (leaves.ect J estOrder (v .st .leaves)) end ≡ false
         still = exceeds-decoded ect end ∙ not-over
 
         -- which the source makes in two leaf changes
         abbrev pub goes-on : Standing n inn height d words″ es′ ps′ bs (record { posts = w′ .posts; atoms = w′ .atoms; changes = w′ .changes + 2 }) est lst dur tasks mapping
         goes-on = record {
           J = J;
-          first = first;
-          second = second;
+          estOrder = estOrder;
+          lctOrder = lctOrder;
           level = suc t;
           st = st₁;
           ps₀ = ps;
@@ -231,14 +231,14 @@ module _ {n inn height : ℕ} {words : List ℕ} {es ps as′ : List ℤ} {est l
           post-room = s .post-room;
           atom-room = s .atom-room;
           reached = moved t (v .st) (v .entered) still;
-          at = record { tree = subst (λ (k : ℕ). leaves.IsTree J first (set (v .st .leaves) k gray) inn words″) (considering.gray-place here j j-is) (m moves); starts = v .at .starts; posts = v .at .posts; atoms = v .at .atoms; posted = v .at .posted; explained = v .at .explained; counted = ap (λ (c : ℕ). c + 2) (v .at .counted) };
+          at = record { tree = subst (λ (k : ℕ). leaves.IsTree J estOrder (set (v .st .leaves) k gray) inn words″) (considering.gray-place here j j-is) (m moves); starts = v .at .starts; posts = v .at .posts; atoms = v .at .atoms; posted = v .at .posted; explained = v .at .explained; counted = ap (λ (c : ℕ). c + 2) (v .at .counted) };
         }
 
         unfold-level : whole ≡ rest-of (suc (n - 1 - suc t)) t (v .st)
         unfold-level = v .rest ∙ ap (λ (f : ℕ). rest-of f t (v .st)) next
 
-        inner-is : {u : Turn} → inner zeroAt J first second n (suc t) st₁ ≡ u → inner zeroAt J first second (J .count) (suc t) st₁ ≡ u
-        inner-is z = ap (λ (f : ℕ). inner zeroAt J first second f (suc t) st₁) (s .arrays .count) ∙ z
+        inner-is : {u : Turn} → inner zeroAt J estOrder lctOrder n (suc t) st₁ ≡ u → inner zeroAt J estOrder lctOrder (J .count) (suc t) st₁ ≡ u
+        inner-is z = ap (λ (f : ℕ). inner zeroAt J estOrder lctOrder f (suc t) st₁) (s .arrays .count) ∙ z
 
         -- the inner loop ended,
         pub one-more : {words‴ : List ℕ} {es″ ps″ bs′ : List ℤ} {w″ : Written} {u : code.Turn} → u ≡ turn.On w″ → AllConsidered goes-on u words‴ es″ ps″ bs′ → Level (t + 1) words‴ es″ ps″ bs′ w″
@@ -250,12 +250,12 @@ module _ {n inn height : ℕ} {words : List ℕ} {es ps as′ : List ℤ} {est l
               small = omega arith;
               at = a;
               entered = follows t (v .st) st′ (v .entered) still (inner-is z);
-              rest = unfold-level ∙ outer-on zeroAt J first second (n - 1 - suc t) t (v .st) st′ not-over (inner-is z);
+              rest = unfold-level ∙ outer-on zeroAt J estOrder lctOrder (n - 1 - suc t) t (v .st) st′ not-over (inner-is z);
             })
 
         -- or a post emptied a range
-        pub one-emptied : (words‴ : List ℕ) {es″ ps″ bs′ : List ℤ} {w″ : Written} {u : code.Turn} → u ≡ turn.Emptied w″ → AllConsidered goes-on u words‴ es″ ps″ bs′ → Ended J first second ps as′ (outcome.Emptied (w″ .posts)) (w″ .changes) es″ ps″ bs′
+        pub one-emptied : (words‴ : List ℕ) {es″ ps″ bs′ : List ℤ} {w″ : Written} {u : code.Turn} → u ≡ turn.Emptied w″ → AllConsidered goes-on u words‴ es″ ps″ bs′ → Ended J estOrder lctOrder ps as′ (outcome.Emptied (w″ .posts)) (w″ .changes) es″ ps″ bs′
         one-emptied words‴ {es″} {ps″} {bs′} {w″} is all =
             let (st′, a, z) = rw is at all in
-            let stops : whole ≡ ended zeroAt J first second st′ emptied = unfold-level ∙ outer-stop zeroAt J first second (n - 1 - suc t) t (v .st) st′ not-over (inner-is z) in
-            subst (λ (k : ℕ). Ended J first second ps as′ (outcome.Emptied k) (w″ .changes) es″ ps″ bs′) (sym (a .posted)) (ends st′ emptied stops a (no-more st′ emptied stops a refl))
+            let stops : whole ≡ ended zeroAt J estOrder lctOrder st′ emptied = unfold-level ∙ outer-stop zeroAt J estOrder lctOrder (n - 1 - suc t) t (v .st) st′ not-over (inner-is z) in
+            subst (λ (k : ℕ). Ended J estOrder lctOrder ps as′ (outcome.Emptied k) (w″ .changes) es″ ps″ bs′) (sym (a .posted)) (ends st′ emptied stops a (no-more st′ emptied stops a refl))

@@ -18,11 +18,11 @@ module _ {inner : ℕ} {words mapping est dur : List ℕ} {j : ℕ} (m : Movable
   abbrev node : Node
   node = grayOf (getD est j 0 + getD dur j 0) (getD dur j 0)
 
-  node-is : node ≡ grayOf (m .J .earliest (getD (m .first) x 0) + m .J .duration (getD (m .first) x 0)) (m .J .duration (getD (m .first) x 0))
+  node-is : node ≡ grayOf (m .J .earliest (getD (m .estOrder) x 0) + m .J .duration (getD (m .estOrder) x 0)) (m .J .duration (getD (m .estOrder) x 0))
   node-is = rw (m .start, m .lasts, m .task) refl
 
   pub may-gray : Puttable inner words x node
   may-gray = may-put (m .limited) (m .tree) x (m .inside) gray node-is
 
-  pub moved : {words′ : List ℕ} → Put inner words words′ x node → IsTree (m .J) (m .first) (set (m .leaves) x gray) inner words′
+  pub moved : {words′ : List ℕ} → Put inner words words′ x node → IsTree (m .J) (m .estOrder) (set (m .leaves) x gray) inner words′
   moved q = was-put (m .limited) (m .tree) x (m .inside) gray node-is q

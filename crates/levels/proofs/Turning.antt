@@ -57,7 +57,7 @@ module _ {n inn height lct : ℕ} {words : List ℕ} {es ps as′ : List ℤ} {w
   -- `left` turns are left, and the slices and the tree are at the state of a definition that has as many left
   pub record Turned (left : ℕ) (words′ : List ℕ) (es′ ps′ bs : List ℤ) (w′ : Written) : Type 0 where
     pub st : State
-    pub reached : Reached zeroAt (s .J) (s .first) (s .second) (s .level) st
+    pub reached : Reached zeroAt (s .J) (s .estOrder) (s .lctOrder) (s .level) st
     pub at : AtNow s st words′ es′ ps′ bs w′
     pub rest : turns s n (s .st) ≡ turns s left st
 
@@ -68,8 +68,8 @@ module _ {n inn height lct : ℕ} {words : List ℕ} {es ps as′ : List ℤ} {w
     abbrev pub stands : Standing n inn height lct words′ es′ ps′ bs w′ est lst dur tasks mapping
     stands = record {
       J = s .J;
-      first = s .first;
-      second = s .second;
+      estOrder = s .estOrder;
+      lctOrder = s .lctOrder;
       level = s .level;
       st = r .st;
       ps₀ = s .ps₀;
@@ -85,24 +85,24 @@ module _ {n inn height lct : ℕ} {words : List ℕ} {es ps as′ : List ℤ} {w
       at = r .at;
     }
 
-    bar-is : ectBarIn words′ ≡ leaves.ect-bar (s .J) (s .first) (r .st .leaves)
+    bar-is : ectBarIn words′ ≡ leaves.ect-bar (s .J) (s .estOrder) (r .st .leaves)
     bar-is = bar-of-root (s .ordered .limited) (r .at .tree)
 
-    search-is : searchEct (leavesOf inn (nodeAt words′)) height 0 ≡ leaves.responsible (s .J) (s .first) (r .st .leaves)
+    search-is : searchEct (leavesOf inn (nodeAt words′)) height 0 ≡ leaves.responsible (s .J) (s .estOrder) (r .st .leaves)
     search-is = responsible-of (s .ordered .limited) (r .at .tree) height (s .arrays .tall ∙ ap heightFor (sym (s .arrays .count)))
 
-    found-small : (x : ℕ) → leaves.responsible (s .J) (s .first) (r .st .leaves) ≡ some x → x < n
+    found-small : (x : ℕ) → leaves.responsible (s .J) (s .estOrder) (r .st .leaves) ≡ some x → x < n
     found-small x z = omega (arith, s .arrays .count, considering.found-inside stands x z)
 
     -- no turn is left
     pub ended : left ≡ 0 → AllConsidered s (turn.On w′) words′ es′ ps′ bs
-    ended z = (r .st, r .at, r .rest ∙ ap (λ (f : ℕ). turns s f (r .st)) z ∙ inner-end zeroAt (s .J) (s .first) (s .second) 0 (s .level) (r .st))
+    ended z = (r .st, r .at, r .rest ∙ ap (λ (f : ℕ). turns s f (r .st)) z ∙ inner-end zeroAt (s .J) (s .estOrder) (s .lctOrder) 0 (s .level) (r .st))
 
     abbrev end : ℕ
-    end = completion (s .J) (getD (s .second) (s .level) 0)
+    end = completion (s .J) (getD (s .lctOrder) (s .level) 0)
 
     abbrev top : ℕ
-    top = leaves.rootEctBar (s .J) (s .first) (r .st .leaves)
+    top = leaves.rootEctBar (s .J) (s .estOrder) (r .st .leaves)
 
     -- the test, by the root's word
     test-is : {v : Bool} → exceeds (ectBarIn words′) lct ≡ v → ltb end top ≡ v
@@ -127,8 +127,8 @@ module _ {n inn height lct : ℕ} {words : List ℕ} {es ps as′ : List ℤ} {w
         r .st,
         r .at,
         rest-is ∙ elim (bool (exceeds (ectBarIn words′) lct)) [
-          | inr y ↦ inner-off zeroAt (s .J) (s .first) (s .second) f (s .level) (r .st) (test-is y)
-          | inl y ↦ inner-none zeroAt (s .J) (s .first) (s .second) f (s .level) (r .st) (test-is y)
+          | inr y ↦ inner-off zeroAt (s .J) (s .estOrder) (s .lctOrder) f (s .level) (r .st) (test-is y)
+          | inl y ↦ inner-none zeroAt (s .J) (s .estOrder) (s .lctOrder) f (s .level) (r .st) (test-is y)
               (sym search-is ∙ no-task tasks (searchEct (leavesOf inn (nodeAt words′)) height 0) (sym is ∙ z ∙ sym (candidate-some words′ inn height tasks lct y)))
         ],
       )
@@ -137,7 +137,7 @@ module _ {n inn height lct : ℕ} {words : List ℕ} {es ps as′ : List ℤ} {w
       pub one-less : {words″ : List ℕ} {es″ ps″ bs′ : List ℤ} {w″ : Written} {u : code.Turn} → u ≡ turn.On w″ → Considered stands u words″ es″ ps″ bs′ → Turned f words″ es″ ps″ bs′ w″
       one-less is all =
           let (st′, a, next) = rw is at all in
-          record { st = st′; reached = turned (s .level) (r .st) st′ (r .reached) (next 0 ∙ inner-end zeroAt (s .J) (s .first) (s .second) 0 (s .level) st′); at = a; rest = rest-is ∙ next f }
+          record { st = st′; reached = turned (s .level) (r .st) st′ (r .reached) (next 0 ∙ inner-end zeroAt (s .J) (s .estOrder) (s .lctOrder) 0 (s .level) st′); at = a; rest = rest-is ∙ next f }
 
       pub one-emptied : {words″ : List ℕ} {es″ ps″ bs′ : List ℤ} {w″ : Written} {u : code.Turn} → u ≡ turn.Emptied w″ → Considered stands u words″ es″ ps″ bs′ → AllConsidered s (turn.Emptied w″) words″ es″ ps″ bs′
       one-emptied is all = let (st′, a, next) = rw is at all in (st′, a, rest-is ∙ next f)

@@ -36,21 +36,21 @@ pub record Conflicted (as′ bs : List ℤ) (w : Written) (r : Outcome) (reason 
 -- What edge finding is given: the tasks in both orders, the arrays that hold them, room for posts and reasons, and the tree of all tasks.
 pub record Begun (n inner height : ℕ) (words : List ℕ) (es ps as′ : List ℤ) (est lst lct dur tasks candidates mapping : List ℕ) : Type 0 where
   pub J : Tasks natural
-  pub first : List ℕ
-  pub second : List ℕ
-  pub ordered : Ordered J first second
-  pub arrays : Arrays J first n inner height est dur tasks mapping
+  pub estOrder : List ℕ
+  pub lctOrder : List ℕ
+  pub ordered : Ordered J estOrder lctOrder
+  pub arrays : Arrays J estOrder n inner height est dur tasks mapping
   pub latest : Holds n (J .latest) lst
   pub completions : Holds n (completion J) lct
-  pub order : Holds n (λ t. getD second t 0) candidates
+  pub order : Holds n (λ t. getD lctOrder t 0) candidates
   pub post-room : 4 * n ≤ length ps
   pub atom-room : 6 * (n * n) ≤ length as′
-  pub at : At J first ps as′ (allWhite J) inner words es ps as′ 0 0 n
+  pub at : At J estOrder ps as′ (allWhite J) inner words es ps as′ 0 0 n
 
 -- What it leaves: the trace of the run's definition.
-pub record Ended (J : Tasks natural) (first second : List ℕ) (ps as′ : List ℤ) (r : Outcome) (changed : ℕ) (es′ ps′ bs : List ℤ) : Type 0 where
-  pub answer : r ≡ outcomeOf (reasons (run zeroAt J first second .posts)) (length (run zeroAt J first second .posts)) (run zeroAt J first second .end)
-  pub changes : changed ≡ run zeroAt J first second .changes
-  pub starts : es′ ≡ run zeroAt J first second .starts
-  pub posts : ps′ ≡ sets ps 0 (postWords 0 (run zeroAt J first second .posts))
-  pub atoms : bs ≡ sets as′ 0 (atomWords (reasons (run zeroAt J first second .posts) ++ endReason (run zeroAt J first second .end)))
+pub record Ended (J : Tasks natural) (estOrder lctOrder : List ℕ) (ps as′ : List ℤ) (r : Outcome) (changed : ℕ) (es′ ps′ bs : List ℤ) : Type 0 where
+  pub answer : r ≡ outcomeOf (reasons (run zeroAt J estOrder lctOrder .posts)) (length (run zeroAt J estOrder lctOrder .posts)) (run zeroAt J estOrder lctOrder .end)
+  pub changes : changed ≡ run zeroAt J estOrder lctOrder .changes
+  pub starts : es′ ≡ run zeroAt J estOrder lctOrder .starts
+  pub posts : ps′ ≡ sets ps 0 (postWords 0 (run zeroAt J estOrder lctOrder .posts))
+  pub atoms : bs ≡ sets as′ 0 (atomWords (reasons (run zeroAt J estOrder lctOrder .posts) ++ endReason (run zeroAt J estOrder lctOrder .end)))

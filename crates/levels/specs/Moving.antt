@@ -10,16 +10,16 @@ use Rattle.trees.specs.Leaves.{Leaf, gray, taskAt, Limited, IsTree}
 -- The words hold a tree in which task j has its leaf.
 pub record Movable (inner : ℕ) (words mapping est dur : List ℕ) (j : ℕ) : Type 0 where
   pub J : Tasks natural
-  pub first : List ℕ
+  pub estOrder : List ℕ
   pub leaves : List Leaf
-  pub limited : Limited J first
-  pub tree : IsTree J first leaves inner words
+  pub limited : Limited J estOrder
+  pub tree : IsTree J estOrder leaves inner words
   pub known : j < TASKS
   pub inside : getD mapping j 0 < J .count
-  pub task : taskAt J first (getD mapping j 0) ≡ j
+  pub task : taskAt J estOrder (getD mapping j 0) ≡ j
   pub start : getD est j 0 ≡ J .earliest j
   pub lasts : getD dur j 0 ≡ J .duration j
 
 -- Whatever tree they held, they now hold it with the leaf of j gray.
 abbrev pub Moved : ℕ → List ℕ → List ℕ → List ℕ → List ℕ → List ℕ → ℕ → Type 0
-Moved inner words words′ mapping est dur j = (m : Movable inner words mapping est dur j) → IsTree (m .J) (m .first) (set (m .leaves) (getD mapping j 0) gray) inner words′
+Moved inner words words′ mapping est dur j = (m : Movable inner words mapping est dur j) → IsTree (m .J) (m .estOrder) (set (m .leaves) (getD mapping j 0) gray) inner words′

@@ -45,29 +45,29 @@ pub record Posted (ps as′ ps′ bs : List ℤ) (before after : Written) (i bou
 -- What stands at a level of a run: the tasks and orders, the arrays that hold them, and the state st that the definition goes through and that tree and slices are at.
 pub record Standing (n inner height lct : ℕ) (words : List ℕ) (es ps as′ : List ℤ) (w : Written) (est lst dur tasks mapping : List ℕ) : Type 0 where
   pub J : Tasks natural
-  pub first : List ℕ
-  pub second : List ℕ
+  pub estOrder : List ℕ
+  pub lctOrder : List ℕ
   pub level : ℕ
   pub st : State
   pub ps₀ : List ℤ
   pub as₀ : List ℤ
-  pub ordered : Ordered J first second
-  pub arrays : Arrays J first n inner height est dur tasks mapping
+  pub ordered : Ordered J estOrder lctOrder
+  pub arrays : Arrays J estOrder n inner height est dur tasks mapping
   pub latest : Holds n (J .latest) lst
   pub small : level < J .count
-  pub ends : lct ≡ completion J (getD second level 0)
+  pub ends : lct ≡ completion J (getD lctOrder level 0)
   pub post-room : 4 * n ≤ length ps₀
   pub atom-room : 6 * (n * n) ≤ length as₀
-  pub reached : Reached zeroAt J first second level st
-  pub at : At J first ps₀ as₀ st inner words es ps as′ (w .posts) (w .atoms) (w .changes)
+  pub reached : Reached zeroAt J estOrder lctOrder level st
+  pub at : At J estOrder ps₀ as₀ st inner words es ps as′ (w .posts) (w .atoms) (w .changes)
 
 module _ {n inn height lct : ℕ} {words : List ℕ} {es ps as′ : List ℤ} {w : Written} {est lst dur tasks mapping : List ℕ} (s : Standing n inn height lct words es ps as′ w est lst dur tasks mapping) where
   -- the state st′ follows: tree and slices are at it
   abbrev pub AtNow : State → List ℕ → List ℤ → List ℤ → List ℤ → Written → Type 0
-  AtNow st′ words′ es′ ps′ bs w′ = At (s .J) (s .first) (s .ps₀) (s .as₀) st′ inn words′ es′ ps′ bs (w′ .posts) (w′ .atoms) (w′ .changes)
+  AtNow st′ words′ es′ ps′ bs w′ = At (s .J) (s .estOrder) (s .ps₀) (s .as₀) st′ inn words′ es′ ps′ bs (w′ .posts) (w′ .atoms) (w′ .changes)
 
   abbrev pub turns : ℕ → State → Turn
-  turns f st′ = inner zeroAt (s .J) (s .first) (s .second) f (s .level) st′
+  turns f st′ = inner zeroAt (s .J) (s .estOrder) (s .lctOrder) f (s .level) st′
 
   -- one turn of the inner loop
   abbrev pub Considered : code.Turn → List ℕ → List ℤ → List ℤ → List ℤ → Type 0
@@ -81,6 +81,6 @@ module _ {n inn height lct : ℕ} {words : List ℕ} {es ps as′ : List ℤ} {w
 
   -- x is the leaf of the task i to consider
   pub record Responsible-for (i x : ℕ) : Type 0 where
-    pub over : exceeds (leaves.ect-bar (s .J) (s .first) (s .st .leaves)) lct ≡ true
-    pub found : leaves.responsible (s .J) (s .first) (s .st .leaves) ≡ some x
-    pub task : i ≡ getD (s .first) x 0
+    pub over : exceeds (leaves.ect-bar (s .J) (s .estOrder) (s .st .leaves)) lct ≡ true
+    pub found : leaves.responsible (s .J) (s .estOrder) (s .st .leaves) ≡ some x
+    pub task : i ≡ getD (s .estOrder) x 0

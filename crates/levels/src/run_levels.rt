@@ -316,7 +316,7 @@ pub fn edge_finding<'a>(
 ) -> Finished
     requires { ⌜ Begun n inner height (now nodes) (now earliest) (now posts) (now atoms) (now est) (now lst) (now lct) (now durations) (now tasks) (now candidates) (now mapping) ⌝ }
     ensures { λ r. ⌜ ((s : Begun n inner height (now (nodes .entry)) (now (earliest .entry)) (now (posts .entry)) (now (atoms .entry)) (now (est .entry)) (now (lst .entry)) (now (lct .entry)) (now (durations .entry)) (now (tasks .entry)) (now (candidates .entry)) (now (mapping .entry)))
-        → Ended (s .J) (s .first) (s .second) (now (posts .entry)) (now (atoms .entry)) (r .outcome) (r .changes) (now (earliest .exit)) (now (posts .exit)) (now (atoms .exit))) ⌝ }
+        → Ended (s .J) (s .estOrder) (s .lctOrder) (now (posts .entry)) (now (atoms .entry)) (r .outcome) (r .changes) (now (earliest .exit)) (now (posts .exit)) (now (atoms .exit))) ⌝ }
 {
     let mut w = Written {
         posts: 0,

@@ -1,4 +1,4 @@
 pub mod Telling
 pub mod Endings
 pub mod ReasonsPass
-pub mod TurnedBack
+pub mod Many

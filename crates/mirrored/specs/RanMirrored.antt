@@ -55,7 +55,7 @@ module _ (before : Propagator) (es ls : List ℤ) where
     pub post-words : posts′ ≡ posts
     pub atom-words : atoms′ ≡ atoms
 
--- A mirrored pass, told whether the bars of its ranges fit: the first test of a run that fails on the caller's own numbers turns it back, and nothing changes; else it is accepted.
+-- A mirrored pass, told whether the bars of its ranges fit: the first test of a run that fails on the caller's own numbers refuses it, and nothing changes; else it is accepted.
 pub record RanMirrored (before : Propagator) (es ls : List ℤ) (bars : Bool) (posts atoms : List ℤ) (r : Outcome) (ls′ posts′ atoms′ : List ℤ) : Type 0 where
   pub refused : (runNumber before es ls bars (length posts) (length atoms) ≡ 0 → ⊥) → KeptMirrored before es ls (runNumber before es ls bars (length posts) (length atoms)) posts atoms r ls′ posts′ atoms′
   pub accepted : runNumber before es ls bars (length posts) (length atoms) ≡ 0 → AcceptedMirrored before es ls posts atoms r ls′ posts′ atoms′

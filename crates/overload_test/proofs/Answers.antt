@@ -119,8 +119,8 @@ tested before es ls bars r a fit long z =
       many = λ k e. (let m = s .many k e in (m .0, omega (arith, m .1, count before es ls a long)));
     }
 
-pub turned-back : (before : Propagator) (es ls : List ℤ) (bars : Bool) (r : Overload) → (inputNumber before es ls bars ≡ 0 → ⊥) → overloadNumbers r ≡ refusedBy (inputNumber before es ls bars) → OverloadTested before es ls bars r
-turned-back before es ls bars r h z = record {
+pub is-refused : (before : Propagator) (es ls : List ℤ) (bars : Bool) (r : Overload) → (inputNumber before es ls bars ≡ 0 → ⊥) → overloadNumbers r ≡ refusedBy (inputNumber before es ls bars) → OverloadTested before es ls bars r
+is-refused before es ls bars r h z = record {
   refused = λ _. z;
   answer = λ e. absurd (h e);
   yes = λ e. absurd (h e);

@@ -1,4 +1,4 @@
--- More ranges than any record has tasks are turned back as none are: both meet the same test first.
+-- More ranges than any record has tasks are refused as none are: both meet the same test first.
 -- Assumes nothing.
 use mathlib.Core.Path.{sym, ap, _∙_}
 use mathlib.Core.Bool.{Bool}
@@ -12,9 +12,9 @@ use Rattle.records.specs.declared.record.Propagator.{Propagator}
 use Rattle.records.proofs.Refused.{input-many}
 use Rattle.overload_test.specs.declared.overload_test.Overload.{Overload}
 use Rattle.overload_test.specs.Tested.{OverloadTested}
-use Rattle.overload_test.proofs.Answers.{turned-back}
+use Rattle.overload_test.proofs.Answers.{is-refused}
 
 pub too-many : (before : Propagator) (es ls : List ℤ) (bars bars′ : Bool) (r : Overload) → TASKS < length es → OverloadTested before [] [] bars r → OverloadTested before es ls bars′ r
 too-many before es ls bars bars′ r many t =
     let (same, not) = input-many before es ls bars bars′ [] [] many in
-    turned-back before es ls bars′ r not (t .refused (λ z. not (sym same ∙ z)) ∙ ap refusedBy same)
+    is-refused before es ls bars′ r not (t .refused (λ z. not (sym same ∙ z)) ∙ ap refusedBy same)

@@ -14,7 +14,7 @@ use Rattle.overload_test.specs.declared.overload_test.Overload.{Overload
 use Rattle.overload_test.specs.Reading.{answerOf}
 use Rattle.overload_test.specs.Numbers.{overloadNumbers}
 
--- The call is told whether the bars of its ranges fit. The first test that fails turns the input back; else the answer is the definition's. It is yes exactly where some set of all the tasks overloads,
+-- The call is told whether the bars of its ranges fit. The first test that fails refuses the input; else the answer is the definition's. It is yes exactly where some set of all the tasks overloads,
 -- with the number of tasks read, and no exactly where none does.
 pub record OverloadTested (before : Propagator) (es ls : List ℤ) (bars : Bool) (r : Overload) : Type 0 where
   pub refused : (inputNumber before es ls bars ≡ 0 → ⊥) → overloadNumbers r ≡ refusedBy (inputNumber before es ls bars)

@@ -17,7 +17,7 @@ ghost use Rattle.overload_test.specs.Reading.{answerOf};
 ghost use Rattle.overload_test.specs.Readable.{Readable};
 ghost use Rattle.overload_test.specs.Tested.{OverloadTested};
 
-// Yes, with the number of tasks read; or the number that turned the input back.
+// Yes, with the number of tasks read; or the number that refused the input.
 pub enum Overload {
     Yes(usize),
     No,
@@ -57,7 +57,7 @@ fn read_tasks<'a>(
     Overload::No
 }
 
-// The test of a record and ranges that nothing turns back.
+// The test of a record and ranges that nothing refuses.
 fn accepted(record: Propagator, earliest: &[i32], latest: &[i32]) -> Overload
     requires { ⌜ AcceptedInput «record» (now earliest) (now latest) ⌝ }
     ensures { λ r. ⌜ r ≡ answerOf (momentsIn «record» (now (earliest .entry)) (now (latest .entry))) ⌝ }

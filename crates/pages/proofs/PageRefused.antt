@@ -1,4 +1,4 @@
--- What turns a page back: what holds where nothing does, and the sole ground for each number.
+-- What refuses a page: what holds where nothing does, and the sole ground for each number.
 -- Assumes nothing.
 use mathlib.Core.Path.{_≡_, refl, _∙_}
 use mathlib.Core.Bool.{true}
@@ -28,7 +28,7 @@ module _ (r : Propagator) (es ls : List ℤ) (bytes : ℕ) where
   room-is : leb (LINE * (r .count + 1)) bytes ≡ true ↔ (LINE * (r .count + 1) ≤ bytes)
   room-is = (λ h. leb-true (LINE * (r .count + 1)) bytes h, λ h. le-leb (LINE * (r .count + 1)) bytes h)
 
-  -- nothing turns the page back
+  -- nothing refuses the page
   pub accepted-page : pageNumber r es ls bytes ≡ 0 ↔ Accepted r es ls bytes
   accepted-page =
       let w = more-accepted (fixedTests r es ls) t15 (passed-fixed r es ls) room-is refl refl in
@@ -64,6 +64,6 @@ module _ (r : Propagator) (es ls : List ℤ) (bytes : ℕ) where
   pub refused-15 : pageNumber r es ls bytes ≡ 15 ↔ (AcceptedFixed r es ls × (LINE * (r .count + 1) ≤ bytes → ⊥))
   refused-15 = more-refused (fixedTests r es ls) t15 (passed-fixed r es ls) room-is refl refl
 
--- more ranges than any record has tasks are turned back by the number that turns none back
+-- more ranges than any record has tasks are refused by the number that refuses none
 pub page-many : (r : Propagator) (es ls : List ℤ) (bytes : ℕ) → TASKS < length es → (pageNumber r [] [] bytes ≡ pageNumber r es ls bytes) × (pageNumber r es ls bytes ≡ 0 → ⊥)
 page-many r es ls bytes many = fixed-many r es ls (t15 r [] [] bytes ∷ []) (t15 r es ls bytes ∷ []) many

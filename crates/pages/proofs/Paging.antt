@@ -132,7 +132,7 @@ module _ (r : Propagator) (es ls : List ℤ) (out : List ℕ) where
       size : n ≡ LINE * (r .count + 1)
       size = omega (arith, page .end, one .long, a .schedule .counts .earliest)
 
--- too many ranges are turned back as none are
+-- too many ranges are refused as none are
 pub too-many : (r : Propagator) (es ls : List ℤ) (out : List ℕ) (page : Page) (out′ : List ℕ) → TASKS < length es → Paged r [] [] out page out′ → Paged r es ls out page out′
 too-many r es ls out page out′ many p =
     let (same, not) = page-many r es ls (length out) many in

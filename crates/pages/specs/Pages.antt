@@ -1,4 +1,4 @@
--- A page of a fixed schedule: what turns it back, its bytes, and what the call leaves.
+-- A page of a fixed schedule: what refuses it, its bytes, and what the call leaves.
 use mathlib.Core.Path.{_≡_}
 use mathlib.Core.List.{List, [], _∷_, _++_, flatMap}
 use Prim.Native.Nat.{ℕ, _+_, _*_, _≤_, _<_}
@@ -61,7 +61,7 @@ pub record Left (r : Propagator) (es : List ℤ) (bytes : List ℕ) (p : Page) (
   pub answer : pageNumbers p ≡ answered 0 (pos (LINE * (r .count + 1)) ∷ [])
   pub text : bytes′ ≡ overwritten bytes (pageOf (r .durations) es)
 
--- A page: the first test that fails turns it back; else the page is written, which has one line for each task.
+-- A page: the first test that fails refuses it; else the page is written, which has one line for each task.
 pub record Paged (r : Propagator) (es ls : List ℤ) (bytes : List ℕ) (p : Page) (bytes′ : List ℕ) : Type 0 where
   pub refused : (pageNumber r es ls (length bytes) ≡ 0 → ⊥) → Kept (pageNumber r es ls (length bytes)) bytes p bytes′
   pub written : pageNumber r es ls (length bytes) ≡ 0 → Left r es bytes p bytes′

@@ -1,4 +1,4 @@
-// How many bytes were written, or the number that turned the page back.
+// How many bytes were written, or the number that refused the page.
 pub enum Page {
     Written(usize),
     Refused(u32),

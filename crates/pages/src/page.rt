@@ -7,7 +7,7 @@ use records::record::Propagator;
 ghost use mathlib.Core.Path.{_≡_};
 ghost use Rattle.pages.specs.Pages.{pageNumber, Paged};
 
-// The number that turns a page back, or 0: 20, 10, 3, 4, 14, 15.
+// The number that refuses a page, or 0: 20, 10, 3, 4, 14, 15.
 fn page_refusal(record: Propagator, earliest: &[i32], latest: &[i32], room: usize) -> u32
     ensures { λ r. ⌜ r ≡ pageNumber «record» (now (earliest .entry)) (now (latest .entry)) room ⌝ }
 {

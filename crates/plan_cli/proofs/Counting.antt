@@ -177,7 +177,7 @@ pub few-listed : (ns : Numbers) (xs : Option (List ℤ)) (n : ℕ) {es ls ds : L
     → planned (take n es) (take n ls) (take n ds) ≡ answered xs
 few-listed ns xs n h l q e f g = (λ i. planned (take n (e i)) (take n (f i)) (take n (g i))) ∙ columns ns n (l .rest) (h ∙ ap gathered (l .whole)) (l .long) q ∙ ap answered (sym (l .whole))
 
--- more tasks than a record has: creation turns them back
+-- more tasks than a record has: creation refuses them
 pub many-listed : (xs : Option (List ℤ)) (n : ℕ) → Listed xs n → TASKS < n → inl 1 ≡ answered xs
 many-listed xs n l q =
     let ts = triples (l .rest) in

@@ -30,7 +30,7 @@ use Rattle.propagator.proofs.Answering.{outcomes-apart}
 use Rattle.plan_cli.specs.RunSlices.{ShowsRun, Shown}
 use Rattle.plan_cli.specs.Printed.{numbered, ranOn, planned}
 
--- a run that no number turned back
+-- a run that no number refused
 module _ (r : Propagator) (es ls : List ℤ) where
   abbrev tr : Trace
   tr = traceOf r es ls

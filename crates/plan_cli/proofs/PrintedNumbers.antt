@@ -1,4 +1,4 @@
--- The numbers that the program can print: a run on a new record, with as many ranges as durations, is turned back by 3 or 4 only.
+-- The numbers that the program can print: a run on a new record, with as many ranges as durations, is refused by 3 or 4 only.
 -- Assumes nothing.
 use mathlib.Core.Path.{_≡_, refl}
 use mathlib.Core.Bool.{true}

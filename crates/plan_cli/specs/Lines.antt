@@ -87,7 +87,7 @@ endLines emptied starts = emptiedLine
 unfoldable pub runLines : Trace → List ℕ
 runLines t = postLines (t .posts) ++ endLines (t .end) (t .starts)
 
--- the number that turned the input back
+-- the number that refused the input
 unfoldable pub refusedLine : ℕ → List ℕ
 refusedLine number = refusedWord ++ natural number ++ newline
 

@@ -37,7 +37,7 @@ inputTasks [] = none
 inputTasks (negsuc n ∷ xs) = none
 inputTasks (pos n ∷ xs) = elim (eqb (length xs) (3 * n)) [ true ↦ some (triples xs) | false ↦ none ]
 
--- the first number that turns an input back, and what else follows where none does
+-- the first number that refuses an input, and what else follows where none does
 abbrev pub numbered : ℕ → ℕ ⊎ Trace → ℕ ⊎ Trace
 numbered zero otherwise = otherwise
 numbered (suc n) otherwise = inl (suc n)
@@ -53,7 +53,7 @@ planned es ls ds = numbered (refusal (creationTests ds)) (ranOn (newRecord ds) e
 abbrev pub plannedOf : List Triple → ℕ ⊎ Trace
 plannedOf ts = planned (map (λ (t : Triple). t .earliest) ts) (map (λ (t : Triple). t .latest) ts) (map (λ (t : Triple). t .duration) ts)
 
--- 0 turns back what is no list of tasks
+-- 0 refuses what is no list of tasks
 abbrev pub orZero : Option (List Triple) → ℕ ⊎ Trace
 orZero none = inl 0
 orZero (some ts) = plannedOf ts

@@ -48,7 +48,7 @@ pub record ShowsRun (t : Trace) (r : Outcome) (posts atoms starts : List ℤ) : 
   pub few-atoms : length (reasons (t .posts)) + length (endReason (t .end)) ≤ ATOMS
   pub few-starts : length (t .starts) ≤ TASKS
 
--- A number that turned a run back, or a run.
+-- A number that refused a run, or a run.
 abbrev pub Shown : ℕ ⊎ Trace → Outcome → List ℤ → List ℤ → List ℤ → Type 0
 Shown (inl number) r posts atoms starts = r ≡ outcome.Refused number
 Shown (inr t) r posts atoms starts = ShowsRun t r posts atoms starts

@@ -1,4 +1,4 @@
-// The answer to an input: its lines, or the number that turned it back.
+// The answer to an input: its lines, or the number that refused it.
 use crate::input::Counted;
 use crate::input::column_of;
 use crate::input::task_count;
@@ -73,7 +73,7 @@ fn put_planned(
     }
 }
 
-// The answer to an input's numbers. More tasks than a record has are turned back here, as creation would.
+// The answer to an input's numbers. More tasks than a record has are refused here, as creation would.
 pub fn put_answer(out: &mut [u8], numbers: Numbers) -> usize
     requires { ⌜ ROOM ≤ length (now out) ⌝ }
     ensures text { λ r. ⌜ ((xs : Option (List ℤ)) → numbers ≡ gathered xs → Puts (now (out .entry)) (now (out .exit)) 0 (answerLines (answered xs)) r) ⌝ }

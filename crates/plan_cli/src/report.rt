@@ -76,7 +76,7 @@ fn put_overload(out: &mut [u8], at: usize, atoms: &[i32], first: usize, count: u
     put_bytes(out, end, b"overload\n")
 }
 
-// What a run left, or the number that turned it back.
+// What a run left, or the number that refused it.
 pub fn put_run(
     out: &mut [u8],
     outcome: Outcome,

@@ -26,6 +26,10 @@ kindAt k = 3 * k + 1
 abbrev pub valueAt : ℕ → ℕ
 valueAt k = 3 * k + 2
 
+-- n atoms as words
+abbrev pub wordsOf : ℕ → ℕ
+wordsOf n = 3 * n
+
 abbrev pub taskWord : List ℤ → ℕ → ℤ
 taskWord posts index = getD posts (taskAt index) (pos 0)
 
@@ -43,10 +47,10 @@ atomCount posts index = getD posts (4 * index + 3) (pos 0)
 
 -- the stretch is words 3f to 3(f + c): its start and its length
 abbrev pub stretchStart : List ℤ → ℕ → ℕ
-stretchStart posts index = 3 * natAbs (firstAtom posts index)
+stretchStart posts index = wordsOf (natAbs (firstAtom posts index))
 
 abbrev pub stretchLength : List ℤ → ℕ → ℕ
-stretchLength posts index = 3 * natAbs (atomCount posts index)
+stretchLength posts index = wordsOf (natAbs (atomCount posts index))
 
 -- Room for the j-th post in a slice of `size` words, and numbers that are words.
 pub record PostFits (size j i from atoms : ℕ) : Type 0 where

@@ -11,7 +11,7 @@ ghost use lib.Seq.{sets};
 ghost use lib.Signed.{_≤ℤ_};
 ghost use Rattle.integers.specs.Limits.{TASKS};
 ghost use Rattle.integers.specs.Moments.{instant, zeroAt};
-ghost use Rattle.post_words.specs.Posts.{taskAt, boundAt, variableAt, kindAt, valueAt, taskWord, boundOf, firstAtom, atomCount, PostFits, postNumber, reasonWords};
+ghost use Rattle.post_words.specs.Posts.{taskAt, boundAt, variableAt, kindAt, valueAt, wordsOf, taskWord, boundOf, firstAtom, atomCount, PostFits, postNumber, reasonWords};
 
 // An atom's kinds.
 pub const AT_LEAST: i32 = 0;
@@ -69,10 +69,11 @@ pub fn atoms_in(atoms: &[i32]) -> usize
 }
 
 // How many words n atoms are.
-pub fn words_of(n: u32) -> usize
-    ensures { λ r. ⌜ r ≡ 3 * n ⌝ }
+pub fn words_of(n: usize) -> usize
+    requires { ⌜ wordsOf n < 2 ^ 64 ⌝ }
+    ensures { λ r. ⌜ r ≡ wordsOf n ⌝ }
 {
-    3 * (n as usize)
+    3 * n
 }
 
 // The words of `count` atoms from the one numbered `first` on.
@@ -155,7 +156,9 @@ pub fn post_number(posts: &[i32], atoms: &[i32], post_count: usize, index: usize
     if !integers::at_most(0, posts[4 * index + 3]) {
         return 11;
     }
-    if words_of(first_atom(posts, index)) + words_of(atom_count(posts, index)) > atoms.len() {
+    let first = first_atom(posts, index) as usize;
+    let count = atom_count(posts, index) as usize;
+    if words_of(first) + words_of(count) > atoms.len() {
         return 11;
     }
     0

@@ -174,6 +174,6 @@ module _ (r : Propagator) (es ls : List ℤ) (a : AcceptedInput r es ls) (long :
 pub given : (before : Propagator) (es ls : List ℤ) (bars : Bool) (task : ℕ) (ws : List ℤ) (r : Reason) (ws′ : List ℤ) → reasonNumber before es ls bars task (length ws) ≡ 0 → Explained (tasksIn before es ls) task ws r ws′ → ReasonGiven before es ls bars task ws r ws′
 given before es ls bars task ws r ws′ z e = record { refused = λ h. absurd (h z); given = λ _. e }
 
-pub turned-back : (before : Propagator) (es ls : List ℤ) (bars : Bool) (task : ℕ) (ws : List ℤ) (r : Reason) (ws′ : List ℤ) → (reasonNumber before es ls bars task (length ws) ≡ 0 → ⊥) → reasonNumbers r ≡ refusedBy (reasonNumber before es ls bars task (length ws)) → ws′ ≡ ws
+pub is-refused : (before : Propagator) (es ls : List ℤ) (bars : Bool) (task : ℕ) (ws : List ℤ) (r : Reason) (ws′ : List ℤ) → (reasonNumber before es ls bars task (length ws) ≡ 0 → ⊥) → reasonNumbers r ≡ refusedBy (reasonNumber before es ls bars task (length ws)) → ws′ ≡ ws
     → ReasonGiven before es ls bars task ws r ws′
-turned-back before es ls bars task ws r ws′ h z y = record { refused = λ _. record { answer = z; words = y }; given = λ e. absurd (h e) }
+is-refused before es ls bars task ws r ws′ h z y = record { refused = λ _. record { answer = z; words = y }; given = λ e. absurd (h e) }

@@ -121,5 +121,5 @@ module _ (r : Propagator) (es ls : List ℤ) (a : AcceptedInput r es ls) (long :
 pub went : (before : Propagator) (es ls : List ℤ) (bars : Bool) (r : Precedences) (es′ : List ℤ) → AcceptedInput before es ls → bars ≡ true → LeftPrecedences (tasksIn before es ls) es r es′ → RanPrecedences before es ls bars r es′
 went before es ls bars r es′ a fit p = record { refused = λ h. absurd (h (accepted-input before es ls bars .1 (a, fit))); ran = λ _. p }
 
-pub turned-back : (before : Propagator) (es ls : List ℤ) (bars : Bool) (r : Precedences) (es′ : List ℤ) → (inputNumber before es ls bars ≡ 0 → ⊥) → precedencesNumbers r ≡ refusedBy (inputNumber before es ls bars) → es′ ≡ es → RanPrecedences before es ls bars r es′
-turned-back before es ls bars r es′ h z y = record { refused = λ _. record { answer = z; starts = y }; ran = λ e. absurd (h e) }
+pub is-refused : (before : Propagator) (es ls : List ℤ) (bars : Bool) (r : Precedences) (es′ : List ℤ) → (inputNumber before es ls bars ≡ 0 → ⊥) → precedencesNumbers r ≡ refusedBy (inputNumber before es ls bars) → es′ ≡ es → RanPrecedences before es ls bars r es′
+is-refused before es ls bars r es′ h z y = record { refused = λ _. record { answer = z; starts = y }; ran = λ e. absurd (h e) }

@@ -1,4 +1,4 @@
--- What turns the reason's call back: what holds where nothing does, and the sole ground for each number.
+-- What refuses the reason's call: what holds where nothing does, and the sole ground for each number.
 -- Assumes nothing.
 use mathlib.Core.Path.{_≡_, refl, _∙_}
 use mathlib.Core.Bool.{Bool, true, false}
@@ -39,7 +39,7 @@ module _ (r : Propagator) (es ls : List ℤ) (bars : Bool) (task words : ℕ) wh
   pub all-right : AllPassed (inputTests r es ls bars) → ltb task (r .count) ≡ true → leb (6 * r .count) words ≡ true → reasonNumber r es ls bars task words ≡ 0
   all-right h p q = refusal-after (inputTests r es ls bars) (t17 ∷ t16 ∷ []) h ∙ accepts (t17 ∷ t16 ∷ []) (p, (q, tt))
 
-  -- nothing turns the call back
+  -- nothing refuses the call
   pub accepted-reason : reasonNumber r es ls bars task words ≡ 0 → (AcceptedInput r es ls × (bars ≡ true)) × AcceptedReason r task words
   accepted-reason h = facts (accepted (reasonTests r es ls bars task words) refl h)
     where

@@ -1,4 +1,4 @@
--- The reason of one task's bound: its atoms, what turns the call back, and what it leaves.
+-- The reason of one task's bound: its atoms, what refuses the call, and what it leaves.
 use mathlib.Core.Path.{_≡_}
 use mathlib.Core.Bool.{Bool, true, false}
 use mathlib.Core.List.{List, [], _∷_, _++_}
@@ -71,7 +71,7 @@ pub record KeptWords (ws : List ℤ) (number : ℕ) (r : Reason) (ws′ : List �
   pub answer : reasonNumbers r ≡ refusedBy number
   pub words : ws′ ≡ ws
 
--- The call is told whether the bars of its ranges fit. The first test that fails turns it back.
+-- The call is told whether the bars of its ranges fit. The first test that fails refuses it.
 pub record ReasonGiven (before : Propagator) (es ls : List ℤ) (bars : Bool) (task : ℕ) (ws : List ℤ) (r : Reason) (ws′ : List ℤ) : Type 0 where
   pub refused : (reasonNumber before es ls bars task (length ws) ≡ 0 → ⊥) → KeptWords ws (reasonNumber before es ls bars task (length ws)) r ws′
   pub given : reasonNumber before es ls bars task (length ws) ≡ 0 → Explained (tasksIn before es ls) task ws r ws′

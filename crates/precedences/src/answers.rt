@@ -1,11 +1,11 @@
-// How a pass ended: the earliest starts are raised; the lowest task whose bound passes its latest start; or the number that turned the input back.
+// How a pass ended: the earliest starts are raised; the lowest task whose bound passes its latest start; or the number that refused the input.
 pub enum Precedences {
     Done,
     Emptied(usize),
     Refused(u32),
 }
 
-// How many atoms were written, or the number that turned the input back.
+// How many atoms were written, or the number that refused the input.
 pub enum Reason {
     Written(usize),
     Refused(u32),

@@ -64,7 +64,7 @@ fn store(earliest: &mut [i32], raised: &[u32; TASKS])
     }
 }
 
-// The pass on a record and ranges that nothing turns back.
+// The pass on a record and ranges that nothing refuses.
 fn accepted(record: Propagator, earliest: &mut [i32], latest: &[i32]) -> Precedences
     requires { ⌜ AcceptedInput «record» (now earliest) (now latest) ⌝ }
     ensures { λ r. ⌜ LeftPrecedences (tasksIn «record» (now (earliest .entry)) (now (latest .entry))) (now (earliest .entry)) r (now (earliest .exit)) ⌝ }

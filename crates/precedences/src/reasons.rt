@@ -76,7 +76,7 @@ fn write_reason<'a>(
     write_members(atoms, &before, est, lst, n)
 }
 
-// The call on a record, ranges, a task and words that nothing turns back.
+// The call on a record, ranges, a task and words that nothing refuses.
 fn accepted_reason(
     record: Propagator,
     earliest: &[i32],
@@ -96,7 +96,7 @@ fn accepted_reason(
     Reason::Written(write_reason(atoms, &est, &lst, &durations, n, task))
 }
 
-// The number that turns the call back, or 0: 20, 10, 3, 4, 13, 17, 16.
+// The number that refuses the call, or 0: 20, 10, 3, 4, 13, 17, 16.
 fn reason_refusal<'a>(
     n: usize,
     durations: &'a [u32; TASKS],

@@ -46,7 +46,7 @@ module _ (before : Propagator) (ranges : List Range) (posts atoms posts₁ atoms
     overload = λ k. read.overload-words t answer is posts₁ atoms₁ one k ∙ sym (read.overload-words t answer is posts₃ atoms₃ other k);
   })
 
--- Two histories that leave the same durations: two runs of the open call on the same ranges that are not turned back give the same.
+-- Two histories that leave the same durations: two runs of the open call on the same ranges that are not refused give the same.
 pub same-runs : (h h′ : History) → durationsAfter h ≡ durationsAfter h′ → (ranges : List Range) {posts atoms posts₁ atoms₁ posts₂ atoms₂ posts₃ atoms₃ : List ℤ} {answer answer′ : Outcome} {changed changed′ : ℕ} {after after′ : Propagator} {ranges₁ ranges₃ : List Range}
     → RanLent (recordAfter h) ranges posts atoms answer changed after ranges₁ posts₁ atoms₁ → lentNumber (recordAfter h) ranges posts atoms ≡ 0
     → RanLent (recordAfter h′) ranges posts₂ atoms₂ answer′ changed′ after′ ranges₃ posts₃ atoms₃ → lentNumber (recordAfter h′) ranges posts₂ atoms₂ ≡ 0

@@ -18,7 +18,7 @@ use Rattle.barred_starts.specs.Permitted.{FirstPermitted, PermittedSchedule}
 use Rattle.barred_starts.specs.Ranges.{earliests, latests, anyRange, withStarts}
 use Rattle.promises.specs.Promise.{tasksLent}
 
--- the number that turns a call back that has no words to write: of the record, the ranges and their bars; 0 where none does
+-- the number that refuses a call that has no words to write: of the record, the ranges and their bars; 0 where none does
 abbrev pub rangesNumber : Propagator → List Range → ℕ
 rangesNumber before ranges = inputNumber before (earliests ranges) (latests ranges) (allBarsFit ranges)
 

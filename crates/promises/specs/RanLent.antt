@@ -17,7 +17,7 @@ use Rattle.barred_starts.specs.Ranges.{earliests, latests, withStarts, withLate
 use Rattle.promises.specs.Promise.{Promise}
 use Rattle.promises.specs.MirroredPromise.{MirroredPromise}
 
--- the number that turns a run or a mirrored pass back; 0 where none does
+-- the number that refuses a run or a mirrored pass; 0 where none does
 abbrev pub lentNumber : Propagator → List Range → List ℤ → List ℤ → ℕ
 lentNumber before ranges posts atoms = runNumber before (earliests ranges) (latests ranges) (allBarsFit ranges) (length posts) (length atoms)
 

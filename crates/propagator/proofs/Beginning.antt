@@ -91,11 +91,11 @@ module _ (r : Propagator) (es ls : List ℤ) (posts atoms : ℕ) (a : Runnable r
     ranges = λ k q. a .ranges k (omega (arith, count, a .counts .earliest));
   }
 
-  abbrev pub first : List ℕ
-  first = earliestOrder J
+  abbrev pub estOrder : List ℕ
+  estOrder = earliestOrder J
 
-  abbrev pub second : List ℕ
-  second = completionOrder J
+  abbrev pub lctOrder : List ℕ
+  lctOrder = completionOrder J
 
   -- the arrays
   pub holds-starts : (xs : List ℤ) → length xs ≡ n → Holds n (momentAt xs) (filled (momentAt xs) (length xs) noTasks)
@@ -114,10 +114,10 @@ module _ (r : Propagator) (es ls : List ℤ) (posts atoms : ℕ) (a : Runnable r
   }
 
   -- an order sorted by an array's keys is that of the tasks
-  pub sorted-first : (est : List ℕ) → Holds n (J .earliest) est → {tasks : List ℕ} → SortedBy (byKey est) n tasks → take n tasks ≡ first
+  pub sorted-first : (est : List ℕ) → Holds n (J .earliest) est → {tasks : List ℕ} → SortedBy (byKey est) n tasks → take n tasks ≡ estOrder
   sorted-first est h s = sorted-as s (byEarliest J) (λ j k p q. ap₂ leb (h .at j p) (h .at k q)) ∙ ap (λ (m : ℕ). sort (byEarliest J) (numbers 0 m)) (sym count)
 
-  pub sorted-second : (lct : List ℕ) → Holds n (completion J) lct → {candidates : List ℕ} → SortedBy (byKeyDown lct) n candidates → take n candidates ≡ second
+  pub sorted-second : (lct : List ℕ) → Holds n (completion J) lct → {candidates : List ℕ} → SortedBy (byKeyDown lct) n candidates → take n candidates ≡ lctOrder
   sorted-second lct h s = sorted-as s (byCompletion J) (λ j k p q. ap₂ leb (h .at k q) (h .at j p)) ∙ ap (λ (m : ℕ). sort (byCompletion J) (numbers 0 m)) (sym count)
 
   pub holds-order : (l m : List ℕ) → take n l ≡ m → length l ≡ TASKS → Holds n (λ j. getD m j 0) l
@@ -148,16 +148,16 @@ module _ (r : Propagator) (es ls : List ℤ) (posts atoms : ℕ) (a : Runnable r
   proper : Proper J
   proper = sound zeroAt Z (record { ranges = accepted .ranges; lasts = accepted .lasts }) above
 
-  pub by-earliest : ByEarliest J (λ j. getD first j 0) (λ k. index first k)
+  pub by-earliest : ByEarliest J (λ j. getD estOrder j 0) (λ k. index estOrder k)
   by-earliest = demand.by-earliest J
 
-  pub ordered : Ordered J first second
+  pub ordered : Ordered J estOrder lctOrder
   ordered = record {
     proper = proper;
     some = accepted .some;
     by-earliest = by-earliest;
     by-completion = demand.by-completion J;
-    limited = tree.limited J proper first by-earliest (accepted .few) (λ k q. omega (arith, early k q .1, early k q .2)) (omega (arith, accepted .sum));
+    limited = tree.limited J proper estOrder by-earliest (accepted .few) (λ k q. omega (arith, early k q .1, early k q .2)) (omega (arith, accepted .sum));
     room = λ k q. omega (arith, short, early k q .0);
     fits = λ k q. omega (arith, short, early k q .2, lasting k q);
   }
@@ -170,7 +170,7 @@ module _ (r : Propagator) (es ls : List ℤ) (posts atoms : ℕ) (a : Runnable r
   completion-small k q = let z : k < length ds = omega (arith, count) in omega (arith, early k z .2, lasting k z)
 
   -- the state at the start: nothing is written
-  pub at-start : (inner : ℕ) (words : List ℕ) (ps as′ : List ℤ) → IsTree J first (replicate (J .count) white) inner words → At J first ps as′ (allWhite J) inner words es ps as′ 0 0 n
+  pub at-start : (inner : ℕ) (words : List ℕ) (ps as′ : List ℤ) → IsTree J estOrder (replicate (J .count) white) inner words → At J estOrder ps as′ (allWhite J) inner words es ps as′ 0 0 n
   at-start inner words ps as′ t = record {
     tree = t;
     starts = subst (λ (m : ℕ). es ≡ map (instant zeroAt) (tabulate (J .earliest) 0 m)) (a .counts .earliest ∙ sym count) (tabulated zeroAt es (J .earliest) 0 (λ k q. back k (omega (arith, q, a .counts .earliest, count))));
@@ -185,17 +185,17 @@ module _ (r : Propagator) (es ls : List ℤ) (posts atoms : ℕ) (a : Runnable r
       back k q = let z : 0 + k ≡ k = omega arith in ap (λ (j : ℕ). instant zeroAt (J .earliest j)) z ∙ instant-moment zeroAt (getD es k (pos 0)) (above k q)
 
   -- the trace that it leaves, and that its words fit the lent slices
-  trace-is : traceOf r es ls ≡ run zeroAt J first second
+  trace-is : traceOf r es ls ≡ run zeroAt J estOrder lctOrder
   trace-is = propagate-is ds es ls
 
-  posts-fit : length (postWords 0 (run zeroAt J first second .posts)) ≤ posts
-  posts-fit = omega (arith, few-words.posts-fit zeroAt J proper first second by-earliest (ordered .by-completion) (accepted .some), count, a .words .posts)
+  posts-fit : length (postWords 0 (run zeroAt J estOrder lctOrder .posts)) ≤ posts
+  posts-fit = omega (arith, few-words.posts-fit zeroAt J proper estOrder lctOrder by-earliest (ordered .by-completion) (accepted .some), count, a .words .posts)
 
-  atoms-fit : length (atomWords (reasons (run zeroAt J first second .posts) ++ endReason (run zeroAt J first second .end))) ≤ atoms
+  atoms-fit : length (atomWords (reasons (run zeroAt J estOrder lctOrder .posts) ++ endReason (run zeroAt J estOrder lctOrder .end))) ≤ atoms
   atoms-fit = omega (
     arith,
-    subst (λ (m : ℕ). length (atomWords (reasons (run zeroAt J first second .posts) ++ endReason (run zeroAt J first second .end))) ≤ 6 * (m * m)) count
-        (few-words.atoms-fit zeroAt J proper first second by-earliest (ordered .by-completion) (accepted .some)),
+    subst (λ (m : ℕ). length (atomWords (reasons (run zeroAt J estOrder lctOrder .posts) ++ endReason (run zeroAt J estOrder lctOrder .end))) ≤ 6 * (m * m)) count
+        (few-words.atoms-fit zeroAt J proper estOrder lctOrder by-earliest (ordered .by-completion) (accepted .some)),
     a .words .atoms,
   )
 
@@ -214,43 +214,43 @@ module _ (r : Propagator) (es ls : List ℤ) (posts atoms : ℕ) (a : Runnable r
       pub completions : Holds n (completion J) lct
       completions = subst (Holds n (completion J)) (sym c) (holds-completions lst latest)
 
-      front : take n tasks ≡ first
+      front : take n tasks ≡ estOrder
       front = sorted-first est starts f
 
-      pub order : Holds n (λ j. getD first j 0) tasks
-      order = holds-order tasks first front (f .size)
+      pub order : Holds n (λ j. getD estOrder j 0) tasks
+      order = holds-order tasks estOrder front (f .size)
 
-      pub candidates-order : Holds n (λ t. getD second t 0) candidates
-      candidates-order = holds-order candidates second (sorted-second lct completions g) (g .size)
+      pub candidates-order : Holds n (λ t. getD lctOrder t 0) candidates
+      candidates-order = holds-order candidates lctOrder (sorted-second lct completions g) (g .size)
 
       -- the tree: sized for n tasks, every word 0, and the leaf of each task by the order
       module _ {inner height : ℕ} {mapping words₀ : List ℕ} (sz : Sized n inner height) (m : Maps n tasks mapping) (z : words₀ ≡ replicate TREEWORDS 0) where
         pub complete : inner + 1 ≡ width (heightFor (J .count))
         complete = sized n inner height sz ∙ ap (λ (m : ℕ). width (heightFor m)) (sym count)
 
-        pub places : (x : ℕ) → x < n → getD mapping x 0 ≡ index first x
+        pub places : (x : ℕ) → x < n → getD mapping x 0 ≡ index estOrder x
         places x q = m .leaf x q ∙ ap (λ (o : List ℕ). index o x) front
 
         abbrev pub fillable : Fillable inner n words₀ tasks est (r .durations)
         fillable = record {
           J = J;
-          first = first;
+          estOrder = estOrder;
           limited = ordered .limited;
           count = count;
-          tree = new-tree J first inner words₀ z complete;
+          tree = new-tree J estOrder inner words₀ z complete;
           few = few;
           task = order .at;
           known = λ x q. omega (arith, few, count, by-earliest .task x (omega (arith, count)));
-          start = λ x q. starts .at (getD first x 0) (omega (arith, count, by-earliest .task x (omega (arith, count))));
-          lasts = λ x q. holds-durations .at (getD first x 0) (omega (arith, count, by-earliest .task x (omega (arith, count))));
+          start = λ x q. starts .at (getD estOrder x 0) (omega (arith, count, by-earliest .task x (omega (arith, count))));
+          lasts = λ x q. holds-durations .at (getD estOrder x 0) (omega (arith, count, by-earliest .task x (omega (arith, count))));
         }
 
-        abbrev pub begun : {words : List ℕ} {ps as′ : List ℤ} → IsTree J first (replicate (J .count) white) inner words → posts ≡ length ps → atoms ≡ length as′
+        abbrev pub begun : {words : List ℕ} {ps as′ : List ℤ} → IsTree J estOrder (replicate (J .count) white) inner words → posts ≡ length ps → atoms ≡ length as′
             → Begun n inner height words es ps as′ est lst lct (r .durations) tasks candidates mapping
         begun {words} {ps} {as′} t p q = record {
           J = J;
-          first = first;
-          second = second;
+          estOrder = estOrder;
+          lctOrder = lctOrder;
           ordered = ordered;
           arrays = record { count = count; starts = starts; durations = holds-durations; tasks = order; places = places; tall = sz .least };
           latest = latest;
@@ -262,15 +262,15 @@ module _ (r : Propagator) (es ls : List ℤ) (posts atoms : ℕ) (a : Runnable r
         }
 
       -- and what a run leaves
-      pub left : {ps as′ es′ ps′ bs : List ℤ} {o : Outcome} {c : ℕ} → posts ≡ length ps → atoms ≡ length as′ → Ended J first second ps as′ o c es′ ps′ bs
+      pub left : {ps as′ es′ ps′ bs : List ℤ} {o : Outcome} {c : ℕ} → posts ≡ length ps → atoms ≡ length as′ → Ended J estOrder lctOrder ps as′ o c es′ ps′ bs
           → Left r es ls ps as′ o c es′ ps′ bs
       left {ps} {as′} {es′} {ps′} {bs} {o} {c} p q d = record {
         answer = d .answer ∙ ap (λ (t : Trace). outcomeOf (reasons (t .posts)) (length (t .posts)) (t .end)) (sym trace-is);
         changes = d .changes ∙ ap (λ (t : Trace). t .changes) (sym trace-is);
-        changes-most = omega (arith, d .changes, changes-most zeroAt J proper first second by-earliest (ordered .by-completion) (accepted .some), count);
+        changes-most = omega (arith, d .changes, changes-most zeroAt J proper estOrder lctOrder by-earliest (ordered .by-completion) (accepted .some), count);
         starts = d .starts ∙ ap (λ (t : Trace). t .starts) (sym trace-is);
-        post-words = d .posts ∙ overwrites ps (postWords 0 (run zeroAt J first second .posts)) (omega (arith, posts-fit, p)) ∙ ap (postsAfter ps) (sym trace-is);
-        atom-words = d .atoms ∙ overwrites as′ (atomWords (reasons (run zeroAt J first second .posts) ++ endReason (run zeroAt J first second .end))) (omega (arith, atoms-fit, q)) ∙ ap (atomsAfter as′) (sym trace-is);
+        post-words = d .posts ∙ overwrites ps (postWords 0 (run zeroAt J estOrder lctOrder .posts)) (omega (arith, posts-fit, p)) ∙ ap (postsAfter ps) (sym trace-is);
+        atom-words = d .atoms ∙ overwrites as′ (atomWords (reasons (run zeroAt J estOrder lctOrder .posts) ++ endReason (run zeroAt J estOrder lctOrder .end))) (omega (arith, atoms-fit, q)) ∙ ap (atomsAfter as′) (sym trace-is);
         posts-fit = subst (λ (t : Trace). length (postWords 0 (t .posts)) ≤ length ps) (sym trace-is) (omega (arith, posts-fit, p));
         atoms-fit = subst (λ (t : Trace). length (atomWords (reasons (t .posts) ++ endReason (t .end))) ≤ length as′) (sym trace-is) (omega (arith, atoms-fit, q));
       }

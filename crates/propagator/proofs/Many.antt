@@ -1,4 +1,4 @@
--- A run that is turned back; one that is lent more ranges than any record has tasks is turned back as one that is lent none.
+-- A run that is refused; one that is lent more ranges than any record has tasks is refused as one that is lent none.
 -- Assumes nothing.
 use mathlib.Core.Path.{_≡_, refl, sym, ap, _∙_}
 use mathlib.Core.Bool.{Bool}
@@ -15,14 +15,14 @@ use Rattle.propagator.specs.declared.disjunctive_propagator.Run.{Run}
 use Rattle.propagator.specs.Ran.{Kept, Ran}
 
 -- what is said of an accepted run is not said of it
-pub turned-back : (before : Propagator) (es ls : List ℤ) (bars : Bool) (posts atoms : List ℤ) (r : Run) (es′ posts′ atoms′ : List ℤ) → r .«record» ≡ before → (runNumber before es ls bars (length posts) (length atoms) ≡ 0 → ⊥)
+pub is-refused : (before : Propagator) (es ls : List ℤ) (bars : Bool) (posts atoms : List ℤ) (r : Run) (es′ posts′ atoms′ : List ℤ) → r .«record» ≡ before → (runNumber before es ls bars (length posts) (length atoms) ≡ 0 → ⊥)
     → Kept before es ls (runNumber before es ls bars (length posts) (length atoms)) posts atoms (r .outcome) (r .changes) es′ posts′ atoms′ → Ran before es ls bars posts atoms r es′ posts′ atoms′
-turned-back before es ls bars posts atoms r es′ posts′ atoms′ e not k = record { keeps = e; refused = λ n. k; accepted = λ z. absurd (not z) }
+is-refused before es ls bars posts atoms r es′ posts′ atoms′ e not k = record { keeps = e; refused = λ n. k; accepted = λ z. absurd (not z) }
 
 pub too-many : (before : Propagator) (es ls : List ℤ) (bars bars′ : Bool) (posts atoms : List ℤ) (r : Run) (es′ posts′ atoms′ : List ℤ) → TASKS < length es
     → Ran before [] [] bars posts atoms r es′ posts′ atoms′ → Ran before es ls bars′ posts atoms r es posts′ atoms′
 too-many before es ls bars bars′ posts atoms r es′ posts′ atoms′ many a =
     let (same, not) = input-many before es ls bars bars′ _ _ many in
     let k = a .refused (λ z. not (sym same ∙ z)) in
-    turned-back before es ls bars′ posts atoms r es posts′ atoms′ (a .keeps) not
+    is-refused before es ls bars′ posts atoms r es posts′ atoms′ (a .keeps) not
     (record { answer = k .answer ∙ ap refusedBy same; changes = k .changes; starts = refl; post-words = k .post-words; atom-words = k .atom-words })

@@ -92,7 +92,7 @@ module _ (before : Propagator) (es ls : List ℤ) where
     pub post-words : posts′ ≡ posts
     pub atom-words : atoms′ ≡ atoms
 
--- A run hands back the record that it was lent, and is told whether the bars of its ranges fit. The first test that fails turns it back, and nothing changes; else it is accepted.
+-- A run hands back the record that it was lent, and is told whether the bars of its ranges fit. The first test that fails refuses it, and nothing changes; else it is accepted.
 pub record Ran (before : Propagator) (es ls : List ℤ) (bars : Bool) (posts atoms : List ℤ) (r : Run) (es′ posts′ atoms′ : List ℤ) : Type 0 where
   pub keeps : r .«record» ≡ before
   pub refused : (runNumber before es ls bars (length posts) (length atoms) ≡ 0 → ⊥) → Kept before es ls (runNumber before es ls bars (length posts) (length atoms)) posts atoms (r .outcome) (r .changes) es′ posts′ atoms′

@@ -56,7 +56,7 @@ answer-number ds = at (refusal (creationTests ds))
     at zero = refl
     at (suc n) = refl
 
--- A created record is lawful, so that no run turns it back with 20.
+-- A created record is lawful, so that no run refuses it with 20.
 pub created-lawful : (ds : List ℤ) → refusal (creationTests ds) ≡ 0 → Lawful (newRecord ds)
 created-lawful ds h = made (accepted (creationTests ds) refl h)
   where

@@ -1,4 +1,4 @@
--- What turns a call back: what holds where nothing does, and the sole ground for each number of a run.
+-- What refuses a call: what holds where nothing does, and the sole ground for each number of a run.
 -- Assumes nothing.
 use mathlib.Core.Path.{_≡_, refl, sym, _∙_}
 use mathlib.Core.Bool.{Bool, true, false, _&&_}
@@ -132,7 +132,7 @@ module _ (r : Propagator) (es ls : List ℤ) (bars : Bool) (after : List Test) w
     λ f. w .1 ((record { lawful = f .0; counts = f .1 .0; starts = f .1 .1 .0; ranges = f .1 .1 .1 .0 }, f .1 .1 .1 .1 .0), f .1 .1 .1 .1 .1),
   )
 
--- More ranges than any record has tasks are turned back by the number that turns none back, 20 or 10, whatever tests follow.
+-- More ranges than any record has tasks are refused by the number that refuses none, 20 or 10, whatever tests follow.
 pub range-many : (r : Propagator) (es ls : List ℤ) (after after′ : List Test) → TASKS < length es
     → (refusal (rangeTests r [] [] ++ after) ≡ refusal (rangeTests r es ls ++ after′)) × (refusal (rangeTests r es ls ++ after′) ≡ 0 → ⊥)
 range-many r es ls after after′ many = elim (bool (lawfulRecord r)) [
@@ -165,7 +165,7 @@ module _ (r : Propagator) (es ls : List ℤ) (bars : Bool) (posts atoms : ℕ) w
   pub words-enough : AllPassed (inputTests r es ls bars) → leb (4 * r .count) posts && leb (6 * (r .count * r .count)) atoms ≡ true → runNumber r es ls bars posts atoms ≡ 0
   words-enough h q = refusal-after (inputTests r es ls bars) (t9 ∷ []) h ∙ accepts (t9 ∷ []) (q, tt)
 
-  -- nothing turns the run back
+  -- nothing refuses the run
   pub accepted-run : runNumber r es ls bars posts atoms ≡ 0 ↔ (Accepted r es ls posts atoms × (bars ≡ true))
   accepted-run = let w = more-accepted (inputTests r es ls bars) t9 (passed-input r es ls bars) (words-are (r .count) posts atoms) refl refl in (
     λ h. (let ((a, b), w) = w .0 h in (record { lawful = a .lawful; counts = a .counts; starts = a .starts; ranges = a .ranges; words = w }, b)),

@@ -39,7 +39,7 @@ sum-above : refusal (creationTests (pos (DURATIONS - 1) ∷ pos 2 ∷ [])) ≡ 5
 unfolding refusal allBelow total
 sum-above = refl
 
--- A run: a record of zeros is turned back before the count of the starts is looked at.
+-- A run: a record of zeros is refused before the count of the starts is looked at.
 two : Propagator
 two = newRecord (pos 4 ∷ pos 5 ∷ [])
 

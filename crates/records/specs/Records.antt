@@ -80,7 +80,7 @@ module _ (r : Propagator) (es ls : List ℤ) where
 
 -- Creation ---------------------------------------------------------------------------------------------------------------------
 
--- a duration as a natural number; 0 where it is negative, which 2 turns back
+-- a duration as a natural number; 0 where it is negative, which 2 refuses
 abbrev pub durationOf : ℤ → ℕ
 durationOf (pos n) = n
 durationOf (negsuc n) = 0
@@ -101,7 +101,7 @@ creationTests ds =
     ∷ test 5 (sumFits (durationAt ds) (length ds))
     ∷ []
 
--- the answer by the papers' numbers, and the number that turned creation back; 0 where the record is made
+-- the answer by the papers' numbers, and the number that refused creation; 0 where the record is made
 abbrev pub creationNumbers : Creation → Answer
 creationNumbers Accepted = answered 0 []
 creationNumbers (Refused number) = refusedBy number

@@ -1,4 +1,4 @@
--- What turns a run back: the tests in their order, and what an accepted run may take for given.
+-- What refuses a run: the tests in their order, and what an accepted run may take for given.
 use mathlib.Core.Path.{_≡_}
 use mathlib.Core.Bool.{Bool, _&&_}
 use mathlib.Core.List.{List, [], _∷_, _++_}

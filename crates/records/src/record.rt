@@ -110,7 +110,7 @@ fn durations_of(durations: &[i32]) -> [u32; TASKS]
     out
 }
 
-// The number that turns creation back, or 0.
+// The number that refuses creation, or 0.
 fn creation_refusal(durations: &[i32]) -> u32
     ensures { λ r. ⌜ r ≡ refusal (creationTests (now (durations .entry))) ⌝ }
 {
@@ -139,7 +139,7 @@ fn zeros() -> Propagator
     }
 }
 
-// A record of the durations with their sum; or the record of zeros, with the number that turned them back.
+// A record of the durations with their sum; or the record of zeros, with the number that refused them.
 pub fn create(durations: &[i32]) -> Created
     ensures { λ r. ⌜ (r ≡ created (now (durations .entry))) × (creationNumber (r .answer) ≡ refusal (creationTests (now (durations .entry)))) ⌝ }
 {

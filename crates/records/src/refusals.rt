@@ -1,4 +1,4 @@
-// What turns a run back: the number of the first test that is broken, each tried over the whole input.
+// What refuses a run: the number of the first test that is broken, each tried over the whole input.
 use integers::limits::TASKS;
 ghost use mathlib.Core.Path.{_≡_};
 ghost use mathlib.Core.Bool.{_&&_};
@@ -54,7 +54,7 @@ pub fn ranges_fit(earliest: &[i32], latest: &[i32]) -> bool
     true
 }
 
-// The number that turns any call back for its record and its ranges, or 0: 20, 10, 3, 4.
+// The number that refuses any call for its record and its ranges, or 0: 20, 10, 3, 4.
 pub fn range_refusal(
     n: usize,
     durations: &[u32; TASKS],
@@ -85,7 +85,7 @@ pub fn range_refusal(
     0
 }
 
-// The number that turns a call on ranges back for its record, its ranges and their bars, or 0: 20, 10, 3, 4, 13.
+// The number that refuses a call on ranges for its record, its ranges and their bars, or 0: 20, 10, 3, 4, 13.
 pub fn input_refusal(
     n: usize,
     durations: &[u32; TASKS],
@@ -103,7 +103,7 @@ pub fn input_refusal(
     number
 }
 
-// The number that turns a run back, or 0: 20, 10, 3, 4, 13, 9.
+// The number that refuses a run, or 0: 20, 10, 3, 4, 13, 9.
 pub fn run_refusal(
     n: usize,
     durations: &[u32; TASKS],

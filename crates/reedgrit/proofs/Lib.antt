@@ -1,4 +1,2 @@
 pub mod Words
-pub mod Reading
-pub mod Asking
 pub mod PassedOn

@@ -1,11 +1,8 @@
 -- What the exported calls beside the run answer: the numbers of what the open calls of their names answer, which keep their contracts.
 use mathlib.Core.List.{List}
-use mathlib.Core.Path.{_≡_}
 use Prim.Native.Nat.{ℕ}
 use lib.IntN.{ℤ}
 use Rattle.records.specs.declared.record.Propagator.{Propagator}
-use Rattle.checker.specs.MirroredChecks.{CheckedMirrored}
-use Rattle.checker.specs.Verdicts.{verdictNumbers}
 use Rattle.charges.specs.Charging.{Charged}
 use Rattle.overload_test.specs.Numbers.{overloadNumbers}
 use Rattle.overload_test.specs.Tested.{OverloadTested}
@@ -25,24 +22,14 @@ use Rattle.promises.specs.PrecedencesLent.{PrecedencesLent}
 use Rattle.promises.specs.RanLent.{RanMirroredLent}
 use Rattle.barred_starts.specs.Bars.{allBarsFit}
 use Rattle.barred_starts.specs.Ranges.{earliests, latests}
-use Rattle.answers.specs.declared.call_answers.CheckAnswer.{CheckAnswer}
 use Rattle.answers.specs.declared.request_answers.MirroredAnswer.{MirroredAnswer}
 use Rattle.answers.specs.declared.request_answers.CountAnswer.{CountAnswer}
 use Rattle.answers.specs.declared.request_answers.ChangeAnswer.{ChangeAnswer}
 use Rattle.answers.specs.declared.request_answers.StartAnswer.{StartAnswer}
 use Rattle.answers.specs.declared.request_answers.BusiestAnswer.{BusiestAnswer}
 use Rattle.answers.specs.declared.request_answers.ChargesAnswer.{ChargesAnswer}
-use Rattle.answers.specs.Answers.{checkAnswer}
 use Rattle.answers.specs.RequestAnswers.{mirroredAnswer, countAnswer, changeAnswer, startAnswer, busiestAnswer, chargesAnswer}
-
--- a is made of the numbers of an answer of which P holds
-pub record NumbersOf {R A : Type 0} (numbers : R → A) (P : R → Type 0) (a : A) : Type 0 where
-  pub answer : R
-  pub are : a ≡ numbers answer
-  pub promised : P answer
-
-abbrev pub CheckedMirroredNumbers : List ℤ → List ℤ → List ℤ → CheckAnswer → Type 0
-CheckedMirroredNumbers ds premises consequent = NumbersOf (λ r. checkAnswer (verdictNumbers r)) (CheckedMirrored ds premises consequent)
+use Rattle.answers.specs.Answers.{NumbersOf}
 
 abbrev pub MirroredNumbers : Propagator → List Range → List ℤ → List ℤ → MirroredAnswer → List Range → List ℤ → List ℤ → Type 0
 MirroredNumbers before ranges posts atoms a ranges′ posts′ atoms′ = NumbersOf (λ r. mirroredAnswer (outcomeNumbers r)) (λ r. RanMirroredLent before ranges posts atoms r ranges′ posts′ atoms′) a

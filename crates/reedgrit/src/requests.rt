@@ -1,6 +1,5 @@
 // The exported calls beside the run and the check. Each is the open call of its name, with the answer's numbers for the answer; none has a `requires`.
 use answers::call_answers::CheckAnswer;
-use answers::call_answers::verdict_numbers;
 use answers::request_answers::BusiestAnswer;
 use answers::request_answers::ChangeAnswer;
 use answers::request_answers::ChargesAnswer;
@@ -17,7 +16,6 @@ use answers::request_answers::precedences_numbers;
 use answers::request_answers::reason_numbers;
 use answers::request_answers::start_numbers;
 use barred_starts::range::Range;
-use checker::checker::check_mirrored;
 use disjunctive::ranges::by_precedence::precedence_reason;
 use disjunctive::ranges::by_precedence::precedences;
 use disjunctive::ranges::of_fixed_schedules::busiest_stretch;
@@ -26,11 +24,13 @@ use disjunctive::ranges::of_fixed_schedules::free_start;
 use disjunctive::ranges::of_fixed_schedules::page;
 use disjunctive::ranges::overload_test;
 use disjunctive::ranges::run_mirrored;
+use questions::checks::checked_mirrored;
 use records::record::Propagator;
 use task_changes::lent::add;
 use task_changes::lent::remove;
 ghost use mathlib.Core.Path.{_≡_};
-ghost use Rattle.reedgrit.specs.Requests.{CheckedMirroredNumbers, MirroredNumbers, OverloadNumbers, AddedNumbers, RemovedNumbers, PageNumbers, ChargesNumbers, FreeStartNumbers, BusiestNumbers, PrecedencesNumbers, ReasonNumbers};
+ghost use Rattle.questions.specs.Checks.{CheckedMirroredNumbers};
+ghost use Rattle.reedgrit.specs.Requests.{MirroredNumbers, OverloadNumbers, AddedNumbers, RemovedNumbers, PageNumbers, ChargesNumbers, FreeStartNumbers, BusiestNumbers, PrecedencesNumbers, ReasonNumbers};
 
 // The version of these functions and structs.
 #[no_mangle]
@@ -49,7 +49,7 @@ pub extern "C" fn reedgrit_check_mirrored(
 ) -> CheckAnswer
     ensures { λ r. ⌜ CheckedMirroredNumbers (now (durations .entry)) (now (premises .entry)) (now (consequent .entry)) r ⌝ }
 {
-    verdict_numbers(check_mirrored(durations, premises, consequent))
+    checked_mirrored(durations, premises, consequent)
 }
 
 // The mirrored pass on the lent record and ranges.

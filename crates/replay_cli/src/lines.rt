@@ -1,5 +1,5 @@
 // Lines on their way out: each piece is written to standard output as it comes.
-use crate::parts::stretch;
+use crate::parts::bytes_of;
 use text::writing::put_count;
 use text::writing::put_number;
 
@@ -12,7 +12,7 @@ pub fn say(bytes: &[u8]) {
 pub fn say_whole(x: i32) {
     let mut text = [0u8; 11];
     let end = put_number(&mut text, 0, x);
-    say(stretch(&text, 0, end));
+    say(bytes_of(&text, 0, end));
 }
 
 // A space and a whole number.
@@ -26,7 +26,7 @@ pub fn say_count(n: usize) {
     let mut text = [0u8; 20];
     let end = put_count(&mut text, 0, n);
     say(b" ");
-    say(stretch(&text, 0, end));
+    say(bytes_of(&text, 0, end));
 }
 
 // The line of a word and a count.
@@ -48,7 +48,7 @@ pub fn say_error() {
     say(b"error\n");
 }
 
-// The number that turned a call back.
+// The number that refused a call.
 pub fn say_refused(number: u32) {
     say_counted(b"refused", number as usize);
 }

@@ -1,10 +1,10 @@
-// A line, taken apart: stretches of bytes, words, and lists of numbers.
+// A line, taken apart: parts of it, words, and lists of numbers.
 use text::reading::Reading;
 use text::reading::Word;
 use text::reading::is_space;
 use text::words::run_end;
 
-// Numbers of a line that are kept. A list of premises this long is turned back for its length.
+// Numbers of a line that are kept. A list of premises this long is refused for its length.
 pub const WORDS: usize = 4096;
 
 // Lists of a line, parted by semicolons.
@@ -18,8 +18,8 @@ struct Scan {
     word: Word,
 }
 
-// The bytes from `from` to `to`, or none where that is no stretch of the line.
-pub fn stretch(line: &[u8], from: usize, to: usize) -> &[u8] {
+// The bytes from `from` to `to`, or none where the line has no such part.
+pub fn bytes_of(line: &[u8], from: usize, to: usize) -> &[u8] {
     if from > to {
         return &line[0..0];
     }
@@ -48,7 +48,7 @@ pub fn number_at(numbers: &[i32], k: usize) -> i32 {
     0
 }
 
-// Whether two stretches have the same bytes.
+// Whether two parts have the same bytes.
 pub fn same(a: &[u8], b: &[u8]) -> bool {
     if a.len() != b.len() {
         return false;
@@ -66,13 +66,13 @@ pub fn same(a: &[u8], b: &[u8]) -> bool {
 // The first word of a line.
 pub fn first_word(line: &[u8]) -> &[u8] {
     let from = run_end(line, 0, true);
-    stretch(line, from, run_end(line, from, false))
+    bytes_of(line, from, run_end(line, from, false))
 }
 
 // What stands behind the first word.
 pub fn after_word(line: &[u8]) -> &[u8] {
     let from = run_end(line, 0, true);
-    stretch(line, run_end(line, from, false), line.len())
+    bytes_of(line, run_end(line, from, false), line.len())
 }
 
 // The numbers with one more, where there is a place for it.

@@ -5,7 +5,7 @@ use crate::states::place_of;
 use disjunctive::Range;
 use integers::limits::BARS;
 
-// Ranges of one command that are kept: more than any record has tasks, so that a call turns so many back for their count.
+// Ranges of one command that are kept: more than any record has tasks, so that a call refuses so many for their count.
 pub const RANGES: usize = 64;
 
 // The first `count` places have the ranges. `valid` is false where the command is not understood.

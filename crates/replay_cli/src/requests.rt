@@ -13,11 +13,11 @@ use crate::lines::say_counted;
 use crate::lines::say_error;
 use crate::lines::say_refused;
 use crate::lines::say_valued;
+use crate::parts::bytes_of;
 use crate::parts::list;
 use crate::parts::number_at;
 use crate::parts::same;
 use crate::parts::span;
-use crate::parts::stretch;
 use crate::ranges::RANGES;
 use crate::ranges::Ranges;
 use crate::ranges::ranges_of;
@@ -124,7 +124,7 @@ fn pages(record: Propagator, ranges: Ranges)
     let mut sheet = [0u8; PAGE];
     let answer = page(record, ranges, &mut sheet);
     match answer {
-        Page::Written(bytes) => say(stretch(&sheet, 0, bytes)),
+        Page::Written(bytes) => say(bytes_of(&sheet, 0, bytes)),
         Page::Refused(number) => say_refused(number),
     }
 }

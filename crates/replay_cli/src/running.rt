@@ -26,7 +26,7 @@ use post_words::posts::value_at;
 use post_words::posts::variable_at;
 ghost use Prim.Native.Nat.{_≤_};
 
-// `run`: its posts, its end, the earliest starts that it leaves and its leaf changes; or the number that turned it back.
+// `run`: its posts, its end, the earliest starts that it leaves and its leaf changes; or the number that refused it.
 pub fn runs(record: Propagator, ranges: Ranges)
     requires { ⌜ ranges .count ≤ 64 ⌝ }
 {

@@ -1,6 +1,6 @@
 // Standard input, read line by line; each line's answer goes to standard output.
 use crate::commands::Session;
-use crate::parts::stretch;
+use crate::parts::bytes_of;
 
 // The longest line that is read as one.
 const LINE: usize = 65536;
@@ -50,7 +50,7 @@ pub fn serve() {
     let mut lines = u64::MAX;
     while lines > 0 && more {
         let next = next_line(&mut line);
-        session = session.answer(stretch(&line, 0, next.held));
+        session = session.answer(bytes_of(&line, 0, next.held));
         more = next.more;
         lines -= 1;
     }

@@ -76,15 +76,15 @@ module _ (z : ℕ) (J : Tasks natural) (c : Chain z J) where
       omega (arith, upper, e .bounds (J .earliest j + J .duration j) (alone Ω j m), c .start j (m .small), c .lasts j (m .small))
 
   -- ---- the levels
-  module _ (o : ℕ) (first second : List ℕ) (rk : ByEarliest J (λ j. getD first j 0) (λ k. index first k)) (ord : ByCompletion J (λ t. getD second t 0) (λ k. index second k)) where
+  module _ (o : ℕ) (estOrder lctOrder : List ℕ) (rk : ByEarliest J (λ j. getD estOrder j 0) (λ k. index estOrder k)) (ord : ByCompletion J (λ t. getD lctOrder t 0) (λ k. index lctOrder k)) where
     abbrev n : ℕ
     n = J .count
 
     abbrev L : ℕ → ℕ
-    L t = getD second t 0
+    L t = getD lctOrder t 0
 
     abbrev Shows : List Leaf → TaskSet → TaskSet → Type 0
-    Shows = tree.Represents J proper first rk
+    Shows = tree.Represents J proper estOrder rk
 
     -- of two tasks the one with the larger number stands first in the second order
     later : (s t : ℕ) → s ≤ t → t < n → L t ≤ L s
@@ -92,15 +92,15 @@ module _ (z : ℕ) (J : Tasks natural) (c : Chain z J) where
         omega (arith, ord .sorted s t q r, c .single (L s) a, c .single (L t) b, c .lasts (L s) a, c .lasts (L t) b)
 
     differ : (s t : ℕ) → s < t → t < n → L s ≡ L t → ⊥
-    differ s t q r e = omega (arith, ord .back s (omega arith), ord .back t r, ap (index second) e)
+    differ s t q r e = omega (arith, ord .back s (omega arith), ord .back t r, ap (index lctOrder) e)
 
     -- so at level t it is that of task n − 1 − t
     candidate-is : (t : ℕ) → t < n → suc (t + L t) ≡ n
     candidate-is zero q =
         let k : ℕ = n - 1 in
         let r : k < n = omega arith in
-        omega (arith, later 0 (index second k) (omega arith) (ord .placed k r), ord .there k r, ord .task 0 q)
-    candidate-is (suc t) q = by (candidate-is t (omega arith)) (decLe (index second k) t)
+        omega (arith, later 0 (index lctOrder k) (omega arith) (ord .placed k r), ord .there k r, ord .task 0 q)
+    candidate-is (suc t) q = by (candidate-is t (omega arith)) (decLe (index lctOrder k) t)
       where
         k : ℕ
         k = suc (L (suc t))
@@ -108,16 +108,16 @@ module _ (z : ℕ) (J : Tasks natural) (c : Chain z J) where
         small : k < n
         small = omega (arith, later t (suc t) (omega arith) q, differ t (suc t) (omega arith) q, ord .task t (omega arith))
 
-        by : suc (t + L t) ≡ n → Dec (index second k ≤ t) → suc (suc t + L (suc t)) ≡ n
-        by before (yes r) = omega (arith, later (index second k) t r (omega arith), ord .there k small, later t (suc t) (omega arith) q, differ t (suc t) (omega arith) q)
-        by before (no r) = absurd (omega (arith, later (suc t) (index second k) (omega arith) (ord .placed k small), ord .there k small))
+        by : suc (t + L t) ≡ n → Dec (index lctOrder k ≤ t) → suc (suc t + L (suc t)) ≡ n
+        by before (yes r) = omega (arith, later (index lctOrder k) t r (omega arith), ord .there k small, later t (suc t) (omega arith) q, differ t (suc t) (omega arith) q)
+        by before (no r) = absurd (omega (arith, later (suc t) (index lctOrder k) (omega arith) (ord .placed k small), ord .there k small))
 
     -- f tasks are left behind the one of level t
     module _ (t f : ℕ) (left : suc (t + f) ≡ n) where
       candidate-f : L t ≡ f
       candidate-f = omega (arith, candidate-is t (omega arith))
 
-      lct-f : lct o J first second t ≡ z + 10 * suc f
+      lct-f : lct o J estOrder lctOrder t ≡ z + 10 * suc f
       lct-f = let q : L t < n = ord .task t (omega arith) in omega (arith, candidate-f, c .single (L t) q, c .lasts (L t) q)
 
       in-below : (k : ℕ) → In J (below (suc f)) k → k ≤ f
@@ -128,20 +128,20 @@ module _ (z : ℕ) (J : Tasks natural) (c : Chain z J) where
 
       module _ (ls : List Leaf) (Λ : TaskSet) (s : Shows ls (below (suc f)) Λ) where
         -- ect(Θ) is lct, so there is no overload;
-        ect-f : rootEct J first ls ≡ z + 10 * suc f
-        ect-f = ect-last (below (suc f)) f (rootEct J first ls) last-in in-below (tree.ect-of J proper first rk ls (below (suc f)) Λ s (f, last-in))
+        ect-f : rootEct J estOrder ls ≡ z + 10 * suc f
+        ect-f = ect-last (below (suc f)) f (rootEct J estOrder ls) last-in in-below (tree.ect-of J proper estOrder rk ls (below (suc f)) Λ s (f, last-in))
 
-        quiet : ltb (lct o J first second t) (rootEct J first ls) ≡ false
-        quiet = le-ltb (lct o J first second t) (rootEct J first ls) (omega (arith, lct-f, ect-f))
+        quiet : ltb (lct o J estOrder lctOrder t) (rootEct J estOrder ls) ≡ false
+        quiet = le-ltb (lct o J estOrder lctOrder t) (rootEct J estOrder ls) (omega (arith, lct-f, ect-f))
 
       -- where Λ is empty, the inner loop ends;
       module _ (ls : List Leaf) (s : Shows ls (below (suc f)) nothing) where
-        bar-f : tree.AtMostOne J proper first rk ls (below (suc f)) nothing s (rootEctBar J first ls) → rootEctBar J first ls ≡ z + 10 * suc f
-        bar-f (inl e) = ect-last (below (suc f)) f (rootEctBar J first ls) last-in in-below e
+        bar-f : tree.AtMostOne J proper estOrder rk ls (below (suc f)) nothing s (rootEctBar J estOrder ls) → rootEctBar J estOrder ls ≡ z + 10 * suc f
+        bar-f (inl e) = ect-last (below (suc f)) f (rootEctBar J estOrder ls) last-in in-below e
         bar-f (inr e) = clash (e .1 .mem) refl
 
-        ends : ltb (lct o J first second t) (rootEctBar J first ls) ≡ false
-        ends = le-ltb (lct o J first second t) (rootEctBar J first ls) (omega (arith, lct-f, bar-f (tree.bar-of J proper first rk ls (below (suc f)) nothing s (inl (f, last-in)) .holds)))
+        ends : ltb (lct o J estOrder lctOrder t) (rootEctBar J estOrder ls) ≡ false
+        ends = le-ltb (lct o J estOrder lctOrder t) (rootEctBar J estOrder ls) (omega (arith, lct-f, bar-f (tree.bar-of J proper estOrder rk ls (below (suc f)) nothing s (inl (f, last-in)) .holds)))
 
       -- where it is the task behind these, that task passes, is found, and is not raised
       module _ (small : suc f < n) (ls : List Leaf) (s : Shows ls (below (suc f)) (nothing with suc f)) where
@@ -152,43 +152,43 @@ module _ (z : ℕ) (J : Tasks natural) (c : Chain z J) where
         joint v = ect-last (below (suc f) with suc f) (suc f) v (record { small = small; mem = with-new (below (suc f)) (suc f) })
             (λ k h. elim (with-in (below (suc f)) (suc f) k (h .mem)) [ inl e ↦ omega (arith, e) | inr e ↦ omega (arith, ltb-true k (suc f) e) ])
 
-        bar-passes : z + 10 * suc (suc f) ≤ rootEctBar J first ls
+        bar-passes : z + 10 * suc (suc f) ≤ rootEctBar J estOrder ls
         bar-passes =
             let (v, e) = ect-some J (below (suc f) with suc f) (suc f, record { small = small; mem = with-new (below (suc f)) (suc f) }) in
-            omega (arith, joint v e, tree.bar-of J proper first rk ls (below (suc f)) (nothing with suc f) s (inl (f, last-in)) .bounds v (inr (suc f, record { small = small; mem = with-new nothing (suc f) }, e)))
+            omega (arith, joint v e, tree.bar-of J proper estOrder rk ls (below (suc f)) (nothing with suc f) s (inl (f, last-in)) .bounds v (inr (suc f, record { small = small; mem = with-new nothing (suc f) }, e)))
 
-        over : ltb (lct o J first second t) (rootEctBar J first ls) ≡ true
-        over = lt-ltb (lct o J first second t) (rootEctBar J first ls) (omega (arith, lct-f, bar-passes))
+        over : ltb (lct o J estOrder lctOrder t) (rootEctBar J estOrder ls) ≡ true
+        over = lt-ltb (lct o J estOrder lctOrder t) (rootEctBar J estOrder ls) (omega (arith, lct-f, bar-passes))
 
-        found : (x : ℕ) → responsible J first ls ≡ some x → getD first x 0 ≡ suc f
-        found x w = only (getD first x 0) (tree.one-found J proper first rk ls (below (suc f)) (nothing with suc f) s x w .gray .mem)
+        found : (x : ℕ) → responsible J estOrder ls ≡ some x → getD estOrder x 0 ≡ suc f
+        found x w = only (getD estOrder x 0) (tree.one-found J proper estOrder rk ls (below (suc f)) (nothing with suc f) s x w .gray .mem)
 
-        someone : (x : ℕ) × (responsible J first ls ≡ some x)
-        someone = elim (opt (responsible J first ls)) [
-          | inl w ↦ absurd (omega (arith, tree.none-found J proper first rk ls (below (suc f)) (nothing with suc f) s w, bar-passes, ect-f ls (nothing with suc f) s))
+        someone : (x : ℕ) × (responsible J estOrder ls ≡ some x)
+        someone = elim (opt (responsible J estOrder ls)) [
+          | inl w ↦ absurd (omega (arith, tree.none-found J proper estOrder rk ls (below (suc f)) (nothing with suc f) s w, bar-passes, ect-f ls (nothing with suc f) s))
           | inr w ↦ w
         ]
 
-        stays : (x : ℕ) → responsible J first ls ≡ some x → ltb (J .earliest (getD first x 0)) (rootEct J first ls) ≡ false
-        stays x w = le-ltb (J .earliest (getD first x 0)) (rootEct J first ls) (omega (arith, ap (J .earliest) (found x w), c .start (suc f) small, ect-f ls (nothing with suc f) s))
+        stays : (x : ℕ) → responsible J estOrder ls ≡ some x → ltb (J .earliest (getD estOrder x 0)) (rootEct J estOrder ls) ≡ false
+        stays x w = le-ltb (J .earliest (getD estOrder x 0)) (rootEct J estOrder ls) (omega (arith, ap (J .earliest) (found x w), c .start (suc f) small, ect-f ls (nothing with suc f) s))
 
         -- it leaves Λ
-        left-alone : (x : ℕ) → responsible J first ls ≡ some x → Shows (set ls x empty) (below (suc f)) nothing
+        left-alone : (x : ℕ) → responsible J estOrder ls ≡ some x → Shows (set ls x empty) (below (suc f)) nothing
         left-alone x w = subst (λ (y : ℕ). Shows (set ls y empty) (below (suc f)) nothing) at-x
-            (tree.recoloured J proper first rk ls (below (suc f)) (nothing with suc f) (below (suc f)) nothing s (suc f) small empty (le-ltb (suc f) (suc f) (omega arith)) refl
+            (tree.recoloured J proper estOrder rk ls (below (suc f)) (nothing with suc f) (below (suc f)) nothing s (suc f) small empty (le-ltb (suc f) (suc f) (omega arith)) refl
             (λ j ne. (refl, sym (with-other j ne))))
           where
-            at-x : index first (suc f) ≡ x
-            at-x = ap (index first) (sym (found x w)) ∙ rk .back x (tree.one-found J proper first rk ls (below (suc f)) (nothing with suc f) s x w .small)
+            at-x : index estOrder (suc f) ≡ x
+            at-x = ap (index estOrder) (sym (found x w)) ∙ rk .back x (tree.one-found J proper estOrder rk ls (below (suc f)) (nothing with suc f) s x w .small)
 
             with-other : (j : ℕ) → (j ≡ suc f → ⊥) → (nothing with suc f) j ≡ false
             with-other j ne = rw (ne-eqb j (suc f) ne)
 
     -- ---- the run
     -- the last task of Θ goes to Λ
-    moved : (f : ℕ) (ls : List Leaf) → suc f < n → Shows ls (below (suc (suc f))) nothing → Shows (set ls (index first (suc f)) gray) (below (suc f)) (nothing with suc f)
+    moved : (f : ℕ) (ls : List Leaf) → suc f < n → Shows ls (below (suc (suc f))) nothing → Shows (set ls (index estOrder (suc f)) gray) (below (suc f)) (nothing with suc f)
     moved f ls small s =
-        tree.recoloured J proper first rk ls (below (suc (suc f))) nothing (below (suc f)) (nothing with suc f) s (suc f) small gray (le-ltb (suc f) (suc f) (omega arith)) (with-new nothing (suc f))
+        tree.recoloured J proper estOrder rk ls (below (suc (suc f))) nothing (below (suc f)) (nothing with suc f) s (suc f) small gray (le-ltb (suc f) (suc f) (omega arith)) (with-new nothing (suc f))
         (λ j ne. (fewer j ne, alone-in j ne))
       where
         fewer : (j : ℕ) → (j ≡ suc f → ⊥) → below (suc f) j ≡ below (suc (suc f)) j
@@ -203,30 +203,30 @@ module _ (z : ℕ) (J : Tasks natural) (c : Chain z J) where
     -- a level: the task goes to Λ and leaves it, and nothing else changes
     module _ (t f : ℕ) (st : State) (left : suc (t + suc f) ≡ n) (s : Shows (st .leaves) (below (suc (suc f))) nothing) where
       abbrev mid : State
-      mid = grayed st (index first (L t))
+      mid = grayed st (index estOrder (L t))
 
       mid-shows : Shows (mid .leaves) (below (suc f)) (nothing with suc f)
-      mid-shows = subst (λ (k : ℕ). Shows (set (st .leaves) (index first k) gray) (below (suc f)) (nothing with suc f)) (sym (candidate-f t (suc f) left)) (moved f (st .leaves) (omega arith) s)
+      mid-shows = subst (λ (k : ℕ). Shows (set (st .leaves) (index estOrder k) gray) (below (suc f)) (nothing with suc f)) (sym (candidate-f t (suc f) left)) (moved f (st .leaves) (omega arith) s)
 
       next : suc (suc t + f) ≡ n
       next = omega arith
 
-      turned : (x : ℕ) → responsible J first (mid .leaves) ≡ some x → inner o J first second n (suc t) mid ≡ on (dropped mid x)
-      turned x w = subst (λ (m : ℕ). inner o J first second m (suc t) mid ≡ on (dropped mid x)) two-more
-          (inner-pass o J first second (suc (t + f)) (suc t) mid x (over (suc t) f next (omega arith) (mid .leaves) mid-shows) w (stays (suc t) f next (omega arith) (mid .leaves) mid-shows x w)
-          ∙ inner-off o J first second (t + f) (suc t) (dropped mid x) (ends (suc t) f next (set (mid .leaves) x empty) (left-alone (suc t) f next (omega arith) (mid .leaves) mid-shows x w)))
+      turned : (x : ℕ) → responsible J estOrder (mid .leaves) ≡ some x → inner o J estOrder lctOrder n (suc t) mid ≡ on (dropped mid x)
+      turned x w = subst (λ (m : ℕ). inner o J estOrder lctOrder m (suc t) mid ≡ on (dropped mid x)) two-more
+          (inner-pass o J estOrder lctOrder (suc (t + f)) (suc t) mid x (over (suc t) f next (omega arith) (mid .leaves) mid-shows) w (stays (suc t) f next (omega arith) (mid .leaves) mid-shows x w)
+          ∙ inner-off o J estOrder lctOrder (t + f) (suc t) (dropped mid x) (ends (suc t) f next (set (mid .leaves) x empty) (left-alone (suc t) f next (omega arith) (mid .leaves) mid-shows x w)))
         where
           two-more : suc (suc (t + f)) ≡ n
           two-more = omega arith
 
-      level : (x : ℕ) → responsible J first (mid .leaves) ≡ some x → outer o J first second (suc f) t st ≡ outer o J first second f (suc t) (dropped mid x)
-      level x w = outer-on o J first second f t st (dropped mid x) (quiet t (suc f) left (st .leaves) nothing s) (turned x w)
+      level : (x : ℕ) → responsible J estOrder (mid .leaves) ≡ some x → outer o J estOrder lctOrder (suc f) t st ≡ outer o J estOrder lctOrder f (suc t) (dropped mid x)
+      level x w = outer-on o J estOrder lctOrder f t st (dropped mid x) (quiet t (suc f) left (st .leaves) nothing s) (turned x w)
 
     abbrev left-by : State → ℕ → Trace
     left-by st k = record { posts = st .posts; end = done; starts = map (instant o) (st .starts); changes = k }
 
-    levels : (f t : ℕ) (st : State) → suc (t + f) ≡ n → Shows (st .leaves) (below (suc f)) nothing → outer o J first second f t st ≡ left-by st (st .changes + 3 * f)
-    levels zero t st left s = outer-end o J first second 0 t st ∙ ap (left-by st) (omega arith)
+    levels : (f t : ℕ) (st : State) → suc (t + f) ≡ n → Shows (st .leaves) (below (suc f)) nothing → outer o J estOrder lctOrder f t st ≡ left-by st (st .changes + 3 * f)
+    levels zero t st left s = outer-end o J estOrder lctOrder 0 t st ∙ ap (left-by st) (omega arith)
     levels (suc f) t st left s =
         let (x, w) = someone (suc t) f (next t f st left s) (omega arith) (mid t f st left s .leaves) (mid-shows t f st left s) in
         level t f st left s x w
@@ -236,13 +236,13 @@ module _ (z : ℕ) (J : Tasks natural) (c : Chain z J) where
     all-shown : Shows (replicate n white) (below n) nothing
     all-shown = record { size = length-replicate n white; whites = λ k q. ap inTheta (leaf k q) ∙ sym (lt-ltb k n q); grays = λ k q. ap inLambda (leaf k q) }
       where
-        leaf : (k : ℕ) → k < n → getD (replicate n white) (index first k) empty ≡ white
-        leaf k q = getD-replicate n (index first k) white empty (rk .placed k q)
+        leaf : (k : ℕ) → k < n → getD (replicate n white) (index estOrder k) empty ≡ white
+        leaf k q = getD-replicate n (index estOrder k) white empty (rk .placed k q)
 
-    chain-run : 1 ≤ n → run o J first second ≡ left-by (allWhite J) (n + 3 * (n - 1))
+    chain-run : 1 ≤ n → run o J estOrder lctOrder ≡ left-by (allWhite J) (n + 3 * (n - 1))
     chain-run one =
         let e : suc (n - 1) ≡ n = omega arith in
-        run-is o J first second ∙ levels (n - 1) 0 (allWhite J) (omega arith) (subst (λ (m : ℕ). Shows (replicate n white) (below m) nothing) (sym e) all-shown)
+        run-is o J estOrder lctOrder ∙ levels (n - 1) 0 (allWhite J) (omega arith) (subst (λ (m : ℕ). Shows (replicate n white) (below m) nothing) (sym e) all-shown)
 
 -- ---- the costliest tasks
 module _ (n : ℕ) where

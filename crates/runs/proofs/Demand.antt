@@ -28,7 +28,7 @@ use Rattle.runs.specs.Demand.{Right, PostRight, OverloadRight, post}
 use Rattle.runs.proofs.Steps.{OutOk, run-ok}
 use Rattle.runs.proofs.Good.{all-right}
 
--- What no number turns back: from 1 to TASKS tasks, durations of 1 or more with a sum of at most DURATIONS, starts within ±limit, each earliest at most its latest.
+-- What no number refuses: from 1 to TASKS tasks, durations of 1 or more with a sum of at most DURATIONS, starts within ±limit, each earliest at most its latest.
 -- The caller's limit is START; mirrored, such starts are within MIRRORED.
 pub record Accepted (limit : ℕ) (ds : List ℕ) (es ls : List ℤ) : Type 0 where
   pub some : 1 ≤ length ds
@@ -49,13 +49,13 @@ is-done emptied = inr (λ z. let y : _≡_ {A = ℕ} 0 1 = cc in omega arith)
 
 -- of any clock's zero that is deep enough
 module _ (o : ℕ) (Z : Tasks whole) (okz : Proper Z) (deepz : (k : ℕ) → k < Z .count → Above o (Z .earliest k)) (one : 1 ≤ Z .count)
-    (room : (k : ℕ) → k < Z .count → processing (moments o Z) (λ _. true) ≤ moment o (Z .earliest k)) (first second : List ℕ)
-    (rk : ByEarliest (moments o Z) (λ j. getD first j 0) (λ k. index first k)) (ord : ByCompletion (moments o Z) (λ t. getD second t 0) (λ k. index second k)) where
+    (room : (k : ℕ) → k < Z .count → processing (moments o Z) (λ _. true) ≤ moment o (Z .earliest k)) (estOrder lctOrder : List ℕ)
+    (rk : ByEarliest (moments o Z) (λ j. getD estOrder j 0) (λ k. index estOrder k)) (ord : ByCompletion (moments o Z) (λ t. getD lctOrder t 0) (λ k. index lctOrder k)) where
   abbrev tr : Trace
-  tr = run o (moments o Z) first second
+  tr = run o (moments o Z) estOrder lctOrder
 
-  out : OutOk o (moments o Z) (sound o Z okz deepz) first second rk ord (PostRight Z) (OverloadRight Z) (all-right o Z okz deepz first second rk ord room) tr
-  out = run-ok o (moments o Z) (sound o Z okz deepz) first second rk ord (PostRight Z) (OverloadRight Z) (all-right o Z okz deepz first second rk ord room) one
+  out : OutOk o (moments o Z) (sound o Z okz deepz) estOrder lctOrder rk ord (PostRight Z) (OverloadRight Z) (all-right o Z okz deepz estOrder lctOrder rk ord room) tr
+  out = run-ok o (moments o Z) (sound o Z okz deepz) estOrder lctOrder rk ord (PostRight Z) (OverloadRight Z) (all-right o Z okz deepz estOrder lctOrder rk ord room) one
 
   bound-above : (j : ℕ) → j < length (tr .posts) → Above o (post tr j .bound)
   bound-above j q = let p : PostRight Z (post tr j) = out .goods j q in

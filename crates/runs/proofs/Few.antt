@@ -33,116 +33,116 @@ abbrev postsOf : Turn → List Post
 postsOf (on st) = st .posts
 postsOf (stop st) = st .posts
 
-module _ (o : ℕ) (J : Tasks natural) (ok : Proper J) (first second : List ℕ) (rk : ByEarliest J (λ j. getD first j 0) (λ k. index first k)) (ord : ByCompletion J (λ t. getD second t 0) (λ k. index second k)) where
+module _ (o : ℕ) (J : Tasks natural) (ok : Proper J) (estOrder lctOrder : List ℕ) (rk : ByEarliest J (λ j. getD estOrder j 0) (λ k. index estOrder k)) (ord : ByCompletion J (λ t. getD lctOrder t 0) (λ k. index lctOrder k)) where
   abbrev n : ℕ
   n = J .count
 
   abbrev Short : Post → Type 0
-  Short = room.Short o J ok first second rk ord
+  Short = room.Short o J ok estOrder lctOrder rk ord
 
   abbrev ShortEnd : List Atom → Type 0
-  ShortEnd = room.ShortEnd o J ok first second rk ord
+  ShortEnd = room.ShortEnd o J ok estOrder lctOrder rk ord
 
-  abbrev short : steps.Measure o J ok first second rk ord Short ShortEnd
-  short = room.short o J ok first second rk ord
+  abbrev short : steps.Measure o J ok estOrder lctOrder rk ord Short ShortEnd
+  short = room.short o J ok estOrder lctOrder rk ord
 
   abbrev Inv : ℕ → State → Type 0
-  Inv = steps.Inv o J ok first second rk ord Short ShortEnd short
+  Inv = steps.Inv o J ok estOrder lctOrder rk ord Short ShortEnd short
 
   abbrev Closed : ℕ → State → Type 0
-  Closed = steps.Closed o J ok first second rk ord Short ShortEnd short
+  Closed = steps.Closed o J ok estOrder lctOrder rk ord Short ShortEnd short
 
   abbrev T : ℕ → ℕ
-  T x = getD first x 0
+  T x = getD estOrder x 0
 
   abbrev Over : ℕ → State → Bool → Type 0
-  Over t st v = ltb (lct o J first second t) (rootEctBar J first (st .leaves)) ≡ v
+  Over t st v = ltb (lct o J estOrder lctOrder t) (rootEctBar J estOrder (st .leaves)) ≡ v
 
   -- a task was found at leaf x
   module _ (t : ℕ) (st : State) (v : Inv t st) (x : ℕ) where
     abbrev Found : Type 0
-    Found = steps.Found o J ok first second rk ord (st .leaves) (steps.Th o J ok first second rk ord t) (steps.lam o J ok first second rk ord Short ShortEnd short st) (steps.shape o J ok first second rk ord Short ShortEnd short t st v) x
+    Found = steps.Found o J ok estOrder lctOrder rk ord (st .leaves) (steps.Th o J ok estOrder lctOrder rk ord t) (steps.lam o J ok estOrder lctOrder rk ord Short ShortEnd short st) (steps.shape o J ok estOrder lctOrder rk ord Short ShortEnd short t st v) x
 
-    found : responsible J first (st .leaves) ≡ some x → Found
-    found = tree.one-found J ok first rk (st .leaves) (steps.Th o J ok first second rk ord t) (steps.lam o J ok first second rk ord Short ShortEnd short st) (steps.shape o J ok first second rk ord Short ShortEnd short t st v) x
+    found : responsible J estOrder (st .leaves) ≡ some x → Found
+    found = tree.one-found J ok estOrder rk (st .leaves) (steps.Th o J ok estOrder lctOrder rk ord t) (steps.lam o J ok estOrder lctOrder rk ord Short ShortEnd short st) (steps.shape o J ok estOrder lctOrder rk ord Short ShortEnd short t st v) x
 
     one-more : Found → (p : Post) → length (st .posts ++ (p ∷ [])) ≤ t
-    one-more g p = omega (arith, steps.length-snoc (st .posts) p, room.posts-fewer o J ok first second rk ord t st v (T x) (g .gray))
+    one-more g p = omega (arith, steps.length-snoc (st .posts) p, room.posts-fewer o J ok estOrder lctOrder rk ord t st v (T x) (g .gray))
 
   -- they are of tasks that come before place t
-  pub inner-few : (f t : ℕ) (st : State) → t < n → Inv t st → length (postsOf (inner o J first second f t st)) ≤ t
-  inner-few zero t st small v = subst (λ (u : Turn). length (postsOf u) ≤ t) (sym (inner-end o J first second 0 t st)) (room.posts-few o J ok first second rk ord t st v)
-  inner-few (suc f) t st small v = by (λ st′. inner-few f t st′ small) (bool (ltb (lct o J first second t) (rootEctBar J first (st .leaves)))) (opt (responsible J first (st .leaves)))
+  pub inner-few : (f t : ℕ) (st : State) → t < n → Inv t st → length (postsOf (inner o J estOrder lctOrder f t st)) ≤ t
+  inner-few zero t st small v = subst (λ (u : Turn). length (postsOf u) ≤ t) (sym (inner-end o J estOrder lctOrder 0 t st)) (room.posts-few o J ok estOrder lctOrder rk ord t st v)
+  inner-few (suc f) t st small v = by (λ st′. inner-few f t st′ small) (bool (ltb (lct o J estOrder lctOrder t) (rootEctBar J estOrder (st .leaves)))) (opt (responsible J estOrder (st .leaves)))
     where
       Few : Turn → Type 0
       Few u = length (postsOf u) ≤ t
 
       IH : Type 0
-      IH = (st′ : State) → Inv t st′ → Few (inner o J first second f t st′)
+      IH = (st′ : State) → Inv t st′ → Few (inner o J estOrder lctOrder f t st′)
 
       b : ℕ
-      b = rootEct J first (st .leaves)
+      b = rootEct J estOrder (st .leaves)
 
-      took : IH → (x : ℕ) → Over t st true → responsible J first (st .leaves) ≡ some x → Found t st v x → Few (inner o J first second (suc f) t st)
+      took : IH → (x : ℕ) → Over t st true → responsible J estOrder (st .leaves) ≡ some x → Found t st v x → Few (inner o J estOrder lctOrder (suc f) t st)
       took ih x z w g = elim (bool (ltb (J .earliest (T x)) b)) [
-        | inr y ↦ subst Few (sym (inner-pass o J first second f t st x z w y))
-            (ih (dropped st x) (steps.pass-ok o J ok first second rk ord Short ShortEnd short t st small v x g (ltb-true _ _ z) (ltb-false _ _ y)))
+        | inr y ↦ subst Few (sym (inner-pass o J estOrder lctOrder f t st x z w y))
+            (ih (dropped st x) (steps.pass-ok o J ok estOrder lctOrder rk ord Short ShortEnd short t st small v x g (ltb-true _ _ z) (ltb-false _ _ y)))
         | inl y ↦ elim (bool (ltb (J .latest (T x)) b)) [
-          | inl a ↦ subst Few (sym (inner-stop o J first second f t st x z w y a)) (one-more t st v x g _)
-          | inr a ↦ subst Few (sym (inner-raise o J first second f t st x z w y a))
-              (ih (dropped (raised (posted o J first second st (T x) b t) (T x) b) x) (steps.raise-ok o J ok first second rk ord Short ShortEnd short t st small v x g (ltb-true _ _ z) (ltb-true _ _ y) (ltb-false _ _ a)))
+          | inl a ↦ subst Few (sym (inner-stop o J estOrder lctOrder f t st x z w y a)) (one-more t st v x g _)
+          | inr a ↦ subst Few (sym (inner-raise o J estOrder lctOrder f t st x z w y a))
+              (ih (dropped (raised (posted o J estOrder lctOrder st (T x) b t) (T x) b) x) (steps.raise-ok o J ok estOrder lctOrder rk ord Short ShortEnd short t st small v x g (ltb-true _ _ z) (ltb-true _ _ y) (ltb-false _ _ a)))
         ]
       ]
 
       so-far : Few (on st)
-      so-far = room.posts-few o J ok first second rk ord t st v
+      so-far = room.posts-few o J ok estOrder lctOrder rk ord t st v
 
-      by : IH → (Over t st true) ⊎ (Over t st false) → (responsible J first (st .leaves) ≡ none) ⊎ ((x : ℕ) × (responsible J first (st .leaves) ≡ some x)) → Few (inner o J first second (suc f) t st)
-      by ih (inr z) w = subst Few (sym (inner-off o J first second f t st z)) so-far
-      by ih (inl z) (inl w) = subst Few (sym (inner-none o J first second f t st z w)) so-far
+      by : IH → (Over t st true) ⊎ (Over t st false) → (responsible J estOrder (st .leaves) ≡ none) ⊎ ((x : ℕ) × (responsible J estOrder (st .leaves) ≡ some x)) → Few (inner o J estOrder lctOrder (suc f) t st)
+      by ih (inr z) w = subst Few (sym (inner-off o J estOrder lctOrder f t st z)) so-far
+      by ih (inl z) (inl w) = subst Few (sym (inner-none o J estOrder lctOrder f t st z w)) so-far
       by ih (inl z) (inr w) = took ih (w .0) z (w .1) (found t st v (w .0) (w .1))
 
-  pub outer-few : (f t : ℕ) (st : State) → suc (t + f) ≡ n → Closed t st → suc (length (outer o J first second f t st .posts)) ≤ n
-  outer-few zero t st end c = subst (λ (r : Trace). suc (length (r .posts)) ≤ n) (sym (outer-end o J first second 0 t st)) (omega (arith, room.posts-few o J ok first second rk ord t st (c .inv)))
-  outer-few (suc f) t st end c = by (λ st′. outer-few f (suc t) st′ (omega arith)) (bool (ltb (lct o J first second t) (rootEct J first (st .leaves))))
+  pub outer-few : (f t : ℕ) (st : State) → suc (t + f) ≡ n → Closed t st → suc (length (outer o J estOrder lctOrder f t st .posts)) ≤ n
+  outer-few zero t st end c = subst (λ (r : Trace). suc (length (r .posts)) ≤ n) (sym (outer-end o J estOrder lctOrder 0 t st)) (omega (arith, room.posts-few o J ok estOrder lctOrder rk ord t st (c .inv)))
+  outer-few (suc f) t st end c = by (λ st′. outer-few f (suc t) st′ (omega arith)) (bool (ltb (lct o J estOrder lctOrder t) (rootEct J estOrder (st .leaves))))
     where
       Few : Trace → Type 0
       Few r = suc (length (r .posts)) ≤ n
 
       IH : Type 0
-      IH = (st′ : State) → Closed (suc t) st′ → Few (outer o J first second f (suc t) st′)
+      IH = (st′ : State) → Closed (suc t) st′ → Few (outer o J estOrder lctOrder f (suc t) st′)
 
       next : State
-      next = grayed st (index first (getD second t 0))
+      next = grayed st (index estOrder (getD lctOrder t 0))
 
-      go : IH → ltb (lct o J first second t) (rootEct J first (st .leaves)) ≡ false → Inv (suc t) next → Few (outer o J first second (suc f) t st)
-      go ih z v = elim (turn (inner o J first second n (suc t) next)) [
-        | inl w ↦ subst Few (sym (outer-on o J first second f t st (w .0) z (w .1)))
-            (ih (w .0) (subst (steps.TurnOk o J ok first second rk ord Short ShortEnd short (suc t)) (w .1)
-            (steps.inner-ok o J ok first second rk ord Short ShortEnd short n (suc t) next (omega arith) v (card-most J (steps.lam o J ok first second rk ord Short ShortEnd short next)))))
-        | inr w ↦ subst Few (sym (outer-stop o J first second f t st (w .0) z (w .1)))
+      go : IH → ltb (lct o J estOrder lctOrder t) (rootEct J estOrder (st .leaves)) ≡ false → Inv (suc t) next → Few (outer o J estOrder lctOrder (suc f) t st)
+      go ih z v = elim (turn (inner o J estOrder lctOrder n (suc t) next)) [
+        | inl w ↦ subst Few (sym (outer-on o J estOrder lctOrder f t st (w .0) z (w .1)))
+            (ih (w .0) (subst (steps.TurnOk o J ok estOrder lctOrder rk ord Short ShortEnd short (suc t)) (w .1)
+            (steps.inner-ok o J ok estOrder lctOrder rk ord Short ShortEnd short n (suc t) next (omega arith) v (card-most J (steps.lam o J ok estOrder lctOrder rk ord Short ShortEnd short next)))))
+        | inr w ↦ subst Few (sym (outer-stop o J estOrder lctOrder f t st (w .0) z (w .1)))
             (omega (arith, subst (λ (u : Turn). length (postsOf u) ≤ suc t) (w .1) (inner-few n (suc t) next (omega arith) v)))
       ]
 
-      by : IH → (ltb (lct o J first second t) (rootEct J first (st .leaves)) ≡ true) ⊎ (ltb (lct o J first second t) (rootEct J first (st .leaves)) ≡ false) → Few (outer o J first second (suc f) t st)
-      by ih (inl z) = subst Few (sym (outer-over o J first second f t st z)) (omega (arith, room.posts-few o J ok first second rk ord t st (c .inv)))
-      by ih (inr z) = go ih z (steps.gray-ok o J ok first second rk ord Short ShortEnd short t st (omega arith) c
-          (omega (arith, ltb-false (lct o J first second t) (rootEct J first (st .leaves)) z, tree.ect-is J ok first rk (st .leaves) (steps.Th o J ok first second rk ord t) (steps.lam o J ok first second rk ord Short ShortEnd short st) (steps.shape o J ok first second rk ord Short ShortEnd short t st (c .inv)))))
+      by : IH → (ltb (lct o J estOrder lctOrder t) (rootEct J estOrder (st .leaves)) ≡ true) ⊎ (ltb (lct o J estOrder lctOrder t) (rootEct J estOrder (st .leaves)) ≡ false) → Few (outer o J estOrder lctOrder (suc f) t st)
+      by ih (inl z) = subst Few (sym (outer-over o J estOrder lctOrder f t st z)) (omega (arith, room.posts-few o J ok estOrder lctOrder rk ord t st (c .inv)))
+      by ih (inr z) = go ih z (steps.gray-ok o J ok estOrder lctOrder rk ord Short ShortEnd short t st (omega arith) c
+          (omega (arith, ltb-false (lct o J estOrder lctOrder t) (rootEct J estOrder (st .leaves)) z, tree.ect-is J ok estOrder rk (st .leaves) (steps.Th o J ok estOrder lctOrder rk ord t) (steps.lam o J ok estOrder lctOrder rk ord Short ShortEnd short st) (steps.shape o J ok estOrder lctOrder rk ord Short ShortEnd short t st (c .inv)))))
 
   module _ (one : 1 ≤ n) where
     abbrev tr : Trace
-    tr = run o J first second
+    tr = run o J estOrder lctOrder
 
     pub run-few : suc (length (tr .posts)) ≤ n
-    run-few = subst (λ (r : Trace). suc (length (r .posts)) ≤ n) (sym (run-is o J first second))
-        (outer-few (n - 1) 0 (steps.st₀ o J ok first second rk ord Short ShortEnd short) (omega arith) (steps.first-closed o J ok first second rk ord Short ShortEnd short))
+    run-few = subst (λ (r : Trace). suc (length (r .posts)) ≤ n) (sym (run-is o J estOrder lctOrder))
+        (outer-few (n - 1) 0 (steps.st₀ o J ok estOrder lctOrder rk ord Short ShortEnd short) (omega arith) (steps.first-closed o J ok estOrder lctOrder rk ord Short ShortEnd short))
 
     -- in words
     pub posts-fit : length (postWords 0 (tr .posts)) ≤ 4 * n
     posts-fit = omega (arith, posts-length (tr .posts) 0, run-few)
 
-    out : steps.OutOk o J ok first second rk ord Short ShortEnd short tr
-    out = steps.run-ok o J ok first second rk ord Short ShortEnd short one
+    out : steps.OutOk o J ok estOrder lctOrder rk ord Short ShortEnd short tr
+    out = steps.run-ok o J ok estOrder lctOrder rk ord Short ShortEnd short one
 
     end-short : (e : End) → tr .end ≡ e → length (endReason e) ≤ 2 * n
     end-short done z = omega arith
@@ -154,7 +154,7 @@ module _ (o : ℕ) (J : Tasks natural) (ok : Proper J) (first second : List ℕ)
       arith,
       atoms-length (reasons (tr .posts) ++ endReason (tr .end)),
       length-append (reasons (tr .posts)) (endReason (tr .end)),
-      room.reasons-short o J ok first second rk ord (tr .posts) (out .goods),
+      room.reasons-short o J ok estOrder lctOrder rk ord (tr .posts) (out .goods),
       end-short (tr .end) refl,
       mul-le-mul-right {m = suc (length (tr .posts))} {n = n} (2 * n) run-few,
       mul-left-comm n 2 n,

@@ -35,79 +35,79 @@ pub turn : (u : Turn) → ((st : State) × (u ≡ on st)) ⊎ ((st : State) × (
 turn (on st) = inl (st, refl)
 turn (stop st) = inr (st, refl)
 
-module _ (o : ℕ) (J : Tasks natural) (first second : List ℕ) (f t : ℕ) (st : State) where
+module _ (o : ℕ) (J : Tasks natural) (estOrder lctOrder : List ℕ) (f t : ℕ) (st : State) where
   abbrev T : ℕ → ℕ
-  T x = getD first x 0
+  T x = getD estOrder x 0
 
   abbrev b : ℕ
-  b = rootEct J first (st .leaves)
+  b = rootEct J estOrder (st .leaves)
 
   abbrev Over : Bool → Type 0
-  Over v = ltb (lct o J first second t) (rootEctBar J first (st .leaves)) ≡ v
+  Over v = ltb (lct o J estOrder lctOrder t) (rootEctBar J estOrder (st .leaves)) ≡ v
 
-  pub inner-end : inner o J first second 0 t st ≡ on st
+  pub inner-end : inner o J estOrder lctOrder 0 t st ≡ on st
   unfolding inner
   inner-end = refl
 
   -- the test of the answer is that of the root's word
-  over-is : {v : Bool} → Over v → exceeds (ect-bar J first (st .leaves)) (lct o J first second t) ≡ v
-  over-is z = exceeds-decoded (rootEctBar J first (st .leaves)) (lct o J first second t) ∙ z
+  over-is : {v : Bool} → Over v → exceeds (ect-bar J estOrder (st .leaves)) (lct o J estOrder lctOrder t) ≡ v
+  over-is z = exceeds-decoded (rootEctBar J estOrder (st .leaves)) (lct o J estOrder lctOrder t) ∙ z
 
-  pub inner-off : Over false → inner o J first second (suc f) t st ≡ on st
+  pub inner-off : Over false → inner o J estOrder lctOrder (suc f) t st ≡ on st
   unfolding inner
   inner-off z = rw (over-is z, inner)
 
-  pub inner-none : Over true → responsible J first (st .leaves) ≡ none → inner o J first second (suc f) t st ≡ on st
+  pub inner-none : Over true → responsible J estOrder (st .leaves) ≡ none → inner o J estOrder lctOrder (suc f) t st ≡ on st
   unfolding inner
   inner-none z w = rw (over-is z, w, inner)
 
-  module _ (x : ℕ) (z : Over true) (w : responsible J first (st .leaves) ≡ some x) where
+  module _ (x : ℕ) (z : Over true) (w : responsible J estOrder (st .leaves) ≡ some x) where
     -- an ect past a start is that of a task
-    bound-is : ltb (J .earliest (T x)) b ≡ true → ect J first (st .leaves) ≡ some b
+    bound-is : ltb (J .earliest (T x)) b ≡ true → ect J estOrder (st .leaves) ≡ some b
     bound-is y = decoded-some b (omega (arith, ltb-true (J .earliest (T x)) b y))
 
-    pub inner-pass : ltb (J .earliest (T x)) b ≡ false → inner o J first second (suc f) t st ≡ inner o J first second f t (dropped st x)
+    pub inner-pass : ltb (J .earliest (T x)) b ≡ false → inner o J estOrder lctOrder (suc f) t st ≡ inner o J estOrder lctOrder f t (dropped st x)
     unfolding inner
     inner-pass y = elim (decoded-cases b) [ inl d ↦ rw (over-is z, w, d, inner) refl | inr d ↦ rw (over-is z, w, d, y, inner) refl ]
 
-    pub inner-stop : ltb (J .earliest (T x)) b ≡ true → ltb (J .latest (T x)) b ≡ true → inner o J first second (suc f) t st ≡ stop (posted o J first second st (T x) b t)
+    pub inner-stop : ltb (J .earliest (T x)) b ≡ true → ltb (J .latest (T x)) b ≡ true → inner o J estOrder lctOrder (suc f) t st ≡ stop (posted o J estOrder lctOrder st (T x) b t)
     unfolding inner
     inner-stop y a = rw (over-is z, w, bound-is y, y, a, inner)
 
-    pub inner-raise : ltb (J .earliest (T x)) b ≡ true → ltb (J .latest (T x)) b ≡ false → inner o J first second (suc f) t st ≡ inner o J first second f t (dropped (raised (posted o J first second st (T x) b t) (T x) b) x)
+    pub inner-raise : ltb (J .earliest (T x)) b ≡ true → ltb (J .latest (T x)) b ≡ false → inner o J estOrder lctOrder (suc f) t st ≡ inner o J estOrder lctOrder f t (dropped (raised (posted o J estOrder lctOrder st (T x) b t) (T x) b) x)
     unfolding inner
     inner-raise y a = rw (over-is z, w, bound-is y, y, a, inner) refl
 
-module _ (o : ℕ) (J : Tasks natural) (ok : Proper J) (first second : List ℕ) (rk : ByEarliest J (λ j. getD first j 0) (λ k. index first k)) where
+module _ (o : ℕ) (J : Tasks natural) (ok : Proper J) (estOrder lctOrder : List ℕ) (rk : ByEarliest J (λ j. getD estOrder j 0) (λ k. index estOrder k)) where
   -- the gray tasks of the leaves
   abbrev pub lam : List Leaf → TaskSet
-  lam ls k = grayAt ls (index first k)
+  lam ls k = grayAt ls (index estOrder k)
 
-  shape : (ls : List Leaf) → length ls ≡ J .count → tree.Represents J ok first rk ls (λ k. whiteAt ls (index first k)) (lam ls)
+  shape : (ls : List Leaf) → length ls ≡ J .count → tree.Represents J ok estOrder rk ls (λ k. whiteAt ls (index estOrder k)) (lam ls)
   shape ls q = record { size = q; whites = λ k h. refl; grays = λ k h. refl }
 
   -- a found task leaves Λ
-  pub fewer : (ls : List Leaf) (q : length ls ≡ J .count) (x : ℕ) → responsible J first ls ≡ some x → card J (lam ls) ≡ suc (card J (lam (set ls x empty)))
+  pub fewer : (ls : List Leaf) (q : length ls ≡ J .count) (x : ℕ) → responsible J estOrder ls ≡ some x → card J (lam ls) ≡ suc (card J (lam (set ls x empty)))
   fewer ls q x w = omega (arith, card-less J (lam ls) i (g .gray), card-same J (lam ls less i) (lam (set ls x empty)) same)
     where
-      g : tree.Found J ok first rk ls (λ k. whiteAt ls (index first k)) (lam ls) (shape ls q) x
-      g = tree.one-found J ok first rk ls (λ k. whiteAt ls (index first k)) (lam ls) (shape ls q) x w
+      g : tree.Found J ok estOrder rk ls (λ k. whiteAt ls (index estOrder k)) (lam ls) (shape ls q) x
+      g = tree.one-found J ok estOrder rk ls (λ k. whiteAt ls (index estOrder k)) (lam ls) (shape ls q) x w
 
       i : ℕ
-      i = getD first x 0
+      i = getD estOrder x 0
 
-      at-x : index first (getD first x 0) ≡ x
+      at-x : index estOrder (getD estOrder x 0) ≡ x
       at-x = rk .back x (g .small)
 
-      same : (k : ℕ) → k < J .count → (lam ls less getD first x 0) k ≡ lam (set ls x empty) k
-      same k r = elim (ℕ-discrete k (getD first x 0)) [
-        | yes z ↦ subst (λ (k : ℕ). (lam ls less getD first x 0) k ≡ lam (set ls x empty) k) (sym z)
-            (rw (eq-eqb (getD first x 0) (getD first x 0) refl) (sym (ap (λ (j : ℕ). grayAt (set ls x empty) j) at-x ∙ ap inLambda (getD-set-same ls x empty empty (omega (arith, q, g .small))))))
-        | no z ↦ rw (ne-eqb k (getD first x 0) z) (sym (ap inLambda (getD-set-other ls x (index first k) empty empty (λ y. z (sym (rk .there k r) ∙ ap (λ (j : ℕ). getD first j 0) y)))))
+      same : (k : ℕ) → k < J .count → (lam ls less getD estOrder x 0) k ≡ lam (set ls x empty) k
+      same k r = elim (ℕ-discrete k (getD estOrder x 0)) [
+        | yes z ↦ subst (λ (k : ℕ). (lam ls less getD estOrder x 0) k ≡ lam (set ls x empty) k) (sym z)
+            (rw (eq-eqb (getD estOrder x 0) (getD estOrder x 0) refl) (sym (ap (λ (j : ℕ). grayAt (set ls x empty) j) at-x ∙ ap inLambda (getD-set-same ls x empty empty (omega (arith, q, g .small))))))
+        | no z ↦ rw (ne-eqb k (getD estOrder x 0) z) (sym (ap inLambda (getD-set-other ls x (index estOrder k) empty empty (λ y. z (sym (rk .there k r) ∙ ap (λ (j : ℕ). getD estOrder j 0) y)))))
       ]
 
   abbrev I : ℕ → ℕ → State → Turn
-  I f t st = inner o J first second f t st
+  I f t st = inner o J estOrder lctOrder f t st
 
   inner-zero : (t : ℕ) (st : State) → I 0 t st ≡ on st
   unfolding inner
@@ -115,33 +115,33 @@ module _ (o : ℕ) (J : Tasks natural) (ok : Proper J) (first second : List ℕ)
 
   -- one turn more changes nothing
   pub inner-more : (f t : ℕ) (st : State) → length (st .leaves) ≡ J .count → card J (lam (st .leaves)) ≤ f → I (suc f) t st ≡ I f t st
-  inner-more zero t st q few = by (bool (ltb (lct o J first second t) (rootEctBar J first (st .leaves)))) (opt (responsible J first (st .leaves)))
+  inner-more zero t st q few = by (bool (ltb (lct o J estOrder lctOrder t) (rootEctBar J estOrder (st .leaves)))) (opt (responsible J estOrder (st .leaves)))
     where
-      by : (ltb (lct o J first second t) (rootEctBar J first (st .leaves)) ≡ true) ⊎ (ltb (lct o J first second t) (rootEctBar J first (st .leaves)) ≡ false)
-          → (responsible J first (st .leaves) ≡ none) ⊎ ((x : ℕ) × (responsible J first (st .leaves) ≡ some x)) → I 1 t st ≡ I 0 t st
-      by (inr z) w = inner-off o J first second 0 t st z ∙ sym (inner-zero t st)
-      by (inl z) (inl w) = inner-none o J first second 0 t st z w ∙ sym (inner-zero t st)
+      by : (ltb (lct o J estOrder lctOrder t) (rootEctBar J estOrder (st .leaves)) ≡ true) ⊎ (ltb (lct o J estOrder lctOrder t) (rootEctBar J estOrder (st .leaves)) ≡ false)
+          → (responsible J estOrder (st .leaves) ≡ none) ⊎ ((x : ℕ) × (responsible J estOrder (st .leaves) ≡ some x)) → I 1 t st ≡ I 0 t st
+      by (inr z) w = inner-off o J estOrder lctOrder 0 t st z ∙ sym (inner-zero t st)
+      by (inl z) (inl w) = inner-none o J estOrder lctOrder 0 t st z w ∙ sym (inner-zero t st)
       by (inl z) (inr w) = absurd (omega (arith, fewer (st .leaves) q (w .0) (w .1), few))
-  inner-more (suc f) t st q few = by (λ st′. inner-more f t st′) (bool (ltb (lct o J first second t) (rootEctBar J first (st .leaves)))) (opt (responsible J first (st .leaves)))
+  inner-more (suc f) t st q few = by (λ st′. inner-more f t st′) (bool (ltb (lct o J estOrder lctOrder t) (rootEctBar J estOrder (st .leaves)))) (opt (responsible J estOrder (st .leaves)))
     where
       IH : Type 0
       IH = (st′ : State) → length (st′ .leaves) ≡ J .count → card J (lam (st′ .leaves)) ≤ f → I (suc f) t st′ ≡ I f t st′
 
-      took : IH → (x : ℕ) → ltb (lct o J first second t) (rootEctBar J first (st .leaves)) ≡ true → responsible J first (st .leaves) ≡ some x → card J (lam (set (st .leaves) x empty)) ≤ f → I (suc (suc f)) t st ≡ I (suc f) t st
-      took ih x z w down = elim (bool (ltb (J .earliest (getD first x 0)) (rootEct J first (st .leaves)))) [
-        | inr y ↦ inner-pass o J first second (suc f) t st x z w y ∙ ih (dropped st x) (length-set (st .leaves) x empty ∙ q) down ∙ sym (inner-pass o J first second f t st x z w y)
-        | inl y ↦ elim (bool (ltb (J .latest (getD first x 0)) (rootEct J first (st .leaves)))) [
-          | inl a ↦ inner-stop o J first second (suc f) t st x z w y a ∙ sym (inner-stop o J first second f t st x z w y a)
-          | inr a ↦ inner-raise o J first second (suc f) t st x z w y a
-              ∙ ih (dropped (raised (posted o J first second st (getD first x 0) (rootEct J first (st .leaves)) t) (getD first x 0) (rootEct J first (st .leaves))) x) (length-set (st .leaves) x empty ∙ q) down
-              ∙ sym (inner-raise o J first second f t st x z w y a)
+      took : IH → (x : ℕ) → ltb (lct o J estOrder lctOrder t) (rootEctBar J estOrder (st .leaves)) ≡ true → responsible J estOrder (st .leaves) ≡ some x → card J (lam (set (st .leaves) x empty)) ≤ f → I (suc (suc f)) t st ≡ I (suc f) t st
+      took ih x z w down = elim (bool (ltb (J .earliest (getD estOrder x 0)) (rootEct J estOrder (st .leaves)))) [
+        | inr y ↦ inner-pass o J estOrder lctOrder (suc f) t st x z w y ∙ ih (dropped st x) (length-set (st .leaves) x empty ∙ q) down ∙ sym (inner-pass o J estOrder lctOrder f t st x z w y)
+        | inl y ↦ elim (bool (ltb (J .latest (getD estOrder x 0)) (rootEct J estOrder (st .leaves)))) [
+          | inl a ↦ inner-stop o J estOrder lctOrder (suc f) t st x z w y a ∙ sym (inner-stop o J estOrder lctOrder f t st x z w y a)
+          | inr a ↦ inner-raise o J estOrder lctOrder (suc f) t st x z w y a
+              ∙ ih (dropped (raised (posted o J estOrder lctOrder st (getD estOrder x 0) (rootEct J estOrder (st .leaves)) t) (getD estOrder x 0) (rootEct J estOrder (st .leaves))) x) (length-set (st .leaves) x empty ∙ q) down
+              ∙ sym (inner-raise o J estOrder lctOrder f t st x z w y a)
         ]
       ]
 
-      by : IH → (ltb (lct o J first second t) (rootEctBar J first (st .leaves)) ≡ true) ⊎ (ltb (lct o J first second t) (rootEctBar J first (st .leaves)) ≡ false)
-          → (responsible J first (st .leaves) ≡ none) ⊎ ((x : ℕ) × (responsible J first (st .leaves) ≡ some x)) → I (suc (suc f)) t st ≡ I (suc f) t st
-      by ih (inr z) w = inner-off o J first second (suc f) t st z ∙ sym (inner-off o J first second f t st z)
-      by ih (inl z) (inl w) = inner-none o J first second (suc f) t st z w ∙ sym (inner-none o J first second f t st z w)
+      by : IH → (ltb (lct o J estOrder lctOrder t) (rootEctBar J estOrder (st .leaves)) ≡ true) ⊎ (ltb (lct o J estOrder lctOrder t) (rootEctBar J estOrder (st .leaves)) ≡ false)
+          → (responsible J estOrder (st .leaves) ≡ none) ⊎ ((x : ℕ) × (responsible J estOrder (st .leaves) ≡ some x)) → I (suc (suc f)) t st ≡ I (suc f) t st
+      by ih (inr z) w = inner-off o J estOrder lctOrder (suc f) t st z ∙ sym (inner-off o J estOrder lctOrder f t st z)
+      by ih (inl z) (inl w) = inner-none o J estOrder lctOrder (suc f) t st z w ∙ sym (inner-none o J estOrder lctOrder f t st z w)
       by ih (inl z) (inr w) = took ih (w .0) z (w .1) (omega (arith, fewer (st .leaves) q (w .0) (w .1), few))
 
 -- the whole run's definition, and the outer loop's clauses
@@ -149,29 +149,29 @@ pub propagate-is : (ds : List ℕ) (es ls : List ℤ) → let J = moments zeroAt
 unfolding propagate
 propagate-is ds es ls = refl
 
-module _ (o : ℕ) (J : Tasks natural) (first second : List ℕ) where
-  pub run-is : run o J first second ≡ outer o J first second (J .count - 1) 0 (record { leaves = replicate (J .count) white; starts = tabulate (J .earliest) 0 (J .count); posts = []; changes = J .count })
+module _ (o : ℕ) (J : Tasks natural) (estOrder lctOrder : List ℕ) where
+  pub run-is : run o J estOrder lctOrder ≡ outer o J estOrder lctOrder (J .count - 1) 0 (record { leaves = replicate (J .count) white; starts = tabulate (J .earliest) 0 (J .count); posts = []; changes = J .count })
   unfolding run
   run-is = refl
 
   module _ (f t : ℕ) (st : State) where
-    pub outer-end : outer o J first second 0 t st ≡ ended o J first second st done
+    pub outer-end : outer o J estOrder lctOrder 0 t st ≡ ended o J estOrder lctOrder st done
     unfolding outer
     outer-end = refl
 
-    level-is : {v : Bool} → ltb (lct o J first second t) (rootEct J first (st .leaves)) ≡ v → exceeds (ect J first (st .leaves)) (lct o J first second t) ≡ v
-    level-is z = exceeds-decoded (rootEct J first (st .leaves)) (lct o J first second t) ∙ z
+    level-is : {v : Bool} → ltb (lct o J estOrder lctOrder t) (rootEct J estOrder (st .leaves)) ≡ v → exceeds (ect J estOrder (st .leaves)) (lct o J estOrder lctOrder t) ≡ v
+    level-is z = exceeds-decoded (rootEct J estOrder (st .leaves)) (lct o J estOrder lctOrder t) ∙ z
 
-    pub outer-over : ltb (lct o J first second t) (rootEct J first (st .leaves)) ≡ true
-        → outer o J first second (suc f) t st ≡ ended o J first second st (overload (conflict o J (lct o J first second t) (sum J first (st .leaves)) (theta J first (st .leaves))))
+    pub outer-over : ltb (lct o J estOrder lctOrder t) (rootEct J estOrder (st .leaves)) ≡ true
+        → outer o J estOrder lctOrder (suc f) t st ≡ ended o J estOrder lctOrder st (overload (conflict o J (lct o J estOrder lctOrder t) (sum J estOrder (st .leaves)) (theta J estOrder (st .leaves))))
     unfolding outer
     outer-over z = rw (level-is z, outer)
 
-    module _ (st′ : State) (z : ltb (lct o J first second t) (rootEct J first (st .leaves)) ≡ false) where
-      pub outer-on : inner o J first second (J .count) (suc t) (grayed st (index first (getD second t 0))) ≡ on st′ → outer o J first second (suc f) t st ≡ outer o J first second f (suc t) st′
+    module _ (st′ : State) (z : ltb (lct o J estOrder lctOrder t) (rootEct J estOrder (st .leaves)) ≡ false) where
+      pub outer-on : inner o J estOrder lctOrder (J .count) (suc t) (grayed st (index estOrder (getD lctOrder t 0))) ≡ on st′ → outer o J estOrder lctOrder (suc f) t st ≡ outer o J estOrder lctOrder f (suc t) st′
       unfolding outer
       outer-on y = rw (level-is z, y, outer) refl
 
-      pub outer-stop : inner o J first second (J .count) (suc t) (grayed st (index first (getD second t 0))) ≡ stop st′ → outer o J first second (suc f) t st ≡ ended o J first second st′ emptied
+      pub outer-stop : inner o J estOrder lctOrder (J .count) (suc t) (grayed st (index estOrder (getD lctOrder t 0))) ≡ stop st′ → outer o J estOrder lctOrder (suc f) t st ≡ ended o J estOrder lctOrder st′ emptied
       unfolding outer
       outer-stop y = rw (level-is z, y, outer)

@@ -76,8 +76,8 @@ at-pred o b q = elim (decLt b o) [
   ]
 ]
 
-module _ (o : ℕ) (Z : Tasks whole) (okz : Proper Z) (deepz : (k : ℕ) → k < Z .count → Above o (Z .earliest k)) (first second : List ℕ)
-    (rk : ByEarliest (moments o Z) (λ j. getD first j 0) (λ k. index first k)) (ord : ByCompletion (moments o Z) (λ t. getD second t 0) (λ k. index second k)) where
+module _ (o : ℕ) (Z : Tasks whole) (okz : Proper Z) (deepz : (k : ℕ) → k < Z .count → Above o (Z .earliest k)) (estOrder lctOrder : List ℕ)
+    (rk : ByEarliest (moments o Z) (λ j. getD estOrder j 0) (λ k. index estOrder k)) (ord : ByCompletion (moments o Z) (λ t. getD lctOrder t 0) (λ k. index lctOrder k)) where
   abbrev J : Tasks natural
   J = moments o Z
 
@@ -88,16 +88,16 @@ module _ (o : ℕ) (Z : Tasks whole) (okz : Proper Z) (deepz : (k : ℕ) → k <
   n = Z .count
 
   abbrev T : ℕ → ℕ
-  T j = getD first j 0
+  T j = getD estOrder j 0
 
   abbrev rank : ℕ → ℕ
-  rank k = index first k
+  rank k = index estOrder k
 
   abbrev L : ℕ → ℕ
-  L t = getD second t 0
+  L t = getD lctOrder t 0
 
   abbrev place : ℕ → ℕ
-  place k = index second k
+  place k = index lctOrder k
 
   abbrev at : ℕ → ℤ
   at m = subℕ m o
@@ -109,10 +109,10 @@ module _ (o : ℕ) (Z : Tasks whole) (okz : Proper Z) (deepz : (k : ℕ) → k <
   E-is Ω = scan-is J T rank ok rk Ω
 
   abbrev ectOf : List Leaf → ℕ
-  ectOf = leaves.rootEct J first
+  ectOf = leaves.rootEct J estOrder
 
   abbrev barOf : List Leaf → ℕ
-  barOf = leaves.rootEctBar J first
+  barOf = leaves.rootEctBar J estOrder
 
   abbrev En : ℕ → ℕ
   En t = completion J (L t)
@@ -132,24 +132,24 @@ module _ (o : ℕ) (Z : Tasks whole) (okz : Proper Z) (deepz : (k : ℕ) → k <
     abbrev Θ : TaskSet
     Θ k = leb t (place k)
 
-    module _ (s : tree.Represents J ok first rk ls Θ Λ) (small : t < n) where
+    module _ (s : tree.Represents J ok estOrder rk ls Θ Λ) (small : t < n) where
       abbrev onward : ℕ → TaskSet
-      onward a = walks.onward o J ok first second rk ls Θ Λ s a
+      onward a = walks.onward o J ok estOrder lctOrder rk ls Θ Λ s a
 
       abbrev dr : ℕ → ℕ
       dr a = defs.processing J (onward a)
 
       abbrev Out : ℕ → ℕ → Type 0
-      Out = walks.Out o J ok first second rk ls Θ Λ s
+      Out = walks.Out o J ok estOrder lctOrder rk ls Θ Λ s
 
       on-in : (a k : ℕ) → onward a k ≡ true → (a ≤ rank k) × (Θ k ≡ true)
-      on-in = walks.onward-in o J ok first second rk ls Θ Λ s
+      on-in = walks.onward-in o J ok estOrder lctOrder rk ls Θ Λ s
 
       on-out : (a k : ℕ) → a ≤ rank k → Θ k ≡ true → onward a k ≡ true
-      on-out = walks.onward-out o J ok first second rk ls Θ Λ s
+      on-out = walks.onward-out o J ok estOrder lctOrder rk ls Θ Λ s
 
       ect-is : ectOf ls ≡ E Θ
-      ect-is = tree.ect-is J ok first rk ls Θ Λ s
+      ect-is = tree.ect-is J ok estOrder rk ls Θ Λ s
 
       some-Θ : NonEmpty J Θ
       some-Θ = (L t, record { small = ord .task t small; mem = le-leb t (place (L t)) (omega (arith, ord .back t small)) })
@@ -179,7 +179,7 @@ module _ (o : ℕ) (Z : Tasks whole) (okz : Proper Z) (deepz : (k : ℕ) → k <
       at-rank k q y = rw (rk .there k q) y
 
       -- a post -----------------------------------------------------------------------------------------------------------------
-      module _ (x : ℕ) (f : tree.Found J ok first rk ls Θ Λ s x) (late : place (T x) < t) (over : En t < barOf ls) (up : J .earliest (T x) < ectOf ls) where
+      module _ (x : ℕ) (f : tree.Found J ok estOrder rk ls Θ Λ s x) (late : place (T x) < t) (over : En t < barOf ls) (up : J .earliest (T x) < ectOf ls) where
         abbrev i : ℕ
         i = T x
 
@@ -190,7 +190,7 @@ module _ (o : ℕ) (Z : Tasks whole) (okz : Proper Z) (deepz : (k : ℕ) → k <
         c = En t
 
         abbrev As : List Atom
-        As = propagation o J i b c (leaves.sum J first ls) (theta J first ls)
+        As = propagation o J i b c (leaves.sum J estOrder ls) (theta J estOrder ls)
 
         i-small : i < n
         i-small = f .gray .small
@@ -209,11 +209,11 @@ module _ (o : ℕ) (Z : Tasks whole) (okz : Proper Z) (deepz : (k : ℕ) → k <
             subst (EdgeFindingBound Z i) (same o (e .at) (at b) (e .above) (instant-above o b) (e .is ∙ sym (moment-instant o b))) (e .holds)
 
         -- the first walk
-        one : walks.First o J ok first second rk ls Θ Λ s i c b 0 As
+        one : walks.First o J ok estOrder lctOrder rk ls Θ Λ s i c b 0 As
         one =
             let (m, mm, h) = stops.passing J T rank rk Θ i c b (f .value) (f .attains) (f .has) i-small (omega (arith, over, f .reaches)) ect up in
-            subst (λ (l : List ℕ). walks.First o J ok first second rk ls Θ Λ s i c b 0 (propagation o J i b c (leaves.sum J first ls) l)) (sym (theta-is J first ls))
-            (walks.first-stops o J ok first second rk ls Θ Λ s i c b n 0 (leaves.sum J first ls) (rank m) (omega arith) (walks.sum-is o J ok first second rk ls Θ Λ s) (omega arith)
+            subst (λ (l : List ℕ). walks.First o J ok estOrder lctOrder rk ls Θ Λ s i c b 0 (propagation o J i b c (leaves.sum J estOrder ls) l)) (sym (theta-is J estOrder ls))
+            (walks.first-stops o J ok estOrder lctOrder rk ls Θ Λ s i c b n 0 (leaves.sum J estOrder ls) (rank m) (omega arith) (walks.sum-is o J ok estOrder lctOrder rk ls Θ Λ s) (omega arith)
             (rk .placed m (mm .small)) (at-rank m (mm .small) (mm .mem)) (omega (arith, h, ap (J .earliest) (rk .there m (mm .small)))))
 
         abbrev m : ℕ
@@ -226,14 +226,14 @@ module _ (o : ℕ) (Z : Tasks whole) (okz : Proper Z) (deepz : (k : ℕ) → k <
         last = r + dr m + J .duration i - 1
 
         -- the second
-        two : walks.Second o J ok first second rk ls Θ Λ s b r last m (bounds o J b r last (dr m) (thetaOf (whiteAt ls) (taskAt J first) m (one .left)))
+        two : walks.Second o J ok estOrder lctOrder rk ls Θ Λ s b r last m (bounds o J b r last (dr m) (thetaOf (whiteAt ls) (taskAt J estOrder) m (one .left)))
         two =
             let (j, jm, h) = suffixes.attaining J T rank rk Θ b ect in
             let back : dr (rank (T m)) ≡ dr m = ap dr (rk .back m (one .small)) in
             let q : rank (T m) ≤ rank j = stops.after-first J T rank rk Θ i c b (T m) j ect (record { small = rk .task m (one .small); mem = one .mem }) jm
             (omega (arith, one .over, back))
             (λ l. omega (arith, one .before (rank j) (omega arith) (omega (arith, rk .back m (one .small))) (at-rank j (jm .small) (jm .mem)), ap (J .earliest) (rk .there j (jm .small)))) h in
-            walks.second-stops o J ok first second rk ls Θ Λ s b r last (one .left) m (dr m) (rank j) (one .all) refl (omega (arith, rk .back m (one .small))) (rk .placed j (jm .small)) (at-rank j (jm .small) (jm .mem))
+            walks.second-stops o J ok estOrder lctOrder rk ls Θ Λ s b r last (one .left) m (dr m) (rank j) (one .all) refl (omega (arith, rk .back m (one .small))) (rk .placed j (jm .small)) (at-rank j (jm .small) (jm .mem))
             (omega (arith, h, ap (J .earliest) (rk .there j (jm .small))))
 
         abbrev m′ : ℕ
@@ -246,7 +246,7 @@ module _ (o : ℕ) (Z : Tasks whole) (okz : Proper Z) (deepz : (k : ℕ) → k <
         Ω′ = onward m′
 
         out : Outside J Ω i
-        out = record { small = i-small; mem = walks.onward-not o J ok first second rk ls Θ Λ s m i i-out }
+        out = record { small = i-small; mem = walks.onward-not o J ok estOrder lctOrder rk ls Θ Λ s m i i-out }
 
         sub : Subset J Ω′ Ω
         sub k h = let u = on-in m′ k (h .mem) in on-out m k (omega (arith, two .from, u .0)) (u .1)
@@ -273,7 +273,7 @@ module _ (o : ℕ) (Z : Tasks whole) (okz : Proper Z) (deepz : (k : ℕ) → k <
         B = record { count = n; earliest = λ k. at (G .earliest k); latest = λ k. at (G .latest k); duration = Z .duration }
 
         abbrev Pre : List Atom
-        Pre = bounds o J b r last (dr m) (thetaOf (whiteAt ls) (taskAt J first) m (one .left))
+        Pre = bounds o J b r last (dr m) (thetaOf (whiteAt ls) (taskAt J estOrder) m (one .left))
 
         abbrev Mine : List Atom
         Mine = edges.atLeast o J i r ∷ []
@@ -291,7 +291,7 @@ module _ (o : ℕ) (Z : Tasks whole) (okz : Proper Z) (deepz : (k : ℕ) → k <
         G-high = why.holds-high J ok Ω Ω′ i r (ea m′) b c out sub est′ (two .attains) low low-i by-c past
 
         G-i : G .earliest i ≡ r
-        G-i = rw (walks.onward-not o J ok first second rk ls Θ Λ s m′ i i-out)
+        G-i = rw (walks.onward-not o J ok estOrder lctOrder rk ls Θ Λ s m′ i i-out)
 
         G-i′ : G .latest i ≡ b - 1
         G-i′ = rw (eq-eqb i i refl)
@@ -391,13 +391,13 @@ module _ (o : ℕ) (Z : Tasks whole) (okz : Proper Z) (deepz : (k : ℕ) → k <
         d = En t
 
         abbrev Os : List Atom
-        Os = conflict o J d (leaves.sum J first ls) (theta J first ls)
+        Os = conflict o J d (leaves.sum J estOrder ls) (theta J estOrder ls)
 
-        stopped : walks.Stopped o J ok first second rk ls Θ Λ s d Os
+        stopped : walks.Stopped o J ok estOrder lctOrder rk ls Θ Λ s d Os
         stopped =
             let (j, jm, h) = suffixes.attaining J T rank rk Θ (ectOf ls) ect in
-            subst (λ (l : List ℕ). walks.Stopped o J ok first second rk ls Θ Λ s d (conflict o J d (leaves.sum J first ls) l)) (sym (theta-is J first ls))
-            (walks.conflict-stops o J ok first second rk ls Θ Λ s d n 0 (leaves.sum J first ls) (rank j) (omega arith) (walks.sum-is o J ok first second rk ls Θ Λ s) (omega arith)
+            subst (λ (l : List ℕ). walks.Stopped o J ok estOrder lctOrder rk ls Θ Λ s d (conflict o J d (leaves.sum J estOrder ls) l)) (sym (theta-is J estOrder ls))
+            (walks.conflict-stops o J ok estOrder lctOrder rk ls Θ Λ s d n 0 (leaves.sum J estOrder ls) (rank j) (omega arith) (walks.sum-is o J ok estOrder lctOrder rk ls Θ Λ s) (omega arith)
             (rk .placed j (jm .small)) (at-rank j (jm .small) (jm .mem)) (omega (arith, h, over, ap (J .earliest) (rk .there j (jm .small)))))
 
         abbrev q : ℕ
@@ -437,7 +437,7 @@ module _ (o : ℕ) (Z : Tasks whole) (okz : Proper Z) (deepz : (k : ℕ) → k <
         D = record { count = n; earliest = λ k. at (S .earliest k); latest = λ k. at (S .latest k); duration = Z .duration }
 
         abbrev In-O : List Atom
-        In-O = within o J (ea q - left) (d + right) (thetaOf (whiteAt ls) (taskAt J first) q (stopped .left))
+        In-O = within o J (ea q - left) (d + right) (thetaOf (whiteAt ls) (taskAt J estOrder) q (stopped .left))
 
         S-low : (k : ℕ) → In J O k → S .earliest k ≤ J .earliest k
         S-low = why.span-low J ok O (ea q) d left right (T q, q-in) low-O ends-O slack roomy
@@ -446,10 +446,10 @@ module _ (o : ℕ) (Z : Tasks whole) (okz : Proper Z) (deepz : (k : ℕ) → k <
         S-high = why.span-high J ok O (ea q) d left right (T q, q-in) low-O ends-O slack roomy
 
         of-O : (k : ℕ) → In J O k → Says In-O k (at (S .earliest k)) (at (S .latest k))
-        of-O k h = let u = on-in q k (h .mem) in walks.within-says o J ok first second rk ls Θ Λ s (ea q - left) (d + right) (stopped .left) q k (stopped .all) (h .small) (u .1) (u .0)
+        of-O k h = let u = on-in q k (h .mem) in walks.within-says o J ok estOrder lctOrder rk ls Θ Λ s (ea q - left) (d + right) (stopped .left) q k (stopped .all) (h .small) (u .1) (u .0)
 
         of-no : (k : ℕ) → (k < n → O k ≡ false) → Silent In-O k
-        of-no k h = walks.within-silent o J ok first second rk ls Θ Λ s (ea q - left) (d + right) (stopped .left) q k (stopped .all) (out-of q k h)
+        of-no k h = walks.within-silent o J ok estOrder lctOrder rk ls Θ Λ s (ea q - left) (d + right) (stopped .left) q k (stopped .all) (out-of q k h)
 
         range-O : (k : ℕ) → In J O k → S .earliest k ≤ S .latest k
         range-O k w = omega (arith, S-low k w, S-high k w, ok .ranges k (w .small))
@@ -489,5 +489,5 @@ module _ (o : ℕ) (Z : Tasks whole) (okz : Proper Z) (deepz : (k : ℕ) → k <
         overload-right : OverloadRight Z Os
         overload-right = record { reason-holds = subst (HoldsAtEntry Z) (sym (stopped .is)) entry-O; reason-passes = subst (PassesAlone Z) (sym (stopped .is)) alone }
 
-  pub all-right : ((k : ℕ) → k < n → defs.processing J (λ _. true) ≤ J .earliest k) → Measure o J ok first second rk ord (PostRight Z) (OverloadRight Z)
+  pub all-right : ((k : ℕ) → k < n → defs.processing J (λ _. true) ≤ J .earliest k) → Measure o J ok estOrder lctOrder rk ord (PostRight Z) (OverloadRight Z)
   all-right room = record { of-post = λ t ls Λ s x small f late over up. post-right t ls Λ s small x f late over up; of-end = λ t ls Λ s small over. overload-right t ls Λ s small room over }

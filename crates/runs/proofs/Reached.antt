@@ -32,74 +32,74 @@ abbrev goes-on : Turn → Bool
 goes-on (on st) = true
 goes-on (stop st) = false
 
-module _ (o : ℕ) (J : Tasks natural) (ok : Proper J) (first second : List ℕ) (rk : ByEarliest J (λ j. getD first j 0) (λ k. index first k)) (ord : ByCompletion J (λ t. getD second t 0) (λ k. index second k))
-    (Good : Post → Type 0) (GoodEnd : List Atom → Type 0) (meas : steps.Measure o J ok first second rk ord Good GoodEnd) where
+module _ (o : ℕ) (J : Tasks natural) (ok : Proper J) (estOrder lctOrder : List ℕ) (rk : ByEarliest J (λ j. getD estOrder j 0) (λ k. index estOrder k)) (ord : ByCompletion J (λ t. getD lctOrder t 0) (λ k. index lctOrder k))
+    (Good : Post → Type 0) (GoodEnd : List Atom → Type 0) (meas : steps.Measure o J ok estOrder lctOrder rk ord Good GoodEnd) where
   abbrev Inv : ℕ → State → Type 0
-  Inv = steps.Inv o J ok first second rk ord Good GoodEnd meas
+  Inv = steps.Inv o J ok estOrder lctOrder rk ord Good GoodEnd meas
 
   abbrev Closed : ℕ → State → Type 0
-  Closed = steps.Closed o J ok first second rk ord Good GoodEnd meas
+  Closed = steps.Closed o J ok estOrder lctOrder rk ord Good GoodEnd meas
 
   -- at the head of a level, where Θ does not overload
-  quiet-moved : (t : ℕ) (st : State) → t < J .count → Closed t st → Quiet o J first second t st → Inv (suc t) (movedOn o J first second t st)
-  quiet-moved t st small c q = steps.gray-ok o J ok first second rk ord Good GoodEnd meas t st small c
-      (omega (arith, ltb-false (steps.En o J ok first second rk ord t) (leaves.rootEct J first (st .leaves)) (sym (exceeds-decoded (leaves.rootEct J first (st .leaves)) (steps.En o J ok first second rk ord t)) ∙ q), tree.ect-is J ok first rk (st .leaves) (steps.Th o J ok first second rk ord t) (steps.lam o J ok first second rk ord Good GoodEnd meas st) (steps.shape o J ok first second rk ord Good GoodEnd meas t st (c .inv))))
+  quiet-moved : (t : ℕ) (st : State) → t < J .count → Closed t st → Quiet o J estOrder lctOrder t st → Inv (suc t) (movedOn o J estOrder lctOrder t st)
+  quiet-moved t st small c q = steps.gray-ok o J ok estOrder lctOrder rk ord Good GoodEnd meas t st small c
+      (omega (arith, ltb-false (steps.En o J ok estOrder lctOrder rk ord t) (leaves.rootEct J estOrder (st .leaves)) (sym (exceeds-decoded (leaves.rootEct J estOrder (st .leaves)) (steps.En o J ok estOrder lctOrder rk ord t)) ∙ q), tree.ect-is J ok estOrder rk (st .leaves) (steps.Th o J ok estOrder lctOrder rk ord t) (steps.lam o J ok estOrder lctOrder rk ord Good GoodEnd meas st) (steps.shape o J ok estOrder lctOrder rk ord Good GoodEnd meas t st (c .inv))))
 
-  pub entered-closed : (t : ℕ) (st : State) → Entered o J first second t st → t < J .count → Closed t st
-  entered-closed t st begins small = steps.first-closed o J ok first second rk ord Good GoodEnd meas
-  entered-closed t st (follows t₀ st₀ st′ e q z) small = subst (steps.TurnOk o J ok first second rk ord Good GoodEnd meas (suc t₀)) z
-      (steps.inner-ok o J ok first second rk ord Good GoodEnd meas (J .count) (suc t₀) (movedOn o J first second t₀ st₀) small (quiet-moved t₀ st₀ (omega arith) (entered-closed t₀ st₀ e (omega arith)) q) (card-most J _))
+  pub entered-closed : (t : ℕ) (st : State) → Entered o J estOrder lctOrder t st → t < J .count → Closed t st
+  entered-closed t st begins small = steps.first-closed o J ok estOrder lctOrder rk ord Good GoodEnd meas
+  entered-closed t st (follows t₀ st₀ st′ e q z) small = subst (steps.TurnOk o J ok estOrder lctOrder rk ord Good GoodEnd meas (suc t₀)) z
+      (steps.inner-ok o J ok estOrder lctOrder rk ord Good GoodEnd meas (J .count) (suc t₀) (movedOn o J estOrder lctOrder t₀ st₀) small (quiet-moved t₀ st₀ (omega arith) (entered-closed t₀ st₀ e (omega arith)) q) (card-most J _))
 
   -- one turn of the inner loop
   module _ (t : ℕ) (st st′ : State) (small : t < J .count) (v : Inv t st) where
     abbrev T : ℕ → ℕ
-    T x = getD first x 0
+    T x = getD estOrder x 0
 
     abbrev ect : ℕ
-    ect = leaves.rootEct J first (st .leaves)
+    ect = leaves.rootEct J estOrder (st .leaves)
 
     abbrev Θ : ℕ → Bool
-    Θ = steps.Th o J ok first second rk ord t
+    Θ = steps.Th o J ok estOrder lctOrder rk ord t
 
     abbrev Λ : ℕ → Bool
-    Λ = steps.lam o J ok first second rk ord Good GoodEnd meas st
+    Λ = steps.lam o J ok estOrder lctOrder rk ord Good GoodEnd meas st
 
-    abbrev shape : tree.Represents J ok first rk (st .leaves) Θ Λ
-    shape = steps.shape o J ok first second rk ord Good GoodEnd meas t st v
+    abbrev shape : tree.Represents J ok estOrder rk (st .leaves) Θ Λ
+    shape = steps.shape o J ok estOrder lctOrder rk ord Good GoodEnd meas t st v
 
     -- the turn that leads to the state s
-    leads : {s : State} → inner o J first second 1 t st ≡ on s → Inv t s → inner o J first second 1 t st ≡ on st′ → Inv t st′
+    leads : {s : State} → inner o J estOrder lctOrder 1 t st ≡ on s → Inv t s → inner o J estOrder lctOrder 1 t st ≡ on st′ → Inv t st′
     leads {s} z w e = subst (Inv t) (ap state-of (sym z ∙ e)) w
 
-    took : (x : ℕ) → ltb (steps.En o J ok first second rk ord t) (leaves.rootEctBar J first (st .leaves)) ≡ true → leaves.responsible J first (st .leaves) ≡ some x → inner o J first second 1 t st ≡ on st′ → Inv t st′
+    took : (x : ℕ) → ltb (steps.En o J ok estOrder lctOrder rk ord t) (leaves.rootEctBar J estOrder (st .leaves)) ≡ true → leaves.responsible J estOrder (st .leaves) ≡ some x → inner o J estOrder lctOrder 1 t st ≡ on st′ → Inv t st′
     took x z w e = elim (bool (ltb (J .earliest (T x)) ect)) [
-      | inr y ↦ leads (inner-pass o J first second 0 t st x z w y ∙ inner-end o J first second 0 t (dropped st x)) (steps.pass-ok o J ok first second rk ord Good GoodEnd meas t st small v x found (ltb-true _ _ z) (ltb-false _ _ y)) e
+      | inr y ↦ leads (inner-pass o J estOrder lctOrder 0 t st x z w y ∙ inner-end o J estOrder lctOrder 0 t (dropped st x)) (steps.pass-ok o J ok estOrder lctOrder rk ord Good GoodEnd meas t st small v x found (ltb-true _ _ z) (ltb-false _ _ y)) e
       | inl y ↦ elim (bool (ltb (J .latest (T x)) ect)) [
-        | inl a ↦ clash {b = false} (ap goes-on (sym (inner-stop o J first second 0 t st x z w y a) ∙ e)) refl
-        | inr a ↦ leads (inner-raise o J first second 0 t st x z w y a ∙ inner-end o J first second 0 t (dropped (raised (posted o J first second st (T x) ect t) (T x) ect) x))
-            (steps.raise-ok o J ok first second rk ord Good GoodEnd meas t st small v x found (ltb-true _ _ z) (ltb-true _ _ y) (ltb-false _ _ a)) e
+        | inl a ↦ clash {b = false} (ap goes-on (sym (inner-stop o J estOrder lctOrder 0 t st x z w y a) ∙ e)) refl
+        | inr a ↦ leads (inner-raise o J estOrder lctOrder 0 t st x z w y a ∙ inner-end o J estOrder lctOrder 0 t (dropped (raised (posted o J estOrder lctOrder st (T x) ect t) (T x) ect) x))
+            (steps.raise-ok o J ok estOrder lctOrder rk ord Good GoodEnd meas t st small v x found (ltb-true _ _ z) (ltb-true _ _ y) (ltb-false _ _ a)) e
       ]
     ]
       where
-        found : tree.Found J ok first rk (st .leaves) Θ Λ shape x
-        found = tree.one-found J ok first rk (st .leaves) Θ Λ shape x w
+        found : tree.Found J ok estOrder rk (st .leaves) Θ Λ shape x
+        found = tree.one-found J ok estOrder rk (st .leaves) Θ Λ shape x w
 
-    turn-inv : inner o J first second 1 t st ≡ on st′ → Inv t st′
-    turn-inv e = elim (bool (ltb (steps.En o J ok first second rk ord t) (leaves.rootEctBar J first (st .leaves)))) [
-      | inr z ↦ leads (inner-off o J first second 0 t st z) v e
-      | inl z ↦ elim (opt (leaves.responsible J first (st .leaves))) [
-        | inl w ↦ leads (inner-none o J first second 0 t st z w) v e
+    turn-inv : inner o J estOrder lctOrder 1 t st ≡ on st′ → Inv t st′
+    turn-inv e = elim (bool (ltb (steps.En o J ok estOrder lctOrder rk ord t) (leaves.rootEctBar J estOrder (st .leaves)))) [
+      | inr z ↦ leads (inner-off o J estOrder lctOrder 0 t st z) v e
+      | inl z ↦ elim (opt (leaves.responsible J estOrder (st .leaves))) [
+        | inl w ↦ leads (inner-none o J estOrder lctOrder 0 t st z w) v e
         | inr w ↦ took (w .0) z (w .1) e
       ]
     ]
 
-  pub reached-inv : (t : ℕ) (st : State) → Reached o J first second t st → t < J .count → Inv t st
+  pub reached-inv : (t : ℕ) (st : State) → Reached o J estOrder lctOrder t st → t < J .count → Inv t st
   reached-inv t st (at-head t₀ st₀ e) small = entered-closed t st e small .inv
   reached-inv t st (moved t₀ st₀ e q) small = quiet-moved t₀ st₀ (omega arith) (entered-closed t₀ st₀ e (omega arith)) q
   reached-inv t st (turned t₀ st₀ st₁ r e) small = turn-inv t st₀ st small (reached-inv t st₀ r small) e
 
   -- Θ has a task at every one of them, so that its ect is a moment
-  pub reached-ect : (t : ℕ) (st : State) → Reached o J first second t st → t < J .count → leaves.ect J first (st .leaves) ≡ some (leaves.rootEct J first (st .leaves))
+  pub reached-ect : (t : ℕ) (st : State) → Reached o J estOrder lctOrder t st → t < J .count → leaves.ect J estOrder (st .leaves) ≡ some (leaves.rootEct J estOrder (st .leaves))
   reached-ect t st r small =
-      tree.moment-some J ok first rk (st .leaves) (steps.Th o J ok first second rk ord t) (steps.lam o J ok first second rk ord Good GoodEnd meas st) (steps.shape o J ok first second rk ord Good GoodEnd meas t st (reached-inv t st r small))
-      (getD second t 0) (record { small = ord .task t small; mem = le-leb t (index second (getD second t 0)) (omega (arith, ord .back t small)) })
+      tree.moment-some J ok estOrder rk (st .leaves) (steps.Th o J ok estOrder lctOrder rk ord t) (steps.lam o J ok estOrder lctOrder rk ord Good GoodEnd meas st) (steps.shape o J ok estOrder lctOrder rk ord Good GoodEnd meas t st (reached-inv t st r small))
+      (getD lctOrder t 0) (record { small = ord .task t small; mem = le-leb t (index lctOrder (getD lctOrder t 0)) (omega (arith, ord .back t small)) })

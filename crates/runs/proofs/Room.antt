@@ -69,7 +69,7 @@ theta-fewer white task a (suc d) x p q y = elim (ℕ-discrete a x) [
   ]
 ]
 
-module _ (o : ℕ) (J : Tasks natural) (ok : Proper J) (first second : List ℕ) (rk : ByEarliest J (λ j. getD first j 0) (λ k. index first k)) (ord : ByCompletion J (λ t. getD second t 0) (λ k. index second k)) where
+module _ (o : ℕ) (J : Tasks natural) (ok : Proper J) (estOrder lctOrder : List ℕ) (rk : ByEarliest J (λ j. getD estOrder j 0) (λ k. index estOrder k)) (ord : ByCompletion J (λ t. getD lctOrder t 0) (λ k. index lctOrder k)) where
   abbrev n : ℕ
   n = J .count
 
@@ -80,53 +80,53 @@ module _ (o : ℕ) (J : Tasks natural) (ok : Proper J) (first second : List ℕ)
   abbrev pub ShortEnd : List Rattle.scheduling.specs.Scheduling.Atom → Type 0
   ShortEnd r = length r ≤ 2 * n
 
-  pub theta-most : (ls : List Leaf) → length (theta J first ls) ≤ n
-  theta-most ls = subst (λ (l : List ℕ). length l ≤ n) (sym (theta-is J first ls)) (theta-few (whiteAt ls) (taskAt J first) 0 n)
+  pub theta-most : (ls : List Leaf) → length (theta J estOrder ls) ≤ n
+  theta-most ls = subst (λ (l : List ℕ). length l ≤ n) (sym (theta-is J estOrder ls)) (theta-few (whiteAt ls) (taskAt J estOrder) 0 n)
 
-  pub theta-less : (ls : List Leaf) (x : ℕ) → x < n → whiteAt ls x ≡ false → suc (length (theta J first ls)) ≤ n
-  theta-less ls x q y = subst (λ (l : List ℕ). suc (length l) ≤ n) (sym (theta-is J first ls)) (theta-fewer (whiteAt ls) (taskAt J first) 0 n x (omega arith) (omega arith) y)
+  pub theta-less : (ls : List Leaf) (x : ℕ) → x < n → whiteAt ls x ≡ false → suc (length (theta J estOrder ls)) ≤ n
+  theta-less ls x q y = subst (λ (l : List ℕ). suc (length l) ≤ n) (sym (theta-is J estOrder ls)) (theta-fewer (whiteAt ls) (taskAt J estOrder) 0 n x (omega arith) (omega arith) y)
 
-  found-not-white : (t : ℕ) (ls : List Leaf) (Λ : TaskSet) (s : tree.Represents J ok first rk ls (Th o J ok first second rk ord t) Λ) (x : ℕ) → tree.Found J ok first rk ls (Th o J ok first second rk ord t) Λ s x → whiteAt ls x ≡ false
-  found-not-white t ls Λ s x f = tree.white-at J ok first rk ls (Th o J ok first second rk ord t) Λ s x (f .small) ∙ f .out
+  found-not-white : (t : ℕ) (ls : List Leaf) (Λ : TaskSet) (s : tree.Represents J ok estOrder rk ls (Th o J ok estOrder lctOrder rk ord t) Λ) (x : ℕ) → tree.Found J ok estOrder rk ls (Th o J ok estOrder lctOrder rk ord t) Λ s x → whiteAt ls x ≡ false
+  found-not-white t ls Λ s x f = tree.white-at J ok estOrder rk ls (Th o J ok estOrder lctOrder rk ord t) Λ s x (f .small) ∙ f .out
 
-  pub short : Measure o J ok first second rk ord Short ShortEnd
+  pub short : Measure o J ok estOrder lctOrder rk ord Short ShortEnd
   short = record {
     of-post = λ t ls Λ s x small f late over up.
         omega (
           arith,
-          propagation-length o J (getD first x 0) (Rattle.trees.specs.Leaves.rootEct J first ls) (Rattle.scheduling.specs.Scheduling.completion J (getD second t 0)) (Rattle.trees.specs.Leaves.sum J first ls) (theta J first ls),
+          propagation-length o J (getD estOrder x 0) (Rattle.trees.specs.Leaves.rootEct J estOrder ls) (Rattle.scheduling.specs.Scheduling.completion J (getD lctOrder t 0)) (Rattle.trees.specs.Leaves.sum J estOrder ls) (theta J estOrder ls),
           theta-less ls x (f .small) (found-not-white t ls Λ s x f),
         );
     of-end = λ t ls Λ s small over.
-        omega (arith, conflict-length o J (Rattle.scheduling.specs.Scheduling.completion J (getD second t 0)) (Rattle.trees.specs.Leaves.sum J first ls) (theta J first ls), theta-most ls);
+        omega (arith, conflict-length o J (Rattle.scheduling.specs.Scheduling.completion J (getD lctOrder t 0)) (Rattle.trees.specs.Leaves.sum J estOrder ls) (theta J estOrder ls), theta-most ls);
   }
 
-  pub reasons-short : (ps : List Post) → AllGood o J ok first second rk ord Short ShortEnd short ps → length (reasons ps) + length ps ≤ length ps * (2 * n)
+  pub reasons-short : (ps : List Post) → AllGood o J ok estOrder lctOrder rk ord Short ShortEnd short ps → length (reasons ps) + length ps ≤ length ps * (2 * n)
   unfolding reasons
   reasons-short [] g = omega arith
   reasons-short (p ∷ ps) g = omega (arith, length-append (p .reason) (reasons ps), g 0 (omega arith), reasons-short ps (λ j q. g (suc j) (omega arith)))
 
   -- the posted tasks come before place t
-  module _ (t : ℕ) (st : State) (v : Inv o J ok first second rk ord Short ShortEnd short t st) where
+  module _ (t : ℕ) (st : State) (v : Inv o J ok estOrder lctOrder rk ord Short ShortEnd short t st) where
     abbrev place : ℕ → ℕ
-    place k = index second k
+    place k = index lctOrder k
 
     abbrev tk : ℕ → ℕ
-    tk = taskOf o J ok first second rk ord Short ShortEnd short (st .posts)
+    tk = taskOf o J ok estOrder lctOrder rk ord Short ShortEnd short (st .posts)
 
     posted-early : (j : ℕ) → j < length (st .posts) → place (tk j) < t
     posted-early j q = elim (decLe t (place (tk j)))
         [ yes h ↦ absurd (omega (arith, v .posted .raises j q, v .posted .agrees j q, v .facts .same-on (tk j) (v .posted .small j q) h)) | no h ↦ omega arith ]
 
     same-task : (i j : ℕ) → i < n → j < n → place i ≡ place j → i ≡ j
-    same-task i j q r z = sym (ord .there i q) ∙ ap (λ (u : ℕ). getD second u 0) z ∙ ord .there j r
+    same-task i j q r z = sym (ord .there i q) ∙ ap (λ (u : ℕ). getD lctOrder u 0) z ∙ ord .there j r
 
     pub posts-few : length (st .posts) ≤ t
     posts-few = at-most (λ j. place (tk j)) t (length (st .posts)) posted-early
         (λ i j q r z. v .posted .once i j q r (same-task (tk i) (tk j) (v .posted .small i q) (v .posted .small j r) z))
 
     -- with one more, which was not posted yet
-    pub posts-fewer : (k : ℕ) → In J (lam o J ok first second rk ord Short ShortEnd short st) k → suc (length (st .posts)) ≤ t
+    pub posts-fewer : (k : ℕ) → In J (lam o J ok estOrder lctOrder rk ord Short ShortEnd short st) k → suc (length (st .posts)) ≤ t
     posts-fewer k h = at-most more t (suc (length (st .posts))) small once
       where
         more : ℕ → ℕ

@@ -150,46 +150,46 @@ module _ (o : ℕ) (J : Tasks natural) (ok : Proper J) (low high d : ℕ) (early
       ]
 
   -- every post and every overload of a run
-  module _ (first second : List ℕ) (rk : ByEarliest J (λ j. getD first j 0) (λ k. index first k)) (ord : ByCompletion J (λ t. getD second t 0) (λ k. index second k)) where
-    module _ (t : ℕ) (ls : List Leaf) (Λ : TaskSet) (s : tree.Represents J ok first rk ls (λ k. leb t (index second k)) Λ) (small : t < n) where
+  module _ (estOrder lctOrder : List ℕ) (rk : ByEarliest J (λ j. getD estOrder j 0) (λ k. index estOrder k)) (ord : ByCompletion J (λ t. getD lctOrder t 0) (λ k. index lctOrder k)) where
+    module _ (t : ℕ) (ls : List Leaf) (Λ : TaskSet) (s : tree.Represents J ok estOrder rk ls (λ k. leb t (index lctOrder k)) Λ) (small : t < n) where
       abbrev Θ : TaskSet
-      Θ k = leb t (index second k)
+      Θ k = leb t (index lctOrder k)
 
-      listed : Listed (theta J first ls)
-      listed k h = tree.theta-only J ok first rk ls Θ Λ s k h .small
+      listed : Listed (theta J estOrder ls)
+      listed k h = tree.theta-only J ok estOrder rk ls Θ Λ s k h .small
 
-      sum-is : leaves.sum J first ls ≡ processing J Θ
-      sum-is = tree.sum-of J ok first rk ls Θ Λ s
+      sum-is : leaves.sum J estOrder ls ≡ processing J Θ
+      sum-is = tree.sum-of J ok estOrder rk ls Θ Λ s
 
-      sum-most : leaves.sum J first ls ≤ d
+      sum-most : leaves.sum J estOrder ls ≤ d
       sum-most = omega (arith, all, sum-is, processing-mono J Θ (λ _. true) (λ k h. refl))
 
       -- a task outside Θ leaves that much less for Θ
-      sum-with : (i : ℕ) → i < n → Θ i ≡ false → leaves.sum J first ls + J .duration i ≤ d
+      sum-with : (i : ℕ) → i < n → Θ i ≡ false → leaves.sum J estOrder ls + J .duration i ≤ d
       sum-with i q z = omega (arith, all, sum-is, processing-with J Θ i (record { small = q; mem = z }), processing-mono J (Θ with i) (λ _. true) (λ k h. refl))
 
-      last : Task (getD second t 0)
-      last = task (getD second t 0) (ord .task t small)
+      last : Task (getD lctOrder t 0)
+      last = task (getD lctOrder t 0) (ord .task t small)
 
-      ect-most : leaves.rootEct J first ls ≤ high + leaves.sum J first ls
+      ect-most : leaves.rootEct J estOrder ls ≤ high + leaves.sum J estOrder ls
       ect-most =
-          let e = stops.ect-is o J ok first second rk ord t ls Λ s small .holds in
+          let e = stops.ect-is o J ok estOrder lctOrder rk ord t ls Λ s small .holds in
           let (k, m, z) = e .est .holds in
           omega (arith, z, e .sum, sum-is, task k (m .small) .until, processing-mono J (e .part) Θ (e .within))
 
-    pub shaped : Measure o J ok first second rk ord (ShapedPost o J low high d) (ShapedEnd o J low high d)
+    pub shaped : Measure o J ok estOrder lctOrder rk ord (ShapedPost o J low high d) (ShapedEnd o J low high d)
     shaped = record {
       of-post = λ t ls Λ s x small f late over up.
-          let i = task (getD first x 0) (f .gray .small) in
-          let m : leaves.sum J first ls + J .duration (getD first x 0) ≤ d = sum-with t ls Λ s small (getD first x 0) (f .gray .small) (f .out) in
+          let i = task (getD estOrder x 0) (f .gray .small) in
+          let m : leaves.sum J estOrder ls + J .duration (getD estOrder x 0) ≤ d = sum-with t ls Λ s small (getD estOrder x 0) (f .gray .small) (f .out) in
           record {
-            says = record { task = i .small; kind = omega arith; at = leaves.rootEct J first ls; value = refl; from = omega (arith, i .starts, i .short, up); to = omega (arith, m, ect-most t ls Λ s small) };
-            because = propagation-fits (getD first x 0) (leaves.rootEct J first ls) (completion J (getD second t 0)) (leaves.sum J first ls) i (last t ls Λ s small .ends) m (theta J first ls) (listed t ls Λ s small);
-            few = omega (arith, room.short o J ok first second rk ord .of-post t ls Λ s x small f late over up);
+            says = record { task = i .small; kind = omega arith; at = leaves.rootEct J estOrder ls; value = refl; from = omega (arith, i .starts, i .short, up); to = omega (arith, m, ect-most t ls Λ s small) };
+            because = propagation-fits (getD estOrder x 0) (leaves.rootEct J estOrder ls) (completion J (getD lctOrder t 0)) (leaves.sum J estOrder ls) i (last t ls Λ s small .ends) m (theta J estOrder ls) (listed t ls Λ s small);
+            few = omega (arith, room.short o J ok estOrder lctOrder rk ord .of-post t ls Λ s x small f late over up);
           };
       of-end = λ t ls Λ s small over. record {
-        because = conflict-fits (completion J (getD second t 0)) (leaves.sum J first ls) (last t ls Λ s small .ends) (last t ls Λ s small .by) (sum-most t ls Λ s small) (theta J first ls) (listed t ls Λ s small);
-        few = room.short o J ok first second rk ord .of-end t ls Λ s small over;
+        because = conflict-fits (completion J (getD lctOrder t 0)) (leaves.sum J estOrder ls) (last t ls Λ s small .ends) (last t ls Λ s small .by) (sum-most t ls Λ s small) (theta J estOrder ls) (listed t ls Λ s small);
+        few = room.short o J ok estOrder lctOrder rk ord .of-end t ls Λ s small over;
       };
     }
 

@@ -35,56 +35,56 @@ startsOf (on st) = st .starts
 startsOf (stop st) = st .starts
 
 -- What holds of the starts, and still holds when one is raised within its range, holds of those that a run leaves.
-module _ (o : ℕ) (J : Tasks natural) (first second : List ℕ) (P : List ℕ → Type 0) (raises : (l : List ℕ) (i b : ℕ) → J .earliest i < b → b ≤ J .latest i → P l → P (set l i b)) where
-  inner-keeps : (f t : ℕ) (st : State) → P (st .starts) → P (startsOf (inner o J first second f t st))
-  inner-keeps zero t st h = subst (λ (u : Turn). P (startsOf u)) (sym (inner-end o J first second 0 t st)) h
-  inner-keeps (suc f) t st h = by (inner-keeps f t) (bool (ltb (lct o J first second t) (rootEctBar J first (st .leaves))))
+module _ (o : ℕ) (J : Tasks natural) (estOrder lctOrder : List ℕ) (P : List ℕ → Type 0) (raises : (l : List ℕ) (i b : ℕ) → J .earliest i < b → b ≤ J .latest i → P l → P (set l i b)) where
+  inner-keeps : (f t : ℕ) (st : State) → P (st .starts) → P (startsOf (inner o J estOrder lctOrder f t st))
+  inner-keeps zero t st h = subst (λ (u : Turn). P (startsOf u)) (sym (inner-end o J estOrder lctOrder 0 t st)) h
+  inner-keeps (suc f) t st h = by (inner-keeps f t) (bool (ltb (lct o J estOrder lctOrder t) (rootEctBar J estOrder (st .leaves))))
     where
       Keeps : Turn → Type 0
       Keeps u = P (startsOf u)
 
       IH : Type 0
-      IH = (st′ : State) → P (st′ .starts) → P (startsOf (inner o J first second f t st′))
+      IH = (st′ : State) → P (st′ .starts) → P (startsOf (inner o J estOrder lctOrder f t st′))
 
-      took : IH → (x : ℕ) → ltb (lct o J first second t) (rootEctBar J first (st .leaves)) ≡ true → responsible J first (st .leaves) ≡ some x → Keeps (inner o J first second (suc f) t st)
-      took ih x z w = let i : ℕ = getD first x 0 in let b : ℕ = rootEct J first (st .leaves) in
+      took : IH → (x : ℕ) → ltb (lct o J estOrder lctOrder t) (rootEctBar J estOrder (st .leaves)) ≡ true → responsible J estOrder (st .leaves) ≡ some x → Keeps (inner o J estOrder lctOrder (suc f) t st)
+      took ih x z w = let i : ℕ = getD estOrder x 0 in let b : ℕ = rootEct J estOrder (st .leaves) in
           elim (bool (ltb (J .earliest i) b)) [
-            | inr y ↦ subst Keeps (sym (inner-pass o J first second f t st x z w y)) (ih (dropped st x) h)
+            | inr y ↦ subst Keeps (sym (inner-pass o J estOrder lctOrder f t st x z w y)) (ih (dropped st x) h)
             | inl y ↦ elim (bool (ltb (J .latest i) b)) [
-              | inl a ↦ subst Keeps (sym (inner-stop o J first second f t st x z w y a)) h
-              | inr a ↦ subst Keeps (sym (inner-raise o J first second f t st x z w y a))
-                  (ih (dropped (raised (posted o J first second st i b t) i b) x) (raises (st .starts) i b (ltb-true (J .earliest i) b y) (ltb-false (J .latest i) b a) h))
+              | inl a ↦ subst Keeps (sym (inner-stop o J estOrder lctOrder f t st x z w y a)) h
+              | inr a ↦ subst Keeps (sym (inner-raise o J estOrder lctOrder f t st x z w y a))
+                  (ih (dropped (raised (posted o J estOrder lctOrder st i b t) i b) x) (raises (st .starts) i b (ltb-true (J .earliest i) b y) (ltb-false (J .latest i) b a) h))
             ]
           ]
 
-      by : IH → (ltb (lct o J first second t) (rootEctBar J first (st .leaves)) ≡ true) ⊎ (ltb (lct o J first second t) (rootEctBar J first (st .leaves)) ≡ false) → Keeps (inner o J first second (suc f) t st)
-      by ih (inr z) = subst Keeps (sym (inner-off o J first second f t st z)) h
-      by ih (inl z) = elim (opt (responsible J first (st .leaves)))
-          [ inl w ↦ subst Keeps (sym (inner-none o J first second f t st z w)) h | inr w ↦ took ih (w .0) z (w .1) ]
+      by : IH → (ltb (lct o J estOrder lctOrder t) (rootEctBar J estOrder (st .leaves)) ≡ true) ⊎ (ltb (lct o J estOrder lctOrder t) (rootEctBar J estOrder (st .leaves)) ≡ false) → Keeps (inner o J estOrder lctOrder (suc f) t st)
+      by ih (inr z) = subst Keeps (sym (inner-off o J estOrder lctOrder f t st z)) h
+      by ih (inl z) = elim (opt (responsible J estOrder (st .leaves)))
+          [ inl w ↦ subst Keeps (sym (inner-none o J estOrder lctOrder f t st z w)) h | inr w ↦ took ih (w .0) z (w .1) ]
 
   -- a trace whose starts are those of a list of moments
   abbrev Left : Trace → Type 0
   Left r = (l : List ℕ) × (r .starts ≡ map (instant o) l) × P l
 
-  outer-keeps : (f t : ℕ) (st : State) → P (st .starts) → Left (outer o J first second f t st)
-  outer-keeps zero t st h = subst Left (sym (outer-end o J first second 0 t st)) (st .starts, refl, h)
-  outer-keeps (suc f) t st h = by (outer-keeps f (suc t)) (bool (ltb (lct o J first second t) (rootEct J first (st .leaves))))
+  outer-keeps : (f t : ℕ) (st : State) → P (st .starts) → Left (outer o J estOrder lctOrder f t st)
+  outer-keeps zero t st h = subst Left (sym (outer-end o J estOrder lctOrder 0 t st)) (st .starts, refl, h)
+  outer-keeps (suc f) t st h = by (outer-keeps f (suc t)) (bool (ltb (lct o J estOrder lctOrder t) (rootEct J estOrder (st .leaves))))
     where
       IH : Type 0
-      IH = (st′ : State) → P (st′ .starts) → Left (outer o J first second f (suc t) st′)
+      IH = (st′ : State) → P (st′ .starts) → Left (outer o J estOrder lctOrder f (suc t) st′)
 
-      turned : (u : Turn) → inner o J first second (J .count) (suc t) (grayed st (index first (getD second t 0))) ≡ u → P (startsOf u)
-      turned u e = subst (λ (u : Turn). P (startsOf u)) e (inner-keeps (J .count) (suc t) (grayed st (index first (getD second t 0))) h)
+      turned : (u : Turn) → inner o J estOrder lctOrder (J .count) (suc t) (grayed st (index estOrder (getD lctOrder t 0))) ≡ u → P (startsOf u)
+      turned u e = subst (λ (u : Turn). P (startsOf u)) e (inner-keeps (J .count) (suc t) (grayed st (index estOrder (getD lctOrder t 0))) h)
 
-      by : IH → (ltb (lct o J first second t) (rootEct J first (st .leaves)) ≡ true) ⊎ (ltb (lct o J first second t) (rootEct J first (st .leaves)) ≡ false) → Left (outer o J first second (suc f) t st)
-      by ih (inl z) = subst Left (sym (outer-over o J first second f t st z)) (st .starts, refl, h)
-      by ih (inr z) = elim (turn (inner o J first second (J .count) (suc t) (grayed st (index first (getD second t 0))))) [
-        | inl w ↦ subst Left (sym (outer-on o J first second f t st (w .0) z (w .1))) (ih (w .0) (turned (on (w .0)) (w .1)))
-        | inr w ↦ subst Left (sym (outer-stop o J first second f t st (w .0) z (w .1))) (w .0 .starts, refl, turned (stop (w .0)) (w .1))
+      by : IH → (ltb (lct o J estOrder lctOrder t) (rootEct J estOrder (st .leaves)) ≡ true) ⊎ (ltb (lct o J estOrder lctOrder t) (rootEct J estOrder (st .leaves)) ≡ false) → Left (outer o J estOrder lctOrder (suc f) t st)
+      by ih (inl z) = subst Left (sym (outer-over o J estOrder lctOrder f t st z)) (st .starts, refl, h)
+      by ih (inr z) = elim (turn (inner o J estOrder lctOrder (J .count) (suc t) (grayed st (index estOrder (getD lctOrder t 0))))) [
+        | inl w ↦ subst Left (sym (outer-on o J estOrder lctOrder f t st (w .0) z (w .1))) (ih (w .0) (turned (on (w .0)) (w .1)))
+        | inr w ↦ subst Left (sym (outer-stop o J estOrder lctOrder f t st (w .0) z (w .1))) (w .0 .starts, refl, turned (stop (w .0)) (w .1))
       ]
 
-  run-keeps : P (tabulate (J .earliest) 0 (J .count)) → Left (run o J first second)
-  run-keeps h = subst Left (sym (run-is o J first second)) (outer-keeps (J .count - 1) 0 _ h)
+  run-keeps : P (tabulate (J .earliest) 0 (J .count)) → Left (run o J estOrder lctOrder)
+  run-keeps h = subst Left (sym (run-is o J estOrder lctOrder)) (outer-keeps (J .count - 1) 0 _ h)
 
 module _ (ds : List ℕ) (es ls : List ℤ) where
   abbrev J : Tasks natural

@@ -57,18 +57,18 @@ done-same J now now′ m task bound z d = record {
   once = d .once;
 }
 
-module _ (o : ℕ) (J : Tasks natural) (ok : Proper J) (first second : List ℕ) (rk : ByEarliest J (λ j. getD first j 0) (λ k. index first k)) (ord : ByCompletion J (λ t. getD second t 0) (λ k. index second k)) where
+module _ (o : ℕ) (J : Tasks natural) (ok : Proper J) (estOrder lctOrder : List ℕ) (rk : ByEarliest J (λ j. getD estOrder j 0) (λ k. index estOrder k)) (ord : ByCompletion J (λ t. getD lctOrder t 0) (λ k. index lctOrder k)) where
   abbrev pub T : ℕ → ℕ
-  T j = getD first j 0
+  T j = getD estOrder j 0
 
   abbrev pub rank : ℕ → ℕ
-  rank k = index first k
+  rank k = index estOrder k
 
   abbrev pub L : ℕ → ℕ
-  L t = getD second t 0
+  L t = getD lctOrder t 0
 
   abbrev pub place : ℕ → ℕ
-  place k = index second k
+  place k = index lctOrder k
 
   abbrev pub n : ℕ
   n = J .count
@@ -89,22 +89,22 @@ module _ (o : ℕ) (J : Tasks natural) (ok : Proper J) (first second : List ℕ)
   Fa = Facts J ok E E-is L place ord
 
   abbrev pub Shape : List Leaf → TaskSet → TaskSet → Type 0
-  Shape = tree.Represents J ok first rk
+  Shape = tree.Represents J ok estOrder rk
 
   abbrev pub Found : (ls : List Leaf) (Ω Λ : TaskSet) → Shape ls Ω Λ → ℕ → Type 0
-  Found = tree.Found J ok first rk
+  Found = tree.Found J ok estOrder rk
 
   abbrev pub ectOf : List Leaf → ℕ
-  ectOf = leaves.rootEct J first
+  ectOf = leaves.rootEct J estOrder
 
   abbrev pub barOf : List Leaf → ℕ
-  barOf = leaves.rootEctBar J first
+  barOf = leaves.rootEctBar J estOrder
 
   -- what a post and an overload's reason are to be
   pub record Measure (Good : Post → Type 0) (GoodEnd : List Atom → Type 0) : Type 0 where
     pub of-post : (t : ℕ) (ls : List Leaf) (Λ : TaskSet) (s : Shape ls (Th t) Λ) (x : ℕ) → t < n → Found ls (Th t) Λ s x → place (T x) < t → En t < barOf ls → J .earliest (T x) < ectOf ls
-        → Good (record { task = T x; bound = subℕ (ectOf ls) o; reason = propagation o J (T x) (ectOf ls) (En t) (leaves.sum J first ls) (theta J first ls) })
-    pub of-end : (t : ℕ) (ls : List Leaf) (Λ : TaskSet) (s : Shape ls (Th t) Λ) → t < n → En t < ectOf ls → GoodEnd (conflict o J (En t) (leaves.sum J first ls) (theta J first ls))
+        → Good (record { task = T x; bound = subℕ (ectOf ls) o; reason = propagation o J (T x) (ectOf ls) (En t) (leaves.sum J estOrder ls) (theta J estOrder ls) })
+    pub of-end : (t : ℕ) (ls : List Leaf) (Λ : TaskSet) (s : Shape ls (Th t) Λ) → t < n → En t < ectOf ls → GoodEnd (conflict o J (En t) (leaves.sum J estOrder ls) (theta J estOrder ls))
 
   module _ (Good : Post → Type 0) (GoodEnd : List Atom → Type 0) (meas : Measure Good GoodEnd) where
     abbrev pub lam : State → TaskSet
@@ -208,7 +208,7 @@ module _ (o : ℕ) (J : Tasks natural) (ok : Proper J) (first second : List ℕ)
       hit = omega (arith, over, f .reaches, E-is (Th t with i) (i, record { small = mem .small; mem = with-new (Th t) i }) .bounds (f .value) (f .attains))
 
       ect-is : ectOf (st .leaves) ≡ E (Th t)
-      ect-is = tree.ect-is J ok first rk (st .leaves) (Th t) (lam st) (shape t st v)
+      ect-is = tree.ect-is J ok estOrder rk (st .leaves) (Th t) (lam st) (shape t st v)
 
       pub pass-ok : ectOf (st .leaves) ≤ J .earliest i → Inv t (edges.dropped st x)
       pass-ok low = subst (λ (x : ℕ). Inv t (edges.dropped st x)) at-x (record {
@@ -225,13 +225,13 @@ module _ (o : ℕ) (J : Tasks natural) (ok : Proper J) (first second : List ℕ)
       b = ectOf (st .leaves)
 
       abbrev pub p : Post
-      p = record { task = i; bound = subℕ b o; reason = propagation o J i b (En t) (leaves.sum J first (st .leaves)) (theta J first (st .leaves)) }
+      p = record { task = i; bound = subℕ b o; reason = propagation o J i b (En t) (leaves.sum J estOrder (st .leaves)) (theta J estOrder (st .leaves)) }
 
       good-p : J .earliest i < b → Good p
       good-p up = meas .of-post t (st .leaves) (lam st) (shape t st v) x small f late over up
 
-      pub raise-ok : J .earliest i < b → b ≤ J .latest i → Inv t (edges.dropped (edges.raised (edges.posted o J first second st i b t) i b) x)
-      raise-ok up fits = subst (λ (x : ℕ). Inv t (edges.dropped (edges.raised (edges.posted o J first second st i b t) i b) x)) at-x (record {
+      pub raise-ok : J .earliest i < b → b ≤ J .latest i → Inv t (edges.dropped (edges.raised (edges.posted o J estOrder lctOrder st i b t) i b) x)
+      raise-ok up fits = subst (λ (x : ℕ). Inv t (edges.dropped (edges.raised (edges.posted o J estOrder lctOrder st i b t) i b) x)) at-x (record {
         size = length-set (st .leaves) (rank i) empty ∙ v .size;
         whites = drop-whites t (st .leaves) i (v .size) (mem .small) late (v .whites);
         known = length-set (st .starts) i b ∙ v .known;
@@ -260,35 +260,35 @@ module _ (o : ℕ) (J : Tasks natural) (ok : Proper J) (first second : List ℕ)
       fewer f q = subst (λ (x : ℕ). card J (λ k. grayAt (set (st .leaves) x empty) (rank k)) ≤ f) at-x
           (omega (arith, card-less J (lam st) i mem, card-same J (lam st less i) (λ k. grayAt (set (st .leaves) (rank i) empty) (rank k)) (drop-grays t (st .leaves) i (v .size) (mem .small) late)))
 
-    pub inner-ok : (f t : ℕ) (st : State) → t < n → Inv t st → card J (lam st) ≤ f → TurnOk t (inner o J first second f t st)
-    inner-ok zero t st small v few = rw (inner-end o J first second 0 t st) (record { inv = v; none-passes = λ q k h. absurd (card-zero J (lam st) few k h) })
+    pub inner-ok : (f t : ℕ) (st : State) → t < n → Inv t st → card J (lam st) ≤ f → TurnOk t (inner o J estOrder lctOrder f t st)
+    inner-ok zero t st small v few = rw (inner-end o J estOrder lctOrder 0 t st) (record { inv = v; none-passes = λ q k h. absurd (card-zero J (lam st) few k h) })
     inner-ok (suc f) t st small v few = by (λ st′. inner-ok f t st′ small) (bool (ltb (En t) (barOf (st .leaves))))
       where
         IH : Type 0
-        IH = (st′ : State) → Inv t st′ → card J (lam st′) ≤ f → TurnOk t (inner o J first second f t st′)
+        IH = (st′ : State) → Inv t st′ → card J (lam st′) ≤ f → TurnOk t (inner o J estOrder lctOrder f t st′)
 
-        took : IH → ltb (En t) (barOf (st .leaves)) ≡ true → (x : ℕ) → leaves.responsible J first (st .leaves) ≡ some x → Found (st .leaves) (Th t) (lam st) (shape t st v) x → TurnOk t (inner o J first second (suc f) t st)
+        took : IH → ltb (En t) (barOf (st .leaves)) ≡ true → (x : ℕ) → leaves.responsible J estOrder (st .leaves) ≡ some x → Found (st .leaves) (Th t) (lam st) (shape t st v) x → TurnOk t (inner o J estOrder lctOrder (suc f) t st)
         took ih z x w g = elim (bool (ltb (J .earliest (T x)) (ectOf (st .leaves)))) [
-          | inr y ↦ rw (inner-pass o J first second f t st x z w y) (ih (edges.dropped st x) (pass-ok t st small v x g (ltb-true _ _ z) (ltb-false _ _ y)) (fewer t st small v x g (ltb-true _ _ z) f few))
+          | inr y ↦ rw (inner-pass o J estOrder lctOrder f t st x z w y) (ih (edges.dropped st x) (pass-ok t st small v x g (ltb-true _ _ z) (ltb-false _ _ y)) (fewer t st small v x g (ltb-true _ _ z) f few))
           | inl y ↦ elim (bool (ltb (J .latest (T x)) (ectOf (st .leaves)))) [
-            | inl a ↦ rw (inner-stop o J first second f t st x z w y a) (stop-ok t st small v x g (ltb-true _ _ z) (ltb-true _ _ y) (ltb-true _ _ a))
-            | inr a ↦ rw (inner-raise o J first second f t st x z w y a) (ih _ (raise-ok t st small v x g (ltb-true _ _ z) (ltb-true _ _ y) (ltb-false _ _ a)) (fewer t st small v x g (ltb-true _ _ z) f few))
+            | inl a ↦ rw (inner-stop o J estOrder lctOrder f t st x z w y a) (stop-ok t st small v x g (ltb-true _ _ z) (ltb-true _ _ y) (ltb-true _ _ a))
+            | inr a ↦ rw (inner-raise o J estOrder lctOrder f t st x z w y a) (ih _ (raise-ok t st small v x g (ltb-true _ _ z) (ltb-true _ _ y) (ltb-false _ _ a)) (fewer t st small v x g (ltb-true _ _ z) f few))
           ]
         ]
 
-        by : IH → (ltb (En t) (barOf (st .leaves)) ≡ true) ⊎ (ltb (En t) (barOf (st .leaves)) ≡ false) → TurnOk t (inner o J first second (suc f) t st)
-        by ih (inr z) = rw (inner-off o J first second f t st z) (record { inv = v; none-passes = λ q k h. omega (arith, tree.most J ok first rk (st .leaves) (Th t) (lam st) (shape t st v) k h, ltb-false (En t) (barOf (st .leaves)) z) })
-        by ih (inl z) = elim (opt (leaves.responsible J first (st .leaves))) [
-          | inl w ↦ rw (inner-none o J first second f t st z w) (record {
+        by : IH → (ltb (En t) (barOf (st .leaves)) ≡ true) ⊎ (ltb (En t) (barOf (st .leaves)) ≡ false) → TurnOk t (inner o J estOrder lctOrder (suc f) t st)
+        by ih (inr z) = rw (inner-off o J estOrder lctOrder f t st z) (record { inv = v; none-passes = λ q k h. omega (arith, tree.most J ok estOrder rk (st .leaves) (Th t) (lam st) (shape t st v) k h, ltb-false (En t) (barOf (st .leaves)) z) })
+        by ih (inl z) = elim (opt (leaves.responsible J estOrder (st .leaves))) [
+          | inl w ↦ rw (inner-none o J estOrder lctOrder f t st z w) (record {
             inv = v;
             none-passes = λ q. absurd (omega (
               arith,
               ltb-true (En t) (barOf (st .leaves)) z,
-              tree.ect-is J ok first rk (st .leaves) (Th t) (lam st) (shape t st v),
-              tree.none-found J ok first rk (st .leaves) (Th t) (lam st) (shape t st v) w,
+              tree.ect-is J ok estOrder rk (st .leaves) (Th t) (lam st) (shape t st v),
+              tree.none-found J ok estOrder rk (st .leaves) (Th t) (lam st) (shape t st v) w,
             ));
           })
-          | inr w ↦ took ih z (w .0) (w .1) (tree.one-found J ok first rk (st .leaves) (Th t) (lam st) (shape t st v) (w .0) (w .1))
+          | inr w ↦ took ih z (w .0) (w .1) (tree.one-found J ok estOrder rk (st .leaves) (Th t) (lam st) (shape t st v) (w .0) (w .1))
         ]
 
     pub record OutOk (tr : Trace) : Type 0 where
@@ -311,7 +311,7 @@ module _ (o : ℕ) (J : Tasks natural) (ok : Proper J) (first second : List ℕ)
               (next J ok E E-is L place ord t (lam st) (now st) small (v .facts) (c .none-passes q) q);
         }
 
-    done-ok : (t : ℕ) (st : State) → suc t ≡ n → Closed t st → OutOk (edges.ended o J first second st done)
+    done-ok : (t : ℕ) (st : State) → suc t ≡ n → Closed t st → OutOk (edges.ended o J estOrder lctOrder st done)
     done-ok t st end c =
         let q : E (Th t) ≤ En t = last-fits J ok E E-is L place ord t end in
         let v = c .inv in
@@ -325,39 +325,39 @@ module _ (o : ℕ) (J : Tasks natural) (ok : Proper J) (first second : List ℕ)
               (finish J ok E E-is L place ord t (lam st) (now st) end (v .facts) (c .none-passes q) (length (st .posts)) (taskOf (st .posts)) (boundOf (st .posts)) (v .posted));
         }
 
-    over-ok : (t : ℕ) (st : State) → t < n → Inv t st → En t < ectOf (st .leaves) → OutOk (edges.ended o J first second st (overload (conflict o J (En t) (leaves.sum J first (st .leaves)) (theta J first (st .leaves)))))
+    over-ok : (t : ℕ) (st : State) → t < n → Inv t st → En t < ectOf (st .leaves) → OutOk (edges.ended o J estOrder lctOrder st (overload (conflict o J (En t) (leaves.sum J estOrder (st .leaves)) (theta J estOrder (st .leaves)))))
     over-ok t st small v q =
         record {
           goods = v .good;
           above = map-above o (st .starts);
           when-done = λ z. let y : _≡_ {A = ℕ} 0 1 = cc in absurd (omega arith);
-          otherwise = λ _. inl (overloaded J ok E E-is L place ord t small (omega (arith, q, tree.ect-is J ok first rk (st .leaves) (Th t) (lam st) (shape t st v))));
-          over = λ r z. let y : conflict o J (En t) (leaves.sum J first (st .leaves)) (theta J first (st .leaves)) ≡ r = cc in
+          otherwise = λ _. inl (overloaded J ok E E-is L place ord t small (omega (arith, q, tree.ect-is J ok estOrder rk (st .leaves) (Th t) (lam st) (shape t st v))));
+          over = λ r z. let y : conflict o J (En t) (leaves.sum J estOrder (st .leaves)) (theta J estOrder (st .leaves)) ≡ r = cc in
               subst GoodEnd y (meas .of-end t (st .leaves) (lam st) (shape t st v) small q);
         }
 
-    empty-ok : (st : State) → Conflict J × AllGood (st .posts) → OutOk (edges.ended o J first second st emptied)
+    empty-ok : (st : State) → Conflict J × AllGood (st .posts) → OutOk (edges.ended o J estOrder lctOrder st emptied)
     empty-ok st w = record { goods = w .1; above = map-above o (st .starts); when-done = λ z. let y : _≡_ {A = ℕ} 0 1 = cc in absurd (omega arith); otherwise = λ _. w .0; over = λ r z. let y : _≡_ {A = ℕ} 0 1 = cc in absurd (omega arith) }
 
-    outer-ok : (f t : ℕ) (st : State) → suc (t + f) ≡ n → Closed t st → OutOk (outer o J first second f t st)
-    outer-ok zero t st end c = rw (outer-end o J first second 0 t st) (done-ok t st (omega arith) c)
+    outer-ok : (f t : ℕ) (st : State) → suc (t + f) ≡ n → Closed t st → OutOk (outer o J estOrder lctOrder f t st)
+    outer-ok zero t st end c = rw (outer-end o J estOrder lctOrder 0 t st) (done-ok t st (omega arith) c)
     outer-ok (suc f) t st end c = by (λ st′. outer-ok f (suc t) st′ (omega arith)) (bool (ltb (En t) (ectOf (st .leaves))))
       where
         IH : Type 0
-        IH = (st′ : State) → Closed (suc t) st′ → OutOk (outer o J first second f (suc t) st′)
+        IH = (st′ : State) → Closed (suc t) st′ → OutOk (outer o J estOrder lctOrder f (suc t) st′)
 
-        go : IH → ltb (En t) (ectOf (st .leaves)) ≡ false → E (Th t) ≤ En t → OutOk (outer o J first second (suc f) t st)
-        go ih z q = elim (turn (inner o J first second n (suc t) (edges.grayed st (rank (L t))))) [
-          | inl w ↦ rw (outer-on o J first second f t st (w .0) z (w .1)) (ih (w .0) (rw (w .1) at r))
-          | inr w ↦ rw (outer-stop o J first second f t st (w .0) z (w .1)) (empty-ok (w .0) (rw (w .1) at r))
+        go : IH → ltb (En t) (ectOf (st .leaves)) ≡ false → E (Th t) ≤ En t → OutOk (outer o J estOrder lctOrder (suc f) t st)
+        go ih z q = elim (turn (inner o J estOrder lctOrder n (suc t) (edges.grayed st (rank (L t))))) [
+          | inl w ↦ rw (outer-on o J estOrder lctOrder f t st (w .0) z (w .1)) (ih (w .0) (rw (w .1) at r))
+          | inr w ↦ rw (outer-stop o J estOrder lctOrder f t st (w .0) z (w .1)) (empty-ok (w .0) (rw (w .1) at r))
         ]
           where
-            r : TurnOk (suc t) (inner o J first second n (suc t) (edges.grayed st (rank (L t))))
+            r : TurnOk (suc t) (inner o J estOrder lctOrder n (suc t) (edges.grayed st (rank (L t))))
             r = inner-ok n (suc t) (edges.grayed st (rank (L t))) (omega arith) (gray-ok t st (omega arith) c q) (card-most J (lam (edges.grayed st (rank (L t)))))
 
-        by : IH → (ltb (En t) (ectOf (st .leaves)) ≡ true) ⊎ (ltb (En t) (ectOf (st .leaves)) ≡ false) → OutOk (outer o J first second (suc f) t st)
-        by ih (inl z) = rw (outer-over o J first second f t st z) (over-ok t st (omega arith) (c .inv) (ltb-true _ _ z))
-        by ih (inr z) = go ih z (omega (arith, ltb-false (En t) (ectOf (st .leaves)) z, tree.ect-is J ok first rk (st .leaves) (Th t) (lam st) (shape t st (c .inv))))
+        by : IH → (ltb (En t) (ectOf (st .leaves)) ≡ true) ⊎ (ltb (En t) (ectOf (st .leaves)) ≡ false) → OutOk (outer o J estOrder lctOrder (suc f) t st)
+        by ih (inl z) = rw (outer-over o J estOrder lctOrder f t st z) (over-ok t st (omega arith) (c .inv) (ltb-true _ _ z))
+        by ih (inr z) = go ih z (omega (arith, ltb-false (En t) (ectOf (st .leaves)) z, tree.ect-is J ok estOrder rk (st .leaves) (Th t) (lam st) (shape t st (c .inv))))
 
     -- the start
     abbrev pub st₀ : State
@@ -396,6 +396,6 @@ module _ (o : ℕ) (J : Tasks natural) (ok : Proper J) (first second : List ℕ)
     pub first-closed : Closed 0 st₀
     first-closed = record { inv = first-inv; none-passes = λ q k h. clash (h .mem) (no-gray k (h .small)) }
 
-    pub run-ok : 1 ≤ n → OutOk (run o J first second)
+    pub run-ok : 1 ≤ n → OutOk (run o J estOrder lctOrder)
     unfolding run
     run-ok one = outer-ok (n - 1) 0 st₀ (omega arith) first-closed

@@ -47,41 +47,41 @@ theta-append white task a (suc d) e = by (theta-append white task (suc a) d e) (
 drop-all : (xs ys : List ℕ) → drop (length xs) (xs ++ ys) ≡ ys
 drop-all xs ys = let z : length xs ≡ length xs + 0 = omega arith in ap (λ (k : ℕ). drop k (xs ++ ys)) z ∙ drop-append-add xs ys 0
 
-module _ (o : ℕ) (J : Tasks natural) (ok : Proper J) (first second : List ℕ) (rk : ByEarliest J (λ j. getD first j 0) (λ k. index first k)) (ord : ByCompletion J (λ t. getD second t 0) (λ k. index second k))
+module _ (o : ℕ) (J : Tasks natural) (ok : Proper J) (estOrder lctOrder : List ℕ) (rk : ByEarliest J (λ j. getD estOrder j 0) (λ k. index estOrder k)) (ord : ByCompletion J (λ t. getD lctOrder t 0) (λ k. index lctOrder k))
     (t : ℕ) (ls : List Leaf) (Λ : TaskSet) where
   abbrev n : ℕ
   n = J .count
 
   abbrev T : ℕ → ℕ
-  T j = getD first j 0
+  T j = getD estOrder j 0
 
   abbrev rank : ℕ → ℕ
-  rank k = index first k
+  rank k = index estOrder k
 
   abbrev place : ℕ → ℕ
-  place k = index second k
+  place k = index lctOrder k
 
   abbrev Θ : TaskSet
   Θ k = leb t (place k)
 
   abbrev c : ℕ
-  c = completion J (getD second t 0)
+  c = completion J (getD lctOrder t 0)
 
   abbrev ea : ℕ → ℕ
   ea j = J .earliest (T j)
 
-  module _ (s : tree.Represents J ok first rk ls Θ Λ) (small : t < n) where
+  module _ (s : tree.Represents J ok estOrder rk ls Θ Λ) (small : t < n) where
     abbrev onward : ℕ → TaskSet
-    onward a = walks.onward o J ok first second rk ls Θ Λ s a
+    onward a = walks.onward o J ok estOrder lctOrder rk ls Θ Λ s a
 
     abbrev dr : ℕ → ℕ
     dr a = processing J (onward a)
 
     abbrev b : ℕ
-    b = rootEct J first ls
+    b = rootEct J estOrder ls
 
     pub ect-is : Ect J Θ b
-    ect-is = tree.ect-of J ok first rk ls Θ Λ s (getD second t 0, record { small = ord .task t small; mem = le-leb t (place (getD second t 0)) (omega (arith, ord .back t small)) })
+    ect-is = tree.ect-of J ok estOrder rk ls Θ Λ s (getD lctOrder t 0, record { small = ord .task t small; mem = le-leb t (place (getD lctOrder t 0)) (omega (arith, ord .back t small)) })
 
     -- every task of Θ ends by the level's lct
     pub ends : (k : ℕ) → In J Θ k → completion J k ≤ c
@@ -92,17 +92,17 @@ module _ (o : ℕ) (J : Tasks natural) (ok : Proper J) (first second : List ℕ)
 
     -- the place in the list of a white leaf, and what is left of the list there
     pub spot : ℕ → ℕ
-    spot x = length (thetaOf (whiteAt ls) (taskAt J first) 0 x)
+    spot x = length (thetaOf (whiteAt ls) (taskAt J estOrder) 0 x)
 
-    pub from-spot : (x : ℕ) → x < n → drop (spot x) (theta J first ls) ≡ thetaOf (whiteAt ls) (taskAt J first) x (n - x)
+    pub from-spot : (x : ℕ) → x < n → drop (spot x) (theta J estOrder ls) ≡ thetaOf (whiteAt ls) (taskAt J estOrder) x (n - x)
     unfolding spot
     from-spot x q =
         let z : n ≡ x + (n - x) = omega arith in
-        ap (drop (spot x)) (theta-is J first ls)
-        ∙ ap (λ (d : ℕ). drop (spot x) (thetaOf (whiteAt ls) (taskAt J first) 0 d)) z
-        ∙ ap (drop (spot x)) (theta-append (whiteAt ls) (taskAt J first) 0 x (n - x))
-        ∙ drop-all (thetaOf (whiteAt ls) (taskAt J first) 0 x) (thetaOf (whiteAt ls) (taskAt J first) (0 + x) (n - x))
-        ∙ ap (λ (a : ℕ). thetaOf (whiteAt ls) (taskAt J first) a (n - x)) (the x)
+        ap (drop (spot x)) (theta-is J estOrder ls)
+        ∙ ap (λ (d : ℕ). drop (spot x) (thetaOf (whiteAt ls) (taskAt J estOrder) 0 d)) z
+        ∙ ap (drop (spot x)) (theta-append (whiteAt ls) (taskAt J estOrder) 0 x (n - x))
+        ∙ drop-all (thetaOf (whiteAt ls) (taskAt J estOrder) 0 x) (thetaOf (whiteAt ls) (taskAt J estOrder) (0 + x) (n - x))
+        ∙ ap (λ (a : ℕ). thetaOf (whiteAt ls) (taskAt J estOrder) a (n - x)) (the x)
       where
         the : (x : ℕ) → 0 + x ≡ x
         the x = omega arith
@@ -111,8 +111,8 @@ module _ (o : ℕ) (J : Tasks natural) (ok : Proper J) (first second : List ℕ)
     unfolding spot
     spot-up x y q =
         let z : y ≡ x + (y - x) = omega arith in
-        subst (λ (d : ℕ). length (thetaOf (whiteAt ls) (taskAt J first) 0 x) ≤ length (thetaOf (whiteAt ls) (taskAt J first) 0 d)) (sym z)
-        (omega (arith, ap length (theta-append (whiteAt ls) (taskAt J first) 0 x (y - x)), lib.ListN.length-append (thetaOf (whiteAt ls) (taskAt J first) 0 x) (thetaOf (whiteAt ls) (taskAt J first) (0 + x) (y - x))))
+        subst (λ (d : ℕ). length (thetaOf (whiteAt ls) (taskAt J estOrder) 0 x) ≤ length (thetaOf (whiteAt ls) (taskAt J estOrder) 0 d)) (sym z)
+        (omega (arith, ap length (theta-append (whiteAt ls) (taskAt J estOrder) 0 x (y - x)), lib.ListN.length-append (thetaOf (whiteAt ls) (taskAt J estOrder) 0 x) (thetaOf (whiteAt ls) (taskAt J estOrder) (0 + x) (y - x))))
 
     -- the overload's walk stops
     pub record OverloadStops : Type 0 where
@@ -127,15 +127,15 @@ module _ (o : ℕ) (J : Tasks natural) (ok : Proper J) (first second : List ℕ)
         record { at = rank j; inside = rk .placed j (jm .small); white = at-rank j (jm .small) (jm .mem); passes = omega (arith, h, over, ap (J .earliest) (rk .there j (jm .small))) }
 
     -- a post's two walks stop, the first no later than the second
-    module _ (x : ℕ) (f : tree.Found J ok first rk ls Θ Λ s x) (over : c < rootEctBar J first ls) (up : J .earliest (T x) < b) where
+    module _ (x : ℕ) (f : tree.Found J ok estOrder rk ls Θ Λ s x) (over : c < rootEctBar J estOrder ls) (up : J .earliest (T x) < b) where
       abbrev i : ℕ
       i = T x
 
-      pub first-walk : walks.First o J ok first second rk ls Θ Λ s i c b 0 (propagation o J i b c (sum J first ls) (theta J first ls))
+      pub first-walk : walks.First o J ok estOrder lctOrder rk ls Θ Λ s i c b 0 (propagation o J i b c (sum J estOrder ls) (theta J estOrder ls))
       first-walk =
           let (m, mm, h) = passing J T rank rk Θ i c b (f .value) (f .attains) (f .has) (f .gray .small) (omega (arith, over, f .reaches)) ect-is up in
-          subst (λ (l : List ℕ). walks.First o J ok first second rk ls Θ Λ s i c b 0 (propagation o J i b c (sum J first ls) l)) (sym (theta-is J first ls))
-          (walks.first-stops o J ok first second rk ls Θ Λ s i c b n 0 (sum J first ls) (rank m) (omega arith) (walks.sum-is o J ok first second rk ls Θ Λ s) (omega arith)
+          subst (λ (l : List ℕ). walks.First o J ok estOrder lctOrder rk ls Θ Λ s i c b 0 (propagation o J i b c (sum J estOrder ls) l)) (sym (theta-is J estOrder ls))
+          (walks.first-stops o J ok estOrder lctOrder rk ls Θ Λ s i c b n 0 (sum J estOrder ls) (rank m) (omega arith) (walks.sum-is o J ok estOrder lctOrder rk ls Θ Λ s) (omega arith)
           (rk .placed m (mm .small)) (at-rank m (mm .small) (mm .mem)) (omega (arith, h, ap (J .earliest) (rk .there m (mm .small)))))
 
       pub record Attaining : Type 0 where

@@ -55,12 +55,12 @@ says-then xs ys k u v s q = record { told = λ z a. s .told z (left-part xs ys k
 pub then-says : (xs ys : List Atom) (k : ℕ) (u v : ℤ) → Silent xs k → Says ys k u v → Says (xs ++ ys) k u v
 then-says xs ys k u v q s = record { told = λ z a. s .told z (right-part xs ys k z a); tells = λ z a b. joined xs ys k z (q z) (s .tells z a b) }
 
-module _ (o : ℕ) (J : Tasks natural) (ok : Proper J) (first second : List ℕ) (rk : ByEarliest J (λ j. getD first j 0) (λ k. index first k)) (ls : List Leaf) (Θ Λ : TaskSet) (s : tree.Represents J ok first rk ls Θ Λ) where
+module _ (o : ℕ) (J : Tasks natural) (ok : Proper J) (estOrder lctOrder : List ℕ) (rk : ByEarliest J (λ j. getD estOrder j 0) (λ k. index estOrder k)) (ls : List Leaf) (Θ Λ : TaskSet) (s : tree.Represents J ok estOrder rk ls Θ Λ) where
   abbrev T : ℕ → ℕ
-  T j = getD first j 0
+  T j = getD estOrder j 0
 
   abbrev rank : ℕ → ℕ
-  rank k = index first k
+  rank k = index estOrder k
 
   abbrev n : ℕ
   n = J .count
@@ -69,7 +69,7 @@ module _ (o : ℕ) (J : Tasks natural) (ok : Proper J) (first second : List ℕ)
   at m = subℕ m o
 
   abbrev th : ℕ → ℕ → List ℕ
-  th a d = thetaOf (whiteAt ls) (taskAt J first) a d
+  th a d = thetaOf (whiteAt ls) (taskAt J estOrder) a d
 
   abbrev ea : ℕ → ℕ
   ea j = J .earliest (T j)
@@ -119,18 +119,18 @@ module _ (o : ℕ) (J : Tasks natural) (ok : Proper J) (first second : List ℕ)
   none-left = processing-empty J (onward n) (λ k q. onward-early n k (rk .placed k q))
 
   -- `sum_of_processing_times`
-  pub sum-is : leaves.sum J first ls ≡ processing J (onward 0)
-  sum-is = tree.sum-of J ok first rk ls Θ Λ s ∙ processing-same J Θ (onward 0) (λ k q. sym (ap (λ (b : Bool). b && Θ k) (le-leb 0 (rank k) (omega arith))))
+  pub sum-is : leaves.sum J estOrder ls ≡ processing J (onward 0)
+  sum-is = tree.sum-of J ok estOrder rk ls Θ Λ s ∙ processing-same J Θ (onward 0) (λ k q. sym (ap (λ (b : Bool). b && Θ k) (le-leb 0 (rank k) (omega arith))))
 
   -- the list of white tasks
   white-at : (a : ℕ) → a < n → whiteAt ls a ≡ Θ (T a)
-  white-at = tree.white-at J ok first rk ls Θ Λ s
+  white-at = tree.white-at J ok estOrder rk ls Θ Λ s
 
   th-in : (a d : ℕ) → a < n → Θ (T a) ≡ true → th a (suc d) ≡ T a ∷ th (suc a) d
-  th-in a d q y = theta-white (whiteAt ls) (taskAt J first) a d (white-at a q ∙ y)
+  th-in a d q y = theta-white (whiteAt ls) (taskAt J estOrder) a d (white-at a q ∙ y)
 
   th-out : (a d : ℕ) → a < n → Θ (T a) ≡ false → th a (suc d) ≡ th (suc a) d
-  th-out a d q y = theta-skip (whiteAt ls) (taskAt J first) a d (white-at a q ∙ y)
+  th-out a d q y = theta-skip (whiteAt ls) (taskAt J estOrder) a d (white-at a q ∙ y)
 
   -- atoms
   two-here : (k u v : ℕ) (rest : List Atom) → Silent rest k → Says (edges.atLeast o J k u ∷ edges.atMost o J k v ∷ rest) k (at u) (at v)
@@ -153,7 +153,7 @@ module _ (o : ℕ) (J : Tasks natural) (ok : Proper J) (first second : List ℕ)
   out-next a k q z x r t y e = omega (arith, rk .back x t, ap rank e)
 
   th-nil : (a : ℕ) → th a 0 ≡ []
-  th-nil a = theta-none (whiteAt ls) (taskAt J first) a
+  th-nil a = theta-none (whiteAt ls) (taskAt J estOrder) a
 
   -- what `within` says of the list from a on
   pub within-silent : (lo hi d a k : ℕ) → a + d ≡ n → Out a k → Silent (within o J lo hi (th a d)) k

@@ -96,13 +96,13 @@ abbrev pub allWhite : Tasks natural → State
 allWhite J = record { leaves = replicate (J .count) white; starts = tabulate (J .earliest) 0 (J .count); posts = []; changes = J .count }
 
 -- The two orders are sorted.
-module _ (o : ℕ) (J : Tasks natural) (first second : List ℕ) where
+module _ (o : ℕ) (J : Tasks natural) (estOrder lctOrder : List ℕ) where
   abbrev n : ℕ
   n = J .count
 
   -- `sorted_tasks[t]`, and its `lct_j`
   abbrev pub candidate : ℕ → ℕ
-  candidate t = getD second t 0
+  candidate t = getD lctOrder t 0
 
   abbrev pub lct : ℕ → ℕ
   lct t = completion J (candidate t)
@@ -111,24 +111,24 @@ module _ (o : ℕ) (J : Tasks natural) (first second : List ℕ) where
   posted st i b t = record {
     leaves = st .leaves;
     starts = st .starts;
-    posts = st .posts ++ (record { task = i; bound = instant o b; reason = propagation o J i b (lct t) (sum J first (st .leaves)) (theta J first (st .leaves)) } ∷ []);
+    posts = st .posts ++ (record { task = i; bound = instant o b; reason = propagation o J i b (lct t) (sum J estOrder (st .leaves)) (theta J estOrder (st .leaves)) } ∷ []);
     changes = st .changes;
   }
 
   -- while ect_bar() > lct_j; at most f turns. Without a task in Θ there is no bound to post.
   unfoldable pub inner : ℕ → ℕ → State → Turn
   inner zero t st = on st
-  inner (suc f) t st = elim (exceeds (ect-bar J first (st .leaves)) (lct t)) [
+  inner (suc f) t st = elim (exceeds (ect-bar J estOrder (st .leaves)) (lct t)) [
     | false ↦ on st
-    | true ↦ elim (responsible J first (st .leaves)) [
+    | true ↦ elim (responsible J estOrder (st .leaves)) [
       | none ↦ on st
-      | some x ↦ elim (ect J first (st .leaves)) [
+      | some x ↦ elim (ect J estOrder (st .leaves)) [
         | none ↦ inner f t (dropped st x)
-        | some b ↦ elim (ltb (J .earliest (taskAt J first x)) b) [
+        | some b ↦ elim (ltb (J .earliest (taskAt J estOrder x)) b) [
           | false ↦ inner f t (dropped st x)
-          | true ↦ elim (ltb (J .latest (taskAt J first x)) b) [
-            | true ↦ stop (posted st (taskAt J first x) b t)
-            | false ↦ inner f t (dropped (raised (posted st (taskAt J first x) b t) (taskAt J first x) b) x)
+          | true ↦ elim (ltb (J .latest (taskAt J estOrder x)) b) [
+            | true ↦ stop (posted st (taskAt J estOrder x) b t)
+            | false ↦ inner f t (dropped (raised (posted st (taskAt J estOrder x) b t) (taskAt J estOrder x) b) x)
           ]
         ]
       ]
@@ -141,9 +141,9 @@ module _ (o : ℕ) (J : Tasks natural) (first second : List ℕ) where
   -- while index < tasks.len() - 1
   unfoldable pub outer : ℕ → ℕ → State → Trace
   outer zero t st = ended st done
-  outer (suc f) t st = elim (exceeds (ect J first (st .leaves)) (lct t)) [
-    | true ↦ ended st (overload (conflict o J (lct t) (sum J first (st .leaves)) (theta J first (st .leaves))))
-    | false ↦ elim (inner n (suc t) (grayed st (index first (candidate t)))) [
+  outer (suc f) t st = elim (exceeds (ect J estOrder (st .leaves)) (lct t)) [
+    | true ↦ ended st (overload (conflict o J (lct t) (sum J estOrder (st .leaves)) (theta J estOrder (st .leaves))))
+    | false ↦ elim (inner n (suc t) (grayed st (index estOrder (candidate t)))) [
       | on st′ ↦ outer f (suc t) st′
       | stop st′ ↦ ended st′ emptied
     ]

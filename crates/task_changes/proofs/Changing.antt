@@ -113,7 +113,7 @@ module _ (r : Propagator) (l : Lawful r) (long : length (r .durations) ≡ TASKS
   pub removed-tasks : (t : ℕ) → t < r .count → durationsOf (removed r t) ≡ without (durationsOf r) t
   removed-tasks t q = let e : n - 1 ≡ length (without ds t) = omega (arith, without-length ds t (omega (arith, count)), count) in ap (λ (k : ℕ). take k (placed (without ds t))) e ∙ placed-front (without ds t)
 
--- What holds where nothing turns a call back.
+-- What holds where nothing refuses a call.
 pub record Addable (r : Propagator) (d : ℤ) : Type 0 where
   pub lawful : Lawful r
   pub room : r .count < TASKS

@@ -109,7 +109,7 @@ holds (running h es ls posts atoms) = holds h
 pub total-true : (h : History) → (recordAfter h .total ≡ sumOf (durationsAfter h)) × (durationsOf (recordAfter h) ≡ durationsAfter h)
 total-true h = (holds h .sum, tasks (holds h))
 
--- From an accepted creation on, every record is lawful: no call of the series is turned back by 20.
+-- From an accepted creation on, every record is lawful: no call of the series is refused by 20.
 kept : (k : ℕ) {r r′ : Propagator} → (k ≡ 0 → Lawful r′) → Lawful r → Lawful (leaves k r′ r)
 kept zero new old = new refl
 kept (suc k) new old = old

@@ -1,4 +1,4 @@
--- A record with a task more, and with a task less: what each call leaves, and what turns it back.
+-- A record with a task more, and with a task less: what each call leaves, and what refuses it.
 use mathlib.Core.Path.{_≡_}
 use mathlib.Core.List.{List, [], _∷_, _++_}
 use Prim.Native.Nat.{ℕ, _+_, _-_}
@@ -65,7 +65,7 @@ module _ (r : Propagator) where
   abbrev pub removeNumber : ℕ → ℕ
   removeNumber t = refusal (removeTests t)
 
-  -- The first test that fails turns a call back, and the record stays as it was; else the record is the definition's, and lawful.
+  -- The first test that fails refuses a call, and the record stays as it was; else the record is the definition's, and lawful.
   pub record TaskAdded (d : ℤ) (c : Changed) : Type 0 where
     pub refused : (addNumber d ≡ 0 → ⊥) → Left (refusedBy (addNumber d)) r c
     pub made : addNumber d ≡ 0 → Left (answered 0 []) (added (durationOf d)) c

@@ -32,9 +32,9 @@ total-false : addNumber (recordOf 1 (placed (4 ∷ [])) 3) (pos 0) ≡ 20
 unfolding refusal lawfulRecord allBelow unusedAt total
 total-false = refl
 
-run-turned-back : runNumber (recordOf 1 (placed (4 ∷ [])) 5) [] [] false 0 0 ≡ 20
+run-is-refused : runNumber (recordOf 1 (placed (4 ∷ [])) 5) [] [] false 0 0 ≡ 20
 unfolding refusal lawfulRecord allBelow unusedAt total
-run-turned-back = refl
+run-is-refused = refl
 
 sum-above : addNumber three (pos (DURATIONS - 14)) ≡ 5
 unfolding three refusal lawfulRecord allBelow unusedAt total

@@ -21,7 +21,7 @@ pub struct Changed {
     pub answer: Change,
 }
 
-// The number that turns an added task back, or 0: 20, 1, 2, 5.
+// The number that refuses an added task, or 0: 20, 1, 2, 5.
 fn add_refusal(n: usize, durations: &[u32; TASKS], total: u32, duration: i32) -> u32
     ensures { λ r. ⌜ r ≡ addNumber (recordOf n (now (durations .entry)) total) duration ⌝ }
 {
@@ -84,7 +84,7 @@ fn without_task(durations: &[u32; TASKS], n: usize, t: usize) -> [u32; TASKS]
     out
 }
 
-// The number that turns a removal back, or 0: 20, 12, 1.
+// The number that refuses a removal, or 0: 20, 12, 1.
 fn remove_refusal(n: usize, durations: &[u32; TASKS], total: u32, task: usize) -> u32
     ensures { λ r. ⌜ r ≡ removeNumber (recordOf n (now (durations .entry)) total) task ⌝ }
 {

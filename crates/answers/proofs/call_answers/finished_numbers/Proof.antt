@@ -8,17 +8,21 @@ use Rattle.answers.specs.Answers.{ToldInWords, runAnswer}
 use Rattle.answers.proofs.call_answers.finished_numbers.Statement.{statement}
 use Rattle.answers.proofs.call_answers.finished_numbers.Tie as tie
 
-mul-run-answer : tie.Need-mul-run-answer
-mul-run-answer c = record { fits = omega (arith, subst ToldInWords (c .before .outcome2 .given .1) (c .before .before .before .pre)) }
+-- an overload's words can be counted
+words-of-requires : tie.Need-words-of-requires
+words-of-requires c κs = let case = c .before in omega (arith, subst ToldInWords (case .outcome2 .given .1) (case .before .before .pre))
 
-mul-run-answer-2 : tie.Need-mul-run-answer-2
-mul-run-answer-2 c = record { fits = omega (arith, subst ToldInWords (c .before .outcome2 .given .1) (c .before .before .before .pre)) }
+words-of-requires-2 : tie.Need-words-of-requires-2
+words-of-requires-2 c κs = let case = c .before .before in omega (arith, subst ToldInWords (case .outcome2 .given .1) (case .before .before .pre))
 
 returns : tie.Need-returns
 returns c = c .run-answer .ensures ∙ sym (λ i. runAnswer (outcomeNumbers (c .before .before .outcome .given .1 i)) (c .before .before .before .before .args .finished .changes))
 
 returns-2 : tie.Need-returns-2
-returns-2 c = c .run-answer2 .ensures ∙ sym (λ i. runAnswer (outcomeNumbers (c .before .before .outcome2 .given .1 i)) (c .before .before .before .before .args .finished .changes))
+returns-2 c =
+    let second = c .before in
+    let case = second .before .before .before in
+    c .run-answer2 .ensures ∙ rw (second .before .words-of .ensures, second .words-of2 .ensures) (sym (λ i. runAnswer (outcomeNumbers (case .outcome2 .given .1 i)) (case .before .before .args .finished .changes)))
 
 returns-3 : tie.Need-returns-3
 returns-3 c = c .run-answer3 .ensures ∙ sym (λ i. runAnswer (outcomeNumbers (c .before .before .outcome3 .given .1 i)) (c .before .before .before .before .args .finished .changes))
@@ -30,6 +34,6 @@ pub finished-numbers-spec : {M : Type 1} → statement M
 finished-numbers-spec =
     tie.close
     (tie.spec
-    (λ c. search needs) (λ c κs. search needs) (λ c. search needs) mul-run-answer mul-run-answer-2
+    (λ c. search needs) (λ c κs. search needs) (λ c. search needs) words-of-requires words-of-requires-2
     (λ c κs. search needs) (λ c. search needs) (λ c κs. search needs) (λ c. search needs) (λ c κs. search needs)
     returns returns-2 returns-3 returns-4)

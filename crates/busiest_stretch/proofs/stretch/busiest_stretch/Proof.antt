@@ -17,7 +17,7 @@ use Rattle.busiest_stretch.proofs.Answers.{task-small, slidable, runs, 
 use Rattle.busiest_stretch.proofs.stretch.busiest_stretch.Statement.{statement}
 use Rattle.busiest_stretch.proofs.stretch.busiest_stretch.Tie as tie
 
--- the number that turns the question back
+-- the number that refuses the question
 said : (c : tie.After-stretch-refusal) → let a = c .before .args in c .stretch-refusal .result ≡ stretchNumber (a .t1) (a .earliest .now) (a .latest .now) (a .w)
 said c =
     let s = c .before in

@@ -1,4 +1,4 @@
--- What turns the schedule back goes before; then the list's length and its moments, which share the number 19.
+-- What refuses the schedule goes before; then the list's length and its moments, which share the number 19.
 use mathlib.Core.Path.{_≡_, sym, _∙_}
 use borrow.Author.Tests.{not-true, not-false, eq-eqb, ne-eqb}
 use borrow.Author.Needs.{needs}

@@ -11,7 +11,7 @@ use Rattle.checking.specs.declared.start_bounds.Bounds.{Bounds}
 use Rattle.checker.specs.declared.checker.Verdict.{Verdict}
 use Rattle.checker.specs.CheckArrays.{mirroredBounds, Judgeable, Consequent}
 use Rattle.checker.specs.MirroredChecks.{lowerAs, upperAs, judgedAs, checkAs}
-use Rattle.checker.proofs.Answers.{turned-back, contradicted, refused-atoms, few-tasks, can-judge, can-judge-mirrored, consequent-right, concluded-by}
+use Rattle.checker.proofs.Answers.{is-refused, contradicted, refused-atoms, few-tasks, can-judge, can-judge-mirrored, consequent-right, concluded-by}
 use Rattle.checker.proofs.Verdicts.{tasksOf, twoSided}
 use Rattle.checker.proofs.checker.check_as.Statement.{statement}
 use Rattle.checker.proofs.checker.check_as.Tie as tie
@@ -60,7 +60,7 @@ returns : tie.Need-returns
 returns c =
     let m = c .before .before .before .create in
     let a = c .before .before .before .before .args in
-    turned-back (a .durations .now) (a .premises .now) (a .consequent .now) (a .mirrored) (m .result) (m .ensures .0) (c .before .creation .given .0 .0) (c .before .creation .given .1)
+    is-refused (a .durations .now) (a .premises .now) (a .consequent .now) (a .mirrored) (m .result) (m .ensures .0) (c .before .creation .given .0 .0) (c .before .creation .given .1)
 
 bounds-of-requires : tie.Need-bounds-of-requires
 bounds-of-requires c κs =

@@ -1,4 +1,4 @@
--- The record's own number goes before; neighbours in the order of starts then stand for all pairs of tasks, by `turns-are`.
+-- The record's own number goes before; neighbours in the order of starts then stand for all pairs of tasks, by `neighbours-are`.
 use mathlib.Core.Path.{_≡_, sym, _∙_}
 use mathlib.Core.Bool.{true}
 use lib.ListN.{length}
@@ -8,7 +8,7 @@ use Rattle.integers.specs.Tests.{allBelow, AllPassed}
 use Rattle.records.specs.Refusals.{rangeTests, AcceptedInput}
 use Rattle.records.proofs.Refused.{ranges-passed, accepted-ranges}
 use Rattle.fixed_schedules.specs.FixedSchedules.{oneStartAt, allApart}
-use Rattle.fixed_schedules.proofs.Turns.{turns-are}
+use Rattle.fixed_schedules.proofs.Neighbours.{neighbours-are}
 use Rattle.fixed_schedules.proofs.FixedRefused.{ranges-first, more-starts, overlapping, none-wrong}
 use Rattle.fixed_schedules.proofs.Accepting.{started, lasting, listed}
 use Rattle.fixed_schedules.proofs.refusals.fixed_refusal.Statement.{statement}
@@ -26,14 +26,14 @@ one : (c : tie.Else2) → let a = c .before .before .before .before .before .bef
 one c = sym (c .before .one-start .ensures) ∙ not-false _ (c .if2 .left)
 
 -- the test of neighbours is that of all pairs, of a record and ranges that have passed
-abbrev passing : tie.After-in-turn → tie.Else1
+abbrev passing : tie.After-neighbours-apart → tie.Else1
 passing c = c .before .before .before .before .before .before .before
 
-pairs : (c : tie.After-in-turn) → let a = passing c .before .before .before .before .args in c .in-turn .result ≡ allApart (a .t1 .durations) (a .earliest .now) (length (a .earliest .now))
+pairs : (c : tie.After-neighbours-apart) → let a = passing c .before .before .before .before .args in c .neighbours-apart .result ≡ allApart (a .t1 .durations) (a .earliest .now) (length (a .earliest .now))
 pairs c =
     let ranged = passing c in
     let a = ranged .before .before .before .before .args in
-    c .in-turn .ensures ∙ turns-are (a .t1 .durations) (a .earliest .now) _ (c .before .before .before .before .order-of .ensures) (lasting (a .t1) (a .earliest .now) (a .latest .now) (held ranged))
+    c .neighbours-apart .ensures ∙ neighbours-are (a .t1 .durations) (a .earliest .now) _ (c .before .before .before .before .order-of .ensures) (lasting (a .t1) (a .earliest .now) (a .latest .now) (held ranged))
 
 -- no two tasks overlap
 apart : (c : tie.Else3) → let a = passing (c .before) .before .before .before .before .args in allApart (a .t1 .durations) (a .earliest .now) (length (a .earliest .now)) ≡ true
@@ -53,8 +53,8 @@ returns-2 c = let a = c .before .before .before .before .before .before .args in
 order-of-requires : tie.Need-order-of-requires
 order-of-requires c κs = let a = c .before .before .before .before .before .before .args in started (a .t1) (a .earliest .now) (a .latest .now) (held (c .before .before))
 
-in-turn-requires : tie.Need-in-turn-requires
-in-turn-requires c κs = let ranged = c .before .before .before .before .before .before in let a = ranged .before .before .before .before .args in listed (a .t1) (a .earliest .now) (a .latest .now) (held ranged) _ (c .before .before .before .order-of .ensures)
+neighbours-apart-requires : tie.Need-neighbours-apart-requires
+neighbours-apart-requires c κs = let ranged = c .before .before .before .before .before .before in let a = ranged .before .before .before .before .args in listed (a .t1) (a .earliest .now) (a .latest .now) (held ranged) _ (c .before .before .before .order-of .ensures)
 
 returns-3 : tie.Need-returns-3
 returns-3 c =
@@ -72,4 +72,4 @@ pub fixed-refusal-spec : {M : Type 1} → statement M
 fixed-refusal-spec =
     tie.close
     (tie.spec
-    (λ c κs. search needs) returns one-start-requires returns-2 order-of-requires in-turn-requires returns-3 returns-4)
+    (λ c κs. search needs) returns one-start-requires returns-2 order-of-requires neighbours-apart-requires returns-3 returns-4)

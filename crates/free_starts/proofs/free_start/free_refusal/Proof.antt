@@ -1,4 +1,4 @@
--- What turns the schedule back goes before; then the length and the moment, which share the number 18.
+-- What refuses the schedule goes before; then the length and the moment, which share the number 18.
 use mathlib.Core.Path.{_≡_, sym, ap, _∙_}
 use borrow.Author.Tests.{not-true, not-false}
 use borrow.Author.Needs.{needs}

@@ -16,7 +16,7 @@ use Rattle.free_starts.proofs.Answers.{askable, found, refused, answere
 use Rattle.free_starts.proofs.free_start.free_start.Statement.{statement}
 use Rattle.free_starts.proofs.free_start.free_start.Tie as tie
 
--- the number that turns the question back
+-- the number that refuses the question
 said : (c : tie.After-free-refusal) → let a = c .before .args in c .free-refusal .result ≡ freeNumber (a .t1) (a .earliest .now) (a .latest .now) (a .t) (a .d)
 said c =
     let s = c .before in

@@ -19,7 +19,7 @@ use Rattle.levels.proofs.run_levels.fill.Tie as tie
 -- the first x leaves are white
 record Loop (inner n : ℕ) (nodes₀ tasks est durations nodes : List ℕ) (x : ℕ) : Type 0 where
   fillable : Fillable inner n nodes₀ tasks est durations
-  leaves : (f : Fillable inner n nodes₀ tasks est durations) → HasLeaves (f .J) (f .first) (upTo f x) inner nodes
+  leaves : (f : Fillable inner n nodes₀ tasks est durations) → HasLeaves (f .J) (f .estOrder) (upTo f x) inner nodes
   small : x ≤ n
 
 abbrev Inv-loop : tie.InvT-loop

@@ -1,4 +1,4 @@
--- `mirrored::mirrored_propagator::propagate_mirrored` meets its contract: what no test turns back is run in mirrored time and told in the caller's.
+-- `mirrored::mirrored_propagator::propagate_mirrored` meets its contract: what no test refuses is run in mirrored time and told in the caller's.
 -- Assumes nothing.
 use mathlib.Core.Path.{_≡_, refl, ap}
 use mathlib.Core.Bool.{true}

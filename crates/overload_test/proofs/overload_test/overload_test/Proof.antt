@@ -8,7 +8,7 @@ use Rattle.integers.specs.Answers.{refusedBy}
 use Rattle.integers.specs.Limits.{TASKS}
 use Rattle.records.specs.Refusals.{AcceptedInput}
 use Rattle.records.proofs.Refused.{accepted-input}
-use Rattle.overload_test.proofs.Answers.{tested, turned-back}
+use Rattle.overload_test.proofs.Answers.{tested, is-refused}
 use Rattle.overload_test.proofs.overload_test.overload_test.Statement.{statement}
 use Rattle.overload_test.proofs.overload_test.overload_test.Tie as tie
 
@@ -23,7 +23,7 @@ returns : tie.Need-returns
 returns c =
     let n = c .before in
     let a = n .before .before .before .args in
-    turned-back (a .t1) (a .earliest .now) (a .latest .now) (a .bars-fit) _ (λ z. c .if1 .taken (n .input-refusal .ensures ∙ z)) (ap refusedBy (n .input-refusal .ensures))
+    is-refused (a .t1) (a .earliest .now) (a .latest .now) (a .bars-fit) _ (λ z. c .if1 .taken (n .input-refusal .ensures ∙ z)) (ap refusedBy (n .input-refusal .ensures))
 
 accepted-requires : tie.Need-accepted-requires
 accepted-requires c κs = passed c .0

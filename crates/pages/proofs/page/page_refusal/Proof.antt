@@ -1,4 +1,4 @@
--- What turns the schedule back goes before; then the room decides.
+-- What refuses the schedule goes before; then the room decides.
 use mathlib.Core.Path.{_≡_, sym, _∙_}
 use native.Mathlib.Omega.{arith}
 use borrow.Author.Needs.{needs}

@@ -49,8 +49,8 @@ first-four : (c : tie.Else4) → AllPassed (take 4 (postTests (start c .args .po
 first-four c = let read = c .before .before .before in (counted (read .before .before .before .before), (inside (read .before .before .before), (from-zero read, (many-zero c, tt))))
 
 -- the words that the two calls give
-stretch-end : (c : tie.After-words-of2) → c .before .before .words-of .result + c .words-of2 .result ≡ stretchStart (start (c .before .before .before .before) .args .posts .now) (start (c .before .before .before .before) .args .index) + stretchLength (start (c .before .before .before .before) .args .posts .now) (start (c .before .before .before .before) .args .index)
-stretch-end c = omega (arith, c .before .before .words-of .ensures, c .before .before .before .first-atom .ensures, c .words-of2 .ensures, c .before .atom-count .ensures)
+stretch-end : (c : tie.After-words-of2) → c .before .words-of .result + c .words-of2 .result ≡ stretchStart (start (c .before .before .before .before) .args .posts .now) (start (c .before .before .before .before) .args .index) + stretchLength (start (c .before .before .before .before) .args .posts .now) (start (c .before .before .before .before) .args .index)
+stretch-end c = omega (arith, c .before .words-of .ensures, c .before .before .before .first-atom .ensures, c .words-of2 .ensures, c .before .before .atom-count .ensures)
 
 returns : tie.Need-returns
 returns c = sym (refuses [] (test 11 _) _ tt (le-ltb _ _ (c .if1 .taken)))
@@ -70,7 +70,7 @@ first-atom-requires : tie.Need-first-atom-requires
 first-atom-requires c κs = (leb-true _ _ (inside (c .before .before .before .before .before .before)), leZ-true _ _ (from-zero (c .before .before .before)))
 
 atom-count-requires : tie.Need-atom-count-requires
-atom-count-requires c κs = let tested = c .before .before in (leb-true _ _ (inside (tested .before .before .before .before .before .before)), leZ-true _ _ (many-zero tested))
+atom-count-requires c κs = let tested = c .before in (leb-true _ _ (inside (tested .before .before .before .before .before .before)), leZ-true _ _ (many-zero tested))
 
 returns-5 : tie.Need-returns-5
 returns-5 c =
@@ -95,5 +95,5 @@ post-number-spec =
     (tie.spec
     returns returns-2 (λ c. search needs) (λ c. search needs) (λ c. search needs) (λ c. search needs)
     (λ c κs. search needs) returns-3 (λ c. search needs) (λ c. search needs) (λ c. search needs) (λ c. search needs)
-    (λ c κs. search needs) returns-4 first-atom-requires (λ c κs. search needs) atom-count-requires
-    (λ c κs. search needs) (λ c. search needs) returns-5 returns-6)
+    (λ c κs. search needs) returns-4 first-atom-requires (λ c. search needs) atom-count-requires (λ c. search needs)
+    (λ c κs. search needs) (λ c κs. search needs) (λ c. search needs) returns-5 returns-6)

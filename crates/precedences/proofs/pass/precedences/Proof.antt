@@ -5,7 +5,7 @@ use mathlib.Core.Bool.{true}
 use Rattle.integers.specs.Answers.{refusedBy}
 use Rattle.records.specs.Refusals.{AcceptedInput}
 use Rattle.records.proofs.Refused.{accepted-input}
-use Rattle.precedences.proofs.PassContract.{went, turned-back}
+use Rattle.precedences.proofs.PassContract.{went, is-refused}
 use borrow.Author.Needs.{needs}
 use Rattle.precedences.proofs.pass.precedences.Statement.{statement}
 use Rattle.precedences.proofs.pass.precedences.Tie as tie
@@ -21,7 +21,7 @@ returns : tie.Need-returns
 returns c =
     let n = c .before in
     let a = start n .args in
-    turned-back (a .t1) (a .earliest .now) (a .latest .now) (a .bars-fit) _ _ (λ z. c .if1 .taken (n .input-refusal .ensures ∙ z)) (ap refusedBy (n .input-refusal .ensures)) refl
+    is-refused (a .t1) (a .earliest .now) (a .latest .now) (a .bars-fit) _ _ (λ z. c .if1 .taken (n .input-refusal .ensures ∙ z)) (ap refusedBy (n .input-refusal .ensures)) refl
 
 accepted-requires : tie.Need-accepted-requires
 accepted-requires c κs = passed (c .before) .0

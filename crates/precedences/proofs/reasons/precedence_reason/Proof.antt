@@ -4,7 +4,7 @@ use mathlib.Core.Path.{_≡_, refl, sym, ap, _∙_}
 use lib.ListN.{length}
 use Rattle.integers.specs.Answers.{refusedBy}
 use Rattle.precedences.specs.Reasons.{reasonNumber}
-use Rattle.precedences.proofs.Explaining.{given, turned-back}
+use Rattle.precedences.proofs.Explaining.{given, is-refused}
 use Rattle.precedences.proofs.ReasonRefused.{accepted-reason}
 use borrow.Author.Needs.{needs}
 use Rattle.precedences.proofs.reasons.precedence_reason.Statement.{statement}
@@ -21,7 +21,7 @@ returns : tie.Need-returns
 returns c =
     let n = c .before in
     let a = start n .args in
-    turned-back (a .t1) (a .earliest .now) (a .latest .now) (a .bars-fit) (a .task) (a .atoms .now) _ _ (λ z. c .if1 .taken (n .reason-refusal .ensures ∙ z)) (ap refusedBy (n .reason-refusal .ensures)) refl
+    is-refused (a .t1) (a .earliest .now) (a .latest .now) (a .bars-fit) (a .task) (a .atoms .now) _ _ (λ z. c .if1 .taken (n .reason-refusal .ensures ∙ z)) (ap refusedBy (n .reason-refusal .ensures)) refl
 
 accepted-reason-requires : tie.Need-accepted-reason-requires
 accepted-reason-requires c κs =

@@ -1,4 +1,4 @@
--- `propagator::disjunctive_propagator::propagate` meets its contract: what no test turns back is run, and what is true of the definition's trace is true of what was left.
+-- `propagator::disjunctive_propagator::propagate` meets its contract: what no test refuses is run, and what is true of the definition's trace is true of what was left.
 -- Assumes nothing.
 use mathlib.Core.Path.{_≡_, refl, ap}
 use mathlib.Core.Bool.{true}
@@ -11,7 +11,7 @@ use Rattle.records.specs.Refusals.{Accepted}
 use Rattle.records.proofs.Refused.{accepted-run}
 use Rattle.propagator.specs.Ran.{traceOf}
 use Rattle.propagator.proofs.Beginning.{runnable, right}
-use Rattle.propagator.proofs.Many.{turned-back}
+use Rattle.propagator.proofs.Many.{is-refused}
 use Rattle.propagator.proofs.ReasonsPass.{passing}
 use Rattle.propagator.proofs.Handing.{handed}
 use Rattle.propagator.proofs.disjunctive_propagator.propagate.Statement.{statement}
@@ -28,7 +28,7 @@ returns : tie.Need-returns
 returns c =
     let n = c .before in
     let a = n .before .before .before .before .args in
-    turned-back (a .t1) (a .earliest .now) (a .latest .now) (a .bars-fit) (a .posts .now) (a .atoms .now) _ _ _ _ refl (λ z. omega (arith, n .run-refusal .ensures))
+    is-refused (a .t1) (a .earliest .now) (a .latest .now) (a .bars-fit) (a .posts .now) (a .atoms .now) _ _ _ _ refl (λ z. omega (arith, n .run-refusal .ensures))
     (record { answer = ap refusedBy (n .run-refusal .ensures); changes = refl; starts = refl; post-words = refl; atom-words = refl })
 
 run-accepted-requires : tie.Need-run-accepted-requires

@@ -1,44 +1,14 @@
--- `calls::reedgrit_is_true` meets its contract: where the question's own words are accepted, the premises' tests are the question's.
+-- `calls::reedgrit_is_true` meets its contract, which is that of `truth_after`.
 -- Assumes nothing.
-use mathlib.Core.Path.{_≡_, sym, ap, _∙_}
+use mathlib.Core.Path.{_∙_}
 use borrow.Author.Needs.{needs}
-use borrow.Author.Tests.{not-true, not-false}
 use Rattle.integers.proofs.Ints.{back}
-use Rattle.atoms.specs.Atoms.{rightAtom}
-use Rattle.checking.specs.Answers.{truthNumbers}
-use Rattle.checking.specs.States.{truthOf}
-use Rattle.answers.specs.Answers.{stateAnswer, askedAt}
-use Rattle.reedgrit.proofs.Asking.{unfit, fit}
+use Rattle.questions.specs.Questions.{truthAfter}
 use Rattle.reedgrit.proofs.calls.reedgrit_is_true.Statement.{statement}
 use Rattle.reedgrit.proofs.calls.reedgrit_is_true.Tie as tie
 
--- what the test of the question's own words says
-said : (c : tie.After-atom-is-accepted) → c .atom-is-accepted .result ≡ rightAtom (c .before .args .variable) (c .before .args .kind) (c .before .args .value)
-said c = let s = c .before in c .atom-is-accepted .ensures ∙ (λ i. rightAtom (back (s .fits .variable) i) (back (s .fits .kind) i) (back (s .fits .value) i))
-
 returns : tie.Need-returns
-returns c =
-    let s = c .before .before .before .before in
-    let a = s .args in
-    c .refusal-numbers .ensures
-    ∙ unfit (a .premises .now) (rightAtom (a .variable) (a .kind) (a .value)) (λ t. truthNumbers (truthOf t (a .variable) (a .kind) (a .value)))
-    (sym (said (c .before .before .before)) ∙ not-true (c .before .before .before .atom-is-accepted .result) (c .before .before .if1 .taken))
-    (c .before .unfit-number .result) (c .before .unfit-number .ensures)
-
-returns-2 : tie.Need-returns-2
-returns-2 c =
-    let test = c .before .before .before .before .before in
-    let s = test .before .before in
-    let a = s .args in
-    let made = c .before .before .before .prepare-for-conflict-check in
-    c .state-numbers .ensures
-    ∙ ap (askedAt (made .result .answer)) (c .before .truth-numbers .ensures ∙ (λ i. stateAnswer (truthNumbers (c .before .before .is-true .ensures .0 i))) ∙ (λ i. stateAnswer (truthNumbers (truthOf (made .result .state) (back (s .fits .variable) i) (back (s .fits .kind) i) (back (s .fits .value) i)))))
-    ∙ fit (a .premises .now) (rightAtom (a .variable) (a .kind) (a .value)) (λ t. truthNumbers (truthOf t (a .variable) (a .kind) (a .value)))
-    (sym (said (test .before)) ∙ not-false (test .before .atom-is-accepted .result) (test .if1 .left)) (made .result) (made .ensures .0)
+returns c = let s = c .before in c .truth-after .ensures ∙ (λ i. truthAfter (s .args .premises .now) (back (s .fits .variable) i) (back (s .fits .kind) i) (back (s .fits .value) i))
 
 pub reedgrit-is-true-spec : {M : Type 1} → statement M
-reedgrit-is-true-spec =
-    tie.close
-    (tie.spec
-    (λ c κs. search needs) (λ c κs. search needs) (λ c κs. search needs) returns (λ c. search needs)
-    (λ c κs. search needs) (λ c κs. search needs) (λ c κs. search needs) (λ c κs. search needs) returns-2)
+reedgrit-is-true-spec = tie.close (tie.spec (λ c κs. search needs) returns)

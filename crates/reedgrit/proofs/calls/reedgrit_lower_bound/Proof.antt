@@ -3,7 +3,7 @@
 use mathlib.Core.Path.{ap, _∙_}
 use borrow.Author.Needs.{needs}
 use Rattle.integers.proofs.Ints.{back}
-use Rattle.reedgrit.specs.Calls.{lowerAfter}
+use Rattle.questions.specs.Questions.{lowerAfter}
 use Rattle.reedgrit.proofs.calls.reedgrit_lower_bound.Statement.{statement}
 use Rattle.reedgrit.proofs.calls.reedgrit_lower_bound.Tie as tie
 

@@ -3,7 +3,7 @@
 use mathlib.Core.Path.{ap, _∙_}
 use borrow.Author.Needs.{needs}
 use Rattle.integers.proofs.Ints.{back}
-use Rattle.reedgrit.specs.Calls.{upperAfter}
+use Rattle.questions.specs.Questions.{upperAfter}
 use Rattle.reedgrit.proofs.calls.reedgrit_upper_bound.Statement.{statement}
 use Rattle.reedgrit.proofs.calls.reedgrit_upper_bound.Tie as tie
 

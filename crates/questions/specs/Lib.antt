@@ -1,0 +1,4 @@
+pub mod Posts
+pub mod Checks
+pub mod Questions
+pub mod Examples
