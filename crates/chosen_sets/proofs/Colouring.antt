@@ -67,15 +67,15 @@ module _ {J : Tasks natural} {Ω : TaskSet} {n : ℕ} {chosen : List Bool} {est 
 -- One leaf after the other -----------------------------------------------------------------------------------------------------
 
 module _ {inner n : ℕ} {words tasks : List ℕ} {chosen : List Bool} {est durations : List ℕ} (f : Colourable inner n words tasks chosen est durations) where
-  abbrev first : List ℕ
-  first = order (f .J) (f .Ω)
+  abbrev estOrder : List ℕ
+  estOrder = order (f .J) (f .Ω)
 
   abbrev blank : List Leaf
   blank = replicate (f .J .count) empty
 
   -- the colour of the leaf at a place
   abbrev colour : ℕ → Leaf
-  colour x = cond (f .Ω (getD first x 0)) white empty
+  colour x = cond (f .Ω (getD estOrder x 0)) white empty
 
   -- the first x leaves have their colours
   abbrev pub upTo : ℕ → List Leaf
@@ -100,19 +100,19 @@ module _ {inner n : ℕ} {words tasks : List ℕ} {chosen : List Bool} {est dura
     inside : x < f .J .count
     inside = omega (arith, f .held .count)
 
-    chosen-is : getD chosen t false ≡ f .Ω (getD first x 0)
+    chosen-is : getD chosen t false ≡ f .Ω (getD estOrder x 0)
     chosen-is = f .held .member t small ∙ ap (f .Ω) (f .task x q)
 
-    node-is : plainOf (getD est t 0 + getD durations t 0) (getD durations t 0) ≡ plainOf (f .J .earliest (getD first x 0) + f .J .duration (getD first x 0)) (f .J .duration (getD first x 0))
+    node-is : plainOf (getD est t 0 + getD durations t 0) (getD durations t 0) ≡ plainOf (f .J .earliest (getD estOrder x 0) + f .J .duration (getD estOrder x 0)) (f .J .duration (getD estOrder x 0))
     node-is = ap₂ (λ (e p : ℕ). plainOf (e + p) p) (f .held .start t small ∙ ap (f .J .earliest) (f .task x q)) (f .held .lasts t small ∙ ap (f .J .duration) (f .task x q))
 
     pub takes : {now : List ℕ} → Shows (upTo x) now → Takes inner now x (getD chosen t false) (getD est t 0) (getD durations t 0)
     takes i y = may-put-plain (limited (f .held)) i x inside white node-is
 
     pub one-more : {now now′ : List ℕ} → Shows (upTo x) now → Took inner now now′ x (getD chosen t false) (getD est t 0) (getD durations t 0) → Shows (upTo (x + 1)) now′
-    one-more {now} {now′} i p = subst (λ (ls : List Leaf). Shows ls now′) (sym (filled-more colour x blank)) (by (bool (f .Ω (getD first x 0))))
+    one-more {now} {now′} i p = subst (λ (ls : List Leaf). Shows ls now′) (sym (filled-more colour x blank)) (by (bool (f .Ω (getD estOrder x 0))))
       where
-        by : (f .Ω (getD first x 0) ≡ true) ⊎ (f .Ω (getD first x 0) ≡ false) → Shows (set (upTo x) x (colour x)) now′
+        by : (f .Ω (getD estOrder x 0) ≡ true) ⊎ (f .Ω (getD estOrder x 0) ≡ false) → Shows (set (upTo x) x (colour x)) now′
         by (inl y) = rw y (was-put-plain (limited (f .held)) i x inside white node-is (p .put (chosen-is ∙ y)))
         by (inr y) = subst (λ (ls : List Leaf). Shows ls now′) (sym same) (subst (Shows (upTo x)) (sym (p .left (chosen-is ∙ y))) i)
           where
@@ -132,5 +132,5 @@ module _ {inner n : ℕ} {words tasks : List ℕ} {chosen : List Bool} {est dura
       size = filled-length colour x blank ∙ length-replicate (f .J .count) empty
 
       is : upTo x ≡ colours (f .J) (f .Ω)
-      is = ext-getD empty (upTo x) (colours (f .J) (f .Ω)) (size ∙ sym (length-map first (λ k. cond (f .Ω k) white empty) ∙ order-size (f .J) (f .Ω)))
-          (λ k q. filled-at colour x blank empty k (omega (arith, count, size)) (omega (arith, count, length-replicate (f .J .count) empty)) ∙ sym (getD-map-in (λ k. cond (f .Ω k) white empty) first k 0 empty (omega (arith, order-size (f .J) (f .Ω), size))))
+      is = ext-getD empty (upTo x) (colours (f .J) (f .Ω)) (size ∙ sym (length-map estOrder (λ k. cond (f .Ω k) white empty) ∙ order-size (f .J) (f .Ω)))
+          (λ k q. filled-at colour x blank empty k (omega (arith, count, size)) (omega (arith, count, length-replicate (f .J .count) empty)) ∙ sym (getD-map-in (λ k. cond (f .Ω k) white empty) estOrder k 0 empty (omega (arith, order-size (f .J) (f .Ω), size))))

@@ -25,8 +25,8 @@ module _ (J : Tasks natural) (Ω : TaskSet) where
   abbrev n : ℕ
   n = J .count
 
-  abbrev first : List ℕ
-  first = order J Ω
+  abbrev estOrder : List ℕ
+  estOrder = order J Ω
 
   abbrev colour : ℕ → Leaf
   colour k = cond (Ω k) white empty
@@ -39,33 +39,33 @@ module _ (J : Tasks natural) (Ω : TaskSet) where
   gray-cond true = refl
   gray-cond false = refl
 
-  pub by-order : ByEarliest J (λ j. getD first j 0) (λ k. index first k)
+  pub by-order : ByEarliest J (λ j. getD estOrder j 0) (λ k. index estOrder k)
   by-order =
-      let r : Ordered n (λ j. getD first j 0) (λ k. index first k) (λ j k. leb (J .earliest j) (J .earliest k) ≡ true)
+      let r : Ordered n (λ j. getD estOrder j 0) (λ k. index estOrder k) (λ j k. leb (J .earliest j) (J .earliest k) ≡ true)
       = sort-ordered (λ j k. leb (J .earliest j) (J .earliest k)) (key-whole (J .earliest)) (key-chain (J .earliest)) n (numbers 0 n) (numbers-permute n) in
       record { task = r .task; placed = r .placed; there = r .there; back = r .back; sorted = λ s t q h. leb-true _ _ (r .sorted s t q h) }
 
-  pub order-size : length first ≡ n
+  pub order-size : length estOrder ≡ n
   order-size = sort-length (λ j k. leb (J .earliest j) (J .earliest k)) (numbers 0 n) ∙ numbers-length 0 n
 
   module _ (ok : Proper J) where
-    shape : tree.Represents J ok first by-order (map colour first) Ω (λ _. false)
+    shape : tree.Represents J ok estOrder by-order (map colour estOrder) Ω (λ _. false)
     shape = record {
-      size = length-map first colour ∙ order-size;
+      size = length-map estOrder colour ∙ order-size;
       whites = λ k q. ap inTheta (at k q) ∙ white-cond (Ω k);
       grays = λ k q. ap inLambda (at k q) ∙ gray-cond (Ω k);
     }
       where
-        at : (k : ℕ) → k < n → getD (map colour first) (index first k) empty ≡ colour k
-        at k q = getD-map-in colour first (index first k) 0 empty (omega (arith, order-size, by-order .placed k q)) ∙ ap colour (by-order .there k q)
+        at : (k : ℕ) → k < n → getD (map colour estOrder) (index estOrder k) empty ≡ colour k
+        at k q = getD-map-in colour estOrder (index estOrder k) 0 empty (omega (arith, order-size, by-order .placed k q)) ∙ ap colour (by-order .there k q)
 
     pub ect-is : (v : ℕ) → (ectOf J Ω ≡ some v) ↔ Ect J Ω v
-    ect-is = tree.moment-is J ok first by-order (map colour first) Ω (λ _. false) shape
+    ect-is = tree.moment-is J ok estOrder by-order (map colour estOrder) Ω (λ _. false) shape
 
     pub ect-none : Empty Ω (J .count) → ectOf J Ω ≡ none
-    ect-none = tree.moment-none J ok first by-order (map colour first) Ω (λ _. false) shape
+    ect-none = tree.moment-none J ok estOrder by-order (map colour estOrder) Ω (λ _. false) shape
 
     pub ect-some : NonEmpty J Ω → (v : ℕ) × (ectOf J Ω ≡ some v) × Ect J Ω v
     ect-some (k, m) =
-        let e = tree.moment-some J ok first by-order (map colour first) Ω (λ _. false) shape k m in
+        let e = tree.moment-some J ok estOrder by-order (map colour estOrder) Ω (λ _. false) shape k m in
         (_, e, ect-is _ .0 e)

@@ -42,15 +42,15 @@ module _ {inner n : ℕ} {words mapping tasks est lct durations : List ℕ} (f :
   abbrev J : Tasks natural
   J = f .J
 
-  abbrev first : List ℕ
-  first = order (f .J) noTask
+  abbrev estOrder : List ℕ
+  estOrder = order (f .J) noTask
 
   -- the tree has the first k tasks
   abbrev pub Shows : ℕ → List ℕ → Type 0
   Shows k now = IsPlainTree (f .J) (order (f .J) noTask) (colours (f .J) (read (f .J) k)) inner now
 
   pub none-shown : Shows 0 words
-  none-shown = subst (λ (S : TaskSet). IsPlainTree J first (colours J S) inner words) (fun-ext (λ j. sym (read-none J j))) (f .tree)
+  none-shown = subst (λ (S : TaskSet). IsPlainTree J estOrder (colours J S) inner words) (fun-ext (λ j. sym (read-none J j))) (f .tree)
 
   pub all-answer : answerOf J ≡ answerFrom J 0 (n - 0)
   all-answer = let z : J .count ≡ n - 0 = omega (arith, f .held .count) in ap (answerFrom J 0) z
@@ -74,14 +74,14 @@ module _ {inner n : ℕ} {words mapping tasks est lct durations : List ℕ} (f :
 
     -- its leaf
     abbrev x : ℕ
-    x = index first i
+    x = index estOrder i
 
     x-small : x < J .count
     x-small = by-order J noTask .placed i (omega (arith, small, f .held .count))
 
-    node-is : plainOf (getD est i 0 + getD durations i 0) (getD durations i 0) ≡ plainOf (J .earliest (getD first x 0) + J .duration (getD first x 0)) (J .duration (getD first x 0))
+    node-is : plainOf (getD est i 0 + getD durations i 0) (getD durations i 0) ≡ plainOf (J .earliest (getD estOrder x 0) + J .duration (getD estOrder x 0)) (J .duration (getD estOrder x 0))
     node-is =
-        let z : i ≡ getD first x 0 = sym (by-order J noTask .there i (omega (arith, small, f .held .count))) in
+        let z : i ≡ getD estOrder x 0 = sym (by-order J noTask .there i (omega (arith, small, f .held .count))) in
         ap₂ (λ (e p : ℕ). plainOf (e + p) p) (f .held .start i small ∙ ap (J .earliest) z) (f .held .lasts i small ∙ ap (J .duration) z)
 
     pub may-add : {now : List ℕ} (place : ℕ) → place ≡ getD mapping i 0 → Shows k now → PlainPuttable inner now place (plainOf (getD est i 0 + getD durations i 0) (getD durations i 0))
@@ -90,11 +90,11 @@ module _ {inner n : ℕ} {words mapping tasks est lct durations : List ℕ} (f :
 
     pub was-added : {now now′ : List ℕ} (place : ℕ) → place ≡ getD mapping i 0 → Shows k now → PlainPut inner now now′ place (plainOf (getD est i 0 + getD durations i 0) (getD durations i 0)) → Shows (k + 1) now′
     was-added {now} {now′} place e t p =
-        subst (λ (ls : List Leaf). IsPlainTree J first ls inner now′) coloured
+        subst (λ (ls : List Leaf). IsPlainTree J estOrder ls inner now′) coloured
         (was-put-plain (limited (f .held)) t x x-small white node-is (subst (λ (y : ℕ). PlainPut inner now now′ y (plainOf (getD est i 0 + getD durations i 0) (getD durations i 0))) (e ∙ f .place i small) p))
       where
         coloured : set (colours J (read J k)) x white ≡ colours J (read J (k + 1))
-        coloured = ap (λ (y : ℕ). set (colours J (read J k)) (index first y) white) is-next ∙ next-coloured J k inside ∙ ap (λ (m : ℕ). colours J (read J m)) (sym (add-one k))
+        coloured = ap (λ (y : ℕ). set (colours J (read J k)) (index estOrder y) white) is-next ∙ next-coloured J k inside ∙ ap (λ (m : ℕ). colours J (read J m)) (sym (add-one k))
 
     -- the test, by what the root says
     pub test-is : {now : List ℕ} → Shows (k + 1) now → (ect : Option ℕ) → ect ≡ plainEctIn now → exceeds ect (getD lct i 0) ≡ overloadsAt J k

@@ -92,28 +92,28 @@ module _ (J : Tasks natural) where
 
   -- task i's leaf becomes white
   recoloured : (Ω Ω′ : TaskSet) (i : ℕ) → i < J .count → Ω′ i ≡ true → ((j : ℕ) → j < J .count → (j ≡ i → ⊥) → Ω′ j ≡ Ω j) → set (colours J Ω) (index (order J Ω) i) white ≡ colours J Ω′
-  recoloured Ω Ω′ i q new old = ext-getD empty (set (colours J Ω) (index first i) white) (colours J Ω′) (set-size ∙ sym (size Ω′)) (λ x r. by x (omega (arith, set-size, size Ω)) (ℕ-discrete x (index first i)))
+  recoloured Ω Ω′ i q new old = ext-getD empty (set (colours J Ω) (index estOrder i) white) (colours J Ω′) (set-size ∙ sym (size Ω′)) (λ x r. by x (omega (arith, set-size, size Ω)) (ℕ-discrete x (index estOrder i)))
     where
-      first : List ℕ
-      first = order J Ω
+      estOrder : List ℕ
+      estOrder = order J Ω
 
       size : (S : TaskSet) → length (colours J S) ≡ J .count
-      size S = length-map first (λ k. cond (S k) white empty) ∙ order-size J S
+      size S = length-map estOrder (λ k. cond (S k) white empty) ∙ order-size J S
 
-      set-size : length (set (colours J Ω) (index first i) white) ≡ J .count
-      set-size = length-set (colours J Ω) (index first i) white ∙ size Ω
+      set-size : length (set (colours J Ω) (index estOrder i) white) ≡ J .count
+      set-size = length-set (colours J Ω) (index estOrder i) white ∙ size Ω
 
-      colour-at : (S : TaskSet) (x : ℕ) → x < J .count → getD (colours J S) x empty ≡ cond (S (getD first x 0)) white empty
-      colour-at S x r = getD-map-in (λ k. cond (S k) white empty) first x 0 empty (omega (arith, order-size J S))
+      colour-at : (S : TaskSet) (x : ℕ) → x < J .count → getD (colours J S) x empty ≡ cond (S (getD estOrder x 0)) white empty
+      colour-at S x r = getD-map-in (λ k. cond (S k) white empty) estOrder x 0 empty (omega (arith, order-size J S))
 
-      by : (x : ℕ) → x < J .count → Dec (x ≡ index first i) → getD (set (colours J Ω) (index first i) white) x empty ≡ getD (colours J Ω′) x empty
+      by : (x : ℕ) → x < J .count → Dec (x ≡ index estOrder i) → getD (set (colours J Ω) (index estOrder i) white) x empty ≡ getD (colours J Ω′) x empty
       by x r (yes z) =
-          rw z (getD-set-same (colours J Ω) (index first i) white empty (omega (arith, size Ω, by-order J Ω .placed i q)))
-          ∙ sym (colour-at Ω′ x r ∙ ap (λ (b : Bool). cond b white empty) (ap (λ (y : ℕ). Ω′ (getD first y 0)) z ∙ ap Ω′ (by-order J Ω .there i q) ∙ new))
+          rw z (getD-set-same (colours J Ω) (index estOrder i) white empty (omega (arith, size Ω, by-order J Ω .placed i q)))
+          ∙ sym (colour-at Ω′ x r ∙ ap (λ (b : Bool). cond b white empty) (ap (λ (y : ℕ). Ω′ (getD estOrder y 0)) z ∙ ap Ω′ (by-order J Ω .there i q) ∙ new))
       by x r (no z) =
-          let t : ℕ = getD first x 0 in
-          let other : t ≡ i → ⊥ = λ e. z (sym (by-order J Ω .back x r) ∙ ap (index first) e) in
-          getD-set-other (colours J Ω) (index first i) x white empty z
+          let t : ℕ = getD estOrder x 0 in
+          let other : t ≡ i → ⊥ = λ e. z (sym (by-order J Ω .back x r) ∙ ap (index estOrder) e) in
+          getD-set-other (colours J Ω) (index estOrder i) x white empty z
           ∙ colour-at Ω x r
           ∙ ap (λ (b : Bool). cond b white empty) (sym (old t (by-order J Ω .task x r) other))
           ∙ sym (colour-at Ω′ x r)

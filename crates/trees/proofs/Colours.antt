@@ -78,29 +78,29 @@ total-under f h n le past (suc d) = step (total-under f h n le past d)
       | no q ↦ (omega (arith, ih .0, total-suc f d, past d (omega arith)), λ r. absurd (omega arith))
     ]
 
-module _ (J : Tasks natural) (first : List ℕ) where
+module _ (J : Tasks natural) (estOrder : List ℕ) where
   -- past the tasks the leaves are empty
   pub past-empty : (ls : List Leaf) → length ls ≡ J .count → (k : ℕ) → J .count ≤ k → getD ls k leaves.empty ≡ leaves.empty
   past-empty ls z k q = List·getD-eq-default ls leaves.empty (omega arith)
 
-  module _ (lim : Limited J first) (ls : List Leaf) (z : length ls ≡ J .count) where
-    past-node : (k : ℕ) → J .count ≤ k → leaves.leaves J first ls k ≡ emptyOf
-    past-node k q = ap (λ (c : Leaf). leafNode c (startAt J first k) (durationAt J first k)) (past-empty ls z k q)
+  module _ (lim : Limited J estOrder) (ls : List Leaf) (z : length ls ≡ J .count) where
+    past-node : (k : ℕ) → J .count ≤ k → leaves.leaves J estOrder ls k ≡ emptyOf
+    past-node k q = ap (λ (c : Leaf). leafNode c (startAt J estOrder k) (durationAt J estOrder k)) (past-empty ls z k q)
 
-    pub bounded : Bounded size Fair (leaves.leaves J first ls)
+    pub bounded : Bounded size Fair (leaves.leaves J estOrder ls)
     bounded = record {
-      fair = λ k. elim (decLt k (J .count)) [ yes q ↦ leaf-fair (getD ls k leaves.empty) (startAt J first k) (durationAt J first k) (lim .starts k q) | no q ↦ rw (past-empty ls z k (omega arith)) (leaf-fair leaves.empty 0 0 (omega arith)) ];
-      small = λ n. omega (arith, lim .durations, (total-under (λ k. size (leaves.leaves J first ls k)) (durationAt J first) (J .count) (λ k. leaf-size (getD ls k leaves.empty) (startAt J first k) (durationAt J first k)) (λ k q. ap size (past-node k q)) n) .0);
+      fair = λ k. elim (decLt k (J .count)) [ yes q ↦ leaf-fair (getD ls k leaves.empty) (startAt J estOrder k) (durationAt J estOrder k) (lim .starts k q) | no q ↦ rw (past-empty ls z k (omega arith)) (leaf-fair leaves.empty 0 0 (omega arith)) ];
+      small = λ n. omega (arith, lim .durations, (total-under (λ k. size (leaves.leaves J estOrder ls k)) (durationAt J estOrder) (J .count) (λ k. leaf-size (getD ls k leaves.empty) (startAt J estOrder k) (durationAt J estOrder k)) (λ k q. ap size (past-node k q)) n) .0);
     }
 
-    pub plain-bounded : Bounded plainSize PlainFair (plainLeaves J first ls)
+    pub plain-bounded : Bounded plainSize PlainFair (plainLeaves J estOrder ls)
     plain-bounded = record {
-      fair = λ k. elim (decLt k (J .count)) [ yes q ↦ plain-fair (whiteAt ls k) (startAt J first k) (durationAt J first k) (lim .starts k q) | no q ↦ rw (past-empty ls z k (omega arith)) (plain-fair false 0 0 (omega arith)) ];
+      fair = λ k. elim (decLt k (J .count)) [ yes q ↦ plain-fair (whiteAt ls k) (startAt J estOrder k) (durationAt J estOrder k) (lim .starts k q) | no q ↦ rw (past-empty ls z k (omega arith)) (plain-fair false 0 0 (omega arith)) ];
       small = λ n. omega (
         arith,
         lim .durations,
-        (total-under (λ k. plainSize (plainLeaves J first ls k)) (durationAt J first) (J .count) (λ k. plain-size (whiteAt ls k) (startAt J first k) (durationAt J first k))
-            (λ k q. ap (λ (c : Leaf). plainSize (plainLeaf (inTheta c) (startAt J first k) (durationAt J first k))) (past-empty ls z k q)) n) .0,
+        (total-under (λ k. plainSize (plainLeaves J estOrder ls k)) (durationAt J estOrder) (J .count) (λ k. plain-size (whiteAt ls k) (startAt J estOrder k) (durationAt J estOrder k))
+            (λ k q. ap (λ (c : Leaf). plainSize (plainLeaf (inTheta c) (startAt J estOrder k) (durationAt J estOrder k))) (past-empty ls z k q)) n) .0,
       );
     }
 

@@ -16,18 +16,18 @@ abbrev J : Tasks natural
 J = record { count = 3; earliest = λ k. getD (0 ∷ 1 ∷ 0 ∷ []) k 0; latest = λ k. getD (6 ∷ 5 ∷ 20 ∷ []) k 0; duration = λ k. getD (4 ∷ 5 ∷ 3 ∷ []) k 0 }
 
 -- by earliest start
-abbrev first : List ℕ
-first = 0 ∷ 2 ∷ 1 ∷ []
+abbrev estOrder : List ℕ
+estOrder = 0 ∷ 2 ∷ 1 ∷ []
 
 abbrev ls : List Leaf
 ls = white ∷ gray ∷ white ∷ []
 
 -- ect(Θ) is 9, with one task of Λ 12, and the third task, at place 1, is responsible
-example : (ect J first ls ≡ some 9) × (ect-bar J first ls ≡ some 12) × (sum J first ls ≡ 9) × (responsible J first ls ≡ some 1) × (theta J first ls ≡ 0 ∷ 1 ∷ [])
+example : (ect J estOrder ls ≡ some 9) × (ect-bar J estOrder ls ≡ some 12) × (sum J estOrder ls ≡ 9) × (responsible J estOrder ls ≡ some 1) × (theta J estOrder ls ≡ 0 ∷ 1 ∷ [])
 unfolding root responsible theta width heightFrom nodeOver decoded joinOf isEmpty searches.gray searches.tested searches.descentP searches.descentEct searches.stepP searches.stepEct searches.searchP searches.searchEct searches.thetaOf
 example = (refl, refl, refl, refl, refl)
 
 -- a task of Λ alone: Θ has no ect, and with that task it has one; where neither has a task there is none
-gray-alone : (ect J first (empty ∷ gray ∷ empty ∷ []) ≡ none) × (ect-bar J first (empty ∷ gray ∷ empty ∷ []) ≡ some 3) × (ect-bar J first (empty ∷ empty ∷ empty ∷ []) ≡ none)
+gray-alone : (ect J estOrder (empty ∷ gray ∷ empty ∷ []) ≡ none) × (ect-bar J estOrder (empty ∷ gray ∷ empty ∷ []) ≡ some 3) × (ect-bar J estOrder (empty ∷ empty ∷ empty ∷ []) ≡ none)
 unfolding root width heightFrom nodeOver decoded joinOf
 gray-alone = (refl, refl, refl)

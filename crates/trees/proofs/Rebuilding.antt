@@ -126,33 +126,33 @@ pub ruleset rebuilds = (needs, begin, node-small, left-small, right-small, fits-
 
 -- the leaves of tasks ------------------------------------------------------------------------------------------------------------
 
-module _ {J : Tasks natural} {first : List ℕ} (lim : Limited J first) where
+module _ {J : Tasks natural} {estOrder : List ℕ} (lim : Limited J estOrder) where
   abbrev leaf-node : Leaf → ℕ → Node
-  leaf-node c j = leafNode c (startAt J first j) (durationAt J first j)
+  leaf-node c j = leafNode c (startAt J estOrder j) (durationAt J estOrder j)
 
-  pub tree-leaves : {ls : List Leaf} {inner : ℕ} {words : List ℕ} → IsTree J first ls inner words → HasLeaves J first ls inner words
+  pub tree-leaves : {ls : List Leaf} {inner : ℕ} {words : List ℕ} → IsTree J estOrder ls inner words → HasLeaves J estOrder ls inner words
   tree-leaves t = record { nodes = t .tree .leaves; words-length = t .words-length; complete = t .complete; colours = t .colours }
 
-  module _ {ls : List Leaf} {inner : ℕ} {words : List ℕ} (t : HasLeaves J first ls inner words) where
-    own : leavesOf inner (nodeAt words) ≡ leaves.leaves J first ls
+  module _ {ls : List Leaf} {inner : ℕ} {words : List ℕ} (t : HasLeaves J estOrder ls inner words) where
+    own : leavesOf inner (nodeAt words) ≡ leaves.leaves J estOrder ls
     own = fun-ext (t .nodes)
 
     small : inner ≤ INNER
     small = omega (arith, room (J .count) (omega (arith, lim .count)), t .complete)
 
     -- a leaf may get a colour, and then has it
-    pub may-lay : (k : ℕ) → k < J .count → (c : Leaf) {n : Node} → n ≡ leafNode c (startAt J first k) (durationAt J first k) → Layable inner words k n
+    pub may-lay : (k : ℕ) → k < J .count → (c : Leaf) {n : Node} → n ≡ leafNode c (startAt J estOrder k) (durationAt J estOrder k) → Layable inner words k n
     may-lay k q c {n} z = record {
-      fits = rw (z ∙ sym here) (over-fits additive (leaves.leaves J first (set ls k c)) (bounded J first lim (set ls k c) (length-set ls k c ∙ t .colours)) 0 k);
+      fits = rw (z ∙ sym here) (over-fits additive (leaves.leaves J estOrder (set ls k c)) (bounded J estOrder lim (set ls k c) (length-set ls k c ∙ t .colours)) 0 k);
       inside = omega (arith, enough (J .count), t .complete);
       room = small;
       length = t .words-length;
     }
       where
-        here : nodeOver joinOf (leaves.leaves J first (set ls k c)) 0 k ≡ leafNode c (startAt J first k) (durationAt J first k)
-        here = over-leaf joinOf (leaves.leaves J first (set ls k c)) k ∙ ap (λ (f : ℕ → Node). f k) (coloured ls k (omega (arith, t .colours)) c leaf-node) ∙ changed-here (λ j. leaf-node (getD ls j empty) j) k (leaf-node c k)
+        here : nodeOver joinOf (leaves.leaves J estOrder (set ls k c)) 0 k ≡ leafNode c (startAt J estOrder k) (durationAt J estOrder k)
+        here = over-leaf joinOf (leaves.leaves J estOrder (set ls k c)) k ∙ ap (λ (f : ℕ → Node). f k) (coloured ls k (omega (arith, t .colours)) c leaf-node) ∙ changed-here (λ j. leaf-node (getD ls j empty) j) k (leaf-node c k)
 
-    pub was-laid : (k : ℕ) → k < J .count → (c : Leaf) {n : Node} → n ≡ leafNode c (startAt J first k) (durationAt J first k) → {words′ : List ℕ} → Laid inner words words′ k n → HasLeaves J first (set ls k c) inner words′
+    pub was-laid : (k : ℕ) → k < J .count → (c : Leaf) {n : Node} → n ≡ leafNode c (startAt J estOrder k) (durationAt J estOrder k) → {words′ : List ℕ} → Laid inner words words′ k n → HasLeaves J estOrder (set ls k c) inner words′
     was-laid k q c {n} z {words′} u = record {
       nodes = λ j. ap (λ (at : ℕ → Node). at (inner + j)) (u .nodes) ∙ ap (λ (f : ℕ → Node). f j) laid;
       words-length = u .length;
@@ -160,14 +160,14 @@ module _ {J : Tasks natural} {first : List ℕ} (lim : Limited J first) where
       colours = length-set ls k c ∙ t .colours;
     }
       where
-        laid : leavesOf inner (changed (nodeAt words) (inner + k) n) ≡ leaves.leaves J first (set ls k c)
+        laid : leavesOf inner (changed (nodeAt words) (inner + k) n) ≡ leaves.leaves J estOrder (set ls k c)
         laid = changed-leaf inner (nodeAt words) k n ∙ ap₂ (λ (f : ℕ → Node) (v : Node). changed f k v) own z ∙ sym (coloured ls k (omega (arith, t .colours)) c leaf-node)
 
     -- the inner nodes may be built, and then the words hold the tree
     pub may-rebuild : Rebuildable inner words
-    may-rebuild = record { bounded = rw own (bounded J first lim ls (t .colours)); height = heightFor (J .count); complete = t .complete; room = small; length = t .words-length }
+    may-rebuild = record { bounded = rw own (bounded J estOrder lim ls (t .colours)); height = heightFor (J .count); complete = t .complete; room = small; length = t .words-length }
 
-    pub was-rebuilt : {words′ : List ℕ} → Rebuilt inner words words′ → IsTree J first ls inner words′
+    pub was-rebuilt : {words′ : List ℕ} → Rebuilt inner words words′ → IsTree J estOrder ls inner words′
     was-rebuilt {words′} u = record {
       tree = subst (λ (leaf : ℕ → Node). TreeOf joinOf inner leaf (nodeAt words′)) own (u .tree);
       words-length = u .length;

@@ -40,18 +40,18 @@ one-colour leaves.empty y z = clash y refl
 one-colour leaves.white y z = clash z refl
 one-colour leaves.gray y z = clash y refl
 
-module _ (J : Tasks natural) (ok : Proper J) (first : List ℕ) (rk : ByEarliest J (taskAt J first) (λ k. index first k)) where
+module _ (J : Tasks natural) (ok : Proper J) (estOrder : List ℕ) (rk : ByEarliest J (taskAt J estOrder) (λ k. index estOrder k)) where
   abbrev T : ℕ → ℕ
-  T = taskAt J first
+  T = taskAt J estOrder
 
   abbrev rank : ℕ → ℕ
-  rank k = index first k
+  rank k = index estOrder k
 
   abbrev e : ℕ → ℕ
-  e = startAt J first
+  e = startAt J estOrder
 
   abbrev p : ℕ → ℕ
-  p = durationAt J first
+  p = durationAt J estOrder
 
   abbrev H : ℕ
   H = heightFor (J .count)
@@ -90,7 +90,7 @@ module _ (J : Tasks natural) (ok : Proper J) (first : List ℕ) (rk : ByEarliest
       omega (arith, durations-scan (J .count) (omega arith), a, processing-all J)
 
   -- tasks within the limits are so in their order too
-  pub limited : J .count ≤ TASKS → ((k : ℕ) → k < J .count → J .earliest k ≤ LATEST) → total (J .duration) (J .count) ≤ DURATIONS → Limited J first
+  pub limited : J .count ≤ TASKS → ((k : ℕ) → k < J .count → J .earliest k ≤ LATEST) → total (J .duration) (J .count) ≤ DURATIONS → Limited J estOrder
   limited few early short = record { count = few; starts = λ j q. early (T j) (rk .task j q); lasts = λ j q. ok .lasts (T j) (rk .task j q); durations = omega (arith, durations-all) }
 
   -- the leaves show the tasks Ω of Θ and the tasks Λ
@@ -245,7 +245,7 @@ module _ (J : Tasks natural) (ok : Proper J) (first : List ℕ) (rk : ByEarliest
     -- the root -----------------------------------------------------------------------------------------------------------------
 
     -- its values are those of the leaves of tasks
-    root-holds : Holds colour e p (leaves.root J first ls) 0 (width H)
+    root-holds : Holds colour e p (leaves.root J estOrder ls) 0 (width H)
     unfolding leaves.root
     root-holds = over-holds colour e p H 0
 
@@ -254,56 +254,56 @@ module _ (J : Tasks natural) (ok : Proper J) (first : List ℕ) (rk : ByEarliest
         let z : J .count + (width H - J .count) ≡ width H = omega (arith, enough (J .count)) in
         rw z at (leafRange.past w g e p 0 (J .count) (width H - J .count) (λ j r. none-w j (omega arith)) (λ j r. none-g j (omega arith)))
 
-    pub ect-is : leaves.rootEct J first ls ≡ scan J T rank Ω (J .count)
+    pub ect-is : leaves.rootEct J estOrder ls ≡ scan J T rank Ω (J .count)
     ect-is = root-holds .ect ∙ to-count .1 ∙ ect-scan (J .count) (omega arith)
 
-    pub bar-is : leaves.rootEctBar J first ls ≡ bars.EB J ok T rank rk Ω Λ (J .count)
+    pub bar-is : leaves.rootEctBar J estOrder ls ≡ bars.EB J ok T rank rk Ω Λ (J .count)
     bar-is = root-holds .ect-bar ∙ to-count .2 ∙ moved (λ v u. leafRange.ect-bar v u e p 0 (J .count))
 
     -- ect(Θ), where Θ is not empty
-    pub ect-of : NonEmpty J Ω → Ect J Ω (leaves.rootEct J first ls)
+    pub ect-of : NonEmpty J Ω → Ect J Ω (leaves.rootEct J estOrder ls)
     ect-of m = rw ect-is (scan-is J T rank ok rk Ω m)
 
     -- and the empty value exactly where it is
-    pub ect-some : (k : ℕ) → In J Ω k → 1 ≤ leaves.rootEct J first ls
+    pub ect-some : (k : ℕ) → In J Ω k → 1 ≤ leaves.rootEct J estOrder ls
     ect-some k m = omega (arith, ect-is, scan-some Ω k m)
 
-    pub ect-none : Empty Ω (J .count) → leaves.rootEct J first ls ≡ 0
+    pub ect-none : Empty Ω (J .count) → leaves.rootEct J estOrder ls ≡ 0
     ect-none nil = ect-is ∙ scan-none Ω nil
 
     -- the answer `ect`: ect(Θ), or none exactly where no leaf is white
-    pub moment-some : (k : ℕ) → In J Ω k → leaves.ect J first ls ≡ some (leaves.rootEct J first ls)
-    moment-some k m = decoded-some (leaves.rootEct J first ls) (ect-some k m)
+    pub moment-some : (k : ℕ) → In J Ω k → leaves.ect J estOrder ls ≡ some (leaves.rootEct J estOrder ls)
+    moment-some k m = decoded-some (leaves.rootEct J estOrder ls) (ect-some k m)
 
-    pub moment-none : Empty Ω (J .count) → leaves.ect J first ls ≡ none
-    moment-none nil = decoded-none (leaves.rootEct J first ls) (ect-none nil)
+    pub moment-none : Empty Ω (J .count) → leaves.ect J estOrder ls ≡ none
+    moment-none nil = decoded-none (leaves.rootEct J estOrder ls) (ect-none nil)
 
-    pub moment-is : (v : ℕ) → (leaves.ect J first ls ≡ some v) ↔ Ect J Ω v
+    pub moment-is : (v : ℕ) → (leaves.ect J estOrder ls ≡ some v) ↔ Ect J Ω v
     moment-is v = (to, from)
       where
-        to : leaves.ect J first ls ≡ some v → Ect J Ω v
+        to : leaves.ect J estOrder ls ≡ some v → Ect J Ω v
         to z = elim (top Ω (λ k. 0) (J .count)) [
           | inl nil ↦ some-or-none z (moment-none nil)
           | inr t ↦ (let m : In J Ω (t .at) = record { small = t .small; mem = t .mem } in subst (Ect J Ω) (one-moment (moment-some (t .at) m) z) (ect-of (t .at, m)))
         ]
 
-        from : Ect J Ω v → leaves.ect J first ls ≡ some v
+        from : Ect J Ω v → leaves.ect J estOrder ls ≡ some v
         from h =
             let (k, m, _) = h .holds .est .holds in
             let km : In J Ω k = record { small = m .small; mem = h .holds .within k m } in
-            let r : Ect J Ω (leaves.rootEct J first ls) = ect-of (k, km) in
-            moment-some k km ∙ ap some (le-antisymm (h .bounds (leaves.rootEct J first ls) (r .holds)) (r .bounds v (h .holds)))
+            let r : Ect J Ω (leaves.rootEct J estOrder ls) = ect-of (k, km) in
+            moment-some k km ∙ ap some (le-antisymm (h .bounds (leaves.rootEct J estOrder ls) (r .holds)) (r .bounds v (h .holds)))
 
-    pub none-where-none-white : (leaves.ect J first ls ≡ none) ↔ ((j : ℕ) → j < J .count → whiteAt ls j ≡ false)
+    pub none-where-none-white : (leaves.ect J estOrder ls ≡ none) ↔ ((j : ℕ) → j < J .count → whiteAt ls j ≡ false)
     none-where-none-white = (to, from)
       where
-        to : leaves.ect J first ls ≡ none → (j : ℕ) → j < J .count → whiteAt ls j ≡ false
+        to : leaves.ect J estOrder ls ≡ none → (j : ℕ) → j < J .count → whiteAt ls j ≡ false
         to z j q = elim (bool (whiteAt ls j)) [
           | inl y ↦ some-or-none (moment-some (T j) (record { small = rk .task j q; mem = sym (white-at j q) ∙ y })) z
           | inr y ↦ y
         ]
 
-        from : ((j : ℕ) → j < J .count → whiteAt ls j ≡ false) → leaves.ect J first ls ≡ none
+        from : ((j : ℕ) → j < J .count → whiteAt ls j ≡ false) → leaves.ect J estOrder ls ≡ none
         from none-white = moment-none (λ k q. sym (s .whites k q) ∙ none-white (rank k) (rk .placed k q))
 
     -- the sum is p(Θ)
@@ -326,7 +326,7 @@ module _ (J : Tasks natural) (ok : Proper J) (first : List ℕ) (rk : ByEarliest
         step ih (inr y) (inl v) = omega (arith, more, leafRange.gray w g e p 0 d d (zero-add d) (white-at d q ∙ y) (gray-at d q ∙ v) .s, grow-out J T rank ok rk Ω Ω d q y)
         step ih (inr y) (inr v) = omega (arith, more, leafRange.no-leaf w g e p 0 d d (zero-add d) (white-at d q ∙ y) (gray-at d q ∙ v) .s, grow-out J T rank ok rk Ω Ω d q y)
 
-    pub sum-of : leaves.sum J first ls ≡ processing J Ω
+    pub sum-of : leaves.sum J estOrder ls ≡ processing J Ω
     sum-of =
         let a : processing J (upto J T rank Ω (J .count)) ≤ processing J Ω
         = processing-mono J (upto J T rank Ω (J .count)) Ω (λ k h. (and-in J T rank ok rk Ω Ω (J .count) k (h .mem)) .1) in
@@ -350,11 +350,11 @@ module _ (J : Tasks natural) (ok : Proper J) (first : List ℕ) (rk : ByEarliest
         step (inr y) (inl v) (no z) ih = omega (arith, leafRange.gray w g e p 0 d d (zero-add d) y v, ih (omega arith))
         step (inr y) (inr v) (no z) ih = omega (arith, leafRange.no-leaf w g e p 0 d d (zero-add d) y v, ih (omega arith))
 
-    pub sum-bar-of : Largest natural (λ v. (processing J Ω ≡ v) ⊎ ((k : ℕ) × In J Λ k × (processing J (Ω with k) ≡ v))) (leaves.root J first ls .«sum_of_processing_times_bar»)
-    sum-bar-of = record { holds = holds (searchP (leaves.leaves J first ls) H 0) (by-sum-ok colour e p lasts H 0); bounds = bounds }
+    pub sum-bar-of : Largest natural (λ v. (processing J Ω ≡ v) ⊎ ((k : ℕ) × In J Λ k × (processing J (Ω with k) ≡ v))) (leaves.root J estOrder ls .«sum_of_processing_times_bar»)
+    sum-bar-of = record { holds = holds (searchP (leaves.leaves J estOrder ls) H 0) (by-sum-ok colour e p lasts H 0); bounds = bounds }
       where
         SB : ℕ
-        SB = leaves.root J first ls .«sum_of_processing_times_bar»
+        SB = leaves.root J estOrder ls .«sum_of_processing_times_bar»
 
         -- one gray task more
         with-gray : (k : ℕ) → In J Λ k → (Ω k ≡ false) × (processing J (Ω with k) ≡ processing J Ω + J .duration k)
@@ -386,17 +386,17 @@ module _ (J : Tasks natural) (ok : Proper J) (first : List ℕ) (rk : ByEarliest
             )
 
     -- the bar is at least the ect with each gray task
-    pub most : (k : ℕ) → In J Λ k → scan J T rank (Ω with k) (J .count) ≤ leaves.rootEctBar J first ls
+    pub most : (k : ℕ) → In J Λ k → scan J T rank (Ω with k) (J .count) ≤ leaves.rootEctBar J estOrder ls
     most k h = omega (arith, bar-is, bars.most J ok T rank rk Ω Λ k h (J .count) (omega arith))
 
     -- and it is the largest ect of Θ with at most one task of Λ
     abbrev pub AtMostOne : ℕ → Type 0
     AtMostOne v = Ect J Ω v ⊎ ((k : ℕ) × In J Λ k × Ect J (Ω with k) v)
 
-    plain-least : leaves.rootEct J first ls ≤ leaves.rootEctBar J first ls
+    plain-least : leaves.rootEct J estOrder ls ≤ leaves.rootEctBar J estOrder ls
     plain-least = omega (arith, root-holds .ect, root-holds .ect-bar, leafRange.bars w g e p 0 (width H) .later)
 
-    pub bar-of : NonEmpty J Ω ⊎ NonEmpty J Λ → Largest natural AtMostOne (leaves.rootEctBar J first ls)
+    pub bar-of : NonEmpty J Ω ⊎ NonEmpty J Λ → Largest natural AtMostOne (leaves.rootEctBar J estOrder ls)
     bar-of some-task = record { holds = rw bar-is (holds (bars.reached J ok T rank rk Ω Λ (J .count) (omega arith)) (top Ω (λ k. 0) (J .count))); bounds = bounds }
       where
         EB : ℕ
@@ -413,7 +413,7 @@ module _ (J : Tasks natural) (ok : Proper J) (first : List ℕ) (rk : ByEarliest
         holds (inl z) (inr t) = inl (rw z (scan-is J T rank ok rk Ω (t .at, record { small = t .small; mem = t .mem })))
         holds (inr o) t = inr (o .at, o .mem, rw (o .is) (scan-is J T rank ok rk (Ω with o .at) (o .at, record { small = o .mem .small; mem = with-new Ω (o .at) })))
 
-        bounds : (v : ℕ) → AtMostOne v → v ≤ leaves.rootEctBar J first ls
+        bounds : (v : ℕ) → AtMostOne v → v ≤ leaves.rootEctBar J estOrder ls
         bounds v (inl h) =
             let (i, im, _) = h .holds .est .holds in
             omega (arith, plain-least, ect-is, scan-is J T rank ok rk Ω (i, record { small = im .small; mem = h .holds .within i im }) .bounds v (h .holds))
@@ -421,24 +421,24 @@ module _ (J : Tasks natural) (ok : Proper J) (first : List ℕ) (rk : ByEarliest
             omega (arith, most k m, scan-is J T rank ok rk (Ω with k) (k, record { small = m .small; mem = with-new Ω k }) .bounds v (h .holds))
 
     -- the answer `ect_bar`: that ect, or none exactly where no leaf is white or gray
-    pub bar-some : NonEmpty J Ω ⊎ NonEmpty J Λ → leaves.ect-bar J first ls ≡ some (leaves.rootEctBar J first ls)
-    bar-some some-task = decoded-some (leaves.rootEctBar J first ls) (elim some-task [
+    pub bar-some : NonEmpty J Ω ⊎ NonEmpty J Λ → leaves.ect-bar J estOrder ls ≡ some (leaves.rootEctBar J estOrder ls)
+    bar-some some-task = decoded-some (leaves.rootEctBar J estOrder ls) (elim some-task [
       | inl m ↦ omega (arith, plain-least, ect-some (m .0) (m .1))
       | inr m ↦ omega (arith, most (m .0) (m .1), scan-some (Ω with m .0) (m .0) (record { small = m .1 .small; mem = with-new Ω (m .0) }))
     ])
 
-    pub bar-none : Empty Ω (J .count) → Empty Λ (J .count) → leaves.ect-bar J first ls ≡ none
-    bar-none nil no-gray = decoded-none (leaves.rootEctBar J first ls) (elim (bars.reached J ok T rank rk Ω Λ (J .count) (omega arith))
+    pub bar-none : Empty Ω (J .count) → Empty Λ (J .count) → leaves.ect-bar J estOrder ls ≡ none
+    bar-none nil no-gray = decoded-none (leaves.rootEctBar J estOrder ls) (elim (bars.reached J ok T rank rk Ω Λ (J .count) (omega arith))
         [ inl z ↦ bar-is ∙ z ∙ scan-none Ω nil | inr o ↦ clash (o .mem .mem) (no-gray (o .at) (o .mem .small)) ])
 
     -- the search's answer ------------------------------------------------------------------------------------------------------
 
-    answered : EctOk colour e p lasts H 0 (leaves.responsible J first ls)
+    answered : EctOk colour e p lasts H 0 (leaves.responsible J estOrder ls)
     unfolding leaves.responsible
     answered = by-ect-ok colour e p lasts H 0
 
     -- no task found: a gray one is not needed for the bar
-    pub none-found : leaves.responsible J first ls ≡ none → leaves.rootEctBar J first ls ≤ leaves.rootEct J first ls
+    pub none-found : leaves.responsible J estOrder ls ≡ none → leaves.rootEctBar J estOrder ls ≤ leaves.rootEct J estOrder ls
     none-found z =
         let f : leafRange.ect-bar w g e p 0 (width H) ≤ leafRange.ect w g e p 0 (width H) = subst (EctOk colour e p lasts H 0) z answered in
         omega (arith, f, root-holds .ect, root-holds .ect-bar)
@@ -451,9 +451,9 @@ module _ (J : Tasks natural) (ok : Proper J) (first : List ℕ) (rk : ByEarliest
       pub value : ℕ
       pub attains : EstPlusP J (Ω with T x) value
       pub has : attains .part (T x) ≡ true
-      pub reaches : leaves.rootEctBar J first ls ≤ value
+      pub reaches : leaves.rootEctBar J estOrder ls ≤ value
 
-    pub one-found : (x : ℕ) → leaves.responsible J first ls ≡ some x → Found x
+    pub one-found : (x : ℕ) → leaves.responsible J estOrder ls ≡ some x → Found x
     one-found x z =
         let f = subst (EctOk colour e p lasts H 0) z answered in
         let u = gray-in x (f .0 .gray) in
@@ -464,12 +464,12 @@ module _ (J : Tasks natural) (ok : Proper J) (first : List ℕ) (rk : ByEarliest
     -- the list of Θ ------------------------------------------------------------------------------------------------------------
 
     -- it has the tasks of Θ,
-    pub theta-has : (k : ℕ) → In J Ω k → has (leaves.theta J first ls) k ≡ true
+    pub theta-has : (k : ℕ) → In J Ω k → has (leaves.theta J estOrder ls) k ≡ true
     unfolding leaves.theta
     theta-has k m = theta-in w T 0 (J .count) (rank k) k (omega arith) (omega (arith, rk .placed k (m .small))) (s .whites k (m .small) ∙ m .mem) (rk .there k (m .small))
 
     -- no others,
-    pub theta-only : (k : ℕ) → has (leaves.theta J first ls) k ≡ true → In J Ω k
+    pub theta-only : (k : ℕ) → has (leaves.theta J estOrder ls) k ≡ true → In J Ω k
     unfolding leaves.theta
     theta-only k h =
         let (j, lo, hi, white, is) = theta-from w T 0 (J .count) k h in
@@ -477,6 +477,6 @@ module _ (J : Tasks natural) (ok : Proper J) (first : List ℕ) (rk : ByEarliest
         record { small = subst (λ (x : ℕ). x < J .count) is (rk .task j q); mem = subst (λ (x : ℕ). Ω x ≡ true) is (sym (white-at j q) ∙ white) }
 
     -- and each once; by its definition, in the order of the leaves
-    pub theta-once : Distinct (leaves.theta J first ls)
+    pub theta-once : Distinct (leaves.theta J estOrder ls)
     unfolding leaves.theta
     theta-once = theta-distinct w T 0 (J .count) (λ i j q r z. omega (arith, ap rank z, rk .back i (omega arith), rk .back j (omega arith)))

@@ -83,6 +83,6 @@ module _ (white : ℕ → Bool) (task : ℕ → ℕ) where
       by (inr v) ih = rw (theta-skip white task a d v) ih
 
 -- Theta is the list over all leaves
-pub theta-is : (J : Tasks natural) (first : List ℕ) (ls : List Leaf) → theta J first ls ≡ thetaOf (whiteAt ls) (taskAt J first) 0 (J .count)
+pub theta-is : (J : Tasks natural) (estOrder : List ℕ) (ls : List Leaf) → theta J estOrder ls ≡ thetaOf (whiteAt ls) (taskAt J estOrder) 0 (J .count)
 unfolding theta
-theta-is J first ls = refl
+theta-is J estOrder ls = refl

@@ -68,18 +68,18 @@ plain-over leaf leaf′ z zero a = over-leaf plainJoinOf leaf′ a ∙ z a ∙ s
 plain-over leaf leaf′ z (suc h) a =
     over-join plainJoinOf leaf′ h a ∙ ap₂ plainJoinOf (plain-over leaf leaf′ z h a) (plain-over leaf leaf′ z h (a + width h)) ∙ sym (ap plainly (over-join joinOf leaf h a))
 
-module _ (J : Tasks natural) (first : List ℕ) where
+module _ (J : Tasks natural) (estOrder : List ℕ) where
   abbrev leaf-node : Leaf → ℕ → Node
-  leaf-node c j = leafNode c (startAt J first j) (durationAt J first j)
+  leaf-node c j = leafNode c (startAt J estOrder j) (durationAt J estOrder j)
 
   abbrev plain-node : Leaf → ℕ → plain.Node
-  plain-node c j = plainLeaf (inTheta c) (startAt J first j) (durationAt J first j)
+  plain-node c j = plainLeaf (inTheta c) (startAt J estOrder j) (durationAt J estOrder j)
 
   all-empty : (n j : ℕ) → getD (replicate n empty) j empty ≡ empty
   all-empty = getD-fresh empty
 
   -- after `update`, or of a new theta tree: every word 0, and every leaf empty
-  pub new-tree : (inner : ℕ) (words : List ℕ) → words ≡ replicate TREEWORDS 0 → inner + 1 ≡ width (heightFor (J .count)) → IsTree J first (replicate (J .count) empty) inner words
+  pub new-tree : (inner : ℕ) (words : List ℕ) → words ≡ replicate TREEWORDS 0 → inner + 1 ≡ width (heightFor (J .count)) → IsTree J estOrder (replicate (J .count) empty) inner words
   unfolding joinOf
   new-tree inner words z e = rw z (record {
     tree = record {
@@ -91,7 +91,7 @@ module _ (J : Tasks natural) (first : List ℕ) where
     colours = length-replicate (J .count) empty;
   })
 
-  pub new-plain-tree : (inner : ℕ) (words : List ℕ) → words ≡ replicate THETAWORDS 0 → inner + 1 ≡ width (heightFor (J .count)) → IsPlainTree J first (replicate (J .count) empty) inner words
+  pub new-plain-tree : (inner : ℕ) (words : List ℕ) → words ≡ replicate THETAWORDS 0 → inner + 1 ≡ width (heightFor (J .count)) → IsPlainTree J estOrder (replicate (J .count) empty) inner words
   unfolding plainJoinOf
   new-plain-tree inner words z e = rw z (record {
     tree = record {
@@ -105,84 +105,84 @@ module _ (J : Tasks natural) (first : List ℕ) where
 
 -- the theta-lambda tree --------------------------------------------------------------------------------------------------------
 
-module _ {J : Tasks natural} {first : List ℕ} (lim : Limited J first) {ls : List Leaf} {inner : ℕ} {words : List ℕ} (t : IsTree J first ls inner words) where
+module _ {J : Tasks natural} {estOrder : List ℕ} (lim : Limited J estOrder) {ls : List Leaf} {inner : ℕ} {words : List ℕ} (t : IsTree J estOrder ls inner words) where
   -- the leaf of a task may get a colour: white when Theta is filled, gray by `add_to_lambda`, empty by `remove_from_lambda`
-  pub may-put : (k : ℕ) → k < J .count → (c : Leaf) {n : Node} → n ≡ leafNode c (startAt J first k) (durationAt J first k) → Puttable inner words k n
+  pub may-put : (k : ℕ) → k < J .count → (c : Leaf) {n : Node} → n ≡ leafNode c (startAt J estOrder k) (durationAt J estOrder k) → Puttable inner words k n
   may-put k q c {n} z = record {
     length = t .words-length;
-    takes = takes size Fair joinOf (leaf-node J first) inner (J .count) (nodeAt words) ls (t .tree) (t .complete) (lim .count) (t .colours) k q c (bounded J first lim (set ls k c) (length-set ls k c ∙ t .colours)) n z;
+    takes = takes size Fair joinOf (leaf-node J estOrder) inner (J .count) (nodeAt words) ls (t .tree) (t .complete) (lim .count) (t .colours) k q c (bounded J estOrder lim (set ls k c) (length-set ls k c ∙ t .colours)) n z;
   }
 
   -- and then has it
-  pub was-put : (k : ℕ) → k < J .count → (c : Leaf) {n : Node} → n ≡ leafNode c (startAt J first k) (durationAt J first k) → {words′ : List ℕ} → Put inner words words′ k n → IsTree J first (set ls k c) inner words′
+  pub was-put : (k : ℕ) → k < J .count → (c : Leaf) {n : Node} → n ≡ leafNode c (startAt J estOrder k) (durationAt J estOrder k) → {words′ : List ℕ} → Put inner words words′ k n → IsTree J estOrder (set ls k c) inner words′
   was-put k q c {n} z {words′} u = record {
-    tree = put-gives size Fair joinOf (leaf-node J first) inner (nodeAt words) (nodeAt words′) ls (t .tree) k (omega (arith, t .colours)) c n z (u .tree);
+    tree = put-gives size Fair joinOf (leaf-node J estOrder) inner (nodeAt words) (nodeAt words′) ls (t .tree) k (omega (arith, t .colours)) c n z (u .tree);
     words-length = u .length;
     complete = t .complete;
     colours = length-set ls k c ∙ t .colours;
   }
 
   -- the root's values: `ect`, `ect_bar`, `sum_of_processing_times`
-  own : leavesOf inner (nodeAt words) ≡ leaves.leaves J first ls
-  own = own-leaves joinOf inner (leaves.leaves J first ls) (nodeAt words) (t .tree)
+  own : leavesOf inner (nodeAt words) ≡ leaves.leaves J estOrder ls
+  own = own-leaves joinOf inner (leaves.leaves J estOrder ls) (nodeAt words) (t .tree)
 
   own-is-tree : TreeOf joinOf inner (leavesOf inner (nodeAt words)) (nodeAt words)
-  own-is-tree = own-tree joinOf inner (leaves.leaves J first ls) (nodeAt words) (t .tree)
+  own-is-tree = own-tree joinOf inner (leaves.leaves J estOrder ls) (nodeAt words) (t .tree)
 
-  pub root-of : nodeAt words 0 ≡ root J first ls
+  pub root-of : nodeAt words 0 ≡ root J estOrder ls
   unfolding root
   root-of = root-is joinOf inner (heightFor (J .count)) (nodeAt words) (t .complete) own-is-tree ∙ ap (λ (leaf : ℕ → Node). nodeOver joinOf leaf (heightFor (J .count)) 0) own
 
   -- what `ect` and `ect_bar` answer
-  pub ect-of-root : ectIn words ≡ leaves.ect J first ls
+  pub ect-of-root : ectIn words ≡ leaves.ect J estOrder ls
   ect-of-root = ap (λ (n : Node). decoded (n .ect)) root-of
 
-  pub bar-of-root : ectBarIn words ≡ leaves.ect-bar J first ls
+  pub bar-of-root : ectBarIn words ≡ leaves.ect-bar J estOrder ls
   bar-of-root = ap (λ (n : Node). decoded (n .«ect_bar»)) root-of
 
   -- the search from the root, `responsible_ect_bar`
   pub searchable : (h : ℕ) → h ≡ heightFor (J .count) → Searchable inner h (nodeAt words)
   searchable h z = rw z (record {
-    searched = record { tree = own-is-tree; bounded = rw own (bounded J first lim ls (t .colours)); has-height = root-height inner (heightFor (J .count)) (t .complete); room = omega (arith, room (J .count) (omega (arith, lim .count)), t .complete) };
+    searched = record { tree = own-is-tree; bounded = rw own (bounded J estOrder lim ls (t .colours)); has-height = root-height inner (heightFor (J .count)) (t .complete); room = omega (arith, room (J .count) (omega (arith, lim .count)), t .complete) };
     complete = t .complete;
-    past = λ k q. ap gray (t .tree .leaves k ∙ ap (λ (c : Leaf). leaf-node J first c k) (past-empty J first ls (t .colours) k (omega (arith, lim .count)))) ∙ gray-empty;
+    past = λ k q. ap gray (t .tree .leaves k ∙ ap (λ (c : Leaf). leaf-node J estOrder c k) (past-empty J estOrder ls (t .colours) k (omega (arith, lim .count)))) ∙ gray-empty;
   })
 
-  pub responsible-of : (h : ℕ) → h ≡ heightFor (J .count) → searchEct (leavesOf inner (nodeAt words)) h 0 ≡ responsible J first ls
+  pub responsible-of : (h : ℕ) → h ≡ heightFor (J .count) → searchEct (leavesOf inner (nodeAt words)) h 0 ≡ responsible J estOrder ls
   unfolding responsible
   responsible-of h z = rw (z, own) refl
 
   -- the tasks of Theta, by any array of the leaves' tasks
-  pub theta-of : (tasks : List ℕ) → ((j : ℕ) → j < J .count → getD tasks j 0 ≡ taskAt J first j) → thetaOf (isWhite (leavesOf inner (nodeAt words))) (λ k. getD tasks k 0) 0 (J .count) ≡ theta J first ls
+  pub theta-of : (tasks : List ℕ) → ((j : ℕ) → j < J .count → getD tasks j 0 ≡ taskAt J estOrder j) → thetaOf (isWhite (leavesOf inner (nodeAt words))) (λ k. getD tasks k 0) 0 (J .count) ≡ theta J estOrder ls
   unfolding theta
-  theta-of tasks z = theta-same (isWhite (leavesOf inner (nodeAt words))) (whiteAt ls) (λ k. getD tasks k 0) (taskAt J first) 0 (J .count) (λ k lo hi.
+  theta-of tasks z = theta-same (isWhite (leavesOf inner (nodeAt words))) (whiteAt ls) (λ k. getD tasks k 0) (taskAt J estOrder) 0 (J .count) (λ k lo hi.
       let q : k < J .count = omega arith in
-      (ap (λ (n : Node). not (eqb (n .ect) 0)) (t .tree .leaves k) ∙ white-is (getD ls k empty) (startAt J first k) (durationAt J first k) (lim .lasts k q), z k q))
+      (ap (λ (n : Node). not (eqb (n .ect) 0)) (t .tree .leaves k) ∙ white-is (getD ls k empty) (startAt J estOrder k) (durationAt J estOrder k) (lim .lasts k q), z k q))
 
 -- the theta tree ---------------------------------------------------------------------------------------------------------------
 
-module _ {J : Tasks natural} {first : List ℕ} (lim : Limited J first) {ls : List Leaf} {inner : ℕ} {words : List ℕ} (t : IsPlainTree J first ls inner words) where
-  pub may-put-plain : (k : ℕ) → k < J .count → (c : Leaf) {n : plain.Node} → n ≡ plainLeaf (inTheta c) (startAt J first k) (durationAt J first k) → PlainPuttable inner words k n
+module _ {J : Tasks natural} {estOrder : List ℕ} (lim : Limited J estOrder) {ls : List Leaf} {inner : ℕ} {words : List ℕ} (t : IsPlainTree J estOrder ls inner words) where
+  pub may-put-plain : (k : ℕ) → k < J .count → (c : Leaf) {n : plain.Node} → n ≡ plainLeaf (inTheta c) (startAt J estOrder k) (durationAt J estOrder k) → PlainPuttable inner words k n
   may-put-plain k q c {n} z = record {
     length = t .words-length;
-    takes = takes plainSize PlainFair plainJoinOf (plain-node J first) inner (J .count) (plainAt words) ls (t .tree) (t .complete) (lim .count) (t .colours) k q c (plain-bounded J first lim (set ls k c) (length-set ls k c ∙ t .colours)) n z;
+    takes = takes plainSize PlainFair plainJoinOf (plain-node J estOrder) inner (J .count) (plainAt words) ls (t .tree) (t .complete) (lim .count) (t .colours) k q c (plain-bounded J estOrder lim (set ls k c) (length-set ls k c ∙ t .colours)) n z;
   }
 
-  pub was-put-plain : (k : ℕ) → k < J .count → (c : Leaf) {n : plain.Node} → n ≡ plainLeaf (inTheta c) (startAt J first k) (durationAt J first k) → {words′ : List ℕ} → PlainPut inner words words′ k n → IsPlainTree J first (set ls k c) inner words′
+  pub was-put-plain : (k : ℕ) → k < J .count → (c : Leaf) {n : plain.Node} → n ≡ plainLeaf (inTheta c) (startAt J estOrder k) (durationAt J estOrder k) → {words′ : List ℕ} → PlainPut inner words words′ k n → IsPlainTree J estOrder (set ls k c) inner words′
   was-put-plain k q c {n} z {words′} u = record {
-    tree = put-gives plainSize PlainFair plainJoinOf (plain-node J first) inner (plainAt words) (plainAt words′) ls (t .tree) k (omega (arith, t .colours)) c n z (u .tree);
+    tree = put-gives plainSize PlainFair plainJoinOf (plain-node J estOrder) inner (plainAt words) (plainAt words′) ls (t .tree) k (omega (arith, t .colours)) c n z (u .tree);
     words-length = u .length;
     complete = t .complete;
     colours = length-set ls k c ∙ t .colours;
   }
 
   -- the root has the theta-lambda tree's plain values
-  pub plain-root-of : plainAt words 0 ≡ plainOf (leaves.rootEct J first ls) (leaves.sum J first ls)
+  pub plain-root-of : plainAt words 0 ≡ plainOf (leaves.rootEct J estOrder ls) (leaves.sum J estOrder ls)
   unfolding root
-  plain-root-of = root-is plainJoinOf inner (heightFor (J .count)) (plainAt words) (t .complete) (own-tree plainJoinOf inner (plainLeaves J first ls) (plainAt words) (t .tree))
-      ∙ ap (λ (leaf : ℕ → plain.Node). nodeOver plainJoinOf leaf (heightFor (J .count)) 0) (own-leaves plainJoinOf inner (plainLeaves J first ls) (plainAt words) (t .tree))
-      ∙ plain-over (leaves.leaves J first ls) (plainLeaves J first ls) (λ j. plain-leaf (getD ls j empty) (startAt J first j) (durationAt J first j)) (heightFor (J .count)) 0
+  plain-root-of = root-is plainJoinOf inner (heightFor (J .count)) (plainAt words) (t .complete) (own-tree plainJoinOf inner (plainLeaves J estOrder ls) (plainAt words) (t .tree))
+      ∙ ap (λ (leaf : ℕ → plain.Node). nodeOver plainJoinOf leaf (heightFor (J .count)) 0) (own-leaves plainJoinOf inner (plainLeaves J estOrder ls) (plainAt words) (t .tree))
+      ∙ plain-over (leaves.leaves J estOrder ls) (plainLeaves J estOrder ls) (λ j. plain-leaf (getD ls j empty) (startAt J estOrder j) (durationAt J estOrder j)) (heightFor (J .count)) 0
 
   -- and answers Theta's ect
-  pub plain-ect-of : plainEctIn words ≡ leaves.ect J first ls
+  pub plain-ect-of : plainEctIn words ≡ leaves.ect J estOrder ls
   plain-ect-of = ap (λ (n : plain.Node). decoded (n .ect)) plain-root-of

@@ -47,10 +47,10 @@ abbrev pub plainLeaf : Bool → ℕ → ℕ → plain.Node
 plainLeaf false e p = plainEmptyOf
 plainLeaf true e p = plainOf (e + p) p
 
--- The leaves stand in the order of earliest starts: `first` has the task of each.
-module _ (J : Tasks natural) (first : List ℕ) where
+-- The leaves stand in the order of earliest starts: `estOrder` has the task of each.
+module _ (J : Tasks natural) (estOrder : List ℕ) where
   abbrev pub taskAt : ℕ → ℕ
-  taskAt j = getD first j 0
+  taskAt j = getD estOrder j 0
 
   abbrev pub startAt : ℕ → ℕ
   startAt j = J .earliest (taskAt j)
