@@ -22,7 +22,7 @@ use Rattle.checker.proofs.Apart.{verdicts-apart}
 use Rattle.levels.specs.declared.outcome.Outcome.{Outcome}
 use Rattle.levels.specs.declared.outcome.Outcome.the-variants as outcome
 use Rattle.levels.specs.Outcomes.{outcomeNumbers}
-use Rattle.propagator.proofs.Answering.{outcomes-apart}
+use Rattle.levels.proofs.Answering.{outcomes-apart}
 use Rattle.answers.specs.declared.call_answers.RunAnswer.{RunAnswer}
 use Rattle.answers.specs.declared.call_answers.CheckAnswer.{CheckAnswer}
 use Rattle.answers.specs.declared.call_answers.StateAnswer.{StateAnswer}

@@ -20,9 +20,10 @@ use Rattle.pages.specs.declared.answer.Page.the-variants as page
 use Rattle.pages.specs.Numbers.{pageNumbers}
 use Rattle.precedences.specs.declared.answers.Precedences.{Precedences}
 use Rattle.precedences.specs.declared.answers.Precedences.the-variants as pass
-use Rattle.precedences.specs.declared.answers.Reason.{Reason}
-use Rattle.precedences.specs.declared.answers.Reason.the-variants as reason
-use Rattle.precedences.specs.Numbers.{precedencesNumbers, reasonNumbers}
+use Rattle.precedence_reasons.specs.declared.answer.Reason.{Reason}
+use Rattle.precedence_reasons.specs.declared.answer.Reason.the-variants as reason
+use Rattle.precedences.specs.Numbers.{precedencesNumbers}
+use Rattle.precedence_reasons.specs.Numbers.{reasonNumbers}
 use Rattle.levels.specs.declared.outcome.Outcome.{Outcome}
 use Rattle.levels.specs.declared.outcome.Outcome.the-variants as outcome
 use Rattle.levels.specs.Outcomes.{outcomeNumbers}

@@ -12,7 +12,7 @@ use Rattle.integers.specs.Tests.{Test, test}
 use Rattle.integers.proofs.Tests.{accepts, refuses, more-accepted, more-refused}
 use Rattle.records.specs.declared.record.Propagator.{Propagator}
 use Rattle.records.specs.Records.{Lawful}
-use Rattle.records.specs.Refusals.{CountsFit, StartsFit, RangesFit}
+use Rattle.input_refusals.specs.Refusals.{CountsFit, StartsFit, RangesFit}
 use Rattle.fixed_schedules.specs.FixedSchedules.{fixedTests, fixedNumber, Fixed, AcceptedFixed}
 use Rattle.fixed_schedules.specs.Asked.{lengthFits, LengthFits}
 use Rattle.fixed_schedules.proofs.Asking.{length-is}

@@ -16,8 +16,8 @@ use Rattle.integers.proofs.Bools.{and-true, and-yes}
 use Rattle.integers.proofs.Tests.{all-at, all-show, accepts, refuses, more-accepted, more-refused}
 use Rattle.records.specs.declared.record.Propagator.{Propagator}
 use Rattle.records.specs.Records.{Lawful}
-use Rattle.records.specs.Refusals.{CountsFit, StartsFit, RangesFit}
-use Rattle.records.proofs.Refused.{within-is}
+use Rattle.input_refusals.specs.Refusals.{CountsFit, StartsFit, RangesFit}
+use Rattle.input_refusals.proofs.Refused.{within-is}
 use Rattle.fixed_schedules.specs.FixedSchedules.{fixedTests, fixedNumber, Fixed, AcceptedFixed}
 use Rattle.fixed_schedules.proofs.FixedRefused.{fixed-first, fixed-then, fixed-20, fixed-10, fixed-3, fixed-4, fixed-14, fixed-many, passed-fixed}
 use Rattle.charges.specs.Charging.{dueFitsAt, chargesNumber, DueFits, DuesFit, Accepted}

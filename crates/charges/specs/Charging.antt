@@ -13,7 +13,7 @@ use Rattle.integers.specs.Tests.{Test, test, allBelow, refusal}
 use Rattle.scheduling.specs.Scheduling.{total}
 use Rattle.sorts.specs.Orders.{noTasks}
 use Rattle.records.specs.declared.record.Propagator.{Propagator}
-use Rattle.records.specs.Refusals.{withinAt}
+use Rattle.input_refusals.specs.Refusals.{withinAt}
 use Rattle.fixed_schedules.specs.FixedSchedules.{endAt, fixedTests, AcceptedFixed}
 use Rattle.charges.specs.Tariff.{costOf, minutesLate}
 use Rattle.charges.specs.declared.answer.Bill.{Bill}

@@ -11,7 +11,7 @@ ghost use mathlib.Core.Path.{_≡_};
 ghost use Prim.Native.Nat.{_≤_};
 ghost use lib.IntN.{pos, _+ℤ_};
 ghost use Rattle.integers.specs.Limits.{DURATIONS};
-ghost use Rattle.records.specs.Refusals.{StartFits};
+ghost use Rattle.input_refusals.specs.Refusals.{StartFits};
 ghost use Rattle.charges.specs.Tariff.{minutesLate, costOf};
 ghost use Rattle.charges.specs.Charging.{DueFits, MINUTES, noBill, Charged};
 ghost use Rattle.charges.specs.Billed.{Chargeable, Summed};

@@ -1,7 +1,7 @@
 // What refuses a call for charges.
 use fixed_schedules::refusals::fixed_refusal;
+use input_refusals::all_within;
 use records::record::Propagator;
-use records::refusals::all_within;
 ghost use mathlib.Core.Path.{_≡_};
 ghost use lib.ListN.{length};
 ghost use Rattle.integers.specs.Tests.{allBelow};

@@ -20,13 +20,14 @@ use Rattle.records.specs.declared.record.Created.{Created}
 use Rattle.records.specs.declared.record.Creation.the-variants as creation
 use Rattle.records.specs.Records.{creationTests, created}
 use Rattle.records.proofs.Creation.{created-new, created-not}
+use Rattle.formulas.specs.BoundArrays.{mirroredBounds}
 use Rattle.checker.specs.declared.checker.Verdict.{Verdict}
 use Rattle.checker.specs.declared.checker.Verdict.the-variants.{Passed, Contradiction, Refused}
 use Rattle.checking.specs.declared.start_bounds.Bounds.{Bounds}
 use Rattle.checker.specs.Checks.{judged, concluded, checkAfter, checkOf, Checked}
 use Rattle.checker.specs.MirroredChecks.{lowerAs, upperAs, judgedAs, checkAs, checkMirroredOf, CheckedMirrored}
 use Rattle.checking.specs.TaskBounds.{boundsOf}
-use Rattle.checker.specs.CheckArrays.{mirroredBounds, Judgeable, Consequent}
+use Rattle.checker.specs.CheckArrays.{Judgeable, Consequent}
 use Rattle.checker.proofs.Apart.{verdicts-apart}
 use Rattle.checker.proofs.Soundness.{check-sound, mirrored-sound}
 use Rattle.checker.proofs.Verdicts.{judgeable, mirrored-judgeable}

@@ -1,10 +1,5 @@
 pub mod Apart
-pub mod Gathering
-pub mod Steps
-pub mod Judging
-pub mod Formulas
-pub mod Mirroring
-pub mod MirroredBounds
+pub mod MirroredGiven
 pub mod Soundness
 pub mod Verdicts
 pub mod Answers

@@ -19,10 +19,11 @@ use Rattle.checking.specs.declared.variable_state.Application.{Application}
 use Rattle.checking.specs.declared.variable_state.Application.the-variants as application
 use Rattle.checking.specs.States.{prepared}
 use Rattle.records.specs.Records.{durationAt, creationTests}
+use Rattle.formulas.specs.Formulas.{known, bounded, implied, overloaded}
+use Rattle.formulas.specs.StartBounds.{mirrorBound}
 use Rattle.checker.specs.declared.checker.Verdict.the-variants.{Refused}
 use Rattle.checker.specs.Checks.{lowerIn, upperIn, verdict, judged, concluded, checkAfter, checkOf}
-use Rattle.checker.specs.Formulas.{known, bounded, implied, overloaded}
-use Rattle.checker.specs.MirroredChecks.{mirrorBound, lowerAs, upperAs, judgedAs, checkMirroredOf}
+use Rattle.checker.specs.MirroredChecks.{lowerAs, upperAs, judgedAs, checkMirroredOf}
 use Rattle.checker.specs.Verdicts.{verdictNumbers}
 
 -- Neither passed nor not passed.

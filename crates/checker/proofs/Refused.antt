@@ -29,12 +29,12 @@ use Rattle.checking.proofs.Apart.{other-kind, applications-apart}
 use Rattle.checking.proofs.Refused.{prepared-7, prepared-6, prepared-21, prepared-number}
 use Rattle.records.specs.Records.{durationAt, creationTests}
 use Rattle.records.proofs.Creation as creation
+use Rattle.formulas.specs.Formulas.{bounded, implied, overloaded}
+use Rattle.formulas.proofs.Formulas.{Reads, least-of, greatest-of, none-of}
 use Rattle.checker.specs.declared.checker.Verdict.the-variants.{Contradiction, Refused}
 use Rattle.checker.specs.Checks.{lowerIn, upperIn, verdict, judged, concluded, checkOf, tasksWith}
-use Rattle.checker.specs.Formulas.{bounded, implied, overloaded}
 use Rattle.checker.specs.Verdicts.{verdictNumbers}
 use Rattle.checker.proofs.Answers.{check-after}
-use Rattle.checker.proofs.Formulas.{Reads, least-of, greatest-of, none-of}
 use Rattle.checker.proofs.Soundness.{reads, durations-last}
 
 -- The variable is one of n tasks, and the atoms leave it a least and a greatest value.

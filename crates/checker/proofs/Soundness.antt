@@ -22,7 +22,7 @@ use Rattle.scheduling.specs.Scheduling.{whole, Tasks, Atom, Every, Admits, give
 use Rattle.scheduling.specs.Mirroring.{mirrorStart, mirrorAtoms}
 use Rattle.scheduling.proofs.Passed.{passed-sound}
 use Rattle.scheduling.proofs.Sets.{total-part}
-use Rattle.trees.specs.Bounds.{LATEST}
+use Rattle.nodes.specs.Bounds.{LATEST}
 use Rattle.holes.specs.Holes.{Within}
 use Rattle.atoms.specs.Atoms.{atomsOf, consequentOf, rightLists}
 use Rattle.domains.specs.declared.int_ext.IntExt.{IntExt}
@@ -36,13 +36,15 @@ use Rattle.checking.proofs.Prepared.{prepared-least, prepared-largest, prepared
 use Rattle.sorts.specs.Orders.{noTasks}
 use Rattle.records.specs.Records.{durationAt, creationTests}
 use Rattle.records.proofs.Creation.{created-lawful, same-sum}
+use Rattle.formulas.specs.Formulas.{bounded, implied}
+use Rattle.formulas.specs.StartBounds.{finite}
+use Rattle.formulas.proofs.Mirroring.{mirrored-reads}
+use Rattle.formulas.proofs.Formulas.{Reads, determined, overloaded-sound, overloaded-complete, implied-sound, implied-complete}
 use Rattle.checker.specs.declared.checker.Verdict.{Verdict}
 use Rattle.checker.specs.declared.checker.Verdict.the-variants.{Passed, NotPassed, Contradiction, Refused}
-use Rattle.checker.specs.Formulas.{bounded, implied}
-use Rattle.checker.specs.Checks.{finite, lowerIn, upperIn, verdict, judgedBy, concluded, checkAfter, checkOf, tasksWith}
+use Rattle.checker.specs.Checks.{lowerIn, upperIn, verdict, judgedBy, concluded, checkAfter, checkOf, tasksWith}
 use Rattle.checker.specs.MirroredChecks.{mirrorIfAny, lowerAs, upperAs, judgedAs, checkAs, checkMirroredOf}
-use Rattle.checker.proofs.Mirroring.{given-mirrored, contradicts-mirrored, mirrored-reads}
-use Rattle.checker.proofs.Formulas.{Reads, determined, overloaded-sound, overloaded-complete, implied-sound, implied-complete}
+use Rattle.checker.proofs.MirroredGiven.{given-mirrored, contradicts-mirrored}
 
 -- ---- the bounds of a prepared state
 finite-is : (e : IntExt) (u : ℤ) → finite e ≡ some u → e ≡ Int u

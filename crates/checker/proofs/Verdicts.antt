@@ -18,7 +18,7 @@ use Rattle.integers.specs.Tests.{refusal}
 use Rattle.integers.proofs.Filling.{filled-at}
 use Rattle.scheduling.specs.Scheduling.{whole, natural, Tasks, TaskSet, total, given}
 use Rattle.scheduling.specs.Mirroring.{mirrorAtoms}
-use Rattle.trees.specs.Bounds.{LATEST}
+use Rattle.nodes.specs.Bounds.{LATEST}
 use Rattle.atoms.specs.Atoms.{atomsOf, consequentOf}
 use Rattle.atoms.proofs.Atoms.{words-three, words-at, consequent-none, consequent-one, right-atom}
 use Rattle.domains.specs.declared.int_ext.IntExt.{IntExt}
@@ -29,16 +29,18 @@ use Rattle.checking.specs.States.{domainAt, prepared}
 use Rattle.checking.proofs.Near.{Near, prepared-near}
 use Rattle.records.specs.Records.{durationAt, creationTests, newRecord}
 use Rattle.records.proofs.Creation.{created-lawful, same-sum}
+use Rattle.formulas.specs.Formulas.{known, valueOf, bounded, tasks, _but_, overloadsSpan, comesAfter, overloaded, implied}
+use Rattle.formulas.specs.StartBounds.{finite}
+use Rattle.formulas.specs.BoundArrays.{mirroredMoment, mirroredBounds}
+use Rattle.formulas.proofs.Formulas.{moments-proper}
+use Rattle.formulas.proofs.MirroredBounds.{mirrored-known, est-mirrored, lst-mirrored, moment-alike, mirrored-most}
 use Rattle.checker.specs.declared.checker.Verdict.{Verdict}
 use Rattle.checker.specs.declared.checker.Verdict.the-variants.{Refused}
 use Rattle.checking.specs.declared.start_bounds.Bounds.{Bounds}
-use Rattle.checker.specs.Formulas.{known, valueOf, bounded, tasks, _but_, overloadsSpan, comesAfter, overloaded, implied}
-use Rattle.checker.specs.Checks.{finite, lowerIn, upperIn, verdict, judgedBy, tasksWith}
+use Rattle.checker.specs.Checks.{lowerIn, upperIn, verdict, judgedBy, tasksWith}
 use Rattle.checker.specs.MirroredChecks.{mirrorIfAny, lowerAs, upperAs}
 use Rattle.checking.specs.TaskBounds.{boundsBetween, knownAt, estAt, lstAt, boundsOf}
-use Rattle.checker.specs.CheckArrays.{mirroredMoment, mirroredBounds, Judgeable, Consequent}
-use Rattle.checker.proofs.Formulas.{moments-proper}
-use Rattle.checker.proofs.MirroredBounds.{mirrored-known, est-mirrored, lst-mirrored, moment-alike, mirrored-most}
+use Rattle.checker.specs.CheckArrays.{Judgeable, Consequent}
 use Rattle.checker.proofs.Soundness.{reads, reads-mirrored, near-latest, durations-last, durations-most}
 
 -- The words of a consequent ------------------------------------------------------------------------------------------------------

@@ -12,23 +12,16 @@ use Rattle.integers.specs.Tests.{refusal}
 use Rattle.scheduling.specs.Scheduling.{whole, Tasks, Atom, Contradicts}
 use Rattle.scheduling.specs.Words.{atomWords}
 use Rattle.atoms.specs.Atoms.{atomsOf, consequentOf}
-use Rattle.domains.specs.declared.int_ext.IntExt.{IntExt}
-use Rattle.domains.specs.declared.int_ext.IntExt.the-variants.{Int, NegativeInf, PositiveInf}
 use Rattle.checking.specs.declared.variable_state.VariableState.{VariableState}
 use Rattle.checking.specs.declared.variable_state.Application.the-variants as application
 use Rattle.checking.specs.declared.variable_state.Applied.{Applied}
 use Rattle.checking.specs.States.{domainAt, prepared}
 use Rattle.records.specs.Records.{durationAt, creationTests}
+use Rattle.formulas.specs.Formulas.{bounded, overloaded, implied}
+use Rattle.formulas.specs.StartBounds.{finite}
 use Rattle.checker.specs.declared.checker.Verdict.{Verdict}
 use Rattle.checker.specs.declared.checker.Verdict.the-variants.{Passed, NotPassed, Contradiction, Refused}
 use Rattle.checker.specs.Verdicts.{verdictNumbers}
-use Rattle.checker.specs.Formulas.{bounded, overloaded, implied}
-
--- a bound of a domain as a number, where it is one
-abbrev pub finite : IntExt → Option ℤ
-finite (Int z) = some z
-finite NegativeInf = none
-finite PositiveInf = none
 
 -- `induced_lower_bound` and `induced_upper_bound` of task k's start
 abbrev pub lowerIn : VariableState → ℕ → Option ℤ

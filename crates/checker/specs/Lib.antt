@@ -1,4 +1,3 @@
-pub mod Formulas
 pub mod Verdicts
 pub mod Checks
 pub mod MirroredChecks

@@ -8,10 +8,11 @@ use lib.IntN.{ℤ}
 use Rattle.integers.specs.Answers.{answered}
 use Rattle.integers.specs.Tests.{refusal}
 use Rattle.scheduling.specs.Scheduling.{Atom, Contradicts}
-use Rattle.scheduling.specs.Mirroring.{mirrorStart, mirrorAtom}
+use Rattle.scheduling.specs.Mirroring.{mirrorAtom}
 use Rattle.atoms.specs.Atoms.{atomsOf, consequentOf}
 use Rattle.checking.specs.declared.variable_state.VariableState.{VariableState}
 use Rattle.records.specs.Records.{durationAt, creationTests}
+use Rattle.formulas.specs.StartBounds.{mirrorBound}
 use Rattle.checker.specs.declared.checker.Verdict.{Verdict}
 use Rattle.checker.specs.Verdicts.{verdictNumbers}
 use Rattle.checker.specs.Checks.{lowerIn, upperIn, judgedBy, checkAfter, tasksWith}
@@ -20,11 +21,6 @@ use Rattle.checker.specs.Checks.{lowerIn, upperIn, judgedBy, checkAfter,
 abbrev pub mirrorIfAny : (ℕ → ℕ) → Option Atom → Option Atom
 mirrorIfAny duration none = none
 mirrorIfAny duration (some a) = some (mirrorAtom duration a)
-
--- a bound of the start of a task that lasts p, mirrored
-abbrev pub mirrorBound : ℕ → Option ℤ → Option ℤ
-mirrorBound p none = none
-mirrorBound p (some z) = some (mirrorStart p z)
 
 -- the bounds of task k's start in the caller's time, or in mirrored time, where lower and upper change places
 abbrev pub lowerAs : Bool → List ℤ → VariableState → ℕ → Option ℤ

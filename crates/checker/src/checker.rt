@@ -1,26 +1,23 @@
 // The check of a reason: the source's formula, on the state that the premises and the negated consequent leave.
-use crate::intervals::gather;
-use crate::intervals::min;
-use crate::mirrored_bounds::mirrored_bounds;
 use checking::start_bounds::Bounds;
 use checking::start_bounds::bounds_of;
 use checking::variable_state::Application;
 use checking::variable_state::VariableState;
-use chosen_sets::theta::theta_ect;
+use formulas::formula::implied;
+use formulas::formula::overloaded;
+use formulas::mirrored_bounds::mirrored_bounds;
 use integers::limits::TASKS;
 use records::record::Creation;
 use records::record::create;
 ghost use mathlib.Core.Path.{_≡_};
 ghost use mathlib.Core.List.{List};
 ghost use mathlib.Core.Option.{Option};
-ghost use Prim.Native.Nat.{ℕ, _<_};
+ghost use Prim.Native.Nat.{ℕ};
 ghost use lib.IntN.{ℤ};
-ghost use Rattle.scheduling.specs.Scheduling.{natural, Tasks, TaskSet};
 ghost use Rattle.atoms.specs.Atoms.{consequentOf};
-ghost use Rattle.checker.specs.Formulas.{_but_, overloadsSpan, comesAfter};
 ghost use Rattle.checker.specs.Checks.{verdict, judgedBy, Checked};
 ghost use Rattle.checker.specs.MirroredChecks.{checkAs, CheckedMirrored};
-ghost use Rattle.checker.specs.CheckArrays.{Bounding, Judgeable, Consequent};
+ghost use Rattle.checker.specs.CheckArrays.{Judgeable, Consequent};
 
 // The answer: a contradiction names the variable of the first failing atom.
 pub enum Verdict {
@@ -28,36 +25,6 @@ pub enum Verdict {
     NotPassed,
     Contradiction(usize),
     Refused(u32),
-}
-
-// Without a consequent: the tasks with two bounds overload their span.
-fn overloaded(bounds: Bounds, durations: &[u32; TASKS], n: usize) -> bool
-    requires { ⌜ ((J : Tasks natural) × (Ω : TaskSet) × Bounding J Ω n bounds (now durations)) ⌝ }
-    ensures { λ r. ⌜ ((J : Tasks natural) (Ω : TaskSet) → Bounding J Ω n bounds (now (durations .entry)) → r ≡ overloadsSpan J Ω) ⌝ }
-{
-    let v = gather(&bounds.bounded, &bounds.est, &bounds.lst, durations, n);
-    if !v.some {
-        return false;
-    }
-    v.lb + v.p > v.ub
-}
-
-// With a consequent on task i: it cannot start before the others, nor among them, and these end past its latest start.
-fn implied(bounds: Bounds, durations: &[u32; TASKS], n: usize, i: usize) -> bool
-    requires { ⌜ (i < n) × ((J : Tasks natural) × (Ω : TaskSet) × Bounding J Ω n bounds (now durations)) ⌝ }
-    ensures { λ r. ⌜ ((J : Tasks natural) (Ω : TaskSet) → Bounding J Ω n bounds (now (durations .entry)) → r ≡ comesAfter J (Ω but i) i) ⌝ }
-{
-    let mut others = bounds.bounded;
-    others[i] = false;
-    let v = gather(&others, &bounds.est, &bounds.lst, durations, n);
-    if !v.some {
-        return false;
-    }
-    if min(bounds.est[i] as u64, v.lb) + v.p + durations[i] as u64 <= v.ub {
-        return false;
-    }
-    let ect = theta_ect(&others, &bounds.est, durations, n);
-    ect.exceeds(bounds.lst[i])
 }
 
 // What the formula says.

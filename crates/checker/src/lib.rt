@@ -1,3 +1,2 @@
+// The check of a reason, in the caller's time or with its formula in mirrored time.
 pub mod checker;
-pub mod intervals;
-pub mod mirrored_bounds;

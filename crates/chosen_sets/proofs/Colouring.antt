@@ -20,7 +20,7 @@ use Rattle.sorts.proofs.Sorted.{sorted-as}
 use Rattle.trees.specs.declared.theta_tree.ThetaTree.{ThetaTree}
 use Rattle.trees.specs.Leaves.{Leaf, empty, white, Limited, IsPlainTree}
 use Rattle.trees.specs.Mappings.{PlainNew}
-use Rattle.trees.specs.Nodes.{plainOf}
+use Rattle.nodes.specs.Nodes.{plainOf}
 use Rattle.trees.specs.Shapes.{width, heightFor}
 use Rattle.trees.specs.Words.{plainEctIn}
 use Rattle.trees.proofs.Roots as tree

@@ -14,8 +14,8 @@ use Rattle.scheduling.specs.Scheduling.{natural, Tasks, TaskSet, total}
 use Rattle.sorts.specs.Orders.{noTasks, momentAt}
 use Rattle.records.specs.declared.record.Propagator.{Propagator}
 use Rattle.records.specs.Records.{momentsIn}
-use Rattle.records.specs.Refusals.{AcceptedInput}
-use Rattle.records.proofs.Accepting.{count, durations-at, sum-fits, proper, between, moments-at}
+use Rattle.input_refusals.specs.Refusals.{AcceptedInput}
+use Rattle.input_refusals.proofs.Accepting.{count, durations-at, sum-fits, proper, between, moments-at}
 use Rattle.chosen_sets.specs.TaskArrays.{Held, Late}
 
 module _ (r : Propagator) (es ls : List ℤ) (a : AcceptedInput r es ls) (long : length (r .durations) ≡ TASKS) where

@@ -6,7 +6,7 @@ use Prim.Native.Nat.{ℕ, _+_, _<_}
 use lib.ListN.{getD, replicate}
 use Rattle.scheduling.specs.Scheduling.{natural, Tasks, TaskSet}
 use Rattle.trees.specs.Leaves.{empty, IsPlainTree}
-use Rattle.trees.specs.Nodes.{plainOf}
+use Rattle.nodes.specs.Nodes.{plainOf}
 use Rattle.trees.specs.Puts.{PlainPuttable, PlainPut}
 use Rattle.chosen_sets.specs.ChosenSets.{order, colours}
 use Rattle.chosen_sets.specs.TaskArrays.{Held}

@@ -10,7 +10,7 @@ use Rattle.integers.specs.Orders.{sort, insert, numbers}
 use Rattle.scheduling.specs.Scheduling.{natural, Tasks}
 use Rattle.ects.specs.Ects.{decoded, exceeds}
 use Rattle.trees.specs.Leaves.{root}
-use Rattle.trees.specs.Nodes.{joinOf}
+use Rattle.nodes.specs.Nodes.{joinOf}
 use Rattle.trees.specs.Shapes.{width, heightFrom, nodeOver}
 use Rattle.chosen_sets.specs.ChosenSets.{ectOf}
 

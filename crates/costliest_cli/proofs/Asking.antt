@@ -17,7 +17,7 @@ use Rattle.integers.proofs.Ints.{ints, up, dn, leZ-true}
 use Rattle.text.specs.Numbers.{numbersOf}
 use Rattle.text.specs.Scanning.{gathered}
 use Rattle.text.specs.declared.reading.Numbers.{Numbers}
-use Rattle.plan_cli.proofs.Counting.{first-is}
+use Rattle.plan_text.proofs.Counting.{first-is}
 use Rattle.costliest_cli.specs.Asked.{askedIn}
 use Rattle.costliest_cli.specs.Tasks.{instanceLines, costliest}
 use Rattle.costliest_cli.specs.Written.{answerLines, written}

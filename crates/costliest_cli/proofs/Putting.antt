@@ -8,8 +8,8 @@ use lib.ListN.{length, take}
 use Rattle.runs.proofs.Tables.{tab-length, tab-at}
 use Rattle.text.specs.Writing.{natural, decimal, Puts}
 use Rattle.text.proofs.Putting.{puts-append}
-use Rattle.plan_cli.specs.Lines.{newline, space, lines}
-use Rattle.plan_cli.proofs.Printing.{puts-as, puts-next}
+use Rattle.plan_text.specs.Lines.{newline, space, lines}
+use Rattle.plan_text.proofs.Printing.{puts-as, puts-next}
 use Rattle.costliest_cli.specs.Tasks.{taskLine, instanceLines, costliestTask, costliest}
 
 module _ {o₀ o₁ o₂ o₃ o₄ o₅ o₆ : List ℕ} {a₀ a₁ a₂ a₃ a₄ a₅ a₆ : ℕ} where

@@ -22,12 +22,13 @@ use Rattle.runs.proofs.Tables.{tab-length, tab-at, tab-map}
 use Rattle.runs.proofs.Costliest.{costliest-run}
 use Rattle.sorts.specs.Orders.{noTasks}
 use Rattle.records.specs.Records.{durationAt, creationTests, newRecord}
-use Rattle.records.specs.Refusals.{runNumber, StartFits}
+use Rattle.input_refusals.specs.Refusals.{runNumber, StartFits}
 use Rattle.records.proofs.Creation.{created-lawful, natural-count, natural-duration, natural-accepted}
-use Rattle.records.proofs.Refused.{accepted-run}
+use Rattle.input_refusals.proofs.Refused.{accepted-run}
 use Rattle.propagator.specs.Ran.{traceOf}
 use Rattle.text.specs.Numbers.{numbersOf}
-use Rattle.plan_cli.specs.Lines.{lines, doneLine, runLines, answerLines}
+use Rattle.plan_text.specs.Lines.{lines, doneLine}
+use Rattle.plan_cli.specs.RunLines.{runLines, answerLines}
 use Rattle.plan_cli.specs.Printed.{Triple, numbered, ranOn, planned, plannedOf, answered, printed}
 use Rattle.plan_cli.proofs.PrintedNumbers.{words}
 use Rattle.costliest_cli.specs.Tasks.{instanceLines, costliestTask, costliest}

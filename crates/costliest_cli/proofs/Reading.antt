@@ -16,7 +16,7 @@ use Rattle.runs.specs.Runs.{tabulate}
 use Rattle.text.specs.Numbers.{numbersOf, space as isSpace}
 use Rattle.text.specs.Writing.{natural, decimal}
 use Rattle.text.proofs.ReadBack.{no-numbers, number-back}
-use Rattle.plan_cli.specs.Lines.{newline, space, lines}
+use Rattle.plan_text.specs.Lines.{newline, space, lines}
 use Rattle.plan_cli.specs.Printed.{Triple, triples, inputTasks, plannedOf, orZero, answered}
 use Rattle.costliest_cli.specs.Tasks.{taskLine, instanceLines, costliestTask, costliest}
 use Rattle.costliest_cli.proofs.Putting.{costliest-length}

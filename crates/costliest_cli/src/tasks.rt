@@ -5,7 +5,7 @@ ghost use Prim.Native.Nat.{_+_, _*_, _≤_};
 ghost use lib.ListN.{length};
 ghost use Rattle.integers.specs.Limits.{TASKS};
 ghost use Rattle.text.specs.Writing.{Puts};
-ghost use Rattle.plan_cli.specs.Lines.{lines};
+ghost use Rattle.plan_text.specs.Lines.{lines};
 ghost use Rattle.costliest_cli.specs.Tasks.{taskLine, instanceLines, costliestTask, costliest};
 
 // The line of task k: both its starts are 10k, and it lasts 10.

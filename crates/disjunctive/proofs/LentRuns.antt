@@ -22,11 +22,11 @@ use Rattle.promises.specs.RanLent.{RanLent, RanMirroredLent}
 use Rattle.promises.specs.PrecedencesLent.{PrecedencesLent}
 use Rattle.promises.proofs.Lent.{lent, lent-mirrored}
 use Rattle.promises.proofs.PrecedencesLent.{lent-precedences}
-use Rattle.disjunctive.specs.declared.ranges.CoreRun.{CoreRun}
-use Rattle.disjunctive.specs.declared.ranges.CoreMirrored.{CoreMirrored}
-use Rattle.disjunctive.specs.declared.ranges.by_precedence.CorePrecedences.{CorePrecedences}
-use Rattle.disjunctive.specs.Ranges.{RanCore, RanMirroredCore}
-use Rattle.disjunctive.specs.LentCalls.{PrecedencesCore}
+use Rattle.range_cores.specs.declared.cores.CoreRun.{CoreRun}
+use Rattle.range_cores.specs.declared.cores.CoreMirrored.{CoreMirrored}
+use Rattle.range_cores.specs.declared.by_precedence.CorePrecedences.{CorePrecedences}
+use Rattle.range_cores.specs.Cores.{RanCore, RanMirroredCore}
+use Rattle.range_cores.specs.PrecedencesCore.{PrecedencesCore}
 
 -- the run, the mirrored pass, and the pass by precedences
 module _ (before : Propagator) (ys : List Range) (s : Starts) (is : s ≡ startsOf ys) where

@@ -1,3 +1,2 @@
 pub mod LentRecord
-pub mod AllPlaces
 pub mod CoreCalls

@@ -8,8 +8,9 @@ use Rattle.integers.specs.Orders.{sort, insert, index, numbers, has}
 use Rattle.scheduling.specs.Scheduling.{total, processing}
 use Rattle.ects.specs.Ects.{decoded}
 use Rattle.trees.specs.Leaves.{root, responsible, theta}
-use Rattle.trees.specs.Nodes.{joinOf, isEmpty}
-use Rattle.trees.specs.Searches.{gray, tested, descentP, descentEct, stepP, stepEct, searchP, searchEct, thetaOf}
+use Rattle.nodes.specs.Nodes.{joinOf, isEmpty}
+use Rattle.nodes.specs.Descents.{gray, tested, descentP, descentEct}
+use Rattle.trees.specs.Searches.{stepP, stepEct, searchP, searchEct, thetaOf}
 use Rattle.trees.specs.Shapes.{width, heightFrom, nodeOver}
 use Rattle.runs.specs.Traces.{emptied}
 use Rattle.runs.specs.Runs.{propagate, run, outer, inner, conflict, propagation, bounds, within, tabulate}

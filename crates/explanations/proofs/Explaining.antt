@@ -14,8 +14,10 @@ use Rattle.integers.proofs.Bools.{bool}
 use Rattle.scheduling.specs.Scheduling.{natural, Tasks, Atom}
 use Rattle.runs.specs.Runs.{atLeast, atMost, within, conflict, conflict-of, bounds, propagation, propagation-of}
 use Rattle.runs.proofs.Clauses.{within-none, within-more, conflict-none, conflict-last, conflict-hit, conflict-miss, propagation-none, propagation-hit, propagation-miss, bounds-none, bounds-hit, bounds-miss}
-use Rattle.explanations.specs.Explanations.{starting, lasts, Each, Overloads, Precedes, Attains, First}
-use Rattle.explanations.proofs.Places.{first-tail}
+use Rattle.theta_walks.specs.Walks.{lasts, Each, Precedes, Attains, First}
+use Rattle.theta_walks.specs.Writing.{starting}
+use Rattle.explanations.specs.Explanations.{Overloads}
+use Rattle.explanations.proofs.Parts.{first-tail}
 
 -- The definitions, where the walks stop ----------------------------------------------------------------------------------------
 

@@ -1,4 +1,3 @@
-pub mod Places
-pub mod Walking
+pub mod Parts
 pub mod Explaining
 pub mod Storing

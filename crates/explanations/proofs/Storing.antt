@@ -2,83 +2,26 @@
 -- Assumes nothing.
 use mathlib.Core.Path.{_≡_, refl, sym, ap, subst, _∙_}
 use mathlib.Core.Bool.{Bool}
-use mathlib.Core.List.{List, [], _∷_, _++_}
-use Prim.Native.Nat.{ℕ, suc, _+_, _-_, _*_, _^_, _≤_, _<_, min}
+use mathlib.Core.List.{List, [], _∷_}
+use Prim.Native.Nat.{ℕ, _+_, _-_, _*_, _^_, _≤_, _<_, min}
 use native.Mathlib.Omega.{arith}
 use native.Mathlib.Decide.{decLt}
 use lib.IntN.{ℤ, pos}
 use lib.ListN.{length, getD, length-append, length-take, length-drop}
-use lib.Seq.{sets, length-sets, drop-drop, getD-drop}
+use lib.Seq.{sets, drop-drop, getD-drop}
 use Rattle.integers.specs.Moments.{instant, zeroAt}
-use Rattle.scheduling.specs.Scheduling.{Atom}
 use Rattle.runs.specs.Runs.{atLeast, within, conflict, conflict-of, bounds, propagation}
 use Rattle.scheduling.specs.Words.{atomWords}
-use Rattle.explanations.specs.Explanations.{starting, lasting, lasts, Each, Overloads, Precedes, Attains, between, StopsAt, Known, Ends, Walk, Writable, White, Overloaded, Preceded, Stored}
+use Rattle.theta_walks.specs.Walks.{lasts, Each, Precedes, Attains, between, StopsAt, Known, Walk}
+use Rattle.theta_walks.specs.Writing.{starting, lasting, Ends, Writable, Stored}
+use Rattle.explanations.specs.Explanations.{Overloads, White, Overloaded, Preceded}
 use Rattle.scheduling.proofs.Words.{atoms-none, atoms-more}
-use Rattle.runs.proofs.Buffers.{atoms-stored}
-use Rattle.runs.proofs.Clauses.{within-none, within-more}
-use Rattle.explanations.proofs.Places.{each-drop, each-take, lasts-drop, first-same}
-use Rattle.explanations.proofs.Walking.{between-split, met-front, met-rest, met-task, met-each}
+use Rattle.theta_walks.proofs.Places.{lasts-drop}
+use Rattle.theta_walks.proofs.Walking.{between-split, met-front, met-rest, met-task, met-each}
+use Rattle.theta_walks.proofs.Writing.{stored-then, stored-length}
+use Rattle.explanations.proofs.Parts.{each-drop, each-take, first-same}
 use Rattle.explanations.proofs.Explaining.{conflict-at, propagation-at, bounds-at, within-same}
 use Rattle.runs.proofs.Lengths.{within-length, bounds-length}
-
--- Their words -----------------------------------------------------------------------------------------------------------------
-
-module _ (ds : List ℕ) (low high : ℕ) where
-  -- the words of the tasks ks
-  abbrev pub words-of : List ℕ → List ℤ
-  words-of ks = atomWords (within zeroAt (lasting ds) low high ks)
-
-  -- those of one task's two atoms
-  abbrev pub lower : ℕ → List ℤ
-  lower t = pos t ∷ pos 0 ∷ instant zeroAt low ∷ []
-
-  abbrev pub upper : ℕ → List ℤ
-  upper t = pos t ∷ pos 1 ∷ instant zeroAt (high - getD ds t 0) ∷ []
-
-  two-more : (l : List ℤ) (t : ℕ) (rest : List ℕ) (at : ℕ) → sets (sets (sets l (3 * at) (lower t)) (3 * (at + 1)) (upper t)) (3 * (at + 2)) (words-of rest) ≡ sets l (3 * at) (words-of (t ∷ rest))
-  two-more l t rest at =
-      let a : 3 * (at + 1) ≡ suc (suc (suc (3 * at))) = omega arith in
-      let b : 3 * (at + 2) ≡ suc (suc (suc (suc (suc (suc (3 * at)))))) = omega arith in
-      rw (a, b, within-more zeroAt (lasting ds) low high t rest, atoms-more, atoms-more)
-
--- Of the tasks ks, whose atoms go from the k-th on, `rest` are still to be written, from the at-th on.
-pub record Written (entry : List ℤ) (k : ℕ) (ks ds : List ℕ) (low high : ℕ) (atoms : List ℤ) (rest : List ℕ) (at : ℕ) : Type 0 where
-  pub writable : Writable (length atoms) at rest ds high
-  pub count : at + 2 * length rest ≡ k + 2 * length ks
-  pub size : length atoms ≡ length entry
-  pub words : sets atoms (3 * at) (words-of ds low high rest) ≡ sets entry (3 * k) (words-of ds low high ks)
-
-module _ {entry : List ℤ} {k : ℕ} {ks ds : List ℕ} {low high : ℕ} where
-  pub written-none : Writable (length entry) k ks ds high → Written entry k ks ds low high entry ks k
-  written-none w = record { writable = w; count = refl; size = refl; words = refl }
-
-  pub written-more : {l m n : List ℤ} {t : ℕ} {rest : List ℕ} {at : ℕ} → Written entry k ks ds low high l (t ∷ rest) at → m ≡ sets l (3 * at) (lower ds low high t) → n ≡ sets m (3 * (at + 1)) (upper ds low high t)
-      → Written entry k ks ds low high n rest (at + 2)
-  written-more {l} {m} {n} {t} {rest} {at} w first second =
-      let same : length n ≡ length l = ap length second ∙ length-sets m (3 * (at + 1)) (upper ds low high t) ∙ ap length first ∙ length-sets l (3 * at) (lower ds low high t) in
-      record {
-        writable = record { ends = λ x s. w .writable .ends (suc x) (omega arith); room = omega (arith, w .writable .room, same) };
-        count = omega (arith, w .count);
-        size = same ∙ w .size;
-        words = ap (λ (z : List ℤ). sets z (3 * (at + 2)) (words-of ds low high rest)) (second ∙ ap (λ (z : List ℤ). sets z (3 * (at + 1)) (upper ds low high t)) first) ∙ two-more ds low high l t rest at ∙ w .words;
-      }
-
-  pub written-all : {l : List ℤ} {at : ℕ} → Written entry k ks ds low high l [] at → Stored entry l k at (within zeroAt (lasting ds) low high ks)
-  written-all {l} {at} w = record {
-    words = ap (sets l (3 * at)) (sym (ap atomWords (within-none zeroAt (lasting ds) low high) ∙ atoms-none)) ∙ w .words;
-    count = omega (arith, w .count, within-length zeroAt (lasting ds) low high ks);
-  }
-
--- one run of atoms after another
-pub stored-then : {l m n : List ℤ} {k a b : ℕ} {xs ys : List Atom} → Stored l m k a xs → Stored m n a b ys → Stored l n k b (xs ++ ys)
-stored-then {l} {m} {n} {k} {a} {b} {xs} {ys} s t = record {
-  words = t .words ∙ ap (λ (w : List ℤ). sets w (3 * a) (atomWords ys)) (s .words) ∙ atoms-stored l k a xs ys (s .count);
-  count = omega (arith, s .count, t .count, length-append xs ys);
-}
-
-pub stored-length : {l m : List ℤ} {k a : ℕ} {xs : List Atom} → Stored l m k a xs → length m ≡ length l
-stored-length {l} {m} {k} {a} {xs} s = ap length (s .words) ∙ length-sets l (3 * k) (atomWords xs)
 
 module _ (white : ℕ → Bool) (task : ℕ → ℕ) (a n x : ℕ) (from : a ≤ x) (to : x ≤ n) where
   -- there is room for the atoms of the tasks before leaf x, and after them for those of the others

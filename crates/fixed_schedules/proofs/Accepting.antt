@@ -17,7 +17,7 @@ use Rattle.scheduling.specs.Scheduling.{whole, natural, Tasks}
 use Rattle.scheduling.proofs.Sets.{total-part}
 use Rattle.sorts.specs.Orders.{noTasks, momentAt}
 use Rattle.records.specs.declared.record.Propagator.{Propagator}
-use Rattle.records.specs.Refusals.{AcceptedInput}
+use Rattle.input_refusals.specs.Refusals.{AcceptedInput}
 use Rattle.fixed_schedules.specs.FixedSchedules.{startAt, orderOf, tasksOn, AcceptedFixed}
 use Rattle.fixed_schedules.specs.Neighbours.{Started, Listed, inMoments}
 use Rattle.fixed_schedules.proofs.Placing.{start-above, start-moment, ordered, order-length, key-at, ordered-moments}

@@ -9,7 +9,7 @@ use Rattle.integers.specs.Limits.{MOMENT, LENGTH}
 use Rattle.integers.specs.Moments.{moment, zeroAt, Above}
 use Rattle.integers.proofs.Ints.{ints, up, dn, up-neg, dn-neg}
 use Rattle.integers.proofs.Moments.{above-show, at-moment}
-use Rattle.records.proofs.Refused.{within-is}
+use Rattle.input_refusals.proofs.Refused.{within-is}
 use Rattle.fixed_schedules.specs.Asked.{momentFits, lengthFits, MomentFits, LengthFits}
 
 pub moment-is : (t : ℤ) → momentFits t ≡ true ↔ MomentFits t

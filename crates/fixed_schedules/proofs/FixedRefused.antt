@@ -17,8 +17,8 @@ use Rattle.integers.proofs.Tests.{all-at, all-show, unused, accepts, accepted, 
 use Rattle.scheduling.specs.Scheduling.{NoOverlap}
 use Rattle.records.specs.declared.record.Propagator.{Propagator}
 use Rattle.records.specs.Records.{Lawful}
-use Rattle.records.specs.Refusals.{rangeTests, rangeNumber, CountsFit, StartsFit, RangesFit}
-use Rattle.records.proofs.Refused.{passed-ranges, range-20, range-10, range-3, range-4, range-holds, range-many}
+use Rattle.input_refusals.specs.Refusals.{rangeTests, rangeNumber, CountsFit, StartsFit, RangesFit}
+use Rattle.input_refusals.proofs.Refused.{passed-ranges, range-20, range-10, range-3, range-4, range-holds, range-many}
 use Rattle.fixed_schedules.specs.FixedSchedules.{startAt, sameStart, oneStartAt, apartAt, allApart, fixedTests, fixedNumber, tasksOn, Fixed, AcceptedFixed}
 use Rattle.fixed_schedules.proofs.Neighbours.{apart-read, apart-show}
 

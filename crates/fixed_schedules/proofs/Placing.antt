@@ -24,7 +24,7 @@ use Rattle.integers.proofs.Permutations.{numbers-permute, numbers-length}
 use Rattle.integers.proofs.Sorting.{sort-length, sort-permutes, sort-ordered}
 use Rattle.sorts.specs.Orders.{SortedBy, byKey, noTasks, momentAt}
 use Rattle.sorts.proofs.Sorted.{sorted-as}
-use Rattle.records.specs.Refusals.{StartFits}
+use Rattle.input_refusals.specs.Refusals.{StartFits}
 use Rattle.fixed_schedules.specs.FixedSchedules.{startAt, byStart, orderOf}
 use Rattle.fixed_schedules.specs.Neighbours.{Started}
 

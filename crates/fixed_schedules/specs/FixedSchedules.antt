@@ -12,7 +12,7 @@ use Rattle.integers.specs.Tests.{Test, test, allBelow, refusal}
 use Rattle.scheduling.specs.Scheduling.{whole, Tasks, NoOverlap}
 use Rattle.records.specs.declared.record.Propagator.{Propagator}
 use Rattle.records.specs.Records.{Lawful}
-use Rattle.records.specs.Refusals.{rangeTests, CountsFit, StartsFit, RangesFit}
+use Rattle.input_refusals.specs.Refusals.{rangeTests, CountsFit, StartsFit, RangesFit}
 
 -- task k's start, which is its earliest, and its end
 abbrev pub startAt : List ℤ → ℕ → ℤ

@@ -1,7 +1,7 @@
 // The tasks of a schedule by start, and the test that no two of them overlap.
+use input_refusals::ranges_fit;
 use integers::limits::TASKS;
 use integers::moment_of;
-use records::refusals::ranges_fit;
 use sorts::orders::moments_of;
 use sorts::orders::sort_numbers;
 ghost use mathlib.Core.Path.{_≡_};

@@ -2,8 +2,8 @@
 use crate::order::neighbours_apart;
 use crate::order::one_start;
 use crate::order::order_of;
+use input_refusals::range_refusal;
 use records::record::Propagator;
-use records::refusals::range_refusal;
 ghost use mathlib.Core.Path.{_≡_};
 ghost use Rattle.fixed_schedules.specs.FixedSchedules.{fixedNumber};
 

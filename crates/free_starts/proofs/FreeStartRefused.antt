@@ -13,7 +13,7 @@ use Rattle.integers.proofs.Bools.{and-true, and-yes, and-left, and-right}
 use Rattle.integers.proofs.Tests.{accepts, refuses, more-accepted, more-refused}
 use Rattle.records.specs.declared.record.Propagator.{Propagator}
 use Rattle.records.specs.Records.{Lawful}
-use Rattle.records.specs.Refusals.{CountsFit, StartsFit, RangesFit}
+use Rattle.input_refusals.specs.Refusals.{CountsFit, StartsFit, RangesFit}
 use Rattle.fixed_schedules.specs.FixedSchedules.{fixedTests, fixedNumber, Fixed, AcceptedFixed}
 use Rattle.fixed_schedules.specs.Asked.{momentFits, lengthFits, MomentFits, LengthFits}
 use Rattle.fixed_schedules.proofs.Asking.{moment-is, length-is}

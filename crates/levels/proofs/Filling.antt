@@ -9,9 +9,9 @@ use lib.Seq.{ext-getD}
 use Rattle.integers.specs.Limits.{TASKS}
 use Rattle.integers.specs.Filling.{filled}
 use Rattle.integers.proofs.Filling.{filled-none, filled-more, filled-length, filled-at}
-use Rattle.trees.specs.declared.theta_lambda_tree.Node.{Node}
+use Rattle.nodes.specs.declared.theta_lambda_node.Node.{Node}
 use Rattle.trees.specs.Leaves.{Leaf, empty, white, IsTree, HasLeaves}
-use Rattle.trees.specs.Nodes.{whiteOf}
+use Rattle.nodes.specs.Nodes.{whiteOf}
 use Rattle.trees.specs.Puts.{Layable, Laid, Rebuildable, Rebuilt}
 use Rattle.trees.proofs.Rebuilding.{tree-leaves, may-lay, was-laid, may-rebuild, was-rebuilt}
 use Rattle.levels.specs.Filling.{Fillable}

@@ -28,16 +28,18 @@ use Rattle.runs.proofs.Buffers.{reason-stored}
 use Rattle.runs.proofs.Fuel.{run-is, outer-end, outer-over, outer-on, outer-stop}
 use Rattle.runs.specs.Reached.{Entered, begins, follows, at-head, moved}
 use Rattle.explanations.specs.Explanations.{Overloaded}
+use Rattle.candidates.specs.declared.turns.Turn as code
+use Rattle.candidates.specs.declared.turns.Turn.the-variants as turn
+use Rattle.candidates.specs.declared.turns.Written.{Written}
+use Rattle.candidates.specs.RunArrays.{Ordered, At}
+use Rattle.candidates.specs.Turns.{sumIn, Standing, AllConsidered}
+use Rattle.candidates.proofs.Considering as considering
 use Rattle.levels.specs.declared.outcome.Outcome.{Outcome}
 use Rattle.levels.specs.declared.outcome.Outcome.the-variants as outcome
-use Rattle.levels.specs.declared.run_levels.Turn as code
-use Rattle.levels.specs.declared.run_levels.Turn.the-variants as turn
-use Rattle.levels.specs.declared.run_levels.Written.{Written}
-use Rattle.levels.specs.RunArrays.{Ordered, At}
-use Rattle.levels.specs.Turns.{sumIn, Standing, AllConsidered}
 use Rattle.levels.specs.Moving.{Movable, Moved}
 use Rattle.levels.specs.Finding.{outcomeOf, conflictIn, Conflicted, Begun, Ended}
-use Rattle.levels.proofs.Considering as considering
+use Rattle.levels.proofs.Moving as moving
+use Rattle.levels.proofs.Overloading as overloading
 
 module _ {n inn height : ℕ} {words : List ℕ} {es ps as′ : List ℤ} {est lst lct dur tasks candidates mapping : List ℕ} (s : Begun n inn height words es ps as′ est lst lct dur tasks candidates mapping) where
   abbrev J : Tasks natural
@@ -165,7 +167,7 @@ module _ {n inn height : ℕ} {words : List ℕ} {es ps as′ : List ℤ} {est l
 
       -- the white tasks overload
       pub over-asked : c < nodeAt words′ 0 .ect → Overloaded (length bs) (w′ .atoms) (thetaIn words′ inn tasks n) est dur (sumIn words′) c
-      over-asked q = considering.over-asked here (omega (arith, q, ect-is))
+      over-asked q = overloading.over-asked here (omega (arith, q, ect-is))
 
       pub over-inner : inn ≤ INNER
       over-inner = considering.inner-few here
@@ -177,7 +179,7 @@ module _ {n inn height : ℕ} {words : List ℕ} {es ps as′ : List ℤ} {est l
           reason = conflict zeroAt J end (leaves.sum J estOrder (v .st .leaves)) (leaves.theta J estOrder (v .st .leaves))
 
           reason-is : conflictIn words′ inn tasks n est dur c ≡ reason
-          reason-is = considering.conflict-is here
+          reason-is = overloading.conflict-is here
 
           is : whole ≡ ended zeroAt J estOrder lctOrder (v .st) (overload reason)
           is = v .rest ∙ ap (λ (f : ℕ). rest-of f t (v .st)) next ∙ outer-over zeroAt J estOrder lctOrder (n - 1 - suc t) t (v .st) (lt-ltb end ect (omega (arith, q, ect-is, c-is)))
@@ -190,7 +192,7 @@ module _ {n inn height : ℕ} {words : List ℕ} {es ps as′ : List ℤ} {est l
 
       -- they do not: the task of the level goes to Lambda
       abbrev pub moves : Movable inn words′ mapping est dur j
-      moves = considering.movable here j j-is
+      moves = moving.movable here j j-is
 
       module _ (quiet : nodeAt words′ 0 .ect ≤ c) {words″ : List ℕ} (m : Moved inn words′ words″ mapping est dur j) where
         -- the lct of the next level
@@ -231,7 +233,7 @@ module _ {n inn height : ℕ} {words : List ℕ} {es ps as′ : List ℤ} {est l
           post-room = s .post-room;
           atom-room = s .atom-room;
           reached = moved t (v .st) (v .entered) still;
-          at = record { tree = subst (λ (k : ℕ). leaves.IsTree J estOrder (set (v .st .leaves) k gray) inn words″) (considering.gray-place here j j-is) (m moves); starts = v .at .starts; posts = v .at .posts; atoms = v .at .atoms; posted = v .at .posted; explained = v .at .explained; counted = ap (λ (c : ℕ). c + 2) (v .at .counted) };
+          at = record { tree = subst (λ (k : ℕ). leaves.IsTree J estOrder (set (v .st .leaves) k gray) inn words″) (moving.gray-place here j j-is) (m moves); starts = v .at .starts; posts = v .at .posts; atoms = v .at .atoms; posted = v .at .posted; explained = v .at .explained; counted = ap (λ (c : ℕ). c + 2) (v .at .counted) };
         }
 
         unfold-level : whole ≡ rest-of (suc (n - 1 - suc t)) t (v .st)

@@ -1,7 +1,5 @@
-pub mod Meeting
-pub mod Posting
-pub mod Considering
-pub mod Turning
+pub mod Overloading
 pub mod Moving
 pub mod Levels
 pub mod Filling
+pub mod Answering

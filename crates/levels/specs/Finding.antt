@@ -12,12 +12,12 @@ use Rattle.runs.specs.Traces.{End, done, overload, emptied}
 use Rattle.runs.specs.Runs.{conflict, run, allWhite}
 use Rattle.scheduling.specs.Words.{atomWords}
 use Rattle.runs.specs.Words.{postWords, reasons, endReason}
-use Rattle.explanations.specs.Explanations.{starting}
+use Rattle.theta_walks.specs.Writing.{starting}
+use Rattle.candidates.specs.declared.turns.Written.{Written}
+use Rattle.candidates.specs.RunArrays.{Ordered, Holds, Arrays, At}
+use Rattle.candidates.specs.Turns.{sumIn}
 use Rattle.levels.specs.declared.outcome.Outcome.{Outcome}
 use Rattle.levels.specs.declared.outcome.Outcome.the-variants as outcome
-use Rattle.levels.specs.declared.run_levels.Written.{Written}
-use Rattle.levels.specs.RunArrays.{Ordered, Holds, Arrays, At}
-use Rattle.levels.specs.Turns.{sumIn}
 
 -- how a trace ended, with the number of its posts
 abbrev pub outcomeOf : List Atom → ℕ → End → Outcome

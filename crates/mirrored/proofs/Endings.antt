@@ -1,12 +1,12 @@
 -- What the mirrored pass hands to the core, and what it makes of what the core leaves.
 -- Assumes nothing.
 use mathlib.Core.Path.{_≡_, sym, ap, ap₂, subst, _∙_}
-use mathlib.Core.List.{List, _++_}
+use mathlib.Core.List.{List}
 use Prim.Native.Nat.{ℕ, _*_, _≤_, _<_}
 use native.Mathlib.Nat.{mul-le-mul}
 use native.Mathlib.Omega.{arith}
 use lib.IntN.{ℤ, pos}
-use lib.ListN.{length, getD, take, drop, length-map}
+use lib.ListN.{length, getD, take, length-map}
 use lib.Seq.{getD-take, length-take-le}
 use lib.Signed.{_≤ℤ_}
 use mir.Syntax.{w32}
@@ -21,69 +21,24 @@ use Rattle.scheduling.specs.Words.{atomWords}
 use Rattle.scheduling.proofs.Words.{atoms-length}
 use Rattle.runs.specs.Traces.{End, done, overload, emptied, Trace}
 use Rattle.runs.specs.Demand.{consequentOf, post}
-use Rattle.runs.specs.Words.{postWords, reasons, postsAfter, atomsAfter, atomsIn}
+use Rattle.runs.specs.Words.{reasons, postsAfter, atomsAfter, atomsIn}
 use Rattle.runs.specs.Mirrored.{mirrorStarts, durationIn, mirrorPost, mirrorEnd, mirrorTrace, mirroredRun, MirroredRight}
 use Rattle.runs.proofs.Buffers.{posts-length}
 use Rattle.runs.proofs.Demand as demand
 use Rattle.runs.proofs.Mirrored as laws
-use Rattle.runs.proofs.Mirrored.{posts-after, atoms-after}
-use Rattle.runs.specs.MirroredWords.{Near, postsTo, atomsTo}
+use Rattle.runs.specs.MirroredWords.{Near}
 use Rattle.runs.proofs.Starts.{starts-length}
 use Rattle.records.specs.declared.record.Propagator.{Propagator}
 use Rattle.records.specs.Records.{tasksIn}
-use Rattle.records.specs.Refusals.{Accepted}
+use Rattle.input_refusals.specs.Refusals.{Accepted}
 use Rattle.levels.specs.declared.outcome.Outcome.{Outcome}
 use Rattle.levels.specs.declared.outcome.Outcome.the-variants as outcome
 use Rattle.levels.specs.Finding.{outcomeOf}
-use Rattle.levels.specs.Outcomes.{valueOf}
 use Rattle.propagator.specs.Ran.{Runnable, traceOf, Left}
-use Rattle.propagator.proofs.Answering.{posts-made}
 use Rattle.propagator.proofs.Beginning.{narrow}
+use Rattle.mirrored_words.specs.Telling.{Reflectable, Durations, Ended, Told}
 use Rattle.mirrored.specs.RanMirrored.{mirroredOf, LeftMirrored}
-use Rattle.mirrored.specs.Telling.{Reflectable, Durations, PostsHeld, PostsTold, AtomsHeld, AtomsTold, Answered, Ended, Told, RanInMirror}
-
--- What is told ---------------------------------------------------------------------------------------------------------------------
-
-module _ {r : Outcome} {posts atoms : List ℤ} {array : List ℕ} (e : Ended r posts atoms array) where
-  abbrev pub answered : Answered r posts
-  answered = record { trace = e .trace; old = e .old-posts; answer = e .answer; words-are = e .post-words; few = e .few; small = e .small }
-
-  pub post-count : (m : ℕ) → m ≡ valueOf r 0 → m ≡ length (e .trace .posts)
-  post-count m z = z ∙ ap (λ (o : Outcome). valueOf o 0) (e .answer) ∙ posts-made (reasons (e .trace .posts)) (length (e .trace .posts)) (e .trace .end)
-
-  abbrev pub posts-held : (m : ℕ) → m ≡ length (e .trace .posts) → PostsHeld posts m array
-  posts-held m z = record {
-    ds = e .ds;
-    posts = e .trace .posts;
-    tail = drop (length (postWords 0 (e .trace .posts))) (e .old-posts);
-    durations = e .durations;
-    words-are = e .post-words;
-    number = sym z;
-    few = omega (arith, z, e .few);
-    near = λ j q. e .posts-near j (omega (arith, z));
-  }
-
-  abbrev pub atoms-held : (k : ℕ) → k ≡ length (atomsIn (e .trace)) → AtomsHeld atoms k array
-  atoms-held k z = record {
-    ds = e .ds;
-    atoms = atomsIn (e .trace);
-    tail = drop (length (atomWords (atomsIn (e .trace)))) (e .old-atoms);
-    durations = e .durations;
-    words-are = e .atom-words;
-    number = sym z;
-    few = omega (arith, z, e .small);
-    near = e .atoms-near;
-  }
-
-  pub told : (m k : ℕ) → m ≡ length (e .trace .posts) → k ≡ length (atomsIn (e .trace)) → {posts′ atoms′ : List ℤ} → PostsTold posts m array posts′ → AtomsTold atoms k array atoms′ → Told e posts′ atoms′
-  told m k z y p q = record {
-    post-words = p (posts-held m z)
-        ∙ ap (λ (i : ℕ). postWords 0 (postsTo (e .ds) i (e .trace .posts)) ++ drop (length (postWords 0 (e .trace .posts))) (e .old-posts)) z
-        ∙ posts-after (e .ds) (e .old-posts) (e .trace);
-    atom-words = q (atoms-held k y)
-        ∙ ap (λ (i : ℕ). atomWords (atomsTo (e .ds) i (atomsIn (e .trace))) ++ drop (length (atomWords (atomsIn (e .trace)))) (e .old-atoms)) y
-        ∙ atoms-after (e .ds) (e .old-atoms) (e .trace);
-  }
+use Rattle.mirrored.specs.RanInMirror.{RanInMirror}
 
 -- the mirrored trace's answer is the run's: mirroring keeps the numbers of posts and atoms
 same-answer : (ds : List ℕ) (t : Trace) → outcomeOf (reasons (mirrorTrace ds t .posts)) (length (mirrorTrace ds t .posts)) (mirrorTrace ds t .end) ≡ outcomeOf (reasons (t .posts)) (length (t .posts)) (t .end)

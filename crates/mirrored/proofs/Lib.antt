@@ -1,4 +1,3 @@
-pub mod Telling
 pub mod Endings
 pub mod ReasonsPass
 pub mod Many

@@ -9,7 +9,7 @@ use lib.ListN.{length}
 use Rattle.integers.specs.Answers.{refusedBy}
 use Rattle.integers.specs.Limits.{TASKS}
 use Rattle.records.specs.declared.record.Propagator.{Propagator}
-use Rattle.records.proofs.Refused.{input-many}
+use Rattle.input_refusals.proofs.Refused.{input-many}
 use Rattle.levels.specs.declared.outcome.Outcome.{Outcome}
 use Rattle.mirrored.specs.RanMirrored.{RanMirrored}
 

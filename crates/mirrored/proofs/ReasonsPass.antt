@@ -25,7 +25,7 @@ use Rattle.runs.proofs.Demand as demand
 use Rattle.runs.proofs.Mirrored as laws
 use Rattle.records.specs.declared.record.Propagator.{Propagator}
 use Rattle.records.specs.Records.{durationAt, creationTests, tasksIn}
-use Rattle.records.specs.Refusals.{Accepted}
+use Rattle.input_refusals.specs.Refusals.{Accepted}
 use Rattle.records.proofs.Creation.{natural-count, natural-duration, natural-accepted}
 use Rattle.checker.specs.declared.checker.Verdict.the-variants.{Passed}
 use Rattle.checker.specs.Checks.{consequentWords, tasksWith}

@@ -1,3 +1,3 @@
 pub mod RanMirrored
-pub mod Telling
+pub mod RanInMirror
 pub mod Examples

@@ -14,7 +14,7 @@ use Rattle.runs.specs.Words.{postWords, reasons, atomsIn, postsAfter, atomsAfte
 use Rattle.runs.specs.Mirrored.{mirroredPass, mirroredConsequent, MirroredRight}
 use Rattle.records.specs.declared.record.Propagator.{Propagator}
 use Rattle.records.specs.Records.{tasksIn}
-use Rattle.records.specs.Refusals.{runNumber}
+use Rattle.input_refusals.specs.Refusals.{runNumber}
 use Rattle.checker.specs.declared.checker.Verdict.the-variants.{Passed}
 use Rattle.checker.specs.MirroredChecks.{checkMirroredOf}
 use Rattle.levels.specs.declared.outcome.Outcome.{Outcome}

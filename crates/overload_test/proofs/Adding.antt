@@ -18,7 +18,7 @@ use Rattle.ects.specs.Ects.{exceeds}
 use Rattle.trees.specs.declared.theta_tree.ThetaTree.{ThetaTree}
 use Rattle.trees.specs.Leaves.{Leaf, white, IsPlainTree}
 use Rattle.trees.specs.Mappings.{PlainNew}
-use Rattle.trees.specs.Nodes.{plainOf}
+use Rattle.nodes.specs.Nodes.{plainOf}
 use Rattle.trees.specs.Puts.{PlainPuttable, PlainPut}
 use Rattle.trees.specs.Shapes.{width, heightFor}
 use Rattle.trees.specs.Words.{plainEctIn}
@@ -27,8 +27,8 @@ use Rattle.sorts.specs.Orders.{SortedBy, byKey, noTasks, momentAt, completionAt
 use Rattle.sorts.proofs.Sorted.{sorted-as}
 use Rattle.records.specs.declared.record.Propagator.{Propagator}
 use Rattle.records.specs.Records.{momentsIn}
-use Rattle.records.specs.Refusals.{AcceptedInput}
-use Rattle.records.proofs.Accepting.{count, completion-small, completions-are, completions-at}
+use Rattle.input_refusals.specs.Refusals.{AcceptedInput}
+use Rattle.input_refusals.proofs.Accepting.{count, completion-small, completions-are, completions-at}
 use Rattle.chosen_sets.specs.ChosenSets.{order, colours, ectOf}
 use Rattle.chosen_sets.specs.TaskArrays.{Held}
 use Rattle.chosen_sets.proofs.Colouring.{limited, front-is}

@@ -19,9 +19,9 @@ use Rattle.scheduling.specs.Scheduling.{natural, Tasks, Proper, TaskSet, Overlo
 use Rattle.scheduling.proofs.Transfer.{overload→, overload←}
 use Rattle.records.specs.declared.record.Propagator.{Propagator}
 use Rattle.records.specs.Records.{tasksIn, momentsIn}
-use Rattle.records.specs.Refusals.{AcceptedInput, inputNumber}
-use Rattle.records.proofs.Accepting.{count, proper-whole, above, proper}
-use Rattle.records.proofs.Refused.{accepted-input}
+use Rattle.input_refusals.specs.Refusals.{AcceptedInput, inputNumber}
+use Rattle.input_refusals.proofs.Accepting.{count, proper-whole, above, proper}
+use Rattle.input_refusals.proofs.Refused.{accepted-input}
 use Rattle.overload_test.specs.declared.overload_test.Overload.{Overload}
 use Rattle.overload_test.specs.declared.overload_test.Overload.the-variants.{Yes, No}
 use Rattle.overload_test.specs.Reading.{overloadsAt, answerFrom, answerOf}

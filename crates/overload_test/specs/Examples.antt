@@ -8,7 +8,7 @@ use Rattle.integers.specs.Filling.{filled}
 use Rattle.integers.specs.Orders.{sort, insert, numbers, has}
 use Rattle.ects.specs.Ects.{decoded}
 use Rattle.trees.specs.Leaves.{root}
-use Rattle.trees.specs.Nodes.{joinOf}
+use Rattle.nodes.specs.Nodes.{joinOf}
 use Rattle.trees.specs.Shapes.{width, heightFrom, nodeOver}
 use Rattle.records.specs.Records.{newRecord, momentsIn}
 use Rattle.overload_test.specs.declared.overload_test.Overload.{Overload}

@@ -9,7 +9,7 @@ use Rattle.integers.specs.Answers.{answered, refusedBy}
 use Rattle.scheduling.specs.Scheduling.{TaskSet, Overloads}
 use Rattle.records.specs.declared.record.Propagator.{Propagator}
 use Rattle.records.specs.Records.{tasksIn, momentsIn}
-use Rattle.records.specs.Refusals.{inputNumber}
+use Rattle.input_refusals.specs.Refusals.{inputNumber}
 use Rattle.overload_test.specs.declared.overload_test.Overload.{Overload}
 use Rattle.overload_test.specs.Reading.{answerOf}
 use Rattle.overload_test.specs.Numbers.{overloadNumbers}

@@ -1,8 +1,8 @@
 // Whether some set of the tasks overloads: the tasks go into the theta tree by latest completion, least first, until those read overload.
+use input_refusals::input_refusal;
 use integers::limits::TASKS;
 use integers::limits::THETAWORDS;
 use records::record::Propagator;
-use records::refusals::input_refusal;
 use sorts::orders::completions;
 use sorts::orders::moments_of;
 use sorts::orders::sort_numbers;
@@ -12,7 +12,7 @@ use trees::disjunctive_task::leaf_of;
 use trees::theta_tree::ThetaTree;
 ghost use mathlib.Core.Path.{_≡_};
 ghost use Rattle.records.specs.Records.{momentsIn};
-ghost use Rattle.records.specs.Refusals.{AcceptedInput};
+ghost use Rattle.input_refusals.specs.Refusals.{AcceptedInput};
 ghost use Rattle.overload_test.specs.Reading.{answerOf};
 ghost use Rattle.overload_test.specs.Readable.{Readable};
 ghost use Rattle.overload_test.specs.Tested.{OverloadTested};

@@ -11,7 +11,7 @@ use lib.ListN.{length, getD, take, drop, length-append, length-replicate, replic
 use lib.Seq.{sets, sets-eq, take-at, drop-at, take-append-le}
 use Rattle.integers.specs.Limits.{TASKS, START, DURATIONS}
 use Rattle.integers.proofs.Ints.{ints, up, dn, sumℤ, up-neg, dn-neg}
-use Rattle.records.specs.Refusals.{StartFits}
+use Rattle.input_refusals.specs.Refusals.{StartFits}
 use Rattle.text.specs.Writing.{natural, decimal, Puts}
 use Rattle.text.proofs.Decimals.{natural-fits, natural-small, natural-large}
 use Rattle.text.proofs.Putting.{puts-append, puts-length}

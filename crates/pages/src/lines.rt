@@ -10,7 +10,7 @@ ghost use lib.IntN.{pos, _+ℤ_};
 ghost use lib.ListN.{length, take};
 ghost use mathlib.Core.List.{_++_, flatMap};
 ghost use Rattle.integers.specs.Limits.{TASKS, DURATIONS};
-ghost use Rattle.records.specs.Refusals.{StartFits};
+ghost use Rattle.input_refusals.specs.Refusals.{StartFits};
 ghost use Rattle.fixed_schedules.specs.Neighbours.{Listed};
 ghost use Rattle.text.specs.Writing.{decimal, Puts};
 ghost use Rattle.pages.specs.Lines.{LINE, padLeft, heading, lineOf};

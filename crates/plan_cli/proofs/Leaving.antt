@@ -21,12 +21,12 @@ use Rattle.records.specs.declared.record.Propagator.{Propagator}
 use Rattle.records.specs.declared.record.Created.{Created}
 use Rattle.records.specs.declared.record.Creation.the-variants as creation
 use Rattle.records.specs.Records.{creationTests, creationNumber, newRecord, created}
-use Rattle.records.specs.Refusals.{runNumber}
+use Rattle.input_refusals.specs.Refusals.{runNumber}
 use Rattle.records.proofs.Creation.{created-new, answer-number}
 use Rattle.levels.specs.declared.outcome.Outcome.the-variants as outcome
+use Rattle.levels.proofs.Answering.{outcomes-apart}
 use Rattle.propagator.specs.declared.disjunctive_propagator.Run.{Run}
 use Rattle.propagator.specs.Ran.{traceOf, AcceptedRun, Ran}
-use Rattle.propagator.proofs.Answering.{outcomes-apart}
 use Rattle.plan_cli.specs.RunSlices.{ShowsRun, Shown}
 use Rattle.plan_cli.specs.Printed.{numbered, ranOn, planned}
 

@@ -1,6 +1,7 @@
-pub mod Printing
 pub mod Reporting
 pub mod Showing
-pub mod Counting
+pub mod InputTasks
 pub mod Leaving
 pub mod PrintedNumbers
+pub mod FirstBytes
+mod Marks

@@ -12,9 +12,9 @@ use Rattle.integers.specs.Limits.{TASKS, ATOMS}
 use Rattle.integers.specs.Tests.{refusal}
 use Rattle.integers.proofs.Bools.{clash}
 use Rattle.records.specs.Records.{Lawful, creationTests, newRecord}
-use Rattle.records.specs.Refusals.{runNumber, CountsFit, WordsFit}
+use Rattle.input_refusals.specs.Refusals.{runNumber, CountsFit, WordsFit}
 use Rattle.records.proofs.Creation.{created-lawful}
-use Rattle.records.proofs.Refused.{refused-20, refused-10, refused-13, refused-9}
+use Rattle.input_refusals.proofs.Refused.{refused-20, refused-10, refused-13, refused-9}
 
 module _ (es ls ds : List ℤ) (accepted : refusal (creationTests ds) ≡ 0) (same-earliest : length es ≡ length ds) (same-latest : length ls ≡ length ds) where
   abbrev number : ℕ

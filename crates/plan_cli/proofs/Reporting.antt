@@ -17,9 +17,10 @@ use Rattle.runs.proofs.Buffers.{reasons-suc, reasons-most}
 use Rattle.post_words.specs.Posts.{taskWord, boundOf, reasonWords}
 use Rattle.text.specs.Writing.{Puts}
 use Rattle.text.proofs.Putting.{puts-append}
-use Rattle.plan_cli.specs.Lines.{newline, doneWord, overloadLine, postLine, lines, whyLines, postOf, spaced, doneLine, overloadLines}
+use Rattle.plan_text.specs.Lines.{newline, doneWord, overloadLine, postLine, lines, whyLines, spaced, doneLine, overloadLines}
+use Rattle.plan_cli.specs.RunLines.{postOf}
 use Rattle.plan_cli.specs.RunSlices.{Held, Holds, Posts}
-use Rattle.plan_cli.proofs.Printing.{puts-as, puts-first, puts-next, puts-all}
+use Rattle.plan_text.proofs.Printing.{puts-as, puts-first, puts-next, puts-all}
 
 pub puts-done : {o₀ o₁ o₂ o₃ : List ℕ} {a₀ a₁ a₂ a₃ : ℕ} (xs : List ℤ) → Puts o₀ o₁ a₀ doneWord a₁ → Puts o₁ o₂ a₁ (spaced xs) a₂ → Puts o₂ o₃ a₂ newline a₃ → Puts o₀ o₃ a₀ (doneLine xs) a₃
 unfolding doneLine

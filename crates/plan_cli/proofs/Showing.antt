@@ -15,7 +15,8 @@ use Rattle.runs.specs.Words.{reasons, endReason}
 use Rattle.levels.specs.Finding.{outcomeOf}
 use Rattle.levels.specs.declared.outcome.Outcome.{Outcome}
 use Rattle.levels.specs.declared.outcome.Outcome.the-variants as outcome
-use Rattle.plan_cli.specs.Lines.{postLines, doneLine, overloadLines, emptiedLine, endLines, runLines, refusedLine, answerLines}
+use Rattle.plan_text.specs.Lines.{doneLine, overloadLines, emptiedLine, refusedLine}
+use Rattle.plan_cli.specs.RunLines.{postLines, endLines, runLines, answerLines}
 use Rattle.plan_cli.specs.RunSlices.{Holds, ShowsRun, Shown}
 
 -- `count` posts that the slices hold, with room for them and for `more` atoms, and `rest` behind them

@@ -1,4 +1,4 @@
--- The definition at instance A, to the byte, and at an empty input.
+-- The definition at instance A, to the byte, and at an empty input; and where an input ends.
 -- Assumes nothing.
 use mathlib.Core.Path.{_≡_, refl}
 use mathlib.Core.List.{List, [], _∷_}
@@ -9,15 +9,18 @@ use Rattle.integers.specs.Tests.{allBelow, refusal}
 use Rattle.scheduling.specs.Scheduling.{total}
 use Rattle.ects.specs.Ects.{decoded}
 use Rattle.trees.specs.Leaves.{root, responsible, theta}
-use Rattle.trees.specs.Nodes.{joinOf, isEmpty}
-use Rattle.trees.specs.Searches.{gray, tested, descentP, descentEct, stepP, stepEct, searchP, searchEct, thetaOf}
+use Rattle.nodes.specs.Nodes.{joinOf, isEmpty}
+use Rattle.nodes.specs.Descents.{gray, tested, descentP, descentEct}
+use Rattle.trees.specs.Searches.{stepP, stepEct, searchP, searchEct, thetaOf}
 use Rattle.trees.specs.Shapes.{width, heightFrom, nodeOver}
 use Rattle.runs.specs.Runs.{propagate, run, outer, inner, conflict, propagation, bounds, within, tabulate}
 use Rattle.records.specs.Records.{unusedAt, lawfulRecord}
 use Rattle.text.specs.Numbers.{space, pieces, filled as nonEmpty, tokens, digit, digits, value, ranged, unsigned, numberOf, before, numbers, numbersOf}
 use Rattle.text.specs.Writing.{figures, natural, decimal}
-use Rattle.plan_cli.specs.Lines.{sign, postLine, whyLine, lines, doneLine, overloadLines, runLines, refusedLine}
+use Rattle.plan_text.specs.Lines.{sign, postLine, whyLine, lines, doneLine, overloadLines, refusedLine}
+use Rattle.plan_cli.specs.RunLines.{runLines}
 use Rattle.plan_cli.specs.Printed.{triples, inputTasks, answered, printed}
+use Rattle.plan_cli.specs.Inputs.{firstMark}
 
 -- "3", "0 6 4", "1 5 5", "0 20 3", a line each
 abbrev input : List ℕ
@@ -35,3 +38,12 @@ instance-A = refl
 empty-input : printed [] ≡ 114 ∷ 101 ∷ 102 ∷ 117 ∷ 115 ∷ 101 ∷ 100 ∷ 32 ∷ 48 ∷ 10 ∷ []
 unfolding printed answered inputTasks pieces nonEmpty tokens numbers numbersOf refusedLine figures natural
 empty-input = refl
+
+-- "0\n%1%" ends its first input at 2, and "0\n" has no '%'
+mark : firstMark (48 ∷ 10 ∷ 37 ∷ 49 ∷ 37 ∷ []) ≡ 2
+unfolding firstMark
+mark = refl
+
+no-mark : firstMark (48 ∷ 10 ∷ []) ≡ 2
+unfolding firstMark
+no-mark = refl

@@ -1,5 +1,5 @@
-pub mod Lines
+pub mod RunLines
 pub mod RunSlices
 pub mod Printed
-pub mod Counting
+pub mod Inputs
 pub mod Examples

@@ -13,10 +13,10 @@ use Rattle.integers.specs.Tests.{refusal}
 use Rattle.runs.specs.Traces.{Trace}
 use Rattle.records.specs.declared.record.Propagator.{Propagator}
 use Rattle.records.specs.Records.{creationTests, newRecord}
-use Rattle.records.specs.Refusals.{runNumber}
+use Rattle.input_refusals.specs.Refusals.{runNumber}
 use Rattle.propagator.specs.Ran.{traceOf}
 use Rattle.text.specs.Numbers.{numbersOf}
-use Rattle.plan_cli.specs.Lines.{answerLines}
+use Rattle.plan_cli.specs.RunLines.{answerLines}
 
 -- a task of the input
 pub record Triple : Type 0 where

@@ -1,12 +1,12 @@
 // The answer to an input: its lines, or the number that refused it.
-use crate::input::Counted;
-use crate::input::column_of;
-use crate::input::task_count;
-use crate::lines::put_refused;
 use crate::report::put_run;
 use integers::limits::ATOMWORDS;
 use integers::limits::POSTWORDS;
 use integers::limits::TASKS;
+use plan_text::input::Counted;
+use plan_text::input::column_of;
+use plan_text::input::task_count;
+use plan_text::lines::put_refused;
 use propagator::disjunctive_propagator::propagate;
 use records::record::Creation;
 use records::record::Propagator;
@@ -21,7 +21,7 @@ ghost use lib.ListN.{length, take};
 ghost use Rattle.integers.specs.Limits.{TASKS};
 ghost use Rattle.text.specs.Scanning.{gathered};
 ghost use Rattle.text.specs.Writing.{Puts};
-ghost use Rattle.plan_cli.specs.Lines.{answerLines};
+ghost use Rattle.plan_cli.specs.RunLines.{answerLines};
 ghost use Rattle.plan_cli.specs.RunSlices.{ROOM};
 ghost use Rattle.plan_cli.specs.Printed.{ranOn, planned, answered};
 

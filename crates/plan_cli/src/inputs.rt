@@ -1,12 +1,15 @@
 // Several inputs in one text, each ended by a '%': where one ends, and its answer, with a '%' on a line behind it.
 use libc::STDOUT_FILENO;
-ghost use Prim.Native.Nat.{_≤_};
-ghost use lib.ListN.{length};
+ghost use mathlib.Core.Path.{_≡_};
+ghost use Prim.Native.Nat.{_+_, _≤_};
+ghost use lib.ListN.{length, drop};
+ghost use Rattle.plan_cli.specs.Inputs.{firstMark};
 
 // The place of the first '%' from `from` on, or the end.
 pub fn end_of(inputs: &[u8], from: usize) -> usize
     requires { ⌜ from ≤ length (now inputs) ⌝ }
-    ensures { λ r. ⌜ (from ≤ r) × (r ≤ length (now (inputs .entry))) ⌝ }
+    ensures place { λ r. ⌜ r ≡ from + firstMark (drop from (now (inputs .entry))) ⌝ }
+    ensures within { λ r. ⌜ (from ≤ r) × (r ≤ length (now (inputs .entry))) ⌝ }
 {
     let mut i = from;
     while i < inputs.len() {

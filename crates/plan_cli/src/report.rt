@@ -1,9 +1,9 @@
 // A run's report: its posts with their reasons, and how it ended.
-use crate::lines::put_post;
-use crate::lines::put_reason;
-use crate::lines::put_refused;
-use crate::lines::put_starts;
 use levels::outcome::Outcome;
+use plan_text::lines::put_post;
+use plan_text::lines::put_reason;
+use plan_text::lines::put_refused;
+use plan_text::lines::put_starts;
 use post_words::posts::bound_word;
 use post_words::posts::post_reason;
 use post_words::posts::stretch;
@@ -20,7 +20,8 @@ ghost use Rattle.runs.specs.Traces.{Post, Trace};
 ghost use Rattle.runs.specs.Words.{reasons};
 ghost use Rattle.post_words.specs.Posts.{reasonWords};
 ghost use Rattle.text.specs.Writing.{Puts};
-ghost use Rattle.plan_cli.specs.Lines.{postOf, postLines, doneLine, overloadLines, answerLines};
+ghost use Rattle.plan_text.specs.Lines.{doneLine, overloadLines};
+ghost use Rattle.plan_cli.specs.RunLines.{postOf, postLines, answerLines};
 ghost use Rattle.plan_cli.specs.RunSlices.{Held, Holds, Posts, Shown, Printable};
 
 // Post j of the two slices, with its reason.

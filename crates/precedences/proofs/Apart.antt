@@ -1,4 +1,4 @@
--- The numbers tell the answers apart.
+-- The numbers tell the pass's answers apart.
 -- Assumes nothing.
 use mathlib.Core.Path.{_≡_, refl}
 use Prim.Native.Nat.{ℕ, zero, suc}
@@ -6,9 +6,7 @@ use Rattle.integers.specs.Answers.{Answer}
 use Rattle.integers.proofs.Answers.{countAt, told-apart}
 use Rattle.precedences.specs.declared.answers.Precedences.{Precedences}
 use Rattle.precedences.specs.declared.answers.Precedences.the-variants as pass
-use Rattle.precedences.specs.declared.answers.Reason.{Reason}
-use Rattle.precedences.specs.declared.answers.Reason.the-variants as reason
-use Rattle.precedences.specs.Numbers.{precedencesNumbers, reasonNumbers}
+use Rattle.precedences.specs.Numbers.{precedencesNumbers}
 
 abbrev passOf : ℕ → Answer → Precedences
 passOf zero a = pass.Done
@@ -22,14 +20,3 @@ read-pass (pass.Refused number) = refl
 
 pub passes-apart : (x y : Precedences) → precedencesNumbers x ≡ precedencesNumbers y → x ≡ y
 passes-apart = told-apart precedencesNumbers (λ a. passOf (a .kind) a) read-pass
-
-abbrev reasonFrom : ℕ → Answer → Reason
-reasonFrom zero a = reason.Written (countAt a 0)
-reasonFrom (suc k) a = reason.Refused (a .number)
-
-read-reason : (x : Reason) → reasonFrom (reasonNumbers x .kind) (reasonNumbers x) ≡ x
-read-reason (reason.Written count) = refl
-read-reason (reason.Refused number) = refl
-
-pub reasons-apart : (x y : Reason) → reasonNumbers x ≡ reasonNumbers y → x ≡ y
-reasons-apart = told-apart reasonNumbers (λ a. reasonFrom (a .kind) a) read-reason

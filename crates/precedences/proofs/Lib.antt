@@ -1,9 +1,4 @@
-pub mod Ranging
-pub mod Soundness
-pub mod Bounding
+pub mod Raising
 pub mod PassContract
 pub mod Apart
-pub mod Members
-pub mod Explaining
-pub mod ReasonRefused
 pub mod Many

@@ -20,18 +20,21 @@ use Rattle.scheduling.specs.Scheduling.{whole, natural, Tasks, Proper, Largest,
 use Rattle.sorts.specs.Orders.{noTasks, momentAt}
 use Rattle.records.specs.declared.record.Propagator.{Propagator}
 use Rattle.records.specs.Records.{tasksIn, momentsIn}
-use Rattle.records.specs.Refusals.{AcceptedInput, inputNumber}
-use Rattle.records.proofs.Accepting.{count, proper-whole, proper, above}
-use Rattle.records.proofs.Refused.{accepted-input}
+use Rattle.input_refusals.specs.Refusals.{AcceptedInput, inputNumber}
+use Rattle.input_refusals.proofs.Accepting.{count, proper-whole, proper, above}
+use Rattle.input_refusals.proofs.Refused.{accepted-input}
 use Rattle.ects.proofs.Ects.{past-by-bound, within-bound}
-use Rattle.chosen_sets.proofs.Ranging.{held, late}
+use Rattle.predecessors.specs.Predecessors.{PrecedenceBound}
+use Rattle.predecessors.specs.TaskArrays.{startAt, boundAt}
+use Rattle.predecessors.proofs.Ranging.{ranged}
+use Rattle.predecessors.proofs.Soundness.{before-sound, bound-sound}
+use Rattle.predecessors.proofs.Bounding.{passes, fits}
 use Rattle.precedences.specs.declared.answers.Precedences.{Precedences}
 use Rattle.precedences.specs.declared.answers.Precedences.the-variants.{Done, Emptied}
 use Rattle.precedences.specs.Numbers.{precedencesNumbers}
-use Rattle.precedences.specs.Precedences.{PrecedenceBound, FirstEmptied, NoneEmptied, LeftPrecedences, RanPrecedences}
-use Rattle.precedences.specs.TaskArrays.{boundAt, raisedAt, startAt, Ranged, FirstPast}
-use Rattle.precedences.proofs.Soundness.{before-sound, bound-sound}
-use Rattle.precedences.proofs.Bounding.{passes, fits, raised-is}
+use Rattle.precedences.specs.Precedences.{FirstEmptied, NoneEmptied, LeftPrecedences, RanPrecedences}
+use Rattle.precedences.specs.TaskArrays.{raisedAt, FirstPast}
+use Rattle.precedences.proofs.Raising.{raised-is}
 
 module _ (J : Tasks whole) (ok : Proper J) where
   -- no two tasks are the lowest
@@ -81,9 +84,6 @@ module _ (r : Propagator) (es ls : List ℤ) (a : AcceptedInput r es ls) (long :
   abbrev M : Tasks natural
   M = momentsIn r es ls
 
-  abbrev pub ranged : Ranged (r .count) est lst (r .durations)
-  ranged = record { J = momentsIn r es ls; held = held r es ls a long e (λ k q. refl); late = late r es ls a long l }
-
   fine : Proper Z
   fine = proper-whole r es ls a long
 
@@ -98,7 +98,7 @@ module _ (r : Propagator) (es ls : List ℤ) (a : AcceptedInput r es ls) (long :
     raised-at k q = ap (λ (o : List ℕ). getD o k 0) z ∙ filled-at (raisedAt M) (r .count) noTasks 0 k q (omega (arith, a .lawful .few, length-replicate {A = ℕ} TASKS 0))
 
     latest-at : (k : ℕ) → k < r .count → getD lst k 0 ≡ M .latest k
-    latest-at k q = ranged .late .at k q
+    latest-at k q = ranged r es ls a long e l .late .at k q
 
     not-past : (k : ℕ) → k < r .count → k < i → (b : ℤ) → PrecedenceBound Z k b → b ≤ℤ Z .latest k
     not-past k q h = fits Z fine (above r es ls a long) k (known q) (within-bound (M .earliest k) (M .latest k) (boundAt M k) (omega (arith, p .none-before k h, raised-at k q, latest-at k q)))

@@ -1,5 +1,3 @@
 pub mod Numbers
 pub mod Precedences
-pub mod Reasons
 pub mod TaskArrays
-pub mod Examples

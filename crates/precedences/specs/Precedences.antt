@@ -1,56 +1,44 @@
--- Precedences that can be read off the ranges: the tasks that must come before a task, the bound that they give, and what a pass by these bounds leaves.
+-- What a pass leaves that raises each earliest start to the bound that precedences give.
 use mathlib.Core.Path.{_≡_}
-use mathlib.Core.Bool.{Bool, not, _&&_}
+use mathlib.Core.Bool.{Bool}
 use mathlib.Core.List.{List, [], _∷_}
 use mathlib.Core.Logic.{_⊎_, _↔_}
 use Prim.Native.Nat.{ℕ, _<_}
-use lib.Dec.{eqb}
-use lib.IntN.{ℤ, pos, _+ℤ_}
-use lib.Signed.{ltZ, _≤ℤ_, _<ℤ_}
+use lib.IntN.{ℤ, pos}
+use lib.Signed.{_≤ℤ_, _<ℤ_}
 use lib.ListN.{length, getD}
 use Rattle.integers.specs.Answers.{answered, refusedBy}
-use Rattle.scheduling.specs.Scheduling.{whole, Tasks, TaskSet, In, Largest, Ect, Schedule}
+use Rattle.scheduling.specs.Scheduling.{whole, Tasks, Largest, Schedule}
 use Rattle.records.specs.declared.record.Propagator.{Propagator}
 use Rattle.records.specs.Records.{tasksIn}
-use Rattle.records.specs.Refusals.{inputNumber}
+use Rattle.input_refusals.specs.Refusals.{inputNumber}
+use Rattle.predecessors.specs.Predecessors.{AllBefore, PrecedenceBound}
 use Rattle.precedences.specs.declared.answers.Precedences.{Precedences}
 use Rattle.precedences.specs.Numbers.{precedencesNumbers}
 
 module _ (J : Tasks whole) where
-  -- P of task i: the other tasks whose latest start is below i's earliest start plus i's duration
-  abbrev pub predecessors : ℕ → TaskSet
-  predecessors i j = not (eqb j i) && ltZ (J .latest j) (J .earliest i +ℤ pos (J .duration i))
-
-  -- at the starts s all of P come before i: each ends by i's start
-  abbrev pub AllBefore : ℕ → (ℕ → ℤ) → Type 0
-  AllBefore i s = (j : ℕ) → In J (predecessors i) j → (s j +ℤ pos (J .duration j)) ≤ℤ s i
-
-  -- b is the bound of i: ect(P); where P is empty there is none
-  abbrev pub PrecedenceBound : ℕ → ℤ → Type 0
-  PrecedenceBound i = Ect J (predecessors i)
-
   -- i is the lowest task whose bound passes its latest start
   pub record FirstEmptied (i : ℕ) : Type 0 where
     pub small : i < J .count
     pub bound : ℤ
-    pub is-bound : PrecedenceBound i bound
+    pub is-bound : PrecedenceBound J i bound
     pub passes : J .latest i <ℤ bound
-    pub lowest : (k : ℕ) → k < i → (b : ℤ) → PrecedenceBound k b → b ≤ℤ J .latest k
+    pub lowest : (k : ℕ) → k < i → (b : ℤ) → PrecedenceBound J k b → b ≤ℤ J .latest k
 
   -- no bound passes a latest start
   abbrev pub NoneEmptied : Type 0
-  NoneEmptied = (k : ℕ) → k < J .count → (b : ℤ) → PrecedenceBound k b → b ≤ℤ J .latest k
+  NoneEmptied = (k : ℕ) → k < J .count → (b : ℤ) → PrecedenceBound J k b → b ≤ℤ J .latest k
 
   -- An accepted pass, from the earliest starts es to es′. It ends Emptied exactly with the lowest task whose bound passes its latest start, and no start
   -- changes; then there is no schedule. Else it is Done: each start is the larger of its old value and its bound, both from the ranges at entry,
   -- and every schedule starts each task at or after that. However it ends, all of P come before i in every schedule.
   pub record LeftPrecedences (es : List ℤ) (r : Precedences) (es′ : List ℤ) : Type 0 where
-    pub before : (s : ℕ → ℤ) → Schedule J s → (i : ℕ) → i < J .count → AllBefore i s
+    pub before : (s : ℕ → ℤ) → Schedule J s → (i : ℕ) → i < J .count → AllBefore J i s
     pub emptied : (i : ℕ) → (precedencesNumbers r ≡ answered 1 (pos i ∷ [])) ↔ FirstEmptied i
     pub done : (precedencesNumbers r ≡ answered 0 []) ↔ NoneEmptied
     pub kept : precedencesNumbers r .kind ≡ 1 → es′ ≡ es
     pub size : length es′ ≡ length es
-    pub starts : precedencesNumbers r .kind ≡ 0 → (i : ℕ) → i < J .count → Largest whole (λ v. (J .earliest i ≡ v) ⊎ PrecedenceBound i v) (getD es′ i (pos 0))
+    pub starts : precedencesNumbers r .kind ≡ 0 → (i : ℕ) → i < J .count → Largest whole (λ v. (J .earliest i ≡ v) ⊎ PrecedenceBound J i v) (getD es′ i (pos 0))
     pub no-schedule : precedencesNumbers r .kind ≡ 1 → (s : ℕ → ℤ) → Schedule J s → ⊥
     pub holds : precedencesNumbers r .kind ≡ 0 → (s : ℕ → ℤ) → Schedule J s → (i : ℕ) → i < J .count → getD es′ i (pos 0) ≤ℤ s i
 

@@ -4,9 +4,3 @@ pub enum Precedences {
     Emptied(usize),
     Refused(u32),
 }
-
-// How many atoms were written, or the number that refused the input.
-pub enum Reason {
-    Written(usize),
-    Refused(u32),
-}

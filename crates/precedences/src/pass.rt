@@ -1,10 +1,10 @@
 // The pass: every bound is taken from the ranges at entry; where none passes a latest start, the earliest starts are raised.
 use crate::answers::Precedences;
-use crate::predecessors::bound_of;
+use input_refusals::input_refusal;
 use integers::limits::TASKS;
 use integers::start_of;
+use predecessors::predecessors::bound_of;
 use records::record::Propagator;
-use records::refusals::input_refusal;
 use sorts::orders::moments_of;
 ghost use mathlib.Core.Path.{_≡_};
 ghost use Prim.Native.Nat.{_≤_};
@@ -13,8 +13,9 @@ ghost use Rattle.integers.specs.Filling.{filled};
 ghost use Rattle.integers.specs.Limits.{TASKS};
 ghost use Rattle.sorts.specs.Orders.{noTasks};
 ghost use Rattle.records.specs.Records.{tasksIn};
-ghost use Rattle.records.specs.Refusals.{AcceptedInput};
-ghost use Rattle.precedences.specs.TaskArrays.{raisedAt, startAt, Ranged, FirstPast};
+ghost use Rattle.input_refusals.specs.Refusals.{AcceptedInput};
+ghost use Rattle.predecessors.specs.TaskArrays.{startAt, Ranged};
+ghost use Rattle.precedences.specs.TaskArrays.{raisedAt, FirstPast};
 ghost use Rattle.precedences.specs.Precedences.{LeftPrecedences, RanPrecedences};
 
 // Each of n tasks' earliest start or bound, whichever is later.

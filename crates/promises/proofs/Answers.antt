@@ -20,8 +20,8 @@ use Rattle.post_words.specs.Posts.{taskWord, taskOf, boundOf, postNumber, reaso
 use Rattle.levels.specs.declared.outcome.Outcome.{Outcome}
 use Rattle.levels.specs.Finding.{outcomeOf}
 use Rattle.levels.specs.Outcomes.{outcomeNumbers, valueOf}
+use Rattle.levels.proofs.Answering.{Overloaded, not-refused, posts-made, kind-done, kind-overload}
 use Rattle.propagator.specs.Ran.{Handed}
-use Rattle.propagator.proofs.Answering.{Overloaded, not-refused, posts-made, kind-done, kind-overload}
 use Rattle.promises.specs.Promise.{reasonOf, overloadOf}
 
 module _ (t : Trace) (answer : Outcome) (is : answer ≡ outcomeOf (reasons (t .posts)) (length (t .posts)) (t .end)) where

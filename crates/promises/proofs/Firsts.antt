@@ -10,7 +10,7 @@ use lib.ListN.{length, getD, take, length-map, List·getD-map}
 use lib.Signed.{_≤ℤ_}
 use Rattle.scheduling.specs.Scheduling.{whole, Tasks}
 use Rattle.records.specs.declared.record.Propagator.{Propagator}
-use Rattle.records.specs.Refusals.{Accepted, CountsFit}
+use Rattle.input_refusals.specs.Refusals.{Accepted, CountsFit}
 use Rattle.barred_starts.specs.declared.range.Range.{Range}
 use Rattle.barred_starts.specs.Bars.{allBarsFit}
 use Rattle.barred_starts.specs.Permitted.{FirstPermitted, LastPermitted}

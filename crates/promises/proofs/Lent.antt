@@ -6,7 +6,7 @@ use Prim.Native.Nat.{ℕ}
 use lib.IntN.{ℤ}
 use lib.ListN.{length}
 use Rattle.records.specs.declared.record.Propagator.{Propagator}
-use Rattle.records.proofs.Refused.{accepted-run}
+use Rattle.input_refusals.proofs.Refused.{accepted-run}
 use Rattle.levels.specs.declared.outcome.Outcome.{Outcome}
 use Rattle.propagator.specs.Ran.{Left, Ran}
 use Rattle.mirrored.specs.RanMirrored.{LeftMirrored, RanMirrored}

@@ -21,7 +21,7 @@ use Rattle.checker.specs.declared.checker.Verdict.the-variants.{Passed}
 use Rattle.checker.specs.MirroredChecks.{checkMirroredOf}
 use Rattle.post_words.specs.Posts.{taskOf, boundOf}
 use Rattle.records.specs.declared.record.Propagator.{Propagator}
-use Rattle.records.specs.Refusals.{Accepted}
+use Rattle.input_refusals.specs.Refusals.{Accepted}
 use Rattle.levels.specs.declared.outcome.Outcome.{Outcome}
 use Rattle.levels.specs.Finding.{outcomeOf}
 use Rattle.levels.specs.Outcomes.{outcomeNumbers, valueOf}

@@ -11,8 +11,8 @@ use lib.Signed.{_≤ℤ_}
 use Rattle.integers.specs.Answers.{answered}
 use Rattle.scheduling.specs.Scheduling.{whole, Tasks}
 use Rattle.records.specs.declared.record.Propagator.{Propagator}
-use Rattle.records.specs.Refusals.{AcceptedInput}
-use Rattle.records.proofs.Refused.{accepted-input}
+use Rattle.input_refusals.specs.Refusals.{AcceptedInput}
+use Rattle.input_refusals.proofs.Refused.{accepted-input}
 use Rattle.precedences.specs.declared.answers.Precedences.{Precedences}
 use Rattle.precedences.specs.declared.answers.Precedences.the-variants.{Done, Emptied, Refused}
 use Rattle.precedences.specs.Numbers.{precedencesNumbers}

@@ -12,8 +12,9 @@ use Rattle.scheduling.specs.Scheduling.{Atom, total, processing}
 use Rattle.scheduling.specs.Words.{atomWords}
 use Rattle.ects.specs.Ects.{decoded}
 use Rattle.trees.specs.Leaves.{root, responsible, theta}
-use Rattle.trees.specs.Nodes.{joinOf, isEmpty}
-use Rattle.trees.specs.Searches.{gray, tested, descentP, descentEct, stepP, stepEct, searchP, searchEct, thetaOf}
+use Rattle.nodes.specs.Nodes.{joinOf, isEmpty}
+use Rattle.nodes.specs.Descents.{gray, tested, descentP, descentEct}
+use Rattle.trees.specs.Searches.{stepP, stepEct, searchP, searchEct, thetaOf}
 use Rattle.trees.specs.Shapes.{width, heightFrom, nodeOver}
 use Rattle.holes.specs.Holes.{has, kept, inserted, firstFrom, lastUpTo, zeros}
 use Rattle.atoms.specs.Atoms.{atomsOf, rightAtom, rightWords, rightLists}
@@ -27,7 +28,7 @@ use Rattle.runs.specs.Runs.{propagate, run, outer, inner, conflict, propagation
 use Rattle.records.specs.Records.{created}
 use Rattle.checker.specs.declared.checker.Verdict.{Verdict}
 use Rattle.checker.specs.declared.checker.Verdict.the-variants.{Passed, NotPassed}
-use Rattle.checker.specs.Formulas.{any, lowest, highest, overloaded, implied}
+use Rattle.formulas.specs.Formulas.{any, lowest, highest, overloaded, implied}
 use Rattle.checker.specs.Checks.{checkOf, consequentWords}
 use Rattle.propagator.specs.Ran.{traceOf}
 

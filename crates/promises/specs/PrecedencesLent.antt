@@ -8,7 +8,7 @@ use lib.Signed.{_≤ℤ_}
 use Rattle.integers.specs.Answers.{refusedBy}
 use Rattle.scheduling.specs.Scheduling.{whole, Tasks}
 use Rattle.records.specs.declared.record.Propagator.{Propagator}
-use Rattle.records.specs.Refusals.{inputNumber}
+use Rattle.input_refusals.specs.Refusals.{inputNumber}
 use Rattle.precedences.specs.declared.answers.Precedences.{Precedences}
 use Rattle.precedences.specs.Numbers.{precedencesNumbers}
 use Rattle.precedences.specs.Precedences.{LeftPrecedences}

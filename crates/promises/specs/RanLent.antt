@@ -6,7 +6,7 @@ use lib.IntN.{ℤ}
 use lib.ListN.{length}
 use Rattle.integers.specs.Answers.{refusedBy}
 use Rattle.records.specs.declared.record.Propagator.{Propagator}
-use Rattle.records.specs.Refusals.{runNumber}
+use Rattle.input_refusals.specs.Refusals.{runNumber}
 use Rattle.levels.specs.declared.outcome.Outcome.{Outcome}
 use Rattle.levels.specs.Outcomes.{outcomeNumbers}
 use Rattle.propagator.specs.Ran.{traceOf, Left}

@@ -44,8 +44,8 @@ use Rattle.sorts.specs.Orders.{SortedBy, noTasks, momentAt, completionAt, byKey
 use Rattle.sorts.proofs.Sorted.{sorted-as}
 use Rattle.records.specs.declared.record.Propagator.{Propagator}
 use Rattle.records.specs.Records.{tasksIn}
-use Rattle.records.specs.Refusals.{Accepted}
-use Rattle.levels.specs.RunArrays.{Ordered, Holds, At}
+use Rattle.input_refusals.specs.Refusals.{Accepted}
+use Rattle.candidates.specs.RunArrays.{Ordered, Holds, At}
 use Rattle.levels.specs.declared.outcome.Outcome.{Outcome}
 use Rattle.levels.specs.Filling.{Fillable}
 use Rattle.levels.specs.Finding.{outcomeOf, Begun, Ended}

@@ -2,4 +2,3 @@ pub mod Beginning
 pub mod Many
 pub mod ReasonsPass
 pub mod Handing
-pub mod Answering

@@ -9,8 +9,8 @@ use lib.ListN.{length}
 use Rattle.integers.specs.Answers.{refusedBy}
 use Rattle.integers.specs.Limits.{TASKS}
 use Rattle.records.specs.declared.record.Propagator.{Propagator}
-use Rattle.records.specs.Refusals.{runNumber}
-use Rattle.records.proofs.Refused.{input-many}
+use Rattle.input_refusals.specs.Refusals.{runNumber}
+use Rattle.input_refusals.proofs.Refused.{input-many}
 use Rattle.propagator.specs.declared.disjunctive_propagator.Run.{Run}
 use Rattle.propagator.specs.Ran.{Kept, Ran}
 

@@ -25,7 +25,7 @@ use Rattle.holes.specs.Holes.{Within}
 use Rattle.atoms.proofs.Atoms.{every-map}
 use Rattle.records.specs.declared.record.Propagator.{Propagator}
 use Rattle.records.specs.Records.{creationTests, tasksIn}
-use Rattle.records.specs.Refusals.{Accepted}
+use Rattle.input_refusals.specs.Refusals.{Accepted}
 use Rattle.records.proofs.Creation.{natural-count, natural-duration, natural-accepted}
 use Rattle.checker.specs.declared.checker.Verdict.the-variants.{Passed}
 use Rattle.checker.specs.Checks.{checkOf, tasksWith, consequentWords}

@@ -18,7 +18,7 @@ use Rattle.runs.specs.Demand.{Right, consequentOf, post}
 use Rattle.post_words.specs.Posts.{taskWord, boundOf, postNumber, reasonWords}
 use Rattle.records.specs.declared.record.Propagator.{Propagator}
 use Rattle.records.specs.Records.{tasksIn, Lawful}
-use Rattle.records.specs.Refusals.{CountsFit, RangesFit, WordsFit, runNumber}
+use Rattle.input_refusals.specs.Refusals.{CountsFit, RangesFit, WordsFit, runNumber}
 use Rattle.checker.specs.declared.checker.Verdict.the-variants.{Passed}
 use Rattle.checker.specs.Checks.{checkOf}
 use Rattle.levels.specs.declared.outcome.Outcome.{Outcome}

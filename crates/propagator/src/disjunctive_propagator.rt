@@ -1,4 +1,5 @@
 // The disjunctive propagator: edge finding on one machine, with a reason for each post.
+use input_refusals::run_refusal;
 use integers::limits::TASKS;
 use integers::limits::TREEWORDS;
 use levels::outcome::Finished;
@@ -6,7 +7,6 @@ use levels::outcome::Outcome;
 use levels::run_levels::edge_finding;
 use levels::run_levels::fill;
 use records::record::Propagator;
-use records::refusals::run_refusal;
 use sorts::orders::completions;
 use sorts::orders::moments_of;
 use sorts::orders::sort_numbers;

@@ -2,5 +2,3 @@ pub mod Lawful
 pub mod Unused
 pub mod Creation
 pub mod Apart
-pub mod Refused
-pub mod Accepting

@@ -1,2 +1,2 @@
+// The propagator's record, and its creation.
 pub mod record;
-pub mod refusals;

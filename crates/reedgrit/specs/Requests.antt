@@ -12,8 +12,9 @@ use Rattle.free_starts.specs.FreeStarts.{Answered as FreeStartAnswered}
 use Rattle.free_starts.specs.Numbers.{freeStartNumbers}
 use Rattle.pages.specs.Numbers.{pageNumbers}
 use Rattle.pages.specs.Pages.{Paged}
-use Rattle.precedences.specs.Numbers.{precedencesNumbers, reasonNumbers}
-use Rattle.precedences.specs.Reasons.{ReasonGiven}
+use Rattle.precedences.specs.Numbers.{precedencesNumbers}
+use Rattle.precedence_reasons.specs.Numbers.{reasonNumbers}
+use Rattle.precedence_reasons.specs.Reasons.{ReasonGiven}
 use Rattle.levels.specs.Outcomes.{outcomeNumbers}
 use Rattle.busiest_stretch.specs.Numbers.{busiestNumbers}
 use Rattle.busiest_stretch.specs.Stretches.{Answered as BusiestAnswered}

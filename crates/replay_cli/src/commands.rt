@@ -1,27 +1,25 @@
 // A line's command, and its answer.
-use crate::changes::created;
-use crate::changes::with_task;
-use crate::changes::without_task;
-use crate::checks::say_verdict;
-use crate::lines::say;
-use crate::lines::say_error;
-use crate::parts::LISTS;
-use crate::parts::WORDS;
-use crate::parts::after_word;
-use crate::parts::first_word;
-use crate::parts::list;
-use crate::parts::lists_in;
-use crate::parts::same;
 use crate::requests::asks;
-use crate::states::applied;
-use crate::states::emptied;
-use crate::states::prepared;
-use crate::states::tells;
 use disjunctive::Propagator;
 use disjunctive::VariableState;
-use disjunctive::check;
-use disjunctive::check_mirrored;
 use disjunctive::create;
+use replay_lines::lines::say;
+use replay_lines::lines::say_error;
+use replay_lines::parts::LISTS;
+use replay_lines::parts::WORDS;
+use replay_lines::parts::after_word;
+use replay_lines::parts::first_word;
+use replay_lines::parts::list;
+use replay_lines::parts::lists_in;
+use replay_lines::parts::same;
+use replay_states::changes::created;
+use replay_states::changes::with_task;
+use replay_states::changes::without_task;
+use replay_states::checks::checks;
+use replay_states::states::applied;
+use replay_states::states::emptied;
+use replay_states::states::prepared;
+use replay_states::states::tells;
 
 // What is kept between commands.
 pub struct Session {
@@ -150,20 +148,4 @@ fn asked_of(line: &[u8]) -> &[u8] {
         return &line[2..];
     }
     &line[..]
-}
-
-// `check` and `check-mirrored`: the durations, the premises and the consequent. Whether the word is one of the two.
-fn checks(word: &[u8], words: &[i32], ends: &[usize]) -> bool {
-    let durations = list(words, ends, 0);
-    let premises = list(words, ends, 1);
-    let consequent = list(words, ends, 2);
-    if same(word, b"check") {
-        say_verdict(check(durations, premises, consequent));
-        return true;
-    }
-    if same(word, b"check-mirrored") {
-        say_verdict(check_mirrored(durations, premises, consequent));
-        return true;
-    }
-    false
 }

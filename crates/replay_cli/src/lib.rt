@@ -1,13 +1,5 @@
 // The oracle's line protocol over the open calls: a command to a line, and for each the lines of its answer and then `end`.
 // What is proved here is that every function is safe and ends; contracts say no more than that needs. What the lines say is tested.
-pub mod changes;
-pub mod checks;
 pub mod commands;
-pub mod lent;
-pub mod lines;
-pub mod parts;
-pub mod ranges;
 pub mod requests;
-pub mod running;
 pub mod serving;
-pub mod states;

@@ -11,7 +11,7 @@ use Rattle.integers.specs.Tests.{allBelow, refusal}
 use Rattle.scheduling.specs.Scheduling.{total}
 use Rattle.records.specs.declared.record.Propagator.{Propagator}
 use Rattle.records.specs.Records.{unusedAt, lawfulRecord, newRecord, recordOf}
-use Rattle.records.specs.Refusals.{runNumber}
+use Rattle.input_refusals.specs.Refusals.{runNumber}
 use Rattle.task_changes.specs.Lists.{placed, without}
 use Rattle.task_changes.specs.Changes.{added, removed, addNumber, removeNumber}
 

@@ -1,8 +1,7 @@
--- Leaves by their colours: how the code tells them apart, their bounds, and one of them changed.
+-- Leaves by their colours: which of them the code takes for white, their bounds, and one of them changed.
 -- Assumes nothing.
 use mathlib.Core.Path.{_≡_, refl, ap}
 use mathlib.Core.Bool.{Bool, true, false, not}
-use mathlib.Core.Logic.{inl, inr}
 use mathlib.Core.List.{List}
 use Prim.Native.Nat.{ℕ, zero, suc, _+_, _≤_, _<_}
 use native.Mathlib.Omega.{arith}
@@ -11,31 +10,17 @@ use lib.Dec.{eqb}
 use lib.ListN.{length, getD, set, List·getD-eq-default}
 use lib.Seq.{getD-set-same, getD-set-other}
 use borrow.Author.Tests.{ne-eqb}
-use Rattle.integers.proofs.Bools.{bool}
 use Rattle.scheduling.specs.Scheduling.{natural, Tasks, total}
 use Rattle.scheduling.proofs.Sets.{total-none, total-up}
+use Rattle.nodes.specs.Nodes.{emptyOf}
+use Rattle.nodes.specs.Bounds.{LATEST, Fair, size, PlainFair, plainSize}
 use Rattle.trees.specs.Shapes.{changed}
-use Rattle.trees.specs.Nodes.{emptyOf, whiteOf, grayOf}
-use Rattle.trees.specs.Bounds.{LATEST, Fair, size, PlainFair, plainSize, Bounded}
-use Rattle.trees.specs.Searches.{gray}
+use Rattle.trees.specs.Bounds.{Bounded}
 use Rattle.trees.specs.Leaves as leaves
 use Rattle.trees.specs.Leaves.{Leaf, inTheta, leafNode, plainLeaf, startAt, durationAt, whiteAt, plainLeaves, Limited}
 use Rattle.trees.proofs.Wiring.{changed-is}
 
--- which leaves the searches take for gray
-pub gray-empty : gray emptyOf ≡ false
-unfolding gray
-gray-empty = refl
-
-pub gray-white : (v q : ℕ) → gray (whiteOf v q) ≡ false
-unfolding gray
-gray-white v q = elim (bool (eqb v 0)) [ inl t ↦ rw t | inr t ↦ rw t ]
-
-pub gray-gray : (v q : ℕ) → (v ≡ 0 → ⊥) → gray (grayOf v q) ≡ true
-unfolding gray
-gray-gray v q ne = rw (ne-eqb v 0 ne)
-
--- and for white
+-- which leaves the code takes for white
 pub white-is : (c : Leaf) (e p : ℕ) → 1 ≤ p → not (eqb (leafNode c e p .ect) 0) ≡ inTheta c
 white-is leaves.empty e p q = refl
 white-is leaves.white e p q = ap not (ne-eqb (e + p) 0 (λ z. omega arith))

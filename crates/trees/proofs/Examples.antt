@@ -7,8 +7,9 @@ use Prim.Native.Nat.{ℕ}
 use lib.ListN.{getD}
 use Rattle.scheduling.specs.Scheduling.{natural, Tasks}
 use Rattle.ects.specs.Ects.{decoded}
+use Rattle.nodes.specs.Nodes.{joinOf, isEmpty}
+use Rattle.nodes.specs.Descents as descents
 use Rattle.trees.specs.Shapes.{width, heightFrom, nodeOver}
-use Rattle.trees.specs.Nodes.{joinOf, isEmpty}
 use Rattle.trees.specs.Searches as searches
 use Rattle.trees.specs.Leaves.{Leaf, white, gray, empty, ect, ect-bar, sum, root, responsible, theta}
 
@@ -24,7 +25,7 @@ ls = white ∷ gray ∷ white ∷ []
 
 -- ect(Θ) is 9, with one task of Λ 12, and the third task, at place 1, is responsible
 example : (ect J estOrder ls ≡ some 9) × (ect-bar J estOrder ls ≡ some 12) × (sum J estOrder ls ≡ 9) × (responsible J estOrder ls ≡ some 1) × (theta J estOrder ls ≡ 0 ∷ 1 ∷ [])
-unfolding root responsible theta width heightFrom nodeOver decoded joinOf isEmpty searches.gray searches.tested searches.descentP searches.descentEct searches.stepP searches.stepEct searches.searchP searches.searchEct searches.thetaOf
+unfolding root responsible theta width heightFrom nodeOver decoded joinOf isEmpty descents.gray descents.tested descents.descentP descents.descentEct searches.stepP searches.stepEct searches.searchP searches.searchEct searches.thetaOf
 example = (refl, refl, refl, refl, refl)
 
 -- a task of Λ alone: Θ has no ect, and with that task it has one; where neither has a task there is none

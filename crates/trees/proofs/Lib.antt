@@ -1,8 +1,6 @@
 pub mod Heights
 pub mod Wiring
 pub mod Storage
-pub mod Joins
-pub mod Descents
 pub mod Steps
 pub mod Places
 pub mod Thetas

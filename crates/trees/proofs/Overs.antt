@@ -6,9 +6,9 @@ use Prim.Native.Nat.{ℕ, zero, suc, _+_}
 use native.Mathlib.Omega.{arith}
 use native.Mathlib.Nat.{add-zero}
 use Rattle.scheduling.proofs.LeafRanges as leafRange
-use Rattle.trees.specs.declared.theta_lambda_tree.Node.{Node}
+use Rattle.nodes.specs.declared.theta_lambda_node.Node.{Node}
+use Rattle.nodes.specs.Nodes.{joinOf}
 use Rattle.trees.specs.Shapes.{width, nodeOver}
-use Rattle.trees.specs.Nodes.{joinOf}
 use Rattle.trees.specs.Leaves.{Leaf, empty, white, gray, inTheta, inLambda, leafNode}
 use Rattle.trees.proofs.Heights.{once, twice}
 use Rattle.trees.proofs.Wiring.{over-leaf, over-join}

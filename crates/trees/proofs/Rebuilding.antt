@@ -10,17 +10,18 @@ use lib.ListN.{length, getD, set, length-set}
 use borrow.Author.Needs.{needs}
 use Rattle.integers.specs.Limits.{INNER, NODES}
 use Rattle.scheduling.specs.Scheduling.{natural, Tasks}
-use Rattle.trees.specs.declared.theta_lambda_tree.Node.{Node}
+use Rattle.nodes.specs.declared.theta_lambda_node.Node.{Node}
+use Rattle.nodes.specs.Nodes.{joinOf}
+use Rattle.nodes.specs.Bounds.{Fair, size, Fits}
+use Rattle.nodes.proofs.Joins.{Additive, additive}
 use Rattle.trees.specs.Shapes.{width, heightFor, leftmost, HasHeight, changed, leavesOf, nodeOver, TreeOf}
-use Rattle.trees.specs.Nodes.{joinOf}
 use Rattle.trees.specs.Words.{nodeAt}
-use Rattle.trees.specs.Bounds.{Fair, size, Fits, Bounded}
+use Rattle.trees.specs.Bounds.{Bounded}
 use Rattle.trees.specs.Puts.{Layable, Laid, Rebuildable, Rebuilt}
 use Rattle.trees.specs.Leaves as leaves
 use Rattle.trees.specs.Leaves.{Leaf, empty, leafNode, startAt, durationAt, Limited, IsTree, HasLeaves}
 use Rattle.trees.proofs.Heights.{root-height, inner-height, left-height, right-height, leaf-at, enough, room}
-use Rattle.trees.proofs.Wiring.{Additive, changed-here, changed-other, changed-inner, changed-leaf, over-leaf, over-is, over-fits}
-use Rattle.trees.proofs.Joins.{additive}
+use Rattle.trees.proofs.Wiring.{changed-here, changed-other, changed-inner, changed-leaf, over-leaf, over-is, over-fits}
 use Rattle.trees.proofs.Colours.{bounded, coloured}
 
 -- every node of a tree has a height ---------------------------------------------------------------------------------------------

@@ -10,21 +10,22 @@ use native.Mathlib.Nat.{add-zero}
 use Rattle.integers.proofs.Bools.{bool}
 use Rattle.scheduling.proofs.LeafRanges as leafRange
 use Rattle.scheduling.proofs.LeafRanges.{Blank, Bars, Join}
-use Rattle.trees.specs.declared.theta_lambda_tree.Node.{Node}
-use Rattle.trees.specs.declared.theta_lambda_tree.PDescent.{PDescent}
-use Rattle.trees.specs.declared.theta_lambda_tree.PDescent.the-variants.{Left, Right, Here, Nothing}
-use Rattle.trees.specs.declared.theta_lambda_tree.EctBarDescent.the-variants as bar
-use Rattle.trees.specs.declared.theta_lambda_tree.EctBarDescent.{EctBarDescent}
+use Rattle.nodes.specs.declared.theta_lambda_node.Node.{Node}
+use Rattle.nodes.specs.declared.theta_lambda_node.PDescent.{PDescent}
+use Rattle.nodes.specs.declared.theta_lambda_node.PDescent.the-variants.{Left, Right, Here, Nothing}
+use Rattle.nodes.specs.declared.theta_lambda_node.EctBarDescent.the-variants as bar
+use Rattle.nodes.specs.declared.theta_lambda_node.EctBarDescent.{EctBarDescent}
+use Rattle.nodes.specs.Nodes.{joinOf}
+use Rattle.nodes.specs.Descents.{gray}
+use Rattle.nodes.proofs.Descents.{TestFailed, FactP, FactEct, fact-p, fact-ect}
+use Rattle.nodes.proofs.Grays.{gray-empty, gray-white, gray-gray}
 use Rattle.trees.specs.Shapes.{width, nodeOver}
-use Rattle.trees.specs.Nodes.{joinOf}
-use Rattle.trees.specs.Searches.{gray, stepP, stepEct, searchP, searchEct}
+use Rattle.trees.specs.Searches.{stepP, stepEct, searchP, searchEct}
 use Rattle.trees.specs.Leaves as leaves
 use Rattle.trees.specs.Leaves.{Leaf, inTheta, inLambda, leafNode}
 use Rattle.trees.proofs.Heights.{once}
-use Rattle.trees.proofs.Descents.{TestFailed, FactP, FactEct, fact-p, fact-ect}
 use Rattle.trees.proofs.Steps.{inner-p-is, inner-ect-is, leaf-search-p, leaf-search-ect}
 use Rattle.trees.proofs.Overs.{Holds, over-holds}
-use Rattle.trees.proofs.Colours.{gray-empty, gray-white, gray-gray}
 
 module _ (colour : ℕ → Leaf) (e p : ℕ → ℕ) (lasts : (x : ℕ) → inLambda (colour x) ≡ true → 1 ≤ p x) where
   abbrev w : ℕ → Bool

@@ -23,8 +23,8 @@ use Rattle.scheduling.proofs.Scan.{scan, upto, and-in, and-out, widen, alone, j
 use Rattle.scheduling.specs.Moments.{ByEarliest}
 use Rattle.scheduling.proofs.LeafRanges as leafRange
 use Rattle.scheduling.proofs.Bars as bars
+use Rattle.nodes.specs.Bounds.{LATEST}
 use Rattle.trees.specs.Shapes.{width, heightFor}
-use Rattle.trees.specs.Bounds.{LATEST}
 use Rattle.trees.specs.Searches.{searchP}
 use Rattle.trees.specs.Leaves as leaves
 use Rattle.trees.specs.Leaves.{Leaf, empty, inTheta, inLambda, whiteAt, grayAt, taskAt, startAt, durationAt, Limited}

@@ -14,23 +14,24 @@ use borrow.Author.Needs.{needs}
 use borrow.Author.Tests.{le-leb, lt-leb, leb-false}
 use Rattle.integers.specs.Limits.{NODES, TASKS}
 use Rattle.integers.proofs.Bools.{bool, clash}
+use Rattle.nodes.specs.declared.theta_lambda_node.Node.{Node}
+use Rattle.nodes.specs.declared.theta_lambda_node.Around.{Around}
+use Rattle.nodes.specs.declared.theta_lambda_node.Around.the-variants as around
+use Rattle.nodes.specs.declared.theta_lambda_node.PDescent.{PDescent}
+use Rattle.nodes.specs.declared.theta_lambda_node.PDescent.the-variants.{Left, Right, Here, Nothing}
+use Rattle.nodes.specs.declared.theta_lambda_node.EctBarDescent.the-variants as bar
+use Rattle.nodes.specs.declared.theta_lambda_node.EctBarDescent.{EctBarDescent}
+use Rattle.nodes.specs.Nodes.{joinOf}
+use Rattle.nodes.specs.Bounds.{size, Fair, Fits}
+use Rattle.nodes.specs.Descents.{AroundFits, stepAtP, stepAtEct, gray, descentP, descentEct}
+use Rattle.nodes.proofs.Descents.{tagP, tagEct, never-here-p, never-here-ect}
+use Rattle.nodes.proofs.Joins.{additive}
 use Rattle.trees.specs.declared.disjunctive_task.LocalId.{LocalId}
 use Rattle.trees.specs.declared.theta_lambda_tree.Responsible.the-variants as responsible
-use Rattle.trees.specs.declared.theta_lambda_tree.Node.{Node}
-use Rattle.trees.specs.declared.theta_lambda_tree.Around.{Around}
-use Rattle.trees.specs.declared.theta_lambda_tree.Around.the-variants as around
-use Rattle.trees.specs.declared.theta_lambda_tree.PDescent.{PDescent}
-use Rattle.trees.specs.declared.theta_lambda_tree.PDescent.the-variants.{Left, Right, Here, Nothing}
-use Rattle.trees.specs.declared.theta_lambda_tree.EctBarDescent.the-variants as bar
-use Rattle.trees.specs.declared.theta_lambda_tree.EctBarDescent.{EctBarDescent}
 use Rattle.trees.specs.Shapes.{width, leftmost, HasHeight, leavesOf, nodeOver}
-use Rattle.trees.specs.Nodes.{joinOf}
-use Rattle.trees.specs.Bounds.{size, Fair, Fits}
-use Rattle.trees.specs.Searches.{aroundOf, AroundFits, stepAtP, stepAtEct, Searched, Searchable, gray, descentP, descentEct, stepP, stepEct, searchP, searchEct, nowhere, foundAt, responsibleOf}
+use Rattle.trees.specs.Searches.{aroundOf, Searched, Searchable, stepP, stepEct, searchP, searchEct, nowhere, foundAt, responsibleOf}
 use Rattle.trees.proofs.Heights.{leftmost-leaf, leftmost-left, leftmost-right, inner-height, left-height, right-height, leaf-at, height-inside, root-first}
 use Rattle.trees.proofs.Wiring.{node-is, over-fits}
-use Rattle.trees.proofs.Descents.{tagP, tagEct, never-here-p, never-here-ect}
-use Rattle.trees.proofs.Joins.{additive}
 
 module _ (leaf : ℕ → Node) where
   -- what the whole search is after a step from a node above the leaves

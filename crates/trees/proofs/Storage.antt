@@ -8,10 +8,10 @@ use lib.ListN.{getD, set, length, length-set, replicate}
 use lib.Seq.{getD-set-same, getD-set-other}
 use Rattle.integers.specs.Limits.{NODES, THETAWORDS, TREEWORDS}
 use Rattle.integers.proofs.Filling.{getD-fresh}
-use Rattle.trees.specs.declared.theta_lambda_tree.Node.{Node}
-use Rattle.trees.specs.declared.theta_tree.Node as plain
+use Rattle.nodes.specs.declared.theta_lambda_node.Node.{Node}
+use Rattle.nodes.specs.declared.theta_node.Node as plain
+use Rattle.nodes.specs.Nodes.{emptyOf, plainEmptyOf}
 use Rattle.trees.specs.Shapes.{changed}
-use Rattle.trees.specs.Nodes.{emptyOf, plainEmptyOf}
 use Rattle.trees.specs.Words.{nodeAt, plainAt}
 use Rattle.trees.proofs.Wiring.{changed-is}
 

@@ -10,21 +10,24 @@ use lib.ListN.{length, getD, set, length-set, replicate, length-replicate}
 use Rattle.integers.specs.Limits.{TASKS, THETAWORDS, TREEWORDS}
 use Rattle.integers.proofs.Filling.{getD-fresh}
 use Rattle.scheduling.specs.Scheduling.{natural, Tasks}
-use Rattle.trees.specs.declared.theta_lambda_tree.Node.{Node}
-use Rattle.trees.specs.declared.theta_tree.Node as plain
+use Rattle.nodes.specs.declared.theta_lambda_node.Node.{Node}
+use Rattle.nodes.specs.declared.theta_node.Node as plain
 use Rattle.ects.specs.Ects.{decoded}
+use Rattle.nodes.specs.Nodes.{joinOf, plainOf, plainJoinOf}
+use Rattle.nodes.specs.Bounds.{Fair, size, PlainFair, plainSize}
+use Rattle.nodes.specs.Descents.{gray}
+use Rattle.nodes.proofs.Grays.{gray-empty}
 use Rattle.trees.specs.Shapes.{width, heightFor, changed, leavesOf, nodeOver, TreeOf}
-use Rattle.trees.specs.Nodes.{joinOf, plainOf, plainJoinOf}
 use Rattle.trees.specs.Words.{nodeAt, plainAt, ectIn, ectBarIn, plainEctIn}
-use Rattle.trees.specs.Bounds.{Fair, size, PlainFair, plainSize, Bounded, CanPut}
+use Rattle.trees.specs.Bounds.{Bounded, CanPut}
 use Rattle.trees.specs.Puts.{Puttable, Put, PlainPuttable, PlainPut}
-use Rattle.trees.specs.Searches.{Searchable, gray, searchEct, isWhite, thetaOf}
+use Rattle.trees.specs.Searches.{Searchable, searchEct, isWhite, thetaOf}
 use Rattle.trees.specs.Leaves as leaves
 use Rattle.trees.specs.Leaves.{Leaf, empty, inTheta, leafNode, plainLeaf, taskAt, startAt, durationAt, whiteAt, plainLeaves, root, responsible, theta, Limited, IsTree, IsPlainTree}
 use Rattle.trees.proofs.Heights.{enough, room, root-height}
 use Rattle.trees.proofs.Wiring.{over-leaf, over-join, own-leaves, own-tree, root-is}
 use Rattle.trees.proofs.Storage.{blank-nodes, plain-blank-nodes}
-use Rattle.trees.proofs.Colours.{gray-empty, white-is, past-empty, bounded, plain-bounded, coloured}
+use Rattle.trees.proofs.Colours.{white-is, past-empty, bounded, plain-bounded, coloured}
 use Rattle.trees.proofs.Thetas.{theta-same}
 
 -- Nodes of any kind over the leaves' colours: `node` is that of a leaf, by colour and place.

@@ -8,8 +8,10 @@ use borrow.Author.Needs.{needs}
 use borrow.Author.Tests.{eq-eqb, ne-eqb}
 use Rattle.integers.specs.Limits.{INNER, NODES}
 use Rattle.scheduling.specs.Scheduling.{total}
+use Rattle.nodes.specs.Bounds.{Fits}
+use Rattle.nodes.proofs.Joins.{Additive}
 use Rattle.trees.specs.Shapes.{width, leftmost, HasHeight, changed, leavesOf, nodeOver, TreeOf}
-use Rattle.trees.specs.Bounds.{Fits, Bounded, NeedsUpheap, CanPut}
+use Rattle.trees.specs.Bounds.{Bounded, NeedsUpheap, CanPut}
 use Rattle.trees.proofs.Heights.{once, twice, leftmost-leaf, leftmost-left, leftmost-right, root-height, root-first, inner-height, left-height, right-height, one-height, Path, path-height, path-up, leaf-path}
 
 -- one value changed
@@ -92,11 +94,6 @@ module _ {A : Type 0} (join : A → A → A) where
   own-tree m leaf at t = record { joins = t .joins; leaves = λ k. refl }
 
 -- bounds -----------------------------------------------------------------------------------------------------------------------
-
--- A join keeps nodes fair, and is at most as large as its children together.
-pub record Additive {A : Type 0} (size : A → ℕ) (Fair : A → Type 0) (join : A → A → A) : Type 0 where
-  pub adds : (l r : A) → Fair l → Fair r → size (join l r) ≤ size l + size r
-  pub keeps : (l r : A) → Fair l → Fair r → Fair (join l r)
 
 total-suc : (f : ℕ → ℕ) (n : ℕ) → total f (suc n) ≡ total f n + f n
 unfolding total

@@ -1,39 +1,12 @@
--- What keeps the numbers of a tree within 32 bits: earliest starts up to LATEST, and durations that sum to at most DURATIONS.
+-- Leaves whose tree has only nodes within bounds, and an array of such a tree of which one leaf changes.
 use mathlib.Core.Path.{_≡_}
 use Prim.Native.Nat.{ℕ, _+_, _*_, _≤_, _<_}
-use Rattle.integers.specs.Limits.{DURATIONS, VALUE, HOLES, INNER}
-use Rattle.integers.specs.Moments.{zeroAt}
+use Rattle.integers.specs.Limits.{DURATIONS, INNER}
 use Rattle.scheduling.specs.Scheduling.{total}
-use Rattle.trees.specs.declared.theta_lambda_tree.Node.{Node}
-use Rattle.trees.specs.declared.theta_tree.Node as plain
 use Rattle.trees.specs.Shapes.{width, leavesOf, changed, TreeOf}
 
--- the latest moment of an earliest start: an atom's value, past a chain of holes
-abbrev pub LATEST : ℕ
-LATEST = zeroAt + VALUE + HOLES + 1
-
--- An ect is at most the latest earliest start and the sum, and the bars are at least the plain values.
-pub record Fair (n : Node) : Type 0 where
-  pub ect : n .ect ≤ LATEST + n .«sum_of_processing_times»
-  pub ect-bar : n .«ect_bar» ≤ LATEST + n .«sum_of_processing_times_bar»
-  pub sum : n .«sum_of_processing_times» ≤ n .«sum_of_processing_times_bar»
-
-abbrev pub size : Node → ℕ
-size n = n .«sum_of_processing_times_bar»
-
-pub record PlainFair (n : plain.Node) : Type 0 where
-  pub ect : n .ect ≤ LATEST + n .«sum_of_processing_times»
-
-abbrev pub plainSize : plain.Node → ℕ
-plainSize n = n .«sum_of_processing_times»
-
 module _ {A : Type 0} (size : A → ℕ) (Fair : A → Type 0) where
-  -- a node whose numbers can be added
-  pub record Fits (n : A) : Type 0 where
-    pub fair : Fair n
-    pub small : size n ≤ DURATIONS
-
-  -- leaves whose tree has only such nodes
+  -- leaves whose tree has only nodes whose numbers can be added
   pub record Bounded (leaf : ℕ → A) : Type 0 where
     pub fair : (k : ℕ) → Fair (leaf k)
     pub small : (n : ℕ) → total (λ k. size (leaf k)) n ≤ DURATIONS

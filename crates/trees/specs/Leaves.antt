@@ -7,13 +7,13 @@ use Prim.Native.Nat.{ℕ, _+_, _≤_, _<_}
 use lib.ListN.{length, getD}
 use Rattle.integers.specs.Limits.{TASKS, DURATIONS, THETAWORDS, TREEWORDS}
 use Rattle.scheduling.specs.Scheduling.{natural, Tasks, total}
-use Rattle.trees.specs.declared.theta_lambda_tree.Node.{Node}
-use Rattle.trees.specs.declared.theta_tree.Node as plain
+use Rattle.nodes.specs.declared.theta_lambda_node.Node.{Node}
+use Rattle.nodes.specs.declared.theta_node.Node as plain
 use Rattle.ects.specs.Ects.{decoded}
+use Rattle.nodes.specs.Nodes.{emptyOf, whiteOf, grayOf, joinOf, plainEmptyOf, plainOf, plainJoinOf}
+use Rattle.nodes.specs.Bounds.{LATEST}
 use Rattle.trees.specs.Shapes.{width, heightFor, nodeOver, TreeOf}
-use Rattle.trees.specs.Nodes.{emptyOf, whiteOf, grayOf, joinOf, plainEmptyOf, plainOf, plainJoinOf}
 use Rattle.trees.specs.Words.{nodeAt, plainAt}
-use Rattle.trees.specs.Bounds.{LATEST}
 use Rattle.trees.specs.Searches.{searchEct, thetaOf}
 
 pub data Leaf : Type 0 where

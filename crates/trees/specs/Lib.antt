@@ -1,5 +1,4 @@
 pub mod Shapes
-pub mod Nodes
 pub mod Words
 pub mod Bounds
 pub mod Puts

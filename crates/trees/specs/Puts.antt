@@ -4,13 +4,14 @@ use mathlib.Core.List.{List}
 use Prim.Native.Nat.{ℕ, _+_, _≤_}
 use lib.ListN.{length}
 use Rattle.integers.specs.Limits.{INNER, THETAWORDS, TREEWORDS}
+use Rattle.nodes.specs.declared.theta_lambda_node.Node.{Node}
+use Rattle.nodes.specs.declared.theta_node.Node as plain
+use Rattle.nodes.specs.Nodes.{whiteOf, grayOf, joinOf, plainOf, plainJoinOf}
+use Rattle.nodes.specs.Bounds.{Fair, size, PlainFair, plainSize, Fits}
 use Rattle.trees.specs.declared.disjunctive_task.DisjunctiveTask.{DisjunctiveTask}
-use Rattle.trees.specs.declared.theta_lambda_tree.Node.{Node}
-use Rattle.trees.specs.declared.theta_tree.Node as plain
 use Rattle.trees.specs.Shapes.{width, leavesOf, changed, TreeOf}
-use Rattle.trees.specs.Nodes.{whiteOf, grayOf, joinOf, plainOf, plainJoinOf}
 use Rattle.trees.specs.Words.{nodeAt, plainAt}
-use Rattle.trees.specs.Bounds.{Fair, size, PlainFair, plainSize, Fits, Bounded, CanPut}
+use Rattle.trees.specs.Bounds.{Bounded, CanPut}
 
 -- the leaf of a task of Theta, and of one of Lambda
 abbrev pub whiteTask : DisjunctiveTask → Node

@@ -1,5 +1,5 @@
 -- The two searches for the responsible task, as in the source: down from a node, by the tests in their order, to the leaf of a gray task.
-use mathlib.Core.Bool.{Bool, true, false, _&&_, not}
+use mathlib.Core.Bool.{Bool, true, false, not}
 use mathlib.Core.Option.{Option, some, none}
 use mathlib.Core.List.{List, [], _∷_}
 use mathlib.Core.Path.{_≡_}
@@ -7,66 +7,25 @@ use Prim.Native.Nat.{ℕ, zero, suc, _+_, _*_, _≤_, _<_}
 use lib.Dec.{eqb, leb}
 use lib.ListN.{getD}
 use Rattle.integers.specs.Limits.{TASKS, NODES, INNER}
-use Rattle.trees.specs.declared.theta_lambda_tree.Node.{Node}
-use Rattle.trees.specs.declared.theta_lambda_tree.Around.{Around}
-use Rattle.trees.specs.declared.theta_lambda_tree.Around.the-variants as around
-use Rattle.trees.specs.declared.theta_lambda_tree.PDescent.{PDescent}
-use Rattle.trees.specs.declared.theta_lambda_tree.PDescent.the-variants.{Left, Right, Here, Nothing}
-use Rattle.trees.specs.declared.theta_lambda_tree.EctBarDescent.the-variants as bar
-use Rattle.trees.specs.declared.theta_lambda_tree.EctBarDescent.{EctBarDescent}
+use Rattle.nodes.specs.declared.theta_lambda_node.Node.{Node}
+use Rattle.nodes.specs.declared.theta_lambda_node.Around.{Around}
+use Rattle.nodes.specs.declared.theta_lambda_node.Around.the-variants as around
+use Rattle.nodes.specs.declared.theta_lambda_node.PDescent.{PDescent}
+use Rattle.nodes.specs.declared.theta_lambda_node.PDescent.the-variants.{Left, Right, Here, Nothing}
+use Rattle.nodes.specs.declared.theta_lambda_node.EctBarDescent.the-variants as bar
+use Rattle.nodes.specs.declared.theta_lambda_node.EctBarDescent.{EctBarDescent}
+use Rattle.nodes.specs.Nodes.{joinOf}
+use Rattle.nodes.specs.Bounds.{size, Fair}
+use Rattle.nodes.specs.Descents.{gray, descentP, descentEct}
 use Rattle.trees.specs.declared.theta_lambda_tree.Responsible.the-variants as responsible
 use Rattle.trees.specs.declared.theta_lambda_tree.Responsible.{Responsible}
 use Rattle.trees.specs.Shapes.{width, nodeOver, leavesOf, TreeOf, HasHeight}
-use Rattle.trees.specs.Nodes.{joinOf, isEmpty}
 use Rattle.trees.specs.Words.{nodeAt}
-use Rattle.trees.specs.Bounds.{size, Fair, Fits, Bounded}
-
--- a gray leaf: with the gray task it has an ect, without it none
-unfoldable pub gray : Node → Bool
-gray n = not (eqb (n .«ect_bar») 0) && eqb (n .ect) 0
-
--- the child is not empty, and the value is this one
-unfoldable pub tested : Node → ℕ → ℕ → Bool
-tested child value this = not (isEmpty child) && eqb value this
-
--- Where the gray task of a node's sum bar is, by its children.
-unfoldable pub descentP : Node → Node → Node → PDescent
-descentP n l r =
-    elim (tested l (n .«sum_of_processing_times_bar») (l .«sum_of_processing_times_bar» + r .«sum_of_processing_times»)) [
-      | true ↦ Left
-      | false ↦ elim (tested r (n .«sum_of_processing_times_bar») (l .«sum_of_processing_times» + r .«sum_of_processing_times_bar»))
-          [ true ↦ Right | false ↦ Nothing ]
-    ]
-
--- Where the gray task of a node's ect bar is: in the right child's ect bar, in its sum bar, or in the left child's ect bar.
-unfoldable pub descentEct : Node → Node → Node → EctBarDescent
-descentEct n l r =
-    elim (tested r (n .«ect_bar») (r .«ect_bar»)) [
-      | true ↦ bar.Right
-      | false ↦ elim (tested r (n .«ect_bar») (l .ect + r .«sum_of_processing_times_bar»)) [
-        | true ↦ bar.RightP
-        | false ↦ elim (tested l (n .«ect_bar») (l .«ect_bar» + r .«sum_of_processing_times»))
-            [ true ↦ bar.Left | false ↦ bar.Nothing ]
-      ]
-    ]
+use Rattle.trees.specs.Bounds.{Bounded}
 
 -- What a search reads at node i of an array with m inner nodes.
 unfoldable pub aroundOf : ℕ → (ℕ → Node) → ℕ → Around
 aroundOf m at i = elim (leb m i) [ true ↦ around.Leaf (at i) | false ↦ around.Inner (at i) (at (2 * i + 1)) (at (2 * i + 2)) ]
-
--- the children's numbers can be added
-abbrev pub AroundFits : Around → Type 0
-AroundFits (around.Leaf n) = Unit {0}
-AroundFits (around.Inner n l r) = Fits size Fair l × Fits size Fair r
-
--- the step from there
-abbrev pub stepAtP : Around → PDescent
-stepAtP (around.Leaf n) = elim (gray n) [ true ↦ Here | false ↦ Nothing ]
-stepAtP (around.Inner n l r) = descentP n l r
-
-abbrev pub stepAtEct : Around → EctBarDescent
-stepAtEct (around.Leaf n) = elim (gray n) [ true ↦ bar.Here | false ↦ bar.Nothing ]
-stepAtEct (around.Inner n l r) = descentEct n l r
 
 -- Below the node of height h over the leaves from a on: the next step of each search, and the place of the leaf where it ends, or none.
 module _ (leaf : ℕ → Node) where

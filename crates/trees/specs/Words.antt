@@ -3,8 +3,8 @@ use mathlib.Core.List.{List}
 use mathlib.Core.Option.{Option}
 use Prim.Native.Nat.{ℕ, _+_, _*_}
 use lib.ListN.{getD}
-use Rattle.trees.specs.declared.theta_lambda_tree.Node.{Node}
-use Rattle.trees.specs.declared.theta_tree.Node as plain
+use Rattle.nodes.specs.declared.theta_lambda_node.Node.{Node}
+use Rattle.nodes.specs.declared.theta_node.Node as plain
 use Rattle.ects.specs.Ects.{decoded}
 
 -- the i-th node of the words

@@ -13,61 +13,20 @@ use crate::disjunctive_task::LeafPlace;
 use ects::earliest_completion::Ect;
 use integers::limits::TASKS;
 use integers::limits::THETAWORDS;
-use integers::max;
+use nodes::theta_node::Node;
 ghost use mathlib.Core.Path.{_≡_};
 ghost use Prim.Native.Nat.{_+_, _≤_, _<_};
 ghost use lib.ListN.{length, take};
 ghost use Rattle.integers.specs.Limits.{NODES, TASKS, THETAWORDS};
 ghost use Rattle.integers.specs.Orders.{Permutes};
 ghost use Rattle.ects.specs.Ects.{momentOf};
+ghost use Rattle.nodes.specs.Nodes.{plainJoinOf};
+ghost use Rattle.nodes.specs.Bounds.{PlainFair, plainSize};
 ghost use Rattle.trees.specs.Shapes.{changed, leavesOf, TreeOf};
-ghost use Rattle.trees.specs.Nodes.{plainEmptyOf, plainOf, plainJoinOf};
 ghost use Rattle.trees.specs.Words.{plainAt, plainEctIn};
-ghost use Rattle.trees.specs.Bounds.{PlainFair, plainSize, Fits, NeedsUpheap};
+ghost use Rattle.trees.specs.Bounds.{NeedsUpheap};
 ghost use Rattle.trees.specs.Puts.{plainTask, PlainPuttable, PlainPut};
 ghost use Rattle.trees.specs.Mappings.{PlainNew};
-
-// A node which keeps track of the ect and the sum of processing times of the tasks below it.
-pub struct Node {
-    pub ect: u32,
-    pub sum_of_processing_times: u32,
-}
-
-impl Node {
-    // Constructs an empty node.
-    pub fn empty() -> Node
-        ensures { λ n. ⌜ n ≡ plainEmptyOf ⌝ }
-    {
-        Node {
-            ect: 0,
-            sum_of_processing_times: 0,
-        }
-    }
-
-    // Constructs a new node with the provided value.
-    pub fn new(ect: u32, sum_of_processing_times: u32) -> Node
-        ensures { λ n. ⌜ n ≡ plainOf ect «sum_of_processing_times» ⌝ }
-    {
-        Node {
-            ect,
-            sum_of_processing_times,
-        }
-    }
-
-    // A parent from its children.
-    fn join(l: Node, r: Node) -> Node
-        requires { ⌜ Fits plainSize PlainFair l × Fits plainSize PlainFair r ⌝ }
-        ensures { λ n. ⌜ n ≡ plainJoinOf l r ⌝ }
-    {
-        let sum = l.sum_of_processing_times + r.sum_of_processing_times;
-        let ect_left = l.ect + r.sum_of_processing_times;
-        let ect = max(r.ect, ect_left);
-        Node {
-            ect,
-            sum_of_processing_times: sum,
-        }
-    }
-}
 
 // The i-th node of the words.
 fn load(nodes: &[u32; THETAWORDS], i: usize) -> Node

@@ -9,8 +9,10 @@ use borrow.Author.Needs.{needs}
 use Rattle.integers.specs.Moments.{zeroAt}
 use Rattle.runs.specs.Runs.{conflict}
 use Rattle.trees.specs.Searches.{whiteIn, taskIn}
-use Rattle.explanations.specs.Explanations.{starting, between, Overloaded, Stored}
-use Rattle.explanations.proofs.Walking.{all-leaves}
+use Rattle.theta_walks.specs.Walks.{between}
+use Rattle.theta_walks.specs.Writing.{starting, Stored}
+use Rattle.explanations.specs.Explanations.{Overloaded}
+use Rattle.theta_walks.proofs.Walking.{all-leaves}
 use Rattle.explanations.proofs.Storing.{Overflow, overflow, overload-walk, overload-known, overload-stops, overload-writable, conflict-stored}
 use Rattle.explanations.proofs.create_conflict_explanation.Statement.{statement}
 use Rattle.explanations.proofs.create_conflict_explanation.Tie as tie

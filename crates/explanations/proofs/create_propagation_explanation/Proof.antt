@@ -9,9 +9,12 @@ use borrow.Author.Needs.{needs}
 use Rattle.integers.specs.Moments.{zeroAt}
 use Rattle.runs.specs.Runs.{propagation}
 use Rattle.trees.specs.Searches.{whiteIn, taskIn}
-use Rattle.explanations.specs.Explanations.{starting, between, Preceded, Stored}
-use Rattle.explanations.proofs.Walking.{all-leaves}
-use Rattle.explanations.proofs.Storing.{post-walk, post-known, bound-walk, post-writable, Reach, reach, last-room, stored-length, propagation-stored}
+use Rattle.theta_walks.specs.Walks.{between}
+use Rattle.theta_walks.specs.Writing.{starting, Stored}
+use Rattle.explanations.specs.Explanations.{Preceded}
+use Rattle.theta_walks.proofs.Walking.{all-leaves}
+use Rattle.theta_walks.proofs.Writing.{stored-length}
+use Rattle.explanations.proofs.Storing.{post-walk, post-known, bound-walk, post-writable, Reach, reach, last-room, propagation-stored}
 use Rattle.explanations.proofs.create_propagation_explanation.Statement.{statement}
 use Rattle.explanations.proofs.create_propagation_explanation.Tie as tie
 

@@ -1,7 +1,7 @@
 -- `request_answers::reason_numbers` meets its contract: each case gives its own numbers.
 -- Assumes nothing.
 use mathlib.Core.Path.{sym, _∙_}
-use Rattle.precedences.specs.Numbers.{reasonNumbers}
+use Rattle.precedence_reasons.specs.Numbers.{reasonNumbers}
 use Rattle.answers.specs.RequestAnswers.{countAnswer}
 use borrow.Author.Needs.{needs}
 use Rattle.answers.proofs.request_answers.reason_numbers.Statement.{statement}

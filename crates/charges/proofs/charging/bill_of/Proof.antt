@@ -12,7 +12,7 @@ use Rattle.integers.proofs.Ints.{back-of}
 use Rattle.scheduling.specs.Scheduling.{total}
 use Rattle.scheduling.proofs.Sets.{total-none, total-more}
 use Rattle.sorts.specs.Orders.{noTasks}
-use Rattle.records.specs.Refusals.{StartFits}
+use Rattle.input_refusals.specs.Refusals.{StartFits}
 use Rattle.fixed_schedules.specs.FixedSchedules.{startAt, endAt}
 use Rattle.charges.specs.Tariff.{minutesLate, costOf}
 use Rattle.charges.specs.Charging.{DueFits, chargeAt}

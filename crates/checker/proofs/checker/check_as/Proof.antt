@@ -8,8 +8,9 @@ use borrow.Author.Needs.{needs}
 use borrow.Author.Tests.{not-true, not-false}
 use Rattle.atoms.specs.Atoms.{consequentOf}
 use Rattle.checking.specs.declared.start_bounds.Bounds.{Bounds}
+use Rattle.formulas.specs.BoundArrays.{mirroredBounds}
 use Rattle.checker.specs.declared.checker.Verdict.{Verdict}
-use Rattle.checker.specs.CheckArrays.{mirroredBounds, Judgeable, Consequent}
+use Rattle.checker.specs.CheckArrays.{Judgeable, Consequent}
 use Rattle.checker.specs.MirroredChecks.{lowerAs, upperAs, judgedAs, checkAs}
 use Rattle.checker.proofs.Answers.{is-refused, contradicted, refused-atoms, few-tasks, can-judge, can-judge-mirrored, consequent-right, concluded-by}
 use Rattle.checker.proofs.Verdicts.{tasksOf, twoSided}

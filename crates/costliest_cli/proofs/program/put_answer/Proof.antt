@@ -3,7 +3,7 @@ use mathlib.Core.Path.{sym, ap, subst, _∙_}
 use Prim.Native.Nat.{_≤_}
 use native.Mathlib.Omega.{arith}
 use Rattle.integers.specs.Limits.{TASKS}
-use Rattle.plan_cli.proofs.Printing.{puts-as}
+use Rattle.plan_text.proofs.Printing.{puts-as}
 use Rattle.costliest_cli.specs.Asked.{Fits}
 use Rattle.costliest_cli.specs.Written.{answerLines}
 use borrow.Author.Needs.{needs}

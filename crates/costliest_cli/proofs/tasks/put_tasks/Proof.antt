@@ -5,8 +5,8 @@ use native.Mathlib.Omega.{arith}
 use lib.ListN.{length, take}
 use Rattle.text.specs.Writing.{Puts}
 use Rattle.text.proofs.Putting.{puts-length}
-use Rattle.plan_cli.specs.Lines.{lines}
-use Rattle.plan_cli.proofs.Printing.{puts-first, puts-all}
+use Rattle.plan_text.specs.Lines.{lines}
+use Rattle.plan_text.proofs.Printing.{puts-first, puts-all}
 use Rattle.costliest_cli.specs.Tasks.{taskLine, costliestTask, costliest}
 use Rattle.costliest_cli.proofs.Putting.{costliest-length, puts-one-more}
 use borrow.Author.Needs.{needs}

@@ -48,6 +48,10 @@ use Rattle.barred_starts.specs.Ranges.{earliests, latests}
 use Rattle.lent_ranges.specs.declared.starts.Starts.{Starts}
 use Rattle.lent_ranges.proofs.TakenApart.{starts-fit, bars-of, apart}
 use Rattle.lent_ranges.proofs.starts.Lending.{rangesVal, StartsOf, calls-starts}
+use Rattle.range_cores.proofs.cores.overload_core as overload-core
+use Rattle.range_cores.proofs.cores.overload_core.Symbol as overload-core-def
+use Rattle.range_cores.proofs.cores.overload_core.Symbol.{name as #overload-core}
+use Rattle.range_cores.proofs.cores.overload_core.Met as overload-core-thm
 use Rattle.disjunctive.proofs.Calls.{calls-by}
 use Rattle.disjunctive.proofs.Routines.{by-walk}
 use Rattle.disjunctive.proofs.ranges.LentRecord.{machP, looks-into, shuts-record}
@@ -57,10 +61,6 @@ use Rattle.lent_ranges.proofs.starts.Starts.Laws as S′
 use Rattle.lent_ranges.proofs.starts.starts_of.Symbol as starts-of-def
 use Rattle.lent_ranges.proofs.starts.starts_of.Symbol.{name as #starts-of}
 use Rattle.lent_ranges.proofs.starts.starts_of.Met as starts-of-thm
-use Rattle.disjunctive.proofs.ranges.overload_core as overload-core
-use Rattle.disjunctive.proofs.ranges.overload_core.Symbol as overload-core-def
-use Rattle.disjunctive.proofs.ranges.overload_core.Symbol.{name as #overload-core}
-use Rattle.disjunctive.proofs.ranges.overload_core.Met as overload-core-thm
 use Rattle.disjunctive.proofs.ranges.overload_test.Key.{name as #overload-test}
 use Rattle.disjunctive.proofs.ranges.overload_test as f
 use Rattle.disjunctive.proofs.ranges.overload_test.Statement as stated
@@ -148,4 +148,4 @@ overload-test-spec 𝓤 H 𝓜 𝓖 𝓡 =
     by-walk 𝓤 H 𝓜 𝓖 𝓡 f.ended stayed (goes-dropped 𝓤 H (𝓖 .A) W 2 (shrRefTo (0 ∷ []) tt (plain (λ _. P.the-row))) yes (λ κs x f. refl), (goes-dropped 𝓤 H (𝓖 .A) W 2 (shrSliceOf (1 ∷ []) tt (plain (λ _. T.the-row))) yes (λ κs x f. refl), tt)) (f.clauses 𝓤 H (𝓖 .A) (𝓜 .mem) (𝓡 .run)) code.env #overload-test code.function (code.unfolded 𝓤 H 𝓜 𝓡)
     (λ fm. f-walks 𝓤 H (𝓖 .A) W (𝓜 .mem) (𝓡 .run) (tables 𝓤 H 𝓜 𝓡 code.env .C) (tables 𝓤 H 𝓜 𝓡 code.env .Λ) fm
     (cited 𝓤 H (StartsOf 𝓤 H (𝓖 .A) (𝓜 .mem) (𝓡 .run)) 𝓜 𝓡 code.env #starts-of starts-of-def.routine code.calls-lent-ranges·starts·starts-of (starts-of-thm.met 𝓤 H 𝓜 𝓖 𝓡))
-    (cited 𝓤 H (Core 𝓤 H (𝓖 .A) (𝓜 .mem) (𝓡 .run)) 𝓜 𝓡 code.env #overload-core overload-core-def.routine code.calls-disjunctive·ranges·overload-core (overload-core-thm.met 𝓤 H 𝓜 𝓖 𝓡)))
+    (cited 𝓤 H (Core 𝓤 H (𝓖 .A) (𝓜 .mem) (𝓡 .run)) 𝓜 𝓡 code.env #overload-core overload-core-def.routine code.calls-range-cores·cores·overload-core (overload-core-thm.met 𝓤 H 𝓜 𝓖 𝓡)))

@@ -47,9 +47,14 @@ use Rattle.levels.proofs.outcome.Finished as F
 use Rattle.levels.proofs.outcome.Finished.Laws as F′
 use Rattle.barred_starts.specs.declared.range.Range.{Range}
 use Rattle.promises.specs.RanLent.{RanLent}
-use Rattle.disjunctive.specs.Ranges.{RanCore}
-use Rattle.disjunctive.specs.declared.ranges.CoreRun.{CoreRun}
+use Rattle.range_cores.specs.Cores.{RanCore}
+use Rattle.range_cores.specs.declared.cores.CoreRun.{CoreRun}
 use Rattle.lent_ranges.proofs.TakenApart.{starts-fit}
+use Rattle.range_cores.proofs.cores.CoreRun as R
+use Rattle.range_cores.proofs.cores.CoreRun.Laws as R′
+use Rattle.range_cores.proofs.cores.run_core.Symbol as run-core-def
+use Rattle.range_cores.proofs.cores.run_core.Symbol.{name as #run-core}
+use Rattle.range_cores.proofs.cores.run_core.Met as run-core-thm
 use Rattle.disjunctive.proofs.LentRuns.{lent-run}
 use Rattle.lent_ranges.proofs.starts.Lending.{rangesVal, rangesAt, StartsOf, calls-starts-mut, Store, calls-store}
 use Rattle.disjunctive.proofs.Routines.{by-walk}
@@ -58,14 +63,9 @@ use Rattle.disjunctive.proofs.ranges.CoreCalls.{wordsVal, tokens, Core,
 use Rattle.barred_starts.proofs.range.Range as T
 use Rattle.lent_ranges.proofs.starts.Starts as S
 use Rattle.lent_ranges.proofs.starts.Starts.Laws as S′
-use Rattle.disjunctive.proofs.ranges.CoreRun as R
-use Rattle.disjunctive.proofs.ranges.CoreRun.Laws as R′
 use Rattle.lent_ranges.proofs.starts.starts_of.Symbol as starts-of-def
 use Rattle.lent_ranges.proofs.starts.starts_of.Symbol.{name as #starts-of}
 use Rattle.lent_ranges.proofs.starts.starts_of.Met as starts-of-thm
-use Rattle.disjunctive.proofs.ranges.run_core.Symbol as run-core-def
-use Rattle.disjunctive.proofs.ranges.run_core.Symbol.{name as #run-core}
-use Rattle.disjunctive.proofs.ranges.run_core.Met as run-core-thm
 use Rattle.lent_ranges.proofs.starts.store_starts.Symbol as store-starts-def
 use Rattle.lent_ranges.proofs.starts.store_starts.Symbol.{name as #store-starts}
 use Rattle.lent_ranges.proofs.starts.store_starts.Met as store-starts-thm
@@ -181,5 +181,5 @@ run-spec 𝓤 H 𝓜 𝓖 𝓡 =
     by-walk 𝓤 H 𝓜 𝓖 𝓡 f.ended stayed (goes-ref 𝓤 H (𝓖 .A) W 4 0 tt (plain (λ _. P.the-row)), (goes-gave-slice 𝓤 H (𝓖 .A) W 4 1 tt (plain (λ _. T.the-row)), (goes-gave-slice 𝓤 H (𝓖 .A) W 4 2 tt (plain (λ _. i32)), (goes-gave-slice 𝓤 H (𝓖 .A) W 4 3 tt (plain (λ _. i32)), tt)))) (f.clauses 𝓤 H (𝓖 .A) (𝓜 .mem) (𝓡 .run)) code.env #run code.function (code.unfolded 𝓤 H 𝓜 𝓡)
     (λ fm. f-walks 𝓤 H (𝓖 .A) W (𝓜 .mem) (𝓡 .run) (tables 𝓤 H 𝓜 𝓡 code.env .C) (tables 𝓤 H 𝓜 𝓡 code.env .Λ) fm
     (cited 𝓤 H (StartsOf 𝓤 H (𝓖 .A) (𝓜 .mem) (𝓡 .run)) 𝓜 𝓡 code.env #starts-of starts-of-def.routine code.calls-lent-ranges·starts·starts-of (starts-of-thm.met 𝓤 H 𝓜 𝓖 𝓡))
-    (cited 𝓤 H (Core R.the-row RanCore 𝓤 H (𝓖 .A)) 𝓜 𝓡 code.env #run-core run-core-def.routine code.calls-disjunctive·ranges·run-core (run-core-thm.met 𝓤 H 𝓜 𝓖 𝓡))
+    (cited 𝓤 H (Core R.the-row RanCore 𝓤 H (𝓖 .A)) 𝓜 𝓡 code.env #run-core run-core-def.routine code.calls-range-cores·cores·run-core (run-core-thm.met 𝓤 H 𝓜 𝓖 𝓡))
     (cited 𝓤 H (Store 𝓤 H (𝓖 .A) (𝓜 .mem) (𝓡 .run)) 𝓜 𝓡 code.env #store-starts store-starts-def.routine code.calls-lent-ranges·starts·store-starts (store-starts-thm.met 𝓤 H 𝓜 𝓖 𝓡)))

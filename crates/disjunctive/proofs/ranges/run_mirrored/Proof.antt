@@ -51,10 +51,15 @@ use Rattle.levels.proofs.outcome.Outcome.Laws as O′
 use Rattle.barred_starts.specs.declared.range.Range.{Range}
 use Rattle.barred_starts.specs.Ranges.{withLatests}
 use Rattle.promises.specs.RanLent.{RanMirroredLent}
-use Rattle.disjunctive.specs.Ranges.{RanMirroredCore}
+use Rattle.range_cores.specs.Cores.{RanMirroredCore}
 use Rattle.lent_ranges.specs.declared.starts.Starts.{Starts}
-use Rattle.disjunctive.specs.declared.ranges.CoreMirrored.{CoreMirrored}
+use Rattle.range_cores.specs.declared.cores.CoreMirrored.{CoreMirrored}
 use Rattle.lent_ranges.proofs.TakenApart.{starts-fit}
+use Rattle.range_cores.proofs.cores.CoreMirrored as R
+use Rattle.range_cores.proofs.cores.CoreMirrored.Laws as R′
+use Rattle.range_cores.proofs.cores.mirrored_core.Symbol as mirrored-core-def
+use Rattle.range_cores.proofs.cores.mirrored_core.Symbol.{name as #mirrored-core}
+use Rattle.range_cores.proofs.cores.mirrored_core.Met as mirrored-core-thm
 use Rattle.disjunctive.proofs.LentRuns.{lent-mirrored-run}
 use Rattle.lent_ranges.proofs.starts.Lending.{machS, rangesVal, rangesAt, StartsOf, calls-starts-mut}
 use Rattle.disjunctive.proofs.Routines.{by-walk}
@@ -63,14 +68,9 @@ use Rattle.disjunctive.proofs.ranges.CoreCalls.{wordsVal, tokens, Core,
 use Rattle.barred_starts.proofs.range.Range as T
 use Rattle.lent_ranges.proofs.starts.Starts as S
 use Rattle.lent_ranges.proofs.starts.Starts.Laws as S′
-use Rattle.disjunctive.proofs.ranges.CoreMirrored as R
-use Rattle.disjunctive.proofs.ranges.CoreMirrored.Laws as R′
 use Rattle.lent_ranges.proofs.starts.starts_of.Symbol as starts-of-def
 use Rattle.lent_ranges.proofs.starts.starts_of.Symbol.{name as #starts-of}
 use Rattle.lent_ranges.proofs.starts.starts_of.Met as starts-of-thm
-use Rattle.disjunctive.proofs.ranges.mirrored_core.Symbol as mirrored-core-def
-use Rattle.disjunctive.proofs.ranges.mirrored_core.Symbol.{name as #mirrored-core}
-use Rattle.disjunctive.proofs.ranges.mirrored_core.Met as mirrored-core-thm
 use Rattle.lent_ranges.proofs.starts.store_latest as store-latest
 use Rattle.lent_ranges.proofs.starts.store_latest.Symbol as store-latest-def
 use Rattle.lent_ranges.proofs.starts.store_latest.Symbol.{name as #store-latest}
@@ -195,5 +195,5 @@ run-mirrored-spec 𝓤 H 𝓜 𝓖 𝓡 =
     by-walk 𝓤 H 𝓜 𝓖 𝓡 f.ended stayed (goes-dropped 𝓤 H (𝓖 .A) W 4 (shrRefTo (0 ∷ []) tt (plain (λ _. P.the-row))) yes (λ κs x f. refl), (goes-gave-slice 𝓤 H (𝓖 .A) W 4 1 tt (plain (λ _. T.the-row)), (goes-gave-slice 𝓤 H (𝓖 .A) W 4 2 tt (plain (λ _. i32)), (goes-gave-slice 𝓤 H (𝓖 .A) W 4 3 tt (plain (λ _. i32)), tt)))) (f.clauses 𝓤 H (𝓖 .A) (𝓜 .mem) (𝓡 .run)) code.env #run-mirrored code.function (code.unfolded 𝓤 H 𝓜 𝓡)
     (λ fm. f-walks 𝓤 H (𝓖 .A) W (𝓜 .mem) (𝓡 .run) (tables 𝓤 H 𝓜 𝓡 code.env .C) (tables 𝓤 H 𝓜 𝓡 code.env .Λ) fm
     (cited 𝓤 H (StartsOf 𝓤 H (𝓖 .A) (𝓜 .mem) (𝓡 .run)) 𝓜 𝓡 code.env #starts-of starts-of-def.routine code.calls-lent-ranges·starts·starts-of (starts-of-thm.met 𝓤 H 𝓜 𝓖 𝓡))
-    (cited 𝓤 H (Core R.the-row RanMirroredCore 𝓤 H (𝓖 .A)) 𝓜 𝓡 code.env #mirrored-core mirrored-core-def.routine code.calls-disjunctive·ranges·mirrored-core (mirrored-core-thm.met 𝓤 H 𝓜 𝓖 𝓡))
+    (cited 𝓤 H (Core R.the-row RanMirroredCore 𝓤 H (𝓖 .A)) 𝓜 𝓡 code.env #mirrored-core mirrored-core-def.routine code.calls-range-cores·cores·mirrored-core (mirrored-core-thm.met 𝓤 H 𝓜 𝓖 𝓡))
     (cited 𝓤 H (Store 𝓤 H (𝓖 .A) (𝓜 .mem) (𝓡 .run)) 𝓜 𝓡 code.env #store-latest store-latest-def.routine code.calls-lent-ranges·starts·store-latest (store-latest-thm.met 𝓤 H 𝓜 𝓖 𝓡)))

@@ -5,8 +5,8 @@ use lib.ListN.{length}
 use borrow.Author.Tests.{not-true, not-false}
 use borrow.Author.Needs.{needs}
 use Rattle.integers.specs.Tests.{allBelow, AllPassed}
-use Rattle.records.specs.Refusals.{rangeTests, AcceptedInput}
-use Rattle.records.proofs.Refused.{ranges-passed, accepted-ranges}
+use Rattle.input_refusals.specs.Refusals.{rangeTests, AcceptedInput}
+use Rattle.input_refusals.proofs.Refused.{ranges-passed, accepted-ranges}
 use Rattle.fixed_schedules.specs.FixedSchedules.{oneStartAt, allApart}
 use Rattle.fixed_schedules.proofs.Neighbours.{neighbours-are}
 use Rattle.fixed_schedules.proofs.FixedRefused.{ranges-first, more-starts, overlapping, none-wrong}

@@ -10,7 +10,7 @@ use borrow.Author.Needs.{needs}
 use borrow.Author.Tests.{ltb-true, ltb-false}
 use Rattle.ects.proofs.Ects.{exceeds-decoded}
 use Rattle.trees.specs.Words.{nodeAt}
-use Rattle.levels.specs.declared.run_levels.Written.{Written}
+use Rattle.candidates.specs.declared.turns.Written.{Written}
 use Rattle.levels.specs.Finding.{Begun}
 use Rattle.levels.proofs.Levels.{Level, few, candidate-small, first-level, all-done, over-asked, over-inner, few-changes, overloads, moves, goes-on, one-more, one-emptied}
 use Rattle.levels.proofs.run_levels.edge_finding.Statement.{statement}

@@ -7,9 +7,9 @@ use native.Mathlib.Omega.{arith}
 use lib.ListN.{getD}
 use borrow.Author.Needs.{needs}
 use Rattle.integers.specs.Limits.{TASKS}
-use Rattle.trees.specs.declared.theta_lambda_tree.Node.{Node}
+use Rattle.nodes.specs.declared.theta_lambda_node.Node.{Node}
 use Rattle.trees.specs.Leaves.{HasLeaves}
-use Rattle.trees.specs.Nodes.{whiteOf}
+use Rattle.nodes.specs.Nodes.{whiteOf}
 use Rattle.trees.specs.Puts.{Layable, Laid}
 use Rattle.levels.specs.Filling.{Fillable}
 use Rattle.levels.proofs.Filling.{upTo, none-white, task-known, may-white, one-white, may-build, all-white}

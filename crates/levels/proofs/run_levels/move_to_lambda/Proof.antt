@@ -5,7 +5,7 @@ use mathlib.Core.List.{List}
 use Prim.Native.Nat.{ℕ}
 use lib.ListN.{getD}
 use borrow.Author.Needs.{needs}
-use Rattle.trees.specs.declared.theta_lambda_tree.Node.{Node}
+use Rattle.nodes.specs.declared.theta_lambda_node.Node.{Node}
 use Rattle.trees.specs.Puts.{Puttable, Put}
 use Rattle.levels.proofs.Moving.{may-gray, moved}
 use Rattle.levels.proofs.run_levels.move_to_lambda.Statement.{statement}

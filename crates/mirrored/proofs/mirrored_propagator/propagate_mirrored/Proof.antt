@@ -6,8 +6,8 @@ use native.Mathlib.Omega.{arith}
 use lib.ListN.{length}
 use Rattle.integers.specs.Answers.{refusedBy}
 use Rattle.integers.specs.Limits.{TASKS}
-use Rattle.records.specs.Refusals.{Accepted}
-use Rattle.records.proofs.Refused.{accepted-run}
+use Rattle.input_refusals.specs.Refusals.{Accepted}
+use Rattle.input_refusals.proofs.Refused.{accepted-run}
 use Rattle.propagator.proofs.Handing.{handed}
 use Rattle.mirrored.specs.RanMirrored.{mirroredOf}
 use Rattle.mirrored.proofs.Endings.{ended, left-mirrored, right}

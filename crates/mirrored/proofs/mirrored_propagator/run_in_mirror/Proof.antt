@@ -9,7 +9,7 @@ use lib.ListN.{length, take, drop, replicate, length-replicate}
 use lib.Seq.{length-take-le, length-front, take-at}
 use Rattle.integers.specs.Limits.{TASKS}
 use Rattle.runs.specs.Mirrored.{mirrorStarts}
-use Rattle.mirrored.specs.Telling.{Reflectable}
+use Rattle.mirrored_words.specs.Telling.{Reflectable}
 use Rattle.mirrored.proofs.Endings.{reflect-latest, reflect-earliest, runnable-at, reflect-back, ran-in-mirror}
 use borrow.Author.Needs.{needs}
 use Rattle.mirrored.proofs.mirrored_propagator.run_in_mirror.Statement.{statement}

@@ -6,8 +6,8 @@ use lib.ListN.{length}
 use borrow.Author.Needs.{needs}
 use Rattle.integers.specs.Answers.{refusedBy}
 use Rattle.integers.specs.Limits.{TASKS}
-use Rattle.records.specs.Refusals.{AcceptedInput}
-use Rattle.records.proofs.Refused.{accepted-input}
+use Rattle.input_refusals.specs.Refusals.{AcceptedInput}
+use Rattle.input_refusals.proofs.Refused.{accepted-input}
 use Rattle.overload_test.proofs.Answers.{tested, is-refused}
 use Rattle.overload_test.proofs.overload_test.overload_test.Statement.{statement}
 use Rattle.overload_test.proofs.overload_test.overload_test.Tie as tie

@@ -1,9 +1,10 @@
 -- Each way out is one case of `answered`: what is no list of tasks, too many tasks, and a list whose columns are its starts and durations.
 use mathlib.Core.Path.{sym, ap, _∙_}
 use native.Mathlib.Omega.{arith}
-use Rattle.plan_cli.specs.Lines.{answerLines}
-use Rattle.plan_cli.proofs.Printing.{puts-as}
-use Rattle.plan_cli.proofs.Counting.{not-listed, listed, few-listed, many-listed}
+use Rattle.plan_cli.specs.RunLines.{answerLines}
+use Rattle.plan_text.proofs.Printing.{puts-as}
+use Rattle.plan_text.proofs.Counting.{listed}
+use Rattle.plan_cli.proofs.InputTasks.{not-listed, few-listed, many-listed}
 use borrow.Author.Needs.{needs}
 use Rattle.plan_cli.proofs.answer.put_answer.Statement.{statement}
 use Rattle.plan_cli.proofs.answer.put_answer.Tie as tie

@@ -4,8 +4,8 @@ use native.Mathlib.Omega.{arith}
 use lib.ListN.{length, take}
 use lib.Seq.{length-take-le}
 use Rattle.integers.specs.Limits.{TASKS}
-use Rattle.plan_cli.specs.Lines.{answerLines}
-use Rattle.plan_cli.proofs.Printing.{puts-as}
+use Rattle.plan_cli.specs.RunLines.{answerLines}
+use Rattle.plan_text.proofs.Printing.{puts-as}
 use Rattle.plan_cli.proofs.Leaving.{accepted-planned, refused-planned}
 use borrow.Author.Needs.{needs}
 use Rattle.plan_cli.proofs.answer.put_planned.Statement.{statement}

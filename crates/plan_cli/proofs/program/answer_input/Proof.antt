@@ -1,7 +1,7 @@
 -- The text that was read is the one whose answer is printed.
 use Rattle.text.specs.Numbers.{numbersOf}
 use Rattle.plan_cli.specs.Printed.{printed}
-use Rattle.plan_cli.proofs.Printing.{written}
+use Rattle.plan_cli.proofs.FirstBytes.{written}
 use borrow.Author.Needs.{needs}
 use Rattle.plan_cli.proofs.program.answer_input.Statement.{statement}
 use Rattle.plan_cli.proofs.program.answer_input.Tie as tie

@@ -1,7 +1,7 @@
 -- The numbers of the text are those that `put_answer` answers.
 use Rattle.text.specs.Numbers.{numbersOf}
 use Rattle.plan_cli.specs.Printed.{printed}
-use Rattle.plan_cli.proofs.Printing.{written}
+use Rattle.plan_cli.proofs.FirstBytes.{written}
 use borrow.Author.Needs.{needs}
 use Rattle.plan_cli.proofs.program.print.Statement.{statement}
 use Rattle.plan_cli.proofs.program.print.Tie as tie

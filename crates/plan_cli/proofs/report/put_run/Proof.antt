@@ -6,11 +6,12 @@ use lib.ListN.{length}
 use Rattle.integers.specs.Limits.{TASKS}
 use Rattle.runs.specs.Traces.{Trace}
 use Rattle.levels.specs.declared.outcome.Outcome.{Outcome}
-use Rattle.plan_cli.specs.Lines.{doneLine, emptiedLine, refusedLine, answerLines}
+use Rattle.plan_text.specs.Lines.{doneLine, emptiedLine, refusedLine}
+use Rattle.plan_cli.specs.RunLines.{answerLines}
 use Rattle.plan_cli.specs.RunSlices.{Shown}
 use native.Mathlib.Omega.{arith}
 use Rattle.text.proofs.Putting.{puts-append}
-use Rattle.plan_cli.proofs.Printing.{puts-as}
+use Rattle.plan_text.proofs.Printing.{puts-as}
 use Rattle.plan_cli.proofs.Showing.{Parts, OverloadParts, done-parts, emptied-parts, overload-parts, refused-part}
 use borrow.Author.Needs.{needs}
 use Rattle.plan_cli.proofs.report.put_run.Statement.{statement}

@@ -3,8 +3,9 @@
 use mathlib.Core.Path.{_≡_}
 use lib.ListN.{length}
 use Rattle.integers.specs.Limits.{TASKS}
-use Rattle.precedences.specs.TaskArrays.{Ranged}
-use Rattle.precedences.proofs.PassContract.{ranged, some-past, none-past}
+use Rattle.predecessors.specs.TaskArrays.{Ranged}
+use Rattle.predecessors.proofs.Ranging.{ranged}
+use Rattle.precedences.proofs.PassContract.{some-past, none-past}
 use borrow.Author.Needs.{needs}
 use Rattle.precedences.proofs.pass.accepted.Statement.{statement}
 use Rattle.precedences.proofs.pass.accepted.Tie as tie

@@ -8,7 +8,8 @@ use Rattle.integers.specs.Filling.{filled}
 use Rattle.integers.proofs.Filling.{filled-none, filled-store}
 use Rattle.sorts.specs.Orders.{noTasks}
 use Rattle.ects.specs.Ects.{raisedTo}
-use Rattle.precedences.specs.TaskArrays.{raisedAt, Ranged}
+use Rattle.predecessors.specs.TaskArrays.{Ranged}
+use Rattle.precedences.specs.TaskArrays.{raisedAt}
 use borrow.Author.Needs.{needs}
 use Rattle.precedences.proofs.pass.raised_starts.Statement.{statement}
 use Rattle.precedences.proofs.pass.raised_starts.Tie as tie

@@ -8,7 +8,7 @@ use mir.Syntax.{w32}
 use Rattle.integers.specs.Filling.{filled}
 use Rattle.integers.proofs.Filling.{filled-none, filled-store, filled-length}
 use Rattle.integers.proofs.Ints.{back-of}
-use Rattle.precedences.specs.TaskArrays.{startAt}
+use Rattle.predecessors.specs.TaskArrays.{startAt}
 use borrow.Author.Needs.{needs}
 use Rattle.precedences.proofs.pass.store.Statement.{statement}
 use Rattle.precedences.proofs.pass.store.Tie as tie

@@ -7,8 +7,8 @@ use lib.ListN.{length}
 use borrow.Author.Needs.{needs}
 use Rattle.integers.specs.Answers.{refusedBy}
 use Rattle.integers.specs.Limits.{TASKS}
-use Rattle.records.specs.Refusals.{Accepted}
-use Rattle.records.proofs.Refused.{accepted-run}
+use Rattle.input_refusals.specs.Refusals.{Accepted}
+use Rattle.input_refusals.proofs.Refused.{accepted-run}
 use Rattle.propagator.specs.Ran.{traceOf}
 use Rattle.propagator.proofs.Beginning.{runnable, right}
 use Rattle.propagator.proofs.Many.{is-refused}

@@ -14,10 +14,10 @@ use denote.Slice.{slice-vals, mut-slice-tells, shr-slice-tells}
 use denote.Struct.Laws as LL
 use denote.Enum.Laws as EL
 use Rattle.records.proofs.record.Propagator as P
-use Rattle.precedences.proofs.answers.Reason as O
-use Rattle.precedences.proofs.answers.Reason.Laws as O′
-use Rattle.precedences.specs.Numbers.{reasonNumbers}
-use Rattle.precedences.specs.Reasons.{ReasonGiven}
+use Rattle.precedence_reasons.proofs.answer.Reason as O
+use Rattle.precedence_reasons.proofs.answer.Reason.Laws as O′
+use Rattle.precedence_reasons.specs.Numbers.{reasonNumbers}
+use Rattle.precedence_reasons.specs.Reasons.{ReasonGiven}
 use Rattle.barred_starts.specs.Bars.{allBarsFit}
 use Rattle.barred_starts.specs.Ranges.{earliests, latests}
 use Rattle.barred_starts.proofs.range.Range as T

@@ -40,17 +40,21 @@ use Rattle.integers.specs.Limits.{TASKS}
 use Rattle.records.specs.declared.record.Propagator.{Propagator}
 use Rattle.records.proofs.record.Propagator as P
 use Rattle.records.proofs.record.Propagator.Laws as P′
-use Rattle.precedences.specs.declared.answers.Reason.{Reason}
-use Rattle.precedences.specs.Reasons.{ReasonGiven}
-use Rattle.precedences.proofs.Many.{too-many-reason}
-use Rattle.precedences.proofs.answers.Reason as O
-use Rattle.precedences.proofs.answers.Reason.Laws as O′
+use Rattle.precedence_reasons.specs.declared.answer.Reason.{Reason}
+use Rattle.precedence_reasons.specs.Reasons.{ReasonGiven}
+use Rattle.precedence_reasons.proofs.Many.{too-many-reason}
+use Rattle.precedence_reasons.proofs.answer.Reason as O
+use Rattle.precedence_reasons.proofs.answer.Reason.Laws as O′
 use Rattle.barred_starts.specs.declared.range.Range.{Range}
 use Rattle.barred_starts.specs.Bars.{allBarsFit}
 use Rattle.barred_starts.specs.Ranges.{earliests, latests}
 use Rattle.lent_ranges.specs.declared.starts.Starts.{Starts}
 use Rattle.lent_ranges.proofs.TakenApart.{starts-fit, bars-of, apart}
 use Rattle.lent_ranges.proofs.starts.Lending.{rangesVal, StartsOf, calls-starts}
+use Rattle.range_cores.proofs.by_precedence.reason_core as reason-core
+use Rattle.range_cores.proofs.by_precedence.reason_core.Symbol as reason-core-def
+use Rattle.range_cores.proofs.by_precedence.reason_core.Symbol.{name as #reason-core}
+use Rattle.range_cores.proofs.by_precedence.reason_core.Met as reason-core-thm
 use Rattle.disjunctive.proofs.Calls.{calls-by}
 use Rattle.disjunctive.proofs.Routines.{by-walk}
 use Rattle.disjunctive.proofs.ranges.LentRecord.{machP, looks-into, shuts-record}
@@ -60,10 +64,6 @@ use Rattle.lent_ranges.proofs.starts.Starts.Laws as S′
 use Rattle.lent_ranges.proofs.starts.starts_of.Symbol as starts-of-def
 use Rattle.lent_ranges.proofs.starts.starts_of.Symbol.{name as #starts-of}
 use Rattle.lent_ranges.proofs.starts.starts_of.Met as starts-of-thm
-use Rattle.disjunctive.proofs.ranges.by_precedence.reason_core as reason-core
-use Rattle.disjunctive.proofs.ranges.by_precedence.reason_core.Symbol as reason-core-def
-use Rattle.disjunctive.proofs.ranges.by_precedence.reason_core.Symbol.{name as #reason-core}
-use Rattle.disjunctive.proofs.ranges.by_precedence.reason_core.Met as reason-core-thm
 use Rattle.disjunctive.proofs.ranges.by_precedence.precedence_reason.Key.{name as #precedence-reason}
 use Rattle.disjunctive.proofs.ranges.by_precedence.precedence_reason as f
 use Rattle.disjunctive.proofs.ranges.by_precedence.precedence_reason.Statement as stated
@@ -182,4 +182,4 @@ precedence-reason-spec 𝓤 H 𝓜 𝓖 𝓡 =
     by-walk 𝓤 H 𝓜 𝓖 𝓡 f.ended stayed (goes-dropped 𝓤 H (𝓖 .A) W 3 (shrRefTo (0 ∷ []) tt (plain (λ _. P.the-row))) yes (λ κs x f. refl), (goes-dropped 𝓤 H (𝓖 .A) W 3 (shrSliceOf (1 ∷ []) tt (plain (λ _. T.the-row))) yes (λ κs x f. refl), (goes-dropped 𝓤 H (𝓖 .A) W 3 (plain (λ _. usize)) yes (λ κs x f. refl), (goes-gave-slice 𝓤 H (𝓖 .A) W 3 2 tt (plain (λ _. i32)), tt)))) (f.clauses 𝓤 H (𝓖 .A) (𝓜 .mem) (𝓡 .run)) code.env #precedence-reason code.function (code.unfolded 𝓤 H 𝓜 𝓡)
     (λ fm. f-walks 𝓤 H (𝓖 .A) W (𝓜 .mem) (𝓡 .run) (tables 𝓤 H 𝓜 𝓡 code.env .C) (tables 𝓤 H 𝓜 𝓡 code.env .Λ) fm
     (cited 𝓤 H (StartsOf 𝓤 H (𝓖 .A) (𝓜 .mem) (𝓡 .run)) 𝓜 𝓡 code.env #starts-of starts-of-def.routine code.calls-lent-ranges·starts·starts-of (starts-of-thm.met 𝓤 H 𝓜 𝓖 𝓡))
-    (cited 𝓤 H (Core 𝓤 H (𝓖 .A) (𝓜 .mem) (𝓡 .run)) 𝓜 𝓡 code.env #reason-core reason-core-def.routine code.calls-disjunctive·ranges·by-precedence·reason-core (reason-core-thm.met 𝓤 H 𝓜 𝓖 𝓡)))
+    (cited 𝓤 H (Core 𝓤 H (𝓖 .A) (𝓜 .mem) (𝓡 .run)) 𝓜 𝓡 code.env #reason-core reason-core-def.routine code.calls-range-cores·by-precedence·reason-core (reason-core-thm.met 𝓤 H 𝓜 𝓖 𝓡)))

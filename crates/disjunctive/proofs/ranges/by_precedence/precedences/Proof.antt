@@ -46,10 +46,16 @@ use Rattle.precedences.proofs.answers.Precedences as O
 use Rattle.precedences.proofs.answers.Precedences.Laws as O′
 use Rattle.barred_starts.specs.declared.range.Range.{Range}
 use Rattle.promises.specs.PrecedencesLent.{PrecedencesLent}
-use Rattle.disjunctive.specs.LentCalls.{PrecedencesCore}
+use Rattle.range_cores.specs.PrecedencesCore.{PrecedencesCore}
 use Rattle.lent_ranges.specs.declared.starts.Starts.{Starts}
-use Rattle.disjunctive.specs.declared.ranges.by_precedence.CorePrecedences.{CorePrecedences}
+use Rattle.range_cores.specs.declared.by_precedence.CorePrecedences.{CorePrecedences}
 use Rattle.lent_ranges.proofs.TakenApart.{starts-fit}
+use Rattle.range_cores.proofs.by_precedence.CorePrecedences as R
+use Rattle.range_cores.proofs.by_precedence.CorePrecedences.Laws as R′
+use Rattle.range_cores.proofs.by_precedence.precedences_core as precedences-core
+use Rattle.range_cores.proofs.by_precedence.precedences_core.Symbol as precedences-core-def
+use Rattle.range_cores.proofs.by_precedence.precedences_core.Symbol.{name as #precedences-core}
+use Rattle.range_cores.proofs.by_precedence.precedences_core.Met as precedences-core-thm
 use Rattle.disjunctive.proofs.LentRuns.{lent-pass}
 use Rattle.lent_ranges.proofs.starts.Lending.{rangesVal, rangesAt, StartsOf, calls-starts-mut, Store, calls-store}
 use Rattle.disjunctive.proofs.Calls.{calls-by}
@@ -58,15 +64,9 @@ use Rattle.disjunctive.proofs.ranges.LentRecord.{machP, looks-into, shu
 use Rattle.barred_starts.proofs.range.Range as T
 use Rattle.lent_ranges.proofs.starts.Starts as S
 use Rattle.lent_ranges.proofs.starts.Starts.Laws as S′
-use Rattle.disjunctive.proofs.ranges.by_precedence.CorePrecedences as R
-use Rattle.disjunctive.proofs.ranges.by_precedence.CorePrecedences.Laws as R′
 use Rattle.lent_ranges.proofs.starts.starts_of.Symbol as starts-of-def
 use Rattle.lent_ranges.proofs.starts.starts_of.Symbol.{name as #starts-of}
 use Rattle.lent_ranges.proofs.starts.starts_of.Met as starts-of-thm
-use Rattle.disjunctive.proofs.ranges.by_precedence.precedences_core as precedences-core
-use Rattle.disjunctive.proofs.ranges.by_precedence.precedences_core.Symbol as precedences-core-def
-use Rattle.disjunctive.proofs.ranges.by_precedence.precedences_core.Symbol.{name as #precedences-core}
-use Rattle.disjunctive.proofs.ranges.by_precedence.precedences_core.Met as precedences-core-thm
 use Rattle.lent_ranges.proofs.starts.store_starts.Symbol as store-starts-def
 use Rattle.lent_ranges.proofs.starts.store_starts.Symbol.{name as #store-starts}
 use Rattle.lent_ranges.proofs.starts.store_starts.Met as store-starts-thm
@@ -172,5 +172,5 @@ precedences-spec 𝓤 H 𝓜 𝓖 𝓡 =
     by-walk 𝓤 H 𝓜 𝓖 𝓡 f.ended stayed (goes-dropped 𝓤 H (𝓖 .A) W 2 (shrRefTo (0 ∷ []) tt (plain (λ _. P.the-row))) yes (λ κs x f. refl), (goes-gave-slice 𝓤 H (𝓖 .A) W 2 1 tt (plain (λ _. T.the-row)), tt)) (f.clauses 𝓤 H (𝓖 .A) (𝓜 .mem) (𝓡 .run)) code.env #precedences code.function (code.unfolded 𝓤 H 𝓜 𝓡)
     (λ fm. f-walks 𝓤 H (𝓖 .A) W (𝓜 .mem) (𝓡 .run) (tables 𝓤 H 𝓜 𝓡 code.env .C) (tables 𝓤 H 𝓜 𝓡 code.env .Λ) fm
     (cited 𝓤 H (StartsOf 𝓤 H (𝓖 .A) (𝓜 .mem) (𝓡 .run)) 𝓜 𝓡 code.env #starts-of starts-of-def.routine code.calls-lent-ranges·starts·starts-of (starts-of-thm.met 𝓤 H 𝓜 𝓖 𝓡))
-    (cited 𝓤 H (Core 𝓤 H (𝓖 .A) (𝓜 .mem) (𝓡 .run)) 𝓜 𝓡 code.env #precedences-core precedences-core-def.routine code.calls-disjunctive·ranges·by-precedence·precedences-core (precedences-core-thm.met 𝓤 H 𝓜 𝓖 𝓡))
+    (cited 𝓤 H (Core 𝓤 H (𝓖 .A) (𝓜 .mem) (𝓡 .run)) 𝓜 𝓡 code.env #precedences-core precedences-core-def.routine code.calls-range-cores·by-precedence·precedences-core (precedences-core-thm.met 𝓤 H 𝓜 𝓖 𝓡))
     (cited 𝓤 H (Store 𝓤 H (𝓖 .A) (𝓜 .mem) (𝓡 .run)) 𝓜 𝓡 code.env #store-starts store-starts-def.routine code.calls-lent-ranges·starts·store-starts (store-starts-thm.met 𝓤 H 𝓜 𝓖 𝓡)))

@@ -51,6 +51,10 @@ use Rattle.barred_starts.specs.declared.range.Range.{Range}
 use Rattle.lent_ranges.specs.declared.starts.Starts.{Starts}
 use Rattle.lent_ranges.proofs.TakenApart.{starts-fit, apart}
 use Rattle.lent_ranges.proofs.starts.Lending.{rangesVal, StartsOf, calls-starts}
+use Rattle.range_cores.proofs.of_fixed_schedules.free_core as free-core
+use Rattle.range_cores.proofs.of_fixed_schedules.free_core.Symbol as free-core-def
+use Rattle.range_cores.proofs.of_fixed_schedules.free_core.Symbol.{name as #free-core}
+use Rattle.range_cores.proofs.of_fixed_schedules.free_core.Met as free-core-thm
 use Rattle.disjunctive.proofs.Calls.{calls-by}
 use Rattle.disjunctive.proofs.Routines.{by-walk}
 use Rattle.disjunctive.proofs.ranges.LentRecord.{machP, looks-into, shuts-record}
@@ -60,10 +64,6 @@ use Rattle.lent_ranges.proofs.starts.Starts.Laws as S′
 use Rattle.lent_ranges.proofs.starts.starts_of.Symbol as starts-of-def
 use Rattle.lent_ranges.proofs.starts.starts_of.Symbol.{name as #starts-of}
 use Rattle.lent_ranges.proofs.starts.starts_of.Met as starts-of-thm
-use Rattle.disjunctive.proofs.ranges.of_fixed_schedules.free_core as free-core
-use Rattle.disjunctive.proofs.ranges.of_fixed_schedules.free_core.Symbol as free-core-def
-use Rattle.disjunctive.proofs.ranges.of_fixed_schedules.free_core.Symbol.{name as #free-core}
-use Rattle.disjunctive.proofs.ranges.of_fixed_schedules.free_core.Met as free-core-thm
 use Rattle.disjunctive.proofs.ranges.of_fixed_schedules.free_start.Key.{name as #free-start}
 use Rattle.disjunctive.proofs.ranges.of_fixed_schedules.free_start as f
 use Rattle.disjunctive.proofs.ranges.of_fixed_schedules.free_start.Statement as stated
@@ -161,4 +161,4 @@ free-start-spec 𝓤 H 𝓜 𝓖 𝓡 =
     by-walk 𝓤 H 𝓜 𝓖 𝓡 f.ended stayed (goes-dropped 𝓤 H (𝓖 .A) W 2 (shrRefTo (0 ∷ []) tt (plain (λ _. P.the-row))) yes (λ κs x f. refl), (goes-dropped 𝓤 H (𝓖 .A) W 2 (shrSliceOf (1 ∷ []) tt (plain (λ _. T.the-row))) yes (λ κs x f. refl), (goes-dropped 𝓤 H (𝓖 .A) W 2 (plain (λ _. i32)) yes (λ κs x f. refl), (goes-dropped 𝓤 H (𝓖 .A) W 2 (plain (λ _. i32)) yes (λ κs x f. refl), tt)))) (f.clauses 𝓤 H (𝓖 .A) (𝓜 .mem) (𝓡 .run)) code.env #free-start code.function (code.unfolded 𝓤 H 𝓜 𝓡)
     (λ fm. f-walks 𝓤 H (𝓖 .A) W (𝓜 .mem) (𝓡 .run) (tables 𝓤 H 𝓜 𝓡 code.env .C) (tables 𝓤 H 𝓜 𝓡 code.env .Λ) fm
     (cited 𝓤 H (StartsOf 𝓤 H (𝓖 .A) (𝓜 .mem) (𝓡 .run)) 𝓜 𝓡 code.env #starts-of starts-of-def.routine code.calls-lent-ranges·starts·starts-of (starts-of-thm.met 𝓤 H 𝓜 𝓖 𝓡))
-    (cited 𝓤 H (Core 𝓤 H (𝓖 .A) (𝓜 .mem) (𝓡 .run)) 𝓜 𝓡 code.env #free-core free-core-def.routine code.calls-disjunctive·ranges·of-fixed-schedules·free-core (free-core-thm.met 𝓤 H 𝓜 𝓖 𝓡)))
+    (cited 𝓤 H (Core 𝓤 H (𝓖 .A) (𝓜 .mem) (𝓡 .run)) 𝓜 𝓡 code.env #free-core free-core-def.routine code.calls-range-cores·of-fixed-schedules·free-core (free-core-thm.met 𝓤 H 𝓜 𝓖 𝓡)))

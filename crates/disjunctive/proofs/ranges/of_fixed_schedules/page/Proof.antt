@@ -48,6 +48,10 @@ use Rattle.barred_starts.specs.declared.range.Range.{Range}
 use Rattle.lent_ranges.specs.declared.starts.Starts.{Starts}
 use Rattle.lent_ranges.proofs.TakenApart.{starts-fit, apart}
 use Rattle.lent_ranges.proofs.starts.Lending.{rangesVal, StartsOf, calls-starts}
+use Rattle.range_cores.proofs.of_fixed_schedules.page_core as page-core
+use Rattle.range_cores.proofs.of_fixed_schedules.page_core.Symbol as page-core-def
+use Rattle.range_cores.proofs.of_fixed_schedules.page_core.Symbol.{name as #page-core}
+use Rattle.range_cores.proofs.of_fixed_schedules.page_core.Met as page-core-thm
 use Rattle.disjunctive.proofs.Calls.{calls-by}
 use Rattle.disjunctive.proofs.Routines.{by-walk}
 use Rattle.disjunctive.proofs.ranges.LentRecord.{machP, looks-into, shuts-record}
@@ -57,10 +61,6 @@ use Rattle.lent_ranges.proofs.starts.Starts.Laws as S′
 use Rattle.lent_ranges.proofs.starts.starts_of.Symbol as starts-of-def
 use Rattle.lent_ranges.proofs.starts.starts_of.Symbol.{name as #starts-of}
 use Rattle.lent_ranges.proofs.starts.starts_of.Met as starts-of-thm
-use Rattle.disjunctive.proofs.ranges.of_fixed_schedules.page_core as page-core
-use Rattle.disjunctive.proofs.ranges.of_fixed_schedules.page_core.Symbol as page-core-def
-use Rattle.disjunctive.proofs.ranges.of_fixed_schedules.page_core.Symbol.{name as #page-core}
-use Rattle.disjunctive.proofs.ranges.of_fixed_schedules.page_core.Met as page-core-thm
 use Rattle.disjunctive.proofs.ranges.of_fixed_schedules.page.Key.{name as #page}
 use Rattle.disjunctive.proofs.ranges.of_fixed_schedules.page as f
 use Rattle.disjunctive.proofs.ranges.of_fixed_schedules.page.Statement as stated
@@ -175,4 +175,4 @@ page-spec 𝓤 H 𝓜 𝓖 𝓡 =
     by-walk 𝓤 H 𝓜 𝓖 𝓡 f.ended stayed (goes-dropped 𝓤 H (𝓖 .A) W 3 (shrRefTo (0 ∷ []) tt (plain (λ _. P.the-row))) yes (λ κs x f. refl), (goes-dropped 𝓤 H (𝓖 .A) W 3 (shrSliceOf (1 ∷ []) tt (plain (λ _. T.the-row))) yes (λ κs x f. refl), (goes-gave-slice 𝓤 H (𝓖 .A) W 3 2 tt (plain (λ _. u8)), tt))) (f.clauses 𝓤 H (𝓖 .A) (𝓜 .mem) (𝓡 .run)) code.env #page code.function (code.unfolded 𝓤 H 𝓜 𝓡)
     (λ fm. f-walks 𝓤 H (𝓖 .A) W (𝓜 .mem) (𝓡 .run) (tables 𝓤 H 𝓜 𝓡 code.env .C) (tables 𝓤 H 𝓜 𝓡 code.env .Λ) fm
     (cited 𝓤 H (StartsOf 𝓤 H (𝓖 .A) (𝓜 .mem) (𝓡 .run)) 𝓜 𝓡 code.env #starts-of starts-of-def.routine code.calls-lent-ranges·starts·starts-of (starts-of-thm.met 𝓤 H 𝓜 𝓖 𝓡))
-    (cited 𝓤 H (Core 𝓤 H (𝓖 .A) (𝓜 .mem) (𝓡 .run)) 𝓜 𝓡 code.env #page-core page-core-def.routine code.calls-disjunctive·ranges·of-fixed-schedules·page-core (page-core-thm.met 𝓤 H 𝓜 𝓖 𝓡)))
+    (cited 𝓤 H (Core 𝓤 H (𝓖 .A) (𝓜 .mem) (𝓡 .run)) 𝓜 𝓡 code.env #page-core page-core-def.routine code.calls-range-cores·of-fixed-schedules·page-core (page-core-thm.met 𝓤 H 𝓜 𝓖 𝓡)))

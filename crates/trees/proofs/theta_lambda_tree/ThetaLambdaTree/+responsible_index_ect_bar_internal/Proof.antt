@@ -3,12 +3,12 @@
 use Prim.Native.Nat.{ℕ, _<_}
 use borrow.Fn.Kinds.{In}
 use borrow.Fn.PlainCycle.{Measures, is, falls, and}
+use Rattle.nodes.proofs.theta_lambda_node.Around.step_ect_bar.Reads as step-reads
 use Rattle.trees.proofs.Steps.{by-ects}
 use Rattle.trees.proofs.theta_lambda_tree.ThetaLambdaTree.responsible_index_ect_bar_internal.Reads as reads
 use Rattle.trees.proofs.theta_lambda_tree.ThetaLambdaTree.responsible_index_ect_bar_internal.Kinds as kinds
 use Rattle.trees.proofs.theta_lambda_tree.ThetaLambdaTree.+responsible_index_ect_bar_internal.Lts-responsible_index_ect_bar_internal as lts
 use Rattle.trees.proofs.theta_lambda_tree.ThetaLambdaTree.around.Reads as around-reads
-use Rattle.trees.proofs.theta_lambda_tree.Around.step_ect_bar.Reads as step-reads
 use Rattle.trees.proofs.complete_tree.get_left_child_index.Reads as left-reads
 use Rattle.trees.proofs.complete_tree.get_right_child_index.Reads as right-reads
 use Rattle.trees.proofs.theta_lambda_tree.ThetaLambdaTree.responsible_index_p_internal.Reads as p-reads

@@ -2,7 +2,7 @@
 -- Assumes nothing.
 use native.Mathlib.Omega.{arith}
 use borrow.Author.Needs.{needs}
-use Rattle.trees.proofs.Joins.{additive}
+use Rattle.nodes.proofs.Joins.{additive}
 use Rattle.trees.proofs.Wiring.{put-fits}
 use Rattle.trees.proofs.theta_lambda_tree.ThetaLambdaTree.add_to_lambda.Statement.{statement}
 use Rattle.trees.proofs.theta_lambda_tree.ThetaLambdaTree.add_to_lambda.Tie as tie

@@ -3,9 +3,9 @@
 use mathlib.Core.Path.{ap, _∙_}
 use Prim.Native.Nat.{_+_}
 use borrow.Author.Needs.{needs}
+use Rattle.nodes.specs.declared.theta_lambda_node.Node.{Node}
 use Rattle.trees.specs.Words.{nodeAt}
 use Rattle.trees.specs.Shapes.{changed}
-use Rattle.trees.specs.declared.theta_lambda_tree.Node.{Node}
 use Rattle.trees.proofs.theta_lambda_tree.ThetaLambdaTree.lay_in_theta.Statement.{statement}
 use Rattle.trees.proofs.theta_lambda_tree.ThetaLambdaTree.lay_in_theta.Tie as tie
 

@@ -6,7 +6,7 @@ use Prim.Native.Nat.{ℕ, _-_, _≤_, _<_}
 use native.Mathlib.Omega.{arith}
 use borrow.Author.Tests.{eq-eqb, ne-eqb}
 use borrow.Author.Needs.{needs}
-use Rattle.trees.specs.declared.theta_lambda_tree.Node.{Node}
+use Rattle.nodes.specs.declared.theta_lambda_node.Node.{Node}
 use Rattle.trees.specs.Searches.{whiteIn}
 use Rattle.trees.proofs.Thetas.{passed-more}
 use Rattle.trees.proofs.theta_lambda_tree.ThetaLambdaTree.next_in_theta.Statement.{statement}

@@ -3,8 +3,8 @@
 use mathlib.Core.Path.{_≡_}
 use lib.ListN.{length}
 use Rattle.integers.specs.Limits.{TREEWORDS}
+use Rattle.nodes.proofs.Joins.{additive}
 use Rattle.trees.specs.Words.{nodeAt}
-use Rattle.trees.proofs.Joins.{additive}
 use Rattle.trees.proofs.Rebuilding.{DuringRebuild, rebuilds}
 use Rattle.trees.proofs.theta_lambda_tree.ThetaLambdaTree.rebuild.Statement.{statement}
 use Rattle.trees.proofs.theta_lambda_tree.ThetaLambdaTree.rebuild.Tie as tie

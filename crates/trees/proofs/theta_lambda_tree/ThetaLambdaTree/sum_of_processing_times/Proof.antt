@@ -2,7 +2,7 @@
 -- Assumes nothing.
 use mathlib.Core.Path.{ap}
 use borrow.Author.Needs.{needs}
-use Rattle.trees.specs.declared.theta_lambda_tree.Node.{Node}
+use Rattle.nodes.specs.declared.theta_lambda_node.Node.{Node}
 use Rattle.trees.proofs.theta_lambda_tree.ThetaLambdaTree.sum_of_processing_times.Statement.{statement}
 use Rattle.trees.proofs.theta_lambda_tree.ThetaLambdaTree.sum_of_processing_times.Tie as tie
 

@@ -2,7 +2,7 @@
 -- Assumes nothing.
 use native.Mathlib.Omega.{arith}
 use borrow.Author.Needs.{needs}
-use Rattle.trees.proofs.Joins.{plain-additive}
+use Rattle.nodes.proofs.Joins.{plain-additive}
 use Rattle.trees.proofs.Wiring.{put-fits}
 use Rattle.trees.proofs.theta_tree.ThetaTree.add.Statement.{statement}
 use Rattle.trees.proofs.theta_tree.ThetaTree.add.Tie as tie

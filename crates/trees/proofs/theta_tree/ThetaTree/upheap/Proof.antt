@@ -3,8 +3,8 @@
 use mathlib.Core.Path.{_≡_}
 use lib.ListN.{length}
 use Rattle.integers.specs.Limits.{THETAWORDS}
+use Rattle.nodes.proofs.Joins.{plain-additive}
 use Rattle.trees.specs.Words.{plainAt}
-use Rattle.trees.proofs.Joins.{plain-additive}
 use Rattle.trees.proofs.Wiring.{DuringUpheap, upheaps}
 use Rattle.trees.proofs.theta_tree.ThetaTree.upheap.Statement.{statement}
 use Rattle.trees.proofs.theta_tree.ThetaTree.upheap.Tie as tie

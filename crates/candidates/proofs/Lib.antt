@@ -1,0 +1,4 @@
+pub mod Meeting
+pub mod Posting
+pub mod Considering
+pub mod Turning

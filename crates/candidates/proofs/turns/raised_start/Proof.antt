@@ -1,0 +1,15 @@
+-- `candidates::turns::raised_start` meets its contract.
+-- Assumes nothing.
+use mathlib.Core.Path.{ap, _∙_}
+use mathlib.Core.Option.{Option}
+use Prim.Native.Nat.{ℕ}
+use borrow.Author.Needs.{needs}
+use Rattle.ects.specs.Ects.{raisedTo}
+use Rattle.candidates.proofs.turns.raised_start.Statement.{statement}
+use Rattle.candidates.proofs.turns.raised_start.Tie as tie
+
+returns : tie.Need-returns
+returns c = c .raised .ensures ∙ ap (λ (o : Option ℕ). raisedTo (c .before .before .args .start) o) (c .before .ect .ensures)
+
+pub raised-start-spec : {M : Type 1} → statement M
+raised-start-spec = tie.close (tie.spec (λ c κs. search needs) (λ c κs. search needs) returns)

@@ -1,0 +1,2 @@
+pub mod RunArrays
+pub mod Turns

@@ -1,0 +1,86 @@
+-- What the functions of a run do, by the run's definition: each keeps the code's slices and tree at a state of the definition.
+use mathlib.Core.Path.{_≡_}
+use mathlib.Core.Bool.{true, false}
+use mathlib.Core.List.{List, [], _∷_}
+use mathlib.Core.Option.{some}
+use Prim.Native.Nat.{ℕ, suc, _+_, _*_, _≤_, _<_}
+use lib.IntN.{ℤ, pos}
+use lib.ListN.{length, getD}
+use lib.Seq.{sets}
+use Rattle.integers.specs.Moments.{instant, zeroAt}
+use Rattle.scheduling.specs.Scheduling.{natural, Tasks, completion}
+use Rattle.ects.specs.Ects.{exceeds}
+use Rattle.trees.specs.declared.theta_lambda_tree.Responsible.{Responsible}
+use Rattle.trees.specs.declared.theta_lambda_tree.Responsible.the-variants as responsible
+use Rattle.trees.specs.Leaves as leaves
+use Rattle.trees.specs.Searches.{searchEct, responsibleOf}
+use Rattle.trees.specs.Shapes.{leavesOf}
+use Rattle.trees.specs.Words.{nodeAt, ectBarIn}
+use Rattle.runs.specs.Runs.{State, Turn, on, stop, inner}
+use Rattle.runs.specs.Reached.{Reached}
+use Rattle.candidates.specs.declared.turns.Written.{Written}
+use Rattle.candidates.specs.declared.turns.Turn as code
+use Rattle.candidates.specs.declared.turns.Turn.the-variants as turn
+use Rattle.candidates.specs.RunArrays.{Ordered, Holds, Arrays, At}
+
+-- the sum of Theta, as the tree's words hold it
+abbrev pub sumIn : List ℕ → ℕ
+sumIn words = nodeAt words 0 .«sum_of_processing_times»
+
+-- the task to consider next: none where ect_bar is not past lct
+unfoldable pub candidateIn : List ℕ → ℕ → ℕ → List ℕ → ℕ → Responsible
+candidateIn words inner height tasks lct = elim (exceeds (ectBarIn words) lct) [
+  | true ↦ responsibleOf tasks (searchEct (leavesOf inner (nodeAt words)) height 0)
+  | false ↦ responsible.Nothing
+]
+
+-- A post: its four words and its reason's stand after those written so far. It changes no leaf.
+pub record Posted (ps as′ ps′ bs : List ℤ) (before after : Written) (i bound : ℕ) (reason : List ℤ) (many : ℕ) : Type 0 where
+  pub post-words : ps′ ≡ sets ps (4 * before .posts) (pos i ∷ instant zeroAt bound ∷ pos (before .atoms) ∷ pos many ∷ [])
+  pub atom-words : bs ≡ sets as′ (3 * before .atoms) reason
+  pub posts : after .posts ≡ before .posts + 1
+  pub atoms : after .atoms ≡ before .atoms + many
+  pub changes : after .changes ≡ before .changes
+
+-- What stands at a level of a run: the tasks and orders, the arrays that hold them, and the state st that the definition goes through and that tree and slices are at.
+pub record Standing (n inner height lct : ℕ) (words : List ℕ) (es ps as′ : List ℤ) (w : Written) (est lst dur tasks mapping : List ℕ) : Type 0 where
+  pub J : Tasks natural
+  pub estOrder : List ℕ
+  pub lctOrder : List ℕ
+  pub level : ℕ
+  pub st : State
+  pub ps₀ : List ℤ
+  pub as₀ : List ℤ
+  pub ordered : Ordered J estOrder lctOrder
+  pub arrays : Arrays J estOrder n inner height est dur tasks mapping
+  pub latest : Holds n (J .latest) lst
+  pub small : level < J .count
+  pub ends : lct ≡ completion J (getD lctOrder level 0)
+  pub post-room : 4 * n ≤ length ps₀
+  pub atom-room : 6 * (n * n) ≤ length as₀
+  pub reached : Reached zeroAt J estOrder lctOrder level st
+  pub at : At J estOrder ps₀ as₀ st inner words es ps as′ (w .posts) (w .atoms) (w .changes)
+
+module _ {n inn height lct : ℕ} {words : List ℕ} {es ps as′ : List ℤ} {w : Written} {est lst dur tasks mapping : List ℕ} (s : Standing n inn height lct words es ps as′ w est lst dur tasks mapping) where
+  -- the state st′ follows: tree and slices are at it
+  abbrev pub AtNow : State → List ℕ → List ℤ → List ℤ → List ℤ → Written → Type 0
+  AtNow st′ words′ es′ ps′ bs w′ = At (s .J) (s .estOrder) (s .ps₀) (s .as₀) st′ inn words′ es′ ps′ bs (w′ .posts) (w′ .atoms) (w′ .changes)
+
+  abbrev pub turns : ℕ → State → Turn
+  turns f st′ = inner zeroAt (s .J) (s .estOrder) (s .lctOrder) f (s .level) st′
+
+  -- one turn of the inner loop
+  abbrev pub Considered : code.Turn → List ℕ → List ℤ → List ℤ → List ℤ → Type 0
+  Considered (turn.On w′) words′ es′ ps′ bs = (st′ : State) × AtNow st′ words′ es′ ps′ bs w′ × ((f : ℕ) → turns (suc f) (s .st) ≡ turns f st′)
+  Considered (turn.Emptied w′) words′ es′ ps′ bs = (st′ : State) × AtNow st′ words′ es′ ps′ bs w′ × ((f : ℕ) → turns (suc f) (s .st) ≡ stop st′)
+
+  -- all of them
+  abbrev pub AllConsidered : code.Turn → List ℕ → List ℤ → List ℤ → List ℤ → Type 0
+  AllConsidered (turn.On w′) words′ es′ ps′ bs = (st′ : State) × AtNow st′ words′ es′ ps′ bs w′ × (turns n (s .st) ≡ on st′)
+  AllConsidered (turn.Emptied w′) words′ es′ ps′ bs = (st′ : State) × AtNow st′ words′ es′ ps′ bs w′ × (turns n (s .st) ≡ stop st′)
+
+  -- x is the leaf of the task i to consider
+  pub record Responsible-for (i x : ℕ) : Type 0 where
+    pub over : exceeds (leaves.ect-bar (s .J) (s .estOrder) (s .st .leaves)) lct ≡ true
+    pub found : leaves.responsible (s .J) (s .estOrder) (s .st .leaves) ≡ some x
+    pub task : i ≡ getD (s .estOrder) x 0

@@ -1,0 +1,56 @@
+-- What a search for the responsible task does at one node, as in the source: the tests in their order, and the step by what is read there.
+use mathlib.Core.Bool.{Bool, true, false, _&&_, not}
+use Prim.Native.Nat.{ℕ, _+_}
+use lib.Dec.{eqb}
+use Rattle.nodes.specs.declared.theta_lambda_node.Node.{Node}
+use Rattle.nodes.specs.declared.theta_lambda_node.Around.{Around}
+use Rattle.nodes.specs.declared.theta_lambda_node.Around.the-variants as around
+use Rattle.nodes.specs.declared.theta_lambda_node.PDescent.{PDescent}
+use Rattle.nodes.specs.declared.theta_lambda_node.PDescent.the-variants.{Left, Right, Here, Nothing}
+use Rattle.nodes.specs.declared.theta_lambda_node.EctBarDescent.the-variants as bar
+use Rattle.nodes.specs.declared.theta_lambda_node.EctBarDescent.{EctBarDescent}
+use Rattle.nodes.specs.Nodes.{isEmpty}
+use Rattle.nodes.specs.Bounds.{size, Fair, Fits}
+
+-- a gray leaf: with the gray task it has an ect, without it none
+unfoldable pub gray : Node → Bool
+gray n = not (eqb (n .«ect_bar») 0) && eqb (n .ect) 0
+
+-- the child is not empty, and the value is this one
+unfoldable pub tested : Node → ℕ → ℕ → Bool
+tested child value this = not (isEmpty child) && eqb value this
+
+-- Where the gray task of a node's sum bar is, by its children.
+unfoldable pub descentP : Node → Node → Node → PDescent
+descentP n l r =
+    elim (tested l (n .«sum_of_processing_times_bar») (l .«sum_of_processing_times_bar» + r .«sum_of_processing_times»)) [
+      | true ↦ Left
+      | false ↦ elim (tested r (n .«sum_of_processing_times_bar») (l .«sum_of_processing_times» + r .«sum_of_processing_times_bar»))
+          [ true ↦ Right | false ↦ Nothing ]
+    ]
+
+-- Where the gray task of a node's ect bar is: in the right child's ect bar, in its sum bar, or in the left child's ect bar.
+unfoldable pub descentEct : Node → Node → Node → EctBarDescent
+descentEct n l r =
+    elim (tested r (n .«ect_bar») (r .«ect_bar»)) [
+      | true ↦ bar.Right
+      | false ↦ elim (tested r (n .«ect_bar») (l .ect + r .«sum_of_processing_times_bar»)) [
+        | true ↦ bar.RightP
+        | false ↦ elim (tested l (n .«ect_bar») (l .«ect_bar» + r .«sum_of_processing_times»))
+            [ true ↦ bar.Left | false ↦ bar.Nothing ]
+      ]
+    ]
+
+-- the children's numbers can be added
+abbrev pub AroundFits : Around → Type 0
+AroundFits (around.Leaf n) = Unit {0}
+AroundFits (around.Inner n l r) = Fits size Fair l × Fits size Fair r
+
+-- the step from there
+abbrev pub stepAtP : Around → PDescent
+stepAtP (around.Leaf n) = elim (gray n) [ true ↦ Here | false ↦ Nothing ]
+stepAtP (around.Inner n l r) = descentP n l r
+
+abbrev pub stepAtEct : Around → EctBarDescent
+stepAtEct (around.Leaf n) = elim (gray n) [ true ↦ bar.Here | false ↦ bar.Nothing ]
+stepAtEct (around.Inner n l r) = descentEct n l r

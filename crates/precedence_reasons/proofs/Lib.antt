@@ -1,0 +1,5 @@
+pub mod Apart
+pub mod Members
+pub mod Explaining
+pub mod ReasonRefused
+pub mod Many

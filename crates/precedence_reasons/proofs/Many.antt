@@ -1,0 +1,22 @@
+-- More ranges than any record has tasks are refused as none are, by the reason's call.
+-- Assumes nothing.
+use mathlib.Core.Path.{sym, ap, _∙_}
+use mathlib.Core.Bool.{Bool}
+use mathlib.Core.List.{List, []}
+use Prim.Native.Nat.{ℕ, _<_}
+use lib.IntN.{ℤ}
+use lib.ListN.{length}
+use Rattle.integers.specs.Answers.{refusedBy}
+use Rattle.integers.specs.Limits.{TASKS}
+use Rattle.records.specs.declared.record.Propagator.{Propagator}
+use Rattle.input_refusals.proofs.Refused.{input-many}
+use Rattle.precedence_reasons.specs.declared.answer.Reason.{Reason}
+use Rattle.precedence_reasons.specs.Reasons.{ReasonGiven}
+use Rattle.precedence_reasons.proofs.Explaining.{is-refused}
+
+pub too-many-reason : (before : Propagator) (es ls : List ℤ) (bars bars′ : Bool) (task : ℕ) (ws : List ℤ) (r : Reason) (ws′ : List ℤ) → TASKS < length es
+    → ReasonGiven before [] [] bars task ws r ws′ → ReasonGiven before es ls bars′ task ws r ws′
+too-many-reason before es ls bars bars′ task ws r ws′ many a =
+    let (same, not) = input-many before es ls bars bars′ _ _ many in
+    let k = a .refused (λ z. not (sym same ∙ z)) in
+    is-refused before es ls bars′ task ws r ws′ not (k .answer ∙ ap refusedBy same) (k .words)

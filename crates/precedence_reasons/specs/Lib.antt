@@ -1,0 +1,4 @@
+pub mod Numbers
+pub mod Reasons
+pub mod TaskArrays
+pub mod Examples

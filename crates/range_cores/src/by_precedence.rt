@@ -1,0 +1,60 @@
+// The pass by precedences and the reason of one task's bound, on the first `count` places of the arrays.
+use integers::limits::TASKS;
+use lent_ranges::starts::Starts;
+use precedence_reasons::answer::Reason;
+use precedences::answers::Precedences;
+use records::record::Propagator;
+ghost use Prim.Native.Nat.{_≤_};
+ghost use lib.ListN.{take};
+ghost use Rattle.integers.specs.Limits.{TASKS};
+ghost use Rattle.precedence_reasons.specs.Reasons.{ReasonGiven};
+ghost use Rattle.range_cores.specs.PrecedencesCore.{PrecedencesCore};
+
+// What a pass on ranges that are taken apart returns.
+pub struct CorePrecedences {
+    pub answer: Precedences,
+    pub starts: Starts,
+}
+
+// The pass on the first `count` places of the arrays.
+pub fn precedences_core(record: Propagator, starts: Starts) -> CorePrecedences
+    requires { ⌜ starts .count ≤ TASKS ⌝ }
+    ensures { λ r. ⌜ PrecedencesCore «record» starts r ⌝ }
+{
+    let n = starts.count;
+    let mut earliest = starts.earliest;
+    let latest = starts.latest;
+    let answer = precedences::pass::precedences(
+        record,
+        &mut earliest[..n],
+        &latest[..n],
+        starts.bars_fit,
+    );
+    CorePrecedences {
+        answer,
+        starts: Starts {
+            count: n,
+            earliest,
+            latest,
+            bars_fit: starts.bars_fit,
+        },
+    }
+}
+
+// The reason of a task's bound over the first `count` places of the arrays.
+pub fn reason_core(record: Propagator, starts: Starts, task: usize, reason: &mut [i32]) -> Reason
+    requires { ⌜ starts .count ≤ TASKS ⌝ }
+    ensures { λ r. ⌜ ReasonGiven «record» (take (starts .count) (starts .earliest)) (take (starts .count) (starts .latest)) (starts .«bars_fit») task (now (reason .entry)) r (now (reason .exit)) ⌝ }
+{
+    let n = starts.count;
+    let earliest = starts.earliest;
+    let latest = starts.latest;
+    precedence_reasons::reasons::precedence_reason(
+        record,
+        &earliest[..n],
+        &latest[..n],
+        starts.bars_fit,
+        task,
+        reason,
+    )
+}

@@ -1,0 +1,106 @@
+// The run, the mirrored pass and the overload test on ranges that are taken apart: the core is called on the first `count` places of the arrays.
+use integers::limits::TASKS;
+use lent_ranges::starts::Starts;
+use levels::outcome::Finished;
+use levels::outcome::Outcome;
+use mirrored::mirrored_propagator::propagate_mirrored;
+use overload_test::overload_test::Overload;
+use propagator::disjunctive_propagator::propagate;
+use records::record::Propagator;
+ghost use Prim.Native.Nat.{_≤_};
+ghost use lib.ListN.{take};
+ghost use Rattle.integers.specs.Limits.{TASKS};
+ghost use Rattle.overload_test.specs.Tested.{OverloadTested};
+ghost use Rattle.range_cores.specs.Cores.{RanCore, RanMirroredCore};
+
+// What a run on ranges that are taken apart returns. The record is not among it: no run changes one.
+pub struct CoreRun {
+    pub finished: Finished,
+    pub starts: Starts,
+}
+
+// What a mirrored pass on ranges that are taken apart returns.
+pub struct CoreMirrored {
+    pub outcome: Outcome,
+    pub starts: Starts,
+}
+
+// The run on the first `count` places of the arrays.
+pub fn run_core(record: Propagator, starts: Starts, posts: &mut [i32], atoms: &mut [i32]) -> CoreRun
+    requires { ⌜ starts .count ≤ TASKS ⌝ }
+    ensures { λ r. ⌜ RanCore «record» starts (now (posts .entry)) (now (atoms .entry)) r (now (posts .exit)) (now (atoms .exit)) ⌝ }
+{
+    let n = starts.count;
+    let mut earliest = starts.earliest;
+    let latest = starts.latest;
+    let ran = propagate(
+        record,
+        &mut earliest[..n],
+        &latest[..n],
+        starts.bars_fit,
+        posts,
+        atoms,
+    );
+    let outcome = ran.outcome;
+    let finished = Finished {
+        outcome,
+        changes: ran.changes,
+    };
+    CoreRun {
+        finished,
+        starts: Starts {
+            count: n,
+            earliest,
+            latest,
+            bars_fit: starts.bars_fit,
+        },
+    }
+}
+
+// The mirrored pass on the first `count` places of the arrays.
+pub fn mirrored_core(
+    record: Propagator,
+    starts: Starts,
+    posts: &mut [i32],
+    atoms: &mut [i32],
+) -> CoreMirrored
+    requires { ⌜ starts .count ≤ TASKS ⌝ }
+    ensures { λ r. ⌜ RanMirroredCore «record» starts (now (posts .entry)) (now (atoms .entry)) r (now (posts .exit)) (now (atoms .exit)) ⌝ }
+{
+    let n = starts.count;
+    let earliest = starts.earliest;
+    let mut latest = starts.latest;
+    let outcome = propagate_mirrored(
+        record,
+        &earliest[..n],
+        &mut latest[..n],
+        starts.bars_fit,
+        posts,
+        atoms,
+    );
+    CoreMirrored {
+        outcome,
+        starts: Starts {
+            count: n,
+            earliest,
+            latest,
+            bars_fit: starts.bars_fit,
+        },
+    }
+}
+
+// The overload test on the first `count` places of the arrays.
+pub fn overload_core(record: Propagator, starts: Starts) -> Overload
+    requires { ⌜ starts .count ≤ TASKS ⌝ }
+    ensures { λ r. ⌜ OverloadTested «record» (take (starts .count) (starts .earliest)) (take (starts .count) (starts .latest)) (starts .«bars_fit») r ⌝ }
+{
+    let n = starts.count;
+    let earliest = starts.earliest;
+    let latest = starts.latest;
+    overload_test::overload_test::overload_test(
+        record,
+        &earliest[..n],
+        &latest[..n],
+        starts.bars_fit,
+    )
+}

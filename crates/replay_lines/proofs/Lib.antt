@@ -1,0 +1,3 @@
+pub mod Locals
+pub mod Lending
+pub mod Sharing

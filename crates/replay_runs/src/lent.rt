@@ -1,0 +1,88 @@
+// The open calls on a record and on ranges that may have barred starts, which are held by value here and lent to the call.
+use disjunctive::Outcome;
+use disjunctive::Overload;
+use disjunctive::Precedences;
+use disjunctive::Propagator;
+use disjunctive::Range;
+use disjunctive::Reason;
+use replay_lines::ranges::RANGES;
+use replay_lines::ranges::Ranges;
+ghost use Prim.Native.Nat.{_≤_};
+
+// What a run or a mirrored pass answers, and the ranges that it leaves.
+pub struct Ran {
+    pub outcome: Outcome,
+    pub changes: usize,
+    pub ranges: [Range; RANGES],
+}
+
+// What the pass by precedences answers, and the ranges that it leaves.
+pub struct Raised {
+    pub answer: Precedences,
+    pub ranges: [Range; RANGES],
+}
+
+// A run.
+pub fn run(record: Propagator, ranges: Ranges, posts: &mut [i32], atoms: &mut [i32]) -> Ran
+    requires { ⌜ ranges .count ≤ 64 ⌝ }
+{
+    let mut propagator = record;
+    let mut kept = ranges.kept;
+    let n = ranges.count;
+    let finished = disjunctive::run(&mut propagator, &mut kept[..n], posts, atoms);
+    Ran {
+        outcome: finished.outcome,
+        changes: finished.changes,
+        ranges: kept,
+    }
+}
+
+// A mirrored pass.
+pub fn run_mirrored(record: Propagator, ranges: Ranges, posts: &mut [i32], atoms: &mut [i32]) -> Ran
+    requires { ⌜ ranges .count ≤ 64 ⌝ }
+{
+    let mut kept = ranges.kept;
+    let n = ranges.count;
+    let outcome = disjunctive::run_mirrored(&record, &mut kept[..n], posts, atoms);
+    Ran {
+        outcome,
+        changes: 0,
+        ranges: kept,
+    }
+}
+
+// The pass by precedences.
+pub fn precedences(record: Propagator, ranges: Ranges) -> Raised
+    requires { ⌜ ranges .count ≤ 64 ⌝ }
+{
+    let mut kept = ranges.kept;
+    let n = ranges.count;
+    let answer = disjunctive::precedences(&record, &mut kept[..n]);
+    Raised {
+        answer,
+        ranges: kept,
+    }
+}
+
+// The reason of a task's bound by precedences.
+pub fn precedence_reason(
+    record: Propagator,
+    ranges: Ranges,
+    task: usize,
+    reason: &mut [i32],
+) -> Reason
+    requires { ⌜ ranges .count ≤ 64 ⌝ }
+{
+    let kept = ranges.kept;
+    let n = ranges.count;
+    disjunctive::precedence_reason(&record, &kept[..n], task, reason)
+}
+
+// The overload test.
+pub fn overload_test(record: Propagator, ranges: Ranges) -> Overload
+    requires { ⌜ ranges .count ≤ 64 ⌝ }
+{
+    let kept = ranges.kept;
+    let n = ranges.count;
+    disjunctive::overload_test(&record, &kept[..n])
+}

@@ -1,0 +1,3 @@
+pub mod FourLeaves
+pub mod Walks
+pub mod Writing
