@@ -37,9 +37,6 @@ true-ascends [] a = refl
 true-ascends (b ∷ []) a = refl
 true-ascends (b ∷ c ∷ bs) a = and-yes (ltZ b c) (ascends (c ∷ bs)) (lt-ltZ b c (a .0 c (has-head c bs))) (true-ascends (c ∷ bs) (a .1))
 
-pub ascends-is : (bs : List ℤ) → ascends bs ≡ true ↔ Ascending bs
-ascends-is bs = (ascends-true bs, true-ascends bs)
-
 -- a start that is not barred, and its test
 not-true : (t : Bool) → not t ≡ true → t ≡ true → ⊥
 not-true true h y = clash h refl

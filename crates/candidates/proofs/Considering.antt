@@ -153,9 +153,6 @@ module _ {n inn height lct : ℕ} {words : List ℕ} {es ps as′ : List ℤ} {w
   pub atoms-size : length as′ ≡ length (s .as₀)
   atoms-size = ap length (s .at .atoms) ∙ length-sets (s .as₀) 0 (atomWords (reasons (s .st .posts)))
 
-  pub ect-scan : leaves.rootEct J estOrder ls ≡ steps.E zeroAt J (G .proper) estOrder lctOrder (G .by-earliest) (G .by-completion) Θ
-  ect-scan = tree.ect-is J (G .proper) estOrder (G .by-earliest) ls Θ Λ shape
-
   pub found-inside : (x : ℕ) → leaves.responsible J estOrder ls ≡ some x → x < J .count
   found-inside x z = tree.one-found J (G .proper) estOrder (G .by-earliest) ls Θ Λ shape x z .small
 

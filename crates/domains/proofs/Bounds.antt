@@ -42,9 +42,6 @@ no-not p = ap not p
 pub lt-le : (a b c : IntExt) → ltExt a b ≡ true → leExt b c ≡ true → ltExt a c ≡ true
 lt-le a b c p q = ⊎-elim (λ y. clash (le-trans b c a q y) (not-true (leExt b a) p)) (λ n. no-not n) (bool (leExt c a))
 
-pub le-lt : (a b c : IntExt) → leExt a b ≡ true → ltExt b c ≡ true → ltExt a c ≡ true
-le-lt a b c p q = ⊎-elim (λ y. clash (le-trans c a b y p) (not-true (leExt c b) q)) (λ n. no-not n) (bool (leExt c a))
-
 pub lt-to-le : (a b : IntExt) → ltExt a b ≡ true → leExt a b ≡ true
 lt-to-le a b p = le-total b a (not-true (leExt b a) p)
 

@@ -69,9 +69,6 @@ module _ (d : Domain) (v : ℤ) (t : Tight d) where
   pub lower-reaches : leExt (Int v) (tightenedLower d v .«lower_bound») ≡ true
   lower-reaches = lower-case (λ e. leExt (Int v) (e .«lower_bound») ≡ true) (λ y. y) (λ _. show-le v b (first-is v hs (t .order) .from))
 
-  pub lower-upper : tightenedLower d v .«upper_bound» ≡ d .«upper_bound»
-  lower-upper = lower-case (λ e. e .«upper_bound» ≡ d .«upper_bound») (λ _. refl) (λ _. refl)
-
   pub lower-to : (z : ℤ) → Admitted (tightenedLower d v) z → Admitted d z × (v ≤ℤ z)
   lower-to z = lower-case (λ e. Admitted e z → Admitted d z × (v ≤ℤ z))
       (λ y a. (a, read-le v z (le-trans (Int v) (d .«lower_bound») (Int z) y (a .from))))

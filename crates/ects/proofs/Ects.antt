@@ -62,9 +62,6 @@ some-exceeds o v m z q = rw z (lt-ltb m v q)
 pub some-within : (o : Option ℕ) (v m : ℕ) → o ≡ some v → exceeds o m ≡ false → v ≤ m
 some-within o v m z y = elim (decLe v m) [ yes q ↦ q | no q ↦ clash (some-exceeds o v m z (omega arith)) y ]
 
-pub none-within : (o : Option ℕ) (m : ℕ) → o ≡ none → exceeds o m ≡ false
-none-within o m z = rw z refl
-
 -- Raising a start --------------------------------------------------------------------------------------------------------------
 
 pub raised-from : (start : ℕ) (o : Option ℕ) → start ≤ raisedTo start o

@@ -1,12 +1,11 @@
 -- Parts of a list of tasks: what holds of each task holds of those of a part, and where a walk over the list first stops in it.
 -- Assumes nothing.
-use mathlib.Core.Path.{_≡_, ap}
-use mathlib.Core.List.{List, _∷_, _++_}
-use Prim.Native.Nat.{ℕ, suc, _+_, _≤_, _<_}
+use mathlib.Core.List.{List, _∷_}
+use Prim.Native.Nat.{ℕ, suc, _+_, _<_}
 use native.Mathlib.Omega.{arith}
-use lib.ListN.{length, getD, take, drop, length-append, length-take, length-drop}
-use lib.Seq.{getD-drop, getD-take, drop-append-seam, drop-append-add, getD-append-seam, getD-append-add}
-use Rattle.theta_walks.specs.Walks.{lasts, Each, Somewhere, First}
+use lib.ListN.{length, getD, take, drop, length-take, length-drop}
+use lib.Seq.{getD-drop, getD-take}
+use Rattle.theta_walks.specs.Walks.{lasts, Each, First}
 
 module _ (P : ℕ → Type 0) (ks : List ℕ) (h : Each P ks) (i : ℕ) where
   pub each-drop : Each P (drop i ks)
@@ -24,26 +23,3 @@ module _ (P : ℕ → ℕ → Type 0) (ds : List ℕ) where
 pub first-same : (P Q : ℕ → ℕ → Type 0) (ds ks : List ℕ) (x q : ℕ) → ((y r : ℕ) → y < length ks → P (getD ks y 0) r → Q (getD ks y 0) r) → ((y r : ℕ) → y < length ks → Q (getD ks y 0) r → P (getD ks y 0) r)
     → First P ds ks x q → First Q ds ks x q
 first-same P Q ds ks x q to from f = record { small = f .small; rest = f .rest; holds = to x q (f .small) (f .holds); before = λ y h a. f .before y h (from y (lasts ds (drop y ks)) (omega (arith, f .small)) a) }
-
--- a suffix of the list at whose first task the answer is yes
-abbrev pub suffix-place : (P : ℕ → ℕ → Type 0) (ds front : List ℕ) (k : ℕ) (ks : List ℕ) → P k (lasts ds (k ∷ ks)) → Somewhere P ds (front ++ k ∷ ks)
-suffix-place P ds front k ks h = record {
-  place = length front;
-  small = omega (arith, length-append front (k ∷ ks));
-  holds = rw (getD-append-seam front k ks 0, drop-append-seam front (k ∷ ks)) h;
-}
-
--- and a suffix of that suffix, at whose first task another answer is yes, comes no earlier
-pub suffix-places : (P Q : ℕ → ℕ → Type 0) (ds front mid : List ℕ) (k j : ℕ) (ks js : List ℕ) → k ∷ ks ≡ mid ++ j ∷ js → P k (lasts ds (k ∷ ks)) → Q j (lasts ds (j ∷ js))
-    → (s : Somewhere P ds (front ++ k ∷ ks)) × ((t : Somewhere Q ds (front ++ k ∷ ks)) × (s .place ≤ t .place))
-suffix-places P Q ds front mid k j ks js e p q = (
-  suffix-place P ds front k ks p,
-  (
-    record {
-      place = length front + length mid;
-      small = omega (arith, length-append front (k ∷ ks), ap length e, length-append mid (j ∷ js));
-      holds = rw (getD-append-add front (k ∷ ks) (length mid) 0, drop-append-add front (k ∷ ks) (length mid), e, getD-append-seam mid j js 0, drop-append-seam mid (j ∷ js)) q;
-    },
-    omega arith,
-  ),
-)

@@ -63,19 +63,11 @@ or-swap true true c = refl
 or-swap true false c = refl
 or-swap false b c = refl
 
-pub or-assoc : (a b c : Bool) → a || b || c ≡ a || (b || c)
-or-assoc true b c = refl
-or-assoc false b c = refl
-
-pub or-nothing : (a : Bool) → a || false ≡ a
-or-nothing true = refl
-or-nothing false = refl
-
--- what holds below n and at n holds below suc n
 pub cond-most : (b : Bool) (d : ℕ) → cond b d 0 ≤ d
 cond-most true d = omega arith
 cond-most false d = omega arith
 
+-- what holds below n and at n holds below suc n
 pub below-suc : (P : ℕ → Type 0) (n : ℕ) → ((k : ℕ) → k < n → P k) → P n → (k : ℕ) → k < suc n → P k
 below-suc P n lo hi k h = elim (decLt k n) [ yes q ↦ lo k q | no q ↦ (let z : n ≡ k = omega arith in rw z at hi) ]
 

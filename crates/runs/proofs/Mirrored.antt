@@ -8,14 +8,12 @@ use Prim.Native.Nat.{ℕ, zero, suc, _+_, _-_, _*_, _≤_, _<_}
 use native.Mathlib.Omega.{arith}
 use lib.IntN.{ℤ, pos, _+ℤ_}
 use lib.ListN.{length, getD, set, drop, length-map, List·getD-append}
-use lib.Seq.{ext-getD}
 use lib.Signed.{_≤ℤ_, _<ℤ_}
 use mir.Syntax.{w32}
 use mir.Val.{SFits}
-use Rattle.integers.specs.Filling.{filled}
 use Rattle.integers.specs.Limits.{START, DURATIONS, MIRRORED}
 use Rattle.integers.specs.Moments.{Above, instant, zeroAt}
-use Rattle.integers.proofs.Filling.{getD-map-in, filled-none, filled-more, filled-length, filled-past, filled-at, filled-all}
+use Rattle.integers.proofs.Filling.{getD-map-in, filled-none, filled-more, filled-length, filled-past, filled-all}
 use Rattle.integers.proofs.Ints.{up, dn, ints, sumℤ, sub-law, fits-show}
 use Rattle.integers.proofs.Moments.{above-show, at-moment, more-above}
 use Rattle.scheduling.specs.Scheduling.{whole, natural, Tasks, tasksOf, Proper, Atom, Every, PassesWith, PassesAlone}
@@ -37,7 +35,7 @@ use Rattle.runs.proofs.Buffers.{posts-length}
 use Rattle.runs.proofs.Demand.{Accepted, by-earliest, by-completion, demand-3}
 use Rattle.runs.proofs.Few.{posts-fit, atoms-fit}
 use Rattle.runs.proofs.Fuel.{propagate-is}
-use Rattle.runs.proofs.Readers.{Four, four-words, startOf}
+use Rattle.runs.proofs.Readers.{four-words, startOf}
 use Rattle.runs.proofs.Shapes.{Shaped, post-shaped, overload-shaped}
 use Rattle.runs.proofs.Starts.{starts-length, starts-between}
 
@@ -337,15 +335,6 @@ module _ (ds : List ℕ) where
   starts (p ∷ ps) zero = refl
   starts (p ∷ ps) (suc j) = omega (arith, length-map (p .reason) (mirrorAtom (durationIn ds)), starts ps j)
 
-  -- Word by word: of a post the bound is mirrored, of an atom the kind and the value; all else stays.
-  pub mirrored-four : (ps : List Post) (from j : ℕ) → j < length ps → Four (postWords from (map (mirrorPost ds) ps)) (4 * j) (mirrorPost ds (getD ps j no-post)) (from + startOf ps j)
-  mirrored-four ps from j q = subst (λ (p : Post). Four (postWords from (map (mirrorPost ds) ps)) (4 * j) p (from + startOf ps j)) (getD-map-in (mirrorPost ds) ps j no-post no-post q)
-      (subst (λ (k : ℕ). Four (postWords from (map (mirrorPost ds) ps)) (4 * j) (getD (map (mirrorPost ds) ps) j no-post) (from + k)) (starts ps j) (four-words (map (mirrorPost ds) ps) from j (omega (arith, length-map ps (mirrorPost ds)))))
-
-  pub mirrored-three : (xs : List Atom) (tail : List ℤ) (m : ℕ) → m < length xs → Three (atomWords (mirrorAtoms (durationIn ds) xs) ++ tail) (3 * m) (mirrorAtom (durationIn ds) (getD xs m no-atom))
-  mirrored-three xs tail m q = subst (Three (atomWords (mirrorAtoms (durationIn ds) xs) ++ tail) (3 * m)) (getD-map-in (mirrorAtom (durationIn ds)) xs m no-atom no-atom q)
-      (three-words (mirrorAtoms (durationIn ds) xs) tail m no-atom (omega (arith, length-map xs (mirrorAtom (durationIn ds)))))
-
   pub posts-begin : (ps : List Post) → postsTo ds 0 ps ≡ ps
   posts-begin ps = filled-none (λ k. mirrorPost ds (getD ps k no-post)) ps
 
@@ -393,11 +382,3 @@ module _ (ds : List ℕ) where
   pub atoms-after : (entry : List ℤ) (t : Trace) → atomWords (atomsTo ds (length (atomsIn t)) (atomsIn t)) ++ drop (length (atomWords (atomsIn t))) entry ≡ atomsAfter entry (mirrorTrace ds t)
   atoms-after entry t = ap₂ (λ (l : List Atom) (k : ℕ). atomWords l ++ drop k entry) (filled-all (mirrorAtom (durationIn ds)) no-atom (atomsIn t)) (sym (atom-words-length (atomsIn t)))
       ∙ ap (λ (l : List Atom). atomWords l ++ drop (length (atomWords l)) entry) (sym (atoms-mirrored t))
-
-  -- starts are mirrored in place too
-  pub starts-after : (zs : List ℤ) → length zs ≡ length ds → filled (λ k. mirrorStart (getD ds k 0) (getD zs k (pos 0))) (length zs) zs ≡ mirrorStarts ds zs
-  starts-after zs e = ext-getD (pos 0) (filled (λ k. mirrorStart (getD ds k 0) (getD zs k (pos 0))) (length zs) zs) (mirrorStarts ds zs) (size ∙ e ∙ sym (mirror-length ds zs e))
-      (λ k q. filled-at (λ k. mirrorStart (getD ds k 0) (getD zs k (pos 0))) (length zs) zs (pos 0) k (omega (arith, size)) (omega arith) ∙ sym (mirror-at ds zs e k))
-    where
-      size : length (filled (λ k. mirrorStart (getD ds k 0) (getD zs k (pos 0))) (length zs) zs) ≡ length zs
-      size = filled-length (λ k. mirrorStart (getD ds k 0) (getD zs k (pos 0))) (length zs) zs

@@ -52,9 +52,6 @@ right-part (x ∷ xs) ys k z a = right-part xs ys k z (a .1)
 pub says-then : (xs ys : List Atom) (k : ℕ) (u v : ℤ) → Says xs k u v → Silent ys k → Says (xs ++ ys) k u v
 says-then xs ys k u v s q = record { told = λ z a. s .told z (left-part xs ys k z a); tells = λ z a b. joined xs ys k z (s .tells z a b) (q z) }
 
-pub then-says : (xs ys : List Atom) (k : ℕ) (u v : ℤ) → Silent xs k → Says ys k u v → Says (xs ++ ys) k u v
-then-says xs ys k u v q s = record { told = λ z a. s .told z (right-part xs ys k z a); tells = λ z a b. joined xs ys k z (q z) (s .tells z a b) }
-
 module _ (o : ℕ) (J : Tasks natural) (ok : Proper J) (estOrder lctOrder : List ℕ) (rk : ByEarliest J (λ j. getD estOrder j 0) (λ k. index estOrder k)) (ls : List Leaf) (Θ Λ : TaskSet) (s : tree.Represents J ok estOrder rk ls Θ Λ) where
   abbrev T : ℕ → ℕ
   T j = getD estOrder j 0

@@ -4,7 +4,6 @@ use mathlib.Core.Bool.{true, false}
 use mathlib.Core.Logic.{_⊎_, inl, inr}
 use Prim.Native.Nat.{ℕ, suc, _+_, _-_, _≤_, _<_, max}
 use native.Mathlib.Omega.{arith}
-use native.Mathlib.Nat.{le-antisymm}
 use native.Mathlib.Decide.{decLe, decLt, ℕ-discrete}
 use borrow.Author.Tests.{leb-true, le-leb, lt-leb}
 use lib.Dec.{leb}
@@ -22,9 +21,6 @@ pub record Posts (J : Tasks natural) (now : ℕ → ℕ) (m : ℕ) (task bound :
   pub agrees : (j : ℕ) → j < m → bound j ≡ now (task j)
   pub every : (k : ℕ) → k < J .count → J .earliest k < now k → (j : ℕ) × (j < m) × (task j ≡ k)
   pub once : (i j : ℕ) → i < m → j < m → task i ≡ task j → i ≡ j
-
-pub no-posts : (J : Tasks natural) (task bound : ℕ → ℕ) → Posts J (J .earliest) 0 task bound
-no-posts J task bound = record { small = λ j q. absurd (omega arith); raises = λ j q. absurd (omega arith); agrees = λ j q. absurd (omega arith); every = λ k q r. absurd (omega arith); once = λ i j q. absurd (omega arith) }
 
 -- one more post keeps the posts right
 pub more : (J : Tasks natural) (now now′ : ℕ → ℕ) (m : ℕ) (task bound task′ bound′ : ℕ → ℕ) (i b : ℕ) → i < J .count → Posts J now m task bound → now i ≡ J .earliest i → J .earliest i < b
@@ -100,14 +96,6 @@ module _ (J : Tasks natural) (ok : Proper J) (ect : TaskSet → ℕ) (ect-is : (
     where
       back : (k : ℕ) → In J Λ′ k → In J Λ k
       back k h = record { small = h .small; mem = z k (h .small) ∙ h .mem }
-
-  -- and ect of a set likewise
-  pub ect-same : (S Ω : TaskSet) → NonEmpty J S → ((k : ℕ) → k < J .count → S k ≡ Ω k) → ect S ≡ ect Ω
-  ect-same S Ω ne z =
-      let so : Subset J S Ω = λ k h. sym (z k (h .small)) ∙ h .mem in
-      let os : Subset J Ω S = λ k h. z k (h .small) ∙ h .mem in
-      let no : NonEmpty J Ω = (ne .0, record { small = ne .1 .small; mem = so (ne .0) (ne .1) }) in
-      le-antisymm (ect-mono J S Ω (ect S) (ect Ω) so (ect-is S ne) (ect-is Ω no)) (ect-mono J Ω S (ect Ω) (ect S) os (ect-is Ω no) (ect-is S ne))
 
   pub start : Facts 0 (λ _. false) (J .earliest)
   start = record { fits-before = λ s q. absurd (omega arith); gray = λ k h. clash (h .mem) refl; not-passed = λ k h. clash (h .mem) refl; left = λ k h q. absurd (omega arith); same-in = λ k h. refl; same-on = λ k q r. refl; inside = ok .ranges }

@@ -8,7 +8,7 @@ use native.Mathlib.Omega.{arith}
 use lib.IntN.{ℤ, pos, negℤ, _+ℤ_}
 use lib.Signed.{_≤ℤ_, _<ℤ_}
 use Rattle.integers.proofs.Ints.{up, dn, ints, sumℤ, up-neg, dn-neg}
-use Rattle.scheduling.specs.Scheduling.{whole, Tasks, Proper, TaskSet, _with_, Largest, Least, In, completion, Est, Lct, processing, EstPlusP, Ect, Overloads, EdgeFindingBound, Schedule, Conflict, Done, Atom, Compares, Meets, Every, HoldsAtEntry}
+use Rattle.scheduling.specs.Scheduling.{whole, Tasks, TaskSet, _with_, Largest, Least, In, completion, Est, Lct, processing, EstPlusP, Ect, Overloads, EdgeFindingBound, Schedule, Conflict, Done, Atom, Compares, Meets, Every, HoldsAtEntry}
 use Rattle.scheduling.specs.Mirroring.{mirrorStart, mirror, mirrorKind, mirrorAtom, mirrorAtoms, LctLessP, Lst, MirroredBound, MirroredConflict, MirroredDone}
 
 -- Starts and moments -----------------------------------------------------------------------------------------------------------
@@ -72,9 +72,6 @@ mirror-twice J = λ i. record {
   duration = J .duration;
 }
 
-pub proper-mirrored : (J : Tasks whole) → Proper J → Proper (mirror J)
-proper-mirrored J ok = record { ranges = λ k q. start-falls (J .duration k) (J .earliest k) (J .latest k) (ok .ranges k q); lasts = ok .lasts }
-
 module _ (J : Tasks whole) where
   abbrev M : Tasks whole
   M = mirror J
@@ -134,9 +131,6 @@ module _ (J : Tasks whole) where
       sum = let z : t +ℤ pos (processing J (f .part)) ≡ f .end = f .difference in
           omega (ints, same-processing (f .part), at-neg t, at-neg (f .end), sumℤ (negℤ (f .end)) (pos (processing M (f .part))), sumℤ t (pos (processing J (f .part))));
     }
-
-    pub part-mirrored : (t : ℤ) → EstPlusP M Ω t ↔ LctLessP J Ω (negℤ t)
-    part-mirrored t = (less t, λ f. subst (EstPlusP M Ω) (neg-twice t) (plus (negℤ t) f))
 
     pub ect-mirrored : (t : ℤ) → Ect M Ω t ↔ Lst J Ω (negℤ t)
     ect-mirrored = largest-least negℤ neg-twice neg-falls (EstPlusP M Ω) (LctLessP J Ω) less plus

@@ -43,9 +43,6 @@ module _ (J : Tasks natural) (ok : Proper J) (Ω Ω′ : TaskSet) (i r s′ b c 
   pub holds-high : (k : ℕ) → In J Ω k → J .latest k ≤ Given .latest k
   holds-high k h = omega (arith, late k h, ends k h)
 
-  pub holds-i : Given .earliest i ≤ J .earliest i
-  holds-i = rw out′ low-i
-
   -- They pass.
   in→ : {S : TaskSet} {k : ℕ} → In J S k → In Given S k
   in→ h = record { small = h .small; mem = h .mem }

@@ -11,7 +11,7 @@ use native.Mathlib.Nat.{zero-add}
 use native.Mathlib.Decide.{decLt}
 use lib.IntN.{ℤ, pos}
 use lib.ListN.{List·getD-append, List·getD-eq-default, getD-replicate, length, take, drop, set, getD, length-append, length-take, length-drop}
-use lib.Seq.{getD-append-add, getD-drop, take-append-seam, getD-take, sets, set-out, take-all, take-append-le, length-take-le}
+use lib.Seq.{getD-append-add, getD-drop, getD-take, sets, set-out, take-all, take-append-le, length-take-le}
 use Rattle.integers.specs.Words.{overwritten}
 use Rattle.integers.proofs.Words.{sets-append, overwrites}
 use Rattle.integers.proofs.Bools.{bool}
@@ -122,10 +122,6 @@ past : {A : Type 0} (z ws : List A) (k : ℕ) (d : A) → length ws ≤ k → ge
 past z ws k d h =
     let e : k ≡ length ws + (k - length ws) = omega arith in
     ap (λ (j : ℕ). getD (overwritten z ws) j d) e ∙ getD-append-add ws (drop (length ws) z) (k - length ws) d ∙ getD-drop (length ws) z (k - length ws) d ∙ ap (λ (j : ℕ). getD z j d) (sym e)
-
--- the numbers that are kept stand at the front
-pub kept-front : (xs : List ℤ) → take (length (take KEPT xs)) (gathered (some xs) .kept) ≡ take KEPT xs
-kept-front xs = take-append-seam (take KEPT xs) (drop (length (take KEPT xs)) zeros)
 
 -- each at its place, and zeros behind the last
 pub kept-at : (xs : List ℤ) (k : ℕ) → k < KEPT → getD (gathered (some xs) .kept) k (pos 0) ≡ getD xs k (pos 0)

@@ -89,8 +89,3 @@ word-number b bs = by bs (bool (eqb b 45))
 pub word-reading : (bs : List ℕ) → 0 < length bs → readingOf (foldl nextOf Empty bs) ≡ given (numberOf bs)
 word-reading [] h = absurd (omega arith)
 word-reading (b ∷ bs) h = word-number b bs
-
-pub no-word : (bs : List ℕ) → length bs ≡ 0 → given (numberOf bs) ≡ reading.Wrong
-unfolding numberOf given
-no-word [] h = refl
-no-word (b ∷ bs) h = absurd (omega arith)

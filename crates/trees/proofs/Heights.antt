@@ -122,10 +122,6 @@ root-height m h e = record { from = omega (arith, leftmost-root h); to = omega (
 pub root-first : (m h : ℕ) → m + 1 ≡ width h → leftmost h 0 - m ≡ 0
 root-first m h e = omega (arith, leftmost-root h)
 
--- a leaf
-pub leaf-height : (m k : ℕ) → k ≤ m → HasHeight m 0 (m + k)
-leaf-height m k q = record { from = omega (arith, leftmost-leaf (m + k)); to = omega (arith, leftmost-leaf (m + k), once) }
-
 -- an inner node and its children
 module _ (m h i : ℕ) (s : HasHeight m (suc h) i) where
   grows : (h i : ℕ) → 2 * i + 3 ≤ leftmost (suc h) i + width (suc h)

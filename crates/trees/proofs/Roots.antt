@@ -9,12 +9,11 @@ use Prim.Native.Nat.{ℕ, zero, suc, _+_, _-_, _≤_, _<_, max}
 use native.Mathlib.Omega.{arith}
 use native.Mathlib.Nat.{zero-add, add-zero, add-suc, le-antisymm}
 use native.Mathlib.Decide.{decLe, decLt, ℕ-discrete}
-use lib.ListN.{length, getD, set, length-set, replicate, length-replicate, List·getD-eq-default}
+use lib.ListN.{length, getD, set, length-set, List·getD-eq-default}
 use lib.Seq.{getD-set-same, getD-set-other}
 use borrow.Author.Tests.{lt-ltb, le-ltb}
 use Rattle.integers.specs.Orders.{index, has, Distinct}
 use Rattle.integers.proofs.Bools.{bool, clash}
-use Rattle.integers.proofs.Filling.{getD-fresh}
 use Rattle.integers.specs.Limits.{TASKS, DURATIONS}
 use Rattle.scheduling.specs.Scheduling.{natural, Tasks, Proper, TaskSet, total, _with_, Largest, In, NonEmpty, EstPlusP, Ect, processing}
 use Rattle.scheduling.proofs.Sets.{Empty, Top, top, with-new, with-old}
@@ -99,10 +98,7 @@ module _ (J : Tasks natural) (ok : Proper J) (estOrder : List ℕ) (rk : ByEarli
     pub whites : (k : ℕ) → k < J .count → whiteAt ls (rank k) ≡ Ω k
     pub grays : (k : ℕ) → k < J .count → grayAt ls (rank k) ≡ Λ k
 
-  -- no task, and one task's leaf of another colour
-  pub represents-none : Represents (replicate (J .count) empty) (λ k. false) (λ k. false)
-  represents-none = record { size = length-replicate (J .count) empty; whites = λ k q. ap inTheta (getD-fresh empty (J .count) (rank k)); grays = λ k q. ap inLambda (getD-fresh empty (J .count) (rank k)) }
-
+  -- one task's leaf of another colour
   pub recoloured : (ls : List Leaf) (Ω Λ Ω′ Λ′ : TaskSet) → Represents ls Ω Λ → (k : ℕ) → k < J .count → (c : Leaf) → Ω′ k ≡ inTheta c → Λ′ k ≡ inLambda c
       → ((j : ℕ) → (j ≡ k → ⊥) → (Ω′ j ≡ Ω j) × (Λ′ j ≡ Λ j)) → Represents (set ls (rank k) c) Ω′ Λ′
   recoloured ls Ω Λ Ω′ Λ′ s k q c w-here g-here there = record {

@@ -18,7 +18,7 @@ use Rattle.nodes.specs.Bounds.{Fair, size, PlainFair, plainSize}
 use Rattle.nodes.specs.Descents.{gray}
 use Rattle.nodes.proofs.Grays.{gray-empty}
 use Rattle.trees.specs.Shapes.{width, heightFor, changed, leavesOf, nodeOver, TreeOf}
-use Rattle.trees.specs.Words.{nodeAt, plainAt, ectIn, ectBarIn, plainEctIn}
+use Rattle.trees.specs.Words.{nodeAt, plainAt, ectBarIn, plainEctIn}
 use Rattle.trees.specs.Bounds.{Bounded, CanPut}
 use Rattle.trees.specs.Puts.{Puttable, Put, PlainPuttable, PlainPut}
 use Rattle.trees.specs.Searches.{Searchable, searchEct, isWhite, thetaOf}
@@ -136,10 +136,7 @@ module _ {J : Tasks natural} {estOrder : List ℕ} (lim : Limited J estOrder) {l
   unfolding root
   root-of = root-is joinOf inner (heightFor (J .count)) (nodeAt words) (t .complete) own-is-tree ∙ ap (λ (leaf : ℕ → Node). nodeOver joinOf leaf (heightFor (J .count)) 0) own
 
-  -- what `ect` and `ect_bar` answer
-  pub ect-of-root : ectIn words ≡ leaves.ect J estOrder ls
-  ect-of-root = ap (λ (n : Node). decoded (n .ect)) root-of
-
+  -- what `ect_bar` answers
   pub bar-of-root : ectBarIn words ≡ leaves.ect-bar J estOrder ls
   bar-of-root = ap (λ (n : Node). decoded (n .«ect_bar»)) root-of
 
