@@ -1,3 +1,2 @@
 pub mod Answers
-pub mod RequestAnswers
 pub mod Examples

@@ -6,8 +6,8 @@ use Prim.Native.Nat.{ℕ, _+_, _*_, _<_}
 use native.Mathlib.Omega.{arith}
 use lib.ListN.{length, take}
 use Rattle.runs.proofs.Tables.{tab-length, tab-at}
-use Rattle.text.specs.Writing.{natural, decimal, Puts}
-use Rattle.text.proofs.Putting.{puts-append}
+use Rattle.decimals.specs.Writing.{natural, decimal, Puts}
+use Rattle.decimals.proofs.Putting.{puts-append}
 use Rattle.plan_text.specs.Lines.{newline, space, lines}
 use Rattle.plan_text.proofs.Printing.{puts-as, puts-next}
 use Rattle.costliest_cli.specs.Tasks.{taskLine, instanceLines, costliestTask, costliest}

@@ -13,8 +13,8 @@ use borrow.Author.Tests.{eq-eqb}
 use Rattle.integers.specs.Limits.{TASKS}
 use Rattle.integers.proofs.Ints.{ints, up, dn}
 use Rattle.runs.specs.Runs.{tabulate}
+use Rattle.decimals.specs.Writing.{natural, decimal}
 use Rattle.text.specs.Numbers.{numbersOf, space as isSpace}
-use Rattle.text.specs.Writing.{natural, decimal}
 use Rattle.text.proofs.ReadBack.{no-numbers, number-back}
 use Rattle.plan_text.specs.Lines.{newline, space, lines}
 use Rattle.plan_cli.specs.Printed.{Triple, triples, inputTasks, plannedOf, orZero, answered}

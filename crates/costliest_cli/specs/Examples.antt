@@ -4,8 +4,8 @@ use mathlib.Core.Path.{_≡_, refl}
 use mathlib.Core.List.{List, [], _∷_}
 use Prim.Native.Nat.{ℕ}
 use Rattle.runs.specs.Runs.{tabulate}
+use Rattle.decimals.specs.Writing.{figures, natural, decimal}
 use Rattle.text.specs.Numbers.{space, pieces, filled, tokens, digit, digits, value, ranged, unsigned, numberOf, before, numbers, numbersOf}
-use Rattle.text.specs.Writing.{figures, natural, decimal}
 use Rattle.plan_text.specs.Lines.{lines, refusedLine}
 use Rattle.costliest_cli.specs.Asked.{askedIn}
 use Rattle.costliest_cli.specs.Tasks.{taskLine, instanceLines}

@@ -4,7 +4,7 @@ use Prim.Native.Nat.{ℕ, _*_}
 use lib.IntN.{pos}
 use lib.ListN.{length}
 use Rattle.runs.specs.Runs.{tabulate}
-use Rattle.text.specs.Writing.{natural, decimal}
+use Rattle.decimals.specs.Writing.{natural, decimal}
 use Rattle.plan_text.specs.Lines.{newline, space, lines}
 use Rattle.plan_cli.specs.Printed.{Triple}
 

@@ -12,9 +12,9 @@ use lib.Seq.{sets, sets-eq, take-at, drop-at, take-append-le}
 use Rattle.integers.specs.Limits.{TASKS, START, DURATIONS}
 use Rattle.integers.proofs.Ints.{ints, up, dn, sumℤ, up-neg, dn-neg}
 use Rattle.input_refusals.specs.Refusals.{StartFits}
-use Rattle.text.specs.Writing.{natural, decimal, Puts}
-use Rattle.text.proofs.Decimals.{natural-fits, natural-small, natural-large}
-use Rattle.text.proofs.Putting.{puts-append, puts-length}
+use Rattle.decimals.specs.Writing.{natural, decimal, Puts}
+use Rattle.decimals.proofs.Decimals.{natural-fits, natural-small, natural-large}
+use Rattle.decimals.proofs.Putting.{puts-append, puts-length}
 use Rattle.pages.specs.Lines.{LINE, spaces, padLeft, lineEnd, columns, lineOf}
 
 -- ---- how long

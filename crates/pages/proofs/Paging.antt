@@ -19,8 +19,8 @@ use Rattle.fixed_schedules.specs.FixedSchedules.{startAt, endAt, orderOf}
 use Rattle.fixed_schedules.specs.Neighbours.{Started}
 use Rattle.fixed_schedules.proofs.Placing.{ordered, order-length, order-permutes}
 use Rattle.fixed_schedules.proofs.Accepting.{input-of, started, short}
-use Rattle.text.specs.Writing.{Puts}
-use Rattle.text.proofs.Putting.{puts-append}
+use Rattle.decimals.specs.Writing.{Puts}
+use Rattle.decimals.proofs.Putting.{puts-append}
 use Rattle.pages.specs.Lines.{LINE, heading}
 use Rattle.pages.specs.declared.answer.Page.{Page}
 use Rattle.pages.specs.declared.answer.Page.the-variants.{Written, Refused}

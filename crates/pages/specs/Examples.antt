@@ -10,7 +10,7 @@ use Rattle.integers.specs.Tests.{allBelow, refusal}
 use Rattle.scheduling.specs.Scheduling.{total}
 use Rattle.records.specs.declared.record.Propagator.{Propagator}
 use Rattle.records.specs.Records.{unusedAt, lawfulRecord, newRecord}
-use Rattle.text.specs.Writing.{figures, natural, decimal}
+use Rattle.decimals.specs.Writing.{figures, natural, decimal}
 use Rattle.pages.specs.Lines.{padLeft, columns, heading}
 use Rattle.pages.specs.Pages.{pageOf, pageNumber}
 

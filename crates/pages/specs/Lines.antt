@@ -3,7 +3,7 @@ use mathlib.Core.List.{List, [], _∷_, _++_}
 use Prim.Native.Nat.{ℕ, _-_}
 use lib.IntN.{ℤ}
 use lib.ListN.{length, replicate}
-use Rattle.text.specs.Writing.{natural, decimal}
+use Rattle.decimals.specs.Writing.{natural, decimal}
 
 -- the bytes of a line, its line feed among them
 abbrev pub LINE : ℕ

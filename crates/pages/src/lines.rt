@@ -1,10 +1,10 @@
 // The lines of a page, put into a buffer.
+use decimals::writing::put_bytes;
+use decimals::writing::put_number;
 use integers::limits::TASKS;
 use integers::moment_of;
 use integers::start_of;
 use integers::word_of;
-use text::writing::put_bytes;
-use text::writing::put_number;
 ghost use Prim.Native.Nat.{_+_, _*_, _≤_, _<_};
 ghost use lib.IntN.{pos, _+ℤ_};
 ghost use lib.ListN.{length, take};
@@ -12,7 +12,7 @@ ghost use mathlib.Core.List.{_++_, flatMap};
 ghost use Rattle.integers.specs.Limits.{TASKS, DURATIONS};
 ghost use Rattle.input_refusals.specs.Refusals.{StartFits};
 ghost use Rattle.fixed_schedules.specs.Neighbours.{Listed};
-ghost use Rattle.text.specs.Writing.{decimal, Puts};
+ghost use Rattle.decimals.specs.Writing.{decimal, Puts};
 ghost use Rattle.pages.specs.Lines.{LINE, padLeft, heading, lineOf};
 ghost use Rattle.pages.specs.Pages.{lineAt};
 

@@ -7,8 +7,8 @@ use native.Mathlib.Omega.{arith}
 use lib.ListN.{length, take}
 use lib.Seq.{take-append-seam}
 use Rattle.integers.proofs.Words.{overwrites}
-use Rattle.text.specs.Writing.{Puts}
-use Rattle.text.proofs.Putting.{puts-length}
+use Rattle.decimals.specs.Writing.{Puts}
+use Rattle.decimals.proofs.Putting.{puts-length}
 use Rattle.plan_cli.specs.Printed.{Written}
 
 -- what was put from the front of a buffer on, and ends inside it, is what its first bytes are

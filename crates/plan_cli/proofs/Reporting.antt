@@ -15,8 +15,8 @@ use Rattle.runs.specs.Demand.{no-post}
 use Rattle.runs.specs.Words.{reasons}
 use Rattle.runs.proofs.Buffers.{reasons-suc, reasons-most}
 use Rattle.post_words.specs.Posts.{taskWord, boundOf, reasonWords}
-use Rattle.text.specs.Writing.{Puts}
-use Rattle.text.proofs.Putting.{puts-append}
+use Rattle.decimals.specs.Writing.{Puts}
+use Rattle.decimals.proofs.Putting.{puts-append}
 use Rattle.plan_text.specs.Lines.{newline, doneWord, overloadLine, postLine, lines, whyLines, spaced, doneLine, overloadLines}
 use Rattle.plan_cli.specs.RunLines.{postOf}
 use Rattle.plan_cli.specs.RunSlices.{Held, Holds, Posts}

@@ -15,8 +15,8 @@ use Rattle.trees.specs.Searches.{stepP, stepEct, searchP, searchEct, thetaOf}
 use Rattle.trees.specs.Shapes.{width, heightFrom, nodeOver}
 use Rattle.runs.specs.Runs.{propagate, run, outer, inner, conflict, propagation, bounds, within, tabulate}
 use Rattle.records.specs.Records.{unusedAt, lawfulRecord}
+use Rattle.decimals.specs.Writing.{figures, natural, decimal}
 use Rattle.text.specs.Numbers.{space, pieces, filled as nonEmpty, tokens, digit, digits, value, ranged, unsigned, numberOf, before, numbers, numbersOf}
-use Rattle.text.specs.Writing.{figures, natural, decimal}
 use Rattle.plan_text.specs.Lines.{sign, postLine, whyLine, lines, doneLine, overloadLines, refusedLine}
 use Rattle.plan_cli.specs.RunLines.{runLines}
 use Rattle.plan_cli.specs.Printed.{triples, inputTasks, answered, printed}

@@ -1,4 +1,5 @@
 // A run's report: its posts with their reasons, and how it ended.
+use decimals::writing::put_bytes;
 use levels::outcome::Outcome;
 use plan_text::lines::put_post;
 use plan_text::lines::put_reason;
@@ -8,7 +9,6 @@ use post_words::posts::bound_word;
 use post_words::posts::post_reason;
 use post_words::posts::stretch;
 use post_words::posts::task_word;
-use text::writing::put_bytes;
 ghost use Prim.Native.Nat.{ℕ, _+_, _*_, _≤_};
 ghost use mathlib.Core.Path.{_≡_};
 ghost use mathlib.Core.List.{List};
@@ -19,7 +19,7 @@ ghost use Rattle.scheduling.specs.Words.{atomWords};
 ghost use Rattle.runs.specs.Traces.{Post, Trace};
 ghost use Rattle.runs.specs.Words.{reasons};
 ghost use Rattle.post_words.specs.Posts.{reasonWords};
-ghost use Rattle.text.specs.Writing.{Puts};
+ghost use Rattle.decimals.specs.Writing.{Puts};
 ghost use Rattle.plan_text.specs.Lines.{doneLine, overloadLines};
 ghost use Rattle.plan_cli.specs.RunLines.{postOf, postLines, answerLines};
 ghost use Rattle.plan_cli.specs.RunSlices.{Held, Holds, Posts, Shown, Printable};

@@ -10,8 +10,8 @@ use lib.ListN.{length, getD, take}
 use lib.Seq.{take-all}
 use lib.IntN.{ℤ, pos}
 use lib.Signed.{leZ}
-use Rattle.text.specs.Writing.{natural, decimal, Puts}
-use Rattle.text.proofs.Putting.{puts-append}
+use Rattle.decimals.specs.Writing.{natural, decimal, Puts}
+use Rattle.decimals.proofs.Putting.{puts-append}
 use Rattle.scheduling.specs.Scheduling.{Atom}
 use Rattle.scheduling.specs.Words.{atomWords, no-atom}
 use Rattle.scheduling.proofs.Words.{atoms-length, three-alone}

@@ -5,7 +5,7 @@ use Prim.Native.Nat.{ℕ}
 use lib.IntN.{ℤ, pos}
 use lib.Signed.{leZ}
 use Rattle.scheduling.specs.Scheduling.{Atom}
-use Rattle.text.specs.Writing.{natural, decimal}
+use Rattle.decimals.specs.Writing.{natural, decimal}
 
 abbrev pub newline : List ℕ
 newline = 10 ∷ []

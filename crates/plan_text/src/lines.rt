@@ -1,18 +1,18 @@
 // The lines of a run, put into a buffer one behind the other.
+use decimals::writing::put_bytes;
+use decimals::writing::put_count;
+use decimals::writing::put_number;
 use post_words::posts::atoms_in;
 use post_words::posts::kind_at;
 use post_words::posts::value_at;
 use post_words::posts::variable_at;
-use text::writing::put_bytes;
-use text::writing::put_count;
-use text::writing::put_number;
 ghost use Prim.Native.Nat.{_+_, _*_, _≤_};
 ghost use mathlib.Core.Path.{_≡_};
 ghost use mathlib.Core.List.{List};
 ghost use lib.ListN.{length};
 ghost use Rattle.scheduling.specs.Scheduling.{Atom};
 ghost use Rattle.scheduling.specs.Words.{atomWords};
-ghost use Rattle.text.specs.Writing.{Puts};
+ghost use Rattle.decimals.specs.Writing.{Puts};
 ghost use Rattle.plan_text.specs.Lines.{sign, postLine, whyLine, whyLines, spacedOne, spaced, refusedLine};
 
 // The sign of an atom's kind.

@@ -17,7 +17,7 @@ use Rattle.promises.specs.Promise.{Reason, OverloadPromise}
 use Rattle.promises.specs.MirroredPromise.{MirroredReason}
 use Rattle.promises.specs.RanLent.{lentNumber, RanLent, RanMirroredLent}
 use Rattle.answers.specs.declared.call_answers.RunAnswer.{RunAnswer}
-use Rattle.answers.specs.declared.request_answers.MirroredAnswer.{MirroredAnswer}
+use Rattle.request_answers.specs.declared.MirroredAnswer.{MirroredAnswer}
 use Rattle.answers.specs.Answers.{ToldInWords}
 use Rattle.reedgrit.specs.Calls.{RanNumbers}
 use Rattle.reedgrit.specs.Requests.{MirroredNumbers}

@@ -23,13 +23,13 @@ use Rattle.promises.specs.PrecedencesLent.{PrecedencesLent}
 use Rattle.promises.specs.RanLent.{RanMirroredLent}
 use Rattle.barred_starts.specs.Bars.{allBarsFit}
 use Rattle.barred_starts.specs.Ranges.{earliests, latests}
-use Rattle.answers.specs.declared.request_answers.MirroredAnswer.{MirroredAnswer}
-use Rattle.answers.specs.declared.request_answers.CountAnswer.{CountAnswer}
-use Rattle.answers.specs.declared.request_answers.ChangeAnswer.{ChangeAnswer}
-use Rattle.answers.specs.declared.request_answers.StartAnswer.{StartAnswer}
-use Rattle.answers.specs.declared.request_answers.BusiestAnswer.{BusiestAnswer}
-use Rattle.answers.specs.declared.request_answers.ChargesAnswer.{ChargesAnswer}
-use Rattle.answers.specs.RequestAnswers.{mirroredAnswer, countAnswer, changeAnswer, startAnswer, busiestAnswer, chargesAnswer}
+use Rattle.request_answers.specs.declared.MirroredAnswer.{MirroredAnswer}
+use Rattle.request_answers.specs.declared.CountAnswer.{CountAnswer}
+use Rattle.request_answers.specs.declared.ChangeAnswer.{ChangeAnswer}
+use Rattle.request_answers.specs.declared.StartAnswer.{StartAnswer}
+use Rattle.request_answers.specs.declared.BusiestAnswer.{BusiestAnswer}
+use Rattle.request_answers.specs.declared.ChargesAnswer.{ChargesAnswer}
+use Rattle.request_answers.specs.RequestAnswers.{mirroredAnswer, countAnswer, changeAnswer, startAnswer, busiestAnswer, chargesAnswer}
 use Rattle.answers.specs.Answers.{NumbersOf}
 
 abbrev pub MirroredNumbers : Propagator → List Range → List ℤ → List ℤ → MirroredAnswer → List Range → List ℤ → List ℤ → Type 0

@@ -1,7 +1,7 @@
 // Lines on their way out: each piece is written to standard output as it comes.
 use crate::parts::bytes_of;
-use text::writing::put_count;
-use text::writing::put_number;
+use decimals::writing::put_count;
+use decimals::writing::put_number;
 
 // Bytes.
 pub fn say(bytes: &[u8]) {

@@ -1,7 +1,6 @@
--- After any history the record's durations are those of the tasks that it leaves, and the stored total is their sum. Each call is a step of a history.
+-- After any history the record's durations are those of the tasks that it leaves, and the stored total is their sum. An add and a removal are steps of a history.
 -- Assumes nothing.
 use mathlib.Core.Path.{_≡_, refl, sym, ap, ap₂, subst, _∙_}
-use mathlib.Core.Bool.{Bool}
 use mathlib.Core.List.{List, [], _∷_, _++_, map}
 use Prim.Native.Nat.{ℕ, zero, suc, _+_, _≤_, _<_}
 use native.Mathlib.Omega.{arith}
@@ -19,8 +18,6 @@ use Rattle.records.specs.declared.record.Propagator.{Propagator}
 use Rattle.records.specs.Records.{Lawful, recordOf, durationOf, durationAt, creationTests, newRecord, createdAt, created}
 use Rattle.records.specs.declared.record.Created.{Created}
 use Rattle.records.proofs.Creation.{created-lawful, created-new, natural-accepted}
-use Rattle.propagator.specs.declared.disjunctive_propagator.Run.{Run}
-use Rattle.propagator.specs.Ran.{Ran}
 use Rattle.task_changes.specs.declared.changes.Changed.{Changed}
 use Rattle.task_changes.specs.Lists.{placed, sumOf, without}
 use Rattle.task_changes.specs.Changes.{durationsOf, added, removed, addNumber, removeNumber, TaskAdded, TaskRemoved}
@@ -144,9 +141,6 @@ remove-step r t c a = elim (ℕ-discrete (removeNumber r t) 0) [
   | yes e ↦ a .made e .stands ∙ leaves-new (removeNumber r t) r (removed r t) e
   | no e ↦ a .refused e .stands ∙ leaves-old (removeNumber r t) r (removed r t) e
 ]
-
-pub run-step : (r : Propagator) (es ls : List ℤ) (bars : Bool) (posts atoms : List ℤ) (c : Run) (es′ posts′ atoms′ : List ℤ) → Ran r es ls bars posts atoms c es′ posts′ atoms′ → c .«record» ≡ r
-run-step r es ls bars posts atoms c es′ posts′ atoms′ a = a .keeps
 
 given-back : (l : List ℕ) → map durationOf (map pos l) ≡ l
 given-back [] = refl

@@ -129,7 +129,3 @@ kept-at xs k h = elim (decLt k (length (take KEPT xs))) [
   | yes q ↦ List·getD-append (take KEPT xs) (drop (length (take KEPT xs)) zeros) (pos 0) k q ∙ getD-take KEPT xs k (pos 0) h
   | no q ↦ (let m = length-take KEPT xs in past zeros (take KEPT xs) k (pos 0) (omega arith) ∙ getD-replicate KEPT k (pos 0) (pos 0) h ∙ sym (List·getD-eq-default xs (pos 0) (omega arith)))
 ]
-
--- the count is right wherever a usize can hold it
-pub count-is : (xs : List ℤ) → length xs ≤ MOST → gathered (some xs) .count ≡ length xs
-count-is xs h = omega arith

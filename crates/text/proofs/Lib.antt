@@ -4,6 +4,5 @@ pub mod Steps
 pub mod Spelling
 pub mod Gathering
 pub mod Tokens
-pub mod Decimals
+pub mod RoundTrip
 pub mod ReadBack
-pub mod Putting

@@ -12,10 +12,10 @@ use lib.ListN.{length}
 use lib.Signed.{_≤ℤ_}
 use borrow.Author.Tests.{ne-eqb, lt-leb}
 use Rattle.integers.proofs.Bools.{and-true, and-right, or-no}
+use Rattle.decimals.specs.Writing.{natural, decimal}
 use Rattle.text.specs.Numbers.{space, pieces, filled, tokens, digit, digits, before, numbers, numbersOf}
-use Rattle.text.specs.Writing.{natural, decimal}
 use Rattle.text.proofs.Bytes.{digit-range}
-use Rattle.text.proofs.Decimals.{natural-reads, round-trip}
+use Rattle.text.proofs.RoundTrip.{natural-reads, round-trip}
 use Rattle.text.proofs.Tokens.{piece-end, piece-on}
 
 -- A word: one byte or more, and none of them is white space.

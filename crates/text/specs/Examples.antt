@@ -1,11 +1,10 @@
--- The definitions at small texts and numbers. In ASCII 32 is a space, 43 a plus sign, 45 a minus sign, and 48 to 57 are the digits.
+-- The definitions at small texts. In ASCII 32 is a space, 43 a plus sign, 45 a minus sign, and 48 to 57 are the digits.
 -- Assumes nothing.
 use mathlib.Core.Path.{_≡_, refl}
 use mathlib.Core.List.{[], _∷_}
 use mathlib.Core.Option.{none, some}
 use lib.IntN.{pos, negsuc}
 use Rattle.text.specs.Numbers.{space, pieces, filled, tokens, digit, digits, value, ranged, unsigned, numberOf, before, numbers, numbersOf}
-use Rattle.text.specs.Writing.{figures, natural, decimal}
 
 -- " -07 12" and a line feed
 two-numbers : numbersOf (32 ∷ 45 ∷ 48 ∷ 55 ∷ 32 ∷ 49 ∷ 50 ∷ 10 ∷ []) ≡ some (negsuc 6 ∷ pos 12 ∷ [])
@@ -43,11 +42,3 @@ one-too-large = refl
 least-read : numberOf (45 ∷ 50 ∷ 49 ∷ 52 ∷ 55 ∷ 52 ∷ 56 ∷ 51 ∷ 54 ∷ 52 ∷ 56 ∷ []) ≡ some (negsuc 2147483647)
 unfolding digit digits value ranged unsigned numberOf
 least-read = refl
-
-least-written : decimal (negsuc 2147483647) ≡ 45 ∷ 50 ∷ 49 ∷ 52 ∷ 55 ∷ 52 ∷ 56 ∷ 51 ∷ 54 ∷ 52 ∷ 56 ∷ []
-unfolding figures natural decimal
-least-written = refl
-
-zero-written : decimal (pos 0) ≡ 48 ∷ []
-unfolding figures natural decimal
-zero-written = refl

@@ -1,4 +1,3 @@
 pub mod Numbers
 pub mod Scanning
-pub mod Writing
 pub mod Examples

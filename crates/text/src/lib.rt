@@ -1,4 +1,3 @@
-// Whole numbers read from bytes, and bytes written to a buffer. The reader is a state that is handed on from piece to piece, so that input of any length is read.
+// Whole numbers read from bytes. The reader is a state that is handed on from piece to piece, so that input of any length is read.
 pub mod reading;
 pub mod words;
-pub mod writing;

@@ -3,8 +3,8 @@ use mathlib.Core.Path.{_≡_, refl, _∙_}
 use Prim.Native.Nat.{_+_, _*_, _-_, _≤_}
 use native.Mathlib.Omega.{arith}
 use lib.ListN.{length, take}
-use Rattle.text.specs.Writing.{Puts}
-use Rattle.text.proofs.Putting.{puts-length}
+use Rattle.decimals.specs.Writing.{Puts}
+use Rattle.decimals.proofs.Putting.{puts-length}
 use Rattle.plan_text.specs.Lines.{lines}
 use Rattle.plan_text.proofs.Printing.{puts-first, puts-all}
 use Rattle.costliest_cli.specs.Tasks.{taskLine, costliestTask, costliest}

@@ -9,7 +9,7 @@ use mir.Syntax.{w32}
 use mir.Val.{toZ, ofZ}
 use Rattle.integers.specs.Moments.{moment, zeroAt}
 use Rattle.integers.proofs.Ints.{back, back-of}
-use Rattle.text.proofs.Putting.{puts-length}
+use Rattle.decimals.proofs.Putting.{puts-length}
 use Rattle.pages.proofs.Padding.{puts-wide, task-fits, start-fits, end-fits, puts-line}
 use Rattle.fixed_schedules.proofs.Placing.{start-moment, end-instant}
 use Rattle.pages.proofs.lines.put_line.Statement.{statement}

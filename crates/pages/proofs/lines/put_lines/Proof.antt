@@ -10,8 +10,8 @@ use mir.Syntax.{w32}
 use mir.Val.{toZ, ofZ}
 use Rattle.integers.proofs.Ints.{back-of}
 use Rattle.fixed_schedules.specs.FixedSchedules.{startAt}
-use Rattle.text.specs.Writing.{Puts}
-use Rattle.text.proofs.Putting.{puts-length, puts-append}
+use Rattle.decimals.specs.Writing.{Puts}
+use Rattle.decimals.proofs.Putting.{puts-length, puts-append}
 use Rattle.pages.specs.Lines.{LINE}
 use Rattle.pages.specs.Pages.{lineAt}
 use Rattle.pages.proofs.Paging.{puts-none, puts-next, each-line}

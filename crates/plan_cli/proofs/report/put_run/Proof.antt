@@ -10,7 +10,7 @@ use Rattle.plan_text.specs.Lines.{doneLine, emptiedLine, refusedLine}
 use Rattle.plan_cli.specs.RunLines.{answerLines}
 use Rattle.plan_cli.specs.RunSlices.{Shown}
 use native.Mathlib.Omega.{arith}
-use Rattle.text.proofs.Putting.{puts-append}
+use Rattle.decimals.proofs.Putting.{puts-append}
 use Rattle.plan_text.proofs.Printing.{puts-as}
 use Rattle.plan_cli.proofs.Showing.{Parts, OverloadParts, done-parts, emptied-parts, overload-parts, refused-part}
 use borrow.Author.Needs.{needs}

@@ -9,8 +9,8 @@ use mir.Syntax.{w32}
 use Rattle.integers.proofs.Ints.{back-of}
 use Rattle.scheduling.specs.Scheduling.{Atom}
 use Rattle.scheduling.specs.Words.{atomWords}
-use Rattle.text.specs.Writing.{Puts}
-use Rattle.text.proofs.Putting.{puts-length}
+use Rattle.decimals.specs.Writing.{Puts}
+use Rattle.decimals.proofs.Putting.{puts-length}
 use Rattle.plan_text.specs.Lines.{whyOf, lines}
 use Rattle.plan_text.proofs.Printing.{puts-why-first, puts-why-next, puts-why-all}
 use borrow.Author.Needs.{needs}

@@ -1,7 +1,7 @@
 -- A space and the number behind it, 12 bytes at most.
 use native.Mathlib.Omega.{arith}
 use Rattle.integers.proofs.Ints.{back}
-use Rattle.text.proofs.Putting.{puts-append}
+use Rattle.decimals.proofs.Putting.{puts-append}
 use Rattle.plan_text.proofs.Printing.{puts-number}
 use borrow.Author.Needs.{needs}
 use Rattle.plan_text.proofs.lines.put_spaced.Statement.{statement}

@@ -6,8 +6,8 @@ use lib.IntN.{pos}
 use lib.ListN.{length, getD, take}
 use mir.Syntax.{w32}
 use Rattle.integers.proofs.Ints.{back-of}
-use Rattle.text.specs.Writing.{Puts}
-use Rattle.text.proofs.Putting.{puts-length}
+use Rattle.decimals.specs.Writing.{Puts}
+use Rattle.decimals.proofs.Putting.{puts-length}
 use Rattle.plan_text.specs.Lines.{spacedOne, lines}
 use Rattle.plan_text.proofs.Printing.{puts-as, puts-first, puts-next, puts-all}
 use borrow.Author.Needs.{needs}

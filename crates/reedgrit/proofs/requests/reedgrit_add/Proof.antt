@@ -20,13 +20,13 @@ use Rattle.task_changes.proofs.lent.add as lent
 use Rattle.task_changes.proofs.lent.add.Symbol as lent-def
 use Rattle.task_changes.proofs.lent.add.Symbol.{name as #lent}
 use Rattle.task_changes.proofs.lent.add.Met as lent-thm
-use Rattle.answers.specs.RequestAnswers.{changeAnswer}
+use Rattle.request_answers.specs.RequestAnswers.{changeAnswer}
 use Rattle.reedgrit.specs.Requests.{AddedNumbers}
-use Rattle.answers.proofs.request_answers.ChangeAnswer as N
-use Rattle.answers.proofs.request_answers.ChangeAnswer.Laws as N′
-use Rattle.answers.proofs.request_answers.change_numbers.Symbol as numbers-def
-use Rattle.answers.proofs.request_answers.change_numbers.Symbol.{name as #numbers}
-use Rattle.answers.proofs.request_answers.change_numbers.Met as numbers-thm
+use Rattle.request_answers.proofs.ChangeAnswer as N
+use Rattle.request_answers.proofs.ChangeAnswer.Laws as N′
+use Rattle.request_answers.proofs.change_numbers.Symbol as numbers-def
+use Rattle.request_answers.proofs.change_numbers.Symbol.{name as #numbers}
+use Rattle.request_answers.proofs.change_numbers.Met as numbers-thm
 use Rattle.reedgrit.proofs.PassedOn.{Passing, Lent, written, ends, calls-open, calls-numbers, Walks, passed-on}
 use Rattle.reedgrit.proofs.requests.reedgrit_add.Key.{name as #reedgrit-add}
 use Rattle.reedgrit.proofs.requests.reedgrit_add.Statement as stated
@@ -66,4 +66,4 @@ walk 𝓤 H A W C Λ fm known-lent known-numbers κs qs bounds a are =
 pub reedgrit-add-spec : {M : Type 1} → stated.statement M
 unfolding code.routine
 reedgrit-add-spec 𝓤 H 𝓜 𝓖 𝓡 =
-    passed-on passing 𝓤 H 𝓜 𝓖 𝓡 code.env #reedgrit-add code.function (code.unfolded 𝓤 H 𝓜 𝓡) #lent lent-def.routine code.calls-task-changes·lent·add (lent-thm.met 𝓤 H 𝓜 𝓖 𝓡) #numbers numbers-def.routine code.calls-answers·request-answers·change-numbers (numbers-thm.met 𝓤 H 𝓜 𝓖 𝓡) walk
+    passed-on passing 𝓤 H 𝓜 𝓖 𝓡 code.env #reedgrit-add code.function (code.unfolded 𝓤 H 𝓜 𝓡) #lent lent-def.routine code.calls-task-changes·lent·add (lent-thm.met 𝓤 H 𝓜 𝓖 𝓡) #numbers numbers-def.routine code.calls-request-answers·change-numbers (numbers-thm.met 𝓤 H 𝓜 𝓖 𝓡) walk

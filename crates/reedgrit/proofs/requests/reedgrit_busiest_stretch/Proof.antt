@@ -23,13 +23,13 @@ use Rattle.disjunctive.proofs.ranges.of_fixed_schedules.busiest_stretch as lent
 use Rattle.disjunctive.proofs.ranges.of_fixed_schedules.busiest_stretch.Symbol as lent-def
 use Rattle.disjunctive.proofs.ranges.of_fixed_schedules.busiest_stretch.Symbol.{name as #lent}
 use Rattle.disjunctive.proofs.ranges.of_fixed_schedules.busiest_stretch.Met as lent-thm
-use Rattle.answers.specs.RequestAnswers.{busiestAnswer}
+use Rattle.request_answers.specs.RequestAnswers.{busiestAnswer}
 use Rattle.reedgrit.specs.Requests.{BusiestNumbers}
-use Rattle.answers.proofs.request_answers.BusiestAnswer as N
-use Rattle.answers.proofs.request_answers.BusiestAnswer.Laws as N′
-use Rattle.answers.proofs.request_answers.busiest_numbers.Symbol as numbers-def
-use Rattle.answers.proofs.request_answers.busiest_numbers.Symbol.{name as #numbers}
-use Rattle.answers.proofs.request_answers.busiest_numbers.Met as numbers-thm
+use Rattle.request_answers.proofs.BusiestAnswer as N
+use Rattle.request_answers.proofs.BusiestAnswer.Laws as N′
+use Rattle.request_answers.proofs.busiest_numbers.Symbol as numbers-def
+use Rattle.request_answers.proofs.busiest_numbers.Symbol.{name as #numbers}
+use Rattle.request_answers.proofs.busiest_numbers.Met as numbers-thm
 use Rattle.reedgrit.proofs.PassedOn.{Passing, Lent, written, ends, calls-open, calls-numbers, Walks, passed-on}
 use Rattle.reedgrit.proofs.requests.reedgrit_busiest_stretch.Key.{name as #reedgrit-busiest-stretch}
 use Rattle.reedgrit.proofs.requests.reedgrit_busiest_stretch.Statement as stated
@@ -69,4 +69,4 @@ walk 𝓤 H A W C Λ fm known-lent known-numbers κs qs bounds a are =
 pub reedgrit-busiest-stretch-spec : {M : Type 1} → stated.statement M
 unfolding code.routine
 reedgrit-busiest-stretch-spec 𝓤 H 𝓜 𝓖 𝓡 =
-    passed-on passing 𝓤 H 𝓜 𝓖 𝓡 code.env #reedgrit-busiest-stretch code.function (code.unfolded 𝓤 H 𝓜 𝓡) #lent lent-def.routine code.calls-disjunctive·ranges·of-fixed-schedules·busiest-stretch (lent-thm.met 𝓤 H 𝓜 𝓖 𝓡) #numbers numbers-def.routine code.calls-answers·request-answers·busiest-numbers (numbers-thm.met 𝓤 H 𝓜 𝓖 𝓡) walk
+    passed-on passing 𝓤 H 𝓜 𝓖 𝓡 code.env #reedgrit-busiest-stretch code.function (code.unfolded 𝓤 H 𝓜 𝓡) #lent lent-def.routine code.calls-disjunctive·ranges·of-fixed-schedules·busiest-stretch (lent-thm.met 𝓤 H 𝓜 𝓖 𝓡) #numbers numbers-def.routine code.calls-request-answers·busiest-numbers (numbers-thm.met 𝓤 H 𝓜 𝓖 𝓡) walk

@@ -20,13 +20,13 @@ use Rattle.disjunctive.proofs.ranges.of_fixed_schedules.charges as lent
 use Rattle.disjunctive.proofs.ranges.of_fixed_schedules.charges.Symbol as lent-def
 use Rattle.disjunctive.proofs.ranges.of_fixed_schedules.charges.Symbol.{name as #lent}
 use Rattle.disjunctive.proofs.ranges.of_fixed_schedules.charges.Met as lent-thm
-use Rattle.answers.specs.RequestAnswers.{chargesAnswer}
+use Rattle.request_answers.specs.RequestAnswers.{chargesAnswer}
 use Rattle.reedgrit.specs.Requests.{ChargesNumbers}
-use Rattle.answers.proofs.request_answers.ChargesAnswer as N
-use Rattle.answers.proofs.request_answers.ChargesAnswer.Laws as N′
-use Rattle.answers.proofs.request_answers.charges_numbers.Symbol as numbers-def
-use Rattle.answers.proofs.request_answers.charges_numbers.Symbol.{name as #numbers}
-use Rattle.answers.proofs.request_answers.charges_numbers.Met as numbers-thm
+use Rattle.request_answers.proofs.ChargesAnswer as N
+use Rattle.request_answers.proofs.ChargesAnswer.Laws as N′
+use Rattle.request_answers.proofs.charges_numbers.Symbol as numbers-def
+use Rattle.request_answers.proofs.charges_numbers.Symbol.{name as #numbers}
+use Rattle.request_answers.proofs.charges_numbers.Met as numbers-thm
 use Rattle.reedgrit.proofs.PassedOn.{Passing, Lent, written, ends, calls-open, calls-numbers, Walks, passed-on}
 use Rattle.reedgrit.proofs.requests.reedgrit_charges.Key.{name as #reedgrit-charges}
 use Rattle.reedgrit.proofs.requests.reedgrit_charges.Statement as stated
@@ -66,4 +66,4 @@ walk 𝓤 H A W C Λ fm known-lent known-numbers κs qs bounds a are =
 pub reedgrit-charges-spec : {M : Type 1} → stated.statement M
 unfolding code.routine
 reedgrit-charges-spec 𝓤 H 𝓜 𝓖 𝓡 =
-    passed-on passing 𝓤 H 𝓜 𝓖 𝓡 code.env #reedgrit-charges code.function (code.unfolded 𝓤 H 𝓜 𝓡) #lent lent-def.routine code.calls-disjunctive·ranges·of-fixed-schedules·charges (lent-thm.met 𝓤 H 𝓜 𝓖 𝓡) #numbers numbers-def.routine code.calls-answers·request-answers·charges-numbers (numbers-thm.met 𝓤 H 𝓜 𝓖 𝓡) walk
+    passed-on passing 𝓤 H 𝓜 𝓖 𝓡 code.env #reedgrit-charges code.function (code.unfolded 𝓤 H 𝓜 𝓡) #lent lent-def.routine code.calls-disjunctive·ranges·of-fixed-schedules·charges (lent-thm.met 𝓤 H 𝓜 𝓖 𝓡) #numbers numbers-def.routine code.calls-request-answers·charges-numbers (numbers-thm.met 𝓤 H 𝓜 𝓖 𝓡) walk

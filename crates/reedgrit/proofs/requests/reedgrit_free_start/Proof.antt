@@ -23,13 +23,13 @@ use Rattle.disjunctive.proofs.ranges.of_fixed_schedules.free_start as lent
 use Rattle.disjunctive.proofs.ranges.of_fixed_schedules.free_start.Symbol as lent-def
 use Rattle.disjunctive.proofs.ranges.of_fixed_schedules.free_start.Symbol.{name as #lent}
 use Rattle.disjunctive.proofs.ranges.of_fixed_schedules.free_start.Met as lent-thm
-use Rattle.answers.specs.RequestAnswers.{startAnswer}
+use Rattle.request_answers.specs.RequestAnswers.{startAnswer}
 use Rattle.reedgrit.specs.Requests.{FreeStartNumbers}
-use Rattle.answers.proofs.request_answers.StartAnswer as N
-use Rattle.answers.proofs.request_answers.StartAnswer.Laws as N′
-use Rattle.answers.proofs.request_answers.start_numbers.Symbol as numbers-def
-use Rattle.answers.proofs.request_answers.start_numbers.Symbol.{name as #numbers}
-use Rattle.answers.proofs.request_answers.start_numbers.Met as numbers-thm
+use Rattle.request_answers.proofs.StartAnswer as N
+use Rattle.request_answers.proofs.StartAnswer.Laws as N′
+use Rattle.request_answers.proofs.start_numbers.Symbol as numbers-def
+use Rattle.request_answers.proofs.start_numbers.Symbol.{name as #numbers}
+use Rattle.request_answers.proofs.start_numbers.Met as numbers-thm
 use Rattle.reedgrit.proofs.PassedOn.{Passing, Lent, written, ends, calls-open, calls-numbers, Walks, passed-on}
 use Rattle.reedgrit.proofs.requests.reedgrit_free_start.Key.{name as #reedgrit-free-start}
 use Rattle.reedgrit.proofs.requests.reedgrit_free_start.Statement as stated
@@ -70,4 +70,4 @@ walk 𝓤 H A W C Λ fm known-lent known-numbers κs qs bounds a are =
 pub reedgrit-free-start-spec : {M : Type 1} → stated.statement M
 unfolding code.routine
 reedgrit-free-start-spec 𝓤 H 𝓜 𝓖 𝓡 =
-    passed-on passing 𝓤 H 𝓜 𝓖 𝓡 code.env #reedgrit-free-start code.function (code.unfolded 𝓤 H 𝓜 𝓡) #lent lent-def.routine code.calls-disjunctive·ranges·of-fixed-schedules·free-start (lent-thm.met 𝓤 H 𝓜 𝓖 𝓡) #numbers numbers-def.routine code.calls-answers·request-answers·start-numbers (numbers-thm.met 𝓤 H 𝓜 𝓖 𝓡) walk
+    passed-on passing 𝓤 H 𝓜 𝓖 𝓡 code.env #reedgrit-free-start code.function (code.unfolded 𝓤 H 𝓜 𝓡) #lent lent-def.routine code.calls-disjunctive·ranges·of-fixed-schedules·free-start (lent-thm.met 𝓤 H 𝓜 𝓖 𝓡) #numbers numbers-def.routine code.calls-request-answers·start-numbers (numbers-thm.met 𝓤 H 𝓜 𝓖 𝓡) walk

@@ -22,13 +22,13 @@ use Rattle.disjunctive.proofs.ranges.overload_test as lent
 use Rattle.disjunctive.proofs.ranges.overload_test.Symbol as lent-def
 use Rattle.disjunctive.proofs.ranges.overload_test.Symbol.{name as #lent}
 use Rattle.disjunctive.proofs.ranges.overload_test.Met as lent-thm
-use Rattle.answers.specs.RequestAnswers.{countAnswer}
+use Rattle.request_answers.specs.RequestAnswers.{countAnswer}
 use Rattle.reedgrit.specs.Requests.{OverloadNumbers}
-use Rattle.answers.proofs.request_answers.CountAnswer as N
-use Rattle.answers.proofs.request_answers.CountAnswer.Laws as N′
-use Rattle.answers.proofs.request_answers.overload_numbers.Symbol as numbers-def
-use Rattle.answers.proofs.request_answers.overload_numbers.Symbol.{name as #numbers}
-use Rattle.answers.proofs.request_answers.overload_numbers.Met as numbers-thm
+use Rattle.request_answers.proofs.CountAnswer as N
+use Rattle.request_answers.proofs.CountAnswer.Laws as N′
+use Rattle.request_answers.proofs.overload_numbers.Symbol as numbers-def
+use Rattle.request_answers.proofs.overload_numbers.Symbol.{name as #numbers}
+use Rattle.request_answers.proofs.overload_numbers.Met as numbers-thm
 use Rattle.reedgrit.proofs.PassedOn.{Passing, Lent, written, ends, calls-open, calls-numbers, Walks, passed-on}
 use Rattle.reedgrit.proofs.requests.reedgrit_overload_test.Key.{name as #reedgrit-overload-test}
 use Rattle.reedgrit.proofs.requests.reedgrit_overload_test.Statement as stated
@@ -67,4 +67,4 @@ walk 𝓤 H A W C Λ fm known-lent known-numbers κs qs bounds a are =
 pub reedgrit-overload-test-spec : {M : Type 1} → stated.statement M
 unfolding code.routine
 reedgrit-overload-test-spec 𝓤 H 𝓜 𝓖 𝓡 =
-    passed-on passing 𝓤 H 𝓜 𝓖 𝓡 code.env #reedgrit-overload-test code.function (code.unfolded 𝓤 H 𝓜 𝓡) #lent lent-def.routine code.calls-disjunctive·ranges·overload-test (lent-thm.met 𝓤 H 𝓜 𝓖 𝓡) #numbers numbers-def.routine code.calls-answers·request-answers·overload-numbers (numbers-thm.met 𝓤 H 𝓜 𝓖 𝓡) walk
+    passed-on passing 𝓤 H 𝓜 𝓖 𝓡 code.env #reedgrit-overload-test code.function (code.unfolded 𝓤 H 𝓜 𝓡) #lent lent-def.routine code.calls-disjunctive·ranges·overload-test (lent-thm.met 𝓤 H 𝓜 𝓖 𝓡) #numbers numbers-def.routine code.calls-request-answers·overload-numbers (numbers-thm.met 𝓤 H 𝓜 𝓖 𝓡) walk

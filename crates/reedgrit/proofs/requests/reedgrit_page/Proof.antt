@@ -23,13 +23,13 @@ use Rattle.disjunctive.proofs.ranges.of_fixed_schedules.page as lent
 use Rattle.disjunctive.proofs.ranges.of_fixed_schedules.page.Symbol as lent-def
 use Rattle.disjunctive.proofs.ranges.of_fixed_schedules.page.Symbol.{name as #lent}
 use Rattle.disjunctive.proofs.ranges.of_fixed_schedules.page.Met as lent-thm
-use Rattle.answers.specs.RequestAnswers.{countAnswer}
+use Rattle.request_answers.specs.RequestAnswers.{countAnswer}
 use Rattle.reedgrit.specs.Requests.{PageNumbers}
-use Rattle.answers.proofs.request_answers.CountAnswer as N
-use Rattle.answers.proofs.request_answers.CountAnswer.Laws as N′
-use Rattle.answers.proofs.request_answers.page_numbers.Symbol as numbers-def
-use Rattle.answers.proofs.request_answers.page_numbers.Symbol.{name as #numbers}
-use Rattle.answers.proofs.request_answers.page_numbers.Met as numbers-thm
+use Rattle.request_answers.proofs.CountAnswer as N
+use Rattle.request_answers.proofs.CountAnswer.Laws as N′
+use Rattle.request_answers.proofs.page_numbers.Symbol as numbers-def
+use Rattle.request_answers.proofs.page_numbers.Symbol.{name as #numbers}
+use Rattle.request_answers.proofs.page_numbers.Met as numbers-thm
 use Rattle.reedgrit.proofs.PassedOn.{Passing, Lent, written, ends, calls-open, calls-numbers, Walks, passed-on}
 use Rattle.reedgrit.proofs.requests.reedgrit_page.Key.{name as #reedgrit-page}
 use Rattle.reedgrit.proofs.requests.reedgrit_page.Statement as stated
@@ -71,4 +71,4 @@ walk 𝓤 H A W C Λ fm known-lent known-numbers κs qs bounds a are =
 pub reedgrit-page-spec : {M : Type 1} → stated.statement M
 unfolding code.routine
 reedgrit-page-spec 𝓤 H 𝓜 𝓖 𝓡 =
-    passed-on passing 𝓤 H 𝓜 𝓖 𝓡 code.env #reedgrit-page code.function (code.unfolded 𝓤 H 𝓜 𝓡) #lent lent-def.routine code.calls-disjunctive·ranges·of-fixed-schedules·page (lent-thm.met 𝓤 H 𝓜 𝓖 𝓡) #numbers numbers-def.routine code.calls-answers·request-answers·page-numbers (numbers-thm.met 𝓤 H 𝓜 𝓖 𝓡) walk
+    passed-on passing 𝓤 H 𝓜 𝓖 𝓡 code.env #reedgrit-page code.function (code.unfolded 𝓤 H 𝓜 𝓡) #lent lent-def.routine code.calls-disjunctive·ranges·of-fixed-schedules·page (lent-thm.met 𝓤 H 𝓜 𝓖 𝓡) #numbers numbers-def.routine code.calls-request-answers·page-numbers (numbers-thm.met 𝓤 H 𝓜 𝓖 𝓡) walk

@@ -25,13 +25,13 @@ use Rattle.disjunctive.proofs.ranges.by_precedence.precedence_reason as lent
 use Rattle.disjunctive.proofs.ranges.by_precedence.precedence_reason.Symbol as lent-def
 use Rattle.disjunctive.proofs.ranges.by_precedence.precedence_reason.Symbol.{name as #lent}
 use Rattle.disjunctive.proofs.ranges.by_precedence.precedence_reason.Met as lent-thm
-use Rattle.answers.specs.RequestAnswers.{countAnswer}
+use Rattle.request_answers.specs.RequestAnswers.{countAnswer}
 use Rattle.reedgrit.specs.Requests.{ReasonNumbers}
-use Rattle.answers.proofs.request_answers.CountAnswer as N
-use Rattle.answers.proofs.request_answers.CountAnswer.Laws as N′
-use Rattle.answers.proofs.request_answers.reason_numbers.Symbol as numbers-def
-use Rattle.answers.proofs.request_answers.reason_numbers.Symbol.{name as #numbers}
-use Rattle.answers.proofs.request_answers.reason_numbers.Met as numbers-thm
+use Rattle.request_answers.proofs.CountAnswer as N
+use Rattle.request_answers.proofs.CountAnswer.Laws as N′
+use Rattle.request_answers.proofs.reason_numbers.Symbol as numbers-def
+use Rattle.request_answers.proofs.reason_numbers.Symbol.{name as #numbers}
+use Rattle.request_answers.proofs.reason_numbers.Met as numbers-thm
 use Rattle.reedgrit.proofs.PassedOn.{Passing, Lent, written, ends, calls-open, calls-numbers, Walks, passed-on}
 use Rattle.reedgrit.proofs.requests.reedgrit_precedence_reason.Key.{name as #reedgrit-precedence-reason}
 use Rattle.reedgrit.proofs.requests.reedgrit_precedence_reason.Statement as stated
@@ -74,4 +74,4 @@ walk 𝓤 H A W C Λ fm known-lent known-numbers κs qs bounds a are =
 pub reedgrit-precedence-reason-spec : {M : Type 1} → stated.statement M
 unfolding code.routine
 reedgrit-precedence-reason-spec 𝓤 H 𝓜 𝓖 𝓡 =
-    passed-on passing 𝓤 H 𝓜 𝓖 𝓡 code.env #reedgrit-precedence-reason code.function (code.unfolded 𝓤 H 𝓜 𝓡) #lent lent-def.routine code.calls-disjunctive·ranges·by-precedence·precedence-reason (lent-thm.met 𝓤 H 𝓜 𝓖 𝓡) #numbers numbers-def.routine code.calls-answers·request-answers·reason-numbers (numbers-thm.met 𝓤 H 𝓜 𝓖 𝓡) walk
+    passed-on passing 𝓤 H 𝓜 𝓖 𝓡 code.env #reedgrit-precedence-reason code.function (code.unfolded 𝓤 H 𝓜 𝓡) #lent lent-def.routine code.calls-disjunctive·ranges·by-precedence·precedence-reason (lent-thm.met 𝓤 H 𝓜 𝓖 𝓡) #numbers numbers-def.routine code.calls-request-answers·reason-numbers (numbers-thm.met 𝓤 H 𝓜 𝓖 𝓡) walk

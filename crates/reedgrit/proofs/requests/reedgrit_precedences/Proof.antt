@@ -21,13 +21,13 @@ use Rattle.disjunctive.proofs.ranges.by_precedence.precedences as lent
 use Rattle.disjunctive.proofs.ranges.by_precedence.precedences.Symbol as lent-def
 use Rattle.disjunctive.proofs.ranges.by_precedence.precedences.Symbol.{name as #lent}
 use Rattle.disjunctive.proofs.ranges.by_precedence.precedences.Met as lent-thm
-use Rattle.answers.specs.RequestAnswers.{countAnswer}
+use Rattle.request_answers.specs.RequestAnswers.{countAnswer}
 use Rattle.reedgrit.specs.Requests.{PrecedencesNumbers}
-use Rattle.answers.proofs.request_answers.CountAnswer as N
-use Rattle.answers.proofs.request_answers.CountAnswer.Laws as N′
-use Rattle.answers.proofs.request_answers.precedences_numbers.Symbol as numbers-def
-use Rattle.answers.proofs.request_answers.precedences_numbers.Symbol.{name as #numbers}
-use Rattle.answers.proofs.request_answers.precedences_numbers.Met as numbers-thm
+use Rattle.request_answers.proofs.CountAnswer as N
+use Rattle.request_answers.proofs.CountAnswer.Laws as N′
+use Rattle.request_answers.proofs.precedences_numbers.Symbol as numbers-def
+use Rattle.request_answers.proofs.precedences_numbers.Symbol.{name as #numbers}
+use Rattle.request_answers.proofs.precedences_numbers.Met as numbers-thm
 use Rattle.reedgrit.proofs.PassedOn.{Passing, Lent, written, ends, calls-open, calls-numbers, Walks, passed-on}
 use Rattle.reedgrit.proofs.requests.reedgrit_precedences.Key.{name as #reedgrit-precedences}
 use Rattle.reedgrit.proofs.requests.reedgrit_precedences.Statement as stated
@@ -68,4 +68,4 @@ walk 𝓤 H A W C Λ fm known-lent known-numbers κs qs bounds a are =
 pub reedgrit-precedences-spec : {M : Type 1} → stated.statement M
 unfolding code.routine
 reedgrit-precedences-spec 𝓤 H 𝓜 𝓖 𝓡 =
-    passed-on passing 𝓤 H 𝓜 𝓖 𝓡 code.env #reedgrit-precedences code.function (code.unfolded 𝓤 H 𝓜 𝓡) #lent lent-def.routine code.calls-disjunctive·ranges·by-precedence·precedences (lent-thm.met 𝓤 H 𝓜 𝓖 𝓡) #numbers numbers-def.routine code.calls-answers·request-answers·precedences-numbers (numbers-thm.met 𝓤 H 𝓜 𝓖 𝓡) walk
+    passed-on passing 𝓤 H 𝓜 𝓖 𝓡 code.env #reedgrit-precedences code.function (code.unfolded 𝓤 H 𝓜 𝓡) #lent lent-def.routine code.calls-disjunctive·ranges·by-precedence·precedences (lent-thm.met 𝓤 H 𝓜 𝓖 𝓡) #numbers numbers-def.routine code.calls-request-answers·precedences-numbers (numbers-thm.met 𝓤 H 𝓜 𝓖 𝓡) walk

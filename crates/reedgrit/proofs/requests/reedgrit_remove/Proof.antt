@@ -19,13 +19,13 @@ use Rattle.task_changes.proofs.lent.remove as lent
 use Rattle.task_changes.proofs.lent.remove.Symbol as lent-def
 use Rattle.task_changes.proofs.lent.remove.Symbol.{name as #lent}
 use Rattle.task_changes.proofs.lent.remove.Met as lent-thm
-use Rattle.answers.specs.RequestAnswers.{changeAnswer}
+use Rattle.request_answers.specs.RequestAnswers.{changeAnswer}
 use Rattle.reedgrit.specs.Requests.{RemovedNumbers}
-use Rattle.answers.proofs.request_answers.ChangeAnswer as N
-use Rattle.answers.proofs.request_answers.ChangeAnswer.Laws as N′
-use Rattle.answers.proofs.request_answers.change_numbers.Symbol as numbers-def
-use Rattle.answers.proofs.request_answers.change_numbers.Symbol.{name as #numbers}
-use Rattle.answers.proofs.request_answers.change_numbers.Met as numbers-thm
+use Rattle.request_answers.proofs.ChangeAnswer as N
+use Rattle.request_answers.proofs.ChangeAnswer.Laws as N′
+use Rattle.request_answers.proofs.change_numbers.Symbol as numbers-def
+use Rattle.request_answers.proofs.change_numbers.Symbol.{name as #numbers}
+use Rattle.request_answers.proofs.change_numbers.Met as numbers-thm
 use Rattle.reedgrit.proofs.PassedOn.{Passing, Lent, written, ends, calls-open, calls-numbers, Walks, passed-on}
 use Rattle.reedgrit.proofs.requests.reedgrit_remove.Key.{name as #reedgrit-remove}
 use Rattle.reedgrit.proofs.requests.reedgrit_remove.Statement as stated
@@ -65,4 +65,4 @@ walk 𝓤 H A W C Λ fm known-lent known-numbers κs qs bounds a are =
 pub reedgrit-remove-spec : {M : Type 1} → stated.statement M
 unfolding code.routine
 reedgrit-remove-spec 𝓤 H 𝓜 𝓖 𝓡 =
-    passed-on passing 𝓤 H 𝓜 𝓖 𝓡 code.env #reedgrit-remove code.function (code.unfolded 𝓤 H 𝓜 𝓡) #lent lent-def.routine code.calls-task-changes·lent·remove (lent-thm.met 𝓤 H 𝓜 𝓖 𝓡) #numbers numbers-def.routine code.calls-answers·request-answers·change-numbers (numbers-thm.met 𝓤 H 𝓜 𝓖 𝓡) walk
+    passed-on passing 𝓤 H 𝓜 𝓖 𝓡 code.env #reedgrit-remove code.function (code.unfolded 𝓤 H 𝓜 𝓡) #lent lent-def.routine code.calls-task-changes·lent·remove (lent-thm.met 𝓤 H 𝓜 𝓖 𝓡) #numbers numbers-def.routine code.calls-request-answers·change-numbers (numbers-thm.met 𝓤 H 𝓜 𝓖 𝓡) walk

@@ -23,13 +23,13 @@ use Rattle.disjunctive.proofs.ranges.run_mirrored.Symbol as lent-def
 use Rattle.disjunctive.proofs.ranges.run_mirrored.Symbol.{name as #lent}
 use Rattle.disjunctive.proofs.ranges.run_mirrored.Met as lent-thm
 use Rattle.answers.specs.Answers.{ToldInWords}
-use Rattle.answers.specs.RequestAnswers.{mirroredAnswer}
+use Rattle.request_answers.specs.RequestAnswers.{mirroredAnswer}
 use Rattle.reedgrit.specs.Requests.{MirroredNumbers}
-use Rattle.answers.proofs.request_answers.MirroredAnswer as N
-use Rattle.answers.proofs.request_answers.MirroredAnswer.Laws as N′
-use Rattle.answers.proofs.request_answers.mirrored_numbers.Symbol as numbers-def
-use Rattle.answers.proofs.request_answers.mirrored_numbers.Symbol.{name as #numbers}
-use Rattle.answers.proofs.request_answers.mirrored_numbers.Met as numbers-thm
+use Rattle.request_answers.proofs.MirroredAnswer as N
+use Rattle.request_answers.proofs.MirroredAnswer.Laws as N′
+use Rattle.request_answers.proofs.mirrored_numbers.Symbol as numbers-def
+use Rattle.request_answers.proofs.mirrored_numbers.Symbol.{name as #numbers}
+use Rattle.request_answers.proofs.mirrored_numbers.Met as numbers-thm
 use Rattle.reedgrit.proofs.Words.{mirrored-told}
 use Rattle.reedgrit.proofs.PassedOn.{Passing, Lent, written, ends, calls-open, calls-numbers, fourth-as-long, Walks, passed-on}
 use Rattle.reedgrit.proofs.requests.reedgrit_run_mirrored.Key.{name as #reedgrit-run-mirrored}
@@ -79,4 +79,4 @@ walk 𝓤 H A W C Λ fm known-lent known-numbers κs qs bounds a are =
 pub reedgrit-run-mirrored-spec : {M : Type 1} → stated.statement M
 unfolding code.routine
 reedgrit-run-mirrored-spec 𝓤 H 𝓜 𝓖 𝓡 =
-    passed-on passing 𝓤 H 𝓜 𝓖 𝓡 code.env #reedgrit-run-mirrored code.function (code.unfolded 𝓤 H 𝓜 𝓡) #lent lent-def.routine code.calls-disjunctive·ranges·run-mirrored (lent-thm.met 𝓤 H 𝓜 𝓖 𝓡) #numbers numbers-def.routine code.calls-answers·request-answers·mirrored-numbers (numbers-thm.met 𝓤 H 𝓜 𝓖 𝓡) walk
+    passed-on passing 𝓤 H 𝓜 𝓖 𝓡 code.env #reedgrit-run-mirrored code.function (code.unfolded 𝓤 H 𝓜 𝓡) #lent lent-def.routine code.calls-disjunctive·ranges·run-mirrored (lent-thm.met 𝓤 H 𝓜 𝓖 𝓡) #numbers numbers-def.routine code.calls-request-answers·mirrored-numbers (numbers-thm.met 𝓤 H 𝓜 𝓖 𝓡) walk
