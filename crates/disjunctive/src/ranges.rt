@@ -1,6 +1,6 @@
-// The open calls on lent data: a record, and a slice of ranges, one for each task. Here are the run, which changes both, the mirrored pass, which changes the
-// ranges, and the overload test, which changes neither; below, the calls by precedences and those on a fixed schedule.
-// A call takes the record as `&mut` where it changes it, else as `&`.
+// The open calls on lent data: a record, and a slice of ranges, one for each task. Here are the run and the mirrored pass, which
+// change the ranges, and the overload test, which does not; below, the calls by precedences and those on a fixed schedule.
+// None changes the record. The run takes it as `&mut` all the same, as the source's does, and the others as `&`.
 // The core takes the record by value and the starts as slices of numbers; here the ranges are taken apart for it, and what it leaves is stored back.
 pub mod by_precedence;
 pub mod of_fixed_schedules;

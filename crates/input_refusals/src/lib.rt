@@ -1,4 +1,4 @@
-// What refuses a run: the number of the first test that is broken, each tried over the whole input.
+// What refuses a call for its record and its ranges: the number of the first test that is broken, each tried over the whole input.
 use integers::limits::TASKS;
 use records::record::lawful;
 ghost use mathlib.Core.Path.{_≡_};

@@ -1,4 +1,4 @@
--- `by_precedence::reason_core` meets its contract: what `precedence_reason` of `precedences` ensures of the first `count` places of the arrays.
+-- `by_precedence::reason_core` meets its contract: what `precedence_reason` of `precedence_reasons` ensures of the first `count` places of the arrays.
 -- Assumes nothing.
 use mathlib.Core.Path.{sym}
 use lib.Seq.{length-take-le}
