@@ -5,4 +5,6 @@ pub mod Promising
 pub mod MirroredPromising
 pub mod Lent
 pub mod PrecedencesLent
+pub mod Series
 pub mod SameRuns
+pub mod SamePrecedences

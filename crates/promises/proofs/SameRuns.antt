@@ -1,4 +1,4 @@
--- Whatever adds, removals and runs came before, the same durations and range records give the same outcome, starts, posts and reasons.
+-- Whatever adds, removals and runs came before, the same durations and range records give the same run, and the same mirrored pass.
 -- Assumes nothing.
 use mathlib.Core.Path.{_≡_, refl, sym, subst, _∙_}
 use mathlib.Core.List.{List}
@@ -12,45 +12,58 @@ use Rattle.levels.specs.declared.outcome.Outcome.{Outcome}
 use Rattle.levels.specs.Finding.{outcomeOf}
 use Rattle.propagator.specs.Ran.{traceOf, Handed}
 use Rattle.propagator.proofs.Handing.{handed}
-use Rattle.task_changes.specs.Histories.{History, recordAfter, durationsAfter}
-use Rattle.task_changes.proofs.History.{same-record}
+use Rattle.mirrored.specs.RanMirrored.{mirroredOf}
+use Rattle.task_changes.specs.Changes.{durationsOf}
 use Rattle.barred_starts.specs.declared.range.Range.{Range}
 use Rattle.barred_starts.specs.Ranges.{earliests, latests}
-use Rattle.promises.specs.RanLent.{lentNumber, AcceptedLent, RanLent}
-use Rattle.promises.specs.SameRuns.{SameRun}
+use Rattle.promises.specs.RanLent.{lentNumber, AcceptedLent, RanLent, AcceptedMirroredLent, RanMirroredLent}
+use Rattle.promises.specs.SameRuns.{SameAnswer, SameRun, SameMirrored}
+use Rattle.promises.specs.Series.{Series}
 use Rattle.promises.proofs.Answers as read
+use Rattle.promises.proofs.Series.{same-left}
 
--- two accepted runs on one record and the same ranges
-module _ (before : Propagator) (ranges : List Range) (posts atoms posts₁ atoms₁ posts₂ atoms₂ posts₃ atoms₃ : List ℤ) (answer answer′ : Outcome) {changed changed′ : ℕ} (after after′ : Propagator) (ranges₁ ranges₃ : List Range)
-    (a : AcceptedLent before ranges posts atoms answer changed after ranges₁ posts₁ atoms₁) (b : AcceptedLent before ranges posts₂ atoms₂ answer′ changed′ after′ ranges₃ posts₃ atoms₃) where
-  abbrev t : Trace
-  t = traceOf before (earliests ranges) (latests ranges)
-
-  is : answer ≡ outcomeOf (reasons (t .posts)) (length (t .posts)) (t .end)
-  is = a .left .answer
-
-  one : Handed t posts₁ atoms₁
-  one = handed t posts atoms (a .left .post-words) (a .left .atom-words)
-
-  other : Handed t posts₃ atoms₃
-  other = handed t posts₂ atoms₂ (b .left .post-words) (b .left .atom-words)
-
-  pub one-record : SameRun answer changed ranges₁ posts₁ atoms₁ answer′ changed′ ranges₃ posts₃ atoms₃
-  one-record = subst (λ (o : Outcome). SameRun answer changed ranges₁ posts₁ atoms₁ o changed′ ranges₃ posts₃ atoms₃) (is ∙ sym (b .left .answer)) (record {
+-- two answers of one trace, whose posts and reasons are written over two pairs of slices
+module _ (t : Trace) (answer answer′ : Outcome) (posts atoms posts′ atoms′ : List ℤ)
+    (is : answer ≡ outcomeOf (reasons (t .posts)) (length (t .posts)) (t .end)) (is′ : answer′ ≡ outcomeOf (reasons (t .posts)) (length (t .posts)) (t .end))
+    (one : Handed t posts atoms) (other : Handed t posts′ atoms′) where
+  one-trace : SameAnswer answer posts atoms answer′ posts′ atoms′
+  one-trace = subst (λ (o : Outcome). SameAnswer answer posts atoms o posts′ atoms′) (is ∙ sym is′) (record {
     outcome = refl;
-    changed = a .left .changes ∙ sym (b .left .changes);
-    starts = a .stored ∙ sym (b .stored);
-    tasks = λ j q. read.post-read t answer is posts₁ atoms₁ one j q .task-is ∙ sym (read.post-read t answer is posts₃ atoms₃ other j q .task-is);
-    bounds = λ j q. read.post-read t answer is posts₁ atoms₁ one j q .bound-is ∙ sym (read.post-read t answer is posts₃ atoms₃ other j q .bound-is);
-    reasons = λ j q. read.post-read t answer is posts₁ atoms₁ one j q .words-are ∙ sym (read.post-read t answer is posts₃ atoms₃ other j q .words-are);
-    overload = λ k. read.overload-words t answer is posts₁ atoms₁ one k ∙ sym (read.overload-words t answer is posts₃ atoms₃ other k);
+    tasks = λ j q. read.post-read t answer is posts atoms one j q .task-is ∙ sym (read.post-read t answer is posts′ atoms′ other j q .task-is);
+    bounds = λ j q. read.post-read t answer is posts atoms one j q .bound-is ∙ sym (read.post-read t answer is posts′ atoms′ other j q .bound-is);
+    reasons = λ j q. read.post-read t answer is posts atoms one j q .words-are ∙ sym (read.post-read t answer is posts′ atoms′ other j q .words-are);
+    overload = λ k. read.overload-words t answer is posts atoms one k ∙ sym (read.overload-words t answer is posts′ atoms′ other k);
   })
 
--- Two histories that leave the same durations: two runs of the open call on the same ranges that are not refused give the same.
-pub same-runs : (h h′ : History) → durationsAfter h ≡ durationsAfter h′ → (ranges : List Range) {posts atoms posts₁ atoms₁ posts₂ atoms₂ posts₃ atoms₃ : List ℤ} {answer answer′ : Outcome} {changed changed′ : ℕ} {after after′ : Propagator} {ranges₁ ranges₃ : List Range}
-    → RanLent (recordAfter h) ranges posts atoms answer changed after ranges₁ posts₁ atoms₁ → lentNumber (recordAfter h) ranges posts atoms ≡ 0
-    → RanLent (recordAfter h′) ranges posts₂ atoms₂ answer′ changed′ after′ ranges₃ posts₃ atoms₃ → lentNumber (recordAfter h′) ranges posts₂ atoms₂ ≡ 0
-    → SameRun answer changed ranges₁ posts₁ atoms₁ answer′ changed′ ranges₃ posts₃ atoms₃
-same-runs h h′ e ranges {posts} {atoms} {posts₁} {atoms₁} {posts₂} {atoms₂} {posts₃} {atoms₃} {answer} {answer′} {changed} {changed′} {after} {after′} {ranges₁} {ranges₃} one z other z′ =
-    one-record (recordAfter h) ranges posts atoms posts₁ atoms₁ posts₂ atoms₂ posts₃ atoms₃ answer answer′ after after′ ranges₁ ranges₃ (one .accepted z)
-    (subst (λ (r : Propagator). AcceptedLent r ranges posts₂ atoms₂ answer′ changed′ after′ ranges₃ posts₃ atoms₃) (sym (same-record h h′ e)) (other .accepted z′))
+-- Two series that leave the same durations, and two calls on the same ranges
+module _ {left left′ : Propagator} (calls : Series left) (calls′ : Series left′) (same : durationsOf left ≡ durationsOf left′) (ranges : List Range)
+    {posts atoms posts₁ atoms₁ posts₂ atoms₂ posts₃ atoms₃ : List ℤ} {answer answer′ : Outcome} {ranges₁ ranges₃ : List Range} where
+  -- Two runs that are not refused give the same,
+  pub same-runs : {changed changed′ : ℕ} {after after′ : Propagator}
+      → RanLent left ranges posts atoms answer changed after ranges₁ posts₁ atoms₁ → lentNumber left ranges posts atoms ≡ 0
+      → RanLent left′ ranges posts₂ atoms₂ answer′ changed′ after′ ranges₃ posts₃ atoms₃ → lentNumber left′ ranges posts₂ atoms₂ ≡ 0
+      → SameRun answer changed ranges₁ posts₁ atoms₁ answer′ changed′ ranges₃ posts₃ atoms₃
+  same-runs {changed} {changed′} {after} {after′} one z other z′ =
+      let t : Trace = traceOf left (earliests ranges) (latests ranges) in
+      let a = one .accepted z in
+      let b = subst (λ (r : Propagator). AcceptedLent r ranges posts₂ atoms₂ answer′ changed′ after′ ranges₃ posts₃ atoms₃) (sym (same-left calls calls′ same)) (other .accepted z′) in
+      record {
+        answers = one-trace t answer answer′ posts₁ atoms₁ posts₃ atoms₃ (a .left .answer) (b .left .answer)
+            (handed t posts atoms (a .left .post-words) (a .left .atom-words)) (handed t posts₂ atoms₂ (b .left .post-words) (b .left .atom-words));
+        changed = a .left .changes ∙ sym (b .left .changes);
+        starts = a .stored ∙ sym (b .stored);
+      }
+
+  -- and so do two mirrored passes.
+  pub same-mirrored : RanMirroredLent left ranges posts atoms answer ranges₁ posts₁ atoms₁ → lentNumber left ranges posts atoms ≡ 0
+      → RanMirroredLent left′ ranges posts₂ atoms₂ answer′ ranges₃ posts₃ atoms₃ → lentNumber left′ ranges posts₂ atoms₂ ≡ 0
+      → SameMirrored answer ranges₁ posts₁ atoms₁ answer′ ranges₃ posts₃ atoms₃
+  same-mirrored one z other z′ =
+      let t : Trace = mirroredOf left (earliests ranges) (latests ranges) in
+      let a = one .accepted z in
+      let b = subst (λ (r : Propagator). AcceptedMirroredLent r ranges posts₂ atoms₂ answer′ ranges₃ posts₃ atoms₃) (sym (same-left calls calls′ same)) (other .accepted z′) in
+      record {
+        answers = one-trace t answer answer′ posts₁ atoms₁ posts₃ atoms₃ (a .left .answer) (b .left .answer)
+            (handed t posts atoms (a .left .post-words) (a .left .atom-words)) (handed t posts₂ atoms₂ (b .left .post-words) (b .left .atom-words));
+        starts = a .stored ∙ sym (b .stored);
+      }

@@ -1,4 +1,4 @@
--- After any history the record's durations are those of the tasks that it leaves, and the stored total is their sum. An add and a removal are steps of a history.
+-- After any history the record's durations are those of the tasks that it leaves, and the stored total is their sum. A creation, an add and a removal are its steps.
 -- Assumes nothing.
 use mathlib.Core.Path.{_≡_, refl, sym, ap, ap₂, subst, _∙_}
 use mathlib.Core.List.{List, [], _∷_, _++_, map}
@@ -21,7 +21,7 @@ use Rattle.records.proofs.Creation.{created-lawful, created-new, natural-accept
 use Rattle.task_changes.specs.declared.changes.Changed.{Changed}
 use Rattle.task_changes.specs.Lists.{placed, sumOf, without}
 use Rattle.task_changes.specs.Changes.{durationsOf, added, removed, addNumber, removeNumber, TaskAdded, TaskRemoved}
-use Rattle.task_changes.specs.Histories.{leaves, History, creation, adding, removing, running, startOf, recordAfter, durationsAfter}
+use Rattle.task_changes.specs.Histories.{leaves, History, creation, adding, removing, startOf, recordAfter, durationsAfter}
 use Rattle.task_changes.proofs.Placing.{placed-length, placed-front, front-placed}
 use Rattle.task_changes.proofs.Leaving.{without-few, without-length}
 use Rattle.task_changes.proofs.Sums.{sum-more, sum-without, sum-given}
@@ -100,13 +100,12 @@ unfolding recordAfter durationsAfter
 holds (creation ds) = created-or-not (refusal (creationTests ds)) ds (new-holds ds)
 holds (adding h d) = made-or-not (addNumber (recordAfter h) d) (added-holds (recordAfter h) (durationsAfter h) (holds h) d) (holds h)
 holds (removing h t) = made-or-not (removeNumber (recordAfter h) t) (removed-holds (recordAfter h) (durationsAfter h) (holds h) t) (holds h)
-holds (running h es ls posts atoms) = holds h
 
 -- The stored total is the sum over the tasks that the history leaves, and the record's durations are theirs.
 pub total-true : (h : History) → (recordAfter h .total ≡ sumOf (durationsAfter h)) × (durationsOf (recordAfter h) ≡ durationsAfter h)
 total-true h = (holds h .sum, tasks (holds h))
 
--- From an accepted creation on, every record is lawful: no call of the series is refused by 20.
+-- From an accepted creation on, every record is lawful, so that 20 refuses no change.
 kept : (k : ℕ) {r r′ : Propagator} → (k ≡ 0 → Lawful r′) → Lawful r → Lawful (leaves k r′ r)
 kept zero new old = new refl
 kept (suc k) new old = old
@@ -120,7 +119,6 @@ lawful-after (adding h d) z =
 lawful-after (removing h t) z =
     let r = recordAfter h in
     kept (removeNumber r t) (λ e. (let a = removable r t e in removed-lawful r (a .lawful) (long (holds h)) t (a .there) (a .many))) (lawful-after h z)
-lawful-after (running h es ls posts atoms) z = lawful-after h z
 
 -- Each call leaves what its step in a history does.
 leaves-new : (k : ℕ) (r r′ : Propagator) → k ≡ 0 → r′ ≡ leaves k r′ r
@@ -130,17 +128,27 @@ leaves-old : (k : ℕ) (r r′ : Propagator) → (k ≡ 0 → ⊥) → r ≡ lea
 leaves-old zero r r′ h = absurd (h refl)
 leaves-old (suc k) r r′ h = refl
 
-pub add-step : (r : Propagator) (d : ℤ) (c : Changed) → TaskAdded r d c → c .«record» ≡ leaves (addNumber r d) (added r (durationOf d)) r
-add-step r d c a = elim (ℕ-discrete (addNumber r d) 0) [
-  | yes e ↦ a .made e .stands ∙ leaves-new (addNumber r d) r (added r (durationOf d)) e
-  | no e ↦ a .refused e .stands ∙ leaves-old (addNumber r d) r (added r (durationOf d)) e
-]
+pub create-step : (ds : List ℤ) (c : Created) → c ≡ created ds → c .«record» ≡ recordAfter (creation ds)
+unfolding recordAfter
+create-step ds c e = ap (λ (x : Created). x .«record») e
 
-pub remove-step : (r : Propagator) (t : ℕ) (c : Changed) → TaskRemoved r t c → c .«record» ≡ leaves (removeNumber r t) (removed r t) r
-remove-step r t c a = elim (ℕ-discrete (removeNumber r t) 0) [
-  | yes e ↦ a .made e .stands ∙ leaves-new (removeNumber r t) r (removed r t) e
-  | no e ↦ a .refused e .stands ∙ leaves-old (removeNumber r t) r (removed r t) e
-]
+pub add-step : (h : History) (d : ℤ) (c : Changed) → TaskAdded (recordAfter h) d c → c .«record» ≡ recordAfter (adding h d)
+unfolding recordAfter
+add-step h d c a =
+    let r = recordAfter h in
+    elim (ℕ-discrete (addNumber r d) 0) [
+      | yes e ↦ a .made e .stands ∙ leaves-new (addNumber r d) r (added r (durationOf d)) e
+      | no e ↦ a .refused e .stands ∙ leaves-old (addNumber r d) r (added r (durationOf d)) e
+    ]
+
+pub remove-step : (h : History) (t : ℕ) (c : Changed) → TaskRemoved (recordAfter h) t c → c .«record» ≡ recordAfter (removing h t)
+unfolding recordAfter
+remove-step h t c a =
+    let r = recordAfter h in
+    elim (ℕ-discrete (removeNumber r t) 0) [
+      | yes e ↦ a .made e .stands ∙ leaves-new (removeNumber r t) r (removed r t) e
+      | no e ↦ a .refused e .stands ∙ leaves-old (removeNumber r t) r (removed r t) e
+    ]
 
 given-back : (l : List ℕ) → map durationOf (map pos l) ≡ l
 given-back [] = refl

@@ -1,4 +1,4 @@
--- Histories of a record: a creation, and then tasks added, tasks taken off and runs, each lent the record that the one before left.
+-- Histories of a record: a creation, and then tasks added and taken off, each change made to the record that the one before left.
 use mathlib.Core.List.{List, [], _∷_, _++_, map}
 use Prim.Native.Nat.{ℕ, zero, suc}
 use lib.IntN.{ℤ}
@@ -12,7 +12,6 @@ pub data History : Type 0 where
   creation : List ℤ → History
   adding : History → ℤ → History
   removing : History → ℕ → History
-  running : History → List ℤ → List ℤ → ℕ → ℕ → History
 
 -- what a change of this number leaves: a refused one changes nothing
 abbrev pub leaves : {A : Type 0} → ℕ → A → A → A
@@ -24,18 +23,15 @@ abbrev pub startOf : History → List ℤ
 startOf (creation ds) = ds
 startOf (adding h d) = startOf h
 startOf (removing h t) = startOf h
-startOf (running h es ls posts atoms) = startOf h
 
 -- the record that it leaves
 unfoldable pub recordAfter : History → Propagator
 recordAfter (creation ds) = created ds .«record»
 recordAfter (adding h d) = leaves (addNumber (recordAfter h) d) (added (recordAfter h) (durationOf d)) (recordAfter h)
 recordAfter (removing h t) = leaves (removeNumber (recordAfter h) t) (removed (recordAfter h) t) (recordAfter h)
-recordAfter (running h es ls posts atoms) = recordAfter h
 
 -- the durations of the tasks that it leaves, by number: an added one comes last, and one taken off is left out
 unfoldable pub durationsAfter : History → List ℕ
 durationsAfter (creation ds) = leaves (refusal (creationTests ds)) (map durationOf ds) []
 durationsAfter (adding h d) = leaves (addNumber (recordAfter h) d) (durationsAfter h ++ (durationOf d ∷ [])) (durationsAfter h)
 durationsAfter (removing h t) = leaves (removeNumber (recordAfter h) t) (without (durationsAfter h) t) (durationsAfter h)
-durationsAfter (running h es ls posts atoms) = durationsAfter h
