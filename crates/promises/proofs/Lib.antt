@@ -5,6 +5,11 @@ pub mod Promising
 pub mod MirroredPromising
 pub mod Lent
 pub mod PrecedencesLent
+pub mod PrecedencesEnd
 pub mod Series
 pub mod SameRuns
 pub mod SamePrecedences
+pub mod AcceptedCalls
+pub mod NarrowedRanges
+pub mod Planner
+pub mod KeptReasons

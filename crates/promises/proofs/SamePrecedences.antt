@@ -1,25 +1,22 @@
 -- Whatever adds, removals and runs came before, the same durations and range records give the same pass by precedences, accepted or refused.
 -- Assumes nothing.
-use mathlib.Core.Path.{_≡_, refl, sym, ap, subst, _∙_}
-use mathlib.Core.List.{List, [], _∷_}
-use mathlib.Core.Logic.{_⊎_, inl, inr, ⊎-elim}
-use Prim.Native.Nat.{ℕ, zero, suc, _<_}
+use mathlib.Core.Path.{_≡_, sym, ap, subst, _∙_}
+use mathlib.Core.List.{List, []}
+use mathlib.Core.Logic.{⊎-elim}
+use Prim.Native.Nat.{ℕ, _<_}
 use native.Mathlib.Omega.{arith}
 use native.Mathlib.Decide.{ℕ-discrete}
 use lib.IntN.{ℤ, pos}
 use lib.ListN.{length, getD}
 use lib.Seq.{ext-getD}
-use lib.Signed.{_≤ℤ_}
 use Rattle.integers.specs.Answers.{Answer, answered}
-use Rattle.integers.proofs.Ints.{ints, ≤ℤ-cases}
+use Rattle.integers.proofs.Ints.{ints}
 use Rattle.scheduling.specs.Scheduling.{whole, Tasks}
 use Rattle.records.specs.declared.record.Propagator.{Propagator}
 use Rattle.input_refusals.proofs.Refused.{accepted-input}
-use Rattle.predecessors.specs.Predecessors.{PrecedenceBound}
 use Rattle.precedences.specs.declared.answers.Precedences.{Precedences}
-use Rattle.precedences.specs.declared.answers.Precedences.the-variants.{Done, Emptied, Refused}
 use Rattle.precedences.specs.Numbers.{precedencesNumbers}
-use Rattle.precedences.specs.Precedences.{FirstEmptied, LeftPrecedences}
+use Rattle.precedences.specs.Precedences.{LeftPrecedences}
 use Rattle.precedences.proofs.Apart.{passes-apart}
 use Rattle.task_changes.specs.Changes.{durationsOf}
 use Rattle.barred_starts.specs.declared.range.Range.{Range}
@@ -29,46 +26,31 @@ use Rattle.promises.specs.Promise.{tasksLent}
 use Rattle.promises.specs.PrecedencesLent.{rangesNumber, PrecedencesLent}
 use Rattle.promises.specs.SameRuns.{SamePrecedences}
 use Rattle.promises.specs.Series.{Series}
+use Rattle.promises.proofs.PrecedencesEnd.{pass-ends}
 use Rattle.promises.proofs.Series.{count-is, same-left}
 
-module _ (J : Tasks whole) where
-  -- where no task is the lowest whose bound passes, none has such a bound
-  none-passes : ((i : ℕ) → FirstEmptied J i → ⊥) → (n k : ℕ) → k < n → k < J .count → (b : ℤ) → PrecedenceBound J k b → b ≤ℤ J .latest k
-  none-passes not zero k q small b p = absurd (omega arith)
-  none-passes not (suc n) k q small b p =
-      ⊎-elim (λ y. y) (λ y. absurd (not k (record { small = small; bound = b; is-bound = p; passes = y; lowest = λ i r. none-passes not n i (omega arith) (omega arith) }))) (≤ℤ-cases b (J .latest k))
+-- two accepted passes over the same tasks
+module _ (J : Tasks whole) {es : List ℤ} {r r′ : Precedences} {es₁ es₂ : List ℤ} (a : LeftPrecedences J es r es₁) (b : LeftPrecedences J es r′ es₂) where
+  same-answer : precedencesNumbers r ≡ precedencesNumbers r′
+  same-answer = ⊎-elim (λ e. e ∙ sym (b .done .1 (a .done .0 e))) (λ x. let (i, e) = x in e ∙ sym (b .emptied i .1 (a .emptied i .0 e))) (pass-ends J r a)
 
-  module _ {es : List ℤ} where
-    -- an accepted pass is Done, or it is Emptied with a task
-    ends : (r : Precedences) {es′ : List ℤ} → LeftPrecedences J es r es′ → (precedencesNumbers r ≡ answered 0 []) ⊎ ((i : ℕ) × (precedencesNumbers r ≡ answered 1 (pos i ∷ [])))
-    ends Done a = inl refl
-    ends (Emptied i) a = inr (i, refl)
-    ends (Refused n) a =
-        let not-emptied : (i : ℕ) → FirstEmptied J i → ⊥ = λ i f. (let z : _≡_ {A = ℕ} 3 1 = ap (λ (x : Answer). x .kind) (a .emptied i .1 f) in omega arith) in
-        let z : _≡_ {A = ℕ} 3 0 = ap (λ (x : Answer). x .kind) (a .done .1 (λ k q. none-passes not-emptied (suc k) k (omega arith) q)) in
-        absurd (omega arith)
+  same-starts : length es ≡ J .count → es₁ ≡ es₂
+  same-starts n = ⊎-elim done (λ x. emptied (ap (λ (y : Answer). y .kind) (x .1))) (pass-ends J r a)
+    where
+      kinds : precedencesNumbers r .kind ≡ precedencesNumbers r′ .kind
+      kinds = ap (λ (y : Answer). y .kind) same-answer
 
-    module _ {r r′ : Precedences} {es₁ es₂ : List ℤ} (a : LeftPrecedences J es r es₁) (b : LeftPrecedences J es r′ es₂) where
-      same-answer : precedencesNumbers r ≡ precedencesNumbers r′
-      same-answer = ⊎-elim (λ e. e ∙ sym (b .done .1 (a .done .0 e))) (λ x. let (i, e) = x in e ∙ sym (b .emptied i .1 (a .emptied i .0 e))) (ends r a)
+      emptied : precedencesNumbers r .kind ≡ 1 → es₁ ≡ es₂
+      emptied z = a .kept z ∙ sym (b .kept (sym kinds ∙ z))
 
-      same-starts : length es ≡ J .count → es₁ ≡ es₂
-      same-starts n = ⊎-elim done (λ x. emptied (ap (λ (y : Answer). y .kind) (x .1))) (ends r a)
-        where
-          kinds : precedencesNumbers r .kind ≡ precedencesNumbers r′ .kind
-          kinds = ap (λ (y : Answer). y .kind) same-answer
+      one : precedencesNumbers r .kind ≡ 0 → (k : ℕ) → k < J .count → getD es₁ k (pos 0) ≡ getD es₂ k (pos 0)
+      one z k q =
+          let u = a .starts z k q in
+          let v = b .starts (sym kinds ∙ z) k q in
+          omega (ints, u .bounds (getD es₂ k (pos 0)) (v .holds), v .bounds (getD es₁ k (pos 0)) (u .holds))
 
-          emptied : precedencesNumbers r .kind ≡ 1 → es₁ ≡ es₂
-          emptied z = a .kept z ∙ sym (b .kept (sym kinds ∙ z))
-
-          one : precedencesNumbers r .kind ≡ 0 → (k : ℕ) → k < J .count → getD es₁ k (pos 0) ≡ getD es₂ k (pos 0)
-          one z k q =
-              let u = a .starts z k q in
-              let v = b .starts (sym kinds ∙ z) k q in
-              omega (ints, u .bounds (getD es₂ k (pos 0)) (v .holds), v .bounds (getD es₁ k (pos 0)) (u .holds))
-
-          done : precedencesNumbers r ≡ answered 0 [] → es₁ ≡ es₂
-          done e = ext-getD (pos 0) es₁ es₂ (a .size ∙ sym (b .size)) (λ k q. one (ap (λ (y : Answer). y .kind) e) k (omega (arith, q, a .size, n)))
+      done : precedencesNumbers r ≡ answered 0 [] → es₁ ≡ es₂
+      done e = ext-getD (pos 0) es₁ es₂ (a .size ∙ sym (b .size)) (λ k q. one (ap (λ (y : Answer). y .kind) e) k (omega (arith, q, a .size, n)))
 
 -- Two series that leave the same durations, and two passes on the same ranges.
 pub same-precedences : {left left′ : Propagator} → Series left → Series left′ → durationsOf left ≡ durationsOf left′ → (ranges : List Range) {answer answer′ : Precedences} {ranges₁ ranges₂ : List Range}

@@ -4,5 +4,6 @@ pub mod RanLent
 pub mod PrecedencesLent
 pub mod Series
 pub mod SameRuns
+pub mod Planner
 pub mod Instances
 pub mod MirroredInstances
