@@ -13,3 +13,4 @@ pub mod AcceptedCalls
 pub mod NarrowedRanges
 pub mod Planner
 pub mod KeptReasons
+pub mod DemandThree

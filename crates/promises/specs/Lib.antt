@@ -5,5 +5,6 @@ pub mod PrecedencesLent
 pub mod Series
 pub mod SameRuns
 pub mod Planner
+pub mod DemandThree
 pub mod Instances
 pub mod MirroredInstances

@@ -1,0 +1,88 @@
+-- The open run's contract says every sentence of demand 3, and the check's that a passed check is right.
+-- Assumes nothing.
+use mathlib.Core.Path.{_≡_, ap, subst, _∙_}
+use mathlib.Core.Logic.{_⊎_, inl, inr, ⊎-elim, _↔_}
+use mathlib.Core.List.{List}
+use mathlib.Core.Option.{Option}
+use Prim.Native.Nat.{ℕ, _<_}
+use native.Mathlib.Omega.{arith}
+use lib.IntN.{ℤ, pos}
+use lib.ListN.{getD}
+use lib.Signed.{_≤ℤ_, _<ℤ_}
+use Rattle.integers.proofs.Ints.{ints, ≤ℤ-cases}
+use Rattle.scheduling.specs.Scheduling.{whole, Tasks, TaskSet, Largest, Overloads, EdgeFindingBound, Atom}
+use Rattle.post_words.specs.Posts.{taskOf, boundOf}
+use Rattle.records.specs.declared.record.Propagator.{Propagator}
+use Rattle.checker.specs.declared.checker.Verdict.{Verdict}
+use Rattle.checker.specs.Verdicts.{verdictNumbers}
+use Rattle.checker.specs.Checks.{Checked}
+use Rattle.levels.specs.declared.outcome.Outcome.{Outcome}
+use Rattle.levels.specs.Outcomes.{outcomeNumbers, valueOf}
+use Rattle.barred_starts.specs.declared.range.Range.{Range}
+use Rattle.barred_starts.specs.Permitted.{FirstPermitted}
+use Rattle.barred_starts.specs.Ranges.{earliests, anyRange}
+use Rattle.promises.specs.Promise.{tasksLent, Reason, Promise}
+use Rattle.promises.specs.RanLent.{lentNumber, RanLent}
+use Rattle.promises.specs.DemandThree.{PassedMeans, GoodReason, DemandThree, NothingAltered}
+
+pub passed-means : {ds premises consequent : List ℤ} {v : Verdict} → Checked ds premises consequent v → PassedMeans ds premises consequent v
+passed-means checked = checked .sound
+
+module _ (before : Propagator) (ranges : List Range) (answer : Outcome) (ranges′ : List Range) (posts atoms : List ℤ) (p : Promise before ranges answer ranges′ posts atoms) where
+  abbrev J : Tasks whole
+  J = tasksLent before ranges
+
+  abbrev kind : ℕ
+  kind = outcomeNumbers answer .kind
+
+  abbrev made : ℕ
+  made = valueOf answer 0
+
+  exactly : kind ≡ 0 ↔ (((Ω : TaskSet) → Overloads J Ω → ⊥) × ((i : ℕ) (b : ℤ) → EdgeFindingBound J i b → b ≤ℤ J .latest i))
+  exactly = (
+    λ z. (λ Ω o. p .exactly .0 z (inl (Ω, o)), λ i b e. ⊎-elim (λ y. y) (λ y. absurd (p .exactly .0 z (inr (i, b, e, y)))) (≤ℤ-cases b (J .latest i))),
+    λ f. p .exactly .1 (λ c. ⊎-elim (λ o. f .0 (o .0) (o .1)) (λ o. let (i, b, e, y) = o in omega (ints, f .1 i b e, y)) c),
+  )
+
+  starts : kind ≡ 0 → (k : ℕ) → k < J .count → (v : ℤ) → Largest whole (λ w. (J .earliest k ≡ w) ⊎ EdgeFindingBound J k w) v → FirstPermitted (getD ranges k anyRange) v (getD (earliests ranges′) k (pos 0))
+  starts z k q v l =
+      let d = p .when-done z in
+      let largest = d .done .starts k q in
+      let same : d .largest k ≡ v = omega (ints, l .bounds (d .largest k) (largest .holds), largest .bounds v (l .holds)) in
+      subst (λ (w : ℤ). FirstPermitted (getD ranges k anyRange) w (getD (earliests ranges′) k (pos 0))) same (d .first k q)
+
+  raised : kind ≡ 0 → (k : ℕ) → k < J .count → ((b : ℤ) × EdgeFindingBound J k b × (J .earliest k <ℤ b)) ↔ ((j : ℕ) × (j < made) × (taskOf posts j ≡ k))
+  raised z k q =
+      let d = p .when-done z .done in (
+        λ x. (let (b, e, y) = x in d .every k q (omega (ints, d .starts k q .bounds b (inr e), y))),
+        λ x. (let (j, small, is) = x in subst (λ (i : ℕ). (b : ℤ) × EdgeFindingBound J i b × (J .earliest i <ℤ b)) is (boundOf posts j, d .at-largest j small .holds, d .raises j small)),
+      )
+
+  good : (words : List ℤ) (consequent : Option Atom) → Reason before ranges answer ranges′ posts atoms words consequent → GoodReason before ranges words consequent
+  good words consequent r = record { holds = r .holds; passes = λ v checked. ap verdictNumbers (checked .answer ∙ r .passes) }
+
+  said : DemandThree before ranges answer ranges′ posts atoms
+  said = record {
+    outcomes = p .ends;
+    exactly = exactly;
+    starts = starts;
+    raised = raised;
+    once = λ z. p .when-done z .done .once;
+    at-largest = λ z. p .when-done z .done .at-largest;
+    no-others = λ j q. (let a = p .every-post j q in (a .names, a .small, a .edge, a .raises));
+    no-schedule = λ f. p .otherwise (λ z. ⊎-elim (λ e. omega arith) (λ e. omega arith) f);
+    posts-hold = λ j q. p .every-post j q .holds;
+    posts-hold-permitted = λ j q. p .every-post j q .holds-permitted;
+    read = λ j q. p .every-post j q .read;
+    reasons = λ j q. good _ _ (p .every-post j q .reason);
+    inside = λ k. p .overload k .inside;
+    overload = λ k. good _ _ (p .overload k .reason);
+  }
+
+module _ {before : Propagator} {ranges : List Range} {posts atoms : List ℤ} {answer : Outcome} {changed : ℕ} {after : Propagator} {ranges′ : List Range} {posts′ atoms′ : List ℤ}
+    (ran : RanLent before ranges posts atoms answer changed after ranges′ posts′ atoms′) where
+  pub demand-three : lentNumber before ranges posts atoms ≡ 0 → DemandThree before ranges answer ranges′ posts′ atoms′
+  demand-three z = said before ranges answer ranges′ posts′ atoms′ (ran .accepted z .promise)
+
+  pub nothing-altered : (lentNumber before ranges posts atoms ≡ 0 → ⊥) → NothingAltered before ranges posts atoms after ranges′ posts′ atoms′
+  nothing-altered n = let r = ran .refused n in λ i. (ran .same-record i, r .same-ranges i, r .same-posts i, r .same-atoms i)
