@@ -14,3 +14,4 @@ pub mod NarrowedRanges
 pub mod Planner
 pub mod KeptReasons
 pub mod DemandThree
+pub mod MirroredDemand

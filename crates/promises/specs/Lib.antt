@@ -6,5 +6,6 @@ pub mod Series
 pub mod SameRuns
 pub mod Planner
 pub mod DemandThree
+pub mod MirroredDemand
 pub mod Instances
 pub mod MirroredInstances

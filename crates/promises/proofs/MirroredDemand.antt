@@ -1,0 +1,90 @@
+-- The open mirrored pass's contract says every sentence of demand 3, turned to latest starts.
+-- Assumes nothing.
+use mathlib.Core.Path.{_≡_, ap, subst, _∙_}
+use mathlib.Core.Logic.{_⊎_, inl, inr, ⊎-elim, _↔_}
+use mathlib.Core.List.{List}
+use mathlib.Core.Option.{Option}
+use Prim.Native.Nat.{ℕ, _<_}
+use native.Mathlib.Omega.{arith}
+use lib.IntN.{ℤ, pos}
+use lib.ListN.{getD}
+use lib.Signed.{_≤ℤ_, _<ℤ_}
+use Rattle.integers.proofs.Ints.{ints, ≤ℤ-cases}
+use Rattle.scheduling.specs.Scheduling.{whole, Tasks, TaskSet, Least, Overloads, Atom}
+use Rattle.scheduling.specs.Mirroring.{MirroredBound}
+use Rattle.post_words.specs.Posts.{taskOf, boundOf}
+use Rattle.records.specs.declared.record.Propagator.{Propagator}
+use Rattle.checker.specs.declared.checker.Verdict.{Verdict}
+use Rattle.checker.specs.Verdicts.{verdictNumbers}
+use Rattle.checker.specs.MirroredChecks.{CheckedMirrored}
+use Rattle.levels.specs.declared.outcome.Outcome.{Outcome}
+use Rattle.levels.specs.Outcomes.{outcomeNumbers, valueOf}
+use Rattle.barred_starts.specs.declared.range.Range.{Range}
+use Rattle.barred_starts.specs.Permitted.{LastPermitted}
+use Rattle.barred_starts.specs.Ranges.{latests, anyRange}
+use Rattle.promises.specs.Promise.{tasksLent}
+use Rattle.promises.specs.MirroredPromise.{MirroredReason, MirroredPromise}
+use Rattle.promises.specs.RanLent.{lentNumber, RanMirroredLent}
+use Rattle.promises.specs.DemandThree.{PassedMeans, NothingAltered}
+use Rattle.promises.specs.MirroredDemand.{GoodMirroredReason, MirroredDemand}
+
+pub mirrored-passed-means : {ds premises consequent : List ℤ} {v : Verdict} → CheckedMirrored ds premises consequent v → PassedMeans ds premises consequent v
+mirrored-passed-means checked = checked .sound
+
+module _ (before : Propagator) (ranges : List Range) (answer : Outcome) (ranges′ : List Range) (posts atoms : List ℤ) (p : MirroredPromise before ranges answer ranges′ posts atoms) where
+  abbrev J : Tasks whole
+  J = tasksLent before ranges
+
+  abbrev kind : ℕ
+  kind = outcomeNumbers answer .kind
+
+  abbrev made : ℕ
+  made = valueOf answer 0
+
+  exactly : kind ≡ 0 ↔ (((Ω : TaskSet) → Overloads J Ω → ⊥) × ((i : ℕ) (b : ℤ) → MirroredBound J i b → J .earliest i ≤ℤ b))
+  exactly = (
+    λ z. (λ Ω o. p .exactly .0 z (inl (Ω, o)), λ i b e. ⊎-elim (λ y. y) (λ y. absurd (p .exactly .0 z (inr (i, b, e, y)))) (≤ℤ-cases (J .earliest i) b)),
+    λ f. p .exactly .1 (λ c. ⊎-elim (λ o. f .0 (o .0) (o .1)) (λ o. let (i, b, e, y) = o in omega (ints, f .1 i b e, y)) c),
+  )
+
+  starts : kind ≡ 0 → (k : ℕ) → k < J .count → (v : ℤ) → Least whole (λ w. (J .latest k ≡ w) ⊎ MirroredBound J k w) v → LastPermitted (getD ranges k anyRange) v (getD (latests ranges′) k (pos 0))
+  starts z k q v l =
+      let d = p .when-done z in
+      let smallest = d .done .starts k q in
+      let same : d .smallest k ≡ v = omega (ints, l .bounds (d .smallest k) (smallest .holds), smallest .bounds v (l .holds)) in
+      subst (λ (w : ℤ). LastPermitted (getD ranges k anyRange) w (getD (latests ranges′) k (pos 0))) same (d .last k q)
+
+  lowered : kind ≡ 0 → (k : ℕ) → k < J .count → ((b : ℤ) × MirroredBound J k b × (b <ℤ J .latest k)) ↔ ((j : ℕ) × (j < made) × (taskOf posts j ≡ k))
+  lowered z k q =
+      let d = p .when-done z .done in (
+        λ x. (let (b, e, y) = x in d .every k q (omega (ints, d .starts k q .bounds b (inr e), y))),
+        λ x. (let (j, small, is) = x in subst (λ (i : ℕ). (b : ℤ) × MirroredBound J i b × (b <ℤ J .latest i)) is (boundOf posts j, d .at-smallest j small .holds, d .lowers j small)),
+      )
+
+  good : (words : List ℤ) (consequent : Option Atom) → MirroredReason before ranges answer ranges′ posts atoms words consequent → GoodMirroredReason before ranges words consequent
+  good words consequent r = record { holds = r .holds; formula = r .formula; passes = λ v checked. ap verdictNumbers (checked .answer ∙ r .passes) }
+
+  said : MirroredDemand before ranges answer ranges′ posts atoms
+  said = record {
+    outcomes = p .ends;
+    exactly = exactly;
+    starts = starts;
+    lowered = lowered;
+    once = λ z. p .when-done z .done .once;
+    at-smallest = λ z. p .when-done z .done .at-smallest;
+    no-others = λ j q. (let a = p .every-post j q in (a .names, a .small, a .rule, a .lowers));
+    no-schedule = λ f. p .otherwise (λ z. ⊎-elim (λ e. omega arith) (λ e. omega arith) f);
+    posts-hold = λ j q. p .every-post j q .holds;
+    posts-hold-permitted = λ j q. p .every-post j q .holds-permitted;
+    read = λ j q. p .every-post j q .read;
+    reasons = λ j q. good _ _ (p .every-post j q .reason);
+    inside = λ k. p .overload k .inside;
+    overload = λ k. good _ _ (p .overload k .reason);
+  }
+
+module _ {before : Propagator} {ranges : List Range} {posts atoms : List ℤ} {answer : Outcome} {ranges′ : List Range} {posts′ atoms′ : List ℤ} (ran : RanMirroredLent before ranges posts atoms answer ranges′ posts′ atoms′) where
+  pub mirrored-demand : lentNumber before ranges posts atoms ≡ 0 → MirroredDemand before ranges answer ranges′ posts′ atoms′
+  mirrored-demand z = said before ranges answer ranges′ posts′ atoms′ (ran .accepted z .promise)
+
+  pub mirrored-nothing-altered : (lentNumber before ranges posts atoms ≡ 0 → ⊥) → NothingAltered before ranges posts atoms before ranges′ posts′ atoms′
+  mirrored-nothing-altered n = let r = ran .refused n in λ i. (before, r .same-ranges i, r .same-posts i, r .same-atoms i)
