@@ -1,4 +1,4 @@
--- No plan is lost: over any passes, each on the record and the ranges that the one before left, every plan of the first ranges is one of the last.
+-- No plan is lost: over any passes, each on what the one before left, every plan of the first ranges is one of the last.
 -- Assumes nothing.
 use mathlib.Core.Path.{_≡_, sym, ap, subst, _∙_}
 use mathlib.Core.List.{List}

@@ -1,4 +1,4 @@
--- The record that a series of calls leaves is that of its history: its total is true, it is lawful, and it is the one that creation makes of the durations left.
+-- The record that a series of calls leaves is that of its history. Its total is true, it is lawful, and creation makes it of the durations left.
 -- Assumes nothing.
 use mathlib.Core.Path.{_≡_, sym, ap, subst, _∙_}
 use mathlib.Core.List.{List, map}

@@ -58,7 +58,7 @@ module _ (before : Propagator) (ranges : List Range) (answer : Outcome) (ranges�
     pub outcomes : kind < 3
     -- The pass is Done exactly when no set of tasks overloads its span and no bound of the mirrored rule is below an earliest start.
     pub exactly : kind ≡ 0 ↔ (((Ω : TaskSet) → Overloads J Ω → ⊥) × ((i : ℕ) (b : ℤ) → MirroredBound J i b → J .earliest i ≤ℤ b))
-    -- Each latest start is then the smallest of its old value and all bounds that the mirrored rule gives, moved back to the last permitted start up to there.
+    -- Each latest start is then the smallest of its old value and all bounds of the mirrored rule, moved back to the last permitted start.
     pub starts : kind ≡ 0 → (k : ℕ) → k < J .count → (v : ℤ) → Least whole (λ w. (J .latest k ≡ w) ⊎ MirroredBound J k w) v
         → LastPermitted (getD ranges k anyRange) v (getD (latests ranges′) k (pos 0))
     -- The posts are one for each task so lowered,

@@ -25,7 +25,7 @@ use Rattle.promises.specs.PrecedencesLent.{PrecedencesLent}
 abbrev pub Plan : Propagator → List Range → (ℕ → ℤ) → Type 0
 Plan tasks ranges s = PermittedSchedule (tasksLent tasks ranges) ranges s
 
--- One pass, accepted or refused, from the record and the ranges that it is lent to those that it leaves, by the contract of its call.
+-- One pass by the contract of its call, accepted or refused: from the record and the ranges lent to those left.
 pub data Pass (before : Propagator) (ranges : List Range) : Propagator → List Range → Type 0 where
   run : {after : Propagator} {ranges′ : List Range} (posts atoms : List ℤ) (answer : Outcome) (changed : ℕ) (posts′ atoms′ : List ℤ)
       → RanLent before ranges posts atoms answer changed after ranges′ posts′ atoms′ → Pass before ranges after ranges′
@@ -65,6 +65,6 @@ abbrev pub Follows : (ℕ → ℤ) → Option Atom → Type 0
 Follows s none = ⊥
 Follows s (some a) = Meets s a
 
--- The words of a reason stay true: whatever the ranges are later, its atom follows for all starts that meet it and in which no two of the record's tasks overlap.
+-- The words of a reason stay true, whatever the ranges are later. Its atom follows for all starts that meet it and in which no two of the record's tasks overlap.
 abbrev pub StaysTrue : Propagator → List ℤ → Option Atom → Type 0
 StaysTrue tasks words consequent = (later : List Range) (s : ℕ → ℤ) → NoOverlap (tasksLent tasks later) s → Every (Meets s) (atomsOf words) → Follows s consequent

@@ -1,4 +1,4 @@
--- A series of calls on one record: a creation, and then tasks added, tasks taken off and runs, each lent the record that the one before left.
+-- A series of calls: a creation, and then tasks added, tasks taken off and runs, each lent the record that the one before left.
 -- Every step is the contract of the open call, accepted or refused. No other open call can change the record: it is lent to them as `&`.
 use mathlib.Core.Path.{_≡_}
 use mathlib.Core.List.{List}
