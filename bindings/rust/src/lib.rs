@@ -596,7 +596,7 @@ impl Propagator {
         match answer.kind {
             0 => Ok(Outcome::Done { posts: made, changes }),
             1 => {
-                let words = &made.atoms[answer.first..answer.first + answer.count];
+                let words = &made.atoms[answer.first_word..answer.first_word + answer.word_count];
                 Ok(Outcome::Overload { posts: made, reason: raw::atoms(words), changes })
             }
             2 => Ok(Outcome::Emptied { posts: made, changes }),
@@ -740,7 +740,7 @@ impl<'w> Iterator for Posts<'w> {
             return None;
         }
         self.next += 1;
-        Some(Post { task: read.task as usize, bound: read.bound, reason: raw::atoms(&self.atoms[read.first..read.first + read.count]) })
+        Some(Post { task: read.task as usize, bound: read.bound, reason: raw::atoms(&self.atoms[read.first_word..read.first_word + read.word_count]) })
     }
 
     fn size_hint(&self) -> (usize, Option<usize>) {

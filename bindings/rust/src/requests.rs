@@ -46,7 +46,7 @@ impl Propagator {
         match answer.kind {
             0 => Ok(Mirrored::Done { posts: made }),
             1 => {
-                let words = &made.0.atoms[answer.first..answer.first + answer.count];
+                let words = &made.0.atoms[answer.first_word..answer.first_word + answer.word_count];
                 Ok(Mirrored::Overload { posts: made, reason: raw::atoms(words) })
             }
             2 => Ok(Mirrored::Emptied { posts: made }),
