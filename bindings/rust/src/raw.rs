@@ -11,7 +11,7 @@ pub(crate) const BARS: usize = 16;
 
 /// The record of a propagator: the task count, the durations and their sum. Places from the count on are 0.
 #[repr(C)]
-#[derive(Clone, Copy, Debug, PartialEq, Eq)]
+#[derive(Clone, Copy, Debug, PartialEq, Eq, Hash)]
 pub(crate) struct Record {
     pub count: usize,
     pub durations: [u32; TASKS],
