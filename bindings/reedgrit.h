@@ -217,7 +217,7 @@ reedgrit_check_answer reedgrit_check(const int32_t *durations, size_t count, con
                                      const int32_t *consequent, size_t consequent_words);
 
 /* The check for a reason of the mirrored pass: the same words and answers, in the caller's time, judged by the formula in mirrored time. A
- * reason that a run gives is checked by reedgrit_check, one that the mirrored pass gives by this. Refuses as reedgrit_check does. */
+ * reason that a run gives is checked by reedgrit_check, one that the mirrored pass gives by this. Refuses by 1, 2, 5, 7, 6, 21, 8. */
 reedgrit_check_answer reedgrit_check_mirrored(const int32_t *durations, size_t count, const int32_t *premises, size_t premise_words,
                                               const int32_t *consequent, size_t consequent_words);
 
