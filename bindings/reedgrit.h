@@ -239,9 +239,9 @@ reedgrit_change_answer reedgrit_remove(reedgrit_propagator *propagator, size_t t
 
 /* Raises earliest starts by the precedences that can be read off the ranges. The tasks that must come before task i are the others whose
  * latest start is below i's earliest start plus its duration; the least time at which all of them can be over (their ect) is i's bound.
- * REEDGRIT_PRECEDENCES_DONE: each earliest start is the larger of what it was and its bound, by the ranges at entry; one that is raised to a
+ * REEDGRIT_PRECEDENCES_DONE: each earliest start is the larger of what it was and its bound, by the ranges at entry. One that is raised to a
  * barred start goes on to the next permitted one. REEDGRIT_PRECEDENCES_EMPTIED: a bound passes its task's latest start, so that there is no
- * schedule; the count is the number of the lowest such task, and no range has changed. Refuses by 20, 10, 3, 4, 13. */
+ * schedule. The count is then the number of the lowest such task, and no range has changed. Refuses by 20, 10, 3, 4, 13. */
 reedgrit_count_answer reedgrit_precedences(const reedgrit_propagator *propagator, reedgrit_range *ranges, size_t range_count);
 
 /* The reason of a task's bound by precedences, three words to an atom: the task's earliest start, then both bounds of each task that must
@@ -264,8 +264,8 @@ reedgrit_count_answer reedgrit_precedence_reason(const reedgrit_propagator *prop
 reedgrit_count_answer reedgrit_page(const reedgrit_propagator *propagator, const reedgrit_range *ranges, size_t range_count, uint8_t *out,
                                     size_t out_bytes);
 
-/* What each task costs that ends after its due moment, and the sum, in cents, where a unit of time is a minute: 25 for each hour begun of the
- * first 24 that it is late, 40 for each begun after these, and 2000 at most for a task. Refuses by 20, 10, 3, 4, 14, 19. */
+/* What each task costs that ends after its due moment, and the sum, in cents. A unit of time is a minute. Each hour begun costs 25 for the
+ * first 24 that a task is late, and 40 after these; a task costs 2000 at most. Refuses by 20, 10, 3, 4, 14, 19. */
 reedgrit_charges_answer reedgrit_charges(const reedgrit_propagator *propagator, const reedgrit_range *ranges, size_t range_count,
                                          const int32_t *due, size_t due_count);
 

@@ -31,10 +31,10 @@ impl Propagator {
         }
     }
 
-    /// The reason of a task's bound by precedences, written to words of the caller's, which needs 6n of them: the task's earliest start, then both
-    /// bounds of each task that must come before it. In every schedule that meets it the task starts at the bound or later. It has no atoms where the
-    /// bound raises nothing; so it is asked before the pass, which stores the bounds. It is no edge-finding reason: [`check`](crate::check) need not
-    /// pass it.
+    /// The reason of a task's bound by precedences: the task's earliest start, then both bounds of each task that must come before it. In every
+    /// schedule that meets it the task starts at the bound or later. It has no atoms where the bound raises nothing; so it is asked before the pass,
+    /// which stores the bounds. It is no edge-finding reason: [`check`](crate::check) need not pass it. It is written to words of the caller's, and
+    /// needs 6n of them.
     ///
     /// ```
     /// use reedgrit::{Atom, Propagator, Range};

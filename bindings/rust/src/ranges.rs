@@ -68,7 +68,7 @@ impl Range {
         self.earliest <= start && start <= self.latest && !self.bars().contains(&start)
     }
 
-    /// Raises the earliest start to the first permitted one at or after `from`, and says whether there is one; where there is none, the range stays
+    /// Raises the earliest start to the first permitted one at or after `from`, and says whether there is one. Where there is none, the range stays
     /// as it is. Whoever narrows a range by himself needs this: an end among the bars is refused.
     ///
     /// ```
@@ -86,7 +86,7 @@ impl Range {
         found.is_some()
     }
 
-    /// Lowers the latest start to the last permitted one at or before `to`, and says whether there is one; where there is none, the range stays as
+    /// Lowers the latest start to the last permitted one at or before `to`, and says whether there is one. Where there is none, the range stays as
     /// it is.
     ///
     /// ```

@@ -12,8 +12,8 @@ pub enum Pass {
     Mirrored,
 }
 
-/// A reason that a pass gave, with what follows from it: a post of either pass, or, where it is an overload's, that there is no schedule. It is lent
-/// by the words of the pass until [`Reason::into_owned`] gives it atoms of its own. It is shown as `2 >= 9, by 0 >= 0, 0 <= 7`.
+/// A reason that a pass gave, with what follows from it: a post of either pass, or, of an overload, that there is no schedule. The words of the
+/// pass lend it until [`Reason::into_owned`] gives it atoms of its own. It is shown as `2 >= 9, by 0 >= 0, 0 <= 7`.
 ///
 /// ```
 /// use reedgrit::{Atom, Propagator, Range, Reason, Verdict};

@@ -45,8 +45,8 @@ impl Propagator {
         }
     }
 
-    /// What each task of a fixed schedule costs that ends after its due moment, and the sum, in cents, where a unit of time is a minute: 25 for each
-    /// hour begun of the first 24 that it is late, 40 for each begun after these, and 2,000 at most for a task.
+    /// What each task of a fixed schedule costs that ends after its due moment, and the sum, in cents. A unit of time is a minute. Each hour begun
+    /// costs 25 for the first 24 that a task is late, and 40 after these; a task costs 2,000 at most.
     ///
     /// ```
     /// use reedgrit::{Propagator, Range};
