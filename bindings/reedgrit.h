@@ -1,7 +1,11 @@
 /* Edge finding on one machine, with a reason for each post, and the check of reasons: the functions of libreedgrit.a, which
- * `rt staticlib reedgrit` writes for x86-64. Every input is answered, a wrong one by a number above 0 that changes nothing that was lent
- * (refusals below). A function reads and writes only what it is lent, for as long as the call lasts; it allocates nothing, keeps nothing,
- * and may be called from several threads on different data.
+ * `rt staticlib reedgrit` writes to target/staticlib for x86-64; a program is linked with
+ *
+ *     cc -Ibindings program.c target/staticlib/libreedgrit.a
+ *
+ * Every input is answered, a wrong one by a number above 0 that changes nothing that was lent (refusals below). A function reads and writes
+ * only what it is lent, for as long as the call lasts; it allocates nothing, keeps nothing, and may be called from several threads on
+ * different data.
  *
  * The caller answers for the pointers: each has its type's alignment and as many elements (ranges, durations, words, bytes) as the length
  * behind it says, and no part of what one call may write is lent to it twice. NULL with length 0 is allowed: nothing is read or written
@@ -16,28 +20,55 @@
 extern "C" {
 #endif
 
-enum { REEDGRIT_TASKS = 48, REEDGRIT_BARS = 16 };
+/* What reedgrit_abi_version answers where header and library fit. */
+enum { REEDGRIT_ABI = 3 };
+
+/* Limits: tasks of a record, barred starts of a range, and starts from -REEDGRIT_START to REEDGRIT_START. */
+enum { REEDGRIT_TASKS = 48, REEDGRIT_BARS = 16, REEDGRIT_START = 400000000 };
+
+/* The room that calls need for n tasks: words for the posts of a run, for the atoms of their reasons, and for the reason of one bound by
+ * precedences; bytes for a page. */
+#define REEDGRIT_POST_WORDS(n) (4 * (n))
+#define REEDGRIT_ATOM_WORDS(n) (6 * (n) * (n))
+#define REEDGRIT_REASON_WORDS(n) (6 * (n))
+#define REEDGRIT_PAGE_BYTES(n) (31 * ((n) + 1))
+
+/* The structs below are those of a machine with 64 bits. */
+typedef char reedgrit_size_t_has_64_bits[sizeof(size_t) == 8 ? 1 : -1];
 
 /* An atom is three words: variable 0 to 63 (below the task count: the start of that task), kind, value. */
 enum { REEDGRIT_GREATER_EQUAL = 0, REEDGRIT_LESS_EQUAL = 1, REEDGRIT_EQUAL = 2, REEDGRIT_NOT_EQUAL = 3 };
 
-/* Refusals:
- *  1 no tasks, or more than 48            2 a duration below 1
- *  3 a start beyond +-400000000           4 earliest above latest
- *  5 durations sum above 400000000        6 words that are no atoms
- *  7 more than 512 premises               8 a consequent on no task, or on one without finite bounds
- *  9 post words below 4n, atom words below 6n*n
- * 10 another number of ranges than n     11 a post that is not there
- * 12 a task to take off that is not there
- * 13 more than 16 barred starts, ones that do not ascend strictly, or the range's own earliest or latest start among them
- * 14 a schedule that is not fixed, or overlaps
- * 15 room for a page                     16 room for a reason
- * 17 a task that is not there            18 a moment or a duration asked about, beyond +-400000000 or below 1
- * 19 a due moment beyond +-400000000, or another number of them than n
- * 20 a record that no call makes         21 a seventeenth hole
- * 23 a stretch's length below 1 or above 400000000
- * A function tries its numbers in the order in which it names them below, each over the whole input before the next. A contradiction is
- * tried together with 21: the first atom that leads to one of the two decides. */
+/* The kind of an answer that is a refusal, whatever the call. */
+enum { REEDGRIT_REFUSED = 3 };
+
+/* The numbers of refusals. A function tries its numbers in the order in which it names them below, each over the whole input before the
+ * next. A contradiction is tried together with 21: the first atom that leads to one of the two decides. */
+enum {
+    REEDGRIT_REFUSED_TASK_COUNT = 1,   /* no tasks, or more than 48 */
+    REEDGRIT_REFUSED_DURATION = 2,     /* a duration below 1 */
+    REEDGRIT_REFUSED_START = 3,        /* a start beyond +-400000000 */
+    REEDGRIT_REFUSED_CROSSED = 4,      /* earliest above latest */
+    REEDGRIT_REFUSED_DURATION_SUM = 5, /* durations sum above 400000000 */
+    REEDGRIT_REFUSED_ATOMS = 6,        /* words that are no atoms */
+    REEDGRIT_REFUSED_PREMISES = 7,     /* more than 512 premises */
+    REEDGRIT_REFUSED_CONSEQUENT = 8,   /* a consequent on no task, or on one without finite bounds */
+    REEDGRIT_REFUSED_ROOM = 9,         /* fewer words than REEDGRIT_POST_WORDS(n), or than REEDGRIT_ATOM_WORDS(n) */
+    REEDGRIT_REFUSED_RANGE_COUNT = 10, /* another number of ranges than n */
+    REEDGRIT_REFUSED_POST = 11,        /* a post that is not there */
+    REEDGRIT_REFUSED_REMOVED = 12,     /* a task to take off that is not there */
+    REEDGRIT_REFUSED_BARS = 13,        /* more than 16 barred starts, ones that do not ascend strictly, or an end of the range among them */
+    REEDGRIT_REFUSED_SCHEDULE = 14,    /* a schedule that is not fixed, or overlaps */
+    REEDGRIT_REFUSED_PAGE_ROOM = 15,   /* fewer bytes than REEDGRIT_PAGE_BYTES(n) */
+    REEDGRIT_REFUSED_REASON_ROOM = 16, /* fewer words than REEDGRIT_REASON_WORDS(n) */
+    REEDGRIT_REFUSED_TASK = 17,        /* a task that is not there */
+    REEDGRIT_REFUSED_QUESTION = 18,    /* a moment asked about beyond +-400000000, or a duration below 1 or above 400000000 */
+    REEDGRIT_REFUSED_DUE = 19,         /* a due moment beyond +-400000000, or another number of them than n */
+    REEDGRIT_REFUSED_RECORD = 20,      /* a record that no call makes */
+    REEDGRIT_REFUSED_HOLES = 21,       /* a seventeenth hole */
+    REEDGRIT_REFUSED_STATE = 22,       /* a variable state that no call makes; no function here is lent one */
+    REEDGRIT_REFUSED_LENGTH = 23       /* a stretch's length below 1 or above 400000000 */
+};
 
 /* The task count, the durations and their sum. Places from the count on are 0. */
 typedef struct {
@@ -60,26 +91,36 @@ typedef struct {
     uint32_t number;
 } reedgrit_new;
 
-enum { REEDGRIT_DONE = 0, REEDGRIT_OVERLOAD = 1, REEDGRIT_EMPTIED = 2, REEDGRIT_RUN_REFUSED = 3 };
+/* The kinds of a run and of a mirrored pass. */
+enum { REEDGRIT_DONE = 0, REEDGRIT_OVERLOAD = 1, REEDGRIT_EMPTIED = 2 };
 
 typedef struct {
     uint32_t kind;
     uint32_t number; /* of a refusal */
     size_t posts;
-    size_t first; /* an overload's reason: its first word in `atoms`, and how many words it has, as a post's is told */
-    size_t count;
+    size_t first_word; /* an overload's reason: its first word in `atoms`, and how many words it has, as a post's is told */
+    size_t word_count;
     size_t changes; /* leaf changes; 0 of a refusal */
 } reedgrit_run_answer;
+
+typedef struct {
+    uint32_t kind;
+    uint32_t number; /* of a refusal */
+    size_t posts;
+    size_t first_word; /* an overload's reason, as above */
+    size_t word_count;
+} reedgrit_mirrored_answer;
 
 typedef struct {
     uint32_t number; /* 0, or 11: then all else is 0 */
     int32_t task;
     int32_t bound;
-    size_t first; /* the reason: its first word, and how many words it has */
-    size_t count;
+    size_t first_word; /* the reason: its first word in `atoms`, and how many words it has */
+    size_t word_count;
 } reedgrit_post_answer;
 
-enum { REEDGRIT_PASSED = 0, REEDGRIT_NOT_PASSED = 1, REEDGRIT_CONTRADICTION = 2, REEDGRIT_CHECK_REFUSED = 3 };
+/* The kinds of a check; REEDGRIT_CONTRADICTION is also one of a question to a state. */
+enum { REEDGRIT_PASSED = 0, REEDGRIT_NOT_PASSED = 1, REEDGRIT_CONTRADICTION = 2 };
 
 typedef struct {
     uint32_t kind;
@@ -87,48 +128,51 @@ typedef struct {
     size_t variable; /* of a contradiction */
 } reedgrit_check_answer;
 
-enum { REEDGRIT_YES = 0, REEDGRIT_NO = 1, REEDGRIT_NO_STATE = 2, REEDGRIT_STATE_REFUSED = 3 };
+/* The other kinds of questions to a state: of reedgrit_prepare, of reedgrit_is_true, and of the two bounds. */
+enum { REEDGRIT_PREPARED = 0 };
+enum { REEDGRIT_TRUE = 0, REEDGRIT_NOT_TRUE = 1 };
+enum { REEDGRIT_BOUND = 0 };
 
 typedef struct {
-    uint32_t kind; /* REEDGRIT_YES also where a bound is answered; REEDGRIT_NO_STATE: the premises contradict each other */
+    uint32_t kind;
     uint32_t number; /* of a refusal */
     size_t variable; /* of a contradiction */
     int32_t infinity; /* of a bound: -1 and 1 for the infinities, 0 for the value */
     int32_t value;
 } reedgrit_state_answer;
 
-/* The mirrored pass: its kinds are a run's. */
-typedef struct {
-    uint32_t kind;
-    uint32_t number; /* of a refusal */
-    size_t posts;
-    size_t first; /* an overload's reason: its first word in `atoms`, and how many words it has */
-    size_t count;
-} reedgrit_mirrored_answer;
+/* The kinds of the calls that answer one count; each says what it counts. */
+enum { REEDGRIT_TEST_OVERLOAD = 0, REEDGRIT_TEST_NO_OVERLOAD = 1 };
+enum { REEDGRIT_PRECEDENCES_DONE = 0, REEDGRIT_PRECEDENCES_EMPTIED = 1 };
+enum { REEDGRIT_REASON_WRITTEN = 0 };
+enum { REEDGRIT_PAGE_WRITTEN = 0 };
 
-enum { REEDGRIT_ANSWERED = 0, REEDGRIT_OTHERWISE = 1, REEDGRIT_REFUSED = 3 };
-
-/* An answer with one count: what it counts, and what kind REEDGRIT_OTHERWISE is, each function says. */
 typedef struct {
     uint32_t kind;
     uint32_t number; /* of a refusal */
     size_t count;
 } reedgrit_count_answer;
 
+/* The kind of a task added or taken off, and those of the other calls on a fixed schedule. */
+enum { REEDGRIT_CHANGED = 0 };
+enum { REEDGRIT_CHARGED = 0 };
+enum { REEDGRIT_START_FOUND = 0 };
+enum { REEDGRIT_STRETCH_FOUND = 0 };
+
 typedef struct {
-    uint32_t kind; /* REEDGRIT_ANSWERED: the change is made */
-    uint32_t number;
+    uint32_t kind;
+    uint32_t number; /* of a refusal */
 } reedgrit_change_answer;
 
 typedef struct {
     uint32_t kind;
-    uint32_t number;
+    uint32_t number; /* of a refusal */
     int32_t start;
 } reedgrit_start_answer;
 
 typedef struct {
     uint32_t kind;
-    uint32_t number;
+    uint32_t number; /* of a refusal */
     uint32_t time; /* that tasks cover */
     int32_t start; /* of the stretch */
 } reedgrit_busiest_answer;
@@ -136,12 +180,12 @@ typedef struct {
 /* In cents, by task number; 0 in the places that no task has, and everywhere where the call is refused. */
 typedef struct {
     uint32_t kind;
-    uint32_t number;
+    uint32_t number; /* of a refusal */
     uint32_t total;
     uint32_t charges[REEDGRIT_TASKS];
 } reedgrit_charges_answer;
 
-/* 3: the version of these functions and structs. Another number is another header's. */
+/* REEDGRIT_ABI: the version of these functions and structs. Another number is another header's. */
 uint32_t reedgrit_abi_version(void);
 
 /* A record of the durations. Refuses by 1, 2, 5. */
@@ -166,12 +210,14 @@ reedgrit_run_answer reedgrit_run(reedgrit_propagator *propagator, reedgrit_range
 reedgrit_post_answer reedgrit_post(const int32_t *posts, size_t post_words, const int32_t *atoms, size_t atom_words, size_t post_count,
                                    size_t index);
 
-/* Checks that the premises imply the consequent, which is one atom or none. Refuses by 1, 2, 5, 7, 6, 21, 8. */
+/* Checks that the premises imply the consequent, which is one atom or none. REEDGRIT_PASSED: no starts without overlap meet the premises and
+ * not the consequent. REEDGRIT_NOT_PASSED: the formula does not show that. REEDGRIT_CONTRADICTION: no starts at all do, with overlap or
+ * without; it is implied, by the atoms alone, and no pass gives such a reason. Refuses by 1, 2, 5, 7, 6, 21, 8. */
 reedgrit_check_answer reedgrit_check(const int32_t *durations, size_t count, const int32_t *premises, size_t premise_words,
                                      const int32_t *consequent, size_t consequent_words);
 
 /* The check for a reason of the mirrored pass: the same words and answers, in the caller's time, judged by the formula in mirrored time. A
- * reason that a run gives is checked by reedgrit_check, one that the mirrored pass gives by this. Refuses as reedgrit_check does. */
+ * reason that a run gives is checked by reedgrit_check, one that the mirrored pass gives by this. Refuses by 1, 2, 5, 7, 6, 21, 8. */
 reedgrit_check_answer reedgrit_check_mirrored(const int32_t *durations, size_t count, const int32_t *premises, size_t premise_words,
                                               const int32_t *consequent, size_t consequent_words);
 
@@ -181,8 +227,8 @@ reedgrit_check_answer reedgrit_check_mirrored(const int32_t *durations, size_t c
 reedgrit_mirrored_answer reedgrit_run_mirrored(const reedgrit_propagator *propagator, reedgrit_range *ranges, size_t range_count,
                                                int32_t *posts, size_t post_words, int32_t *atoms, size_t atom_words);
 
-/* Whether some set of the tasks overloads its span: REEDGRIT_ANSWERED is yes, with the tasks read until that is known, and
- * REEDGRIT_OTHERWISE no; barred starts change no answer. Refuses by 20, 10, 3, 4, 13. */
+/* Whether some set of the tasks overloads its span: REEDGRIT_TEST_OVERLOAD, with the tasks read until that is known, by latest completion, or
+ * REEDGRIT_TEST_NO_OVERLOAD. Barred starts change no answer. Refuses by 20, 10, 3, 4, 13. */
 reedgrit_count_answer reedgrit_overload_test(const reedgrit_propagator *propagator, const reedgrit_range *ranges, size_t range_count);
 
 /* A task more, which takes the number n. Refuses by 20, 1, 2, 5. */
@@ -191,35 +237,51 @@ reedgrit_change_answer reedgrit_add(reedgrit_propagator *propagator, int32_t dur
 /* A task less; the numbers above it are one lower. Refuses by 20, 12, 1. */
 reedgrit_change_answer reedgrit_remove(reedgrit_propagator *propagator, size_t task);
 
-/* Raises earliest starts by the precedences that can be read off the ranges. REEDGRIT_ANSWERED is done; REEDGRIT_OTHERWISE is emptied, with
- * the lowest task whose bound passes its latest start. A start that is raised to a barred one goes on to the next permitted one; one that is
- * not raised stays. Refuses by 20, 10, 3, 4, 13. */
+/* Raises earliest starts by the precedences that can be read off the ranges. The tasks that must come before task i are the others whose
+ * latest start is below i's earliest start plus its duration; the least time at which all of them can be over (their ect) is i's bound.
+ * REEDGRIT_PRECEDENCES_DONE: each earliest start is the larger of what it was and its bound, by the ranges at entry. One that is raised to a
+ * barred start goes on to the next permitted one. REEDGRIT_PRECEDENCES_EMPTIED: a bound passes its task's latest start, so that there is no
+ * schedule. The count is then the number of the lowest such task, and no range has changed. Refuses by 20, 10, 3, 4, 13. */
 reedgrit_count_answer reedgrit_precedences(const reedgrit_propagator *propagator, reedgrit_range *ranges, size_t range_count);
 
-/* The reason of a task's bound by precedences, three words to an atom; the count is that of its atoms. Refuses by 20, 10, 3, 4, 13, 17, 16. */
+/* The reason of a task's bound by precedences, three words to an atom: the task's earliest start, then both bounds of each task that must
+ * come before it. In every schedule that meets it the task starts at the bound or later. The count is that of its atoms, 0 where the bound
+ * raises nothing; so it is asked before the pass, which stores the bounds. It is no edge-finding reason: reedgrit_check need not pass it.
+ * Words behind it keep what they held. Refuses by 20, 10, 3, 4, 13, 17, 16. */
 reedgrit_count_answer reedgrit_precedence_reason(const reedgrit_propagator *propagator, const reedgrit_range *ranges, size_t range_count,
                                                  size_t task, int32_t *reason, size_t reason_words);
 
-/* A fixed schedule (each earliest start is the latest, and no two tasks overlap) as text; the count is that of its bytes. This and the next
- * three do not read barred starts. Refuses by 20, 10, 3, 4, 14, 15. */
+/* The next four are about a fixed schedule: each earliest start is the latest, and no two tasks overlap. They do not read barred starts. */
+
+/* The schedule as text, a line for each task by start, each line of 31 bytes; the count is that of its bytes, REEDGRIT_PAGE_BYTES(n). Of two
+ * tasks with durations 4 and 15 that start at 3 and at -12:
+ *
+ *     NR       START         END
+ *      1         -12           3
+ *      0           3           7
+ *
+ * Each line ends with four spaces and a line feed. Bytes behind the page keep what they held. Refuses by 20, 10, 3, 4, 14, 15. */
 reedgrit_count_answer reedgrit_page(const reedgrit_propagator *propagator, const reedgrit_range *ranges, size_t range_count, uint8_t *out,
                                     size_t out_bytes);
 
-/* What each task of a fixed schedule costs that ends after its due moment, and the sum. Refuses by 20, 10, 3, 4, 14, 19. */
+/* What each task costs that ends after its due moment, and the sum, in cents. A unit of time is a minute. Each hour begun costs 25 for the
+ * first 24 that a task is late, and 40 after these; a task costs 2000 at most. Refuses by 20, 10, 3, 4, 14, 19. */
 reedgrit_charges_answer reedgrit_charges(const reedgrit_propagator *propagator, const reedgrit_range *ranges, size_t range_count,
                                          const int32_t *due, size_t due_count);
 
-/* The least start at or after t at which a task of duration d overlaps none of a fixed schedule. Refuses by 20, 10, 3, 4, 14, 18. */
+/* The least start at or after t at which a further task of duration d overlaps none. It may be above REEDGRIT_START, and is 800000000 at
+ * most. Refuses by 20, 10, 3, 4, 14, 18. */
 reedgrit_start_answer reedgrit_free_start(const reedgrit_propagator *propagator, const reedgrit_range *ranges, size_t range_count, int32_t t,
                                           int32_t d);
 
-/* The greatest time that a fixed schedule covers of a stretch of the given length, and the least start that reaches it. Refuses by 20, 10,
- * 3, 4, 14, 23. */
+/* The greatest time that tasks cover of a stretch of the given length, and the least start that reaches it. The stretches that count start at
+ * the first task's start, at the last one's, or anywhere between. Refuses by 20, 10, 3, 4, 14, 23. */
 reedgrit_busiest_answer reedgrit_busiest_stretch(const reedgrit_propagator *propagator, const reedgrit_range *ranges, size_t range_count,
                                                  int32_t length);
 
-/* Whether the premises and the negated consequent, one atom or none, leave every variable a value: REEDGRIT_YES, or REEDGRIT_NO_STATE with
- * the variable of the first atom that contradicts those before it. Refuses by 7, 6, 21. The state itself does not cross. */
+/* Whether the premises and the negated consequent, one atom or none, leave every variable a value: REEDGRIT_PREPARED, or
+ * REEDGRIT_CONTRADICTION with the variable of the first atom that contradicts those before it. Refuses by 7, 6, 21. The state itself does
+ * not cross. */
 reedgrit_state_answer reedgrit_prepare(const int32_t *premises, size_t premise_words, const int32_t *consequent, size_t consequent_words);
 
 /* Questions to the state that the premises leave, from all integers for each variable: whether every value meets an atom, and the least

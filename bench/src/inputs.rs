@@ -99,7 +99,8 @@ pub fn barred(rng: &mut Rng, durations: &[i32], ranges: &[Range]) -> Vec<Range> 
     let mut after = ranges.to_vec();
     let mut propagator = Propagator::new(durations).expect("durations within the limits");
     let mut words = propagator.words();
-    propagator.run(&mut after, &mut words).expect("ranges within the limits");
+    // Only the starts that it leaves are asked for, however it ends.
+    let _ = propagator.run(&mut after, &mut words).expect("ranges within the limits");
     let bars = |rng: &mut Rng, range: &Range, raised: i32| {
         let (low, high) = (i64::from(range.earliest) + 1, i64::from(range.latest) - 1);
         let count = if low <= high { rng.to(0, 16) } else { 0 };
@@ -220,7 +221,7 @@ pub fn checks(n: usize, count: usize, changed: bool, seed: u64) -> Vec<Check> {
             found.push((post.reason.to_vec(), Some(post.atom())));
         }
         if let Outcome::Overload { reason, .. } = outcome {
-            found.push((reason.to_vec(), None));
+            found.push((reason.into_atoms(), None));
         }
         for (mut premises, consequent) in found {
             if changed {

@@ -27,7 +27,7 @@ fn same_run(ours: &mut Propagator, words: &mut Words, case: &Case, seen: &mut Se
         (Outcome::Done { .. }, Ok(())) => seen.done += 1,
         (Outcome::Overload { reason, .. }, Err(Conflicted::Propagator(why))) => {
             seen.overload += 1;
-            assert_eq!(reason.iter().map(atom).collect::<Vec<_>>(), why);
+            assert_eq!(reason.atoms().iter().map(atom).collect::<Vec<_>>(), why);
         }
         (Outcome::Emptied { .. }, Err(Conflicted::EmptyDomain)) => seen.emptied += 1,
         (ours, theirs) => panic!("{:?} {:?} {ours} {theirs:?}", case.durations, case.ranges),

@@ -4,11 +4,14 @@
 //!
 //! A line of the file is a register: its name, earliest start, latest start and duration, and behind the word `not`, where there are any, the starts
 //! between the two at which its reading may not begin, ascending, 16 at most. What is printed is a plan, a line for each register by start, or that
-//! there is none.
+//! there is none, with the reasons that the passes gave before the search branched.
 //!
 //!     marriages-1688 12 25 7 not 15 16
-use reedgrit::{Atom, Comparison, Mirrored, Outcome, Propagator, Range, Refused, Verdict, Words, check, check_mirrored};
+//!
+//! Exit status: 0 a plan; 1 there is none; 2 the file is unfit; 3 no answer, since a file cannot be read or written or the search grew too large.
+use reedgrit::{Comparison, Mirrored, Outcome, Propagator, Range, Reason, Refused, Verdict, Words};
 use std::fmt::Write;
+use std::process::ExitCode;
 
 /// A register that is to be read on the machine.
 #[derive(Clone, Debug)]
@@ -18,75 +21,64 @@ struct Register {
     duration: i32,
 }
 
-/// A reason that a pass gave: the atoms, and the post that follows from them; none for an overload. It holds for whatever ranges meet its atoms, so
-/// it is tried at each later node of the search before a pass is made.
-struct Kept {
-    reason: Vec<Atom>,
-    post: Option<Atom>,
-}
-
-impl Kept {
-    /// Keeps a reason of a run, which passes the check.
-    fn of_run(durations: &[i32], reason: &[Atom], post: Option<Atom>) -> Kept {
-        assert_eq!(check(durations, reason, post), Ok(Verdict::Passed));
-        Kept { reason: reason.to_vec(), post }
-    }
-
-    /// Keeps a reason of a mirrored pass, which passes the mirrored check.
-    fn of_mirrored(durations: &[i32], reason: &[Atom], post: Option<Atom>) -> Kept {
-        assert_eq!(check_mirrored(durations, reason, post), Ok(Verdict::Passed));
-        Kept { reason: reason.to_vec(), post }
-    }
-}
-
 /// There is no plan in the ranges.
 #[derive(Debug)]
 struct Conflict;
 
-/// Raises the earliest start to the first permitted one from `start` on.
-fn start_from(range: &mut Range, start: i32) -> Result<(), Conflict> {
-    range.earliest = (range.earliest.max(start)..=range.latest).find(|start| range.permits(*start)).ok_or(Conflict)?;
-    Ok(())
-}
+/// The search reached its limit of nodes.
+#[derive(Debug)]
+struct TooLarge;
 
-/// Lowers the latest start to the last permitted one up to `start`.
-fn start_up_to(range: &mut Range, start: i32) -> Result<(), Conflict> {
-    range.latest = (range.earliest..=range.latest.min(start)).rev().find(|start| range.permits(*start)).ok_or(Conflict)?;
-    Ok(())
-}
+/// The nodes that the search tries at most: some seconds.
+const NODES: usize = 1_000_000;
 
-/// Narrows the range that a post is about, and says whether it changed.
-fn narrowed(post: Atom, ranges: &mut [Range]) -> Result<bool, Conflict> {
+/// Narrows the range that a reason's post is about, and says whether it changed. An overload's reason has no post: where it holds, there is no plan.
+fn narrowed(reason: &Reason, ranges: &mut [Range]) -> Result<bool, Conflict> {
+    let post = reason.post().ok_or(Conflict)?;
     let range = &mut ranges[post.variable()];
     let before = *range;
-    match post.comparison() {
-        Comparison::LessEqual => start_up_to(range, post.value())?,
-        _ => start_from(range, post.value())?,
+    let left = match post.comparison() {
+        Comparison::LessEqual => range.lower(post.value()),
+        _ => range.raise(post.value()),
+    };
+    if left { Ok(*range != before) } else { Err(Conflict) }
+}
+
+/// Keeps reasons of a pass, each of which passes its check. A kept reason holds for whatever ranges meet its atoms, so it is tried at each later node
+/// of the search before a pass is made.
+fn keep<'w>(kept: &mut Vec<Reason<'static>>, durations: &[i32], reasons: impl Iterator<Item = Reason<'w>>) {
+    for reason in reasons {
+        assert_eq!(reason.check(durations), Ok(Verdict::Passed));
+        kept.push(reason.into_owned());
     }
-    Ok(*range != before)
 }
 
 /// The search: depth first, on which register goes next.
 struct Planner {
     propagator: Propagator,
     words: Words,
-    kept: Vec<Kept>,
+    kept: Vec<Reason<'static>>,
+    /// How many of the kept ones come from the first node.
+    root: usize,
     nodes: usize,
+    limit: usize,
 }
 
+const WITHIN: &str = "as many ranges as tasks, within the limits, with bars that fit";
+
 impl Planner {
-    fn new(durations: &[i32]) -> Result<Planner, Refused> {
+    fn new(durations: &[i32], limit: usize) -> Result<Planner, Refused> {
         let propagator = Propagator::new(durations)?;
         let words = propagator.words();
-        Ok(Planner { propagator, words, kept: Vec::new(), nodes: 0 })
+        Ok(Planner { propagator, words, kept: Vec::new(), root: 0, nodes: 0, limit })
     }
 
     /// Narrows the ranges by what was kept, and says whether one changed.
     fn recall(&self, ranges: &mut [Range]) -> Result<bool, Conflict> {
         let mut changed = false;
-        for kept in &self.kept {
-            if kept.reason.iter().all(|atom| atom.holds(ranges)) {
-                changed |= narrowed(kept.post.ok_or(Conflict)?, ranges)?;
+        for reason in &self.kept {
+            if reason.holds(ranges) {
+                changed |= narrowed(reason, ranges)?;
             }
         }
         Ok(changed)
@@ -94,37 +86,22 @@ impl Planner {
 
     /// Raises the earliest starts by one run, keeps its reasons, and says whether one rose.
     fn raise(&mut self, ranges: &mut [Range]) -> Result<bool, Conflict> {
-        let durations = self.propagator.durations().to_vec();
-        let outcome = self.propagator.run(ranges, &mut self.words).expect("as many ranges as tasks, within the limits, with bars that fit");
-        for post in outcome.posts() {
-            self.kept.push(Kept::of_run(&durations, post.reason, Some(post.atom())));
-        }
+        let outcome = self.propagator.run(ranges, &mut self.words).expect(WITHIN);
+        keep(&mut self.kept, self.propagator.durations(), outcome.reasons());
         match outcome {
             Outcome::Done { posts, .. } => Ok(posts.len() > 0),
             // The last post's reason is kept, and with it the conflict: wherever it holds, the post passes the latest start.
-            Outcome::Emptied { .. } => Err(Conflict),
-            Outcome::Overload { reason, .. } => {
-                self.kept.push(Kept::of_run(&durations, reason, None));
-                Err(Conflict)
-            }
+            Outcome::Emptied { .. } | Outcome::Overload { .. } => Err(Conflict),
         }
     }
 
     /// Lowers the latest starts by one mirrored pass, keeps its reasons, and says whether one fell.
     fn lower(&mut self, ranges: &mut [Range]) -> Result<bool, Conflict> {
-        let durations = self.propagator.durations().to_vec();
-        let outcome =
-            self.propagator.run_mirrored(ranges, &mut self.words).expect("as many ranges as tasks, within the limits, with bars that fit");
-        for post in outcome.posts() {
-            self.kept.push(Kept::of_mirrored(&durations, post.reason, Some(post.atom())));
-        }
+        let outcome = self.propagator.run_mirrored(ranges, &mut self.words).expect(WITHIN);
+        keep(&mut self.kept, self.propagator.durations(), outcome.reasons());
         match outcome {
             Mirrored::Done { posts } => Ok(posts.len() > 0),
-            Mirrored::Emptied { .. } => Err(Conflict),
-            Mirrored::Overload { reason, .. } => {
-                self.kept.push(Kept::of_mirrored(&durations, reason, None));
-                Err(Conflict)
-            }
+            Mirrored::Emptied { .. } | Mirrored::Overload { .. } => Err(Conflict),
         }
     }
 
@@ -141,11 +118,20 @@ impl Planner {
     }
 
     /// The starts of a plan in which the tasks that are left come behind the others, which have one start each.
-    fn search(&mut self, mut ranges: Vec<Range>, left: &[usize]) -> Option<Vec<i32>> {
+    fn search(&mut self, mut ranges: Vec<Range>, left: &[usize]) -> Result<Option<Vec<i32>>, TooLarge> {
+        if self.nodes == self.limit {
+            return Err(TooLarge);
+        }
         self.nodes += 1;
-        self.narrow(&mut ranges).ok()?;
+        let narrowed = self.narrow(&mut ranges);
+        if self.nodes == 1 {
+            self.root = self.kept.len();
+        }
+        if narrowed.is_err() {
+            return Ok(None);
+        }
         if left.is_empty() {
-            return Some(ranges.iter().map(|range| range.earliest).collect());
+            return Ok(Some(ranges.iter().map(|range| range.earliest).collect()));
         }
         // The one that can start first is tried first.
         let mut order = left.to_vec();
@@ -156,34 +142,36 @@ impl Planner {
             let others: Vec<usize> = left.iter().copied().filter(|task| *task != next).collect();
             let mut behind = ranges.clone();
             behind[next].latest = behind[next].earliest;
-            if others.iter().all(|other| start_from(&mut behind[*other], end).is_ok()) {
-                if let Some(plan) = self.search(behind, &others) {
-                    return Some(plan);
+            if others.iter().all(|other| behind[*other].raise(end)) {
+                if let Some(plan) = self.search(behind, &others)? {
+                    return Ok(Some(plan));
                 }
             }
         }
-        None
+        Ok(None)
     }
 }
 
-/// The starts of a plan, or none where there is no plan, and the planner that searched.
-fn plan(registers: &[Register]) -> Result<(Option<Vec<i32>>, Planner), Refused> {
+/// The planner behind its search, and the starts of a plan: none where there is no plan.
+type Planned = (Planner, Result<Option<Vec<i32>>, TooLarge>);
+
+fn plan(registers: &[Register], limit: usize) -> Result<Planned, Refused> {
     let durations: Vec<i32> = registers.iter().map(|register| register.duration).collect();
     let ranges: Vec<Range> = registers.iter().map(|register| register.range).collect();
-    let mut planner = Planner::new(&durations)?;
-    // The first run says whether the ranges are within the limits and their bars fit; those of the search lie within these and have permitted ends.
-    planner.propagator.run(&mut ranges.clone(), &mut planner.words)?;
+    let mut planner = Planner::new(&durations, limit)?;
+    // This says whether the ranges are within the limits and their bars fit; those of the search lie within these and have permitted ends.
+    planner.propagator.overload_test(&ranges)?;
     let all: Vec<usize> = (0..registers.len()).collect();
     let found = planner.search(ranges, &all);
-    Ok((found, planner))
+    Ok((planner, found))
 }
 
 /// The registers of a file, or the line that is none.
 fn registers(text: &str) -> Result<Vec<Register>, String> {
-    text.lines()
-        .filter(|line| !line.trim().is_empty())
-        .map(|line| {
-            let wrong = || format!("no register: {line}");
+    let lines = text.lines().enumerate().filter(|(_, line)| !line.trim().is_empty());
+    lines
+        .map(|(k, line)| {
+            let wrong = || format!("line {} is no register: {line}", k + 1);
             let words: Vec<&str> = line.split_whitespace().collect();
             let ([name, earliest, latest, duration] | [name, earliest, latest, duration, "not", ..]) = words[..] else {
                 return Err(wrong());
@@ -196,15 +184,67 @@ fn registers(text: &str) -> Result<Vec<Register>, String> {
         .collect()
 }
 
-/// The plan as a picture: a box for each register, over its range in gray, and below them the barred starts in red.
+/// A refusal in words, with the name of the register that it is about.
+fn unfit(refused: Refused, registers: &[Register]) -> String {
+    match refused.task() {
+        Some(task) => format!("{}: {refused}", registers[task].name),
+        None => refused.to_string(),
+    }
+}
+
+/// A reason in words: what follows, with the range that the register was given, and the atoms by name.
+fn told(reason: &Reason, registers: &[Register]) -> String {
+    let register = |atom: &reedgrit::Atom| &registers[atom.variable()];
+    let what = match reason.post() {
+        Some(post) => format!("{} ({}) {} {}", register(&post).name, register(&post).range, post.comparison(), post.value()),
+        None => "too much work".to_string(),
+    };
+    let why: Vec<String> =
+        reason.atoms().iter().map(|atom| format!("{} {} {}", register(atom).name, atom.comparison(), atom.value())).collect();
+    format!("{what}, since {}", why.join(", "))
+}
+
+/// That there is no plan, with the first node's reasons. Where that node is the only one, they show it.
+fn no_plan(registers: &[Register], planner: &Planner) -> String {
+    let mut lines = vec![match planner.nodes {
+        1 => "there is no plan, for these reasons:".to_string(),
+        nodes => format!("there is no plan: a search of {nodes} nodes found none, from what these reasons left:"),
+    }];
+    lines.extend(planner.kept[..planner.root].iter().map(|reason| told(reason, registers)));
+    lines.join("\n")
+}
+
+/// A plan, a line for each register by start.
+fn lines(registers: &[Register], starts: &[i32]) -> String {
+    let mut rows: Vec<_> = registers.iter().zip(starts).collect();
+    rows.sort_by_key(|(_, start)| **start);
+    let line = |(register, start): &(&Register, &i32)| format!("{} from {start} to {}", register.name, *start + register.duration);
+    rows.iter().map(line).collect::<Vec<_>>().join("\n")
+}
+
+/// Round moments between the two, eleven at most.
+fn ticks(first: i32, last: i32) -> impl Iterator<Item = i32> {
+    let steps = (0..9).flat_map(|power| [1, 2, 5].map(|times| times * 10_i32.pow(power)));
+    let step = steps.into_iter().find(|step| (last - first) / step <= 10).unwrap_or(1_000_000_000);
+    let from = -(-first).div_euclid(step) * step;
+    (from..=last).step_by(step as usize)
+}
+
+/// The plan as a picture: a box for each register, over its range in gray, and below them the barred starts in red; then the time.
 fn drawn(registers: &[Register], starts: &[i32]) -> String {
     let first = registers.iter().map(|register| register.range.earliest).min().unwrap_or(0);
     let last = registers.iter().map(|register| register.range.latest + register.duration).max().unwrap_or(1);
     let x = |moment: i32| 120.0 + 640.0 * f64::from(moment - first) / f64::from((last - first).max(1));
+    let bottom = 26 * registers.len() + 10;
     let mut svg = format!(
-        "<svg xmlns=\"http://www.w3.org/2000/svg\" viewBox=\"0 0 780 {}\" font-family=\"sans-serif\" font-size=\"13\">\n",
-        26 * registers.len() + 10
+        "<svg xmlns=\"http://www.w3.org/2000/svg\" viewBox=\"0 0 790 {}\" font-family=\"sans-serif\" font-size=\"13\">\n",
+        bottom + 24
     );
+    for tick in ticks(first, last) {
+        let x = x(tick);
+        writeln!(svg, "<line x1=\"{x:.1}\" y1=\"4\" x2=\"{x:.1}\" y2=\"{bottom}\" stroke=\"#c9d1d8\"/>").expect("a string takes it");
+        writeln!(svg, "<text x=\"{x:.1}\" y=\"{}\" text-anchor=\"middle\">{tick}</text>", bottom + 16).expect("a string takes it");
+    }
     for (row, (register, start)) in registers.iter().zip(starts).enumerate() {
         let y = 26 * row + 8;
         let mut drawn = |from: i32, to: i32, y: usize, height: usize, colour: &str| {
@@ -222,25 +262,37 @@ fn drawn(registers: &[Register], starts: &[i32]) -> String {
     svg + "</svg>\n"
 }
 
-fn main() -> Result<(), Box<dyn std::error::Error>> {
-    let words: Vec<String> = std::env::args().skip(1).collect();
-    let Some(file) = words.first() else { return Err("usage: planner FILE [SVG]".into()) };
-    let registers = registers(&std::fs::read_to_string(file)?)?;
-    let (found, planner) = plan(&registers)?;
+/// Plans the registers of a file; else the exit status and why.
+fn planned(file: &str, picture: Option<&String>) -> Result<(), (u8, String)> {
+    let text = std::fs::read_to_string(file).map_err(|error| (3, format!("{file}: {error}")))?;
+    let registers = registers(&text).map_err(|wrong| (2, wrong))?;
+    let (planner, found) = plan(&registers, NODES).map_err(|refused| (2, unfit(refused, &registers)))?;
     eprintln!("{} nodes, {} reasons kept and checked", planner.nodes, planner.kept.len());
-    let Some(starts) = found else {
-        println!("there is no plan");
-        return Ok(());
+    let starts = match found {
+        Err(TooLarge) => return Err((3, format!("no plan in the first {NODES} nodes; there may be one"))),
+        Ok(None) => {
+            println!("{}", no_plan(&registers, &planner));
+            return Err((1, String::new()));
+        }
+        Ok(Some(starts)) => starts,
     };
-    let mut lines: Vec<_> = registers.iter().zip(&starts).collect();
-    lines.sort_by_key(|(_, start)| **start);
-    for (register, start) in lines {
-        println!("{} from {start} to {}", register.name, start + register.duration);
+    println!("{}", lines(&registers, &starts));
+    let Some(picture) = picture else { return Ok(()) };
+    std::fs::write(picture, drawn(&registers, &starts)).map_err(|error| (3, format!("{picture}: {error}")))
+}
+
+fn main() -> ExitCode {
+    let words: Vec<String> = std::env::args().skip(1).collect();
+    let ended = match &words[..] {
+        [file] => planned(file, None),
+        [file, picture] => planned(file, Some(picture)),
+        _ => Err((3, "usage: planner FILE [SVG]".to_string())),
+    };
+    let Err((status, why)) = ended else { return ExitCode::SUCCESS };
+    if !why.is_empty() {
+        eprintln!("planner: {why}");
     }
-    if let Some(picture) = words.get(1) {
-        std::fs::write(picture, drawn(&registers, &starts))?;
-    }
-    Ok(())
+    ExitCode::from(status)
 }
 
 #[cfg(test)]
@@ -285,7 +337,7 @@ mod tests {
                     Register { name: k.to_string(), range: range.barred(&barred), duration: 1 + below(5) }
                 })
                 .collect();
-            let (found, _) = plan(&registers).unwrap();
+            let found = plan(&registers, NODES).unwrap().1.unwrap();
             let mut all = (0..registers.len()).collect();
             assert_eq!(found.is_some(), some_order(&registers, &mut all, i32::MIN / 2), "{registers:?}");
             let Some(starts) = found else {
@@ -308,7 +360,12 @@ mod tests {
     #[test]
     fn bars_are_drawn() {
         let registers = registers("Maria 0 8 2 not -1 3 4 9").unwrap();
-        assert_eq!(drawn(&registers, &[5]).matches("#b5541c").count(), 2);
+        let svg = drawn(&registers, &[5]);
+        assert_eq!(svg.matches("#b5541c").count(), 2);
+        // the axis goes from 0 to 10
+        assert_eq!(svg.matches("text-anchor").count(), 11);
+        assert_eq!(ticks(-7, 33).collect::<Vec<_>>(), [-5, 0, 5, 10, 15, 20, 25, 30]);
+        assert!(ticks(-400_000_000, 800_000_000).count() <= 11);
     }
 
     #[test]
@@ -318,8 +375,51 @@ mod tests {
         assert!(registers("Maria 0 4 2 1").is_err() && registers("Maria 0 4 2 not x").is_err() && registers("Maria 0 4 not 1").is_err());
         let barred = registers("Maria 0 4 2 not 1 3\nJohannes -3 9 5 not\n").unwrap();
         assert_eq!((barred[0].range.bars(), barred[1].range), (&[1, 3][..], Range::new(-3, 9)));
-        // what the call refuses
-        assert_eq!(plan(&registers("Maria 0 4 2\nJohannes -3 9 5 not 4 2").unwrap()).err(), Some(Refused::Bars(1)));
-        assert_eq!(plan(&registers("Maria 0 4 2 not 4").unwrap()).err(), Some(Refused::Bars(0)));
+    }
+
+    // What is refused is told in words, with the register's name.
+    #[test]
+    fn refusals_have_names() {
+        for (text, said) in [
+            ("Maria 0 4 2\nJohannes -3 9 5 not 4 2", "Johannes: refused 13: barred starts"),
+            ("Maria 0 4 2 not 4", "Maria: refused 13: barred starts"),
+            ("Maria 0 4 0", "Maria: refused 2: a duration below 1"),
+            ("Maria 0 4 2\nJohannes 5 4 1", "Johannes: refused 4: "),
+            ("", "refused 1: no tasks"),
+        ] {
+            let registers = registers(text).unwrap();
+            let refused = plan(&registers, NODES).map(drop).unwrap_err();
+            assert!(unfit(refused, &registers).starts_with(said), "{text}");
+        }
+    }
+
+    // Where the passes show at the first node that there is no plan, their reasons are told; else the search is named too.
+    #[test]
+    fn why_there_is_no_plan() {
+        let emptied = registers("Maria 0 5 3\nJohannes 1 1 5").unwrap();
+        let (planner, found) = plan(&emptied, NODES).unwrap();
+        assert!(matches!(found, Ok(None)));
+        assert_eq!(
+            no_plan(&emptied, &planner),
+            "there is no plan, for these reasons:\nMaria (0..5) >= 6, since Johannes >= 1, Johannes <= 2, Maria >= 0"
+        );
+        let overload = registers("Maria 0 2 4\nJohannes 1 2 4").unwrap();
+        let (planner, _) = plan(&overload, NODES).unwrap();
+        assert!(no_plan(&overload, &planner).contains("\ntoo much work, since Maria >= "));
+        let (planner, found) = plan(&searched(), NODES).unwrap();
+        assert!(matches!(found, Ok(None)) && planner.nodes > 1);
+        assert!(no_plan(&searched(), &planner).starts_with(&format!("there is no plan: a search of {} nodes found none", planner.nodes)));
+    }
+
+    /// Three registers that may start at 0 or at 6 only: there is no plan, and only a search shows it.
+    fn searched() -> Vec<Register> {
+        registers("a 0 6 2 not 1 2 3 4 5\nb 0 6 3 not 1 2 3 4 5\nc 0 6 2 not 1 2 3 4 5").unwrap()
+    }
+
+    // The search ends at its limit.
+    #[test]
+    fn the_limit_of_nodes() {
+        let (planner, found) = plan(&searched(), 1).unwrap();
+        assert!(matches!(found, Err(TooLarge)) && planner.nodes == 1);
     }
 }

@@ -11,7 +11,7 @@ pub(crate) const BARS: usize = 16;
 
 /// The record of a propagator: the task count, the durations and their sum. Places from the count on are 0.
 #[repr(C)]
-#[derive(Clone, Copy, Debug, PartialEq, Eq)]
+#[derive(Clone, Copy, Debug, PartialEq, Eq, Hash)]
 pub(crate) struct Record {
     pub count: usize,
     pub durations: [u32; TASKS],
@@ -31,8 +31,8 @@ pub(crate) struct RunAnswer {
     pub kind: u32,
     pub number: u32,
     pub posts: usize,
-    pub first: usize,
-    pub count: usize,
+    pub first_word: usize,
+    pub word_count: usize,
     pub changes: usize,
 }
 
@@ -42,8 +42,8 @@ pub(crate) struct PostAnswer {
     pub number: u32,
     pub task: i32,
     pub bound: i32,
-    pub first: usize,
-    pub count: usize,
+    pub first_word: usize,
+    pub word_count: usize,
 }
 
 #[repr(C)]
@@ -70,8 +70,8 @@ pub(crate) struct MirroredAnswer {
     pub kind: u32,
     pub number: u32,
     pub posts: usize,
-    pub first: usize,
-    pub count: usize,
+    pub first_word: usize,
+    pub word_count: usize,
 }
 
 #[repr(C)]
@@ -360,7 +360,7 @@ mod tests {
         let refused = CountAnswer { kind: 3, number: 20, count: 0 };
         assert_eq!(
             run_mirrored(&broken, &mut ranges, &mut posts, &mut atoms),
-            MirroredAnswer { kind: 3, number: 20, posts: 0, first: 0, count: 0 }
+            MirroredAnswer { kind: 3, number: 20, posts: 0, first_word: 0, word_count: 0 }
         );
         assert_eq!(overload_test(&broken, &ranges), refused);
         assert_eq!(precedences(&broken, &mut ranges), refused);
@@ -405,7 +405,7 @@ mod tests {
             let mut ranges = [Range::new(0, 6), Range::new(1, 5), Range::new(0, 20)];
             let (mut posts, mut atoms) = ([7; 12], [8; 54]);
             let answer = run(&mut after, &mut ranges, &mut posts, &mut atoms);
-            assert_eq!(answer, RunAnswer { kind: 3, number: 20, posts: 0, first: 0, count: 0, changes: 0 });
+            assert_eq!(answer, RunAnswer { kind: 3, number: 20, posts: 0, first_word: 0, word_count: 0, changes: 0 });
             assert_eq!(after, record);
             assert_eq!(ranges, [Range::new(0, 6), Range::new(1, 5), Range::new(0, 20)]);
             assert!(posts.iter().all(|word| *word == 7) && atoms.iter().all(|word| *word == 8));
@@ -419,13 +419,13 @@ mod tests {
         let mut record = create(&durations).record;
         let (mut posts, mut atoms) = ([0; 12], [0; 54]);
         let answer = run(&mut record, &mut [Range::new(3, 4), Range::new(5, 8), Range::new(1, 1)], &mut posts, &mut atoms);
-        assert_eq!((answer.kind, answer.posts, answer.first, answer.count), (1, 1, 15, 12));
+        assert_eq!((answer.kind, answer.posts, answer.first_word, answer.word_count), (1, 1, 15, 12));
         assert_eq!(check(&durations, &atoms[15..27], &[]).kind, 0);
 
         let durations = [4, 1, 3];
         let record = create(&durations).record;
         let answer = run_mirrored(&record, &mut [Range::new(2, 3), Range::new(-4, 0), Range::new(2, 2)], &mut posts, &mut atoms);
-        assert_eq!(answer, MirroredAnswer { kind: 1, number: 0, posts: 1, first: 15, count: 12 });
+        assert_eq!(answer, MirroredAnswer { kind: 1, number: 0, posts: 1, first_word: 15, word_count: 12 });
         assert_eq!(check_mirrored(&durations, &atoms[15..27], &[]).kind, 0);
     }
 
@@ -480,9 +480,9 @@ mod tests {
     // Words that no run wrote: the reader refuses what does not stand inside the slices, and says nothing else of it.
     #[test]
     fn posts_of_other_words() {
-        let none = PostAnswer { number: 11, task: 0, bound: 0, first: 0, count: 0 };
+        let none = PostAnswer { number: 11, task: 0, bound: 0, first_word: 0, word_count: 0 };
         let atoms = [0; 9];
-        assert_eq!(post(&[2, 9, 1, 2], &atoms, 1, 0), PostAnswer { number: 0, task: 2, bound: 9, first: 3, count: 6 });
+        assert_eq!(post(&[2, 9, 1, 2], &atoms, 1, 0), PostAnswer { number: 0, task: 2, bound: 9, first_word: 3, word_count: 6 });
         assert_eq!(post(&[2, 9, 1, 3], &atoms, 1, 0), none);
         assert_eq!(post(&[2, 9, -1, 1], &atoms, 1, 0), none);
         assert_eq!(post(&[2, 9, 1, -1], &atoms, 1, 0), none);

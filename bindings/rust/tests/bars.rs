@@ -1,6 +1,6 @@
 //! Barred starts, against brute force on small instances: outcome, posts and reasons are those without bars, a start that a post moves goes to the
 //! next permitted one, no schedule at permitted starts is lost, and no call changes a bar. Then 13 at its place among the refusals.
-use reedgrit::{Atom, Comparison, Mirrored, Outcome, Precedences, Propagator, Range, Refused, Verdict, check, check_mirrored};
+use reedgrit::{Atom, Comparison, Mirrored, Outcome, Precedences, Propagator, Range, Refused, Verdict};
 use small::{Numbers, schedules};
 
 mod small;
@@ -54,9 +54,9 @@ fn a_run_goes_on_to_the_first_permitted_start() {
         let mut propagator = Propagator::new(&durations).unwrap();
         let (mut words, mut plain_words) = (propagator.words(), propagator.words());
         let (mut after, mut plain) = (ranges.clone(), without_bars(&ranges));
-        let outcome = propagator.clone().run(&mut after, &mut words).unwrap();
+        let outcome = propagator.run(&mut after, &mut words).unwrap();
         let plain_outcome = propagator.run(&mut plain, &mut plain_words).unwrap();
-        assert_eq!(format!("{outcome:?}"), format!("{plain_outcome:?}"));
+        assert_eq!(outcome, plain_outcome);
         for ((range, after), plain) in ranges.iter().zip(&after).zip(&plain) {
             let start = if plain.earliest == range.earliest { range.earliest } else { first_permitted(range, plain.earliest) };
             assert_eq!((after.earliest, after.latest), (start, range.latest));
@@ -65,7 +65,7 @@ fn a_run_goes_on_to_the_first_permitted_start() {
         same_bars(&ranges, &after);
         let emptied = matches!(outcome, Outcome::Emptied { .. });
         for (k, post) in outcome.posts().enumerate() {
-            assert_eq!(check(&durations, post.reason, Some(post.atom())), Ok(Verdict::Passed));
+            assert_eq!(post.check(&durations), Ok(Verdict::Passed));
             assert!(post.reason.iter().all(|atom| atom.holds(&ranges)) && !post.atom().holds(&ranges));
             assert!(post.atom().holds(&after) || emptied && k + 1 == outcome.posts().len());
         }
@@ -90,7 +90,7 @@ fn a_mirrored_pass_goes_back_to_the_last_permitted_start() {
         let (mut after, mut plain) = (ranges.clone(), without_bars(&ranges));
         let outcome = propagator.run_mirrored(&mut after, &mut words).unwrap();
         let plain_outcome = propagator.run_mirrored(&mut plain, &mut plain_words).unwrap();
-        assert_eq!(format!("{outcome:?}"), format!("{plain_outcome:?}"));
+        assert_eq!(outcome, plain_outcome);
         for ((range, after), plain) in ranges.iter().zip(&after).zip(&plain) {
             let start = if plain.latest == range.latest { range.latest } else { last_permitted(range, plain.latest) };
             assert_eq!((after.earliest, after.latest), (range.earliest, start));
@@ -98,7 +98,7 @@ fn a_mirrored_pass_goes_back_to_the_last_permitted_start() {
         }
         same_bars(&ranges, &after);
         for post in outcome.posts() {
-            assert_eq!(check_mirrored(&durations, post.reason, Some(post.atom())), Ok(Verdict::Passed));
+            assert_eq!(post.check(&durations), Ok(Verdict::Passed));
         }
         let schedules = schedules(&durations, &ranges);
         match outcome {
@@ -159,7 +159,7 @@ fn sixteen_bars_in_a_row() {
     let mut propagator = Propagator::new(&[4, 5, 3]).unwrap();
     let mut words = propagator.words();
     let mut ranges = [Range::new(0, 6), Range::new(1, 5), Range::new(0, 25).barred(&row)];
-    propagator.run(&mut ranges, &mut words).unwrap();
+    assert_eq!(propagator.run(&mut ranges, &mut words).unwrap().posts().len(), 1);
     assert_eq!(ranges[2], Range::new(25, 25).barred(&row));
 }
 

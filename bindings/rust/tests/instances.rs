@@ -25,13 +25,13 @@ fn run(tasks: &[(i32, i32, i32)]) -> Said {
     let outcome = propagator.run(&mut ranges, &mut words).unwrap();
     let mut posts = Vec::new();
     for post in outcome.posts() {
-        assert_eq!(check(&durations, post.reason, Some(post.atom())), Ok(Verdict::Passed));
+        assert_eq!(post.check(&durations), Ok(Verdict::Passed));
         posts.push((post.task, post.bound, shown(post.reason)));
     }
     let mut overload = Vec::new();
-    if let Outcome::Overload { reason, .. } = outcome {
-        assert_eq!(check(&durations, reason, None), Ok(Verdict::Passed));
-        overload = shown(reason);
+    if let Outcome::Overload { reason, .. } = &outcome {
+        assert_eq!(reason.check(&durations), Ok(Verdict::Passed));
+        overload = shown(reason.atoms());
     }
     for (range, task) in ranges.iter().zip(tasks) {
         assert_eq!(range.latest, task.1);

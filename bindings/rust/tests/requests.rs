@@ -66,12 +66,12 @@ fn the_mirrored_pass_is_a_run_on_mirrored_input() {
             assert_eq!(post.atom(), mirrored_atom(&other.atom(), &durations));
             let reason: Vec<Atom> = other.reason.iter().map(|atom| mirrored_atom(atom, &durations)).collect();
             assert_eq!(post.reason, reason);
-            assert_eq!(check_mirrored(&durations, post.reason, Some(post.atom())), Ok(Verdict::Passed));
+            assert_eq!(post.check(&durations), Ok(Verdict::Passed));
             assert!(starts.iter().all(|starts| starts[post.task] <= post.bound));
         }
         if let Mirrored::Overload { reason, .. } = ended {
             overloads_seen += 1;
-            assert_eq!(check_mirrored(&durations, reason, None), Ok(Verdict::Passed));
+            assert_eq!(reason.check(&durations), Ok(Verdict::Passed));
         }
         if !matches!(outcome, Outcome::Done { .. }) {
             assert!(starts.is_empty());
