@@ -6,7 +6,7 @@ use mathlib.Core.List.{List, [], _∷_, _++_, map}
 use mathlib.Core.Option.{some}
 use Prim.Native.Nat.{ℕ, zero, suc, _+_, _-_, _≤_, _<_}
 use native.Mathlib.Omega.{arith}
-use native.Mathlib.Decide.{ℕ-discrete}
+use native.Mathlib.Decide.{decLt, ℕ-discrete}
 use lib.Dec.{leb, ltb}
 use lib.IntN.{pos, subℕ}
 use lib.ListN.{length, getD, set, replicate, length-set, length-append, length-replicate, getD-replicate, List·getD-append}
@@ -25,7 +25,7 @@ use Rattle.integers.proofs.Moments.{moment-instant, instant-above, zero-above}
 use Rattle.scheduling.specs.Moments.{ByEarliest, ByCompletion}
 use Rattle.integers.specs.Orders.{index}
 use Rattle.scheduling.specs.Scheduling.{Atom}
-use Rattle.runs.specs.Traces.{Post, done, overload, emptied, Trace}
+use Rattle.runs.specs.Traces.{Post, End, done, overload, emptied, Trace}
 use Rattle.trees.specs.Leaves.{Leaf, empty, white, gray, inTheta, inLambda, whiteAt, grayAt, theta}
 use Rattle.runs.specs.Runs.{State, Turn, on, stop, inner, outer, run, tabulate, conflict, propagation}
 use Rattle.runs.specs.Runs as edges
@@ -56,6 +56,24 @@ done-same J now now′ m task bound z d = record {
   every = λ k q r. d .every k q (rw (z k q) at r);
   once = d .once;
 }
+
+-- so do posts, and at those below m
+posts-same : (J : Tasks natural) (now now′ : ℕ → ℕ) (m : ℕ) (task bound task′ bound′ : ℕ → ℕ) → ((k : ℕ) → k < J .count → now′ k ≡ now k)
+    → ((j : ℕ) → j < m → task′ j ≡ task j) → ((j : ℕ) → j < m → bound′ j ≡ bound j) → Posts J now m task bound → Posts J now′ m task′ bound′
+posts-same J now now′ m task bound task′ bound′ ns ts bs p = record {
+  small = λ j q. subst (λ (i : ℕ). i < J .count) (sym (ts j q)) (p .small j q);
+  raises = λ j q. rw (ts j q, bs j q) (p .raises j q);
+  agrees = λ j q. bs j q ∙ p .agrees j q ∙ sym (ns (task j) (p .small j q)) ∙ ap now′ (sym (ts j q));
+  every = λ k q h. (let (j, a, c) = p .every k q (rw (ns k q) at h) in (j, a, ts j a ∙ c));
+  once = λ i j q r z. p .once i j q r (sym (ts i q) ∙ z ∙ ts j r);
+}
+
+-- Of the posts the first m stand in the starts, which are in their ranges, and no other start changed; each post after them is above its task's latest start.
+pub record Standing (J : Tasks natural) (now : ℕ → ℕ) (m made : ℕ) (task bound : ℕ → ℕ) : Type 0 where
+  pub stand : Posts J now m task bound
+  pub from : (k : ℕ) → k < J .count → J .earliest k ≤ now k
+  pub to : (k : ℕ) → k < J .count → now k ≤ J .latest k
+  pub above : (j : ℕ) → m ≤ j → j < made → J .latest (task j) < bound j
 
 module _ (o : ℕ) (J : Tasks natural) (ok : Proper J) (estOrder lctOrder : List ℕ) (rk : ByEarliest J (λ j. getD estOrder j 0) (λ k. index estOrder k)) (ord : ByCompletion J (λ t. getD lctOrder t 0) (λ k. index lctOrder k)) where
   abbrev pub T : ℕ → ℕ
@@ -181,6 +199,38 @@ module _ (o : ℕ) (J : Tasks natural) (ok : Proper J) (estOrder lctOrder : List
         | no z ↦ rw (ne-eqb k (L t) z) (sym (ap inLambda (there ls (L t) gray size (ord .task t small) k q z)))
       ]
 
+    -- no start is below the old one: a task's start is raised when it leaves Λ
+    from-entry : (t : ℕ) (st : State) → Inv t st → (k : ℕ) → k < n → J .earliest k ≤ now st k
+    from-entry t st v k q = elim (bool (lam st k)) [
+      | inl z ↦ omega (arith, v .facts .same-in k (record { small = q; mem = z }))
+      | inr z ↦ elim (decLt (place k) t) [ yes y ↦ omega (arith, v .facts .left k (record { small = q; mem = z }) y .raised) | no y ↦ omega (arith, v .facts .same-on k q (omega arith)) ]
+    ]
+
+    -- the posts of a list that begins with those of a state, told by the starts that a trace has for it
+    standing : (t : ℕ) (st : State) (ps : List Post) → Inv t st → ((j : ℕ) → j < length (st .posts) → getD ps j no-post ≡ getD (st .posts) j no-post)
+        → ((j : ℕ) → length (st .posts) ≤ j → j < length ps → J .latest (taskOf ps j) < boundOf ps j)
+        → Standing J (λ k. moment o (getD (map (instant o) (st .starts)) k (pos 0))) (length (st .posts)) (length ps) (taskOf ps) (boundOf ps)
+    standing t st ps v olds highs = record {
+      stand = posts-same J (now st) (λ k. moment o (getD (map (instant o) (st .starts)) k (pos 0))) (length (st .posts)) (taskOf (st .posts)) (boundOf (st .posts)) (taskOf ps) (boundOf ps) at
+          (λ j q. ap (λ (p : Post). p .task) (olds j q)) (λ j q. ap (λ (p : Post). moment o (p .bound)) (olds j q)) (v .posted);
+      from = λ k q. omega (arith, at k q, from-entry t st v k q);
+      to = λ k q. omega (arith, at k q, v .facts .inside k q);
+      above = highs;
+    }
+      where
+        at : (k : ℕ) → k < n → moment o (getD (map (instant o) (st .starts)) k (pos 0)) ≡ now st k
+        at k q = ap (moment o) (getD-map-in (instant o) (st .starts) k 0 (pos 0) (omega (arith, v .known))) ∙ moment-instant o (now st k)
+
+    -- what a trace leaves of the starts: a post that empties a range is the last one, and no other is above a latest start
+    pub record Leaves (tr : Trace) : Type 0 where
+      pub many : ℕ
+      pub all : (tr .end ≡ emptied → ⊥) → many ≡ length (tr .posts)
+      pub but-last : tr .end ≡ emptied → suc many ≡ length (tr .posts)
+      pub stand : Standing J (λ k. moment o (getD (tr .starts) k (pos 0))) many (length (tr .posts)) (taskOf (tr .posts)) (boundOf (tr .posts))
+
+    leaves-all : (t : ℕ) (st : State) (e : End) → (e ≡ emptied → ⊥) → Inv t st → Leaves (edges.ended o J estOrder lctOrder st e)
+    leaves-all t st e ne v = record { many = length (st .posts); all = λ _. refl; but-last = λ z. absurd (ne z); stand = standing t st (st .posts) v (λ j q. refl) (λ j q r. absurd (omega arith)) }
+
     -- and at its end: no task of Λ passes any more
     pub record Closed (t : ℕ) (st : State) : Type 0 where
       pub inv : Inv t st
@@ -188,7 +238,7 @@ module _ (o : ℕ) (J : Tasks natural) (ok : Proper J) (estOrder lctOrder : List
 
     abbrev pub TurnOk : ℕ → Turn → Type 0
     TurnOk t (on st) = Closed t st
-    TurnOk t (stop st) = Conflict J × AllGood (st .posts)
+    TurnOk t (stop st) = Conflict J × AllGood (st .posts) × Leaves (edges.ended o J estOrder lctOrder st emptied)
 
     -- a task was found at leaf x
     module _ (t : ℕ) (st : State) (small : t < n) (v : Inv t st) (x : ℕ) (f : Found (st .leaves) (Th t) (lam st) (shape t st v) x) (over : En t < barOf (st .leaves)) where
@@ -253,8 +303,19 @@ module _ (o : ℕ) (J : Tasks natural) (ok : Proper J) (estOrder lctOrder : List
           other : (k : ℕ) → (k ≡ i → ⊥) → getD (set (st .starts) i b) k 0 ≡ getD (st .starts) k 0
           other k ne = getD-set-other (st .starts) i k b 0 ne
 
-      stop-ok : J .earliest i < b → J .latest i < b → Conflict J × AllGood (st .posts ++ (p ∷ []))
-      stop-ok up high = (inr (i, E (Th t), edge J ok E E-is L place ord t i (mem .small) late small hit, omega (arith, ect-is)), all-good (st .posts) p (v .good) (good-p up))
+      stop-ok : J .earliest i < b → J .latest i < b → TurnOk t (stop (edges.posted o J estOrder lctOrder st i b t))
+      stop-ok up high = (
+        inr (i, E (Th t), edge J ok E E-is L place ord t i (mem .small) late small hit, omega (arith, ect-is)),
+        all-good (st .posts) p (v .good) (good-p up),
+        record {
+          many = length (st .posts);
+          all = λ ne. absurd (ne refl);
+          but-last = λ _. sym (length-snoc (st .posts) p);
+          stand = standing t st (st .posts ++ (p ∷ [])) v (old (st .posts) p) (λ j q r. let z : j ≡ length (st .posts) = omega (arith, length-snoc (st .posts) p) in
+              subst (λ (j : ℕ). J .latest (taskOf (st .posts ++ (p ∷ [])) j) < boundOf (st .posts ++ (p ∷ [])) j) (sym z)
+              (subst (λ (q : Post). J .latest (q .task) < moment o (q .bound)) (sym (new (st .posts) p)) (omega (arith, moment-instant o b))));
+        },
+      )
 
       fewer : (f : ℕ) → card J (lam st) ≤ suc f → card J (λ k. grayAt (set (st .leaves) x empty) (rank k)) ≤ f
       fewer f q = subst (λ (x : ℕ). card J (λ k. grayAt (set (st .leaves) x empty) (rank k)) ≤ f) at-x
@@ -297,6 +358,7 @@ module _ (o : ℕ) (J : Tasks natural) (ok : Proper J) (estOrder lctOrder : List
       pub when-done : tr .end ≡ done → Done J (λ k. moment o (getD (tr .starts) k (pos 0))) (length (tr .posts)) (taskOf (tr .posts)) (boundOf (tr .posts))
       pub otherwise : (tr .end ≡ done → ⊥) → Conflict J
       pub over : (r : List Atom) → tr .end ≡ overload r → GoodEnd r
+      pub left : Leaves tr
 
     -- L t goes
     pub gray-ok : (t : ℕ) (st : State) → t < n → Closed t st → E (Th t) ≤ En t → Inv (suc t) (edges.grayed st (rank (L t)))
@@ -320,6 +382,7 @@ module _ (o : ℕ) (J : Tasks natural) (ok : Proper J) (estOrder lctOrder : List
           above = map-above o (st .starts);
           otherwise = λ z. absurd (z refl);
           over = λ r z. let y : _≡_ {A = ℕ} 0 1 = cc in absurd (omega arith);
+          left = leaves-all t st done (λ z. let y : _≡_ {A = ℕ} 0 1 = cc in absurd (omega arith)) v;
           when-done = λ _. done-same J (now st) (λ k. moment o (getD (map (instant o) (st .starts)) k (pos 0))) (length (st .posts)) (taskOf (st .posts)) (boundOf (st .posts))
               (λ k r. ap (moment o) (getD-map-in (instant o) (st .starts) k 0 (pos 0) (omega (arith, v .known))) ∙ moment-instant o (now st k))
               (finish J ok E E-is L place ord t (lam st) (now st) end (v .facts) (c .none-passes q) (length (st .posts)) (taskOf (st .posts)) (boundOf (st .posts)) (v .posted));
@@ -334,10 +397,11 @@ module _ (o : ℕ) (J : Tasks natural) (ok : Proper J) (estOrder lctOrder : List
           otherwise = λ _. inl (overloaded J ok E E-is L place ord t small (omega (arith, q, tree.ect-is J ok estOrder rk (st .leaves) (Th t) (lam st) (shape t st v))));
           over = λ r z. let y : conflict o J (En t) (leaves.sum J estOrder (st .leaves)) (theta J estOrder (st .leaves)) ≡ r = cc in
               subst GoodEnd y (meas .of-end t (st .leaves) (lam st) (shape t st v) small q);
+          left = leaves-all t st (overload (conflict o J (En t) (leaves.sum J estOrder (st .leaves)) (theta J estOrder (st .leaves)))) (λ z. let y : _≡_ {A = ℕ} 0 1 = cc in absurd (omega arith)) v;
         }
 
-    empty-ok : (st : State) → Conflict J × AllGood (st .posts) → OutOk (edges.ended o J estOrder lctOrder st emptied)
-    empty-ok st w = record { goods = w .1; above = map-above o (st .starts); when-done = λ z. let y : _≡_ {A = ℕ} 0 1 = cc in absurd (omega arith); otherwise = λ _. w .0; over = λ r z. let y : _≡_ {A = ℕ} 0 1 = cc in absurd (omega arith) }
+    empty-ok : (st : State) → Conflict J × AllGood (st .posts) × Leaves (edges.ended o J estOrder lctOrder st emptied) → OutOk (edges.ended o J estOrder lctOrder st emptied)
+    empty-ok st w = record { goods = w .1; left = w .2; above = map-above o (st .starts); when-done = λ z. let y : _≡_ {A = ℕ} 0 1 = cc in absurd (omega arith); otherwise = λ _. w .0; over = λ r z. let y : _≡_ {A = ℕ} 0 1 = cc in absurd (omega arith) }
 
     outer-ok : (f t : ℕ) (st : State) → suc (t + f) ≡ n → Closed t st → OutOk (outer o J estOrder lctOrder f t st)
     outer-ok zero t st end c = rw (outer-end o J estOrder lctOrder 0 t st) (done-ok t st (omega arith) c)
