@@ -2,32 +2,30 @@
 -- Assumes nothing.
 use mathlib.Core.Path.{_≡_, refl, sym, ap, subst, _∙_}
 use mathlib.Core.List.{List, [], _∷_, _++_, map}
-use mathlib.Core.Bool.{true}
+use mathlib.Core.Bool.{true, false}
 use mathlib.Core.Option.{some}
 use Prim.Native.Nat.{ℕ, zero, suc, _+_, _*_, _≤_, _<_}
 use native.Mathlib.Nat.{mul-le-mul, mul-le-mul-right, mul-left-comm}
 use native.Mathlib.Omega.{arith}
-use lib.Dec.{ltb}
 use lib.IntN.{ℤ, pos}
 use lib.ListN.{length, getD, set, length-append, length-map}
 use lib.Seq.{sets, length-sets}
-use borrow.Author.Tests.{ltb-true, lt-ltb, le-ltb}
+use borrow.Author.Tests.{lt-ltb, le-ltb}
 use Rattle.integers.specs.Limits.{TASKS, ATOMS, INNER}
 use Rattle.integers.specs.Moments.{instant, zeroAt}
 use Rattle.integers.specs.Orders.{index}
 use Rattle.scheduling.specs.Scheduling.{natural, Tasks, TaskSet, Atom, completion}
-use Rattle.ects.specs.Ects.{exceeds}
-use Rattle.ects.proofs.Ects.{exceeds-decoded}
-use Rattle.nodes.specs.declared.theta_lambda_node.Node.{Node}
+use Rattle.ects.specs.Ects.{exceeds, raisedTo}
+use Rattle.ects.proofs.Ects.{raised-some, within-bound}
 use Rattle.trees.specs.Leaves as leaves
 use Rattle.trees.specs.Leaves.{Leaf, empty}
-use Rattle.nodes.specs.Nodes.{emptyOf}
-use Rattle.trees.specs.Puts.{Puttable, Put}
-use Rattle.trees.specs.Searches.{thetaIn}
-use Rattle.trees.specs.Words.{nodeAt}
+use Rattle.trees.specs.Searching.{thetaIn}
+use Rattle.trees.specs.Shapes.{heightFor}
+use Rattle.trees.specs.Trees.{IsTree}
+use Rattle.trees.specs.Operations.{Held, Tall, Coloured}
 use Rattle.trees.proofs.Heights.{room as room-for}
 use Rattle.trees.proofs.Roots as tree
-use Rattle.trees.proofs.Trees.{may-put, was-put, root-of, theta-of}
+use Rattle.trees.proofs.Trees.{theta-of}
 use Rattle.runs.specs.Traces.{Post}
 use Rattle.runs.specs.Runs.{State, dropped, raised, posted, propagation}
 use Rattle.scheduling.specs.Words.{atomWords}
@@ -44,7 +42,7 @@ use Rattle.explanations.proofs.Explaining.{Alike, propagation-same}
 use Rattle.candidates.specs.declared.turns.Written.{Written}
 use Rattle.candidates.specs.declared.turns.Turn.the-variants as turn
 use Rattle.candidates.specs.RunArrays.{Ordered, Holds}
-use Rattle.candidates.specs.Turns.{sumIn, Posted, Standing, AtNow, Considered, Responsible-for}
+use Rattle.candidates.specs.Turns.{reasonOf, Posted, Standing, AtNow, Considered, Responsible-for}
 use Rattle.candidates.proofs.Meeting as meeting
 
 -- a list of which one element changes
@@ -58,11 +56,11 @@ abbrev pub one-change : Written → Written
 one-change w = record { posts = w .posts; atoms = w .atoms; changes = w .changes + 1 }
 
 -- what is asked of, and said by, an explanation, with other names for the same values
-preceded-at : {size k : ℕ} {est dur θ θ′ : List ℕ} {p p′ c c′ i i′ b b′ : ℕ} → θ ≡ θ′ → p ≡ p′ → c ≡ c′ → i ≡ i′ → b ≡ b′ → Preceded size k θ′ est dur p′ c′ i′ b′ → Preceded size k θ est dur p c i b
-preceded-at a e f g h m = rw (a, e, f, g, h) m
+preceded-at : {size k : ℕ} {est dur θ θ′ : List ℕ} {p c c′ i i′ b : ℕ} → θ ≡ θ′ → c ≡ c′ → i ≡ i′ → Preceded size k θ′ est dur p c′ i′ b → Preceded size k θ est dur p c i b
+preceded-at a e f m = rw (a, e, f) m
 
-propagation-at : (K : Tasks natural) {θ θ′ : List ℕ} {p p′ c c′ i i′ b b′ : ℕ} → θ ≡ θ′ → p ≡ p′ → c ≡ c′ → i ≡ i′ → b ≡ b′ → propagation zeroAt K i b c p θ ≡ propagation zeroAt K i′ b′ c′ p′ θ′
-propagation-at K a e f g h = rw (a, e, f, g, h)
+propagation-at : (K : Tasks natural) (p b : ℕ) {θ θ′ : List ℕ} {c c′ i i′ : ℕ} → θ ≡ θ′ → c ≡ c′ → i ≡ i′ → propagation zeroAt K i b c p θ ≡ propagation zeroAt K i′ b c′ p θ′
+propagation-at K p b a e f = rw (a, e, f)
 
 -- the words of one post more, of its reason, and of a start that is raised
 posts-at : (ps₀ : List ℤ) {ps ps′ : List ℤ} (posts : List Post) (p : Post) {k m i many : ℕ} {b : ℤ} → ps ≡ sets ps₀ 0 (postWords 0 posts) → k ≡ length posts → m ≡ length (reasons posts) → i ≡ p .task → b ≡ p .bound → many ≡ length (p .reason)
@@ -73,8 +71,8 @@ atoms-at : (as₀ : List ℤ) {as′ bs : List ℤ} (posts : List Post) (p : Pos
     → bs ≡ sets as′ (3 * m) ws → bs ≡ sets as₀ 0 (atomWords (reasons (posts ++ (p ∷ []))))
 atoms-at as₀ posts p a c d h = h ∙ rw (a, c, d) (reason-stored as₀ (reasons posts) (p .reason) ∙ ap (λ (r : List Atom). sets as₀ 0 (atomWords r)) (sym (reasons-more posts p)))
 
-starts-at : {es es′ : List ℤ} (starts : List ℕ) {i j b c : ℕ} → es ≡ map (instant zeroAt) starts → i ≡ j → b ≡ c → es′ ≡ set es i (instant zeroAt b) → es′ ≡ map (instant zeroAt) (set starts j c)
-starts-at starts {i} {j} {b} {c} a d e h = h ∙ rw (a, d, e) (sym (map-set (instant zeroAt) starts j c))
+starts-at : {es es′ : List ℤ} (starts : List ℕ) (b : ℕ) {i j : ℕ} → es ≡ map (instant zeroAt) starts → i ≡ j → es′ ≡ set es i (instant zeroAt b) → es′ ≡ map (instant zeroAt) (set starts j b)
+starts-at starts b {i} {j} a d h = h ∙ rw (a, d) (sym (map-set (instant zeroAt) starts j b))
 
 module _ {n inn height lct : ℕ} {words : List ℕ} {es ps as′ : List ℤ} {w : Written} {est lst dur tasks mapping : List ℕ} (s : Standing n inn height lct words es ps as′ w est lst dur tasks mapping) where
   abbrev J : Tasks natural
@@ -119,15 +117,12 @@ module _ {n inn height lct : ℕ} {words : List ℕ} {es ps as′ : List ℤ} {w
   abbrev pub shape : tree.Represents J (G .proper) estOrder (G .by-earliest) ls Θ Λ
   shape = steps.shape zeroAt J (G .proper) estOrder lctOrder (G .by-earliest) (G .by-completion) Short ShortEnd short t (s .st) inv
 
-  -- the root holds the definition's values
-  pub root-is : nodeAt words 0 ≡ leaves.root J estOrder ls
-  root-is = root-of (G .limited) (s .at .tree)
+  -- the tree that the words hold, and its height
+  abbrev pub shown : Held inn words
+  shown = record { J = J; estOrder = estOrder; leaves = ls; limited = G .limited; tree = s .at .tree }
 
-  pub ect-is : nodeAt words 0 .ect ≡ leaves.rootEct J estOrder ls
-  ect-is = ap (λ (r : Node). r .ect) root-is
-
-  pub sum-is : sumIn words ≡ leaves.sum J estOrder ls
-  sum-is = ap (λ (r : Node). r .«sum_of_processing_times») root-is
+  pub tall : Tall shown height
+  tall = s .arrays .tall ∙ ap heightFor (sym (s .arrays .count))
 
   pub theta-is : thetaIn words inn tasks n ≡ leaves.theta J estOrder ls
   theta-is = ap (thetaIn words inn tasks) (sym (s .arrays .count)) ∙ theta-of (G .limited) (s .at .tree) tasks (λ j q. s .arrays .tasks .at j (omega (arith, s .arrays .count)))
@@ -160,11 +155,8 @@ module _ {n inn height lct : ℕ} {words : List ℕ} {es ps as′ : List ℤ} {w
     found : tree.Found J (G .proper) estOrder (G .by-earliest) ls Θ Λ shape x
     found = tree.one-found J (G .proper) estOrder (G .by-earliest) ls Θ Λ shape x (r .found)
 
-    passes : ltb (completion J (getD lctOrder t 0)) (leaves.rootEctBar J estOrder ls) ≡ true
-    passes = sym (exceeds-decoded (leaves.rootEctBar J estOrder ls) (completion J (getD lctOrder t 0))) ∙ ap (exceeds (leaves.ect-bar J estOrder ls)) (sym (s .ends)) ∙ r .over
-
-    over : completion J (getD lctOrder t 0) < leaves.rootEctBar J estOrder ls
-    over = ltb-true (completion J (getD lctOrder t 0)) (leaves.rootEctBar J estOrder ls) passes
+    passes : exceeds (leaves.ect-bar J estOrder ls) (completion J (getD lctOrder t 0)) ≡ true
+    passes = ap (exceeds (leaves.ect-bar J estOrder ls)) (sym (s .ends)) ∙ r .over
 
     pub small : i < n
     small = omega (arith, r .task, found .gray .small, s .arrays .count)
@@ -210,93 +202,97 @@ module _ {n inn height lct : ℕ} {words : List ℕ} {es ps as′ : List ℤ} {w
     post-room = omega (arith, s .at .posted, fewer, s .small, s .post-room, s .arrays .count, ap length (s .at .posts) ∙ length-sets (s .ps₀) 0 (postWords 0 (s .st .posts)))
 
     -- the task's leaf may be emptied, and is then
-    pub may-clear : {k : ℕ} → k ≡ getD mapping i 0 → Puttable inn words k emptyOf
-    may-clear e = rw (e ∙ leaf) (may-put (G .limited) (s .at .tree) x (found .small) empty refl)
+    place-inside : {k : ℕ} → k ≡ getD mapping i 0 → k < J .count
+    place-inside e = omega (arith, e, leaf, found .small)
 
-    cleared : {k : ℕ} (words′ : List ℕ) → k ≡ getD mapping i 0 → Put inn words words′ k emptyOf → leaves.IsTree J estOrder (set ls x empty) inn words′
-    cleared words′ e q = was-put (G .limited) (s .at .tree) x (found .small) empty refl (rw (e ∙ leaf) at q)
+    pub may-clear : {k : ℕ} → k ≡ getD mapping i 0 → (h : Held inn words) × (k < h .J .count)
+    may-clear e = (shown, place-inside e)
 
-    module _ (b : ℕ) (is : b ≡ nodeAt words 0 .ect) where
-      bound-is : b ≡ leaves.rootEct J estOrder ls
-      bound-is = is ∙ ect-is
+    abbrev pub Cleared : ℕ → List ℕ → Type 0
+    Cleared k words′ = (h : Held inn words) → k < h .J .count → Coloured empty h k words′
 
-      -- what `post` asks
-      pub asked : getD est i 0 < b → Preceded (length as′) (w .atoms) (thetaIn words inn tasks n) est dur (sumIn words) lct i b
-      asked up = preceded-at theta-is sum-is (s .ends) (r .task) bound-is
-          (meeting.preceded J estOrder lctOrder G est dur (held (s .arrays .starts)) (held (s .arrays .durations)) t ls Λ shape (s .small) (length as′) (w .atoms) x found over (omega (arith, up, task-start, bound-is)) atom-room)
+    cleared : {k : ℕ} (words′ : List ℕ) → k ≡ getD mapping i 0 → Cleared k words′ → IsTree J estOrder (set ls x empty) inn words′
+    cleared words′ e q = subst (λ (k : ℕ). IsTree J estOrder (set ls k empty) inn words′) (e ∙ leaf) (q shown (place-inside e))
 
-      abbrev ect : ℕ
-      ect = leaves.rootEct J estOrder ls
+    -- the start, raised to the ect of Theta
+    module _ (b : ℕ) (is : b ≡ raisedTo (getD est i 0) (leaves.ect J estOrder ls)) where
+      module _ (up : getD est i 0 < b) where
+        ect-is : leaves.ect J estOrder ls ≡ some b
+        ect-is = raised-some (getD est i 0) b (leaves.ect J estOrder ls) is up
 
-      abbrev now : List Atom
-      now = propagation zeroAt J (T x) ect (completion J (getD lctOrder t 0)) (leaves.sum J estOrder ls) (leaves.theta J estOrder ls)
+        up′ : J .earliest (T x) < b
+        up′ = omega (arith, up, task-start)
 
-      abbrev made : Post
-      made = record { task = T x; bound = instant zeroAt ect; reason = now }
+        -- what `post` asks
+        pub asked : Preceded (length as′) (w .atoms) (thetaIn words inn tasks n) est dur (leaves.sum J estOrder ls) lct i b
+        asked = preceded-at theta-is (s .ends) (r .task)
+            (meeting.preceded J estOrder lctOrder G est dur (held (s .arrays .starts)) (held (s .arrays .durations)) t ls Λ shape (s .small) (length as′) (w .atoms) x b found passes ect-is up′ atom-room)
 
-      reason-is : propagation zeroAt (starting est dur) i b lct (sumIn words) (thetaIn words inn tasks n) ≡ now
-      reason-is = propagation-at (starting est dur) theta-is sum-is (s .ends) (r .task) bound-is
-          ∙ propagation-same zeroAt (starting est dur) J (T x) ect (completion J (getD lctOrder t 0)) (leaves.sum J estOrder ls) (leaves.theta J estOrder ls)
-          (alike (T x) (found .gray .small)) (λ y q. alike (getD (leaves.theta J estOrder ls) y 0) (meeting.each-listed J estOrder lctOrder G est dur (held (s .arrays .starts)) (held (s .arrays .durations)) t ls Λ shape (s .small) y q))
-        where
-          alike : (k : ℕ) → k < J .count → Alike (starting est dur) J k
-          alike = meeting.alike J estOrder lctOrder G est dur (held (s .arrays .starts)) (held (s .arrays .durations))
+        abbrev now : List Atom
+        now = propagation zeroAt J (T x) b (completion J (getD lctOrder t 0)) (leaves.sum J estOrder ls) (leaves.theta J estOrder ls)
 
-      -- the state with the post
-      abbrev after : State
-      after = posted zeroAt J estOrder lctOrder (s .st) (T x) ect t
+        abbrev made : Post
+        made = record { task = T x; bound = instant zeroAt b; reason = now }
 
-      module _ {ps′ bs : List ℤ} {w′ : Written} (p : Posted ps as′ ps′ bs w w′ i b
-          (atomWords (propagation zeroAt (starting est dur) i b lct (sumIn words) (thetaIn words inn tasks n))) (length (propagation zeroAt (starting est dur) i b lct (sumIn words) (thetaIn words inn tasks n)))) where
-        post-at : AtNow s after words es ps′ bs w′
-        post-at = record {
-          tree = s .at .tree;
-          starts = s .at .starts;
-          posts = posts-at (s .ps₀) (s .st .posts) made (s .at .posts) (s .at .posted) (s .at .explained) (r .task) (ap (instant zeroAt) bound-is) (ap length reason-is) (p .post-words);
-          atoms = atoms-at (s .as₀) (s .st .posts) made (s .at .atoms) (s .at .explained) (ap atomWords reason-is) (p .atom-words);
-          posted = omega (arith, p .posts, s .at .posted, length-append (s .st .posts) (made ∷ []));
-          explained = omega (arith, p .atoms, s .at .explained, ap length reason-is, ap length (reasons-more (s .st .posts) made), length-append (reasons (s .st .posts)) now);
-          counted = p .changes ∙ s .at .counted;
-        }
-
-        pub emptied : getD est i 0 < b → getD lst i 0 < b → Considered s (turn.Emptied w′) words es ps′ bs
-        emptied up high = (after, post-at, λ f. inner-stop zeroAt J estOrder lctOrder f t (s .st) x passes (r .found) (lt-ltb (J .earliest (T x)) ect (omega (arith, up, task-start, bound-is))) (lt-ltb (J .latest (T x)) ect (omega (arith, high, task-latest, bound-is))))
-
-        pub raised-on : {k : ℕ} {words′ : List ℕ} {es′ : List ℤ} → getD est i 0 < b → b ≤ getD lst i 0 → es′ ≡ set es i (instant zeroAt b) → k ≡ getD mapping i 0 → Put inn words words′ k emptyOf
-            → Considered s (turn.On (one-change w′)) words′ es′ ps′ bs
-        raised-on {words′ = words′} {es′} up low e at-leaf q = (
-          next,
-          at-next,
-          λ f. inner-raise zeroAt J estOrder lctOrder f t (s .st) x passes (r .found) (lt-ltb (J .earliest (T x)) ect up′) (le-ltb (J .latest (T x)) ect low′),
-        )
+        reason-is : reasonOf shown tasks n est dur i b lct ≡ now
+        reason-is = propagation-at (starting est dur) (leaves.sum J estOrder ls) b theta-is (s .ends) (r .task)
+            ∙ propagation-same zeroAt (starting est dur) J (T x) b (completion J (getD lctOrder t 0)) (leaves.sum J estOrder ls) (leaves.theta J estOrder ls)
+            (alike (T x) (found .gray .small)) (λ y q. alike (getD (leaves.theta J estOrder ls) y 0) (meeting.each-listed J estOrder lctOrder G est dur (held (s .arrays .starts)) (held (s .arrays .durations)) t ls Λ shape (s .small) y q))
           where
-            next : State
-            next = dropped (raised after (T x) ect) x
+            alike : (k : ℕ) → k < J .count → Alike (starting est dur) J k
+            alike = meeting.alike J estOrder lctOrder G est dur (held (s .arrays .starts)) (held (s .arrays .durations))
 
-            up′ : J .earliest (T x) < ect
-            up′ = omega (arith, up, task-start, bound-is)
+        -- the state with the post
+        abbrev after : State
+        after = posted zeroAt J estOrder lctOrder (s .st) (T x) b t
 
-            low′ : ect ≤ J .latest (T x)
-            low′ = omega (arith, low, task-latest, bound-is)
+        module _ {ps′ bs : List ℤ} {w′ : Written} (p : Posted ps as′ ps′ bs w w′ i b (reasonOf shown tasks n est dur i b lct)) where
+          post-at : AtNow s after words es ps′ bs w′
+          post-at = record {
+            tree = s .at .tree;
+            starts = s .at .starts;
+            posts = posts-at (s .ps₀) (s .st .posts) made (s .at .posts) (s .at .posted) (s .at .explained) (r .task) refl (ap length reason-is) (p .post-words);
+            atoms = atoms-at (s .as₀) (s .st .posts) made (s .at .atoms) (s .at .explained) (ap atomWords reason-is) (p .atom-words);
+            posted = omega (arith, p .posts, s .at .posted, length-append (s .st .posts) (made ∷ []));
+            explained = omega (arith, p .atoms, s .at .explained, ap length reason-is, ap length (reasons-more (s .st .posts) made), length-append (reasons (s .st .posts)) now);
+            counted = p .changes ∙ s .at .counted;
+          }
 
-            at-next : AtNow s next words′ es′ ps′ bs (one-change w′)
-            at-next = record {
-              tree = cleared words′ at-leaf q;
-              starts = starts-at (s .st .starts) (s .at .starts) (r .task) bound-is e;
-              posts = post-at .posts;
-              atoms = post-at .atoms;
-              posted = post-at .posted;
-              explained = post-at .explained;
-              counted = ap (λ (c : ℕ). c + 1) (post-at .counted);
-            }
+          pub emptied : getD lst i 0 < b → Considered s (turn.Emptied w′) words es ps′ bs
+          emptied high = (
+            after,
+            post-at,
+            λ f. inner-stop zeroAt J estOrder lctOrder f t (s .st) x passes (r .found) b ect-is (lt-ltb (J .earliest (T x)) b up′) (lt-ltb (J .latest (T x)) b (omega (arith, high, task-latest))),
+          )
+
+          pub raised-on : {k : ℕ} {words′ : List ℕ} {es′ : List ℤ} → b ≤ getD lst i 0 → es′ ≡ set es i (instant zeroAt b) → k ≡ getD mapping i 0 → Cleared k words′ → Considered s (turn.On (one-change w′)) words′ es′ ps′ bs
+          raised-on {words′ = words′} {es′} low e at-leaf q = (
+            next,
+            at-next,
+            λ f. inner-raise zeroAt J estOrder lctOrder f t (s .st) x passes (r .found) b ect-is (lt-ltb (J .earliest (T x)) b up′) (le-ltb (J .latest (T x)) b (omega (arith, low, task-latest))),
+          )
+            where
+              next : State
+              next = dropped (raised after (T x) b) x
+
+              at-next : AtNow s next words′ es′ ps′ bs (one-change w′)
+              at-next = record {
+                tree = cleared words′ at-leaf q;
+                starts = starts-at (s .st .starts) b (s .at .starts) (r .task) e;
+                posts = post-at .posts;
+                atoms = post-at .atoms;
+                posted = post-at .posted;
+                explained = post-at .explained;
+                counted = ap (λ (c : ℕ). c + 1) (post-at .counted);
+              }
 
       -- no post
-      pub passed-on : {k : ℕ} {words′ : List ℕ} → b ≤ getD est i 0 → k ≡ getD mapping i 0 → Put inn words words′ k emptyOf → Considered s (turn.On (one-change w)) words′ es ps as′
+      pub passed-on : {k : ℕ} {words′ : List ℕ} → b ≤ getD est i 0 → k ≡ getD mapping i 0 → Cleared k words′ → Considered s (turn.On (one-change w)) words′ es ps as′
       passed-on {words′ = words′} low at-leaf q = (
         dropped (s .st) x,
         record { tree = cleared words′ at-leaf q; starts = s .at .starts; posts = s .at .posts; atoms = s .at .atoms; posted = s .at .posted; explained = s .at .explained; counted = ap (λ (c : ℕ). c + 1) (s .at .counted) },
-        λ f. inner-pass zeroAt J estOrder lctOrder f t (s .st) x passes (r .found) (le-ltb (J .earliest (T x)) ect low′),
+        λ f. inner-pass zeroAt J estOrder lctOrder f t (s .st) x passes (r .found) still,
       )
         where
-          low′ : ect ≤ J .earliest (T x)
-          low′ = omega (arith, low, task-start, bound-is)
+          still : exceeds (leaves.ect J estOrder ls) (J .earliest (T x)) ≡ false
+          still = subst (λ (e : ℕ). exceeds (leaves.ect J estOrder ls) e ≡ false) task-start (within-bound (getD est i 0) (getD est i 0) (leaves.ect J estOrder ls) (omega (arith, low, is)))

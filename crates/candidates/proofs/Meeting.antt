@@ -4,6 +4,7 @@ use mathlib.Core.Path.{_≡_, refl, sym, ap, subst, _∙_}
 use mathlib.Core.Bool.{true, false}
 use mathlib.Core.List.{List, _∷_}
 use mathlib.Core.Logic.{_⊎_, inl, inr}
+use mathlib.Core.Option.{some}
 use Prim.Native.Nat.{ℕ, zero, suc, _+_, _-_, _*_, _^_, _≤_, _<_, min}
 use native.Mathlib.Omega.{arith}
 use lib.Dec.{leb}
@@ -16,7 +17,8 @@ use Rattle.integers.proofs.Bools.{bool}
 use Rattle.integers.proofs.Permutations.{has-at}
 use Rattle.scheduling.specs.Scheduling.{natural, Tasks, Proper, TaskSet, In, completion, processing}
 use Rattle.scheduling.proofs.Processing.{processing-mono, processing-less}
-use Rattle.trees.specs.Leaves.{Leaf, whiteAt, taskAt, rootEct, rootEctBar, sum, theta}
+use Rattle.ects.specs.Ects.{exceeds}
+use Rattle.trees.specs.Leaves.{Leaf, whiteAt, taskAt, ect, ect-bar, sum, theta}
 use Rattle.trees.specs.Searches.{thetaOf}
 use Rattle.trees.proofs.Roots as tree
 use Rattle.trees.proofs.Thetas.{theta-none, theta-white, theta-skip, theta-is}
@@ -130,7 +132,7 @@ module _ (J : Tasks natural) (estOrder lctOrder : List ℕ) (G : Ordered J estOr
     ends-fit = G .fits (getD lctOrder t 0) (G .by-completion .task t small)
 
     -- an overload
-    pub overloaded : (size k : ℕ) → c < rootEct J estOrder ls → 3 * k + 6 * length θ ≤ size → Overloaded size k θ est dur (sum J estOrder ls) c
+    pub overloaded : (size k : ℕ) → exceeds (ect J estOrder ls) c ≡ true → 3 * k + 6 * length θ ≤ size → Overloaded size k θ est dur (sum J estOrder ls) c
     overloaded size k over room =
         let o = stops.overload-stops zeroAt J ok estOrder lctOrder (G .by-earliest) (G .by-completion) t ls Λ s small over in
         let (q, z, l) = at-spot (o .at) (o .inside) (o .white) in
@@ -143,11 +145,11 @@ module _ (J : Tasks natural) (estOrder lctOrder : List ℕ) (G : Ordered J estOr
         }
 
     -- a post
-    pub preceded : (size k x : ℕ) → tree.Found J ok estOrder (G .by-earliest) ls Θ Λ s x → c < rootEctBar J estOrder ls → J .earliest (T x) < rootEct J estOrder ls → 3 * k + 6 * length θ + 3 ≤ size
-        → Preceded size k θ est dur (sum J estOrder ls) c (T x) (rootEct J estOrder ls)
-    preceded size k x f over up room =
-        let one = stops.first-walk zeroAt J ok estOrder lctOrder (G .by-earliest) (G .by-completion) t ls Λ s small x f over up in
-        let two = stops.attaining-after zeroAt J ok estOrder lctOrder (G .by-earliest) (G .by-completion) t ls Λ s small x f over up in
+    pub preceded : (size k x b : ℕ) → tree.Found J ok estOrder (G .by-earliest) ls Θ Λ s x → exceeds (ect-bar J estOrder ls) c ≡ true → ect J estOrder ls ≡ some b → J .earliest (T x) < b → 3 * k + 6 * length θ + 3 ≤ size
+        → Preceded size k θ est dur (sum J estOrder ls) c (T x) b
+    preceded size k x b f over is up room =
+        let one = stops.first-walk zeroAt J ok estOrder lctOrder (G .by-earliest) (G .by-completion) t ls Λ s small x f over b is up in
+        let two = stops.attaining-after zeroAt J ok estOrder lctOrder (G .by-earliest) (G .by-completion) t ls Λ s small x f over b is up in
         let (q, z, l) = at-spot (one .m) (one .small) (one .mem) in
         let (q′, z′, l′) = at-spot (two .at) (two .inside) (two .white) in
         let i-small : T x < n = f .gray .small in
@@ -159,7 +161,7 @@ module _ (J : Tasks natural) (estOrder lctOrder : List ℕ) (G : Ordered J estOr
           known = known (T x) i-small;
           room = room;
           precedes = record { place = spot (one .m); small = q; holds = subst (λ (j : ℕ). c < min (getD est (T x) 0) (getD est j 0) + lasts dur (drop (spot (one .m)) θ) + getD dur (T x) 0) (sym z) (rw (ei, di, em, l) (one .over)) };
-          attains = record { place = spot (two .at); small = q′; holds = subst (λ (j : ℕ). getD est j 0 + lasts dur (drop (spot (two .at)) θ) ≡ rootEct J estOrder ls) (sym z′) (omega (arith, two .attains, l′, he .at (T (two .at)) (G .by-earliest .task (two .at) (two .inside)))) };
+          attains = record { place = spot (two .at); small = q′; holds = subst (λ (j : ℕ). getD est j 0 + lasts dur (drop (spot (two .at)) θ) ≡ b) (sym z′) (omega (arith, two .attains, l′, he .at (T (two .at)) (G .by-earliest .task (two .at) (two .inside)))) };
           among = stops.spot-up zeroAt J ok estOrder lctOrder (G .by-earliest) (G .by-completion) t ls Λ s small (one .m) (two .at) (two .after);
           fits = omega (arith, ends-fit, sum-most, di, processing-less J (λ _. true) (T x) (record { small = i-small; mem = refl }));
         }

@@ -3,6 +3,7 @@
 use mathlib.Core.Path.{_≡_, sym, ap, _∙_}
 use mathlib.Core.Bool.{true, false}
 use mathlib.Core.List.{List, [], _∷_}
+use mathlib.Core.Option.{Option}
 use Prim.Native.Nat.{ℕ, _+_, _-_, _*_, _≤_, _<_}
 use native.Mathlib.Omega.{arith}
 use lib.IntN.{ℤ, pos}
@@ -14,25 +15,23 @@ use Rattle.scheduling.specs.Scheduling.{Atom}
 use Rattle.ects.specs.Ects.{exceeds}
 use Rattle.post_words.specs.Posts.{PostFits}
 use Rattle.trees.specs.declared.theta_lambda_tree.Responsible.the-variants as responsible
-use Rattle.trees.specs.Searches.{searchEct, responsibleOf, whiteIn, taskIn, thetaIn}
-use Rattle.trees.specs.Shapes.{leavesOf}
-use Rattle.trees.specs.Words.{nodeAt, ectBarIn}
+use Rattle.trees.specs.Searching.{responsibleOf, whiteIn, taskIn, thetaIn}
 use Rattle.runs.specs.Runs.{propagation}
 use Rattle.scheduling.specs.Words.{atomWords}
 use Rattle.runs.proofs.Lengths.{propagation-length}
 use Rattle.runs.proofs.Room.{theta-few}
 use Rattle.theta_walks.specs.Writing.{starting, Stored}
 use Rattle.candidates.specs.declared.turns.Written.{Written}
-use Rattle.candidates.specs.Turns.{candidateIn, Posted}
+use Rattle.candidates.specs.Turns.{candidateOf, Posted}
 
-module _ (words : List ℕ) (inner height : ℕ) (tasks : List ℕ) (lct : ℕ) where
-  pub candidate-none : exceeds (ectBarIn words) lct ≡ false → responsible.Nothing ≡ candidateIn words inner height tasks lct
-  unfolding candidateIn
-  candidate-none q = rw (q, candidateIn)
+module _ (tasks : List ℕ) (lct : ℕ) (bar found : Option ℕ) where
+  pub candidate-none : exceeds bar lct ≡ false → responsible.Nothing ≡ candidateOf tasks lct bar found
+  unfolding candidateOf
+  candidate-none q = rw (q, candidateOf)
 
-  pub candidate-some : exceeds (ectBarIn words) lct ≡ true → responsibleOf tasks (searchEct (leavesOf inner (nodeAt words)) height 0) ≡ candidateIn words inner height tasks lct
-  unfolding candidateIn
-  candidate-some q = rw (q, candidateIn)
+  pub candidate-some : exceeds bar lct ≡ true → responsibleOf tasks found ≡ candidateOf tasks lct bar found
+  unfolding candidateOf
+  candidate-some q = rw (q, candidateOf)
 
 -- the reason of a post is short, by the tasks of Theta
 pub reason-few : (words : List ℕ) (inner : ℕ) (tasks : List ℕ) (n : ℕ) (es ds : List ℕ) (i b lct p : ℕ) → n ≤ TASKS → length (propagation zeroAt (starting es ds) i b lct p (thetaIn words inner tasks n)) ≤ 97
@@ -48,7 +47,7 @@ module _ {as′ bs : List ℤ} {k end : ℕ} {reason : List Atom} (s : Stored as
 
   pub post-done : {ps ps′ : List ℤ} {before after : Written} {i b : ℕ} → before .atoms ≡ k → after .posts ≡ before .posts + 1 → after .atoms ≡ end → after .changes ≡ before .changes
       → ps′ ≡ sets ps (4 * before .posts) (pos i ∷ instant zeroAt b ∷ pos k ∷ pos (end - k) ∷ [])
-      → Posted ps as′ ps′ bs before after i b (atomWords reason) (length reason)
+      → Posted ps as′ ps′ bs before after i b reason
   post-done {ps} {ps′} {before} {after} {i} {b} z u v x w = record {
     post-words = w ∙ ap (λ (n : ℕ). sets ps (4 * before .posts) (pos i ∷ instant zeroAt b ∷ pos k ∷ pos n ∷ [])) long
         ∙ ap (λ (n : ℕ). sets ps (4 * before .posts) (pos i ∷ instant zeroAt b ∷ pos n ∷ pos (length reason) ∷ [])) (sym z);

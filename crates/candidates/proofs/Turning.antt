@@ -1,37 +1,33 @@
 -- The inner loop: what it has got to, and how a turn goes on from there.
 -- Assumes nothing.
-use mathlib.Core.Path.{_≡_, refl, sym, ap, ap₂, _∙_}
+use mathlib.Core.Path.{_≡_, refl, sym, ap, _∙_}
 use mathlib.Core.Bool.{Bool, true, false}
 use mathlib.Core.List.{List}
 use mathlib.Core.Logic.{inl, inr}
 use mathlib.Core.Option.{Option, some, none}
 use Prim.Native.Nat.{ℕ, suc, _<_}
 use native.Mathlib.Omega.{arith}
-use lib.Dec.{ltb}
 use lib.IntN.{ℤ}
 use lib.ListN.{getD}
 use Rattle.integers.specs.Moments.{zeroAt}
 use Rattle.integers.proofs.Bools.{bool, clash}
 use Rattle.scheduling.specs.Scheduling.{completion}
 use Rattle.ects.specs.Ects.{exceeds}
-use Rattle.ects.proofs.Ects.{exceeds-decoded}
 use Rattle.trees.specs.declared.disjunctive_task.LocalId.{LocalId}
 use Rattle.trees.specs.declared.theta_lambda_tree.Responsible.{Responsible}
 use Rattle.trees.specs.declared.theta_lambda_tree.Responsible.the-variants as responsible
 use Rattle.trees.specs.Leaves as leaves
-use Rattle.trees.specs.Searches.{Searchable, searchEct, responsibleOf}
-use Rattle.trees.specs.Shapes.{heightFor, leavesOf}
-use Rattle.trees.specs.Words.{nodeAt, ectBarIn}
-use Rattle.trees.proofs.Trees.{bar-of-root, searchable, responsible-of}
+use Rattle.trees.specs.Searching.{responsibleOf}
 use Rattle.runs.specs.Runs.{State}
 use Rattle.runs.specs.Reached.{Reached, turned}
 use Rattle.runs.proofs.Fuel.{inner-end, inner-off, inner-none}
 use Rattle.candidates.specs.declared.turns.Written.{Written}
 use Rattle.candidates.specs.declared.turns.Turn as code
 use Rattle.candidates.specs.declared.turns.Turn.the-variants as turn
-use Rattle.candidates.specs.Turns.{candidateIn, Standing, AtNow, turns, Considered, AllConsidered, Responsible-for}
+use Rattle.candidates.specs.Turns.{Proposes, Standing, AtNow, turns, Considered, AllConsidered, Responsible-for}
 use Rattle.candidates.proofs.Posting.{candidate-none, candidate-some}
 use Rattle.candidates.proofs.Considering as considering
+use Rattle.candidates.proofs.Considering.{shown, tall}
 
 abbrev is-task : Responsible → Bool
 is-task (responsible.Task id) = true
@@ -51,9 +47,6 @@ no-task tasks none z = refl
 no-task tasks (some x) z = clash {b = true} refl (ap is-task (sym z))
 
 module _ {n inn height lct : ℕ} {words : List ℕ} {es ps as′ : List ℤ} {w : Written} {est lst dur tasks mapping : List ℕ} (s : Standing n inn height lct words es ps as′ w est lst dur tasks mapping) where
-  pub can-search : Searchable inn height (nodeAt words)
-  can-search = searchable (s .ordered .limited) (s .at .tree) height (s .arrays .tall ∙ ap heightFor (sym (s .arrays .count)))
-
   -- `left` turns are left, and the slices and the tree are at the state of a definition that has as many left
   pub record Turned (left : ℕ) (words′ : List ℕ) (es′ ps′ bs : List ℤ) (w′ : Written) : Type 0 where
     pub st : State
@@ -85,11 +78,11 @@ module _ {n inn height lct : ℕ} {words : List ℕ} {es ps as′ : List ℤ} {w
       at = r .at;
     }
 
-    bar-is : ectBarIn words′ ≡ leaves.ect-bar (s .J) (s .estOrder) (r .st .leaves)
-    bar-is = bar-of-root (s .ordered .limited) (r .at .tree)
+    abbrev bar : Option ℕ
+    bar = leaves.ect-bar (s .J) (s .estOrder) (r .st .leaves)
 
-    search-is : searchEct (leavesOf inn (nodeAt words′)) height 0 ≡ leaves.responsible (s .J) (s .estOrder) (r .st .leaves)
-    search-is = responsible-of (s .ordered .limited) (r .at .tree) height (s .arrays .tall ∙ ap heightFor (sym (s .arrays .count)))
+    abbrev found : Option ℕ
+    found = leaves.responsible (s .J) (s .estOrder) (r .st .leaves)
 
     found-small : (x : ℕ) → leaves.responsible (s .J) (s .estOrder) (r .st .leaves) ≡ some x → x < n
     found-small x z = omega (arith, s .arrays .count, considering.found-inside stands x z)
@@ -98,23 +91,18 @@ module _ {n inn height lct : ℕ} {words : List ℕ} {es ps as′ : List ℤ} {w
     pub ended : left ≡ 0 → AllConsidered s (turn.On w′) words′ es′ ps′ bs
     ended z = (r .st, r .at, r .rest ∙ ap (λ (f : ℕ). turns s f (r .st)) z ∙ inner-end zeroAt (s .J) (s .estOrder) (s .lctOrder) 0 (s .level) (r .st))
 
-    abbrev end : ℕ
-    end = completion (s .J) (getD (s .lctOrder) (s .level) 0)
-
-    abbrev top : ℕ
-    top = leaves.rootEctBar (s .J) (s .estOrder) (r .st .leaves)
-
-    -- the test, by the root's word
-    test-is : {v : Bool} → exceeds (ectBarIn words′) lct ≡ v → ltb end top ≡ v
-    test-is y = sym (exceeds-decoded top end) ∙ ap₂ exceeds (sym bar-is) (sym (s .ends)) ∙ y
+    -- the test, by the level's lct
+    test-is : {v : Bool} → exceeds bar lct ≡ v → exceeds bar (completion (s .J) (getD (s .lctOrder) (s .level) 0)) ≡ v
+    test-is y = ap (exceeds bar) (sym (s .ends)) ∙ y
 
     -- there is a task to consider
-    pub one-left : {next : Responsible} {id : LocalId} → next ≡ responsible.Task id → next ≡ candidateIn words′ inn height tasks lct → (x : ℕ) × Responsible-for stands (id .0) x
-    one-left {id = id} is z = elim (bool (exceeds (ectBarIn words′) lct)) [
-      | inr y ↦ clash {b = true} refl (ap is-task (sym is ∙ z ∙ sym (candidate-none words′ inn height tasks lct y)))
-      | inl y ↦ (let (x, u, v) = some-task tasks (searchEct (leavesOf inn (nodeAt words′)) height 0) id (sym is ∙ z ∙ sym (candidate-some words′ inn height tasks lct y)) in
-          (x, record { over = ap (λ (o : Option ℕ). exceeds o lct) (sym bar-is) ∙ y; found = sym search-is ∙ u; task = v ∙ s .arrays .tasks .at x (found-small x (sym search-is ∙ u)) }))
-    ]
+    pub one-left : {next : Responsible} {id : LocalId} → next ≡ responsible.Task id → Proposes inn height words′ tasks lct next → (x : ℕ) × Responsible-for stands (id .0) x
+    one-left {id = id} is all = let z = all (shown stands) (tall stands) in
+        elim (bool (exceeds bar lct)) [
+          | inr y ↦ clash {b = true} refl (ap is-task (sym is ∙ z ∙ sym (candidate-none tasks lct bar found y)))
+          | inl y ↦ (let (x, u, v) = some-task tasks found id (sym is ∙ z ∙ sym (candidate-some tasks lct bar found y)) in
+              (x, record { over = y; found = u; task = v ∙ s .arrays .tasks .at x (found-small x u) }))
+        ]
 
     -- a turn is taken
     module _ {f : ℕ} (some-left : left ≡ suc f) where
@@ -122,14 +110,13 @@ module _ {n inn height lct : ℕ} {words : List ℕ} {es ps as′ : List ℤ} {w
       rest-is = r .rest ∙ ap (λ (f : ℕ). turns s f (r .st)) some-left
 
       -- there is no task to consider
-      pub nothing-left : {next : Responsible} → next ≡ responsible.Nothing → next ≡ candidateIn words′ inn height tasks lct → AllConsidered s (turn.On w′) words′ es′ ps′ bs
-      nothing-left is z = (
+      pub nothing-left : {next : Responsible} → next ≡ responsible.Nothing → Proposes inn height words′ tasks lct next → AllConsidered s (turn.On w′) words′ es′ ps′ bs
+      nothing-left is all = let z = all (shown stands) (tall stands) in (
         r .st,
         r .at,
-        rest-is ∙ elim (bool (exceeds (ectBarIn words′) lct)) [
+        rest-is ∙ elim (bool (exceeds bar lct)) [
           | inr y ↦ inner-off zeroAt (s .J) (s .estOrder) (s .lctOrder) f (s .level) (r .st) (test-is y)
-          | inl y ↦ inner-none zeroAt (s .J) (s .estOrder) (s .lctOrder) f (s .level) (r .st) (test-is y)
-              (sym search-is ∙ no-task tasks (searchEct (leavesOf inn (nodeAt words′)) height 0) (sym is ∙ z ∙ sym (candidate-some words′ inn height tasks lct y)))
+          | inl y ↦ inner-none zeroAt (s .J) (s .estOrder) (s .lctOrder) f (s .level) (r .st) (test-is y) (no-task tasks found (sym is ∙ z ∙ sym (candidate-some tasks lct bar found y)))
         ],
       )
 

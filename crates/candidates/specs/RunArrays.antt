@@ -11,7 +11,7 @@ use Rattle.integers.specs.Moments.{instant, zeroAt}
 use Rattle.integers.specs.Orders.{index}
 use Rattle.scheduling.specs.Scheduling.{natural, Tasks, Proper, processing, completion}
 use Rattle.scheduling.specs.Moments.{ByEarliest, ByCompletion}
-use Rattle.trees.specs.Leaves.{Limited, IsTree}
+use Rattle.trees.specs.Trees.{Limited, IsTree}
 use Rattle.trees.specs.Shapes.{heightFor}
 use Rattle.runs.specs.Runs.{State}
 use Rattle.scheduling.specs.Words.{atomWords}

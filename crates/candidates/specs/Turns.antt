@@ -2,44 +2,46 @@
 use mathlib.Core.Path.{_≡_}
 use mathlib.Core.Bool.{true, false}
 use mathlib.Core.List.{List, [], _∷_}
-use mathlib.Core.Option.{some}
+use mathlib.Core.Option.{Option, some}
 use Prim.Native.Nat.{ℕ, suc, _+_, _*_, _≤_, _<_}
 use lib.IntN.{ℤ, pos}
 use lib.ListN.{length, getD}
 use lib.Seq.{sets}
 use Rattle.integers.specs.Moments.{instant, zeroAt}
-use Rattle.scheduling.specs.Scheduling.{natural, Tasks, completion}
+use Rattle.scheduling.specs.Scheduling.{natural, Tasks, Atom, completion}
+use Rattle.scheduling.specs.Words.{atomWords}
 use Rattle.ects.specs.Ects.{exceeds}
 use Rattle.trees.specs.declared.theta_lambda_tree.Responsible.{Responsible}
 use Rattle.trees.specs.declared.theta_lambda_tree.Responsible.the-variants as responsible
 use Rattle.trees.specs.Leaves as leaves
-use Rattle.trees.specs.Searches.{searchEct, responsibleOf}
-use Rattle.trees.specs.Shapes.{leavesOf}
-use Rattle.trees.specs.Words.{nodeAt, ectBarIn}
-use Rattle.runs.specs.Runs.{State, Turn, on, stop, inner}
+use Rattle.trees.specs.Searching.{responsibleOf, thetaIn}
+use Rattle.trees.specs.Operations.{Held, Tall}
+use Rattle.runs.specs.Runs.{State, Turn, on, stop, inner, propagation}
 use Rattle.runs.specs.Reached.{Reached}
+use Rattle.theta_walks.specs.Writing.{starting}
 use Rattle.candidates.specs.declared.turns.Written.{Written}
 use Rattle.candidates.specs.declared.turns.Turn as code
 use Rattle.candidates.specs.declared.turns.Turn.the-variants as turn
 use Rattle.candidates.specs.RunArrays.{Ordered, Holds, Arrays, At}
 
--- the sum of Theta, as the tree's words hold it
-abbrev pub sumIn : List ℕ → ℕ
-sumIn words = nodeAt words 0 .«sum_of_processing_times»
+-- the task to consider next, by ect_bar and the responsible leaf: none where ect_bar is not past lct
+unfoldable pub candidateOf : List ℕ → ℕ → Option ℕ → Option ℕ → Responsible
+candidateOf tasks lct ect-bar found = elim (exceeds ect-bar lct) [ true ↦ responsibleOf tasks found | false ↦ responsible.Nothing ]
 
--- the task to consider next: none where ect_bar is not past lct
-unfoldable pub candidateIn : List ℕ → ℕ → ℕ → List ℕ → ℕ → Responsible
-candidateIn words inner height tasks lct = elim (exceeds (ectBarIn words) lct) [
-  | true ↦ responsibleOf tasks (searchEct (leavesOf inner (nodeAt words)) height 0)
-  | false ↦ responsible.Nothing
-]
+-- the answer of `candidate`
+abbrev pub Proposes : ℕ → ℕ → List ℕ → List ℕ → ℕ → Responsible → Type 0
+Proposes inn height words tasks lct r = (h : Held inn words) → Tall h height → r ≡ candidateOf tasks lct (leaves.ect-bar (h .J) (h .estOrder) (h .leaves)) (leaves.responsible (h .J) (h .estOrder) (h .leaves))
+
+-- a post's reason, by the tree and the arrays
+abbrev pub reasonOf : {inn : ℕ} {words : List ℕ} → Held inn words → List ℕ → ℕ → List ℕ → List ℕ → ℕ → ℕ → ℕ → List Atom
+reasonOf {inn} {words} h tasks n est dur i bound lct = propagation zeroAt (starting est dur) i bound lct (leaves.sum (h .J) (h .estOrder) (h .leaves)) (thetaIn words inn tasks n)
 
 -- A post: its four words and its reason's stand after those written so far. It changes no leaf.
-pub record Posted (ps as′ ps′ bs : List ℤ) (before after : Written) (i bound : ℕ) (reason : List ℤ) (many : ℕ) : Type 0 where
-  pub post-words : ps′ ≡ sets ps (4 * before .posts) (pos i ∷ instant zeroAt bound ∷ pos (before .atoms) ∷ pos many ∷ [])
-  pub atom-words : bs ≡ sets as′ (3 * before .atoms) reason
+pub record Posted (ps as′ ps′ bs : List ℤ) (before after : Written) (i bound : ℕ) (reason : List Atom) : Type 0 where
+  pub post-words : ps′ ≡ sets ps (4 * before .posts) (pos i ∷ instant zeroAt bound ∷ pos (before .atoms) ∷ pos (length reason) ∷ [])
+  pub atom-words : bs ≡ sets as′ (3 * before .atoms) (atomWords reason)
   pub posts : after .posts ≡ before .posts + 1
-  pub atoms : after .atoms ≡ before .atoms + many
+  pub atoms : after .atoms ≡ before .atoms + length reason
   pub changes : after .changes ≡ before .changes
 
 -- What stands at a level of a run: the tasks and orders, the arrays that hold them, and the state st that the definition goes through and that tree and slices are at.

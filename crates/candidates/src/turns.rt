@@ -8,19 +8,15 @@ use trees::disjunctive_task::LocalId;
 use trees::disjunctive_task::leaf_of;
 use trees::theta_lambda_tree::Responsible;
 use trees::theta_lambda_tree::ThetaLambdaTree;
-ghost use mathlib.Core.Path.{_≡_};
 ghost use Prim.Native.Nat.{ℕ, _+_, _*_, _≤_};
 ghost use lib.ListN.{length};
 ghost use Rattle.integers.specs.Limits.{TASKS, ATOMS, INNER};
-ghost use Rattle.integers.specs.Moments.{zeroAt};
 ghost use Rattle.ects.specs.Ects.{raisedTo};
-ghost use Rattle.trees.specs.Searches.{Searchable, thetaIn};
-ghost use Rattle.trees.specs.Words.{nodeAt, ectIn};
-ghost use Rattle.runs.specs.Runs.{propagation};
-ghost use Rattle.scheduling.specs.Words.{atomWords};
-ghost use Rattle.theta_walks.specs.Writing.{starting};
+ghost use Rattle.trees.specs.Leaves.{ect, sum};
+ghost use Rattle.trees.specs.Searching.{thetaIn};
+ghost use Rattle.trees.specs.Operations.{Held, Tall, Answers};
 ghost use Rattle.explanations.specs.Explanations.{Preceded};
-ghost use Rattle.candidates.specs.Turns.{sumIn, candidateIn, Posted, Standing, Considered, AllConsidered, Responsible-for};
+ghost use Rattle.candidates.specs.Turns.{Proposes, reasonOf, Posted, Standing, Considered, AllConsidered, Responsible-for};
 
 // The posts and the atoms written so far, and the leaf changes so far as the source makes them: it empties a leaf before it changes its colour.
 pub struct Written {
@@ -43,8 +39,8 @@ fn candidate<'a>(
     height: usize,
     lct: u32,
 ) -> Responsible
-    requires { ⌜ Searchable inner height (nodeAt (now nodes)) ⌝ }
-    ensures { λ r. ⌜ r ≡ candidateIn (now (nodes .entry)) inner height (now (tasks .entry)) lct ⌝ }
+    requires { ⌜ ((h : Held inner (now nodes)) × Tall h height) ⌝ }
+    ensures { λ r. ⌜ Proposes inner height (now (nodes .entry)) (now (tasks .entry)) lct r ⌝ }
 {
     let ect_bar = ThetaLambdaTree::ect_bar(nodes);
     if !ect_bar.exceeds(lct) {
@@ -68,11 +64,9 @@ fn post<'a>(
     bound: u32,
     lct: u32,
 ) -> Written
-    requires { ⌜ (Preceded (length (now atoms)) (written .atoms) (thetaIn (now nodes) inner (now tasks) n) (now est) (now durations) (sumIn (now nodes)) lct i bound)
-        × (4 * written .posts + 4 ≤ length (now posts)) × (n ≤ TASKS) × (inner ≤ INNER) × (written .atoms ≤ ATOMS) ⌝ }
-    ensures { λ r. ⌜ Posted (now (posts .entry)) (now (atoms .entry)) (now (posts .exit)) (now (atoms .exit)) written r i bound
-        (atomWords (propagation zeroAt (starting (now (est .entry)) (now (durations .entry))) i bound lct (sumIn (now (nodes .entry))) (thetaIn (now (nodes .entry)) inner (now (tasks .entry)) n)))
-        (length (propagation zeroAt (starting (now (est .entry)) (now (durations .entry))) i bound lct (sumIn (now (nodes .entry))) (thetaIn (now (nodes .entry)) inner (now (tasks .entry)) n))) ⌝ }
+    requires { ⌜ ((h : Held inner (now nodes)) × (Preceded (length (now atoms)) (written .atoms) (thetaIn (now nodes) inner (now tasks) n) (now est) (now durations) (sum (h .J) (h .estOrder) (h .leaves)) lct i bound)
+        × (4 * written .posts + 4 ≤ length (now posts)) × (n ≤ TASKS) × (inner ≤ INNER) × (written .atoms ≤ ATOMS)) ⌝ }
+    ensures { λ r. ⌜ ((h : Held inner (now (nodes .entry))) → Posted (now (posts .entry)) (now (atoms .entry)) (now (posts .exit)) (now (atoms .exit)) written r i bound (reasonOf h (now (tasks .entry)) n (now (est .entry)) (now (durations .entry)) i bound lct)) ⌝ }
 {
     let p = ThetaLambdaTree::sum_of_processing_times(nodes);
     let at = written.atoms;
@@ -100,7 +94,7 @@ fn post<'a>(
 
 // A task's earliest start, raised to the ect of Theta where that is later.
 fn raised_start(nodes: &[u32; TREEWORDS], start: u32) -> u32
-    ensures { λ r. ⌜ r ≡ raisedTo start (ectIn (now (nodes .entry))) ⌝ }
+    ensures { λ r. ⌜ Answers (λ J estOrder ls. raisedTo start (ect J estOrder ls)) (now (nodes .entry)) r ⌝ }
 {
     let ect = ThetaLambdaTree::ect(nodes);
     ect.raised(start)

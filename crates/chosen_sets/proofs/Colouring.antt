@@ -18,7 +18,8 @@ use Rattle.scheduling.specs.Scheduling.{natural, Tasks, TaskSet, total}
 use Rattle.sorts.specs.Orders.{SortedBy, byKey}
 use Rattle.sorts.proofs.Sorted.{sorted-as}
 use Rattle.trees.specs.declared.theta_tree.ThetaTree.{ThetaTree}
-use Rattle.trees.specs.Leaves.{Leaf, empty, white, Limited, IsPlainTree}
+use Rattle.trees.specs.Leaves.{Leaf, empty, white}
+use Rattle.trees.specs.Trees.{Limited, IsPlainTree}
 use Rattle.trees.specs.Mappings.{PlainNew}
 use Rattle.nodes.specs.Nodes.{plainOf}
 use Rattle.trees.specs.Shapes.{width, heightFor}

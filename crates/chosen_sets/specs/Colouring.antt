@@ -5,7 +5,8 @@ use mathlib.Core.List.{List}
 use Prim.Native.Nat.{ℕ, _+_, _<_}
 use lib.ListN.{getD, replicate}
 use Rattle.scheduling.specs.Scheduling.{natural, Tasks, TaskSet}
-use Rattle.trees.specs.Leaves.{empty, IsPlainTree}
+use Rattle.trees.specs.Leaves.{empty}
+use Rattle.trees.specs.Trees.{IsPlainTree}
 use Rattle.nodes.specs.Nodes.{plainOf}
 use Rattle.trees.specs.Puts.{PlainPuttable, PlainPut}
 use Rattle.chosen_sets.specs.ChosenSets.{order, colours}

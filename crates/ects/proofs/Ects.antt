@@ -9,7 +9,7 @@ use native.Mathlib.Omega.{arith}
 use native.Mathlib.Decide.{decLe}
 use lib.Dec.{ltb}
 use borrow.Author.Tests.{ltb-true, ltb-false, lt-ltb, le-ltb}
-use Rattle.integers.proofs.Bools.{clash}
+use Rattle.integers.proofs.Bools.{bool, clash}
 use Rattle.ects.specs.Ects.{decoded, exceeds, raisedTo}
 
 -- The coding -------------------------------------------------------------------------------------------------------------------
@@ -22,11 +22,6 @@ pub decoded-some : (v : ℕ) → 1 ≤ v → decoded v ≡ some v
 unfolding decoded
 decoded-some zero q = absurd (omega arith)
 decoded-some (suc v) q = refl
-
-pub decoded-cases : (v : ℕ) → (decoded v ≡ none) ⊎ (decoded v ≡ some v)
-unfolding decoded
-decoded-cases zero = inl refl
-decoded-cases (suc v) = inr refl
 
 -- a word is past the same moments as the ect that it codes
 pub exceeds-decoded : (v m : ℕ) → exceeds (decoded v) m ≡ ltb m v
@@ -51,6 +46,12 @@ some-or-none z y = clash (ap isSome (sym y ∙ z)) refl
 pub one-moment : {o : Option ℕ} {v w : ℕ} → o ≡ some v → o ≡ some w → v ≡ w
 one-moment {v = v} z y = ap (theMoment v) (sym z ∙ y)
 
+-- the word of a moment is the moment
+pub decoded-word : (w v : ℕ) → decoded w ≡ some v → w ≡ v
+unfolding decoded
+decoded-word zero v z = some-or-none z refl
+decoded-word (suc w) v z = one-moment refl z
+
 -- an ect past a moment is that of some task
 pub exceeds-yes : (o : Option ℕ) (m : ℕ) → exceeds o m ≡ true → (v : ℕ) × (o ≡ some v) × (m < v)
 exceeds-yes none m y = clash y refl
@@ -59,8 +60,16 @@ exceeds-yes (some v) m y = (v, refl, ltb-true m v y)
 pub some-exceeds : (o : Option ℕ) (v m : ℕ) → o ≡ some v → m < v → exceeds o m ≡ true
 some-exceeds o v m z q = rw z (lt-ltb m v q)
 
+pub some-past : (o : Option ℕ) (v m : ℕ) → o ≡ some v → exceeds o m ≡ true → m < v
+some-past o v m z y = ltb-true m v (ap (λ (u : Option ℕ). exceeds u m) (sym z) ∙ y)
+
 pub some-within : (o : Option ℕ) (v m : ℕ) → o ≡ some v → exceeds o m ≡ false → v ≤ m
 some-within o v m z y = elim (decLe v m) [ yes q ↦ q | no q ↦ clash (some-exceeds o v m z (omega arith)) y ]
+
+-- past a moment or not, and which it is where it is
+pub past-or-not : (o : Option ℕ) (m : ℕ) → (exceeds o m ≡ false) ⊎ ((v : ℕ) × (o ≡ some v) × (ltb m v ≡ true))
+past-or-not none m = inl refl
+past-or-not (some v) m = elim (bool (ltb m v)) [ inl y ↦ inr (v, refl, y) | inr y ↦ inl y ]
 
 -- Raising a start --------------------------------------------------------------------------------------------------------------
 
@@ -88,13 +97,7 @@ pub within-bound : (start m : ℕ) (o : Option ℕ) → raisedTo start o ≤ m �
 within-bound start m none r = refl
 within-bound start m (some v) r = le-ltb m v (omega arith)
 
--- by the ect that a word codes
-pub raised-word : (start w b : ℕ) → b ≡ raisedTo start (decoded w) → start < b → b ≡ w
-unfolding decoded
-raised-word start zero b z q = absurd (omega arith)
-raised-word start (suc w) b z q = omega arith
-
-pub kept-word : (start w b : ℕ) → b ≡ raisedTo start (decoded w) → b ≤ start → w ≤ start
-unfolding decoded
-kept-word start zero b z q = omega arith
-kept-word start (suc w) b z q = omega arith
+-- raised at all, it is the ect
+pub raised-some : (start b : ℕ) (o : Option ℕ) → b ≡ raisedTo start o → start < b → o ≡ some b
+raised-some start b none z q = absurd (omega arith)
+raised-some start b (some v) z q = let w : v ≡ b = omega arith in ap some w

@@ -6,7 +6,7 @@ ghost use Prim.Native.Nat.{_≤_};
 ghost use lib.ListN.{length};
 ghost use Rattle.integers.specs.Moments.{zeroAt};
 ghost use Rattle.integers.specs.Limits.{TASKS, INNER};
-ghost use Rattle.trees.specs.Searches.{thetaIn};
+ghost use Rattle.trees.specs.Searching.{thetaIn};
 ghost use Rattle.runs.specs.Runs.{conflict, bounds, propagation};
 ghost use Rattle.theta_walks.specs.Walks.{Attains, thetaBetween, Walk};
 ghost use Rattle.theta_walks.specs.Writing.{starting, Writable, Stored};

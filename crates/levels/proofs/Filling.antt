@@ -1,6 +1,6 @@
 -- The leaves become white, one after the other, and then the inner nodes are built.
 -- Assumes nothing.
-use mathlib.Core.Path.{_≡_, refl, sym, subst, _∙_}
+use mathlib.Core.Path.{_≡_, sym, ap, subst, _∙_}
 use mathlib.Core.List.{List}
 use Prim.Native.Nat.{ℕ, _+_, _<_}
 use native.Mathlib.Omega.{arith}
@@ -9,11 +9,11 @@ use lib.Seq.{ext-getD}
 use Rattle.integers.specs.Limits.{TASKS}
 use Rattle.integers.specs.Filling.{filled}
 use Rattle.integers.proofs.Filling.{filled-none, filled-more, filled-length, filled-at}
-use Rattle.nodes.specs.declared.theta_lambda_node.Node.{Node}
-use Rattle.trees.specs.Leaves.{Leaf, empty, white, IsTree, HasLeaves}
-use Rattle.nodes.specs.Nodes.{whiteOf}
-use Rattle.trees.specs.Puts.{Layable, Laid, Rebuildable, Rebuilt}
-use Rattle.trees.proofs.Rebuilding.{tree-leaves, may-lay, was-laid, may-rebuild, was-rebuilt}
+use Rattle.trees.specs.Leaves.{Leaf, empty, white}
+use Rattle.trees.specs.Trees.{IsTree, HasLeaves}
+use Rattle.trees.specs.declared.disjunctive_task.DisjunctiveTask.{DisjunctiveTask}
+use Rattle.trees.specs.Operations.{HeldLeaves, HasPlace, Whitened}
+use Rattle.trees.proofs.Rebuilding.{tree-leaves}
 use Rattle.levels.specs.Filling.{Fillable}
 
 module _ {inner n : ℕ} {words tasks est dur : List ℕ} (f : Fillable inner n words tasks est dur) where
@@ -31,30 +31,24 @@ module _ {inner n : ℕ} {words tasks est dur : List ℕ} (f : Fillable inner n 
     pub task-known : t < TASKS
     task-known = omega (arith, f .task x q, f .known x q)
 
-    abbrev node : Node
-    node = whiteOf (getD est t 0 + getD dur t 0) (getD dur t 0)
+    -- the task that the mapping gives has its place there
+    pub placed : {i : ℕ} → i ≡ getD tasks x 0 → {task : DisjunctiveTask} → task .«start_time» ≡ getD est i 0 → task .«processing_time» ≡ getD dur i 0 → HasPlace (f .J) (f .estOrder) x task
+    placed e s d = record {
+      inside = omega (arith, f .count);
+      start = s ∙ ap (λ (k : ℕ). getD est k 0) (e ∙ f .task x q) ∙ f .start x q;
+      lasts = d ∙ ap (λ (k : ℕ). getD dur k 0) (e ∙ f .task x q) ∙ f .lasts x q;
+    }
 
-    node-is : node ≡ whiteOf (f .J .earliest (getD (f .estOrder) x 0) + f .J .duration (getD (f .estOrder) x 0)) (f .J .duration (getD (f .estOrder) x 0))
-    node-is = rw (f .task x q, f .start x q, f .lasts x q) refl
+  -- the words with the first x leaves white
+  abbrev pub shown : (x : ℕ) {now : List ℕ} → HasLeaves (f .J) (f .estOrder) (upTo x) inner now → HeldLeaves inner now
+  shown x i = record { J = f .J; estOrder = f .estOrder; leaves = upTo x; limited = f .limited; has = i }
 
-    inside : x < f .J .count
-    inside = omega (arith, f .count)
+  pub one-white : (x : ℕ) {now now′ : List ℕ} (i : HasLeaves (f .J) (f .estOrder) (upTo x) inner now) → Whitened (shown x i) x now′ → HasLeaves (f .J) (f .estOrder) (upTo (x + 1)) inner now′
+  one-white x {now} {now′} i p = subst (λ (ls : List Leaf). HasLeaves (f .J) (f .estOrder) ls inner now′) (sym (filled-more (λ _. white) x (replicate (f .J .count) empty))) p
 
-    pub may-white : {now : List ℕ} → HasLeaves (f .J) (f .estOrder) (upTo x) inner now → Layable inner now x node
-    may-white i = may-lay (f .limited) i x inside white node-is
-
-    pub one-white : {now now′ : List ℕ} → HasLeaves (f .J) (f .estOrder) (upTo x) inner now → Laid inner now now′ x node → HasLeaves (f .J) (f .estOrder) (upTo (x + 1)) inner now′
-    one-white {now} {now′} i p = subst (λ (ls : List Leaf). HasLeaves (f .J) (f .estOrder) ls inner now′) (sym (filled-more (λ _. white) x (replicate (f .J .count) empty))) (was-laid (f .limited) i x inside white node-is p)
-
-  pub may-build : (x : ℕ) {now : List ℕ} → HasLeaves (f .J) (f .estOrder) (upTo x) inner now → Rebuildable inner now
-  may-build x i = may-rebuild (f .limited) i
-
-  pub all-white : (x : ℕ) → x ≡ n → {now now′ : List ℕ} → HasLeaves (f .J) (f .estOrder) (upTo x) inner now → Rebuilt inner now now′ → IsTree (f .J) (f .estOrder) (replicate (f .J .count) white) inner now′
-  all-white x z {now} {now′} i p = subst (λ (ls : List Leaf). IsTree (f .J) (f .estOrder) ls inner now′) is (was-rebuilt (f .limited) i p)
+  pub all-white : (x : ℕ) → x ≡ n → {now : List ℕ} → IsTree (f .J) (f .estOrder) (upTo x) inner now → IsTree (f .J) (f .estOrder) (replicate (f .J .count) white) inner now
+  all-white x z {now} t = subst (λ (ls : List Leaf). IsTree (f .J) (f .estOrder) ls inner now) is t
     where
-      c : ℕ
-      c = f .J .count
-
       is : upTo x ≡ replicate (f .J .count) white
       is = ext-getD empty (upTo x) (replicate (f .J .count) white) (filled-length (λ _. white) x (replicate (f .J .count) empty) ∙ length-replicate (f .J .count) empty ∙ sym (length-replicate (f .J .count) white))
           (λ k q. let r : k < f .J .count = omega (arith, filled-length (λ _. white) x (replicate (f .J .count) empty), length-replicate (f .J .count) empty) in

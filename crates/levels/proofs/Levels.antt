@@ -1,25 +1,24 @@
 -- The outer loop: what it has got to at a level, and how it goes on or ends from there.
 -- Assumes nothing.
 use mathlib.Core.Path.{_≡_, refl, sym, ap, subst, _∙_}
-use mathlib.Core.Bool.{false}
+use mathlib.Core.Bool.{Bool, true, false}
+use mathlib.Core.Option.{Option}
 use mathlib.Core.List.{List, [], _++_, append-nil}
 use Prim.Native.Nat.{ℕ, suc, _+_, _*_, _-_, _≤_, _<_}
 use native.Mathlib.Omega.{arith}
-use lib.Dec.{ltb}
 use lib.IntN.{ℤ}
 use lib.ListN.{length, getD, set}
 use lib.Seq.{sets}
-use borrow.Author.Tests.{lt-ltb, le-ltb}
 use Rattle.integers.specs.Limits.{TASKS, INNER}
 use Rattle.integers.specs.Moments.{zeroAt}
 use Rattle.integers.specs.Orders.{index}
 use Rattle.scheduling.specs.Scheduling.{natural, Tasks, Atom, completion}
 use Rattle.ects.specs.Ects.{exceeds}
-use Rattle.ects.proofs.Ects.{exceeds-decoded}
 use Rattle.trees.specs.Leaves as leaves
 use Rattle.trees.specs.Leaves.{gray}
-use Rattle.trees.specs.Searches.{thetaIn}
-use Rattle.trees.specs.Words.{nodeAt}
+use Rattle.trees.specs.Searching.{thetaIn}
+use Rattle.trees.specs.Trees.{IsTree}
+use Rattle.trees.specs.Operations.{Held}
 use Rattle.runs.specs.Traces.{Trace, End, done, overload, emptied}
 use Rattle.runs.specs.Runs.{State, Turn, conflict, inner, outer, run, ended, grayed, allWhite}
 use Rattle.scheduling.specs.Words.{atomWords}
@@ -32,12 +31,12 @@ use Rattle.candidates.specs.declared.turns.Turn as code
 use Rattle.candidates.specs.declared.turns.Turn.the-variants as turn
 use Rattle.candidates.specs.declared.turns.Written.{Written}
 use Rattle.candidates.specs.RunArrays.{Ordered, At}
-use Rattle.candidates.specs.Turns.{sumIn, Standing, AllConsidered}
+use Rattle.candidates.specs.Turns.{Standing, AllConsidered}
 use Rattle.candidates.proofs.Considering as considering
 use Rattle.levels.specs.declared.outcome.Outcome.{Outcome}
 use Rattle.levels.specs.declared.outcome.Outcome.the-variants as outcome
 use Rattle.levels.specs.Moving.{Movable, Moved}
-use Rattle.levels.specs.Finding.{outcomeOf, conflictIn, Conflicted, Begun, Ended}
+use Rattle.levels.specs.Finding.{outcomeOf, conflictOf, Conflicted, Begun, Ended}
 use Rattle.levels.proofs.Moving as moving
 use Rattle.levels.proofs.Overloading as overloading
 
@@ -153,48 +152,53 @@ module _ {n inn height : ℕ} {words : List ℕ} {es ps as′ : List ℤ} {est l
       next : n - 1 - t ≡ suc (n - 1 - suc t)
       next = omega arith
 
-      abbrev ect : ℕ
-      ect = leaves.rootEct J estOrder (v .st .leaves)
+      -- the tree, and the ect of Theta
+      abbrev pub shown : Held inn words′
+      shown = considering.shown here
+
+      abbrev pub ect : Option ℕ
+      ect = leaves.ect J estOrder (v .st .leaves)
 
       abbrev end : ℕ
       end = completion J (getD lctOrder t 0)
 
-      pub ect-is : nodeAt words′ 0 .ect ≡ ect
-      ect-is = considering.ect-is here
+      -- past the level's lct or not, by the array
+      past-end : {u : Bool} → exceeds ect c ≡ u → exceeds ect end ≡ u
+      past-end q = ap (exceeds ect) (sym c-is) ∙ q
 
       pub few-changes : w′ .changes ≤ 4 * TASKS
       few-changes = considering.few-changes here
 
       -- the white tasks overload
-      pub over-asked : c < nodeAt words′ 0 .ect → Overloaded (length bs) (w′ .atoms) (thetaIn words′ inn tasks n) est dur (sumIn words′) c
-      over-asked q = overloading.over-asked here (omega (arith, q, ect-is))
+      pub over-asked : exceeds ect c ≡ true → Overloaded (length bs) (w′ .atoms) (thetaIn words′ inn tasks n) est dur (leaves.sum J estOrder (v .st .leaves)) c
+      over-asked = overloading.over-asked here
 
       pub over-inner : inn ≤ INNER
       over-inner = considering.inner-few here
 
-      pub overloads : {r : Outcome} {bs′ : List ℤ} → c < nodeAt words′ 0 .ect → Conflicted bs bs′ w′ r (conflictIn words′ inn tasks n est dur c) → Ended J estOrder lctOrder ps as′ r (w′ .changes) es′ ps′ bs′
+      pub overloads : {r : Outcome} {bs′ : List ℤ} → exceeds ect c ≡ true → Conflicted bs bs′ w′ r (conflictOf shown tasks n est dur c) → Ended J estOrder lctOrder ps as′ r (w′ .changes) es′ ps′ bs′
       overloads {r} {bs′} q k = subst (λ (r : Outcome). Ended J estOrder lctOrder ps as′ r (w′ .changes) es′ ps′ bs′) (sym answer) (ends (v .st) (overload reason) is (v .at) words-are)
         where
           reason : List Atom
           reason = conflict zeroAt J end (leaves.sum J estOrder (v .st .leaves)) (leaves.theta J estOrder (v .st .leaves))
 
-          reason-is : conflictIn words′ inn tasks n est dur c ≡ reason
+          reason-is : conflictOf shown tasks n est dur c ≡ reason
           reason-is = overloading.conflict-is here
 
           is : whole ≡ ended zeroAt J estOrder lctOrder (v .st) (overload reason)
-          is = v .rest ∙ ap (λ (f : ℕ). rest-of f t (v .st)) next ∙ outer-over zeroAt J estOrder lctOrder (n - 1 - suc t) t (v .st) (lt-ltb end ect (omega (arith, q, ect-is, c-is)))
+          is = v .rest ∙ ap (λ (f : ℕ). rest-of f t (v .st)) next ∙ outer-over zeroAt J estOrder lctOrder (n - 1 - suc t) t (v .st) (past-end q)
 
           answer : r ≡ outcomeOf (reasons (v .st .posts)) (length (v .st .posts)) (overload reason)
-          answer = k .answer ∙ rw (v .at .posted, v .at .explained, reason-is) refl
+          answer = k .answer ∙ ap (λ (l : List Atom). outcome.Overload (w′ .posts) (w′ .atoms) (length l)) reason-is ∙ rw (v .at .posted, v .at .explained) refl
 
           words-are : bs′ ≡ sets as′ 0 (atomWords (reasons (v .st .posts) ++ reason))
-          words-are = k .atom-words ∙ rw (v .at .atoms, v .at .explained, reason-is) (reason-stored as′ (reasons (v .st .posts)) reason)
+          words-are = k .atom-words ∙ ap (λ (l : List Atom). sets bs (3 * w′ .atoms) (atomWords l)) reason-is ∙ rw (v .at .atoms, v .at .explained) (reason-stored as′ (reasons (v .st .posts)) reason)
 
       -- they do not: the task of the level goes to Lambda
       abbrev pub moves : Movable inn words′ mapping est dur j
       moves = moving.movable here j j-is
 
-      module _ (quiet : nodeAt words′ 0 .ect ≤ c) {words″ : List ℕ} (m : Moved inn words′ words″ mapping est dur j) where
+      module _ (quiet : exceeds ect c ≡ false) {words″ : List ℕ} (m : Moved inn words′ words″ mapping est dur j) where
         -- the lct of the next level
         abbrev pub d : ℕ
         d = getD lct (getD candidates (t + 1) 0) 0
@@ -206,14 +210,8 @@ module _ {n inn height : ℕ} {words : List ℕ} {es ps as′ : List ℤ} {est l
         ends-d = let one : t + 1 ≡ suc t = omega arith in let k-small : getD lctOrder (suc t) 0 < n = omega (arith, G .by-completion .task (suc t) (omega (arith, more, s .arrays .count)), s .arrays .count) in
             ap (λ (u : ℕ). getD lct (getD candidates u 0) 0) one ∙ ap (λ (k : ℕ). getD lct k 0) (s .order .at (suc t) (omega arith)) ∙ s .completions .at (getD lctOrder (suc t) 0) k-small
 
-        pub quiet-here : leaves.rootEct J estOrder (v .st .leaves) ≤ end
-        quiet-here = omega (arith, quiet, ect-is, c-is)
-
-        pub not-over : ltb end ect ≡ false
-        not-over = le-ltb end ect quiet-here
-
-        pub still : exceeds (leaves.ect J estOrder (v .st .leaves)) end ≡ false
-        still = exceeds-decoded ect end ∙ not-over
+        pub still : exceeds ect end ≡ false
+        still = past-end quiet
 
         -- which the source makes in two leaf changes
         abbrev pub goes-on : Standing n inn height d words″ es′ ps′ bs (record { posts = w′ .posts; atoms = w′ .atoms; changes = w′ .changes + 2 }) est lst dur tasks mapping
@@ -233,7 +231,7 @@ module _ {n inn height : ℕ} {words : List ℕ} {es ps as′ : List ℤ} {est l
           post-room = s .post-room;
           atom-room = s .atom-room;
           reached = moved t (v .st) (v .entered) still;
-          at = record { tree = subst (λ (k : ℕ). leaves.IsTree J estOrder (set (v .st .leaves) k gray) inn words″) (moving.gray-place here j j-is) (m moves); starts = v .at .starts; posts = v .at .posts; atoms = v .at .atoms; posted = v .at .posted; explained = v .at .explained; counted = ap (λ (c : ℕ). c + 2) (v .at .counted) };
+          at = record { tree = subst (λ (k : ℕ). IsTree J estOrder (set (v .st .leaves) k gray) inn words″) (moving.gray-place here j j-is) (m moves); starts = v .at .starts; posts = v .at .posts; atoms = v .at .atoms; posted = v .at .posted; explained = v .at .explained; counted = ap (λ (c : ℕ). c + 2) (v .at .counted) };
         }
 
         unfold-level : whole ≡ rest-of (suc (n - 1 - suc t)) t (v .st)
@@ -252,12 +250,12 @@ module _ {n inn height : ℕ} {words : List ℕ} {es ps as′ : List ℤ} {est l
               small = omega arith;
               at = a;
               entered = follows t (v .st) st′ (v .entered) still (inner-is z);
-              rest = unfold-level ∙ outer-on zeroAt J estOrder lctOrder (n - 1 - suc t) t (v .st) st′ not-over (inner-is z);
+              rest = unfold-level ∙ outer-on zeroAt J estOrder lctOrder (n - 1 - suc t) t (v .st) st′ still (inner-is z);
             })
 
         -- or a post emptied a range
         pub one-emptied : (words‴ : List ℕ) {es″ ps″ bs′ : List ℤ} {w″ : Written} {u : code.Turn} → u ≡ turn.Emptied w″ → AllConsidered goes-on u words‴ es″ ps″ bs′ → Ended J estOrder lctOrder ps as′ (outcome.Emptied (w″ .posts)) (w″ .changes) es″ ps″ bs′
         one-emptied words‴ {es″} {ps″} {bs′} {w″} is all =
             let (st′, a, z) = rw is at all in
-            let stops : whole ≡ ended zeroAt J estOrder lctOrder st′ emptied = unfold-level ∙ outer-stop zeroAt J estOrder lctOrder (n - 1 - suc t) t (v .st) st′ not-over (inner-is z) in
+            let stops : whole ≡ ended zeroAt J estOrder lctOrder st′ emptied = unfold-level ∙ outer-stop zeroAt J estOrder lctOrder (n - 1 - suc t) t (v .st) st′ still (inner-is z) in
             subst (λ (k : ℕ). Ended J estOrder lctOrder ps as′ (outcome.Emptied k) (w″ .changes) es″ ps″ bs′) (sym (a .posted)) (ends st′ emptied stops a (no-more st′ emptied stops a refl))

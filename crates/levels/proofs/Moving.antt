@@ -1,37 +1,31 @@
 -- A white leaf becomes gray; that of a level's task may.
 -- Assumes nothing.
-use mathlib.Core.Path.{_≡_, refl, ap, _∙_}
+use mathlib.Core.Path.{_≡_, sym, ap, subst, _∙_}
 use mathlib.Core.List.{List}
-use Prim.Native.Nat.{ℕ, _+_, _<_}
+use Prim.Native.Nat.{ℕ, _<_}
 use native.Mathlib.Omega.{arith}
 use lib.IntN.{ℤ}
-use lib.ListN.{getD, set}
+use lib.ListN.{getD}
 use Rattle.integers.specs.Orders.{index}
-use Rattle.nodes.specs.declared.theta_lambda_node.Node.{Node}
-use Rattle.trees.specs.Leaves.{gray, IsTree}
-use Rattle.nodes.specs.Nodes.{grayOf}
-use Rattle.trees.specs.Puts.{Puttable, Put}
-use Rattle.trees.proofs.Trees.{may-put, was-put}
+use Rattle.trees.specs.Leaves.{gray}
+use Rattle.trees.specs.declared.disjunctive_task.DisjunctiveTask.{DisjunctiveTask}
+use Rattle.trees.specs.Operations.{Held, HasPlace, Coloured}
 use Rattle.candidates.specs.declared.turns.Written.{Written}
 use Rattle.candidates.specs.Turns.{Standing}
 use Rattle.candidates.proofs.Considering.{few}
 use Rattle.levels.specs.Moving.{Movable}
 
 module _ {inner : ℕ} {words mapping est dur : List ℕ} {j : ℕ} (m : Movable inner words mapping est dur j) where
-  abbrev x : ℕ
-  x = getD mapping j 0
+  abbrev pub shown : Held inner words
+  shown = record { J = m .J; estOrder = m .estOrder; leaves = m .leaves; limited = m .limited; tree = m .tree }
 
-  abbrev node : Node
-  node = grayOf (getD est j 0 + getD dur j 0) (getD dur j 0)
+  -- the task has its place there
+  pub placed : {k : ℕ} → k ≡ getD mapping j 0 → {task : DisjunctiveTask} → task .«start_time» ≡ getD est j 0 → task .«processing_time» ≡ getD dur j 0 → HasPlace (m .J) (m .estOrder) k task
+  placed {k} e {task} s d = subst (λ (k : ℕ). HasPlace (m .J) (m .estOrder) k task) (sym e)
+      (record { inside = m .inside; start = s ∙ m .start ∙ ap (m .J .earliest) (sym (m .task)); lasts = d ∙ m .lasts ∙ ap (m .J .duration) (sym (m .task)) })
 
-  node-is : node ≡ grayOf (m .J .earliest (getD (m .estOrder) x 0) + m .J .duration (getD (m .estOrder) x 0)) (m .J .duration (getD (m .estOrder) x 0))
-  node-is = rw (m .start, m .lasts, m .task) refl
-
-  pub may-gray : Puttable inner words x node
-  may-gray = may-put (m .limited) (m .tree) x (m .inside) gray node-is
-
-  pub moved : {words′ : List ℕ} → Put inner words words′ x node → IsTree (m .J) (m .estOrder) (set (m .leaves) x gray) inner words′
-  moved q = was-put (m .limited) (m .tree) x (m .inside) gray node-is q
+  pub moved : {k : ℕ} → k ≡ getD mapping j 0 → {words′ : List ℕ} → Coloured gray shown k words′ → Coloured gray shown (getD mapping j 0) words′
+  moved e {words′} q = subst (λ (k : ℕ). Coloured gray shown k words′) e q
 
 -- the task of the level may leave Theta
 module _ {n inn height lct : ℕ} {words : List ℕ} {es ps as′ : List ℤ} {w : Written} {est lst dur tasks mapping : List ℕ} (s : Standing n inn height lct words es ps as′ w est lst dur tasks mapping) (j : ℕ) (z : j ≡ getD (s .lctOrder) (s .level) 0) where

@@ -1,8 +1,9 @@
 -- An overload at a level: what its reason asks holds there, the reason is the definition's, and its words are then those of the outcome.
 -- Assumes nothing.
 use mathlib.Core.Path.{_≡_, sym, ap, _∙_}
+use mathlib.Core.Bool.{true}
 use mathlib.Core.List.{List}
-use Prim.Native.Nat.{ℕ, suc, _+_, _-_, _*_, _≤_, _<_}
+use Prim.Native.Nat.{ℕ, suc, _+_, _-_, _*_, _≤_}
 use native.Mathlib.Nat.{mul-le-mul-right, mul-left-comm}
 use native.Mathlib.Omega.{arith}
 use lib.IntN.{ℤ}
@@ -10,9 +11,10 @@ use lib.ListN.{length, getD}
 use lib.Seq.{sets}
 use Rattle.integers.specs.Moments.{zeroAt}
 use Rattle.scheduling.specs.Scheduling.{natural, Tasks, Atom, completion}
+use Rattle.ects.specs.Ects.{exceeds}
 use Rattle.trees.specs.Leaves as leaves
 use Rattle.trees.specs.Leaves.{Leaf}
-use Rattle.trees.specs.Searches.{thetaIn}
+use Rattle.trees.specs.Searching.{thetaIn}
 use Rattle.runs.specs.Runs.{conflict}
 use Rattle.scheduling.specs.Words.{atomWords}
 use Rattle.runs.proofs.Room as room
@@ -21,20 +23,20 @@ use Rattle.explanations.specs.Explanations.{Overloaded}
 use Rattle.explanations.proofs.Explaining.{conflict-same}
 use Rattle.candidates.specs.declared.turns.Written.{Written}
 use Rattle.candidates.specs.RunArrays.{Ordered}
-use Rattle.candidates.specs.Turns.{sumIn, Standing}
+use Rattle.candidates.specs.Turns.{Standing}
 use Rattle.candidates.proofs.Considering as considering
-use Rattle.candidates.proofs.Considering.{theta-is, sum-is, held}
+use Rattle.candidates.proofs.Considering.{theta-is, held}
 use Rattle.candidates.proofs.Meeting as meeting
 use Rattle.candidates.proofs.Posting.{long}
 use Rattle.levels.specs.declared.outcome.Outcome.the-variants as outcome
-use Rattle.levels.specs.Finding.{Conflicted}
+use Rattle.levels.specs.Finding.{conflictOf, Conflicted}
 
 -- what is asked of, and said by, an explanation, with other names for the same values
-overloaded-at : {size k : ℕ} {est dur θ θ′ : List ℕ} {p p′ c c′ : ℕ} → θ ≡ θ′ → p ≡ p′ → c ≡ c′ → Overloaded size k θ′ est dur p′ c′ → Overloaded size k θ est dur p c
-overloaded-at a e f m = rw (a, e, f) m
+overloaded-at : {size k : ℕ} {est dur θ θ′ : List ℕ} {p c c′ : ℕ} → θ ≡ θ′ → c ≡ c′ → Overloaded size k θ′ est dur p c′ → Overloaded size k θ est dur p c
+overloaded-at a e m = rw (a, e) m
 
-conflict-at : (K : Tasks natural) {θ θ′ : List ℕ} {p p′ c c′ : ℕ} → θ ≡ θ′ → p ≡ p′ → c ≡ c′ → conflict zeroAt K c p θ ≡ conflict zeroAt K c′ p′ θ′
-conflict-at K a e f = rw (a, e, f)
+conflict-at : (K : Tasks natural) (p : ℕ) {θ θ′ : List ℕ} {c c′ : ℕ} → θ ≡ θ′ → c ≡ c′ → conflict zeroAt K c p θ ≡ conflict zeroAt K c′ p θ′
+conflict-at K p a e = rw (a, e)
 
 module _ {n inn height lct : ℕ} {words : List ℕ} {es ps as′ : List ℤ} {w : Written} {est lst dur tasks mapping : List ℕ} (s : Standing n inn height lct words es ps as′ w est lst dur tasks mapping) where
   abbrev J : Tasks natural
@@ -71,12 +73,12 @@ module _ {n inn height lct : ℕ} {words : List ℕ} {es ps as′ : List ℤ} {w
     mul-le-mul-right {m = suc (length (s .st .posts))} {n = n} (2 * n) (omega (arith, posts-few, s .small, s .arrays .count)),
   )
 
-  pub over-asked : lct < leaves.rootEct J estOrder ls → Overloaded (length as′) (w .atoms) (thetaIn words inn tasks n) est dur (sumIn words) lct
-  over-asked q = overloaded-at (theta-is s) (sum-is s) (s .ends)
-      (meeting.overloaded J estOrder lctOrder G est dur (held s (s .arrays .starts)) (held s (s .arrays .durations)) t ls (considering.Λ s) (considering.shape s) (s .small) (length as′) (w .atoms) (omega (arith, q, s .ends)) over-room)
+  pub over-asked : exceeds (leaves.ect J estOrder ls) lct ≡ true → Overloaded (length as′) (w .atoms) (thetaIn words inn tasks n) est dur (leaves.sum J estOrder ls) lct
+  over-asked q = overloaded-at (theta-is s) (s .ends)
+      (meeting.overloaded J estOrder lctOrder G est dur (held s (s .arrays .starts)) (held s (s .arrays .durations)) t ls (considering.Λ s) (considering.shape s) (s .small) (length as′) (w .atoms) (ap (exceeds (leaves.ect J estOrder ls)) (sym (s .ends)) ∙ q) over-room)
 
-  pub conflict-is : conflict zeroAt (starting est dur) lct (sumIn words) (thetaIn words inn tasks n) ≡ conflict zeroAt J (completion J (getD lctOrder t 0)) (leaves.sum J estOrder ls) (leaves.theta J estOrder ls)
-  conflict-is = conflict-at (starting est dur) (theta-is s) (sum-is s) (s .ends)
+  pub conflict-is : conflictOf (considering.shown s) tasks n est dur lct ≡ conflict zeroAt J (completion J (getD lctOrder t 0)) (leaves.sum J estOrder ls) (leaves.theta J estOrder ls)
+  conflict-is = conflict-at (starting est dur) (leaves.sum J estOrder ls) (theta-is s) (s .ends)
       ∙ conflict-same zeroAt (starting est dur) J (completion J (getD lctOrder t 0)) (leaves.sum J estOrder ls) (leaves.theta J estOrder ls)
       (λ y q. meeting.alike J estOrder lctOrder G est dur (held s (s .arrays .starts)) (held s (s .arrays .durations)) (getD (leaves.theta J estOrder ls) y 0)
       (meeting.each-listed J estOrder lctOrder G est dur (held s (s .arrays .starts)) (held s (s .arrays .durations)) t ls (considering.Λ s) (considering.shape s) (s .small) y q))

@@ -5,7 +5,8 @@ use Prim.Native.Nat.{ℕ, _≤_, _<_}
 use lib.ListN.{getD, replicate}
 use Rattle.integers.specs.Limits.{TASKS}
 use Rattle.scheduling.specs.Scheduling.{natural, Tasks}
-use Rattle.trees.specs.Leaves.{empty, white, Limited, IsTree}
+use Rattle.trees.specs.Leaves.{empty, white}
+use Rattle.trees.specs.Trees.{Limited, IsTree}
 
 -- The words hold a tree of empty leaves, and the arrays the tasks.
 pub record Fillable (inner n : ℕ) (words tasks est dur : List ℕ) : Type 0 where

@@ -1,13 +1,15 @@
 -- Edge finding as code: what stands when it begins, and what it leaves, by the run's definition.
 use mathlib.Core.Path.{_≡_}
 use mathlib.Core.List.{List, _++_}
-use Prim.Native.Nat.{ℕ, _+_, _*_, _≤_}
+use Prim.Native.Nat.{ℕ, _*_, _≤_}
 use lib.IntN.{ℤ}
 use lib.ListN.{length, getD}
 use lib.Seq.{sets}
 use Rattle.integers.specs.Moments.{zeroAt}
 use Rattle.scheduling.specs.Scheduling.{natural, Tasks, Atom, completion}
-use Rattle.trees.specs.Searches.{thetaIn}
+use Rattle.trees.specs.Leaves.{sum}
+use Rattle.trees.specs.Searching.{thetaIn}
+use Rattle.trees.specs.Operations.{Held}
 use Rattle.runs.specs.Traces.{End, done, overload, emptied}
 use Rattle.runs.specs.Runs.{conflict, run, allWhite}
 use Rattle.scheduling.specs.Words.{atomWords}
@@ -15,7 +17,6 @@ use Rattle.runs.specs.Words.{postWords, reasons, endReason}
 use Rattle.theta_walks.specs.Writing.{starting}
 use Rattle.candidates.specs.declared.turns.Written.{Written}
 use Rattle.candidates.specs.RunArrays.{Ordered, Holds, Arrays, At}
-use Rattle.candidates.specs.Turns.{sumIn}
 use Rattle.levels.specs.declared.outcome.Outcome.{Outcome}
 use Rattle.levels.specs.declared.outcome.Outcome.the-variants as outcome
 
@@ -25,10 +26,11 @@ outcomeOf before posts done = outcome.Done posts
 outcomeOf before posts (overload r) = outcome.Overload posts (length before) (length r)
 outcomeOf before posts emptied = outcome.Emptied posts
 
--- the reason of an overload, after the atoms written so far
-abbrev pub conflictIn : List ℕ → ℕ → List ℕ → ℕ → List ℕ → List ℕ → ℕ → List Atom
-conflictIn words inner tasks n est dur lct = conflict zeroAt (starting est dur) lct (sumIn words) (thetaIn words inner tasks n)
+-- the reason of an overload, by the tree and the arrays
+abbrev pub conflictOf : {inner : ℕ} {words : List ℕ} → Held inner words → List ℕ → ℕ → List ℕ → List ℕ → ℕ → List Atom
+conflictOf {inner} {words} h tasks n est dur lct = conflict zeroAt (starting est dur) lct (sum (h .J) (h .estOrder) (h .leaves)) (thetaIn words inner tasks n)
 
+-- it stands after the atoms written so far
 pub record Conflicted (as′ bs : List ℤ) (w : Written) (r : Outcome) (reason : List Atom) : Type 0 where
   pub atom-words : bs ≡ sets as′ (3 * w .atoms) (atomWords reason)
   pub answer : r ≡ outcome.Overload (w .posts) (w .atoms) (length reason)

@@ -5,7 +5,8 @@ use Prim.Native.Nat.{ℕ, _<_}
 use lib.ListN.{getD, set}
 use Rattle.integers.specs.Limits.{TASKS}
 use Rattle.scheduling.specs.Scheduling.{natural, Tasks}
-use Rattle.trees.specs.Leaves.{Leaf, gray, taskAt, Limited, IsTree}
+use Rattle.trees.specs.Leaves.{Leaf, gray, taskAt}
+use Rattle.trees.specs.Trees.{Limited, IsTree}
 
 -- The words hold a tree in which task j has its leaf.
 pub record Movable (inner : ℕ) (words mapping est dur : List ℕ) (j : ℕ) : Type 0 where

@@ -13,17 +13,16 @@ use trees::disjunctive_task::LocalId;
 use trees::disjunctive_task::leaf_of;
 use trees::disjunctive_task::task_of;
 use trees::theta_lambda_tree::ThetaLambdaTree;
-ghost use mathlib.Core.Path.{_≡_};
 ghost use Prim.Native.Nat.{_≤_};
 ghost use lib.ListN.{length};
 ghost use Rattle.integers.specs.Limits.{TASKS, INNER};
 ghost use Rattle.ects.specs.Ects.{exceeds};
-ghost use Rattle.trees.specs.Searches.{thetaIn};
-ghost use Rattle.trees.specs.Words.{ectIn};
+ghost use Rattle.trees.specs.Leaves.{ect, sum};
+ghost use Rattle.trees.specs.Searching.{thetaIn};
+ghost use Rattle.trees.specs.Operations.{Held, Answers};
 ghost use Rattle.explanations.specs.Explanations.{Overloaded};
-ghost use Rattle.candidates.specs.Turns.{sumIn};
 ghost use Rattle.levels.specs.Filling.{Fillable, Filled};
-ghost use Rattle.levels.specs.Finding.{Conflicted, conflictIn, Begun, Ended};
+ghost use Rattle.levels.specs.Finding.{Conflicted, conflictOf, Begun, Ended};
 ghost use Rattle.levels.specs.Moving.{Movable, Moved};
 
 // The reason of an overload, after the atoms written so far.
@@ -38,8 +37,8 @@ fn overload<'a>(
     n: usize,
     lct: u32,
 ) -> Outcome
-    requires { ⌜ (Overloaded (length (now atoms)) (written .atoms) (thetaIn (now nodes) inner (now tasks) n) (now est) (now durations) (sumIn (now nodes)) lct) × (n ≤ TASKS) × (inner ≤ INNER) ⌝ }
-    ensures { λ r. ⌜ Conflicted (now (atoms .entry)) (now (atoms .exit)) written r (conflictIn (now (nodes .entry)) inner (now (tasks .entry)) n (now (est .entry)) (now (durations .entry)) lct) ⌝ }
+    requires { ⌜ ((h : Held inner (now nodes)) × (Overloaded (length (now atoms)) (written .atoms) (thetaIn (now nodes) inner (now tasks) n) (now est) (now durations) (sum (h .J) (h .estOrder) (h .leaves)) lct) × (n ≤ TASKS) × (inner ≤ INNER)) ⌝ }
+    ensures { λ r. ⌜ ((h : Held inner (now (nodes .entry))) → Conflicted (now (atoms .entry)) (now (atoms .exit)) written r (conflictOf h (now (tasks .entry)) n (now (est .entry)) (now (durations .entry)) lct)) ⌝ }
 {
     let p = ThetaLambdaTree::sum_of_processing_times(nodes);
     let at = written.atoms;
@@ -85,7 +84,7 @@ fn move_to_lambda<'a>(
 
 // Whether Theta overloads: its ect is past the level's lct.
 fn overloads(nodes: &[u32; TREEWORDS], lct: u32) -> bool
-    ensures { λ r. ⌜ r ≡ exceeds (ectIn (now (nodes .entry))) lct ⌝ }
+    ensures { λ r. ⌜ Answers (λ J estOrder ls. exceeds (ect J estOrder ls) lct) (now (nodes .entry)) r ⌝ }
 {
     let ect = ThetaLambdaTree::ect(nodes);
     ect.exceeds(lct)

@@ -1,16 +1,13 @@
--- What a search for the responsible task does at one node, as in the source: the tests in their order, and the step by what is read there.
+-- What a search for the responsible task does at one node, as in the source: the tests in their order, and the child that it goes on in.
 use mathlib.Core.Bool.{Bool, true, false, _&&_, not}
 use Prim.Native.Nat.{ℕ, _+_}
 use lib.Dec.{eqb}
 use Rattle.nodes.specs.declared.theta_lambda_node.Node.{Node}
-use Rattle.nodes.specs.declared.theta_lambda_node.Around.{Around}
-use Rattle.nodes.specs.declared.theta_lambda_node.Around.the-variants as around
 use Rattle.nodes.specs.declared.theta_lambda_node.PDescent.{PDescent}
-use Rattle.nodes.specs.declared.theta_lambda_node.PDescent.the-variants.{Left, Right, Here, Nothing}
+use Rattle.nodes.specs.declared.theta_lambda_node.PDescent.the-variants.{Left, Right, Nothing}
 use Rattle.nodes.specs.declared.theta_lambda_node.EctBarDescent.the-variants as bar
 use Rattle.nodes.specs.declared.theta_lambda_node.EctBarDescent.{EctBarDescent}
 use Rattle.nodes.specs.Nodes.{isEmpty}
-use Rattle.nodes.specs.Bounds.{size, Fair, Fits}
 
 -- a gray leaf: with the gray task it has an ect, without it none
 unfoldable pub gray : Node → Bool
@@ -40,17 +37,3 @@ descentEct n l r =
             [ true ↦ bar.Left | false ↦ bar.Nothing ]
       ]
     ]
-
--- the children's numbers can be added
-abbrev pub AroundFits : Around → Type 0
-AroundFits (around.Leaf n) = Unit {0}
-AroundFits (around.Inner n l r) = Fits size Fair l × Fits size Fair r
-
--- the step from there
-abbrev pub stepAtP : Around → PDescent
-stepAtP (around.Leaf n) = elim (gray n) [ true ↦ Here | false ↦ Nothing ]
-stepAtP (around.Inner n l r) = descentP n l r
-
-abbrev pub stepAtEct : Around → EctBarDescent
-stepAtEct (around.Leaf n) = elim (gray n) [ true ↦ bar.Here | false ↦ bar.Nothing ]
-stepAtEct (around.Inner n l r) = descentEct n l r

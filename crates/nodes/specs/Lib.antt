@@ -1,3 +1,4 @@
 pub mod Nodes
 pub mod Bounds
 pub mod Descents
+pub mod Steps

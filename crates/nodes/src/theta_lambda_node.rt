@@ -3,7 +3,8 @@ use integers::max;
 ghost use mathlib.Core.Path.{_≡_};
 ghost use Rattle.nodes.specs.Nodes.{emptyOf, whiteOf, grayOf, joinOf, isEmpty};
 ghost use Rattle.nodes.specs.Bounds.{Fair, size, Fits};
-ghost use Rattle.nodes.specs.Descents.{gray, tested, descentP, descentEct, AroundFits, stepAtP, stepAtEct};
+ghost use Rattle.nodes.specs.Descents.{gray, tested, descentP, descentEct};
+ghost use Rattle.nodes.specs.Steps.{AroundFits, stepAtP, stepAtEct};
 
 // A node which keeps track of the ect and the sum of processing times of the tasks below it, and of both if a single gray task can be added.
 pub struct Node {

@@ -16,7 +16,8 @@ use Rattle.integers.specs.Orders.{index, numbers, sort}
 use Rattle.scheduling.specs.Scheduling.{natural, Tasks, TaskSet, completion}
 use Rattle.ects.specs.Ects.{exceeds}
 use Rattle.trees.specs.declared.theta_tree.ThetaTree.{ThetaTree}
-use Rattle.trees.specs.Leaves.{Leaf, white, IsPlainTree}
+use Rattle.trees.specs.Leaves.{Leaf, white}
+use Rattle.trees.specs.Trees.{IsPlainTree}
 use Rattle.trees.specs.Mappings.{PlainNew}
 use Rattle.nodes.specs.Nodes.{plainOf}
 use Rattle.trees.specs.Puts.{PlainPuttable, PlainPut}

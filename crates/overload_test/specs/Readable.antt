@@ -6,7 +6,7 @@ use Prim.Native.Nat.{ℕ, _<_}
 use lib.ListN.{getD}
 use Rattle.integers.specs.Orders.{index}
 use Rattle.scheduling.specs.Scheduling.{natural, Tasks, TaskSet, completion}
-use Rattle.trees.specs.Leaves.{IsPlainTree}
+use Rattle.trees.specs.Trees.{IsPlainTree}
 use Rattle.chosen_sets.specs.ChosenSets.{order, colours}
 use Rattle.chosen_sets.specs.TaskArrays.{Held}
 use Rattle.overload_test.specs.Reading.{byCompletion}

@@ -10,7 +10,7 @@ use lib.IntN.{ℤ, pos, negℤ}
 use lib.ListN.{length, getD, take, replicate, length-replicate}
 use lib.Seq.{getD-take, length-take-le}
 use lib.Signed.{_≤ℤ_}
-use Rattle.integers.specs.Limits.{TASKS, TREEWORDS, START, DURATIONS, MIRRORED}
+use Rattle.integers.specs.Limits.{TASKS, START, DURATIONS, MIRRORED}
 use Rattle.integers.specs.Filling.{filled}
 use Rattle.integers.specs.Moments.{instant, zeroAt, Above}
 use Rattle.integers.specs.Orders.{sort, index, numbers}
@@ -22,12 +22,12 @@ use Rattle.scheduling.proofs.Processing.{processing-less, processing-all}
 use Rattle.scheduling.proofs.Sets.{total-ext}
 use Rattle.scheduling.proofs.Transfer.{sound}
 use Rattle.scheduling.specs.Moments.{moments, ByEarliest}
-use Rattle.trees.specs.Leaves.{white, IsTree}
+use Rattle.trees.specs.Leaves.{white}
+use Rattle.trees.specs.Trees.{IsTree}
 use Rattle.trees.specs.Mappings.{Maps}
-use Rattle.trees.specs.Shapes.{width, heightFor, Sized}
-use Rattle.trees.proofs.Heights.{sized}
+use Rattle.trees.specs.Operations.{New}
+use Rattle.trees.specs.declared.theta_lambda_tree.ThetaLambdaTree.{ThetaLambdaTree}
 use Rattle.trees.proofs.Roots as tree
-use Rattle.trees.proofs.Trees.{new-tree}
 use Rattle.runs.specs.Traces.{Trace}
 use Rattle.runs.specs.Runs.{tabulate, byEarliest, byCompletion, earliestOrder, completionOrder, run, allWhite}
 use Rattle.runs.specs.Demand.{Right}
@@ -223,21 +223,18 @@ module _ (r : Propagator) (es ls : List ℤ) (posts atoms : ℕ) (a : Runnable r
       pub candidates-order : Holds n (λ t. getD lctOrder t 0) candidates
       candidates-order = holds-order candidates lctOrder (sorted-second lct completions g) (g .size)
 
-      -- the tree: sized for n tasks, every word 0, and the leaf of each task by the order
-      module _ {inner height : ℕ} {mapping words₀ : List ℕ} (sz : Sized n inner height) (m : Maps n tasks mapping) (z : words₀ ≡ replicate TREEWORDS 0) where
-        pub complete : inner + 1 ≡ width (heightFor (J .count))
-        complete = sized n inner height sz ∙ ap (λ (m : ℕ). width (heightFor m)) (sym count)
-
+      -- the new tree, and the leaf of each task by the order
+      module _ {made : ThetaLambdaTree} {mapping : List ℕ} (t : New n made) (m : Maps n tasks mapping) where
         pub places : (x : ℕ) → x < n → getD mapping x 0 ≡ index estOrder x
         places x q = m .leaf x q ∙ ap (λ (o : List ℕ). index o x) front
 
-        abbrev pub fillable : Fillable inner n words₀ tasks est (r .durations)
+        abbrev pub fillable : Fillable (made .«number_of_internal_nodes») n (made .nodes) tasks est (r .durations)
         fillable = record {
           J = J;
           estOrder = estOrder;
           limited = ordered .limited;
           count = count;
-          tree = new-tree J estOrder inner words₀ z complete;
+          tree = t .empties J estOrder count;
           few = few;
           task = order .at;
           known = λ x q. omega (arith, few, count, by-earliest .task x (omega (arith, count)));
@@ -245,20 +242,20 @@ module _ (r : Propagator) (es ls : List ℤ) (posts atoms : ℕ) (a : Runnable r
           lasts = λ x q. holds-durations .at (getD estOrder x 0) (omega (arith, count, by-earliest .task x (omega (arith, count))));
         }
 
-        abbrev pub begun : {words : List ℕ} {ps as′ : List ℤ} → IsTree J estOrder (replicate (J .count) white) inner words → posts ≡ length ps → atoms ≡ length as′
-            → Begun n inner height words es ps as′ est lst lct (r .durations) tasks candidates mapping
-        begun {words} {ps} {as′} t p q = record {
+        abbrev pub begun : {words : List ℕ} {ps as′ : List ℤ} → IsTree J estOrder (replicate (J .count) white) (made .«number_of_internal_nodes») words → posts ≡ length ps → atoms ≡ length as′
+            → Begun n (made .«number_of_internal_nodes») (made .height) words es ps as′ est lst lct (r .durations) tasks candidates mapping
+        begun {words} {ps} {as′} full p q = record {
           J = J;
           estOrder = estOrder;
           lctOrder = lctOrder;
           ordered = ordered;
-          arrays = record { count = count; starts = starts; durations = holds-durations; tasks = order; places = places; tall = sz .least };
+          arrays = record { count = count; starts = starts; durations = holds-durations; tasks = order; places = places; tall = t .size .least };
           latest = latest;
           completions = completions;
           order = candidates-order;
           post-room = omega (arith, p, a .words .posts);
           atom-room = omega (arith, q, a .words .atoms);
-          at = at-start inner words ps as′ t;
+          at = at-start (made .«number_of_internal_nodes») words ps as′ full;
         }
 
       -- and what a run leaves

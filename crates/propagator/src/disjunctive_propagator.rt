@@ -1,7 +1,6 @@
 // The disjunctive propagator: edge finding on one machine, with a reason for each post.
 use input_refusals::run_refusal;
 use integers::limits::TASKS;
-use integers::limits::TREEWORDS;
 use levels::outcome::Finished;
 use levels::outcome::Outcome;
 use levels::run_levels::edge_finding;
@@ -12,7 +11,6 @@ use sorts::orders::moments_of;
 use sorts::orders::sort_numbers;
 use sorts::orders::sort_numbers_down;
 use trees::complete_tree::leaf_places;
-use trees::complete_tree::size_for;
 use trees::theta_lambda_tree::ThetaLambdaTree;
 ghost use lib.ListN.{length};
 ghost use Rattle.propagator.specs.Ran.{Runnable, Left, Ran};
@@ -48,14 +46,9 @@ pub fn run_accepted(
     sort_numbers_down(&mut candidates, n, &lct);
     let mut mapping: [usize; TASKS] = [0; TASKS];
     leaf_places(&mut mapping, &tasks, n);
-    let size = size_for(n);
-    let inner = size.number_of_internal_nodes;
-    let height = size.height;
-    let mut tree = ThetaLambdaTree {
-        nodes: [0; TREEWORDS],
-        number_of_internal_nodes: inner,
-        height,
-    };
+    let mut tree = ThetaLambdaTree::new(n);
+    let inner = tree.number_of_internal_nodes;
+    let height = tree.height;
     fill(&mut tree.nodes, inner, &tasks, &est, &record.durations, n);
     edge_finding(
         &mut tree.nodes,

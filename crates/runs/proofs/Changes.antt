@@ -17,7 +17,9 @@ use Rattle.integers.proofs.Bools.{bool}
 use Rattle.scheduling.specs.Scheduling.{natural, Tasks, Proper, TaskSet, _with_}
 use Rattle.scheduling.specs.Moments.{ByEarliest, ByCompletion}
 use Rattle.scheduling.proofs.Cards.{card, card-same, card-none, card-with}
-use Rattle.trees.specs.Leaves.{Leaf, empty, white, gray, inLambda, rootEct, rootEctBar, responsible}
+use Rattle.ects.specs.Ects.{exceeds}
+use Rattle.ects.proofs.Ects.{past-or-not}
+use Rattle.trees.specs.Leaves.{Leaf, empty, white, gray, inLambda, ect, ect-bar, responsible}
 use Rattle.runs.specs.Traces.{Trace}
 use Rattle.runs.specs.Runs.{State, Turn, inner, outer, run, lct, allWhite, grayed, dropped, raised, posted}
 use Rattle.runs.specs.Reached.{movedOn, Entered, begins, follows, Reached, at-head, moved, turned}
@@ -58,7 +60,7 @@ module _ (o : ℕ) (J : Tasks natural) (ok : Proper J) (estOrder lctOrder : List
 
   pub inner-counted : (w f t : ℕ) (st : State) → Counted w st → Counted w (state-of (inner o J estOrder lctOrder f t st))
   inner-counted w zero t st c = subst (λ (u : Turn). Counted w (state-of u)) (sym (inner-end o J estOrder lctOrder 0 t st)) c
-  inner-counted w (suc f) t st c = by (λ st′. inner-counted w f t st′) (bool (ltb (lct o J estOrder lctOrder t) (rootEctBar J estOrder (st .leaves)))) (opt (responsible J estOrder (st .leaves)))
+  inner-counted w (suc f) t st c = by (λ st′. inner-counted w f t st′) (bool (exceeds (ect-bar J estOrder (st .leaves)) (lct o J estOrder lctOrder t))) (opt (responsible J estOrder (st .leaves)))
     where
       Few : Turn → Type 0
       Few u = Counted w (state-of u)
@@ -69,20 +71,17 @@ module _ (o : ℕ) (J : Tasks natural) (ok : Proper J) (estOrder lctOrder : List
       T : ℕ → ℕ
       T x = getD estOrder x 0
 
-      b : ℕ
-      b = rootEct J estOrder (st .leaves)
-
-      took : IH → (x : ℕ) → ltb (lct o J estOrder lctOrder t) (rootEctBar J estOrder (st .leaves)) ≡ true → responsible J estOrder (st .leaves) ≡ some x → Few (inner o J estOrder lctOrder (suc f) t st)
-      took ih x z y = elim (bool (ltb (J .earliest (T x)) b)) [
-        | inr e ↦ subst Few (sym (inner-pass o J estOrder lctOrder f t st x z y e)) (ih (dropped st x) (less-by-one w st x y c))
-        | inl e ↦ elim (bool (ltb (J .latest (T x)) b)) [
-          | inl a ↦ subst Few (sym (inner-stop o J estOrder lctOrder f t st x z y e a)) (record { size = c .size; most = c .most })
-          | inr a ↦ subst Few (sym (inner-raise o J estOrder lctOrder f t st x z y e a))
+      took : IH → (x : ℕ) → exceeds (ect-bar J estOrder (st .leaves)) (lct o J estOrder lctOrder t) ≡ true → responsible J estOrder (st .leaves) ≡ some x → Few (inner o J estOrder lctOrder (suc f) t st)
+      took ih x z y = elim (past-or-not (ect J estOrder (st .leaves)) (J .earliest (T x))) [
+        | inl e ↦ subst Few (sym (inner-pass o J estOrder lctOrder f t st x z y e)) (ih (dropped st x) (less-by-one w st x y c))
+        | inr (b, is, e) ↦ elim (bool (ltb (J .latest (T x)) b)) [
+          | inl a ↦ subst Few (sym (inner-stop o J estOrder lctOrder f t st x z y b is e a)) (record { size = c .size; most = c .most })
+          | inr a ↦ subst Few (sym (inner-raise o J estOrder lctOrder f t st x z y b is e a))
               (ih (dropped (raised (posted o J estOrder lctOrder st (T x) b t) (T x) b) x) (less-by-one w (raised (posted o J estOrder lctOrder st (T x) b t) (T x) b) x y (record { size = c .size; most = c .most })))
         ]
       ]
 
-      by : IH → (ltb (lct o J estOrder lctOrder t) (rootEctBar J estOrder (st .leaves)) ≡ true) ⊎ (ltb (lct o J estOrder lctOrder t) (rootEctBar J estOrder (st .leaves)) ≡ false)
+      by : IH → (exceeds (ect-bar J estOrder (st .leaves)) (lct o J estOrder lctOrder t) ≡ true) ⊎ (exceeds (ect-bar J estOrder (st .leaves)) (lct o J estOrder lctOrder t) ≡ false)
           → (responsible J estOrder (st .leaves) ≡ none) ⊎ ((x : ℕ) × (responsible J estOrder (st .leaves) ≡ some x)) → Few (inner o J estOrder lctOrder (suc f) t st)
       by ih (inr z) y = subst Few (sym (inner-off o J estOrder lctOrder f t st z)) c
       by ih (inl z) (inl y) = subst Few (sym (inner-none o J estOrder lctOrder f t st z y)) c
@@ -106,7 +105,7 @@ module _ (o : ℕ) (J : Tasks natural) (ok : Proper J) (estOrder lctOrder : List
 
   pub outer-counted : (f t : ℕ) (st : State) → suc (t + f) ≡ n → Counted (n + 3 * t) st → outer o J estOrder lctOrder f t st .changes ≤ 4 * n - 3
   outer-counted zero t st end c = subst (λ (r : Trace). r .changes ≤ 4 * n - 3) (sym (outer-end o J estOrder lctOrder 0 t st)) (omega (arith, c .most))
-  outer-counted (suc f) t st end c = elim (bool (ltb (lct o J estOrder lctOrder t) (rootEct J estOrder (st .leaves)))) [
+  outer-counted (suc f) t st end c = elim (bool (exceeds (ect J estOrder (st .leaves)) (lct o J estOrder lctOrder t))) [
     | inl z ↦ subst Few (sym (outer-over o J estOrder lctOrder f t st z)) (omega (arith, c .most))
     | inr z ↦ elim (turn (inner o J estOrder lctOrder n (suc t) next)) [
       | inl y ↦ subst Few (sym (outer-on o J estOrder lctOrder f t st (y .0) z (y .1))) (outer-counted f (suc t) (y .0) (omega arith) (subst (λ (u : Turn). Counted (n + 3 * suc t) (state-of u)) (y .1) after))

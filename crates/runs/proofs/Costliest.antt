@@ -4,7 +4,7 @@ use mathlib.Core.Path.{_≡_, refl, sym, ap, subst, _∙_}
 use mathlib.Core.Bool.{true, false}
 use mathlib.Core.Logic.{inl, inr}
 use mathlib.Core.List.{List, [], map}
-use mathlib.Core.Option.{some}
+use mathlib.Core.Option.{Option, some}
 use Prim.Native.Nat.{ℕ, zero, suc, _+_, _-_, _*_, _≤_, _<_}
 use native.Mathlib.Omega.{arith}
 use native.Mathlib.Decide.{decLt, decLe}
@@ -23,7 +23,9 @@ use Rattle.scheduling.proofs.Sets.{with-in, with-new}
 use Rattle.scheduling.proofs.Processing.{processing-with, processing-empty}
 use Rattle.scheduling.proofs.Windows.{ends-by}
 use Rattle.scheduling.proofs.Exists.{ect-some}
-use Rattle.trees.specs.Leaves.{Leaf, empty, white, gray, inTheta, inLambda, rootEct, rootEctBar, responsible}
+use Rattle.ects.specs.Ects.{exceeds}
+use Rattle.ects.proofs.Ects.{some-exceeds}
+use Rattle.trees.specs.Leaves.{Leaf, empty, white, gray, inTheta, inLambda, ect, ect-bar, responsible}
 use Rattle.trees.proofs.Roots as tree
 use Rattle.runs.specs.Traces.{done, Trace}
 use Rattle.runs.specs.Runs.{State, on, inner, outer, run, grayed, dropped, allWhite, lct, tabulate, earliestOrder, completionOrder, propagate}
@@ -128,20 +130,24 @@ module _ (z : ℕ) (J : Tasks natural) (c : Chain z J) where
 
       module _ (ls : List Leaf) (Λ : TaskSet) (s : Shows ls (below (suc f)) Λ) where
         -- ect(Θ) is lct, so there is no overload;
-        ect-f : rootEct J estOrder ls ≡ z + 10 * suc f
-        ect-f = ect-last (below (suc f)) f (rootEct J estOrder ls) last-in in-below (tree.ect-of J proper estOrder rk ls (below (suc f)) Λ s (f, last-in))
+        ect-f : ect J estOrder ls ≡ some (z + 10 * suc f)
+        ect-f =
+            let (v, e) = ect-some J (below (suc f)) (f, last-in) in
+            tree.moment-is J proper estOrder rk ls (below (suc f)) Λ s v .1 e ∙ ap some (ect-last (below (suc f)) f v last-in in-below e)
 
-        quiet : ltb (lct o J estOrder lctOrder t) (rootEct J estOrder ls) ≡ false
-        quiet = le-ltb (lct o J estOrder lctOrder t) (rootEct J estOrder ls) (omega (arith, lct-f, ect-f))
+        quiet : exceeds (ect J estOrder ls) (lct o J estOrder lctOrder t) ≡ false
+        quiet = ap (λ (u : Option ℕ). exceeds u (lct o J estOrder lctOrder t)) ect-f ∙ le-ltb (lct o J estOrder lctOrder t) (z + 10 * suc f) (omega (arith, lct-f))
 
       -- where Λ is empty, the inner loop ends;
       module _ (ls : List Leaf) (s : Shows ls (below (suc f)) nothing) where
-        bar-f : tree.AtMostOne J proper estOrder rk ls (below (suc f)) nothing s (rootEctBar J estOrder ls) → rootEctBar J estOrder ls ≡ z + 10 * suc f
-        bar-f (inl e) = ect-last (below (suc f)) f (rootEctBar J estOrder ls) last-in in-below e
-        bar-f (inr e) = clash (e .1 .mem) refl
+        bar-f : (v : ℕ) → tree.AtMostOne J proper estOrder rk ls (below (suc f)) nothing s v → v ≡ z + 10 * suc f
+        bar-f v (inl e) = ect-last (below (suc f)) f v last-in in-below e
+        bar-f v (inr e) = clash (e .1 .mem) refl
 
-        ends : ltb (lct o J estOrder lctOrder t) (rootEctBar J estOrder ls) ≡ false
-        ends = le-ltb (lct o J estOrder lctOrder t) (rootEctBar J estOrder ls) (omega (arith, lct-f, bar-f (tree.bar-of J proper estOrder rk ls (below (suc f)) nothing s (inl (f, last-in)) .holds)))
+        ends : exceeds (ect-bar J estOrder ls) (lct o J estOrder lctOrder t) ≡ false
+        ends =
+            let (v, is, e) = tree.bar-some J proper estOrder rk ls (below (suc f)) nothing s (inl (f, last-in)) in
+            ap (λ (u : Option ℕ). exceeds u (lct o J estOrder lctOrder t)) is ∙ le-ltb (lct o J estOrder lctOrder t) v (omega (arith, lct-f, bar-f v (e .holds)))
 
       -- where it is the task behind these, that task passes, is found, and is not raised
       module _ (small : suc f < n) (ls : List Leaf) (s : Shows ls (below (suc f)) (nothing with suc f)) where
@@ -152,25 +158,24 @@ module _ (z : ℕ) (J : Tasks natural) (c : Chain z J) where
         joint v = ect-last (below (suc f) with suc f) (suc f) v (record { small = small; mem = with-new (below (suc f)) (suc f) })
             (λ k h. elim (with-in (below (suc f)) (suc f) k (h .mem)) [ inl e ↦ omega (arith, e) | inr e ↦ omega (arith, ltb-true k (suc f) e) ])
 
-        bar-passes : z + 10 * suc (suc f) ≤ rootEctBar J estOrder ls
-        bar-passes =
+        over : exceeds (ect-bar J estOrder ls) (lct o J estOrder lctOrder t) ≡ true
+        over =
             let (v, e) = ect-some J (below (suc f) with suc f) (suc f, record { small = small; mem = with-new (below (suc f)) (suc f) }) in
-            omega (arith, joint v e, tree.bar-of J proper estOrder rk ls (below (suc f)) (nothing with suc f) s (inl (f, last-in)) .bounds v (inr (suc f, record { small = small; mem = with-new nothing (suc f) }, e)))
-
-        over : ltb (lct o J estOrder lctOrder t) (rootEctBar J estOrder ls) ≡ true
-        over = lt-ltb (lct o J estOrder lctOrder t) (rootEctBar J estOrder ls) (omega (arith, lct-f, bar-passes))
+            let (u, is, most) = tree.bar-some J proper estOrder rk ls (below (suc f)) (nothing with suc f) s (inl (f, last-in)) in
+            some-exceeds (ect-bar J estOrder ls) u (lct o J estOrder lctOrder t) is (omega (arith, lct-f, joint v e, most .bounds v (inr (suc f, record { small = small; mem = with-new nothing (suc f) }, e))))
 
         found : (x : ℕ) → responsible J estOrder ls ≡ some x → getD estOrder x 0 ≡ suc f
         found x w = only (getD estOrder x 0) (tree.one-found J proper estOrder rk ls (below (suc f)) (nothing with suc f) s x w .gray .mem)
 
         someone : (x : ℕ) × (responsible J estOrder ls ≡ some x)
         someone = elim (opt (responsible J estOrder ls)) [
-          | inl w ↦ absurd (omega (arith, tree.none-found J proper estOrder rk ls (below (suc f)) (nothing with suc f) s w, bar-passes, ect-f ls (nothing with suc f) s))
+          | inl w ↦ clash (ap (λ (u : Option ℕ). exceeds u (lct o J estOrder lctOrder t)) (sym (tree.none-found J proper estOrder rk ls (below (suc f)) (nothing with suc f) s w)) ∙ over) (quiet ls (nothing with suc f) s)
           | inr w ↦ w
         ]
 
-        stays : (x : ℕ) → responsible J estOrder ls ≡ some x → ltb (J .earliest (getD estOrder x 0)) (rootEct J estOrder ls) ≡ false
-        stays x w = le-ltb (J .earliest (getD estOrder x 0)) (rootEct J estOrder ls) (omega (arith, ap (J .earliest) (found x w), c .start (suc f) small, ect-f ls (nothing with suc f) s))
+        stays : (x : ℕ) → responsible J estOrder ls ≡ some x → exceeds (ect J estOrder ls) (J .earliest (getD estOrder x 0)) ≡ false
+        stays x w = ap (λ (u : Option ℕ). exceeds u (J .earliest (getD estOrder x 0))) (ect-f ls (nothing with suc f) s)
+            ∙ le-ltb (J .earliest (getD estOrder x 0)) (z + 10 * suc f) (omega (arith, ap (J .earliest) (found x w), c .start (suc f) small))
 
         -- it leaves Λ
         left-alone : (x : ℕ) → responsible J estOrder ls ≡ some x → Shows (set ls x empty) (below (suc f)) nothing

@@ -1,10 +1,11 @@
 -- A run is correct: what its trace leaves is what demand 3 says, for every accepted input and any carried orders.
 -- Assumes nothing.
-use mathlib.Core.Path.{_≡_, refl}
+use mathlib.Core.Path.{_≡_, refl, sym}
 use mathlib.Core.Bool.{true}
-use mathlib.Core.Logic.{_⊎_, inl, inr}
+use mathlib.Core.Logic.{_⊎_, inl, inr, _↔_}
 use mathlib.Core.List.{List}
-use Prim.Native.Nat.{ℕ, _-_, _≤_, _<_}
+use Prim.Native.Nat.{ℕ, suc, _-_, _≤_, _<_}
+use native.Mathlib.Decide.{decLe, decLt}
 use native.Mathlib.Omega.{arith}
 use lib.IntN.{ℤ, pos}
 use lib.Signed.{_≤ℤ_, _<ℤ_, clashℤ}
@@ -14,7 +15,7 @@ use Rattle.integers.specs.Limits.{TASKS, DURATIONS, MIRRORED}
 use Rattle.integers.specs.Moments.{moment, Above, zeroAt}
 use Rattle.integers.specs.Orders.{index, numbers, Ordered}
 use Rattle.integers.proofs.Ints.{ints}
-use Rattle.integers.proofs.Moments.{above-up, more-above, at-moment}
+use Rattle.integers.proofs.Moments.{same, reflect, reflect<, above-up, more-above, at-moment}
 use Rattle.integers.proofs.Permutations.{numbers-permute}
 use Rattle.integers.proofs.Sorting.{sort-ordered, key-whole, key-chain}
 use Rattle.scheduling.specs.Scheduling.{whole, natural, Tasks, tasksOf, Proper, total, processing, completion, Done, Conflict}
@@ -47,6 +48,11 @@ is-done done = inl refl
 is-done (overload r) = inr (λ z. let y : _≡_ {A = ℕ} 0 1 = cc in omega arith)
 is-done emptied = inr (λ z. let y : _≡_ {A = ℕ} 0 1 = cc in omega arith)
 
+is-emptied : (e : End) → (e ≡ emptied) ⊎ (e ≡ emptied → ⊥)
+is-emptied done = inr (λ z. let y : _≡_ {A = ℕ} 0 1 = cc in omega arith)
+is-emptied (overload r) = inr (λ z. let y : _≡_ {A = ℕ} 0 1 = cc in omega arith)
+is-emptied emptied = inl refl
+
 -- of any clock's zero that is deep enough
 module _ (o : ℕ) (Z : Tasks whole) (okz : Proper Z) (deepz : (k : ℕ) → k < Z .count → Above o (Z .earliest k)) (one : 1 ≤ Z .count)
     (room : (k : ℕ) → k < Z .count → processing (moments o Z) (λ _. true) ≤ moment o (Z .earliest k)) (estOrder lctOrder : List ℕ)
@@ -71,6 +77,45 @@ module _ (o : ℕ) (Z : Tasks whole) (okz : Proper Z) (deepz : (k : ℕ) → k <
   wrong : (tr .end ≡ done → ⊥) → Conflict Z
   wrong h = conflict← o Z okz deepz (out .otherwise h)
 
+  -- the starts, whatever the outcome
+  abbrev many : ℕ
+  many = out .left .many
+
+  first-many : (j : ℕ) → j < length (tr .posts) → (many ≤ j → ⊥) → getD (tr .starts) (post tr j .task) (pos 0) ≡ post tr j .bound
+  first-many j q n = same o (getD (tr .starts) (post tr j .task) (pos 0)) (post tr j .bound) (out .above (post tr j .task)) (bound-above j q) (sym (out .left .stand .stand .agrees j (omega arith)))
+
+  latest-above : (k : ℕ) → k < Z .count → Above o (Z .latest k)
+  latest-above k q = above-up o (Z .earliest k) (Z .latest k) (okz .ranges k q) (deepz k q)
+
+  in-range : (j : ℕ) → j < length (tr .posts) → j < many → post tr j .bound ≤ℤ Z .latest (post tr j .task)
+  in-range j q r =
+      let small = out .left .stand .stand .small j r in
+      reflect o (post tr j .bound) (Z .latest (post tr j .task)) (bound-above j q) (latest-above (post tr j .task) small) (omega (arith, out .left .stand .stand .agrees j r, out .left .stand .to (post tr j .task) small))
+
+  past : (j : ℕ) → j < length (tr .posts) → many ≤ j → Z .latest (post tr j .task) <ℤ post tr j .bound
+  past j q r = reflect< o (Z .latest (post tr j .task)) (post tr j .bound) (latest-above (post tr j .task) (out .goods j q .small)) (bound-above j q) (out .left .stand .above j r q)
+
+  above : (j : ℕ) → j < length (tr .posts) → Z .latest (post tr j .task) <ℤ post tr j .bound ↔ ((tr .end ≡ emptied) × (suc j ≡ length (tr .posts)))
+  above j q = (
+    λ h. elim (decLe many j) [
+      | yes y ↦ elim (is-emptied (tr .end)) [ inl e ↦ (e, omega (arith, out .left .but-last e)) | inr n ↦ absurd (omega (arith, out .left .all n)) ]
+      | no y ↦ absurd (clashℤ h (in-range j q (omega arith)))
+    ],
+    λ (e, z). past j q (omega (arith, out .left .but-last e)),
+  )
+
+  stands : (j : ℕ) → j < length (tr .posts) → post tr j .bound ≤ℤ Z .latest (post tr j .task) → getD (tr .starts) (post tr j .task) (pos 0) ≡ post tr j .bound
+  stands j q h = first-many j q (λ r. clashℤ (past j q r) h)
+
+  stays : (k : ℕ) → k < Z .count → ((j : ℕ) → j < length (tr .posts) → post tr j .bound ≤ℤ Z .latest (post tr j .task) → post tr j .task ≡ k → ⊥) → getD (tr .starts) k (pos 0) ≡ Z .earliest k
+  stays k q no-post = same o (getD (tr .starts) k (pos 0)) (Z .earliest k) (out .above k) (deepz k q) (elim (decLt (moment o (Z .earliest k)) (moment o (getD (tr .starts) k (pos 0)))) [
+    | yes y ↦ (let (j, r, e) = out .left .stand .stand .every k q y in let s : j < length (tr .posts) = omega (arith, few) in absurd (no-post j s (in-range j s r) e))
+    | no y ↦ omega (arith, out .left .stand .from k q)
+  ])
+    where
+      few : many ≤ length (tr .posts)
+      few = elim (is-emptied (tr .end)) [ inl e ↦ omega (arith, out .left .but-last e) | inr n ↦ omega (arith, out .left .all n) ]
+
   pub run-right : Right Z tr
   run-right = record {
     exactly = (not-wrong, λ n. elim (is-done (tr .end)) [ inl z ↦ z | inr z ↦ absurd (n (wrong z)) ]);
@@ -78,6 +123,10 @@ module _ (o : ℕ) (Z : Tasks whole) (okz : Proper Z) (deepz : (k : ℕ) → k <
     otherwise = λ h s sch. conflict-sound Z okz (wrong h) s sch;
     posts = out .goods;
     overloads = out .over;
+    some-post = λ e. omega (arith, out .left .but-last e);
+    above = above;
+    stands = stands;
+    stays = stays;
   }
 
 -- the two orders of a run

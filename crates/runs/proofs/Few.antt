@@ -18,7 +18,9 @@ use Rattle.scheduling.specs.Words.{atomWords}
 use Rattle.scheduling.proofs.Cards.{card-most}
 use Rattle.scheduling.specs.Moments.{ByEarliest, ByCompletion}
 use Rattle.scheduling.proofs.Words.{atoms-length}
-use Rattle.trees.specs.Leaves.{rootEct, rootEctBar, responsible}
+use Rattle.ects.specs.Ects.{exceeds}
+use Rattle.ects.proofs.Ects.{past-or-not}
+use Rattle.trees.specs.Leaves.{ect, ect-bar, responsible}
 use Rattle.trees.proofs.Roots as tree
 use Rattle.runs.specs.Traces.{Post, End, done, overload, emptied, Trace}
 use Rattle.runs.specs.Runs.{State, Turn, on, stop, inner, outer, run, lct, grayed, dropped, raised, posted}
@@ -56,7 +58,7 @@ module _ (o : ℕ) (J : Tasks natural) (ok : Proper J) (estOrder lctOrder : List
   T x = getD estOrder x 0
 
   abbrev Over : ℕ → State → Bool → Type 0
-  Over t st v = ltb (lct o J estOrder lctOrder t) (rootEctBar J estOrder (st .leaves)) ≡ v
+  Over t st v = exceeds (ect-bar J estOrder (st .leaves)) (lct o J estOrder lctOrder t) ≡ v
 
   -- a task was found at leaf x
   module _ (t : ℕ) (st : State) (v : Inv t st) (x : ℕ) where
@@ -72,7 +74,7 @@ module _ (o : ℕ) (J : Tasks natural) (ok : Proper J) (estOrder lctOrder : List
   -- they are of tasks that come before place t
   pub inner-few : (f t : ℕ) (st : State) → t < n → Inv t st → length (postsOf (inner o J estOrder lctOrder f t st)) ≤ t
   inner-few zero t st small v = subst (λ (u : Turn). length (postsOf u) ≤ t) (sym (inner-end o J estOrder lctOrder 0 t st)) (room.posts-few o J ok estOrder lctOrder rk ord t st v)
-  inner-few (suc f) t st small v = by (λ st′. inner-few f t st′ small) (bool (ltb (lct o J estOrder lctOrder t) (rootEctBar J estOrder (st .leaves)))) (opt (responsible J estOrder (st .leaves)))
+  inner-few (suc f) t st small v = by (λ st′. inner-few f t st′ small) (bool (exceeds (ect-bar J estOrder (st .leaves)) (lct o J estOrder lctOrder t))) (opt (responsible J estOrder (st .leaves)))
     where
       Few : Turn → Type 0
       Few u = length (postsOf u) ≤ t
@@ -80,17 +82,13 @@ module _ (o : ℕ) (J : Tasks natural) (ok : Proper J) (estOrder lctOrder : List
       IH : Type 0
       IH = (st′ : State) → Inv t st′ → Few (inner o J estOrder lctOrder f t st′)
 
-      b : ℕ
-      b = rootEct J estOrder (st .leaves)
-
       took : IH → (x : ℕ) → Over t st true → responsible J estOrder (st .leaves) ≡ some x → Found t st v x → Few (inner o J estOrder lctOrder (suc f) t st)
-      took ih x z w g = elim (bool (ltb (J .earliest (T x)) b)) [
-        | inr y ↦ subst Few (sym (inner-pass o J estOrder lctOrder f t st x z w y))
-            (ih (dropped st x) (steps.pass-ok o J ok estOrder lctOrder rk ord Short ShortEnd short t st small v x g (ltb-true _ _ z) (ltb-false _ _ y)))
-        | inl y ↦ elim (bool (ltb (J .latest (T x)) b)) [
-          | inl a ↦ subst Few (sym (inner-stop o J estOrder lctOrder f t st x z w y a)) (one-more t st v x g _)
-          | inr a ↦ subst Few (sym (inner-raise o J estOrder lctOrder f t st x z w y a))
-              (ih (dropped (raised (posted o J estOrder lctOrder st (T x) b t) (T x) b) x) (steps.raise-ok o J ok estOrder lctOrder rk ord Short ShortEnd short t st small v x g (ltb-true _ _ z) (ltb-true _ _ y) (ltb-false _ _ a)))
+      took ih x z w g = elim (past-or-not (ect J estOrder (st .leaves)) (J .earliest (T x))) [
+        | inl y ↦ subst Few (sym (inner-pass o J estOrder lctOrder f t st x z w y)) (ih (dropped st x) (steps.pass-ok o J ok estOrder lctOrder rk ord Short ShortEnd short t st small v x g z y))
+        | inr (b, is, y) ↦ elim (bool (ltb (J .latest (T x)) b)) [
+          | inl a ↦ subst Few (sym (inner-stop o J estOrder lctOrder f t st x z w b is y a)) (one-more t st v x g _)
+          | inr a ↦ subst Few (sym (inner-raise o J estOrder lctOrder f t st x z w b is y a))
+              (ih (dropped (raised (posted o J estOrder lctOrder st (T x) b t) (T x) b) x) (steps.raise-ok o J ok estOrder lctOrder rk ord Short ShortEnd short t st small v x g z b is (ltb-true _ _ y) (ltb-false _ _ a)))
         ]
       ]
 
@@ -104,7 +102,7 @@ module _ (o : ℕ) (J : Tasks natural) (ok : Proper J) (estOrder lctOrder : List
 
   pub outer-few : (f t : ℕ) (st : State) → suc (t + f) ≡ n → Closed t st → suc (length (outer o J estOrder lctOrder f t st .posts)) ≤ n
   outer-few zero t st end c = subst (λ (r : Trace). suc (length (r .posts)) ≤ n) (sym (outer-end o J estOrder lctOrder 0 t st)) (omega (arith, room.posts-few o J ok estOrder lctOrder rk ord t st (c .inv)))
-  outer-few (suc f) t st end c = by (λ st′. outer-few f (suc t) st′ (omega arith)) (bool (ltb (lct o J estOrder lctOrder t) (rootEct J estOrder (st .leaves))))
+  outer-few (suc f) t st end c = by (λ st′. outer-few f (suc t) st′ (omega arith)) (bool (exceeds (ect J estOrder (st .leaves)) (lct o J estOrder lctOrder t)))
     where
       Few : Trace → Type 0
       Few r = suc (length (r .posts)) ≤ n
@@ -115,7 +113,7 @@ module _ (o : ℕ) (J : Tasks natural) (ok : Proper J) (estOrder lctOrder : List
       next : State
       next = grayed st (index estOrder (getD lctOrder t 0))
 
-      go : IH → ltb (lct o J estOrder lctOrder t) (rootEct J estOrder (st .leaves)) ≡ false → Inv (suc t) next → Few (outer o J estOrder lctOrder (suc f) t st)
+      go : IH → exceeds (ect J estOrder (st .leaves)) (lct o J estOrder lctOrder t) ≡ false → Inv (suc t) next → Few (outer o J estOrder lctOrder (suc f) t st)
       go ih z v = elim (turn (inner o J estOrder lctOrder n (suc t) next)) [
         | inl w ↦ subst Few (sym (outer-on o J estOrder lctOrder f t st (w .0) z (w .1)))
             (ih (w .0) (subst (steps.TurnOk o J ok estOrder lctOrder rk ord Short ShortEnd short (suc t)) (w .1)
@@ -124,10 +122,9 @@ module _ (o : ℕ) (J : Tasks natural) (ok : Proper J) (estOrder lctOrder : List
             (omega (arith, subst (λ (u : Turn). length (postsOf u) ≤ suc t) (w .1) (inner-few n (suc t) next (omega arith) v)))
       ]
 
-      by : IH → (ltb (lct o J estOrder lctOrder t) (rootEct J estOrder (st .leaves)) ≡ true) ⊎ (ltb (lct o J estOrder lctOrder t) (rootEct J estOrder (st .leaves)) ≡ false) → Few (outer o J estOrder lctOrder (suc f) t st)
+      by : IH → (exceeds (ect J estOrder (st .leaves)) (lct o J estOrder lctOrder t) ≡ true) ⊎ (exceeds (ect J estOrder (st .leaves)) (lct o J estOrder lctOrder t) ≡ false) → Few (outer o J estOrder lctOrder (suc f) t st)
       by ih (inl z) = subst Few (sym (outer-over o J estOrder lctOrder f t st z)) (omega (arith, room.posts-few o J ok estOrder lctOrder rk ord t st (c .inv)))
-      by ih (inr z) = go ih z (steps.gray-ok o J ok estOrder lctOrder rk ord Short ShortEnd short t st (omega arith) c
-          (omega (arith, ltb-false (lct o J estOrder lctOrder t) (rootEct J estOrder (st .leaves)) z, tree.ect-is J ok estOrder rk (st .leaves) (steps.Th o J ok estOrder lctOrder rk ord t) (steps.lam o J ok estOrder lctOrder rk ord Short ShortEnd short st) (steps.shape o J ok estOrder lctOrder rk ord Short ShortEnd short t st (c .inv)))))
+      by ih (inr z) = go ih z (steps.gray-ok o J ok estOrder lctOrder rk ord Short ShortEnd short t st (omega arith) c (steps.theta-within o J ok estOrder lctOrder rk ord Short ShortEnd short t st (omega arith) (c .inv) z))
 
   module _ (one : 1 ≤ n) where
     abbrev tr : Trace

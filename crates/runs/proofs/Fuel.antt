@@ -11,7 +11,7 @@ use lib.Dec.{ltb}
 use lib.IntN.{ℤ}
 use lib.ListN.{length, getD, set, length-set, replicate}
 use lib.Seq.{getD-set-same, getD-set-other}
-use borrow.Author.Tests.{ne-eqb, eq-eqb, ltb-true}
+use borrow.Author.Tests.{ne-eqb, eq-eqb}
 use Rattle.scheduling.specs.Scheduling.{natural, Tasks, tasksOf, Proper, TaskSet}
 use Rattle.integers.proofs.Bools.{bool}
 use Rattle.scheduling.proofs.Sets.{_less_}
@@ -20,8 +20,8 @@ use Rattle.scheduling.specs.Moments.{moments, ByEarliest}
 use Rattle.integers.specs.Moments.{zeroAt}
 use Rattle.integers.specs.Orders.{index}
 use Rattle.ects.specs.Ects.{exceeds}
-use Rattle.ects.proofs.Ects.{decoded-some, decoded-cases, exceeds-decoded}
-use Rattle.trees.specs.Leaves.{Leaf, empty, white, sum, theta, inLambda, whiteAt, grayAt, rootEct, rootEctBar, responsible, ect, ect-bar}
+use Rattle.ects.proofs.Ects.{past-or-not}
+use Rattle.trees.specs.Leaves.{Leaf, empty, white, sum, theta, inLambda, whiteAt, grayAt, responsible, ect, ect-bar}
 use Rattle.runs.specs.Traces.{done, overload, emptied}
 use Rattle.runs.specs.Runs.{State, Turn, on, stop, inner, outer, run, ended, grayed, tabulate, conflict, posted, raised, dropped, lct, earliestOrder, completionOrder, propagate}
 use Rattle.trees.proofs.Roots as tree
@@ -39,44 +39,39 @@ module _ (o : ℕ) (J : Tasks natural) (estOrder lctOrder : List ℕ) (f t : ℕ
   abbrev T : ℕ → ℕ
   T x = getD estOrder x 0
 
-  abbrev b : ℕ
-  b = rootEct J estOrder (st .leaves)
-
   abbrev Over : Bool → Type 0
-  Over v = ltb (lct o J estOrder lctOrder t) (rootEctBar J estOrder (st .leaves)) ≡ v
+  Over v = exceeds (ect-bar J estOrder (st .leaves)) (lct o J estOrder lctOrder t) ≡ v
 
   pub inner-end : inner o J estOrder lctOrder 0 t st ≡ on st
   unfolding inner
   inner-end = refl
 
-  -- the test of the answer is that of the root's word
-  over-is : {v : Bool} → Over v → exceeds (ect-bar J estOrder (st .leaves)) (lct o J estOrder lctOrder t) ≡ v
-  over-is z = exceeds-decoded (rootEctBar J estOrder (st .leaves)) (lct o J estOrder lctOrder t) ∙ z
-
   pub inner-off : Over false → inner o J estOrder lctOrder (suc f) t st ≡ on st
   unfolding inner
-  inner-off z = rw (over-is z, inner)
+  inner-off z = rw (z, inner)
 
   pub inner-none : Over true → responsible J estOrder (st .leaves) ≡ none → inner o J estOrder lctOrder (suc f) t st ≡ on st
   unfolding inner
-  inner-none z w = rw (over-is z, w, inner)
+  inner-none z w = rw (z, w, inner)
 
   module _ (x : ℕ) (z : Over true) (w : responsible J estOrder (st .leaves) ≡ some x) where
-    -- an ect past a start is that of a task
-    bound-is : ltb (J .earliest (T x)) b ≡ true → ect J estOrder (st .leaves) ≡ some b
-    bound-is y = decoded-some b (omega (arith, ltb-true (J .earliest (T x)) b y))
-
-    pub inner-pass : ltb (J .earliest (T x)) b ≡ false → inner o J estOrder lctOrder (suc f) t st ≡ inner o J estOrder lctOrder f t (dropped st x)
+    -- Θ's ect is not past the task's start, or there is none
+    pub inner-pass : exceeds (ect J estOrder (st .leaves)) (J .earliest (T x)) ≡ false → inner o J estOrder lctOrder (suc f) t st ≡ inner o J estOrder lctOrder f t (dropped st x)
     unfolding inner
-    inner-pass y = elim (decoded-cases b) [ inl d ↦ rw (over-is z, w, d, inner) refl | inr d ↦ rw (over-is z, w, d, y, inner) refl ]
+    inner-pass y = elim (opt (ect J estOrder (st .leaves))) [
+      | inl d ↦ rw (z, w, d, inner) refl
+      | inr d ↦ (let low : ltb (J .earliest (T x)) (d .0) ≡ false = ap (λ (u : Option ℕ). exceeds u (J .earliest (T x))) (sym (d .1)) ∙ y in rw (z, w, d .1, low, inner) refl)
+    ]
 
-    pub inner-stop : ltb (J .earliest (T x)) b ≡ true → ltb (J .latest (T x)) b ≡ true → inner o J estOrder lctOrder (suc f) t st ≡ stop (posted o J estOrder lctOrder st (T x) b t)
-    unfolding inner
-    inner-stop y a = rw (over-is z, w, bound-is y, y, a, inner)
+    -- it is b, which is
+    module _ (b : ℕ) (is : ect J estOrder (st .leaves) ≡ some b) where
+      pub inner-stop : ltb (J .earliest (T x)) b ≡ true → ltb (J .latest (T x)) b ≡ true → inner o J estOrder lctOrder (suc f) t st ≡ stop (posted o J estOrder lctOrder st (T x) b t)
+      unfolding inner
+      inner-stop y a = rw (z, w, is, y, a, inner)
 
-    pub inner-raise : ltb (J .earliest (T x)) b ≡ true → ltb (J .latest (T x)) b ≡ false → inner o J estOrder lctOrder (suc f) t st ≡ inner o J estOrder lctOrder f t (dropped (raised (posted o J estOrder lctOrder st (T x) b t) (T x) b) x)
-    unfolding inner
-    inner-raise y a = rw (over-is z, w, bound-is y, y, a, inner) refl
+      pub inner-raise : ltb (J .earliest (T x)) b ≡ true → ltb (J .latest (T x)) b ≡ false → inner o J estOrder lctOrder (suc f) t st ≡ inner o J estOrder lctOrder f t (dropped (raised (posted o J estOrder lctOrder st (T x) b t) (T x) b) x)
+      unfolding inner
+      inner-raise y a = rw (z, w, is, y, a, inner) refl
 
 module _ (o : ℕ) (J : Tasks natural) (ok : Proper J) (estOrder lctOrder : List ℕ) (rk : ByEarliest J (λ j. getD estOrder j 0) (λ k. index estOrder k)) where
   -- the gray tasks of the leaves
@@ -115,30 +110,30 @@ module _ (o : ℕ) (J : Tasks natural) (ok : Proper J) (estOrder lctOrder : List
 
   -- one turn more changes nothing
   pub inner-more : (f t : ℕ) (st : State) → length (st .leaves) ≡ J .count → card J (lam (st .leaves)) ≤ f → I (suc f) t st ≡ I f t st
-  inner-more zero t st q few = by (bool (ltb (lct o J estOrder lctOrder t) (rootEctBar J estOrder (st .leaves)))) (opt (responsible J estOrder (st .leaves)))
+  inner-more zero t st q few = by (bool (exceeds (ect-bar J estOrder (st .leaves)) (lct o J estOrder lctOrder t))) (opt (responsible J estOrder (st .leaves)))
     where
-      by : (ltb (lct o J estOrder lctOrder t) (rootEctBar J estOrder (st .leaves)) ≡ true) ⊎ (ltb (lct o J estOrder lctOrder t) (rootEctBar J estOrder (st .leaves)) ≡ false)
+      by : (exceeds (ect-bar J estOrder (st .leaves)) (lct o J estOrder lctOrder t) ≡ true) ⊎ (exceeds (ect-bar J estOrder (st .leaves)) (lct o J estOrder lctOrder t) ≡ false)
           → (responsible J estOrder (st .leaves) ≡ none) ⊎ ((x : ℕ) × (responsible J estOrder (st .leaves) ≡ some x)) → I 1 t st ≡ I 0 t st
       by (inr z) w = inner-off o J estOrder lctOrder 0 t st z ∙ sym (inner-zero t st)
       by (inl z) (inl w) = inner-none o J estOrder lctOrder 0 t st z w ∙ sym (inner-zero t st)
       by (inl z) (inr w) = absurd (omega (arith, fewer (st .leaves) q (w .0) (w .1), few))
-  inner-more (suc f) t st q few = by (λ st′. inner-more f t st′) (bool (ltb (lct o J estOrder lctOrder t) (rootEctBar J estOrder (st .leaves)))) (opt (responsible J estOrder (st .leaves)))
+  inner-more (suc f) t st q few = by (λ st′. inner-more f t st′) (bool (exceeds (ect-bar J estOrder (st .leaves)) (lct o J estOrder lctOrder t))) (opt (responsible J estOrder (st .leaves)))
     where
       IH : Type 0
       IH = (st′ : State) → length (st′ .leaves) ≡ J .count → card J (lam (st′ .leaves)) ≤ f → I (suc f) t st′ ≡ I f t st′
 
-      took : IH → (x : ℕ) → ltb (lct o J estOrder lctOrder t) (rootEctBar J estOrder (st .leaves)) ≡ true → responsible J estOrder (st .leaves) ≡ some x → card J (lam (set (st .leaves) x empty)) ≤ f → I (suc (suc f)) t st ≡ I (suc f) t st
-      took ih x z w down = elim (bool (ltb (J .earliest (getD estOrder x 0)) (rootEct J estOrder (st .leaves)))) [
-        | inr y ↦ inner-pass o J estOrder lctOrder (suc f) t st x z w y ∙ ih (dropped st x) (length-set (st .leaves) x empty ∙ q) down ∙ sym (inner-pass o J estOrder lctOrder f t st x z w y)
-        | inl y ↦ elim (bool (ltb (J .latest (getD estOrder x 0)) (rootEct J estOrder (st .leaves)))) [
-          | inl a ↦ inner-stop o J estOrder lctOrder (suc f) t st x z w y a ∙ sym (inner-stop o J estOrder lctOrder f t st x z w y a)
-          | inr a ↦ inner-raise o J estOrder lctOrder (suc f) t st x z w y a
-              ∙ ih (dropped (raised (posted o J estOrder lctOrder st (getD estOrder x 0) (rootEct J estOrder (st .leaves)) t) (getD estOrder x 0) (rootEct J estOrder (st .leaves))) x) (length-set (st .leaves) x empty ∙ q) down
-              ∙ sym (inner-raise o J estOrder lctOrder f t st x z w y a)
+      took : IH → (x : ℕ) → exceeds (ect-bar J estOrder (st .leaves)) (lct o J estOrder lctOrder t) ≡ true → responsible J estOrder (st .leaves) ≡ some x → card J (lam (set (st .leaves) x empty)) ≤ f → I (suc (suc f)) t st ≡ I (suc f) t st
+      took ih x z w down = elim (past-or-not (ect J estOrder (st .leaves)) (J .earliest (getD estOrder x 0))) [
+        | inl y ↦ inner-pass o J estOrder lctOrder (suc f) t st x z w y ∙ ih (dropped st x) (length-set (st .leaves) x empty ∙ q) down ∙ sym (inner-pass o J estOrder lctOrder f t st x z w y)
+        | inr (b, is, y) ↦ elim (bool (ltb (J .latest (getD estOrder x 0)) b)) [
+          | inl a ↦ inner-stop o J estOrder lctOrder (suc f) t st x z w b is y a ∙ sym (inner-stop o J estOrder lctOrder f t st x z w b is y a)
+          | inr a ↦ inner-raise o J estOrder lctOrder (suc f) t st x z w b is y a
+              ∙ ih (dropped (raised (posted o J estOrder lctOrder st (getD estOrder x 0) b t) (getD estOrder x 0) b) x) (length-set (st .leaves) x empty ∙ q) down
+              ∙ sym (inner-raise o J estOrder lctOrder f t st x z w b is y a)
         ]
       ]
 
-      by : IH → (ltb (lct o J estOrder lctOrder t) (rootEctBar J estOrder (st .leaves)) ≡ true) ⊎ (ltb (lct o J estOrder lctOrder t) (rootEctBar J estOrder (st .leaves)) ≡ false)
+      by : IH → (exceeds (ect-bar J estOrder (st .leaves)) (lct o J estOrder lctOrder t) ≡ true) ⊎ (exceeds (ect-bar J estOrder (st .leaves)) (lct o J estOrder lctOrder t) ≡ false)
           → (responsible J estOrder (st .leaves) ≡ none) ⊎ ((x : ℕ) × (responsible J estOrder (st .leaves) ≡ some x)) → I (suc (suc f)) t st ≡ I (suc f) t st
       by ih (inr z) w = inner-off o J estOrder lctOrder (suc f) t st z ∙ sym (inner-off o J estOrder lctOrder f t st z)
       by ih (inl z) (inl w) = inner-none o J estOrder lctOrder (suc f) t st z w ∙ sym (inner-none o J estOrder lctOrder f t st z w)
@@ -159,19 +154,16 @@ module _ (o : ℕ) (J : Tasks natural) (estOrder lctOrder : List ℕ) where
     unfolding outer
     outer-end = refl
 
-    level-is : {v : Bool} → ltb (lct o J estOrder lctOrder t) (rootEct J estOrder (st .leaves)) ≡ v → exceeds (ect J estOrder (st .leaves)) (lct o J estOrder lctOrder t) ≡ v
-    level-is z = exceeds-decoded (rootEct J estOrder (st .leaves)) (lct o J estOrder lctOrder t) ∙ z
-
-    pub outer-over : ltb (lct o J estOrder lctOrder t) (rootEct J estOrder (st .leaves)) ≡ true
+    pub outer-over : exceeds (ect J estOrder (st .leaves)) (lct o J estOrder lctOrder t) ≡ true
         → outer o J estOrder lctOrder (suc f) t st ≡ ended o J estOrder lctOrder st (overload (conflict o J (lct o J estOrder lctOrder t) (sum J estOrder (st .leaves)) (theta J estOrder (st .leaves))))
     unfolding outer
-    outer-over z = rw (level-is z, outer)
+    outer-over z = rw (z, outer)
 
-    module _ (st′ : State) (z : ltb (lct o J estOrder lctOrder t) (rootEct J estOrder (st .leaves)) ≡ false) where
+    module _ (st′ : State) (z : exceeds (ect J estOrder (st .leaves)) (lct o J estOrder lctOrder t) ≡ false) where
       pub outer-on : inner o J estOrder lctOrder (J .count) (suc t) (grayed st (index estOrder (getD lctOrder t 0))) ≡ on st′ → outer o J estOrder lctOrder (suc f) t st ≡ outer o J estOrder lctOrder f (suc t) st′
       unfolding outer
-      outer-on y = rw (level-is z, y, outer) refl
+      outer-on y = rw (z, y, outer) refl
 
       pub outer-stop : inner o J estOrder lctOrder (J .count) (suc t) (grayed st (index estOrder (getD lctOrder t 0))) ≡ stop st′ → outer o J estOrder lctOrder (suc f) t st ≡ ended o J estOrder lctOrder st′ emptied
       unfolding outer
-      outer-stop y = rw (level-is z, y, outer)
+      outer-stop y = rw (z, y, outer)

@@ -3,6 +3,7 @@ use mathlib.Core.Path.{_≡_, refl, sym, ap, subst, _∙_}
 use mathlib.Core.Bool.{true, false}
 use mathlib.Core.Logic.{inl, inr}
 use mathlib.Core.List.{List, [], _∷_, _++_}
+use mathlib.Core.Option.{Option, some}
 use Prim.Native.Nat.{ℕ, suc, _+_, _-_, _/_, _≤_, _<_, min}
 use native.Mathlib.Omega.{arith}
 use native.Mathlib.Decide.{decLt, ℕ-discrete}
@@ -35,6 +36,8 @@ use Rattle.trees.specs.Searches.{thetaOf}
 use Rattle.runs.specs.Runs.{within, conflict, bounds, propagation}
 use Rattle.runs.specs.Runs as edges
 use Rattle.trees.specs.Leaves as leaves
+use Rattle.ects.specs.Ects.{exceeds}
+use Rattle.ects.proofs.Ects.{one-moment, exceeds-yes}
 use Rattle.trees.proofs.Roots as tree
 use Rattle.trees.proofs.Thetas.{theta-is}
 use Rattle.scheduling.specs.Scheduling.{Meets, Every, Admits, negation, HoldsAtEntry, Bounded, PassesWith, PassesAlone}
@@ -108,11 +111,11 @@ module _ (o : ℕ) (Z : Tasks whole) (okz : Proper Z) (deepz : (k : ℕ) → k <
   E-is : (Ω : TaskSet) → NonEmpty J Ω → Ect J Ω (E Ω)
   E-is Ω = scan-is J T rank ok rk Ω
 
-  abbrev ectOf : List Leaf → ℕ
-  ectOf = leaves.rootEct J estOrder
+  abbrev ectOf : List Leaf → Option ℕ
+  ectOf = leaves.ect J estOrder
 
-  abbrev barOf : List Leaf → ℕ
-  barOf = leaves.rootEctBar J estOrder
+  abbrev barOf : List Leaf → Option ℕ
+  barOf = leaves.ect-bar J estOrder
 
   abbrev En : ℕ → ℕ
   En t = completion J (L t)
@@ -148,14 +151,14 @@ module _ (o : ℕ) (Z : Tasks whole) (okz : Proper Z) (deepz : (k : ℕ) → k <
       on-out : (a k : ℕ) → a ≤ rank k → Θ k ≡ true → onward a k ≡ true
       on-out = walks.onward-out o J ok estOrder lctOrder rk ls Θ Λ s
 
-      ect-is : ectOf ls ≡ E Θ
-      ect-is = tree.ect-is J ok estOrder rk ls Θ Λ s
+      last-Θ : In J Θ (L t)
+      last-Θ = record { small = ord .task t small; mem = le-leb t (place (L t)) (omega (arith, ord .back t small)) }
 
-      some-Θ : NonEmpty J Θ
-      some-Θ = (L t, record { small = ord .task t small; mem = le-leb t (place (L t)) (omega (arith, ord .back t small)) })
+      ect-is : ectOf ls ≡ some (E Θ)
+      ect-is = tree.moment-some J ok estOrder rk ls Θ Λ s (L t) last-Θ
 
-      ect : Ect J Θ (ectOf ls)
-      ect = subst (Ect J Θ) (sym ect-is) (E-is Θ some-Θ)
+      ect-of : (b : ℕ) → ectOf ls ≡ some b → Ect J Θ b
+      ect-of b = tree.moment-is J ok estOrder rk ls Θ Λ s b .0
 
       -- in the order of earliest starts
       after : (a k : ℕ) → k < n → a ≤ rank k → ea a ≤ J .earliest k
@@ -179,12 +182,9 @@ module _ (o : ℕ) (Z : Tasks whole) (okz : Proper Z) (deepz : (k : ℕ) → k <
       at-rank k q y = rw (rk .there k q) y
 
       -- a post -----------------------------------------------------------------------------------------------------------------
-      module _ (x : ℕ) (f : tree.Found J ok estOrder rk ls Θ Λ s x) (late : place (T x) < t) (over : En t < barOf ls) (up : J .earliest (T x) < ectOf ls) where
+      module _ (x : ℕ) (f : tree.Found J ok estOrder rk ls Θ Λ s x) (late : place (T x) < t) (over : exceeds (barOf ls) (En t) ≡ true) (b : ℕ) (is : ectOf ls ≡ some b) (up : J .earliest (T x) < b) where
         abbrev i : ℕ
         i = T x
-
-        abbrev b : ℕ
-        b = ectOf ls
 
         abbrev c : ℕ
         c = En t
@@ -199,10 +199,10 @@ module _ (o : ℕ) (Z : Tasks whole) (okz : Proper Z) (deepz : (k : ℕ) → k <
         i-out = lt-leb t (place i) late
 
         hit : c < E (Θ with i)
-        hit = omega (arith, over, f .reaches, E-is (Θ with i) (i, record { small = i-small; mem = with-new Θ i }) .bounds (f .value) (f .attains))
+        hit = omega (arith, tree.past-found J ok estOrder rk ls Θ Λ s f c over, E-is (Θ with i) (i, record { small = i-small; mem = with-new Θ i }) .bounds (f .value) (f .attains))
 
         edge-ℕ : EdgeFindingBound J i b
-        edge-ℕ = subst (EdgeFindingBound J i) (sym ect-is) (edge J ok E E-is L place ord t i i-small late small hit)
+        edge-ℕ = subst (EdgeFindingBound J i) (one-moment ect-is is) (edge J ok E E-is L place ord t i i-small late small hit)
 
         edge-ℤ : EdgeFindingBound Z i (at b)
         edge-ℤ = let e : Is o Z okz deepz (EdgeFindingBound Z i) b = edge← o Z okz deepz i b edge-ℕ in
@@ -211,7 +211,7 @@ module _ (o : ℕ) (Z : Tasks whole) (okz : Proper Z) (deepz : (k : ℕ) → k <
         -- the first walk
         one : walks.First o J ok estOrder lctOrder rk ls Θ Λ s i c b 0 As
         one =
-            let (m, mm, h) = stops.passing J T rank rk Θ i c b (f .value) (f .attains) (f .has) i-small (omega (arith, over, f .reaches)) ect up in
+            let (m, mm, h) = stops.passing J T rank rk Θ i c b (f .value) (f .attains) (f .has) i-small (tree.past-found J ok estOrder rk ls Θ Λ s f c over) (ect-of b is) up in
             subst (λ (l : List ℕ). walks.First o J ok estOrder lctOrder rk ls Θ Λ s i c b 0 (propagation o J i b c (leaves.sum J estOrder ls) l)) (sym (theta-is J estOrder ls))
             (walks.first-stops o J ok estOrder lctOrder rk ls Θ Λ s i c b n 0 (leaves.sum J estOrder ls) (rank m) (omega arith) (walks.sum-is o J ok estOrder lctOrder rk ls Θ Λ s) (omega arith)
             (rk .placed m (mm .small)) (at-rank m (mm .small) (mm .mem)) (omega (arith, h, ap (J .earliest) (rk .there m (mm .small)))))
@@ -228,9 +228,9 @@ module _ (o : ℕ) (Z : Tasks whole) (okz : Proper Z) (deepz : (k : ℕ) → k <
         -- the second
         two : walks.Second o J ok estOrder lctOrder rk ls Θ Λ s b r last m (bounds o J b r last (dr m) (thetaOf (whiteAt ls) (taskAt J estOrder) m (one .left)))
         two =
-            let (j, jm, h) = suffixes.attaining J T rank rk Θ b ect in
+            let (j, jm, h) = suffixes.attaining J T rank rk Θ b (ect-of b is) in
             let back : dr (rank (T m)) ≡ dr m = ap dr (rk .back m (one .small)) in
-            let q : rank (T m) ≤ rank j = stops.after-first J T rank rk Θ i c b (T m) j ect (record { small = rk .task m (one .small); mem = one .mem }) jm
+            let q : rank (T m) ≤ rank j = stops.after-first J T rank rk Θ i c b (T m) j (ect-of b is) (record { small = rk .task m (one .small); mem = one .mem }) jm
             (omega (arith, one .over, back))
             (λ l. omega (arith, one .before (rank j) (omega arith) (omega (arith, rk .back m (one .small))) (at-rank j (jm .small) (jm .mem)), ap (J .earliest) (rk .there j (jm .small)))) h in
             walks.second-stops o J ok estOrder lctOrder rk ls Θ Λ s b r last (one .left) m (dr m) (rank j) (one .all) refl (omega (arith, rk .back m (one .small))) (rk .placed j (jm .small)) (at-rank j (jm .small) (jm .mem))
@@ -386,7 +386,7 @@ module _ (o : ℕ) (Z : Tasks whole) (okz : Proper Z) (deepz : (k : ℕ) → k <
         }
 
       -- an overload -------------------------------------------------------------------------------------------------------------
-      module _ (room : (k : ℕ) → k < n → defs.processing J (λ _. true) ≤ J .earliest k) (over : En t < ectOf ls) where
+      module _ (room : (k : ℕ) → k < n → defs.processing J (λ _. true) ≤ J .earliest k) (passes : exceeds (ectOf ls) (En t) ≡ true) where
         abbrev d : ℕ
         d = En t
 
@@ -395,7 +395,8 @@ module _ (o : ℕ) (Z : Tasks whole) (okz : Proper Z) (deepz : (k : ℕ) → k <
 
         stopped : walks.Stopped o J ok estOrder lctOrder rk ls Θ Λ s d Os
         stopped =
-            let (j, jm, h) = suffixes.attaining J T rank rk Θ (ectOf ls) ect in
+            let (b, is, over) = exceeds-yes (ectOf ls) d passes in
+            let (j, jm, h) = suffixes.attaining J T rank rk Θ b (ect-of b is) in
             subst (λ (l : List ℕ). walks.Stopped o J ok estOrder lctOrder rk ls Θ Λ s d (conflict o J d (leaves.sum J estOrder ls) l)) (sym (theta-is J estOrder ls))
             (walks.conflict-stops o J ok estOrder lctOrder rk ls Θ Λ s d n 0 (leaves.sum J estOrder ls) (rank j) (omega arith) (walks.sum-is o J ok estOrder lctOrder rk ls Θ Λ s) (omega arith)
             (rk .placed j (jm .small)) (at-rank j (jm .small) (jm .mem)) (omega (arith, h, over, ap (J .earliest) (rk .there j (jm .small)))))
@@ -490,4 +491,4 @@ module _ (o : ℕ) (Z : Tasks whole) (okz : Proper Z) (deepz : (k : ℕ) → k <
         overload-right = record { reason-holds = subst (HoldsAtEntry Z) (sym (stopped .is)) entry-O; reason-passes = subst (PassesAlone Z) (sym (stopped .is)) alone }
 
   pub all-right : ((k : ℕ) → k < n → defs.processing J (λ _. true) ≤ J .earliest k) → Measure o J ok estOrder lctOrder rk ord (PostRight Z) (OverloadRight Z)
-  all-right room = record { of-post = λ t ls Λ s x small f late over up. post-right t ls Λ s small x f late over up; of-end = λ t ls Λ s small over. overload-right t ls Λ s small room over }
+  all-right room = record { of-post = λ t ls Λ s x b small f late over is up. post-right t ls Λ s small x f late over b is up; of-end = λ t ls Λ s small over. overload-right t ls Λ s small room over }

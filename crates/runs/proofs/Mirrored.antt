@@ -63,6 +63,16 @@ mirror-tasks ds es ls e l = λ i. record {
   duration = λ k. getD ds k 0;
 }
 
+-- a start and one that is mirrored: mirroring the other in its place turns their order around
+above : (p : ℕ) (z s : ℤ) → s ≤ℤ mirrorStart p z → z ≤ℤ mirrorStart p s
+above p z s h = omega (ints, at-mirror p z, at-mirror p s)
+
+below : (p : ℕ) (z s : ℤ) → mirrorStart p z ≤ℤ s → mirrorStart p s ≤ℤ z
+below p z s h = omega (ints, at-mirror p z, at-mirror p s)
+
+below< : (p : ℕ) (z s : ℤ) → mirrorStart p z <ℤ s → mirrorStart p s <ℤ z
+below< p z s h = omega (ints, at-mirror p z, at-mirror p s)
+
 -- Traces -----------------------------------------------------------------------------------------------------------------------
 
 module _ (ds : List ℕ) where
@@ -70,6 +80,11 @@ module _ (ds : List ℕ) where
   end-done done = (λ _. refl, λ _. refl)
   end-done (overload r) = (λ z. let y : _≡_ {A = ℕ} 0 1 = cc in absurd (omega arith), λ z. let y : _≡_ {A = ℕ} 0 1 = cc in absurd (omega arith))
   end-done emptied = (λ z. let y : _≡_ {A = ℕ} 0 1 = cc in absurd (omega arith), λ z. let y : _≡_ {A = ℕ} 0 1 = cc in absurd (omega arith))
+
+  end-emptied : (e : End) → mirrorEnd ds e ≡ emptied ↔ e ≡ emptied
+  end-emptied done = (λ z. let y : _≡_ {A = ℕ} 0 1 = cc in absurd (omega arith), λ z. let y : _≡_ {A = ℕ} 0 1 = cc in absurd (omega arith))
+  end-emptied (overload r) = (λ z. let y : _≡_ {A = ℕ} 0 1 = cc in absurd (omega arith), λ z. let y : _≡_ {A = ℕ} 0 1 = cc in absurd (omega arith))
+  end-emptied emptied = (λ _. refl, λ _. refl)
 
   pub end-overload : (e : End) (reason : List Atom) → mirrorEnd ds e ≡ overload reason → (r : List Atom) × (e ≡ overload r) × (mirrorAtoms (durationIn ds) r ≡ reason)
   end-overload done reason z = let y : _≡_ {A = ℕ} 0 1 = cc in absurd (omega arith)
@@ -107,6 +122,40 @@ module _ (ds : List ℕ) (es ls : List ℤ) where
     reason-passes = subst (PassesAlone (mirror J)) (sym (atoms-twice (J .duration) reason)) (r .reason-passes);
   }
 
+  -- the latest starts, whatever the outcome
+  module _ (t : Trace) (long : length (t .starts) ≡ length ds) (r : Right (mirror J) t) where
+    made : length (mirrorTrace ds t .posts) ≡ length (t .posts)
+    made = posts-same ds t
+
+    below-earliest : (j : ℕ) → j < length (mirrorTrace ds t .posts)
+        → post (mirrorTrace ds t) j .bound <ℤ J .earliest (post (mirrorTrace ds t) j .task) ↔ ((mirrorEnd ds (t .end) ≡ emptied) × (suc j ≡ length (mirrorTrace ds t .posts)))
+    below-earliest j m =
+        let q : j < length (t .posts) = omega (arith, made) in
+        let p : Post = post t j in
+        let d : ℕ = J .duration (p .task) in
+        subst (λ (x : Post). x .bound <ℤ J .earliest (x .task) ↔ ((mirrorEnd ds (t .end) ≡ emptied) × (suc j ≡ length (mirrorTrace ds t .posts)))) (sym (post-at ds t j q)) (
+          λ h. (let (e, z) = r .above j q .0 (below< d (p .bound) (J .earliest (p .task)) h) in (end-emptied ds (t .end) .1 e, z ∙ sym made)),
+          λ (e, z). below< d (J .earliest (p .task)) (p .bound) (r .above j q .1 (end-emptied ds (t .end) .0 e, z ∙ made)),
+        )
+
+    stands : (j : ℕ) → j < length (mirrorTrace ds t .posts) → J .earliest (post (mirrorTrace ds t) j .task) ≤ℤ post (mirrorTrace ds t) j .bound
+        → getD (mirrorStarts ds (t .starts)) (post (mirrorTrace ds t) j .task) (pos 0) ≡ post (mirrorTrace ds t) j .bound
+    stands j m =
+        let q : j < length (t .posts) = omega (arith, made) in
+        let p : Post = post t j in
+        let d : ℕ = J .duration (p .task) in
+        subst (λ (x : Post). J .earliest (x .task) ≤ℤ x .bound → getD (mirrorStarts ds (t .starts)) (x .task) (pos 0) ≡ x .bound) (sym (post-at ds t j q))
+        (λ h. mirror-at ds (t .starts) long (p .task) ∙ ap (mirrorStart d) (r .stands j q (above d (p .bound) (J .earliest (p .task)) h)))
+
+    stays : (k : ℕ) → k < J .count
+        → ((j : ℕ) → j < length (mirrorTrace ds t .posts) → J .earliest (post (mirrorTrace ds t) j .task) ≤ℤ post (mirrorTrace ds t) j .bound → post (mirrorTrace ds t) j .task ≡ k → ⊥)
+        → getD (mirrorStarts ds (t .starts)) k (pos 0) ≡ J .latest k
+    stays k q none = mirror-at ds (t .starts) long k ∙ ap (mirrorStart (J .duration k)) (r .stays k q free) ∙ start-twice (J .duration k) (J .latest k)
+      where
+        free : (j : ℕ) → j < length (t .posts) → post t j .bound ≤ℤ mirror J .latest (post t j .task) → post t j .task ≡ k → ⊥
+        free j m h = subst (λ (x : Post). J .earliest (x .task) ≤ℤ x .bound → x .task ≡ k → ⊥) (post-at ds t j m) (none j (omega (arith, made)))
+            (above (J .duration (post t j .task)) (J .earliest (post t j .task)) (post t j .bound) h)
+
   pub right-mirrored : (t : Trace) → length (t .starts) ≡ length ds → Right (mirror J) t → MirroredRight J (mirrorTrace ds t)
   right-mirrored t long r = record {
     exactly = (
@@ -120,6 +169,10 @@ module _ (ds : List ℕ) (es ls : List ℤ) where
     otherwise = λ n s h. r .otherwise (λ z. n (end-done ds (t .end) .1 z)) (λ k. mirrorStart (J .duration k) (s k)) (schedule-mirrored J s h);
     posts = λ j q. let p : j < length (t .posts) = omega (arith, posts-same ds t) in subst (MirroredPostRight J) (sym (post-at ds t j p)) (right-post (post t j) (r .posts j p));
     overloads = λ reason z. let (a, e, same) = end-overload ds (t .end) reason z in subst (MirroredOverloadRight J) same (right-overload a (r .overloads a e));
+    some-post = λ e. omega (arith, posts-same ds t, r .some-post (end-emptied ds (t .end) .0 e));
+    below = below-earliest t long r;
+    stands = stands t long r;
+    stays = stays t long r;
   }
     where
       now : ℕ → ℤ
@@ -155,13 +208,6 @@ high p z h = omega (ints, at-mirror p z)
 wider : (z : ℤ) → z ≤ℤ pos START → z ≤ℤ pos MIRRORED
 unfolding up dn
 wider z h = omega ints
-
--- and of the starts that they are mirrored back from
-above : (p : ℕ) (z s : ℤ) → s ≤ℤ mirrorStart p z → z ≤ℤ mirrorStart p s
-above p z s h = omega (ints, at-mirror p z, at-mirror p s)
-
-below : (p : ℕ) (z s : ℤ) → mirrorStart p z ≤ℤ s → mirrorStart p s ≤ℤ z
-below p z s h = omega (ints, at-mirror p z, at-mirror p s)
 
 shaped-near : (ds : List ℕ) (es ls : List ℤ) (a : Atom) → Shaped zeroAt (moments zeroAt (tasksOf ds es ls)) (zeroAt - START) (zeroAt + START) DURATIONS a → Near ds a
 unfolding up dn

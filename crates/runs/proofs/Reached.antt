@@ -9,13 +9,14 @@ use Prim.Native.Nat.{ℕ, suc, _<_}
 use native.Mathlib.Omega.{arith}
 use lib.Dec.{ltb}
 use lib.ListN.{getD}
-use borrow.Author.Tests.{le-leb, ltb-true, ltb-false}
+use borrow.Author.Tests.{ltb-true, ltb-false}
 use Rattle.integers.specs.Orders.{index}
 use Rattle.integers.proofs.Bools.{bool, clash}
 use Rattle.scheduling.specs.Scheduling.{natural, Tasks, Proper, Atom}
 use Rattle.scheduling.specs.Moments.{ByEarliest, ByCompletion}
 use Rattle.scheduling.proofs.Cards.{card-most}
-use Rattle.ects.proofs.Ects.{exceeds-decoded}
+use Rattle.ects.specs.Ects.{exceeds}
+use Rattle.ects.proofs.Ects.{past-or-not}
 use Rattle.trees.specs.Leaves as leaves
 use Rattle.trees.proofs.Roots as tree
 use Rattle.runs.specs.Traces.{Post}
@@ -42,8 +43,7 @@ module _ (o : ℕ) (J : Tasks natural) (ok : Proper J) (estOrder lctOrder : List
 
   -- at the head of a level, where Θ does not overload
   quiet-moved : (t : ℕ) (st : State) → t < J .count → Closed t st → Quiet o J estOrder lctOrder t st → Inv (suc t) (movedOn o J estOrder lctOrder t st)
-  quiet-moved t st small c q = steps.gray-ok o J ok estOrder lctOrder rk ord Good GoodEnd meas t st small c
-      (omega (arith, ltb-false (steps.En o J ok estOrder lctOrder rk ord t) (leaves.rootEct J estOrder (st .leaves)) (sym (exceeds-decoded (leaves.rootEct J estOrder (st .leaves)) (steps.En o J ok estOrder lctOrder rk ord t)) ∙ q), tree.ect-is J ok estOrder rk (st .leaves) (steps.Th o J ok estOrder lctOrder rk ord t) (steps.lam o J ok estOrder lctOrder rk ord Good GoodEnd meas st) (steps.shape o J ok estOrder lctOrder rk ord Good GoodEnd meas t st (c .inv))))
+  quiet-moved t st small c q = steps.gray-ok o J ok estOrder lctOrder rk ord Good GoodEnd meas t st small c (steps.theta-within o J ok estOrder lctOrder rk ord Good GoodEnd meas t st small (c .inv) q)
 
   pub entered-closed : (t : ℕ) (st : State) → Entered o J estOrder lctOrder t st → t < J .count → Closed t st
   entered-closed t st begins small = steps.first-closed o J ok estOrder lctOrder rk ord Good GoodEnd meas
@@ -54,9 +54,6 @@ module _ (o : ℕ) (J : Tasks natural) (ok : Proper J) (estOrder lctOrder : List
   module _ (t : ℕ) (st st′ : State) (small : t < J .count) (v : Inv t st) where
     abbrev T : ℕ → ℕ
     T x = getD estOrder x 0
-
-    abbrev ect : ℕ
-    ect = leaves.rootEct J estOrder (st .leaves)
 
     abbrev Θ : ℕ → Bool
     Θ = steps.Th o J ok estOrder lctOrder rk ord t
@@ -71,13 +68,13 @@ module _ (o : ℕ) (J : Tasks natural) (ok : Proper J) (estOrder lctOrder : List
     leads : {s : State} → inner o J estOrder lctOrder 1 t st ≡ on s → Inv t s → inner o J estOrder lctOrder 1 t st ≡ on st′ → Inv t st′
     leads {s} z w e = subst (Inv t) (ap state-of (sym z ∙ e)) w
 
-    took : (x : ℕ) → ltb (steps.En o J ok estOrder lctOrder rk ord t) (leaves.rootEctBar J estOrder (st .leaves)) ≡ true → leaves.responsible J estOrder (st .leaves) ≡ some x → inner o J estOrder lctOrder 1 t st ≡ on st′ → Inv t st′
-    took x z w e = elim (bool (ltb (J .earliest (T x)) ect)) [
-      | inr y ↦ leads (inner-pass o J estOrder lctOrder 0 t st x z w y ∙ inner-end o J estOrder lctOrder 0 t (dropped st x)) (steps.pass-ok o J ok estOrder lctOrder rk ord Good GoodEnd meas t st small v x found (ltb-true _ _ z) (ltb-false _ _ y)) e
-      | inl y ↦ elim (bool (ltb (J .latest (T x)) ect)) [
-        | inl a ↦ clash {b = false} (ap goes-on (sym (inner-stop o J estOrder lctOrder 0 t st x z w y a) ∙ e)) refl
-        | inr a ↦ leads (inner-raise o J estOrder lctOrder 0 t st x z w y a ∙ inner-end o J estOrder lctOrder 0 t (dropped (raised (posted o J estOrder lctOrder st (T x) ect t) (T x) ect) x))
-            (steps.raise-ok o J ok estOrder lctOrder rk ord Good GoodEnd meas t st small v x found (ltb-true _ _ z) (ltb-true _ _ y) (ltb-false _ _ a)) e
+    took : (x : ℕ) → exceeds (leaves.ect-bar J estOrder (st .leaves)) (steps.En o J ok estOrder lctOrder rk ord t) ≡ true → leaves.responsible J estOrder (st .leaves) ≡ some x → inner o J estOrder lctOrder 1 t st ≡ on st′ → Inv t st′
+    took x z w e = elim (past-or-not (leaves.ect J estOrder (st .leaves)) (J .earliest (T x))) [
+      | inl y ↦ leads (inner-pass o J estOrder lctOrder 0 t st x z w y ∙ inner-end o J estOrder lctOrder 0 t (dropped st x)) (steps.pass-ok o J ok estOrder lctOrder rk ord Good GoodEnd meas t st small v x found z y) e
+      | inr (b, is, y) ↦ elim (bool (ltb (J .latest (T x)) b)) [
+        | inl a ↦ clash {b = false} (ap goes-on (sym (inner-stop o J estOrder lctOrder 0 t st x z w b is y a) ∙ e)) refl
+        | inr a ↦ leads (inner-raise o J estOrder lctOrder 0 t st x z w b is y a ∙ inner-end o J estOrder lctOrder 0 t (dropped (raised (posted o J estOrder lctOrder st (T x) b t) (T x) b) x))
+            (steps.raise-ok o J ok estOrder lctOrder rk ord Good GoodEnd meas t st small v x found z b is (ltb-true _ _ y) (ltb-false _ _ a)) e
       ]
     ]
       where
@@ -85,7 +82,7 @@ module _ (o : ℕ) (J : Tasks natural) (ok : Proper J) (estOrder lctOrder : List
         found = tree.one-found J ok estOrder rk (st .leaves) Θ Λ shape x w
 
     turn-inv : inner o J estOrder lctOrder 1 t st ≡ on st′ → Inv t st′
-    turn-inv e = elim (bool (ltb (steps.En o J ok estOrder lctOrder rk ord t) (leaves.rootEctBar J estOrder (st .leaves)))) [
+    turn-inv e = elim (bool (exceeds (leaves.ect-bar J estOrder (st .leaves)) (steps.En o J ok estOrder lctOrder rk ord t))) [
       | inr z ↦ leads (inner-off o J estOrder lctOrder 0 t st z) v e
       | inl z ↦ elim (opt (leaves.responsible J estOrder (st .leaves))) [
         | inl w ↦ leads (inner-none o J estOrder lctOrder 0 t st z w) v e
@@ -99,7 +96,5 @@ module _ (o : ℕ) (J : Tasks natural) (ok : Proper J) (estOrder lctOrder : List
   reached-inv t st (turned t₀ st₀ st₁ r e) small = turn-inv t st₀ st small (reached-inv t st₀ r small) e
 
   -- Θ has a task at every one of them, so that its ect is a moment
-  pub reached-ect : (t : ℕ) (st : State) → Reached o J estOrder lctOrder t st → t < J .count → leaves.ect J estOrder (st .leaves) ≡ some (leaves.rootEct J estOrder (st .leaves))
-  reached-ect t st r small =
-      tree.moment-some J ok estOrder rk (st .leaves) (steps.Th o J ok estOrder lctOrder rk ord t) (steps.lam o J ok estOrder lctOrder rk ord Good GoodEnd meas st) (steps.shape o J ok estOrder lctOrder rk ord Good GoodEnd meas t st (reached-inv t st r small))
-      (getD lctOrder t 0) (record { small = ord .task t small; mem = le-leb t (index lctOrder (getD lctOrder t 0)) (omega (arith, ord .back t small)) })
+  pub reached-ect : (t : ℕ) (st : State) → Reached o J estOrder lctOrder t st → t < J .count → (b : ℕ) × (leaves.ect J estOrder (st .leaves) ≡ some b)
+  reached-ect t st r small = (steps.E o J ok estOrder lctOrder rk ord (steps.Th o J ok estOrder lctOrder rk ord t), steps.theta-ect o J ok estOrder lctOrder rk ord Good GoodEnd meas t st small (reached-inv t st r small))

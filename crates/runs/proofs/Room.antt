@@ -91,10 +91,10 @@ module _ (o : ℕ) (J : Tasks natural) (ok : Proper J) (estOrder lctOrder : List
 
   pub short : Measure o J ok estOrder lctOrder rk ord Short ShortEnd
   short = record {
-    of-post = λ t ls Λ s x small f late over up.
+    of-post = λ t ls Λ s x b small f late over is up.
         omega (
           arith,
-          propagation-length o J (getD estOrder x 0) (Rattle.trees.specs.Leaves.rootEct J estOrder ls) (Rattle.scheduling.specs.Scheduling.completion J (getD lctOrder t 0)) (Rattle.trees.specs.Leaves.sum J estOrder ls) (theta J estOrder ls),
+          propagation-length o J (getD estOrder x 0) b (Rattle.scheduling.specs.Scheduling.completion J (getD lctOrder t 0)) (Rattle.trees.specs.Leaves.sum J estOrder ls) (theta J estOrder ls),
           theta-less ls x (f .small) (found-not-white t ls Λ s x f),
         );
     of-end = λ t ls Λ s small over.

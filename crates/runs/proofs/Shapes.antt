@@ -2,6 +2,7 @@
 -- Assumes nothing.
 use mathlib.Core.Path.{_≡_, refl}
 use mathlib.Core.Bool.{true, false}
+use mathlib.Core.Option.{some}
 use mathlib.Core.List.{List, [], _∷_}
 use mathlib.Core.Logic.{inl, inr}
 use Prim.Native.Nat.{ℕ, _+_, _-_, _*_, _/_, _≤_, _<_, min}
@@ -171,21 +172,21 @@ module _ (o : ℕ) (J : Tasks natural) (ok : Proper J) (low high d : ℕ) (early
       last : Task (getD lctOrder t 0)
       last = task (getD lctOrder t 0) (ord .task t small)
 
-      ect-most : leaves.rootEct J estOrder ls ≤ high + leaves.sum J estOrder ls
-      ect-most =
-          let e = stops.ect-is o J ok estOrder lctOrder rk ord t ls Λ s small .holds in
+      ect-most : (b : ℕ) → leaves.ect J estOrder ls ≡ some b → b ≤ high + leaves.sum J estOrder ls
+      ect-most b is =
+          let e = stops.ect-is o J ok estOrder lctOrder rk ord t ls Λ s small b is .holds in
           let (k, m, z) = e .est .holds in
           omega (arith, z, e .sum, sum-is, task k (m .small) .until, processing-mono J (e .part) Θ (e .within))
 
     pub shaped : Measure o J ok estOrder lctOrder rk ord (ShapedPost o J low high d) (ShapedEnd o J low high d)
     shaped = record {
-      of-post = λ t ls Λ s x small f late over up.
+      of-post = λ t ls Λ s x b small f late over is up.
           let i = task (getD estOrder x 0) (f .gray .small) in
           let m : leaves.sum J estOrder ls + J .duration (getD estOrder x 0) ≤ d = sum-with t ls Λ s small (getD estOrder x 0) (f .gray .small) (f .out) in
           record {
-            says = record { task = i .small; kind = omega arith; at = leaves.rootEct J estOrder ls; value = refl; from = omega (arith, i .starts, i .short, up); to = omega (arith, m, ect-most t ls Λ s small) };
-            because = propagation-fits (getD estOrder x 0) (leaves.rootEct J estOrder ls) (completion J (getD lctOrder t 0)) (leaves.sum J estOrder ls) i (last t ls Λ s small .ends) m (theta J estOrder ls) (listed t ls Λ s small);
-            few = omega (arith, room.short o J ok estOrder lctOrder rk ord .of-post t ls Λ s x small f late over up);
+            says = record { task = i .small; kind = omega arith; at = b; value = refl; from = omega (arith, i .starts, i .short, up); to = omega (arith, m, ect-most t ls Λ s small b is) };
+            because = propagation-fits (getD estOrder x 0) b (completion J (getD lctOrder t 0)) (leaves.sum J estOrder ls) i (last t ls Λ s small .ends) m (theta J estOrder ls) (listed t ls Λ s small);
+            few = omega (arith, room.short o J ok estOrder lctOrder rk ord .of-post t ls Λ s x b small f late over is up);
           };
       of-end = λ t ls Λ s small over. record {
         because = conflict-fits (completion J (getD lctOrder t 0)) (leaves.sum J estOrder ls) (last t ls Λ s small .ends) (last t ls Λ s small .by) (sum-most t ls Λ s small) (theta J estOrder ls) (listed t ls Λ s small);

@@ -22,7 +22,9 @@ use Rattle.integers.proofs.Filling.{getD-map-in}
 use Rattle.integers.proofs.Moments.{mono, reflect, above-up, more-above, moment-instant, instant-above}
 use Rattle.scheduling.specs.Scheduling.{natural, Tasks, tasksOf}
 use Rattle.scheduling.specs.Moments.{moments}
-use Rattle.trees.specs.Leaves.{rootEct, rootEctBar, responsible}
+use Rattle.ects.specs.Ects.{exceeds}
+use Rattle.ects.proofs.Ects.{past-or-not}
+use Rattle.trees.specs.Leaves.{ect, ect-bar, responsible}
 use Rattle.runs.specs.Traces.{Trace}
 use Rattle.runs.specs.Runs.{State, Turn, on, stop, inner, outer, run, lct, grayed, dropped, raised, posted, tabulate, propagate, earliestOrder, completionOrder}
 use Rattle.runs.proofs.Demand.{Accepted}
@@ -38,7 +40,7 @@ startsOf (stop st) = st .starts
 module _ (o : ℕ) (J : Tasks natural) (estOrder lctOrder : List ℕ) (P : List ℕ → Type 0) (raises : (l : List ℕ) (i b : ℕ) → J .earliest i < b → b ≤ J .latest i → P l → P (set l i b)) where
   inner-keeps : (f t : ℕ) (st : State) → P (st .starts) → P (startsOf (inner o J estOrder lctOrder f t st))
   inner-keeps zero t st h = subst (λ (u : Turn). P (startsOf u)) (sym (inner-end o J estOrder lctOrder 0 t st)) h
-  inner-keeps (suc f) t st h = by (inner-keeps f t) (bool (ltb (lct o J estOrder lctOrder t) (rootEctBar J estOrder (st .leaves))))
+  inner-keeps (suc f) t st h = by (inner-keeps f t) (bool (exceeds (ect-bar J estOrder (st .leaves)) (lct o J estOrder lctOrder t)))
     where
       Keeps : Turn → Type 0
       Keeps u = P (startsOf u)
@@ -46,18 +48,18 @@ module _ (o : ℕ) (J : Tasks natural) (estOrder lctOrder : List ℕ) (P : List 
       IH : Type 0
       IH = (st′ : State) → P (st′ .starts) → P (startsOf (inner o J estOrder lctOrder f t st′))
 
-      took : IH → (x : ℕ) → ltb (lct o J estOrder lctOrder t) (rootEctBar J estOrder (st .leaves)) ≡ true → responsible J estOrder (st .leaves) ≡ some x → Keeps (inner o J estOrder lctOrder (suc f) t st)
-      took ih x z w = let i : ℕ = getD estOrder x 0 in let b : ℕ = rootEct J estOrder (st .leaves) in
-          elim (bool (ltb (J .earliest i) b)) [
-            | inr y ↦ subst Keeps (sym (inner-pass o J estOrder lctOrder f t st x z w y)) (ih (dropped st x) h)
-            | inl y ↦ elim (bool (ltb (J .latest i) b)) [
-              | inl a ↦ subst Keeps (sym (inner-stop o J estOrder lctOrder f t st x z w y a)) h
-              | inr a ↦ subst Keeps (sym (inner-raise o J estOrder lctOrder f t st x z w y a))
+      took : IH → (x : ℕ) → exceeds (ect-bar J estOrder (st .leaves)) (lct o J estOrder lctOrder t) ≡ true → responsible J estOrder (st .leaves) ≡ some x → Keeps (inner o J estOrder lctOrder (suc f) t st)
+      took ih x z w = let i : ℕ = getD estOrder x 0 in
+          elim (past-or-not (ect J estOrder (st .leaves)) (J .earliest i)) [
+            | inl y ↦ subst Keeps (sym (inner-pass o J estOrder lctOrder f t st x z w y)) (ih (dropped st x) h)
+            | inr (b, is, y) ↦ elim (bool (ltb (J .latest i) b)) [
+              | inl a ↦ subst Keeps (sym (inner-stop o J estOrder lctOrder f t st x z w b is y a)) h
+              | inr a ↦ subst Keeps (sym (inner-raise o J estOrder lctOrder f t st x z w b is y a))
                   (ih (dropped (raised (posted o J estOrder lctOrder st i b t) i b) x) (raises (st .starts) i b (ltb-true (J .earliest i) b y) (ltb-false (J .latest i) b a) h))
             ]
           ]
 
-      by : IH → (ltb (lct o J estOrder lctOrder t) (rootEctBar J estOrder (st .leaves)) ≡ true) ⊎ (ltb (lct o J estOrder lctOrder t) (rootEctBar J estOrder (st .leaves)) ≡ false) → Keeps (inner o J estOrder lctOrder (suc f) t st)
+      by : IH → (exceeds (ect-bar J estOrder (st .leaves)) (lct o J estOrder lctOrder t) ≡ true) ⊎ (exceeds (ect-bar J estOrder (st .leaves)) (lct o J estOrder lctOrder t) ≡ false) → Keeps (inner o J estOrder lctOrder (suc f) t st)
       by ih (inr z) = subst Keeps (sym (inner-off o J estOrder lctOrder f t st z)) h
       by ih (inl z) = elim (opt (responsible J estOrder (st .leaves)))
           [ inl w ↦ subst Keeps (sym (inner-none o J estOrder lctOrder f t st z w)) h | inr w ↦ took ih (w .0) z (w .1) ]
@@ -68,7 +70,7 @@ module _ (o : ℕ) (J : Tasks natural) (estOrder lctOrder : List ℕ) (P : List 
 
   outer-keeps : (f t : ℕ) (st : State) → P (st .starts) → Left (outer o J estOrder lctOrder f t st)
   outer-keeps zero t st h = subst Left (sym (outer-end o J estOrder lctOrder 0 t st)) (st .starts, refl, h)
-  outer-keeps (suc f) t st h = by (outer-keeps f (suc t)) (bool (ltb (lct o J estOrder lctOrder t) (rootEct J estOrder (st .leaves))))
+  outer-keeps (suc f) t st h = by (outer-keeps f (suc t)) (bool (exceeds (ect J estOrder (st .leaves)) (lct o J estOrder lctOrder t)))
     where
       IH : Type 0
       IH = (st′ : State) → P (st′ .starts) → Left (outer o J estOrder lctOrder f (suc t) st′)
@@ -76,7 +78,7 @@ module _ (o : ℕ) (J : Tasks natural) (estOrder lctOrder : List ℕ) (P : List 
       turned : (u : Turn) → inner o J estOrder lctOrder (J .count) (suc t) (grayed st (index estOrder (getD lctOrder t 0))) ≡ u → P (startsOf u)
       turned u e = subst (λ (u : Turn). P (startsOf u)) e (inner-keeps (J .count) (suc t) (grayed st (index estOrder (getD lctOrder t 0))) h)
 
-      by : IH → (ltb (lct o J estOrder lctOrder t) (rootEct J estOrder (st .leaves)) ≡ true) ⊎ (ltb (lct o J estOrder lctOrder t) (rootEct J estOrder (st .leaves)) ≡ false) → Left (outer o J estOrder lctOrder (suc f) t st)
+      by : IH → (exceeds (ect J estOrder (st .leaves)) (lct o J estOrder lctOrder t) ≡ true) ⊎ (exceeds (ect J estOrder (st .leaves)) (lct o J estOrder lctOrder t) ≡ false) → Left (outer o J estOrder lctOrder (suc f) t st)
       by ih (inl z) = subst Left (sym (outer-over o J estOrder lctOrder f t st z)) (st .starts, refl, h)
       by ih (inr z) = elim (turn (inner o J estOrder lctOrder (J .count) (suc t) (grayed st (index estOrder (getD lctOrder t 0))))) [
         | inl w ↦ subst Left (sym (outer-on o J estOrder lctOrder f t st (w .0) z (w .1))) (ih (w .0) (turned (on (w .0)) (w .1)))

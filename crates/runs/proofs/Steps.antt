@@ -3,10 +3,10 @@ use mathlib.Core.Path.{_≡_, refl, sym, ap, subst, _∙_}
 use mathlib.Core.Bool.{true, false}
 use mathlib.Core.Logic.{_⊎_, inl, inr}
 use mathlib.Core.List.{List, [], _∷_, _++_, map}
-use mathlib.Core.Option.{some}
+use mathlib.Core.Option.{Option, some}
 use Prim.Native.Nat.{ℕ, zero, suc, _+_, _-_, _≤_, _<_}
 use native.Mathlib.Omega.{arith}
-use native.Mathlib.Decide.{ℕ-discrete}
+use native.Mathlib.Decide.{decLt, ℕ-discrete}
 use lib.Dec.{leb, ltb}
 use lib.IntN.{pos, subℕ}
 use lib.ListN.{length, getD, set, replicate, length-set, length-append, length-replicate, getD-replicate, List·getD-append}
@@ -25,11 +25,13 @@ use Rattle.integers.proofs.Moments.{moment-instant, instant-above, zero-above}
 use Rattle.scheduling.specs.Moments.{ByEarliest, ByCompletion}
 use Rattle.integers.specs.Orders.{index}
 use Rattle.scheduling.specs.Scheduling.{Atom}
-use Rattle.runs.specs.Traces.{Post, done, overload, emptied, Trace}
+use Rattle.runs.specs.Traces.{Post, End, done, overload, emptied, Trace}
 use Rattle.trees.specs.Leaves.{Leaf, empty, white, gray, inTheta, inLambda, whiteAt, grayAt, theta}
 use Rattle.runs.specs.Runs.{State, Turn, on, stop, inner, outer, run, tabulate, conflict, propagation}
 use Rattle.runs.specs.Runs as edges
 use Rattle.trees.specs.Leaves as leaves
+use Rattle.ects.specs.Ects.{exceeds}
+use Rattle.ects.proofs.Ects.{one-moment, past-or-not, some-past, some-within}
 use Rattle.trees.proofs.Roots as tree
 use Rattle.runs.specs.Demand.{no-post}
 use Rattle.runs.proofs.Fuel.{opt, turn, inner-end, inner-off, inner-none, inner-pass, inner-stop, inner-raise, outer-end, outer-over, outer-on, outer-stop}
@@ -56,6 +58,24 @@ done-same J now now′ m task bound z d = record {
   every = λ k q r. d .every k q (rw (z k q) at r);
   once = d .once;
 }
+
+-- so do posts, and at those below m
+posts-same : (J : Tasks natural) (now now′ : ℕ → ℕ) (m : ℕ) (task bound task′ bound′ : ℕ → ℕ) → ((k : ℕ) → k < J .count → now′ k ≡ now k)
+    → ((j : ℕ) → j < m → task′ j ≡ task j) → ((j : ℕ) → j < m → bound′ j ≡ bound j) → Posts J now m task bound → Posts J now′ m task′ bound′
+posts-same J now now′ m task bound task′ bound′ ns ts bs p = record {
+  small = λ j q. subst (λ (i : ℕ). i < J .count) (sym (ts j q)) (p .small j q);
+  raises = λ j q. rw (ts j q, bs j q) (p .raises j q);
+  agrees = λ j q. bs j q ∙ p .agrees j q ∙ sym (ns (task j) (p .small j q)) ∙ ap now′ (sym (ts j q));
+  every = λ k q h. (let (j, a, c) = p .every k q (rw (ns k q) at h) in (j, a, ts j a ∙ c));
+  once = λ i j q r z. p .once i j q r (sym (ts i q) ∙ z ∙ ts j r);
+}
+
+-- Of the posts the first m stand in the starts, which are in their ranges, and no other start changed; each post after them is above its task's latest start.
+pub record Standing (J : Tasks natural) (now : ℕ → ℕ) (m made : ℕ) (task bound : ℕ → ℕ) : Type 0 where
+  pub stand : Posts J now m task bound
+  pub from : (k : ℕ) → k < J .count → J .earliest k ≤ now k
+  pub to : (k : ℕ) → k < J .count → now k ≤ J .latest k
+  pub above : (j : ℕ) → m ≤ j → j < made → J .latest (task j) < bound j
 
 module _ (o : ℕ) (J : Tasks natural) (ok : Proper J) (estOrder lctOrder : List ℕ) (rk : ByEarliest J (λ j. getD estOrder j 0) (λ k. index estOrder k)) (ord : ByCompletion J (λ t. getD lctOrder t 0) (λ k. index lctOrder k)) where
   abbrev pub T : ℕ → ℕ
@@ -94,17 +114,21 @@ module _ (o : ℕ) (J : Tasks natural) (ok : Proper J) (estOrder lctOrder : List
   abbrev pub Found : (ls : List Leaf) (Ω Λ : TaskSet) → Shape ls Ω Λ → ℕ → Type 0
   Found = tree.Found J ok estOrder rk
 
-  abbrev pub ectOf : List Leaf → ℕ
-  ectOf = leaves.rootEct J estOrder
+  abbrev pub ectOf : List Leaf → Option ℕ
+  ectOf = leaves.ect J estOrder
 
-  abbrev pub barOf : List Leaf → ℕ
-  barOf = leaves.rootEctBar J estOrder
+  abbrev pub barOf : List Leaf → Option ℕ
+  barOf = leaves.ect-bar J estOrder
+
+  -- Θ has the level's task
+  pub theta-some : (t : ℕ) → t < n → In J (Th t) (L t)
+  theta-some t small = record { small = ord .task t small; mem = le-leb t (place (L t)) (omega (arith, ord .back t small)) }
 
   -- what a post and an overload's reason are to be
   pub record Measure (Good : Post → Type 0) (GoodEnd : List Atom → Type 0) : Type 0 where
-    pub of-post : (t : ℕ) (ls : List Leaf) (Λ : TaskSet) (s : Shape ls (Th t) Λ) (x : ℕ) → t < n → Found ls (Th t) Λ s x → place (T x) < t → En t < barOf ls → J .earliest (T x) < ectOf ls
-        → Good (record { task = T x; bound = subℕ (ectOf ls) o; reason = propagation o J (T x) (ectOf ls) (En t) (leaves.sum J estOrder ls) (theta J estOrder ls) })
-    pub of-end : (t : ℕ) (ls : List Leaf) (Λ : TaskSet) (s : Shape ls (Th t) Λ) → t < n → En t < ectOf ls → GoodEnd (conflict o J (En t) (leaves.sum J estOrder ls) (theta J estOrder ls))
+    pub of-post : (t : ℕ) (ls : List Leaf) (Λ : TaskSet) (s : Shape ls (Th t) Λ) (x b : ℕ) → t < n → Found ls (Th t) Λ s x → place (T x) < t → exceeds (barOf ls) (En t) ≡ true → ectOf ls ≡ some b → J .earliest (T x) < b
+        → Good (record { task = T x; bound = subℕ b o; reason = propagation o J (T x) b (En t) (leaves.sum J estOrder ls) (theta J estOrder ls) })
+    pub of-end : (t : ℕ) (ls : List Leaf) (Λ : TaskSet) (s : Shape ls (Th t) Λ) → t < n → exceeds (ectOf ls) (En t) ≡ true → GoodEnd (conflict o J (En t) (leaves.sum J estOrder ls) (theta J estOrder ls))
 
   module _ (Good : Post → Type 0) (GoodEnd : List Atom → Type 0) (meas : Measure Good GoodEnd) where
     abbrev pub lam : State → TaskSet
@@ -133,6 +157,17 @@ module _ (o : ℕ) (J : Tasks natural) (ok : Proper J) (estOrder lctOrder : List
 
     pub shape : (t : ℕ) (st : State) → Inv t st → Shape (st .leaves) (Th t) (lam st)
     shape t st v = record { size = v .size; whites = v .whites; grays = λ k q. refl }
+
+    -- the tree's ect is that of Θ, past the level's lct or not
+    module _ (t : ℕ) (st : State) (small : t < n) (v : Inv t st) where
+      pub theta-ect : ectOf (st .leaves) ≡ some (E (Th t))
+      theta-ect = tree.moment-some J ok estOrder rk (st .leaves) (Th t) (lam st) (shape t st v) (L t) (theta-some t small)
+
+      theta-past : exceeds (ectOf (st .leaves)) (En t) ≡ true → En t < E (Th t)
+      theta-past = some-past (ectOf (st .leaves)) (E (Th t)) (En t) theta-ect
+
+      pub theta-within : exceeds (ectOf (st .leaves)) (En t) ≡ false → E (Th t) ≤ En t
+      theta-within = some-within (ectOf (st .leaves)) (E (Th t)) (En t) theta-ect
 
     -- one post more
     module _ (ps : List Post) (p : Post) where
@@ -181,6 +216,38 @@ module _ (o : ℕ) (J : Tasks natural) (ok : Proper J) (estOrder lctOrder : List
         | no z ↦ rw (ne-eqb k (L t) z) (sym (ap inLambda (there ls (L t) gray size (ord .task t small) k q z)))
       ]
 
+    -- no start is below the old one: a task's start is raised when it leaves Λ
+    from-entry : (t : ℕ) (st : State) → Inv t st → (k : ℕ) → k < n → J .earliest k ≤ now st k
+    from-entry t st v k q = elim (bool (lam st k)) [
+      | inl z ↦ omega (arith, v .facts .same-in k (record { small = q; mem = z }))
+      | inr z ↦ elim (decLt (place k) t) [ yes y ↦ omega (arith, v .facts .left k (record { small = q; mem = z }) y .raised) | no y ↦ omega (arith, v .facts .same-on k q (omega arith)) ]
+    ]
+
+    -- the posts of a list that begins with those of a state, told by the starts that a trace has for it
+    standing : (t : ℕ) (st : State) (ps : List Post) → Inv t st → ((j : ℕ) → j < length (st .posts) → getD ps j no-post ≡ getD (st .posts) j no-post)
+        → ((j : ℕ) → length (st .posts) ≤ j → j < length ps → J .latest (taskOf ps j) < boundOf ps j)
+        → Standing J (λ k. moment o (getD (map (instant o) (st .starts)) k (pos 0))) (length (st .posts)) (length ps) (taskOf ps) (boundOf ps)
+    standing t st ps v olds highs = record {
+      stand = posts-same J (now st) (λ k. moment o (getD (map (instant o) (st .starts)) k (pos 0))) (length (st .posts)) (taskOf (st .posts)) (boundOf (st .posts)) (taskOf ps) (boundOf ps) at
+          (λ j q. ap (λ (p : Post). p .task) (olds j q)) (λ j q. ap (λ (p : Post). moment o (p .bound)) (olds j q)) (v .posted);
+      from = λ k q. omega (arith, at k q, from-entry t st v k q);
+      to = λ k q. omega (arith, at k q, v .facts .inside k q);
+      above = highs;
+    }
+      where
+        at : (k : ℕ) → k < n → moment o (getD (map (instant o) (st .starts)) k (pos 0)) ≡ now st k
+        at k q = ap (moment o) (getD-map-in (instant o) (st .starts) k 0 (pos 0) (omega (arith, v .known))) ∙ moment-instant o (now st k)
+
+    -- what a trace leaves of the starts: a post that empties a range is the last one, and no other is above a latest start
+    pub record Leaves (tr : Trace) : Type 0 where
+      pub many : ℕ
+      pub all : (tr .end ≡ emptied → ⊥) → many ≡ length (tr .posts)
+      pub but-last : tr .end ≡ emptied → suc many ≡ length (tr .posts)
+      pub stand : Standing J (λ k. moment o (getD (tr .starts) k (pos 0))) many (length (tr .posts)) (taskOf (tr .posts)) (boundOf (tr .posts))
+
+    leaves-all : (t : ℕ) (st : State) (e : End) → (e ≡ emptied → ⊥) → Inv t st → Leaves (edges.ended o J estOrder lctOrder st e)
+    leaves-all t st e ne v = record { many = length (st .posts); all = λ _. refl; but-last = λ z. absurd (ne z); stand = standing t st (st .posts) v (λ j q. refl) (λ j q r. absurd (omega arith)) }
+
     -- and at its end: no task of Λ passes any more
     pub record Closed (t : ℕ) (st : State) : Type 0 where
       pub inv : Inv t st
@@ -188,10 +255,10 @@ module _ (o : ℕ) (J : Tasks natural) (ok : Proper J) (estOrder lctOrder : List
 
     abbrev pub TurnOk : ℕ → Turn → Type 0
     TurnOk t (on st) = Closed t st
-    TurnOk t (stop st) = Conflict J × AllGood (st .posts)
+    TurnOk t (stop st) = Conflict J × AllGood (st .posts) × Leaves (edges.ended o J estOrder lctOrder st emptied)
 
     -- a task was found at leaf x
-    module _ (t : ℕ) (st : State) (small : t < n) (v : Inv t st) (x : ℕ) (f : Found (st .leaves) (Th t) (lam st) (shape t st v) x) (over : En t < barOf (st .leaves)) where
+    module _ (t : ℕ) (st : State) (small : t < n) (v : Inv t st) (x : ℕ) (f : Found (st .leaves) (Th t) (lam st) (shape t st v) x) (over : exceeds (barOf (st .leaves)) (En t) ≡ true) where
       abbrev pub i : ℕ
       i = T x
 
@@ -205,56 +272,65 @@ module _ (o : ℕ) (J : Tasks natural) (ok : Proper J) (estOrder lctOrder : List
       late = v .facts .gray i mem
 
       hit : En t < E (Th t with i)
-      hit = omega (arith, over, f .reaches, E-is (Th t with i) (i, record { small = mem .small; mem = with-new (Th t) i }) .bounds (f .value) (f .attains))
+      hit = omega (arith, tree.past-found J ok estOrder rk (st .leaves) (Th t) (lam st) (shape t st v) f (En t) over, E-is (Th t with i) (i, record { small = mem .small; mem = with-new (Th t) i }) .bounds (f .value) (f .attains))
 
-      ect-is : ectOf (st .leaves) ≡ E (Th t)
-      ect-is = tree.ect-is J ok estOrder rk (st .leaves) (Th t) (lam st) (shape t st v)
-
-      pub pass-ok : ectOf (st .leaves) ≤ J .earliest i → Inv t (edges.dropped st x)
-      pass-ok low = subst (λ (x : ℕ). Inv t (edges.dropped st x)) at-x (record {
+      pub pass-ok : exceeds (ectOf (st .leaves)) (J .earliest i) ≡ false → Inv t (edges.dropped st x)
+      pass-ok y = subst (λ (x : ℕ). Inv t (edges.dropped st x)) at-x (record {
         size = length-set (st .leaves) (rank i) empty ∙ v .size;
         whites = drop-whites t (st .leaves) i (v .size) (mem .small) late (v .whites);
         known = v .known;
         posted = v .posted;
         good = v .good;
         facts = facts-same J ok E E-is L place ord t (lam st less i) (λ k. grayAt (set (st .leaves) (rank i) empty) (rank k)) (now st) (drop-grays t (st .leaves) i (v .size) (mem .small) late)
-            (leave J ok E E-is L place ord t (lam st) (now st) (now st) i (v .facts) mem hit (omega (arith, ect-is, v .facts .same-in i mem)) (v .facts .inside i (mem .small)) (λ k ne. refl));
+            (leave J ok E E-is L place ord t (lam st) (now st) (now st) i (v .facts) mem hit (omega (arith, some-within (ectOf (st .leaves)) (E (Th t)) (J .earliest i) (theta-ect t st small v) y, v .facts .same-in i mem)) (v .facts .inside i (mem .small)) (λ k ne. refl));
       })
 
-      abbrev pub b : ℕ
-      b = ectOf (st .leaves)
+      module _ (b : ℕ) (is : ectOf (st .leaves) ≡ some b) where
+        b-is : b ≡ E (Th t)
+        b-is = one-moment is (theta-ect t st small v)
 
-      abbrev pub p : Post
-      p = record { task = i; bound = subℕ b o; reason = propagation o J i b (En t) (leaves.sum J estOrder (st .leaves)) (theta J estOrder (st .leaves)) }
+        abbrev pub p : Post
+        p = record { task = i; bound = subℕ b o; reason = propagation o J i b (En t) (leaves.sum J estOrder (st .leaves)) (theta J estOrder (st .leaves)) }
 
-      good-p : J .earliest i < b → Good p
-      good-p up = meas .of-post t (st .leaves) (lam st) (shape t st v) x small f late over up
+        good-p : J .earliest i < b → Good p
+        good-p up = meas .of-post t (st .leaves) (lam st) (shape t st v) x b small f late over is up
 
-      pub raise-ok : J .earliest i < b → b ≤ J .latest i → Inv t (edges.dropped (edges.raised (edges.posted o J estOrder lctOrder st i b t) i b) x)
-      raise-ok up fits = subst (λ (x : ℕ). Inv t (edges.dropped (edges.raised (edges.posted o J estOrder lctOrder st i b t) i b) x)) at-x (record {
-        size = length-set (st .leaves) (rank i) empty ∙ v .size;
-        whites = drop-whites t (st .leaves) i (v .size) (mem .small) late (v .whites);
-        known = length-set (st .starts) i b ∙ v .known;
-        good = all-good (st .posts) p (v .good) (good-p up);
-        posted = subst (λ (m : ℕ). Posts J now′ m (taskOf (st .posts ++ (p ∷ []))) (boundOf (st .posts ++ (p ∷ [])))) (sym (length-snoc (st .posts) p))
-            (more J (now st) now′ (length (st .posts)) (taskOf (st .posts)) (boundOf (st .posts)) (taskOf (st .posts ++ (p ∷ []))) (boundOf (st .posts ++ (p ∷ []))) i b
-            (mem .small) (v .posted) (v .facts .same-in i mem) up same other (ap (λ (q : Post). q .task) (new (st .posts) p)) (ap (λ (q : Post). moment o (q .bound)) (new (st .posts) p) ∙ moment-instant o b)
-            (λ j r. ap (λ (q : Post). q .task) (old (st .posts) p j r)) (λ j r. ap (λ (q : Post). moment o (q .bound)) (old (st .posts) p j r)));
-        facts = facts-same J ok E E-is L place ord t (lam st less i) (λ k. grayAt (set (st .leaves) (rank i) empty) (rank k)) now′ (drop-grays t (st .leaves) i (v .size) (mem .small) late)
-            (leave J ok E E-is L place ord t (lam st) (now st) now′ i (v .facts) mem hit (omega (arith, same, ect-is)) (omega (arith, same)) other);
-      })
-        where
-          now′ : ℕ → ℕ
-          now′ k = getD (set (st .starts) i b) k 0
+        pub raise-ok : J .earliest i < b → b ≤ J .latest i → Inv t (edges.dropped (edges.raised (edges.posted o J estOrder lctOrder st i b t) i b) x)
+        raise-ok up fits = subst (λ (x : ℕ). Inv t (edges.dropped (edges.raised (edges.posted o J estOrder lctOrder st i b t) i b) x)) at-x (record {
+          size = length-set (st .leaves) (rank i) empty ∙ v .size;
+          whites = drop-whites t (st .leaves) i (v .size) (mem .small) late (v .whites);
+          known = length-set (st .starts) i b ∙ v .known;
+          good = all-good (st .posts) p (v .good) (good-p up);
+          posted = subst (λ (m : ℕ). Posts J now′ m (taskOf (st .posts ++ (p ∷ []))) (boundOf (st .posts ++ (p ∷ [])))) (sym (length-snoc (st .posts) p))
+              (more J (now st) now′ (length (st .posts)) (taskOf (st .posts)) (boundOf (st .posts)) (taskOf (st .posts ++ (p ∷ []))) (boundOf (st .posts ++ (p ∷ []))) i b
+              (mem .small) (v .posted) (v .facts .same-in i mem) up same other (ap (λ (q : Post). q .task) (new (st .posts) p)) (ap (λ (q : Post). moment o (q .bound)) (new (st .posts) p) ∙ moment-instant o b)
+              (λ j r. ap (λ (q : Post). q .task) (old (st .posts) p j r)) (λ j r. ap (λ (q : Post). moment o (q .bound)) (old (st .posts) p j r)));
+          facts = facts-same J ok E E-is L place ord t (lam st less i) (λ k. grayAt (set (st .leaves) (rank i) empty) (rank k)) now′ (drop-grays t (st .leaves) i (v .size) (mem .small) late)
+              (leave J ok E E-is L place ord t (lam st) (now st) now′ i (v .facts) mem hit (omega (arith, same, b-is)) (omega (arith, same)) other);
+        })
+          where
+            now′ : ℕ → ℕ
+            now′ k = getD (set (st .starts) i b) k 0
 
-          same : getD (set (st .starts) i b) i 0 ≡ b
-          same = getD-set-same (st .starts) i b 0 (omega (arith, v .known, mem .small))
+            same : getD (set (st .starts) i b) i 0 ≡ b
+            same = getD-set-same (st .starts) i b 0 (omega (arith, v .known, mem .small))
 
-          other : (k : ℕ) → (k ≡ i → ⊥) → getD (set (st .starts) i b) k 0 ≡ getD (st .starts) k 0
-          other k ne = getD-set-other (st .starts) i k b 0 ne
+            other : (k : ℕ) → (k ≡ i → ⊥) → getD (set (st .starts) i b) k 0 ≡ getD (st .starts) k 0
+            other k ne = getD-set-other (st .starts) i k b 0 ne
 
-      stop-ok : J .earliest i < b → J .latest i < b → Conflict J × AllGood (st .posts ++ (p ∷ []))
-      stop-ok up high = (inr (i, E (Th t), edge J ok E E-is L place ord t i (mem .small) late small hit, omega (arith, ect-is)), all-good (st .posts) p (v .good) (good-p up))
+        stop-ok : J .earliest i < b → J .latest i < b → TurnOk t (stop (edges.posted o J estOrder lctOrder st i b t))
+        stop-ok up high = (
+          inr (i, E (Th t), edge J ok E E-is L place ord t i (mem .small) late small hit, omega (arith, b-is)),
+          all-good (st .posts) p (v .good) (good-p up),
+          record {
+            many = length (st .posts);
+            all = λ ne. absurd (ne refl);
+            but-last = λ _. sym (length-snoc (st .posts) p);
+            stand = standing t st (st .posts ++ (p ∷ [])) v (old (st .posts) p) (λ j q r. let z : j ≡ length (st .posts) = omega (arith, length-snoc (st .posts) p) in
+                subst (λ (j : ℕ). J .latest (taskOf (st .posts ++ (p ∷ [])) j) < boundOf (st .posts ++ (p ∷ [])) j) (sym z)
+                (subst (λ (q : Post). J .latest (q .task) < moment o (q .bound)) (sym (new (st .posts) p)) (omega (arith, moment-instant o b))));
+          },
+        )
 
       fewer : (f : ℕ) → card J (lam st) ≤ suc f → card J (λ k. grayAt (set (st .leaves) x empty) (rank k)) ≤ f
       fewer f q = subst (λ (x : ℕ). card J (λ k. grayAt (set (st .leaves) x empty) (rank k)) ≤ f) at-x
@@ -262,30 +338,28 @@ module _ (o : ℕ) (J : Tasks natural) (ok : Proper J) (estOrder lctOrder : List
 
     pub inner-ok : (f t : ℕ) (st : State) → t < n → Inv t st → card J (lam st) ≤ f → TurnOk t (inner o J estOrder lctOrder f t st)
     inner-ok zero t st small v few = rw (inner-end o J estOrder lctOrder 0 t st) (record { inv = v; none-passes = λ q k h. absurd (card-zero J (lam st) few k h) })
-    inner-ok (suc f) t st small v few = by (λ st′. inner-ok f t st′ small) (bool (ltb (En t) (barOf (st .leaves))))
+    inner-ok (suc f) t st small v few = by (λ st′. inner-ok f t st′ small) (bool (exceeds (barOf (st .leaves)) (En t)))
       where
         IH : Type 0
         IH = (st′ : State) → Inv t st′ → card J (lam st′) ≤ f → TurnOk t (inner o J estOrder lctOrder f t st′)
 
-        took : IH → ltb (En t) (barOf (st .leaves)) ≡ true → (x : ℕ) → leaves.responsible J estOrder (st .leaves) ≡ some x → Found (st .leaves) (Th t) (lam st) (shape t st v) x → TurnOk t (inner o J estOrder lctOrder (suc f) t st)
-        took ih z x w g = elim (bool (ltb (J .earliest (T x)) (ectOf (st .leaves)))) [
-          | inr y ↦ rw (inner-pass o J estOrder lctOrder f t st x z w y) (ih (edges.dropped st x) (pass-ok t st small v x g (ltb-true _ _ z) (ltb-false _ _ y)) (fewer t st small v x g (ltb-true _ _ z) f few))
-          | inl y ↦ elim (bool (ltb (J .latest (T x)) (ectOf (st .leaves)))) [
-            | inl a ↦ rw (inner-stop o J estOrder lctOrder f t st x z w y a) (stop-ok t st small v x g (ltb-true _ _ z) (ltb-true _ _ y) (ltb-true _ _ a))
-            | inr a ↦ rw (inner-raise o J estOrder lctOrder f t st x z w y a) (ih _ (raise-ok t st small v x g (ltb-true _ _ z) (ltb-true _ _ y) (ltb-false _ _ a)) (fewer t st small v x g (ltb-true _ _ z) f few))
+        took : IH → exceeds (barOf (st .leaves)) (En t) ≡ true → (x : ℕ) → leaves.responsible J estOrder (st .leaves) ≡ some x → Found (st .leaves) (Th t) (lam st) (shape t st v) x → TurnOk t (inner o J estOrder lctOrder (suc f) t st)
+        took ih z x w g = elim (past-or-not (ectOf (st .leaves)) (J .earliest (T x))) [
+          | inl y ↦ rw (inner-pass o J estOrder lctOrder f t st x z w y) (ih (edges.dropped st x) (pass-ok t st small v x g z y) (fewer t st small v x g z f few))
+          | inr (b, is, y) ↦ elim (bool (ltb (J .latest (T x)) b)) [
+            | inl a ↦ rw (inner-stop o J estOrder lctOrder f t st x z w b is y a) (stop-ok t st small v x g z b is (ltb-true _ _ y) (ltb-true _ _ a))
+            | inr a ↦ rw (inner-raise o J estOrder lctOrder f t st x z w b is y a) (ih _ (raise-ok t st small v x g z b is (ltb-true _ _ y) (ltb-false _ _ a)) (fewer t st small v x g z f few))
           ]
         ]
 
-        by : IH → (ltb (En t) (barOf (st .leaves)) ≡ true) ⊎ (ltb (En t) (barOf (st .leaves)) ≡ false) → TurnOk t (inner o J estOrder lctOrder (suc f) t st)
-        by ih (inr z) = rw (inner-off o J estOrder lctOrder f t st z) (record { inv = v; none-passes = λ q k h. omega (arith, tree.most J ok estOrder rk (st .leaves) (Th t) (lam st) (shape t st v) k h, ltb-false (En t) (barOf (st .leaves)) z) })
+        by : IH → (exceeds (barOf (st .leaves)) (En t) ≡ true) ⊎ (exceeds (barOf (st .leaves)) (En t) ≡ false) → TurnOk t (inner o J estOrder lctOrder (suc f) t st)
+        by ih (inr z) = rw (inner-off o J estOrder lctOrder f t st z) (record { inv = v; none-passes = λ q k h. tree.most J ok estOrder rk (st .leaves) (Th t) (lam st) (shape t st v) k h (En t) z })
         by ih (inl z) = elim (opt (leaves.responsible J estOrder (st .leaves))) [
           | inl w ↦ rw (inner-none o J estOrder lctOrder f t st z w) (record {
             inv = v;
             none-passes = λ q. absurd (omega (
               arith,
-              ltb-true (En t) (barOf (st .leaves)) z,
-              tree.ect-is J ok estOrder rk (st .leaves) (Th t) (lam st) (shape t st v),
-              tree.none-found J ok estOrder rk (st .leaves) (Th t) (lam st) (shape t st v) w,
+              theta-past t st small v (ap (λ (u : Option ℕ). exceeds u (En t)) (sym (tree.none-found J ok estOrder rk (st .leaves) (Th t) (lam st) (shape t st v) w)) ∙ z),
             ));
           })
           | inr w ↦ took ih z (w .0) (w .1) (tree.one-found J ok estOrder rk (st .leaves) (Th t) (lam st) (shape t st v) (w .0) (w .1))
@@ -297,6 +371,7 @@ module _ (o : ℕ) (J : Tasks natural) (ok : Proper J) (estOrder lctOrder : List
       pub when-done : tr .end ≡ done → Done J (λ k. moment o (getD (tr .starts) k (pos 0))) (length (tr .posts)) (taskOf (tr .posts)) (boundOf (tr .posts))
       pub otherwise : (tr .end ≡ done → ⊥) → Conflict J
       pub over : (r : List Atom) → tr .end ≡ overload r → GoodEnd r
+      pub left : Leaves tr
 
     -- L t goes
     pub gray-ok : (t : ℕ) (st : State) → t < n → Closed t st → E (Th t) ≤ En t → Inv (suc t) (edges.grayed st (rank (L t)))
@@ -320,33 +395,35 @@ module _ (o : ℕ) (J : Tasks natural) (ok : Proper J) (estOrder lctOrder : List
           above = map-above o (st .starts);
           otherwise = λ z. absurd (z refl);
           over = λ r z. let y : _≡_ {A = ℕ} 0 1 = cc in absurd (omega arith);
+          left = leaves-all t st done (λ z. let y : _≡_ {A = ℕ} 0 1 = cc in absurd (omega arith)) v;
           when-done = λ _. done-same J (now st) (λ k. moment o (getD (map (instant o) (st .starts)) k (pos 0))) (length (st .posts)) (taskOf (st .posts)) (boundOf (st .posts))
               (λ k r. ap (moment o) (getD-map-in (instant o) (st .starts) k 0 (pos 0) (omega (arith, v .known))) ∙ moment-instant o (now st k))
               (finish J ok E E-is L place ord t (lam st) (now st) end (v .facts) (c .none-passes q) (length (st .posts)) (taskOf (st .posts)) (boundOf (st .posts)) (v .posted));
         }
 
-    over-ok : (t : ℕ) (st : State) → t < n → Inv t st → En t < ectOf (st .leaves) → OutOk (edges.ended o J estOrder lctOrder st (overload (conflict o J (En t) (leaves.sum J estOrder (st .leaves)) (theta J estOrder (st .leaves)))))
+    over-ok : (t : ℕ) (st : State) → t < n → Inv t st → exceeds (ectOf (st .leaves)) (En t) ≡ true → OutOk (edges.ended o J estOrder lctOrder st (overload (conflict o J (En t) (leaves.sum J estOrder (st .leaves)) (theta J estOrder (st .leaves)))))
     over-ok t st small v q =
         record {
           goods = v .good;
           above = map-above o (st .starts);
           when-done = λ z. let y : _≡_ {A = ℕ} 0 1 = cc in absurd (omega arith);
-          otherwise = λ _. inl (overloaded J ok E E-is L place ord t small (omega (arith, q, tree.ect-is J ok estOrder rk (st .leaves) (Th t) (lam st) (shape t st v))));
+          otherwise = λ _. inl (overloaded J ok E E-is L place ord t small (theta-past t st small v q));
           over = λ r z. let y : conflict o J (En t) (leaves.sum J estOrder (st .leaves)) (theta J estOrder (st .leaves)) ≡ r = cc in
               subst GoodEnd y (meas .of-end t (st .leaves) (lam st) (shape t st v) small q);
+          left = leaves-all t st (overload (conflict o J (En t) (leaves.sum J estOrder (st .leaves)) (theta J estOrder (st .leaves)))) (λ z. let y : _≡_ {A = ℕ} 0 1 = cc in absurd (omega arith)) v;
         }
 
-    empty-ok : (st : State) → Conflict J × AllGood (st .posts) → OutOk (edges.ended o J estOrder lctOrder st emptied)
-    empty-ok st w = record { goods = w .1; above = map-above o (st .starts); when-done = λ z. let y : _≡_ {A = ℕ} 0 1 = cc in absurd (omega arith); otherwise = λ _. w .0; over = λ r z. let y : _≡_ {A = ℕ} 0 1 = cc in absurd (omega arith) }
+    empty-ok : (st : State) → Conflict J × AllGood (st .posts) × Leaves (edges.ended o J estOrder lctOrder st emptied) → OutOk (edges.ended o J estOrder lctOrder st emptied)
+    empty-ok st w = record { goods = w .1; left = w .2; above = map-above o (st .starts); when-done = λ z. let y : _≡_ {A = ℕ} 0 1 = cc in absurd (omega arith); otherwise = λ _. w .0; over = λ r z. let y : _≡_ {A = ℕ} 0 1 = cc in absurd (omega arith) }
 
     outer-ok : (f t : ℕ) (st : State) → suc (t + f) ≡ n → Closed t st → OutOk (outer o J estOrder lctOrder f t st)
     outer-ok zero t st end c = rw (outer-end o J estOrder lctOrder 0 t st) (done-ok t st (omega arith) c)
-    outer-ok (suc f) t st end c = by (λ st′. outer-ok f (suc t) st′ (omega arith)) (bool (ltb (En t) (ectOf (st .leaves))))
+    outer-ok (suc f) t st end c = by (λ st′. outer-ok f (suc t) st′ (omega arith)) (bool (exceeds (ectOf (st .leaves)) (En t)))
       where
         IH : Type 0
         IH = (st′ : State) → Closed (suc t) st′ → OutOk (outer o J estOrder lctOrder f (suc t) st′)
 
-        go : IH → ltb (En t) (ectOf (st .leaves)) ≡ false → E (Th t) ≤ En t → OutOk (outer o J estOrder lctOrder (suc f) t st)
+        go : IH → exceeds (ectOf (st .leaves)) (En t) ≡ false → E (Th t) ≤ En t → OutOk (outer o J estOrder lctOrder (suc f) t st)
         go ih z q = elim (turn (inner o J estOrder lctOrder n (suc t) (edges.grayed st (rank (L t))))) [
           | inl w ↦ rw (outer-on o J estOrder lctOrder f t st (w .0) z (w .1)) (ih (w .0) (rw (w .1) at r))
           | inr w ↦ rw (outer-stop o J estOrder lctOrder f t st (w .0) z (w .1)) (empty-ok (w .0) (rw (w .1) at r))
@@ -355,9 +432,9 @@ module _ (o : ℕ) (J : Tasks natural) (ok : Proper J) (estOrder lctOrder : List
             r : TurnOk (suc t) (inner o J estOrder lctOrder n (suc t) (edges.grayed st (rank (L t))))
             r = inner-ok n (suc t) (edges.grayed st (rank (L t))) (omega arith) (gray-ok t st (omega arith) c q) (card-most J (lam (edges.grayed st (rank (L t)))))
 
-        by : IH → (ltb (En t) (ectOf (st .leaves)) ≡ true) ⊎ (ltb (En t) (ectOf (st .leaves)) ≡ false) → OutOk (outer o J estOrder lctOrder (suc f) t st)
-        by ih (inl z) = rw (outer-over o J estOrder lctOrder f t st z) (over-ok t st (omega arith) (c .inv) (ltb-true _ _ z))
-        by ih (inr z) = go ih z (omega (arith, ltb-false (En t) (ectOf (st .leaves)) z, tree.ect-is J ok estOrder rk (st .leaves) (Th t) (lam st) (shape t st (c .inv))))
+        by : IH → (exceeds (ectOf (st .leaves)) (En t) ≡ true) ⊎ (exceeds (ectOf (st .leaves)) (En t) ≡ false) → OutOk (outer o J estOrder lctOrder (suc f) t st)
+        by ih (inl z) = rw (outer-over o J estOrder lctOrder f t st z) (over-ok t st (omega arith) (c .inv) z)
+        by ih (inr z) = go ih z (theta-within t st (omega arith) (c .inv) z)
 
     -- the start
     abbrev pub st₀ : State

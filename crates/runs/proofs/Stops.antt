@@ -4,19 +4,22 @@ use mathlib.Core.Path.{_≡_, sym, ap, subst, _∙_}
 use mathlib.Core.Bool.{Bool, true, false}
 use mathlib.Core.List.{List, _∷_, _++_}
 use mathlib.Core.Logic.{_⊎_, inl, inr}
+use mathlib.Core.Option.{some}
 use Prim.Native.Nat.{ℕ, zero, suc, _+_, _-_, _≤_, _<_}
 use native.Mathlib.Omega.{arith}
 use lib.Dec.{leb}
 use lib.ListN.{length, getD, drop}
 use lib.Seq.{drop-append-add}
-use borrow.Author.Tests.{leb-true, le-leb}
+use borrow.Author.Tests.{leb-true}
 use Rattle.integers.specs.Orders.{index}
 use Rattle.integers.proofs.Bools.{bool}
 use Rattle.scheduling.specs.Scheduling.{natural, Tasks, Proper, TaskSet, In, completion, processing, Ect}
 use Rattle.scheduling.specs.Moments.{ByEarliest, ByCompletion}
 use Rattle.scheduling.proofs.Suffixes.{attaining}
 use Rattle.scheduling.proofs.Walks.{passing, after-first}
-use Rattle.trees.specs.Leaves.{Leaf, whiteAt, taskAt, rootEct, rootEctBar, sum, theta}
+use Rattle.ects.specs.Ects.{exceeds}
+use Rattle.ects.proofs.Ects.{exceeds-yes}
+use Rattle.trees.specs.Leaves.{Leaf, whiteAt, taskAt, ect, ect-bar, sum, theta}
 use Rattle.trees.specs.Searches.{thetaOf}
 use Rattle.trees.proofs.Roots as tree
 use Rattle.trees.proofs.Thetas.{theta-none, theta-white, theta-skip, theta-is}
@@ -77,11 +80,8 @@ module _ (o : ℕ) (J : Tasks natural) (ok : Proper J) (estOrder lctOrder : List
     abbrev dr : ℕ → ℕ
     dr a = processing J (onward a)
 
-    abbrev b : ℕ
-    b = rootEct J estOrder ls
-
-    pub ect-is : Ect J Θ b
-    ect-is = tree.ect-of J ok estOrder rk ls Θ Λ s (getD lctOrder t 0, record { small = ord .task t small; mem = le-leb t (place (getD lctOrder t 0)) (omega (arith, ord .back t small)) })
+    pub ect-is : (b : ℕ) → ect J estOrder ls ≡ some b → Ect J Θ b
+    ect-is b = tree.moment-is J ok estOrder rk ls Θ Λ s b .0
 
     -- every task of Θ ends by the level's lct
     pub ends : (k : ℕ) → In J Θ k → completion J k ≤ c
@@ -121,19 +121,20 @@ module _ (o : ℕ) (J : Tasks natural) (ok : Proper J) (estOrder lctOrder : List
       pub white : Θ (T at) ≡ true
       pub passes : c < ea at + dr at
 
-    pub overload-stops : c < b → OverloadStops
-    overload-stops over =
-        let (j, jm, h) = attaining J T rank rk Θ b ect-is in
+    pub overload-stops : exceeds (ect J estOrder ls) c ≡ true → OverloadStops
+    overload-stops y =
+        let (b, is, over) = exceeds-yes (ect J estOrder ls) c y in
+        let (j, jm, h) = attaining J T rank rk Θ b (ect-is b is) in
         record { at = rank j; inside = rk .placed j (jm .small); white = at-rank j (jm .small) (jm .mem); passes = omega (arith, h, over, ap (J .earliest) (rk .there j (jm .small))) }
 
     -- a post's two walks stop, the first no later than the second
-    module _ (x : ℕ) (f : tree.Found J ok estOrder rk ls Θ Λ s x) (over : c < rootEctBar J estOrder ls) (up : J .earliest (T x) < b) where
+    module _ (x : ℕ) (f : tree.Found J ok estOrder rk ls Θ Λ s x) (over : exceeds (ect-bar J estOrder ls) c ≡ true) (b : ℕ) (is : ect J estOrder ls ≡ some b) (up : J .earliest (T x) < b) where
       abbrev i : ℕ
       i = T x
 
       pub first-walk : walks.First o J ok estOrder lctOrder rk ls Θ Λ s i c b 0 (propagation o J i b c (sum J estOrder ls) (theta J estOrder ls))
       first-walk =
-          let (m, mm, h) = passing J T rank rk Θ i c b (f .value) (f .attains) (f .has) (f .gray .small) (omega (arith, over, f .reaches)) ect-is up in
+          let (m, mm, h) = passing J T rank rk Θ i c b (f .value) (f .attains) (f .has) (f .gray .small) (tree.past-found J ok estOrder rk ls Θ Λ s f c over) (ect-is b is) up in
           subst (λ (l : List ℕ). walks.First o J ok estOrder lctOrder rk ls Θ Λ s i c b 0 (propagation o J i b c (sum J estOrder ls) l)) (sym (theta-is J estOrder ls))
           (walks.first-stops o J ok estOrder lctOrder rk ls Θ Λ s i c b n 0 (sum J estOrder ls) (rank m) (omega arith) (walks.sum-is o J ok estOrder lctOrder rk ls Θ Λ s) (omega arith)
           (rk .placed m (mm .small)) (at-rank m (mm .small) (mm .mem)) (omega (arith, h, ap (J .earliest) (rk .there m (mm .small)))))
@@ -148,9 +149,9 @@ module _ (o : ℕ) (J : Tasks natural) (ok : Proper J) (estOrder lctOrder : List
       pub attaining-after : Attaining
       attaining-after =
           let m : ℕ = first-walk .m in
-          let (j, jm, h) = attaining J T rank rk Θ b ect-is in
+          let (j, jm, h) = attaining J T rank rk Θ b (ect-is b is) in
           let back : dr (rank (T m)) ≡ dr m = ap dr (rk .back m (first-walk .small)) in
-          let q : rank (T m) ≤ rank j = after-first J T rank rk Θ i c b (T m) j ect-is (record { small = rk .task m (first-walk .small); mem = first-walk .mem }) jm
+          let q : rank (T m) ≤ rank j = after-first J T rank rk Θ i c b (T m) j (ect-is b is) (record { small = rk .task m (first-walk .small); mem = first-walk .mem }) jm
           (omega (arith, first-walk .over, back))
           (λ l. omega (arith, first-walk .before (rank j) (omega arith) (omega (arith, rk .back m (first-walk .small))) (at-rank j (jm .small) (jm .mem)), ap (J .earliest) (rk .there j (jm .small)))) h in
           record { at = rank j; inside = rk .placed j (jm .small); white = at-rank j (jm .small) (jm .mem); attains = omega (arith, h, ap (J .earliest) (rk .there j (jm .small))); after = omega (arith, q, rk .back m (first-walk .small)) }

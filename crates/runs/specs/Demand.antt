@@ -2,12 +2,12 @@
 use mathlib.Core.Path.{_≡_}
 use mathlib.Core.Logic.{_↔_}
 use mathlib.Core.List.{List, []}
-use Prim.Native.Nat.{ℕ, _<_}
+use Prim.Native.Nat.{ℕ, suc, _≤_, _<_}
 use lib.IntN.{ℤ, pos}
 use lib.Signed.{_≤ℤ_, _<ℤ_}
 use lib.ListN.{length, getD}
 use Rattle.scheduling.specs.Scheduling.{whole, Tasks, EdgeFindingBound, Schedule, Done, Conflict, Atom, HoldsAtEntry, PassesWith, PassesAlone}
-use Rattle.runs.specs.Traces.{Post, done, overload, Trace}
+use Rattle.runs.specs.Traces.{Post, done, overload, emptied, Trace}
 
 -- what a post says: its task starts at or after its bound
 abbrev pub consequentOf : Post → Atom
@@ -42,3 +42,10 @@ pub record Right (J : Tasks whole) (t : Trace) : Type 0 where
   -- every post and every reason, whatever the outcome
   pub posts : (j : ℕ) → j < length (t .posts) → PostRight J (post t j)
   pub overloads : (reason : List Atom) → t .end ≡ overload reason → OverloadRight J reason
+  -- a run that is emptied has a post; its last one, and no other of any run, has a bound above its task's latest start
+  pub some-post : t .end ≡ emptied → 1 ≤ length (t .posts)
+  pub above : (j : ℕ) → j < length (t .posts) → J .latest (post t j .task) <ℤ post t j .bound ↔ ((t .end ≡ emptied) × (suc j ≡ length (t .posts)))
+  -- whatever the outcome, each other post's bound is its task's start,
+  pub stands : (j : ℕ) → j < length (t .posts) → post t j .bound ≤ℤ J .latest (post t j .task) → getD (t .starts) (post t j .task) (pos 0) ≡ post t j .bound
+  -- and a task that no such post names has the start that it had
+  pub stays : (k : ℕ) → k < J .count → ((j : ℕ) → j < length (t .posts) → post t j .bound ≤ℤ J .latest (post t j .task) → post t j .task ≡ k → ⊥) → getD (t .starts) k (pos 0) ≡ J .earliest k

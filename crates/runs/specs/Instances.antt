@@ -87,6 +87,20 @@ pub two-raised : answer both ≡ trace (nine 3 ∷ nine 2 ∷ []) done (0 ∷ 1 
 unfolding propagate run outer inner decoded conflict propagation bounds within tabulate heightFrom sort insert index numbers width root responsible theta joinOf isEmpty gray tested descentP descentEct stepP stepEct searchP searchEct thetaOf nodeOver
 two-raised = refl
 
+-- What a post raised stays raised when the run then overloads, and when a later post empties a range: B and E with one task more.
+abbrev eight : ℕ → ℕ → Post
+eight high₀ high₁ = record { task = 2; bound = pos 8; reason = atLeast 0 0 ∷ atMost 0 high₀ ∷ atLeast 1 0 ∷ atMost 1 high₁ ∷ atLeast 2 0 ∷ [] }
+
+abbrev kept : List Instance
+kept =
+    instance ((0, 2, 4) ∷ (1, 2, 4) ∷ (0, 20, 3) ∷ []) (eight 6 6 ∷ []) (overload (atLeast 0 0 ∷ atMost 0 3 ∷ atLeast 1 0 ∷ atMost 1 3 ∷ [])) (0 ∷ 1 ∷ 8 ∷ []) 6
+    ∷ instance ((0, 5, 3) ∷ (1, 1, 5) ∷ (0, 30, 2) ∷ []) (eight 6 4 ∷ six ∷ []) emptied (0 ∷ 1 ∷ 8 ∷ []) 8
+    ∷ []
+
+pub starts-kept : map (λ (i : Instance). answer (i .tasks)) kept ≡ map (λ (i : Instance). i .leaves) kept
+unfolding propagate run outer inner decoded conflict propagation bounds within tabulate heightFrom sort insert index numbers width root responsible theta joinOf isEmpty gray tested descentP descentEct stepP stepEct searchP searchEct thetaOf nodeOver
+starts-kept = refl
+
 -- Three of the costliest tasks: 4 · 3 − 3 leaf changes.
 pub three-costliest : propagate (costliestDurations 3) (costliestStarts 3) (costliestStarts 3) ≡ trace [] done (0 ∷ 10 ∷ 20 ∷ []) 9
 unfolding propagate run outer inner decoded conflict propagation bounds within tabulate heightFrom sort insert index numbers width root responsible theta joinOf isEmpty gray tested descentP descentEct stepP stepEct searchP searchEct thetaOf nodeOver

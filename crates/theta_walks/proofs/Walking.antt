@@ -9,7 +9,8 @@ use native.Mathlib.Numerals.{add-one}
 use native.Mathlib.Decide.{decLt}
 use lib.ListN.{length, getD, take, drop, length-append}
 use lib.Seq.{take-append-seam, drop-append-seam, getD-append-seam}
-use Rattle.trees.specs.Searches.{thetaOf, Next}
+use Rattle.trees.specs.Searches.{thetaOf}
+use Rattle.trees.specs.Searching.{Next}
 use Rattle.trees.proofs.Thetas.{theta-none, theta-white, theta-skip}
 use Rattle.runs.proofs.Stops.{theta-append}
 use Rattle.theta_walks.specs.Walks.{lasts, Each, Somewhere, Walks, Meets, between, StopsAt}

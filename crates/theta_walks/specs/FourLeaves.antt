@@ -7,7 +7,8 @@ use Prim.Native.Nat.{ℕ, zero, suc, _+_, _<_}
 use native.Mathlib.Omega.{arith}
 use lib.Dec.{eqb}
 use lib.ListN.{getD}
-use Rattle.trees.specs.Searches.{thetaOf, Next}
+use Rattle.trees.specs.Searches.{thetaOf}
+use Rattle.trees.specs.Searching.{Next}
 use Rattle.theta_walks.specs.Walks.{Walks}
 
 -- of four leaves with the tasks 3, 0, 2, 1 the second is not white: the walk meets leaves 0, 2 and 3, and then no more

@@ -7,7 +7,8 @@ use mathlib.Core.List.{List, [], _∷_}
 use Prim.Native.Nat.{ℕ, _+_, _-_, _^_, _≤_, _<_, min}
 use lib.ListN.{length, getD, drop}
 use Rattle.integers.specs.Limits.{TASKS}
-use Rattle.trees.specs.Searches.{whiteIn, taskIn, thetaOf, Next}
+use Rattle.trees.specs.Searches.{thetaOf}
+use Rattle.trees.specs.Searching.{whiteIn, taskIn, Next}
 
 -- how long the tasks ks last together
 unfoldable pub lasts : List ℕ → List ℕ → ℕ

@@ -7,7 +7,7 @@ ghost use Prim.Native.Nat.{_<_, _≤_};
 ghost use lib.ListN.{length, getD};
 ghost use Rattle.integers.specs.Moments.{zeroAt};
 ghost use Rattle.integers.specs.Limits.{TASKS, INNER};
-ghost use Rattle.trees.specs.Searches.{whiteIn, taskIn};
+ghost use Rattle.trees.specs.Searching.{whiteIn, taskIn};
 ghost use Rattle.runs.specs.Runs.{within};
 ghost use Rattle.theta_walks.specs.Walks.{Precedes, Attains, thetaBetween, StopsAt, Walk};
 ghost use Rattle.theta_walks.specs.Writing.{lasting, Writable, Stored};

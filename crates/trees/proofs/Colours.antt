@@ -14,10 +14,11 @@ use Rattle.scheduling.specs.Scheduling.{natural, Tasks, total}
 use Rattle.scheduling.proofs.Sets.{total-none, total-up}
 use Rattle.nodes.specs.Nodes.{emptyOf}
 use Rattle.nodes.specs.Bounds.{LATEST, Fair, size, PlainFair, plainSize}
-use Rattle.trees.specs.Shapes.{changed}
+use Rattle.trees.specs.Arrays.{changed}
 use Rattle.trees.specs.Bounds.{Bounded}
 use Rattle.trees.specs.Leaves as leaves
-use Rattle.trees.specs.Leaves.{Leaf, inTheta, leafNode, plainLeaf, startAt, durationAt, whiteAt, plainLeaves, Limited}
+use Rattle.trees.specs.Leaves.{Leaf, inTheta, leafNode, startAt, durationAt, whiteAt}
+use Rattle.trees.specs.Trees.{plainLeaf, plainLeaves, Limited}
 use Rattle.trees.proofs.Wiring.{changed-is}
 
 -- which leaves the code takes for white

@@ -10,7 +10,8 @@ use lib.Dec.{ltb}
 use borrow.Author.Tests.{ltb-true, ltb-false}
 use Rattle.integers.specs.Limits.{INNER}
 use Rattle.integers.proofs.Bools.{bool}
-use Rattle.trees.specs.Shapes.{width, heightFrom, heightFor, Sized, leftmost, HasHeight}
+use Rattle.trees.specs.Shapes.{width, heightFrom, heightFor}
+use Rattle.trees.specs.Arrays.{Sized, leftmost, HasHeight}
 
 pub once : width 0 ≡ 1
 unfolding width

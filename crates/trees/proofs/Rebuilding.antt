@@ -8,18 +8,19 @@ use native.Mathlib.Omega.{arith}
 use native.Mathlib.Decide.{ℕ-discrete}
 use lib.ListN.{length, getD, set, length-set}
 use borrow.Author.Needs.{needs}
-use Rattle.integers.specs.Limits.{INNER, NODES}
+use Rattle.integers.specs.Limits.{INNER, NODES, TREEWORDS}
 use Rattle.scheduling.specs.Scheduling.{natural, Tasks}
 use Rattle.nodes.specs.declared.theta_lambda_node.Node.{Node}
 use Rattle.nodes.specs.Nodes.{joinOf}
 use Rattle.nodes.specs.Bounds.{Fair, size, Fits}
 use Rattle.nodes.proofs.Joins.{Additive, additive}
-use Rattle.trees.specs.Shapes.{width, heightFor, leftmost, HasHeight, changed, leavesOf, nodeOver, TreeOf}
+use Rattle.trees.specs.Shapes.{width, heightFor, nodeOver}
+use Rattle.trees.specs.Arrays.{leftmost, HasHeight, changed, leavesOf, TreeOf}
 use Rattle.trees.specs.Words.{nodeAt}
 use Rattle.trees.specs.Bounds.{Bounded}
-use Rattle.trees.specs.Puts.{Layable, Laid, Rebuildable, Rebuilt}
 use Rattle.trees.specs.Leaves as leaves
-use Rattle.trees.specs.Leaves.{Leaf, empty, leafNode, startAt, durationAt, Limited, IsTree, HasLeaves}
+use Rattle.trees.specs.Leaves.{Leaf, empty, leafNode, startAt, durationAt}
+use Rattle.trees.specs.Trees.{Limited, IsTree, HasLeaves}
 use Rattle.trees.proofs.Heights.{root-height, inner-height, left-height, right-height, leaf-at, enough, room}
 use Rattle.trees.proofs.Wiring.{changed-here, changed-other, changed-inner, changed-leaf, over-leaf, over-is, over-fits}
 use Rattle.trees.proofs.Colours.{bounded, coloured}
@@ -123,9 +124,34 @@ module _ {A : Type 0} {size : A → ℕ} {Fair : A → Type 0} {join : A → A �
       goes-on ex ey en e = rw (e ∙ ap (changed at j) (en ∙ ap₂ join (ex ∙ ap at is-left) (ey ∙ ap at is-right))) next-is
 
 -- what a loop that builds the inner nodes leaves to show
-pub ruleset rebuilds = (needs, begin, node-small, left-small, right-small, fits-left, fits-right, goes-on, built)
+pub ruleset rebuilds = (needs, node-small, left-small, right-small, fits-left, fits-right, goes-on)
 
 -- the leaves of tasks ------------------------------------------------------------------------------------------------------------
+
+-- n may stand as the leaf at `place`, whatever its ancestors are
+pub record Layable (inner : ℕ) (words : List ℕ) (place : ℕ) (n : Node) : Type 0 where
+  pub fits : Fits size Fair n
+  pub inside : place ≤ inner
+  pub room : inner ≤ INNER
+  pub length : length words ≡ TREEWORDS
+
+-- n stands there, and nothing else changed
+pub record Laid (inner : ℕ) (before after : List ℕ) (place : ℕ) (n : Node) : Type 0 where
+  pub nodes : nodeAt after ≡ changed (nodeAt before) (inner + place) n
+  pub length : length after ≡ TREEWORDS
+
+-- the leaves stand, and the inner nodes may be anything
+pub record Rebuildable (inner : ℕ) (words : List ℕ) : Type 0 where
+  pub bounded : Bounded size Fair (leavesOf inner (nodeAt words))
+  pub height : ℕ
+  pub complete : inner + 1 ≡ width height
+  pub room : inner ≤ INNER
+  pub length : length words ≡ TREEWORDS
+
+-- the leaves stayed, and every inner node is the join of its children
+pub record Rebuilt (inner : ℕ) (before after : List ℕ) : Type 0 where
+  pub tree : TreeOf joinOf inner (leavesOf inner (nodeAt before)) (nodeAt after)
+  pub length : length after ≡ TREEWORDS
 
 module _ {J : Tasks natural} {estOrder : List ℕ} (lim : Limited J estOrder) where
   abbrev leaf-node : Leaf → ℕ → Node

@@ -11,7 +11,7 @@ use native.Mathlib.Nat.{zero-add, add-zero, add-suc, le-antisymm}
 use native.Mathlib.Decide.{decLe, decLt, ℕ-discrete}
 use lib.ListN.{length, getD, set, length-set, List·getD-eq-default}
 use lib.Seq.{getD-set-same, getD-set-other}
-use borrow.Author.Tests.{lt-ltb, le-ltb}
+use borrow.Author.Tests.{lt-ltb, le-ltb, ltb-false}
 use Rattle.integers.specs.Orders.{index, has, Distinct}
 use Rattle.integers.proofs.Bools.{bool, clash}
 use Rattle.integers.specs.Limits.{TASKS, DURATIONS}
@@ -26,8 +26,10 @@ use Rattle.nodes.specs.Bounds.{LATEST}
 use Rattle.trees.specs.Shapes.{width, heightFor}
 use Rattle.trees.specs.Searches.{searchP}
 use Rattle.trees.specs.Leaves as leaves
-use Rattle.trees.specs.Leaves.{Leaf, empty, inTheta, inLambda, whiteAt, grayAt, taskAt, startAt, durationAt, Limited}
-use Rattle.ects.proofs.Ects.{decoded-none, decoded-some, some-or-none, one-moment}
+use Rattle.trees.specs.Leaves.{Leaf, empty, inTheta, inLambda, whiteAt, grayAt, taskAt, startAt, durationAt}
+use Rattle.trees.specs.Trees.{Limited}
+use Rattle.ects.specs.Ects.{decoded, exceeds}
+use Rattle.ects.proofs.Ects.{decoded-none, decoded-some, decoded-word, exceeds-decoded, exceeds-yes, some-or-none, one-moment}
 use Rattle.trees.proofs.Heights.{enough}
 use Rattle.trees.proofs.Overs.{Holds, over-holds}
 use Rattle.trees.proofs.Thetas.{theta-in, theta-from, theta-distinct}
@@ -250,29 +252,28 @@ module _ (J : Tasks natural) (ok : Proper J) (estOrder : List ℕ) (rk : ByEarli
         let z : J .count + (width H - J .count) ≡ width H = omega (arith, enough (J .count)) in
         rw z at (leafRange.past w g e p 0 (J .count) (width H - J .count) (λ j r. none-w j (omega arith)) (λ j r. none-g j (omega arith)))
 
-    pub ect-is : leaves.rootEct J estOrder ls ≡ scan J T rank Ω (J .count)
-    ect-is = root-holds .ect ∙ to-count .1 ∙ ect-scan (J .count) (omega arith)
+    -- its words for the two ects
+    abbrev word : ℕ
+    word = leaves.root J estOrder ls .ect
 
-    pub bar-is : leaves.rootEctBar J estOrder ls ≡ bars.EB J ok T rank rk Ω Λ (J .count)
-    bar-is = root-holds .ect-bar ∙ to-count .2 ∙ moved (λ v u. leafRange.ect-bar v u e p 0 (J .count))
+    abbrev bar-word : ℕ
+    bar-word = leaves.root J estOrder ls .«ect_bar»
 
-    -- ect(Θ), where Θ is not empty
-    pub ect-of : NonEmpty J Ω → Ect J Ω (leaves.rootEct J estOrder ls)
-    ect-of m = rw ect-is (scan-is J T rank ok rk Ω m)
+    word-is : word ≡ scan J T rank Ω (J .count)
+    word-is = root-holds .ect ∙ to-count .1 ∙ ect-scan (J .count) (omega arith)
 
-    -- and the empty value exactly where it is
-    pub ect-some : (k : ℕ) → In J Ω k → 1 ≤ leaves.rootEct J estOrder ls
-    ect-some k m = omega (arith, ect-is, scan-some Ω k m)
+    bar-word-is : bar-word ≡ bars.EB J ok T rank rk Ω Λ (J .count)
+    bar-word-is = root-holds .ect-bar ∙ to-count .2 ∙ moved (λ v u. leafRange.ect-bar v u e p 0 (J .count))
 
-    pub ect-none : Empty Ω (J .count) → leaves.rootEct J estOrder ls ≡ 0
-    ect-none nil = ect-is ∙ scan-none Ω nil
+    some-word : (k : ℕ) → In J Ω k → 1 ≤ word
+    some-word k m = omega (arith, word-is, scan-some Ω k m)
 
     -- the answer `ect`: ect(Θ), or none exactly where no leaf is white
-    pub moment-some : (k : ℕ) → In J Ω k → leaves.ect J estOrder ls ≡ some (leaves.rootEct J estOrder ls)
-    moment-some k m = decoded-some (leaves.rootEct J estOrder ls) (ect-some k m)
+    pub moment-some : (k : ℕ) → In J Ω k → leaves.ect J estOrder ls ≡ some (scan J T rank Ω (J .count))
+    moment-some k m = decoded-some word (some-word k m) ∙ ap some word-is
 
     pub moment-none : Empty Ω (J .count) → leaves.ect J estOrder ls ≡ none
-    moment-none nil = decoded-none (leaves.rootEct J estOrder ls) (ect-none nil)
+    moment-none nil = decoded-none word (word-is ∙ scan-none Ω nil)
 
     pub moment-is : (v : ℕ) → (leaves.ect J estOrder ls ≡ some v) ↔ Ect J Ω v
     moment-is v = (to, from)
@@ -280,15 +281,15 @@ module _ (J : Tasks natural) (ok : Proper J) (estOrder : List ℕ) (rk : ByEarli
         to : leaves.ect J estOrder ls ≡ some v → Ect J Ω v
         to z = elim (top Ω (λ k. 0) (J .count)) [
           | inl nil ↦ some-or-none z (moment-none nil)
-          | inr t ↦ (let m : In J Ω (t .at) = record { small = t .small; mem = t .mem } in subst (Ect J Ω) (one-moment (moment-some (t .at) m) z) (ect-of (t .at, m)))
+          | inr t ↦ (let m : In J Ω (t .at) = record { small = t .small; mem = t .mem } in subst (Ect J Ω) (one-moment (moment-some (t .at) m) z) (scan-is J T rank ok rk Ω (t .at, m)))
         ]
 
         from : Ect J Ω v → leaves.ect J estOrder ls ≡ some v
         from h =
             let (k, m, _) = h .holds .est .holds in
             let km : In J Ω k = record { small = m .small; mem = h .holds .within k m } in
-            let r : Ect J Ω (leaves.rootEct J estOrder ls) = ect-of (k, km) in
-            moment-some k km ∙ ap some (le-antisymm (h .bounds (leaves.rootEct J estOrder ls) (r .holds)) (r .bounds v (h .holds)))
+            let r : Ect J Ω (scan J T rank Ω (J .count)) = scan-is J T rank ok rk Ω (k, km) in
+            moment-some k km ∙ ap some (le-antisymm (h .bounds (scan J T rank Ω (J .count)) (r .holds)) (r .bounds v (h .holds)))
 
     pub none-where-none-white : (leaves.ect J estOrder ls ≡ none) ↔ ((j : ℕ) → j < J .count → whiteAt ls j ≡ false)
     none-where-none-white = (to, from)
@@ -382,18 +383,21 @@ module _ (J : Tasks natural) (ok : Proper J) (estOrder : List ℕ) (rk : ByEarli
             )
 
     -- the bar is at least the ect with each gray task
-    pub most : (k : ℕ) → In J Λ k → scan J T rank (Ω with k) (J .count) ≤ leaves.rootEctBar J estOrder ls
-    most k h = omega (arith, bar-is, bars.most J ok T rank rk Ω Λ k h (J .count) (omega arith))
+    most-word : (k : ℕ) → In J Λ k → scan J T rank (Ω with k) (J .count) ≤ bar-word
+    most-word k h = omega (arith, bar-word-is, bars.most J ok T rank rk Ω Λ k h (J .count) (omega arith))
+
+    pub most : (k : ℕ) → In J Λ k → (m : ℕ) → exceeds (leaves.ect-bar J estOrder ls) m ≡ false → scan J T rank (Ω with k) (J .count) ≤ m
+    most k h m y = omega (arith, most-word k h, ltb-false m bar-word (sym (exceeds-decoded bar-word m) ∙ y))
 
     -- and it is the largest ect of Θ with at most one task of Λ
     abbrev pub AtMostOne : ℕ → Type 0
     AtMostOne v = Ect J Ω v ⊎ ((k : ℕ) × In J Λ k × Ect J (Ω with k) v)
 
-    plain-least : leaves.rootEct J estOrder ls ≤ leaves.rootEctBar J estOrder ls
+    plain-least : word ≤ bar-word
     plain-least = omega (arith, root-holds .ect, root-holds .ect-bar, leafRange.bars w g e p 0 (width H) .later)
 
-    pub bar-of : NonEmpty J Ω ⊎ NonEmpty J Λ → Largest natural AtMostOne (leaves.rootEctBar J estOrder ls)
-    bar-of some-task = record { holds = rw bar-is (holds (bars.reached J ok T rank rk Ω Λ (J .count) (omega arith)) (top Ω (λ k. 0) (J .count))); bounds = bounds }
+    largest : NonEmpty J Ω ⊎ NonEmpty J Λ → Largest natural AtMostOne bar-word
+    largest some-task = record { holds = rw bar-word-is (holds (bars.reached J ok T rank rk Ω Λ (J .count) (omega arith)) (top Ω (λ k. 0) (J .count))); bounds = bounds }
       where
         EB : ℕ
         EB = bars.EB J ok T rank rk Ω Λ (J .count)
@@ -409,23 +413,26 @@ module _ (J : Tasks natural) (ok : Proper J) (estOrder : List ℕ) (rk : ByEarli
         holds (inl z) (inr t) = inl (rw z (scan-is J T rank ok rk Ω (t .at, record { small = t .small; mem = t .mem })))
         holds (inr o) t = inr (o .at, o .mem, rw (o .is) (scan-is J T rank ok rk (Ω with o .at) (o .at, record { small = o .mem .small; mem = with-new Ω (o .at) })))
 
-        bounds : (v : ℕ) → AtMostOne v → v ≤ leaves.rootEctBar J estOrder ls
+        bounds : (v : ℕ) → AtMostOne v → v ≤ bar-word
         bounds v (inl h) =
             let (i, im, _) = h .holds .est .holds in
-            omega (arith, plain-least, ect-is, scan-is J T rank ok rk Ω (i, record { small = im .small; mem = h .holds .within i im }) .bounds v (h .holds))
+            omega (arith, plain-least, word-is, scan-is J T rank ok rk Ω (i, record { small = im .small; mem = h .holds .within i im }) .bounds v (h .holds))
         bounds v (inr (k, m, h)) =
-            omega (arith, most k m, scan-is J T rank ok rk (Ω with k) (k, record { small = m .small; mem = with-new Ω k }) .bounds v (h .holds))
+            omega (arith, most-word k m, scan-is J T rank ok rk (Ω with k) (k, record { small = m .small; mem = with-new Ω k }) .bounds v (h .holds))
 
     -- the answer `ect_bar`: that ect, or none exactly where no leaf is white or gray
-    pub bar-some : NonEmpty J Ω ⊎ NonEmpty J Λ → leaves.ect-bar J estOrder ls ≡ some (leaves.rootEctBar J estOrder ls)
-    bar-some some-task = decoded-some (leaves.rootEctBar J estOrder ls) (elim some-task [
-      | inl m ↦ omega (arith, plain-least, ect-some (m .0) (m .1))
-      | inr m ↦ omega (arith, most (m .0) (m .1), scan-some (Ω with m .0) (m .0) (record { small = m .1 .small; mem = with-new Ω (m .0) }))
-    ])
+    pub bar-some : NonEmpty J Ω ⊎ NonEmpty J Λ → (v : ℕ) × (leaves.ect-bar J estOrder ls ≡ some v) × Largest natural AtMostOne v
+    bar-some some-task = (bar-word, decoded-some bar-word past-zero, largest some-task)
+      where
+        past-zero : 1 ≤ bar-word
+        past-zero = elim some-task [
+          | inl m ↦ omega (arith, plain-least, some-word (m .0) (m .1))
+          | inr m ↦ omega (arith, most-word (m .0) (m .1), scan-some (Ω with m .0) (m .0) (record { small = m .1 .small; mem = with-new Ω (m .0) }))
+        ]
 
     pub bar-none : Empty Ω (J .count) → Empty Λ (J .count) → leaves.ect-bar J estOrder ls ≡ none
-    bar-none nil no-gray = decoded-none (leaves.rootEctBar J estOrder ls) (elim (bars.reached J ok T rank rk Ω Λ (J .count) (omega arith))
-        [ inl z ↦ bar-is ∙ z ∙ scan-none Ω nil | inr o ↦ clash (o .mem .mem) (no-gray (o .at) (o .mem .small)) ])
+    bar-none nil no-gray = decoded-none bar-word (elim (bars.reached J ok T rank rk Ω Λ (J .count) (omega arith))
+        [ inl z ↦ bar-word-is ∙ z ∙ scan-none Ω nil | inr o ↦ clash (o .mem .mem) (no-gray (o .at) (o .mem .small)) ])
 
     -- the search's answer ------------------------------------------------------------------------------------------------------
 
@@ -434,10 +441,11 @@ module _ (J : Tasks natural) (ok : Proper J) (estOrder : List ℕ) (rk : ByEarli
     answered = by-ect-ok colour e p lasts H 0
 
     -- no task found: a gray one is not needed for the bar
-    pub none-found : leaves.responsible J estOrder ls ≡ none → leaves.rootEctBar J estOrder ls ≤ leaves.rootEct J estOrder ls
+    pub none-found : leaves.responsible J estOrder ls ≡ none → leaves.ect-bar J estOrder ls ≡ leaves.ect J estOrder ls
     none-found z =
         let f : leafRange.ect-bar w g e p 0 (width H) ≤ leafRange.ect w g e p 0 (width H) = subst (EctOk colour e p lasts H 0) z answered in
-        omega (arith, f, root-holds .ect, root-holds .ect-bar)
+        let same : bar-word ≡ word = omega (arith, f, root-holds .ect, root-holds .ect-bar, plain-least) in
+        ap decoded same
 
     -- A task found: it is gray and not white, and a set of white tasks with it, and with it in the set, has an est + p that is no less than the bar.
     pub record Found (x : ℕ) : Type 0 where
@@ -447,7 +455,7 @@ module _ (J : Tasks natural) (ok : Proper J) (estOrder : List ℕ) (rk : ByEarli
       pub value : ℕ
       pub attains : EstPlusP J (Ω with T x) value
       pub has : attains .part (T x) ≡ true
-      pub reaches : leaves.rootEctBar J estOrder ls ≤ value
+      pub reaches : (v : ℕ) → leaves.ect-bar J estOrder ls ≡ some v → v ≤ value
 
     pub one-found : (x : ℕ) → leaves.responsible J estOrder ls ≡ some x → Found x
     one-found x z =
@@ -455,7 +463,10 @@ module _ (J : Tasks natural) (ok : Proper J) (estOrder : List ℕ) (rk : ByEarli
         let u = gray-in x (f .0 .gray) in
         let y : Ω (T x) ≡ false = sym (white-at x (u .0)) ∙ f .0 .white in
         let (v, a, has, is) = through-fill x (u .0) y (width H) (enough (J .count)) in
-        record { small = u .0; gray = record { small = rk .task x (u .0); mem = u .1 }; out = y; value = v; attains = a; has = has; reaches = omega (arith, f .1, is, root-holds .ect-bar) }
+        record { small = u .0; gray = record { small = rk .task x (u .0); mem = u .1 }; out = y; value = v; attains = a; has = has; reaches = λ v′ y. omega (arith, f .1, is, root-holds .ect-bar, decoded-word bar-word v′ y) }
+
+    pub past-found : {x : ℕ} (f : Found x) (m : ℕ) → exceeds (leaves.ect-bar J estOrder ls) m ≡ true → m < f .value
+    past-found f m y = let (v, is, q) = exceeds-yes (leaves.ect-bar J estOrder ls) m y in omega (arith, q, f .reaches v is)
 
     -- the list of Θ ------------------------------------------------------------------------------------------------------------
 

@@ -23,13 +23,16 @@ use Rattle.nodes.specs.declared.theta_lambda_node.EctBarDescent.the-variants as
 use Rattle.nodes.specs.declared.theta_lambda_node.EctBarDescent.{EctBarDescent}
 use Rattle.nodes.specs.Nodes.{joinOf}
 use Rattle.nodes.specs.Bounds.{size, Fair, Fits}
-use Rattle.nodes.specs.Descents.{AroundFits, stepAtP, stepAtEct, gray, descentP, descentEct}
+use Rattle.nodes.specs.Descents.{gray, descentP, descentEct}
+use Rattle.nodes.specs.Steps.{AroundFits, stepAtP, stepAtEct}
 use Rattle.nodes.proofs.Descents.{tagP, tagEct, never-here-p, never-here-ect}
 use Rattle.nodes.proofs.Joins.{additive}
 use Rattle.trees.specs.declared.disjunctive_task.LocalId.{LocalId}
 use Rattle.trees.specs.declared.theta_lambda_tree.Responsible.the-variants as responsible
-use Rattle.trees.specs.Shapes.{width, leftmost, HasHeight, leavesOf, nodeOver}
-use Rattle.trees.specs.Searches.{aroundOf, Searched, Searchable, stepP, stepEct, searchP, searchEct, nowhere, foundAt, responsibleOf}
+use Rattle.trees.specs.Shapes.{width, nodeOver}
+use Rattle.trees.specs.Arrays.{leftmost, HasHeight, leavesOf}
+use Rattle.trees.specs.Searches.{stepP, stepEct, searchP, searchEct}
+use Rattle.trees.specs.Searching.{aroundOf, Searched, nowhere, foundAt, responsibleOf}
 use Rattle.trees.proofs.Heights.{leftmost-leaf, leftmost-left, leftmost-right, inner-height, left-height, right-height, leaf-at, height-inside, root-first}
 use Rattle.trees.proofs.Wiring.{node-is, over-fits}
 
@@ -334,6 +337,12 @@ pub record AnswerAt (m h : ℕ) (at : ℕ → Node) (position : ℕ) : Type 0 wh
   pub is : position ≡ m + place
   pub small : place < TASKS
   pub same : searchEct (leavesOf m at) h 0 ≡ some place
+
+-- What a search from the root asks: the leaves past the tasks are not gray.
+pub record Searchable (m h : ℕ) (at : ℕ → Node) : Type 0 where
+  pub searched : Searched m h 0 at
+  pub complete : m + 1 ≡ width h
+  pub past : (k : ℕ) → TASKS ≤ k → gray (leavesOf m at k) ≡ false
 
 module _ (m h : ℕ) (at : ℕ → Node) (s : Searchable m h at) where
   abbrev root : Option ℕ

@@ -11,7 +11,7 @@ use Rattle.integers.proofs.Filling.{getD-fresh}
 use Rattle.nodes.specs.declared.theta_lambda_node.Node.{Node}
 use Rattle.nodes.specs.declared.theta_node.Node as plain
 use Rattle.nodes.specs.Nodes.{emptyOf, plainEmptyOf}
-use Rattle.trees.specs.Shapes.{changed}
+use Rattle.trees.specs.Arrays.{changed}
 use Rattle.trees.specs.Words.{nodeAt, plainAt}
 use Rattle.trees.proofs.Wiring.{changed-is}
 

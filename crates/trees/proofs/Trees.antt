@@ -1,4 +1,4 @@
--- The laws of the two trees, for the crates above: what the operations ask and do, and what the root holds, by the colours of the leaves.
+-- The laws of the two trees: what the operations ask and do, and what the root holds, by the colours of the leaves.
 -- Assumes nothing.
 use mathlib.Core.Path.{_≡_, refl, sym, ap, ap₂, subst, _∙_}
 use mathlib.Core.Bool.{not}
@@ -17,18 +17,22 @@ use Rattle.nodes.specs.Nodes.{joinOf, plainOf, plainJoinOf}
 use Rattle.nodes.specs.Bounds.{Fair, size, PlainFair, plainSize}
 use Rattle.nodes.specs.Descents.{gray}
 use Rattle.nodes.proofs.Grays.{gray-empty}
-use Rattle.trees.specs.Shapes.{width, heightFor, changed, leavesOf, nodeOver, TreeOf}
-use Rattle.trees.specs.Words.{nodeAt, plainAt, ectBarIn, plainEctIn}
+use Rattle.trees.specs.Shapes.{width, heightFor, nodeOver}
+use Rattle.trees.specs.Arrays.{changed, leavesOf, TreeOf}
+use Rattle.trees.specs.Words.{nodeAt, plainAt, plainEctIn}
 use Rattle.trees.specs.Bounds.{Bounded, CanPut}
 use Rattle.trees.specs.Puts.{Puttable, Put, PlainPuttable, PlainPut}
-use Rattle.trees.specs.Searches.{Searchable, searchEct, isWhite, thetaOf}
+use Rattle.trees.specs.Searches.{searchEct, thetaOf}
+use Rattle.trees.specs.Searching.{isWhite}
 use Rattle.trees.specs.Leaves as leaves
-use Rattle.trees.specs.Leaves.{Leaf, empty, inTheta, leafNode, plainLeaf, taskAt, startAt, durationAt, whiteAt, plainLeaves, root, responsible, theta, Limited, IsTree, IsPlainTree}
+use Rattle.trees.specs.Leaves.{Leaf, empty, inTheta, leafNode, taskAt, startAt, durationAt, whiteAt, root, responsible, theta}
+use Rattle.trees.specs.Trees.{plainLeaf, plainLeaves, Limited, IsTree, IsPlainTree}
 use Rattle.trees.proofs.Heights.{enough, room, root-height}
 use Rattle.trees.proofs.Wiring.{over-leaf, over-join, own-leaves, own-tree, root-is}
 use Rattle.trees.proofs.Storage.{blank-nodes, plain-blank-nodes}
 use Rattle.trees.proofs.Colours.{white-is, past-empty, bounded, plain-bounded, coloured}
 use Rattle.trees.proofs.Thetas.{theta-same}
+use Rattle.trees.proofs.Steps.{Searchable}
 
 -- Nodes of any kind over the leaves' colours: `node` is that of a leaf, by colour and place.
 module _ {A : Type 0} (size : A → ℕ) (Fair : A → Type 0) (join : A → A → A) (node : Leaf → ℕ → A) where
@@ -81,7 +85,7 @@ module _ (J : Tasks natural) (estOrder : List ℕ) where
   all-empty : (n j : ℕ) → getD (replicate n empty) j empty ≡ empty
   all-empty = getD-fresh empty
 
-  -- after `update`, or of a new theta tree: every word 0, and every leaf empty
+  -- of a new tree: every word 0, and every leaf empty
   pub new-tree : (inner : ℕ) (words : List ℕ) → words ≡ replicate TREEWORDS 0 → inner + 1 ≡ width (heightFor (J .count)) → IsTree J estOrder (replicate (J .count) empty) inner words
   unfolding joinOf
   new-tree inner words z e = rw z (record {
@@ -136,10 +140,6 @@ module _ {J : Tasks natural} {estOrder : List ℕ} (lim : Limited J estOrder) {l
   unfolding root
   root-of = root-is joinOf inner (heightFor (J .count)) (nodeAt words) (t .complete) own-is-tree ∙ ap (λ (leaf : ℕ → Node). nodeOver joinOf leaf (heightFor (J .count)) 0) own
 
-  -- what `ect_bar` answers
-  pub bar-of-root : ectBarIn words ≡ leaves.ect-bar J estOrder ls
-  bar-of-root = ap (λ (n : Node). decoded (n .«ect_bar»)) root-of
-
   -- the search from the root, `responsible_ect_bar`
   pub searchable : (h : ℕ) → h ≡ heightFor (J .count) → Searchable inner h (nodeAt words)
   searchable h z = rw z (record {
@@ -177,7 +177,7 @@ module _ {J : Tasks natural} {estOrder : List ℕ} (lim : Limited J estOrder) {l
   }
 
   -- the root has the theta-lambda tree's plain values
-  pub plain-root-of : plainAt words 0 ≡ plainOf (leaves.rootEct J estOrder ls) (leaves.sum J estOrder ls)
+  pub plain-root-of : plainAt words 0 ≡ plainOf (root J estOrder ls .ect) (leaves.sum J estOrder ls)
   unfolding root
   plain-root-of = root-is plainJoinOf inner (heightFor (J .count)) (plainAt words) (t .complete) (own-tree plainJoinOf inner (plainLeaves J estOrder ls) (plainAt words) (t .tree))
       ∙ ap (λ (leaf : ℕ → plain.Node). nodeOver plainJoinOf leaf (heightFor (J .count)) 0) (own-leaves plainJoinOf inner (plainLeaves J estOrder ls) (plainAt words) (t .tree))

@@ -10,7 +10,8 @@ use Rattle.integers.specs.Limits.{INNER, NODES}
 use Rattle.scheduling.specs.Scheduling.{total}
 use Rattle.nodes.specs.Bounds.{Fits}
 use Rattle.nodes.proofs.Joins.{Additive}
-use Rattle.trees.specs.Shapes.{width, leftmost, HasHeight, changed, leavesOf, nodeOver, TreeOf}
+use Rattle.trees.specs.Shapes.{width, nodeOver}
+use Rattle.trees.specs.Arrays.{leftmost, HasHeight, changed, leavesOf, TreeOf}
 use Rattle.trees.specs.Bounds.{Bounded, NeedsUpheap, CanPut}
 use Rattle.trees.proofs.Heights.{once, twice, leftmost-leaf, leftmost-left, leftmost-right, root-height, root-first, inner-height, left-height, right-height, one-height, Path, path-height, path-up, leaf-path}
 

@@ -3,7 +3,8 @@ use mathlib.Core.Path.{_≡_}
 use Prim.Native.Nat.{ℕ, _+_, _*_, _≤_, _<_}
 use Rattle.integers.specs.Limits.{DURATIONS, INNER}
 use Rattle.scheduling.specs.Scheduling.{total}
-use Rattle.trees.specs.Shapes.{width, leavesOf, changed, TreeOf}
+use Rattle.trees.specs.Shapes.{width}
+use Rattle.trees.specs.Arrays.{leavesOf, changed, TreeOf}
 
 module _ {A : Type 0} (size : A → ℕ) (Fair : A → Type 0) where
   -- leaves whose tree has only nodes whose numbers can be added

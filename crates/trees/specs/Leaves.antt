@@ -1,19 +1,14 @@
 -- The trees over tasks in an order: each leaf is empty, white for a task of Theta or gray for one of Lambda, and everything else follows from the leaves.
-use mathlib.Core.Path.{_≡_}
 use mathlib.Core.Bool.{Bool, true, false}
 use mathlib.Core.List.{List}
 use mathlib.Core.Option.{Option}
-use Prim.Native.Nat.{ℕ, _+_, _≤_, _<_}
-use lib.ListN.{length, getD}
-use Rattle.integers.specs.Limits.{TASKS, DURATIONS, THETAWORDS, TREEWORDS}
-use Rattle.scheduling.specs.Scheduling.{natural, Tasks, total}
+use Prim.Native.Nat.{ℕ, _+_}
+use lib.ListN.{getD}
+use Rattle.scheduling.specs.Scheduling.{natural, Tasks}
 use Rattle.nodes.specs.declared.theta_lambda_node.Node.{Node}
-use Rattle.nodes.specs.declared.theta_node.Node as plain
 use Rattle.ects.specs.Ects.{decoded}
-use Rattle.nodes.specs.Nodes.{emptyOf, whiteOf, grayOf, joinOf, plainEmptyOf, plainOf, plainJoinOf}
-use Rattle.nodes.specs.Bounds.{LATEST}
-use Rattle.trees.specs.Shapes.{width, heightFor, nodeOver, TreeOf}
-use Rattle.trees.specs.Words.{nodeAt, plainAt}
+use Rattle.nodes.specs.Nodes.{emptyOf, whiteOf, grayOf, joinOf}
+use Rattle.trees.specs.Shapes.{heightFor, nodeOver}
 use Rattle.trees.specs.Searches.{searchEct, thetaOf}
 
 pub data Leaf : Type 0 where
@@ -43,10 +38,6 @@ leafNode empty e p = emptyOf
 leafNode white e p = whiteOf (e + p) p
 leafNode gray e p = grayOf (e + p) p
 
-abbrev pub plainLeaf : Bool → ℕ → ℕ → plain.Node
-plainLeaf false e p = plainEmptyOf
-plainLeaf true e p = plainOf (e + p) p
-
 -- The leaves stand in the order of earliest starts: `estOrder` has the task of each.
 module _ (J : Tasks natural) (estOrder : List ℕ) where
   abbrev pub taskAt : ℕ → ℕ
@@ -61,25 +52,15 @@ module _ (J : Tasks natural) (estOrder : List ℕ) where
   abbrev pub leaves : List Leaf → ℕ → Node
   leaves ls j = leafNode (getD ls j empty) (startAt j) (durationAt j)
 
-  abbrev pub plainLeaves : List Leaf → ℕ → plain.Node
-  plainLeaves ls j = plainLeaf (whiteAt ls j) (startAt j) (durationAt j)
-
   unfoldable pub root : List Leaf → Node
   root ls = nodeOver joinOf (leaves ls) (heightFor (J .count)) 0
 
-  -- the root's words for the two ects
-  abbrev pub rootEct : List Leaf → ℕ
-  rootEct ls = root ls .ect
-
-  abbrev pub rootEctBar : List Leaf → ℕ
-  rootEctBar ls = root ls .«ect_bar»
-
   -- `ect`, `ect_bar`: a moment, or none where no leaf is white, and where none is white or gray; and `sum_of_processing_times`
   abbrev pub ect : List Leaf → Option ℕ
-  ect ls = decoded (rootEct ls)
+  ect ls = decoded (root ls .ect)
 
   abbrev pub ect-bar : List Leaf → Option ℕ
-  ect-bar ls = decoded (rootEctBar ls)
+  ect-bar ls = decoded (root ls .«ect_bar»)
 
   abbrev pub sum : List Leaf → ℕ
   sum ls = root ls .«sum_of_processing_times»
@@ -91,31 +72,3 @@ module _ (J : Tasks natural) (estOrder : List ℕ) where
   -- the tasks of Theta, the list of the source's `get_theta`
   unfoldable pub theta : List Leaf → List ℕ
   theta ls = thetaOf (whiteAt ls) taskAt 0 (J .count)
-
-  -- the tasks, within the limits
-  pub record Limited : Type 0 where
-    pub count : J .count ≤ TASKS
-    pub starts : (j : ℕ) → j < J .count → startAt j ≤ LATEST
-    pub lasts : (j : ℕ) → j < J .count → 1 ≤ durationAt j
-    pub durations : total durationAt (J .count) ≤ DURATIONS
-
-  -- The words hold the theta-lambda tree over these leaves.
-  pub record IsTree (ls : List Leaf) (inner : ℕ) (words : List ℕ) : Type 0 where
-    pub tree : TreeOf joinOf inner (leaves ls) (nodeAt words)
-    pub words-length : length words ≡ TREEWORDS
-    pub complete : inner + 1 ≡ width (heightFor (J .count))
-    pub colours : length ls ≡ J .count
-
-  -- The words hold these leaves, and the inner nodes may be anything.
-  pub record HasLeaves (ls : List Leaf) (inner : ℕ) (words : List ℕ) : Type 0 where
-    pub nodes : (k : ℕ) → nodeAt words (inner + k) ≡ leaves ls k
-    pub words-length : length words ≡ TREEWORDS
-    pub complete : inner + 1 ≡ width (heightFor (J .count))
-    pub colours : length ls ≡ J .count
-
-  -- The words hold the theta tree over the white ones of these leaves.
-  pub record IsPlainTree (ls : List Leaf) (inner : ℕ) (words : List ℕ) : Type 0 where
-    pub tree : TreeOf plainJoinOf inner (plainLeaves ls) (plainAt words)
-    pub words-length : length words ≡ THETAWORDS
-    pub complete : inner + 1 ≡ width (heightFor (J .count))
-    pub colours : length ls ≡ J .count

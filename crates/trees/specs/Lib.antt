@@ -1,7 +1,11 @@
 pub mod Shapes
+pub mod Arrays
 pub mod Words
 pub mod Bounds
 pub mod Puts
 pub mod Mappings
 pub mod Searches
+pub mod Searching
 pub mod Leaves
+pub mod Trees
+pub mod Operations

@@ -6,7 +6,8 @@ use lib.ListN.{getD, take, replicate}
 use Rattle.integers.specs.Limits.{THETAWORDS}
 use Rattle.integers.specs.Orders.{index}
 use Rattle.trees.specs.declared.theta_tree.ThetaTree.{ThetaTree}
-use Rattle.trees.specs.Shapes.{heightFor, Sized}
+use Rattle.trees.specs.Shapes.{heightFor}
+use Rattle.trees.specs.Arrays.{Sized}
 
 -- `mapping` has the place of each of the first n tasks in the order.
 pub record Maps (n : ℕ) (order mapping : List ℕ) : Type 0 where

@@ -1,25 +1,19 @@
 -- What an operation on the words of a tree asks, and what it does: one leaf changes, and every inner node is the join of its children again.
 use mathlib.Core.Path.{_≡_}
 use mathlib.Core.List.{List}
-use Prim.Native.Nat.{ℕ, _+_, _≤_}
+use Prim.Native.Nat.{ℕ, _+_}
 use lib.ListN.{length}
-use Rattle.integers.specs.Limits.{INNER, THETAWORDS, TREEWORDS}
+use Rattle.integers.specs.Limits.{THETAWORDS, TREEWORDS}
 use Rattle.nodes.specs.declared.theta_lambda_node.Node.{Node}
 use Rattle.nodes.specs.declared.theta_node.Node as plain
-use Rattle.nodes.specs.Nodes.{whiteOf, grayOf, joinOf, plainOf, plainJoinOf}
-use Rattle.nodes.specs.Bounds.{Fair, size, PlainFair, plainSize, Fits}
+use Rattle.nodes.specs.Nodes.{joinOf, plainOf, plainJoinOf}
+use Rattle.nodes.specs.Bounds.{Fair, size, PlainFair, plainSize}
 use Rattle.trees.specs.declared.disjunctive_task.DisjunctiveTask.{DisjunctiveTask}
-use Rattle.trees.specs.Shapes.{width, leavesOf, changed, TreeOf}
+use Rattle.trees.specs.Arrays.{leavesOf, changed, TreeOf}
 use Rattle.trees.specs.Words.{nodeAt, plainAt}
-use Rattle.trees.specs.Bounds.{Bounded, CanPut}
+use Rattle.trees.specs.Bounds.{CanPut}
 
--- the leaf of a task of Theta, and of one of Lambda
-abbrev pub whiteTask : DisjunctiveTask → Node
-whiteTask task = whiteOf (task .«start_time» + task .«processing_time») (task .«processing_time»)
-
-abbrev pub grayTask : DisjunctiveTask → Node
-grayTask task = grayOf (task .«start_time» + task .«processing_time») (task .«processing_time»)
-
+-- the theta tree's leaf of a task
 abbrev pub plainTask : DisjunctiveTask → plain.Node
 plainTask task = plainOf (task .«start_time» + task .«processing_time») (task .«processing_time»)
 
@@ -31,31 +25,6 @@ pub record Puttable (inner : ℕ) (words : List ℕ) (place : ℕ) (n : Node) : 
 -- the leaf at `place` became n
 pub record Put (inner : ℕ) (before after : List ℕ) (place : ℕ) (n : Node) : Type 0 where
   pub tree : TreeOf joinOf inner (changed (leavesOf inner (nodeAt before)) place n) (nodeAt after)
-  pub length : length after ≡ TREEWORDS
-
--- n may stand as the leaf at `place`, whatever its ancestors are
-pub record Layable (inner : ℕ) (words : List ℕ) (place : ℕ) (n : Node) : Type 0 where
-  pub fits : Fits size Fair n
-  pub inside : place ≤ inner
-  pub room : inner ≤ INNER
-  pub length : length words ≡ TREEWORDS
-
--- n stands there, and nothing else changed
-pub record Laid (inner : ℕ) (before after : List ℕ) (place : ℕ) (n : Node) : Type 0 where
-  pub nodes : nodeAt after ≡ changed (nodeAt before) (inner + place) n
-  pub length : length after ≡ TREEWORDS
-
--- the leaves stand, and the inner nodes may be anything
-pub record Rebuildable (inner : ℕ) (words : List ℕ) : Type 0 where
-  pub bounded : Bounded size Fair (leavesOf inner (nodeAt words))
-  pub height : ℕ
-  pub complete : inner + 1 ≡ width height
-  pub room : inner ≤ INNER
-  pub length : length words ≡ TREEWORDS
-
--- the leaves stayed, and every inner node is the join of its children
-pub record Rebuilt (inner : ℕ) (before after : List ℕ) : Type 0 where
-  pub tree : TreeOf joinOf inner (leavesOf inner (nodeAt before)) (nodeAt after)
   pub length : length after ≡ TREEWORDS
 
 -- the same of a theta tree

@@ -14,12 +14,6 @@ nodeAt ws i = record { ect = getD ws (4 * i) 0; «sum_of_processing_times» = ge
 abbrev pub plainAt : List ℕ → ℕ → plain.Node
 plainAt ws i = record { ect = getD ws (2 * i) 0; «sum_of_processing_times» = getD ws (2 * i + 1) 0 }
 
--- what the root's words answer for the ects
-abbrev pub ectIn : List ℕ → Option ℕ
-ectIn ws = decoded (nodeAt ws 0 .ect)
-
-abbrev pub ectBarIn : List ℕ → Option ℕ
-ectBarIn ws = decoded (nodeAt ws 0 .«ect_bar»)
-
+-- what the theta tree's root answers for the ect
 abbrev pub plainEctIn : List ℕ → Option ℕ
 plainEctIn ws = decoded (plainAt ws 0 .ect)

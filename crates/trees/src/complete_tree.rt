@@ -6,7 +6,7 @@ ghost use lib.Dec.{leb};
 ghost use lib.ListN.{take, length};
 ghost use Rattle.integers.specs.Limits.{NODES, TASKS};
 ghost use Rattle.integers.specs.Orders.{Permutes};
-ghost use Rattle.trees.specs.Shapes.{Sized};
+ghost use Rattle.trees.specs.Arrays.{Sized};
 ghost use Rattle.trees.specs.Mappings.{Maps};
 
 // Returns the index of the left child of the provided index.

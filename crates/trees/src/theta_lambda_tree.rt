@@ -7,6 +7,7 @@ use crate::complete_tree::get_left_child_index;
 use crate::complete_tree::get_parent;
 use crate::complete_tree::get_right_child_index;
 use crate::complete_tree::is_leaf;
+use crate::complete_tree::size_for;
 use crate::disjunctive_task::DisjunctiveTask;
 use crate::disjunctive_task::LeafPlace;
 use crate::disjunctive_task::LocalId;
@@ -24,13 +25,17 @@ ghost use Prim.Native.Nat.{ℕ, _+_, _*_, _-_, _≤_, _<_};
 ghost use lib.ListN.{length};
 ghost use Rattle.integers.specs.Limits.{INNER, NODES, TASKS, TREEWORDS};
 ghost use Rattle.ects.specs.Ects.{momentOf};
-ghost use Rattle.nodes.specs.Nodes.{emptyOf, joinOf};
+ghost use Rattle.nodes.specs.Nodes.{joinOf};
 ghost use Rattle.nodes.specs.Bounds.{Fair, size};
-ghost use Rattle.trees.specs.Shapes.{leftmost, changed, leavesOf, TreeOf};
-ghost use Rattle.trees.specs.Words.{nodeAt, ectIn, ectBarIn};
+ghost use Rattle.trees.specs.Arrays.{leftmost, changed, leavesOf, TreeOf};
+ghost use Rattle.trees.specs.Words.{nodeAt};
 ghost use Rattle.trees.specs.Bounds.{NeedsUpheap};
-ghost use Rattle.trees.specs.Puts.{whiteTask, grayTask, Puttable, Put, Layable, Laid, Rebuildable, Rebuilt};
-ghost use Rattle.trees.specs.Searches.{Searched, Searchable, aroundOf, searchP, searchEct, foundAt, responsibleOf, whiteIn, Next};
+ghost use Rattle.trees.specs.Puts.{Puttable, Put};
+ghost use Rattle.trees.specs.Searches.{searchP, searchEct};
+ghost use Rattle.trees.specs.Searching.{Searched, aroundOf, foundAt, whiteIn, Next};
+ghost use Rattle.trees.specs.Leaves.{empty, gray, ect, ect-bar, sum};
+ghost use Rattle.trees.specs.Trees.{IsTree};
+ghost use Rattle.trees.specs.Operations.{Held, HeldLeaves, New, Answers, Tall, Responds, HasPlace, Coloured, Whitened};
 
 // No position: there are as many nodes. A search answers with a number, not with an enum, so that a call at its end needs no room of its own.
 const NOWHERE: usize = NODES;
@@ -67,8 +72,7 @@ fn store(nodes: &mut [u32; TREEWORDS], i: usize, n: Node)
     nodes[k + 3] = n.sum_of_processing_times_bar;
 }
 
-// A structure for calculating the ect of a set of tasks while allowing one element from another set: its nodes, as words, and its size. It is made where
-// it is used, with every word 0, so that it is not copied.
+// A structure for calculating the ect of a set of tasks while allowing one element from another set: its nodes, as words, and its size.
 pub struct ThetaLambdaTree {
     pub nodes: [u32; TREEWORDS],
     pub number_of_internal_nodes: usize,
@@ -77,9 +81,22 @@ pub struct ThetaLambdaTree {
 
 // The operations take the words of the tree and the number of its internal nodes, `inner`.
 impl ThetaLambdaTree {
+    // The tree for `count` tasks, with no task in Theta or Lambda.
+    pub fn new(count: usize) -> ThetaLambdaTree
+        requires { ⌜ count ≤ TASKS ⌝ }
+        ensures { λ r. ⌜ New count r ⌝ }
+    {
+        let size = size_for(count);
+        ThetaLambdaTree {
+            nodes: [0; TREEWORDS],
+            number_of_internal_nodes: size.number_of_internal_nodes,
+            height: size.height,
+        }
+    }
+
     // Returns the earliest completion time of Theta.
     pub fn ect(nodes: &[u32; TREEWORDS]) -> Ect
-        ensures { λ r. ⌜ momentOf r ≡ ectIn (now (nodes .entry)) ⌝ }
+        ensures { λ r. ⌜ Answers ect (now (nodes .entry)) (momentOf r) ⌝ }
     {
         let root = load(nodes, 0);
         Ect::decoded(root.ect)
@@ -87,7 +104,7 @@ impl ThetaLambdaTree {
 
     // Returns the earliest completion time of Theta while allowing one element of Lambda to be added.
     pub fn ect_bar(nodes: &[u32; TREEWORDS]) -> Ect
-        ensures { λ r. ⌜ momentOf r ≡ ectBarIn (now (nodes .entry)) ⌝ }
+        ensures { λ r. ⌜ Answers ect-bar (now (nodes .entry)) (momentOf r) ⌝ }
     {
         let root = load(nodes, 0);
         Ect::decoded(root.ect_bar)
@@ -95,7 +112,7 @@ impl ThetaLambdaTree {
 
     // Returns the total sum of processing times of the elements in the set theta.
     pub fn sum_of_processing_times(nodes: &[u32; TREEWORDS]) -> u32
-        ensures { λ r. ⌜ r ≡ nodeAt (now (nodes .entry)) 0 .«sum_of_processing_times» ⌝ }
+        ensures { λ r. ⌜ Answers sum (now (nodes .entry)) r ⌝ }
     {
         let root = load(nodes, 0);
         root.sum_of_processing_times
@@ -116,8 +133,8 @@ impl ThetaLambdaTree {
         inner: usize,
         height: usize,
     ) -> Responsible
-        requires { ⌜ Searchable inner height (nodeAt (now nodes)) ⌝ }
-        ensures { λ r. ⌜ r ≡ responsibleOf (now («reverse_mapping» .entry)) (searchEct (leavesOf inner (nodeAt (now (nodes .entry)))) height 0) ⌝ }
+        requires { ⌜ ((h : Held inner (now nodes)) × Tall h height) ⌝ }
+        ensures { λ r. ⌜ Responds inner height (now (nodes .entry)) (now («reverse_mapping» .entry)) r ⌝ }
     {
         let found = ThetaLambdaTree::responsible_index_ect_bar_internal(nodes, inner, 0, height);
         if found == NOWHERE {
@@ -213,8 +230,8 @@ impl ThetaLambdaTree {
         place: LeafPlace,
         task: DisjunctiveTask,
     )
-        requires { ⌜ Puttable inner (now nodes) (place .0) (grayTask task) ⌝ }
-        ensures { λ _. ⌜ Put inner (now (nodes .entry)) (now (nodes .exit)) (place .0) (grayTask task) ⌝ }
+        requires { ⌜ ((h : Held inner (now nodes)) × HasPlace (h .J) (h .estOrder) (place .0) task) ⌝ }
+        ensures { λ _. ⌜ ((h : Held inner (now (nodes .entry))) → HasPlace (h .J) (h .estOrder) (place .0) task → Coloured gray h (place .0) (now (nodes .exit))) ⌝ }
     {
         let ect = task.start_time + task.processing_time;
         let n = Node::new_gray_node(ect, task.processing_time);
@@ -223,8 +240,8 @@ impl ThetaLambdaTree {
 
     // Removes a task from Lambda.
     pub fn remove_from_lambda(nodes: &mut [u32; TREEWORDS], inner: usize, place: LeafPlace)
-        requires { ⌜ Puttable inner (now nodes) (place .0) emptyOf ⌝ }
-        ensures { λ _. ⌜ Put inner (now (nodes .entry)) (now (nodes .exit)) (place .0) emptyOf ⌝ }
+        requires { ⌜ ((h : Held inner (now nodes)) × (place .0 < h .J .count)) ⌝ }
+        ensures { λ _. ⌜ ((h : Held inner (now (nodes .entry))) → place .0 < h .J .count → Coloured empty h (place .0) (now (nodes .exit))) ⌝ }
     {
         ThetaLambdaTree::put(nodes, inner, place, Node::empty());
     }
@@ -236,8 +253,8 @@ impl ThetaLambdaTree {
         place: LeafPlace,
         task: DisjunctiveTask,
     )
-        requires { ⌜ Layable inner (now nodes) (place .0) (whiteTask task) ⌝ }
-        ensures { λ _. ⌜ Laid inner (now (nodes .entry)) (now (nodes .exit)) (place .0) (whiteTask task) ⌝ }
+        requires { ⌜ ((l : HeldLeaves inner (now nodes)) × HasPlace (l .J) (l .estOrder) (place .0) task) ⌝ }
+        ensures { λ _. ⌜ ((l : HeldLeaves inner (now (nodes .entry))) → HasPlace (l .J) (l .estOrder) (place .0) task → Whitened l (place .0) (now (nodes .exit))) ⌝ }
     {
         let ect = task.start_time + task.processing_time;
         let n = Node::new_white_node(ect, task.processing_time);
@@ -247,8 +264,8 @@ impl ThetaLambdaTree {
 
     // Calculates the values of all inner nodes, the last ones first.
     pub fn rebuild(nodes: &mut [u32; TREEWORDS], inner: usize)
-        requires { ⌜ Rebuildable inner (now nodes) ⌝ }
-        ensures { λ _. ⌜ Rebuilt inner (now (nodes .entry)) (now (nodes .exit)) ⌝ }
+        requires { ⌜ HeldLeaves inner (now nodes) ⌝ }
+        ensures { λ _. ⌜ ((l : HeldLeaves inner (now (nodes .entry))) → IsTree (l .J) (l .estOrder) (l .leaves) inner (now (nodes .exit))) ⌝ }
     {
         let mut i = inner;
         while i != 0 {

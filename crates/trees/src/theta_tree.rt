@@ -22,7 +22,7 @@ ghost use Rattle.integers.specs.Orders.{Permutes};
 ghost use Rattle.ects.specs.Ects.{momentOf};
 ghost use Rattle.nodes.specs.Nodes.{plainJoinOf};
 ghost use Rattle.nodes.specs.Bounds.{PlainFair, plainSize};
-ghost use Rattle.trees.specs.Shapes.{changed, leavesOf, TreeOf};
+ghost use Rattle.trees.specs.Arrays.{changed, leavesOf, TreeOf};
 ghost use Rattle.trees.specs.Words.{plainAt, plainEctIn};
 ghost use Rattle.trees.specs.Bounds.{NeedsUpheap};
 ghost use Rattle.trees.specs.Puts.{plainTask, PlainPuttable, PlainPut};

@@ -8,7 +8,7 @@ use lib.ListN.{length, getD}
 use borrow.Author.Needs.{needs}
 use Rattle.integers.specs.Moments.{zeroAt}
 use Rattle.runs.specs.Runs.{propagation}
-use Rattle.trees.specs.Searches.{whiteIn, taskIn}
+use Rattle.trees.specs.Searching.{whiteIn, taskIn}
 use Rattle.theta_walks.specs.Walks.{between}
 use Rattle.theta_walks.specs.Writing.{starting, Stored}
 use Rattle.explanations.specs.Explanations.{Preceded}

@@ -2,7 +2,7 @@
 use Prim.Native.Nat.{ℕ, _≤_}
 use native.Mathlib.Omega.{arith}
 use borrow.Author.Needs.{needs}
-use Rattle.trees.specs.Searches.{whiteIn, taskIn}
+use Rattle.trees.specs.Searching.{whiteIn, taskIn}
 use Rattle.explanations.proofs.Storing.{writable-first, writable-rest, bounds-stored}
 use Rattle.explanations.proofs.write_bounds.Statement.{statement}
 use Rattle.explanations.proofs.write_bounds.Tie as tie

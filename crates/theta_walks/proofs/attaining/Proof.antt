@@ -5,7 +5,7 @@ use Prim.Native.Nat.{ℕ, _+_, _-_, _<_, _^_}
 use native.Mathlib.Omega.{arith}
 use lib.ListN.{getD}
 use borrow.Author.Needs.{needs}
-use Rattle.trees.specs.Searches.{whiteIn, taskIn}
+use Rattle.trees.specs.Searching.{whiteIn, taskIn}
 use Rattle.theta_walks.specs.Walks.{Known, Attains, between, Walk}
 use Rattle.theta_walks.proofs.Walking.{next-same, next-again, stops-from, WalkedTo, sets-out, enough-there, most-there, known-there, walks-on, halts}
 use Rattle.theta_walks.proofs.attaining.Statement.{statement}

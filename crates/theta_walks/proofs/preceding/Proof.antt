@@ -3,7 +3,7 @@ use Prim.Native.Nat.{ℕ, _+_, _-_, _<_, _^_}
 use native.Mathlib.Omega.{arith}
 use lib.ListN.{getD}
 use borrow.Author.Needs.{needs}
-use Rattle.trees.specs.Searches.{whiteIn, taskIn}
+use Rattle.trees.specs.Searching.{whiteIn, taskIn}
 use Rattle.theta_walks.specs.Walks.{Known, Precedes}
 use Rattle.theta_walks.proofs.Walking.{WalkedTo, sets-out, enough-there, most-there, known-there, walks-on, halts}
 use Rattle.theta_walks.proofs.preceding.Statement.{statement}

@@ -9,7 +9,7 @@ use lib.Seq.{length-sets}
 use borrow.Author.Needs.{needs}
 use Rattle.integers.specs.Moments.{zeroAt}
 use Rattle.runs.specs.Runs.{within}
-use Rattle.trees.specs.Searches.{whiteIn, taskIn}
+use Rattle.trees.specs.Searching.{whiteIn, taskIn}
 use Rattle.theta_walks.specs.Walks.{between}
 use Rattle.theta_walks.specs.Writing.{lasting, Ends, Writable, Stored}
 use Rattle.theta_walks.proofs.Walking.{between-none, between-white, next-same}

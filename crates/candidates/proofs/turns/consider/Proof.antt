@@ -1,16 +1,17 @@
 -- `candidates::turns::consider` meets its contract.
 -- Assumes nothing.
-use mathlib.Core.Path.{_≡_, refl, ap, _∙_}
-use Prim.Native.Nat.{ℕ, _≤_, _<_}
+use mathlib.Core.Path.{ap, _∙_}
+use Prim.Native.Nat.{ℕ}
 use native.Mathlib.Omega.{arith}
 use lib.ListN.{getD, set}
 use borrow.Author.Needs.{needs}
 use Rattle.integers.proofs.Ints.{back-of}
 use mir.Syntax.{w32}
-use Rattle.ects.proofs.Ects.{raised-word, kept-word}
-use Rattle.trees.specs.Words.{nodeAt}
+use Rattle.ects.specs.Ects.{raisedTo}
+use Rattle.trees.specs.Leaves.{ect}
+use Rattle.trees.specs.Operations.{Answers}
 use Rattle.candidates.specs.Turns.{Standing, Responsible-for}
-use Rattle.candidates.proofs.Considering.{few, inner-few, few-changes, known, post-room, many-atoms, start-inside, may-clear, asked, emptied, raised-on, passed-on}
+use Rattle.candidates.proofs.Considering.{shown, few, inner-few, few-changes, known, post-room, many-atoms, start-inside, may-clear, asked, emptied, raised-on, passed-on}
 use Rattle.candidates.proofs.turns.consider.Statement.{statement}
 use Rattle.candidates.proofs.turns.consider.Tie as tie
 
@@ -29,12 +30,12 @@ placed c = c .before .before .before .before .before
 abbrev posted : tie.After-start-of → tie.After-post
 posted c = c .before .before .before .before .before
 
--- the start, raised: the root's word where it is above the earliest start
-up-to : (c : tie.After-raised-start) → let a = c .before .before .before .args in getD (a .est .now) (a .id .0) 0 < c .raised-start .result → c .raised-start .result ≡ nodeAt (a .nodes .now) 0 .ect
-up-to c = let a = c .before .before .before .args in raised-word (getD (a .est .now) (a .id .0) 0) (nodeAt (a .nodes .now) 0 .ect) (c .raised-start .result) (c .raised-start .ensures)
+-- the start, raised to the ect of the tree's leaves
+raised : (c : tie.After-raised-start) → let a = c .before .before .before .args in Answers (λ J estOrder ls. raisedTo (getD (a .est .now) (a .id .0) 0) (ect J estOrder ls)) (a .nodes .now) (c .raised-start .result)
+raised c = c .raised-start .ensures
 
-stays : (c : tie.After-raised-start) → let a = c .before .before .before .args in c .raised-start .result ≤ getD (a .est .now) (a .id .0) 0 → nodeAt (a .nodes .now) 0 .ect ≤ getD (a .est .now) (a .id .0) 0
-stays c = let a = c .before .before .before .args in kept-word (getD (a .est .now) (a .id .0) 0) (nodeAt (a .nodes .now) 0 .ect) (c .raised-start .result) (c .raised-start .ensures)
+remove-from-lambda-requires : tie.Need-remove-from-lambda-requires
+remove-from-lambda-requires c κs = let at = c .before .before in let a = asks (start at) in may-clear (a .2) (a .3) (at .leaf-of .ensures)
 
 add-changes : tie.Need-add-changes
 add-changes c = omega (arith, few-changes (asks (start (c .before .before .before .before)) .2))
@@ -42,13 +43,13 @@ add-changes c = omega (arith, few-changes (asks (start (c .before .before .befor
 returns : tie.Need-returns
 returns c = λ height x s r.
     let at = c .before .before .before .before in
-    passed-on s r (nodeAt (start at .args .nodes .now) 0 .ect) refl (stays (at .before) (omega arith)) (at .leaf-of .ensures) (c .before .remove-from-lambda .ensures)
+    passed-on s r (at .before .raised-start .result) (raised (at .before) (start at .args .inner) (shown s)) (omega arith) (at .leaf-of .ensures) (c .before .remove-from-lambda .ensures)
 
 post-requires : tie.Need-post-requires
 post-requires c κs =
     let at = c .before .before .before .before in
     let a = asks (start at) in
-    (asked (a .2) (a .3) (at .before .raised-start .result) (up-to (at .before) (omega arith)) (omega arith), post-room (a .2) (a .3), few (a .2), inner-few (a .2), many-atoms (a .2) (a .3))
+    (shown (a .2), asked (a .2) (a .3) (at .before .raised-start .result) (raised (at .before) (start at .args .inner) (shown (a .2))) (omega arith), post-room (a .2) (a .3), few (a .2), inner-few (a .2), many-atoms (a .2) (a .3))
 
 mul-if2 : tie.Need-mul-if2
 mul-if2 c = let a = asks (start (placed (c .before .before))) in omega (arith, known (a .2) (a .3))
@@ -57,27 +58,30 @@ returns-2 : tie.Need-returns-2
 returns-2 c = λ height x s r.
     let post = c .before .before .before .before in
     let at = placed post in
-    emptied s r (at .before .raised-start .result) (up-to (at .before) (omega arith)) (post .post .ensures) (omega arith) (omega arith)
+    emptied s r (at .before .raised-start .result) (raised (at .before) (start at .args .inner) (shown s)) (omega arith) (post .post .ensures (shown s)) (omega arith)
 
 mul-t22 : tie.Need-mul-t22
 mul-t22 c = let a = asks (start (placed (posted c))) in omega (arith, known (a .2) (a .3))
 
+remove-from-lambda-requires-2 : tie.Need-remove-from-lambda-requires-2
+remove-from-lambda-requires-2 c κs = let at = placed (posted (c .before)) in let a = asks (start at) in may-clear (a .2) (a .3) (at .leaf-of .ensures)
+
 add-changes-2 : tie.Need-add-changes-2
-add-changes-2 c = let post = posted (c .before .before .before) in omega (arith, post .post .ensures .changes, few-changes (asks (start (placed post)) .2))
+add-changes-2 c = let post = posted (c .before .before .before) in omega (arith, post .post .ensures (shown (asks (start (placed post)) .2)) .changes, few-changes (asks (start (placed post)) .2))
 
 returns-3 : tie.Need-returns-3
 returns-3 c = λ height x s r.
     let called = c .before .before .before in
     let post = posted called in
     let at = placed post in
-    raised-on s r (at .before .raised-start .result) (up-to (at .before) (omega arith)) (post .post .ensures) (omega arith) (omega arith) (ap (set (start at .args .earliest .now) (start at .args .id .0)) (back-of w32 (called .start-of .result) (called .start-of .ok) ∙ called .start-of .ensures)) (at .leaf-of .ensures) (c .before .remove-from-lambda2 .ensures)
+    raised-on s r (at .before .raised-start .result) (raised (at .before) (start at .args .inner) (shown s)) (omega arith) (post .post .ensures (shown s)) (omega arith) (ap (set (start at .args .earliest .now) (start at .args .id .0)) (back-of w32 (called .start-of .result) (called .start-of .ok) ∙ called .start-of .ensures)) (at .leaf-of .ensures) (c .before .remove-from-lambda2 .ensures)
 
 pub consider-spec : {M : Type 1} → statement M
 consider-spec =
     tie.close
     (tie.spec
     (λ c. search (needs, known)) (λ c. search (needs, known)) (λ c κs. search needs) (λ c κs. search (needs, known))
-    (λ c κs. search (needs, may-clear)) add-changes returns post-requires mul-if2 (λ c. search (needs, known))
+    remove-from-lambda-requires add-changes returns post-requires mul-if2 (λ c. search (needs, known))
     (λ c. search needs) (λ c. search needs) returns-2 (λ c κs. search needs) mul-t22
-    (λ c. search (needs, start-inside)) (λ c κs. search (needs, may-clear)) add-changes-2 (λ c. search needs)
+    (λ c. search (needs, start-inside)) remove-from-lambda-requires-2 add-changes-2 (λ c. search needs)
     (λ c. search needs) (λ c. search needs) returns-3)

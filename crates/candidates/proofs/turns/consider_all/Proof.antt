@@ -9,7 +9,8 @@ use lib.ListN.{length}
 use borrow.Author.Needs.{needs}
 use Rattle.candidates.specs.declared.turns.Written.{Written}
 use Rattle.candidates.specs.Turns.{Standing}
-use Rattle.candidates.proofs.Turning.{can-search, Turned, none-yet, stands, ended, nothing-left, one-left, one-less, one-emptied}
+use Rattle.candidates.proofs.Considering.{shown, tall}
+use Rattle.candidates.proofs.Turning.{Turned, none-yet, stands, ended, nothing-left, one-left, one-less, one-emptied}
 use Rattle.candidates.proofs.turns.consider_all.Statement.{statement}
 use Rattle.candidates.proofs.turns.consider_all.Tie as tie
 
@@ -42,7 +43,7 @@ loop-holds : tie.Need-loop-holds Inv-loop μ-loop
 loop-holds c = record { stood = c .pre; reached = λ s. none-yet s; starts-length = refl; posts-length = refl; atoms-length = refl }
 
 candidate-requires : tie.Need-candidate-requires Inv-loop μ-loop
-candidate-requires c κs = let v = c .before .before .loop .inv in can-search (stands (v .stood) (v .reached (v .stood)))
+candidate-requires c κs = let v = c .before .before .loop .inv in (let a = stands (v .stood) (v .reached (v .stood)) in (shown a, tall a))
 
 returns : tie.Need-returns Inv-loop μ-loop
 returns c = λ s.

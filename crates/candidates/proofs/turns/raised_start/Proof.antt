@@ -9,7 +9,7 @@ use Rattle.candidates.proofs.turns.raised_start.Statement.{statement}
 use Rattle.candidates.proofs.turns.raised_start.Tie as tie
 
 returns : tie.Need-returns
-returns c = c .raised .ensures ∙ ap (λ (o : Option ℕ). raisedTo (c .before .before .args .start) o) (c .before .ect .ensures)
+returns c = λ inner h. c .raised .ensures ∙ ap (λ (o : Option ℕ). raisedTo (c .before .before .args .start) o) (c .before .ect .ensures inner h)
 
 pub raised-start-spec : {M : Type 1} → statement M
 raised-start-spec = tie.close (tie.spec (λ c κs. search needs) (λ c κs. search needs) returns)

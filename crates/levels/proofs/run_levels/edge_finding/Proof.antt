@@ -1,18 +1,17 @@
 -- `levels::run_levels::edge_finding` meets its contract.
 -- Assumes nothing.
 use mathlib.Core.Path.{_≡_, refl, sym, _∙_}
+use mathlib.Core.Bool.{Bool, true, false}
 use mathlib.Core.List.{List}
-use Prim.Native.Nat.{ℕ, _+_, _-_, _<_, _≤_}
+use Prim.Native.Nat.{ℕ, _+_, _-_, _<_}
 use native.Mathlib.Omega.{arith}
 use lib.IntN.{ℤ}
 use lib.ListN.{length, getD}
 use borrow.Author.Needs.{needs}
-use borrow.Author.Tests.{ltb-true, ltb-false}
-use Rattle.ects.proofs.Ects.{exceeds-decoded}
-use Rattle.trees.specs.Words.{nodeAt}
+use Rattle.ects.specs.Ects.{exceeds}
 use Rattle.candidates.specs.declared.turns.Written.{Written}
 use Rattle.levels.specs.Finding.{Begun}
-use Rattle.levels.proofs.Levels.{Level, few, candidate-small, first-level, all-done, over-asked, over-inner, few-changes, overloads, moves, goes-on, one-more, one-emptied}
+use Rattle.levels.proofs.Levels.{Level, shown, ect, few, candidate-small, first-level, all-done, over-asked, over-inner, few-changes, overloads, moves, goes-on, one-more, one-emptied}
 use Rattle.levels.proofs.run_levels.edge_finding.Statement.{statement}
 use Rattle.levels.proofs.run_levels.edge_finding.Tie as tie
 
@@ -32,15 +31,12 @@ Inv-loop nodes₀ earliest₀ posts₀ atoms₀ mapping tasks candidates est lst
 abbrev μ-loop : tie.MeasureT-loop
 μ-loop nodes₀ earliest₀ posts₀ atoms₀ mapping tasks candidates est lst lct durations inner height n w₀ index₀ nodes earliest posts atoms w index = n - index
 
--- inside the loop: the level's task, its lct and the ect of Theta, and that a level follows
+-- inside the loop: the level's task and its lct, and that a level follows
 abbrev task : tie.In-loop Inv-loop μ-loop → ℕ
 task c = getD (c .before .before .args .candidates .now) (c .before .loop .index) 0
 
 abbrev end : tie.In-loop Inv-loop μ-loop → ℕ
 end c = getD (c .before .before .args .lct .now) (task c) 0
-
-abbrev ect : tie.In-loop Inv-loop μ-loop → ℕ
-ect c = nodeAt (c .before .loop .nodes) 0 .ect
 
 more : (c : tie.In-loop Inv-loop μ-loop) → c .before .loop .index + 1 < c .before .before .args .n
 more c = omega arith
@@ -61,25 +57,30 @@ loop-holds c = let s = c .pre in record { begun = s; level = λ s. first-level s
 mul-lct-j : tie.Need-mul-lct-j Inv-loop μ-loop
 mul-lct-j c = let l = c .before .before .loop in omega (arith, candidate-small (l .inv .begun) (l .index) (l .inv .small))
 
--- the test of the level
-passes : (c : tie.Then1 Inv-loop μ-loop) → end (entered (c .before)) < ect (entered (c .before))
-passes c = ltb-true _ _ (sym (exceeds-decoded (ect (entered (c .before))) (end (entered (c .before)))) ∙ sym (c .before .overloads .ensures) ∙ c .if1 .taken)
+-- the test of the level, by the tree of whatever it began with
+abbrev Test : tie.In-loop Inv-loop μ-loop → Bool → Type 0
+Test c u = let a = c .before .before .args in let l = c .before .loop in
+    (s : Begun (a .n) (a .inner) (a .height) (a .nodes .now) (a .earliest .now) (a .posts .now) (a .atoms .now) (a .est .now) (a .lst .now) (a .lct .now) (a .durations .now) (a .tasks .now) (a .candidates .now) (a .mapping .now))
+    → exceeds (ect s (l .inv .level s) (more c)) (end c) ≡ u
 
-quiet : (c : tie.After-move-to-lambda Inv-loop μ-loop) → ect (level-of c) ≤ end (level-of c)
-quiet c = ltb-false _ _ (sym (exceeds-decoded (ect (level-of c)) (end (level-of c))) ∙ sym (c .before .before .before .overloads .ensures) ∙ c .before .before .if1 .left)
+passes : (c : tie.Then1 Inv-loop μ-loop) → Test (entered (c .before)) true
+passes c s = let level = entered (c .before) in sym (c .before .overloads .ensures (level .before .before .args .inner) (shown s (level .before .loop .inv .level s) (more level))) ∙ c .if1 .taken
+
+quiet : (c : tie.After-move-to-lambda Inv-loop μ-loop) → Test (level-of c) false
+quiet c s = let level = level-of c in let test = c .before .before .before in sym (test .overloads .ensures (level .before .before .args .inner) (shown s (level .before .loop .inv .level s) (more level))) ∙ c .before .before .if1 .left
 
 overload-requires : tie.Need-overload-requires Inv-loop μ-loop
 overload-requires c κs =
     let level = entered (c .before .before .before) in
     let v = level .before .loop .inv in
     let l = v .level (v .begun) in
-    (over-asked (v .begun) l (more level) (passes (c .before .before)), few (v .begun), over-inner (v .begun) l (more level))
+    (shown (v .begun) l (more level), over-asked (v .begun) l (more level) (passes (c .before .before) (v .begun)), few (v .begun), over-inner (v .begun) l (more level))
 
 returns : tie.Need-returns Inv-loop μ-loop
 returns c = λ s.
     let test = c .before .before .before .before in
     let level = entered (test .before) in
-    overloads s (level .before .loop .inv .level s) (more level) (passes test) (c .before .overload .ensures)
+    let l = level .before .loop .inv .level s in overloads s l (more level) (passes test s) (c .before .overload .ensures (shown s l (more level)))
 
 move-to-lambda-requires : tie.Need-move-to-lambda-requires Inv-loop μ-loop
 move-to-lambda-requires c κs =
@@ -100,7 +101,7 @@ consider-all-requires : tie.Need-consider-all-requires Inv-loop μ-loop
 consider-all-requires c κs =
     let move = c .before .before .before .before .before .before .before in
     let v = level-of move .before .loop .inv in
-    goes-on (v .begun) (v .level (v .begun)) (more (level-of move)) (quiet move) (move .move-to-lambda .ensures)
+    goes-on (v .begun) (v .level (v .begun)) (more (level-of move)) (quiet move (v .begun)) (move .move-to-lambda .ensures)
 
 loop-again : tie.Need-loop-again Inv-loop μ-loop
 loop-again c =
@@ -110,8 +111,8 @@ loop-again c =
     record {
       begun = v .begun;
       level = λ s.
-          let g = goes-on s (v .level s) (more (level-of move)) (quiet move) (move .move-to-lambda .ensures) in
-          one-more s (v .level s) (more (level-of move)) (quiet move) (move .move-to-lambda .ensures) (c .before .turn .given .1) (considered .consider-all .ensures g);
+          let g = goes-on s (v .level s) (more (level-of move)) (quiet move s) (move .move-to-lambda .ensures) in
+          one-more s (v .level s) (more (level-of move)) (quiet move s) (move .move-to-lambda .ensures) (c .before .turn .given .1) (considered .consider-all .ensures g);
       small = more (level-of move);
       starts-length = search needs;
       posts-length = search needs;
@@ -136,8 +137,8 @@ returns-2 c = λ s.
     let considered = c .before .before .before .before .before .before in
     let move = moved considered in
     let l = head c .loop .inv .level s in
-    let g = goes-on s l (more (level-of move)) (quiet move) (move .move-to-lambda .ensures) in
-    one-emptied s l (more (level-of move)) (quiet move) (move .move-to-lambda .ensures) (considered .consider-all .last .0) (c .before .turn2 .given .1) (considered .consider-all .ensures g)
+    let g = goes-on s l (more (level-of move)) (quiet move s) (move .move-to-lambda .ensures) in
+    one-emptied s l (more (level-of move)) (quiet move s) (move .move-to-lambda .ensures) (considered .consider-all .last .0) (c .before .turn2 .given .1) (considered .consider-all .ensures g)
 
 returns-3 : tie.Need-returns-3 Inv-loop μ-loop
 returns-3 c = λ s. all-done s (c .before .loop .inv .level s) (omega arith)

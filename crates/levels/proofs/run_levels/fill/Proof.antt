@@ -1,18 +1,15 @@
 -- `levels::run_levels::fill` meets its contract.
 -- Assumes nothing.
-use mathlib.Core.Path.{sym, subst}
+use mathlib.Core.Path.{refl}
 use mathlib.Core.List.{List}
-use Prim.Native.Nat.{ℕ, _+_, _-_, _≤_, _<_}
+use Prim.Native.Nat.{ℕ, _-_, _≤_, _<_}
 use native.Mathlib.Omega.{arith}
 use lib.ListN.{getD}
 use borrow.Author.Needs.{needs}
 use Rattle.integers.specs.Limits.{TASKS}
-use Rattle.nodes.specs.declared.theta_lambda_node.Node.{Node}
-use Rattle.trees.specs.Leaves.{HasLeaves}
-use Rattle.nodes.specs.Nodes.{whiteOf}
-use Rattle.trees.specs.Puts.{Layable, Laid}
+use Rattle.trees.specs.Trees.{HasLeaves}
 use Rattle.levels.specs.Filling.{Fillable}
-use Rattle.levels.proofs.Filling.{upTo, none-white, task-known, may-white, one-white, may-build, all-white}
+use Rattle.levels.proofs.Filling.{upTo, none-white, task-known, placed, shown, one-white, all-white}
 use Rattle.levels.proofs.run_levels.fill.Statement.{statement}
 use Rattle.levels.proofs.run_levels.fill.Tie as tie
 
@@ -38,15 +35,6 @@ task c = getD (c .before .before .before .args .tasks .now) (c .before .before .
 known : (c : tie.After-task-of Inv-loop μ-loop) → c .task-of .result .0 < TASKS
 known c = omega (arith, c .task-of .ensures, task-known (c .before .before .loop .inv .fillable) (c .before .before .loop .x) (inside (c .before)))
 
-abbrev node : tie.After-task-of Inv-loop μ-loop → ℕ → Node
-node c i = let a = c .before .before .before .args in whiteOf (getD (a .est .now) i 0 + getD (a .durations .now) i 0) (getD (a .durations .now) i 0)
-
-may : (c : tie.After-task-of Inv-loop μ-loop) {words : List ℕ} → let a = c .before .before .before .args in Layable (a .inner) words (c .before .before .loop .x) (node c (task c)) → Layable (a .inner) words (c .before .before .loop .x) (node c (c .task-of .result .0))
-may c {words} q = subst (λ (i : ℕ). Layable (c .before .before .before .args .inner) words (c .before .before .loop .x) (node c i)) (sym (c .task-of .ensures)) q
-
-was : (c : tie.After-task-of Inv-loop μ-loop) {words words′ : List ℕ} → let a = c .before .before .before .args in Laid (a .inner) words words′ (c .before .before .loop .x) (node c (c .task-of .result .0)) → Laid (a .inner) words words′ (c .before .before .loop .x) (node c (task c))
-was c {words} {words′} q = subst (λ (i : ℕ). Laid (c .before .before .before .args .inner) words words′ (c .before .before .loop .x) (node c i)) (c .task-of .ensures) q
-
 loop-holds : tie.Need-loop-holds Inv-loop μ-loop
 loop-holds c = record { fillable = c .pre; leaves = λ f. none-white f; small = omega arith }
 
@@ -68,20 +56,26 @@ element-copy-out-t20 c = known (c .before)
 lay-in-theta-requires : tie.Need-lay-in-theta-requires Inv-loop μ-loop
 lay-in-theta-requires c κs =
     let at = c .before .before .before in
-    let v = at .before .before .loop .inv in
-    may at (may-white (v .fillable) (at .before .before .loop .x) (inside (at .before)) (v .leaves (v .fillable)))
+    let l = at .before .before .loop in
+    let f = l .inv .fillable in
+    (shown f (l .x) (l .inv .leaves f), placed f (l .x) (inside (at .before)) (at .task-of .ensures) refl refl)
 
 loop-again : tie.Need-loop-again Inv-loop μ-loop
 loop-again c =
     let at = c .before .before .before .before in
-    let v = at .before .before .loop .inv in
-    record { fillable = v .fillable; leaves = λ f. one-white f (at .before .before .loop .x) (inside (at .before)) (v .leaves f) (was at (c .lay-in-theta .ensures)); small = omega (arith, inside (at .before)) }
+    let l = at .before .before .loop in
+    let v = l .inv in
+    record {
+      fillable = v .fillable;
+      leaves = λ f. one-white f (l .x) (v .leaves f) (c .lay-in-theta .ensures (shown f (l .x) (v .leaves f)) (placed f (l .x) (inside (at .before)) (at .task-of .ensures) refl refl));
+      small = omega (arith, inside (at .before));
+    }
 
 rebuild-requires : tie.Need-rebuild-requires Inv-loop μ-loop
-rebuild-requires c κs = let v = c .before .before .loop in may-build (v .inv .fillable) (v .x) (v .inv .leaves (v .inv .fillable))
+rebuild-requires c κs = let v = c .before .before .loop in shown (v .inv .fillable) (v .x) (v .inv .leaves (v .inv .fillable))
 
 returns : tie.Need-returns Inv-loop μ-loop
-returns c = λ f. let v = c .before .before .before .loop in all-white f (v .x) (omega (arith, v .inv .small)) (v .inv .leaves f) (c .rebuild .ensures)
+returns c = λ f. let v = c .before .before .before .loop in all-white f (v .x) (omega (arith, v .inv .small)) (c .rebuild .ensures (shown f (v .x) (v .inv .leaves f)))
 
 pub fill-spec : {M : Type 1} → statement M
 fill-spec =

@@ -9,7 +9,7 @@ use Rattle.levels.proofs.run_levels.overloads.Statement.{statement}
 use Rattle.levels.proofs.run_levels.overloads.Tie as tie
 
 returns : tie.Need-returns
-returns c = c .exceeds .ensures ∙ ap (λ (o : Option ℕ). exceeds o (c .before .before .args .lct)) (c .before .ect .ensures)
+returns c = λ inner h. c .exceeds .ensures ∙ ap (λ (o : Option ℕ). exceeds o (c .before .before .args .lct)) (c .before .ect .ensures inner h)
 
 pub overloads-spec : {M : Type 1} → statement M
 overloads-spec = tie.close (tie.spec (λ c κs. search needs) (λ c κs. search needs) returns)

@@ -3,9 +3,9 @@
 use mathlib.Core.Path.{_≡_, refl}
 use mathlib.Core.List.{List}
 use Prim.Native.Nat.{ℕ}
-use lib.ListN.{length, replicate}
+use lib.ListN.{length}
 use borrow.Author.Needs.{needs}
-use Rattle.integers.specs.Limits.{TASKS, TREEWORDS}
+use Rattle.integers.specs.Limits.{TASKS}
 use Rattle.sorts.proofs.Sorted.{sorted-permutes}
 use Rattle.levels.specs.Filling.{Fillable, Filled}
 use Rattle.levels.specs.Finding.{Begun}
@@ -18,44 +18,44 @@ long : (c : tie.Start) → length (c .args .t1 .durations) ≡ TASKS
 long c = search needs
 
 -- when the tree is made: what each call before left
-abbrev places : tie.After-size-for → tie.After-leaf-places
+abbrev places : tie.After-new → tie.After-leaf-places
 places c = c .before
 
-abbrev candidates : tie.After-size-for → tie.After-sort-numbers-down
+abbrev candidates : tie.After-new → tie.After-sort-numbers-down
 candidates c = places c .before .before .before
 
-abbrev tasks : tie.After-size-for → tie.After-sort-numbers
+abbrev tasks : tie.After-new → tie.After-sort-numbers
 tasks c = candidates c .before .before .before
 
-abbrev lct : tie.After-size-for → tie.After-completions
+abbrev lct : tie.After-new → tie.After-completions
 lct c = tasks c .before .before .before
 
-abbrev lst : tie.After-size-for → tie.After-moments-of2
+abbrev lst : tie.After-new → tie.After-moments-of2
 lst c = lct c .before .before .before .before .before
 
-abbrev est : tie.After-size-for → tie.After-moments-of
+abbrev est : tie.After-new → tie.After-moments-of
 est c = lst c .before .before
 
-abbrev start : tie.After-size-for → tie.Start
+abbrev start : tie.After-new → tie.Start
 start c = est c .before .before .before
 
 -- the tree of no task can be filled,
-abbrev can-fill : (c : tie.After-size-for) → let a = start c .args in
-    Fillable (c .size-for .result .«number_of_internal_nodes») (a .t1 .count) (replicate TREEWORDS 0) (tasks c .sort-numbers .last .0) (est c .moments-of .last .0) (a .t1 .durations)
+abbrev can-fill : (c : tie.After-new) → let a = start c .args in
+    Fillable (c .new .result .«number_of_internal_nodes») (a .t1 .count) (c .new .result .nodes) (tasks c .sort-numbers .last .0) (est c .moments-of .last .0) (a .t1 .durations)
 can-fill c =
     let s = start c in
     let a = s .args in
     fillable (a .t1) (a .earliest .now) (a .latest .now) (length (a .posts .now)) (length (a .atoms .now)) (s .pre) (long s) (est c .moments-of .ensures) (lst c .moments-of2 .ensures) (lct c .completions .ensures)
-    (tasks c .sort-numbers .ensures) (candidates c .sort-numbers-down .ensures) (c .size-for .ensures) (places c .leaf-places .ensures .0) refl
+    (tasks c .sort-numbers .ensures) (candidates c .sort-numbers-down .ensures) (c .new .ensures) (places c .leaf-places .ensures .0)
 
 -- and that of all tasks is what edge finding begins with
-abbrev can-begin : (c : tie.After-size-for) (words : List ℕ) → let a = start c .args in Filled (c .size-for .result .«number_of_internal_nodes») (a .t1 .count) (replicate TREEWORDS 0) words (tasks c .sort-numbers .last .0) (est c .moments-of .last .0) (a .t1 .durations)
-    → Begun (a .t1 .count) (c .size-for .result .«number_of_internal_nodes») (c .size-for .result .height) words (a .earliest .now) (a .posts .now) (a .atoms .now) (est c .moments-of .last .0) (lst c .moments-of2 .last .0) (lct c .completions .last .0) (a .t1 .durations) (tasks c .sort-numbers .last .0) (candidates c .sort-numbers-down .last .0) (places c .leaf-places .last .0)
+abbrev can-begin : (c : tie.After-new) (words : List ℕ) → let a = start c .args in Filled (c .new .result .«number_of_internal_nodes») (a .t1 .count) (c .new .result .nodes) words (tasks c .sort-numbers .last .0) (est c .moments-of .last .0) (a .t1 .durations)
+    → Begun (a .t1 .count) (c .new .result .«number_of_internal_nodes») (c .new .result .height) words (a .earliest .now) (a .posts .now) (a .atoms .now) (est c .moments-of .last .0) (lst c .moments-of2 .last .0) (lct c .completions .last .0) (a .t1 .durations) (tasks c .sort-numbers .last .0) (candidates c .sort-numbers-down .last .0) (places c .leaf-places .last .0)
 can-begin c words filled =
     let s = start c in
     let a = s .args in
     begun (a .t1) (a .earliest .now) (a .latest .now) (length (a .posts .now)) (length (a .atoms .now)) (s .pre) (long s) (est c .moments-of .ensures) (lst c .moments-of2 .ensures) (lct c .completions .ensures)
-    (tasks c .sort-numbers .ensures) (candidates c .sort-numbers-down .ensures) (c .size-for .ensures) (places c .leaf-places .ensures .0) refl (filled (can-fill c)) refl refl
+    (tasks c .sort-numbers .ensures) (candidates c .sort-numbers-down .ensures) (c .new .ensures) (places c .leaf-places .ensures .0) (filled (can-fill c)) refl refl
 
 completions-requires : tie.Need-completions-requires
 completions-requires c κs =

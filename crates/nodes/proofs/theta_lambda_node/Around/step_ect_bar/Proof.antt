@@ -2,7 +2,7 @@
 -- Assumes nothing.
 use mathlib.Core.Path.{sym, ap, _∙_}
 use borrow.Author.Needs.{needs}
-use Rattle.nodes.specs.Descents.{stepAtEct}
+use Rattle.nodes.specs.Steps.{stepAtEct}
 use Rattle.nodes.proofs.theta_lambda_node.Around.step_ect_bar.Statement.{statement}
 use Rattle.nodes.proofs.theta_lambda_node.Around.step_ect_bar.Tie as tie
 

@@ -2,7 +2,7 @@
 -- Assumes nothing.
 use mathlib.Core.Path.{sym, ap, _∙_}
 use borrow.Author.Needs.{needs}
-use Rattle.nodes.specs.Descents.{stepAtP}
+use Rattle.nodes.specs.Steps.{stepAtP}
 use Rattle.nodes.proofs.theta_lambda_node.Around.step_p.Statement.{statement}
 use Rattle.nodes.proofs.theta_lambda_node.Around.step_p.Tie as tie
 

@@ -1,20 +1,46 @@
 -- `trees::theta_lambda_tree::ThetaLambdaTree::lay_in_theta` meets its contract.
 -- Assumes nothing.
-use mathlib.Core.Path.{ap, _∙_}
-use Prim.Native.Nat.{_+_}
+use mathlib.Core.Path.{_≡_, ap, ap₂, _∙_}
+use mathlib.Core.List.{List}
+use Prim.Native.Nat.{ℕ, _+_}
+use native.Mathlib.Omega.{arith}
 use borrow.Author.Needs.{needs}
+use Rattle.scheduling.specs.Scheduling.{natural, Tasks}
 use Rattle.nodes.specs.declared.theta_lambda_node.Node.{Node}
+use Rattle.nodes.specs.Nodes.{whiteOf}
+use Rattle.trees.specs.declared.disjunctive_task.DisjunctiveTask.{DisjunctiveTask}
+use Rattle.trees.specs.Arrays.{changed}
 use Rattle.trees.specs.Words.{nodeAt}
-use Rattle.trees.specs.Shapes.{changed}
+use Rattle.trees.specs.Leaves.{white, startAt, durationAt}
+use Rattle.trees.specs.Operations.{HasPlace}
+use Rattle.trees.proofs.Rebuilding.{Layable, may-lay, was-laid}
 use Rattle.trees.proofs.theta_lambda_tree.ThetaLambdaTree.lay_in_theta.Statement.{statement}
 use Rattle.trees.proofs.theta_lambda_tree.ThetaLambdaTree.lay_in_theta.Tie as tie
 
+-- the node of the task's white leaf
+node-is : {J : Tasks natural} {estOrder : List ℕ} {place : ℕ} {task : DisjunctiveTask} → HasPlace J estOrder place task
+    → whiteOf (task .«start_time» + task .«processing_time») (task .«processing_time») ≡ whiteOf (startAt J estOrder place + durationAt J estOrder place) (durationAt J estOrder place)
+node-is p = ap₂ (λ (e d : ℕ). whiteOf (e + d) d) (p .start) (p .lasts)
+
+-- it may stand there
+may : (c : tie.Start) → let a = c .args in Layable (a .inner) (a .nodes .now) (a .place .0) (whiteOf (a .task .«start_time» + a .task .«processing_time») (a .task .«processing_time»))
+may c = let (l, p) = c .pre in may-lay (l .limited) (l .has) _ (p .inside) white (node-is p)
+
+add-ect : tie.Need-add-ect
+add-ect c = let f = may (c .before) .fits in omega (arith, f .fair, f .small)
+
+add-position : tie.Need-add-position
+add-position c = let m = may (c .before .before .before) in omega (arith, m .inside, m .room)
+
+store-requires : tie.Need-store-requires
+store-requires c κs = let m = may (c .before .before .before .before) in (omega (arith, m .inside, m .room), m .length)
+
 returns : tie.Need-returns
-returns c =
+returns c = λ l p.
     let made = c .before .before .before in
     let a = made .before .before .args in
-    record { nodes = c .store .ensures .0 ∙ ap (λ (n : Node). changed (nodeAt (a .nodes .now)) (a .inner + a .place .0) n) (made .new-white-node .ensures); length = c .store .ensures .1 }
+    was-laid (l .limited) (l .has) _ (p .inside) white (node-is p)
+    (record { nodes = c .store .ensures .0 ∙ ap (λ (n : Node). changed (nodeAt (a .nodes .now)) (a .inner + a .place .0) n) (made .new-white-node .ensures); length = c .store .ensures .1 })
 
 pub lay-in-theta-spec : {M : Type 1} → statement M
-lay-in-theta-spec =
-    tie.close (tie.spec (λ c. search needs) (λ c κs. search needs) (λ c. search needs) (λ c κs. search needs) returns)
+lay-in-theta-spec = tie.close (tie.spec add-ect (λ c κs. search needs) add-position store-requires returns)

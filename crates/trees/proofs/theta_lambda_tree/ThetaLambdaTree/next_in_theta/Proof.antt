@@ -7,7 +7,7 @@ use native.Mathlib.Omega.{arith}
 use borrow.Author.Tests.{eq-eqb, ne-eqb}
 use borrow.Author.Needs.{needs}
 use Rattle.nodes.specs.declared.theta_lambda_node.Node.{Node}
-use Rattle.trees.specs.Searches.{whiteIn}
+use Rattle.trees.specs.Searching.{whiteIn}
 use Rattle.trees.proofs.Thetas.{passed-more}
 use Rattle.trees.proofs.theta_lambda_tree.ThetaLambdaTree.next_in_theta.Statement.{statement}
 use Rattle.trees.proofs.theta_lambda_tree.ThetaLambdaTree.next_in_theta.Tie as tie

@@ -1,11 +1,12 @@
 -- `trees::theta_lambda_tree::ThetaLambdaTree::rebuild` meets its contract. The loop's invariant is `DuringRebuild`: the leaves stay, and every inner node from i on is right.
 -- Assumes nothing.
 use mathlib.Core.Path.{_≡_}
+use native.Mathlib.Omega.{arith}
 use lib.ListN.{length}
 use Rattle.integers.specs.Limits.{TREEWORDS}
 use Rattle.nodes.proofs.Joins.{additive}
 use Rattle.trees.specs.Words.{nodeAt}
-use Rattle.trees.proofs.Rebuilding.{DuringRebuild, rebuilds}
+use Rattle.trees.proofs.Rebuilding.{DuringRebuild, begin, built, rebuilds, may-rebuild, was-rebuilt}
 use Rattle.trees.proofs.theta_lambda_tree.ThetaLambdaTree.rebuild.Statement.{statement}
 use Rattle.trees.proofs.theta_lambda_tree.ThetaLambdaTree.rebuild.Tie as tie
 
@@ -15,10 +16,16 @@ Inv-loop nodes₀ inner i₀ nodes i = DuringRebuild additive inner (nodeAt node
 abbrev μ-loop : tie.MeasureT-loop
 μ-loop nodes₀ inner i₀ nodes i = i
 
+loop-holds : tie.Need-loop-holds Inv-loop μ-loop
+loop-holds c = let r = may-rebuild (c .pre .limited) (c .pre .has) in (begin additive (r .bounded) (r .height) (r .complete) (r .room), r .length)
+
+returns : tie.Need-returns Inv-loop μ-loop
+returns c = λ l. let v = c .before .loop .inv in was-rebuilt (l .limited) (l .has) (record { tree = built additive (v .0) (omega arith); length = v .1 })
+
 pub rebuild-spec : {M : Type 1} → statement M
 rebuild-spec =
     tie.close
     (tie.spec
-    Inv-loop μ-loop (λ c. search rebuilds) (λ c. search rebuilds) (λ c κs. search rebuilds) (λ c κs. search rebuilds)
+    Inv-loop μ-loop loop-holds (λ c. search rebuilds) (λ c κs. search rebuilds) (λ c κs. search rebuilds)
     (λ c κs. search rebuilds) (λ c κs. search rebuilds) (λ c κs. search rebuilds) (λ c κs. search rebuilds)
-    (λ c. search rebuilds) (λ c. search rebuilds) (λ c. search rebuilds))
+    (λ c. search rebuilds) (λ c. search rebuilds) returns)

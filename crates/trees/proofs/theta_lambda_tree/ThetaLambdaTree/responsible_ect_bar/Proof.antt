@@ -4,34 +4,41 @@ use mathlib.Core.Path.{_≡_, sym, ap, _∙_}
 use Prim.Native.Nat.{ℕ}
 use native.Mathlib.Omega.{arith}
 use lib.ListN.{getD}
-use borrow.Author.Needs.{needs}
-use Rattle.trees.specs.Searches.{responsibleOf}
+use Rattle.trees.specs.Searching.{responsibleOf}
 use Rattle.trees.specs.Words.{nodeAt}
-use Rattle.trees.proofs.Steps.{answer-at, no-answer, task-is}
+use Rattle.trees.proofs.Steps.{Searchable, answer-at, no-answer, task-is}
+use Rattle.trees.proofs.Trees.{searchable, responsible-of}
 use Rattle.trees.proofs.theta_lambda_tree.ThetaLambdaTree.responsible_ect_bar.Statement.{statement}
 use Rattle.trees.proofs.theta_lambda_tree.ThetaLambdaTree.responsible_ect_bar.Tie as tie
 
+-- the search may begin at the root
+asked : (c : tie.Start) → Searchable (c .args .inner) (c .args .height) (nodeAt (c .args .nodes .now))
+asked c = let (h, z) = c .pre in searchable (h .limited) (h .tree) (c .args .height) z
+
 returns : tie.Need-returns
-returns c = let a = c .before .before .args in sym (ap (responsibleOf (a .reverse-mapping .now)) (no-answer (a .inner) (a .height) (nodeAt (a .nodes .now)) (c .before .before .pre) _ (c .before .responsible-index-ect-bar-internal .ensures) (c .if1 .taken)))
+returns c = λ h z. let a = c .before .before .args in
+    sym (ap (responsibleOf (a .reverse-mapping .now)) (no-answer (a .inner) (a .height) (nodeAt (a .nodes .now)) (asked (c .before .before)) _ (c .before .responsible-index-ect-bar-internal .ensures) (c .if1 .taken)))
+    ∙ ap (responsibleOf (a .reverse-mapping .now)) (responsible-of (h .limited) (h .tree) (a .height) z)
 
 get-leaf-node-index-requires : tie.Need-get-leaf-node-index-requires
 get-leaf-node-index-requires c κs =
     let a = c .before .before .args in
-    omega (arith, (answer-at (a .inner) (a .height) (nodeAt (a .nodes .now)) (c .before .before .pre) _ (c .before .responsible-index-ect-bar-internal .ensures) (c .if1 .left)) .is)
+    omega (arith, (answer-at (a .inner) (a .height) (nodeAt (a .nodes .now)) (asked (c .before .before)) _ (c .before .responsible-index-ect-bar-internal .ensures) (c .if1 .left)) .is)
 
 task-of-requires : tie.Need-task-of-requires
 task-of-requires c κs =
     let a = c .before .before .before .args in
-    let w = answer-at (a .inner) (a .height) (nodeAt (a .nodes .now)) (c .before .before .before .pre) _ (c .before .before .responsible-index-ect-bar-internal .ensures) (c .before .if1 .left) in
+    let w = answer-at (a .inner) (a .height) (nodeAt (a .nodes .now)) (asked (c .before .before .before)) _ (c .before .before .responsible-index-ect-bar-internal .ensures) (c .before .if1 .left) in
     omega (arith, w .is, w .small, c .get-leaf-node-index .ensures)
 
 returns-2 : tie.Need-returns-2
-returns-2 c =
+returns-2 c = λ h z.
     let a = c .before .before .before .before .args in
-    let w = answer-at (a .inner) (a .height) (nodeAt (a .nodes .now)) (c .before .before .before .before .pre) _ (c .before .before .before .responsible-index-ect-bar-internal .ensures) (c .before .before .if1 .left) in
+    let w = answer-at (a .inner) (a .height) (nodeAt (a .nodes .now)) (asked (c .before .before .before .before)) _ (c .before .before .before .responsible-index-ect-bar-internal .ensures) (c .before .before .if1 .left) in
     let p : c .before .get-leaf-node-index .result .0 ≡ w .place = c .before .get-leaf-node-index .ensures ∙ omega (arith, w .is) in
     task-is _ _ _ _ (w .same) (c .task-of .ensures ∙ ap (λ (k : ℕ). getD (a .reverse-mapping .now) k 0) p)
+    ∙ ap (responsibleOf (a .reverse-mapping .now)) (responsible-of (h .limited) (h .tree) (a .height) z)
 
 pub responsible-ect-bar-spec : {M : Type 1} → statement M
 responsible-ect-bar-spec =
-    tie.close (tie.spec (λ c κs. search needs) returns get-leaf-node-index-requires task-of-requires returns-2)
+    tie.close (tie.spec (λ c κs. asked c .searched) returns get-leaf-node-index-requires task-of-requires returns-2)

@@ -1,13 +1,14 @@
 -- `trees::theta_lambda_tree::ThetaLambdaTree::sum_of_processing_times` meets its contract.
 -- Assumes nothing.
-use mathlib.Core.Path.{ap}
+use mathlib.Core.Path.{ap, _∙_}
 use borrow.Author.Needs.{needs}
 use Rattle.nodes.specs.declared.theta_lambda_node.Node.{Node}
+use Rattle.trees.proofs.Trees.{root-of}
 use Rattle.trees.proofs.theta_lambda_tree.ThetaLambdaTree.sum_of_processing_times.Statement.{statement}
 use Rattle.trees.proofs.theta_lambda_tree.ThetaLambdaTree.sum_of_processing_times.Tie as tie
 
 returns : tie.Need-returns
-returns c = ap (λ (n : Node). n .«sum_of_processing_times») (c .load .ensures)
+returns c = λ inner h. ap (λ (n : Node). n .«sum_of_processing_times») (c .load .ensures ∙ root-of (h .limited) (h .tree))
 
 pub sum-of-processing-times-spec : {M : Type 1} → statement M
 sum-of-processing-times-spec = tie.close (tie.spec (λ c κs. search needs) returns)
