@@ -14,6 +14,8 @@ use Rattle.integers.specs.Limits.{TASKS}
 use Rattle.integers.specs.Filling.{filled}
 use Rattle.integers.specs.Orders.{index, numbers, sort}
 use Rattle.scheduling.specs.Scheduling.{natural, Tasks, TaskSet, completion}
+use Rattle.scheduling.specs.Ects.{byEarliest, ectOf}
+use Rattle.scheduling.proofs.Ects.{by-earliest}
 use Rattle.ects.specs.Ects.{exceeds}
 use Rattle.trees.specs.declared.theta_tree.ThetaTree.{ThetaTree}
 use Rattle.trees.specs.Leaves.{Leaf, white}
@@ -30,10 +32,10 @@ use Rattle.records.specs.declared.record.Propagator.{Propagator}
 use Rattle.records.specs.Records.{momentsIn}
 use Rattle.input_refusals.specs.Refusals.{AcceptedInput}
 use Rattle.input_refusals.proofs.Accepting.{count, completion-small, completions-are, completions-at}
-use Rattle.chosen_sets.specs.ChosenSets.{order, colours, ectOf}
+use Rattle.chosen_sets.specs.Colouring.{colours}
 use Rattle.chosen_sets.specs.TaskArrays.{Held}
 use Rattle.chosen_sets.proofs.Colouring.{limited, front-is}
-use Rattle.chosen_sets.proofs.Ects.{by-order}
+use Rattle.chosen_sets.proofs.Ects.{tree-ect}
 use Rattle.chosen_sets.proofs.Ranging.{held as in-arrays, late}
 use Rattle.overload_test.specs.Reading.{byCompletion, read, overloadsAt, answerFrom, answerOf}
 use Rattle.overload_test.specs.Readable.{noTask, Readable}
@@ -44,11 +46,11 @@ module _ {inner n : ℕ} {words mapping tasks est lct durations : List ℕ} (f :
   J = f .J
 
   abbrev estOrder : List ℕ
-  estOrder = order (f .J) noTask
+  estOrder = byEarliest (f .J)
 
   -- the tree has the first k tasks
   abbrev pub Shows : ℕ → List ℕ → Type 0
-  Shows k now = IsPlainTree (f .J) (order (f .J) noTask) (colours (f .J) (read (f .J) k)) inner now
+  Shows k now = IsPlainTree (f .J) (byEarliest (f .J)) (colours (f .J) (read (f .J) k)) inner now
 
   pub none-shown : Shows 0 words
   none-shown = subst (λ (S : TaskSet). IsPlainTree J estOrder (colours J S) inner words) (fun-ext (λ j. sym (read-none J j))) (f .tree)
@@ -78,11 +80,11 @@ module _ {inner n : ℕ} {words mapping tasks est lct durations : List ℕ} (f :
     x = index estOrder i
 
     x-small : x < J .count
-    x-small = by-order J noTask .placed i (omega (arith, small, f .held .count))
+    x-small = by-earliest J .placed i (omega (arith, small, f .held .count))
 
     node-is : plainOf (getD est i 0 + getD durations i 0) (getD durations i 0) ≡ plainOf (J .earliest (getD estOrder x 0) + J .duration (getD estOrder x 0)) (J .duration (getD estOrder x 0))
     node-is =
-        let z : i ≡ getD estOrder x 0 = sym (by-order J noTask .there i (omega (arith, small, f .held .count))) in
+        let z : i ≡ getD estOrder x 0 = sym (by-earliest J .there i (omega (arith, small, f .held .count))) in
         ap₂ (λ (e p : ℕ). plainOf (e + p) p) (f .held .start i small ∙ ap (J .earliest) z) (f .held .lasts i small ∙ ap (J .duration) z)
 
     pub may-add : {now : List ℕ} (place : ℕ) → place ≡ getD mapping i 0 → Shows k now → PlainPuttable inner now place (plainOf (getD est i 0 + getD durations i 0) (getD durations i 0))
@@ -99,7 +101,7 @@ module _ {inner n : ℕ} {words mapping tasks est lct durations : List ℕ} (f :
 
     -- the test, by what the root says
     pub test-is : {now : List ℕ} → Shows (k + 1) now → (ect : Option ℕ) → ect ≡ plainEctIn now → exceeds ect (getD lct i 0) ≡ overloadsAt J k
-    test-is t ect is = ap₂ exceeds (is ∙ plain-ect-of (limited (f .held)) t ∙ ap (λ (m : ℕ). ectOf J (read J m)) (add-one k)) (f .ends i small ∙ ap (completion J) is-next)
+    test-is t ect is = ap₂ exceeds (is ∙ plain-ect-of (limited (f .held)) t ∙ tree-ect J (read J (k + 1)) (f .held .proper) ∙ ap (λ (m : ℕ). ectOf J (read J m)) (add-one k)) (f .ends i small ∙ ap (completion J) is-next)
 
 -- How the arrays come to hold the tasks -------------------------------------------------------------------------------------------
 
@@ -123,9 +125,9 @@ module _ (r : Propagator) (es ls : List ℤ) (a : AcceptedInput r es ls) (long :
     pub order-is : {tasks : List ℕ} → SortedBy (byKey lct) (r .count) tasks → take (r .count) tasks ≡ byCompletion M
     order-is s = sorted-as s (λ j k. leb (completion M j) (completion M k)) (λ j k p q. ap₂ leb (ends j p) (ends k q)) ∙ ap (λ (m : ℕ). sort (λ j k. leb (completion M j) (completion M k)) (numbers 0 m)) (sym (count r es ls a long))
 
-    pub tree-is : {leaves : List ℕ} {t : ThetaTree} → PlainNew (r .count) leaves t → IsPlainTree M (order M noTask) (colours M noTask) (t .«number_of_internal_nodes») (t .nodes)
-    tree-is {t = t} new = subst (λ (cs : List Leaf). IsPlainTree M (order M noTask) cs (t .«number_of_internal_nodes») (t .nodes)) (all-blank M)
-        (new-plain-tree M (order M noTask) (t .«number_of_internal_nodes») (t .nodes) (new .nodes) (new .size .complete ∙ ap (λ (m : ℕ). width (heightFor m)) (sym (count r es ls a long))))
+    pub tree-is : {leaves : List ℕ} {t : ThetaTree} → PlainNew (r .count) leaves t → IsPlainTree M (byEarliest M) (colours M noTask) (t .«number_of_internal_nodes») (t .nodes)
+    tree-is {t = t} new = subst (λ (cs : List Leaf). IsPlainTree M (byEarliest M) cs (t .«number_of_internal_nodes») (t .nodes)) (all-blank M)
+        (new-plain-tree M (byEarliest M) (t .«number_of_internal_nodes») (t .nodes) (new .nodes) (new .size .complete ∙ ap (λ (m : ℕ). width (heightFor m)) (sym (count r es ls a long))))
 
     abbrev pub readable : {leaves tasks : List ℕ} {t : ThetaTree} → SortedBy (byKey est) (r .count) leaves → SortedBy (byKey lct) (r .count) tasks → PlainNew (r .count) leaves t
         → Readable (t .«number_of_internal_nodes») (r .count) (t .nodes) (t .mapping) tasks est lct (r .durations)
