@@ -1,4 +1,4 @@
--- The leaves of the theta tree get their colours, one after the other, and its root then has the set's ect.
+-- The leaves of the theta tree get their colours, one after the other, and it is then the tree of the chosen tasks.
 -- Assumes nothing.
 use mathlib.Core.Path.{_≡_, refl, sym, ap, ap₂, subst, _∙_}
 use mathlib.Core.Bool.{Bool, true, false, cond}
@@ -15,22 +15,18 @@ use Rattle.integers.specs.Orders.{sort, numbers}
 use Rattle.integers.proofs.Bools.{bool}
 use Rattle.integers.proofs.Filling.{getD-map-in, filled-none, filled-more, filled-length, filled-at, filled-past, getD-fresh}
 use Rattle.scheduling.specs.Scheduling.{natural, Tasks, TaskSet, total}
-use Rattle.scheduling.specs.Ects.{byEarliest, ectOf}
+use Rattle.scheduling.specs.Ects.{byEarliest}
 use Rattle.scheduling.proofs.Ects.{by-earliest, order-size}
 use Rattle.sorts.specs.Orders.{SortedBy, byKey}
 use Rattle.sorts.proofs.Sorted.{sorted-as}
 use Rattle.trees.specs.declared.theta_tree.ThetaTree.{ThetaTree}
 use Rattle.trees.specs.Leaves.{Leaf, empty, white}
 use Rattle.trees.specs.Trees.{Limited, IsPlainTree}
-use Rattle.trees.specs.Mappings.{PlainNew}
-use Rattle.nodes.specs.Nodes.{plainOf}
-use Rattle.trees.specs.Shapes.{width, heightFor}
-use Rattle.trees.specs.Words.{plainEctIn}
+use Rattle.trees.specs.Operations.{HasTask}
+use Rattle.trees.specs.PlainOperations.{HeldPlain, PlainNew}
 use Rattle.trees.proofs.Roots as tree
-use Rattle.trees.proofs.Trees.{new-plain-tree, may-put-plain, was-put-plain, plain-ect-of}
 use Rattle.chosen_sets.specs.Colouring.{colours, Takes, Took, Colourable}
 use Rattle.chosen_sets.specs.TaskArrays.{Held}
-use Rattle.chosen_sets.proofs.Ects.{tree-ect}
 
 -- The tree of the tasks that the arrays hold -----------------------------------------------------------------------------------
 
@@ -58,13 +54,13 @@ module _ {J : Tasks natural} {Ω : TaskSet} {n : ℕ} {chosen : List Bool} {est 
     J = J;
     Ω = Ω;
     held = h;
-    tree = new-plain-tree J (byEarliest J) (t .«number_of_internal_nodes») (t .nodes) (new .nodes) (new .size .complete ∙ ap (λ (m : ℕ). width (heightFor m)) (sym (h .count)));
+    tree = new .empties J (byEarliest J) (h .count);
     task = task-at s;
   }
 
-  -- the root's ect
-  pub root-ect : {inner : ℕ} {words : List ℕ} → IsPlainTree J (byEarliest J) (colours J Ω) inner words → plainEctIn words ≡ ectOf J Ω
-  root-ect t = plain-ect-of limited t ∙ tree-ect J Ω (h .proper)
+  -- the tree of the chosen ones has their ect
+  abbrev pub coloured : {inner : ℕ} {words : List ℕ} → IsPlainTree J (byEarliest J) (colours J Ω) inner words → HeldPlain inner words
+  coloured t = record { J = J; estOrder = byEarliest J; leaves = colours J Ω; limited = limited; tree = t }
 
 -- One leaf after the other -----------------------------------------------------------------------------------------------------
 
@@ -105,17 +101,20 @@ module _ {inner n : ℕ} {words tasks : List ℕ} {chosen : List Bool} {est dura
     chosen-is : getD chosen t false ≡ f .Ω (getD estOrder x 0)
     chosen-is = f .held .member t small ∙ ap (f .Ω) (f .task x q)
 
-    node-is : plainOf (getD est t 0 + getD durations t 0) (getD durations t 0) ≡ plainOf (f .J .earliest (getD estOrder x 0) + f .J .duration (getD estOrder x 0)) (f .J .duration (getD estOrder x 0))
-    node-is = ap₂ (λ (e p : ℕ). plainOf (e + p) p) (f .held .start t small ∙ ap (f .J .earliest) (f .task x q)) (f .held .lasts t small ∙ ap (f .J .duration) (f .task x q))
+    has-task : HasTask (f .J) (byEarliest (f .J)) x (getD est t 0) (getD durations t 0)
+    has-task = record { inside = inside; start = f .held .start t small ∙ ap (f .J .earliest) (f .task x q); lasts = f .held .lasts t small ∙ ap (f .J .duration) (f .task x q) }
+
+    abbrev shown : {now : List ℕ} → Shows (upTo x) now → HeldPlain inner now
+    shown i = record { J = f .J; estOrder = byEarliest (f .J); leaves = upTo x; limited = limited (f .held); tree = i }
 
     pub takes : {now : List ℕ} → Shows (upTo x) now → Takes inner now x (getD chosen t false) (getD est t 0) (getD durations t 0)
-    takes i y = may-put-plain (limited (f .held)) i x inside white node-is
+    takes i y = (shown i, has-task)
 
     pub one-more : {now now′ : List ℕ} → Shows (upTo x) now → Took inner now now′ x (getD chosen t false) (getD est t 0) (getD durations t 0) → Shows (upTo (x + 1)) now′
     one-more {now} {now′} i p = subst (λ (ls : List Leaf). Shows ls now′) (sym (filled-more colour x blank)) (by (bool (f .Ω (getD estOrder x 0))))
       where
         by : (f .Ω (getD estOrder x 0) ≡ true) ⊎ (f .Ω (getD estOrder x 0) ≡ false) → Shows (set (upTo x) x (colour x)) now′
-        by (inl y) = rw y (was-put-plain (limited (f .held)) i x inside white node-is (p .put (chosen-is ∙ y)))
+        by (inl y) = rw y (p .put (chosen-is ∙ y) (shown i) has-task)
         by (inr y) = subst (λ (ls : List Leaf). Shows ls now′) (sym same) (subst (Shows (upTo x)) (sym (p .left (chosen-is ∙ y))) i)
           where
             still : getD (upTo x) x empty ≡ colour x
