@@ -1,4 +1,2 @@
-pub mod ChosenSets
 pub mod TaskArrays
 pub mod Colouring
-pub mod Examples

@@ -10,9 +10,9 @@ use trees::disjunctive_task::task_of;
 use trees::theta_tree::ThetaTree;
 ghost use mathlib.Core.Path.{_≡_};
 ghost use Rattle.scheduling.specs.Scheduling.{natural, Tasks, TaskSet};
+ghost use Rattle.scheduling.specs.Ects.{ectOf};
 ghost use Rattle.ects.specs.Ects.{momentOf};
 ghost use Rattle.chosen_sets.specs.Colouring.{Takes, Took, Colourable, Coloured};
-ghost use Rattle.chosen_sets.specs.ChosenSets.{ectOf};
 ghost use Rattle.chosen_sets.specs.TaskArrays.{Held};
 
 // Puts a task into the leaf at a place, where it is chosen.

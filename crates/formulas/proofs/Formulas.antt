@@ -18,12 +18,12 @@ use Rattle.integers.proofs.Bools.{bool, clash, and-true, and-yes}
 use Rattle.integers.proofs.Ints.{up, dn, ints}
 use Rattle.integers.proofs.Moments.{above-show}
 use Rattle.scheduling.specs.Scheduling.{whole, natural, Tasks, Proper, TaskSet, _with_, Largest, Least, In, NonEmpty, Est, Lct, processing, Overloads, Atom, Admits, given, Bounded, RuleFormula, PassesWith, PassesAlone}
+use Rattle.scheduling.specs.Ects.{ectOf}
+use Rattle.scheduling.proofs.Ects.{ect-is}
 use Rattle.scheduling.proofs.Agreement.{Agree, overloads→, formula→, set-overloads, set-formula}
 use Rattle.scheduling.proofs.Transfer.{sound, overload→, overload←, checks→, checks←}
 use Rattle.ects.specs.Ects.{exceeds}
 use Rattle.ects.proofs.Ects.{exceeds-yes, some-exceeds}
-use Rattle.chosen_sets.specs.ChosenSets.{ectOf}
-use Rattle.chosen_sets.proofs.Ects.{ect-is}
 use Rattle.formulas.specs.Formulas.{bounded, others, ranges, tasks, any, lowest, highest, overloaded, implied}
 use Rattle.formulas.proofs.Gathering.{any-yes, any-some, lowest-is, highest-is}
 
@@ -216,7 +216,7 @@ module _ (J : Tasks whole) (lasts : (k : ℕ) → k < J .count → 1 ≤ J .dura
             joint = v;
             est = lowest-is N Ω fits-N ne;
             lct = highest-is N Ω ne;
-            ect = ect-is N Ω moments-proper v .0 is;
+            ect = ect-is N moments-proper Ω v .0 is;
             over-i = omega arith;
             over-Ω = omega arith;
             passes = past;
@@ -240,7 +240,7 @@ module _ (J : Tasks whole) (lasts : (k : ℕ) → k < J .count → 1 ≤ J .dura
           let e : f .end ≡ high Ω = lct-same N Ω (f .end) (high Ω) (f .lct) (highest-is N Ω ne) in
           and-yes (some-in Ω) (ltb (high Ω) reach && exceeds (ectOf N Ω) (N .latest i)) (any-yes N Ω ne)
           (and-yes (ltb (high Ω) reach) (exceeds (ectOf N Ω) (N .latest i)) (lt-ltb (high Ω) reach (omega (arith, f .over-i, f .over-Ω)))
-          (some-exceeds (ectOf N Ω) (f .joint) (N .latest i) (ect-is N Ω moments-proper (f .joint) .1 (f .ect)) (f .passes)))
+          (some-exceeds (ectOf N Ω) (f .joint) (N .latest i) (ect-is N moments-proper Ω (f .joint) .1 (f .ect)) (f .passes)))
         where
           with-more : (S : TaskSet) (k : ℕ) → S k ≡ true → (S with i) k ≡ true
           with-more S k y = elim (bool (eqb k i)) [ inl z ↦ rw z | inr z ↦ rw z y ]

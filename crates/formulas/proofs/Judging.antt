@@ -14,11 +14,11 @@ use borrow.Author.Tests.{eq-eqb, ne-eqb, lt-ltb, le-ltb}
 use Rattle.integers.specs.Limits.{TASKS}
 use Rattle.integers.proofs.Bools.{cond-most}
 use Rattle.scheduling.specs.Scheduling.{natural, Tasks, TaskSet, total, NonEmpty, Est, processing}
+use Rattle.scheduling.specs.Ects.{ectOf}
 use Rattle.scheduling.proofs.Sets.{total-part, total-mono}
 use Rattle.scheduling.proofs.Processing.{processing-is}
 use Rattle.ects.specs.Ects.{exceeds}
 use Rattle.nodes.specs.Bounds.{LATEST}
-use Rattle.chosen_sets.specs.ChosenSets.{ectOf}
 use Rattle.chosen_sets.specs.TaskArrays.{Held, Late}
 use Rattle.formulas.specs.declared.intervals.Interval.{Interval}
 use Rattle.formulas.specs.Formulas.{_but_, any, lowest, highest, overloadsSpan, comesAfter}

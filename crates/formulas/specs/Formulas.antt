@@ -7,8 +7,8 @@ use lib.IntN.{ℤ, pos, negsuc}
 use Rattle.integers.specs.Moments.{zeroAt}
 use Rattle.scheduling.specs.Scheduling.{whole, natural, Tasks, TaskSet, completion, processing}
 use Rattle.scheduling.specs.Moments.{moments}
+use Rattle.scheduling.specs.Ects.{ectOf}
 use Rattle.ects.specs.Ects.{exceeds}
-use Rattle.chosen_sets.specs.ChosenSets.{ectOf}
 
 -- What the loop over the tasks gathers ------------------------------------------------------------------------------------------
 

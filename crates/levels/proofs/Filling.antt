@@ -11,8 +11,7 @@ use Rattle.integers.specs.Filling.{filled}
 use Rattle.integers.proofs.Filling.{filled-none, filled-more, filled-length, filled-at}
 use Rattle.trees.specs.Leaves.{Leaf, empty, white}
 use Rattle.trees.specs.Trees.{IsTree, HasLeaves}
-use Rattle.trees.specs.declared.disjunctive_task.DisjunctiveTask.{DisjunctiveTask}
-use Rattle.trees.specs.Operations.{HeldLeaves, HasPlace, Whitened}
+use Rattle.trees.specs.Operations.{HeldLeaves, HasTask, Whitened}
 use Rattle.trees.proofs.Rebuilding.{tree-leaves}
 use Rattle.levels.specs.Filling.{Fillable}
 
@@ -32,11 +31,11 @@ module _ {inner n : ℕ} {words tasks est dur : List ℕ} (f : Fillable inner n 
     task-known = omega (arith, f .task x q, f .known x q)
 
     -- the task that the mapping gives has its place there
-    pub placed : {i : ℕ} → i ≡ getD tasks x 0 → {task : DisjunctiveTask} → task .«start_time» ≡ getD est i 0 → task .«processing_time» ≡ getD dur i 0 → HasPlace (f .J) (f .estOrder) x task
-    placed e s d = record {
+    pub placed : {i : ℕ} → i ≡ getD tasks x 0 → {e p : ℕ} → e ≡ getD est i 0 → p ≡ getD dur i 0 → HasTask (f .J) (f .estOrder) x e p
+    placed is s d = record {
       inside = omega (arith, f .count);
-      start = s ∙ ap (λ (k : ℕ). getD est k 0) (e ∙ f .task x q) ∙ f .start x q;
-      lasts = d ∙ ap (λ (k : ℕ). getD dur k 0) (e ∙ f .task x q) ∙ f .lasts x q;
+      start = s ∙ ap (λ (k : ℕ). getD est k 0) (is ∙ f .task x q) ∙ f .start x q;
+      lasts = d ∙ ap (λ (k : ℕ). getD dur k 0) (is ∙ f .task x q) ∙ f .lasts x q;
     }
 
   -- the words with the first x leaves white

@@ -8,8 +8,7 @@ use lib.IntN.{ℤ}
 use lib.ListN.{getD}
 use Rattle.integers.specs.Orders.{index}
 use Rattle.trees.specs.Leaves.{gray}
-use Rattle.trees.specs.declared.disjunctive_task.DisjunctiveTask.{DisjunctiveTask}
-use Rattle.trees.specs.Operations.{Held, HasPlace, Coloured}
+use Rattle.trees.specs.Operations.{Held, HasTask, Coloured}
 use Rattle.candidates.specs.declared.turns.Written.{Written}
 use Rattle.candidates.specs.Turns.{Standing}
 use Rattle.candidates.proofs.Considering.{few}
@@ -20,8 +19,8 @@ module _ {inner : ℕ} {words mapping est dur : List ℕ} {j : ℕ} (m : Movable
   shown = record { J = m .J; estOrder = m .estOrder; leaves = m .leaves; limited = m .limited; tree = m .tree }
 
   -- the task has its place there
-  pub placed : {k : ℕ} → k ≡ getD mapping j 0 → {task : DisjunctiveTask} → task .«start_time» ≡ getD est j 0 → task .«processing_time» ≡ getD dur j 0 → HasPlace (m .J) (m .estOrder) k task
-  placed {k} e {task} s d = subst (λ (k : ℕ). HasPlace (m .J) (m .estOrder) k task) (sym e)
+  pub placed : {k : ℕ} → k ≡ getD mapping j 0 → {e p : ℕ} → e ≡ getD est j 0 → p ≡ getD dur j 0 → HasTask (m .J) (m .estOrder) k e p
+  placed is {e} {p} s d = subst (λ (k : ℕ). HasTask (m .J) (m .estOrder) k e p) (sym is)
       (record { inside = m .inside; start = s ∙ m .start ∙ ap (m .J .earliest) (sym (m .task)); lasts = d ∙ m .lasts ∙ ap (m .J .duration) (sym (m .task)) })
 
   pub moved : {k : ℕ} → k ≡ getD mapping j 0 → {words′ : List ℕ} → Coloured gray shown k words′ → Coloured gray shown (getD mapping j 0) words′

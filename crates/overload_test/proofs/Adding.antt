@@ -1,4 +1,4 @@
--- The next task goes into the theta tree: what its leaf gets, and what the root says then. And how the arrays come to hold the tasks.
+-- The next task goes into the theta tree: what its leaf gets, and what the tree answers then. And how the arrays come to hold the tasks.
 -- Assumes nothing.
 use mathlib.Core.Path.{_≡_, refl, sym, ap, ap₂, subst, _∙_, fun-ext}
 use mathlib.Core.List.{List, []}
@@ -14,26 +14,24 @@ use Rattle.integers.specs.Limits.{TASKS}
 use Rattle.integers.specs.Filling.{filled}
 use Rattle.integers.specs.Orders.{index, numbers, sort}
 use Rattle.scheduling.specs.Scheduling.{natural, Tasks, TaskSet, completion}
+use Rattle.scheduling.specs.Ects.{byEarliest, ectOf}
+use Rattle.scheduling.proofs.Ects.{by-earliest}
 use Rattle.ects.specs.Ects.{exceeds}
 use Rattle.trees.specs.declared.theta_tree.ThetaTree.{ThetaTree}
-use Rattle.trees.specs.Leaves.{Leaf, white}
+use Rattle.trees.specs.Leaves.{Leaf, white, ect}
 use Rattle.trees.specs.Trees.{IsPlainTree}
-use Rattle.trees.specs.Mappings.{PlainNew}
-use Rattle.nodes.specs.Nodes.{plainOf}
-use Rattle.trees.specs.Puts.{PlainPuttable, PlainPut}
-use Rattle.trees.specs.Shapes.{width, heightFor}
-use Rattle.trees.specs.Words.{plainEctIn}
-use Rattle.trees.proofs.Trees.{new-plain-tree, may-put-plain, was-put-plain, plain-ect-of}
+use Rattle.trees.specs.Operations.{HasTask}
+use Rattle.trees.specs.PlainOperations.{HeldPlain, PlainNew, PlainWhitened}
 use Rattle.sorts.specs.Orders.{SortedBy, byKey, noTasks, momentAt, completionAt, largestKey}
 use Rattle.sorts.proofs.Sorted.{sorted-as}
 use Rattle.records.specs.declared.record.Propagator.{Propagator}
 use Rattle.records.specs.Records.{momentsIn}
 use Rattle.input_refusals.specs.Refusals.{AcceptedInput}
 use Rattle.input_refusals.proofs.Accepting.{count, completion-small, completions-are, completions-at}
-use Rattle.chosen_sets.specs.ChosenSets.{order, colours, ectOf}
+use Rattle.chosen_sets.specs.Colouring.{colours}
 use Rattle.chosen_sets.specs.TaskArrays.{Held}
 use Rattle.chosen_sets.proofs.Colouring.{limited, front-is}
-use Rattle.chosen_sets.proofs.Ects.{by-order}
+use Rattle.chosen_sets.proofs.Ects.{tree-ect}
 use Rattle.chosen_sets.proofs.Ranging.{held as in-arrays, late}
 use Rattle.overload_test.specs.Reading.{byCompletion, read, overloadsAt, answerFrom, answerOf}
 use Rattle.overload_test.specs.Readable.{noTask, Readable}
@@ -44,11 +42,14 @@ module _ {inner n : ℕ} {words mapping tasks est lct durations : List ℕ} (f :
   J = f .J
 
   abbrev estOrder : List ℕ
-  estOrder = order (f .J) noTask
+  estOrder = byEarliest (f .J)
 
   -- the tree has the first k tasks
   abbrev pub Shows : ℕ → List ℕ → Type 0
-  Shows k now = IsPlainTree (f .J) (order (f .J) noTask) (colours (f .J) (read (f .J) k)) inner now
+  Shows k now = IsPlainTree (f .J) (byEarliest (f .J)) (colours (f .J) (read (f .J) k)) inner now
+
+  abbrev pub shown : (k : ℕ) {now : List ℕ} → Shows k now → HeldPlain inner now
+  shown k t = record { J = f .J; estOrder = byEarliest (f .J); leaves = colours (f .J) (read (f .J) k); limited = limited (f .held); tree = t }
 
   pub none-shown : Shows 0 words
   none-shown = subst (λ (S : TaskSet). IsPlainTree J estOrder (colours J S) inner words) (fun-ext (λ j. sym (read-none J j))) (f .tree)
@@ -78,28 +79,23 @@ module _ {inner n : ℕ} {words mapping tasks est lct durations : List ℕ} (f :
     x = index estOrder i
 
     x-small : x < J .count
-    x-small = by-order J noTask .placed i (omega (arith, small, f .held .count))
+    x-small = by-earliest J .placed i (omega (arith, small, f .held .count))
 
-    node-is : plainOf (getD est i 0 + getD durations i 0) (getD durations i 0) ≡ plainOf (J .earliest (getD estOrder x 0) + J .duration (getD estOrder x 0)) (J .duration (getD estOrder x 0))
-    node-is =
-        let z : i ≡ getD estOrder x 0 = sym (by-order J noTask .there i (omega (arith, small, f .held .count))) in
-        ap₂ (λ (e p : ℕ). plainOf (e + p) p) (f .held .start i small ∙ ap (J .earliest) z) (f .held .lasts i small ∙ ap (J .duration) z)
+    pub has-task : {place : ℕ} → place ≡ getD mapping i 0 → HasTask J estOrder place (getD est i 0) (getD durations i 0)
+    has-task e = subst (λ (y : ℕ). HasTask J estOrder y (getD est i 0) (getD durations i 0)) (sym (e ∙ f .place i small))
+        (let z : i ≡ getD estOrder x 0 = sym (by-earliest J .there i (omega (arith, small, f .held .count))) in
+        record { inside = x-small; start = f .held .start i small ∙ ap (J .earliest) z; lasts = f .held .lasts i small ∙ ap (J .duration) z })
 
-    pub may-add : {now : List ℕ} (place : ℕ) → place ≡ getD mapping i 0 → Shows k now → PlainPuttable inner now place (plainOf (getD est i 0 + getD durations i 0) (getD durations i 0))
-    may-add {now} place e t =
-        subst (λ (y : ℕ). PlainPuttable inner now y (plainOf (getD est i 0 + getD durations i 0) (getD durations i 0))) (sym (e ∙ f .place i small)) (may-put-plain (limited (f .held)) t x x-small white node-is)
-
-    pub was-added : {now now′ : List ℕ} (place : ℕ) → place ≡ getD mapping i 0 → Shows k now → PlainPut inner now now′ place (plainOf (getD est i 0 + getD durations i 0) (getD durations i 0)) → Shows (k + 1) now′
-    was-added {now} {now′} place e t p =
-        subst (λ (ls : List Leaf). IsPlainTree J estOrder ls inner now′) coloured
-        (was-put-plain (limited (f .held)) t x x-small white node-is (subst (λ (y : ℕ). PlainPut inner now now′ y (plainOf (getD est i 0 + getD durations i 0) (getD durations i 0))) (e ∙ f .place i small) p))
+    pub was-added : {now now′ : List ℕ} {place : ℕ} → place ≡ getD mapping i 0 → (t : Shows k now) → PlainWhitened (shown k t) place now′ → Shows (k + 1) now′
+    was-added {now} {now′} e t p =
+        subst (λ (ls : List Leaf). IsPlainTree J estOrder ls inner now′) coloured (subst (λ (y : ℕ). IsPlainTree J estOrder (set (colours J (read J k)) y white) inner now′) (e ∙ f .place i small) p)
       where
         coloured : set (colours J (read J k)) x white ≡ colours J (read J (k + 1))
         coloured = ap (λ (y : ℕ). set (colours J (read J k)) (index estOrder y) white) is-next ∙ next-coloured J k inside ∙ ap (λ (m : ℕ). colours J (read J m)) (sym (add-one k))
 
-    -- the test, by what the root says
-    pub test-is : {now : List ℕ} → Shows (k + 1) now → (ect : Option ℕ) → ect ≡ plainEctIn now → exceeds ect (getD lct i 0) ≡ overloadsAt J k
-    test-is t ect is = ap₂ exceeds (is ∙ plain-ect-of (limited (f .held)) t ∙ ap (λ (m : ℕ). ectOf J (read J m)) (add-one k)) (f .ends i small ∙ ap (completion J) is-next)
+    -- the test, by what the tree answers
+    pub test-is : (v : Option ℕ) → v ≡ ect (f .J) (byEarliest (f .J)) (colours (f .J) (read (f .J) (k + 1))) → exceeds v (getD lct i 0) ≡ overloadsAt J k
+    test-is v is = ap₂ exceeds (is ∙ tree-ect J (read J (k + 1)) (f .held .proper) ∙ ap (λ (m : ℕ). ectOf J (read J m)) (add-one k)) (f .ends i small ∙ ap (completion J) is-next)
 
 -- How the arrays come to hold the tasks -------------------------------------------------------------------------------------------
 
@@ -123,9 +119,9 @@ module _ (r : Propagator) (es ls : List ℤ) (a : AcceptedInput r es ls) (long :
     pub order-is : {tasks : List ℕ} → SortedBy (byKey lct) (r .count) tasks → take (r .count) tasks ≡ byCompletion M
     order-is s = sorted-as s (λ j k. leb (completion M j) (completion M k)) (λ j k p q. ap₂ leb (ends j p) (ends k q)) ∙ ap (λ (m : ℕ). sort (λ j k. leb (completion M j) (completion M k)) (numbers 0 m)) (sym (count r es ls a long))
 
-    pub tree-is : {leaves : List ℕ} {t : ThetaTree} → PlainNew (r .count) leaves t → IsPlainTree M (order M noTask) (colours M noTask) (t .«number_of_internal_nodes») (t .nodes)
-    tree-is {t = t} new = subst (λ (cs : List Leaf). IsPlainTree M (order M noTask) cs (t .«number_of_internal_nodes») (t .nodes)) (all-blank M)
-        (new-plain-tree M (order M noTask) (t .«number_of_internal_nodes») (t .nodes) (new .nodes) (new .size .complete ∙ ap (λ (m : ℕ). width (heightFor m)) (sym (count r es ls a long))))
+    pub tree-is : {leaves : List ℕ} {t : ThetaTree} → PlainNew (r .count) leaves t → IsPlainTree M (byEarliest M) (colours M noTask) (t .«number_of_internal_nodes») (t .nodes)
+    tree-is {t = t} new = subst (λ (cs : List Leaf). IsPlainTree M (byEarliest M) cs (t .«number_of_internal_nodes») (t .nodes)) (all-blank M)
+        (new .empties M (byEarliest M) (count r es ls a long))
 
     abbrev pub readable : {leaves tasks : List ℕ} {t : ThetaTree} → SortedBy (byKey est) (r .count) leaves → SortedBy (byKey lct) (r .count) tasks → PlainNew (r .count) leaves t
         → Readable (t .«number_of_internal_nodes») (r .count) (t .nodes) (t .mapping) tasks est lct (r .durations)

@@ -17,11 +17,12 @@ use Rattle.integers.proofs.Filling.{getD-fresh, getD-map-in}
 use Rattle.integers.proofs.Permutations.{has-at, index-at, index-back, numbers-permute}
 use Rattle.integers.proofs.Sorting.{sort-permutes, sort-ordered, key-whole, key-chain}
 use Rattle.scheduling.specs.Scheduling.{natural, Tasks, Proper, TaskSet, In, NonEmpty, EstPlusP, Overloads, completion, processing}
+use Rattle.scheduling.specs.Ects.{byEarliest, ectOf}
+use Rattle.scheduling.proofs.Ects.{by-earliest, order-size, ect-is, ect-some}
 use Rattle.scheduling.proofs.Exists.{largest-at}
 use Rattle.ects.proofs.Ects.{exceeds-yes, some-exceeds}
 use Rattle.trees.specs.Leaves.{empty, white}
-use Rattle.chosen_sets.specs.ChosenSets.{order, colours, ectOf}
-use Rattle.chosen_sets.proofs.Ects.{by-order, order-size, ect-is, ect-some}
+use Rattle.chosen_sets.specs.Colouring.{colours}
 use Rattle.overload_test.specs.Reading.{byCompletion, read, overloadsAt}
 
 -- The front of a list ----------------------------------------------------------------------------------------------------------
@@ -87,39 +88,39 @@ module _ (J : Tasks natural) where
 
   -- none is white where no task is chosen
   pub all-blank : replicate (J .count) empty ≡ colours J (λ _. false)
-  all-blank = ext-getD empty (replicate (J .count) empty) (colours J (λ _. false)) (length-replicate (J .count) empty ∙ sym (length-map (order J (λ _. false)) (λ _. empty) ∙ order-size J (λ _. false)))
-      (λ x q. getD-fresh empty (J .count) x ∙ sym (getD-map-in (λ _. empty) (order J (λ _. false)) x 0 empty (omega (arith, order-size J (λ _. false), length-replicate (J .count) empty))))
+  all-blank = ext-getD empty (replicate (J .count) empty) (colours J (λ _. false)) (length-replicate (J .count) empty ∙ sym (length-map (byEarliest J) (λ _. empty) ∙ order-size J))
+      (λ x q. getD-fresh empty (J .count) x ∙ sym (getD-map-in (λ _. empty) (byEarliest J) x 0 empty (omega (arith, order-size J, length-replicate (J .count) empty))))
 
   -- task i's leaf becomes white
-  recoloured : (Ω Ω′ : TaskSet) (i : ℕ) → i < J .count → Ω′ i ≡ true → ((j : ℕ) → j < J .count → (j ≡ i → ⊥) → Ω′ j ≡ Ω j) → set (colours J Ω) (index (order J Ω) i) white ≡ colours J Ω′
+  recoloured : (Ω Ω′ : TaskSet) (i : ℕ) → i < J .count → Ω′ i ≡ true → ((j : ℕ) → j < J .count → (j ≡ i → ⊥) → Ω′ j ≡ Ω j) → set (colours J Ω) (index (byEarliest J) i) white ≡ colours J Ω′
   recoloured Ω Ω′ i q new old = ext-getD empty (set (colours J Ω) (index estOrder i) white) (colours J Ω′) (set-size ∙ sym (size Ω′)) (λ x r. by x (omega (arith, set-size, size Ω)) (ℕ-discrete x (index estOrder i)))
     where
       estOrder : List ℕ
-      estOrder = order J Ω
+      estOrder = byEarliest J
 
       size : (S : TaskSet) → length (colours J S) ≡ J .count
-      size S = length-map estOrder (λ k. cond (S k) white empty) ∙ order-size J S
+      size S = length-map estOrder (λ k. cond (S k) white empty) ∙ order-size J
 
       set-size : length (set (colours J Ω) (index estOrder i) white) ≡ J .count
       set-size = length-set (colours J Ω) (index estOrder i) white ∙ size Ω
 
       colour-at : (S : TaskSet) (x : ℕ) → x < J .count → getD (colours J S) x empty ≡ cond (S (getD estOrder x 0)) white empty
-      colour-at S x r = getD-map-in (λ k. cond (S k) white empty) estOrder x 0 empty (omega (arith, order-size J S))
+      colour-at S x r = getD-map-in (λ k. cond (S k) white empty) estOrder x 0 empty (omega (arith, order-size J))
 
       by : (x : ℕ) → x < J .count → Dec (x ≡ index estOrder i) → getD (set (colours J Ω) (index estOrder i) white) x empty ≡ getD (colours J Ω′) x empty
       by x r (yes z) =
-          rw z (getD-set-same (colours J Ω) (index estOrder i) white empty (omega (arith, size Ω, by-order J Ω .placed i q)))
-          ∙ sym (colour-at Ω′ x r ∙ ap (λ (b : Bool). cond b white empty) (ap (λ (y : ℕ). Ω′ (getD estOrder y 0)) z ∙ ap Ω′ (by-order J Ω .there i q) ∙ new))
+          rw z (getD-set-same (colours J Ω) (index estOrder i) white empty (omega (arith, size Ω, by-earliest J .placed i q)))
+          ∙ sym (colour-at Ω′ x r ∙ ap (λ (b : Bool). cond b white empty) (ap (λ (y : ℕ). Ω′ (getD estOrder y 0)) z ∙ ap Ω′ (by-earliest J .there i q) ∙ new))
       by x r (no z) =
           let t : ℕ = getD estOrder x 0 in
-          let other : t ≡ i → ⊥ = λ e. z (sym (by-order J Ω .back x r) ∙ ap (index estOrder) e) in
+          let other : t ≡ i → ⊥ = λ e. z (sym (by-earliest J .back x r) ∙ ap (index estOrder) e) in
           getD-set-other (colours J Ω) (index estOrder i) x white empty z
           ∙ colour-at Ω x r
-          ∙ ap (λ (b : Bool). cond b white empty) (sym (old t (by-order J Ω .task x r) other))
+          ∙ ap (λ (b : Bool). cond b white empty) (sym (old t (by-earliest J .task x r) other))
           ∙ sym (colour-at Ω′ x r)
 
   -- the next task's does, when it is read
-  pub next-coloured : (k : ℕ) → k < J .count → set (colours J (read J k)) (index (order J (read J k)) (getD (byCompletion J) k 0)) white ≡ colours J (read J (suc k))
+  pub next-coloured : (k : ℕ) → k < J .count → set (colours J (read J k)) (index (byEarliest J) (getD (byCompletion J) k 0)) white ≡ colours J (read J (suc k))
   next-coloured k q = recoloured (read J k) (read J (suc k)) (at k) (by-completion .task k q) (read-new k q) (λ j r ne. read-old k j r ne)
 
   -- Overloads ------------------------------------------------------------------------------------------------------------------
@@ -134,7 +135,7 @@ module _ (J : Tasks natural) where
 
     -- where their ect is past it, the part of them that attains the ect overloads
     pub shown : (k : ℕ) → k < J .count → overloadsAt J k ≡ true → (Ω : TaskSet) × Overloads J Ω
-    shown k q y = let (v, is, over) = exceeds-yes (ectOf J (read J (suc k))) (completion J (at k)) y in go v over (ect-is J (read J (suc k)) ok v .0 is .holds)
+    shown k q y = let (v, is, over) = exceeds-yes (ectOf J (read J (suc k))) (completion J (at k)) y in go v over (ect-is J ok (read J (suc k)) v .0 is .holds)
       where
         go : (v : ℕ) → completion J (at k) < v → EstPlusP J (read J (suc k)) v → (Ω : TaskSet) × Overloads J Ω
         go v over f =
@@ -155,7 +156,7 @@ module _ (J : Tasks natural) where
         let (m, mm, mt) = largest-at J Ω place (o .lct .holds .0, o .lct .holds .1) in
         let k : ℕ = place m in
         let q : k < J .count = by-completion .placed m (mm .small) in
-        let (v, is, largest) = ect-some J (read J (suc k)) ok (some-read k q) in
+        let (v, is, largest) = ect-some J ok (read J (suc k)) (some-read k q) in
         let bound : o .start + processing J Ω ≤ v
         = largest .bounds (o .start + processing J Ω) (record { part = Ω; within = λ j h. read-yes (suc k) j (h .small) (omega (arith, mt j h)); start = o .start; est = o .est; sum = refl }) in
         let same : completion J (at k) ≡ completion J m = ap (completion J) (by-completion .there m (mm .small)) in

@@ -6,10 +6,7 @@ use Prim.Native.Nat.{ℕ}
 use lib.IntN.{pos}
 use Rattle.integers.specs.Filling.{filled}
 use Rattle.integers.specs.Orders.{sort, insert, numbers, has}
-use Rattle.ects.specs.Ects.{decoded}
-use Rattle.trees.specs.Leaves.{root}
-use Rattle.nodes.specs.Nodes.{joinOf}
-use Rattle.trees.specs.Shapes.{width, heightFrom, nodeOver}
+use Rattle.scheduling.specs.Ects.{ectAfter}
 use Rattle.records.specs.Records.{newRecord, momentsIn}
 use Rattle.overload_test.specs.declared.overload_test.Overload.{Overload}
 use Rattle.overload_test.specs.declared.overload_test.Overload.the-variants.{Yes, No}
@@ -21,26 +18,26 @@ answer ts = answerOf (momentsIn (newRecord (map (λ (t : ℕ × ℕ × ℕ). pos
 
 -- B overloads; in C the ect reaches the latest completion and does not pass it
 instance-B : answer ((0, 2, 4) ∷ (1, 2, 4) ∷ []) ≡ Yes 2
-unfolding filled sort insert numbers has root joinOf width heightFrom nodeOver decoded answerFrom
+unfolding filled sort insert numbers has ectAfter answerFrom
 instance-B = refl
 
 instance-C : answer ((0, 4, 4) ∷ (1, 4, 4) ∷ []) ≡ No
-unfolding filled sort insert numbers has root joinOf width heightFrom nodeOver decoded answerFrom
+unfolding filled sort insert numbers has ectAfter answerFrom
 instance-C = refl
 
 -- D: all three tie, so the two that overload are read last
 instance-D : answer ((0, 13, 1) ∷ (10, 11, 3) ∷ (10, 11, 3) ∷ []) ≡ Yes 3
-unfolding filled sort insert numbers has root joinOf width heightFrom nodeOver decoded answerFrom
+unfolding filled sort insert numbers has ectAfter answerFrom
 instance-D = refl
 
 -- E: its run ends Emptied, and no set overloads
 instance-E : answer ((0, 5, 3) ∷ (1, 1, 5) ∷ []) ≡ No
-unfolding filled sort insert numbers has root joinOf width heightFrom nodeOver decoded answerFrom
+unfolding filled sort insert numbers has ectAfter answerFrom
 instance-E = refl
 
 -- yes before all is read, where the run meets an emptied range first
 stops-early : answer ((0, 6, 3) ∷ (1, 1, 3) ∷ (1, 1, 3) ∷ []) ≡ Yes 2
-unfolding filled sort insert numbers has root joinOf width heightFrom nodeOver decoded answerFrom
+unfolding filled sort insert numbers has ectAfter answerFrom
 stops-early = refl
 
 -- the latest start does not order the tasks: here it is the same for all, and completions are 5, 3, 4

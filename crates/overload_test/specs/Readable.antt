@@ -6,8 +6,9 @@ use Prim.Native.Nat.{ℕ, _<_}
 use lib.ListN.{getD}
 use Rattle.integers.specs.Orders.{index}
 use Rattle.scheduling.specs.Scheduling.{natural, Tasks, TaskSet, completion}
+use Rattle.scheduling.specs.Ects.{byEarliest}
 use Rattle.trees.specs.Trees.{IsPlainTree}
-use Rattle.chosen_sets.specs.ChosenSets.{order, colours}
+use Rattle.chosen_sets.specs.Colouring.{colours}
 use Rattle.chosen_sets.specs.TaskArrays.{Held}
 use Rattle.overload_test.specs.Reading.{byCompletion}
 
@@ -20,6 +21,6 @@ pub record Readable (inner n : ℕ) (words mapping tasks est lct durations : Lis
   pub J : Tasks natural
   pub held : Held J noTask n [] est durations
   pub ends : (k : ℕ) → k < n → getD lct k 0 ≡ completion J k
-  pub tree : IsPlainTree J (order J noTask) (colours J noTask) inner words
-  pub place : (k : ℕ) → k < n → getD mapping k 0 ≡ index (order J noTask) k
+  pub tree : IsPlainTree J (byEarliest J) (colours J noTask) inner words
+  pub place : (k : ℕ) → k < n → getD mapping k 0 ≡ index (byEarliest J) k
   pub task : (t : ℕ) → t < n → getD tasks t 0 ≡ getD (byCompletion J) t 0

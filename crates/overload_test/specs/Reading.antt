@@ -6,8 +6,8 @@ use lib.Dec.{leb}
 use lib.ListN.{getD, take}
 use Rattle.integers.specs.Orders.{sort, numbers, has}
 use Rattle.scheduling.specs.Scheduling.{natural, Tasks, TaskSet, completion}
+use Rattle.scheduling.specs.Ects.{ectOf}
 use Rattle.ects.specs.Ects.{exceeds}
-use Rattle.chosen_sets.specs.ChosenSets.{ectOf}
 use Rattle.overload_test.specs.declared.overload_test.Overload.{Overload}
 use Rattle.overload_test.specs.declared.overload_test.Overload.the-variants.{Yes, No}
 

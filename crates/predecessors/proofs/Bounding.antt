@@ -16,11 +16,11 @@ use Rattle.integers.proofs.Ints.{ints}
 use Rattle.integers.proofs.Moments.{at-moment, above-up, reflect, reflect<, plus, plus-above}
 use Rattle.scheduling.specs.Scheduling.{whole, natural, Tasks, Proper, Ect}
 use Rattle.scheduling.proofs.Agreement.{set-ect}
+use Rattle.scheduling.proofs.Ects.{ect-is}
 use Rattle.scheduling.proofs.Transfer.{sound, Is, ect→, ect←, part-above}
 use Rattle.scheduling.specs.Moments.{moments}
 use Rattle.ects.specs.Ects.{exceeds}
 use Rattle.ects.proofs.Ects.{exceeds-yes, some-within}
-use Rattle.chosen_sets.proofs.Ects.{ect-is}
 use Rattle.predecessors.specs.Predecessors.{predecessors, PrecedenceBound}
 use Rattle.predecessors.specs.TaskArrays.{comesBefore, boundAt}
 
@@ -55,7 +55,7 @@ module _ (Z : Tasks whole) (ok : Proper Z) (low : (k : ℕ) → k < Z .count →
     pub found : (b : ℤ) → PrecedenceBound Z i b → Found b
     found b e =
         let v : Ect N (comesBefore N i) (moment zeroAt b) = set-ect N (predecessors Z i) (comesBefore N i) same-tasks (moment zeroAt b) (ect→ zeroAt Z ok low (predecessors Z i) b e) in
-        record { above = part-above zeroAt Z ok low (predecessors Z i) b (e .holds); is = ect-is N (comesBefore N i) fine (moment zeroAt b) .1 v }
+        record { above = part-above zeroAt Z ok low (predecessors Z i) b (e .holds); is = ect-is N fine (comesBefore N i) (moment zeroAt b) .1 v }
 
     -- what the code finds, where it finds a moment, is that of a bound
     pub record Gives (v : ℕ) : Type 0 where
@@ -66,7 +66,7 @@ module _ (Z : Tasks whole) (ok : Proper Z) (low : (k : ℕ) → k < Z .count →
 
     pub gives : (v : ℕ) → boundAt N i ≡ some v → Gives v
     gives v z =
-        let w : Ect N (predecessors Z i) v = set-ect N (comesBefore N i) (predecessors Z i) (λ j r. sym (same-tasks j r)) v (ect-is N (comesBefore N i) fine v .0 z) in
+        let w : Ect N (predecessors Z i) v = set-ect N (comesBefore N i) (predecessors Z i) (λ j r. sym (same-tasks j r)) v (ect-is N fine (comesBefore N i) v .0 z) in
         let e : Is zeroAt Z ok low (Ect Z (predecessors Z i)) v = ect← zeroAt Z ok low (predecessors Z i) v w in
         record { bound = e .at; is-bound = e .holds; above = e .above; is = e .is }
 

@@ -8,7 +8,7 @@ use lib.IntN.{ℤ}
 use lib.ListN.{getD}
 use Rattle.integers.specs.Moments.{instant, zeroAt}
 use Rattle.scheduling.specs.Scheduling.{natural, Tasks, TaskSet}
-use Rattle.chosen_sets.specs.ChosenSets.{ectOf}
+use Rattle.scheduling.specs.Ects.{ectOf}
 use Rattle.chosen_sets.specs.TaskArrays.{Held, Late}
 
 -- the whole number at task k's moment

@@ -8,6 +8,7 @@ pub mod Exists
 pub mod Monotone
 pub mod Joins
 pub mod Scan
+pub mod Ects
 pub mod LeafRanges
 pub mod Bars
 pub mod Suffixes

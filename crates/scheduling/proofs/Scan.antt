@@ -1,4 +1,5 @@
--- The ect of a set, one task after the other in the order of earliest starts: what the tree's root holds.
+-- The recurrence of the ect, place by place, with 0 for none as the tree's words have it: its value is the ect of the set.
+-- Assumes an order of the tasks by earliest start.
 use mathlib.Core.Path.{_≡_, refl, sym, ap, _∙_}
 use mathlib.Core.Bool.{Bool, true, false, cond, _&&_}
 use mathlib.Core.Logic.{_⊎_, inl, inr}

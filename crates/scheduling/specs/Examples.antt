@@ -4,11 +4,14 @@ use mathlib.Core.Path.{_≡_, refl}
 use mathlib.Core.Bool.{Bool, true, false, cond}
 use mathlib.Core.List.{List, [], _∷_}
 use mathlib.Core.Logic.{_⊎_, inl, inr}
+use mathlib.Core.Option.{some, none}
 use Prim.Native.Nat.{ℕ, zero, suc, _+_, _≤_, _<_}
 use native.Mathlib.Omega.{arith}
 use lib.ListN.{length, getD}
 use Rattle.integers.proofs.Bools.{clash, below-suc}
+use Rattle.integers.specs.Orders.{sort, insert, numbers}
 use Rattle.scheduling.specs.Scheduling.{natural, Tasks, TaskSet, total, _with_, In, Est, processing, EstPlusP, Ect, Overloads, EdgeFindingBound, RuleFormula}
+use Rattle.scheduling.specs.Ects.{ectAfter, ectOf}
 
 -- durations, earliest and latest starts
 abbrev lined : List ℕ → List ℕ → List ℕ → Tasks natural
@@ -97,6 +100,16 @@ D-ect = record { holds = record { part = last-two; within = λ k h. refl; start 
       where
         late : f .start ≤ 10
         late = let (k, km, e) = f .est .holds in below-three (λ j. D .earliest j ≡ f .start → f .start ≤ 10) (λ z. omega arith) (λ z. omega arith) (λ z. omega arith) k (km .small) e
+
+-- The recurrence waits for task 1, and then does the other; none of the tasks has no ect.
+D-by-recurrence : (ectOf D all ≡ some 16) × (ectOf D (λ k. false) ≡ none)
+unfolding D sort insert numbers ectAfter
+D-by-recurrence = (refl, refl)
+
+-- It takes the tasks by earliest start and not by number: 5..5,1 comes after 0..9,4, and ends at 6.
+by-start : ectOf (lined (1 ∷ 4 ∷ []) (5 ∷ 0 ∷ []) (5 ∷ 9 ∷ [])) all ≡ some 6
+unfolding sort insert numbers ectAfter
+by-start = refl
 
 -- 0..7,4; 0..6,5 and a third task whose start is at most 9: the first two end by 9, which does not pass 9.
 L : Tasks natural

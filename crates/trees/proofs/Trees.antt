@@ -12,14 +12,13 @@ use Rattle.integers.proofs.Filling.{getD-fresh}
 use Rattle.scheduling.specs.Scheduling.{natural, Tasks}
 use Rattle.nodes.specs.declared.theta_lambda_node.Node.{Node}
 use Rattle.nodes.specs.declared.theta_node.Node as plain
-use Rattle.ects.specs.Ects.{decoded}
 use Rattle.nodes.specs.Nodes.{joinOf, plainOf, plainJoinOf}
 use Rattle.nodes.specs.Bounds.{Fair, size, PlainFair, plainSize}
 use Rattle.nodes.specs.Descents.{gray}
 use Rattle.nodes.proofs.Grays.{gray-empty}
 use Rattle.trees.specs.Shapes.{width, heightFor, nodeOver}
 use Rattle.trees.specs.Arrays.{changed, leavesOf, TreeOf}
-use Rattle.trees.specs.Words.{nodeAt, plainAt, plainEctIn}
+use Rattle.trees.specs.Words.{nodeAt, plainAt}
 use Rattle.trees.specs.Bounds.{Bounded, CanPut}
 use Rattle.trees.specs.Puts.{Puttable, Put, PlainPuttable, PlainPut}
 use Rattle.trees.specs.Searches.{searchEct, thetaOf}
@@ -182,7 +181,3 @@ module _ {J : Tasks natural} {estOrder : List ℕ} (lim : Limited J estOrder) {l
   plain-root-of = root-is plainJoinOf inner (heightFor (J .count)) (plainAt words) (t .complete) (own-tree plainJoinOf inner (plainLeaves J estOrder ls) (plainAt words) (t .tree))
       ∙ ap (λ (leaf : ℕ → plain.Node). nodeOver plainJoinOf leaf (heightFor (J .count)) 0) (own-leaves plainJoinOf inner (plainLeaves J estOrder ls) (plainAt words) (t .tree))
       ∙ plain-over (leaves.leaves J estOrder ls) (plainLeaves J estOrder ls) (λ j. plain-leaf (getD ls j empty) (startAt J estOrder j) (durationAt J estOrder j)) (heightFor (J .count)) 0
-
-  -- and answers Theta's ect
-  pub plain-ect-of : plainEctIn words ≡ leaves.ect J estOrder ls
-  plain-ect-of = ap (λ (n : plain.Node). decoded (n .ect)) plain-root-of

@@ -9,3 +9,4 @@ pub mod Searching
 pub mod Leaves
 pub mod Trees
 pub mod Operations
+pub mod PlainOperations

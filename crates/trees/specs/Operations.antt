@@ -46,11 +46,15 @@ Tall h height = height ≡ heightFor (h .J .count)
 abbrev pub Responds : ℕ → ℕ → List ℕ → List ℕ → Responsible → Type 0
 Responds inner height words tasks r = (h : Held inner words) → Tall h height → r ≡ responsibleOf tasks (responsible (h .J) (h .estOrder) (h .leaves))
 
--- The task is the one at this place in the order.
-pub record HasPlace (J : Tasks natural) (estOrder : List ℕ) (place : ℕ) (task : DisjunctiveTask) : Type 0 where
+-- The task at this place in the order starts at e at the earliest and lasts p.
+pub record HasTask (J : Tasks natural) (estOrder : List ℕ) (place e p : ℕ) : Type 0 where
   pub inside : place < J .count
-  pub start : task .«start_time» ≡ startAt J estOrder place
-  pub lasts : task .«processing_time» ≡ durationAt J estOrder place
+  pub start : e ≡ startAt J estOrder place
+  pub lasts : p ≡ durationAt J estOrder place
+
+-- it is the one given
+abbrev pub HasPlace : Tasks natural → List ℕ → ℕ → DisjunctiveTask → Type 0
+HasPlace J estOrder place task = HasTask J estOrder place (task .«start_time») (task .«processing_time»)
 
 -- the leaf at the place has the colour c then, and the words hold the tree of these leaves
 abbrev pub Coloured : Leaf → {inner : ℕ} {words : List ℕ} → Held inner words → ℕ → List ℕ → Type 0

@@ -1,21 +1,16 @@
 -- What an operation on the words of a tree asks, and what it does: one leaf changes, and every inner node is the join of its children again.
 use mathlib.Core.Path.{_≡_}
 use mathlib.Core.List.{List}
-use Prim.Native.Nat.{ℕ, _+_}
+use Prim.Native.Nat.{ℕ}
 use lib.ListN.{length}
 use Rattle.integers.specs.Limits.{THETAWORDS, TREEWORDS}
 use Rattle.nodes.specs.declared.theta_lambda_node.Node.{Node}
 use Rattle.nodes.specs.declared.theta_node.Node as plain
-use Rattle.nodes.specs.Nodes.{joinOf, plainOf, plainJoinOf}
+use Rattle.nodes.specs.Nodes.{joinOf, plainJoinOf}
 use Rattle.nodes.specs.Bounds.{Fair, size, PlainFair, plainSize}
-use Rattle.trees.specs.declared.disjunctive_task.DisjunctiveTask.{DisjunctiveTask}
 use Rattle.trees.specs.Arrays.{leavesOf, changed, TreeOf}
 use Rattle.trees.specs.Words.{nodeAt, plainAt}
 use Rattle.trees.specs.Bounds.{CanPut}
-
--- the theta tree's leaf of a task
-abbrev pub plainTask : DisjunctiveTask → plain.Node
-plainTask task = plainOf (task .«start_time» + task .«processing_time») (task .«processing_time»)
 
 -- the leaf at `place` may become n
 pub record Puttable (inner : ℕ) (words : List ℕ) (place : ℕ) (n : Node) : Type 0 where

@@ -1,11 +1,9 @@
 -- Nodes as words of an array: four to a node of the theta-lambda tree, two to one of the theta tree.
 use mathlib.Core.List.{List}
-use mathlib.Core.Option.{Option}
 use Prim.Native.Nat.{ℕ, _+_, _*_}
 use lib.ListN.{getD}
 use Rattle.nodes.specs.declared.theta_lambda_node.Node.{Node}
 use Rattle.nodes.specs.declared.theta_node.Node as plain
-use Rattle.ects.specs.Ects.{decoded}
 
 -- the i-th node of the words
 abbrev pub nodeAt : List ℕ → ℕ → Node
@@ -13,7 +11,3 @@ nodeAt ws i = record { ect = getD ws (4 * i) 0; «sum_of_processing_times» = ge
 
 abbrev pub plainAt : List ℕ → ℕ → plain.Node
 plainAt ws i = record { ect = getD ws (2 * i) 0; «sum_of_processing_times» = getD ws (2 * i + 1) 0 }
-
--- what the theta tree's root answers for the ect
-abbrev pub plainEctIn : List ℕ → Option ℕ
-plainEctIn ws = decoded (plainAt ws 0 .ect)

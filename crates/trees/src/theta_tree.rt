@@ -23,10 +23,12 @@ ghost use Rattle.ects.specs.Ects.{momentOf};
 ghost use Rattle.nodes.specs.Nodes.{plainJoinOf};
 ghost use Rattle.nodes.specs.Bounds.{PlainFair, plainSize};
 ghost use Rattle.trees.specs.Arrays.{changed, leavesOf, TreeOf};
-ghost use Rattle.trees.specs.Words.{plainAt, plainEctIn};
+ghost use Rattle.trees.specs.Words.{plainAt};
 ghost use Rattle.trees.specs.Bounds.{NeedsUpheap};
-ghost use Rattle.trees.specs.Puts.{plainTask, PlainPuttable, PlainPut};
-ghost use Rattle.trees.specs.Mappings.{PlainNew};
+ghost use Rattle.trees.specs.Puts.{PlainPuttable, PlainPut};
+ghost use Rattle.trees.specs.Leaves.{ect};
+ghost use Rattle.trees.specs.Operations.{HasPlace};
+ghost use Rattle.trees.specs.PlainOperations.{HeldPlain, PlainNew, PlainAnswers, PlainWhitened};
 
 // The i-th node of the words.
 fn load(nodes: &[u32; THETAWORDS], i: usize) -> Node
@@ -77,7 +79,7 @@ impl ThetaTree {
 
     // Returns the earliest completion time of Theta.
     pub fn ect(nodes: &[u32; THETAWORDS]) -> Ect
-        ensures { λ r. ⌜ momentOf r ≡ plainEctIn (now (nodes .entry)) ⌝ }
+        ensures { λ r. ⌜ PlainAnswers ect (now (nodes .entry)) (momentOf r) ⌝ }
     {
         let root = load(nodes, 0);
         Ect::decoded(root.ect)
@@ -95,8 +97,8 @@ impl ThetaTree {
 
     // Adds the provided task to Theta.
     pub fn add(nodes: &mut [u32; THETAWORDS], inner: usize, place: LeafPlace, task: DisjunctiveTask)
-        requires { ⌜ PlainPuttable inner (now nodes) (place .0) (plainTask task) ⌝ }
-        ensures { λ _. ⌜ PlainPut inner (now (nodes .entry)) (now (nodes .exit)) (place .0) (plainTask task) ⌝ }
+        requires { ⌜ ((h : HeldPlain inner (now nodes)) × HasPlace (h .J) (h .estOrder) (place .0) task) ⌝ }
+        ensures { λ _. ⌜ ((h : HeldPlain inner (now (nodes .entry))) → HasPlace (h .J) (h .estOrder) (place .0) task → PlainWhitened h (place .0) (now (nodes .exit))) ⌝ }
     {
         let ect = task.start_time + task.processing_time;
         let n = Node::new(ect, task.processing_time);

@@ -1,4 +1,4 @@
--- `theta_ect`: the chosen tasks go into a new tree over the tasks by earliest start, and its root has their ect.
+-- `theta_ect`: the chosen tasks go into a new tree over the tasks by earliest start, which answers their ect.
 -- Assumes nothing.
 use mathlib.Core.Path.{_∙_}
 use borrow.Author.Needs.{needs}
@@ -6,7 +6,8 @@ use Rattle.scheduling.specs.Scheduling.{natural, Tasks, TaskSet}
 use Rattle.sorts.proofs.Sorted.{sorted-permutes}
 use Rattle.chosen_sets.specs.Colouring.{Colourable}
 use Rattle.chosen_sets.specs.TaskArrays.{Held}
-use Rattle.chosen_sets.proofs.Colouring.{colourable, root-ect}
+use Rattle.chosen_sets.proofs.Colouring.{colourable, coloured}
+use Rattle.chosen_sets.proofs.Ects.{tree-ect}
 use Rattle.chosen_sets.proofs.theta.theta_ect.Statement.{statement}
 use Rattle.chosen_sets.proofs.theta.theta_ect.Tie as tie
 
@@ -28,7 +29,9 @@ fill-requires : tie.Need-fill-requires
 fill-requires c κs = let s = c .before .before .before in ready s (start s .pre .0) (start s .pre .1) (start s .pre .2)
 
 returns : tie.Need-returns
-returns c = λ J Ω h. c .ect .ensures ∙ root-ect h (c .before .before .fill .ensures (ready (c .before .before .before .before .before .before) J Ω h))
+returns c = λ J Ω h.
+    let made = c .before .before .before .before .before .before in
+    c .ect .ensures (made .new .result .«number_of_internal_nodes») (coloured h (c .before .before .fill .ensures (ready made J Ω h))) ∙ tree-ect J Ω (h .proper)
 
 pub theta-ect-spec : {M : Type 1} → statement M
 theta-ect-spec = tie.close (tie.spec (λ c κs. search needs) new-requires fill-requires (λ c κs. search needs) returns)

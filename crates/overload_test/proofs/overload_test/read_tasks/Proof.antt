@@ -10,7 +10,7 @@ use Rattle.integers.specs.Limits.{TASKS}
 use Rattle.ects.specs.Ects.{momentOf}
 use Rattle.overload_test.specs.Readable.{Readable}
 use Rattle.overload_test.specs.Reading.{overloadsAt, answerFrom, answerOf}
-use Rattle.overload_test.proofs.Adding.{Shows, none-shown, all-answer, task-known, may-add, was-added, test-is}
+use Rattle.overload_test.proofs.Adding.{Shows, shown, none-shown, all-answer, task-known, has-task, was-added, test-is}
 use Rattle.overload_test.proofs.Answers.{answer-yes, answer-on, answer-no}
 use Rattle.overload_test.proofs.overload_test.read_tasks.Statement.{statement}
 use Rattle.overload_test.proofs.overload_test.read_tasks.Tie as tie
@@ -43,7 +43,10 @@ added : (c : tie.After-add Inv-loop μ-loop) → let at = turn c in let a = at .
     (f : Readable (a .inner) (a .n) (a .nodes .now) (a .mapping .now) (a .tasks .now) (a .est .now) (a .lct .now) (a .durations .now)) → Shows f (at .before .loop .k + 1) (c .add .last .0)
 added c f =
     let at = turn c in
-    was-added f (at .before .loop .k) (inside at) (c .before .before .before .before .leaf-of .result .0) (c .before .before .before .before .leaf-of .ensures) (at .before .loop .inv .tree f) (c .add .ensures)
+    let k = at .before .loop .k in
+    let placed = c .before .before .before .before .leaf-of .ensures in
+    let t = at .before .loop .inv .tree f in
+    was-added f k (inside at) placed t (c .add .ensures (shown f k t) (has-task f k (inside at) placed))
 
 loop-holds : tie.Need-loop-holds Inv-loop μ-loop
 loop-holds c = record { readable = c .pre; tree = λ f. none-shown f; answer = λ f. all-answer f; small = omega arith }
@@ -73,7 +76,7 @@ add-requires : tie.Need-add-requires Inv-loop μ-loop
 add-requires c κs =
     let at = c .before .before .before .before .before in
     let v = at .before .loop .inv in
-    may-add (v .readable) (at .before .loop .k) (inside at) (c .before .before .before .leaf-of .result .0) (c .before .before .before .leaf-of .ensures) (v .tree (v .readable))
+    (shown (v .readable) (at .before .loop .k) (v .tree (v .readable)), has-task (v .readable) (at .before .loop .k) (inside at) (c .before .before .before .leaf-of .ensures))
 
 add-k : tie.Need-add-k Inv-loop μ-loop
 add-k c = omega (arith, inside (turn c))
@@ -89,7 +92,8 @@ tested : (c : tie.After-exceeds Inv-loop μ-loop) → let at = turn (c .before .
     (f : Readable (a .inner) (a .n) (a .nodes .now) (a .mapping .now) (a .tasks .now) (a .est .now) (a .lct .now) (a .durations .now)) → c .exceeds .result ≡ overloadsAt (f .J) (at .before .loop .k)
 tested c f =
     let at = turn (c .before .before .before .before) in
-    c .exceeds .ensures ∙ test-is f (at .before .loop .k) (inside at) (added (c .before .before .before .before) f) (momentOf (c .before .before .ect .result)) (c .before .before .ect .ensures)
+    let k = at .before .loop .k in
+    c .exceeds .ensures ∙ test-is f k (inside at) (momentOf (c .before .before .ect .result)) (c .before .before .ect .ensures (at .before .before .args .inner) (shown f (k + 1) (added (c .before .before .before .before) f)))
 
 returns : tie.Need-returns Inv-loop μ-loop
 returns c = λ f.

@@ -8,18 +8,16 @@ use borrow.Author.Needs.{needs}
 use Rattle.scheduling.specs.Scheduling.{natural, Tasks}
 use Rattle.nodes.specs.Nodes.{grayOf}
 use Rattle.nodes.proofs.Joins.{additive}
-use Rattle.trees.specs.declared.disjunctive_task.DisjunctiveTask.{DisjunctiveTask}
 use Rattle.trees.specs.Leaves.{gray, startAt, durationAt}
-use Rattle.trees.specs.Operations.{HasPlace}
+use Rattle.trees.specs.Operations.{HasTask}
 use Rattle.trees.proofs.Wiring.{put-fits}
 use Rattle.trees.proofs.Trees.{may-put, was-put}
 use Rattle.trees.proofs.theta_lambda_tree.ThetaLambdaTree.add_to_lambda.Statement.{statement}
 use Rattle.trees.proofs.theta_lambda_tree.ThetaLambdaTree.add_to_lambda.Tie as tie
 
 -- the node of the task's gray leaf
-node-is : {J : Tasks natural} {estOrder : List ℕ} {place : ℕ} {task : DisjunctiveTask} → HasPlace J estOrder place task
-    → grayOf (task .«start_time» + task .«processing_time») (task .«processing_time») ≡ grayOf (startAt J estOrder place + durationAt J estOrder place) (durationAt J estOrder place)
-node-is p = ap₂ (λ (e d : ℕ). grayOf (e + d) d) (p .start) (p .lasts)
+node-is : {J : Tasks natural} {estOrder : List ℕ} {place e p : ℕ} → HasTask J estOrder place e p → grayOf (e + p) p ≡ grayOf (startAt J estOrder place + durationAt J estOrder place) (durationAt J estOrder place)
+node-is h = ap₂ (λ (e p : ℕ). grayOf (e + p) p) (h .start) (h .lasts)
 
 add-ect : tie.Need-add-ect
 add-ect c = let (h, p) = c .before .pre in let f = put-fits additive (may-put (h .limited) (h .tree) _ (p .inside) gray (node-is p) .takes) in omega (arith, f .fair, f .small)

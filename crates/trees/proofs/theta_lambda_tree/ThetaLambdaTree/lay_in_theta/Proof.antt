@@ -8,19 +8,17 @@ use borrow.Author.Needs.{needs}
 use Rattle.scheduling.specs.Scheduling.{natural, Tasks}
 use Rattle.nodes.specs.declared.theta_lambda_node.Node.{Node}
 use Rattle.nodes.specs.Nodes.{whiteOf}
-use Rattle.trees.specs.declared.disjunctive_task.DisjunctiveTask.{DisjunctiveTask}
 use Rattle.trees.specs.Arrays.{changed}
 use Rattle.trees.specs.Words.{nodeAt}
 use Rattle.trees.specs.Leaves.{white, startAt, durationAt}
-use Rattle.trees.specs.Operations.{HasPlace}
+use Rattle.trees.specs.Operations.{HasTask}
 use Rattle.trees.proofs.Rebuilding.{Layable, may-lay, was-laid}
 use Rattle.trees.proofs.theta_lambda_tree.ThetaLambdaTree.lay_in_theta.Statement.{statement}
 use Rattle.trees.proofs.theta_lambda_tree.ThetaLambdaTree.lay_in_theta.Tie as tie
 
 -- the node of the task's white leaf
-node-is : {J : Tasks natural} {estOrder : List ℕ} {place : ℕ} {task : DisjunctiveTask} → HasPlace J estOrder place task
-    → whiteOf (task .«start_time» + task .«processing_time») (task .«processing_time») ≡ whiteOf (startAt J estOrder place + durationAt J estOrder place) (durationAt J estOrder place)
-node-is p = ap₂ (λ (e d : ℕ). whiteOf (e + d) d) (p .start) (p .lasts)
+node-is : {J : Tasks natural} {estOrder : List ℕ} {place e p : ℕ} → HasTask J estOrder place e p → whiteOf (e + p) p ≡ whiteOf (startAt J estOrder place + durationAt J estOrder place) (durationAt J estOrder place)
+node-is h = ap₂ (λ (e p : ℕ). whiteOf (e + p) p) (h .start) (h .lasts)
 
 -- it may stand there
 may : (c : tie.Start) → let a = c .args in Layable (a .inner) (a .nodes .now) (a .place .0) (whiteOf (a .task .«start_time» + a .task .«processing_time») (a .task .«processing_time»))

@@ -1,13 +1,19 @@
 -- `trees::theta_tree::ThetaTree::new` meets its contract.
 -- Assumes nothing.
-use mathlib.Core.Path.{refl}
+use mathlib.Core.Path.{refl, sym, ap, _∙_}
+use Prim.Native.Nat.{ℕ}
 use borrow.Author.Needs.{needs}
+use Rattle.trees.specs.Shapes.{width, heightFor}
 use Rattle.trees.proofs.Heights.{sized}
+use Rattle.trees.proofs.Trees.{new-plain-tree}
 use Rattle.trees.proofs.theta_tree.ThetaTree.new.Statement.{statement}
 use Rattle.trees.proofs.theta_tree.ThetaTree.new.Tie as tie
 
 returns : tie.Need-returns
-returns c = record { nodes = refl; mapping = c .before .leaf-places .ensures .0; size = record { least = refl; complete = sized _ _ _ (c .size-for .ensures) } }
+returns c = record {
+  mapping = c .before .leaf-places .ensures .0;
+  empties = λ J estOrder z. new-plain-tree J estOrder _ _ refl (sized _ _ _ (c .size-for .ensures) ∙ ap (λ (n : ℕ). width (heightFor n)) (sym z));
+}
 
 pub new-spec : {M : Type 1} → statement M
 new-spec = tie.close (tie.spec (λ c κs. search needs) (λ c κs. search needs) returns)
