@@ -4,14 +4,14 @@ use mathlib.Core.Path.{_≡_, refl, sym, subst, _∙_}
 use mathlib.Core.List.{List}
 use Prim.Native.Nat.{ℕ}
 use lib.IntN.{ℤ}
-use lib.ListN.{length}
 use Rattle.records.specs.declared.record.Propagator.{Propagator}
 use Rattle.runs.specs.Traces.{Trace}
-use Rattle.runs.specs.Words.{reasons}
-use Rattle.levels.specs.declared.outcome.Outcome.{Outcome}
-use Rattle.levels.specs.Finding.{outcomeOf}
-use Rattle.propagator.specs.Ran.{traceOf, Handed}
-use Rattle.propagator.proofs.Handing.{handed}
+use Rattle.runs.specs.declared.outcome.Outcome.{Outcome}
+use Rattle.runs.specs.Outcomes.{outcomeNumbers}
+use Rattle.runs.specs.EndNumbers.{traceNumbers}
+use Rattle.runs.proofs.Answering.{outcomes-apart}
+use Rattle.propagator.specs.Ran.{traceOf}
+use Rattle.propagator.proofs.Handing.{Handed, handed}
 use Rattle.task_changes.specs.Histories.{History, recordAfter, durationsAfter}
 use Rattle.task_changes.proofs.History.{same-record}
 use Rattle.barred_starts.specs.declared.range.Range.{Range}
@@ -26,7 +26,7 @@ module _ (before : Propagator) (ranges : List Range) (posts atoms posts₁ atoms
   abbrev t : Trace
   t = traceOf before (earliests ranges) (latests ranges)
 
-  is : answer ≡ outcomeOf (reasons (t .posts)) (length (t .posts)) (t .end)
+  is : outcomeNumbers answer ≡ traceNumbers t
   is = a .left .answer
 
   one : Handed t posts₁ atoms₁
@@ -36,7 +36,7 @@ module _ (before : Propagator) (ranges : List Range) (posts atoms posts₁ atoms
   other = handed t posts₂ atoms₂ (b .left .post-words) (b .left .atom-words)
 
   pub one-record : SameRun answer changed ranges₁ posts₁ atoms₁ answer′ changed′ ranges₃ posts₃ atoms₃
-  one-record = subst (λ (o : Outcome). SameRun answer changed ranges₁ posts₁ atoms₁ o changed′ ranges₃ posts₃ atoms₃) (is ∙ sym (b .left .answer)) (record {
+  one-record = subst (λ (o : Outcome). SameRun answer changed ranges₁ posts₁ atoms₁ o changed′ ranges₃ posts₃ atoms₃) (outcomes-apart answer answer′ (is ∙ sym (b .left .answer))) (record {
     outcome = refl;
     changed = a .left .changes ∙ sym (b .left .changes);
     starts = a .stored ∙ sym (b .stored);
