@@ -19,10 +19,10 @@ use Rattle.checker.specs.declared.checker.Verdict.{Verdict}
 use Rattle.checker.specs.declared.checker.Verdict.the-variants as verdict
 use Rattle.checker.specs.Verdicts.{verdictNumbers}
 use Rattle.checker.proofs.Apart.{verdicts-apart}
-use Rattle.levels.specs.declared.outcome.Outcome.{Outcome}
-use Rattle.levels.specs.declared.outcome.Outcome.the-variants as outcome
-use Rattle.levels.specs.Outcomes.{outcomeNumbers}
-use Rattle.levels.proofs.Answering.{outcomes-apart}
+use Rattle.runs.specs.declared.outcome.Outcome.{Outcome}
+use Rattle.runs.specs.declared.outcome.Outcome.the-variants as outcome
+use Rattle.runs.specs.Outcomes.{outcomeNumbers}
+use Rattle.runs.proofs.Answering.{outcomes-apart}
 use Rattle.answers.specs.declared.call_answers.RunAnswer.{RunAnswer}
 use Rattle.answers.specs.declared.call_answers.CheckAnswer.{CheckAnswer}
 use Rattle.answers.specs.declared.call_answers.StateAnswer.{StateAnswer}

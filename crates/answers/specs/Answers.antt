@@ -11,8 +11,8 @@ use Rattle.checking.specs.declared.variable_state.Application.{Application}
 use Rattle.checking.specs.declared.variable_state.Application.the-variants as application
 use Rattle.checking.specs.Answers.{applicationNumbers}
 use Rattle.post_words.specs.Posts.{wordsOf}
-use Rattle.levels.specs.declared.outcome.Outcome.{Outcome}
-use Rattle.levels.specs.Outcomes.{valueOf}
+use Rattle.runs.specs.declared.outcome.Outcome.{Outcome}
+use Rattle.runs.specs.Outcomes.{valueOf}
 use Rattle.answers.specs.declared.call_answers.RunAnswer.{RunAnswer}
 use Rattle.answers.specs.declared.call_answers.CheckAnswer.{CheckAnswer}
 use Rattle.answers.specs.declared.call_answers.StateAnswer.{StateAnswer}

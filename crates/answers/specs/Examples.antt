@@ -1,8 +1,8 @@
 -- The numbers at small answers.
 -- Assumes nothing.
 use mathlib.Core.Path.{_≡_, refl}
-use Rattle.levels.specs.declared.outcome.Outcome.the-variants as outcome
-use Rattle.levels.specs.Outcomes.{outcomeNumbers}
+use Rattle.runs.specs.declared.outcome.Outcome.the-variants as outcome
+use Rattle.runs.specs.Outcomes.{outcomeNumbers}
 use Rattle.answers.specs.Answers.{runAnswer}
 
 -- an overload after two posts, whose reason is the four atoms from the tenth on, and 12 leaf changes: 12 words from word 27 on

@@ -4,11 +4,11 @@ use checking::variable_state::Application;
 use checking::variable_state::Bound;
 use checking::variable_state::Truth;
 use domains::int_ext::IntExt;
-use levels::outcome::Finished;
-use levels::outcome::Outcome;
 use post_words::posts::words_of;
 use records::record::Creation;
 use records::record::Propagator;
+use runs::outcome::Finished;
+use runs::outcome::Outcome;
 ghost use mathlib.Core.Path.{_≡_};
 ghost use mathlib.Core.List.{[], _∷_};
 ghost use lib.IntN.{pos};
@@ -16,7 +16,7 @@ ghost use Rattle.integers.specs.Answers.{answered, refusedBy};
 ghost use Rattle.records.specs.Records.{creationNumber};
 ghost use Rattle.checking.specs.Answers.{truthNumbers, extNumbers, boundNumbers};
 ghost use Rattle.checker.specs.Verdicts.{verdictNumbers};
-ghost use Rattle.levels.specs.Outcomes.{outcomeNumbers};
+ghost use Rattle.runs.specs.Outcomes.{outcomeNumbers};
 ghost use Rattle.answers.specs.Answers.{ToldInWords, runAnswer, checkAnswer, stateAnswer, askedAt};
 
 // A new record, and the number that refused its durations, or 0.

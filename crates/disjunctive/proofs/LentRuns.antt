@@ -18,7 +18,8 @@ use Rattle.barred_starts.proofs.Storing.{with-none, own-starts, latest-none, ow
 use Rattle.lent_ranges.specs.declared.starts.Starts.{Starts}
 use Rattle.lent_ranges.specs.TakenApart.{startsOf}
 use Rattle.lent_ranges.proofs.TakenApart.{stored, bars-of}
-use Rattle.promises.specs.RanLent.{RanLent, RanMirroredLent}
+use Rattle.promises.specs.RanLent.{RanLent}
+use Rattle.promises.specs.RanMirroredLent.{RanMirroredLent}
 use Rattle.promises.specs.PrecedencesLent.{PrecedencesLent}
 use Rattle.promises.proofs.Lent.{lent, lent-mirrored}
 use Rattle.promises.proofs.PrecedencesLent.{lent-precedences}

@@ -9,17 +9,18 @@ use barred_starts::range::Range;
 use lent_ranges::starts::starts_of;
 use lent_ranges::starts::store_latest;
 use lent_ranges::starts::store_starts;
-use levels::outcome::Finished;
-use levels::outcome::Outcome;
 use overload_test::overload_test::Overload;
 use range_cores::cores::mirrored_core;
 use range_cores::cores::overload_core;
 use range_cores::cores::run_core;
 use records::record::Propagator;
+use runs::outcome::Finished;
+use runs::outcome::Outcome;
 ghost use Rattle.overload_test.specs.Tested.{OverloadTested};
 ghost use Rattle.barred_starts.specs.Bars.{allBarsFit};
 ghost use Rattle.barred_starts.specs.Ranges.{earliests, latests};
-ghost use Rattle.promises.specs.RanLent.{RanLent, RanMirroredLent};
+ghost use Rattle.promises.specs.RanLent.{RanLent};
+ghost use Rattle.promises.specs.RanMirroredLent.{RanMirroredLent};
 
 // Earliest starts are raised in the ranges; no latest start changes, and the record stays as it is. Beside the outcome stands the count of leaf changes.
 pub fn run(

@@ -33,10 +33,12 @@ use Rattle.candidates.specs.declared.turns.Written.{Written}
 use Rattle.candidates.specs.RunArrays.{Ordered, At}
 use Rattle.candidates.specs.Turns.{Standing, AllConsidered}
 use Rattle.candidates.proofs.Considering as considering
-use Rattle.levels.specs.declared.outcome.Outcome.{Outcome}
-use Rattle.levels.specs.declared.outcome.Outcome.the-variants as outcome
+use Rattle.runs.specs.declared.outcome.Outcome.{Outcome}
+use Rattle.runs.specs.declared.outcome.Outcome.the-variants as outcome
 use Rattle.levels.specs.Moving.{Movable, Moved}
-use Rattle.levels.specs.Finding.{outcomeOf, conflictOf, Conflicted, Begun, Ended}
+use Rattle.runs.specs.Outcomes.{outcomeNumbers}
+use Rattle.runs.specs.EndNumbers.{endNumbers, traceNumbers}
+use Rattle.levels.specs.Finding.{conflictOf, Conflicted, Begun, Ended}
 use Rattle.levels.proofs.Moving as moving
 use Rattle.levels.proofs.Overloading as overloading
 
@@ -87,9 +89,10 @@ module _ {n inn height : ℕ} {words : List ℕ} {es ps as′ : List ℤ} {est l
 
   -- how the run ends from a state
   module _ (st : State) (end : End) (is : whole ≡ ended zeroAt J estOrder lctOrder st end) {words′ : List ℕ} {es′ ps′ bs : List ℤ} {w′ : Written} (a : At J estOrder ps as′ st inn words′ es′ ps′ bs (w′ .posts) (w′ .atoms) (w′ .changes)) where
-    ends : {bs′ : List ℤ} → bs′ ≡ sets as′ 0 (atomWords (reasons (st .posts) ++ endReason end)) → Ended J estOrder lctOrder ps as′ (outcomeOf (reasons (st .posts)) (length (st .posts)) end) (w′ .changes) es′ ps′ bs′
-    ends z = record {
-      answer = sym (ap (λ (t : Trace). outcomeOf (reasons (t .posts)) (length (t .posts)) (t .end)) is);
+    ends : {r : Outcome} {bs′ : List ℤ} → outcomeNumbers r ≡ endNumbers (length (st .posts)) (length (reasons (st .posts))) end → bs′ ≡ sets as′ 0 (atomWords (reasons (st .posts) ++ endReason end))
+        → Ended J estOrder lctOrder ps as′ r (w′ .changes) es′ ps′ bs′
+    ends y z = record {
+      answer = y ∙ sym (ap traceNumbers is);
       changes = a .counted ∙ sym (ap (λ (t : Trace). t .changes) is);
       starts = a .starts ∙ sym (ap (λ (t : Trace). t .starts) is);
       posts = a .posts ∙ sym (ap (λ (t : Trace). sets ps 0 (postWords 0 (t .posts))) is);
@@ -103,8 +106,7 @@ module _ {n inn height : ℕ} {words : List ℕ} {es ps as′ : List ℤ} {est l
   module _ {t : ℕ} {words′ : List ℕ} {es′ ps′ bs : List ℤ} {w′ : Written} (v : Level t words′ es′ ps′ bs w′) where
     -- all levels are done
     pub all-done : n ≤ t + 1 → Ended J estOrder lctOrder ps as′ (outcome.Done (w′ .posts)) (w′ .changes) es′ ps′ bs
-    all-done q = subst (λ (k : ℕ). Ended J estOrder lctOrder ps as′ (outcome.Done k) (w′ .changes) es′ ps′ bs) (sym (v .at .posted))
-        (ends (v .st) done is (v .at) (no-more (v .st) done is (v .at) refl))
+    all-done q = ends (v .st) done is (v .at) (ap (λ (k : ℕ). outcomeNumbers (outcome.Done k)) (v .at .posted)) (no-more (v .st) done is (v .at) refl)
       where
         none : n - 1 - t ≡ 0
         none = omega arith
@@ -177,7 +179,7 @@ module _ {n inn height : ℕ} {words : List ℕ} {es ps as′ : List ℤ} {est l
       over-inner = considering.inner-few here
 
       pub overloads : {r : Outcome} {bs′ : List ℤ} → exceeds ect c ≡ true → Conflicted bs bs′ w′ r (conflictOf shown tasks n est dur c) → Ended J estOrder lctOrder ps as′ r (w′ .changes) es′ ps′ bs′
-      overloads {r} {bs′} q k = subst (λ (r : Outcome). Ended J estOrder lctOrder ps as′ r (w′ .changes) es′ ps′ bs′) (sym answer) (ends (v .st) (overload reason) is (v .at) words-are)
+      overloads {r} {bs′} q k = ends (v .st) (overload reason) is (v .at) answer words-are
         where
           reason : List Atom
           reason = conflict zeroAt J end (leaves.sum J estOrder (v .st .leaves)) (leaves.theta J estOrder (v .st .leaves))
@@ -188,8 +190,8 @@ module _ {n inn height : ℕ} {words : List ℕ} {es ps as′ : List ℤ} {est l
           is : whole ≡ ended zeroAt J estOrder lctOrder (v .st) (overload reason)
           is = v .rest ∙ ap (λ (f : ℕ). rest-of f t (v .st)) next ∙ outer-over zeroAt J estOrder lctOrder (n - 1 - suc t) t (v .st) (past-end q)
 
-          answer : r ≡ outcomeOf (reasons (v .st .posts)) (length (v .st .posts)) (overload reason)
-          answer = k .answer ∙ ap (λ (l : List Atom). outcome.Overload (w′ .posts) (w′ .atoms) (length l)) reason-is ∙ rw (v .at .posted, v .at .explained) refl
+          answer : outcomeNumbers r ≡ endNumbers (length (v .st .posts)) (length (reasons (v .st .posts))) (overload reason)
+          answer = ap outcomeNumbers (k .answer ∙ ap (λ (l : List Atom). outcome.Overload (w′ .posts) (w′ .atoms) (length l)) reason-is) ∙ rw (v .at .posted, v .at .explained) refl
 
           words-are : bs′ ≡ sets as′ 0 (atomWords (reasons (v .st .posts) ++ reason))
           words-are = k .atom-words ∙ ap (λ (l : List Atom). sets bs (3 * w′ .atoms) (atomWords l)) reason-is ∙ rw (v .at .atoms, v .at .explained) (reason-stored as′ (reasons (v .st .posts)) reason)
@@ -258,4 +260,4 @@ module _ {n inn height : ℕ} {words : List ℕ} {es ps as′ : List ℤ} {est l
         one-emptied words‴ {es″} {ps″} {bs′} {w″} is all =
             let (st′, a, z) = rw is at all in
             let stops : whole ≡ ended zeroAt J estOrder lctOrder st′ emptied = unfold-level ∙ outer-stop zeroAt J estOrder lctOrder (n - 1 - suc t) t (v .st) st′ still (inner-is z) in
-            subst (λ (k : ℕ). Ended J estOrder lctOrder ps as′ (outcome.Emptied k) (w″ .changes) es″ ps″ bs′) (sym (a .posted)) (ends st′ emptied stops a (no-more st′ emptied stops a refl))
+            ends st′ emptied stops a (ap (λ (k : ℕ). outcomeNumbers (outcome.Emptied k)) (a .posted)) (no-more st′ emptied stops a refl)

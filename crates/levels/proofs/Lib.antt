@@ -2,4 +2,3 @@ pub mod Overloading
 pub mod Moving
 pub mod Levels
 pub mod Filling
-pub mod Answering

@@ -28,7 +28,7 @@ use Rattle.candidates.proofs.Considering as considering
 use Rattle.candidates.proofs.Considering.{theta-is, held}
 use Rattle.candidates.proofs.Meeting as meeting
 use Rattle.candidates.proofs.Posting.{long}
-use Rattle.levels.specs.declared.outcome.Outcome.the-variants as outcome
+use Rattle.runs.specs.declared.outcome.Outcome.the-variants as outcome
 use Rattle.levels.specs.Finding.{conflictOf, Conflicted}
 
 -- what is asked of, and said by, an explanation, with other names for the same values

@@ -10,21 +10,16 @@ use Rattle.scheduling.specs.Scheduling.{natural, Tasks, Atom, completion}
 use Rattle.trees.specs.Leaves.{sum}
 use Rattle.trees.specs.Searching.{thetaIn}
 use Rattle.trees.specs.Operations.{Held}
-use Rattle.runs.specs.Traces.{End, done, overload, emptied}
 use Rattle.runs.specs.Runs.{conflict, run, allWhite}
 use Rattle.scheduling.specs.Words.{atomWords}
 use Rattle.runs.specs.Words.{postWords, reasons, endReason}
+use Rattle.runs.specs.Outcomes.{outcomeNumbers}
+use Rattle.runs.specs.EndNumbers.{traceNumbers}
 use Rattle.theta_walks.specs.Writing.{starting}
 use Rattle.candidates.specs.declared.turns.Written.{Written}
 use Rattle.candidates.specs.RunArrays.{Ordered, Holds, Arrays, At}
-use Rattle.levels.specs.declared.outcome.Outcome.{Outcome}
-use Rattle.levels.specs.declared.outcome.Outcome.the-variants as outcome
-
--- how a trace ended, with the number of its posts
-abbrev pub outcomeOf : List Atom → ℕ → End → Outcome
-outcomeOf before posts done = outcome.Done posts
-outcomeOf before posts (overload r) = outcome.Overload posts (length before) (length r)
-outcomeOf before posts emptied = outcome.Emptied posts
+use Rattle.runs.specs.declared.outcome.Outcome.{Outcome}
+use Rattle.runs.specs.declared.outcome.Outcome.the-variants as outcome
 
 -- the reason of an overload, by the tree and the arrays
 abbrev pub conflictOf : {inner : ℕ} {words : List ℕ} → Held inner words → List ℕ → ℕ → List ℕ → List ℕ → ℕ → List Atom
@@ -51,7 +46,7 @@ pub record Begun (n inner height : ℕ) (words : List ℕ) (es ps as′ : List �
 
 -- What it leaves: the trace of the run's definition.
 pub record Ended (J : Tasks natural) (estOrder lctOrder : List ℕ) (ps as′ : List ℤ) (r : Outcome) (changed : ℕ) (es′ ps′ bs : List ℤ) : Type 0 where
-  pub answer : r ≡ outcomeOf (reasons (run zeroAt J estOrder lctOrder .posts)) (length (run zeroAt J estOrder lctOrder .posts)) (run zeroAt J estOrder lctOrder .end)
+  pub answer : outcomeNumbers r ≡ traceNumbers (run zeroAt J estOrder lctOrder)
   pub changes : changed ≡ run zeroAt J estOrder lctOrder .changes
   pub starts : es′ ≡ run zeroAt J estOrder lctOrder .starts
   pub posts : ps′ ≡ sets ps 0 (postWords 0 (run zeroAt J estOrder lctOrder .posts))

@@ -1,4 +1,3 @@
-pub mod Outcomes
 pub mod Finding
 pub mod Moving
 pub mod Filling

@@ -1,3 +1,2 @@
-// The levels of a run: edge finding on the tree of all tasks, and how it ended.
-pub mod outcome;
+// The levels of a run: edge finding on the tree of all tasks.
 pub mod run_levels;

@@ -1,12 +1,12 @@
 // Edge finding on the tree of all tasks, level by level, with a reason for each post. What is public here is so for the crate of the run, and is no open call: it tests nothing.
-use crate::outcome::Finished;
-use crate::outcome::Outcome;
 use candidates::turns::Turn;
 use candidates::turns::Written;
 use candidates::turns::consider_all;
 use explanations::create_conflict_explanation;
 use integers::limits::TASKS;
 use integers::limits::TREEWORDS;
+use runs::outcome::Finished;
+use runs::outcome::Outcome;
 use trees::disjunctive_task::DisjunctiveTask;
 use trees::disjunctive_task::LeafPlace;
 use trees::disjunctive_task::LocalId;

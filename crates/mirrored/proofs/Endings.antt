@@ -1,17 +1,17 @@
 -- What the mirrored pass hands to the core, and what it makes of what the core leaves.
 -- Assumes nothing.
-use mathlib.Core.Path.{_≡_, sym, ap, ap₂, subst, _∙_}
-use mathlib.Core.List.{List}
+use mathlib.Core.Path.{_≡_, refl, sym, ap, ap₂, subst, _∙_}
+use mathlib.Core.List.{List, [], _∷_}
 use Prim.Native.Nat.{ℕ, _*_, _≤_, _<_}
 use native.Mathlib.Nat.{mul-le-mul}
 use native.Mathlib.Omega.{arith}
 use lib.IntN.{ℤ, pos}
 use lib.ListN.{length, getD, take, length-map}
-use lib.Seq.{getD-take, length-take-le}
 use lib.Signed.{_≤ℤ_}
 use mir.Syntax.{w32}
 use mir.Val.{SFits}
 use Rattle.integers.specs.Limits.{TASKS, START, MIRRORED, ATOMS}
+use Rattle.integers.specs.Answers.{answered}
 use Rattle.integers.specs.Moments.{Above}
 use Rattle.integers.proofs.Ints.{up, dn, ints, fits-show}
 use Rattle.integers.proofs.Moments.{at-moment, above-up, more-above}
@@ -22,41 +22,36 @@ use Rattle.scheduling.proofs.Words.{atoms-length}
 use Rattle.runs.specs.Traces.{End, done, overload, emptied, Trace}
 use Rattle.runs.specs.Demand.{consequentOf, post}
 use Rattle.runs.specs.Words.{reasons, postsAfter, atomsAfter, atomsIn}
-use Rattle.runs.specs.Mirrored.{mirrorStarts, durationIn, mirrorPost, mirrorEnd, mirrorTrace, mirroredRun, MirroredRight}
+use Rattle.runs.specs.Mirrored.{mirrorStarts, durationIn, mirrorPost, mirrorEnd, mirrorTrace, mirroredRun}
 use Rattle.runs.proofs.Buffers.{posts-length}
 use Rattle.runs.proofs.Demand as demand
 use Rattle.runs.proofs.Mirrored as laws
 use Rattle.runs.specs.MirroredWords.{Near}
 use Rattle.runs.proofs.Starts.{starts-length}
 use Rattle.records.specs.declared.record.Propagator.{Propagator}
-use Rattle.records.specs.Records.{tasksIn}
 use Rattle.input_refusals.specs.Refusals.{Accepted}
-use Rattle.levels.specs.declared.outcome.Outcome.{Outcome}
-use Rattle.levels.specs.declared.outcome.Outcome.the-variants as outcome
-use Rattle.levels.specs.Finding.{outcomeOf}
+use Rattle.runs.specs.declared.outcome.Outcome.{Outcome}
+use Rattle.runs.specs.EndNumbers.{endNumbers, traceNumbers}
 use Rattle.propagator.specs.Ran.{Runnable, traceOf, Left}
-use Rattle.propagator.proofs.Beginning.{narrow}
+use Rattle.propagator.proofs.Accepting as accepting
 use Rattle.mirrored_words.specs.Telling.{Reflectable, Durations, Ended, Told}
-use Rattle.mirrored.specs.RanMirrored.{mirroredOf, LeftMirrored}
+use Rattle.mirrored.specs.RanMirrored.{LeftMirrored}
 use Rattle.mirrored.specs.RanInMirror.{RanInMirror}
 
--- the mirrored trace's answer is the run's: mirroring keeps the numbers of posts and atoms
-same-answer : (ds : List ℕ) (t : Trace) → outcomeOf (reasons (mirrorTrace ds t .posts)) (length (mirrorTrace ds t .posts)) (mirrorTrace ds t .end) ≡ outcomeOf (reasons (t .posts)) (length (t .posts)) (t .end)
-same-answer ds t = each (t .end)
+-- the mirrored trace's numbers are the run's: mirroring keeps how many posts and atoms there are
+same-numbers : (ds : List ℕ) (t : Trace) → traceNumbers (mirrorTrace ds t) ≡ traceNumbers t
+same-numbers ds t = (λ i. endNumbers (n i) (m i) (mirrorEnd ds (t .end))) ∙ each (t .end)
   where
-    xs : List Atom
-    xs = reasons (t .posts)
-
     n : length (mirrorTrace ds t .posts) ≡ length (t .posts)
     n = length-map (t .posts) (mirrorPost ds)
 
-    each : (e : End) → outcomeOf (reasons (mirrorTrace ds t .posts)) (length (mirrorTrace ds t .posts)) (mirrorEnd ds e) ≡ outcomeOf (reasons (t .posts)) (length (t .posts)) e
-    each done = ap outcome.Done n
-    each (overload r) = λ i. outcome.Overload (n i) (m i) (length-map r (mirrorAtom (durationIn ds)) i)
-      where
-        m : length (reasons (mirrorTrace ds t .posts)) ≡ length (reasons (t .posts))
-        m = ap length (laws.reasons-mirrored ds (t .posts)) ∙ length-map xs (mirrorAtom (durationIn ds))
-    each emptied = ap outcome.Emptied n
+    m : length (reasons (mirrorTrace ds t .posts)) ≡ length (reasons (t .posts))
+    m = ap length (laws.reasons-mirrored ds (t .posts)) ∙ length-map (reasons (t .posts)) (mirrorAtom (durationIn ds))
+
+    each : (e : End) → endNumbers (length (t .posts)) (length (reasons (t .posts))) (mirrorEnd ds e) ≡ endNumbers (length (t .posts)) (length (reasons (t .posts))) e
+    each done = refl
+    each (overload r) = ap (λ (k : ℕ). answered 1 (pos (length (t .posts)) ∷ pos (length (reasons (t .posts))) ∷ pos k ∷ [])) (length-map r (mirrorAtom (durationIn ds)))
+    each emptied = refl
 
 -- The pass -------------------------------------------------------------------------------------------------------------------------
 
@@ -92,10 +87,10 @@ module _ (before : Propagator) (es ls : List ℤ) (postCount atomCount : ℕ) (a
   late = mirrorStarts (take (before .count) (before .durations)) es
 
   count : length ds ≡ n
-  count = length-take-le n (before .durations) (omega (arith, a .lawful .few, long))
+  count = accepting.count before (a .lawful)
 
   here : demand.Accepted START ds es ls
-  here = narrow before es ls postCount atomCount a long
+  here = accepting.narrow before es ls postCount atomCount a
 
   es-long : length es ≡ length ds
   es-long = a .counts .earliest ∙ sym count
@@ -110,7 +105,7 @@ module _ (before : Propagator) (es ls : List ℤ) (postCount atomCount : ℕ) (a
   run-long = starts-length ds early late
 
   lasts-at : (k : ℕ) → k < n → getD ds k 0 ≡ getD (before .durations) k 0
-  lasts-at k q = getD-take n (before .durations) k 0 q
+  lasts-at k q = accepting.lasts-at before (a .lawful) k q
 
   -- starts that may be mirrored
   reflectable : (zs : List ℤ) → length zs ≡ length ds → ((k : ℕ) → k < length ds → SFits w32 (getD (mirrorStarts ds zs) k (pos 0))) → (out : List ℤ) → length out ≡ n → Reflectable out zs (before .durations)
@@ -170,7 +165,7 @@ module _ (before : Propagator) (es ls : List ℤ) (postCount atomCount : ℕ) (a
 
     pub ran-in-mirror : {ls′ : List ℤ} → ls′ ≡ mirrorStarts (take (length from′) (before .durations)) from′ → RanInMirror before es ls posts atoms r ls′ posts′ atoms′
     ran-in-mirror z = record {
-      answer = l .answer ∙ ap (λ (x : Trace). outcomeOf (reasons (x .posts)) (length (x .posts)) (x .end)) core-is;
+      answer = l .answer ∙ ap traceNumbers core-is;
       starts = z ∙ ap (λ (zs : List ℤ). mirrorStarts (take (length zs) (before .durations)) zs) left-starts ∙ ap (λ (m : ℕ). mirrorStarts (take m (before .durations)) (mirroredRun ds es ls .starts)) (run-long ∙ count);
       post-words = l .post-words ∙ ap (postsAfter posts) core-is;
       atom-words = l .atom-words ∙ ap (atomsAfter atoms) core-is;
@@ -214,7 +209,7 @@ module _ (before : Propagator) (es ls : List ℤ) (postCount atomCount : ℕ) (a
 
     pub left-mirrored : postCount ≤ length posts → atomCount ≤ length atoms → {posts″ atoms″ : List ℤ} → Told ended posts″ atoms″ → LeftMirrored before es ls posts atoms r ls′ posts″ atoms″
     left-mirrored p q t = record {
-      answer = m .answer ∙ sym (same-answer ds (mirroredRun ds es ls));
+      answer = m .answer ∙ sym (same-numbers ds (mirroredRun ds es ls));
       starts = m .starts;
       post-words = t .post-words;
       atom-words = t .atom-words;
@@ -229,6 +224,3 @@ module _ (before : Propagator) (es ls : List ℤ) (postCount atomCount : ℕ) (a
       where
         squared : length (atomWords (atomsIn (mirroredRun ds es ls))) ≤ 6 * (n * n)
         squared = subst (λ (k : ℕ). length (atomWords (atomsIn (mirroredRun ds es ls))) ≤ 6 * (k * k)) count (laws.mirrored-atoms-fit ds es ls here es-long ls-long)
-
-  pub right : MirroredRight (tasksIn before es ls) (mirroredOf before es ls)
-  right = laws.mirrored-right ds es ls here es-long ls-long

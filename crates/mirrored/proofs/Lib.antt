@@ -1,3 +1,2 @@
 pub mod Endings
-pub mod ReasonsPass
 pub mod Many

@@ -10,7 +10,7 @@ use Rattle.integers.specs.Answers.{refusedBy}
 use Rattle.integers.specs.Limits.{TASKS}
 use Rattle.records.specs.declared.record.Propagator.{Propagator}
 use Rattle.input_refusals.proofs.Refused.{input-many}
-use Rattle.levels.specs.declared.outcome.Outcome.{Outcome}
+use Rattle.runs.specs.declared.outcome.Outcome.{Outcome}
 use Rattle.mirrored.specs.RanMirrored.{RanMirrored}
 
 pub too-many-mirrored : (before : Propagator) (es ls : List ℤ) (bars bars′ : Bool) (posts atoms : List ℤ) (r : Outcome) (ls′ posts′ atoms′ : List ℤ) → TASKS < length es

@@ -2,13 +2,14 @@
 use mathlib.Core.Path.{_≡_}
 use mathlib.Core.List.{List}
 use lib.IntN.{ℤ}
-use lib.ListN.{length, take}
+use lib.ListN.{take}
 use Rattle.runs.specs.Traces.{Trace}
-use Rattle.runs.specs.Words.{reasons, postsAfter, atomsAfter}
+use Rattle.runs.specs.Words.{postsAfter, atomsAfter}
 use Rattle.runs.specs.Mirrored.{mirrorStarts, mirroredRun}
 use Rattle.records.specs.declared.record.Propagator.{Propagator}
-use Rattle.levels.specs.declared.outcome.Outcome.{Outcome}
-use Rattle.levels.specs.Finding.{outcomeOf}
+use Rattle.runs.specs.declared.outcome.Outcome.{Outcome}
+use Rattle.runs.specs.Outcomes.{outcomeNumbers}
+use Rattle.runs.specs.EndNumbers.{traceNumbers}
 
 module _ (before : Propagator) (es ls : List ℤ) where
   -- the run in mirrored time, on the record's tasks
@@ -17,7 +18,7 @@ module _ (before : Propagator) (es ls : List ℤ) where
 
   -- It was run: its answer and its words, and in the caller's time the latest starts.
   pub record RanInMirror (posts atoms : List ℤ) (r : Outcome) (ls′ posts′ atoms′ : List ℤ) : Type 0 where
-    pub answer : r ≡ outcomeOf (reasons (inMirror .posts)) (length (inMirror .posts)) (inMirror .end)
+    pub answer : outcomeNumbers r ≡ traceNumbers inMirror
     pub starts : ls′ ≡ mirrorStarts (take (before .count) (before .durations)) (inMirror .starts)
     pub post-words : posts′ ≡ postsAfter posts inMirror
     pub atom-words : atoms′ ≡ atomsAfter atoms inMirror

@@ -1,11 +1,11 @@
 // The mirrored pass: latest starts fall by the mirrored rule. It is a run in mirrored time, where the caller's moment t is -t, told in the caller's time.
 use input_refusals::run_refusal;
 use integers::limits::TASKS;
-use levels::outcome::Outcome;
 use mirrored_words::mirrored_time::mirror_starts;
 use mirrored_words::mirrored_time::tell;
 use propagator::disjunctive_propagator::run_accepted;
 use records::record::Propagator;
+use runs::outcome::Outcome;
 ghost use lib.ListN.{length};
 ghost use Rattle.input_refusals.specs.Refusals.{Accepted};
 ghost use Rattle.mirrored.specs.RanInMirror.{RanInMirror};

@@ -18,7 +18,7 @@ use Rattle.scheduling.specs.Scheduling.{Atom}
 use Rattle.scheduling.specs.Words.{atomWords, no-atom}
 use Rattle.scheduling.specs.Mirroring.{mirrorStart, mirrorKind, mirrorAtom}
 use Rattle.scheduling.proofs.Words.{atoms-length}
-use Rattle.runs.specs.Traces.{Post, End, done, overload, emptied}
+use Rattle.runs.specs.Traces.{Post, End, done, emptied}
 use Rattle.runs.specs.Words.{postWords, reasons, endReason, atomsIn}
 use Rattle.runs.specs.Mirrored.{mirrorStarts, durationIn, mirrorPost}
 use Rattle.runs.specs.Demand.{consequentOf, no-post}
@@ -27,11 +27,10 @@ use Rattle.runs.proofs.Mirrored.{mirror-at, mirror-length, near-at, near-fits, 
 use Rattle.runs.specs.MirroredWords.{Near, postsTo, atomsTo}
 use Rattle.runs.proofs.Readers.{startOf, four-words, last-ends}
 use Rattle.post_words.specs.Posts.{taskAt, boundAt, variableAt, kindAt, valueAt, firstAtom, atomCount}
-use Rattle.levels.specs.declared.outcome.Outcome.{Outcome}
-use Rattle.levels.specs.declared.outcome.Outcome.the-variants as outcome
-use Rattle.levels.specs.Finding.{outcomeOf}
-use Rattle.levels.specs.Outcomes.{valueOf}
-use Rattle.levels.proofs.Answering.{posts-made}
+use Rattle.runs.specs.declared.outcome.Outcome.{Outcome}
+use Rattle.runs.specs.declared.outcome.Outcome.the-variants as outcome
+use Rattle.runs.specs.Outcomes.{outcomeNumbers, valueOf}
+use Rattle.runs.proofs.Answering.{not-refused, posts-made, kind-done, kind-emptied, kind-overload}
 use Rattle.mirrored_words.specs.Telling.{mirroredWord, Mirrorable, Durations, PostsHeld, AtomsHeld, Counted, Answered}
 
 -- Starts, filled in from the front -----------------------------------------------------------------------------------------------
@@ -194,27 +193,7 @@ last-counted {words} {count} c h = record {
     at : (i : ℕ) → i < 4 → getD words (4 * j + i) (pos 0) ≡ getD (postWords 0 (c .posts)) (4 * j + i) (pos 0)
     at i q = ap (λ (l : List ℤ). getD l (4 * j + i) (pos 0)) (c .words-are) ∙ List·getD-append (postWords 0 (c .posts)) (c .tail) (pos 0) (4 * j + i) (omega (arith, posts-length (c .posts) 0, inside))
 
--- an answer shows how many atoms follow those of the posts
-done-alone : (m : ℕ) (before : List Atom) (n : ℕ) (e : End) → outcome.Done m ≡ outcomeOf before n e → length (endReason e) ≡ 0
-done-alone m before n done z = refl
-done-alone m before n (overload r) z = let y : _≡_ {A = ℕ} 0 1 = cc in absurd (omega arith)
-done-alone m before n emptied z = refl
-
-emptied-alone : (m : ℕ) (before : List Atom) (n : ℕ) (e : End) → outcome.Emptied m ≡ outcomeOf before n e → length (endReason e) ≡ 0
-emptied-alone m before n done z = refl
-emptied-alone m before n (overload r) z = let y : _≡_ {A = ℕ} 0 1 = cc in absurd (omega arith)
-emptied-alone m before n emptied z = refl
-
-overload-after : (m first many : ℕ) (before : List Atom) (n : ℕ) (e : End) → outcome.Overload m first many ≡ outcomeOf before n e → (first ≡ length before) × (many ≡ length (endReason e))
-overload-after m first many before n done z = let y : _≡_ {A = ℕ} 0 1 = cc in absurd (omega arith)
-overload-after m first many before n (overload r) z = (cc, cc)
-overload-after m first many before n emptied z = let y : _≡_ {A = ℕ} 0 1 = cc in absurd (omega arith)
-
-pub no-refusal : (number : ℕ) (before : List Atom) (n : ℕ) (e : End) → outcome.Refused number ≡ outcomeOf before n e → ⊥
-no-refusal number before n done z = let y : _≡_ {A = ℕ} 0 1 = cc in omega arith
-no-refusal number before n (overload r) z = let y : _≡_ {A = ℕ} 0 1 = cc in omega arith
-no-refusal number before n emptied z = let y : _≡_ {A = ℕ} 0 1 = cc in omega arith
-
+-- An answer shows how many atoms follow those of the posts.
 module _ {r : Outcome} {words : List ℤ} (a : Answered r words) where
   abbrev ps : List Post
   ps = a .trace .posts
@@ -227,7 +206,7 @@ module _ {r : Outcome} {words : List ℤ} (a : Answered r words) where
 
   -- the posts that it tells of are counted
   pub many-posts : valueOf r 0 ≡ length ps
-  many-posts = ap (λ (o : Outcome). valueOf o 0) (a .answer) ∙ posts-made (reasons ps) (length ps) end
+  many-posts = posts-made r (a .trace) (a .answer)
 
   abbrev pub counted : (m : ℕ) → valueOf r 0 ≡ m → Counted words m
   counted m z = record {
@@ -240,11 +219,18 @@ module _ {r : Outcome} {words : List ℤ} (a : Answered r words) where
   }
 
   -- and its atoms are those of the posts, and those of an overload after them
+  alone : (e : End) → end ≡ e → length (endReason e) ≡ 0 → length (reasons ps) ≡ length (atomsIn (a .trace))
+  alone e z none = omega (arith, all-atoms, ap (λ (x : End). length (endReason x)) z)
+
   pub done-atoms : (m : ℕ) → r ≡ outcome.Done m → length (reasons ps) ≡ length (atomsIn (a .trace))
-  done-atoms m z = omega (arith, all-atoms, done-alone m (reasons ps) (length ps) end (sym z ∙ a .answer))
+  done-atoms m z = alone done (kind-done r (a .trace) (a .answer) .0 (ap (λ (o : Outcome). outcomeNumbers o .kind) z)) refl
 
   pub emptied-atoms : (m : ℕ) → r ≡ outcome.Emptied m → length (reasons ps) ≡ length (atomsIn (a .trace))
-  emptied-atoms m z = omega (arith, all-atoms, emptied-alone m (reasons ps) (length ps) end (sym z ∙ a .answer))
+  emptied-atoms m z = alone emptied (kind-emptied r (a .trace) (a .answer) .0 (ap (λ (o : Outcome). outcomeNumbers o .kind) z)) refl
 
   pub overload-atoms : (m first many : ℕ) → r ≡ outcome.Overload m first many → first + many ≡ length (atomsIn (a .trace))
-  overload-atoms m first many z = omega (arith, all-atoms, overload-after m first many (reasons ps) (length ps) end (sym z ∙ a .answer))
+  overload-atoms m first many z = let o = kind-overload r (a .trace) (a .answer) (ap (λ (o : Outcome). outcomeNumbers o .kind) z) in
+      omega (arith, all-atoms, o .first, o .count, ap (λ (x : End). length (endReason x)) (o .ended), ap (λ (o : Outcome). valueOf o 1) z, ap (λ (o : Outcome). valueOf o 2) z)
+
+  pub no-refusal : (number : ℕ) → r ≡ outcome.Refused number → ⊥
+  no-refusal number z = omega (arith, not-refused r (a .trace) (a .answer), ap (λ (o : Outcome). outcomeNumbers o .kind) z)

@@ -7,12 +7,12 @@ use native.Mathlib.Omega.{arith}
 use lib.IntN.{ℤ}
 use lib.ListN.{length, drop}
 use Rattle.scheduling.specs.Words.{atomWords}
-use Rattle.runs.specs.Words.{postWords, reasons, atomsIn}
+use Rattle.runs.specs.Words.{postWords, atomsIn}
 use Rattle.runs.proofs.Mirrored.{posts-after, atoms-after}
 use Rattle.runs.specs.MirroredWords.{postsTo, atomsTo}
-use Rattle.levels.specs.declared.outcome.Outcome.{Outcome}
-use Rattle.levels.specs.Outcomes.{valueOf}
-use Rattle.levels.proofs.Answering.{posts-made}
+use Rattle.runs.specs.declared.outcome.Outcome.{Outcome}
+use Rattle.runs.specs.Outcomes.{valueOf}
+use Rattle.runs.proofs.Answering.{posts-made}
 use Rattle.mirrored_words.specs.Telling.{PostsHeld, PostsTold, AtomsHeld, AtomsTold, Answered, Ended, Told}
 
 module _ {r : Outcome} {posts atoms : List ℤ} {array : List ℕ} (e : Ended r posts atoms array) where
@@ -20,7 +20,7 @@ module _ {r : Outcome} {posts atoms : List ℤ} {array : List ℕ} (e : Ended r 
   answered = record { trace = e .trace; old = e .old-posts; answer = e .answer; words-are = e .post-words; few = e .few; small = e .small }
 
   pub post-count : (m : ℕ) → m ≡ valueOf r 0 → m ≡ length (e .trace .posts)
-  post-count m z = z ∙ ap (λ (o : Outcome). valueOf o 0) (e .answer) ∙ posts-made (reasons (e .trace .posts)) (length (e .trace .posts)) (e .trace .end)
+  post-count m z = z ∙ posts-made r (e .trace) (e .answer)
 
   abbrev pub posts-held : (m : ℕ) → m ≡ length (e .trace .posts) → PostsHeld posts m array
   posts-held m z = record {

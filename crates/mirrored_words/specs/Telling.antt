@@ -16,8 +16,9 @@ use Rattle.runs.specs.Words.{postWords, reasons, postsAfter, atomsAfter, atomsI
 use Rattle.runs.specs.Mirrored.{mirrorTrace}
 use Rattle.runs.specs.Demand.{consequentOf, no-post, post}
 use Rattle.runs.specs.MirroredWords.{Near, postsTo, atomsTo}
-use Rattle.levels.specs.declared.outcome.Outcome.{Outcome}
-use Rattle.levels.specs.Finding.{outcomeOf}
+use Rattle.runs.specs.declared.outcome.Outcome.{Outcome}
+use Rattle.runs.specs.Outcomes.{outcomeNumbers}
+use Rattle.runs.specs.EndNumbers.{traceNumbers}
 
 -- The starts have a place each, and mirrored they are i32s.
 pub record Reflectable (out starts : List ℤ) (durations : List ℕ) : Type 0 where
@@ -86,7 +87,7 @@ pub record Counted (words : List ℤ) (count : ℕ) : Type 0 where
 pub record Answered (r : Outcome) (words : List ℤ) : Type 0 where
   pub trace : Trace
   pub old : List ℤ
-  pub answer : r ≡ outcomeOf (reasons (trace .posts)) (length (trace .posts)) (trace .end)
+  pub answer : outcomeNumbers r ≡ traceNumbers trace
   pub words-are : words ≡ postsAfter old trace
   pub few : length (trace .posts) ≤ TASKS
   pub small : length (atomsIn trace) ≤ ATOMS
@@ -98,7 +99,7 @@ pub record Ended (r : Outcome) (posts atoms : List ℤ) (array : List ℕ) : Typ
   pub old-posts : List ℤ
   pub old-atoms : List ℤ
   pub durations : Durations ds array
-  pub answer : r ≡ outcomeOf (reasons (trace .posts)) (length (trace .posts)) (trace .end)
+  pub answer : outcomeNumbers r ≡ traceNumbers trace
   pub post-words : posts ≡ postsAfter old-posts trace
   pub atom-words : atoms ≡ atomsAfter old-atoms trace
   pub posts-near : (j : ℕ) → j < length (trace .posts) → Near ds (consequentOf (post trace j))

@@ -2,7 +2,6 @@
 // What is public here is so for the crate of the mirrored pass, and is no open call: it tests nothing.
 use integers::limits::TASKS;
 use integers::nat_of;
-use levels::outcome::Outcome;
 use post_words::posts::atom_count;
 use post_words::posts::bound_at;
 use post_words::posts::first_atom;
@@ -10,6 +9,7 @@ use post_words::posts::kind_at;
 use post_words::posts::task_at;
 use post_words::posts::value_at;
 use post_words::posts::variable_at;
+use runs::outcome::Outcome;
 ghost use mathlib.Core.Path.{_≡_};
 ghost use Prim.Native.Nat.{_+_, _<_};
 ghost use lib.IntN.{pos, _-ℤ_};
@@ -20,7 +20,7 @@ ghost use mir.Val.{SFits};
 ghost use Rattle.scheduling.specs.Mirroring.{mirrorStart};
 ghost use Rattle.runs.specs.Words.{reasons, atomsIn};
 ghost use Rattle.runs.specs.Mirrored.{mirrorStarts};
-ghost use Rattle.levels.specs.Outcomes.{valueOf};
+ghost use Rattle.runs.specs.Outcomes.{valueOf};
 ghost use Rattle.mirrored_words.specs.Telling.{Reflectable, mirroredWord, Mirrorable, PostsHeld, PostsTold, AtomsHeld, AtomsTold, Counted, Answered, Ended, Told};
 
 // A start of a task that lasts p, in mirrored time; and back.

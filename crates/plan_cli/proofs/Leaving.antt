@@ -8,6 +8,7 @@ use Prim.Native.Nat.{ℕ, zero, suc, _+_, _*_, _≤_}
 use native.Mathlib.Omega.{arith}
 use lib.IntN.{ℤ}
 use lib.ListN.{length, take, drop, length-append}
+use Rattle.integers.specs.Answers.{refusedBy}
 use Rattle.integers.specs.Limits.{TASKS, ATOMS}
 use Rattle.integers.specs.Tests.{refusal}
 use Rattle.integers.proofs.Words.{overwritten-length}
@@ -24,10 +25,9 @@ use Rattle.records.specs.Records.{creationTests, creationNumber, newRecord, cre
 use Rattle.input_refusals.specs.Refusals.{runNumber}
 use Rattle.records.proofs.Apart.{created-as}
 use Rattle.records.proofs.Creation.{created-new}
-use Rattle.levels.specs.declared.outcome.Outcome.the-variants as outcome
-use Rattle.levels.proofs.Answering.{outcomes-apart}
 use Rattle.propagator.specs.declared.disjunctive_propagator.Run.{Run}
-use Rattle.propagator.specs.Ran.{traceOf, AcceptedRun, Ran}
+use Rattle.propagator.specs.Ran.{traceOf, Left, Ran}
+use Rattle.propagator.proofs.Handing.{handed}
 use Rattle.plan_cli.specs.RunSlices.{ShowsRun, Shown}
 use Rattle.plan_cli.specs.Printed.{numbered, ranOn, planned}
 
@@ -37,10 +37,9 @@ module _ (r : Propagator) (es ls : List ℤ) where
   tr = traceOf r es ls
 
   module _ (p₀ a₀ : List ℤ) (room-p : length p₀ ≡ 4 * TASKS) (room-a : length a₀ ≡ 3 * ATOMS) (ran : Run) (es′ posts atoms : List ℤ) where
-    left-shows : length es′ ≤ TASKS → AcceptedRun r es ls p₀ a₀ (ran .outcome) (ran .changes) es′ posts atoms → ShowsRun tr (ran .outcome) posts atoms es′
-    left-shows few a =
-        let l = a .left in
-        let h = a .handed in
+    left-shows : length es′ ≤ TASKS → Left r es ls p₀ a₀ (ran .outcome) (ran .changes) es′ posts atoms → ShowsRun tr (ran .outcome) posts atoms es′
+    left-shows few l =
+        let h = handed tr p₀ a₀ (l .post-words) (l .atom-words) in
         let few-posts : length (tr .posts) ≤ TASKS = omega (arith, l .posts-fit, posts-length (tr .posts) 0, room-p) in
         let few-atoms : length (reasons (tr .posts)) + length (endReason (tr .end)) ≤ ATOMS = omega (arith, l .atoms-fit, atoms-length (reasons (tr .posts) ++ endReason (tr .end)), length-append (reasons (tr .posts)) (endReason (tr .end)), room-a) in
         let long-p : length posts ≡ 4 * TASKS = ap length (l .post-words) ∙ overwritten-length p₀ (postWords 0 (tr .posts)) (l .posts-fit) ∙ room-p in
@@ -62,7 +61,7 @@ module _ (r : Propagator) (es ls : List ℤ) where
       where
         by : (k : ℕ) → runNumber r es ls true (length p₀) (length a₀) ≡ k → Shown (numbered k (inr tr)) (ran .outcome) posts atoms es′
         by zero z = left-shows few (w .accepted z)
-        by (suc k) z = outcomes-apart (ran .outcome) (outcome.Refused (runNumber r es ls true (length p₀) (length a₀))) (w .refused (λ y. omega (arith, y, z)) .answer) ∙ ap outcome.Refused z
+        by (suc k) z = w .refused (λ y. omega (arith, y, z)) .answer ∙ ap refusedBy z
 
 -- ---- creation before it
 module _ (es ls ds : List ℤ) (r : Created) (creates : Creates ds r) where

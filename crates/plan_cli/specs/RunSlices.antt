@@ -5,15 +5,16 @@ use mathlib.Core.Logic.{_⊎_, inl, inr}
 use Prim.Native.Nat.{ℕ, _+_, _*_, _≤_, _<_}
 use lib.IntN.{ℤ, pos}
 use lib.ListN.{length, getD, take, drop}
+use Rattle.integers.specs.Answers.{refusedBy}
 use Rattle.integers.specs.Limits.{TASKS, ATOMS}
 use Rattle.scheduling.specs.Words.{atomWords}
 use Rattle.runs.specs.Traces.{Post, Trace}
 use Rattle.runs.specs.Demand.{no-post}
 use Rattle.runs.specs.Words.{reasons, endReason}
 use Rattle.post_words.specs.Posts.{taskWord, boundOf, reasonWords}
-use Rattle.levels.specs.Finding.{outcomeOf}
-use Rattle.levels.specs.declared.outcome.Outcome.{Outcome}
-use Rattle.levels.specs.declared.outcome.Outcome.the-variants as outcome
+use Rattle.runs.specs.declared.outcome.Outcome.{Outcome}
+use Rattle.runs.specs.Outcomes.{outcomeNumbers}
+use Rattle.runs.specs.EndNumbers.{traceNumbers}
 
 -- bytes for TASKS posts of at most 44, ATOMS atoms of at most 33, and a last line of at most 581
 abbrev pub ROOM : ℕ
@@ -39,7 +40,7 @@ pub record Posts (posts atoms : List ℤ) (count room : ℕ) : Type 0 where
 
 -- The outcome and the slices show the run with trace t, which is not longer than any run of TASKS tasks.
 pub record ShowsRun (t : Trace) (r : Outcome) (posts atoms starts : List ℤ) : Type 0 where
-  pub answer : r ≡ outcomeOf (reasons (t .posts)) (length (t .posts)) (t .end)
+  pub answer : outcomeNumbers r ≡ traceNumbers t
   pub starts-are : starts ≡ t .starts
   pub holds : Holds (t .posts) posts atoms (length (t .posts))
   pub end-inside : 3 * length (reasons (t .posts)) + 3 * length (endReason (t .end)) ≤ length atoms
@@ -50,7 +51,7 @@ pub record ShowsRun (t : Trace) (r : Outcome) (posts atoms starts : List ℤ) : 
 
 -- A number that refused a run, or a run.
 abbrev pub Shown : ℕ ⊎ Trace → Outcome → List ℤ → List ℤ → List ℤ → Type 0
-Shown (inl number) r posts atoms starts = r ≡ outcome.Refused number
+Shown (inl number) r posts atoms starts = outcomeNumbers r ≡ refusedBy number
 Shown (inr t) r posts atoms starts = ShowsRun t r posts atoms starts
 
 -- One of them is shown, and the buffer has room for it.

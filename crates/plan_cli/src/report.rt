@@ -1,6 +1,5 @@
 // A run's report: its posts with their reasons, and how it ended.
 use decimals::writing::put_bytes;
-use levels::outcome::Outcome;
 use plan_text::lines::put_post;
 use plan_text::lines::put_reason;
 use plan_text::lines::put_refused;
@@ -9,6 +8,7 @@ use post_words::posts::bound_word;
 use post_words::posts::post_reason;
 use post_words::posts::stretch;
 use post_words::posts::task_word;
+use runs::outcome::Outcome;
 ghost use Prim.Native.Nat.{ℕ, _+_, _*_, _≤_};
 ghost use mathlib.Core.Path.{_≡_};
 ghost use mathlib.Core.List.{List};

@@ -7,8 +7,8 @@ use native.Mathlib.Decide.{ℕ-discrete}
 use lib.IntN.{pos, natAbs}
 use lib.ListN.{getD}
 use Rattle.integers.specs.Answers.{Answer, refusedBy}
-use Rattle.levels.specs.declared.outcome.Outcome.{Outcome}
-use Rattle.levels.specs.Outcomes.{outcomeNumbers, valueOf}
+use Rattle.runs.specs.declared.outcome.Outcome.{Outcome}
+use Rattle.runs.specs.Outcomes.{outcomeNumbers, valueOf}
 
 module _ (answer : Outcome) (number : ℕ) (refused : (number ≡ 0 → ⊥) → outcomeNumbers answer ≡ refusedBy number) where
   pub by-kind : outcomeNumbers answer .kind < 3 → number ≡ 0

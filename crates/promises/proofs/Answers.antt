@@ -2,7 +2,7 @@
 -- Assumes nothing.
 use mathlib.Core.Path.{_≡_, sym, ap, subst, _∙_}
 use mathlib.Core.List.{List}
-use mathlib.Core.Logic.{_↔_, ⊎-elim}
+use mathlib.Core.Logic.{⊎-elim}
 use Prim.Native.Nat.{ℕ, _+_, _*_, _≤_, _<_}
 use native.Mathlib.Omega.{arith}
 use lib.Dec.{eqb}
@@ -12,33 +12,23 @@ use borrow.Author.Tests.{eqb-true, eqb-false}
 use Rattle.integers.proofs.Bools.{bool}
 use Rattle.scheduling.specs.Words.{atomWords}
 use Rattle.runs.specs.Traces.{Trace, done}
-use Rattle.runs.specs.Words.{reasons}
 use Rattle.runs.specs.Demand.{post}
 use Rattle.atoms.specs.Atoms.{atomsOf}
 use Rattle.atoms.proofs.Atoms.{atoms-words}
 use Rattle.post_words.specs.Posts.{taskWord, taskOf, boundOf, postNumber, reasonWords}
-use Rattle.levels.specs.declared.outcome.Outcome.{Outcome}
-use Rattle.levels.specs.Finding.{outcomeOf}
-use Rattle.levels.specs.Outcomes.{outcomeNumbers, valueOf}
-use Rattle.levels.proofs.Answering.{Overloaded, not-refused, posts-made, kind-done, kind-overload}
-use Rattle.propagator.specs.Ran.{Handed}
+use Rattle.runs.specs.declared.outcome.Outcome.{Outcome}
+use Rattle.runs.specs.Outcomes.{outcomeNumbers, valueOf}
+use Rattle.runs.specs.EndNumbers.{traceNumbers}
+use Rattle.runs.proofs.Answering.{posts-made, kind-done, kind-overload}
+use Rattle.propagator.proofs.Handing.{Handed}
 use Rattle.promises.specs.Promise.{reasonOf, overloadOf}
 
-module _ (t : Trace) (answer : Outcome) (is : answer ≡ outcomeOf (reasons (t .posts)) (length (t .posts)) (t .end)) where
-  pub ends : outcomeNumbers answer .kind < 3
-  ends = subst (λ (o : Outcome). outcomeNumbers o .kind < 3) (sym is) (not-refused (reasons (t .posts)) (length (t .posts)) (t .end))
-
-  pub made : valueOf answer 0 ≡ length (t .posts)
-  made = ap (λ (o : Outcome). valueOf o 0) is ∙ posts-made (reasons (t .posts)) (length (t .posts)) (t .end)
-
-  pub is-done : outcomeNumbers answer .kind ≡ 0 ↔ t .end ≡ done
-  is-done = subst (λ (o : Outcome). outcomeNumbers o .kind ≡ 0 ↔ t .end ≡ done) (sym is) (kind-done (reasons (t .posts)) (length (t .posts)) (t .end))
+module _ (t : Trace) (answer : Outcome) (is : outcomeNumbers answer ≡ traceNumbers t) where
+  made : valueOf answer 0 ≡ length (t .posts)
+  made = posts-made answer t is
 
   pub done-or : {X : Type 0} → (t .end ≡ done → X) → ((t .end ≡ done → ⊥) → X) → X
-  done-or f g = ⊎-elim (λ y. f (is-done .0 (eqb-true _ 0 y))) (λ y. g (λ e. eqb-false _ 0 y (is-done .1 e))) (bool (eqb (outcomeNumbers answer .kind) 0))
-
-  pub overloaded : outcomeNumbers answer .kind ≡ 1 → Overloaded (reasons (t .posts)) answer (t .end)
-  overloaded = subst (λ (o : Outcome). outcomeNumbers o .kind ≡ 1 → Overloaded (reasons (t .posts)) o (t .end)) (sym is) (kind-overload (reasons (t .posts)) (length (t .posts)) (t .end))
+  done-or f g = ⊎-elim (λ y. f (kind-done answer t is .0 (eqb-true _ 0 y))) (λ y. g (λ e. eqb-false _ 0 y (kind-done answer t is .1 e))) (bool (eqb (outcomeNumbers answer .kind) 0))
 
   module _ (posts atoms : List ℤ) (handed : Handed t posts atoms) where
     -- post j: its place in the trace; the reader takes it; its words and its reason are the trace's, and what is true of the trace's post is true of them
@@ -72,13 +62,13 @@ module _ (t : Trace) (answer : Outcome) (is : answer ≡ outcomeOf (reasons (t .
     -- an overload's reason
     module _ (k : outcomeNumbers answer .kind ≡ 1) where
       pub inside : 3 * valueOf answer 1 + 3 * valueOf answer 2 ≤ length atoms
-      inside = let o = overloaded k in omega (arith, o .first, o .count, handed .overloads (o .reason) (o .ended) .inside)
+      inside = let o = kind-overload answer t is k in omega (arith, o .first, o .count, handed .overloads (o .reason) (o .ended) .inside)
 
-      pub overload-words : overloadOf answer atoms ≡ atomWords (overloaded k .reason)
+      pub overload-words : overloadOf answer atoms ≡ atomWords (kind-overload answer t is k .reason)
       overload-words =
-          let o = overloaded k in
+          let o = kind-overload answer t is k in
           ap (λ (n : ℕ). take (3 * n) (drop (3 * valueOf answer 1) atoms)) (o .count)
           ∙ ap (λ (n : ℕ). take (3 * length (o .reason)) (drop (3 * n) atoms)) (o .first) ∙ handed .overloads (o .reason) (o .ended) .words
 
-      pub overload-atoms : atomsOf (overloadOf answer atoms) ≡ overloaded k .reason
-      overload-atoms = ap atomsOf overload-words ∙ atoms-words (overloaded k .reason)
+      pub overload-atoms : atomsOf (overloadOf answer atoms) ≡ kind-overload answer t is k .reason
+      overload-atoms = ap atomsOf overload-words ∙ atoms-words (kind-overload answer t is k .reason)

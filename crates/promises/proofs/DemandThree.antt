@@ -1,6 +1,6 @@
 -- The open run's contract says every sentence of demand 3, and the check's that a passed check is right.
 -- Assumes nothing.
-use mathlib.Core.Path.{_≡_, ap, subst, _∙_}
+use mathlib.Core.Path.{_≡_, subst, _∙_}
 use mathlib.Core.Logic.{_⊎_, inl, inr, ⊎-elim, _↔_}
 use mathlib.Core.List.{List}
 use mathlib.Core.Option.{Option}
@@ -14,10 +14,9 @@ use Rattle.scheduling.specs.Scheduling.{whole, Tasks, TaskSet, Largest, Overloa
 use Rattle.post_words.specs.Posts.{taskOf, boundOf}
 use Rattle.records.specs.declared.record.Propagator.{Propagator}
 use Rattle.checker.specs.declared.checker.Verdict.{Verdict}
-use Rattle.checker.specs.Verdicts.{verdictNumbers}
 use Rattle.checker.specs.Checks.{Checked}
-use Rattle.levels.specs.declared.outcome.Outcome.{Outcome}
-use Rattle.levels.specs.Outcomes.{outcomeNumbers, valueOf}
+use Rattle.runs.specs.declared.outcome.Outcome.{Outcome}
+use Rattle.runs.specs.Outcomes.{outcomeNumbers, valueOf}
 use Rattle.barred_starts.specs.declared.range.Range.{Range}
 use Rattle.barred_starts.specs.Permitted.{FirstPermitted}
 use Rattle.barred_starts.specs.Ranges.{earliests, anyRange}
@@ -59,7 +58,7 @@ module _ (before : Propagator) (ranges : List Range) (answer : Outcome) (ranges�
       )
 
   good : (words : List ℤ) (consequent : Option Atom) → Reason before ranges answer ranges′ posts atoms words consequent → GoodReason before ranges words consequent
-  good words consequent r = record { holds = r .holds; passes = λ v checked. ap verdictNumbers (checked .answer ∙ r .passes) }
+  good words consequent r = record { holds = r .holds; passes = λ v checked. checked .answer ∙ r .passes }
 
   said : DemandThree before ranges answer ranges′ posts atoms
   said = record {

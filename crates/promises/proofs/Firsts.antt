@@ -1,6 +1,6 @@
 -- Starts that a call gives between the ends of their ranges are stored at the first permitted ones from there on, and latest starts at the last ones up to there.
 -- Assumes nothing.
-use mathlib.Core.Path.{_≡_, sym, subst}
+use mathlib.Core.Path.{_≡_, sym, ap, subst, _∙_}
 use mathlib.Core.Bool.{true}
 use mathlib.Core.List.{List, [], _∷_}
 use Prim.Native.Nat.{ℕ, zero, suc, _≤_, _<_}
@@ -13,10 +13,11 @@ use Rattle.records.specs.declared.record.Propagator.{Propagator}
 use Rattle.input_refusals.specs.Refusals.{Accepted, CountsFit}
 use Rattle.barred_starts.specs.declared.range.Range.{Range}
 use Rattle.barred_starts.specs.Bars.{allBarsFit}
+use Rattle.barred_starts.specs.Moves.{storedStart, storedLatest}
 use Rattle.barred_starts.specs.Permitted.{FirstPermitted, LastPermitted}
 use Rattle.barred_starts.specs.Ranges.{earliests, latests, anyRange, withStarts, withLatests}
 use Rattle.barred_starts.proofs.Fits.{all-fit}
-use Rattle.barred_starts.proofs.Moving.{first-permitted, last-permitted}
+use Rattle.barred_starts.proofs.Moving.{own-start, own-latest, first-permitted, last-permitted}
 use Rattle.barred_starts.proofs.Storing.{start-at, latest-at}
 use Rattle.promises.specs.Promise.{tasksLent}
 
@@ -44,21 +45,29 @@ module _ (before : Propagator) (ranges : List Range) where
   latest-is : (k : ℕ) → getD ranges k anyRange .latest ≡ J .latest k
   latest-is k = sym (List·getD-map (λ (y : Range). y .latest) ranges k anyRange)
 
-  module _ (zs : List ℤ) (counts : CountsFit (before .count) (earliests ranges) (latests ranges)) (fit : allBarsFit ranges ≡ true) (size : length zs ≡ length ranges) (k : ℕ) (q : k < J .count)
-      (between : (J .earliest k ≤ℤ getD zs k (pos 0)) × (getD zs k (pos 0) ≤ℤ J .latest k)) where
+  module _ (zs : List ℤ) (counts : CountsFit (before .count) (earliests ranges) (latests ranges)) (size : length zs ≡ length ranges) (k : ℕ) (q : k < J .count) where
     inside : k < length ranges
     inside = omega (arith, few k q, counts .earliest, length-map ranges (λ (y : Range). y .earliest))
 
-    from : getD ranges k anyRange .earliest ≤ℤ getD zs k (pos 0)
-    from = subst (λ (e : ℤ). e ≤ℤ getD zs k (pos 0)) (sym (earliest-is k)) (between .0)
+    -- a start that is the old one stays, permitted or not
+    pub stayed : getD zs k (pos 0) ≡ J .earliest k → getD (earliests (withStarts ranges zs)) k (pos 0) ≡ J .earliest k
+    stayed e = start-at ranges zs k inside (omega (arith, inside, size)) ∙ ap (storedStart (getD ranges k anyRange)) (e ∙ sym (earliest-is k)) ∙ own-start (getD ranges k anyRange) ∙ earliest-is k
 
-    to : getD zs k (pos 0) ≤ℤ getD ranges k anyRange .latest
-    to = subst (λ (l : ℤ). getD zs k (pos 0) ≤ℤ l) (sym (latest-is k)) (between .1)
+    pub latest-stayed : getD zs k (pos 0) ≡ J .latest k → getD (latests (withLatests ranges zs)) k (pos 0) ≡ J .latest k
+    latest-stayed e = latest-at ranges zs k inside (omega (arith, inside, size)) ∙ ap (storedLatest (getD ranges k anyRange)) (e ∙ sym (latest-is k)) ∙ own-latest (getD ranges k anyRange) ∙ latest-is k
 
-    pub moved-on : FirstPermitted (getD ranges k anyRange) (getD zs k (pos 0)) (getD (earliests (withStarts ranges zs)) k (pos 0))
-    moved-on = subst (FirstPermitted (getD ranges k anyRange) (getD zs k (pos 0))) (sym (start-at ranges zs k inside (omega (arith, inside, size))))
-        (first-permitted (getD ranges k anyRange) (all-fit ranges fit k inside) (getD zs k (pos 0)) from to)
+    -- one in its range moves
+    module _ (fit : allBarsFit ranges ≡ true) (between : (J .earliest k ≤ℤ getD zs k (pos 0)) × (getD zs k (pos 0) ≤ℤ J .latest k)) where
+      from : getD ranges k anyRange .earliest ≤ℤ getD zs k (pos 0)
+      from = subst (λ (e : ℤ). e ≤ℤ getD zs k (pos 0)) (sym (earliest-is k)) (between .0)
 
-    pub moved-back : LastPermitted (getD ranges k anyRange) (getD zs k (pos 0)) (getD (latests (withLatests ranges zs)) k (pos 0))
-    moved-back = subst (LastPermitted (getD ranges k anyRange) (getD zs k (pos 0))) (sym (latest-at ranges zs k inside (omega (arith, inside, size))))
-        (last-permitted (getD ranges k anyRange) (all-fit ranges fit k inside) (getD zs k (pos 0)) from to)
+      to : getD zs k (pos 0) ≤ℤ getD ranges k anyRange .latest
+      to = subst (λ (l : ℤ). getD zs k (pos 0) ≤ℤ l) (sym (latest-is k)) (between .1)
+
+      pub moved-on : FirstPermitted (getD ranges k anyRange) (getD zs k (pos 0)) (getD (earliests (withStarts ranges zs)) k (pos 0))
+      moved-on = subst (FirstPermitted (getD ranges k anyRange) (getD zs k (pos 0))) (sym (start-at ranges zs k inside (omega (arith, inside, size))))
+          (first-permitted (getD ranges k anyRange) (all-fit ranges fit k inside) (getD zs k (pos 0)) from to)
+
+      pub moved-back : LastPermitted (getD ranges k anyRange) (getD zs k (pos 0)) (getD (latests (withLatests ranges zs)) k (pos 0))
+      moved-back = subst (LastPermitted (getD ranges k anyRange) (getD zs k (pos 0))) (sym (latest-at ranges zs k inside (omega (arith, inside, size))))
+          (last-permitted (getD ranges k anyRange) (all-fit ranges fit k inside) (getD zs k (pos 0)) from to)

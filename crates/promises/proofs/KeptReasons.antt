@@ -1,7 +1,7 @@
 -- A reason that was kept stays true, whatever the ranges are later: a post's, and an overload's, of a run and of a mirrored pass.
 -- Assumes nothing.
 use mathlib.Core.Path.{_≡_, sym, subst}
-use mathlib.Core.List.{List, map}
+use mathlib.Core.List.{List, [], map}
 use mathlib.Core.Logic.{inl, inr, ⊎-elim}
 use mathlib.Core.Option.{Option, some, none}
 use Prim.Native.Nat.{ℕ, zero, suc, _<_}
@@ -9,20 +9,26 @@ use native.Mathlib.Omega.{arith}
 use lib.IntN.{ℤ, pos, _+ℤ_}
 use lib.ListN.{take}
 use lib.Signed.{_≤ℤ_}
+use Rattle.integers.specs.Answers.{answered}
 use Rattle.integers.proofs.Ints.{ints, ≤ℤ-cases, equalℤ}
 use Rattle.scheduling.specs.Scheduling.{whole, Tasks, NoOverlap, Atom, Compares, Unmet, Contradicts}
 use Rattle.atoms.specs.Atoms.{atomsOf, consequentOf}
 use Rattle.atoms.proofs.Atoms.{every-map}
 use Rattle.records.specs.declared.record.Propagator.{Propagator}
 use Rattle.records.proofs.Creation.{natural-count, natural-duration}
-use Rattle.checker.specs.Checks.{consequentWords, tasksWith}
+use Rattle.checker.specs.declared.checker.Verdict.the-variants.{Passed}
+use Rattle.checker.specs.Verdicts.{verdictNumbers}
+use Rattle.checker.specs.Checks.{checkOf, consequentWords, tasksWith}
+use Rattle.checker.specs.MirroredChecks.{checkMirroredOf}
+use Rattle.checker.proofs.Apart.{verdicts-apart}
 use Rattle.checker.proofs.Reasons.{consequent-back}
 use Rattle.checker.proofs.Soundness.{check-sound, mirrored-sound}
-use Rattle.levels.specs.declared.outcome.Outcome.{Outcome}
-use Rattle.levels.specs.Outcomes.{outcomeNumbers, valueOf}
+use Rattle.runs.specs.declared.outcome.Outcome.{Outcome}
+use Rattle.runs.specs.Outcomes.{outcomeNumbers, valueOf}
 use Rattle.barred_starts.specs.declared.range.Range.{Range}
 use Rattle.promises.specs.Promise.{tasksLent, reasonOf, overloadOf}
-use Rattle.promises.specs.RanLent.{lentNumber, RanLent, RanMirroredLent}
+use Rattle.promises.specs.RanLent.{lentNumber, RanLent}
+use Rattle.promises.specs.RanMirroredLent.{RanMirroredLent}
 use Rattle.promises.specs.Planner.{says, saysMirrored, Follows, StaysTrue}
 use Rattle.promises.proofs.AcceptedCalls.{by-kind, by-post}
 
@@ -57,18 +63,25 @@ module _ (before : Propagator) (words : List ℤ) (consequent : Option Atom) whe
     consequent-not = subst (Unmet s) (sym (consequent-back consequent)) u;
   }))
 
+-- a check whose numbers are those of Passed
+passed-sound : (ds ps cs : List ℤ) → verdictNumbers (checkOf ds ps cs) ≡ answered 0 [] → (s : ℕ → ℤ) → Contradicts (tasksWith ds) (atomsOf ps) (consequentOf cs) s → ⊥
+passed-sound ds ps cs e = check-sound ds ps cs (verdicts-apart (checkOf ds ps cs) Passed e)
+
+passed-mirrored : (ds ps cs : List ℤ) → verdictNumbers (checkMirroredOf ds ps cs) ≡ answered 0 [] → (s : ℕ → ℤ) → Contradicts (tasksWith ds) (atomsOf ps) (consequentOf cs) s → ⊥
+passed-mirrored ds ps cs e = mirrored-sound ds ps cs (verdicts-apart (checkMirroredOf ds ps cs) Passed e)
+
 -- ---- a run
 module _ (before : Propagator) (ranges : List Range) (posts atoms : List ℤ) (answer : Outcome) (changed : ℕ) (after : Propagator) (ranges′ : List Range) (posts′ atoms′ : List ℤ)
     (ran : RanLent before ranges posts atoms answer changed after ranges′ posts′ atoms′) where
   pub post-stays : (j : ℕ) → j < valueOf answer 0 → StaysTrue before (reasonOf answer posts′ atoms′ j) (some (says posts′ j))
   post-stays j q =
       let z = by-post answer (lentNumber before ranges posts atoms) (λ n. ran .refused n .number) j q in
-      uncontradicted before _ (some (says posts′ j)) (check-sound _ _ _ (ran .accepted z .promise .every-post j q .reason .passes))
+      uncontradicted before _ (some (says posts′ j)) (passed-sound _ _ _ (ran .accepted z .promise .every-post j q .reason .passes))
 
   pub overload-stays : outcomeNumbers answer .kind ≡ 1 → StaysTrue before (overloadOf answer atoms′) none
   overload-stays k =
       let z = by-kind answer (lentNumber before ranges posts atoms) (λ n. ran .refused n .number) (omega arith) in
-      uncontradicted before _ none (check-sound _ _ _ (ran .accepted z .promise .overload k .reason .passes))
+      uncontradicted before _ none (passed-sound _ _ _ (ran .accepted z .promise .overload k .reason .passes))
 
 -- ---- a mirrored pass
 module _ (before : Propagator) (ranges : List Range) (posts atoms : List ℤ) (answer : Outcome) (ranges′ : List Range) (posts′ atoms′ : List ℤ)
@@ -76,9 +89,9 @@ module _ (before : Propagator) (ranges : List Range) (posts atoms : List ℤ) (a
   pub mirrored-post-stays : (j : ℕ) → j < valueOf answer 0 → StaysTrue before (reasonOf answer posts′ atoms′ j) (some (saysMirrored posts′ j))
   mirrored-post-stays j q =
       let z = by-post answer (lentNumber before ranges posts atoms) (λ n. ran .refused n .number) j q in
-      uncontradicted before _ (some (saysMirrored posts′ j)) (mirrored-sound _ _ _ (ran .accepted z .promise .every-post j q .reason .passes))
+      uncontradicted before _ (some (saysMirrored posts′ j)) (passed-mirrored _ _ _ (ran .accepted z .promise .every-post j q .reason .passes))
 
   pub mirrored-overload-stays : outcomeNumbers answer .kind ≡ 1 → StaysTrue before (overloadOf answer atoms′) none
   mirrored-overload-stays k =
       let z = by-kind answer (lentNumber before ranges posts atoms) (λ n. ran .refused n .number) (omega arith) in
-      uncontradicted before _ none (mirrored-sound _ _ _ (ran .accepted z .promise .overload k .reason .passes))
+      uncontradicted before _ none (passed-mirrored _ _ _ (ran .accepted z .promise .overload k .reason .passes))

@@ -7,14 +7,15 @@ use lib.IntN.{ℤ}
 use lib.ListN.{length}
 use Rattle.records.specs.declared.record.Propagator.{Propagator}
 use Rattle.input_refusals.proofs.Refused.{accepted-run}
-use Rattle.levels.specs.declared.outcome.Outcome.{Outcome}
+use Rattle.runs.specs.declared.outcome.Outcome.{Outcome}
 use Rattle.propagator.specs.Ran.{Left, Ran}
 use Rattle.mirrored.specs.RanMirrored.{LeftMirrored, RanMirrored}
 use Rattle.barred_starts.specs.declared.range.Range.{Range}
 use Rattle.barred_starts.specs.Bars.{allBarsFit}
 use Rattle.barred_starts.specs.Ranges.{earliests, latests, withStarts, withLatests}
 use Rattle.barred_starts.proofs.Storing.{own-starts, own-latests}
-use Rattle.promises.specs.RanLent.{RanLent, RanMirroredLent}
+use Rattle.promises.specs.RanLent.{RanLent}
+use Rattle.promises.specs.RanMirroredLent.{RanMirroredLent}
 use Rattle.promises.proofs.Promising.{promised}
 use Rattle.promises.proofs.MirroredPromising.{promised as promised-mirrored}
 
@@ -25,8 +26,8 @@ lent before ys posts atoms answer changed after es′ posts′ atoms′ size ran
   refused = λ n. (let k = ran .refused n in record { number = k .answer; no-changes = k .changes; same-ranges = ap (withStarts ys) (k .starts) ∙ own-starts ys; same-posts = k .post-words; same-atoms = k .atom-words });
   accepted = λ z. (let (ok, fit) = accepted-run before (earliests ys) (latests ys) (allBarsFit ys) (length posts) (length atoms) .0 z in let a = ran .accepted z in record {
     promise = promised before ys posts atoms es′ posts′ atoms′ answer ok fit size a;
-    left = subst (λ (es : List ℤ). Left before (earliests ys) (latests ys) posts atoms answer changed es posts′ atoms′) (a .left .starts) (a .left);
-    stored = ap (withStarts ys) (a .left .starts);
+    left = subst (λ (es : List ℤ). Left before (earliests ys) (latests ys) posts atoms answer changed es posts′ atoms′) (a .starts) a;
+    stored = ap (withStarts ys) (a .starts);
   });
 }
 
@@ -36,7 +37,7 @@ lent-mirrored before ys posts atoms answer ls′ posts′ atoms′ size ran = re
   refused = λ n. (let k = ran .refused n in record { number = k .answer; same-ranges = ap (withLatests ys) (k .starts) ∙ own-latests ys; same-posts = k .post-words; same-atoms = k .atom-words });
   accepted = λ z. (let (ok, fit) = accepted-run before (earliests ys) (latests ys) (allBarsFit ys) (length posts) (length atoms) .0 z in let a = ran .accepted z in record {
     promise = promised-mirrored before ys posts atoms ls′ posts′ atoms′ answer ok fit size a;
-    left = subst (λ (ls : List ℤ). LeftMirrored before (earliests ys) (latests ys) posts atoms answer ls posts′ atoms′) (a .left .starts) (a .left);
-    stored = ap (withLatests ys) (a .left .starts);
+    left = subst (λ (ls : List ℤ). LeftMirrored before (earliests ys) (latests ys) posts atoms answer ls posts′ atoms′) (a .starts) a;
+    stored = ap (withLatests ys) (a .starts);
   });
 }

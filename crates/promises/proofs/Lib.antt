@@ -1,6 +1,8 @@
 pub mod Answers
 pub mod Largest
 pub mod Firsts
+pub mod ReasonsPass
+pub mod MirroredReasonsPass
 pub mod Promising
 pub mod MirroredPromising
 pub mod Lent

@@ -1,6 +1,6 @@
 -- The open mirrored pass's contract says every sentence of demand 3, turned to latest starts.
 -- Assumes nothing.
-use mathlib.Core.Path.{_≡_, ap, subst, _∙_}
+use mathlib.Core.Path.{_≡_, subst, _∙_}
 use mathlib.Core.Logic.{_⊎_, inl, inr, ⊎-elim, _↔_}
 use mathlib.Core.List.{List}
 use mathlib.Core.Option.{Option}
@@ -15,16 +15,16 @@ use Rattle.scheduling.specs.Mirroring.{MirroredBound}
 use Rattle.post_words.specs.Posts.{taskOf, boundOf}
 use Rattle.records.specs.declared.record.Propagator.{Propagator}
 use Rattle.checker.specs.declared.checker.Verdict.{Verdict}
-use Rattle.checker.specs.Verdicts.{verdictNumbers}
 use Rattle.checker.specs.MirroredChecks.{CheckedMirrored}
-use Rattle.levels.specs.declared.outcome.Outcome.{Outcome}
-use Rattle.levels.specs.Outcomes.{outcomeNumbers, valueOf}
+use Rattle.runs.specs.declared.outcome.Outcome.{Outcome}
+use Rattle.runs.specs.Outcomes.{outcomeNumbers, valueOf}
 use Rattle.barred_starts.specs.declared.range.Range.{Range}
 use Rattle.barred_starts.specs.Permitted.{LastPermitted}
 use Rattle.barred_starts.specs.Ranges.{latests, anyRange}
 use Rattle.promises.specs.Promise.{tasksLent}
 use Rattle.promises.specs.MirroredPromise.{MirroredReason, MirroredPromise}
-use Rattle.promises.specs.RanLent.{lentNumber, RanMirroredLent}
+use Rattle.promises.specs.RanLent.{lentNumber}
+use Rattle.promises.specs.RanMirroredLent.{RanMirroredLent}
 use Rattle.promises.specs.DemandThree.{PassedMeans, NothingAltered}
 use Rattle.promises.specs.MirroredDemand.{GoodMirroredReason, MirroredDemand}
 
@@ -62,7 +62,7 @@ module _ (before : Propagator) (ranges : List Range) (answer : Outcome) (ranges�
       )
 
   good : (words : List ℤ) (consequent : Option Atom) → MirroredReason before ranges answer ranges′ posts atoms words consequent → GoodMirroredReason before ranges words consequent
-  good words consequent r = record { holds = r .holds; formula = r .formula; passes = λ v checked. ap verdictNumbers (checked .answer ∙ r .passes) }
+  good words consequent r = record { holds = r .holds; formula = r .formula; passes = λ v checked. checked .answer ∙ r .passes }
 
   said : MirroredDemand before ranges answer ranges′ posts atoms
   said = record {

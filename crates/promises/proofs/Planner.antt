@@ -11,13 +11,14 @@ use lib.ListN.{getD}
 use lib.Signed.{_≤ℤ_}
 use Rattle.integers.specs.Answers.{Answer}
 use Rattle.records.specs.declared.record.Propagator.{Propagator}
-use Rattle.levels.specs.declared.outcome.Outcome.{Outcome}
+use Rattle.runs.specs.declared.outcome.Outcome.{Outcome}
 use Rattle.precedences.specs.declared.answers.Precedences.{Precedences}
 use Rattle.barred_starts.specs.declared.range.Range.{Range}
 use Rattle.barred_starts.specs.Ranges.{latests, counts, places}
 use Rattle.barred_starts.proofs.Storing.{latests-with, counts-with, places-with}
 use Rattle.promises.specs.Promise.{tasksLent}
-use Rattle.promises.specs.RanLent.{lentNumber, RanLent, RanMirroredLent}
+use Rattle.promises.specs.RanLent.{lentNumber, RanLent}
+use Rattle.promises.specs.RanMirroredLent.{RanMirroredLent}
 use Rattle.promises.specs.PrecedencesLent.{rangesNumber, PrecedencesLent}
 use Rattle.promises.specs.Planner.{Plan, Pass, run, mirrored, precedences, Fails, Passes, start, next, NoPlanLost, NoPlan}
 use Rattle.promises.proofs.AcceptedCalls.{by-kind}

@@ -38,7 +38,7 @@ module _ (before : Propagator) (ys : List Range) (r : Precedences) (es′ : List
 
   module _ (ok : AcceptedInput before (earliests ys) (latests ys)) (fit : allBarsFit ys ≡ true) (left : LeftPrecedences J (earliests ys) r es′) where
     first : precedencesNumbers r .kind ≡ 0 → (k : ℕ) → k < J .count → FirstPermitted (getD ys k anyRange) (getD es′ k (pos 0)) (getD (earliests (withStarts ys es′)) k (pos 0))
-    first z k q = moved-on before ys es′ (ok .counts) fit size k q (between (left .starts z k q) (left .done .0 (is-done r z) k q) (ok .ranges k (omega (arith, few before ys k q, ok .counts .earliest))))
+    first z k q = moved-on before ys es′ (ok .counts) size k q fit (between (left .starts z k q) (left .done .0 (is-done r z) k q) (ok .ranges k (omega (arith, few before ys k q, ok .counts .earliest))))
 
     none-lost : precedencesNumbers r .kind ≡ 0 → (s : ℕ → ℤ) → PermittedSchedule J ys s → (k : ℕ) → k < J .count → getD (earliests (withStarts ys es′)) k (pos 0) ≤ℤ s k
     none-lost z s h k q = first z k q .bounds (s k) (h .permitted k q, left .holds z s (h .schedule) k q)

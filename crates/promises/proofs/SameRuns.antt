@@ -4,30 +4,30 @@ use mathlib.Core.Path.{_≡_, refl, sym, subst, _∙_}
 use mathlib.Core.List.{List}
 use Prim.Native.Nat.{ℕ}
 use lib.IntN.{ℤ}
-use lib.ListN.{length}
 use Rattle.records.specs.declared.record.Propagator.{Propagator}
 use Rattle.runs.specs.Traces.{Trace}
-use Rattle.runs.specs.Words.{reasons}
-use Rattle.levels.specs.declared.outcome.Outcome.{Outcome}
-use Rattle.levels.specs.Finding.{outcomeOf}
-use Rattle.propagator.specs.Ran.{traceOf, Handed}
-use Rattle.propagator.proofs.Handing.{handed}
+use Rattle.runs.specs.declared.outcome.Outcome.{Outcome}
+use Rattle.runs.specs.Outcomes.{outcomeNumbers}
+use Rattle.runs.specs.EndNumbers.{traceNumbers}
+use Rattle.runs.proofs.Answering.{outcomes-apart}
+use Rattle.propagator.specs.Ran.{traceOf}
+use Rattle.propagator.proofs.Handing.{Handed, handed}
 use Rattle.mirrored.specs.RanMirrored.{mirroredOf}
 use Rattle.task_changes.specs.Changes.{durationsOf}
 use Rattle.barred_starts.specs.declared.range.Range.{Range}
 use Rattle.barred_starts.specs.Ranges.{earliests, latests}
-use Rattle.promises.specs.RanLent.{lentNumber, AcceptedLent, RanLent, AcceptedMirroredLent, RanMirroredLent}
+use Rattle.promises.specs.RanLent.{lentNumber, AcceptedLent, RanLent}
+use Rattle.promises.specs.RanMirroredLent.{AcceptedMirroredLent, RanMirroredLent}
 use Rattle.promises.specs.SameRuns.{SameAnswer, SameRun, SameMirrored}
 use Rattle.promises.specs.Series.{Series}
 use Rattle.promises.proofs.Answers as read
 use Rattle.promises.proofs.Series.{same-left}
 
 -- two answers of one trace, whose posts and reasons are written over two pairs of slices
-module _ (t : Trace) (answer answer′ : Outcome) (posts atoms posts′ atoms′ : List ℤ)
-    (is : answer ≡ outcomeOf (reasons (t .posts)) (length (t .posts)) (t .end)) (is′ : answer′ ≡ outcomeOf (reasons (t .posts)) (length (t .posts)) (t .end))
+module _ (t : Trace) (answer answer′ : Outcome) (posts atoms posts′ atoms′ : List ℤ) (is : outcomeNumbers answer ≡ traceNumbers t) (is′ : outcomeNumbers answer′ ≡ traceNumbers t)
     (one : Handed t posts atoms) (other : Handed t posts′ atoms′) where
   one-trace : SameAnswer answer posts atoms answer′ posts′ atoms′
-  one-trace = subst (λ (o : Outcome). SameAnswer answer posts atoms o posts′ atoms′) (is ∙ sym is′) (record {
+  one-trace = subst (λ (o : Outcome). SameAnswer answer posts atoms o posts′ atoms′) (outcomes-apart answer answer′ (is ∙ sym is′)) (record {
     outcome = refl;
     tasks = λ j q. read.post-read t answer is posts atoms one j q .task-is ∙ sym (read.post-read t answer is posts′ atoms′ other j q .task-is);
     bounds = λ j q. read.post-read t answer is posts atoms one j q .bound-is ∙ sym (read.post-read t answer is posts′ atoms′ other j q .bound-is);

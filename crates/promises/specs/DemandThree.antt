@@ -15,8 +15,8 @@ use Rattle.records.specs.declared.record.Propagator.{Propagator}
 use Rattle.checker.specs.declared.checker.Verdict.{Verdict}
 use Rattle.checker.specs.Verdicts.{verdictNumbers}
 use Rattle.checker.specs.Checks.{Checked, tasksWith, consequentWords}
-use Rattle.levels.specs.declared.outcome.Outcome.{Outcome}
-use Rattle.levels.specs.Outcomes.{outcomeNumbers, valueOf}
+use Rattle.runs.specs.declared.outcome.Outcome.{Outcome}
+use Rattle.runs.specs.Outcomes.{outcomeNumbers, valueOf}
 use Rattle.barred_starts.specs.declared.range.Range.{Range}
 use Rattle.barred_starts.specs.Permitted.{FirstPermitted, PermittedSchedule}
 use Rattle.barred_starts.specs.Ranges.{earliests, anyRange}

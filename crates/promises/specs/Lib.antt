@@ -1,6 +1,7 @@
 pub mod Promise
 pub mod MirroredPromise
 pub mod RanLent
+pub mod RanMirroredLent
 pub mod PrecedencesLent
 pub mod Series
 pub mod SameRuns

@@ -1,26 +1,27 @@
 -- What an accepted mirrored pass promises its caller, as `Promise` does for a run: latest starts fall by the mirrored rule, and posts and reasons are in the caller's time.
 use mathlib.Core.Path.{_≡_}
 use mathlib.Core.Logic.{_↔_}
-use mathlib.Core.List.{List, map}
+use mathlib.Core.List.{List, []}
 use mathlib.Core.Option.{Option, some}
-use Prim.Native.Nat.{ℕ, _<_}
+use Prim.Native.Nat.{ℕ, suc, _≤_, _<_}
 use lib.IntN.{ℤ, pos}
-use lib.ListN.{getD, take}
+use lib.ListN.{getD}
 use lib.Signed.{_≤ℤ_, _<ℤ_}
+use Rattle.integers.specs.Answers.{answered}
 use Rattle.scheduling.specs.Scheduling.{whole, Tasks, Schedule, Atom, HoldsAtEntry, PassesFormula}
 use Rattle.scheduling.specs.Mirroring.{mirror, mirrorAtoms, MirroredBound, MirroredConflict, MirroredDone}
 use Rattle.atoms.specs.Atoms.{atomsOf}
-use Rattle.checker.specs.declared.checker.Verdict.the-variants.{Passed}
 use Rattle.checker.specs.Checks.{consequentWords}
+use Rattle.checker.specs.Verdicts.{verdictNumbers}
 use Rattle.checker.specs.MirroredChecks.{mirrorIfAny, checkMirroredOf}
 use Rattle.post_words.specs.Posts.{taskWord, taskOf, boundOf, postNumber}
 use Rattle.records.specs.declared.record.Propagator.{Propagator}
-use Rattle.levels.specs.declared.outcome.Outcome.{Outcome}
-use Rattle.levels.specs.Outcomes.{outcomeNumbers, valueOf}
+use Rattle.runs.specs.declared.outcome.Outcome.{Outcome}
+use Rattle.runs.specs.Outcomes.{outcomeNumbers, valueOf}
 use Rattle.barred_starts.specs.declared.range.Range.{Range}
 use Rattle.barred_starts.specs.Ranges.{earliests, latests, counts, places, anyRange}
 use Rattle.barred_starts.specs.Permitted.{LastPermitted, PermittedSchedule}
-use Rattle.promises.specs.Promise.{tasksLent, reasonOf, OverloadPromise}
+use Rattle.promises.specs.Promise.{tasksLent, checkDurations, reasonOf, OverloadPromise}
 
 module _ (before : Propagator) (ranges : List Range) (answer : Outcome) (ranges′ : List Range) (posts atoms : List ℤ) where
   -- the tasks at entry
@@ -49,18 +50,14 @@ module _ (before : Propagator) (ranges : List Range) (answer : Outcome) (ranges�
   abbrev now : ℕ → ℤ
   now k = getD (latests ranges′) k (pos 0)
 
-  -- the durations of the record, as a check takes them
-  abbrev durations : List ℤ
-  durations = map pos (take (before .count) (before .durations))
-
   -- A reason, for an atom or for none.
   pub record MirroredReason (words : List ℤ) (consequent : Option Atom) : Type 0 where
     -- Every choice of starts from the entry ranges meets its atoms.
     pub holds : HoldsAtEntry J (atomsOf words)
     -- Mirrored, they meet the checker's formula.
     pub formula : PassesFormula (mirror J) (mirrorAtoms (J .duration) (atomsOf words)) (mirrorIfAny (J .duration) consequent)
-    -- The mirrored check answers Passed.
-    pub passes : checkMirroredOf durations words (consequentWords consequent) ≡ Passed
+    -- The mirrored check answers 0, which is Passed.
+    pub passes : verdictNumbers (checkMirroredOf (checkDurations before) words (consequentWords consequent)) ≡ answered 0 []
 
   -- Post j.
   pub record MirroredPostPromise (j : ℕ) : Type 0 where
@@ -98,6 +95,13 @@ module _ (before : Propagator) (ranges : List Range) (answer : Outcome) (ranges�
     pub otherwise-permitted : (kind ≡ 0 → ⊥) → (s : ℕ → ℤ) → PermittedSchedule J ranges s → ⊥
     -- No schedule of permitted starts is lost: each starts every task at or before the latest start that the task is left with.
     pub none-lost : (s : ℕ → ℤ) → PermittedSchedule J ranges s → (k : ℕ) → k < J .count → s k ≤ℤ now k
+    -- An emptied pass has a post. Its last one, and no other post of any pass, has a bound below its task's earliest start.
+    pub emptied : kind ≡ 2 → 1 ≤ made
+    pub below : (j : ℕ) → j < made → bound j <ℤ J .earliest (task j) ↔ ((kind ≡ 2) × (suc j ≡ made))
+    -- Whatever the outcome, the task of every other post is left with the last permitted start up to the bound,
+    pub stands : (j : ℕ) → j < made → J .earliest (task j) ≤ℤ bound j → LastPermitted (range (task j)) (bound j) (now (task j))
+    -- and a task that no such post names with the latest start that it had.
+    pub stays : (k : ℕ) → k < J .count → ((j : ℕ) → j < made → J .earliest (task j) ≤ℤ bound j → task j ≡ k → ⊥) → now k ≡ J .latest k
     -- Whatever the outcome, every post holds in all schedules, and its reason holds at entry, meets the checker's formula mirrored, and passes the mirrored check.
     pub every-post : (j : ℕ) → j < made → MirroredPostPromise j
     -- So does an overload's reason.

@@ -9,14 +9,15 @@ use Rattle.scheduling.specs.Scheduling.{NoOverlap, Atom, Meets, Every}
 use Rattle.atoms.specs.Atoms.{atomsOf}
 use Rattle.post_words.specs.Posts.{taskOf, boundOf}
 use Rattle.records.specs.declared.record.Propagator.{Propagator}
-use Rattle.levels.specs.declared.outcome.Outcome.{Outcome}
-use Rattle.levels.specs.Outcomes.{outcomeNumbers}
+use Rattle.runs.specs.declared.outcome.Outcome.{Outcome}
+use Rattle.runs.specs.Outcomes.{outcomeNumbers}
 use Rattle.precedences.specs.declared.answers.Precedences.{Precedences}
 use Rattle.precedences.specs.Numbers.{precedencesNumbers}
 use Rattle.barred_starts.specs.declared.range.Range.{Range}
 use Rattle.barred_starts.specs.Permitted.{PermittedSchedule}
 use Rattle.promises.specs.Promise.{tasksLent}
-use Rattle.promises.specs.RanLent.{RanLent, RanMirroredLent}
+use Rattle.promises.specs.RanLent.{RanLent}
+use Rattle.promises.specs.RanMirroredLent.{RanMirroredLent}
 use Rattle.promises.specs.PrecedencesLent.{PrecedencesLent}
 
 -- Plans ------------------------------------------------------------------------------------------------------------------------

@@ -2,21 +2,22 @@
 -- Nothing here knows how a run goes. There are sets of tasks, schedules, the post reader and the check. What becomes of the record, `RanLent` says.
 use mathlib.Core.Path.{_≡_}
 use mathlib.Core.Logic.{_↔_}
-use mathlib.Core.List.{List, map}
+use mathlib.Core.List.{List, [], map}
 use mathlib.Core.Option.{Option, some, none}
-use Prim.Native.Nat.{ℕ, _+_, _*_, _≤_, _<_}
+use Prim.Native.Nat.{ℕ, suc, _+_, _*_, _≤_, _<_}
 use lib.IntN.{ℤ, pos}
 use lib.ListN.{length, getD, take, drop}
 use lib.Signed.{_≤ℤ_, _<ℤ_}
-use Rattle.scheduling.specs.Scheduling.{whole, Tasks, EdgeFindingBound, Schedule, Conflict, Done, Atom, HoldsAtEntry}
+use Rattle.integers.specs.Answers.{answered}
+use Rattle.scheduling.specs.Scheduling.{whole, Tasks, EdgeFindingBound, Schedule, Conflict, Done, Atom, HoldsAtEntry, PassesFormula}
 use Rattle.atoms.specs.Atoms.{atomsOf}
-use Rattle.checker.specs.declared.checker.Verdict.the-variants.{Passed}
 use Rattle.checker.specs.Checks.{checkOf, consequentWords}
+use Rattle.checker.specs.Verdicts.{verdictNumbers}
 use Rattle.post_words.specs.Posts.{taskWord, taskOf, boundOf, postNumber, reasonWords}
 use Rattle.records.specs.declared.record.Propagator.{Propagator}
 use Rattle.records.specs.Records.{tasksIn}
-use Rattle.levels.specs.declared.outcome.Outcome.{Outcome}
-use Rattle.levels.specs.Outcomes.{outcomeNumbers, valueOf}
+use Rattle.runs.specs.declared.outcome.Outcome.{Outcome}
+use Rattle.runs.specs.Outcomes.{outcomeNumbers, valueOf}
 use Rattle.barred_starts.specs.declared.range.Range.{Range}
 use Rattle.barred_starts.specs.Ranges.{earliests, latests, counts, places, anyRange}
 use Rattle.barred_starts.specs.Permitted.{FirstPermitted, PermittedSchedule}
@@ -26,6 +27,10 @@ use Rattle.barred_starts.specs.Permitted.{FirstPermitted, PermittedSchedule}
 -- the tasks of a lent record and lent ranges
 abbrev pub tasksLent : Propagator → List Range → Tasks whole
 tasksLent before ranges = tasksIn before (earliests ranges) (latests ranges)
+
+-- the durations of a record, as a check takes them
+abbrev pub checkDurations : Propagator → List ℤ
+checkDurations before = map pos (take (before .count) (before .durations))
 
 -- the words of post j's reason, as the post reader hands them out
 abbrev pub reasonOf : Outcome → List ℤ → List ℤ → ℕ → List ℤ
@@ -71,16 +76,14 @@ module _ (before : Propagator) (ranges : List Range) (answer : Outcome) (ranges�
   abbrev now : ℕ → ℤ
   now k = getD (earliests ranges′) k (pos 0)
 
-  -- the durations of the record, as a check takes them
-  abbrev durations : List ℤ
-  durations = map pos (take (before .count) (before .durations))
-
   -- A reason, for an atom or for none.
   pub record Reason (words : List ℤ) (consequent : Option Atom) : Type 0 where
     -- Every choice of starts from the entry ranges meets its atoms.
     pub holds : HoldsAtEntry J (atomsOf words)
-    -- The check answers Passed.
-    pub passes : checkOf durations words (consequentWords consequent) ≡ Passed
+    -- They meet the checker's formula.
+    pub formula : PassesFormula J (atomsOf words) consequent
+    -- The check answers 0, which is Passed.
+    pub passes : verdictNumbers (checkOf (checkDurations before) words (consequentWords consequent)) ≡ answered 0 []
 
   -- Post j.
   pub record PostPromise (j : ℕ) : Type 0 where
@@ -118,7 +121,14 @@ module _ (before : Propagator) (ranges : List Range) (answer : Outcome) (ranges�
     pub otherwise-permitted : (kind ≡ 0 → ⊥) → (s : ℕ → ℤ) → PermittedSchedule J ranges s → ⊥
     -- No schedule of permitted starts is lost: each starts every task at or after the earliest start that the task is left with.
     pub none-lost : (s : ℕ → ℤ) → PermittedSchedule J ranges s → (k : ℕ) → k < J .count → now k ≤ℤ s k
-    -- Whatever the outcome, every post holds in all schedules, and its reason holds at entry and passes the check.
+    -- An emptied run has a post. Its last one, and no other post of any run, has a bound above its task's latest start.
+    pub emptied : kind ≡ 2 → 1 ≤ made
+    pub above : (j : ℕ) → j < made → J .latest (task j) <ℤ bound j ↔ ((kind ≡ 2) × (suc j ≡ made))
+    -- Whatever the outcome, the task of every other post is left with the first permitted start from the bound on,
+    pub stands : (j : ℕ) → j < made → bound j ≤ℤ J .latest (task j) → FirstPermitted (range (task j)) (bound j) (now (task j))
+    -- and a task that no such post names with the start that it had.
+    pub stays : (k : ℕ) → k < J .count → ((j : ℕ) → j < made → bound j ≤ℤ J .latest (task j) → task j ≡ k → ⊥) → now k ≡ J .earliest k
+    -- Whatever the outcome, every post holds in all schedules, and its reason holds at entry, meets the checker's formula, and passes the check.
     pub every-post : (j : ℕ) → j < made → PostPromise j
     -- So does an overload's reason.
     pub overload : kind ≡ 1 → OverloadPromise Reason answer atoms

@@ -4,8 +4,8 @@ use mathlib.Core.List.{List}
 use Prim.Native.Nat.{ℕ, _<_}
 use lib.IntN.{ℤ}
 use Rattle.post_words.specs.Posts.{taskOf, boundOf}
-use Rattle.levels.specs.declared.outcome.Outcome.{Outcome}
-use Rattle.levels.specs.Outcomes.{outcomeNumbers, valueOf}
+use Rattle.runs.specs.declared.outcome.Outcome.{Outcome}
+use Rattle.runs.specs.Outcomes.{outcomeNumbers, valueOf}
 use Rattle.precedences.specs.declared.answers.Precedences.{Precedences}
 use Rattle.barred_starts.specs.declared.range.Range.{Range}
 use Rattle.promises.specs.Promise.{reasonOf, overloadOf}

@@ -8,7 +8,7 @@ use Rattle.integers.specs.Tests.{refusal}
 use Rattle.records.specs.declared.record.Propagator.{Propagator}
 use Rattle.records.specs.declared.record.Created.{Created}
 use Rattle.records.specs.Records.{creationTests, creationNumber, created}
-use Rattle.levels.specs.declared.outcome.Outcome.{Outcome}
+use Rattle.runs.specs.declared.outcome.Outcome.{Outcome}
 use Rattle.task_changes.specs.declared.changes.Change.{Change}
 use Rattle.task_changes.specs.Changes.{AddedLent, RemovedLent}
 use Rattle.task_changes.specs.Histories.{History, creation, adding, removing}

@@ -1,4 +1,4 @@
--- What a run that is accepted, or that the core may run, brings to edge finding: the tasks' moments in arrays, in both orders, and the tree of all tasks.
+-- What a run that the core may run brings to edge finding: the tasks' moments in arrays, in both orders, and the tree of all tasks.
 -- Assumes nothing.
 use mathlib.Core.Path.{_≡_, refl, sym, ap, ap₂, subst, _∙_}
 use mathlib.Core.Bool.{true}
@@ -8,18 +8,16 @@ use native.Mathlib.Omega.{arith}
 use lib.Dec.{leb}
 use lib.IntN.{ℤ, pos, negℤ}
 use lib.ListN.{length, getD, take, replicate, length-replicate}
-use lib.Seq.{getD-take, length-take-le}
-use lib.Signed.{_≤ℤ_}
-use Rattle.integers.specs.Limits.{TASKS, START, DURATIONS, MIRRORED}
+use lib.Seq.{getD-take}
+use Rattle.integers.specs.Limits.{TASKS, DURATIONS, MIRRORED}
 use Rattle.integers.specs.Filling.{filled}
 use Rattle.integers.specs.Moments.{instant, zeroAt, Above}
 use Rattle.integers.specs.Orders.{sort, index, numbers}
 use Rattle.integers.proofs.Filling.{filled-length, filled-at}
-use Rattle.integers.proofs.Ints.{up, dn, ints}
-use Rattle.integers.proofs.Moments.{mono, above-up, above-show, more-above, instant-moment}
-use Rattle.scheduling.specs.Scheduling.{whole, natural, Tasks, tasksOf, Proper, total, processing, completion}
+use Rattle.integers.proofs.Ints.{up, dn}
+use Rattle.integers.proofs.Moments.{mono, above-up, above-show, instant-moment}
+use Rattle.scheduling.specs.Scheduling.{whole, natural, Tasks, tasksOf, Proper, processing, completion}
 use Rattle.scheduling.proofs.Processing.{processing-less, processing-all}
-use Rattle.scheduling.proofs.Sets.{total-ext}
 use Rattle.scheduling.proofs.Transfer.{sound}
 use Rattle.scheduling.specs.Moments.{moments, ByEarliest}
 use Rattle.trees.specs.Leaves.{white}
@@ -30,9 +28,9 @@ use Rattle.trees.specs.declared.theta_lambda_tree.ThetaLambdaTree.{ThetaLambdaT
 use Rattle.trees.proofs.Roots as tree
 use Rattle.runs.specs.Traces.{Trace}
 use Rattle.runs.specs.Runs.{tabulate, byEarliest, byCompletion, earliestOrder, completionOrder, run, allWhite}
-use Rattle.runs.specs.Demand.{Right}
 use Rattle.scheduling.specs.Words.{atomWords}
 use Rattle.runs.specs.Words.{postWords, reasons, endReason, postsAfter, atomsAfter}
+use Rattle.runs.specs.EndNumbers.{traceNumbers}
 use Rattle.integers.proofs.Words.{overwrites}
 use Rattle.runs.proofs.Buffers.{no-posts-stored, no-atoms-stored, no-reasons}
 use Rattle.runs.proofs.Demand as demand
@@ -43,13 +41,12 @@ use Rattle.runs.proofs.Tables.{tabulated}
 use Rattle.sorts.specs.Orders.{SortedBy, noTasks, momentAt, completionAt, byKey, byKeyDown, largestKey}
 use Rattle.sorts.proofs.Sorted.{sorted-as}
 use Rattle.records.specs.declared.record.Propagator.{Propagator}
-use Rattle.records.specs.Records.{tasksIn}
-use Rattle.input_refusals.specs.Refusals.{Accepted}
 use Rattle.candidates.specs.RunArrays.{Ordered, Holds, At}
-use Rattle.levels.specs.declared.outcome.Outcome.{Outcome}
+use Rattle.runs.specs.declared.outcome.Outcome.{Outcome}
 use Rattle.levels.specs.Filling.{Fillable}
-use Rattle.levels.specs.Finding.{outcomeOf, Begun, Ended}
+use Rattle.levels.specs.Finding.{Begun, Ended}
 use Rattle.propagator.specs.Ran.{Runnable, traceOf, Left}
+use Rattle.propagator.proofs.Accepting as accepting
 
 zeros-long : length noTasks ≡ TASKS
 zeros-long = length-replicate {A = ℕ} TASKS 0
@@ -71,25 +68,11 @@ module _ (r : Propagator) (es ls : List ℤ) (posts atoms : ℕ) (a : Runnable r
   few = a .lawful .few
 
   pub count : length ds ≡ n
-  count = length-take-le n (r .durations) (omega (arith, few, long))
-
-  lasts-at : (k : ℕ) → k < n → getD ds k 0 ≡ getD (r .durations) k 0
-  lasts-at k q = getD-take n (r .durations) k 0 q
-
-  sum-is : total (λ k. getD ds k 0) (length ds) ≡ total (λ k. getD (r .durations) k 0) n
-  sum-is = ap (total (λ k. getD ds k 0)) count ∙ total-ext (λ k. getD ds k 0) (λ k. getD (r .durations) k 0) n lasts-at
+  count = accepting.count r (a .lawful)
 
   -- the same input, as the run's definition accepts it
-  pub accepted : demand.Accepted MIRRORED ds es ls
-  accepted = record {
-    some = omega (arith, count, a .lawful .some);
-    few = omega (arith, count, few);
-    lasts = λ k q. omega (arith, lasts-at k (omega (arith, count)), a .lawful .lasts k (omega (arith, count)));
-    sum = omega (arith, sum-is, a .lawful .sum);
-    from = λ k q. a .from k (omega (arith, count));
-    to = λ k q. a .to k (omega (arith, count));
-    ranges = λ k q. a .ranges k (omega (arith, count, a .counts .earliest));
-  }
+  accepted : demand.Accepted MIRRORED ds es ls
+  accepted = accepting.accepted r es ls posts atoms a
 
   abbrev pub estOrder : List ℕ
   estOrder = earliestOrder J
@@ -105,7 +88,7 @@ module _ (r : Propagator) (es ls : List ℤ) (posts atoms : ℕ) (a : Runnable r
   }
 
   pub holds-durations : Holds n (J .duration) (r .durations)
-  holds-durations = record { size = long; at = λ k q. sym (lasts-at k q) }
+  holds-durations = record { size = long; at = λ k q. sym (accepting.lasts-at r (a .lawful) k q) }
 
   pub holds-completions : (lst : List ℕ) → Holds n (J .latest) lst → Holds n (completion J) (filled (completionAt lst (r .durations)) n noTasks)
   holds-completions lst h = record {
@@ -262,7 +245,7 @@ module _ (r : Propagator) (es ls : List ℤ) (posts atoms : ℕ) (a : Runnable r
       pub left : {ps as′ es′ ps′ bs : List ℤ} {o : Outcome} {c : ℕ} → posts ≡ length ps → atoms ≡ length as′ → Ended J estOrder lctOrder ps as′ o c es′ ps′ bs
           → Left r es ls ps as′ o c es′ ps′ bs
       left {ps} {as′} {es′} {ps′} {bs} {o} {c} p q d = record {
-        answer = d .answer ∙ ap (λ (t : Trace). outcomeOf (reasons (t .posts)) (length (t .posts)) (t .end)) (sym trace-is);
+        answer = d .answer ∙ ap traceNumbers (sym trace-is);
         changes = d .changes ∙ ap (λ (t : Trace). t .changes) (sym trace-is);
         changes-most = omega (arith, d .changes, changes-most zeroAt J proper estOrder lctOrder by-earliest (ordered .by-completion) (accepted .some), count);
         starts = d .starts ∙ ap (λ (t : Trace). t .starts) (sym trace-is);
@@ -270,39 +253,4 @@ module _ (r : Propagator) (es ls : List ℤ) (posts atoms : ℕ) (a : Runnable r
         atom-words = d .atoms ∙ overwrites as′ (atomWords (reasons (run zeroAt J estOrder lctOrder .posts) ++ endReason (run zeroAt J estOrder lctOrder .end))) (omega (arith, atoms-fit, q)) ∙ ap (atomsAfter as′) (sym trace-is);
         posts-fit = subst (λ (t : Trace). length (postWords 0 (t .posts)) ≤ length ps) (sym trace-is) (omega (arith, posts-fit, p));
         atoms-fit = subst (λ (t : Trace). length (atomWords (reasons (t .posts) ++ endReason (t .end))) ≤ length as′) (sym trace-is) (omega (arith, atoms-fit, q));
-      }
-
-  pub right : Right (tasksIn r es ls) (traceOf r es ls)
-  right = demand.demand-3 MIRRORED (omega arith) ds es ls accepted
-
-wider : (z : ℤ) → z ≤ℤ pos START → z ≤ℤ pos MIRRORED
-unfolding up dn
-wider z h = omega ints
-
--- What an accepted run may take for given,
-module _ (r : Propagator) (es ls : List ℤ) (posts atoms : ℕ) (a : Accepted r es ls posts atoms) where
-  -- which is more than the core does,
-  pub runnable : Runnable r es ls posts atoms
-  runnable = record {
-    lawful = a .lawful;
-    counts = a .counts;
-    from = λ k q. more-above START MIRRORED (omega arith) (getD es k (pos 0)) (a .starts .earliest k (omega (arith, a .counts .earliest)) .low);
-    to = λ k q. wider (getD ls k (pos 0)) (a .starts .latest k (omega (arith, a .counts .latest)) .high);
-    ranges = a .ranges;
-    words = a .words;
-  }
-
-  -- as the run's definition has it.
-  pub narrow : length (r .durations) ≡ TASKS → demand.Accepted START (take (r .count) (r .durations)) es ls
-  narrow long =
-      let b = accepted r es ls posts atoms runnable long in
-      let c = count r es ls posts atoms runnable long in
-      record {
-        some = b .some;
-        few = b .few;
-        lasts = b .lasts;
-        sum = b .sum;
-        from = λ k q. a .starts .earliest k (omega (arith, c, a .counts .earliest)) .low;
-        to = λ k q. a .starts .latest k (omega (arith, c, a .counts .latest)) .high;
-        ranges = b .ranges;
       }

@@ -1,4 +1,4 @@
 pub mod Beginning
 pub mod Many
-pub mod ReasonsPass
+pub mod Accepting
 pub mod Handing

@@ -1,11 +1,11 @@
 // The disjunctive propagator: edge finding on one machine, with a reason for each post.
 use input_refusals::run_refusal;
 use integers::limits::TASKS;
-use levels::outcome::Finished;
-use levels::outcome::Outcome;
 use levels::run_levels::edge_finding;
 use levels::run_levels::fill;
 use records::record::Propagator;
+use runs::outcome::Finished;
+use runs::outcome::Outcome;
 use sorts::orders::completions;
 use sorts::orders::moments_of;
 use sorts::orders::sort_numbers;

@@ -1,12 +1,12 @@
 // The run, the mirrored pass and the overload test on ranges that are taken apart: the core is called on the first `count` places of the arrays.
 use integers::limits::TASKS;
 use lent_ranges::starts::Starts;
-use levels::outcome::Finished;
-use levels::outcome::Outcome;
 use mirrored::mirrored_propagator::propagate_mirrored;
 use overload_test::overload_test::Overload;
 use propagator::disjunctive_propagator::propagate;
 use records::record::Propagator;
+use runs::outcome::Finished;
+use runs::outcome::Outcome;
 ghost use Prim.Native.Nat.{_≤_};
 ghost use lib.ListN.{take};
 ghost use Rattle.integers.specs.Limits.{TASKS};

@@ -9,13 +9,14 @@ use lib.IntN.{ℤ}
 use lib.ListN.{length, take, drop}
 use Rattle.integers.specs.Answers.{Answer, refusedBy}
 use Rattle.records.specs.declared.record.Propagator.{Propagator}
-use Rattle.levels.specs.declared.outcome.Outcome.{Outcome}
-use Rattle.levels.specs.declared.outcome.Outcome.the-variants as outcome
-use Rattle.levels.specs.Outcomes.{outcomeNumbers, valueOf}
+use Rattle.runs.specs.declared.outcome.Outcome.{Outcome}
+use Rattle.runs.specs.declared.outcome.Outcome.the-variants as outcome
+use Rattle.runs.specs.Outcomes.{outcomeNumbers, valueOf}
 use Rattle.barred_starts.specs.declared.range.Range.{Range}
 use Rattle.promises.specs.Promise.{Reason, OverloadPromise}
 use Rattle.promises.specs.MirroredPromise.{MirroredReason}
-use Rattle.promises.specs.RanLent.{lentNumber, RanLent, RanMirroredLent}
+use Rattle.promises.specs.RanLent.{lentNumber, RanLent}
+use Rattle.promises.specs.RanMirroredLent.{RanMirroredLent}
 use Rattle.answers.specs.declared.call_answers.RunAnswer.{RunAnswer}
 use Rattle.request_answers.specs.declared.MirroredAnswer.{MirroredAnswer}
 use Rattle.answers.specs.Answers.{ToldInWords}

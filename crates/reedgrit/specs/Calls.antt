@@ -4,8 +4,8 @@ use mathlib.Core.Path.{_≡_}
 use lib.IntN.{ℤ}
 use Rattle.records.specs.declared.record.Propagator.{Propagator}
 use Rattle.records.specs.Records.{creationNumber, created}
-use Rattle.levels.specs.declared.outcome.Finished.{Finished}
-use Rattle.levels.specs.Outcomes.{outcomeNumbers}
+use Rattle.runs.specs.declared.outcome.Finished.{Finished}
+use Rattle.runs.specs.Outcomes.{outcomeNumbers}
 use Rattle.barred_starts.specs.declared.range.Range.{Range}
 use Rattle.promises.specs.RanLent.{RanLent}
 use Rattle.answers.specs.declared.call_answers.NewPropagator.{NewPropagator}

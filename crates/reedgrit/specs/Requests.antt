@@ -15,12 +15,12 @@ use Rattle.pages.specs.Pages.{Paged}
 use Rattle.precedences.specs.Numbers.{precedencesNumbers}
 use Rattle.precedence_reasons.specs.Numbers.{reasonNumbers}
 use Rattle.precedence_reasons.specs.Reasons.{ReasonGiven}
-use Rattle.levels.specs.Outcomes.{outcomeNumbers}
+use Rattle.runs.specs.Outcomes.{outcomeNumbers}
 use Rattle.busiest_stretch.specs.Numbers.{busiestNumbers}
 use Rattle.busiest_stretch.specs.Stretches.{Answered as BusiestAnswered}
 use Rattle.barred_starts.specs.declared.range.Range.{Range}
 use Rattle.promises.specs.PrecedencesLent.{PrecedencesLent}
-use Rattle.promises.specs.RanLent.{RanMirroredLent}
+use Rattle.promises.specs.RanMirroredLent.{RanMirroredLent}
 use Rattle.barred_starts.specs.Bars.{allBarsFit}
 use Rattle.barred_starts.specs.Ranges.{earliests, latests}
 use Rattle.request_answers.specs.declared.MirroredAnswer.{MirroredAnswer}

@@ -41,9 +41,9 @@ use denote.Triple.Walked.{needs, Stays, stay-dropped, gave-slice, walkOf, ends-a
 use Rattle.records.specs.declared.record.Propagator.{Propagator}
 use Rattle.records.proofs.record.Propagator as P
 use Rattle.records.proofs.record.Propagator.Laws as P′
-use Rattle.levels.specs.declared.outcome.Outcome.{Outcome}
-use Rattle.levels.proofs.outcome.Outcome as O
-use Rattle.levels.proofs.outcome.Outcome.Laws as O′
+use Rattle.runs.specs.declared.outcome.Outcome.{Outcome}
+use Rattle.runs.proofs.outcome.Outcome as O
+use Rattle.runs.proofs.outcome.Outcome.Laws as O′
 use Rattle.barred_starts.specs.declared.range.Range.{Range}
 use Rattle.barred_starts.proofs.range.Range as T
 use Rattle.disjunctive.proofs.Calls.{ContractOf, calls-by}

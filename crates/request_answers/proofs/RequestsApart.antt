@@ -24,9 +24,9 @@ use Rattle.precedence_reasons.specs.declared.answer.Reason.{Reason}
 use Rattle.precedence_reasons.specs.declared.answer.Reason.the-variants as reason
 use Rattle.precedences.specs.Numbers.{precedencesNumbers}
 use Rattle.precedence_reasons.specs.Numbers.{reasonNumbers}
-use Rattle.levels.specs.declared.outcome.Outcome.{Outcome}
-use Rattle.levels.specs.declared.outcome.Outcome.the-variants as outcome
-use Rattle.levels.specs.Outcomes.{outcomeNumbers}
+use Rattle.runs.specs.declared.outcome.Outcome.{Outcome}
+use Rattle.runs.specs.declared.outcome.Outcome.the-variants as outcome
+use Rattle.runs.specs.Outcomes.{outcomeNumbers}
 use Rattle.busiest_stretch.specs.declared.answer.Busiest.{Busiest}
 use Rattle.busiest_stretch.specs.declared.answer.Busiest.the-variants as busiest
 use Rattle.busiest_stretch.specs.Numbers.{busiestNumbers}

@@ -18,3 +18,4 @@ pub mod Shapes
 pub mod Starts
 pub mod Costliest
 pub mod Mirrored
+pub mod Answering

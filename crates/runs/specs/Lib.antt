@@ -1,5 +1,7 @@
 pub mod Traces
 pub mod Words
+pub mod Outcomes
+pub mod EndNumbers
 pub mod Runs
 pub mod Reached
 pub mod Costliest

@@ -2,7 +2,7 @@
 -- Assumes nothing.
 use mathlib.Core.Path.{sym, subst, _∙_}
 use native.Mathlib.Omega.{arith}
-use Rattle.levels.specs.Outcomes.{outcomeNumbers}
+use Rattle.runs.specs.Outcomes.{outcomeNumbers}
 use Rattle.answers.specs.Answers.{ToldInWords}
 use Rattle.request_answers.specs.RequestAnswers.{mirroredAnswer}
 use borrow.Author.Needs.{needs}

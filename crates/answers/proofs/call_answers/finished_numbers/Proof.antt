@@ -3,7 +3,7 @@
 use mathlib.Core.Path.{sym, subst, _∙_}
 use native.Mathlib.Omega.{arith}
 use borrow.Author.Needs.{needs}
-use Rattle.levels.specs.Outcomes.{outcomeNumbers}
+use Rattle.runs.specs.Outcomes.{outcomeNumbers}
 use Rattle.answers.specs.Answers.{ToldInWords, runAnswer}
 use Rattle.answers.proofs.call_answers.finished_numbers.Statement.{statement}
 use Rattle.answers.proofs.call_answers.finished_numbers.Tie as tie

@@ -42,9 +42,9 @@ use denote.Triple.Walked.{says, Stays, stay-ref, gave-slice, walkOf, Walks, ends
 use Rattle.records.specs.declared.record.Propagator.{Propagator}
 use Rattle.records.proofs.record.Propagator as P
 use Rattle.records.proofs.record.Propagator.Laws as P′
-use Rattle.levels.specs.declared.outcome.Finished.{Finished}
-use Rattle.levels.proofs.outcome.Finished as F
-use Rattle.levels.proofs.outcome.Finished.Laws as F′
+use Rattle.runs.specs.declared.outcome.Finished.{Finished}
+use Rattle.runs.proofs.outcome.Finished as F
+use Rattle.runs.proofs.outcome.Finished.Laws as F′
 use Rattle.barred_starts.specs.declared.range.Range.{Range}
 use Rattle.promises.specs.RanLent.{RanLent}
 use Rattle.range_cores.specs.Cores.{RanCore}

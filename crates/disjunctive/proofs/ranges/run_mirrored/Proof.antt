@@ -46,11 +46,11 @@ use Rattle.integers.specs.Limits.{TASKS}
 use Rattle.records.specs.declared.record.Propagator.{Propagator}
 use Rattle.records.proofs.record.Propagator as P
 use Rattle.records.proofs.record.Propagator.Laws as P′
-use Rattle.levels.proofs.outcome.Outcome as O
-use Rattle.levels.proofs.outcome.Outcome.Laws as O′
+use Rattle.runs.proofs.outcome.Outcome as O
+use Rattle.runs.proofs.outcome.Outcome.Laws as O′
 use Rattle.barred_starts.specs.declared.range.Range.{Range}
 use Rattle.barred_starts.specs.Ranges.{withLatests}
-use Rattle.promises.specs.RanLent.{RanMirroredLent}
+use Rattle.promises.specs.RanMirroredLent.{RanMirroredLent}
 use Rattle.range_cores.specs.Cores.{RanMirroredCore}
 use Rattle.lent_ranges.specs.declared.starts.Starts.{Starts}
 use Rattle.range_cores.specs.declared.cores.CoreMirrored.{CoreMirrored}

@@ -9,7 +9,7 @@ use Rattle.runs.specs.Runs.{conflict}
 use Rattle.trees.specs.Searching.{thetaIn}
 use Rattle.theta_walks.specs.Writing.{starting}
 use Rattle.explanations.specs.Explanations.{Overloaded}
-use Rattle.levels.specs.declared.outcome.Outcome.the-variants as outcome
+use Rattle.runs.specs.declared.outcome.Outcome.the-variants as outcome
 use Rattle.levels.specs.Finding.{Conflicted}
 use Rattle.levels.proofs.Overloading.{conflict-done}
 use Rattle.levels.proofs.run_levels.overload.Statement.{statement}

@@ -8,10 +8,7 @@ use Rattle.integers.specs.Answers.{refusedBy}
 use Rattle.integers.specs.Limits.{TASKS}
 use Rattle.input_refusals.specs.Refusals.{Accepted}
 use Rattle.input_refusals.proofs.Refused.{accepted-run}
-use Rattle.propagator.proofs.Handing.{handed}
-use Rattle.mirrored.specs.RanMirrored.{mirroredOf}
-use Rattle.mirrored.proofs.Endings.{ended, left-mirrored, right}
-use Rattle.mirrored.proofs.ReasonsPass.{passing}
+use Rattle.mirrored.proofs.Endings.{ended, left-mirrored}
 use borrow.Author.Needs.{needs}
 use Rattle.mirrored.proofs.mirrored_propagator.propagate_mirrored.Statement.{statement}
 use Rattle.mirrored.proofs.mirrored_propagator.propagate_mirrored.Tie as tie
@@ -50,16 +47,10 @@ returns-2 c =
     let s = e .before .before .before .before .before in
     let a = s .args in
     let r = ran .run-in-mirror .ensures in
-    let l = left-mirrored (a .t1) (a .earliest .now) (a .latest .now) (length (a .posts .now)) (length (a .atoms .now)) (passed e .0) (long s) r (omega arith) (omega arith)
-    (c .before .before .tell .ensures (ended (a .t1) (a .earliest .now) (a .latest .now) (length (a .posts .now)) (length (a .atoms .now)) (passed e .0) (long s) r)) in
     record {
       refused = λ h. absurd (h (accepted-run (a .t1) (a .earliest .now) (a .latest .now) (a .bars-fit) (length (a .posts .now)) (length (a .atoms .now)) .1 (passed e)));
-      accepted = λ z. record {
-        left = l;
-        right = right (a .t1) (a .earliest .now) (a .latest .now) (length (a .posts .now)) (length (a .atoms .now)) (passed e .0) (long s);
-        passes = passing (a .t1) (a .earliest .now) (a .latest .now) (length (a .posts .now)) (length (a .atoms .now)) (passed e .0) (long s);
-        handed = handed (mirroredOf (a .t1) (a .earliest .now) (a .latest .now)) (a .posts .now) (a .atoms .now) (l .post-words) (l .atom-words);
-      };
+      accepted = λ z. left-mirrored (a .t1) (a .earliest .now) (a .latest .now) (length (a .posts .now)) (length (a .atoms .now)) (passed e .0) (long s) r (omega arith) (omega arith)
+          (c .before .before .tell .ensures (ended (a .t1) (a .earliest .now) (a .latest .now) (length (a .posts .now)) (length (a .atoms .now)) (passed e .0) (long s) r));
     }
 
 pub propagate-mirrored-spec : {M : Type 1} → statement M

@@ -1,11 +1,9 @@
 -- `mirrored_words::mirrored_time::atoms_of` meets its contract.
 -- Assumes nothing.
-use mathlib.Core.Path.{sym, ap, _∙_}
+use mathlib.Core.Path.{ap, _∙_}
 use native.Mathlib.Omega.{arith}
-use lib.ListN.{length}
-use Rattle.runs.specs.Words.{reasons}
-use Rattle.levels.specs.declared.outcome.Outcome.{Outcome}
-use Rattle.levels.specs.Outcomes.{valueOf}
+use Rattle.runs.specs.declared.outcome.Outcome.{Outcome}
+use Rattle.runs.specs.Outcomes.{valueOf}
 use Rattle.mirrored_words.proofs.Telling.{counted, done-atoms, emptied-atoms, overload-atoms, no-refusal}
 use borrow.Author.Needs.{needs}
 use Rattle.mirrored_words.proofs.mirrored_time.atoms_of.Statement.{statement}
@@ -33,7 +31,7 @@ returns-3 : tie.Need-returns-3
 returns-3 c = λ a. let o = c .before .before .outcome3 .given in c .atoms-of-posts2 .ensures (counted a (o .0 .0) (ap (λ (r : Outcome). valueOf r 0) (o .1))) ∙ emptied-atoms a (o .0 .0) (o .1)
 
 returns-4 : tie.Need-returns-4
-returns-4 c = λ a. let o = c .enum-told .given in absurd (no-refusal (o .0 .0) (reasons (a .trace .posts)) (length (a .trace .posts)) (a .trace .end) (sym (o .1) ∙ a .answer))
+returns-4 c = λ a. let o = c .enum-told .given in absurd (no-refusal a (o .0 .0) (o .1))
 
 pub atoms-of-spec : {M : Type 1} → statement M
 atoms-of-spec =

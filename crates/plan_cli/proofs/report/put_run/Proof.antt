@@ -5,7 +5,7 @@ use Prim.Native.Nat.{ℕ, _≤_}
 use lib.ListN.{length}
 use Rattle.integers.specs.Limits.{TASKS}
 use Rattle.runs.specs.Traces.{Trace}
-use Rattle.levels.specs.declared.outcome.Outcome.{Outcome}
+use Rattle.runs.specs.declared.outcome.Outcome.{Outcome}
 use Rattle.plan_text.specs.Lines.{doneLine, emptiedLine, refusedLine}
 use Rattle.plan_cli.specs.RunLines.{answerLines}
 use Rattle.plan_cli.specs.RunSlices.{Shown}

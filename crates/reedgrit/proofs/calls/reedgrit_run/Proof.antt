@@ -12,9 +12,9 @@ use denote.Ref.{now, ptr-vals, mut-tells}
 use denote.Slice.{slice-vals, mut-slice-tells}
 use denote.Struct.Laws as LL
 use Rattle.records.proofs.record.Propagator as P
-use Rattle.levels.proofs.outcome.Finished as F
-use Rattle.levels.proofs.outcome.Finished.Laws as F′
-use Rattle.levels.specs.Outcomes.{outcomeNumbers}
+use Rattle.runs.proofs.outcome.Finished as F
+use Rattle.runs.proofs.outcome.Finished.Laws as F′
+use Rattle.runs.specs.Outcomes.{outcomeNumbers}
 use Rattle.promises.specs.RanLent.{RanLent}
 use Rattle.barred_starts.proofs.range.Range as T
 use Rattle.disjunctive.proofs.ranges.run as lent

@@ -13,10 +13,10 @@ use denote.Slice.{slice-vals, mut-slice-tells}
 use denote.Struct.Laws as LL
 use denote.Enum.Laws as EL
 use Rattle.records.proofs.record.Propagator as P
-use Rattle.levels.proofs.outcome.Outcome as O
-use Rattle.levels.proofs.outcome.Outcome.Laws as O′
-use Rattle.levels.specs.Outcomes.{outcomeNumbers}
-use Rattle.promises.specs.RanLent.{RanMirroredLent}
+use Rattle.runs.proofs.outcome.Outcome as O
+use Rattle.runs.proofs.outcome.Outcome.Laws as O′
+use Rattle.runs.specs.Outcomes.{outcomeNumbers}
+use Rattle.promises.specs.RanMirroredLent.{RanMirroredLent}
 use Rattle.barred_starts.proofs.range.Range as T
 use Rattle.disjunctive.proofs.ranges.run_mirrored as lent
 use Rattle.disjunctive.proofs.ranges.run_mirrored.Symbol as lent-def

@@ -12,8 +12,8 @@ use types.Run.{stop, fld, from, load}
 use denote.Steps.{only}
 use denote.Struct.Laws as LL
 use denote.Triple.Table.{cited}
-use Rattle.levels.proofs.outcome.Finished as F
-use Rattle.levels.proofs.outcome.Finished.Laws as F′
+use Rattle.runs.proofs.outcome.Finished as F
+use Rattle.runs.proofs.outcome.Finished.Laws as F′
 use Rattle.disjunctive.proofs.ranges.run as lent
 use Rattle.disjunctive.proofs.ranges.run.Symbol as lent-def
 use Rattle.disjunctive.proofs.ranges.run.Symbol.{name as #lent}

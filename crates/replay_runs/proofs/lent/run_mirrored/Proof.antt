@@ -15,8 +15,8 @@ use denote.Laws.{Is}
 use denote.Steps.{only}
 use denote.Enum.Laws as EL
 use denote.Triple.Table.{cited}
-use Rattle.levels.proofs.outcome.Outcome as O
-use Rattle.levels.proofs.outcome.Outcome.Laws as O′
+use Rattle.runs.proofs.outcome.Outcome as O
+use Rattle.runs.proofs.outcome.Outcome.Laws as O′
 use Rattle.disjunctive.proofs.ranges.run_mirrored as lent
 use Rattle.disjunctive.proofs.ranges.run_mirrored.Symbol as lent-def
 use Rattle.disjunctive.proofs.ranges.run_mirrored.Symbol.{name as #lent}

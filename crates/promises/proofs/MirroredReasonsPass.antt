@@ -1,4 +1,4 @@
--- Every reason of an accepted mirrored pass passes the mirrored check.
+-- The trace of an accepted mirrored pass is right, and every reason of it passes the mirrored check.
 -- Assumes nothing.
 use mathlib.Core.Path.{_≡_, sym, subst, fun-ext, _∙_}
 use mathlib.Core.List.{List, [], _∷_}
@@ -7,7 +7,6 @@ use Prim.Native.Nat.{ℕ, zero, suc, _*_, _≤_, _<_}
 use native.Mathlib.Omega.{arith}
 use lib.IntN.{ℤ, pos, _+ℤ_}
 use lib.ListN.{length, take, length-map}
-use lib.Seq.{length-take-le}
 use lib.Signed.{_≤ℤ_, _<ℤ_, ≤ℤ-refl}
 use Rattle.integers.specs.Limits.{TASKS, START, MIRRORED}
 use Rattle.integers.specs.Tests.{refusal}
@@ -19,7 +18,7 @@ use Rattle.scheduling.specs.Words.{atomWords}
 use Rattle.scheduling.proofs.Passed.{every-append}
 use Rattle.runs.specs.Traces.{Post, Trace, overload}
 use Rattle.runs.specs.Demand.{consequentOf, post}
-use Rattle.runs.specs.Mirrored.{durationIn, mirrorPost, mirroredRun, mirroredConsequent, MirroredPostRight}
+use Rattle.runs.specs.Mirrored.{durationIn, mirrorPost, mirroredRun, mirroredConsequent, MirroredPostRight, MirroredRight}
 use Rattle.runs.specs.MirroredWords.{Near}
 use Rattle.runs.proofs.Demand as demand
 use Rattle.runs.proofs.Mirrored as laws
@@ -31,10 +30,9 @@ use Rattle.checker.specs.declared.checker.Verdict.the-variants.{Passed}
 use Rattle.checker.specs.Checks.{consequentWords, tasksWith}
 use Rattle.checker.specs.MirroredChecks.{mirrorIfAny, checkMirroredOf}
 use Rattle.checker.proofs.Reasons.{Bound, BoundIfAny, mirrored-reason-check, passes-alike, meets-admits}
-use Rattle.propagator.specs.Ran.{checkDurations}
-use Rattle.propagator.proofs.Beginning.{narrow}
-use Rattle.mirrored.specs.RanMirrored.{mirroredOf, PassingMirrored}
-use Rattle.mirrored.proofs.Endings.{right}
+use Rattle.propagator.proofs.Accepting.{count, narrow}
+use Rattle.mirrored.specs.RanMirrored.{mirroredOf}
+use Rattle.promises.specs.Promise.{checkDurations}
 
 -- an atom of the run in mirrored time is, told in the caller's, within the limits of a check
 told-bound : (ds : List ℕ) → length ds ≤ TASKS → (a : Atom) → Near ds a → Bound (mirrorAtom (durationIn ds) a)
@@ -59,7 +57,7 @@ above-bound : (u b : ℤ) → b <ℤ u → (b +ℤ pos 1) ≤ℤ u
 unfolding up dn
 above-bound u b h = omega (ints, sumℤ b (pos 1))
 
-module _ (before : Propagator) (es ls : List ℤ) (posts atoms : ℕ) (a : Accepted before es ls posts atoms) (long : length (before .durations) ≡ TASKS) where
+module _ (before : Propagator) (es ls : List ℤ) (posts atoms : ℕ) (a : Accepted before es ls posts atoms) where
   abbrev ds : List ℕ
   ds = take (before .count) (before .durations)
 
@@ -70,16 +68,17 @@ module _ (before : Propagator) (es ls : List ℤ) (posts atoms : ℕ) (a : Accep
   run = mirroredRun ds es ls
 
   accepted : demand.Accepted START ds es ls
-  accepted = narrow before es ls posts atoms a long
-
-  count : length ds ≡ before .count
-  count = length-take-le (before .count) (before .durations) (omega (arith, a .lawful .few, long))
+  accepted = narrow before es ls posts atoms a
 
   es-long : length es ≡ length ds
-  es-long = a .counts .earliest ∙ sym count
+  es-long = a .counts .earliest ∙ sym (count before (a .lawful))
 
   ls-long : length ls ≡ length ds
-  ls-long = a .counts .latest ∙ sym count
+  ls-long = a .counts .latest ∙ sym (count before (a .lawful))
+
+  -- The trace is right.
+  pub right : MirroredRight J (mirroredOf before es ls)
+  right = laws.mirrored-right ds es ls accepted es-long ls-long
 
   lawful : refusal (creationTests (checkDurations before)) ≡ 0
   lawful = natural-accepted ds (accepted .some) (accepted .few) (accepted .lasts) (accepted .sum)
@@ -102,31 +101,30 @@ module _ (before : Propagator) (es ls : List ℤ) (posts atoms : ℕ) (a : Accep
       (subst (λ (d : ℕ → ℕ). PassesFormula (tasksWith (checkDurations before)) (mirrorAtoms d reason) (mirrorIfAny d c)) same
       (passes-alike (mirror J) (tasksWith (checkDurations before)) (sym (natural-count ds)) (λ k. sym (natural-duration ds k)) (mirrorAtoms (J .duration) reason) (mirrorIfAny (J .duration) c) p))
 
-  -- A post's reason passes with the post as its consequent,
-  post-passes : (j : ℕ) → j < length (run .posts)
+  -- a post of the run, told in the caller's time
+  told-passes : (j : ℕ) → j < length (run .posts)
       → checkMirroredOf (checkDurations before) (atomWords (mirrorPost ds (post run j) .reason)) (atomWords (mirroredConsequent (mirrorPost ds (post run j)) ∷ [])) ≡ Passed
-  post-passes j q =
+  told-passes j q =
       let p : Post = mirrorPost ds (post run j) in
-      let r : MirroredPostRight J p = subst (MirroredPostRight J) (laws.post-at ds run j q) (right before es ls posts atoms a long .posts j (omega (arith, laws.posts-same ds run))) in
+      let r : MirroredPostRight J p = subst (MirroredPostRight J) (laws.post-at ds run j q) (right .posts j (omega (arith, laws.posts-same ds run))) in
       let s = laws.reason-near ds es ls accepted es-long ls-long j q in
       checked (post run j .reason) (some (mirroredConsequent p)) (s .0) (s .1) (told-bound ds (accepted .few) (consequentOf (post run j)) (laws.post-near ds es ls accepted es-long ls-long j q))
       (every-append (Meets (J .latest)) (p .reason) (negation (mirroredConsequent p) ∷ []) (met (p .reason) (r .reason-holds)) (above-bound (J .latest (p .task)) (p .bound) (r .lowers), tt))
       (r .reason-passes)
 
-  -- an overload's with none,
-  overload-passes : (reason : List Atom) → mirroredOf before es ls .end ≡ overload reason → checkMirroredOf (checkDurations before) (atomWords reason) [] ≡ Passed
+  -- A post's reason passes with the post as its consequent,
+  pub post-passes : (j : ℕ) → j < length (mirroredOf before es ls .posts)
+      → checkMirroredOf (checkDurations before) (atomWords (post (mirroredOf before es ls) j .reason)) (atomWords (mirroredConsequent (post (mirroredOf before es ls) j) ∷ [])) ≡ Passed
+  post-passes j q =
+      let small : j < length (run .posts) = omega (arith, laws.posts-same ds run) in
+      subst (λ (p : Post). checkMirroredOf (checkDurations before) (atomWords (p .reason)) (atomWords (mirroredConsequent p ∷ [])) ≡ Passed) (sym (laws.post-at ds run j small)) (told-passes j small)
+
+  -- an overload's with none.
+  pub overload-passes : (reason : List Atom) → mirroredOf before es ls .end ≡ overload reason → checkMirroredOf (checkDurations before) (atomWords reason) [] ≡ Passed
   overload-passes reason e =
-      let r = right before es ls posts atoms a long .overloads reason e in
+      let r = right .overloads reason e in
       let (x, z, y) = laws.end-overload ds (run .end) reason e in
       let s = laws.overload-near ds es ls accepted es-long ls-long x z in
       let there = subst (λ (l : List Atom). HoldsAtEntry J l) (sym y) (r .reason-holds) in
       subst (λ (l : List Atom). checkMirroredOf (checkDurations before) (atomWords l) [] ≡ Passed) y
       (checked x none (s .0) (s .1) tt (met (mirrorAtoms (durationIn ds) x) there) (subst (λ (l : List Atom). PassesFormula (mirror J) (mirrorAtoms (J .duration) l) none) (sym y) (r .reason-passes)))
-
-  -- and these are all the reasons.
-  pub passing : PassingMirrored before es ls
-  passing = record {
-    posts = λ j q. let small : j < length (run .posts) = omega (arith, laws.posts-same ds run) in
-        subst (λ (p : Post). checkMirroredOf (checkDurations before) (atomWords (p .reason)) (atomWords (mirroredConsequent p ∷ [])) ≡ Passed) (sym (laws.post-at ds run j small)) (post-passes j small);
-    overloads = overload-passes;
-  }

@@ -4,8 +4,8 @@ use Prim.Native.Nat.{ℕ}
 use lib.IntN.{pos, natAbs}
 use lib.ListN.{getD}
 use Rattle.integers.specs.Answers.{Answer, answered, refusedBy}
-use Rattle.levels.specs.declared.outcome.Outcome.{Outcome}
-use Rattle.levels.specs.declared.outcome.Outcome.the-variants as outcome
+use Rattle.runs.specs.declared.outcome.Outcome.{Outcome}
+use Rattle.runs.specs.declared.outcome.Outcome.the-variants as outcome
 
 -- the values are the post count and, of an overload's reason, the first atom's index and the atom count
 abbrev pub outcomeNumbers : Outcome → Answer

@@ -1,4 +1,4 @@
--- Every reason of an accepted run passes the check.
+-- The trace of an accepted run is right, and every reason of it passes the check.
 -- Assumes nothing.
 use mathlib.Core.Path.{_≡_, sym, subst}
 use mathlib.Core.List.{List, [], _∷_}
@@ -18,7 +18,7 @@ use Rattle.scheduling.specs.Moments.{moments}
 use Rattle.scheduling.specs.Words.{atomWords}
 use Rattle.scheduling.proofs.Passed.{every-append}
 use Rattle.runs.specs.Traces.{Post, overload}
-use Rattle.runs.specs.Demand.{consequentOf, post, PostRight}
+use Rattle.runs.specs.Demand.{consequentOf, post, PostRight, Right}
 use Rattle.runs.proofs.Demand as demand
 use Rattle.runs.proofs.Shapes.{Shaped, post-shaped, overload-shaped}
 use Rattle.holes.specs.Holes.{Within}
@@ -30,8 +30,9 @@ use Rattle.records.proofs.Creation.{natural-count, natural-duration, natural-ac
 use Rattle.checker.specs.declared.checker.Verdict.the-variants.{Passed}
 use Rattle.checker.specs.Checks.{checkOf, tasksWith, consequentWords}
 use Rattle.checker.proofs.Reasons.{Bound, BoundIfAny, reason-check, passes-alike, meets-admits}
-use Rattle.propagator.specs.Ran.{traceOf, checkDurations, Passing}
-use Rattle.propagator.proofs.Beginning as beginning
+use Rattle.propagator.specs.Ran.{traceOf}
+use Rattle.propagator.proofs.Accepting.{narrow}
+use Rattle.promises.specs.Promise.{checkDurations}
 
 -- an atom near the starts of at most TASKS tasks is within the limits of a check
 shaped-bound : (N : Tasks natural) → N .count ≤ TASKS → (a : Atom) → Shaped zeroAt N (zeroAt - START) (zeroAt + START) DURATIONS a → Bound a
@@ -47,7 +48,7 @@ below-bound : (u b : ℤ) → u <ℤ b → u ≤ℤ (b +ℤ negsuc 0)
 unfolding up dn
 below-bound u b h = omega (ints, sumℤ b (negsuc 0))
 
-module _ (before : Propagator) (es ls : List ℤ) (posts atoms : ℕ) (a : Accepted before es ls posts atoms) (long : length (before .durations) ≡ TASKS) where
+module _ (before : Propagator) (es ls : List ℤ) (posts atoms : ℕ) (a : Accepted before es ls posts atoms) where
   abbrev l : List ℕ
   l = take (before .count) (before .durations)
 
@@ -55,7 +56,11 @@ module _ (before : Propagator) (es ls : List ℤ) (posts atoms : ℕ) (a : Accep
   J = tasksIn before es ls
 
   accepted : demand.Accepted START l es ls
-  accepted = beginning.narrow before es ls posts atoms a long
+  accepted = narrow before es ls posts atoms a
+
+  -- The trace is right.
+  pub right : Right J (traceOf before es ls)
+  right = demand.demand-3 START (omega arith) l es ls accepted
 
   -- their moments; none ends before −START, nor starts after START
   abbrev N : Tasks natural
@@ -79,23 +84,19 @@ module _ (before : Propagator) (es ls : List ℤ) (posts atoms : ℕ) (a : Accep
       (passes-alike J (tasksWith (checkDurations before)) (sym (natural-count l)) (λ k. sym (natural-duration l k)) reason c p)
 
   -- A post's reason passes with the post as its consequent,
-  post-passes : (j : ℕ) → j < length (traceOf before es ls .posts)
+  pub post-passes : (j : ℕ) → j < length (traceOf before es ls .posts)
       → checkOf (checkDurations before) (atomWords (post (traceOf before es ls) j .reason)) (atomWords (consequentOf (post (traceOf before es ls) j) ∷ [])) ≡ Passed
   post-passes j q =
       let p : Post = post (traceOf before es ls) j in
-      let r : PostRight J p = beginning.right before es ls posts atoms (beginning.runnable before es ls posts atoms a) long .posts j q in
+      let r : PostRight J p = right .posts j q in
       let s = post-shaped START START (omega arith) (omega arith) l es ls accepted ending (accepted .to) j q in
       checked (p .reason) (some (consequentOf p)) (s .few) (s .because) (shaped-bound N (accepted .few) (consequentOf p) (s .says))
       (every-append (Meets (J .earliest)) (p .reason) (negation (consequentOf p) ∷ []) (met (p .reason) (r .reason-holds)) (below-bound (J .earliest (p .task)) (p .bound) (r .raises), tt))
       (r .reason-passes)
 
-  -- an overload's with none,
-  overload-passes : (reason : List Atom) → traceOf before es ls .end ≡ overload reason → checkOf (checkDurations before) (atomWords reason) [] ≡ Passed
+  -- an overload's with none.
+  pub overload-passes : (reason : List Atom) → traceOf before es ls .end ≡ overload reason → checkOf (checkDurations before) (atomWords reason) [] ≡ Passed
   overload-passes reason e =
-      let r = beginning.right before es ls posts atoms (beginning.runnable before es ls posts atoms a) long .overloads reason e in
+      let r = right .overloads reason e in
       let s = overload-shaped START START (omega arith) (omega arith) l es ls accepted ending (accepted .to) reason e in
       checked reason none (s .few) (s .because) tt (met reason (r .reason-holds)) (r .reason-passes)
-
-  -- and these are all the reasons.
-  pub passing : Passing before es ls
-  passing = record { posts = post-passes; overloads = overload-passes }
