@@ -31,12 +31,12 @@ use Rattle.range_cores.specs.PrecedencesCore.{PrecedencesCore}
 -- the run, the mirrored pass, and the pass by precedences
 module _ (before : Propagator) (ys : List Range) (s : Starts) (is : s ≡ startsOf ys) where
   pub lent-run : (posts atoms : List ℤ) (r : CoreRun) (posts′ atoms′ : List ℤ) → RanCore before s posts atoms r posts′ atoms′
-      → RanLent before ys posts atoms (r .finished .outcome) (r .finished .changes) before (withStarts ys (take (r .starts .count) (r .starts .earliest))) posts′ atoms′
+      → RanLent before ys posts atoms (r .finished .outcome) (r .finished .changes) (r .«record») (withStarts ys (take (r .starts .count) (r .starts .earliest))) posts′ atoms′
   lent-run posts atoms r posts′ atoms′ c =
-      let (us, size, ran, same) = stored (λ es ls es′. Ran before es ls (allBarsFit ys) posts atoms (record { «record» = before; outcome = r .finished .outcome; changes = r .finished .changes }) es′ posts′ atoms′) ys s is
-      (r .starts .count) (c .same-count) (r .starts .earliest) (c .whole) (bars-of ys s is (λ bars. Ran before (take (s .count) (s .earliest)) (take (s .count) (s .latest)) bars posts atoms (record { «record» = before; outcome = r .finished .outcome; changes = r .finished .changes }) (take (s .count) (r .starts .earliest)) posts′ atoms′) (c .ran)) withStarts (earliests ys) (length-map ys (λ (y : Range). y .earliest)) (with-none ys) (own-starts ys)
+      let (us, size, ran, same) = stored (λ es ls es′. Ran before es ls (allBarsFit ys) posts atoms (record { «record» = r .«record»; outcome = r .finished .outcome; changes = r .finished .changes }) es′ posts′ atoms′) ys s is
+      (r .starts .count) (c .same-count) (r .starts .earliest) (c .whole) (bars-of ys s is (λ bars. Ran before (take (s .count) (s .earliest)) (take (s .count) (s .latest)) bars posts atoms (record { «record» = r .«record»; outcome = r .finished .outcome; changes = r .finished .changes }) (take (s .count) (r .starts .earliest)) posts′ atoms′) (c .ran)) withStarts (earliests ys) (length-map ys (λ (y : Range). y .earliest)) (with-none ys) (own-starts ys)
       (λ h a. too-many before (earliests ys) (latests ys) (allBarsFit ys) (allBarsFit ys) posts atoms _ [] posts′ atoms′ h a) in
-      rw (same) (lent before ys posts atoms (r .finished .outcome) (r .finished .changes) before us posts′ atoms′ size ran)
+      rw (same) (lent before ys posts atoms (r .finished .outcome) (r .finished .changes) (r .«record») us posts′ atoms′ size ran)
 
   pub lent-mirrored-run : (posts atoms : List ℤ) (r : CoreMirrored) (posts′ atoms′ : List ℤ) → RanMirroredCore before s posts atoms r posts′ atoms′
       → RanMirroredLent before ys posts atoms (r .outcome) (withLatests ys (take (r .starts .count) (r .starts .latest))) posts′ atoms′

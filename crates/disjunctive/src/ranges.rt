@@ -1,7 +1,7 @@
 // The open calls on lent data: a record, and a slice of ranges, one for each task. Here are the run and the mirrored pass, which
 // change the ranges, and the overload test, which does not; below, the calls by precedences and those on a fixed schedule.
-// None changes the record. The run takes it as `&mut` all the same, as the source's does, and the others as `&`.
-// The core takes the record by value and the starts as slices of numbers; here the ranges are taken apart for it, and what it leaves is stored back.
+// The core takes the record by value and the starts as slices of numbers. Here the ranges are taken apart for it, and what it leaves is stored back.
+// The run is lent the record as `&mut`, as the source's is, and stores the one that its core returns; the others are lent it as `&`.
 pub mod by_precedence;
 pub mod of_fixed_schedules;
 
@@ -21,7 +21,8 @@ ghost use Rattle.barred_starts.specs.Bars.{allBarsFit};
 ghost use Rattle.barred_starts.specs.Ranges.{earliests, latests};
 ghost use Rattle.promises.specs.RanLent.{RanLent, RanMirroredLent};
 
-// Earliest starts are raised in the ranges; no latest start changes, and the record stays as it is. Beside the outcome stands the count of leaf changes.
+// Earliest starts are raised in the ranges; no latest start changes. The record becomes the one that the core returns, which is equal to it.
+// Beside the outcome stands the count of leaf changes.
 pub fn run(
     propagator: &mut Propagator,
     ranges: &mut [Range],
@@ -33,6 +34,7 @@ pub fn run(
     let starts = starts_of(ranges);
     let ran = run_core(*propagator, starts, posts, atoms);
     store_starts(ranges, ran.starts);
+    *propagator = ran.record;
     ran.finished
 }
 

@@ -13,7 +13,7 @@ use Rattle.range_cores.specs.declared.cores.CoreMirrored.{CoreMirrored}
 
 -- what a run on ranges that are taken apart leaves: what the run leaves of the first `count` numbers of each array
 pub record RanCore (before : Propagator) (starts : Starts) (posts atoms : List ℤ) (r : CoreRun) (posts′ atoms′ : List ℤ) : Type 0 where
-  pub ran : Ran before (take (starts .count) (starts .earliest)) (take (starts .count) (starts .latest)) (starts .«bars_fit») posts atoms (record { «record» = before; outcome = r .finished .outcome; changes = r .finished .changes }) (take (starts .count) (r .starts .earliest)) posts′ atoms′
+  pub ran : Ran before (take (starts .count) (starts .earliest)) (take (starts .count) (starts .latest)) (starts .«bars_fit») posts atoms (record { «record» = r .«record»; outcome = r .finished .outcome; changes = r .finished .changes }) (take (starts .count) (r .starts .earliest)) posts′ atoms′
   pub same-count : r .starts .count ≡ starts .count
   pub whole : length (r .starts .earliest) ≡ TASKS
 

@@ -13,8 +13,9 @@ ghost use Rattle.integers.specs.Limits.{TASKS};
 ghost use Rattle.overload_test.specs.Tested.{OverloadTested};
 ghost use Rattle.range_cores.specs.Cores.{RanCore, RanMirroredCore};
 
-// What a run on ranges that are taken apart returns. The record is not among it: no run changes one.
+// What a run on ranges that are taken apart returns.
 pub struct CoreRun {
+    pub record: Propagator,
     pub finished: Finished,
     pub starts: Starts,
 }
@@ -41,12 +42,14 @@ pub fn run_core(record: Propagator, starts: Starts, posts: &mut [i32], atoms: &m
         posts,
         atoms,
     );
+    let after = ran.record;
     let outcome = ran.outcome;
     let finished = Finished {
         outcome,
         changes: ran.changes,
     };
     CoreRun {
+        record: after,
         finished,
         starts: Starts {
             count: n,

@@ -1,5 +1,5 @@
 -- `ranges::run` meets its contract: a walk of its MIR, by hand. The borrows of the record and of the ranges are opened. The ranges are lent as a `&` for a lifetime of the call of `starts_of`, come back, are closed, and are passed on for good to `store_starts`.
--- `run_core` is passed the record by value, and the posts and the atoms for good: they are not opened here.
+-- `run_core` is passed the record by value, and the posts and the atoms for good: they are not opened here. The record that it returns is stored.
 -- Assumes nothing.
 use mathlib.Core.Path.{_≡_, refl, sym, ap, subst}
 use Prim.Native.Nat.{ℕ}
@@ -22,7 +22,7 @@ use contract.Running.{givenOf, tables}
 use sound.WpLaws.{FmC}
 use types.Kit.{Given, Item, ‵, _⊛_, ⋆, _$_, _∵_, !, qed, by, move, keep, drop, use1, split, join, rewrite, fsplit, fsplit3, fjoin, fjoin3, feqI, suffices, frame, done}
 use types.Part.{whole, sub, look-in, agg}
-use types.Run.{look, init, forget, stop, hop, fld, from, load, of-opd, addr, assigns, returns, enter, alloc1, alloc0, params1, pass1, pass0, free1, free0, and-then, no-more, land}
+use types.Run.{look, store, init, forget, stop, hop, fld, from, load, of-opd, addr, assigns, returns, enter, alloc1, alloc0, params1, pass1, pass0, free1, free0, and-then, no-more, land}
 use types.SemTy.{Body}
 use denote.RattleType.{owns}
 use denote.Laws.{Is, shows}
@@ -105,13 +105,13 @@ module _ {M : Type 1} (𝓤 : URA M) (H : Heap 𝓤) (A : Atoms 𝓤) (W : Given
   Post = walkOf 𝓤 H A f.ended stayed (f.clauses 𝓤 H A at-mem run) .post (((κ, (κ₁, (κ₂, (κ₃, tt)))), (q, (q₁, (q₂, (q₃, tt)))), tt, x, at), tt)
 
   abbrev Had : CoreRun → List Range → List ℤ → List ℤ → List (Item 𝓤)
-  Had r zs ps ats = ‵ (fobs γ (P.the-row .coded .code h)) ∷ ‵ (fbor κ (Body (mem P.the-row) b o γ)) ∷ ‵ (flft κ q) ∷ (‵ (flft κ₁ q₁) ⊛ ‵ ftrue) ∷ tokens κ₂ κ₃ q₂ q₃ ∷ ‵ (finally T.the-row γ₁ zs) ∷ ‵ (finally i32 (xp .name) ps) ∷ ‵ (finally i32 (xa .name) ats) ∷ []
+  Had r zs ps ats = ‵ (fobs γ (P.the-row .coded .code (r .«record»))) ∷ ‵ (fbor κ (Body (mem P.the-row) b o γ)) ∷ ‵ (flft κ q) ∷ (‵ (flft κ₁ q₁) ⊛ ‵ ftrue) ∷ tokens κ₂ κ₃ q₂ q₃ ∷ ‵ (finally T.the-row γ₁ zs) ∷ ‵ (finally i32 (xp .name) ps) ∷ ‵ (finally i32 (xa .name) ats) ∷ []
 
-  exits : (r : CoreRun) (zs : List Range) (ps ats : List ℤ) → RanLent h ys (now xp) (now xa) (r .finished .outcome) (r .finished .changes) h zs ps ats → length zs ≡ length ys → length ps ≡ length (now xp) → length ats ≡ length (now xa)
+  exits : (r : CoreRun) (zs : List Range) (ps ats : List ℤ) → RanLent h ys (now xp) (now xa) (r .finished .outcome) (r .finished .changes) (r .«record») zs ps ats → length zs ≡ length ys → length ps ≡ length (now xp) → length ats ≡ length (now xa)
       → Is F.the-row (r .finished) (machF (r .finished) ∷ []) → ent 𝓤 (⋆ 𝓤 H A (Had r zs ps ats)) (Post (machF (r .finished)))
   exits r zs ps ats e lr lp la go =
       qed W (Had r zs ps ats) ∵
-      suffices ! _ (ends-at 𝓤 H A f.ended stayed (f.clauses 𝓤 H A at-mem run) W (((κ, (κ₁, (κ₂, (κ₃, tt)))), (q, (q₁, (q₂, (q₃, tt)))), tt, x, at), tt) (machF (r .finished)) (r .finished) (h, (zs, (ps, (ats, tt)))) (tt, (lr, (lp, (la, tt))))) $ says ! e $
+      suffices ! _ (ends-at 𝓤 H A f.ended stayed (f.clauses 𝓤 H A at-mem run) W (((κ, (κ₁, (κ₂, (κ₃, tt)))), (q, (q₁, (q₂, (q₃, tt)))), tt, x, at), tt) (machF (r .finished)) (r .finished) (r .«record», (zs, (ps, (ats, tt)))) (tt, (lr, (lp, (la, tt))))) $ says ! e $
       move ! (3 ∷ []) $ split ! $ move ! (0 ∷ 5 ∷ []) $ join ! $ move ! (4 ∷ 0 ∷ []) $ join ! $ frame ! $
       -- [true; the record's obs; its borrow; the last ranges; the last posts; the last atoms]
       move ! (5 ∷ 0 ∷ []) $ fjoin ! $ move ! (4 ∷ 0 ∷ []) $ fjoin ! $ move ! (3 ∷ 0 ∷ []) $ fjoin ! $ move ! (1 ∷ 2 ∷ 0 ∷ []) $ feqI ! (List Val) (vptr b o ∷ []) (vptr b o ∷ []) refl $ fjoin3 ! $ fjoin ! $
@@ -153,18 +153,19 @@ module _ {M : Type 1} (𝓤 : URA M) (H : Heap 𝓤) (A : Atoms 𝓤) (W : Given
         assigns ! (agg ! (and-then ! (load ! (from ! (stop !)) (look ! 13 refl)) (and-then ! (load ! (from ! (fld ! refl (stop !))) (look-in ! 39 (sub ! 1 refl (whole !)))) (no-more !)))) (from ! (stop !)) (init ! 11 refl (tt, (tt, (record { fits = g .0 }, tt)))) $
         -- the ranges are passed on for good
         move ! (3 ∷ 4 ∷ []) $ fjoin ! $ move ! (5 ∷ 0 ∷ []) $ fjoin ! $ nothing ! $ move ! (5 ∷ 0 ∷ 1 ∷ []) $ join ! $
-        calls-store ! fm at-mem run known-store κ₁ q₁ xr (r .starts) (starts-fit ys s (r .starts) e₁ (e₂ .same-count)) (LL.owed R.the-type R′.the-laws r _ is₂ .1 .0) (and-then ! (load ! (from ! (stop !)) (look ! 8 refl)) (and-then ! (load ! (from ! (fld ! refl (stop !))) (look-in ! 28 (sub ! 1 refl (whole !)))) (no-more !))) (λ w₃ zs e₃ lr is₃.
+        calls-store ! fm at-mem run known-store κ₁ q₁ xr (r .starts) (starts-fit ys s (r .starts) e₁ (e₂ .same-count)) (LL.owed R.the-type R′.the-laws r _ is₂ .1 .1 .0) (and-then ! (load ! (from ! (stop !)) (look ! 8 refl)) (and-then ! (load ! (from ! (fld ! refl (stop !))) (look-in ! 28 (sub ! 2 refl (whole !)))) (no-more !))) (λ w₃ zs e₃ lr is₃.
         land ! (from ! (stop !)) (init ! 13 refl (nothing-lawful 𝓤 H A W .typed tt _ is₃ .0)) $
-        -- the record's borrow is closed
+        -- the record is stored, and its borrow closed
         -- [the ranges' token; the last ranges; the tokens of both; the last atoms; the last posts; the record's cell; its open borrow; obs; auth; _16; …; _0; …]
-        assigns ! (of-opd ! (load ! (from ! (fld ! refl (stop !))) (look-in ! 29 (sub ! 0 refl (whole !))))) (from ! (stop !)) (init ! 41 refl (LL.lawful F.the-type F′.the-laws 𝓤 H A W .typed (r .finished) (machF (r .finished) ∷ []) (LL.owed R.the-type R′.the-laws r _ is₂ .0) .0)) $
-        move ! (5 ∷ []) $ use1 W (‵ (cellAt fullShare (P.the-row .mir) (machP h ∷ []) b o)) (W .laws .at-raw fullShare P′.mir b o (machP h)) $
-        owned ! P.the-row (Is P.the-row) ((LL.makes P.the-type P′.the-plain) 𝓤 H A) h _ gh $ move ! (1 ∷ 0 ∷ 7 ∷ 8 ∷ 9 ∷ []) $ closes ! tt P.the-row h (machP h ∷ []) b o $
+        assigns ! (of-opd ! (load ! (from ! (fld ! refl (stop !))) (look-in ! 29 (sub ! 0 refl (whole !))))) (from ! (hop ! (look ! 39 refl) (stop !))) (store ! 5 refl (LL.lawful P.the-type P′.the-laws 𝓤 H A W .typed (r .«record») (machP (r .«record») ∷ []) (LL.owed R.the-type R′.the-laws r _ is₂ .0) .0)) $
+        assigns ! (of-opd ! (load ! (from ! (fld ! refl (stop !))) (look-in ! 29 (sub ! 1 refl (whole !))))) (from ! (stop !)) (init ! 41 refl (LL.lawful F.the-type F′.the-laws 𝓤 H A W .typed (r .finished) (machF (r .finished) ∷ []) (LL.owed R.the-type R′.the-laws r _ is₂ .1 .0) .0)) $
+        move ! (5 ∷ []) $ use1 W (‵ (cellAt fullShare (P.the-row .mir) (machP (r .«record») ∷ []) b o)) (W .laws .at-raw fullShare P′.mir b o (machP (r .«record»))) $
+        owned ! P.the-row (Is P.the-row) ((LL.makes P.the-type P′.the-plain) 𝓤 H A) (r .«record») _ (LL.owed R.the-type R′.the-laws r _ is₂ .0) $ move ! (1 ∷ 0 ∷ 7 ∷ 8 ∷ 9 ∷ []) $ closes ! tt P.the-row (r .«record») (machP (r .«record») ∷ []) b o $
         -- [the record's obs; its borrow; its token; the ranges' token; the last ranges; the tokens of both; the last atoms; the last posts; _16; …; _0; …]
         returns ! (look ! 40 refl) $ forget ! 40 refl $ forget ! 38 refl $ forget ! 36 refl $ forget ! 34 refl $ forget ! 32 refl $ forget ! 30 refl $ forget ! 28 refl $ forget ! 26 refl $ forget ! 24 refl $ forget ! 22 refl $ forget ! 20 refl $ forget ! 18 refl $ forget ! 16 refl $ forget ! 14 refl $ forget ! 12 refl $ forget ! 10 refl $ forget ! 8 refl $
         move ! (40 ∷ 41 ∷ []) $ free1 ! $ move ! (38 ∷ 39 ∷ []) $ free1 ! $ move ! (36 ∷ 37 ∷ []) $ free1 ! $ move ! (34 ∷ 35 ∷ []) $ free1 ! $ move ! (32 ∷ 33 ∷ []) $ free1 ! $ move ! (30 ∷ 31 ∷ []) $ free1 ! $ move ! (28 ∷ 29 ∷ []) $ free1 ! $ move ! (26 ∷ 27 ∷ []) $ free1 ! $ move ! (24 ∷ 25 ∷ []) $ free1 ! $ move ! (22 ∷ 23 ∷ []) $ free1 ! $ move ! (20 ∷ 21 ∷ []) $ free1 ! $ move ! (18 ∷ 19 ∷ []) $ free1 ! $ move ! (16 ∷ 17 ∷ []) $ free1 ! $ move ! (14 ∷ 15 ∷ []) $ free1 ! $ move ! (12 ∷ 13 ∷ []) $ free1 ! $ move ! (10 ∷ 11 ∷ []) $ free1 ! $ move ! (8 ∷ 9 ∷ []) $ free1 ! $ free0 ! $
         keep ! (0 ∷ 1 ∷ 2 ∷ 3 ∷ 5 ∷ 4 ∷ 7 ∷ 6 ∷ []) $
-        by ! (exits r zs ps ats (subst (λ (rs : List Range). RanLent h ys (now xp) (now xa) (r .finished .outcome) (r .finished .changes) h rs ps ats) (sym e₃) (lent-run h ys s e₁ (now xp) (now xa) r ps ats e₂)) lr lp la (LL.owed R.the-type R′.the-laws r _ is₂ .0))))))))))))))))))))))))
+        by ! (exits r zs ps ats (subst (λ (rs : List Range). RanLent h ys (now xp) (now xa) (r .finished .outcome) (r .finished .changes) (r .«record») rs ps ats) (sym e₃) (lent-run h ys s e₁ (now xp) (now xa) r ps ats e₂)) lr lp la (LL.owed R.the-type R′.the-laws r _ is₂ .1 .0))))))))))))))))))))))))
 
 module _ {M : Type 1} (𝓤 : URA M) (H : Heap 𝓤) (A : Atoms 𝓤) (W : Given 𝓤 H A) (at-mem : Memory → SProp 𝓤) (run : Routine → Fun 𝓤) where
   f-walks : (C : Calls 𝓤 H) (Λ : Loops 𝓤 H) → FmC 𝓤 H (W .laws) C → Triple 𝓤 (C #starts-of) (StartsOf 𝓤 H A at-mem run) → Triple 𝓤 (C #run-core) (Core R.the-row RanCore 𝓤 H A) → Triple 𝓤 (C #store-starts) (Store 𝓤 H A at-mem run)

@@ -23,13 +23,13 @@ slice-aggregate-propagate-2 c = let p = c .before .before .before .before in sym
 
 returns : tie.Need-returns
 returns c =
-    let p = c .before .before .before in
+    let p = c .before .before .before .before in
     let a = p .before .before .before .before .before .before .before in
     let n = a .args .starts .count in
     let all = all-earliest (a .args .starts) (a .good .1 .0) in
     let l : length (p .propagate .last .1 .0) ≡ n = p .propagate .kept .1 .0 ∙ length-take-le n (a .args .starts .earliest) (omega arith) in
     record {
-      ran = rw (take-at (p .propagate .last .1 .0) (drop n (a .args .starts .earliest)) n l) (record { keeps = refl; refused = p .propagate .ensures .refused; accepted = p .propagate .ensures .accepted });
+      ran = rw (take-at (p .propagate .last .1 .0) (drop n (a .args .starts .earliest)) n l) (p .propagate .ensures);
       same-count = refl;
       whole = length-front (a .args .starts .earliest) (p .propagate .last .1 .0) n (p .propagate .kept .1 .0) ∙ all;
     }
