@@ -6,7 +6,7 @@ pub mod by_precedence;
 pub mod of_fixed_schedules;
 
 use barred_starts::range::Range;
-use lent_ranges::starts::starts_of;
+use lent_ranges::starts::starts_with_bars;
 use lent_ranges::starts::store_latest;
 use lent_ranges::starts::store_starts;
 use levels::outcome::Finished;
@@ -31,7 +31,7 @@ pub fn run(
 ) -> Finished
     ensures { λ r. ⌜ RanLent (now (propagator .entry)) (now (ranges .entry)) (now (posts .entry)) (now (atoms .entry)) (r .outcome) (r .changes) (now (propagator .exit)) (now (ranges .exit)) (now (posts .exit)) (now (atoms .exit)) ⌝ }
 {
-    let starts = starts_of(ranges);
+    let starts = starts_with_bars(ranges);
     let ran = run_core(*propagator, starts, posts, atoms);
     store_starts(ranges, ran.starts);
     *propagator = ran.record;
@@ -47,7 +47,7 @@ pub fn run_mirrored(
 ) -> Outcome
     ensures { λ r. ⌜ RanMirroredLent (now (propagator .entry)) (now (ranges .entry)) (now (posts .entry)) (now (atoms .entry)) r (now (ranges .exit)) (now (posts .exit)) (now (atoms .exit)) ⌝ }
 {
-    let starts = starts_of(ranges);
+    let starts = starts_with_bars(ranges);
     let ran = mirrored_core(*propagator, starts, posts, atoms);
     store_latest(ranges, ran.starts);
     ran.outcome
@@ -57,6 +57,6 @@ pub fn run_mirrored(
 pub fn overload_test(propagator: &Propagator, ranges: &[Range]) -> Overload
     ensures { λ r. ⌜ OverloadTested (now (propagator .entry)) (earliests (now (ranges .entry))) (latests (now (ranges .entry))) (allBarsFit (now (ranges .entry))) r ⌝ }
 {
-    let starts = starts_of(ranges);
+    let starts = starts_with_bars(ranges);
     overload_core(*propagator, starts)
 }
