@@ -1,4 +1,5 @@
 pub mod Fits
 pub mod Moving
+pub mod AlikeRanges
 pub mod Storing
 pub mod Turns

@@ -12,6 +12,7 @@ use lib.Signed.{_≤ℤ_}
 use borrow.Author.Tests.{eq-eqb}
 use Rattle.integers.specs.Limits.{TASKS}
 use Rattle.integers.proofs.Ints.{ints, up, dn}
+use Rattle.integers.specs.Texts.{bytesOf}
 use Rattle.runs.specs.Runs.{tabulate}
 use Rattle.decimals.specs.Writing.{natural, decimal}
 use Rattle.text.specs.Numbers.{numbersOf, space as isSpace}
@@ -69,6 +70,7 @@ unfolding isSpace
 space-parts = refl
 
 spread : (a b c bs : List ℕ) → (a ++ space ++ b ++ space ++ c ++ newline) ++ bs ≡ a ++ 32 ∷ (b ++ 32 ∷ (c ++ 10 ∷ bs))
+unfolding bytesOf
 spread a b c bs =
     append-assoc (a ++ space ++ b ++ space ++ c) newline bs
     ∙ append-assoc (a ++ space ++ b ++ space) c (10 ∷ bs)
@@ -90,7 +92,7 @@ lines-back [] h = no-numbers
 lines-back (t ∷ ts) h = line-back t (h .0) (lines taskLine ts) (row ts) (lines-back ts (h .1))
 
 instance-back : (ts : List Triple) → AllHeld ts → length ts ≤ 2147483647 → numbersOf (instanceLines ts) ≡ some (pos (length ts) ∷ row ts)
-unfolding instanceLines decimal
+unfolding instanceLines decimal bytesOf
 instance-back ts h few =
     let k = held (length ts) few in
     ap numbersOf (append-assoc (natural (length ts)) newline (lines taskLine ts)) ∙ number-back (pos (length ts)) 10 (lines taskLine ts) (row ts) (k .low) (k .high) feed-parts (lines-back ts h)

@@ -1,8 +1,9 @@
 -- The definition at two tasks, to the byte, and at inputs that are refused.
 -- Assumes nothing.
 use mathlib.Core.Path.{_≡_, refl}
-use mathlib.Core.List.{List, [], _∷_}
+use mathlib.Core.List.{List, []}
 use Prim.Native.Nat.{ℕ}
+use Rattle.integers.specs.Texts.{bytesOf}
 use Rattle.runs.specs.Runs.{tabulate}
 use Rattle.decimals.specs.Writing.{figures, natural, decimal}
 use Rattle.text.specs.Numbers.{space, pieces, filled, tokens, digit, digits, value, ranged, unsigned, numberOf, before, numbers, numbersOf}
@@ -11,16 +12,13 @@ use Rattle.costliest_cli.specs.Asked.{askedIn}
 use Rattle.costliest_cli.specs.Tasks.{taskLine, instanceLines}
 use Rattle.costliest_cli.specs.Written.{written}
 
--- "2": the lines "2", "0 0 10", "10 10 10"
-two-tasks : written (50 ∷ []) ≡ 50 ∷ 10 ∷ 48 ∷ 32 ∷ 48 ∷ 32 ∷ 49 ∷ 48 ∷ 10 ∷ 49 ∷ 48 ∷ 32 ∷ 49 ∷ 48 ∷ 32 ∷ 49 ∷ 48 ∷ 10 ∷ []
-unfolding written askedIn taskLine instanceLines tabulate lines refusedLine figures natural decimal space pieces filled tokens digit digits value ranged unsigned numberOf before numbers numbersOf
+two-tasks : written (bytesOf "2") ≡ bytesOf "2\n0 0 10\n10 10 10\n"
+unfolding bytesOf written askedIn taskLine instanceLines tabulate lines refusedLine figures natural decimal space pieces filled tokens digit digits value ranged unsigned numberOf before numbers numbersOf
 two-tasks = refl
 
--- "refused 0"
 abbrev refused : List ℕ
-refused = 114 ∷ 101 ∷ 102 ∷ 117 ∷ 115 ∷ 101 ∷ 100 ∷ 32 ∷ 48 ∷ 10 ∷ []
+refused = bytesOf "refused 0\n"
 
--- nothing, "0", "49", "1 2", "-1" and "x"
-others : (written [] ≡ refused) × (written (48 ∷ []) ≡ refused) × (written (52 ∷ 57 ∷ []) ≡ refused) × (written (49 ∷ 32 ∷ 50 ∷ []) ≡ refused) × (written (45 ∷ 49 ∷ []) ≡ refused) × (written (120 ∷ []) ≡ refused)
-unfolding written askedIn refusedLine figures natural space pieces filled tokens digit digits value ranged unsigned numberOf before numbers numbersOf
+others : (written [] ≡ refused) × (written (bytesOf "0") ≡ refused) × (written (bytesOf "49") ≡ refused) × (written (bytesOf "1 2") ≡ refused) × (written (bytesOf "-1") ≡ refused) × (written (bytesOf "x") ≡ refused)
+unfolding bytesOf written askedIn refusedLine figures natural space pieces filled tokens digit digits value ranged unsigned numberOf before numbers numbersOf
 others = (refl, refl, refl, refl, refl, refl)

@@ -1,4 +1,4 @@
-// The open calls, all in one place: creation, a task added or taken off, the run, the mirrored pass, the pass by precedences and the reason of one task's bound, the overload test, the post reader, the check and the mirrored check, the page, the charges, the earliest free start, the busiest stretch, and the calls of the variable state. None has a `requires`.
+// The open calls, all in one place: creation, a task added or taken off, the run, the mirrored pass, the pass by precedences and the reason of one task's bound, the overload test, the post reader, the check and the mirrored check, the page, the charges, the earliest free start, the busiest stretch, and the calls of the variable state. None has a `requires`. With each call come the types of what it takes and answers.
 pub mod ranges;
 
 pub use crate::ranges::by_precedence::precedence_reason;
@@ -17,7 +17,13 @@ pub use charges::answer::Charges;
 pub use checker::checker::Verdict;
 pub use checker::checker::check;
 pub use checker::checker::check_mirrored;
+pub use checking::variable_state::Application;
+pub use checking::variable_state::Applied;
+pub use checking::variable_state::Bound;
+pub use checking::variable_state::Truth;
 pub use checking::variable_state::VariableState;
+pub use domains::domain::Domain;
+pub use domains::int_ext::IntExt;
 pub use free_starts::free_start::FreeStart;
 pub use overload_test::overload_test::Overload;
 pub use pages::answer::Page;
@@ -25,6 +31,8 @@ pub use post_words::posts::post_number;
 pub use post_words::posts::post_reason;
 pub use precedence_reasons::answer::Reason;
 pub use precedences::answers::Precedences;
+pub use records::record::Created;
+pub use records::record::Creation;
 pub use records::record::Propagator;
 pub use records::record::create;
 pub use runs::outcome::Finished;

@@ -1,12 +1,12 @@
 // The open calls on lent data: a record, and a slice of ranges, one for each task. Here are the run and the mirrored pass, which
 // change the ranges, and the overload test, which does not; below, the calls by precedences and those on a fixed schedule.
-// None changes the record. The run takes it as `&mut` all the same, as the source's does, and the others as `&`.
-// The core takes the record by value and the starts as slices of numbers; here the ranges are taken apart for it, and what it leaves is stored back.
+// The core takes the record by value and the starts as slices of numbers. Here the ranges are taken apart for it, and what it leaves is stored back.
+// The run is lent the record as `&mut`, as the source's is, and stores the one that its core returns; the others are lent it as `&`.
 pub mod by_precedence;
 pub mod of_fixed_schedules;
 
 use barred_starts::range::Range;
-use lent_ranges::starts::starts_of;
+use lent_ranges::starts::starts_with_bars;
 use lent_ranges::starts::store_latest;
 use lent_ranges::starts::store_starts;
 use overload_test::overload_test::Overload;
@@ -22,7 +22,8 @@ ghost use Rattle.barred_starts.specs.Ranges.{earliests, latests};
 ghost use Rattle.promises.specs.RanLent.{RanLent};
 ghost use Rattle.promises.specs.RanMirroredLent.{RanMirroredLent};
 
-// Earliest starts are raised in the ranges; no latest start changes, and the record stays as it is. Beside the outcome stands the count of leaf changes.
+// Earliest starts are raised in the ranges; no latest start changes. The record becomes the one that the core returns, which is equal to it.
+// Beside the outcome stands the count of leaf changes.
 pub fn run(
     propagator: &mut Propagator,
     ranges: &mut [Range],
@@ -31,9 +32,10 @@ pub fn run(
 ) -> Finished
     ensures { λ r. ⌜ RanLent (now (propagator .entry)) (now (ranges .entry)) (now (posts .entry)) (now (atoms .entry)) (r .outcome) (r .changes) (now (propagator .exit)) (now (ranges .exit)) (now (posts .exit)) (now (atoms .exit)) ⌝ }
 {
-    let starts = starts_of(ranges);
+    let starts = starts_with_bars(ranges);
     let ran = run_core(*propagator, starts, posts, atoms);
     store_starts(ranges, ran.starts);
+    *propagator = ran.record;
     ran.finished
 }
 
@@ -46,7 +48,7 @@ pub fn run_mirrored(
 ) -> Outcome
     ensures { λ r. ⌜ RanMirroredLent (now (propagator .entry)) (now (ranges .entry)) (now (posts .entry)) (now (atoms .entry)) r (now (ranges .exit)) (now (posts .exit)) (now (atoms .exit)) ⌝ }
 {
-    let starts = starts_of(ranges);
+    let starts = starts_with_bars(ranges);
     let ran = mirrored_core(*propagator, starts, posts, atoms);
     store_latest(ranges, ran.starts);
     ran.outcome
@@ -56,6 +58,6 @@ pub fn run_mirrored(
 pub fn overload_test(propagator: &Propagator, ranges: &[Range]) -> Overload
     ensures { λ r. ⌜ OverloadTested (now (propagator .entry)) (earliests (now (ranges .entry))) (latests (now (ranges .entry))) (allBarsFit (now (ranges .entry))) r ⌝ }
 {
-    let starts = starts_of(ranges);
+    let starts = starts_with_bars(ranges);
     overload_core(*propagator, starts)
 }

@@ -6,8 +6,10 @@ use mathlib.Core.List.{[], _∷_}
 use Prim.Native.Nat.{ℕ, _/_}
 use lib.Dec.{leb}
 use lib.IntN.{negsuc}
+use Rattle.integers.specs.Limits.{TASKS, VARIABLES, START, DURATIONS, DUE, VALUE, PREMISES, HOLES, BARS, MOMENT, LENGTH}
 use Rattle.integers.specs.Moments.{moment, instant, zeroAt}
 use Rattle.integers.specs.Orders.{insert, sort, index}
+use Rattle.integers.specs.Texts.{bytesOf}
 use Rattle.integers.specs.Words.{overwritten}
 
 -- sorted by tens; 12 and 11 stay as they stood
@@ -31,3 +33,15 @@ instant-of-zero = refl
 
 front-overwritten : overwritten {A = ℕ} (1 ∷ 2 ∷ 3 ∷ []) (7 ∷ 8 ∷ []) ≡ 7 ∷ 8 ∷ 3 ∷ []
 front-overwritten = refl
+
+-- the limits are the papers' numbers
+paper-limits : (TASKS ≡ 48) × (START ≡ 400000000) × (DURATIONS ≡ 400000000) × (VARIABLES ≡ 64) × (VALUE ≡ 900000000) × (PREMISES ≡ 512) × (HOLES ≡ 16)
+paper-limits = (refl, refl, refl, refl, refl, refl, refl)
+
+request-limits : (BARS ≡ 16) × (DUE ≡ 400000000) × (MOMENT ≡ 400000000) × (LENGTH ≡ 400000000)
+request-limits = (refl, refl, refl, refl)
+
+-- characters are their codes in ASCII, a line feed 10 among them
+text-bytes : bytesOf "NR 0-9\n" ≡ 78 ∷ 82 ∷ 32 ∷ 48 ∷ 45 ∷ 57 ∷ 10 ∷ []
+unfolding bytesOf
+text-bytes = refl

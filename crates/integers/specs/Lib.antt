@@ -6,4 +6,5 @@ pub mod Filling
 pub mod Tests
 pub mod Answers
 pub mod Orders
+pub mod Texts
 pub mod Examples

@@ -17,7 +17,8 @@ use Rattle.barred_starts.specs.declared.range.Range.{Range}
 use Rattle.barred_starts.specs.Bars.{allBarsFit}
 use Rattle.barred_starts.specs.Ranges.{earliests, latests, anyRange}
 use Rattle.lent_ranges.specs.declared.starts.Starts.{Starts}
-use Rattle.lent_ranges.specs.TakenApart.{taken, padded, startsOf}
+use Rattle.lent_ranges.specs.declared.starts.StartsWithBars.{StartsWithBars}
+use Rattle.lent_ranges.specs.TakenApart.{taken, padded, startsOf, startsWithBars}
 
 -- ---- taken apart
 pub taken-all : (n : ℕ) → n ≤ TASKS → taken n ≡ n
@@ -65,10 +66,14 @@ padded-take n zs h = take-at (take n zs) (drop n (replicate TASKS (pos 0))) n (l
 pub padded-all : (n : ℕ) (zs : List ℤ) → length zs ≡ n → n ≤ TASKS → take (taken n) (padded (taken n) zs) ≡ zs
 padded-all n zs l h = rw (taken-all n h) (padded-take n zs (omega arith) ∙ take-all n zs (omega arith))
 
--- what is said by whether the bars fit in the starts is said by whether those of the ranges fit
-pub bars-of : (ys : List Range) (s : Starts) → s ≡ startsOf ys → (P : Bool → Type 0) → P (s .«bars_fit») → P (allBarsFit ys)
-unfolding startsOf
-bars-of ys s e P = subst P (ap (λ (u : Starts). u .«bars_fit») e)
+-- where the bars were asked for, the starts are those of the ranges, and what is said by the answer is said by whether the ranges' bars fit
+pub starts-of : (ys : List Range) (s : StartsWithBars) → s ≡ startsWithBars ys → s .starts ≡ startsOf ys
+unfolding startsWithBars
+starts-of ys s e = ap (λ (u : StartsWithBars). u .starts) e
+
+pub bars-of : (ys : List Range) (s : StartsWithBars) → s ≡ startsWithBars ys → (P : Bool → Type 0) → P (s .«bars_fit») → P (allBarsFit ys)
+unfolding startsWithBars
+bars-of ys s e P = subst P (ap (λ (u : StartsWithBars). u .«bars_fit») e)
 
 -- ---- calls that store starts
 -- a core was passed all ranges, or, where there are too many, none: then what it leaves, none either, is as good as the old starts

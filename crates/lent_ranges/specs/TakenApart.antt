@@ -10,6 +10,7 @@ use Rattle.barred_starts.specs.declared.range.Range.{Range}
 use Rattle.barred_starts.specs.Bars.{allBarsFit}
 use Rattle.barred_starts.specs.Ranges.{earliests, latests}
 use Rattle.lent_ranges.specs.declared.starts.Starts.{Starts}
+use Rattle.lent_ranges.specs.declared.starts.StartsWithBars.{StartsWithBars}
 
 -- how many of n ranges are taken apart: all of them, and none where there are more than any record has tasks
 unfoldable pub taken : ℕ → ℕ
@@ -19,6 +20,17 @@ taken n = cond (leb n TASKS) n 0
 unfoldable pub padded : ℕ → List ℤ → List ℤ
 padded n zs = take n zs ++ drop n (replicate TASKS (pos 0))
 
--- the ranges, taken apart, and whether their bars fit
+-- the earliest and the latest starts, without the places after them
+abbrev pub firstEarliest : Starts → List ℤ
+firstEarliest s = take (s .count) (s .earliest)
+
+abbrev pub firstLatest : Starts → List ℤ
+firstLatest s = take (s .count) (s .latest)
+
+-- the ranges, taken apart
 unfoldable pub startsOf : List Range → Starts
-startsOf ys = record { count = taken (length ys); earliest = padded (taken (length ys)) (earliests ys); latest = padded (taken (length ys)) (latests ys); «bars_fit» = allBarsFit ys }
+startsOf ys = record { count = taken (length ys); earliest = padded (taken (length ys)) (earliests ys); latest = padded (taken (length ys)) (latests ys) }
+
+-- the same, and whether their bars fit
+unfoldable pub startsWithBars : List Range → StartsWithBars
+startsWithBars ys = record { starts = startsOf ys; «bars_fit» = allBarsFit ys }

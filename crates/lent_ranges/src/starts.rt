@@ -10,13 +10,18 @@ ghost use Prim.Native.Nat.{_≤_};
 ghost use lib.ListN.{length, take};
 ghost use Rattle.integers.specs.Limits.{TASKS};
 ghost use Rattle.barred_starts.specs.Ranges.{withStarts, withLatests};
-ghost use Rattle.lent_ranges.specs.TakenApart.{taken, startsOf};
+ghost use Rattle.lent_ranges.specs.TakenApart.{taken, startsOf, startsWithBars};
 
-// Ranges, taken apart: their numbers stand in the first `count` places, zeros after them; of their bars there is whether they fit.
+// Ranges, taken apart: their numbers stand in the first `count` places, zeros after them.
 pub struct Starts {
     pub count: usize,
     pub earliest: [i32; TASKS],
     pub latest: [i32; TASKS],
+}
+
+// The same, and whether the bars of the ranges fit.
+pub struct StartsWithBars {
+    pub starts: Starts,
     pub bars_fit: bool,
 }
 
@@ -30,11 +35,10 @@ fn fitting(n: usize) -> usize
     0
 }
 
-// Two numbers are copied for each range, and no array of bars.
+// Two numbers are copied for each range. No bar is read.
 pub fn starts_of(ranges: &[Range]) -> Starts
     ensures { λ r. ⌜ r ≡ startsOf (now (ranges .entry)) ⌝ }
 {
-    let bars_fit = all_bars_fit(ranges);
     let count = fitting(ranges.len());
     let mut earliest = [0; TASKS];
     let mut latest = [0; TASKS];
@@ -49,8 +53,16 @@ pub fn starts_of(ranges: &[Range]) -> Starts
         count,
         earliest,
         latest,
-        bars_fit,
     }
+}
+
+// The starts, and the answer about the bars: for the calls that ask for it.
+pub fn starts_with_bars(ranges: &[Range]) -> StartsWithBars
+    ensures { λ r. ⌜ r ≡ startsWithBars (now (ranges .entry)) ⌝ }
+{
+    let bars_fit = all_bars_fit(ranges);
+    let starts = starts_of(ranges);
+    StartsWithBars { starts, bars_fit }
 }
 
 // The earliest starts, put back into the ranges that they were taken from: one that was raised moves on to a permitted value.

@@ -63,7 +63,7 @@ module _ (J : Tasks natural) where
   read-yes : (k j : ℕ) → j < J .count → place j < k → read J k j ≡ true
   read-yes k j q r = front-has (byCompletion J) k j (permutes .every j q) r
 
-  read-place : (k j : ℕ) → read J k j ≡ true → place j < k
+  pub read-place : (k j : ℕ) → read J k j ≡ true → place j < k
   read-place k j h = front-place (byCompletion J) (permutes .distinct) k j h
 
   -- one task more
@@ -151,8 +151,13 @@ module _ (J : Tasks natural) where
             )
 
     -- a set that overloads is all read with its last task, and shows then
-    pub met : (Ω : TaskSet) → Overloads J Ω → (k : ℕ) × (k < J .count) × (overloadsAt J k ≡ true)
-    met Ω o =
+    pub record Met (Ω : TaskSet) : Type 0 where
+      pub last : ℕ
+      pub member : In J Ω last
+      pub shows : overloadsAt J (index (byCompletion J) last) ≡ true
+
+    pub last-met : (Ω : TaskSet) → Overloads J Ω → Met Ω
+    last-met Ω o =
         let (m, mm, mt) = largest-at J Ω place (o .lct .holds .0, o .lct .holds .1) in
         let k : ℕ = place m in
         let q : k < J .count = by-completion .placed m (mm .small) in
@@ -160,4 +165,7 @@ module _ (J : Tasks natural) where
         let bound : o .start + processing J Ω ≤ v
         = largest .bounds (o .start + processing J Ω) (record { part = Ω; within = λ j h. read-yes (suc k) j (h .small) (omega (arith, mt j h)); start = o .start; est = o .est; sum = refl }) in
         let same : completion J (at k) ≡ completion J m = ap (completion J) (by-completion .there m (mm .small)) in
-        (k, q, some-exceeds (ectOf J (read J (suc k))) v (completion J (at k)) is (omega (arith, o .over, o .lct .bounds (completion J m) (m, mm, refl), bound, same)))
+        record { last = m; member = mm; shows = some-exceeds (ectOf J (read J (suc k))) v (completion J (at k)) is (omega (arith, o .over, o .lct .bounds (completion J m) (m, mm, refl), bound, same)) }
+
+    pub met : (Ω : TaskSet) → Overloads J Ω → (k : ℕ) × (k < J .count) × (overloadsAt J k ≡ true)
+    met Ω o = let l = last-met Ω o in (place (l .last), by-completion .placed (l .last) (l .member .small), l .shows)

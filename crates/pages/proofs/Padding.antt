@@ -11,6 +11,7 @@ use lib.ListN.{length, getD, take, drop, length-append, length-replicate, replic
 use lib.Seq.{sets, sets-eq, take-at, drop-at, take-append-le}
 use Rattle.integers.specs.Limits.{TASKS, START, DURATIONS}
 use Rattle.integers.proofs.Ints.{ints, up, dn, sumℤ, up-neg, dn-neg}
+use Rattle.integers.specs.Texts.{bytesOf}
 use Rattle.input_refusals.specs.Refusals.{StartFits}
 use Rattle.decimals.specs.Writing.{natural, decimal, Puts}
 use Rattle.decimals.proofs.Decimals.{natural-fits, natural-small, natural-large}
@@ -23,7 +24,7 @@ unfolding padLeft
 pad-length width text h = omega (arith, length-append (spaces (width - length text)) text, length-replicate {A = ℕ} (width - length text) 32)
 
 pub columns-length : (number start end : List ℕ) → length number ≤ 2 → length start ≤ 11 → length end ≤ 11 → length (columns number start end) ≡ LINE
-unfolding columns
+unfolding columns bytesOf
 columns-length number start end h i j =
     let a = padLeft 2 number in
     let b = a ++ spaces 1 in

@@ -14,6 +14,7 @@ use Rattle.integers.specs.Limits.{TASKS, DURATIONS}
 use Rattle.integers.specs.Orders.{has}
 use Rattle.integers.proofs.Words.{overwrites}
 use Rattle.integers.proofs.Permutations.{has-here, has-later}
+use Rattle.integers.specs.Texts.{bytesOf}
 use Rattle.records.specs.declared.record.Propagator.{Propagator}
 use Rattle.fixed_schedules.specs.FixedSchedules.{startAt, endAt, orderOf}
 use Rattle.fixed_schedules.specs.Neighbours.{Started}
@@ -88,6 +89,7 @@ module _ (ds : List ℕ) (es : List ℤ) (s : Started es) (short : (k : ℕ) →
 
   -- The page has one line for each task, by start, least first.
   pub one-line-each : OneLineEach ds es (pageOf ds es)
+  unfolding bytesOf
   one-line-each = record {
     long = omega (arith, length-append heading (flatMap (lineAt ds es) (orderOf es)), flat-length (lineAt ds es) (orderOf es) of-order, order-length es);
     first = take-at heading (flatMap (lineAt ds es) (orderOf es)) LINE refl;

@@ -3,10 +3,10 @@
 use mathlib.Core.Path.{_≡_, refl}
 use mathlib.Core.List.{[], _∷_, _++_, flatMap}
 use lib.IntN.{pos, negsuc}
-use lib.ListN.{replicate}
 use Rattle.integers.specs.Filling.{filled}
 use Rattle.integers.specs.Orders.{insert, sort, numbers}
 use Rattle.integers.specs.Tests.{allBelow, refusal}
+use Rattle.integers.specs.Texts.{bytesOf}
 use Rattle.scheduling.specs.Scheduling.{total}
 use Rattle.records.specs.declared.record.Propagator.{Propagator}
 use Rattle.records.specs.Records.{unusedAt, lawfulRecord, newRecord}
@@ -14,18 +14,17 @@ use Rattle.decimals.specs.Writing.{figures, natural, decimal}
 use Rattle.pages.specs.Lines.{padLeft, columns, heading}
 use Rattle.pages.specs.Pages.{pageOf, pageNumber}
 
--- "NR", "START" and "END" stand in the heading's columns
-heading-columns : columns (78 ∷ 82 ∷ []) (83 ∷ 84 ∷ 65 ∷ 82 ∷ 84 ∷ []) (69 ∷ 78 ∷ 68 ∷ []) ≡ heading
-unfolding columns padLeft
+-- the three names stand in the heading's columns
+heading-columns : columns (bytesOf "NR") (bytesOf "START") (bytesOf "END") ≡ heading
+unfolding columns padLeft bytesOf
 heading-columns = refl
 
--- task 0 starts at 3 and lasts 4, task 1 starts at −12 and lasts 15: its line is the first,
--- " 1         -12           3    ", and " 0           3           7    " is the second
+-- task 0 starts at 3 and lasts 4, task 1 starts at −12 and lasts 15: its line is the first
 two-tasks : pageOf (4 ∷ 15 ∷ []) (pos 3 ∷ negsuc 11 ∷ []) ≡
     heading
-    ++ (32 ∷ 49 ∷ 32 ∷ [] ++ replicate 8 32 ++ (45 ∷ 49 ∷ 50 ∷ 32 ∷ []) ++ replicate 10 32 ++ (51 ∷ 32 ∷ 32 ∷ 32 ∷ 32 ∷ 10 ∷ []))
-    ++ (32 ∷ 48 ∷ 32 ∷ [] ++ replicate 10 32 ++ (51 ∷ 32 ∷ []) ++ replicate 10 32 ++ (55 ∷ 32 ∷ 32 ∷ 32 ∷ 32 ∷ 10 ∷ []))
-unfolding columns padLeft figures natural decimal flatMap sort insert numbers
+    ++ bytesOf " 1         -12           3    \n"
+    ++ bytesOf " 0           3           7    \n"
+unfolding columns padLeft bytesOf figures natural decimal flatMap sort insert numbers
 two-tasks = refl
 
 -- the record of those tasks

@@ -1,8 +1,9 @@
--- The bytes of a page: a heading, and a line for each task. In ASCII 32 is a space and 10 a line feed.
-use mathlib.Core.List.{List, [], _∷_, _++_}
+-- The bytes of a page: a heading, and a line for each task. In ASCII 32 is a space.
+use mathlib.Core.List.{List, _++_}
 use Prim.Native.Nat.{ℕ, _-_}
 use lib.IntN.{ℤ}
 use lib.ListN.{length, replicate}
+use Rattle.integers.specs.Texts.{bytesOf}
 use Rattle.decimals.specs.Writing.{natural, decimal}
 
 -- the bytes of a line, its line feed among them
@@ -16,18 +17,16 @@ spaces n = replicate n 32
 unfoldable pub padLeft : ℕ → List ℕ → List ℕ
 padLeft width text = spaces (width - length text) ++ text
 
--- four spaces and a line feed
 abbrev pub lineEnd : List ℕ
-lineEnd = 32 ∷ 32 ∷ 32 ∷ 32 ∷ 10 ∷ []
+lineEnd = bytesOf "    \n"
 
 -- three texts in their columns, 2, 11 and 11 wide
 unfoldable pub columns : List ℕ → List ℕ → List ℕ → List ℕ
 columns number start end = padLeft 2 number ++ spaces 1 ++ padLeft 11 start ++ spaces 1 ++ padLeft 11 end ++ lineEnd
 
--- "NR       START         END    " and a line feed
+-- the names of the columns, right-aligned over them
 abbrev pub heading : List ℕ
-heading =
-    78 ∷ 82 ∷ 32 ∷ 32 ∷ 32 ∷ 32 ∷ 32 ∷ 32 ∷ 32 ∷ 83 ∷ 84 ∷ 65 ∷ 82 ∷ 84 ∷ 32 ∷ 32 ∷ 32 ∷ 32 ∷ 32 ∷ 32 ∷ 32 ∷ 32 ∷ 32 ∷ 69 ∷ 78 ∷ 68 ∷ 32 ∷ 32 ∷ 32 ∷ 32 ∷ 10 ∷ []
+heading = bytesOf "NR       START         END    \n"
 
 -- the line of a task by its number, its start and its end
 abbrev pub lineOf : ℕ → ℤ → ℤ → List ℕ

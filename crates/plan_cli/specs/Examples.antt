@@ -1,11 +1,12 @@
 -- The definition at instance A, to the byte, and at an empty input; and where an input ends.
 -- Assumes nothing.
 use mathlib.Core.Path.{_≡_, refl}
-use mathlib.Core.List.{List, [], _∷_}
+use mathlib.Core.List.{List, []}
 use Prim.Native.Nat.{ℕ}
 use Rattle.integers.specs.Filling.{filled}
 use Rattle.integers.specs.Orders.{numbers as upTo, sort, insert, index}
 use Rattle.integers.specs.Tests.{allBelow, refusal}
+use Rattle.integers.specs.Texts.{bytesOf}
 use Rattle.scheduling.specs.Scheduling.{total}
 use Rattle.ects.specs.Ects.{decoded}
 use Rattle.trees.specs.Leaves.{root, responsible, theta}
@@ -22,28 +23,27 @@ use Rattle.plan_cli.specs.RunLines.{runLines}
 use Rattle.plan_cli.specs.Printed.{triples, inputTasks, answered, printed}
 use Rattle.plan_cli.specs.Inputs.{firstMark}
 
--- "3", "0 6 4", "1 5 5", "0 20 3", a line each
+-- a count and three tasks, a line each
 abbrev input : List ℕ
-input = 51 ∷ 10 ∷ 48 ∷ 32 ∷ 54 ∷ 32 ∷ 52 ∷ 10 ∷ 49 ∷ 32 ∷ 53 ∷ 32 ∷ 53 ∷ 10 ∷ 48 ∷ 32 ∷ 50 ∷ 48 ∷ 32 ∷ 51 ∷ 10 ∷ []
+input = bytesOf "3\n0 6 4\n1 5 5\n0 20 3\n"
 
--- "post 2 9", five lines from "why 0 >= 0" to "why 2 >= 0", "done 0 1 9"
+-- a post, the atoms of its reason, and the starts that it leaves
 abbrev output : List ℕ
-output = 112 ∷ 111 ∷ 115 ∷ 116 ∷ 32 ∷ 50 ∷ 32 ∷ 57 ∷ 10 ∷ 119 ∷ 104 ∷ 121 ∷ 32 ∷ 48 ∷ 32 ∷ 62 ∷ 61 ∷ 32 ∷ 48 ∷ 10 ∷ 119 ∷ 104 ∷ 121 ∷ 32 ∷ 48 ∷ 32 ∷ 60 ∷ 61 ∷ 32 ∷ 55 ∷ 10 ∷ 119 ∷ 104 ∷ 121 ∷ 32 ∷ 49 ∷ 32 ∷ 62 ∷ 61 ∷ 32 ∷ 48 ∷ 10 ∷ 119 ∷ 104 ∷ 121 ∷ 32 ∷ 49 ∷ 32 ∷ 60 ∷ 61 ∷ 32 ∷ 54 ∷ 10 ∷ 119 ∷ 104 ∷ 121 ∷ 32 ∷ 50 ∷ 32 ∷ 62 ∷ 61 ∷ 32 ∷ 48 ∷ 10 ∷ 100 ∷ 111 ∷ 110 ∷ 101 ∷ 32 ∷ 48 ∷ 32 ∷ 49 ∷ 32 ∷ 57 ∷ 10 ∷ []
+output = bytesOf "post 2 9\nwhy 0 >= 0\nwhy 0 <= 7\nwhy 1 >= 0\nwhy 1 <= 6\nwhy 2 >= 0\ndone 0 1 9\n"
 
 instance-A : printed input ≡ output
-unfolding printed answered inputTasks triples sign postLine whyLine lines doneLine overloadLines runLines refusedLine figures natural decimal space pieces nonEmpty tokens digit digits value ranged unsigned numberOf before numbers numbersOf unusedAt lawfulRecord propagate run outer inner decoded conflict propagation bounds within tabulate width heightFrom nodeOver gray tested descentP descentEct stepP stepEct searchP searchEct thetaOf joinOf isEmpty root responsible theta total allBelow refusal upTo sort insert index filled
+unfolding bytesOf printed answered inputTasks triples sign postLine whyLine lines doneLine overloadLines runLines refusedLine figures natural decimal space pieces nonEmpty tokens digit digits value ranged unsigned numberOf before numbers numbersOf unusedAt lawfulRecord propagate run outer inner decoded conflict propagation bounds within tabulate width heightFrom nodeOver gray tested descentP descentEct stepP stepEct searchP searchEct thetaOf joinOf isEmpty root responsible theta total allBelow refusal upTo sort insert index filled
 instance-A = refl
 
--- "refused 0"
-empty-input : printed [] ≡ 114 ∷ 101 ∷ 102 ∷ 117 ∷ 115 ∷ 101 ∷ 100 ∷ 32 ∷ 48 ∷ 10 ∷ []
-unfolding printed answered inputTasks pieces nonEmpty tokens numbers numbersOf refusedLine figures natural
+empty-input : printed [] ≡ bytesOf "refused 0\n"
+unfolding bytesOf printed answered inputTasks pieces nonEmpty tokens numbers numbersOf refusedLine figures natural
 empty-input = refl
 
--- "0\n%1%" ends its first input at 2, and "0\n" has no '%'
-mark : firstMark (48 ∷ 10 ∷ 37 ∷ 49 ∷ 37 ∷ []) ≡ 2
-unfolding firstMark
+-- the first input ends at its '%', or where the text ends
+mark : firstMark (bytesOf "0\n%1%") ≡ 2
+unfolding firstMark bytesOf
 mark = refl
 
-no-mark : firstMark (48 ∷ 10 ∷ []) ≡ 2
-unfolding firstMark
+no-mark : firstMark (bytesOf "0\n") ≡ 2
+unfolding firstMark bytesOf
 no-mark = refl

@@ -10,6 +10,7 @@ use lib.ListN.{length, getD, take}
 use lib.Seq.{take-all}
 use lib.IntN.{ℤ, pos}
 use lib.Signed.{leZ}
+use Rattle.integers.specs.Texts.{bytesOf}
 use Rattle.decimals.specs.Writing.{natural, decimal, Puts}
 use Rattle.decimals.proofs.Putting.{puts-append}
 use Rattle.scheduling.specs.Scheduling.{Atom}
@@ -17,11 +18,11 @@ use Rattle.scheduling.specs.Words.{atomWords, no-atom}
 use Rattle.scheduling.proofs.Words.{atoms-length, three-alone}
 use Rattle.plan_text.specs.Lines.{newline, space, postWord, whyWord, refusedWord, sign, postLine, whyLine, lines, whyOf, whyLines, refusedLine}
 
-pub sign-low : (kind : ℤ) → leZ kind (pos 0) ≡ true → 32 ∷ 62 ∷ 61 ∷ 32 ∷ [] ≡ sign kind
+pub sign-low : (kind : ℤ) → leZ kind (pos 0) ≡ true → bytesOf " >= " ≡ sign kind
 unfolding sign
 sign-low kind h = rw (h, sign)
 
-pub sign-high : (kind : ℤ) → leZ kind (pos 0) ≡ false → 32 ∷ 60 ∷ 61 ∷ 32 ∷ [] ≡ sign kind
+pub sign-high : (kind : ℤ) → leZ kind (pos 0) ≡ false → bytesOf " <= " ≡ sign kind
 unfolding sign
 sign-high kind h = rw (h, sign)
 

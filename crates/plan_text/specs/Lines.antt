@@ -4,37 +4,39 @@ use mathlib.Core.List.{List, [], _∷_, _++_}
 use Prim.Native.Nat.{ℕ}
 use lib.IntN.{ℤ, pos}
 use lib.Signed.{leZ}
+use Rattle.integers.specs.Texts.{bytesOf}
 use Rattle.scheduling.specs.Scheduling.{Atom}
 use Rattle.decimals.specs.Writing.{natural, decimal}
 
 abbrev pub newline : List ℕ
-newline = 10 ∷ []
+newline = bytesOf "\n"
 
 abbrev pub space : List ℕ
-space = 32 ∷ []
+space = bytesOf " "
 
--- "post ", "why ", "done", "refused ", and the lines "overload" and "emptied"
+-- the words before what a line tells
 abbrev pub postWord : List ℕ
-postWord = 112 ∷ 111 ∷ 115 ∷ 116 ∷ 32 ∷ []
+postWord = bytesOf "post "
 
 abbrev pub whyWord : List ℕ
-whyWord = 119 ∷ 104 ∷ 121 ∷ 32 ∷ []
+whyWord = bytesOf "why "
 
 abbrev pub doneWord : List ℕ
-doneWord = 100 ∷ 111 ∷ 110 ∷ 101 ∷ []
+doneWord = bytesOf "done"
 
 abbrev pub refusedWord : List ℕ
-refusedWord = 114 ∷ 101 ∷ 102 ∷ 117 ∷ 115 ∷ 101 ∷ 100 ∷ 32 ∷ []
+refusedWord = bytesOf "refused "
 
+-- the lines that tell no more
 abbrev pub overloadLine : List ℕ
-overloadLine = 111 ∷ 118 ∷ 101 ∷ 114 ∷ 108 ∷ 111 ∷ 97 ∷ 100 ∷ 10 ∷ []
+overloadLine = bytesOf "overload\n"
 
 abbrev pub emptiedLine : List ℕ
-emptiedLine = 101 ∷ 109 ∷ 112 ∷ 116 ∷ 105 ∷ 101 ∷ 100 ∷ 10 ∷ []
+emptiedLine = bytesOf "emptied\n"
 
--- " >= " of kind 0, and " <= " of kind 1: reasons have no other
+-- kind 0 is ≥, and kind 1 is ≤: reasons have no other
 unfoldable pub sign : ℤ → List ℕ
-sign kind = elim (leZ kind (pos 0)) [ true ↦ 32 ∷ 62 ∷ 61 ∷ 32 ∷ [] | false ↦ 32 ∷ 60 ∷ 61 ∷ 32 ∷ [] ]
+sign kind = elim (leZ kind (pos 0)) [ true ↦ bytesOf " >= " | false ↦ bytesOf " <= " ]
 
 -- the line of a post, by its task and its bound, and that of an atom, by its variable, kind and value
 unfoldable pub postLine : ℤ → ℤ → List ℕ

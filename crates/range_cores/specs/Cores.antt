@@ -7,18 +7,19 @@ use Rattle.integers.specs.Limits.{TASKS}
 use Rattle.propagator.specs.Ran.{Ran}
 use Rattle.mirrored.specs.RanMirrored.{RanMirrored}
 use Rattle.records.specs.declared.record.Propagator.{Propagator}
-use Rattle.lent_ranges.specs.declared.starts.Starts.{Starts}
+use Rattle.lent_ranges.specs.declared.starts.StartsWithBars.{StartsWithBars}
+use Rattle.lent_ranges.specs.TakenApart.{firstEarliest, firstLatest}
 use Rattle.range_cores.specs.declared.cores.CoreRun.{CoreRun}
 use Rattle.range_cores.specs.declared.cores.CoreMirrored.{CoreMirrored}
 
 -- what a run on ranges that are taken apart leaves: what the run leaves of the first `count` numbers of each array
-pub record RanCore (before : Propagator) (starts : Starts) (posts atoms : List ℤ) (r : CoreRun) (posts′ atoms′ : List ℤ) : Type 0 where
-  pub ran : Ran before (take (starts .count) (starts .earliest)) (take (starts .count) (starts .latest)) (starts .«bars_fit») posts atoms (record { «record» = before; outcome = r .finished .outcome; changes = r .finished .changes }) (take (starts .count) (r .starts .earliest)) posts′ atoms′
-  pub same-count : r .starts .count ≡ starts .count
+pub record RanCore (before : Propagator) (ranges : StartsWithBars) (posts atoms : List ℤ) (r : CoreRun) (posts′ atoms′ : List ℤ) : Type 0 where
+  pub ran : Ran before (firstEarliest (ranges .starts)) (firstLatest (ranges .starts)) (ranges .«bars_fit») posts atoms (record { «record» = r .«record»; outcome = r .finished .outcome; changes = r .finished .changes }) (take (ranges .starts .count) (r .starts .earliest)) posts′ atoms′
+  pub same-count : r .starts .count ≡ ranges .starts .count
   pub whole : length (r .starts .earliest) ≡ TASKS
 
 -- what a mirrored pass on ranges that are taken apart leaves
-pub record RanMirroredCore (before : Propagator) (starts : Starts) (posts atoms : List ℤ) (r : CoreMirrored) (posts′ atoms′ : List ℤ) : Type 0 where
-  pub ran : RanMirrored before (take (starts .count) (starts .earliest)) (take (starts .count) (starts .latest)) (starts .«bars_fit») posts atoms (r .outcome) (take (starts .count) (r .starts .latest)) posts′ atoms′
-  pub same-count : r .starts .count ≡ starts .count
+pub record RanMirroredCore (before : Propagator) (ranges : StartsWithBars) (posts atoms : List ℤ) (r : CoreMirrored) (posts′ atoms′ : List ℤ) : Type 0 where
+  pub ran : RanMirrored before (firstEarliest (ranges .starts)) (firstLatest (ranges .starts)) (ranges .«bars_fit») posts atoms (r .outcome) (take (ranges .starts .count) (r .starts .latest)) posts′ atoms′
+  pub same-count : r .starts .count ≡ ranges .starts .count
   pub whole : length (r .starts .latest) ≡ TASKS

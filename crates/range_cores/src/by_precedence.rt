@@ -1,12 +1,13 @@
 // The pass by precedences and the reason of one task's bound, on the first `count` places of the arrays.
 use integers::limits::TASKS;
 use lent_ranges::starts::Starts;
+use lent_ranges::starts::StartsWithBars;
 use precedence_reasons::answer::Reason;
 use precedences::answers::Precedences;
 use records::record::Propagator;
 ghost use Prim.Native.Nat.{_≤_};
-ghost use lib.ListN.{take};
 ghost use Rattle.integers.specs.Limits.{TASKS};
+ghost use Rattle.lent_ranges.specs.TakenApart.{firstEarliest, firstLatest};
 ghost use Rattle.precedence_reasons.specs.Reasons.{ReasonGiven};
 ghost use Rattle.range_cores.specs.PrecedencesCore.{PrecedencesCore};
 
@@ -17,10 +18,11 @@ pub struct CorePrecedences {
 }
 
 // The pass on the first `count` places of the arrays.
-pub fn precedences_core(record: Propagator, starts: Starts) -> CorePrecedences
-    requires { ⌜ starts .count ≤ TASKS ⌝ }
-    ensures { λ r. ⌜ PrecedencesCore «record» starts r ⌝ }
+pub fn precedences_core(record: Propagator, ranges: StartsWithBars) -> CorePrecedences
+    requires { ⌜ ranges .starts .count ≤ TASKS ⌝ }
+    ensures { λ r. ⌜ PrecedencesCore «record» ranges r ⌝ }
 {
+    let starts = ranges.starts;
     let n = starts.count;
     let mut earliest = starts.earliest;
     let latest = starts.latest;
@@ -28,7 +30,7 @@ pub fn precedences_core(record: Propagator, starts: Starts) -> CorePrecedences
         record,
         &mut earliest[..n],
         &latest[..n],
-        starts.bars_fit,
+        ranges.bars_fit,
     );
     CorePrecedences {
         answer,
@@ -36,16 +38,21 @@ pub fn precedences_core(record: Propagator, starts: Starts) -> CorePrecedences
             count: n,
             earliest,
             latest,
-            bars_fit: starts.bars_fit,
         },
     }
 }
 
 // The reason of a task's bound over the first `count` places of the arrays.
-pub fn reason_core(record: Propagator, starts: Starts, task: usize, reason: &mut [i32]) -> Reason
-    requires { ⌜ starts .count ≤ TASKS ⌝ }
-    ensures { λ r. ⌜ ReasonGiven «record» (take (starts .count) (starts .earliest)) (take (starts .count) (starts .latest)) (starts .«bars_fit») task (now (reason .entry)) r (now (reason .exit)) ⌝ }
+pub fn reason_core(
+    record: Propagator,
+    ranges: StartsWithBars,
+    task: usize,
+    reason: &mut [i32],
+) -> Reason
+    requires { ⌜ ranges .starts .count ≤ TASKS ⌝ }
+    ensures { λ r. ⌜ ReasonGiven «record» (firstEarliest (ranges .starts)) (firstLatest (ranges .starts)) (ranges .«bars_fit») task (now (reason .entry)) r (now (reason .exit)) ⌝ }
 {
+    let starts = ranges.starts;
     let n = starts.count;
     let earliest = starts.earliest;
     let latest = starts.latest;
@@ -53,7 +60,7 @@ pub fn reason_core(record: Propagator, starts: Starts, task: usize, reason: &mut
         record,
         &earliest[..n],
         &latest[..n],
-        starts.bars_fit,
+        ranges.bars_fit,
         task,
         reason,
     )

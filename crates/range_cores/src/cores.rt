@@ -1,6 +1,7 @@
 // The run, the mirrored pass and the overload test on ranges that are taken apart: the core is called on the first `count` places of the arrays.
 use integers::limits::TASKS;
 use lent_ranges::starts::Starts;
+use lent_ranges::starts::StartsWithBars;
 use mirrored::mirrored_propagator::propagate_mirrored;
 use overload_test::overload_test::Overload;
 use propagator::disjunctive_propagator::propagate;
@@ -8,13 +9,14 @@ use records::record::Propagator;
 use runs::outcome::Finished;
 use runs::outcome::Outcome;
 ghost use Prim.Native.Nat.{_≤_};
-ghost use lib.ListN.{take};
 ghost use Rattle.integers.specs.Limits.{TASKS};
+ghost use Rattle.lent_ranges.specs.TakenApart.{firstEarliest, firstLatest};
 ghost use Rattle.overload_test.specs.Tested.{OverloadTested};
 ghost use Rattle.range_cores.specs.Cores.{RanCore, RanMirroredCore};
 
-// What a run on ranges that are taken apart returns. The record is not among it: no run changes one.
+// What a run on ranges that are taken apart returns.
 pub struct CoreRun {
+    pub record: Propagator,
     pub finished: Finished,
     pub starts: Starts,
 }
@@ -26,10 +28,16 @@ pub struct CoreMirrored {
 }
 
 // The run on the first `count` places of the arrays.
-pub fn run_core(record: Propagator, starts: Starts, posts: &mut [i32], atoms: &mut [i32]) -> CoreRun
-    requires { ⌜ starts .count ≤ TASKS ⌝ }
-    ensures { λ r. ⌜ RanCore «record» starts (now (posts .entry)) (now (atoms .entry)) r (now (posts .exit)) (now (atoms .exit)) ⌝ }
+pub fn run_core(
+    record: Propagator,
+    ranges: StartsWithBars,
+    posts: &mut [i32],
+    atoms: &mut [i32],
+) -> CoreRun
+    requires { ⌜ ranges .starts .count ≤ TASKS ⌝ }
+    ensures { λ r. ⌜ RanCore «record» ranges (now (posts .entry)) (now (atoms .entry)) r (now (posts .exit)) (now (atoms .exit)) ⌝ }
 {
+    let starts = ranges.starts;
     let n = starts.count;
     let mut earliest = starts.earliest;
     let latest = starts.latest;
@@ -37,22 +45,23 @@ pub fn run_core(record: Propagator, starts: Starts, posts: &mut [i32], atoms: &m
         record,
         &mut earliest[..n],
         &latest[..n],
-        starts.bars_fit,
+        ranges.bars_fit,
         posts,
         atoms,
     );
+    let after = ran.record;
     let outcome = ran.outcome;
     let finished = Finished {
         outcome,
         changes: ran.changes,
     };
     CoreRun {
+        record: after,
         finished,
         starts: Starts {
             count: n,
             earliest,
             latest,
-            bars_fit: starts.bars_fit,
         },
     }
 }
@@ -60,13 +69,14 @@ pub fn run_core(record: Propagator, starts: Starts, posts: &mut [i32], atoms: &m
 // The mirrored pass on the first `count` places of the arrays.
 pub fn mirrored_core(
     record: Propagator,
-    starts: Starts,
+    ranges: StartsWithBars,
     posts: &mut [i32],
     atoms: &mut [i32],
 ) -> CoreMirrored
-    requires { ⌜ starts .count ≤ TASKS ⌝ }
-    ensures { λ r. ⌜ RanMirroredCore «record» starts (now (posts .entry)) (now (atoms .entry)) r (now (posts .exit)) (now (atoms .exit)) ⌝ }
+    requires { ⌜ ranges .starts .count ≤ TASKS ⌝ }
+    ensures { λ r. ⌜ RanMirroredCore «record» ranges (now (posts .entry)) (now (atoms .entry)) r (now (posts .exit)) (now (atoms .exit)) ⌝ }
 {
+    let starts = ranges.starts;
     let n = starts.count;
     let earliest = starts.earliest;
     let mut latest = starts.latest;
@@ -74,7 +84,7 @@ pub fn mirrored_core(
         record,
         &earliest[..n],
         &mut latest[..n],
-        starts.bars_fit,
+        ranges.bars_fit,
         posts,
         atoms,
     );
@@ -84,16 +94,16 @@ pub fn mirrored_core(
             count: n,
             earliest,
             latest,
-            bars_fit: starts.bars_fit,
         },
     }
 }
 
 // The overload test on the first `count` places of the arrays.
-pub fn overload_core(record: Propagator, starts: Starts) -> Overload
-    requires { ⌜ starts .count ≤ TASKS ⌝ }
-    ensures { λ r. ⌜ OverloadTested «record» (take (starts .count) (starts .earliest)) (take (starts .count) (starts .latest)) (starts .«bars_fit») r ⌝ }
+pub fn overload_core(record: Propagator, ranges: StartsWithBars) -> Overload
+    requires { ⌜ ranges .starts .count ≤ TASKS ⌝ }
+    ensures { λ r. ⌜ OverloadTested «record» (firstEarliest (ranges .starts)) (firstLatest (ranges .starts)) (ranges .«bars_fit») r ⌝ }
 {
+    let starts = ranges.starts;
     let n = starts.count;
     let earliest = starts.earliest;
     let latest = starts.latest;
@@ -101,6 +111,6 @@ pub fn overload_core(record: Propagator, starts: Starts) -> Overload
         record,
         &earliest[..n],
         &latest[..n],
-        starts.bars_fit,
+        ranges.bars_fit,
     )
 }

@@ -7,8 +7,8 @@ use lent_ranges::starts::Starts;
 use pages::answer::Page;
 use records::record::Propagator;
 ghost use Prim.Native.Nat.{_≤_};
-ghost use lib.ListN.{take};
 ghost use Rattle.integers.specs.Limits.{TASKS};
+ghost use Rattle.lent_ranges.specs.TakenApart.{firstEarliest, firstLatest};
 ghost use Rattle.charges.specs.Charging.{Charged};
 ghost use Rattle.free_starts.specs.FreeStarts.{Answered as FreeStartAnswered};
 ghost use Rattle.pages.specs.Pages.{Paged};
@@ -17,7 +17,7 @@ ghost use Rattle.busiest_stretch.specs.Stretches.{Answered as BusiestAnswered};
 // The page of the first `count` places of the arrays.
 pub fn page_core(record: Propagator, starts: Starts, out: &mut [u8]) -> Page
     requires { ⌜ starts .count ≤ TASKS ⌝ }
-    ensures { λ r. ⌜ Paged «record» (take (starts .count) (starts .earliest)) (take (starts .count) (starts .latest)) (now (out .entry)) r (now (out .exit)) ⌝ }
+    ensures { λ r. ⌜ Paged «record» (firstEarliest starts) (firstLatest starts) (now (out .entry)) r (now (out .exit)) ⌝ }
 {
     let n = starts.count;
     let earliest = starts.earliest;
@@ -28,7 +28,7 @@ pub fn page_core(record: Propagator, starts: Starts, out: &mut [u8]) -> Page
 // The charges of the first `count` places of the arrays.
 pub fn charges_core(record: Propagator, starts: Starts, due: &[i32]) -> Charges
     requires { ⌜ starts .count ≤ TASKS ⌝ }
-    ensures { λ r. ⌜ Charged «record» (take (starts .count) (starts .earliest)) (take (starts .count) (starts .latest)) (now (due .entry)) r ⌝ }
+    ensures { λ r. ⌜ Charged «record» (firstEarliest starts) (firstLatest starts) (now (due .entry)) r ⌝ }
 {
     let n = starts.count;
     let earliest = starts.earliest;
@@ -39,7 +39,7 @@ pub fn charges_core(record: Propagator, starts: Starts, due: &[i32]) -> Charges
 // The free start beside the first `count` places of the arrays.
 pub fn free_core(record: Propagator, starts: Starts, t: i32, d: i32) -> FreeStart
     requires { ⌜ starts .count ≤ TASKS ⌝ }
-    ensures { λ r. ⌜ FreeStartAnswered «record» (take (starts .count) (starts .earliest)) (take (starts .count) (starts .latest)) t d r ⌝ }
+    ensures { λ r. ⌜ FreeStartAnswered «record» (firstEarliest starts) (firstLatest starts) t d r ⌝ }
 {
     let n = starts.count;
     let earliest = starts.earliest;
@@ -50,7 +50,7 @@ pub fn free_core(record: Propagator, starts: Starts, t: i32, d: i32) -> FreeStar
 // The busiest stretch of the first `count` places of the arrays.
 pub fn stretch_core(record: Propagator, starts: Starts, w: i32) -> Busiest
     requires { ⌜ starts .count ≤ TASKS ⌝ }
-    ensures { λ r. ⌜ BusiestAnswered «record» (take (starts .count) (starts .earliest)) (take (starts .count) (starts .latest)) w r ⌝ }
+    ensures { λ r. ⌜ BusiestAnswered «record» (firstEarliest starts) (firstLatest starts) w r ⌝ }
 {
     let n = starts.count;
     let earliest = starts.earliest;

@@ -29,8 +29,8 @@ use denote.Triple.Statement.{Contract, Triple}
 use Rattle.integers.specs.Limits.{TASKS}
 use Rattle.records.specs.declared.record.Propagator.{Propagator}
 use Rattle.records.proofs.record.Propagator as P
-use Rattle.lent_ranges.specs.declared.starts.Starts.{Starts}
-use Rattle.lent_ranges.proofs.starts.Starts as S
+use Rattle.lent_ranges.specs.declared.starts.StartsWithBars.{StartsWithBars}
+use Rattle.lent_ranges.proofs.starts.StartsWithBars as B
 use Rattle.disjunctive.proofs.Calls.{ContractOf, calls-by}
 use Rattle.disjunctive.proofs.ranges.LentRecord.{machP}
 
@@ -42,34 +42,34 @@ abbrev pub tokens : {M : Type 1} {𝓤 : URA M} → Lft → Lft → Share → Sh
 tokens κ₁ κ₂ q₁ q₂ = ‵ (flft κ₁ q₁) ⊛ ‵ (flft κ₂ q₂) ⊛ ‵ ftrue
 
 -- a core with the result R, which says Ran
-module _ (R : RattleType) (Ran : Propagator → Starts → List ℤ → List ℤ → R .Denot → List ℤ → List ℤ → Type 0) where
+module _ (R : RattleType) (Ran : Propagator → StartsWithBars → List ℤ → List ℤ → R .Denot → List ℤ → List ℤ → Type 0) where
   abbrev core : Ended
   core = record {
-    signature = record { lifetimes = 2; outlives = []; params = plain (λ _. P.the-row) ∷ plain (λ _. S.the-row) ∷ mutSliceOf (0 ∷ []) tt (plain (λ _. i32)) ∷ mutSliceOf (1 ∷ []) tt (plain (λ _. i32)) ∷ []; result = plain (λ _. R) };
+    signature = record { lifetimes = 2; outlives = []; params = plain (λ _. P.the-row) ∷ plain (λ _. B.the-row) ∷ mutSliceOf (0 ∷ []) tt (plain (λ _. i32)) ∷ mutSliceOf (1 ∷ []) tt (plain (λ _. i32)) ∷ []; result = plain (λ _. R) };
     kept = (yes, (yes, (yes, (yes, tt))));
   }
 
   module _ {M : Type 1} (𝓤 : URA M) (H : Heap 𝓤) (A : Atoms 𝓤) where
     abbrev says : Clauses 𝓤 core
-    says κs a = record { ghost = Unit {0}; requires = λ _. fact 𝓤 (a .1 .0 .count ≤ TASKS); ensures = λ _ r e. fact 𝓤 (Ran (a .0) (a .1 .0) (now (a .1 .1 .0)) (now (a .1 .1 .1 .0)) r (now (e .1 .1 .0)) (now (e .1 .1 .1 .0))) }
+    says κs a = record { ghost = Unit {0}; requires = λ _. fact 𝓤 (a .1 .0 .starts .count ≤ TASKS); ensures = λ _ r e. fact 𝓤 (Ran (a .0) (a .1 .0) (now (a .1 .1 .0)) (now (a .1 .1 .1 .0)) r (now (e .1 .1 .0)) (now (e .1 .1 .1 .0))) }
 
     abbrev pub Core : Contract 𝓤
     Core = ContractOf 𝓤 H A core says
 
-    abbrev to-core : Lft → Lft → Share → Share → Propagator → Starts → Val → RefT (List ℤ) → RefT (List ℤ) → Core .Ghost
+    abbrev to-core : Lft → Lft → Share → Share → Propagator → StartsWithBars → Val → RefT (List ℤ) → RefT (List ℤ) → Core .Ghost
     to-core κ₁ κ₂ q₁ q₂ h s w xp xa = (((κ₁, (κ₂, tt)), (q₁, (q₂, tt)), tt, (h, (s, (xp, (xa, tt)))), (machP h ∷ [], (w ∷ [], (wordsVal xp ∷ [], (wordsVal xa ∷ [], tt))))), tt)
 
 module _ {M : Type 1} {𝓤 : URA M} {H : Heap 𝓤} {A : Atoms 𝓤} {K : Type 0} {W : Given 𝓤 H A} {Γ : List (Item 𝓤)} where
   pub calls-core : {C : Calls 𝓤 H} {Λ : Loops 𝓤 H} {E : Env 𝓤 H} {q : Post 𝓤 H} {f : Name} {xs : List Operand} {d : Place} {rest : Body}
-      → K → FmC 𝓤 H (W .laws) C → (R : RattleType) (Ran : Propagator → Starts → List ℤ → List ℤ → R .Denot → List ℤ → List ℤ → Type 0) → Triple 𝓤 (C f) (Core R Ran 𝓤 H A)
-      → (κ₁ κ₂ : Lft) (q₁ q₂ : Share) (h : Propagator) (s : Starts) (w : Val) (xp xa : RefT (List ℤ)) → s .count ≤ TASKS
+      → K → FmC 𝓤 H (W .laws) C → (R : RattleType) (Ran : Propagator → StartsWithBars → List ℤ → List ℤ → R .Denot → List ℤ → List ℤ → Type 0) → Triple 𝓤 (C f) (Core R Ran 𝓤 H A)
+      → (κ₁ κ₂ : Lft) (q₁ q₂ : Share) (h : Propagator) (s : StartsWithBars) (w : Val) (xp xa : RefT (List ℤ)) → s .starts .count ≤ TASKS
       → Opds K W (raw (Core R Ran 𝓤 H A .pre (to-core R Ran 𝓤 H A κ₁ κ₂ q₁ q₂ h s w xp xa)) ∷ Γ) E xs (machP h ∷ w ∷ wordsVal xp ∷ wordsVal xa ∷ [])
       → ((v : Val) (r : R .Denot) (ps ats : List ℤ) → Ran h s (now xp) (now xa) r ps ats → length ps ≡ length (now xp) → length ats ≡ length (now xa) → Is R r (v ∷ [])
       → Seq K W (‵ (R .own r (v ∷ [])) ∷ tokens κ₁ κ₂ q₁ q₂ ∷ ‵ (finally i32 (xa .name) ats) ∷ ‵ (finally i32 (xp .name) ps) ∷ Γ) (lands C Λ E d v rest q))
-      → Seq K W (‵ (P.the-row .own h (machP h ∷ [])) ∷ ‵ (S.the-row .own s (w ∷ [])) ∷ ‵ (MutSlice (named 0) κ₁ i32 .own xp (wordsVal xp ∷ [])) ∷ ‵ (MutSlice (named 1) κ₂ i32 .own xa (wordsVal xa ∷ [])) ∷ tokens κ₁ κ₂ q₁ q₂ ∷ Γ) (runs C Λ E (seq (call f xs d) rest) q)
+      → Seq K W (‵ (P.the-row .own h (machP h ∷ [])) ∷ ‵ (B.the-row .own s (w ∷ [])) ∷ ‵ (MutSlice (named 0) κ₁ i32 .own xp (wordsVal xp ∷ [])) ∷ ‵ (MutSlice (named 1) κ₂ i32 .own xa (wordsVal xa ∷ [])) ∷ tokens κ₁ κ₂ q₁ q₂ ∷ Γ) (runs C Λ E (seq (call f xs d) rest) q)
   calls-core t fm R Ran known κ₁ κ₂ q₁ q₂ h s w xp xa few os k =
       nothing t $ move t (4 ∷ 0 ∷ []) $ fjoin t $ move t (3 ∷ 0 ∷ []) $ fjoin t $ move t (2 ∷ 0 ∷ []) $ fjoin t $ move t (1 ∷ 0 ∷ []) $ fjoin t $ move t (1 ∷ 0 ∷ []) $ join t $
-      use0 W (raw (fact 𝓤 (s .count ≤ TASKS))) (factI 𝓤 (s .count ≤ TASKS) (emp 𝓤) few) $ move t (1 ∷ 0 ∷ []) $ join t $ use1 W (raw (Core R Ran 𝓤 H A .pre (to-core R Ran 𝓤 H A κ₁ κ₂ q₁ q₂ h s w xp xa))) (id⊢ 𝓤 _) $
+      use0 W (raw (fact 𝓤 (s .starts .count ≤ TASKS))) (factI 𝓤 (s .starts .count ≤ TASKS) (emp 𝓤) few) $ move t (1 ∷ 0 ∷ []) $ join t $ use1 W (raw (Core R Ran 𝓤 H A .pre (to-core R Ran 𝓤 H A κ₁ κ₂ q₁ q₂ h s w xp xa))) (id⊢ 𝓤 _) $
       calls-by t fm (core R Ran) (says R Ran 𝓤 H A) known (to-core R Ran 𝓤 H A κ₁ κ₂ q₁ q₂ h s w xp xa) os (λ v r us is.
       move t (3 ∷ []) $ heard t (Ran h s (now xp) (now xa) r (us .1 .1 .0) (us .1 .1 .1 .0)) (λ e. move t (1 ∷ []) $ use1 W (tokens κ₁ κ₂ q₁ q₂) (id⊢ 𝓤 _) $ move t (2 ∷ []) $
       -- [what is said of what was passed; the tokens; what the result owns]

@@ -1,6 +1,6 @@
 // The open calls by precedences, on lent ranges: the pass raises earliest starts in them, and the reason of one task's bound is written from them.
 use barred_starts::range::Range;
-use lent_ranges::starts::starts_of;
+use lent_ranges::starts::starts_with_bars;
 use lent_ranges::starts::store_starts;
 use precedence_reasons::answer::Reason;
 use precedences::answers::Precedences;
@@ -16,7 +16,7 @@ ghost use Rattle.promises.specs.PrecedencesLent.{PrecedencesLent};
 pub fn precedences(propagator: &Propagator, ranges: &mut [Range]) -> Precedences
     ensures { λ r. ⌜ PrecedencesLent (now (propagator .entry)) (now (ranges .entry)) r (now (ranges .exit)) ⌝ }
 {
-    let starts = starts_of(ranges);
+    let starts = starts_with_bars(ranges);
     let ran = precedences_core(*propagator, starts);
     store_starts(ranges, ran.starts);
     ran.answer
@@ -31,6 +31,6 @@ pub fn precedence_reason(
 ) -> Reason
     ensures { λ r. ⌜ ReasonGiven (now (propagator .entry)) (earliests (now (ranges .entry))) (latests (now (ranges .entry))) (allBarsFit (now (ranges .entry))) task (now (reason .entry)) r (now (reason .exit)) ⌝ }
 {
-    let starts = starts_of(ranges);
+    let starts = starts_with_bars(ranges);
     reason_core(*propagator, starts, task, reason)
 }

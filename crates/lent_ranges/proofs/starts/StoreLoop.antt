@@ -66,7 +66,7 @@ slice = sliceTy (tyRef (named 0) mut (pointee (T.the-row .written)))
 
 -- the types of the locals, spelled as the functions' MIR spells them
 abbrev table : Table
-table = (T.the-type .name, fields (tcons (tyInt w32) (tcons (tyInt w32) (tcons word (tcons (tyArray (tyInt w32) BARS) tnil))))) ∷ (S.the-type .name, fields (tcons word (tcons numbers (tcons numbers (tcons tyBool tnil))))) ∷ []
+table = (T.the-type .name, fields (tcons (tyInt w32) (tcons (tyInt w32) (tcons word (tcons (tyArray (tyInt w32) BARS) tnil))))) ∷ (S.the-type .name, fields (tcons word (tcons numbers (tcons numbers tnil)))) ∷ []
 
 abbrev starts : Ty
 starts = spell table (pointee (S.the-row .written))

@@ -1,11 +1,13 @@
 -- The count's line, and the tasks' lines behind it.
 use native.Mathlib.Omega.{arith}
+use Rattle.integers.specs.Texts.{bytesOf}
 use Rattle.costliest_cli.proofs.Putting.{puts-instance}
 use borrow.Author.Needs.{needs}
 use Rattle.costliest_cli.proofs.tasks.put_instance.Statement.{statement}
 use Rattle.costliest_cli.proofs.tasks.put_instance.Tie as tie
 
 returns : tie.Need-returns
+unfolding bytesOf
 returns c =
     let tasks = c .before .before in
     let feed = tasks .before .before .before .before in

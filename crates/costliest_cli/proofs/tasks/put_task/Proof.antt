@@ -1,11 +1,13 @@
 -- Three numbers with what stands between them, put one behind the other; each has at most 20 bytes.
 use native.Mathlib.Omega.{arith}
+use Rattle.integers.specs.Texts.{bytesOf}
 use Rattle.costliest_cli.proofs.Putting.{puts-task}
 use borrow.Author.Needs.{needs}
 use Rattle.costliest_cli.proofs.tasks.put_task.Statement.{statement}
 use Rattle.costliest_cli.proofs.tasks.put_task.Tie as tie
 
 returns : tie.Need-returns
+unfolding bytesOf
 returns c =
     let last = c .before .before in
     let third = last .before .before .before .before .before in

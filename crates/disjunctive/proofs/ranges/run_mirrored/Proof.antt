@@ -1,4 +1,4 @@
--- `ranges::run_mirrored` meets its contract: a walk of its MIR, by hand. The borrow of the ranges is opened. They are lent as a `&` for a lifetime of the call of `starts_of`, come back, are closed, and are passed on for good to `store_latest`.
+-- `ranges::run_mirrored` meets its contract: a walk of its MIR, by hand. The borrow of the ranges is opened. They are lent as a `&` for a lifetime of the call of `starts_with_bars`, come back, are closed, and are passed on for good to `store_latest`.
 -- `mirrored_core` is passed a copy of the lent record, which stays as it is, and the posts and the atoms for good: they are not opened here.
 -- Assumes nothing.
 use mathlib.Core.Path.{_≡_, refl, sym, ap, subst}
@@ -54,23 +54,25 @@ use Rattle.promises.specs.RanMirroredLent.{RanMirroredLent}
 use Rattle.range_cores.specs.Cores.{RanMirroredCore}
 use Rattle.lent_ranges.specs.declared.starts.Starts.{Starts}
 use Rattle.range_cores.specs.declared.cores.CoreMirrored.{CoreMirrored}
-use Rattle.lent_ranges.proofs.TakenApart.{starts-fit}
+use Rattle.lent_ranges.proofs.TakenApart.{starts-of, starts-fit}
 use Rattle.range_cores.proofs.cores.CoreMirrored as R
 use Rattle.range_cores.proofs.cores.CoreMirrored.Laws as R′
 use Rattle.range_cores.proofs.cores.mirrored_core.Symbol as mirrored-core-def
 use Rattle.range_cores.proofs.cores.mirrored_core.Symbol.{name as #mirrored-core}
 use Rattle.range_cores.proofs.cores.mirrored_core.Met as mirrored-core-thm
 use Rattle.disjunctive.proofs.LentRuns.{lent-mirrored-run}
-use Rattle.lent_ranges.proofs.starts.Lending.{machS, rangesVal, rangesAt, StartsOf, calls-starts-mut}
+use Rattle.lent_ranges.proofs.starts.Lending.{machS, rangesVal, rangesAt, Reads, TakenWithBars, calls-reader-mut}
 use Rattle.disjunctive.proofs.Routines.{by-walk}
 use Rattle.disjunctive.proofs.ranges.LentRecord.{machP, looks-into, shuts-record}
 use Rattle.disjunctive.proofs.ranges.CoreCalls.{wordsVal, tokens, Core, calls-core}
 use Rattle.barred_starts.proofs.range.Range as T
+use Rattle.lent_ranges.proofs.starts.StartsWithBars as B
+use Rattle.lent_ranges.proofs.starts.StartsWithBars.Laws as B′
 use Rattle.lent_ranges.proofs.starts.Starts as S
 use Rattle.lent_ranges.proofs.starts.Starts.Laws as S′
-use Rattle.lent_ranges.proofs.starts.starts_of.Symbol as starts-of-def
-use Rattle.lent_ranges.proofs.starts.starts_of.Symbol.{name as #starts-of}
-use Rattle.lent_ranges.proofs.starts.starts_of.Met as starts-of-thm
+use Rattle.lent_ranges.proofs.starts.starts_with_bars.Symbol as with-bars-def
+use Rattle.lent_ranges.proofs.starts.starts_with_bars.Symbol.{name as #with-bars}
+use Rattle.lent_ranges.proofs.starts.starts_with_bars.Met as with-bars-thm
 use Rattle.lent_ranges.proofs.starts.store_latest as store-latest
 use Rattle.lent_ranges.proofs.starts.store_latest.Symbol as store-latest-def
 use Rattle.lent_ranges.proofs.starts.store_latest.Symbol.{name as #store-latest}
@@ -132,7 +134,7 @@ module _ {M : Type 1} (𝓤 : URA M) (H : Heap 𝓤) (A : Atoms 𝓤) (W : Given
   goes-store s fit gs = qed W ((‵ (flft κ₁ q₁) ⊛ ‵ ftrue) ∷ ‵ (MutSlice (named 0) κ₁ T.the-row .own xr (vr ∷ [])) ∷ []) ∵ says ! fit $
       nothing ! $ owned ! S.the-row (Is S.the-row) ((LL.makes S.the-type S′.the-plain) 𝓤 H A) s _ gs $ fjoin ! $ move ! (2 ∷ 0 ∷ []) $ fjoin ! $ move ! (1 ∷ 0 ∷ []) $ frame ! $ done !
 
-  module _ (C : Calls 𝓤 H) (Λ : Loops 𝓤 H) (fm : FmC 𝓤 H (W .laws) C) (known-starts : Triple 𝓤 (C #starts-of) (StartsOf 𝓤 H A at-mem run)) (known-core : Triple 𝓤 (C #mirrored-core) (Core R.the-row RanMirroredCore 𝓤 H A)) (known-store : Triple 𝓤 (C #store-latest) (Store 𝓤 H A at-mem run))
+  module _ (C : Calls 𝓤 H) (Λ : Loops 𝓤 H) (fm : FmC 𝓤 H (W .laws) C) (known-starts : Triple 𝓤 (C #with-bars) (Reads B.the-row TakenWithBars 𝓤 H A)) (known-core : Triple 𝓤 (C #mirrored-core) (Core R.the-row RanMirroredCore 𝓤 H A)) (known-store : Triple 𝓤 (C #store-latest) (Store 𝓤 H A at-mem run))
       (g : Room T.the-row (length ys)) (gp : Room i32 (length (now xp))) (ga : Room i32 (length (now xa))) where
     walk : ent 𝓤 (onEntry 𝓤 H A f.signature (κ, (κ₁, (κ₂, (κ₃, tt)))) (q, (q₁, (q₂, (q₃, tt)))) x at) (WpFn 𝓤 H C Λ code.function (vptr b o ∷ vr ∷ wordsVal xp ∷ wordsVal xa ∷ []) Post)
     walk =
@@ -144,8 +146,8 @@ module _ {M : Type 1} (𝓤 : URA M) (H : Heap 𝓤) (A : Atoms 𝓤) (W : Given
         -- [the ranges' obs; their borrow; their token; their fact; the posts; the atoms; the tokens of both; the record's borrow; its token; _16; …; _0; …]
         assigns ! (addr ! (from ! (fld ! refl (hop ! (look-in ! 37 (sub ! 0 refl (whole !))) (stop !))))) (from ! (stop !)) (init ! 27 refl (tt, tt)) $
         assigns ! (agg ! (and-then ! (load ! (from ! (stop !)) (look ! 27 refl)) (and-then ! (load ! (from ! (fld ! refl (stop !))) (look-in ! 37 (sub ! 1 refl (whole !)))) (no-more !)))) (from ! (stop !)) (init ! 25 refl (tt, (tt, (record { fits = g .0 }, tt)))) $
-        calls-starts-mut ! fm at-mem run known-starts κ₁ q₁ b₁ o₁ γ₁ ys g (λ ν δ. and-then ! (load ! (from ! (stop !)) (look ! 27 refl)) (no-more !)) (λ w s e₁ is₁.
-        land ! (from ! (stop !)) (init ! 32 refl (LL.lawful S.the-type S′.the-laws 𝓤 H A W .typed s _ is₁ .0)) $
+        calls-reader-mut ! fm B.the-row TakenWithBars known-starts κ₁ q₁ b₁ o₁ γ₁ ys g (λ ν δ. and-then ! (load ! (from ! (stop !)) (look ! 27 refl)) (no-more !)) (λ w s e₁ is₁.
+        land ! (from ! (stop !)) (init ! 32 refl (LL.lawful B.the-type B′.the-laws 𝓤 H A W .typed s _ is₁ .0)) $
         -- [the ranges' obs; their borrow; their token; what the starts own; the ranges' fact; the posts; the atoms; the tokens of both; the record's borrow; its token; _16; …; _0; …]
         move ! (8 ∷ 9 ∷ []) $ looks-into ! tt h b o (λ q′ gh.
         -- [a share of the record's cell; what it owns; what shuts it; its borrow; the ranges' obs; their borrow; their token; what the starts own; the ranges' fact; the posts; the atoms; the tokens of both; _16; …; _0; …]
@@ -158,7 +160,7 @@ module _ {M : Type 1} (𝓤 : URA M) (H : Heap 𝓤) (A : Atoms 𝓤) (W : Given
         assigns ! (agg ! (and-then ! (load ! (from ! (stop !)) (look ! 18 refl)) (and-then ! (load ! (from ! (fld ! refl (stop !))) (look-in ! 34 (sub ! 1 refl (whole !)))) (no-more !)))) (from ! (stop !)) (init ! 16 refl (tt, (tt, (record { fits = ga .0 }, tt)))) $
         -- the posts and the atoms are passed on for good
         owned ! P.the-row (Is P.the-row) ((LL.makes P.the-type P′.the-plain) 𝓤 H A) h _ gh $ move ! (0 ∷ 6 ∷ 8 ∷ 9 ∷ 10 ∷ []) $
-        calls-core ! fm R.the-row RanMirroredCore known-core κ₂ κ₃ q₂ q₃ h s w xp xa (starts-fit ys s s e₁ refl .0) (and-then ! (load ! (from ! (stop !)) (look ! 21 refl)) (and-then ! (load ! (from ! (stop !)) (look ! 29 refl)) (and-then ! (load ! (from ! (stop !)) (look ! 17 refl)) (and-then ! (load ! (from ! (stop !)) (look ! 13 refl)) (no-more !))))) (λ w₂ r ps ats e₂ lp la is₂.
+        calls-core ! fm R.the-row RanMirroredCore known-core κ₂ κ₃ q₂ q₃ h s w xp xa (starts-fit ys (s .starts) (s .starts) (starts-of ys s e₁) refl .0) (and-then ! (load ! (from ! (stop !)) (look ! 21 refl)) (and-then ! (load ! (from ! (stop !)) (look ! 29 refl)) (and-then ! (load ! (from ! (stop !)) (look ! 17 refl)) (and-then ! (load ! (from ! (stop !)) (look ! 13 refl)) (no-more !))))) (λ w₂ r ps ats e₂ lp la is₂.
         land ! (from ! (stop !)) (init ! 30 refl (LL.lawful R.the-type R′.the-laws 𝓤 H A W .typed r _ is₂ .0)) $
         rewrite ! 30 (λ (u : Val). ‵ (fat fullShare core-mirrored l₆ 0 u)) (ap only (LL.tells R.the-type R′.the-laws r (w₂ ∷ []) is₂)) refl $ drop ! $
         -- [the tokens of both; the last atoms; the last posts; the record's token; its borrow; the ranges' obs; their borrow; their token; their fact; _16; …; _0; …]
@@ -166,7 +168,7 @@ module _ {M : Type 1} (𝓤 : URA M) (H : Heap 𝓤) (A : Atoms 𝓤) (W : Given
         assigns ! (agg ! (and-then ! (load ! (from ! (stop !)) (look ! 11 refl)) (and-then ! (load ! (from ! (fld ! refl (stop !))) (look-in ! 37 (sub ! 1 refl (whole !)))) (no-more !)))) (from ! (stop !)) (init ! 9 refl (tt, (tt, (record { fits = g .0 }, tt)))) $
         -- the ranges are passed on for good
         move ! (5 ∷ 6 ∷ []) $ fjoin ! $ move ! (7 ∷ 0 ∷ []) $ fjoin ! $ nothing ! $ move ! (7 ∷ 0 ∷ 1 ∷ []) $ join ! $
-        use2 W (raw (Store 𝓤 H A at-mem run .pre (to-store (r .starts)))) (goes-store (r .starts) (starts-fit ys s (r .starts) e₁ (e₂ .same-count)) (LL.owed R.the-type R′.the-laws r _ is₂ .1 .0)) $
+        use2 W (raw (Store 𝓤 H A at-mem run .pre (to-store (r .starts)))) (goes-store (r .starts) (starts-fit ys (s .starts) (r .starts) (starts-of ys s e₁) (e₂ .same-count)) (LL.owed R.the-type R′.the-laws r _ is₂ .1 .0)) $
         calls-at ! fm (Store 𝓤 H A at-mem run) known-store (to-store (r .starts)) (and-then ! (load ! (from ! (stop !)) (look ! 6 refl)) (and-then ! (load ! (from ! (fld ! refl (stop !))) (look-in ! 26 (sub ! 1 refl (whole !)))) (no-more !))) (λ w₃.
         use1 W (later (some (λ (u : Unit {0}). ((‵ (flft κ₁ q₁) ⊛ ‵ ftrue) ⊛ ‵ (unit .own u (w₃ ∷ []))) ⊛ raw (ensured 𝓤 H A store-latest.ended (store-latest.clauses 𝓤 H A at-mem run) (κ₁, tt) (xr, (r .starts, tt)) tt u)))) (id⊢ 𝓤 _) $ await ! tt $ pick ! (λ u.
         split ! $ move ! (1 ∷ []) $ use1 W (some (λ (zs : List Range × (Unit {0} × Unit {0})). ‵ (lasts store-latest.ended (κ₁, tt) (xr, (r .starts, tt)) zs) ⊛ raw (fact 𝓤 (zs .0 ≡ withLatests ys (take (r .starts .count) (r .starts .latest)))))) (id⊢ 𝓤 _) $ pick ! (λ zs.
@@ -181,7 +183,7 @@ module _ {M : Type 1} (𝓤 : URA M) (H : Heap 𝓤) (A : Atoms 𝓤) (W : Given
         by ! (exits r (zs .0) ps ats (subst (λ (rs : List Range). RanMirroredLent h ys (now xp) (now xa) (r .outcome) rs ps ats) (sym e₃) (lent-mirrored-run h ys s e₁ (now xp) (now xa) r ps ats e₂)) lr lp la (LL.owed R.the-type R′.the-laws r _ is₂ .0))))))))))))))))))))))))))))
 
 module _ {M : Type 1} (𝓤 : URA M) (H : Heap 𝓤) (A : Atoms 𝓤) (W : Given 𝓤 H A) (at-mem : Memory → SProp 𝓤) (run : Routine → Fun 𝓤) where
-  f-walks : (C : Calls 𝓤 H) (Λ : Loops 𝓤 H) → FmC 𝓤 H (W .laws) C → Triple 𝓤 (C #starts-of) (StartsOf 𝓤 H A at-mem run) → Triple 𝓤 (C #mirrored-core) (Core R.the-row RanMirroredCore 𝓤 H A) → Triple 𝓤 (C #store-latest) (Store 𝓤 H A at-mem run)
+  f-walks : (C : Calls 𝓤 H) (Λ : Loops 𝓤 H) → FmC 𝓤 H (W .laws) C → Triple 𝓤 (C #with-bars) (Reads B.the-row TakenWithBars 𝓤 H A) → Triple 𝓤 (C #mirrored-core) (Core R.the-row RanMirroredCore 𝓤 H A) → Triple 𝓤 (C #store-latest) (Store 𝓤 H A at-mem run)
       → Walks 𝓤 H A f.ended stayed (WpFn 𝓤 H C Λ code.function) (f.clauses 𝓤 H A at-mem run)
   f-walks C Λ fm k₁ k₂ k₃ = walked 𝓤 H A f.ended stayed (f.clauses 𝓤 H A at-mem run) (WpFn 𝓤 H C Λ code.function) (λ κs. (ptr-vals, (slice-vals, (slice-vals, (slice-vals, tt)))))
       (λ κs. (shr-tells (named 0) (κs .0) P.the-row, (mut-slice-tells (named 1) (κs .1 .0) T.the-row, (mut-slice-tells (named 2) (κs .1 .1 .0) i32, (mut-slice-tells (named 3) (κs .1 .1 .1 .0) i32, tt)))))
@@ -194,6 +196,6 @@ run-mirrored-spec 𝓤 H 𝓜 𝓖 𝓡 =
     let W = givenOf 𝓤 H 𝓜 𝓖 in
     by-walk 𝓤 H 𝓜 𝓖 𝓡 f.ended stayed (goes-dropped 𝓤 H (𝓖 .A) W 4 (shrRefTo (0 ∷ []) tt (plain (λ _. P.the-row))) yes (λ κs x f. refl), (goes-gave-slice 𝓤 H (𝓖 .A) W 4 1 tt (plain (λ _. T.the-row)), (goes-gave-slice 𝓤 H (𝓖 .A) W 4 2 tt (plain (λ _. i32)), (goes-gave-slice 𝓤 H (𝓖 .A) W 4 3 tt (plain (λ _. i32)), tt)))) (f.clauses 𝓤 H (𝓖 .A) (𝓜 .mem) (𝓡 .run)) code.env #run-mirrored code.function (code.unfolded 𝓤 H 𝓜 𝓡)
     (λ fm. f-walks 𝓤 H (𝓖 .A) W (𝓜 .mem) (𝓡 .run) (tables 𝓤 H 𝓜 𝓡 code.env .C) (tables 𝓤 H 𝓜 𝓡 code.env .Λ) fm
-    (cited 𝓤 H (StartsOf 𝓤 H (𝓖 .A) (𝓜 .mem) (𝓡 .run)) 𝓜 𝓡 code.env #starts-of starts-of-def.routine code.calls-lent-ranges·starts·starts-of (starts-of-thm.met 𝓤 H 𝓜 𝓖 𝓡))
+    (cited 𝓤 H (Reads B.the-row TakenWithBars 𝓤 H (𝓖 .A)) 𝓜 𝓡 code.env #with-bars with-bars-def.routine code.calls-lent-ranges·starts·starts-with-bars (with-bars-thm.met 𝓤 H 𝓜 𝓖 𝓡))
     (cited 𝓤 H (Core R.the-row RanMirroredCore 𝓤 H (𝓖 .A)) 𝓜 𝓡 code.env #mirrored-core mirrored-core-def.routine code.calls-range-cores·cores·mirrored-core (mirrored-core-thm.met 𝓤 H 𝓜 𝓖 𝓡))
     (cited 𝓤 H (Store 𝓤 H (𝓖 .A) (𝓜 .mem) (𝓡 .run)) 𝓜 𝓡 code.env #store-latest store-latest-def.routine code.calls-lent-ranges·starts·store-latest (store-latest-thm.met 𝓤 H 𝓜 𝓖 𝓡)))

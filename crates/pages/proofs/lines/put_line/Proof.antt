@@ -9,6 +9,7 @@ use mir.Syntax.{w32}
 use mir.Val.{toZ, ofZ}
 use Rattle.integers.specs.Moments.{moment, zeroAt}
 use Rattle.integers.proofs.Ints.{back, back-of}
+use Rattle.integers.specs.Texts.{bytesOf}
 use Rattle.decimals.proofs.Putting.{puts-length}
 use Rattle.pages.proofs.Padding.{puts-wide, task-fits, start-fits, end-fits, puts-line}
 use Rattle.fixed_schedules.proofs.Placing.{start-moment, end-instant}
@@ -98,6 +99,7 @@ put-bytes-requires-3 : tie.Need-put-bytes-requires-3
 put-bytes-requires-3 c κs = let end = c .before .before .before .before in omega (arith, after-end end, begin (from-end end) .pre .0)
 
 returns : tie.Need-returns
+unfolding bytesOf
 returns c =
     let end = c .before .before .before .before .before .before .before in
     let space-2 = end .before .before .before .before in

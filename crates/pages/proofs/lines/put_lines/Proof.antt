@@ -9,6 +9,7 @@ use borrow.Author.Needs.{needs}
 use mir.Syntax.{w32}
 use mir.Val.{toZ, ofZ}
 use Rattle.integers.proofs.Ints.{back-of}
+use Rattle.integers.specs.Texts.{bytesOf}
 use Rattle.fixed_schedules.specs.FixedSchedules.{startAt}
 use Rattle.decimals.specs.Writing.{Puts}
 use Rattle.decimals.proofs.Putting.{puts-length, puts-append}
@@ -64,6 +65,7 @@ element-copy-out-put-line : tie.Need-element-copy-out-put-line Inv-loop μ-loop
 element-copy-out-put-line c = let turn = c .before .before .before in omega (arith, small turn, begin turn .pre .0 .started .few)
 
 put-line-requires : tie.Need-put-line-requires Inv-loop μ-loop
+unfolding bytesOf
 put-line-requires c κs =
     let turn = c .before .before .before .before in
     let s = begin turn in

@@ -1,11 +1,13 @@
 -- The three parts behind one another are the line.
 use native.Mathlib.Omega.{arith}
+use Rattle.integers.specs.Texts.{bytesOf}
 use Rattle.plan_cli.proofs.Reporting.{puts-done}
 use borrow.Author.Needs.{needs}
 use Rattle.plan_cli.proofs.report.put_done.Statement.{statement}
 use Rattle.plan_cli.proofs.report.put_done.Tie as tie
 
 returns : tie.Need-returns
+unfolding bytesOf
 returns c =
     let start = c .before .before .before .before .before .before .before .before .before .before .before .before .before .before .before in
     let a = c .before .before .before .before .before .before .before .before .before .before .before .put-bytes .ensures in

@@ -1,12 +1,14 @@
 -- The reason's lines stand before the last.
 use mathlib.Core.Path.{_∙_}
 use native.Mathlib.Omega.{arith}
+use Rattle.integers.specs.Texts.{bytesOf}
 use Rattle.plan_cli.proofs.Reporting.{puts-overload}
 use borrow.Author.Needs.{needs}
 use Rattle.plan_cli.proofs.report.put_overload.Statement.{statement}
 use Rattle.plan_cli.proofs.report.put_overload.Tie as tie
 
 returns : tie.Need-returns
+unfolding bytesOf
 returns c =
     let called = c .before .before .before .before .before .before .before in
     let a = called .put-reason .ensures in

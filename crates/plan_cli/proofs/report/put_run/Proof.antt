@@ -4,6 +4,7 @@ use mathlib.Core.Logic.{_⊎_}
 use Prim.Native.Nat.{ℕ, _≤_}
 use lib.ListN.{length}
 use Rattle.integers.specs.Limits.{TASKS}
+use Rattle.integers.specs.Texts.{bytesOf}
 use Rattle.runs.specs.Traces.{Trace}
 use Rattle.runs.specs.declared.outcome.Outcome.{Outcome}
 use Rattle.plan_text.specs.Lines.{doneLine, emptiedLine, refusedLine}
@@ -67,6 +68,7 @@ returns-2 c =
     (λ what h. (let q = overloaded outcome what h in puts-as (sym (q .parts .text)) (puts-append (w .0 (q .parts .list) (q .parts .holds)) (e .0 (q .reason) (q .words)))), omega (arith, p .few, s .fits, w .1 (p .list) (p .holds), e .1))
 
 returns-3 : tie.Need-returns-3
+unfolding bytesOf
 returns-3 c =
     let outcome = c .before .before .before .before .before .before .before .before .before .before in
     let s = outcome .before .before .before .pre in

@@ -1,12 +1,14 @@
 -- The five parts behind one another are the line, and their widths add up to at most 44.
 use native.Mathlib.Omega.{arith}
 use Rattle.integers.proofs.Ints.{back}
+use Rattle.integers.specs.Texts.{bytesOf}
 use Rattle.plan_text.proofs.Printing.{puts-post}
 use borrow.Author.Needs.{needs}
 use Rattle.plan_text.proofs.lines.put_post.Statement.{statement}
 use Rattle.plan_text.proofs.lines.put_post.Tie as tie
 
 returns : tie.Need-returns
+unfolding bytesOf
 returns c =
     let e = c .before .before .put-bytes3 in
     let d = c .before .before .before .before .before .before .before .put-number2 in

@@ -1,11 +1,13 @@
 -- The three parts behind one another are the line, and their widths add up to at most 29.
 use native.Mathlib.Omega.{arith}
+use Rattle.integers.specs.Texts.{bytesOf}
 use Rattle.plan_text.proofs.Printing.{puts-refused}
 use borrow.Author.Needs.{needs}
 use Rattle.plan_text.proofs.lines.put_refused.Statement.{statement}
 use Rattle.plan_text.proofs.lines.put_refused.Tie as tie
 
 returns : tie.Need-returns
+unfolding bytesOf
 returns c =
     let start = c .before .before .before .before .before .before .before .before .before .before .before .before .before .before .before in
     let r = c .before .before .put-bytes2 in

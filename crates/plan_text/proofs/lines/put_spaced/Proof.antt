@@ -1,6 +1,7 @@
 -- A space and the number behind it, 12 bytes at most.
 use native.Mathlib.Omega.{arith}
 use Rattle.integers.proofs.Ints.{back}
+use Rattle.integers.specs.Texts.{bytesOf}
 use Rattle.decimals.proofs.Putting.{puts-append}
 use Rattle.plan_text.proofs.Printing.{puts-number}
 use borrow.Author.Needs.{needs}
@@ -8,6 +9,7 @@ use Rattle.plan_text.proofs.lines.put_spaced.Statement.{statement}
 use Rattle.plan_text.proofs.lines.put_spaced.Tie as tie
 
 returns : tie.Need-returns
+unfolding bytesOf
 returns c =
     let start = c .before .before .before .before .before .before .before .before .before .before in
     let a = c .before .before .before .before .before .before .put-bytes .ensures in

@@ -1,12 +1,14 @@
 -- The five parts behind one another are the line, and their widths add up to at most 33.
 use native.Mathlib.Omega.{arith}
 use Rattle.integers.proofs.Ints.{back}
+use Rattle.integers.specs.Texts.{bytesOf}
 use Rattle.plan_text.proofs.Printing.{puts-why}
 use borrow.Author.Needs.{needs}
 use Rattle.plan_text.proofs.lines.put_why.Statement.{statement}
 use Rattle.plan_text.proofs.lines.put_why.Tie as tie
 
 returns : tie.Need-returns
+unfolding bytesOf
 returns c =
     let e = c .before .before .put-bytes2 in
     let d = c .before .before .before .before .before .before .before .put-number2 in

@@ -4,21 +4,21 @@ use mathlib.Core.Path.{sym}
 use lib.Seq.{length-take-le}
 use native.Mathlib.Omega.{arith}
 use borrow.Author.Needs.{needs}
-use Rattle.range_cores.proofs.AllPlaces.{all-earliest, all-latest}
+use Rattle.range_cores.proofs.AllPlaces.{each-earliest, each-latest}
 use Rattle.range_cores.proofs.by_precedence.reason_core.Statement.{statement}
 use Rattle.range_cores.proofs.by_precedence.reason_core.Tie as tie
 
 array-share-prefix-earliest : tie.Need-array-share-prefix-earliest
-array-share-prefix-earliest c = let p = c .before .before in omega (arith, all-earliest (p .args .starts) (p .good .1 .0))
+array-share-prefix-earliest c = let p = c .before .before .before in omega (arith, each-earliest (p .args .ranges) (p .good .1 .0))
 
 slice-aggregate-precedence-reason : tie.Need-slice-aggregate-precedence-reason
-slice-aggregate-precedence-reason c = let p = c .before .before .before in sym (length-take-le _ _ (omega (arith, all-earliest (p .args .starts) (p .good .1 .0))))
+slice-aggregate-precedence-reason c = let p = c .before .before .before .before in sym (length-take-le _ _ (omega (arith, each-earliest (p .args .ranges) (p .good .1 .0))))
 
 array-share-prefix-latest : tie.Need-array-share-prefix-latest
-array-share-prefix-latest c = let p = c .before .before .before in omega (arith, all-latest (p .args .starts) (p .good .1 .0))
+array-share-prefix-latest c = let p = c .before .before .before .before in omega (arith, each-latest (p .args .ranges) (p .good .1 .0))
 
 slice-aggregate-precedence-reason-2 : tie.Need-slice-aggregate-precedence-reason-2
-slice-aggregate-precedence-reason-2 c = let p = c .before .before .before .before in sym (length-take-le _ _ (omega (arith, all-latest (p .args .starts) (p .good .1 .0))))
+slice-aggregate-precedence-reason-2 c = let p = c .before .before .before .before .before in sym (length-take-le _ _ (omega (arith, each-latest (p .args .ranges) (p .good .1 .0))))
 
 returns : tie.Need-returns
 returns c = search needs

@@ -5,33 +5,33 @@ use lib.ListN.{length, drop}
 use lib.Seq.{length-take-le, length-front, take-at}
 use native.Mathlib.Omega.{arith}
 use borrow.Author.Needs.{needs}
-use Rattle.range_cores.proofs.AllPlaces.{all-earliest, all-latest}
+use Rattle.range_cores.proofs.AllPlaces.{each-earliest, each-latest}
 use Rattle.range_cores.proofs.cores.mirrored_core.Statement.{statement}
 use Rattle.range_cores.proofs.cores.mirrored_core.Tie as tie
 
 array-share-prefix-earliest : tie.Need-array-share-prefix-earliest
-array-share-prefix-earliest c = let p = c .before .before in omega (arith, all-earliest (p .args .starts) (p .good .1 .0))
+array-share-prefix-earliest c = let p = c .before .before .before in omega (arith, each-earliest (p .args .ranges) (p .good .1 .0))
 
 slice-aggregate-propagate-mirrored : tie.Need-slice-aggregate-propagate-mirrored
-slice-aggregate-propagate-mirrored c = let p = c .before .before .before in sym (length-take-le _ _ (omega (arith, all-earliest (p .args .starts) (p .good .1 .0))))
+slice-aggregate-propagate-mirrored c = let p = c .before .before .before .before in sym (length-take-le _ _ (omega (arith, each-earliest (p .args .ranges) (p .good .1 .0))))
 
 array-borrow-prefix-latest : tie.Need-array-borrow-prefix-latest
-array-borrow-prefix-latest c = let p = c .before .before .before in omega (arith, all-latest (p .args .starts) (p .good .1 .0))
+array-borrow-prefix-latest c = let p = c .before .before .before .before in omega (arith, each-latest (p .args .ranges) (p .good .1 .0))
 
 slice-aggregate-propagate-mirrored-2 : tie.Need-slice-aggregate-propagate-mirrored-2
-slice-aggregate-propagate-mirrored-2 c = let p = c .before .before .before .before in sym (length-take-le _ _ (omega (arith, all-latest (p .args .starts) (p .good .1 .0))))
+slice-aggregate-propagate-mirrored-2 c = let p = c .before .before .before .before .before in sym (length-take-le _ _ (omega (arith, each-latest (p .args .ranges) (p .good .1 .0))))
 
 returns : tie.Need-returns
 returns c =
     let p = c .before .before .before in
-    let a = p .before .before .before .before .before .before .before in
-    let n = a .args .starts .count in
-    let all = all-latest (a .args .starts) (a .good .1 .0) in
-    let l : length (p .propagate-mirrored .last .1 .1 .0) ≡ n = p .propagate-mirrored .kept .1 .1 .0 ∙ length-take-le n (a .args .starts .latest) (omega arith) in
+    let a = p .before .before .before .before .before .before .before .before in
+    let n = a .args .ranges .starts .count in
+    let all = each-latest (a .args .ranges) (a .good .1 .0) in
+    let l : length (p .propagate-mirrored .last .1 .1 .0) ≡ n = p .propagate-mirrored .kept .1 .1 .0 ∙ length-take-le n (a .args .ranges .starts .latest) (omega arith) in
     record {
-      ran = rw (take-at (p .propagate-mirrored .last .1 .1 .0) (drop n (a .args .starts .latest)) n l) (p .propagate-mirrored .ensures);
+      ran = rw (take-at (p .propagate-mirrored .last .1 .1 .0) (drop n (a .args .ranges .starts .latest)) n l) (p .propagate-mirrored .ensures);
       same-count = refl;
-      whole = length-front (a .args .starts .latest) (p .propagate-mirrored .last .1 .1 .0) n (p .propagate-mirrored .kept .1 .1 .0) ∙ all;
+      whole = length-front (a .args .ranges .starts .latest) (p .propagate-mirrored .last .1 .1 .0) n (p .propagate-mirrored .kept .1 .1 .0) ∙ all;
     }
 
 pub mirrored-core-spec : {M : Type 1} → statement M

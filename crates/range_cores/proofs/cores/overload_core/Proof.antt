@@ -4,21 +4,21 @@ use mathlib.Core.Path.{sym}
 use lib.Seq.{length-take-le}
 use native.Mathlib.Omega.{arith}
 use borrow.Author.Needs.{needs}
-use Rattle.range_cores.proofs.AllPlaces.{all-earliest, all-latest}
+use Rattle.range_cores.proofs.AllPlaces.{each-earliest, each-latest}
 use Rattle.range_cores.proofs.cores.overload_core.Statement.{statement}
 use Rattle.range_cores.proofs.cores.overload_core.Tie as tie
 
 array-share-prefix-earliest : tie.Need-array-share-prefix-earliest
-array-share-prefix-earliest c = let p = c .before .before in omega (arith, all-earliest (p .args .starts) (p .good .1 .0))
+array-share-prefix-earliest c = let p = c .before .before .before in omega (arith, each-earliest (p .args .ranges) (p .good .1 .0))
 
 slice-aggregate-overload-test : tie.Need-slice-aggregate-overload-test
-slice-aggregate-overload-test c = let p = c .before .before .before in sym (length-take-le _ _ (omega (arith, all-earliest (p .args .starts) (p .good .1 .0))))
+slice-aggregate-overload-test c = let p = c .before .before .before .before in sym (length-take-le _ _ (omega (arith, each-earliest (p .args .ranges) (p .good .1 .0))))
 
 array-share-prefix-latest : tie.Need-array-share-prefix-latest
-array-share-prefix-latest c = let p = c .before .before .before in omega (arith, all-latest (p .args .starts) (p .good .1 .0))
+array-share-prefix-latest c = let p = c .before .before .before .before in omega (arith, each-latest (p .args .ranges) (p .good .1 .0))
 
 slice-aggregate-overload-test-2 : tie.Need-slice-aggregate-overload-test-2
-slice-aggregate-overload-test-2 c = let p = c .before .before .before .before in sym (length-take-le _ _ (omega (arith, all-latest (p .args .starts) (p .good .1 .0))))
+slice-aggregate-overload-test-2 c = let p = c .before .before .before .before .before in sym (length-take-le _ _ (omega (arith, each-latest (p .args .ranges) (p .good .1 .0))))
 
 pub overload-core-spec : {M : Type 1} → statement M
 overload-core-spec =

@@ -1,4 +1,4 @@
--- `ranges::by_precedence::precedences` meets its contract: a walk of its MIR, by hand. The borrow of the ranges is opened. They are lent as a `&` for a lifetime of the call of `starts_of`, come back, are closed, and are passed on for good to `store_starts`.
+-- `ranges::by_precedence::precedences` meets its contract: a walk of its MIR, by hand. The borrow of the ranges is opened. They are lent as a `&` for a lifetime of the call of `starts_with_bars`, come back, are closed, and are passed on for good to `store_starts`.
 -- `precedences_core` is passed a copy of the lent record, which stays as it is.
 -- Assumes nothing.
 use mathlib.Core.Path.{_≡_, refl, sym, ap, subst}
@@ -47,9 +47,9 @@ use Rattle.precedences.proofs.answers.Precedences.Laws as O′
 use Rattle.barred_starts.specs.declared.range.Range.{Range}
 use Rattle.promises.specs.PrecedencesLent.{PrecedencesLent}
 use Rattle.range_cores.specs.PrecedencesCore.{PrecedencesCore}
-use Rattle.lent_ranges.specs.declared.starts.Starts.{Starts}
+use Rattle.lent_ranges.specs.declared.starts.StartsWithBars.{StartsWithBars}
 use Rattle.range_cores.specs.declared.by_precedence.CorePrecedences.{CorePrecedences}
-use Rattle.lent_ranges.proofs.TakenApart.{starts-fit}
+use Rattle.lent_ranges.proofs.TakenApart.{starts-of, starts-fit}
 use Rattle.range_cores.proofs.by_precedence.CorePrecedences as R
 use Rattle.range_cores.proofs.by_precedence.CorePrecedences.Laws as R′
 use Rattle.range_cores.proofs.by_precedence.precedences_core as precedences-core
@@ -57,16 +57,16 @@ use Rattle.range_cores.proofs.by_precedence.precedences_core.Symbol as preceden
 use Rattle.range_cores.proofs.by_precedence.precedences_core.Symbol.{name as #precedences-core}
 use Rattle.range_cores.proofs.by_precedence.precedences_core.Met as precedences-core-thm
 use Rattle.disjunctive.proofs.LentRuns.{lent-pass}
-use Rattle.lent_ranges.proofs.starts.Lending.{rangesVal, rangesAt, StartsOf, calls-starts-mut, Store, calls-store}
+use Rattle.lent_ranges.proofs.starts.Lending.{rangesVal, rangesAt, Reads, TakenWithBars, calls-reader-mut, Store, calls-store}
 use Rattle.disjunctive.proofs.Calls.{calls-by}
 use Rattle.disjunctive.proofs.Routines.{by-walk}
 use Rattle.disjunctive.proofs.ranges.LentRecord.{machP, looks-into, shuts-record}
 use Rattle.barred_starts.proofs.range.Range as T
-use Rattle.lent_ranges.proofs.starts.Starts as S
-use Rattle.lent_ranges.proofs.starts.Starts.Laws as S′
-use Rattle.lent_ranges.proofs.starts.starts_of.Symbol as starts-of-def
-use Rattle.lent_ranges.proofs.starts.starts_of.Symbol.{name as #starts-of}
-use Rattle.lent_ranges.proofs.starts.starts_of.Met as starts-of-thm
+use Rattle.lent_ranges.proofs.starts.StartsWithBars as B
+use Rattle.lent_ranges.proofs.starts.StartsWithBars.Laws as B′
+use Rattle.lent_ranges.proofs.starts.starts_with_bars.Symbol as with-bars-def
+use Rattle.lent_ranges.proofs.starts.starts_with_bars.Symbol.{name as #with-bars}
+use Rattle.lent_ranges.proofs.starts.starts_with_bars.Met as with-bars-thm
 use Rattle.lent_ranges.proofs.starts.store_starts.Symbol as store-starts-def
 use Rattle.lent_ranges.proofs.starts.store_starts.Symbol.{name as #store-starts}
 use Rattle.lent_ranges.proofs.starts.store_starts.Met as store-starts-thm
@@ -113,14 +113,14 @@ module _ {M : Type 1} (𝓤 : URA M) (H : Heap 𝓤) (A : Atoms 𝓤) (W : Given
       join ! $ frame ! $ nothing ! $ move ! (1 ∷ 0 ∷ []) $ fjoin ! $ nothing ! $ fjoin ! $
       owned ! O.the-row (Is O.the-row) ((EL.makes O.the-type O′.the-plain) 𝓤 H A) (r .answer) _ go $ move ! (1 ∷ 0 ∷ []) $ done !
 
-  abbrev to-core : Starts → Val → Core 𝓤 H A at-mem run .Ghost
+  abbrev to-core : StartsWithBars → Val → Core 𝓤 H A at-mem run .Ghost
   to-core s w = ((tt, tt, tt, (h, (s, tt)), (machP h ∷ [], (w ∷ [], tt))), tt)
 
-  goes-core : (s : Starts) (w : Val) → s .count ≤ TASKS → Is P.the-row h (machP h ∷ []) → ent 𝓤 (sem 𝓤 H A (S.the-row .own s (w ∷ []))) (Core 𝓤 H A at-mem run .pre (to-core s w))
-  goes-core s w fit gh = qed W (‵ (S.the-row .own s (w ∷ [])) ∷ []) ∵ says ! fit $
+  goes-core : (s : StartsWithBars) (w : Val) → s .starts .count ≤ TASKS → Is P.the-row h (machP h ∷ []) → ent 𝓤 (sem 𝓤 H A (B.the-row .own s (w ∷ []))) (Core 𝓤 H A at-mem run .pre (to-core s w))
+  goes-core s w fit gh = qed W (‵ (B.the-row .own s (w ∷ [])) ∷ []) ∵ says ! fit $
       nothing ! $ move ! (1 ∷ 0 ∷ []) $ fjoin ! $ owned ! P.the-row (Is P.the-row) ((LL.makes P.the-type P′.the-plain) 𝓤 H A) h _ gh $ fjoin ! $ nothing ! $ frame ! $ done !
 
-  module _ (C : Calls 𝓤 H) (Λ : Loops 𝓤 H) (fm : FmC 𝓤 H (W .laws) C) (known-starts : Triple 𝓤 (C #starts-of) (StartsOf 𝓤 H A at-mem run)) (known-core : Triple 𝓤 (C #precedences-core) (Core 𝓤 H A at-mem run)) (known-store : Triple 𝓤 (C #store-starts) (Store 𝓤 H A at-mem run))
+  module _ (C : Calls 𝓤 H) (Λ : Loops 𝓤 H) (fm : FmC 𝓤 H (W .laws) C) (known-starts : Triple 𝓤 (C #with-bars) (Reads B.the-row TakenWithBars 𝓤 H A)) (known-core : Triple 𝓤 (C #precedences-core) (Core 𝓤 H A at-mem run)) (known-store : Triple 𝓤 (C #store-starts) (Store 𝓤 H A at-mem run))
       (g : Room T.the-row (length ys)) where
     walk : ent 𝓤 (onEntry 𝓤 H A f.signature (κ, (κ₁, tt)) (q, (q₁, tt)) x at) (WpFn 𝓤 H C Λ code.function (vptr b o ∷ rangesVal xr ∷ []) Post)
     walk =
@@ -132,15 +132,15 @@ module _ {M : Type 1} (𝓤 : URA M) (H : Heap 𝓤) (A : Atoms 𝓤) (W : Given
         -- [the ranges' obs; their borrow; their token; their fact; the record's borrow; its token; _10; …; _0; …]
         assigns ! (addr ! (from ! (fld ! refl (hop ! (look-in ! 22 (sub ! 0 refl (whole !))) (stop !))))) (from ! (stop !)) (init ! 16 refl (tt, tt)) $
         assigns ! (agg ! (and-then ! (load ! (from ! (stop !)) (look ! 16 refl)) (and-then ! (load ! (from ! (fld ! refl (stop !))) (look-in ! 22 (sub ! 1 refl (whole !)))) (no-more !)))) (from ! (stop !)) (init ! 14 refl (tt, (tt, (record { fits = g .0 }, tt)))) $
-        calls-starts-mut ! fm at-mem run known-starts κ₁ q₁ b₁ o₁ γ₁ ys g (λ ν δ. and-then ! (load ! (from ! (stop !)) (look ! 16 refl)) (no-more !)) (λ w s e₁ is₁.
-        land ! (from ! (stop !)) (init ! 21 refl (LL.lawful S.the-type S′.the-laws 𝓤 H A W .typed s _ is₁ .0)) $
+        calls-reader-mut ! fm B.the-row TakenWithBars known-starts κ₁ q₁ b₁ o₁ γ₁ ys g (λ ν δ. and-then ! (load ! (from ! (stop !)) (look ! 16 refl)) (no-more !)) (λ w s e₁ is₁.
+        land ! (from ! (stop !)) (init ! 21 refl (LL.lawful B.the-type B′.the-laws 𝓤 H A W .typed s _ is₁ .0)) $
         -- [the ranges' obs; their borrow; their token; what the starts own; the ranges' fact; the record's borrow; its token; _10; …; _0; …]
         move ! (5 ∷ 6 ∷ []) $ looks-into ! tt h b o (λ q′ gh.
         -- [a share of the record's cell; what it owns; what shuts it; its borrow; the ranges' obs; their borrow; their token; what the starts own; the ranges' fact; _10; …; _0; …]
         assigns ! (of-opd ! (load ! (from ! (hop ! (look ! 27 refl) (stop !))) (look ! 0 refl))) (from ! (stop !)) (init ! 15 refl (LL.lawful P.the-type P′.the-laws 𝓤 H A W .typed h (machP h ∷ []) gh .0)) $
         shuts-record ! tt q′ h b o $
         -- [the record's token; its borrow; the ranges' obs; their borrow; their token; what the starts own; the ranges' fact; _10; …; _0; …]
-        move ! (5 ∷ []) $ use1 W (raw (Core 𝓤 H A at-mem run .pre (to-core s w))) (goes-core s w (starts-fit ys s s e₁ refl .0) gh) $
+        move ! (5 ∷ []) $ use1 W (raw (Core 𝓤 H A at-mem run .pre (to-core s w))) (goes-core s w (starts-fit ys (s .starts) (s .starts) (starts-of ys s e₁) refl .0) gh) $
         calls-by ! fm precedences-core.ended (precedences-core.clauses 𝓤 H A at-mem run) known-core (to-core s w) (and-then ! (load ! (from ! (stop !)) (look ! 13 refl)) (and-then ! (load ! (from ! (stop !)) (look ! 21 refl)) (no-more !))) (λ w₂ r us is₂. move ! (3 ∷ []) $ heard ! (PrecedencesCore h s r) (λ e₂. move ! (1 ∷ 2 ∷ []) $ drop ! $ drop ! $
         land ! (from ! (stop !)) (init ! 19 refl (LL.lawful R.the-type R′.the-laws 𝓤 H A W .typed r _ is₂ .0)) $
         rewrite ! 19 (λ (u : Val). ‵ (fat fullShare core-precedences l₄ 0 u)) (ap only (LL.tells R.the-type R′.the-laws r (w₂ ∷ []) is₂)) refl $ drop ! $
@@ -149,7 +149,7 @@ module _ {M : Type 1} (𝓤 : URA M) (H : Heap 𝓤) (A : Atoms 𝓤) (W : Given
         assigns ! (agg ! (and-then ! (load ! (from ! (stop !)) (look ! 8 refl)) (and-then ! (load ! (from ! (fld ! refl (stop !))) (look-in ! 22 (sub ! 1 refl (whole !)))) (no-more !)))) (from ! (stop !)) (init ! 6 refl (tt, (tt, (record { fits = g .0 }, tt)))) $
         -- the ranges are passed on for good
         move ! (2 ∷ 3 ∷ []) $ fjoin ! $ move ! (4 ∷ 0 ∷ []) $ fjoin ! $ nothing ! $ move ! (4 ∷ 0 ∷ 1 ∷ []) $ join ! $
-        calls-store ! fm at-mem run known-store κ₁ q₁ xr (r .starts) (starts-fit ys s (r .starts) e₁ (e₂ .same-count)) (LL.owed R.the-type R′.the-laws r _ is₂ .1 .0) (and-then ! (load ! (from ! (stop !)) (look ! 3 refl)) (and-then ! (load ! (from ! (fld ! refl (stop !))) (look-in ! 15 (sub ! 1 refl (whole !)))) (no-more !))) (λ w₃ zs e₃ lr is₃.
+        calls-store ! fm at-mem run known-store κ₁ q₁ xr (r .starts) (starts-fit ys (s .starts) (r .starts) (starts-of ys s e₁) (e₂ .same-count)) (LL.owed R.the-type R′.the-laws r _ is₂ .1 .0) (and-then ! (load ! (from ! (stop !)) (look ! 3 refl)) (and-then ! (load ! (from ! (fld ! refl (stop !))) (look-in ! 15 (sub ! 1 refl (whole !)))) (no-more !))) (λ w₃ zs e₃ lr is₃.
         land ! (from ! (stop !)) (init ! 8 refl (nothing-lawful 𝓤 H A W .typed tt _ is₃ .0)) $
         -- [the ranges' token; the last ranges; the record's token; its borrow; _10; …; _0; …]
         assigns ! (of-opd ! (load ! (from ! (fld ! refl (stop !))) (look-in ! 16 (sub ! 0 refl (whole !))))) (from ! (stop !)) (init ! 24 refl (EL.lawful O.the-type O′.the-laws 𝓤 H A W tt .typed (r .answer) (EL.vals O.the-type O′.the-laws (r .answer)) (LL.owed R.the-type R′.the-laws r _ is₂ .0) .0)) $
@@ -159,7 +159,7 @@ module _ {M : Type 1} (𝓤 : URA M) (H : Heap 𝓤) (A : Atoms 𝓤) (W : Given
         by ! (exits r zs (subst (PrecedencesLent h ys (r .answer)) (sym e₃) (lent-pass h ys s e₁ r e₂)) lr (LL.owed R.the-type R′.the-laws r _ is₂ .0))))))))))))))))))
 
 module _ {M : Type 1} (𝓤 : URA M) (H : Heap 𝓤) (A : Atoms 𝓤) (W : Given 𝓤 H A) (at-mem : Memory → SProp 𝓤) (run : Routine → Fun 𝓤) where
-  f-walks : (C : Calls 𝓤 H) (Λ : Loops 𝓤 H) → FmC 𝓤 H (W .laws) C → Triple 𝓤 (C #starts-of) (StartsOf 𝓤 H A at-mem run) → Triple 𝓤 (C #precedences-core) (Core 𝓤 H A at-mem run) → Triple 𝓤 (C #store-starts) (Store 𝓤 H A at-mem run)
+  f-walks : (C : Calls 𝓤 H) (Λ : Loops 𝓤 H) → FmC 𝓤 H (W .laws) C → Triple 𝓤 (C #with-bars) (Reads B.the-row TakenWithBars 𝓤 H A) → Triple 𝓤 (C #precedences-core) (Core 𝓤 H A at-mem run) → Triple 𝓤 (C #store-starts) (Store 𝓤 H A at-mem run)
       → Walks 𝓤 H A f.ended stayed (WpFn 𝓤 H C Λ code.function) (f.clauses 𝓤 H A at-mem run)
   f-walks C Λ fm k₁ k₂ k₃ = walked 𝓤 H A f.ended stayed (f.clauses 𝓤 H A at-mem run) (WpFn 𝓤 H C Λ code.function) (λ κs. (ptr-vals, (slice-vals, tt)))
       (λ κs. (shr-tells (named 0) (κs .0) P.the-row, (mut-slice-tells (named 1) (κs .1 .0) T.the-row, tt)))
@@ -171,6 +171,6 @@ precedences-spec 𝓤 H 𝓜 𝓖 𝓡 =
     let W = givenOf 𝓤 H 𝓜 𝓖 in
     by-walk 𝓤 H 𝓜 𝓖 𝓡 f.ended stayed (goes-dropped 𝓤 H (𝓖 .A) W 2 (shrRefTo (0 ∷ []) tt (plain (λ _. P.the-row))) yes (λ κs x f. refl), (goes-gave-slice 𝓤 H (𝓖 .A) W 2 1 tt (plain (λ _. T.the-row)), tt)) (f.clauses 𝓤 H (𝓖 .A) (𝓜 .mem) (𝓡 .run)) code.env #precedences code.function (code.unfolded 𝓤 H 𝓜 𝓡)
     (λ fm. f-walks 𝓤 H (𝓖 .A) W (𝓜 .mem) (𝓡 .run) (tables 𝓤 H 𝓜 𝓡 code.env .C) (tables 𝓤 H 𝓜 𝓡 code.env .Λ) fm
-    (cited 𝓤 H (StartsOf 𝓤 H (𝓖 .A) (𝓜 .mem) (𝓡 .run)) 𝓜 𝓡 code.env #starts-of starts-of-def.routine code.calls-lent-ranges·starts·starts-of (starts-of-thm.met 𝓤 H 𝓜 𝓖 𝓡))
+    (cited 𝓤 H (Reads B.the-row TakenWithBars 𝓤 H (𝓖 .A)) 𝓜 𝓡 code.env #with-bars with-bars-def.routine code.calls-lent-ranges·starts·starts-with-bars (with-bars-thm.met 𝓤 H 𝓜 𝓖 𝓡))
     (cited 𝓤 H (Core 𝓤 H (𝓖 .A) (𝓜 .mem) (𝓡 .run)) 𝓜 𝓡 code.env #precedences-core precedences-core-def.routine code.calls-range-cores·by-precedence·precedences-core (precedences-core-thm.met 𝓤 H 𝓜 𝓖 𝓡))
     (cited 𝓤 H (Store 𝓤 H (𝓖 .A) (𝓜 .mem) (𝓡 .run)) 𝓜 𝓡 code.env #store-starts store-starts-def.routine code.calls-lent-ranges·starts·store-starts (store-starts-thm.met 𝓤 H 𝓜 𝓖 𝓡)))

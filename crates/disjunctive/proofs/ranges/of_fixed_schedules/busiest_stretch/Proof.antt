@@ -50,7 +50,7 @@ use Rattle.barred_starts.specs.Ranges.{earliests, latests}
 use Rattle.barred_starts.specs.declared.range.Range.{Range}
 use Rattle.lent_ranges.specs.declared.starts.Starts.{Starts}
 use Rattle.lent_ranges.proofs.TakenApart.{starts-fit, apart}
-use Rattle.lent_ranges.proofs.starts.Lending.{rangesVal, StartsOf, calls-starts}
+use Rattle.lent_ranges.proofs.starts.Lending.{rangesVal, Reads, Taken, calls-reader}
 use Rattle.range_cores.proofs.of_fixed_schedules.stretch_core as stretch-core
 use Rattle.range_cores.proofs.of_fixed_schedules.stretch_core.Symbol as stretch-core-def
 use Rattle.range_cores.proofs.of_fixed_schedules.stretch_core.Symbol.{name as #stretch-core}
@@ -124,7 +124,7 @@ module _ {M : Type 1} (𝓤 : URA M) (H : Heap 𝓤) (A : Atoms 𝓤) (W : Given
         nothing ! $ owned ! i32 (Is i32) (sint-makes 𝓤 H A W w32) w _ gw $ fjoin ! $
         move ! (1 ∷ 0 ∷ []) $ fjoin ! $ owned ! P.the-row (Is P.the-row) ((LL.makes P.the-type P′.the-plain) 𝓤 H A) h _ gh $ fjoin ! $ nothing ! $ frame ! $ done !
 
-    module _ (C : Calls 𝓤 H) (Λ : Loops 𝓤 H) (fm : FmC 𝓤 H (W .laws) C) (known-starts : Triple 𝓤 (C #starts-of) (StartsOf 𝓤 H A at-mem run)) (known-core : Triple 𝓤 (C #stretch-core) (Core 𝓤 H A at-mem run)) (g : Room T.the-row (length ys)) where
+    module _ (C : Calls 𝓤 H) (Λ : Loops 𝓤 H) (fm : FmC 𝓤 H (W .laws) C) (known-starts : Triple 𝓤 (C #starts-of) (Reads S.the-row Taken 𝓤 H A)) (known-core : Triple 𝓤 (C #stretch-core) (Core 𝓤 H A at-mem run)) (g : Room T.the-row (length ys)) where
       walk : ent 𝓤 (onEntry 𝓤 H A f.signature (κ, (κ₁, tt)) (q, (q₁, tt)) x at) (WpFn 𝓤 H C Λ code.function (vptr b o ∷ rangesVal xr ∷ machI w ∷ []) Post)
       walk =
           qed W ((‵ (flft κ q) ⊛ ‵ (flft κ₁ q₁) ⊛ ‵ ftrue) ∷ ‵ (owns (ShrRef (named 0) κ P.the-row ∷ ShrSlice (named 1) κ₁ T.the-row ∷ i32 ∷ []) x at) ∷ []) ∵ enter ! C Λ code.function (vptr b o ∷ rangesVal xr ∷ machI w ∷ []) _ $
@@ -132,7 +132,7 @@ module _ {M : Type 1} (𝓤 : URA M) (H : Heap 𝓤) (A : Atoms 𝓤) (W : Given
           pass1 ! (init ! 8 refl (tt, tt)) $ pass1 ! (init ! 6 refl (tt, (tt, (record { fits = g .0 }, tt)))) $ pass1 ! (init ! 4 refl (tt, ofZ-fits w32 w (record { sfits = gw .1 }))) $ pass0 ! $
           move ! (13 ∷ []) $ fsplit ! $ fsplit3 ! $ drop ! $ move ! (15 ∷ []) $ split ! $ move ! (4 ∷ []) $ fsplit ! $ move ! (3 ∷ []) $ split ! $ move ! (0 ∷ 2 ∷ []) $
           -- [the ranges' token; the ranges; true; what the length owns; the record's token; res; its borrow; _5; …; _0; …]
-          calls-starts ! fm at-mem run known-starts κ₁ q₁ xr (and-then ! (load ! (from ! (stop !)) (look ! 12 refl)) (no-more !)) (λ v s e₁ is₁.
+          calls-reader ! fm S.the-row Taken known-starts κ₁ q₁ xr (and-then ! (load ! (from ! (stop !)) (look ! 12 refl)) (no-more !)) (λ v s e₁ is₁.
           land ! (from ! (stop !)) (init ! 9 refl (LL.lawful S.the-type S′.the-laws 𝓤 H A W .typed s _ is₁ .0)) $
           -- [what the starts own; the ranges' token; true; what the length owns; the record's token; res; its borrow; _5; …; _0; …]
           move ! (6 ∷ 4 ∷ []) $ looks-into ! tt h b o (λ q′ gh.
@@ -149,7 +149,7 @@ module _ {M : Type 1} (𝓤 : URA M) (H : Heap 𝓤) (A : Atoms 𝓤) (W : Given
           keep ! (1 ∷ 3 ∷ 0 ∷ []) $ by ! (exits r v₂ (apart (λ es ls. Answered h es ls w r) ys s e₁ (too-many h (earliests ys) (latests ys) w r) e₂))))))))))))
 
 module _ {M : Type 1} (𝓤 : URA M) (H : Heap 𝓤) (A : Atoms 𝓤) (W : Given 𝓤 H A) (at-mem : Memory → SProp 𝓤) (run : Routine → Fun 𝓤) where
-  f-walks : (C : Calls 𝓤 H) (Λ : Loops 𝓤 H) → FmC 𝓤 H (W .laws) C → Triple 𝓤 (C #starts-of) (StartsOf 𝓤 H A at-mem run) → Triple 𝓤 (C #stretch-core) (Core 𝓤 H A at-mem run) → Walks 𝓤 H A f.ended stayed (WpFn 𝓤 H C Λ code.function) (f.clauses 𝓤 H A at-mem run)
+  f-walks : (C : Calls 𝓤 H) (Λ : Loops 𝓤 H) → FmC 𝓤 H (W .laws) C → Triple 𝓤 (C #starts-of) (Reads S.the-row Taken 𝓤 H A) → Triple 𝓤 (C #stretch-core) (Core 𝓤 H A at-mem run) → Walks 𝓤 H A f.ended stayed (WpFn 𝓤 H C Λ code.function) (f.clauses 𝓤 H A at-mem run)
   f-walks C Λ fm k₁ k₂ = walked 𝓤 H A f.ended stayed (f.clauses 𝓤 H A at-mem run) (WpFn 𝓤 H C Λ code.function) (λ κs. (ptr-vals, (slice-vals, (sint-vals w32, tt))))
       (λ κs. (shr-tells (named 0) (κs .0) P.the-row, (shr-slice-tells (named 1) (κs .1 .0) T.the-row, (sint-tells w32, tt))))
       (λ κs qs bounds a _ are. via 𝓤 _ (fst∗ 𝓤 _ (emp 𝓤)) (walk 𝓤 H A W at-mem run (κs .0) (κs .1 .0) (qs .0) (qs .1 .0) (a .0 .ptr .0) (a .0 .ptr .1) (a .0 .name) (a .0 .now) (a .1 .0) (a .1 .1 .0) (are .1 .1 .0) C Λ fm k₁ k₂ (are .1 .0 .0 .1)))
@@ -160,5 +160,5 @@ busiest-stretch-spec 𝓤 H 𝓜 𝓖 𝓡 =
     let W = givenOf 𝓤 H 𝓜 𝓖 in
     by-walk 𝓤 H 𝓜 𝓖 𝓡 f.ended stayed (goes-dropped 𝓤 H (𝓖 .A) W 2 (shrRefTo (0 ∷ []) tt (plain (λ _. P.the-row))) yes (λ κs x f. refl), (goes-dropped 𝓤 H (𝓖 .A) W 2 (shrSliceOf (1 ∷ []) tt (plain (λ _. T.the-row))) yes (λ κs x f. refl), (goes-dropped 𝓤 H (𝓖 .A) W 2 (plain (λ _. i32)) yes (λ κs x f. refl), tt))) (f.clauses 𝓤 H (𝓖 .A) (𝓜 .mem) (𝓡 .run)) code.env #busiest-stretch code.function (code.unfolded 𝓤 H 𝓜 𝓡)
     (λ fm. f-walks 𝓤 H (𝓖 .A) W (𝓜 .mem) (𝓡 .run) (tables 𝓤 H 𝓜 𝓡 code.env .C) (tables 𝓤 H 𝓜 𝓡 code.env .Λ) fm
-    (cited 𝓤 H (StartsOf 𝓤 H (𝓖 .A) (𝓜 .mem) (𝓡 .run)) 𝓜 𝓡 code.env #starts-of starts-of-def.routine code.calls-lent-ranges·starts·starts-of (starts-of-thm.met 𝓤 H 𝓜 𝓖 𝓡))
+    (cited 𝓤 H (Reads S.the-row Taken 𝓤 H (𝓖 .A)) 𝓜 𝓡 code.env #starts-of starts-of-def.routine code.calls-lent-ranges·starts·starts-of (starts-of-thm.met 𝓤 H 𝓜 𝓖 𝓡))
     (cited 𝓤 H (Core 𝓤 H (𝓖 .A) (𝓜 .mem) (𝓡 .run)) 𝓜 𝓡 code.env #stretch-core stretch-core-def.routine code.calls-range-cores·of-fixed-schedules·stretch-core (stretch-core-thm.met 𝓤 H 𝓜 𝓖 𝓡)))

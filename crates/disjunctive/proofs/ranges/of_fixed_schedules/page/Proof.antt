@@ -47,7 +47,7 @@ use Rattle.barred_starts.specs.Ranges.{earliests, latests}
 use Rattle.barred_starts.specs.declared.range.Range.{Range}
 use Rattle.lent_ranges.specs.declared.starts.Starts.{Starts}
 use Rattle.lent_ranges.proofs.TakenApart.{starts-fit, apart}
-use Rattle.lent_ranges.proofs.starts.Lending.{rangesVal, StartsOf, calls-starts}
+use Rattle.lent_ranges.proofs.starts.Lending.{rangesVal, Reads, Taken, calls-reader}
 use Rattle.range_cores.proofs.of_fixed_schedules.page_core as page-core
 use Rattle.range_cores.proofs.of_fixed_schedules.page_core.Symbol as page-core-def
 use Rattle.range_cores.proofs.of_fixed_schedules.page_core.Symbol.{name as #page-core}
@@ -128,7 +128,7 @@ module _ {M : Type 1} (𝓤 : URA M) (H : Heap 𝓤) (A : Atoms 𝓤) (W : Given
   abbrev Said : Starts → Page → List ℕ → Type 0
   Said s r ws = Paged h (take (s .count) (s .earliest)) (take (s .count) (s .latest)) (now xo) r ws
 
-  module _ (C : Calls 𝓤 H) (Λ : Loops 𝓤 H) (fm : FmC 𝓤 H (W .laws) C) (known-starts : Triple 𝓤 (C #starts-of) (StartsOf 𝓤 H A at-mem run)) (known-core : Triple 𝓤 (C #page-core) (Core 𝓤 H A at-mem run))
+  module _ (C : Calls 𝓤 H) (Λ : Loops 𝓤 H) (fm : FmC 𝓤 H (W .laws) C) (known-starts : Triple 𝓤 (C #starts-of) (Reads S.the-row Taken 𝓤 H A)) (known-core : Triple 𝓤 (C #page-core) (Core 𝓤 H A at-mem run))
       (g : Room T.the-row (length ys)) (go : Room u8 (length (now xo))) where
     walk : ent 𝓤 (onEntry 𝓤 H A f.signature (κ, (κ₁, (κ₂, tt))) (q, (q₁, (q₂, tt))) x at) (WpFn 𝓤 H C Λ code.function (vptr b o ∷ rangesVal xr ∷ vo ∷ []) Post)
     walk =
@@ -139,7 +139,7 @@ module _ {M : Type 1} (𝓤 : URA M) (H : Heap 𝓤) (A : Atoms 𝓤) (W : Given
         move ! (17 ∷ []) $ fsplit ! $ fsplit3 ! $ drop ! $ move ! (2 ∷ []) $ fsplit ! $ move ! (1 ∷ []) $ fsplit ! $ move ! (21 ∷ []) $ split ! $ move ! (1 ∷ []) $ split ! $
         keep ! (0 ∷ 5 ∷ 7 ∷ 2 ∷ 1 ∷ 3 ∷ 8 ∷ 9 ∷ 10 ∷ 11 ∷ 12 ∷ 13 ∷ 14 ∷ 15 ∷ 16 ∷ 17 ∷ 18 ∷ 19 ∷ 20 ∷ 21 ∷ 22 ∷ 23 ∷ []) $
         -- [the ranges' token; the ranges; the record's borrow; its token; the buffer's token; the buffer; _7; …; _0]
-        calls-starts ! fm at-mem run known-starts κ₁ q₁ xr (and-then ! (load ! (from ! (stop !)) (look ! 15 refl)) (no-more !)) (λ w s e₁ is₁.
+        calls-reader ! fm S.the-row Taken known-starts κ₁ q₁ xr (and-then ! (load ! (from ! (stop !)) (look ! 15 refl)) (no-more !)) (λ w s e₁ is₁.
         land ! (from ! (stop !)) (init ! 12 refl (LL.lawful S.the-type S′.the-laws 𝓤 H A W .typed s _ is₁ .0)) $
         -- [what the starts own; the ranges' token; the record's borrow; its token; the buffer's token; the buffer; _7; …; _0]
         move ! (2 ∷ 3 ∷ []) $ looks-into ! tt h b o (λ q′ gh.
@@ -163,7 +163,7 @@ module _ {M : Type 1} (𝓤 : URA M) (H : Heap 𝓤) (A : Atoms 𝓤) (W : Given
         by ! (exits r w₂ (us .1 .1 .0) (apart (λ es ls. Paged h es ls (now xo) r (us .1 .1 .0)) ys s e₁ (too-many h (earliests ys) (latests ys) (now xo) r (us .1 .1 .0)) e₂) lo))))))))))))))
 
 module _ {M : Type 1} (𝓤 : URA M) (H : Heap 𝓤) (A : Atoms 𝓤) (W : Given 𝓤 H A) (at-mem : Memory → SProp 𝓤) (run : Routine → Fun 𝓤) where
-  f-walks : (C : Calls 𝓤 H) (Λ : Loops 𝓤 H) → FmC 𝓤 H (W .laws) C → Triple 𝓤 (C #starts-of) (StartsOf 𝓤 H A at-mem run) → Triple 𝓤 (C #page-core) (Core 𝓤 H A at-mem run) → Walks 𝓤 H A f.ended stayed (WpFn 𝓤 H C Λ code.function) (f.clauses 𝓤 H A at-mem run)
+  f-walks : (C : Calls 𝓤 H) (Λ : Loops 𝓤 H) → FmC 𝓤 H (W .laws) C → Triple 𝓤 (C #starts-of) (Reads S.the-row Taken 𝓤 H A) → Triple 𝓤 (C #page-core) (Core 𝓤 H A at-mem run) → Walks 𝓤 H A f.ended stayed (WpFn 𝓤 H C Λ code.function) (f.clauses 𝓤 H A at-mem run)
   f-walks C Λ fm k₁ k₂ = walked 𝓤 H A f.ended stayed (f.clauses 𝓤 H A at-mem run) (WpFn 𝓤 H C Λ code.function) (λ κs. (ptr-vals, (slice-vals, (slice-vals, tt))))
       (λ κs. (shr-tells (named 0) (κs .0) P.the-row, (shr-slice-tells (named 1) (κs .1 .0) T.the-row, (mut-slice-tells (named 2) (κs .1 .1 .0) u8, tt))))
       (λ κs qs bounds a _ are. via 𝓤 _ (fst∗ 𝓤 _ (emp 𝓤)) (walk 𝓤 H A W at-mem run (κs .0) (κs .1 .0) (κs .1 .1 .0) (qs .0) (qs .1 .0) (qs .1 .1 .0) (a .0 .ptr .0) (a .0 .ptr .1) (a .0 .name) (a .0 .now) (a .1 .0) (a .1 .1 .0) C Λ fm k₁ k₂ (are .1 .0 .0 .1) (are .1 .1 .0 .0 .1)))
@@ -174,5 +174,5 @@ page-spec 𝓤 H 𝓜 𝓖 𝓡 =
     let W = givenOf 𝓤 H 𝓜 𝓖 in
     by-walk 𝓤 H 𝓜 𝓖 𝓡 f.ended stayed (goes-dropped 𝓤 H (𝓖 .A) W 3 (shrRefTo (0 ∷ []) tt (plain (λ _. P.the-row))) yes (λ κs x f. refl), (goes-dropped 𝓤 H (𝓖 .A) W 3 (shrSliceOf (1 ∷ []) tt (plain (λ _. T.the-row))) yes (λ κs x f. refl), (goes-gave-slice 𝓤 H (𝓖 .A) W 3 2 tt (plain (λ _. u8)), tt))) (f.clauses 𝓤 H (𝓖 .A) (𝓜 .mem) (𝓡 .run)) code.env #page code.function (code.unfolded 𝓤 H 𝓜 𝓡)
     (λ fm. f-walks 𝓤 H (𝓖 .A) W (𝓜 .mem) (𝓡 .run) (tables 𝓤 H 𝓜 𝓡 code.env .C) (tables 𝓤 H 𝓜 𝓡 code.env .Λ) fm
-    (cited 𝓤 H (StartsOf 𝓤 H (𝓖 .A) (𝓜 .mem) (𝓡 .run)) 𝓜 𝓡 code.env #starts-of starts-of-def.routine code.calls-lent-ranges·starts·starts-of (starts-of-thm.met 𝓤 H 𝓜 𝓖 𝓡))
+    (cited 𝓤 H (Reads S.the-row Taken 𝓤 H (𝓖 .A)) 𝓜 𝓡 code.env #starts-of starts-of-def.routine code.calls-lent-ranges·starts·starts-of (starts-of-thm.met 𝓤 H 𝓜 𝓖 𝓡))
     (cited 𝓤 H (Core 𝓤 H (𝓖 .A) (𝓜 .mem) (𝓡 .run)) 𝓜 𝓡 code.env #page-core page-core-def.routine code.calls-range-cores·of-fixed-schedules·page-core (page-core-thm.met 𝓤 H 𝓜 𝓖 𝓡)))
