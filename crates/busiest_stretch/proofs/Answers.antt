@@ -9,7 +9,7 @@ use lib.IntN.{ℤ, pos, negsuc, _+ℤ_, _-ℤ_}
 use lib.ListN.{length, getD, take}
 use Rattle.integers.specs.Answers.{refusedBy}
 use Rattle.integers.specs.Limits.{TASKS}
-use Rattle.integers.specs.Filling.{filled}
+use Rattle.integers.specs.Filling.{filled, noTasks}
 use Rattle.integers.specs.Moments.{moment, instant, zeroAt, Above}
 use Rattle.integers.specs.Orders.{index, Ordered}
 use Rattle.integers.proofs.Ints.{ints, up, dn, subℤ, minℤ-is, maxℤ-is}
@@ -17,7 +17,7 @@ use Rattle.integers.specs.Extremes.{minℤ, maxℤ}
 use Rattle.integers.proofs.Moments.{mono, reflect, mono<, plus, plus-above, above-up, at-moment, instant-above, moment-instant}
 use Rattle.scheduling.specs.Scheduling.{whole, natural, Tasks, total}
 use Rattle.scheduling.proofs.Sets.{total-ext}
-use Rattle.sorts.specs.Orders.{noTasks, momentAt}
+use Rattle.sorts.specs.Orders.{momentAt}
 use Rattle.records.specs.declared.record.Propagator.{Propagator}
 use Rattle.records.specs.Records.{durationOf}
 use Rattle.fixed_schedules.specs.FixedSchedules.{orderOf, tasksOn, AcceptedFixed}

@@ -6,11 +6,11 @@ use Prim.Native.Nat.{ℕ, _<_}
 use native.Mathlib.Omega.{arith}
 use lib.IntN.{ℤ, pos}
 use lib.ListN.{length, getD, length-replicate}
+use Rattle.integers.specs.Filling.{noTasks}
 use Rattle.integers.specs.Answers.{answered, refusedBy}
 use Rattle.integers.specs.Limits.{TASKS}
 use Rattle.integers.proofs.Filling.{filled-at, filled-past, filled-length, getD-fresh}
 use Rattle.scheduling.specs.Scheduling.{total}
-use Rattle.sorts.specs.Orders.{noTasks}
 use Rattle.records.specs.declared.record.Propagator.{Propagator}
 use Rattle.fixed_schedules.proofs.Accepting.{input-of, started, short}
 use Rattle.charges.specs.declared.answer.Bill.{Bill}

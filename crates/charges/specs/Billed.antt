@@ -4,10 +4,9 @@ use mathlib.Core.List.{List}
 use Prim.Native.Nat.{ℕ, _≤_, _<_}
 use lib.IntN.{ℤ}
 use lib.ListN.{length, getD}
-use Rattle.integers.specs.Filling.{filled}
+use Rattle.integers.specs.Filling.{filled, noTasks}
 use Rattle.integers.specs.Limits.{DURATIONS}
 use Rattle.scheduling.specs.Scheduling.{total}
-use Rattle.sorts.specs.Orders.{noTasks}
 use Rattle.fixed_schedules.specs.Neighbours.{Started}
 use Rattle.charges.specs.declared.answer.Bill.{Bill}
 use Rattle.charges.specs.Charging.{DuesFit, chargeAt}

@@ -7,11 +7,11 @@ use lib.Dec.{eqb}
 use lib.IntN.{ℤ, pos, negℤ}
 use lib.Signed.{_≤ℤ_}
 use lib.ListN.{length, getD}
+use Rattle.integers.specs.Filling.{noTasks}
 use Rattle.integers.specs.Answers.{answered, refusedBy}
 use Rattle.integers.specs.Limits.{TASKS, START, DURATIONS, DUE}
 use Rattle.integers.specs.Tests.{Test, test, allBelow, refusal}
 use Rattle.scheduling.specs.Scheduling.{total}
-use Rattle.sorts.specs.Orders.{noTasks}
 use Rattle.records.specs.declared.record.Propagator.{Propagator}
 use Rattle.input_refusals.specs.Refusals.{withinAt}
 use Rattle.fixed_schedules.specs.FixedSchedules.{endAt, fixedTests, AcceptedFixed}

@@ -11,6 +11,7 @@ use borrow.Author.Tests.{ltb-true, lt-ltb, eq-eqb}
 use lib.Dec.{ltb}
 use lib.IntN.{ℤ}
 use lib.ListN.{length}
+use Rattle.integers.specs.Filling.{noTasks}
 use Rattle.integers.specs.Limits.{TASKS, VARIABLES, DURATIONS, VALUE, PREMISES, HOLES}
 use Rattle.integers.specs.Moments.{moment, Above, zeroAt}
 use Rattle.integers.specs.Tests.{refusal}
@@ -32,7 +33,6 @@ use Rattle.checking.specs.States.{prepared}
 use Rattle.checking.specs.Bounds.{lowerIn, upperIn}
 use Rattle.checking.proofs.Bounds.{lower-is, upper-is, lower-none-is, upper-none-is, lower-near, upper-near}
 use Rattle.checking.proofs.Prepared.{prepared-success}
-use Rattle.sorts.specs.Orders.{noTasks}
 use Rattle.records.specs.Records.{durationAt, creationTests}
 use Rattle.records.proofs.Creation.{created-lawful, same-sum}
 use Rattle.formulas.specs.Formulas.{bounded, implied}

@@ -8,10 +8,10 @@ use native.Mathlib.Omega.{arith}
 use lib.IntN.{ℤ}
 use lib.ListN.{length, getD}
 use Rattle.integers.specs.Limits.{TASKS, START, DURATIONS}
-use Rattle.integers.specs.Filling.{filled}
+use Rattle.integers.specs.Filling.{filled, noTasks}
 use Rattle.integers.specs.Moments.{zeroAt}
 use Rattle.scheduling.specs.Scheduling.{natural, Tasks, TaskSet, total}
-use Rattle.sorts.specs.Orders.{noTasks, momentAt}
+use Rattle.sorts.specs.Orders.{momentAt}
 use Rattle.records.specs.declared.record.Propagator.{Propagator}
 use Rattle.records.specs.Records.{momentsIn}
 use Rattle.input_refusals.specs.Refusals.{AcceptedInput}

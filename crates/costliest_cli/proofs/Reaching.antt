@@ -11,7 +11,7 @@ use lib.ListN.{length, getD, take, replicate, length-replicate, getD-replicate}
 use lib.Seq.{ext-getD, getD-take, length-take-le}
 use Rattle.integers.specs.Limits.{TASKS, START, ATOMS}
 use Rattle.integers.specs.Tests.{refusal}
-use Rattle.integers.specs.Filling.{filled}
+use Rattle.integers.specs.Filling.{filled, noTasks}
 use Rattle.integers.proofs.Filling.{filled-at, filled-length}
 use Rattle.integers.proofs.Ints.{ints, up, dn, up-neg, dn-neg}
 use Rattle.scheduling.specs.Scheduling.{total}
@@ -20,7 +20,6 @@ use Rattle.runs.specs.Runs.{tabulate, propagate}
 use Rattle.runs.specs.Costliest.{costliestStarts, costliestDurations}
 use Rattle.runs.proofs.Tables.{tab-length, tab-at, tab-map}
 use Rattle.runs.proofs.Costliest.{costliest-run}
-use Rattle.sorts.specs.Orders.{noTasks}
 use Rattle.records.specs.Records.{durationAt, creationTests, newRecord}
 use Rattle.input_refusals.specs.Refusals.{runNumber, StartFits}
 use Rattle.records.proofs.Creation.{created-lawful, natural-count, natural-duration, natural-accepted}

@@ -7,7 +7,7 @@ use native.Mathlib.Omega.{arith}
 use lib.IntN.{ℤ, pos}
 use lib.ListN.{length, getD, take, length-take}
 use lib.Seq.{getD-take}
-use Rattle.integers.specs.Filling.{filled}
+use Rattle.integers.specs.Filling.{filled, noTasks}
 use Rattle.integers.specs.Limits.{START, DURATIONS}
 use Rattle.integers.specs.Moments.{moment, zeroAt, Above}
 use Rattle.integers.specs.Orders.{index, Ordered}
@@ -15,7 +15,7 @@ use Rattle.integers.proofs.Ints.{ints, up, dn, up-neg, dn-neg}
 use Rattle.integers.proofs.Moments.{at-moment}
 use Rattle.scheduling.specs.Scheduling.{whole, natural, Tasks}
 use Rattle.scheduling.proofs.Sets.{total-part}
-use Rattle.sorts.specs.Orders.{noTasks, momentAt}
+use Rattle.sorts.specs.Orders.{momentAt}
 use Rattle.records.specs.declared.record.Propagator.{Propagator}
 use Rattle.input_refusals.specs.Refusals.{AcceptedInput}
 use Rattle.fixed_schedules.specs.FixedSchedules.{startAt, orderOf, tasksOn, AcceptedFixed}

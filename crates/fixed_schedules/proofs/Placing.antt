@@ -13,7 +13,7 @@ use lib.ListN.{length, getD, take}
 use lib.Seq.{getD-take}
 use borrow.Author.Tests.{le-leb, leb-true}
 use Rattle.integers.specs.Limits.{TASKS, START}
-use Rattle.integers.specs.Filling.{filled}
+use Rattle.integers.specs.Filling.{filled, noTasks}
 use Rattle.integers.specs.Moments.{moment, instant, zeroAt, Above}
 use Rattle.integers.specs.Orders.{index, numbers, Permutes, Ordered}
 use Rattle.integers.proofs.Bools.{bool, clash}
@@ -22,7 +22,7 @@ use Rattle.integers.proofs.Ints.{ints, up, dn, up-neg, dn-neg, leZ-true, le-leZ
 use Rattle.integers.proofs.Moments.{mono, reflect, plus, plus-above, above-show, at-moment, instant-moment}
 use Rattle.integers.proofs.Permutations.{numbers-permute, numbers-length}
 use Rattle.integers.proofs.Sorting.{sort-length, sort-permutes, sort-ordered}
-use Rattle.sorts.specs.Orders.{SortedBy, byKey, noTasks, momentAt}
+use Rattle.sorts.specs.Orders.{SortedBy, byKey, momentAt}
 use Rattle.sorts.proofs.Sorted.{sorted-as}
 use Rattle.input_refusals.specs.Refusals.{StartFits}
 use Rattle.fixed_schedules.specs.FixedSchedules.{startAt, byStart, orderOf}

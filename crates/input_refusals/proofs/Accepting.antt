@@ -9,7 +9,7 @@ use lib.IntN.{ℤ, pos, negℤ}
 use lib.ListN.{length, getD, take, length-replicate}
 use lib.Seq.{getD-take, length-take-le}
 use Rattle.integers.specs.Limits.{TASKS, START, DURATIONS}
-use Rattle.integers.specs.Filling.{filled}
+use Rattle.integers.specs.Filling.{filled, noTasks}
 use Rattle.integers.specs.Moments.{zeroAt, Above}
 use Rattle.integers.proofs.Filling.{filled-at}
 use Rattle.integers.proofs.Ints.{up, dn}
@@ -19,7 +19,7 @@ use Rattle.scheduling.proofs.Processing.{processing-less, processing-all}
 use Rattle.scheduling.proofs.Sets.{total-ext}
 use Rattle.scheduling.proofs.Transfer.{sound}
 use Rattle.records.specs.declared.record.Propagator.{Propagator}
-use Rattle.sorts.specs.Orders.{noTasks, momentAt, completionAt, largestKey}
+use Rattle.sorts.specs.Orders.{momentAt, completionAt, largestKey}
 use Rattle.records.specs.Records.{tasksIn, momentsIn}
 use Rattle.input_refusals.specs.Refusals.{AcceptedInput, Accepted}
 

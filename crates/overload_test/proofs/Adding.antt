@@ -11,7 +11,7 @@ use lib.IntN.{ℤ}
 use lib.ListN.{length, getD, set, take}
 use lib.Seq.{getD-take}
 use Rattle.integers.specs.Limits.{TASKS}
-use Rattle.integers.specs.Filling.{filled}
+use Rattle.integers.specs.Filling.{filled, noTasks}
 use Rattle.integers.specs.Orders.{index, numbers, sort}
 use Rattle.scheduling.specs.Scheduling.{natural, Tasks, TaskSet, completion}
 use Rattle.scheduling.specs.Ects.{byEarliest, ectOf}
@@ -22,7 +22,7 @@ use Rattle.trees.specs.Leaves.{Leaf, white, ect}
 use Rattle.trees.specs.Trees.{IsPlainTree}
 use Rattle.trees.specs.Operations.{HasTask}
 use Rattle.trees.specs.PlainOperations.{HeldPlain, PlainNew, PlainWhitened}
-use Rattle.sorts.specs.Orders.{SortedBy, byKey, noTasks, momentAt, completionAt, largestKey}
+use Rattle.sorts.specs.Orders.{SortedBy, byKey, momentAt, completionAt, largestKey}
 use Rattle.sorts.proofs.Sorted.{sorted-as}
 use Rattle.records.specs.declared.record.Propagator.{Propagator}
 use Rattle.records.specs.Records.{momentsIn}

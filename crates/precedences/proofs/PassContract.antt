@@ -11,13 +11,13 @@ use lib.IntN.{ℤ, pos}
 use lib.Signed.{_≤ℤ_, clashℤ, <ℤ-≤ℤ-trans}
 use lib.ListN.{length, getD, length-replicate}
 use Rattle.integers.specs.Answers.{refusedBy}
-use Rattle.integers.specs.Filling.{filled}
+use Rattle.integers.specs.Filling.{filled, noTasks}
 use Rattle.integers.specs.Limits.{TASKS}
 use Rattle.integers.specs.Moments.{instant, zeroAt}
 use Rattle.integers.proofs.Answers.{same-kind, same-count}
 use Rattle.integers.proofs.Filling.{filled-at, filled-length}
 use Rattle.scheduling.specs.Scheduling.{whole, natural, Tasks, Proper, Largest, Schedule}
-use Rattle.sorts.specs.Orders.{noTasks, momentAt}
+use Rattle.sorts.specs.Orders.{momentAt}
 use Rattle.records.specs.declared.record.Propagator.{Propagator}
 use Rattle.records.specs.Records.{tasksIn, momentsIn}
 use Rattle.input_refusals.specs.Refusals.{AcceptedInput, inputNumber}

@@ -8,10 +8,10 @@ use native.Mathlib.Omega.{arith}
 use lib.IntN.{ℤ}
 use lib.ListN.{length, getD, replicate, length-replicate}
 use Rattle.integers.specs.Limits.{TASKS}
-use Rattle.integers.specs.Filling.{filled}
+use Rattle.integers.specs.Filling.{filled, noTasks}
 use Rattle.integers.proofs.Filling.{filled-at}
 use Rattle.scheduling.proofs.Sets.{total-part}
-use Rattle.sorts.specs.Orders.{noTasks, momentAt}
+use Rattle.sorts.specs.Orders.{momentAt}
 use Rattle.records.specs.declared.record.Propagator.{Propagator}
 use Rattle.records.specs.Records.{momentsIn}
 use Rattle.input_refusals.specs.Refusals.{AcceptedInput}

@@ -10,7 +10,7 @@ use lib.IntN.{ℤ, pos, negℤ}
 use lib.ListN.{length, getD, take, replicate, length-replicate}
 use lib.Seq.{getD-take}
 use Rattle.integers.specs.Limits.{TASKS, DURATIONS, MIRRORED}
-use Rattle.integers.specs.Filling.{filled}
+use Rattle.integers.specs.Filling.{filled, noTasks}
 use Rattle.integers.specs.Moments.{instant, zeroAt, Above}
 use Rattle.integers.specs.Orders.{sort, index, numbers}
 use Rattle.integers.proofs.Filling.{filled-length, filled-at}
@@ -38,7 +38,7 @@ use Rattle.runs.proofs.Changes.{changes-most}
 use Rattle.runs.proofs.Few as few-words
 use Rattle.runs.proofs.Fuel.{propagate-is}
 use Rattle.runs.proofs.Tables.{tabulated}
-use Rattle.sorts.specs.Orders.{SortedBy, noTasks, momentAt, completionAt, byKey, byKeyDown, largestKey}
+use Rattle.sorts.specs.Orders.{SortedBy, momentAt, completionAt, byKey, byKeyDown, largestKey}
 use Rattle.sorts.proofs.Sorted.{sorted-as}
 use Rattle.records.specs.declared.record.Propagator.{Propagator}
 use Rattle.candidates.specs.RunArrays.{Ordered, Holds, At}

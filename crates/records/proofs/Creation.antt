@@ -12,7 +12,7 @@ use lib.Signed.{leZ, _≤ℤ_}
 use lib.ListN.{length, getD, length-map}
 use borrow.Author.Tests.{leb-true, le-leb}
 use Rattle.integers.specs.Limits.{TASKS, DURATIONS}
-use Rattle.integers.specs.Filling.{filled}
+use Rattle.integers.specs.Filling.{filled, noTasks}
 use Rattle.integers.specs.Tests.{allBelow, refusal, AllPassed}
 use Rattle.integers.proofs.Bools.{clash}
 use Rattle.integers.proofs.Filling.{filled-at, filled-past, getD-fresh}
@@ -21,7 +21,6 @@ use Rattle.integers.proofs.Tests.{all-at, all-show, all-ext, accepts, accepted,
 use Rattle.scheduling.specs.Scheduling.{total}
 use Rattle.scheduling.proofs.Sets.{total-ext}
 use Rattle.records.specs.declared.record.Creation.the-variants.{Accepted, Refused}
-use Rattle.sorts.specs.Orders.{noTasks}
 use Rattle.records.specs.Records.{sumFits, lastsAt, Lawful, durationOf, durationAt, positiveAt, creationTests, newRecord, zeroRecord, creationNumber, created, createdAt}
 use Rattle.records.proofs.Lawful.{count-is}
 

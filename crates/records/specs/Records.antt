@@ -8,13 +8,12 @@ use lib.IntN.{ℤ, pos, negsuc}
 use lib.Signed.{leZ}
 use lib.ListN.{length, getD, take}
 use Rattle.integers.specs.Limits.{TASKS, DURATIONS}
-use Rattle.integers.specs.Filling.{filled}
+use Rattle.integers.specs.Filling.{filled, noTasks}
 use Rattle.integers.specs.Moments.{zeroAt}
 use Rattle.integers.specs.Answers.{Answer, answered, refusedBy}
 use Rattle.integers.specs.Tests.{Test, test, refusal, allBelow}
 use Rattle.scheduling.specs.Scheduling.{whole, natural, Tasks, tasksOf, total}
 use Rattle.scheduling.specs.Moments.{moments}
-use Rattle.sorts.specs.Orders.{noTasks}
 use Rattle.records.specs.declared.record.Propagator.{Propagator}
 use Rattle.records.specs.declared.record.Created.{Created}
 use Rattle.records.specs.declared.record.Creation.{Creation}

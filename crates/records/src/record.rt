@@ -7,10 +7,9 @@ ghost use Prim.Native.Nat.{_≤_, _<_};
 ghost use lib.Bits.{bitOr};
 ghost use lib.ListN.{length, getD};
 ghost use Rattle.integers.specs.Limits.{TASKS};
-ghost use Rattle.integers.specs.Filling.{filled};
+ghost use Rattle.integers.specs.Filling.{filled, noTasks};
 ghost use Rattle.integers.specs.Tests.{allBelow, refusal};
 ghost use Rattle.scheduling.specs.Scheduling.{total};
-ghost use Rattle.sorts.specs.Orders.{noTasks};
 ghost use Rattle.records.specs.Records.{countFits, sumFits, totalTrue, lastsAt, unusedZero, recordOf, lawfulRecord, durationOf, durationAt, creationTests, zeroRecord, Creates};
 
 // Places from the count on are 0.

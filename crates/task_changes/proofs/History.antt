@@ -9,11 +9,10 @@ use lib.IntN.{ℤ, pos}
 use lib.ListN.{length, getD, take, length-map, length-append, length-replicate, List·getD-map}
 use lib.Seq.{length-take-le, getD-take, ext-getD}
 use Rattle.integers.specs.Limits.{TASKS}
-use Rattle.integers.specs.Filling.{filled}
+use Rattle.integers.specs.Filling.{filled, noTasks}
 use Rattle.integers.specs.Tests.{refusal}
 use Rattle.integers.proofs.Filling.{filled-at, filled-length}
 use Rattle.scheduling.proofs.Sets.{total-none}
-use Rattle.sorts.specs.Orders.{noTasks}
 use Rattle.records.specs.declared.record.Propagator.{Propagator}
 use Rattle.records.specs.Records.{Lawful, recordOf, durationOf, durationAt, creationTests, newRecord, createdAt, created}
 use Rattle.records.specs.declared.record.Created.{Created}

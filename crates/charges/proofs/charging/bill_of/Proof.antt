@@ -6,12 +6,11 @@ use lib.IntN.{ℤ, pos, _+ℤ_}
 use lib.ListN.{length, getD}
 use borrow.Author.Needs.{needs}
 use mir.Syntax.{w32}
-use Rattle.integers.specs.Filling.{filled}
+use Rattle.integers.specs.Filling.{filled, noTasks}
 use Rattle.integers.proofs.Filling.{filled-none, filled-store}
 use Rattle.integers.proofs.Ints.{back-of}
 use Rattle.scheduling.specs.Scheduling.{total}
 use Rattle.scheduling.proofs.Sets.{total-none, total-more}
-use Rattle.sorts.specs.Orders.{noTasks}
 use Rattle.input_refusals.specs.Refusals.{StartFits}
 use Rattle.fixed_schedules.specs.FixedSchedules.{startAt, endAt}
 use Rattle.charges.specs.Tariff.{minutesLate, costOf}

@@ -4,9 +4,8 @@ use mathlib.Core.Path.{_≡_, sym, ap, ap₂, _∙_}
 use mathlib.Core.List.{List}
 use Prim.Native.Nat.{ℕ, _-_, _≤_, _<_}
 use native.Mathlib.Omega.{arith}
-use Rattle.integers.specs.Filling.{filled}
+use Rattle.integers.specs.Filling.{filled, noTasks}
 use Rattle.integers.proofs.Filling.{filled-none, filled-store}
-use Rattle.sorts.specs.Orders.{noTasks}
 use Rattle.ects.specs.Ects.{raisedTo}
 use Rattle.predecessors.specs.TaskArrays.{Ranged}
 use Rattle.precedences.specs.TaskArrays.{raisedAt}

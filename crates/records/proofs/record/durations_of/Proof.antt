@@ -6,10 +6,9 @@ use lib.ListN.{length, getD}
 use lib.IntN.{pos}
 use borrow.Author.Needs.{needs}
 use mir.Syntax.{w32}
-use Rattle.integers.specs.Filling.{filled}
+use Rattle.integers.specs.Filling.{filled, noTasks}
 use Rattle.integers.proofs.Filling.{filled-none, filled-store, filled-length}
 use Rattle.integers.proofs.Ints.{back-of}
-use Rattle.sorts.specs.Orders.{noTasks}
 use Rattle.records.specs.Records.{durationOf, durationAt}
 use Rattle.records.proofs.record.durations_of.Statement.{statement}
 use Rattle.records.proofs.record.durations_of.Tie as tie
