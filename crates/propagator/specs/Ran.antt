@@ -1,7 +1,7 @@
 -- What a run leaves, by the run's definition.
 use mathlib.Core.Path.{_≡_}
 use mathlib.Core.Bool.{Bool}
-use mathlib.Core.List.{List, _++_}
+use mathlib.Core.List.{List}
 use Prim.Native.Nat.{ℕ, _-_, _*_, _≤_, _<_}
 use lib.IntN.{ℤ, pos}
 use lib.ListN.{length, getD, take}
@@ -12,7 +12,7 @@ use Rattle.integers.specs.Moments.{Above}
 use Rattle.runs.specs.Traces.{Trace}
 use Rattle.runs.specs.Runs.{propagate}
 use Rattle.scheduling.specs.Words.{atomWords}
-use Rattle.runs.specs.Words.{postWords, reasons, endReason, postsAfter, atomsAfter}
+use Rattle.runs.specs.Words.{postWords, atomsIn, postsAfter, atomsAfter}
 use Rattle.records.specs.declared.record.Propagator.{Propagator}
 use Rattle.records.specs.Records.{Lawful}
 use Rattle.input_refusals.specs.Refusals.{CountsFit, RangesFit, WordsFit, runNumber}
@@ -44,7 +44,7 @@ module _ (before : Propagator) (es ls : List ℤ) where
     pub post-words : posts′ ≡ postsAfter posts traceOf
     pub atom-words : atoms′ ≡ atomsAfter atoms traceOf
     pub posts-fit : length (postWords 0 (traceOf .posts)) ≤ length posts
-    pub atoms-fit : length (atomWords (reasons (traceOf .posts) ++ endReason (traceOf .end))) ≤ length atoms
+    pub atoms-fit : length (atomWords (atomsIn traceOf)) ≤ length atoms
 
   -- A refused run leaves everything as it was, and counts no leaf change.
   pub record Kept (number : ℕ) (posts atoms : List ℤ) (r : Outcome) (changed : ℕ) (es′ posts′ atoms′ : List ℤ) : Type 0 where

@@ -239,14 +239,14 @@ module _ (o : ℕ) (J : Tasks natural) (ok : Proper J) (estOrder lctOrder : List
         at k q = ap (moment o) (getD-map-in (instant o) (st .starts) k 0 (pos 0) (omega (arith, v .known))) ∙ moment-instant o (now st k)
 
     -- what a trace leaves of the starts: a post that empties a range is the last one, and no other is above a latest start
-    pub record Leaves (tr : Trace) : Type 0 where
+    pub record StartsLeft (tr : Trace) : Type 0 where
       pub many : ℕ
       pub all : (tr .end ≡ emptied → ⊥) → many ≡ length (tr .posts)
       pub but-last : tr .end ≡ emptied → suc many ≡ length (tr .posts)
       pub stand : Standing J (λ k. moment o (getD (tr .starts) k (pos 0))) many (length (tr .posts)) (taskOf (tr .posts)) (boundOf (tr .posts))
 
-    leaves-all : (t : ℕ) (st : State) (e : End) → (e ≡ emptied → ⊥) → Inv t st → Leaves (edges.ended o J estOrder lctOrder st e)
-    leaves-all t st e ne v = record { many = length (st .posts); all = λ _. refl; but-last = λ z. absurd (ne z); stand = standing t st (st .posts) v (λ j q. refl) (λ j q r. absurd (omega arith)) }
+    all-stand : (t : ℕ) (st : State) (e : End) → (e ≡ emptied → ⊥) → Inv t st → StartsLeft (edges.ended o J estOrder lctOrder st e)
+    all-stand t st e ne v = record { many = length (st .posts); all = λ _. refl; but-last = λ z. absurd (ne z); stand = standing t st (st .posts) v (λ j q. refl) (λ j q r. absurd (omega arith)) }
 
     -- and at its end: no task of Λ passes any more
     pub record Closed (t : ℕ) (st : State) : Type 0 where
@@ -255,7 +255,7 @@ module _ (o : ℕ) (J : Tasks natural) (ok : Proper J) (estOrder lctOrder : List
 
     abbrev pub TurnOk : ℕ → Turn → Type 0
     TurnOk t (on st) = Closed t st
-    TurnOk t (stop st) = Conflict J × AllGood (st .posts) × Leaves (edges.ended o J estOrder lctOrder st emptied)
+    TurnOk t (stop st) = Conflict J × AllGood (st .posts) × StartsLeft (edges.ended o J estOrder lctOrder st emptied)
 
     -- a task was found at leaf x
     module _ (t : ℕ) (st : State) (small : t < n) (v : Inv t st) (x : ℕ) (f : Found (st .leaves) (Th t) (lam st) (shape t st v) x) (over : exceeds (barOf (st .leaves)) (En t) ≡ true) where
@@ -371,7 +371,7 @@ module _ (o : ℕ) (J : Tasks natural) (ok : Proper J) (estOrder lctOrder : List
       pub when-done : tr .end ≡ done → Done J (λ k. moment o (getD (tr .starts) k (pos 0))) (length (tr .posts)) (taskOf (tr .posts)) (boundOf (tr .posts))
       pub otherwise : (tr .end ≡ done → ⊥) → Conflict J
       pub over : (r : List Atom) → tr .end ≡ overload r → GoodEnd r
-      pub left : Leaves tr
+      pub left : StartsLeft tr
 
     -- L t goes
     pub gray-ok : (t : ℕ) (st : State) → t < n → Closed t st → E (Th t) ≤ En t → Inv (suc t) (edges.grayed st (rank (L t)))
@@ -395,7 +395,7 @@ module _ (o : ℕ) (J : Tasks natural) (ok : Proper J) (estOrder lctOrder : List
           above = map-above o (st .starts);
           otherwise = λ z. absurd (z refl);
           over = λ r z. let y : _≡_ {A = ℕ} 0 1 = cc in absurd (omega arith);
-          left = leaves-all t st done (λ z. let y : _≡_ {A = ℕ} 0 1 = cc in absurd (omega arith)) v;
+          left = all-stand t st done (λ z. let y : _≡_ {A = ℕ} 0 1 = cc in absurd (omega arith)) v;
           when-done = λ _. done-same J (now st) (λ k. moment o (getD (map (instant o) (st .starts)) k (pos 0))) (length (st .posts)) (taskOf (st .posts)) (boundOf (st .posts))
               (λ k r. ap (moment o) (getD-map-in (instant o) (st .starts) k 0 (pos 0) (omega (arith, v .known))) ∙ moment-instant o (now st k))
               (finish J ok E E-is L place ord t (lam st) (now st) end (v .facts) (c .none-passes q) (length (st .posts)) (taskOf (st .posts)) (boundOf (st .posts)) (v .posted));
@@ -410,10 +410,10 @@ module _ (o : ℕ) (J : Tasks natural) (ok : Proper J) (estOrder lctOrder : List
           otherwise = λ _. inl (overloaded J ok E E-is L place ord t small (theta-past t st small v q));
           over = λ r z. let y : conflict o J (En t) (leaves.sum J estOrder (st .leaves)) (theta J estOrder (st .leaves)) ≡ r = cc in
               subst GoodEnd y (meas .of-end t (st .leaves) (lam st) (shape t st v) small q);
-          left = leaves-all t st (overload (conflict o J (En t) (leaves.sum J estOrder (st .leaves)) (theta J estOrder (st .leaves)))) (λ z. let y : _≡_ {A = ℕ} 0 1 = cc in absurd (omega arith)) v;
+          left = all-stand t st (overload (conflict o J (En t) (leaves.sum J estOrder (st .leaves)) (theta J estOrder (st .leaves)))) (λ z. let y : _≡_ {A = ℕ} 0 1 = cc in absurd (omega arith)) v;
         }
 
-    empty-ok : (st : State) → Conflict J × AllGood (st .posts) × Leaves (edges.ended o J estOrder lctOrder st emptied) → OutOk (edges.ended o J estOrder lctOrder st emptied)
+    empty-ok : (st : State) → Conflict J × AllGood (st .posts) × StartsLeft (edges.ended o J estOrder lctOrder st emptied) → OutOk (edges.ended o J estOrder lctOrder st emptied)
     empty-ok st w = record { goods = w .1; left = w .2; above = map-above o (st .starts); when-done = λ z. let y : _≡_ {A = ℕ} 0 1 = cc in absurd (omega arith); otherwise = λ _. w .0; over = λ r z. let y : _≡_ {A = ℕ} 0 1 = cc in absurd (omega arith) }
 
     outer-ok : (f t : ℕ) (st : State) → suc (t + f) ≡ n → Closed t st → OutOk (outer o J estOrder lctOrder f t st)

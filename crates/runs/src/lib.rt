@@ -1,2 +1,2 @@
-// The run of edge finding as a function on values, and what it means: definitions (specs/) and theorems (proofs/). The code that it has is how a run ended.
+// The run of edge finding as a function on values, and what it means: definitions (specs/) and theorems (proofs/). Its only code are the types of a run's answer.
 pub mod outcome;
