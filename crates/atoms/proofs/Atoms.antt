@@ -32,6 +32,10 @@ right-variable x y = let (p, q) = and-true (leZ (pos 0) x) (ltZ x (pos VARIABLES
     below (pos n) p q = omega ints
     below (negsuc n) p q = clash p refl
 
+pub number-right : (x : ℕ) → x < VARIABLES → rightVariable (pos x) ≡ true
+unfolding up dn
+number-right x h = and-yes (leZ (pos 0) (pos x)) (ltZ (pos x) (pos VARIABLES)) (le-leZ (pos 0) (pos x) (omega ints)) (lt-ltZ (pos x) (pos VARIABLES) (omega ints))
+
 pub right-atom : (x k v : ℤ) → rightAtom x k v ≡ true → RightAtom x k v
 unfolding rightAtom
 right-atom x k v y =

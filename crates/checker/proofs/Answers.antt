@@ -14,40 +14,26 @@ use Rattle.atoms.proofs.Atoms.{right-lists}
 use Rattle.checking.specs.declared.variable_state.Application.{Application}
 use Rattle.checking.specs.declared.variable_state.Application.the-variants as application
 use Rattle.checking.specs.declared.variable_state.Applied.{Applied}
-use Rattle.checking.specs.States.{prepared}
-use Rattle.checking.proofs.Prepared.{prepared-right}
+use Rattle.checking.specs.Answers.{AppliedAs}
+use Rattle.checking.specs.States.{Accepted, prepared}
+use Rattle.checking.proofs.Apart.{applied-apart}
+use Rattle.checking.proofs.Prepared.{prepared-right, prepared-accepted}
 use Rattle.records.specs.declared.record.Created.{Created}
 use Rattle.records.specs.declared.record.Creation.the-variants as creation
-use Rattle.records.specs.Records.{creationTests, created}
+use Rattle.records.specs.Records.{creationTests, created, Creates}
+use Rattle.records.proofs.Apart.{created-as}
 use Rattle.records.proofs.Creation.{created-new, created-not}
 use Rattle.formulas.specs.BoundArrays.{mirroredBounds}
 use Rattle.checker.specs.declared.checker.Verdict.{Verdict}
-use Rattle.checker.specs.declared.checker.Verdict.the-variants.{Passed, Contradiction, Refused}
+use Rattle.checker.specs.declared.checker.Verdict.the-variants.{Contradiction, Refused}
 use Rattle.checking.specs.declared.start_bounds.Bounds.{Bounds}
-use Rattle.checker.specs.Checks.{judged, concluded, checkAfter, checkOf, Checked}
-use Rattle.checker.specs.MirroredChecks.{lowerAs, upperAs, judgedAs, checkAs, checkMirroredOf, CheckedMirrored}
+use Rattle.checker.specs.Checks.{judged, concluded, checkAfter, checkOf}
+use Rattle.checker.specs.MirroredChecks.{lowerAs, upperAs, judgedAs, checkAs}
 use Rattle.checking.specs.TaskBounds.{boundsOf}
 use Rattle.checker.specs.CheckArrays.{Judgeable, Consequent}
-use Rattle.checker.proofs.Apart.{verdicts-apart}
-use Rattle.checker.proofs.Soundness.{check-sound, mirrored-sound}
 use Rattle.checker.proofs.Verdicts.{judgeable, mirrored-judgeable}
 
 module _ (ds ps cs : List ℤ) where
-  same : checkAs false ds ps cs ≡ checkOf ds ps cs
-  unfolding checkOf
-  same = refl
-
-  same-mirrored : checkAs true ds ps cs ≡ checkMirroredOf ds ps cs
-  unfolding checkMirroredOf
-  same-mirrored = refl
-
-  -- the open calls, from the check in either time
-  pub checked : (r : Verdict) → r ≡ checkAs false ds ps cs → Checked ds ps cs r
-  checked r e = record { answer = e ∙ same; sound = λ p. check-sound ds ps cs (sym (e ∙ same) ∙ verdicts-apart r Passed p) }
-
-  pub checked-mirrored : (r : Verdict) → r ≡ checkAs true ds ps cs → CheckedMirrored ds ps cs r
-  checked-mirrored r e = record { answer = e ∙ same-mirrored; sound = λ p. mirrored-sound ds ps cs (sym (e ∙ same-mirrored) ∙ verdicts-apart r Passed p) }
-
   -- what comes after 1, 2 and 5
   pub check-after : (n : ℕ) → refusal (creationTests ds) ≡ n → checkOf ds ps cs ≡ checkAfter (judged ds) n ps cs
   unfolding checkOf
@@ -58,7 +44,10 @@ module _ (ds ps cs : List ℤ) where
     after n e = ap (λ (m : ℕ). checkAfter (judgedAs mirrored ds) m ps cs) e
 
     -- 1, 2 or 5
-    module _ (made : Created) (is : made ≡ created ds) where
+    module _ (made : Created) (creates : Creates ds made) where
+      is : made ≡ created ds
+      is = created-as creates
+
       pub is-refused : (n : ℕ) → made .answer ≡ creation.Refused n → Refused n ≡ checkAs mirrored ds ps cs
       is-refused n a = elim (ℕ-discrete (refusal (creationTests ds)) 0) [
         | yes z ↦ (let e : creation.Accepted ≡ creation.Refused n = sym (ap (λ (m : Created). m .answer) (is ∙ created-new ds z)) ∙ a in absurd (let w : _≡_ {A = ℕ} 0 1 = cc in omega arith))
@@ -75,7 +64,10 @@ module _ (ds ps cs : List ℤ) where
         | no z ↦ (let e : creation.Refused (refusal (creationTests ds)) ≡ creation.Accepted = sym (ap (λ (m : Created). m .answer) (is ∙ created-not ds (refusal (creationTests ds)) refl z)) ∙ a in absurd (let w : _≡_ {A = ℕ} 0 1 = cc in omega arith))
       ]
 
-      module _ (a : made .answer ≡ creation.Accepted) (applied : Applied) (same : applied ≡ prepared ps cs) where
+      module _ (a : made .answer ≡ creation.Accepted) (applied : Applied) (as-prepared : AppliedAs (prepared ps cs) applied) where
+        same : applied ≡ prepared ps cs
+        same = applied-apart as-prepared
+
         check-is : checkAs mirrored ds ps cs ≡ concluded (judgedAs mirrored ds) applied (consequentOf cs)
         check-is = after 0 (accepts a) ∙ ap (λ (r : Applied). concluded (judgedAs mirrored ds) r (consequentOf cs)) (sym same)
 
@@ -108,6 +100,9 @@ module _ (ds ps cs : List ℤ) where
 
           pub few-tasks : made .«record» .count ≤ TASKS
           few-tasks = by-state .bounding .held .few
+
+          pub accepted-state : Accepted (applied .state)
+          accepted-state = subst Accepted (sym (as-prepared .state)) (prepared-accepted ps cs)
 
           pub can-judge : (b : Bounds) → b ≡ boundsOf (applied .state) (made .«record» .count)
               → Judgeable ds (lowerAs false ds (applied .state)) (upperAs false ds (applied .state)) (made .«record» .count) b (made .«record» .durations)

@@ -3,6 +3,7 @@ pub mod MirroredGiven
 pub mod Soundness
 pub mod Verdicts
 pub mod Answers
-pub mod Refused
+pub mod Unjudged
 pub mod MirroredRefused
+pub mod Checked
 pub mod Reasons

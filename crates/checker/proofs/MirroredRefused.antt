@@ -2,29 +2,32 @@
 -- Assumes nothing.
 use mathlib.Core.Path.{_≡_, refl, sym, ap}
 use mathlib.Core.Bool.{Bool, true, false, cond, _&&_}
-use mathlib.Core.List.{List}
+use mathlib.Core.List.{List, [], _∷_}
 use mathlib.Core.Logic.{_↔_}
 use mathlib.Core.Option.{Option, some, none}
 use Prim.Native.Nat.{ℕ, zero, suc, _≤_}
 use native.Mathlib.Omega.{arith}
 use lib.Dec.{ltb}
-use lib.IntN.{ℤ}
+use lib.IntN.{ℤ, pos}
 use lib.ListN.{length}
-use Rattle.integers.specs.Answers.{Answer}
+use Rattle.integers.specs.Answers.{Answer, answered, refusedBy}
 use Rattle.integers.specs.Tests.{refusal}
 use Rattle.scheduling.specs.Scheduling.{Atom}
 use Rattle.atoms.specs.Atoms.{consequentOf}
 use Rattle.checking.specs.declared.variable_state.VariableState.{VariableState}
 use Rattle.checking.specs.declared.variable_state.Application.{Application}
 use Rattle.checking.specs.declared.variable_state.Application.the-variants as application
+use Rattle.checking.specs.Bounds.{lowerIn, upperIn}
 use Rattle.checking.specs.States.{prepared}
 use Rattle.records.specs.Records.{durationAt, creationTests}
 use Rattle.formulas.specs.Formulas.{known, bounded, implied, overloaded}
 use Rattle.formulas.specs.StartBounds.{mirrorBound}
 use Rattle.checker.specs.declared.checker.Verdict.the-variants.{Refused}
-use Rattle.checker.specs.Checks.{lowerIn, upperIn, verdict, judged, concluded, checkAfter, checkOf}
+use Rattle.checker.specs.Checks.{verdict, judged, concluded, checkAfter, checkOf}
 use Rattle.checker.specs.MirroredChecks.{lowerAs, upperAs, judgedAs, checkMirroredOf}
+use Rattle.checker.specs.Unjudged.{wordTests, Unjudged}
 use Rattle.checker.specs.Verdicts.{verdictNumbers}
+use Rattle.checker.proofs.Unjudged.{unjudged}
 
 -- Neither passed nor not passed.
 abbrev Other : Answer → Type 0
@@ -73,6 +76,25 @@ module _ (ds : List ℤ) (a : Answer) (o : Other a) where
       by (application.Refused n) p = rw p (λ h. h, λ h. h)
 
 -- kind 2 is a contradiction, kind 3 a number that refuses the check
-pub same-refusals : (ds ps cs : List ℤ) (a : Answer) → 2 ≤ a .kind → verdictNumbers (checkMirroredOf ds ps cs) ≡ a ↔ verdictNumbers (checkOf ds ps cs) ≡ a
+same-refusals : (ds ps cs : List ℤ) (a : Answer) → 2 ≤ a .kind → verdictNumbers (checkMirroredOf ds ps cs) ≡ a ↔ verdictNumbers (checkOf ds ps cs) ≡ a
 unfolding checkOf checkMirroredOf
 same-refusals ds ps cs a o = after-same ds a o ps cs (refusal (creationTests ds))
+
+pub unjudged-mirrored : (ds ps cs : List ℤ) → Unjudged ds ps cs (verdictNumbers (checkMirroredOf ds ps cs))
+unjudged-mirrored ds ps cs = record {
+  words = λ given-one. by (refusedBy (refusal (wordTests ds ps cs))) (omega arith) .1 (unjudged ds ps cs .words given-one);
+  atoms = λ passed.
+      let u = unjudged ds ps cs .atoms passed in
+      record {
+        room = through (by (refusedBy 21) (omega arith)) (u .room);
+        contradiction = λ roomy x. through (by (answered 2 (pos x ∷ [])) (omega arith)) (u .contradiction roomy x);
+        bounds = λ roomy none-emptied. through (by (refusedBy 8) (omega arith)) (u .bounds roomy none-emptied);
+        only = λ m e. u .only m (by (refusedBy m) (omega arith) .0 e);
+      };
+}
+  where
+    by : (a : Answer) → 2 ≤ a .kind → verdictNumbers (checkMirroredOf ds ps cs) ≡ a ↔ verdictNumbers (checkOf ds ps cs) ≡ a
+    by a o = same-refusals ds ps cs a o
+
+    through : {A B C : Type 0} → A ↔ B → B ↔ C → A ↔ C
+    through f g = (λ x. g .0 (f .0 x), λ z. f .1 (g .1 z))

@@ -1,9 +1,9 @@
--- What a check's answer says: where it is Passed no starts contradict it, and a check that meets the formula passes.
+-- What a check's verdict says: it is Passed exactly where the check meets the formula, and then no starts contradict it.
 -- Assumes nothing.
 use mathlib.Core.Path.{_≡_, refl, sym, ap, subst, _∙_}
 use mathlib.Core.Bool.{Bool, true, false, cond, _&&_}
 use mathlib.Core.List.{List}
-use mathlib.Core.Logic.{_⊎_, inl, inr}
+use mathlib.Core.Logic.{_⊎_, inl, inr, _↔_}
 use mathlib.Core.Option.{Option, some, none}
 use Prim.Native.Nat.{ℕ, zero, suc, _+_, _*_, _≤_, _<_}
 use native.Mathlib.Omega.{arith}
@@ -25,43 +25,27 @@ use Rattle.scheduling.proofs.Sets.{total-part}
 use Rattle.nodes.specs.Bounds.{LATEST}
 use Rattle.holes.specs.Holes.{Within}
 use Rattle.atoms.specs.Atoms.{atomsOf, consequentOf, rightLists}
-use Rattle.domains.specs.declared.int_ext.IntExt.{IntExt}
-use Rattle.domains.specs.declared.int_ext.IntExt.the-variants.{Int, NegativeInf, PositiveInf}
 use Rattle.checking.specs.declared.variable_state.VariableState.{VariableState}
 use Rattle.checking.specs.declared.variable_state.Application.{Application}
 use Rattle.checking.specs.declared.variable_state.Application.the-variants as application
-use Rattle.checking.specs.States.{domainAt, prepared}
-use Rattle.checking.proofs.Near.{prepared-near}
-use Rattle.checking.proofs.Prepared.{prepared-least, prepared-largest, prepared-no-least, prepared-no-largest, prepared-lower-never, prepared-upper-never, prepared-success}
+use Rattle.checking.specs.States.{prepared}
+use Rattle.checking.specs.Bounds.{lowerIn, upperIn}
+use Rattle.checking.proofs.Bounds.{lower-is, upper-is, lower-none-is, upper-none-is, lower-near, upper-near}
+use Rattle.checking.proofs.Prepared.{prepared-success}
 use Rattle.sorts.specs.Orders.{noTasks}
 use Rattle.records.specs.Records.{durationAt, creationTests}
 use Rattle.records.proofs.Creation.{created-lawful, same-sum}
 use Rattle.formulas.specs.Formulas.{bounded, implied}
-use Rattle.formulas.specs.StartBounds.{finite}
 use Rattle.formulas.proofs.Mirroring.{mirrored-reads}
 use Rattle.formulas.proofs.Formulas.{Reads, determined, overloaded-sound, overloaded-complete, implied-sound, implied-complete}
 use Rattle.checker.specs.declared.checker.Verdict.{Verdict}
 use Rattle.checker.specs.declared.checker.Verdict.the-variants.{Passed, NotPassed, Contradiction, Refused}
-use Rattle.checker.specs.Checks.{lowerIn, upperIn, verdict, judgedBy, concluded, checkAfter, checkOf, tasksWith}
+use Rattle.checker.specs.Checks.{verdict, judgedBy, concluded, checkAfter, checkOf, tasksWith}
 use Rattle.checker.specs.MirroredChecks.{mirrorIfAny, lowerAs, upperAs, judgedAs, checkAs, checkMirroredOf}
+use Rattle.checker.specs.Verdicts.{verdictNumbers}
 use Rattle.checker.proofs.MirroredGiven.{given-mirrored, contradicts-mirrored}
 
 -- ---- the bounds of a prepared state
-finite-is : (e : IntExt) (u : ℤ) → finite e ≡ some u → e ≡ Int u
-finite-is (Int z) u h = cc
-finite-is NegativeInf u h = absurd (let z : _≡_ {A = ℕ} 0 1 = cc in omega arith)
-finite-is PositiveInf u h = absurd (let z : _≡_ {A = ℕ} 0 1 = cc in omega arith)
-
-no-lower : (e : IntExt) → (e ≡ PositiveInf → ⊥) → finite e ≡ none → e ≡ NegativeInf
-no-lower (Int z) n h = absurd (let z : _≡_ {A = ℕ} 0 1 = cc in omega arith)
-no-lower NegativeInf n h = refl
-no-lower PositiveInf n h = absurd (n refl)
-
-no-upper : (e : IntExt) → (e ≡ NegativeInf → ⊥) → finite e ≡ none → e ≡ PositiveInf
-no-upper (Int z) n h = absurd (let z : _≡_ {A = ℕ} 0 1 = cc in omega arith)
-no-upper NegativeInf n h = absurd (n refl)
-no-upper PositiveInf n h = refl
-
 near-above : (u : ℤ) → Within (VALUE + 1 + HOLES) u → Above zeroAt u
 unfolding up dn
 near-above u w = above-show zeroAt u (omega (ints, w .low))
@@ -77,19 +61,13 @@ near-fits u w = omega (arith, near-latest u w)
 pub reads : (ds ps cs : List ℤ) → length ds ≤ TASKS → prepared ps cs .answer ≡ application.Consistent
     → Reads (length ds) (given (atomsOf ps) (consequentOf cs)) (lowerIn (prepared ps cs .state)) (upperIn (prepared ps cs .state))
 reads ds ps cs few ok = record {
-  least = λ k q u e. prepared-least ps cs ok k (omega arith) u (finite-is (lower k) u e);
-  no-least = λ k q e. prepared-no-least ps cs ok k (omega arith) (no-lower (lower k) (prepared-lower-never ps cs k (omega arith)) e);
-  greatest = λ k q u e. prepared-largest ps cs ok k (omega arith) u (finite-is (upper k) u e);
-  no-greatest = λ k q e. prepared-no-largest ps cs ok k (omega arith) (no-upper (upper k) (prepared-upper-never ps cs k (omega arith)) e);
-  above = λ k q u e. near-above u (prepared-near ps cs k (omega arith) .lower u (finite-is (lower k) u e));
-  fits = λ k q u e. near-fits u (prepared-near ps cs k (omega arith) .lower u (finite-is (lower k) u e));
+  least = λ k q. lower-is ps cs k (omega arith) ok;
+  no-least = λ k q. lower-none-is ps cs k (omega arith) ok;
+  greatest = λ k q. upper-is ps cs k (omega arith) ok;
+  no-greatest = λ k q. upper-none-is ps cs k (omega arith) ok;
+  above = λ k q u e. near-above u (lower-near ps cs k (omega arith) u e);
+  fits = λ k q u e. near-fits u (lower-near ps cs k (omega arith) u e);
 }
-  where
-    lower : ℕ → IntExt
-    lower k = domainAt (prepared ps cs .state) k .«lower_bound»
-
-    upper : ℕ → IntExt
-    upper k = domainAt (prepared ps cs .state) k .«upper_bound»
 
 -- ---- answers that are not Passed
 code : Verdict → ℕ
@@ -155,31 +133,33 @@ module _ (ds : List ℤ) (ok : refusal (creationTests ds) ≡ 0) where
     pub reads-mirrored : Reads (length ds) (given (mirrorAtoms (durationAt ds) (atomsOf ps)) (mirrorIfAny (durationAt ds) (consequentOf cs))) (lowerAs true ds (prepared ps cs .state)) (upperAs true ds (prepared ps cs .state))
     reads-mirrored = subst (λ (l : List Atom). Reads (length ds) l (lowerAs true ds state) (upperAs true ds state)) (sym (given-mirrored (durationAt ds) (atomsOf ps) (consequentOf cs)))
         (mirrored-reads (length ds) (durationAt ds) (given (atomsOf ps) (consequentOf cs)) (lowerIn state) (upperIn state) (λ k q. (durations-last k q, durations-most k q))
-        (λ k q z e. prepared-near ps cs k (omega (arith, few)) .upper z (finite-is (domainAt state k .«upper_bound») z e)) (reads ds ps cs few consistent))
+        (λ k q. upper-near ps cs k (omega (arith, few))) (reads ds ps cs few consistent))
 
 -- the consequent's kind and value play no part in what is judged of the bounds
 alike : (ds : List ℤ) (d : ℕ → ℕ) (lower upper : ℕ → Option ℤ) (c : Option Atom) → judgedBy ds lower upper (mirrorIfAny d c) ≡ judgedBy ds lower upper c
 alike ds d lower upper none = refl
 alike ds d lower upper (some a) = refl
 
--- A passed check in either time: the durations are accepted, the atoms consistent, and the bounds judged so.
+-- A check in either time that the formula judges: the durations are accepted, and the atoms consistent.
 record Judged (mirrored : Bool) (ds ps cs : List ℤ) : Type 0 where
   ok : refusal (creationTests ds) ≡ 0
   consistent : prepared ps cs .answer ≡ application.Consistent
-  judgement : judgedAs mirrored ds (prepared ps cs .state) (consequentOf cs) ≡ Passed
+  judgement : checkAs mirrored ds ps cs ≡ judgedAs mirrored ds (prepared ps cs .state) (consequentOf cs)
+
+judged-check : (m : Bool) (ds ps cs : List ℤ) → verdictNumbers (checkAs m ds ps cs) .kind < 2 → Judged m ds ps cs
+judged-check m ds ps cs e = by (refusal (creationTests ds)) refl e
+  where
+    on : refusal (creationTests ds) ≡ 0 → (w : Application) → prepared ps cs .answer ≡ w → verdictNumbers (concluded (judgedAs m ds) (prepared ps cs) (consequentOf cs)) .kind < 2 → Judged m ds ps cs
+    on ok application.Consistent p v = record { ok = ok; consistent = p; judgement = rw (ok, p) refl }
+    on ok (application.Contradiction x) p v = absurd (let w : verdictNumbers (Contradiction x) .kind < 2 = rw p at v in omega (arith, w))
+    on ok (application.Refused n) p v = absurd (let w : verdictNumbers (Refused n) .kind < 2 = rw p at v in omega (arith, w))
+
+    by : (n : ℕ) → refusal (creationTests ds) ≡ n → verdictNumbers (checkAfter (judgedAs m ds) n ps cs) .kind < 2 → Judged m ds ps cs
+    by zero p v = on p (prepared ps cs .answer) refl v
+    by (suc n) p v = absurd (omega arith)
 
 passed-judged : (m : Bool) (ds ps cs : List ℤ) → checkAs m ds ps cs ≡ Passed → Judged m ds ps cs
-unfolding code
-passed-judged m ds ps cs e = by (refusal (creationTests ds)) refl e
-  where
-    on : refusal (creationTests ds) ≡ 0 → (w : Application) → prepared ps cs .answer ≡ w → concluded (judgedAs m ds) (prepared ps cs) (consequentOf cs) ≡ Passed → Judged m ds ps cs
-    on ok application.Consistent p v = record { ok = ok; consistent = p; judgement = rw p at v }
-    on ok (application.Contradiction x) p v = absurd (other (Contradiction x) (omega arith) (rw p at v))
-    on ok (application.Refused n) p v = absurd (other (Refused n) (omega arith) (rw p at v))
-
-    by : (n : ℕ) → refusal (creationTests ds) ≡ n → checkAfter (judgedAs m ds) n ps cs ≡ Passed → Judged m ds ps cs
-    by zero p v = on p (prepared ps cs .answer) refl v
-    by (suc n) p v = absurd (other (Refused (suc n)) (omega arith) v)
+passed-judged m ds ps cs e = judged-check m ds ps cs (let z : verdictNumbers (checkAs m ds ps cs) .kind ≡ 0 = ap (λ (v : Verdict). verdictNumbers v .kind) e in omega (arith, z))
 
 -- A passed check meets the formula,
 pub check-formula : (ds ps cs : List ℤ) → checkOf ds ps cs ≡ Passed → (refusal (creationTests ds) ≡ 0) × PassesFormula (tasksWith ds) (atomsOf ps) (consequentOf cs)
@@ -187,7 +167,7 @@ unfolding checkOf
 check-formula ds ps cs e =
     let j = passed-judged false ds ps cs e in
     let s = prepared ps cs .state in
-    (j .ok, judged-sound ds (j .ok) (lowerIn s) (upperIn s) (atomsOf ps) (consequentOf cs) (reads ds ps cs (few ds (j .ok)) (j .consistent)) (j .judgement))
+    (j .ok, judged-sound ds (j .ok) (lowerIn s) (upperIn s) (atomsOf ps) (consequentOf cs) (reads ds ps cs (few ds (j .ok)) (j .consistent)) (sym (j .judgement) ∙ e))
 
 -- so that no starts contradict it.
 pub check-sound : (ds ps cs : List ℤ) → checkOf ds ps cs ≡ Passed → (s : ℕ → ℤ) → Contradicts (tasksWith ds) (atomsOf ps) (consequentOf cs) s → ⊥
@@ -205,7 +185,7 @@ mirrored-formula ds ps cs e =
     let d = durationAt ds in (
       j .ok,
       judged-sound ds (j .ok) (lowerAs true ds s) (upperAs true ds s) (mirrorAtoms d (atomsOf ps)) (mirrorIfAny d (consequentOf cs)) (reads-mirrored ds (j .ok) ps cs (j .consistent))
-          (alike ds d (lowerAs true ds s) (upperAs true ds s) (consequentOf cs) ∙ j .judgement),
+          (alike ds d (lowerAs true ds s) (upperAs true ds s) (consequentOf cs) ∙ sym (j .judgement) ∙ e),
     )
 
 -- so that no starts, mirrored, contradict it.
@@ -215,22 +195,47 @@ mirrored-sound ds ps cs e s c =
     let d = durationAt ds in
     passed-sound (tasksWith ds) (λ k. mirrorStart (d k) (s k)) (mirrorAtoms d (atomsOf ps)) (mirrorIfAny d (consequentOf cs)) (durations-last ds ok) p (contradicts-mirrored (tasksWith ds) s (atomsOf ps) (consequentOf cs) c)
 
--- And a check that meets the formula passes, where its input is accepted, its atoms are of the kinds ≥, ≤ and =, and each variable can meet them.
+-- And a check that the formula judges passes where it meets the formula,
+consistent-passes : (ds ps cs : List ℤ) → refusal (creationTests ds) ≡ 0 → prepared ps cs .answer ≡ application.Consistent → PassesFormula (tasksWith ds) (atomsOf ps) (consequentOf cs) → checkOf ds ps cs ≡ Passed
+unfolding checkOf
+consistent-passes ds ps cs ok consistent p =
+    let s = prepared ps cs .state in
+    rw (ok, consistent) (judged-passes ds ok (lowerIn s) (upperIn s) (atomsOf ps) (consequentOf cs) (reads ds ps cs (few ds ok) consistent) p)
+
+mirrored-consistent-passes : (ds ps cs : List ℤ) → refusal (creationTests ds) ≡ 0 → prepared ps cs .answer ≡ application.Consistent
+    → PassesFormula (tasksWith ds) (mirrorAtoms (durationAt ds) (atomsOf ps)) (mirrorIfAny (durationAt ds) (consequentOf cs)) → checkMirroredOf ds ps cs ≡ Passed
+unfolding checkMirroredOf
+mirrored-consistent-passes ds ps cs ok consistent p =
+    let s = prepared ps cs .state in
+    let d = durationAt ds in
+    rw (ok, consistent) (sym (alike ds d (lowerAs true ds s) (upperAs true ds s) (consequentOf cs))
+    ∙ judged-passes ds ok (lowerAs true ds s) (upperAs true ds s) (mirrorAtoms d (atomsOf ps)) (mirrorIfAny d (consequentOf cs)) (reads-mirrored ds ok ps cs consistent) p)
+
+-- so that it passes exactly there.
+kind-0 : (v : Verdict) → verdictNumbers v .kind ≡ 0 → v ≡ Passed
+kind-0 Passed e = refl
+kind-0 NotPassed e = absurd (omega arith)
+kind-0 (Contradiction x) e = absurd (omega arith)
+kind-0 (Refused n) e = absurd (omega arith)
+
+pub exactly-passed : (ds ps cs : List ℤ) → verdictNumbers (checkOf ds ps cs) .kind < 2 → verdictNumbers (checkOf ds ps cs) .kind ≡ 0 ↔ PassesFormula (tasksWith ds) (atomsOf ps) (consequentOf cs)
+unfolding checkOf
+exactly-passed ds ps cs h =
+    let j = judged-check false ds ps cs h in
+    (λ e. check-formula ds ps cs (kind-0 (checkOf ds ps cs) e) .1, λ f. ap (λ (v : Verdict). verdictNumbers v .kind) (consistent-passes ds ps cs (j .ok) (j .consistent) f))
+
+pub exactly-mirrored : (ds ps cs : List ℤ) → verdictNumbers (checkMirroredOf ds ps cs) .kind < 2
+    → verdictNumbers (checkMirroredOf ds ps cs) .kind ≡ 0 ↔ PassesFormula (tasksWith ds) (mirrorAtoms (durationAt ds) (atomsOf ps)) (mirrorIfAny (durationAt ds) (consequentOf cs))
+unfolding checkMirroredOf
+exactly-mirrored ds ps cs h =
+    let j = judged-check true ds ps cs h in
+    (λ e. mirrored-formula ds ps cs (kind-0 (checkMirroredOf ds ps cs) e) .1, λ f. ap (λ (v : Verdict). verdictNumbers v .kind) (mirrored-consistent-passes ds ps cs (j .ok) (j .consistent) f))
+
+-- Accepted atoms of the kinds ≥, ≤ and = are consistent where each variable can meet them.
 module _ (ds ps cs : List ℤ) (ok : refusal (creationTests ds) ≡ 0) (short : length ps ≤ 3 * PREMISES + 2) (right : rightLists ps cs ≡ true)
     (kinds : Every (λ a. a .kind < 3) (given (atomsOf ps) (consequentOf cs))) (met : (x : ℕ) → x < VARIABLES → (z : ℤ) × Admits (given (atomsOf ps) (consequentOf cs)) x z) where
-  consistent : prepared ps cs .answer ≡ application.Consistent
-  consistent = prepared-success ps cs short right kinds met
-
   pub check-passes : PassesFormula (tasksWith ds) (atomsOf ps) (consequentOf cs) → checkOf ds ps cs ≡ Passed
-  unfolding checkOf
-  check-passes p =
-      let s = prepared ps cs .state in
-      rw (ok, consistent) (judged-passes ds ok (lowerIn s) (upperIn s) (atomsOf ps) (consequentOf cs) (reads ds ps cs (few ds ok) consistent) p)
+  check-passes = consistent-passes ds ps cs ok (prepared-success ps cs short right kinds met)
 
   pub mirrored-passes : PassesFormula (tasksWith ds) (mirrorAtoms (durationAt ds) (atomsOf ps)) (mirrorIfAny (durationAt ds) (consequentOf cs)) → checkMirroredOf ds ps cs ≡ Passed
-  unfolding checkMirroredOf
-  mirrored-passes p =
-      let s = prepared ps cs .state in
-      let d = durationAt ds in
-      rw (ok, consistent) (sym (alike ds d (lowerAs true ds s) (upperAs true ds s) (consequentOf cs))
-      ∙ judged-passes ds ok (lowerAs true ds s) (upperAs true ds s) (mirrorAtoms d (atomsOf ps)) (mirrorIfAny d (consequentOf cs)) (reads-mirrored ds ok ps cs consistent) p)
+  mirrored-passes = mirrored-consistent-passes ds ps cs ok (prepared-success ps cs short right kinds met)

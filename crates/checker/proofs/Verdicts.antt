@@ -3,15 +3,15 @@
 use mathlib.Core.Path.{_≡_, refl, sym, ap, _∙_}
 use mathlib.Core.Bool.{Bool, true, false, cond, _&&_}
 use mathlib.Core.List.{List}
-use mathlib.Core.Option.{Option}
-use Prim.Native.Nat.{ℕ, _≤_, _<_}
+use mathlib.Core.Option.{Option, some, none}
+use Prim.Native.Nat.{ℕ, _+_, _≤_, _<_}
 use native.Mathlib.Omega.{arith}
 use lib.Dec.{ltb}
 use lib.IntN.{ℤ, pos, negsuc, natAbs}
 use lib.Signed.{_≤ℤ_}
 use lib.ListN.{length, getD, replicate, length-replicate}
 use borrow.Author.Tests.{lt-ltb, le-ltb}
-use Rattle.integers.specs.Limits.{TASKS, DURATIONS}
+use Rattle.integers.specs.Limits.{TASKS, DURATIONS, VALUE, HOLES}
 use Rattle.integers.specs.Moments.{moment, zeroAt}
 use Rattle.integers.specs.Filling.{filled}
 use Rattle.integers.specs.Tests.{refusal}
@@ -19,27 +19,26 @@ use Rattle.integers.proofs.Filling.{filled-at}
 use Rattle.scheduling.specs.Scheduling.{whole, natural, Tasks, TaskSet, total, given}
 use Rattle.scheduling.specs.Mirroring.{mirrorAtoms}
 use Rattle.nodes.specs.Bounds.{LATEST}
+use Rattle.holes.specs.Holes.{Within}
 use Rattle.atoms.specs.Atoms.{atomsOf, consequentOf}
 use Rattle.atoms.proofs.Atoms.{words-three, words-at, consequent-none, consequent-one, right-atom}
-use Rattle.domains.specs.declared.int_ext.IntExt.{IntExt}
-use Rattle.domains.specs.declared.int_ext.IntExt.the-variants.{Int, NegativeInf, PositiveInf}
 use Rattle.checking.specs.declared.variable_state.VariableState.{VariableState}
 use Rattle.checking.specs.declared.variable_state.Application.the-variants as application
-use Rattle.checking.specs.States.{domainAt, prepared}
-use Rattle.checking.proofs.Near.{Near, prepared-near}
+use Rattle.checking.specs.Bounds.{lowerIn, upperIn}
+use Rattle.checking.specs.States.{prepared}
+use Rattle.checking.proofs.Bounds.{lower-near, upper-near}
 use Rattle.records.specs.Records.{durationAt, creationTests, newRecord}
 use Rattle.records.proofs.Creation.{created-lawful, same-sum}
 use Rattle.formulas.specs.Formulas.{known, valueOf, bounded, tasks, _but_, overloadsSpan, comesAfter, overloaded, implied}
-use Rattle.formulas.specs.StartBounds.{finite}
 use Rattle.formulas.specs.BoundArrays.{mirroredMoment, mirroredBounds}
 use Rattle.formulas.proofs.Formulas.{moments-proper}
 use Rattle.formulas.proofs.MirroredBounds.{mirrored-known, est-mirrored, lst-mirrored, moment-alike, mirrored-most}
 use Rattle.checker.specs.declared.checker.Verdict.{Verdict}
 use Rattle.checker.specs.declared.checker.Verdict.the-variants.{Refused}
 use Rattle.checking.specs.declared.start_bounds.Bounds.{Bounds}
-use Rattle.checker.specs.Checks.{lowerIn, upperIn, verdict, judgedBy, tasksWith}
+use Rattle.checker.specs.Checks.{verdict, judgedBy, tasksWith}
 use Rattle.checker.specs.MirroredChecks.{mirrorIfAny, lowerAs, upperAs}
-use Rattle.checking.specs.TaskBounds.{boundsBetween, knownAt, estAt, lstAt, boundsOf}
+use Rattle.checking.specs.TaskBounds.{boundsBetween, boundsAt, boundsOf}
 use Rattle.checker.specs.CheckArrays.{Judgeable, Consequent}
 use Rattle.checker.proofs.Soundness.{reads, reads-mirrored, near-latest, durations-last, durations-most}
 
@@ -104,38 +103,31 @@ module _ {ds : List ℤ} {lower upper : ℕ → Option ℤ} {n : ℕ} {b : Bound
           ∙ ap (λ (b : Bool). cond b (verdict (implied (length ds) (durationAt ds) lower upper i)) (Refused 8)) inside) ∙ judged-is
 
 -- A prepared state can be judged -------------------------------------------------------------------------------------------------
-known-is : (l u : IntExt) → boundsBetween l u .known ≡ known (finite l) && known (finite u)
-known-is (Int x) (Int y) = refl
-known-is (Int x) NegativeInf = refl
-known-is (Int x) PositiveInf = refl
-known-is NegativeInf u = refl
-known-is PositiveInf u = refl
+known-is : (l u : Option ℤ) → boundsBetween l u .known ≡ known l && known u
+known-is (some x) (some y) = refl
+known-is (some x) none = refl
+known-is none u = refl
 
-abbrev side : IntExt → IntExt → Option ℤ → ℕ
-side l u o = moment zeroAt (cond (known (finite l) && known (finite u)) (valueOf o) (negsuc 2147483647))
+abbrev side : Option ℤ → Option ℤ → Option ℤ → ℕ
+side l u o = moment zeroAt (cond (known l && known u) (valueOf o) (negsuc 2147483647))
 
-est-is : (l u : IntExt) → boundsBetween l u .est ≡ side l u (finite l)
-est-is (Int x) (Int y) = refl
-est-is (Int x) NegativeInf = refl
-est-is (Int x) PositiveInf = refl
-est-is NegativeInf u = refl
-est-is PositiveInf u = refl
+est-is : (l u : Option ℤ) → boundsBetween l u .est ≡ side l u l
+est-is (some x) (some y) = refl
+est-is (some x) none = refl
+est-is none u = refl
 
-lst-is : (l u : IntExt) → boundsBetween l u .lst ≡ side l u (finite u)
-lst-is (Int x) (Int y) = refl
-lst-is (Int x) NegativeInf = refl
-lst-is (Int x) PositiveInf = refl
-lst-is NegativeInf u = refl
-lst-is PositiveInf u = refl
+lst-is : (l u : Option ℤ) → boundsBetween l u .lst ≡ side l u u
+lst-is (some x) (some y) = refl
+lst-is (some x) none = refl
+lst-is none u = refl
 
 -- a bound that is a number is at most LATEST as a moment, and the other moments are 0
-side-most : (l u : IntExt) (e : IntExt) → ((z : ℤ) → e ≡ Int z → moment zeroAt z ≤ LATEST) → side l u (finite e) ≤ LATEST
-side-most l u e h = by (known (finite l) && known (finite u)) e h
+side-most : (l u e : Option ℤ) → ((z : ℤ) → e ≡ some z → moment zeroAt z ≤ LATEST) → side l u e ≤ LATEST
+side-most l u e h = by (known l && known u) e h
   where
-    by : (b : Bool) (e : IntExt) → ((z : ℤ) → e ≡ Int z → moment zeroAt z ≤ LATEST) → moment zeroAt (cond b (valueOf (finite e)) (negsuc 2147483647)) ≤ LATEST
-    by true (Int z) h = h z refl
-    by true NegativeInf h = omega arith
-    by true PositiveInf h = omega arith
+    by : (b : Bool) (e : Option ℤ) → ((z : ℤ) → e ≡ some z → moment zeroAt z ≤ LATEST) → moment zeroAt (cond b (valueOf e) (negsuc 2147483647)) ≤ LATEST
+    by true (some z) h = h z refl
+    by true none h = omega arith
     by false e h = omega arith
 
 module _ (ds ps cs : List ℤ) (ok : refusal (creationTests ds) ≡ 0) (consistent : prepared ps cs .answer ≡ application.Consistent) where
@@ -151,18 +143,21 @@ module _ (ds ps cs : List ℤ) (ok : refusal (creationTests ds) ≡ 0) (consiste
   at : {A : Type 0} (f : ℕ → A) (d : A) (k : ℕ) → k < n → getD (filled f n (replicate TASKS d)) k d ≡ f k
   at f d k q = filled-at f n (replicate TASKS d) d k q (omega (arith, few, length-replicate TASKS d))
 
-  abbrev l : ℕ → IntExt
-  l k = domainAt s k .«lower_bound»
+  abbrev l : ℕ → Option ℤ
+  l k = lowerIn s k
 
-  abbrev u : ℕ → IntExt
-  u k = domainAt s k .«upper_bound»
+  abbrev u : ℕ → Option ℤ
+  u k = upperIn s k
 
   -- the bounds that the record's tasks have in arrays
   abbrev B : Bounds
   B = boundsOf s n
 
-  near : (k : ℕ) → k < n → Near (domainAt s k)
-  near k q = prepared-near ps cs k (omega (arith, few))
+  near-l : (k : ℕ) → k < n → (z : ℤ) → l k ≡ some z → Within (VALUE + 1 + HOLES) z
+  near-l k q = lower-near ps cs k (omega (arith, few))
+
+  near-u : (k : ℕ) → k < n → (z : ℤ) → u k ≡ some z → Within (VALUE + 1 + HOLES) z
+  near-u k q = upper-near ps cs k (omega (arith, few))
 
   lasts : (k : ℕ) → k < n → getD (newRecord ds .durations) k 0 ≡ durationAt ds k
   lasts k q = at (durationAt ds) 0 k q
@@ -181,15 +176,15 @@ module _ (ds ps cs : List ℤ) (ok : refusal (creationTests ds) ≡ 0) (consiste
         proper = moments-proper J₀ (durations-last ds ok) (given (atomsOf ps) (consequentOf cs)) (lowerIn s) (upperIn s) (reads ds ps cs few consistent);
         count = refl;
         few = few;
-        member = λ k q. at (knownAt s) false k q ∙ known-is (l k) (u k);
-        start = λ k q. at (estAt s) 0 k q ∙ est-is (l k) (u k);
+        member = λ k q. at (λ k. boundsAt s k .known) false k q ∙ known-is (l k) (u k);
+        start = λ k q. at (λ k. boundsAt s k .est) 0 k q ∙ est-is (l k) (u k);
         lasts = lasts;
-        early = λ k q. side-most (l k) (u k) (l k) (λ z e. near-latest z (near k q .lower z e));
+        early = λ k q. side-most (l k) (u k) (l k) (λ z e. near-latest z (near-l k q z e));
         sum = sum-fits;
       };
       late = record {
-        at = λ k q. at (lstAt s) 0 k q ∙ lst-is (l k) (u k);
-        fits = λ k q. side-most (l k) (u k) (u k) (λ z e. near-latest z (near k q .upper z e));
+        at = λ k q. at (λ k. boundsAt s k .lst) 0 k q ∙ lst-is (l k) (u k);
+        fits = λ k q. side-most (l k) (u k) (u k) (λ z e. near-latest z (near-u k q z e));
       };
     };
   }
@@ -199,13 +194,13 @@ module _ (ds ps cs : List ℤ) (ok : refusal (creationTests ds) ≡ 0) (consiste
   there = tasksOf ds (lowerAs true ds s) (upperAs true ds s)
 
   member-mirrored : (k : ℕ) → k < n → getD (B .bounded) k false ≡ twoSided ds (lowerAs true ds s) (upperAs true ds s) k
-  member-mirrored k q = at (knownAt s) false k q ∙ mirrored-known (durationAt ds k) (l k) (u k)
+  member-mirrored k q = at (λ k. boundsAt s k .known) false k q ∙ mirrored-known (durationAt ds k) (l k) (u k)
 
   start-mirrored : (k : ℕ) → k < n → mirroredMoment (getD (B .bounded) k false) (getD (B .lst) k 0) (getD (newRecord ds .durations) k 0) ≡ there .earliest k
-  start-mirrored k q = moment-alike (at (knownAt s) false k q) (at (lstAt s) 0 k q) (lasts k q) ∙ est-mirrored (durationAt ds k) (durations-most ds ok k q) (l k) (u k) (near k q .upper)
+  start-mirrored k q = moment-alike (at (λ k. boundsAt s k .known) false k q) (at (λ k. boundsAt s k .lst) 0 k q) (lasts k q) ∙ est-mirrored (durationAt ds k) (durations-most ds ok k q) (l k) (u k) (near-u k q)
 
   late-mirrored : (k : ℕ) → k < n → mirroredMoment (getD (B .bounded) k false) (getD (B .est) k 0) (getD (newRecord ds .durations) k 0) ≡ there .latest k
-  late-mirrored k q = moment-alike (at (knownAt s) false k q) (at (estAt s) 0 k q) (lasts k q) ∙ lst-mirrored (durationAt ds k) (durations-most ds ok k q) (l k) (u k) (near k q .lower)
+  late-mirrored k q = moment-alike (at (λ k. boundsAt s k .known) false k q) (at (λ k. boundsAt s k .est) 0 k q) (lasts k q) ∙ lst-mirrored (durationAt ds k) (durations-most ds ok k q) (l k) (u k) (near-l k q)
 
   pub mirrored-judgeable : Judgeable ds (lowerAs true ds s) (upperAs true ds s) n (mirroredBounds B (newRecord ds .durations) n) (newRecord ds .durations)
   mirrored-judgeable = record {
@@ -218,12 +213,12 @@ module _ (ds ps cs : List ℤ) (ok : refusal (creationTests ds) ≡ 0) (consiste
         member = member-mirrored;
         start = λ k q. at (λ k. mirroredMoment (getD (B .bounded) k false) (getD (B .lst) k 0) (getD (newRecord ds .durations) k 0)) 0 k q ∙ start-mirrored k q;
         lasts = lasts;
-        early = λ k q. mirrored-most (durationAt ds k) (durations-last ds ok k q) (durations-most ds ok k q) (l k) (u k) (u k) (near k q .upper);
+        early = λ k q. mirrored-most (durationAt ds k) (durations-last ds ok k q) (durations-most ds ok k q) (l k) (u k) (u k) (near-u k q);
         sum = sum-fits;
       };
       late = record {
         at = λ k q. at (λ k. mirroredMoment (getD (B .bounded) k false) (getD (B .est) k 0) (getD (newRecord ds .durations) k 0)) 0 k q ∙ late-mirrored k q;
-        fits = λ k q. mirrored-most (durationAt ds k) (durations-last ds ok k q) (durations-most ds ok k q) (l k) (u k) (l k) (near k q .lower);
+        fits = λ k q. mirrored-most (durationAt ds k) (durations-last ds ok k q) (durations-most ds ok k q) (l k) (u k) (l k) (near-l k q);
       };
     };
   }

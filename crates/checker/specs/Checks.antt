@@ -2,33 +2,28 @@
 use mathlib.Core.Path.{_≡_}
 use mathlib.Core.Bool.{Bool, cond, _&&_}
 use mathlib.Core.List.{List, [], _∷_}
+use mathlib.Core.Logic.{_↔_}
 use mathlib.Core.Option.{Option, some, none}
-use Prim.Native.Nat.{ℕ, zero, suc}
+use Prim.Native.Nat.{ℕ, zero, suc, _<_}
 use lib.Dec.{ltb}
 use lib.IntN.{ℤ, pos}
 use lib.ListN.{length}
 use Rattle.integers.specs.Answers.{answered}
 use Rattle.integers.specs.Tests.{refusal}
-use Rattle.scheduling.specs.Scheduling.{whole, Tasks, Atom, Contradicts}
+use Rattle.scheduling.specs.Scheduling.{whole, Tasks, Atom, PassesFormula, Contradicts}
 use Rattle.scheduling.specs.Words.{atomWords}
 use Rattle.atoms.specs.Atoms.{atomsOf, consequentOf}
 use Rattle.checking.specs.declared.variable_state.VariableState.{VariableState}
 use Rattle.checking.specs.declared.variable_state.Application.the-variants as application
 use Rattle.checking.specs.declared.variable_state.Applied.{Applied}
-use Rattle.checking.specs.States.{domainAt, prepared}
+use Rattle.checking.specs.Bounds.{lowerIn, upperIn}
+use Rattle.checking.specs.States.{prepared}
 use Rattle.records.specs.Records.{durationAt, creationTests}
 use Rattle.formulas.specs.Formulas.{bounded, overloaded, implied}
-use Rattle.formulas.specs.StartBounds.{finite}
 use Rattle.checker.specs.declared.checker.Verdict.{Verdict}
 use Rattle.checker.specs.declared.checker.Verdict.the-variants.{Passed, NotPassed, Contradiction, Refused}
+use Rattle.checker.specs.Unjudged.{Unjudged}
 use Rattle.checker.specs.Verdicts.{verdictNumbers}
-
--- `induced_lower_bound` and `induced_upper_bound` of task k's start
-abbrev pub lowerIn : VariableState → ℕ → Option ℤ
-lowerIn s k = finite (domainAt s k .«lower_bound»)
-
-abbrev pub upperIn : VariableState → ℕ → Option ℤ
-upperIn s k = finite (domainAt s k .«upper_bound»)
 
 -- what the formula says
 abbrev pub verdict : Bool → Verdict
@@ -42,7 +37,7 @@ judgedBy ds lower upper (some a) =
     (verdict (implied (length ds) (durationAt ds) lower upper (a .variable)))
     (Refused 8)
 
--- those that the state of the premises and the negated consequent leaves
+-- those that the state of the premises and the negated consequent answers: `induced_lower_bound` and `induced_upper_bound`
 abbrev pub judged : List ℤ → VariableState → Option Atom → Verdict
 judged ds s = judgedBy ds (lowerIn s) (upperIn s)
 
@@ -72,7 +67,10 @@ consequentWords (some a) = atomWords (a ∷ [])
 abbrev pub tasksWith : List ℤ → Tasks whole
 tasksWith ds = record { count = length ds; earliest = λ k. pos 0; latest = λ k. pos 0; duration = durationAt ds }
 
--- The check answers as defined; and where it answers Passed, whose kind is 0, no starts contradict it.
+-- The check, by the numbers of its answer: where it is refused or finds a contradiction, whose kinds are 3 and 2. Else it is Passed, kind 0, exactly where
+-- the premises and the consequent meet the formula; and then no starts contradict it.
 pub record Checked (ds premises consequent : List ℤ) (r : Verdict) : Type 0 where
-  pub answer : r ≡ checkOf ds premises consequent
+  pub answer : verdictNumbers r ≡ verdictNumbers (checkOf ds premises consequent)
+  pub unjudged : Unjudged ds premises consequent (verdictNumbers r)
+  pub exactly : verdictNumbers r .kind < 2 → verdictNumbers r .kind ≡ 0 ↔ PassesFormula (tasksWith ds) (atomsOf premises) (consequentOf consequent)
   pub sound : verdictNumbers r ≡ answered 0 [] → (s : ℕ → ℤ) → Contradicts (tasksWith ds) (atomsOf premises) (consequentOf consequent) s → ⊥

@@ -1,4 +1,6 @@
 pub mod Verdicts
+pub mod Unjudged
 pub mod Checks
 pub mod MirroredChecks
 pub mod CheckArrays
+pub mod Examples

@@ -2,20 +2,23 @@
 use mathlib.Core.Path.{_≡_}
 use mathlib.Core.Bool.{Bool, true, false}
 use mathlib.Core.List.{List, []}
+use mathlib.Core.Logic.{_↔_}
 use mathlib.Core.Option.{Option, some, none}
-use Prim.Native.Nat.{ℕ}
+use Prim.Native.Nat.{ℕ, _<_}
 use lib.IntN.{ℤ}
 use Rattle.integers.specs.Answers.{answered}
 use Rattle.integers.specs.Tests.{refusal}
-use Rattle.scheduling.specs.Scheduling.{Atom, Contradicts}
-use Rattle.scheduling.specs.Mirroring.{mirrorAtom}
+use Rattle.scheduling.specs.Scheduling.{Atom, PassesFormula, Contradicts}
+use Rattle.scheduling.specs.Mirroring.{mirrorAtom, mirrorAtoms}
 use Rattle.atoms.specs.Atoms.{atomsOf, consequentOf}
 use Rattle.checking.specs.declared.variable_state.VariableState.{VariableState}
+use Rattle.checking.specs.Bounds.{lowerIn, upperIn}
 use Rattle.records.specs.Records.{durationAt, creationTests}
 use Rattle.formulas.specs.StartBounds.{mirrorBound}
 use Rattle.checker.specs.declared.checker.Verdict.{Verdict}
 use Rattle.checker.specs.Verdicts.{verdictNumbers}
-use Rattle.checker.specs.Checks.{lowerIn, upperIn, judgedBy, checkAfter, tasksWith}
+use Rattle.checker.specs.Checks.{judgedBy, checkAfter, tasksWith}
+use Rattle.checker.specs.Unjudged.{Unjudged}
 
 -- a consequent mirrored, where there is one
 abbrev pub mirrorIfAny : (ℕ → ℕ) → Option Atom → Option Atom
@@ -42,7 +45,10 @@ checkAs mirrored ds premises consequent = checkAfter (judgedAs mirrored ds) (ref
 unfoldable pub checkMirroredOf : List ℤ → List ℤ → List ℤ → Verdict
 checkMirroredOf = checkAs true
 
--- The mirrored check answers as defined; and where it answers Passed, whose kind is 0, no starts contradict it.
+-- The mirrored check's answer, by its numbers: as the check, with the formula in mirrored time.
 pub record CheckedMirrored (ds premises consequent : List ℤ) (r : Verdict) : Type 0 where
-  pub answer : r ≡ checkMirroredOf ds premises consequent
+  pub answer : verdictNumbers r ≡ verdictNumbers (checkMirroredOf ds premises consequent)
+  pub unjudged : Unjudged ds premises consequent (verdictNumbers r)
+  pub exactly : verdictNumbers r .kind < 2
+      → verdictNumbers r .kind ≡ 0 ↔ PassesFormula (tasksWith ds) (mirrorAtoms (durationAt ds) (atomsOf premises)) (mirrorIfAny (durationAt ds) (consequentOf consequent))
   pub sound : verdictNumbers r ≡ answered 0 [] → (s : ℕ → ℤ) → Contradicts (tasksWith ds) (atomsOf premises) (consequentOf consequent) s → ⊥

@@ -9,11 +9,12 @@ use Rattle.domains.specs.declared.int_ext.IntExt.{IntExt}
 use Rattle.domains.specs.declared.int_ext.IntExt.the-variants.{Int, NegativeInf, PositiveInf}
 use Rattle.checking.specs.declared.variable_state.Application.{Application}
 use Rattle.checking.specs.declared.variable_state.Application.the-variants as application
+use Rattle.checking.specs.declared.variable_state.Applied.{Applied}
 use Rattle.checking.specs.declared.variable_state.Truth.{Truth}
 use Rattle.checking.specs.declared.variable_state.Truth.the-variants as truth
 use Rattle.checking.specs.declared.variable_state.Bound.{Bound}
 use Rattle.checking.specs.declared.variable_state.Bound.the-variants as bound
-use Rattle.checking.specs.Answers.{applicationNumbers, truthNumbers, extNumbers, boundNumbers}
+use Rattle.checking.specs.Answers.{applicationNumbers, AppliedAs, truthNumbers, extNumbers, boundNumbers}
 
 -- answers of different kinds differ
 pub other-kind {ℓ} : {X : Type ℓ} (a b : Answer) → a ≡ b → (a .kind ≡ b .kind → ⊥) → X
@@ -37,6 +38,9 @@ application-back (application.Refused number) = refl
 
 pub applications-apart : (r r′ : Application) → applicationNumbers r ≡ applicationNumbers r′ → r ≡ r′
 applications-apart r r′ e = sym (application-back r) ∙ ap (λ (a : Answer). applicationAt (a .kind) a) e ∙ application-back r′
+
+pub applied-apart : {r r′ : Applied} → AppliedAs r′ r → r ≡ r′
+applied-apart {r} {r′} e = λ i. record { answer = applications-apart (r .answer) (r′ .answer) (e .answer) i; state = e .state i }
 
 -- is_true,
 abbrev truthAt : ℕ → Answer → Truth

@@ -5,6 +5,9 @@ pub mod Meaning
 pub mod Promises
 pub mod Prepared
 pub mod Refused
+pub mod RefusedStates
+pub mod Emptying
 pub mod OneState
 pub mod Near
+pub mod Bounds
 pub mod Instances

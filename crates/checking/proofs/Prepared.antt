@@ -1,6 +1,6 @@
--- Laws on a prepared state, for the checker: what it admits, its bounds, when it succeeds, what a contradiction means.
+-- Laws on a prepared state, for the checker: what it admits, and when it succeeds.
 -- Assumes nothing.
-use mathlib.Core.Path.{_≡_, refl, sym, ap, subst, _∙_}
+use mathlib.Core.Path.{_≡_, refl, ap, _∙_}
 use mathlib.Core.Logic.{_↔_}
 use mathlib.Core.Bool.{Bool, true, false, cond}
 use mathlib.Core.List.{List, [], _∷_, _++_}
@@ -12,19 +12,16 @@ use lib.IntN.{ℤ}
 use lib.ListN.{length}
 use Rattle.integers.specs.Limits.{VARIABLES, PREMISES}
 use Rattle.integers.proofs.Bools.{clash}
-use Rattle.integers.proofs.Ints.{ints}
-use Rattle.scheduling.specs.Scheduling.{whole, Least, Largest, Atom, Allows, Every, Admits, given}
+use Rattle.scheduling.specs.Scheduling.{Atom, Every, Admits, given}
 use Rattle.atoms.specs.Atoms.{atomsOf, consequentOf, rightLists}
-use Rattle.domains.specs.declared.int_ext.IntExt.the-variants.{Int, NegativeInf, PositiveInf}
 use Rattle.domains.specs.declared.domain.Domain.{Domain}
 use Rattle.domains.specs.Domains.{Admitted, needsRoom, Proper}
-use Rattle.domains.proofs.Values.{lower-least, upper-largest, lower-none, upper-none, not-plus, not-minus}
 use Rattle.checking.specs.declared.variable_state.VariableState.{VariableState}
-use Rattle.checking.specs.declared.variable_state.Application.the-variants.{Consistent, Contradiction, Refused}
+use Rattle.checking.specs.declared.variable_state.Application.the-variants.{Consistent, Refused}
 use Rattle.checking.specs.declared.variable_state.Applied.{Applied}
 use Rattle.checking.specs.Answers.{applicationNumbers}
 use Rattle.checking.specs.States.{Accepted, domainAt, emptyState, stepped, applyAll, prepared}
-use Rattle.checking.proofs.Meaning.{differ, step-admits, step-contradiction, step-refused, Known, all-admits, all-contradiction-at, empty-admits}
+use Rattle.checking.proofs.Meaning.{differ, step-admits, step-contradiction, step-refused, Known, empty-admits}
 use Rattle.checking.proofs.Promises.{prepare-means, given-known}
 use Rattle.checking.proofs.States.{stepped-accepted, all-accepted, empty-accepted, all-case, all-end}
 
@@ -88,54 +85,9 @@ module _ (premises consequent : List ℤ) where
     pub prepared-admits : (z : ℤ) → Admitted (domainAt state x) z ↔ Admits atoms x z
     prepared-admits z = prepare-means premises consequent .consistent (ap applicationNumbers ok) x h z
 
-    pub prepared-least : (u : ℤ) → domainAt state x .«lower_bound» ≡ Int u → Least whole (Admits atoms x) u
-    prepared-least u e =
-        let l = lower-least (domainAt state x) (prepared-proper x h) u e in
-        record { holds = prepared-admits u .0 (l .holds); bounds = λ w m. l .bounds w (prepared-admits w .1 m) }
-
-    pub prepared-largest : (u : ℤ) → domainAt state x .«upper_bound» ≡ Int u → Largest whole (Admits atoms x) u
-    prepared-largest u e =
-        let l = upper-largest (domainAt state x) (prepared-proper x h) u e in
-        record { holds = prepared-admits u .0 (l .holds); bounds = λ w m. l .bounds w (prepared-admits w .1 m) }
-
-    pub prepared-no-least : domainAt state x .«lower_bound» ≡ NegativeInf → (u : ℤ) → Least whole (Admits atoms x) u → ⊥
-    prepared-no-least e u l =
-        let (w, m, below) = lower-none (domainAt state x) (prepared-proper x h) e u in
-        let q = l .bounds w (prepared-admits w .0 m) in
-        omega ints
-
-    pub prepared-no-largest : domainAt state x .«upper_bound» ≡ PositiveInf → (u : ℤ) → Largest whole (Admits atoms x) u → ⊥
-    prepared-no-largest e u l =
-        let (w, m, over) = upper-none (domainAt state x) (prepared-proper x h) e u in
-        let q = l .bounds w (prepared-admits w .0 m) in
-        omega ints
-
-  -- the other infinities never stand there
-  pub prepared-lower-never : (x : ℕ) → x < VARIABLES → domainAt state x .«lower_bound» ≡ PositiveInf → ⊥
-  prepared-lower-never x h = not-plus (domainAt state x) (prepared-proper x h)
-
-  pub prepared-upper-never : (x : ℕ) → x < VARIABLES → domainAt state x .«upper_bound» ≡ NegativeInf → ⊥
-  prepared-upper-never x h = not-minus (domainAt state x) (prepared-proper x h)
-
   -- with kinds ≥, ≤ and = alone, atoms that each variable can meet are consistent
   pub prepared-success : length premises ≤ 3 * PREMISES + 2 → rightLists premises consequent ≡ true → Every (λ a. a .kind < 3) atoms → ((x : ℕ) → x < VARIABLES → (z : ℤ) × Admits atoms x z)
       → prepared premises consequent .answer ≡ Consistent
   prepared-success l r kinds w =
       ap (λ (t : Applied). t .answer) (prepared-runs l r)
       ∙ all-success atoms (given-known premises consequent r) kinds emptyState empty-accepted (λ x h. let (z, m) = w x h in (z, empty-admits x h z, m))
-
-  -- a contradiction: no value of its variable meets all the atoms
-  pub prepared-contradiction : (y : ℕ) → prepared premises consequent .answer ≡ Contradiction y → (z : ℤ) → Admits atoms y z → ⊥
-  prepared-contradiction y = ran (λ r. r .answer ≡ Contradiction y → (z : ℤ) → Admits atoms y z → ⊥)
-      (λ r e z m.
-      let known = given-known premises consequent r in
-      let (p, q, same, none) = all-contradiction-at atoms known emptyState empty-accepted y e in
-      let m′ = subst (λ (l : List Atom). Admits l y z) (p .split) m in
-      let before = every-left (λ a. a .variable ≡ y → Allows a z) (p .before) (p .atom ∷ p .after) m′ in
-      let kb = every-left (λ a. a .variable < VARIABLES) (p .before) (p .atom ∷ p .after) (subst Known (p .split) known) in
-      let ok = ap (λ (t : Applied). t .answer) (p .reached) in
-      let h : y < VARIABLES = subst (λ (i : ℕ). i < VARIABLES) q (p .known-there) in
-      let there = all-admits (p .before) kb emptyState empty-accepted ok y z .1 (empty-admits y h z, before) in
-      let there′ = subst (λ (t : Applied). Admitted (domainAt (t .state) y) z) (p .reached) there in
-      none z (subst (λ (i : ℕ). Admitted (domainAt (p .state) i) z) (sym q) there′) (every-at (λ a. a .variable ≡ y → Allows a z) (p .before) (p .atom) (p .after) m′ q))
-      (λ n e. differ (Refused n) (Contradiction y) e (omega arith))

@@ -30,6 +30,7 @@ use Rattle.checking.specs.declared.variable_state.Truth.{Truth}
 use Rattle.checking.specs.declared.variable_state.Truth.the-variants as truth
 use Rattle.checking.specs.declared.variable_state.Bound.{Bound}
 use Rattle.checking.specs.declared.variable_state.Bound.the-variants as bound
+use Rattle.checking.specs.Answers.{applicationNumbers, AppliedAs, truthNumbers, boundNumbers}
 use Rattle.checking.specs.States.{Accepted, Sized, noDomain, domainAt, emptyState, accepted, stepped, appliedTo, truthOf, boundOf, lowerOf, upperOf, applyAll, prepared}
 use Rattle.checking.specs.Promises.{lacksRoom, queryRefusal, EmptyMeans, ApplyMeans, TruthMeans, LowerMeans, UpperMeans, Reaches, PrepareMeans}
 use Rattle.checking.proofs.Apart.{other-kind, applications-apart, ext-number, exts-apart}
@@ -42,6 +43,9 @@ pub empty-promise : (r : VariableState) → r ≡ emptyState → (r ≡ emptySta
 empty-promise r e = (e, subst EmptyMeans (sym e) (record { any = empty-admits; again = state-accepted (emptyState .domains) empty-accepted }))
 
 -- ---- apply
+applied-as : {r t : Applied} → r ≡ t → AppliedAs t r
+applied-as e = record { answer = ap (λ (a : Applied). applicationNumbers (a .answer)) e; state = ap (λ (a : Applied). a .state) e }
+
 module _ (s : VariableState) (x k v : ℤ) (proper : accepted (s .domains) ≡ true → Accepted s) where
   is-refused : (n : ℕ) → n ≡ cond (accepted (s .domains)) (cond (rightAtom x k v) (cond (lacksRoom s (atomFrom x k v)) 21 0) 6) 22 → ApplyMeans s x k v (record { answer = Refused n; state = s })
   is-refused n e = record {
@@ -74,8 +78,8 @@ module _ (s : VariableState) (x k v : ℤ) (proper : accepted (s .domains) ≡ t
       by true p false q = is-refused 6 (rw (p, q))
       by false p b q = is-refused 22 (rw p)
 
-  pub apply-promise : (r : Applied) → r ≡ appliedTo s x k v → (r ≡ appliedTo s x k v) × ApplyMeans s x k v r
-  apply-promise r e = (e, subst (ApplyMeans s x k v) (sym e) apply-means)
+  pub apply-promise : (r : Applied) → r ≡ appliedTo s x k v → AppliedAs (appliedTo s x k v) r × ApplyMeans s x k v r
+  apply-promise r e = (applied-as e, subst (ApplyMeans s x k v) (sym e) apply-means)
 
 -- ---- is_true
 module _ (s : VariableState) (x k v : ℤ) (proper : accepted (s .domains) ≡ true → Accepted s) where
@@ -101,8 +105,8 @@ module _ (s : VariableState) (x k v : ℤ) (proper : accepted (s .domains) ≡ t
       by true p false q c t = truth-back 6 (rw (p, q))
       by false p b q c t = truth-back 22 (rw p)
 
-  pub truth-promise : (r : Truth) → r ≡ truthOf s x k v → (r ≡ truthOf s x k v) × TruthMeans s x k v r
-  truth-promise r e = (e, subst (TruthMeans s x k v) (sym e) truth-means)
+  pub truth-promise : (r : Truth) → r ≡ truthOf s x k v → (truthNumbers r ≡ truthNumbers (truthOf s x k v)) × TruthMeans s x k v r
+  truth-promise r e = (ap truthNumbers e, subst (TruthMeans s x k v) (sym e) truth-means)
 
 -- ---- bounds
 module _ (s : VariableState) (x : ℤ) (proper : accepted (s .domains) ≡ true → Accepted s) where
@@ -139,11 +143,11 @@ module _ (s : VariableState) (x : ℤ) (proper : accepted (s .domains) ≡ true 
       })
       (λ n e. record { number = e; largest = λ u q. other-kind (refusedBy n) (answered 0 (pos 0 ∷ u ∷ [])) q (omega arith); unbounded = λ q. other-kind (refusedBy n) (answered 0 (pos 1 ∷ [])) q (omega arith); never = λ q. other-kind (refusedBy n) (answered 0 (negsuc 0 ∷ [])) q (omega arith) })
 
-  pub lower-promise : (r : Bound) → r ≡ boundOf lowerOf s x → (r ≡ boundOf lowerOf s x) × LowerMeans s x r
-  lower-promise r e = (e, subst (LowerMeans s x) (sym e) lower-means)
+  pub lower-promise : (r : Bound) → r ≡ boundOf lowerOf s x → (boundNumbers r ≡ boundNumbers (boundOf lowerOf s x)) × LowerMeans s x r
+  lower-promise r e = (ap boundNumbers e, subst (LowerMeans s x) (sym e) lower-means)
 
-  pub upper-promise : (r : Bound) → r ≡ boundOf upperOf s x → (r ≡ boundOf upperOf s x) × UpperMeans s x r
-  upper-promise r e = (e, subst (UpperMeans s x) (sym e) upper-means)
+  pub upper-promise : (r : Bound) → r ≡ boundOf upperOf s x → (boundNumbers r ≡ boundNumbers (boundOf upperOf s x)) × UpperMeans s x r
+  upper-promise r e = (ap boundNumbers e, subst (UpperMeans s x) (sym e) upper-means)
 
 -- ---- prepare_for_conflict_check
 module _ (premises consequent : List ℤ) where
@@ -188,7 +192,7 @@ module _ (premises consequent : List ℤ) where
         many = λ m. absurd (omega arith);
         malformed = λ _ n. clash r n;
         refused = λ n q. all-refused-at atoms known emptyState empty-accepted n (applications-apart _ (Refused n) q) .1;
-        room = λ _ _ n q. let (u, v, p, w) = all-refused-at atoms known emptyState empty-accepted n (applications-apart _ (Refused n) q) in (u, reaches p, w);
+        room = λ _ _ n q. let (u, v, p, w) = all-refused-at atoms known emptyState empty-accepted n (applications-apart _ (Refused n) q) in (u, (reaches p, w));
         contradiction = λ y q. let (p, u, v, w) = all-contradiction-at atoms known emptyState empty-accepted y (applications-apart _ (Contradiction y) q) in (reaches p, u, v, w);
         consistent = λ q x h z. let (to, of) = all-admits atoms known emptyState empty-accepted (applications-apart _ Consistent q) x z in (λ m. to m .1, λ m. of (empty-admits x h z, m));
         again = state-accepted (applyAll atoms emptyState .state .domains) (all-accepted atoms known emptyState empty-accepted);
@@ -204,8 +208,8 @@ module _ (premises consequent : List ℤ) where
       by false p true q = list-went (ltb-false (3 * PREMISES + 2) (length premises) p) q
       by false p false q = let l = ltb-false (3 * PREMISES + 2) (length premises) p in list-back 6 (λ m. absurd (omega arith)) (λ _ _. refl) (λ _ r. clash r q)
 
-  pub prepare-promise : (r : Applied) → r ≡ prepared premises consequent → (r ≡ prepared premises consequent) × PrepareMeans premises consequent r
-  prepare-promise r e = (e, subst (PrepareMeans premises consequent) (sym e) prepare-means)
+  pub prepare-promise : (r : Applied) → r ≡ prepared premises consequent → AppliedAs (prepared premises consequent) r × PrepareMeans premises consequent r
+  prepare-promise r e = (applied-as e, subst (PrepareMeans premises consequent) (sym e) prepare-means)
 
 -- ---- canonical: two accepted states admit the same values for every variable exactly when they are equal
 pub same-state : (s t : VariableState) → Accepted s → Accepted t → ((x : ℕ) → x < VARIABLES → (z : ℤ) → Admitted (domainAt s x) z ↔ Admitted (domainAt t x) z) → s ≡ t

@@ -20,7 +20,7 @@ use Rattle.checking.specs.declared.variable_state.VariableState.{Variabl
 use Rattle.checking.specs.declared.variable_state.Application.the-variants.{Refused}
 use Rattle.checking.specs.declared.variable_state.Applied.{Applied}
 use Rattle.checking.specs.Answers.{applicationNumbers}
-use Rattle.checking.specs.Promises.{lacksRoom, Reaches}
+use Rattle.checking.specs.Promises.{lacksRoom, Reaches, NoRoom}
 use Rattle.checking.specs.States.{emptyState, stepped, applyAll, prepared}
 use Rattle.checking.proofs.Meaning.{all-append}
 use Rattle.checking.proofs.Prepared.{prepared-runs}
@@ -72,13 +72,12 @@ module _ (ps cs : List ℤ) where
 
   -- the first atom that needs a hole too many, with no contradiction before it
   pub prepared-21 : applicationNumbers (prepared ps cs .answer) ≡ refusedBy 21
-      ↔ ((length ps ≤ 3 * PREMISES + 2) × (RightLists ps cs × ((p : Reaches (given (atomsOf ps) (consequentOf cs))) × (lacksRoom (p .state) (p .atom) ≡ true))))
+      ↔ ((length ps ≤ 3 * PREMISES + 2) × (RightLists ps cs × NoRoom (given (atomsOf ps) (consequentOf cs))))
   prepared-21 = (
     λ e.
         let l = few 21 e (λ z. omega arith) in
         let y = right 21 e l (λ z. omega arith) in
-        let (_, p, w) = prepare-means ps cs .room l y 21 e in
-        (l, (lists-are ps cs .0 y, (p, w))),
+        (l, (lists-are ps cs .0 y, prepare-means ps cs .room l y 21 e .1)),
     λ h. ap (λ (r : Applied). applicationNumbers (r .answer)) (prepared-runs ps cs (h .0) (lists-are ps cs .1 (h .1 .0)) ∙ full-list (given (atomsOf ps) (consequentOf cs)) (h .1 .1 .0) (h .1 .1 .1)),
   )
 

@@ -89,6 +89,20 @@ pub record Reaches (atoms : List Atom) : Type 0 where
   pub state : VariableState
   pub reached : applyAll before emptyState ≡ record { answer = application.Consistent; state = state }
 
+-- An atom of the list is reached and needs a hole too many.
+abbrev pub NoRoom : List Atom → Type 0
+NoRoom atoms = (p : Reaches atoms) × (lacksRoom (p .state) (p .atom) ≡ true)
+
+-- The first atom to leave a variable no value, by the values alone: those before it leave every variable one, and with it x has none.
+pub record EmptiesFirst (atoms : List Atom) (x : ℕ) : Type 0 where
+  pub before : List Atom
+  pub atom : Atom
+  pub after : List Atom
+  pub split : atoms ≡ before ++ (atom ∷ after)
+  pub variable : atom .variable ≡ x
+  pub left : (y : ℕ) → (z : ℤ) × Admits before y z
+  pub none : (z : ℤ) → Admits before x z → Allows atom z → ⊥
+
 -- prepare_for_conflict_check: 7, then 6, then atom by atom 21 or a contradiction. What is admitted in the end is what the premises and the
 -- negated consequent admit.
 pub record PrepareMeans (premises consequent : List ℤ) (r : Applied) : Type 0 where
@@ -96,7 +110,7 @@ pub record PrepareMeans (premises consequent : List ℤ) (r : Applied) : Type 0 
   pub malformed : length premises ≤ 3 * PREMISES + 2 → rightLists premises consequent ≡ false → applicationNumbers (r .answer) ≡ refusedBy 6
   pub refused : (n : ℕ) → applicationNumbers (r .answer) ≡ refusedBy n → r .state ≡ emptyState
   pub room : length premises ≤ 3 * PREMISES + 2 → rightLists premises consequent ≡ true → (n : ℕ) → applicationNumbers (r .answer) ≡ refusedBy n
-      → (n ≡ 21) × (p : Reaches (given (atomsOf premises) (consequentOf consequent))) × (lacksRoom (p .state) (p .atom) ≡ true)
+      → (n ≡ 21) × NoRoom (given (atomsOf premises) (consequentOf consequent))
   pub contradiction : (y : ℕ) → applicationNumbers (r .answer) ≡ answered 2 (pos y ∷ [])
       → (p : Reaches (given (atomsOf premises) (consequentOf consequent))) × (p .atom .variable ≡ y) × (p .state ≡ r .state) × Excludes (p .state) (p .atom)
   pub consistent : applicationNumbers (r .answer) ≡ answered 0 [] → (x : ℕ) → x < VARIABLES → (z : ℤ)

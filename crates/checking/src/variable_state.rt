@@ -18,6 +18,7 @@ ghost use Rattle.integers.specs.Limits.{VARIABLES, PREMISES, VALUE};
 ghost use Rattle.scheduling.specs.Scheduling.{given};
 ghost use Rattle.holes.specs.Holes.{Within};
 ghost use Rattle.atoms.specs.Atoms.{atomOf, atomsOf, consequentOf, rightLists};
+ghost use Rattle.checking.specs.Answers.{truthNumbers, boundNumbers, AppliedAs};
 ghost use Rattle.checking.specs.Promises.{EmptyMeans, ApplyMeans, TruthMeans, LowerMeans, UpperMeans, PrepareMeans};
 ghost use Rattle.checking.specs.States.{emptyState, accepted, stepped, appliedTo, truthOf, boundOf, applyAll, prepared, AllProper, Accepted, lowerOf, upperOf, sideOf};
 
@@ -105,7 +106,7 @@ impl VariableState {
 
     // Apply the atom (variable, kind, value). A contradiction and a refusal hand back the state as it was.
     pub fn apply(self, variable: i32, kind: i32, value: i32) -> Applied
-        ensures equals { λ r. ⌜ r ≡ appliedTo self variable kind value ⌝ }
+        ensures equals { λ r. ⌜ AppliedAs (appliedTo self variable kind value) r ⌝ }
         ensures means { λ r. ⌜ ApplyMeans self variable kind value r ⌝ }
     {
         if !self.is_accepted() {
@@ -125,7 +126,7 @@ impl VariableState {
 
     // Is the atom (variable, kind, value) true of every admitted value?
     pub fn is_true(self, variable: i32, kind: i32, value: i32) -> Truth
-        ensures equals { λ r. ⌜ r ≡ truthOf self variable kind value ⌝ }
+        ensures equals { λ r. ⌜ truthNumbers r ≡ truthNumbers (truthOf self variable kind value) ⌝ }
         ensures means { λ r. ⌜ TruthMeans self variable kind value r ⌝ }
     {
         if !self.is_accepted() {
@@ -166,7 +167,7 @@ impl VariableState {
 
     // The least value of a variable, or minus infinity.
     pub fn lower_bound(self, variable: i32) -> Bound
-        ensures equals { λ r. ⌜ r ≡ boundOf lowerOf self variable ⌝ }
+        ensures equals { λ r. ⌜ boundNumbers r ≡ boundNumbers (boundOf lowerOf self variable) ⌝ }
         ensures means { λ r. ⌜ LowerMeans self variable r ⌝ }
     {
         self.bound_of(variable, true)
@@ -174,7 +175,7 @@ impl VariableState {
 
     // The greatest value of a variable, or plus infinity.
     pub fn upper_bound(self, variable: i32) -> Bound
-        ensures equals { λ r. ⌜ r ≡ boundOf upperOf self variable ⌝ }
+        ensures equals { λ r. ⌜ boundNumbers r ≡ boundNumbers (boundOf upperOf self variable) ⌝ }
         ensures means { λ r. ⌜ UpperMeans self variable r ⌝ }
     {
         self.bound_of(variable, false)
@@ -227,7 +228,7 @@ impl VariableState {
     // The state after all the premises and, if present, the negated consequent. A contradiction names the variable of the first failing atom
     // and hands back the state before it; a refusal hands back the empty state.
     pub fn prepare_for_conflict_check(premises: &[i32], consequent: &[i32]) -> Applied
-        ensures equals { λ r. ⌜ r ≡ prepared (now (premises .entry)) (now (consequent .entry)) ⌝ }
+        ensures equals { λ r. ⌜ AppliedAs (prepared (now (premises .entry)) (now (consequent .entry))) r ⌝ }
         ensures means { λ r. ⌜ PrepareMeans (now (premises .entry)) (now (consequent .entry)) r ⌝ }
     {
         if 3 * PREMISES + 2 < premises.len() {

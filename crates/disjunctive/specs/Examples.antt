@@ -6,6 +6,7 @@ use lib.IntN.{ℤ, pos}
 use Rattle.integers.specs.Filling.{filled}
 use Rattle.integers.specs.Orders.{sort, insert, index, numbers, has}
 use Rattle.scheduling.specs.Scheduling.{total, processing}
+use Rattle.scheduling.specs.Ects.{ectAfter}
 use Rattle.ects.specs.Ects.{decoded}
 use Rattle.trees.specs.Leaves.{root, responsible, theta}
 use Rattle.nodes.specs.Nodes.{joinOf, isEmpty}
@@ -31,5 +32,5 @@ latest : List ℤ
 latest = pos 6 ∷ pos 1 ∷ pos 1 ∷ []
 
 emptied-first : (traceOf three earliest latest .end ≡ emptied) × (answerOf (momentsIn three earliest latest) ≡ Yes 2)
-unfolding three earliest latest filled sort insert index numbers has total processing root responsible theta joinOf isEmpty gray tested descentP descentEct stepP stepEct searchP searchEct thetaOf width heightFrom nodeOver propagate run outer inner decoded conflict propagation bounds within tabulate answerFrom
+unfolding three earliest latest filled sort insert index numbers has total processing ectAfter root responsible theta joinOf isEmpty gray tested descentP descentEct stepP stepEct searchP searchEct thetaOf width heightFrom nodeOver propagate run outer inner decoded conflict propagation bounds within tabulate answerFrom
 emptied-first = (refl, refl)

@@ -3,7 +3,7 @@
 use mathlib.Core.Path.{_≡_, refl}
 use mathlib.Core.Bool.{Bool, true, false, cond, _&&_}
 use mathlib.Core.List.{List}
-use mathlib.Core.Option.{Option}
+use mathlib.Core.Option.{Option, some, none}
 use Prim.Native.Nat.{ℕ, _+_, _-_, _≤_, _<_}
 use native.Mathlib.Omega.{arith}
 use lib.IntN.{ℤ, negsuc}
@@ -15,9 +15,7 @@ use Rattle.scheduling.specs.Mirroring.{mirrorStart}
 use Rattle.scheduling.proofs.Sets.{total-part}
 use Rattle.nodes.specs.Bounds.{LATEST}
 use Rattle.holes.specs.Holes.{Within}
-use Rattle.domains.specs.declared.int_ext.IntExt.{IntExt}
-use Rattle.domains.specs.declared.int_ext.IntExt.the-variants.{Int, NegativeInf, PositiveInf}
-use Rattle.formulas.specs.StartBounds.{finite, mirrorBound}
+use Rattle.formulas.specs.StartBounds.{mirrorBound}
 use Rattle.formulas.specs.Formulas.{known, valueOf}
 use Rattle.chosen_sets.specs.TaskArrays.{Held, Late}
 use Rattle.checking.specs.TaskBounds.{boundsBetween}
@@ -27,57 +25,41 @@ use Rattle.formulas.proofs.Mirroring.{mirrored-moment}
 -- One task -------------------------------------------------------------------------------------------------------------------
 
 -- it has two bounds in mirrored time where it has two
-pub mirrored-known : (p : ℕ) (l u : IntExt) → boundsBetween l u .known ≡ known (mirrorBound p (finite u)) && known (mirrorBound p (finite l))
-mirrored-known p (Int x) (Int y) = refl
-mirrored-known p (Int x) NegativeInf = refl
-mirrored-known p (Int x) PositiveInf = refl
-mirrored-known p NegativeInf (Int y) = refl
-mirrored-known p NegativeInf NegativeInf = refl
-mirrored-known p NegativeInf PositiveInf = refl
-mirrored-known p PositiveInf (Int y) = refl
-mirrored-known p PositiveInf NegativeInf = refl
-mirrored-known p PositiveInf PositiveInf = refl
+pub mirrored-known : (p : ℕ) (l u : Option ℤ) → boundsBetween l u .known ≡ known (mirrorBound p u) && known (mirrorBound p l)
+mirrored-known p (some x) (some y) = refl
+mirrored-known p (some x) none = refl
+mirrored-known p none (some y) = refl
+mirrored-known p none none = refl
 
-abbrev mirroredSide : ℕ → IntExt → IntExt → Option ℤ → ℕ
-mirroredSide p l u o = moment zeroAt (cond (known (mirrorBound p (finite u)) && known (mirrorBound p (finite l))) (valueOf (mirrorBound p o)) (negsuc 2147483647))
+abbrev mirroredSide : ℕ → Option ℤ → Option ℤ → Option ℤ → ℕ
+mirroredSide p l u o = moment zeroAt (cond (known (mirrorBound p u) && known (mirrorBound p l)) (valueOf (mirrorBound p o)) (negsuc 2147483647))
 
 -- the code's moment is that of the mirrored bound
 moment-is : (p : ℕ) (z : ℤ) → p ≤ DURATIONS → Within (VALUE + 1 + HOLES) z → 4294967296 - (moment zeroAt z + p) ≡ moment zeroAt (mirrorStart p z)
 moment-is p z h w = omega (arith, mirrored-moment p z h w .is)
 
 module _ (p : ℕ) (h : p ≤ DURATIONS) where
-  pub est-mirrored : (l u : IntExt) → ((z : ℤ) → u ≡ Int z → Within (VALUE + 1 + HOLES) z) → mirroredMoment (boundsBetween l u .known) (boundsBetween l u .lst) p ≡ mirroredSide p l u (finite u)
-  est-mirrored (Int x) (Int y) w = moment-is p y h (w y refl)
-  est-mirrored (Int x) NegativeInf w = refl
-  est-mirrored (Int x) PositiveInf w = refl
-  est-mirrored NegativeInf (Int y) w = refl
-  est-mirrored NegativeInf NegativeInf w = refl
-  est-mirrored NegativeInf PositiveInf w = refl
-  est-mirrored PositiveInf (Int y) w = refl
-  est-mirrored PositiveInf NegativeInf w = refl
-  est-mirrored PositiveInf PositiveInf w = refl
+  pub est-mirrored : (l u : Option ℤ) → ((z : ℤ) → u ≡ some z → Within (VALUE + 1 + HOLES) z) → mirroredMoment (boundsBetween l u .known) (boundsBetween l u .lst) p ≡ mirroredSide p l u u
+  est-mirrored (some x) (some y) w = moment-is p y h (w y refl)
+  est-mirrored (some x) none w = refl
+  est-mirrored none (some y) w = refl
+  est-mirrored none none w = refl
 
-  pub lst-mirrored : (l u : IntExt) → ((z : ℤ) → l ≡ Int z → Within (VALUE + 1 + HOLES) z) → mirroredMoment (boundsBetween l u .known) (boundsBetween l u .est) p ≡ mirroredSide p l u (finite l)
-  lst-mirrored (Int x) (Int y) w = moment-is p x h (w x refl)
-  lst-mirrored (Int x) NegativeInf w = refl
-  lst-mirrored (Int x) PositiveInf w = refl
-  lst-mirrored NegativeInf (Int y) w = refl
-  lst-mirrored NegativeInf NegativeInf w = refl
-  lst-mirrored NegativeInf PositiveInf w = refl
-  lst-mirrored PositiveInf (Int y) w = refl
-  lst-mirrored PositiveInf NegativeInf w = refl
-  lst-mirrored PositiveInf PositiveInf w = refl
+  pub lst-mirrored : (l u : Option ℤ) → ((z : ℤ) → l ≡ some z → Within (VALUE + 1 + HOLES) z) → mirroredMoment (boundsBetween l u .known) (boundsBetween l u .est) p ≡ mirroredSide p l u l
+  lst-mirrored (some x) (some y) w = moment-is p x h (w x refl)
+  lst-mirrored (some x) none w = refl
+  lst-mirrored none (some y) w = refl
+  lst-mirrored none none w = refl
 
 pub moment-alike : {b b′ : Bool} {t t′ p p′ : ℕ} → b ≡ b′ → t ≡ t′ → p ≡ p′ → mirroredMoment b t p ≡ mirroredMoment b′ t′ p′
 moment-alike x y z = λ i. mirroredMoment (x i) (y i) (z i)
 
-pub mirrored-most : (p : ℕ) → 1 ≤ p → p ≤ DURATIONS → (l u e : IntExt) → ((z : ℤ) → e ≡ Int z → Within (VALUE + 1 + HOLES) z) → mirroredSide p l u (finite e) ≤ LATEST
-mirrored-most p one h l u e w = by (known (mirrorBound p (finite u)) && known (mirrorBound p (finite l))) e w
+pub mirrored-most : (p : ℕ) → 1 ≤ p → p ≤ DURATIONS → (l u e : Option ℤ) → ((z : ℤ) → e ≡ some z → Within (VALUE + 1 + HOLES) z) → mirroredSide p l u e ≤ LATEST
+mirrored-most p one h l u e w = by (known (mirrorBound p u) && known (mirrorBound p l)) e w
   where
-    by : (b : Bool) (e : IntExt) → ((z : ℤ) → e ≡ Int z → Within (VALUE + 1 + HOLES) z) → moment zeroAt (cond b (valueOf (mirrorBound p (finite e))) (negsuc 2147483647)) ≤ LATEST
-    by true (Int z) w = mirrored-moment p z h (w z refl) .fits one
-    by true NegativeInf w = omega arith
-    by true PositiveInf w = omega arith
+    by : (b : Bool) (e : Option ℤ) → ((z : ℤ) → e ≡ some z → Within (VALUE + 1 + HOLES) z) → moment zeroAt (cond b (valueOf (mirrorBound p e)) (negsuc 2147483647)) ≤ LATEST
+    by true (some z) w = mirrored-moment p z h (w z refl) .fits one
+    by true none w = omega arith
     by false e w = omega arith
 
 -- The arrays ---------------------------------------------------------------------------------------------------------------------

@@ -20,9 +20,10 @@ use Rattle.runs.proofs.Readers.{end-reader}
 use Rattle.records.specs.declared.record.Propagator.{Propagator}
 use Rattle.records.specs.declared.record.Created.{Created}
 use Rattle.records.specs.declared.record.Creation.the-variants as creation
-use Rattle.records.specs.Records.{creationTests, creationNumber, newRecord, created}
+use Rattle.records.specs.Records.{creationTests, creationNumber, newRecord, created, Creates}
 use Rattle.input_refusals.specs.Refusals.{runNumber}
-use Rattle.records.proofs.Creation.{created-new, answer-number}
+use Rattle.records.proofs.Apart.{created-as}
+use Rattle.records.proofs.Creation.{created-new}
 use Rattle.levels.specs.declared.outcome.Outcome.the-variants as outcome
 use Rattle.levels.proofs.Answering.{outcomes-apart}
 use Rattle.propagator.specs.declared.disjunctive_propagator.Run.{Run}
@@ -64,13 +65,13 @@ module _ (r : Propagator) (es ls : List ℤ) where
         by (suc k) z = outcomes-apart (ran .outcome) (outcome.Refused (runNumber r es ls true (length p₀) (length a₀))) (w .refused (λ y. omega (arith, y, z)) .answer) ∙ ap outcome.Refused z
 
 -- ---- creation before it
-module _ (es ls ds : List ℤ) (r : Created) (made : r ≡ created ds) where
-  number-is : creationNumber (r .answer) ≡ refusal (creationTests ds)
-  number-is = ap (λ (x : Created). creationNumber (x .answer)) made ∙ answer-number ds
+module _ (es ls ds : List ℤ) (r : Created) (creates : Creates ds r) where
+  made : r ≡ created ds
+  made = created-as creates
 
   pub accepted-planned : r .answer ≡ creation.Accepted → ranOn (r .«record») es ls ≡ planned es ls ds
   accepted-planned h =
-      let z : refusal (creationTests ds) ≡ 0 = sym number-is ∙ ap creationNumber h in
+      let z : refusal (creationTests ds) ≡ 0 = sym (creates .number) ∙ ap creationNumber h in
       ap (λ (x : Created). ranOn (x .«record») es ls) (made ∙ created-new ds z) ∙ ap (λ (k : ℕ). numbered k (ranOn (newRecord ds) es ls)) (sym z)
 
   pub refused-planned : (number : ℕ) → r .answer ≡ creation.Refused number → inl number ≡ planned es ls ds
@@ -79,5 +80,5 @@ module _ (es ls ds : List ℤ) (r : Created) (made : r ≡ created ds) where
       by : (k : ℕ) → refusal (creationTests ds) ≡ k → inl number ≡ planned es ls ds
       by zero z = let e : creation.Refused number ≡ creation.Accepted = sym h ∙ ap (λ (x : Created). x .answer) (made ∙ created-new ds z) in let y : _≡_ {A = ℕ} 0 1 = cc in absurd (omega arith)
       by (suc k) z =
-          let q : number ≡ suc k = ap creationNumber (sym h) ∙ number-is ∙ z in
+          let q : number ≡ suc k = ap creationNumber (sym h) ∙ creates .number ∙ z in
           ap inl q ∙ ap (λ (j : ℕ). numbered j (ranOn (newRecord ds) es ls)) (sym z)

@@ -9,6 +9,7 @@ use Rattle.integers.specs.Filling.{filled}
 use Rattle.integers.specs.Orders.{sort, insert, index, numbers}
 use Rattle.integers.specs.Tests.{allBelow, refusal}
 use Rattle.scheduling.specs.Scheduling.{Atom, total, processing}
+use Rattle.scheduling.specs.Ects.{ectAfter}
 use Rattle.scheduling.specs.Words.{atomWords}
 use Rattle.ects.specs.Ects.{decoded}
 use Rattle.trees.specs.Leaves.{root, responsible, theta}
@@ -66,6 +67,6 @@ starred = map runs paper ++
 
 -- Every one of them holds.
 pub starred-hold : AllHold starred
-unfolding filled sort insert index numbers allBelow refusal total processing atomWords root responsible theta joinOf isEmpty gray tested descentP descentEct stepP stepEct searchP searchEct thetaOf width heightFrom nodeOver decoded atomsOf rightAtom rightWords rightLists acceptedDomain ascend tightenedLower tightenedUpper withoutLower withoutUpper withHole without crowded settled reduced has kept inserted firstFrom lastUpTo zeros accepted stepped appliedTo boundOf applyAll prepared propagate run outer inner conflict propagation bounds within tabulate any lowest highest overloaded implied checkOf
+unfolding filled sort insert index numbers allBelow refusal total processing atomWords ectAfter root responsible theta joinOf isEmpty gray tested descentP descentEct stepP stepEct searchP searchEct thetaOf width heightFrom nodeOver decoded atomsOf rightAtom rightWords rightLists acceptedDomain ascend tightenedLower tightenedUpper withoutLower withoutUpper withHole without crowded settled reduced has kept inserted firstFrom lastUpTo zeros accepted stepped appliedTo boundOf applyAll prepared propagate run outer inner conflict propagation bounds within tabulate any lowest highest overloaded implied checkOf
 starred-hold =
     (refl, (refl, (refl, (refl, (refl, (refl, (refl, (refl, (refl, (refl, (refl, tt)))))))))))

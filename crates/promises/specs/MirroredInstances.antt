@@ -9,6 +9,7 @@ use Rattle.integers.specs.Filling.{filled}
 use Rattle.integers.specs.Orders.{sort, insert, index, numbers}
 use Rattle.integers.specs.Tests.{allBelow, refusal}
 use Rattle.scheduling.specs.Scheduling.{Atom, total, processing}
+use Rattle.scheduling.specs.Ects.{ectAfter}
 use Rattle.scheduling.specs.Words.{atomWords}
 use Rattle.ects.specs.Ects.{decoded}
 use Rattle.trees.specs.Leaves.{root, responsible, theta}
@@ -19,7 +20,7 @@ use Rattle.trees.specs.Shapes.{width, heightFrom, nodeOver}
 use Rattle.holes.specs.Holes.{has, kept, inserted, firstFrom, lastUpTo, zeros}
 use Rattle.atoms.specs.Atoms.{atomsOf, rightAtom, rightWords, rightLists}
 use Rattle.domains.specs.Domains.{acceptedDomain, ascend, tightenedLower, tightenedUpper, withoutLower, withoutUpper, withHole, without, crowded, settled, reduced}
-use Rattle.checking.specs.States.{accepted, stepped, appliedTo, applyAll, prepared}
+use Rattle.checking.specs.States.{accepted, stepped, boundOf, applyAll, prepared}
 use Rattle.runs.specs.Mirrored.{mirroredPass}
 use Rattle.runs.specs.Runs.{propagate, run, outer, inner, conflict, propagation, bounds, within, tabulate}
 use Rattle.checker.specs.declared.checker.Verdict.the-variants.{Passed, NotPassed}
@@ -46,9 +47,9 @@ unfolding propagate run outer inner decoded conflict propagation bounds within t
 posted = refl
 
 not-passed : checkOf durations (atomWords reason) (consequentWords (some (atMost 1 6))) ≡ NotPassed
-unfolding filled sort insert index numbers allBelow refusal total processing atomWords root joinOf isEmpty width heightFrom nodeOver decoded atomsOf rightAtom rightWords rightLists acceptedDomain ascend tightenedLower tightenedUpper withoutLower withoutUpper withHole without crowded settled reduced has kept inserted firstFrom lastUpTo zeros accepted stepped appliedTo applyAll prepared any lowest highest overloaded implied checkOf
+unfolding filled sort insert index numbers allBelow refusal total processing atomWords ectAfter atomsOf rightAtom rightWords rightLists acceptedDomain ascend tightenedLower tightenedUpper withoutLower withoutUpper withHole without crowded settled reduced has kept inserted firstFrom lastUpTo zeros accepted stepped boundOf applyAll prepared any lowest highest overloaded implied checkOf
 not-passed = refl
 
 passed : checkMirroredOf durations (atomWords reason) (consequentWords (some (atMost 1 6))) ≡ Passed
-unfolding filled sort insert index numbers allBelow refusal total processing atomWords root joinOf isEmpty width heightFrom nodeOver decoded atomsOf rightAtom rightWords rightLists acceptedDomain ascend tightenedLower tightenedUpper withoutLower withoutUpper withHole without crowded settled reduced has kept inserted firstFrom lastUpTo zeros accepted stepped appliedTo applyAll prepared any lowest highest overloaded implied checkMirroredOf
+unfolding filled sort insert index numbers allBelow refusal total processing atomWords ectAfter atomsOf rightAtom rightWords rightLists acceptedDomain ascend tightenedLower tightenedUpper withoutLower withoutUpper withHole without crowded settled reduced has kept inserted firstFrom lastUpTo zeros accepted stepped boundOf applyAll prepared any lowest highest overloaded implied checkMirroredOf
 passed = refl

@@ -12,6 +12,7 @@ use integers::limits::PREMISES;
 ghost use mathlib.Core.Path.{_≡_};
 ghost use mathlib.Core.Bool.{false};
 ghost use Rattle.integers.specs.Tests.{refusal};
+ghost use Rattle.checking.specs.Answers.{boundNumbers};
 ghost use Rattle.checking.specs.States.{sideOf, boundOf};
 ghost use Rattle.questions.specs.Questions.{preparedAnswer, questionTests, truthAfter, boundAfter};
 
@@ -56,7 +57,7 @@ pub fn truth_after(premises: &[i32], variable: i32, kind: i32, value: i32) -> St
 
 // One of the two bounds that the state gives a variable.
 fn bound_in(state: VariableState, variable: i32, lower: bool) -> Bound
-    ensures { λ r. ⌜ r ≡ boundOf (sideOf lower) state variable ⌝ }
+    ensures { λ r. ⌜ boundNumbers r ≡ boundNumbers (boundOf (sideOf lower) state variable) ⌝ }
 {
     if lower {
         return state.lower_bound(variable);

@@ -127,3 +127,9 @@ createdAt (suc n) ds = record { «record» = zeroRecord; answer = Refused (suc n
 
 abbrev pub created : List ℤ → Created
 created ds = createdAt (refusal (creationTests ds)) ds
+
+-- Creation answers with those numbers, of which the number is the first broken test's, and hands that record back.
+pub record Creates (ds : List ℤ) (r : Created) : Type 0 where
+  pub answer : creationNumbers (r .answer) ≡ creationNumbers (created ds .answer)
+  pub number : creationNumber (r .answer) ≡ refusal (creationTests ds)
+  pub made : r .«record» ≡ created ds .«record»

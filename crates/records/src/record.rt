@@ -11,7 +11,7 @@ ghost use Rattle.integers.specs.Filling.{filled};
 ghost use Rattle.integers.specs.Tests.{allBelow, refusal};
 ghost use Rattle.scheduling.specs.Scheduling.{total};
 ghost use Rattle.sorts.specs.Orders.{noTasks};
-ghost use Rattle.records.specs.Records.{countFits, sumFits, totalTrue, lastsAt, unusedZero, recordOf, lawfulRecord, durationOf, durationAt, creationTests, creationNumber, zeroRecord, created};
+ghost use Rattle.records.specs.Records.{countFits, sumFits, totalTrue, lastsAt, unusedZero, recordOf, lawfulRecord, durationOf, durationAt, creationTests, zeroRecord, Creates};
 
 // Places from the count on are 0.
 #[repr(C)]
@@ -141,7 +141,7 @@ fn zeros() -> Propagator
 
 // A record of the durations with their sum; or the record of zeros, with the number that refused them.
 pub fn create(durations: &[i32]) -> Created
-    ensures { λ r. ⌜ (r ≡ created (now (durations .entry))) × (creationNumber (r .answer) ≡ refusal (creationTests (now (durations .entry)))) ⌝ }
+    ensures { λ r. ⌜ Creates (now (durations .entry)) r ⌝ }
 {
     let number = creation_refusal(durations);
     if number != 0 {

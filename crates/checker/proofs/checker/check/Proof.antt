@@ -1,6 +1,6 @@
 -- The answer is that of `check_as` in the caller's time; `checked` says what Passed means.
 use borrow.Author.Needs.{needs}
-use Rattle.checker.proofs.Answers.{checked}
+use Rattle.checker.proofs.Checked.{checked}
 use Rattle.checker.proofs.checker.check.Statement.{statement}
 use Rattle.checker.proofs.checker.check.Tie as tie
 

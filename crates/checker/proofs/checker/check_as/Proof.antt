@@ -12,7 +12,7 @@ use Rattle.formulas.specs.BoundArrays.{mirroredBounds}
 use Rattle.checker.specs.declared.checker.Verdict.{Verdict}
 use Rattle.checker.specs.CheckArrays.{Judgeable, Consequent}
 use Rattle.checker.specs.MirroredChecks.{lowerAs, upperAs, judgedAs, checkAs}
-use Rattle.checker.proofs.Answers.{is-refused, contradicted, refused-atoms, few-tasks, can-judge, can-judge-mirrored, consequent-right, concluded-by}
+use Rattle.checker.proofs.Answers.{is-refused, contradicted, refused-atoms, few-tasks, accepted-state, can-judge, can-judge-mirrored, consequent-right, concluded-by}
 use Rattle.checker.proofs.Verdicts.{tasksOf, twoSided}
 use Rattle.checker.proofs.checker.check_as.Statement.{statement}
 use Rattle.checker.proofs.checker.check_as.Tie as tie
@@ -39,36 +39,38 @@ module _ (c : tie.After-bounds-of) where
 
   abbrev can : let n = created .create .result .«record» in let s = applied .prepare-for-conflict-check .result .state in
       Judgeable ds (lowerAs false ds s) (upperAs false ds s) (n .count) (c .bounds-of .result) (n .durations)
-  can = can-judge ds ps cs (start .args .mirrored) (created .create .result) (created .create .ensures .0) (applied .before .before .enum-told .given .1) (applied .prepare-for-conflict-check .result) (applied .prepare-for-conflict-check .ensures .0)
+  can = can-judge ds ps cs (start .args .mirrored) (created .create .result) (created .create .ensures) (applied .before .before .enum-told .given .1) (applied .prepare-for-conflict-check .result) (applied .prepare-for-conflict-check .ensures .0)
       (c .before .enum-told2 .given .1) (c .bounds-of .result) (c .bounds-of .ensures)
 
   abbrev can-mirrored : (b : Bounds) → b ≡ mirroredBounds (c .bounds-of .result) (created .create .result .«record» .durations) (created .create .result .«record» .count)
       → let n = created .create .result .«record» in let s = applied .prepare-for-conflict-check .result .state in
       Judgeable ds (lowerAs true ds s) (upperAs true ds s) (n .count) b (n .durations)
-  can-mirrored b z = can-judge-mirrored ds ps cs (start .args .mirrored) (created .create .result) (created .create .ensures .0) (applied .before .before .enum-told .given .1) (applied .prepare-for-conflict-check .result) (applied .prepare-for-conflict-check .ensures .0)
+  can-mirrored b z = can-judge-mirrored ds ps cs (start .args .mirrored) (created .create .result) (created .create .ensures) (applied .before .before .enum-told .given .1) (applied .prepare-for-conflict-check .result) (applied .prepare-for-conflict-check .ensures .0)
       (c .before .enum-told2 .given .1) (c .bounds-of .result) b (c .bounds-of .ensures) z
 
   abbrev right : Consequent cs
-  right = consequent-right ds ps cs (start .args .mirrored) (created .create .result) (created .create .ensures .0) (applied .before .before .enum-told .given .1) (applied .prepare-for-conflict-check .result) (applied .prepare-for-conflict-check .ensures .0)
+  right = consequent-right ds ps cs (start .args .mirrored) (created .create .result) (created .create .ensures) (applied .before .before .enum-told .given .1) (applied .prepare-for-conflict-check .result) (applied .prepare-for-conflict-check .ensures .0)
       (c .before .enum-told2 .given .1)
 
   -- in the time that is asked for
   concludes : (b : Bool) → start .args .mirrored ≡ b → (r : Verdict) → r ≡ judgedAs b ds (applied .prepare-for-conflict-check .result .state) (consequentOf cs) → r ≡ checkAs (start .args .mirrored) ds ps cs
-  concludes b e r j = concluded-by ds ps cs (start .args .mirrored) (created .create .result) (created .create .ensures .0) (applied .before .before .enum-told .given .1) (applied .prepare-for-conflict-check .result) (applied .prepare-for-conflict-check .ensures .0)
+  concludes b e r j = concluded-by ds ps cs (start .args .mirrored) (created .create .result) (created .create .ensures) (applied .before .before .enum-told .given .1) (applied .prepare-for-conflict-check .result) (applied .prepare-for-conflict-check .ensures .0)
       (c .before .enum-told2 .given .1) r (j ∙ sym (λ i. judgedAs (e i) ds (applied .prepare-for-conflict-check .result .state) (consequentOf cs)))
 
 returns : tie.Need-returns
 returns c =
     let m = c .before .before .before .create in
     let a = c .before .before .before .before .args in
-    is-refused (a .durations .now) (a .premises .now) (a .consequent .now) (a .mirrored) (m .result) (m .ensures .0) (c .before .creation .given .0 .0) (c .before .creation .given .1)
+    is-refused (a .durations .now) (a .premises .now) (a .consequent .now) (a .mirrored) (m .result) (m .ensures) (c .before .creation .given .0 .0) (c .before .creation .given .1)
 
 bounds-of-requires : tie.Need-bounds-of-requires
 bounds-of-requires c κs =
     let m = c .before .before .before .before .before .before .create in
     let p = c .before .before .prepare-for-conflict-check in
-    let a = c .before .before .before .before .before .before .before .args in
-    few-tasks (a .durations .now) (a .premises .now) (a .consequent .now) (a .mirrored) (m .result) (m .ensures .0) (c .before .before .before .before .enum-told .given .1) (p .result) (p .ensures .0) (c .enum-told2 .given .1)
+    let a = c .before .before .before .before .before .before .before .args in (
+      few-tasks (a .durations .now) (a .premises .now) (a .consequent .now) (a .mirrored) (m .result) (m .ensures) (c .before .before .before .before .enum-told .given .1) (p .result) (p .ensures .0) (c .enum-told2 .given .1),
+      accepted-state (a .durations .now) (a .premises .now) (a .consequent .now) (a .mirrored) (m .result) (m .ensures) (c .before .before .before .before .enum-told .given .1) (p .result) (p .ensures .0) (c .enum-told2 .given .1),
+    )
 
 judge-requires : tie.Need-judge-requires
 judge-requires c κs =
@@ -109,7 +111,7 @@ returns-4 c =
     let m = p .before .before .before .before .create in
     let a = p .before .before .before .before .before .args in
     let r = p .prepare-for-conflict-check in
-    contradicted (a .durations .now) (a .premises .now) (a .consequent .now) (a .mirrored) (m .result) (m .ensures .0) (p .before .before .enum-told .given .1) (r .result) (r .ensures .0) (c .before .answer .given .0 .0) (c .before .answer .given .1)
+    contradicted (a .durations .now) (a .premises .now) (a .consequent .now) (a .mirrored) (m .result) (m .ensures) (p .before .before .enum-told .given .1) (r .result) (r .ensures .0) (c .before .answer .given .0 .0) (c .before .answer .given .1)
 
 returns-5 : tie.Need-returns-5
 returns-5 c =
@@ -117,7 +119,7 @@ returns-5 c =
     let m = p .before .before .before .before .create in
     let a = p .before .before .before .before .before .args in
     let r = p .prepare-for-conflict-check in
-    refused-atoms (a .durations .now) (a .premises .now) (a .consequent .now) (a .mirrored) (m .result) (m .ensures .0) (p .before .before .enum-told .given .1) (r .result) (r .ensures .0) (c .before .answer2 .given .0 .0) (c .before .answer2 .given .1)
+    refused-atoms (a .durations .now) (a .premises .now) (a .consequent .now) (a .mirrored) (m .result) (m .ensures) (p .before .before .enum-told .given .1) (r .result) (r .ensures .0) (c .before .answer2 .given .0 .0) (c .before .answer2 .given .1)
 
 pub check-as-spec : {M : Type 1} → statement M
 check-as-spec =

@@ -1,6 +1,6 @@
 -- The check of both kinds, asked in mirrored time: what it answers is `checkMirroredOf`, and the rest of the contract is a law about that.
 use borrow.Author.Needs.{needs}
-use Rattle.checker.proofs.Answers.{checked-mirrored}
+use Rattle.checker.proofs.Checked.{checked-mirrored}
 use Rattle.checker.proofs.checker.check_mirrored.Statement.{statement}
 use Rattle.checker.proofs.checker.check_mirrored.Tie as tie
 

@@ -22,7 +22,7 @@ returns c =
     let created = c .before .before .before .before .before .before .before in
     let s = created .before .before .before in
     let n = s .args .n in
-    (puts-as (ap answerLines (accepted-planned (take n (s .args .earliest)) (take n (s .args .latest)) (take n (s .args .t5)) (created .create .result) (created .create .ensures .0) (c .before .before .before .before .enum-told .given .1))) (c .before .before .put-ran .ensures .0), c .before .before .put-ran .ensures .1)
+    (puts-as (ap answerLines (accepted-planned (take n (s .args .earliest)) (take n (s .args .latest)) (take n (s .args .t5)) (created .create .result) (created .create .ensures) (c .before .before .before .before .enum-told .given .1))) (c .before .before .put-ran .ensures .0), c .before .before .put-ran .ensures .1)
 
 returns-2 : tie.Need-returns-2
 returns-2 c =
@@ -30,7 +30,7 @@ returns-2 c =
     let created = told .before .before .before in
     let s = created .before .before .before in
     let n = s .args .n in
-    (puts-as (ap answerLines (refused-planned (take n (s .args .earliest)) (take n (s .args .latest)) (take n (s .args .t5)) (created .create .result) (created .create .ensures .0) (told .answer .given .0 .0) (told .answer .given .1))) (c .before .before .put-refused .ensures .0), omega (arith, c .before .before .put-refused .ensures .1, s .pre .1))
+    (puts-as (ap answerLines (refused-planned (take n (s .args .earliest)) (take n (s .args .latest)) (take n (s .args .t5)) (created .create .result) (created .create .ensures) (told .answer .given .0 .0) (told .answer .given .1))) (c .before .before .put-refused .ensures .0), omega (arith, c .before .before .put-refused .ensures .1, s .pre .1))
 
 pub put-planned-spec : {M : Type 1} → statement M
 put-planned-spec =

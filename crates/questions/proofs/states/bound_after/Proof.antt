@@ -7,6 +7,7 @@ use Rattle.integers.proofs.Ints.{back}
 use Rattle.atoms.specs.Atoms.{rightVariable}
 use Rattle.checking.specs.Answers.{boundNumbers}
 use Rattle.checking.specs.States.{sideOf, boundOf}
+use Rattle.checking.proofs.Apart.{applied-apart}
 use Rattle.answers.specs.Answers.{stateAnswer, askedAt}
 use Rattle.questions.proofs.Asking.{unfit, fit}
 use Rattle.questions.proofs.states.bound_after.Statement.{statement}
@@ -31,9 +32,9 @@ returns-2 c =
     let a = s .args in
     let made = c .before .before .before .prepare-for-conflict-check in
     c .state-numbers .ensures
-    ∙ ap (askedAt (made .result .answer)) (c .before .bound-numbers .ensures ∙ (λ i. stateAnswer (boundNumbers (c .before .before .bound-in .ensures i))) ∙ (λ i. stateAnswer (boundNumbers (boundOf (sideOf (a .lower)) (made .result .state) (back (s .fits .variable) i)))))
+    ∙ ap (askedAt (made .result .answer)) (c .before .bound-numbers .ensures ∙ ap stateAnswer (c .before .before .bound-in .ensures) ∙ (λ i. stateAnswer (boundNumbers (boundOf (sideOf (a .lower)) (made .result .state) (back (s .fits .variable) i)))))
     ∙ fit (a .premises .now) (rightVariable (a .variable)) (λ t. boundNumbers (boundOf (sideOf (a .lower)) t (a .variable)))
-    (sym (said (test .before)) ∙ not-false (test .before .variable-is-accepted .result) (test .if1 .left)) (made .result) (made .ensures .0)
+    (sym (said (test .before)) ∙ not-false (test .before .variable-is-accepted .result) (test .if1 .left)) (made .result) (applied-apart (made .ensures .0))
 
 pub bound-after-spec : {M : Type 1} → statement M
 bound-after-spec =

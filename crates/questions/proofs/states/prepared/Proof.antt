@@ -2,8 +2,6 @@
 -- Assumes nothing.
 use mathlib.Core.Path.{ap, _∙_}
 use borrow.Author.Needs.{needs}
-use Rattle.checking.specs.declared.variable_state.Applied.{Applied}
-use Rattle.checking.specs.Answers.{applicationNumbers}
 use Rattle.answers.specs.Answers.{stateAnswer}
 use Rattle.questions.proofs.Asking.{consistent}
 use Rattle.questions.proofs.states.prepared.Statement.{statement}
@@ -12,7 +10,7 @@ use Rattle.questions.proofs.states.prepared.Tie as tie
 returns : tie.Need-returns
 returns c =
     let made = c .before .prepare-for-conflict-check in
-    c .state-numbers .ensures ∙ consistent (made .result .answer) ∙ ap (λ (w : Applied). stateAnswer (applicationNumbers (w .answer))) (made .ensures .0)
+    c .state-numbers .ensures ∙ consistent (made .result .answer) ∙ ap stateAnswer (made .ensures .0 .answer)
 
 pub prepared-spec : {M : Type 1} → statement M
 prepared-spec = tie.close (tie.spec (λ c κs. search needs) (λ c κs. search needs) returns)

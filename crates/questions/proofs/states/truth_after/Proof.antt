@@ -7,6 +7,7 @@ use Rattle.integers.proofs.Ints.{back}
 use Rattle.atoms.specs.Atoms.{rightAtom}
 use Rattle.checking.specs.Answers.{truthNumbers}
 use Rattle.checking.specs.States.{truthOf}
+use Rattle.checking.proofs.Apart.{applied-apart}
 use Rattle.answers.specs.Answers.{stateAnswer, askedAt}
 use Rattle.questions.proofs.Asking.{unfit, fit}
 use Rattle.questions.proofs.states.truth_after.Statement.{statement}
@@ -32,9 +33,9 @@ returns-2 c =
     let a = s .args in
     let made = c .before .before .before .prepare-for-conflict-check in
     c .state-numbers .ensures
-    ∙ ap (askedAt (made .result .answer)) (c .before .truth-numbers .ensures ∙ (λ i. stateAnswer (truthNumbers (c .before .before .is-true .ensures .0 i))) ∙ (λ i. stateAnswer (truthNumbers (truthOf (made .result .state) (back (s .fits .variable) i) (back (s .fits .kind) i) (back (s .fits .value) i)))))
+    ∙ ap (askedAt (made .result .answer)) (c .before .truth-numbers .ensures ∙ ap stateAnswer (c .before .before .is-true .ensures .0) ∙ (λ i. stateAnswer (truthNumbers (truthOf (made .result .state) (back (s .fits .variable) i) (back (s .fits .kind) i) (back (s .fits .value) i)))))
     ∙ fit (a .premises .now) (rightAtom (a .variable) (a .kind) (a .value)) (λ t. truthNumbers (truthOf t (a .variable) (a .kind) (a .value)))
-    (sym (said (test .before)) ∙ not-false (test .before .atom-is-accepted .result) (test .if1 .left)) (made .result) (made .ensures .0)
+    (sym (said (test .before)) ∙ not-false (test .before .atom-is-accepted .result) (test .if1 .left)) (made .result) (applied-apart (made .ensures .0))
 
 pub truth-after-spec : {M : Type 1} → statement M
 truth-after-spec =

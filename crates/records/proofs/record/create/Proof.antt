@@ -8,7 +8,7 @@ use lib.ListN.{length, getD}
 use borrow.Author.Needs.{needs}
 use Rattle.integers.specs.Tests.{refusal}
 use Rattle.scheduling.specs.Scheduling.{total}
-use Rattle.records.specs.Records.{creationTests, creationNumber, newRecord, created, Lawful}
+use Rattle.records.specs.Records.{creationTests, creationNumbers, creationNumber, newRecord, created, Creates, Lawful}
 use Rattle.records.specs.declared.record.Created.{Created}
 use Rattle.records.proofs.Creation.{created-new, created-not, created-lawful, answer-number, same-sum}
 use Rattle.records.proofs.record.create.Statement.{statement}
@@ -21,9 +21,13 @@ none c = sym (c .before .creation-refusal .ensures) ∙ c .if1 .left
 made : (c : tie.Else1) → Lawful (newRecord (c .before .before .args .durations .now))
 made c = created-lawful (c .before .before .args .durations .now) (none c)
 
--- what equals the definition has its number
-numbered : (ds : List ℤ) (r : Created) → r ≡ created ds → (r ≡ created ds) × (creationNumber (r .answer) ≡ refusal (creationTests ds))
-numbered ds r e = (e, ap (λ (x : Created). creationNumber (x .answer)) e ∙ answer-number ds)
+-- what equals the definition has its numbers
+numbered : (ds : List ℤ) (r : Created) → r ≡ created ds → Creates ds r
+numbered ds r e = record {
+  answer = ap (λ (x : Created). creationNumbers (x .answer)) e;
+  number = ap (λ (x : Created). creationNumber (x .answer)) e ∙ answer-number ds;
+  made = ap (λ (x : Created). x .«record») e;
+}
 
 returns : tie.Need-returns
 returns c =

@@ -1,0 +1,220 @@
+-- Where a check is refused, and where it finds a contradiction: the sole ground of each number, in the order 1, 2, 5, 7, 6, 21, 8.
+-- Assumes nothing.
+use mathlib.Core.Path.{_≡_, refl, sym, ap, _∙_}
+use mathlib.Core.Bool.{Bool, true, false, _&&_}
+use mathlib.Core.List.{List, [], _∷_}
+use mathlib.Core.Logic.{_⊎_, inl, inr, _↔_}
+use mathlib.Core.Option.{Option, some, none}
+use Prim.Native.Nat.{ℕ, zero, suc, _+_, _*_, _≤_}
+use native.Mathlib.Omega.{arith}
+use lib.Dec.{leb, ltb}
+use lib.IntN.{ℤ, pos}
+use lib.ListN.{length}
+use borrow.Author.Tests.{ltb-true, lt-ltb, leb-true, leb-false}
+use Rattle.integers.specs.Answers.{Answer, answered, refusedBy}
+use Rattle.integers.specs.Limits.{PREMISES}
+use Rattle.integers.specs.Tests.{Test, test, refusal, AllPassed}
+use Rattle.integers.proofs.Bools.{bool, and-true, and-yes}
+use Rattle.integers.proofs.Tests.{broken, accepts, accepted, refusal-next, refusal-here, refusal-after, refusal-before}
+use Rattle.scheduling.specs.Scheduling.{Atom, given}
+use Rattle.atoms.specs.Atoms.{atomsOf, consequentOf, rightLists}
+use Rattle.atoms.proofs.Right.{lists-are}
+use Rattle.checking.specs.declared.variable_state.VariableState.{VariableState}
+use Rattle.checking.specs.declared.variable_state.Application.{Application}
+use Rattle.checking.specs.declared.variable_state.Application.the-variants as application
+use Rattle.checking.specs.Answers.{applicationNumbers}
+use Rattle.checking.specs.Bounds.{lowerIn, upperIn}
+use Rattle.checking.specs.Promises.{NoRoom, EmptiesFirst}
+use Rattle.checking.specs.States.{prepared}
+use Rattle.checking.proofs.Apart.{other-kind, applications-apart}
+use Rattle.checking.proofs.Emptying.{prepared-contradiction}
+use Rattle.checking.proofs.Promises.{prepare-means}
+use Rattle.checking.proofs.Refused.{prepared-7, prepared-21}
+use Rattle.records.specs.Records.{durationAt, creationTests}
+use Rattle.records.proofs.Creation.{created-lawful}
+use Rattle.formulas.specs.Formulas.{bounded, implied, overloaded}
+use Rattle.formulas.proofs.Formulas.{Reads, least-of, greatest-of, none-of}
+use Rattle.checker.specs.declared.checker.Verdict.the-variants.{Contradiction, Refused}
+use Rattle.checker.specs.Checks.{verdict, judged, concluded, checkOf, tasksWith}
+use Rattle.checker.specs.Unjudged.{wordTests, TwoSided, AtomByAtom, Unjudged}
+use Rattle.checker.specs.Verdicts.{verdictNumbers}
+use Rattle.checker.proofs.Answers.{check-after}
+use Rattle.checker.proofs.Soundness.{reads, durations-last}
+
+module _ (ds ps cs : List ℤ) where
+  abbrev answer : Answer
+  answer = verdictNumbers (checkOf ds ps cs)
+
+  abbrev atoms : List Atom
+  atoms = given (atomsOf ps) (consequentOf cs)
+
+  abbrev state : VariableState
+  state = prepared ps cs .state
+
+  abbrev Accepted : Type 0
+  Accepted = refusal (creationTests ds) ≡ 0
+
+  -- Past the durations -----------------------------------------------------------------------------------------------------------
+
+  -- the consequent's variable has two bounds
+  abbrev two : VariableState → ℕ → Bool
+  two s x = ltb x (length ds) && bounded (length ds) (durationAt ds) (lowerIn s) (upperIn s) x
+
+  -- a verdict by the formula is of kind 0 or 1
+  by-formula {ℓ} : {X : Type ℓ} (b : Bool) (a : Answer) → 2 ≤ a .kind → verdictNumbers (verdict b) ≡ a → X
+  by-formula true a h e = other-kind (answered 0 []) a e (λ z. omega (arith, z, h))
+  by-formula false a h e = other-kind (answered 1 []) a e (λ z. omega (arith, z, h))
+
+  -- The formula's part has the number 8 alone.
+  record Lacking (s : VariableState) (o : Option Atom) (n : ℕ) : Type 0 where
+    eight : n ≡ 8
+    atom : Atom
+    consequent : o ≡ some atom
+    unbounded : two s (atom .variable) ≡ false
+
+  judged-number : (s : VariableState) (o : Option Atom) (n : ℕ) → verdictNumbers (judged ds s o) ≡ refusedBy n → Lacking s o n
+  judged-number s none n e = by-formula (overloaded (length ds) (durationAt ds) (lowerIn s) (upperIn s)) (refusedBy n) (omega arith) e
+  judged-number s (some a) n e = elim (bool (two s (a .variable))) [
+    | inl y ↦ by-formula (implied (length ds) (durationAt ds) (lowerIn s) (upperIn s) (a .variable)) (refusedBy n) (omega arith) (rw y at e)
+    | inr y ↦ record { eight = ap (λ (r : Answer). r .number) (sym (rw y at e)); atom = a; consequent = refl; unbounded = y }
+  ]
+
+  judged-not-2 : (s : VariableState) (o : Option Atom) (x : ℕ) → verdictNumbers (judged ds s o) ≡ answered 2 (pos x ∷ []) → ⊥
+  judged-not-2 s none x e = by-formula (overloaded (length ds) (durationAt ds) (lowerIn s) (upperIn s)) (answered 2 (pos x ∷ [])) (omega arith) e
+  judged-not-2 s (some a) x e = elim (bool (two s (a .variable))) [
+    | inl y ↦ by-formula (implied (length ds) (durationAt ds) (lowerIn s) (upperIn s) (a .variable)) (answered 2 (pos x ∷ [])) (omega arith) (rw y at e)
+    | inr y ↦ other-kind (refusedBy 8) (answered 2 (pos x ∷ [])) (rw y at e) (λ z. omega arith)
+  ]
+
+  abbrev late : Answer
+  late = verdictNumbers (concluded (judged ds) (prepared ps cs) (consequentOf cs))
+
+  -- 7, 6, 21 of the atoms, or 8
+  late-number : (n : ℕ) → late ≡ refusedBy n → (applicationNumbers (prepared ps cs .answer) ≡ refusedBy n) ⊎ ((prepared ps cs .answer ≡ application.Consistent) × Lacking state (consequentOf cs) n)
+  late-number n e = by (prepared ps cs .answer) refl
+    where
+      by : (w : Application) → prepared ps cs .answer ≡ w → (applicationNumbers (prepared ps cs .answer) ≡ refusedBy n) ⊎ ((prepared ps cs .answer ≡ application.Consistent) × Lacking state (consequentOf cs) n)
+      by application.Consistent p = inr (p, judged-number state (consequentOf cs) n (rw p at e))
+      by (application.Contradiction x) p = other-kind (verdictNumbers (Contradiction x)) (refusedBy n) (rw p at e) (λ z. omega arith)
+      by (application.Refused m) p = inl (ap applicationNumbers p ∙ (rw p at e))
+
+  late-refused : (n : ℕ) → applicationNumbers (prepared ps cs .answer) ≡ refusedBy n → late ≡ refusedBy n
+  late-refused n e = let p = applications-apart (prepared ps cs .answer) (application.Refused n) e in rw p refl
+
+  late-contradiction : (x : ℕ) → late ≡ answered 2 (pos x ∷ []) ↔ (prepared ps cs .answer ≡ application.Contradiction x)
+  late-contradiction x = (λ e. by (prepared ps cs .answer) refl e, λ p. rw p refl)
+    where
+      by : (w : Application) → prepared ps cs .answer ≡ w → late ≡ answered 2 (pos x ∷ []) → prepared ps cs .answer ≡ application.Contradiction x
+      by application.Consistent p e = absurd (judged-not-2 state (consequentOf cs) x (rw p at e))
+      by (application.Contradiction y) p e = applications-apart (prepared ps cs .answer) (application.Contradiction x) (ap applicationNumbers p ∙ (rw p at e))
+      by (application.Refused n) p e = other-kind (refusedBy n) (answered 2 (pos x ∷ [])) (rw p at e) (λ z. omega arith)
+
+  -- The words --------------------------------------------------------------------------------------------------------------------
+
+  abbrev behind : List Test
+  behind = test 7 (leb (length ps) (3 * PREMISES + 2)) ∷ test 6 (rightLists ps cs) ∷ []
+
+  is-late : Accepted → answer ≡ late
+  is-late ok = ap verdictNumbers (check-after ds ps cs 0 ok)
+
+  pub word-number : (refusal (wordTests ds ps cs) ≡ 0 → ⊥) → verdictNumbers (checkOf ds ps cs) ≡ refusedBy (refusal (wordTests ds ps cs))
+  word-number given-one = by (refusal (creationTests ds)) refl
+    where
+      then : Accepted → refusal (wordTests ds ps cs) ≡ refusal behind → (leb (length ps) (3 * PREMISES + 2) ≡ true) ⊎ (leb (length ps) (3 * PREMISES + 2) ≡ false) → (rightLists ps cs ≡ true) ⊎ (rightLists ps cs ≡ false)
+          → answer ≡ refusedBy (refusal (wordTests ds ps cs))
+      then ok e (inl y) (inl z) = absurd (given-one (e ∙ accepts behind (y, (z, tt))))
+      then ok e (inl y) (inr z) = is-late ok ∙ late-refused 6 (prepare-means ps cs .malformed (leb-true _ _ y) z) ∙ ap refusedBy (sym (e ∙ refusal-next (test 7 (leb (length ps) (3 * PREMISES + 2))) (test 6 (rightLists ps cs) ∷ []) y ∙ refusal-here (test 6 (rightLists ps cs)) [] z))
+      then ok e (inr y) z = is-late ok ∙ late-refused 7 (prepared-7 ps cs .1 (omega (arith, leb-false (length ps) (3 * PREMISES + 2) y))) ∙ ap refusedBy (sym (e ∙ refusal-here (test 7 (leb (length ps) (3 * PREMISES + 2))) (test 6 (rightLists ps cs) ∷ []) y))
+
+      by : (n : ℕ) → refusal (creationTests ds) ≡ n → answer ≡ refusedBy (refusal (wordTests ds ps cs))
+      by zero z = then z (refusal-after (creationTests ds) behind (accepted (creationTests ds) refl z)) (bool (leb (length ps) (3 * PREMISES + 2))) (bool (rightLists ps cs))
+      by (suc m) z = ap verdictNumbers (check-after ds ps cs (suc m) z) ∙ ap refusedBy (sym (refusal-before (creationTests ds) behind (λ w. let v : suc m ≡ 0 = sym z ∙ w in omega arith) ∙ z))
+
+  -- The atoms --------------------------------------------------------------------------------------------------------------------
+
+  module _ (passed : refusal (wordTests ds ps cs) ≡ 0) where
+    all : AllPassed (wordTests ds ps cs)
+    all = accepted (wordTests ds ps cs) refl passed
+
+    ok : Accepted
+    ok = accepts (creationTests ds) (all .0, (all .1 .0, (all .1 .1 .0, tt)))
+
+    short : length ps ≤ 3 * PREMISES + 2
+    short = leb-true (length ps) (3 * PREMISES + 2) (all .1 .1 .1 .0)
+
+    right : rightLists ps cs ≡ true
+    right = all .1 .1 .1 .1 .0
+
+    -- a number of the atoms is 21, where one has no room
+    crowded : (n : ℕ) → applicationNumbers (prepared ps cs .answer) ≡ refusedBy n → (n ≡ 21) × NoRoom atoms
+    crowded n e = prepare-means ps cs .room short right n e
+
+    room : answer ≡ refusedBy 21 ↔ NoRoom atoms
+    room = (
+      λ e. elim (late-number 21 (sym (is-late ok) ∙ e)) [ inl p ↦ crowded 21 p .1 | inr p ↦ absurd (omega (arith, p .1 .eight)) ],
+      λ n. is-late ok ∙ late-refused 21 (prepared-21 ps cs .1 (short, (lists-are ps cs .0 right, n))),
+    )
+
+    module _ (roomy : NoRoom atoms → ⊥) where
+      -- the atoms are not refused
+      heard : (n : ℕ) → prepared ps cs .answer ≡ application.Refused n → ⊥
+      heard n e = roomy (crowded n (ap applicationNumbers e) .1)
+
+      contradiction : (x : ℕ) → answer ≡ answered 2 (pos x ∷ []) ↔ EmptiesFirst atoms x
+      contradiction x =
+          let w = prepared-contradiction ps cs x heard in
+          (λ e. w .0 (late-contradiction x .0 (sym (is-late ok) ∙ e)), λ f. is-late ok ∙ late-contradiction x .1 (w .1 f))
+
+      module _ (none-emptied : (x : ℕ) → EmptiesFirst atoms x → ⊥) where
+        consistent : prepared ps cs .answer ≡ application.Consistent
+        consistent = by (prepared ps cs .answer) refl
+          where
+            by : (w : Application) → prepared ps cs .answer ≡ w → prepared ps cs .answer ≡ application.Consistent
+            by application.Consistent e = e
+            by (application.Contradiction x) e = absurd (none-emptied x (prepared-contradiction ps cs x heard .0 e))
+            by (application.Refused n) e = absurd (heard n e)
+
+        read : Reads (length ds) atoms (lowerIn state) (upperIn state)
+        read = reads ds ps cs (created-lawful ds ok .few) consistent
+
+        two-sided : (x : ℕ) → two state x ≡ true ↔ TwoSided (length ds) atoms x
+        two-sided x = (
+          λ y.
+              let (t, b) = and-true (ltb x (length ds)) (bounded (length ds) (durationAt ds) (lowerIn state) (upperIn state) x) y in
+              let q = ltb-true x (length ds) t in
+              record {
+                task = q;
+                low = _;
+                least = least-of (tasksWith ds) (durations-last ds ok) atoms (lowerIn state) (upperIn state) read x (record { small = q; mem = b });
+                high = _;
+                greatest = greatest-of (tasksWith ds) (durations-last ds ok) atoms (lowerIn state) (upperIn state) read x (record { small = q; mem = b });
+              },
+          λ f. and-yes (ltb x (length ds)) (bounded (length ds) (durationAt ds) (lowerIn state) (upperIn state) x) (lt-ltb x (length ds) (f .task))
+              (elim (bool (bounded (length ds) (durationAt ds) (lowerIn state) (upperIn state) x)) [
+                | inl y ↦ y
+                | inr y ↦ absurd (none-of (tasksWith ds) (durations-last ds ok) atoms (lowerIn state) (upperIn state) read x (f .task) y (f .low) (f .high) (f .least) (f .greatest))
+              ]),
+        )
+
+        eight : answer ≡ refusedBy 8 ↔ ((a : Atom) × ((consequentOf cs ≡ some a) × (TwoSided (length ds) atoms (a .variable) → ⊥)))
+        eight = (
+          λ e. elim (late-number 8 (sym (is-late ok) ∙ e)) [
+            | inl p ↦ absurd (omega (arith, crowded 8 p .0))
+            | inr p ↦ (p .1 .atom, (p .1 .consequent, broken (two-sided (p .1 .atom .variable)) .0 (p .1 .unbounded)))
+          ],
+          λ f.
+              let (a, (e, n)) = f in
+              let y : two state (a .variable) ≡ false = broken (two-sided (a .variable)) .1 n in
+              is-late ok ∙ (rw (consistent, e, y) refl),
+        )
+
+    by-atoms : AtomByAtom (length ds) atoms (consequentOf cs) answer
+    by-atoms = record {
+      room = room;
+      contradiction = contradiction;
+      bounds = eight;
+      only = λ m e. elim (late-number m (sym (is-late ok) ∙ e)) [ inl p ↦ inl (crowded m p .0) | inr p ↦ inr (p .1 .eight) ];
+    }
+
+  pub unjudged : Unjudged ds ps cs (verdictNumbers (checkOf ds ps cs))
+  unjudged = record { words = word-number; atoms = by-atoms }

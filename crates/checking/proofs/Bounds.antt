@@ -1,0 +1,107 @@
+-- The bounds that the queries answer of an accepted state, and of a prepared one: the least and the greatest value that the atoms admit, near their values.
+-- Assumes nothing.
+use mathlib.Core.Path.{_≡_, refl, sym, ap, ap₂, _∙_}
+use mathlib.Core.List.{List}
+use mathlib.Core.Option.{some, none}
+use Prim.Native.Nat.{ℕ, _+_, _<_}
+use native.Mathlib.Omega.{arith}
+use lib.IntN.{ℤ, pos}
+use Rattle.integers.specs.Limits.{VARIABLES, VALUE, HOLES}
+use Rattle.integers.proofs.Ints.{ints}
+use Rattle.scheduling.specs.Scheduling.{whole, Least, Largest, Atom, Admits, given}
+use Rattle.holes.specs.Holes.{Within}
+use Rattle.atoms.specs.Atoms.{atomsOf, consequentOf}
+use Rattle.atoms.proofs.Atoms.{number-right}
+use Rattle.domains.specs.declared.int_ext.IntExt.{IntExt}
+use Rattle.domains.specs.declared.int_ext.IntExt.the-variants.{Int, NegativeInf, PositiveInf}
+use Rattle.domains.specs.declared.domain.Domain.{Domain}
+use Rattle.domains.specs.Domains.{Proper}
+use Rattle.domains.proofs.Values.{lower-least, upper-largest, lower-none, upper-none, not-plus, not-minus}
+use Rattle.checking.specs.declared.variable_state.VariableState.{VariableState}
+use Rattle.checking.specs.declared.variable_state.Application.the-variants.{Consistent}
+use Rattle.checking.specs.declared.variable_state.Bound.{Bound}
+use Rattle.checking.specs.declared.variable_state.Bound.the-variants.{At}
+use Rattle.checking.specs.Bounds.{finite, lowerIn, upperIn}
+use Rattle.checking.specs.States.{Accepted, domainAt, boundOf, lowerOf, upperOf, prepared}
+use Rattle.checking.specs.TaskBounds.{boundsBetween, taskBounds, boundsAt}
+use Rattle.checking.proofs.Accepting.{state-accepted}
+use Rattle.checking.proofs.Near.{prepared-near}
+use Rattle.checking.proofs.Prepared.{prepared-accepted, prepared-admits}
+
+-- An accepted state ------------------------------------------------------------------------------------------------------------
+
+-- the query answers with the bound of the domain
+at : (side : Domain → IntExt) (s : VariableState) → Accepted s → (x : ℕ) → x < VARIABLES → boundOf side s (pos x) ≡ At (side (domainAt s x))
+unfolding boundOf
+at side s a x h = rw (state-accepted (s .domains) a, number-right x h) refl
+
+pub bounds-at : (s : VariableState) → Accepted s → (x : ℕ) → x < VARIABLES → taskBounds (domainAt s x) ≡ boundsAt s x
+bounds-at s a x h = ap₂ (λ (l u : Bound). boundsBetween (finite l) (finite u)) (sym (at lowerOf s a x h)) (sym (at upperOf s a x h))
+
+-- A prepared state -------------------------------------------------------------------------------------------------------------
+
+-- a bound that is a number, and one that is none
+finite-is : (e : IntExt) (u : ℤ) → finite (At e) ≡ some u → e ≡ Int u
+finite-is (Int z) u h = cc
+finite-is NegativeInf u h = absurd (let z : _≡_ {A = ℕ} 0 1 = cc in omega arith)
+finite-is PositiveInf u h = absurd (let z : _≡_ {A = ℕ} 0 1 = cc in omega arith)
+
+no-lower : (e : IntExt) → (e ≡ PositiveInf → ⊥) → finite (At e) ≡ none → e ≡ NegativeInf
+no-lower (Int z) n h = absurd (let z : _≡_ {A = ℕ} 0 1 = cc in omega arith)
+no-lower NegativeInf n h = refl
+no-lower PositiveInf n h = absurd (n refl)
+
+no-upper : (e : IntExt) → (e ≡ NegativeInf → ⊥) → finite (At e) ≡ none → e ≡ PositiveInf
+no-upper (Int z) n h = absurd (let z : _≡_ {A = ℕ} 0 1 = cc in omega arith)
+no-upper NegativeInf n h = absurd (n refl)
+no-upper PositiveInf n h = refl
+
+module _ (premises consequent : List ℤ) (x : ℕ) (h : x < VARIABLES) where
+  abbrev atoms : List Atom
+  atoms = given (atomsOf premises) (consequentOf consequent)
+
+  abbrev s : VariableState
+  s = prepared premises consequent .state
+
+  abbrev d : Domain
+  d = domainAt s x
+
+  proper : Proper d
+  proper = prepared-accepted premises consequent .each x h
+
+  lower : finite (At (lowerOf d)) ≡ lowerIn s x
+  lower = ap finite (sym (at lowerOf s (prepared-accepted premises consequent) x h))
+
+  upper : finite (At (upperOf d)) ≡ upperIn s x
+  upper = ap finite (sym (at upperOf s (prepared-accepted premises consequent) x h))
+
+  -- no further out than an atom's value, negated, past a chain of holes
+  pub lower-near : (u : ℤ) → lowerIn (prepared premises consequent .state) x ≡ some u → Within (VALUE + 1 + HOLES) u
+  lower-near u e = prepared-near premises consequent x h .lower u (finite-is (lowerOf d) u (lower ∙ e))
+
+  pub upper-near : (u : ℤ) → upperIn (prepared premises consequent .state) x ≡ some u → Within (VALUE + 1 + HOLES) u
+  upper-near u e = prepared-near premises consequent x h .upper u (finite-is (upperOf d) u (upper ∙ e))
+
+  -- where the atoms are consistent: their least and their greatest value, or there is none
+  module _ (ok : prepared premises consequent .answer ≡ Consistent) where
+    pub lower-is : (u : ℤ) → lowerIn (prepared premises consequent .state) x ≡ some u → Least whole (Admits (given (atomsOf premises) (consequentOf consequent)) x) u
+    lower-is u e =
+        let l = lower-least d proper u (finite-is (lowerOf d) u (lower ∙ e)) in
+        record { holds = prepared-admits premises consequent ok x h u .0 (l .holds); bounds = λ w m. l .bounds w (prepared-admits premises consequent ok x h w .1 m) }
+
+    pub upper-is : (u : ℤ) → upperIn (prepared premises consequent .state) x ≡ some u → Largest whole (Admits (given (atomsOf premises) (consequentOf consequent)) x) u
+    upper-is u e =
+        let l = upper-largest d proper u (finite-is (upperOf d) u (upper ∙ e)) in
+        record { holds = prepared-admits premises consequent ok x h u .0 (l .holds); bounds = λ w m. l .bounds w (prepared-admits premises consequent ok x h w .1 m) }
+
+    pub lower-none-is : lowerIn (prepared premises consequent .state) x ≡ none → (u : ℤ) → Least whole (Admits (given (atomsOf premises) (consequentOf consequent)) x) u → ⊥
+    lower-none-is e u l =
+        let (w, m, below) = lower-none d proper (no-lower (lowerOf d) (not-plus d proper) (lower ∙ e)) u in
+        let q = l .bounds w (prepared-admits premises consequent ok x h w .0 m) in
+        omega ints
+
+    pub upper-none-is : upperIn (prepared premises consequent .state) x ≡ none → (u : ℤ) → Largest whole (Admits (given (atomsOf premises) (consequentOf consequent)) x) u → ⊥
+    upper-none-is e u l =
+        let (w, m, over) = upper-none d proper (no-upper (upperOf d) (not-minus d proper) (upper ∙ e)) u in
+        let q = l .bounds w (prepared-admits premises consequent ok x h w .0 m) in
+        omega ints
