@@ -21,8 +21,8 @@ use Rattle.trees.specs.Arrays.{changed, leavesOf, TreeOf}
 use Rattle.trees.specs.Words.{nodeAt, plainAt}
 use Rattle.trees.specs.Bounds.{Bounded, CanPut}
 use Rattle.trees.specs.Puts.{Puttable, Put, PlainPuttable, PlainPut}
-use Rattle.trees.specs.Searches.{searchEct, thetaOf}
-use Rattle.trees.specs.Searching.{isWhite}
+use Rattle.trees.specs.Searches.{searchEct}
+use Rattle.trees.specs.Searching.{whiteIn, thetaIn}
 use Rattle.trees.specs.Leaves as leaves
 use Rattle.trees.specs.Leaves.{Leaf, empty, inTheta, leafNode, taskAt, startAt, durationAt, whiteAt, root, responsible, theta}
 use Rattle.trees.specs.Trees.{plainLeaf, plainLeaves, Limited, IsTree, IsPlainTree}
@@ -152,9 +152,9 @@ module _ {J : Tasks natural} {estOrder : List ℕ} (lim : Limited J estOrder) {l
   responsible-of h z = rw (z, own) refl
 
   -- the tasks of Theta, by any array of the leaves' tasks
-  pub theta-of : (tasks : List ℕ) → ((j : ℕ) → j < J .count → getD tasks j 0 ≡ taskAt J estOrder j) → thetaOf (isWhite (leavesOf inner (nodeAt words))) (λ k. getD tasks k 0) 0 (J .count) ≡ theta J estOrder ls
-  unfolding theta
-  theta-of tasks z = theta-same (isWhite (leavesOf inner (nodeAt words))) (whiteAt ls) (λ k. getD tasks k 0) (taskAt J estOrder) 0 (J .count) (λ k lo hi.
+  pub theta-of : (tasks : List ℕ) → ((j : ℕ) → j < J .count → getD tasks j 0 ≡ taskAt J estOrder j) → thetaIn words inner tasks (J .count) ≡ theta J estOrder ls
+  unfolding theta whiteIn
+  theta-of tasks z = theta-same (whiteIn words inner) (whiteAt ls) (λ k. getD tasks k 0) (taskAt J estOrder) 0 (J .count) (λ k lo hi.
       let q : k < J .count = omega arith in
       (ap (λ (n : Node). not (eqb (n .ect) 0)) (t .tree .leaves k) ∙ white-is (getD ls k empty) (startAt J estOrder k) (durationAt J estOrder k) (lim .lasts k q), z k q))
 

@@ -44,13 +44,9 @@ pub record Searched (m h i : ℕ) (at : ℕ → Node) : Type 0 where
   pub has-height : HasHeight m h i
   pub room : m ≤ INNER
 
--- a white leaf has an ect
-abbrev pub isWhite : (ℕ → Node) → ℕ → Bool
-isWhite leaf k = not (eqb (leaf k .ect) 0)
-
--- which leaves are white, by the words of a tree with `inner` inner nodes
-abbrev pub whiteIn : List ℕ → ℕ → ℕ → Bool
-whiteIn words inner = isWhite (leavesOf inner (nodeAt words))
+-- which leaves are white, by the words of a tree with `inner` inner nodes: those that have an ect
+unfoldable pub whiteIn : List ℕ → ℕ → ℕ → Bool
+whiteIn words inner k = not (eqb (nodeAt words (inner + k) .ect) 0)
 
 -- the task of each leaf, by an array
 abbrev pub taskIn : List ℕ → ℕ → ℕ

@@ -2,7 +2,7 @@
 //
 // Its leaves stand for the tasks in order of earliest start, so that a node's values follow from those of its children. All numbers are moments and
 // durations; a node with no task has the word 0 for an ect, a coding that `Ect::decoded` undoes where the tree answers. The nodes stand as words, four to a
-// node, which only `load` and `store` know, and the operations borrow the words alone, so that none copies the tree.
+// node, which only `new`, `load` and `store` know, and the operations borrow the words alone, so that none copies the tree.
 use crate::complete_tree::get_left_child_index;
 use crate::complete_tree::get_parent;
 use crate::complete_tree::get_right_child_index;

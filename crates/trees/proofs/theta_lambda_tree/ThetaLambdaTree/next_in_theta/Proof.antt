@@ -25,11 +25,13 @@ loop-holds : tie.Need-loop-holds Inv-loop μ-loop
 loop-holds c = (omega arith, omega arith, λ y lo hi. absurd (omega arith))
 
 returns : tie.Need-returns Inv-loop μ-loop
+unfolding whiteIn
 returns c =
     let l = c .before .before .before .before .loop in
     record { from = l .inv .0; to = l .inv .1; passed = l .inv .2; found = λ _. ap not (ne-eqb _ 0 (λ z. c .if1 .taken (ap ect (c .before .before .load .ensures) ∙ z))) }
 
 loop-again : tie.Need-loop-again Inv-loop μ-loop
+unfolding whiteIn
 loop-again c =
     let l = c .before .before .before .before .loop in
     let a = c .before .before .before .before .before .args in
