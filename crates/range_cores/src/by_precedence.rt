@@ -32,13 +32,14 @@ pub fn precedences_core(record: Propagator, ranges: StartsWithBars) -> CorePrece
         &latest[..n],
         ranges.bars_fit,
     );
+    let raised = Starts {
+        count: n,
+        earliest,
+        latest,
+    };
     CorePrecedences {
         answer,
-        starts: Starts {
-            count: n,
-            earliest,
-            latest,
-        },
+        starts: raised,
     }
 }
 

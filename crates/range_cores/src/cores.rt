@@ -55,14 +55,15 @@ pub fn run_core(
         outcome,
         changes: ran.changes,
     };
+    let raised = Starts {
+        count: n,
+        earliest,
+        latest,
+    };
     CoreRun {
         record: after,
         finished,
-        starts: Starts {
-            count: n,
-            earliest,
-            latest,
-        },
+        starts: raised,
     }
 }
 
@@ -88,13 +89,14 @@ pub fn mirrored_core(
         posts,
         atoms,
     );
+    let lowered = Starts {
+        count: n,
+        earliest,
+        latest,
+    };
     CoreMirrored {
         outcome,
-        starts: Starts {
-            count: n,
-            earliest,
-            latest,
-        },
+        starts: lowered,
     }
 }
 

@@ -56,11 +56,12 @@ pub fn add(record: Propagator, duration: i32) -> Changed
     let more = integers::nat_of(duration);
     let mut durations = record.durations;
     durations[n] = more;
+    let sum = record.total + more;
     Changed {
         record: Propagator {
             count: n + 1,
             durations,
-            total: record.total + more,
+            total: sum,
         },
         answer: Change::Made,
     }
@@ -114,11 +115,12 @@ pub fn remove(record: Propagator, task: usize) -> Changed
     let n = record.count;
     let less = record.durations[task];
     let durations = without_task(&record.durations, n, task);
+    let rest = record.total - less;
     Changed {
         record: Propagator {
             count: n - 1,
             durations,
-            total: record.total - less,
+            total: rest,
         },
         answer: Change::Made,
     }

@@ -42,11 +42,11 @@ mul-durations c = record { fits = omega (arith, passed (c .before .before) .room
 array-write-durations : tie.Need-array-write-durations
 array-write-durations c = passed (c .before .before) .room
 
-add-t8 : tie.Need-add-t8
-add-t8 c = record { fits = omega (arith, passed (c .before .before) .room) }
+add-sum : tie.Need-add-sum
+add-sum c = record { fits = omega (arith, passed (c .before .before) .fits, more-is (c .before)) }
 
-add-t17 : tie.Need-add-t17
-add-t17 c = record { fits = omega (arith, passed (c .before .before) .fits, more-is (c .before)) }
+add-t9 : tie.Need-add-t9
+add-t9 c = record { fits = omega (arith, passed (c .before .before) .room) }
 
 returns-2 : tie.Need-returns-2
 returns-2 c =
@@ -58,4 +58,4 @@ pub add-spec : {M : Type 1} → statement M
 add-spec =
     tie.close
     (tie.spec
-    (λ c κs. search needs) returns nat-of-requires mul-durations array-write-durations add-t8 add-t17 returns-2)
+    (λ c κs. search needs) returns nat-of-requires mul-durations array-write-durations add-sum add-t9 returns-2)

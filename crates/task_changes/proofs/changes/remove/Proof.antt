@@ -32,14 +32,14 @@ element-copy-out-less c = let p = passed c in omega (arith, p .there, p .lawful 
 without-task-requires : tie.Need-without-task-requires
 without-task-requires c κs = (passed (c .before .before .before) .lawful .few, long (c .before .before .before .before .before .before .before))
 
-sub-t8 : tie.Need-sub-t8
-sub-t8 c = omega (arith, passed (c .before .before .before .before) .many)
-
-sub-t17 : tie.Need-sub-t17
-sub-t17 c =
+sub-rest : tie.Need-sub-rest
+sub-rest c =
     let start = c .before .before .before .before .before .before .before .before in
     let p = passed (c .before .before .before .before) in
     part (start .args .t1) (p .lawful) (long start) (start .args .task) (p .there)
+
+sub-t9 : tie.Need-sub-t9
+sub-t9 c = omega (arith, passed (c .before .before .before .before) .many)
 
 returns-2 : tie.Need-returns-2
 returns-2 c =
@@ -52,4 +52,4 @@ pub remove-spec : {M : Type 1} → statement M
 remove-spec =
     tie.close
     (tie.spec
-    (λ c κs. search needs) returns mul-less element-copy-out-less without-task-requires sub-t8 sub-t17 returns-2)
+    (λ c κs. search needs) returns mul-less element-copy-out-less without-task-requires sub-rest sub-t9 returns-2)
