@@ -6,8 +6,9 @@ use mathlib.Core.List.{List}
 use lib.IntN.{ℤ}
 use Rattle.checker.specs.declared.checker.Verdict.{Verdict}
 use Rattle.checker.specs.declared.checker.Verdict.the-variants.{Passed}
-use Rattle.checker.specs.Checks.{checkOf, Checked}
-use Rattle.checker.specs.MirroredChecks.{checkAs, checkMirroredOf, CheckedMirrored}
+use Rattle.checker.specs.Checks.{checkOf}
+use Rattle.checker.specs.MirroredChecks.{checkAs, checkMirroredOf}
+use Rattle.checker.specs.Checked.{Checked, CheckedMirrored}
 use Rattle.checker.proofs.Apart.{verdicts-apart}
 use Rattle.checker.proofs.MirroredRefused.{unjudged-mirrored}
 use Rattle.checker.proofs.Soundness.{check-sound, mirrored-sound, exactly-passed, exactly-mirrored}

@@ -1,18 +1,15 @@
--- The check: its answer for every input, and what Passed means.
-use mathlib.Core.Path.{_≡_}
+-- The check: its answer for every input.
 use mathlib.Core.Bool.{Bool, cond, _&&_}
 use mathlib.Core.List.{List, [], _∷_}
-use mathlib.Core.Logic.{_↔_}
 use mathlib.Core.Option.{Option, some, none}
-use Prim.Native.Nat.{ℕ, zero, suc, _<_}
+use Prim.Native.Nat.{ℕ, zero, suc}
 use lib.Dec.{ltb}
 use lib.IntN.{ℤ, pos}
 use lib.ListN.{length}
-use Rattle.integers.specs.Answers.{answered}
 use Rattle.integers.specs.Tests.{refusal}
-use Rattle.scheduling.specs.Scheduling.{whole, Tasks, Atom, PassesFormula, Contradicts}
+use Rattle.scheduling.specs.Scheduling.{whole, Tasks, Atom}
 use Rattle.scheduling.specs.Words.{atomWords}
-use Rattle.atoms.specs.Atoms.{atomsOf, consequentOf}
+use Rattle.atoms.specs.Atoms.{consequentOf}
 use Rattle.checking.specs.declared.variable_state.VariableState.{VariableState}
 use Rattle.checking.specs.declared.variable_state.Application.the-variants as application
 use Rattle.checking.specs.declared.variable_state.Applied.{Applied}
@@ -22,8 +19,6 @@ use Rattle.records.specs.Records.{durationAt, creationTests}
 use Rattle.formulas.specs.Formulas.{bounded, overloaded, implied}
 use Rattle.checker.specs.declared.checker.Verdict.{Verdict}
 use Rattle.checker.specs.declared.checker.Verdict.the-variants.{Passed, NotPassed, Contradiction, Refused}
-use Rattle.checker.specs.Unjudged.{Unjudged}
-use Rattle.checker.specs.Verdicts.{verdictNumbers}
 
 -- what the formula says
 abbrev pub verdict : Bool → Verdict
@@ -66,11 +61,3 @@ consequentWords (some a) = atomWords (a ∷ [])
 -- the tasks of a check: their durations count, their ranges play no part
 abbrev pub tasksWith : List ℤ → Tasks whole
 tasksWith ds = record { count = length ds; earliest = λ k. pos 0; latest = λ k. pos 0; duration = durationAt ds }
-
--- The check, by the numbers of its answer: where it is refused or finds a contradiction, whose kinds are 3 and 2. Else it is Passed, kind 0, exactly where
--- the premises and the consequent meet the formula; and then no starts contradict it.
-pub record Checked (ds premises consequent : List ℤ) (r : Verdict) : Type 0 where
-  pub answer : verdictNumbers r ≡ verdictNumbers (checkOf ds premises consequent)
-  pub unjudged : Unjudged ds premises consequent (verdictNumbers r)
-  pub exactly : verdictNumbers r .kind < 2 → verdictNumbers r .kind ≡ 0 ↔ PassesFormula (tasksWith ds) (atomsOf premises) (consequentOf consequent)
-  pub sound : verdictNumbers r ≡ answered 0 [] → (s : ℕ → ℤ) → Contradicts (tasksWith ds) (atomsOf premises) (consequentOf consequent) s → ⊥

@@ -1,24 +1,18 @@
 -- The check of a reason of latest starts: the formula is judged in mirrored time, everything else in the caller's.
-use mathlib.Core.Path.{_≡_}
 use mathlib.Core.Bool.{Bool, true, false}
-use mathlib.Core.List.{List, []}
-use mathlib.Core.Logic.{_↔_}
+use mathlib.Core.List.{List}
 use mathlib.Core.Option.{Option, some, none}
-use Prim.Native.Nat.{ℕ, _<_}
+use Prim.Native.Nat.{ℕ}
 use lib.IntN.{ℤ}
-use Rattle.integers.specs.Answers.{answered}
 use Rattle.integers.specs.Tests.{refusal}
-use Rattle.scheduling.specs.Scheduling.{Atom, PassesFormula, Contradicts}
-use Rattle.scheduling.specs.Mirroring.{mirrorAtom, mirrorAtoms}
-use Rattle.atoms.specs.Atoms.{atomsOf, consequentOf}
+use Rattle.scheduling.specs.Scheduling.{Atom}
+use Rattle.scheduling.specs.Mirroring.{mirrorAtom}
 use Rattle.checking.specs.declared.variable_state.VariableState.{VariableState}
 use Rattle.checking.specs.Bounds.{lowerIn, upperIn}
 use Rattle.records.specs.Records.{durationAt, creationTests}
 use Rattle.formulas.specs.StartBounds.{mirrorBound}
 use Rattle.checker.specs.declared.checker.Verdict.{Verdict}
-use Rattle.checker.specs.Verdicts.{verdictNumbers}
-use Rattle.checker.specs.Checks.{judgedBy, checkAfter, tasksWith}
-use Rattle.checker.specs.Unjudged.{Unjudged}
+use Rattle.checker.specs.Checks.{judgedBy, checkAfter}
 
 -- a consequent mirrored, where there is one
 abbrev pub mirrorIfAny : (ℕ → ℕ) → Option Atom → Option Atom
@@ -44,11 +38,3 @@ checkAs mirrored ds premises consequent = checkAfter (judgedAs mirrored ds) (ref
 -- the answer: 1, 2, 5, 7, 6 on the caller's own values; then 21 or a contradiction, atom by atom; then 8; then the formula in mirrored time
 unfoldable pub checkMirroredOf : List ℤ → List ℤ → List ℤ → Verdict
 checkMirroredOf = checkAs true
-
--- The mirrored check's answer, by its numbers: as the check, with the formula in mirrored time.
-pub record CheckedMirrored (ds premises consequent : List ℤ) (r : Verdict) : Type 0 where
-  pub answer : verdictNumbers r ≡ verdictNumbers (checkMirroredOf ds premises consequent)
-  pub unjudged : Unjudged ds premises consequent (verdictNumbers r)
-  pub exactly : verdictNumbers r .kind < 2
-      → verdictNumbers r .kind ≡ 0 ↔ PassesFormula (tasksWith ds) (mirrorAtoms (durationAt ds) (atomsOf premises)) (mirrorIfAny (durationAt ds) (consequentOf consequent))
-  pub sound : verdictNumbers r ≡ answered 0 [] → (s : ℕ → ℤ) → Contradicts (tasksWith ds) (atomsOf premises) (consequentOf consequent) s → ⊥

@@ -15,8 +15,9 @@ ghost use mathlib.Core.Option.{Option};
 ghost use Prim.Native.Nat.{ℕ};
 ghost use lib.IntN.{ℤ};
 ghost use Rattle.atoms.specs.Atoms.{consequentOf};
-ghost use Rattle.checker.specs.Checks.{verdict, judgedBy, Checked};
-ghost use Rattle.checker.specs.MirroredChecks.{checkAs, CheckedMirrored};
+ghost use Rattle.checker.specs.Checked.{Checked, CheckedMirrored};
+ghost use Rattle.checker.specs.Checks.{verdict, judgedBy};
+ghost use Rattle.checker.specs.MirroredChecks.{checkAs};
 ghost use Rattle.checker.specs.CheckArrays.{Judgeable, Consequent};
 
 // The answer: a contradiction names the variable of the first failing atom.

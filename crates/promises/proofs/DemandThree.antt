@@ -14,7 +14,7 @@ use Rattle.scheduling.specs.Scheduling.{whole, Tasks, TaskSet, Largest, Overloa
 use Rattle.post_words.specs.Posts.{taskOf, boundOf}
 use Rattle.records.specs.declared.record.Propagator.{Propagator}
 use Rattle.checker.specs.declared.checker.Verdict.{Verdict}
-use Rattle.checker.specs.Checks.{Checked}
+use Rattle.checker.specs.Checked.{Checked}
 use Rattle.runs.specs.declared.outcome.Outcome.{Outcome}
 use Rattle.runs.specs.Outcomes.{outcomeNumbers, valueOf}
 use Rattle.barred_starts.specs.declared.range.Range.{Range}

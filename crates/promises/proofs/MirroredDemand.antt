@@ -15,7 +15,7 @@ use Rattle.scheduling.specs.Mirroring.{MirroredBound}
 use Rattle.post_words.specs.Posts.{taskOf, boundOf}
 use Rattle.records.specs.declared.record.Propagator.{Propagator}
 use Rattle.checker.specs.declared.checker.Verdict.{Verdict}
-use Rattle.checker.specs.MirroredChecks.{CheckedMirrored}
+use Rattle.checker.specs.Checked.{CheckedMirrored}
 use Rattle.runs.specs.declared.outcome.Outcome.{Outcome}
 use Rattle.runs.specs.Outcomes.{outcomeNumbers, valueOf}
 use Rattle.barred_starts.specs.declared.range.Range.{Range}

@@ -14,7 +14,8 @@ use Rattle.post_words.specs.Posts.{taskWord, taskOf, boundOf, postNumber}
 use Rattle.records.specs.declared.record.Propagator.{Propagator}
 use Rattle.checker.specs.declared.checker.Verdict.{Verdict}
 use Rattle.checker.specs.Verdicts.{verdictNumbers}
-use Rattle.checker.specs.Checks.{Checked, tasksWith, consequentWords}
+use Rattle.checker.specs.Checks.{tasksWith, consequentWords}
+use Rattle.checker.specs.Checked.{Checked}
 use Rattle.runs.specs.declared.outcome.Outcome.{Outcome}
 use Rattle.runs.specs.Outcomes.{outcomeNumbers, valueOf}
 use Rattle.barred_starts.specs.declared.range.Range.{Range}

@@ -14,7 +14,8 @@ use Rattle.post_words.specs.Posts.{taskWord, taskOf, boundOf, postNumber}
 use Rattle.records.specs.declared.record.Propagator.{Propagator}
 use Rattle.checker.specs.declared.checker.Verdict.{Verdict}
 use Rattle.checker.specs.Checks.{consequentWords}
-use Rattle.checker.specs.MirroredChecks.{mirrorIfAny, CheckedMirrored}
+use Rattle.checker.specs.MirroredChecks.{mirrorIfAny}
+use Rattle.checker.specs.Checked.{CheckedMirrored}
 use Rattle.runs.specs.declared.outcome.Outcome.{Outcome}
 use Rattle.runs.specs.Outcomes.{outcomeNumbers, valueOf}
 use Rattle.barred_starts.specs.declared.range.Range.{Range}

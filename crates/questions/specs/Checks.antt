@@ -3,8 +3,7 @@ use mathlib.Core.List.{List}
 use mathlib.Core.Path.{_≡_}
 use lib.IntN.{ℤ}
 use Rattle.checker.specs.declared.checker.Verdict.{Verdict}
-use Rattle.checker.specs.Checks.{Checked}
-use Rattle.checker.specs.MirroredChecks.{CheckedMirrored}
+use Rattle.checker.specs.Checked.{Checked, CheckedMirrored}
 use Rattle.checker.specs.Verdicts.{verdictNumbers}
 use Rattle.answers.specs.declared.call_answers.CheckAnswer.{CheckAnswer}
 use Rattle.answers.specs.Answers.{checkAnswer, NumbersOf}
