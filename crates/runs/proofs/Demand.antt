@@ -1,4 +1,4 @@
--- A run is correct: what its trace leaves is what demand 3 says, for every accepted input and any carried orders.
+-- A run is right: what its trace leaves is what demand 3 says, for every accepted input.
 -- Assumes nothing.
 use mathlib.Core.Path.{_≡_, refl, sym}
 use mathlib.Core.Bool.{true}
