@@ -27,8 +27,8 @@ pub record TwoSided (n : ℕ) (atoms : List Atom) (x : ℕ) : Type 0 where
   pub high : ℤ
   pub greatest : Largest whole (Admits atoms x) high
 
--- The premises and the negated consequent, atom by atom: 21 where one needs a hole too many; else a contradiction where one leaves a variable
--- no value, at the first that does; else 8 where the consequent's variable is no task's, or lacks a bound. No other number is given.
+-- The premises and the negated consequent, atom by atom. The answer is 21 where one needs a hole too many. Else it is a contradiction where one leaves
+-- a variable no value, at the first that does. Else it is 8 where the consequent's variable is no task's, or lacks a bound. No other number is given.
 pub record AtomByAtom (n : ℕ) (atoms : List Atom) (consequent : Option Atom) (a : Answer) : Type 0 where
   pub room : a ≡ refusedBy 21 ↔ NoRoom atoms
   pub contradiction : (NoRoom atoms → ⊥) → (x : ℕ) → a ≡ answered 2 (pos x ∷ []) ↔ EmptiesFirst atoms x

@@ -1,4 +1,4 @@
--- The bounds that the queries answer of an accepted state, and of a prepared one: the least and the greatest value that the atoms admit, near their values.
+-- The bounds that the queries answer of a prepared state: the least and the greatest value that its atoms admit.
 -- Assumes nothing.
 use mathlib.Core.Path.{_≡_, refl, sym, ap, ap₂, _∙_}
 use mathlib.Core.List.{List}

@@ -1,4 +1,4 @@
--- The ect of a set of tasks by the textbook's recurrence: its tasks in the order of earliest starts, each as early as the ones before it let it.
+-- The ect of a set of tasks by the textbook's recurrence: one task after the other, in the order of earliest starts.
 use mathlib.Core.Bool.{cond}
 use mathlib.Core.List.{List, [], _∷_}
 use mathlib.Core.Option.{Option, some, none}

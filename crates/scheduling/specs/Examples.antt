@@ -101,7 +101,7 @@ D-ect = record { holds = record { part = last-two; within = λ k h. refl; start 
         late : f .start ≤ 10
         late = let (k, km, e) = f .est .holds in below-three (λ j. D .earliest j ≡ f .start → f .start ≤ 10) (λ z. omega arith) (λ z. omega arith) (λ z. omega arith) k (km .small) e
 
--- The recurrence waits for task 1, and then does the other; none of the tasks has no ect.
+-- The recurrence waits for the start of the last two; and a set without tasks has no ect.
 D-by-recurrence : (ectOf D all ≡ some 16) × (ectOf D (λ k. false) ≡ none)
 unfolding D sort insert numbers ectAfter
 D-by-recurrence = (refl, refl)
