@@ -4,7 +4,7 @@ use mathlib.Core.Path.{_≡_, subst, _∙_}
 use mathlib.Core.Logic.{_⊎_, inl, inr, ⊎-elim, _↔_}
 use mathlib.Core.List.{List}
 use mathlib.Core.Option.{Option}
-use Prim.Native.Nat.{ℕ, _<_}
+use Prim.Native.Nat.{ℕ, suc, _-_, _<_}
 use native.Mathlib.Omega.{arith}
 use lib.IntN.{ℤ, pos}
 use lib.ListN.{getD}
@@ -57,8 +57,15 @@ module _ (before : Propagator) (ranges : List Range) (answer : Outcome) (ranges�
         λ x. (let (j, small, is) = x in subst (λ (i : ℕ). (b : ℤ) × EdgeFindingBound J i b × (J .earliest i <ℤ b)) is (boundOf posts j, d .at-largest j small .holds, d .raises j small)),
       )
 
+  -- a post stays in its range unless it is the last of an emptied run
+  failing : (j : ℕ) → j < made → (kind ≡ 2) × (suc j ≡ made) → boundOf posts j ≤ℤ J .latest (taskOf posts j) → ⊥
+  failing j q y h = omega (ints, p .above j q .1 y, h)
+
+  stays-in : (j : ℕ) → j < made → ((kind ≡ 2) × (suc j ≡ made) → ⊥) → boundOf posts j ≤ℤ J .latest (taskOf posts j)
+  stays-in j q n = ⊎-elim (λ y. y) (λ y. absurd (n (p .above j q .0 y))) (≤ℤ-cases (boundOf posts j) (J .latest (taskOf posts j)))
+
   good : (words : List ℤ) (consequent : Option Atom) → Reason before ranges answer ranges′ posts atoms words consequent → GoodReason before ranges words consequent
-  good words consequent r = record { holds = r .holds; passes = λ v checked. checked .answer ∙ r .passes }
+  good words consequent r = record { holds = r .holds; formula = r .formula; passes = λ v checked. checked .answer ∙ r .passes }
 
   said : DemandThree before ranges answer ranges′ posts atoms
   said = record {
@@ -70,6 +77,9 @@ module _ (before : Propagator) (ranges : List Range) (answer : Outcome) (ranges�
     at-largest = λ z. p .when-done z .done .at-largest;
     no-others = λ j q. (let a = p .every-post j q in (a .names, a .small, a .edge, a .raises));
     no-schedule = λ f. p .otherwise (λ z. ⊎-elim (λ e. omega arith) (λ e. omega arith) f);
+    emptied = λ e. (made - 1, omega (arith, p .emptied e), p .above (made - 1) (omega (arith, p .emptied e)) .1 (e, omega (arith, p .emptied e)));
+    kept = λ j q n. p .stands j q (stays-in j q n);
+    others = λ k q n. p .stays k q (λ j r h. n j r (λ y. failing j r y h));
     posts-hold = λ j q. p .every-post j q .holds;
     posts-hold-permitted = λ j q. p .every-post j q .holds-permitted;
     read = λ j q. p .every-post j q .read;

@@ -3,12 +3,12 @@ use mathlib.Core.Path.{_≡_}
 use mathlib.Core.Logic.{_⊎_, _↔_}
 use mathlib.Core.List.{List, [], map}
 use mathlib.Core.Option.{Option, some, none}
-use Prim.Native.Nat.{ℕ, _+_, _*_, _≤_, _<_}
+use Prim.Native.Nat.{ℕ, suc, _+_, _*_, _≤_, _<_}
 use lib.IntN.{ℤ, pos}
 use lib.ListN.{length, getD, take}
 use lib.Signed.{_≤ℤ_, _<ℤ_}
 use Rattle.integers.specs.Answers.{answered}
-use Rattle.scheduling.specs.Scheduling.{whole, Tasks, TaskSet, Largest, Overloads, EdgeFindingBound, Schedule, Atom, HoldsAtEntry, Contradicts}
+use Rattle.scheduling.specs.Scheduling.{whole, Tasks, TaskSet, Largest, Overloads, EdgeFindingBound, Schedule, Atom, HoldsAtEntry, PassesFormula, Contradicts}
 use Rattle.atoms.specs.Atoms.{atomsOf, consequentOf}
 use Rattle.post_words.specs.Posts.{taskWord, taskOf, boundOf, postNumber}
 use Rattle.records.specs.declared.record.Propagator.{Propagator}
@@ -38,6 +38,8 @@ PassedMeans ds premises consequent v = Passed v → (s : ℕ → ℤ) → Contra
 pub record GoodReason (tasks : Propagator) (ranges : List Range) (words : List ℤ) (consequent : Option Atom) : Type 0 where
   -- It holds at entry.
   pub holds : HoldsAtEntry (tasksLent tasks ranges) (atomsOf words)
+  -- It meets the checker's formula over premises.
+  pub formula : PassesFormula (tasksLent tasks ranges) (atomsOf words) consequent
   -- It passes the checker: the open check answers Passed for the record's durations, the words as premises and the atom as consequent.
   pub passes : (v : Verdict) → Checked (map pos (take (tasks .count) (tasks .durations))) words (consequentWords consequent) v → Passed v
 
@@ -80,6 +82,11 @@ module _ (before : Propagator) (ranges : List Range) (answer : Outcome) (ranges�
     pub no-others : (j : ℕ) → j < made → (taskWord posts j ≡ pos (task j)) × (task j < J .count) × EdgeFindingBound J (task j) (bound j) × (J .earliest (task j) <ℤ bound j)
     -- An overload or an emptied range means that no schedule exists.
     pub no-schedule : (kind ≡ 1) ⊎ (kind ≡ 2) → (s : ℕ → ℤ) → Schedule J s → ⊥
+    -- Emptied is a post above the latest start: the last one.
+    pub emptied : kind ≡ 2 → (j : ℕ) × (suc j ≡ made) × (J .latest (task j) <ℤ bound j)
+    -- Every outcome keeps the starts raised by the posts before it, and leaves the others.
+    pub kept : (j : ℕ) → j < made → ((kind ≡ 2) × (suc j ≡ made) → ⊥) → FirstPermitted (getD ranges (task j) anyRange) (bound j) (getD (earliests ranges′) (task j) (pos 0))
+    pub others : (k : ℕ) → k < J .count → ((j : ℕ) → j < made → ((kind ≡ 2) × (suc j ≡ made) → ⊥) → task j ≡ k → ⊥) → getD (earliests ranges′) k (pos 0) ≡ J .earliest k
     -- Whatever the outcome, every post holds in all schedules, those of permitted starts too.
     pub posts-hold : (j : ℕ) → j < made → (s : ℕ → ℤ) → Schedule J s → bound j ≤ℤ s (task j)
     pub posts-hold-permitted : (j : ℕ) → j < made → (s : ℕ → ℤ) → PermittedSchedule J ranges s → bound j ≤ℤ s (task j)

@@ -3,7 +3,7 @@ use mathlib.Core.Path.{_≡_}
 use mathlib.Core.Logic.{_⊎_, _↔_}
 use mathlib.Core.List.{List, map}
 use mathlib.Core.Option.{Option, some, none}
-use Prim.Native.Nat.{ℕ, _+_, _*_, _≤_, _<_}
+use Prim.Native.Nat.{ℕ, suc, _+_, _*_, _≤_, _<_}
 use lib.IntN.{ℤ, pos}
 use lib.ListN.{length, getD, take}
 use lib.Signed.{_≤ℤ_, _<ℤ_}
@@ -71,6 +71,11 @@ module _ (before : Propagator) (ranges : List Range) (answer : Outcome) (ranges�
     pub no-others : (j : ℕ) → j < made → (taskWord posts j ≡ pos (task j)) × (task j < J .count) × MirroredBound J (task j) (bound j) × (bound j <ℤ J .latest (task j))
     -- An overload or an emptied range means that no schedule exists.
     pub no-schedule : (kind ≡ 1) ⊎ (kind ≡ 2) → (s : ℕ → ℤ) → Schedule J s → ⊥
+    -- Emptied is a post below the earliest start: the last one.
+    pub emptied : kind ≡ 2 → (j : ℕ) × (suc j ≡ made) × (bound j <ℤ J .earliest (task j))
+    -- Every outcome keeps the starts lowered by the posts before it, and leaves the others.
+    pub kept : (j : ℕ) → j < made → ((kind ≡ 2) × (suc j ≡ made) → ⊥) → LastPermitted (getD ranges (task j) anyRange) (bound j) (getD (latests ranges′) (task j) (pos 0))
+    pub others : (k : ℕ) → k < J .count → ((j : ℕ) → j < made → ((kind ≡ 2) × (suc j ≡ made) → ⊥) → task j ≡ k → ⊥) → getD (latests ranges′) k (pos 0) ≡ J .latest k
     -- Whatever the outcome, every post holds in all schedules, those of permitted starts too.
     pub posts-hold : (j : ℕ) → j < made → (s : ℕ → ℤ) → Schedule J s → s (task j) ≤ℤ bound j
     pub posts-hold-permitted : (j : ℕ) → j < made → (s : ℕ → ℤ) → PermittedSchedule J ranges s → s (task j) ≤ℤ bound j
