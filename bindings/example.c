@@ -26,6 +26,7 @@ static void empty_slices(reedgrit_propagator *three) {
     assert(reedgrit_post(NULL, 0, NULL, 0, 1, 0).number == REEDGRIT_REFUSED_POST);
     assert(reedgrit_overload_test(three, NULL, 0).number == REEDGRIT_REFUSED_RANGE_COUNT);
     assert(reedgrit_precedences(three, NULL, 0).number == REEDGRIT_REFUSED_RANGE_COUNT);
+    assert(reedgrit_precedence_bound(three, NULL, 0, 0).number == REEDGRIT_REFUSED_RANGE_COUNT);
     assert(reedgrit_precedence_reason(three, NULL, 0, 0, NULL, 0).number == REEDGRIT_REFUSED_RANGE_COUNT);
     assert(reedgrit_page(three, NULL, 0, NULL, 0).number == REEDGRIT_REFUSED_RANGE_COUNT);
     assert(reedgrit_charges(three, NULL, 0, NULL, 0).number == REEDGRIT_REFUSED_RANGE_COUNT);
@@ -104,23 +105,29 @@ static void latest_starts(void) {
     assert(reedgrit_check(durations, 3, atoms + why.first_word, why.word_count, at_most, 3).kind == REEDGRIT_NOT_PASSED);
 }
 
-/* Precedences: the reason of a bound is asked before the pass, which stores the bound; a pass that empties a range changes none. */
+/* Precedences: a bound and its reason are asked before the pass, which stores the bound; a pass that empties a range changes none. */
 static void precedences(void) {
     const int32_t durations[] = {3, 5};
     int32_t reason[REEDGRIT_REASON_WORDS(2)];
     reedgrit_new two = reedgrit_create(durations, 2);
     reedgrit_range pair[] = {from_to(0, 6), from_to(1, 1)};
+    reedgrit_start_answer bound = reedgrit_precedence_bound(&two.propagator, pair, 2, 0);
+    assert(bound.kind == REEDGRIT_BOUND_ABOVE && bound.start == 6);
+    assert(reedgrit_precedence_bound(&two.propagator, pair, 2, 1).kind == REEDGRIT_NO_BOUND_ABOVE);
+    assert(reedgrit_precedence_bound(&two.propagator, pair, 2, 2).number == REEDGRIT_REFUSED_TASK);
     reedgrit_count_answer why = reedgrit_precedence_reason(&two.propagator, pair, 2, 0, reason, REEDGRIT_REASON_WORDS(2));
     assert(why.kind == REEDGRIT_REASON_WRITTEN && why.count == 3);
     printf("by precedences\n");
     print_reason(reason, 3 * why.count);
     assert(reedgrit_precedences(&two.propagator, pair, 2).kind == REEDGRIT_PRECEDENCES_DONE && pair[0].earliest == 6);
+    assert(reedgrit_precedence_bound(&two.propagator, pair, 2, 0).kind == REEDGRIT_NO_BOUND_ABOVE);
     assert(reedgrit_precedence_reason(&two.propagator, pair, 2, 0, reason, REEDGRIT_REASON_WORDS(2)).count == 0);
     assert(reedgrit_precedence_reason(&two.propagator, pair, 2, 2, reason, REEDGRIT_REASON_WORDS(2)).number == REEDGRIT_REFUSED_TASK);
 
     reedgrit_range tight[] = {from_to(0, 5), from_to(1, 1)};
     reedgrit_count_answer emptied = reedgrit_precedences(&two.propagator, tight, 2);
     assert(emptied.kind == REEDGRIT_PRECEDENCES_EMPTIED && emptied.count == 0 && tight[0].earliest == 0);
+    assert(reedgrit_precedence_bound(&two.propagator, tight, 2, emptied.count).start == 6); /* above the latest start */
 }
 
 /* Tasks added and taken off, and what can be asked about a fixed schedule. */

@@ -153,8 +153,9 @@ typedef struct {
     size_t count;
 } reedgrit_count_answer;
 
-/* The kind of a task added or taken off, and those of the other calls on a fixed schedule. */
+/* The kind of a task added or taken off, those of a task's bound by precedences, and those of the other calls on a fixed schedule. */
 enum { REEDGRIT_CHANGED = 0 };
+enum { REEDGRIT_BOUND_ABOVE = 0, REEDGRIT_NO_BOUND_ABOVE = 1 };
 enum { REEDGRIT_CHARGED = 0 };
 enum { REEDGRIT_START_FOUND = 0 };
 enum { REEDGRIT_STRETCH_FOUND = 0 };
@@ -243,6 +244,13 @@ reedgrit_change_answer reedgrit_remove(reedgrit_propagator *propagator, size_t t
  * barred start goes on to the next permitted one. REEDGRIT_PRECEDENCES_EMPTIED: a bound passes its task's latest start, so that there is no
  * schedule. The count is then the number of the lowest such task, and no range has changed. Refuses by 20, 10, 3, 4, 13. */
 reedgrit_count_answer reedgrit_precedences(const reedgrit_propagator *propagator, reedgrit_range *ranges, size_t range_count);
+
+/* A task's bound by precedences, where it is above the earliest start: REEDGRIT_BOUND_ABOVE, with the bound as the start, which may pass the
+ * latest start. REEDGRIT_NO_BOUND_ABOVE: no task must come before it, or the bound raises nothing. A bound is told exactly where
+ * reedgrit_precedence_reason has atoms, and these imply that the task starts at it or later; so it is asked before the pass, too. Barred
+ * starts change no answer. Refuses by 20, 10, 3, 4, 13, 17. */
+reedgrit_start_answer reedgrit_precedence_bound(const reedgrit_propagator *propagator, const reedgrit_range *ranges, size_t range_count,
+                                                size_t task);
 
 /* The reason of a task's bound by precedences, three words to an atom: the task's earliest start, then both bounds of each task that must
  * come before it. In every schedule that meets it the task starts at the bound or later. The count is that of its atoms, 0 where the bound

@@ -1,4 +1,4 @@
-//! The pass by precedences, and the reason of one bound of it.
+//! The pass by precedences, one bound of it, and the reason of that bound.
 use crate::{Atom, Propagator, Range, Refused, raw};
 use std::fmt;
 
@@ -27,6 +27,30 @@ impl Propagator {
         match answer.kind {
             0 => Ok(Precedences::Done),
             1 => Ok(Precedences::Emptied(answer.count)),
+            _ => Err(Refused::of(answer.number, &[], ranges)),
+        }
+    }
+
+    /// A task's bound by precedences, where it is above the earliest start; it may pass the latest start. None where no task must come before it, or
+    /// the bound raises nothing; so it is asked before the pass, which stores the bounds. There is one exactly where
+    /// [`precedence_reason`](Propagator::precedence_reason) has atoms, and these imply it. Barred starts do not change it.
+    ///
+    /// ```
+    /// use reedgrit::{Propagator, Range};
+    /// let propagator = Propagator::new(&[3, 5])?;
+    /// assert_eq!(propagator.precedence_bound(&[Range::new(0, 6), Range::new(1, 1)], 0)?, Some(6));
+    /// assert_eq!(propagator.precedence_bound(&[Range::new(0, 5), Range::new(1, 1)], 0)?, Some(6));
+    /// assert_eq!(propagator.precedence_bound(&[Range::new(6, 9), Range::new(1, 1)], 0)?, None);
+    /// # Ok::<(), reedgrit::Refused>(())
+    /// ```
+    ///
+    /// # Errors
+    /// [`Refused::RangeCount`], [`Refused::Start`], [`Refused::Crossed`], [`Refused::Bars`], [`Refused::Task`].
+    pub fn precedence_bound(&self, ranges: &[Range], task: usize) -> Result<Option<i32>, Refused> {
+        let answer = raw::precedence_bound(&self.record, ranges, task);
+        match answer.kind {
+            0 => Ok(Some(answer.start)),
+            1 => Ok(None),
             _ => Err(Refused::of(answer.number, &[], ranges)),
         }
     }

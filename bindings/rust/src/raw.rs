@@ -133,6 +133,7 @@ unsafe extern "C" {
     fn reedgrit_add(record: *mut Record, duration: i32) -> ChangeAnswer;
     fn reedgrit_remove(record: *mut Record, task: usize) -> ChangeAnswer;
     fn reedgrit_precedences(record: *const Record, ranges: *mut Range, range_count: usize) -> CountAnswer;
+    fn reedgrit_precedence_bound(record: *const Record, ranges: *const Range, range_count: usize, task: usize) -> StartAnswer;
     fn reedgrit_precedence_reason(
         record: *const Record,
         ranges: *const Range, range_count: usize,
@@ -274,6 +275,11 @@ pub(crate) fn precedences(record: &Record, ranges: &mut [Range]) -> CountAnswer 
     unsafe { reedgrit_precedences(record, ranges.as_mut_ptr(), ranges.len()) }
 }
 
+pub(crate) fn precedence_bound(record: &Record, ranges: &[Range], task: usize) -> StartAnswer {
+    // SAFETY: as the module says.
+    unsafe { reedgrit_precedence_bound(record, ranges.as_ptr(), ranges.len(), task) }
+}
+
 pub(crate) fn precedence_reason(record: &Record, ranges: &[Range], task: usize, reason: &mut [i32]) -> CountAnswer {
     // SAFETY: as the module says.
     unsafe { reedgrit_precedence_reason(record, ranges.as_ptr(), ranges.len(), task, reason.as_mut_ptr(), reason.len()) }
@@ -364,6 +370,7 @@ mod tests {
         );
         assert_eq!(overload_test(&broken, &ranges), refused);
         assert_eq!(precedences(&broken, &mut ranges), refused);
+        assert_eq!(precedence_bound(&broken, &ranges, 0), StartAnswer { kind: 3, number: 20, start: 0 });
         assert_eq!(precedence_reason(&broken, &ranges, 0, &mut atoms), refused);
         assert_eq!(page(&broken, &ranges, &mut page_bytes), refused);
         assert_eq!((charges(&broken, &ranges, &[0; 3]).kind, charges(&broken, &ranges, &[0; 3]).number), (3, 20));

@@ -125,6 +125,7 @@ fn a_pass_by_precedences_goes_on_to_permitted_starts() {
             assert_eq!((after[task].earliest, after[task].latest), (start, range.latest));
             moved += usize::from(start != plain[task].earliest);
             let (mut words, mut plain_words) = ([0; 30], [0; 30]);
+            assert_eq!(propagator.precedence_bound(&ranges, task), propagator.precedence_bound(&without_bars(&ranges), task));
             assert_eq!(
                 propagator.precedence_reason(&ranges, task, &mut words),
                 propagator.precedence_reason(&without_bars(&ranges), task, &mut plain_words)
@@ -172,9 +173,9 @@ fn unfit() -> [Range; 5] {
     [at.barred(&(30..47).collect::<Vec<_>>()), at.barred(&[4, 4]), at.barred(&[3, 5, 4]), at.barred(&[0]), at.barred(&[-1, 7, 20])]
 }
 
-/// What run, mirrored pass, overload test, pass by precedences and its reason say to the ranges, with so many words for each; nothing lent
-/// changes.
-fn refusals(ranges: &[Range], posts: usize, atoms: usize, task: usize) -> [Option<Refused>; 5] {
+/// What run, mirrored pass, overload test, pass by precedences, a bound of it and its reason say to the ranges, with so many words for each;
+/// nothing lent changes.
+fn refusals(ranges: &[Range], posts: usize, atoms: usize, task: usize) -> [Option<Refused>; 6] {
     let mut propagator = Propagator::new(&DURATIONS).unwrap();
     let mut lent = ranges.to_vec();
     let (mut post_words, mut atom_words) = (vec![7; posts], vec![8; atoms]);
@@ -183,6 +184,7 @@ fn refusals(ranges: &[Range], posts: usize, atoms: usize, task: usize) -> [Optio
         propagator.run_mirrored_on(&mut lent, &mut post_words, &mut atom_words).err(),
         propagator.overload_test(&lent).err(),
         propagator.precedences(&mut lent).err(),
+        propagator.precedence_bound(&lent, task).err(),
         propagator.precedence_reason(&lent, task, &mut atom_words).err(),
     ];
     assert_eq!(lent, ranges);
@@ -195,13 +197,13 @@ fn refusals(ranges: &[Range], posts: usize, atoms: usize, task: usize) -> [Optio
 fn thirteen_has_its_place() {
     for bad in unfit() {
         // 13 comes before 9, and before 17 and 16; the lowest task of several is named
-        assert_eq!(refusals(&[RANGES[0], RANGES[1], bad], 12, 54, 0), [Some(Refused::Bars(2)); 5]);
-        assert_eq!(refusals(&[RANGES[0], bad, bad], 0, 0, 3), [Some(Refused::Bars(1)); 5]);
+        assert_eq!(refusals(&[RANGES[0], RANGES[1], bad], 12, 54, 0), [Some(Refused::Bars(2)); 6]);
+        assert_eq!(refusals(&[RANGES[0], bad, bad], 0, 0, 3), [Some(Refused::Bars(1)); 6]);
         // 10, 3 and 4 come before it
-        assert_eq!(refusals(&[bad, bad], 0, 0, 3), [Some(Refused::RangeCount); 5]);
-        assert_eq!(refusals(&[bad; 49], 0, 0, 3), [Some(Refused::RangeCount); 5]);
-        assert_eq!(refusals(&[bad, RANGES[1], Range::new(0, 400_000_001)], 0, 0, 3), [Some(Refused::Start(2)); 5]);
-        assert_eq!(refusals(&[bad, RANGES[1], Range::new(1, 0)], 0, 0, 3), [Some(Refused::Crossed(2)); 5]);
+        assert_eq!(refusals(&[bad, bad], 0, 0, 3), [Some(Refused::RangeCount); 6]);
+        assert_eq!(refusals(&[bad; 49], 0, 0, 3), [Some(Refused::RangeCount); 6]);
+        assert_eq!(refusals(&[bad, RANGES[1], Range::new(0, 400_000_001)], 0, 0, 3), [Some(Refused::Start(2)); 6]);
+        assert_eq!(refusals(&[bad, RANGES[1], Range::new(1, 0)], 0, 0, 3), [Some(Refused::Crossed(2)); 6]);
     }
     assert_eq!(Refused::Bars(2).number(), 13);
     let text = "refused 13: barred starts that are more than 16, do not ascend, or have an end of their range among them (task 2)";

@@ -106,6 +106,54 @@ fn the_overload_test_is_over_all_sets() {
     }
 }
 
+/// The bound of one task over all sets of those that must come before it, where it is above the earliest start.
+fn bound(durations: &[i32], ranges: &[Range], task: usize) -> Option<i32> {
+    let end = ranges[task].earliest + durations[task];
+    let before: Vec<usize> = (0..durations.len()).filter(|j| *j != task && ranges[*j].latest < end).collect();
+    let completion = |set: u32| {
+        let tasks = || before.iter().enumerate().filter(move |(k, _)| set >> k & 1 == 1).map(|(_, j)| *j);
+        tasks().map(|j| ranges[j].earliest).min().unwrap() + tasks().map(|j| durations[j]).sum::<i32>()
+    };
+    (1u32..1 << before.len()).map(completion).max().filter(|ect| *ect > ranges[task].earliest)
+}
+
+#[test]
+fn a_bound_is_that_of_all_sets_before_the_task() {
+    let mut numbers = Numbers(15);
+    let (mut found, mut past) = (0, 0);
+    for _ in 0..2000 {
+        let (durations, ranges) = numbers.instance();
+        let propagator = Propagator::new(&durations).unwrap();
+        let starts = schedules(&durations, &ranges);
+        for task in 0..durations.len() {
+            let told = propagator.precedence_bound(&ranges, task).unwrap();
+            assert_eq!(told, bound(&durations, &ranges, task));
+            let mut words = vec![0; 6 * durations.len()];
+            let reason = propagator.precedence_reason(&ranges, task, &mut words).unwrap();
+            assert_eq!(told.is_some(), !reason.is_empty());
+            let Some(bound) = told else { continue };
+            found += 1;
+            past += usize::from(bound > ranges[task].latest);
+            assert!(starts.iter().all(|starts| starts[task] >= bound));
+            // no starts meet the reason and the opposite of the bound, whatever the other tasks do
+            let both = |j: &usize| [Atom::at_least(*j, ranges[*j].earliest), Atom::at_most(*j, ranges[*j].latest)];
+            let before: Vec<usize> = (0..durations.len()).filter(|j| *j != task && both(j).iter().all(|atom| reason.contains(atom))).collect();
+            let mut lasting: Vec<i32> = before.iter().map(|j| durations[*j]).collect();
+            let mut reached: Vec<Range> = before.iter().map(|j| ranges[*j]).collect();
+            assert!(reason.contains(&Atom::at_least(task, ranges[task].earliest)));
+            lasting.push(durations[task]);
+            reached.push(Range::new(ranges[task].earliest, bound - 1));
+            assert!(schedules(&lasting, &reached).is_empty());
+        }
+    }
+    assert!(found > 500 && past > 100, "{found} {past}");
+    let propagator = Propagator::new(&[3, 5]).unwrap();
+    let ranges = [Range::new(0, 6), Range::new(1, 1)];
+    assert_eq!(propagator.precedence_bound(&ranges, 2), Err(Refused::Task));
+    assert_eq!(propagator.precedence_bound(&ranges, usize::MAX), Err(Refused::Task));
+    assert_eq!(propagator.precedence_bound(&ranges[..1], 2), Err(Refused::RangeCount));
+}
+
 #[test]
 fn precedences_hold_in_all_schedules() {
     let mut numbers = Numbers(3);

@@ -1,6 +1,7 @@
-// The open calls, all in one place: creation, a task added or taken off, the run, the mirrored pass, the pass by precedences and the reason of one task's bound, the overload test, the post reader, the check and the mirrored check, the page, the charges, the earliest free start, the busiest stretch, and the calls of the variable state. None has a `requires`. With each call come the types of what it takes and answers.
+// The open calls, all in one place: creation, a task added or taken off, the run, the mirrored pass, the pass by precedences, one task's bound and its reason, the overload test, the post reader, the check and the mirrored check, the page, the charges, the earliest free start, the busiest stretch, and the calls of the variable state. None has a `requires`. With each call come the types of what it takes and answers.
 pub mod ranges;
 
+pub use crate::ranges::by_precedence::precedence_bound;
 pub use crate::ranges::by_precedence::precedence_reason;
 pub use crate::ranges::by_precedence::precedences;
 pub use crate::ranges::of_fixed_schedules::busiest_stretch;
@@ -29,6 +30,7 @@ pub use overload_test::overload_test::Overload;
 pub use pages::answer::Page;
 pub use post_words::posts::post_number;
 pub use post_words::posts::post_reason;
+pub use precedence_reasons::answer::BoundAbove;
 pub use precedence_reasons::answer::Reason;
 pub use precedences::answers::Precedences;
 pub use records::record::Created;

@@ -8,7 +8,7 @@ use mathlib.Core.Option.{Option}
 use Prim.Native.Nat.{ℕ, _+_, _*_, _≤_, _<_}
 use native.Mathlib.Omega.{arith}
 use lib.IntN.{ℤ, pos}
-use lib.Signed.{_≤ℤ_, clashℤ}
+use lib.Signed.{_≤ℤ_}
 use lib.ListN.{length, getD, replicate}
 use borrow.Author.Tests.{eq-eqb}
 use lib.Seq.{sets}
@@ -32,14 +32,16 @@ use Rattle.input_refusals.specs.Refusals.{AcceptedInput}
 use Rattle.input_refusals.proofs.Accepting.{count, proper-whole, above}
 use Rattle.predecessors.specs.Predecessors.{predecessors, AllBefore, PrecedenceBound}
 use Rattle.predecessors.specs.TaskArrays.{startAt, precedesAt, comesBefore, boundAt, Ranged}
-use Rattle.predecessors.proofs.Bounding.{high, same-tasks, raises, raises-not}
+use Rattle.predecessors.proofs.Bounding.{high, same-tasks}
 use Rattle.predecessors.proofs.Ranging.{chosen}
 use Rattle.predecessors.proofs.Soundness.{all-before, bound-holds}
 use Rattle.precedence_reasons.specs.declared.answer.Reason.{Reason}
 use Rattle.precedence_reasons.specs.declared.answer.Reason.the-variants.{Written}
 use Rattle.precedence_reasons.specs.Numbers.{reasonNumbers}
-use Rattle.precedence_reasons.specs.Reasons.{atLeast, atMost, bothOf, bothBounds, reasonOf, Raises, Explained, AcceptedReason, reasonNumber, ReasonGiven}
+use Rattle.precedence_reasons.specs.Bounds.{Raises}
+use Rattle.precedence_reasons.specs.Reasons.{atLeast, atMost, bothOf, bothBounds, reasonOf, Explained, AcceptedReason, reasonNumber, ReasonGiven}
 use Rattle.precedence_reasons.specs.TaskArrays.{memberAt, reasonAt, ReasonLeft}
+use Rattle.precedence_reasons.proofs.Raising.{from-start, among, raises-yes, raises-no}
 use Rattle.precedence_reasons.proofs.Members.{both-none, fewer, every-member, member-every, both-same}
 
 -- one atom in the slice
@@ -92,6 +94,10 @@ module _ (J : Tasks whole) (i : ℕ) (q : i < J .count) where
       → (Raises J i → (reasonNumbers r ≡ answered 0 (pos (length (reasonOf J i)) ∷ [])) × (ws′ ≡ overwritten ws (atomWords (reasonOf J i)))) → ((Raises J i → ⊥) → (reasonNumbers r ≡ answered 0 (pos 0 ∷ [])) × (ws′ ≡ ws)) → Explained J i ws r ws′
   explained lasts ws r ws′ w n = record { written = w; nothing = n; few = few; holds = holds; before = λ s c. first s c; sound = λ b e s c. c .consequent-not (bounded s c lasts b e) }
 
+-- where the bound raises nothing
+pub nothing-left : {n : ℕ} {est lst durations : List ℕ} (f : Ranged n est lst durations) (i : ℕ) → i < n → {l : List ℤ} → exceeds (boundAt (f .J) i) (getD est i 0) ≡ false → ReasonLeft (f .J) i l 0 l
+nothing-left f i q h = record { written = λ k. clash k (from-start f i q h); nothing = λ _. (refl, refl) }
+
 -- The atoms that the arrays give.
 module _ {n : ℕ} {est lst durations : List ℕ} (f : Ranged n est lst durations) (i : ℕ) (q : i < n) {before : List Bool} (e : before ≡ filled (precedesAt est lst durations i) n (replicate TASKS false)) where
   abbrev N : Tasks natural
@@ -109,10 +115,6 @@ module _ {n : ℕ} {est lst durations : List ℕ} (f : Ranged n est lst duration
   pub members-fit : (size : ℕ) → 6 * n ≤ size → 3 * (1 + length (bothBounds (startAt est) (startAt lst) (memberAt before) n)) ≤ size
   members-fit size h = omega (arith, fewer (startAt est) (startAt lst) (memberAt before) i n q own-out)
 
-  -- the test of the array's start
-  from-start : {b : Bool} → exceeds (boundAt (f .J) i) (getD est i 0) ≡ b → exceeds (boundAt (f .J) i) (N .earliest i) ≡ b
-  from-start h = ap (exceeds (boundAt (f .J) i)) (sym (f .held .start i q)) ∙ h
-
   pub reason-left : {l m o : List ℤ} {r : ℕ} → exceeds (boundAt (f .J) i) (getD est i 0) ≡ true → m ≡ sets l (3 * 0) (pos i ∷ pos 0 ∷ instant zeroAt (getD est i 0) ∷ [])
       → Stored m o 1 r (bothBounds (startAt est) (startAt lst) (memberAt before) n) → ReasonLeft (f .J) i l r o
   reason-left {l} {m} {o} {r} h p t =
@@ -121,11 +123,8 @@ module _ {n : ℕ} {est lst durations : List ℕ} (f : Ranged n est lst duration
       record {
         written = λ _. subst (λ (x : ℤ). Stored l o 0 r (atLeast i x ∷ bothBounds (λ k. instant zeroAt (N .earliest k)) (λ k. instant zeroAt (N .latest k)) (comesBefore N i) (N .count))) own
             (subst (λ (xs : List Atom). Stored l o 0 r (atLeast i (instant zeroAt (getD est i 0)) ∷ xs)) members-are s);
-        nothing = λ k. clash (from-start h) k;
+        nothing = λ k. clash (from-start f i q h) k;
       }
-
-  pub nothing-left : {l : List ℤ} → exceeds (boundAt (f .J) i) (getD est i 0) ≡ false → ReasonLeft (f .J) i l 0 l
-  nothing-left h = record { written = λ k. clash k (from-start h); nothing = λ _. (refl, refl) }
 
 -- The accepted call.
 module _ (r : Propagator) (es ls : List ℤ) (a : AcceptedInput r es ls) (long : length (r .durations) ≡ TASKS) (i : ℕ) where
@@ -139,7 +138,7 @@ module _ (r : Propagator) (es ls : List ℤ) (a : AcceptedInput r es ls) (long :
   gave ws ws′ c b left = explained Z i q (proper-whole r es ls a long .lasts) ws (Written c) ws′ written nothing
     where
       q : i < Z .count
-      q = omega (arith, count r es ls a long, b .small)
+      q = among r es ls a long i (b .small)
 
       same-reason : reasonAt M i ≡ reasonOf Z i
       same-reason =
@@ -162,12 +161,12 @@ module _ (r : Propagator) (es ls : List ℤ) (a : AcceptedInput r es ls) (long :
       written : Raises Z i → (answered 0 (pos c ∷ []) ≡ answered 0 (pos (length (reasonOf Z i)) ∷ [])) × (ws′ ≡ overwritten ws (atomWords (reasonOf Z i)))
       written w = elim (bool (exceeds (boundAt M i) (M .earliest i))) [
         | inl h ↦ stands h
-        | inr h ↦ absurd (clashℤ (w .above) (raises-not Z (proper-whole r es ls a long) (above r es ls a long) i q h (w .bound) (w .is-bound)))
+        | inr h ↦ absurd (raises-no r es ls a long i (b .small) h w)
       ]
 
       nothing : (Raises Z i → ⊥) → (answered 0 (pos c ∷ []) ≡ answered 0 (pos 0 ∷ [])) × (ws′ ≡ ws)
       nothing no-raise = elim (bool (exceeds (boundAt M i) (M .earliest i))) [
-        | inl h ↦ (let w = raises Z (proper-whole r es ls a long) (above r es ls a long) i q h in absurd (no-raise (record { bound = w .0; is-bound = w .1; above = w .2 })))
+        | inl h ↦ absurd (no-raise (raises-yes r es ls a long i (b .small) h))
         | inr h ↦ (let w = left .nothing h in (ap (λ (n : ℕ). reasonNumbers (Written n)) (w .0), w .1))
       ]
 

@@ -1,4 +1,4 @@
--- More ranges than any record has tasks are refused as none are, by the reason's call.
+-- More ranges than any record has tasks are refused as none are, by each call on one bound.
 -- Assumes nothing.
 use mathlib.Core.Path.{sym, ap, _∙_}
 use mathlib.Core.Bool.{Bool}
@@ -11,7 +11,10 @@ use Rattle.integers.specs.Limits.{TASKS}
 use Rattle.records.specs.declared.record.Propagator.{Propagator}
 use Rattle.input_refusals.proofs.Refused.{input-many}
 use Rattle.precedence_reasons.specs.declared.answer.Reason.{Reason}
+use Rattle.precedence_reasons.specs.declared.answer.BoundAbove.{BoundAbove}
+use Rattle.precedence_reasons.specs.Bounds.{BoundGiven}
 use Rattle.precedence_reasons.specs.Reasons.{ReasonGiven}
+use Rattle.precedence_reasons.proofs.BoundAnswers.{bound-refused}
 use Rattle.precedence_reasons.proofs.Explaining.{is-refused}
 
 pub too-many-reason : (before : Propagator) (es ls : List ℤ) (bars bars′ : Bool) (task : ℕ) (ws : List ℤ) (r : Reason) (ws′ : List ℤ) → TASKS < length es
@@ -20,3 +23,8 @@ too-many-reason before es ls bars bars′ task ws r ws′ many a =
     let (same, not) = input-many before es ls bars bars′ _ _ many in
     let k = a .refused (λ z. not (sym same ∙ z)) in
     is-refused before es ls bars′ task ws r ws′ not (k .answer ∙ ap refusedBy same) (k .words)
+
+pub too-many-bound : (before : Propagator) (es ls : List ℤ) (bars bars′ : Bool) (task : ℕ) (x : BoundAbove) → TASKS < length es → BoundGiven before [] [] bars task x → BoundGiven before es ls bars′ task x
+too-many-bound before es ls bars bars′ task x many a =
+    let (same, not) = input-many before es ls bars bars′ _ _ many in
+    bound-refused before es ls bars′ task x not (a .refused (λ z. not (sym same ∙ z)) ∙ ap refusedBy same)

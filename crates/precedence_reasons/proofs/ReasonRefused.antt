@@ -7,17 +7,16 @@ use mathlib.Core.List.{List, [], _∷_}
 use Prim.Native.Nat.{ℕ, _*_, _≤_, _<_}
 use lib.Dec.{leb, ltb}
 use lib.IntN.{ℤ}
-use borrow.Author.Tests.{ltb-true, lt-ltb, leb-true, le-leb}
+use borrow.Author.Tests.{leb-true, le-leb}
 use Rattle.integers.specs.Tests.{Test, test, AllPassed}
 use Rattle.integers.proofs.Tests.{accepts, accepted, refuses, refusal-after, first-refuses, first-holds, behind}
 use Rattle.records.specs.declared.record.Propagator.{Propagator}
 use Rattle.records.specs.Records.{Lawful}
 use Rattle.input_refusals.specs.Refusals.{inputTests, CountsFit, StartsFit, RangesFit, AcceptedInput}
 use Rattle.input_refusals.proofs.Refused.{passed-input, range-20, range-10, range-3, range-4, input-13}
+use Rattle.precedence_reasons.specs.Bounds.{boundTests}
 use Rattle.precedence_reasons.specs.Reasons.{reasonTests, reasonNumber, AcceptedReason}
-
-small-is : (task n : ℕ) → ltb task n ≡ true ↔ (task < n)
-small-is task n = (λ h. ltb-true task n h, λ h. lt-ltb task n h)
+use Rattle.precedence_reasons.proofs.BoundRefused.{small-is, passed-bound}
 
 room-is : (n words : ℕ) → leb (6 * n) words ≡ true ↔ (6 * n ≤ words)
 room-is n words = (λ h. leb-true (6 * n) words h, λ h. le-leb (6 * n) words h)
@@ -29,15 +28,12 @@ module _ (r : Propagator) (es ls : List ℤ) (bars : Bool) (task words : ℕ) wh
   abbrev t16 : Test
   t16 = test 16 (leb (6 * r .count) words)
 
-  -- only the task and the words are left to test
-  pub no-task : AllPassed (inputTests r es ls bars) → ltb task (r .count) ≡ false → reasonNumber r es ls bars task words ≡ 17
-  no-task h q = refuses (inputTests r es ls bars) t17 (t16 ∷ []) h q
+  -- only the words are left to test
+  pub no-room : AllPassed (boundTests r es ls bars task) → leb (6 * r .count) words ≡ false → reasonNumber r es ls bars task words ≡ 16
+  no-room h q = refuses (boundTests r es ls bars task) t16 [] h q
 
-  pub no-room : AllPassed (inputTests r es ls bars) → ltb task (r .count) ≡ true → leb (6 * r .count) words ≡ false → reasonNumber r es ls bars task words ≡ 16
-  no-room h p q = refusal-after (inputTests r es ls bars) (t17 ∷ t16 ∷ []) h ∙ refuses (t17 ∷ []) t16 [] (p, tt) q
-
-  pub all-right : AllPassed (inputTests r es ls bars) → ltb task (r .count) ≡ true → leb (6 * r .count) words ≡ true → reasonNumber r es ls bars task words ≡ 0
-  all-right h p q = refusal-after (inputTests r es ls bars) (t17 ∷ t16 ∷ []) h ∙ accepts (t17 ∷ t16 ∷ []) (p, (q, tt))
+  pub all-right : AllPassed (boundTests r es ls bars task) → leb (6 * r .count) words ≡ true → reasonNumber r es ls bars task words ≡ 0
+  all-right h q = refusal-after (boundTests r es ls bars task) (t16 ∷ []) h ∙ accepts (t16 ∷ []) (q, tt)
 
   -- nothing refuses the call
   pub accepted-reason : reasonNumber r es ls bars task words ≡ 0 → (AcceptedInput r es ls × (bars ≡ true)) × AcceptedReason r task words
@@ -45,7 +41,8 @@ module _ (r : Propagator) (es ls : List ℤ) (bars : Bool) (task words : ℕ) wh
     where
       facts : AllPassed (reasonTests r es ls bars task words) → (AcceptedInput r es ls × (bars ≡ true)) × AcceptedReason r task words
       facts (a, (b, (c, (d, (e, (p, (q, _))))))) =
-          (passed-input r es ls bars .0 (a, (b, (c, (d, (e, tt))))), record { small = small-is task (r .count) .0 p; room = room-is (r .count) words .0 q })
+          let (input, small) = passed-bound r es ls bars task (a, (b, (c, (d, (e, (p, tt)))))) in
+          (input, record { small = small; room = room-is (r .count) words .0 q })
 
   -- The sole ground for each number: all before it hold, and its own does not.
   pub refused-20 : reasonNumber r es ls bars task words ≡ 20 ↔ (Lawful r → ⊥)

@@ -10,6 +10,7 @@ use Rattle.integers.specs.Tests.{allBelow, refusal}
 use Rattle.scheduling.specs.Scheduling.{total}
 use Rattle.records.specs.Records.{unusedAt, lawfulRecord, newRecord}
 use Rattle.predecessors.specs.Examples.{F}
+use Rattle.precedence_reasons.specs.Bounds.{boundNumber}
 use Rattle.precedence_reasons.specs.Reasons.{atLeast, atMost, bothBounds, reasonOf, reasonNumber}
 
 -- why task 0 starts at 6 or later
@@ -20,6 +21,18 @@ reason-of-zero = refl
 -- the reason's tests on those tasks
 number : Bool → ℕ → ℕ → ℕ
 number bars task words = reasonNumber (newRecord (pos 3 ∷ pos 5 ∷ [])) (pos 0 ∷ pos 1 ∷ []) (pos 6 ∷ pos 1 ∷ []) bars task words
+
+-- the bound's tests on them: no words are asked for
+bound-number : Bool → ℕ → ℕ
+bound-number bars task = boundNumber (newRecord (pos 3 ∷ pos 5 ∷ [])) (pos 0 ∷ pos 1 ∷ []) (pos 6 ∷ pos 1 ∷ []) bars task
+
+no-bound-of-it : bound-number true 2 ≡ 17
+unfolding bound-number refusal lawfulRecord allBelow unusedAt filled total
+no-bound-of-it = refl
+
+asked : bound-number true 1 ≡ 0
+unfolding bound-number refusal lawfulRecord allBelow unusedAt filled total
+asked = refl
 
 -- 13 is tried before 17, and 17 before 16
 bars-first : number false 2 11 ≡ 13

@@ -1,4 +1,5 @@
 pub mod Numbers
+pub mod Bounds
 pub mod Reasons
 pub mod TaskArrays
 pub mod Examples

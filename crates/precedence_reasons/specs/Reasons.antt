@@ -4,9 +4,8 @@ use mathlib.Core.Bool.{Bool, true, false}
 use mathlib.Core.List.{List, [], _∷_, _++_}
 use mathlib.Core.Option.{some, none}
 use Prim.Native.Nat.{ℕ, zero, suc, _+_, _*_, _≤_, _<_}
-use lib.Dec.{leb, ltb}
+use lib.Dec.{leb}
 use lib.IntN.{ℤ, pos}
-use lib.Signed.{_<ℤ_}
 use lib.ListN.{length}
 use Rattle.integers.specs.Answers.{answered, refusedBy}
 use Rattle.integers.specs.Tests.{Test, test, refusal}
@@ -15,10 +14,10 @@ use Rattle.scheduling.specs.Scheduling.{whole, Tasks, TaskSet, Atom, HoldsAtEnt
 use Rattle.scheduling.specs.Words.{atomWords}
 use Rattle.records.specs.declared.record.Propagator.{Propagator}
 use Rattle.records.specs.Records.{tasksIn}
-use Rattle.input_refusals.specs.Refusals.{inputTests}
 use Rattle.predecessors.specs.Predecessors.{predecessors, AllBefore, PrecedenceBound}
 use Rattle.precedence_reasons.specs.declared.answer.Reason.{Reason}
 use Rattle.precedence_reasons.specs.Numbers.{reasonNumbers}
+use Rattle.precedence_reasons.specs.Bounds.{Raises, boundTests}
 
 -- task j starts at v or later; at v or earlier
 abbrev pub atLeast : ℕ → ℤ → Atom
@@ -42,26 +41,20 @@ module _ (J : Tasks whole) (i : ℕ) where
   abbrev pub reasonOf : List Atom
   reasonOf = atLeast i (J .earliest i) ∷ bothBounds (J .earliest) (J .latest) (predecessors J i) (J .count)
 
-  -- P is not empty, and ect(P) is above i's earliest start
-  pub record Raises : Type 0 where
-    pub bound : ℤ
-    pub is-bound : PrecedenceBound J i bound
-    pub above : J .earliest i <ℤ bound
-
   -- An accepted call, from the words ws to ws′. Where the bound raises i, the reason stands at the front, with every word after it as it was, and the answer is
   -- its atom count; elsewhere that is 0, and no word changes. The reason holds at entry. Starts of whatever range that meet it, no two
   -- tasks overlapping, have all of P before i, and none of them are below the bound at i.
   pub record Explained (ws : List ℤ) (r : Reason) (ws′ : List ℤ) : Type 0 where
-    pub written : Raises → (reasonNumbers r ≡ answered 0 (pos (length reasonOf) ∷ [])) × (ws′ ≡ overwritten ws (atomWords reasonOf))
-    pub nothing : (Raises → ⊥) → (reasonNumbers r ≡ answered 0 (pos 0 ∷ [])) × (ws′ ≡ ws)
+    pub written : Raises J i → (reasonNumbers r ≡ answered 0 (pos (length reasonOf) ∷ [])) × (ws′ ≡ overwritten ws (atomWords reasonOf))
+    pub nothing : (Raises J i → ⊥) → (reasonNumbers r ≡ answered 0 (pos 0 ∷ [])) × (ws′ ≡ ws)
     pub few : length reasonOf + 1 ≤ 2 * J .count
     pub holds : HoldsAtEntry J reasonOf
     pub before : (s : ℕ → ℤ) → Contradicts J reasonOf none s → AllBefore J i s
     pub sound : (b : ℤ) → PrecedenceBound J i b → (s : ℕ → ℤ) → Contradicts J reasonOf (some (atLeast i b)) s → ⊥
 
--- A run's tests on the record and its ranges; then 17: a task that is none of the record's; 16: no room for its reason
+-- The bound's tests; then 16: no room for the reason
 abbrev pub reasonTests : Propagator → List ℤ → List ℤ → Bool → ℕ → ℕ → List Test
-reasonTests r es ls bars task words = inputTests r es ls bars ++ (test 17 (ltb task (r .count)) ∷ test 16 (leb (6 * r .count) words) ∷ [])
+reasonTests r es ls bars task words = boundTests r es ls bars task ++ (test 16 (leb (6 * r .count) words) ∷ [])
 
 abbrev pub reasonNumber : Propagator → List ℤ → List ℤ → Bool → ℕ → ℕ → ℕ
 reasonNumber r es ls bars task words = refusal (reasonTests r es ls bars task words)

@@ -1,20 +1,28 @@
--- What the code holds: members in an array, and a reason in words, over moments.
+-- What the code holds: members in an array, a bound, and a reason in words, over moments.
 use mathlib.Core.Path.{_≡_}
 use mathlib.Core.Bool.{Bool, true, false}
-use mathlib.Core.List.{List, _∷_}
+use mathlib.Core.List.{List, [], _∷_}
 use Prim.Native.Nat.{ℕ}
 use lib.IntN.{ℤ}
 use lib.ListN.{getD}
+use Rattle.integers.specs.Answers.{answered}
 use Rattle.integers.specs.Moments.{instant, zeroAt}
 use Rattle.scheduling.specs.Scheduling.{natural, Tasks, TaskSet, Atom}
 use Rattle.theta_walks.specs.Writing.{Stored}
-use Rattle.ects.specs.Ects.{exceeds}
+use Rattle.ects.specs.Ects.{exceeds, raisedTo}
 use Rattle.predecessors.specs.TaskArrays.{comesBefore, boundAt}
+use Rattle.precedence_reasons.specs.declared.answer.BoundAbove.{BoundAbove}
+use Rattle.precedence_reasons.specs.Numbers.{boundNumbers}
 use Rattle.precedence_reasons.specs.Reasons.{atLeast, bothBounds}
 
 -- member k of an array
 abbrev pub memberAt : List Bool → TaskSet
 memberAt members k = getD members k false
+
+-- The answer about task i's bound: the bound where it is above the earliest start, else that there is none.
+pub record BoundLeft (J : Tasks natural) (i : ℕ) (r : BoundAbove) : Type 0 where
+  pub told : exceeds (boundAt J i) (J .earliest i) ≡ true → boundNumbers r ≡ answered 0 (instant zeroAt (raisedTo (J .earliest i) (boundAt J i)) ∷ [])
+  pub none : exceeds (boundAt J i) (J .earliest i) ≡ false → boundNumbers r ≡ answered 1 []
 
 -- The reason of task i's bound, over moments, and what is left in the words ws: nothing where the bound is not above the earliest start, else the reason at the front.
 abbrev pub reasonAt : Tasks natural → ℕ → List Atom

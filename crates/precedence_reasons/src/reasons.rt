@@ -1,11 +1,11 @@
 // The reason of one task's bound, written as atoms.
 use crate::answer::Reason;
-use chosen_sets::theta::theta_ect;
-use input_refusals::input_refusal;
+use crate::bounds::bound_refusal;
 use integers::limits::TASKS;
 use post_words::posts::AT_LEAST;
 use post_words::posts::AT_MOST;
 use post_words::posts::write_atom;
+use predecessors::predecessors::bound_of;
 use predecessors::predecessors::predecessors;
 use records::record::Propagator;
 use sorts::orders::moments_of;
@@ -67,13 +67,13 @@ fn write_reason<'a>(
     requires { ⌜ Ranged n (now est) (now lst) (now durations) × (i < n) × (6 * n ≤ length (now atoms)) ⌝ }
     ensures { λ r. ⌜ ((f : Ranged n (now (est .entry)) (now (lst .entry)) (now (durations .entry))) → ReasonLeft (f .J) i (now (atoms .entry)) r (now (atoms .exit))) ⌝ }
 {
-    let before = predecessors(est, lst, durations, n, i);
     let start = est[i];
-    let ect = theta_ect(&before, est, durations, n);
-    if !ect.exceeds(start) {
+    let bound = bound_of(est, lst, durations, n, i);
+    if !bound.exceeds(start) {
         return 0;
     }
     write_atom(atoms, 0, i, AT_LEAST, start);
+    let before = predecessors(est, lst, durations, n, i);
     write_members(atoms, &before, est, lst, n)
 }
 
@@ -110,12 +110,9 @@ fn reason_refusal<'a>(
 ) -> u32
     ensures { λ r. ⌜ r ≡ reasonNumber (recordOf n (now (durations .entry)) total) (now (earliest .entry)) (now (latest .entry)) «bars_fit» task words ⌝ }
 {
-    let number = input_refusal(n, durations, total, earliest, latest, bars_fit);
+    let number = bound_refusal(n, durations, total, earliest, latest, bars_fit, task);
     if number != 0 {
         return number;
-    }
-    if task >= n {
-        return 17;
     }
     if words < 6 * n {
         return 16;

@@ -1,13 +1,16 @@
-// The pass by precedences and the reason of one task's bound, on the first `count` places of the arrays.
+// The pass by precedences, one task's bound and its reason, on the first `count` places of the arrays.
 use integers::limits::TASKS;
 use lent_ranges::starts::Starts;
 use lent_ranges::starts::StartsWithBars;
+use precedence_reasons::answer::BoundAbove;
 use precedence_reasons::answer::Reason;
+use precedence_reasons::bounds::precedence_bound;
 use precedences::answers::Precedences;
 use records::record::Propagator;
 ghost use Prim.Native.Nat.{_≤_};
 ghost use Rattle.integers.specs.Limits.{TASKS};
 ghost use Rattle.lent_ranges.specs.TakenApart.{firstEarliest, firstLatest};
+ghost use Rattle.precedence_reasons.specs.Bounds.{BoundGiven};
 ghost use Rattle.precedence_reasons.specs.Reasons.{ReasonGiven};
 ghost use Rattle.range_cores.specs.PrecedencesCore.{PrecedencesCore};
 
@@ -41,6 +44,18 @@ pub fn precedences_core(record: Propagator, ranges: StartsWithBars) -> CorePrece
         answer,
         starts: raised,
     }
+}
+
+// A task's bound over the first `count` places of the arrays.
+pub fn bound_core(record: Propagator, ranges: StartsWithBars, task: usize) -> BoundAbove
+    requires { ⌜ ranges .starts .count ≤ TASKS ⌝ }
+    ensures { λ r. ⌜ BoundGiven «record» (firstEarliest (ranges .starts)) (firstLatest (ranges .starts)) (ranges .«bars_fit») task r ⌝ }
+{
+    let starts = ranges.starts;
+    let n = starts.count;
+    let earliest = starts.earliest;
+    let latest = starts.latest;
+    precedence_bound(record, &earliest[..n], &latest[..n], ranges.bars_fit, task)
 }
 
 // The reason of a task's bound over the first `count` places of the arrays.

@@ -13,7 +13,8 @@ use Rattle.free_starts.specs.Numbers.{freeStartNumbers}
 use Rattle.pages.specs.Numbers.{pageNumbers}
 use Rattle.pages.specs.Pages.{Paged}
 use Rattle.precedences.specs.Numbers.{precedencesNumbers}
-use Rattle.precedence_reasons.specs.Numbers.{reasonNumbers}
+use Rattle.precedence_reasons.specs.Numbers.{reasonNumbers, boundNumbers}
+use Rattle.precedence_reasons.specs.Bounds.{BoundGiven}
 use Rattle.precedence_reasons.specs.Reasons.{ReasonGiven}
 use Rattle.runs.specs.Outcomes.{outcomeNumbers}
 use Rattle.busiest_stretch.specs.Numbers.{busiestNumbers}
@@ -58,6 +59,9 @@ BusiestNumbers before ranges w = NumbersOf (λ r. busiestAnswer (busiestNumbers 
 
 abbrev pub PrecedencesNumbers : Propagator → List Range → CountAnswer → List Range → Type 0
 PrecedencesNumbers before ranges a ranges′ = NumbersOf (λ r. countAnswer (precedencesNumbers r)) (λ r. PrecedencesLent before ranges r ranges′) a
+
+abbrev pub BoundNumbers : Propagator → List Range → ℕ → StartAnswer → Type 0
+BoundNumbers before ranges task = NumbersOf (λ r. startAnswer (boundNumbers r)) (BoundGiven before (earliests ranges) (latests ranges) (allBarsFit ranges) task)
 
 abbrev pub ReasonNumbers : Propagator → List Range → ℕ → List ℤ → CountAnswer → List ℤ → Type 0
 ReasonNumbers before ranges task reason a reason′ = NumbersOf (λ r. countAnswer (reasonNumbers r)) (λ r. ReasonGiven before (earliests ranges) (latests ranges) (allBarsFit ranges) task reason r reason′) a

@@ -1,6 +1,7 @@
 // The exported calls beside the run and the check. Each is the open call of its name, with the answer's numbers for the answer; none has a `requires`.
 use answers::call_answers::CheckAnswer;
 use barred_starts::range::Range;
+use disjunctive::ranges::by_precedence::precedence_bound;
 use disjunctive::ranges::by_precedence::precedence_reason;
 use disjunctive::ranges::by_precedence::precedences;
 use disjunctive::ranges::of_fixed_schedules::busiest_stretch;
@@ -17,6 +18,7 @@ use request_answers::ChargesAnswer;
 use request_answers::CountAnswer;
 use request_answers::MirroredAnswer;
 use request_answers::StartAnswer;
+use request_answers::bound_above_numbers;
 use request_answers::busiest_numbers;
 use request_answers::change_numbers;
 use request_answers::charges_numbers;
@@ -30,7 +32,7 @@ use task_changes::lent::add;
 use task_changes::lent::remove;
 ghost use mathlib.Core.Path.{_≡_};
 ghost use Rattle.questions.specs.Checks.{CheckedMirroredNumbers};
-ghost use Rattle.reedgrit.specs.Requests.{MirroredNumbers, OverloadNumbers, AddedNumbers, RemovedNumbers, PageNumbers, ChargesNumbers, FreeStartNumbers, BusiestNumbers, PrecedencesNumbers, ReasonNumbers};
+ghost use Rattle.reedgrit.specs.Requests.{MirroredNumbers, OverloadNumbers, AddedNumbers, RemovedNumbers, PageNumbers, ChargesNumbers, FreeStartNumbers, BusiestNumbers, PrecedencesNumbers, BoundNumbers, ReasonNumbers};
 
 // The version of these functions and structs.
 #[no_mangle]
@@ -144,6 +146,18 @@ pub extern "C" fn reedgrit_precedences(propagator: &Propagator, ranges: &mut [Ra
     ensures { λ r. ⌜ PrecedencesNumbers (now (propagator .entry)) (now (ranges .entry)) r (now (ranges .exit)) ⌝ }
 {
     precedences_numbers(precedences(propagator, ranges))
+}
+
+// One task's bound by precedences.
+#[no_mangle]
+pub extern "C" fn reedgrit_precedence_bound(
+    propagator: &Propagator,
+    ranges: &[Range],
+    task: usize,
+) -> StartAnswer
+    ensures { λ r. ⌜ BoundNumbers (now (propagator .entry)) (now (ranges .entry)) task r ⌝ }
+{
+    bound_above_numbers(precedence_bound(propagator, ranges, task))
 }
 
 // The reason of one task's bound by precedences.

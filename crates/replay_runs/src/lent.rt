@@ -1,4 +1,5 @@
 // The open calls on a record and on ranges that may have barred starts, which are held by value here and lent to the call.
+use disjunctive::BoundAbove;
 use disjunctive::Outcome;
 use disjunctive::Overload;
 use disjunctive::Precedences;
@@ -62,6 +63,15 @@ pub fn precedences(record: Propagator, ranges: Ranges) -> Raised
         answer,
         ranges: kept,
     }
+}
+
+// A task's bound by precedences.
+pub fn precedence_bound(record: Propagator, ranges: Ranges, task: usize) -> BoundAbove
+    requires { ⌜ ranges .count ≤ 64 ⌝ }
+{
+    let kept = ranges.kept;
+    let n = ranges.count;
+    disjunctive::precedence_bound(&record, &kept[..n], task)
 }
 
 // The reason of a task's bound by precedences.

@@ -1,9 +1,11 @@
 // The calls on ranges that may have barred starts: the run, the mirrored pass, the overload test and those by precedences.
 use crate::lent::overload_test;
+use crate::lent::precedence_bound;
 use crate::lent::precedence_reason;
 use crate::lent::precedences;
 use crate::running::mirrors;
 use crate::running::runs;
+use disjunctive::BoundAbove;
 use disjunctive::Overload;
 use disjunctive::Precedences;
 use disjunctive::Propagator;
@@ -12,6 +14,7 @@ use replay_lines::lines::say;
 use replay_lines::lines::say_counted;
 use replay_lines::lines::say_error;
 use replay_lines::lines::say_refused;
+use replay_lines::lines::say_valued;
 use replay_lines::parts::number_at;
 use replay_lines::parts::place_of;
 use replay_lines::parts::same;
@@ -70,16 +73,36 @@ fn raises(record: Propagator, ranges: Ranges)
     }
 }
 
-// `precede-why`: the reason of the bound of the task that is named first.
-pub fn explains(record: Propagator, ranges: Ranges, named: &[i32]) {
+// The answer about the bound of the task that is named first, on ranges that may have barred starts.
+pub fn tells_bound(record: Propagator, word: &[u8], ranges: Ranges, named: &[i32]) {
     if !ranges.valid || named.len() == 0 {
         return say_error();
     }
     if ranges.count > RANGES {
         return say_error();
     }
+    let task = place_of(number_at(named, 0));
+    if same(word, b"precede-bound") {
+        return says_bound(precedence_bound(record, ranges, task));
+    }
+    explains(record, ranges, task);
+}
+
+// `precede-bound`: a task's bound, where it is above the earliest start.
+fn says_bound(answer: BoundAbove) {
+    match answer {
+        BoundAbove::At(bound) => say_valued(b"bound", bound),
+        BoundAbove::NoBound => say(b"none\n"),
+        BoundAbove::Refused(number) => say_refused(number),
+    }
+}
+
+// `precede-why`: the reason of it.
+fn explains(record: Propagator, ranges: Ranges, task: usize)
+    requires { ⌜ ranges .count ≤ 64 ⌝ }
+{
     let mut atoms = [0i32; REASON];
-    let answer = precedence_reason(record, ranges, place_of(number_at(named, 0)), &mut atoms);
+    let answer = precedence_reason(record, ranges, task, &mut atoms);
     match answer {
         Reason::Written(count) => {
             say_counted(b"count", count);

@@ -22,8 +22,10 @@ use Rattle.precedences.specs.declared.answers.Precedences.{Precedences}
 use Rattle.precedences.specs.declared.answers.Precedences.the-variants as pass
 use Rattle.precedence_reasons.specs.declared.answer.Reason.{Reason}
 use Rattle.precedence_reasons.specs.declared.answer.Reason.the-variants as reason
+use Rattle.precedence_reasons.specs.declared.answer.BoundAbove.{BoundAbove}
+use Rattle.precedence_reasons.specs.declared.answer.BoundAbove.the-variants as bound
 use Rattle.precedences.specs.Numbers.{precedencesNumbers}
-use Rattle.precedence_reasons.specs.Numbers.{reasonNumbers}
+use Rattle.precedence_reasons.specs.Numbers.{reasonNumbers, boundNumbers}
 use Rattle.runs.specs.declared.outcome.Outcome.{Outcome}
 use Rattle.runs.specs.declared.outcome.Outcome.the-variants as outcome
 use Rattle.runs.specs.Outcomes.{outcomeNumbers}
@@ -139,7 +141,7 @@ busiest-apart = apart (λ r. busiestAnswer (busiestNumbers r)) (λ a. busiestAt 
     back (busiest.Stretch time start) = refl
     back (busiest.Refused number) = refl
 
--- The pass by precedences, and the reason of one
+-- The pass by precedences, one task's bound, and its reason
 abbrev precedencesAt : ℕ → CountAnswer → Precedences
 precedencesAt zero a = pass.Done
 precedencesAt (suc zero) a = pass.Emptied (a .count)
@@ -152,6 +154,19 @@ precedences-apart = apart (λ r. countAnswer (precedencesNumbers r)) (λ a. prec
     back pass.Done = refl
     back (pass.Emptied i) = refl
     back (pass.Refused number) = refl
+
+abbrev boundAt : ℕ → StartAnswer → BoundAbove
+boundAt zero a = bound.At (a .start)
+boundAt (suc zero) a = bound.NoBound
+boundAt (suc (suc k)) a = bound.Refused (a .number)
+
+pub bounds-apart : (r r′ : BoundAbove) → startAnswer (boundNumbers r) ≡ startAnswer (boundNumbers r′) → r ≡ r′
+bounds-apart = apart (λ r. startAnswer (boundNumbers r)) (λ a. boundAt (a .kind) a) back
+  where
+    back : (r : BoundAbove) → boundAt (boundNumbers r .kind) (startAnswer (boundNumbers r)) ≡ r
+    back (bound.At b) = refl
+    back bound.NoBound = refl
+    back (bound.Refused number) = refl
 
 abbrev reasonAt : ℕ → CountAnswer → Reason
 reasonAt zero a = reason.Written (a .count)

@@ -9,6 +9,7 @@ use integers::limits::TASKS;
 use overload_test::overload_test::Overload;
 use pages::answer::Page;
 use post_words::posts::words_of;
+use precedence_reasons::answer::BoundAbove;
 use precedence_reasons::answer::Reason;
 use precedences::answers::Precedences;
 use runs::outcome::Outcome;
@@ -19,7 +20,7 @@ ghost use Rattle.task_changes.specs.Numbers.{changeNumbers};
 ghost use Rattle.free_starts.specs.Numbers.{freeStartNumbers};
 ghost use Rattle.pages.specs.Numbers.{pageNumbers};
 ghost use Rattle.precedences.specs.Numbers.{precedencesNumbers};
-ghost use Rattle.precedence_reasons.specs.Numbers.{reasonNumbers};
+ghost use Rattle.precedence_reasons.specs.Numbers.{reasonNumbers, boundNumbers};
 ghost use Rattle.runs.specs.Outcomes.{outcomeNumbers};
 ghost use Rattle.busiest_stretch.specs.Numbers.{busiestNumbers};
 ghost use Rattle.answers.specs.Answers.{ToldInWords};
@@ -51,7 +52,7 @@ pub struct ChangeAnswer {
     pub number: u32,
 }
 
-// The earliest free start: kind 0 has it.
+// An answer with one start: of the earliest free start kind 0 has it; of a bound by precedences kind 0 has it and 1 is none.
 #[repr(C)]
 pub struct StartAnswer {
     pub kind: u32,
@@ -102,6 +103,16 @@ fn count_answer(kind: u32, number: u32, count: usize) -> CountAnswer
         kind,
         number,
         count,
+    }
+}
+
+fn start_answer(kind: u32, number: u32, start: i32) -> StartAnswer
+    ensures { λ r. ⌜ r ≡ record { kind = kind; number = number; start = start } ⌝ }
+{
+    StartAnswer {
+        kind,
+        number,
+        start,
     }
 }
 
@@ -158,16 +169,8 @@ pub fn start_numbers(answer: FreeStart) -> StartAnswer
     ensures { λ r. ⌜ r ≡ startAnswer (freeStartNumbers answer) ⌝ }
 {
     match answer {
-        FreeStart::At(start) => StartAnswer {
-            kind: 0,
-            number: 0,
-            start,
-        },
-        FreeStart::Refused(number) => StartAnswer {
-            kind: 3,
-            number,
-            start: 0,
-        },
+        FreeStart::At(start) => start_answer(0, 0, start),
+        FreeStart::Refused(number) => start_answer(3, number, 0),
     }
 }
 
@@ -202,7 +205,18 @@ pub fn precedences_numbers(answer: Precedences) -> CountAnswer
     }
 }
 
-// The numbers of the reason of one.
+// The numbers of one task's bound.
+pub fn bound_above_numbers(answer: BoundAbove) -> StartAnswer
+    ensures { λ r. ⌜ r ≡ startAnswer (boundNumbers answer) ⌝ }
+{
+    match answer {
+        BoundAbove::At(bound) => start_answer(0, 0, bound),
+        BoundAbove::NoBound => start_answer(1, 0, 0),
+        BoundAbove::Refused(number) => start_answer(3, number, 0),
+    }
+}
+
+// The numbers of its reason.
 pub fn reason_numbers(answer: Reason) -> CountAnswer
     ensures { λ r. ⌜ r ≡ countAnswer (reasonNumbers answer) ⌝ }
 {

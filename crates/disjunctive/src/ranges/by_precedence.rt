@@ -1,12 +1,15 @@
-// The open calls by precedences, on lent ranges: the pass raises earliest starts in them, and the reason of one task's bound is written from them.
+// The open calls by precedences, on lent ranges: the pass raises earliest starts in them; one task's bound and its reason are read off them.
 use barred_starts::range::Range;
 use lent_ranges::starts::starts_with_bars;
 use lent_ranges::starts::store_starts;
+use precedence_reasons::answer::BoundAbove;
 use precedence_reasons::answer::Reason;
 use precedences::answers::Precedences;
+use range_cores::by_precedence::bound_core;
 use range_cores::by_precedence::precedences_core;
 use range_cores::by_precedence::reason_core;
 use records::record::Propagator;
+ghost use Rattle.precedence_reasons.specs.Bounds.{BoundGiven};
 ghost use Rattle.precedence_reasons.specs.Reasons.{ReasonGiven};
 ghost use Rattle.barred_starts.specs.Bars.{allBarsFit};
 ghost use Rattle.barred_starts.specs.Ranges.{earliests, latests};
@@ -20,6 +23,14 @@ pub fn precedences(propagator: &Propagator, ranges: &mut [Range]) -> Precedences
     let ran = precedences_core(*propagator, starts);
     store_starts(ranges, ran.starts);
     ran.answer
+}
+
+// The task's bound over the lent ranges, where it is above the earliest start. Nothing lent is changed.
+pub fn precedence_bound(propagator: &Propagator, ranges: &[Range], task: usize) -> BoundAbove
+    ensures { λ r. ⌜ BoundGiven (now (propagator .entry)) (earliests (now (ranges .entry))) (latests (now (ranges .entry))) (allBarsFit (now (ranges .entry))) task r ⌝ }
+{
+    let starts = starts_with_bars(ranges);
+    bound_core(*propagator, starts, task)
 }
 
 // Writes the reason of the task's bound over the lent ranges, and tells how many atoms it has.

@@ -118,7 +118,7 @@ impl Session {
         let parts: Vec<Vec<&str>> = line.split(';').map(|p| p.split_whitespace().collect()).collect();
         let name = parts[0][0];
         let mut v = numbers(&parts[0][1..])?;
-        let named = if name == "precede-why" { v.remove(0) } else { 0 };
+        let named = if name == "precede-why" || name == "precede-bound" { v.remove(0) } else { 0 };
         if v.len() != 2 * d.len() {
             out.push_str("refused 10\n");
             return Some(());
@@ -129,6 +129,13 @@ impl Session {
             .map(|(r, p)| crate::judge::Task { e: r[0], l: r[1], p: *p })
             .collect();
         if name.starts_with("precede") {
+            if name == "precede-bound" {
+                match precedence_bound(&tasks, named as usize) {
+                    Some(bound) => out.push_str(&format!("bound {bound}\n")),
+                    None => out.push_str("none\n"),
+                }
+                return Some(());
+            }
             if name == "precede-why" {
                 let why = precedence_reason(&tasks, named as usize);
                 out.push_str(&format!("count {}\n", why.len()));
@@ -258,7 +265,7 @@ impl Session {
                 let text = line.strip_prefix("program").unwrap().replace("\\n", "\n");
                 out.push_str(&program(&text));
             }
-            "page" | "free" | "charges" | "busiest" | "precede" | "precede-why" => self.request(line, out)?,
+            "page" | "free" | "charges" | "busiest" | "precede" | "precede-why" | "precede-bound" => self.request(line, out)?,
             "check" => {
                 let parts: Vec<Vec<&str>> = line.split(';').map(|p| p.split_whitespace().collect()).collect();
                 let d: Vec<i32> = numbers(&parts[0][1..])?.iter().map(|x| *x as i32).collect();

@@ -446,6 +446,7 @@ pub fn gen_requests(seed: u64, count: usize, nmax: i64, spread: i64) {
         let r: String = t.iter().map(|x| format!(" {} {}", x.e, x.l)).collect();
         for k in 0..n {
             say(&mut s, format!("precede-why {k}{r}"));
+            say(&mut s, format!("precede-bound {k}{r}"));
         }
     }
 }

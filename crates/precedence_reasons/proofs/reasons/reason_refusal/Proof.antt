@@ -3,16 +3,16 @@
 use mathlib.Core.Path.{sym, _∙_}
 use Prim.Native.Nat.{_≤_}
 use native.Mathlib.Omega.{arith}
-use borrow.Author.Tests.{lt-ltb, le-ltb, le-leb, lt-leb}
+use borrow.Author.Tests.{le-leb, lt-leb}
 use Rattle.integers.specs.Limits.{TASKS}
 use Rattle.integers.specs.Tests.{AllPassed}
 use Rattle.integers.proofs.Tests.{refusal-before}
 use Rattle.records.specs.declared.record.Propagator.{Propagator}
 use Rattle.records.specs.Records.{recordOf}
-use Rattle.input_refusals.specs.Refusals.{inputTests}
 use Rattle.records.proofs.Lawful.{lawful-is}
-use Rattle.input_refusals.proofs.Refused.{input-passed}
-use Rattle.precedence_reasons.proofs.ReasonRefused.{no-task, no-room, all-right}
+use Rattle.precedence_reasons.specs.Bounds.{boundTests}
+use Rattle.precedence_reasons.proofs.BoundRefused.{bound-passed}
+use Rattle.precedence_reasons.proofs.ReasonRefused.{no-room, all-right}
 use borrow.Author.Needs.{needs}
 use Rattle.precedence_reasons.proofs.reasons.reason_refusal.Statement.{statement}
 use Rattle.precedence_reasons.proofs.reasons.reason_refusal.Tie as tie
@@ -21,9 +21,9 @@ use Rattle.precedence_reasons.proofs.reasons.reason_refusal.Tie as tie
 abbrev lent : tie.Start → Propagator
 lent c = recordOf (c .args .n) (c .args .durations .now) (c .args .total)
 
--- the record, its ranges and their bars pass, so there are few tasks
-passed : (c : tie.Else1) → let start = c .before .before in let args = start .args in AllPassed (inputTests (lent start) (args .earliest .now) (args .latest .now) (args .bars-fit))
-passed c = let start = c .before .before in let args = start .args in input-passed (lent start) (args .earliest .now) (args .latest .now) (args .bars-fit) (sym (c .before .input-refusal .ensures) ∙ c .if1 .left)
+-- the record, its ranges, their bars and the task pass, so there are few tasks
+passed : (c : tie.Else1) → let start = c .before .before in let args = start .args in AllPassed (boundTests (lent start) (args .earliest .now) (args .latest .now) (args .bars-fit) (args .task))
+passed c = let start = c .before .before in let args = start .args in bound-passed (lent start) (args .earliest .now) (args .latest .now) (args .bars-fit) (args .task) (sym (c .before .bound-refusal .ensures) ∙ c .if1 .left)
 
 few : (c : tie.Else1) → c .before .before .args .n ≤ TASKS
 few c = (lawful-is (lent (c .before .before)) .0 (passed c .0)) .few
@@ -32,28 +32,22 @@ returns : tie.Need-returns
 returns c =
     let start = c .before .before in
     let args = start .args in
-    c .before .input-refusal .ensures ∙ sym (refusal-before (inputTests (lent start) (args .earliest .now) (args .latest .now) (args .bars-fit)) _ (λ z. c .if1 .taken (c .before .input-refusal .ensures ∙ z)))
+    c .before .bound-refusal .ensures ∙ sym (refusal-before (boundTests (lent start) (args .earliest .now) (args .latest .now) (args .bars-fit) (args .task)) _ (λ z. c .if1 .taken (c .before .bound-refusal .ensures ∙ z)))
+
+mul-if2 : tie.Need-mul-if2
+mul-if2 c = record { fits = omega (arith, few c) }
 
 returns-2 : tie.Need-returns-2
 returns-2 c =
     let start = c .before .before .before in
     let args = start .args in
-    sym (no-task (lent start) (args .earliest .now) (args .latest .now) (args .bars-fit) (args .task) (args .words) (passed (c .before)) (le-ltb _ _ (c .if2 .taken)))
-
-mul-if3 : tie.Need-mul-if3
-mul-if3 c = record { fits = omega (arith, few (c .before)) }
+    sym (no-room (lent start) (args .earliest .now) (args .latest .now) (args .bars-fit) (args .task) (args .words) (passed (c .before)) (lt-leb _ _ (c .if2 .taken)))
 
 returns-3 : tie.Need-returns-3
 returns-3 c =
-    let start = c .before .before .before .before in
+    let start = c .before .before .before in
     let args = start .args in
-    sym (no-room (lent start) (args .earliest .now) (args .latest .now) (args .bars-fit) (args .task) (args .words) (passed (c .before .before)) (lt-ltb _ _ (c .before .if2 .left)) (lt-leb _ _ (c .if3 .taken)))
-
-returns-4 : tie.Need-returns-4
-returns-4 c =
-    let start = c .before .before .before .before in
-    let args = start .args in
-    sym (all-right (lent start) (args .earliest .now) (args .latest .now) (args .bars-fit) (args .task) (args .words) (passed (c .before .before)) (lt-ltb _ _ (c .before .if2 .left)) (le-leb _ _ (c .if3 .left)))
+    sym (all-right (lent start) (args .earliest .now) (args .latest .now) (args .bars-fit) (args .task) (args .words) (passed (c .before)) (le-leb _ _ (c .if2 .left)))
 
 pub reason-refusal-spec : {M : Type 1} → statement M
-reason-refusal-spec = tie.close (tie.spec (λ c κs. search needs) returns returns-2 mul-if3 returns-3 returns-4)
+reason-refusal-spec = tie.close (tie.spec (λ c κs. search needs) returns mul-if2 returns-2 returns-3)
