@@ -137,7 +137,8 @@ fn a_bound_is_that_of_all_sets_before_the_task() {
             assert!(starts.iter().all(|starts| starts[task] >= bound));
             // no starts meet the reason and the opposite of the bound, whatever the other tasks do
             let both = |j: &usize| [Atom::at_least(*j, ranges[*j].earliest), Atom::at_most(*j, ranges[*j].latest)];
-            let before: Vec<usize> = (0..durations.len()).filter(|j| *j != task && both(j).iter().all(|atom| reason.contains(atom))).collect();
+            let before: Vec<usize> =
+                (0..durations.len()).filter(|j| *j != task && both(j).iter().all(|atom| reason.contains(atom))).collect();
             let mut lasting: Vec<i32> = before.iter().map(|j| durations[*j]).collect();
             let mut reached: Vec<Range> = before.iter().map(|j| ranges[*j]).collect();
             assert!(reason.contains(&Atom::at_least(task, ranges[task].earliest)));

@@ -29,7 +29,7 @@ use Rattle.precedence_reasons.specs.declared.answer.BoundAbove.the-varia
 use Rattle.precedence_reasons.specs.Numbers.{boundNumbers}
 use Rattle.precedence_reasons.specs.Bounds.{RaisesTo, Raises, BoundTold, boundNumber, BoundGiven}
 use Rattle.precedence_reasons.specs.TaskArrays.{BoundLeft}
-use Rattle.precedence_reasons.proofs.Raising.{from-start, among, raises-yes, raises-no}
+use Rattle.precedence_reasons.proofs.Raising.{from-start, among, raises-yes}
 
 -- What the code answers of its arrays.
 module _ {n : ℕ} {est lst durations : List ℕ} (f : Ranged n est lst durations) (i : ℕ) (q : i < n) where

@@ -1,14 +1,13 @@
 -- The bound and its reason, over the same ranges: one is answered exactly where the other has atoms, and the reason explains the bound.
 -- Assumes nothing.
-use mathlib.Core.Path.{_≡_, refl, sym, ap, _∙_}
+use mathlib.Core.Path.{_≡_, refl}
 use mathlib.Core.Logic.{_⊎_, inl, inr, _↔_}
 use mathlib.Core.List.{List, [], _∷_}
 use mathlib.Core.Option.{some}
 use Prim.Native.Nat.{ℕ, _≤_}
 use native.Mathlib.Omega.{arith}
 use lib.IntN.{ℤ}
-use lib.ListN.{length}
-use Rattle.integers.specs.Answers.{Answer, answered}
+use Rattle.integers.specs.Answers.{answered}
 use Rattle.integers.proofs.Answers.{countAt, same-kind, same-count}
 use Rattle.scheduling.specs.Scheduling.{whole, Tasks, Contradicts}
 use Rattle.precedence_reasons.specs.declared.answer.Reason.{Reason}

@@ -1,7 +1,6 @@
 -- `request_answers::bound_above_numbers` meets its contract: each case gives its own numbers.
 -- Assumes nothing.
-use mathlib.Core.Path.{ap, sym, _∙_}
-use lib.IntN.{ℤ}
+use mathlib.Core.Path.{sym, _∙_}
 use mir.Syntax.{w32}
 use Rattle.integers.proofs.Ints.{back-of}
 use Rattle.precedence_reasons.specs.declared.answer.BoundAbove.the-variants.{At}
