@@ -1,2 +1,3 @@
-pub mod Answers
+pub mod SourceAnswers
 pub mod Examples
+pub mod AddedAnswers

@@ -1,5 +1,4 @@
 -- From moments to whole numbers: the busiest stretch of a fixed schedule, and the call's answer.
--- Assumes nothing.
 use mathlib.Core.Path.{_≡_, refl, sym, ap, subst, _∙_}
 use mathlib.Core.Logic.{⊎-elim}
 use mathlib.Core.List.{List, []}
@@ -9,21 +8,20 @@ use lib.IntN.{ℤ, pos, negsuc, _+ℤ_, _-ℤ_}
 use lib.ListN.{length, getD, take}
 use Rattle.integers.specs.Answers.{refusedBy}
 use Rattle.integers.specs.Limits.{TASKS}
-use Rattle.integers.specs.Filling.{filled, noTasks}
-use Rattle.integers.specs.Moments.{moment, instant, zeroAt, Above}
+use Rattle.integers.specs.FilledLists.{filled, noTasks}
+use Rattle.integers.specs.Moments.{moment, instant, zeroAt, Above, momentAt}
 use Rattle.integers.specs.Orders.{index, Ordered}
 use Rattle.integers.proofs.Ints.{ints, up, dn, subℤ, minℤ-is, maxℤ-is}
 use Rattle.integers.specs.Extremes.{minℤ, maxℤ}
-use Rattle.integers.proofs.Moments.{mono, reflect, mono<, plus, plus-above, above-up, at-moment, instant-above, moment-instant}
+use Rattle.integers.proofs.MomentSums.{mono, reflect, mono<, plus, plus-above, above-up, at-moment, instant-above, moment-instant}
 use Rattle.scheduling.specs.Scheduling.{whole, natural, Tasks, total}
 use Rattle.scheduling.proofs.Sets.{total-ext}
-use Rattle.sorts.specs.Orders.{momentAt}
-use Rattle.records.specs.declared.record.Propagator.{Propagator}
+use Rattle.records.specs.declared.record.DisjunctivePropagator.{DisjunctivePropagator}
 use Rattle.records.specs.Records.{durationOf}
 use Rattle.fixed_schedules.specs.FixedSchedules.{orderOf, tasksOn, AcceptedFixed}
 use Rattle.fixed_schedules.specs.Neighbours.{inMoments}
 use Rattle.fixed_schedules.specs.Asked.{LengthFits}
-use Rattle.fixed_schedules.proofs.Accepting.{Told, input-of, told, by-moments, moment-low, moment-high}
+use Rattle.fixed_schedules.proofs.AcceptedSchedules.{Told, input-of, told, by-moments, moment-low, moment-high}
 use Rattle.busiest_stretch.specs.declared.answer.Busiest.{Busiest}
 use Rattle.busiest_stretch.specs.declared.answer.Busiest.the-variants.{Stretch, Refused}
 use Rattle.busiest_stretch.specs.Numbers.{busiestNumbers}
@@ -89,7 +87,8 @@ module _ (o : ℕ) (J : Tasks whole) (M : Tasks natural) (told : Told o J M) whe
     busiest-up w c m b = record {
       counts = counts-up m (b .held .from) (b .held .to);
       covers = covered-same w (instant o m) (instant-above o m) ∙ ap (coveredIn M w) (moment-instant o m) ∙ b .held .covers;
-      most = λ u h. ⊎-elim (λ l. omega (arith, l, covered-same w u (counts-above u h))) (λ l. omega (arith, l .0, covered-same w u (counts-above u h))) (b .most (moment o u) (counts-from u h) (counts-to u h));
+      most = λ u h. ⊎-elim (λ l. omega (arith, l, covered-same w u (counts-above u h))) (λ l. omega (arith, l .0, covered-same w u (counts-above u h)))
+          (b .most (moment o u) (counts-from u h) (counts-to u h));
       least = λ u h q.
           (let f = mono< o u (instant o m) (counts-above u h) (instant-above o m) q in
           ⊎-elim (λ l. omega (arith, l, covered-same w u (counts-above u h))) (λ l. absurd (omega (arith, l .1, f, moment-instant o m))) (b .most (moment o u) (counts-from u h) (counts-to u h)));
@@ -106,7 +105,7 @@ run-of n order starts place o h = record {
 }
 
 -- ---- an accepted question
-module _ (r : Propagator) (es ls : List ℤ) (w : ℤ) (a : AcceptedFixed r es ls) (q : LengthFits w) (starts : List ℕ) (s : starts ≡ filled (momentAt es) (length es) noTasks)
+module _ (r : DisjunctivePropagator) (es ls : List ℤ) (w : ℤ) (a : AcceptedFixed r es ls) (q : LengthFits w) (starts : List ℕ) (s : starts ≡ filled (momentAt es) (length es) noTasks)
     (length′ : ℕ) (p : pos length′ ≡ w) (order : List ℕ) (e : take (length es) order ≡ orderOf es) where
   by-start : Ordered (r .count) (λ t. getD order t 0) (index (orderOf es)) (λ j k. getD starts j 0 ≤ getD starts k 0)
   by-start = by-moments r es ls (input-of a) starts s order e
@@ -134,11 +133,13 @@ module _ (r : Propagator) (es ls : List ℤ) (w : ℤ) (a : AcceptedFixed r es l
     time = c;
     start = instant zeroAt m;
     answer = ap (λ (s : ℤ). busiestNumbers (Stretch c s)) z;
-    busiest = subst (λ (n : ℕ). BusiestAt (tasksOn r es ls) n c (instant zeroAt m)) (ap durationOf p) (busiest-up zeroAt (tasksOn r es ls) (inMoments (r .count) starts (r .durations)) (told r es ls (input-of a) starts s) (getD starts (getD order 0 0) 0) (getD starts (getD order (r .count - 1) 0) 0) (runs .least) (runs .greatest) (runs .starts-first) (runs .starts-last) length′ c m b);
+    busiest = subst (λ (n : ℕ). BusiestAt (tasksOn r es ls) n c (instant zeroAt m)) (ap durationOf p)
+        (busiest-up zeroAt (tasksOn r es ls) (inMoments (r .count) starts (r .durations)) (told r es ls (input-of a) starts s) (getD starts (getD order 0 0) 0)
+        (getD starts (getD order (r .count - 1) 0) 0) (runs .least) (runs .greatest) (runs .starts-first) (runs .starts-last) length′ c m b);
   }
 
 -- ---- the call
-module _ (r : Propagator) (es ls : List ℤ) (w : ℤ) where
+module _ (r : DisjunctivePropagator) (es ls : List ℤ) (w : ℤ) where
   pub refused : (m : ℕ) → m ≡ stretchNumber r es ls w → (m ≡ 0 → ⊥) → Answered r es ls w (Refused m)
   refused m e not = record { refused = λ _. ap refusedBy e; found = λ z. absurd (not (e ∙ z)) }
 
@@ -146,7 +147,7 @@ module _ (r : Propagator) (es ls : List ℤ) (w : ℤ) where
   answered x z f = record { refused = λ not. absurd (not z); found = λ _. f }
 
 -- too many ranges are refused as none are
-pub too-many : (r : Propagator) (es ls : List ℤ) (w : ℤ) (x : Busiest) → TASKS < length es → Answered r [] [] w x → Answered r es ls w x
+pub too-many : (r : DisjunctivePropagator) (es ls : List ℤ) (w : ℤ) (x : Busiest) → TASKS < length es → Answered r [] [] w x → Answered r es ls w x
 too-many r es ls w x many a =
     let (same, not) = stretch-many r es ls w many in
     record { refused = λ _. a .refused (λ z. not (sym same ∙ z)) ∙ ap refusedBy same; found = λ z. absurd (not z) }

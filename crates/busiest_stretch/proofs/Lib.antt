@@ -1,6 +1,6 @@
-pub mod Sliding
-pub mod Climbing
-pub mod Trying
+pub mod CoveredTime
+pub mod LocalBest
+pub mod TriedStretches
 pub mod StretchRefused
 pub mod Answers
-pub mod Apart
+pub mod BusiestNumbers

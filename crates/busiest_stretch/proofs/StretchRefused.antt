@@ -1,5 +1,4 @@
 -- What refuses a question: what holds where nothing does, and the sole ground for each number.
--- Assumes nothing.
 use mathlib.Core.Path.{_≡_, refl, _∙_}
 use mathlib.Core.Bool.{true, false}
 use mathlib.Core.Logic.{_↔_}
@@ -10,16 +9,16 @@ use lib.ListN.{length}
 use Rattle.integers.specs.Limits.{TASKS}
 use Rattle.integers.specs.Tests.{Test, test}
 use Rattle.integers.proofs.Tests.{accepts, refuses, more-accepted, more-refused}
-use Rattle.records.specs.declared.record.Propagator.{Propagator}
+use Rattle.records.specs.declared.record.DisjunctivePropagator.{DisjunctivePropagator}
 use Rattle.records.specs.Records.{Lawful}
-use Rattle.input_refusals.specs.Refusals.{CountsFit, StartsFit, RangesFit}
+use Rattle.records.specs.Refusals.{CountsFit, StartsFit, RangesFit}
 use Rattle.fixed_schedules.specs.FixedSchedules.{fixedTests, fixedNumber, Fixed, AcceptedFixed}
 use Rattle.fixed_schedules.specs.Asked.{lengthFits, LengthFits}
-use Rattle.fixed_schedules.proofs.Asking.{length-is}
+use Rattle.fixed_schedules.proofs.AskedMoments.{length-is}
 use Rattle.fixed_schedules.proofs.FixedRefused.{fixed-first, fixed-then, fixed-20, fixed-10, fixed-3, fixed-4, fixed-14, fixed-many, passed-fixed}
 use Rattle.busiest_stretch.specs.Stretches.{stretchNumber}
 
-module _ (r : Propagator) (es ls : List ℤ) (w : ℤ) where
+module _ (r : DisjunctivePropagator) (es ls : List ℤ) (w : ℤ) where
   -- the test that is the question's own
   abbrev t23 : Test
   t23 = test 23 (lengthFits w)
@@ -59,5 +58,5 @@ module _ (r : Propagator) (es ls : List ℤ) (w : ℤ) where
   refused-23 = more-refused (fixedTests r es ls) t23 (passed-fixed r es ls) (length-is w) refl refl
 
 -- more ranges than any record has tasks are refused by the number that refuses none
-pub stretch-many : (r : Propagator) (es ls : List ℤ) (w : ℤ) → TASKS < length es → (stretchNumber r [] [] w ≡ stretchNumber r es ls w) × (stretchNumber r es ls w ≡ 0 → ⊥)
+pub stretch-many : (r : DisjunctivePropagator) (es ls : List ℤ) (w : ℤ) → TASKS < length es → (stretchNumber r [] [] w ≡ stretchNumber r es ls w) × (stretchNumber r es ls w ≡ 0 → ⊥)
 stretch-many r es ls w many = fixed-many r es ls (t23 r [] [] w ∷ []) (t23 r es ls w ∷ []) many

@@ -1,21 +1,20 @@
 -- The definitions at small inputs.
--- Assumes nothing.
 use mathlib.Core.Path.{_≡_, refl}
 use mathlib.Core.List.{List, [], _∷_}
 use Prim.Native.Nat.{_+_}
 use lib.IntN.{ℤ, pos, negsuc}
-use Rattle.integers.specs.Filling.{filled}
+use Rattle.integers.specs.FilledLists.{filled}
 use Rattle.integers.specs.Limits.{LENGTH}
 use Rattle.integers.specs.Tests.{allBelow, refusal}
 use Rattle.integers.specs.Extremes.{minℤ, maxℤ}
 use Rattle.scheduling.specs.Scheduling.{total}
-use Rattle.records.specs.declared.record.Propagator.{Propagator}
+use Rattle.records.specs.declared.record.DisjunctivePropagator.{DisjunctivePropagator}
 use Rattle.records.specs.Records.{unusedAt, lawfulRecord, newRecord}
 use Rattle.fixed_schedules.specs.FixedSchedules.{tasksOn}
 use Rattle.busiest_stretch.specs.Stretches.{common, covered, stretchNumber}
 
 -- task 0 starts at −2 and lasts 1, task 1 starts at 1 and lasts 4
-two : Propagator
+two : DisjunctivePropagator
 two = newRecord (pos 1 ∷ pos 4 ∷ [])
 
 starts : List ℤ

@@ -4,11 +4,12 @@ use mathlib.Core.List.{List, [], _∷_, _++_}
 use Prim.Native.Nat.{ℕ, _≤_, _<_}
 use lib.IntN.{ℤ, pos, _+ℤ_, _-ℤ_}
 use lib.Signed.{_≤ℤ_, _<ℤ_}
+use Rattle.integers.specs.Refused as refused
 use Rattle.integers.specs.Answers.{answered, refusedBy}
 use Rattle.integers.specs.Tests.{Test, test, refusal}
 use Rattle.integers.specs.Extremes.{minℤ, maxℤ}
 use Rattle.scheduling.specs.Scheduling.{whole, Tasks, total}
-use Rattle.records.specs.declared.record.Propagator.{Propagator}
+use Rattle.records.specs.declared.record.DisjunctivePropagator.{DisjunctivePropagator}
 use Rattle.records.specs.Records.{durationOf}
 use Rattle.fixed_schedules.specs.FixedSchedules.{tasksOn, fixedTests}
 use Rattle.fixed_schedules.specs.Asked.{lengthFits}
@@ -37,20 +38,20 @@ module _ (J : Tasks whole) where
     pub least : (u : ℤ) → Counts u → u <ℤ x → covered w u < c
 
 -- those of a fixed schedule; then 23: a length out of the limits
-abbrev pub stretchTests : Propagator → List ℤ → List ℤ → ℤ → List Test
-stretchTests r es ls w = fixedTests r es ls ++ (test 23 (lengthFits w) ∷ [])
+abbrev pub stretchTests : DisjunctivePropagator → List ℤ → List ℤ → ℤ → List Test
+stretchTests r es ls w = fixedTests r es ls ++ (test refused.LENGTH (lengthFits w) ∷ [])
 
-abbrev pub stretchNumber : Propagator → List ℤ → List ℤ → ℤ → ℕ
+abbrev pub stretchNumber : DisjunctivePropagator → List ℤ → List ℤ → ℤ → ℕ
 stretchNumber r es ls w = refusal (stretchTests r es ls w)
 
 -- The answer is the greatest covered time and the least start that reaches it.
-pub record Found (r : Propagator) (es ls : List ℤ) (w : ℤ) (a : Busiest) : Type 0 where
+pub record Found (r : DisjunctivePropagator) (es ls : List ℤ) (w : ℤ) (a : Busiest) : Type 0 where
   pub time : ℕ
   pub start : ℤ
   pub answer : busiestNumbers a ≡ answered 0 (pos time ∷ start ∷ [])
   pub busiest : BusiestAt (tasksOn r es ls) (durationOf w) time start
 
 -- The first test that fails refuses the question; else the answer is the busiest stretch.
-pub record Answered (r : Propagator) (es ls : List ℤ) (w : ℤ) (a : Busiest) : Type 0 where
+pub record Answered (r : DisjunctivePropagator) (es ls : List ℤ) (w : ℤ) (a : Busiest) : Type 0 where
   pub refused : (stretchNumber r es ls w ≡ 0 → ⊥) → busiestNumbers a ≡ refusedBy (stretchNumber r es ls w)
   pub found : stretchNumber r es ls w ≡ 0 → Found r es ls w a

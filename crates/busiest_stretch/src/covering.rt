@@ -1,7 +1,7 @@
 // How much of a stretch the tasks cover, in moments.
 use integers::limits::TASKS;
-use integers::max;
-use integers::min;
+use integers::numbers::max;
+use integers::numbers::min;
 ghost use mathlib.Core.Path.{_≡_};
 ghost use Prim.Native.Nat.{_+_, _≤_, min, max};
 ghost use Rattle.integers.specs.Limits.{START};

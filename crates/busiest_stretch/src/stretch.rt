@@ -6,10 +6,11 @@ use fixed_schedules::asked::length_fits;
 use fixed_schedules::order::order_of;
 use fixed_schedules::refusals::fixed_refusal;
 use integers::limits::TASKS;
-use integers::nat_of;
-use integers::start_of;
-use records::record::Propagator;
-use sorts::orders::moments_of;
+use integers::moments::moments_of;
+use integers::moments::start_of;
+use integers::numbers::nat_of;
+use integers::refused;
+use records::record::DisjunctivePropagator;
 ghost use mathlib.Core.Path.{_≡_};
 ghost use Rattle.fixed_schedules.specs.Neighbours.{inMoments};
 ghost use Rattle.busiest_stretch.specs.Stretches.{stretchNumber, Answered};
@@ -22,7 +23,7 @@ pub struct Stretch {
 }
 
 // The number that refuses a question, or 0: 20, 10, 3, 4, 14, 23.
-fn stretch_refusal(record: Propagator, earliest: &[i32], latest: &[i32], w: i32) -> u32
+fn stretch_refusal(record: DisjunctivePropagator, earliest: &[i32], latest: &[i32], w: i32) -> u32
     ensures { λ r. ⌜ r ≡ stretchNumber «record» (now (earliest .entry)) (now (latest .entry)) w ⌝ }
 {
     let number = fixed_refusal(record, earliest, latest);
@@ -30,7 +31,7 @@ fn stretch_refusal(record: Propagator, earliest: &[i32], latest: &[i32], w: i32)
         return number;
     }
     if !length_fits(w) {
-        return 23;
+        return refused::LENGTH;
     }
     0
 }
@@ -46,7 +47,8 @@ fn better<'a>(
     best: Stretch,
     x: u32,
 ) -> Stretch
-    requires { ⌜ Slidable n (now starts) (now durations) w × Run n (now starts) first last × Held (inMoments n (now starts) (now durations)) w first last (best .covered) (best .start) ⌝ }
+    requires { ⌜ Slidable n (now starts) (now durations) w × Run n (now starts) first last
+        × Held (inMoments n (now starts) (now durations)) w first last (best .covered) (best .start) ⌝ }
     ensures { λ r. ⌜ Tried (inMoments n (now (starts .entry)) (now (durations .entry))) w first last x (best .covered) (best .start) (r .covered) (r .start) ⌝ }
 {
     if x < first {
@@ -98,7 +100,12 @@ fn busiest<'a>(
 }
 
 // The greatest time that tasks cover of a stretch of length w, and the least start that reaches it.
-pub fn busiest_stretch(record: Propagator, earliest: &[i32], latest: &[i32], w: i32) -> Busiest
+pub fn busiest_stretch(
+    record: DisjunctivePropagator,
+    earliest: &[i32],
+    latest: &[i32],
+    w: i32,
+) -> Busiest
     ensures { λ r. ⌜ Answered «record» (now (earliest .entry)) (now (latest .entry)) w r ⌝ }
 {
     let number = stretch_refusal(record, earliest, latest, w);

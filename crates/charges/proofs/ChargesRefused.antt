@@ -1,5 +1,4 @@
 -- What refuses a call for charges: what holds where nothing does, and the sole ground for each number.
--- Assumes nothing.
 use mathlib.Core.Path.{_≡_, refl, _∙_}
 use mathlib.Core.Bool.{true, false, _&&_}
 use mathlib.Core.Logic.{_↔_}
@@ -14,13 +13,13 @@ use Rattle.integers.specs.Limits.{TASKS, DUE}
 use Rattle.integers.specs.Tests.{Test, test, allBelow}
 use Rattle.integers.proofs.Bools.{and-true, and-yes}
 use Rattle.integers.proofs.Tests.{all-at, all-show, accepts, refuses, more-accepted, more-refused}
-use Rattle.records.specs.declared.record.Propagator.{Propagator}
+use Rattle.records.specs.declared.record.DisjunctivePropagator.{DisjunctivePropagator}
 use Rattle.records.specs.Records.{Lawful}
-use Rattle.input_refusals.specs.Refusals.{CountsFit, StartsFit, RangesFit}
-use Rattle.input_refusals.proofs.Refused.{within-is}
+use Rattle.records.specs.Refusals.{CountsFit, StartsFit, RangesFit}
+use Rattle.records.proofs.RefusedRuns.{within-is}
 use Rattle.fixed_schedules.specs.FixedSchedules.{fixedTests, fixedNumber, Fixed, AcceptedFixed}
 use Rattle.fixed_schedules.proofs.FixedRefused.{fixed-first, fixed-then, fixed-20, fixed-10, fixed-3, fixed-4, fixed-14, fixed-many, passed-fixed}
-use Rattle.charges.specs.Charging.{dueFitsAt, chargesNumber, DueFits, DuesFit, Accepted}
+use Rattle.charges.specs.Charges.{dueFitsAt, chargesNumber, DueFits, DuesFit, Accepted}
 
 due-is : (z : ℤ) → leZ (negℤ (pos DUE)) z && leZ z (pos DUE) ≡ true ↔ DueFits z
 due-is z = let w = within-is (negℤ (pos DUE)) (pos DUE) z in (λ h. record { low = w .0 h .0; high = w .0 h .1 }, λ f. w .1 (f .low, f .high))
@@ -30,10 +29,11 @@ dues-are n due = (
   λ h.
       (let a = and-true (eqb (length due) n) (allBelow (dueFitsAt due) (length due)) h in
       record { long = eqb-true (length due) n (a .0); within = λ k q. due-is (getD due k (pos 0)) .0 (all-at (dueFitsAt due) (length due) (a .1) k q) }),
-  λ f. and-yes (eqb (length due) n) (allBelow (dueFitsAt due) (length due)) (eq-eqb (length due) n (f .long)) (all-show (dueFitsAt due) (length due) (λ k q. due-is (getD due k (pos 0)) .1 (f .within k q))),
+  λ f. and-yes (eqb (length due) n) (allBelow (dueFitsAt due) (length due)) (eq-eqb (length due) n (f .long))
+      (all-show (dueFitsAt due) (length due) (λ k q. due-is (getD due k (pos 0)) .1 (f .within k q))),
 )
 
-module _ (r : Propagator) (es ls due : List ℤ) where
+module _ (r : DisjunctivePropagator) (es ls due : List ℤ) where
   -- the test that is the charges' own
   abbrev t19 : Test
   t19 = test 19 (eqb (length due) (r .count) && allBelow (dueFitsAt due) (length due))
@@ -75,5 +75,5 @@ module _ (r : Propagator) (es ls due : List ℤ) where
   refused-19 = more-refused (fixedTests r es ls) t19 (passed-fixed r es ls) (dues-are (r .count) due) refl refl
 
 -- more ranges than any record has tasks are refused by the number that refuses none
-pub charges-many : (r : Propagator) (es ls due : List ℤ) → TASKS < length es → (chargesNumber r [] [] due ≡ chargesNumber r es ls due) × (chargesNumber r es ls due ≡ 0 → ⊥)
+pub charges-many : (r : DisjunctivePropagator) (es ls due : List ℤ) → TASKS < length es → (chargesNumber r [] [] due ≡ chargesNumber r es ls due) × (chargesNumber r es ls due ≡ 0 → ⊥)
 charges-many r es ls due many = fixed-many r es ls (t19 r [] [] due ∷ []) (t19 r es ls due ∷ []) many

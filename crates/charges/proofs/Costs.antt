@@ -1,5 +1,4 @@
 -- The tariff row by row: hours of one row cost its cents each, which is what the code sums. So the cost is as printed, at most 2,000, and no less for more minutes.
--- Assumes nothing.
 use mathlib.Core.Path.{_≡_, sym, ap, subst, _∙_}
 use mathlib.Core.List.{List}
 use Prim.Native.Nat.{ℕ, zero, suc, _+_, _-_, _*_, _≤_, _<_, min}
@@ -13,7 +12,7 @@ use Rattle.scheduling.specs.Scheduling.{total}
 use Rattle.scheduling.proofs.Sets.{total-none, total-more, total-up}
 use Rattle.charges.specs.declared.rates.Row.{Row}
 use Rattle.charges.specs.Tariff.{tariff, rate, costOfHours, hoursBegun, costOf, printed}
-use Rattle.charges.specs.Charging.{MINUTES}
+use Rattle.charges.specs.Charges.{MINUTES}
 
 -- ---- a sum
 -- d places from a on that hold c each

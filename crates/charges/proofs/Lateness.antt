@@ -1,5 +1,4 @@
 -- Minutes late, from the moments of a task's end and of its due moment.
--- Assumes nothing.
 use mathlib.Core.Path.{_≡_, refl, ap}
 use Prim.Native.Nat.{_+_, _-_, _≤_, _<_}
 use lib.IntN.{ℤ, pos, negsuc, _-ℤ_}
@@ -7,9 +6,9 @@ use lib.Signed.{_≤ℤ_}
 use Rattle.integers.specs.Limits.{DUE}
 use Rattle.integers.specs.Moments.{moment, zeroAt, Above}
 use Rattle.integers.proofs.Ints.{ints, up, dn, up-neg, dn-neg, subℤ}
-use Rattle.integers.proofs.Moments.{at-moment, above-show}
+use Rattle.integers.proofs.MomentSums.{at-moment, above-show}
 use Rattle.charges.specs.Tariff.{past, minutesLate}
-use Rattle.charges.specs.Charging.{DueFits}
+use Rattle.charges.specs.Charges.{DueFits}
 
 past-none : (z : ℤ) → z ≤ℤ pos 0 → past z ≡ 0
 unfolding up dn

@@ -1,5 +1,5 @@
 pub mod Costs
 pub mod Lateness
 pub mod ChargesRefused
-pub mod Billing
-pub mod Apart
+pub mod AcceptedCharges
+pub mod ChargesNumbers

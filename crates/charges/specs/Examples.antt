@@ -1,17 +1,16 @@
 -- The tariff's printed examples, and the call's number at small inputs.
--- Assumes nothing.
 use mathlib.Core.Path.{_≡_, refl}
 use mathlib.Core.List.{[], _∷_}
 use Prim.Native.Nat.{_+_}
 use lib.IntN.{pos, negsuc, negℤ}
-use Rattle.integers.specs.Filling.{filled}
+use Rattle.integers.specs.FilledLists.{filled}
 use Rattle.integers.specs.Limits.{DUE}
 use Rattle.integers.specs.Tests.{allBelow, refusal}
 use Rattle.scheduling.specs.Scheduling.{total}
-use Rattle.records.specs.declared.record.Propagator.{Propagator}
+use Rattle.records.specs.declared.record.DisjunctivePropagator.{DisjunctivePropagator}
 use Rattle.records.specs.Records.{unusedAt, lawfulRecord, newRecord}
 use Rattle.charges.specs.Tariff.{rate, costOf, minutesLate}
-use Rattle.charges.specs.Charging.{chargeAt, chargesNumber}
+use Rattle.charges.specs.Charges.{chargeAt, chargesNumber}
 
 -- a task that ends on time costs nothing
 no-minute : costOf 0 ≡ 0
@@ -66,7 +65,7 @@ early : minutesLate (negsuc 2) (pos 5) ≡ 0
 early = refl
 
 -- task 0 lasts 4 from 3 on and task 1 lasts 15 from −12 on, due at −54 and at 3: 61 minutes late, and on time
-two : Propagator
+two : DisjunctivePropagator
 two = newRecord (pos 4 ∷ pos 15 ∷ [])
 
 first-charge : chargeAt (4 ∷ 15 ∷ []) (pos 3 ∷ negsuc 11 ∷ []) (negsuc 53 ∷ pos 3 ∷ []) 0 ≡ 50

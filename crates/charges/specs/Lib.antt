@@ -1,5 +1,5 @@
 pub mod Tariff
 pub mod Numbers
-pub mod Charging
-pub mod Billed
+pub mod Charges
+pub mod ChargeLoop
 pub mod Examples

@@ -5,16 +5,16 @@ use crate::answer::Charges;
 use crate::rates::cost_of;
 use crate::refusals::charges_refusal;
 use integers::limits::TASKS;
-use integers::moment_of;
-use records::record::Propagator;
+use integers::moments::moment_of;
+use records::record::DisjunctivePropagator;
 ghost use mathlib.Core.Path.{_≡_};
 ghost use Prim.Native.Nat.{_≤_};
 ghost use lib.IntN.{pos, _+ℤ_};
 ghost use Rattle.integers.specs.Limits.{DURATIONS};
-ghost use Rattle.input_refusals.specs.Refusals.{StartFits};
+ghost use Rattle.records.specs.Refusals.{StartFits};
 ghost use Rattle.charges.specs.Tariff.{minutesLate, costOf};
-ghost use Rattle.charges.specs.Charging.{DueFits, MINUTES, noBill, Charged};
-ghost use Rattle.charges.specs.Billed.{Chargeable, Summed};
+ghost use Rattle.charges.specs.Charges.{DueFits, MINUTES, noBill, Charged};
+ghost use Rattle.charges.specs.ChargeLoop.{Chargeable, Summed};
 
 // How many minutes after its due moment a task ends.
 fn minutes_late(start: i32, duration: u32, due: i32) -> u32
@@ -68,7 +68,12 @@ fn no_bill() -> Bill
 }
 
 // The charges of a fixed schedule; or the bill of zeros, with the number that refused the call.
-pub fn charges(record: Propagator, earliest: &[i32], latest: &[i32], due: &[i32]) -> Charges
+pub fn charges(
+    record: DisjunctivePropagator,
+    earliest: &[i32],
+    latest: &[i32],
+    due: &[i32],
+) -> Charges
     ensures { λ r. ⌜ Charged «record» (now (earliest .entry)) (now (latest .entry)) (now (due .entry)) r ⌝ }
 {
     let number = charges_refusal(record, earliest, latest, due);

@@ -1,9 +1,9 @@
 // The tariff as code: its table, and what a number of minutes costs by it.
-use integers::min;
+use integers::numbers::min;
 ghost use mathlib.Core.Path.{_≡_};
 ghost use Prim.Native.Nat.{_≤_, min};
 ghost use Rattle.charges.specs.Tariff.{costOf};
-ghost use Rattle.charges.specs.Charging.{MINUTES};
+ghost use Rattle.charges.specs.Charges.{MINUTES};
 
 // A row of the tariff: the last hour that it is for, and what each hour begun of it costs, in cents.
 pub struct Row {

@@ -1,11 +1,12 @@
 // What refuses a call for charges.
 use fixed_schedules::refusals::fixed_refusal;
-use input_refusals::all_within;
-use records::record::Propagator;
+use integers::refused;
+use records::record::DisjunctivePropagator;
+use records::refusals::all_within;
 ghost use mathlib.Core.Path.{_≡_};
 ghost use lib.ListN.{length};
 ghost use Rattle.integers.specs.Tests.{allBelow};
-ghost use Rattle.charges.specs.Charging.{dueFitsAt, chargesNumber};
+ghost use Rattle.charges.specs.Charges.{dueFitsAt, chargesNumber};
 
 // Whether every due moment is within the limits.
 fn dues_fit(due: &[i32]) -> bool
@@ -15,7 +16,12 @@ fn dues_fit(due: &[i32]) -> bool
 }
 
 // The number that refuses a call, or 0: 20, 10, 3, 4, 14, 19.
-pub fn charges_refusal(record: Propagator, earliest: &[i32], latest: &[i32], due: &[i32]) -> u32
+pub fn charges_refusal(
+    record: DisjunctivePropagator,
+    earliest: &[i32],
+    latest: &[i32],
+    due: &[i32],
+) -> u32
     ensures { λ r. ⌜ r ≡ chargesNumber «record» (now (earliest .entry)) (now (latest .entry)) (now (due .entry)) ⌝ }
 {
     let number = fixed_refusal(record, earliest, latest);
@@ -23,10 +29,10 @@ pub fn charges_refusal(record: Propagator, earliest: &[i32], latest: &[i32], due
         return number;
     }
     if due.len() != record.count {
-        return 19;
+        return refused::DUE;
     }
     if !dues_fit(due) {
-        return 19;
+        return refused::DUE;
     }
     0
 }

@@ -1,5 +1,4 @@
 -- The answer of a check, test by test.
--- Assumes nothing.
 use mathlib.Core.Path.{_≡_, refl, sym, ap, subst, _∙_}
 use mathlib.Core.Bool.{Bool, true, false}
 use mathlib.Core.List.{List}
@@ -9,21 +8,21 @@ use native.Mathlib.Decide.{ℕ-discrete}
 use lib.IntN.{ℤ}
 use Rattle.integers.specs.Limits.{TASKS}
 use Rattle.integers.specs.Tests.{refusal}
-use Rattle.atoms.specs.Atoms.{consequentOf}
-use Rattle.atoms.proofs.Atoms.{right-lists}
+use Rattle.checking.specs.Atoms.{consequentOf}
+use Rattle.checking.proofs.Atoms.{right-lists}
 use Rattle.checking.specs.declared.variable_state.Application.{Application}
 use Rattle.checking.specs.declared.variable_state.Application.the-variants as application
 use Rattle.checking.specs.declared.variable_state.Applied.{Applied}
 use Rattle.checking.specs.Answers.{AppliedAs}
 use Rattle.checking.specs.States.{Accepted, prepared}
-use Rattle.checking.proofs.Apart.{applied-apart}
-use Rattle.checking.proofs.Prepared.{prepared-right, prepared-accepted}
+use Rattle.checking.proofs.StateNumbers.{applied-apart}
+use Rattle.checking.proofs.PreparedStates.{prepared-right, prepared-accepted}
 use Rattle.records.specs.declared.record.Created.{Created}
 use Rattle.records.specs.declared.record.Creation.the-variants as creation
 use Rattle.records.specs.Records.{creationTests, created, Creates}
-use Rattle.records.proofs.Apart.{created-as}
+use Rattle.records.proofs.CreationNumbers.{created-as}
 use Rattle.records.proofs.Creation.{created-new, created-not}
-use Rattle.formulas.specs.BoundArrays.{mirroredBounds}
+use Rattle.checker.specs.BoundArrays.{mirroredBounds}
 use Rattle.checker.specs.declared.checker.Verdict.{Verdict}
 use Rattle.checker.specs.declared.checker.Verdict.the-variants.{Contradiction, Refused}
 use Rattle.checking.specs.declared.start_bounds.Bounds.{Bounds}
@@ -51,7 +50,8 @@ module _ (ds ps cs : List ℤ) where
       pub is-refused : (n : ℕ) → made .answer ≡ creation.Refused n → Refused n ≡ checkAs mirrored ds ps cs
       is-refused n a = elim (ℕ-discrete (refusal (creationTests ds)) 0) [
         | yes z ↦ (let e : creation.Accepted ≡ creation.Refused n = sym (ap (λ (m : Created). m .answer) (is ∙ created-new ds z)) ∙ a in absurd (let w : _≡_ {A = ℕ} 0 1 = cc in omega arith))
-        | no z ↦ (let e : creation.Refused (refusal (creationTests ds)) ≡ creation.Refused n = sym (ap (λ (m : Created). m .answer) (is ∙ created-not ds (refusal (creationTests ds)) refl z)) ∙ a in by n z (let w : refusal (creationTests ds) ≡ n = cc in w))
+        | no z ↦ (let e : creation.Refused (refusal (creationTests ds)) ≡ creation.Refused n = sym (ap (λ (m : Created). m .answer) (is ∙ created-not ds (refusal (creationTests ds)) refl z)) ∙ a in
+            by n z (let w : refusal (creationTests ds) ≡ n = cc in w))
       ]
         where
           by : (n : ℕ) → (refusal (creationTests ds) ≡ 0 → ⊥) → refusal (creationTests ds) ≡ n → Refused n ≡ checkAs mirrored ds ps cs
@@ -61,7 +61,8 @@ module _ (ds ps cs : List ℤ) where
       accepts : made .answer ≡ creation.Accepted → refusal (creationTests ds) ≡ 0
       accepts a = elim (ℕ-discrete (refusal (creationTests ds)) 0) [
         | yes z ↦ z
-        | no z ↦ (let e : creation.Refused (refusal (creationTests ds)) ≡ creation.Accepted = sym (ap (λ (m : Created). m .answer) (is ∙ created-not ds (refusal (creationTests ds)) refl z)) ∙ a in absurd (let w : _≡_ {A = ℕ} 0 1 = cc in omega arith))
+        | no z ↦ (let e : creation.Refused (refusal (creationTests ds)) ≡ creation.Accepted = sym (ap (λ (m : Created). m .answer) (is ∙ created-not ds (refusal (creationTests ds)) refl z)) ∙ a in
+            absurd (let w : _≡_ {A = ℕ} 0 1 = cc in omega arith))
       ]
 
       module _ (a : made .answer ≡ creation.Accepted) (applied : Applied) (as-prepared : AppliedAs (prepared ps cs) applied) where
@@ -110,7 +111,8 @@ module _ (ds ps cs : List ℤ) where
 
           pub can-judge-mirrored : (b b′ : Bounds) → b ≡ boundsOf (applied .state) (made .«record» .count) → b′ ≡ mirroredBounds b (made .«record» .durations) (made .«record» .count)
               → Judgeable ds (lowerAs true ds (applied .state)) (upperAs true ds (applied .state)) (made .«record» .count) b′ (made .«record» .durations)
-          can-judge-mirrored b b′ z y = subst (λ (x : Bounds). Judgeable ds (lowerAs true ds (applied .state)) (upperAs true ds (applied .state)) n x durations) (sym (y ∙ ap (λ (x : Bounds). mirroredBounds x durations n) z)) by-state-mirrored
+          can-judge-mirrored b b′ z y = subst (λ (x : Bounds). Judgeable ds (lowerAs true ds (applied .state)) (upperAs true ds (applied .state)) n x durations)
+              (sym (y ∙ ap (λ (x : Bounds). mirroredBounds x durations n) z)) by-state-mirrored
 
           pub consequent-right : Consequent cs
           consequent-right = let (p, short, right) = right-lists ps cs (prepared-right ps cs consistent) in record { short = short; right = right }

@@ -1,5 +1,4 @@
 -- The checks' definitions keep the promises.
--- Assumes nothing.
 use mathlib.Core.Path.{_≡_, refl, sym, subst, _∙_}
 use mathlib.Core.Bool.{true, false}
 use mathlib.Core.List.{List}
@@ -9,7 +8,7 @@ use Rattle.checker.specs.declared.checker.Verdict.the-variants.{Passed}
 use Rattle.checker.specs.Checks.{checkOf}
 use Rattle.checker.specs.MirroredChecks.{checkAs, checkMirroredOf}
 use Rattle.checker.specs.Checked.{Checked, CheckedMirrored}
-use Rattle.checker.proofs.Apart.{verdicts-apart}
+use Rattle.checker.proofs.VerdictNumbers.{verdicts-apart}
 use Rattle.checker.proofs.MirroredRefused.{unjudged-mirrored}
 use Rattle.checker.proofs.Soundness.{check-sound, mirrored-sound, exactly-passed, exactly-mirrored}
 use Rattle.checker.proofs.Unjudged.{unjudged}
@@ -27,7 +26,12 @@ module _ (ds ps cs : List ℤ) where
   check-promise = record { answer = refl; unjudged = unjudged ds ps cs; exactly = exactly-passed ds ps cs; sound = λ p. check-sound ds ps cs (verdicts-apart (checkOf ds ps cs) Passed p) }
 
   mirrored-promise : CheckedMirrored ds ps cs (checkMirroredOf ds ps cs)
-  mirrored-promise = record { answer = refl; unjudged = unjudged-mirrored ds ps cs; exactly = exactly-mirrored ds ps cs; sound = λ p. mirrored-sound ds ps cs (verdicts-apart (checkMirroredOf ds ps cs) Passed p) }
+  mirrored-promise = record {
+    answer = refl;
+    unjudged = unjudged-mirrored ds ps cs;
+    exactly = exactly-mirrored ds ps cs;
+    sound = λ p. mirrored-sound ds ps cs (verdicts-apart (checkMirroredOf ds ps cs) Passed p);
+  }
 
   -- the open calls, from the check in either time
   pub checked : (r : Verdict) → r ≡ checkAs false ds ps cs → Checked ds ps cs r

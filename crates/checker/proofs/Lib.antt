@@ -1,4 +1,10 @@
-pub mod Apart
+pub mod GatheredIntervals
+pub mod TaskLoop
+pub mod EarlyAnswers
+pub mod Formulas
+pub mod MirroredAtoms
+pub mod MirroredBounds
+pub mod VerdictNumbers
 pub mod MirroredGiven
 pub mod Soundness
 pub mod Verdicts

@@ -1,5 +1,4 @@
 -- Mirrored time and what a check takes for given: it is mirrored atom by atom, the negated consequent with the premises, and mirrored starts contradict where the starts do.
--- Assumes nothing.
 use mathlib.Core.Path.{_≡_, refl, sym, ap, subst, _∙_}
 use mathlib.Core.List.{List, [], _∷_, _++_, map-append}
 use mathlib.Core.Logic.{inl, inr}
@@ -9,8 +8,8 @@ use lib.IntN.{ℤ, pos, negsuc, _+ℤ_}
 use lib.Signed.{_≤ℤ_}
 use Rattle.integers.proofs.Ints.{ints, up, dn, sumℤ}
 use Rattle.scheduling.specs.Scheduling.{whole, Tasks, NoOverlap, Atom, Allows, Meets, Every, negation, negatedKind, negatedValue, given, Unmet, Contradicts}
-use Rattle.scheduling.specs.Mirroring.{mirrorStart, mirrorKind, mirrorAtom, mirrorAtoms}
-use Rattle.scheduling.proofs.Mirroring.{at-mirror, start-twice, meets-mirrored}
+use Rattle.scheduling.specs.MirroredTime.{mirrorStart, mirrorKind, mirrorAtom, mirrorAtoms}
+use Rattle.scheduling.proofs.MirroredTime.{at-mirror, start-twice, meets-mirrored}
 use Rattle.checker.specs.MirroredChecks.{mirrorIfAny}
 
 -- Atoms ------------------------------------------------------------------------------------------------------------------------

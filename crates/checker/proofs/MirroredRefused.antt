@@ -1,5 +1,4 @@
 -- The mirrored check is refused, and finds a contradiction, exactly where the check does: by the same number, at the same variable.
--- Assumes nothing.
 use mathlib.Core.Path.{_≡_, refl, sym, ap}
 use mathlib.Core.Bool.{Bool, true, false, cond, _&&_}
 use mathlib.Core.List.{List, [], _∷_}
@@ -13,15 +12,15 @@ use lib.ListN.{length}
 use Rattle.integers.specs.Answers.{Answer, answered, refusedBy}
 use Rattle.integers.specs.Tests.{refusal}
 use Rattle.scheduling.specs.Scheduling.{Atom}
-use Rattle.atoms.specs.Atoms.{consequentOf}
+use Rattle.checking.specs.Atoms.{consequentOf}
 use Rattle.checking.specs.declared.variable_state.VariableState.{VariableState}
 use Rattle.checking.specs.declared.variable_state.Application.{Application}
 use Rattle.checking.specs.declared.variable_state.Application.the-variants as application
 use Rattle.checking.specs.Bounds.{lowerIn, upperIn}
 use Rattle.checking.specs.States.{prepared}
 use Rattle.records.specs.Records.{durationAt, creationTests}
-use Rattle.formulas.specs.Formulas.{known, bounded, implied, overloaded}
-use Rattle.formulas.specs.StartBounds.{mirrorBound}
+use Rattle.checker.specs.Formulas.{known, bounded, implied, overloaded}
+use Rattle.checker.specs.StartBounds.{mirrorBound}
 use Rattle.checker.specs.declared.checker.Verdict.the-variants.{Refused}
 use Rattle.checker.specs.Checks.{verdict, judged, concluded, checkAfter, checkOf}
 use Rattle.checker.specs.MirroredChecks.{lowerAs, upperAs, judgedAs, checkMirroredOf}
@@ -59,7 +58,8 @@ module _ (ds : List ℤ) (a : Answer) (o : Other a) where
   )
   judged-same s (some b) =
       let k = b .variable in
-      let e : bounded (length ds) (durationAt ds) (lowerAs true ds s) (upperAs true ds s) k ≡ bounded (length ds) (durationAt ds) (lowerIn s) (upperIn s) k = both (durationAt ds k) (lowerIn s k) (upperIn s k) in
+      let e : bounded (length ds) (durationAt ds) (lowerAs true ds s) (upperAs true ds s) k ≡ bounded (length ds) (durationAt ds) (lowerIn s) (upperIn s) k =
+      both (durationAt ds k) (lowerIn s k) (upperIn s k) in
       let test = ap (λ (x : Bool). ltb k (length ds) && x) e in
       let there = implied (length ds) (durationAt ds) (lowerAs true ds s) (upperAs true ds s) k in
       let here = implied (length ds) (durationAt ds) (lowerIn s) (upperIn s) k in

@@ -1,5 +1,4 @@
 -- A check of atoms, rather than of words, passes where they meet the formula.
--- Assumes nothing.
 use mathlib.Core.Path.{_≡_, sym, ap, subst, _∙_}
 use mathlib.Core.Bool.{true}
 use mathlib.Core.List.{List, [], _∷_}
@@ -11,13 +10,13 @@ use lib.ListN.{length}
 use Rattle.integers.specs.Limits.{VARIABLES, VALUE, PREMISES}
 use Rattle.integers.specs.Tests.{refusal}
 use Rattle.scheduling.specs.Scheduling.{whole, Tasks, TaskSet, In, Atom, Allows, Meets, Every, Admits, given, negation, negatedKind, Bounded, PassesFormula}
-use Rattle.scheduling.specs.Mirroring.{mirrorAtoms}
+use Rattle.scheduling.specs.MirroredTime.{mirrorAtoms}
 use Rattle.scheduling.specs.Words.{atomWords}
-use Rattle.scheduling.proofs.Passed.{every-append}
+use Rattle.scheduling.proofs.Every.{every-append, every-map}
 use Rattle.scheduling.proofs.Words.{atoms-length}
-use Rattle.holes.specs.Holes.{Within}
-use Rattle.atoms.specs.Atoms.{atomsOf, first, consequentOf, rightWords, rightLists}
-use Rattle.atoms.proofs.Atoms.{atoms-none, atoms-words, words-none, words-right, lists-right, every-map, WellFormed}
+use Rattle.integers.specs.WholeNumbers.{Within}
+use Rattle.checking.specs.Atoms.{atomsOf, first, consequentOf, rightWords, rightLists}
+use Rattle.checking.proofs.Atoms.{atoms-none, atoms-words, words-none, words-right, lists-right, WellFormed}
 use Rattle.records.specs.Records.{durationAt, creationTests}
 use Rattle.checker.specs.declared.checker.Verdict.the-variants.{Passed}
 use Rattle.checker.specs.Checks.{checkOf, consequentWords, tasksWith}

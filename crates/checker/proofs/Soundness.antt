@@ -1,5 +1,4 @@
 -- What a check's verdict says: it is Passed exactly where the check meets the formula, and then no starts contradict it.
--- Assumes nothing.
 use mathlib.Core.Path.{_≡_, refl, sym, ap, subst, _∙_}
 use mathlib.Core.Bool.{Bool, true, false, cond, _&&_}
 use mathlib.Core.List.{List}
@@ -11,33 +10,33 @@ use borrow.Author.Tests.{ltb-true, lt-ltb, eq-eqb}
 use lib.Dec.{ltb}
 use lib.IntN.{ℤ}
 use lib.ListN.{length}
-use Rattle.integers.specs.Filling.{noTasks}
+use Rattle.integers.specs.FilledLists.{noTasks}
 use Rattle.integers.specs.Limits.{TASKS, VARIABLES, DURATIONS, VALUE, PREMISES, HOLES}
 use Rattle.integers.specs.Moments.{moment, Above, zeroAt}
 use Rattle.integers.specs.Tests.{refusal}
 use Rattle.integers.proofs.Bools.{bool, and-true, and-yes}
-use Rattle.integers.proofs.Filling.{filled-at}
+use Rattle.integers.proofs.FilledLists.{filled-at}
 use Rattle.integers.proofs.Ints.{ints, up, dn}
-use Rattle.integers.proofs.Moments.{above-show, at-moment}
+use Rattle.integers.proofs.MomentSums.{above-show, at-moment}
 use Rattle.scheduling.specs.Scheduling.{whole, Tasks, Atom, Every, Admits, given, PassesWith, PassesFormula, Contradicts}
-use Rattle.scheduling.specs.Mirroring.{mirrorStart, mirrorAtoms}
-use Rattle.scheduling.proofs.Passed.{passed-sound}
+use Rattle.scheduling.specs.MirroredTime.{mirrorStart, mirrorAtoms}
+use Rattle.scheduling.proofs.PassedChecks.{passed-sound}
 use Rattle.scheduling.proofs.Sets.{total-part}
-use Rattle.nodes.specs.Bounds.{LATEST}
-use Rattle.holes.specs.Holes.{Within}
-use Rattle.atoms.specs.Atoms.{atomsOf, consequentOf, rightLists}
+use Rattle.trees.specs.NodeBounds.{LATEST}
+use Rattle.integers.specs.WholeNumbers.{Within}
+use Rattle.checking.specs.Atoms.{atomsOf, consequentOf, rightLists}
 use Rattle.checking.specs.declared.variable_state.VariableState.{VariableState}
 use Rattle.checking.specs.declared.variable_state.Application.{Application}
 use Rattle.checking.specs.declared.variable_state.Application.the-variants as application
 use Rattle.checking.specs.States.{prepared}
 use Rattle.checking.specs.Bounds.{lowerIn, upperIn}
 use Rattle.checking.proofs.Bounds.{lower-is, upper-is, lower-none-is, upper-none-is, lower-near, upper-near}
-use Rattle.checking.proofs.Prepared.{prepared-success}
+use Rattle.checking.proofs.PreparedStates.{prepared-success}
 use Rattle.records.specs.Records.{durationAt, creationTests}
 use Rattle.records.proofs.Creation.{created-lawful, same-sum}
-use Rattle.formulas.specs.Formulas.{bounded, implied}
-use Rattle.formulas.proofs.Mirroring.{mirrored-reads}
-use Rattle.formulas.proofs.Formulas.{Reads, determined, overloaded-sound, overloaded-complete, implied-sound, implied-complete}
+use Rattle.checker.specs.Formulas.{bounded, implied}
+use Rattle.checker.proofs.MirroredAtoms.{mirrored-reads}
+use Rattle.checker.proofs.Formulas.{Reads, determined, overloaded-sound, overloaded-complete, implied-sound, implied-complete}
 use Rattle.checker.specs.declared.checker.Verdict.{Verdict}
 use Rattle.checker.specs.declared.checker.Verdict.the-variants.{Passed, NotPassed, Contradiction, Refused}
 use Rattle.checker.specs.Checks.{verdict, judgedBy, concluded, checkAfter, checkOf, tasksWith}
@@ -130,7 +129,8 @@ module _ (ds : List ℤ) (ok : refusal (creationTests ds) ≡ 0) where
     state = prepared ps cs .state
 
     -- the mirrored bounds are those of the mirrored atoms
-    pub reads-mirrored : Reads (length ds) (given (mirrorAtoms (durationAt ds) (atomsOf ps)) (mirrorIfAny (durationAt ds) (consequentOf cs))) (lowerAs true ds (prepared ps cs .state)) (upperAs true ds (prepared ps cs .state))
+    pub reads-mirrored : Reads (length ds) (given (mirrorAtoms (durationAt ds) (atomsOf ps)) (mirrorIfAny (durationAt ds) (consequentOf cs))) (lowerAs true ds (prepared ps cs .state))
+        (upperAs true ds (prepared ps cs .state))
     reads-mirrored = subst (λ (l : List Atom). Reads (length ds) l (lowerAs true ds state) (upperAs true ds state)) (sym (given-mirrored (durationAt ds) (atomsOf ps) (consequentOf cs)))
         (mirrored-reads (length ds) (durationAt ds) (given (atomsOf ps) (consequentOf cs)) (lowerIn state) (upperIn state) (λ k q. (durations-last k q, durations-most k q))
         (λ k q. upper-near ps cs k (omega (arith, few))) (reads ds ps cs few consistent))
@@ -193,10 +193,12 @@ pub mirrored-sound : (ds ps cs : List ℤ) → checkMirroredOf ds ps cs ≡ Pass
 mirrored-sound ds ps cs e s c =
     let (ok, p) = mirrored-formula ds ps cs e in
     let d = durationAt ds in
-    passed-sound (tasksWith ds) (λ k. mirrorStart (d k) (s k)) (mirrorAtoms d (atomsOf ps)) (mirrorIfAny d (consequentOf cs)) (durations-last ds ok) p (contradicts-mirrored (tasksWith ds) s (atomsOf ps) (consequentOf cs) c)
+    passed-sound (tasksWith ds) (λ k. mirrorStart (d k) (s k)) (mirrorAtoms d (atomsOf ps)) (mirrorIfAny d (consequentOf cs)) (durations-last ds ok) p
+    (contradicts-mirrored (tasksWith ds) s (atomsOf ps) (consequentOf cs) c)
 
 -- And a check that the formula judges passes where it meets the formula,
-consistent-passes : (ds ps cs : List ℤ) → refusal (creationTests ds) ≡ 0 → prepared ps cs .answer ≡ application.Consistent → PassesFormula (tasksWith ds) (atomsOf ps) (consequentOf cs) → checkOf ds ps cs ≡ Passed
+consistent-passes : (ds ps cs : List ℤ) → refusal (creationTests ds) ≡ 0 → prepared ps cs .answer ≡ application.Consistent → PassesFormula (tasksWith ds) (atomsOf ps) (consequentOf cs)
+    → checkOf ds ps cs ≡ Passed
 unfolding checkOf
 consistent-passes ds ps cs ok consistent p =
     let s = prepared ps cs .state in

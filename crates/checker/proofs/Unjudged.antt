@@ -1,5 +1,4 @@
 -- Where a check is refused, and where it finds a contradiction: the sole ground of each number, in the order 1, 2, 5, 7, 6, 21, 8.
--- Assumes nothing.
 use mathlib.Core.Path.{_≡_, refl, sym, ap, _∙_}
 use mathlib.Core.Bool.{Bool, true, false, _&&_}
 use mathlib.Core.List.{List, [], _∷_}
@@ -17,8 +16,8 @@ use Rattle.integers.specs.Tests.{Test, test, refusal, AllPassed}
 use Rattle.integers.proofs.Bools.{bool, and-true, and-yes}
 use Rattle.integers.proofs.Tests.{broken, accepts, accepted, refusal-next, refusal-here, refusal-after, refusal-before}
 use Rattle.scheduling.specs.Scheduling.{Atom, given}
-use Rattle.atoms.specs.Atoms.{atomsOf, consequentOf, rightLists}
-use Rattle.atoms.proofs.Right.{lists-are}
+use Rattle.checking.specs.Atoms.{atomsOf, consequentOf, rightLists}
+use Rattle.checking.proofs.RightWords.{lists-are}
 use Rattle.checking.specs.declared.variable_state.VariableState.{VariableState}
 use Rattle.checking.specs.declared.variable_state.Application.{Application}
 use Rattle.checking.specs.declared.variable_state.Application.the-variants as application
@@ -26,14 +25,14 @@ use Rattle.checking.specs.Answers.{applicationNumbers}
 use Rattle.checking.specs.Bounds.{lowerIn, upperIn}
 use Rattle.checking.specs.Promises.{NoRoom, EmptiesFirst}
 use Rattle.checking.specs.States.{prepared}
-use Rattle.checking.proofs.Apart.{other-kind, applications-apart}
-use Rattle.checking.proofs.Emptying.{prepared-contradiction}
+use Rattle.checking.proofs.StateNumbers.{other-kind, applications-apart}
+use Rattle.checking.proofs.FirstContradiction.{prepared-contradiction}
 use Rattle.checking.proofs.Promises.{prepare-means}
-use Rattle.checking.proofs.Refused.{prepared-7, prepared-21}
+use Rattle.checking.proofs.RefusedAtoms.{prepared-7, prepared-21}
 use Rattle.records.specs.Records.{durationAt, creationTests}
 use Rattle.records.proofs.Creation.{created-lawful}
-use Rattle.formulas.specs.Formulas.{bounded, implied, overloaded}
-use Rattle.formulas.proofs.Formulas.{Reads, least-of, greatest-of, none-of}
+use Rattle.checker.specs.Formulas.{bounded, implied, overloaded}
+use Rattle.checker.proofs.Formulas.{Reads, least-of, greatest-of, none-of}
 use Rattle.checker.specs.declared.checker.Verdict.the-variants.{Contradiction, Refused}
 use Rattle.checker.specs.Checks.{verdict, judged, concluded, checkOf, tasksWith}
 use Rattle.checker.specs.Unjudged.{wordTests, TwoSided, AtomByAtom, Unjudged}
@@ -93,7 +92,8 @@ module _ (ds ps cs : List ℤ) where
   late-number : (n : ℕ) → late ≡ refusedBy n → (applicationNumbers (prepared ps cs .answer) ≡ refusedBy n) ⊎ ((prepared ps cs .answer ≡ application.Consistent) × Lacking state (consequentOf cs) n)
   late-number n e = by (prepared ps cs .answer) refl
     where
-      by : (w : Application) → prepared ps cs .answer ≡ w → (applicationNumbers (prepared ps cs .answer) ≡ refusedBy n) ⊎ ((prepared ps cs .answer ≡ application.Consistent) × Lacking state (consequentOf cs) n)
+      by : (w : Application) → prepared ps cs .answer ≡ w → (applicationNumbers (prepared ps cs .answer) ≡ refusedBy n)
+          ⊎ ((prepared ps cs .answer ≡ application.Consistent) × Lacking state (consequentOf cs) n)
       by application.Consistent p = inr (p, judged-number state (consequentOf cs) n (rw p at e))
       by (application.Contradiction x) p = other-kind (verdictNumbers (Contradiction x)) (refusedBy n) (rw p at e) (λ z. omega arith)
       by (application.Refused m) p = inl (ap applicationNumbers p ∙ (rw p at e))
@@ -120,11 +120,14 @@ module _ (ds ps cs : List ℤ) where
   pub word-number : (refusal (wordTests ds ps cs) ≡ 0 → ⊥) → verdictNumbers (checkOf ds ps cs) ≡ refusedBy (refusal (wordTests ds ps cs))
   word-number given-one = by (refusal (creationTests ds)) refl
     where
-      then : Accepted → refusal (wordTests ds ps cs) ≡ refusal behind → (leb (length ps) (3 * PREMISES + 2) ≡ true) ⊎ (leb (length ps) (3 * PREMISES + 2) ≡ false) → (rightLists ps cs ≡ true) ⊎ (rightLists ps cs ≡ false)
+      then : Accepted → refusal (wordTests ds ps cs) ≡ refusal behind → (leb (length ps) (3 * PREMISES + 2) ≡ true) ⊎ (leb (length ps) (3 * PREMISES + 2) ≡ false) → (rightLists ps cs ≡ true)
+          ⊎ (rightLists ps cs ≡ false)
           → answer ≡ refusedBy (refusal (wordTests ds ps cs))
       then ok e (inl y) (inl z) = absurd (given-one (e ∙ accepts behind (y, (z, tt))))
-      then ok e (inl y) (inr z) = is-late ok ∙ late-refused 6 (prepare-means ps cs .malformed (leb-true _ _ y) z) ∙ ap refusedBy (sym (e ∙ refusal-next (test 7 (leb (length ps) (3 * PREMISES + 2))) (test 6 (rightLists ps cs) ∷ []) y ∙ refusal-here (test 6 (rightLists ps cs)) [] z))
-      then ok e (inr y) z = is-late ok ∙ late-refused 7 (prepared-7 ps cs .1 (omega (arith, leb-false (length ps) (3 * PREMISES + 2) y))) ∙ ap refusedBy (sym (e ∙ refusal-here (test 7 (leb (length ps) (3 * PREMISES + 2))) (test 6 (rightLists ps cs) ∷ []) y))
+      then ok e (inl y) (inr z) = is-late ok ∙ late-refused 6 (prepare-means ps cs .malformed (leb-true _ _ y) z)
+          ∙ ap refusedBy (sym (e ∙ refusal-next (test 7 (leb (length ps) (3 * PREMISES + 2))) (test 6 (rightLists ps cs) ∷ []) y ∙ refusal-here (test 6 (rightLists ps cs)) [] z))
+      then ok e (inr y) z = is-late ok ∙ late-refused 7 (prepared-7 ps cs .1 (omega (arith, leb-false (length ps) (3 * PREMISES + 2) y)))
+          ∙ ap refusedBy (sym (e ∙ refusal-here (test 7 (leb (length ps) (3 * PREMISES + 2))) (test 6 (rightLists ps cs) ∷ []) y))
 
       by : (n : ℕ) → refusal (creationTests ds) ≡ n → answer ≡ refusedBy (refusal (wordTests ds ps cs))
       by zero z = then z (refusal-after (creationTests ds) behind (accepted (creationTests ds) refl z)) (bool (leb (length ps) (3 * PREMISES + 2))) (bool (rightLists ps cs))

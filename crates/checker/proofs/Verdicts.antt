@@ -1,5 +1,4 @@
 -- From the bounds in the arrays and the words of the consequent to the verdict.
--- Assumes nothing.
 use mathlib.Core.Path.{_≡_, refl, sym, ap, _∙_}
 use mathlib.Core.Bool.{Bool, true, false, cond, _&&_}
 use mathlib.Core.List.{List}
@@ -13,15 +12,15 @@ use lib.ListN.{length, getD, replicate, length-replicate}
 use borrow.Author.Tests.{lt-ltb, le-ltb}
 use Rattle.integers.specs.Limits.{TASKS, DURATIONS, VALUE, HOLES}
 use Rattle.integers.specs.Moments.{moment, zeroAt}
-use Rattle.integers.specs.Filling.{filled}
+use Rattle.integers.specs.FilledLists.{filled}
 use Rattle.integers.specs.Tests.{refusal}
-use Rattle.integers.proofs.Filling.{filled-at}
+use Rattle.integers.proofs.FilledLists.{filled-at}
 use Rattle.scheduling.specs.Scheduling.{whole, natural, Tasks, TaskSet, total, given}
-use Rattle.scheduling.specs.Mirroring.{mirrorAtoms}
-use Rattle.nodes.specs.Bounds.{LATEST}
-use Rattle.holes.specs.Holes.{Within}
-use Rattle.atoms.specs.Atoms.{atomsOf, consequentOf}
-use Rattle.atoms.proofs.Atoms.{words-three, words-at, consequent-none, consequent-one, right-atom}
+use Rattle.scheduling.specs.MirroredTime.{mirrorAtoms}
+use Rattle.trees.specs.NodeBounds.{LATEST}
+use Rattle.integers.specs.WholeNumbers.{Within}
+use Rattle.checking.specs.Atoms.{atomsOf, consequentOf}
+use Rattle.checking.proofs.Atoms.{words-three, words-at, consequent-none, consequent-one, right-atom}
 use Rattle.checking.specs.declared.variable_state.VariableState.{VariableState}
 use Rattle.checking.specs.declared.variable_state.Application.the-variants as application
 use Rattle.checking.specs.Bounds.{lowerIn, upperIn}
@@ -29,10 +28,10 @@ use Rattle.checking.specs.States.{prepared}
 use Rattle.checking.proofs.Bounds.{lower-near, upper-near}
 use Rattle.records.specs.Records.{durationAt, creationTests, newRecord}
 use Rattle.records.proofs.Creation.{created-lawful, same-sum}
-use Rattle.formulas.specs.Formulas.{known, valueOf, bounded, tasks, _but_, overloadsSpan, comesAfter, overloaded, implied}
-use Rattle.formulas.specs.BoundArrays.{mirroredMoment, mirroredBounds}
-use Rattle.formulas.proofs.Formulas.{moments-proper}
-use Rattle.formulas.proofs.MirroredBounds.{mirrored-known, est-mirrored, lst-mirrored, moment-alike, mirrored-most}
+use Rattle.checker.specs.Formulas.{known, valueOf, bounded, tasks, _but_, overloadsSpan, comesAfter, overloaded, implied}
+use Rattle.checker.specs.BoundArrays.{mirroredMoment, mirroredBounds}
+use Rattle.checker.proofs.Formulas.{moments-proper}
+use Rattle.checker.proofs.MirroredBounds.{mirrored-known, est-mirrored, lst-mirrored, moment-alike, mirrored-most}
 use Rattle.checker.specs.declared.checker.Verdict.{Verdict}
 use Rattle.checker.specs.declared.checker.Verdict.the-variants.{Refused}
 use Rattle.checking.specs.declared.start_bounds.Bounds.{Bounds}
@@ -197,17 +196,20 @@ module _ (ds ps cs : List ℤ) (ok : refusal (creationTests ds) ≡ 0) (consiste
   member-mirrored k q = at (λ k. boundsAt s k .known) false k q ∙ mirrored-known (durationAt ds k) (l k) (u k)
 
   start-mirrored : (k : ℕ) → k < n → mirroredMoment (getD (B .bounded) k false) (getD (B .lst) k 0) (getD (newRecord ds .durations) k 0) ≡ there .earliest k
-  start-mirrored k q = moment-alike (at (λ k. boundsAt s k .known) false k q) (at (λ k. boundsAt s k .lst) 0 k q) (lasts k q) ∙ est-mirrored (durationAt ds k) (durations-most ds ok k q) (l k) (u k) (near-u k q)
+  start-mirrored k q = moment-alike (at (λ k. boundsAt s k .known) false k q) (at (λ k. boundsAt s k .lst) 0 k q) (lasts k q)
+      ∙ est-mirrored (durationAt ds k) (durations-most ds ok k q) (l k) (u k) (near-u k q)
 
   late-mirrored : (k : ℕ) → k < n → mirroredMoment (getD (B .bounded) k false) (getD (B .est) k 0) (getD (newRecord ds .durations) k 0) ≡ there .latest k
-  late-mirrored k q = moment-alike (at (λ k. boundsAt s k .known) false k q) (at (λ k. boundsAt s k .est) 0 k q) (lasts k q) ∙ lst-mirrored (durationAt ds k) (durations-most ds ok k q) (l k) (u k) (near-l k q)
+  late-mirrored k q = moment-alike (at (λ k. boundsAt s k .known) false k q) (at (λ k. boundsAt s k .est) 0 k q) (lasts k q)
+      ∙ lst-mirrored (durationAt ds k) (durations-most ds ok k q) (l k) (u k) (near-l k q)
 
   pub mirrored-judgeable : Judgeable ds (lowerAs true ds s) (upperAs true ds s) n (mirroredBounds B (newRecord ds .durations) n) (newRecord ds .durations)
   mirrored-judgeable = record {
     count = refl;
     bounding = record {
       held = record {
-        proper = moments-proper J₀ (durations-last ds ok) (given (mirrorAtoms (durationAt ds) (atomsOf ps)) (mirrorIfAny (durationAt ds) (consequentOf cs))) (lowerAs true ds s) (upperAs true ds s) (reads-mirrored ds ok ps cs consistent);
+        proper = moments-proper J₀ (durations-last ds ok) (given (mirrorAtoms (durationAt ds) (atomsOf ps)) (mirrorIfAny (durationAt ds) (consequentOf cs))) (lowerAs true ds s) (upperAs true ds s)
+            (reads-mirrored ds ok ps cs consistent);
         count = refl;
         few = few;
         member = member-mirrored;

@@ -6,11 +6,11 @@ use mathlib.Core.Option.{Option}
 use Prim.Native.Nat.{ℕ, _≤_}
 use lib.IntN.{ℤ}
 use lib.ListN.{length}
-use Rattle.atoms.specs.Atoms.{rightWords}
+use Rattle.checking.specs.Atoms.{rightWords}
 use Rattle.records.specs.Records.{durationAt}
 use Rattle.checking.specs.declared.start_bounds.Bounds.{Bounds}
-use Rattle.formulas.specs.Formulas.{bounded, tasks}
-use Rattle.formulas.specs.BoundArrays.{Bounding}
+use Rattle.checker.specs.Formulas.{bounded, tasks}
+use Rattle.checker.specs.BoundArrays.{Bounding}
 
 -- the bounds are those of a check's n tasks, and the durations are theirs
 pub record Judgeable (ds : List ℤ) (lower upper : ℕ → Option ℤ) (n : ℕ) (b : Bounds) (durations : List ℕ) : Type 0 where

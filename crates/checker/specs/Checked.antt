@@ -6,8 +6,8 @@ use Prim.Native.Nat.{ℕ, _<_}
 use lib.IntN.{ℤ}
 use Rattle.integers.specs.Answers.{answered}
 use Rattle.scheduling.specs.Scheduling.{PassesFormula, Contradicts}
-use Rattle.scheduling.specs.Mirroring.{mirrorAtoms}
-use Rattle.atoms.specs.Atoms.{atomsOf, consequentOf}
+use Rattle.scheduling.specs.MirroredTime.{mirrorAtoms}
+use Rattle.checking.specs.Atoms.{atomsOf, consequentOf}
 use Rattle.records.specs.Records.{durationAt}
 use Rattle.checker.specs.declared.checker.Verdict.{Verdict}
 use Rattle.checker.specs.Verdicts.{verdictNumbers}
@@ -28,5 +28,6 @@ pub record CheckedMirrored (ds premises consequent : List ℤ) (r : Verdict) : T
   pub answer : verdictNumbers r ≡ verdictNumbers (checkMirroredOf ds premises consequent)
   pub unjudged : Unjudged ds premises consequent (verdictNumbers r)
   pub exactly : verdictNumbers r .kind < 2
-      → verdictNumbers r .kind ≡ 0 ↔ PassesFormula (tasksWith ds) (mirrorAtoms (durationAt ds) (atomsOf premises)) (mirrorIfAny (durationAt ds) (consequentOf consequent))
+      → verdictNumbers r .kind ≡ 0 ↔ PassesFormula (tasksWith ds) (mirrorAtoms (durationAt ds) (atomsOf premises))
+      (mirrorIfAny (durationAt ds) (consequentOf consequent))
   pub sound : verdictNumbers r ≡ answered 0 [] → (s : ℕ → ℤ) → Contradicts (tasksWith ds) (atomsOf premises) (consequentOf consequent) s → ⊥

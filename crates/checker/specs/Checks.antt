@@ -6,17 +6,18 @@ use Prim.Native.Nat.{ℕ, zero, suc}
 use lib.Dec.{ltb}
 use lib.IntN.{ℤ, pos}
 use lib.ListN.{length}
+use Rattle.integers.specs.Refused as refused
 use Rattle.integers.specs.Tests.{refusal}
 use Rattle.scheduling.specs.Scheduling.{whole, Tasks, Atom}
 use Rattle.scheduling.specs.Words.{atomWords}
-use Rattle.atoms.specs.Atoms.{consequentOf}
+use Rattle.checking.specs.Atoms.{consequentOf}
 use Rattle.checking.specs.declared.variable_state.VariableState.{VariableState}
 use Rattle.checking.specs.declared.variable_state.Application.the-variants as application
 use Rattle.checking.specs.declared.variable_state.Applied.{Applied}
 use Rattle.checking.specs.Bounds.{lowerIn, upperIn}
 use Rattle.checking.specs.States.{prepared}
 use Rattle.records.specs.Records.{durationAt, creationTests}
-use Rattle.formulas.specs.Formulas.{bounded, overloaded, implied}
+use Rattle.checker.specs.Formulas.{bounded, overloaded, implied}
 use Rattle.checker.specs.declared.checker.Verdict.{Verdict}
 use Rattle.checker.specs.declared.checker.Verdict.the-variants.{Passed, NotPassed, Contradiction, Refused}
 
@@ -30,7 +31,7 @@ judgedBy ds lower upper none = verdict (overloaded (length ds) (durationAt ds) l
 judgedBy ds lower upper (some a) =
     cond (ltb (a .variable) (length ds) && bounded (length ds) (durationAt ds) lower upper (a .variable))
     (verdict (implied (length ds) (durationAt ds) lower upper (a .variable)))
-    (Refused 8)
+    (Refused refused.CONSEQUENT)
 
 -- those that the state of the premises and the negated consequent answers: `induced_lower_bound` and `induced_upper_bound`
 abbrev pub judged : List ℤ → VariableState → Option Atom → Verdict

@@ -1,3 +1,6 @@
+pub mod Formulas
+pub mod StartBounds
+pub mod BoundArrays
 pub mod Verdicts
 pub mod Unjudged
 pub mod Checks

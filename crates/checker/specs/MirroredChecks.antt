@@ -6,11 +6,11 @@ use Prim.Native.Nat.{ℕ}
 use lib.IntN.{ℤ}
 use Rattle.integers.specs.Tests.{refusal}
 use Rattle.scheduling.specs.Scheduling.{Atom}
-use Rattle.scheduling.specs.Mirroring.{mirrorAtom}
+use Rattle.scheduling.specs.MirroredTime.{mirrorAtom}
 use Rattle.checking.specs.declared.variable_state.VariableState.{VariableState}
 use Rattle.checking.specs.Bounds.{lowerIn, upperIn}
 use Rattle.records.specs.Records.{durationAt, creationTests}
-use Rattle.formulas.specs.StartBounds.{mirrorBound}
+use Rattle.checker.specs.StartBounds.{mirrorBound}
 use Rattle.checker.specs.declared.checker.Verdict.{Verdict}
 use Rattle.checker.specs.Checks.{judgedBy, checkAfter}
 

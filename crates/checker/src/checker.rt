@@ -1,12 +1,13 @@
 // The check of a reason: the source's formula, on the state that the premises and the negated consequent leave.
+use crate::formula::implied;
+use crate::formula::overloaded;
+use crate::mirrored_bounds::mirrored_bounds;
 use checking::start_bounds::Bounds;
 use checking::start_bounds::bounds_of;
 use checking::variable_state::Application;
 use checking::variable_state::VariableState;
-use formulas::formula::implied;
-use formulas::formula::overloaded;
-use formulas::mirrored_bounds::mirrored_bounds;
 use integers::limits::TASKS;
+use integers::refused;
 use records::record::Creation;
 use records::record::create;
 ghost use mathlib.Core.Path.{_≡_};
@@ -14,7 +15,7 @@ ghost use mathlib.Core.List.{List};
 ghost use mathlib.Core.Option.{Option};
 ghost use Prim.Native.Nat.{ℕ};
 ghost use lib.IntN.{ℤ};
-ghost use Rattle.atoms.specs.Atoms.{consequentOf};
+ghost use Rattle.checking.specs.Atoms.{consequentOf};
 ghost use Rattle.checker.specs.Checked.{Checked, CheckedMirrored};
 ghost use Rattle.checker.specs.Checks.{verdict, judgedBy};
 ghost use Rattle.checker.specs.MirroredChecks.{checkAs};
@@ -41,18 +42,20 @@ fn verdict_of(holds: bool) -> Verdict
 
 // The formula for the consequent, or for none.
 fn judge(bounds: Bounds, durations: &[u32; TASKS], n: usize, consequent: &[i32]) -> Verdict
-    requires { ⌜ ((ds : List ℤ) × (lower : ℕ → Option ℤ) × (upper : ℕ → Option ℤ) × Judgeable ds lower upper n bounds (now durations)) × Consequent (now consequent) ⌝ }
-    ensures { λ r. ⌜ ((ds : List ℤ) (lower upper : ℕ → Option ℤ) → Judgeable ds lower upper n bounds (now (durations .entry)) → r ≡ judgedBy ds lower upper (consequentOf (now (consequent .entry)))) ⌝ }
+    requires { ⌜ ((ds : List ℤ) × (lower : ℕ → Option ℤ) × (upper : ℕ → Option ℤ) × Judgeable ds lower upper n bounds (now durations))
+        × Consequent (now consequent) ⌝ }
+    ensures { λ r. ⌜ ((ds : List ℤ) (lower upper : ℕ → Option ℤ) → Judgeable ds lower upper n bounds (now (durations .entry))
+        → r ≡ judgedBy ds lower upper (consequentOf (now (consequent .entry)))) ⌝ }
 {
     if consequent.len() == 0 {
         return verdict_of(overloaded(bounds, durations, n));
     }
-    let i = integers::nat_of(consequent[0]) as usize;
+    let i = integers::numbers::nat_of(consequent[0]) as usize;
     if i >= n {
-        return Verdict::Refused(8);
+        return Verdict::Refused(refused::CONSEQUENT);
     }
     if !bounds.bounded[i] {
-        return Verdict::Refused(8);
+        return Verdict::Refused(refused::CONSEQUENT);
     }
     verdict_of(implied(bounds, durations, n, i))
 }

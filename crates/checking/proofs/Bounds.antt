@@ -1,5 +1,4 @@
 -- The bounds that the queries answer of a prepared state: the least and the greatest value that its atoms admit.
--- Assumes nothing.
 use mathlib.Core.Path.{_≡_, refl, sym, ap, ap₂, _∙_}
 use mathlib.Core.List.{List}
 use mathlib.Core.Option.{some, none}
@@ -9,14 +8,14 @@ use lib.IntN.{ℤ, pos}
 use Rattle.integers.specs.Limits.{VARIABLES, VALUE, HOLES}
 use Rattle.integers.proofs.Ints.{ints}
 use Rattle.scheduling.specs.Scheduling.{whole, Least, Largest, Atom, Admits, given}
-use Rattle.holes.specs.Holes.{Within}
-use Rattle.atoms.specs.Atoms.{atomsOf, consequentOf}
-use Rattle.atoms.proofs.Atoms.{number-right}
-use Rattle.domains.specs.declared.int_ext.IntExt.{IntExt}
-use Rattle.domains.specs.declared.int_ext.IntExt.the-variants.{Int, NegativeInf, PositiveInf}
-use Rattle.domains.specs.declared.domain.Domain.{Domain}
-use Rattle.domains.specs.Domains.{Proper}
-use Rattle.domains.proofs.Values.{lower-least, upper-largest, lower-none, upper-none, not-plus, not-minus}
+use Rattle.integers.specs.WholeNumbers.{Within}
+use Rattle.checking.specs.Atoms.{atomsOf, consequentOf}
+use Rattle.checking.proofs.Atoms.{number-right}
+use Rattle.checking.specs.declared.int_ext.IntExt.{IntExt}
+use Rattle.checking.specs.declared.int_ext.IntExt.the-variants.{Int, NegativeInf, PositiveInf}
+use Rattle.checking.specs.declared.domain.Domain.{Domain}
+use Rattle.checking.specs.Domains.{Proper}
+use Rattle.checking.proofs.Values.{lower-least, upper-largest, lower-none, upper-none, not-plus, not-minus}
 use Rattle.checking.specs.declared.variable_state.VariableState.{VariableState}
 use Rattle.checking.specs.declared.variable_state.Application.the-variants.{Consistent}
 use Rattle.checking.specs.declared.variable_state.Bound.{Bound}
@@ -24,9 +23,9 @@ use Rattle.checking.specs.declared.variable_state.Bound.the-variants.{At
 use Rattle.checking.specs.Bounds.{finite, lowerIn, upperIn}
 use Rattle.checking.specs.States.{Accepted, domainAt, boundOf, lowerOf, upperOf, prepared}
 use Rattle.checking.specs.TaskBounds.{boundsBetween, taskBounds, boundsAt}
-use Rattle.checking.proofs.Accepting.{state-accepted}
-use Rattle.checking.proofs.Near.{prepared-near}
-use Rattle.checking.proofs.Prepared.{prepared-accepted, prepared-admits}
+use Rattle.checking.proofs.AcceptedStates.{state-accepted}
+use Rattle.checking.proofs.BoundLimits.{prepared-near}
+use Rattle.checking.proofs.PreparedStates.{prepared-accepted, prepared-admits}
 
 -- An accepted state ------------------------------------------------------------------------------------------------------------
 

@@ -1,11 +1,11 @@
 -- Instance H: x ≥ 5 after x ≠ 5 leaves 6 as the least value. Settled by computing.
--- Assumes nothing.
 use mathlib.Core.Path.{_≡_, refl}
 use lib.IntN.{pos}
-use Rattle.holes.specs.Holes.{has, kept, inserted, firstFrom, zeros}
-use Rattle.atoms.specs.Atoms.{rightAtom}
-use Rattle.domains.specs.declared.int_ext.IntExt.the-variants.{Int}
-use Rattle.domains.specs.Domains.{acceptedDomain, ascend, tightenedLower, withoutLower, withoutUpper, withHole, without, crowded, settled, reduced}
+use Rattle.holes.specs.Holes.{kept, inserted, firstFrom, zeros}
+use Rattle.integers.specs.WholeNumbers.{has}
+use Rattle.checking.specs.Atoms.{rightAtom}
+use Rattle.checking.specs.declared.int_ext.IntExt.the-variants.{Int}
+use Rattle.checking.specs.Domains.{acceptedDomain, ascend, tightenedLower, withoutLower, withoutUpper, withHole, without, crowded, settled, reduced}
 use Rattle.checking.specs.declared.variable_state.VariableState.{VariableState}
 use Rattle.checking.specs.declared.variable_state.Bound.the-variants.{At}
 use Rattle.checking.specs.States.{emptyState, accepted, stepped, appliedTo, boundOf, lowerOf}

@@ -1,5 +1,4 @@
 -- What one atom, and a list of atoms, make of the values that a state admits.
--- Assumes nothing.
 use mathlib.Core.Path.{_≡_, refl, sym, ap, _∙_, subst}
 use mathlib.Core.Logic.{_⊎_, inl, inr, _↔_}
 use mathlib.Core.Bool.{true, false, cond}
@@ -13,12 +12,12 @@ use lib.ListN.{getD-replicate}
 use Rattle.integers.specs.Limits.{VARIABLES}
 use Rattle.integers.proofs.Bools.{bool}
 use Rattle.scheduling.specs.Scheduling.{Atom, Allows, Every, Admits}
-use Rattle.holes.proofs.Ascending.{has-none}
-use Rattle.domains.specs.declared.domain.Domain.{Domain}
-use Rattle.domains.specs.Domains.{Admitted, allIntegers, applied, Proper}
-use Rattle.domains.specs.declared.int_ext.IntExt.the-variants.{NegativeInf, PositiveInf}
-use Rattle.domains.proofs.Narrowing.{applied-tight, applied-to, applied-of, made-admits}
-use Rattle.domains.proofs.Values.{crossed-none, some-value}
+use Rattle.integers.proofs.WholeNumbers.{has-none}
+use Rattle.checking.specs.declared.domain.Domain.{Domain}
+use Rattle.checking.specs.Domains.{Admitted, allIntegers, applied, Proper}
+use Rattle.checking.specs.declared.int_ext.IntExt.the-variants.{NegativeInf, PositiveInf}
+use Rattle.checking.proofs.NarrowedDomains.{applied-tight, applied-to, applied-of, made-admits}
+use Rattle.checking.proofs.Values.{crossed-none, some-value}
 use Rattle.checking.specs.declared.variable_state.VariableState.{VariableState}
 use Rattle.checking.specs.declared.variable_state.Application.{Application}
 use Rattle.checking.specs.declared.variable_state.Application.the-variants.{Consistent, Contradiction, Refused}
@@ -61,7 +60,10 @@ module _ (s : VariableState) (a : Atom) (acc : Accepted s) (known : a .variable 
       let t = acc .each (a .variable) known .tight in
       let proper : Proper d′ = record { tight = applied-tight d (a .kind) (a .value) t p; ordered = q } in
       record {
-        admits = λ z. (λ m. applied-to d (a .kind) (a .value) t p z (subst (λ (x : Domain). Admitted x z) at-put m), λ m. subst (λ (x : Domain). Admitted x z) (sym at-put) (applied-of d (a .kind) (a .value) t p z (m .0) (m .1)));
+        admits = λ z. (
+          λ m. applied-to d (a .kind) (a .value) t p z (subst (λ (x : Domain). Admitted x z) at-put m),
+          λ m. subst (λ (x : Domain). Admitted x z) (sym at-put) (applied-of d (a .kind) (a .value) t p z (m .0) (m .1)),
+        );
         left = subst (λ (x : Domain). (z : ℤ) × Admitted x z) (sym at-put) (some-value d′ proper);
         others = λ y n. put-other s (a .variable) y d′ n;
       })
@@ -121,7 +123,8 @@ all-append (a ∷ xs) ys s t e = by (stepped s a .answer) refl (λ n. all-append
 
     by : (w : Application) → stepped s a .answer ≡ w → (stepped s a .answer ≡ Consistent → applyAll (xs ++ ys) (stepped s a .state) ≡ applyAll ys t) → applyAll (a ∷ xs ++ ys) s ≡ applyAll ys t
     by Consistent n ih = all-consistent s a (xs ++ ys) (stepped s a .state) (was Consistent n) ∙ ih n
-    by (Contradiction x) n ih = differ (Contradiction x) Consistent (ap (λ (r : Applied). r .answer) (sym (all-contradiction s a xs x (stepped s a .state) (was (Contradiction x) n)) ∙ e)) (omega arith)
+    by (Contradiction x) n ih = differ (Contradiction x) Consistent (ap (λ (r : Applied). r .answer) (sym (all-contradiction s a xs x (stepped s a .state) (was (Contradiction x) n)) ∙ e))
+        (omega arith)
     by (Refused m) n ih = differ (Refused m) Consistent (ap (λ (r : Applied). r .answer) (sym (all-refused s a xs m (stepped s a .state) (was (Refused m) n)) ∙ e)) (omega arith)
 
 -- where a list stops

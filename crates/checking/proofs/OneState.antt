@@ -1,5 +1,4 @@
 -- One state for one meaning: lists of atoms that leave each variable the same values leave the same state, in whatever sequence and however often applied.
--- Assumes nothing.
 use mathlib.Core.Path.{_≡_, refl, sym, ap, subst, _∙_}
 use mathlib.Core.Logic.{_↔_}
 use mathlib.Core.Bool.{true, false, not, _&&_}
@@ -14,22 +13,22 @@ use borrow.Author.Tests.{not-true, le-ltb}
 use Rattle.integers.specs.Limits.{VARIABLES, HOLES, PREMISES}
 use Rattle.integers.proofs.Bools.{clash, and-true}
 use Rattle.scheduling.specs.Scheduling.{Atom, Compares, Allows, Every, Admits, given, negation}
-use Rattle.scheduling.proofs.Passed.{every-append}
-use Rattle.holes.specs.Holes.{has}
-use Rattle.atoms.specs.Atoms.{atomsOf, consequentOf, rightWords, rightLists}
-use Rattle.atoms.proofs.Atoms.{given-none, right-lists}
-use Rattle.atoms.proofs.Right.{words-each, words-append, atoms-append}
-use Rattle.domains.specs.declared.int_ext.IntExt.the-variants.{Int}
-use Rattle.domains.specs.declared.domain.Domain.{Domain}
-use Rattle.domains.specs.Domains.{Admitted, holesOf, between, crowded, needsRoom, ltExt}
-use Rattle.domains.proofs.Bounds.{lt-to-le}
-use Rattle.domains.proofs.Values.{some-value}
+use Rattle.scheduling.proofs.Every.{every-append, every-left, every-at, every-right}
+use Rattle.integers.specs.WholeNumbers.{has}
+use Rattle.checking.specs.Atoms.{atomsOf, consequentOf, rightWords, rightLists}
+use Rattle.checking.proofs.Atoms.{given-none, right-lists}
+use Rattle.checking.proofs.RightWords.{words-each, words-append, atoms-append}
+use Rattle.checking.specs.declared.int_ext.IntExt.the-variants.{Int}
+use Rattle.checking.specs.declared.domain.Domain.{Domain}
+use Rattle.checking.specs.Domains.{Admitted, holesOf, between, crowded, needsRoom, ltExt}
+use Rattle.checking.proofs.DomainBounds.{lt-to-le}
+use Rattle.checking.proofs.Values.{some-value}
 use Rattle.checking.specs.declared.variable_state.VariableState.{VariableState}
 use Rattle.checking.specs.declared.variable_state.Application.the-variants.{Consistent, Contradiction, Refused}
 use Rattle.checking.specs.Shuffles.{Shuffled}
 use Rattle.checking.specs.States.{Accepted, domainAt, emptyState, stepped, appliedTo, applyAll, prepared}
 use Rattle.checking.proofs.Meaning.{Known, all-append, step-admits, step-contradiction, step-refused}
-use Rattle.checking.proofs.Prepared.{prepared-accepted, prepared-admits, prepared-right, prepared-runs, every-left, every-at}
+use Rattle.checking.proofs.PreparedStates.{prepared-accepted, prepared-admits, prepared-right, prepared-runs}
 use Rattle.checking.proofs.Promises.{prepare-means, given-known, same-state}
 use Rattle.checking.proofs.States.{stepped-accepted, all-consistent, all-end}
 
@@ -59,10 +58,6 @@ module _ (p q : List ℤ) (ok-p : prepared p [] .answer ≡ Consistent) (ok-q : 
       (λ a. admits q ok-q x h z .1 (same x h z .0 (admits p ok-p x h z .0 a)), λ a. admits p ok-p x h z .1 (same x h z .1 (admits q ok-q x h z .0 a))))
 
 -- Another sequence ---------------------------------------------------------------------------------------------------------------
-
-every-right : (P : Atom → Type 0) (xs ys : List Atom) → Every P (xs ++ ys) → Every P ys
-every-right P [] ys e = e
-every-right P (x ∷ xs) ys e = every-right P xs ys (e .1)
 
 shuffled-to : (P : Atom → Type 0) (xs ys : List Atom) → Shuffled xs ys → Every P xs → Every P ys
 shuffled-to P [] ys s e = subst (Every P) (sym s) tt

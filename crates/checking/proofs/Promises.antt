@@ -1,5 +1,4 @@
 -- The open calls' definitions keep the promises.
--- Assumes nothing.
 use mathlib.Core.Path.{_≡_, refl, sym, ap, _∙_, subst}
 use mathlib.Core.Logic.{_↔_}
 use mathlib.Core.Bool.{Bool, true, false, cond}
@@ -15,14 +14,14 @@ use Rattle.integers.specs.Answers.{answered, refusedBy}
 use Rattle.integers.specs.Limits.{VARIABLES, PREMISES}
 use Rattle.integers.proofs.Bools.{clash}
 use Rattle.scheduling.specs.Scheduling.{Atom, given, negation}
-use Rattle.scheduling.proofs.Passed.{every-append}
-use Rattle.atoms.specs.Atoms.{atomFrom, atomAt, atomsOf, consequentOf, rightVariable, rightAtom, rightWords, rightLists}
-use Rattle.atoms.proofs.Atoms.{right-atom, right-variable, right-lists, words-known, words-three, words-at, given-none, given-one, every-map}
-use Rattle.domains.specs.declared.int_ext.IntExt.{IntExt}
-use Rattle.domains.specs.declared.int_ext.IntExt.the-variants.{Int, NegativeInf, PositiveInf}
-use Rattle.domains.specs.declared.domain.Domain.{Domain}
-use Rattle.domains.specs.Domains.{Admitted, isTrue}
-use Rattle.domains.proofs.Values.{lower-least, upper-largest, lower-none, upper-none, not-plus, not-minus, true-all, true-not, same-values}
+use Rattle.scheduling.proofs.Every.{every-append, every-map}
+use Rattle.checking.specs.Atoms.{atomFrom, atomAt, atomsOf, consequentOf, rightVariable, rightAtom, rightWords, rightLists}
+use Rattle.checking.proofs.Atoms.{right-atom, right-variable, right-lists, words-known, words-three, words-at, given-none, given-one}
+use Rattle.checking.specs.declared.int_ext.IntExt.{IntExt}
+use Rattle.checking.specs.declared.int_ext.IntExt.the-variants.{Int, NegativeInf, PositiveInf}
+use Rattle.checking.specs.declared.domain.Domain.{Domain}
+use Rattle.checking.specs.Domains.{Admitted, isTrue}
+use Rattle.checking.proofs.Values.{lower-least, upper-largest, lower-none, upper-none, not-plus, not-minus, true-all, true-not, same-values}
 use Rattle.checking.specs.declared.variable_state.VariableState.{VariableState}
 use Rattle.checking.specs.declared.variable_state.Application.the-variants.{Consistent, Contradiction, Refused}
 use Rattle.checking.specs.declared.variable_state.Applied.{Applied}
@@ -33,8 +32,8 @@ use Rattle.checking.specs.declared.variable_state.Bound.the-variants as 
 use Rattle.checking.specs.Answers.{applicationNumbers, AppliedAs, truthNumbers, boundNumbers}
 use Rattle.checking.specs.States.{Accepted, Sized, noDomain, domainAt, emptyState, accepted, stepped, appliedTo, truthOf, boundOf, lowerOf, upperOf, applyAll, prepared}
 use Rattle.checking.specs.Promises.{lacksRoom, queryRefusal, EmptyMeans, ApplyMeans, TruthMeans, LowerMeans, UpperMeans, Reaches, PrepareMeans}
-use Rattle.checking.proofs.Apart.{other-kind, applications-apart, ext-number, exts-apart}
-use Rattle.checking.proofs.Accepting.{state-accepted, proper-state}
+use Rattle.checking.proofs.StateNumbers.{other-kind, applications-apart, ext-number, exts-apart}
+use Rattle.checking.proofs.AcceptedStates.{state-accepted, proper-state}
 use Rattle.checking.proofs.Meaning.{step-consistent, step-contradiction, step-refused, step-number, Known, all-admits, Stops, all-contradiction-at, all-refused-at, empty-admits}
 use Rattle.checking.proofs.States.{stepped-accepted, all-accepted, empty-accepted}
 
@@ -131,7 +130,12 @@ module _ (s : VariableState) (x : ℤ) (proper : accepted (s .domains) ≡ true 
         unbounded = λ e. lower-none d w (exts-apart (lowerOf d) NegativeInf e);
         never = λ e. not-plus d w (exts-apart (lowerOf d) PositiveInf e);
       })
-      (λ n e. record { number = e; least = λ u q. other-kind (refusedBy n) (answered 0 (pos 0 ∷ u ∷ [])) q (omega arith); unbounded = λ q. other-kind (refusedBy n) (answered 0 (negsuc 0 ∷ [])) q (omega arith); never = λ q. other-kind (refusedBy n) (answered 0 (pos 1 ∷ [])) q (omega arith) })
+      (λ n e. record {
+        number = e;
+        least = λ u q. other-kind (refusedBy n) (answered 0 (pos 0 ∷ u ∷ [])) q (omega arith);
+        unbounded = λ q. other-kind (refusedBy n) (answered 0 (negsuc 0 ∷ [])) q (omega arith);
+        never = λ q. other-kind (refusedBy n) (answered 0 (pos 1 ∷ [])) q (omega arith);
+      })
 
   pub upper-means : UpperMeans s x (boundOf upperOf s x)
   upper-means = bound-case upperOf (UpperMeans s x)
@@ -141,7 +145,12 @@ module _ (s : VariableState) (x : ℤ) (proper : accepted (s .domains) ≡ true 
         unbounded = λ e. upper-none d w (exts-apart (upperOf d) PositiveInf e);
         never = λ e. not-minus d w (exts-apart (upperOf d) NegativeInf e);
       })
-      (λ n e. record { number = e; largest = λ u q. other-kind (refusedBy n) (answered 0 (pos 0 ∷ u ∷ [])) q (omega arith); unbounded = λ q. other-kind (refusedBy n) (answered 0 (pos 1 ∷ [])) q (omega arith); never = λ q. other-kind (refusedBy n) (answered 0 (negsuc 0 ∷ [])) q (omega arith) })
+      (λ n e. record {
+        number = e;
+        largest = λ u q. other-kind (refusedBy n) (answered 0 (pos 0 ∷ u ∷ [])) q (omega arith);
+        unbounded = λ q. other-kind (refusedBy n) (answered 0 (pos 1 ∷ [])) q (omega arith);
+        never = λ q. other-kind (refusedBy n) (answered 0 (negsuc 0 ∷ [])) q (omega arith);
+      })
 
   pub lower-promise : (r : Bound) → r ≡ boundOf lowerOf s x → (boundNumbers r ≡ boundNumbers (boundOf lowerOf s x)) × LowerMeans s x r
   lower-promise r e = (ap boundNumbers e, subst (LowerMeans s x) (sym e) lower-means)

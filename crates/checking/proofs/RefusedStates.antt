@@ -1,5 +1,4 @@
 -- The sole ground for 22: a state that no call made, whatever is asked of it.
--- Assumes nothing.
 use mathlib.Core.Path.{_≡_, refl, sym, ap, _∙_}
 use mathlib.Core.Bool.{Bool, true, false, cond}
 use mathlib.Core.Logic.{inl, inr, _↔_}
@@ -8,12 +7,12 @@ use native.Mathlib.Omega.{arith}
 use lib.IntN.{ℤ}
 use Rattle.integers.specs.Answers.{Answer, refusedBy}
 use Rattle.integers.proofs.Bools.{bool, clash}
-use Rattle.atoms.specs.Atoms.{atomFrom, rightVariable, rightAtom}
+use Rattle.checking.specs.Atoms.{atomFrom, rightVariable, rightAtom}
 use Rattle.checking.specs.declared.variable_state.VariableState.{VariableState}
 use Rattle.checking.specs.Answers.{applicationNumbers, truthNumbers, boundNumbers}
 use Rattle.checking.specs.Promises.{lacksRoom}
 use Rattle.checking.specs.States.{Accepted, Sized, accepted, appliedTo, truthOf, boundOf, lowerOf, upperOf}
-use Rattle.checking.proofs.Accepting.{state-accepted, proper-state}
+use Rattle.checking.proofs.AcceptedStates.{state-accepted, proper-state}
 use Rattle.checking.proofs.Promises.{apply-means, truth-means, lower-means, upper-means}
 
 module _ (s : VariableState) (sized : Sized s) where
@@ -39,7 +38,8 @@ module _ (s : VariableState) (sized : Sized s) where
   module _ (x k v : ℤ) where
     pub apply-22 : applicationNumbers (appliedTo s x k v .answer) ≡ refusedBy 22 ↔ (Accepted s → ⊥)
     unfolding appliedTo
-    apply-22 = first (cond (rightAtom x k v) (cond (lacksRoom s (atomFrom x k v)) 21 0) 6) (three (rightAtom x k v) (lacksRoom s (atomFrom x k v))) (applicationNumbers (appliedTo s x k v .answer)) (apply-means s x k v proper .number) (λ n. rw n refl)
+    apply-22 = first (cond (rightAtom x k v) (cond (lacksRoom s (atomFrom x k v)) 21 0) 6) (three (rightAtom x k v) (lacksRoom s (atomFrom x k v))) (applicationNumbers (appliedTo s x k v .answer))
+        (apply-means s x k v proper .number) (λ n. rw n refl)
 
     pub truth-22 : truthNumbers (truthOf s x k v) ≡ refusedBy 22 ↔ (Accepted s → ⊥)
     unfolding truthOf

@@ -1,5 +1,4 @@
 -- States: one atom, and a list of atoms, applied to a state.
--- Assumes nothing.
 use mathlib.Core.Path.{_≡_, refl, sym, ap, _∙_, subst}
 use mathlib.Core.Logic.{_⊎_, inl, inr}
 use mathlib.Core.Bool.{Bool, true, false, cond}
@@ -14,13 +13,13 @@ use lib.Seq.{getD-set-same, getD-set-other}
 use Rattle.integers.specs.Limits.{VARIABLES}
 use Rattle.integers.proofs.Bools.{bool}
 use Rattle.scheduling.specs.Scheduling.{Atom, Every}
-use Rattle.holes.proofs.Ascending.{has-none}
-use Rattle.domains.specs.declared.int_ext.IntExt.the-variants.{NegativeInf, PositiveInf}
-use Rattle.domains.specs.declared.domain.Domain.{Domain}
-use Rattle.domains.specs.declared.domain.Effect.the-variants.{Narrowed, Emptied, Full}
-use Rattle.domains.specs.declared.domain.Reduced.{Reduced}
-use Rattle.domains.specs.Domains.{Tight, consistent, applied, needsRoom, settled, reduced, allIntegers, Proper}
-use Rattle.domains.proofs.Narrowing.{made-tight, applied-tight}
+use Rattle.integers.proofs.WholeNumbers.{has-none}
+use Rattle.checking.specs.declared.int_ext.IntExt.the-variants.{NegativeInf, PositiveInf}
+use Rattle.checking.specs.declared.domain.Domain.{Domain}
+use Rattle.checking.specs.declared.domain.Effect.the-variants.{Narrowed, Emptied, Full}
+use Rattle.checking.specs.declared.domain.Reduced.{Reduced}
+use Rattle.checking.specs.Domains.{Tight, consistent, applied, needsRoom, settled, reduced, allIntegers, Proper}
+use Rattle.checking.proofs.NarrowedDomains.{made-tight, applied-tight}
 use Rattle.checking.specs.declared.variable_state.VariableState.{VariableState}
 use Rattle.checking.specs.declared.variable_state.Application.{Application}
 use Rattle.checking.specs.declared.variable_state.Application.the-variants.{Consistent, Contradiction, Refused}
@@ -49,7 +48,8 @@ module _ (d : Domain) (k : ℕ) (v : ℤ) where
   emptied-narrowed e = let z : _≡_ {A = ℕ} 0 1 = cc in absurd (omega arith)
 
   pub reduced-proper : Tight d → reduced d k v .effect ≡ Narrowed → Proper (reduced d k v .domain)
-  reduced-proper t = reduced-case (λ r. r .effect ≡ Narrowed → Proper (r .domain)) (λ _ e. full-narrowed e) (λ p q _. record { tight = applied-tight d k v t p; ordered = q }) (λ _ _ e. emptied-narrowed e)
+  reduced-proper t = reduced-case (λ r. r .effect ≡ Narrowed → Proper (r .domain)) (λ _ e. full-narrowed e) (λ p q _. record { tight = applied-tight d k v t p; ordered = q })
+      (λ _ _ e. emptied-narrowed e)
 
 -- ---- states
 pub all-tight : Tight allIntegers
@@ -154,8 +154,10 @@ stepped-case s a P f g h = reduced-case (domainAt s (a .variable)) (a .kind) (a 
 
 pub stepped-accepted : (s : VariableState) (a : Atom) → Accepted s → a .variable < VARIABLES → Accepted (stepped s a .state)
 stepped-accepted s a acc h = stepped-case s a (λ r. Accepted (r .state)) (λ _. acc)
-    (λ p q. put-accepted s (a .variable) (applied (domainAt s (a .variable)) (a .kind) (a .value)) acc h (record { tight = applied-tight (domainAt s (a .variable)) (a .kind) (a .value) (acc .each (a .variable) h .tight) p; ordered = q })) (λ _ _. acc)
+    (λ p q. put-accepted s (a .variable) (applied (domainAt s (a .variable)) (a .kind) (a .value)) acc h
+    (record { tight = applied-tight (domainAt s (a .variable)) (a .kind) (a .value) (acc .each (a .variable) h .tight) p; ordered = q })) (λ _ _. acc)
 
 pub all-accepted : (atoms : List Atom) → Every (λ a. a .variable < VARIABLES) atoms → (s : VariableState) → Accepted s → Accepted (applyAll atoms s .state)
 all-accepted [] k s acc = subst (λ (r : Applied). Accepted (r .state)) (sym (all-end s)) acc
-all-accepted (a ∷ rest) k s acc = all-case s a rest (λ r. Accepted (r .state)) (λ _. all-accepted rest (k .1) (stepped s a .state) (stepped-accepted s a acc (k .0))) (λ _ _. acc) (λ _ _. empty-accepted)
+all-accepted (a ∷ rest) k s acc = all-case s a rest (λ r. Accepted (r .state)) (λ _. all-accepted rest (k .1) (stepped s a .state) (stepped-accepted s a acc (k .0))) (λ _ _. acc)
+    (λ _ _. empty-accepted)

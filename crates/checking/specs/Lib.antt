@@ -1,3 +1,6 @@
+pub mod Atoms
+pub mod Domains
+pub mod DomainExamples
 pub mod States
 pub mod Answers
 pub mod Promises

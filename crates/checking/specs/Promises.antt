@@ -7,11 +7,12 @@ use Prim.Native.Nat.{ℕ, _+_, _*_, _≤_, _<_}
 use lib.IntN.{ℤ, pos, negsuc, natAbs}
 use lib.ListN.{length}
 use lib.Signed.{_<ℤ_}
+use Rattle.integers.specs.Refused as refused
 use Rattle.integers.specs.Limits.{VARIABLES, PREMISES}
 use Rattle.integers.specs.Answers.{answered, refusedBy}
 use Rattle.scheduling.specs.Scheduling.{whole, Least, Largest, Atom, Compares, Allows, Admits, given}
-use Rattle.atoms.specs.Atoms.{atomFrom, atomsOf, consequentOf, rightVariable, rightAtom, rightLists}
-use Rattle.domains.specs.Domains.{Admitted, needsRoom}
+use Rattle.checking.specs.Atoms.{atomFrom, atomsOf, consequentOf, rightVariable, rightAtom, rightLists}
+use Rattle.checking.specs.Domains.{Admitted, needsRoom}
 use Rattle.checking.specs.declared.variable_state.VariableState.{VariableState}
 use Rattle.checking.specs.declared.variable_state.Application.the-variants as application
 use Rattle.checking.specs.declared.variable_state.Applied.{Applied}
@@ -106,8 +107,8 @@ pub record EmptiesFirst (atoms : List Atom) (x : ℕ) : Type 0 where
 -- prepare_for_conflict_check: 7, then 6, then atom by atom 21 or a contradiction. What is admitted in the end is what the premises and the
 -- negated consequent admit.
 pub record PrepareMeans (premises consequent : List ℤ) (r : Applied) : Type 0 where
-  pub many : 3 * PREMISES + 2 < length premises → applicationNumbers (r .answer) ≡ refusedBy 7
-  pub malformed : length premises ≤ 3 * PREMISES + 2 → rightLists premises consequent ≡ false → applicationNumbers (r .answer) ≡ refusedBy 6
+  pub many : 3 * PREMISES + 2 < length premises → applicationNumbers (r .answer) ≡ refusedBy refused.PREMISES
+  pub malformed : length premises ≤ 3 * PREMISES + 2 → rightLists premises consequent ≡ false → applicationNumbers (r .answer) ≡ refusedBy refused.ATOMS
   pub refused : (n : ℕ) → applicationNumbers (r .answer) ≡ refusedBy n → r .state ≡ emptyState
   pub room : length premises ≤ 3 * PREMISES + 2 → rightLists premises consequent ≡ true → (n : ℕ) → applicationNumbers (r .answer) ≡ refusedBy n
       → (n ≡ 21) × NoRoom (given (atomsOf premises) (consequentOf consequent))

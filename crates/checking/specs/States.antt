@@ -7,15 +7,16 @@ use Prim.Native.Nat.{ℕ, _+_, _*_, _<_}
 use lib.Dec.{ltb}
 use lib.IntN.{ℤ, pos, natAbs}
 use lib.ListN.{length, getD, set, replicate}
+use Rattle.integers.specs.Refused as refused
 use Rattle.integers.specs.Limits.{VARIABLES, HOLES, PREMISES}
 use Rattle.scheduling.specs.Scheduling.{Atom, given}
-use Rattle.atoms.specs.Atoms.{atomFrom, atomsOf, consequentOf, rightVariable, rightAtom, rightLists}
-use Rattle.domains.specs.declared.int_ext.IntExt.{IntExt}
-use Rattle.domains.specs.declared.int_ext.IntExt.the-variants.{Int}
-use Rattle.domains.specs.declared.domain.Domain.{Domain}
-use Rattle.domains.specs.declared.domain.Effect.the-variants.{Narrowed, Emptied, Full}
-use Rattle.domains.specs.declared.domain.Reduced.{Reduced}
-use Rattle.domains.specs.Domains.{allIntegers, acceptedDomain, reduced, isTrue, Proper}
+use Rattle.checking.specs.Atoms.{atomFrom, atomsOf, consequentOf, rightVariable, rightAtom, rightLists}
+use Rattle.checking.specs.declared.int_ext.IntExt.{IntExt}
+use Rattle.checking.specs.declared.int_ext.IntExt.the-variants.{Int}
+use Rattle.checking.specs.declared.domain.Domain.{Domain}
+use Rattle.checking.specs.declared.domain.Effect.the-variants.{Narrowed, Emptied, Full}
+use Rattle.checking.specs.declared.domain.Reduced.{Reduced}
+use Rattle.checking.specs.Domains.{allIntegers, acceptedDomain, reduced, isTrue, Proper}
 use Rattle.checking.specs.declared.variable_state.VariableState.{VariableState}
 use Rattle.checking.specs.declared.variable_state.Application.the-variants as application
 use Rattle.checking.specs.declared.variable_state.Applied.{Applied}
@@ -66,7 +67,7 @@ abbrev pub outcome : VariableState → Atom → Reduced → Applied
 outcome s a r = elim (r .effect) [
   | Narrowed ↦ record { answer = application.Consistent; state = put s (a .variable) (r .domain) }
   | Emptied ↦ record { answer = application.Contradiction (a .variable); state = s }
-  | Full ↦ record { answer = application.Refused 21; state = s }
+  | Full ↦ record { answer = application.Refused refused.HOLES; state = s }
 ]
 
 -- an atom applied to the domain of its variable
@@ -77,15 +78,15 @@ stepped s a = outcome s a (reduced (domainAt s (a .variable)) (a .kind) (a .valu
 unfoldable pub appliedTo : VariableState → ℤ → ℤ → ℤ → Applied
 appliedTo s x k v =
     cond (accepted (s .domains))
-    (cond (rightAtom x k v) (stepped s (atomFrom x k v)) (record { answer = application.Refused 6; state = s }))
-    (record { answer = application.Refused 22; state = s })
+    (cond (rightAtom x k v) (stepped s (atomFrom x k v)) (record { answer = application.Refused refused.ATOMS; state = s }))
+    (record { answer = application.Refused refused.STATE; state = s })
 
 -- is_true
 unfoldable pub truthOf : VariableState → ℤ → ℤ → ℤ → Truth
 truthOf s x k v =
     cond (accepted (s .domains))
-    (cond (rightAtom x k v) (cond (isTrue (domainAt s (natAbs x)) (natAbs k) v) truth.True truth.False) (truth.Refused 6))
-    (truth.Refused 22)
+    (cond (rightAtom x k v) (cond (isTrue (domainAt s (natAbs x)) (natAbs k) v) truth.True truth.False) (truth.Refused refused.ATOMS))
+    (truth.Refused refused.STATE)
 
 -- lower_bound, upper_bound
 abbrev pub lowerOf : Domain → IntExt
@@ -99,7 +100,8 @@ sideOf true = lowerOf
 sideOf false = upperOf
 
 unfoldable pub boundOf : (Domain → IntExt) → VariableState → ℤ → Bound
-boundOf side s x = cond (accepted (s .domains)) (cond (rightVariable x) (bound.At (side (domainAt s (natAbs x)))) (bound.Refused 6)) (bound.Refused 22)
+boundOf side s x = cond (accepted (s .domains)) (cond (rightVariable x) (bound.At (side (domainAt s (natAbs x)))) (bound.Refused refused.ATOMS))
+    (bound.Refused refused.STATE)
 
 -- A list of atoms --------------------------------------------------------------------------------------------------------------
 
@@ -115,7 +117,7 @@ applyAll (a ∷ rest) s = elim (stepped s a .answer) [
 -- prepare_for_conflict_check
 unfoldable pub prepared : List ℤ → List ℤ → Applied
 prepared premises consequent =
-    cond (ltb (3 * PREMISES + 2) (length premises)) (record { answer = application.Refused 7; state = emptyState })
+    cond (ltb (3 * PREMISES + 2) (length premises)) (record { answer = application.Refused refused.PREMISES; state = emptyState })
     (cond (rightLists premises consequent)
     (applyAll (given (atomsOf premises) (consequentOf consequent)) emptyState)
-    (record { answer = application.Refused 6; state = emptyState }))
+    (record { answer = application.Refused refused.ATOMS; state = emptyState }))

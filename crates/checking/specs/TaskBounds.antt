@@ -5,9 +5,9 @@ use Prim.Native.Nat.{ℕ}
 use lib.IntN.{ℤ}
 use lib.ListN.{replicate}
 use Rattle.integers.specs.Limits.{TASKS}
-use Rattle.integers.specs.Filling.{filled}
+use Rattle.integers.specs.FilledLists.{filled}
 use Rattle.integers.specs.Moments.{moment, zeroAt}
-use Rattle.domains.specs.declared.domain.Domain.{Domain}
+use Rattle.checking.specs.declared.domain.Domain.{Domain}
 use Rattle.checking.specs.declared.variable_state.VariableState.{VariableState}
 use Rattle.checking.specs.declared.start_bounds.TaskBounds.{TaskBounds}
 use Rattle.checking.specs.declared.start_bounds.Bounds.{Bounds}

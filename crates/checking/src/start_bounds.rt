@@ -1,7 +1,7 @@
 // The bounds that a state leaves to the tasks' starts, as moments: who checks asks for them here.
+use crate::domain::Domain;
+use crate::int_ext::IntExt;
 use crate::variable_state::VariableState;
-use domains::domain::Domain;
-use domains::int_ext::IntExt;
 use integers::limits::TASKS;
 ghost use mathlib.Core.Path.{_≡_};
 ghost use Prim.Native.Nat.{_≤_};
@@ -48,8 +48,8 @@ fn task_bounds(domain: Domain) -> TaskBounds
             IntExt::PositiveInf => unbounded(),
             IntExt::Int(upper) => TaskBounds {
                 known: true,
-                est: integers::moment_of(lower),
-                lst: integers::moment_of(upper),
+                est: integers::moments::moment_of(lower),
+                lst: integers::moments::moment_of(upper),
             },
         },
     }

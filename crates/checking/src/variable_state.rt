@@ -1,26 +1,28 @@
 // The domains of all variables.
-use atoms::atomic_constraint::AtomicConstraint;
-use atoms::atomic_constraint::atom_is_accepted;
-use atoms::atomic_constraint::given_at;
-use atoms::atomic_constraint::lists_are_accepted;
-use atoms::atomic_constraint::variable_is_accepted;
-use domains::domain::Domain;
-use domains::domain::Effect;
-use domains::int_ext::IntExt;
+use crate::atomic_constraint::AtomicConstraint;
+use crate::atomic_constraint::atom_is_accepted;
+use crate::atomic_constraint::given_at;
+use crate::atomic_constraint::lists_are_accepted;
+use crate::atomic_constraint::variable_is_accepted;
+use crate::domain::Domain;
+use crate::domain::Effect;
+use crate::int_ext::IntExt;
 use integers::limits::PREMISES;
 use integers::limits::VARIABLES;
-use integers::nat_of;
+use integers::numbers::nat_of;
+use integers::refused;
 ghost use mathlib.Core.Path.{_≡_};
 ghost use mathlib.Core.Bool.{true};
 ghost use Prim.Native.Nat.{_+_, _*_, _≤_, _<_};
 ghost use lib.ListN.{length};
 ghost use Rattle.integers.specs.Limits.{VARIABLES, PREMISES, VALUE};
 ghost use Rattle.scheduling.specs.Scheduling.{given};
-ghost use Rattle.holes.specs.Holes.{Within};
-ghost use Rattle.atoms.specs.Atoms.{atomOf, atomsOf, consequentOf, rightLists};
+ghost use Rattle.integers.specs.WholeNumbers.{Within};
+ghost use Rattle.checking.specs.Atoms.{atomOf, atomsOf, consequentOf, rightLists};
 ghost use Rattle.checking.specs.Answers.{truthNumbers, boundNumbers, AppliedAs};
 ghost use Rattle.checking.specs.Promises.{EmptyMeans, ApplyMeans, TruthMeans, LowerMeans, UpperMeans, PrepareMeans};
-ghost use Rattle.checking.specs.States.{emptyState, accepted, stepped, appliedTo, truthOf, boundOf, applyAll, prepared, AllProper, Accepted, lowerOf, upperOf, sideOf};
+ghost use Rattle.checking.specs.States.{emptyState, accepted, stepped, appliedTo, truthOf, boundOf, applyAll, prepared, AllProper, Accepted, lowerOf};
+ghost use Rattle.checking.specs.States.{upperOf, sideOf};
 
 // The domains of the variables, by number. An unmentioned variable may be any integer.
 pub struct VariableState {
@@ -98,7 +100,7 @@ impl VariableState {
                 state: self,
             },
             Effect::Full => Applied {
-                answer: Application::Refused(21),
+                answer: Application::Refused(refused::HOLES),
                 state: self,
             },
         }
@@ -111,13 +113,13 @@ impl VariableState {
     {
         if !self.is_accepted() {
             return Applied {
-                answer: Application::Refused(22),
+                answer: Application::Refused(refused::STATE),
                 state: self,
             };
         }
         if !atom_is_accepted(variable, kind, value) {
             return Applied {
-                answer: Application::Refused(6),
+                answer: Application::Refused(refused::ATOMS),
                 state: self,
             };
         }
@@ -130,10 +132,10 @@ impl VariableState {
         ensures means { λ r. ⌜ TruthMeans self variable kind value r ⌝ }
     {
         if !self.is_accepted() {
-            return Truth::Refused(22);
+            return Truth::Refused(refused::STATE);
         }
         if !atom_is_accepted(variable, kind, value) {
-            return Truth::Refused(6);
+            return Truth::Refused(refused::ATOMS);
         }
         let atom = AtomicConstraint::new(variable, kind, value);
         let x = atom.identifier;
@@ -150,10 +152,10 @@ impl VariableState {
         ensures { λ r. ⌜ (r ≡ boundOf (sideOf lower) self variable) × (accepted (self .domains) ≡ true → Accepted self) ⌝ }
     {
         if !self.is_accepted() {
-            return Bound::Refused(22);
+            return Bound::Refused(refused::STATE);
         }
         if !variable_is_accepted(variable) {
-            return Bound::Refused(6);
+            return Bound::Refused(refused::ATOMS);
         }
         let x = nat_of(variable) as usize;
         let domain = self.domains[x];
@@ -212,7 +214,7 @@ impl VariableState {
                 }
                 Effect::Full => {
                     return Applied {
-                        answer: Application::Refused(21),
+                        answer: Application::Refused(refused::HOLES),
                         state: VariableState::empty(),
                     };
                 }
@@ -233,13 +235,13 @@ impl VariableState {
     {
         if 3 * PREMISES + 2 < premises.len() {
             return Applied {
-                answer: Application::Refused(7),
+                answer: Application::Refused(refused::PREMISES),
                 state: VariableState::empty(),
             };
         }
         if !lists_are_accepted(premises, consequent) {
             return Applied {
-                answer: Application::Refused(6),
+                answer: Application::Refused(refused::ATOMS),
                 state: VariableState::empty(),
             };
         }

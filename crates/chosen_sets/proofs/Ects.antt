@@ -1,5 +1,4 @@
 -- The theta tree over the tasks by earliest start, with those of a set white, has the ect of the set.
--- Assumes nothing.
 use mathlib.Core.Path.{_≡_, refl, sym, ap, _∙_}
 use mathlib.Core.Bool.{Bool, true, false, cond}
 use mathlib.Core.Logic.{inl, inr}
@@ -7,14 +6,14 @@ use Prim.Native.Nat.{ℕ, _<_}
 use native.Mathlib.Omega.{arith}
 use lib.ListN.{getD, length-map}
 use Rattle.integers.specs.Orders.{index}
-use Rattle.integers.proofs.Filling.{getD-map-in}
+use Rattle.integers.proofs.Lists.{getD-map-in}
 use Rattle.scheduling.specs.Scheduling.{natural, Tasks, Proper, TaskSet}
 use Rattle.scheduling.specs.Ects.{byEarliest, ectOf}
 use Rattle.scheduling.proofs.Ects.{by-earliest, order-size, ect-none, ect-some}
 use Rattle.scheduling.proofs.Sets.{top}
 use Rattle.trees.specs.Leaves.{Leaf, empty, white, inTheta, inLambda, ect}
-use Rattle.trees.proofs.Roots as tree
-use Rattle.chosen_sets.specs.Colouring.{colours}
+use Rattle.trees.proofs.RootAnswers as tree
+use Rattle.chosen_sets.specs.ColouredLeaves.{colours}
 
 white-cond : (b : Bool) → inTheta (cond b white empty) ≡ b
 white-cond true = refl
@@ -41,5 +40,6 @@ module _ (J : Tasks natural) (Ω : TaskSet) (ok : Proper J) where
   pub tree-ect : ect J (byEarliest J) (colours J Ω) ≡ ectOf J Ω
   tree-ect = elim (top Ω (λ k. 0) (J .count)) [
     | inl nil ↦ tree.moment-none J ok (byEarliest J) (by-earliest J) (colours J Ω) Ω (λ _. false) shape nil ∙ sym (ect-none J ok Ω nil)
-    | inr t ↦ (let (v, e, largest) = ect-some J ok Ω (t .at, record { small = t .small; mem = t .mem }) in tree.moment-is J ok (byEarliest J) (by-earliest J) (colours J Ω) Ω (λ _. false) shape v .1 largest ∙ sym e)
+    | inr t ↦ (let (v, e, largest) = ect-some J ok Ω (t .at, record { small = t .small; mem = t .mem }) in
+        tree.moment-is J ok (byEarliest J) (by-earliest J) (colours J Ω) Ω (λ _. false) shape v .1 largest ∙ sym e)
   ]

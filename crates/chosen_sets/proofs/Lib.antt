@@ -1,3 +1,3 @@
 pub mod Ects
-pub mod Colouring
-pub mod Ranging
+pub mod ColouredLeaves
+pub mod RecordArrays

@@ -1,2 +1,2 @@
 pub mod TaskArrays
-pub mod Colouring
+pub mod ColouredLeaves

@@ -6,7 +6,7 @@ use Prim.Native.Nat.{ℕ, _≤_, _<_}
 use lib.ListN.{getD}
 use Rattle.integers.specs.Limits.{TASKS, DURATIONS}
 use Rattle.scheduling.specs.Scheduling.{natural, Tasks, Proper, TaskSet, total}
-use Rattle.nodes.specs.Bounds.{LATEST}
+use Rattle.trees.specs.NodeBounds.{LATEST}
 
 -- n tasks, their earliest starts and durations, and which of them are chosen
 pub record Held (J : Tasks natural) (Ω : TaskSet) (n : ℕ) (chosen : List Bool) (est durations : List ℕ) : Type 0 where

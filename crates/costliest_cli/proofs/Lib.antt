@@ -1,4 +1,4 @@
-pub mod Asking
-pub mod Putting
-pub mod Reading
-pub mod Reaching
+pub mod AskedSize
+pub mod TaskLines
+pub mod TasksReadBack
+pub mod LeafChanges

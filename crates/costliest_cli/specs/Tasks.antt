@@ -4,8 +4,8 @@ use Prim.Native.Nat.{ℕ, _*_}
 use lib.IntN.{pos}
 use lib.ListN.{length}
 use Rattle.runs.specs.Runs.{tabulate}
-use Rattle.decimals.specs.Writing.{natural, decimal}
-use Rattle.plan_text.specs.Lines.{newline, space, lines}
+use Rattle.text.specs.DecimalText.{natural, decimal}
+use Rattle.plan_cli.specs.Lines.{newline, space, lines}
 use Rattle.plan_cli.specs.Printed.{Triple}
 
 -- the line of a task: its three numbers, a space between them

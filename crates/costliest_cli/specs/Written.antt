@@ -2,7 +2,7 @@
 use mathlib.Core.List.{List}
 use Prim.Native.Nat.{ℕ}
 use Rattle.text.specs.Numbers.{numbersOf}
-use Rattle.plan_text.specs.Lines.{refusedLine}
+use Rattle.plan_cli.specs.Lines.{refusedLine}
 use Rattle.costliest_cli.specs.declared.size.Asked.{Asked}
 use Rattle.costliest_cli.specs.declared.size.Asked.the-variants as asked
 use Rattle.costliest_cli.specs.Asked.{askedIn}

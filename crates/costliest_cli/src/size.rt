@@ -5,7 +5,7 @@ ghost use mathlib.Core.List.{List};
 ghost use mathlib.Core.Option.{Option};
 ghost use mathlib.Core.Path.{_≡_};
 ghost use lib.IntN.{ℤ};
-ghost use Rattle.text.specs.Scanning.{gathered};
+ghost use Rattle.text.specs.Scanner.{gathered};
 ghost use Rattle.costliest_cli.specs.Asked.{askedIn, Fits};
 
 // A size, or other input.
@@ -27,10 +27,10 @@ pub fn size_asked(numbers: Numbers) -> Asked
     }
     let kept = numbers.kept;
     let first = kept[0];
-    if !integers::at_most(1, first) {
+    if !integers::numbers::at_most(1, first) {
         return Asked::Wrong;
     }
-    let n = integers::nat_of(first) as usize;
+    let n = integers::numbers::nat_of(first) as usize;
     if n > TASKS {
         return Asked::Wrong;
     }

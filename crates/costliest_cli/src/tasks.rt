@@ -1,11 +1,11 @@
 // The lines of the instance: a count, and a line for each task.
-use decimals::writing::put_bytes;
-use decimals::writing::put_count;
+use text::writing::put_bytes;
+use text::writing::put_count;
 ghost use Prim.Native.Nat.{_+_, _*_, _≤_};
 ghost use lib.ListN.{length};
 ghost use Rattle.integers.specs.Limits.{TASKS};
-ghost use Rattle.decimals.specs.Writing.{Puts};
-ghost use Rattle.plan_text.specs.Lines.{lines};
+ghost use Rattle.text.specs.DecimalText.{Puts};
+ghost use Rattle.plan_cli.specs.Lines.{lines};
 ghost use Rattle.costliest_cli.specs.Tasks.{taskLine, instanceLines, costliestTask, costliest};
 
 // The line of task k: both its starts are 10k, and it lasts 10.

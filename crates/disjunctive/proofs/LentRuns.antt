@@ -1,41 +1,45 @@
 -- What the cores leave of ranges that are taken apart is, stored back, what the calls on lent ranges promise.
--- Assumes nothing.
 use mathlib.Core.List.{List, []}
 use mathlib.Core.Path.{_≡_}
 use lib.IntN.{ℤ}
 use lib.ListN.{take, length-map}
-use Rattle.records.specs.declared.record.Propagator.{Propagator}
+use Rattle.records.specs.declared.record.DisjunctivePropagator.{DisjunctivePropagator}
 use Rattle.propagator.specs.Ran.{Ran}
-use Rattle.propagator.proofs.Many.{too-many}
+use Rattle.propagator.proofs.TooManyRanges.{too-many}
 use Rattle.mirrored.specs.RanMirrored.{RanMirrored}
-use Rattle.mirrored.proofs.Many.{too-many-mirrored}
+use Rattle.mirrored.proofs.TooManyRanges.{too-many-mirrored}
 use Rattle.precedences.specs.Precedences.{RanPrecedences}
-use Rattle.precedences.proofs.Many.{too-many as no-precedences}
-use Rattle.barred_starts.specs.declared.range.Range.{Range}
-use Rattle.barred_starts.specs.Bars.{allBarsFit}
-use Rattle.barred_starts.specs.Ranges.{earliests, latests, withStarts, withLatests}
-use Rattle.barred_starts.proofs.Storing.{with-none, own-starts, latest-none, own-latests}
-use Rattle.lent_ranges.specs.declared.starts.StartsWithBars.{StartsWithBars}
-use Rattle.lent_ranges.specs.TakenApart.{startsWithBars, firstEarliest, firstLatest}
-use Rattle.lent_ranges.proofs.TakenApart.{starts-of, stored, bars-of}
+use Rattle.precedences.proofs.TooManyRanges.{too-many as no-precedences}
+use Rattle.ranges.specs.declared.range.Range.{Range}
+use Rattle.ranges.specs.Bars.{allBarsFit}
+use Rattle.ranges.specs.Ranges.{earliests, latests, withStarts, withLatests}
+use Rattle.ranges.proofs.StoredStarts.{with-none, own-starts, latest-none, own-latests}
+use Rattle.ranges.specs.declared.starts.StartsWithBars.{StartsWithBars}
+use Rattle.ranges.specs.TakenApart.{startsWithBars, firstEarliest, firstLatest}
+use Rattle.ranges.proofs.TakenApart.{starts-of, stored, bars-of}
 use Rattle.promises.specs.RanLent.{RanLent}
 use Rattle.promises.specs.RanMirroredLent.{RanMirroredLent}
 use Rattle.promises.specs.PrecedencesLent.{PrecedencesLent}
-use Rattle.promises.proofs.Lent.{lent, lent-mirrored}
+use Rattle.promises.proofs.LentRanges.{lent, lent-mirrored}
 use Rattle.promises.proofs.PrecedencesLent.{lent-precedences}
-use Rattle.range_cores.specs.declared.cores.CoreRun.{CoreRun}
-use Rattle.range_cores.specs.declared.cores.CoreMirrored.{CoreMirrored}
-use Rattle.range_cores.specs.declared.by_precedence.CorePrecedences.{CorePrecedences}
-use Rattle.range_cores.specs.Cores.{RanCore, RanMirroredCore}
-use Rattle.range_cores.specs.PrecedencesCore.{PrecedencesCore}
+use Rattle.disjunctive.specs.declared.cores.CoreRun.{CoreRun}
+use Rattle.disjunctive.specs.declared.cores.CoreMirrored.{CoreMirrored}
+use Rattle.disjunctive.specs.declared.precedence_cores.CorePrecedences.{CorePrecedences}
+use Rattle.disjunctive.specs.Cores.{RanCore, RanMirroredCore}
+use Rattle.disjunctive.specs.PrecedencesCore.{PrecedencesCore}
 
 -- the run, the mirrored pass, and the pass by precedences
-module _ (before : Propagator) (ys : List Range) (s : StartsWithBars) (is : s ≡ startsWithBars ys) where
+module _ (before : DisjunctivePropagator) (ys : List Range) (s : StartsWithBars) (is : s ≡ startsWithBars ys) where
   pub lent-run : (posts atoms : List ℤ) (r : CoreRun) (posts′ atoms′ : List ℤ) → RanCore before s posts atoms r posts′ atoms′
       → RanLent before ys posts atoms (r .finished .outcome) (r .finished .changes) (r .«record») (withStarts ys (take (r .starts .count) (r .starts .earliest))) posts′ atoms′
   lent-run posts atoms r posts′ atoms′ c =
-      let (us, size, ran, same) = stored (λ es ls es′. Ran before es ls (allBarsFit ys) posts atoms (record { «record» = r .«record»; outcome = r .finished .outcome; changes = r .finished .changes }) es′ posts′ atoms′) ys (s .starts) (starts-of ys s is)
-      (r .starts .count) (c .same-count) (r .starts .earliest) (c .whole) (bars-of ys s is (λ bars. Ran before (firstEarliest (s .starts)) (firstLatest (s .starts)) bars posts atoms (record { «record» = r .«record»; outcome = r .finished .outcome; changes = r .finished .changes }) (take (s .starts .count) (r .starts .earliest)) posts′ atoms′) (c .ran)) withStarts (earliests ys) (length-map ys (λ (y : Range). y .earliest)) (with-none ys) (own-starts ys)
+      let (us, size, ran, same) = stored (λ es ls es′.
+      Ran before es ls (allBarsFit ys) posts atoms (record { «record» = r .«record»; outcome = r .finished .outcome; changes = r .finished .changes }) es′ posts′ atoms′) ys (s .starts)
+      (starts-of ys s is)
+      (r .starts .count) (c .same-count) (r .starts .earliest) (c .whole)
+      (bars-of ys s is (λ bars. Ran before (firstEarliest (s .starts)) (firstLatest (s .starts)) bars posts atoms
+      (record { «record» = r .«record»; outcome = r .finished .outcome; changes = r .finished .changes }) (take (s .starts .count) (r .starts .earliest)) posts′ atoms′) (c .ran)) withStarts
+      (earliests ys) (length-map ys (λ (y : Range). y .earliest)) (with-none ys) (own-starts ys)
       (λ h a. too-many before (earliests ys) (latests ys) (allBarsFit ys) (allBarsFit ys) posts atoms _ [] posts′ atoms′ h a) in
       rw (same) (lent before ys posts atoms (r .finished .outcome) (r .finished .changes) (r .«record») us posts′ atoms′ size ran)
 
@@ -43,13 +47,17 @@ module _ (before : Propagator) (ys : List Range) (s : StartsWithBars) (is : s �
       → RanMirroredLent before ys posts atoms (r .outcome) (withLatests ys (take (r .starts .count) (r .starts .latest))) posts′ atoms′
   lent-mirrored-run posts atoms r posts′ atoms′ c =
       let (us, size, ran, same) = stored (λ es ls ls′. RanMirrored before es ls (allBarsFit ys) posts atoms (r .outcome) ls′ posts′ atoms′) ys (s .starts) (starts-of ys s is)
-      (r .starts .count) (c .same-count) (r .starts .latest) (c .whole) (bars-of ys s is (λ bars. RanMirrored before (firstEarliest (s .starts)) (firstLatest (s .starts)) bars posts atoms (r .outcome) (take (s .starts .count) (r .starts .latest)) posts′ atoms′) (c .ran)) withLatests (latests ys) (length-map ys (λ (y : Range). y .latest)) (latest-none ys) (own-latests ys)
+      (r .starts .count) (c .same-count) (r .starts .latest) (c .whole)
+      (bars-of ys s is (λ bars. RanMirrored before (firstEarliest (s .starts)) (firstLatest (s .starts)) bars posts atoms (r .outcome) (take (s .starts .count) (r .starts .latest)) posts′ atoms′)
+      (c .ran)) withLatests (latests ys) (length-map ys (λ (y : Range). y .latest)) (latest-none ys) (own-latests ys)
       (λ h a. too-many-mirrored before (earliests ys) (latests ys) (allBarsFit ys) (allBarsFit ys) posts atoms _ [] posts′ atoms′ h a) in
       rw (same) (lent-mirrored before ys posts atoms (r .outcome) us posts′ atoms′ size ran)
 
   pub lent-pass : (r : CorePrecedences) → PrecedencesCore before s r → PrecedencesLent before ys (r .answer) (withStarts ys (take (r .starts .count) (r .starts .earliest)))
   lent-pass r c =
       let (us, size, ran, same) = stored (λ es ls es′. RanPrecedences before es ls (allBarsFit ys) (r .answer) es′) ys (s .starts) (starts-of ys s is)
-      (r .starts .count) (c .same-count) (r .starts .earliest) (c .whole) (bars-of ys s is (λ bars. RanPrecedences before (firstEarliest (s .starts)) (firstLatest (s .starts)) bars (r .answer) (take (s .starts .count) (r .starts .earliest))) (c .ran)) withStarts (earliests ys) (length-map ys (λ (y : Range). y .earliest)) (with-none ys) (own-starts ys)
+      (r .starts .count) (c .same-count) (r .starts .earliest) (c .whole)
+      (bars-of ys s is (λ bars. RanPrecedences before (firstEarliest (s .starts)) (firstLatest (s .starts)) bars (r .answer) (take (s .starts .count) (r .starts .earliest))) (c .ran)) withStarts
+      (earliests ys) (length-map ys (λ (y : Range). y .earliest)) (with-none ys) (own-starts ys)
       (λ h a. no-precedences before (earliests ys) (latests ys) (allBarsFit ys) (allBarsFit ys) (r .answer) [] h a) in
       rw (same) (lent-precedences before ys (r .answer) us size ran)

@@ -1,3 +1,4 @@
+mod AllPlaces
 pub mod LentRuns
 pub mod Calls
 pub mod Routines

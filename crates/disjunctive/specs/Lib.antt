@@ -1,1 +1,3 @@
+pub mod Cores
+pub mod PrecedencesCore
 pub mod Examples

@@ -1,3 +1,6 @@
+pub mod Places
+pub mod LeafWalk
+pub mod WrittenAtoms
 pub mod Parts
-pub mod Explaining
-pub mod Storing
+pub mod ExplanationAtoms
+pub mod StoredReasons

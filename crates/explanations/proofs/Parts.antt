@@ -1,11 +1,10 @@
 -- Parts of a list of tasks: what holds of each task holds of those of a part, and where a walk over the list first stops in it.
--- Assumes nothing.
 use mathlib.Core.List.{List, _∷_}
 use Prim.Native.Nat.{ℕ, suc, _+_, _<_}
 use native.Mathlib.Omega.{arith}
 use lib.ListN.{length, getD, take, drop, length-take, length-drop}
 use lib.Seq.{getD-drop, getD-take}
-use Rattle.theta_walks.specs.Walks.{lasts, Each, First}
+use Rattle.explanations.specs.Walks.{lasts, Each, First}
 
 module _ (P : ℕ → Type 0) (ks : List ℕ) (h : Each P ks) (i : ℕ) where
   pub each-drop : Each P (drop i ks)
@@ -20,6 +19,8 @@ module _ (P : ℕ → ℕ → Type 0) (ds : List ℕ) where
   first-tail k ks x q f = record { small = omega (arith, f .small); rest = f .rest; holds = f .holds; before = λ y h a. f .before (suc y) (omega arith) a }
 
 -- where two walks ask the same of each task, they stop at the same place
-pub first-same : (P Q : ℕ → ℕ → Type 0) (ds ks : List ℕ) (x q : ℕ) → ((y r : ℕ) → y < length ks → P (getD ks y 0) r → Q (getD ks y 0) r) → ((y r : ℕ) → y < length ks → Q (getD ks y 0) r → P (getD ks y 0) r)
+pub first-same : (P Q : ℕ → ℕ → Type 0) (ds ks : List ℕ) (x q : ℕ) → ((y r : ℕ) → y < length ks → P (getD ks y 0) r → Q (getD ks y 0) r)
+    → ((y r : ℕ) → y < length ks → Q (getD ks y 0) r → P (getD ks y 0) r)
     → First P ds ks x q → First Q ds ks x q
-first-same P Q ds ks x q to from f = record { small = f .small; rest = f .rest; holds = to x q (f .small) (f .holds); before = λ y h a. f .before y h (from y (lasts ds (drop y ks)) (omega (arith, f .small)) a) }
+first-same P Q ds ks x q to from f = record
+    { small = f .small; rest = f .rest; holds = to x q (f .small) (f .holds); before = λ y h a. f .before y h (from y (lasts ds (drop y ks)) (omega (arith, f .small)) a) }

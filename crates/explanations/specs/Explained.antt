@@ -1,5 +1,4 @@
 -- The explanations at small tasks, where the walks stop after the first task or differ; each meets what is asked of the input.
--- Assumes nothing.
 use mathlib.Core.Path.{_≡_, refl}
 use mathlib.Core.List.{List, [], _∷_}
 use Prim.Native.Nat.{ℕ, zero, suc, _+_, _≤_}
@@ -9,8 +8,8 @@ use lib.ListN.{getD}
 use Rattle.integers.specs.Moments.{zeroAt}
 use Rattle.runs.specs.Runs.{within, conflict, bounds, propagation}
 use Rattle.scheduling.specs.Words.{atomWords}
-use Rattle.theta_walks.specs.Walks.{lasts, Each, Known}
-use Rattle.theta_walks.specs.Writing.{starting}
+use Rattle.explanations.specs.Walks.{lasts, Each, Known}
+use Rattle.explanations.specs.WrittenAtoms.{starting}
 use Rattle.explanations.specs.Explanations.{Overloaded, Preceded}
 
 -- moment of a start that is not negative
@@ -40,7 +39,9 @@ overloaded : Overloaded 18 0 theta es ds 7 (at 14)
 unfolding lasts
 overloaded = record {
   white = record {
-    known = each-three (Known es ds) 0 1 2 (record { task = omega arith; start = omega arith; duration = omega arith }) (record { task = omega arith; start = omega arith; duration = omega arith }) (record { task = omega arith; start = omega arith; duration = omega arith });
+    known = each-three (Known es ds) 0 1 2 (record { task = omega arith; start = omega arith; duration = omega arith })
+        (record { task = omega arith; start = omega arith; duration = omega arith })
+        (record { task = omega arith; start = omega arith; duration = omega arith });
     total = refl;
     ends = each-three (λ k. getD es k 0 + getD ds k 0 ≤ at 14) 0 1 2 (omega arith) (omega arith) (omega arith);
   };
@@ -69,7 +70,8 @@ preceded : Preceded 15 0 theta′ es′ ds′ 5 (at 9) 2 (at 9)
 unfolding lasts
 preceded = record {
   white = record {
-    known = each-two (Known es′ ds′) 0 1 (record { task = omega arith; start = omega arith; duration = omega arith }) (record { task = omega arith; start = omega arith; duration = omega arith });
+    known = each-two (Known es′ ds′) 0 1 (record { task = omega arith; start = omega arith; duration = omega arith })
+        (record { task = omega arith; start = omega arith; duration = omega arith });
     total = refl;
     ends = each-two (λ k. getD es′ k 0 + getD ds′ k 0 ≤ at 9) 0 1 (omega arith) (omega arith);
   };

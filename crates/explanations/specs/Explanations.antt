@@ -5,7 +5,7 @@ use mathlib.Core.Path.{_≡_}
 use mathlib.Core.List.{List}
 use Prim.Native.Nat.{ℕ, _+_, _*_, _^_, _≤_, _<_}
 use lib.ListN.{length, getD}
-use Rattle.theta_walks.specs.Walks.{lasts, Each, Precedes, Attains, Somewhere, Known}
+use Rattle.explanations.specs.Walks.{lasts, Each, Precedes, Attains, Somewhere, Known}
 
 -- whether the tasks of Θ from k on, which last q, overload: they pass lct
 abbrev pub Overloads : List ℕ → ℕ → ℕ → ℕ → Type 0

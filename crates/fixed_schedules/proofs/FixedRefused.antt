@@ -1,5 +1,4 @@
 -- What refuses a fixed schedule: what holds where nothing does, the sole ground for each number, and the same where other tests follow.
--- Assumes nothing.
 use mathlib.Core.Path.{_≡_, refl, _∙_}
 use mathlib.Core.Bool.{true, false, _&&_}
 use mathlib.Core.Logic.{_↔_, ⊎-elim}
@@ -15,10 +14,10 @@ use Rattle.integers.proofs.Bools.{and-true, and-yes, and-left, and-right}
 use Rattle.integers.proofs.Ints.{ints, leZ-true, le-leZ}
 use Rattle.integers.proofs.Tests.{all-at, all-show, unused, accepts, accepted, refuses, refusal-before, refusal-after, first-refuses}
 use Rattle.scheduling.specs.Scheduling.{NoOverlap}
-use Rattle.records.specs.declared.record.Propagator.{Propagator}
+use Rattle.records.specs.declared.record.DisjunctivePropagator.{DisjunctivePropagator}
 use Rattle.records.specs.Records.{Lawful}
-use Rattle.input_refusals.specs.Refusals.{rangeTests, rangeNumber, CountsFit, StartsFit, RangesFit}
-use Rattle.input_refusals.proofs.Refused.{passed-ranges, range-20, range-10, range-3, range-4, range-holds, range-many}
+use Rattle.records.specs.Refusals.{rangeTests, rangeNumber, CountsFit, StartsFit, RangesFit}
+use Rattle.records.proofs.RefusedRuns.{passed-ranges, range-20, range-10, range-3, range-4, range-holds, range-many}
 use Rattle.fixed_schedules.specs.FixedSchedules.{startAt, sameStart, oneStartAt, apartAt, allApart, fixedTests, fixedNumber, tasksOn, Fixed, AcceptedFixed}
 use Rattle.fixed_schedules.proofs.Neighbours.{apart-read, apart-show}
 
@@ -29,7 +28,7 @@ same-is a b = (
 )
 
 -- the test of 14 as a fact
-module _ (r : Propagator) (es ls : List ℤ) (c : length es ≡ r .count) where
+module _ (r : DisjunctivePropagator) (es ls : List ℤ) (c : length es ≡ r .count) where
   one-is : allBelow (oneStartAt es ls) (length es) ≡ true ↔ ((k : ℕ) → k < r .count → getD es k (pos 0) ≡ getD ls k (pos 0))
   one-is = (
     λ h k q. same-is (getD es k (pos 0)) (getD ls k (pos 0)) .0 (all-at (oneStartAt es ls) (length es) h k (omega arith)),
@@ -38,8 +37,11 @@ module _ (r : Propagator) (es ls : List ℤ) (c : length es ≡ r .count) where
 
   apart-is : allApart (r .durations) es (length es) ≡ true ↔ NoOverlap (tasksOn r es ls) (startAt es)
   apart-is = (
-    λ h j k p q ne. ⊎-elim (λ z. absurd (ne z)) (λ z. z) (apart-read (r .durations) es j k (all-at (apartAt (r .durations) es j) (length es) (all-at (λ i. allBelow (apartAt (r .durations) es i) (length es)) (length es) h j (omega arith)) k (omega arith))),
-    λ f. all-show (λ i. allBelow (apartAt (r .durations) es i) (length es)) (length es) (λ j p. all-show (apartAt (r .durations) es j) (length es) (λ k q. apart-show (r .durations) es j k (λ ne. f j k (omega arith) (omega arith) ne))),
+    λ h j k p q ne. ⊎-elim (λ z. absurd (ne z)) (λ z. z)
+        (apart-read (r .durations) es j k (all-at (apartAt (r .durations) es j) (length es) (all-at (λ i. allBelow (apartAt (r .durations) es i) (length es)) (length es) h j (omega arith)) k
+        (omega arith))),
+    λ f. all-show (λ i. allBelow (apartAt (r .durations) es i) (length es)) (length es)
+        (λ j p. all-show (apartAt (r .durations) es j) (length es) (λ k q. apart-show (r .durations) es j k (λ ne. f j k (omega arith) (omega arith) ne))),
   )
 
   pub fixed-is : allBelow (oneStartAt es ls) (length es) && allApart (r .durations) es (length es) ≡ true ↔ Fixed r es ls
@@ -48,7 +50,7 @@ module _ (r : Propagator) (es ls : List ℤ) (c : length es ≡ r .count) where
     λ f. and-yes (allBelow (oneStartAt es ls) (length es)) (allApart (r .durations) es (length es)) (one-is .1 (f .one)) (apart-is .1 (f .apart)),
   )
 
-module _ (r : Propagator) (es ls : List ℤ) where
+module _ (r : DisjunctivePropagator) (es ls : List ℤ) where
   abbrev t14 : Test
   t14 = test 14 (allBelow (oneStartAt es ls) (length es) && allApart (r .durations) es (length es))
 
@@ -86,7 +88,7 @@ module _ (r : Propagator) (es ls : List ℤ) where
     none-wrong o a = refusal-after (rangeTests r es ls) (t14 ∷ []) p ∙ accepts (t14 ∷ []) (and-yes (allBelow (oneStartAt es ls) (length es)) (allApart (r .durations) es (length es)) o a, tt)
 
 -- Where other tests follow.
-module _ (r : Propagator) (es ls : List ℤ) (after : List Test) where
+module _ (r : DisjunctivePropagator) (es ls : List ℤ) (after : List Test) where
   pub fixed-first : (fixedNumber r es ls ≡ 0 → ⊥) → refusal (fixedTests r es ls ++ after) ≡ fixedNumber r es ls
   fixed-first h = refusal-before (fixedTests r es ls) after h
 
@@ -110,6 +112,6 @@ module _ (r : Propagator) (es ls : List ℤ) (after : List Test) where
   fixed-14 other = range-holds r es ls (t14 r es ls ∷ after) refl (λ n. first-refuses (t14 r es ls) after (fixed-is r es ls (n .earliest)) other)
 
 -- more ranges than any record has tasks are refused by the number that refuses none, whatever tests follow
-pub fixed-many : (r : Propagator) (es ls : List ℤ) (after after′ : List Test) → TASKS < length es
+pub fixed-many : (r : DisjunctivePropagator) (es ls : List ℤ) (after after′ : List Test) → TASKS < length es
     → (refusal (fixedTests r [] [] ++ after) ≡ refusal (fixedTests r es ls ++ after′)) × (refusal (fixedTests r es ls ++ after′) ≡ 0 → ⊥)
 fixed-many r es ls after after′ many = range-many r es ls (t14 r [] [] ∷ after) (t14 r es ls ∷ after′) many

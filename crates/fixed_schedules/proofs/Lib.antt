@@ -1,5 +1,5 @@
-pub mod Placing
+pub mod ScheduleOrder
 pub mod Neighbours
 pub mod FixedRefused
-pub mod Accepting
-pub mod Asking
+pub mod AcceptedSchedules
+pub mod AskedMoments

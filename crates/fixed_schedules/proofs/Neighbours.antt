@@ -1,5 +1,4 @@
 -- Neighbours of the order that do not overlap, and no two tasks that do: one test for the other.
--- Assumes nothing.
 use mathlib.Core.Path.{_≡_, sym, ap, _∙_}
 use mathlib.Core.Bool.{Bool, true, false, _||_}
 use mathlib.Core.Logic.{_⊎_, inl, inr, ⊎-elim}
@@ -20,7 +19,7 @@ use Rattle.integers.proofs.Ints.{ints, up, dn, sumℤ, leZ-true, le-leZ}
 use Rattle.integers.proofs.Tests.{all-at, all-show, all-ext}
 use Rattle.fixed_schedules.specs.FixedSchedules.{startAt, endAt, apartAt, allApart, orderOf}
 use Rattle.fixed_schedules.specs.Neighbours.{neighboursApart}
-use Rattle.fixed_schedules.proofs.Placing.{ordered}
+use Rattle.fixed_schedules.proofs.ScheduleOrder.{ordered}
 
 or-left : (a b : Bool) → a ≡ true → a || b ≡ true
 or-left a b p = rw p
@@ -66,7 +65,8 @@ module _ (ds : List ℕ) (es : List ℤ) where
           let t = index (orderOf es) k in
           elim (decLt s t) [
             | yes l ↦ inl (rw (o .there j q, o .there k r) at (later h s t l (o .placed k r)))
-            | no l ↦ (let m : t < s = elim (ℕ-discrete s t) [ yes z ↦ absurd (ne (sym (o .there j q) ∙ ap (λ (x : ℕ). getD (orderOf es) x 0) z ∙ o .there k r)) | no z ↦ omega arith ] in inr (rw (o .there j q, o .there k r) at (later h t s m (o .placed j q))))
+            | no l ↦ (let m : t < s = elim (ℕ-discrete s t) [ yes z ↦ absurd (ne (sym (o .there j q) ∙ ap (λ (x : ℕ). getD (orderOf es) x 0) z ∙ o .there k r)) | no z ↦ omega arith ] in
+                inr (rw (o .there j q, o .there k r) at (later h t s m (o .placed j q))))
           ]
 
   -- and no two tasks overlapping: of two neighbours it is the first that ends by the start of the other, as each task lasts
@@ -93,14 +93,16 @@ module _ (ds : List ℕ) (es : List ℤ) where
   pub same-test : ((k : ℕ) → k < length es → 1 ≤ getD ds k 0) → allBelow (neighboursApart (orderOf es) es ds) (length es - 1) ≡ allApart ds es (length es)
   same-test lasts = by (bool (allBelow (neighboursApart (orderOf es) es ds) (length es - 1))) (bool (allApart ds es (length es)))
     where
-      by : (allBelow (neighboursApart (orderOf es) es ds) (length es - 1) ≡ true) ⊎ (allBelow (neighboursApart (orderOf es) es ds) (length es - 1) ≡ false) → (allApart ds es (length es) ≡ true) ⊎ (allApart ds es (length es) ≡ false)
+      by : (allBelow (neighboursApart (orderOf es) es ds) (length es - 1) ≡ true) ⊎ (allBelow (neighboursApart (orderOf es) es ds) (length es - 1) ≡ false) → (allApart ds es (length es) ≡ true)
+          ⊎ (allApart ds es (length es) ≡ false)
           → allBelow (neighboursApart (orderOf es) es ds) (length es - 1) ≡ allApart ds es (length es)
       by (inl y) z = y ∙ sym (neighbours-then-all y)
       by (inr y) (inl z) = clash (all-then-neighbours lasts z) y
       by (inr y) (inr z) = y ∙ sym z
 
   -- the same of an array that has the order in its first places
-  pub neighbours-are : (order : List ℕ) → take (length es) order ≡ orderOf es → ((k : ℕ) → k < length es → 1 ≤ getD ds k 0) → allBelow (neighboursApart order es ds) (length es - 1) ≡ allApart ds es (length es)
+  pub neighbours-are : (order : List ℕ) → take (length es) order ≡ orderOf es → ((k : ℕ) → k < length es → 1 ≤ getD ds k 0)
+      → allBelow (neighboursApart order es ds) (length es - 1) ≡ allApart ds es (length es)
   neighbours-are order e lasts = all-ext (neighboursApart order es ds) (neighboursApart (orderOf es) es ds) (length es - 1) agree ∙ same-test lasts
     where
       here : (t : ℕ) → t < length es → getD order t 0 ≡ getD (orderOf es) t 0

@@ -1,18 +1,17 @@
 -- The definitions at small inputs.
--- Assumes nothing.
 use mathlib.Core.Path.{_≡_, refl}
 use mathlib.Core.List.{[], _∷_}
 use lib.IntN.{pos, negsuc}
-use Rattle.integers.specs.Filling.{filled}
+use Rattle.integers.specs.FilledLists.{filled}
 use Rattle.integers.specs.Orders.{insert, sort, numbers}
 use Rattle.integers.specs.Tests.{allBelow, refusal}
 use Rattle.scheduling.specs.Scheduling.{total}
-use Rattle.records.specs.declared.record.Propagator.{Propagator}
+use Rattle.records.specs.declared.record.DisjunctivePropagator.{DisjunctivePropagator}
 use Rattle.records.specs.Records.{unusedAt, lawfulRecord, newRecord}
 use Rattle.fixed_schedules.specs.FixedSchedules.{orderOf, fixedNumber}
 
 -- task 0 starts at 3 and lasts 4, task 1 starts at −12 and lasts 15: it is the first, and ends where task 0 starts
-two : Propagator
+two : DisjunctivePropagator
 two = newRecord (pos 4 ∷ pos 15 ∷ [])
 
 two-by-start : orderOf (pos 3 ∷ negsuc 11 ∷ []) ≡ 1 ∷ 0 ∷ []

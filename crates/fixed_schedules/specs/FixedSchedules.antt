@@ -7,12 +7,13 @@ use lib.Dec.{eqb}
 use lib.IntN.{ℤ, pos, _+ℤ_}
 use lib.Signed.{leZ}
 use lib.ListN.{length, getD}
+use Rattle.integers.specs.Refused as refused
 use Rattle.integers.specs.Orders.{sort, numbers}
 use Rattle.integers.specs.Tests.{Test, test, allBelow, refusal}
 use Rattle.scheduling.specs.Scheduling.{whole, Tasks, NoOverlap}
-use Rattle.records.specs.declared.record.Propagator.{Propagator}
+use Rattle.records.specs.declared.record.DisjunctivePropagator.{DisjunctivePropagator}
 use Rattle.records.specs.Records.{Lawful}
-use Rattle.input_refusals.specs.Refusals.{rangeTests, CountsFit, StartsFit, RangesFit}
+use Rattle.records.specs.Refusals.{rangeTests, CountsFit, StartsFit, RangesFit}
 
 -- task k's start, which is its earliest, and its end
 abbrev pub startAt : List ℤ → ℕ → ℤ
@@ -40,23 +41,23 @@ abbrev pub allApart : List ℕ → List ℤ → ℕ → Bool
 allApart ds es n = allBelow (λ j. allBelow (apartAt ds es j) n) n
 
 -- those of a record and its ranges; then 14: a range with more than one start, or an overlap
-abbrev pub fixedTests : Propagator → List ℤ → List ℤ → List Test
-fixedTests r es ls = rangeTests r es ls ++ (test 14 (allBelow (oneStartAt es ls) (length es) && allApart (r .durations) es (length es)) ∷ [])
+abbrev pub fixedTests : DisjunctivePropagator → List ℤ → List ℤ → List Test
+fixedTests r es ls = rangeTests r es ls ++ (test refused.SCHEDULE (allBelow (oneStartAt es ls) (length es) && allApart (r .durations) es (length es)) ∷ [])
 
-abbrev pub fixedNumber : Propagator → List ℤ → List ℤ → ℕ
+abbrev pub fixedNumber : DisjunctivePropagator → List ℤ → List ℤ → ℕ
 fixedNumber r es ls = refusal (fixedTests r es ls)
 
 -- the tasks of a record with these ranges
-abbrev pub tasksOn : Propagator → List ℤ → List ℤ → Tasks whole
+abbrev pub tasksOn : DisjunctivePropagator → List ℤ → List ℤ → Tasks whole
 tasksOn r es ls = record { count = r .count; earliest = λ k. getD es k (pos 0); latest = λ k. getD ls k (pos 0); duration = λ k. getD (r .durations) k 0 }
 
 -- The test of 14 as facts,
-pub record Fixed (r : Propagator) (es ls : List ℤ) : Type 0 where
+pub record Fixed (r : DisjunctivePropagator) (es ls : List ℤ) : Type 0 where
   pub one : (k : ℕ) → k < r .count → getD es k (pos 0) ≡ getD ls k (pos 0)
   pub apart : NoOverlap (tasksOn r es ls) (startAt es)
 
 -- and what holds of a schedule that no test refuses.
-pub record AcceptedFixed (r : Propagator) (es ls : List ℤ) : Type 0 where
+pub record AcceptedFixed (r : DisjunctivePropagator) (es ls : List ℤ) : Type 0 where
   pub lawful : Lawful r
   pub counts : CountsFit (r .count) es ls
   pub starts : StartsFit es ls

@@ -7,7 +7,7 @@ use lib.Signed.{leZ}
 use lib.ListN.{length, getD}
 use Rattle.integers.specs.Limits.{TASKS, DURATIONS}
 use Rattle.scheduling.specs.Scheduling.{natural, Tasks}
-use Rattle.input_refusals.specs.Refusals.{StartFits}
+use Rattle.records.specs.Refusals.{StartFits}
 use Rattle.fixed_schedules.specs.FixedSchedules.{startAt, endAt}
 
 -- Few tasks, with starts within the limits.

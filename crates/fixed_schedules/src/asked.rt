@@ -1,5 +1,5 @@
 // What a call on a fixed schedule is asked besides it: a moment, or a length of time.
-use input_refusals::within;
+use records::refusals::within;
 ghost use mathlib.Core.Path.{_≡_};
 ghost use Rattle.fixed_schedules.specs.Asked.{momentFits, lengthFits};
 

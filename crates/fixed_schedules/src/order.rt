@@ -1,9 +1,9 @@
 // The tasks of a schedule by start, and the test that no two of them overlap.
-use input_refusals::ranges_fit;
 use integers::limits::TASKS;
-use integers::moment_of;
-use sorts::orders::moments_of;
-use sorts::orders::sort_numbers;
+use integers::moments::moment_of;
+use integers::moments::moments_of;
+use records::refusals::ranges_fit;
+use sorts::sort_numbers;
 ghost use mathlib.Core.Path.{_≡_};
 ghost use Prim.Native.Nat.{_-_};
 ghost use lib.ListN.{length, take};

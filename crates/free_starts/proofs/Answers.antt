@@ -1,5 +1,4 @@
 -- From moments to whole numbers: the earliest free start of a fixed schedule, and the call's answer.
--- Assumes nothing.
 use mathlib.Core.Path.{_≡_, sym, ap, subst, _∙_}
 use mathlib.Core.Logic.{inl, inr, ⊎-elim}
 use mathlib.Core.List.{List, []}
@@ -9,22 +8,21 @@ use lib.IntN.{ℤ, pos}
 use lib.ListN.{length, take}
 use Rattle.integers.specs.Answers.{refusedBy}
 use Rattle.integers.specs.Limits.{TASKS}
-use Rattle.integers.specs.Filling.{filled, noTasks}
-use Rattle.integers.specs.Moments.{moment, instant, zeroAt, Above}
+use Rattle.integers.specs.FilledLists.{filled, noTasks}
+use Rattle.integers.specs.Moments.{moment, instant, zeroAt, Above, momentAt}
 use Rattle.integers.specs.Orders.{index}
 use Rattle.integers.proofs.Ints.{ints, up, dn, sumℤ}
-use Rattle.integers.proofs.Moments.{mono, reflect, mono<, above-up, at-moment, instant-above, moment-instant}
+use Rattle.integers.proofs.MomentSums.{mono, reflect, mono<, above-up, at-moment, instant-above, moment-instant}
 use Rattle.scheduling.specs.Scheduling.{whole, natural, Tasks}
-use Rattle.sorts.specs.Orders.{momentAt}
-use Rattle.records.specs.declared.record.Propagator.{Propagator}
+use Rattle.records.specs.declared.record.DisjunctivePropagator.{DisjunctivePropagator}
 use Rattle.records.specs.Records.{durationOf}
 use Rattle.fixed_schedules.specs.FixedSchedules.{orderOf, tasksOn, AcceptedFixed}
 use Rattle.fixed_schedules.specs.Neighbours.{inMoments}
 use Rattle.fixed_schedules.specs.Asked.{MomentFits, LengthFits}
-use Rattle.fixed_schedules.proofs.Accepting.{Told, input-of, short, told, by-moments, moment-high}
-use Rattle.fixed_schedules.proofs.Asking.{asked-above, asked-moment}
-use Rattle.free_starts.specs.declared.free_start.FreeStart.{FreeStart}
-use Rattle.free_starts.specs.declared.free_start.FreeStart.the-variants.{At, Refused}
+use Rattle.fixed_schedules.proofs.AcceptedSchedules.{Told, input-of, short, told, by-moments, moment-high}
+use Rattle.fixed_schedules.proofs.AskedMoments.{asked-above, asked-moment}
+use Rattle.free_starts.specs.declared.FreeStart.{FreeStart}
+use Rattle.free_starts.specs.declared.FreeStart.the-variants.{At, Refused}
 use Rattle.free_starts.specs.Numbers.{freeStartNumbers}
 use Rattle.free_starts.specs.FreeStarts.{LATEST, Free, EarliestFree, freeNumber, Found, Answered}
 use Rattle.free_starts.specs.StartMoments.{Askable}
@@ -64,7 +62,7 @@ module _ (o : ℕ) (J : Tasks whole) (M : Tasks natural) (told : Told o J M) whe
   }
 
 -- ---- an accepted question
-module _ (r : Propagator) (es ls : List ℤ) (t d : ℤ) (a : AcceptedFixed r es ls) (q : LengthFits d × MomentFits t) (starts : List ℕ) (s : starts ≡ filled (momentAt es) (length es) noTasks)
+module _ (r : DisjunctivePropagator) (es ls : List ℤ) (t d : ℤ) (a : AcceptedFixed r es ls) (q : LengthFits d × MomentFits t) (starts : List ℕ) (s : starts ≡ filled (momentAt es) (length es) noTasks)
     (from lasting : ℕ) (m : from ≡ moment zeroAt t) (p : pos lasting ≡ d) where
   -- the pass may start
   pub askable : (order : List ℕ) → take (length es) order ≡ orderOf es → Askable (r .count) order starts (r .durations) from lasting
@@ -84,12 +82,13 @@ module _ (r : Propagator) (es ls : List ℤ) (t d : ℤ) (a : AcceptedFixed r es
   found free e l x z = record {
     start = instant zeroAt free;
     answer = ap (λ (s : ℤ). freeStartNumbers (At s)) z;
-    earliest = subst (λ (n : ℕ). EarliestFree (tasksOn r es ls) t n (instant zeroAt free)) (ap durationOf p) (earliest-up zeroAt (tasksOn r es ls) (inMoments (r .count) starts (r .durations)) (told r es ls (input-of a) starts s) t lasting free (asked-above t (q .1)) (rw m at e));
+    earliest = subst (λ (n : ℕ). EarliestFree (tasksOn r es ls) t n (instant zeroAt free)) (ap durationOf p)
+        (earliest-up zeroAt (tasksOn r es ls) (inMoments (r .count) starts (r .durations)) (told r es ls (input-of a) starts s) t lasting free (asked-above t (q .1)) (rw m at e));
     limit = omega (ints, at-moment zeroAt (instant zeroAt free) (instant-above zeroAt free), moment-instant zeroAt free);
   }
 
 -- ---- the call
-module _ (r : Propagator) (es ls : List ℤ) (t d : ℤ) where
+module _ (r : DisjunctivePropagator) (es ls : List ℤ) (t d : ℤ) where
   pub refused : (m : ℕ) → m ≡ freeNumber r es ls t d → (m ≡ 0 → ⊥) → Answered r es ls t d (Refused m)
   refused m e not = record { refused = λ _. ap refusedBy e; found = λ z. absurd (not (e ∙ z)) }
 
@@ -97,7 +96,7 @@ module _ (r : Propagator) (es ls : List ℤ) (t d : ℤ) where
   answered x z f = record { refused = λ not. absurd (not z); found = λ _. f }
 
 -- too many ranges are refused as none are
-pub too-many : (r : Propagator) (es ls : List ℤ) (t d : ℤ) (x : FreeStart) → TASKS < length es → Answered r [] [] t d x → Answered r es ls t d x
+pub too-many : (r : DisjunctivePropagator) (es ls : List ℤ) (t d : ℤ) (x : FreeStart) → TASKS < length es → Answered r [] [] t d x → Answered r es ls t d x
 too-many r es ls t d x many a =
     let (same, not) = free-many r es ls t d many in
     record { refused = λ _. a .refused (λ z. not (sym same ∙ z)) ∙ ap refusedBy same; found = λ z. absurd (not z) }

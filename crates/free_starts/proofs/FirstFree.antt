@@ -1,5 +1,4 @@
 -- The pass over the tasks by start: a volume that does not end by the next task's start is free only from that task's end on.
--- Assumes nothing.
 use mathlib.Core.Path.{_≡_}
 use mathlib.Core.Logic.{inl, inr, ⊎-elim}
 use Prim.Native.Nat.{ℕ, _+_, _≤_, _<_}

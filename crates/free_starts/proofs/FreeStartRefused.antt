@@ -1,5 +1,4 @@
 -- What refuses a question: what holds where nothing does, and the sole ground for each number.
--- Assumes nothing.
 use mathlib.Core.Path.{_≡_, refl, _∙_}
 use mathlib.Core.Bool.{true, false, _&&_}
 use mathlib.Core.Logic.{_↔_}
@@ -11,22 +10,25 @@ use Rattle.integers.specs.Limits.{TASKS}
 use Rattle.integers.specs.Tests.{Test, test}
 use Rattle.integers.proofs.Bools.{and-true, and-yes, and-left, and-right}
 use Rattle.integers.proofs.Tests.{accepts, refuses, more-accepted, more-refused}
-use Rattle.records.specs.declared.record.Propagator.{Propagator}
+use Rattle.records.specs.declared.record.DisjunctivePropagator.{DisjunctivePropagator}
 use Rattle.records.specs.Records.{Lawful}
-use Rattle.input_refusals.specs.Refusals.{CountsFit, StartsFit, RangesFit}
+use Rattle.records.specs.Refusals.{CountsFit, StartsFit, RangesFit}
 use Rattle.fixed_schedules.specs.FixedSchedules.{fixedTests, fixedNumber, Fixed, AcceptedFixed}
 use Rattle.fixed_schedules.specs.Asked.{momentFits, lengthFits, MomentFits, LengthFits}
-use Rattle.fixed_schedules.proofs.Asking.{moment-is, length-is}
+use Rattle.fixed_schedules.proofs.AskedMoments.{moment-is, length-is}
 use Rattle.fixed_schedules.proofs.FixedRefused.{fixed-first, fixed-then, fixed-20, fixed-10, fixed-3, fixed-4, fixed-14, fixed-many, passed-fixed}
 use Rattle.free_starts.specs.FreeStarts.{freeNumber}
 
-module _ (r : Propagator) (es ls : List ℤ) (t d : ℤ) where
+module _ (r : DisjunctivePropagator) (es ls : List ℤ) (t d : ℤ) where
   -- the test that is the question's own
   abbrev t18 : Test
   t18 = test 18 (lengthFits d && momentFits t)
 
   asked-is : lengthFits d && momentFits t ≡ true ↔ (LengthFits d × MomentFits t)
-  asked-is = (λ h. (let w = and-true (lengthFits d) (momentFits t) h in (length-is d .0 (w .0), moment-is t .0 (w .1))), λ f. and-yes (lengthFits d) (momentFits t) (length-is d .1 (f .0)) (moment-is t .1 (f .1)))
+  asked-is = (
+    λ h. (let w = and-true (lengthFits d) (momentFits t) h in (length-is d .0 (w .0), moment-is t .0 (w .1))),
+    λ f. and-yes (lengthFits d) (momentFits t) (length-is d .1 (f .0)) (moment-is t .1 (f .1)),
+  )
 
   -- nothing refuses the question
   pub accepted-question : freeNumber r es ls t d ≡ 0 ↔ (AcceptedFixed r es ls × (LengthFits d × MomentFits t))
@@ -67,5 +69,5 @@ module _ (r : Propagator) (es ls : List ℤ) (t d : ℤ) where
   refused-18 = more-refused (fixedTests r es ls) t18 (passed-fixed r es ls) asked-is refl refl
 
 -- more ranges than any record has tasks are refused by the number that refuses none
-pub free-many : (r : Propagator) (es ls : List ℤ) (t d : ℤ) → TASKS < length es → (freeNumber r [] [] t d ≡ freeNumber r es ls t d) × (freeNumber r es ls t d ≡ 0 → ⊥)
+pub free-many : (r : DisjunctivePropagator) (es ls : List ℤ) (t d : ℤ) → TASKS < length es → (freeNumber r [] [] t d ≡ freeNumber r es ls t d) × (freeNumber r es ls t d ≡ 0 → ⊥)
 free-many r es ls t d many = fixed-many r es ls (t18 r [] [] t d ∷ []) (t18 r es ls t d ∷ []) many

@@ -1,4 +1,4 @@
 pub mod FirstFree
 pub mod FreeStartRefused
 pub mod Answers
-pub mod Apart
+pub mod FreeStartNumbers

@@ -1,5 +1,4 @@
 -- The definitions at small inputs.
--- Assumes nothing.
 use mathlib.Core.Path.{_≡_, refl}
 use mathlib.Core.Logic.{inl, inr, ⊎-elim}
 use mathlib.Core.List.{List, [], _∷_}
@@ -7,18 +6,18 @@ use Prim.Native.Nat.{ℕ, zero, suc, _+_, _<_}
 use native.Mathlib.Omega.{arith}
 use lib.IntN.{ℤ, pos, negsuc, negℤ, _+ℤ_}
 use lib.Signed.{_≤ℤ_}
-use Rattle.integers.specs.Filling.{filled}
+use Rattle.integers.specs.FilledLists.{filled}
 use Rattle.integers.specs.Limits.{START, DURATIONS, MOMENT, LENGTH}
 use Rattle.integers.specs.Tests.{allBelow, refusal}
 use Rattle.integers.proofs.Ints.{ints, up, dn, sumℤ}
 use Rattle.scheduling.specs.Scheduling.{total}
-use Rattle.records.specs.declared.record.Propagator.{Propagator}
+use Rattle.records.specs.declared.record.DisjunctivePropagator.{DisjunctivePropagator}
 use Rattle.records.specs.Records.{unusedAt, lawfulRecord, newRecord}
 use Rattle.fixed_schedules.specs.FixedSchedules.{tasksOn}
 use Rattle.free_starts.specs.FreeStarts.{LATEST, Free, EarliestFree, freeNumber}
 
 -- task 0 starts at 3 and lasts 4, task 1 starts at −12 and lasts 15: they touch at 3
-two : Propagator
+two : DisjunctivePropagator
 two = newRecord (pos 4 ∷ pos 15 ∷ [])
 
 starts : List ℤ
@@ -49,7 +48,7 @@ after-both d (suc zero) q = inr (record { le = tt })
 after-both d (suc (suc k)) q = absurd (omega arith)
 
 -- one task that starts as late as can be and lasts as long: asked about the moment of its start, or a later one, the first free start is at the latest
-one : Propagator
+one : DisjunctivePropagator
 one = newRecord (pos DURATIONS ∷ [])
 
 reaches : EarliestFree (tasksOn one (pos START ∷ []) (pos START ∷ [])) (pos MOMENT) 1 (pos LATEST)
@@ -60,7 +59,8 @@ reaches = record {
   none-before = λ u h l f. ⊎-elim (λ w. omega (ints, h, l, w, sumℤ u (pos 1))) (λ w. omega (ints, h, l, w)) (f 0 (omega arith));
 }
   where
-    one-end : (k : ℕ) → k < 1 → (tasksOn one (pos START ∷ []) (pos START ∷ []) .earliest k +ℤ pos (tasksOn one (pos START ∷ []) (pos START ∷ []) .duration k)) ≤ℤ pos LATEST
+    one-end : (k : ℕ) → k < 1 → (tasksOn one (pos START ∷ []) (pos START ∷ []) .earliest k +ℤ pos (tasksOn one (pos START ∷ []) (pos START ∷ []) .duration k))
+        ≤ℤ pos LATEST
     one-end zero q = record { le = tt }
     one-end (suc k) q = absurd (omega arith)
 

@@ -1,5 +1,4 @@
 -- Ascending lists of holes: membership, the parts below and above a value, the place of a value, bounds that move past holes.
--- Assumes nothing.
 use mathlib.Core.Path.{_≡_, refl, sym, ap, _∙_, subst}
 use mathlib.Core.Logic.{_⊎_, inl, inr, ⊎-elim}
 use mathlib.Core.Bool.{Bool, true, false, cond}
@@ -11,10 +10,11 @@ use lib.IntN.{ℤ, pos, negsuc, _+ℤ_}
 use lib.ListN.{length, getD, take, drop}
 use lib.Seq.{slice-cons, slice-empty}
 use lib.Signed.{leZ, ltZ, _≤ℤ_, _<ℤ_}
-use Rattle.integers.proofs.Bools.{bool, clash, or-true, or-right}
+use Rattle.integers.proofs.Bools.{bool, clash}
 use Rattle.integers.proofs.Ints.{ints, up, dn, sumℤ, le-leZ}
-use Rattle.holes.specs.Holes.{eqZ, has, Ascending, kept, below, above, inserted, rank, stepUp, stepDown, firstFrom, lastUpTo, First, Last}
-use Rattle.holes.proofs.Tests.{lt-leZ, lt-ltZ, le-ltZ, eqZ-same, eqZ-refl, eqZ-other}
+use Rattle.holes.specs.Holes.{Ascending, kept, below, above, inserted, rank, stepUp, stepDown, firstFrom, lastUpTo, First, Last}
+use Rattle.integers.specs.WholeNumbers.{eqZ, has}
+use Rattle.integers.proofs.WholeNumbers.{lt-leZ, lt-ltZ, le-ltZ, eqZ-same, eqZ-other, has-head, has-tail, has-cases, has-none}
 
 -- ---- a walk over the first n places of an array
 module _ (l : List ℤ) (n i : ℕ) (small : i < n) (fits : n ≤ length l) where
@@ -48,27 +48,6 @@ up-end l n b = ap (firstFrom b) (slice-empty n l)
 pub down-end : (l : List ℤ) (n : ℕ) (b : ℤ) → lastUpTo b (drop n (take n l)) ≡ b
 unfolding lastUpTo
 down-end l n b = ap (lastUpTo b) (slice-empty n l)
-
--- ---- membership
-pub has-head : (h : ℤ) (hs : List ℤ) → has (h ∷ hs) h ≡ true
-unfolding has
-has-head h hs = rw (eqZ-refl h)
-
-pub has-tail : (h : ℤ) (hs : List ℤ) (x : ℤ) → has hs x ≡ true → has (h ∷ hs) x ≡ true
-unfolding has
-has-tail h hs x y = or-right (eqZ h x) (has hs x) y
-
-pub has-cases : (h : ℤ) (hs : List ℤ) (x : ℤ) → has (h ∷ hs) x ≡ true → (h ≡ x) ⊎ (has hs x ≡ true)
-unfolding has
-has-cases h hs x y = ⊎-elim (λ e. inl (eqZ-same h x e)) (λ t. inr t) (or-true (eqZ h x) (has hs x) y)
-
-pub has-none : (x : ℤ) → has [] x ≡ true → ⊥
-unfolding has
-has-none x y = clash y refl
-
--- a test that cannot hold is false
-pub not-has : (hs : List ℤ) (x : ℤ) → (has hs x ≡ true → ⊥) → has hs x ≡ false
-not-has hs x n = ⊎-elim (λ y. absurd (n y)) (λ f. f) (bool (has hs x))
 
 pub has-append : (a b : List ℤ) (x : ℤ) → has (a ++ b) x ≡ true → (has a x ≡ true) ⊎ (has b x ≡ true)
 has-append [] b x y = inr y
@@ -223,7 +202,8 @@ first-is b (h ∷ hs) a = by (eqZ h b) refl (first-is (b +ℤ pos 1) hs (a .1)) 
         record {
           from = omega (ints, r .from, sumℤ b (pos 1));
           free = λ m. ⊎-elim (λ k. omega (ints, r .from, sumℤ b (pos 1))) (λ t. r .free t) (has-cases h hs (firstFrom (b +ℤ pos 1) hs) m);
-          passed = λ z p l. ⊎-elim (λ k. has-tail h hs z (r .passed z (omega (ints, sumℤ b (pos 1))) l)) (λ k. let w : h ≡ z = omega ints in subst (λ (x : ℤ). has (h ∷ hs) x ≡ true) w (has-head h hs)) (bool (ltZ b z));
+          passed = λ z p l. ⊎-elim (λ k. has-tail h hs z (r .passed z (omega (ints, sumℤ b (pos 1))) l)) (λ k. let w : h ≡ z = omega ints in subst (λ (x : ℤ). has (h ∷ hs) x ≡ true) w (has-head h hs))
+              (bool (ltZ b z));
           near = omega (ints, r .near, sumℤ b (pos 1), sumℤ (b +ℤ pos 1) (pos (length hs)), sumℤ b (pos (suc (length hs))));
         }
     by false e r s = record {
@@ -246,7 +226,8 @@ last-is b (h ∷ hs) a = by (lastUpTo b hs) (last-is b hs (a .1)) (eqZ h (lastUp
         record {
           to = omega (ints, r .to, sumℤ v (negsuc 0));
           free = λ m. ⊎-elim (λ k. omega (ints, sumℤ v (negsuc 0))) (λ t. omega (ints, sumℤ v (negsuc 0), a .0 (v +ℤ negsuc 0) t)) (has-cases h hs (v +ℤ negsuc 0) m);
-          passed = λ z p l. ⊎-elim (λ k. has-tail h hs z (r .passed z (omega ints) l)) (λ k. let w : h ≡ z = omega (ints, sumℤ v (negsuc 0)) in subst (λ (x : ℤ). has (h ∷ hs) x ≡ true) w (has-head h hs)) (bool (ltZ v z));
+          passed = λ z p l. ⊎-elim (λ k. has-tail h hs z (r .passed z (omega ints) l))
+              (λ k. let w : h ≡ z = omega (ints, sumℤ v (negsuc 0)) in subst (λ (x : ℤ). has (h ∷ hs) x ≡ true) w (has-head h hs)) (bool (ltZ v z));
           near = omega (ints, r .near, sumℤ v (negsuc 0), sumℤ v (pos (length hs)), sumℤ (v +ℤ negsuc 0) (pos (suc (length hs))));
         }
     by v r false e = record {

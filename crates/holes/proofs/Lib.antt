@@ -1,4 +1,3 @@
-pub mod Tests
-pub mod Steps
+pub mod BoundSteps
 pub mod Ascending
-pub mod Padding
+pub mod PaddedArrays

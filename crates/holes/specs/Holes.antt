@@ -1,26 +1,14 @@
 -- Holes: ascending lists of whole numbers, and the first and the last value that is none of them.
 use mathlib.Core.Path.{_≡_}
-use mathlib.Core.Bool.{Bool, true, false, cond, _&&_, _||_}
+use mathlib.Core.Bool.{Bool, true, cond, _&&_}
 use mathlib.Core.List.{List, [], _∷_, _++_}
 use Prim.Native.Nat.{ℕ, suc, _-_}
 use lib.Dec.{ltb, eqb}
-use lib.IntN.{ℤ, pos, negsuc, negℤ, _+ℤ_}
+use lib.IntN.{ℤ, pos, negsuc, _+ℤ_}
 use lib.ListN.{length, getD, replicate}
 use lib.Signed.{leZ, ltZ, _≤ℤ_, _<ℤ_}
 use Rattle.integers.specs.Limits.{HOLES}
-
--- v lies from −n to n
-pub record Within (n : ℕ) (v : ℤ) : Type 0 where
-  pub low : negℤ (pos n) ≤ℤ v
-  pub high : v ≤ℤ pos n
-
-abbrev pub eqZ : ℤ → ℤ → Bool
-eqZ a b = leZ a b && leZ b a
-
--- x stands in the list
-unfoldable pub has : List ℤ → ℤ → Bool
-has [] x = false
-has (h ∷ hs) x = eqZ h x || has hs x
+use Rattle.integers.specs.WholeNumbers.{eqZ, has}
 
 -- each is below all that follow it
 abbrev pub Ascending : List ℤ → Type 0

@@ -1,5 +1,4 @@
 -- Cases of a test, and of the numbers below a bound.
--- Assumes nothing.
 use mathlib.Core.Path.{_≡_, refl, sym, _∙_}
 use mathlib.Core.Bool.{Bool, true, false, cond, _||_, _&&_}
 use mathlib.Core.Logic.{_⊎_, inl, inr}

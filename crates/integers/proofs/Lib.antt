@@ -1,9 +1,11 @@
 pub mod Bools
 pub mod Ints
-pub mod Moments
-pub mod Filling
+pub mod MomentSums
+pub mod FilledLists
 pub mod Words
 pub mod Permutations
 pub mod Tests
 pub mod Answers
-pub mod Sorting
+pub mod StableSort
+pub mod Lists
+pub mod WholeNumbers

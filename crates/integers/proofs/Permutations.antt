@@ -1,5 +1,4 @@
 -- Permutations as lists: what stands in them, and the place of each number, which is the inverse.
--- Assumes nothing.
 use mathlib.Core.Path.{_≡_, refl, sym, ap, _∙_}
 use mathlib.Core.Bool.{Bool, true, false, _||_}
 use mathlib.Core.Logic.{_⊎_, inl, inr}
@@ -81,13 +80,17 @@ numbers-length a (suc d) = ap suc (numbers-length (suc a) d)
 pub numbers-below : (a d k : ℕ) → has (numbers a d) k ≡ true → (a ≤ k) × (k < a + d)
 unfolding numbers
 numbers-below a zero k h = clash h (has-nil k)
-numbers-below a (suc d) k h = elim (has-cases a k (numbers (suc a) d) h) [ inl z ↦ (omega arith, omega arith) | inr y ↦ (let r = numbers-below (suc a) d k y in (omega (arith, r .0), omega (arith, r .1))) ]
+numbers-below a (suc d) k h = elim (has-cases a k (numbers (suc a) d) h)
+    [ inl z ↦ (omega arith, omega arith) | inr y ↦ (let r = numbers-below (suc a) d k y in (omega (arith, r .0), omega (arith, r .1))) ]
 
 numbers-every : (a d k : ℕ) → a ≤ k → k < a + d → has (numbers a d) k ≡ true
 unfolding numbers
 numbers-every a zero k p q = absurd (omega arith)
-numbers-every a (suc d) k p q = elim (ℕ-discrete a k)
-    [ yes z ↦ has-cons a k (numbers (suc a) d) ∙ ap (λ (b : Bool). b || has (numbers (suc a) d) k) (eq-eqb a k z) | no z ↦ has-later a k (numbers (suc a) d) (numbers-every (suc a) d k (omega arith) (omega arith)) ]
+numbers-every a (suc d) k p q = elim (ℕ-discrete a k) [
+  | yes z ↦ has-cons a k (numbers (suc a) d)
+      ∙ ap (λ (b : Bool). b || has (numbers (suc a) d) k) (eq-eqb a k z)
+  | no z ↦ has-later a k (numbers (suc a) d) (numbers-every (suc a) d k (omega arith) (omega arith))
+]
 
 numbers-distinct : (a d : ℕ) → Distinct (numbers a d)
 unfolding numbers
@@ -95,4 +98,10 @@ numbers-distinct a zero = tt
 numbers-distinct a (suc d) = (elim (bool (has (numbers (suc a) d) a)) [ inl y ↦ absurd (omega (arith, (numbers-below (suc a) d a y) .0)) | inr y ↦ y ], numbers-distinct (suc a) d)
 
 pub numbers-permute : (n : ℕ) → Permutes n (numbers 0 n)
-numbers-permute n = record { size = numbers-length 0 n; below = λ k h. let r = numbers-below 0 n k h in omega (arith, r .1); every = λ k q. numbers-every 0 n k (omega arith) (omega arith); distinct = numbers-distinct 0 n }
+numbers-permute n = record {
+  size = numbers-length 0 n;
+  below = λ k h. let r = numbers-below 0 n k h in
+      omega (arith, r .1);
+  every = λ k q. numbers-every 0 n k (omega arith) (omega arith);
+  distinct = numbers-distinct 0 n;
+}

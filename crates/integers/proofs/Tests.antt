@@ -1,5 +1,4 @@
 -- Tests over all numbers below a bound, and the first number of a list of tests that refuses an input.
--- Assumes nothing.
 use mathlib.Core.Path.{_≡_, refl, sym, ap, _∙_}
 use mathlib.Core.Bool.{Bool, true, false, not, _&&_}
 use mathlib.Core.Logic.{_⊎_, inl, inr, _↔_}

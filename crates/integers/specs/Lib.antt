@@ -1,10 +1,12 @@
 pub mod Limits
+pub mod Refused
 pub mod Extremes
 pub mod Moments
 pub mod Words
-pub mod Filling
+pub mod FilledLists
 pub mod Tests
 pub mod Answers
 pub mod Orders
 pub mod Texts
 pub mod Examples
+pub mod WholeNumbers

@@ -2,6 +2,8 @@
 use Prim.Native.Nat.{ℕ, suc, _+_, _-_}
 use lib.IntN.{ℤ, pos, negsuc, negℤ, subℕ}
 use lib.Signed.{_≤ℤ_}
+use mathlib.Core.List.{List}
+use lib.ListN.{getD}
 
 -- the moment of z is z + o
 abbrev pub moment : ℕ → ℤ → ℕ
@@ -19,3 +21,15 @@ instant o m = subℕ m o
 -- The moment of 0 in code: that of the least i32, the source's i32::MIN, is 0.
 abbrev pub zeroAt : ℕ
 zeroAt = 2147483648
+
+-- the largest key, which is that of a u32
+abbrev pub largestKey : ℕ
+largestKey = 4294967295
+
+-- the moment of task k's start
+abbrev pub momentAt : List ℤ → ℕ → ℕ
+momentAt xs k = moment zeroAt (getD xs k (pos 0))
+
+-- task k's latest completion: its latest start plus its duration
+abbrev pub completionAt : List ℕ → List ℕ → ℕ → ℕ
+completionAt latest durations k = getD latest k 0 + getD durations k 0

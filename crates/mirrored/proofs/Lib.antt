@@ -1,2 +1,4 @@
-pub mod Endings
-pub mod Many
+pub mod MirroredLoops
+pub mod MirroredTrace
+pub mod MirroredEnds
+pub mod TooManyRanges

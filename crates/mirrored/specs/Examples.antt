@@ -5,10 +5,10 @@ use Prim.Native.Nat.{_-_}
 use lib.IntN.{ℤ, pos, negsuc, negℤ, _+ℤ_}
 use Rattle.integers.specs.Limits.{START}
 use Rattle.integers.specs.Orders.{sort, insert, index, numbers}
-use Rattle.ects.specs.Ects.{decoded}
+use Rattle.trees.specs.Ects.{decoded}
 use Rattle.trees.specs.Leaves.{root, responsible, theta}
-use Rattle.nodes.specs.Nodes.{joinOf, isEmpty}
-use Rattle.nodes.specs.Descents.{gray, tested, descentP, descentEct}
+use Rattle.trees.specs.Nodes.{joinOf, isEmpty}
+use Rattle.trees.specs.Descents.{gray, tested, descentP, descentEct}
 use Rattle.trees.specs.Searches.{stepP, stepEct, searchP, searchEct, thetaOf}
 use Rattle.trees.specs.Shapes.{width, heightFrom, nodeOver}
 use Rattle.runs.specs.Traces.{Trace}
@@ -25,10 +25,18 @@ left z = pass z .starts
 
 pub falls : map left (pos 0 ∷ pos (START - 2) ∷ negℤ (pos (START - 10)) ∷ [])
     ≡ (pos 1 ∷ negsuc 0 ∷ []) ∷ (pos (START - 1) ∷ pos (START - 3) ∷ []) ∷ (negℤ (pos (START - 11)) ∷ negℤ (pos (START - 9)) ∷ []) ∷ []
-unfolding propagate run outer inner decoded conflict propagation bounds within tabulate heightFrom sort insert index numbers width root responsible theta joinOf isEmpty gray tested descentP descentEct stepP stepEct searchP searchEct thetaOf nodeOver
+unfolding propagate run outer inner decoded conflict propagation bounds within tabulate heightFrom sort insert index numbers width root responsible theta joinOf
+    isEmpty gray tested descentP descentEct stepP stepEct searchP searchEct thetaOf nodeOver
 falls = refl
 
--- Around zero the second starts at −1 or earlier, since the first starts from 0 to 1 and the second by 3: even a latest start that is later than the second's own is enough.
-pub told : pass (pos 0) .posts ≡ record { task = 1; bound = negsuc 0; reason = record { variable = 0; kind = 1; value = pos 1 } ∷ record { variable = 0; kind = 0; value = pos 0 } ∷ record { variable = 1; kind = 1; value = pos 3 } ∷ [] } ∷ []
-unfolding propagate run outer inner decoded conflict propagation bounds within tabulate heightFrom sort insert index numbers width root responsible theta joinOf isEmpty gray tested descentP descentEct stepP stepEct searchP searchEct thetaOf nodeOver
+-- Around zero the second starts at −1 or earlier, since the first starts from 0 to 1 and the second by 3: even a latest start that is later than the second's
+-- own is enough.
+pub told : pass (pos 0) .posts ≡ record {
+  task = 1;
+  bound = negsuc 0;
+  reason = record { variable = 0; kind = 1; value = pos 1 } ∷ record { variable = 0; kind = 0; value = pos 0 } ∷ record
+      { variable = 1; kind = 1; value = pos 3 } ∷ [];
+} ∷ []
+unfolding propagate run outer inner decoded conflict propagation bounds within tabulate heightFrom sort insert index numbers width root responsible theta joinOf
+    isEmpty gray tested descentP descentEct stepP stepEct searchP searchEct thetaOf nodeOver
 told = refl

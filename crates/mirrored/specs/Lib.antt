@@ -1,3 +1,4 @@
+pub mod MirroredSlices
 pub mod RanMirrored
 pub mod RanInMirror
 pub mod Examples

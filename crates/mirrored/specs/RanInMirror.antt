@@ -6,12 +6,12 @@ use lib.ListN.{take}
 use Rattle.runs.specs.Traces.{Trace}
 use Rattle.runs.specs.Words.{postsAfter, atomsAfter}
 use Rattle.runs.specs.Mirrored.{mirrorStarts, mirroredRun}
-use Rattle.records.specs.declared.record.Propagator.{Propagator}
+use Rattle.records.specs.declared.record.DisjunctivePropagator.{DisjunctivePropagator}
 use Rattle.runs.specs.declared.outcome.Outcome.{Outcome}
 use Rattle.runs.specs.Outcomes.{outcomeNumbers}
 use Rattle.runs.specs.EndNumbers.{traceNumbers}
 
-module _ (before : Propagator) (es ls : List ℤ) where
+module _ (before : DisjunctivePropagator) (es ls : List ℤ) where
   -- the run in mirrored time, on the record's tasks
   abbrev pub inMirror : Trace
   inMirror = mirroredRun (take (before .count) (before .durations)) es ls

@@ -10,18 +10,19 @@ use Rattle.scheduling.specs.Words.{atomWords}
 use Rattle.runs.specs.Traces.{Trace}
 use Rattle.runs.specs.Words.{postWords, atomsIn, postsAfter, atomsAfter}
 use Rattle.runs.specs.Mirrored.{mirroredPass}
-use Rattle.records.specs.declared.record.Propagator.{Propagator}
-use Rattle.input_refusals.specs.Refusals.{runNumber}
+use Rattle.records.specs.declared.record.DisjunctivePropagator.{DisjunctivePropagator}
+use Rattle.records.specs.Refusals.{runNumber}
 use Rattle.runs.specs.declared.outcome.Outcome.{Outcome}
 use Rattle.runs.specs.Outcomes.{outcomeNumbers}
 use Rattle.runs.specs.EndNumbers.{traceNumbers}
 
-module _ (before : Propagator) (es ls : List ℤ) where
+module _ (before : DisjunctivePropagator) (es ls : List ℤ) where
   -- the pass on the record's tasks, in the caller's time
   abbrev pub mirroredOf : Trace
   mirroredOf = mirroredPass (take (before .count) (before .durations)) es ls
 
-  -- An accepted pass leaves that trace: its answer, the latest starts, and the words of its posts and reasons over what stood in the lent slices, which have room for them.
+  -- An accepted pass leaves that trace: its answer, the latest starts, and the words of its posts and reasons over what stood in the lent slices, which have
+  -- room for them.
   pub record LeftMirrored (posts atoms : List ℤ) (r : Outcome) (ls′ posts′ atoms′ : List ℤ) : Type 0 where
     pub answer : outcomeNumbers r ≡ traceNumbers mirroredOf
     pub starts : ls′ ≡ mirroredOf .starts
@@ -37,7 +38,10 @@ module _ (before : Propagator) (es ls : List ℤ) where
     pub post-words : posts′ ≡ posts
     pub atom-words : atoms′ ≡ atoms
 
--- A mirrored pass, told whether the bars of its ranges fit: the first test of a run that fails on the caller's own numbers refuses it, and nothing changes; else it leaves the trace.
-pub record RanMirrored (before : Propagator) (es ls : List ℤ) (bars : Bool) (posts atoms : List ℤ) (r : Outcome) (ls′ posts′ atoms′ : List ℤ) : Type 0 where
-  pub refused : (runNumber before es ls bars (length posts) (length atoms) ≡ 0 → ⊥) → KeptMirrored before es ls (runNumber before es ls bars (length posts) (length atoms)) posts atoms r ls′ posts′ atoms′
+-- A mirrored pass, told whether the bars of its ranges fit: the first test of a run that fails on the caller's own numbers refuses it, and nothing changes;
+-- else it leaves the trace.
+pub record RanMirrored (before : DisjunctivePropagator) (es ls : List ℤ) (bars : Bool) (posts atoms : List ℤ) (r : Outcome)
+    (ls′ posts′ atoms′ : List ℤ) : Type 0 where
+  pub refused : (runNumber before es ls bars (length posts) (length atoms) ≡ 0 → ⊥)
+      → KeptMirrored before es ls (runNumber before es ls bars (length posts) (length atoms)) posts atoms r ls′ posts′ atoms′
   pub accepted : runNumber before es ls bars (length posts) (length atoms) ≡ 0 → LeftMirrored before es ls posts atoms r ls′ posts′ atoms′

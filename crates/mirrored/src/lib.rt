@@ -1,2 +1,3 @@
 // The mirrored pass.
 pub mod mirrored_propagator;
+pub mod mirrored_time;

@@ -1,26 +1,27 @@
 // The mirrored pass: latest starts fall by the mirrored rule. It is a run in mirrored time, where the caller's moment t is -t, told in the caller's time.
-use input_refusals::run_refusal;
+use crate::mirrored_time::mirror_starts;
+use crate::mirrored_time::tell;
 use integers::limits::TASKS;
-use mirrored_words::mirrored_time::mirror_starts;
-use mirrored_words::mirrored_time::tell;
 use propagator::disjunctive_propagator::run_accepted;
-use records::record::Propagator;
+use records::record::DisjunctivePropagator;
+use records::refusals::run_refusal;
 use runs::outcome::Outcome;
 ghost use lib.ListN.{length};
-ghost use Rattle.input_refusals.specs.Refusals.{Accepted};
+ghost use Rattle.records.specs.Refusals.{Accepted};
 ghost use Rattle.mirrored.specs.RanInMirror.{RanInMirror};
 ghost use Rattle.mirrored.specs.RanMirrored.{RanMirrored};
 
 // A run on the mirrored ranges; the latest starts are what it left of the earliest, mirrored back.
 fn run_in_mirror(
-    record: Propagator,
+    record: DisjunctivePropagator,
     earliest: &[i32],
     latest: &mut [i32],
     posts: &mut [i32],
     atoms: &mut [i32],
 ) -> Outcome
     requires { ⌜ Accepted «record» (now earliest) (now latest) (length (now posts)) (length (now atoms)) ⌝ }
-    ensures { λ r. ⌜ RanInMirror «record» (now (earliest .entry)) (now (latest .entry)) (now (posts .entry)) (now (atoms .entry)) r (now (latest .exit)) (now (posts .exit)) (now (atoms .exit)) ⌝ }
+    ensures { λ r. ⌜ RanInMirror «record» (now (earliest .entry)) (now (latest .entry)) (now (posts .entry)) (now (atoms .entry)) r (now (latest .exit))
+        (now (posts .exit)) (now (atoms .exit)) ⌝ }
 {
     let n = record.count;
     let durations = record.durations;
@@ -35,14 +36,15 @@ fn run_in_mirror(
 
 // A mirrored pass on the record's durations and the ranges, told whether their bars fit.
 pub fn propagate_mirrored(
-    record: Propagator,
+    record: DisjunctivePropagator,
     earliest: &[i32],
     latest: &mut [i32],
     bars_fit: bool,
     posts: &mut [i32],
     atoms: &mut [i32],
 ) -> Outcome
-    ensures { λ r. ⌜ RanMirrored «record» (now (earliest .entry)) (now (latest .entry)) «bars_fit» (now (posts .entry)) (now (atoms .entry)) r (now (latest .exit)) (now (posts .exit)) (now (atoms .exit)) ⌝ }
+    ensures { λ r. ⌜ RanMirrored «record» (now (earliest .entry)) (now (latest .entry)) «bars_fit» (now (posts .entry)) (now (atoms .entry)) r
+        (now (latest .exit)) (now (posts .exit)) (now (atoms .exit)) ⌝ }
 {
     let number = run_refusal(
         record.count,

@@ -1,5 +1,4 @@
 -- The answer: yes with the first place at which the tasks read overload, or no where there is none; and what that means over whole numbers.
--- Assumes nothing.
 use mathlib.Core.Path.{_≡_, refl, sym, ap, _∙_}
 use mathlib.Core.Bool.{Bool, true, false}
 use mathlib.Core.Logic.{_⊎_, inl, inr, _↔_}
@@ -16,18 +15,18 @@ use Rattle.integers.specs.Moments.{zeroAt}
 use Rattle.integers.proofs.Answers.{same-kind, same-count}
 use Rattle.integers.proofs.Bools.{bool, clash}
 use Rattle.scheduling.specs.Scheduling.{natural, Tasks, Proper, TaskSet, Overloads}
-use Rattle.scheduling.proofs.Transfer.{overload→, overload←}
-use Rattle.records.specs.declared.record.Propagator.{Propagator}
+use Rattle.scheduling.proofs.Clocks.{overload→, overload←}
+use Rattle.records.specs.declared.record.DisjunctivePropagator.{DisjunctivePropagator}
 use Rattle.records.specs.Records.{tasksIn, momentsIn}
-use Rattle.input_refusals.specs.Refusals.{AcceptedInput, inputNumber}
-use Rattle.input_refusals.proofs.Accepting.{count, proper-whole, above, proper}
-use Rattle.input_refusals.proofs.Refused.{accepted-input}
-use Rattle.overload_test.specs.declared.overload_test.Overload.{Overload}
-use Rattle.overload_test.specs.declared.overload_test.Overload.the-variants.{Yes, No}
-use Rattle.overload_test.specs.Reading.{overloadsAt, answerFrom, answerOf}
+use Rattle.records.specs.Refusals.{AcceptedInput, inputNumber}
+use Rattle.records.proofs.AcceptedTasks.{count, proper-whole, above, proper}
+use Rattle.records.proofs.RefusedRuns.{accepted-input}
+use Rattle.overload_test.specs.declared.Overload.{Overload}
+use Rattle.overload_test.specs.declared.Overload.the-variants.{Yes, No}
+use Rattle.overload_test.specs.ReadTasks.{overloadsAt, answerFrom, answerOf}
 use Rattle.overload_test.specs.Numbers.{overloadNumbers}
 use Rattle.overload_test.specs.Tested.{OverloadTested}
-use Rattle.overload_test.proofs.Reading.{shown, met}
+use Rattle.overload_test.proofs.ReadTasks.{shown, met}
 
 module _ (J : Tasks natural) where
   -- step by step
@@ -105,7 +104,8 @@ module _ (J : Tasks natural) where
           }
 
 -- the contract, of a record and ranges that are accepted, and of others
-pub tested : (before : Propagator) (es ls : List ℤ) (bars : Bool) (r : Overload) → AcceptedInput before es ls → bars ≡ true → length (before .durations) ≡ TASKS → r ≡ answerOf (momentsIn before es ls) → OverloadTested before es ls bars r
+pub tested : (before : DisjunctivePropagator) (es ls : List ℤ) (bars : Bool) (r : Overload) → AcceptedInput before es ls → bars ≡ true → length (before .durations) ≡ TASKS
+    → r ≡ answerOf (momentsIn before es ls) → OverloadTested before es ls bars r
 tested before es ls bars r a fit long z =
     let Z = tasksIn before es ls in
     let low = above before es ls a long in
@@ -119,7 +119,8 @@ tested before es ls bars r a fit long z =
       many = λ k e. (let m = s .many k e in (m .0, omega (arith, m .1, count before es ls a long)));
     }
 
-pub is-refused : (before : Propagator) (es ls : List ℤ) (bars : Bool) (r : Overload) → (inputNumber before es ls bars ≡ 0 → ⊥) → overloadNumbers r ≡ refusedBy (inputNumber before es ls bars) → OverloadTested before es ls bars r
+pub is-refused : (before : DisjunctivePropagator) (es ls : List ℤ) (bars : Bool) (r : Overload) → (inputNumber before es ls bars ≡ 0 → ⊥)
+    → overloadNumbers r ≡ refusedBy (inputNumber before es ls bars) → OverloadTested before es ls bars r
 is-refused before es ls bars r h z = record {
   refused = λ _. z;
   answer = λ e. absurd (h e);

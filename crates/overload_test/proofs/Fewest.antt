@@ -1,5 +1,4 @@
 -- The test reads no task too many: no set of the tasks that it read before the last one overloads.
--- Assumes nothing.
 use mathlib.Core.Path.{_≡_, sym, ap, _∙_}
 use mathlib.Core.Bool.{Bool, true, false}
 use mathlib.Core.Logic.{_⊎_, inl, inr}
@@ -16,17 +15,17 @@ use Rattle.integers.specs.Orders.{index}
 use Rattle.integers.proofs.Answers.{same-kind, same-count}
 use Rattle.integers.proofs.Bools.{bool, clash}
 use Rattle.scheduling.specs.Scheduling.{natural, Tasks, Proper, TaskSet, Overloads}
-use Rattle.scheduling.proofs.Transfer.{overload→}
-use Rattle.records.specs.declared.record.Propagator.{Propagator}
+use Rattle.scheduling.proofs.Clocks.{overload→}
+use Rattle.records.specs.declared.record.DisjunctivePropagator.{DisjunctivePropagator}
 use Rattle.records.specs.Records.{tasksIn, momentsIn}
-use Rattle.input_refusals.specs.Refusals.{AcceptedInput, inputNumber}
-use Rattle.input_refusals.proofs.Accepting.{proper-whole, above, proper}
-use Rattle.input_refusals.proofs.Refused.{accepted-input}
-use Rattle.overload_test.specs.declared.overload_test.Overload.{Overload}
-use Rattle.overload_test.specs.Reading.{byCompletion, read, overloadsAt, answerFrom, answerOf}
+use Rattle.records.specs.Refusals.{AcceptedInput, inputNumber}
+use Rattle.records.proofs.AcceptedTasks.{proper-whole, above, proper}
+use Rattle.records.proofs.RefusedRuns.{accepted-input}
+use Rattle.overload_test.specs.declared.Overload.{Overload}
+use Rattle.overload_test.specs.ReadTasks.{byCompletion, read, overloadsAt, answerFrom, answerOf}
 use Rattle.overload_test.specs.Numbers.{overloadNumbers}
 use Rattle.overload_test.specs.Tested.{OverloadTested}
-use Rattle.overload_test.proofs.Reading.{read-place, last-met}
+use Rattle.overload_test.proofs.ReadTasks.{read-place, last-met}
 
 module _ (J : Tasks natural) where
   -- a yes with m tasks passed over each place before the last of them
@@ -35,7 +34,8 @@ module _ (J : Tasks natural) where
   quiet k zero m e j p q = absurd (omega (arith, same-kind e))
   quiet k (suc d) m e j p q = by (bool (overloadsAt J k)) (ℕ-discrete k j) (λ e′ p′. quiet (suc k) d m e′ j p′ q)
     where
-      by : (overloadsAt J k ≡ true) ⊎ (overloadsAt J k ≡ false) → Dec (k ≡ j) → (overloadNumbers (answerFrom J (suc k) d) ≡ answered 0 (pos m ∷ []) → suc k ≤ j → overloadsAt J j ≡ false) → overloadsAt J j ≡ false
+      by : (overloadsAt J k ≡ true) ⊎ (overloadsAt J k ≡ false) → Dec (k ≡ j) → (overloadNumbers (answerFrom J (suc k) d) ≡ answered 0 (pos m ∷ []) → suc k ≤ j → overloadsAt J j ≡ false)
+          → overloadsAt J j ≡ false
       by (inl y) c rest = let z : suc k ≡ m = same-count (rw (y, answerFrom) at e) 0 in absurd (omega arith)
       by (inr y) (yes z) rest = ap (overloadsAt J) (sym z) ∙ y
       by (inr y) (no z) rest = rest (rw (y, answerFrom) at e) (omega arith)
@@ -46,8 +46,10 @@ module _ (J : Tasks natural) where
       clash (l .shows) (quiet 0 (J .count) m e (index (byCompletion J) (l .last)) (omega arith) (omega (arith, read-place J (m - 1) (l .last) (before (l .last) (l .member .mem)))))
 
 -- the same of an accepted call, over whole numbers
-pub none-before : (before : Propagator) (es ls : List ℤ) (bars : Bool) (r : Overload) → OverloadTested before es ls bars r → inputNumber before es ls bars ≡ 0 → length (before .durations) ≡ TASKS → (k : ℕ) → overloadNumbers r ≡ answered 0 (pos k ∷ [])
+pub none-before : (before : DisjunctivePropagator) (es ls : List ℤ) (bars : Bool) (r : Overload) → OverloadTested before es ls bars r → inputNumber before es ls bars ≡ 0
+    → length (before .durations) ≡ TASKS → (k : ℕ) → overloadNumbers r ≡ answered 0 (pos k ∷ [])
     → (Ω : TaskSet) → ((j : ℕ) → Ω j ≡ true → read (momentsIn before es ls) (k - 1) j ≡ true) → Overloads (tasksIn before es ls) Ω → ⊥
 none-before before es ls bars r t z long k e Ω first o =
     let a : AcceptedInput before es ls = accepted-input before es ls bars .0 z .0 in
-    fewest (momentsIn before es ls) (proper before es ls a long) k (ap overloadNumbers (sym (t .answer z)) ∙ e) Ω first (overload→ zeroAt (tasksIn before es ls) (proper-whole before es ls a long) (above before es ls a long) Ω o)
+    fewest (momentsIn before es ls) (proper before es ls a long) k (ap overloadNumbers (sym (t .answer z)) ∙ e) Ω first
+    (overload→ zeroAt (tasksIn before es ls) (proper-whole before es ls a long) (above before es ls a long) Ω o)

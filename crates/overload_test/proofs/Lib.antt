@@ -1,6 +1,6 @@
-pub mod Reading
+pub mod ReadTasks
 pub mod Answers
 pub mod Fewest
-pub mod Adding
-pub mod Many
-pub mod Apart
+pub mod NextTask
+pub mod TooManyRanges
+pub mod OverloadNumbers

@@ -1,20 +1,20 @@
 -- The definitions at the paper's instances and at small tasks.
--- Assumes nothing.
 use mathlib.Core.Path.{_≡_, refl}
 use mathlib.Core.List.{List, [], _∷_, map}
 use Prim.Native.Nat.{ℕ}
 use lib.IntN.{pos}
-use Rattle.integers.specs.Filling.{filled}
+use Rattle.integers.specs.FilledLists.{filled}
 use Rattle.integers.specs.Orders.{sort, insert, numbers, has}
 use Rattle.scheduling.specs.Ects.{ectAfter}
 use Rattle.records.specs.Records.{newRecord, momentsIn}
-use Rattle.overload_test.specs.declared.overload_test.Overload.{Overload}
-use Rattle.overload_test.specs.declared.overload_test.Overload.the-variants.{Yes, No}
-use Rattle.overload_test.specs.Reading.{byCompletion, answerFrom, answerOf}
+use Rattle.overload_test.specs.declared.Overload.{Overload}
+use Rattle.overload_test.specs.declared.Overload.the-variants.{Yes, No}
+use Rattle.overload_test.specs.ReadTasks.{byCompletion, answerFrom, answerOf}
 
 -- earliest and latest start and duration of each task
 abbrev answer : List (ℕ × ℕ × ℕ) → Overload
-answer ts = answerOf (momentsIn (newRecord (map (λ (t : ℕ × ℕ × ℕ). pos (t .2)) ts)) (map (λ (t : ℕ × ℕ × ℕ). pos (t .0)) ts) (map (λ (t : ℕ × ℕ × ℕ). pos (t .1)) ts))
+answer ts = answerOf (momentsIn (newRecord (map (λ (t : ℕ × ℕ × ℕ). pos (t .2)) ts)) (map (λ (t : ℕ × ℕ × ℕ). pos (t .0)) ts)
+    (map (λ (t : ℕ × ℕ × ℕ). pos (t .1)) ts))
 
 -- B overloads; in C the ect reaches the latest completion and does not pass it
 instance-B : answer ((0, 2, 4) ∷ (1, 2, 4) ∷ []) ≡ Yes 2
@@ -41,7 +41,8 @@ unfolding filled sort insert numbers has ectAfter answerFrom
 stops-early = refl
 
 -- the latest start does not order the tasks: here it is the same for all, and completions are 5, 3, 4
-by-latest-completion : byCompletion (momentsIn (newRecord (pos 3 ∷ pos 1 ∷ pos 2 ∷ [])) (pos 0 ∷ pos 0 ∷ pos 0 ∷ []) (pos 2 ∷ pos 2 ∷ pos 2 ∷ [])) ≡ 1 ∷ 2 ∷ 0 ∷ []
+by-latest-completion : byCompletion (momentsIn (newRecord (pos 3 ∷ pos 1 ∷ pos 2 ∷ [])) (pos 0 ∷ pos 0 ∷ pos 0 ∷ []) (pos 2 ∷ pos 2 ∷ pos 2 ∷ [])) ≡ 1 ∷ 2 ∷ 0 ∷
+    []
 unfolding filled sort insert numbers
 by-latest-completion = refl
 

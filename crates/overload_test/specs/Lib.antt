@@ -1,5 +1,5 @@
-pub mod Reading
-pub mod Readable
+pub mod ReadTasks
+pub mod ReadArrays
 pub mod Numbers
 pub mod Tested
 pub mod Examples

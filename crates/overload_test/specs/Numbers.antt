@@ -2,8 +2,8 @@
 use mathlib.Core.List.{[], _∷_}
 use lib.IntN.{pos}
 use Rattle.integers.specs.Answers.{Answer, answered, refusedBy}
-use Rattle.overload_test.specs.declared.overload_test.Overload.{Overload}
-use Rattle.overload_test.specs.declared.overload_test.Overload.the-variants.{Yes, No, Refused}
+use Rattle.overload_test.specs.declared.Overload.{Overload}
+use Rattle.overload_test.specs.declared.Overload.the-variants.{Yes, No, Refused}
 
 -- the value of a yes is the number of tasks read
 abbrev pub overloadNumbers : Overload → Answer

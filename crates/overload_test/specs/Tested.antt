@@ -7,16 +7,17 @@ use Prim.Native.Nat.{ℕ, _≤_}
 use lib.IntN.{ℤ, pos}
 use Rattle.integers.specs.Answers.{answered, refusedBy}
 use Rattle.scheduling.specs.Scheduling.{TaskSet, Overloads}
-use Rattle.records.specs.declared.record.Propagator.{Propagator}
+use Rattle.records.specs.declared.record.DisjunctivePropagator.{DisjunctivePropagator}
 use Rattle.records.specs.Records.{tasksIn, momentsIn}
-use Rattle.input_refusals.specs.Refusals.{inputNumber}
-use Rattle.overload_test.specs.declared.overload_test.Overload.{Overload}
-use Rattle.overload_test.specs.Reading.{answerOf}
+use Rattle.records.specs.Refusals.{inputNumber}
+use Rattle.overload_test.specs.declared.Overload.{Overload}
+use Rattle.overload_test.specs.ReadTasks.{answerOf}
 use Rattle.overload_test.specs.Numbers.{overloadNumbers}
 
--- The call is told whether the bars of its ranges fit. The first test that fails refuses the input; else the answer is the definition's. It is yes exactly where some set of all the tasks overloads,
+-- The call is told whether the bars of its ranges fit. The first test that fails refuses the input; else the answer is the definition's. It is yes exactly
+-- where some set of all the tasks overloads,
 -- with the number of tasks read, and no exactly where none does.
-pub record OverloadTested (before : Propagator) (es ls : List ℤ) (bars : Bool) (r : Overload) : Type 0 where
+pub record OverloadTested (before : DisjunctivePropagator) (es ls : List ℤ) (bars : Bool) (r : Overload) : Type 0 where
   pub refused : (inputNumber before es ls bars ≡ 0 → ⊥) → overloadNumbers r ≡ refusedBy (inputNumber before es ls bars)
   pub answer : inputNumber before es ls bars ≡ 0 → r ≡ answerOf (momentsIn before es ls)
   pub yes : inputNumber before es ls bars ≡ 0 → ((k : ℕ) × (overloadNumbers r ≡ answered 0 (pos k ∷ []))) ↔ ((Ω : TaskSet) × Overloads (tasksIn before es ls) Ω)

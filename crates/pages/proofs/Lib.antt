@@ -1,4 +1,4 @@
-pub mod Padding
+pub mod RightAligned
 pub mod PageRefused
-pub mod Paging
-pub mod Apart
+pub mod PageLines
+pub mod PageNumbers

@@ -1,5 +1,4 @@
 -- What refuses a page: what holds where nothing does, and the sole ground for each number.
--- Assumes nothing.
 use mathlib.Core.Path.{_≡_, refl, _∙_}
 use mathlib.Core.Bool.{true}
 use mathlib.Core.Logic.{_↔_}
@@ -12,15 +11,15 @@ use borrow.Author.Tests.{leb-true, le-leb, lt-leb}
 use Rattle.integers.specs.Limits.{TASKS}
 use Rattle.integers.specs.Tests.{Test, test}
 use Rattle.integers.proofs.Tests.{accepts, refuses, more-accepted, more-refused}
-use Rattle.records.specs.declared.record.Propagator.{Propagator}
+use Rattle.records.specs.declared.record.DisjunctivePropagator.{DisjunctivePropagator}
 use Rattle.records.specs.Records.{Lawful}
-use Rattle.input_refusals.specs.Refusals.{CountsFit, StartsFit, RangesFit}
+use Rattle.records.specs.Refusals.{CountsFit, StartsFit, RangesFit}
 use Rattle.fixed_schedules.specs.FixedSchedules.{fixedTests, fixedNumber, Fixed, AcceptedFixed}
 use Rattle.fixed_schedules.proofs.FixedRefused.{fixed-first, fixed-then, fixed-20, fixed-10, fixed-3, fixed-4, fixed-14, fixed-many, passed-fixed}
 use Rattle.pages.specs.Lines.{LINE}
 use Rattle.pages.specs.Pages.{pageNumber, Accepted}
 
-module _ (r : Propagator) (es ls : List ℤ) (bytes : ℕ) where
+module _ (r : DisjunctivePropagator) (es ls : List ℤ) (bytes : ℕ) where
   -- the test that is a page's own
   abbrev t15 : Test
   t15 = test 15 (leb (LINE * (r .count + 1)) bytes)
@@ -65,5 +64,5 @@ module _ (r : Propagator) (es ls : List ℤ) (bytes : ℕ) where
   refused-15 = more-refused (fixedTests r es ls) t15 (passed-fixed r es ls) room-is refl refl
 
 -- more ranges than any record has tasks are refused by the number that refuses none
-pub page-many : (r : Propagator) (es ls : List ℤ) (bytes : ℕ) → TASKS < length es → (pageNumber r [] [] bytes ≡ pageNumber r es ls bytes) × (pageNumber r es ls bytes ≡ 0 → ⊥)
+pub page-many : (r : DisjunctivePropagator) (es ls : List ℤ) (bytes : ℕ) → TASKS < length es → (pageNumber r [] [] bytes ≡ pageNumber r es ls bytes) × (pageNumber r es ls bytes ≡ 0 → ⊥)
 page-many r es ls bytes many = fixed-many r es ls (t15 r [] [] bytes ∷ []) (t15 r es ls bytes ∷ []) many

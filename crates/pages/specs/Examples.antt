@@ -1,16 +1,15 @@
 -- The definitions at small inputs.
--- Assumes nothing.
 use mathlib.Core.Path.{_≡_, refl}
 use mathlib.Core.List.{[], _∷_, _++_, flatMap}
 use lib.IntN.{pos, negsuc}
-use Rattle.integers.specs.Filling.{filled}
+use Rattle.integers.specs.FilledLists.{filled}
 use Rattle.integers.specs.Orders.{insert, sort, numbers}
 use Rattle.integers.specs.Tests.{allBelow, refusal}
 use Rattle.integers.specs.Texts.{bytesOf}
 use Rattle.scheduling.specs.Scheduling.{total}
-use Rattle.records.specs.declared.record.Propagator.{Propagator}
+use Rattle.records.specs.declared.record.DisjunctivePropagator.{DisjunctivePropagator}
 use Rattle.records.specs.Records.{unusedAt, lawfulRecord, newRecord}
-use Rattle.decimals.specs.Writing.{figures, natural, decimal}
+use Rattle.text.specs.DecimalText.{figures, natural, decimal}
 use Rattle.pages.specs.Lines.{padLeft, columns, heading}
 use Rattle.pages.specs.Pages.{pageOf, pageNumber}
 
@@ -28,7 +27,7 @@ unfolding columns padLeft bytesOf figures natural decimal flatMap sort insert nu
 two-tasks = refl
 
 -- the record of those tasks
-two : Propagator
+two : DisjunctivePropagator
 two = newRecord (pos 4 ∷ pos 15 ∷ [])
 
 -- 93 bytes hold the page, and 92 do not

@@ -4,7 +4,7 @@ use Prim.Native.Nat.{ℕ, _-_}
 use lib.IntN.{ℤ}
 use lib.ListN.{length, replicate}
 use Rattle.integers.specs.Texts.{bytesOf}
-use Rattle.decimals.specs.Writing.{natural, decimal}
+use Rattle.text.specs.DecimalText.{natural, decimal}
 
 -- the bytes of a line, its line feed among them
 abbrev pub LINE : ℕ

@@ -6,11 +6,12 @@ use lib.Dec.{leb}
 use lib.IntN.{ℤ, pos}
 use lib.Signed.{_≤ℤ_}
 use lib.ListN.{length, getD, take, drop}
+use Rattle.integers.specs.Refused as refused
 use Rattle.integers.specs.Answers.{answered, refusedBy}
 use Rattle.integers.specs.Words.{overwritten}
 use Rattle.integers.specs.Orders.{index, Ordered}
 use Rattle.integers.specs.Tests.{Test, test, refusal}
-use Rattle.records.specs.declared.record.Propagator.{Propagator}
+use Rattle.records.specs.declared.record.DisjunctivePropagator.{DisjunctivePropagator}
 use Rattle.fixed_schedules.specs.FixedSchedules.{startAt, endAt, fixedTests, AcceptedFixed, orderOf}
 use Rattle.pages.specs.Lines.{LINE, heading, lineOf}
 use Rattle.pages.specs.declared.answer.Page.{Page}
@@ -19,14 +20,14 @@ use Rattle.pages.specs.Numbers.{pageNumbers}
 -- The tests ---------------------------------------------------------------------------------------------------------------------
 
 -- those of a fixed schedule; then 15: a buffer with no room for the page
-abbrev pub pageTests : Propagator → List ℤ → List ℤ → ℕ → List Test
-pageTests r es ls room = fixedTests r es ls ++ (test 15 (leb (LINE * (r .count + 1)) room) ∷ [])
+abbrev pub pageTests : DisjunctivePropagator → List ℤ → List ℤ → ℕ → List Test
+pageTests r es ls room = fixedTests r es ls ++ (test refused.PAGE-ROOM (leb (LINE * (r .count + 1)) room) ∷ [])
 
-abbrev pub pageNumber : Propagator → List ℤ → List ℤ → ℕ → ℕ
+abbrev pub pageNumber : DisjunctivePropagator → List ℤ → List ℤ → ℕ → ℕ
 pageNumber r es ls room = refusal (pageTests r es ls room)
 
 -- What holds of a page that is written.
-pub record Accepted (r : Propagator) (es ls : List ℤ) (bytes : ℕ) : Type 0 where
+pub record Accepted (r : DisjunctivePropagator) (es ls : List ℤ) (bytes : ℕ) : Type 0 where
   pub schedule : AcceptedFixed r es ls
   pub room : LINE * (r .count + 1) ≤ bytes
 
@@ -40,7 +41,8 @@ lineAt ds es k = lineOf k (startAt es k) (endAt ds es k)
 abbrev pub pageOf : List ℕ → List ℤ → List ℕ
 pageOf ds es = heading ++ flatMap (lineAt ds es) (orderOf es)
 
--- A page has the heading and one line for each task, by start, least first: `orderOf` is an order of the tasks 0 to n − 1, line t is that of the task at t, and no two
+-- A page has the heading and one line for each task, by start, least first: `orderOf` is an order of the tasks 0 to n − 1, line t is that of the task at t, and
+-- no two
 -- tasks have one line.
 pub record OneLineEach (ds : List ℕ) (es : List ℤ) (page : List ℕ) : Type 0 where
   pub long : length page ≡ LINE * (length es + 1)
@@ -57,12 +59,12 @@ pub record Kept (number : ℕ) (bytes : List ℕ) (p : Page) (bytes′ : List �
   pub keeps : bytes′ ≡ bytes
 
 -- A page that is written stands at the front of the buffer, and the bytes beyond it are as they were.
-pub record Left (r : Propagator) (es : List ℤ) (bytes : List ℕ) (p : Page) (bytes′ : List ℕ) : Type 0 where
+pub record Left (r : DisjunctivePropagator) (es : List ℤ) (bytes : List ℕ) (p : Page) (bytes′ : List ℕ) : Type 0 where
   pub answer : pageNumbers p ≡ answered 0 (pos (LINE * (r .count + 1)) ∷ [])
   pub text : bytes′ ≡ overwritten bytes (pageOf (r .durations) es)
 
 -- A page: the first test that fails refuses it; else the page is written, which has one line for each task.
-pub record Paged (r : Propagator) (es ls : List ℤ) (bytes : List ℕ) (p : Page) (bytes′ : List ℕ) : Type 0 where
+pub record Paged (r : DisjunctivePropagator) (es ls : List ℤ) (bytes : List ℕ) (p : Page) (bytes′ : List ℕ) : Type 0 where
   pub refused : (pageNumber r es ls (length bytes) ≡ 0 → ⊥) → Kept (pageNumber r es ls (length bytes)) bytes p bytes′
   pub written : pageNumber r es ls (length bytes) ≡ 0 → Left r es bytes p bytes′
   pub lines : pageNumber r es ls (length bytes) ≡ 0 → OneLineEach (r .durations) es (pageOf (r .durations) es)

@@ -1,18 +1,18 @@
 // The lines of a page, put into a buffer.
-use decimals::writing::put_bytes;
-use decimals::writing::put_number;
 use integers::limits::TASKS;
-use integers::moment_of;
-use integers::start_of;
-use integers::word_of;
+use integers::moments::moment_of;
+use integers::moments::start_of;
+use integers::numbers::word_of;
+use text::writing::put_bytes;
+use text::writing::put_number;
 ghost use Prim.Native.Nat.{_+_, _*_, _≤_, _<_};
 ghost use lib.IntN.{pos, _+ℤ_};
 ghost use lib.ListN.{length, take};
 ghost use mathlib.Core.List.{_++_, flatMap};
 ghost use Rattle.integers.specs.Limits.{TASKS, DURATIONS};
-ghost use Rattle.input_refusals.specs.Refusals.{StartFits};
+ghost use Rattle.records.specs.Refusals.{StartFits};
 ghost use Rattle.fixed_schedules.specs.Neighbours.{Listed};
-ghost use Rattle.decimals.specs.Writing.{decimal, Puts};
+ghost use Rattle.text.specs.DecimalText.{decimal, Puts};
 ghost use Rattle.pages.specs.Lines.{LINE, padLeft, heading, lineOf};
 ghost use Rattle.pages.specs.Pages.{lineAt};
 
@@ -56,7 +56,8 @@ pub fn put_lines(
     durations: &[u32; TASKS],
 ) -> usize
     requires { ⌜ Listed (now order) (now earliest) (now durations) × (LINE * (length (now earliest) + 1) ≤ length (now out)) ⌝ }
-    ensures { λ r. ⌜ Puts (now (out .entry)) (now (out .exit)) 0 (heading ++ flatMap (lineAt (now (durations .entry)) (now (earliest .entry))) (take (length (now (earliest .entry))) (now (order .entry)))) r ⌝ }
+    ensures { λ r. ⌜ Puts (now (out .entry)) (now (out .exit)) 0
+        (heading ++ flatMap (lineAt (now (durations .entry)) (now (earliest .entry))) (take (length (now (earliest .entry))) (now (order .entry)))) r ⌝ }
 {
     let mut at = put_heading(out);
     let mut i = 0;

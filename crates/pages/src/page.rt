@@ -3,12 +3,13 @@ use crate::answer::Page;
 use crate::lines::put_lines;
 use fixed_schedules::order::order_of;
 use fixed_schedules::refusals::fixed_refusal;
-use records::record::Propagator;
+use integers::refused;
+use records::record::DisjunctivePropagator;
 ghost use mathlib.Core.Path.{_≡_};
 ghost use Rattle.pages.specs.Pages.{pageNumber, Paged};
 
 // The number that refuses a page, or 0: 20, 10, 3, 4, 14, 15.
-fn page_refusal(record: Propagator, earliest: &[i32], latest: &[i32], room: usize) -> u32
+fn page_refusal(record: DisjunctivePropagator, earliest: &[i32], latest: &[i32], room: usize) -> u32
     ensures { λ r. ⌜ r ≡ pageNumber «record» (now (earliest .entry)) (now (latest .entry)) room ⌝ }
 {
     let number = fixed_refusal(record, earliest, latest);
@@ -16,13 +17,13 @@ fn page_refusal(record: Propagator, earliest: &[i32], latest: &[i32], room: usiz
         return number;
     }
     if room < 31 * (record.count + 1) {
-        return 15;
+        return refused::PAGE_ROOM;
     }
     0
 }
 
 // A page of a fixed schedule, written at the front of the buffer.
-pub fn page(record: Propagator, earliest: &[i32], latest: &[i32], out: &mut [u8]) -> Page
+pub fn page(record: DisjunctivePropagator, earliest: &[i32], latest: &[i32], out: &mut [u8]) -> Page
     ensures { λ r. ⌜ Paged «record» (now (earliest .entry)) (now (latest .entry)) (now (out .entry)) r (now (out .exit)) ⌝ }
 {
     let number = page_refusal(record, earliest, latest, out.len());

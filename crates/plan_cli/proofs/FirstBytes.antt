@@ -1,5 +1,4 @@
 -- The first bytes of a buffer that was written from its front on.
--- Assumes nothing.
 use mathlib.Core.Path.{_≡_, _∙_}
 use mathlib.Core.List.{List}
 use Prim.Native.Nat.{ℕ, _≤_}
@@ -7,8 +6,8 @@ use native.Mathlib.Omega.{arith}
 use lib.ListN.{length, take}
 use lib.Seq.{take-append-seam}
 use Rattle.integers.proofs.Words.{overwrites}
-use Rattle.decimals.specs.Writing.{Puts}
-use Rattle.decimals.proofs.Putting.{puts-length}
+use Rattle.text.specs.DecimalText.{Puts}
+use Rattle.text.proofs.PutBytes.{puts-length}
 use Rattle.plan_cli.specs.Printed.{Written}
 
 -- what was put from the front of a buffer on, and ends inside it, is what its first bytes are

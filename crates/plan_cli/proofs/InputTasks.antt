@@ -1,5 +1,4 @@
 -- The tasks of an input whose count is known, and what is answered to it.
--- Assumes nothing.
 use mathlib.Core.Path.{_≡_, refl, sym, ap, _∙_}
 use mathlib.Core.Bool.{true, false}
 use mathlib.Core.List.{List, [], _∷_, map}
@@ -15,15 +14,16 @@ use borrow.Author.Tests.{eq-eqb}
 use Rattle.integers.specs.Limits.{TASKS}
 use Rattle.integers.specs.Tests.{refusal}
 use Rattle.integers.proofs.Bools.{bool}
-use Rattle.integers.proofs.Filling.{getD-map-in, filled-at, filled-length}
+use Rattle.integers.proofs.FilledLists.{filled-at, filled-length}
+use Rattle.integers.proofs.Lists.{getD-map-in}
 use Rattle.records.specs.Records.{creationTests, newRecord}
 use Rattle.records.proofs.Creation.{refused-1}
-use Rattle.text.specs.Scanning.{gathered}
+use Rattle.text.specs.Scanner.{gathered}
 use Rattle.text.specs.declared.reading.Numbers.{Numbers}
-use Rattle.text.proofs.Gathering.{kept-at}
-use Rattle.plan_text.specs.Counting.{countIn, column}
-use Rattle.plan_text.specs.declared.input.Counted.the-variants as counted
-use Rattle.plan_text.proofs.Counting.{Listed}
+use Rattle.text.proofs.ScannedNumbers.{kept-at}
+use Rattle.plan_cli.specs.InputCount.{countIn, column}
+use Rattle.plan_cli.specs.declared.input.Counted.the-variants as counted
+use Rattle.plan_cli.proofs.InputCount.{Listed}
 use Rattle.plan_cli.specs.Printed.{Triple, triples, inputTasks, numbered, ranOn, planned, plannedOf, answered}
 
 -- ---- what the count says of the input
@@ -84,7 +84,8 @@ module _ (ns : Numbers) (n : ℕ) (rest : List ℤ) (h : ns ≡ gathered (some (
   column-long : (from : ℕ) → length (column (ns .kept) n from) ≡ TASKS
   column-long from = filled-length (λ k. getD (ns .kept) (3 * k + from) (pos 0)) n (replicate TASKS (pos 0)) ∙ length-replicate TASKS (pos 0)
 
-  column-is : (f : Triple → ℤ) (from : ℕ) → from < 3 → ((k : ℕ) → k < n → getD rest (3 * k + from) (pos 0) ≡ f (getD (triples rest) k no-triple)) → take n (column (ns .kept) n (suc from)) ≡ map f (triples rest)
+  column-is : (f : Triple → ℤ) (from : ℕ) → from < 3 → ((k : ℕ) → k < n → getD rest (3 * k + from) (pos 0) ≡ f (getD (triples rest) k no-triple))
+      → take n (column (ns .kept) n (suc from)) ≡ map f (triples rest)
   column-is f from q at =
       let c = column (ns .kept) n (suc from) in
       let l = length-take-le n c (omega (arith, column-long (suc from))) in
@@ -106,7 +107,8 @@ module _ (ns : Numbers) (n : ℕ) (rest : List ℤ) (h : ns ≡ gathered (some (
       (λ i. planned (es i) (ls i) (ds i)) ∙ sym (answered-listed n rest long)
 
 -- and so is what follows from them
-pub few-listed : (ns : Numbers) (xs : Option (List ℤ)) (n : ℕ) {es ls ds : List ℤ} → ns ≡ gathered xs → Listed xs n → n ≤ TASKS → es ≡ column (ns .kept) n 1 → ls ≡ column (ns .kept) n 2 → ds ≡ column (ns .kept) n 3
+pub few-listed : (ns : Numbers) (xs : Option (List ℤ)) (n : ℕ) {es ls ds : List ℤ} → ns ≡ gathered xs → Listed xs n → n ≤ TASKS → es ≡ column (ns .kept) n 1 → ls ≡ column (ns .kept) n 2
+    → ds ≡ column (ns .kept) n 3
     → planned (take n es) (take n ls) (take n ds) ≡ answered xs
 few-listed ns xs n h l q e f g = (λ i. planned (take n (e i)) (take n (f i)) (take n (g i))) ∙ columns ns n (l .rest) (h ∙ ap gathered (l .whole)) (l .long) q ∙ ap answered (sym (l .whole))
 
@@ -117,4 +119,5 @@ many-listed xs n l q =
     let ds = map (λ (t : Triple). t .duration) ts in
     let m : length ds ≡ n = length-map ts (λ t. t .duration) ∙ triples-long n (l .rest) (l .long) in
     let one : refusal (creationTests ds) ≡ 1 = refused-1 ds .1 (λ f. omega (arith, f .1)) in
-    sym (ap answered (l .whole) ∙ answered-listed n (l .rest) (l .long) ∙ ap (λ (k : ℕ). numbered k (ranOn (newRecord ds) (map (λ (t : Triple). t .earliest) ts) (map (λ (t : Triple). t .latest) ts))) one)
+    sym (ap answered (l .whole) ∙ answered-listed n (l .rest) (l .long)
+    ∙ ap (λ (k : ℕ). numbered k (ranOn (newRecord ds) (map (λ (t : Triple). t .earliest) ts) (map (λ (t : Triple). t .latest) ts))) one)

@@ -1,7 +1,9 @@
-pub mod Reporting
-pub mod Showing
+pub mod RunLines
+pub mod InputCount
+pub mod Reports
+pub mod PrintedRun
 pub mod InputTasks
-pub mod Leaving
+pub mod PrintedSlices
 pub mod PrintedNumbers
 pub mod FirstBytes
 mod Marks

@@ -1,5 +1,4 @@
 -- The numbers that the program can print: a run on a new record, with as many ranges as durations, is refused by 3 or 4 only.
--- Assumes nothing.
 use mathlib.Core.Path.{_≡_, refl}
 use mathlib.Core.Bool.{true}
 use mathlib.Core.List.{List}
@@ -12,9 +11,9 @@ use Rattle.integers.specs.Limits.{TASKS, ATOMS}
 use Rattle.integers.specs.Tests.{refusal}
 use Rattle.integers.proofs.Bools.{clash}
 use Rattle.records.specs.Records.{Lawful, creationTests, newRecord}
-use Rattle.input_refusals.specs.Refusals.{runNumber, CountsFit, WordsFit}
+use Rattle.records.specs.Refusals.{runNumber, CountsFit, WordsFit}
 use Rattle.records.proofs.Creation.{created-lawful}
-use Rattle.input_refusals.proofs.Refused.{refused-20, refused-10, refused-13, refused-9}
+use Rattle.records.proofs.RefusedRuns.{refused-20, refused-10, refused-13, refused-9}
 
 module _ (es ls ds : List ℤ) (accepted : refusal (creationTests ds) ≡ 0) (same-earliest : length es ≡ length ds) (same-latest : length ls ≡ length ds) where
   abbrev number : ℕ

@@ -1,24 +1,23 @@
 -- The definition at instance A, to the byte, and at an empty input; and where an input ends.
--- Assumes nothing.
 use mathlib.Core.Path.{_≡_, refl}
 use mathlib.Core.List.{List, []}
 use Prim.Native.Nat.{ℕ}
-use Rattle.integers.specs.Filling.{filled}
+use Rattle.integers.specs.FilledLists.{filled}
 use Rattle.integers.specs.Orders.{numbers as upTo, sort, insert, index}
 use Rattle.integers.specs.Tests.{allBelow, refusal}
 use Rattle.integers.specs.Texts.{bytesOf}
 use Rattle.scheduling.specs.Scheduling.{total}
-use Rattle.ects.specs.Ects.{decoded}
+use Rattle.trees.specs.Ects.{decoded}
 use Rattle.trees.specs.Leaves.{root, responsible, theta}
-use Rattle.nodes.specs.Nodes.{joinOf, isEmpty}
-use Rattle.nodes.specs.Descents.{gray, tested, descentP, descentEct}
+use Rattle.trees.specs.Nodes.{joinOf, isEmpty}
+use Rattle.trees.specs.Descents.{gray, tested, descentP, descentEct}
 use Rattle.trees.specs.Searches.{stepP, stepEct, searchP, searchEct, thetaOf}
 use Rattle.trees.specs.Shapes.{width, heightFrom, nodeOver}
 use Rattle.runs.specs.Runs.{propagate, run, outer, inner, conflict, propagation, bounds, within, tabulate}
 use Rattle.records.specs.Records.{unusedAt, lawfulRecord}
-use Rattle.decimals.specs.Writing.{figures, natural, decimal}
+use Rattle.text.specs.DecimalText.{figures, natural, decimal}
 use Rattle.text.specs.Numbers.{space, pieces, filled as nonEmpty, tokens, digit, digits, value, ranged, unsigned, numberOf, before, numbers, numbersOf}
-use Rattle.plan_text.specs.Lines.{sign, postLine, whyLine, lines, doneLine, overloadLines, refusedLine}
+use Rattle.plan_cli.specs.Lines.{sign, postLine, whyLine, lines, doneLine, overloadLines, refusedLine}
 use Rattle.plan_cli.specs.RunLines.{runLines}
 use Rattle.plan_cli.specs.Printed.{triples, inputTasks, answered, printed}
 use Rattle.plan_cli.specs.Inputs.{firstMark}
@@ -32,7 +31,10 @@ abbrev output : List ℕ
 output = bytesOf "post 2 9\nwhy 0 >= 0\nwhy 0 <= 7\nwhy 1 >= 0\nwhy 1 <= 6\nwhy 2 >= 0\ndone 0 1 9\n"
 
 instance-A : printed input ≡ output
-unfolding bytesOf printed answered inputTasks triples sign postLine whyLine lines doneLine overloadLines runLines refusedLine figures natural decimal space pieces nonEmpty tokens digit digits value ranged unsigned numberOf before numbers numbersOf unusedAt lawfulRecord propagate run outer inner decoded conflict propagation bounds within tabulate width heightFrom nodeOver gray tested descentP descentEct stepP stepEct searchP searchEct thetaOf joinOf isEmpty root responsible theta total allBelow refusal upTo sort insert index filled
+unfolding bytesOf printed answered inputTasks triples sign postLine whyLine lines doneLine overloadLines runLines refusedLine figures natural decimal space
+    pieces nonEmpty tokens digit digits value ranged unsigned numberOf before numbers numbersOf unusedAt lawfulRecord propagate run outer inner decoded conflict
+    propagation bounds within tabulate width heightFrom nodeOver gray tested descentP descentEct stepP stepEct searchP searchEct thetaOf joinOf isEmpty root
+    responsible theta total allBelow refusal upTo sort insert index filled
 instance-A = refl
 
 empty-input : printed [] ≡ bytesOf "refused 0\n"

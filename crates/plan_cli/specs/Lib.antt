@@ -1,3 +1,5 @@
+pub mod Lines
+pub mod InputCount
 pub mod RunLines
 pub mod RunSlices
 pub mod Printed

@@ -11,9 +11,9 @@ use lib.ListN.{length, take}
 use Rattle.integers.specs.Limits.{TASKS, ATOMS}
 use Rattle.integers.specs.Tests.{refusal}
 use Rattle.runs.specs.Traces.{Trace}
-use Rattle.records.specs.declared.record.Propagator.{Propagator}
+use Rattle.records.specs.declared.record.DisjunctivePropagator.{DisjunctivePropagator}
 use Rattle.records.specs.Records.{creationTests, newRecord}
-use Rattle.input_refusals.specs.Refusals.{runNumber}
+use Rattle.records.specs.Refusals.{runNumber}
 use Rattle.propagator.specs.Ran.{traceOf}
 use Rattle.text.specs.Numbers.{numbersOf}
 use Rattle.plan_cli.specs.RunLines.{answerLines}
@@ -43,7 +43,7 @@ numbered zero otherwise = otherwise
 numbered (suc n) otherwise = inl (suc n)
 
 -- a run on a record and ranges without bars, with slices for the posts and the reasons of any run
-abbrev pub ranOn : Propagator → List ℤ → List ℤ → ℕ ⊎ Trace
+abbrev pub ranOn : DisjunctivePropagator → List ℤ → List ℤ → ℕ ⊎ Trace
 ranOn r es ls = numbered (runNumber r es ls true (4 * TASKS) (3 * ATOMS)) (inr (traceOf r es ls))
 
 -- creation, and a run on the new record

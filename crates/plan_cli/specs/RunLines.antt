@@ -4,7 +4,7 @@ use mathlib.Core.Logic.{_⊎_, inl, inr}
 use Prim.Native.Nat.{ℕ}
 use lib.IntN.{ℤ, pos}
 use Rattle.runs.specs.Traces.{Post, End, done, overload, emptied, Trace}
-use Rattle.plan_text.specs.Lines.{postLine, lines, whyLines, doneLine, overloadLines, emptiedLine, refusedLine}
+use Rattle.plan_cli.specs.Lines.{postLine, lines, whyLines, doneLine, overloadLines, emptiedLine, refusedLine}
 
 -- a post and its reason behind it, and all posts
 abbrev pub postOf : Post → List ℕ

@@ -1,15 +1,15 @@
 // The answer to an input: its lines, or the number that refused it.
+use crate::input::Counted;
+use crate::input::column_of;
+use crate::input::task_count;
+use crate::lines::put_refused;
 use crate::report::put_run;
 use integers::limits::ATOMWORDS;
 use integers::limits::POSTWORDS;
 use integers::limits::TASKS;
-use plan_text::input::Counted;
-use plan_text::input::column_of;
-use plan_text::input::task_count;
-use plan_text::lines::put_refused;
 use propagator::disjunctive_propagator::propagate;
 use records::record::Creation;
-use records::record::Propagator;
+use records::record::DisjunctivePropagator;
 use records::record::create;
 use text::reading::Numbers;
 ghost use mathlib.Core.List.{List};
@@ -19,8 +19,8 @@ ghost use Prim.Native.Nat.{_≤_};
 ghost use lib.IntN.{ℤ};
 ghost use lib.ListN.{length, take};
 ghost use Rattle.integers.specs.Limits.{TASKS};
-ghost use Rattle.decimals.specs.Writing.{Puts};
-ghost use Rattle.text.specs.Scanning.{gathered};
+ghost use Rattle.text.specs.DecimalText.{Puts};
+ghost use Rattle.text.specs.Scanner.{gathered};
 ghost use Rattle.plan_cli.specs.RunLines.{answerLines};
 ghost use Rattle.plan_cli.specs.RunSlices.{ROOM};
 ghost use Rattle.plan_cli.specs.Printed.{ranOn, planned, answered};
@@ -28,7 +28,7 @@ ghost use Rattle.plan_cli.specs.Printed.{ranOn, planned, answered};
 // A run on the first n ranges. They have no bars, so none is unfit.
 fn put_ran(
     out: &mut [u8],
-    record: Propagator,
+    record: DisjunctivePropagator,
     n: usize,
     earliest: [i32; TASKS],
     latest: [i32; TASKS],

@@ -1,7 +1,7 @@
 // The program: standard input is read to its end, and the answer is written to standard output. Only reading and writing is assumed.
 use crate::answer::put_answer;
+use crate::stdin::read_numbers;
 use libc::STDOUT_FILENO;
-use plan_text::stdin::read_numbers;
 use text::reading::numbers_of;
 ghost use mathlib.Core.List.{List};
 ghost use Prim.Native.Nat.{ℕ, _≤_};

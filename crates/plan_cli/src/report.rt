@@ -1,14 +1,14 @@
 // A run's report: its posts with their reasons, and how it ended.
-use decimals::writing::put_bytes;
-use plan_text::lines::put_post;
-use plan_text::lines::put_reason;
-use plan_text::lines::put_refused;
-use plan_text::lines::put_starts;
-use post_words::posts::bound_word;
-use post_words::posts::post_reason;
-use post_words::posts::stretch;
-use post_words::posts::task_word;
+use crate::lines::put_post;
+use crate::lines::put_reason;
+use crate::lines::put_refused;
+use crate::lines::put_starts;
+use post_words::bound_word;
+use post_words::post_reason;
+use post_words::stretch;
+use post_words::task_word;
 use runs::outcome::Outcome;
+use text::writing::put_bytes;
 ghost use Prim.Native.Nat.{ℕ, _+_, _*_, _≤_};
 ghost use mathlib.Core.Path.{_≡_};
 ghost use mathlib.Core.List.{List};
@@ -19,8 +19,8 @@ ghost use Rattle.scheduling.specs.Words.{atomWords};
 ghost use Rattle.runs.specs.Traces.{Post, Trace};
 ghost use Rattle.runs.specs.Words.{reasons};
 ghost use Rattle.post_words.specs.Posts.{reasonWords};
-ghost use Rattle.decimals.specs.Writing.{Puts};
-ghost use Rattle.plan_text.specs.Lines.{doneLine, overloadLines};
+ghost use Rattle.text.specs.DecimalText.{Puts};
+ghost use Rattle.plan_cli.specs.Lines.{doneLine, overloadLines};
 ghost use Rattle.plan_cli.specs.RunLines.{postOf, postLines, answerLines};
 ghost use Rattle.plan_cli.specs.RunSlices.{Held, Holds, Posts, Shown, Printable};
 
@@ -44,7 +44,8 @@ fn put_posted(
 // All posts, from the front of the buffer on.
 fn put_posts(out: &mut [u8], posts: &[i32], atoms: &[i32], count: usize) -> usize
     requires { ⌜ Posts (now posts) (now atoms) count (length (now out)) ⌝ }
-    ensures text { λ r. ⌜ ((ps : List Post) → Holds ps (now (posts .entry)) (now (atoms .entry)) count → Puts (now (out .entry)) (now (out .exit)) 0 (postLines ps) r) ⌝ }
+    ensures text { λ r. ⌜ ((ps : List Post) → Holds ps (now (posts .entry)) (now (atoms .entry)) count
+        → Puts (now (out .entry)) (now (out .exit)) 0 (postLines ps) r) ⌝ }
     ensures within { λ r. ⌜ ((ps : List Post) → Holds ps (now (posts .entry)) (now (atoms .entry)) count → r ≤ 44 * length ps + 33 * length (reasons ps)) ⌝ }
 {
     let mut end = 0;
@@ -70,7 +71,8 @@ fn put_done(out: &mut [u8], at: usize, starts: &[i32]) -> usize
 // The last lines of an overload: `count` atoms from the one numbered `first` on.
 fn put_overload(out: &mut [u8], at: usize, atoms: &[i32], first: usize, count: usize) -> usize
     requires { ⌜ (3 * first + 3 * count ≤ length (now atoms)) × (at + 33 * count + 9 ≤ length (now out)) ⌝ }
-    ensures text { λ r. ⌜ ((reason : List Atom) → take (3 * count) (drop (3 * first) (now (atoms .entry))) ≡ atomWords reason → Puts (now (out .entry)) (now (out .exit)) at (overloadLines reason) r) ⌝ }
+    ensures text { λ r. ⌜ ((reason : List Atom) → take (3 * count) (drop (3 * first) (now (atoms .entry))) ≡ atomWords reason
+        → Puts (now (out .entry)) (now (out .exit)) at (overloadLines reason) r) ⌝ }
     ensures within { λ r. ⌜ r ≤ at + 33 * count + 9 ⌝ }
 {
     let end = put_reason(out, at, stretch(atoms, first, count));
@@ -86,7 +88,8 @@ pub fn put_run(
     starts: &[i32],
 ) -> usize
     requires { ⌜ Printable outcome (now posts) (now atoms) (now starts) (length (now out)) ⌝ }
-    ensures text { λ r. ⌜ ((a : ℕ ⊎ Trace) → Shown a outcome (now (posts .entry)) (now (atoms .entry)) (now (starts .entry)) → Puts (now (out .entry)) (now (out .exit)) 0 (answerLines a) r) ⌝ }
+    ensures text { λ r. ⌜ ((a : ℕ ⊎ Trace) → Shown a outcome (now (posts .entry)) (now (atoms .entry)) (now (starts .entry))
+        → Puts (now (out .entry)) (now (out .exit)) 0 (answerLines a) r) ⌝ }
     ensures within { λ r. ⌜ r ≤ length (now (out .entry)) ⌝ }
 {
     match outcome {

@@ -6,6 +6,7 @@ use lib.Dec.{leb, ltb, eqb}
 use lib.IntN.{ℤ, pos, natAbs}
 use lib.Signed.{leZ, _≤ℤ_}
 use lib.ListN.{length, getD, take, drop}
+use Rattle.integers.specs.Refused as refused
 use Rattle.integers.specs.Limits.{TASKS}
 use Rattle.integers.specs.Tests.{Test, test, refusal}
 
@@ -62,11 +63,11 @@ pub record PostFits (size j i from atoms : ℕ) : Type 0 where
 -- 11: an index that is not below the post count, a post that is not inside its slice, a stretch that is not inside its own
 abbrev pub postTests : List ℤ → List ℤ → ℕ → ℕ → List Test
 postTests posts atoms count index =
-    test 11 (ltb index count)
-    ∷ test 11 (leb (4 * index + 4) (length posts))
-    ∷ test 11 (leZ (pos 0) (firstAtom posts index))
-    ∷ test 11 (leZ (pos 0) (atomCount posts index))
-    ∷ test 11 (leb (stretchStart posts index + stretchLength posts index) (length atoms))
+    test refused.POST (ltb index count)
+    ∷ test refused.POST (leb (4 * index + 4) (length posts))
+    ∷ test refused.POST (leZ (pos 0) (firstAtom posts index))
+    ∷ test refused.POST (leZ (pos 0) (atomCount posts index))
+    ∷ test refused.POST (leb (stretchStart posts index + stretchLength posts index) (length atoms))
     ∷ []
 
 abbrev pub postNumber : List ℤ → List ℤ → ℕ → ℕ → ℕ

@@ -1,5 +1,4 @@
 -- What a pass leaves meets its contract.
--- Assumes nothing.
 use mathlib.Core.Path.{_≡_, refl, sym, ap, subst, _∙_}
 use mathlib.Core.Bool.{Bool, true}
 use mathlib.Core.List.{List}
@@ -11,30 +10,29 @@ use lib.IntN.{ℤ, pos}
 use lib.Signed.{_≤ℤ_, clashℤ, <ℤ-≤ℤ-trans}
 use lib.ListN.{length, getD, length-replicate}
 use Rattle.integers.specs.Answers.{refusedBy}
-use Rattle.integers.specs.Filling.{filled, noTasks}
+use Rattle.integers.specs.FilledLists.{filled, noTasks}
 use Rattle.integers.specs.Limits.{TASKS}
-use Rattle.integers.specs.Moments.{instant, zeroAt}
+use Rattle.integers.specs.Moments.{instant, zeroAt, momentAt}
 use Rattle.integers.proofs.Answers.{same-kind, same-count}
-use Rattle.integers.proofs.Filling.{filled-at, filled-length}
+use Rattle.integers.proofs.FilledLists.{filled-at, filled-length}
 use Rattle.scheduling.specs.Scheduling.{whole, natural, Tasks, Proper, Largest, Schedule}
-use Rattle.sorts.specs.Orders.{momentAt}
-use Rattle.records.specs.declared.record.Propagator.{Propagator}
+use Rattle.records.specs.declared.record.DisjunctivePropagator.{DisjunctivePropagator}
 use Rattle.records.specs.Records.{tasksIn, momentsIn}
-use Rattle.input_refusals.specs.Refusals.{AcceptedInput, inputNumber}
-use Rattle.input_refusals.proofs.Accepting.{count, proper-whole, proper, above}
-use Rattle.input_refusals.proofs.Refused.{accepted-input}
-use Rattle.ects.proofs.Ects.{past-by-bound, within-bound}
-use Rattle.predecessors.specs.Predecessors.{PrecedenceBound}
-use Rattle.predecessors.specs.TaskArrays.{startAt, boundAt}
-use Rattle.predecessors.proofs.Ranging.{ranged}
-use Rattle.predecessors.proofs.Soundness.{before-sound, bound-sound}
-use Rattle.predecessors.proofs.Bounding.{passes, fits}
+use Rattle.records.specs.Refusals.{AcceptedInput, inputNumber}
+use Rattle.records.proofs.AcceptedTasks.{count, proper-whole, proper, above}
+use Rattle.records.proofs.RefusedRuns.{accepted-input}
+use Rattle.trees.proofs.Ects.{past-by-bound, within-bound}
+use Rattle.precedences.specs.Predecessors.{PrecedenceBound}
+use Rattle.precedences.specs.PredecessorArrays.{startAt, boundAt}
+use Rattle.precedences.proofs.AcceptedArrays.{ranged}
+use Rattle.precedences.proofs.Soundness.{before-sound, bound-sound}
+use Rattle.precedences.proofs.MomentBounds.{passes, fits}
 use Rattle.precedences.specs.declared.answers.Precedences.{Precedences}
 use Rattle.precedences.specs.declared.answers.Precedences.the-variants.{Done, Emptied}
 use Rattle.precedences.specs.Numbers.{precedencesNumbers}
 use Rattle.precedences.specs.Precedences.{FirstEmptied, NoneEmptied, LeftPrecedences, RanPrecedences}
-use Rattle.precedences.specs.TaskArrays.{raisedAt, FirstPast}
-use Rattle.precedences.proofs.Raising.{raised-is}
+use Rattle.precedences.specs.PassArrays.{raisedAt, FirstPast}
+use Rattle.precedences.proofs.RaisedStarts.{raised-is}
 
 module _ (J : Tasks whole) (ok : Proper J) where
   -- no two tasks are the lowest
@@ -77,7 +75,8 @@ module _ (J : Tasks whole) (ok : Proper J) where
   }
 
 -- An accepted pass: what the arrays hold, and how it ends.
-module _ (r : Propagator) (es ls : List ℤ) (a : AcceptedInput r es ls) (long : length (r .durations) ≡ TASKS) {est lst : List ℕ} (e : est ≡ filled (momentAt es) (length es) noTasks) (l : lst ≡ filled (momentAt ls) (length ls) noTasks) where
+module _ (r : DisjunctivePropagator) (es ls : List ℤ) (a : AcceptedInput r es ls) (long : length (r .durations) ≡ TASKS) {est lst : List ℕ} (e : est ≡ filled (momentAt es) (length es) noTasks)
+    (l : lst ≡ filled (momentAt ls) (length ls) noTasks) where
   abbrev Z : Tasks whole
   Z = tasksIn r es ls
 
@@ -105,21 +104,25 @@ module _ (r : Propagator) (es ls : List ℤ) (a : AcceptedInput r es ls) (long :
 
     pub some-past : i < r .count → LeftPrecedences (tasksIn r es ls) es (Emptied i) es
     some-past q =
-        let w = passes Z fine (above r es ls a long) i (known q) (past-by-bound (M .earliest i) (M .latest i) (boundAt M i) (proper r es ls a long .ranges i (known q)) (omega (arith, p .past q, raised-at i q, latest-at i q))) in
+        let w = passes Z fine (above r es ls a long) i (known q)
+        (past-by-bound (M .earliest i) (M .latest i) (boundAt M i) (proper r es ls a long .ranges i (known q)) (omega (arith, p .past q, raised-at i q, latest-at i q))) in
         ended-emptied Z fine es i (record { small = known q; bound = w .0; is-bound = w .1; passes = w .2; lowest = λ k h. not-past k (omega arith) h })
 
     pub none-past : r .count ≤ i → {es′ : List ℤ} → es′ ≡ filled (startAt raised) (length es) es → LeftPrecedences (tasksIn r es ls) es Done es′
     none-past h {es′} y = ended-done Z fine es es′ (λ k q. not-past k (small q) (omega (arith, small q))) (ap length y ∙ filled-length (startAt raised) (length es) es) starts
       where
         start-at : (k : ℕ) → k < r .count → getD es′ k (pos 0) ≡ instant zeroAt (raisedAt M k)
-        start-at k q = ap (λ (o : List ℤ). getD o k (pos 0)) y ∙ filled-at (startAt raised) (length es) es (pos 0) k (omega (arith, a .counts .earliest)) (omega arith) ∙ ap (instant zeroAt) (raised-at k q)
+        start-at k q = ap (λ (o : List ℤ). getD o k (pos 0)) y ∙ filled-at (startAt raised) (length es) es (pos 0) k (omega (arith, a .counts .earliest)) (omega arith)
+            ∙ ap (instant zeroAt) (raised-at k q)
 
         starts : (k : ℕ) → k < Z .count → Largest whole (λ v. (Z .earliest k ≡ v) ⊎ PrecedenceBound Z k v) (getD es′ k (pos 0))
         starts k q = subst (Largest whole (λ v. (Z .earliest k ≡ v) ⊎ PrecedenceBound Z k v)) (sym (start-at k (small q))) (raised-is Z fine (above r es ls a long) k q)
 
 -- The contract, of a record and ranges that are accepted, and of others.
-pub went : (before : Propagator) (es ls : List ℤ) (bars : Bool) (r : Precedences) (es′ : List ℤ) → AcceptedInput before es ls → bars ≡ true → LeftPrecedences (tasksIn before es ls) es r es′ → RanPrecedences before es ls bars r es′
+pub went : (before : DisjunctivePropagator) (es ls : List ℤ) (bars : Bool) (r : Precedences) (es′ : List ℤ) → AcceptedInput before es ls → bars ≡ true → LeftPrecedences (tasksIn before es ls) es r es′
+    → RanPrecedences before es ls bars r es′
 went before es ls bars r es′ a fit p = record { refused = λ h. absurd (h (accepted-input before es ls bars .1 (a, fit))); ran = λ _. p }
 
-pub is-refused : (before : Propagator) (es ls : List ℤ) (bars : Bool) (r : Precedences) (es′ : List ℤ) → (inputNumber before es ls bars ≡ 0 → ⊥) → precedencesNumbers r ≡ refusedBy (inputNumber before es ls bars) → es′ ≡ es → RanPrecedences before es ls bars r es′
+pub is-refused : (before : DisjunctivePropagator) (es ls : List ℤ) (bars : Bool) (r : Precedences) (es′ : List ℤ) → (inputNumber before es ls bars ≡ 0 → ⊥)
+    → precedencesNumbers r ≡ refusedBy (inputNumber before es ls bars) → es′ ≡ es → RanPrecedences before es ls bars r es′
 is-refused before es ls bars r es′ h z y = record { refused = λ _. record { answer = z; starts = y }; ran = λ e. absurd (h e) }

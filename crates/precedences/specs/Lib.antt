@@ -1,3 +1,11 @@
+pub mod Predecessors
+pub mod PredecessorArrays
+pub mod PredecessorExamples
 pub mod Numbers
 pub mod Precedences
-pub mod TaskArrays
+pub mod PassArrays
+pub mod ReasonNumbers
+pub mod Bounds
+pub mod Reasons
+pub mod ReasonArrays
+pub mod ReasonExamples

@@ -9,10 +9,10 @@ use lib.Signed.{_≤ℤ_, _<ℤ_}
 use lib.ListN.{length, getD}
 use Rattle.integers.specs.Answers.{answered, refusedBy}
 use Rattle.scheduling.specs.Scheduling.{whole, Tasks, Largest, Schedule}
-use Rattle.records.specs.declared.record.Propagator.{Propagator}
+use Rattle.records.specs.declared.record.DisjunctivePropagator.{DisjunctivePropagator}
 use Rattle.records.specs.Records.{tasksIn}
-use Rattle.input_refusals.specs.Refusals.{inputNumber}
-use Rattle.predecessors.specs.Predecessors.{AllBefore, PrecedenceBound}
+use Rattle.records.specs.Refusals.{inputNumber}
+use Rattle.precedences.specs.Predecessors.{AllBefore, PrecedenceBound}
 use Rattle.precedences.specs.declared.answers.Precedences.{Precedences}
 use Rattle.precedences.specs.Numbers.{precedencesNumbers}
 
@@ -48,6 +48,6 @@ pub record KeptStarts (es : List ℤ) (number : ℕ) (r : Precedences) (es′ : 
   pub starts : es′ ≡ es
 
 -- The pass is told whether the bars of its ranges fit. The first of a run's tests on the record and its ranges that fails refuses it.
-pub record RanPrecedences (before : Propagator) (es ls : List ℤ) (bars : Bool) (r : Precedences) (es′ : List ℤ) : Type 0 where
+pub record RanPrecedences (before : DisjunctivePropagator) (es ls : List ℤ) (bars : Bool) (r : Precedences) (es′ : List ℤ) : Type 0 where
   pub refused : (inputNumber before es ls bars ≡ 0 → ⊥) → KeptStarts es (inputNumber before es ls bars) r es′
   pub ran : inputNumber before es ls bars ≡ 0 → LeftPrecedences (tasksIn before es ls) es r es′

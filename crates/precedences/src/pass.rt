@@ -1,20 +1,20 @@
 // The pass: every bound is taken from the ranges at entry; where none passes a latest start, the earliest starts are raised.
 use crate::answers::Precedences;
-use input_refusals::input_refusal;
+use crate::predecessors::bound_of;
 use integers::limits::TASKS;
-use integers::start_of;
-use predecessors::predecessors::bound_of;
-use records::record::Propagator;
-use sorts::orders::moments_of;
+use integers::moments::moments_of;
+use integers::moments::start_of;
+use records::record::DisjunctivePropagator;
+use records::refusals::input_refusal;
 ghost use mathlib.Core.Path.{_≡_};
 ghost use Prim.Native.Nat.{_≤_};
 ghost use lib.ListN.{length};
-ghost use Rattle.integers.specs.Filling.{filled, noTasks};
+ghost use Rattle.integers.specs.FilledLists.{filled, noTasks};
 ghost use Rattle.integers.specs.Limits.{TASKS};
 ghost use Rattle.records.specs.Records.{tasksIn};
-ghost use Rattle.input_refusals.specs.Refusals.{AcceptedInput};
-ghost use Rattle.predecessors.specs.TaskArrays.{startAt, Ranged};
-ghost use Rattle.precedences.specs.TaskArrays.{raisedAt, FirstPast};
+ghost use Rattle.records.specs.Refusals.{AcceptedInput};
+ghost use Rattle.precedences.specs.PredecessorArrays.{startAt, Ranged};
+ghost use Rattle.precedences.specs.PassArrays.{raisedAt, FirstPast};
 ghost use Rattle.precedences.specs.Precedences.{LeftPrecedences, RanPrecedences};
 
 // Each of n tasks' earliest start or bound, whichever is later.
@@ -65,7 +65,7 @@ fn store(earliest: &mut [i32], raised: &[u32; TASKS])
 }
 
 // The pass on a record and ranges that nothing refuses.
-fn accepted(record: Propagator, earliest: &mut [i32], latest: &[i32]) -> Precedences
+fn accepted(record: DisjunctivePropagator, earliest: &mut [i32], latest: &[i32]) -> Precedences
     requires { ⌜ AcceptedInput «record» (now earliest) (now latest) ⌝ }
     ensures { λ r. ⌜ LeftPrecedences (tasksIn «record» (now (earliest .entry)) (now (latest .entry))) (now (earliest .entry)) r (now (earliest .exit)) ⌝ }
 {
@@ -86,7 +86,7 @@ fn accepted(record: Propagator, earliest: &mut [i32], latest: &[i32]) -> Precede
 
 // Raises each earliest start to the ect of the tasks that must come before its task, where that is later. The call is told whether the bars of the ranges fit.
 pub fn precedences(
-    record: Propagator,
+    record: DisjunctivePropagator,
     earliest: &mut [i32],
     latest: &[i32],
     bars_fit: bool,

@@ -1,5 +1,4 @@
 -- A run or a mirrored pass that answers a kind below 3, or makes a post, was not refused.
--- Assumes nothing.
 use mathlib.Core.Path.{_≡_, ap}
 use Prim.Native.Nat.{ℕ, _<_}
 use native.Mathlib.Omega.{arith}

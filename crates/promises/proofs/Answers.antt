@@ -1,5 +1,4 @@
 -- What a caller reads of an answer and of the words beside it is what stands in the trace that they are of.
--- Assumes nothing.
 use mathlib.Core.Path.{_≡_, sym, ap, subst, _∙_}
 use mathlib.Core.List.{List}
 use mathlib.Core.Logic.{⊎-elim}
@@ -13,14 +12,14 @@ use Rattle.integers.proofs.Bools.{bool}
 use Rattle.scheduling.specs.Words.{atomWords}
 use Rattle.runs.specs.Traces.{Trace, done}
 use Rattle.runs.specs.Demand.{post}
-use Rattle.atoms.specs.Atoms.{atomsOf}
-use Rattle.atoms.proofs.Atoms.{atoms-words}
+use Rattle.checking.specs.Atoms.{atomsOf}
+use Rattle.checking.proofs.Atoms.{atoms-words}
 use Rattle.post_words.specs.Posts.{taskWord, taskOf, boundOf, postNumber, reasonWords}
 use Rattle.runs.specs.declared.outcome.Outcome.{Outcome}
 use Rattle.runs.specs.Outcomes.{outcomeNumbers, valueOf}
 use Rattle.runs.specs.EndNumbers.{traceNumbers}
-use Rattle.runs.proofs.Answering.{posts-made, kind-done, kind-overload}
-use Rattle.propagator.proofs.Handing.{Handed}
+use Rattle.runs.proofs.TraceNumbers.{posts-made, kind-done, kind-overload}
+use Rattle.propagator.proofs.ReadTrace.{Handed}
 use Rattle.promises.specs.Promise.{reasonOf, overloadOf}
 
 module _ (t : Trace) (answer : Outcome) (is : outcomeNumbers answer ≡ traceNumbers t) where

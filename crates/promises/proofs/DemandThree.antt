@@ -1,5 +1,4 @@
 -- The open run's contract says every sentence of demand 3, and the check's that a passed check is right.
--- Assumes nothing.
 use mathlib.Core.Path.{_≡_, subst, _∙_}
 use mathlib.Core.Logic.{_⊎_, inl, inr, ⊎-elim, _↔_}
 use mathlib.Core.List.{List}
@@ -12,14 +11,14 @@ use lib.Signed.{_≤ℤ_, _<ℤ_}
 use Rattle.integers.proofs.Ints.{ints, ≤ℤ-cases}
 use Rattle.scheduling.specs.Scheduling.{whole, Tasks, TaskSet, Largest, Overloads, EdgeFindingBound, Atom}
 use Rattle.post_words.specs.Posts.{taskOf, boundOf}
-use Rattle.records.specs.declared.record.Propagator.{Propagator}
+use Rattle.records.specs.declared.record.DisjunctivePropagator.{DisjunctivePropagator}
 use Rattle.checker.specs.declared.checker.Verdict.{Verdict}
 use Rattle.checker.specs.Checked.{Checked}
 use Rattle.runs.specs.declared.outcome.Outcome.{Outcome}
 use Rattle.runs.specs.Outcomes.{outcomeNumbers, valueOf}
-use Rattle.barred_starts.specs.declared.range.Range.{Range}
-use Rattle.barred_starts.specs.Permitted.{FirstPermitted}
-use Rattle.barred_starts.specs.Ranges.{earliests, anyRange}
+use Rattle.ranges.specs.declared.range.Range.{Range}
+use Rattle.ranges.specs.Permitted.{FirstPermitted}
+use Rattle.ranges.specs.Ranges.{earliests, anyRange}
 use Rattle.promises.specs.Promise.{tasksLent, Reason, Promise}
 use Rattle.promises.specs.RanLent.{lentNumber, RanLent}
 use Rattle.promises.specs.DemandThree.{PassedMeans, GoodReason, DemandThree, NothingAltered}
@@ -27,7 +26,7 @@ use Rattle.promises.specs.DemandThree.{PassedMeans, GoodReason, DemandTh
 pub passed-means : {ds premises consequent : List ℤ} {v : Verdict} → Checked ds premises consequent v → PassedMeans ds premises consequent v
 passed-means checked = checked .sound
 
-module _ (before : Propagator) (ranges : List Range) (answer : Outcome) (ranges′ : List Range) (posts atoms : List ℤ) (p : Promise before ranges answer ranges′ posts atoms) where
+module _ (before : DisjunctivePropagator) (ranges : List Range) (answer : Outcome) (ranges′ : List Range) (posts atoms : List ℤ) (p : Promise before ranges answer ranges′ posts atoms) where
   abbrev J : Tasks whole
   J = tasksLent before ranges
 
@@ -43,7 +42,8 @@ module _ (before : Propagator) (ranges : List Range) (answer : Outcome) (ranges�
     λ f. p .exactly .1 (λ c. ⊎-elim (λ o. f .0 (o .0) (o .1)) (λ o. let (i, b, e, y) = o in omega (ints, f .1 i b e, y)) c),
   )
 
-  starts : kind ≡ 0 → (k : ℕ) → k < J .count → (v : ℤ) → Largest whole (λ w. (J .earliest k ≡ w) ⊎ EdgeFindingBound J k w) v → FirstPermitted (getD ranges k anyRange) v (getD (earliests ranges′) k (pos 0))
+  starts : kind ≡ 0 → (k : ℕ) → k < J .count → (v : ℤ) → Largest whole (λ w. (J .earliest k ≡ w) ⊎ EdgeFindingBound J k w) v
+      → FirstPermitted (getD ranges k anyRange) v (getD (earliests ranges′) k (pos 0))
   starts z k q v l =
       let d = p .when-done z in
       let largest = d .done .starts k q in
@@ -88,7 +88,7 @@ module _ (before : Propagator) (ranges : List Range) (answer : Outcome) (ranges�
     overload = λ k. good _ _ (p .overload k .reason);
   }
 
-module _ {before : Propagator} {ranges : List Range} {posts atoms : List ℤ} {answer : Outcome} {changed : ℕ} {after : Propagator} {ranges′ : List Range} {posts′ atoms′ : List ℤ}
+module _ {before : DisjunctivePropagator} {ranges : List Range} {posts atoms : List ℤ} {answer : Outcome} {changed : ℕ} {after : DisjunctivePropagator} {ranges′ : List Range} {posts′ atoms′ : List ℤ}
     (ran : RanLent before ranges posts atoms answer changed after ranges′ posts′ atoms′) where
   pub demand-three : lentNumber before ranges posts atoms ≡ 0 → DemandThree before ranges answer ranges′ posts′ atoms′
   demand-three z = said before ranges answer ranges′ posts′ atoms′ (ran .accepted z .promise)

@@ -1,5 +1,4 @@
 -- A reason that was kept stays true, whatever the ranges are later: a post's, and an overload's, of a run and of a mirrored pass.
--- Assumes nothing.
 use mathlib.Core.Path.{_≡_, sym, subst}
 use mathlib.Core.List.{List, [], map}
 use mathlib.Core.Logic.{inl, inr, ⊎-elim}
@@ -12,20 +11,20 @@ use lib.Signed.{_≤ℤ_}
 use Rattle.integers.specs.Answers.{answered}
 use Rattle.integers.proofs.Ints.{ints, ≤ℤ-cases, equalℤ}
 use Rattle.scheduling.specs.Scheduling.{whole, Tasks, NoOverlap, Atom, Compares, Unmet, Contradicts}
-use Rattle.atoms.specs.Atoms.{atomsOf, consequentOf}
-use Rattle.atoms.proofs.Atoms.{every-map}
-use Rattle.records.specs.declared.record.Propagator.{Propagator}
+use Rattle.checking.specs.Atoms.{atomsOf, consequentOf}
+use Rattle.scheduling.proofs.Every.{every-map}
+use Rattle.records.specs.declared.record.DisjunctivePropagator.{DisjunctivePropagator}
 use Rattle.records.proofs.Creation.{natural-count, natural-duration}
 use Rattle.checker.specs.declared.checker.Verdict.the-variants.{Passed}
 use Rattle.checker.specs.Verdicts.{verdictNumbers}
 use Rattle.checker.specs.Checks.{checkOf, consequentWords, tasksWith}
 use Rattle.checker.specs.MirroredChecks.{checkMirroredOf}
-use Rattle.checker.proofs.Apart.{verdicts-apart}
+use Rattle.checker.proofs.VerdictNumbers.{verdicts-apart}
 use Rattle.checker.proofs.Reasons.{consequent-back}
 use Rattle.checker.proofs.Soundness.{check-sound, mirrored-sound}
 use Rattle.runs.specs.declared.outcome.Outcome.{Outcome}
 use Rattle.runs.specs.Outcomes.{outcomeNumbers, valueOf}
-use Rattle.barred_starts.specs.declared.range.Range.{Range}
+use Rattle.ranges.specs.declared.range.Range.{Range}
 use Rattle.promises.specs.Promise.{tasksLent, reasonOf, overloadOf}
 use Rattle.promises.specs.RanLent.{lentNumber, RanLent}
 use Rattle.promises.specs.RanMirroredLent.{RanMirroredLent}
@@ -52,7 +51,7 @@ module _ (J K : Tasks whole) (count : J .count ≡ K .count) (duration : (k : �
       ends j k = subst (λ (n : ℕ). (s j +ℤ pos n) ≤ℤ s k) (duration j)
 
 -- a reason that no starts contradict in a check
-module _ (before : Propagator) (words : List ℤ) (consequent : Option Atom) where
+module _ (before : DisjunctivePropagator) (words : List ℤ) (consequent : Option Atom) where
   abbrev ds : List ℕ
   ds = take (before .count) (before .durations)
 
@@ -71,7 +70,7 @@ passed-mirrored : (ds ps cs : List ℤ) → verdictNumbers (checkMirroredOf ds p
 passed-mirrored ds ps cs e = mirrored-sound ds ps cs (verdicts-apart (checkMirroredOf ds ps cs) Passed e)
 
 -- ---- a run
-module _ (before : Propagator) (ranges : List Range) (posts atoms : List ℤ) (answer : Outcome) (changed : ℕ) (after : Propagator) (ranges′ : List Range) (posts′ atoms′ : List ℤ)
+module _ (before : DisjunctivePropagator) (ranges : List Range) (posts atoms : List ℤ) (answer : Outcome) (changed : ℕ) (after : DisjunctivePropagator) (ranges′ : List Range) (posts′ atoms′ : List ℤ)
     (ran : RanLent before ranges posts atoms answer changed after ranges′ posts′ atoms′) where
   pub post-stays : (j : ℕ) → j < valueOf answer 0 → StaysTrue before (reasonOf answer posts′ atoms′ j) (some (says posts′ j))
   post-stays j q =
@@ -84,7 +83,7 @@ module _ (before : Propagator) (ranges : List Range) (posts atoms : List ℤ) (a
       uncontradicted before _ none (passed-sound _ _ _ (ran .accepted z .promise .overload k .reason .passes))
 
 -- ---- a mirrored pass
-module _ (before : Propagator) (ranges : List Range) (posts atoms : List ℤ) (answer : Outcome) (ranges′ : List Range) (posts′ atoms′ : List ℤ)
+module _ (before : DisjunctivePropagator) (ranges : List Range) (posts atoms : List ℤ) (answer : Outcome) (ranges′ : List Range) (posts′ atoms′ : List ℤ)
     (ran : RanMirroredLent before ranges posts atoms answer ranges′ posts′ atoms′) where
   pub mirrored-post-stays : (j : ℕ) → j < valueOf answer 0 → StaysTrue before (reasonOf answer posts′ atoms′ j) (some (saysMirrored posts′ j))
   mirrored-post-stays j q =

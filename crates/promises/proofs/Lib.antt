@@ -1,11 +1,11 @@
 pub mod Answers
 pub mod Largest
-pub mod Firsts
+pub mod StoredStarts
 pub mod ReasonsPass
 pub mod MirroredReasonsPass
-pub mod Promising
-pub mod MirroredPromising
-pub mod Lent
+pub mod PromiseKept
+pub mod MirroredPromiseKept
+pub mod LentRanges
 pub mod PrecedencesLent
 pub mod PrecedencesEnd
 pub mod Series

@@ -1,5 +1,4 @@
 -- The open mirrored pass's contract says every sentence of demand 3, turned to latest starts.
--- Assumes nothing.
 use mathlib.Core.Path.{_≡_, subst, _∙_}
 use mathlib.Core.Logic.{_⊎_, inl, inr, ⊎-elim, _↔_}
 use mathlib.Core.List.{List}
@@ -11,16 +10,16 @@ use lib.ListN.{getD}
 use lib.Signed.{_≤ℤ_, _<ℤ_}
 use Rattle.integers.proofs.Ints.{ints, ≤ℤ-cases}
 use Rattle.scheduling.specs.Scheduling.{whole, Tasks, TaskSet, Least, Overloads, Atom}
-use Rattle.scheduling.specs.Mirroring.{MirroredBound}
+use Rattle.scheduling.specs.MirroredTime.{MirroredBound}
 use Rattle.post_words.specs.Posts.{taskOf, boundOf}
-use Rattle.records.specs.declared.record.Propagator.{Propagator}
+use Rattle.records.specs.declared.record.DisjunctivePropagator.{DisjunctivePropagator}
 use Rattle.checker.specs.declared.checker.Verdict.{Verdict}
 use Rattle.checker.specs.Checked.{CheckedMirrored}
 use Rattle.runs.specs.declared.outcome.Outcome.{Outcome}
 use Rattle.runs.specs.Outcomes.{outcomeNumbers, valueOf}
-use Rattle.barred_starts.specs.declared.range.Range.{Range}
-use Rattle.barred_starts.specs.Permitted.{LastPermitted}
-use Rattle.barred_starts.specs.Ranges.{latests, anyRange}
+use Rattle.ranges.specs.declared.range.Range.{Range}
+use Rattle.ranges.specs.Permitted.{LastPermitted}
+use Rattle.ranges.specs.Ranges.{latests, anyRange}
 use Rattle.promises.specs.Promise.{tasksLent}
 use Rattle.promises.specs.MirroredPromise.{MirroredReason, MirroredPromise}
 use Rattle.promises.specs.RanLent.{lentNumber}
@@ -31,7 +30,7 @@ use Rattle.promises.specs.MirroredDemand.{GoodMirroredReason, MirroredDe
 pub mirrored-passed-means : {ds premises consequent : List ℤ} {v : Verdict} → CheckedMirrored ds premises consequent v → PassedMeans ds premises consequent v
 mirrored-passed-means checked = checked .sound
 
-module _ (before : Propagator) (ranges : List Range) (answer : Outcome) (ranges′ : List Range) (posts atoms : List ℤ) (p : MirroredPromise before ranges answer ranges′ posts atoms) where
+module _ (before : DisjunctivePropagator) (ranges : List Range) (answer : Outcome) (ranges′ : List Range) (posts atoms : List ℤ) (p : MirroredPromise before ranges answer ranges′ posts atoms) where
   abbrev J : Tasks whole
   J = tasksLent before ranges
 
@@ -92,7 +91,8 @@ module _ (before : Propagator) (ranges : List Range) (answer : Outcome) (ranges�
     overload = λ k. good _ _ (p .overload k .reason);
   }
 
-module _ {before : Propagator} {ranges : List Range} {posts atoms : List ℤ} {answer : Outcome} {ranges′ : List Range} {posts′ atoms′ : List ℤ} (ran : RanMirroredLent before ranges posts atoms answer ranges′ posts′ atoms′) where
+module _ {before : DisjunctivePropagator} {ranges : List Range} {posts atoms : List ℤ} {answer : Outcome} {ranges′ : List Range} {posts′ atoms′ : List ℤ}
+    (ran : RanMirroredLent before ranges posts atoms answer ranges′ posts′ atoms′) where
   pub mirrored-demand : lentNumber before ranges posts atoms ≡ 0 → MirroredDemand before ranges answer ranges′ posts′ atoms′
   mirrored-demand z = said before ranges answer ranges′ posts′ atoms′ (ran .accepted z .promise)
 

@@ -1,5 +1,4 @@
 -- The trace of an accepted mirrored pass is right, and every reason of it passes the mirrored check.
--- Assumes nothing.
 use mathlib.Core.Path.{_≡_, sym, subst, fun-ext, _∙_}
 use mathlib.Core.List.{List, [], _∷_}
 use mathlib.Core.Option.{Option, some, none}
@@ -11,26 +10,26 @@ use lib.Signed.{_≤ℤ_, _<ℤ_, ≤ℤ-refl}
 use Rattle.integers.specs.Limits.{TASKS, START, MIRRORED}
 use Rattle.integers.specs.Tests.{refusal}
 use Rattle.integers.proofs.Ints.{ints, up, dn, sumℤ}
-use Rattle.integers.proofs.Moments.{at-moment}
+use Rattle.integers.proofs.MomentSums.{at-moment}
 use Rattle.scheduling.specs.Scheduling.{whole, Tasks, Atom, Meets, Every, HoldsAtEntry, given, negation, PassesFormula}
-use Rattle.scheduling.specs.Mirroring.{mirror, mirrorKind, mirrorAtom, mirrorAtoms}
+use Rattle.scheduling.specs.MirroredTime.{mirror, mirrorKind, mirrorAtom, mirrorAtoms}
 use Rattle.scheduling.specs.Words.{atomWords}
-use Rattle.scheduling.proofs.Passed.{every-append}
+use Rattle.scheduling.proofs.Every.{every-append}
 use Rattle.runs.specs.Traces.{Post, Trace, overload}
 use Rattle.runs.specs.Demand.{consequentOf, post}
 use Rattle.runs.specs.Mirrored.{durationIn, mirrorPost, mirroredRun, mirroredConsequent, MirroredPostRight, MirroredRight}
 use Rattle.runs.specs.MirroredWords.{Near}
 use Rattle.runs.proofs.Demand as demand
 use Rattle.runs.proofs.Mirrored as laws
-use Rattle.records.specs.declared.record.Propagator.{Propagator}
+use Rattle.records.specs.declared.record.DisjunctivePropagator.{DisjunctivePropagator}
 use Rattle.records.specs.Records.{durationAt, creationTests, tasksIn}
-use Rattle.input_refusals.specs.Refusals.{Accepted}
+use Rattle.records.specs.Refusals.{Accepted}
 use Rattle.records.proofs.Creation.{natural-count, natural-duration, natural-accepted}
 use Rattle.checker.specs.declared.checker.Verdict.the-variants.{Passed}
 use Rattle.checker.specs.Checks.{consequentWords, tasksWith}
 use Rattle.checker.specs.MirroredChecks.{mirrorIfAny, checkMirroredOf}
 use Rattle.checker.proofs.Reasons.{Bound, BoundIfAny, mirrored-reason-check, passes-alike, meets-admits}
-use Rattle.propagator.proofs.Accepting.{count, narrow}
+use Rattle.propagator.proofs.AcceptedInput.{count, narrow}
 use Rattle.mirrored.specs.RanMirrored.{mirroredOf}
 use Rattle.promises.specs.Promise.{checkDurations}
 
@@ -57,7 +56,7 @@ above-bound : (u b : ℤ) → b <ℤ u → (b +ℤ pos 1) ≤ℤ u
 unfolding up dn
 above-bound u b h = omega (ints, sumℤ b (pos 1))
 
-module _ (before : Propagator) (es ls : List ℤ) (posts atoms : ℕ) (a : Accepted before es ls posts atoms) where
+module _ (before : DisjunctivePropagator) (es ls : List ℤ) (posts atoms : ℕ) (a : Accepted before es ls posts atoms) where
   abbrev ds : List ℕ
   ds = take (before .count) (before .durations)
 
@@ -93,7 +92,8 @@ module _ (before : Propagator) (es ls : List ℤ) (posts atoms : ℕ) (a : Accep
 
   -- a reason told in the caller's time, of atoms r of the run
   checked : (r : List Atom) (c : Option Atom) → Every (Near ds) r → length r ≤ 2 * length ds → BoundIfAny c → let reason = mirrorAtoms (durationIn ds) r in
-      Every (Meets (J .latest)) (given reason c) → PassesFormula (mirror J) (mirrorAtoms (J .duration) reason) (mirrorIfAny (J .duration) c) → checkMirroredOf (checkDurations before) (atomWords reason) (consequentWords c) ≡ Passed
+      Every (Meets (J .latest)) (given reason c) → PassesFormula (mirror J) (mirrorAtoms (J .duration) reason) (mirrorIfAny (J .duration) c)
+      → checkMirroredOf (checkDurations before) (atomWords reason) (consequentWords c) ≡ Passed
   checked r c near few b m p =
       let reason = mirrorAtoms (durationIn ds) r in
       mirrored-reason-check (checkDurations before) reason c lawful (omega (arith, length-map r (mirrorAtom (durationIn ds)), few, accepted .few)) (all-bound ds (accepted .few) r near) b

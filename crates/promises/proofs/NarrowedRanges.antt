@@ -1,16 +1,15 @@
 -- A plan stays one where ranges change their ends alone, and none past a start of the plan.
--- Assumes nothing.
 use mathlib.Core.Path.{_≡_, sym, ap, ap₂, subst, _∙_}
 use mathlib.Core.List.{List, map}
 use Prim.Native.Nat.{ℕ, _<_}
 use lib.IntN.{ℤ}
 use lib.ListN.{getD, take, List·getD-map}
 use lib.Signed.{_≤ℤ_}
-use Rattle.holes.specs.Holes.{has}
-use Rattle.records.specs.declared.record.Propagator.{Propagator}
-use Rattle.barred_starts.specs.declared.range.Range.{Range}
-use Rattle.barred_starts.specs.Bars.{barsOf}
-use Rattle.barred_starts.specs.Ranges.{counts, places, anyRange}
+use Rattle.integers.specs.WholeNumbers.{has}
+use Rattle.records.specs.declared.record.DisjunctivePropagator.{DisjunctivePropagator}
+use Rattle.ranges.specs.declared.range.Range.{Range}
+use Rattle.ranges.specs.Bars.{barsOf}
+use Rattle.ranges.specs.Ranges.{counts, places, anyRange}
 use Rattle.promises.specs.Promise.{tasksLent}
 use Rattle.promises.specs.Planner.{Plan}
 
@@ -24,8 +23,9 @@ module _ (ranges ranges′ : List Range) (same-counts : counts ranges′ ≡ cou
       (field (λ y. y .count) ranges′ k ∙ ap (λ (l : List ℕ). getD l k 0) same-counts ∙ sym (field (λ y. y .count) ranges k))
       (field (λ y. y .barred) ranges′ k ∙ ap (λ (l : List (List ℤ)). getD l k (anyRange .barred)) same-places ∙ sym (field (λ y. y .barred) ranges k))
 
-  pub still-plan : (tasks : Propagator) (s : ℕ → ℤ) → Plan tasks ranges s
-      → ((k : ℕ) → k < tasksLent tasks ranges .count → tasksLent tasks ranges′ .earliest k ≤ℤ s k) → ((k : ℕ) → k < tasksLent tasks ranges .count → s k ≤ℤ tasksLent tasks ranges′ .latest k) → Plan tasks ranges′ s
+  pub still-plan : (tasks : DisjunctivePropagator) (s : ℕ → ℤ) → Plan tasks ranges s
+      → ((k : ℕ) → k < tasksLent tasks ranges .count → tasksLent tasks ranges′ .earliest k ≤ℤ s k) → ((k : ℕ) → k < tasksLent tasks ranges .count → s k ≤ℤ tasksLent tasks ranges′ .latest k)
+      → Plan tasks ranges′ s
   still-plan tasks s p from to = record {
     schedule = record { from = from; to = to; apart = p .schedule .apart };
     permitted = λ k q. record {

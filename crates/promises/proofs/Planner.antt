@@ -1,5 +1,4 @@
 -- No plan is lost: over any passes, each on what the one before left, every plan of the first ranges is one of the last.
--- Assumes nothing.
 use mathlib.Core.Path.{_≡_, sym, ap, subst, _∙_}
 use mathlib.Core.List.{List}
 use mathlib.Core.Logic.{_⊎_, ⊎-elim}
@@ -10,12 +9,12 @@ use lib.IntN.{ℤ, pos}
 use lib.ListN.{getD}
 use lib.Signed.{_≤ℤ_}
 use Rattle.integers.specs.Answers.{Answer}
-use Rattle.records.specs.declared.record.Propagator.{Propagator}
+use Rattle.records.specs.declared.record.DisjunctivePropagator.{DisjunctivePropagator}
 use Rattle.runs.specs.declared.outcome.Outcome.{Outcome}
 use Rattle.precedences.specs.declared.answers.Precedences.{Precedences}
-use Rattle.barred_starts.specs.declared.range.Range.{Range}
-use Rattle.barred_starts.specs.Ranges.{latests, counts, places}
-use Rattle.barred_starts.proofs.Storing.{latests-with, counts-with, places-with}
+use Rattle.ranges.specs.declared.range.Range.{Range}
+use Rattle.ranges.specs.Ranges.{latests, counts, places}
+use Rattle.ranges.proofs.StoredStarts.{latests-with, counts-with, places-with}
 use Rattle.promises.specs.Promise.{tasksLent}
 use Rattle.promises.specs.RanLent.{lentNumber, RanLent}
 use Rattle.promises.specs.RanMirroredLent.{RanMirroredLent}
@@ -26,16 +25,18 @@ use Rattle.promises.proofs.NarrowedRanges.{still-plan}
 use Rattle.promises.proofs.PrecedencesEnd.{pass-ends}
 
 -- where nothing changes nothing is lost
-same-plan : (tasks : Propagator) {ranges ranges′ : List Range} → ranges′ ≡ ranges → NoPlanLost tasks ranges tasks ranges′
+same-plan : (tasks : DisjunctivePropagator) {ranges ranges′ : List Range} → ranges′ ≡ ranges → NoPlanLost tasks ranges tasks ranges′
 same-plan tasks e s p = subst (λ (ys : List Range). Plan tasks ys s) (sym e) p
 
 -- ---- one pass
-module _ (before : Propagator) (ranges ranges′ : List Range) where
-  run-keeps : {posts atoms posts′ atoms′ : List ℤ} {answer : Outcome} {changed : ℕ} {after : Propagator} → RanLent before ranges posts atoms answer changed after ranges′ posts′ atoms′ → NoPlanLost before ranges after ranges′
-  run-keeps {posts} {atoms} ran s p = subst (λ (r : Propagator). Plan r ranges′ s) (sym (ran .same-record)) (elim (ℕ-discrete (lentNumber before ranges posts atoms) 0) [
+module _ (before : DisjunctivePropagator) (ranges ranges′ : List Range) where
+  run-keeps : {posts atoms posts′ atoms′ : List ℤ} {answer : Outcome} {changed : ℕ} {after : DisjunctivePropagator} → RanLent before ranges posts atoms answer changed after ranges′ posts′ atoms′
+      → NoPlanLost before ranges after ranges′
+  run-keeps {posts} {atoms} ran s p = subst (λ (r : DisjunctivePropagator). Plan r ranges′ s) (sym (ran .same-record)) (elim (ℕ-discrete (lentNumber before ranges posts atoms) 0) [
     | yes z ↦
         let a = ran .accepted z .promise in
-        still-plan ranges ranges′ (a .same-counts) (a .same-places) before s p (a .none-lost s p) (λ k q. subst (λ (ls : List ℤ). s k ≤ℤ getD ls k (pos 0)) (sym (a .same-latest)) (p .schedule .to k q))
+        still-plan ranges ranges′ (a .same-counts) (a .same-places) before s p (a .none-lost s p)
+        (λ k q. subst (λ (ls : List ℤ). s k ≤ℤ getD ls k (pos 0)) (sym (a .same-latest)) (p .schedule .to k q))
     | no n ↦ same-plan before (ran .refused n .same-ranges) s p
   ])
 
@@ -43,7 +44,8 @@ module _ (before : Propagator) (ranges ranges′ : List Range) where
   mirrored-keeps {posts} {atoms} ran s p = elim (ℕ-discrete (lentNumber before ranges posts atoms) 0) [
     | yes z ↦
         let a = ran .accepted z .promise in
-        still-plan ranges ranges′ (a .same-counts) (a .same-places) before s p (λ k q. subst (λ (es : List ℤ). getD es k (pos 0) ≤ℤ s k) (sym (a .same-earliest)) (p .schedule .from k q)) (a .none-lost s p)
+        still-plan ranges ranges′ (a .same-counts) (a .same-places) before s p (λ k q. subst (λ (es : List ℤ). getD es k (pos 0) ≤ℤ s k) (sym (a .same-earliest)) (p .schedule .from k q))
+        (a .none-lost s p)
     | no n ↦ same-plan before (ran .refused n .same-ranges) s p
   ]
 
@@ -60,13 +62,13 @@ module _ (before : Propagator) (ranges ranges′ : List Range) where
     | no n ↦ same-plan before (ran .refused n .same-ranges) s p
   ]
 
-pass-keeps : {before after : Propagator} {ranges ranges′ : List Range} → Pass before ranges after ranges′ → NoPlanLost before ranges after ranges′
+pass-keeps : {before after : DisjunctivePropagator} {ranges ranges′ : List Range} → Pass before ranges after ranges′ → NoPlanLost before ranges after ranges′
 pass-keeps {before} {after} {ranges} {ranges′} (run posts atoms answer changed posts′ atoms′ ran) = run-keeps before ranges ranges′ ran
 pass-keeps {before} {after} {ranges} {ranges′} (mirrored posts atoms answer posts′ atoms′ ran) = mirrored-keeps before ranges ranges′ ran
 pass-keeps {before} {after} {ranges} {ranges′} (precedences answer ran) = precedences-keep before ranges ranges′ ran
 
 -- ---- any passes
-pub no-plan-lost : {first last : Propagator} {ranges ranges′ : List Range} → Passes first ranges last ranges′ → NoPlanLost first ranges last ranges′
+pub no-plan-lost : {first last : DisjunctivePropagator} {ranges ranges′ : List Range} → Passes first ranges last ranges′ → NoPlanLost first ranges last ranges′
 no-plan-lost start s p = p
 no-plan-lost (next passes pass) s p = pass-keeps pass s (no-plan-lost passes s p)
 
@@ -74,7 +76,7 @@ no-plan-lost (next passes pass) s p = pass-keeps pass s (no-plan-lost passes s p
 not-done : {kind : ℕ} → (kind ≡ 1) ⊎ (kind ≡ 2) → (kind < 3) × (kind ≡ 0 → ⊥)
 not-done f = (⊎-elim (λ e. omega arith) (λ e. omega arith) f, λ z. ⊎-elim (λ e. omega arith) (λ e. omega arith) f)
 
-failed : {before after : Propagator} {ranges ranges′ : List Range} (pass : Pass before ranges after ranges′) → Fails pass → NoPlan before ranges
+failed : {before after : DisjunctivePropagator} {ranges ranges′ : List Range} (pass : Pass before ranges after ranges′) → Fails pass → NoPlan before ranges
 failed {before} {after} {ranges} (run posts atoms answer changed posts′ atoms′ ran) f =
     ran .accepted (by-kind answer (lentNumber before ranges posts atoms) (λ n. ran .refused n .number) (not-done f .0)) .promise .otherwise-permitted (not-done f .1)
 failed {before} {after} {ranges} (mirrored posts atoms answer posts′ atoms′ ran) f =
@@ -85,5 +87,6 @@ failed {before} {after} {ranges} (precedences answer ran) f = elim (ℕ-discrete
 ]
 
 -- and so, by the passes before it, did the first.
-pub no-plan : {first before after : Propagator} {ranges ranges₁ ranges₂ : List Range} → Passes first ranges before ranges₁ → (pass : Pass before ranges₁ after ranges₂) → Fails pass → NoPlan first ranges
+pub no-plan : {first before after : DisjunctivePropagator} {ranges ranges₁ ranges₂ : List Range} → Passes first ranges before ranges₁ → (pass : Pass before ranges₁ after ranges₂) → Fails pass
+    → NoPlan first ranges
 no-plan passes pass f s p = failed pass f s (no-plan-lost passes s p)

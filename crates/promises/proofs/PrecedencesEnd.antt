@@ -1,5 +1,4 @@
 -- An accepted pass by precedences is Done, or it is Emptied with a task.
--- Assumes nothing.
 use mathlib.Core.Path.{_≡_, refl, ap}
 use mathlib.Core.List.{List, [], _∷_}
 use mathlib.Core.Logic.{_⊎_, inl, inr, ⊎-elim}
@@ -10,7 +9,7 @@ use lib.Signed.{_≤ℤ_}
 use Rattle.integers.specs.Answers.{Answer, answered}
 use Rattle.integers.proofs.Ints.{≤ℤ-cases}
 use Rattle.scheduling.specs.Scheduling.{whole, Tasks}
-use Rattle.predecessors.specs.Predecessors.{PrecedenceBound}
+use Rattle.precedences.specs.Predecessors.{PrecedenceBound}
 use Rattle.precedences.specs.declared.answers.Precedences.{Precedences}
 use Rattle.precedences.specs.declared.answers.Precedences.the-variants.{Done, Emptied, Refused}
 use Rattle.precedences.specs.Numbers.{precedencesNumbers}

@@ -1,5 +1,4 @@
 -- What the pass by precedences leaves of the ranges' numbers, once its starts are stored in the ranges, is what the open pass promises.
--- Assumes nothing.
 use mathlib.Core.Path.{_≡_, refl, ap, _∙_}
 use mathlib.Core.Bool.{true}
 use mathlib.Core.List.{List, []}
@@ -10,35 +9,36 @@ use lib.ListN.{length, getD}
 use lib.Signed.{_≤ℤ_}
 use Rattle.integers.specs.Answers.{answered}
 use Rattle.scheduling.specs.Scheduling.{whole, Tasks}
-use Rattle.records.specs.declared.record.Propagator.{Propagator}
-use Rattle.input_refusals.specs.Refusals.{AcceptedInput}
-use Rattle.input_refusals.proofs.Refused.{accepted-input}
+use Rattle.records.specs.declared.record.DisjunctivePropagator.{DisjunctivePropagator}
+use Rattle.records.specs.Refusals.{AcceptedInput}
+use Rattle.records.proofs.RefusedRuns.{accepted-input}
 use Rattle.precedences.specs.declared.answers.Precedences.{Precedences}
 use Rattle.precedences.specs.declared.answers.Precedences.the-variants.{Done, Emptied, Refused}
 use Rattle.precedences.specs.Numbers.{precedencesNumbers}
 use Rattle.precedences.specs.Precedences.{LeftPrecedences, RanPrecedences}
-use Rattle.barred_starts.specs.declared.range.Range.{Range}
-use Rattle.barred_starts.specs.Bars.{allBarsFit}
-use Rattle.barred_starts.specs.Permitted.{FirstPermitted, PermittedSchedule}
-use Rattle.barred_starts.specs.Ranges.{earliests, latests, anyRange, withStarts}
-use Rattle.barred_starts.proofs.Storing.{own-starts}
+use Rattle.ranges.specs.declared.range.Range.{Range}
+use Rattle.ranges.specs.Bars.{allBarsFit}
+use Rattle.ranges.specs.Permitted.{FirstPermitted, PermittedSchedule}
+use Rattle.ranges.specs.Ranges.{earliests, latests, anyRange, withStarts}
+use Rattle.ranges.proofs.StoredStarts.{own-starts}
 use Rattle.promises.specs.Promise.{tasksLent}
 use Rattle.promises.specs.PrecedencesLent.{AcceptedPrecedencesLent, PrecedencesLent}
 use Rattle.promises.proofs.Largest.{between}
-use Rattle.promises.proofs.Firsts.{few, moved-on}
+use Rattle.promises.proofs.StoredStarts.{few, moved-on}
 
 is-done : (r : Precedences) → precedencesNumbers r .kind ≡ 0 → precedencesNumbers r ≡ answered 0 []
 is-done Done z = refl
 is-done (Emptied i) z = absurd (omega (arith, z))
 is-done (Refused number) z = absurd (omega (arith, z))
 
-module _ (before : Propagator) (ys : List Range) (r : Precedences) (es′ : List ℤ) (size : length es′ ≡ length ys) where
+module _ (before : DisjunctivePropagator) (ys : List Range) (r : Precedences) (es′ : List ℤ) (size : length es′ ≡ length ys) where
   abbrev J : Tasks whole
   J = tasksLent before ys
 
   module _ (ok : AcceptedInput before (earliests ys) (latests ys)) (fit : allBarsFit ys ≡ true) (left : LeftPrecedences J (earliests ys) r es′) where
     first : precedencesNumbers r .kind ≡ 0 → (k : ℕ) → k < J .count → FirstPermitted (getD ys k anyRange) (getD es′ k (pos 0)) (getD (earliests (withStarts ys es′)) k (pos 0))
-    first z k q = moved-on before ys es′ (ok .counts) size k q fit (between (left .starts z k q) (left .done .0 (is-done r z) k q) (ok .ranges k (omega (arith, few before ys k q, ok .counts .earliest))))
+    first z k q = moved-on before ys es′ (ok .counts) size k q fit
+        (between (left .starts z k q) (left .done .0 (is-done r z) k q) (ok .ranges k (omega (arith, few before ys k q, ok .counts .earliest))))
 
     none-lost : precedencesNumbers r .kind ≡ 0 → (s : ℕ → ℤ) → PermittedSchedule J ys s → (k : ℕ) → k < J .count → getD (earliests (withStarts ys es′)) k (pos 0) ≤ℤ s k
     none-lost z s h k q = first z k q .bounds (s k) (h .permitted k q, left .holds z s (h .schedule) k q)

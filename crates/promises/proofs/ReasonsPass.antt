@@ -1,5 +1,4 @@
 -- The trace of an accepted run is right, and every reason of it passes the check.
--- Assumes nothing.
 use mathlib.Core.Path.{_≡_, sym, subst}
 use mathlib.Core.List.{List, [], _∷_}
 use mathlib.Core.Option.{Option, some, none}
@@ -12,26 +11,25 @@ use Rattle.integers.specs.Limits.{TASKS, START, DURATIONS, VALUE}
 use Rattle.integers.specs.Moments.{Above, zeroAt}
 use Rattle.integers.specs.Tests.{refusal}
 use Rattle.integers.proofs.Ints.{ints, up, dn, sumℤ, sub-law}
-use Rattle.integers.proofs.Moments.{plus-above}
+use Rattle.integers.proofs.MomentSums.{plus-above}
 use Rattle.scheduling.specs.Scheduling.{whole, natural, Tasks, tasksOf, Atom, Meets, Every, HoldsAtEntry, given, negation, PassesFormula}
 use Rattle.scheduling.specs.Moments.{moments}
 use Rattle.scheduling.specs.Words.{atomWords}
-use Rattle.scheduling.proofs.Passed.{every-append}
+use Rattle.scheduling.proofs.Every.{every-append, every-map}
 use Rattle.runs.specs.Traces.{Post, overload}
 use Rattle.runs.specs.Demand.{consequentOf, post, PostRight, Right}
 use Rattle.runs.proofs.Demand as demand
-use Rattle.runs.proofs.Shapes.{Shaped, post-shaped, overload-shaped}
-use Rattle.holes.specs.Holes.{Within}
-use Rattle.atoms.proofs.Atoms.{every-map}
-use Rattle.records.specs.declared.record.Propagator.{Propagator}
+use Rattle.runs.proofs.AtomShapes.{Shaped, post-shaped, overload-shaped}
+use Rattle.integers.specs.WholeNumbers.{Within}
+use Rattle.records.specs.declared.record.DisjunctivePropagator.{DisjunctivePropagator}
 use Rattle.records.specs.Records.{creationTests, tasksIn}
-use Rattle.input_refusals.specs.Refusals.{Accepted}
+use Rattle.records.specs.Refusals.{Accepted}
 use Rattle.records.proofs.Creation.{natural-count, natural-duration, natural-accepted}
 use Rattle.checker.specs.declared.checker.Verdict.the-variants.{Passed}
 use Rattle.checker.specs.Checks.{checkOf, tasksWith, consequentWords}
 use Rattle.checker.proofs.Reasons.{Bound, BoundIfAny, reason-check, passes-alike, meets-admits}
 use Rattle.propagator.specs.Ran.{traceOf}
-use Rattle.propagator.proofs.Accepting.{narrow}
+use Rattle.propagator.proofs.AcceptedInput.{narrow}
 use Rattle.promises.specs.Promise.{checkDurations}
 
 -- an atom near the starts of at most TASKS tasks is within the limits of a check
@@ -48,7 +46,7 @@ below-bound : (u b : ℤ) → u <ℤ b → u ≤ℤ (b +ℤ negsuc 0)
 unfolding up dn
 below-bound u b h = omega (ints, sumℤ b (negsuc 0))
 
-module _ (before : Propagator) (es ls : List ℤ) (posts atoms : ℕ) (a : Accepted before es ls posts atoms) where
+module _ (before : DisjunctivePropagator) (es ls : List ℤ) (posts atoms : ℕ) (a : Accepted before es ls posts atoms) where
   abbrev l : List ℕ
   l = take (before .count) (before .durations)
 

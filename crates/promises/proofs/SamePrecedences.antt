@@ -1,5 +1,4 @@
 -- Whatever adds, removals and runs came before, the same durations and range records give the same pass by precedences, accepted or refused.
--- Assumes nothing.
 use mathlib.Core.Path.{_≡_, sym, ap, subst, _∙_}
 use mathlib.Core.List.{List, []}
 use mathlib.Core.Logic.{⊎-elim}
@@ -12,16 +11,16 @@ use lib.Seq.{ext-getD}
 use Rattle.integers.specs.Answers.{Answer, answered}
 use Rattle.integers.proofs.Ints.{ints}
 use Rattle.scheduling.specs.Scheduling.{whole, Tasks}
-use Rattle.records.specs.declared.record.Propagator.{Propagator}
-use Rattle.input_refusals.proofs.Refused.{accepted-input}
+use Rattle.records.specs.declared.record.DisjunctivePropagator.{DisjunctivePropagator}
+use Rattle.records.proofs.RefusedRuns.{accepted-input}
 use Rattle.precedences.specs.declared.answers.Precedences.{Precedences}
 use Rattle.precedences.specs.Numbers.{precedencesNumbers}
 use Rattle.precedences.specs.Precedences.{LeftPrecedences}
-use Rattle.precedences.proofs.Apart.{passes-apart}
+use Rattle.precedences.proofs.PassNumbers.{passes-apart}
 use Rattle.task_changes.specs.Changes.{durationsOf}
-use Rattle.barred_starts.specs.declared.range.Range.{Range}
-use Rattle.barred_starts.specs.Bars.{allBarsFit}
-use Rattle.barred_starts.specs.Ranges.{earliests, latests, withStarts}
+use Rattle.ranges.specs.declared.range.Range.{Range}
+use Rattle.ranges.specs.Bars.{allBarsFit}
+use Rattle.ranges.specs.Ranges.{earliests, latests, withStarts}
 use Rattle.promises.specs.Promise.{tasksLent}
 use Rattle.promises.specs.PrecedencesLent.{rangesNumber, PrecedencesLent}
 use Rattle.promises.specs.SameRuns.{SamePrecedences}
@@ -53,7 +52,8 @@ module _ (J : Tasks whole) {es : List ℤ} {r r′ : Precedences} {es₁ es₂ :
       done e = ext-getD (pos 0) es₁ es₂ (a .size ∙ sym (b .size)) (λ k q. one (ap (λ (y : Answer). y .kind) e) k (omega (arith, q, a .size, n)))
 
 -- Two series that leave the same durations, and two passes on the same ranges.
-pub same-precedences : {left left′ : Propagator} → Series left → Series left′ → durationsOf left ≡ durationsOf left′ → (ranges : List Range) {answer answer′ : Precedences} {ranges₁ ranges₂ : List Range}
+pub same-precedences : {left left′ : DisjunctivePropagator} → Series left → Series left′ → durationsOf left ≡ durationsOf left′
+    → (ranges : List Range) {answer answer′ : Precedences} {ranges₁ ranges₂ : List Range}
     → PrecedencesLent left ranges answer ranges₁ → PrecedencesLent left′ ranges answer′ ranges₂ → SamePrecedences answer ranges₁ answer′ ranges₂
 same-precedences {left} {left′} calls calls′ same ranges {answer} {answer′} {ranges₁} {ranges₂} one other′ = elim (ℕ-discrete (rangesNumber left ranges) 0) [
   | yes z ↦
@@ -74,4 +74,4 @@ same-precedences {left} {left′} calls calls′ same ranges {answer} {answer′
     J = tasksLent left ranges
 
     other : PrecedencesLent left ranges answer′ ranges₂
-    other = subst (λ (r : Propagator). PrecedencesLent r ranges answer′ ranges₂) (sym (same-left calls calls′ same)) other′
+    other = subst (λ (r : DisjunctivePropagator). PrecedencesLent r ranges answer′ ranges₂) (sym (same-left calls calls′ same)) other′

@@ -1,4 +1,5 @@
--- The sentences of demand 3 about one call of the open run, in the paper's words. Each follows from the call's contract, `RanLent`, or from the check's, `Checked`.
+-- The sentences of demand 3 about one call of the open run, in the paper's words. Each follows from the call's contract, `RanLent`, or from the check's,
+-- `Checked`.
 use mathlib.Core.Path.{_≡_}
 use mathlib.Core.Logic.{_⊎_, _↔_}
 use mathlib.Core.List.{List, [], map}
@@ -9,18 +10,18 @@ use lib.ListN.{length, getD, take}
 use lib.Signed.{_≤ℤ_, _<ℤ_}
 use Rattle.integers.specs.Answers.{answered}
 use Rattle.scheduling.specs.Scheduling.{whole, Tasks, TaskSet, Largest, Overloads, EdgeFindingBound, Schedule, Atom, HoldsAtEntry, PassesFormula, Contradicts}
-use Rattle.atoms.specs.Atoms.{atomsOf, consequentOf}
+use Rattle.checking.specs.Atoms.{atomsOf, consequentOf}
 use Rattle.post_words.specs.Posts.{taskWord, taskOf, boundOf, postNumber}
-use Rattle.records.specs.declared.record.Propagator.{Propagator}
+use Rattle.records.specs.declared.record.DisjunctivePropagator.{DisjunctivePropagator}
 use Rattle.checker.specs.declared.checker.Verdict.{Verdict}
 use Rattle.checker.specs.Verdicts.{verdictNumbers}
 use Rattle.checker.specs.Checks.{tasksWith, consequentWords}
 use Rattle.checker.specs.Checked.{Checked}
 use Rattle.runs.specs.declared.outcome.Outcome.{Outcome}
 use Rattle.runs.specs.Outcomes.{outcomeNumbers, valueOf}
-use Rattle.barred_starts.specs.declared.range.Range.{Range}
-use Rattle.barred_starts.specs.Permitted.{FirstPermitted, PermittedSchedule}
-use Rattle.barred_starts.specs.Ranges.{earliests, anyRange}
+use Rattle.ranges.specs.declared.range.Range.{Range}
+use Rattle.ranges.specs.Permitted.{FirstPermitted, PermittedSchedule}
+use Rattle.ranges.specs.Ranges.{earliests, anyRange}
 use Rattle.promises.specs.Promise.{tasksLent, reasonOf, overloadOf}
 use Rattle.promises.specs.Planner.{says}
 
@@ -35,7 +36,7 @@ abbrev pub PassedMeans : List ℤ → List ℤ → List ℤ → Verdict → Type
 PassedMeans ds premises consequent v = Passed v → (s : ℕ → ℤ) → Contradicts (tasksWith ds) (atomsOf premises) (consequentOf consequent) s → ⊥
 
 -- A reason, for an atom or for none.
-pub record GoodReason (tasks : Propagator) (ranges : List Range) (words : List ℤ) (consequent : Option Atom) : Type 0 where
+pub record GoodReason (tasks : DisjunctivePropagator) (ranges : List Range) (words : List ℤ) (consequent : Option Atom) : Type 0 where
   -- It holds at entry.
   pub holds : HoldsAtEntry (tasksLent tasks ranges) (atomsOf words)
   -- It meets the checker's formula over premises.
@@ -46,7 +47,7 @@ pub record GoodReason (tasks : Propagator) (ranges : List Range) (words : List �
 -- The run ------------------------------------------------------------------------------------------------------------------------
 
 -- What is said of an accepted run.
-module _ (before : Propagator) (ranges : List Range) (answer : Outcome) (ranges′ : List Range) (posts atoms : List ℤ) where
+module _ (before : DisjunctivePropagator) (ranges : List Range) (answer : Outcome) (ranges′ : List Range) (posts atoms : List ℤ) where
   -- the tasks at entry
   abbrev J : Tasks whole
   J = tasksLent before ranges
@@ -79,14 +80,17 @@ module _ (before : Propagator) (ranges : List Range) (answer : Outcome) (ranges�
     -- at the largest of its bounds,
     pub at-largest : kind ≡ 0 → (j : ℕ) → j < made → Largest whole (EdgeFindingBound J (task j)) (bound j)
     -- and no others: whatever the outcome, a post names a task and raises it to one of its edge-finding bounds.
-    pub no-others : (j : ℕ) → j < made → (taskWord posts j ≡ pos (task j)) × (task j < J .count) × EdgeFindingBound J (task j) (bound j) × (J .earliest (task j) <ℤ bound j)
+    pub no-others : (j : ℕ) → j < made → (taskWord posts j ≡ pos (task j)) × (task j < J .count) × EdgeFindingBound J (task j) (bound j)
+        × (J .earliest (task j) <ℤ bound j)
     -- An overload or an emptied range means that no schedule exists.
     pub no-schedule : (kind ≡ 1) ⊎ (kind ≡ 2) → (s : ℕ → ℤ) → Schedule J s → ⊥
     -- Emptied is a post above the latest start: the last one.
     pub emptied : kind ≡ 2 → (j : ℕ) × (suc j ≡ made) × (J .latest (task j) <ℤ bound j)
     -- Every outcome keeps the starts raised by the posts before it, and leaves the others.
-    pub kept : (j : ℕ) → j < made → ((kind ≡ 2) × (suc j ≡ made) → ⊥) → FirstPermitted (getD ranges (task j) anyRange) (bound j) (getD (earliests ranges′) (task j) (pos 0))
-    pub others : (k : ℕ) → k < J .count → ((j : ℕ) → j < made → ((kind ≡ 2) × (suc j ≡ made) → ⊥) → task j ≡ k → ⊥) → getD (earliests ranges′) k (pos 0) ≡ J .earliest k
+    pub kept : (j : ℕ) → j < made → ((kind ≡ 2) × (suc j ≡ made) → ⊥)
+        → FirstPermitted (getD ranges (task j) anyRange) (bound j) (getD (earliests ranges′) (task j) (pos 0))
+    pub others : (k : ℕ) → k < J .count → ((j : ℕ) → j < made → ((kind ≡ 2) × (suc j ≡ made) → ⊥) → task j ≡ k → ⊥)
+        → getD (earliests ranges′) k (pos 0) ≡ J .earliest k
     -- Whatever the outcome, every post holds in all schedules, those of permitted starts too.
     pub posts-hold : (j : ℕ) → j < made → (s : ℕ → ℤ) → Schedule J s → bound j ≤ℤ s (task j)
     pub posts-hold-permitted : (j : ℕ) → j < made → (s : ℕ → ℤ) → PermittedSchedule J ranges s → bound j ≤ℤ s (task j)
@@ -98,5 +102,6 @@ module _ (before : Propagator) (ranges : List Range) (answer : Outcome) (ranges�
     pub overload : kind ≡ 1 → GoodReason before ranges (overloadOf answer atoms) none
 
 -- A refused run alters no lent buffer and hands back the record that it got.
-abbrev pub NothingAltered : Propagator → List Range → List ℤ → List ℤ → Propagator → List Range → List ℤ → List ℤ → Type 0
-NothingAltered before ranges posts atoms after ranges′ posts′ atoms′ = _≡_ {A = Propagator × List Range × List ℤ × List ℤ} (after, ranges′, posts′, atoms′) (before, ranges, posts, atoms)
+abbrev pub NothingAltered : DisjunctivePropagator → List Range → List ℤ → List ℤ → DisjunctivePropagator → List Range → List ℤ → List ℤ → Type 0
+NothingAltered before ranges posts atoms after ranges′ posts′ atoms′ =
+    _≡_ {A = DisjunctivePropagator × List Range × List ℤ × List ℤ} (after, ranges′, posts′, atoms′) (before, ranges, posts, atoms)

@@ -1,4 +1,5 @@
--- What an accepted mirrored pass promises its caller, as `Promise` does for a run: latest starts fall by the mirrored rule, and posts and reasons are in the caller's time.
+-- What an accepted mirrored pass promises its caller, as `Promise` does for a run: latest starts fall by the mirrored rule, and posts and reasons are in the
+-- caller's time.
 use mathlib.Core.Path.{_≡_}
 use mathlib.Core.Logic.{_↔_}
 use mathlib.Core.List.{List, []}
@@ -9,21 +10,21 @@ use lib.ListN.{getD}
 use lib.Signed.{_≤ℤ_, _<ℤ_}
 use Rattle.integers.specs.Answers.{answered}
 use Rattle.scheduling.specs.Scheduling.{whole, Tasks, Schedule, Atom, HoldsAtEntry, PassesFormula}
-use Rattle.scheduling.specs.Mirroring.{mirror, mirrorAtoms, MirroredBound, MirroredConflict, MirroredDone}
-use Rattle.atoms.specs.Atoms.{atomsOf}
+use Rattle.scheduling.specs.MirroredTime.{mirror, mirrorAtoms, MirroredBound, MirroredConflict, MirroredDone}
+use Rattle.checking.specs.Atoms.{atomsOf}
 use Rattle.checker.specs.Checks.{consequentWords}
 use Rattle.checker.specs.Verdicts.{verdictNumbers}
 use Rattle.checker.specs.MirroredChecks.{mirrorIfAny, checkMirroredOf}
 use Rattle.post_words.specs.Posts.{taskWord, taskOf, boundOf, postNumber}
-use Rattle.records.specs.declared.record.Propagator.{Propagator}
+use Rattle.records.specs.declared.record.DisjunctivePropagator.{DisjunctivePropagator}
 use Rattle.runs.specs.declared.outcome.Outcome.{Outcome}
 use Rattle.runs.specs.Outcomes.{outcomeNumbers, valueOf}
-use Rattle.barred_starts.specs.declared.range.Range.{Range}
-use Rattle.barred_starts.specs.Ranges.{earliests, latests, counts, places, anyRange}
-use Rattle.barred_starts.specs.Permitted.{LastPermitted, PermittedSchedule}
+use Rattle.ranges.specs.declared.range.Range.{Range}
+use Rattle.ranges.specs.Ranges.{earliests, latests, counts, places, anyRange}
+use Rattle.ranges.specs.Permitted.{LastPermitted, PermittedSchedule}
 use Rattle.promises.specs.Promise.{tasksLent, checkDurations, reasonOf, OverloadPromise}
 
-module _ (before : Propagator) (ranges : List Range) (answer : Outcome) (ranges′ : List Range) (posts atoms : List ℤ) where
+module _ (before : DisjunctivePropagator) (ranges : List Range) (answer : Outcome) (ranges′ : List Range) (posts atoms : List ℤ) where
   -- the tasks at entry
   abbrev J : Tasks whole
   J = tasksLent before ranges
@@ -77,7 +78,8 @@ module _ (before : Propagator) (ranges : List Range) (answer : Outcome) (ranges�
 
   -- A pass that is Done.
   pub record MirroredDonePromise : Type 0 where
-    -- The smallest of each task's old latest start and all bounds that the mirrored rule gives it; the posts are one for each task that it lowers, at the smallest of its bounds, and no others.
+    -- The smallest of each task's old latest start and all bounds that the mirrored rule gives it; the posts are one for each task that it lowers, at the
+    -- smallest of its bounds, and no others.
     pub smallest : ℕ → ℤ
     pub done : MirroredDone J smallest made task bound
     -- Each latest start is the last permitted one up to there.
@@ -86,7 +88,8 @@ module _ (before : Propagator) (ranges : List Range) (answer : Outcome) (ranges�
   pub record MirroredPromise : Type 0 where
     -- The pass is Done, or it ends in Overload or Emptied.
     pub ends : kind < 3
-    -- It is Done exactly when no set of tasks overloads its span and no bound of the mirrored rule is below an earliest start, over every set and every task outside it.
+    -- It is Done exactly when no set of tasks overloads its span and no bound of the mirrored rule is below an earliest start, over every set and every task
+    -- outside it.
     pub exactly : kind ≡ 0 ↔ (MirroredConflict J → ⊥)
     -- Each latest start is then the last permitted value not above the smallest of its old value and all bounds that the mirrored rule gives.
     pub when-done : kind ≡ 0 → MirroredDonePromise
@@ -102,7 +105,8 @@ module _ (before : Propagator) (ranges : List Range) (answer : Outcome) (ranges�
     pub stands : (j : ℕ) → j < made → J .earliest (task j) ≤ℤ bound j → LastPermitted (range (task j)) (bound j) (now (task j))
     -- and a task that no such post names with the latest start that it had.
     pub stays : (k : ℕ) → k < J .count → ((j : ℕ) → j < made → J .earliest (task j) ≤ℤ bound j → task j ≡ k → ⊥) → now k ≡ J .latest k
-    -- Whatever the outcome, every post holds in all schedules, and its reason holds at entry, meets the checker's formula mirrored, and passes the mirrored check.
+    -- Whatever the outcome, every post holds in all schedules, and its reason holds at entry, meets the checker's formula mirrored, and passes the mirrored
+    -- check.
     pub every-post : (j : ℕ) → j < made → MirroredPostPromise j
     -- So does an overload's reason.
     pub overload : kind ≡ 1 → OverloadPromise MirroredReason answer atoms

@@ -7,22 +7,22 @@ use lib.ListN.{getD}
 use lib.Signed.{_≤ℤ_}
 use Rattle.integers.specs.Answers.{refusedBy}
 use Rattle.scheduling.specs.Scheduling.{whole, Tasks}
-use Rattle.records.specs.declared.record.Propagator.{Propagator}
-use Rattle.input_refusals.specs.Refusals.{inputNumber}
+use Rattle.records.specs.declared.record.DisjunctivePropagator.{DisjunctivePropagator}
+use Rattle.records.specs.Refusals.{inputNumber}
 use Rattle.precedences.specs.declared.answers.Precedences.{Precedences}
 use Rattle.precedences.specs.Numbers.{precedencesNumbers}
 use Rattle.precedences.specs.Precedences.{LeftPrecedences}
-use Rattle.barred_starts.specs.declared.range.Range.{Range}
-use Rattle.barred_starts.specs.Bars.{allBarsFit}
-use Rattle.barred_starts.specs.Permitted.{FirstPermitted, PermittedSchedule}
-use Rattle.barred_starts.specs.Ranges.{earliests, latests, anyRange, withStarts}
+use Rattle.ranges.specs.declared.range.Range.{Range}
+use Rattle.ranges.specs.Bars.{allBarsFit}
+use Rattle.ranges.specs.Permitted.{FirstPermitted, PermittedSchedule}
+use Rattle.ranges.specs.Ranges.{earliests, latests, anyRange, withStarts}
 use Rattle.promises.specs.Promise.{tasksLent}
 
 -- the number that refuses a call that has no words to write: of the record, the ranges and their bars; 0 where none does
-abbrev pub rangesNumber : Propagator → List Range → ℕ
+abbrev pub rangesNumber : DisjunctivePropagator → List Range → ℕ
 rangesNumber before ranges = inputNumber before (earliests ranges) (latests ranges) (allBarsFit ranges)
 
-module _ (before : Propagator) (ranges : List Range) (r : Precedences) (ranges′ : List Range) where
+module _ (before : DisjunctivePropagator) (ranges : List Range) (r : Precedences) (ranges′ : List Range) where
   -- the tasks at entry
   abbrev J : Tasks whole
   J = tasksLent before ranges

@@ -10,26 +10,26 @@ use lib.ListN.{length, getD, take, drop}
 use lib.Signed.{_≤ℤ_, _<ℤ_}
 use Rattle.integers.specs.Answers.{answered}
 use Rattle.scheduling.specs.Scheduling.{whole, Tasks, EdgeFindingBound, Schedule, Conflict, Done, Atom, HoldsAtEntry, PassesFormula}
-use Rattle.atoms.specs.Atoms.{atomsOf}
+use Rattle.checking.specs.Atoms.{atomsOf}
 use Rattle.checker.specs.Checks.{checkOf, consequentWords}
 use Rattle.checker.specs.Verdicts.{verdictNumbers}
 use Rattle.post_words.specs.Posts.{taskWord, taskOf, boundOf, postNumber, reasonWords}
-use Rattle.records.specs.declared.record.Propagator.{Propagator}
+use Rattle.records.specs.declared.record.DisjunctivePropagator.{DisjunctivePropagator}
 use Rattle.records.specs.Records.{tasksIn}
 use Rattle.runs.specs.declared.outcome.Outcome.{Outcome}
 use Rattle.runs.specs.Outcomes.{outcomeNumbers, valueOf}
-use Rattle.barred_starts.specs.declared.range.Range.{Range}
-use Rattle.barred_starts.specs.Ranges.{earliests, latests, counts, places, anyRange}
-use Rattle.barred_starts.specs.Permitted.{FirstPermitted, PermittedSchedule}
+use Rattle.ranges.specs.declared.range.Range.{Range}
+use Rattle.ranges.specs.Ranges.{earliests, latests, counts, places, anyRange}
+use Rattle.ranges.specs.Permitted.{FirstPermitted, PermittedSchedule}
 
 -- What a caller reads ----------------------------------------------------------------------------------------------------------
 
 -- the tasks of a lent record and lent ranges
-abbrev pub tasksLent : Propagator → List Range → Tasks whole
+abbrev pub tasksLent : DisjunctivePropagator → List Range → Tasks whole
 tasksLent before ranges = tasksIn before (earliests ranges) (latests ranges)
 
 -- the durations of a record, as a check takes them
-abbrev pub checkDurations : Propagator → List ℤ
+abbrev pub checkDurations : DisjunctivePropagator → List ℤ
 checkDurations before = map pos (take (before .count) (before .durations))
 
 -- the words of post j's reason, as the post reader hands them out
@@ -49,7 +49,7 @@ pub record OverloadPromise (Reason : List ℤ → Option Atom → Type 0) (answe
 
 -- The promise ------------------------------------------------------------------------------------------------------------------
 
-module _ (before : Propagator) (ranges : List Range) (answer : Outcome) (ranges′ : List Range) (posts atoms : List ℤ) where
+module _ (before : DisjunctivePropagator) (ranges : List Range) (answer : Outcome) (ranges′ : List Range) (posts atoms : List ℤ) where
   -- the tasks at entry
   abbrev J : Tasks whole
   J = tasksLent before ranges
@@ -103,7 +103,8 @@ module _ (before : Propagator) (ranges : List Range) (answer : Outcome) (ranges�
 
   -- A run that is Done.
   pub record DonePromise : Type 0 where
-    -- The largest of each task's old earliest start and all its edge-finding bounds; the posts are one for each task that it raises, at the largest of its bounds, and no others.
+    -- The largest of each task's old earliest start and all its edge-finding bounds; the posts are one for each task that it raises, at the largest of its
+    -- bounds, and no others.
     pub largest : ℕ → ℤ
     pub done : Done J largest made task bound
     -- Each earliest start is the first permitted one from there on.

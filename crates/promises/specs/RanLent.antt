@@ -5,21 +5,22 @@ use Prim.Native.Nat.{ℕ}
 use lib.IntN.{ℤ}
 use lib.ListN.{length}
 use Rattle.integers.specs.Answers.{refusedBy}
-use Rattle.records.specs.declared.record.Propagator.{Propagator}
-use Rattle.input_refusals.specs.Refusals.{runNumber}
+use Rattle.records.specs.declared.record.DisjunctivePropagator.{DisjunctivePropagator}
+use Rattle.records.specs.Refusals.{runNumber}
 use Rattle.runs.specs.declared.outcome.Outcome.{Outcome}
 use Rattle.runs.specs.Outcomes.{outcomeNumbers}
 use Rattle.propagator.specs.Ran.{traceOf, Left}
-use Rattle.barred_starts.specs.declared.range.Range.{Range}
-use Rattle.barred_starts.specs.Bars.{allBarsFit}
-use Rattle.barred_starts.specs.Ranges.{earliests, latests, withStarts}
+use Rattle.ranges.specs.declared.range.Range.{Range}
+use Rattle.ranges.specs.Bars.{allBarsFit}
+use Rattle.ranges.specs.Ranges.{earliests, latests, withStarts}
 use Rattle.promises.specs.Promise.{Promise}
 
 -- the number that refuses a run or a mirrored pass; 0 where none does
-abbrev pub lentNumber : Propagator → List Range → List ℤ → List ℤ → ℕ
+abbrev pub lentNumber : DisjunctivePropagator → List Range → List ℤ → List ℤ → ℕ
 lentNumber before ranges posts atoms = runNumber before (earliests ranges) (latests ranges) (allBarsFit ranges) (length posts) (length atoms)
 
-module _ (before : Propagator) (ranges : List Range) (posts atoms : List ℤ) (answer : Outcome) (changed : ℕ) (after : Propagator) (ranges′ : List Range) (posts′ atoms′ : List ℤ) where
+module _ (before : DisjunctivePropagator) (ranges : List Range) (posts atoms : List ℤ) (answer : Outcome) (changed : ℕ) (after : DisjunctivePropagator)
+    (ranges′ : List Range) (posts′ atoms′ : List ℤ) where
   -- A refused run answers the number, counts no leaf change, and changes nothing.
   pub record RefusedLent : Type 0 where
     pub number : outcomeNumbers answer ≡ refusedBy (lentNumber before ranges posts atoms)
@@ -28,10 +29,12 @@ module _ (before : Propagator) (ranges : List Range) (posts atoms : List ℤ) (a
     pub same-posts : posts′ ≡ posts
     pub same-atoms : atoms′ ≡ atoms
 
-  -- An accepted one keeps the promise, and leaves what the run's definition does: the answer, the count of leaf changes, which is at most 4n − 3, and the words of posts and reasons over what stood there; the ranges are the old ones in which its starts are stored.
+  -- An accepted one keeps the promise, and leaves what the run's definition does: the answer, the count of leaf changes, which is at most 4n − 3, and the words
+  -- of posts and reasons over what stood there; the ranges are the old ones in which its starts are stored.
   pub record AcceptedLent : Type 0 where
     pub promise : Promise before ranges answer ranges′ posts′ atoms′
-    pub left : Left before (earliests ranges) (latests ranges) posts atoms answer changed (traceOf before (earliests ranges) (latests ranges) .starts) posts′ atoms′
+    pub left : Left before (earliests ranges) (latests ranges) posts atoms answer changed
+        (traceOf before (earliests ranges) (latests ranges) .starts) posts′ atoms′
     pub stored : ranges′ ≡ withStarts ranges (traceOf before (earliests ranges) (latests ranges) .starts)
 
   -- The record stays as it was.

@@ -7,7 +7,7 @@ use Rattle.post_words.specs.Posts.{taskOf, boundOf}
 use Rattle.runs.specs.declared.outcome.Outcome.{Outcome}
 use Rattle.runs.specs.Outcomes.{outcomeNumbers, valueOf}
 use Rattle.precedences.specs.declared.answers.Precedences.{Precedences}
-use Rattle.barred_starts.specs.declared.range.Range.{Range}
+use Rattle.ranges.specs.declared.range.Range.{Range}
 use Rattle.promises.specs.Promise.{reasonOf, overloadOf}
 
 -- The outcome, each post with its reason, and an overload's reason. What stands in the slices beyond these words may differ.
@@ -19,13 +19,15 @@ pub record SameAnswer (answer : Outcome) (posts atoms : List ℤ) (answer′ : O
   pub overload : outcomeNumbers answer .kind ≡ 1 → overloadOf answer atoms ≡ overloadOf answer′ atoms′
 
 -- Of runs also the leaf changes and the ranges that they leave,
-pub record SameRun (answer : Outcome) (changes : ℕ) (ranges : List Range) (posts atoms : List ℤ) (answer′ : Outcome) (changes′ : ℕ) (ranges′ : List Range) (posts′ atoms′ : List ℤ) : Type 0 where
+pub record SameRun (answer : Outcome) (changes : ℕ) (ranges : List Range) (posts atoms : List ℤ) (answer′ : Outcome) (changes′ : ℕ) (ranges′ : List Range)
+    (posts′ atoms′ : List ℤ) : Type 0 where
   pub answers : SameAnswer answer posts atoms answer′ posts′ atoms′
   pub changed : changes ≡ changes′
   pub starts : ranges ≡ ranges′
 
 -- of mirrored passes the ranges,
-pub record SameMirrored (answer : Outcome) (ranges : List Range) (posts atoms : List ℤ) (answer′ : Outcome) (ranges′ : List Range) (posts′ atoms′ : List ℤ) : Type 0 where
+pub record SameMirrored (answer : Outcome) (ranges : List Range) (posts atoms : List ℤ) (answer′ : Outcome) (ranges′ : List Range)
+    (posts′ atoms′ : List ℤ) : Type 0 where
   pub answers : SameAnswer answer posts atoms answer′ posts′ atoms′
   pub starts : ranges ≡ ranges′
 

@@ -1,4 +1,12 @@
-pub mod Beginning
-pub mod Many
-pub mod Accepting
-pub mod Handing
+pub mod ExplanationInput
+pub mod PostWords
+pub mod ConsideredTask
+pub mod InnerLoop
+pub mod OverloadReason
+pub mod MovedToLambda
+pub mod OuterLoop
+pub mod FilledTheta
+pub mod InitialArrays
+pub mod TooManyRanges
+pub mod AcceptedInput
+pub mod ReadTrace

@@ -1,5 +1,4 @@
 -- Creation: what each number is for, and that what is accepted makes a lawful record.
--- Assumes nothing.
 use mathlib.Core.Path.{_≡_, refl, sym, ap, subst, _∙_}
 use mathlib.Core.Bool.{true, false}
 use mathlib.Core.Logic.{_↔_}
@@ -12,10 +11,10 @@ use lib.Signed.{leZ, _≤ℤ_}
 use lib.ListN.{length, getD, length-map}
 use borrow.Author.Tests.{leb-true, le-leb}
 use Rattle.integers.specs.Limits.{TASKS, DURATIONS}
-use Rattle.integers.specs.Filling.{filled, noTasks}
+use Rattle.integers.specs.FilledLists.{filled, noTasks}
 use Rattle.integers.specs.Tests.{allBelow, refusal, AllPassed}
 use Rattle.integers.proofs.Bools.{clash}
-use Rattle.integers.proofs.Filling.{filled-at, filled-past, getD-fresh}
+use Rattle.integers.proofs.FilledLists.{filled-at, filled-past, getD-fresh}
 use Rattle.integers.proofs.Ints.{leZ-true, le-leZ}
 use Rattle.integers.proofs.Tests.{all-at, all-show, all-ext, accepts, accepted, first-refuses, first-holds}
 use Rattle.scheduling.specs.Scheduling.{total}
@@ -34,7 +33,8 @@ lasts-same (pos n) = refl
 lasts-same (negsuc n) = refl
 
 pub same-lasts : (ds : List ℤ) → length ds ≤ TASKS → allBelow (lastsAt (filled (durationAt ds) (length ds) noTasks)) (length ds) ≡ allBelow (positiveAt ds) (length ds)
-same-lasts ds few = all-ext (lastsAt (filled (durationAt ds) (length ds) noTasks)) (positiveAt ds) (length ds) (λ k q. ap (leb 1) (filled-at (durationAt ds) (length ds) noTasks 0 k q few) ∙ lasts-same (getD ds k (pos 0)))
+same-lasts ds few = all-ext (lastsAt (filled (durationAt ds) (length ds) noTasks)) (positiveAt ds) (length ds)
+    (λ k q. ap (leb 1) (filled-at (durationAt ds) (length ds) noTasks 0 k q few) ∙ lasts-same (getD ds k (pos 0)))
 
 -- the sum of a record's durations is that of the caller's
 pub same-sum : (ds : List ℤ) → length ds ≤ TASKS → total (λ k. getD (filled (durationAt ds) (length ds) noTasks) k 0) (length ds) ≡ total (durationAt ds) (length ds)
@@ -92,7 +92,8 @@ module _ (ds : List ℤ) where
   pub refused-2 : refusal (creationTests ds) ≡ 2 ↔ (((1 ≤ length ds) × (length ds ≤ TASKS)) × (((k : ℕ) → k < length ds → pos 1 ≤ℤ getD ds k (pos 0)) → ⊥))
   refused-2 = first-holds _ _ (count-is (length ds)) refl (λ _. first-refuses _ _ durations-are refl)
 
-  pub refused-5 : refusal (creationTests ds) ≡ 5 ↔ (((1 ≤ length ds) × (length ds ≤ TASKS)) × (((k : ℕ) → k < length ds → pos 1 ≤ℤ getD ds k (pos 0)) × (total (durationAt ds) (length ds) ≤ DURATIONS → ⊥)))
+  pub refused-5 : refusal (creationTests ds) ≡ 5
+      ↔ (((1 ≤ length ds) × (length ds ≤ TASKS)) × (((k : ℕ) → k < length ds → pos 1 ≤ℤ getD ds k (pos 0)) × (total (durationAt ds) (length ds) ≤ DURATIONS → ⊥)))
   refused-5 = first-holds _ _ (count-is (length ds)) refl (λ _. first-holds _ _ durations-are refl (λ _. first-refuses _ _ sum-is refl))
 
 -- Natural numbers as durations: task k's is the k-th, and they are accepted where they are 1 or more and sum to at most DURATIONS.
@@ -112,7 +113,8 @@ module _ (l : List ℕ) where
   natural-accepted some few lasts sum = accepts (creationTests (map pos l)) (
     count-is (length (map pos l)) .1 (omega (arith, natural-count, some), omega (arith, natural-count, few)),
     (
-      all-show (positiveAt (map pos l)) (length (map pos l)) (λ k q. sym (lasts-same (getD (map pos l) k (pos 0))) ∙ le-leb 1 (durationAt (map pos l) k) (omega (arith, natural-duration k, lasts k (omega (arith, natural-count))))),
+      all-show (positiveAt (map pos l)) (length (map pos l))
+          (λ k q. sym (lasts-same (getD (map pos l) k (pos 0))) ∙ le-leb 1 (durationAt (map pos l) k) (omega (arith, natural-duration k, lasts k (omega (arith, natural-count))))),
       (le-leb (total (durationAt (map pos l)) (length (map pos l))) DURATIONS (subst (λ (s : ℕ). s ≤ DURATIONS) (sym same) sum), tt),
     ),
   )

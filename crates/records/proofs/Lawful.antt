@@ -1,5 +1,4 @@
 -- The test of a record says what a lawful record is.
--- Assumes nothing.
 use mathlib.Core.Path.{_≡_, _∙_}
 use mathlib.Core.Bool.{true, false}
 use mathlib.Core.Logic.{inl, inr, _↔_}
@@ -15,7 +14,7 @@ use Rattle.integers.specs.Tests.{allBelow}
 use Rattle.integers.proofs.Bools.{bool, and-true, and-yes, and-is, or-true, or-right}
 use Rattle.integers.proofs.Tests.{all-at, all-show}
 use Rattle.scheduling.specs.Scheduling.{total}
-use Rattle.records.specs.declared.record.Propagator.{Propagator}
+use Rattle.records.specs.declared.record.DisjunctivePropagator.{DisjunctivePropagator}
 use Rattle.records.specs.Records.{countFits, sumFits, totalTrue, lastsAt, unusedAt, unusedZero, lawfulRecord, Lawful}
 
 -- the test of the number of tasks
@@ -44,14 +43,14 @@ module _ (durations : List ℕ) (n k : ℕ) where
   unused-not q h = elim (bool (unusedAt durations n k)) [ inl y ↦ absurd (h (unused-read q y)) | inr y ↦ y ]
 
 -- The tests of a record, all passed.
-pub record Passes (r : Propagator) : Type 0 where
+pub record Passes (r : DisjunctivePropagator) : Type 0 where
   pub counted : countFits (r .count) ≡ true
   pub lasting : allBelow (lastsAt (r .durations)) (r .count) ≡ true
   pub summed : sumFits (λ k. getD (r .durations) k 0) (r .count) ≡ true
   pub stored : totalTrue (r .total) (r .durations) (r .count) ≡ true
   pub unused : unusedZero (r .durations) (r .count) ≡ true
 
-module _ (r : Propagator) where
+module _ (r : DisjunctivePropagator) where
   pub passes : lawfulRecord r ≡ true → Passes r
   unfolding lawfulRecord
   passes h =
@@ -65,7 +64,8 @@ module _ (r : Propagator) where
   unlawful h = elim (bool (lawfulRecord r)) [ inl y ↦ absurd (h (passes y)) | inr y ↦ y ]
 
   -- where all before it are passed, the last test decides
-  pub last-test : countFits (r .count) ≡ true → allBelow (lastsAt (r .durations)) (r .count) ≡ true → sumFits (λ k. getD (r .durations) k 0) (r .count) ≡ true → totalTrue (r .total) (r .durations) (r .count) ≡ true → lawfulRecord r ≡ unusedZero (r .durations) (r .count)
+  pub last-test : countFits (r .count) ≡ true → allBelow (lastsAt (r .durations)) (r .count) ≡ true → sumFits (λ k. getD (r .durations) k 0) (r .count) ≡ true
+      → totalTrue (r .total) (r .durations) (r .count) ≡ true → lawfulRecord r ≡ unusedZero (r .durations) (r .count)
   unfolding lawfulRecord
   last-test a b c s =
       and-is (countFits (r .count)) _ a

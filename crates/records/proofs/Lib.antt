@@ -1,4 +1,6 @@
 pub mod Lawful
-pub mod Unused
+pub mod UnusedPlaces
 pub mod Creation
-pub mod Apart
+pub mod CreationNumbers
+pub mod RefusedRuns
+pub mod AcceptedTasks

@@ -1,2 +1,4 @@
 pub mod Records
 pub mod Examples
+pub mod Refusals
+pub mod RefusalExamples

@@ -7,14 +7,15 @@ use lib.Dec.{leb, ltb, eqb}
 use lib.IntN.{ℤ, pos, negsuc}
 use lib.Signed.{leZ}
 use lib.ListN.{length, getD, take}
+use Rattle.integers.specs.Refused as refused
 use Rattle.integers.specs.Limits.{TASKS, DURATIONS}
-use Rattle.integers.specs.Filling.{filled, noTasks}
+use Rattle.integers.specs.FilledLists.{filled, noTasks}
 use Rattle.integers.specs.Moments.{zeroAt}
 use Rattle.integers.specs.Answers.{Answer, answered, refusedBy}
 use Rattle.integers.specs.Tests.{Test, test, refusal, allBelow}
 use Rattle.scheduling.specs.Scheduling.{whole, natural, Tasks, tasksOf, total}
 use Rattle.scheduling.specs.Moments.{moments}
-use Rattle.records.specs.declared.record.Propagator.{Propagator}
+use Rattle.records.specs.declared.record.DisjunctivePropagator.{DisjunctivePropagator}
 use Rattle.records.specs.declared.record.Created.{Created}
 use Rattle.records.specs.declared.record.Creation.{Creation}
 use Rattle.records.specs.declared.record.Creation.the-variants.{Accepted, Refused}
@@ -46,11 +47,11 @@ abbrev pub unusedZero : List ℕ → ℕ → Bool
 unusedZero durations n = allBelow (unusedAt durations n) TASKS
 
 -- a record of these fields
-abbrev pub recordOf : ℕ → List ℕ → ℕ → Propagator
+abbrev pub recordOf : ℕ → List ℕ → ℕ → DisjunctivePropagator
 recordOf n durations stored = record { count = n; durations = durations; total = stored }
 
 -- the tests of a record, which are one number to a run
-unfoldable pub lawfulRecord : Propagator → Bool
+unfoldable pub lawfulRecord : DisjunctivePropagator → Bool
 lawfulRecord r =
     countFits (r .count)
     && (allBelow (lastsAt (r .durations)) (r .count)
@@ -59,7 +60,7 @@ lawfulRecord r =
     && unusedZero (r .durations) (r .count))))
 
 -- The same as facts.
-pub record Lawful (r : Propagator) : Type 0 where
+pub record Lawful (r : DisjunctivePropagator) : Type 0 where
   pub some : 1 ≤ r .count
   pub few : r .count ≤ TASKS
   pub lasts : (k : ℕ) → k < r .count → 1 ≤ getD (r .durations) k 0
@@ -69,7 +70,7 @@ pub record Lawful (r : Propagator) : Type 0 where
 
 -- The tasks of a record --------------------------------------------------------------------------------------------------------
 
-module _ (r : Propagator) (es ls : List ℤ) where
+module _ (r : DisjunctivePropagator) (es ls : List ℤ) where
   -- the tasks of a record with these ranges, and their moments
   abbrev pub tasksIn : Tasks whole
   tasksIn = tasksOf (take (r .count) (r .durations)) es ls
@@ -95,9 +96,9 @@ positiveAt ds k = leZ (pos 1) (getD ds k (pos 0))
 -- 1: no tasks, or more than TASKS; 2: a duration below 1; 5: a sum above DURATIONS
 abbrev pub creationTests : List ℤ → List Test
 creationTests ds =
-    test 1 (countFits (length ds))
-    ∷ test 2 (allBelow (positiveAt ds) (length ds))
-    ∷ test 5 (sumFits (durationAt ds) (length ds))
+    test refused.TASK-COUNT (countFits (length ds))
+    ∷ test refused.DURATION (allBelow (positiveAt ds) (length ds))
+    ∷ test refused.DURATION-SUM (sumFits (durationAt ds) (length ds))
     ∷ []
 
 -- the answer by the papers' numbers, and the number that refused creation; 0 where the record is made
@@ -109,14 +110,14 @@ abbrev pub creationNumber : Creation → ℕ
 creationNumber answer = creationNumbers answer .number
 
 -- a new record: the durations with their sum
-abbrev pub newRecord : List ℤ → Propagator
+abbrev pub newRecord : List ℤ → DisjunctivePropagator
 newRecord ds = record {
   count = length ds;
   durations = filled (durationAt ds) (length ds) noTasks;
   total = total (durationAt ds) (length ds);
 }
 
-abbrev pub zeroRecord : Propagator
+abbrev pub zeroRecord : DisjunctivePropagator
 zeroRecord = record { count = 0; durations = noTasks; total = 0 }
 
 -- the new record, or the record of zeros with the number

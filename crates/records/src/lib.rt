@@ -1,2 +1,3 @@
 // The propagator's record, and its creation.
 pub mod record;
+pub mod refusals;

@@ -1,20 +1,22 @@
 // The propagator's record: the task count, the durations and their sum. Creation, and the test whether a record is lawful.
 use integers::limits::DURATIONS;
 use integers::limits::TASKS;
-use integers::wide;
+use integers::numbers::wide;
+use integers::refused;
 ghost use mathlib.Core.Path.{_≡_};
 ghost use Prim.Native.Nat.{_≤_, _<_};
 ghost use lib.Bits.{bitOr};
 ghost use lib.ListN.{length, getD};
 ghost use Rattle.integers.specs.Limits.{TASKS};
-ghost use Rattle.integers.specs.Filling.{filled, noTasks};
+ghost use Rattle.integers.specs.FilledLists.{filled, noTasks};
 ghost use Rattle.integers.specs.Tests.{allBelow, refusal};
 ghost use Rattle.scheduling.specs.Scheduling.{total};
-ghost use Rattle.records.specs.Records.{countFits, sumFits, totalTrue, lastsAt, unusedZero, recordOf, lawfulRecord, durationOf, durationAt, creationTests, zeroRecord, Creates};
+ghost use Rattle.records.specs.Records.{countFits, sumFits, totalTrue, lastsAt, unusedZero, recordOf, lawfulRecord, durationOf, durationAt};
+ghost use Rattle.records.specs.Records.{creationTests, zeroRecord, Creates};
 
 // Places from the count on are 0.
 #[repr(C)]
-pub struct Propagator {
+pub struct DisjunctivePropagator {
     pub count: usize,
     pub durations: [u32; TASKS],
     pub total: u32,
@@ -26,7 +28,7 @@ pub enum Creation {
 }
 
 pub struct Created {
-    pub record: Propagator,
+    pub record: DisjunctivePropagator,
     pub answer: Creation,
 }
 
@@ -89,10 +91,10 @@ fn all_last(durations: &[u32; TASKS], n: usize) -> bool
 fn duration_of(x: i32) -> u32
     ensures { λ r. ⌜ r ≡ durationOf x ⌝ }
 {
-    if !integers::at_most(0, x) {
+    if !integers::numbers::at_most(0, x) {
         return 0;
     }
-    integers::nat_of(x)
+    integers::numbers::nat_of(x)
 }
 
 // The durations of a record from a caller's.
@@ -115,23 +117,23 @@ fn creation_refusal(durations: &[i32]) -> u32
 {
     let n = durations.len();
     if !count_fits(n) {
-        return 1;
+        return refused::TASK_COUNT;
     }
     let lengths = durations_of(durations);
     if !all_last(&lengths, n) {
-        return 2;
+        return refused::DURATION;
     }
     if !sum_fits(&lengths, n) {
-        return 5;
+        return refused::DURATION_SUM;
     }
     0
 }
 
 // The record of zeros.
-fn zeros() -> Propagator
+fn zeros() -> DisjunctivePropagator
     ensures { λ r. ⌜ r ≡ zeroRecord ⌝ }
 {
-    Propagator {
+    DisjunctivePropagator {
         count: 0,
         durations: [0u32; TASKS],
         total: 0,
@@ -153,7 +155,7 @@ pub fn create(durations: &[i32]) -> Created
     let lengths = durations_of(durations);
     let total = total_of(&lengths, n) as u32;
     Created {
-        record: Propagator {
+        record: DisjunctivePropagator {
             count: n,
             durations: lengths,
             total,

@@ -1,2 +1,4 @@
-pub mod Words
+pub mod PostNumbers
+pub mod StateTests
+pub mod OverloadWords
 pub mod PassedOn

@@ -1,5 +1,5 @@
--- A call that passes all that it is passed on to an open call, for good, and returns the numbers of what that answers. The tokens and what is said of what was lent go through as they are, so what is left to such a call is the walk of its MIR.
--- Assumes nothing.
+-- A call that passes all that it is passed on to an open call, for good, and returns the numbers of what that answers. The tokens and what is said of what was lent go through as they are, so what is
+-- left to such a call is the walk of its MIR.
 use mathlib.Core.Path.{_≡_}
 use Prim.Native.Nat.{ℕ}
 use mathlib.Core.List.{List, [], _∷_}
@@ -33,7 +33,8 @@ use denote.Triple.Table.{entered, cited}
 use denote.Triple.Walked.{says}
 use Rattle.disjunctive.proofs.Calls.{ContractOf, calls-by}
 
--- the open call's signature, the machine values of what it is passed, and what it says of what it is passed, of its answer and of what it leaves; the numbers of an answer, and what the function that makes them asks of it, if anything; and what the exported call says
+-- the open call's signature, the machine values of what it is passed, and what it says of what it is passed, of its answer and of what it leaves; the numbers of an answer, and what the function that
+-- makes them asks of it, if anything; and what the exported call says
 pub record Passing : Type 2 where
   pub lent : Ended
   pub O : RattleType
@@ -61,7 +62,10 @@ met-asking 𝓤 (some φ) x = factI 𝓤 φ (emp 𝓤) x
 module _ (D : Passing) where
   -- the signature with another result
   abbrev answering : RattleType → Ended
-  answering R = record { signature = record { lifetimes = D .lent .signature .lifetimes; outlives = D .lent .signature .outlives; params = D .lent .signature .params; result = plain (λ _. R) }; kept = D .lent .kept }
+  answering R = record {
+    signature = record { lifetimes = D .lent .signature .lifetimes; outlives = D .lent .signature .outlives; params = D .lent .signature .params; result = plain (λ _. R) };
+    kept = D .lent .kept;
+  }
 
   -- that of the function that makes the numbers
   abbrev numbering : Ended
@@ -88,22 +92,28 @@ module _ (D : Passing) where
     Exported = ContractOf 𝓤 H A (answering (D .N)) told
 
     -- what is passed, at its machine values
-    abbrev pub written : (κs : Lfts (D .lent .signature .lifetimes)) → Shares (D .lent .signature .lifetimes) → AllOutlive (D .lent .signature .lifetimes) (D .lent .signature .outlives) κs → Args (D .lent .signature) κs → Bound 𝓤 H A (D .lent .signature)
+    abbrev pub written : (κs : Lfts (D .lent .signature .lifetimes)) → Shares (D .lent .signature .lifetimes) → AllOutlive (D .lent .signature .lifetimes) (D .lent .signature .outlives) κs
+        → Args (D .lent .signature) κs → Bound 𝓤 H A (D .lent .signature)
     written κs qs bounds a = (κs, qs, bounds, a, valss (typesAt (D .lent .signature .params) κs) (D .values κs) a)
 
     -- what stays from the open call to the end
     abbrev pub Kept : (y : Bound 𝓤 H A (D .lent .signature)) → Lasts (D .lent) (y .0) (y .3) → List (Item 𝓤)
     Kept y us = raw (alive 𝓤 H A (D .lent .signature) (y .0) (y .1)) ∷ ‵ (lasts (D .lent) (y .0) (y .3) us) ∷ []
 
-    pub ends : Given 𝓤 H A → (y : Bound 𝓤 H A (D .lent .signature)) (us : Lasts (D .lent) (y .0) (y .3)) (w : Val) (m : D .N .Denot) → D .Told (y .0) (y .3) m (atExit (D .lent) (y .0) (y .3) us) → ent 𝓤 (⋆ 𝓤 H A (‵ (D .N .own m (w ∷ [])) ∷ Kept y us)) (Exported .post (y, tt) w)
+    pub ends : Given 𝓤 H A → (y : Bound 𝓤 H A (D .lent .signature)) (us : Lasts (D .lent) (y .0) (y .3)) (w : Val) (m : D .N .Denot) → D .Told (y .0) (y .3) m (atExit (D .lent) (y .0) (y .3) us)
+        → ent 𝓤 (⋆ 𝓤 H A (‵ (D .N .own m (w ∷ [])) ∷ Kept y us)) (Exported .post (y, tt) w)
     ends W y us w m e =
-        qed W (‵ (D .N .own m (w ∷ [])) ∷ Kept y us) ∵ updating ! $ at-once ! $ show ! (λ (m′ : D .N .Denot). sep 𝓤 (Back 𝓤 H A (answering (D .N) .signature) y w m′) (ensured 𝓤 H A (answering (D .N)) told (y .0) (y .3) tt m′)) m $
+        qed W (‵ (D .N .own m (w ∷ [])) ∷ Kept y us) ∵ updating ! $ at-once ! $ show !
+        (λ (m′ : D .N .Denot). sep 𝓤 (Back 𝓤 H A (answering (D .N) .signature) y w m′) (ensured 𝓤 H A (answering (D .N)) told (y .0) (y .3) tt m′)) m $
         move ! (1 ∷ 0 ∷ []) $ join ! $ frame ! $
-        show ! (λ (ws : Lasts (D .lent) (y .0) (y .3)). sep 𝓤 (sem 𝓤 H A (lasts (D .lent) (y .0) (y .3) ws)) (fact 𝓤 (D .Told (y .0) (y .3) m (atExit (D .lent) (y .0) (y .3) ws)))) us $ says ! e $ done !
+        show ! (λ (ws : Lasts (D .lent) (y .0) (y .3)). sep 𝓤 (sem 𝓤 H A (lasts (D .lent) (y .0) (y .3) ws)) (fact 𝓤 (D .Told (y .0) (y .3) m (atExit (D .lent) (y .0) (y .3) ws)))) us $ says ! e $
+        done !
 
 -- the two calls of the walk
-module _ {M : Type 1} {𝓤 : URA M} {H : Heap 𝓤} {A : Atoms 𝓤} {K : Type 0} {W : Given 𝓤 H A} {Γ : List (Item 𝓤)} {C : Calls 𝓤 H} {Λ : Loops 𝓤 H} {E : Locals 𝓤 H} {q : Post 𝓤 H} {f : Name} {xs : List Operand} {d : Place} {rest : Body} where
-  pub calls-open : K → FmC 𝓤 H (W .laws) C → (D : Passing) → Triple 𝓤 (C f) (Lent D 𝓤 H A) → (y : Bound 𝓤 H A (D .lent .signature)) → Opds K W (raw (Lent D 𝓤 H A .pre (y, tt)) ∷ Γ) E xs (passed 𝓤 H A (D .lent .signature) y)
+module _ {M : Type 1} {𝓤 : URA M} {H : Heap 𝓤} {A : Atoms 𝓤} {K : Type 0} {W : Given 𝓤 H A} {Γ : List (Item 𝓤)} {C : Calls 𝓤 H} {Λ : Loops 𝓤 H} {E : Locals 𝓤 H} {q : Post 𝓤 H} {f : Name}
+    {xs : List Operand} {d : Place} {rest : Body} where
+  pub calls-open : K → FmC 𝓤 H (W .laws) C → (D : Passing) → Triple 𝓤 (C f) (Lent D 𝓤 H A) → (y : Bound 𝓤 H A (D .lent .signature))
+      → Opds K W (raw (Lent D 𝓤 H A .pre (y, tt)) ∷ Γ) E xs (passed 𝓤 H A (D .lent .signature) y)
       → ((v : Val) (r : D .O .Denot) (us : Lasts (D .lent) (y .0) (y .3)) → D .Left (y .0) (y .3) r (atExit (D .lent) (y .0) (y .3) us) → Is (D .O) r (v ∷ [])
       → Seq K W (‵ (D .O .own r (v ∷ [])) ∷ raw (alive 𝓤 H A (D .lent .signature) (y .0) (y .1)) ∷ ‵ (lasts (D .lent) (y .0) (y .3) us) ∷ Γ) (lands C Λ E d v rest q))
       → Seq K W (raw (Lent D 𝓤 H A .pre (y, tt)) ∷ Γ) (runs C Λ E (seq (call f xs d) rest) q)
@@ -122,8 +132,10 @@ module _ {M : Type 1} {𝓤 : URA M} {H : Heap 𝓤} {A : Atoms 𝓤} {K : Type 
 
 -- four were lent, the last of them a slice: it is as long as it was
 module _ {M : Type 1} {𝓤 : URA M} {H : Heap 𝓤} {A : Atoms 𝓤} {K : Type 0} {W : Given 𝓤 H A} {Γ : List (Item 𝓤)} {G : Goal 𝓤 H} where
-  pub fourth-as-long : K → {F₁ F₂ F₃ X Y : Fml} {l m : ℕ} → (l ≡ m → Seq K W (‵ (fsep F₁ (fsep F₂ (fsep F₃ (fsep (fsep X (feq ℕ l m)) Y)))) ∷ Γ) G) → Seq K W (‵ (fsep F₁ (fsep F₂ (fsep F₃ (fsep (fsep X (feq ℕ l m)) Y)))) ∷ Γ) G
-  fourth-as-long t {F₁} {F₂} {F₃} {X} {Y} {l} {m} k = use1 W (given (l ≡ m) (‵ (fsep F₁ (fsep F₂ (fsep F₃ (fsep (fsep X (feq ℕ l m)) Y)))))) (fact-use 𝓤 (l ≡ m) same (λ e. guardI 𝓤 (l ≡ m) _ e)) $ learn t k
+  pub fourth-as-long : K → {F₁ F₂ F₃ X Y : Fml} {l m : ℕ} → (l ≡ m → Seq K W (‵ (fsep F₁ (fsep F₂ (fsep F₃ (fsep (fsep X (feq ℕ l m)) Y)))) ∷ Γ) G)
+      → Seq K W (‵ (fsep F₁ (fsep F₂ (fsep F₃ (fsep (fsep X (feq ℕ l m)) Y)))) ∷ Γ) G
+  fourth-as-long t {F₁} {F₂} {F₃} {X} {Y} {l} {m} k =
+      use1 W (given (l ≡ m) (‵ (fsep F₁ (fsep F₂ (fsep F₃ (fsep (fsep X (feq ℕ l m)) Y)))))) (fact-use 𝓤 (l ≡ m) same (λ e. guardI 𝓤 (l ≡ m) _ e)) $ learn t k
     where
       same : ent 𝓤 (sem 𝓤 H A (fsep F₁ (fsep F₂ (fsep F₃ (fsep (fsep X (feq ℕ l m)) Y))))) (fact 𝓤 (l ≡ m))
       same = qed W (‵ (fsep F₁ (fsep F₂ (fsep F₃ (fsep (fsep X (feq ℕ l m)) Y)))) ∷ []) ∵
@@ -131,13 +143,17 @@ module _ {M : Type 1} {𝓤 : URA M} {H : Heap 𝓤} {A : Atoms 𝓤} {K : Type 
 
 -- the walk: from what the parameters own, at their machine values written out
 abbrev pub Walks : (M : Type 1) → Passing → Fn → Name → Name → Type 2
-Walks M D fn lent numbers = (𝓤 : URA M) (H : Heap 𝓤) (A : Atoms 𝓤) (W : Given 𝓤 H A) (C : Calls 𝓤 H) (Λ : Loops 𝓤 H) → FmC 𝓤 H (W .laws) C → Triple 𝓤 (C lent) (Lent D 𝓤 H A) → Triple 𝓤 (C numbers) (Numbers D 𝓤 H A)
-    → (κs : Lfts (D .lent .signature .lifetimes)) (qs : Shares (D .lent .signature .lifetimes)) (bounds : AllOutlive (D .lent .signature .lifetimes) (D .lent .signature .outlives) κs) (a : Args (D .lent .signature) κs)
+Walks M D fn lent numbers = (𝓤 : URA M) (H : Heap 𝓤) (A : Atoms 𝓤) (W : Given 𝓤 H A) (C : Calls 𝓤 H) (Λ : Loops 𝓤 H) → FmC 𝓤 H (W .laws) C → Triple 𝓤 (C lent) (Lent D 𝓤 H A)
+    → Triple 𝓤 (C numbers) (Numbers D 𝓤 H A)
+    → (κs : Lfts (D .lent .signature .lifetimes)) (qs : Shares (D .lent .signature .lifetimes)) (bounds : AllOutlive (D .lent .signature .lifetimes) (D .lent .signature .outlives) κs)
+    (a : Args (D .lent .signature) κs)
     → Are (typesAt (D .lent .signature .params) κs) (Ises (typesAt (D .lent .signature .params) κs)) a (valss (typesAt (D .lent .signature .params) κs) (D .values κs) a)
-    → ent 𝓤 (Lent D 𝓤 H A .pre (written D 𝓤 H A κs qs bounds a, tt)) (WpFn 𝓤 H C Λ fn (passed 𝓤 H A (D .lent .signature) (written D 𝓤 H A κs qs bounds a)) (Exported D 𝓤 H A .post (written D 𝓤 H A κs qs bounds a, tt)))
+    → ent 𝓤 (Lent D 𝓤 H A .pre (written D 𝓤 H A κs qs bounds a, tt))
+    (WpFn 𝓤 H C Λ fn (passed 𝓤 H A (D .lent .signature) (written D 𝓤 H A κs qs bounds a)) (Exported D 𝓤 H A .post (written D 𝓤 H A κs qs bounds a, tt)))
 
 module _ (D : Passing) {M : Type 1} (𝓤 : URA M) (H : Heap 𝓤) where
-  meets : (A : Atoms 𝓤) (W : Given 𝓤 H A) (C : Calls 𝓤 H) (Λ : Loops 𝓤 H) → FmC 𝓤 H (W .laws) C → (fn : Fn) (lent numbers : Name) → Triple 𝓤 (C lent) (Lent D 𝓤 H A) → Triple 𝓤 (C numbers) (Numbers D 𝓤 H A) → Walks M D fn lent numbers → Triple 𝓤 (WpFn 𝓤 H C Λ fn) (Exported D 𝓤 H A)
+  meets : (A : Atoms 𝓤) (W : Given 𝓤 H A) (C : Calls 𝓤 H) (Λ : Loops 𝓤 H) → FmC 𝓤 H (W .laws) C → (fn : Fn) (lent numbers : Name) → Triple 𝓤 (C lent) (Lent D 𝓤 H A)
+      → Triple 𝓤 (C numbers) (Numbers D 𝓤 H A) → Walks M D fn lent numbers → Triple 𝓤 (WpFn 𝓤 H C Λ fn) (Exported D 𝓤 H A)
   meets A W C Λ fm fn lent numbers known known′ walk y =
       let Q : Vals (D .lent .signature) (y .0 .0) → SProp 𝓤 = λ us. WpFn 𝓤 H C Λ fn (flat (typesAt (D .lent .signature .params) (y .0 .0)) us) (Exported D 𝓤 H A .post y) in
       via 𝓤 (sep 𝓤 (emp 𝓤) (wand 𝓤 (emp 𝓤) (Q (y .0 .4))))
@@ -148,7 +164,8 @@ module _ (D : Passing) {M : Type 1} (𝓤 : URA M) (H : Heap 𝓤) where
       (apply∗ 𝓤 (emp 𝓤) (Q (y .0 .4)))
 
   pub passed-on : (𝓜 : Model 𝓤 H) (𝓖 : GhostRules 𝓤 H) (𝓡 : Running 𝓤 H 𝓜) (env : Env) (key : Name) (fn : Fn) → Closed 𝓤 H (tables 𝓤 H 𝓜 𝓡 env .C) (tables 𝓤 H 𝓜 𝓡 env .Λ) key fn
-      → (lent : Name) (r : Routine) → env lent ≡ r → Triple 𝓤 (𝓡 .run r) (Lent D 𝓤 H (𝓖 .A)) → (numbers : Name) (s : Routine) → env numbers ≡ s → Triple 𝓤 (𝓡 .run s) (Numbers D 𝓤 H (𝓖 .A)) → Walks M D fn lent numbers → Triple 𝓤 (𝓡 .run (env key)) (Exported D 𝓤 H (𝓖 .A))
+      → (lent : Name) (r : Routine) → env lent ≡ r → Triple 𝓤 (𝓡 .run r) (Lent D 𝓤 H (𝓖 .A)) → (numbers : Name) (s : Routine) → env numbers ≡ s → Triple 𝓤 (𝓡 .run s) (Numbers D 𝓤 H (𝓖 .A))
+      → Walks M D fn lent numbers → Triple 𝓤 (𝓡 .run (env key)) (Exported D 𝓤 H (𝓖 .A))
   unfolding tablesOf
   passed-on 𝓜 𝓖 𝓡 env key fn closed lent r is met numbers s is′ met′ walk =
       entered 𝓤 H (Exported D 𝓤 H (𝓖 .A)) (tables 𝓤 H 𝓜 𝓡 env .C) (tables 𝓤 H 𝓜 𝓡 env .Λ) key fn closed

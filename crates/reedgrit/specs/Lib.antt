@@ -1,2 +1,6 @@
-pub mod Calls
-pub mod Requests
+pub mod Posts
+pub mod Checks
+pub mod States
+pub mod StateExamples
+pub mod SourceCalls
+pub mod AddedCalls

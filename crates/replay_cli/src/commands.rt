@@ -1,30 +1,30 @@
 // A line's command, and its answer.
-use crate::requests::asks;
-use disjunctive::Propagator;
+use crate::changes::created;
+use crate::changes::with_task;
+use crate::changes::without_task;
+use crate::checks::checks;
+use crate::lines::say;
+use crate::lines::say_error;
+use crate::parts::LISTS;
+use crate::parts::WORDS;
+use crate::parts::after_word;
+use crate::parts::first_word;
+use crate::parts::list;
+use crate::parts::lists_in;
+use crate::parts::same;
+use crate::range_commands::asks;
+use crate::states::applied;
+use crate::states::emptied;
+use crate::states::prepared;
+use crate::states::tells;
+use disjunctive::DisjunctivePropagator;
 use disjunctive::VariableState;
 use disjunctive::create;
-use replay_lines::lines::say;
-use replay_lines::lines::say_error;
-use replay_lines::parts::LISTS;
-use replay_lines::parts::WORDS;
-use replay_lines::parts::after_word;
-use replay_lines::parts::first_word;
-use replay_lines::parts::list;
-use replay_lines::parts::lists_in;
-use replay_lines::parts::same;
-use replay_states::changes::created;
-use replay_states::changes::with_task;
-use replay_states::changes::without_task;
-use replay_states::checks::checks;
-use replay_states::states::applied;
-use replay_states::states::emptied;
-use replay_states::states::prepared;
-use replay_states::states::tells;
 
 // What is kept between commands.
 pub struct Session {
     pub made: bool,
-    pub record: Propagator,
+    pub record: DisjunctivePropagator,
     pub state: VariableState,
 }
 
@@ -42,7 +42,7 @@ impl Session {
     }
 
     // The session with another record.
-    fn recorded(self, record: Propagator) -> Session {
+    fn recorded(self, record: DisjunctivePropagator) -> Session {
         let state = self.state;
         Session {
             made: true,

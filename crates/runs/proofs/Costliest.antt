@@ -1,5 +1,4 @@
 -- A run on the costliest tasks of a count n: it ends done, posts nothing, and makes 4n − 3 leaf changes.
--- Assumes nothing.
 use mathlib.Core.Path.{_≡_, refl, sym, ap, subst, _∙_}
 use mathlib.Core.Bool.{true, false}
 use mathlib.Core.Logic.{inl, inr}
@@ -16,23 +15,23 @@ use Rattle.integers.specs.Moments.{moment, instant, Above, zeroAt}
 use Rattle.integers.specs.Orders.{index}
 use Rattle.integers.proofs.Bools.{clash}
 use Rattle.integers.proofs.Ints.{ints, up, dn}
-use Rattle.integers.proofs.Moments.{instant-moment, above-up, zero-above}
+use Rattle.integers.proofs.MomentSums.{instant-moment, above-up, zero-above}
 use Rattle.scheduling.specs.Scheduling.{natural, Tasks, tasksOf, Proper, TaskSet, _with_, In, EstPlusP, Ect, NoOverlap}
 use Rattle.scheduling.specs.Moments.{moments, ByEarliest, ByCompletion}
 use Rattle.scheduling.proofs.Sets.{with-in, with-new}
 use Rattle.scheduling.proofs.Processing.{processing-with, processing-empty}
 use Rattle.scheduling.proofs.Windows.{ends-by}
 use Rattle.scheduling.proofs.Exists.{ect-some}
-use Rattle.ects.specs.Ects.{exceeds}
-use Rattle.ects.proofs.Ects.{some-exceeds}
+use Rattle.trees.specs.Ects.{exceeds}
+use Rattle.trees.proofs.Ects.{some-exceeds}
 use Rattle.trees.specs.Leaves.{Leaf, empty, white, gray, inTheta, inLambda, ect, ect-bar, responsible}
-use Rattle.trees.proofs.Roots as tree
+use Rattle.trees.proofs.RootAnswers as tree
 use Rattle.runs.specs.Traces.{done, Trace}
 use Rattle.runs.specs.Runs.{State, on, inner, outer, run, grayed, dropped, allWhite, lct, tabulate, earliestOrder, completionOrder, propagate}
 use Rattle.runs.specs.Costliest.{costliestStarts, costliestDurations}
 use Rattle.runs.proofs.Demand.{by-earliest, by-completion}
-use Rattle.runs.proofs.Fuel.{opt, inner-off, inner-pass, propagate-is, run-is, outer-end, outer-on}
-use Rattle.runs.proofs.Tables.{tab-length, tab-at, tabulated}
+use Rattle.runs.proofs.InnerLoop.{opt, inner-off, inner-pass, propagate-is, run-is, outer-end, outer-on}
+use Rattle.runs.proofs.TaskLists.{tab-length, tab-at, tabulated}
 
 -- Task k has the single start z + 10k, and lasts 10.
 record Chain (z : ℕ) (J : Tasks natural) : Type 0 where
@@ -162,14 +161,16 @@ module _ (z : ℕ) (J : Tasks natural) (c : Chain z J) where
         over =
             let (v, e) = ect-some J (below (suc f) with suc f) (suc f, record { small = small; mem = with-new (below (suc f)) (suc f) }) in
             let (u, is, most) = tree.bar-some J proper estOrder rk ls (below (suc f)) (nothing with suc f) s (inl (f, last-in)) in
-            some-exceeds (ect-bar J estOrder ls) u (lct o J estOrder lctOrder t) is (omega (arith, lct-f, joint v e, most .bounds v (inr (suc f, record { small = small; mem = with-new nothing (suc f) }, e))))
+            some-exceeds (ect-bar J estOrder ls) u (lct o J estOrder lctOrder t) is
+            (omega (arith, lct-f, joint v e, most .bounds v (inr (suc f, record { small = small; mem = with-new nothing (suc f) }, e))))
 
         found : (x : ℕ) → responsible J estOrder ls ≡ some x → getD estOrder x 0 ≡ suc f
         found x w = only (getD estOrder x 0) (tree.one-found J proper estOrder rk ls (below (suc f)) (nothing with suc f) s x w .gray .mem)
 
         someone : (x : ℕ) × (responsible J estOrder ls ≡ some x)
         someone = elim (opt (responsible J estOrder ls)) [
-          | inl w ↦ clash (ap (λ (u : Option ℕ). exceeds u (lct o J estOrder lctOrder t)) (sym (tree.none-found J proper estOrder rk ls (below (suc f)) (nothing with suc f) s w)) ∙ over) (quiet ls (nothing with suc f) s)
+          | inl w ↦ clash (ap (λ (u : Option ℕ). exceeds u (lct o J estOrder lctOrder t)) (sym (tree.none-found J proper estOrder rk ls (below (suc f)) (nothing with suc f) s w)) ∙ over)
+              (quiet ls (nothing with suc f) s)
           | inr w ↦ w
         ]
 
@@ -193,7 +194,8 @@ module _ (z : ℕ) (J : Tasks natural) (c : Chain z J) where
     -- the last task of Θ goes to Λ
     moved : (f : ℕ) (ls : List Leaf) → suc f < n → Shows ls (below (suc (suc f))) nothing → Shows (set ls (index estOrder (suc f)) gray) (below (suc f)) (nothing with suc f)
     moved f ls small s =
-        tree.recoloured J proper estOrder rk ls (below (suc (suc f))) nothing (below (suc f)) (nothing with suc f) s (suc f) small gray (le-ltb (suc f) (suc f) (omega arith)) (with-new nothing (suc f))
+        tree.recoloured J proper estOrder rk ls (below (suc (suc f))) nothing (below (suc f)) (nothing with suc f) s (suc f) small gray (le-ltb (suc f) (suc f) (omega arith))
+        (with-new nothing (suc f))
         (λ j ne. (fewer j ne, alone-in j ne))
       where
         fewer : (j : ℕ) → (j ≡ suc f → ⊥) → below (suc f) j ≡ below (suc (suc f)) j

@@ -1,5 +1,4 @@
 -- A run is right: what its trace leaves is what demand 3 says, for every accepted input.
--- Assumes nothing.
 use mathlib.Core.Path.{_≡_, refl, sym}
 use mathlib.Core.Bool.{true}
 use mathlib.Core.Logic.{_⊎_, inl, inr, _↔_}
@@ -15,19 +14,19 @@ use Rattle.integers.specs.Limits.{TASKS, DURATIONS, MIRRORED}
 use Rattle.integers.specs.Moments.{moment, Above, zeroAt}
 use Rattle.integers.specs.Orders.{index, numbers, Ordered}
 use Rattle.integers.proofs.Ints.{ints}
-use Rattle.integers.proofs.Moments.{same, reflect, reflect<, above-up, more-above, at-moment}
+use Rattle.integers.proofs.MomentSums.{same, reflect, reflect<, above-up, more-above, at-moment}
 use Rattle.integers.proofs.Permutations.{numbers-permute}
-use Rattle.integers.proofs.Sorting.{sort-ordered, key-whole, key-chain}
+use Rattle.integers.proofs.StableSort.{sort-ordered, key-whole, key-chain}
 use Rattle.scheduling.specs.Scheduling.{whole, natural, Tasks, tasksOf, Proper, total, processing, completion, Done, Conflict}
 use Rattle.scheduling.proofs.Processing.{processing-all}
-use Rattle.scheduling.proofs.Transfer.{sound, done←, conflict←}
+use Rattle.scheduling.proofs.Clocks.{sound, done←, conflict←}
 use Rattle.scheduling.specs.Moments.{moments, ByEarliest, ByCompletion}
 use Rattle.scheduling.proofs.Schedules.{conflict-sound}
 use Rattle.runs.specs.Traces.{End, done, overload, emptied, Trace}
 use Rattle.runs.specs.Runs.{run, propagate, byEarliest, byCompletion, earliestOrder, completionOrder}
 use Rattle.runs.specs.Demand.{Right, PostRight, OverloadRight, post}
-use Rattle.runs.proofs.Steps.{OutOk, run-ok}
-use Rattle.runs.proofs.Good.{all-right}
+use Rattle.runs.proofs.LevelSteps.{OutOk, run-ok}
+use Rattle.runs.proofs.RightReasons.{all-right}
 
 -- What no number refuses: from 1 to TASKS tasks, durations of 1 or more with a sum of at most DURATIONS, starts within ±limit, each earliest at most its latest.
 -- The caller's limit is START; mirrored, such starts are within MIRRORED.
@@ -90,7 +89,8 @@ module _ (o : ℕ) (Z : Tasks whole) (okz : Proper Z) (deepz : (k : ℕ) → k <
   in-range : (j : ℕ) → j < length (tr .posts) → j < many → post tr j .bound ≤ℤ Z .latest (post tr j .task)
   in-range j q r =
       let small = out .left .stand .stand .small j r in
-      reflect o (post tr j .bound) (Z .latest (post tr j .task)) (bound-above j q) (latest-above (post tr j .task) small) (omega (arith, out .left .stand .stand .agrees j r, out .left .stand .to (post tr j .task) small))
+      reflect o (post tr j .bound) (Z .latest (post tr j .task)) (bound-above j q) (latest-above (post tr j .task) small)
+      (omega (arith, out .left .stand .stand .agrees j r, out .left .stand .to (post tr j .task) small))
 
   past : (j : ℕ) → j < length (tr .posts) → many ≤ j → Z .latest (post tr j .task) <ℤ post tr j .bound
   past j q r = reflect< o (Z .latest (post tr j .task)) (post tr j .bound) (latest-above (post tr j .task) (out .goods j q .small)) (bound-above j q) (out .left .stand .above j r q)

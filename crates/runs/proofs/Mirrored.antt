@@ -1,5 +1,4 @@
 -- The mirrored pass is right: what a run on mirrored tasks leaves, told in the caller's time, is what the mirrored rule gives. Its words are the run's, mirrored in place.
--- Assumes nothing.
 use mathlib.Core.Path.{_≡_, refl, sym, ap, ap₂, subst, fun-ext, _∙_}
 use mathlib.Core.Bool.{true}
 use mathlib.Core.List.{List, [], _∷_, _++_, map, map-append}
@@ -13,16 +12,18 @@ use mir.Syntax.{w32}
 use mir.Val.{SFits}
 use Rattle.integers.specs.Limits.{START, DURATIONS, MIRRORED}
 use Rattle.integers.specs.Moments.{Above, instant, zeroAt}
-use Rattle.integers.proofs.Filling.{getD-map-in, filled-none, filled-more, filled-length, filled-past, filled-all}
+use Rattle.integers.proofs.FilledLists.{filled-none, filled-more, filled-length, filled-past, filled-all}
+use Rattle.integers.proofs.Lists.{getD-map-in}
 use Rattle.integers.proofs.Ints.{up, dn, ints, sumℤ, sub-law, fits-show}
-use Rattle.integers.proofs.Moments.{above-show, at-moment, more-above}
+use Rattle.integers.proofs.MomentSums.{above-show, at-moment, more-above}
 use Rattle.scheduling.specs.Scheduling.{whole, natural, Tasks, tasksOf, Proper, Atom, Every, PassesWith, PassesAlone}
 use Rattle.scheduling.specs.Words.{atomWords, no-atom}
-use Rattle.scheduling.specs.Mirroring.{mirrorStart, mirror, mirrorKind, mirrorAtom, mirrorAtoms, MirroredDone}
-use Rattle.scheduling.proofs.Mirroring.{at-mirror, start-twice, start-falls, start-falls<, atom-twice, atoms-twice, edge-mirrored, conflict-mirrored, schedule-mirrored, done-mirrored, holds-mirrored}
-use Rattle.scheduling.proofs.Passed.{every-append}
+use Rattle.scheduling.specs.MirroredTime.{mirrorStart, mirror, mirrorKind, mirrorAtom, mirrorAtoms, MirroredDone}
+use Rattle.scheduling.proofs.MirroredTime.{at-mirror, start-twice, start-falls, start-falls<, atom-twice, atoms-twice, edge-mirrored, conflict-mirrored, schedule-mirrored, done-mirrored}
+use Rattle.scheduling.proofs.MirroredTime.{holds-mirrored}
+use Rattle.scheduling.proofs.Every.{every-append}
 use Rattle.scheduling.proofs.Processing.{processing-all, processing-less}
-use Rattle.scheduling.proofs.Transfer.{sound}
+use Rattle.scheduling.proofs.Clocks.{sound}
 use Rattle.scheduling.specs.Moments.{moments}
 use Rattle.scheduling.proofs.Words.{Three, three-words, atoms-length, atom-set}
 use Rattle.runs.specs.Traces.{Post, End, done, overload, emptied, Trace}
@@ -31,13 +32,13 @@ use Rattle.runs.specs.Demand.{Right, PostRight, OverloadRight, consequen
 use Rattle.runs.specs.Words.{postWords, reasons, endReason, atomsIn, postsAfter, atomsAfter}
 use Rattle.runs.specs.MirroredWords.{Near, postsTo, atomsTo}
 use Rattle.runs.specs.Mirrored.{mirrorStarts, durationIn, mirrorPost, mirrorEnd, mirrorTrace, mirroredRun, mirroredPass, MirroredPostRight, MirroredOverloadRight, MirroredRight}
-use Rattle.runs.proofs.Buffers.{posts-length}
+use Rattle.runs.proofs.WrittenSlices.{posts-length}
 use Rattle.runs.proofs.Demand.{Accepted, by-earliest, by-completion, demand-3}
-use Rattle.runs.proofs.Few.{posts-fit, atoms-fit}
-use Rattle.runs.proofs.Fuel.{propagate-is}
-use Rattle.runs.proofs.Readers.{four-words, startOf}
-use Rattle.runs.proofs.Shapes.{Shaped, post-shaped, overload-shaped}
-use Rattle.runs.proofs.Starts.{starts-length, starts-between}
+use Rattle.runs.proofs.WordRoom.{posts-fit, atoms-fit}
+use Rattle.runs.proofs.InnerLoop.{propagate-is}
+use Rattle.runs.proofs.PostReaders.{four-words, startOf}
+use Rattle.runs.proofs.AtomShapes.{Shaped, post-shaped, overload-shaped}
+use Rattle.runs.proofs.StartsLeft.{starts-length, starts-between}
 
 -- Lists of starts --------------------------------------------------------------------------------------------------------------
 
@@ -238,7 +239,10 @@ near-at ds (a ∷ rest) h (suc m) q = near-at ds rest (h .1) m (omega arith)
 -- Told in the caller's time, what is near is within ±MIRRORED, and so an i32.
 pub near-told : (ds : List ℕ) (a : Atom) → Near ds a → Above MIRRORED (mirrorStart (durationIn ds (a .variable)) (a .value)) × (mirrorStart (durationIn ds (a .variable)) (a .value) ≤ℤ pos MIRRORED)
 unfolding up dn
-near-told ds a r = (above-show MIRRORED (mirrorStart p (a .value)) (omega (ints, at-mirror p (a .value), sumℤ (a .value) (pos p), r .high)), omega (ints, at-mirror p (a .value), at-moment MIRRORED (a .value) (r .low)))
+near-told ds a r = (
+  above-show MIRRORED (mirrorStart p (a .value)) (omega (ints, at-mirror p (a .value), sumℤ (a .value) (pos p), r .high)),
+  omega (ints, at-mirror p (a .value), at-moment MIRRORED (a .value) (r .low)),
+)
   where
     p : ℕ
     p = durationIn ds (a .variable)
@@ -302,7 +306,8 @@ module _ (ds : List ℕ) (es ls : List ℤ) (a : Accepted START ds es ls) (long-
 
   -- and the run's bounds and reasons are near, so that they can be mirrored in words.
   pub post-near : (j : ℕ) → j < length (mirroredRun ds es ls .posts) → Near ds (consequentOf (post (mirroredRun ds es ls) j))
-  post-near j q = shaped-near ds early late (consequentOf (post (mirroredRun ds es ls) j)) (post-shaped MIRRORED START (omega arith) (omega arith) ds early late mirrored-accepted ending starting j q .says)
+  post-near j q = shaped-near ds early late (consequentOf (post (mirroredRun ds es ls) j))
+      (post-shaped MIRRORED START (omega arith) (omega arith) ds early late mirrored-accepted ending starting j q .says)
 
   -- a post's reason and an overload's have at most two atoms to a task
   pub reason-near : (j : ℕ) → j < length (mirroredRun ds es ls .posts) → Every (Near ds) (post (mirroredRun ds es ls) j .reason) × (length (post (mirroredRun ds es ls) j .reason) ≤ 2 * length ds)
@@ -396,12 +401,15 @@ module _ (ds : List ℕ) where
 
     -- what a turn reads, and what it leaves
     pub post-task : getD (postWords from (postsTo ds i ps) ++ tail) (4 * i) (pos 0) ≡ pos (getD ps i no-post .task)
-    post-task = List·getD-append (postWords from (postsTo ds i ps)) tail (pos 0) (4 * i) (omega (arith, posts-length (postsTo ds i ps) from, long)) ∙ four-words (postsTo ds i ps) from i long .task ∙ ap (λ (p : Post). pos (p .task)) still
+    post-task = List·getD-append (postWords from (postsTo ds i ps)) tail (pos 0) (4 * i) (omega (arith, posts-length (postsTo ds i ps) from, long)) ∙ four-words (postsTo ds i ps) from i long .task
+        ∙ ap (λ (p : Post). pos (p .task)) still
 
     pub post-bound : getD (postWords from (postsTo ds i ps) ++ tail) (4 * i + 1) (pos 0) ≡ getD ps i no-post .bound
-    post-bound = List·getD-append (postWords from (postsTo ds i ps)) tail (pos 0) (4 * i + 1) (omega (arith, posts-length (postsTo ds i ps) from, long)) ∙ four-words (postsTo ds i ps) from i long .bound ∙ ap (λ (p : Post). p .bound) still
+    post-bound = List·getD-append (postWords from (postsTo ds i ps)) tail (pos 0) (4 * i + 1) (omega (arith, posts-length (postsTo ds i ps) from, long))
+        ∙ four-words (postsTo ds i ps) from i long .bound ∙ ap (λ (p : Post). p .bound) still
 
-    pub posts-step : set (postWords from (postsTo ds i ps) ++ tail) (4 * i + 1) (mirrorStart (durationIn ds (getD ps i no-post .task)) (getD ps i no-post .bound)) ≡ postWords from (postsTo ds (i + 1) ps) ++ tail
+    pub posts-step : set (postWords from (postsTo ds i ps) ++ tail) (4 * i + 1) (mirrorStart (durationIn ds (getD ps i no-post .task)) (getD ps i no-post .bound)) ≡ postWords from
+        (postsTo ds (i + 1) ps) ++ tail
     posts-step = post-set (postsTo ds i ps) tail from i (mirrorPost ds (getD ps i no-post)) long (ap (λ (p : Post). p .task) (sym still))
         (length-map (getD ps i no-post .reason) (mirrorAtom (durationIn ds)) ∙ ap (λ (p : Post). length (p .reason)) (sym still))
         ∙ ap (λ (l : List Post). postWords from l ++ tail) (sym (filled-more (λ k. mirrorPost ds (getD ps k no-post)) i ps))
@@ -416,7 +424,8 @@ module _ (ds : List ℕ) where
     pub atom-read : Three (atomWords (atomsTo ds i xs) ++ tail) (3 * i) (getD xs i no-atom)
     atom-read = subst (Three (atomWords (atomsTo ds i xs) ++ tail) (3 * i)) still-atom (three-words (atomsTo ds i xs) tail i no-atom long-atoms)
 
-    pub atoms-step : set (set (atomWords (atomsTo ds i xs) ++ tail) (3 * i + 1) (pos (mirrorKind (getD xs i no-atom .kind)))) (3 * i + 2) (mirrorStart (durationIn ds (getD xs i no-atom .variable)) (getD xs i no-atom .value))
+    pub atoms-step : set (set (atomWords (atomsTo ds i xs) ++ tail) (3 * i + 1) (pos (mirrorKind (getD xs i no-atom .kind)))) (3 * i + 2)
+        (mirrorStart (durationIn ds (getD xs i no-atom .variable)) (getD xs i no-atom .value))
         ≡ atomWords (atomsTo ds (i + 1) xs) ++ tail
     atoms-step = atom-set (atomsTo ds i xs) tail i (mirrorAtom (durationIn ds) (getD xs i no-atom)) no-atom long-atoms (ap (λ (a : Atom). a .variable) (sym still-atom))
         ∙ ap (λ (l : List Atom). atomWords l ++ tail) (sym (filled-more (λ k. mirrorAtom (durationIn ds) (getD xs k no-atom)) i xs))

@@ -1,5 +1,4 @@
 -- Ties go to the lower task number in both orders of a run.
--- Assumes nothing.
 use mathlib.Core.Path.{_≡_, sym, subst, _∙_}
 use mathlib.Core.Bool.{Bool, true, false}
 use mathlib.Core.Logic.{_⊎_, inl, inr}
@@ -11,7 +10,7 @@ use borrow.Author.Tests.{le-leb}
 use Rattle.integers.specs.Orders.{insert, sort, has, numbers}
 use Rattle.integers.proofs.Bools.{bool, clash}
 use Rattle.integers.proofs.Permutations.{has-nil, has-cases, has-later, has-here, has-at, numbers-permute}
-use Rattle.integers.proofs.Sorting.{insert-on, insert-by, insert-nil, sort-nil, sort-cons, sort-has, sort-length}
+use Rattle.integers.proofs.StableSort.{insert-on, insert-by, insert-nil, sort-nil, sort-cons, sort-has, sort-length}
 use Rattle.scheduling.specs.Scheduling.{natural, Tasks, completion}
 use Rattle.runs.specs.Runs.{byEarliest, byCompletion, earliestOrder, completionOrder}
 
@@ -53,7 +52,8 @@ module _ (le : ℕ → ℕ → Bool) where
   sort-ties : (a d : ℕ) → Ties (sort le (numbers a d))
   unfolding numbers
   sort-ties a zero = subst Ties (sym (sort-nil le)) tt
-  sort-ties a (suc d) = subst Ties (sym (sort-cons le a (numbers (suc a) d))) (insert-ties a (sort le (numbers (suc a) d)) (λ k h. above (suc a) d k (sym (sort-has le (numbers (suc a) d) k) ∙ h)) (sort-ties (suc a) d))
+  sort-ties a (suc d) = subst Ties (sym (sort-cons le a (numbers (suc a) d)))
+      (insert-ties a (sort le (numbers (suc a) d)) (λ k h. above (suc a) d k (sym (sort-has le (numbers (suc a) d) k) ∙ h)) (sort-ties (suc a) d))
 
   ties-at : (l : List ℕ) → Ties l → (s t : ℕ) → s < t → t < length l → le (getD l t 0) (getD l s 0) ≡ true → getD l s 0 < getD l t 0
   ties-at [] h s t q r e = absurd (omega arith)
@@ -65,9 +65,11 @@ module _ (le : ℕ → ℕ → Bool) where
   by-number n s t q r e = ties-at (sort le (numbers 0 n)) (sort-ties 0 n) s t q (omega (arith, sort-length le (numbers 0 n), numbers-permute n .size)) e
 
 -- Of two tasks with one earliest start, the first order has the lower number first;
-pub earliest-ties : (J : Tasks natural) (s t : ℕ) → s < t → t < J .count → J .earliest (getD (earliestOrder J) t 0) ≤ J .earliest (getD (earliestOrder J) s 0) → getD (earliestOrder J) s 0 < getD (earliestOrder J) t 0
+pub earliest-ties : (J : Tasks natural) (s t : ℕ) → s < t → t < J .count → J .earliest (getD (earliestOrder J) t 0) ≤ J .earliest (getD (earliestOrder J) s 0)
+    → getD (earliestOrder J) s 0 < getD (earliestOrder J) t 0
 earliest-ties J s t q r e = by-number (byEarliest J) (J .count) s t q r (le-leb _ _ e)
 
 -- and of two with one latest completion, so has the second.
-pub completion-ties : (J : Tasks natural) (s t : ℕ) → s < t → t < J .count → completion J (getD (completionOrder J) s 0) ≤ completion J (getD (completionOrder J) t 0) → getD (completionOrder J) s 0 < getD (completionOrder J) t 0
+pub completion-ties : (J : Tasks natural) (s t : ℕ) → s < t → t < J .count → completion J (getD (completionOrder J) s 0) ≤ completion J (getD (completionOrder J) t 0)
+    → getD (completionOrder J) s 0 < getD (completionOrder J) t 0
 completion-ties J s t q r e = by-number (byCompletion J) (J .count) s t q r (le-leb _ _ e)

@@ -48,4 +48,5 @@ pub record Right (J : Tasks whole) (t : Trace) : Type 0 where
   -- whatever the outcome, each other post's bound is its task's start,
   pub stands : (j : ℕ) → j < length (t .posts) → post t j .bound ≤ℤ J .latest (post t j .task) → getD (t .starts) (post t j .task) (pos 0) ≡ post t j .bound
   -- and a task that no such post names has the start that it had
-  pub stays : (k : ℕ) → k < J .count → ((j : ℕ) → j < length (t .posts) → post t j .bound ≤ℤ J .latest (post t j .task) → post t j .task ≡ k → ⊥) → getD (t .starts) k (pos 0) ≡ J .earliest k
+  pub stays : (k : ℕ) → k < J .count → ((j : ℕ) → j < length (t .posts) → post t j .bound ≤ℤ J .latest (post t j .task) → post t j .task ≡ k → ⊥)
+      → getD (t .starts) k (pos 0) ≡ J .earliest k

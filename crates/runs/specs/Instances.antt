@@ -6,10 +6,10 @@ use lib.IntN.{pos}
 use lib.ListN.{getD}
 use Rattle.integers.specs.Orders.{sort, insert, index, numbers}
 use Rattle.scheduling.specs.Scheduling.{natural, Tasks, Atom}
-use Rattle.ects.specs.Ects.{decoded}
+use Rattle.trees.specs.Ects.{decoded}
 use Rattle.trees.specs.Leaves.{root, responsible, theta}
-use Rattle.nodes.specs.Nodes.{joinOf, isEmpty}
-use Rattle.nodes.specs.Descents.{gray, tested, descentP, descentEct}
+use Rattle.trees.specs.Nodes.{joinOf, isEmpty}
+use Rattle.trees.specs.Descents.{gray, tested, descentP, descentEct}
 use Rattle.trees.specs.Searches.{stepP, stepEct, searchP, searchEct, thetaOf}
 use Rattle.trees.specs.Shapes.{width, heightFrom, nodeOver}
 use Rattle.runs.specs.Traces.{Post, End, done, overload, emptied, Trace}
@@ -65,15 +65,18 @@ paper =
     ∷ []
 
 pub instances : map (λ (i : Instance). answer (i .tasks)) paper ≡ map (λ (i : Instance). i .leaves) paper
-unfolding propagate run outer inner decoded conflict propagation bounds within tabulate heightFrom sort insert index numbers width root responsible theta joinOf isEmpty gray tested descentP descentEct stepP stepEct searchP searchEct thetaOf nodeOver
+unfolding propagate run outer inner decoded conflict propagation bounds within tabulate heightFrom sort insert index numbers width root responsible theta joinOf
+    isEmpty gray tested descentP descentEct stepP stepEct searchP searchEct thetaOf nodeOver
 instances = refl
 
 -- None of the paper's. The reason takes the first task's own latest start, 8, and not a later one.
 abbrev later : Input
 later = (0, 8, 1) ∷ (5, 5, 4) ∷ (0, 20, 5) ∷ []
 
-pub own-latest-start : answer later ≡ trace (record { task = 2; bound = pos 9; reason = atLeast 0 0 ∷ atMost 0 8 ∷ atLeast 1 5 ∷ atMost 1 5 ∷ atLeast 2 0 ∷ [] } ∷ []) done (0 ∷ 5 ∷ 9 ∷ []) 8
-unfolding propagate run outer inner decoded conflict propagation bounds within tabulate heightFrom sort insert index numbers width root responsible theta joinOf isEmpty gray tested descentP descentEct stepP stepEct searchP searchEct thetaOf nodeOver
+pub own-latest-start : answer later ≡ trace
+    (record { task = 2; bound = pos 9; reason = atLeast 0 0 ∷ atMost 0 8 ∷ atLeast 1 5 ∷ atMost 1 5 ∷ atLeast 2 0 ∷ [] } ∷ []) done (0 ∷ 5 ∷ 9 ∷ []) 8
+unfolding propagate run outer inner decoded conflict propagation bounds within tabulate heightFrom sort insert index numbers width root responsible theta joinOf
+    isEmpty gray tested descentP descentEct stepP stepEct searchP searchEct thetaOf nodeOver
 own-latest-start = refl
 
 -- And two tasks are raised, each by its own post.
@@ -84,7 +87,8 @@ abbrev nine : ℕ → Post
 nine i = record { task = i; bound = pos 9; reason = atLeast 0 0 ∷ atMost 0 7 ∷ atLeast 1 0 ∷ atMost 1 6 ∷ atLeast i 0 ∷ [] }
 
 pub two-raised : answer both ≡ trace (nine 3 ∷ nine 2 ∷ []) done (0 ∷ 1 ∷ 9 ∷ 9 ∷ []) 12
-unfolding propagate run outer inner decoded conflict propagation bounds within tabulate heightFrom sort insert index numbers width root responsible theta joinOf isEmpty gray tested descentP descentEct stepP stepEct searchP searchEct thetaOf nodeOver
+unfolding propagate run outer inner decoded conflict propagation bounds within tabulate heightFrom sort insert index numbers width root responsible theta joinOf
+    isEmpty gray tested descentP descentEct stepP stepEct searchP searchEct thetaOf nodeOver
 two-raised = refl
 
 -- What a post raised stays raised when the run then overloads, and when a later post empties a range: B and E with one task more.
@@ -98,12 +102,14 @@ kept =
     ∷ []
 
 pub starts-kept : map (λ (i : Instance). answer (i .tasks)) kept ≡ map (λ (i : Instance). i .leaves) kept
-unfolding propagate run outer inner decoded conflict propagation bounds within tabulate heightFrom sort insert index numbers width root responsible theta joinOf isEmpty gray tested descentP descentEct stepP stepEct searchP searchEct thetaOf nodeOver
+unfolding propagate run outer inner decoded conflict propagation bounds within tabulate heightFrom sort insert index numbers width root responsible theta joinOf
+    isEmpty gray tested descentP descentEct stepP stepEct searchP searchEct thetaOf nodeOver
 starts-kept = refl
 
 -- Three of the costliest tasks: 4 · 3 − 3 leaf changes.
 pub three-costliest : propagate (costliestDurations 3) (costliestStarts 3) (costliestStarts 3) ≡ trace [] done (0 ∷ 10 ∷ 20 ∷ []) 9
-unfolding propagate run outer inner decoded conflict propagation bounds within tabulate heightFrom sort insert index numbers width root responsible theta joinOf isEmpty gray tested descentP descentEct stepP stepEct searchP searchEct thetaOf nodeOver
+unfolding propagate run outer inner decoded conflict propagation bounds within tabulate heightFrom sort insert index numbers width root responsible theta joinOf
+    isEmpty gray tested descentP descentEct stepP stepEct searchP searchEct thetaOf nodeOver
 three-costliest = refl
 
 -- Three tasks with one earliest start, two of them with one latest completion: ties go to the lower number in both orders.

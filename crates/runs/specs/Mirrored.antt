@@ -7,7 +7,7 @@ use lib.IntN.{ℤ, pos}
 use lib.Signed.{_≤ℤ_, _<ℤ_}
 use lib.ListN.{length, getD}
 use Rattle.scheduling.specs.Scheduling.{whole, Tasks, Schedule, Atom, HoldsAtEntry, PassesWith, PassesAlone}
-use Rattle.scheduling.specs.Mirroring.{mirrorStart, mirror, mirrorAtom, mirrorAtoms, MirroredBound, MirroredConflict, MirroredDone}
+use Rattle.scheduling.specs.MirroredTime.{mirrorStart, mirror, mirrorAtom, mirrorAtoms, MirroredBound, MirroredConflict, MirroredDone}
 use Rattle.runs.specs.Traces.{Post, End, done, overload, emptied, Trace}
 use Rattle.runs.specs.Runs.{propagate}
 use Rattle.runs.specs.Demand.{post}
@@ -79,4 +79,5 @@ pub record MirroredRight (J : Tasks whole) (t : Trace) : Type 0 where
   -- whatever the outcome, each other post's bound is its task's latest start,
   pub stands : (j : ℕ) → j < length (t .posts) → J .earliest (post t j .task) ≤ℤ post t j .bound → getD (t .starts) (post t j .task) (pos 0) ≡ post t j .bound
   -- and a task that no such post names has the latest start that it had
-  pub stays : (k : ℕ) → k < J .count → ((j : ℕ) → j < length (t .posts) → J .earliest (post t j .task) ≤ℤ post t j .bound → post t j .task ≡ k → ⊥) → getD (t .starts) k (pos 0) ≡ J .latest k
+  pub stays : (k : ℕ) → k < J .count → ((j : ℕ) → j < length (t .posts) → J .earliest (post t j .task) ≤ℤ post t j .bound → post t j .task ≡ k → ⊥)
+      → getD (t .starts) k (pos 0) ≡ J .latest k

@@ -4,12 +4,12 @@ use Prim.Native.Nat.{ℕ, _<_}
 use lib.IntN.{pos, _+ℤ_}
 use lib.ListN.{length, getD}
 use lib.Signed.{_≤ℤ_}
-use Rattle.integers.specs.Filling.{filled}
+use Rattle.integers.specs.FilledLists.{filled}
 use Rattle.integers.specs.Limits.{MIRRORED}
 use Rattle.integers.specs.Moments.{Above}
 use Rattle.scheduling.specs.Scheduling.{Atom}
 use Rattle.scheduling.specs.Words.{no-atom}
-use Rattle.scheduling.specs.Mirroring.{mirrorAtom}
+use Rattle.scheduling.specs.MirroredTime.{mirrorAtom}
 use Rattle.runs.specs.Traces.{Post}
 use Rattle.runs.specs.Demand.{no-post}
 use Rattle.runs.specs.Mirrored.{durationIn, mirrorPost}

@@ -5,7 +5,7 @@ use mathlib.Core.List.{List}
 use Prim.Native.Nat.{ℕ, suc}
 use Rattle.integers.specs.Orders.{index}
 use Rattle.scheduling.specs.Scheduling.{natural, Tasks}
-use Rattle.ects.specs.Ects.{exceeds}
+use Rattle.trees.specs.Ects.{exceeds}
 use Rattle.trees.specs.Leaves.{ect}
 use Rattle.runs.specs.Runs.{State, on, grayed, allWhite, candidate, lct, inner}
 
@@ -21,7 +21,8 @@ module _ (o : ℕ) (J : Tasks natural) (estOrder lctOrder : List ℕ) where
   -- the state at the head of level t
   pub data Entered : ℕ → State → Type 0 where
     begins : Entered 0 (allWhite J)
-    follows : (t : ℕ) (st st′ : State) → Entered t st → Quiet t st → inner o J estOrder lctOrder (J .count) (suc t) (movedOn t st) ≡ on st′ → Entered (suc t) st′
+    follows : (t : ℕ) (st st′ : State) → Entered t st → Quiet t st → inner o J estOrder lctOrder (J .count) (suc t) (movedOn t st) ≡ on st′
+        → Entered (suc t) st′
 
   -- a state at level t: at its head, before the inner loop, or after a turn of it
   pub data Reached : ℕ → State → Type 0 where

@@ -13,7 +13,7 @@ use Rattle.integers.specs.Moments.{instant, zeroAt}
 use Rattle.integers.specs.Orders.{sort, index, numbers}
 use Rattle.scheduling.specs.Scheduling.{natural, Tasks, tasksOf, completion, Atom}
 use Rattle.scheduling.specs.Moments.{moments}
-use Rattle.ects.specs.Ects.{exceeds}
+use Rattle.trees.specs.Ects.{exceeds}
 use Rattle.trees.specs.Leaves.{Leaf, empty, white, gray, taskAt, ect, ect-bar, sum, responsible, theta}
 use Rattle.runs.specs.Traces.{Post, End, done, overload, emptied, Trace}
 
@@ -111,7 +111,11 @@ module _ (o : ℕ) (J : Tasks natural) (estOrder lctOrder : List ℕ) where
   posted st i b t = record {
     leaves = st .leaves;
     starts = st .starts;
-    posts = st .posts ++ (record { task = i; bound = instant o b; reason = propagation o J i b (lct t) (sum J estOrder (st .leaves)) (theta J estOrder (st .leaves)) } ∷ []);
+    posts = st .posts ++ (record {
+      task = i;
+      bound = instant o b;
+      reason = propagation o J i b (lct t) (sum J estOrder (st .leaves)) (theta J estOrder (st .leaves));
+    } ∷ []);
     changes = st .changes;
   }
 

@@ -1,5 +1,4 @@
 -- Two lists of tasks that agree on a set have the same est, lct, p and ect there, and so the same overloads and formulas.
--- Assumes nothing.
 use mathlib.Core.Path.{_≡_, sym, ap, subst, _∙_}
 use mathlib.Core.Bool.{Bool, true, cond}
 use Prim.Native.Nat.{ℕ, _+_, _<_}
@@ -93,7 +92,8 @@ module _ {C : Clock} (J K : Tasks C) (X : TaskSet) (a : Agree J K X) where
         est = est→ J K X a S (c .start) sub (c .est);
         lct = lct→ J K X a S (c .end) sub (c .lct);
         ect = ect→ S (c .joint) sub (c .ect);
-        over-i = subst (λ (n : ℕ). C .before (c .end) (C .later (K .earliest i) n)) d (subst (λ (e : C .Moment). C .before (c .end) (C .later e (processing J S + J .duration i))) (a .earliest i im) (c .over-i));
+        over-i = subst (λ (n : ℕ). C .before (c .end) (C .later (K .earliest i) n)) d
+            (subst (λ (e : C .Moment). C .before (c .end) (C .later e (processing J S + J .duration i))) (a .earliest i im) (c .over-i));
         over-Ω = subst (λ (n : ℕ). C .before (c .end) (C .later (c .start) n)) d (c .over-Ω);
         passes = subst (λ (l : C .Moment). C .before l (c .joint)) (a .latest i im) (c .passes);
       }
@@ -117,7 +117,10 @@ module _ {C : Clock} (J : Tasks C) (S Ω : TaskSet) (same : (k : ℕ) → k < J 
   set-lct v e = record { holds = (e .holds .0, to-Ω (e .holds .1), e .holds .2); bounds = λ w h. e .bounds w (h .0, to-S (h .1), h .2) }
 
   pub set-ect : (v : C .Moment) → Ect J S v → Ect J Ω v
-  set-ect v e = record { holds = moved (e .holds); bounds = λ w f. e .bounds w (record { part = f .part; within = λ k h. to-S (record { small = h .small; mem = f .within k h }) .mem; start = f .start; est = f .est; sum = f .sum }) }
+  set-ect v e = record {
+    holds = moved (e .holds);
+    bounds = λ w f. e .bounds w (record { part = f .part; within = λ k h. to-S (record { small = h .small; mem = f .within k h }) .mem; start = f .start; est = f .est; sum = f .sum });
+  }
     where
       moved : EstPlusP J S v → EstPlusP J Ω v
       moved f = record { part = f .part; within = λ k h. to-Ω (record { small = h .small; mem = f .within k h }) .mem; start = f .start; est = f .est; sum = f .sum }

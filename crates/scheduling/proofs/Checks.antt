@@ -1,5 +1,4 @@
 -- A check that passes is sound over all whole-number starts: only the ranges of the tasks that it looks at count.
--- Assumes nothing.
 use mathlib.Core.Path.{_≡_, refl, sym, ap, _∙_}
 use mathlib.Core.Bool.{true, cond}
 use mathlib.Core.Logic.{_⊎_, inl, inr}
@@ -13,9 +12,9 @@ use Rattle.scheduling.proofs.Sets.{with-new, with-old}
 use Rattle.integers.proofs.Bools.{bool}
 use Rattle.scheduling.proofs.Rule.{check-sound as nat-check-sound, overload-check as nat-overload-check}
 use Rattle.integers.specs.Moments.{moment, Above}
-use Rattle.integers.proofs.Moments.{mono, above-up, plus, deep, zero-above}
+use Rattle.integers.proofs.MomentSums.{mono, above-up, plus, deep, zero-above}
 use Rattle.integers.proofs.Ints.{ints}
-use Rattle.scheduling.proofs.Transfer.{checks→, checks←, overload→, overload←}
+use Rattle.scheduling.proofs.Clocks.{checks→, checks←, overload→, overload←}
 use Rattle.scheduling.specs.Moments.{moments}
 
 -- other ranges outside X
@@ -92,7 +91,8 @@ module _ (B : Tasks whole) (lasts : (k : ℕ) → k < B .count → 1 ≤ B .dura
         (λ k h. mono o (K .earliest k) (s k) (from′ k (h .small))) (λ k h. mono o (s k) (K .latest k) (to′ k (h .small)))
 
   pub check-sound : (Ω : TaskSet) (i : ℕ) → RuleFormula B Ω i → ((k : ℕ) → In B (Ω with i) k → B .earliest k ≤ℤ s k) → ((k : ℕ) → In B (Ω with i) k → s k ≤ℤ B .latest k) → ⊥
-  check-sound Ω i c from to = by-check (Ω with i) from to Ω i (only-checks B (Ω with i) (e′ (Ω with i) from to) (l′ (Ω with i) from to) (e-is (Ω with i) from to) (l-is (Ω with i) from to) Ω i (λ k h. with-old Ω i k (h .mem)) (with-new Ω i) c)
+  check-sound Ω i c from to = by-check (Ω with i) from to Ω i
+      (only-checks B (Ω with i) (e′ (Ω with i) from to) (l′ (Ω with i) from to) (e-is (Ω with i) from to) (l-is (Ω with i) from to) Ω i (λ k h. with-old Ω i k (h .mem)) (with-new Ω i) c)
 
   pub overload-check : (Ω : TaskSet) → Overloads B Ω → ((k : ℕ) → In B Ω k → B .earliest k ≤ℤ s k) → ((k : ℕ) → In B Ω k → s k ≤ℤ B .latest k) → ⊥
   overload-check Ω c from to = by-overload Ω from to Ω (only-overloads B Ω (e′ Ω from to) (l′ Ω from to) (e-is Ω from to) (l-is Ω from to) Ω (λ k h. h .mem) c)

@@ -1,5 +1,4 @@
 -- The textbook's recurrence gives the ect of a set, and none exactly where the set has no task.
--- Assumes nothing.
 use mathlib.Core.Path.{_≡_, refl, sym, ap, subst, _∙_}
 use mathlib.Core.Bool.{true, false, cond}
 use mathlib.Core.List.{[]}
@@ -15,7 +14,7 @@ use borrow.Author.Tests.{leb-true}
 use Rattle.integers.specs.Orders.{index, numbers, Ordered}
 use Rattle.integers.proofs.Bools.{bool, clash}
 use Rattle.integers.proofs.Permutations.{numbers-length, numbers-permute}
-use Rattle.integers.proofs.Sorting.{sort-length, sort-ordered, key-whole, key-chain}
+use Rattle.integers.proofs.StableSort.{sort-length, sort-ordered, key-whole, key-chain}
 use Rattle.scheduling.specs.Scheduling.{natural, Tasks, Proper, TaskSet, NonEmpty, EstPlusP, Ect}
 use Rattle.scheduling.specs.Moments.{ByEarliest}
 use Rattle.scheduling.specs.Ects.{byEarliest, completes, ectAfter, ectOf}

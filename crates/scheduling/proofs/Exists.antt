@@ -1,5 +1,4 @@
 -- Every non-empty set has an est, an lct and an ect.
--- Assumes nothing.
 use mathlib.Core.Path.{_≡_, refl}
 use mathlib.Core.Bool.{Bool, true, false, _&&_}
 use mathlib.Core.Logic.{inl, inr}
@@ -60,7 +59,10 @@ module _ (J : Tasks natural) where
             part = since Ω (J .earliest k);
             within = λ j h. (since-in Ω (J .earliest k) j (h .mem)) .1;
             start = J .earliest k;
-            est = record { holds = (k, record { small = km .small; mem = since-out Ω (J .earliest k) k (omega arith) (km .mem) }, refl); bounds = λ w h. omega (arith, h .2, (since-in Ω (J .earliest k) (h .0) (h .1 .mem)) .0) };
+            est = record {
+              holds = (k, record { small = km .small; mem = since-out Ω (J .earliest k) k (omega arith) (km .mem) }, refl);
+              bounds = λ w h. omega (arith, h .2, (since-in Ω (J .earliest k) (h .0) (h .1 .mem)) .0);
+            };
             sum = refl;
           };
           bounds = λ w f. let (i, im, e) = f .est .holds in

@@ -1,5 +1,4 @@
 -- The join rule: where all of A starts before all of B, ect(A ∪ B) is the larger of ect(B) and ect(A) + p(B).
--- Assumes nothing.
 use mathlib.Core.Path.{_≡_, refl, sym, subst, _∙_}
 use mathlib.Core.Bool.{true, false, _||_, _&&_}
 use mathlib.Core.Logic.{inl, inr}
@@ -10,7 +9,7 @@ use Rattle.integers.proofs.Bools.{bool, clash, and-true, and-yes, or-true, or-r
 use Rattle.scheduling.specs.Scheduling.{natural, Tasks, TaskSet, total, In, Subset, processing, EstPlusP, Ect}
 use Rattle.scheduling.proofs.Sets.{Empty, top, total-ext, total-mono}
 use Rattle.scheduling.proofs.Processing.{term, term-true, term-false}
-use Rattle.scheduling.proofs.Monotone.{part-mono}
+use Rattle.scheduling.proofs.LargerSets.{part-mono}
 
 infixl 15 _∪_
 abbrev pub _∪_ : TaskSet → TaskSet → TaskSet

@@ -12,7 +12,7 @@ use Rattle.scheduling.specs.Moments.{ByCompletion}
 use Rattle.integers.proofs.Bools.{bool, clash, below-suc}
 use Rattle.scheduling.proofs.Sets.{top, _less_, less-in, less-out, with-in, with-new, with-old}
 use Rattle.scheduling.proofs.Processing.{processing-less, processing-empty}
-use Rattle.scheduling.proofs.Monotone.{ect-mono}
+use Rattle.scheduling.proofs.LargerSets.{ect-mono}
 
 -- One post for each task whose start was raised, at its new earliest start.
 pub record Posts (J : Tasks natural) (now : ℕ → ℕ) (m : ℕ) (task bound : ℕ → ℕ) : Type 0 where
@@ -24,7 +24,8 @@ pub record Posts (J : Tasks natural) (now : ℕ → ℕ) (m : ℕ) (task bound :
 
 -- one more post keeps the posts right
 pub more : (J : Tasks natural) (now now′ : ℕ → ℕ) (m : ℕ) (task bound task′ bound′ : ℕ → ℕ) (i b : ℕ) → i < J .count → Posts J now m task bound → now i ≡ J .earliest i → J .earliest i < b
-    → now′ i ≡ b → ((k : ℕ) → (k ≡ i → ⊥) → now′ k ≡ now k) → task′ m ≡ i → bound′ m ≡ b → ((j : ℕ) → j < m → task′ j ≡ task j) → ((j : ℕ) → j < m → bound′ j ≡ bound j) → Posts J now′ (suc m) task′ bound′
+    → now′ i ≡ b → ((k : ℕ) → (k ≡ i → ⊥) → now′ k ≡ now k) → task′ m ≡ i → bound′ m ≡ b → ((j : ℕ) → j < m → task′ j ≡ task j) → ((j : ℕ) → j < m → bound′ j ≡ bound j)
+    → Posts J now′ (suc m) task′ bound′
 more J now now′ m task bound task′ bound′ i b q p same up new others ti bi ts bs =
     record {
       small = below-suc (λ j. task′ j < J .count) m (λ j r. rw (ts j r) (p .small j r)) (rw ti q);
@@ -98,10 +99,27 @@ module _ (J : Tasks natural) (ok : Proper J) (ect : TaskSet → ℕ) (ect-is : (
       back k h = record { small = h .small; mem = z k (h .small) ∙ h .mem }
 
   pub start : Facts 0 (λ _. false) (J .earliest)
-  start = record { fits-before = λ s q. absurd (omega arith); gray = λ k h. clash (h .mem) refl; not-passed = λ k h. clash (h .mem) refl; left = λ k h q. absurd (omega arith); same-in = λ k h. refl; same-on = λ k q r. refl; inside = ok .ranges }
+  start = record {
+    fits-before = λ s q. absurd (omega arith);
+    gray = λ k h. clash (h .mem) refl;
+    not-passed = λ k h. clash (h .mem) refl;
+    left = λ k h q. absurd (omega arith);
+    same-in = λ k h. refl;
+    same-on = λ k q r. refl;
+    inside = ok .ranges;
+  }
 
   pub next : (t : ℕ) (Λ : TaskSet) (now : ℕ → ℕ) → t < J .count → Facts t Λ now → ((k : ℕ) → In J Λ k → ect (Θ t with k) ≤ End t) → ect (Θ t) ≤ End t → Facts (suc t) (Λ with L t) now
-  next t Λ now small f none-passes level-fits = record { fits-before = below-suc (λ s. ect (Θ s) ≤ End s) t (f .fits-before) level-fits; gray = gray; not-passed = not-passed; left = left; same-in = same-in; same-on = λ k q r. f .same-on k q (omega arith); inside = f .inside }
+  next t Λ now small f none-passes level-fits =
+      record {
+        fits-before = below-suc (λ s. ect (Θ s) ≤ End s) t (f .fits-before) level-fits;
+        gray = gray;
+        not-passed = not-passed;
+        left = left;
+        same-in = same-in;
+        same-on = λ k q r. f .same-on k q (omega arith);
+        inside = f .inside;
+      }
     where
       at-t : (k : ℕ) → k ≡ L t → place k ≡ t
       at-t k z = rw z (ord .back t small)
@@ -112,7 +130,8 @@ module _ (J : Tasks natural) (ok : Proper J) (ect : TaskSet → ℕ) (ect-is : (
       not-passed : (k : ℕ) → In J (Λ with L t) k → (r : ℕ) → place k < r → r < suc t → ect (Θ r with k) ≤ End r
       not-passed k h = elim (with-in Λ (L t) k (h .mem)) [
         | inl z ↦ (λ r a b. absurd (omega (arith, at-t k z)))
-        | inr y ↦ (λ r a b. below-suc (λ r. place k < r → ect (Θ r with k) ≤ End r) t (λ r q a. f .not-passed k (record { small = h .small; mem = y }) r a q) (λ a. none-passes k (record { small = h .small; mem = y })) r b a)
+        | inr y ↦ (λ r a b. below-suc (λ r. place k < r → ect (Θ r with k) ≤ End r) t (λ r q a. f .not-passed k (record { small = h .small; mem = y }) r a q)
+            (λ a. none-passes k (record { small = h .small; mem = y })) r b a)
       ]
 
       left : (k : ℕ) → Outside J (Λ with L t) k → place k < suc t → Left (suc t) k (now k)
@@ -120,7 +139,8 @@ module _ (J : Tasks natural) (ok : Proper J) (ect : TaskSet → ℕ) (ect-is : (
         | inl y ↦ clash (with-old Λ (L t) k y) (h .mem)
         | inr y ↦ elim (ℕ-discrete (place k) t) [
           | yes z ↦ clash (subst (λ (i : ℕ). (Λ with i) k ≡ true) (sym (ord .there k (h .small)) ∙ ap L z) (with-new Λ k)) (h .mem)
-          | no z ↦ (let o = f .left k (record { small = h .small; mem = y }) (omega arith) in record { level = o .level; late = o .late; seen = omega arith; passes = o .passes; first = o .first; raised = o .raised })
+          | no z ↦ (let o = f .left k (record { small = h .small; mem = y }) (omega arith) in
+              record { level = o .level; late = o .late; seen = omega arith; passes = o .passes; first = o .first; raised = o .raised })
         ]
       ]
 
@@ -131,7 +151,15 @@ module _ (J : Tasks natural) (ok : Proper J) (ect : TaskSet → ℕ) (ect-is : (
   pub leave : (t : ℕ) (Λ : TaskSet) (now now′ : ℕ → ℕ) (i : ℕ) → Facts t Λ now → In J Λ i → End t < ect (Θ t with i)
       → now′ i ≡ max (J .earliest i) (ect (Θ t)) → now′ i ≤ J .latest i → ((k : ℕ) → (k ≡ i → ⊥) → now′ k ≡ now k) → Facts t (Λ less i) now′
   leave t Λ now now′ i f h over new fits others =
-      record { fits-before = f .fits-before; gray = λ k m. f .gray k (kept k m); not-passed = λ k m. f .not-passed k (kept k m); left = left; same-in = λ k m. rw (others k (apart k m)) (f .same-in k (kept k m)); same-on = same-on; inside = inside }
+      record {
+        fits-before = f .fits-before;
+        gray = λ k m. f .gray k (kept k m);
+        not-passed = λ k m. f .not-passed k (kept k m);
+        left = left;
+        same-in = λ k m. rw (others k (apart k m)) (f .same-in k (kept k m));
+        same-on = same-on;
+        inside = inside;
+      }
     where
       kept : (k : ℕ) → In J (Λ less i) k → In J Λ k
       kept k m = record { small = m .small; mem = (less-in Λ i k (m .mem)) .0 }
@@ -203,7 +231,8 @@ module _ (J : Tasks natural) (ok : Proper J) (ect : TaskSet → ℕ) (ect-is : (
       }
     where
       bounds : (w : ℕ) → (k : ℕ) × In J (Θ t) k × (completion J k ≡ w) → w ≤ End t
-      bounds w h = let (k, km, e) = h in omega (arith, subst (λ (j : ℕ). completion J j ≤ End t) (ord .there k (km .small)) (ord .sorted t (place k) (leb-true t (place k) (km .mem)) (ord .placed k (km .small))))
+      bounds w h = let (k, km, e) = h in omega
+          (arith, subst (λ (j : ℕ). completion J j ≤ End t) (ord .there k (km .small)) (ord .sorted t (place k) (leb-true t (place k) (km .mem)) (ord .placed k (km .small))))
 
   -- At the end of a level all of whose Λ is quiet:
   module _ (t : ℕ) (Λ : TaskSet) (now : ℕ → ℕ) (end : suc t ≡ J .count) (f : Facts t Λ now) (none-passes : (k : ℕ) → In J Λ k → ect (Θ t with k) ≤ End t) where
@@ -235,7 +264,8 @@ module _ (J : Tasks natural) (ok : Proper J) (ect : TaskSet → ℕ) (ect-is : (
           arith,
           r .lct .bounds (completion J k) (k, km, refl),
           r .passes,
-          ect-mono J (r .set with i) (Θ (place k) with i) (r .joint) (ect (Θ (place k) with i)) (with-mono (r .set) (Θ (place k)) i sub) (r .ect-with) (ect-is (Θ (place k) with i) (i, record { small = r .outside .small; mem = with-new (Θ (place k)) i })),
+          ect-mono J (r .set with i) (Θ (place k) with i) (r .joint) (ect (Θ (place k) with i)) (with-mono (r .set) (Θ (place k)) i sub) (r .ect-with)
+              (ect-is (Θ (place k) with i) (i, record { small = r .outside .small; mem = with-new (Θ (place k)) i })),
         ))
 
         before : place i < place k

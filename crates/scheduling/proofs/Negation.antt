@@ -1,5 +1,4 @@
 -- A whole number meets the negation of an atom exactly where it does not meet the atom.
--- Assumes nothing.
 use mathlib.Core.Logic.{inl, inr, _↔_}
 use Prim.Native.Nat.{ℕ, zero, suc}
 use lib.IntN.{ℤ, pos, negsuc}

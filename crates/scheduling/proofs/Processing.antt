@@ -1,5 +1,4 @@
 -- p of a set of tasks: more tasks, one task more, one less, none.
--- Assumes nothing.
 use mathlib.Core.Path.{_≡_, refl, ap}
 use mathlib.Core.Bool.{Bool, true, false, cond}
 use mathlib.Core.Logic.{_⊎_, inl, inr}

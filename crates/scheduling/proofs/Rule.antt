@@ -1,12 +1,12 @@
 -- The edge-finding rule is sound, an overload leaves no schedule, and so it is with the checker's formula, over natural numbers.
--- Assumes nothing.
 use mathlib.Core.Path.{_≡_, refl, ap}
 use mathlib.Core.Logic.{inl, inr}
 use Prim.Native.Nat.{ℕ, _+_, _≤_, _<_, min}
 use native.Mathlib.Omega.{arith}
 use native.Mathlib.Decide.{decLe}
 use Rattle.integers.proofs.Bools.{clash}
-use Rattle.scheduling.specs.Scheduling.{natural, Tasks, Proper, TaskSet, _with_, In, Outside, completion, Lct, processing, EstPlusP, Overloads, EdgeFindingBound, NoOverlap, Schedule, RuleFormula}
+use Rattle.scheduling.specs.Scheduling.{natural, Tasks, Proper, TaskSet, _with_, In, Outside, completion, Lct, processing, EstPlusP, Overloads, EdgeFindingBound, NoOverlap, Schedule}
+use Rattle.scheduling.specs.Scheduling.{RuleFormula}
 use Rattle.scheduling.proofs.Sets.{with-in, with-new, with-old}
 use Rattle.scheduling.proofs.Processing.{processing-with}
 use Rattle.scheduling.proofs.Windows.{ends-by}
@@ -41,7 +41,8 @@ module _ (J : Tasks natural) where
           c .passes,
           high i (record { small = c .outside .small; mem = with-new Ω i }),
           rule Ω i (c .end) (min (J .earliest i) (c .start) + processing J (Ω with i)) (c .joint) (c .outside) low
-              (by-lct Ω (c .end) (λ k h. high k (record { small = h .small; mem = with-old Ω i k (h .mem) })) (c .lct)) fill (omega (arith, c .over-i, c .over-Ω, processing-with J Ω i (c .outside))) (c .ect .holds),
+              (by-lct Ω (c .end) (λ k h. high k (record { small = h .small; mem = with-old Ω i k (h .mem) })) (c .lct)) fill (omega (arith, c .over-i, c .over-Ω, processing-with J Ω i (c .outside)))
+              (c .ect .holds),
         )
       where
         self : In J (Ω with i) i
@@ -63,7 +64,12 @@ module _ (J : Tasks natural) where
     -- Starts in the ranges of a set that overloads: none.
     pub overload-check : (Ω : TaskSet) → Overloads J Ω → ((k : ℕ) → In J Ω k → J .earliest k ≤ s k) → ((k : ℕ) → In J Ω k → s k ≤ J .latest k) → ⊥
     overload-check Ω o low high =
-        omega (arith, ends-by J lasts s apart Ω (o .end) (o .start + processing J Ω) low (by-lct Ω (o .end) high (o .lct)) (record { part = Ω; within = λ k h. h .mem; start = o .start; est = o .est; sum = refl }), o .over)
+        omega (
+          arith,
+          ends-by J lasts s apart Ω (o .end) (o .start + processing J Ω) low (by-lct Ω (o .end) high (o .lct))
+              (record { part = Ω; within = λ k h. h .mem; start = o .start; est = o .est; sum = refl }),
+          o .over,
+        )
 
   module _ (ok : Proper J) (s : ℕ → ℕ) (sch : Schedule J s) where
     lasts : (k : ℕ) → k < J .count → 1 ≤ J .duration k

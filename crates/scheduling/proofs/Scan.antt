@@ -113,7 +113,10 @@ module _ (J : Tasks natural) (T rank : ℕ → ℕ) where
       part = f .part with T j;
       start = f .start;
       within = within;
-      est = record { holds = (f .est .holds .0, record { small = f .est .holds .1 .small; mem = with-old (f .part) (T j) (f .est .holds .0) (f .est .holds .1 .mem) }, f .est .holds .2); bounds = bounds };
+      est = record {
+        holds = (f .est .holds .0, record { small = f .est .holds .1 .small; mem = with-old (f .part) (T j) (f .est .holds .0) (f .est .holds .1 .mem) }, f .est .holds .2);
+        bounds = bounds;
+      };
       sum = omega (arith, f .sum, processing-with J (f .part) (T j) (record { small = rk .task j q; mem = out }));
     }
       where

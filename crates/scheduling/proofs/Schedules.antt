@@ -1,14 +1,13 @@
 -- What overloads, edge-finding bounds and posts mean for schedules, over whole numbers.
--- Assumes nothing.
 use mathlib.Core.Logic.{inl, inr}
 use Prim.Native.Nat.{ℕ, _<_}
 use lib.IntN.{ℤ}
 use lib.Signed.{_≤ℤ_, clashℤ, <ℤ-≤ℤ-trans}
 use Rattle.integers.specs.Moments.{moment, Above}
-use Rattle.integers.proofs.Moments.{reflect, above-up, deep}
+use Rattle.integers.proofs.MomentSums.{reflect, above-up, deep}
 use Rattle.scheduling.specs.Scheduling.{whole, Tasks, Proper, TaskSet, EdgeFindingBound, Overloads, Schedule, Conflict, Done}
 use Rattle.scheduling.proofs.Rule.{rule-sound as natural-rule-sound, overload-sound as natural-overload-sound}
-use Rattle.scheduling.proofs.Transfer.{sound, edge→, edge-above, overload→, schedule→}
+use Rattle.scheduling.proofs.Clocks.{sound, edge→, edge-above, overload→, schedule→}
 use Rattle.scheduling.specs.Moments.{moments}
 
 module _ (J : Tasks whole) (ok : Proper J) where

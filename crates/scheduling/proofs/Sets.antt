@@ -1,5 +1,4 @@
 -- Sets of tasks: one task more or less, sums over the tasks below a number, a member of the largest value.
--- Assumes nothing.
 use mathlib.Core.Path.{_≡_, refl, ap}
 use mathlib.Core.Bool.{Bool, true, false, _||_, _&&_, not}
 use mathlib.Core.Logic.{_⊎_, inl, inr}

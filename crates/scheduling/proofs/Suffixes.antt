@@ -1,5 +1,4 @@
 -- The ect of a set is est + p of a suffix of it in the order of earliest starts.
--- Assumes nothing.
 use mathlib.Core.Path.{_≡_, refl, ap}
 use mathlib.Core.Bool.{Bool, true, false, _&&_}
 use Prim.Native.Nat.{ℕ, _+_, _-_, _≤_, _<_}

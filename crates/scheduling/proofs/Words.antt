@@ -1,6 +1,5 @@
 -- The words of atoms: none, one more, one list after another, how many, those of a stretch, those of one atom.
--- Assumes nothing.
-use mathlib.Core.Path.{_≡_, refl, sym, ap, subst}
+use mathlib.Core.Path.{_≡_, refl, sym, ap, subst, _∙_}
 use mathlib.Core.List.{List, [], _∷_, _++_, append-nil}
 use Prim.Native.Nat.{ℕ, zero, suc, _+_, _*_, _<_}
 use native.Mathlib.Omega.{arith}
@@ -8,6 +7,8 @@ use lib.IntN.{ℤ, pos}
 use lib.ListN.{length, getD, set, take, drop}
 use Rattle.scheduling.specs.Scheduling.{Atom}
 use Rattle.scheduling.specs.Words.{atomWords, no-atom}
+use lib.Seq.{sets}
+use Rattle.integers.proofs.Words.{sets-append}
 
 pub atoms-none : atomWords [] ≡ []
 unfolding atomWords
@@ -70,3 +71,9 @@ atom-set (x ∷ xs) tail (suc m) a none h e =
     let b : 3 * suc m + 1 ≡ suc (suc (suc (3 * m + 1))) = omega arith in
     let c : 3 * suc m + 2 ≡ suc (suc (suc (3 * m + 2))) = omega arith in
     rw (b, c) (ap (λ (l : List ℤ). pos (x .variable) ∷ pos (x .kind) ∷ x .value ∷ l) (atom-set xs tail m a none (omega arith) e))
+
+-- and one reason more in the slice of atoms: first where atoms xs stand from the k-th on,
+pub atoms-stored : (l : List ℤ) (k m : ℕ) (xs ys : List Atom) → m ≡ k + length xs → sets (sets l (3 * k) (atomWords xs)) (3 * m) (atomWords ys) ≡ sets l (3 * k) (atomWords (xs ++ ys))
+atoms-stored l k m xs ys e =
+    let z : 3 * k + length (atomWords xs) ≡ 3 * m = omega (arith, atoms-length xs) in
+    sym (ap (sets l (3 * k)) (atoms-append xs ys) ∙ sets-append (atomWords xs) (atomWords ys) l (3 * k) ∙ ap (λ (i : ℕ). sets (sets l (3 * k) (atomWords xs)) i (atomWords ys)) z)

@@ -1,5 +1,4 @@
 -- The definitions at small tasks, where a strict order or a proper subset decides.
--- Assumes nothing.
 use mathlib.Core.Path.{_≡_, refl}
 use mathlib.Core.Bool.{Bool, true, false, cond}
 use mathlib.Core.List.{List, [], _∷_}
@@ -10,7 +9,8 @@ use native.Mathlib.Omega.{arith}
 use lib.ListN.{length, getD}
 use Rattle.integers.proofs.Bools.{clash, below-suc}
 use Rattle.integers.specs.Orders.{sort, insert, numbers}
-use Rattle.scheduling.specs.Scheduling.{natural, Tasks, TaskSet, total, _with_, In, Est, processing, EstPlusP, Ect, Overloads, EdgeFindingBound, RuleFormula}
+use Rattle.scheduling.specs.Scheduling.{natural, Tasks, TaskSet, total, _with_, In, Est, processing, EstPlusP, Ect, Overloads, EdgeFindingBound}
+use Rattle.scheduling.specs.Scheduling.{RuleFormula}
 use Rattle.scheduling.specs.Ects.{ectAfter, ectOf}
 
 -- durations, earliest and latest starts
@@ -52,7 +52,13 @@ C-sum Ω = omega arith
 
 C-fits : Overloads C all → ⊥
 unfolding C
-C-fits o = omega (arith, C-sum all, o .over, o .est .bounds 0 (0, record { small = omega arith; mem = refl }, refl), o .lct .bounds 8 (0, record { small = omega arith; mem = refl }, refl))
+C-fits o = omega (
+  arith,
+  C-sum all,
+  o .over,
+  o .est .bounds 0 (0, record { small = omega arith; mem = refl }, refl),
+  o .lct .bounds 8 (0, record { small = omega arith; mem = refl }, refl),
+)
 
 -- Nor has task 0 a bound: with it, task 1 ends by its own latest completion.
 C-no-bound : (b : ℕ) → EdgeFindingBound C 0 b → ⊥
@@ -63,7 +69,8 @@ C-no-bound b r = omega (arith, r .passes, ends, by (adds (f .part 0) 4))
     f = r .ect-with .holds
 
     ends : 8 ≤ r .end
-    ends = let (k, km, e) = r .lct .holds in below-two (λ j. In C (r .set) j → C .latest j + C .duration j ≡ r .end → 8 ≤ r .end) (λ _ z. omega arith) (λ _ z. omega arith) k (km .small) km e
+    ends = let (k, km, e) = r .lct .holds in
+        below-two (λ j. In C (r .set) j → C .latest j + C .duration j ≡ r .end → 8 ≤ r .end) (λ _ z. omega arith) (λ _ z. omega arith) k (km .small) km e
 
     late : f .start ≤ 1
     late = let (k, km, e) = f .est .holds in below-two (λ j. C .earliest j ≡ f .start → f .start ≤ 1) (λ z. omega arith) (λ z. omega arith) k (km .small) e
@@ -86,7 +93,11 @@ last-two (suc k) = true
 
 D-est : Est D last-two 10
 unfolding D last-two
-D-est = record { holds = (1, record { small = omega arith; mem = refl }, refl); bounds = λ w h. below-three (λ j. last-two j ≡ true → D .earliest j ≡ w → 10 ≤ w) (λ y _. clash y refl) (λ _ z. omega arith) (λ _ z. omega arith) (h .0) (h .1 .small) (h .1 .mem) (h .2) }
+D-est = record {
+  holds = (1, record { small = omega arith; mem = refl }, refl);
+  bounds = λ w h. below-three (λ j. last-two j ≡ true → D .earliest j ≡ w → 10 ≤ w) (λ y _. clash y refl) (λ _ z. omega arith) (λ _ z. omega arith) (h .0)
+      (h .1 .small) (h .1 .mem) (h .2);
+}
 
 D-ect : Ect D all 16
 unfolding D last-two
@@ -94,12 +105,21 @@ D-ect = record { holds = record { part = last-two; within = λ k h. refl; start 
   where
     bounds : (w : ℕ) → EstPlusP D all w → w ≤ 16
     bounds w f = elim (adds (f .part 0) 1) [
-      | inl a ↦ omega (arith, f .sum, D-sum (f .part), most (f .part 0) 1, most (f .part 1) 3, most (f .part 2) 3, f .est .bounds 0 (0, record { small = omega arith; mem = a .0 }, refl))
+      | inl a ↦ omega (
+        arith,
+        f .sum,
+        D-sum (f .part),
+        most (f .part 0) 1,
+        most (f .part 1) 3,
+        most (f .part 2) 3,
+        f .est .bounds 0 (0, record { small = omega arith; mem = a .0 }, refl),
+      )
       | inr a ↦ omega (arith, f .sum, D-sum (f .part), a .1, most (f .part 1) 3, most (f .part 2) 3, late)
     ]
       where
         late : f .start ≤ 10
-        late = let (k, km, e) = f .est .holds in below-three (λ j. D .earliest j ≡ f .start → f .start ≤ 10) (λ z. omega arith) (λ z. omega arith) (λ z. omega arith) k (km .small) e
+        late = let (k, km, e) = f .est .holds in
+            below-three (λ j. D .earliest j ≡ f .start → f .start ≤ 10) (λ z. omega arith) (λ z. omega arith) (λ z. omega arith) k (km .small) e
 
 -- The recurrence waits for the start of the last two; and a set without tasks has no ect.
 D-by-recurrence : (ectOf D all ≡ some 16) × (ectOf D (λ k. false) ≡ none)
@@ -132,11 +152,20 @@ L-not-passed r = omega (arith, r .passes, ends)
     f = r .ect .holds
 
     none : f .start ≡ 0
-    none = let (k, km, e) = f .est .holds in below-three (λ j. L .earliest j ≡ f .start → f .start ≡ 0) (λ z. omega arith) (λ z. omega arith) (λ z. omega arith) k (km .small) e
+    none = let (k, km, e) = f .est .holds in
+        below-three (λ j. L .earliest j ≡ f .start → f .start ≡ 0) (λ z. omega arith) (λ z. omega arith) (λ z. omega arith) k (km .small) e
 
     out : (b : Bool) → (b ≡ true → first-two 2 ≡ true) → part-of b 3 ≡ 0
     out true h = clash (h refl) refl
     out false h = refl
 
     ends : r .joint ≤ 9
-    ends = omega (arith, f .sum, L-sum (f .part), none, most (f .part 0) 4, most (f .part 1) 5, out (f .part 2) (λ y. f .within 2 (record { small = omega arith; mem = y })))
+    ends = omega (
+      arith,
+      f .sum,
+      L-sum (f .part),
+      none,
+      most (f .part 0) 4,
+      most (f .part 1) 5,
+      out (f .part 2) (λ y. f .within 2 (record { small = omega arith; mem = y })),
+    )

@@ -2,5 +2,5 @@ pub mod Scheduling
 pub mod Moments
 pub mod Ects
 pub mod Words
-pub mod Mirroring
+pub mod MirroredTime
 pub mod Examples

@@ -1,5 +1,4 @@
 -- Adding meets 1, 2 and 5 as creation does: of a lawful record, the number is that of creation with the durations of its tasks and the new one.
--- Assumes nothing.
 use mathlib.Core.Path.{_≡_, refl, sym, ap, _∙_}
 use mathlib.Core.Bool.{Bool, true}
 use mathlib.Core.Logic.{inl, inr}
@@ -18,20 +17,20 @@ use Rattle.integers.specs.Tests.{test, allBelow, refusal}
 use Rattle.integers.proofs.Bools.{bool}
 use Rattle.integers.proofs.Tests.{refusal-next, all-show, all-broken}
 use Rattle.scheduling.specs.Scheduling.{total}
-use Rattle.records.specs.declared.record.Propagator.{Propagator}
+use Rattle.records.specs.declared.record.DisjunctivePropagator.{DisjunctivePropagator}
 use Rattle.records.specs.Records.{Lawful, lawfulRecord, countFits, durationOf, durationAt, positiveAt, creationTests}
 use Rattle.records.proofs.Lawful.{lawful-is}
 use Rattle.task_changes.specs.Lists.{sumOf}
 use Rattle.task_changes.specs.Changes.{durationsOf, addNumber}
 use Rattle.task_changes.proofs.Sums.{sum-more, sum-given}
-use Rattle.task_changes.proofs.Changing.{count, sum, lasts}
+use Rattle.task_changes.proofs.ChangedRecords.{count, sum, lasts}
 
 -- durations of a record, and one of a caller's behind them
 given-more : (l : List ℕ) (d : ℤ) → map durationOf (map pos l ++ (d ∷ [])) ≡ l ++ (durationOf d ∷ [])
 given-more [] d = refl
 given-more (x ∷ xs) d = ap (λ (m : List ℕ). x ∷ m) (given-more xs d)
 
-module _ (r : Propagator) (l : Lawful r) (long : length (r .durations) ≡ TASKS) (d : ℤ) where
+module _ (r : DisjunctivePropagator) (l : Lawful r) (long : length (r .durations) ≡ TASKS) (d : ℤ) where
   abbrev ds : List ℕ
   ds = durationsOf r
 

@@ -1,5 +1,4 @@
 -- After any history the record's durations are those of the tasks that it leaves, and the stored total is their sum. A creation, an add and a removal are its steps.
--- Assumes nothing.
 use mathlib.Core.Path.{_≡_, refl, sym, ap, ap₂, subst, _∙_}
 use mathlib.Core.List.{List, [], _∷_, _++_, map}
 use Prim.Native.Nat.{ℕ, zero, suc, _+_, _≤_, _<_}
@@ -9,11 +8,11 @@ use lib.IntN.{ℤ, pos}
 use lib.ListN.{length, getD, take, length-map, length-append, length-replicate, List·getD-map}
 use lib.Seq.{length-take-le, getD-take, ext-getD}
 use Rattle.integers.specs.Limits.{TASKS}
-use Rattle.integers.specs.Filling.{filled, noTasks}
+use Rattle.integers.specs.FilledLists.{filled, noTasks}
 use Rattle.integers.specs.Tests.{refusal}
-use Rattle.integers.proofs.Filling.{filled-at, filled-length}
+use Rattle.integers.proofs.FilledLists.{filled-at, filled-length}
 use Rattle.scheduling.proofs.Sets.{total-none}
-use Rattle.records.specs.declared.record.Propagator.{Propagator}
+use Rattle.records.specs.declared.record.DisjunctivePropagator.{DisjunctivePropagator}
 use Rattle.records.specs.Records.{Lawful, recordOf, durationOf, durationAt, creationTests, newRecord, createdAt, created}
 use Rattle.records.specs.declared.record.Created.{Created}
 use Rattle.records.proofs.Creation.{created-lawful, created-new, natural-accepted}
@@ -21,26 +20,26 @@ use Rattle.task_changes.specs.declared.changes.Changed.{Changed}
 use Rattle.task_changes.specs.Lists.{placed, sumOf, without}
 use Rattle.task_changes.specs.Changes.{durationsOf, added, removed, addNumber, removeNumber, TaskAdded, TaskRemoved}
 use Rattle.task_changes.specs.Histories.{leaves, History, creation, adding, removing, startOf, recordAfter, durationsAfter}
-use Rattle.task_changes.proofs.Placing.{placed-length, placed-front, front-placed}
-use Rattle.task_changes.proofs.Leaving.{without-few, without-length}
+use Rattle.task_changes.proofs.PlacedLists.{placed-length, placed-front, front-placed}
+use Rattle.task_changes.proofs.LeftOut.{without-few, without-length}
 use Rattle.task_changes.proofs.Sums.{sum-more, sum-without, sum-given}
-use Rattle.task_changes.proofs.Changing.{lasts, lasting, added-lawful, removed-lawful, addable, removable}
+use Rattle.task_changes.proofs.ChangedRecords.{lasts, lasting, added-lawful, removed-lawful, addable, removable}
 
 -- A record is that of these durations: they stand in its first places, with their sum.
-record Holds (r : Propagator) (ds : List ℕ) : Type 0 where
+record Holds (r : DisjunctivePropagator) (ds : List ℕ) : Type 0 where
   count : r .count ≡ length ds
   array : r .durations ≡ placed ds
   sum : r .total ≡ sumOf ds
   few : length ds ≤ TASKS
 
-long : {r : Propagator} {ds : List ℕ} → Holds r ds → length (r .durations) ≡ TASKS
+long : {r : DisjunctivePropagator} {ds : List ℕ} → Holds r ds → length (r .durations) ≡ TASKS
 long {r} {ds} h = ap length (h .array) ∙ placed-length ds (h .few)
 
-tasks : {r : Propagator} {ds : List ℕ} → Holds r ds → durationsOf r ≡ ds
+tasks : {r : DisjunctivePropagator} {ds : List ℕ} → Holds r ds → durationsOf r ≡ ds
 tasks {r} {ds} h = ap₂ (λ (n : ℕ) (l : List ℕ). take n l) (h .count) (h .array) ∙ placed-front ds
 
 -- a step that is made and one that is refused
-made-or-not : (k : ℕ) {r r′ : Propagator} {ds ds′ : List ℕ} → (k ≡ 0 → Holds r′ ds′) → Holds r ds → Holds (leaves k r′ r) (leaves k ds′ ds)
+made-or-not : (k : ℕ) {r r′ : DisjunctivePropagator} {ds ds′ : List ℕ} → (k ≡ 0 → Holds r′ ds′) → Holds r ds → Holds (leaves k r′ r) (leaves k ds′ ds)
 made-or-not zero new old = new refl
 made-or-not (suc k) new old = old
 
@@ -66,12 +65,13 @@ new-holds ds h = record {
     size : length (take (length ds) (filled (durationAt ds) (length ds) noTasks)) ≡ length ds
     size = length-take-le (length ds) (filled (durationAt ds) (length ds) noTasks) (omega (arith, few, long))
 
-    same : (k : ℕ) → k < length (take (length ds) (filled (durationAt ds) (length ds) noTasks)) → getD (take (length ds) (filled (durationAt ds) (length ds) noTasks)) k 0 ≡ getD (map durationOf ds) k 0
+    same : (k : ℕ) → k < length (take (length ds) (filled (durationAt ds) (length ds) noTasks))
+        → getD (take (length ds) (filled (durationAt ds) (length ds) noTasks)) k 0 ≡ getD (map durationOf ds) k 0
     same k q =
         let s : k < length ds = omega (arith, size) in
         getD-take (length ds) (filled (durationAt ds) (length ds) noTasks) k 0 s ∙ filled-at (durationAt ds) (length ds) noTasks 0 k s few ∙ sym (List·getD-map durationOf ds k (pos 0))
 
-module _ (r : Propagator) (ds : List ℕ) (h : Holds r ds) where
+module _ (r : DisjunctivePropagator) (ds : List ℕ) (h : Holds r ds) where
   added-holds : (d : ℤ) → addNumber r d ≡ 0 → Holds (added r (durationOf d)) (ds ++ (durationOf d ∷ []))
   added-holds d e =
       let a = addable r d e in
@@ -105,7 +105,7 @@ pub total-true : (h : History) → (recordAfter h .total ≡ sumOf (durationsAft
 total-true h = (holds h .sum, tasks (holds h))
 
 -- From an accepted creation on, every record is lawful, so that 20 refuses no change.
-kept : (k : ℕ) {r r′ : Propagator} → (k ≡ 0 → Lawful r′) → Lawful r → Lawful (leaves k r′ r)
+kept : (k : ℕ) {r r′ : DisjunctivePropagator} → (k ≡ 0 → Lawful r′) → Lawful r → Lawful (leaves k r′ r)
 kept zero new old = new refl
 kept (suc k) new old = old
 
@@ -120,10 +120,10 @@ lawful-after (removing h t) z =
     kept (removeNumber r t) (λ e. (let a = removable r t e in removed-lawful r (a .lawful) (long (holds h)) t (a .there) (a .many))) (lawful-after h z)
 
 -- Each call leaves what its step in a history does.
-leaves-new : (k : ℕ) (r r′ : Propagator) → k ≡ 0 → r′ ≡ leaves k r′ r
+leaves-new : (k : ℕ) (r r′ : DisjunctivePropagator) → k ≡ 0 → r′ ≡ leaves k r′ r
 leaves-new k r r′ e = sym (ap (λ (j : ℕ). leaves j r′ r) e)
 
-leaves-old : (k : ℕ) (r r′ : Propagator) → (k ≡ 0 → ⊥) → r ≡ leaves k r′ r
+leaves-old : (k : ℕ) (r r′ : DisjunctivePropagator) → (k ≡ 0 → ⊥) → r ≡ leaves k r′ r
 leaves-old zero r r′ h = absurd (h refl)
 leaves-old (suc k) r r′ h = refl
 
@@ -167,7 +167,7 @@ as-created h z = record-is h ∙ sym (ap (λ (c : Created). c .«record») (crea
     ds : List ℕ
     ds = durationsAfter h
 
-    r : Propagator
+    r : DisjunctivePropagator
     r = recordAfter h
 
     l : Lawful (recordAfter h)
@@ -177,5 +177,7 @@ as-created h z = record-is h ∙ sym (ap (λ (c : Created). c .«record») (crea
     accepted = natural-accepted (durationsAfter h) (omega (arith, holds h .count, l .some)) (holds h .few)
         (subst (λ (xs : List ℕ). (k : ℕ) → k < length xs → 1 ≤ getD xs k 0) (tasks (holds h)) (lasts (recordAfter h) l (long (holds h)))) (omega (arith, holds h .sum, l .stored, l .sum))
 
-    made : Holds (newRecord (map pos (durationsAfter h))) (map durationOf (map pos (durationsAfter h))) → newRecord (map pos (durationsAfter h)) ≡ recordOf (length (durationsAfter h)) (placed (durationsAfter h)) (sumOf (durationsAfter h))
-    made a = subst (λ (xs : List ℕ). newRecord (map pos (durationsAfter h)) ≡ recordOf (length xs) (placed xs) (sumOf xs)) (given-back (durationsAfter h)) (λ i. recordOf (a .count i) (a .array i) (a .sum i))
+    made : Holds (newRecord (map pos (durationsAfter h))) (map durationOf (map pos (durationsAfter h)))
+        → newRecord (map pos (durationsAfter h)) ≡ recordOf (length (durationsAfter h)) (placed (durationsAfter h)) (sumOf (durationsAfter h))
+    made a = subst (λ (xs : List ℕ). newRecord (map pos (durationsAfter h)) ≡ recordOf (length xs) (placed xs) (sumOf xs)) (given-back (durationsAfter h))
+        (λ i. recordOf (a .count i) (a .array i) (a .sum i))

@@ -1,7 +1,7 @@
-pub mod Placing
-pub mod Leaving
+pub mod PlacedLists
+pub mod LeftOut
 pub mod Sums
-pub mod Changing
-pub mod Apart
+pub mod ChangedRecords
+pub mod ChangeNumbers
 pub mod Creation
 pub mod History

@@ -1,5 +1,4 @@
 -- The sum of the durations of a list with one more, and with one left out.
--- Assumes nothing.
 use mathlib.Core.Path.{_≡_, sym, ap, _∙_}
 use mathlib.Core.List.{List, [], _∷_, _++_, map}
 use Prim.Native.Nat.{ℕ, zero, suc, _+_, _<_}
@@ -11,7 +10,7 @@ use Rattle.scheduling.specs.Scheduling.{total}
 use Rattle.scheduling.proofs.Sets.{total-none, total-more, total-ext}
 use Rattle.records.specs.Records.{durationOf, durationAt}
 use Rattle.task_changes.specs.Lists.{placed, sumOf, without}
-use Rattle.task_changes.proofs.Placing.{placed-at}
+use Rattle.task_changes.proofs.PlacedLists.{placed-at}
 
 -- the first one apart
 total-first : (f : ℕ → ℕ) (n : ℕ) → total f (n + 1) ≡ f 0 + total (λ k. f (suc k)) n
@@ -35,7 +34,8 @@ sum-without (x ∷ xs) (suc t) h = omega (arith, sum-cons x xs, sum-cons x (with
 
 -- of durations as a caller gives them
 pub sum-given : (ds : List ℤ) → total (durationAt ds) (length ds) ≡ sumOf (map durationOf ds)
-sum-given ds = total-ext (durationAt ds) (λ k. getD (map durationOf ds) k 0) (length ds) (λ k q. sym (List·getD-map durationOf ds k (pos 0))) ∙ ap (total (λ k. getD (map durationOf ds) k 0)) (sym (length-map ds durationOf))
+sum-given ds = total-ext (durationAt ds) (λ k. getD (map durationOf ds) k 0) (length ds) (λ k q. sym (List·getD-map durationOf ds k (pos 0)))
+    ∙ ap (total (λ k. getD (map durationOf ds) k 0)) (sym (length-map ds durationOf))
 
 -- as a record's array holds it
 pub sum-placed : (l : List ℕ) → total (λ k. getD (placed l) k 0) (length l) ≡ sumOf l

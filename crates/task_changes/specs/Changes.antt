@@ -6,10 +6,11 @@ use lib.Dec.{leb, ltb}
 use lib.IntN.{ℤ, pos}
 use lib.Signed.{leZ}
 use lib.ListN.{getD, take}
+use Rattle.integers.specs.Refused as refused
 use Rattle.integers.specs.Answers.{Answer, answered, refusedBy}
 use Rattle.integers.specs.Limits.{DURATIONS}
 use Rattle.integers.specs.Tests.{Test, test, refusal}
-use Rattle.records.specs.declared.record.Propagator.{Propagator}
+use Rattle.records.specs.declared.record.DisjunctivePropagator.{DisjunctivePropagator}
 use Rattle.records.specs.Records.{countFits, durationOf, lawfulRecord, Lawful}
 use Rattle.task_changes.specs.declared.changes.Changed.{Changed}
 use Rattle.task_changes.specs.declared.changes.Change.{Change}
@@ -17,17 +18,17 @@ use Rattle.task_changes.specs.Numbers.{changeNumbers}
 use Rattle.task_changes.specs.Lists.{placed, without}
 
 -- What a call leaves: its answer, by the papers' numbers, and the record.
-pub record Left (a : Answer) (after : Propagator) (c : Changed) : Type 0 where
+pub record Left (a : Answer) (after : DisjunctivePropagator) (c : Changed) : Type 0 where
   pub answer : changeNumbers (c .answer) ≡ a
   pub stands : c .«record» ≡ after
 
-module _ (r : Propagator) where
+module _ (r : DisjunctivePropagator) where
   -- the durations of a record's tasks, by number
   abbrev pub durationsOf : List ℕ
   durationsOf = take (r .count) (r .durations)
 
   -- the record with a task of duration d, which takes number n
-  abbrev pub added : ℕ → Propagator
+  abbrev pub added : ℕ → DisjunctivePropagator
   added d = record {
     count = r .count + 1;
     durations = placed (durationsOf ++ (d ∷ []));
@@ -35,7 +36,7 @@ module _ (r : Propagator) where
   }
 
   -- the record without task t, and its gap in the numbers closed
-  abbrev pub removed : ℕ → Propagator
+  abbrev pub removed : ℕ → DisjunctivePropagator
   removed t = record {
     count = r .count - 1;
     durations = placed (without durationsOf t);
@@ -45,10 +46,10 @@ module _ (r : Propagator) where
   -- 20: a record that is not lawful; then, as for creation, 1: more than TASKS tasks; 2: a duration below 1; 5: a sum above DURATIONS
   abbrev pub addTests : ℤ → List Test
   addTests d =
-      test 20 (lawfulRecord r)
-      ∷ test 1 (countFits (r .count + 1))
-      ∷ test 2 (leZ (pos 1) d)
-      ∷ test 5 (leb (r .total + durationOf d) DURATIONS)
+      test refused.RECORD (lawfulRecord r)
+      ∷ test refused.TASK-COUNT (countFits (r .count + 1))
+      ∷ test refused.DURATION (leZ (pos 1) d)
+      ∷ test refused.DURATION-SUM (leb (r .total + durationOf d) DURATIONS)
       ∷ []
 
   abbrev pub addNumber : ℤ → ℕ
@@ -57,9 +58,9 @@ module _ (r : Propagator) where
   -- 20; 12: a number that is not below n; 1: the only task
   abbrev pub removeTests : ℕ → List Test
   removeTests t =
-      test 20 (lawfulRecord r)
-      ∷ test 12 (ltb t (r .count))
-      ∷ test 1 (countFits (r .count - 1))
+      test refused.RECORD (lawfulRecord r)
+      ∷ test refused.REMOVED (ltb t (r .count))
+      ∷ test refused.TASK-COUNT (countFits (r .count - 1))
       ∷ []
 
   abbrev pub removeNumber : ℕ → ℕ
@@ -77,8 +78,8 @@ module _ (r : Propagator) where
     pub lawful : removeNumber t ≡ 0 → Lawful (c .«record»)
 
   -- the same on a lent record: what stands there at the end, and the answer
-  abbrev pub AddedLent : ℤ → Change → Propagator → Type 0
+  abbrev pub AddedLent : ℤ → Change → DisjunctivePropagator → Type 0
   AddedLent d answer after = TaskAdded d (record { «record» = after; answer = answer })
 
-  abbrev pub RemovedLent : ℕ → Change → Propagator → Type 0
+  abbrev pub RemovedLent : ℕ → Change → DisjunctivePropagator → Type 0
   RemovedLent t answer after = TaskRemoved t (record { «record» = after; answer = answer })

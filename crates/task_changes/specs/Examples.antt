@@ -1,22 +1,21 @@
 -- The definitions at small inputs.
--- Assumes nothing.
 use mathlib.Core.Path.{_≡_, refl}
 use mathlib.Core.Bool.{false}
 use mathlib.Core.List.{[], _∷_}
 use Prim.Native.Nat.{_-_}
 use lib.IntN.{pos}
-use Rattle.integers.specs.Filling.{filled}
+use Rattle.integers.specs.FilledLists.{filled}
 use Rattle.integers.specs.Limits.{DURATIONS}
 use Rattle.integers.specs.Tests.{allBelow, refusal}
 use Rattle.scheduling.specs.Scheduling.{total}
-use Rattle.records.specs.declared.record.Propagator.{Propagator}
+use Rattle.records.specs.declared.record.DisjunctivePropagator.{DisjunctivePropagator}
 use Rattle.records.specs.Records.{unusedAt, lawfulRecord, newRecord, recordOf}
-use Rattle.input_refusals.specs.Refusals.{runNumber}
+use Rattle.records.specs.Refusals.{runNumber}
 use Rattle.task_changes.specs.Lists.{placed, without}
 use Rattle.task_changes.specs.Changes.{added, removed, addNumber, removeNumber}
 
 -- three tasks
-three : Propagator
+three : DisjunctivePropagator
 three = recordOf 3 (placed (4 ∷ 5 ∷ 6 ∷ [])) 15
 
 without-the-first : removed three 0 ≡ recordOf 2 (placed (5 ∷ 6 ∷ [])) 11
@@ -45,7 +44,7 @@ unfolding three refusal lawfulRecord allBelow unusedAt total
 sum-fits = refl
 
 -- of a record's one task: a number past it is 12, its own 1
-one : Propagator
+one : DisjunctivePropagator
 one = newRecord (pos 4 ∷ [])
 
 not-there : removeNumber one 1 ≡ 12

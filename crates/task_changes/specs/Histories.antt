@@ -3,7 +3,7 @@ use mathlib.Core.List.{List, [], _∷_, _++_, map}
 use Prim.Native.Nat.{ℕ, zero, suc}
 use lib.IntN.{ℤ}
 use Rattle.integers.specs.Tests.{refusal}
-use Rattle.records.specs.declared.record.Propagator.{Propagator}
+use Rattle.records.specs.declared.record.DisjunctivePropagator.{DisjunctivePropagator}
 use Rattle.records.specs.Records.{durationOf, creationTests, created}
 use Rattle.task_changes.specs.Lists.{without}
 use Rattle.task_changes.specs.Changes.{added, removed, addNumber, removeNumber}
@@ -25,7 +25,7 @@ startOf (adding h d) = startOf h
 startOf (removing h t) = startOf h
 
 -- the record that it leaves
-unfoldable pub recordAfter : History → Propagator
+unfoldable pub recordAfter : History → DisjunctivePropagator
 recordAfter (creation ds) = created ds .«record»
 recordAfter (adding h d) = leaves (addNumber (recordAfter h) d) (added (recordAfter h) (durationOf d)) (recordAfter h)
 recordAfter (removing h t) = leaves (removeNumber (recordAfter h) t) (removed (recordAfter h) t) (recordAfter h)

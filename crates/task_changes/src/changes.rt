@@ -1,7 +1,8 @@
 // A task added to the record, or taken off.
 use integers::limits::DURATIONS;
 use integers::limits::TASKS;
-use records::record::Propagator;
+use integers::refused;
+use records::record::DisjunctivePropagator;
 use records::record::lawful;
 ghost use mathlib.Core.Path.{_≡_};
 ghost use Prim.Native.Nat.{_≤_};
@@ -17,7 +18,7 @@ pub enum Change {
 }
 
 pub struct Changed {
-    pub record: Propagator,
+    pub record: DisjunctivePropagator,
     pub answer: Change,
 }
 
@@ -26,23 +27,23 @@ fn add_refusal(n: usize, durations: &[u32; TASKS], total: u32, duration: i32) ->
     ensures { λ r. ⌜ r ≡ addNumber (recordOf n (now (durations .entry)) total) duration ⌝ }
 {
     if !lawful(n, durations, total) {
-        return 20;
+        return refused::RECORD;
     }
     if n >= TASKS {
-        return 1;
+        return refused::TASK_COUNT;
     }
-    if !integers::at_most(1, duration) {
-        return 2;
+    if !integers::numbers::at_most(1, duration) {
+        return refused::DURATION;
     }
-    let more = integers::nat_of(duration);
+    let more = integers::numbers::nat_of(duration);
     if DURATIONS - total < more {
-        return 5;
+        return refused::DURATION_SUM;
     }
     0
 }
 
 // The record with one task more, which takes number n.
-pub fn add(record: Propagator, duration: i32) -> Changed
+pub fn add(record: DisjunctivePropagator, duration: i32) -> Changed
     ensures { λ r. ⌜ TaskAdded «record» duration r ⌝ }
 {
     let number = add_refusal(record.count, &record.durations, record.total, duration);
@@ -53,12 +54,12 @@ pub fn add(record: Propagator, duration: i32) -> Changed
         };
     }
     let n = record.count;
-    let more = integers::nat_of(duration);
+    let more = integers::numbers::nat_of(duration);
     let mut durations = record.durations;
     durations[n] = more;
     let sum = record.total + more;
     Changed {
-        record: Propagator {
+        record: DisjunctivePropagator {
             count: n + 1,
             durations,
             total: sum,
@@ -90,19 +91,19 @@ fn remove_refusal(n: usize, durations: &[u32; TASKS], total: u32, task: usize) -
     ensures { λ r. ⌜ r ≡ removeNumber (recordOf n (now (durations .entry)) total) task ⌝ }
 {
     if !lawful(n, durations, total) {
-        return 20;
+        return refused::RECORD;
     }
     if task >= n {
-        return 12;
+        return refused::REMOVED;
     }
     if n < 2 {
-        return 1;
+        return refused::TASK_COUNT;
     }
     0
 }
 
 // The record without a task: the numbers above it are one lower.
-pub fn remove(record: Propagator, task: usize) -> Changed
+pub fn remove(record: DisjunctivePropagator, task: usize) -> Changed
     ensures { λ r. ⌜ TaskRemoved «record» task r ⌝ }
 {
     let number = remove_refusal(record.count, &record.durations, record.total, task);
@@ -117,7 +118,7 @@ pub fn remove(record: Propagator, task: usize) -> Changed
     let durations = without_task(&record.durations, n, task);
     let rest = record.total - less;
     Changed {
-        record: Propagator {
+        record: DisjunctivePropagator {
             count: n - 1,
             durations,
             total: rest,

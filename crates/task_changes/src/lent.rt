@@ -1,10 +1,10 @@
 // The changes on a record that a caller lends.
 use crate::changes::Change;
-use records::record::Propagator;
+use records::record::DisjunctivePropagator;
 ghost use Rattle.task_changes.specs.Changes.{AddedLent, RemovedLent};
 
 // The record becomes the one with a task more, or stays as it was.
-pub fn add(propagator: &mut Propagator, duration: i32) -> Change
+pub fn add(propagator: &mut DisjunctivePropagator, duration: i32) -> Change
     ensures { λ r. ⌜ AddedLent (now (propagator .entry)) duration r (now (propagator .exit)) ⌝ }
 {
     let changed = crate::changes::add(*propagator, duration);
@@ -13,7 +13,7 @@ pub fn add(propagator: &mut Propagator, duration: i32) -> Change
 }
 
 // The record becomes the one without the task, or stays as it was.
-pub fn remove(propagator: &mut Propagator, task: usize) -> Change
+pub fn remove(propagator: &mut DisjunctivePropagator, task: usize) -> Change
     ensures { λ r. ⌜ RemovedLent (now (propagator .entry)) task r (now (propagator .exit)) ⌝ }
 {
     let changed = crate::changes::remove(*propagator, task);

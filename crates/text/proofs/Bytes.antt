@@ -1,5 +1,4 @@
 -- A byte's tests, and what a digit makes of a word.
--- Assumes nothing.
 use mathlib.Core.Path.{_≡_, ap, _∙_}
 use mathlib.Core.Bool.{Bool, true, false}
 use mathlib.Core.Option.{none, some}
@@ -12,7 +11,7 @@ use Rattle.integers.specs.Moments.{instant, zeroAt}
 use Rattle.integers.proofs.Ints.{ints, up, dn, sub-law, up-neg, dn-neg}
 use Rattle.integers.proofs.Bools.{and-true, and-yes}
 use Rattle.text.specs.Numbers.{digit, ranged}
-use Rattle.text.specs.Scanning.{BEYOND, digitAfter}
+use Rattle.text.specs.Scanner.{BEYOND, digitAfter}
 use Rattle.text.specs.declared.reading.Word.the-variants.{Digits, Wrong}
 
 pub digit-low : (b : ℕ) → b < TASKS → digit b ≡ false

@@ -1,5 +1,4 @@
 -- A state that goes over the bytes of a slice, one after the other.
--- Assumes nothing.
 use mathlib.Core.Path.{_≡_}
 use mathlib.Core.List.{List, foldl}
 use Prim.Native.Nat.{ℕ, _+_, _≤_, _<_}

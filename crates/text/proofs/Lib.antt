@@ -1,8 +1,10 @@
 pub mod Folds
 pub mod Bytes
-pub mod Steps
-pub mod Spelling
-pub mod Gathering
+pub mod ScannerSteps
+pub mod ReadWords
+pub mod ScannedNumbers
 pub mod Tokens
 pub mod RoundTrip
 pub mod ReadBack
+pub mod Decimals
+pub mod PutBytes

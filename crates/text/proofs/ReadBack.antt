@@ -1,5 +1,4 @@
 -- Numbers that are written one behind the other, with white space behind each, are read back.
--- Assumes nothing.
 use mathlib.Core.Path.{_≡_, refl, sym, ap, _∙_}
 use mathlib.Core.Bool.{true, false}
 use mathlib.Core.List.{List, [], _∷_, _++_, append-nil, append-assoc}
@@ -12,7 +11,7 @@ use lib.ListN.{length}
 use lib.Signed.{_≤ℤ_}
 use borrow.Author.Tests.{ne-eqb, lt-leb}
 use Rattle.integers.proofs.Bools.{and-true, and-right, or-no}
-use Rattle.decimals.specs.Writing.{natural, decimal}
+use Rattle.text.specs.DecimalText.{natural, decimal}
 use Rattle.text.specs.Numbers.{space, pieces, filled, tokens, digit, digits, before, numbers, numbersOf}
 use Rattle.text.proofs.Bytes.{digit-range}
 use Rattle.text.proofs.RoundTrip.{natural-reads, round-trip}

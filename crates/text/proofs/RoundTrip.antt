@@ -1,5 +1,4 @@
 -- The digits of a number read as that number.
--- Assumes nothing.
 use mathlib.Core.Path.{_≡_, refl, ap, _∙_}
 use mathlib.Core.Bool.{Bool, true, false}
 use mathlib.Core.List.{List, [], _∷_, _++_}
@@ -13,8 +12,8 @@ use lib.ListN.{length, length-append}
 use borrow.Author.Tests.{ne-eqb}
 use Rattle.integers.proofs.Ints.{ints, up, dn}
 use Rattle.integers.proofs.Bools.{and-yes, and-true}
-use Rattle.decimals.specs.Writing.{figures, natural, decimal}
-use Rattle.decimals.proofs.Decimals.{figures-small, figures-large}
+use Rattle.text.specs.DecimalText.{figures, natural, decimal}
+use Rattle.text.proofs.Decimals.{figures-small, figures-large}
 use Rattle.text.specs.Numbers.{digit, digits, value, ranged, unsigned, numberOf}
 use Rattle.text.proofs.Bytes.{digit-yes, digit-range, negative-fits, positive-fits}
 

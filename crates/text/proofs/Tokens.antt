@@ -1,5 +1,4 @@
 -- A run of white space, or of other bytes, and what the next byte makes of a word.
--- Assumes nothing.
 use mathlib.Core.Path.{_≡_, sym, _∙_}
 use mathlib.Core.Bool.{Bool, true, false, Bool·beq}
 use mathlib.Core.List.{List, [], _∷_, _++_}

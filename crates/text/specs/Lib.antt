@@ -1,3 +1,5 @@
 pub mod Numbers
-pub mod Scanning
+pub mod Scanner
 pub mod Examples
+pub mod DecimalText
+pub mod DecimalExamples

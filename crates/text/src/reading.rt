@@ -1,12 +1,13 @@
 // Numbers in text: words parted by white space, each a decimal number that fits an i32.
 use integers::limits::TASKS;
-use integers::start_of;
+use integers::moments::start_of;
 ghost use mathlib.Core.Path.{_≡_};
 ghost use Prim.Native.Nat.{_+_, min};
 ghost use mathlib.Core.List.{foldl};
 ghost use lib.ListN.{set};
 ghost use Rattle.text.specs.Numbers.{space, ranged, numbersOf};
-ghost use Rattle.text.specs.Scanning.{digitAfter, nextOf, given, readingOf, MOST, noNumbers, notNumbers, withNumber, withReading, atStart, endOf, stepOf, gathered};
+ghost use Rattle.text.specs.Scanner.{digitAfter, nextOf, given, readingOf, MOST, noNumbers, notNumbers, withNumber, withReading, atStart, endOf, stepOf};
+ghost use Rattle.text.specs.Scanner.{gathered};
 
 // How many numbers are kept: a count of tasks, and three numbers for each task.
 pub const KEPT: usize = 1 + 3 * TASKS;

@@ -1,5 +1,4 @@
 -- The laws of the two trees: what the operations ask and do, and what the root holds, by the colours of the leaves.
--- Assumes nothing.
 use mathlib.Core.Path.{_≡_, refl, sym, ap, ap₂, subst, _∙_}
 use mathlib.Core.Bool.{not}
 use mathlib.Core.List.{List}
@@ -8,30 +7,30 @@ use native.Mathlib.Omega.{arith}
 use lib.Dec.{eqb}
 use lib.ListN.{length, getD, set, length-set, replicate, length-replicate}
 use Rattle.integers.specs.Limits.{TASKS, THETAWORDS, TREEWORDS}
-use Rattle.integers.proofs.Filling.{getD-fresh}
+use Rattle.integers.proofs.FilledLists.{getD-fresh}
 use Rattle.scheduling.specs.Scheduling.{natural, Tasks}
-use Rattle.nodes.specs.declared.theta_lambda_node.Node.{Node}
-use Rattle.nodes.specs.declared.theta_node.Node as plain
-use Rattle.nodes.specs.Nodes.{joinOf, plainOf, plainJoinOf}
-use Rattle.nodes.specs.Bounds.{Fair, size, PlainFair, plainSize}
-use Rattle.nodes.specs.Descents.{gray}
-use Rattle.nodes.proofs.Grays.{gray-empty}
+use Rattle.trees.specs.declared.theta_lambda_node.Node.{Node}
+use Rattle.trees.specs.declared.theta_node.Node as plain
+use Rattle.trees.specs.Nodes.{joinOf, plainOf, plainJoinOf}
+use Rattle.trees.specs.NodeBounds.{Fair, size, PlainFair, plainSize}
+use Rattle.trees.specs.Descents.{gray}
+use Rattle.trees.proofs.GrayLeaves.{gray-empty}
 use Rattle.trees.specs.Shapes.{width, heightFor, nodeOver}
 use Rattle.trees.specs.Arrays.{changed, leavesOf, TreeOf}
 use Rattle.trees.specs.Words.{nodeAt, plainAt}
 use Rattle.trees.specs.Bounds.{Bounded, CanPut}
 use Rattle.trees.specs.Puts.{Puttable, Put, PlainPuttable, PlainPut}
 use Rattle.trees.specs.Searches.{searchEct}
-use Rattle.trees.specs.Searching.{whiteIn, thetaIn}
+use Rattle.trees.specs.ArraySearches.{whiteIn, thetaIn}
 use Rattle.trees.specs.Leaves as leaves
 use Rattle.trees.specs.Leaves.{Leaf, empty, inTheta, leafNode, taskAt, startAt, durationAt, whiteAt, root, responsible, theta}
 use Rattle.trees.specs.Trees.{plainLeaf, plainLeaves, Limited, IsTree, IsPlainTree}
 use Rattle.trees.proofs.Heights.{enough, room, root-height}
-use Rattle.trees.proofs.Wiring.{over-leaf, over-join, own-leaves, own-tree, root-is}
-use Rattle.trees.proofs.Storage.{blank-nodes, plain-blank-nodes}
-use Rattle.trees.proofs.Colours.{white-is, past-empty, bounded, plain-bounded, coloured}
-use Rattle.trees.proofs.Thetas.{theta-same}
-use Rattle.trees.proofs.Steps.{Searchable}
+use Rattle.trees.proofs.ArrayTrees.{over-leaf, over-join, own-leaves, own-tree, root-is}
+use Rattle.trees.proofs.NodeWords.{blank-nodes, plain-blank-nodes}
+use Rattle.trees.proofs.LeafColours.{white-is, past-empty, bounded, plain-bounded, coloured}
+use Rattle.trees.proofs.WhiteTasks.{theta-same}
+use Rattle.trees.proofs.SearchSteps.{Searchable}
 
 -- Nodes of any kind over the leaves' colours: `node` is that of a leaf, by colour and place.
 module _ {A : Type 0} (size : A → ℕ) (Fair : A → Type 0) (join : A → A → A) (node : Leaf → ℕ → A) where
@@ -116,11 +115,13 @@ module _ {J : Tasks natural} {estOrder : List ℕ} (lim : Limited J estOrder) {l
   pub may-put : (k : ℕ) → k < J .count → (c : Leaf) {n : Node} → n ≡ leafNode c (startAt J estOrder k) (durationAt J estOrder k) → Puttable inner words k n
   may-put k q c {n} z = record {
     length = t .words-length;
-    takes = takes size Fair joinOf (leaf-node J estOrder) inner (J .count) (nodeAt words) ls (t .tree) (t .complete) (lim .count) (t .colours) k q c (bounded J estOrder lim (set ls k c) (length-set ls k c ∙ t .colours)) n z;
+    takes = takes size Fair joinOf (leaf-node J estOrder) inner (J .count) (nodeAt words) ls (t .tree) (t .complete) (lim .count) (t .colours) k q c
+        (bounded J estOrder lim (set ls k c) (length-set ls k c ∙ t .colours)) n z;
   }
 
   -- and then has it
-  pub was-put : (k : ℕ) → k < J .count → (c : Leaf) {n : Node} → n ≡ leafNode c (startAt J estOrder k) (durationAt J estOrder k) → {words′ : List ℕ} → Put inner words words′ k n → IsTree J estOrder (set ls k c) inner words′
+  pub was-put : (k : ℕ) → k < J .count → (c : Leaf) {n : Node} → n ≡ leafNode c (startAt J estOrder k) (durationAt J estOrder k) → {words′ : List ℕ} → Put inner words words′ k n
+      → IsTree J estOrder (set ls k c) inner words′
   was-put k q c {n} z {words′} u = record {
     tree = put-gives size Fair joinOf (leaf-node J estOrder) inner (nodeAt words) (nodeAt words′) ls (t .tree) k (omega (arith, t .colours)) c n z (u .tree);
     words-length = u .length;
@@ -142,7 +143,12 @@ module _ {J : Tasks natural} {estOrder : List ℕ} (lim : Limited J estOrder) {l
   -- the search from the root, `responsible_ect_bar`
   pub searchable : (h : ℕ) → h ≡ heightFor (J .count) → Searchable inner h (nodeAt words)
   searchable h z = rw z (record {
-    searched = record { tree = own-is-tree; bounded = rw own (bounded J estOrder lim ls (t .colours)); has-height = root-height inner (heightFor (J .count)) (t .complete); room = omega (arith, room (J .count) (omega (arith, lim .count)), t .complete) };
+    searched = record {
+      tree = own-is-tree;
+      bounded = rw own (bounded J estOrder lim ls (t .colours));
+      has-height = root-height inner (heightFor (J .count)) (t .complete);
+      room = omega (arith, room (J .count) (omega (arith, lim .count)), t .complete);
+    };
     complete = t .complete;
     past = λ k q. ap gray (t .tree .leaves k ∙ ap (λ (c : Leaf). leaf-node J estOrder c k) (past-empty J estOrder ls (t .colours) k (omega (arith, lim .count)))) ∙ gray-empty;
   })
@@ -164,10 +170,12 @@ module _ {J : Tasks natural} {estOrder : List ℕ} (lim : Limited J estOrder) {l
   pub may-put-plain : (k : ℕ) → k < J .count → (c : Leaf) {n : plain.Node} → n ≡ plainLeaf (inTheta c) (startAt J estOrder k) (durationAt J estOrder k) → PlainPuttable inner words k n
   may-put-plain k q c {n} z = record {
     length = t .words-length;
-    takes = takes plainSize PlainFair plainJoinOf (plain-node J estOrder) inner (J .count) (plainAt words) ls (t .tree) (t .complete) (lim .count) (t .colours) k q c (plain-bounded J estOrder lim (set ls k c) (length-set ls k c ∙ t .colours)) n z;
+    takes = takes plainSize PlainFair plainJoinOf (plain-node J estOrder) inner (J .count) (plainAt words) ls (t .tree) (t .complete) (lim .count) (t .colours) k q c
+        (plain-bounded J estOrder lim (set ls k c) (length-set ls k c ∙ t .colours)) n z;
   }
 
-  pub was-put-plain : (k : ℕ) → k < J .count → (c : Leaf) {n : plain.Node} → n ≡ plainLeaf (inTheta c) (startAt J estOrder k) (durationAt J estOrder k) → {words′ : List ℕ} → PlainPut inner words words′ k n → IsPlainTree J estOrder (set ls k c) inner words′
+  pub was-put-plain : (k : ℕ) → k < J .count → (c : Leaf) {n : plain.Node} → n ≡ plainLeaf (inTheta c) (startAt J estOrder k) (durationAt J estOrder k) → {words′ : List ℕ}
+      → PlainPut inner words words′ k n → IsPlainTree J estOrder (set ls k c) inner words′
   was-put-plain k q c {n} z {words′} u = record {
     tree = put-gives plainSize PlainFair plainJoinOf (plain-node J estOrder) inner (plainAt words) (plainAt words′) ls (t .tree) k (omega (arith, t .colours)) c n z (u .tree);
     words-length = u .length;

@@ -5,9 +5,9 @@ use mathlib.Core.Option.{Option}
 use Prim.Native.Nat.{ℕ, _+_}
 use lib.ListN.{getD}
 use Rattle.scheduling.specs.Scheduling.{natural, Tasks}
-use Rattle.nodes.specs.declared.theta_lambda_node.Node.{Node}
-use Rattle.ects.specs.Ects.{decoded}
-use Rattle.nodes.specs.Nodes.{emptyOf, whiteOf, grayOf, joinOf}
+use Rattle.trees.specs.declared.theta_lambda_node.Node.{Node}
+use Rattle.trees.specs.Ects.{decoded}
+use Rattle.trees.specs.Nodes.{emptyOf, whiteOf, grayOf, joinOf}
 use Rattle.trees.specs.Shapes.{heightFor, nodeOver}
 use Rattle.trees.specs.Searches.{searchEct, thetaOf}
 

@@ -1,3 +1,8 @@
+pub mod Ects
+pub mod Nodes
+pub mod NodeBounds
+pub mod Descents
+pub mod SearchSteps
 pub mod Shapes
 pub mod Arrays
 pub mod Words
@@ -5,7 +10,7 @@ pub mod Bounds
 pub mod Puts
 pub mod Mappings
 pub mod Searches
-pub mod Searching
+pub mod ArraySearches
 pub mod Leaves
 pub mod Trees
 pub mod Operations

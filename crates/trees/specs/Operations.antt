@@ -10,7 +10,7 @@ use Rattle.trees.specs.declared.theta_lambda_tree.Responsible.{Responsib
 use Rattle.trees.specs.Shapes.{heightFor}
 use Rattle.trees.specs.Arrays.{Sized}
 use Rattle.trees.specs.Leaves.{Leaf, empty, white, startAt, durationAt, responsible}
-use Rattle.trees.specs.Searching.{responsibleOf}
+use Rattle.trees.specs.ArraySearches.{responsibleOf}
 use Rattle.trees.specs.Trees.{Limited, IsTree, HasLeaves}
 
 -- Tasks in an order and leaves over them, of which the words hold the tree.
@@ -32,7 +32,8 @@ pub record HeldLeaves (inner : ℕ) (words : List ℕ) : Type 0 where
 -- A new tree for n tasks: every leaf is empty.
 pub record New (n : ℕ) (tree : ThetaLambdaTree) : Type 0 where
   pub size : Sized n (tree .«number_of_internal_nodes») (tree .height)
-  pub empties : (J : Tasks natural) (estOrder : List ℕ) → J .count ≡ n → IsTree J estOrder (replicate (J .count) empty) (tree .«number_of_internal_nodes») (tree .nodes)
+  pub empties : (J : Tasks natural) (estOrder : List ℕ) → J .count ≡ n
+      → IsTree J estOrder (replicate (J .count) empty) (tree .«number_of_internal_nodes») (tree .nodes)
 
 -- the answer is the value of the leaves
 abbrev pub Answers : {A : Type 0} → (Tasks natural → List ℕ → List Leaf → A) → List ℕ → A → Type 0

@@ -20,7 +20,8 @@ pub record HeldPlain (inner : ℕ) (words : List ℕ) : Type 0 where
 -- A new theta tree for n tasks in an order: every leaf is empty, and the mapping has the place of each task.
 pub record PlainNew (n : ℕ) (order : List ℕ) (tree : ThetaTree) : Type 0 where
   pub mapping : Maps n order (tree .mapping)
-  pub empties : (J : Tasks natural) (estOrder : List ℕ) → J .count ≡ n → IsPlainTree J estOrder (replicate (J .count) empty) (tree .«number_of_internal_nodes») (tree .nodes)
+  pub empties : (J : Tasks natural) (estOrder : List ℕ) → J .count ≡ n
+      → IsPlainTree J estOrder (replicate (J .count) empty) (tree .«number_of_internal_nodes») (tree .nodes)
 
 -- the answer is the value of the leaves
 abbrev pub PlainAnswers : {A : Type 0} → (Tasks natural → List ℕ → List Leaf → A) → List ℕ → A → Type 0

@@ -4,10 +4,10 @@ use mathlib.Core.List.{List}
 use Prim.Native.Nat.{ℕ}
 use lib.ListN.{length}
 use Rattle.integers.specs.Limits.{THETAWORDS, TREEWORDS}
-use Rattle.nodes.specs.declared.theta_lambda_node.Node.{Node}
-use Rattle.nodes.specs.declared.theta_node.Node as plain
-use Rattle.nodes.specs.Nodes.{joinOf, plainJoinOf}
-use Rattle.nodes.specs.Bounds.{Fair, size, PlainFair, plainSize}
+use Rattle.trees.specs.declared.theta_lambda_node.Node.{Node}
+use Rattle.trees.specs.declared.theta_node.Node as plain
+use Rattle.trees.specs.Nodes.{joinOf, plainJoinOf}
+use Rattle.trees.specs.NodeBounds.{Fair, size, PlainFair, plainSize}
 use Rattle.trees.specs.Arrays.{leavesOf, changed, TreeOf}
 use Rattle.trees.specs.Words.{nodeAt, plainAt}
 use Rattle.trees.specs.Bounds.{CanPut}

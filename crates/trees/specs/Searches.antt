@@ -1,15 +1,16 @@
--- The two searches for the responsible task, as in the source: down from a node, by the tests in their order, to the leaf of a gray task. And the list of Theta.
+-- The two searches for the responsible task, as in the source: down from a node, by the tests in their order, to the leaf of a gray task. And the list of
+-- Theta.
 use mathlib.Core.Bool.{Bool, true, false}
 use mathlib.Core.Option.{Option, some, none}
 use mathlib.Core.List.{List, [], _∷_}
 use Prim.Native.Nat.{ℕ, zero, suc, _+_}
-use Rattle.nodes.specs.declared.theta_lambda_node.Node.{Node}
-use Rattle.nodes.specs.declared.theta_lambda_node.PDescent.{PDescent}
-use Rattle.nodes.specs.declared.theta_lambda_node.PDescent.the-variants.{Left, Right, Here, Nothing}
-use Rattle.nodes.specs.declared.theta_lambda_node.EctBarDescent.the-variants as bar
-use Rattle.nodes.specs.declared.theta_lambda_node.EctBarDescent.{EctBarDescent}
-use Rattle.nodes.specs.Nodes.{joinOf}
-use Rattle.nodes.specs.Descents.{gray, descentP, descentEct}
+use Rattle.trees.specs.declared.theta_lambda_node.Node.{Node}
+use Rattle.trees.specs.declared.theta_lambda_node.PDescent.{PDescent}
+use Rattle.trees.specs.declared.theta_lambda_node.PDescent.the-variants.{Left, Right, Here, Nothing}
+use Rattle.trees.specs.declared.theta_lambda_node.EctBarDescent.the-variants as bar
+use Rattle.trees.specs.declared.theta_lambda_node.EctBarDescent.{EctBarDescent}
+use Rattle.trees.specs.Nodes.{joinOf}
+use Rattle.trees.specs.Descents.{gray, descentP, descentEct}
 use Rattle.trees.specs.Shapes.{width, nodeOver}
 
 -- Below the node of height h over the leaves from a on: the next step of each search, and the place of the leaf where it ends, or none.

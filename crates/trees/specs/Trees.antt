@@ -6,9 +6,9 @@ use Prim.Native.Nat.{ℕ, _+_, _≤_, _<_}
 use lib.ListN.{length}
 use Rattle.integers.specs.Limits.{TASKS, DURATIONS, THETAWORDS, TREEWORDS}
 use Rattle.scheduling.specs.Scheduling.{natural, Tasks, total}
-use Rattle.nodes.specs.declared.theta_node.Node as plain
-use Rattle.nodes.specs.Nodes.{joinOf, plainEmptyOf, plainOf, plainJoinOf}
-use Rattle.nodes.specs.Bounds.{LATEST}
+use Rattle.trees.specs.declared.theta_node.Node as plain
+use Rattle.trees.specs.Nodes.{joinOf, plainEmptyOf, plainOf, plainJoinOf}
+use Rattle.trees.specs.NodeBounds.{LATEST}
 use Rattle.trees.specs.Shapes.{width, heightFor}
 use Rattle.trees.specs.Arrays.{TreeOf}
 use Rattle.trees.specs.Words.{nodeAt, plainAt}

@@ -12,27 +12,27 @@ use crate::disjunctive_task::DisjunctiveTask;
 use crate::disjunctive_task::LeafPlace;
 use crate::disjunctive_task::LocalId;
 use crate::disjunctive_task::task_of;
-use ects::earliest_completion::Ect;
+use crate::ect::Ect;
+use crate::theta_lambda_node::Around;
+use crate::theta_lambda_node::EctBarDescent;
+use crate::theta_lambda_node::Node;
+use crate::theta_lambda_node::PDescent;
 use integers::limits::NODES;
 use integers::limits::TASKS;
 use integers::limits::TREEWORDS;
-use nodes::theta_lambda_node::Around;
-use nodes::theta_lambda_node::EctBarDescent;
-use nodes::theta_lambda_node::Node;
-use nodes::theta_lambda_node::PDescent;
 ghost use mathlib.Core.Path.{_≡_};
 ghost use Prim.Native.Nat.{ℕ, _+_, _*_, _-_, _≤_, _<_};
 ghost use lib.ListN.{length};
 ghost use Rattle.integers.specs.Limits.{INNER, NODES, TASKS, TREEWORDS};
-ghost use Rattle.ects.specs.Ects.{momentOf};
-ghost use Rattle.nodes.specs.Nodes.{joinOf};
-ghost use Rattle.nodes.specs.Bounds.{Fair, size};
+ghost use Rattle.trees.specs.Ects.{momentOf};
+ghost use Rattle.trees.specs.Nodes.{joinOf};
+ghost use Rattle.trees.specs.NodeBounds.{Fair, size};
 ghost use Rattle.trees.specs.Arrays.{leftmost, changed, leavesOf, TreeOf};
 ghost use Rattle.trees.specs.Words.{nodeAt};
 ghost use Rattle.trees.specs.Bounds.{NeedsUpheap};
 ghost use Rattle.trees.specs.Puts.{Puttable, Put};
 ghost use Rattle.trees.specs.Searches.{searchP, searchEct};
-ghost use Rattle.trees.specs.Searching.{Searched, aroundOf, foundAt, whiteIn, Next};
+ghost use Rattle.trees.specs.ArraySearches.{Searched, aroundOf, foundAt, whiteIn, Next};
 ghost use Rattle.trees.specs.Leaves.{empty, gray, ect, ect-bar, sum};
 ghost use Rattle.trees.specs.Trees.{IsTree};
 ghost use Rattle.trees.specs.Operations.{Held, HeldLeaves, New, Answers, Tall, Responds, HasPlace, Coloured, Whitened};
@@ -231,7 +231,8 @@ impl ThetaLambdaTree {
         task: DisjunctiveTask,
     )
         requires { ⌜ ((h : Held inner (now nodes)) × HasPlace (h .J) (h .estOrder) (place .0) task) ⌝ }
-        ensures { λ _. ⌜ ((h : Held inner (now (nodes .entry))) → HasPlace (h .J) (h .estOrder) (place .0) task → Coloured gray h (place .0) (now (nodes .exit))) ⌝ }
+        ensures { λ _. ⌜ ((h : Held inner (now (nodes .entry))) → HasPlace (h .J) (h .estOrder) (place .0) task
+            → Coloured gray h (place .0) (now (nodes .exit))) ⌝ }
     {
         let ect = task.start_time + task.processing_time;
         let n = Node::new_gray_node(ect, task.processing_time);
@@ -254,7 +255,8 @@ impl ThetaLambdaTree {
         task: DisjunctiveTask,
     )
         requires { ⌜ ((l : HeldLeaves inner (now nodes)) × HasPlace (l .J) (l .estOrder) (place .0) task) ⌝ }
-        ensures { λ _. ⌜ ((l : HeldLeaves inner (now (nodes .entry))) → HasPlace (l .J) (l .estOrder) (place .0) task → Whitened l (place .0) (now (nodes .exit))) ⌝ }
+        ensures { λ _. ⌜ ((l : HeldLeaves inner (now (nodes .entry))) → HasPlace (l .J) (l .estOrder) (place .0) task
+            → Whitened l (place .0) (now (nodes .exit))) ⌝ }
     {
         let ect = task.start_time + task.processing_time;
         let n = Node::new_white_node(ect, task.processing_time);
@@ -282,7 +284,8 @@ impl ThetaLambdaTree {
     // Calculates the new values for the ancestors of the provided index.
     fn upheap(nodes: &mut [u32; TREEWORDS], inner: usize, index: usize)
         requires { ⌜ NeedsUpheap size Fair joinOf inner (nodeAt (now nodes)) index × (length (now nodes) ≡ TREEWORDS) ⌝ }
-        ensures { λ _. ⌜ TreeOf joinOf inner (leavesOf inner (nodeAt (now (nodes .entry)))) (nodeAt (now (nodes .exit))) × (length (now (nodes .exit)) ≡ TREEWORDS) ⌝ }
+        ensures { λ _. ⌜ TreeOf joinOf inner (leavesOf inner (nodeAt (now (nodes .entry)))) (nodeAt (now (nodes .exit)))
+            × (length (now (nodes .exit)) ≡ TREEWORDS) ⌝ }
     {
         let mut i = index;
         while i != 0 {

@@ -10,18 +10,18 @@ use crate::complete_tree::leaf_places;
 use crate::complete_tree::size_for;
 use crate::disjunctive_task::DisjunctiveTask;
 use crate::disjunctive_task::LeafPlace;
-use ects::earliest_completion::Ect;
+use crate::ect::Ect;
+use crate::theta_node::Node;
 use integers::limits::TASKS;
 use integers::limits::THETAWORDS;
-use nodes::theta_node::Node;
 ghost use mathlib.Core.Path.{_≡_};
 ghost use Prim.Native.Nat.{_+_, _≤_, _<_};
 ghost use lib.ListN.{length, take};
 ghost use Rattle.integers.specs.Limits.{NODES, TASKS, THETAWORDS};
 ghost use Rattle.integers.specs.Orders.{Permutes};
-ghost use Rattle.ects.specs.Ects.{momentOf};
-ghost use Rattle.nodes.specs.Nodes.{plainJoinOf};
-ghost use Rattle.nodes.specs.Bounds.{PlainFair, plainSize};
+ghost use Rattle.trees.specs.Ects.{momentOf};
+ghost use Rattle.trees.specs.Nodes.{plainJoinOf};
+ghost use Rattle.trees.specs.NodeBounds.{PlainFair, plainSize};
 ghost use Rattle.trees.specs.Arrays.{changed, leavesOf, TreeOf};
 ghost use Rattle.trees.specs.Words.{plainAt};
 ghost use Rattle.trees.specs.Bounds.{NeedsUpheap};
@@ -98,7 +98,8 @@ impl ThetaTree {
     // Adds the provided task to Theta.
     pub fn add(nodes: &mut [u32; THETAWORDS], inner: usize, place: LeafPlace, task: DisjunctiveTask)
         requires { ⌜ ((h : HeldPlain inner (now nodes)) × HasPlace (h .J) (h .estOrder) (place .0) task) ⌝ }
-        ensures { λ _. ⌜ ((h : HeldPlain inner (now (nodes .entry))) → HasPlace (h .J) (h .estOrder) (place .0) task → PlainWhitened h (place .0) (now (nodes .exit))) ⌝ }
+        ensures { λ _. ⌜ ((h : HeldPlain inner (now (nodes .entry))) → HasPlace (h .J) (h .estOrder) (place .0) task
+            → PlainWhitened h (place .0) (now (nodes .exit))) ⌝ }
     {
         let ect = task.start_time + task.processing_time;
         let n = Node::new(ect, task.processing_time);
@@ -108,7 +109,8 @@ impl ThetaTree {
     // Calculates the new values for the ancestors of the provided index.
     fn upheap(nodes: &mut [u32; THETAWORDS], inner: usize, index: usize)
         requires { ⌜ NeedsUpheap plainSize PlainFair plainJoinOf inner (plainAt (now nodes)) index × (length (now nodes) ≡ THETAWORDS) ⌝ }
-        ensures { λ _. ⌜ TreeOf plainJoinOf inner (leavesOf inner (plainAt (now (nodes .entry)))) (plainAt (now (nodes .exit))) × (length (now (nodes .exit)) ≡ THETAWORDS) ⌝ }
+        ensures { λ _. ⌜ TreeOf plainJoinOf inner (leavesOf inner (plainAt (now (nodes .entry)))) (plainAt (now (nodes .exit)))
+            × (length (now (nodes .exit)) ≡ THETAWORDS) ⌝ }
     {
         let mut i = index;
         while i != 0 {

@@ -8,7 +8,7 @@ use Rattle.scheduling.specs.Scheduling.{total}
 use Rattle.scheduling.proofs.Sets.{total-none, total-more, total-part}
 use Rattle.fixed_schedules.specs.Neighbours.{inMoments}
 use Rattle.busiest_stretch.specs.StretchMoments.{commonAt}
-use Rattle.busiest_stretch.proofs.Sliding.{covered-short}
+use Rattle.busiest_stretch.proofs.CoveredTime.{covered-short}
 use Rattle.busiest_stretch.proofs.covering.covered.Statement.{statement}
 use Rattle.busiest_stretch.proofs.covering.covered.Tie as tie
 
@@ -32,13 +32,23 @@ add-sum : tie.Need-add-sum Inv-loop μ-loop
 add-sum c =
     let s = c .before .before .before .before .before .before in
     let l = c .before .before .before .before .before .loop in
-    record { fits = omega (arith, l .inv .1, c .common .ensures, covered-short (inMoments (s .args .n) (s .args .starts .now) (s .args .durations .now)) (s .args .w) (s .args .x) (l .k) (c .before .before .before .before .loop-test .taken), s .pre .0 .sum) }
+    record {
+      fits = omega (
+        arith,
+        l .inv .1,
+        c .common .ensures,
+        covered-short (inMoments (s .args .n) (s .args .starts .now) (s .args .durations .now)) (s .args .w) (s .args .x) (l .k) (c .before .before .before .before .loop-test .taken),
+        s .pre .0 .sum,
+      );
+    }
 
 loop-again : tie.Need-loop-again Inv-loop μ-loop
 loop-again c =
     let s = c .before .before .before .before .before .before in
-    let l = c .before .before .before .before .before .loop in
-    (omega (arith, c .before .before .before .before .loop-test .taken), omega (arith, l .inv .1, c .common .ensures, total-more (commonAt (inMoments (s .args .n) (s .args .starts .now) (s .args .durations .now)) (s .args .w) (s .args .x)) (l .k)))
+    let l = c .before .before .before .before .before .loop in (
+      omega (arith, c .before .before .before .before .loop-test .taken),
+      omega (arith, l .inv .1, c .common .ensures, total-more (commonAt (inMoments (s .args .n) (s .args .starts .now) (s .args .durations .now)) (s .args .w) (s .args .x)) (l .k)),
+    )
 
 returns : tie.Need-returns Inv-loop μ-loop
 returns c =

@@ -6,7 +6,7 @@ use lib.ListN.{getD}
 use borrow.Author.Needs.{needs}
 use Rattle.scheduling.proofs.Sets.{total-part}
 use Rattle.fixed_schedules.specs.Neighbours.{inMoments}
-use Rattle.busiest_stretch.proofs.Trying.{Best, none-yet, one-more, best-of-all}
+use Rattle.busiest_stretch.proofs.TriedStretches.{Best, none-yet, one-more, best-of-all}
 use Rattle.busiest_stretch.proofs.stretch.busiest.Statement.{statement}
 use Rattle.busiest_stretch.proofs.stretch.busiest.Tie as tie
 
@@ -24,8 +24,11 @@ covered-requires c κs =
 loop-holds : tie.Need-loop-holds Inv-loop μ-loop
 loop-holds c =
     let s = c .before in
-    let (k, q, e) = s .pre .1 .starts-first in
-    (omega arith, none-yet (inMoments (s .args .n) (s .args .starts .now) (s .args .durations .now)) (s .args .w) (s .args .first) (s .args .last) (c .covered .result) (s .args .first) (record { from = omega arith; to = omega (arith, e, s .pre .1 .greatest k q); covers = sym (c .covered .ensures) }))
+    let (k, q, e) = s .pre .1 .starts-first in (
+      omega arith,
+      none-yet (inMoments (s .args .n) (s .args .starts .now) (s .args .durations .now)) (s .args .w) (s .args .first) (s .args .last) (c .covered .result) (s .args .first)
+          (record { from = omega arith; to = omega (arith, e, s .pre .1 .greatest k q); covers = sym (c .covered .ensures) }),
+    )
 
 add-back : tie.Need-add-back Inv-loop μ-loop
 add-back c =
@@ -44,15 +47,19 @@ loop-again c =
     let head = c .before .before .before .before .before in
     let s = head .before .before in
     let k = head .loop .k in
-    let q = c .before .before .before .before .loop-test .taken in
-    (omega (arith, q), one-more (inMoments (s .args .n) (s .args .starts .now) (s .args .durations .now)) (s .args .w) (s .args .first) (s .args .last) _ (head .loop .inv .1) (c .before .before .better .ensures) (omega (arith, s .pre .0 .low k q, s .pre .0 .length)) (c .better2 .ensures))
+    let q = c .before .before .before .before .loop-test .taken in (
+      omega (arith, q),
+      one-more (inMoments (s .args .n) (s .args .starts .now) (s .args .durations .now)) (s .args .w) (s .args .first) (s .args .last) _ (head .loop .inv .1)
+          (c .before .before .better .ensures) (omega (arith, s .pre .0 .low k q, s .pre .0 .length)) (c .better2 .ensures),
+    )
 
 returns : tie.Need-returns Inv-loop μ-loop
 returns c =
     let s = c .before .before .before in
     let l = c .before .loop in
     let e : l .k ≡ s .args .n = omega (arith, l .inv .0, c .loop-test .left) in
-    best-of-all (inMoments (s .args .n) (s .args .starts .now) (s .args .durations .now)) (s .args .w) (s .args .first) (s .args .last) (l .best .covered) (l .best .start) (rw e at (l .inv .1)) (s .pre .1 .starts-first) (s .pre .1 .starts-last)
+    best-of-all (inMoments (s .args .n) (s .args .starts .now) (s .args .durations .now)) (s .args .w) (s .args .first) (s .args .last) (l .best .covered) (l .best .start) (rw e at (l .inv .1))
+    (s .pre .1 .starts-first) (s .pre .1 .starts-last)
 
 pub busiest-spec : {M : Type 1} → statement M
 busiest-spec =

@@ -10,7 +10,7 @@ use Rattle.integers.specs.Limits.{TASKS}
 use Rattle.integers.proofs.Ints.{ints, up, dn, back, back-of}
 use Rattle.fixed_schedules.specs.FixedSchedules.{AcceptedFixed}
 use Rattle.fixed_schedules.specs.Asked.{LengthFits}
-use Rattle.fixed_schedules.proofs.Accepting.{input-of, started}
+use Rattle.fixed_schedules.proofs.AcceptedSchedules.{input-of, started}
 use Rattle.busiest_stretch.specs.Stretches.{stretchNumber}
 use Rattle.busiest_stretch.proofs.StretchRefused.{accepted-question}
 use Rattle.busiest_stretch.proofs.Answers.{task-small, slidable, runs, found, refused, answered}
@@ -88,8 +88,10 @@ busiest-requires : tie.Need-busiest-requires
 busiest-requires c κs =
     let asked = c .before .before .before in
     let a = start asked .args in
-    let h = held (asked .before .before .before .before) in
-    (slidable (a .t1) (a .earliest .now) (a .latest .now) (a .w) (h .0) (h .1) _ (asked .before .moments-of .ensures) _ (lasting asked) _ (asked .before .before .before .order-of .ensures), runs (a .t1) (a .earliest .now) (a .latest .now) (a .w) (h .0) (h .1) _ (asked .before .moments-of .ensures) _ (lasting asked) _ (asked .before .before .before .order-of .ensures))
+    let h = held (asked .before .before .before .before) in (
+      slidable (a .t1) (a .earliest .now) (a .latest .now) (a .w) (h .0) (h .1) _ (asked .before .moments-of .ensures) _ (lasting asked) _ (asked .before .before .before .order-of .ensures),
+      runs (a .t1) (a .earliest .now) (a .latest .now) (a .w) (h .0) (h .1) _ (asked .before .moments-of .ensures) _ (lasting asked) _ (asked .before .before .before .order-of .ensures),
+    )
 
 returns-2 : tie.Need-returns-2
 returns-2 c =
@@ -98,7 +100,9 @@ returns-2 c =
     let s = asked .before .before .before .before in
     let h = held s in
     let best = c .before .busiest in
-    answered (a .t1) (a .earliest .now) (a .latest .now) (a .w) _ (number s) (found (a .t1) (a .earliest .now) (a .latest .now) (a .w) (h .0) (h .1) _ (asked .before .moments-of .ensures) _ (lasting asked) _ (asked .before .before .before .order-of .ensures) (best .result .covered) (best .result .start) (best .ensures) _ (back-of w32 (c .start-of .result) (c .start-of .ok) ∙ c .start-of .ensures))
+    answered (a .t1) (a .earliest .now) (a .latest .now) (a .w) _ (number s)
+    (found (a .t1) (a .earliest .now) (a .latest .now) (a .w) (h .0) (h .1) _ (asked .before .moments-of .ensures) _ (lasting asked) _ (asked .before .before .before .order-of .ensures)
+    (best .result .covered) (best .result .start) (best .ensures) _ (back-of w32 (c .start-of .result) (c .start-of .ok) ∙ c .start-of .ensures))
 
 pub busiest-stretch-spec : {M : Type 1} → statement M
 busiest-stretch-spec =

@@ -6,15 +6,15 @@ use lib.IntN.{ℤ, pos, _+ℤ_}
 use lib.ListN.{length, getD}
 use borrow.Author.Needs.{needs}
 use mir.Syntax.{w32}
-use Rattle.integers.specs.Filling.{filled, noTasks}
-use Rattle.integers.proofs.Filling.{filled-none, filled-store}
+use Rattle.integers.specs.FilledLists.{filled, noTasks}
+use Rattle.integers.proofs.FilledLists.{filled-none, filled-store}
 use Rattle.integers.proofs.Ints.{back-of}
 use Rattle.scheduling.specs.Scheduling.{total}
 use Rattle.scheduling.proofs.Sets.{total-none, total-more}
-use Rattle.input_refusals.specs.Refusals.{StartFits}
+use Rattle.records.specs.Refusals.{StartFits}
 use Rattle.fixed_schedules.specs.FixedSchedules.{startAt, endAt}
 use Rattle.charges.specs.Tariff.{minutesLate, costOf}
-use Rattle.charges.specs.Charging.{DueFits, chargeAt}
+use Rattle.charges.specs.Charges.{DueFits, chargeAt}
 use Rattle.charges.proofs.Costs.{cost-most}
 use Rattle.charges.proofs.charging.bill_of.Statement.{statement}
 use Rattle.charges.proofs.charging.bill_of.Tie as tie

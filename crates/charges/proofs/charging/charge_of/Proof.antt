@@ -3,9 +3,9 @@ use mathlib.Core.Path.{sym, ap, ap₂, subst, _∙_}
 use lib.IntN.{ℤ, pos, _+ℤ_}
 use borrow.Author.Needs.{needs}
 use Rattle.integers.proofs.Ints.{back}
-use Rattle.input_refusals.specs.Refusals.{StartFits}
+use Rattle.records.specs.Refusals.{StartFits}
 use Rattle.charges.specs.Tariff.{minutesLate, costOf}
-use Rattle.charges.specs.Charging.{DueFits}
+use Rattle.charges.specs.Charges.{DueFits}
 use Rattle.charges.proofs.charging.charge_of.Statement.{statement}
 use Rattle.charges.proofs.charging.charge_of.Tie as tie
 

@@ -1,9 +1,9 @@
 -- The number decides which bill there is: `refused` has that of zeros, `made` that of the accepted schedule.
 use mathlib.Core.Path.{_≡_, sym, _∙_}
 use borrow.Author.Needs.{needs}
-use Rattle.charges.specs.Charging.{chargesNumber}
+use Rattle.charges.specs.Charges.{chargesNumber}
 use Rattle.charges.proofs.ChargesRefused.{accepted-charges}
-use Rattle.charges.proofs.Billing.{chargeable, refused, made}
+use Rattle.charges.proofs.AcceptedCharges.{chargeable, refused, made}
 use Rattle.charges.proofs.charging.charges.Statement.{statement}
 use Rattle.charges.proofs.charging.charges.Tie as tie
 
@@ -14,7 +14,8 @@ number c = sym (c .before .charges-refusal .ensures) ∙ c .if1 .left
 returns : tie.Need-returns
 returns c =
     let a = c .before .before .before .args in
-    refused (a .t1) (a .earliest .now) (a .latest .now) (a .due .now) (c .before .before .charges-refusal .result) (c .no-bill .result) (c .before .before .charges-refusal .ensures) (c .before .if1 .taken) (c .no-bill .ensures)
+    refused (a .t1) (a .earliest .now) (a .latest .now) (a .due .now) (c .before .before .charges-refusal .result) (c .no-bill .result) (c .before .before .charges-refusal .ensures)
+    (c .before .if1 .taken) (c .no-bill .ensures)
 
 bill-of-requires : tie.Need-bill-of-requires
 bill-of-requires c κs =

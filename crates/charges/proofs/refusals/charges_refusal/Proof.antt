@@ -27,12 +27,14 @@ returns-2 c =
 returns-3 : tie.Need-returns-3
 returns-3 c =
     let a = c .before .before .before .before .before .before .args in
-    sym (wrong-dues (a .«record») (a .earliest .now) (a .latest .now) (a .due .now) (number (c .before .before .before .before)) (and-right (eqb (length (a .due .now)) (a .«record» .count)) _ (sym (c .before .dues-fit .ensures) ∙ not-true _ (c .if3 .taken))))
+    sym (wrong-dues (a .«record») (a .earliest .now) (a .latest .now) (a .due .now) (number (c .before .before .before .before))
+    (and-right (eqb (length (a .due .now)) (a .«record» .count)) _ (sym (c .before .dues-fit .ensures) ∙ not-true _ (c .if3 .taken))))
 
 returns-4 : tie.Need-returns-4
 returns-4 c =
     let a = c .before .before .before .before .before .before .args in
-    sym (right-dues (a .«record») (a .earliest .now) (a .latest .now) (a .due .now) (number (c .before .before .before .before)) (and-yes _ _ (eq-eqb _ _ (c .before .before .if2 .left)) (sym (c .before .dues-fit .ensures) ∙ not-false _ (c .if3 .left))))
+    sym (right-dues (a .«record») (a .earliest .now) (a .latest .now) (a .due .now) (number (c .before .before .before .before))
+    (and-yes _ _ (eq-eqb _ _ (c .before .before .if2 .left)) (sym (c .before .dues-fit .ensures) ∙ not-false _ (c .if3 .left))))
 
 pub charges-refusal-spec : {M : Type 1} → statement M
 charges-refusal-spec =

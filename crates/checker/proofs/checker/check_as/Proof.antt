@@ -1,14 +1,13 @@
 -- `check_as`: what is judged are the bounds that the state leaves, or these mirrored.
--- Assumes nothing.
 use mathlib.Core.Path.{_≡_, sym, _∙_}
 use mathlib.Core.Bool.{Bool, true, false}
 use mathlib.Core.List.{List}
 use lib.IntN.{ℤ}
 use borrow.Author.Needs.{needs}
 use borrow.Author.Tests.{not-true, not-false}
-use Rattle.atoms.specs.Atoms.{consequentOf}
+use Rattle.checking.specs.Atoms.{consequentOf}
 use Rattle.checking.specs.declared.start_bounds.Bounds.{Bounds}
-use Rattle.formulas.specs.BoundArrays.{mirroredBounds}
+use Rattle.checker.specs.BoundArrays.{mirroredBounds}
 use Rattle.checker.specs.declared.checker.Verdict.{Verdict}
 use Rattle.checker.specs.CheckArrays.{Judgeable, Consequent}
 use Rattle.checker.specs.MirroredChecks.{lowerAs, upperAs, judgedAs, checkAs}
@@ -39,22 +38,27 @@ module _ (c : tie.After-bounds-of) where
 
   abbrev can : let n = created .create .result .«record» in let s = applied .prepare-for-conflict-check .result .state in
       Judgeable ds (lowerAs false ds s) (upperAs false ds s) (n .count) (c .bounds-of .result) (n .durations)
-  can = can-judge ds ps cs (start .args .mirrored) (created .create .result) (created .create .ensures) (applied .before .before .enum-told .given .1) (applied .prepare-for-conflict-check .result) (applied .prepare-for-conflict-check .ensures .0)
+  can = can-judge ds ps cs (start .args .mirrored) (created .create .result) (created .create .ensures) (applied .before .before .enum-told .given .1) (applied .prepare-for-conflict-check .result)
+      (applied .prepare-for-conflict-check .ensures .0)
       (c .before .enum-told2 .given .1) (c .bounds-of .result) (c .bounds-of .ensures)
 
   abbrev can-mirrored : (b : Bounds) → b ≡ mirroredBounds (c .bounds-of .result) (created .create .result .«record» .durations) (created .create .result .«record» .count)
       → let n = created .create .result .«record» in let s = applied .prepare-for-conflict-check .result .state in
       Judgeable ds (lowerAs true ds s) (upperAs true ds s) (n .count) b (n .durations)
-  can-mirrored b z = can-judge-mirrored ds ps cs (start .args .mirrored) (created .create .result) (created .create .ensures) (applied .before .before .enum-told .given .1) (applied .prepare-for-conflict-check .result) (applied .prepare-for-conflict-check .ensures .0)
+  can-mirrored b z = can-judge-mirrored ds ps cs (start .args .mirrored) (created .create .result) (created .create .ensures) (applied .before .before .enum-told .given .1)
+      (applied .prepare-for-conflict-check .result) (applied .prepare-for-conflict-check .ensures .0)
       (c .before .enum-told2 .given .1) (c .bounds-of .result) b (c .bounds-of .ensures) z
 
   abbrev right : Consequent cs
-  right = consequent-right ds ps cs (start .args .mirrored) (created .create .result) (created .create .ensures) (applied .before .before .enum-told .given .1) (applied .prepare-for-conflict-check .result) (applied .prepare-for-conflict-check .ensures .0)
+  right = consequent-right ds ps cs (start .args .mirrored) (created .create .result) (created .create .ensures) (applied .before .before .enum-told .given .1)
+      (applied .prepare-for-conflict-check .result) (applied .prepare-for-conflict-check .ensures .0)
       (c .before .enum-told2 .given .1)
 
   -- in the time that is asked for
-  concludes : (b : Bool) → start .args .mirrored ≡ b → (r : Verdict) → r ≡ judgedAs b ds (applied .prepare-for-conflict-check .result .state) (consequentOf cs) → r ≡ checkAs (start .args .mirrored) ds ps cs
-  concludes b e r j = concluded-by ds ps cs (start .args .mirrored) (created .create .result) (created .create .ensures) (applied .before .before .enum-told .given .1) (applied .prepare-for-conflict-check .result) (applied .prepare-for-conflict-check .ensures .0)
+  concludes : (b : Bool) → start .args .mirrored ≡ b → (r : Verdict) → r ≡ judgedAs b ds (applied .prepare-for-conflict-check .result .state) (consequentOf cs)
+      → r ≡ checkAs (start .args .mirrored) ds ps cs
+  concludes b e r j = concluded-by ds ps cs (start .args .mirrored) (created .create .result) (created .create .ensures) (applied .before .before .enum-told .given .1)
+      (applied .prepare-for-conflict-check .result) (applied .prepare-for-conflict-check .ensures .0)
       (c .before .enum-told2 .given .1) r (j ∙ sym (λ i. judgedAs (e i) ds (applied .prepare-for-conflict-check .result .state) (consequentOf cs)))
 
 returns : tie.Need-returns
@@ -68,8 +72,10 @@ bounds-of-requires c κs =
     let m = c .before .before .before .before .before .before .create in
     let p = c .before .before .prepare-for-conflict-check in
     let a = c .before .before .before .before .before .before .before .args in (
-      few-tasks (a .durations .now) (a .premises .now) (a .consequent .now) (a .mirrored) (m .result) (m .ensures) (c .before .before .before .before .enum-told .given .1) (p .result) (p .ensures .0) (c .enum-told2 .given .1),
-      accepted-state (a .durations .now) (a .premises .now) (a .consequent .now) (a .mirrored) (m .result) (m .ensures) (c .before .before .before .before .enum-told .given .1) (p .result) (p .ensures .0) (c .enum-told2 .given .1),
+      few-tasks (a .durations .now) (a .premises .now) (a .consequent .now) (a .mirrored) (m .result) (m .ensures) (c .before .before .before .before .enum-told .given .1) (p .result) (p .ensures .0)
+          (c .enum-told2 .given .1),
+      accepted-state (a .durations .now) (a .premises .now) (a .consequent .now) (a .mirrored) (m .result) (m .ensures) (c .before .before .before .before .enum-told .given .1) (p .result)
+          (p .ensures .0) (c .enum-told2 .given .1),
     )
 
 judge-requires : tie.Need-judge-requires
@@ -82,7 +88,8 @@ returns-2 : tie.Need-returns-2
 returns-2 c =
     let b = c .before .before .before .before in
     let s = applied b .prepare-for-conflict-check .result .state in
-    concludes b false (not-true (start b .args .mirrored) (c .before .before .before .if1 .taken)) (c .judge .result) (c .judge .ensures (ds b) (lowerAs false (ds b) s) (upperAs false (ds b) s) (can b))
+    concludes b false (not-true (start b .args .mirrored) (c .before .before .before .if1 .taken)) (c .judge .result)
+    (c .judge .ensures (ds b) (lowerAs false (ds b) s) (upperAs false (ds b) s) (can b))
 
 mirrored-bounds-requires : tie.Need-mirrored-bounds-requires
 mirrored-bounds-requires c κs =
@@ -103,7 +110,8 @@ returns-3 c =
     let b = turned .before in
     let m = c .before .before .before .mirrored-bounds in
     let s = applied b .prepare-for-conflict-check .result .state in
-    concludes b true (not-false (start b .args .mirrored) (turned .if1 .left)) (c .judge2 .result) (c .judge2 .ensures (ds b) (lowerAs true (ds b) s) (upperAs true (ds b) s) (can-mirrored b (m .result) (m .ensures)))
+    concludes b true (not-false (start b .args .mirrored) (turned .if1 .left)) (c .judge2 .result)
+    (c .judge2 .ensures (ds b) (lowerAs true (ds b) s) (upperAs true (ds b) s) (can-mirrored b (m .result) (m .ensures)))
 
 returns-4 : tie.Need-returns-4
 returns-4 c =
@@ -111,7 +119,8 @@ returns-4 c =
     let m = p .before .before .before .before .create in
     let a = p .before .before .before .before .before .args in
     let r = p .prepare-for-conflict-check in
-    contradicted (a .durations .now) (a .premises .now) (a .consequent .now) (a .mirrored) (m .result) (m .ensures) (p .before .before .enum-told .given .1) (r .result) (r .ensures .0) (c .before .answer .given .0 .0) (c .before .answer .given .1)
+    contradicted (a .durations .now) (a .premises .now) (a .consequent .now) (a .mirrored) (m .result) (m .ensures) (p .before .before .enum-told .given .1) (r .result) (r .ensures .0)
+    (c .before .answer .given .0 .0) (c .before .answer .given .1)
 
 returns-5 : tie.Need-returns-5
 returns-5 c =
@@ -119,7 +128,8 @@ returns-5 c =
     let m = p .before .before .before .before .create in
     let a = p .before .before .before .before .before .args in
     let r = p .prepare-for-conflict-check in
-    refused-atoms (a .durations .now) (a .premises .now) (a .consequent .now) (a .mirrored) (m .result) (m .ensures) (p .before .before .enum-told .given .1) (r .result) (r .ensures .0) (c .before .answer2 .given .0 .0) (c .before .answer2 .given .1)
+    refused-atoms (a .durations .now) (a .premises .now) (a .consequent .now) (a .mirrored) (m .result) (m .ensures) (p .before .before .enum-told .given .1) (r .result) (r .ensures .0)
+    (c .before .answer2 .given .0 .0) (c .before .answer2 .given .1)
 
 pub check-as-spec : {M : Type 1} → statement M
 check-as-spec =

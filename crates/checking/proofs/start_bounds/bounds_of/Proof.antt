@@ -6,8 +6,8 @@ use native.Mathlib.Omega.{arith}
 use lib.ListN.{replicate}
 use borrow.Author.Needs.{needs}
 use Rattle.integers.specs.Limits.{TASKS}
-use Rattle.integers.specs.Filling.{filled}
-use Rattle.integers.proofs.Filling.{filled-none, filled-store}
+use Rattle.integers.specs.FilledLists.{filled}
+use Rattle.integers.proofs.FilledLists.{filled-none, filled-store}
 use Rattle.checking.specs.declared.start_bounds.TaskBounds.{TaskBounds}
 use Rattle.checking.specs.TaskBounds.{boundsAt, boundsOf}
 use Rattle.checking.proofs.Bounds.{bounds-at}
@@ -15,13 +15,19 @@ use Rattle.checking.proofs.start_bounds.bounds_of.Statement.{statement}
 use Rattle.checking.proofs.start_bounds.bounds_of.Tie as tie
 
 abbrev Inv-loop : tie.InvT-loop
-Inv-loop n state bounded₀ est₀ lst₀ i₀ bounded est lst i = (i ≤ n) × (bounded ≡ filled (λ k. boundsAt state k .known) i (replicate TASKS false)) × (est ≡ filled (λ k. boundsAt state k .est) i (replicate TASKS 0)) × (lst ≡ filled (λ k. boundsAt state k .lst) i (replicate TASKS 0))
+Inv-loop n state bounded₀ est₀ lst₀ i₀ bounded est lst i = (i ≤ n) × (bounded ≡ filled (λ k. boundsAt state k .known) i (replicate TASKS false))
+    × (est ≡ filled (λ k. boundsAt state k .est) i (replicate TASKS 0)) × (lst ≡ filled (λ k. boundsAt state k .lst) i (replicate TASKS 0))
 
 abbrev μ-loop : tie.MeasureT-loop
 μ-loop n state bounded₀ est₀ lst₀ i₀ bounded est lst i = n - i
 
 loop-holds : tie.Need-loop-holds Inv-loop μ-loop
-loop-holds c = (omega arith, sym (filled-none (λ k. boundsAt (c .args .t1) k .known) (replicate TASKS false)), sym (filled-none (λ k. boundsAt (c .args .t1) k .est) (replicate TASKS 0)), sym (filled-none (λ k. boundsAt (c .args .t1) k .lst) (replicate TASKS 0)))
+loop-holds c = (
+  omega arith,
+  sym (filled-none (λ k. boundsAt (c .args .t1) k .known) (replicate TASKS false)),
+  sym (filled-none (λ k. boundsAt (c .args .t1) k .est) (replicate TASKS 0)),
+  sym (filled-none (λ k. boundsAt (c .args .t1) k .lst) (replicate TASKS 0)),
+)
 
 loop-again : tie.Need-loop-again Inv-loop μ-loop
 loop-again c =

@@ -8,10 +8,10 @@ use borrow.Author.Tests.{not-true, not-false}
 use lib.ListN.{getD, drop, drop-of-length-le}
 use Rattle.integers.specs.Limits.{VARIABLES}
 use Rattle.integers.proofs.Ints.{never}
-use Rattle.domains.specs.Domains.{acceptedDomain, Proper}
-use Rattle.domains.proofs.Accepting.{proper-domain}
+use Rattle.checking.specs.Domains.{acceptedDomain, Proper}
+use Rattle.checking.proofs.AcceptedDomains.{proper-domain}
 use Rattle.checking.specs.States.{noDomain, accepted}
-use Rattle.checking.proofs.Accepting.{accepted-on, accepted-end}
+use Rattle.checking.proofs.AcceptedStates.{accepted-on, accepted-end}
 use borrow.Author.Needs.{needs}
 use Rattle.checking.proofs.variable_state.domains_are_accepted.Statement.{statement}
 use Rattle.checking.proofs.variable_state.domains_are_accepted.Tie as tie

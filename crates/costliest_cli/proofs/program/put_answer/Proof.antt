@@ -3,7 +3,7 @@ use mathlib.Core.Path.{sym, ap, subst, _∙_}
 use Prim.Native.Nat.{_≤_}
 use native.Mathlib.Omega.{arith}
 use Rattle.integers.specs.Limits.{TASKS}
-use Rattle.plan_text.proofs.Printing.{puts-as}
+use Rattle.plan_cli.proofs.RunLines.{puts-as}
 use Rattle.costliest_cli.specs.Asked.{Fits}
 use Rattle.costliest_cli.specs.Written.{answerLines}
 use borrow.Author.Needs.{needs}
@@ -18,7 +18,8 @@ returns c =
     )
 
 put-instance-requires : tie.Need-put-instance-requires
-put-instance-requires c κs = let few : c .before .before .size .given .0 .0 ≤ TASKS = subst Fits (c .before .before .size .given .1) (c .before .before .before .before .size-asked .ensures .1) in (few, omega (arith, few, c .before .before .before .before .before .before .pre))
+put-instance-requires c κs = let few : c .before .before .size .given .0 .0 ≤ TASKS = subst Fits (c .before .before .size .given .1) (c .before .before .before .before .size-asked .ensures .1) in
+    (few, omega (arith, few, c .before .before .before .before .before .before .pre))
 
 returns-2 : tie.Need-returns-2
 returns-2 c =

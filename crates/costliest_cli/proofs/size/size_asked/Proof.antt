@@ -9,7 +9,7 @@ use mir.Syntax.{w32}
 use mir.Val.{toZ, ofZ}
 use Prim.Native.Nat.{_≤_}
 use Rattle.integers.proofs.Ints.{back-of}
-use Rattle.costliest_cli.proofs.Asking.{invalid, not-one, low, high, right, not-negative, one-or-more}
+use Rattle.costliest_cli.proofs.AskedSize.{invalid, not-one, low, high, right, not-negative, one-or-more}
 use borrow.Author.Needs.{needs}
 use Rattle.costliest_cli.proofs.size.size_asked.Statement.{statement}
 use Rattle.costliest_cli.proofs.size.size_asked.Tie as tie
@@ -37,13 +37,16 @@ nat-of-requires : tie.Need-nat-of-requires
 nat-of-requires c κs = not-negative _ (sym (c .before .at-most .ensures) ∙ not-false _ (c .if3 .left))
 
 returns-4 : tie.Need-returns-4
-returns-4 c = let first = c .before .before .before .before in (λ xs h. high (start first .args .numbers) (c .before .nat-of .result) (c .before .nat-of .ensures ∙ first-is first) xs h (omega (arith, c .if4 .taken)), tt)
+returns-4 c = let first = c .before .before .before .before in
+    (λ xs h. high (start first .args .numbers) (c .before .nat-of .result) (c .before .nat-of .ensures ∙ first-is first) xs h (omega (arith, c .if4 .taken)), tt)
 
 returns-5 : tie.Need-returns-5
 returns-5 c =
     let first = c .before .before .before .before in
-    let least : 1 ≤ c .before .nat-of .result = one-or-more (c .before .nat-of .result) _ (c .before .nat-of .ensures) (sym (c .before .before .before .at-most .ensures) ∙ not-false _ (c .before .before .if3 .left)) in (
-      λ xs h. right (start first .args .numbers) (c .before .nat-of .result) (c .before .nat-of .ensures ∙ first-is first) xs h (not-false _ (first .before .before .before .before .if1 .left)) (omega (arith, first .before .before .if2 .left)) least (omega (arith, c .if4 .left)),
+    let least : 1 ≤ c .before .nat-of .result =
+    one-or-more (c .before .nat-of .result) _ (c .before .nat-of .ensures) (sym (c .before .before .before .at-most .ensures) ∙ not-false _ (c .before .before .if3 .left)) in (
+      λ xs h. right (start first .args .numbers) (c .before .nat-of .result) (c .before .nat-of .ensures ∙ first-is first) xs h (not-false _ (first .before .before .before .before .if1 .left))
+          (omega (arith, first .before .before .if2 .left)) least (omega (arith, c .if4 .left)),
       omega (arith, c .if4 .left),
     )
 

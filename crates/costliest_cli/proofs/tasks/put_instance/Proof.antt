@@ -1,7 +1,7 @@
 -- The count's line, and the tasks' lines behind it.
 use native.Mathlib.Omega.{arith}
 use Rattle.integers.specs.Texts.{bytesOf}
-use Rattle.costliest_cli.proofs.Putting.{puts-instance}
+use Rattle.costliest_cli.proofs.TaskLines.{puts-instance}
 use borrow.Author.Needs.{needs}
 use Rattle.costliest_cli.proofs.tasks.put_instance.Statement.{statement}
 use Rattle.costliest_cli.proofs.tasks.put_instance.Tie as tie
@@ -11,8 +11,10 @@ unfolding bytesOf
 returns c =
     let tasks = c .before .before in
     let feed = tasks .before .before .before .before in
-    let count = feed .before .before .before .before .before in
-    (puts-instance (count .before .before .before .args .n) (count .put-count .ensures .0) (feed .put-bytes .ensures) (tasks .put-tasks .ensures .0), omega (arith, count .put-count .ensures .1, feed .put-bytes .ensures .end, tasks .put-tasks .ensures .1))
+    let count = feed .before .before .before .before .before in (
+      puts-instance (count .before .before .before .args .n) (count .put-count .ensures .0) (feed .put-bytes .ensures) (tasks .put-tasks .ensures .0),
+      omega (arith, count .put-count .ensures .1, feed .put-bytes .ensures .end, tasks .put-tasks .ensures .1),
+    )
 
 pub put-instance-spec : {M : Type 1} → statement M
 put-instance-spec =

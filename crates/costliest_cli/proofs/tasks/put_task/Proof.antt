@@ -1,7 +1,7 @@
 -- Three numbers with what stands between them, put one behind the other; each has at most 20 bytes.
 use native.Mathlib.Omega.{arith}
 use Rattle.integers.specs.Texts.{bytesOf}
-use Rattle.costliest_cli.proofs.Putting.{puts-task}
+use Rattle.costliest_cli.proofs.TaskLines.{puts-task}
 use borrow.Author.Needs.{needs}
 use Rattle.costliest_cli.proofs.tasks.put_task.Statement.{statement}
 use Rattle.costliest_cli.proofs.tasks.put_task.Tie as tie
@@ -14,8 +14,19 @@ returns c =
     let gap2 = third .before .before .before .before in
     let second = gap2 .before .before .before .before .before in
     let gap1 = second .before .before .before .before in
-    let first = gap1 .before .before .before .before .before in
-    (puts-task (first .before .before .before .args .k) (first .put-count .ensures .0) (gap1 .put-bytes .ensures) (second .put-count2 .ensures .0) (gap2 .put-bytes2 .ensures) (third .put-count3 .ensures .0) (last .put-bytes3 .ensures), omega (arith, first .put-count .ensures .1, gap1 .put-bytes .ensures .end, second .put-count2 .ensures .1, gap2 .put-bytes2 .ensures .end, third .put-count3 .ensures .1, last .put-bytes3 .ensures .end))
+    let first = gap1 .before .before .before .before .before in (
+      puts-task (first .before .before .before .args .k) (first .put-count .ensures .0) (gap1 .put-bytes .ensures) (second .put-count2 .ensures .0) (gap2 .put-bytes2 .ensures)
+          (third .put-count3 .ensures .0) (last .put-bytes3 .ensures),
+      omega (
+        arith,
+        first .put-count .ensures .1,
+        gap1 .put-bytes .ensures .end,
+        second .put-count2 .ensures .1,
+        gap2 .put-bytes2 .ensures .end,
+        third .put-count3 .ensures .1,
+        last .put-bytes3 .ensures .end,
+      ),
+    )
 
 pub put-task-spec : {M : Type 1} → statement M
 put-task-spec =

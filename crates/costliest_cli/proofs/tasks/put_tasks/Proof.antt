@@ -3,12 +3,12 @@ use mathlib.Core.Path.{_≡_, refl, _∙_}
 use Prim.Native.Nat.{_+_, _*_, _-_, _≤_}
 use native.Mathlib.Omega.{arith}
 use lib.ListN.{length, take}
-use Rattle.decimals.specs.Writing.{Puts}
-use Rattle.decimals.proofs.Putting.{puts-length}
-use Rattle.plan_text.specs.Lines.{lines}
-use Rattle.plan_text.proofs.Printing.{puts-first, puts-all}
+use Rattle.text.specs.DecimalText.{Puts}
+use Rattle.text.proofs.PutBytes.{puts-length}
+use Rattle.plan_cli.specs.Lines.{lines}
+use Rattle.plan_cli.proofs.RunLines.{puts-first, puts-all}
 use Rattle.costliest_cli.specs.Tasks.{taskLine, costliestTask, costliest}
-use Rattle.costliest_cli.proofs.Putting.{costliest-length, puts-one-more}
+use Rattle.costliest_cli.proofs.TaskLines.{costliest-length, puts-one-more}
 use borrow.Author.Needs.{needs}
 use Rattle.costliest_cli.proofs.tasks.put_tasks.Statement.{statement}
 use Rattle.costliest_cli.proofs.tasks.put_tasks.Tie as tie

@@ -14,7 +14,7 @@ use Rattle.integers.proofs.Ints.{back-of}
 use Rattle.integers.proofs.Tests.{all-none, all-more, all-broken}
 use Rattle.fixed_schedules.specs.FixedSchedules.{startAt}
 use Rattle.fixed_schedules.specs.Neighbours.{neighboursApart}
-use Rattle.fixed_schedules.proofs.Placing.{start-moment, ends-by-test}
+use Rattle.fixed_schedules.proofs.ScheduleOrder.{start-moment, ends-by-test}
 use Rattle.fixed_schedules.proofs.order.neighbours_apart.Statement.{statement}
 use Rattle.fixed_schedules.proofs.order.neighbours_apart.Tie as tie
 
@@ -49,7 +49,8 @@ moment-is c =
 -- what the test of the two says
 seen : (c : tie.After-moment-of2 Inv-loop μ-loop) → let turn = c .before .before .before .before .before .before .before in
     let a = begin turn .args in
-    leb (c .before .before .before .moment-of .result + getD (a .durations .now) (task-of turn) 0) (c .moment-of2 .result) ≡ neighboursApart (a .order .now) (a .earliest .now) (a .durations .now) (turn .before .loop .i)
+    leb (c .before .before .before .moment-of .result + getD (a .durations .now) (task-of turn) 0) (c .moment-of2 .result) ≡ neighboursApart (a .order .now) (a .earliest .now) (a .durations .now)
+    (turn .before .loop .i)
 seen c =
     let turn = c .before .before .before .before .before .before .before in
     let s = begin turn in

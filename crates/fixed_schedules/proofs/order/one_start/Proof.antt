@@ -12,7 +12,7 @@ use borrow.Author.Needs.{needs}
 use Rattle.integers.specs.Tests.{allBelow}
 use Rattle.integers.proofs.Bools.{bool, clash, and-true, and-is}
 use Rattle.integers.proofs.Tests.{all-at, all-show, all-ext}
-use Rattle.input_refusals.specs.Refusals.{rangeFitsAt}
+use Rattle.records.specs.Refusals.{rangeFitsAt}
 use Rattle.fixed_schedules.specs.FixedSchedules.{oneStartAt}
 use Rattle.fixed_schedules.proofs.order.one_start.Statement.{statement}
 use Rattle.fixed_schedules.proofs.order.one_start.Tie as tie

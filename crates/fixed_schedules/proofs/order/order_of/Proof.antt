@@ -1,7 +1,6 @@
 -- `order_of`: the tasks are sorted by the moments of their starts.
--- Assumes nothing.
 use borrow.Author.Needs.{needs}
-use Rattle.fixed_schedules.proofs.Placing.{order-is}
+use Rattle.fixed_schedules.proofs.ScheduleOrder.{order-is}
 use Rattle.fixed_schedules.proofs.order.order_of.Statement.{statement}
 use Rattle.fixed_schedules.proofs.order.order_of.Tie as tie
 

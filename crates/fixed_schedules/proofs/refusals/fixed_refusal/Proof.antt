@@ -5,12 +5,12 @@ use lib.ListN.{length}
 use borrow.Author.Tests.{not-true, not-false}
 use borrow.Author.Needs.{needs}
 use Rattle.integers.specs.Tests.{allBelow, AllPassed}
-use Rattle.input_refusals.specs.Refusals.{rangeTests, AcceptedInput}
-use Rattle.input_refusals.proofs.Refused.{ranges-passed, accepted-ranges}
+use Rattle.records.specs.Refusals.{rangeTests, AcceptedInput}
+use Rattle.records.proofs.RefusedRuns.{ranges-passed, accepted-ranges}
 use Rattle.fixed_schedules.specs.FixedSchedules.{oneStartAt, allApart}
 use Rattle.fixed_schedules.proofs.Neighbours.{neighbours-are}
 use Rattle.fixed_schedules.proofs.FixedRefused.{ranges-first, more-starts, overlapping, none-wrong}
-use Rattle.fixed_schedules.proofs.Accepting.{started, lasting, listed}
+use Rattle.fixed_schedules.proofs.AcceptedSchedules.{started, lasting, listed}
 use Rattle.fixed_schedules.proofs.refusals.fixed_refusal.Statement.{statement}
 use Rattle.fixed_schedules.proofs.refusals.fixed_refusal.Tie as tie
 
@@ -29,11 +29,13 @@ one c = sym (c .before .one-start .ensures) ∙ not-false _ (c .if2 .left)
 abbrev passing : tie.After-neighbours-apart → tie.Else1
 passing c = c .before .before .before .before .before .before .before
 
-pairs : (c : tie.After-neighbours-apart) → let a = passing c .before .before .before .before .args in c .neighbours-apart .result ≡ allApart (a .t1 .durations) (a .earliest .now) (length (a .earliest .now))
+pairs : (c : tie.After-neighbours-apart) → let a = passing c .before .before .before .before .args in
+    c .neighbours-apart .result ≡ allApart (a .t1 .durations) (a .earliest .now) (length (a .earliest .now))
 pairs c =
     let ranged = passing c in
     let a = ranged .before .before .before .before .args in
-    c .neighbours-apart .ensures ∙ neighbours-are (a .t1 .durations) (a .earliest .now) _ (c .before .before .before .before .order-of .ensures) (lasting (a .t1) (a .earliest .now) (a .latest .now) (held ranged))
+    c .neighbours-apart .ensures ∙ neighbours-are (a .t1 .durations) (a .earliest .now) _ (c .before .before .before .before .order-of .ensures)
+    (lasting (a .t1) (a .earliest .now) (a .latest .now) (held ranged))
 
 -- no two tasks overlap
 apart : (c : tie.Else3) → let a = passing (c .before) .before .before .before .before .args in allApart (a .t1 .durations) (a .earliest .now) (length (a .earliest .now)) ≡ true
@@ -48,13 +50,15 @@ one-start-requires : tie.Need-one-start-requires
 one-start-requires c κs = let n = held c .counts in n .earliest ∙ sym (n .latest)
 
 returns-2 : tie.Need-returns-2
-returns-2 c = let a = c .before .before .before .before .before .before .args in sym (more-starts (a .t1) (a .earliest .now) (a .latest .now) (passed (c .before .before)) (sym (c .before .one-start .ensures) ∙ not-true _ (c .if2 .taken)))
+returns-2 c = let a = c .before .before .before .before .before .before .args in
+    sym (more-starts (a .t1) (a .earliest .now) (a .latest .now) (passed (c .before .before)) (sym (c .before .one-start .ensures) ∙ not-true _ (c .if2 .taken)))
 
 order-of-requires : tie.Need-order-of-requires
 order-of-requires c κs = let a = c .before .before .before .before .before .before .args in started (a .t1) (a .earliest .now) (a .latest .now) (held (c .before .before))
 
 neighbours-apart-requires : tie.Need-neighbours-apart-requires
-neighbours-apart-requires c κs = let ranged = c .before .before .before .before .before .before in let a = ranged .before .before .before .before .args in listed (a .t1) (a .earliest .now) (a .latest .now) (held ranged) _ (c .before .before .before .order-of .ensures)
+neighbours-apart-requires c κs = let ranged = c .before .before .before .before .before .before in let a = ranged .before .before .before .before .args in
+    listed (a .t1) (a .earliest .now) (a .latest .now) (held ranged) _ (c .before .before .before .order-of .ensures)
 
 returns-3 : tie.Need-returns-3
 returns-3 c =

@@ -1,14 +1,13 @@
 -- `mirrored::mirrored_propagator::propagate_mirrored` meets its contract: what no test refuses is run in mirrored time and told in the caller's.
--- Assumes nothing.
 use mathlib.Core.Path.{_≡_, refl, ap}
 use mathlib.Core.Bool.{true}
 use native.Mathlib.Omega.{arith}
 use lib.ListN.{length}
 use Rattle.integers.specs.Answers.{refusedBy}
 use Rattle.integers.specs.Limits.{TASKS}
-use Rattle.input_refusals.specs.Refusals.{Accepted}
-use Rattle.input_refusals.proofs.Refused.{accepted-run}
-use Rattle.mirrored.proofs.Endings.{ended, left-mirrored}
+use Rattle.records.specs.Refusals.{Accepted}
+use Rattle.records.proofs.RefusedRuns.{accepted-run}
+use Rattle.mirrored.proofs.MirroredEnds.{ended, left-mirrored}
 use borrow.Author.Needs.{needs}
 use Rattle.mirrored.proofs.mirrored_propagator.propagate_mirrored.Statement.{statement}
 use Rattle.mirrored.proofs.mirrored_propagator.propagate_mirrored.Tie as tie
@@ -18,8 +17,10 @@ long : (c : tie.Start) → length (c .args .t1 .durations) ≡ TASKS
 long c = search needs
 
 -- no test failed
-passed : (c : tie.Else1) → let a = c .before .before .before .before .before .args in Accepted (a .t1) (a .earliest .now) (a .latest .now) (length (a .posts .now)) (length (a .atoms .now)) × (a .bars-fit ≡ true)
-passed c = let a = c .before .before .before .before .before .args in accepted-run (a .t1) (a .earliest .now) (a .latest .now) (a .bars-fit) (length (a .posts .now)) (length (a .atoms .now)) .0 (omega (arith, c .before .run-refusal .ensures))
+passed : (c : tie.Else1) → let a = c .before .before .before .before .before .args in Accepted (a .t1) (a .earliest .now) (a .latest .now) (length (a .posts .now)) (length (a .atoms .now))
+    × (a .bars-fit ≡ true)
+passed c = let a = c .before .before .before .before .before .args in
+    accepted-run (a .t1) (a .earliest .now) (a .latest .now) (a .bars-fit) (length (a .posts .now)) (length (a .atoms .now)) .0 (omega (arith, c .before .run-refusal .ensures))
 
 returns : tie.Need-returns
 returns c =

@@ -1,5 +1,4 @@
 -- `run_in_mirror`: the ranges are mirrored, the core runs, and what it left of the earliest starts is mirrored back.
--- Assumes nothing.
 use mathlib.Core.Path.{_≡_, sym, ap, subst, _∙_}
 use mathlib.Core.List.{List, _++_}
 use Prim.Native.Nat.{ℕ, _≤_}
@@ -9,8 +8,8 @@ use lib.ListN.{length, take, drop, replicate, length-replicate}
 use lib.Seq.{length-take-le, length-front, take-at}
 use Rattle.integers.specs.Limits.{TASKS}
 use Rattle.runs.specs.Mirrored.{mirrorStarts}
-use Rattle.mirrored_words.specs.Telling.{Reflectable}
-use Rattle.mirrored.proofs.Endings.{reflect-latest, reflect-earliest, runnable-at, reflect-back, ran-in-mirror}
+use Rattle.mirrored.specs.MirroredSlices.{Reflectable}
+use Rattle.mirrored.proofs.MirroredEnds.{reflect-latest, reflect-earliest, runnable-at, reflect-back, ran-in-mirror}
 use borrow.Author.Needs.{needs}
 use Rattle.mirrored.proofs.mirrored_propagator.run_in_mirror.Statement.{statement}
 use Rattle.mirrored.proofs.mirrored_propagator.run_in_mirror.Tie as tie
@@ -86,7 +85,8 @@ mirror-starts-requires : tie.Need-mirror-starts-requires
 mirror-starts-requires c κs =
     let s = c .before .before .before .before in
     let a = s .args in
-    reflect-latest (a .«record») (a .earliest .now) (a .latest .now) (length (a .posts .now)) (length (a .atoms .now)) (s .pre) (long s) (take (a .«record» .count) zeros) (front (a .«record» .count) (s .pre .lawful .few))
+    reflect-latest (a .«record») (a .earliest .now) (a .latest .now) (length (a .posts .now)) (length (a .atoms .now)) (s .pre) (long s) (take (a .«record» .count) zeros)
+    (front (a .«record» .count) (s .pre .lawful .few))
 
 slice-aggregate-mirror-starts-2 : tie.Need-slice-aggregate-mirror-starts-2
 slice-aggregate-mirror-starts-2 c = let s = c .before .before .before .before .before .before .before in sym (front (s .args .«record» .count) (s .pre .lawful .few))
@@ -95,7 +95,8 @@ mirror-starts-requires-2 : tie.Need-mirror-starts-requires-2
 mirror-starts-requires-2 c κs =
     let s = c .before .before .before .before .before .before .before .before in
     let a = s .args in
-    reflect-earliest (a .«record») (a .earliest .now) (a .latest .now) (length (a .posts .now)) (length (a .atoms .now)) (s .pre) (long s) (take (a .«record» .count) zeros) (front (a .«record» .count) (s .pre .lawful .few))
+    reflect-earliest (a .«record») (a .earliest .now) (a .latest .now) (length (a .posts .now)) (length (a .atoms .now)) (s .pre) (long s) (take (a .«record» .count) zeros)
+    (front (a .«record» .count) (s .pre .lawful .few))
 
 array-borrow-prefix-from-2 : tie.Need-array-borrow-prefix-from-2
 array-borrow-prefix-from-2 c = omega (arith, from-long c, start c .pre .lawful .few)
@@ -120,7 +121,8 @@ array-share-prefix-from : tie.Need-array-share-prefix-from
 array-share-prefix-from c = let r = c .before .before .before .before in omega (arith, back-long r, start (made r) .pre .lawful .few)
 
 slice-aggregate-mirror-starts-3 : tie.Need-slice-aggregate-mirror-starts-3
-slice-aggregate-mirror-starts-3 c = let r = c .before .before .before .before .before in sym (length-take-le (n (made r)) (left r ++ drop (n (made r)) (from (made r))) (omega (arith, back-long r, start (made r) .pre .lawful .few)))
+slice-aggregate-mirror-starts-3 c = let r = c .before .before .before .before .before in
+    sym (length-take-le (n (made r)) (left r ++ drop (n (made r)) (from (made r))) (omega (arith, back-long r, start (made r) .pre .lawful .few)))
 
 mirror-starts-requires-3 : tie.Need-mirror-starts-requires-3
 mirror-starts-requires-3 c κs =
@@ -129,7 +131,8 @@ mirror-starts-requires-3 c κs =
     let s = start i in
     let a = s .args in
     subst (λ (zs : List ℤ). Reflectable (a .latest .now) zs (a .«record» .durations)) (sym (back-is r))
-    (reflect-back (a .«record») (a .earliest .now) (a .latest .now) (length (a .posts .now)) (length (a .atoms .now)) (s .pre) (long s) (from-is i) (to-is i) (r .run-accepted .ensures) (a .latest .now) (s .pre .counts .latest))
+    (reflect-back (a .«record») (a .earliest .now) (a .latest .now) (length (a .posts .now)) (length (a .atoms .now)) (s .pre) (long s) (from-is i) (to-is i) (r .run-accepted .ensures)
+    (a .latest .now) (s .pre .counts .latest))
 
 returns : tie.Need-returns
 returns c =

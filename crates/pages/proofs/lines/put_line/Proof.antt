@@ -10,9 +10,9 @@ use mir.Val.{toZ, ofZ}
 use Rattle.integers.specs.Moments.{moment, zeroAt}
 use Rattle.integers.proofs.Ints.{back, back-of}
 use Rattle.integers.specs.Texts.{bytesOf}
-use Rattle.decimals.proofs.Putting.{puts-length}
-use Rattle.pages.proofs.Padding.{puts-wide, task-fits, start-fits, end-fits, puts-line}
-use Rattle.fixed_schedules.proofs.Placing.{start-moment, end-instant}
+use Rattle.text.proofs.PutBytes.{puts-length}
+use Rattle.pages.proofs.RightAligned.{puts-wide, task-fits, start-fits, end-fits, puts-line}
+use Rattle.fixed_schedules.proofs.ScheduleOrder.{start-moment, end-instant}
 use Rattle.pages.proofs.lines.put_line.Statement.{statement}
 use Rattle.pages.proofs.lines.put_line.Tie as tie
 
@@ -67,7 +67,8 @@ after-end c =
     let task = from-end c in
     let s = begin task in
     let a = after-space-2 (c .before .before .before .before) in
-    let b = puts-wide 11 (s .args .start +ℤ pos (s .args .duration)) (end-is (task .before .before .before)) (c .put-right3 .ensures) (end-fits (s .args .start) (s .args .duration) (s .pre .2) (s .pre .3)) in
+    let b = puts-wide 11 (s .args .start +ℤ pos (s .args .duration)) (end-is (task .before .before .before)) (c .put-right3 .ensures)
+    (end-fits (s .args .start) (s .args .duration) (s .pre .2) (s .pre .3)) in
     (omega (arith, a .0, b .0), b .1 ∙ a .1)
 
 add-start-of : tie.Need-add-start-of

@@ -11,17 +11,18 @@ use mir.Val.{toZ, ofZ}
 use Rattle.integers.proofs.Ints.{back-of}
 use Rattle.integers.specs.Texts.{bytesOf}
 use Rattle.fixed_schedules.specs.FixedSchedules.{startAt}
-use Rattle.decimals.specs.Writing.{Puts}
-use Rattle.decimals.proofs.Putting.{puts-length, puts-append}
+use Rattle.text.specs.DecimalText.{Puts}
+use Rattle.text.proofs.PutBytes.{puts-length, puts-append}
 use Rattle.pages.specs.Lines.{LINE}
 use Rattle.pages.specs.Pages.{lineAt}
-use Rattle.pages.proofs.Paging.{puts-none, puts-next, each-line}
-use Rattle.pages.proofs.Padding.{puts-at}
+use Rattle.pages.proofs.PageLines.{puts-none, puts-next, each-line}
+use Rattle.pages.proofs.RightAligned.{puts-at}
 use Rattle.pages.proofs.lines.put_lines.Statement.{statement}
 use Rattle.pages.proofs.lines.put_lines.Tie as tie
 
 abbrev Inv-loop : tie.InvT-loop
-Inv-loop out₀ order earliest durations at₀ i₀ out at i = (i ≤ length earliest) × (length out ≡ length out₀) × (at ≡ at₀ + LINE * i) × Puts out₀ out at₀ (flatMap (lineAt durations earliest) (take i order)) at
+Inv-loop out₀ order earliest durations at₀ i₀ out at i = (i ≤ length earliest) × (length out ≡ length out₀) × (at ≡ at₀ + LINE * i)
+    × Puts out₀ out at₀ (flatMap (lineAt durations earliest) (take i order)) at
 
 abbrev μ-loop : tie.MeasureT-loop
 μ-loop out₀ order earliest durations at₀ i₀ out at i = length earliest - i
@@ -71,8 +72,12 @@ put-line-requires c κs =
     let s = begin turn in
     let l = turn .before .loop in
     let heading = turn .before .before .before .before .put-heading .ensures in
-    let q = small turn in
-    (omega (arith, l .inv .1, l .inv .2, heading .end, puts-length heading, s .pre .1, turn .loop-test .taken), omega (arith, q, s .pre .0 .started .few), rw (start-is (c .before)) (s .pre .0 .started .starts (task-of turn) q), s .pre .0 .durations (task-of turn) q)
+    let q = small turn in (
+      omega (arith, l .inv .1, l .inv .2, heading .end, puts-length heading, s .pre .1, turn .loop-test .taken),
+      omega (arith, q, s .pre .0 .started .few),
+      rw (start-is (c .before)) (s .pre .0 .started .starts (task-of turn) q),
+      s .pre .0 .durations (task-of turn) q,
+    )
 
 loop-again : tie.Need-loop-again Inv-loop μ-loop
 loop-again c =
@@ -82,8 +87,13 @@ loop-again c =
     let es = s .args .earliest .now in
     let ds = s .args .durations .now in
     let k = task-of turn in
-    let w = puts-at k (getD ds k 0) (start-is (c .before .before .before .before)) (c .before .before .put-line .ensures) in
-    (omega (arith, turn .loop-test .taken), puts-length w ∙ l .inv .1, omega (arith, w .end, l .inv .2, each-line ds es (s .pre .0 .started) (s .pre .0 .durations) k (small turn)), puts-next (lineAt ds es) (s .args .order .now) (l .i) (omega (arith, s .pre .0 .long, turn .loop-test .taken)) (l .inv .3) w)
+    let w = puts-at k (getD ds k 0) (start-is (c .before .before .before .before)) (c .before .before .put-line .ensures) in (
+      omega (arith, turn .loop-test .taken),
+      puts-length w
+          ∙ l .inv .1,
+      omega (arith, w .end, l .inv .2, each-line ds es (s .pre .0 .started) (s .pre .0 .durations) k (small turn)),
+      puts-next (lineAt ds es) (s .args .order .now) (l .i) (omega (arith, s .pre .0 .long, turn .loop-test .taken)) (l .inv .3) w,
+    )
 
 returns : tie.Need-returns Inv-loop μ-loop
 returns c =

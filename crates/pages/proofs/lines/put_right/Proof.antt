@@ -1,7 +1,7 @@
 -- Eleven spaces stand before the number, so the last `width` bytes of the two are the number padded on the left.
 use borrow.Author.Needs.{needs}
 use Rattle.integers.proofs.Ints.{back}
-use Rattle.pages.proofs.Padding.{right-aligned}
+use Rattle.pages.proofs.RightAligned.{right-aligned}
 use Rattle.pages.proofs.lines.put_right.Statement.{statement}
 use Rattle.pages.proofs.lines.put_right.Tie as tie
 

@@ -3,10 +3,10 @@ use mathlib.Core.Path.{_≡_, refl, sym, _∙_}
 use native.Mathlib.Omega.{arith}
 use lib.ListN.{length}
 use borrow.Author.Needs.{needs}
-use Rattle.fixed_schedules.proofs.Accepting.{input-of, started, listed}
+use Rattle.fixed_schedules.proofs.AcceptedSchedules.{input-of, started, listed}
 use Rattle.pages.specs.Pages.{pageNumber, Accepted}
 use Rattle.pages.proofs.PageRefused.{accepted-page}
-use Rattle.pages.proofs.Paging.{refused, written}
+use Rattle.pages.proofs.PageLines.{refused, written}
 use Rattle.pages.proofs.page.page.Statement.{statement}
 use Rattle.pages.proofs.page.page.Tie as tie
 
@@ -18,7 +18,8 @@ held : (c : tie.Else1) → let a = c .before .before .before .args in Accepted (
 held c = let a = c .before .before .before .args in accepted-page (a .t1) (a .earliest .now) (a .latest .now) (length (a .out .now)) .0 (number c)
 
 returns : tie.Need-returns
-returns c = let a = c .before .before .before .args in refused (a .t1) (a .earliest .now) (a .latest .now) (a .out .now) (c .before .page-refusal .result) (c .before .page-refusal .ensures) (c .if1 .taken) refl
+returns c = let a = c .before .before .before .args in
+    refused (a .t1) (a .earliest .now) (a .latest .now) (a .out .now) (c .before .page-refusal .result) (c .before .page-refusal .ensures) (c .if1 .taken) refl
 
 order-of-requires : tie.Need-order-of-requires
 order-of-requires c κs = let a = c .before .before .before .args in started (a .t1) (a .earliest .now) (a .latest .now) (input-of (held c .schedule))

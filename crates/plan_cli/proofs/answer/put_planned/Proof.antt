@@ -5,8 +5,8 @@ use lib.ListN.{length, take}
 use lib.Seq.{length-take-le}
 use Rattle.integers.specs.Limits.{TASKS}
 use Rattle.plan_cli.specs.RunLines.{answerLines}
-use Rattle.plan_text.proofs.Printing.{puts-as}
-use Rattle.plan_cli.proofs.Leaving.{accepted-planned, refused-planned}
+use Rattle.plan_cli.proofs.RunLines.{puts-as}
+use Rattle.plan_cli.proofs.PrintedSlices.{accepted-planned, refused-planned}
 use borrow.Author.Needs.{needs}
 use Rattle.plan_cli.proofs.answer.put_planned.Statement.{statement}
 use Rattle.plan_cli.proofs.answer.put_planned.Tie as tie
@@ -21,16 +21,22 @@ returns : tie.Need-returns
 returns c =
     let created = c .before .before .before .before .before .before .before in
     let s = created .before .before .before in
-    let n = s .args .n in
-    (puts-as (ap answerLines (accepted-planned (take n (s .args .earliest)) (take n (s .args .latest)) (take n (s .args .t5)) (created .create .result) (created .create .ensures) (c .before .before .before .before .enum-told .given .1))) (c .before .before .put-ran .ensures .0), c .before .before .put-ran .ensures .1)
+    let n = s .args .n in (
+      puts-as (ap answerLines (accepted-planned (take n (s .args .earliest)) (take n (s .args .latest)) (take n (s .args .t5)) (created .create .result) (created .create .ensures)
+          (c .before .before .before .before .enum-told .given .1))) (c .before .before .put-ran .ensures .0),
+      c .before .before .put-ran .ensures .1,
+    )
 
 returns-2 : tie.Need-returns-2
 returns-2 c =
     let told = c .before .before .before .before .before in
     let created = told .before .before .before in
     let s = created .before .before .before in
-    let n = s .args .n in
-    (puts-as (ap answerLines (refused-planned (take n (s .args .earliest)) (take n (s .args .latest)) (take n (s .args .t5)) (created .create .result) (created .create .ensures) (told .answer .given .0 .0) (told .answer .given .1))) (c .before .before .put-refused .ensures .0), omega (arith, c .before .before .put-refused .ensures .1, s .pre .1))
+    let n = s .args .n in (
+      puts-as (ap answerLines (refused-planned (take n (s .args .earliest)) (take n (s .args .latest)) (take n (s .args .t5)) (created .create .result) (created .create .ensures)
+          (told .answer .given .0 .0) (told .answer .given .1))) (c .before .before .put-refused .ensures .0),
+      omega (arith, c .before .before .put-refused .ensures .1, s .pre .1),
+    )
 
 pub put-planned-spec : {M : Type 1} → statement M
 put-planned-spec =

@@ -12,7 +12,7 @@ use Rattle.integers.specs.Limits.{TASKS, ATOMS}
 use Rattle.runs.specs.Traces.{Trace}
 use Rattle.plan_cli.specs.RunSlices.{Shown}
 use Rattle.plan_cli.specs.Printed.{ranOn}
-use Rattle.plan_cli.proofs.Leaving.{shows}
+use Rattle.plan_cli.proofs.PrintedSlices.{shows}
 use Rattle.plan_cli.proofs.answer.put_ran.Statement.{statement}
 use Rattle.plan_cli.proofs.answer.put_ran.Tie as tie
 
@@ -53,7 +53,8 @@ shown : (c : tie.After-propagate)
 shown c =
     let s = start c in
     subst (λ (starts : List ℤ). Shown (answer-of c) (c .propagate .result .outcome) (posts-left c) (atoms-left c) starts) (sym (starts-front c))
-    (shows (s .args .«record») (take (s .args .n) (s .args .earliest)) (take (s .args .n) (s .args .t5)) _ _ (length-replicate {A = ℤ} (4 * TASKS) (pos 0)) (length-replicate {A = ℤ} (3 * ATOMS) (pos 0)) (c .propagate .result) (starts-left c) (posts-left c) (atoms-left c)
+    (shows (s .args .«record») (take (s .args .n) (s .args .earliest)) (take (s .args .n) (s .args .t5)) _ _ (length-replicate {A = ℤ} (4 * TASKS) (pos 0))
+    (length-replicate {A = ℤ} (3 * ATOMS) (pos 0)) (c .propagate .result) (starts-left c) (posts-left c) (atoms-left c)
     (omega (arith, starts-long c, s .pre .0)) (c .propagate .ensures))
 
 slice-aggregate-propagate : tie.Need-slice-aggregate-propagate

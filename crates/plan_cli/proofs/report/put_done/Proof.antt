@@ -1,7 +1,7 @@
 -- The three parts behind one another are the line.
 use native.Mathlib.Omega.{arith}
 use Rattle.integers.specs.Texts.{bytesOf}
-use Rattle.plan_cli.proofs.Reporting.{puts-done}
+use Rattle.plan_cli.proofs.Reports.{puts-done}
 use borrow.Author.Needs.{needs}
 use Rattle.plan_cli.proofs.report.put_done.Statement.{statement}
 use Rattle.plan_cli.proofs.report.put_done.Tie as tie

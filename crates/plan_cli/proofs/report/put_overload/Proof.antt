@@ -2,7 +2,7 @@
 use mathlib.Core.Path.{_∙_}
 use native.Mathlib.Omega.{arith}
 use Rattle.integers.specs.Texts.{bytesOf}
-use Rattle.plan_cli.proofs.Reporting.{puts-overload}
+use Rattle.plan_cli.proofs.Reports.{puts-overload}
 use borrow.Author.Needs.{needs}
 use Rattle.plan_cli.proofs.report.put_overload.Statement.{statement}
 use Rattle.plan_cli.proofs.report.put_overload.Tie as tie

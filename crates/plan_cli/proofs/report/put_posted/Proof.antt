@@ -4,7 +4,7 @@ use native.Mathlib.Omega.{arith}
 use lib.ListN.{length}
 use mir.Syntax.{w32}
 use Rattle.integers.proofs.Ints.{back-of}
-use Rattle.plan_cli.proofs.Reporting.{puts-posted}
+use Rattle.plan_cli.proofs.Reports.{puts-posted}
 use borrow.Author.Needs.{needs}
 use Rattle.plan_cli.proofs.report.put_posted.Statement.{statement}
 use Rattle.plan_cli.proofs.report.put_posted.Tie as tie
@@ -23,7 +23,8 @@ returns c =
     let line = c .before .before .before .before .before .before .before .put-post .ensures in
     let words = c .before .before .before .post-reason in
     let why = c .before .before .put-reason .ensures in (
-      puts-posted posts (s .args .atoms .now) _ (s .args .count) (s .args .j) (back-of w32 (start .task-word .result) (start .task-word .ok) ∙ start .task-word .ensures) (back-of w32 (at .bound-word .result) (at .bound-word .ok) ∙ at .bound-word .ensures) (words .ensures) (line .0) (why .0),
+      puts-posted posts (s .args .atoms .now) _ (s .args .count) (s .args .j) (back-of w32 (start .task-word .result) (start .task-word .ok) ∙ start .task-word .ensures)
+          (back-of w32 (at .bound-word .result) (at .bound-word .ok) ∙ at .bound-word .ensures) (words .ensures) (line .0) (why .0),
       omega (arith, ap length (words .ensures), line .1, why .1),
     )
 

@@ -3,7 +3,7 @@ use mathlib.Core.Path.{_≡_, refl, _∙_}
 use Prim.Native.Nat.{_-_, _≤_}
 use native.Mathlib.Omega.{arith}
 use lib.ListN.{length}
-use Rattle.plan_cli.proofs.Reporting.{Reached, reached-none, reached-room, reached-next, reached-all}
+use Rattle.plan_cli.proofs.Reports.{Reached, reached-none, reached-room, reached-next, reached-all}
 use borrow.Author.Needs.{needs}
 use Rattle.plan_cli.proofs.report.put_posts.Statement.{statement}
 use Rattle.plan_cli.proofs.report.put_posts.Tie as tie
@@ -26,8 +26,12 @@ put-posted-requires c κs =
 loop-again : tie.Need-loop-again Inv-loop μ-loop
 loop-again c =
     let w = c .before .before .put-posted in
-    let l = c .before .before .before .before .before .loop in
-    (omega (arith, c .before .before .before .before .loop-test .taken), w .kept .0 ∙ l .inv .1, reached-next _ _ _ _ (l .out) (l .end) (l .j) (l .inv .2) _ _ (c .before .before .before .before .loop-test .taken) (w .ensures .0) (w .ensures .1))
+    let l = c .before .before .before .before .before .loop in (
+      omega (arith, c .before .before .before .before .loop-test .taken),
+      w .kept .0
+          ∙ l .inv .1,
+      reached-next _ _ _ _ (l .out) (l .end) (l .j) (l .inv .2) _ _ (c .before .before .before .before .loop-test .taken) (w .ensures .0) (w .ensures .1),
+    )
 
 returns : tie.Need-returns Inv-loop μ-loop
 returns c =

@@ -7,47 +7,72 @@ use Rattle.integers.specs.Limits.{TASKS}
 use Rattle.integers.specs.Texts.{bytesOf}
 use Rattle.runs.specs.Traces.{Trace}
 use Rattle.runs.specs.declared.outcome.Outcome.{Outcome}
-use Rattle.plan_text.specs.Lines.{doneLine, emptiedLine, refusedLine}
+use Rattle.plan_cli.specs.Lines.{doneLine, emptiedLine, refusedLine}
 use Rattle.plan_cli.specs.RunLines.{answerLines}
 use Rattle.plan_cli.specs.RunSlices.{Shown}
 use native.Mathlib.Omega.{arith}
-use Rattle.decimals.proofs.Putting.{puts-append}
-use Rattle.plan_text.proofs.Printing.{puts-as}
-use Rattle.plan_cli.proofs.Showing.{Parts, OverloadParts, done-parts, emptied-parts, overload-parts, refused-part}
+use Rattle.text.proofs.PutBytes.{puts-append}
+use Rattle.plan_cli.proofs.RunLines.{puts-as}
+use Rattle.plan_cli.proofs.PrintedRun.{Parts, OverloadParts, done-parts, emptied-parts, overload-parts, refused-part}
 use borrow.Author.Needs.{needs}
 use Rattle.plan_cli.proofs.report.put_run.Statement.{statement}
 use Rattle.plan_cli.proofs.report.put_run.Tie as tie
 
 -- what the outcome is, and so what is shown
-done : (c : tie.After-outcome) (what : ℕ ⊎ Trace) → Shown what (c .before .before .before .args .outcome) (c .before .before .before .args .posts .now) (c .before .before .before .args .atoms .now) (c .before .before .before .args .starts .now) → Parts what (c .before .before .before .args .posts .now) (c .before .before .before .args .atoms .now) (c .outcome .given .0 .0) 0 (doneLine (c .before .before .before .args .starts .now)) × (length (c .before .before .before .args .starts .now) ≤ TASKS)
-done c what s = done-parts (c .before .before .before .args .posts .now) (c .before .before .before .args .atoms .now) (c .before .before .before .args .starts .now) what (c .outcome .given .0 .0) (subst (λ (r : Outcome). Shown what r (c .before .before .before .args .posts .now) (c .before .before .before .args .atoms .now) (c .before .before .before .args .starts .now)) (c .outcome .given .1) s)
+done : (c : tie.After-outcome) (what : ℕ ⊎ Trace)
+    → Shown what (c .before .before .before .args .outcome) (c .before .before .before .args .posts .now) (c .before .before .before .args .atoms .now) (c .before .before .before .args .starts .now)
+    → Parts what (c .before .before .before .args .posts .now) (c .before .before .before .args .atoms .now) (c .outcome .given .0 .0) 0 (doneLine (c .before .before .before .args .starts .now))
+    × (length (c .before .before .before .args .starts .now) ≤ TASKS)
+done c what s = done-parts (c .before .before .before .args .posts .now) (c .before .before .before .args .atoms .now) (c .before .before .before .args .starts .now) what (c .outcome .given .0 .0)
+    (subst (λ (r : Outcome). Shown what r (c .before .before .before .args .posts .now) (c .before .before .before .args .atoms .now) (c .before .before .before .args .starts .now))
+    (c .outcome .given .1) s)
 
-overloaded : (c : tie.After-outcome2) (what : ℕ ⊎ Trace) → Shown what (c .before .before .before .args .outcome) (c .before .before .before .args .posts .now) (c .before .before .before .args .atoms .now) (c .before .before .before .args .starts .now) → OverloadParts (c .before .before .before .args .posts .now) (c .before .before .before .args .atoms .now) (c .before .before .before .args .starts .now) what (c .outcome2 .given .0 .0) (c .outcome2 .given .0 .1 .0) (c .outcome2 .given .0 .1 .1 .0)
-overloaded c what s = overload-parts (c .before .before .before .args .posts .now) (c .before .before .before .args .atoms .now) (c .before .before .before .args .starts .now) what (c .outcome2 .given .0 .0) (c .outcome2 .given .0 .1 .0) (c .outcome2 .given .0 .1 .1 .0) (subst (λ (r : Outcome). Shown what r (c .before .before .before .args .posts .now) (c .before .before .before .args .atoms .now) (c .before .before .before .args .starts .now)) (c .outcome2 .given .1) s)
+overloaded : (c : tie.After-outcome2) (what : ℕ ⊎ Trace)
+    → Shown what (c .before .before .before .args .outcome) (c .before .before .before .args .posts .now) (c .before .before .before .args .atoms .now) (c .before .before .before .args .starts .now)
+    → OverloadParts (c .before .before .before .args .posts .now) (c .before .before .before .args .atoms .now) (c .before .before .before .args .starts .now) what (c .outcome2 .given .0 .0)
+    (c .outcome2 .given .0 .1 .0) (c .outcome2 .given .0 .1 .1 .0)
+overloaded c what s = overload-parts (c .before .before .before .args .posts .now) (c .before .before .before .args .atoms .now) (c .before .before .before .args .starts .now) what
+    (c .outcome2 .given .0 .0) (c .outcome2 .given .0 .1 .0) (c .outcome2 .given .0 .1 .1 .0)
+    (subst (λ (r : Outcome). Shown what r (c .before .before .before .args .posts .now) (c .before .before .before .args .atoms .now) (c .before .before .before .args .starts .now))
+    (c .outcome2 .given .1) s)
 
-emptied : (c : tie.After-outcome3) (what : ℕ ⊎ Trace) → Shown what (c .before .before .before .args .outcome) (c .before .before .before .args .posts .now) (c .before .before .before .args .atoms .now) (c .before .before .before .args .starts .now) → Parts what (c .before .before .before .args .posts .now) (c .before .before .before .args .atoms .now) (c .outcome3 .given .0 .0) 0 emptiedLine
-emptied c what s = emptied-parts (c .before .before .before .args .posts .now) (c .before .before .before .args .atoms .now) (c .before .before .before .args .starts .now) what (c .outcome3 .given .0 .0) (subst (λ (r : Outcome). Shown what r (c .before .before .before .args .posts .now) (c .before .before .before .args .atoms .now) (c .before .before .before .args .starts .now)) (c .outcome3 .given .1) s)
+emptied : (c : tie.After-outcome3) (what : ℕ ⊎ Trace)
+    → Shown what (c .before .before .before .args .outcome) (c .before .before .before .args .posts .now) (c .before .before .before .args .atoms .now) (c .before .before .before .args .starts .now)
+    → Parts what (c .before .before .before .args .posts .now) (c .before .before .before .args .atoms .now) (c .outcome3 .given .0 .0) 0 emptiedLine
+emptied c what s = emptied-parts (c .before .before .before .args .posts .now) (c .before .before .before .args .atoms .now) (c .before .before .before .args .starts .now) what
+    (c .outcome3 .given .0 .0) (subst (λ (r : Outcome). Shown what r (c .before .before .before .args .posts .now) (c .before .before .before .args .atoms .now)
+    (c .before .before .before .args .starts .now)) (c .outcome3 .given .1) s)
 
-refused : (c : tie.After-outcome4) (what : ℕ ⊎ Trace) → Shown what (c .before .before .before .args .outcome) (c .before .before .before .args .posts .now) (c .before .before .before .args .atoms .now) (c .before .before .before .args .starts .now) → answerLines what ≡ refusedLine (c .outcome4 .given .0 .0)
-refused c what s = refused-part (c .before .before .before .args .posts .now) (c .before .before .before .args .atoms .now) (c .before .before .before .args .starts .now) what (c .outcome4 .given .0 .0) (subst (λ (r : Outcome). Shown what r (c .before .before .before .args .posts .now) (c .before .before .before .args .atoms .now) (c .before .before .before .args .starts .now)) (c .outcome4 .given .1) s)
+refused : (c : tie.After-outcome4) (what : ℕ ⊎ Trace)
+    → Shown what (c .before .before .before .args .outcome) (c .before .before .before .args .posts .now) (c .before .before .before .args .atoms .now) (c .before .before .before .args .starts .now)
+    → answerLines what ≡ refusedLine (c .outcome4 .given .0 .0)
+refused c what s = refused-part (c .before .before .before .args .posts .now) (c .before .before .before .args .atoms .now) (c .before .before .before .args .starts .now) what
+    (c .outcome4 .given .0 .0) (subst (λ (r : Outcome). Shown what r (c .before .before .before .args .posts .now) (c .before .before .before .args .atoms .now)
+    (c .before .before .before .args .starts .now)) (c .outcome4 .given .1) s)
 
 put-posts-requires : tie.Need-put-posts-requires
-put-posts-requires c κs = let s = c .before .before .before .before .before .pre in let p = done (c .before .before) (s .what) (s .shows) .0 in record { list = p .list; holds = p .holds; fits = omega (arith, p .few, s .fits) }
+put-posts-requires c κs = let s = c .before .before .before .before .before .pre in let p = done (c .before .before) (s .what) (s .shows) .0 in
+    record { list = p .list; holds = p .holds; fits = omega (arith, p .few, s .fits) }
 
 put-done-requires : tie.Need-put-done-requires
-put-done-requires c κs = let outcome = c .before .before .before .before .before .before in let s = outcome .before .before .before .pre in let p = done outcome (s .what) (s .shows) in omega (arith, p .0 .few, p .1, s .fits, c .before .before .before .put-posts .kept .0, c .before .before .before .put-posts .ensures .1 (p .0 .list) (p .0 .holds))
+put-done-requires c κs = let outcome = c .before .before .before .before .before .before in let s = outcome .before .before .before .pre in let p = done outcome (s .what) (s .shows) in
+    omega (arith, p .0 .few, p .1, s .fits, c .before .before .before .put-posts .kept .0, c .before .before .before .put-posts .ensures .1 (p .0 .list) (p .0 .holds))
 
 put-posts-requires-2 : tie.Need-put-posts-requires-2
-put-posts-requires-2 c κs = let s = c .before .before .before .before .before .pre in let p = overloaded (c .before .before) (s .what) (s .shows) .parts in record { list = p .list; holds = p .holds; fits = omega (arith, p .few, s .fits) }
+put-posts-requires-2 c κs = let s = c .before .before .before .before .before .pre in let p = overloaded (c .before .before) (s .what) (s .shows) .parts in
+    record { list = p .list; holds = p .holds; fits = omega (arith, p .few, s .fits) }
 
 put-overload-requires : tie.Need-put-overload-requires
-put-overload-requires c κs = let outcome = c .before .before .before .before .before .before in let s = outcome .before .before .before .pre in let q = overloaded outcome (s .what) (s .shows) in let p = q .parts in (q .inside, omega (arith, p .few, s .fits, c .before .before .before .put-posts2 .kept .0, c .before .before .before .put-posts2 .ensures .1 (p .list) (p .holds)))
+put-overload-requires c κs = let outcome = c .before .before .before .before .before .before in let s = outcome .before .before .before .pre in let q = overloaded outcome (s .what) (s .shows) in
+    let p = q .parts in (q .inside, omega (arith, p .few, s .fits, c .before .before .before .put-posts2 .kept .0, c .before .before .before .put-posts2 .ensures .1 (p .list) (p .holds)))
 
 put-posts-requires-3 : tie.Need-put-posts-requires-3
-put-posts-requires-3 c κs = let s = c .before .before .before .before .before .pre in let p = emptied (c .before .before) (s .what) (s .shows) in record { list = p .list; holds = p .holds; fits = omega (arith, p .few, s .fits) }
+put-posts-requires-3 c κs = let s = c .before .before .before .before .before .pre in let p = emptied (c .before .before) (s .what) (s .shows) in
+    record { list = p .list; holds = p .holds; fits = omega (arith, p .few, s .fits) }
 
 put-bytes-requires : tie.Need-put-bytes-requires
-put-bytes-requires c κs = let outcome = c .before .before .before .before .before .before .before in let s = outcome .before .before .before .pre in let p = emptied outcome (s .what) (s .shows) in omega (arith, p .few, s .fits, c .before .before .before .before .put-posts3 .kept .0, c .before .before .before .before .put-posts3 .ensures .1 (p .list) (p .holds))
+put-bytes-requires c κs = let outcome = c .before .before .before .before .before .before .before in let s = outcome .before .before .before .pre in let p = emptied outcome (s .what) (s .shows) in
+    omega (arith, p .few, s .fits, c .before .before .before .before .put-posts3 .kept .0, c .before .before .before .before .put-posts3 .ensures .1 (p .list) (p .holds))
 
 returns : tie.Need-returns
 returns c =
@@ -55,8 +80,10 @@ returns c =
     let s = outcome .before .before .before .pre in
     let p = done outcome (s .what) (s .shows) in
     let w = c .before .before .before .before .before .before .put-posts .ensures in
-    let e = c .before .before .put-done .ensures in
-    (λ what h. (let q = done outcome what h .0 in puts-as (sym (q .text)) (puts-append (w .0 (q .list) (q .holds)) (e .0))), omega (arith, p .0 .few, p .1, s .fits, w .1 (p .0 .list) (p .0 .holds), e .1))
+    let e = c .before .before .put-done .ensures in (
+      λ what h. (let q = done outcome what h .0 in puts-as (sym (q .text)) (puts-append (w .0 (q .list) (q .holds)) (e .0))),
+      omega (arith, p .0 .few, p .1, s .fits, w .1 (p .0 .list) (p .0 .holds), e .1),
+    )
 
 returns-2 : tie.Need-returns-2
 returns-2 c =
@@ -64,8 +91,10 @@ returns-2 c =
     let s = outcome .before .before .before .pre in
     let p = overloaded outcome (s .what) (s .shows) .parts in
     let w = c .before .before .before .before .before .before .put-posts2 .ensures in
-    let e = c .before .before .put-overload .ensures in
-    (λ what h. (let q = overloaded outcome what h in puts-as (sym (q .parts .text)) (puts-append (w .0 (q .parts .list) (q .parts .holds)) (e .0 (q .reason) (q .words)))), omega (arith, p .few, s .fits, w .1 (p .list) (p .holds), e .1))
+    let e = c .before .before .put-overload .ensures in (
+      λ what h. (let q = overloaded outcome what h in puts-as (sym (q .parts .text)) (puts-append (w .0 (q .parts .list) (q .parts .holds)) (e .0 (q .reason) (q .words)))),
+      omega (arith, p .few, s .fits, w .1 (p .list) (p .holds), e .1),
+    )
 
 returns-3 : tie.Need-returns-3
 unfolding bytesOf

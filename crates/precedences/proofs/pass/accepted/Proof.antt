@@ -1,10 +1,9 @@
 -- `precedences::pass::accepted` meets its contract.
--- Assumes nothing.
 use mathlib.Core.Path.{_≡_}
 use lib.ListN.{length}
 use Rattle.integers.specs.Limits.{TASKS}
-use Rattle.predecessors.specs.TaskArrays.{Ranged}
-use Rattle.predecessors.proofs.Ranging.{ranged}
+use Rattle.precedences.specs.PredecessorArrays.{Ranged}
+use Rattle.precedences.proofs.AcceptedArrays.{ranged}
 use Rattle.precedences.proofs.PassContract.{some-past, none-past}
 use borrow.Author.Needs.{needs}
 use Rattle.precedences.proofs.pass.accepted.Statement.{statement}

@@ -1,5 +1,4 @@
 -- `precedences::pass::first_past` meets its contract.
--- Assumes nothing.
 use Prim.Native.Nat.{ℕ, _-_, _≤_, _<_}
 use native.Mathlib.Omega.{arith}
 use lib.ListN.{getD}

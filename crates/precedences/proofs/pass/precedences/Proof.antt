@@ -1,10 +1,9 @@
 -- `precedences::pass::precedences` meets its contract.
--- Assumes nothing.
 use mathlib.Core.Path.{_≡_, refl, sym, ap, _∙_}
 use mathlib.Core.Bool.{true}
 use Rattle.integers.specs.Answers.{refusedBy}
-use Rattle.input_refusals.specs.Refusals.{AcceptedInput}
-use Rattle.input_refusals.proofs.Refused.{accepted-input}
+use Rattle.records.specs.Refusals.{AcceptedInput}
+use Rattle.records.proofs.RefusedRuns.{accepted-input}
 use Rattle.precedences.proofs.PassContract.{went, is-refused}
 use borrow.Author.Needs.{needs}
 use Rattle.precedences.proofs.pass.precedences.Statement.{statement}

@@ -1,14 +1,13 @@
 -- `precedences::pass::raised_starts` meets its contract.
--- Assumes nothing.
 use mathlib.Core.Path.{_≡_, sym, ap, ap₂, _∙_}
 use mathlib.Core.List.{List}
 use Prim.Native.Nat.{ℕ, _-_, _≤_, _<_}
 use native.Mathlib.Omega.{arith}
-use Rattle.integers.specs.Filling.{filled, noTasks}
-use Rattle.integers.proofs.Filling.{filled-none, filled-store}
-use Rattle.ects.specs.Ects.{raisedTo}
-use Rattle.predecessors.specs.TaskArrays.{Ranged}
-use Rattle.precedences.specs.TaskArrays.{raisedAt}
+use Rattle.integers.specs.FilledLists.{filled, noTasks}
+use Rattle.integers.proofs.FilledLists.{filled-none, filled-store}
+use Rattle.trees.specs.Ects.{raisedTo}
+use Rattle.precedences.specs.PredecessorArrays.{Ranged}
+use Rattle.precedences.specs.PassArrays.{raisedAt}
 use borrow.Author.Needs.{needs}
 use Rattle.precedences.proofs.pass.raised_starts.Statement.{statement}
 use Rattle.precedences.proofs.pass.raised_starts.Tie as tie
@@ -40,7 +39,8 @@ loop-again c =
     let q : l .i < c .before .before .before .before .before .args .n = omega arith in
     record {
       ranged = l .inv .ranged;
-      at = λ f. filled-store (raisedAt (f .J)) noTasks (l .raised) (l .i) (c .raised .result) (l .inv .at f) (c .raised .ensures ∙ ap₂ raisedTo (f .held .start (l .i) q) (c .before .before .bound-of .ensures f));
+      at = λ f. filled-store (raisedAt (f .J)) noTasks (l .raised) (l .i) (c .raised .result) (l .inv .at f)
+          (c .raised .ensures ∙ ap₂ raisedTo (f .held .start (l .i) q) (c .before .before .bound-of .ensures f));
       small = omega arith;
     }
 

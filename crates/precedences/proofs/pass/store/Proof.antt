@@ -1,14 +1,13 @@
 -- `precedences::pass::store` meets its contract.
--- Assumes nothing.
 use mathlib.Core.Path.{_≡_, refl, sym, ap, _∙_}
 use Prim.Native.Nat.{ℕ, _+_, _-_, _≤_}
 use native.Mathlib.Omega.{arith}
 use lib.ListN.{length}
 use mir.Syntax.{w32}
-use Rattle.integers.specs.Filling.{filled}
-use Rattle.integers.proofs.Filling.{filled-none, filled-store, filled-length}
+use Rattle.integers.specs.FilledLists.{filled}
+use Rattle.integers.proofs.FilledLists.{filled-none, filled-store, filled-length}
 use Rattle.integers.proofs.Ints.{back-of}
-use Rattle.predecessors.specs.TaskArrays.{startAt}
+use Rattle.precedences.specs.PredecessorArrays.{startAt}
 use borrow.Author.Needs.{needs}
 use Rattle.precedences.proofs.pass.store.Statement.{statement}
 use Rattle.precedences.proofs.pass.store.Tie as tie

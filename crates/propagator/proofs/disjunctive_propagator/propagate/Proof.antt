@@ -1,21 +1,22 @@
 -- `propagator::disjunctive_propagator::propagate` meets its contract: what no test refuses is run.
--- Assumes nothing.
 use mathlib.Core.Path.{_≡_, refl, ap}
 use mathlib.Core.Bool.{true}
 use native.Mathlib.Omega.{arith}
 use lib.ListN.{length}
 use borrow.Author.Needs.{needs}
 use Rattle.integers.specs.Answers.{refusedBy}
-use Rattle.input_refusals.specs.Refusals.{Accepted}
-use Rattle.input_refusals.proofs.Refused.{accepted-run}
-use Rattle.propagator.proofs.Accepting.{runnable}
-use Rattle.propagator.proofs.Many.{is-refused}
+use Rattle.records.specs.Refusals.{Accepted}
+use Rattle.records.proofs.RefusedRuns.{accepted-run}
+use Rattle.propagator.proofs.AcceptedInput.{runnable}
+use Rattle.propagator.proofs.TooManyRanges.{is-refused}
 use Rattle.propagator.proofs.disjunctive_propagator.propagate.Statement.{statement}
 use Rattle.propagator.proofs.disjunctive_propagator.propagate.Tie as tie
 
 -- no test failed
-passed : (c : tie.After-run-accepted-arg) → let a = c .before .before .before .before .before .before .args in Accepted (a .t1) (a .earliest .now) (a .latest .now) (length (a .posts .now)) (length (a .atoms .now)) × (a .bars-fit ≡ true)
-passed c = let a = c .before .before .before .before .before .before .args in accepted-run (a .t1) (a .earliest .now) (a .latest .now) (a .bars-fit) (length (a .posts .now)) (length (a .atoms .now)) .0 (omega (arith, c .before .before .run-refusal .ensures))
+passed : (c : tie.After-run-accepted-arg) → let a = c .before .before .before .before .before .before .args in
+    Accepted (a .t1) (a .earliest .now) (a .latest .now) (length (a .posts .now)) (length (a .atoms .now)) × (a .bars-fit ≡ true)
+passed c = let a = c .before .before .before .before .before .before .args in
+    accepted-run (a .t1) (a .earliest .now) (a .latest .now) (a .bars-fit) (length (a .posts .now)) (length (a .atoms .now)) .0 (omega (arith, c .before .before .run-refusal .ensures))
 
 returns : tie.Need-returns
 returns c =

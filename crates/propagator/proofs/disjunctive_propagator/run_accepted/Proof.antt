@@ -1,5 +1,4 @@
 -- `run_accepted`: the arrays and the tree of all tasks are what edge finding asks for, and what it leaves is the trace.
--- Assumes nothing.
 use mathlib.Core.Path.{_≡_, refl}
 use mathlib.Core.List.{List}
 use Prim.Native.Nat.{ℕ}
@@ -7,9 +6,9 @@ use lib.ListN.{length}
 use borrow.Author.Needs.{needs}
 use Rattle.integers.specs.Limits.{TASKS}
 use Rattle.sorts.proofs.Sorted.{sorted-permutes}
-use Rattle.levels.specs.Filling.{Fillable, Filled}
-use Rattle.levels.specs.Finding.{Begun}
-use Rattle.propagator.proofs.Beginning.{key-small, keys-small, latest, fillable, begun, left}
+use Rattle.propagator.specs.FilledTheta.{Fillable, Filled}
+use Rattle.propagator.specs.EdgeFinding.{Begun}
+use Rattle.propagator.proofs.InitialArrays.{key-small, keys-small, latest, fillable, begun, left}
 use Rattle.propagator.proofs.disjunctive_propagator.run_accepted.Statement.{statement}
 use Rattle.propagator.proofs.disjunctive_propagator.run_accepted.Tie as tie
 
@@ -45,16 +44,20 @@ abbrev can-fill : (c : tie.After-new) → let a = start c .args in
 can-fill c =
     let s = start c in
     let a = s .args in
-    fillable (a .t1) (a .earliest .now) (a .latest .now) (length (a .posts .now)) (length (a .atoms .now)) (s .pre) (long s) (est c .moments-of .ensures) (lst c .moments-of2 .ensures) (lct c .completions .ensures)
+    fillable (a .t1) (a .earliest .now) (a .latest .now) (length (a .posts .now)) (length (a .atoms .now)) (s .pre) (long s) (est c .moments-of .ensures) (lst c .moments-of2 .ensures)
+    (lct c .completions .ensures)
     (tasks c .sort-numbers .ensures) (candidates c .sort-numbers-down .ensures) (c .new .ensures) (places c .leaf-places .ensures .0)
 
 -- and that of all tasks is what edge finding begins with
-abbrev can-begin : (c : tie.After-new) (words : List ℕ) → let a = start c .args in Filled (c .new .result .«number_of_internal_nodes») (a .t1 .count) (c .new .result .nodes) words (tasks c .sort-numbers .last .0) (est c .moments-of .last .0) (a .t1 .durations)
-    → Begun (a .t1 .count) (c .new .result .«number_of_internal_nodes») (c .new .result .height) words (a .earliest .now) (a .posts .now) (a .atoms .now) (est c .moments-of .last .0) (lst c .moments-of2 .last .0) (lct c .completions .last .0) (a .t1 .durations) (tasks c .sort-numbers .last .0) (candidates c .sort-numbers-down .last .0) (places c .leaf-places .last .0)
+abbrev can-begin : (c : tie.After-new) (words : List ℕ) → let a = start c .args in
+    Filled (c .new .result .«number_of_internal_nodes») (a .t1 .count) (c .new .result .nodes) words (tasks c .sort-numbers .last .0) (est c .moments-of .last .0) (a .t1 .durations)
+    → Begun (a .t1 .count) (c .new .result .«number_of_internal_nodes») (c .new .result .height) words (a .earliest .now) (a .posts .now) (a .atoms .now) (est c .moments-of .last .0)
+    (lst c .moments-of2 .last .0) (lct c .completions .last .0) (a .t1 .durations) (tasks c .sort-numbers .last .0) (candidates c .sort-numbers-down .last .0) (places c .leaf-places .last .0)
 can-begin c words filled =
     let s = start c in
     let a = s .args in
-    begun (a .t1) (a .earliest .now) (a .latest .now) (length (a .posts .now)) (length (a .atoms .now)) (s .pre) (long s) (est c .moments-of .ensures) (lst c .moments-of2 .ensures) (lct c .completions .ensures)
+    begun (a .t1) (a .earliest .now) (a .latest .now) (length (a .posts .now)) (length (a .atoms .now)) (s .pre) (long s) (est c .moments-of .ensures) (lst c .moments-of2 .ensures)
+    (lct c .completions .ensures)
     (tasks c .sort-numbers .ensures) (candidates c .sort-numbers-down .ensures) (c .new .ensures) (places c .leaf-places .ensures .0) (filled (can-fill c)) refl refl
 
 completions-requires : tie.Need-completions-requires
@@ -73,8 +76,12 @@ sort-numbers-down-requires c κs =
     let first = c .before .before .before .before .before .before .before .before .before .before .before .before in
     let second = c .before .before .before .before .before .before .before .before .before .before in
     let s = first .before .before .before in
-    let a = s .args in
-    (s .pre .lawful .few, refl, keys-small (a .t1) (a .earliest .now) (a .latest .now) (length (a .posts .now)) (length (a .atoms .now)) (s .pre) (long s) (first .moments-of .ensures) (second .moments-of2 .ensures) (c .before .before .before .before .before .completions .ensures))
+    let a = s .args in (
+      s .pre .lawful .few,
+      refl,
+      keys-small (a .t1) (a .earliest .now) (a .latest .now) (length (a .posts .now)) (length (a .atoms .now)) (s .pre) (long s) (first .moments-of .ensures)
+          (second .moments-of2 .ensures) (c .before .before .before .before .before .completions .ensures),
+    )
 
 leaf-places-requires : tie.Need-leaf-places-requires
 leaf-places-requires c κs =
@@ -95,7 +102,8 @@ returns c =
     let u = full .before .before .before .before .before .before in
     let s = start u in
     let a = s .args in
-    left (a .t1) (a .earliest .now) (a .latest .now) (length (a .posts .now)) (length (a .atoms .now)) (s .pre) (long s) (est u .moments-of .ensures) (lst u .moments-of2 .ensures) (lct u .completions .ensures)
+    left (a .t1) (a .earliest .now) (a .latest .now) (length (a .posts .now)) (length (a .atoms .now)) (s .pre) (long s) (est u .moments-of .ensures) (lst u .moments-of2 .ensures)
+    (lct u .completions .ensures)
     (tasks u .sort-numbers .ensures) (candidates u .sort-numbers-down .ensures) refl refl (c .before .before .before .edge-finding .ensures (can-begin u _ (full .fill .ensures)))
 
 pub run-accepted-spec : {M : Type 1} → statement M

@@ -59,7 +59,8 @@ sum-fits-requires : tie.Need-sum-fits-requires
 sum-fits-requires c κs = few (c .before .before .before .before .before)
 
 returns-3 : tie.Need-returns-3
-returns-3 c = sym (refuses (test 1 _ ∷ test 2 _ ∷ []) (test 5 _) [] (counted (c .before .before .before .before .before .before .before), (lasting (c .before .before .before), tt)) (sym (summed (c .before)) ∙ not-true _ (c .if3 .taken)))
+returns-3 c = sym (refuses (test 1 _ ∷ test 2 _ ∷ []) (test 5 _) [] (counted (c .before .before .before .before .before .before .before), (lasting (c .before .before .before), tt))
+    (sym (summed (c .before)) ∙ not-true _ (c .if3 .taken)))
 
 returns-4 : tie.Need-returns-4
 returns-4 c =

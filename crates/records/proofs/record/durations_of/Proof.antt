@@ -6,8 +6,8 @@ use lib.ListN.{length, getD}
 use lib.IntN.{pos}
 use borrow.Author.Needs.{needs}
 use mir.Syntax.{w32}
-use Rattle.integers.specs.Filling.{filled, noTasks}
-use Rattle.integers.proofs.Filling.{filled-none, filled-store, filled-length}
+use Rattle.integers.specs.FilledLists.{filled, noTasks}
+use Rattle.integers.proofs.FilledLists.{filled-none, filled-store, filled-length}
 use Rattle.integers.proofs.Ints.{back-of}
 use Rattle.records.specs.Records.{durationOf, durationAt}
 use Rattle.records.proofs.record.durations_of.Statement.{statement}
@@ -31,8 +31,11 @@ loop-again : tie.Need-loop-again Inv-loop μ-loop
 loop-again c =
     let start = c .before .before .before .before in
     let loop = c .before .before .before .loop in
-    let x = getD (start .args .durations .now) (loop .i) (pos 0) in
-    (omega arith, filled-store (durationAt (start .args .durations .now)) noTasks (loop .out) (loop .i) (c .duration-of .result) (loop .inv .1) (c .duration-of .ensures ∙ ap durationOf (back-of w32 x (c .before .duration-of-arg .given))))
+    let x = getD (start .args .durations .now) (loop .i) (pos 0) in (
+      omega arith,
+      filled-store (durationAt (start .args .durations .now)) noTasks (loop .out) (loop .i) (c .duration-of .result) (loop .inv .1)
+          (c .duration-of .ensures ∙ ap durationOf (back-of w32 x (c .before .duration-of-arg .given))),
+    )
 
 returns : tie.Need-returns Inv-loop μ-loop
 returns c =

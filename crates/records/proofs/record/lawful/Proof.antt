@@ -1,5 +1,4 @@
 -- `lawful`: the tests in their order; the last is that of the unused places, where those before it are passed.
--- Assumes nothing.
 use mathlib.Core.Path.{_≡_, sym, _∙_}
 use mathlib.Core.Bool.{true}
 use Prim.Native.Nat.{_≤_}

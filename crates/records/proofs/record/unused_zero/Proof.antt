@@ -1,10 +1,9 @@
 -- `records::record::unused_zero` meets its contract. The loop's invariant is `Gathered`.
--- Assumes nothing.
 use Prim.Native.Nat.{_-_, _≤_}
 use native.Mathlib.Omega.{arith}
 use borrow.Author.Needs.{needs}
 use Rattle.integers.specs.Limits.{TASKS}
-use Rattle.records.proofs.Unused.{Gathered, gathered-none, gathered-more, gathered-all}
+use Rattle.records.proofs.UnusedPlaces.{Gathered, gathered-none, gathered-more, gathered-all}
 use Rattle.records.proofs.record.unused_zero.Statement.{statement}
 use Rattle.records.proofs.record.unused_zero.Tie as tie
 

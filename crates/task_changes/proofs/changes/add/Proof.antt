@@ -11,7 +11,7 @@ use Rattle.records.specs.Records.{durationOf}
 use Rattle.task_changes.specs.declared.changes.Change.{Change}
 use Rattle.task_changes.specs.declared.changes.Change.the-variants.{Refused}
 use Rattle.task_changes.specs.Changes.{addNumber}
-use Rattle.task_changes.proofs.Changing.{Addable, addable, not-negative, add-refused, add-made, stored-is}
+use Rattle.task_changes.proofs.ChangedRecords.{Addable, addable, not-negative, add-refused, add-made, stored-is}
 use Rattle.task_changes.proofs.changes.add.Statement.{statement}
 use Rattle.task_changes.proofs.changes.add.Tie as tie
 
@@ -52,7 +52,8 @@ returns-2 : tie.Need-returns-2
 returns-2 c =
     let s = c .before .before .before .before .before .before in
     let a = s .args in
-    add-made (a .t1) (a .duration) _ (long s) (sym (number (c .before .before .before)) ∙ c .before .before .if1 .left) (stored-is (a .t1) (passed (c .before .before)) (long s) _ (more-is (c .before)))
+    add-made (a .t1) (a .duration) _ (long s) (sym (number (c .before .before .before)) ∙ c .before .before .if1 .left)
+    (stored-is (a .t1) (passed (c .before .before)) (long s) _ (more-is (c .before)))
 
 pub add-spec : {M : Type 1} → statement M
 add-spec =

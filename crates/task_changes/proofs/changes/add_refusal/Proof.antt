@@ -12,16 +12,16 @@ use Rattle.integers.specs.Limits.{DURATIONS}
 use Rattle.integers.specs.Tests.{test, AllPassed}
 use Rattle.integers.proofs.Ints.{back, leZ-true}
 use Rattle.integers.proofs.Tests.{refuses, accepts, broken}
-use Rattle.records.specs.declared.record.Propagator.{Propagator}
+use Rattle.records.specs.declared.record.DisjunctivePropagator.{DisjunctivePropagator}
 use Rattle.records.specs.Records.{recordOf, durationOf}
 use Rattle.records.proofs.Lawful.{count-is, lawful-is}
 use Rattle.task_changes.specs.Changes.{addTests}
-use Rattle.task_changes.proofs.Changing.{not-negative}
+use Rattle.task_changes.proofs.ChangedRecords.{not-negative}
 use Rattle.task_changes.proofs.changes.add_refusal.Statement.{statement}
 use Rattle.task_changes.proofs.changes.add_refusal.Tie as tie
 
 -- the record that the call is lent
-abbrev lent : tie.Start → Propagator
+abbrev lent : tie.Start → DisjunctivePropagator
 lent c = recordOf (c .args .n) (c .args .durations .now) (c .args .total)
 
 -- the tests that are passed at each place
@@ -56,7 +56,8 @@ returns-3 : tie.Need-returns-3
 returns-3 c = sym (refuses (test 20 _ ∷ test 1 _ ∷ []) (test 2 _) _ (first-two (c .before .before)) (sym (seen (c .before)) ∙ not-true _ (c .if3 .taken)))
 
 nat-of-requires : tie.Need-nat-of-requires
-nat-of-requires c κs = subst (λ (z : ℤ). pos 0 ≤ℤ z) (sym (back (c .before .before .before .before .before .fits .duration))) (not-negative (c .before .before .before .before .before .args .duration) (leZ-true (pos 1) (c .before .before .before .before .before .args .duration) (first-three c .1 .1 .0)))
+nat-of-requires c κs = subst (λ (z : ℤ). pos 0 ≤ℤ z) (sym (back (c .before .before .before .before .before .fits .duration)))
+    (not-negative (c .before .before .before .before .before .args .duration) (leZ-true (pos 1) (c .before .before .before .before .before .args .duration) (first-three c .1 .1 .0)))
 
 sub-if4 : tie.Need-sub-if4
 sub-if4 c = fits (c .before .before .before .before)
@@ -64,14 +65,24 @@ sub-if4 c = fits (c .before .before .before .before)
 returns-4 : tie.Need-returns-4
 returns-4 c =
     let a = c .before .before .before .before .before .before .before .args in
-    sym (refuses (test 20 _ ∷ test 1 _ ∷ test 2 _ ∷ []) (test 5 _) [] (first-three (c .before .before)) (lt-leb (a .total + durationOf (a .duration)) DURATIONS (omega (arith, c .if4 .taken, more-is (c .before), fits (c .before .before .before .before .before)))))
+    sym (refuses (test 20 _ ∷ test 1 _ ∷ test 2 _ ∷ []) (test 5 _) [] (first-three (c .before .before))
+    (lt-leb (a .total + durationOf (a .duration)) DURATIONS (omega (arith, c .if4 .taken, more-is (c .before), fits (c .before .before .before .before .before)))))
 
 returns-5 : tie.Need-returns-5
 returns-5 c =
     let start = c .before .before .before .before .before .before .before in
     let a = start .args in
     let three = first-three (c .before .before) in
-    sym (accepts (addTests (lent start) (a .duration)) (three .0, (three .1 .0, (three .1 .1 .0, (le-leb (a .total + durationOf (a .duration)) DURATIONS (omega (arith, c .if4 .left, more-is (c .before), fits (c .before .before .before .before .before))), tt)))))
+    sym (accepts (addTests (lent start) (a .duration)) (
+      three .0,
+      (
+        three .1 .0,
+        (
+          three .1 .1 .0,
+          (le-leb (a .total + durationOf (a .duration)) DURATIONS (omega (arith, c .if4 .left, more-is (c .before), fits (c .before .before .before .before .before))), tt),
+        ),
+      ),
+    ))
 
 pub add-refusal-spec : {M : Type 1} → statement M
 add-refusal-spec =

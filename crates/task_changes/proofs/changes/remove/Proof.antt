@@ -6,7 +6,7 @@ use borrow.Author.Needs.{needs}
 use Rattle.integers.specs.Limits.{TASKS}
 use Rattle.task_changes.specs.declared.changes.Change.{Change}
 use Rattle.task_changes.specs.declared.changes.Change.the-variants.{Refused}
-use Rattle.task_changes.proofs.Changing.{Removable, removable, part, remove-refused, remove-made}
+use Rattle.task_changes.proofs.ChangedRecords.{Removable, removable, part, remove-refused, remove-made}
 use Rattle.task_changes.proofs.changes.remove.Statement.{statement}
 use Rattle.task_changes.proofs.changes.remove.Tie as tie
 

@@ -8,7 +8,7 @@ use borrow.Author.Tests.{not-true, not-false, lt-ltb, le-ltb}
 use borrow.Author.Needs.{needs}
 use Rattle.integers.specs.Tests.{test, AllPassed}
 use Rattle.integers.proofs.Tests.{refuses, accepts, broken}
-use Rattle.records.specs.declared.record.Propagator.{Propagator}
+use Rattle.records.specs.declared.record.DisjunctivePropagator.{DisjunctivePropagator}
 use Rattle.records.specs.Records.{recordOf}
 use Rattle.records.proofs.Lawful.{count-is, lawful-is}
 use Rattle.task_changes.specs.Changes.{removeTests}
@@ -16,7 +16,7 @@ use Rattle.task_changes.proofs.changes.remove_refusal.Statement.{statem
 use Rattle.task_changes.proofs.changes.remove_refusal.Tie as tie
 
 -- the record that the call is lent
-abbrev lent : tie.Start → Propagator
+abbrev lent : tie.Start → DisjunctivePropagator
 lent c = recordOf (c .args .n) (c .args .durations .now) (c .args .total)
 
 -- the tests that are passed at each place

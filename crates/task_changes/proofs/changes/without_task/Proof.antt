@@ -9,8 +9,8 @@ use lib.Seq.{length-take-le}
 use borrow.Author.Needs.{needs}
 use Rattle.integers.specs.Limits.{TASKS}
 use Rattle.task_changes.specs.Lists.{placed, without}
-use Rattle.task_changes.proofs.Placing.{copied, left-out, front-more}
-use Rattle.task_changes.proofs.Leaving.{without-nil, without-same, without-more, without-few}
+use Rattle.task_changes.proofs.PlacedLists.{copied, left-out, front-more}
+use Rattle.task_changes.proofs.LeftOut.{without-nil, without-same, without-more, without-few}
 use Rattle.task_changes.proofs.changes.without_task.Statement.{statement}
 use Rattle.task_changes.proofs.changes.without_task.Tie as tie
 
@@ -26,7 +26,14 @@ small c =
     let a = c .before .before .args in
     let loop = c .before .loop in
     let pre = c .before .before .pre in
-    omega (arith, loop .inv .1 .1, without-few (take (loop .i) (a .durations .now)) (a .t), length-take-le (loop .i) (a .durations .now) (omega (arith, pre .0, pre .1, c .loop-test .taken)), pre .0, c .loop-test .taken)
+    omega (
+      arith,
+      loop .inv .1 .1,
+      without-few (take (loop .i) (a .durations .now)) (a .t),
+      length-take-le (loop .i) (a .durations .now) (omega (arith, pre .0, pre .1, c .loop-test .taken)),
+      pre .0,
+      c .loop-test .taken,
+    )
 
 loop-holds : tie.Need-loop-holds Inv-loop μ-loop
 loop-holds c = (omega arith, (ap placed (sym (without-nil (c .args .t))), sym (ap length (without-nil (c .args .t)))))

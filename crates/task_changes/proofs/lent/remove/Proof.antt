@@ -1,5 +1,4 @@
 -- `lent::remove` meets its contract: `changes::remove` is called on the lent record, and the record that it returns is stored.
--- Assumes nothing.
 use Prim.Native.Nat.{ℕ}
 use mir.Syntax.{w64}
 use mir.Val.{vint}

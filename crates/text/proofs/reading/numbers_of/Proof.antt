@@ -1,6 +1,6 @@
 -- `scanned`: the scanner at the text's end has what the words of the text read.
 use borrow.Author.Needs.{needs}
-use Rattle.text.proofs.Gathering.{scanned}
+use Rattle.text.proofs.ScannedNumbers.{scanned}
 use Rattle.text.proofs.reading.numbers_of.Statement.{statement}
 use Rattle.text.proofs.reading.numbers_of.Tie as tie
 

@@ -4,7 +4,7 @@ use native.Mathlib.Omega.{arith}
 use mir.Syntax.{w32}
 use borrow.Author.Needs.{needs}
 use Rattle.integers.proofs.Ints.{back-of}
-use Rattle.text.specs.Scanning.{given}
+use Rattle.text.specs.Scanner.{given}
 use Rattle.text.specs.declared.reading.Reading.the-variants.{Number}
 use Rattle.text.proofs.Bytes.{negative-fits, negative-over, positive-fits, positive-over, instant-below, instant-above}
 use Rattle.text.proofs.reading.signed.Statement.{statement}
@@ -16,7 +16,8 @@ returns c = rw (c .before .if1 .taken, negative-over (c .before .before .args .m
 
 returns-2 : tie.Need-returns-2
 unfolding given
-returns-2 c = rw (c .before .before .if1 .taken, negative-fits (c .before .before .before .args .magnitude) (omega arith)) (ap Number (back-of w32 _ (c .start-of .ok) ∙ c .start-of .ensures ∙ instant-below (c .before .before .before .args .magnitude) (omega arith)))
+returns-2 c = rw (c .before .before .if1 .taken, negative-fits (c .before .before .before .args .magnitude) (omega arith))
+    (ap Number (back-of w32 _ (c .start-of .ok) ∙ c .start-of .ensures ∙ instant-below (c .before .before .before .args .magnitude) (omega arith)))
 
 returns-3 : tie.Need-returns-3
 unfolding given
@@ -24,7 +25,8 @@ returns-3 c = rw (c .before .if1 .left, positive-over (c .before .before .args .
 
 returns-4 : tie.Need-returns-4
 unfolding given
-returns-4 c = rw (c .before .before .if1 .left, positive-fits (c .before .before .before .args .magnitude) (omega arith)) (ap Number (back-of w32 _ (c .start-of2 .ok) ∙ c .start-of2 .ensures ∙ instant-above _))
+returns-4 c = rw (c .before .before .if1 .left, positive-fits (c .before .before .before .args .magnitude) (omega arith))
+    (ap Number (back-of w32 _ (c .start-of2 .ok) ∙ c .start-of2 .ensures ∙ instant-above _))
 
 pub signed-spec : {M : Type 1} → statement M
 signed-spec =

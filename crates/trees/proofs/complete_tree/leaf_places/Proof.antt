@@ -1,5 +1,4 @@
 -- `trees::complete_tree::leaf_places` meets its contract. The loop's invariant is `Placed`: the mapping has the places of the tasks passed.
--- Assumes nothing.
 use mathlib.Core.Path.{_≡_}
 use Prim.Native.Nat.{_≤_, _-_}
 use native.Mathlib.Omega.{arith}
@@ -20,16 +19,33 @@ loop-holds : tie.Need-loop-holds Inv-loop μ-loop
 loop-holds c = (omega arith, c .pre .1, λ j q. absurd (omega arith))
 
 mul-mapping : tie.Need-mul-mapping Inv-loop μ-loop
-mul-mapping c = omega (arith, task-below (c .before .before .before .args .count) (c .before .before .before .args .order .now) (c .before .before .before .pre .2) (c .before .before .loop .i) (c .before .loop-test .taken))
+mul-mapping c = omega (
+  arith,
+  task-below (c .before .before .before .args .count) (c .before .before .before .args .order .now) (c .before .before .before .pre .2) (c .before .before .loop .i)
+      (c .before .loop-test .taken),
+)
 
 element-write-mapping : tie.Need-element-write-mapping Inv-loop μ-loop
-element-write-mapping c = omega (arith, task-below (c .before .before .before .args .count) (c .before .before .before .args .order .now) (c .before .before .before .pre .2) (c .before .before .loop .i) (c .before .loop-test .taken), c .before .before .loop .inv .1)
+element-write-mapping c = omega (
+  arith,
+  task-below (c .before .before .before .args .count) (c .before .before .before .args .order .now) (c .before .before .before .pre .2)
+      (c .before .before .loop .i) (c .before .loop-test .taken),
+  c .before .before .loop .inv .1,
+)
 
 loop-again : tie.Need-loop-again Inv-loop μ-loop
-loop-again c = (omega arith, simp length-set (c .before .before .loop .inv .1), place-more (c .before .before .before .args .count) (c .before .before .before .args .order .now) (c .before .before .before .pre .2) (c .before .before .loop .mapping) (c .before .before .loop .i) (omega arith) (c .before .loop-test .taken) (c .before .before .loop .inv .2))
+loop-again c = (
+  omega arith,
+  simp length-set (c .before .before .loop .inv .1),
+  place-more (c .before .before .before .args .count) (c .before .before .before .args .order .now) (c .before .before .before .pre .2) (c .before .before .loop .mapping)
+      (c .before .before .loop .i) (omega arith) (c .before .loop-test .taken) (c .before .before .loop .inv .2),
+)
 
 returns : tie.Need-returns Inv-loop μ-loop
-returns c = (places-are (c .before .before .args .count) (c .before .before .args .order .now) (c .before .before .pre .2) (c .before .loop .mapping) (λ j q. c .before .loop .inv .2 j (omega arith)), c .before .loop .inv .1)
+returns c = (
+  places-are (c .before .before .args .count) (c .before .before .args .order .now) (c .before .before .pre .2) (c .before .loop .mapping) (λ j q. c .before .loop .inv .2 j (omega arith)),
+  c .before .loop .inv .1,
+)
 
 pub leaf-places-spec : {M : Type 1} → statement M
 leaf-places-spec =

@@ -1,7 +1,6 @@
 -- `trees::theta_lambda_tree::store` meets its contract.
--- Assumes nothing.
 use borrow.Author.Needs.{needs}
-use Rattle.trees.proofs.Storage.{stored}
+use Rattle.trees.proofs.NodeWords.{stored}
 use Rattle.trees.proofs.theta_lambda_tree.store.Statement.{statement}
 use Rattle.trees.proofs.theta_lambda_tree.store.Tie as tie
 

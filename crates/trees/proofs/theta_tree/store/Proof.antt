@@ -1,7 +1,6 @@
 -- `trees::theta_tree::store` meets its contract.
--- Assumes nothing.
 use borrow.Author.Needs.{needs}
-use Rattle.trees.proofs.Storage.{plain-stored}
+use Rattle.trees.proofs.NodeWords.{plain-stored}
 use Rattle.trees.proofs.theta_tree.store.Statement.{statement}
 use Rattle.trees.proofs.theta_tree.store.Tie as tie
 

@@ -6,11 +6,11 @@ use native.Mathlib.Omega.{arith}
 use borrow.Author.Tests.{not-true, not-false}
 use Rattle.integers.specs.Limits.{VALUE}
 use Rattle.scheduling.specs.Scheduling.{Atom}
-use Rattle.holes.specs.Holes.{Within}
-use Rattle.holes.proofs.Steps.{wider}
-use Rattle.atoms.specs.Atoms.{atomOf, atomFrom, rightAtom}
-use Rattle.atoms.proofs.Atoms.{right-atom}
-use Rattle.atoms.proofs.Read.{read-right, read-atom, made-known}
+use Rattle.integers.specs.WholeNumbers.{Within}
+use Rattle.integers.proofs.WholeNumbers.{wider}
+use Rattle.checking.specs.Atoms.{atomOf, atomFrom, rightAtom}
+use Rattle.checking.proofs.Atoms.{right-atom}
+use Rattle.checking.proofs.ReadWords.{read-right, read-atom, made-known}
 use Rattle.checking.specs.States.{Accepted, accepted, stepped, appliedTo}
 use Rattle.checking.proofs.Promises.{apply-promise}
 use borrow.Author.Needs.{needs}
@@ -36,11 +36,13 @@ made c = let f = c .before .before .before .before .before .fits in c .new .ensu
 
 returns : tie.Need-returns
 unfolding appliedTo
-returns c = let a = c .before .before .args in apply-promise (a .self) (a .variable) (a .kind) (a .value) (proper (c .before)) _ (rw (sym (c .before .is-accepted .ensures .0) ∙ not-true _ (c .if1 .taken)))
+returns c = let a = c .before .before .args in
+    apply-promise (a .self) (a .variable) (a .kind) (a .value) (proper (c .before)) _ (rw (sym (c .before .is-accepted .ensures .0) ∙ not-true _ (c .if1 .taken)))
 
 returns-2 : tie.Need-returns-2
 unfolding appliedTo
-returns-2 c = let a = c .before .before .before .before .args in apply-promise (a .self) (a .variable) (a .kind) (a .value) (proper (c .before .before .before)) _ (rw (state-right (c .before .before), tested (c .before) ∙ not-true _ (c .if2 .taken)))
+returns-2 c = let a = c .before .before .before .before .args in
+    apply-promise (a .self) (a .variable) (a .kind) (a .value) (proper (c .before .before .before)) _ (rw (state-right (c .before .before), tested (c .before) ∙ not-true _ (c .if2 .taken)))
 
 new-requires : tie.Need-new-requires
 new-requires c κs = sym (c .before .atom-is-accepted .ensures) ∙ not-false _ (c .if2 .left)
@@ -56,7 +58,8 @@ unfolding appliedTo
 returns-3 c =
     let right = c .before .before .before .before in
     let a = right .before .before .args in
-    apply-promise (a .self) (a .variable) (a .kind) (a .value) (proper (right .before)) _ (rw (state-right right, atom-right (c .before .before)) (c .apply-atom .ensures ∙ ap (stepped (a .self)) (made (c .before))))
+    apply-promise (a .self) (a .variable) (a .kind) (a .value) (proper (right .before)) _
+    (rw (state-right right, atom-right (c .before .before)) (c .apply-atom .ensures ∙ ap (stepped (a .self)) (made (c .before))))
 
 pub apply-spec : {M : Type 1} → statement M
 apply-spec =

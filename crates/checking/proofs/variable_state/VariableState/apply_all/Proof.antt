@@ -10,13 +10,13 @@ use mir.Syntax.{w32}
 use Rattle.integers.specs.Limits.{VARIABLES, VALUE}
 use Rattle.integers.proofs.Ints.{back-of}
 use Rattle.scheduling.specs.Scheduling.{Atom, given}
-use Rattle.holes.specs.Holes.{Within}
-use Rattle.atoms.specs.Atoms.{kindOf, atomOf, atomsOf, consequentOf, givenAt, rightFrom}
-use Rattle.atoms.proofs.Atoms.{right-lists}
-use Rattle.atoms.proofs.Given.{Next, givenFrom, given-start, right-start, given-end, next}
-use Rattle.domains.specs.declared.domain.Effect.the-variants.{Narrowed}
-use Rattle.domains.specs.declared.domain.Reduced.{Reduced}
-use Rattle.domains.specs.Domains.{reduced, Proper}
+use Rattle.integers.specs.WholeNumbers.{Within}
+use Rattle.checking.specs.Atoms.{kindOf, atomOf, atomsOf, consequentOf, givenAt, rightFrom}
+use Rattle.checking.proofs.Atoms.{right-lists}
+use Rattle.checking.proofs.Given.{Next, givenFrom, given-start, right-start, given-end, next}
+use Rattle.checking.specs.declared.domain.Effect.the-variants.{Narrowed}
+use Rattle.checking.specs.declared.domain.Reduced.{Reduced}
+use Rattle.checking.specs.Domains.{reduced, Proper}
 use Rattle.checking.specs.declared.variable_state.Application.the-variants.{Refused}
 use Rattle.checking.specs.declared.variable_state.VariableState.{VariableState}
 use Rattle.checking.specs.States.{Accepted, domainAt, put, emptyState, applyAll}
@@ -26,7 +26,10 @@ use Rattle.checking.proofs.variable_state.VariableState.apply_all.State
 use Rattle.checking.proofs.variable_state.VariableState.apply_all.Tie as tie
 
 abbrev Inv-loop : tie.InvT-loop
-Inv-loop premises consequent words domains₀ i₀ domains i = (i ≤ length premises + length consequent) × ((rightFrom premises consequent i ≡ true) × (Accepted (record { domains = domains }) × (applyAll (givenFrom premises consequent i) (record { domains = domains }) ≡ applyAll (given (atomsOf premises) (consequentOf consequent)) emptyState)))
+Inv-loop premises consequent words domains₀ i₀ domains i = (i ≤ length premises + length consequent)
+    × ((rightFrom premises consequent i ≡ true)
+    × (Accepted (record { domains = domains })
+    × (applyAll (givenFrom premises consequent i) (record { domains = domains }) ≡ applyAll (given (atomsOf premises) (consequentOf consequent)) emptyState)))
 
 abbrev μ-loop : tie.MeasureT-loop
 μ-loop premises consequent words domains₀ i₀ domains i = words - i
@@ -98,7 +101,8 @@ said c =
     c .apply .ensures ∙ ap (reduced (domainAt (state-at c) (a .identifier)) (kindOf (a .comparison))) (back-of w32 (a .value) small)
 
 -- the whole, with this atom still to be applied
-still : (c : tie.After-apply Inv-loop μ-loop) → let turn = read-at c .before in applyAll (given (atomsOf (ps turn)) (consequentOf (cs turn))) emptyState ≡ applyAll (atomOf (read-at c .given-at .result) ∷ rest c) (state-at c)
+still : (c : tie.After-apply Inv-loop μ-loop) → let turn = read-at c .before in
+    applyAll (given (atomsOf (ps turn)) (consequentOf (cs turn))) emptyState ≡ applyAll (atomOf (read-at c .given-at .result) ∷ rest c) (state-at c)
 still c =
     let l = loop-at c .loop in
     sym (l .inv .1 .1 .1) ∙ ap (λ (m : List Atom). applyAll m (state-at c)) (here (read-at c .before) .atoms ∙ ap (λ (a : Atom). a ∷ rest c) (sym (read-at c .given-at .ensures)))
@@ -123,7 +127,8 @@ returns-2 c =
     let a = atomOf (read-at applied .given-at .result) in
     let s = state-at applied in
     let r = applied .apply .result in
-    (λ i. record { answer = Refused 21; state = c .empty .ensures .0 i }) ∙ sym (still applied ∙ all-refused s a (rest applied) 21 s (stepped-is s a r (said applied) ∙ when-full s a r (c .before .enum-told3 .given .1)))
+    (λ i. record { answer = Refused 21; state = c .empty .ensures .0 i })
+    ∙ sym (still applied ∙ all-refused s a (rest applied) 21 s (stepped-is s a r (said applied) ∙ when-full s a r (c .before .enum-told3 .given .1)))
 
 loop-again : tie.Need-loop-again Inv-loop μ-loop
 loop-again c =
@@ -135,7 +140,8 @@ loop-again c =
     let turn = here (read-at applied .before) in
     let acc = loop-at applied .loop .inv .1 .1 .0 in
     let in-range = known (read-at applied) in
-    let proper : Proper (r .domain) = subst (λ (q : Reduced). q .effect ≡ Narrowed → Proper (q .domain)) (sym (said applied)) (reduced-proper (domainAt s (a .variable)) (a .kind) (a .value) (acc .each (a .variable) in-range .tight)) e in
+    let proper : Proper (r .domain) = subst (λ (q : Reduced). q .effect ≡ Narrowed → Proper (q .domain)) (sym (said applied))
+    (reduced-proper (domainAt s (a .variable)) (a .kind) (a .value) (acc .each (a .variable) in-range .tight)) e in
     let after = sym (all-consistent s a (rest applied) (put s (a .variable) (r .domain)) (stepped-is s a r (said applied) ∙ when-narrowed s a r e)) ∙ sym (still applied) in
     (turn .within, (turn .right, (put-accepted s (a .variable) (r .domain) acc in-range proper, after)))
 

@@ -4,9 +4,9 @@ use Prim.Native.Nat.{_+_}
 use mir.Syntax.{w32}
 use Rattle.integers.specs.Limits.{VALUE}
 use Rattle.integers.proofs.Ints.{back-of}
-use Rattle.holes.specs.Holes.{Within}
-use Rattle.atoms.specs.Atoms.{kindOf, atomOf}
-use Rattle.domains.specs.Domains.{reduced}
+use Rattle.integers.specs.WholeNumbers.{Within}
+use Rattle.checking.specs.Atoms.{kindOf, atomOf}
+use Rattle.checking.specs.Domains.{reduced}
 use Rattle.checking.specs.States.{domainAt}
 use Rattle.checking.proofs.States.{stepped-is, when-narrowed, when-emptied, when-full}
 use borrow.Author.Needs.{needs}
@@ -15,8 +15,10 @@ use Rattle.checking.proofs.variable_state.VariableState.apply_atom.Tie 
 
 apply-requires : tie.Need-apply-requires
 apply-requires c κs =
-    let s = c .before .before in
-    (s .pre .0 .each (s .args .atom .identifier) (s .pre .1 .0) .tight, subst (Within (VALUE + 1)) (sym (back-of w32 (s .args .atom .value) (c .before .struct-told .given .1 .1 .0 .1))) (s .pre .1 .1))
+    let s = c .before .before in (
+      s .pre .0 .each (s .args .atom .identifier) (s .pre .1 .0) .tight,
+      subst (Within (VALUE + 1)) (sym (back-of w32 (s .args .atom .value) (c .before .struct-told .given .1 .1 .0 .1))) (s .pre .1 .1),
+    )
 
 -- what the call says, of the atom's own value
 said : (c : tie.After-apply) → let a = c .before .before .before .args in c .apply .result ≡ reduced (domainAt (a .t1) (a .atom .identifier)) (kindOf (a .atom .comparison)) (a .atom .value)

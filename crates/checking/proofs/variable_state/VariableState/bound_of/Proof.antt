@@ -7,8 +7,8 @@ use lib.IntN.{ℤ, pos, natAbs}
 use lib.Signed.{_≤ℤ_}
 use Rattle.integers.specs.Limits.{VARIABLES}
 use Rattle.integers.proofs.Ints.{back}
-use Rattle.atoms.specs.Atoms.{rightVariable}
-use Rattle.atoms.proofs.Atoms.{right-variable}
+use Rattle.checking.specs.Atoms.{rightVariable}
+use Rattle.checking.proofs.Atoms.{right-variable}
 use Rattle.checking.specs.declared.variable_state.Bound.the-variants.{At}
 use Rattle.checking.specs.States.{Accepted, domainAt, accepted, boundOf}
 use borrow.Author.Needs.{needs}
@@ -49,14 +49,18 @@ element-copy-out-domain c = subst (λ (x : ℕ). x < VARIABLES) (sym (is c)) (ri
 returns-3 : tie.Need-returns-3
 unfolding boundOf
 returns-3 c =
-    let right = c .before .before .before .before .before in
-    (rw (state-right right, variable-right (c .before .before .before), c .if3 .taken) (ap (λ (x : ℕ). At (domainAt (right .before .before .args .t1) x .«lower_bound»)) (is (c .before .before))), proper (right .before))
+    let right = c .before .before .before .before .before in (
+      rw (state-right right, variable-right (c .before .before .before), c .if3 .taken) (ap (λ (x : ℕ). At (domainAt (right .before .before .args .t1) x .«lower_bound»)) (is (c .before .before))),
+      proper (right .before),
+    )
 
 returns-4 : tie.Need-returns-4
 unfolding boundOf
 returns-4 c =
-    let right = c .before .before .before .before .before in
-    (rw (state-right right, variable-right (c .before .before .before), c .if3 .left) (ap (λ (x : ℕ). At (domainAt (right .before .before .args .t1) x .«upper_bound»)) (is (c .before .before))), proper (right .before))
+    let right = c .before .before .before .before .before in (
+      rw (state-right right, variable-right (c .before .before .before), c .if3 .left) (ap (λ (x : ℕ). At (domainAt (right .before .before .args .t1) x .«upper_bound»)) (is (c .before .before))),
+      proper (right .before),
+    )
 
 pub bound-of-spec : {M : Type 1} → statement M
 bound-of-spec =

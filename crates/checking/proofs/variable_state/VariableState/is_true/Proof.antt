@@ -7,9 +7,9 @@ use borrow.Author.Tests.{not-true, not-false}
 use lib.IntN.{natAbs}
 use Rattle.integers.specs.Limits.{VARIABLES}
 use Rattle.integers.proofs.Ints.{back}
-use Rattle.atoms.specs.Atoms.{atomOf, atomFrom, rightAtom}
-use Rattle.atoms.proofs.Read.{read-right, read-atom, made-known}
-use Rattle.domains.specs.Domains.{isTrue}
+use Rattle.checking.specs.Atoms.{atomOf, atomFrom, rightAtom}
+use Rattle.checking.proofs.ReadWords.{read-right, read-atom, made-known}
+use Rattle.checking.specs.Domains.{isTrue}
 use Rattle.checking.specs.States.{Accepted, domainAt, accepted, truthOf}
 use Rattle.checking.proofs.Promises.{truth-promise}
 use borrow.Author.Needs.{needs}
@@ -38,11 +38,13 @@ known c = made-known _ _ _ (c .new .result) (made c) (atom-right (c .before))
 
 returns : tie.Need-returns
 unfolding truthOf
-returns c = let a = c .before .before .args in truth-promise (a .t1) (a .variable) (a .kind) (a .value) (proper (c .before)) _ (rw (sym (c .before .is-accepted .ensures .0) ∙ not-true _ (c .if1 .taken)))
+returns c = let a = c .before .before .args in
+    truth-promise (a .t1) (a .variable) (a .kind) (a .value) (proper (c .before)) _ (rw (sym (c .before .is-accepted .ensures .0) ∙ not-true _ (c .if1 .taken)))
 
 returns-2 : tie.Need-returns-2
 unfolding truthOf
-returns-2 c = let a = c .before .before .before .before .args in truth-promise (a .t1) (a .variable) (a .kind) (a .value) (proper (c .before .before .before)) _ (rw (state-right (c .before .before), tested (c .before) ∙ not-true _ (c .if2 .taken)))
+returns-2 c = let a = c .before .before .before .before .args in
+    truth-promise (a .t1) (a .variable) (a .kind) (a .value) (proper (c .before .before .before)) _ (rw (state-right (c .before .before), tested (c .before) ∙ not-true _ (c .if2 .taken)))
 
 new-requires : tie.Need-new-requires
 new-requires c κs = sym (c .before .atom-is-accepted .ensures) ∙ not-false _ (c .if2 .left)
@@ -59,7 +61,8 @@ is-true-requires c κs =
     proper (right .before) (state-right right) .each (c .before .new .result .identifier) (known (c .before)) .tight
 
 -- what the domain's own test says, of the atom's words
-said : (c : tie.After-is-true) → let new = c .before .before in let a = new .before .before .before .before .before .args in c .is-true .result ≡ isTrue (domainAt (a .t1) (natAbs (a .variable))) (natAbs (a .kind)) (a .value)
+said : (c : tie.After-is-true) → let new = c .before .before in let a = new .before .before .before .before .before .args in
+    c .is-true .result ≡ isTrue (domainAt (a .t1) (natAbs (a .variable))) (natAbs (a .kind)) (a .value)
 said c =
     let s = c .before .before .before .before .before .before .before in
     let m = made (c .before .before) in

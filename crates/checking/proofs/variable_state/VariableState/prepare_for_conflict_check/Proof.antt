@@ -10,7 +10,7 @@ use lib.Dec.{ltb}
 use lib.IntN.{ℤ}
 use lib.ListN.{length}
 use Rattle.integers.specs.Limits.{PREMISES}
-use Rattle.atoms.specs.Atoms.{rightLists}
+use Rattle.checking.specs.Atoms.{rightLists}
 use Rattle.checking.specs.declared.variable_state.Application.the-variants.{Refused}
 use Rattle.checking.specs.States.{prepared}
 use Rattle.checking.proofs.Promises.{prepare-promise}

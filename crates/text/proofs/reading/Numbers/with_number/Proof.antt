@@ -3,7 +3,7 @@ use mathlib.Core.Path.{sym}
 use borrow.Author.Tests.{not-true, not-false}
 use borrow.Author.Needs.{needs}
 use Rattle.integers.proofs.Ints.{back}
-use Rattle.text.proofs.Steps.{number-in, number-out}
+use Rattle.text.proofs.ScannerSteps.{number-in, number-out}
 use Rattle.text.proofs.reading.Numbers.with_number.Statement.{statement}
 use Rattle.text.proofs.reading.Numbers.with_number.Tie as tie
 

@@ -2,7 +2,7 @@
 use mir.Syntax.{w32}
 use borrow.Author.Needs.{needs}
 use Rattle.integers.proofs.Ints.{back-of}
-use Rattle.text.specs.Scanning.{withReading}
+use Rattle.text.specs.Scanner.{withReading}
 use Rattle.text.proofs.reading.Numbers.with_reading.Statement.{statement}
 use Rattle.text.proofs.reading.Numbers.with_reading.Tie as tie
 

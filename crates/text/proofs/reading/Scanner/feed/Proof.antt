@@ -5,7 +5,7 @@ use Prim.Native.Nat.{_-_, _≤_}
 use native.Mathlib.Omega.{arith}
 use lib.ListN.{length, drop}
 use borrow.Author.Needs.{needs}
-use Rattle.text.specs.Scanning.{stepOf}
+use Rattle.text.specs.Scanner.{stepOf}
 use Rattle.text.proofs.Folds.{fold-none, fold-more}
 use Rattle.text.proofs.reading.Scanner.feed.Statement.{statement}
 use Rattle.text.proofs.reading.Scanner.feed.Tie as tie

@@ -1,7 +1,7 @@
 -- What the last word reads, put behind the numbers.
 use mathlib.Core.Path.{ap, _∙_}
 use borrow.Author.Needs.{needs}
-use Rattle.text.specs.Scanning.{withReading}
+use Rattle.text.specs.Scanner.{withReading}
 use Rattle.text.proofs.reading.Scanner.finish.Statement.{statement}
 use Rattle.text.proofs.reading.Scanner.finish.Tie as tie
 

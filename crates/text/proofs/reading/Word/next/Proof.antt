@@ -1,7 +1,7 @@
 -- By the word, each way the definition's; in the empty word a minus goes before the digits.
 use borrow.Author.Tests.{eq-eqb, ne-eqb}
 use borrow.Author.Needs.{needs}
-use Rattle.text.specs.Scanning.{nextOf}
+use Rattle.text.specs.Scanner.{nextOf}
 use Rattle.text.proofs.reading.Word.next.Statement.{statement}
 use Rattle.text.proofs.reading.Word.next.Tie as tie
 

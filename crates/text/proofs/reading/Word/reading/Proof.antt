@@ -1,6 +1,6 @@
 -- By the word, each way the definition's.
 use borrow.Author.Needs.{needs}
-use Rattle.text.specs.Scanning.{readingOf}
+use Rattle.text.specs.Scanner.{readingOf}
 use Rattle.text.proofs.reading.Word.reading.Statement.{statement}
 use Rattle.text.proofs.reading.Word.reading.Tie as tie
 

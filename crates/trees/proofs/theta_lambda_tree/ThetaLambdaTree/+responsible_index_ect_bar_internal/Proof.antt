@@ -1,10 +1,9 @@
 -- The search by ects is `searchEct` over the leaves: each call goes down to one child, and the height left falls.
--- Assumes nothing.
 use Prim.Native.Nat.{ℕ, _<_}
 use borrow.Fn.Kinds.{In}
 use borrow.Fn.PlainCycle.{Measures, is, falls, and}
-use Rattle.nodes.proofs.theta_lambda_node.Around.step_ect_bar.Reads as step-reads
-use Rattle.trees.proofs.Steps.{by-ects}
+use Rattle.trees.proofs.theta_lambda_node.Around.step_ect_bar.Reads as step-reads
+use Rattle.trees.proofs.SearchSteps.{by-ects}
 use Rattle.trees.proofs.theta_lambda_tree.ThetaLambdaTree.responsible_index_ect_bar_internal.Reads as reads
 use Rattle.trees.proofs.theta_lambda_tree.ThetaLambdaTree.responsible_index_ect_bar_internal.Kinds as kinds
 use Rattle.trees.proofs.theta_lambda_tree.ThetaLambdaTree.+responsible_index_ect_bar_internal.Lts-responsible_index_ect_bar_internal as lts
@@ -27,7 +26,20 @@ module _ (t : ℕ) where
   below = and 1 kinds.ps (falls 1 kinds.ps _<_ μ t) reads.Pre
 
   abbrev claims : lts.Claims
-  claims = (around-reads.Asked, around-reads.Learnt, left-reads.Asked, left-reads.Learnt, right-reads.Asked, right-reads.Learnt, step-reads.Asked, step-reads.Learnt, below, reads.Post, p-reads.Asked, p-reads.Learnt)
+  claims = (
+    around-reads.Asked,
+    around-reads.Learnt,
+    left-reads.Asked,
+    left-reads.Learnt,
+    right-reads.Asked,
+    right-reads.Learnt,
+    step-reads.Asked,
+    step-reads.Learnt,
+    below,
+    reads.Post,
+    p-reads.Asked,
+    p-reads.Learnt,
+  )
 
 pub +responsible-index-ect-bar-internal-spec : {M : Type 1} → statement M
 +responsible-index-ect-bar-internal-spec =

@@ -1,10 +1,9 @@
 -- The search by sums is `searchP` over the leaves: each call goes down to one child, and the height left falls.
--- Assumes nothing.
 use Prim.Native.Nat.{ℕ, _<_}
 use borrow.Fn.Kinds.{In}
 use borrow.Fn.PlainCycle.{Measures, is, falls, and}
-use Rattle.nodes.proofs.theta_lambda_node.Around.step_p.Reads as step-reads
-use Rattle.trees.proofs.Steps.{by-sums}
+use Rattle.trees.proofs.theta_lambda_node.Around.step_p.Reads as step-reads
+use Rattle.trees.proofs.SearchSteps.{by-sums}
 use Rattle.trees.proofs.theta_lambda_tree.ThetaLambdaTree.responsible_index_p_internal.Reads as reads
 use Rattle.trees.proofs.theta_lambda_tree.ThetaLambdaTree.responsible_index_p_internal.Kinds as kinds
 use Rattle.trees.proofs.theta_lambda_tree.ThetaLambdaTree.+responsible_index_p_internal.Lts-responsible_index_p_internal as lts

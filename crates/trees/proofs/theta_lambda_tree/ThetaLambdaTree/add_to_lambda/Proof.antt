@@ -1,22 +1,22 @@
 -- `trees::theta_lambda_tree::ThetaLambdaTree::add_to_lambda` meets its contract.
--- Assumes nothing.
 use mathlib.Core.Path.{_≡_, ap₂}
 use mathlib.Core.List.{List}
 use Prim.Native.Nat.{ℕ, _+_}
 use native.Mathlib.Omega.{arith}
 use borrow.Author.Needs.{needs}
 use Rattle.scheduling.specs.Scheduling.{natural, Tasks}
-use Rattle.nodes.specs.Nodes.{grayOf}
-use Rattle.nodes.proofs.Joins.{additive}
+use Rattle.trees.specs.Nodes.{grayOf}
+use Rattle.trees.proofs.Joins.{additive}
 use Rattle.trees.specs.Leaves.{gray, startAt, durationAt}
 use Rattle.trees.specs.Operations.{HasTask}
-use Rattle.trees.proofs.Wiring.{put-fits}
+use Rattle.trees.proofs.ArrayTrees.{put-fits}
 use Rattle.trees.proofs.Trees.{may-put, was-put}
 use Rattle.trees.proofs.theta_lambda_tree.ThetaLambdaTree.add_to_lambda.Statement.{statement}
 use Rattle.trees.proofs.theta_lambda_tree.ThetaLambdaTree.add_to_lambda.Tie as tie
 
 -- the node of the task's gray leaf
-node-is : {J : Tasks natural} {estOrder : List ℕ} {place e p : ℕ} → HasTask J estOrder place e p → grayOf (e + p) p ≡ grayOf (startAt J estOrder place + durationAt J estOrder place) (durationAt J estOrder place)
+node-is : {J : Tasks natural} {estOrder : List ℕ} {place e p : ℕ} → HasTask J estOrder place e p
+    → grayOf (e + p) p ≡ grayOf (startAt J estOrder place + durationAt J estOrder place) (durationAt J estOrder place)
 node-is h = ap₂ (λ (e p : ℕ). grayOf (e + p) p) (h .start) (h .lasts)
 
 add-ect : tie.Need-add-ect

@@ -1,6 +1,5 @@
 -- `trees::theta_lambda_tree::ThetaLambdaTree::around` meets its contract.
--- Assumes nothing.
-use Rattle.trees.proofs.Steps.{reads}
+use Rattle.trees.proofs.SearchSteps.{reads}
 use Rattle.trees.proofs.theta_lambda_tree.ThetaLambdaTree.around.Statement.{statement}
 use Rattle.trees.proofs.theta_lambda_tree.ThetaLambdaTree.around.Tie as tie
 

@@ -1,9 +1,8 @@
 -- `trees::theta_lambda_tree::ThetaLambdaTree::ect_bar` meets its contract.
--- Assumes nothing.
 use mathlib.Core.Path.{ap, _∙_}
 use borrow.Author.Needs.{needs}
-use Rattle.nodes.specs.declared.theta_lambda_node.Node.{Node}
-use Rattle.ects.specs.Ects.{decoded}
+use Rattle.trees.specs.declared.theta_lambda_node.Node.{Node}
+use Rattle.trees.specs.Ects.{decoded}
 use Rattle.trees.proofs.Trees.{root-of}
 use Rattle.trees.proofs.theta_lambda_tree.ThetaLambdaTree.ect_bar.Statement.{statement}
 use Rattle.trees.proofs.theta_lambda_tree.ThetaLambdaTree.ect_bar.Tie as tie

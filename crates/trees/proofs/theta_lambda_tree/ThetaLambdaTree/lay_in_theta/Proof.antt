@@ -1,23 +1,23 @@
 -- `trees::theta_lambda_tree::ThetaLambdaTree::lay_in_theta` meets its contract.
--- Assumes nothing.
 use mathlib.Core.Path.{_≡_, ap, ap₂, _∙_}
 use mathlib.Core.List.{List}
 use Prim.Native.Nat.{ℕ, _+_}
 use native.Mathlib.Omega.{arith}
 use borrow.Author.Needs.{needs}
 use Rattle.scheduling.specs.Scheduling.{natural, Tasks}
-use Rattle.nodes.specs.declared.theta_lambda_node.Node.{Node}
-use Rattle.nodes.specs.Nodes.{whiteOf}
+use Rattle.trees.specs.declared.theta_lambda_node.Node.{Node}
+use Rattle.trees.specs.Nodes.{whiteOf}
 use Rattle.trees.specs.Arrays.{changed}
 use Rattle.trees.specs.Words.{nodeAt}
 use Rattle.trees.specs.Leaves.{white, startAt, durationAt}
 use Rattle.trees.specs.Operations.{HasTask}
-use Rattle.trees.proofs.Rebuilding.{Layable, may-lay, was-laid}
+use Rattle.trees.proofs.RebuiltTrees.{Layable, may-lay, was-laid}
 use Rattle.trees.proofs.theta_lambda_tree.ThetaLambdaTree.lay_in_theta.Statement.{statement}
 use Rattle.trees.proofs.theta_lambda_tree.ThetaLambdaTree.lay_in_theta.Tie as tie
 
 -- the node of the task's white leaf
-node-is : {J : Tasks natural} {estOrder : List ℕ} {place e p : ℕ} → HasTask J estOrder place e p → whiteOf (e + p) p ≡ whiteOf (startAt J estOrder place + durationAt J estOrder place) (durationAt J estOrder place)
+node-is : {J : Tasks natural} {estOrder : List ℕ} {place e p : ℕ} → HasTask J estOrder place e p
+    → whiteOf (e + p) p ≡ whiteOf (startAt J estOrder place + durationAt J estOrder place) (durationAt J estOrder place)
 node-is h = ap₂ (λ (e p : ℕ). whiteOf (e + p) p) (h .start) (h .lasts)
 
 -- it may stand there

@@ -1,14 +1,13 @@
 -- `trees::theta_lambda_tree::ThetaLambdaTree::next_in_theta` meets its contract. The loop's invariant: no leaf passed is white.
--- Assumes nothing.
 use mathlib.Core.Path.{_≡_, sym, ap, _∙_}
 use mathlib.Core.Bool.{not, false}
 use Prim.Native.Nat.{ℕ, _-_, _≤_, _<_}
 use native.Mathlib.Omega.{arith}
 use borrow.Author.Tests.{eq-eqb, ne-eqb}
 use borrow.Author.Needs.{needs}
-use Rattle.nodes.specs.declared.theta_lambda_node.Node.{Node}
-use Rattle.trees.specs.Searching.{whiteIn}
-use Rattle.trees.proofs.Thetas.{passed-more}
+use Rattle.trees.specs.declared.theta_lambda_node.Node.{Node}
+use Rattle.trees.specs.ArraySearches.{whiteIn}
+use Rattle.trees.proofs.WhiteTasks.{passed-more}
 use Rattle.trees.proofs.theta_lambda_tree.ThetaLambdaTree.next_in_theta.Statement.{statement}
 use Rattle.trees.proofs.theta_lambda_tree.ThetaLambdaTree.next_in_theta.Tie as tie
 
@@ -34,8 +33,12 @@ loop-again : tie.Need-loop-again Inv-loop μ-loop
 unfolding whiteIn
 loop-again c =
     let l = c .before .before .before .before .loop in
-    let a = c .before .before .before .before .before .args in
-    (omega (arith, l .inv .0), omega arith, passed-more (whiteIn (a .nodes .now) (a .inner)) (a .place .0) (l .x) (l .inv .2) (ap not (eq-eqb _ 0 (sym (ap ect (c .before .before .load .ensures)) ∙ c .if1 .left))))
+    let a = c .before .before .before .before .before .args in (
+      omega (arith, l .inv .0),
+      omega arith,
+      passed-more (whiteIn (a .nodes .now) (a .inner)) (a .place .0) (l .x) (l .inv .2)
+          (ap not (eq-eqb _ 0 (sym (ap ect (c .before .before .load .ensures)) ∙ c .if1 .left))),
+    )
 
 returns-2 : tie.Need-returns-2 Inv-loop μ-loop
 returns-2 c = let l = c .before .loop in record { from = l .inv .0; to = l .inv .1; passed = l .inv .2; found = λ h. absurd (omega arith) }

@@ -1,6 +1,5 @@
 -- `trees::theta_lambda_tree::ThetaLambdaTree::put` meets its contract. The leaf is stored, and `upheap` makes the rest right again.
--- Assumes nothing.
-use Rattle.trees.proofs.Wiring.{puts}
+use Rattle.trees.proofs.ArrayTrees.{puts}
 use Rattle.trees.proofs.theta_lambda_tree.ThetaLambdaTree.put.Statement.{statement}
 use Rattle.trees.proofs.theta_lambda_tree.ThetaLambdaTree.put.Tie as tie
 

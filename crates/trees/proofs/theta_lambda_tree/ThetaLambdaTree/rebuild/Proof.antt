@@ -1,12 +1,11 @@
 -- `trees::theta_lambda_tree::ThetaLambdaTree::rebuild` meets its contract. The loop's invariant is `DuringRebuild`: the leaves stay, and every inner node from i on is right.
--- Assumes nothing.
 use mathlib.Core.Path.{_≡_}
 use native.Mathlib.Omega.{arith}
 use lib.ListN.{length}
 use Rattle.integers.specs.Limits.{TREEWORDS}
-use Rattle.nodes.proofs.Joins.{additive}
+use Rattle.trees.proofs.Joins.{additive}
 use Rattle.trees.specs.Words.{nodeAt}
-use Rattle.trees.proofs.Rebuilding.{DuringRebuild, begin, built, rebuilds, may-rebuild, was-rebuilt}
+use Rattle.trees.proofs.RebuiltTrees.{DuringRebuild, begin, built, rebuilds, may-rebuild, was-rebuilt}
 use Rattle.trees.proofs.theta_lambda_tree.ThetaLambdaTree.rebuild.Statement.{statement}
 use Rattle.trees.proofs.theta_lambda_tree.ThetaLambdaTree.rebuild.Tie as tie
 

@@ -1,5 +1,4 @@
 -- `trees::theta_lambda_tree::ThetaLambdaTree::remove_from_lambda` meets its contract.
--- Assumes nothing.
 use mathlib.Core.Path.{refl}
 use borrow.Author.Needs.{needs}
 use Rattle.trees.specs.Leaves.{empty}

@@ -1,12 +1,11 @@
 -- `trees::theta_lambda_tree::ThetaLambdaTree::responsible_ect_bar` meets its contract. The position that the search answers is that of a task's leaf, since the leaves past the tasks are not gray.
--- Assumes nothing.
 use mathlib.Core.Path.{_≡_, sym, ap, _∙_}
 use Prim.Native.Nat.{ℕ}
 use native.Mathlib.Omega.{arith}
 use lib.ListN.{getD}
-use Rattle.trees.specs.Searching.{responsibleOf}
+use Rattle.trees.specs.ArraySearches.{responsibleOf}
 use Rattle.trees.specs.Words.{nodeAt}
-use Rattle.trees.proofs.Steps.{Searchable, answer-at, no-answer, task-is}
+use Rattle.trees.proofs.SearchSteps.{Searchable, answer-at, no-answer, task-is}
 use Rattle.trees.proofs.Trees.{searchable, responsible-of}
 use Rattle.trees.proofs.theta_lambda_tree.ThetaLambdaTree.responsible_ect_bar.Statement.{statement}
 use Rattle.trees.proofs.theta_lambda_tree.ThetaLambdaTree.responsible_ect_bar.Tie as tie
@@ -17,7 +16,8 @@ asked c = let (h, z) = c .pre in searchable (h .limited) (h .tree) (c .args .hei
 
 returns : tie.Need-returns
 returns c = λ h z. let a = c .before .before .args in
-    sym (ap (responsibleOf (a .reverse-mapping .now)) (no-answer (a .inner) (a .height) (nodeAt (a .nodes .now)) (asked (c .before .before)) _ (c .before .responsible-index-ect-bar-internal .ensures) (c .if1 .taken)))
+    sym (ap (responsibleOf (a .reverse-mapping .now))
+    (no-answer (a .inner) (a .height) (nodeAt (a .nodes .now)) (asked (c .before .before)) _ (c .before .responsible-index-ect-bar-internal .ensures) (c .if1 .taken)))
     ∙ ap (responsibleOf (a .reverse-mapping .now)) (responsible-of (h .limited) (h .tree) (a .height) z)
 
 get-leaf-node-index-requires : tie.Need-get-leaf-node-index-requires
@@ -34,7 +34,8 @@ task-of-requires c κs =
 returns-2 : tie.Need-returns-2
 returns-2 c = λ h z.
     let a = c .before .before .before .before .args in
-    let w = answer-at (a .inner) (a .height) (nodeAt (a .nodes .now)) (asked (c .before .before .before .before)) _ (c .before .before .before .responsible-index-ect-bar-internal .ensures) (c .before .before .if1 .left) in
+    let w = answer-at (a .inner) (a .height) (nodeAt (a .nodes .now)) (asked (c .before .before .before .before)) _ (c .before .before .before .responsible-index-ect-bar-internal .ensures)
+    (c .before .before .if1 .left) in
     let p : c .before .get-leaf-node-index .result .0 ≡ w .place = c .before .get-leaf-node-index .ensures ∙ omega (arith, w .is) in
     task-is _ _ _ _ (w .same) (c .task-of .ensures ∙ ap (λ (k : ℕ). getD (a .reverse-mapping .now) k 0) p)
     ∙ ap (responsibleOf (a .reverse-mapping .now)) (responsible-of (h .limited) (h .tree) (a .height) z)

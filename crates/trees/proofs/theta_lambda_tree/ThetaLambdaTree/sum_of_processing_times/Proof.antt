@@ -1,8 +1,7 @@
 -- `trees::theta_lambda_tree::ThetaLambdaTree::sum_of_processing_times` meets its contract.
--- Assumes nothing.
 use mathlib.Core.Path.{ap, _∙_}
 use borrow.Author.Needs.{needs}
-use Rattle.nodes.specs.declared.theta_lambda_node.Node.{Node}
+use Rattle.trees.specs.declared.theta_lambda_node.Node.{Node}
 use Rattle.trees.proofs.Trees.{root-of}
 use Rattle.trees.proofs.theta_lambda_tree.ThetaLambdaTree.sum_of_processing_times.Statement.{statement}
 use Rattle.trees.proofs.theta_lambda_tree.ThetaLambdaTree.sum_of_processing_times.Tie as tie

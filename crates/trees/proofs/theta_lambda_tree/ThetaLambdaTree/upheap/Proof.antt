@@ -1,11 +1,10 @@
 -- `trees::theta_lambda_tree::ThetaLambdaTree::upheap` meets its contract. The loop's invariant is `DuringUpheap`: the leaves stay, and the parent of node i alone is not yet right.
--- Assumes nothing.
 use mathlib.Core.Path.{_≡_}
 use lib.ListN.{length}
 use Rattle.integers.specs.Limits.{TREEWORDS}
-use Rattle.nodes.proofs.Joins.{additive}
+use Rattle.trees.proofs.Joins.{additive}
 use Rattle.trees.specs.Words.{nodeAt}
-use Rattle.trees.proofs.Wiring.{DuringUpheap, upheaps}
+use Rattle.trees.proofs.ArrayTrees.{DuringUpheap, upheaps}
 use Rattle.trees.proofs.theta_lambda_tree.ThetaLambdaTree.upheap.Statement.{statement}
 use Rattle.trees.proofs.theta_lambda_tree.ThetaLambdaTree.upheap.Tie as tie
 

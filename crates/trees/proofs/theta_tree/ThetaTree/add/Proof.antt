@@ -1,22 +1,22 @@
 -- `trees::theta_tree::ThetaTree::add` meets its contract.
--- Assumes nothing.
 use mathlib.Core.Path.{_≡_, ap₂}
 use mathlib.Core.List.{List}
 use Prim.Native.Nat.{ℕ, _+_}
 use native.Mathlib.Omega.{arith}
 use borrow.Author.Needs.{needs}
 use Rattle.scheduling.specs.Scheduling.{natural, Tasks}
-use Rattle.nodes.specs.Nodes.{plainOf}
-use Rattle.nodes.proofs.Joins.{plain-additive}
+use Rattle.trees.specs.Nodes.{plainOf}
+use Rattle.trees.proofs.Joins.{plain-additive}
 use Rattle.trees.specs.Leaves.{white, startAt, durationAt}
 use Rattle.trees.specs.Operations.{HasTask}
-use Rattle.trees.proofs.Wiring.{put-fits}
+use Rattle.trees.proofs.ArrayTrees.{put-fits}
 use Rattle.trees.proofs.Trees.{may-put-plain, was-put-plain}
 use Rattle.trees.proofs.theta_tree.ThetaTree.add.Statement.{statement}
 use Rattle.trees.proofs.theta_tree.ThetaTree.add.Tie as tie
 
 -- the node of the task's white leaf
-node-is : {J : Tasks natural} {estOrder : List ℕ} {place e p : ℕ} → HasTask J estOrder place e p → plainOf (e + p) p ≡ plainOf (startAt J estOrder place + durationAt J estOrder place) (durationAt J estOrder place)
+node-is : {J : Tasks natural} {estOrder : List ℕ} {place e p : ℕ} → HasTask J estOrder place e p
+    → plainOf (e + p) p ≡ plainOf (startAt J estOrder place + durationAt J estOrder place) (durationAt J estOrder place)
 node-is h = ap₂ (λ (e p : ℕ). plainOf (e + p) p) (h .start) (h .lasts)
 
 add-ect : tie.Need-add-ect

@@ -1,9 +1,8 @@
 -- `trees::theta_tree::ThetaTree::ect` meets its contract.
--- Assumes nothing.
 use mathlib.Core.Path.{ap, _∙_}
 use borrow.Author.Needs.{needs}
-use Rattle.nodes.specs.declared.theta_node.Node.{Node}
-use Rattle.ects.specs.Ects.{decoded}
+use Rattle.trees.specs.declared.theta_node.Node.{Node}
+use Rattle.trees.specs.Ects.{decoded}
 use Rattle.trees.proofs.Trees.{plain-root-of}
 use Rattle.trees.proofs.theta_tree.ThetaTree.ect.Statement.{statement}
 use Rattle.trees.proofs.theta_tree.ThetaTree.ect.Tie as tie

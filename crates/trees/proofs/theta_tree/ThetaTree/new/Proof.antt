@@ -1,5 +1,4 @@
 -- `trees::theta_tree::ThetaTree::new` meets its contract.
--- Assumes nothing.
 use mathlib.Core.Path.{refl, sym, ap, _∙_}
 use Prim.Native.Nat.{ℕ}
 use borrow.Author.Needs.{needs}

@@ -1,0 +1,23 @@
+-- `call_answers::ext_numbers` meets its contract.
+use mathlib.Core.Path.{sym, _∙_}
+use mir.Syntax.{w32}
+use Rattle.integers.proofs.Ints.{back-of}
+use Rattle.checking.specs.declared.int_ext.IntExt.the-variants.{Int}
+use Rattle.checking.specs.Answers.{extNumbers}
+use Rattle.answers.specs.SourceAnswers.{stateAnswer}
+use borrow.Author.Needs.{needs}
+use Rattle.answers.proofs.source_calls.ext_numbers.Statement.{statement}
+use Rattle.answers.proofs.source_calls.ext_numbers.Tie as tie
+
+returns : tie.Need-returns
+returns c = (λ i. stateAnswer (extNumbers (Int (back-of w32 (c .before .bound .given .0 .0) (c .known-told .given .0 .1) i)))) ∙ sym (λ i. stateAnswer (extNumbers (c .before .bound .given .1 i)))
+
+returns-2 : tie.Need-returns-2
+returns-2 c = sym (λ i. stateAnswer (extNumbers (c .enum-told .given .1 i)))
+
+returns-3 : tie.Need-returns-3
+returns-3 c = sym (λ i. stateAnswer (extNumbers (c .enum-told2 .given .1 i)))
+
+pub ext-numbers-spec : {M : Type 1} → statement M
+ext-numbers-spec =
+    tie.close (tie.spec (λ c. search needs) (λ c. search needs) (λ c. search needs) returns returns-2 returns-3)

@@ -1,0 +1,35 @@
+-- The answers of the calls beside the run as structs: the kind, the number, and the values in their places; a value that its case does not have is 0.
+-- Different answers of one call are different structs (proofs/RequestsApart.antt).
+use Rattle.integers.specs.Answers.{Answer}
+use Rattle.post_words.specs.Posts.{wordsOf}
+use Rattle.charges.specs.declared.answer.Charges.{Charges}
+use Rattle.charges.specs.Numbers.{chargesNumbers}
+use Rattle.answers.specs.declared.added_calls.MirroredAnswer.{MirroredAnswer}
+use Rattle.answers.specs.declared.added_calls.CountAnswer.{CountAnswer}
+use Rattle.answers.specs.declared.added_calls.ChangeAnswer.{ChangeAnswer}
+use Rattle.answers.specs.declared.added_calls.StartAnswer.{StartAnswer}
+use Rattle.answers.specs.declared.added_calls.BusiestAnswer.{BusiestAnswer}
+use Rattle.answers.specs.declared.added_calls.ChargesAnswer.{ChargesAnswer}
+use Rattle.answers.specs.SourceAnswers.{valueAt, natAt}
+
+-- a mirrored pass: its post count and, of an overload's reason, the first word's index and the word count
+abbrev pub mirroredAnswer : Answer → MirroredAnswer
+mirroredAnswer a = record { kind = a .kind; number = a .number; posts = natAt 0 a; first = wordsOf (natAt 1 a); count = wordsOf (natAt 2 a) }
+
+-- the tasks read, the bytes, the task or the atoms
+abbrev pub countAnswer : Answer → CountAnswer
+countAnswer a = record { kind = a .kind; number = a .number; count = natAt 0 a }
+
+abbrev pub changeAnswer : Answer → ChangeAnswer
+changeAnswer a = record { kind = a .kind; number = a .number }
+
+abbrev pub startAnswer : Answer → StartAnswer
+startAnswer a = record { kind = a .kind; number = a .number; start = valueAt 0 a }
+
+-- the covered time and the stretch's start
+abbrev pub busiestAnswer : Answer → BusiestAnswer
+busiestAnswer a = record { kind = a .kind; number = a .number; time = natAt 0 a; start = valueAt 1 a }
+
+-- the numbers of the charges, and their bill as it is
+abbrev pub chargesAnswer : Charges → ChargesAnswer
+chargesAnswer c = record { kind = chargesNumbers c .kind; number = chargesNumbers c .number; total = c .bill .total; charges = c .bill .charges }

@@ -1,0 +1,66 @@
+-- An answer by the papers' numbers as a struct: the kind, the number, and the values in their places; a value that its case does not have is 0.
+-- Different answers are different structs (proofs/Apart.antt).
+use mathlib.Core.Path.{_≡_}
+use mathlib.Core.Bool.{cond}
+use Prim.Native.Nat.{ℕ, _+_, _^_, _<_}
+use lib.Dec.{eqb}
+use lib.IntN.{ℤ, pos, natAbs}
+use lib.ListN.{getD}
+use Rattle.integers.specs.Answers.{Answer}
+use Rattle.checking.specs.declared.variable_state.Application.{Application}
+use Rattle.checking.specs.declared.variable_state.Application.the-variants as application
+use Rattle.checking.specs.Answers.{applicationNumbers}
+use Rattle.post_words.specs.Posts.{wordsOf}
+use Rattle.runs.specs.declared.outcome.Outcome.{Outcome}
+use Rattle.runs.specs.Outcomes.{valueOf}
+use Rattle.answers.specs.declared.source_calls.RunAnswer.{RunAnswer}
+use Rattle.answers.specs.declared.source_calls.CheckAnswer.{CheckAnswer}
+use Rattle.answers.specs.declared.source_calls.StateAnswer.{StateAnswer}
+
+-- the value at a place, and the same as a natural number
+abbrev pub valueAt : ℕ → Answer → ℤ
+valueAt k a = getD (a .values) k (pos 0)
+
+abbrev pub natAt : ℕ → Answer → ℕ
+natAt k a = natAbs (valueAt k a)
+
+-- An overload's reason is told in words, as a post's is, and an atom has three: a usize counts those up to its end.
+abbrev pub ToldInWords : Outcome → Type 0
+ToldInWords o = wordsOf (valueOf o 1) + wordsOf (valueOf o 2) < 2 ^ 64
+
+-- a run: its post count and, of an overload's reason, the first word's index and the word count; and its leaf changes
+abbrev pub runAnswer : Answer → ℕ → RunAnswer
+runAnswer a changed = record {
+  kind = a .kind;
+  number = a .number;
+  posts = natAt 0 a;
+  first = wordsOf (natAt 1 a);
+  count = wordsOf (natAt 2 a);
+  changes = changed;
+}
+
+-- a check: a contradiction's variable
+abbrev pub checkAnswer : Answer → CheckAnswer
+checkAnswer a = record { kind = a .kind; number = a .number; variable = natAt 0 a }
+
+-- a question to a state: a contradiction, which is kind 2, has its variable; a bound has an infinity's sign, or 0, and the whole number
+abbrev pub stateAnswer : Answer → StateAnswer
+stateAnswer a = record {
+  kind = a .kind;
+  number = a .number;
+  variable = cond (eqb (a .kind) 2) (natAt 0 a) 0;
+  infinity = cond (eqb (a .kind) 2) (pos 0) (valueAt 0 a);
+  value = valueAt 1 a;
+}
+
+-- what the state says, unless the premises lead to none: 21 or a contradiction
+abbrev pub askedAt : Application → StateAnswer → StateAnswer
+askedAt application.Consistent here = here
+askedAt (application.Contradiction x) here = stateAnswer (applicationNumbers (application.Contradiction x))
+askedAt (application.Refused n) here = stateAnswer (applicationNumbers (application.Refused n))
+
+-- a is made of the numbers of an answer of which P holds
+pub record NumbersOf {R A : Type 0} (numbers : R → A) (P : R → Type 0) (a : A) : Type 0 where
+  pub answer : R
+  pub are : a ≡ numbers answer
+  pub promised : P answer

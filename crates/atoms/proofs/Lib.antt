@@ -1,4 +1,0 @@
-pub mod Atoms
-pub mod Right
-pub mod Read
-pub mod Given

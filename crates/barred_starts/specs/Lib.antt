@@ -1,5 +1,0 @@
-pub mod Bars
-pub mod Moves
-pub mod Ranges
-pub mod Permitted
-pub mod Examples

@@ -1,4 +1,0 @@
-pub mod Meeting
-pub mod Posting
-pub mod Considering
-pub mod Turning

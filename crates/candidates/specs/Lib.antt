@@ -1,2 +1,0 @@
-pub mod RunArrays
-pub mod Turns

@@ -1,0 +1,83 @@
+-- The invariant: `gathered` is the interval of the chosen ones among the first i tasks, for every reading of the arrays as tasks and a set.
+use mathlib.Core.Path.{_≡_, sym, ap, subst, _∙_}
+use mathlib.Core.Bool.{Bool}
+use mathlib.Core.List.{List}
+use Prim.Native.Nat.{ℕ, _+_, _-_, _^_, _≤_, _<_}
+use native.Mathlib.Omega.{arith}
+use lib.ListN.{getD}
+use borrow.Author.Needs.{needs}
+use Rattle.scheduling.specs.Scheduling.{natural, Tasks, TaskSet}
+use Rattle.checker.specs.declared.intervals.Interval.{Interval}
+use Rattle.chosen_sets.specs.TaskArrays.{Held, Late}
+use Rattle.checker.specs.BoundArrays.{intervalOf}
+use Rattle.checker.proofs.TaskLoop.{none-gathered, duration-fits, start-fits, latest-fits, completion-fits, sum-fits, next-gathered}
+use Rattle.checker.proofs.intervals.gather.Statement.{statement}
+use Rattle.checker.proofs.intervals.gather.Tie as tie
+
+-- the tasks below i are gathered
+record Loop (chosen : List Bool) (est lst durations : List ℕ) (n : ℕ) (v : Interval) (i : ℕ) : Type 0 where
+  some : (J : Tasks natural) × (Ω : TaskSet) × Held J Ω n chosen est durations × Late J n lst
+  at : (J : Tasks natural) (Ω : TaskSet) → Held J Ω n chosen est durations → Late J n lst → v ≡ intervalOf J Ω i
+  small : i ≤ n
+
+abbrev Inv-loop : tie.InvT-loop
+Inv-loop chosen est lst durations n gathered₀ i₀ gathered i = Loop chosen est lst durations n gathered i
+
+abbrev μ-loop : tie.MeasureT-loop
+μ-loop chosen est lst durations n gathered₀ i₀ gathered i = n - i
+
+inside : (c : tie.In-loop Inv-loop μ-loop) → c .before .loop .i < c .before .before .args .n
+inside c = omega arith
+
+loop-holds : tie.Need-loop-holds Inv-loop μ-loop
+loop-holds c = record { some = c .pre; at = λ J Ω h l. none-gathered J Ω; small = omega arith }
+
+cast-p : tie.Need-cast-p Inv-loop μ-loop
+cast-p c =
+    let v = c .before .before .loop .inv .some in
+    record { fits = duration-fits (v .2) (v .3) (c .before .before .loop .i) (inside (c .before)) }
+
+cast-with : tie.Need-cast-with Inv-loop μ-loop
+cast-with c =
+    let v = c .before .before .before .before .loop .inv .some in
+    record { fits = start-fits (v .2) (v .3) (c .before .before .before .before .loop .i) (inside (c .before .before .before)) }
+
+cast-with-2 : tie.Need-cast-with-2 Inv-loop μ-loop
+cast-with-2 c =
+    let v = c .before .before .before .before .before .loop .inv .some in
+    record { fits = latest-fits (v .2) (v .3) (c .before .before .before .before .before .loop .i) (inside (c .before .before .before .before)) }
+
+add-with : tie.Need-add-with Inv-loop μ-loop
+add-with c =
+    let v = c .before .before .before .before .before .loop .inv .some in
+    omega (arith, completion-fits (v .2) (v .3) (c .before .before .before .before .before .loop .i) (inside (c .before .before .before .before)))
+
+with-requires : tie.Need-with-requires Inv-loop μ-loop
+with-requires c κs =
+    let head = c .before .before .before .before .before in
+    let w = head .loop .inv in
+    let v = w .some in
+    let i = head .loop .i in
+    let d = getD (head .before .args .durations .now) i 0 in
+    subst (λ (x : Interval). x .p + d < 2 ^ 64) (sym (w .at (v .0) (v .1) (v .2) (v .3))) (sum-fits (v .2) (v .3) i (inside (c .before .before .before .before)))
+
+loop-again : tie.Need-loop-again Inv-loop μ-loop
+loop-again c =
+    let l = c .before .before .before .before .before .before .loop in
+    let q = inside (c .before .before .before .before .before) in
+    record {
+      some = l .inv .some;
+      at = λ J Ω h late. next-gathered h late (l .i) q (l .gathered) (c .with .result) (l .inv .at J Ω h late) (c .with .ensures);
+      small = omega (arith, q);
+    }
+
+returns : tie.Need-returns Inv-loop μ-loop
+returns c = λ J Ω h late. let l = c .before .loop in let e : l .i ≡ c .before .before .args .n = omega (arith, l .inv .small) in l .inv .at J Ω h late ∙ ap (intervalOf J Ω) e
+
+pub gather-spec : {M : Type 1} → statement M
+gather-spec =
+    tie.close
+    (tie.spec
+    Inv-loop μ-loop loop-holds (λ c. search needs) (λ c. search needs) cast-p (λ c. search needs) (λ c. search needs)
+    (λ c. search needs) cast-with (λ c. search needs) (λ c. search needs) cast-with-2 add-with with-requires
+    (λ c. search needs) (λ c. search needs) loop-again returns)

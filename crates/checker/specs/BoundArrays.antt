@@ -1,0 +1,45 @@
+-- What the code of the formula holds: the bounds of the tasks in arrays, and what the loop gathers.
+use mathlib.Core.Bool.{Bool, true, false, cond}
+use mathlib.Core.List.{List}
+use Prim.Native.Nat.{ℕ, _+_, _-_, min, max}
+use lib.ListN.{getD, replicate}
+use Rattle.integers.specs.Limits.{TASKS}
+use Rattle.integers.specs.FilledLists.{filled}
+use Rattle.scheduling.specs.Scheduling.{natural, Tasks, TaskSet, total}
+use Rattle.chosen_sets.specs.TaskArrays.{Held, Late}
+use Rattle.checking.specs.declared.start_bounds.Bounds.{Bounds}
+use Rattle.checker.specs.declared.intervals.Interval.{Interval}
+use Rattle.checker.specs.Formulas.{any, lowest, highest}
+
+-- Bounds -----------------------------------------------------------------------------------------------------------------------
+
+-- a moment t of the caller's time is 2^32 − t in mirrored time, where a task that starts at t starts p earlier; a task without two bounds stays at 0
+abbrev pub mirroredMoment : Bool → ℕ → ℕ → ℕ
+mirroredMoment known t p = cond known (4294967296 - (t + p)) 0
+
+-- the bounds in mirrored time
+abbrev pub mirroredBounds : Bounds → List ℕ → ℕ → Bounds
+mirroredBounds b durations n = record {
+  bounded = b .bounded;
+  est = filled (λ k. mirroredMoment (getD (b .bounded) k false) (getD (b .lst) k 0) (getD durations k 0)) n (replicate TASKS 0);
+  lst = filled (λ k. mirroredMoment (getD (b .bounded) k false) (getD (b .est) k 0) (getD durations k 0)) n (replicate TASKS 0);
+}
+
+-- the bounds are those of J's tasks in Ω
+pub record Bounding (J : Tasks natural) (Ω : TaskSet) (n : ℕ) (b : Bounds) (durations : List ℕ) : Type 0 where
+  pub held : Held J Ω n (b .bounded) (b .est) durations
+  pub late : Late J n (b .lst)
+
+-- What the loop gathers --------------------------------------------------------------------------------------------------------
+
+abbrev pub interval : Bool → ℕ → ℕ → ℕ → Interval
+interval some lb ub p = record { some = some; lb = lb; ub = ub; p = p }
+
+-- one task more, where it is chosen
+abbrev pub gathered : Interval → Bool → ℕ → ℕ → ℕ → Interval
+gathered v true est lct p = interval true (min (v .lb) est) (max (v .ub) lct) (v .p + p)
+gathered v false est lct p = v
+
+-- the tasks of Ω below k
+abbrev pub intervalOf : Tasks natural → TaskSet → ℕ → Interval
+intervalOf J Ω k = interval (any Ω k) (lowest J Ω k) (highest J Ω k) (total (λ k. cond (Ω k) (J .duration k) 0) k)

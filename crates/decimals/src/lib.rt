@@ -1,2 +1,0 @@
-// Whole numbers written as decimal text, and bytes put into a buffer.
-pub mod writing;

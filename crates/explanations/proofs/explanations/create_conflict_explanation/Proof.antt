@@ -1,0 +1,90 @@
+-- ω passes lct (`overflow`), so that delta and its two shares are natural numbers; the atoms are those of `conflict`.
+use mathlib.Core.Path.{sym, subst}
+use mathlib.Core.Bool.{Bool}
+use mathlib.Core.List.{List}
+use Prim.Native.Nat.{ℕ}
+use native.Mathlib.Omega.{arith}
+use lib.ListN.{length}
+use borrow.Author.Needs.{needs}
+use Rattle.integers.specs.Moments.{zeroAt}
+use Rattle.runs.specs.Runs.{conflict}
+use Rattle.trees.specs.ArraySearches.{whiteIn, taskIn}
+use Rattle.explanations.specs.Walks.{between}
+use Rattle.explanations.specs.WrittenAtoms.{starting}
+use Rattle.post_words.specs.StoredAtoms.{Stored}
+use Rattle.explanations.specs.Explanations.{Overloaded}
+use Rattle.explanations.proofs.LeafWalk.{all-leaves}
+use Rattle.explanations.proofs.StoredReasons.{Overflow, overflow, overload-walk, overload-known, overload-stops, overload-writable, conflict-stored}
+use Rattle.explanations.proofs.explanations.create_conflict_explanation.Statement.{statement}
+use Rattle.explanations.proofs.explanations.create_conflict_explanation.Tie as tie
+
+abbrev white : tie.Start → ℕ → Bool
+white c = whiteIn (c .args .nodes .now) (c .args .inner)
+
+abbrev tasks : tie.Start → ℕ → ℕ
+tasks c = taskIn (c .args .tasks .now)
+
+-- what is asked, of the leaves
+given : (c : tie.Start) → let a = c .args in Overloaded (length (a .atoms .now)) (a .k) (between (white c) (tasks c) 0 (a .n)) (a .est .now) (a .dur .now) (a .p) (a .lct)
+given c = let a = c .args in subst (λ (ks : List ℕ). Overloaded (length (a .atoms .now)) (a .k) ks (a .est .now) (a .dur .now) (a .p) (a .lct)) (all-leaves (white c) (tasks c) (a .n)) (c .pre .0)
+
+-- what ω passes lct by
+abbrev start : tie.After-preceding → tie.Start
+start c = c .before .before .before
+
+abbrev walk : tie.After-of-leaf → tie.After-preceding
+walk c = c .before .before
+
+numbers : (c : tie.After-of-leaf) → let w = walk c in let s = start w in Overflow (white s) (tasks s) 0 (s .args .n) (given s) (w .preceding .ensures) (c .of-leaf .result)
+numbers c = let w = walk c in let s = start w in overflow (white s) (tasks s) 0 (s .args .n) (given s) (w .preceding .ensures) (c .of-leaf .ensures)
+
+preceding-requires : tie.Need-preceding-requires
+preceding-requires c κs = let s = c .before .before in (overload-walk (white s) (tasks s) 0 (s .args .n) (given s), s .pre .1, s .pre .2)
+
+of-leaf-requires : tie.Need-of-leaf-requires
+of-leaf-requires c κs = let w = c .before in let s = start w in
+    (omega (arith, w .preceding .ensures .small, s .pre .1), overload-known (white s) (tasks s) 0 (s .args .n) (given s) (w .preceding .ensures) .start)
+
+add-delta : tie.Need-add-delta
+add-delta c = omega (arith, numbers (c .before))
+
+add-delta-2 : tie.Need-add-delta-2
+add-delta-2 c = omega (arith, numbers (c .before))
+
+sub-delta : tie.Need-sub-delta
+sub-delta c = omega (arith, numbers (c .before))
+
+sub-low : tie.Need-sub-low
+sub-low c = omega (arith, numbers (c .before))
+
+add-high : tie.Need-add-high
+add-high c = omega (arith, numbers (c .before))
+
+write-within-requires : tie.Need-write-within-requires
+write-within-requires c κs =
+    let w = walk (c .before .before) in
+    let s = start w in (
+      overload-writable (white s) (tasks s) 0 (s .args .n) (given s) (w .preceding .ensures) (omega (arith, numbers (c .before .before))),
+      omega (arith, w .preceding .ensures .small),
+      s .pre .1,
+      s .pre .2,
+    )
+
+returns : tie.Need-returns
+returns c =
+    let at = c .before .before .before .before in
+    let w = walk at in
+    let s = start w in
+    let a = s .args in
+    subst (λ (ks : List ℕ). Stored (a .atoms .now) (c .before .write-within .last .0) (a .k) (c .before .write-within .result)
+    (conflict zeroAt (starting (a .est .now) (a .dur .now)) (a .lct) (a .p) ks)) (sym (all-leaves (white s) (tasks s) (a .n)))
+    (conflict-stored (white s) (tasks s) (a .est .now) (a .dur .now) 0 (a .n) (a .p) (w .preceding .result .first .0) (w .preceding .result .lasts) (given s .white .total) (a .lct)
+    (overload-stops (white s) (tasks s) 0 (a .n) (given s) (w .preceding .ensures))
+    (at .of-leaf .ensures) (c .before .write-within .ensures))
+
+pub create-conflict-explanation-spec : {M : Type 1} → statement M
+create-conflict-explanation-spec =
+    tie.close
+    (tie.spec
+    preceding-requires of-leaf-requires add-delta add-delta-2 sub-delta (λ c. search needs) sub-low add-high
+    write-within-requires (λ c. search needs) returns)

@@ -1,0 +1,91 @@
+-- The invariant `WalkedTo`: x is a leaf of Θ, q what the tasks from it on last, and none before it attains the bound; the walk must stop inside, as one does.
+use mathlib.Core.Path.{subst}
+use mathlib.Core.List.{List}
+use Prim.Native.Nat.{ℕ, _+_, _-_, _<_, _^_}
+use native.Mathlib.Omega.{arith}
+use lib.ListN.{getD}
+use borrow.Author.Needs.{needs}
+use Rattle.trees.specs.ArraySearches.{whiteIn, taskIn}
+use Rattle.explanations.specs.Walks.{Known, Attains, between, Walk}
+use Rattle.explanations.proofs.LeafWalk.{next-same, next-again, stops-from, WalkedTo, sets-out, enough-there, most-there, known-there, walks-on, halts}
+use Rattle.explanations.proofs.walks.attaining.Statement.{statement}
+use Rattle.explanations.proofs.walks.attaining.Tie as tie
+
+abbrev Inv-loop : tie.InvT-loop
+Inv-loop nodes tasks inner n est dur p bound x₀ q₀ x q = WalkedTo (whiteIn nodes inner) (taskIn tasks) (Attains est bound) dur (x₀ .0) n (x .0) q
+
+abbrev μ-loop : tie.MeasureT-loop
+μ-loop nodes tasks inner n est dur p bound x₀ q₀ x q = n - x .0
+
+-- what is asked, of the first leaf that the walk meets
+abbrev begin : tie.After-next-in-theta Inv-loop μ-loop → tie.Start Inv-loop μ-loop
+begin c = c .before .before .before
+
+given : (c : tie.After-next-in-theta Inv-loop μ-loop)
+    → let a = begin c .args in Walk (Attains (a .est .now) (a .bound)) (between (whiteIn (a .nodes .now) (a .inner)) (taskIn (a .tasks .now)) (c .next-in-theta .result .0) (a .n)) (a .est .now)
+    (a .dur .now) (a .p) 0
+given c = let a = begin c .args in
+    subst (λ (ks : List ℕ). Walk (Attains (a .est .now) (a .bound)) ks (a .est .now) (a .dur .now) (a .p) 0)
+    (next-same (whiteIn (a .nodes .now) (a .inner)) (taskIn (a .tasks .now)) (c .next-in-theta .ensures)) (begin c .pre .0)
+
+abbrev start : tie.At-loop Inv-loop μ-loop → tie.Start Inv-loop μ-loop
+start c = begin (c .before)
+
+-- the task of the leaf that the walk has reached
+abbrev here : tie.At-loop Inv-loop μ-loop → ℕ
+here c = taskIn (start c .args .tasks .now) (c .loop .x .0)
+
+task : (c : tie.At-loop Inv-loop μ-loop) → Known (start c .args .est .now) (start c .args .dur .now) (here c)
+task c = known-there (c .loop .inv) (Known (start c .args .est .now) (start c .args .dur .now)) (given (c .before) .known)
+
+-- no sum wraps there
+sum : (c : tie.At-loop Inv-loop μ-loop) → getD (start c .args .est .now) (here c) 0 + c .loop .q < 2 ^ 32
+sum c = let a = start c .args in omega (
+  arith,
+  known-there (c .loop .inv) (λ k. getD (a .est .now) k 0 + a .p + 0 < 2 ^ 32) (given (c .before) .fits),
+  most-there (c .loop .inv),
+  given (c .before) .total,
+)
+
+loop-holds : tie.Need-loop-holds Inv-loop μ-loop
+loop-holds c = sets-out (given c .total) (given c .stops) (next-again (c .next-in-theta .ensures))
+
+of-leaf-requires : tie.Need-of-leaf-requires Inv-loop μ-loop
+of-leaf-requires c κs = (omega (arith, c .loop .inv .small), task c .start)
+
+add-if1 : tie.Need-add-if1 Inv-loop μ-loop
+add-if1 c = omega (arith, c .of-leaf .ensures, sum (c .before))
+
+of-leaf-requires-2 : tie.Need-of-leaf-requires-2 Inv-loop μ-loop
+of-leaf-requires-2 c κs = (omega (arith, c .before .before .loop .inv .small), task (c .before .before) .duration)
+
+sub-q : tie.Need-sub-q Inv-loop μ-loop
+sub-q c = omega (arith, c .of-leaf2 .ensures, enough-there (c .before .before .before .loop .inv))
+
+add-t15 : tie.Need-add-t15 Inv-loop μ-loop
+add-t15 c = omega (arith, c .before .before .before .before .loop .inv .small)
+
+next-in-theta-requires-2 : tie.Need-next-in-theta-requires-2 Inv-loop μ-loop
+next-in-theta-requires-2 c κs = let at = c .before .before .before .before in (omega (arith, at .loop .inv .small), start at .pre .2, start at .pre .3)
+
+loop-less : tie.Need-loop-less Inv-loop μ-loop
+loop-less c = let at = c .before .before .before .before .before in omega (arith, at .loop .inv .small, c .next-in-theta2 .ensures .from)
+
+loop-again : tie.Need-loop-again Inv-loop μ-loop
+loop-again c =
+    let at = c .before .before .before .before .before in
+    rw (c .before .before .of-leaf2 .ensures)
+    (walks-on (at .loop .inv) (given (at .before) .stops) (λ met. c .before .before .before .if1 .taken (rw (c .before .before .before .before .of-leaf .ensures) met)) (c .next-in-theta2 .ensures))
+
+returns : tie.Need-returns Inv-loop μ-loop
+returns c =
+    let at = c .before .before in
+    let a = start at .args in
+    stops-from (whiteIn (a .nodes .now) (a .inner)) (taskIn (a .tasks .now)) (at .before .next-in-theta .ensures) (halts (at .loop .inv) (rw (c .before .of-leaf .ensures) at (c .if1 .left)))
+
+pub attaining-spec : {M : Type 1} → statement M
+attaining-spec =
+    tie.close
+    (tie.spec
+    Inv-loop μ-loop (λ c κs. search needs) loop-holds of-leaf-requires add-if1 of-leaf-requires-2 sub-q add-t15
+    next-in-theta-requires-2 loop-less loop-again returns)

@@ -1,0 +1,79 @@
+-- The invariant `WalkedTo`: x is a leaf of Θ, q what the tasks from it on last, and none before it passes lct; the walk must stop inside, as one does.
+use Prim.Native.Nat.{ℕ, _+_, _-_, _<_, _^_}
+use native.Mathlib.Omega.{arith}
+use lib.ListN.{getD}
+use borrow.Author.Needs.{needs}
+use Rattle.trees.specs.ArraySearches.{whiteIn, taskIn}
+use Rattle.explanations.specs.Walks.{Known, Precedes}
+use Rattle.explanations.proofs.LeafWalk.{WalkedTo, sets-out, enough-there, most-there, known-there, walks-on, halts}
+use Rattle.explanations.proofs.walks.preceding.Statement.{statement}
+use Rattle.explanations.proofs.walks.preceding.Tie as tie
+
+abbrev Inv-loop : tie.InvT-loop
+Inv-loop nodes tasks inner n est dur p lct e d x₀ q₀ x q = WalkedTo (whiteIn nodes inner) (taskIn tasks) (Precedes est lct e d) dur 0 n (x .0) q
+
+abbrev μ-loop : tie.MeasureT-loop
+μ-loop nodes tasks inner n est dur p lct e d x₀ q₀ x q = n - x .0
+
+abbrev start : tie.At-loop Inv-loop μ-loop → tie.Start Inv-loop μ-loop
+start c = c .before .before .before .before
+
+-- the task of the leaf that the walk has reached
+abbrev here : tie.At-loop Inv-loop μ-loop → ℕ
+here c = taskIn (start c .args .tasks .now) (c .loop .x .0)
+
+task : (c : tie.At-loop Inv-loop μ-loop) → Known (start c .args .est .now) (start c .args .dur .now) (here c)
+task c = known-there (c .loop .inv) (Known (start c .args .est .now) (start c .args .dur .now)) (start c .pre .0 .known)
+
+-- no sum wraps there
+sum : (c : tie.At-loop Inv-loop μ-loop) → getD (start c .args .est .now) (here c) 0 + c .loop .q + start c .args .d < 2 ^ 32
+sum c = let a = start c .args in omega (
+  arith,
+  known-there (c .loop .inv) (λ k. getD (a .est .now) k 0 + a .p + a .d < 2 ^ 32) (start c .pre .0 .fits),
+  most-there (c .loop .inv),
+  start c .pre .0 .total,
+)
+
+loop-holds : tie.Need-loop-holds Inv-loop μ-loop
+loop-holds c = sets-out (c .before .before .before .pre .0 .total) (c .before .before .before .pre .0 .stops) (c .next-in-theta .ensures)
+
+of-leaf-requires : tie.Need-of-leaf-requires Inv-loop μ-loop
+of-leaf-requires c κs = (omega (arith, c .loop .inv .small), task c .start)
+
+add-if1 : tie.Need-add-if1 Inv-loop μ-loop
+add-if1 c = omega (arith, c .min .ensures, c .before .of-leaf .ensures, sum (c .before .before))
+
+add-if1-2 : tie.Need-add-if1-2 Inv-loop μ-loop
+add-if1-2 c = omega (arith, c .min .ensures, c .before .of-leaf .ensures, sum (c .before .before))
+
+of-leaf-requires-2 : tie.Need-of-leaf-requires-2 Inv-loop μ-loop
+of-leaf-requires-2 c κs = (omega (arith, c .before .before .before .loop .inv .small), task (c .before .before .before) .duration)
+
+sub-q : tie.Need-sub-q Inv-loop μ-loop
+sub-q c = omega (arith, c .of-leaf2 .ensures, enough-there (c .before .before .before .before .loop .inv))
+
+add-t19 : tie.Need-add-t19 Inv-loop μ-loop
+add-t19 c = let at = c .before .before .before .before .before in omega (arith, at .loop .inv .small)
+
+next-in-theta-requires-2 : tie.Need-next-in-theta-requires-2 Inv-loop μ-loop
+next-in-theta-requires-2 c κs = let at = c .before .before .before .before .before in (omega (arith, at .loop .inv .small), start at .pre .1, start at .pre .2)
+
+loop-less : tie.Need-loop-less Inv-loop μ-loop
+loop-less c = let at = c .before .before .before .before .before .before in omega (arith, at .loop .inv .small, c .next-in-theta2 .ensures .from)
+
+loop-again : tie.Need-loop-again Inv-loop μ-loop
+loop-again c =
+    let at = c .before .before .before .before .before .before in
+    rw (c .before .before .of-leaf2 .ensures)
+    (walks-on (at .loop .inv) (start at .pre .0 .stops) (λ over. omega (arith, over, c .before .before .before .before .min .ensures, c .before .before .before .before .before .of-leaf .ensures))
+    (c .next-in-theta2 .ensures))
+
+returns : tie.Need-returns Inv-loop μ-loop
+returns c = halts (c .before .before .before .loop .inv) (omega (arith, c .before .min .ensures, c .before .before .of-leaf .ensures))
+
+pub preceding-spec : {M : Type 1} → statement M
+preceding-spec =
+    tie.close
+    (tie.spec
+    Inv-loop μ-loop (λ c κs. search needs) loop-holds of-leaf-requires (λ c κs. search needs) add-if1 add-if1-2
+    of-leaf-requires-2 sub-q add-t19 next-in-theta-requires-2 loop-less loop-again returns)

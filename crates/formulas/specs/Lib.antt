@@ -1,3 +1,0 @@
-pub mod Formulas
-pub mod StartBounds
-pub mod BoundArrays

@@ -1,3 +1,0 @@
-pub mod TakenApart
-pub mod Rows
-pub mod Counting

@@ -1,2 +1,0 @@
-pub mod TakenApart
-pub mod Examples

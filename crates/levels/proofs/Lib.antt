@@ -1,4 +1,0 @@
-pub mod Overloading
-pub mod Moving
-pub mod Levels
-pub mod Filling

@@ -1,0 +1,235 @@
+-- What the mirrored pass hands to the core, and what it makes of what the core leaves.
+use mathlib.Core.Path.{_≡_, refl, sym, ap, ap₂, subst, _∙_}
+use mathlib.Core.List.{List, [], _∷_}
+use Prim.Native.Nat.{ℕ, _*_, _≤_, _<_}
+use native.Mathlib.Nat.{mul-le-mul}
+use native.Mathlib.Omega.{arith}
+use lib.IntN.{ℤ, pos}
+use lib.ListN.{length, getD, take, length-map}
+use lib.Signed.{_≤ℤ_}
+use mir.Syntax.{w32}
+use mir.Val.{SFits}
+use Rattle.integers.specs.Limits.{TASKS, START, MIRRORED, ATOMS}
+use Rattle.integers.specs.Answers.{answered}
+use Rattle.integers.specs.Moments.{Above}
+use Rattle.integers.proofs.Ints.{up, dn, ints, fits-show}
+use Rattle.integers.proofs.MomentSums.{at-moment, above-up, more-above}
+use Rattle.scheduling.specs.Scheduling.{Atom, Every}
+use Rattle.scheduling.specs.MirroredTime.{mirrorStart, mirrorAtom}
+use Rattle.scheduling.specs.Words.{atomWords}
+use Rattle.scheduling.proofs.Words.{atoms-length}
+use Rattle.runs.specs.Traces.{End, done, overload, emptied, Trace}
+use Rattle.runs.specs.Demand.{consequentOf, post}
+use Rattle.runs.specs.Words.{reasons, postsAfter, atomsAfter, atomsIn}
+use Rattle.runs.specs.Mirrored.{mirrorStarts, durationIn, mirrorPost, mirrorEnd, mirrorTrace, mirroredRun}
+use Rattle.runs.proofs.WrittenSlices.{posts-length}
+use Rattle.runs.proofs.Demand as demand
+use Rattle.runs.proofs.Mirrored as laws
+use Rattle.runs.specs.MirroredWords.{Near}
+use Rattle.runs.proofs.StartsLeft.{starts-length}
+use Rattle.records.specs.declared.record.DisjunctivePropagator.{DisjunctivePropagator}
+use Rattle.records.specs.Refusals.{Accepted}
+use Rattle.runs.specs.declared.outcome.Outcome.{Outcome}
+use Rattle.runs.specs.EndNumbers.{endNumbers, traceNumbers}
+use Rattle.propagator.specs.Ran.{Runnable, traceOf, Left}
+use Rattle.propagator.proofs.AcceptedInput as accepting
+use Rattle.mirrored.specs.MirroredSlices.{Reflectable, Durations, Ended, Told}
+use Rattle.mirrored.specs.RanMirrored.{LeftMirrored}
+use Rattle.mirrored.specs.RanInMirror.{RanInMirror}
+
+-- the mirrored trace's numbers are the run's: mirroring keeps how many posts and atoms there are
+same-numbers : (ds : List ℕ) (t : Trace) → traceNumbers (mirrorTrace ds t) ≡ traceNumbers t
+same-numbers ds t = (λ i. endNumbers (n i) (m i) (mirrorEnd ds (t .end))) ∙ each (t .end)
+  where
+    n : length (mirrorTrace ds t .posts) ≡ length (t .posts)
+    n = length-map (t .posts) (mirrorPost ds)
+
+    m : length (reasons (mirrorTrace ds t .posts)) ≡ length (reasons (t .posts))
+    m = ap length (laws.reasons-mirrored ds (t .posts)) ∙ length-map (reasons (t .posts)) (mirrorAtom (durationIn ds))
+
+    each : (e : End) → endNumbers (length (t .posts)) (length (reasons (t .posts))) (mirrorEnd ds e) ≡ endNumbers (length (t .posts)) (length (reasons (t .posts))) e
+    each done = refl
+    each (overload r) = ap (λ (k : ℕ). answered 1 (pos (length (t .posts)) ∷ pos (length (reasons (t .posts))) ∷ pos k ∷ [])) (length-map r (mirrorAtom (durationIn ds)))
+    each emptied = refl
+
+-- The pass -------------------------------------------------------------------------------------------------------------------------
+
+-- numbers that are near are i32s
+wide-fits : (z : ℤ) → Above MIRRORED z → z ≤ℤ pos MIRRORED → SFits w32 z
+unfolding up dn
+wide-fits z h k = fits-show w32 z (omega (ints, at-moment MIRRORED z h, k)) (omega (ints, at-moment MIRRORED z h, k))
+
+lower : (a b : ℤ) → Above MIRRORED a → a ≤ℤ b → Above MIRRORED b
+lower a b h q = above-up MIRRORED a b q h
+
+higher : (a b : ℤ) → a ≤ℤ b → b ≤ℤ pos MIRRORED → a ≤ℤ pos MIRRORED
+higher a b h k = omega ints
+
+wider-low : (a : ℤ) → Above START a → Above MIRRORED a
+wider-low a h = more-above START MIRRORED (omega arith) a h
+
+wider-high : (a : ℤ) → a ≤ℤ pos START → a ≤ℤ pos MIRRORED
+unfolding up dn
+wider-high a h = omega ints
+
+module _ (before : DisjunctivePropagator) (es ls : List ℤ) (postCount atomCount : ℕ) (a : Accepted before es ls postCount atomCount) (long : length (before .durations) ≡ TASKS) where
+  abbrev n : ℕ
+  n = before .count
+
+  abbrev ds : List ℕ
+  ds = take (before .count) (before .durations)
+
+  abbrev early : List ℤ
+  early = mirrorStarts (take (before .count) (before .durations)) ls
+
+  abbrev late : List ℤ
+  late = mirrorStarts (take (before .count) (before .durations)) es
+
+  count : length ds ≡ n
+  count = accepting.count before (a .lawful)
+
+  here : demand.Accepted START ds es ls
+  here = accepting.narrow before es ls postCount atomCount a
+
+  es-long : length es ≡ length ds
+  es-long = a .counts .earliest ∙ sym count
+
+  ls-long : length ls ≡ length ds
+  ls-long = a .counts .latest ∙ sym count
+
+  there : demand.Accepted MIRRORED ds early late
+  there = laws.mirrored-accepted ds es ls here es-long ls-long
+
+  run-long : length (mirroredRun ds es ls .starts) ≡ length ds
+  run-long = starts-length ds early late
+
+  lasts-at : (k : ℕ) → k < n → getD ds k 0 ≡ getD (before .durations) k 0
+  lasts-at k q = accepting.lasts-at before (a .lawful) k q
+
+  -- starts that may be mirrored
+  reflectable : (zs : List ℤ) → length zs ≡ length ds → ((k : ℕ) → k < length ds → SFits w32 (getD (mirrorStarts ds zs) k (pos 0))) → (out : List ℤ) → length out ≡ n
+      → Reflectable out zs (before .durations)
+  reflectable zs e f out l = record {
+    places = omega (arith, l, e, count);
+    few = omega (arith, e, count, a .lawful .few);
+    long = long;
+    fits = λ k q. subst (λ (p : ℕ). SFits w32 (mirrorStart p (getD zs k (pos 0)))) (lasts-at k (omega (arith, e, count)))
+        (subst (SFits w32) (laws.mirror-at ds zs e k) (f k (omega (arith, e))));
+  }
+
+  pub reflect-latest : (out : List ℤ) → length out ≡ n → Reflectable out ls (before .durations)
+  reflect-latest = reflectable ls ls-long (λ k q. wide-fits (getD early k (pos 0)) (there .from k q) (higher (getD early k (pos 0)) (getD late k (pos 0)) (there .ranges k q) (there .to k q)))
+
+  pub reflect-earliest : (out : List ℤ) → length out ≡ n → Reflectable out es (before .durations)
+  reflect-earliest = reflectable es es-long (λ k q. wide-fits (getD late k (pos 0)) (lower (getD early k (pos 0)) (getD late k (pos 0)) (there .from k q) (there .ranges k q)) (there .to k q))
+
+  -- and back
+  back-fits : (k : ℕ) → k < length ds → SFits w32 (getD (mirrorStarts ds (mirroredRun ds es ls .starts)) k (pos 0))
+  back-fits k q =
+      let b = laws.latest-between ds es ls here es-long ls-long k q in
+      let z = getD (mirrorStarts ds (mirroredRun ds es ls .starts)) k (pos 0) in
+      wide-fits z (lower (getD es k (pos 0)) z (wider-low (getD es k (pos 0)) (here .from k q)) (b .0)) (higher z (getD ls k (pos 0)) (b .1) (wider-high (getD ls k (pos 0)) (here .to k q)))
+
+  -- the core may run in mirrored time,
+  runnable : Runnable before early late postCount atomCount
+  runnable = record {
+    lawful = a .lawful;
+    counts = record { earliest = laws.mirror-length ds ls ls-long ∙ count; latest = laws.mirror-length ds es es-long ∙ count };
+    from = λ k q. there .from k (omega (arith, count));
+    to = λ k q. there .to k (omega (arith, count));
+    ranges = λ k q. there .ranges k (omega (arith, laws.mirror-length ds ls ls-long));
+    words = a .words;
+  }
+
+  -- on starts as the code holds them
+  from-is : {from : List ℤ} → from ≡ mirrorStarts (take (length ls) (before .durations)) ls → from ≡ early
+  from-is f = f ∙ ap (λ (m : ℕ). mirrorStarts (take m (before .durations)) ls) (a .counts .latest)
+
+  to-is : {to : List ℤ} → to ≡ mirrorStarts (take (length es) (before .durations)) es → to ≡ late
+  to-is t = t ∙ ap (λ (m : ℕ). mirrorStarts (take m (before .durations)) es) (a .counts .earliest)
+
+  pub runnable-at : {from to : List ℤ} → from ≡ mirrorStarts (take (length ls) (before .durations)) ls → to ≡ mirrorStarts (take (length es) (before .durations)) es
+      → Runnable before from to postCount atomCount
+  runnable-at {from} {to} f t = subst (λ (x : List ℤ). Runnable before x to postCount atomCount) (sym (from-is f))
+      (subst (λ (x : List ℤ). Runnable before early x postCount atomCount) (sym (to-is t)) runnable)
+
+  -- what the core leaves
+  module _ {from to posts atoms from′ posts′ atoms′ : List ℤ} {r : Outcome} {changed : ℕ} (f : from ≡ mirrorStarts (take (length ls) (before .durations)) ls)
+      (t : to ≡ mirrorStarts (take (length es) (before .durations)) es)
+      (l : Left before from to posts atoms r changed from′ posts′ atoms′) where
+    core-is : traceOf before from to ≡ mirroredRun ds es ls
+    core-is = ap₂ (λ (x y : List ℤ). traceOf before x y) (from-is f) (to-is t)
+
+    pub left-starts : from′ ≡ mirroredRun ds es ls .starts
+    left-starts = l .starts ∙ ap (λ (x : Trace). x .starts) core-is
+
+    pub reflect-back : (out : List ℤ) → length out ≡ n → Reflectable out from′ (before .durations)
+    reflect-back out e = subst (λ (zs : List ℤ). Reflectable out zs (before .durations)) (sym left-starts) (reflectable (mirroredRun ds es ls .starts) run-long back-fits out e)
+
+    pub ran-in-mirror : {ls′ : List ℤ} → ls′ ≡ mirrorStarts (take (length from′) (before .durations)) from′ → RanInMirror before es ls posts atoms r ls′ posts′ atoms′
+    ran-in-mirror z = record {
+      answer = l .answer ∙ ap traceNumbers core-is;
+      starts = z ∙ ap (λ (zs : List ℤ). mirrorStarts (take (length zs) (before .durations)) zs) left-starts
+          ∙ ap (λ (m : ℕ). mirrorStarts (take m (before .durations)) (mirroredRun ds es ls .starts)) (run-long ∙ count);
+      post-words = l .post-words ∙ ap (postsAfter posts) core-is;
+      atom-words = l .atom-words ∙ ap (atomsAfter atoms) core-is;
+    }
+
+  -- what is told of it
+  pub durations-are : Durations ds (before .durations)
+  durations-are = record { few = omega (arith, count, a .lawful .few); same = λ k q. sym (lasts-at k (omega (arith, count))) }
+
+  pub posts-near-here : (j : ℕ) → j < length (mirroredRun (take (before .count) (before .durations)) es ls .posts)
+      → Near (take (before .count) (before .durations)) (consequentOf (post (mirroredRun (take (before .count) (before .durations)) es ls) j))
+  posts-near-here = laws.post-near ds es ls here es-long ls-long
+
+  pub atoms-near-here : Every (Near (take (before .count) (before .durations))) (atomsIn (mirroredRun (take (before .count) (before .durations)) es ls))
+  atoms-near-here = laws.atoms-near ds es ls here es-long ls-long
+
+  pub few-posts : length (mirroredRun (take (before .count) (before .durations)) es ls .posts) ≤ TASKS
+  few-posts = omega (arith, laws.mirrored-posts-fit ds es ls here es-long ls-long, posts-length (mirroredRun ds es ls .posts) 0, count, a .lawful .few)
+
+  squares : (m x : ℕ) → m ≤ TASKS → x ≤ 6 * (m * m) → x ≤ 3 * ATOMS
+  squares m x h q = omega (arith, q, mul-le-mul {n₁ = m} {m₁ = m} {n₂ = TASKS} {m₂ = TASKS} h h)
+
+  pub few-atoms : length (atomsIn (mirroredRun (take (before .count) (before .durations)) es ls)) ≤ ATOMS
+  few-atoms = omega (
+    arith,
+    squares (length ds) (length (atomWords (atomsIn (mirroredRun ds es ls)))) (here .few) (laws.mirrored-atoms-fit ds es ls here es-long ls-long),
+    atoms-length (atomsIn (mirroredRun ds es ls)),
+  )
+
+  module _ {posts atoms posts′ atoms′ ls′ : List ℤ} {r : Outcome} (m : RanInMirror before es ls posts atoms r ls′ posts′ atoms′) where
+    abbrev pub ended : Ended r posts′ atoms′ (before .durations)
+    ended = record {
+      ds = take (before .count) (before .durations);
+      trace = mirroredRun (take (before .count) (before .durations)) es ls;
+      old-posts = posts;
+      old-atoms = atoms;
+      durations = durations-are;
+      answer = m .answer;
+      post-words = m .post-words;
+      atom-words = m .atom-words;
+      posts-near = posts-near-here;
+      atoms-near = atoms-near-here;
+      few = few-posts;
+      small = few-atoms;
+    }
+
+    pub left-mirrored : postCount ≤ length posts → atomCount ≤ length atoms → {posts″ atoms″ : List ℤ} → Told ended posts″ atoms″ → LeftMirrored before es ls posts atoms r ls′ posts″ atoms″
+    left-mirrored p q t = record {
+      answer = m .answer ∙ sym (same-numbers ds (mirroredRun ds es ls));
+      starts = m .starts;
+      post-words = t .post-words;
+      atom-words = t .atom-words;
+      posts-fit = omega (arith, laws.post-words-length ds (mirroredRun ds es ls .posts) 0, laws.mirrored-posts-fit ds es ls here es-long ls-long, count, a .words .posts);
+      atoms-fit = omega (
+        arith,
+        ap (λ (xs : List Atom). length (atomWords xs)) (laws.atoms-mirrored ds (mirroredRun ds es ls)) ∙ laws.atom-words-length ds (atomsIn (mirroredRun ds es ls)),
+        squared,
+        a .words .atoms,
+      );
+    }
+      where
+        squared : length (atomWords (atomsIn (mirroredRun ds es ls))) ≤ 6 * (n * n)
+        squared = subst (λ (k : ℕ). length (atomWords (atomsIn (mirroredRun ds es ls))) ≤ 6 * (k * k)) count (laws.mirrored-atoms-fit ds es ls here es-long ls-long)

@@ -1,0 +1,41 @@
+-- `mirrored_words::mirrored_time::mirror_kind` meets its contract.
+use mathlib.Core.Path.{_≡_, sym, ap, ap₂, subst, _∙_}
+use native.Mathlib.Omega.{arith}
+use lib.IntN.{ℤ, pos, _-ℤ_}
+use lib.ListN.{getD, set}
+use lib.Signed.{mag, _≤ℤ_}
+use Prim.Native.Nat.{_<_, _^_}
+use mir.Syntax.{w32}
+use mir.Val.{SFits, toZ, ofZ, hbits}
+use mir.ValLaws.{toZ-ofZ, toZ-pos}
+use Rattle.integers.proofs.Ints.{up, dn, ints, subℤ, fits-show, back-of}
+use borrow.Author.Needs.{needs}
+use Rattle.mirrored.proofs.mirrored_time.mirror_kind.Statement.{statement}
+use Rattle.mirrored.proofs.mirrored_time.mirror_kind.Tie as tie
+
+-- the machine's difference
+less : (z : ℤ) → mag z < 2 ^ hbits w32 → toZ w32 1 -ℤ toZ w32 (ofZ w32 z) ≡ pos 1 -ℤ z
+less z h = ap₂ _-ℤ_ (toZ-pos w32 1 (omega arith)) (back-of w32 z h)
+
+less-fits : (z : ℤ) → pos 0 ≤ℤ z → z ≤ℤ pos 1 → SFits w32 (pos 1 -ℤ z)
+unfolding up dn
+less-fits z h k = fits-show w32 (pos 1 -ℤ z) (omega (ints, subℤ (pos 1) z)) (omega (ints, subℤ (pos 1) z))
+
+sub-words : tie.Need-sub-words
+sub-words c = subst (SFits w32) (sym (less (getD (c .before .args .words .now) (c .before .args .at) (pos 0)) (c .words .given)))
+    (less-fits (getD (c .before .args .words .now) (c .before .args .at) (pos 0)) (c .before .pre .1) (c .before .pre .2))
+
+returns : tie.Need-returns
+returns c =
+    let a = c .before .args in
+    ap (λ (v : ℤ). set (a .words .now) (a .at) v)
+    (ap (λ (v : ℤ). toZ w32 (ofZ w32 v)) (less (getD (c .before .args .words .now) (c .before .args .at) (pos 0)) (c .words .given))
+    ∙ toZ-ofZ w32 (pos 1 -ℤ (getD (c .before .args .words .now) (c .before .args .at) (pos 0)))
+    (less-fits (getD (c .before .args .words .now) (c .before .args .at) (pos 0)) (c .before .pre .1) (c .before .pre .2)))
+
+pub mirror-kind-spec : {M : Type 1} → statement M
+mirror-kind-spec =
+    tie.close
+    (tie.spec
+    (λ c. search needs) (λ c. search needs) sub-words (λ c. search needs) (λ c. search needs) (λ c. search needs)
+    returns)

@@ -1,4 +1,0 @@
-pub mod Nodes
-pub mod Bounds
-pub mod Descents
-pub mod Steps

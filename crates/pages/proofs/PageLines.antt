@@ -1,0 +1,142 @@
+-- A page's lines, put one behind the other, and read back by their places.
+use mathlib.Core.Path.{_≡_, refl, sym, ap, subst, _∙_}
+use mathlib.Core.Bool.{true}
+use mathlib.Core.List.{List, [], _∷_, _++_, flatMap, append-assoc, append-nil}
+use Prim.Native.Nat.{ℕ, zero, suc, _+_, _*_, _≤_, _<_}
+use native.Mathlib.Numerals.{add-one}
+use native.Mathlib.Omega.{arith}
+use lib.IntN.{ℤ}
+use lib.ListN.{length, getD, take, drop, length-append}
+use lib.Seq.{take-suc, take-at, drop-append-add}
+use Rattle.integers.specs.Answers.{refusedBy}
+use Rattle.integers.specs.Limits.{TASKS, DURATIONS}
+use Rattle.integers.specs.Orders.{has}
+use Rattle.integers.proofs.Words.{overwrites}
+use Rattle.integers.proofs.Permutations.{has-here, has-later}
+use Rattle.integers.specs.Texts.{bytesOf}
+use Rattle.records.specs.declared.record.DisjunctivePropagator.{DisjunctivePropagator}
+use Rattle.fixed_schedules.specs.FixedSchedules.{startAt, endAt, orderOf}
+use Rattle.fixed_schedules.specs.Neighbours.{Started}
+use Rattle.fixed_schedules.proofs.ScheduleOrder.{ordered, order-length, order-permutes}
+use Rattle.fixed_schedules.proofs.AcceptedSchedules.{input-of, started, short}
+use Rattle.text.specs.DecimalText.{Puts}
+use Rattle.text.proofs.PutBytes.{puts-append}
+use Rattle.pages.specs.Lines.{LINE, heading}
+use Rattle.pages.specs.declared.answer.Page.{Page}
+use Rattle.pages.specs.declared.answer.Page.the-variants.{Written, Refused}
+use Rattle.pages.specs.Numbers.{pageNumbers}
+use Rattle.pages.specs.Pages.{lineAt, pageOf, pageNumber, Accepted, OneLineEach, Paged}
+use Rattle.pages.proofs.RightAligned.{line-length, line-once}
+use Rattle.pages.proofs.PageRefused.{page-many, accepted-page}
+
+module _ (f : ℕ → List ℕ) where
+  flat-append : (ks js : List ℕ) → flatMap f (ks ++ js) ≡ flatMap f ks ++ flatMap f js
+  unfolding flatMap
+  flat-append [] js = refl
+  flat-append (k ∷ ks) js = ap (λ (l : List ℕ). f k ++ l) (flat-append ks js) ∙ sym (append-assoc (f k) (flatMap f ks) (flatMap f js))
+
+  flat-one : (k : ℕ) → flatMap f (k ∷ []) ≡ f k
+  unfolding flatMap
+  flat-one k = append-nil (f k)
+
+  flat-cons : (k : ℕ) (ks : List ℕ) → flatMap f (k ∷ ks) ≡ f k ++ flatMap f ks
+  unfolding flatMap
+  flat-cons k ks = refl
+
+  flat-nil : flatMap f [] ≡ []
+  unfolding flatMap
+  flat-nil = refl
+
+  -- ---- the loop: no line yet, and one line more
+  pub puts-none : (order out : List ℕ) (at : ℕ) → Puts out out at (flatMap f (take 0 order)) at
+  unfolding flatMap
+  puts-none order out at = record { text = refl; end = omega arith }
+
+  pub puts-next : {first second third : List ℕ} {from at next : ℕ} (order : List ℕ) (i : ℕ) → i < length order → Puts first second from (flatMap f (take i order)) at
+      → Puts second third at (f (getD order i 0)) next
+      → Puts first third from (flatMap f (take (i + 1) order)) next
+  puts-next {first} {second} {third} {from} {at} {next} order i q p s = subst (λ (l : List ℕ). Puts first third from l next) (sym more) (puts-append p s)
+    where
+      more : flatMap f (take (i + 1) order) ≡ flatMap f (take i order) ++ f (getD order i 0)
+      more =
+          ap (λ (n : ℕ). flatMap f (take n order)) (add-one i)
+          ∙ ap (flatMap f) (take-suc order i 0 q)
+          ∙ flat-append (take i order) (getD order i 0 ∷ [])
+          ∙ ap (λ (l : List ℕ). flatMap f (take i order) ++ l) (flat-one (getD order i 0))
+
+  -- ---- lines of one length, by their places
+  flat-length : (ks : List ℕ) → ((k : ℕ) → has ks k ≡ true → length (f k) ≡ LINE) → length (flatMap f ks) ≡ LINE * length ks
+  flat-length [] each = ap length flat-nil
+  flat-length (k ∷ ks) each = omega (arith, ap length (flat-cons k ks), length-append (f k) (flatMap f ks), each k (has-here k ks), flat-length ks (λ j h. each j (has-later k j ks h)))
+
+  flat-line : (ks : List ℕ) → ((k : ℕ) → has ks k ≡ true → length (f k) ≡ LINE) → (t : ℕ) → t < length ks → take LINE (drop (LINE * t) (flatMap f ks)) ≡ f (getD ks t 0)
+  flat-line [] each t q = absurd (omega arith)
+  flat-line (k ∷ ks) each zero q = ap (take LINE) (flat-cons k ks) ∙ take-at (f k) (flatMap f ks) LINE (each k (has-here k ks))
+  flat-line (k ∷ ks) each (suc t) q =
+      let e : LINE * suc t ≡ length (f k) + LINE * t = omega (arith, each k (has-here k ks)) in
+      ap (λ (n : ℕ). take LINE (drop n (flatMap f (k ∷ ks)))) e
+      ∙ ap (λ (l : List ℕ). take LINE (drop (length (f k) + LINE * t) l)) (flat-cons k ks)
+      ∙ ap (take LINE) (drop-append-add (f k) (flatMap f ks) (LINE * t))
+      ∙ flat-line ks (λ j h. each j (has-later k j ks h)) t (omega arith)
+
+-- ---- the page of an accepted input
+module _ (ds : List ℕ) (es : List ℤ) (s : Started es) (short : (k : ℕ) → k < length es → getD ds k 0 ≤ DURATIONS) where
+  pub each-line : (k : ℕ) → k < length es → length (lineAt ds es k) ≡ LINE
+  each-line k q = line-length k (startAt es k) (getD ds k 0) (omega (arith, s .few)) (s .starts k q) (short k q)
+
+  of-order : (k : ℕ) → has (orderOf es) k ≡ true → length (lineAt ds es k) ≡ LINE
+  of-order k h = each-line k (order-permutes es .below k h)
+
+  -- The page has one line for each task, by start, least first.
+  pub one-line-each : OneLineEach ds es (pageOf ds es)
+  unfolding bytesOf
+  one-line-each = record {
+    long = omega (arith, length-append heading (flatMap (lineAt ds es) (orderOf es)), flat-length (lineAt ds es) (orderOf es) of-order, order-length es);
+    first = take-at heading (flatMap (lineAt ds es) (orderOf es)) LINE refl;
+    line = λ t q.
+        (let e : LINE * (t + 1) ≡ LINE + LINE * t = omega arith in
+        ap (λ (n : ℕ). take LINE (drop n (pageOf ds es))) e
+        ∙ ap (take LINE) (drop-append-add heading (flatMap (lineAt ds es) (orderOf es)) (LINE * t))
+        ∙ flat-line (lineAt ds es) (orderOf es) of-order t (omega (arith, order-length es)));
+    once = λ j k p q e. line-once j k (startAt es j) (startAt es k) (endAt ds es j) (endAt ds es k) (omega (arith, s .few)) (omega (arith, s .few)) e;
+    order = ordered es;
+  }
+
+-- ---- the call
+module _ (r : DisjunctivePropagator) (es ls : List ℤ) (out : List ℕ) where
+  pub refused : {out′ : List ℕ} (m : ℕ) → m ≡ pageNumber r es ls (length out) → (m ≡ 0 → ⊥) → out′ ≡ out → Paged r es ls out (Refused m) out′
+  refused m e not k = record {
+    refused = λ h. record { answer = ap refusedBy e; keeps = k };
+    written = λ z. absurd (not (e ∙ z));
+    lines = λ z. absurd (not (e ∙ z));
+  }
+
+  pub written : {out′ : List ℕ} (order : List ℕ) (n : ℕ) → pageNumber r es ls (length out) ≡ 0 → take (length es) order ≡ orderOf es
+      → Puts out out′ 0 (heading ++ flatMap (lineAt (r .durations) es) (take (length es) order)) n → Paged r es ls out (Written n) out′
+  written {out′} order n z e q = record {
+    refused = λ not. absurd (not z);
+    written = λ _. record {
+      answer = ap (λ (m : ℕ). pageNumbers (Written m)) size;
+      text = page .text ∙ overwrites out (pageOf (r .durations) es) (omega (arith, one .long, a .schedule .counts .earliest, a .room));
+    };
+    lines = λ _. one;
+  }
+    where
+      a : Accepted r es ls (length out)
+      a = accepted-page r es ls (length out) .0 z
+
+      one : OneLineEach (r .durations) es (pageOf (r .durations) es)
+      one = one-line-each (r .durations) es (started r es ls (input-of (a .schedule))) (short r es ls (input-of (a .schedule)))
+
+      page : Puts out out′ 0 (pageOf (r .durations) es) n
+      page = subst (λ (l : List ℕ). Puts out out′ 0 (heading ++ flatMap (lineAt (r .durations) es) l) n) e q
+
+      size : n ≡ LINE * (r .count + 1)
+      size = omega (arith, page .end, one .long, a .schedule .counts .earliest)
+
+-- too many ranges are refused as none are
+pub too-many : (r : DisjunctivePropagator) (es ls : List ℤ) (out : List ℕ) (page : Page) (out′ : List ℕ) → TASKS < length es → Paged r [] [] out page out′ → Paged r es ls out page out′
+too-many r es ls out page out′ many p =
+    let (same, not) = page-many r es ls (length out) many in
+    let k = p .refused (λ z. not (sym same ∙ z)) in
+    record { refused = λ _. record { answer = k .answer ∙ ap refusedBy same; keeps = k .keeps }; written = λ z. absurd (not z); lines = λ z. absurd (not z) }

@@ -1,0 +1,166 @@
+-- Right-aligned texts: each field fits its width, and a line has its bytes.
+use mathlib.Core.Path.{_≡_, sym, ap, subst, _∙_}
+use mathlib.Core.List.{List, [], _∷_, _++_, append-assoc}
+use Prim.Native.Nat.{ℕ, suc, _+_, _-_, _*_, _/_, _%_, _≤_, _<_}
+use native.Mathlib.Omega.{arith}
+use native.Mathlib.Decide.{decLt}
+use lib.IntN.{ℤ, pos, negsuc, _+ℤ_}
+use lib.Signed.{_≤ℤ_}
+use lib.ListN.{length, getD, take, drop, length-append, length-replicate, replicate-append-replicate}
+use lib.Seq.{sets, sets-eq, take-at, drop-at, take-append-le}
+use Rattle.integers.specs.Limits.{TASKS, START, DURATIONS}
+use Rattle.integers.proofs.Ints.{ints, up, dn, sumℤ, up-neg, dn-neg}
+use Rattle.integers.specs.Texts.{bytesOf}
+use Rattle.records.specs.Refusals.{StartFits}
+use Rattle.text.specs.DecimalText.{natural, decimal, Puts}
+use Rattle.text.proofs.Decimals.{natural-fits, natural-small, natural-large}
+use Rattle.text.proofs.PutBytes.{puts-append, puts-length}
+use Rattle.pages.specs.Lines.{LINE, spaces, padLeft, lineEnd, columns, lineOf}
+
+-- ---- how long
+pub pad-length : (width : ℕ) (text : List ℕ) → length text ≤ width → length (padLeft width text) ≡ width
+unfolding padLeft
+pad-length width text h = omega (arith, length-append (spaces (width - length text)) text, length-replicate {A = ℕ} (width - length text) 32)
+
+pub columns-length : (number start end : List ℕ) → length number ≤ 2 → length start ≤ 11 → length end ≤ 11 → length (columns number start end) ≡ LINE
+unfolding columns bytesOf
+columns-length number start end h i j =
+    let a = padLeft 2 number in
+    let b = a ++ spaces 1 in
+    let c = b ++ padLeft 11 start in
+    let d = c ++ spaces 1 in
+    let e = d ++ padLeft 11 end in
+    omega (
+      arith,
+      pad-length 2 number h,
+      pad-length 11 start i,
+      pad-length 11 end j,
+      length-append a (spaces 1),
+      length-append b (padLeft 11 start),
+      length-append c (spaces 1),
+      length-append d (padLeft 11 end),
+      length-append e lineEnd,
+    )
+
+-- ---- each field fits its width
+pub task-fits : (task : ℕ) → task < TASKS → length (decimal (pos task)) ≤ 2
+unfolding decimal
+task-fits task h = natural-fits 1 task (omega arith)
+
+decimal-fits : (z : ℤ) → negsuc 999999999 ≤ℤ z → z ≤ℤ pos 999999999 → length (decimal z) ≤ 11
+unfolding decimal up dn
+decimal-fits (pos n) low high = let m : n < 1000000000 = omega ints in omega (arith, natural-fits 9 n (omega arith))
+decimal-fits (negsuc n) low high = let m : n < 1000000000 = omega ints in omega (arith, natural-fits 9 (suc n) (omega arith))
+
+pub start-fits : (z : ℤ) → StartFits z → length (decimal z) ≤ 11
+unfolding up dn
+start-fits z h = decimal-fits z (omega (ints, h .low, up-neg (pos START), dn-neg (pos START))) (omega (ints, h .high))
+
+pub end-fits : (z : ℤ) (d : ℕ) → StartFits z → d ≤ DURATIONS → length (decimal (z +ℤ pos d)) ≤ 11
+unfolding up dn
+end-fits z d h k =
+    decimal-fits (z +ℤ pos d) (omega (ints, h .low, up-neg (pos START), dn-neg (pos START), sumℤ z (pos d))) (omega (ints, h .high, sumℤ z (pos d)))
+
+pub line-length : (task : ℕ) (start : ℤ) (d : ℕ) → task < TASKS → StartFits start → d ≤ DURATIONS → length (lineOf task start (start +ℤ pos d)) ≡ LINE
+unfolding decimal
+line-length task start d h i j = columns-length (natural task) (decimal start) (decimal (start +ℤ pos d)) (task-fits task h) (start-fits start i) (end-fits start d i j)
+
+-- ---- the first column tells the task
+two-digits : (task : ℕ) → task < 100 → 10 ≤ task → natural task ≡ (48 + task / 10) ∷ (48 + task % 10) ∷ []
+two-digits task h k = natural-large task k ∙ ap (λ (l : List ℕ). l ++ (48 + task % 10) ∷ []) (natural-small (task / 10) (omega arith))
+
+read-back : (task : ℕ) → task < 100 → (getD (padLeft 2 (natural task)) 0 0 - 48) * 10 + (getD (padLeft 2 (natural task)) 1 0 - 48) ≡ task
+unfolding padLeft
+read-back task h = elim (decLt task 10) [
+  | yes q ↦ rw (natural-small task q) (omega arith)
+  | no q ↦ rw (two-digits task h (omega arith)) (omega arith)
+]
+
+columns-front : (number start end : List ℕ) → length number ≤ 2 → take 2 (columns number start end) ≡ padLeft 2 number
+unfolding columns
+columns-front number start end h =
+    let a = padLeft 2 number in
+    let b = a ++ spaces 1 in
+    let c = b ++ padLeft 11 start in
+    let d = c ++ spaces 1 in
+    let e = d ++ padLeft 11 end in
+    let la : length a ≡ 2 = pad-length 2 number h in
+    let lb = length-append a (spaces 1) in
+    let lc = length-append b (padLeft 11 start) in
+    let ld = length-append c (spaces 1) in
+    let le = length-append d (padLeft 11 end) in
+    take-append-le 2 e lineEnd (omega arith)
+    ∙ take-append-le 2 d (padLeft 11 end) (omega arith)
+    ∙ take-append-le 2 c (spaces 1) (omega arith)
+    ∙ take-append-le 2 b (padLeft 11 start) (omega arith)
+    ∙ take-at a (spaces 1) 2 la
+
+-- tasks with the same line are one
+pub line-once : (j k : ℕ) (s t e f : ℤ) → j < TASKS → k < TASKS → lineOf j s e ≡ lineOf k t f → j ≡ k
+unfolding decimal
+line-once j k s t e f p q same =
+    let r : padLeft 2 (natural j) ≡ padLeft 2 (natural k) = sym (columns-front (natural j) (decimal s) (decimal e) (task-fits j p)) ∙ ap (take 2) same
+    ∙ columns-front (natural k) (decimal t) (decimal f) (task-fits k q) in
+    sym (read-back j (omega arith)) ∙ ap (λ (l : List ℕ). (getD l 0 0 - 48) * 10 + (getD l 1 0 - 48)) r ∙ read-back k (omega arith)
+
+-- ---- a text written behind spaces, with as many of them as its width asks for
+middle : (xs ys zs : List ℕ) (m width : ℕ) → length xs ≡ m → length ys ≡ width → take width (drop m (xs ++ (ys ++ zs))) ≡ ys
+middle xs ys zs m width p q = ap (take width) (drop-at xs (ys ++ zs) m p) ∙ take-at ys zs width q
+
+pub behind-spaces : (width : ℕ) (text : List ℕ) → length text ≤ width → width ≤ 11 → take width (drop (11 + length text - width) (sets (spaces 22) 11 text)) ≡ padLeft width text
+unfolding padLeft
+behind-spaces width text h k =
+    let m : ℕ = 11 + length text - width in
+    let s : ℕ = width - length text in
+    let rest : List ℕ = drop (11 + length text) (spaces 22) in
+    let e : m + s ≡ 11 = omega arith in
+    let front : spaces m ++ spaces s ≡ spaces 11 = replicate-append-replicate {A = ℕ} m s 32 ∙ ap (λ (j : ℕ). spaces j) e in
+    let parted : sets (spaces 22) 11 text ≡ spaces m ++ (spaces s ++ text ++ rest) =
+    sets-eq text (spaces 22) 11 (omega arith)
+    ∙ ap (λ (l : List ℕ). l ++ text ++ rest) (sym front)
+    ∙ ap (λ (l : List ℕ). l ++ rest) (append-assoc (spaces m) (spaces s) text)
+    ∙ append-assoc (spaces m) (spaces s ++ text) rest in
+    ap (λ (l : List ℕ). take width (drop m l)) parted
+    ∙ middle (spaces m) (spaces s ++ text) rest m width (length-replicate {A = ℕ} m 32) (omega (arith, length-append (spaces s) text, length-replicate {A = ℕ} s 32))
+
+-- the number x, written there, and the part of the text that ends with it
+pub right-aligned : {before after l : List ℕ} {at end next : ℕ} (width : ℕ) (x : ℤ) {y : ℤ} → y ≡ x → Puts (spaces 22) l 11 (decimal y) end → length (decimal x) ≤ width → width ≤ 11
+    → Puts before after at (take (end - (end - width)) (drop (end - width) l)) next → Puts before after at (padLeft width (decimal x)) next
+right-aligned {before} {after} {l} {at} {end} {next} width x {y} same p h k q = subst (λ (bytes : List ℕ). Puts before after at bytes next) part q
+  where
+    ends : end ≡ 11 + length (decimal x)
+    ends = p .end ∙ ap (λ (z : ℤ). 11 + length (decimal z)) same
+
+    wide : end - (end - width) ≡ width
+    wide = omega (arith, ends)
+
+    from : end - width ≡ 11 + length (decimal x) - width
+    from = omega (arith, ends)
+
+    part : take (end - (end - width)) (drop (end - width) l) ≡ padLeft width (decimal x)
+    part =
+        ap (λ (n : ℕ). take n (drop (end - width) l)) wide
+        ∙ ap (λ (n : ℕ). take width (drop n l)) from
+        ∙ ap (λ (bytes : List ℕ). take width (drop (11 + length (decimal x) - width) bytes)) (p .text ∙ ap (λ (z : ℤ). sets (spaces 22) 11 (decimal z)) same)
+        ∙ behind-spaces width (decimal x) h k
+
+-- the place behind a number that is right-aligned
+pub puts-wide : {before after : List ℕ} {at next : ℕ} (width : ℕ) (x : ℤ) {y : ℤ} → y ≡ x → Puts before after at (padLeft width (decimal y)) next → length (decimal x) ≤ width → (next ≡ at + width)
+    × (length after ≡ length before)
+puts-wide width x {y} e p h = (omega (arith, p .end, pad-length width (decimal y) (rw e h)), puts-length p)
+
+-- ---- the fields of a line, put one behind the other
+pub puts-line : {o₀ o₁ o₂ o₃ o₄ o₅ o₆ : List ℕ} {at a b c d e r : ℕ} (task : ℕ) (start end : ℤ) {x y z : ℤ} → x ≡ pos task → y ≡ start → z ≡ end
+    → Puts o₀ o₁ at (padLeft 2 (decimal x)) a → Puts o₁ o₂ a (spaces 1) b → Puts o₂ o₃ b (padLeft 11 (decimal y)) c → Puts o₃ o₄ c (spaces 1) d → Puts o₄ o₅ d (padLeft 11 (decimal z)) e
+    → Puts o₅ o₆ e lineEnd r
+    → Puts o₀ o₆ at (lineOf task start end) r
+unfolding columns decimal
+puts-line {o₀} {o₁} {o₂} {o₃} {o₄} {o₅} {o₆} {at} {a} {b} {c} {d} {e} {r} task start end i j k p q s t u v =
+    let p′ = subst (λ (w : ℤ). Puts o₀ o₁ at (padLeft 2 (decimal w)) a) i p in
+    let s′ = subst (λ (w : ℤ). Puts o₂ o₃ b (padLeft 11 (decimal w)) c) j s in
+    let u′ = subst (λ (w : ℤ). Puts o₄ o₅ d (padLeft 11 (decimal w)) e) k u in
+    puts-append (puts-append (puts-append (puts-append (puts-append p′ q) s′) t) u′) v
+
+-- a task's line, its start read back from a machine word
+pub puts-at : {before after : List ℕ} {at next : ℕ} (task d : ℕ) {x y : ℤ} → x ≡ y → Puts before after at (lineOf task x (x +ℤ pos d)) next → Puts before after at (lineOf task y (y +ℤ pos d)) next
+puts-at {before} {after} {at} {next} task d e p = subst (λ (z : ℤ). Puts before after at (lineOf task z (z +ℤ pos d)) next) e p

@@ -1,0 +1,109 @@
+-- The lines of a run from their parts.
+use mathlib.Core.Path.{_≡_, refl, sym, ap, subst, _∙_}
+use mathlib.Core.Bool.{true, false}
+use mathlib.Core.List.{List, [], _∷_, _++_, append-nil, append-assoc}
+use Prim.Native.Nat.{ℕ, zero, suc, _+_, _*_, _/_, _≤_, _<_}
+use native.Mathlib.Omega.{arith}
+use native.Mathlib.Numerals.{add-one}
+use lib.ListN.{length, getD, take}
+use lib.Seq.{take-all}
+use lib.IntN.{ℤ, pos}
+use lib.Signed.{leZ}
+use Rattle.integers.specs.Texts.{bytesOf}
+use Rattle.text.specs.DecimalText.{natural, decimal, Puts}
+use Rattle.text.proofs.PutBytes.{puts-append}
+use Rattle.scheduling.specs.Scheduling.{Atom}
+use Rattle.scheduling.specs.Words.{atomWords, no-atom}
+use Rattle.scheduling.proofs.Words.{atoms-length, three-alone}
+use Rattle.plan_cli.specs.Lines.{newline, space, postWord, whyWord, refusedWord, sign, postLine, whyLine, lines, whyOf, whyLines, refusedLine}
+
+pub sign-low : (kind : ℤ) → leZ kind (pos 0) ≡ true → bytesOf " >= " ≡ sign kind
+unfolding sign
+sign-low kind h = rw (h, sign)
+
+pub sign-high : (kind : ℤ) → leZ kind (pos 0) ≡ false → bytesOf " <= " ≡ sign kind
+unfolding sign
+sign-high kind h = rw (h, sign)
+
+-- bytes that are known to be others
+pub puts-as : {before after us vs : List ℕ} {at next : ℕ} → us ≡ vs → Puts before after at us next → Puts before after at vs next
+puts-as {before} {after} {us} {vs} {at} {next} e p = subst (λ (l : List ℕ). Puts before after at l next) e p
+
+-- a number that came back from its bits
+pub puts-number : {before after : List ℕ} {at next : ℕ} {x y : ℤ} → x ≡ y → Puts before after at (decimal x) next → Puts before after at (decimal y) next
+puts-number e p = puts-as (ap decimal e) p
+
+module _ {o₀ o₁ o₂ o₃ o₄ o₅ : List ℕ} {a₀ a₁ a₂ a₃ a₄ a₅ : ℕ} where
+  pub puts-post : {x y v w : ℤ} → x ≡ y → v ≡ w → Puts o₀ o₁ a₀ postWord a₁ → Puts o₁ o₂ a₁ (decimal x) a₂ → Puts o₂ o₃ a₂ space a₃ → Puts o₃ o₄ a₃ (decimal v) a₄ → Puts o₄ o₅ a₄ newline a₅
+      → Puts o₀ o₅ a₀ (postLine y w) a₅
+  unfolding postLine
+  puts-post e f p q r s t = puts-append (puts-append (puts-append (puts-append p (puts-number e q)) r) (puts-number f s)) t
+
+  pub puts-why : {x y k j v w : ℤ} → x ≡ y → k ≡ j → v ≡ w → Puts o₀ o₁ a₀ whyWord a₁ → Puts o₁ o₂ a₁ (decimal x) a₂ → Puts o₂ o₃ a₂ (sign k) a₃ → Puts o₃ o₄ a₃ (decimal v) a₄
+      → Puts o₄ o₅ a₄ newline a₅
+      → Puts o₀ o₅ a₀ (whyLine y j w) a₅
+  unfolding whyLine
+  puts-why e g f p q r s t = puts-append (puts-append (puts-append (puts-append p (puts-number e q)) (puts-as (ap sign g) r)) (puts-number f s)) t
+
+pub puts-refused : {o₀ o₁ o₂ o₃ : List ℕ} {a₀ a₁ a₂ a₃ : ℕ} (number : ℕ) → Puts o₀ o₁ a₀ refusedWord a₁ → Puts o₁ o₂ a₁ (natural number) a₂ → Puts o₂ o₃ a₂ newline a₃
+    → Puts o₀ o₃ a₀ (refusedLine number) a₃
+unfolding refusedLine
+puts-refused number p q r = puts-append (puts-append p q) r
+
+-- ---- lines of a list, one by one
+module _ {A : Type 0} (f : A → List ℕ) (d : A) where
+  lines-none : lines f [] ≡ []
+  unfolding lines
+  lines-none = refl
+
+  lines-next : (x : A) (xs : List A) → lines f (x ∷ xs) ≡ f x ++ lines f xs
+  unfolding lines
+  lines-next x xs = refl
+
+  lines-suc : (xs : List A) (k : ℕ) → k < length xs → lines f (take (suc k) xs) ≡ lines f (take k xs) ++ f (getD xs k d)
+  lines-suc [] k h = absurd (omega arith)
+  lines-suc (x ∷ xs) zero h = lines-next x [] ∙ ap (λ (l : List ℕ). f x ++ l) lines-none ∙ append-nil (f x) ∙ ap (λ (l : List ℕ). l ++ f x) (sym lines-none)
+  lines-suc (x ∷ xs) (suc k) h =
+      lines-next x (take (suc k) xs)
+      ∙ ap (λ (l : List ℕ). f x ++ l) (lines-suc xs k (omega arith))
+      ∙ sym (append-assoc (f x) (lines f (take k xs)) (f (getD xs k d)))
+      ∙ ap (λ (l : List ℕ). l ++ f (getD xs k d)) (sym (lines-next x (take k xs)))
+
+  -- the buffer with one more of them
+  pub puts-first : (before : List ℕ) (at : ℕ) (xs : List A) → Puts before before at (lines f (take 0 xs)) at
+  puts-first before at xs = puts-as (sym lines-none) (record { text = refl; end = omega arith })
+
+  pub puts-next : {o₀ o₁ o₂ : List ℕ} {a₀ a₁ a₂ : ℕ} (xs : List A) (k : ℕ) → k < length xs → Puts o₀ o₁ a₀ (lines f (take k xs)) a₁ → Puts o₁ o₂ a₁ (f (getD xs k d)) a₂
+      → Puts o₀ o₂ a₀ (lines f (take (k + 1) xs)) a₂
+  puts-next xs k h p q = rw (add-one k) (puts-as (sym (lines-suc xs k h)) (puts-append p q))
+
+  pub puts-all : {o₀ o₁ : List ℕ} {a₀ a₁ : ℕ} (xs : List A) (k : ℕ) → length xs ≤ k → Puts o₀ o₁ a₀ (lines f (take k xs)) a₁ → Puts o₀ o₁ a₀ (lines f xs) a₁
+  puts-all xs k h p = puts-as (ap (lines f) (take-all k xs h)) p
+
+-- ---- a reason's lines from its words
+-- the buffer before the first line of a reason
+pub puts-why-first : (before : List ℕ) (at : ℕ) (atoms : List Atom) → Puts before before at (whyLines (take 0 atoms)) at
+puts-why-first before at atoms = puts-first whyOf no-atom before at atoms
+
+-- and with all of them
+pub puts-why-all : {o₀ o₁ : List ℕ} {a₀ a₁ : ℕ} (words : List ℤ) (k : ℕ) → length words / 3 ≤ k
+    → ((atoms : List Atom) → words ≡ atomWords atoms → Puts o₀ o₁ a₀ (whyLines (take k atoms)) a₁)
+    → (atoms : List Atom) → words ≡ atomWords atoms → Puts o₀ o₁ a₀ (whyLines atoms) a₁
+puts-why-all words k h p atoms w =
+    let l = atoms-length atoms in
+    let m = ap length w in
+    puts-all whyOf no-atom atoms k (omega arith) (p atoms w)
+
+-- the buffer with one more line of a reason, whose words come back from their bits
+pub puts-why-next : {o₀ o₁ o₂ : List ℕ} {a₀ a₁ a₂ : ℕ} {x y z : ℤ} (words : List ℤ) (k : ℕ) → 3 * k + 3 ≤ length words
+    → x ≡ getD words (3 * k) (pos 0) → y ≡ getD words (3 * k + 1) (pos 0) → z ≡ getD words (3 * k + 2) (pos 0)
+    → Puts o₁ o₂ a₁ (whyLine x y z) a₂
+    → ((atoms : List Atom) → words ≡ atomWords atoms → Puts o₀ o₁ a₀ (whyLines (take k atoms)) a₁)
+    → (atoms : List Atom) → words ≡ atomWords atoms → Puts o₀ o₂ a₀ (whyLines (take (k + 1) atoms)) a₂
+puts-why-next words k h e f g q p atoms w =
+    let l = atoms-length atoms in
+    let m = ap length w in
+    let t = three-alone atoms k (omega arith) in
+    let same : (j : ℕ) → getD words j (pos 0) ≡ getD (atomWords atoms) j (pos 0) = λ j. ap (λ (ws : List ℤ). getD ws j (pos 0)) w in
+    puts-next whyOf no-atom atoms k (omega arith) (p atoms w)
+    (puts-as (λ i. whyLine ((e ∙ same (3 * k) ∙ t .variable) i) ((f ∙ same (3 * k + 1) ∙ t .kind) i) ((g ∙ same (3 * k + 2) ∙ t .value) i)) q)

@@ -1,0 +1,42 @@
+-- Four stores behind one another, each value as its callee gives it.
+use native.Mathlib.Numerals.{add-one, add-two, add-three}
+use mir.Syntax.{w32}
+use Rattle.integers.proofs.Ints.{back-of}
+use native.Mathlib.Omega.{arith}
+use lib.ListN.{length-set}
+use borrow.Author.Needs.{needs}
+use Rattle.post_words.proofs.write_post.Statement.{statement}
+use Rattle.post_words.proofs.write_post.Tie as tie
+
+slice-set-from-posts-2 : tie.Need-slice-set-from-posts-2
+slice-set-from-posts-2 c = simp length-set (omega arith)
+
+slice-set-from-posts-3 : tie.Need-slice-set-from-posts-3
+slice-set-from-posts-3 c = simp length-set (omega arith)
+
+slice-set-from-posts-4 : tie.Need-slice-set-from-posts-4
+slice-set-from-posts-4 c = simp length-set (omega arith)
+
+returns : tie.Need-returns
+returns c = rw (
+  back-of w32 (c .before .before .before .word-of .result) (c .before .before .before .word-of .ok),
+  c .before .before .before .word-of .ensures,
+  back-of w32 (c .before .before .start-of .result) (c .before .before .start-of .ok),
+  c .before .before .start-of .ensures,
+  back-of w32 (c .before .word-of2 .result) (c .before .word-of2 .ok),
+  c .before .word-of2 .ensures,
+  back-of w32 (c .word-of3 .result) (c .word-of3 .ok),
+  c .word-of3 .ensures,
+  add-one,
+  add-two,
+  add-three,
+)
+
+pub write-post-spec : {M : Type 1} → statement M
+write-post-spec =
+    tie.close
+    (tie.spec
+    (λ c. search needs) (λ c κs. search needs) (λ c. search needs) (λ c. search needs) (λ c κs. search needs)
+    (λ c. search needs) (λ c. search needs) slice-set-from-posts-2 (λ c κs. search needs) (λ c. search needs)
+    (λ c. search needs) slice-set-from-posts-3 (λ c κs. search needs) (λ c. search needs) (λ c. search needs)
+    slice-set-from-posts-4 (λ c. search needs) returns)

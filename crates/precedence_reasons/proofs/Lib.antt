@@ -1,9 +1,0 @@
-pub mod Apart
-pub mod Members
-pub mod Raising
-pub mod BoundAnswers
-pub mod BoundRefused
-pub mod Explaining
-pub mod ReasonRefused
-pub mod Many
-pub mod Together

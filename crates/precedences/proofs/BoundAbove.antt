@@ -1,0 +1,41 @@
+-- Whether a task's bound raises it: in arrays, over moments and over whole numbers alike.
+use mathlib.Core.Path.{_≡_, sym, ap, _∙_}
+use mathlib.Core.Bool.{Bool, true, false}
+use mathlib.Core.List.{List}
+use Prim.Native.Nat.{ℕ, _<_}
+use native.Mathlib.Omega.{arith}
+use lib.IntN.{ℤ}
+use lib.Signed.{clashℤ}
+use lib.ListN.{length, getD}
+use Rattle.integers.specs.Limits.{TASKS}
+use Rattle.scheduling.specs.Scheduling.{whole, natural, Tasks}
+use Rattle.trees.specs.Ects.{exceeds}
+use Rattle.records.specs.declared.record.DisjunctivePropagator.{DisjunctivePropagator}
+use Rattle.records.specs.Records.{tasksIn, momentsIn}
+use Rattle.records.specs.Refusals.{AcceptedInput}
+use Rattle.records.proofs.AcceptedTasks.{count, proper-whole, above}
+use Rattle.precedences.specs.PredecessorArrays.{boundAt, Ranged}
+use Rattle.precedences.proofs.MomentBounds.{raises, raises-not}
+use Rattle.precedences.specs.Bounds.{Raises}
+
+-- the test of the array's start
+pub from-start : {n : ℕ} {est lst durations : List ℕ} (f : Ranged n est lst durations) (i : ℕ) → i < n → {b : Bool} → exceeds (boundAt (f .J) i) (getD est i 0) ≡ b
+    → exceeds (boundAt (f .J) i) (f .J .earliest i) ≡ b
+from-start f i q h = ap (exceeds (boundAt (f .J) i)) (sym (f .held .start i q)) ∙ h
+
+-- a record and its ranges that are accepted
+module _ (r : DisjunctivePropagator) (es ls : List ℤ) (a : AcceptedInput r es ls) (long : length (r .durations) ≡ TASKS) (i : ℕ) (q : i < r .count) where
+  abbrev Z : Tasks whole
+  Z = tasksIn r es ls
+
+  abbrev M : Tasks natural
+  M = momentsIn r es ls
+
+  pub among : i < tasksIn r es ls .count
+  among = omega (arith, count r es ls a long)
+
+  pub raises-yes : exceeds (boundAt (momentsIn r es ls) i) (momentsIn r es ls .earliest i) ≡ true → Raises (tasksIn r es ls) i
+  raises-yes h = let w = raises Z (proper-whole r es ls a long) (above r es ls a long) i among h in (w .0, record { is-bound = w .1; above = w .2 })
+
+  pub raises-no : exceeds (boundAt (momentsIn r es ls) i) (momentsIn r es ls .earliest i) ≡ false → Raises (tasksIn r es ls) i → ⊥
+  raises-no h (b, w) = clashℤ (w .above) (raises-not Z (proper-whole r es ls a long) (above r es ls a long) i among h b (w .is-bound))

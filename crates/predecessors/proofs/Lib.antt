@@ -1,3 +1,0 @@
-pub mod Ranging
-pub mod Soundness
-pub mod Bounding

@@ -1,3 +1,0 @@
-pub mod Predecessors
-pub mod TaskArrays
-pub mod Examples

@@ -1,0 +1,81 @@
+-- What a run that is accepted, or that the core may run, takes for given, as the run's definition has it.
+use mathlib.Core.Path.{_≡_, ap, _∙_}
+use mathlib.Core.List.{List}
+use Prim.Native.Nat.{ℕ, _≤_, _<_}
+use native.Mathlib.Decide.{decLe}
+use native.Mathlib.Omega.{arith}
+use lib.IntN.{ℤ, pos}
+use lib.ListN.{length, getD, take, List·getD-eq-default}
+use lib.Seq.{getD-take, length-take-le}
+use lib.Signed.{_≤ℤ_}
+use Rattle.integers.specs.Limits.{START, MIRRORED}
+use Rattle.integers.proofs.Ints.{up, dn, ints}
+use Rattle.integers.proofs.MomentSums.{more-above}
+use Rattle.scheduling.specs.Scheduling.{total}
+use Rattle.scheduling.proofs.Sets.{total-ext}
+use Rattle.runs.proofs.Demand as demand
+use Rattle.records.specs.declared.record.DisjunctivePropagator.{DisjunctivePropagator}
+use Rattle.records.specs.Records.{Lawful}
+use Rattle.records.specs.Refusals.{Accepted}
+use Rattle.propagator.specs.Ran.{Runnable}
+
+-- The durations of a lawful record: none is 0, so there are as many as its count says.
+module _ (r : DisjunctivePropagator) (lawful : Lawful r) where
+  all-there : r .count ≤ length (r .durations)
+  all-there = elim (decLe (r .count) (length (r .durations))) [
+    | yes q ↦ q
+    | no q ↦ absurd (omega (arith, lawful .lasts (length (r .durations)) (omega arith), List·getD-eq-default (r .durations) 0 {n = length (r .durations)} (omega arith)))
+  ]
+
+  pub count : length (take (r .count) (r .durations)) ≡ r .count
+  count = length-take-le (r .count) (r .durations) all-there
+
+  pub lasts-at : (k : ℕ) → k < r .count → getD (take (r .count) (r .durations)) k 0 ≡ getD (r .durations) k 0
+  lasts-at k q = getD-take (r .count) (r .durations) k 0 q
+
+  pub sum-is : total (λ k. getD (take (r .count) (r .durations)) k 0) (length (take (r .count) (r .durations))) ≡ total (λ k. getD (r .durations) k 0) (r .count)
+  sum-is = ap (total (λ k. getD (take (r .count) (r .durations)) k 0)) count ∙ total-ext (λ k. getD (take (r .count) (r .durations)) k 0) (λ k. getD (r .durations) k 0) (r .count) lasts-at
+
+-- What the core runs,
+pub accepted : (r : DisjunctivePropagator) (es ls : List ℤ) (posts atoms : ℕ) → Runnable r es ls posts atoms → demand.Accepted MIRRORED (take (r .count) (r .durations)) es ls
+accepted r es ls posts atoms a =
+    let c = count r (a .lawful) in
+    record {
+      some = omega (arith, c, a .lawful .some);
+      few = omega (arith, c, a .lawful .few);
+      lasts = λ k q. omega (arith, lasts-at r (a .lawful) k (omega (arith, c)), a .lawful .lasts k (omega (arith, c)));
+      sum = omega (arith, sum-is r (a .lawful), a .lawful .sum);
+      from = λ k q. a .from k (omega (arith, c));
+      to = λ k q. a .to k (omega (arith, c));
+      ranges = λ k q. a .ranges k (omega (arith, c, a .counts .earliest));
+    }
+
+wider : (z : ℤ) → z ≤ℤ pos START → z ≤ℤ pos MIRRORED
+unfolding up dn
+wider z h = omega ints
+
+-- and an accepted run, which takes more for given than the core does.
+module _ (r : DisjunctivePropagator) (es ls : List ℤ) (posts atoms : ℕ) (a : Accepted r es ls posts atoms) where
+  pub runnable : Runnable r es ls posts atoms
+  runnable = record {
+    lawful = a .lawful;
+    counts = a .counts;
+    from = λ k q. more-above START MIRRORED (omega arith) (getD es k (pos 0)) (a .starts .earliest k (omega (arith, a .counts .earliest)) .low);
+    to = λ k q. wider (getD ls k (pos 0)) (a .starts .latest k (omega (arith, a .counts .latest)) .high);
+    ranges = a .ranges;
+    words = a .words;
+  }
+
+  pub narrow : demand.Accepted START (take (r .count) (r .durations)) es ls
+  narrow =
+      let b = accepted r es ls posts atoms runnable in
+      let c = count r (a .lawful) in
+      record {
+        some = b .some;
+        few = b .few;
+        lasts = b .lasts;
+        sum = b .sum;
+        from = λ k q. a .starts .earliest k (omega (arith, c, a .counts .earliest)) .low;
+        to = λ k q. a .starts .latest k (omega (arith, c, a .counts .latest)) .high;
+        ranges = b .ranges;
+      }

@@ -1,0 +1,327 @@
+-- One turn of the inner loop: what is asked of a post holds where a task is considered, and tree and slices are then at the definition's next state.
+use mathlib.Core.Path.{_≡_, refl, sym, ap, subst, _∙_}
+use mathlib.Core.List.{List, [], _∷_, _++_, map}
+use mathlib.Core.Bool.{true, false}
+use mathlib.Core.Option.{some}
+use Prim.Native.Nat.{ℕ, suc, _+_, _*_, _≤_, _<_}
+use native.Mathlib.Nat.{mul-le-mul, mul-le-mul-right, mul-left-comm}
+use native.Mathlib.Omega.{arith}
+use lib.IntN.{ℤ, pos}
+use lib.ListN.{length, getD, set, length-append, length-map}
+use lib.Seq.{sets, length-sets}
+use borrow.Author.Tests.{lt-ltb, le-ltb}
+use Rattle.integers.specs.Limits.{TASKS, ATOMS, INNER}
+use Rattle.integers.specs.Moments.{instant, zeroAt}
+use Rattle.integers.specs.Orders.{index}
+use Rattle.scheduling.specs.Scheduling.{natural, Tasks, TaskSet, Atom, completion}
+use Rattle.trees.specs.Ects.{exceeds, raisedTo}
+use Rattle.trees.proofs.Ects.{raised-some, within-bound}
+use Rattle.trees.specs.Leaves as leaves
+use Rattle.trees.specs.Leaves.{Leaf, empty}
+use Rattle.trees.specs.ArraySearches.{thetaIn}
+use Rattle.trees.specs.Shapes.{heightFor}
+use Rattle.trees.specs.Trees.{IsTree}
+use Rattle.trees.specs.Operations.{Held, Tall, Coloured}
+use Rattle.trees.proofs.Heights.{room as room-for}
+use Rattle.trees.proofs.RootAnswers as tree
+use Rattle.trees.proofs.Trees.{theta-of}
+use Rattle.runs.specs.Traces.{Post}
+use Rattle.runs.specs.Runs.{State, dropped, raised, posted, propagation}
+use Rattle.scheduling.specs.Words.{atomWords}
+use Rattle.runs.specs.Words.{postWords, reasons}
+use Rattle.runs.proofs.LeafChanges.{reached-changes}
+use Rattle.runs.proofs.WrittenSlices.{post-stored, reason-stored, reasons-more}
+use Rattle.runs.proofs.InnerLoop.{inner-pass, inner-stop, inner-raise}
+use Rattle.runs.proofs.AtomRoom as room
+use Rattle.runs.proofs.LevelSteps as steps
+use Rattle.runs.proofs.ReachedStates.{reached-inv}
+use Rattle.explanations.specs.WrittenAtoms.{starting}
+use Rattle.explanations.specs.Explanations.{Preceded}
+use Rattle.explanations.proofs.ExplanationAtoms.{Alike, propagation-same}
+use Rattle.propagator.specs.declared.disjunctive_propagator.Written.{Written}
+use Rattle.propagator.specs.declared.disjunctive_propagator.Turn.the-variants as turn
+use Rattle.propagator.specs.RunArrays.{Ordered, Holds}
+use Rattle.propagator.specs.Candidates.{reasonOf, Posted, Standing, AtNow, Considered, Responsible-for}
+use Rattle.propagator.proofs.ExplanationInput as meeting
+use Rattle.integers.proofs.Lists.{map-set}
+
+-- one leaf change more
+abbrev pub one-change : Written → Written
+one-change w = record { posts = w .posts; atoms = w .atoms; changes = w .changes + 1 }
+
+-- what is asked of, and said by, an explanation, with other names for the same values
+preceded-at : {size k : ℕ} {est dur θ θ′ : List ℕ} {p c c′ i i′ b : ℕ} → θ ≡ θ′ → c ≡ c′ → i ≡ i′ → Preceded size k θ′ est dur p c′ i′ b → Preceded size k θ est dur p c i b
+preceded-at a e f m = rw (a, e, f) m
+
+propagation-at : (K : Tasks natural) (p b : ℕ) {θ θ′ : List ℕ} {c c′ i i′ : ℕ} → θ ≡ θ′ → c ≡ c′ → i ≡ i′ → propagation zeroAt K i b c p θ ≡ propagation zeroAt K i′ b c′ p θ′
+propagation-at K p b a e f = rw (a, e, f)
+
+-- the words of one post more, of its reason, and of a start that is raised
+posts-at : (ps₀ : List ℤ) {ps ps′ : List ℤ} (posts : List Post) (p : Post) {k m i many : ℕ} {b : ℤ} → ps ≡ sets ps₀ 0 (postWords 0 posts) → k ≡ length posts → m ≡ length (reasons posts) → i ≡ p .task
+    → b ≡ p .bound → many ≡ length (p .reason)
+    → ps′ ≡ sets ps (4 * k) (pos i ∷ b ∷ pos m ∷ pos many ∷ []) → ps′ ≡ sets ps₀ 0 (postWords 0 (posts ++ (p ∷ [])))
+posts-at ps₀ posts p a c d e f g h = h ∙ rw (a, c, d, e, f, g) (post-stored ps₀ posts p)
+
+atoms-at : (as₀ : List ℤ) {as′ bs : List ℤ} (posts : List Post) (p : Post) {m : ℕ} {ws : List ℤ} → as′ ≡ sets as₀ 0 (atomWords (reasons posts)) → m ≡ length (reasons posts)
+    → ws ≡ atomWords (p .reason)
+    → bs ≡ sets as′ (3 * m) ws → bs ≡ sets as₀ 0 (atomWords (reasons (posts ++ (p ∷ []))))
+atoms-at as₀ posts p a c d h = h ∙ rw (a, c, d) (reason-stored as₀ (reasons posts) (p .reason) ∙ ap (λ (r : List Atom). sets as₀ 0 (atomWords r)) (sym (reasons-more posts p)))
+
+starts-at : {es es′ : List ℤ} (starts : List ℕ) (b : ℕ) {i j : ℕ} → es ≡ map (instant zeroAt) starts → i ≡ j → es′ ≡ set es i (instant zeroAt b) → es′ ≡ map (instant zeroAt) (set starts j b)
+starts-at starts b {i} {j} a d h = h ∙ rw (a, d) (sym (map-set (instant zeroAt) starts j b))
+
+module _ {n inn height lct : ℕ} {words : List ℕ} {es ps as′ : List ℤ} {w : Written} {est lst dur tasks mapping : List ℕ}
+    (s : Standing n inn height lct words es ps as′ w est lst dur tasks mapping) where
+  abbrev J : Tasks natural
+  J = s .J
+
+  abbrev estOrder : List ℕ
+  estOrder = s .estOrder
+
+  abbrev lctOrder : List ℕ
+  lctOrder = s .lctOrder
+
+  abbrev G : Ordered J estOrder lctOrder
+  G = s .ordered
+
+  abbrev ls : List Leaf
+  ls = s .st .leaves
+
+  abbrev t : ℕ
+  t = s .level
+
+  abbrev T : ℕ → ℕ
+  T x = getD estOrder x 0
+
+  abbrev Short : Post → Type 0
+  Short = room.Short zeroAt J (G .proper) estOrder lctOrder (G .by-earliest) (G .by-completion)
+
+  abbrev ShortEnd : List Atom → Type 0
+  ShortEnd = room.ShortEnd zeroAt J (G .proper) estOrder lctOrder (G .by-earliest) (G .by-completion)
+
+  abbrev short : steps.Measure zeroAt J (G .proper) estOrder lctOrder (G .by-earliest) (G .by-completion) Short ShortEnd
+  short = room.short zeroAt J (G .proper) estOrder lctOrder (G .by-earliest) (G .by-completion)
+
+  pub inv : steps.Inv zeroAt J (G .proper) estOrder lctOrder (G .by-earliest) (G .by-completion) Short ShortEnd short t (s .st)
+  inv = reached-inv zeroAt J (G .proper) estOrder lctOrder (G .by-earliest) (G .by-completion) Short ShortEnd short t (s .st) (s .reached) (s .small)
+
+  abbrev Θ : TaskSet
+  Θ = steps.Th zeroAt J (G .proper) estOrder lctOrder (G .by-earliest) (G .by-completion) t
+
+  abbrev pub Λ : TaskSet
+  Λ = steps.lam zeroAt J (G .proper) estOrder lctOrder (G .by-earliest) (G .by-completion) Short ShortEnd short (s .st)
+
+  abbrev pub shape : tree.Represents J (G .proper) estOrder (G .by-earliest) ls Θ Λ
+  shape = steps.shape zeroAt J (G .proper) estOrder lctOrder (G .by-earliest) (G .by-completion) Short ShortEnd short t (s .st) inv
+
+  -- the tree that the words hold, and its height
+  abbrev pub shown : Held inn words
+  shown = record { J = J; estOrder = estOrder; leaves = ls; limited = G .limited; tree = s .at .tree }
+
+  pub tall : Tall shown height
+  tall = s .arrays .tall ∙ ap heightFor (sym (s .arrays .count))
+
+  pub theta-is : thetaIn words inn tasks n ≡ leaves.theta J estOrder ls
+  theta-is = ap (thetaIn words inn tasks) (sym (s .arrays .count)) ∙ theta-of (G .limited) (s .at .tree) tasks (λ j q. s .arrays .tasks .at j (omega (arith, s .arrays .count)))
+
+  pub few : n ≤ TASKS
+  few = omega (arith, G .limited .count, s .arrays .count)
+
+  pub inner-few : inn ≤ INNER
+  inner-few = omega (arith, s .at .tree .complete, room-for (J .count) (omega (arith, G .limited .count)))
+
+  pub few-changes : w .changes ≤ 4 * TASKS
+  few-changes = omega (
+    arith,
+    s .at .counted,
+    reached-changes zeroAt J (G .proper) estOrder lctOrder (G .by-earliest) (G .by-completion) t (s .st) (s .reached) (s .small),
+    s .small,
+    few,
+    s .arrays .count,
+  )
+
+  -- a number of each task, by the tasks' count
+  pub held : {f : ℕ → ℕ} {array : List ℕ} → Holds n f array → Holds (J .count) f array
+  held h = record { size = h .size; at = λ k q. h .at k (omega (arith, s .arrays .count)) }
+
+  -- how long the reasons so far are, and the slice that they stand in
+  pub reasons-short : length (reasons (s .st .posts)) + length (s .st .posts) ≤ length (s .st .posts) * (2 * n)
+  reasons-short = subst (λ (n : ℕ). length (reasons (s .st .posts)) + length (s .st .posts) ≤ length (s .st .posts) * (2 * n)) (s .arrays .count)
+      (room.reasons-short zeroAt J (G .proper) estOrder lctOrder (G .by-earliest) (G .by-completion) (s .st .posts) (inv .good))
+
+  pub atoms-size : length as′ ≡ length (s .as₀)
+  atoms-size = ap length (s .at .atoms) ∙ length-sets (s .as₀) 0 (atomWords (reasons (s .st .posts)))
+
+  pub found-inside : (x : ℕ) → leaves.responsible J estOrder ls ≡ some x → x < J .count
+  found-inside x z = tree.one-found J (G .proper) estOrder (G .by-earliest) ls Θ Λ shape x z .small
+
+  module _ {i x : ℕ} (r : Responsible-for s i x) where
+    found : tree.Found J (G .proper) estOrder (G .by-earliest) ls Θ Λ shape x
+    found = tree.one-found J (G .proper) estOrder (G .by-earliest) ls Θ Λ shape x (r .found)
+
+    passes : exceeds (leaves.ect-bar J estOrder ls) (completion J (getD lctOrder t 0)) ≡ true
+    passes = ap (exceeds (leaves.ect-bar J estOrder ls)) (sym (s .ends)) ∙ r .over
+
+    pub small : i < n
+    small = omega (arith, r .task, found .gray .small, s .arrays .count)
+
+    pub known : i < TASKS
+    known = omega (arith, small, few)
+
+    -- its start is in the slice
+    pub start-inside : i < length es
+    start-inside = omega (arith, small, s .arrays .count, inv .known, ap length (s .at .starts), length-map (s .st .starts) (instant zeroAt))
+
+    task-start : getD est i 0 ≡ J .earliest (T x)
+    task-start = s .arrays .starts .at i small ∙ ap (J .earliest) (r .task)
+
+    task-latest : getD lst i 0 ≡ J .latest (T x)
+    task-latest = s .latest .at i small ∙ ap (J .latest) (r .task)
+
+    leaf : getD mapping i 0 ≡ x
+    leaf = s .arrays .places i small ∙ ap (λ (k : ℕ). index estOrder k) (r .task) ∙ G .by-earliest .back x (found .small)
+
+    -- room for one post more
+    fewer : suc (length (s .st .posts)) ≤ t
+    fewer = room.posts-fewer zeroAt J (G .proper) estOrder lctOrder (G .by-earliest) (G .by-completion) t (s .st) inv (T x) (found .gray)
+
+    theta-less : suc (length (leaves.theta J estOrder ls)) ≤ n
+    theta-less = omega (
+      arith,
+      s .arrays .count,
+      room.theta-less zeroAt J (G .proper) estOrder lctOrder (G .by-earliest) (G .by-completion) ls x (found .small)
+          (tree.white-at J (G .proper) estOrder (G .by-earliest) ls Θ Λ shape x (found .small) ∙ found .out),
+    )
+
+    pub many-atoms : w .atoms ≤ ATOMS
+    many-atoms = omega (
+      arith,
+      s .at .explained,
+      reasons-short,
+      mul-le-mul {n₁ = length (s .st .posts)} {m₁ = 2 * n} {n₂ = TASKS} {m₂ = 2 * TASKS} (omega (arith, fewer, s .small, few, s .arrays .count)) (omega (arith, few)),
+    )
+
+    atom-room : 3 * w .atoms + 6 * length (leaves.theta J estOrder ls) + 3 ≤ length as′
+    atom-room = omega (
+      arith,
+      s .at .explained,
+      reasons-short,
+      theta-less,
+      s .atom-room,
+      atoms-size,
+      twice,
+      mul-le-mul-right {m = suc (length (s .st .posts))} {n = n} (2 * n) (omega (arith, fewer, s .small, s .arrays .count)),
+    )
+      where
+        twice : n * (2 * n) ≡ 2 * (n * n)
+        twice = mul-left-comm n 2 n
+
+    pub post-room : 4 * w .posts + 4 ≤ length ps
+    post-room = omega (arith, s .at .posted, fewer, s .small, s .post-room, s .arrays .count, ap length (s .at .posts) ∙ length-sets (s .ps₀) 0 (postWords 0 (s .st .posts)))
+
+    -- the task's leaf may be emptied, and is then
+    place-inside : {k : ℕ} → k ≡ getD mapping i 0 → k < J .count
+    place-inside e = omega (arith, e, leaf, found .small)
+
+    pub may-clear : {k : ℕ} → k ≡ getD mapping i 0 → (h : Held inn words) × (k < h .J .count)
+    may-clear e = (shown, place-inside e)
+
+    abbrev pub Cleared : ℕ → List ℕ → Type 0
+    Cleared k words′ = (h : Held inn words) → k < h .J .count → Coloured empty h k words′
+
+    cleared : {k : ℕ} (words′ : List ℕ) → k ≡ getD mapping i 0 → Cleared k words′ → IsTree J estOrder (set ls x empty) inn words′
+    cleared words′ e q = subst (λ (k : ℕ). IsTree J estOrder (set ls k empty) inn words′) (e ∙ leaf) (q shown (place-inside e))
+
+    -- the start, raised to the ect of Theta
+    module _ (b : ℕ) (is : b ≡ raisedTo (getD est i 0) (leaves.ect J estOrder ls)) where
+      module _ (up : getD est i 0 < b) where
+        ect-is : leaves.ect J estOrder ls ≡ some b
+        ect-is = raised-some (getD est i 0) b (leaves.ect J estOrder ls) is up
+
+        up′ : J .earliest (T x) < b
+        up′ = omega (arith, up, task-start)
+
+        -- what `post` asks
+        pub asked : Preceded (length as′) (w .atoms) (thetaIn words inn tasks n) est dur (leaves.sum J estOrder ls) lct i b
+        asked = preceded-at theta-is (s .ends) (r .task)
+            (meeting.preceded J estOrder lctOrder G est dur (held (s .arrays .starts)) (held (s .arrays .durations)) t ls Λ shape (s .small) (length as′)
+            (w .atoms) x b found passes ect-is up′ atom-room)
+
+        abbrev now : List Atom
+        now = propagation zeroAt J (T x) b (completion J (getD lctOrder t 0)) (leaves.sum J estOrder ls) (leaves.theta J estOrder ls)
+
+        abbrev made : Post
+        made = record { task = T x; bound = instant zeroAt b; reason = now }
+
+        reason-is : reasonOf shown tasks n est dur i b lct ≡ now
+        reason-is = propagation-at (starting est dur) (leaves.sum J estOrder ls) b theta-is (s .ends) (r .task)
+            ∙ propagation-same zeroAt (starting est dur) J (T x) b (completion J (getD lctOrder t 0)) (leaves.sum J estOrder ls) (leaves.theta J estOrder ls)
+            (alike (T x) (found .gray .small)) (λ y q.
+            alike (getD (leaves.theta J estOrder ls) y 0) (meeting.each-listed J estOrder lctOrder G est dur (held (s .arrays .starts)) (held (s .arrays .durations)) t ls Λ shape (s .small) y q))
+          where
+            alike : (k : ℕ) → k < J .count → Alike (starting est dur) J k
+            alike = meeting.alike J estOrder lctOrder G est dur (held (s .arrays .starts)) (held (s .arrays .durations))
+
+        -- the state with the post
+        abbrev after : State
+        after = posted zeroAt J estOrder lctOrder (s .st) (T x) b t
+
+        module _ {ps′ bs : List ℤ} {w′ : Written} (p : Posted ps as′ ps′ bs w w′ i b (reasonOf shown tasks n est dur i b lct)) where
+          post-at : AtNow s after words es ps′ bs w′
+          post-at = record {
+            tree = s .at .tree;
+            starts = s .at .starts;
+            posts = posts-at (s .ps₀) (s .st .posts) made (s .at .posts) (s .at .posted) (s .at .explained) (r .task) refl (ap length reason-is) (p .post-words);
+            atoms = atoms-at (s .as₀) (s .st .posts) made (s .at .atoms) (s .at .explained) (ap atomWords reason-is) (p .atom-words);
+            posted = omega (arith, p .posts, s .at .posted, length-append (s .st .posts) (made ∷ []));
+            explained = omega (arith, p .atoms, s .at .explained, ap length reason-is, ap length (reasons-more (s .st .posts) made), length-append (reasons (s .st .posts)) now);
+            counted = p .changes ∙ s .at .counted;
+          }
+
+          pub emptied : getD lst i 0 < b → Considered s (turn.Emptied w′) words es ps′ bs
+          emptied high = (
+            after,
+            post-at,
+            λ f. inner-stop zeroAt J estOrder lctOrder f t (s .st) x passes (r .found) b ect-is (lt-ltb (J .earliest (T x)) b up′) (lt-ltb (J .latest (T x)) b (omega (arith, high, task-latest))),
+          )
+
+          pub raised-on : {k : ℕ} {words′ : List ℕ} {es′ : List ℤ} → b ≤ getD lst i 0 → es′ ≡ set es i (instant zeroAt b) → k ≡ getD mapping i 0 → Cleared k words′
+              → Considered s (turn.On (one-change w′)) words′ es′ ps′ bs
+          raised-on {words′ = words′} {es′} low e at-leaf q = (
+            next,
+            at-next,
+            λ f. inner-raise zeroAt J estOrder lctOrder f t (s .st) x passes (r .found) b ect-is (lt-ltb (J .earliest (T x)) b up′) (le-ltb (J .latest (T x)) b (omega (arith, low, task-latest))),
+          )
+            where
+              next : State
+              next = dropped (raised after (T x) b) x
+
+              at-next : AtNow s next words′ es′ ps′ bs (one-change w′)
+              at-next = record {
+                tree = cleared words′ at-leaf q;
+                starts = starts-at (s .st .starts) b (s .at .starts) (r .task) e;
+                posts = post-at .posts;
+                atoms = post-at .atoms;
+                posted = post-at .posted;
+                explained = post-at .explained;
+                counted = ap (λ (c : ℕ). c + 1) (post-at .counted);
+              }
+
+      -- no post
+      pub passed-on : {k : ℕ} {words′ : List ℕ} → b ≤ getD est i 0 → k ≡ getD mapping i 0 → Cleared k words′ → Considered s (turn.On (one-change w)) words′ es ps as′
+      passed-on {words′ = words′} low at-leaf q = (
+        dropped (s .st) x,
+        record {
+          tree = cleared words′ at-leaf q;
+          starts = s .at .starts;
+          posts = s .at .posts;
+          atoms = s .at .atoms;
+          posted = s .at .posted;
+          explained = s .at .explained;
+          counted = ap (λ (c : ℕ). c + 1) (s .at .counted);
+        },
+        λ f. inner-pass zeroAt J estOrder lctOrder f t (s .st) x passes (r .found) still,
+      )
+        where
+          still : exceeds (leaves.ect J estOrder ls) (J .earliest (T x)) ≡ false
+          still = subst (λ (e : ℕ). exceeds (leaves.ect J estOrder ls) e ≡ false) task-start (within-bound (getD est i 0) (getD est i 0) (leaves.ect J estOrder ls) (omega (arith, low, is)))

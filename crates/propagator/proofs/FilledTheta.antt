@@ -1,0 +1,55 @@
+-- The leaves become white, one after the other, and then the inner nodes are built.
+use mathlib.Core.Path.{_≡_, sym, ap, subst, _∙_}
+use mathlib.Core.List.{List}
+use Prim.Native.Nat.{ℕ, _+_, _<_}
+use native.Mathlib.Omega.{arith}
+use lib.ListN.{getD, replicate, length-replicate, getD-replicate}
+use lib.Seq.{ext-getD}
+use Rattle.integers.specs.Limits.{TASKS}
+use Rattle.integers.specs.FilledLists.{filled}
+use Rattle.integers.proofs.FilledLists.{filled-none, filled-more, filled-length, filled-at}
+use Rattle.trees.specs.Leaves.{Leaf, empty, white}
+use Rattle.trees.specs.Trees.{IsTree, HasLeaves}
+use Rattle.trees.specs.Operations.{HeldLeaves, HasTask, Whitened}
+use Rattle.trees.proofs.RebuiltTrees.{tree-leaves}
+use Rattle.propagator.specs.FilledTheta.{Fillable}
+
+module _ {inner n : ℕ} {words tasks est dur : List ℕ} (f : Fillable inner n words tasks est dur) where
+  -- the first x leaves are white
+  abbrev pub upTo : ℕ → List Leaf
+  upTo x = filled (λ _. white) x (replicate (f .J .count) empty)
+
+  pub none-white : HasLeaves (f .J) (f .estOrder) (upTo 0) inner words
+  none-white = subst (λ (ls : List Leaf). HasLeaves (f .J) (f .estOrder) ls inner words) (sym (filled-none (λ _. white) (replicate (f .J .count) empty))) (tree-leaves (f .limited) (f .tree))
+
+  module _ (x : ℕ) (q : x < n) where
+    abbrev t : ℕ
+    t = getD tasks x 0
+
+    pub task-known : t < TASKS
+    task-known = omega (arith, f .task x q, f .known x q)
+
+    -- the task that the mapping gives has its place there
+    pub placed : {i : ℕ} → i ≡ getD tasks x 0 → {e p : ℕ} → e ≡ getD est i 0 → p ≡ getD dur i 0 → HasTask (f .J) (f .estOrder) x e p
+    placed is s d = record {
+      inside = omega (arith, f .count);
+      start = s ∙ ap (λ (k : ℕ). getD est k 0) (is ∙ f .task x q) ∙ f .start x q;
+      lasts = d ∙ ap (λ (k : ℕ). getD dur k 0) (is ∙ f .task x q) ∙ f .lasts x q;
+    }
+
+  -- the words with the first x leaves white
+  abbrev pub shown : (x : ℕ) {now : List ℕ} → HasLeaves (f .J) (f .estOrder) (upTo x) inner now → HeldLeaves inner now
+  shown x i = record { J = f .J; estOrder = f .estOrder; leaves = upTo x; limited = f .limited; has = i }
+
+  pub one-white : (x : ℕ) {now now′ : List ℕ} (i : HasLeaves (f .J) (f .estOrder) (upTo x) inner now) → Whitened (shown x i) x now′ → HasLeaves (f .J) (f .estOrder) (upTo (x + 1)) inner now′
+  one-white x {now} {now′} i p = subst (λ (ls : List Leaf). HasLeaves (f .J) (f .estOrder) ls inner now′) (sym (filled-more (λ _. white) x (replicate (f .J .count) empty))) p
+
+  pub all-white : (x : ℕ) → x ≡ n → {now : List ℕ} → IsTree (f .J) (f .estOrder) (upTo x) inner now → IsTree (f .J) (f .estOrder) (replicate (f .J .count) white) inner now
+  all-white x z {now} t = subst (λ (ls : List Leaf). IsTree (f .J) (f .estOrder) ls inner now) is t
+    where
+      is : upTo x ≡ replicate (f .J .count) white
+      is = ext-getD empty (upTo x) (replicate (f .J .count) white)
+          (filled-length (λ _. white) x (replicate (f .J .count) empty) ∙ length-replicate (f .J .count) empty ∙ sym (length-replicate (f .J .count) white))
+          (λ k q. let r : k < f .J .count = omega (arith, filled-length (λ _. white) x (replicate (f .J .count) empty), length-replicate (f .J .count) empty) in
+          filled-at (λ _. white) x (replicate (f .J .count) empty) empty k (omega (arith, r, z, f .count)) (omega (arith, z, f .count, length-replicate (f .J .count) empty))
+          ∙ sym (getD-replicate (f .J .count) k white empty r))

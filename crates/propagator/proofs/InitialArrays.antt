@@ -1,0 +1,257 @@
+-- What a run that the core may run brings to edge finding: the tasks' moments in arrays, in both orders, and the tree of all tasks.
+use mathlib.Core.Path.{_≡_, refl, sym, ap, ap₂, subst, _∙_}
+use mathlib.Core.Bool.{true}
+use mathlib.Core.List.{List, _++_, map}
+use Prim.Native.Nat.{ℕ, _+_, _-_, _*_, _≤_, _<_}
+use native.Mathlib.Omega.{arith}
+use lib.Dec.{leb}
+use lib.IntN.{ℤ, pos, negℤ}
+use lib.ListN.{length, getD, take, replicate, length-replicate}
+use lib.Seq.{getD-take}
+use Rattle.integers.specs.Limits.{TASKS, DURATIONS, MIRRORED}
+use Rattle.integers.specs.FilledLists.{filled, noTasks}
+use Rattle.integers.specs.Moments.{instant, zeroAt, Above, momentAt, completionAt, largestKey}
+use Rattle.integers.specs.Orders.{sort, index, numbers}
+use Rattle.integers.proofs.FilledLists.{filled-length, filled-at}
+use Rattle.integers.proofs.Ints.{up, dn}
+use Rattle.integers.proofs.MomentSums.{mono, above-up, above-show, instant-moment}
+use Rattle.scheduling.specs.Scheduling.{whole, natural, Tasks, tasksOf, Proper, processing, completion}
+use Rattle.scheduling.proofs.Processing.{processing-less, processing-all}
+use Rattle.scheduling.proofs.Clocks.{sound}
+use Rattle.scheduling.specs.Moments.{moments, ByEarliest}
+use Rattle.trees.specs.Leaves.{white}
+use Rattle.trees.specs.Trees.{IsTree}
+use Rattle.trees.specs.Mappings.{Maps}
+use Rattle.trees.specs.Operations.{New}
+use Rattle.trees.specs.declared.theta_lambda_tree.ThetaLambdaTree.{ThetaLambdaTree}
+use Rattle.trees.proofs.RootAnswers as tree
+use Rattle.runs.specs.Traces.{Trace}
+use Rattle.runs.specs.Runs.{tabulate, byEarliest, byCompletion, earliestOrder, completionOrder, run, allWhite}
+use Rattle.scheduling.specs.Words.{atomWords}
+use Rattle.runs.specs.Words.{postWords, reasons, endReason, postsAfter, atomsAfter}
+use Rattle.runs.specs.EndNumbers.{traceNumbers}
+use Rattle.integers.proofs.Words.{overwrites}
+use Rattle.runs.proofs.WrittenSlices.{no-posts-stored, no-atoms-stored, no-reasons}
+use Rattle.runs.proofs.Demand as demand
+use Rattle.runs.proofs.LeafChanges.{changes-most}
+use Rattle.runs.proofs.WordRoom as few-words
+use Rattle.runs.proofs.InnerLoop.{propagate-is}
+use Rattle.runs.proofs.TaskLists.{tabulated}
+use Rattle.sorts.specs.Orders.{SortedBy, byKey, byKeyDown}
+use Rattle.sorts.proofs.Sorted.{sorted-as}
+use Rattle.records.specs.declared.record.DisjunctivePropagator.{DisjunctivePropagator}
+use Rattle.propagator.specs.RunArrays.{Ordered, Holds, At}
+use Rattle.runs.specs.declared.outcome.Outcome.{Outcome}
+use Rattle.propagator.specs.FilledTheta.{Fillable}
+use Rattle.propagator.specs.EdgeFinding.{Begun, Ended}
+use Rattle.propagator.specs.Ran.{Runnable, traceOf, Left}
+use Rattle.propagator.proofs.AcceptedInput as accepting
+
+zeros-long : length noTasks ≡ TASKS
+zeros-long = length-replicate {A = ℕ} TASKS 0
+
+module _ (r : DisjunctivePropagator) (es ls : List ℤ) (posts atoms : ℕ) (a : Runnable r es ls posts atoms) (long : length (r .durations) ≡ TASKS) where
+  abbrev n : ℕ
+  n = r .count
+
+  abbrev pub ds : List ℕ
+  ds = take (r .count) (r .durations)
+
+  abbrev pub Z : Tasks whole
+  Z = tasksOf (take (r .count) (r .durations)) es ls
+
+  abbrev pub J : Tasks natural
+  J = moments zeroAt (tasksOf (take (r .count) (r .durations)) es ls)
+
+  pub few : n ≤ TASKS
+  few = a .lawful .few
+
+  pub count : length ds ≡ n
+  count = accepting.count r (a .lawful)
+
+  -- the same input, as the run's definition accepts it
+  accepted : demand.Accepted MIRRORED ds es ls
+  accepted = accepting.accepted r es ls posts atoms a
+
+  abbrev pub estOrder : List ℕ
+  estOrder = earliestOrder J
+
+  abbrev pub lctOrder : List ℕ
+  lctOrder = completionOrder J
+
+  -- the arrays
+  pub holds-starts : (xs : List ℤ) → length xs ≡ n → Holds n (momentAt xs) (filled (momentAt xs) (length xs) noTasks)
+  holds-starts xs z = record {
+    size = filled-length (momentAt xs) (length xs) noTasks ∙ zeros-long;
+    at = λ k q. filled-at (momentAt xs) (length xs) noTasks 0 k (omega (arith, z)) (omega (arith, z, few, zeros-long));
+  }
+
+  pub holds-durations : Holds n (J .duration) (r .durations)
+  holds-durations = record { size = long; at = λ k q. sym (accepting.lasts-at r (a .lawful) k q) }
+
+  pub holds-completions : (lst : List ℕ) → Holds n (J .latest) lst → Holds n (completion J) (filled (completionAt lst (r .durations)) n noTasks)
+  holds-completions lst h = record {
+    size = filled-length (completionAt lst (r .durations)) n noTasks ∙ zeros-long;
+    at = λ k q. filled-at (completionAt lst (r .durations)) n noTasks 0 k q (omega (arith, few, zeros-long)) ∙ ap₂ _+_ (h .at k q) (holds-durations .at k q);
+  }
+
+  -- an order sorted by an array's keys is that of the tasks
+  pub sorted-first : (est : List ℕ) → Holds n (J .earliest) est → {tasks : List ℕ} → SortedBy (byKey est) n tasks → take n tasks ≡ estOrder
+  sorted-first est h s = sorted-as s (byEarliest J) (λ j k p q. ap₂ leb (h .at j p) (h .at k q)) ∙ ap (λ (m : ℕ). sort (byEarliest J) (numbers 0 m)) (sym count)
+
+  pub sorted-second : (lct : List ℕ) → Holds n (completion J) lct → {candidates : List ℕ} → SortedBy (byKeyDown lct) n candidates → take n candidates ≡ lctOrder
+  sorted-second lct h s = sorted-as s (byCompletion J) (λ j k p q. ap₂ leb (h .at k q) (h .at j p)) ∙ ap (λ (m : ℕ). sort (byCompletion J) (numbers 0 m)) (sym count)
+
+  pub holds-order : (l m : List ℕ) → take n l ≡ m → length l ≡ TASKS → Holds n (λ j. getD m j 0) l
+  holds-order l m z size = record { size = size; at = λ k q. sym (getD-take n l k 0 q) ∙ ap (λ (o : List ℕ). getD o k 0) z }
+
+  -- the moments are in the limits
+  deep : Above zeroAt (negℤ (pos MIRRORED))
+  unfolding up dn
+  deep = above-show zeroAt (negℤ (pos MIRRORED)) (omega arith)
+
+  above : (k : ℕ) → k < length ds → Above zeroAt (getD es k (pos 0))
+  above k q = above-up zeroAt (negℤ (pos MIRRORED)) (getD es k (pos 0)) (accepted .from k q) deep
+
+  early : (k : ℕ) → k < length ds → (zeroAt - MIRRORED ≤ J .earliest k) × (J .earliest k ≤ J .latest k) × (J .latest k ≤ zeroAt + MIRRORED)
+  unfolding up dn
+  early k q = (
+    omega (arith, mono zeroAt (negℤ (pos MIRRORED)) (getD es k (pos 0)) (accepted .from k q)),
+    mono zeroAt (getD es k (pos 0)) (getD ls k (pos 0)) (accepted .ranges k q),
+    omega (arith, mono zeroAt (getD ls k (pos 0)) (pos MIRRORED) (accepted .to k q)),
+  )
+
+  short : processing J (λ _. true) ≤ DURATIONS
+  short = omega (arith, processing-all J, accepted .sum)
+
+  lasting : (k : ℕ) → k < length ds → J .duration k ≤ DURATIONS
+  lasting k q = omega (arith, short, processing-less J (λ _. true) k (record { small = q; mem = refl }))
+
+  proper : Proper J
+  proper = sound zeroAt Z (record { ranges = accepted .ranges; lasts = accepted .lasts }) above
+
+  pub by-earliest : ByEarliest J (λ j. getD estOrder j 0) (λ k. index estOrder k)
+  by-earliest = demand.by-earliest J
+
+  pub ordered : Ordered J estOrder lctOrder
+  ordered = record {
+    proper = proper;
+    some = accepted .some;
+    by-earliest = by-earliest;
+    by-completion = demand.by-completion J;
+    limited = tree.limited J proper estOrder by-earliest (accepted .few) (λ k q. omega (arith, early k q .1, early k q .2)) (omega (arith, accepted .sum));
+    room = λ k q. omega (arith, short, early k q .0);
+    fits = λ k q. omega (arith, short, early k q .2, lasting k q);
+  }
+
+  -- a latest completion is a key
+  pub key-small : (lst : List ℕ) → Holds n (J .latest) lst → (k : ℕ) → k < n → completionAt lst (r .durations) k ≤ largestKey
+  key-small lst h k q = let z : k < length ds = omega (arith, count) in omega (arith, h .at k q, holds-durations .at k q, early k z .2, lasting k z)
+
+  pub completion-small : (k : ℕ) → k < n → completion J k ≤ largestKey
+  completion-small k q = let z : k < length ds = omega (arith, count) in omega (arith, early k z .2, lasting k z)
+
+  -- the state at the start: nothing is written
+  pub at-start : (inner : ℕ) (words : List ℕ) (ps as′ : List ℤ) → IsTree J estOrder (replicate (J .count) white) inner words → At J estOrder ps as′ (allWhite J) inner words es ps as′ 0 0 n
+  at-start inner words ps as′ t = record {
+    tree = t;
+    starts = subst (λ (m : ℕ). es ≡ map (instant zeroAt) (tabulate (J .earliest) 0 m)) (a .counts .earliest ∙ sym count)
+        (tabulated zeroAt es (J .earliest) 0 (λ k q. back k (omega (arith, q, a .counts .earliest, count))));
+    posts = no-posts-stored ps;
+    atoms = no-atoms-stored as′;
+    posted = refl;
+    explained = sym no-reasons;
+    counted = sym count;
+  }
+    where
+      back : (k : ℕ) → k < length ds → instant zeroAt (J .earliest (0 + k)) ≡ getD es k (pos 0)
+      back k q = let z : 0 + k ≡ k = omega arith in ap (λ (j : ℕ). instant zeroAt (J .earliest j)) z ∙ instant-moment zeroAt (getD es k (pos 0)) (above k q)
+
+  -- the trace that it leaves, and that its words fit the lent slices
+  trace-is : traceOf r es ls ≡ run zeroAt J estOrder lctOrder
+  trace-is = propagate-is ds es ls
+
+  posts-fit : length (postWords 0 (run zeroAt J estOrder lctOrder .posts)) ≤ posts
+  posts-fit = omega (arith, few-words.posts-fit zeroAt J proper estOrder lctOrder by-earliest (ordered .by-completion) (accepted .some), count, a .words .posts)
+
+  atoms-fit : length (atomWords (reasons (run zeroAt J estOrder lctOrder .posts) ++ endReason (run zeroAt J estOrder lctOrder .end))) ≤ atoms
+  atoms-fit = omega (
+    arith,
+    subst (λ (m : ℕ). length (atomWords (reasons (run zeroAt J estOrder lctOrder .posts) ++ endReason (run zeroAt J estOrder lctOrder .end))) ≤ 6 * (m * m)) count
+        (few-words.atoms-fit zeroAt J proper estOrder lctOrder by-earliest (ordered .by-completion) (accepted .some)),
+    a .words .atoms,
+  )
+
+  -- what the calls before edge finding left
+  module _ {est lst : List ℕ} (e : est ≡ filled (momentAt es) (length es) noTasks) (l : lst ≡ filled (momentAt ls) (length ls) noTasks) where
+    pub starts : Holds n (J .earliest) est
+    starts = subst (Holds n (J .earliest)) (sym e) (holds-starts es (a .counts .earliest))
+
+    pub latest : Holds n (J .latest) lst
+    latest = subst (Holds n (J .latest)) (sym l) (holds-starts ls (a .counts .latest))
+
+    pub keys-small : {lct : List ℕ} → lct ≡ filled (completionAt lst (r .durations)) n noTasks → (k : ℕ) → k < n → getD lct k 0 ≤ largestKey
+    keys-small {lct} c k q = omega (arith, ap (λ (o : List ℕ). getD o k 0) c ∙ holds-completions lst latest .at k q, completion-small k q)
+
+    module _ {lct tasks candidates : List ℕ} (c : lct ≡ filled (completionAt lst (r .durations)) n noTasks) (f : SortedBy (byKey est) n tasks) (g : SortedBy (byKeyDown lct) n candidates) where
+      pub completions : Holds n (completion J) lct
+      completions = subst (Holds n (completion J)) (sym c) (holds-completions lst latest)
+
+      front : take n tasks ≡ estOrder
+      front = sorted-first est starts f
+
+      pub order : Holds n (λ j. getD estOrder j 0) tasks
+      order = holds-order tasks estOrder front (f .size)
+
+      pub candidates-order : Holds n (λ t. getD lctOrder t 0) candidates
+      candidates-order = holds-order candidates lctOrder (sorted-second lct completions g) (g .size)
+
+      -- the new tree, and the leaf of each task by the order
+      module _ {made : ThetaLambdaTree} {mapping : List ℕ} (t : New n made) (m : Maps n tasks mapping) where
+        pub places : (x : ℕ) → x < n → getD mapping x 0 ≡ index estOrder x
+        places x q = m .leaf x q ∙ ap (λ (o : List ℕ). index o x) front
+
+        abbrev pub fillable : Fillable (made .«number_of_internal_nodes») n (made .nodes) tasks est (r .durations)
+        fillable = record {
+          J = J;
+          estOrder = estOrder;
+          limited = ordered .limited;
+          count = count;
+          tree = t .empties J estOrder count;
+          few = few;
+          task = order .at;
+          known = λ x q. omega (arith, few, count, by-earliest .task x (omega (arith, count)));
+          start = λ x q. starts .at (getD estOrder x 0) (omega (arith, count, by-earliest .task x (omega (arith, count))));
+          lasts = λ x q. holds-durations .at (getD estOrder x 0) (omega (arith, count, by-earliest .task x (omega (arith, count))));
+        }
+
+        abbrev pub begun : {words : List ℕ} {ps as′ : List ℤ} → IsTree J estOrder (replicate (J .count) white) (made .«number_of_internal_nodes») words → posts ≡ length ps → atoms ≡ length as′
+            → Begun n (made .«number_of_internal_nodes») (made .height) words es ps as′ est lst lct (r .durations) tasks candidates mapping
+        begun {words} {ps} {as′} full p q = record {
+          J = J;
+          estOrder = estOrder;
+          lctOrder = lctOrder;
+          ordered = ordered;
+          arrays = record { count = count; starts = starts; durations = holds-durations; tasks = order; places = places; tall = t .size .least };
+          latest = latest;
+          completions = completions;
+          order = candidates-order;
+          post-room = omega (arith, p, a .words .posts);
+          atom-room = omega (arith, q, a .words .atoms);
+          at = at-start (made .«number_of_internal_nodes») words ps as′ full;
+        }
+
+      -- and what a run leaves
+      pub left : {ps as′ es′ ps′ bs : List ℤ} {o : Outcome} {c : ℕ} → posts ≡ length ps → atoms ≡ length as′ → Ended J estOrder lctOrder ps as′ o c es′ ps′ bs
+          → Left r es ls ps as′ o c es′ ps′ bs
+      left {ps} {as′} {es′} {ps′} {bs} {o} {c} p q d = record {
+        answer = d .answer ∙ ap traceNumbers (sym trace-is);
+        changes = d .changes ∙ ap (λ (t : Trace). t .changes) (sym trace-is);
+        changes-most = omega (arith, d .changes, changes-most zeroAt J proper estOrder lctOrder by-earliest (ordered .by-completion) (accepted .some), count);
+        starts = d .starts ∙ ap (λ (t : Trace). t .starts) (sym trace-is);
+        post-words = d .posts ∙ overwrites ps (postWords 0 (run zeroAt J estOrder lctOrder .posts)) (omega (arith, posts-fit, p)) ∙ ap (postsAfter ps) (sym trace-is);
+        atom-words = d .atoms ∙ overwrites as′ (atomWords (reasons (run zeroAt J estOrder lctOrder .posts) ++ endReason (run zeroAt J estOrder lctOrder .end))) (omega (arith, atoms-fit, q))
+            ∙ ap (atomsAfter as′) (sym trace-is);
+        posts-fit = subst (λ (t : Trace). length (postWords 0 (t .posts)) ≤ length ps) (sym trace-is) (omega (arith, posts-fit, p));
+        atoms-fit = subst (λ (t : Trace). length (atomWords (reasons (t .posts) ++ endReason (t .end))) ≤ length as′) (sym trace-is) (omega (arith, atoms-fit, q));
+      }

@@ -1,0 +1,98 @@
+-- `candidates::turns::consider_all` meets its contract.
+use mathlib.Core.Path.{_≡_, refl}
+use mathlib.Core.List.{List}
+use Prim.Native.Nat.{ℕ, suc, _-_}
+use native.Mathlib.Omega.{arith}
+use lib.IntN.{ℤ}
+use lib.ListN.{length}
+use borrow.Author.Needs.{needs}
+use Rattle.propagator.specs.declared.disjunctive_propagator.Written.{Written}
+use Rattle.propagator.specs.Candidates.{Standing}
+use Rattle.propagator.proofs.ConsideredTask.{shown, tall}
+use Rattle.propagator.proofs.InnerLoop.{Turned, none-yet, stands, ended, nothing-left, one-left, one-less, one-emptied}
+use Rattle.propagator.proofs.disjunctive_propagator.consider_all.Statement.{statement}
+use Rattle.propagator.proofs.disjunctive_propagator.consider_all.Tie as tie
+
+-- what the loop has got to; the slices keep their lengths
+record Loop (n inner height lct : ℕ) (nodes₀ : List ℕ) (earliest₀ posts₀ atoms₀ : List ℤ) (w₀ : Written) (est lst durations tasks mapping nodes : List ℕ) (earliest posts atoms : List ℤ) (w : Written)
+    (left : ℕ) : Type 0 where
+  stood : Standing n inner height lct nodes₀ earliest₀ posts₀ atoms₀ w₀ est lst durations tasks mapping
+  reached : (s : Standing n inner height lct nodes₀ earliest₀ posts₀ atoms₀ w₀ est lst durations tasks mapping) → Turned s left nodes earliest posts atoms w
+  starts-length : length earliest ≡ length earliest₀
+  posts-length : length posts ≡ length posts₀
+  atoms-length : length atoms ≡ length atoms₀
+
+abbrev Inv-loop : tie.InvT-loop
+Inv-loop nodes₀ earliest₀ posts₀ atoms₀ mapping tasks est lst durations inner height n lct w₀ left₀ nodes earliest posts atoms w left =
+    Loop n inner height lct nodes₀ earliest₀ posts₀ atoms₀ w₀ est lst durations tasks mapping nodes earliest posts atoms w left
+
+abbrev μ-loop : tie.MeasureT-loop
+μ-loop nodes₀ earliest₀ posts₀ atoms₀ mapping tasks est lst durations inner height n lct w₀ left₀ nodes earliest posts atoms w left = left
+
+positive : (c : tie.In-loop Inv-loop μ-loop) → c .before .loop .left ≡ suc (c .before .loop .left - 1)
+positive c = omega arith
+
+-- the candidate's answer before the call, and where that turn was entered
+abbrev answered : tie.After-consider-arg4 Inv-loop μ-loop → tie.After-next Inv-loop μ-loop
+answered c = c .before .before .before .before .before
+
+abbrev entered : tie.After-next Inv-loop μ-loop → tie.In-loop Inv-loop μ-loop
+entered c = c .before .before .before .before
+
+loop-holds : tie.Need-loop-holds Inv-loop μ-loop
+loop-holds c = record { stood = c .pre; reached = λ s. none-yet s; starts-length = refl; posts-length = refl; atoms-length = refl }
+
+candidate-requires : tie.Need-candidate-requires Inv-loop μ-loop
+candidate-requires c κs = let v = c .before .before .loop .inv in (let a = stands (v .stood) (v .reached (v .stood)) in (shown a, tall a))
+
+returns : tie.Need-returns Inv-loop μ-loop
+returns c = λ s.
+    let turn = c .before .before .before .before in
+    nothing-left s (turn .before .loop .inv .reached s) (positive turn) (c .enum-told .given .1) (c .before .before .candidate .ensures)
+
+consider-requires : tie.Need-consider-requires Inv-loop μ-loop
+consider-requires c κs =
+    let next = answered c in
+    let turn = entered next in
+    let v = turn .before .loop .inv in
+    let r = v .reached (v .stood) in
+    let (x, o) = one-left (v .stood) r (next .next .given .1) (next .before .before .candidate .ensures) in
+    (turn .before .before .args .height, x, stands (v .stood) r, o)
+
+loop-again : tie.Need-loop-again Inv-loop μ-loop
+loop-again c =
+    let considered = c .before .before .before .before .before .before in
+    let next = answered (considered .before) in
+    let turn = entered next in
+    let v = turn .before .loop .inv in
+    record {
+      stood = v .stood;
+      reached = λ s.
+          let r = v .reached s in
+          let (x, o) = one-left s r (next .next .given .1) (next .before .before .candidate .ensures) in
+          one-less s r (positive turn) (c .before .turn .given .1) (considered .consider .ensures (turn .before .before .args .height) x (stands s r) o);
+      starts-length = search needs;
+      posts-length = search needs;
+      atoms-length = search needs;
+    }
+
+returns-2 : tie.Need-returns-2 Inv-loop μ-loop
+returns-2 c = λ s.
+    let considered = c .before .before .before .before .before .before in
+    let next = answered (considered .before) in
+    let turn = entered next in
+    let r = turn .before .loop .inv .reached s in
+    let (x, o) = one-left s r (next .next .given .1) (next .before .before .candidate .ensures) in
+    one-emptied s r (positive turn) (c .before .turn2 .given .1) (considered .consider .ensures (turn .before .before .args .height) x (stands s r) o)
+
+returns-3 : tie.Need-returns-3 Inv-loop μ-loop
+returns-3 c = λ s. ended s (c .before .loop .inv .reached s) (omega arith)
+
+pub consider-all-spec : {M : Type 1} → statement M
+consider-all-spec =
+    tie.close
+    (tie.spec
+    Inv-loop μ-loop loop-holds (λ c. search needs) candidate-requires (λ c. search needs) (λ c. search needs)
+    (λ c. search needs) (λ c. search needs) (λ c. search needs) returns consider-requires (λ c. search needs)
+    (λ c. search needs) loop-again (λ c. search needs) (λ c. search needs) (λ c. search needs) (λ c. search needs)
+    returns-2 (λ c. search needs) (λ c. search needs) (λ c. search needs) returns-3)

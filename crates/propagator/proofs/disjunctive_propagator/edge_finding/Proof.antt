@@ -1,0 +1,157 @@
+-- `levels::run_levels::edge_finding` meets its contract.
+use mathlib.Core.Path.{_≡_, refl, sym, _∙_}
+use mathlib.Core.Bool.{Bool, true, false}
+use mathlib.Core.List.{List}
+use Prim.Native.Nat.{ℕ, _+_, _-_, _<_}
+use native.Mathlib.Omega.{arith}
+use lib.IntN.{ℤ}
+use lib.ListN.{length, getD}
+use borrow.Author.Needs.{needs}
+use Rattle.trees.specs.Ects.{exceeds}
+use Rattle.propagator.specs.declared.disjunctive_propagator.Written.{Written}
+use Rattle.propagator.specs.EdgeFinding.{Begun}
+use Rattle.propagator.proofs.OuterLoop.{Level, shown, ect, few, candidate-small, first-level, all-done, over-asked, over-inner, few-changes, overloads, moves, goes-on, one-more, one-emptied}
+use Rattle.propagator.proofs.disjunctive_propagator.edge_finding.Statement.{statement}
+use Rattle.propagator.proofs.disjunctive_propagator.edge_finding.Tie as tie
+
+-- the level that the loop stands at; the slices keep their lengths
+record Loop (n inner height : ℕ) (nodes₀ : List ℕ) (earliest₀ posts₀ atoms₀ : List ℤ) (est lst lct durations tasks candidates mapping nodes : List ℕ) (earliest posts atoms : List ℤ) (w : Written)
+    (index : ℕ) : Type 0 where
+  begun : Begun n inner height nodes₀ earliest₀ posts₀ atoms₀ est lst lct durations tasks candidates mapping
+  level : (s : Begun n inner height nodes₀ earliest₀ posts₀ atoms₀ est lst lct durations tasks candidates mapping) → Level s index nodes earliest posts atoms w
+  small : index < n
+  starts-length : length earliest ≡ length earliest₀
+  posts-length : length posts ≡ length posts₀
+  atoms-length : length atoms ≡ length atoms₀
+
+abbrev Inv-loop : tie.InvT-loop
+Inv-loop nodes₀ earliest₀ posts₀ atoms₀ mapping tasks candidates est lst lct durations inner height n w₀ index₀ nodes earliest posts atoms w index =
+    Loop n inner height nodes₀ earliest₀ posts₀ atoms₀ est lst lct durations tasks candidates mapping nodes earliest posts atoms w index
+
+abbrev μ-loop : tie.MeasureT-loop
+μ-loop nodes₀ earliest₀ posts₀ atoms₀ mapping tasks candidates est lst lct durations inner height n w₀ index₀ nodes earliest posts atoms w index = n - index
+
+-- inside the loop: the level's task and its lct, and that a level follows
+abbrev task : tie.In-loop Inv-loop μ-loop → ℕ
+task c = getD (c .before .before .args .candidates .now) (c .before .loop .index) 0
+
+abbrev end : tie.In-loop Inv-loop μ-loop → ℕ
+end c = getD (c .before .before .args .lct .now) (task c) 0
+
+more : (c : tie.In-loop Inv-loop μ-loop) → c .before .loop .index + 1 < c .before .before .args .n
+more c = omega arith
+
+-- where the level was entered, from its test and from the move of its task; and that move, from the tasks considered
+abbrev entered : tie.After-overloads Inv-loop μ-loop → tie.In-loop Inv-loop μ-loop
+entered c = c .before .before .before .before
+
+abbrev level-of : tie.After-move-to-lambda Inv-loop μ-loop → tie.In-loop Inv-loop μ-loop
+level-of c = entered (c .before .before .before)
+
+abbrev moved : tie.After-consider-all Inv-loop μ-loop → tie.After-move-to-lambda Inv-loop μ-loop
+moved c = c .before .before .before .before .before .before .before .before
+
+loop-holds : tie.Need-loop-holds Inv-loop μ-loop
+loop-holds c = let s = c .pre in record { begun = s; level = λ s. first-level s; small = first-level s .small; starts-length = refl; posts-length = refl; atoms-length = refl }
+
+mul-lct-j : tie.Need-mul-lct-j Inv-loop μ-loop
+mul-lct-j c = let l = c .before .before .loop in omega (arith, candidate-small (l .inv .begun) (l .index) (l .inv .small))
+
+-- the test of the level, by the tree of whatever it began with
+abbrev Test : tie.In-loop Inv-loop μ-loop → Bool → Type 0
+Test c u = let a = c .before .before .args in let l = c .before .loop in
+    (s : Begun (a .n) (a .inner) (a .height) (a .nodes .now) (a .earliest .now) (a .posts .now) (a .atoms .now) (a .est .now) (a .lst .now) (a .lct .now) (a .durations .now) (a .tasks .now)
+    (a .candidates .now) (a .mapping .now))
+    → exceeds (ect s (l .inv .level s) (more c)) (end c) ≡ u
+
+passes : (c : tie.Then1 Inv-loop μ-loop) → Test (entered (c .before)) true
+passes c s = let level = entered (c .before) in sym (c .before .overloads .ensures (level .before .before .args .inner) (shown s (level .before .loop .inv .level s) (more level))) ∙ c .if1 .taken
+
+quiet : (c : tie.After-move-to-lambda Inv-loop μ-loop) → Test (level-of c) false
+quiet c s = let level = level-of c in let test = c .before .before .before in
+    sym (test .overloads .ensures (level .before .before .args .inner) (shown s (level .before .loop .inv .level s) (more level))) ∙ c .before .before .if1 .left
+
+overload-requires : tie.Need-overload-requires Inv-loop μ-loop
+overload-requires c κs =
+    let level = entered (c .before .before .before) in
+    let v = level .before .loop .inv in
+    let l = v .level (v .begun) in
+    (shown (v .begun) l (more level), over-asked (v .begun) l (more level) (passes (c .before .before) (v .begun)), few (v .begun), over-inner (v .begun) l (more level))
+
+returns : tie.Need-returns Inv-loop μ-loop
+returns c = λ s.
+    let test = c .before .before .before .before in
+    let level = entered (test .before) in
+    let l = level .before .loop .inv .level s in overloads s l (more level) (passes test s) (c .before .overload .ensures (shown s l (more level)))
+
+move-to-lambda-requires : tie.Need-move-to-lambda-requires Inv-loop μ-loop
+move-to-lambda-requires c κs =
+    let level = entered (c .before .before) in
+    let v = level .before .loop .inv in
+    moves (v .begun) (v .level (v .begun)) (more level)
+
+add-changes : tie.Need-add-changes Inv-loop μ-loop
+add-changes c =
+    let level = level-of (c .before) in
+    let v = level .before .loop .inv in
+    omega (arith, few-changes (v .begun) (v .level (v .begun)) (more level))
+
+mul-lct-next-2 : tie.Need-mul-lct-next-2 Inv-loop μ-loop
+mul-lct-next-2 c = let level = level-of (c .before .before) in omega (arith, candidate-small (level .before .loop .inv .begun) (level .before .loop .index + 1) (more level))
+
+consider-all-requires : tie.Need-consider-all-requires Inv-loop μ-loop
+consider-all-requires c κs =
+    let move = c .before .before .before .before .before .before .before in
+    let v = level-of move .before .loop .inv in
+    goes-on (v .begun) (v .level (v .begun)) (more (level-of move)) (quiet move (v .begun)) (move .move-to-lambda .ensures)
+
+loop-again : tie.Need-loop-again Inv-loop μ-loop
+loop-again c =
+    let considered = c .before .before .before .before .before .before in
+    let move = moved considered in
+    let v = level-of move .before .loop .inv in
+    record {
+      begun = v .begun;
+      level = λ s.
+          let g = goes-on s (v .level s) (more (level-of move)) (quiet move s) (move .move-to-lambda .ensures) in
+          one-more s (v .level s) (more (level-of move)) (quiet move s) (move .move-to-lambda .ensures) (c .before .turn .given .1) (considered .consider-all .ensures g);
+      small = more (level-of move);
+      starts-length = search needs;
+      posts-length = search needs;
+      atoms-length = search needs;
+    }
+
+-- the loop's head, from the return where a range is emptied
+abbrev head : tie.After-known-told2 Inv-loop μ-loop → tie.At-loop Inv-loop μ-loop
+head c = level-of (moved (c .before .before .before .before .before .before)) .before
+
+same-length-4 : tie.Need-same-length-4 Inv-loop μ-loop
+same-length-4 c = search (needs, head c .loop .inv .starts-length)
+
+same-length-5 : tie.Need-same-length-5 Inv-loop μ-loop
+same-length-5 c = search (needs, head c .loop .inv .posts-length)
+
+same-length-6 : tie.Need-same-length-6 Inv-loop μ-loop
+same-length-6 c = search (needs, head c .loop .inv .atoms-length)
+
+returns-2 : tie.Need-returns-2 Inv-loop μ-loop
+returns-2 c = λ s.
+    let considered = c .before .before .before .before .before .before in
+    let move = moved considered in
+    let l = head c .loop .inv .level s in
+    let g = goes-on s l (more (level-of move)) (quiet move s) (move .move-to-lambda .ensures) in
+    one-emptied s l (more (level-of move)) (quiet move s) (move .move-to-lambda .ensures) (considered .consider-all .last .0) (c .before .turn2 .given .1) (considered .consider-all .ensures g)
+
+returns-3 : tie.Need-returns-3 Inv-loop μ-loop
+returns-3 c = λ s. all-done s (c .before .loop .inv .level s) (omega arith)
+
+pub edge-finding-spec : {M : Type 1} → statement M
+edge-finding-spec =
+    tie.close
+    (tie.spec
+    Inv-loop μ-loop loop-holds (λ c. search needs) (λ c. search needs) (λ c. search needs) mul-lct-j
+    (λ c. search (needs, candidate-small)) (λ c κs. search needs) overload-requires (λ c. search needs)
+    (λ c. search needs) (λ c. search needs) returns move-to-lambda-requires add-changes (λ c. search needs)
+    (λ c. search needs) (λ c. search needs) mul-lct-next-2 (λ c. search (needs, candidate-small)) consider-all-requires
+    (λ c. search needs) (λ c. search needs) loop-again (λ c. search needs) same-length-4 same-length-5 same-length-6
+    returns-2 (λ c. search needs) (λ c. search needs) (λ c. search needs) returns-3)

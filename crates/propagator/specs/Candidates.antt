@@ -1,0 +1,92 @@
+-- What the functions of a run do, by the run's definition: each keeps the code's slices and tree at a state of the definition.
+use mathlib.Core.Path.{_≡_}
+use mathlib.Core.Bool.{true, false}
+use mathlib.Core.List.{List, [], _∷_}
+use mathlib.Core.Option.{Option, some}
+use Prim.Native.Nat.{ℕ, suc, _+_, _*_, _≤_, _<_}
+use lib.IntN.{ℤ, pos}
+use lib.ListN.{length, getD}
+use lib.Seq.{sets}
+use Rattle.integers.specs.Moments.{instant, zeroAt}
+use Rattle.scheduling.specs.Scheduling.{natural, Tasks, Atom, completion}
+use Rattle.scheduling.specs.Words.{atomWords}
+use Rattle.trees.specs.Ects.{exceeds}
+use Rattle.trees.specs.declared.theta_lambda_tree.Responsible.{Responsible}
+use Rattle.trees.specs.declared.theta_lambda_tree.Responsible.the-variants as responsible
+use Rattle.trees.specs.Leaves as leaves
+use Rattle.trees.specs.ArraySearches.{responsibleOf, thetaIn}
+use Rattle.trees.specs.Operations.{Held, Tall}
+use Rattle.runs.specs.Runs.{State, Turn, on, stop, inner, propagation}
+use Rattle.runs.specs.Reached.{Reached}
+use Rattle.explanations.specs.WrittenAtoms.{starting}
+use Rattle.propagator.specs.declared.disjunctive_propagator.Written.{Written}
+use Rattle.propagator.specs.declared.disjunctive_propagator.Turn as code
+use Rattle.propagator.specs.declared.disjunctive_propagator.Turn.the-variants as turn
+use Rattle.propagator.specs.RunArrays.{Ordered, Holds, Arrays, At}
+
+-- the task to consider next, by ect_bar and the responsible leaf: none where ect_bar is not past lct
+unfoldable pub candidateOf : List ℕ → ℕ → Option ℕ → Option ℕ → Responsible
+candidateOf tasks lct ect-bar found = elim (exceeds ect-bar lct) [ true ↦ responsibleOf tasks found | false ↦ responsible.Nothing ]
+
+-- the answer of `candidate`
+abbrev pub Proposes : ℕ → ℕ → List ℕ → List ℕ → ℕ → Responsible → Type 0
+Proposes inn height words tasks lct r = (h : Held inn words) → Tall h height
+    → r ≡ candidateOf tasks lct (leaves.ect-bar (h .J) (h .estOrder) (h .leaves)) (leaves.responsible (h .J) (h .estOrder) (h .leaves))
+
+-- a post's reason, by the tree and the arrays
+abbrev pub reasonOf : {inn : ℕ} {words : List ℕ} → Held inn words → List ℕ → ℕ → List ℕ → List ℕ → ℕ → ℕ → ℕ → List Atom
+reasonOf {inn} {words} h tasks n est dur i bound lct =
+    propagation zeroAt (starting est dur) i bound lct (leaves.sum (h .J) (h .estOrder) (h .leaves)) (thetaIn words inn tasks n)
+
+-- A post: its four words and its reason's stand after those written so far. It changes no leaf.
+pub record Posted (ps as′ ps′ bs : List ℤ) (before after : Written) (i bound : ℕ) (reason : List Atom) : Type 0 where
+  pub post-words : ps′ ≡ sets ps (4 * before .posts) (pos i ∷ instant zeroAt bound ∷ pos (before .atoms) ∷ pos (length reason) ∷ [])
+  pub atom-words : bs ≡ sets as′ (3 * before .atoms) (atomWords reason)
+  pub posts : after .posts ≡ before .posts + 1
+  pub atoms : after .atoms ≡ before .atoms + length reason
+  pub changes : after .changes ≡ before .changes
+
+-- What stands at a level of a run: the tasks and orders, the arrays that hold them, and the state st that the definition goes through and that tree and slices
+-- are at.
+pub record Standing (n inner height lct : ℕ) (words : List ℕ) (es ps as′ : List ℤ) (w : Written) (est lst dur tasks mapping : List ℕ) : Type 0 where
+  pub J : Tasks natural
+  pub estOrder : List ℕ
+  pub lctOrder : List ℕ
+  pub level : ℕ
+  pub st : State
+  pub ps₀ : List ℤ
+  pub as₀ : List ℤ
+  pub ordered : Ordered J estOrder lctOrder
+  pub arrays : Arrays J estOrder n inner height est dur tasks mapping
+  pub latest : Holds n (J .latest) lst
+  pub small : level < J .count
+  pub ends : lct ≡ completion J (getD lctOrder level 0)
+  pub post-room : 4 * n ≤ length ps₀
+  pub atom-room : 6 * (n * n) ≤ length as₀
+  pub reached : Reached zeroAt J estOrder lctOrder level st
+  pub at : At J estOrder ps₀ as₀ st inner words es ps as′ (w .posts) (w .atoms) (w .changes)
+
+module _ {n inn height lct : ℕ} {words : List ℕ} {es ps as′ : List ℤ} {w : Written} {est lst dur tasks mapping : List ℕ}
+    (s : Standing n inn height lct words es ps as′ w est lst dur tasks mapping) where
+  -- the state st′ follows: tree and slices are at it
+  abbrev pub AtNow : State → List ℕ → List ℤ → List ℤ → List ℤ → Written → Type 0
+  AtNow st′ words′ es′ ps′ bs w′ = At (s .J) (s .estOrder) (s .ps₀) (s .as₀) st′ inn words′ es′ ps′ bs (w′ .posts) (w′ .atoms) (w′ .changes)
+
+  abbrev pub turns : ℕ → State → Turn
+  turns f st′ = inner zeroAt (s .J) (s .estOrder) (s .lctOrder) f (s .level) st′
+
+  -- one turn of the inner loop
+  abbrev pub Considered : code.Turn → List ℕ → List ℤ → List ℤ → List ℤ → Type 0
+  Considered (turn.On w′) words′ es′ ps′ bs = (st′ : State) × AtNow st′ words′ es′ ps′ bs w′ × ((f : ℕ) → turns (suc f) (s .st) ≡ turns f st′)
+  Considered (turn.Emptied w′) words′ es′ ps′ bs = (st′ : State) × AtNow st′ words′ es′ ps′ bs w′ × ((f : ℕ) → turns (suc f) (s .st) ≡ stop st′)
+
+  -- all of them
+  abbrev pub AllConsidered : code.Turn → List ℕ → List ℤ → List ℤ → List ℤ → Type 0
+  AllConsidered (turn.On w′) words′ es′ ps′ bs = (st′ : State) × AtNow st′ words′ es′ ps′ bs w′ × (turns n (s .st) ≡ on st′)
+  AllConsidered (turn.Emptied w′) words′ es′ ps′ bs = (st′ : State) × AtNow st′ words′ es′ ps′ bs w′ × (turns n (s .st) ≡ stop st′)
+
+  -- x is the leaf of the task i to consider
+  pub record Responsible-for (i x : ℕ) : Type 0 where
+    pub over : exceeds (leaves.ect-bar (s .J) (s .estOrder) (s .st .leaves)) lct ≡ true
+    pub found : leaves.responsible (s .J) (s .estOrder) (s .st .leaves) ≡ some x
+    pub task : i ≡ getD (s .estOrder) x 0

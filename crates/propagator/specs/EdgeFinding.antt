@@ -1,0 +1,53 @@
+-- Edge finding as code: what stands when it begins, and what it leaves, by the run's definition.
+use mathlib.Core.Path.{_≡_}
+use mathlib.Core.List.{List, _++_}
+use Prim.Native.Nat.{ℕ, _*_, _≤_}
+use lib.IntN.{ℤ}
+use lib.ListN.{length, getD}
+use lib.Seq.{sets}
+use Rattle.integers.specs.Moments.{zeroAt}
+use Rattle.scheduling.specs.Scheduling.{natural, Tasks, Atom, completion}
+use Rattle.trees.specs.Leaves.{sum}
+use Rattle.trees.specs.ArraySearches.{thetaIn}
+use Rattle.trees.specs.Operations.{Held}
+use Rattle.runs.specs.Runs.{conflict, run, allWhite}
+use Rattle.scheduling.specs.Words.{atomWords}
+use Rattle.runs.specs.Words.{postWords, reasons, endReason}
+use Rattle.runs.specs.Outcomes.{outcomeNumbers}
+use Rattle.runs.specs.EndNumbers.{traceNumbers}
+use Rattle.explanations.specs.WrittenAtoms.{starting}
+use Rattle.propagator.specs.declared.disjunctive_propagator.Written.{Written}
+use Rattle.propagator.specs.RunArrays.{Ordered, Holds, Arrays, At}
+use Rattle.runs.specs.declared.outcome.Outcome.{Outcome}
+use Rattle.runs.specs.declared.outcome.Outcome.the-variants as outcome
+
+-- the reason of an overload, by the tree and the arrays
+abbrev pub conflictOf : {inner : ℕ} {words : List ℕ} → Held inner words → List ℕ → ℕ → List ℕ → List ℕ → ℕ → List Atom
+conflictOf {inner} {words} h tasks n est dur lct = conflict zeroAt (starting est dur) lct (sum (h .J) (h .estOrder) (h .leaves)) (thetaIn words inner tasks n)
+
+-- it stands after the atoms written so far
+pub record Conflicted (as′ bs : List ℤ) (w : Written) (r : Outcome) (reason : List Atom) : Type 0 where
+  pub atom-words : bs ≡ sets as′ (3 * w .atoms) (atomWords reason)
+  pub answer : r ≡ outcome.Overload (w .posts) (w .atoms) (length reason)
+
+-- What edge finding is given: the tasks in both orders, the arrays that hold them, room for posts and reasons, and the tree of all tasks.
+pub record Begun (n inner height : ℕ) (words : List ℕ) (es ps as′ : List ℤ) (est lst lct dur tasks candidates mapping : List ℕ) : Type 0 where
+  pub J : Tasks natural
+  pub estOrder : List ℕ
+  pub lctOrder : List ℕ
+  pub ordered : Ordered J estOrder lctOrder
+  pub arrays : Arrays J estOrder n inner height est dur tasks mapping
+  pub latest : Holds n (J .latest) lst
+  pub completions : Holds n (completion J) lct
+  pub order : Holds n (λ t. getD lctOrder t 0) candidates
+  pub post-room : 4 * n ≤ length ps
+  pub atom-room : 6 * (n * n) ≤ length as′
+  pub at : At J estOrder ps as′ (allWhite J) inner words es ps as′ 0 0 n
+
+-- What it leaves: the trace of the run's definition.
+pub record Ended (J : Tasks natural) (estOrder lctOrder : List ℕ) (ps as′ : List ℤ) (r : Outcome) (changed : ℕ) (es′ ps′ bs : List ℤ) : Type 0 where
+  pub answer : outcomeNumbers r ≡ traceNumbers (run zeroAt J estOrder lctOrder)
+  pub changes : changed ≡ run zeroAt J estOrder lctOrder .changes
+  pub starts : es′ ≡ run zeroAt J estOrder lctOrder .starts
+  pub posts : ps′ ≡ sets ps 0 (postWords 0 (run zeroAt J estOrder lctOrder .posts))
+  pub atoms : bs ≡ sets as′ 0 (atomWords (reasons (run zeroAt J estOrder lctOrder .posts) ++ endReason (run zeroAt J estOrder lctOrder .end)))

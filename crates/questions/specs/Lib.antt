@@ -1,4 +1,0 @@
-pub mod Posts
-pub mod Checks
-pub mod Questions
-pub mod Examples

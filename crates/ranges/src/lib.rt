@@ -1,0 +1,4 @@
+pub mod bars;
+pub mod moves;
+pub mod range;
+pub mod starts;

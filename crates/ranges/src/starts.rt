@@ -1,0 +1,95 @@
+// Lent ranges are taken apart into arrays of numbers, and starts are stored back into them.
+// What is public here is so for the crate of the calls on lent ranges, and is no open call: what stores relies on there being no more starts than ranges, and
+// tests nothing.
+use crate::bars::all_bars_fit;
+use crate::moves::stored_latest;
+use crate::moves::stored_start;
+use crate::range::Range;
+use integers::limits::TASKS;
+ghost use mathlib.Core.Path.{_≡_};
+ghost use Prim.Native.Nat.{_≤_};
+ghost use lib.ListN.{length, take};
+ghost use Rattle.integers.specs.Limits.{TASKS};
+ghost use Rattle.ranges.specs.Ranges.{withStarts, withLatests};
+ghost use Rattle.ranges.specs.TakenApart.{taken, startsOf, startsWithBars};
+
+// Ranges, taken apart: their numbers stand in the first `count` places, zeros after them.
+pub struct Starts {
+    pub count: usize,
+    pub earliest: [i32; TASKS],
+    pub latest: [i32; TASKS],
+}
+
+// The same, and whether the bars of the ranges fit.
+pub struct StartsWithBars {
+    pub starts: Starts,
+    pub bars_fit: bool,
+}
+
+// How many of `n` ranges are taken apart. More ranges than any record has tasks are refused for their count, and so are none: then none is taken.
+fn fitting(n: usize) -> usize
+    ensures { λ r. ⌜ r ≡ taken n ⌝ }
+{
+    if n <= TASKS {
+        return n;
+    }
+    0
+}
+
+// Two numbers are copied for each range. No bar is read.
+pub fn starts_of(ranges: &[Range]) -> Starts
+    ensures { λ r. ⌜ r ≡ startsOf (now (ranges .entry)) ⌝ }
+{
+    let count = fitting(ranges.len());
+    let mut earliest = [0; TASKS];
+    let mut latest = [0; TASKS];
+    let mut i = 0;
+    while i < count {
+        let range = ranges[i];
+        earliest[i] = range.earliest;
+        latest[i] = range.latest;
+        i += 1;
+    }
+    Starts {
+        count,
+        earliest,
+        latest,
+    }
+}
+
+// The starts, and the answer about the bars: for the calls that ask for it.
+pub fn starts_with_bars(ranges: &[Range]) -> StartsWithBars
+    ensures { λ r. ⌜ r ≡ startsWithBars (now (ranges .entry)) ⌝ }
+{
+    let bars_fit = all_bars_fit(ranges);
+    let starts = starts_of(ranges);
+    StartsWithBars { starts, bars_fit }
+}
+
+// The earliest starts, put back into the ranges that they were taken from: one that was raised moves on to a permitted value.
+pub fn store_starts(ranges: &mut [Range], starts: Starts)
+    requires { ⌜ (starts .count ≤ TASKS) × (starts .count ≤ length (now ranges)) ⌝ }
+    ensures { λ _. ⌜ now (ranges .exit) ≡ withStarts (now (ranges .entry)) (take (starts .count) (starts .earliest)) ⌝ }
+{
+    let count = starts.count;
+    let earliest = starts.earliest;
+    let mut i = 0;
+    while i < count {
+        ranges[i].earliest = stored_start(ranges[i], earliest[i]);
+        i += 1;
+    }
+}
+
+// The latest starts, put back into the ranges that they were taken from: one that was lowered moves back to a permitted value.
+pub fn store_latest(ranges: &mut [Range], starts: Starts)
+    requires { ⌜ (starts .count ≤ TASKS) × (starts .count ≤ length (now ranges)) ⌝ }
+    ensures { λ _. ⌜ now (ranges .exit) ≡ withLatests (now (ranges .entry)) (take (starts .count) (starts .latest)) ⌝ }
+{
+    let count = starts.count;
+    let latest = starts.latest;
+    let mut i = 0;
+    while i < count {
+        ranges[i].latest = stored_latest(ranges[i], latest[i]);
+        i += 1;
+    }
+}

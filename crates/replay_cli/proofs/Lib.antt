@@ -1,0 +1,4 @@
+pub mod Locals
+pub mod MutableLoans
+pub mod SharedLoans
+pub mod LentCalls

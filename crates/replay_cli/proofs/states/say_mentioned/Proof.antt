@@ -1,0 +1,18 @@
+-- Each turn says one variable at most; the loop keeps nothing.
+use Prim.Native.Nat.{_-_}
+use borrow.Author.Needs.{needs}
+use Rattle.replay_cli.proofs.states.say_mentioned.Statement.{statement}
+use Rattle.replay_cli.proofs.states.say_mentioned.Tie as tie
+
+abbrev Inv-loop : tie.InvT-loop
+Inv-loop state premises consequent x₀ x = Unit {0}
+
+abbrev μ-loop : tie.MeasureT-loop
+μ-loop state premises consequent x₀ x = 64 - x
+
+pub say-mentioned-spec : {M : Type 1} → statement M
+say-mentioned-spec =
+    tie.close
+    (tie.spec
+    Inv-loop μ-loop (λ c. search needs) (λ c κs. search needs) (λ c. search needs) (λ c. search needs)
+    (λ c. search needs) (λ c. search needs))

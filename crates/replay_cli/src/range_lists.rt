@@ -1,0 +1,126 @@
+// The ranges of a command: pairs of starts, and behind them, for a task, its barred starts.
+use crate::lines::say;
+use crate::lines::say_number;
+use crate::parts::list;
+use crate::parts::number_at;
+use crate::parts::place_of;
+use integers::limits::BARS;
+use ranges::range::Range;
+
+// Ranges of one command that are kept: more than any record has tasks, so that a call refuses so many for their count.
+pub const RANGES: usize = 64;
+
+// The first `count` places have the ranges. `valid` is false where the command is not understood.
+pub struct Ranges {
+    pub valid: bool,
+    pub count: usize,
+    pub kept: [Range; RANGES],
+}
+
+// A range of two starts that bars none.
+fn range_of(earliest: i32, latest: i32) -> Range {
+    Range {
+        earliest,
+        latest,
+        count: 0,
+        barred: [0; BARS],
+    }
+}
+
+// How many ranges are kept of a list of pairs.
+fn kept_of(pairs: &[i32]) -> usize {
+    if pairs.len() < 2 * RANGES {
+        return pairs.len() / 2;
+    }
+    RANGES
+}
+
+// The ranges of a list of pairs.
+pub fn ranges_of(pairs: &[i32]) -> Ranges {
+    let mut kept = [range_of(0, 0); RANGES];
+    let mut i = 0;
+    while i < RANGES {
+        kept[i] = range_of(number_at(pairs, 2 * i), number_at(pairs, 2 * i + 1));
+        i += 1;
+    }
+    Ranges {
+        valid: pairs.len() % 2 == 0,
+        count: kept_of(pairs),
+        kept,
+    }
+}
+
+// The barred starts of a list that begins with a task: the first of those behind it.
+fn bars_of(bars: &[i32]) -> [i32; BARS] {
+    let mut barred = [0; BARS];
+    let mut i = 0;
+    while i < BARS {
+        barred[i] = number_at(bars, i + 1);
+        i += 1;
+    }
+    barred
+}
+
+// The range with the barred starts of such a list. All of them count, also those that find no place.
+fn barred_by(range: Range, bars: &[i32]) -> Range {
+    if bars.len() == 0 {
+        return range;
+    }
+    let mut next = range;
+    next.count = bars.len() - 1;
+    let barred = bars_of(bars);
+    next.barred = barred;
+    next
+}
+
+impl Ranges {
+    // The ranges with the barred starts of a list: its first number is the task.
+    fn with_bars(self, bars: &[i32]) -> Ranges {
+        let mut next = self;
+        let task = place_of(number_at(bars, 0));
+        if bars.len() == 0 || task >= next.count {
+            next.valid = false;
+            return next;
+        }
+        if task >= RANGES {
+            return next;
+        }
+        let range = next.kept[task];
+        next.kept[task] = barred_by(range, bars);
+        next
+    }
+
+    // The ranges with the barred starts of lists 1 to n - 1 of a line.
+    pub fn with_lists(self, words: &[i32], ends: &[usize], n: usize) -> Ranges {
+        let mut next = self;
+        let mut k = 1;
+        while k < n {
+            next = next.with_bars(list(words, ends, k));
+            k += 1;
+        }
+        next
+    }
+}
+
+// The earliest start of range i, or its latest.
+fn start_at(ranges: [Range; RANGES], i: usize, latest: bool) -> i32 {
+    if i >= RANGES {
+        return 0;
+    }
+    let range = ranges[i];
+    if latest {
+        return range.latest;
+    }
+    range.earliest
+}
+
+// The line of the first n starts: the earliest, or the latest.
+pub fn say_starts(ranges: [Range; RANGES], n: usize, latest: bool) {
+    say(b"starts");
+    let mut i = 0;
+    while i < n {
+        say_number(start_at(ranges, i, latest));
+        i += 1;
+    }
+    say(b"\n");
+}

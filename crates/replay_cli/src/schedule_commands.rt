@@ -1,0 +1,126 @@
+// The calls on a fixed schedule: the page, the charges, the earliest free start and the busiest stretch.
+use crate::lent_schedules::busiest_stretch;
+use crate::lent_schedules::charges;
+use crate::lent_schedules::free_start;
+use crate::lent_schedules::page;
+use crate::lines::say;
+use crate::lines::say_count;
+use crate::lines::say_counted;
+use crate::lines::say_refused;
+use crate::lines::say_valued;
+use crate::parts::bytes_of;
+use crate::parts::same;
+use crate::range_lists::RANGES;
+use crate::range_lists::Ranges;
+use disjunctive::Billing;
+use disjunctive::Busiest;
+use disjunctive::DisjunctivePropagator;
+use disjunctive::FreeStart;
+use disjunctive::Page;
+use integers::limits::TASKS;
+ghost use Prim.Native.Nat.{_≤_};
+
+// Bytes of a page of 48 tasks.
+const PAGE: usize = 1519;
+
+// The answer on a fixed schedule, and what more is asked. Whether the word asks for one.
+pub fn tells_fixed(
+    record: DisjunctivePropagator,
+    word: &[u8],
+    ranges: Ranges,
+    asked: &[i32],
+) -> bool {
+    if !ranges.valid {
+        return false;
+    }
+    if ranges.count > RANGES {
+        return false;
+    }
+    let k = asked.len();
+    if k == 0 && same(word, b"page") {
+        pages(record, ranges);
+        return true;
+    }
+    if same(word, b"charges") {
+        bills(record, ranges, asked);
+        return true;
+    }
+    if k == 2 && same(word, b"free") {
+        says_start(free_start(record, ranges, asked[0], asked[1]));
+        return true;
+    }
+    if k == 1 && same(word, b"busiest") {
+        says_stretch(busiest_stretch(record, ranges, asked[0]));
+        return true;
+    }
+    false
+}
+
+// `page`: the page of a fixed schedule.
+fn pages(record: DisjunctivePropagator, ranges: Ranges)
+    requires { ⌜ ranges .count ≤ 64 ⌝ }
+{
+    let mut sheet = [0u8; PAGE];
+    let answer = page(record, ranges, &mut sheet);
+    match answer {
+        Page::Written(bytes) => say(bytes_of(&sheet, 0, bytes)),
+        Page::Refused(number) => say_refused(number),
+    }
+}
+
+// `charges`: the charges of a fixed schedule by the due moments, and their total.
+fn bills(record: DisjunctivePropagator, ranges: Ranges, due: &[i32])
+    requires { ⌜ ranges .count ≤ 64 ⌝ }
+{
+    let made = charges(record, ranges, due);
+    let answer = made.answer;
+    let bill = made.bill;
+    match answer {
+        Billing::Made => {
+            let charges = bill.charges;
+            let total = bill.total;
+            say_charges(charges, ranges.count);
+            say_counted(b"total", total as usize);
+        }
+        Billing::Refused(number) => say_refused(number),
+    }
+}
+
+// Charge i, or 0 behind the last.
+fn charge_at(charges: [u32; TASKS], i: usize) -> usize {
+    if i >= TASKS {
+        return 0;
+    }
+    charges[i] as usize
+}
+
+// The line of the first n charges.
+fn say_charges(charges: [u32; TASKS], n: usize) {
+    say(b"charges");
+    let mut i = 0;
+    while i < n {
+        say_count(charge_at(charges, i));
+        i += 1;
+    }
+    say(b"\n");
+}
+
+// `free`: the earliest free start beside a fixed schedule.
+fn says_start(answer: FreeStart) {
+    match answer {
+        FreeStart::At(start) => say_valued(b"start", start),
+        FreeStart::Refused(number) => say_refused(number),
+    }
+}
+
+// `busiest`: the busiest stretch of a fixed schedule.
+fn says_stretch(answer: Busiest) {
+    match answer {
+        Busiest::Stretch(time, start) => {
+            say(b"covered");
+            say_count(time as usize);
+            say_valued(b" from", start);
+        }
+        Busiest::Refused(number) => say_refused(number),
+    }
+}

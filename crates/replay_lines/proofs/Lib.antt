@@ -1,3 +1,0 @@
-pub mod Locals
-pub mod Lending
-pub mod Sharing

@@ -1,0 +1,176 @@
+-- The inner loop's clauses, and that it needs no more turns than there are gray leaves.
+use mathlib.Core.Path.{_≡_, refl, sym, ap, subst, _∙_}
+use mathlib.Core.Bool.{Bool, true, false}
+use mathlib.Core.Logic.{_⊎_, inl, inr}
+use mathlib.Core.List.{List, []}
+use mathlib.Core.Option.{Option, some, none}
+use Prim.Native.Nat.{ℕ, zero, suc, _-_, _≤_, _<_}
+use native.Mathlib.Omega.{arith}
+use native.Mathlib.Decide.{ℕ-discrete}
+use lib.Dec.{ltb}
+use lib.IntN.{ℤ}
+use lib.ListN.{length, getD, set, length-set, replicate}
+use lib.Seq.{getD-set-same, getD-set-other}
+use borrow.Author.Tests.{ne-eqb, eq-eqb}
+use Rattle.scheduling.specs.Scheduling.{natural, Tasks, tasksOf, Proper, TaskSet}
+use Rattle.integers.proofs.Bools.{bool}
+use Rattle.scheduling.proofs.Sets.{_less_}
+use Rattle.scheduling.proofs.SetSizes.{card, card-less, card-same}
+use Rattle.scheduling.specs.Moments.{moments, ByEarliest}
+use Rattle.integers.specs.Moments.{zeroAt}
+use Rattle.integers.specs.Orders.{index}
+use Rattle.trees.specs.Ects.{exceeds}
+use Rattle.trees.proofs.Ects.{past-or-not}
+use Rattle.trees.specs.Leaves.{Leaf, empty, white, sum, theta, inLambda, whiteAt, grayAt, responsible, ect, ect-bar}
+use Rattle.runs.specs.Traces.{done, overload, emptied}
+use Rattle.runs.specs.Runs.{State, Turn, on, stop, inner, outer, run, ended, grayed, tabulate, conflict, posted, raised, dropped, lct, earliestOrder, completionOrder, propagate}
+use Rattle.trees.proofs.RootAnswers as tree
+
+-- a leaf is found or not, and the inner loop goes on or stops
+pub opt : (u : Option ℕ) → (u ≡ none) ⊎ ((x : ℕ) × (u ≡ some x))
+opt none = inl refl
+opt (some x) = inr (x, refl)
+
+pub turn : (u : Turn) → ((st : State) × (u ≡ on st)) ⊎ ((st : State) × (u ≡ stop st))
+turn (on st) = inl (st, refl)
+turn (stop st) = inr (st, refl)
+
+module _ (o : ℕ) (J : Tasks natural) (estOrder lctOrder : List ℕ) (f t : ℕ) (st : State) where
+  abbrev T : ℕ → ℕ
+  T x = getD estOrder x 0
+
+  abbrev Over : Bool → Type 0
+  Over v = exceeds (ect-bar J estOrder (st .leaves)) (lct o J estOrder lctOrder t) ≡ v
+
+  pub inner-end : inner o J estOrder lctOrder 0 t st ≡ on st
+  unfolding inner
+  inner-end = refl
+
+  pub inner-off : Over false → inner o J estOrder lctOrder (suc f) t st ≡ on st
+  unfolding inner
+  inner-off z = rw (z, inner)
+
+  pub inner-none : Over true → responsible J estOrder (st .leaves) ≡ none → inner o J estOrder lctOrder (suc f) t st ≡ on st
+  unfolding inner
+  inner-none z w = rw (z, w, inner)
+
+  module _ (x : ℕ) (z : Over true) (w : responsible J estOrder (st .leaves) ≡ some x) where
+    -- Θ's ect is not past the task's start, or there is none
+    pub inner-pass : exceeds (ect J estOrder (st .leaves)) (J .earliest (T x)) ≡ false → inner o J estOrder lctOrder (suc f) t st ≡ inner o J estOrder lctOrder f t (dropped st x)
+    unfolding inner
+    inner-pass y = elim (opt (ect J estOrder (st .leaves))) [
+      | inl d ↦ rw (z, w, d, inner) refl
+      | inr d ↦ (let low : ltb (J .earliest (T x)) (d .0) ≡ false = ap (λ (u : Option ℕ). exceeds u (J .earliest (T x))) (sym (d .1)) ∙ y in rw (z, w, d .1, low, inner) refl)
+    ]
+
+    -- it is b, which is
+    module _ (b : ℕ) (is : ect J estOrder (st .leaves) ≡ some b) where
+      pub inner-stop : ltb (J .earliest (T x)) b ≡ true → ltb (J .latest (T x)) b ≡ true → inner o J estOrder lctOrder (suc f) t st ≡ stop (posted o J estOrder lctOrder st (T x) b t)
+      unfolding inner
+      inner-stop y a = rw (z, w, is, y, a, inner)
+
+      pub inner-raise : ltb (J .earliest (T x)) b ≡ true → ltb (J .latest (T x)) b ≡ false
+          → inner o J estOrder lctOrder (suc f) t st ≡ inner o J estOrder lctOrder f t (dropped (raised (posted o J estOrder lctOrder st (T x) b t) (T x) b) x)
+      unfolding inner
+      inner-raise y a = rw (z, w, is, y, a, inner) refl
+
+module _ (o : ℕ) (J : Tasks natural) (ok : Proper J) (estOrder lctOrder : List ℕ) (rk : ByEarliest J (λ j. getD estOrder j 0) (λ k. index estOrder k)) where
+  -- the gray tasks of the leaves
+  abbrev pub lam : List Leaf → TaskSet
+  lam ls k = grayAt ls (index estOrder k)
+
+  shape : (ls : List Leaf) → length ls ≡ J .count → tree.Represents J ok estOrder rk ls (λ k. whiteAt ls (index estOrder k)) (lam ls)
+  shape ls q = record { size = q; whites = λ k h. refl; grays = λ k h. refl }
+
+  -- a found task leaves Λ
+  pub fewer : (ls : List Leaf) (q : length ls ≡ J .count) (x : ℕ) → responsible J estOrder ls ≡ some x → card J (lam ls) ≡ suc (card J (lam (set ls x empty)))
+  fewer ls q x w = omega (arith, card-less J (lam ls) i (g .gray), card-same J (lam ls less i) (lam (set ls x empty)) same)
+    where
+      g : tree.Found J ok estOrder rk ls (λ k. whiteAt ls (index estOrder k)) (lam ls) (shape ls q) x
+      g = tree.one-found J ok estOrder rk ls (λ k. whiteAt ls (index estOrder k)) (lam ls) (shape ls q) x w
+
+      i : ℕ
+      i = getD estOrder x 0
+
+      at-x : index estOrder (getD estOrder x 0) ≡ x
+      at-x = rk .back x (g .small)
+
+      same : (k : ℕ) → k < J .count → (lam ls less getD estOrder x 0) k ≡ lam (set ls x empty) k
+      same k r = elim (ℕ-discrete k (getD estOrder x 0)) [
+        | yes z ↦ subst (λ (k : ℕ). (lam ls less getD estOrder x 0) k ≡ lam (set ls x empty) k) (sym z)
+            (rw (eq-eqb (getD estOrder x 0) (getD estOrder x 0) refl)
+            (sym (ap (λ (j : ℕ). grayAt (set ls x empty) j) at-x ∙ ap inLambda (getD-set-same ls x empty empty (omega (arith, q, g .small))))))
+        | no z ↦ rw (ne-eqb k (getD estOrder x 0) z) (sym (ap inLambda (getD-set-other ls x (index estOrder k) empty empty (λ y. z (sym (rk .there k r) ∙ ap (λ (j : ℕ). getD estOrder j 0) y)))))
+      ]
+
+  abbrev I : ℕ → ℕ → State → Turn
+  I f t st = inner o J estOrder lctOrder f t st
+
+  inner-zero : (t : ℕ) (st : State) → I 0 t st ≡ on st
+  unfolding inner
+  inner-zero t st = refl
+
+  -- one turn more changes nothing
+  pub inner-more : (f t : ℕ) (st : State) → length (st .leaves) ≡ J .count → card J (lam (st .leaves)) ≤ f → I (suc f) t st ≡ I f t st
+  inner-more zero t st q few = by (bool (exceeds (ect-bar J estOrder (st .leaves)) (lct o J estOrder lctOrder t))) (opt (responsible J estOrder (st .leaves)))
+    where
+      by : (exceeds (ect-bar J estOrder (st .leaves)) (lct o J estOrder lctOrder t) ≡ true) ⊎ (exceeds (ect-bar J estOrder (st .leaves)) (lct o J estOrder lctOrder t) ≡ false)
+          → (responsible J estOrder (st .leaves) ≡ none) ⊎ ((x : ℕ) × (responsible J estOrder (st .leaves) ≡ some x)) → I 1 t st ≡ I 0 t st
+      by (inr z) w = inner-off o J estOrder lctOrder 0 t st z ∙ sym (inner-zero t st)
+      by (inl z) (inl w) = inner-none o J estOrder lctOrder 0 t st z w ∙ sym (inner-zero t st)
+      by (inl z) (inr w) = absurd (omega (arith, fewer (st .leaves) q (w .0) (w .1), few))
+  inner-more (suc f) t st q few = by (λ st′. inner-more f t st′) (bool (exceeds (ect-bar J estOrder (st .leaves)) (lct o J estOrder lctOrder t))) (opt (responsible J estOrder (st .leaves)))
+    where
+      IH : Type 0
+      IH = (st′ : State) → length (st′ .leaves) ≡ J .count → card J (lam (st′ .leaves)) ≤ f → I (suc f) t st′ ≡ I f t st′
+
+      took : IH → (x : ℕ) → exceeds (ect-bar J estOrder (st .leaves)) (lct o J estOrder lctOrder t) ≡ true → responsible J estOrder (st .leaves) ≡ some x → card J (lam (set (st .leaves) x empty)) ≤ f
+          → I (suc (suc f)) t st ≡ I (suc f) t st
+      took ih x z w down = elim (past-or-not (ect J estOrder (st .leaves)) (J .earliest (getD estOrder x 0))) [
+        | inl y ↦ inner-pass o J estOrder lctOrder (suc f) t st x z w y ∙ ih (dropped st x) (length-set (st .leaves) x empty ∙ q) down ∙ sym (inner-pass o J estOrder lctOrder f t st x z w y)
+        | inr (b, is, y) ↦ elim (bool (ltb (J .latest (getD estOrder x 0)) b)) [
+          | inl a ↦ inner-stop o J estOrder lctOrder (suc f) t st x z w b is y a ∙ sym (inner-stop o J estOrder lctOrder f t st x z w b is y a)
+          | inr a ↦ inner-raise o J estOrder lctOrder (suc f) t st x z w b is y a
+              ∙ ih (dropped (raised (posted o J estOrder lctOrder st (getD estOrder x 0) b t) (getD estOrder x 0) b) x) (length-set (st .leaves) x empty ∙ q) down
+              ∙ sym (inner-raise o J estOrder lctOrder f t st x z w b is y a)
+        ]
+      ]
+
+      by : IH → (exceeds (ect-bar J estOrder (st .leaves)) (lct o J estOrder lctOrder t) ≡ true) ⊎ (exceeds (ect-bar J estOrder (st .leaves)) (lct o J estOrder lctOrder t) ≡ false)
+          → (responsible J estOrder (st .leaves) ≡ none) ⊎ ((x : ℕ) × (responsible J estOrder (st .leaves) ≡ some x)) → I (suc (suc f)) t st ≡ I (suc f) t st
+      by ih (inr z) w = inner-off o J estOrder lctOrder (suc f) t st z ∙ sym (inner-off o J estOrder lctOrder f t st z)
+      by ih (inl z) (inl w) = inner-none o J estOrder lctOrder (suc f) t st z w ∙ sym (inner-none o J estOrder lctOrder f t st z w)
+      by ih (inl z) (inr w) = took ih (w .0) z (w .1) (omega (arith, fewer (st .leaves) q (w .0) (w .1), few))
+
+-- the whole run's definition, and the outer loop's clauses
+pub propagate-is : (ds : List ℕ) (es ls : List ℤ) → let J = moments zeroAt (tasksOf ds es ls) in propagate ds es ls ≡ run zeroAt J (earliestOrder J) (completionOrder J)
+unfolding propagate
+propagate-is ds es ls = refl
+
+module _ (o : ℕ) (J : Tasks natural) (estOrder lctOrder : List ℕ) where
+  pub run-is : run o J estOrder lctOrder ≡ outer o J estOrder lctOrder (J .count - 1) 0
+      (record { leaves = replicate (J .count) white; starts = tabulate (J .earliest) 0 (J .count); posts = []; changes = J .count })
+  unfolding run
+  run-is = refl
+
+  module _ (f t : ℕ) (st : State) where
+    pub outer-end : outer o J estOrder lctOrder 0 t st ≡ ended o J estOrder lctOrder st done
+    unfolding outer
+    outer-end = refl
+
+    pub outer-over : exceeds (ect J estOrder (st .leaves)) (lct o J estOrder lctOrder t) ≡ true
+        → outer o J estOrder lctOrder (suc f) t st ≡ ended o J estOrder lctOrder st
+        (overload (conflict o J (lct o J estOrder lctOrder t) (sum J estOrder (st .leaves)) (theta J estOrder (st .leaves))))
+    unfolding outer
+    outer-over z = rw (z, outer)
+
+    module _ (st′ : State) (z : exceeds (ect J estOrder (st .leaves)) (lct o J estOrder lctOrder t) ≡ false) where
+      pub outer-on : inner o J estOrder lctOrder (J .count) (suc t) (grayed st (index estOrder (getD lctOrder t 0))) ≡ on st′
+          → outer o J estOrder lctOrder (suc f) t st ≡ outer o J estOrder lctOrder f (suc t) st′
+      unfolding outer
+      outer-on y = rw (z, y, outer) refl
+
+      pub outer-stop : inner o J estOrder lctOrder (J .count) (suc t) (grayed st (index estOrder (getD lctOrder t 0))) ≡ stop st′
+          → outer o J estOrder lctOrder (suc f) t st ≡ ended o J estOrder lctOrder st′ emptied
+      unfolding outer
+      outer-stop y = rw (z, y, outer)

@@ -1,0 +1,497 @@
+-- The run, step by step: what stands at each level, for posts and reasons that are good by any measure.
+use mathlib.Core.Path.{_≡_, refl, sym, ap, subst, _∙_}
+use mathlib.Core.Bool.{true, false}
+use mathlib.Core.Logic.{_⊎_, inl, inr}
+use mathlib.Core.List.{List, [], _∷_, _++_, map}
+use mathlib.Core.Option.{Option, some}
+use Prim.Native.Nat.{ℕ, zero, suc, _+_, _-_, _≤_, _<_}
+use native.Mathlib.Omega.{arith}
+use native.Mathlib.Decide.{decLt, ℕ-discrete}
+use lib.Dec.{leb, ltb}
+use lib.IntN.{pos, subℕ}
+use lib.ListN.{length, getD, set, replicate, length-set, length-replicate, getD-replicate, List·getD-append}
+use lib.Seq.{getD-set-same, getD-set-other, getD-append-seam}
+use borrow.Author.Tests.{ne-eqb, eq-eqb, le-leb, lt-leb, ltb-true, ltb-false}
+use Rattle.scheduling.specs.Scheduling.{natural, Tasks, Proper, TaskSet, _with_, In, NonEmpty, completion, Ect, Done, Conflict, Atom}
+use Rattle.integers.proofs.Bools.{leb-step, bool, clash, below-suc}
+use Rattle.integers.proofs.Lists.{getD-map-in, length-snoc}
+use Rattle.scheduling.proofs.Sets.{_less_, with-new}
+use Rattle.scheduling.proofs.Scan.{scan, scan-is}
+use Rattle.scheduling.proofs.Levels.{Posts, Facts, next, leave, facts-same, last-fits, edge, finish, overloaded, more}
+use Rattle.scheduling.proofs.SetSizes.{card, card-less, card-zero, card-same, card-most}
+use Rattle.integers.specs.Moments.{moment, Above, instant}
+use Rattle.integers.proofs.MomentSums.{moment-instant, instant-above, zero-above}
+use Rattle.scheduling.specs.Moments.{ByEarliest, ByCompletion}
+use Rattle.integers.specs.Orders.{index}
+use Rattle.runs.specs.Traces.{Post, End, done, overload, emptied, Trace}
+use Rattle.trees.specs.Leaves.{Leaf, empty, white, gray, inTheta, inLambda, whiteAt, grayAt, theta}
+use Rattle.runs.specs.Runs.{State, Turn, on, stop, inner, outer, run, tabulate, conflict, propagation}
+use Rattle.runs.specs.Runs as edges
+use Rattle.trees.specs.Leaves as leaves
+use Rattle.trees.specs.Ects.{exceeds}
+use Rattle.trees.proofs.Ects.{one-moment, past-or-not, some-past, some-within}
+use Rattle.trees.proofs.RootAnswers as tree
+use Rattle.runs.specs.Demand.{no-post}
+use Rattle.runs.proofs.InnerLoop.{opt, turn, inner-end, inner-off, inner-none, inner-pass, inner-stop, inner-raise, outer-end, outer-over, outer-on, outer-stop}
+use Rattle.runs.proofs.TaskLists.{tab-length, tab-at}
+
+pub map-above : (o : ℕ) (l : List ℕ) (k : ℕ) → Above o (getD (map (λ (m : ℕ). subℕ m o) l) k (pos 0))
+map-above o [] k = zero-above o
+map-above o (x ∷ xs) zero = instant-above o x
+map-above o (x ∷ xs) (suc k) = map-above o xs k
+
+-- Done looks at the starts below the count
+pub done-same : (J : Tasks natural) (now now′ : ℕ → ℕ) (m : ℕ) (task bound : ℕ → ℕ) → ((k : ℕ) → k < J .count → now′ k ≡ now k) → Done J now m task bound → Done J now′ m task bound
+done-same J now now′ m task bound z d = record {
+  no-overload = d .no-overload;
+  no-passing = d .no-passing;
+  starts = λ i q. rw (z i q) (d .starts i q);
+  small = d .small;
+  raises = d .raises;
+  at-largest = d .at-largest;
+  every = λ k q r. d .every k q (rw (z k q) at r);
+  once = d .once;
+}
+
+-- so do posts, and at those below m
+posts-same : (J : Tasks natural) (now now′ : ℕ → ℕ) (m : ℕ) (task bound task′ bound′ : ℕ → ℕ) → ((k : ℕ) → k < J .count → now′ k ≡ now k)
+    → ((j : ℕ) → j < m → task′ j ≡ task j) → ((j : ℕ) → j < m → bound′ j ≡ bound j) → Posts J now m task bound → Posts J now′ m task′ bound′
+posts-same J now now′ m task bound task′ bound′ ns ts bs p = record {
+  small = λ j q. subst (λ (i : ℕ). i < J .count) (sym (ts j q)) (p .small j q);
+  raises = λ j q. rw (ts j q, bs j q) (p .raises j q);
+  agrees = λ j q. bs j q ∙ p .agrees j q ∙ sym (ns (task j) (p .small j q)) ∙ ap now′ (sym (ts j q));
+  every = λ k q h. (let (j, a, c) = p .every k q (rw (ns k q) at h) in (j, a, ts j a ∙ c));
+  once = λ i j q r z. p .once i j q r (sym (ts i q) ∙ z ∙ ts j r);
+}
+
+-- Of the posts the first m stand in the starts, which are in their ranges, and no other start changed; each post after them is above its task's latest start.
+pub record Standing (J : Tasks natural) (now : ℕ → ℕ) (m made : ℕ) (task bound : ℕ → ℕ) : Type 0 where
+  pub stand : Posts J now m task bound
+  pub from : (k : ℕ) → k < J .count → J .earliest k ≤ now k
+  pub to : (k : ℕ) → k < J .count → now k ≤ J .latest k
+  pub above : (j : ℕ) → m ≤ j → j < made → J .latest (task j) < bound j
+
+module _ (o : ℕ) (J : Tasks natural) (ok : Proper J) (estOrder lctOrder : List ℕ) (rk : ByEarliest J (λ j. getD estOrder j 0) (λ k. index estOrder k))
+    (ord : ByCompletion J (λ t. getD lctOrder t 0) (λ k. index lctOrder k)) where
+  abbrev pub T : ℕ → ℕ
+  T j = getD estOrder j 0
+
+  abbrev pub rank : ℕ → ℕ
+  rank k = index estOrder k
+
+  abbrev pub L : ℕ → ℕ
+  L t = getD lctOrder t 0
+
+  abbrev pub place : ℕ → ℕ
+  place k = index lctOrder k
+
+  abbrev pub n : ℕ
+  n = J .count
+
+  abbrev pub E : TaskSet → ℕ
+  E Ω = scan J T rank Ω n
+
+  pub E-is : (Ω : TaskSet) → NonEmpty J Ω → Ect J Ω (E Ω)
+  E-is Ω = scan-is J T rank ok rk Ω
+
+  abbrev pub Th : ℕ → TaskSet
+  Th t k = leb t (place k)
+
+  abbrev pub En : ℕ → ℕ
+  En t = completion J (L t)
+
+  abbrev pub Fa : ℕ → TaskSet → (ℕ → ℕ) → Type 0
+  Fa = Facts J ok E E-is L place ord
+
+  abbrev pub Shape : List Leaf → TaskSet → TaskSet → Type 0
+  Shape = tree.Represents J ok estOrder rk
+
+  abbrev pub Found : (ls : List Leaf) (Ω Λ : TaskSet) → Shape ls Ω Λ → ℕ → Type 0
+  Found = tree.Found J ok estOrder rk
+
+  abbrev pub ectOf : List Leaf → Option ℕ
+  ectOf = leaves.ect J estOrder
+
+  abbrev pub barOf : List Leaf → Option ℕ
+  barOf = leaves.ect-bar J estOrder
+
+  -- Θ has the level's task
+  pub theta-some : (t : ℕ) → t < n → In J (Th t) (L t)
+  theta-some t small = record { small = ord .task t small; mem = le-leb t (place (L t)) (omega (arith, ord .back t small)) }
+
+  -- what a post and an overload's reason are to be
+  pub record Measure (Good : Post → Type 0) (GoodEnd : List Atom → Type 0) : Type 0 where
+    pub of-post : (t : ℕ) (ls : List Leaf) (Λ : TaskSet) (s : Shape ls (Th t) Λ) (x b : ℕ) → t < n → Found ls (Th t) Λ s x → place (T x) < t → exceeds (barOf ls) (En t) ≡ true → ectOf ls ≡ some b
+        → J .earliest (T x) < b
+        → Good (record { task = T x; bound = subℕ b o; reason = propagation o J (T x) b (En t) (leaves.sum J estOrder ls) (theta J estOrder ls) })
+    pub of-end : (t : ℕ) (ls : List Leaf) (Λ : TaskSet) (s : Shape ls (Th t) Λ) → t < n → exceeds (ectOf ls) (En t) ≡ true
+        → GoodEnd (conflict o J (En t) (leaves.sum J estOrder ls) (theta J estOrder ls))
+
+  module _ (Good : Post → Type 0) (GoodEnd : List Atom → Type 0) (meas : Measure Good GoodEnd) where
+    abbrev pub lam : State → TaskSet
+    lam st k = grayAt (st .leaves) (rank k)
+
+    abbrev pub now : State → ℕ → ℕ
+    now st k = getD (st .starts) k 0
+
+    abbrev pub taskOf : List Post → ℕ → ℕ
+    taskOf ps j = getD ps j no-post .task
+
+    abbrev pub boundOf : List Post → ℕ → ℕ
+    boundOf ps j = moment o (getD ps j no-post .bound)
+
+    abbrev pub AllGood : List Post → Type 0
+    AllGood ps = (j : ℕ) → j < length ps → Good (getD ps j no-post)
+
+    -- what holds inside a level t
+    pub record Inv (t : ℕ) (st : State) : Type 0 where
+      pub size : length (st .leaves) ≡ n
+      pub whites : (k : ℕ) → k < n → whiteAt (st .leaves) (rank k) ≡ Th t k
+      pub known : length (st .starts) ≡ n
+      pub facts : Fa t (lam st) (now st)
+      pub posted : Posts J (now st) (length (st .posts)) (taskOf (st .posts)) (boundOf (st .posts))
+      pub good : AllGood (st .posts)
+
+    pub shape : (t : ℕ) (st : State) → Inv t st → Shape (st .leaves) (Th t) (lam st)
+    shape t st v = record { size = v .size; whites = v .whites; grays = λ k q. refl }
+
+    -- the tree's ect is that of Θ, past the level's lct or not
+    module _ (t : ℕ) (st : State) (small : t < n) (v : Inv t st) where
+      pub theta-ect : ectOf (st .leaves) ≡ some (E (Th t))
+      theta-ect = tree.moment-some J ok estOrder rk (st .leaves) (Th t) (lam st) (shape t st v) (L t) (theta-some t small)
+
+      theta-past : exceeds (ectOf (st .leaves)) (En t) ≡ true → En t < E (Th t)
+      theta-past = some-past (ectOf (st .leaves)) (E (Th t)) (En t) theta-ect
+
+      pub theta-within : exceeds (ectOf (st .leaves)) (En t) ≡ false → E (Th t) ≤ En t
+      theta-within = some-within (ectOf (st .leaves)) (E (Th t)) (En t) theta-ect
+
+    -- one post more
+    module _ (ps : List Post) (p : Post) where
+      old : (j : ℕ) → j < length ps → getD (ps ++ (p ∷ [])) j no-post ≡ getD ps j no-post
+      old j q = List·getD-append ps (p ∷ []) no-post j q
+
+      new : getD (ps ++ (p ∷ [])) (length ps) no-post ≡ p
+      new = getD-append-seam ps p [] no-post
+
+      all-good : AllGood ps → Good p → AllGood (ps ++ (p ∷ []))
+      all-good g h j q = below-suc (λ j. Good (getD (ps ++ (p ∷ [])) j no-post)) (length ps) (λ j r. subst Good (sym (old j r)) (g j r)) (subst Good (sym new) h) j (omega (arith, length-snoc ps p))
+
+    -- the leaf of i is changed
+    module _ (ls : List Leaf) (i : ℕ) (c : Leaf) (size : length ls ≡ n) (small : i < n) where
+      here : getD (set ls (rank i) c) (rank i) empty ≡ c
+      here = getD-set-same ls (rank i) c empty (omega (arith, rk .placed i small))
+
+      there : (k : ℕ) → k < n → (k ≡ i → ⊥) → getD (set ls (rank i) c) (rank k) empty ≡ getD ls (rank k) empty
+      there k q ne = getD-set-other ls (rank i) (rank k) c empty (λ z. ne (sym (rk .there k q) ∙ ap T z ∙ rk .there i small))
+
+    -- i leaves Λ
+    module _ (t : ℕ) (ls : List Leaf) (i : ℕ) (size : length ls ≡ n) (small : i < n) (late : place i < t) where
+      drop-whites : ((k : ℕ) → k < n → whiteAt ls (rank k) ≡ Th t k) → (k : ℕ) → k < n → whiteAt (set ls (rank i) empty) (rank k) ≡ Th t k
+      drop-whites w k q = elim (ℕ-discrete k i) [
+        | yes z ↦ rw z (ap inTheta (here ls i empty size small) ∙ sym (lt-leb t (place i) late))
+        | no z ↦ ap inTheta (there ls i empty size small k q z) ∙ w k q
+      ]
+
+      drop-grays : (k : ℕ) → k < n → ((λ (k : ℕ). grayAt ls (rank k)) less i) k ≡ grayAt (set ls (rank i) empty) (rank k)
+      drop-grays k q = elim (ℕ-discrete k i) [
+        | yes z ↦ rw (z, eq-eqb i i refl) (sym (ap inLambda (here ls i empty size small)))
+        | no z ↦ rw (ne-eqb k i z) (sym (ap inLambda (there ls i empty size small k q z)))
+      ]
+
+    -- L t goes from Θ to Λ
+    module _ (t : ℕ) (ls : List Leaf) (size : length ls ≡ n) (small : t < n) where
+      gray-whites : ((k : ℕ) → k < n → whiteAt ls (rank k) ≡ Th t k) → (k : ℕ) → k < n → whiteAt (set ls (rank (L t)) gray) (rank k) ≡ Th (suc t) k
+      gray-whites w k q = elim (ℕ-discrete k (L t)) [
+        | yes z ↦ rw z (ap inTheta (here ls (L t) gray size (ord .task t small)) ∙ sym (lt-leb (suc t) (place (L t)) (omega (arith, ord .back t small))))
+        | no z ↦ ap inTheta (there ls (L t) gray size (ord .task t small) k q z) ∙ w k q ∙ leb-step t (place k) (λ y. z (sym (ord .there k q) ∙ ap L y))
+      ]
+
+      gray-grays : (k : ℕ) → k < n → ((λ (k : ℕ). grayAt ls (rank k)) with L t) k ≡ grayAt (set ls (rank (L t)) gray) (rank k)
+      gray-grays k q = elim (ℕ-discrete k (L t)) [
+        | yes z ↦ rw (z, eq-eqb (L t) (L t) refl) (sym (ap inLambda (here ls (L t) gray size (ord .task t small))))
+        | no z ↦ rw (ne-eqb k (L t) z) (sym (ap inLambda (there ls (L t) gray size (ord .task t small) k q z)))
+      ]
+
+    -- no start is below the old one: a task's start is raised when it leaves Λ
+    from-entry : (t : ℕ) (st : State) → Inv t st → (k : ℕ) → k < n → J .earliest k ≤ now st k
+    from-entry t st v k q = elim (bool (lam st k)) [
+      | inl z ↦ omega (arith, v .facts .same-in k (record { small = q; mem = z }))
+      | inr z ↦ elim (decLt (place k) t) [ yes y ↦ omega (arith, v .facts .left k (record { small = q; mem = z }) y .raised) | no y ↦ omega (arith, v .facts .same-on k q (omega arith)) ]
+    ]
+
+    -- the posts of a list that begins with those of a state, told by the starts that a trace has for it
+    standing : (t : ℕ) (st : State) (ps : List Post) → Inv t st → ((j : ℕ) → j < length (st .posts) → getD ps j no-post ≡ getD (st .posts) j no-post)
+        → ((j : ℕ) → length (st .posts) ≤ j → j < length ps → J .latest (taskOf ps j) < boundOf ps j)
+        → Standing J (λ k. moment o (getD (map (instant o) (st .starts)) k (pos 0))) (length (st .posts)) (length ps) (taskOf ps) (boundOf ps)
+    standing t st ps v olds highs = record {
+      stand = posts-same J (now st) (λ k. moment o (getD (map (instant o) (st .starts)) k (pos 0))) (length (st .posts)) (taskOf (st .posts)) (boundOf (st .posts)) (taskOf ps) (boundOf ps) at
+          (λ j q. ap (λ (p : Post). p .task) (olds j q)) (λ j q. ap (λ (p : Post). moment o (p .bound)) (olds j q)) (v .posted);
+      from = λ k q. omega (arith, at k q, from-entry t st v k q);
+      to = λ k q. omega (arith, at k q, v .facts .inside k q);
+      above = highs;
+    }
+      where
+        at : (k : ℕ) → k < n → moment o (getD (map (instant o) (st .starts)) k (pos 0)) ≡ now st k
+        at k q = ap (moment o) (getD-map-in (instant o) (st .starts) k 0 (pos 0) (omega (arith, v .known))) ∙ moment-instant o (now st k)
+
+    -- what a trace leaves of the starts: a post that empties a range is the last one, and no other is above a latest start
+    pub record StartsLeft (tr : Trace) : Type 0 where
+      pub many : ℕ
+      pub all : (tr .end ≡ emptied → ⊥) → many ≡ length (tr .posts)
+      pub but-last : tr .end ≡ emptied → suc many ≡ length (tr .posts)
+      pub stand : Standing J (λ k. moment o (getD (tr .starts) k (pos 0))) many (length (tr .posts)) (taskOf (tr .posts)) (boundOf (tr .posts))
+
+    all-stand : (t : ℕ) (st : State) (e : End) → (e ≡ emptied → ⊥) → Inv t st → StartsLeft (edges.ended o J estOrder lctOrder st e)
+    all-stand t st e ne v = record { many = length (st .posts); all = λ _. refl; but-last = λ z. absurd (ne z); stand = standing t st (st .posts) v (λ j q. refl) (λ j q r. absurd (omega arith)) }
+
+    -- and at its end: no task of Λ passes any more
+    pub record Closed (t : ℕ) (st : State) : Type 0 where
+      pub inv : Inv t st
+      pub none-passes : E (Th t) ≤ En t → (k : ℕ) → In J (lam st) k → E (Th t with k) ≤ En t
+
+    abbrev pub TurnOk : ℕ → Turn → Type 0
+    TurnOk t (on st) = Closed t st
+    TurnOk t (stop st) = Conflict J × AllGood (st .posts) × StartsLeft (edges.ended o J estOrder lctOrder st emptied)
+
+    -- a task was found at leaf x
+    module _ (t : ℕ) (st : State) (small : t < n) (v : Inv t st) (x : ℕ) (f : Found (st .leaves) (Th t) (lam st) (shape t st v) x) (over : exceeds (barOf (st .leaves)) (En t) ≡ true) where
+      abbrev pub i : ℕ
+      i = T x
+
+      at-x : rank i ≡ x
+      at-x = rk .back x (f .small)
+
+      mem : In J (lam st) i
+      mem = f .gray
+
+      pub late : place i < t
+      late = v .facts .gray i mem
+
+      hit : En t < E (Th t with i)
+      hit = omega (
+        arith,
+        tree.past-found J ok estOrder rk (st .leaves) (Th t) (lam st) (shape t st v) f (En t) over,
+        E-is (Th t with i) (i, record { small = mem .small; mem = with-new (Th t) i }) .bounds (f .value) (f .attains),
+      )
+
+      pub pass-ok : exceeds (ectOf (st .leaves)) (J .earliest i) ≡ false → Inv t (edges.dropped st x)
+      pass-ok y = subst (λ (x : ℕ). Inv t (edges.dropped st x)) at-x (record {
+        size = length-set (st .leaves) (rank i) empty ∙ v .size;
+        whites = drop-whites t (st .leaves) i (v .size) (mem .small) late (v .whites);
+        known = v .known;
+        posted = v .posted;
+        good = v .good;
+        facts = facts-same J ok E E-is L place ord t (lam st less i) (λ k. grayAt (set (st .leaves) (rank i) empty) (rank k)) (now st) (drop-grays t (st .leaves) i (v .size) (mem .small) late)
+            (leave J ok E E-is L place ord t (lam st) (now st) (now st) i (v .facts) mem hit
+            (omega (arith, some-within (ectOf (st .leaves)) (E (Th t)) (J .earliest i) (theta-ect t st small v) y, v .facts .same-in i mem)) (v .facts .inside i (mem .small)) (λ k ne. refl));
+      })
+
+      module _ (b : ℕ) (is : ectOf (st .leaves) ≡ some b) where
+        b-is : b ≡ E (Th t)
+        b-is = one-moment is (theta-ect t st small v)
+
+        abbrev pub p : Post
+        p = record { task = i; bound = subℕ b o; reason = propagation o J i b (En t) (leaves.sum J estOrder (st .leaves)) (theta J estOrder (st .leaves)) }
+
+        good-p : J .earliest i < b → Good p
+        good-p up = meas .of-post t (st .leaves) (lam st) (shape t st v) x b small f late over is up
+
+        pub raise-ok : J .earliest i < b → b ≤ J .latest i → Inv t (edges.dropped (edges.raised (edges.posted o J estOrder lctOrder st i b t) i b) x)
+        raise-ok up fits = subst (λ (x : ℕ). Inv t (edges.dropped (edges.raised (edges.posted o J estOrder lctOrder st i b t) i b) x)) at-x (record {
+          size = length-set (st .leaves) (rank i) empty ∙ v .size;
+          whites = drop-whites t (st .leaves) i (v .size) (mem .small) late (v .whites);
+          known = length-set (st .starts) i b ∙ v .known;
+          good = all-good (st .posts) p (v .good) (good-p up);
+          posted = subst (λ (m : ℕ). Posts J now′ m (taskOf (st .posts ++ (p ∷ []))) (boundOf (st .posts ++ (p ∷ [])))) (sym (length-snoc (st .posts) p))
+              (more J (now st) now′ (length (st .posts)) (taskOf (st .posts)) (boundOf (st .posts)) (taskOf (st .posts ++ (p ∷ []))) (boundOf (st .posts ++ (p ∷ []))) i b
+              (mem .small) (v .posted) (v .facts .same-in i mem) up same other (ap (λ (q : Post). q .task) (new (st .posts) p))
+              (ap (λ (q : Post). moment o (q .bound)) (new (st .posts) p) ∙ moment-instant o b)
+              (λ j r. ap (λ (q : Post). q .task) (old (st .posts) p j r)) (λ j r. ap (λ (q : Post). moment o (q .bound)) (old (st .posts) p j r)));
+          facts = facts-same J ok E E-is L place ord t (lam st less i) (λ k. grayAt (set (st .leaves) (rank i) empty) (rank k)) now′ (drop-grays t (st .leaves) i (v .size) (mem .small) late)
+              (leave J ok E E-is L place ord t (lam st) (now st) now′ i (v .facts) mem hit (omega (arith, same, b-is)) (omega (arith, same)) other);
+        })
+          where
+            now′ : ℕ → ℕ
+            now′ k = getD (set (st .starts) i b) k 0
+
+            same : getD (set (st .starts) i b) i 0 ≡ b
+            same = getD-set-same (st .starts) i b 0 (omega (arith, v .known, mem .small))
+
+            other : (k : ℕ) → (k ≡ i → ⊥) → getD (set (st .starts) i b) k 0 ≡ getD (st .starts) k 0
+            other k ne = getD-set-other (st .starts) i k b 0 ne
+
+        stop-ok : J .earliest i < b → J .latest i < b → TurnOk t (stop (edges.posted o J estOrder lctOrder st i b t))
+        stop-ok up high = (
+          inr (i, E (Th t), edge J ok E E-is L place ord t i (mem .small) late small hit, omega (arith, b-is)),
+          all-good (st .posts) p (v .good) (good-p up),
+          record {
+            many = length (st .posts);
+            all = λ ne. absurd (ne refl);
+            but-last = λ _. sym (length-snoc (st .posts) p);
+            stand = standing t st (st .posts ++ (p ∷ [])) v (old (st .posts) p) (λ j q r. let z : j ≡ length (st .posts) = omega (arith, length-snoc (st .posts) p) in
+                subst (λ (j : ℕ). J .latest (taskOf (st .posts ++ (p ∷ [])) j) < boundOf (st .posts ++ (p ∷ [])) j) (sym z)
+                (subst (λ (q : Post). J .latest (q .task) < moment o (q .bound)) (sym (new (st .posts) p)) (omega (arith, moment-instant o b))));
+          },
+        )
+
+      fewer : (f : ℕ) → card J (lam st) ≤ suc f → card J (λ k. grayAt (set (st .leaves) x empty) (rank k)) ≤ f
+      fewer f q = subst (λ (x : ℕ). card J (λ k. grayAt (set (st .leaves) x empty) (rank k)) ≤ f) at-x
+          (omega (arith, card-less J (lam st) i mem, card-same J (lam st less i) (λ k. grayAt (set (st .leaves) (rank i) empty) (rank k)) (drop-grays t (st .leaves) i (v .size) (mem .small) late)))
+
+    pub inner-ok : (f t : ℕ) (st : State) → t < n → Inv t st → card J (lam st) ≤ f → TurnOk t (inner o J estOrder lctOrder f t st)
+    inner-ok zero t st small v few = rw (inner-end o J estOrder lctOrder 0 t st) (record { inv = v; none-passes = λ q k h. absurd (card-zero J (lam st) few k h) })
+    inner-ok (suc f) t st small v few = by (λ st′. inner-ok f t st′ small) (bool (exceeds (barOf (st .leaves)) (En t)))
+      where
+        IH : Type 0
+        IH = (st′ : State) → Inv t st′ → card J (lam st′) ≤ f → TurnOk t (inner o J estOrder lctOrder f t st′)
+
+        took : IH → exceeds (barOf (st .leaves)) (En t) ≡ true → (x : ℕ) → leaves.responsible J estOrder (st .leaves) ≡ some x → Found (st .leaves) (Th t) (lam st) (shape t st v) x
+            → TurnOk t (inner o J estOrder lctOrder (suc f) t st)
+        took ih z x w g = elim (past-or-not (ectOf (st .leaves)) (J .earliest (T x))) [
+          | inl y ↦ rw (inner-pass o J estOrder lctOrder f t st x z w y) (ih (edges.dropped st x) (pass-ok t st small v x g z y) (fewer t st small v x g z f few))
+          | inr (b, is, y) ↦ elim (bool (ltb (J .latest (T x)) b)) [
+            | inl a ↦ rw (inner-stop o J estOrder lctOrder f t st x z w b is y a) (stop-ok t st small v x g z b is (ltb-true _ _ y) (ltb-true _ _ a))
+            | inr a ↦ rw (inner-raise o J estOrder lctOrder f t st x z w b is y a) (ih _ (raise-ok t st small v x g z b is (ltb-true _ _ y) (ltb-false _ _ a)) (fewer t st small v x g z f few))
+          ]
+        ]
+
+        by : IH → (exceeds (barOf (st .leaves)) (En t) ≡ true) ⊎ (exceeds (barOf (st .leaves)) (En t) ≡ false) → TurnOk t (inner o J estOrder lctOrder (suc f) t st)
+        by ih (inr z) = rw (inner-off o J estOrder lctOrder f t st z) (record { inv = v; none-passes = λ q k h. tree.most J ok estOrder rk (st .leaves) (Th t) (lam st) (shape t st v) k h (En t) z })
+        by ih (inl z) = elim (opt (leaves.responsible J estOrder (st .leaves))) [
+          | inl w ↦ rw (inner-none o J estOrder lctOrder f t st z w) (record {
+            inv = v;
+            none-passes = λ q. absurd (omega (
+              arith,
+              theta-past t st small v (ap (λ (u : Option ℕ). exceeds u (En t)) (sym (tree.none-found J ok estOrder rk (st .leaves) (Th t) (lam st) (shape t st v) w)) ∙ z),
+            ));
+          })
+          | inr w ↦ took ih z (w .0) (w .1) (tree.one-found J ok estOrder rk (st .leaves) (Th t) (lam st) (shape t st v) (w .0) (w .1))
+        ]
+
+    pub record OutOk (tr : Trace) : Type 0 where
+      pub goods : AllGood (tr .posts)
+      pub above : (k : ℕ) → Above o (getD (tr .starts) k (pos 0))
+      pub when-done : tr .end ≡ done → Done J (λ k. moment o (getD (tr .starts) k (pos 0))) (length (tr .posts)) (taskOf (tr .posts)) (boundOf (tr .posts))
+      pub otherwise : (tr .end ≡ done → ⊥) → Conflict J
+      pub over : (r : List Atom) → tr .end ≡ overload r → GoodEnd r
+      pub left : StartsLeft tr
+
+    -- L t goes
+    pub gray-ok : (t : ℕ) (st : State) → t < n → Closed t st → E (Th t) ≤ En t → Inv (suc t) (edges.grayed st (rank (L t)))
+    gray-ok t st small c q = let v = c .inv in
+        record {
+          size = length-set (st .leaves) (rank (L t)) gray ∙ v .size;
+          whites = gray-whites t (st .leaves) (v .size) small (v .whites);
+          known = v .known;
+          posted = v .posted;
+          good = v .good;
+          facts = facts-same J ok E E-is L place ord (suc t) (lam st with L t) (λ k. grayAt (set (st .leaves) (rank (L t)) gray) (rank k)) (now st) (gray-grays t (st .leaves) (v .size) small)
+              (next J ok E E-is L place ord t (lam st) (now st) small (v .facts) (c .none-passes q) q);
+        }
+
+    done-ok : (t : ℕ) (st : State) → suc t ≡ n → Closed t st → OutOk (edges.ended o J estOrder lctOrder st done)
+    done-ok t st end c =
+        let q : E (Th t) ≤ En t = last-fits J ok E E-is L place ord t end in
+        let v = c .inv in
+        record {
+          goods = v .good;
+          above = map-above o (st .starts);
+          otherwise = λ z. absurd (z refl);
+          over = λ r z. let y : _≡_ {A = ℕ} 0 1 = cc in absurd (omega arith);
+          left = all-stand t st done (λ z. let y : _≡_ {A = ℕ} 0 1 = cc in absurd (omega arith)) v;
+          when-done = λ _. done-same J (now st) (λ k. moment o (getD (map (instant o) (st .starts)) k (pos 0))) (length (st .posts)) (taskOf (st .posts)) (boundOf (st .posts))
+              (λ k r. ap (moment o) (getD-map-in (instant o) (st .starts) k 0 (pos 0) (omega (arith, v .known))) ∙ moment-instant o (now st k))
+              (finish J ok E E-is L place ord t (lam st) (now st) end (v .facts) (c .none-passes q) (length (st .posts)) (taskOf (st .posts)) (boundOf (st .posts)) (v .posted));
+        }
+
+    over-ok : (t : ℕ) (st : State) → t < n → Inv t st → exceeds (ectOf (st .leaves)) (En t) ≡ true
+        → OutOk (edges.ended o J estOrder lctOrder st (overload (conflict o J (En t) (leaves.sum J estOrder (st .leaves)) (theta J estOrder (st .leaves)))))
+    over-ok t st small v q =
+        record {
+          goods = v .good;
+          above = map-above o (st .starts);
+          when-done = λ z. let y : _≡_ {A = ℕ} 0 1 = cc in absurd (omega arith);
+          otherwise = λ _. inl (overloaded J ok E E-is L place ord t small (theta-past t st small v q));
+          over = λ r z. let y : conflict o J (En t) (leaves.sum J estOrder (st .leaves)) (theta J estOrder (st .leaves)) ≡ r = cc in
+              subst GoodEnd y (meas .of-end t (st .leaves) (lam st) (shape t st v) small q);
+          left = all-stand t st (overload (conflict o J (En t) (leaves.sum J estOrder (st .leaves)) (theta J estOrder (st .leaves)))) (λ z. let y : _≡_ {A = ℕ} 0 1 = cc in absurd (omega arith)) v;
+        }
+
+    empty-ok : (st : State) → Conflict J × AllGood (st .posts) × StartsLeft (edges.ended o J estOrder lctOrder st emptied) → OutOk (edges.ended o J estOrder lctOrder st emptied)
+    empty-ok st w = record {
+      goods = w .1;
+      left = w .2;
+      above = map-above o (st .starts);
+      when-done = λ z. let y : _≡_ {A = ℕ} 0 1 = cc in
+          absurd (omega arith);
+      otherwise = λ _. w .0;
+      over = λ r z. let y : _≡_ {A = ℕ} 0 1 = cc in absurd (omega arith);
+    }
+
+    outer-ok : (f t : ℕ) (st : State) → suc (t + f) ≡ n → Closed t st → OutOk (outer o J estOrder lctOrder f t st)
+    outer-ok zero t st end c = rw (outer-end o J estOrder lctOrder 0 t st) (done-ok t st (omega arith) c)
+    outer-ok (suc f) t st end c = by (λ st′. outer-ok f (suc t) st′ (omega arith)) (bool (exceeds (ectOf (st .leaves)) (En t)))
+      where
+        IH : Type 0
+        IH = (st′ : State) → Closed (suc t) st′ → OutOk (outer o J estOrder lctOrder f (suc t) st′)
+
+        go : IH → exceeds (ectOf (st .leaves)) (En t) ≡ false → E (Th t) ≤ En t → OutOk (outer o J estOrder lctOrder (suc f) t st)
+        go ih z q = elim (turn (inner o J estOrder lctOrder n (suc t) (edges.grayed st (rank (L t))))) [
+          | inl w ↦ rw (outer-on o J estOrder lctOrder f t st (w .0) z (w .1)) (ih (w .0) (rw (w .1) at r))
+          | inr w ↦ rw (outer-stop o J estOrder lctOrder f t st (w .0) z (w .1)) (empty-ok (w .0) (rw (w .1) at r))
+        ]
+          where
+            r : TurnOk (suc t) (inner o J estOrder lctOrder n (suc t) (edges.grayed st (rank (L t))))
+            r = inner-ok n (suc t) (edges.grayed st (rank (L t))) (omega arith) (gray-ok t st (omega arith) c q) (card-most J (lam (edges.grayed st (rank (L t)))))
+
+        by : IH → (exceeds (ectOf (st .leaves)) (En t) ≡ true) ⊎ (exceeds (ectOf (st .leaves)) (En t) ≡ false) → OutOk (outer o J estOrder lctOrder (suc f) t st)
+        by ih (inl z) = rw (outer-over o J estOrder lctOrder f t st z) (over-ok t st (omega arith) (c .inv) z)
+        by ih (inr z) = go ih z (theta-within t st (omega arith) (c .inv) z)
+
+    -- the start
+    abbrev pub st₀ : State
+    st₀ = record { leaves = replicate n white; starts = tabulate (J .earliest) 0 n; posts = []; changes = n }
+
+    now₀ : (k : ℕ) → k < n → now st₀ k ≡ J .earliest k
+    now₀ k q = let z : 0 + k ≡ k = omega arith in tab-at (J .earliest) 0 n k 0 q ∙ ap (J .earliest) z
+
+    leaf₀ : (k : ℕ) → k < n → getD (replicate n white) (rank k) empty ≡ white
+    leaf₀ k q = getD-replicate n (rank k) white empty (rk .placed k q)
+
+    no-gray : (k : ℕ) → k < n → lam st₀ k ≡ false
+    no-gray k q = ap inLambda (leaf₀ k q)
+
+    first-facts : Fa 0 (lam st₀) (now st₀)
+    first-facts = record {
+      fits-before = λ s q. absurd (omega arith);
+      gray = λ k h. clash (h .mem) (no-gray k (h .small));
+      not-passed = λ k h. clash (h .mem) (no-gray k (h .small));
+      left = λ k h q. absurd (omega arith);
+      same-in = λ k h. now₀ k (h .small);
+      same-on = λ k q r. now₀ k q;
+      inside = λ k q. omega (arith, now₀ k q, ok .ranges k q);
+    }
+
+    pub first-inv : Inv 0 st₀
+    first-inv = record {
+      size = length-replicate n white;
+      whites = λ k q. ap inTheta (leaf₀ k q) ∙ sym (le-leb 0 (place k) (omega arith));
+      known = tab-length (J .earliest) 0 n;
+      facts = first-facts;
+      good = λ j q. absurd (omega arith);
+      posted = record {
+        small = λ j q. absurd (omega arith);
+        raises = λ j q. absurd (omega arith);
+        agrees = λ j q. absurd (omega arith);
+        every = λ k q r. absurd (omega (arith, now₀ k q));
+        once = λ i j q. absurd (omega arith);
+      };
+    }
+
+    pub first-closed : Closed 0 st₀
+    first-closed = record { inv = first-inv; none-passes = λ q k h. clash (h .mem) (no-gray k (h .small)) }
+
+    pub run-ok : 1 ≤ n → OutOk (run o J estOrder lctOrder)
+    unfolding run
+    run-ok one = outer-ok (n - 1) 0 st₀ (omega arith) first-closed

@@ -1,0 +1,111 @@
+-- From the words alone: the four words of a post, and the stretch of atoms that they name.
+use mathlib.Core.Path.{_≡_, refl, ap, _∙_}
+use mathlib.Core.List.{List, [], _∷_, _++_, append-assoc}
+use Prim.Native.Nat.{ℕ, zero, suc, _+_, _-_, _*_, _≤_, _<_}
+use native.Mathlib.Omega.{arith}
+use lib.IntN.{ℤ, pos}
+use lib.ListN.{length, getD, take, drop, length-append, length-drop, List·getD-append}
+use lib.Seq.{take-append-seam, drop-append-seam, drop-append-add, drop-append-le, take-append-le, take-length}
+use Rattle.scheduling.specs.Scheduling.{Atom}
+use Rattle.runs.specs.Traces.{Post, Trace}
+use Rattle.scheduling.specs.Words.{atomWords}
+use Rattle.runs.specs.Words.{postWords, reasons, endReason, postsAfter, atomsAfter}
+use Rattle.integers.specs.Words.{overwritten}
+use Rattle.scheduling.proofs.Words.{atoms-length, drop-words, take-words}
+use Rattle.runs.proofs.WrittenSlices.{posts-length}
+use Rattle.runs.specs.Demand.{no-post, post}
+
+-- the first atom of post j
+unfoldable pub startOf : List Post → ℕ → ℕ
+startOf [] j = 0
+startOf (p ∷ ps) zero = 0
+startOf (p ∷ ps) (suc j) = length (p .reason) + startOf ps j
+
+pub record Four (ws : List ℤ) (at : ℕ) (p : Post) (first : ℕ) : Type 0 where
+  pub task : getD ws at (pos 0) ≡ pos (p .task)
+  pub bound : getD ws (at + 1) (pos 0) ≡ p .bound
+  pub from : getD ws (at + 2) (pos 0) ≡ pos first
+  pub count : getD ws (at + 3) (pos 0) ≡ pos (length (p .reason))
+
+pub four-words : (ps : List Post) (from j : ℕ) → j < length ps → Four (postWords from ps) (4 * j) (getD ps j no-post) (from + startOf ps j)
+unfolding postWords startOf
+four-words [] from j h = absurd (omega arith)
+four-words (p ∷ ps) from zero h = let z : from ≡ from + 0 = omega arith in record { task = refl; bound = refl; from = ap pos z; count = refl }
+four-words (p ∷ ps) from (suc j) h =
+    let r = four-words ps (from + length (p .reason)) j (omega arith) in
+    let a : 4 * suc j ≡ suc (suc (suc (suc (4 * j)))) = omega arith in
+    let b : 4 * suc j + 1 ≡ suc (suc (suc (suc (4 * j + 1)))) = omega arith in
+    let c : 4 * suc j + 2 ≡ suc (suc (suc (suc (4 * j + 2)))) = omega arith in
+    let d : 4 * suc j + 3 ≡ suc (suc (suc (suc (4 * j + 3)))) = omega arith in
+    let e : from + length (p .reason) + startOf ps j ≡ from + (length (p .reason) + startOf ps j) = omega arith in
+    record { task = rw a (r .task); bound = rw b (r .bound); from = rw c (r .from ∙ ap pos e); count = rw d (r .count) }
+
+pub stretch : (ps : List Post) (rest : List Atom) (j : ℕ) → j < length ps → take (length (getD ps j no-post .reason)) (drop (startOf ps j) (reasons ps ++ rest)) ≡ getD ps j no-post .reason
+unfolding reasons startOf
+stretch [] rest j h = absurd (omega arith)
+stretch (p ∷ ps) rest zero h = ap (take (length (p .reason))) (append-assoc (p .reason) (reasons ps) rest) ∙ take-append-seam (p .reason) (reasons ps ++ rest)
+stretch (p ∷ ps) rest (suc j) h =
+    ap (λ (l : List Atom). take (length (getD ps j no-post .reason)) (drop (length (p .reason) + startOf ps j) l)) (append-assoc (p .reason) (reasons ps) rest)
+    ∙ ap (take (length (getD ps j no-post .reason))) (drop-append-add (p .reason) (reasons ps ++ rest) (startOf ps j)) ∙ stretch ps rest j (omega arith)
+
+bounded : (ps : List Post) (j : ℕ) → j < length ps → startOf ps j + length (getD ps j no-post .reason) ≤ length (reasons ps)
+unfolding reasons startOf
+bounded [] j h = absurd (omega arith)
+bounded (p ∷ ps) zero h = omega (arith, length-append (p .reason) (reasons ps))
+bounded (p ∷ ps) (suc j) h = omega (arith, length-append (p .reason) (reasons ps), bounded ps j (omega arith))
+
+-- the last post's stretch ends where the atoms do
+pub last-ends : (ps : List Post) (j : ℕ) → length ps ≡ suc j → startOf ps j + length (getD ps j no-post .reason) ≡ length (reasons ps)
+unfolding reasons startOf
+last-ends [] j h = absurd (omega arith)
+last-ends (p ∷ []) zero h = omega (arith, length-append (p .reason) (reasons []))
+last-ends (p ∷ q ∷ ps) zero h = absurd (omega arith)
+last-ends (p ∷ ps) (suc j) h = omega (arith, length-append (p .reason) (reasons ps), last-ends ps j (omega arith))
+
+-- r atoms from the f-th on, of those written at the front of a slice
+stretch-words : (entry : List ℤ) (all : List Atom) (f r : ℕ) → f + r ≤ length all → take (3 * r) (drop (3 * f) (overwritten entry (atomWords all))) ≡ atomWords (take r (drop f all))
+stretch-words entry all f r h =
+    let ws : List ℤ = atomWords all in
+    let fits : 3 * f + 3 * r ≤ length ws = omega (arith, atoms-length all) in
+    ap (take (3 * r)) (drop-append-le (3 * f) ws (drop (length ws) entry) (omega arith))
+    ∙ take-append-le (3 * r) (drop (3 * f) ws) (drop (length ws) entry) (omega (arith, length-drop (3 * f) ws)) ∙ ap (take (3 * r)) (drop-words f all) ∙ take-words r (drop f all)
+
+-- What the post reader hands out for post j of a run is that post's reason, whatever stood in the slice,
+pub reader : (entry : List ℤ) (t : Trace) (j : ℕ) → j < length (t .posts)
+    → take (3 * length (post t j .reason)) (drop (3 * startOf (t .posts) j) (atomsAfter entry t)) ≡ atomWords (post t j .reason)
+reader entry t j h =
+    stretch-words entry (reasons (t .posts) ++ endReason (t .end)) (startOf (t .posts) j) (length (post t j .reason))
+    (omega (arith, length-append (reasons (t .posts)) (endReason (t .end)), bounded (t .posts) j h))
+    ∙ ap atomWords (stretch (t .posts) (endReason (t .end)) j h)
+
+-- and its stretch is inside the slice;
+pub stretch-inside : (entry : List ℤ) (t : Trace) (j : ℕ) → j < length (t .posts) → 3 * startOf (t .posts) j + 3 * length (post t j .reason) ≤ length (atomsAfter entry t)
+stretch-inside entry t j h =
+    let all : List Atom = reasons (t .posts) ++ endReason (t .end) in
+    omega (arith, length-append (atomWords all) (drop (length (atomWords all)) entry), atoms-length all, length-append (reasons (t .posts)) (endReason (t .end)), bounded (t .posts) j h)
+
+-- an overload's reason is what stands after the atoms of the posts.
+pub end-reader : (entry : List ℤ) (t : Trace) → take (3 * length (endReason (t .end))) (drop (3 * length (reasons (t .posts))) (atomsAfter entry t)) ≡ atomWords (endReason (t .end))
+end-reader entry t =
+    let xs : List Atom = reasons (t .posts) in
+    let ys : List Atom = endReason (t .end) in
+    stretch-words entry (xs ++ ys) (length xs) (length ys) (omega (arith, length-append xs ys)) ∙ ap (λ (l : List Atom). atomWords (take (length ys) l)) (drop-append-seam xs ys)
+    ∙ ap atomWords (take-length ys)
+
+-- A post's four words stand in the slice of posts,
+pub four-after : (entry : List ℤ) (t : Trace) (j : ℕ) → j < length (t .posts) → Four (postsAfter entry t) (4 * j) (post t j) (startOf (t .posts) j)
+four-after entry t j h =
+    let ws : List ℤ = postWords 0 (t .posts) in
+    let r = four-words (t .posts) 0 j h in
+    let z : 0 + startOf (t .posts) j ≡ startOf (t .posts) j = omega arith in
+    let tail : List ℤ = drop (length ws) entry in
+    record {
+      task = List·getD-append ws tail (pos 0) (4 * j) (omega (arith, posts-length (t .posts) 0)) ∙ r .task;
+      bound = List·getD-append ws tail (pos 0) (4 * j + 1) (omega (arith, posts-length (t .posts) 0)) ∙ r .bound;
+      from = List·getD-append ws tail (pos 0) (4 * j + 2) (omega (arith, posts-length (t .posts) 0)) ∙ r .from ∙ ap pos z;
+      count = List·getD-append ws tail (pos 0) (4 * j + 3) (omega (arith, posts-length (t .posts) 0)) ∙ r .count;
+    }
+
+-- inside it.
+pub four-inside : (entry : List ℤ) (t : Trace) (j : ℕ) → j < length (t .posts) → 4 * j + 4 ≤ length (postsAfter entry t)
+four-inside entry t j h = omega (arith, length-append (postWords 0 (t .posts)) (drop (length (postWords 0 (t .posts))) entry), posts-length (t .posts) 0)

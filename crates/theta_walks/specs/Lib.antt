@@ -1,3 +1,0 @@
-pub mod FourLeaves
-pub mod Walks
-pub mod Writing

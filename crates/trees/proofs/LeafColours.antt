@@ -1,0 +1,115 @@
+-- Leaves by their colours: which of them the code takes for white, their bounds, and one of them changed.
+use mathlib.Core.Path.{_≡_, refl, ap}
+use mathlib.Core.Bool.{Bool, true, false, not}
+use mathlib.Core.List.{List}
+use Prim.Native.Nat.{ℕ, zero, suc, _+_, _≤_, _<_}
+use native.Mathlib.Omega.{arith}
+use native.Mathlib.Decide.{decLt}
+use lib.Dec.{eqb}
+use lib.ListN.{length, getD, set, List·getD-eq-default}
+use lib.Seq.{getD-set-same, getD-set-other}
+use borrow.Author.Tests.{ne-eqb}
+use Rattle.scheduling.specs.Scheduling.{natural, Tasks, total}
+use Rattle.scheduling.proofs.Sets.{total-none, total-up}
+use Rattle.trees.specs.Nodes.{emptyOf}
+use Rattle.trees.specs.NodeBounds.{LATEST, Fair, size, PlainFair, plainSize}
+use Rattle.trees.specs.Arrays.{changed}
+use Rattle.trees.specs.Bounds.{Bounded}
+use Rattle.trees.specs.Leaves as leaves
+use Rattle.trees.specs.Leaves.{Leaf, inTheta, leafNode, startAt, durationAt, whiteAt}
+use Rattle.trees.specs.Trees.{plainLeaf, plainLeaves, Limited}
+use Rattle.trees.proofs.ArrayTrees.{changed-is}
+
+-- which leaves the code takes for white
+pub white-is : (c : Leaf) (e p : ℕ) → 1 ≤ p → not (eqb (leafNode c e p .ect) 0) ≡ inTheta c
+white-is leaves.empty e p q = refl
+white-is leaves.white e p q = ap not (ne-eqb (e + p) 0 (λ z. omega arith))
+white-is leaves.gray e p q = refl
+
+-- bounds
+leaf-fair : (c : Leaf) (e p : ℕ) → e ≤ LATEST → Fair (leafNode c e p)
+leaf-fair leaves.empty e p q = record { ect = omega arith; ect-bar = omega arith; sum = omega arith }
+leaf-fair leaves.white e p q = record { ect = omega arith; ect-bar = omega arith; sum = omega arith }
+leaf-fair leaves.gray e p q = record { ect = omega arith; ect-bar = omega arith; sum = omega arith }
+
+leaf-size : (c : Leaf) (e p : ℕ) → size (leafNode c e p) ≤ p
+leaf-size leaves.empty e p = omega arith
+leaf-size leaves.white e p = omega arith
+leaf-size leaves.gray e p = omega arith
+
+plain-fair : (b : Bool) (e p : ℕ) → e ≤ LATEST → PlainFair (plainLeaf b e p)
+plain-fair false e p q = record { ect = omega arith }
+plain-fair true e p q = record { ect = omega arith }
+
+plain-size : (b : Bool) (e p : ℕ) → plainSize (plainLeaf b e p) ≤ p
+plain-size false e p = omega arith
+plain-size true e p = omega arith
+
+total-suc : (f : ℕ → ℕ) (n : ℕ) → total f (suc n) ≡ total f n + f n
+unfolding total
+total-suc f n = refl
+
+-- a sum of which only the terms below n count, each at most that of another
+total-under : (f h : ℕ → ℕ) (n : ℕ) → ((k : ℕ) → f k ≤ h k) → ((k : ℕ) → n ≤ k → f k ≡ 0) → (d : ℕ) → (total f d ≤ total h n) × (d ≤ n → total f d ≤ total h d)
+total-under f h n le past zero = (omega (arith, total-none f), λ _. omega (arith, total-none f))
+total-under f h n le past (suc d) = step (total-under f h n le past d)
+  where
+    below : d < n → total f d ≤ total h d → total f (suc d) ≤ total h (suc d)
+    below q ih = omega (arith, total-suc f d, total-suc h d, le d)
+
+    step : (total f d ≤ total h n) × (d ≤ n → total f d ≤ total h d) → (total f (suc d) ≤ total h n) × (suc d ≤ n → total f (suc d) ≤ total h (suc d))
+    step ih = elim (decLt d n) [
+      | yes q ↦ (omega (arith, below q (ih .1 (omega arith)), total-up h (suc d) n (omega arith)), λ _. below q (ih .1 (omega arith)))
+      | no q ↦ (omega (arith, ih .0, total-suc f d, past d (omega arith)), λ r. absurd (omega arith))
+    ]
+
+module _ (J : Tasks natural) (estOrder : List ℕ) where
+  -- past the tasks the leaves are empty
+  pub past-empty : (ls : List Leaf) → length ls ≡ J .count → (k : ℕ) → J .count ≤ k → getD ls k leaves.empty ≡ leaves.empty
+  past-empty ls z k q = List·getD-eq-default ls leaves.empty (omega arith)
+
+  module _ (lim : Limited J estOrder) (ls : List Leaf) (z : length ls ≡ J .count) where
+    past-node : (k : ℕ) → J .count ≤ k → leaves.leaves J estOrder ls k ≡ emptyOf
+    past-node k q = ap (λ (c : Leaf). leafNode c (startAt J estOrder k) (durationAt J estOrder k)) (past-empty ls z k q)
+
+    pub bounded : Bounded size Fair (leaves.leaves J estOrder ls)
+    bounded = record {
+      fair = λ k. elim (decLt k (J .count)) [
+        | yes q ↦ leaf-fair (getD ls k leaves.empty) (startAt J estOrder k) (durationAt J estOrder k) (lim .starts k q)
+        | no q ↦ rw
+            (past-empty ls z k (omega arith)) (leaf-fair leaves.empty 0 0 (omega arith))
+      ];
+      small = λ n. omega (
+        arith,
+        lim .durations,
+        (total-under (λ k. size (leaves.leaves J estOrder ls k)) (durationAt J estOrder) (J .count) (λ k. leaf-size (getD ls k leaves.empty) (startAt J estOrder k) (durationAt J estOrder k))
+            (λ k q. ap size (past-node k q)) n) .0,
+      );
+    }
+
+    pub plain-bounded : Bounded plainSize PlainFair (plainLeaves J estOrder ls)
+    plain-bounded = record {
+      fair = λ k. elim (decLt k (J .count)) [
+        | yes q ↦ plain-fair (whiteAt ls k) (startAt J estOrder k) (durationAt J estOrder k) (lim .starts k q)
+        | no q ↦ rw (past-empty ls z k (omega arith))
+            (plain-fair false 0 0 (omega arith))
+      ];
+      small = λ n. omega (
+        arith,
+        lim .durations,
+        (total-under (λ k. plainSize (plainLeaves J estOrder ls k)) (durationAt J estOrder) (J .count) (λ k. plain-size (whiteAt ls k) (startAt J estOrder k) (durationAt J estOrder k))
+            (λ k q. ap (λ (c : Leaf). plainSize (plainLeaf (inTheta c) (startAt J estOrder k) (durationAt J estOrder k))) (past-empty ls z k q)) n) .0,
+      );
+    }
+
+-- one leaf changed
+module _ (ls : List Leaf) (k : ℕ) (q : k < length ls) (c : Leaf) where
+  colour-here : getD (set ls k c) k leaves.empty ≡ c
+  colour-here = getD-set-same ls k c leaves.empty q
+
+  colour-other : (j : ℕ) → (j ≡ k → ⊥) → getD (set ls k c) j leaves.empty ≡ getD ls j leaves.empty
+  colour-other j ne = getD-set-other ls k j c leaves.empty ne
+
+  pub coloured : {A : Type 0} (f : Leaf → ℕ → A) → (λ (j : ℕ). f (getD (set ls k c) j leaves.empty) j) ≡ changed (λ (j : ℕ). f (getD ls j leaves.empty) j) k (f c k)
+  coloured f = changed-is (λ j. f (getD ls j leaves.empty) j) (λ j. f (getD (set ls k c) j leaves.empty) j) k (f c k) (ap (λ (x : Leaf). f x k) colour-here)
+      (λ j ne. ap (λ (x : Leaf). f x j) (colour-other j ne))

@@ -1,0 +1,61 @@
+-- The node over a range of leaves has the values of the range.
+use mathlib.Core.Path.{_≡_, refl, sym, ap}
+use mathlib.Core.Bool.{Bool}
+use Prim.Native.Nat.{ℕ, zero, suc, _+_}
+use native.Mathlib.Omega.{arith}
+use native.Mathlib.Nat.{add-zero}
+use Rattle.scheduling.proofs.LeafRanges as leafRange
+use Rattle.trees.specs.declared.theta_lambda_node.Node.{Node}
+use Rattle.trees.specs.Nodes.{joinOf}
+use Rattle.trees.specs.Shapes.{width, nodeOver}
+use Rattle.trees.specs.Leaves.{Leaf, empty, white, gray, inTheta, inLambda, leafNode}
+use Rattle.trees.proofs.Heights.{once, twice}
+use Rattle.trees.proofs.ArrayTrees.{over-leaf, over-join}
+
+module _ (colour : ℕ → Leaf) (e p : ℕ → ℕ) where
+  abbrev leaf : ℕ → Node
+  leaf k = leafNode (colour k) (e k) (p k)
+
+  abbrev w : ℕ → Bool
+  w k = inTheta (colour k)
+
+  abbrev g : ℕ → Bool
+  g k = inLambda (colour k)
+
+  -- the four values of a node are those of d leaves from a on
+  pub record Holds (n : Node) (a d : ℕ) : Type 0 where
+    pub ect : n .ect ≡ leafRange.ect w g e p a d
+    pub sum : n .«sum_of_processing_times» ≡ leafRange.sum w g e p a d
+    pub ect-bar : n .«ect_bar» ≡ leafRange.ect-bar w g e p a d
+    pub sum-bar : n .«sum_of_processing_times_bar» ≡ leafRange.sum-bar w g e p a d
+
+  one : (a : ℕ) (c : Leaf) → colour a ≡ c → Holds (leafNode c (e a) (p a)) a 1
+  one a empty z =
+      let b = leafRange.blank w g e p a in
+      let s = leafRange.no-leaf w g e p a 0 a (add-zero a) (ap inTheta z) (ap inLambda z) in
+      record { ect = omega arith; sum = omega arith; ect-bar = omega arith; sum-bar = omega arith }
+  one a white z =
+      let b = leafRange.blank w g e p a in
+      let s = leafRange.white w g e p a 0 a (add-zero a) (ap inTheta z) in
+      record { ect = omega arith; sum = omega arith; ect-bar = omega arith; sum-bar = omega arith }
+  one a gray z =
+      let b = leafRange.blank w g e p a in
+      let s = leafRange.gray w g e p a 0 a (add-zero a) (ap inTheta z) (ap inLambda z) in
+      record { ect = omega arith; sum = omega arith; ect-bar = omega arith; sum-bar = omega arith }
+
+  -- two ranges beside each other
+  pub both : (l r : Node) (a b c : ℕ) → Holds l a b → Holds r (a + b) c → Holds (joinOf l r) a (b + c)
+  unfolding joinOf
+  both l r a b c x y =
+      let j = leafRange.join w g e p a b c in
+      record {
+        ect = rw (x .ect, y .ect, y .sum) (sym (j .ects));
+        sum = rw (x .sum, y .sum) (sym (j .sums));
+        ect-bar = rw (x .ect, x .ect-bar, y .sum, y .ect-bar, y .sum-bar) (sym (j .ect-bars));
+        sum-bar = rw (x .sum, x .sum-bar, y .sum, y .sum-bar) (sym (j .sum-bars));
+      }
+
+  pub over-holds : (h a : ℕ) → Holds (nodeOver joinOf leaf h a) a (width h)
+  over-holds zero a = rw (over-leaf joinOf leaf a, once) (one a (colour a) refl)
+  over-holds (suc h) a = rw (over-join joinOf leaf h a, twice h)
+      (both (nodeOver joinOf leaf h a) (nodeOver joinOf leaf h (a + width h)) a (width h) (width h) (over-holds h a) (over-holds h (a + width h)))

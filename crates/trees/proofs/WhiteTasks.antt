@@ -1,0 +1,90 @@
+-- The tasks of the white leaves, as a list.
+use mathlib.Core.Path.{_≡_, refl, sym, ap, ap₂, _∙_}
+use mathlib.Core.Bool.{Bool, true, false}
+use mathlib.Core.Logic.{_⊎_, inl, inr}
+use mathlib.Core.List.{List, [], _∷_}
+use Prim.Native.Nat.{ℕ, zero, suc, _+_, _≤_, _<_}
+use native.Mathlib.Omega.{arith}
+use native.Mathlib.Decide.{ℕ-discrete}
+use Rattle.integers.specs.Orders.{has, Distinct}
+use Rattle.integers.proofs.Bools.{bool, clash}
+use Rattle.integers.proofs.Permutations.{has-here, has-later, has-nil, has-cases}
+use Rattle.scheduling.specs.Scheduling.{natural, Tasks}
+use Rattle.trees.specs.Leaves.{Leaf, whiteAt, taskAt, theta}
+use Rattle.trees.specs.Searches.{thetaOf}
+
+module _ (white : ℕ → Bool) (task : ℕ → ℕ) where
+  pub theta-none : (a : ℕ) → thetaOf white task a 0 ≡ []
+  unfolding thetaOf
+  theta-none a = refl
+
+  pub theta-white : (a d : ℕ) → white a ≡ true → thetaOf white task a (suc d) ≡ task a ∷ thetaOf white task (suc a) d
+  unfolding thetaOf
+  theta-white a d y = rw (y, thetaOf)
+
+  pub theta-skip : (a d : ℕ) → white a ≡ false → thetaOf white task a (suc d) ≡ thetaOf white task (suc a) d
+  unfolding thetaOf
+  theta-skip a d y = rw (y, thetaOf)
+
+-- one leaf more that is not white
+pub passed-more : (white : ℕ → Bool) (a x : ℕ) → ((y : ℕ) → a ≤ y → y < x → white y ≡ false) → white x ≡ false → (y : ℕ) → a ≤ y → y < x + 1 → white y ≡ false
+passed-more white a x before here y lo hi = elim (ℕ-discrete y x) [ yes z ↦ ap white z ∙ here | no z ↦ before y lo (omega arith) ]
+
+-- leaves that agree, and their tasks
+pub theta-same : (white white′ : ℕ → Bool) (task task′ : ℕ → ℕ) (a d : ℕ) → ((k : ℕ) → a ≤ k → k < a + d → (white k ≡ white′ k) × (task k ≡ task′ k))
+    → thetaOf white task a d ≡ thetaOf white′ task′ a d
+theta-same white white′ task task′ a zero same = theta-none white task a ∙ sym (theta-none white′ task′ a)
+theta-same white white′ task task′ a (suc d) same =
+    by (theta-same white white′ task task′ (suc a) d (λ k lo hi. same k (omega arith) (omega arith))) (same a (omega arith) (omega arith)) (bool (white a))
+  where
+    by : thetaOf white task (suc a) d ≡ thetaOf white′ task′ (suc a) d → (white a ≡ white′ a) × (task a ≡ task′ a) → (white a ≡ true) ⊎ (white a ≡ false)
+        → thetaOf white task a (suc d) ≡ thetaOf white′ task′ a (suc d)
+    by ih (w, t) (inl y) = theta-white white task a d y ∙ ap₂ (λ (x : ℕ) (r : List ℕ). x ∷ r) t ih ∙ sym (theta-white white′ task′ a d (sym w ∙ y))
+    by ih (w, t) (inr y) = theta-skip white task a d y ∙ ih ∙ sym (theta-skip white′ task′ a d (sym w ∙ y))
+
+-- what stands in the list ------------------------------------------------------------------------------------------------------
+
+module _ (white : ℕ → Bool) (task : ℕ → ℕ) where
+  -- the task of a white leaf
+  pub theta-in : (a d j k : ℕ) → a ≤ j → j < a + d → white j ≡ true → task j ≡ k → has (thetaOf white task a d) k ≡ true
+  theta-in a zero j k lo hi y z = absurd (omega arith)
+  theta-in a (suc d) j k lo hi y z = by (ℕ-discrete a j) (bool (white a)) (λ q. theta-in (suc a) d j k q (omega arith) y z)
+    where
+      by : Dec (a ≡ j) → (white a ≡ true) ⊎ (white a ≡ false) → (suc a ≤ j → has (thetaOf white task (suc a) d) k ≡ true) → has (thetaOf white task a (suc d)) k ≡ true
+      by (yes e) v ih = rw (theta-white white task a d (ap white e ∙ y), ap task e ∙ z) (has-here k (thetaOf white task (suc a) d))
+      by (no e) (inl v) ih = rw (theta-white white task a d v) (has-later (task a) k (thetaOf white task (suc a) d) (ih (omega arith)))
+      by (no e) (inr v) ih = rw (theta-skip white task a d v) (ih (omega arith))
+
+  -- and no other
+  abbrev pub Leafs : ℕ → ℕ → ℕ → Type 0
+  Leafs a d k = (j : ℕ) × (a ≤ j) × (j < a + d) × (white j ≡ true) × (task j ≡ k)
+
+  pub theta-from : (a d k : ℕ) → has (thetaOf white task a d) k ≡ true → Leafs a d k
+  theta-from a zero k h = clash (rw (theta-none white task a) at h) (has-nil k)
+  theta-from a (suc d) k h = by (bool (white a)) (theta-from (suc a) d k)
+    where
+      later : Leafs (suc a) d k → Leafs a (suc d) k
+      later (j, lo, hi, y, z) = (j, omega arith, omega arith, y, z)
+
+      by : (white a ≡ true) ⊎ (white a ≡ false) → (has (thetaOf white task (suc a) d) k ≡ true → Leafs (suc a) d k) → Leafs a (suc d) k
+      by (inl v) ih = elim (has-cases (task a) k (thetaOf white task (suc a) d) (rw (theta-white white task a d v) at h))
+          [ inl z ↦ (a, omega arith, omega arith, v, z) | inr q ↦ later (ih q) ]
+      by (inr v) ih = later (ih (rw (theta-skip white task a d v) at h))
+
+  -- each once, where no two leaves have one task
+  pub theta-distinct : (a d : ℕ) → ((i j : ℕ) → i < j → j < a + d → task i ≡ task j → ⊥) → Distinct (thetaOf white task a d)
+  theta-distinct a zero apart = rw (theta-none white task a) tt
+  theta-distinct a (suc d) apart = by (bool (white a)) (theta-distinct (suc a) d (λ i j q r. apart i j q (omega arith)))
+    where
+      new : (b : Bool) → has (thetaOf white task (suc a) d) (task a) ≡ b → b ≡ false
+      new false e = refl
+      new true e = let (j, lo, hi, y, z) = theta-from (suc a) d (task a) e in absurd (apart a j (omega arith) (omega arith) (sym z))
+
+      by : (white a ≡ true) ⊎ (white a ≡ false) → Distinct (thetaOf white task (suc a) d) → Distinct (thetaOf white task a (suc d))
+      by (inl v) ih = rw (theta-white white task a d v) (new (has (thetaOf white task (suc a) d) (task a)) refl, ih)
+      by (inr v) ih = rw (theta-skip white task a d v) ih
+
+-- Theta is the list over all leaves
+pub theta-is : (J : Tasks natural) (estOrder : List ℕ) (ls : List Leaf) → theta J estOrder ls ≡ thetaOf (whiteAt ls) (taskAt J estOrder) 0 (J .count)
+unfolding theta
+theta-is J estOrder ls = refl

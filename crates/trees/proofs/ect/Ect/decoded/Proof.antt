@@ -1,0 +1,15 @@
+-- `ects::earliest_completion::Ect::decoded` meets its contract.
+use mathlib.Core.Path.{sym}
+use native.Mathlib.Omega.{arith}
+use Rattle.trees.proofs.Ects.{decoded-none, decoded-some}
+use Rattle.trees.proofs.ect.Ect.decoded.Statement.{statement}
+use Rattle.trees.proofs.ect.Ect.decoded.Tie as tie
+
+returns : tie.Need-returns
+returns c = sym (decoded-none (c .before .args .word) (c .if1 .taken))
+
+returns-2 : tie.Need-returns-2
+returns-2 c = sym (decoded-some (c .before .args .word) (omega arith))
+
+pub decoded-spec : {M : Type 1} → statement M
+decoded-spec = tie.close (tie.spec returns returns-2)

@@ -1,0 +1,12 @@
+-- `nodes::theta_node::Node::join` meets its contract.
+use borrow.Author.Needs.{needs}
+use Rattle.trees.specs.Nodes.{plainJoinOf}
+use Rattle.trees.proofs.theta_node.Node.join.Statement.{statement}
+use Rattle.trees.proofs.theta_node.Node.join.Tie as tie
+
+returns : tie.Need-returns
+unfolding plainJoinOf
+returns c = cc
+
+pub join-spec : {M : Type 1} → statement M
+join-spec = tie.close (tie.spec (λ c. search needs) (λ c. search needs) (λ c κs. search needs) returns)
