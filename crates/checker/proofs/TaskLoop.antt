@@ -1,5 +1,5 @@
 -- The loop over the tasks, task by task.
-use mathlib.Core.Path.{_≡_, refl, ap, _∙_}
+use mathlib.Core.Path.{_≡_, refl, sym, ap, _∙_}
 use mathlib.Core.Bool.{Bool, true, false, cond, _||_}
 use mathlib.Core.List.{List}
 use Prim.Native.Nat.{ℕ, suc, _+_, _^_, _<_, min, max}
@@ -8,7 +8,7 @@ use native.Mathlib.Omega.{arith}
 use lib.ListN.{getD}
 use Rattle.integers.proofs.Bools.{cond-most}
 use Rattle.scheduling.specs.Scheduling.{natural, Tasks, TaskSet, total, completion}
-use Rattle.scheduling.proofs.Sets.{total-part, total-mono}
+use Rattle.scheduling.proofs.Sets.{total-none, total-suc, total-part, total-mono}
 use Rattle.checker.specs.declared.intervals.Interval.{Interval}
 use Rattle.checker.specs.Formulas.{any, lowest, highest}
 use Rattle.chosen_sets.specs.TaskArrays.{Held, Late}
@@ -16,12 +16,14 @@ use Rattle.checker.specs.BoundArrays.{interval, gathered, intervalOf}
 
 module _ (J : Tasks natural) (Ω : TaskSet) where
   pub none-gathered : interval false 4294967295 0 0 ≡ intervalOf J Ω 0
-  unfolding any lowest highest total
-  none-gathered = refl
+  unfolding any lowest highest
+  none-gathered = ap (interval false 4294967295 0) (sym (total-none (λ k. cond (Ω k) (J .duration k) 0)))
 
   pub one-gathered : (k : ℕ) → gathered (intervalOf J Ω k) (Ω k) (J .earliest k) (completion J k) (J .duration k) ≡ intervalOf J Ω (suc k)
-  unfolding any lowest highest total
-  one-gathered k = by (Ω k) (any Ω k) (lowest J Ω k) (highest J Ω k) (total (λ k. cond (Ω k) (J .duration k) 0) k)
+  unfolding any lowest highest
+  one-gathered k =
+      by (Ω k) (any Ω k) (lowest J Ω k) (highest J Ω k) (total (λ k. cond (Ω k) (J .duration k) 0) k)
+      ∙ ap (interval (any Ω (suc k)) (lowest J Ω (suc k)) (highest J Ω (suc k))) (sym (total-suc (λ k. cond (Ω k) (J .duration k) 0) k))
     where
       by : (b a : Bool) (l h t : ℕ) → gathered (interval a l h t) b (J .earliest k) (completion J k) (J .duration k)
           ≡ interval (a || b) (cond b (min l (J .earliest k)) l) (cond b (max h (completion J k)) h) (t + cond b (J .duration k) 0)

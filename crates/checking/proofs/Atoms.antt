@@ -17,6 +17,7 @@ use Rattle.integers.proofs.Bools.{clash, and-true, and-yes}
 use Rattle.integers.proofs.Ints.{ints, up, dn, le-leZ}
 use Rattle.scheduling.specs.Scheduling.{Atom, Every, negation, negatedValue, given}
 use Rattle.scheduling.specs.Words.{atomWords}
+use Rattle.scheduling.proofs.Words.{atoms-none as no-words, atoms-more as three-words}
 use Rattle.integers.specs.WholeNumbers.{Within}
 use Rattle.holes.proofs.BoundSteps.{step-within, one-up, one-down}
 use Rattle.integers.proofs.WholeNumbers.{wider, lt-ltZ}
@@ -129,9 +130,9 @@ words-known (x ∷ k ∷ v ∷ l) y =
 
 -- words of atoms and back
 pub atoms-words : (l : List Atom) → atomsOf (atomWords l) ≡ l
-unfolding atomsOf atomWords
-atoms-words [] = refl
-atoms-words (a ∷ l) = ap (λ (m : List Atom). a ∷ m) (atoms-words l)
+unfolding atomsOf
+atoms-words [] = ap atomsOf no-words
+atoms-words (a ∷ l) = ap atomsOf (three-words a l) ∙ ap (λ (m : List Atom). a ∷ m) (atoms-words l)
 
 -- a negated value lies one further out at most
 pub negation-within : (k : ℕ) (v : ℤ) → Within VALUE v → Within (VALUE + 1) (negatedValue k v)
@@ -178,9 +179,9 @@ well-right a w = atom-right (pos (a .variable)) (pos (a .kind)) (a .value)
     (record { variable = omega ints; known = w .known; kind-low = omega ints; kind-high = omega (ints, w .kind); value = w .value })
 
 pub words-right : (l : List Atom) → Every WellFormed l → rightWords (atomWords l) ≡ true
-unfolding rightWords atomWords
-words-right [] e = refl
-words-right (a ∷ l) e = and-yes (rightAtom (pos (a .variable)) (pos (a .kind)) (a .value)) (rightWords (atomWords l)) (well-right a (e .0)) (words-right l (e .1))
+unfolding rightWords
+words-right [] e = ap rightWords no-words
+words-right (a ∷ l) e = ap rightWords (three-words a l) ∙ and-yes (rightAtom (pos (a .variable)) (pos (a .kind)) (a .value)) (rightWords (atomWords l)) (well-right a (e .0)) (words-right l (e .1))
 
 pub lists-right : (p c : List ℤ) → rightWords p ≡ true → length c ≤ 3 → rightWords c ≡ true → rightLists p c ≡ true
 unfolding rightLists

@@ -14,6 +14,7 @@ use Rattle.integers.specs.FilledLists.{filled, noTasks}
 use Rattle.integers.proofs.FilledLists.{filled-at, filled-length}
 use Rattle.integers.proofs.Ints.{ints, up, dn, up-neg, dn-neg}
 use Rattle.scheduling.specs.Scheduling.{total}
+use Rattle.scheduling.proofs.Sets.{total-none, total-suc}
 use Rattle.runs.specs.Traces.{done, Trace}
 use Rattle.runs.specs.Runs.{tabulate, propagate}
 use Rattle.runs.specs.Costliest.{costliestStarts, costliestDurations}
@@ -66,9 +67,8 @@ module _ (n : ℕ) where
 
   -- ---- no number refuses them
   total-most : (f : ℕ → ℕ) (m : ℕ) → ((k : ℕ) → k < m → f k ≤ 10) → total f m ≤ 10 * m
-  unfolding total
-  total-most f zero h = omega arith
-  total-most f (suc m) h = omega (arith, total-most f m (λ k q. h k (omega arith)), h m (omega arith))
+  total-most f zero h = omega (arith, total-none f)
+  total-most f (suc m) h = omega (arith, total-suc f m, total-most f m (λ k q. h k (omega arith)), h m (omega arith))
 
   module _ (one : 1 ≤ n) (few : n ≤ TASKS) where
     long : length (costliestDurations n) ≡ n

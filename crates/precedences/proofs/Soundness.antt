@@ -14,6 +14,7 @@ use Rattle.integers.proofs.Ints.{up, dn, ints, sumℤ}
 use Rattle.integers.proofs.MomentSums.{mono, reflect, plus, plus-above, deep, more-above, above-up}
 use Rattle.scheduling.specs.Scheduling.{whole, Tasks, Proper, TaskSet, In, processing, EstPlusP, NoOverlap, Schedule}
 use Rattle.scheduling.specs.Moments.{moments}
+use Rattle.scheduling.proofs.Processing.{processing-moments}
 use Rattle.scheduling.proofs.Windows as nat
 use Rattle.precedences.specs.Predecessors.{predecessors, AllBefore, PrecedenceBound}
 
@@ -39,12 +40,12 @@ all-before J s apart i q from to k h =
 module _ (J : Tasks whole) (lasts : (k : ℕ) → k < J .count → 1 ≤ J .duration k) (s : ℕ → ℤ) (apart : NoOverlap J s) where
   -- Tasks that start at or after a and end by b last at most b − a together.
   window : (S : TaskSet) (a b : ℤ) → a ≤ℤ b → ((k : ℕ) → In J S k → a ≤ℤ s k) → ((k : ℕ) → In J S k → (s k +ℤ pos (J .duration k)) ≤ℤ b) → (a +ℤ pos (processing J S)) ≤ℤ b
-  unfolding processing
   window S a b ab lo hi =
       reflect o (a +ℤ pos (processing J S)) b (plus-above o a (processing J S) low) (above-up o a b ab low)
       (omega (
         arith,
         plus o a (processing J S) low,
+        processing-moments o J S,
         nat.window (moments o J) lasts (λ k. moment o (s k)) apart′ S (moment o a) (moment o b) (mono o a b ab)
             (λ k h. mono o a (s k) (lo k (up h))) (λ k h. omega (arith, plus o (s k) (J .duration k) (starts k (h .small)), mono o (s k +ℤ pos (J .duration k)) b (hi k (up h)))),
       ))

@@ -10,6 +10,7 @@ use Rattle.integers.proofs.MomentSums.{mono, reflect, mono<, reflect<, above-up
 use Rattle.scheduling.specs.Scheduling.{whole, natural, Tasks, Proper, TaskSet, _with_, In, completion, Est, Lct, processing, EstPlusP, Ect, Overloads, EdgeFindingBound, Schedule, Done}
 use Rattle.scheduling.specs.Scheduling.{Conflict, RuleFormula}
 use Rattle.scheduling.specs.Moments.{moments}
+use Rattle.scheduling.proofs.Processing.{processing-moments}
 
 module _ (o : ℕ) where
   module _ (J : Tasks whole) (ok : Proper J) (low : (k : ℕ) → k < J .count → Above o (J .earliest k)) where
@@ -29,8 +30,7 @@ module _ (o : ℕ) where
     in← h = record { small = h .small; mem = h .mem }
 
     processing-eq : (Ω : TaskSet) → processing J Ω ≡ processing N Ω
-    unfolding processing
-    processing-eq Ω = refl
+    processing-eq Ω = processing-moments o J Ω
 
     -- a value of the natural clock that is a moment of the whole one
     pub record Is (P : ℤ → Type 0) (m : ℕ) : Type 0 where

@@ -1,4 +1,4 @@
--- p of a set of tasks: more tasks, one task more, one less, none.
+-- p of a set of tasks: more tasks, one task more, one less, none, and by whole numbers or their moments.
 use mathlib.Core.Path.{_≡_, refl, ap}
 use mathlib.Core.Bool.{Bool, true, false, cond}
 use mathlib.Core.Logic.{_⊎_, inl, inr}
@@ -6,8 +6,14 @@ use Prim.Native.Nat.{ℕ, _+_, _≤_, _<_}
 use native.Mathlib.Omega.{arith}
 use borrow.Author.Tests.{ne-eqb}
 use Rattle.integers.proofs.Bools.{bool}
-use Rattle.scheduling.specs.Scheduling.{natural, Tasks, TaskSet, total, _with_, In, Outside, Subset, processing}
+use Rattle.scheduling.specs.Moments.{moments}
+use Rattle.scheduling.specs.Scheduling.{natural, whole, Tasks, TaskSet, total, _with_, In, Outside, Subset, processing}
 use Rattle.scheduling.proofs.Sets.{Empty, total-ext, total-mono, total-swap, total-zero, _less_, less-self, with-new}
+
+-- durations are the same in whole numbers and in moments
+pub processing-moments : (o : ℕ) (J : Tasks whole) (Ω : TaskSet) → processing J Ω ≡ processing (moments o J) Ω
+unfolding processing
+processing-moments o J Ω = refl
 
 module _ (J : Tasks natural) where
   -- what task k adds to the duration of Ω

@@ -46,6 +46,15 @@ pub total-more : (f : ℕ → ℕ) (n : ℕ) → total f (n + 1) ≡ total f n +
 unfolding total
 total-more f n = rw add-one
 
+pub total-suc : (f : ℕ → ℕ) (n : ℕ) → total f (suc n) ≡ total f n + f n
+unfolding total
+total-suc f n = refl
+
+pub total-ones : (n : ℕ) → total (λ k. 1) n ≡ n
+unfolding total
+total-ones zero = refl
+total-ones (suc n) = omega (arith, total-ones n)
+
 pub total-ext : (f g : ℕ → ℕ) (n : ℕ) → ((k : ℕ) → k < n → f k ≡ g k) → total f n ≡ total g n
 unfolding total
 total-ext f g zero h = refl
@@ -61,6 +70,18 @@ pub total-part : (f : ℕ → ℕ) (n i : ℕ) → i < n → total f i + f i ≤
 unfolding total
 total-part f zero i q = absurd (omega arith)
 total-part f (suc n) i q = elim (decLt i n) [ yes r ↦ omega (arith, total-part f n i r) | no r ↦ (let e : i ≡ n = omega arith in rw e (omega arith)) ]
+
+-- one term is less, and none is more
+pub total-less : (f g : ℕ → ℕ) (n i : ℕ) → i < n → ((k : ℕ) → k < n → f k ≤ g k) → f i < g i → total f n < total g n
+unfolding total
+total-less f g zero i q h s = absurd (omega arith)
+total-less f g (suc n) i q h s = elim (decLt i n) [
+  | yes r ↦ omega (arith, total-less f g n i r (λ k t. h k (omega arith)) s, h n (omega arith))
+  | no r ↦ last (omega arith)
+]
+  where
+    last : i ≡ n → total f (suc n) < total g (suc n)
+    last z = let w : f n < g n = rw z at s in omega (arith, total-mono f g n (λ k t. h k (omega arith)))
 
 -- more numbers, no smaller sum
 pub total-up : (f : ℕ → ℕ) (m n : ℕ) → m ≤ n → total f m ≤ total f n

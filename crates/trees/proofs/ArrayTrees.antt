@@ -5,6 +5,7 @@ use native.Mathlib.Omega.{arith}
 use native.Mathlib.Decide.{ℕ-discrete}
 use borrow.Author.Needs.{needs}
 use borrow.Author.Tests.{eq-eqb, ne-eqb}
+use Rattle.scheduling.proofs.Sets.{total-suc}
 use Rattle.integers.specs.Limits.{INNER, NODES}
 use Rattle.scheduling.specs.Scheduling.{total}
 use Rattle.trees.specs.NodeBounds.{Fits}
@@ -12,8 +13,7 @@ use Rattle.trees.proofs.Joins.{Additive}
 use Rattle.trees.specs.Shapes.{width, nodeOver}
 use Rattle.trees.specs.Arrays.{leftmost, HasHeight, changed, leavesOf, TreeOf}
 use Rattle.trees.specs.Bounds.{Bounded, NeedsUpheap, CanPut}
-use Rattle.trees.proofs.Heights.{once, twice, leftmost-leaf, leftmost-left, leftmost-right, root-height, root-first, inner-height, left-height, right-height, one-height, Path, path-height}
-use Rattle.trees.proofs.Heights.{path-up, leaf-path}
+use Rattle.trees.proofs.Heights.{once, twice, leftmost-leaf, leftmost-left, leftmost-right, root-height, root-first, inner-height, left-height, right-height, one-height, Path, path-height, path-up, leaf-path}
 
 -- one value changed
 pub changed-here : {A : Type 0} (f : ℕ → A) (i : ℕ) (v : A) → changed f i v i ≡ v
@@ -99,10 +99,6 @@ module _ {A : Type 0} (join : A → A → A) where
   own-tree m leaf at t = record { joins = t .joins; leaves = λ k. refl }
 
 -- bounds -----------------------------------------------------------------------------------------------------------------------
-
-total-suc : (f : ℕ → ℕ) (n : ℕ) → total f (suc n) ≡ total f n + f n
-unfolding total
-total-suc f n = refl
 
 module _ {A : Type 0} {size : A → ℕ} {Fair : A → Type 0} {join : A → A → A} (law : Additive size Fair join) where
   over-fair : (leaf : ℕ → A) → Bounded size Fair leaf → (h a : ℕ) → Fair (nodeOver join leaf h a)

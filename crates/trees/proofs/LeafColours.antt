@@ -10,7 +10,7 @@ use lib.ListN.{length, getD, set, List·getD-eq-default}
 use lib.Seq.{getD-set-same, getD-set-other}
 use borrow.Author.Tests.{ne-eqb}
 use Rattle.scheduling.specs.Scheduling.{natural, Tasks, total}
-use Rattle.scheduling.proofs.Sets.{total-none, total-up}
+use Rattle.scheduling.proofs.Sets.{total-none, total-up, total-suc}
 use Rattle.trees.specs.Nodes.{emptyOf}
 use Rattle.trees.specs.NodeBounds.{LATEST, Fair, size, PlainFair, plainSize}
 use Rattle.trees.specs.Arrays.{changed}
@@ -44,10 +44,6 @@ plain-fair true e p q = record { ect = omega arith }
 plain-size : (b : Bool) (e p : ℕ) → plainSize (plainLeaf b e p) ≤ p
 plain-size false e p = omega arith
 plain-size true e p = omega arith
-
-total-suc : (f : ℕ → ℕ) (n : ℕ) → total f (suc n) ≡ total f n + f n
-unfolding total
-total-suc f n = refl
 
 -- a sum of which only the terms below n count, each at most that of another
 total-under : (f h : ℕ → ℕ) (n : ℕ) → ((k : ℕ) → f k ≤ h k) → ((k : ℕ) → n ≤ k → f k ≡ 0) → (d : ℕ) → (total f d ≤ total h n) × (d ≤ n → total f d ≤ total h d)

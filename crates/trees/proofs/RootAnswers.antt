@@ -15,7 +15,7 @@ use Rattle.integers.specs.Orders.{index, has, Distinct}
 use Rattle.integers.proofs.Bools.{bool, clash}
 use Rattle.integers.specs.Limits.{TASKS, DURATIONS}
 use Rattle.scheduling.specs.Scheduling.{natural, Tasks, Proper, TaskSet, total, _with_, Largest, In, NonEmpty, EstPlusP, Ect, processing}
-use Rattle.scheduling.proofs.Sets.{Empty, Top, top, with-new, with-old}
+use Rattle.scheduling.proofs.Sets.{Empty, Top, top, with-new, with-old, total-suc, total-none}
 use Rattle.scheduling.proofs.Processing.{processing-all, processing-mono, processing-less, processing-with, processing-empty}
 use Rattle.scheduling.proofs.Scan.{scan, upto, and-in, and-out, widen, alone, joined, widen-part, alone-part, joined-new, joined-old, Reached, attained, scan-is, grow-in, grow-out}
 use Rattle.scheduling.specs.Moments.{ByEarliest}
@@ -79,10 +79,9 @@ module _ (J : Tasks natural) (ok : Proper J) (estOrder : List ℕ) (rk : ByEarli
   all k = true
 
   durations-scan : (d : ℕ) → d ≤ J .count → total p d ≡ processing J (upto J T rank all d)
-  unfolding total
-  durations-scan zero q = sym (processing-empty J (upto J T rank all 0) (λ k r.
+  durations-scan zero q = total-none p ∙ sym (processing-empty J (upto J T rank all 0) (λ k r.
       elim (bool (upto J T rank all 0 k)) [ inl y ↦ absurd (omega (arith, (and-in J T rank ok rk all all 0 k y) .0)) | inr y ↦ y ]))
-  durations-scan (suc d) q = omega (arith, durations-scan d (omega arith), grow-in J T rank ok rk all all d q refl)
+  durations-scan (suc d) q = omega (arith, total-suc p d, durations-scan d (omega arith), grow-in J T rank ok rk all all d q refl)
 
   durations-all : total p (J .count) ≤ total (J .duration) (J .count)
   durations-all =
