@@ -50,7 +50,7 @@ abbrev pub one-change : Written → Written
 one-change w = record { posts = w .posts; atoms = w .atoms; changes = w .changes + 1 }
 
 -- what is asked of, and said by, an explanation, with other names for the same values
-preceded-at : {size k : ℕ} {est dur θ θ′ : List ℕ} {p c c′ i i′ b : ℕ} → θ ≡ θ′ → c ≡ c′ → i ≡ i′ → Preceded size k θ′ est dur p c′ i′ b → Preceded size k θ est dur p c i b
+preceded-at : {size k : ℕ} {est durations θ θ′ : List ℕ} {p c c′ i i′ b : ℕ} → θ ≡ θ′ → c ≡ c′ → i ≡ i′ → Preceded size k θ′ est durations p c′ i′ b → Preceded size k θ est durations p c i b
 preceded-at a e f m = rw (a, e, f) m
 
 propagation-at : (K : Tasks natural) (p b : ℕ) {θ θ′ : List ℕ} {c c′ i i′ : ℕ} → θ ≡ θ′ → c ≡ c′ → i ≡ i′ → propagation zeroAt K i b c p θ ≡ propagation zeroAt K i′ b c′ p θ′
@@ -70,8 +70,8 @@ atoms-at as₀ posts p a c d h = h ∙ rw (a, c, d) (reason-stored as₀ (reason
 starts-at : {es es′ : List ℤ} (starts : List ℕ) (b : ℕ) {i j : ℕ} → es ≡ map (instant zeroAt) starts → i ≡ j → es′ ≡ set es i (instant zeroAt b) → es′ ≡ map (instant zeroAt) (set starts j b)
 starts-at starts b {i} {j} a d h = h ∙ rw (a, d) (sym (map-set (instant zeroAt) starts j b))
 
-module _ {n inn height lct : ℕ} {words : List ℕ} {es ps as′ : List ℤ} {w : Written} {est lst dur tasks mapping : List ℕ}
-    (s : Standing n inn height lct words es ps as′ w est lst dur tasks mapping) where
+module _ {n inn height lct : ℕ} {words : List ℕ} {es ps as′ : List ℤ} {w : Written} {est lst durations reverseMapping mapping : List ℕ}
+    (s : Standing n inn height lct words es ps as′ w est lst durations reverseMapping mapping) where
   abbrev J : Tasks natural
   J = s .J
 
@@ -121,8 +121,8 @@ module _ {n inn height lct : ℕ} {words : List ℕ} {es ps as′ : List ℤ} {w
   pub tall : Tall shown height
   tall = s .arrays .tall ∙ ap heightFor (sym (s .arrays .count))
 
-  pub theta-is : thetaIn words inn tasks n ≡ leaves.theta J estOrder ls
-  theta-is = ap (thetaIn words inn tasks) (sym (s .arrays .count)) ∙ theta-of (G .limited) (s .at .tree) tasks (λ j q. s .arrays .tasks .at j (omega (arith, s .arrays .count)))
+  pub theta-is : thetaIn words inn reverseMapping n ≡ leaves.theta J estOrder ls
+  theta-is = ap (thetaIn words inn reverseMapping) (sym (s .arrays .count)) ∙ theta-of (G .limited) (s .at .tree) reverseMapping (λ j q. s .arrays .reverse-mapping .at j (omega (arith, s .arrays .count)))
 
   pub few : n ≤ TASKS
   few = omega (arith, G .limited .count, s .arrays .count)
@@ -242,9 +242,9 @@ module _ {n inn height lct : ℕ} {words : List ℕ} {es ps as′ : List ℤ} {w
         up′ = omega (arith, up, task-start)
 
         -- what `post` asks
-        pub asked : Preceded (length as′) (w .atoms) (thetaIn words inn tasks n) est dur (leaves.sum J estOrder ls) lct i b
+        pub asked : Preceded (length as′) (w .atoms) (thetaIn words inn reverseMapping n) est durations (leaves.sum J estOrder ls) lct i b
         asked = preceded-at theta-is (s .ends) (r .task)
-            (meeting.preceded J estOrder lctOrder G est dur (held (s .arrays .starts)) (held (s .arrays .durations)) t ls Λ shape (s .small) (length as′)
+            (meeting.preceded J estOrder lctOrder G est durations (held (s .arrays .starts)) (held (s .arrays .lasts)) t ls Λ shape (s .small) (length as′)
             (w .atoms) x b found passes ect-is up′ atom-room)
 
         abbrev now : List Atom
@@ -253,20 +253,20 @@ module _ {n inn height lct : ℕ} {words : List ℕ} {es ps as′ : List ℤ} {w
         abbrev made : Post
         made = record { task = T x; bound = instant zeroAt b; reason = now }
 
-        reason-is : reasonOf shown tasks n est dur i b lct ≡ now
-        reason-is = propagation-at (starting est dur) (leaves.sum J estOrder ls) b theta-is (s .ends) (r .task)
-            ∙ propagation-same zeroAt (starting est dur) J (T x) b (completion J (getD lctOrder t 0)) (leaves.sum J estOrder ls) (leaves.theta J estOrder ls)
+        reason-is : reasonOf shown reverseMapping n est durations i b lct ≡ now
+        reason-is = propagation-at (starting est durations) (leaves.sum J estOrder ls) b theta-is (s .ends) (r .task)
+            ∙ propagation-same zeroAt (starting est durations) J (T x) b (completion J (getD lctOrder t 0)) (leaves.sum J estOrder ls) (leaves.theta J estOrder ls)
             (alike (T x) (found .gray .small)) (λ y q.
-            alike (getD (leaves.theta J estOrder ls) y 0) (meeting.each-listed J estOrder lctOrder G est dur (held (s .arrays .starts)) (held (s .arrays .durations)) t ls Λ shape (s .small) y q))
+            alike (getD (leaves.theta J estOrder ls) y 0) (meeting.each-listed J estOrder lctOrder G est durations (held (s .arrays .starts)) (held (s .arrays .lasts)) t ls Λ shape (s .small) y q))
           where
-            alike : (k : ℕ) → k < J .count → Alike (starting est dur) J k
-            alike = meeting.alike J estOrder lctOrder G est dur (held (s .arrays .starts)) (held (s .arrays .durations))
+            alike : (k : ℕ) → k < J .count → Alike (starting est durations) J k
+            alike = meeting.alike J estOrder lctOrder G est durations (held (s .arrays .starts)) (held (s .arrays .lasts))
 
         -- the state with the post
         abbrev after : State
         after = posted zeroAt J estOrder lctOrder (s .st) (T x) b t
 
-        module _ {ps′ bs : List ℤ} {w′ : Written} (p : Posted ps as′ ps′ bs w w′ i b (reasonOf shown tasks n est dur i b lct)) where
+        module _ {ps′ bs : List ℤ} {w′ : Written} (p : Posted ps as′ ps′ bs w w′ i b (reasonOf shown reverseMapping n est durations i b lct)) where
           post-at : AtNow s after words es ps′ bs w′
           post-at = record {
             tree = s .at .tree;

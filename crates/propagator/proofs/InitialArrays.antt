@@ -96,10 +96,10 @@ module _ (r : DisjunctivePropagator) (es ls : List ℤ) (posts atoms : ℕ) (a :
   }
 
   -- an order sorted by an array's keys is that of the tasks
-  pub sorted-first : (est : List ℕ) → Holds n (J .earliest) est → {tasks : List ℕ} → SortedBy (byKey est) n tasks → take n tasks ≡ estOrder
+  pub sorted-first : (est : List ℕ) → Holds n (J .earliest) est → {reverseMapping : List ℕ} → SortedBy (byKey est) n reverseMapping → take n reverseMapping ≡ estOrder
   sorted-first est h s = sorted-as s (byEarliest J) (λ j k p q. ap₂ leb (h .at j p) (h .at k q)) ∙ ap (λ (m : ℕ). sort (byEarliest J) (numbers 0 m)) (sym count)
 
-  pub sorted-second : (lct : List ℕ) → Holds n (completion J) lct → {candidates : List ℕ} → SortedBy (byKeyDown lct) n candidates → take n candidates ≡ lctOrder
+  pub sorted-second : (lct : List ℕ) → Holds n (completion J) lct → {sortedTasks : List ℕ} → SortedBy (byKeyDown lct) n sortedTasks → take n sortedTasks ≡ lctOrder
   sorted-second lct h s = sorted-as s (byCompletion J) (λ j k p q. ap₂ leb (h .at k q) (h .at j p)) ∙ ap (λ (m : ℕ). sort (byCompletion J) (numbers 0 m)) (sym count)
 
   pub holds-order : (l m : List ℕ) → take n l ≡ m → length l ≡ TASKS → Holds n (λ j. getD m j 0) l
@@ -193,25 +193,25 @@ module _ (r : DisjunctivePropagator) (es ls : List ℤ) (posts atoms : ℕ) (a :
     pub keys-small : {lct : List ℕ} → lct ≡ filled (completionAt lst (r .durations)) n noTasks → (k : ℕ) → k < n → getD lct k 0 ≤ largestKey
     keys-small {lct} c k q = omega (arith, ap (λ (o : List ℕ). getD o k 0) c ∙ holds-completions lst latest .at k q, completion-small k q)
 
-    module _ {lct tasks candidates : List ℕ} (c : lct ≡ filled (completionAt lst (r .durations)) n noTasks) (f : SortedBy (byKey est) n tasks) (g : SortedBy (byKeyDown lct) n candidates) where
+    module _ {lct reverseMapping sortedTasks : List ℕ} (c : lct ≡ filled (completionAt lst (r .durations)) n noTasks) (f : SortedBy (byKey est) n reverseMapping) (g : SortedBy (byKeyDown lct) n sortedTasks) where
       pub completions : Holds n (completion J) lct
       completions = subst (Holds n (completion J)) (sym c) (holds-completions lst latest)
 
-      front : take n tasks ≡ estOrder
+      front : take n reverseMapping ≡ estOrder
       front = sorted-first est starts f
 
-      pub order : Holds n (λ j. getD estOrder j 0) tasks
-      order = holds-order tasks estOrder front (f .size)
+      pub order : Holds n (λ j. getD estOrder j 0) reverseMapping
+      order = holds-order reverseMapping estOrder front (f .size)
 
-      pub candidates-order : Holds n (λ t. getD lctOrder t 0) candidates
-      candidates-order = holds-order candidates lctOrder (sorted-second lct completions g) (g .size)
+      pub sorted-tasks-order : Holds n (λ t. getD lctOrder t 0) sortedTasks
+      sorted-tasks-order = holds-order sortedTasks lctOrder (sorted-second lct completions g) (g .size)
 
       -- the new tree, and the leaf of each task by the order
-      module _ {made : ThetaLambdaTree} {mapping : List ℕ} (t : New n made) (m : Maps n tasks mapping) where
+      module _ {made : ThetaLambdaTree} {mapping : List ℕ} (t : New n made) (m : Maps n reverseMapping mapping) where
         pub places : (x : ℕ) → x < n → getD mapping x 0 ≡ index estOrder x
         places x q = m .leaf x q ∙ ap (λ (o : List ℕ). index o x) front
 
-        abbrev pub fillable : Fillable (made .«number_of_internal_nodes») n (made .nodes) tasks est (r .durations)
+        abbrev pub fillable : Fillable (made .«number_of_internal_nodes») n (made .nodes) reverseMapping est (r .durations)
         fillable = record {
           J = J;
           estOrder = estOrder;
@@ -226,16 +226,16 @@ module _ (r : DisjunctivePropagator) (es ls : List ℤ) (posts atoms : ℕ) (a :
         }
 
         abbrev pub begun : {words : List ℕ} {ps as′ : List ℤ} → IsTree J estOrder (replicate (J .count) white) (made .«number_of_internal_nodes») words → posts ≡ length ps → atoms ≡ length as′
-            → Begun n (made .«number_of_internal_nodes») (made .height) words es ps as′ est lst lct (r .durations) tasks candidates mapping
+            → Begun n (made .«number_of_internal_nodes») (made .height) words es ps as′ est lst lct (r .durations) reverseMapping sortedTasks mapping
         begun {words} {ps} {as′} full p q = record {
           J = J;
           estOrder = estOrder;
           lctOrder = lctOrder;
           ordered = ordered;
-          arrays = record { count = count; starts = starts; durations = holds-durations; tasks = order; places = places; tall = t .size .least };
+          arrays = record { count = count; starts = starts; lasts = holds-durations; reverse-mapping = order; places = places; tall = t .size .least };
           latest = latest;
           completions = completions;
-          order = candidates-order;
+          order = sorted-tasks-order;
           post-room = omega (arith, p, a .words .posts);
           atom-room = omega (arith, q, a .words .atoms);
           at = at-start (made .«number_of_internal_nodes») words ps as′ full;

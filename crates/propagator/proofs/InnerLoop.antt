@@ -37,16 +37,16 @@ task-or other (responsible.Task id) = id .0
 task-or other responsible.Nothing = other .0
 
 -- what a search answered
-some-task : (tasks : List ℕ) (u : Option ℕ) (id : LocalId) → responsible.Task id ≡ responsibleOf tasks u → (x : ℕ) × (u ≡ some x) × (id .0 ≡ getD tasks x 0)
-some-task tasks none id z = clash {b = true} refl (ap is-task z)
-some-task tasks (some x) id z = (x, refl, ap (task-or id) z)
+some-task : (reverseMapping : List ℕ) (u : Option ℕ) (id : LocalId) → responsible.Task id ≡ responsibleOf reverseMapping u → (x : ℕ) × (u ≡ some x) × (id .0 ≡ getD reverseMapping x 0)
+some-task reverseMapping none id z = clash {b = true} refl (ap is-task z)
+some-task reverseMapping (some x) id z = (x, refl, ap (task-or id) z)
 
-no-task : (tasks : List ℕ) (u : Option ℕ) → responsible.Nothing ≡ responsibleOf tasks u → u ≡ none
-no-task tasks none z = refl
-no-task tasks (some x) z = clash {b = true} refl (ap is-task (sym z))
+no-task : (reverseMapping : List ℕ) (u : Option ℕ) → responsible.Nothing ≡ responsibleOf reverseMapping u → u ≡ none
+no-task reverseMapping none z = refl
+no-task reverseMapping (some x) z = clash {b = true} refl (ap is-task (sym z))
 
-module _ {n inn height lct : ℕ} {words : List ℕ} {es ps as′ : List ℤ} {w : Written} {est lst dur tasks mapping : List ℕ}
-    (s : Standing n inn height lct words es ps as′ w est lst dur tasks mapping) where
+module _ {n inn height lct : ℕ} {words : List ℕ} {es ps as′ : List ℤ} {w : Written} {est lst durations reverseMapping mapping : List ℕ}
+    (s : Standing n inn height lct words es ps as′ w est lst durations reverseMapping mapping) where
   -- `left` turns are left, and the slices and the tree are at the state of a definition that has as many left
   pub record Turned (left : ℕ) (words′ : List ℕ) (es′ ps′ bs : List ℤ) (w′ : Written) : Type 0 where
     pub st : State
@@ -58,7 +58,7 @@ module _ {n inn height lct : ℕ} {words : List ℕ} {es ps as′ : List ℤ} {w
   none-yet = record { st = s .st; reached = s .reached; at = s .at; rest = refl }
 
   module _ {left : ℕ} {words′ : List ℕ} {es′ ps′ bs : List ℤ} {w′ : Written} (r : Turned left words′ es′ ps′ bs w′) where
-    abbrev pub stands : Standing n inn height lct words′ es′ ps′ bs w′ est lst dur tasks mapping
+    abbrev pub stands : Standing n inn height lct words′ es′ ps′ bs w′ est lst durations reverseMapping mapping
     stands = record {
       J = s .J;
       estOrder = s .estOrder;
@@ -96,12 +96,12 @@ module _ {n inn height lct : ℕ} {words : List ℕ} {es ps as′ : List ℤ} {w
     test-is y = ap (exceeds bar) (sym (s .ends)) ∙ y
 
     -- there is a task to consider
-    pub one-left : {next : Responsible} {id : LocalId} → next ≡ responsible.Task id → Proposes inn height words′ tasks lct next → (x : ℕ) × Responsible-for stands (id .0) x
+    pub one-left : {next : Responsible} {id : LocalId} → next ≡ responsible.Task id → Proposes inn height words′ reverseMapping lct next → (x : ℕ) × Responsible-for stands (id .0) x
     one-left {id = id} is all = let z = all (shown stands) (tall stands) in
         elim (bool (exceeds bar lct)) [
-          | inr y ↦ clash {b = true} refl (ap is-task (sym is ∙ z ∙ sym (candidate-none tasks lct bar found y)))
-          | inl y ↦ (let (x, u, v) = some-task tasks found id (sym is ∙ z ∙ sym (candidate-some tasks lct bar found y)) in
-              (x, record { over = y; found = u; task = v ∙ s .arrays .tasks .at x (found-small x u) }))
+          | inr y ↦ clash {b = true} refl (ap is-task (sym is ∙ z ∙ sym (candidate-none reverseMapping lct bar found y)))
+          | inl y ↦ (let (x, u, v) = some-task reverseMapping found id (sym is ∙ z ∙ sym (candidate-some reverseMapping lct bar found y)) in
+              (x, record { over = y; found = u; task = v ∙ s .arrays .reverse-mapping .at x (found-small x u) }))
         ]
 
     -- a turn is taken
@@ -110,13 +110,13 @@ module _ {n inn height lct : ℕ} {words : List ℕ} {es ps as′ : List ℤ} {w
       rest-is = r .rest ∙ ap (λ (f : ℕ). turns s f (r .st)) some-left
 
       -- there is no task to consider
-      pub nothing-left : {next : Responsible} → next ≡ responsible.Nothing → Proposes inn height words′ tasks lct next → AllConsidered s (turn.On w′) words′ es′ ps′ bs
+      pub nothing-left : {next : Responsible} → next ≡ responsible.Nothing → Proposes inn height words′ reverseMapping lct next → AllConsidered s (turn.On w′) words′ es′ ps′ bs
       nothing-left is all = let z = all (shown stands) (tall stands) in (
         r .st,
         r .at,
         rest-is ∙ elim (bool (exceeds bar lct)) [
           | inr y ↦ inner-off zeroAt (s .J) (s .estOrder) (s .lctOrder) f (s .level) (r .st) (test-is y)
-          | inl y ↦ inner-none zeroAt (s .J) (s .estOrder) (s .lctOrder) f (s .level) (r .st) (test-is y) (no-task tasks found (sym is ∙ z ∙ sym (candidate-some tasks lct bar found y)))
+          | inl y ↦ inner-none zeroAt (s .J) (s .estOrder) (s .lctOrder) f (s .level) (r .st) (test-is y) (no-task reverseMapping found (sym is ∙ z ∙ sym (candidate-some reverseMapping lct bar found y)))
         ],
       )
 

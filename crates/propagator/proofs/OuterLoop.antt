@@ -41,8 +41,8 @@ use Rattle.propagator.specs.EdgeFinding.{conflictOf, Conflicted, Begun, 
 use Rattle.propagator.proofs.MovedToLambda as moving
 use Rattle.propagator.proofs.OverloadReason as overloading
 
-module _ {n inn height : ℕ} {words : List ℕ} {es ps as′ : List ℤ} {est lst lct dur tasks candidates mapping : List ℕ}
-    (s : Begun n inn height words es ps as′ est lst lct dur tasks candidates mapping) where
+module _ {n inn height : ℕ} {words : List ℕ} {es ps as′ : List ℤ} {est lst lct durations reverseMapping sortedTasks mapping : List ℕ}
+    (s : Begun n inn height words es ps as′ est lst lct durations reverseMapping sortedTasks mapping) where
   abbrev J : Tasks natural
   J = s .J
 
@@ -72,8 +72,8 @@ module _ {n inn height : ℕ} {words : List ℕ} {es ps as′ : List ℤ} {est l
   pub few : n ≤ TASKS
   few = omega (arith, G .limited .count, s .arrays .count)
 
-  pub candidate-small : (t : ℕ) → t < n → getD candidates t 0 < TASKS
-  candidate-small t q = omega (arith, s .order .at t q, G .by-completion .task t (omega (arith, q, s .arrays .count)), G .limited .count)
+  pub sorted-task-small : (t : ℕ) → t < n → getD sortedTasks t 0 < TASKS
+  sorted-task-small t q = omega (arith, s .order .at t q, G .by-completion .task t (omega (arith, q, s .arrays .count)), G .limited .count)
 
   pub first-level : Level 0 words es ps as′ (record { posts = 0; atoms = 0; changes = n })
   first-level = record {
@@ -118,7 +118,7 @@ module _ {n inn height : ℕ} {words : List ℕ} {es ps as′ : List ℤ} {est l
     module _ (more : t + 1 < n) where
       -- the level's task, and its lct
       abbrev pub j : ℕ
-      j = getD candidates t 0
+      j = getD sortedTasks t 0
 
       abbrev pub c : ℕ
       c = getD lct j 0
@@ -132,7 +132,7 @@ module _ {n inn height : ℕ} {words : List ℕ} {es ps as′ : List ℤ} {est l
       pub c-is : c ≡ completion J (getD lctOrder t 0)
       c-is = s .completions .at j j-small ∙ ap (completion J) j-is
 
-      abbrev here : Standing n inn height c words′ es′ ps′ bs w′ est lst dur tasks mapping
+      abbrev here : Standing n inn height c words′ es′ ps′ bs w′ est lst durations reverseMapping mapping
       here = record {
         J = J;
         estOrder = estOrder;
@@ -173,19 +173,19 @@ module _ {n inn height : ℕ} {words : List ℕ} {es ps as′ : List ℤ} {est l
       few-changes = considering.few-changes here
 
       -- the white tasks overload
-      pub over-asked : exceeds ect c ≡ true → Overloaded (length bs) (w′ .atoms) (thetaIn words′ inn tasks n) est dur (leaves.sum J estOrder (v .st .leaves)) c
+      pub over-asked : exceeds ect c ≡ true → Overloaded (length bs) (w′ .atoms) (thetaIn words′ inn reverseMapping n) est durations (leaves.sum J estOrder (v .st .leaves)) c
       over-asked = overloading.over-asked here
 
       pub over-inner : inn ≤ INNER
       over-inner = considering.inner-few here
 
-      pub overloads : {r : Outcome} {bs′ : List ℤ} → exceeds ect c ≡ true → Conflicted bs bs′ w′ r (conflictOf shown tasks n est dur c) → Ended J estOrder lctOrder ps as′ r (w′ .changes) es′ ps′ bs′
+      pub overloads : {r : Outcome} {bs′ : List ℤ} → exceeds ect c ≡ true → Conflicted bs bs′ w′ r (conflictOf shown reverseMapping n est durations c) → Ended J estOrder lctOrder ps as′ r (w′ .changes) es′ ps′ bs′
       overloads {r} {bs′} q k = ends (v .st) (overload reason) is (v .at) answer words-are
         where
           reason : List Atom
           reason = conflict zeroAt J end (leaves.sum J estOrder (v .st .leaves)) (leaves.theta J estOrder (v .st .leaves))
 
-          reason-is : conflictOf shown tasks n est dur c ≡ reason
+          reason-is : conflictOf shown reverseMapping n est durations c ≡ reason
           reason-is = overloading.conflict-is here
 
           is : whole ≡ ended zeroAt J estOrder lctOrder (v .st) (overload reason)
@@ -198,13 +198,13 @@ module _ {n inn height : ℕ} {words : List ℕ} {es ps as′ : List ℤ} {est l
           words-are = k .atom-words ∙ ap (λ (l : List Atom). sets bs (3 * w′ .atoms) (atomWords l)) reason-is ∙ rw (v .at .atoms, v .at .explained) (reason-stored as′ (reasons (v .st .posts)) reason)
 
       -- they do not: the task of the level goes to Lambda
-      abbrev pub moves : Movable inn words′ mapping est dur j
+      abbrev pub moves : Movable inn words′ mapping est durations j
       moves = moving.movable here j j-is
 
-      module _ (quiet : exceeds ect c ≡ false) {words″ : List ℕ} (m : Moved inn words′ words″ mapping est dur j) where
+      module _ (quiet : exceeds ect c ≡ false) {words″ : List ℕ} (m : Moved inn words′ words″ mapping est durations j) where
         -- the lct of the next level
         abbrev pub d : ℕ
-        d = getD lct (getD candidates (t + 1) 0) 0
+        d = getD lct (getD sortedTasks (t + 1) 0) 0
 
         abbrev st₁ : State
         st₁ = grayed (v .st) (index estOrder (getD lctOrder t 0))
@@ -212,13 +212,13 @@ module _ {n inn height : ℕ} {words : List ℕ} {es ps as′ : List ℤ} {est l
         pub ends-d : d ≡ completion J (getD lctOrder (suc t) 0)
         ends-d = let one : t + 1 ≡ suc t = omega arith in
             let k-small : getD lctOrder (suc t) 0 < n = omega (arith, G .by-completion .task (suc t) (omega (arith, more, s .arrays .count)), s .arrays .count) in
-            ap (λ (u : ℕ). getD lct (getD candidates u 0) 0) one ∙ ap (λ (k : ℕ). getD lct k 0) (s .order .at (suc t) (omega arith)) ∙ s .completions .at (getD lctOrder (suc t) 0) k-small
+            ap (λ (u : ℕ). getD lct (getD sortedTasks u 0) 0) one ∙ ap (λ (k : ℕ). getD lct k 0) (s .order .at (suc t) (omega arith)) ∙ s .completions .at (getD lctOrder (suc t) 0) k-small
 
         pub still : exceeds ect end ≡ false
         still = past-end quiet
 
         -- which the source makes in two leaf changes
-        abbrev pub goes-on : Standing n inn height d words″ es′ ps′ bs (record { posts = w′ .posts; atoms = w′ .atoms; changes = w′ .changes + 2 }) est lst dur tasks mapping
+        abbrev pub goes-on : Standing n inn height d words″ es′ ps′ bs (record { posts = w′ .posts; atoms = w′ .atoms; changes = w′ .changes + 2 }) est lst durations reverseMapping mapping
         goes-on = record {
           J = J;
           estOrder = estOrder;

@@ -32,14 +32,14 @@ use Rattle.runs.specs.declared.outcome.Outcome.the-variants as outcome
 use Rattle.propagator.specs.EdgeFinding.{conflictOf, Conflicted}
 
 -- what is asked of, and said by, an explanation, with other names for the same values
-overloaded-at : {size k : ℕ} {est dur θ θ′ : List ℕ} {p c c′ : ℕ} → θ ≡ θ′ → c ≡ c′ → Overloaded size k θ′ est dur p c′ → Overloaded size k θ est dur p c
+overloaded-at : {size k : ℕ} {est durations θ θ′ : List ℕ} {p c c′ : ℕ} → θ ≡ θ′ → c ≡ c′ → Overloaded size k θ′ est durations p c′ → Overloaded size k θ est durations p c
 overloaded-at a e m = rw (a, e) m
 
 conflict-at : (K : Tasks natural) (p : ℕ) {θ θ′ : List ℕ} {c c′ : ℕ} → θ ≡ θ′ → c ≡ c′ → conflict zeroAt K c p θ ≡ conflict zeroAt K c′ p θ′
 conflict-at K p a e = rw (a, e)
 
-module _ {n inn height lct : ℕ} {words : List ℕ} {es ps as′ : List ℤ} {w : Written} {est lst dur tasks mapping : List ℕ}
-    (s : Standing n inn height lct words es ps as′ w est lst dur tasks mapping) where
+module _ {n inn height lct : ℕ} {words : List ℕ} {es ps as′ : List ℤ} {w : Written} {est lst durations reverseMapping mapping : List ℕ}
+    (s : Standing n inn height lct words es ps as′ w est lst durations reverseMapping mapping) where
   abbrev J : Tasks natural
   J = s .J
 
@@ -74,16 +74,16 @@ module _ {n inn height lct : ℕ} {words : List ℕ} {es ps as′ : List ℤ} {w
     mul-le-mul-right {m = suc (length (s .st .posts))} {n = n} (2 * n) (omega (arith, posts-few, s .small, s .arrays .count)),
   )
 
-  pub over-asked : exceeds (leaves.ect J estOrder ls) lct ≡ true → Overloaded (length as′) (w .atoms) (thetaIn words inn tasks n) est dur (leaves.sum J estOrder ls) lct
+  pub over-asked : exceeds (leaves.ect J estOrder ls) lct ≡ true → Overloaded (length as′) (w .atoms) (thetaIn words inn reverseMapping n) est durations (leaves.sum J estOrder ls) lct
   over-asked q = overloaded-at (theta-is s) (s .ends)
-      (meeting.overloaded J estOrder lctOrder G est dur (held s (s .arrays .starts)) (held s (s .arrays .durations)) t ls (considering.Λ s) (considering.shape s) (s .small) (length as′) (w .atoms)
+      (meeting.overloaded J estOrder lctOrder G est durations (held s (s .arrays .starts)) (held s (s .arrays .lasts)) t ls (considering.Λ s) (considering.shape s) (s .small) (length as′) (w .atoms)
       (ap (exceeds (leaves.ect J estOrder ls)) (sym (s .ends)) ∙ q) over-room)
 
-  pub conflict-is : conflictOf (considering.shown s) tasks n est dur lct ≡ conflict zeroAt J (completion J (getD lctOrder t 0)) (leaves.sum J estOrder ls) (leaves.theta J estOrder ls)
-  conflict-is = conflict-at (starting est dur) (leaves.sum J estOrder ls) (theta-is s) (s .ends)
-      ∙ conflict-same zeroAt (starting est dur) J (completion J (getD lctOrder t 0)) (leaves.sum J estOrder ls) (leaves.theta J estOrder ls)
-      (λ y q. meeting.alike J estOrder lctOrder G est dur (held s (s .arrays .starts)) (held s (s .arrays .durations)) (getD (leaves.theta J estOrder ls) y 0)
-      (meeting.each-listed J estOrder lctOrder G est dur (held s (s .arrays .starts)) (held s (s .arrays .durations)) t ls (considering.Λ s) (considering.shape s) (s .small) y q))
+  pub conflict-is : conflictOf (considering.shown s) reverseMapping n est durations lct ≡ conflict zeroAt J (completion J (getD lctOrder t 0)) (leaves.sum J estOrder ls) (leaves.theta J estOrder ls)
+  conflict-is = conflict-at (starting est durations) (leaves.sum J estOrder ls) (theta-is s) (s .ends)
+      ∙ conflict-same zeroAt (starting est durations) J (completion J (getD lctOrder t 0)) (leaves.sum J estOrder ls) (leaves.theta J estOrder ls)
+      (λ y q. meeting.alike J estOrder lctOrder G est durations (held s (s .arrays .starts)) (held s (s .arrays .lasts)) (getD (leaves.theta J estOrder ls) y 0)
+      (meeting.each-listed J estOrder lctOrder G est durations (held s (s .arrays .starts)) (held s (s .arrays .lasts)) t ls (considering.Λ s) (considering.shape s) (s .small) y q))
 
 -- the words of a reason that stands where the explanation has written it
 module _ {as′ bs : List ℤ} {k end : ℕ} {reason : List Atom} (s : Stored as′ bs k end reason) where

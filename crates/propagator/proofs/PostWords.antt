@@ -24,19 +24,19 @@ use Rattle.post_words.specs.StoredAtoms.{Stored}
 use Rattle.propagator.specs.declared.disjunctive_propagator.Written.{Written}
 use Rattle.propagator.specs.Candidates.{candidateOf, Posted}
 
-module _ (tasks : List ℕ) (lct : ℕ) (bar found : Option ℕ) where
-  pub candidate-none : exceeds bar lct ≡ false → responsible.Nothing ≡ candidateOf tasks lct bar found
+module _ (reverseMapping : List ℕ) (lct : ℕ) (bar found : Option ℕ) where
+  pub candidate-none : exceeds bar lct ≡ false → responsible.Nothing ≡ candidateOf reverseMapping lct bar found
   unfolding candidateOf
   candidate-none q = rw (q, candidateOf)
 
-  pub candidate-some : exceeds bar lct ≡ true → responsibleOf tasks found ≡ candidateOf tasks lct bar found
+  pub candidate-some : exceeds bar lct ≡ true → responsibleOf reverseMapping found ≡ candidateOf reverseMapping lct bar found
   unfolding candidateOf
   candidate-some q = rw (q, candidateOf)
 
 -- the reason of a post is short, by the tasks of Theta
-pub reason-few : (words : List ℕ) (inner : ℕ) (tasks : List ℕ) (n : ℕ) (es ds : List ℕ) (i b lct p : ℕ) → n ≤ TASKS
-    → length (propagation zeroAt (starting es ds) i b lct p (thetaIn words inner tasks n)) ≤ 97
-reason-few words inner tasks n es ds i b lct p q = omega (arith, propagation-length zeroAt (starting es ds) i b lct p (thetaIn words inner tasks n), theta-few (whiteIn words inner) (taskIn tasks) 0 n)
+pub reason-few : (words : List ℕ) (inner : ℕ) (reverseMapping : List ℕ) (n : ℕ) (es ds : List ℕ) (i b lct p : ℕ) → n ≤ TASKS
+    → length (propagation zeroAt (starting es ds) i b lct p (thetaIn words inner reverseMapping n)) ≤ 97
+reason-few words inner reverseMapping n es ds i b lct p q = omega (arith, propagation-length zeroAt (starting es ds) i b lct p (thetaIn words inner reverseMapping n), theta-few (whiteIn words inner) (taskIn reverseMapping) 0 n)
 
 -- a reason that stands where the explanation has written it: how long it is, and the post's words
 module _ {as′ bs : List ℤ} {k end : ℕ} {reason : List Atom} (s : Stored as′ bs k end reason) where

@@ -26,21 +26,21 @@ use Rattle.propagator.specs.RunArrays.{Ordered, Holds, Arrays, At}
 
 -- the task to consider next, by ect_bar and the responsible leaf: none where ect_bar is not past lct
 unfoldable pub candidateOf : List ℕ → ℕ → Option ℕ → Option ℕ → Responsible
-candidateOf tasks lct ect-bar found = elim (exceeds ect-bar lct) [ true ↦ responsibleOf tasks found | false ↦ responsible.Nothing ]
+candidateOf reverseMapping lct ect-bar found = elim (exceeds ect-bar lct) [ true ↦ responsibleOf reverseMapping found | false ↦ responsible.Nothing ]
 
 -- the answer of `candidate`
 abbrev pub Proposes : ℕ → ℕ → List ℕ → List ℕ → ℕ → Responsible → Type 0
-Proposes inn height words tasks lct r = (h : Held inn words) → Tall h height
-    → r ≡ candidateOf tasks lct (leaves.ect-bar (h .J) (h .estOrder) (h .leaves)) (leaves.responsible (h .J) (h .estOrder) (h .leaves))
+Proposes inn height words reverseMapping lct r = (h : Held inn words) → Tall h height
+    → r ≡ candidateOf reverseMapping lct (leaves.ect-bar (h .J) (h .estOrder) (h .leaves)) (leaves.responsible (h .J) (h .estOrder) (h .leaves))
 
 -- a post's reason, by the tree and the arrays
 abbrev pub reasonOf : {inn : ℕ} {words : List ℕ} → Held inn words → List ℕ → ℕ → List ℕ → List ℕ → ℕ → ℕ → ℕ → List Atom
-reasonOf {inn} {words} h tasks n est dur i bound lct =
-    propagation zeroAt (starting est dur) i bound lct (leaves.sum (h .J) (h .estOrder) (h .leaves)) (thetaIn words inn tasks n)
+reasonOf {inn} {words} h reverseMapping n est durations i newBound lct =
+    propagation zeroAt (starting est durations) i newBound lct (leaves.sum (h .J) (h .estOrder) (h .leaves)) (thetaIn words inn reverseMapping n)
 
 -- A post: its four words and its reason's stand after those written so far. It changes no leaf.
-pub record Posted (ps as′ ps′ bs : List ℤ) (before after : Written) (i bound : ℕ) (reason : List Atom) : Type 0 where
-  pub post-words : ps′ ≡ sets ps (4 * before .posts) (pos i ∷ instant zeroAt bound ∷ pos (before .atoms) ∷ pos (length reason) ∷ [])
+pub record Posted (ps as′ ps′ bs : List ℤ) (before after : Written) (i newBound : ℕ) (reason : List Atom) : Type 0 where
+  pub post-words : ps′ ≡ sets ps (4 * before .posts) (pos i ∷ instant zeroAt newBound ∷ pos (before .atoms) ∷ pos (length reason) ∷ [])
   pub atom-words : bs ≡ sets as′ (3 * before .atoms) (atomWords reason)
   pub posts : after .posts ≡ before .posts + 1
   pub atoms : after .atoms ≡ before .atoms + length reason
@@ -48,7 +48,7 @@ pub record Posted (ps as′ ps′ bs : List ℤ) (before after : Written) (i bou
 
 -- What stands at a level of a run: the tasks and orders, the arrays that hold them, and the state st that the definition goes through and that tree and slices
 -- are at.
-pub record Standing (n inner height lct : ℕ) (words : List ℕ) (es ps as′ : List ℤ) (w : Written) (est lst dur tasks mapping : List ℕ) : Type 0 where
+pub record Standing (n inner height lct : ℕ) (words : List ℕ) (es ps as′ : List ℤ) (w : Written) (est lst durations reverseMapping mapping : List ℕ) : Type 0 where
   pub J : Tasks natural
   pub estOrder : List ℕ
   pub lctOrder : List ℕ
@@ -57,7 +57,7 @@ pub record Standing (n inner height lct : ℕ) (words : List ℕ) (es ps as′ :
   pub ps₀ : List ℤ
   pub as₀ : List ℤ
   pub ordered : Ordered J estOrder lctOrder
-  pub arrays : Arrays J estOrder n inner height est dur tasks mapping
+  pub arrays : Arrays J estOrder n inner height est durations reverseMapping mapping
   pub latest : Holds n (J .latest) lst
   pub small : level < J .count
   pub ends : lct ≡ completion J (getD lctOrder level 0)
@@ -66,8 +66,8 @@ pub record Standing (n inner height lct : ℕ) (words : List ℕ) (es ps as′ :
   pub reached : Reached zeroAt J estOrder lctOrder level st
   pub at : At J estOrder ps₀ as₀ st inner words es ps as′ (w .posts) (w .atoms) (w .changes)
 
-module _ {n inn height lct : ℕ} {words : List ℕ} {es ps as′ : List ℤ} {w : Written} {est lst dur tasks mapping : List ℕ}
-    (s : Standing n inn height lct words es ps as′ w est lst dur tasks mapping) where
+module _ {n inn height lct : ℕ} {words : List ℕ} {es ps as′ : List ℤ} {w : Written} {est lst durations reverseMapping mapping : List ℕ}
+    (s : Standing n inn height lct words es ps as′ w est lst durations reverseMapping mapping) where
   -- the state st′ follows: tree and slices are at it
   abbrev pub AtNow : State → List ℕ → List ℤ → List ℤ → List ℤ → Written → Type 0
   AtNow st′ words′ es′ ps′ bs w′ = At (s .J) (s .estOrder) (s .ps₀) (s .as₀) st′ inn words′ es′ ps′ bs (w′ .posts) (w′ .atoms) (w′ .changes)

@@ -23,7 +23,7 @@ use Rattle.runs.specs.declared.outcome.Outcome.the-variants as outcome
 
 -- the reason of an overload, by the tree and the arrays
 abbrev pub conflictOf : {inner : ℕ} {words : List ℕ} → Held inner words → List ℕ → ℕ → List ℕ → List ℕ → ℕ → List Atom
-conflictOf {inner} {words} h tasks n est dur lct = conflict zeroAt (starting est dur) lct (sum (h .J) (h .estOrder) (h .leaves)) (thetaIn words inner tasks n)
+conflictOf {inner} {words} h reverseMapping n est durations lct = conflict zeroAt (starting est durations) lct (sum (h .J) (h .estOrder) (h .leaves)) (thetaIn words inner reverseMapping n)
 
 -- it stands after the atoms written so far
 pub record Conflicted (as′ bs : List ℤ) (w : Written) (r : Outcome) (reason : List Atom) : Type 0 where
@@ -31,15 +31,15 @@ pub record Conflicted (as′ bs : List ℤ) (w : Written) (r : Outcome) (reason 
   pub answer : r ≡ outcome.Overload (w .posts) (w .atoms) (length reason)
 
 -- What edge finding is given: the tasks in both orders, the arrays that hold them, room for posts and reasons, and the tree of all tasks.
-pub record Begun (n inner height : ℕ) (words : List ℕ) (es ps as′ : List ℤ) (est lst lct dur tasks candidates mapping : List ℕ) : Type 0 where
+pub record Begun (n inner height : ℕ) (words : List ℕ) (es ps as′ : List ℤ) (est lst lct durations reverseMapping sortedTasks mapping : List ℕ) : Type 0 where
   pub J : Tasks natural
   pub estOrder : List ℕ
   pub lctOrder : List ℕ
   pub ordered : Ordered J estOrder lctOrder
-  pub arrays : Arrays J estOrder n inner height est dur tasks mapping
+  pub arrays : Arrays J estOrder n inner height est durations reverseMapping mapping
   pub latest : Holds n (J .latest) lst
   pub completions : Holds n (completion J) lct
-  pub order : Holds n (λ t. getD lctOrder t 0) candidates
+  pub order : Holds n (λ t. getD lctOrder t 0) sortedTasks
   pub post-room : 4 * n ≤ length ps
   pub atom-room : 6 * (n * n) ≤ length as′
   pub at : At J estOrder ps as′ (allWhite J) inner words es ps as′ 0 0 n

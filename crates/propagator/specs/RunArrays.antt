@@ -33,11 +33,11 @@ pub record Holds (n : ℕ) (f : ℕ → ℕ) (array : List ℕ) : Type 0 where
   pub at : (k : ℕ) → k < n → getD array k 0 ≡ f k
 
 -- The arrays that a run reads: the earliest starts and the durations of the tasks, the task of each leaf and the leaf of each task; and the tree's size.
-pub record Arrays (J : Tasks natural) (estOrder : List ℕ) (n inner height : ℕ) (est dur leaves mapping : List ℕ) : Type 0 where
+pub record Arrays (J : Tasks natural) (estOrder : List ℕ) (n inner height : ℕ) (est durations reverseMapping mapping : List ℕ) : Type 0 where
   pub count : J .count ≡ n
   pub starts : Holds n (J .earliest) est
-  pub durations : Holds n (J .duration) dur
-  pub tasks : Holds n (λ j. getD estOrder j 0) leaves
+  pub lasts : Holds n (J .duration) durations
+  pub reverse-mapping : Holds n (λ j. getD estOrder j 0) reverseMapping
   pub places : (k : ℕ) → k < n → getD mapping k 0 ≡ index estOrder k
   pub tall : height ≡ heightFor n
 

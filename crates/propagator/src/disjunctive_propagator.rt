@@ -61,24 +61,31 @@ pub fn run_accepted(
     moments_of(&mut lst, latest);
     let mut lct: [u32; TASKS] = [0; TASKS];
     completions(&mut lct, &lst, &record.durations, n);
-    let mut tasks: [usize; TASKS] = [0; TASKS];
-    sort_numbers(&mut tasks, n, &est);
-    let mut candidates: [usize; TASKS] = [0; TASKS];
-    sort_numbers_down(&mut candidates, n, &lct);
+    let mut reverse_mapping: [usize; TASKS] = [0; TASKS];
+    sort_numbers(&mut reverse_mapping, n, &est);
+    let mut sorted_tasks: [usize; TASKS] = [0; TASKS];
+    sort_numbers_down(&mut sorted_tasks, n, &lct);
     let mut mapping: [usize; TASKS] = [0; TASKS];
-    leaf_places(&mut mapping, &tasks, n);
+    leaf_places(&mut mapping, &reverse_mapping, n);
     let mut tree = ThetaLambdaTree::new(n);
     let inner = tree.number_of_internal_nodes;
     let height = tree.height;
-    fill(&mut tree.nodes, inner, &tasks, &est, &record.durations, n);
+    fill(
+        &mut tree.nodes,
+        inner,
+        &reverse_mapping,
+        &est,
+        &record.durations,
+        n,
+    );
     edge_finding(
         &mut tree.nodes,
         earliest,
         posts,
         atoms,
         &mapping,
-        &tasks,
-        &candidates,
+        &reverse_mapping,
+        &sorted_tasks,
         &est,
         &lst,
         &lct,
@@ -132,7 +139,7 @@ fn overload<'a>(
     atoms: &mut [i32],
     written: Written,
     nodes: &'a [u32; TREEWORDS],
-    tasks: &'a [usize; TASKS],
+    reverse_mapping: &'a [usize; TASKS],
     est: &'a [u32; TASKS],
     durations: &'a [u32; TASKS],
     inner: usize,
@@ -140,10 +147,10 @@ fn overload<'a>(
     lct: u32,
 ) -> Outcome
     requires { ⌜ ((h : Held inner (now nodes))
-        × (Overloaded (length (now atoms)) (written .atoms) (thetaIn (now nodes) inner (now tasks) n) (now est) (now durations)
+        × (Overloaded (length (now atoms)) (written .atoms) (thetaIn (now nodes) inner (now «reverse_mapping») n) (now est) (now durations)
         (sum (h .J) (h .estOrder) (h .leaves)) lct) × (n ≤ TASKS) × (inner ≤ INNER)) ⌝ }
     ensures { λ r. ⌜ ((h : Held inner (now (nodes .entry)))
-        → Conflicted (now (atoms .entry)) (now (atoms .exit)) written r (conflictOf h (now (tasks .entry)) n (now (est .entry)) (now (durations .entry)) lct)) ⌝ }
+        → Conflicted (now (atoms .entry)) (now (atoms .exit)) written r (conflictOf h (now («reverse_mapping» .entry)) n (now (est .entry)) (now (durations .entry)) lct)) ⌝ }
 {
     let p = ThetaLambdaTree::sum_of_processing_times(nodes);
     let at = written.atoms;
@@ -151,7 +158,7 @@ fn overload<'a>(
         atoms,
         at,
         nodes,
-        tasks,
+        reverse_mapping,
         inner,
         n,
         est,
@@ -195,15 +202,15 @@ fn overloads(nodes: &[u32; TREEWORDS], lct: u32) -> bool
     ect.exceeds(lct)
 }
 
-// The levels of edge finding: the candidates in order of falling lct go from Theta to Lambda, and Lambda is considered after each.
+// Performs edge finding: the sorted tasks, by falling lct, go from Theta to Lambda, and Lambda is considered after each.
 pub fn edge_finding<'a>(
     nodes: &mut [u32; TREEWORDS],
     earliest: &mut [i32],
     posts: &mut [i32],
     atoms: &mut [i32],
     mapping: &'a [usize; TASKS],
-    tasks: &'a [usize; TASKS],
-    candidates: &'a [usize; TASKS],
+    reverse_mapping: &'a [usize; TASKS],
+    sorted_tasks: &'a [usize; TASKS],
     est: &'a [u32; TASKS],
     lst: &'a [u32; TASKS],
     lct: &'a [u32; TASKS],
@@ -212,10 +219,10 @@ pub fn edge_finding<'a>(
     height: usize,
     n: usize,
 ) -> Finished
-    requires { ⌜ Begun n inner height (now nodes) (now earliest) (now posts) (now atoms) (now est) (now lst) (now lct) (now durations) (now tasks)
-        (now candidates) (now mapping) ⌝ }
+    requires { ⌜ Begun n inner height (now nodes) (now earliest) (now posts) (now atoms) (now est) (now lst) (now lct) (now durations) (now «reverse_mapping»)
+        (now «sorted_tasks») (now mapping) ⌝ }
     ensures { λ r. ⌜ ((s : Begun n inner height (now (nodes .entry)) (now (earliest .entry)) (now (posts .entry)) (now (atoms .entry)) (now (est .entry))
-        (now (lst .entry)) (now (lct .entry)) (now (durations .entry)) (now (tasks .entry)) (now (candidates .entry)) (now (mapping .entry)))
+        (now (lst .entry)) (now (lct .entry)) (now (durations .entry)) (now («reverse_mapping» .entry)) (now («sorted_tasks» .entry)) (now (mapping .entry)))
         → Ended (s .J) (s .estOrder) (s .lctOrder) (now (posts .entry)) (now (atoms .entry)) (r .outcome) (r .changes) (now (earliest .exit))
         (now (posts .exit)) (now (atoms .exit))) ⌝ }
 {
@@ -226,10 +233,20 @@ pub fn edge_finding<'a>(
     };
     let mut index: usize = 0;
     while index + 1 < n {
-        let j = candidates[index];
+        let j = sorted_tasks[index];
         let lct_j = lct[j];
         if overloads(nodes, lct_j) {
-            let outcome = overload(atoms, w, nodes, tasks, est, durations, inner, n, lct_j);
+            let outcome = overload(
+                atoms,
+                w,
+                nodes,
+                reverse_mapping,
+                est,
+                durations,
+                inner,
+                n,
+                lct_j,
+            );
             return Finished {
                 outcome,
                 changes: w.changes,
@@ -243,7 +260,7 @@ pub fn edge_finding<'a>(
             changes,
         };
         index += 1;
-        let lct_next = lct[candidates[index]];
+        let lct_next = lct[sorted_tasks[index]];
         let turn = consider_all(
             nodes,
             earliest,
@@ -251,7 +268,7 @@ pub fn edge_finding<'a>(
             atoms,
             moved,
             mapping,
-            tasks,
+            reverse_mapping,
             est,
             lst,
             durations,
@@ -282,17 +299,17 @@ pub fn edge_finding<'a>(
 pub fn fill<'a>(
     nodes: &mut [u32; TREEWORDS],
     inner: usize,
-    tasks: &'a [usize; TASKS],
+    reverse_mapping: &'a [usize; TASKS],
     est: &'a [u32; TASKS],
     durations: &'a [u32; TASKS],
     n: usize,
 )
-    requires { ⌜ Fillable inner n (now nodes) (now tasks) (now est) (now durations) ⌝ }
-    ensures { λ _. ⌜ Filled inner n (now (nodes .entry)) (now (nodes .exit)) (now (tasks .entry)) (now (est .entry)) (now (durations .entry)) ⌝ }
+    requires { ⌜ Fillable inner n (now nodes) (now «reverse_mapping») (now est) (now durations) ⌝ }
+    ensures { λ _. ⌜ Filled inner n (now (nodes .entry)) (now (nodes .exit)) (now («reverse_mapping» .entry)) (now (est .entry)) (now (durations .entry)) ⌝ }
 {
     let mut x: usize = 0;
     while x < n {
-        let id = task_of(tasks, LeafPlace(x));
+        let id = task_of(reverse_mapping, LeafPlace(x));
         let i = id.0;
         let task = DisjunctiveTask {
             start_time: est[i],
@@ -321,19 +338,19 @@ pub enum Turn {
 // The task to consider next: one of Lambda for which the edge-finding condition holds.
 fn candidate<'a>(
     nodes: &'a [u32; TREEWORDS],
-    tasks: &'a [usize; TASKS],
+    reverse_mapping: &'a [usize; TASKS],
     inner: usize,
     height: usize,
     lct: u32,
 ) -> Responsible
     requires { ⌜ ((h : Held inner (now nodes)) × Tall h height) ⌝ }
-    ensures { λ r. ⌜ Proposes inner height (now (nodes .entry)) (now (tasks .entry)) lct r ⌝ }
+    ensures { λ r. ⌜ Proposes inner height (now (nodes .entry)) (now («reverse_mapping» .entry)) lct r ⌝ }
 {
     let ect_bar = ThetaLambdaTree::ect_bar(nodes);
     if !ect_bar.exceeds(lct) {
         return Responsible::Nothing;
     }
-    ThetaLambdaTree::responsible_ect_bar(nodes, tasks, inner, height)
+    ThetaLambdaTree::responsible_ect_bar(nodes, reverse_mapping, inner, height)
 }
 
 // Posts that task i starts at the bound or later, with its reason.
@@ -342,22 +359,22 @@ fn post<'a>(
     atoms: &mut [i32],
     written: Written,
     nodes: &'a [u32; TREEWORDS],
-    tasks: &'a [usize; TASKS],
+    reverse_mapping: &'a [usize; TASKS],
     est: &'a [u32; TASKS],
     durations: &'a [u32; TASKS],
     inner: usize,
     n: usize,
     i: usize,
-    bound: u32,
+    new_bound: u32,
     lct: u32,
 ) -> Written
     requires { ⌜ ((h : Held inner (now nodes))
-        × (Preceded (length (now atoms)) (written .atoms) (thetaIn (now nodes) inner (now tasks) n) (now est) (now durations)
-        (sum (h .J) (h .estOrder) (h .leaves)) lct i bound)
+        × (Preceded (length (now atoms)) (written .atoms) (thetaIn (now nodes) inner (now «reverse_mapping») n) (now est) (now durations)
+        (sum (h .J) (h .estOrder) (h .leaves)) lct i «new_bound»)
         × (4 * written .posts + 4 ≤ length (now posts)) × (n ≤ TASKS) × (inner ≤ INNER) × (written .atoms ≤ ATOMS)) ⌝ }
     ensures { λ r. ⌜ ((h : Held inner (now (nodes .entry)))
-        → Posted (now (posts .entry)) (now (atoms .entry)) (now (posts .exit)) (now (atoms .exit)) written r i bound
-        (reasonOf h (now (tasks .entry)) n (now (est .entry)) (now (durations .entry)) i bound lct)) ⌝ }
+        → Posted (now (posts .entry)) (now (atoms .entry)) (now (posts .exit)) (now (atoms .exit)) written r i «new_bound»
+        (reasonOf h (now («reverse_mapping» .entry)) n (now (est .entry)) (now (durations .entry)) i «new_bound» lct)) ⌝ }
 {
     let p = ThetaLambdaTree::sum_of_processing_times(nodes);
     let at = written.atoms;
@@ -365,7 +382,7 @@ fn post<'a>(
         atoms,
         at,
         nodes,
-        tasks,
+        reverse_mapping,
         inner,
         n,
         est,
@@ -373,9 +390,9 @@ fn post<'a>(
         p,
         lct,
         i,
-        bound,
+        new_bound,
     );
-    write_post(posts, written.posts, i, bound, at, end - at);
+    write_post(posts, written.posts, i, new_bound, at, end - at);
     Written {
         posts: written.posts + 1,
         atoms: end,
@@ -399,7 +416,7 @@ fn consider<'a>(
     atoms: &mut [i32],
     written: Written,
     mapping: &'a [usize; TASKS],
-    tasks: &'a [usize; TASKS],
+    reverse_mapping: &'a [usize; TASKS],
     est: &'a [u32; TASKS],
     lst: &'a [u32; TASKS],
     durations: &'a [u32; TASKS],
@@ -409,16 +426,16 @@ fn consider<'a>(
     lct: u32,
 ) -> Turn
     requires { ⌜ ((height : ℕ) × (x : ℕ) × (s : Standing n inner height lct (now nodes) (now earliest) (now posts) (now atoms) written (now est) (now lst)
-        (now durations) (now tasks) (now mapping)) × Responsible-for s (id .0) x) ⌝ }
+        (now durations) (now «reverse_mapping») (now mapping)) × Responsible-for s (id .0) x) ⌝ }
     ensures { λ r. ⌜ ((height x : ℕ) (s : Standing n inner height lct (now (nodes .entry)) (now (earliest .entry)) (now (posts .entry))
-        (now (atoms .entry)) written (now (est .entry)) (now (lst .entry)) (now (durations .entry)) (now (tasks .entry)) (now (mapping .entry)))
+        (now (atoms .entry)) written (now (est .entry)) (now (lst .entry)) (now (durations .entry)) (now («reverse_mapping» .entry)) (now (mapping .entry)))
         → Responsible-for s (id .0) x → Considered s r (now (nodes .exit)) (now (earliest .exit)) (now (posts .exit)) (now (atoms .exit))) ⌝ }
 {
     let i = id.0;
     let start = est[i];
-    let bound = raised_start(nodes, start);
+    let new_bound = raised_start(nodes, start);
     let place = leaf_of(mapping, id);
-    if bound <= start {
+    if new_bound <= start {
         ThetaLambdaTree::remove_from_lambda(nodes, inner, place);
         let changes = written.changes + 1;
         return Turn::On(Written {
@@ -432,19 +449,19 @@ fn consider<'a>(
         atoms,
         written,
         nodes,
-        tasks,
+        reverse_mapping,
         est,
         durations,
         inner,
         n,
         i,
-        bound,
+        new_bound,
         lct,
     );
-    if bound > lst[i] {
+    if new_bound > lst[i] {
         return Turn::Emptied(w);
     }
-    earliest[i] = start_of(bound);
+    earliest[i] = start_of(new_bound);
     ThetaLambdaTree::remove_from_lambda(nodes, inner, place);
     let changes = w.changes + 1;
     Turn::On(Written {
@@ -462,7 +479,7 @@ pub fn consider_all<'a>(
     atoms: &mut [i32],
     written: Written,
     mapping: &'a [usize; TASKS],
-    tasks: &'a [usize; TASKS],
+    reverse_mapping: &'a [usize; TASKS],
     est: &'a [u32; TASKS],
     lst: &'a [u32; TASKS],
     durations: &'a [u32; TASKS],
@@ -471,17 +488,17 @@ pub fn consider_all<'a>(
     n: usize,
     lct: u32,
 ) -> Turn
-    requires { ⌜ Standing n inner height lct (now nodes) (now earliest) (now posts) (now atoms) written (now est) (now lst) (now durations) (now tasks)
+    requires { ⌜ Standing n inner height lct (now nodes) (now earliest) (now posts) (now atoms) written (now est) (now lst) (now durations) (now «reverse_mapping»)
         (now mapping) ⌝ }
     ensures { λ r. ⌜ ((s : Standing n inner height lct (now (nodes .entry)) (now (earliest .entry)) (now (posts .entry)) (now (atoms .entry)) written
-        (now (est .entry)) (now (lst .entry)) (now (durations .entry)) (now (tasks .entry)) (now (mapping .entry)))
+        (now (est .entry)) (now (lst .entry)) (now (durations .entry)) (now («reverse_mapping» .entry)) (now (mapping .entry)))
         → AllConsidered s r (now (nodes .exit)) (now (earliest .exit)) (now (posts .exit)) (now (atoms .exit))) ⌝ }
 {
     let mut w = written;
     let mut left = n;
     while left > 0 {
         left -= 1;
-        let next = candidate(nodes, tasks, inner, height, lct);
+        let next = candidate(nodes, reverse_mapping, inner, height, lct);
         let Responsible::Task(id) = next else {
             return Turn::On(w);
         };
@@ -492,7 +509,7 @@ pub fn consider_all<'a>(
             atoms,
             w,
             mapping,
-            tasks,
+            reverse_mapping,
             est,
             lst,
             durations,

@@ -18,14 +18,14 @@ tested x h = let a = x .before .before .args in x .exceeds .ensures ∙ ap (λ (
 returns : tie.Need-returns
 returns c = λ h z.
     let a = c .before .before .before .args in
-    candidate-none (a .tasks .now) (a .lct) (ect-bar (h .J) (h .estOrder) (h .leaves)) (responsible (h .J) (h .estOrder) (h .leaves))
+    candidate-none (a .reverse-mapping .now) (a .lct) (ect-bar (h .J) (h .estOrder) (h .leaves)) (responsible (h .J) (h .estOrder) (h .leaves))
     (sym (tested (c .before) h) ∙ not-true (c .before .exceeds .result) (c .if1 .taken))
 
 returns-2 : tie.Need-returns-2
 returns-2 c = λ h z.
     let a = c .before .before .before .before .args in
     c .responsible-ect-bar .ensures h z
-    ∙ candidate-some (a .tasks .now) (a .lct) (ect-bar (h .J) (h .estOrder) (h .leaves)) (responsible (h .J) (h .estOrder) (h .leaves))
+    ∙ candidate-some (a .reverse-mapping .now) (a .lct) (ect-bar (h .J) (h .estOrder) (h .leaves)) (responsible (h .J) (h .estOrder) (h .leaves))
     (sym (tested (c .before .before) h) ∙ not-false (c .before .before .exceeds .result) (c .before .if1 .left))
 
 pub candidate-spec : {M : Type 1} → statement M

@@ -17,7 +17,7 @@ use Rattle.propagator.proofs.disjunctive_propagator.consider.Tie as tie
 -- what is asked
 abbrev asks : (c : tie.Start) → let a = c .args in
     ((height : ℕ) × (x : ℕ) × (s : Standing (a .n) (a .inner) height (a .lct) (a .nodes .now) (a .earliest .now) (a .posts .now) (a .atoms .now) (a .written) (a .est .now) (a .lst .now)
-    (a .durations .now) (a .tasks .now) (a .mapping .now)) × Responsible-for s (a .id .0) x)
+    (a .durations .now) (a .reverse-mapping .now) (a .mapping .now)) × Responsible-for s (a .id .0) x)
 asks c = c .pre
 
 -- back to the start from the leaf's place, to that place from the post's call, and to that call from the task's new start

@@ -14,20 +14,20 @@ use Rattle.propagator.proofs.disjunctive_propagator.consider_all.Statem
 use Rattle.propagator.proofs.disjunctive_propagator.consider_all.Tie as tie
 
 -- what the loop has got to; the slices keep their lengths
-record Loop (n inner height lct : ℕ) (nodes₀ : List ℕ) (earliest₀ posts₀ atoms₀ : List ℤ) (w₀ : Written) (est lst durations tasks mapping nodes : List ℕ) (earliest posts atoms : List ℤ) (w : Written)
+record Loop (n inner height lct : ℕ) (nodes₀ : List ℕ) (earliest₀ posts₀ atoms₀ : List ℤ) (w₀ : Written) (est lst durations reverseMapping mapping nodes : List ℕ) (earliest posts atoms : List ℤ) (w : Written)
     (left : ℕ) : Type 0 where
-  stood : Standing n inner height lct nodes₀ earliest₀ posts₀ atoms₀ w₀ est lst durations tasks mapping
-  reached : (s : Standing n inner height lct nodes₀ earliest₀ posts₀ atoms₀ w₀ est lst durations tasks mapping) → Turned s left nodes earliest posts atoms w
+  stood : Standing n inner height lct nodes₀ earliest₀ posts₀ atoms₀ w₀ est lst durations reverseMapping mapping
+  reached : (s : Standing n inner height lct nodes₀ earliest₀ posts₀ atoms₀ w₀ est lst durations reverseMapping mapping) → Turned s left nodes earliest posts atoms w
   starts-length : length earliest ≡ length earliest₀
   posts-length : length posts ≡ length posts₀
   atoms-length : length atoms ≡ length atoms₀
 
 abbrev Inv-loop : tie.InvT-loop
-Inv-loop nodes₀ earliest₀ posts₀ atoms₀ mapping tasks est lst durations inner height n lct w₀ left₀ nodes earliest posts atoms w left =
-    Loop n inner height lct nodes₀ earliest₀ posts₀ atoms₀ w₀ est lst durations tasks mapping nodes earliest posts atoms w left
+Inv-loop nodes₀ earliest₀ posts₀ atoms₀ mapping reverseMapping est lst durations inner height n lct w₀ left₀ nodes earliest posts atoms w left =
+    Loop n inner height lct nodes₀ earliest₀ posts₀ atoms₀ w₀ est lst durations reverseMapping mapping nodes earliest posts atoms w left
 
 abbrev μ-loop : tie.MeasureT-loop
-μ-loop nodes₀ earliest₀ posts₀ atoms₀ mapping tasks est lst durations inner height n lct w₀ left₀ nodes earliest posts atoms w left = left
+μ-loop nodes₀ earliest₀ posts₀ atoms₀ mapping reverseMapping est lst durations inner height n lct w₀ left₀ nodes earliest posts atoms w left = left
 
 positive : (c : tie.In-loop Inv-loop μ-loop) → c .before .loop .left ≡ suc (c .before .loop .left - 1)
 positive c = omega arith

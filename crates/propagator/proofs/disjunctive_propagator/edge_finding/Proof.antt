@@ -10,30 +10,30 @@ use borrow.Author.Needs.{needs}
 use Rattle.trees.specs.Ects.{exceeds}
 use Rattle.propagator.specs.declared.disjunctive_propagator.Written.{Written}
 use Rattle.propagator.specs.EdgeFinding.{Begun}
-use Rattle.propagator.proofs.OuterLoop.{Level, shown, ect, few, candidate-small, first-level, all-done, over-asked, over-inner, few-changes, overloads, moves, goes-on, one-more, one-emptied}
+use Rattle.propagator.proofs.OuterLoop.{Level, shown, ect, few, sorted-task-small, first-level, all-done, over-asked, over-inner, few-changes, overloads, moves, goes-on, one-more, one-emptied}
 use Rattle.propagator.proofs.disjunctive_propagator.edge_finding.Statement.{statement}
 use Rattle.propagator.proofs.disjunctive_propagator.edge_finding.Tie as tie
 
 -- the level that the loop stands at; the slices keep their lengths
-record Loop (n inner height : ℕ) (nodes₀ : List ℕ) (earliest₀ posts₀ atoms₀ : List ℤ) (est lst lct durations tasks candidates mapping nodes : List ℕ) (earliest posts atoms : List ℤ) (w : Written)
+record Loop (n inner height : ℕ) (nodes₀ : List ℕ) (earliest₀ posts₀ atoms₀ : List ℤ) (est lst lct durations reverseMapping sortedTasks mapping nodes : List ℕ) (earliest posts atoms : List ℤ) (w : Written)
     (index : ℕ) : Type 0 where
-  begun : Begun n inner height nodes₀ earliest₀ posts₀ atoms₀ est lst lct durations tasks candidates mapping
-  level : (s : Begun n inner height nodes₀ earliest₀ posts₀ atoms₀ est lst lct durations tasks candidates mapping) → Level s index nodes earliest posts atoms w
+  begun : Begun n inner height nodes₀ earliest₀ posts₀ atoms₀ est lst lct durations reverseMapping sortedTasks mapping
+  level : (s : Begun n inner height nodes₀ earliest₀ posts₀ atoms₀ est lst lct durations reverseMapping sortedTasks mapping) → Level s index nodes earliest posts atoms w
   small : index < n
   starts-length : length earliest ≡ length earliest₀
   posts-length : length posts ≡ length posts₀
   atoms-length : length atoms ≡ length atoms₀
 
 abbrev Inv-loop : tie.InvT-loop
-Inv-loop nodes₀ earliest₀ posts₀ atoms₀ mapping tasks candidates est lst lct durations inner height n w₀ index₀ nodes earliest posts atoms w index =
-    Loop n inner height nodes₀ earliest₀ posts₀ atoms₀ est lst lct durations tasks candidates mapping nodes earliest posts atoms w index
+Inv-loop nodes₀ earliest₀ posts₀ atoms₀ mapping reverseMapping sortedTasks est lst lct durations inner height n w₀ index₀ nodes earliest posts atoms w index =
+    Loop n inner height nodes₀ earliest₀ posts₀ atoms₀ est lst lct durations reverseMapping sortedTasks mapping nodes earliest posts atoms w index
 
 abbrev μ-loop : tie.MeasureT-loop
-μ-loop nodes₀ earliest₀ posts₀ atoms₀ mapping tasks candidates est lst lct durations inner height n w₀ index₀ nodes earliest posts atoms w index = n - index
+μ-loop nodes₀ earliest₀ posts₀ atoms₀ mapping reverseMapping sortedTasks est lst lct durations inner height n w₀ index₀ nodes earliest posts atoms w index = n - index
 
 -- inside the loop: the level's task and its lct, and that a level follows
 abbrev task : tie.In-loop Inv-loop μ-loop → ℕ
-task c = getD (c .before .before .args .candidates .now) (c .before .loop .index) 0
+task c = getD (c .before .before .args .sorted-tasks .now) (c .before .loop .index) 0
 
 abbrev end : tie.In-loop Inv-loop μ-loop → ℕ
 end c = getD (c .before .before .args .lct .now) (task c) 0
@@ -55,13 +55,13 @@ loop-holds : tie.Need-loop-holds Inv-loop μ-loop
 loop-holds c = let s = c .pre in record { begun = s; level = λ s. first-level s; small = first-level s .small; starts-length = refl; posts-length = refl; atoms-length = refl }
 
 mul-lct-j : tie.Need-mul-lct-j Inv-loop μ-loop
-mul-lct-j c = let l = c .before .before .loop in omega (arith, candidate-small (l .inv .begun) (l .index) (l .inv .small))
+mul-lct-j c = let l = c .before .before .loop in omega (arith, sorted-task-small (l .inv .begun) (l .index) (l .inv .small))
 
 -- the test of the level, by the tree of whatever it began with
 abbrev Test : tie.In-loop Inv-loop μ-loop → Bool → Type 0
 Test c u = let a = c .before .before .args in let l = c .before .loop in
-    (s : Begun (a .n) (a .inner) (a .height) (a .nodes .now) (a .earliest .now) (a .posts .now) (a .atoms .now) (a .est .now) (a .lst .now) (a .lct .now) (a .durations .now) (a .tasks .now)
-    (a .candidates .now) (a .mapping .now))
+    (s : Begun (a .n) (a .inner) (a .height) (a .nodes .now) (a .earliest .now) (a .posts .now) (a .atoms .now) (a .est .now) (a .lst .now) (a .lct .now) (a .durations .now) (a .reverse-mapping .now)
+    (a .sorted-tasks .now) (a .mapping .now))
     → exceeds (ect s (l .inv .level s) (more c)) (end c) ≡ u
 
 passes : (c : tie.Then1 Inv-loop μ-loop) → Test (entered (c .before)) true
@@ -97,7 +97,7 @@ add-changes c =
     omega (arith, few-changes (v .begun) (v .level (v .begun)) (more level))
 
 mul-lct-next-2 : tie.Need-mul-lct-next-2 Inv-loop μ-loop
-mul-lct-next-2 c = let level = level-of (c .before .before) in omega (arith, candidate-small (level .before .loop .inv .begun) (level .before .loop .index + 1) (more level))
+mul-lct-next-2 c = let level = level-of (c .before .before) in omega (arith, sorted-task-small (level .before .loop .inv .begun) (level .before .loop .index + 1) (more level))
 
 consider-all-requires : tie.Need-consider-all-requires Inv-loop μ-loop
 consider-all-requires c κs =
@@ -150,8 +150,8 @@ edge-finding-spec =
     tie.close
     (tie.spec
     Inv-loop μ-loop loop-holds (λ c. search needs) (λ c. search needs) (λ c. search needs) mul-lct-j
-    (λ c. search (needs, candidate-small)) (λ c κs. search needs) overload-requires (λ c. search needs)
+    (λ c. search (needs, sorted-task-small)) (λ c κs. search needs) overload-requires (λ c. search needs)
     (λ c. search needs) (λ c. search needs) returns move-to-lambda-requires add-changes (λ c. search needs)
-    (λ c. search needs) (λ c. search needs) mul-lct-next-2 (λ c. search (needs, candidate-small)) consider-all-requires
+    (λ c. search needs) (λ c. search needs) mul-lct-next-2 (λ c. search (needs, sorted-task-small)) consider-all-requires
     (λ c. search needs) (λ c. search needs) loop-again (λ c. search needs) same-length-4 same-length-5 same-length-6
     returns-2 (λ c. search needs) (λ c. search needs) (λ c. search needs) returns-3)

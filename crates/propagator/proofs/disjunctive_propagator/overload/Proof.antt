@@ -16,10 +16,10 @@ use Rattle.propagator.proofs.disjunctive_propagator.overload.Tie as tie
 
 -- what is asked, with the sum that the tree answered
 given : (c : tie.After-sum-of-processing-times)
-    → let a = c .before .args in Overloaded (length (a .atoms .now)) (a .written .atoms) (thetaIn (a .nodes .now) (a .inner) (a .tasks .now) (a .n)) (a .est .now) (a .durations .now)
+    → let a = c .before .args in Overloaded (length (a .atoms .now)) (a .written .atoms) (thetaIn (a .nodes .now) (a .inner) (a .reverse-mapping .now) (a .n)) (a .est .now) (a .durations .now)
     (c .sum-of-processing-times .result) (a .lct)
 given c = let a = c .before .args in
-    subst (λ (p : ℕ). Overloaded (length (a .atoms .now)) (a .written .atoms) (thetaIn (a .nodes .now) (a .inner) (a .tasks .now) (a .n)) (a .est .now) (a .durations .now) p (a .lct))
+    subst (λ (p : ℕ). Overloaded (length (a .atoms .now)) (a .written .atoms) (thetaIn (a .nodes .now) (a .inner) (a .reverse-mapping .now) (a .n)) (a .est .now) (a .durations .now) p (a .lct))
     (sym (c .sum-of-processing-times .ensures (a .inner) (c .before .pre .0))) (c .before .pre .1)
 
 abbrev sums : tie.After-create-conflict-explanation → tie.After-sum-of-processing-times
@@ -35,7 +35,7 @@ returns c = λ h.
     let a = s .before .args in
     subst (λ (p : ℕ). Conflicted (a .atoms .now) (made .create-conflict-explanation .last .0) (a .written)
     (outcome.Overload (a .written .posts) (a .written .atoms) (made .create-conflict-explanation .result - a .written .atoms))
-    (conflict zeroAt (starting (a .est .now) (a .durations .now)) (a .lct) p (thetaIn (a .nodes .now) (a .inner) (a .tasks .now) (a .n))))
+    (conflict zeroAt (starting (a .est .now) (a .durations .now)) (a .lct) p (thetaIn (a .nodes .now) (a .inner) (a .reverse-mapping .now) (a .n))))
     (s .sum-of-processing-times .ensures (a .inner) h)
     (conflict-done (made .create-conflict-explanation .ensures) refl)
 

@@ -20,14 +20,14 @@ long c = search needs
 abbrev places : tie.After-new → tie.After-leaf-places
 places c = c .before
 
-abbrev candidates : tie.After-new → tie.After-sort-numbers-down
-candidates c = places c .before .before .before
+abbrev sortedTasks : tie.After-new → tie.After-sort-numbers-down
+sortedTasks c = places c .before .before .before
 
-abbrev tasks : tie.After-new → tie.After-sort-numbers
-tasks c = candidates c .before .before .before
+abbrev reverseMapping : tie.After-new → tie.After-sort-numbers
+reverseMapping c = sortedTasks c .before .before .before
 
 abbrev lct : tie.After-new → tie.After-completions
-lct c = tasks c .before .before .before
+lct c = reverseMapping c .before .before .before
 
 abbrev lst : tie.After-new → tie.After-moments-of2
 lst c = lct c .before .before .before .before .before
@@ -40,25 +40,25 @@ start c = est c .before .before .before
 
 -- the tree of no task can be filled,
 abbrev can-fill : (c : tie.After-new) → let a = start c .args in
-    Fillable (c .new .result .«number_of_internal_nodes») (a .t1 .count) (c .new .result .nodes) (tasks c .sort-numbers .last .0) (est c .moments-of .last .0) (a .t1 .durations)
+    Fillable (c .new .result .«number_of_internal_nodes») (a .t1 .count) (c .new .result .nodes) (reverseMapping c .sort-numbers .last .0) (est c .moments-of .last .0) (a .t1 .durations)
 can-fill c =
     let s = start c in
     let a = s .args in
     fillable (a .t1) (a .earliest .now) (a .latest .now) (length (a .posts .now)) (length (a .atoms .now)) (s .pre) (long s) (est c .moments-of .ensures) (lst c .moments-of2 .ensures)
     (lct c .completions .ensures)
-    (tasks c .sort-numbers .ensures) (candidates c .sort-numbers-down .ensures) (c .new .ensures) (places c .leaf-places .ensures .0)
+    (reverseMapping c .sort-numbers .ensures) (sortedTasks c .sort-numbers-down .ensures) (c .new .ensures) (places c .leaf-places .ensures .0)
 
 -- and that of all tasks is what edge finding begins with
 abbrev can-begin : (c : tie.After-new) (words : List ℕ) → let a = start c .args in
-    Filled (c .new .result .«number_of_internal_nodes») (a .t1 .count) (c .new .result .nodes) words (tasks c .sort-numbers .last .0) (est c .moments-of .last .0) (a .t1 .durations)
+    Filled (c .new .result .«number_of_internal_nodes») (a .t1 .count) (c .new .result .nodes) words (reverseMapping c .sort-numbers .last .0) (est c .moments-of .last .0) (a .t1 .durations)
     → Begun (a .t1 .count) (c .new .result .«number_of_internal_nodes») (c .new .result .height) words (a .earliest .now) (a .posts .now) (a .atoms .now) (est c .moments-of .last .0)
-    (lst c .moments-of2 .last .0) (lct c .completions .last .0) (a .t1 .durations) (tasks c .sort-numbers .last .0) (candidates c .sort-numbers-down .last .0) (places c .leaf-places .last .0)
+    (lst c .moments-of2 .last .0) (lct c .completions .last .0) (a .t1 .durations) (reverseMapping c .sort-numbers .last .0) (sortedTasks c .sort-numbers-down .last .0) (places c .leaf-places .last .0)
 can-begin c words filled =
     let s = start c in
     let a = s .args in
     begun (a .t1) (a .earliest .now) (a .latest .now) (length (a .posts .now)) (length (a .atoms .now)) (s .pre) (long s) (est c .moments-of .ensures) (lst c .moments-of2 .ensures)
     (lct c .completions .ensures)
-    (tasks c .sort-numbers .ensures) (candidates c .sort-numbers-down .ensures) (c .new .ensures) (places c .leaf-places .ensures .0) (filled (can-fill c)) refl refl
+    (reverseMapping c .sort-numbers .ensures) (sortedTasks c .sort-numbers-down .ensures) (c .new .ensures) (places c .leaf-places .ensures .0) (filled (can-fill c)) refl refl
 
 completions-requires : tie.Need-completions-requires
 completions-requires c κs =
@@ -104,7 +104,7 @@ returns c =
     let a = s .args in
     left (a .t1) (a .earliest .now) (a .latest .now) (length (a .posts .now)) (length (a .atoms .now)) (s .pre) (long s) (est u .moments-of .ensures) (lst u .moments-of2 .ensures)
     (lct u .completions .ensures)
-    (tasks u .sort-numbers .ensures) (candidates u .sort-numbers-down .ensures) refl refl (c .before .before .before .edge-finding .ensures (can-begin u _ (full .fill .ensures)))
+    (reverseMapping u .sort-numbers .ensures) (sortedTasks u .sort-numbers-down .ensures) refl refl (c .before .before .before .edge-finding .ensures (can-begin u _ (full .fill .ensures)))
 
 pub run-accepted-spec : {M : Type 1} → statement M
 run-accepted-spec =
