@@ -2,20 +2,21 @@
 use mathlib.Core.Path.{_≡_, refl, sym, ap, subst, _∙_}
 use mathlib.Core.List.{List, [], _∷_, _++_, map}
 use mathlib.Core.Bool.{true, false}
+use mathlib.Core.Logic.{_⊎_, inl, inr}
 use mathlib.Core.Option.{some}
 use Prim.Native.Nat.{ℕ, suc, _+_, _*_, _≤_, _<_}
 use native.Mathlib.Nat.{mul-le-mul, mul-le-mul-right, mul-left-comm}
 use native.Mathlib.Omega.{arith}
 use lib.IntN.{ℤ, pos}
 use lib.ListN.{length, getD, set, length-append, length-map}
-use lib.Seq.{sets, length-sets}
+use lib.Seq.{sets, length-sets, set-getD}
 use borrow.Author.Tests.{lt-ltb, le-ltb}
 use Rattle.integers.specs.Limits.{TASKS, ATOMS, INNER}
 use Rattle.integers.specs.Moments.{instant, zeroAt}
 use Rattle.integers.specs.Orders.{index}
 use Rattle.scheduling.specs.Scheduling.{natural, Tasks, TaskSet, Atom, completion}
 use Rattle.trees.specs.Ects.{exceeds, raisedTo}
-use Rattle.trees.proofs.Ects.{raised-some, within-bound}
+use Rattle.trees.proofs.Ects.{raised-some, within-bound, raised-least}
 use Rattle.trees.specs.Leaves as leaves
 use Rattle.trees.specs.Leaves.{Leaf, empty}
 use Rattle.trees.specs.ArraySearches.{thetaIn}
@@ -41,13 +42,9 @@ use Rattle.explanations.proofs.ExplanationAtoms.{Alike, propagation-same}
 use Rattle.propagator.specs.declared.disjunctive_propagator.Written.{Written}
 use Rattle.propagator.specs.declared.disjunctive_propagator.Turn.the-variants as turn
 use Rattle.propagator.specs.RunArrays.{Ordered, Holds}
-use Rattle.propagator.specs.Candidates.{reasonOf, Posted, Standing, AtNow, Considered, Responsible-for}
+use Rattle.propagator.specs.Candidates.{counted, reasonOf, Posted, Standing, AtNow, Considered, Responsible-for}
 use Rattle.propagator.proofs.ExplanationInput as meeting
 use Rattle.integers.proofs.Lists.{map-set}
-
--- one leaf change more
-abbrev pub one-change : Written → Written
-one-change w = record { posts = w .posts; atoms = w .atoms; changes = w .changes + 1 }
 
 -- what is asked of, and said by, an explanation, with other names for the same values
 preceded-at : {size k : ℕ} {est durations θ θ′ : List ℕ} {p c c′ i i′ b : ℕ} → θ ≡ θ′ → c ≡ c′ → i ≡ i′ → Preceded size k θ′ est durations p c′ i′ b → Preceded size k θ est durations p c i b
@@ -286,7 +283,7 @@ module _ {n inn height lct : ℕ} {words : List ℕ} {es ps as′ : List ℤ} {w
           )
 
           pub raised-on : {k : ℕ} {words′ : List ℕ} {es′ : List ℤ} → b ≤ getD lst i 0 → es′ ≡ set es i (instant zeroAt b) → k ≡ getD mapping i 0 → Cleared k words′
-              → Considered s (turn.On (one-change w′)) words′ es′ ps′ bs
+              → Considered s (turn.On (counted w′ 1)) words′ es′ ps′ bs
           raised-on {words′ = words′} {es′} low e at-leaf q = (
             next,
             at-next,
@@ -296,7 +293,7 @@ module _ {n inn height lct : ℕ} {words : List ℕ} {es ps as′ : List ℤ} {w
               next : State
               next = dropped (raised after (T x) b) x
 
-              at-next : AtNow s next words′ es′ ps′ bs (one-change w′)
+              at-next : AtNow s next words′ es′ ps′ bs (counted w′ 1)
               at-next = record {
                 tree = cleared words′ at-leaf q;
                 starts = starts-at (s .st .starts) b (s .at .starts) (r .task) e;
@@ -308,7 +305,7 @@ module _ {n inn height lct : ℕ} {words : List ℕ} {es ps as′ : List ℤ} {w
               }
 
       -- no post
-      pub passed-on : {k : ℕ} {words′ : List ℕ} → b ≤ getD est i 0 → k ≡ getD mapping i 0 → Cleared k words′ → Considered s (turn.On (one-change w)) words′ es ps as′
+      pub passed-on : {k : ℕ} {words′ : List ℕ} → b ≤ getD est i 0 → k ≡ getD mapping i 0 → Cleared k words′ → Considered s (turn.On (counted w 1)) words′ es ps as′
       passed-on {words′ = words′} low at-leaf q = (
         dropped (s .st) x,
         record {
@@ -325,3 +322,37 @@ module _ {n inn height lct : ℕ} {words : List ℕ} {es ps as′ : List ℤ} {w
         where
           still : exceeds (leaves.ect J estOrder ls) (J .earliest (T x)) ≡ false
           still = subst (λ (e : ℕ). exceeds (leaves.ect J estOrder ls) e ≡ false) task-start (within-bound (getD est i 0) (getD est i 0) (leaves.ect J estOrder ls) (omega (arith, low, is)))
+
+      -- what the test for a post leaves: a post, or nothing new where the bound is not above the start
+      abbrev pub Tried : List ℤ → List ℤ → Written → Type 0
+      Tried ps′ bs w′ = ((getD est i 0 < b) × Posted ps as′ ps′ bs w w′ i b (reasonOf shown reverseMapping n est durations i b lct))
+          ⊎ ((b ≤ getD est i 0) × (ps′ ≡ ps) × (bs ≡ as′) × (w′ ≡ w))
+
+      module _ {ps′ bs : List ℤ} {w′ : Written} where
+        pub tried-sizes : Tried ps′ bs w′ → (length ps′ ≡ length ps) × (length bs ≡ length as′)
+        tried-sizes (inl (up, p)) = let reason = reasonOf shown reverseMapping n est durations i b lct in (
+          ap length (p .post-words) ∙ length-sets ps (4 * w .posts) (pos i ∷ instant zeroAt b ∷ pos (w .atoms) ∷ pos (length reason) ∷ []),
+          ap length (p .atom-words) ∙ length-sets as′ (3 * w .atoms) (atomWords reason),
+        )
+        tried-sizes (inr (low, e, f, g)) = (ap length e, ap length f)
+
+        pub tried-changes : Tried ps′ bs w′ → w′ .changes ≡ w .changes
+        tried-changes (inl (up, p)) = p .changes
+        tried-changes (inr (low, e, f, g)) = ap (λ (w : Written). w .changes) g
+
+        -- a bound above the latest start was posted
+        pub tried-emptied : Tried ps′ bs w′ → getD lst i 0 < b → Considered s (turn.Emptied w′) words es ps′ bs
+        tried-emptied (inl (up, p)) high = emptied up p high
+        tried-emptied (inr (low, e, f, g)) high = absurd (omega (arith, low, high, task-start, task-latest, G .proper .ranges (T x) (found .gray .small)))
+
+        -- a start that is not raised is written as it was
+        pub tried-on : {k : ℕ} {words′ : List ℕ} {es′ : List ℤ} → Tried ps′ bs w′ → b ≤ getD lst i 0 → es′ ≡ set es i (instant zeroAt b) → k ≡ getD mapping i 0 → Cleared k words′
+            → Considered s (turn.On (counted w′ 1)) words′ es′ ps′ bs
+        tried-on (inl (up, p)) fits e at-leaf q = raised-on up p fits e at-leaf q
+        tried-on {words′ = words′} (inr (low, f, g, h)) fits e at-leaf q = rw (e ∙ same, f, g, h) (passed-on low at-leaf q)
+          where
+            same-start : b ≡ getD (s .st .starts) i 0
+            same-start = omega (arith, low, is, raised-least (getD est i 0) (leaves.ect J estOrder ls), task-start, ap (λ (k : ℕ). getD (s .st .starts) k 0) (r .task), inv .facts .same-in (T x) (found .gray))
+
+            same : set es i (instant zeroAt b) ≡ es
+            same = rw (s .at .starts, same-start) (sym (map-set (instant zeroAt) (s .st .starts) i (getD (s .st .starts) i 0)) ∙ ap (map (instant zeroAt)) (set-getD (s .st .starts) i 0))

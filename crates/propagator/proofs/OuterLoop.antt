@@ -30,10 +30,10 @@ use Rattle.propagator.specs.declared.disjunctive_propagator.Turn as code
 use Rattle.propagator.specs.declared.disjunctive_propagator.Turn.the-variants as turn
 use Rattle.propagator.specs.declared.disjunctive_propagator.Written.{Written}
 use Rattle.propagator.specs.RunArrays.{Ordered, At}
-use Rattle.propagator.specs.Candidates.{Standing, AllConsidered}
+use Rattle.propagator.specs.Candidates.{nothingWritten, counted, Standing, AllConsidered}
 use Rattle.propagator.proofs.ConsideredTask as considering
-use Rattle.runs.specs.declared.outcome.Outcome.{Outcome}
 use Rattle.runs.specs.declared.outcome.Outcome.the-variants as outcome
+use Rattle.runs.specs.declared.outcome.Finished.{Finished}
 use Rattle.propagator.specs.MovedToLambda.{Movable, Moved}
 use Rattle.runs.specs.Outcomes.{outcomeNumbers}
 use Rattle.runs.specs.EndNumbers.{endNumbers, traceNumbers}
@@ -75,7 +75,7 @@ module _ {n inn height : ℕ} {words : List ℕ} {es ps as′ : List ℤ} {est l
   pub sorted-task-small : (t : ℕ) → t < n → getD sortedTasks t 0 < TASKS
   sorted-task-small t q = omega (arith, s .order .at t q, G .by-completion .task t (omega (arith, q, s .arrays .count)), G .limited .count)
 
-  pub first-level : Level 0 words es ps as′ (record { posts = 0; atoms = 0; changes = n })
+  pub first-level : Level 0 words es ps as′ (nothingWritten n)
   first-level = record {
     st = allWhite J;
     small = omega (arith, G .some, s .arrays .count);
@@ -90,11 +90,12 @@ module _ {n inn height : ℕ} {words : List ℕ} {es ps as′ : List ℤ} {est l
   -- how the run ends from a state
   module _ (st : State) (end : End) (is : whole ≡ ended zeroAt J estOrder lctOrder st end) {words′ : List ℕ} {es′ ps′ bs : List ℤ} {w′ : Written}
       (a : At J estOrder ps as′ st inn words′ es′ ps′ bs (w′ .posts) (w′ .atoms) (w′ .changes)) where
-    ends : {r : Outcome} {bs′ : List ℤ} → outcomeNumbers r ≡ endNumbers (length (st .posts)) (length (reasons (st .posts))) end → bs′ ≡ sets as′ 0 (atomWords (reasons (st .posts) ++ endReason end))
-        → Ended J estOrder lctOrder ps as′ r (w′ .changes) es′ ps′ bs′
-    ends y z = record {
+    ends : {r : Finished} {bs′ : List ℤ} → outcomeNumbers (r .outcome) ≡ endNumbers (length (st .posts)) (length (reasons (st .posts))) end → r .changes ≡ w′ .changes
+        → bs′ ≡ sets as′ 0 (atomWords (reasons (st .posts) ++ endReason end))
+        → Ended J estOrder lctOrder ps as′ (r .outcome) (r .changes) es′ ps′ bs′
+    ends y x z = record {
       answer = y ∙ sym (ap traceNumbers is);
-      changes = a .counted ∙ sym (ap (λ (t : Trace). t .changes) is);
+      changes = x ∙ a .counted ∙ sym (ap (λ (t : Trace). t .changes) is);
       starts = a .starts ∙ sym (ap (λ (t : Trace). t .starts) is);
       posts = a .posts ∙ sym (ap (λ (t : Trace). sets ps 0 (postWords 0 (t .posts))) is);
       atoms = z ∙ sym (ap (λ (t : Trace). sets as′ 0 (atomWords (reasons (t .posts) ++ endReason (t .end)))) is);
@@ -106,8 +107,8 @@ module _ {n inn height : ℕ} {words : List ℕ} {es ps as′ : List ℤ} {est l
 
   module _ {t : ℕ} {words′ : List ℕ} {es′ ps′ bs : List ℤ} {w′ : Written} (v : Level t words′ es′ ps′ bs w′) where
     -- all levels are done
-    pub all-done : n ≤ t + 1 → Ended J estOrder lctOrder ps as′ (outcome.Done (w′ .posts)) (w′ .changes) es′ ps′ bs
-    all-done q = ends (v .st) done is (v .at) (ap (λ (k : ℕ). outcomeNumbers (outcome.Done k)) (v .at .posted)) (no-more (v .st) done is (v .at) refl)
+    pub all-done : {r : Finished} → n ≤ t + 1 → (r .outcome ≡ outcome.Done (w′ .posts)) × (r .changes ≡ w′ .changes) → Ended J estOrder lctOrder ps as′ (r .outcome) (r .changes) es′ ps′ bs
+    all-done q f = ends (v .st) done is (v .at) (ap outcomeNumbers (f .0) ∙ ap (λ (k : ℕ). outcomeNumbers (outcome.Done k)) (v .at .posted)) (f .1) (no-more (v .st) done is (v .at) refl)
       where
         none : n - 1 - t ≡ 0
         none = omega arith
@@ -179,8 +180,8 @@ module _ {n inn height : ℕ} {words : List ℕ} {es ps as′ : List ℤ} {est l
       pub over-inner : inn ≤ INNER
       over-inner = considering.inner-few here
 
-      pub overloads : {r : Outcome} {bs′ : List ℤ} → exceeds ect c ≡ true → Conflicted bs bs′ w′ r (conflictOf shown reverseMapping n est durations c) → Ended J estOrder lctOrder ps as′ r (w′ .changes) es′ ps′ bs′
-      overloads {r} {bs′} q k = ends (v .st) (overload reason) is (v .at) answer words-are
+      pub overloads : {r : Finished} {bs′ : List ℤ} → exceeds ect c ≡ true → Conflicted bs bs′ w′ r (conflictOf shown reverseMapping n est durations c) → Ended J estOrder lctOrder ps as′ (r .outcome) (r .changes) es′ ps′ bs′
+      overloads {r} {bs′} q k = ends (v .st) (overload reason) is (v .at) answer (k .changes) words-are
         where
           reason : List Atom
           reason = conflict zeroAt J end (leaves.sum J estOrder (v .st .leaves)) (leaves.theta J estOrder (v .st .leaves))
@@ -191,7 +192,7 @@ module _ {n inn height : ℕ} {words : List ℕ} {es ps as′ : List ℤ} {est l
           is : whole ≡ ended zeroAt J estOrder lctOrder (v .st) (overload reason)
           is = v .rest ∙ ap (λ (f : ℕ). rest-of f t (v .st)) next ∙ outer-over zeroAt J estOrder lctOrder (n - 1 - suc t) t (v .st) (past-end q)
 
-          answer : outcomeNumbers r ≡ endNumbers (length (v .st .posts)) (length (reasons (v .st .posts))) (overload reason)
+          answer : outcomeNumbers (r .outcome) ≡ endNumbers (length (v .st .posts)) (length (reasons (v .st .posts))) (overload reason)
           answer = ap outcomeNumbers (k .answer ∙ ap (λ (l : List Atom). outcome.Overload (w′ .posts) (w′ .atoms) (length l)) reason-is) ∙ rw (v .at .posted, v .at .explained) refl
 
           words-are : bs′ ≡ sets as′ 0 (atomWords (reasons (v .st .posts) ++ reason))
@@ -201,7 +202,7 @@ module _ {n inn height : ℕ} {words : List ℕ} {es ps as′ : List ℤ} {est l
       abbrev pub moves : Movable inn words′ mapping est durations j
       moves = moving.movable here j j-is
 
-      module _ (quiet : exceeds ect c ≡ false) {words″ : List ℕ} (m : Moved inn words′ words″ mapping est durations j) where
+      module _ (quiet : exceeds ect c ≡ false) {words″ : List ℕ} (m : Moved inn words′ words″ mapping est durations j) {w₁ : Written} (two : w₁ ≡ counted w′ 2) where
         -- the lct of the next level
         abbrev pub d : ℕ
         d = getD lct (getD sortedTasks (t + 1) 0) 0
@@ -218,7 +219,7 @@ module _ {n inn height : ℕ} {words : List ℕ} {es ps as′ : List ℤ} {est l
         still = past-end quiet
 
         -- which the source makes in two leaf changes
-        abbrev pub goes-on : Standing n inn height d words″ es′ ps′ bs (record { posts = w′ .posts; atoms = w′ .atoms; changes = w′ .changes + 2 }) est lst durations reverseMapping mapping
+        abbrev pub goes-on : Standing n inn height d words″ es′ ps′ bs w₁ est lst durations reverseMapping mapping
         goes-on = record {
           J = J;
           estOrder = estOrder;
@@ -240,9 +241,9 @@ module _ {n inn height : ℕ} {words : List ℕ} {es ps as′ : List ℤ} {est l
             starts = v .at .starts;
             posts = v .at .posts;
             atoms = v .at .atoms;
-            posted = v .at .posted;
-            explained = v .at .explained;
-            counted = ap (λ (c : ℕ). c + 2) (v .at .counted);
+            posted = ap (λ (w : Written). w .posts) two ∙ v .at .posted;
+            explained = ap (λ (w : Written). w .atoms) two ∙ v .at .explained;
+            counted = ap (λ (w : Written). w .changes) two ∙ ap (λ (c : ℕ). c + 2) (v .at .counted);
           };
         }
 
@@ -266,9 +267,9 @@ module _ {n inn height : ℕ} {words : List ℕ} {es ps as′ : List ℤ} {est l
             })
 
         -- or a post emptied a range
-        pub one-emptied : (words‴ : List ℕ) {es″ ps″ bs′ : List ℤ} {w″ : Written} {u : code.Turn} → u ≡ turn.Emptied w″ → AllConsidered goes-on u words‴ es″ ps″ bs′
-            → Ended J estOrder lctOrder ps as′ (outcome.Emptied (w″ .posts)) (w″ .changes) es″ ps″ bs′
-        one-emptied words‴ {es″} {ps″} {bs′} {w″} is all =
+        pub one-emptied : (words‴ : List ℕ) {es″ ps″ bs′ : List ℤ} {w″ : Written} {u : code.Turn} {r : Finished} → u ≡ turn.Emptied w″ → AllConsidered goes-on u words‴ es″ ps″ bs′
+            → (r .outcome ≡ outcome.Emptied (w″ .posts)) × (r .changes ≡ w″ .changes) → Ended J estOrder lctOrder ps as′ (r .outcome) (r .changes) es″ ps″ bs′
+        one-emptied words‴ {es″} {ps″} {bs′} {w″} is all f =
             let (st′, a, z) = rw is at all in
             let stops : whole ≡ ended zeroAt J estOrder lctOrder st′ emptied = unfold-level ∙ outer-stop zeroAt J estOrder lctOrder (n - 1 - suc t) t (v .st) st′ still (inner-is z) in
-            ends st′ emptied stops a (ap (λ (k : ℕ). outcomeNumbers (outcome.Emptied k)) (a .posted)) (no-more st′ emptied stops a refl)
+            ends st′ emptied stops a (ap outcomeNumbers (f .0) ∙ ap (λ (k : ℕ). outcomeNumbers (outcome.Emptied k)) (a .posted)) (f .1) (no-more st′ emptied stops a refl)

@@ -29,6 +29,7 @@ use Rattle.propagator.proofs.ConsideredTask.{theta-is, held}
 use Rattle.propagator.proofs.ExplanationInput as meeting
 use Rattle.propagator.proofs.PostWords.{long}
 use Rattle.runs.specs.declared.outcome.Outcome.the-variants as outcome
+use Rattle.runs.specs.declared.outcome.Finished.{Finished}
 use Rattle.propagator.specs.EdgeFinding.{conflictOf, Conflicted}
 
 -- what is asked of, and said by, an explanation, with other names for the same values
@@ -87,8 +88,9 @@ module _ {n inn height lct : ℕ} {words : List ℕ} {es ps as′ : List ℤ} {w
 
 -- the words of a reason that stands where the explanation has written it
 module _ {as′ bs : List ℤ} {k end : ℕ} {reason : List Atom} (s : Stored as′ bs k end reason) where
-  pub conflict-done : {w : Written} → w .atoms ≡ k → Conflicted as′ bs w (outcome.Overload (w .posts) k (end - k)) reason
-  conflict-done {w} z = record {
+  pub conflict-done : {w : Written} {r : Finished} → w .atoms ≡ k → (r .outcome ≡ outcome.Overload (w .posts) k (end - k)) × (r .changes ≡ w .changes) → Conflicted as′ bs w r reason
+  conflict-done {w} z f = record {
     atom-words = s .words ∙ ap (λ (n : ℕ). sets as′ (3 * n) (atomWords reason)) (sym z);
-    answer = ap (outcome.Overload (w .posts) k) (long s) ∙ ap (λ (a : ℕ). outcome.Overload (w .posts) a (length reason)) (sym z);
+    answer = f .0 ∙ ap (outcome.Overload (w .posts) k) (long s) ∙ ap (λ (a : ℕ). outcome.Overload (w .posts) a (length reason)) (sym z);
+    changes = f .1;
   }

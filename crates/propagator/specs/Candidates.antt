@@ -24,6 +24,14 @@ use Rattle.propagator.specs.declared.disjunctive_propagator.Turn as code
 use Rattle.propagator.specs.declared.disjunctive_propagator.Turn.the-variants as turn
 use Rattle.propagator.specs.RunArrays.{Ordered, Holds, Arrays, At}
 
+-- nothing is written, and some leaves have changed
+abbrev pub nothingWritten : ℕ → Written
+nothingWritten n = record { posts = 0; atoms = 0; changes = n }
+
+-- with more leaf changes
+abbrev pub counted : Written → ℕ → Written
+counted w more = record { posts = w .posts; atoms = w .atoms; changes = w .changes + more }
+
 -- the task to consider next, by ect_bar and the responsible leaf: none where ect_bar is not past lct
 unfoldable pub candidateOf : List ℕ → ℕ → Option ℕ → Option ℕ → Responsible
 candidateOf reverseMapping lct ect-bar found = elim (exceeds ect-bar lct) [ true ↦ responsibleOf reverseMapping found | false ↦ responsible.Nothing ]

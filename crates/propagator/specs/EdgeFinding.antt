@@ -20,15 +20,17 @@ use Rattle.propagator.specs.declared.disjunctive_propagator.Written.{Wri
 use Rattle.propagator.specs.RunArrays.{Ordered, Holds, Arrays, At}
 use Rattle.runs.specs.declared.outcome.Outcome.{Outcome}
 use Rattle.runs.specs.declared.outcome.Outcome.the-variants as outcome
+use Rattle.runs.specs.declared.outcome.Finished.{Finished}
 
 -- the reason of an overload, by the tree and the arrays
 abbrev pub conflictOf : {inner : ℕ} {words : List ℕ} → Held inner words → List ℕ → ℕ → List ℕ → List ℕ → ℕ → List Atom
 conflictOf {inner} {words} h reverseMapping n est durations lct = conflict zeroAt (starting est durations) lct (sum (h .J) (h .estOrder) (h .leaves)) (thetaIn words inner reverseMapping n)
 
 -- it stands after the atoms written so far
-pub record Conflicted (as′ bs : List ℤ) (w : Written) (r : Outcome) (reason : List Atom) : Type 0 where
+pub record Conflicted (as′ bs : List ℤ) (w : Written) (r : Finished) (reason : List Atom) : Type 0 where
   pub atom-words : bs ≡ sets as′ (3 * w .atoms) (atomWords reason)
-  pub answer : r ≡ outcome.Overload (w .posts) (w .atoms) (length reason)
+  pub answer : r .outcome ≡ outcome.Overload (w .posts) (w .atoms) (length reason)
+  pub changes : r .changes ≡ w .changes
 
 -- What edge finding is given: the tasks in both orders, the arrays that hold them, room for posts and reasons, and the tree of all tasks.
 pub record Begun (n inner height : ℕ) (words : List ℕ) (es ps as′ : List ℤ) (est lst lct durations reverseMapping sortedTasks mapping : List ℕ) : Type 0 where

@@ -23,7 +23,8 @@ use trees::theta_lambda_tree::Responsible;
 use trees::theta_lambda_tree::ThetaLambdaTree;
 ghost use lib.ListN.{length};
 ghost use Rattle.propagator.specs.Ran.{Runnable, Left, Ran};
-ghost use Prim.Native.Nat.{_≤_, ℕ, _+_, _*_};
+ghost use mathlib.Core.Path.{_≡_};
+ghost use Prim.Native.Nat.{_≤_, _<_, ℕ, _+_, _*_, _^_};
 ghost use Rattle.integers.specs.Limits.{TASKS, INNER, ATOMS};
 ghost use Rattle.trees.specs.Ects.{exceeds, raisedTo};
 ghost use Rattle.trees.specs.Leaves.{ect, sum};
@@ -33,7 +34,7 @@ ghost use Rattle.explanations.specs.Explanations.{Overloaded, Preceded};
 ghost use Rattle.propagator.specs.FilledTheta.{Fillable, Filled};
 ghost use Rattle.propagator.specs.EdgeFinding.{Conflicted, conflictOf, Begun, Ended};
 ghost use Rattle.propagator.specs.MovedToLambda.{Movable, Moved};
-ghost use Rattle.propagator.specs.Candidates.{Proposes, reasonOf, Posted, Standing, Considered, AllConsidered, Responsible-for};
+ghost use Rattle.propagator.specs.Candidates.{nothingWritten, counted, Proposes, reasonOf, Posted, Standing, Considered, AllConsidered, Responsible-for};
 
 // What a run hands back: the record, how the run ended, and its leaf changes.
 pub struct Run {
@@ -42,7 +43,45 @@ pub struct Run {
     pub changes: usize,
 }
 
-// The core of a run, for this pass and the mirrored one. It is public for the crate of the other pass, and not an open call: it tests nothing.
+// A run on the record and the ranges, told whether their bars fit. It hands back the record, which no run changes.
+pub fn propagate(
+    record: DisjunctivePropagator,
+    earliest: &mut [i32],
+    latest: &[i32],
+    bars_fit: bool,
+    posts: &mut [i32],
+    atoms: &mut [i32],
+) -> Run
+    ensures { λ r. ⌜ Ran «record» (now (earliest .entry)) (now (latest .entry)) «bars_fit» (now (posts .entry)) (now (atoms .entry)) r (now (earliest .exit))
+        (now (posts .exit)) (now (atoms .exit)) ⌝ }
+{
+    let number = run_refusal(
+        record.count,
+        &record.durations,
+        record.total,
+        earliest,
+        latest,
+        bars_fit,
+        posts.len(),
+        atoms.len(),
+    );
+    if number != 0 {
+        return Run {
+            record,
+            outcome: Outcome::Refused(number),
+            changes: 0,
+        };
+    }
+    let finished = run_accepted(record, earliest, latest, posts, atoms);
+    let outcome = finished.outcome;
+    Run {
+        record,
+        outcome,
+        changes: finished.changes,
+    }
+}
+
+// The core of a run, for this pass and the mirrored one. It tests nothing, so it is not an open call.
 pub fn run_accepted(
     record: DisjunctivePropagator,
     earliest: &mut [i32],
@@ -96,114 +135,9 @@ pub fn run_accepted(
     )
 }
 
-// A run on the record and the ranges, told whether their bars fit. It hands back the record, which no run changes.
-pub fn propagate(
-    record: DisjunctivePropagator,
-    earliest: &mut [i32],
-    latest: &[i32],
-    bars_fit: bool,
-    posts: &mut [i32],
-    atoms: &mut [i32],
-) -> Run
-    ensures { λ r. ⌜ Ran «record» (now (earliest .entry)) (now (latest .entry)) «bars_fit» (now (posts .entry)) (now (atoms .entry)) r (now (earliest .exit))
-        (now (posts .exit)) (now (atoms .exit)) ⌝ }
-{
-    let number = run_refusal(
-        record.count,
-        &record.durations,
-        record.total,
-        earliest,
-        latest,
-        bars_fit,
-        posts.len(),
-        atoms.len(),
-    );
-    if number != 0 {
-        return Run {
-            record,
-            outcome: Outcome::Refused(number),
-            changes: 0,
-        };
-    }
-    let finished = run_accepted(record, earliest, latest, posts, atoms);
-    let outcome = finished.outcome;
-    Run {
-        record,
-        outcome,
-        changes: finished.changes,
-    }
-}
-
-// The reason of an overload, after the atoms written so far.
-fn overload<'a>(
-    atoms: &mut [i32],
-    written: Written,
-    nodes: &'a [u32; TREEWORDS],
-    reverse_mapping: &'a [usize; TASKS],
-    est: &'a [u32; TASKS],
-    durations: &'a [u32; TASKS],
-    inner: usize,
-    n: usize,
-    lct: u32,
-) -> Outcome
-    requires { ⌜ ((h : Held inner (now nodes))
-        × (Overloaded (length (now atoms)) (written .atoms) (thetaIn (now nodes) inner (now «reverse_mapping») n) (now est) (now durations)
-        (sum (h .J) (h .estOrder) (h .leaves)) lct) × (n ≤ TASKS) × (inner ≤ INNER)) ⌝ }
-    ensures { λ r. ⌜ ((h : Held inner (now (nodes .entry)))
-        → Conflicted (now (atoms .entry)) (now (atoms .exit)) written r (conflictOf h (now («reverse_mapping» .entry)) n (now (est .entry)) (now (durations .entry)) lct)) ⌝ }
-{
-    let p = ThetaLambdaTree::sum_of_processing_times(nodes);
-    let at = written.atoms;
-    let end = create_conflict_explanation(
-        atoms,
-        at,
-        nodes,
-        reverse_mapping,
-        inner,
-        n,
-        est,
-        durations,
-        p,
-        lct,
-    );
-    Outcome::Overload {
-        posts: written.posts,
-        first: at,
-        count: end - at,
-    }
-}
-
-// Moves task j from Theta to Lambda. The source empties its leaf first; the gray leaf goes over the white one here, which leaves the same tree.
-fn move_to_lambda<'a>(
-    nodes: &mut [u32; TREEWORDS],
-    inner: usize,
-    mapping: &'a [usize; TASKS],
-    est: &'a [u32; TASKS],
-    durations: &'a [u32; TASKS],
-    j: usize,
-)
-    requires { ⌜ Movable inner (now nodes) (now mapping) (now est) (now durations) j ⌝ }
-    ensures { λ _. ⌜ Moved inner (now (nodes .entry)) (now (nodes .exit)) (now (mapping .entry)) (now (est .entry)) (now (durations .entry)) j ⌝ }
-{
-    let place = leaf_of(mapping, LocalId(j));
-    let task = DisjunctiveTask {
-        start_time: est[j],
-        processing_time: durations[j],
-        id: LocalId(j),
-    };
-    ThetaLambdaTree::add_to_lambda(nodes, inner, place, task);
-}
-
-// Whether Theta overloads: its ect is past the level's lct.
-fn overloads(nodes: &[u32; TREEWORDS], lct: u32) -> bool
-    ensures { λ r. ⌜ Answers (λ J estOrder ls. exceeds (ect J estOrder ls) lct) (now (nodes .entry)) r ⌝ }
-{
-    let ect = ThetaLambdaTree::ect(nodes);
-    ect.exceeds(lct)
-}
-
-// Performs edge finding: the sorted tasks, by falling lct, go from Theta to Lambda, and Lambda is considered after each.
-pub fn edge_finding<'a>(
+// Performs the edge-finding algorithm (see `DisjunctivePropagator` for an intuition and the work on which it is based). Every task is in Theta, the sorted
+// tasks go from there to Lambda one by one, and the tasks of Lambda are considered after each.
+fn edge_finding<'a>(
     nodes: &mut [u32; TREEWORDS],
     earliest: &mut [i32],
     posts: &mut [i32],
@@ -226,17 +160,13 @@ pub fn edge_finding<'a>(
         → Ended (s .J) (s .estOrder) (s .lctOrder) (now (posts .entry)) (now (atoms .entry)) (r .outcome) (r .changes) (now (earliest .exit))
         (now (posts .exit)) (now (atoms .exit))) ⌝ }
 {
-    let mut w = Written {
-        posts: 0,
-        atoms: 0,
-        changes: n,
-    };
+    let mut w = Written::new(n);
     let mut index: usize = 0;
     while index + 1 < n {
         let j = sorted_tasks[index];
         let lct_j = lct[j];
         if overloads(nodes, lct_j) {
-            let outcome = overload(
+            return overload(
                 atoms,
                 w,
                 nodes,
@@ -247,18 +177,9 @@ pub fn edge_finding<'a>(
                 n,
                 lct_j,
             );
-            return Finished {
-                outcome,
-                changes: w.changes,
-            };
         }
         move_to_lambda(nodes, inner, mapping, est, durations, j);
-        let changes = w.changes + 2;
-        let moved = Written {
-            posts: w.posts,
-            atoms: w.atoms,
-            changes,
-        };
+        w = w.counted(2);
         index += 1;
         let lct_next = lct[sorted_tasks[index]];
         let turn = consider_all(
@@ -266,7 +187,7 @@ pub fn edge_finding<'a>(
             earliest,
             posts,
             atoms,
-            moved,
+            w,
             mapping,
             reverse_mapping,
             est,
@@ -278,25 +199,15 @@ pub fn edge_finding<'a>(
             lct_next,
         );
         match turn {
-            Turn::On(x) => {
-                w = x;
-            }
-            Turn::Emptied(x) => {
-                return Finished {
-                    outcome: Outcome::Emptied(x.posts),
-                    changes: x.changes,
-                };
-            }
+            Turn::On(x) => w = x,
+            Turn::Emptied(x) => return x.finished(Outcome::Emptied(x.posts)),
         }
     }
-    Finished {
-        outcome: Outcome::Done(w.posts),
-        changes: w.changes,
-    }
+    w.finished(Outcome::Done(w.posts))
 }
 
 // Puts every task into Theta. The source adds them one by one; here the leaves come first and then each inner node once, which leaves the same tree.
-pub fn fill<'a>(
+fn fill<'a>(
     nodes: &mut [u32; TREEWORDS],
     inner: usize,
     reverse_mapping: &'a [usize; TASKS],
@@ -322,40 +233,16 @@ pub fn fill<'a>(
     ThetaLambdaTree::rebuild(nodes, inner);
 }
 
-// The posts and the atoms written so far, and the leaf changes so far as the source makes them: it empties a leaf before it changes its colour.
-pub struct Written {
-    pub posts: usize,
-    pub atoms: usize,
-    pub changes: usize,
-}
-
-// The tasks of Lambda were considered, or a post emptied a range.
-pub enum Turn {
-    On(Written),
-    Emptied(Written),
-}
-
-// The task to consider next: one of Lambda for which the edge-finding condition holds.
-fn candidate<'a>(
-    nodes: &'a [u32; TREEWORDS],
-    reverse_mapping: &'a [usize; TASKS],
-    inner: usize,
-    height: usize,
-    lct: u32,
-) -> Responsible
-    requires { ⌜ ((h : Held inner (now nodes)) × Tall h height) ⌝ }
-    ensures { λ r. ⌜ Proposes inner height (now (nodes .entry)) (now («reverse_mapping» .entry)) lct r ⌝ }
+// Whether Theta overloads: its ect is past the level's lct.
+fn overloads(nodes: &[u32; TREEWORDS], lct: u32) -> bool
+    ensures { λ r. ⌜ Answers (λ J estOrder ls. exceeds (ect J estOrder ls) lct) (now (nodes .entry)) r ⌝ }
 {
-    let ect_bar = ThetaLambdaTree::ect_bar(nodes);
-    if !ect_bar.exceeds(lct) {
-        return Responsible::Nothing;
-    }
-    ThetaLambdaTree::responsible_ect_bar(nodes, reverse_mapping, inner, height)
+    let ect = ThetaLambdaTree::ect(nodes);
+    ect.exceeds(lct)
 }
 
-// Posts that task i starts at the bound or later, with its reason.
-fn post<'a>(
-    posts: &mut [i32],
+// The end of a run by an overload: its reason stands after the atoms written so far.
+fn overload<'a>(
     atoms: &mut [i32],
     written: Written,
     nodes: &'a [u32; TREEWORDS],
@@ -364,21 +251,17 @@ fn post<'a>(
     durations: &'a [u32; TASKS],
     inner: usize,
     n: usize,
-    i: usize,
-    new_bound: u32,
     lct: u32,
-) -> Written
+) -> Finished
     requires { ⌜ ((h : Held inner (now nodes))
-        × (Preceded (length (now atoms)) (written .atoms) (thetaIn (now nodes) inner (now «reverse_mapping») n) (now est) (now durations)
-        (sum (h .J) (h .estOrder) (h .leaves)) lct i «new_bound»)
-        × (4 * written .posts + 4 ≤ length (now posts)) × (n ≤ TASKS) × (inner ≤ INNER) × (written .atoms ≤ ATOMS)) ⌝ }
+        × (Overloaded (length (now atoms)) (written .atoms) (thetaIn (now nodes) inner (now «reverse_mapping») n) (now est) (now durations)
+        (sum (h .J) (h .estOrder) (h .leaves)) lct) × (n ≤ TASKS) × (inner ≤ INNER)) ⌝ }
     ensures { λ r. ⌜ ((h : Held inner (now (nodes .entry)))
-        → Posted (now (posts .entry)) (now (atoms .entry)) (now (posts .exit)) (now (atoms .exit)) written r i «new_bound»
-        (reasonOf h (now («reverse_mapping» .entry)) n (now (est .entry)) (now (durations .entry)) i «new_bound» lct)) ⌝ }
+        → Conflicted (now (atoms .entry)) (now (atoms .exit)) written r (conflictOf h (now («reverse_mapping» .entry)) n (now (est .entry)) (now (durations .entry)) lct)) ⌝ }
 {
-    let p = ThetaLambdaTree::sum_of_processing_times(nodes);
+    let p_theta = ThetaLambdaTree::sum_of_processing_times(nodes);
     let at = written.atoms;
-    let end = create_propagation_explanation(
+    let end = create_conflict_explanation(
         atoms,
         at,
         nodes,
@@ -387,92 +270,87 @@ fn post<'a>(
         n,
         est,
         durations,
-        p,
-        lct,
-        i,
-        new_bound,
-    );
-    write_post(posts, written.posts, i, new_bound, at, end - at);
-    Written {
-        posts: written.posts + 1,
-        atoms: end,
-        changes: written.changes,
-    }
-}
-
-// A task's earliest start, raised to the ect of Theta where that is later.
-fn raised_start(nodes: &[u32; TREEWORDS], start: u32) -> u32
-    ensures { λ r. ⌜ Answers (λ J estOrder ls. raisedTo start (ect J estOrder ls)) (now (nodes .entry)) r ⌝ }
-{
-    let ect = ThetaLambdaTree::ect(nodes);
-    ect.raised(start)
-}
-
-// Considers task i of Lambda: posts its bound where that is above its earliest start, and takes it out of Lambda.
-fn consider<'a>(
-    nodes: &mut [u32; TREEWORDS],
-    earliest: &mut [i32],
-    posts: &mut [i32],
-    atoms: &mut [i32],
-    written: Written,
-    mapping: &'a [usize; TASKS],
-    reverse_mapping: &'a [usize; TASKS],
-    est: &'a [u32; TASKS],
-    lst: &'a [u32; TASKS],
-    durations: &'a [u32; TASKS],
-    inner: usize,
-    n: usize,
-    id: LocalId,
-    lct: u32,
-) -> Turn
-    requires { ⌜ ((height : ℕ) × (x : ℕ) × (s : Standing n inner height lct (now nodes) (now earliest) (now posts) (now atoms) written (now est) (now lst)
-        (now durations) (now «reverse_mapping») (now mapping)) × Responsible-for s (id .0) x) ⌝ }
-    ensures { λ r. ⌜ ((height x : ℕ) (s : Standing n inner height lct (now (nodes .entry)) (now (earliest .entry)) (now (posts .entry))
-        (now (atoms .entry)) written (now (est .entry)) (now (lst .entry)) (now (durations .entry)) (now («reverse_mapping» .entry)) (now (mapping .entry)))
-        → Responsible-for s (id .0) x → Considered s r (now (nodes .exit)) (now (earliest .exit)) (now (posts .exit)) (now (atoms .exit))) ⌝ }
-{
-    let i = id.0;
-    let start = est[i];
-    let new_bound = raised_start(nodes, start);
-    let place = leaf_of(mapping, id);
-    if new_bound <= start {
-        ThetaLambdaTree::remove_from_lambda(nodes, inner, place);
-        let changes = written.changes + 1;
-        return Turn::On(Written {
-            posts: written.posts,
-            atoms: written.atoms,
-            changes,
-        });
-    }
-    let w = post(
-        posts,
-        atoms,
-        written,
-        nodes,
-        reverse_mapping,
-        est,
-        durations,
-        inner,
-        n,
-        i,
-        new_bound,
+        p_theta,
         lct,
     );
-    if new_bound > lst[i] {
-        return Turn::Emptied(w);
-    }
-    earliest[i] = start_of(new_bound);
-    ThetaLambdaTree::remove_from_lambda(nodes, inner, place);
-    let changes = w.changes + 1;
-    Turn::On(Written {
-        posts: w.posts,
-        atoms: w.atoms,
-        changes,
+    written.finished(Outcome::Overload {
+        posts: written.posts,
+        first: at,
+        count: end - at,
     })
 }
 
+// Moves task j from Theta to Lambda. The source empties its leaf first; the gray leaf goes over the white one here, which leaves the same tree.
+fn move_to_lambda<'a>(
+    nodes: &mut [u32; TREEWORDS],
+    inner: usize,
+    mapping: &'a [usize; TASKS],
+    est: &'a [u32; TASKS],
+    durations: &'a [u32; TASKS],
+    j: usize,
+)
+    requires { ⌜ Movable inner (now nodes) (now mapping) (now est) (now durations) j ⌝ }
+    ensures { λ _. ⌜ Moved inner (now (nodes .entry)) (now (nodes .exit)) (now (mapping .entry)) (now (est .entry)) (now (durations .entry)) j ⌝ }
+{
+    let place = leaf_of(mapping, LocalId(j));
+    let task = DisjunctiveTask {
+        start_time: est[j],
+        processing_time: durations[j],
+        id: LocalId(j),
+    };
+    ThetaLambdaTree::add_to_lambda(nodes, inner, place, task);
+}
+
+// The posts and the atoms written so far, and the leaf changes so far as the source makes them: it empties a leaf before it changes its colour.
+struct Written {
+    posts: usize,
+    atoms: usize,
+    changes: usize,
+}
+
+impl Written {
+    // Nothing is written.
+    fn new(changes: usize) -> Written
+        ensures { λ r. ⌜ r ≡ nothingWritten changes ⌝ }
+    {
+        Written {
+            posts: 0,
+            atoms: 0,
+            changes,
+        }
+    }
+
+    // With more leaf changes.
+    fn counted(self, more: usize) -> Written
+        requires { ⌜ self .changes + more < 2 ^ 64 ⌝ }
+        ensures { λ r. ⌜ r ≡ counted self more ⌝ }
+    {
+        Written {
+            posts: self.posts,
+            atoms: self.atoms,
+            changes: self.changes + more,
+        }
+    }
+
+    // How a run ends, with its leaf changes.
+    fn finished(self, outcome: Outcome) -> Finished
+        ensures { λ r. ⌜ (r .outcome ≡ outcome) × (r .changes ≡ self .changes) ⌝ }
+    {
+        Finished {
+            outcome,
+            changes: self.changes,
+        }
+    }
+}
+
+// The tasks of Lambda were considered, or a post emptied a range.
+enum Turn {
+    On(Written),
+    Emptied(Written),
+}
+
 // Considers the tasks of Lambda for which the edge-finding condition holds, one after the other. Each turn takes one out, so n turns are enough.
-pub fn consider_all<'a>(
+fn consider_all<'a>(
     nodes: &mut [u32; TREEWORDS],
     earliest: &mut [i32],
     posts: &mut [i32],
@@ -519,13 +397,134 @@ pub fn consider_all<'a>(
             lct,
         );
         match turn {
-            Turn::On(x) => {
-                w = x;
-            }
-            Turn::Emptied(x) => {
-                return Turn::Emptied(x);
-            }
+            Turn::On(x) => w = x,
+            Turn::Emptied(x) => return Turn::Emptied(x),
         }
     }
     Turn::On(w)
+}
+
+// The task to consider next: one of Lambda for which the edge-finding condition holds.
+fn candidate<'a>(
+    nodes: &'a [u32; TREEWORDS],
+    reverse_mapping: &'a [usize; TASKS],
+    inner: usize,
+    height: usize,
+    lct: u32,
+) -> Responsible
+    requires { ⌜ ((h : Held inner (now nodes)) × Tall h height) ⌝ }
+    ensures { λ r. ⌜ Proposes inner height (now (nodes .entry)) (now («reverse_mapping» .entry)) lct r ⌝ }
+{
+    let ect_bar = ThetaLambdaTree::ect_bar(nodes);
+    if !ect_bar.exceeds(lct) {
+        return Responsible::Nothing;
+    }
+    ThetaLambdaTree::responsible_ect_bar(nodes, reverse_mapping, inner, height)
+}
+
+// Considers task i of Lambda. Its new bound is posted where it is above its earliest start, and i leaves Lambda.
+fn consider<'a>(
+    nodes: &mut [u32; TREEWORDS],
+    earliest: &mut [i32],
+    posts: &mut [i32],
+    atoms: &mut [i32],
+    written: Written,
+    mapping: &'a [usize; TASKS],
+    reverse_mapping: &'a [usize; TASKS],
+    est: &'a [u32; TASKS],
+    lst: &'a [u32; TASKS],
+    durations: &'a [u32; TASKS],
+    inner: usize,
+    n: usize,
+    id: LocalId,
+    lct: u32,
+) -> Turn
+    requires { ⌜ ((height : ℕ) × (x : ℕ) × (s : Standing n inner height lct (now nodes) (now earliest) (now posts) (now atoms) written (now est) (now lst)
+        (now durations) (now «reverse_mapping») (now mapping)) × Responsible-for s (id .0) x) ⌝ }
+    ensures { λ r. ⌜ ((height x : ℕ) (s : Standing n inner height lct (now (nodes .entry)) (now (earliest .entry)) (now (posts .entry))
+        (now (atoms .entry)) written (now (est .entry)) (now (lst .entry)) (now (durations .entry)) (now («reverse_mapping» .entry)) (now (mapping .entry)))
+        → Responsible-for s (id .0) x → Considered s r (now (nodes .exit)) (now (earliest .exit)) (now (posts .exit)) (now (atoms .exit))) ⌝ }
+{
+    let i = id.0;
+    let start = est[i];
+    let new_bound = raised_start(nodes, start);
+    let mut w = written;
+    if new_bound > start {
+        w = post(
+            posts,
+            atoms,
+            written,
+            nodes,
+            reverse_mapping,
+            est,
+            durations,
+            inner,
+            n,
+            i,
+            new_bound,
+            lct,
+        );
+    }
+    if new_bound > lst[i] {
+        return Turn::Emptied(w);
+    }
+    earliest[i] = start_of(new_bound);
+    let place = leaf_of(mapping, id);
+    ThetaLambdaTree::remove_from_lambda(nodes, inner, place);
+    Turn::On(w.counted(1))
+}
+
+// A task's earliest start, raised to the ect of Theta where that is later.
+fn raised_start(nodes: &[u32; TREEWORDS], start: u32) -> u32
+    ensures { λ r. ⌜ Answers (λ J estOrder ls. raisedTo start (ect J estOrder ls)) (now (nodes .entry)) r ⌝ }
+{
+    let ect = ThetaLambdaTree::ect(nodes);
+    ect.raised(start)
+}
+
+// Posts that task i starts at the new bound or later, with its reason.
+fn post<'a>(
+    posts: &mut [i32],
+    atoms: &mut [i32],
+    written: Written,
+    nodes: &'a [u32; TREEWORDS],
+    reverse_mapping: &'a [usize; TASKS],
+    est: &'a [u32; TASKS],
+    durations: &'a [u32; TASKS],
+    inner: usize,
+    n: usize,
+    i: usize,
+    new_bound: u32,
+    lct: u32,
+) -> Written
+    requires { ⌜ ((h : Held inner (now nodes))
+        × (Preceded (length (now atoms)) (written .atoms) (thetaIn (now nodes) inner (now «reverse_mapping») n) (now est) (now durations)
+        (sum (h .J) (h .estOrder) (h .leaves)) lct i «new_bound»)
+        × (4 * written .posts + 4 ≤ length (now posts)) × (n ≤ TASKS) × (inner ≤ INNER) × (written .atoms ≤ ATOMS)) ⌝ }
+    ensures { λ r. ⌜ ((h : Held inner (now (nodes .entry)))
+        → Posted (now (posts .entry)) (now (atoms .entry)) (now (posts .exit)) (now (atoms .exit)) written r i «new_bound»
+        (reasonOf h (now («reverse_mapping» .entry)) n (now (est .entry)) (now (durations .entry)) i «new_bound» lct)) ⌝ }
+{
+    let p_theta = ThetaLambdaTree::sum_of_processing_times(nodes);
+    let at = written.atoms;
+    let end = create_propagation_explanation(
+        atoms,
+        at,
+        nodes,
+        reverse_mapping,
+        inner,
+        n,
+        est,
+        durations,
+        p_theta,
+        lct,
+        i,
+        new_bound,
+    );
+    write_post(posts, written.posts, i, new_bound, at, end - at);
+    Written {
+        posts: written.posts + 1,
+        atoms: end,
+        changes: written.changes,
+    }
 }

@@ -31,14 +31,17 @@ Inv-loop nodes₀ earliest₀ posts₀ atoms₀ mapping reverseMapping sortedTas
 abbrev μ-loop : tie.MeasureT-loop
 μ-loop nodes₀ earliest₀ posts₀ atoms₀ mapping reverseMapping sortedTasks est lst lct durations inner height n w₀ index₀ nodes earliest posts atoms w index = n - index
 
+abbrev start : tie.In-loop Inv-loop μ-loop → tie.Start Inv-loop μ-loop
+start c = c .before .before .before
+
 -- inside the loop: the level's task and its lct, and that a level follows
 abbrev task : tie.In-loop Inv-loop μ-loop → ℕ
-task c = getD (c .before .before .args .sorted-tasks .now) (c .before .loop .index) 0
+task c = getD (start c .args .sorted-tasks .now) (c .before .loop .index) 0
 
 abbrev end : tie.In-loop Inv-loop μ-loop → ℕ
-end c = getD (c .before .before .args .lct .now) (task c) 0
+end c = getD (start c .args .lct .now) (task c) 0
 
-more : (c : tie.In-loop Inv-loop μ-loop) → c .before .loop .index + 1 < c .before .before .args .n
+more : (c : tie.In-loop Inv-loop μ-loop) → c .before .loop .index + 1 < start c .args .n
 more c = omega arith
 
 -- where the level was entered, from its test and from the move of its task; and that move, from the tasks considered
@@ -48,28 +51,31 @@ entered c = c .before .before .before .before
 abbrev level-of : tie.After-move-to-lambda Inv-loop μ-loop → tie.In-loop Inv-loop μ-loop
 level-of c = entered (c .before .before .before)
 
+abbrev counts : tie.After-consider-all Inv-loop μ-loop → tie.After-counted Inv-loop μ-loop
+counts c = c .before .before .before .before .before .before .before
+
 abbrev moved : tie.After-consider-all Inv-loop μ-loop → tie.After-move-to-lambda Inv-loop μ-loop
-moved c = c .before .before .before .before .before .before .before .before
+moved c = counts c .before
 
 loop-holds : tie.Need-loop-holds Inv-loop μ-loop
-loop-holds c = let s = c .pre in record { begun = s; level = λ s. first-level s; small = first-level s .small; starts-length = refl; posts-length = refl; atoms-length = refl }
+loop-holds c = let s = c .before .pre in record { begun = s; level = λ s. rw (c .new .ensures) (first-level s); small = first-level s .small; starts-length = refl; posts-length = refl; atoms-length = refl }
 
 mul-lct-j : tie.Need-mul-lct-j Inv-loop μ-loop
 mul-lct-j c = let l = c .before .before .loop in omega (arith, sorted-task-small (l .inv .begun) (l .index) (l .inv .small))
 
 -- the test of the level, by the tree of whatever it began with
 abbrev Test : tie.In-loop Inv-loop μ-loop → Bool → Type 0
-Test c u = let a = c .before .before .args in let l = c .before .loop in
+Test c u = let a = start c .args in let l = c .before .loop in
     (s : Begun (a .n) (a .inner) (a .height) (a .nodes .now) (a .earliest .now) (a .posts .now) (a .atoms .now) (a .est .now) (a .lst .now) (a .lct .now) (a .durations .now) (a .reverse-mapping .now)
     (a .sorted-tasks .now) (a .mapping .now))
     → exceeds (ect s (l .inv .level s) (more c)) (end c) ≡ u
 
 passes : (c : tie.Then1 Inv-loop μ-loop) → Test (entered (c .before)) true
-passes c s = let level = entered (c .before) in sym (c .before .overloads .ensures (level .before .before .args .inner) (shown s (level .before .loop .inv .level s) (more level))) ∙ c .if1 .taken
+passes c s = let level = entered (c .before) in sym (c .before .overloads .ensures (start level .args .inner) (shown s (level .before .loop .inv .level s) (more level))) ∙ c .if1 .taken
 
 quiet : (c : tie.After-move-to-lambda Inv-loop μ-loop) → Test (level-of c) false
 quiet c s = let level = level-of c in let test = c .before .before .before in
-    sym (test .overloads .ensures (level .before .before .args .inner) (shown s (level .before .loop .inv .level s) (more level))) ∙ c .before .before .if1 .left
+    sym (test .overloads .ensures (start level .args .inner) (shown s (level .before .loop .inv .level s) (more level))) ∙ c .before .before .if1 .left
 
 overload-requires : tie.Need-overload-requires Inv-loop μ-loop
 overload-requires c κs =
@@ -90,9 +96,9 @@ move-to-lambda-requires c κs =
     let v = level .before .loop .inv in
     moves (v .begun) (v .level (v .begun)) (more level)
 
-add-changes : tie.Need-add-changes Inv-loop μ-loop
-add-changes c =
-    let level = level-of (c .before) in
+counted-requires : tie.Need-counted-requires Inv-loop μ-loop
+counted-requires c κs =
+    let level = level-of c in
     let v = level .before .loop .inv in
     omega (arith, few-changes (v .begun) (v .level (v .begun)) (more level))
 
@@ -101,9 +107,13 @@ mul-lct-next-2 c = let level = level-of (c .before .before) in omega (arith, sor
 
 consider-all-requires : tie.Need-consider-all-requires Inv-loop μ-loop
 consider-all-requires c κs =
-    let move = c .before .before .before .before .before .before .before in
+    let two = c .before .before .before .before .before .before in
+    let move = two .before in
     let v = level-of move .before .loop .inv in
-    goes-on (v .begun) (v .level (v .begun)) (more (level-of move)) (quiet move (v .begun)) (move .move-to-lambda .ensures)
+    goes-on (v .begun) (v .level (v .begun)) (more (level-of move)) (quiet move (v .begun)) (move .move-to-lambda .ensures) (two .counted .ensures)
+
+loop-less : tie.Need-loop-less Inv-loop μ-loop
+loop-less c = omega (arith, more (level-of (moved (c .before .before .before .before .before .before))))
 
 loop-again : tie.Need-loop-again Inv-loop μ-loop
 loop-again c =
@@ -113,8 +123,8 @@ loop-again c =
     record {
       begun = v .begun;
       level = λ s.
-          let g = goes-on s (v .level s) (more (level-of move)) (quiet move s) (move .move-to-lambda .ensures) in
-          one-more s (v .level s) (more (level-of move)) (quiet move s) (move .move-to-lambda .ensures) (c .before .turn .given .1) (considered .consider-all .ensures g);
+          let g = goes-on s (v .level s) (more (level-of move)) (quiet move s) (move .move-to-lambda .ensures) (counts considered .counted .ensures) in
+          one-more s (v .level s) (more (level-of move)) (quiet move s) (move .move-to-lambda .ensures) (counts considered .counted .ensures) (c .before .turn .given .1) (considered .consider-all .ensures g);
       small = more (level-of move);
       starts-length = search needs;
       posts-length = search needs;
@@ -126,32 +136,32 @@ abbrev head : tie.After-known-told2 Inv-loop μ-loop → tie.At-loop Inv-loop μ
 head c = level-of (moved (c .before .before .before .before .before .before)) .before
 
 same-length-4 : tie.Need-same-length-4 Inv-loop μ-loop
-same-length-4 c = search (needs, head c .loop .inv .starts-length)
+same-length-4 c = search (needs, head (c .before) .loop .inv .starts-length)
 
 same-length-5 : tie.Need-same-length-5 Inv-loop μ-loop
-same-length-5 c = search (needs, head c .loop .inv .posts-length)
+same-length-5 c = search (needs, head (c .before) .loop .inv .posts-length)
 
 same-length-6 : tie.Need-same-length-6 Inv-loop μ-loop
-same-length-6 c = search (needs, head c .loop .inv .atoms-length)
+same-length-6 c = search (needs, head (c .before) .loop .inv .atoms-length)
 
 returns-2 : tie.Need-returns-2 Inv-loop μ-loop
 returns-2 c = λ s.
-    let considered = c .before .before .before .before .before .before in
+    let considered = c .before .before .before .before .before .before .before in
     let move = moved considered in
-    let l = head c .loop .inv .level s in
-    let g = goes-on s l (more (level-of move)) (quiet move s) (move .move-to-lambda .ensures) in
-    one-emptied s l (more (level-of move)) (quiet move s) (move .move-to-lambda .ensures) (considered .consider-all .last .0) (c .before .turn2 .given .1) (considered .consider-all .ensures g)
+    let l = head (c .before) .loop .inv .level s in
+    let g = goes-on s l (more (level-of move)) (quiet move s) (move .move-to-lambda .ensures) (counts considered .counted .ensures) in
+    one-emptied s l (more (level-of move)) (quiet move s) (move .move-to-lambda .ensures) (counts considered .counted .ensures) (considered .consider-all .last .0) (c .before .before .turn2 .given .1) (considered .consider-all .ensures g) (c .finished .ensures)
 
 returns-3 : tie.Need-returns-3 Inv-loop μ-loop
-returns-3 c = λ s. all-done s (c .before .loop .inv .level s) (omega arith)
+returns-3 c = λ s. all-done s (c .before .before .loop .inv .level s) (omega arith) (c .finished2 .ensures)
 
 pub edge-finding-spec : {M : Type 1} → statement M
 edge-finding-spec =
     tie.close
     (tie.spec
-    Inv-loop μ-loop loop-holds (λ c. search needs) (λ c. search needs) (λ c. search needs) mul-lct-j
+    Inv-loop μ-loop (λ c κs. search needs) loop-holds (λ c. search needs) (λ c. search needs) (λ c. search needs) mul-lct-j
     (λ c. search (needs, sorted-task-small)) (λ c κs. search needs) overload-requires (λ c. search needs)
-    (λ c. search needs) (λ c. search needs) returns move-to-lambda-requires add-changes (λ c. search needs)
+    (λ c. search needs) (λ c. search needs) returns move-to-lambda-requires counted-requires (λ c. search needs)
     (λ c. search needs) (λ c. search needs) mul-lct-next-2 (λ c. search (needs, sorted-task-small)) consider-all-requires
-    (λ c. search needs) (λ c. search needs) loop-again (λ c. search needs) same-length-4 same-length-5 same-length-6
-    returns-2 (λ c. search needs) (λ c. search needs) (λ c. search needs) returns-3)
+    (λ c. search needs) loop-less loop-again (λ c. search needs) (λ c κs. search needs) same-length-4 same-length-5 same-length-6
+    returns-2 (λ c κs. search needs) (λ c. search needs) (λ c. search needs) (λ c. search needs) returns-3)

@@ -1,6 +1,6 @@
 -- `levels::run_levels::overload` meets its contract.
 use mathlib.Core.Path.{refl, sym, subst}
-use Prim.Native.Nat.{ℕ, _-_}
+use Prim.Native.Nat.{ℕ}
 use lib.ListN.{length}
 use borrow.Author.Needs.{needs}
 use Rattle.integers.specs.Moments.{zeroAt}
@@ -8,7 +8,6 @@ use Rattle.runs.specs.Runs.{conflict}
 use Rattle.trees.specs.ArraySearches.{thetaIn}
 use Rattle.explanations.specs.WrittenAtoms.{starting}
 use Rattle.explanations.specs.Explanations.{Overloaded}
-use Rattle.runs.specs.declared.outcome.Outcome.the-variants as outcome
 use Rattle.propagator.specs.EdgeFinding.{Conflicted}
 use Rattle.propagator.proofs.OverloadReason.{conflict-done}
 use Rattle.propagator.proofs.disjunctive_propagator.overload.Statement.{statement}
@@ -30,17 +29,17 @@ create-conflict-explanation-requires c κs = let s = c .before .before .before i
 
 returns : tie.Need-returns
 returns c = λ h.
-    let made = c .before in
+    let made = c .before .before in
     let s = sums made in
     let a = s .before .args in
-    subst (λ (p : ℕ). Conflicted (a .atoms .now) (made .create-conflict-explanation .last .0) (a .written)
-    (outcome.Overload (a .written .posts) (a .written .atoms) (made .create-conflict-explanation .result - a .written .atoms))
+    subst (λ (p : ℕ). Conflicted (a .atoms .now) (made .create-conflict-explanation .last .0) (a .written) (c .finished .result)
     (conflict zeroAt (starting (a .est .now) (a .durations .now)) (a .lct) p (thetaIn (a .nodes .now) (a .inner) (a .reverse-mapping .now) (a .n))))
     (s .sum-of-processing-times .ensures (a .inner) h)
-    (conflict-done (made .create-conflict-explanation .ensures) refl)
+    (conflict-done (made .create-conflict-explanation .ensures) refl (c .finished .ensures))
 
 pub overload-spec : {M : Type 1} → statement M
 overload-spec =
     tie.close
     (tie.spec
-    (λ c κs. search needs) create-conflict-explanation-requires (λ c. search needs) (λ c. search needs) returns)
+    (λ c κs. search needs) create-conflict-explanation-requires (λ c. search needs) (λ c κs. search needs)
+    (λ c. search needs) returns)
