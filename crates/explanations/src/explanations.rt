@@ -19,7 +19,7 @@ ghost use Rattle.runs.specs.Runs.{conflict, bounds, propagation};
 ghost use Rattle.explanations.specs.Walks.{Attains, thetaBetween, Walk};
 ghost use Rattle.explanations.specs.WrittenAtoms.{starting, Writable};
 ghost use Rattle.post_words.specs.StoredAtoms.{Stored};
-ghost use Rattle.explanations.specs.Explanations.{Overloaded, Preceded};
+ghost use Rattle.explanations.specs.Explanations.{ConflictExplainable, PropagationExplainable};
 
 // Creates an explanation consisting of the tasks of Θ which were responsible for the conflict, based on [1] and [2].
 //
@@ -41,7 +41,7 @@ pub fn create_conflict_explanation(
     p_theta: u32,
     lct: u32,
 ) -> usize
-    requires { ⌜ Overloaded (length (now atoms)) k (thetaIn (now nodes) inner (now «reverse_mapping») n) (now est) (now durations) «p_theta» lct × (n ≤ TASKS) × (inner ≤ INNER) ⌝ }
+    requires { ⌜ ConflictExplainable (length (now atoms)) k (thetaIn (now nodes) inner (now «reverse_mapping») n) (now est) (now durations) «p_theta» lct × (n ≤ TASKS) × (inner ≤ INNER) ⌝ }
     ensures { λ m. ⌜ Stored (now (atoms .entry)) (now (atoms .exit)) k m
         (conflict zeroAt (starting (now (est .entry)) (now (durations .entry))) lct «p_theta» (thetaIn (now (nodes .entry)) inner (now («reverse_mapping» .entry)) n)) ⌝ }
 {
@@ -102,7 +102,7 @@ pub fn create_propagation_explanation(
     propagated_task: usize,
     new_bound: u32,
 ) -> usize
-    requires { ⌜ Preceded (length (now atoms)) k (thetaIn (now nodes) inner (now «reverse_mapping») n) (now est) (now durations) «p_theta» «lct_j» «propagated_task» «new_bound» × (n ≤ TASKS) × (inner ≤ INNER) ⌝ }
+    requires { ⌜ PropagationExplainable (length (now atoms)) k (thetaIn (now nodes) inner (now «reverse_mapping») n) (now est) (now durations) «p_theta» «lct_j» «propagated_task» «new_bound» × (n ≤ TASKS) × (inner ≤ INNER) ⌝ }
     ensures { λ m. ⌜ Stored (now (atoms .entry)) (now (atoms .exit)) k m
         (propagation zeroAt (starting (now (est .entry)) (now (durations .entry))) «propagated_task» «new_bound» «lct_j» «p_theta» (thetaIn (now (nodes .entry)) inner (now («reverse_mapping» .entry)) n)) ⌝ }
 {

@@ -37,38 +37,38 @@ use Rattle.runs.proofs.AtomRoom as room
 use Rattle.runs.proofs.LevelSteps as steps
 use Rattle.runs.proofs.ReachedStates.{reached-inv}
 use Rattle.explanations.specs.WrittenAtoms.{starting}
-use Rattle.explanations.specs.Explanations.{Preceded}
+use Rattle.explanations.specs.Explanations.{PropagationExplainable}
 use Rattle.explanations.proofs.ExplanationAtoms.{Alike, propagation-same}
 use Rattle.propagator.specs.declared.disjunctive_propagator.Written.{Written}
 use Rattle.propagator.specs.declared.disjunctive_propagator.Turn.the-variants as turn
 use Rattle.propagator.specs.RunArrays.{Ordered, Holds}
-use Rattle.propagator.specs.Candidates.{counted, reasonOf, Posted, Standing, AtNow, Considered, Responsible-for}
+use Rattle.propagator.specs.Candidates.{counted, reasonOf, Posted, Considerable, AtNow, Considered, Responsible-for}
 use Rattle.propagator.proofs.ExplanationInput as meeting
 use Rattle.integers.proofs.Lists.{map-set}
 
 -- what is asked of, and said by, an explanation, with other names for the same values
-preceded-at : {size k : ℕ} {est durations θ θ′ : List ℕ} {p c c′ i i′ b : ℕ} → θ ≡ θ′ → c ≡ c′ → i ≡ i′ → Preceded size k θ′ est durations p c′ i′ b → Preceded size k θ est durations p c i b
-preceded-at a e f m = rw (a, e, f) m
+explainable-at : {size k : ℕ} {est durations θ θ′ : List ℕ} {p c c′ i i′ b : ℕ} → θ ≡ θ′ → c ≡ c′ → i ≡ i′ → PropagationExplainable size k θ′ est durations p c′ i′ b → PropagationExplainable size k θ est durations p c i b
+explainable-at a e f m = rw (a, e, f) m
 
 propagation-at : (K : Tasks natural) (p b : ℕ) {θ θ′ : List ℕ} {c c′ i i′ : ℕ} → θ ≡ θ′ → c ≡ c′ → i ≡ i′ → propagation zeroAt K i b c p θ ≡ propagation zeroAt K i′ b c′ p θ′
 propagation-at K p b a e f = rw (a, e, f)
 
 -- the words of one post more, of its reason, and of a start that is raised
-posts-at : (ps₀ : List ℤ) {ps ps′ : List ℤ} (posts : List Post) (p : Post) {k m i many : ℕ} {b : ℤ} → ps ≡ sets ps₀ 0 (postWords 0 posts) → k ≡ length posts → m ≡ length (reasons posts) → i ≡ p .task
+posts-at : (posts₀ : List ℤ) {posts posts′ : List ℤ} (made : List Post) (p : Post) {k m i many : ℕ} {b : ℤ} → posts ≡ sets posts₀ 0 (postWords 0 made) → k ≡ length made → m ≡ length (reasons made) → i ≡ p .task
     → b ≡ p .bound → many ≡ length (p .reason)
-    → ps′ ≡ sets ps (4 * k) (pos i ∷ b ∷ pos m ∷ pos many ∷ []) → ps′ ≡ sets ps₀ 0 (postWords 0 (posts ++ (p ∷ [])))
-posts-at ps₀ posts p a c d e f g h = h ∙ rw (a, c, d, e, f, g) (post-stored ps₀ posts p)
+    → posts′ ≡ sets posts (4 * k) (pos i ∷ b ∷ pos m ∷ pos many ∷ []) → posts′ ≡ sets posts₀ 0 (postWords 0 (made ++ (p ∷ [])))
+posts-at posts₀ made p a c d e f g h = h ∙ rw (a, c, d, e, f, g) (post-stored posts₀ made p)
 
-atoms-at : (as₀ : List ℤ) {as′ bs : List ℤ} (posts : List Post) (p : Post) {m : ℕ} {ws : List ℤ} → as′ ≡ sets as₀ 0 (atomWords (reasons posts)) → m ≡ length (reasons posts)
+atoms-at : (atoms₀ : List ℤ) {atoms atoms′ : List ℤ} (made : List Post) (p : Post) {m : ℕ} {ws : List ℤ} → atoms ≡ sets atoms₀ 0 (atomWords (reasons made)) → m ≡ length (reasons made)
     → ws ≡ atomWords (p .reason)
-    → bs ≡ sets as′ (3 * m) ws → bs ≡ sets as₀ 0 (atomWords (reasons (posts ++ (p ∷ []))))
-atoms-at as₀ posts p a c d h = h ∙ rw (a, c, d) (reason-stored as₀ (reasons posts) (p .reason) ∙ ap (λ (r : List Atom). sets as₀ 0 (atomWords r)) (sym (reasons-more posts p)))
+    → atoms′ ≡ sets atoms (3 * m) ws → atoms′ ≡ sets atoms₀ 0 (atomWords (reasons (made ++ (p ∷ []))))
+atoms-at atoms₀ made p a c d h = h ∙ rw (a, c, d) (reason-stored atoms₀ (reasons made) (p .reason) ∙ ap (λ (r : List Atom). sets atoms₀ 0 (atomWords r)) (sym (reasons-more made p)))
 
 starts-at : {es es′ : List ℤ} (starts : List ℕ) (b : ℕ) {i j : ℕ} → es ≡ map (instant zeroAt) starts → i ≡ j → es′ ≡ set es i (instant zeroAt b) → es′ ≡ map (instant zeroAt) (set starts j b)
 starts-at starts b {i} {j} a d h = h ∙ rw (a, d) (sym (map-set (instant zeroAt) starts j b))
 
-module _ {n inn height lct : ℕ} {words : List ℕ} {es ps as′ : List ℤ} {w : Written} {est lst durations reverseMapping mapping : List ℕ}
-    (s : Standing n inn height lct words es ps as′ w est lst durations reverseMapping mapping) where
+module _ {n inn height lct : ℕ} {words : List ℕ} {es posts atoms : List ℤ} {w : Written} {est lst durations reverseMapping mapping : List ℕ}
+    (s : Considerable n inn height lct words es posts atoms w est lst durations reverseMapping mapping) where
   abbrev J : Tasks natural
   J = s .J
 
@@ -146,8 +146,8 @@ module _ {n inn height lct : ℕ} {words : List ℕ} {es ps as′ : List ℤ} {w
   reasons-short = subst (λ (n : ℕ). length (reasons (s .st .posts)) + length (s .st .posts) ≤ length (s .st .posts) * (2 * n)) (s .arrays .count)
       (room.reasons-short zeroAt J (G .proper) estOrder lctOrder (G .by-earliest) (G .by-completion) (s .st .posts) (inv .good))
 
-  pub atoms-size : length as′ ≡ length (s .as₀)
-  atoms-size = ap length (s .at .atoms) ∙ length-sets (s .as₀) 0 (atomWords (reasons (s .st .posts)))
+  pub atoms-size : length atoms ≡ length (s .atoms₀)
+  atoms-size = ap length (s .at .atom-words) ∙ length-sets (s .atoms₀) 0 (atomWords (reasons (s .st .posts)))
 
   pub found-inside : (x : ℕ) → leaves.responsible J estOrder ls ≡ some x → x < J .count
   found-inside x z = tree.one-found J (G .proper) estOrder (G .by-earliest) ls Θ Λ shape x z .small
@@ -198,7 +198,7 @@ module _ {n inn height lct : ℕ} {words : List ℕ} {es ps as′ : List ℤ} {w
       mul-le-mul {n₁ = length (s .st .posts)} {m₁ = 2 * n} {n₂ = TASKS} {m₂ = 2 * TASKS} (omega (arith, fewer, s .small, few, s .arrays .count)) (omega (arith, few)),
     )
 
-    atom-room : 3 * w .atoms + 6 * length (leaves.theta J estOrder ls) + 3 ≤ length as′
+    atom-room : 3 * w .atoms + 6 * length (leaves.theta J estOrder ls) + 3 ≤ length atoms
     atom-room = omega (
       arith,
       s .at .explained,
@@ -213,8 +213,8 @@ module _ {n inn height lct : ℕ} {words : List ℕ} {es ps as′ : List ℤ} {w
         twice : n * (2 * n) ≡ 2 * (n * n)
         twice = mul-left-comm n 2 n
 
-    pub post-room : 4 * w .posts + 4 ≤ length ps
-    post-room = omega (arith, s .at .posted, fewer, s .small, s .post-room, s .arrays .count, ap length (s .at .posts) ∙ length-sets (s .ps₀) 0 (postWords 0 (s .st .posts)))
+    pub post-room : 4 * w .posts + 4 ≤ length posts
+    post-room = omega (arith, s .at .posted, fewer, s .small, s .post-room, s .arrays .count, ap length (s .at .post-words) ∙ length-sets (s .posts₀) 0 (postWords 0 (s .st .posts)))
 
     -- the task's leaf may be emptied, and is then
     place-inside : {k : ℕ} → k ≡ getD mapping i 0 → k < J .count
@@ -239,9 +239,9 @@ module _ {n inn height lct : ℕ} {words : List ℕ} {es ps as′ : List ℤ} {w
         up′ = omega (arith, up, task-start)
 
         -- what `post` asks
-        pub asked : Preceded (length as′) (w .atoms) (thetaIn words inn reverseMapping n) est durations (leaves.sum J estOrder ls) lct i b
-        asked = preceded-at theta-is (s .ends) (r .task)
-            (meeting.preceded J estOrder lctOrder G est durations (held (s .arrays .starts)) (held (s .arrays .lasts)) t ls Λ shape (s .small) (length as′)
+        pub asked : PropagationExplainable (length atoms) (w .atoms) (thetaIn words inn reverseMapping n) est durations (leaves.sum J estOrder ls) lct i b
+        asked = explainable-at theta-is (s .ends) (r .task)
+            (meeting.propagation-explainable J estOrder lctOrder G est durations (held (s .arrays .starts)) (held (s .arrays .lasts)) t ls Λ shape (s .small) (length atoms)
             (w .atoms) x b found passes ect-is up′ atom-room)
 
         abbrev now : List Atom
@@ -263,19 +263,19 @@ module _ {n inn height lct : ℕ} {words : List ℕ} {es ps as′ : List ℤ} {w
         abbrev after : State
         after = posted zeroAt J estOrder lctOrder (s .st) (T x) b t
 
-        module _ {ps′ bs : List ℤ} {w′ : Written} (p : Posted ps as′ ps′ bs w w′ i b (reasonOf shown reverseMapping n est durations i b lct)) where
-          post-at : AtNow s after words es ps′ bs w′
+        module _ {posts′ atoms′ : List ℤ} {w′ : Written} (p : Posted posts atoms posts′ atoms′ w w′ i b (reasonOf shown reverseMapping n est durations i b lct)) where
+          post-at : AtNow s after words es posts′ atoms′ w′
           post-at = record {
             tree = s .at .tree;
             starts = s .at .starts;
-            posts = posts-at (s .ps₀) (s .st .posts) made (s .at .posts) (s .at .posted) (s .at .explained) (r .task) refl (ap length reason-is) (p .post-words);
-            atoms = atoms-at (s .as₀) (s .st .posts) made (s .at .atoms) (s .at .explained) (ap atomWords reason-is) (p .atom-words);
-            posted = omega (arith, p .posts, s .at .posted, length-append (s .st .posts) (made ∷ []));
-            explained = omega (arith, p .atoms, s .at .explained, ap length reason-is, ap length (reasons-more (s .st .posts) made), length-append (reasons (s .st .posts)) now);
-            counted = p .changes ∙ s .at .counted;
+            post-words = posts-at (s .posts₀) (s .st .posts) made (s .at .post-words) (s .at .posted) (s .at .explained) (r .task) refl (ap length reason-is) (p .post-words);
+            atom-words = atoms-at (s .atoms₀) (s .st .posts) made (s .at .atom-words) (s .at .explained) (ap atomWords reason-is) (p .atom-words);
+            posted = omega (arith, p .posted, s .at .posted, length-append (s .st .posts) (made ∷ []));
+            explained = omega (arith, p .explained, s .at .explained, ap length reason-is, ap length (reasons-more (s .st .posts) made), length-append (reasons (s .st .posts)) now);
+            counted = p .counted ∙ s .at .counted;
           }
 
-          pub emptied : getD lst i 0 < b → Considered s (turn.Emptied w′) words es ps′ bs
+          pub emptied : getD lst i 0 < b → Considered s (turn.Emptied w′) words es posts′ atoms′
           emptied high = (
             after,
             post-at,
@@ -283,7 +283,7 @@ module _ {n inn height lct : ℕ} {words : List ℕ} {es ps as′ : List ℤ} {w
           )
 
           pub raised-on : {k : ℕ} {words′ : List ℕ} {es′ : List ℤ} → b ≤ getD lst i 0 → es′ ≡ set es i (instant zeroAt b) → k ≡ getD mapping i 0 → Cleared k words′
-              → Considered s (turn.On (counted w′ 1)) words′ es′ ps′ bs
+              → Considered s (turn.On (counted w′ 1)) words′ es′ posts′ atoms′
           raised-on {words′ = words′} {es′} low e at-leaf q = (
             next,
             at-next,
@@ -293,26 +293,26 @@ module _ {n inn height lct : ℕ} {words : List ℕ} {es ps as′ : List ℤ} {w
               next : State
               next = dropped (raised after (T x) b) x
 
-              at-next : AtNow s next words′ es′ ps′ bs (counted w′ 1)
+              at-next : AtNow s next words′ es′ posts′ atoms′ (counted w′ 1)
               at-next = record {
                 tree = cleared words′ at-leaf q;
                 starts = starts-at (s .st .starts) b (s .at .starts) (r .task) e;
-                posts = post-at .posts;
-                atoms = post-at .atoms;
+                post-words = post-at .post-words;
+                atom-words = post-at .atom-words;
                 posted = post-at .posted;
                 explained = post-at .explained;
                 counted = ap (λ (c : ℕ). c + 1) (post-at .counted);
               }
 
       -- no post
-      pub passed-on : {k : ℕ} {words′ : List ℕ} → b ≤ getD est i 0 → k ≡ getD mapping i 0 → Cleared k words′ → Considered s (turn.On (counted w 1)) words′ es ps as′
+      pub passed-on : {k : ℕ} {words′ : List ℕ} → b ≤ getD est i 0 → k ≡ getD mapping i 0 → Cleared k words′ → Considered s (turn.On (counted w 1)) words′ es posts atoms
       passed-on {words′ = words′} low at-leaf q = (
         dropped (s .st) x,
         record {
           tree = cleared words′ at-leaf q;
           starts = s .at .starts;
-          posts = s .at .posts;
-          atoms = s .at .atoms;
+          post-words = s .at .post-words;
+          atom-words = s .at .atom-words;
           posted = s .at .posted;
           explained = s .at .explained;
           counted = ap (λ (c : ℕ). c + 1) (s .at .counted);
@@ -325,29 +325,29 @@ module _ {n inn height lct : ℕ} {words : List ℕ} {es ps as′ : List ℤ} {w
 
       -- what the test for a post leaves: a post, or nothing new where the bound is not above the start
       abbrev pub Tried : List ℤ → List ℤ → Written → Type 0
-      Tried ps′ bs w′ = ((getD est i 0 < b) × Posted ps as′ ps′ bs w w′ i b (reasonOf shown reverseMapping n est durations i b lct))
-          ⊎ ((b ≤ getD est i 0) × (ps′ ≡ ps) × (bs ≡ as′) × (w′ ≡ w))
+      Tried posts′ atoms′ w′ = ((getD est i 0 < b) × Posted posts atoms posts′ atoms′ w w′ i b (reasonOf shown reverseMapping n est durations i b lct))
+          ⊎ ((b ≤ getD est i 0) × (posts′ ≡ posts) × (atoms′ ≡ atoms) × (w′ ≡ w))
 
-      module _ {ps′ bs : List ℤ} {w′ : Written} where
-        pub tried-sizes : Tried ps′ bs w′ → (length ps′ ≡ length ps) × (length bs ≡ length as′)
+      module _ {posts′ atoms′ : List ℤ} {w′ : Written} where
+        pub tried-sizes : Tried posts′ atoms′ w′ → (length posts′ ≡ length posts) × (length atoms′ ≡ length atoms)
         tried-sizes (inl (up, p)) = let reason = reasonOf shown reverseMapping n est durations i b lct in (
-          ap length (p .post-words) ∙ length-sets ps (4 * w .posts) (pos i ∷ instant zeroAt b ∷ pos (w .atoms) ∷ pos (length reason) ∷ []),
-          ap length (p .atom-words) ∙ length-sets as′ (3 * w .atoms) (atomWords reason),
+          ap length (p .post-words) ∙ length-sets posts (4 * w .posts) (pos i ∷ instant zeroAt b ∷ pos (w .atoms) ∷ pos (length reason) ∷ []),
+          ap length (p .atom-words) ∙ length-sets atoms (3 * w .atoms) (atomWords reason),
         )
         tried-sizes (inr (low, e, f, g)) = (ap length e, ap length f)
 
-        pub tried-changes : Tried ps′ bs w′ → w′ .changes ≡ w .changes
-        tried-changes (inl (up, p)) = p .changes
+        pub tried-changes : Tried posts′ atoms′ w′ → w′ .changes ≡ w .changes
+        tried-changes (inl (up, p)) = p .counted
         tried-changes (inr (low, e, f, g)) = ap (λ (w : Written). w .changes) g
 
         -- a bound above the latest start was posted
-        pub tried-emptied : Tried ps′ bs w′ → getD lst i 0 < b → Considered s (turn.Emptied w′) words es ps′ bs
+        pub tried-emptied : Tried posts′ atoms′ w′ → getD lst i 0 < b → Considered s (turn.Emptied w′) words es posts′ atoms′
         tried-emptied (inl (up, p)) high = emptied up p high
         tried-emptied (inr (low, e, f, g)) high = absurd (omega (arith, low, high, task-start, task-latest, G .proper .ranges (T x) (found .gray .small)))
 
         -- a start that is not raised is written as it was
-        pub tried-on : {k : ℕ} {words′ : List ℕ} {es′ : List ℤ} → Tried ps′ bs w′ → b ≤ getD lst i 0 → es′ ≡ set es i (instant zeroAt b) → k ≡ getD mapping i 0 → Cleared k words′
-            → Considered s (turn.On (counted w′ 1)) words′ es′ ps′ bs
+        pub tried-on : {k : ℕ} {words′ : List ℕ} {es′ : List ℤ} → Tried posts′ atoms′ w′ → b ≤ getD lst i 0 → es′ ≡ set es i (instant zeroAt b) → k ≡ getD mapping i 0 → Cleared k words′
+            → Considered s (turn.On (counted w′ 1)) words′ es′ posts′ atoms′
         tried-on (inl (up, p)) fits e at-leaf q = raised-on up p fits e at-leaf q
         tried-on {words′ = words′} (inr (low, f, g, h)) fits e at-leaf q = rw (e ∙ same, f, g, h) (passed-on low at-leaf q)
           where

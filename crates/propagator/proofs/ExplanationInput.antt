@@ -25,7 +25,7 @@ use Rattle.runs.proofs.ReasonWalks as walks
 use Rattle.runs.proofs.WalkStops as stops
 use Rattle.explanations.specs.WrittenAtoms.{starting}
 use Rattle.explanations.specs.Walks.{lasts, Each, Known}
-use Rattle.explanations.specs.Explanations.{White, Overloaded, Preceded}
+use Rattle.explanations.specs.Explanations.{White, ConflictExplainable, PropagationExplainable}
 use Rattle.explanations.proofs.ExplanationAtoms.{Alike}
 use Rattle.explanations.proofs.Places.{lasts-none, lasts-more}
 use Rattle.propagator.specs.RunArrays.{Ordered, Holds}
@@ -145,8 +145,8 @@ module _ (J : Tasks natural) (estOrder lctOrder : List ℕ) (G : Ordered J estOr
     ends-fit = G .fits (getD lctOrder t 0) (G .by-completion .task t small)
 
     -- an overload
-    pub overloaded : (size k : ℕ) → exceeds (ect J estOrder ls) c ≡ true → 3 * k + 6 * length θ ≤ size → Overloaded size k θ est durations (sum J estOrder ls) c
-    overloaded size k over room =
+    pub conflict-explainable : (size k : ℕ) → exceeds (ect J estOrder ls) c ≡ true → 3 * k + 6 * length θ ≤ size → ConflictExplainable size k θ est durations (sum J estOrder ls) c
+    conflict-explainable size k over room =
         let o = stops.overload-stops zeroAt J ok estOrder lctOrder (G .by-earliest) (G .by-completion) t ls Λ s small over in
         let (q, z, l) = at-spot (o .at) (o .inside) (o .white) in
         record {
@@ -162,10 +162,10 @@ module _ (J : Tasks natural) (estOrder lctOrder : List ℕ) (G : Ordered J estOr
         }
 
     -- a post
-    pub preceded : (size k x b : ℕ) → tree.Found J ok estOrder (G .by-earliest) ls Θ Λ s x → exceeds (ect-bar J estOrder ls) c ≡ true → ect J estOrder ls ≡ some b → J .earliest (T x) < b
+    pub propagation-explainable : (size k x b : ℕ) → tree.Found J ok estOrder (G .by-earliest) ls Θ Λ s x → exceeds (ect-bar J estOrder ls) c ≡ true → ect J estOrder ls ≡ some b → J .earliest (T x) < b
         → 3 * k + 6 * length θ + 3 ≤ size
-        → Preceded size k θ est durations (sum J estOrder ls) c (T x) b
-    preceded size k x b f over is up room =
+        → PropagationExplainable size k θ est durations (sum J estOrder ls) c (T x) b
+    propagation-explainable size k x b f over is up room =
         let one = stops.first-walk zeroAt J ok estOrder lctOrder (G .by-earliest) (G .by-completion) t ls Λ s small x f over b is up in
         let two = stops.attaining-after zeroAt J ok estOrder lctOrder (G .by-earliest) (G .by-completion) t ls Λ s small x f over b is up in
         let (q, z, l) = at-spot (one .m) (one .small) (one .mem) in

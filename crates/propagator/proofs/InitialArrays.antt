@@ -43,14 +43,14 @@ use Rattle.records.specs.declared.record.DisjunctivePropagator.{DisjunctiveProp
 use Rattle.propagator.specs.RunArrays.{Ordered, Holds, At}
 use Rattle.runs.specs.declared.outcome.Outcome.{Outcome}
 use Rattle.propagator.specs.FilledTheta.{Fillable}
-use Rattle.propagator.specs.EdgeFinding.{Begun, Ended}
-use Rattle.propagator.specs.Ran.{Runnable, traceOf, Left}
+use Rattle.propagator.specs.EdgeFinding.{EdgeFindable, EdgeFound}
+use Rattle.propagator.specs.Ran.{Runnable, traceOf, RunLeft}
 use Rattle.propagator.proofs.AcceptedInput as accepting
 
 zeros-long : length noTasks ≡ TASKS
 zeros-long = length-replicate {A = ℕ} TASKS 0
 
-module _ (r : DisjunctivePropagator) (es ls : List ℤ) (posts atoms : ℕ) (a : Runnable r es ls posts atoms) (long : length (r .durations) ≡ TASKS) where
+module _ (r : DisjunctivePropagator) (es ls : List ℤ) (postCount atomCount : ℕ) (a : Runnable r es ls postCount atomCount) (long : length (r .durations) ≡ TASKS) where
   abbrev n : ℕ
   n = r .count
 
@@ -71,7 +71,7 @@ module _ (r : DisjunctivePropagator) (es ls : List ℤ) (posts atoms : ℕ) (a :
 
   -- the same input, as the run's definition accepts it
   accepted : demand.Accepted MIRRORED ds es ls
-  accepted = accepting.accepted r es ls posts atoms a
+  accepted = accepting.accepted r es ls postCount atomCount a
 
   abbrev pub estOrder : List ℕ
   estOrder = earliestOrder J
@@ -152,13 +152,13 @@ module _ (r : DisjunctivePropagator) (es ls : List ℤ) (posts atoms : ℕ) (a :
   completion-small k q = let z : k < length ds = omega (arith, count) in omega (arith, early k z .2, lasting k z)
 
   -- the state at the start: nothing is written
-  pub at-start : (inner : ℕ) (words : List ℕ) (ps as′ : List ℤ) → IsTree J estOrder (replicate (J .count) white) inner words → At J estOrder ps as′ (allWhite J) inner words es ps as′ 0 0 n
-  at-start inner words ps as′ t = record {
+  pub at-start : (inner : ℕ) (words : List ℕ) (posts atoms : List ℤ) → IsTree J estOrder (replicate (J .count) white) inner words → At J estOrder posts atoms (allWhite J) inner words es posts atoms 0 0 n
+  at-start inner words posts atoms t = record {
     tree = t;
     starts = subst (λ (m : ℕ). es ≡ map (instant zeroAt) (tabulate (J .earliest) 0 m)) (a .counts .earliest ∙ sym count)
         (tabulated zeroAt es (J .earliest) 0 (λ k q. back k (omega (arith, q, a .counts .earliest, count))));
-    posts = no-posts-stored ps;
-    atoms = no-atoms-stored as′;
+    post-words = no-posts-stored posts;
+    atom-words = no-atoms-stored atoms;
     posted = refl;
     explained = sym no-reasons;
     counted = sym count;
@@ -171,10 +171,10 @@ module _ (r : DisjunctivePropagator) (es ls : List ℤ) (posts atoms : ℕ) (a :
   trace-is : traceOf r es ls ≡ run zeroAt J estOrder lctOrder
   trace-is = propagate-is ds es ls
 
-  posts-fit : length (postWords 0 (run zeroAt J estOrder lctOrder .posts)) ≤ posts
+  posts-fit : length (postWords 0 (run zeroAt J estOrder lctOrder .posts)) ≤ postCount
   posts-fit = omega (arith, few-words.posts-fit zeroAt J proper estOrder lctOrder by-earliest (ordered .by-completion) (accepted .some), count, a .words .posts)
 
-  atoms-fit : length (atomWords (reasons (run zeroAt J estOrder lctOrder .posts) ++ endReason (run zeroAt J estOrder lctOrder .end))) ≤ atoms
+  atoms-fit : length (atomWords (reasons (run zeroAt J estOrder lctOrder .posts) ++ endReason (run zeroAt J estOrder lctOrder .end))) ≤ atomCount
   atoms-fit = omega (
     arith,
     subst (λ (m : ℕ). length (atomWords (reasons (run zeroAt J estOrder lctOrder .posts) ++ endReason (run zeroAt J estOrder lctOrder .end))) ≤ 6 * (m * m)) count
@@ -225,9 +225,9 @@ module _ (r : DisjunctivePropagator) (es ls : List ℤ) (posts atoms : ℕ) (a :
           lasts = λ x q. holds-durations .at (getD estOrder x 0) (omega (arith, count, by-earliest .task x (omega (arith, count))));
         }
 
-        abbrev pub begun : {words : List ℕ} {ps as′ : List ℤ} → IsTree J estOrder (replicate (J .count) white) (made .«number_of_internal_nodes») words → posts ≡ length ps → atoms ≡ length as′
-            → Begun n (made .«number_of_internal_nodes») (made .height) words es ps as′ est lst lct (r .durations) reverseMapping sortedTasks mapping
-        begun {words} {ps} {as′} full p q = record {
+        abbrev pub findable : {words : List ℕ} {posts atoms : List ℤ} → IsTree J estOrder (replicate (J .count) white) (made .«number_of_internal_nodes») words → postCount ≡ length posts → atomCount ≡ length atoms
+            → EdgeFindable n (made .«number_of_internal_nodes») (made .height) words es posts atoms est lst lct (r .durations) reverseMapping sortedTasks mapping
+        findable {words} {posts} {atoms} full p q = record {
           J = J;
           estOrder = estOrder;
           lctOrder = lctOrder;
@@ -238,20 +238,20 @@ module _ (r : DisjunctivePropagator) (es ls : List ℤ) (posts atoms : ℕ) (a :
           order = sorted-tasks-order;
           post-room = omega (arith, p, a .words .posts);
           atom-room = omega (arith, q, a .words .atoms);
-          at = at-start (made .«number_of_internal_nodes») words ps as′ full;
+          at = at-start (made .«number_of_internal_nodes») words posts atoms full;
         }
 
       -- and what a run leaves
-      pub left : {ps as′ es′ ps′ bs : List ℤ} {o : Outcome} {c : ℕ} → posts ≡ length ps → atoms ≡ length as′ → Ended J estOrder lctOrder ps as′ o c es′ ps′ bs
-          → Left r es ls ps as′ o c es′ ps′ bs
-      left {ps} {as′} {es′} {ps′} {bs} {o} {c} p q d = record {
+      pub left : {posts atoms es′ posts′ atoms′ : List ℤ} {o : Outcome} {c : ℕ} → postCount ≡ length posts → atomCount ≡ length atoms → EdgeFound J estOrder lctOrder posts atoms o c es′ posts′ atoms′
+          → RunLeft r es ls posts atoms o c es′ posts′ atoms′
+      left {posts} {atoms} {es′} {posts′} {atoms′} {o} {c} p q d = record {
         answer = d .answer ∙ ap traceNumbers (sym trace-is);
         changes = d .changes ∙ ap (λ (t : Trace). t .changes) (sym trace-is);
         changes-most = omega (arith, d .changes, changes-most zeroAt J proper estOrder lctOrder by-earliest (ordered .by-completion) (accepted .some), count);
         starts = d .starts ∙ ap (λ (t : Trace). t .starts) (sym trace-is);
-        post-words = d .posts ∙ overwrites ps (postWords 0 (run zeroAt J estOrder lctOrder .posts)) (omega (arith, posts-fit, p)) ∙ ap (postsAfter ps) (sym trace-is);
-        atom-words = d .atoms ∙ overwrites as′ (atomWords (reasons (run zeroAt J estOrder lctOrder .posts) ++ endReason (run zeroAt J estOrder lctOrder .end))) (omega (arith, atoms-fit, q))
-            ∙ ap (atomsAfter as′) (sym trace-is);
-        posts-fit = subst (λ (t : Trace). length (postWords 0 (t .posts)) ≤ length ps) (sym trace-is) (omega (arith, posts-fit, p));
-        atoms-fit = subst (λ (t : Trace). length (atomWords (reasons (t .posts) ++ endReason (t .end))) ≤ length as′) (sym trace-is) (omega (arith, atoms-fit, q));
+        post-words = d .post-words ∙ overwrites posts (postWords 0 (run zeroAt J estOrder lctOrder .posts)) (omega (arith, posts-fit, p)) ∙ ap (postsAfter posts) (sym trace-is);
+        atom-words = d .atom-words ∙ overwrites atoms (atomWords (reasons (run zeroAt J estOrder lctOrder .posts) ++ endReason (run zeroAt J estOrder lctOrder .end))) (omega (arith, atoms-fit, q))
+            ∙ ap (atomsAfter atoms) (sym trace-is);
+        posts-fit = subst (λ (t : Trace). length (postWords 0 (t .posts)) ≤ length posts) (sym trace-is) (omega (arith, posts-fit, p));
+        atoms-fit = subst (λ (t : Trace). length (atomWords (reasons (t .posts) ++ endReason (t .end))) ≤ length atoms) (sym trace-is) (omega (arith, atoms-fit, q));
       }

@@ -9,7 +9,7 @@ use Rattle.integers.specs.Orders.{index}
 use Rattle.trees.specs.Leaves.{gray}
 use Rattle.trees.specs.Operations.{Held, HasTask, Coloured}
 use Rattle.propagator.specs.declared.disjunctive_propagator.Written.{Written}
-use Rattle.propagator.specs.Candidates.{Standing}
+use Rattle.propagator.specs.Candidates.{Considerable}
 use Rattle.propagator.proofs.ConsideredTask.{few}
 use Rattle.propagator.specs.MovedToLambda.{Movable}
 
@@ -26,7 +26,7 @@ module _ {inner : ℕ} {words mapping est durations : List ℕ} {j : ℕ} (m : M
   moved e {words′} q = subst (λ (k : ℕ). Coloured gray shown k words′) e q
 
 -- the task of the level may leave Theta
-module _ {n inn height lct : ℕ} {words : List ℕ} {es ps as′ : List ℤ} {w : Written} {est lst durations reverseMapping mapping : List ℕ} (s : Standing n inn height lct words es ps as′ w est lst durations reverseMapping mapping)
+module _ {n inn height lct : ℕ} {words : List ℕ} {es posts atoms : List ℤ} {w : Written} {est lst durations reverseMapping mapping : List ℕ} (s : Considerable n inn height lct words es posts atoms w est lst durations reverseMapping mapping)
     (j : ℕ) (z : j ≡ getD (s .lctOrder) (s .level) 0) where
   pub known-j : j < s .J .count
   known-j = omega (arith, z, s .ordered .by-completion .task (s .level) (s .small))

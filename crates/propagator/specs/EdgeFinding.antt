@@ -27,13 +27,13 @@ abbrev pub conflictOf : {inner : ℕ} {words : List ℕ} → Held inner words �
 conflictOf {inner} {words} h reverseMapping n est durations lct = conflict zeroAt (starting est durations) lct (sum (h .J) (h .estOrder) (h .leaves)) (thetaIn words inner reverseMapping n)
 
 -- it stands after the atoms written so far
-pub record Conflicted (as′ bs : List ℤ) (w : Written) (r : Finished) (reason : List Atom) : Type 0 where
-  pub atom-words : bs ≡ sets as′ (3 * w .atoms) (atomWords reason)
+pub record ConflictExplained (atoms atoms′ : List ℤ) (w : Written) (r : Finished) (reason : List Atom) : Type 0 where
+  pub atom-words : atoms′ ≡ sets atoms (3 * w .atoms) (atomWords reason)
   pub answer : r .outcome ≡ outcome.Overload (w .posts) (w .atoms) (length reason)
   pub changes : r .changes ≡ w .changes
 
 -- What edge finding is given: the tasks in both orders, the arrays that hold them, room for posts and reasons, and the tree of all tasks.
-pub record Begun (n inner height : ℕ) (words : List ℕ) (es ps as′ : List ℤ) (est lst lct durations reverseMapping sortedTasks mapping : List ℕ) : Type 0 where
+pub record EdgeFindable (n inner height : ℕ) (words : List ℕ) (es posts atoms : List ℤ) (est lst lct durations reverseMapping sortedTasks mapping : List ℕ) : Type 0 where
   pub J : Tasks natural
   pub estOrder : List ℕ
   pub lctOrder : List ℕ
@@ -42,14 +42,14 @@ pub record Begun (n inner height : ℕ) (words : List ℕ) (es ps as′ : List �
   pub latest : Holds n (J .latest) lst
   pub completions : Holds n (completion J) lct
   pub order : Holds n (λ t. getD lctOrder t 0) sortedTasks
-  pub post-room : 4 * n ≤ length ps
-  pub atom-room : 6 * (n * n) ≤ length as′
-  pub at : At J estOrder ps as′ (allWhite J) inner words es ps as′ 0 0 n
+  pub post-room : 4 * n ≤ length posts
+  pub atom-room : 6 * (n * n) ≤ length atoms
+  pub at : At J estOrder posts atoms (allWhite J) inner words es posts atoms 0 0 n
 
 -- What it leaves: the trace of the run's definition.
-pub record Ended (J : Tasks natural) (estOrder lctOrder : List ℕ) (ps as′ : List ℤ) (r : Outcome) (changed : ℕ) (es′ ps′ bs : List ℤ) : Type 0 where
+pub record EdgeFound (J : Tasks natural) (estOrder lctOrder : List ℕ) (posts atoms : List ℤ) (r : Outcome) (changed : ℕ) (es′ posts′ atoms′ : List ℤ) : Type 0 where
   pub answer : outcomeNumbers r ≡ traceNumbers (run zeroAt J estOrder lctOrder)
   pub changes : changed ≡ run zeroAt J estOrder lctOrder .changes
   pub starts : es′ ≡ run zeroAt J estOrder lctOrder .starts
-  pub posts : ps′ ≡ sets ps 0 (postWords 0 (run zeroAt J estOrder lctOrder .posts))
-  pub atoms : bs ≡ sets as′ 0 (atomWords (reasons (run zeroAt J estOrder lctOrder .posts) ++ endReason (run zeroAt J estOrder lctOrder .end)))
+  pub post-words : posts′ ≡ sets posts 0 (postWords 0 (run zeroAt J estOrder lctOrder .posts))
+  pub atom-words : atoms′ ≡ sets atoms 0 (atomWords (reasons (run zeroAt J estOrder lctOrder .posts) ++ endReason (run zeroAt J estOrder lctOrder .end)))

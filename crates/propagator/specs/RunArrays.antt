@@ -43,12 +43,12 @@ pub record Arrays (J : Tasks natural) (estOrder : List ℕ) (n inner height : �
 
 -- What a run has got to, at the state st: the tree shows its leaves, the slices hold its starts, posts and reasons over what stood there at entry, and its leaf
 -- changes are counted.
-pub record At (J : Tasks natural) (estOrder : List ℕ) (ps₀ as₀ : List ℤ) (st : State) (inner : ℕ) (words : List ℕ) (es ps as′ : List ℤ)
+pub record At (J : Tasks natural) (estOrder : List ℕ) (posts₀ atoms₀ : List ℤ) (st : State) (inner : ℕ) (words : List ℕ) (es posts atoms : List ℤ)
     (many far changed : ℕ) : Type 0 where
   pub tree : IsTree J estOrder (st .leaves) inner words
   pub starts : es ≡ map (instant zeroAt) (st .starts)
-  pub posts : ps ≡ sets ps₀ 0 (postWords 0 (st .posts))
-  pub atoms : as′ ≡ sets as₀ 0 (atomWords (reasons (st .posts)))
+  pub post-words : posts ≡ sets posts₀ 0 (postWords 0 (st .posts))
+  pub atom-words : atoms ≡ sets atoms₀ 0 (atomWords (reasons (st .posts)))
   pub posted : many ≡ length (st .posts)
   pub explained : far ≡ length (reasons (st .posts))
   pub counted : changed ≡ st .changes

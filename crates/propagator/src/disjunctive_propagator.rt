@@ -22,7 +22,7 @@ use trees::disjunctive_task::task_of;
 use trees::theta_lambda_tree::Responsible;
 use trees::theta_lambda_tree::ThetaLambdaTree;
 ghost use lib.ListN.{length};
-ghost use Rattle.propagator.specs.Ran.{Runnable, Left, Ran};
+ghost use Rattle.propagator.specs.Ran.{Runnable, RunLeft, Ran};
 ghost use mathlib.Core.Path.{_≡_};
 ghost use Prim.Native.Nat.{_≤_, _<_, ℕ, _+_, _*_, _^_};
 ghost use Rattle.integers.specs.Limits.{TASKS, INNER, ATOMS};
@@ -30,11 +30,11 @@ ghost use Rattle.trees.specs.Ects.{exceeds, raisedTo};
 ghost use Rattle.trees.specs.Leaves.{ect, sum};
 ghost use Rattle.trees.specs.ArraySearches.{thetaIn};
 ghost use Rattle.trees.specs.Operations.{Held, Answers, Tall};
-ghost use Rattle.explanations.specs.Explanations.{Overloaded, Preceded};
+ghost use Rattle.explanations.specs.Explanations.{ConflictExplainable, PropagationExplainable};
 ghost use Rattle.propagator.specs.FilledTheta.{Fillable, Filled};
-ghost use Rattle.propagator.specs.EdgeFinding.{Conflicted, conflictOf, Begun, Ended};
+ghost use Rattle.propagator.specs.EdgeFinding.{ConflictExplained, conflictOf, EdgeFindable, EdgeFound};
 ghost use Rattle.propagator.specs.MovedToLambda.{Movable, Moved};
-ghost use Rattle.propagator.specs.Candidates.{nothingWritten, counted, Proposes, reasonOf, Posted, Standing, Considered, AllConsidered, Responsible-for};
+ghost use Rattle.propagator.specs.Candidates.{nothingWritten, counted, Proposes, reasonOf, Posted, Considerable, Considered, AllConsidered, Responsible-for};
 
 // What a run hands back: the record, how the run ended, and its leaf changes.
 pub struct Run {
@@ -90,7 +90,7 @@ pub fn run_accepted(
     atoms: &mut [i32],
 ) -> Finished
     requires { ⌜ Runnable «record» (now earliest) (now latest) (length (now posts)) (length (now atoms)) ⌝ }
-    ensures { λ r. ⌜ Left «record» (now (earliest .entry)) (now (latest .entry)) (now (posts .entry)) (now (atoms .entry)) (r .outcome) (r .changes)
+    ensures { λ r. ⌜ RunLeft «record» (now (earliest .entry)) (now (latest .entry)) (now (posts .entry)) (now (atoms .entry)) (r .outcome) (r .changes)
         (now (earliest .exit)) (now (posts .exit)) (now (atoms .exit)) ⌝ }
 {
     let n = record.count;
@@ -153,11 +153,11 @@ fn edge_finding<'a>(
     height: usize,
     n: usize,
 ) -> Finished
-    requires { ⌜ Begun n inner height (now nodes) (now earliest) (now posts) (now atoms) (now est) (now lst) (now lct) (now durations) (now «reverse_mapping»)
+    requires { ⌜ EdgeFindable n inner height (now nodes) (now earliest) (now posts) (now atoms) (now est) (now lst) (now lct) (now durations) (now «reverse_mapping»)
         (now «sorted_tasks») (now mapping) ⌝ }
-    ensures { λ r. ⌜ ((s : Begun n inner height (now (nodes .entry)) (now (earliest .entry)) (now (posts .entry)) (now (atoms .entry)) (now (est .entry))
+    ensures { λ r. ⌜ ((s : EdgeFindable n inner height (now (nodes .entry)) (now (earliest .entry)) (now (posts .entry)) (now (atoms .entry)) (now (est .entry))
         (now (lst .entry)) (now (lct .entry)) (now (durations .entry)) (now («reverse_mapping» .entry)) (now («sorted_tasks» .entry)) (now (mapping .entry)))
-        → Ended (s .J) (s .estOrder) (s .lctOrder) (now (posts .entry)) (now (atoms .entry)) (r .outcome) (r .changes) (now (earliest .exit))
+        → EdgeFound (s .J) (s .estOrder) (s .lctOrder) (now (posts .entry)) (now (atoms .entry)) (r .outcome) (r .changes) (now (earliest .exit))
         (now (posts .exit)) (now (atoms .exit))) ⌝ }
 {
     let mut w = Written::new(n);
@@ -254,10 +254,10 @@ fn overload<'a>(
     lct: u32,
 ) -> Finished
     requires { ⌜ ((h : Held inner (now nodes))
-        × (Overloaded (length (now atoms)) (written .atoms) (thetaIn (now nodes) inner (now «reverse_mapping») n) (now est) (now durations)
+        × (ConflictExplainable (length (now atoms)) (written .atoms) (thetaIn (now nodes) inner (now «reverse_mapping») n) (now est) (now durations)
         (sum (h .J) (h .estOrder) (h .leaves)) lct) × (n ≤ TASKS) × (inner ≤ INNER)) ⌝ }
     ensures { λ r. ⌜ ((h : Held inner (now (nodes .entry)))
-        → Conflicted (now (atoms .entry)) (now (atoms .exit)) written r (conflictOf h (now («reverse_mapping» .entry)) n (now (est .entry)) (now (durations .entry)) lct)) ⌝ }
+        → ConflictExplained (now (atoms .entry)) (now (atoms .exit)) written r (conflictOf h (now («reverse_mapping» .entry)) n (now (est .entry)) (now (durations .entry)) lct)) ⌝ }
 {
     let p_theta = ThetaLambdaTree::sum_of_processing_times(nodes);
     let at = written.atoms;
@@ -366,9 +366,9 @@ fn consider_all<'a>(
     n: usize,
     lct: u32,
 ) -> Turn
-    requires { ⌜ Standing n inner height lct (now nodes) (now earliest) (now posts) (now atoms) written (now est) (now lst) (now durations) (now «reverse_mapping»)
+    requires { ⌜ Considerable n inner height lct (now nodes) (now earliest) (now posts) (now atoms) written (now est) (now lst) (now durations) (now «reverse_mapping»)
         (now mapping) ⌝ }
-    ensures { λ r. ⌜ ((s : Standing n inner height lct (now (nodes .entry)) (now (earliest .entry)) (now (posts .entry)) (now (atoms .entry)) written
+    ensures { λ r. ⌜ ((s : Considerable n inner height lct (now (nodes .entry)) (now (earliest .entry)) (now (posts .entry)) (now (atoms .entry)) written
         (now (est .entry)) (now (lst .entry)) (now (durations .entry)) (now («reverse_mapping» .entry)) (now (mapping .entry)))
         → AllConsidered s r (now (nodes .exit)) (now (earliest .exit)) (now (posts .exit)) (now (atoms .exit))) ⌝ }
 {
@@ -439,9 +439,9 @@ fn consider<'a>(
     id: LocalId,
     lct: u32,
 ) -> Turn
-    requires { ⌜ ((height : ℕ) × (x : ℕ) × (s : Standing n inner height lct (now nodes) (now earliest) (now posts) (now atoms) written (now est) (now lst)
+    requires { ⌜ ((height : ℕ) × (x : ℕ) × (s : Considerable n inner height lct (now nodes) (now earliest) (now posts) (now atoms) written (now est) (now lst)
         (now durations) (now «reverse_mapping») (now mapping)) × Responsible-for s (id .0) x) ⌝ }
-    ensures { λ r. ⌜ ((height x : ℕ) (s : Standing n inner height lct (now (nodes .entry)) (now (earliest .entry)) (now (posts .entry))
+    ensures { λ r. ⌜ ((height x : ℕ) (s : Considerable n inner height lct (now (nodes .entry)) (now (earliest .entry)) (now (posts .entry))
         (now (atoms .entry)) written (now (est .entry)) (now (lst .entry)) (now (durations .entry)) (now («reverse_mapping» .entry)) (now (mapping .entry)))
         → Responsible-for s (id .0) x → Considered s r (now (nodes .exit)) (now (earliest .exit)) (now (posts .exit)) (now (atoms .exit))) ⌝ }
 {
@@ -498,7 +498,7 @@ fn post<'a>(
     lct: u32,
 ) -> Written
     requires { ⌜ ((h : Held inner (now nodes))
-        × (Preceded (length (now atoms)) (written .atoms) (thetaIn (now nodes) inner (now «reverse_mapping») n) (now est) (now durations)
+        × (PropagationExplainable (length (now atoms)) (written .atoms) (thetaIn (now nodes) inner (now «reverse_mapping») n) (now est) (now durations)
         (sum (h .J) (h .estOrder) (h .leaves)) lct i «new_bound»)
         × (4 * written .posts + 4 ≤ length (now posts)) × (n ≤ TASKS) × (inner ≤ INNER) × (written .atoms ≤ ATOMS)) ⌝ }
     ensures { λ r. ⌜ ((h : Held inner (now (nodes .entry)))

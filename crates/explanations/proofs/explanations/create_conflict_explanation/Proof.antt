@@ -12,7 +12,7 @@ use Rattle.trees.specs.ArraySearches.{whiteIn, taskIn}
 use Rattle.explanations.specs.Walks.{between}
 use Rattle.explanations.specs.WrittenAtoms.{starting}
 use Rattle.post_words.specs.StoredAtoms.{Stored}
-use Rattle.explanations.specs.Explanations.{Overloaded}
+use Rattle.explanations.specs.Explanations.{ConflictExplainable}
 use Rattle.explanations.proofs.LeafWalk.{all-leaves}
 use Rattle.explanations.proofs.StoredReasons.{Overflow, overflow, overload-walk, overload-known, overload-stops, overload-writable, conflict-stored}
 use Rattle.explanations.proofs.explanations.create_conflict_explanation.Statement.{statement}
@@ -25,8 +25,8 @@ abbrev tasks : tie.Start → ℕ → ℕ
 tasks c = taskIn (c .args .reverse-mapping .now)
 
 -- what is asked, of the leaves
-given : (c : tie.Start) → let a = c .args in Overloaded (length (a .atoms .now)) (a .k) (between (white c) (tasks c) 0 (a .n)) (a .est .now) (a .durations .now) (a .p-theta) (a .lct)
-given c = let a = c .args in subst (λ (ks : List ℕ). Overloaded (length (a .atoms .now)) (a .k) ks (a .est .now) (a .durations .now) (a .p-theta) (a .lct)) (all-leaves (white c) (tasks c) (a .n)) (c .pre .0)
+given : (c : tie.Start) → let a = c .args in ConflictExplainable (length (a .atoms .now)) (a .k) (between (white c) (tasks c) 0 (a .n)) (a .est .now) (a .durations .now) (a .p-theta) (a .lct)
+given c = let a = c .args in subst (λ (ks : List ℕ). ConflictExplainable (length (a .atoms .now)) (a .k) ks (a .est .now) (a .durations .now) (a .p-theta) (a .lct)) (all-leaves (white c) (tasks c) (a .n)) (c .pre .0)
 
 -- what ω passes lct by
 abbrev start : tie.After-preceding → tie.Start

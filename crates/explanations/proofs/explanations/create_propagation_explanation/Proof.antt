@@ -12,7 +12,7 @@ use Rattle.trees.specs.ArraySearches.{whiteIn, taskIn}
 use Rattle.explanations.specs.Walks.{between}
 use Rattle.explanations.specs.WrittenAtoms.{starting}
 use Rattle.post_words.specs.StoredAtoms.{Stored}
-use Rattle.explanations.specs.Explanations.{Preceded}
+use Rattle.explanations.specs.Explanations.{PropagationExplainable}
 use Rattle.explanations.proofs.LeafWalk.{all-leaves}
 use Rattle.post_words.proofs.StoredAtoms.{stored-length}
 use Rattle.explanations.proofs.StoredReasons.{post-walk, post-known, bound-walk, post-writable, Reach, reach, last-room, propagation-stored}
@@ -26,8 +26,8 @@ abbrev tasks : tie.Start → ℕ → ℕ
 tasks c = taskIn (c .args .reverse-mapping .now)
 
 -- what is asked, of the leaves
-given : (c : tie.Start) → let a = c .args in Preceded (length (a .atoms .now)) (a .k) (between (white c) (tasks c) 0 (a .n)) (a .est .now) (a .durations .now) (a .p-theta) (a .lct-j) (a .propagated-task) (a .new-bound)
-given c = let a = c .args in subst (λ (ks : List ℕ). Preceded (length (a .atoms .now)) (a .k) ks (a .est .now) (a .durations .now) (a .p-theta) (a .lct-j) (a .propagated-task) (a .new-bound)) (all-leaves (white c) (tasks c) (a .n))
+given : (c : tie.Start) → let a = c .args in PropagationExplainable (length (a .atoms .now)) (a .k) (between (white c) (tasks c) 0 (a .n)) (a .est .now) (a .durations .now) (a .p-theta) (a .lct-j) (a .propagated-task) (a .new-bound)
+given c = let a = c .args in subst (λ (ks : List ℕ). PropagationExplainable (length (a .atoms .now)) (a .k) ks (a .est .now) (a .durations .now) (a .p-theta) (a .lct-j) (a .propagated-task) (a .new-bound)) (all-leaves (white c) (tasks c) (a .n))
     (c .pre .0)
 
 -- what ω and i pass lct by,

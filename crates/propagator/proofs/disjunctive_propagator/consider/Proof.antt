@@ -10,14 +10,14 @@ use mir.Syntax.{w32}
 use Rattle.trees.specs.Ects.{raisedTo}
 use Rattle.trees.specs.Leaves.{ect}
 use Rattle.trees.specs.Operations.{Answers}
-use Rattle.propagator.specs.Candidates.{Standing, Responsible-for}
+use Rattle.propagator.specs.Candidates.{Considerable, Responsible-for}
 use Rattle.propagator.proofs.ConsideredTask.{shown, few, inner-few, few-changes, known, post-room, many-atoms, start-inside, may-clear, asked, Tried, tried-sizes, tried-changes, tried-emptied, tried-on}
 use Rattle.propagator.proofs.disjunctive_propagator.consider.Statement.{statement}
 use Rattle.propagator.proofs.disjunctive_propagator.consider.Tie as tie
 
 -- what is asked
 abbrev asks : (c : tie.Start) → let a = c .args in
-    ((height : ℕ) × (x : ℕ) × (s : Standing (a .n) (a .inner) height (a .lct) (a .nodes .now) (a .earliest .now) (a .posts .now) (a .atoms .now) (a .written) (a .est .now) (a .lst .now)
+    ((height : ℕ) × (x : ℕ) × (s : Considerable (a .n) (a .inner) height (a .lct) (a .nodes .now) (a .earliest .now) (a .posts .now) (a .atoms .now) (a .written) (a .est .now) (a .lst .now)
     (a .durations .now) (a .reverse-mapping .now) (a .mapping .now)) × Responsible-for s (a .id .0) x)
 asks c = c .pre
 
@@ -43,7 +43,7 @@ post-requires c κs =
 
 -- what stands where the arms meet
 tried : (c : tie.Joined1) → let a = start (c .before) .args in
-    (height x : ℕ) (s : Standing (a .n) (a .inner) height (a .lct) (a .nodes .now) (a .earliest .now) (a .posts .now) (a .atoms .now) (a .written) (a .est .now) (a .lst .now)
+    (height x : ℕ) (s : Considerable (a .n) (a .inner) height (a .lct) (a .nodes .now) (a .earliest .now) (a .posts .now) (a .atoms .now) (a .written) (a .est .now) (a .lst .now)
     (a .durations .now) (a .reverse-mapping .now) (a .mapping .now)) (r : Responsible-for s (a .id .0) x)
     → Tried s r (c .before .raised-start .result) (raised (c .before) (a .inner) (shown s)) (c .if1 .posts) (c .if1 .atoms) (c .if1 .w)
 tried c height x s r =

@@ -9,7 +9,7 @@ use lib.ListN.{length, getD}
 use borrow.Author.Needs.{needs}
 use Rattle.trees.specs.Ects.{exceeds}
 use Rattle.propagator.specs.declared.disjunctive_propagator.Written.{Written}
-use Rattle.propagator.specs.EdgeFinding.{Begun}
+use Rattle.propagator.specs.EdgeFinding.{EdgeFindable}
 use Rattle.propagator.proofs.OuterLoop.{Level, shown, ect, few, sorted-task-small, first-level, all-done, over-asked, over-inner, few-changes, overloads, moves, goes-on, one-more, one-emptied}
 use Rattle.propagator.proofs.disjunctive_propagator.edge_finding.Statement.{statement}
 use Rattle.propagator.proofs.disjunctive_propagator.edge_finding.Tie as tie
@@ -17,8 +17,8 @@ use Rattle.propagator.proofs.disjunctive_propagator.edge_finding.Tie as
 -- the level that the loop stands at; the slices keep their lengths
 record Loop (n inner height : ℕ) (nodes₀ : List ℕ) (earliest₀ posts₀ atoms₀ : List ℤ) (est lst lct durations reverseMapping sortedTasks mapping nodes : List ℕ) (earliest posts atoms : List ℤ) (w : Written)
     (index : ℕ) : Type 0 where
-  begun : Begun n inner height nodes₀ earliest₀ posts₀ atoms₀ est lst lct durations reverseMapping sortedTasks mapping
-  level : (s : Begun n inner height nodes₀ earliest₀ posts₀ atoms₀ est lst lct durations reverseMapping sortedTasks mapping) → Level s index nodes earliest posts atoms w
+  findable : EdgeFindable n inner height nodes₀ earliest₀ posts₀ atoms₀ est lst lct durations reverseMapping sortedTasks mapping
+  level : (s : EdgeFindable n inner height nodes₀ earliest₀ posts₀ atoms₀ est lst lct durations reverseMapping sortedTasks mapping) → Level s index nodes earliest posts atoms w
   small : index < n
   starts-length : length earliest ≡ length earliest₀
   posts-length : length posts ≡ length posts₀
@@ -58,15 +58,15 @@ abbrev moved : tie.After-consider-all Inv-loop μ-loop → tie.After-move-to-lam
 moved c = counts c .before
 
 loop-holds : tie.Need-loop-holds Inv-loop μ-loop
-loop-holds c = let s = c .before .pre in record { begun = s; level = λ s. rw (c .new .ensures) (first-level s); small = first-level s .small; starts-length = refl; posts-length = refl; atoms-length = refl }
+loop-holds c = let s = c .before .pre in record { findable = s; level = λ s. rw (c .new .ensures) (first-level s); small = first-level s .small; starts-length = refl; posts-length = refl; atoms-length = refl }
 
 mul-lct-j : tie.Need-mul-lct-j Inv-loop μ-loop
-mul-lct-j c = let l = c .before .before .loop in omega (arith, sorted-task-small (l .inv .begun) (l .index) (l .inv .small))
+mul-lct-j c = let l = c .before .before .loop in omega (arith, sorted-task-small (l .inv .findable) (l .index) (l .inv .small))
 
 -- the test of the level, by the tree of whatever it began with
 abbrev Test : tie.In-loop Inv-loop μ-loop → Bool → Type 0
 Test c u = let a = start c .args in let l = c .before .loop in
-    (s : Begun (a .n) (a .inner) (a .height) (a .nodes .now) (a .earliest .now) (a .posts .now) (a .atoms .now) (a .est .now) (a .lst .now) (a .lct .now) (a .durations .now) (a .reverse-mapping .now)
+    (s : EdgeFindable (a .n) (a .inner) (a .height) (a .nodes .now) (a .earliest .now) (a .posts .now) (a .atoms .now) (a .est .now) (a .lst .now) (a .lct .now) (a .durations .now) (a .reverse-mapping .now)
     (a .sorted-tasks .now) (a .mapping .now))
     → exceeds (ect s (l .inv .level s) (more c)) (end c) ≡ u
 
@@ -81,8 +81,8 @@ overload-requires : tie.Need-overload-requires Inv-loop μ-loop
 overload-requires c κs =
     let level = entered (c .before .before .before) in
     let v = level .before .loop .inv in
-    let l = v .level (v .begun) in
-    (shown (v .begun) l (more level), over-asked (v .begun) l (more level) (passes (c .before .before) (v .begun)), few (v .begun), over-inner (v .begun) l (more level))
+    let l = v .level (v .findable) in
+    (shown (v .findable) l (more level), over-asked (v .findable) l (more level) (passes (c .before .before) (v .findable)), few (v .findable), over-inner (v .findable) l (more level))
 
 returns : tie.Need-returns Inv-loop μ-loop
 returns c = λ s.
@@ -94,23 +94,23 @@ move-to-lambda-requires : tie.Need-move-to-lambda-requires Inv-loop μ-loop
 move-to-lambda-requires c κs =
     let level = entered (c .before .before) in
     let v = level .before .loop .inv in
-    moves (v .begun) (v .level (v .begun)) (more level)
+    moves (v .findable) (v .level (v .findable)) (more level)
 
 counted-requires : tie.Need-counted-requires Inv-loop μ-loop
 counted-requires c κs =
     let level = level-of c in
     let v = level .before .loop .inv in
-    omega (arith, few-changes (v .begun) (v .level (v .begun)) (more level))
+    omega (arith, few-changes (v .findable) (v .level (v .findable)) (more level))
 
 mul-lct-next-2 : tie.Need-mul-lct-next-2 Inv-loop μ-loop
-mul-lct-next-2 c = let level = level-of (c .before .before) in omega (arith, sorted-task-small (level .before .loop .inv .begun) (level .before .loop .index + 1) (more level))
+mul-lct-next-2 c = let level = level-of (c .before .before) in omega (arith, sorted-task-small (level .before .loop .inv .findable) (level .before .loop .index + 1) (more level))
 
 consider-all-requires : tie.Need-consider-all-requires Inv-loop μ-loop
 consider-all-requires c κs =
     let two = c .before .before .before .before .before .before in
     let move = two .before in
     let v = level-of move .before .loop .inv in
-    goes-on (v .begun) (v .level (v .begun)) (more (level-of move)) (quiet move (v .begun)) (move .move-to-lambda .ensures) (two .counted .ensures)
+    goes-on (v .findable) (v .level (v .findable)) (more (level-of move)) (quiet move (v .findable)) (move .move-to-lambda .ensures) (two .counted .ensures)
 
 loop-less : tie.Need-loop-less Inv-loop μ-loop
 loop-less c = omega (arith, more (level-of (moved (c .before .before .before .before .before .before))))
@@ -121,7 +121,7 @@ loop-again c =
     let move = moved considered in
     let v = level-of move .before .loop .inv in
     record {
-      begun = v .begun;
+      findable = v .findable;
       level = λ s.
           let g = goes-on s (v .level s) (more (level-of move)) (quiet move s) (move .move-to-lambda .ensures) (counts considered .counted .ensures) in
           one-more s (v .level s) (more (level-of move)) (quiet move s) (move .move-to-lambda .ensures) (counts considered .counted .ensures) (c .before .turn .given .1) (considered .consider-all .ensures g);

@@ -7,18 +7,18 @@ use Rattle.integers.specs.Moments.{zeroAt}
 use Rattle.runs.specs.Runs.{conflict}
 use Rattle.trees.specs.ArraySearches.{thetaIn}
 use Rattle.explanations.specs.WrittenAtoms.{starting}
-use Rattle.explanations.specs.Explanations.{Overloaded}
-use Rattle.propagator.specs.EdgeFinding.{Conflicted}
+use Rattle.explanations.specs.Explanations.{ConflictExplainable}
+use Rattle.propagator.specs.EdgeFinding.{ConflictExplained}
 use Rattle.propagator.proofs.OverloadReason.{conflict-done}
 use Rattle.propagator.proofs.disjunctive_propagator.overload.Statement.{statement}
 use Rattle.propagator.proofs.disjunctive_propagator.overload.Tie as tie
 
 -- what is asked, with the sum that the tree answered
 given : (c : tie.After-sum-of-processing-times)
-    → let a = c .before .args in Overloaded (length (a .atoms .now)) (a .written .atoms) (thetaIn (a .nodes .now) (a .inner) (a .reverse-mapping .now) (a .n)) (a .est .now) (a .durations .now)
+    → let a = c .before .args in ConflictExplainable (length (a .atoms .now)) (a .written .atoms) (thetaIn (a .nodes .now) (a .inner) (a .reverse-mapping .now) (a .n)) (a .est .now) (a .durations .now)
     (c .sum-of-processing-times .result) (a .lct)
 given c = let a = c .before .args in
-    subst (λ (p : ℕ). Overloaded (length (a .atoms .now)) (a .written .atoms) (thetaIn (a .nodes .now) (a .inner) (a .reverse-mapping .now) (a .n)) (a .est .now) (a .durations .now) p (a .lct))
+    subst (λ (p : ℕ). ConflictExplainable (length (a .atoms .now)) (a .written .atoms) (thetaIn (a .nodes .now) (a .inner) (a .reverse-mapping .now) (a .n)) (a .est .now) (a .durations .now) p (a .lct))
     (sym (c .sum-of-processing-times .ensures (a .inner) (c .before .pre .0))) (c .before .pre .1)
 
 abbrev sums : tie.After-create-conflict-explanation → tie.After-sum-of-processing-times
@@ -32,7 +32,7 @@ returns c = λ h.
     let made = c .before .before in
     let s = sums made in
     let a = s .before .args in
-    subst (λ (p : ℕ). Conflicted (a .atoms .now) (made .create-conflict-explanation .last .0) (a .written) (c .finished .result)
+    subst (λ (p : ℕ). ConflictExplained (a .atoms .now) (made .create-conflict-explanation .last .0) (a .written) (c .finished .result)
     (conflict zeroAt (starting (a .est .now) (a .durations .now)) (a .lct) p (thetaIn (a .nodes .now) (a .inner) (a .reverse-mapping .now) (a .n))))
     (s .sum-of-processing-times .ensures (a .inner) h)
     (conflict-done (made .create-conflict-explanation .ensures) refl (c .finished .ensures))

@@ -7,7 +7,7 @@ use Rattle.integers.specs.Moments.{zeroAt}
 use Rattle.runs.specs.Runs.{propagation}
 use Rattle.trees.specs.ArraySearches.{thetaIn}
 use Rattle.explanations.specs.WrittenAtoms.{starting}
-use Rattle.explanations.specs.Explanations.{Preceded}
+use Rattle.explanations.specs.Explanations.{PropagationExplainable}
 use Rattle.propagator.specs.Candidates.{Posted}
 use Rattle.propagator.proofs.PostWords.{reason-few, post-fits, post-done}
 use Rattle.propagator.proofs.disjunctive_propagator.post.Statement.{statement}
@@ -15,10 +15,10 @@ use Rattle.propagator.proofs.disjunctive_propagator.post.Tie as tie
 
 -- what is asked, with the sum that the tree answered
 given : (c : tie.After-sum-of-processing-times)
-    → let a = c .before .args in Preceded (length (a .atoms .now)) (a .written .atoms) (thetaIn (a .nodes .now) (a .inner) (a .reverse-mapping .now) (a .n)) (a .est .now) (a .durations .now)
+    → let a = c .before .args in PropagationExplainable (length (a .atoms .now)) (a .written .atoms) (thetaIn (a .nodes .now) (a .inner) (a .reverse-mapping .now) (a .n)) (a .est .now) (a .durations .now)
     (c .sum-of-processing-times .result) (a .lct) (a .i) (a .new-bound)
 given c = let a = c .before .args in
-    subst (λ (p : ℕ). Preceded (length (a .atoms .now)) (a .written .atoms) (thetaIn (a .nodes .now) (a .inner) (a .reverse-mapping .now) (a .n)) (a .est .now) (a .durations .now) p (a .lct) (a .i) (a .new-bound))
+    subst (λ (p : ℕ). PropagationExplainable (length (a .atoms .now)) (a .written .atoms) (thetaIn (a .nodes .now) (a .inner) (a .reverse-mapping .now) (a .n)) (a .est .now) (a .durations .now) p (a .lct) (a .i) (a .new-bound))
     (sym (c .sum-of-processing-times .ensures (a .inner) (c .before .pre .0))) (c .before .pre .1)
 
 abbrev sums : tie.After-create-propagation-explanation → tie.After-sum-of-processing-times
