@@ -15,6 +15,7 @@ use Rattle.integers.specs.Limits.{TASKS, ATOMS, INNER}
 use Rattle.integers.specs.Moments.{instant, zeroAt}
 use Rattle.integers.specs.Orders.{index}
 use Rattle.scheduling.specs.Scheduling.{natural, Tasks, TaskSet, Atom, completion}
+use Rattle.trees.specs.declared.complete_tree.TreeSize.{TreeSize}
 use Rattle.trees.specs.Ects.{exceeds, raisedTo}
 use Rattle.trees.proofs.Ects.{raised-some, within-bound, raised-least}
 use Rattle.trees.specs.Leaves as leaves
@@ -41,7 +42,7 @@ use Rattle.explanations.specs.Explanations.{PropagationExplainable}
 use Rattle.explanations.proofs.ExplanationAtoms.{Alike, propagation-same}
 use Rattle.propagator.specs.declared.disjunctive_propagator.Written.{Written}
 use Rattle.propagator.specs.declared.disjunctive_propagator.Turn.the-variants as turn
-use Rattle.propagator.specs.RunArrays.{Ordered, Holds}
+use Rattle.propagator.specs.RunArrays.{Ordered, Holds, SizeFits}
 use Rattle.propagator.specs.Candidates.{counted, reasonOf, Posted, Considerable, AtNow, Considered, Responsible-for}
 use Rattle.propagator.proofs.ExplanationInput as meeting
 use Rattle.integers.proofs.Lists.{map-set}
@@ -67,8 +68,14 @@ atoms-at atoms₀ made p a c d h = h ∙ rw (a, c, d) (reason-stored atoms₀ (r
 starts-at : {es es′ : List ℤ} (starts : List ℕ) (b : ℕ) {i j : ℕ} → es ≡ map (instant zeroAt) starts → i ≡ j → es′ ≡ set es i (instant zeroAt b) → es′ ≡ map (instant zeroAt) (set starts j b)
 starts-at starts b {i} {j} a d h = h ∙ rw (a, d) (sym (map-set (instant zeroAt) starts j b))
 
-module _ {n inn height lct : ℕ} {words : List ℕ} {es posts atoms : List ℤ} {w : Written} {est lst durations reverseMapping mapping : List ℕ}
-    (s : Considerable n inn height lct words es posts atoms w est lst durations reverseMapping mapping) where
+module _ {size : TreeSize} {lct : ℕ} {words : List ℕ} {es posts atoms : List ℤ} {w : Written} {est lst durations reverseMapping mapping : List ℕ}
+    (s : Considerable size lct words es posts atoms w est lst durations reverseMapping mapping) where
+  abbrev n : ℕ
+  n = size .leaves
+
+  abbrev inn : ℕ
+  inn = size .inner
+
   abbrev J : Tasks natural
   J = s .J
 
@@ -115,7 +122,7 @@ module _ {n inn height lct : ℕ} {words : List ℕ} {es posts atoms : List ℤ}
   abbrev pub shown : Held inn words
   shown = record { J = J; estOrder = estOrder; leaves = ls; limited = G .limited; tree = s .at .tree }
 
-  pub tall : Tall shown height
+  pub tall : Tall shown (size .height)
   tall = s .arrays .tall ∙ ap heightFor (sym (s .arrays .count))
 
   pub theta-is : thetaIn words inn reverseMapping n ≡ leaves.theta J estOrder ls
@@ -124,8 +131,11 @@ module _ {n inn height lct : ℕ} {words : List ℕ} {es posts atoms : List ℤ}
   pub few : n ≤ TASKS
   few = omega (arith, G .limited .count, s .arrays .count)
 
-  pub inner-few : inn ≤ INNER
+  inner-few : inn ≤ INNER
   inner-few = omega (arith, s .at .tree .complete, room-for (J .count) (omega (arith, G .limited .count)))
+
+  pub size-fits : SizeFits size
+  size-fits = record { leaves = few; inner = inner-few }
 
   pub few-changes : w .changes ≤ 4 * TASKS
   few-changes = omega (

@@ -226,7 +226,7 @@ module _ (r : DisjunctivePropagator) (es ls : List ℤ) (postCount atomCount : �
         }
 
         abbrev pub findable : {words : List ℕ} {posts atoms : List ℤ} → IsTree J estOrder (replicate (J .count) white) (made .«number_of_internal_nodes») words → postCount ≡ length posts → atomCount ≡ length atoms
-            → EdgeFindable n (made .«number_of_internal_nodes») (made .height) words es posts atoms est lst lct (r .durations) reverseMapping sortedTasks mapping
+            → EdgeFindable (record { inner = made .«number_of_internal_nodes»; height = made .height; leaves = n }) words es posts atoms est lst lct (r .durations) reverseMapping sortedTasks mapping
         findable {words} {posts} {atoms} full p q = record {
           J = J;
           estOrder = estOrder;

@@ -11,6 +11,7 @@ use lib.ListN.{getD}
 use Rattle.integers.specs.Moments.{zeroAt}
 use Rattle.integers.proofs.Bools.{bool, clash}
 use Rattle.scheduling.specs.Scheduling.{completion}
+use Rattle.trees.specs.declared.complete_tree.TreeSize.{TreeSize}
 use Rattle.trees.specs.Ects.{exceeds}
 use Rattle.trees.specs.declared.disjunctive_task.LocalId.{LocalId}
 use Rattle.trees.specs.declared.theta_lambda_tree.Responsible.{Responsible}
@@ -45,8 +46,14 @@ no-task : (reverseMapping : List ℕ) (u : Option ℕ) → responsible.Nothing �
 no-task reverseMapping none z = refl
 no-task reverseMapping (some x) z = clash {b = true} refl (ap is-task (sym z))
 
-module _ {n inn height lct : ℕ} {words : List ℕ} {es posts atoms : List ℤ} {w : Written} {est lst durations reverseMapping mapping : List ℕ}
-    (s : Considerable n inn height lct words es posts atoms w est lst durations reverseMapping mapping) where
+module _ {size : TreeSize} {lct : ℕ} {words : List ℕ} {es posts atoms : List ℤ} {w : Written} {est lst durations reverseMapping mapping : List ℕ}
+    (s : Considerable size lct words es posts atoms w est lst durations reverseMapping mapping) where
+  abbrev n : ℕ
+  n = size .leaves
+
+  abbrev inn : ℕ
+  inn = size .inner
+
   -- `left` turns are left, and the slices and the tree are at the state of a definition that has as many left
   pub record Turned (left : ℕ) (words′ : List ℕ) (es′ posts′ atoms′ : List ℤ) (w′ : Written) : Type 0 where
     pub st : State
@@ -58,7 +65,7 @@ module _ {n inn height lct : ℕ} {words : List ℕ} {es posts atoms : List ℤ}
   none-yet = record { st = s .st; reached = s .reached; at = s .at; rest = refl }
 
   module _ {left : ℕ} {words′ : List ℕ} {es′ posts′ atoms′ : List ℤ} {w′ : Written} (r : Turned left words′ es′ posts′ atoms′ w′) where
-    abbrev pub still-considerable : Considerable n inn height lct words′ es′ posts′ atoms′ w′ est lst durations reverseMapping mapping
+    abbrev pub still-considerable : Considerable size lct words′ es′ posts′ atoms′ w′ est lst durations reverseMapping mapping
     still-considerable = record {
       J = s .J;
       estOrder = s .estOrder;
@@ -96,7 +103,7 @@ module _ {n inn height lct : ℕ} {words : List ℕ} {es posts atoms : List ℤ}
     test-is y = ap (exceeds bar) (sym (s .ends)) ∙ y
 
     -- there is a task to consider
-    pub one-left : {next : Responsible} {id : LocalId} → next ≡ responsible.Task id → Proposes inn height words′ reverseMapping lct next → (x : ℕ) × Responsible-for still-considerable (id .0) x
+    pub one-left : {next : Responsible} {id : LocalId} → next ≡ responsible.Task id → Proposes size words′ reverseMapping lct next → (x : ℕ) × Responsible-for still-considerable (id .0) x
     one-left {id = id} is all = let z = all (shown still-considerable) (tall still-considerable) in
         elim (bool (exceeds bar lct)) [
           | inr y ↦ clash {b = true} refl (ap is-task (sym is ∙ z ∙ sym (candidate-none reverseMapping lct bar found y)))
@@ -110,7 +117,7 @@ module _ {n inn height lct : ℕ} {words : List ℕ} {es posts atoms : List ℤ}
       rest-is = r .rest ∙ ap (λ (f : ℕ). turns s f (r .st)) some-left
 
       -- there is no task to consider
-      pub nothing-left : {next : Responsible} → next ≡ responsible.Nothing → Proposes inn height words′ reverseMapping lct next → AllConsidered s (turn.On w′) words′ es′ posts′ atoms′
+      pub nothing-left : {next : Responsible} → next ≡ responsible.Nothing → Proposes size words′ reverseMapping lct next → AllConsidered s (turn.On w′) words′ es′ posts′ atoms′
       nothing-left is all = let z = all (shown still-considerable) (tall still-considerable) in (
         r .st,
         r .at,

@@ -6,6 +6,7 @@ use native.Mathlib.Omega.{arith}
 use lib.IntN.{ℤ}
 use lib.ListN.{getD}
 use Rattle.integers.specs.Orders.{index}
+use Rattle.trees.specs.declared.complete_tree.TreeSize.{TreeSize}
 use Rattle.trees.specs.Leaves.{gray}
 use Rattle.trees.specs.Operations.{Held, HasTask, Coloured}
 use Rattle.propagator.specs.declared.disjunctive_propagator.Written.{Written}
@@ -26,8 +27,14 @@ module _ {inner : ℕ} {words mapping est durations : List ℕ} {j : ℕ} (m : M
   moved e {words′} q = subst (λ (k : ℕ). Coloured gray shown k words′) e q
 
 -- the task of the level may leave Theta
-module _ {n inn height lct : ℕ} {words : List ℕ} {es posts atoms : List ℤ} {w : Written} {est lst durations reverseMapping mapping : List ℕ} (s : Considerable n inn height lct words es posts atoms w est lst durations reverseMapping mapping)
+module _ {size : TreeSize} {lct : ℕ} {words : List ℕ} {es posts atoms : List ℤ} {w : Written} {est lst durations reverseMapping mapping : List ℕ} (s : Considerable size lct words es posts atoms w est lst durations reverseMapping mapping)
     (j : ℕ) (z : j ≡ getD (s .lctOrder) (s .level) 0) where
+  abbrev n : ℕ
+  n = size .leaves
+
+  abbrev inn : ℕ
+  inn = size .inner
+
   pub known-j : j < s .J .count
   known-j = omega (arith, z, s .ordered .by-completion .task (s .level) (s .small))
 

@@ -8,10 +8,11 @@ use native.Mathlib.Omega.{arith}
 use lib.IntN.{ℤ}
 use lib.ListN.{length, getD, set}
 use lib.Seq.{sets}
-use Rattle.integers.specs.Limits.{TASKS, INNER}
+use Rattle.integers.specs.Limits.{TASKS}
 use Rattle.integers.specs.Moments.{zeroAt}
 use Rattle.integers.specs.Orders.{index}
 use Rattle.scheduling.specs.Scheduling.{natural, Tasks, Atom, completion}
+use Rattle.trees.specs.declared.complete_tree.TreeSize.{TreeSize}
 use Rattle.trees.specs.Ects.{exceeds}
 use Rattle.trees.specs.Leaves as leaves
 use Rattle.trees.specs.Leaves.{gray}
@@ -29,7 +30,7 @@ use Rattle.explanations.specs.Explanations.{ConflictExplainable}
 use Rattle.propagator.specs.declared.disjunctive_propagator.Turn as code
 use Rattle.propagator.specs.declared.disjunctive_propagator.Turn.the-variants as turn
 use Rattle.propagator.specs.declared.disjunctive_propagator.Written.{Written}
-use Rattle.propagator.specs.RunArrays.{Ordered, At}
+use Rattle.propagator.specs.RunArrays.{Ordered, SizeFits, At}
 use Rattle.propagator.specs.Candidates.{nothingWritten, counted, Considerable, AllConsidered}
 use Rattle.propagator.proofs.ConsideredTask as considering
 use Rattle.runs.specs.declared.outcome.Outcome.the-variants as outcome
@@ -41,8 +42,14 @@ use Rattle.propagator.specs.EdgeFinding.{conflictOf, ConflictExplained, 
 use Rattle.propagator.proofs.MovedToLambda as moving
 use Rattle.propagator.proofs.OverloadReason as overloading
 
-module _ {n inn height : ℕ} {words : List ℕ} {es posts atoms : List ℤ} {est lst lct durations reverseMapping sortedTasks mapping : List ℕ}
-    (s : EdgeFindable n inn height words es posts atoms est lst lct durations reverseMapping sortedTasks mapping) where
+module _ {size : TreeSize} {words : List ℕ} {es posts atoms : List ℤ} {est lst lct durations reverseMapping sortedTasks mapping : List ℕ}
+    (s : EdgeFindable size words es posts atoms est lst lct durations reverseMapping sortedTasks mapping) where
+  abbrev n : ℕ
+  n = size .leaves
+
+  abbrev inn : ℕ
+  inn = size .inner
+
   abbrev J : Tasks natural
   J = s .J
 
@@ -133,7 +140,7 @@ module _ {n inn height : ℕ} {words : List ℕ} {es posts atoms : List ℤ} {es
       pub c-is : c ≡ completion J (getD lctOrder t 0)
       c-is = s .completions .at j j-small ∙ ap (completion J) j-is
 
-      abbrev here : Considerable n inn height c words′ es′ posts′ atoms′ w′ est lst durations reverseMapping mapping
+      abbrev here : Considerable size c words′ es′ posts′ atoms′ w′ est lst durations reverseMapping mapping
       here = record {
         J = J;
         estOrder = estOrder;
@@ -177,8 +184,8 @@ module _ {n inn height : ℕ} {words : List ℕ} {es posts atoms : List ℤ} {es
       pub over-asked : exceeds ect c ≡ true → ConflictExplainable (length atoms′) (w′ .atoms) (thetaIn words′ inn reverseMapping n) est durations (leaves.sum J estOrder (v .st .leaves)) c
       over-asked = overloading.over-asked here
 
-      pub over-inner : inn ≤ INNER
-      over-inner = considering.inner-few here
+      pub size-fits : SizeFits size
+      size-fits = considering.size-fits here
 
       pub overloads : {r : Finished} {atoms″ : List ℤ} → exceeds ect c ≡ true → ConflictExplained atoms′ atoms″ w′ r (conflictOf shown reverseMapping n est durations c) → EdgeFound J estOrder lctOrder posts atoms (r .outcome) (r .changes) es′ posts′ atoms″
       overloads {r} {atoms″} q k = ends (v .st) (overload reason) is (v .at) answer (k .changes) words-are
@@ -219,7 +226,7 @@ module _ {n inn height : ℕ} {words : List ℕ} {es posts atoms : List ℤ} {es
         still = past-end quiet
 
         -- which the source makes in two leaf changes
-        abbrev pub goes-on : Considerable n inn height d words″ es′ posts′ atoms′ w₁ est lst durations reverseMapping mapping
+        abbrev pub goes-on : Considerable size d words″ es′ posts′ atoms′ w₁ est lst durations reverseMapping mapping
         goes-on = record {
           J = J;
           estOrder = estOrder;

@@ -10,6 +10,7 @@ use lib.ListN.{length, getD}
 use lib.Seq.{sets}
 use Rattle.integers.specs.Moments.{zeroAt}
 use Rattle.scheduling.specs.Scheduling.{natural, Tasks, Atom, completion}
+use Rattle.trees.specs.declared.complete_tree.TreeSize.{TreeSize}
 use Rattle.trees.specs.Ects.{exceeds}
 use Rattle.trees.specs.Leaves as leaves
 use Rattle.trees.specs.Leaves.{Leaf}
@@ -39,8 +40,14 @@ overloaded-at a e m = rw (a, e) m
 conflict-at : (K : Tasks natural) (p : ℕ) {θ θ′ : List ℕ} {c c′ : ℕ} → θ ≡ θ′ → c ≡ c′ → conflict zeroAt K c p θ ≡ conflict zeroAt K c′ p θ′
 conflict-at K p a e = rw (a, e)
 
-module _ {n inn height lct : ℕ} {words : List ℕ} {es posts atoms : List ℤ} {w : Written} {est lst durations reverseMapping mapping : List ℕ}
-    (s : Considerable n inn height lct words es posts atoms w est lst durations reverseMapping mapping) where
+module _ {size : TreeSize} {lct : ℕ} {words : List ℕ} {es posts atoms : List ℤ} {w : Written} {est lst durations reverseMapping mapping : List ℕ}
+    (s : Considerable size lct words es posts atoms w est lst durations reverseMapping mapping) where
+  abbrev n : ℕ
+  n = size .leaves
+
+  abbrev inn : ℕ
+  inn = size .inner
+
   abbrev J : Tasks natural
   J = s .J
 

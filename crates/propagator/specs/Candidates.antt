@@ -10,6 +10,7 @@ use lib.Seq.{sets}
 use Rattle.integers.specs.Moments.{instant, zeroAt}
 use Rattle.scheduling.specs.Scheduling.{natural, Tasks, Atom, completion}
 use Rattle.scheduling.specs.Words.{atomWords}
+use Rattle.trees.specs.declared.complete_tree.TreeSize.{TreeSize}
 use Rattle.trees.specs.Ects.{exceeds}
 use Rattle.trees.specs.declared.theta_lambda_tree.Responsible.{Responsible}
 use Rattle.trees.specs.declared.theta_lambda_tree.Responsible.the-variants as responsible
@@ -37,8 +38,8 @@ unfoldable pub candidateOf : List ℕ → ℕ → Option ℕ → Option ℕ → 
 candidateOf reverseMapping lct ect-bar found = elim (exceeds ect-bar lct) [ true ↦ responsibleOf reverseMapping found | false ↦ responsible.Nothing ]
 
 -- the answer of `candidate`
-abbrev pub Proposes : ℕ → ℕ → List ℕ → List ℕ → ℕ → Responsible → Type 0
-Proposes inn height words reverseMapping lct r = (h : Held inn words) → Tall h height
+abbrev pub Proposes : TreeSize → List ℕ → List ℕ → ℕ → Responsible → Type 0
+Proposes size words reverseMapping lct r = (h : Held (size .inner) words) → Tall h (size .height)
     → r ≡ candidateOf reverseMapping lct (leaves.ect-bar (h .J) (h .estOrder) (h .leaves)) (leaves.responsible (h .J) (h .estOrder) (h .leaves))
 
 -- a post's reason, by the tree and the arrays
@@ -56,7 +57,7 @@ pub record Posted (posts atoms posts′ atoms′ : List ℤ) (before after : Wri
 
 -- What stands at a level of a run: the tasks and orders, the arrays that hold them, and the state st that the definition goes through and that tree and slices
 -- are at.
-pub record Considerable (n inner height lct : ℕ) (words : List ℕ) (es posts atoms : List ℤ) (w : Written) (est lst durations reverseMapping mapping : List ℕ) : Type 0 where
+pub record Considerable (size : TreeSize) (lct : ℕ) (words : List ℕ) (es posts atoms : List ℤ) (w : Written) (est lst durations reverseMapping mapping : List ℕ) : Type 0 where
   pub J : Tasks natural
   pub estOrder : List ℕ
   pub lctOrder : List ℕ
@@ -65,20 +66,20 @@ pub record Considerable (n inner height lct : ℕ) (words : List ℕ) (es posts 
   pub posts₀ : List ℤ
   pub atoms₀ : List ℤ
   pub ordered : Ordered J estOrder lctOrder
-  pub arrays : Arrays J estOrder n inner height est durations reverseMapping mapping
-  pub latest : Holds n (J .latest) lst
+  pub arrays : Arrays J estOrder size est durations reverseMapping mapping
+  pub latest : Holds (size .leaves) (J .latest) lst
   pub small : level < J .count
   pub ends : lct ≡ completion J (getD lctOrder level 0)
-  pub post-room : 4 * n ≤ length posts₀
-  pub atom-room : 6 * (n * n) ≤ length atoms₀
+  pub post-room : 4 * size .leaves ≤ length posts₀
+  pub atom-room : 6 * (size .leaves * size .leaves) ≤ length atoms₀
   pub reached : Reached zeroAt J estOrder lctOrder level st
-  pub at : At J estOrder posts₀ atoms₀ st inner words es posts atoms (w .posts) (w .atoms) (w .changes)
+  pub at : At J estOrder posts₀ atoms₀ st (size .inner) words es posts atoms (w .posts) (w .atoms) (w .changes)
 
-module _ {n inn height lct : ℕ} {words : List ℕ} {es posts atoms : List ℤ} {w : Written} {est lst durations reverseMapping mapping : List ℕ}
-    (s : Considerable n inn height lct words es posts atoms w est lst durations reverseMapping mapping) where
+module _ {size : TreeSize} {lct : ℕ} {words : List ℕ} {es posts atoms : List ℤ} {w : Written} {est lst durations reverseMapping mapping : List ℕ}
+    (s : Considerable size lct words es posts atoms w est lst durations reverseMapping mapping) where
   -- the state st′ follows: tree and slices are at it
   abbrev pub AtNow : State → List ℕ → List ℤ → List ℤ → List ℤ → Written → Type 0
-  AtNow st′ words′ es′ posts′ atoms′ w′ = At (s .J) (s .estOrder) (s .posts₀) (s .atoms₀) st′ inn words′ es′ posts′ atoms′ (w′ .posts) (w′ .atoms) (w′ .changes)
+  AtNow st′ words′ es′ posts′ atoms′ w′ = At (s .J) (s .estOrder) (s .posts₀) (s .atoms₀) st′ (size .inner) words′ es′ posts′ atoms′ (w′ .posts) (w′ .atoms) (w′ .changes)
 
   abbrev pub turns : ℕ → State → Turn
   turns f st′ = inner zeroAt (s .J) (s .estOrder) (s .lctOrder) f (s .level) st′
@@ -90,8 +91,8 @@ module _ {n inn height lct : ℕ} {words : List ℕ} {es posts atoms : List ℤ}
 
   -- all of them
   abbrev pub AllConsidered : code.Turn → List ℕ → List ℤ → List ℤ → List ℤ → Type 0
-  AllConsidered (turn.On w′) words′ es′ posts′ atoms′ = (st′ : State) × AtNow st′ words′ es′ posts′ atoms′ w′ × (turns n (s .st) ≡ on st′)
-  AllConsidered (turn.Emptied w′) words′ es′ posts′ atoms′ = (st′ : State) × AtNow st′ words′ es′ posts′ atoms′ w′ × (turns n (s .st) ≡ stop st′)
+  AllConsidered (turn.On w′) words′ es′ posts′ atoms′ = (st′ : State) × AtNow st′ words′ es′ posts′ atoms′ w′ × (turns (size .leaves) (s .st) ≡ on st′)
+  AllConsidered (turn.Emptied w′) words′ es′ posts′ atoms′ = (st′ : State) × AtNow st′ words′ es′ posts′ atoms′ w′ × (turns (size .leaves) (s .st) ≡ stop st′)
 
   -- x is the leaf of the task i to consider
   pub record Responsible-for (i x : ℕ) : Type 0 where

@@ -7,6 +7,7 @@ use lib.ListN.{length, getD}
 use lib.Seq.{sets}
 use Rattle.integers.specs.Moments.{zeroAt}
 use Rattle.scheduling.specs.Scheduling.{natural, Tasks, Atom, completion}
+use Rattle.trees.specs.declared.complete_tree.TreeSize.{TreeSize}
 use Rattle.trees.specs.Leaves.{sum}
 use Rattle.trees.specs.ArraySearches.{thetaIn}
 use Rattle.trees.specs.Operations.{Held}
@@ -33,18 +34,18 @@ pub record ConflictExplained (atoms atoms′ : List ℤ) (w : Written) (r : Fini
   pub changes : r .changes ≡ w .changes
 
 -- What edge finding is given: the tasks in both orders, the arrays that hold them, room for posts and reasons, and the tree of all tasks.
-pub record EdgeFindable (n inner height : ℕ) (words : List ℕ) (es posts atoms : List ℤ) (est lst lct durations reverseMapping sortedTasks mapping : List ℕ) : Type 0 where
+pub record EdgeFindable (size : TreeSize) (words : List ℕ) (es posts atoms : List ℤ) (est lst lct durations reverseMapping sortedTasks mapping : List ℕ) : Type 0 where
   pub J : Tasks natural
   pub estOrder : List ℕ
   pub lctOrder : List ℕ
   pub ordered : Ordered J estOrder lctOrder
-  pub arrays : Arrays J estOrder n inner height est durations reverseMapping mapping
-  pub latest : Holds n (J .latest) lst
-  pub completions : Holds n (completion J) lct
-  pub order : Holds n (λ t. getD lctOrder t 0) sortedTasks
-  pub post-room : 4 * n ≤ length posts
-  pub atom-room : 6 * (n * n) ≤ length atoms
-  pub at : At J estOrder posts atoms (allWhite J) inner words es posts atoms 0 0 n
+  pub arrays : Arrays J estOrder size est durations reverseMapping mapping
+  pub latest : Holds (size .leaves) (J .latest) lst
+  pub completions : Holds (size .leaves) (completion J) lct
+  pub order : Holds (size .leaves) (λ t. getD lctOrder t 0) sortedTasks
+  pub post-room : 4 * size .leaves ≤ length posts
+  pub atom-room : 6 * (size .leaves * size .leaves) ≤ length atoms
+  pub at : At J estOrder posts atoms (allWhite J) (size .inner) words es posts atoms 0 0 (size .leaves)
 
 -- What it leaves: the trace of the run's definition.
 pub record EdgeFound (J : Tasks natural) (estOrder lctOrder : List ℕ) (posts atoms : List ℤ) (r : Outcome) (changed : ℕ) (es′ posts′ atoms′ : List ℤ) : Type 0 where

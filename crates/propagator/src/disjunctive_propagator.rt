@@ -13,6 +13,7 @@ use runs::outcome::Finished;
 use runs::outcome::Outcome;
 use sorts::sort_numbers;
 use sorts::sort_numbers_down;
+use trees::complete_tree::TreeSize;
 use trees::complete_tree::leaf_places;
 use trees::disjunctive_task::DisjunctiveTask;
 use trees::disjunctive_task::LeafPlace;
@@ -25,12 +26,13 @@ ghost use lib.ListN.{length};
 ghost use Rattle.propagator.specs.Ran.{Runnable, RunLeft, Ran};
 ghost use mathlib.Core.Path.{_≡_};
 ghost use Prim.Native.Nat.{_≤_, _<_, ℕ, _+_, _*_, _^_};
-ghost use Rattle.integers.specs.Limits.{TASKS, INNER, ATOMS};
+ghost use Rattle.integers.specs.Limits.{ATOMS};
 ghost use Rattle.trees.specs.Ects.{exceeds, raisedTo};
 ghost use Rattle.trees.specs.Leaves.{ect, sum};
 ghost use Rattle.trees.specs.ArraySearches.{thetaIn};
 ghost use Rattle.trees.specs.Operations.{Held, Answers, Tall};
 ghost use Rattle.explanations.specs.Explanations.{ConflictExplainable, PropagationExplainable};
+ghost use Rattle.propagator.specs.RunArrays.{SizeFits};
 ghost use Rattle.propagator.specs.FilledTheta.{Fillable, Filled};
 ghost use Rattle.propagator.specs.EdgeFinding.{ConflictExplained, conflictOf, EdgeFindable, EdgeFound};
 ghost use Rattle.propagator.specs.MovedToLambda.{Movable, Moved};
@@ -107,11 +109,14 @@ pub fn run_accepted(
     let mut mapping: [usize; TASKS] = [0; TASKS];
     leaf_places(&mut mapping, &reverse_mapping, n);
     let mut tree = ThetaLambdaTree::new(n);
-    let inner = tree.number_of_internal_nodes;
-    let height = tree.height;
+    let size = TreeSize {
+        inner: tree.number_of_internal_nodes,
+        height: tree.height,
+        leaves: n,
+    };
     fill(
         &mut tree.nodes,
-        inner,
+        size.inner,
         &reverse_mapping,
         &est,
         &record.durations,
@@ -129,9 +134,7 @@ pub fn run_accepted(
         &lst,
         &lct,
         &record.durations,
-        inner,
-        height,
-        n,
+        size,
     )
 }
 
@@ -149,17 +152,16 @@ fn edge_finding<'a>(
     lst: &'a [u32; TASKS],
     lct: &'a [u32; TASKS],
     durations: &'a [u32; TASKS],
-    inner: usize,
-    height: usize,
-    n: usize,
+    size: TreeSize,
 ) -> Finished
-    requires { ⌜ EdgeFindable n inner height (now nodes) (now earliest) (now posts) (now atoms) (now est) (now lst) (now lct) (now durations) (now «reverse_mapping»)
+    requires { ⌜ EdgeFindable size (now nodes) (now earliest) (now posts) (now atoms) (now est) (now lst) (now lct) (now durations) (now «reverse_mapping»)
         (now «sorted_tasks») (now mapping) ⌝ }
-    ensures { λ r. ⌜ ((s : EdgeFindable n inner height (now (nodes .entry)) (now (earliest .entry)) (now (posts .entry)) (now (atoms .entry)) (now (est .entry))
+    ensures { λ r. ⌜ ((s : EdgeFindable size (now (nodes .entry)) (now (earliest .entry)) (now (posts .entry)) (now (atoms .entry)) (now (est .entry))
         (now (lst .entry)) (now (lct .entry)) (now (durations .entry)) (now («reverse_mapping» .entry)) (now («sorted_tasks» .entry)) (now (mapping .entry)))
         → EdgeFound (s .J) (s .estOrder) (s .lctOrder) (now (posts .entry)) (now (atoms .entry)) (r .outcome) (r .changes) (now (earliest .exit))
         (now (posts .exit)) (now (atoms .exit))) ⌝ }
 {
+    let n = size.leaves;
     let mut w = Written::new(n);
     let mut index: usize = 0;
     while index + 1 < n {
@@ -173,32 +175,26 @@ fn edge_finding<'a>(
                 reverse_mapping,
                 est,
                 durations,
-                inner,
-                n,
+                size,
                 lct_j,
             );
         }
-        move_to_lambda(nodes, inner, mapping, est, durations, j);
-        w = w.counted(2);
+        move_to_lambda(nodes, size.inner, mapping, est, durations, j);
         index += 1;
-        let lct_next = lct[sorted_tasks[index]];
-        let turn = consider_all(
+        match consider_all(
             nodes,
             earliest,
             posts,
             atoms,
-            w,
+            w.counted(2),
             mapping,
             reverse_mapping,
             est,
             lst,
             durations,
-            inner,
-            height,
-            n,
-            lct_next,
-        );
-        match turn {
+            size,
+            lct[sorted_tasks[index]],
+        ) {
             Turn::On(x) => w = x,
             Turn::Emptied(x) => return x.finished(Outcome::Emptied(x.posts)),
         }
@@ -249,15 +245,14 @@ fn overload<'a>(
     reverse_mapping: &'a [usize; TASKS],
     est: &'a [u32; TASKS],
     durations: &'a [u32; TASKS],
-    inner: usize,
-    n: usize,
+    size: TreeSize,
     lct: u32,
 ) -> Finished
-    requires { ⌜ ((h : Held inner (now nodes))
-        × (ConflictExplainable (length (now atoms)) (written .atoms) (thetaIn (now nodes) inner (now «reverse_mapping») n) (now est) (now durations)
-        (sum (h .J) (h .estOrder) (h .leaves)) lct) × (n ≤ TASKS) × (inner ≤ INNER)) ⌝ }
-    ensures { λ r. ⌜ ((h : Held inner (now (nodes .entry)))
-        → ConflictExplained (now (atoms .entry)) (now (atoms .exit)) written r (conflictOf h (now («reverse_mapping» .entry)) n (now (est .entry)) (now (durations .entry)) lct)) ⌝ }
+    requires { ⌜ ((h : Held (size .inner) (now nodes))
+        × (ConflictExplainable (length (now atoms)) (written .atoms) (thetaIn (now nodes) (size .inner) (now «reverse_mapping») (size .leaves)) (now est) (now durations)
+        (sum (h .J) (h .estOrder) (h .leaves)) lct) × SizeFits size) ⌝ }
+    ensures { λ r. ⌜ ((h : Held (size .inner) (now (nodes .entry)))
+        → ConflictExplained (now (atoms .entry)) (now (atoms .exit)) written r (conflictOf h (now («reverse_mapping» .entry)) (size .leaves) (now (est .entry)) (now (durations .entry)) lct)) ⌝ }
 {
     let p_theta = ThetaLambdaTree::sum_of_processing_times(nodes);
     let at = written.atoms;
@@ -266,8 +261,8 @@ fn overload<'a>(
         at,
         nodes,
         reverse_mapping,
-        inner,
-        n,
+        size.inner,
+        size.leaves,
         est,
         durations,
         p_theta,
@@ -361,22 +356,20 @@ fn consider_all<'a>(
     est: &'a [u32; TASKS],
     lst: &'a [u32; TASKS],
     durations: &'a [u32; TASKS],
-    inner: usize,
-    height: usize,
-    n: usize,
+    size: TreeSize,
     lct: u32,
 ) -> Turn
-    requires { ⌜ Considerable n inner height lct (now nodes) (now earliest) (now posts) (now atoms) written (now est) (now lst) (now durations) (now «reverse_mapping»)
+    requires { ⌜ Considerable size lct (now nodes) (now earliest) (now posts) (now atoms) written (now est) (now lst) (now durations) (now «reverse_mapping»)
         (now mapping) ⌝ }
-    ensures { λ r. ⌜ ((s : Considerable n inner height lct (now (nodes .entry)) (now (earliest .entry)) (now (posts .entry)) (now (atoms .entry)) written
+    ensures { λ r. ⌜ ((s : Considerable size lct (now (nodes .entry)) (now (earliest .entry)) (now (posts .entry)) (now (atoms .entry)) written
         (now (est .entry)) (now (lst .entry)) (now (durations .entry)) (now («reverse_mapping» .entry)) (now (mapping .entry)))
         → AllConsidered s r (now (nodes .exit)) (now (earliest .exit)) (now (posts .exit)) (now (atoms .exit))) ⌝ }
 {
     let mut w = written;
-    let mut left = n;
+    let mut left = size.leaves;
     while left > 0 {
         left -= 1;
-        let next = candidate(nodes, reverse_mapping, inner, height, lct);
+        let next = candidate(nodes, reverse_mapping, size, lct);
         let Responsible::Task(id) = next else {
             return Turn::On(w);
         };
@@ -391,8 +384,7 @@ fn consider_all<'a>(
             est,
             lst,
             durations,
-            inner,
-            n,
+            size,
             id,
             lct,
         );
@@ -408,18 +400,17 @@ fn consider_all<'a>(
 fn candidate<'a>(
     nodes: &'a [u32; TREEWORDS],
     reverse_mapping: &'a [usize; TASKS],
-    inner: usize,
-    height: usize,
+    size: TreeSize,
     lct: u32,
 ) -> Responsible
-    requires { ⌜ ((h : Held inner (now nodes)) × Tall h height) ⌝ }
-    ensures { λ r. ⌜ Proposes inner height (now (nodes .entry)) (now («reverse_mapping» .entry)) lct r ⌝ }
+    requires { ⌜ ((h : Held (size .inner) (now nodes)) × Tall h (size .height)) ⌝ }
+    ensures { λ r. ⌜ Proposes size (now (nodes .entry)) (now («reverse_mapping» .entry)) lct r ⌝ }
 {
     let ect_bar = ThetaLambdaTree::ect_bar(nodes);
     if !ect_bar.exceeds(lct) {
         return Responsible::Nothing;
     }
-    ThetaLambdaTree::responsible_ect_bar(nodes, reverse_mapping, inner, height)
+    ThetaLambdaTree::responsible_ect_bar(nodes, reverse_mapping, size.inner, size.height)
 }
 
 // Considers task i of Lambda. Its new bound is posted where it is above its earliest start, and i leaves Lambda.
@@ -434,14 +425,13 @@ fn consider<'a>(
     est: &'a [u32; TASKS],
     lst: &'a [u32; TASKS],
     durations: &'a [u32; TASKS],
-    inner: usize,
-    n: usize,
+    size: TreeSize,
     id: LocalId,
     lct: u32,
 ) -> Turn
-    requires { ⌜ ((height : ℕ) × (x : ℕ) × (s : Considerable n inner height lct (now nodes) (now earliest) (now posts) (now atoms) written (now est) (now lst)
+    requires { ⌜ ((x : ℕ) × (s : Considerable size lct (now nodes) (now earliest) (now posts) (now atoms) written (now est) (now lst)
         (now durations) (now «reverse_mapping») (now mapping)) × Responsible-for s (id .0) x) ⌝ }
-    ensures { λ r. ⌜ ((height x : ℕ) (s : Considerable n inner height lct (now (nodes .entry)) (now (earliest .entry)) (now (posts .entry))
+    ensures { λ r. ⌜ ((x : ℕ) (s : Considerable size lct (now (nodes .entry)) (now (earliest .entry)) (now (posts .entry))
         (now (atoms .entry)) written (now (est .entry)) (now (lst .entry)) (now (durations .entry)) (now («reverse_mapping» .entry)) (now (mapping .entry)))
         → Responsible-for s (id .0) x → Considered s r (now (nodes .exit)) (now (earliest .exit)) (now (posts .exit)) (now (atoms .exit))) ⌝ }
 {
@@ -458,8 +448,7 @@ fn consider<'a>(
             reverse_mapping,
             est,
             durations,
-            inner,
-            n,
+            size,
             i,
             new_bound,
             lct,
@@ -470,7 +459,7 @@ fn consider<'a>(
     }
     earliest[i] = start_of(new_bound);
     let place = leaf_of(mapping, id);
-    ThetaLambdaTree::remove_from_lambda(nodes, inner, place);
+    ThetaLambdaTree::remove_from_lambda(nodes, size.inner, place);
     Turn::On(w.counted(1))
 }
 
@@ -491,19 +480,18 @@ fn post<'a>(
     reverse_mapping: &'a [usize; TASKS],
     est: &'a [u32; TASKS],
     durations: &'a [u32; TASKS],
-    inner: usize,
-    n: usize,
+    size: TreeSize,
     i: usize,
     new_bound: u32,
     lct: u32,
 ) -> Written
-    requires { ⌜ ((h : Held inner (now nodes))
-        × (PropagationExplainable (length (now atoms)) (written .atoms) (thetaIn (now nodes) inner (now «reverse_mapping») n) (now est) (now durations)
+    requires { ⌜ ((h : Held (size .inner) (now nodes))
+        × (PropagationExplainable (length (now atoms)) (written .atoms) (thetaIn (now nodes) (size .inner) (now «reverse_mapping») (size .leaves)) (now est) (now durations)
         (sum (h .J) (h .estOrder) (h .leaves)) lct i «new_bound»)
-        × (4 * written .posts + 4 ≤ length (now posts)) × (n ≤ TASKS) × (inner ≤ INNER) × (written .atoms ≤ ATOMS)) ⌝ }
-    ensures { λ r. ⌜ ((h : Held inner (now (nodes .entry)))
+        × (4 * written .posts + 4 ≤ length (now posts)) × SizeFits size × (written .atoms ≤ ATOMS)) ⌝ }
+    ensures { λ r. ⌜ ((h : Held (size .inner) (now (nodes .entry)))
         → Posted (now (posts .entry)) (now (atoms .entry)) (now (posts .exit)) (now (atoms .exit)) written r i «new_bound»
-        (reasonOf h (now («reverse_mapping» .entry)) n (now (est .entry)) (now (durations .entry)) i «new_bound» lct)) ⌝ }
+        (reasonOf h (now («reverse_mapping» .entry)) (size .leaves) (now (est .entry)) (now (durations .entry)) i «new_bound» lct)) ⌝ }
 {
     let p_theta = ThetaLambdaTree::sum_of_processing_times(nodes);
     let at = written.atoms;
@@ -512,8 +500,8 @@ fn post<'a>(
         at,
         nodes,
         reverse_mapping,
-        inner,
-        n,
+        size.inner,
+        size.leaves,
         est,
         durations,
         p_theta,

@@ -12,8 +12,8 @@ use Rattle.propagator.proofs.disjunctive_propagator.candidate.Statement
 use Rattle.propagator.proofs.disjunctive_propagator.candidate.Tie as tie
 
 -- the test is the definition's
-tested : (x : tie.After-exceeds) → let a = x .before .before .args in (h : Held (a .inner) (a .nodes .now)) → x .exceeds .result ≡ exceeds (ect-bar (h .J) (h .estOrder) (h .leaves)) (a .lct)
-tested x h = let a = x .before .before .args in x .exceeds .ensures ∙ ap (λ (o : Option ℕ). exceeds o (a .lct)) (x .before .ect-bar .ensures (a .inner) h)
+tested : (x : tie.After-exceeds) → let a = x .before .before .args in (h : Held (a .size .inner) (a .nodes .now)) → x .exceeds .result ≡ exceeds (ect-bar (h .J) (h .estOrder) (h .leaves)) (a .lct)
+tested x h = let a = x .before .before .args in x .exceeds .ensures ∙ ap (λ (o : Option ℕ). exceeds o (a .lct)) (x .before .ect-bar .ensures (a .size .inner) h)
 
 returns : tie.Need-returns
 returns c = λ h z.

@@ -6,6 +6,7 @@ use native.Mathlib.Omega.{arith}
 use lib.IntN.{ℤ}
 use lib.ListN.{length}
 use borrow.Author.Needs.{needs}
+use Rattle.trees.specs.declared.complete_tree.TreeSize.{TreeSize}
 use Rattle.propagator.specs.declared.disjunctive_propagator.Written.{Written}
 use Rattle.propagator.specs.Candidates.{Considerable}
 use Rattle.propagator.proofs.ConsideredTask.{shown, tall}
@@ -14,20 +15,20 @@ use Rattle.propagator.proofs.disjunctive_propagator.consider_all.Statem
 use Rattle.propagator.proofs.disjunctive_propagator.consider_all.Tie as tie
 
 -- what the loop has got to; the slices keep their lengths
-record Loop (n inner height lct : ℕ) (nodes₀ : List ℕ) (earliest₀ posts₀ atoms₀ : List ℤ) (w₀ : Written) (est lst durations reverseMapping mapping nodes : List ℕ) (earliest posts atoms : List ℤ) (w : Written)
+record Loop (size : TreeSize) (lct : ℕ) (nodes₀ : List ℕ) (earliest₀ posts₀ atoms₀ : List ℤ) (w₀ : Written) (est lst durations reverseMapping mapping nodes : List ℕ) (earliest posts atoms : List ℤ) (w : Written)
     (left : ℕ) : Type 0 where
-  considerable : Considerable n inner height lct nodes₀ earliest₀ posts₀ atoms₀ w₀ est lst durations reverseMapping mapping
-  reached : (s : Considerable n inner height lct nodes₀ earliest₀ posts₀ atoms₀ w₀ est lst durations reverseMapping mapping) → Turned s left nodes earliest posts atoms w
+  considerable : Considerable size lct nodes₀ earliest₀ posts₀ atoms₀ w₀ est lst durations reverseMapping mapping
+  reached : (s : Considerable size lct nodes₀ earliest₀ posts₀ atoms₀ w₀ est lst durations reverseMapping mapping) → Turned s left nodes earliest posts atoms w
   starts-length : length earliest ≡ length earliest₀
   posts-length : length posts ≡ length posts₀
   atoms-length : length atoms ≡ length atoms₀
 
 abbrev Inv-loop : tie.InvT-loop
-Inv-loop nodes₀ earliest₀ posts₀ atoms₀ mapping reverseMapping est lst durations inner height n lct w₀ left₀ nodes earliest posts atoms w left =
-    Loop n inner height lct nodes₀ earliest₀ posts₀ atoms₀ w₀ est lst durations reverseMapping mapping nodes earliest posts atoms w left
+Inv-loop nodes₀ earliest₀ posts₀ atoms₀ mapping reverseMapping est lst durations size lct w₀ left₀ nodes earliest posts atoms w left =
+    Loop size lct nodes₀ earliest₀ posts₀ atoms₀ w₀ est lst durations reverseMapping mapping nodes earliest posts atoms w left
 
 abbrev μ-loop : tie.MeasureT-loop
-μ-loop nodes₀ earliest₀ posts₀ atoms₀ mapping reverseMapping est lst durations inner height n lct w₀ left₀ nodes earliest posts atoms w left = left
+μ-loop nodes₀ earliest₀ posts₀ atoms₀ mapping reverseMapping est lst durations size lct w₀ left₀ nodes earliest posts atoms w left = left
 
 positive : (c : tie.In-loop Inv-loop μ-loop) → c .before .loop .left ≡ suc (c .before .loop .left - 1)
 positive c = omega arith
@@ -57,7 +58,7 @@ consider-requires c κs =
     let v = turn .before .loop .inv in
     let r = v .reached (v .considerable) in
     let (x, o) = one-left (v .considerable) r (next .next .given .1) (next .before .before .candidate .ensures) in
-    (turn .before .before .args .height, x, still-considerable (v .considerable) r, o)
+    (x, still-considerable (v .considerable) r, o)
 
 loop-again : tie.Need-loop-again Inv-loop μ-loop
 loop-again c =
@@ -70,7 +71,7 @@ loop-again c =
       reached = λ s.
           let r = v .reached s in
           let (x, o) = one-left s r (next .next .given .1) (next .before .before .candidate .ensures) in
-          one-less s r (positive turn) (c .before .turn .given .1) (considered .consider .ensures (turn .before .before .args .height) x (still-considerable s r) o);
+          one-less s r (positive turn) (c .before .turn .given .1) (considered .consider .ensures x (still-considerable s r) o);
       starts-length = search needs;
       posts-length = search needs;
       atoms-length = search needs;
@@ -83,7 +84,7 @@ returns-2 c = λ s.
     let turn = entered next in
     let r = turn .before .loop .inv .reached s in
     let (x, o) = one-left s r (next .next .given .1) (next .before .before .candidate .ensures) in
-    one-emptied s r (positive turn) (c .before .turn2 .given .1) (considered .consider .ensures (turn .before .before .args .height) x (still-considerable s r) o)
+    one-emptied s r (positive turn) (c .before .turn2 .given .1) (considered .consider .ensures x (still-considerable s r) o)
 
 returns-3 : tie.Need-returns-3 Inv-loop μ-loop
 returns-3 c = λ s. ended s (c .before .loop .inv .reached s) (omega arith)

@@ -8,28 +8,30 @@ use lib.IntN.{ℤ}
 use lib.ListN.{length, getD}
 use borrow.Author.Needs.{needs}
 use Rattle.trees.specs.Ects.{exceeds}
+use Rattle.trees.specs.declared.complete_tree.TreeSize.{TreeSize}
 use Rattle.propagator.specs.declared.disjunctive_propagator.Written.{Written}
 use Rattle.propagator.specs.EdgeFinding.{EdgeFindable}
-use Rattle.propagator.proofs.OuterLoop.{Level, shown, ect, few, sorted-task-small, first-level, all-done, over-asked, over-inner, few-changes, overloads, moves, goes-on, one-more, one-emptied}
+use Rattle.propagator.proofs.OuterLoop.{Level, shown, ect, sorted-task-small, first-level, all-done, over-asked, size-fits, few-changes, overloads, moves, goes-on, one-more, one-emptied}
 use Rattle.propagator.proofs.disjunctive_propagator.edge_finding.Statement.{statement}
 use Rattle.propagator.proofs.disjunctive_propagator.edge_finding.Tie as tie
 
 -- the level that the loop stands at; the slices keep their lengths
-record Loop (n inner height : ℕ) (nodes₀ : List ℕ) (earliest₀ posts₀ atoms₀ : List ℤ) (est lst lct durations reverseMapping sortedTasks mapping nodes : List ℕ) (earliest posts atoms : List ℤ) (w : Written)
+record Loop (size : TreeSize) (n : ℕ) (nodes₀ : List ℕ) (earliest₀ posts₀ atoms₀ : List ℤ) (est lst lct durations reverseMapping sortedTasks mapping nodes : List ℕ) (earliest posts atoms : List ℤ) (w : Written)
     (index : ℕ) : Type 0 where
-  findable : EdgeFindable n inner height nodes₀ earliest₀ posts₀ atoms₀ est lst lct durations reverseMapping sortedTasks mapping
-  level : (s : EdgeFindable n inner height nodes₀ earliest₀ posts₀ atoms₀ est lst lct durations reverseMapping sortedTasks mapping) → Level s index nodes earliest posts atoms w
-  small : index < n
+  findable : EdgeFindable size nodes₀ earliest₀ posts₀ atoms₀ est lst lct durations reverseMapping sortedTasks mapping
+  level : (s : EdgeFindable size nodes₀ earliest₀ posts₀ atoms₀ est lst lct durations reverseMapping sortedTasks mapping) → Level s index nodes earliest posts atoms w
+  count : n ≡ size .leaves
+  small : index < size .leaves
   starts-length : length earliest ≡ length earliest₀
   posts-length : length posts ≡ length posts₀
   atoms-length : length atoms ≡ length atoms₀
 
 abbrev Inv-loop : tie.InvT-loop
-Inv-loop nodes₀ earliest₀ posts₀ atoms₀ mapping reverseMapping sortedTasks est lst lct durations inner height n w₀ index₀ nodes earliest posts atoms w index =
-    Loop n inner height nodes₀ earliest₀ posts₀ atoms₀ est lst lct durations reverseMapping sortedTasks mapping nodes earliest posts atoms w index
+Inv-loop nodes₀ earliest₀ posts₀ atoms₀ mapping reverseMapping sortedTasks est lst lct durations size n w₀ index₀ nodes earliest posts atoms w index =
+    Loop size n nodes₀ earliest₀ posts₀ atoms₀ est lst lct durations reverseMapping sortedTasks mapping nodes earliest posts atoms w index
 
 abbrev μ-loop : tie.MeasureT-loop
-μ-loop nodes₀ earliest₀ posts₀ atoms₀ mapping reverseMapping sortedTasks est lst lct durations inner height n w₀ index₀ nodes earliest posts atoms w index = n - index
+μ-loop nodes₀ earliest₀ posts₀ atoms₀ mapping reverseMapping sortedTasks est lst lct durations size n w₀ index₀ nodes earliest posts atoms w index = size .leaves - index
 
 abbrev start : tie.In-loop Inv-loop μ-loop → tie.Start Inv-loop μ-loop
 start c = c .before .before .before
@@ -41,8 +43,8 @@ task c = getD (start c .args .sorted-tasks .now) (c .before .loop .index) 0
 abbrev end : tie.In-loop Inv-loop μ-loop → ℕ
 end c = getD (start c .args .lct .now) (task c) 0
 
-more : (c : tie.In-loop Inv-loop μ-loop) → c .before .loop .index + 1 < start c .args .n
-more c = omega arith
+more : (c : tie.In-loop Inv-loop μ-loop) → c .before .loop .index + 1 < start c .args .size .leaves
+more c = omega (arith, c .before .loop .inv .count)
 
 -- where the level was entered, from its test and from the move of its task; and that move, from the tasks considered
 abbrev entered : tie.After-overloads Inv-loop μ-loop → tie.In-loop Inv-loop μ-loop
@@ -52,13 +54,16 @@ abbrev level-of : tie.After-move-to-lambda Inv-loop μ-loop → tie.In-loop Inv-
 level-of c = entered (c .before .before .before)
 
 abbrev counts : tie.After-consider-all Inv-loop μ-loop → tie.After-counted Inv-loop μ-loop
-counts c = c .before .before .before .before .before .before .before
+counts c = c .before .before .before
+
+abbrev moved-before : tie.After-counted Inv-loop μ-loop → tie.After-move-to-lambda Inv-loop μ-loop
+moved-before c = c .before .before .before .before .before
 
 abbrev moved : tie.After-consider-all Inv-loop μ-loop → tie.After-move-to-lambda Inv-loop μ-loop
-moved c = counts c .before
+moved c = moved-before (counts c)
 
 loop-holds : tie.Need-loop-holds Inv-loop μ-loop
-loop-holds c = let s = c .before .pre in record { findable = s; level = λ s. rw (c .new .ensures) (first-level s); small = first-level s .small; starts-length = refl; posts-length = refl; atoms-length = refl }
+loop-holds c = let s = c .before .pre in record { findable = s; level = λ s. rw (c .new .ensures) (first-level s); count = refl; small = first-level s .small; starts-length = refl; posts-length = refl; atoms-length = refl }
 
 mul-lct-j : tie.Need-mul-lct-j Inv-loop μ-loop
 mul-lct-j c = let l = c .before .before .loop in omega (arith, sorted-task-small (l .inv .findable) (l .index) (l .inv .small))
@@ -66,23 +71,23 @@ mul-lct-j c = let l = c .before .before .loop in omega (arith, sorted-task-small
 -- the test of the level, by the tree of whatever it began with
 abbrev Test : tie.In-loop Inv-loop μ-loop → Bool → Type 0
 Test c u = let a = start c .args in let l = c .before .loop in
-    (s : EdgeFindable (a .n) (a .inner) (a .height) (a .nodes .now) (a .earliest .now) (a .posts .now) (a .atoms .now) (a .est .now) (a .lst .now) (a .lct .now) (a .durations .now) (a .reverse-mapping .now)
+    (s : EdgeFindable (a .size) (a .nodes .now) (a .earliest .now) (a .posts .now) (a .atoms .now) (a .est .now) (a .lst .now) (a .lct .now) (a .durations .now) (a .reverse-mapping .now)
     (a .sorted-tasks .now) (a .mapping .now))
     → exceeds (ect s (l .inv .level s) (more c)) (end c) ≡ u
 
 passes : (c : tie.Then1 Inv-loop μ-loop) → Test (entered (c .before)) true
-passes c s = let level = entered (c .before) in sym (c .before .overloads .ensures (start level .args .inner) (shown s (level .before .loop .inv .level s) (more level))) ∙ c .if1 .taken
+passes c s = let level = entered (c .before) in sym (c .before .overloads .ensures (start level .args .size .inner) (shown s (level .before .loop .inv .level s) (more level))) ∙ c .if1 .taken
 
 quiet : (c : tie.After-move-to-lambda Inv-loop μ-loop) → Test (level-of c) false
 quiet c s = let level = level-of c in let test = c .before .before .before in
-    sym (test .overloads .ensures (start level .args .inner) (shown s (level .before .loop .inv .level s) (more level))) ∙ c .before .before .if1 .left
+    sym (test .overloads .ensures (start level .args .size .inner) (shown s (level .before .loop .inv .level s) (more level))) ∙ c .before .before .if1 .left
 
 overload-requires : tie.Need-overload-requires Inv-loop μ-loop
 overload-requires c κs =
     let level = entered (c .before .before .before) in
     let v = level .before .loop .inv in
     let l = v .level (v .findable) in
-    (shown (v .findable) l (more level), over-asked (v .findable) l (more level) (passes (c .before .before) (v .findable)), few (v .findable), over-inner (v .findable) l (more level))
+    (shown (v .findable) l (more level), over-asked (v .findable) l (more level) (passes (c .before .before) (v .findable)), size-fits (v .findable) l (more level))
 
 returns : tie.Need-returns Inv-loop μ-loop
 returns c = λ s.
@@ -98,17 +103,14 @@ move-to-lambda-requires c κs =
 
 counted-requires : tie.Need-counted-requires Inv-loop μ-loop
 counted-requires c κs =
-    let level = level-of c in
+    let level = level-of (c .before .before .before .before) in
     let v = level .before .loop .inv in
     omega (arith, few-changes (v .findable) (v .level (v .findable)) (more level))
 
-mul-lct-next-2 : tie.Need-mul-lct-next-2 Inv-loop μ-loop
-mul-lct-next-2 c = let level = level-of (c .before .before) in omega (arith, sorted-task-small (level .before .loop .inv .findable) (level .before .loop .index + 1) (more level))
-
 consider-all-requires : tie.Need-consider-all-requires Inv-loop μ-loop
 consider-all-requires c κs =
-    let two = c .before .before .before .before .before .before in
-    let move = two .before in
+    let two = c .before .before in
+    let move = moved-before two in
     let v = level-of move .before .loop .inv in
     goes-on (v .findable) (v .level (v .findable)) (more (level-of move)) (quiet move (v .findable)) (move .move-to-lambda .ensures) (two .counted .ensures)
 
@@ -124,7 +126,8 @@ loop-again c =
       findable = v .findable;
       level = λ s.
           let g = goes-on s (v .level s) (more (level-of move)) (quiet move s) (move .move-to-lambda .ensures) (counts considered .counted .ensures) in
-          one-more s (v .level s) (more (level-of move)) (quiet move s) (move .move-to-lambda .ensures) (counts considered .counted .ensures) (c .before .turn .given .1) (considered .consider-all .ensures g);
+          one-more s (v .level s) (more (level-of move)) (quiet move s) (move .move-to-lambda .ensures) (counts considered .counted .ensures) (c .before .x .given .1) (considered .consider-all .ensures g);
+      count = v .count;
       small = more (level-of move);
       starts-length = search needs;
       posts-length = search needs;
@@ -150,10 +153,10 @@ returns-2 c = λ s.
     let move = moved considered in
     let l = head (c .before) .loop .inv .level s in
     let g = goes-on s l (more (level-of move)) (quiet move s) (move .move-to-lambda .ensures) (counts considered .counted .ensures) in
-    one-emptied s l (more (level-of move)) (quiet move s) (move .move-to-lambda .ensures) (counts considered .counted .ensures) (considered .consider-all .last .0) (c .before .before .turn2 .given .1) (considered .consider-all .ensures g) (c .finished .ensures)
+    one-emptied s l (more (level-of move)) (quiet move s) (move .move-to-lambda .ensures) (counts considered .counted .ensures) (considered .consider-all .last .0) (c .before .before .x2 .given .1) (considered .consider-all .ensures g) (c .finished .ensures)
 
 returns-3 : tie.Need-returns-3 Inv-loop μ-loop
-returns-3 c = λ s. all-done s (c .before .before .loop .inv .level s) (omega arith) (c .finished2 .ensures)
+returns-3 c = λ s. all-done s (c .before .before .loop .inv .level s) (omega (arith, c .before .before .loop .inv .count)) (c .finished2 .ensures)
 
 pub edge-finding-spec : {M : Type 1} → statement M
 edge-finding-spec =
@@ -161,7 +164,7 @@ edge-finding-spec =
     (tie.spec
     Inv-loop μ-loop (λ c κs. search needs) loop-holds (λ c. search needs) (λ c. search needs) (λ c. search needs) mul-lct-j
     (λ c. search (needs, sorted-task-small)) (λ c κs. search needs) overload-requires (λ c. search needs)
-    (λ c. search needs) (λ c. search needs) returns move-to-lambda-requires counted-requires (λ c. search needs)
-    (λ c. search needs) (λ c. search needs) mul-lct-next-2 (λ c. search (needs, sorted-task-small)) consider-all-requires
+    (λ c. search needs) (λ c. search needs) returns move-to-lambda-requires (λ c. search needs) counted-requires
+    (λ c. search needs) (λ c. search needs) (λ c. let level = level-of (moved-before (c .before)) in omega (arith, sorted-task-small (level .before .loop .inv .findable) (level .before .loop .index + 1) (more level))) (λ c. search (needs, sorted-task-small)) consider-all-requires
     (λ c. search needs) loop-less loop-again (λ c. search needs) (λ c κs. search needs) same-length-4 same-length-5 same-length-6
     returns-2 (λ c κs. search needs) (λ c. search needs) (λ c. search needs) (λ c. search needs) returns-3)

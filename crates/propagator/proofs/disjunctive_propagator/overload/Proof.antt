@@ -15,17 +15,17 @@ use Rattle.propagator.proofs.disjunctive_propagator.overload.Tie as tie
 
 -- what is asked, with the sum that the tree answered
 given : (c : tie.After-sum-of-processing-times)
-    → let a = c .before .args in ConflictExplainable (length (a .atoms .now)) (a .written .atoms) (thetaIn (a .nodes .now) (a .inner) (a .reverse-mapping .now) (a .n)) (a .est .now) (a .durations .now)
+    → let a = c .before .args in ConflictExplainable (length (a .atoms .now)) (a .written .atoms) (thetaIn (a .nodes .now) (a .size .inner) (a .reverse-mapping .now) (a .size .leaves)) (a .est .now) (a .durations .now)
     (c .sum-of-processing-times .result) (a .lct)
 given c = let a = c .before .args in
-    subst (λ (p : ℕ). ConflictExplainable (length (a .atoms .now)) (a .written .atoms) (thetaIn (a .nodes .now) (a .inner) (a .reverse-mapping .now) (a .n)) (a .est .now) (a .durations .now) p (a .lct))
-    (sym (c .sum-of-processing-times .ensures (a .inner) (c .before .pre .0))) (c .before .pre .1)
+    subst (λ (p : ℕ). ConflictExplainable (length (a .atoms .now)) (a .written .atoms) (thetaIn (a .nodes .now) (a .size .inner) (a .reverse-mapping .now) (a .size .leaves)) (a .est .now) (a .durations .now) p (a .lct))
+    (sym (c .sum-of-processing-times .ensures (a .size .inner) (c .before .pre .0))) (c .before .pre .1)
 
 abbrev sums : tie.After-create-conflict-explanation → tie.After-sum-of-processing-times
 sums c = c .before .before .before .before
 
 create-conflict-explanation-requires : tie.Need-create-conflict-explanation-requires
-create-conflict-explanation-requires c κs = let s = c .before .before .before in (given s, s .before .pre .2, s .before .pre .3)
+create-conflict-explanation-requires c κs = let s = c .before .before .before in (given s, s .before .pre .2 .leaves, s .before .pre .2 .inner)
 
 returns : tie.Need-returns
 returns c = λ h.
@@ -33,8 +33,8 @@ returns c = λ h.
     let s = sums made in
     let a = s .before .args in
     subst (λ (p : ℕ). ConflictExplained (a .atoms .now) (made .create-conflict-explanation .last .0) (a .written) (c .finished .result)
-    (conflict zeroAt (starting (a .est .now) (a .durations .now)) (a .lct) p (thetaIn (a .nodes .now) (a .inner) (a .reverse-mapping .now) (a .n))))
-    (s .sum-of-processing-times .ensures (a .inner) h)
+    (conflict zeroAt (starting (a .est .now) (a .durations .now)) (a .lct) p (thetaIn (a .nodes .now) (a .size .inner) (a .reverse-mapping .now) (a .size .leaves))))
+    (s .sum-of-processing-times .ensures (a .size .inner) h)
     (conflict-done (made .create-conflict-explanation .ensures) refl (c .finished .ensures))
 
 pub overload-spec : {M : Type 1} → statement M

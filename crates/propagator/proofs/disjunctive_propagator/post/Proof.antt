@@ -15,17 +15,17 @@ use Rattle.propagator.proofs.disjunctive_propagator.post.Tie as tie
 
 -- what is asked, with the sum that the tree answered
 given : (c : tie.After-sum-of-processing-times)
-    → let a = c .before .args in PropagationExplainable (length (a .atoms .now)) (a .written .atoms) (thetaIn (a .nodes .now) (a .inner) (a .reverse-mapping .now) (a .n)) (a .est .now) (a .durations .now)
+    → let a = c .before .args in PropagationExplainable (length (a .atoms .now)) (a .written .atoms) (thetaIn (a .nodes .now) (a .size .inner) (a .reverse-mapping .now) (a .size .leaves)) (a .est .now) (a .durations .now)
     (c .sum-of-processing-times .result) (a .lct) (a .i) (a .new-bound)
 given c = let a = c .before .args in
-    subst (λ (p : ℕ). PropagationExplainable (length (a .atoms .now)) (a .written .atoms) (thetaIn (a .nodes .now) (a .inner) (a .reverse-mapping .now) (a .n)) (a .est .now) (a .durations .now) p (a .lct) (a .i) (a .new-bound))
-    (sym (c .sum-of-processing-times .ensures (a .inner) (c .before .pre .0))) (c .before .pre .1)
+    subst (λ (p : ℕ). PropagationExplainable (length (a .atoms .now)) (a .written .atoms) (thetaIn (a .nodes .now) (a .size .inner) (a .reverse-mapping .now) (a .size .leaves)) (a .est .now) (a .durations .now) p (a .lct) (a .i) (a .new-bound))
+    (sym (c .sum-of-processing-times .ensures (a .size .inner) (c .before .pre .0))) (c .before .pre .1)
 
 abbrev sums : tie.After-create-propagation-explanation → tie.After-sum-of-processing-times
 sums c = c .before .before .before .before
 
 create-propagation-explanation-requires : tie.Need-create-propagation-explanation-requires
-create-propagation-explanation-requires c κs = let s = c .before .before .before in (given s, s .before .pre .3, s .before .pre .4)
+create-propagation-explanation-requires c κs = let s = c .before .before .before in (given s, s .before .pre .3 .leaves, s .before .pre .3 .inner)
 
 write-post-requires : tie.Need-write-post-requires
 write-post-requires c κs =
@@ -33,8 +33,8 @@ write-post-requires c κs =
     let s = sums made in
     let a = s .before .args in
     let pre = s .before .pre in
-    post-fits (made .create-propagation-explanation .ensures) (pre .1 .known .task) (pre .2) (pre .5)
-    (reason-few (a .nodes .now) (a .inner) (a .reverse-mapping .now) (a .n) (a .est .now) (a .durations .now) (a .i) (a .new-bound) (a .lct) (s .sum-of-processing-times .result) (pre .3))
+    post-fits (made .create-propagation-explanation .ensures) (pre .1 .known .task) (pre .2) (pre .4)
+    (reason-few (a .nodes .now) (a .size .inner) (a .reverse-mapping .now) (a .size .leaves) (a .est .now) (a .durations .now) (a .i) (a .new-bound) (a .lct) (s .sum-of-processing-times .result) (pre .3 .leaves))
 
 returns : tie.Need-returns
 returns c = λ h.
@@ -43,8 +43,8 @@ returns c = λ h.
     let a = s .before .args in
     subst (λ (p : ℕ). Posted (a .posts .now) (a .atoms .now) (c .before .before .write-post .last .0) (made .create-propagation-explanation .last .0) (a .written)
     (record { posts = a .written .posts + 1; atoms = made .create-propagation-explanation .result; changes = a .written .changes }) (a .i) (a .new-bound)
-    (propagation zeroAt (starting (a .est .now) (a .durations .now)) (a .i) (a .new-bound) (a .lct) p (thetaIn (a .nodes .now) (a .inner) (a .reverse-mapping .now) (a .n))))
-    (s .sum-of-processing-times .ensures (a .inner) h)
+    (propagation zeroAt (starting (a .est .now) (a .durations .now)) (a .i) (a .new-bound) (a .lct) p (thetaIn (a .nodes .now) (a .size .inner) (a .reverse-mapping .now) (a .size .leaves))))
+    (s .sum-of-processing-times .ensures (a .size .inner) h)
     (post-done (made .create-propagation-explanation .ensures) refl refl refl refl (c .before .before .write-post .ensures))
 
 pub post-spec : {M : Type 1} → statement M
