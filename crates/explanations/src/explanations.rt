@@ -28,7 +28,7 @@ ghost use Rattle.explanations.specs.Explanations.{ConflictExplainable, P
 //   Operations Research (OR) Techniques in Constraint Programming, 2005, pp. 396–409.
 // - [2] R. A. Vasile, ‘Evaluating the Impact of Explanations on the Performance of an Edge-Finding Propagator’.
 //
-// It is written from the k-th atom on, and the number of the atom after it is the answer. The time by which ω passes lct, less one, is shared out on both sides.
+// It is written from the k-th atom on, and the number of the atom after it is the answer. Both sides share the time by which ω passes lct, less one.
 pub fn create_conflict_explanation(
     atoms: &mut [i32],
     k: usize,
@@ -41,9 +41,11 @@ pub fn create_conflict_explanation(
     p_theta: u32,
     lct: u32,
 ) -> usize
-    requires { ⌜ ConflictExplainable (length (now atoms)) k (thetaIn (now nodes) inner (now «reverse_mapping») n) (now est) (now durations) «p_theta» lct × (n ≤ TASKS) × (inner ≤ INNER) ⌝ }
+    requires { ⌜ ConflictExplainable (length (now atoms)) k (thetaIn (now nodes) inner (now «reverse_mapping») n) (now est) (now durations) «p_theta» lct
+        × (n ≤ TASKS) × (inner ≤ INNER) ⌝ }
     ensures { λ m. ⌜ Stored (now (atoms .entry)) (now (atoms .exit)) k m
-        (conflict zeroAt (starting (now (est .entry)) (now (durations .entry))) lct «p_theta» (thetaIn (now (nodes .entry)) inner (now («reverse_mapping» .entry)) n)) ⌝ }
+        (conflict zeroAt (starting (now (est .entry)) (now (durations .entry))) lct «p_theta»
+        (thetaIn (now (nodes .entry)) inner (now («reverse_mapping» .entry)) n)) ⌝ }
 {
     // Here no task is propagated, and one that starts at lct and lasts nothing changes no test.
     let omega = preceding(
@@ -102,9 +104,11 @@ pub fn create_propagation_explanation(
     propagated_task: usize,
     new_bound: u32,
 ) -> usize
-    requires { ⌜ PropagationExplainable (length (now atoms)) k (thetaIn (now nodes) inner (now «reverse_mapping») n) (now est) (now durations) «p_theta» «lct_j» «propagated_task» «new_bound» × (n ≤ TASKS) × (inner ≤ INNER) ⌝ }
+    requires { ⌜ PropagationExplainable (length (now atoms)) k (thetaIn (now nodes) inner (now «reverse_mapping») n) (now est)
+        (now durations) «p_theta» «lct_j» «propagated_task» «new_bound» × (n ≤ TASKS) × (inner ≤ INNER) ⌝ }
     ensures { λ m. ⌜ Stored (now (atoms .entry)) (now (atoms .exit)) k m
-        (propagation zeroAt (starting (now (est .entry)) (now (durations .entry))) «propagated_task» «new_bound» «lct_j» «p_theta» (thetaIn (now (nodes .entry)) inner (now («reverse_mapping» .entry)) n)) ⌝ }
+        (propagation zeroAt (starting (now (est .entry)) (now (durations .entry))) «propagated_task» «new_bound» «lct_j» «p_theta»
+        (thetaIn (now (nodes .entry)) inner (now («reverse_mapping» .entry)) n)) ⌝ }
 {
     let est_propagated = est[propagated_task];
     let p_propagated = durations[propagated_task];

@@ -49,7 +49,8 @@ pub fn preceding(
     est_propagated: u32,
     p_propagated: u32,
 ) -> Suffix
-    requires { ⌜ Walk (Precedes (now est) lct «est_propagated» «p_propagated») (thetaBetween (now nodes) inner (now «reverse_mapping») 0 n) (now est) (now durations) «p_theta» «p_propagated»
+    requires { ⌜ Walk (Precedes (now est) lct «est_propagated» «p_propagated») (thetaBetween (now nodes) inner (now «reverse_mapping») 0 n) (now est)
+        (now durations) «p_theta» «p_propagated»
         × (n ≤ TASKS) × (inner ≤ INNER) ⌝ }
     ensures { λ r. ⌜ StopsAt (whiteIn (now (nodes .entry)) inner) (taskIn (now («reverse_mapping» .entry)))
         (Precedes (now (est .entry)) lct «est_propagated» «p_propagated») (now (durations .entry)) 0 n (r .first .0) (r .lasts) ⌝ }

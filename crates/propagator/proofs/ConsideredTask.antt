@@ -48,14 +48,16 @@ use Rattle.propagator.proofs.ExplanationInput as meeting
 use Rattle.integers.proofs.Lists.{map-set}
 
 -- what is asked of, and said by, an explanation, with other names for the same values
-explainable-at : {size k : ℕ} {est durations θ θ′ : List ℕ} {p c c′ i i′ b : ℕ} → θ ≡ θ′ → c ≡ c′ → i ≡ i′ → PropagationExplainable size k θ′ est durations p c′ i′ b → PropagationExplainable size k θ est durations p c i b
+explainable-at : {size k : ℕ} {est durations θ θ′ : List ℕ} {p c c′ i i′ b : ℕ} → θ ≡ θ′ → c ≡ c′ → i ≡ i′ → PropagationExplainable size k θ′ est durations p c′ i′ b
+    → PropagationExplainable size k θ est durations p c i b
 explainable-at a e f m = rw (a, e, f) m
 
 propagation-at : (K : Tasks natural) (p b : ℕ) {θ θ′ : List ℕ} {c c′ i i′ : ℕ} → θ ≡ θ′ → c ≡ c′ → i ≡ i′ → propagation zeroAt K i b c p θ ≡ propagation zeroAt K i′ b c′ p θ′
 propagation-at K p b a e f = rw (a, e, f)
 
 -- the words of one post more, of its reason, and of a start that is raised
-posts-at : (posts₀ : List ℤ) {posts posts′ : List ℤ} (made : List Post) (p : Post) {k m i many : ℕ} {b : ℤ} → posts ≡ sets posts₀ 0 (postWords 0 made) → k ≡ length made → m ≡ length (reasons made) → i ≡ p .task
+posts-at : (posts₀ : List ℤ) {posts posts′ : List ℤ} (made : List Post) (p : Post) {k m i many : ℕ} {b : ℤ} → posts ≡ sets posts₀ 0 (postWords 0 made) → k ≡ length made → m ≡ length (reasons made)
+    → i ≡ p .task
     → b ≡ p .bound → many ≡ length (p .reason)
     → posts′ ≡ sets posts (4 * k) (pos i ∷ b ∷ pos m ∷ pos many ∷ []) → posts′ ≡ sets posts₀ 0 (postWords 0 (made ++ (p ∷ [])))
 posts-at posts₀ made p a c d e f g h = h ∙ rw (a, c, d, e, f, g) (post-stored posts₀ made p)
@@ -126,7 +128,8 @@ module _ {size : TreeSize} {lct : ℕ} {words : List ℕ} {es posts atoms : List
   tall = s .arrays .tall ∙ ap heightFor (sym (s .arrays .count))
 
   pub theta-is : thetaIn words inn reverseMapping n ≡ leaves.theta J estOrder ls
-  theta-is = ap (thetaIn words inn reverseMapping) (sym (s .arrays .count)) ∙ theta-of (G .limited) (s .at .tree) reverseMapping (λ j q. s .arrays .reverse-mapping .at j (omega (arith, s .arrays .count)))
+  theta-is = ap (thetaIn words inn reverseMapping) (sym (s .arrays .count))
+      ∙ theta-of (G .limited) (s .at .tree) reverseMapping (λ j q. s .arrays .reverse-mapping .at j (omega (arith, s .arrays .count)))
 
   pub few : n ≤ TASKS
   few = omega (arith, G .limited .count, s .arrays .count)
@@ -362,7 +365,15 @@ module _ {size : TreeSize} {lct : ℕ} {words : List ℕ} {es posts atoms : List
         tried-on {words′ = words′} (inr (low, f, g, h)) fits e at-leaf q = rw (e ∙ same, f, g, h) (passed-on low at-leaf q)
           where
             same-start : b ≡ getD (s .st .starts) i 0
-            same-start = omega (arith, low, is, raised-least (getD est i 0) (leaves.ect J estOrder ls), task-start, ap (λ (k : ℕ). getD (s .st .starts) k 0) (r .task), inv .facts .same-in (T x) (found .gray))
+            same-start = omega (
+              arith,
+              low,
+              is,
+              raised-least (getD est i 0) (leaves.ect J estOrder ls),
+              task-start,
+              ap (λ (k : ℕ). getD (s .st .starts) k 0) (r .task),
+              inv .facts .same-in (T x) (found .gray),
+            )
 
             same : set es i (instant zeroAt b) ≡ es
             same = rw (s .at .starts, same-start) (sym (map-set (instant zeroAt) (s .st .starts) i (getD (s .st .starts) i 0)) ∙ ap (map (instant zeroAt)) (set-getD (s .st .starts) i 0))

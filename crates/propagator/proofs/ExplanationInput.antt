@@ -30,7 +30,8 @@ use Rattle.explanations.proofs.ExplanationAtoms.{Alike}
 use Rattle.explanations.proofs.Places.{lasts-none, lasts-more}
 use Rattle.propagator.specs.RunArrays.{Ordered, Holds}
 
-module _ (J : Tasks natural) (estOrder lctOrder : List ℕ) (G : Ordered J estOrder lctOrder) (est durations : List ℕ) (he : Holds (J .count) (J .earliest) est) (hd : Holds (J .count) (J .duration) durations) where
+module _ (J : Tasks natural) (estOrder lctOrder : List ℕ) (G : Ordered J estOrder lctOrder) (est durations : List ℕ) (he : Holds (J .count) (J .earliest) est)
+    (hd : Holds (J .count) (J .duration) durations) where
   abbrev ok : Proper J
   ok = G .proper
 
@@ -162,7 +163,8 @@ module _ (J : Tasks natural) (estOrder lctOrder : List ℕ) (G : Ordered J estOr
         }
 
     -- a post
-    pub propagation-explainable : (size k x b : ℕ) → tree.Found J ok estOrder (G .by-earliest) ls Θ Λ s x → exceeds (ect-bar J estOrder ls) c ≡ true → ect J estOrder ls ≡ some b → J .earliest (T x) < b
+    pub propagation-explainable : (size k x b : ℕ) → tree.Found J ok estOrder (G .by-earliest) ls Θ Λ s x → exceeds (ect-bar J estOrder ls) c ≡ true → ect J estOrder ls ≡ some b
+        → J .earliest (T x) < b
         → 3 * k + 6 * length θ + 3 ≤ size
         → PropagationExplainable size k θ est durations (sum J estOrder ls) c (T x) b
     propagation-explainable size k x b f over is up room =

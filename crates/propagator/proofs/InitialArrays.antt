@@ -152,7 +152,8 @@ module _ (r : DisjunctivePropagator) (es ls : List ℤ) (postCount atomCount : �
   completion-small k q = let z : k < length ds = omega (arith, count) in omega (arith, early k z .2, lasting k z)
 
   -- the state at the start: nothing is written
-  pub at-start : (inner : ℕ) (words : List ℕ) (posts atoms : List ℤ) → IsTree J estOrder (replicate (J .count) white) inner words → At J estOrder posts atoms (allWhite J) inner words es posts atoms 0 0 n
+  pub at-start : (inner : ℕ) (words : List ℕ) (posts atoms : List ℤ) → IsTree J estOrder (replicate (J .count) white) inner words
+      → At J estOrder posts atoms (allWhite J) inner words es posts atoms 0 0 n
   at-start inner words posts atoms t = record {
     tree = t;
     starts = subst (λ (m : ℕ). es ≡ map (instant zeroAt) (tabulate (J .earliest) 0 m)) (a .counts .earliest ∙ sym count)
@@ -193,7 +194,8 @@ module _ (r : DisjunctivePropagator) (es ls : List ℤ) (postCount atomCount : �
     pub keys-small : {lct : List ℕ} → lct ≡ filled (completionAt lst (r .durations)) n noTasks → (k : ℕ) → k < n → getD lct k 0 ≤ largestKey
     keys-small {lct} c k q = omega (arith, ap (λ (o : List ℕ). getD o k 0) c ∙ holds-completions lst latest .at k q, completion-small k q)
 
-    module _ {lct reverseMapping sortedTasks : List ℕ} (c : lct ≡ filled (completionAt lst (r .durations)) n noTasks) (f : SortedBy (byKey est) n reverseMapping) (g : SortedBy (byKeyDown lct) n sortedTasks) where
+    module _ {lct reverseMapping sortedTasks : List ℕ} (c : lct ≡ filled (completionAt lst (r .durations)) n noTasks) (f : SortedBy (byKey est) n reverseMapping)
+        (g : SortedBy (byKeyDown lct) n sortedTasks) where
       pub completions : Holds n (completion J) lct
       completions = subst (Holds n (completion J)) (sym c) (holds-completions lst latest)
 
@@ -225,7 +227,8 @@ module _ (r : DisjunctivePropagator) (es ls : List ℤ) (postCount atomCount : �
           lasts = λ x q. holds-durations .at (getD estOrder x 0) (omega (arith, count, by-earliest .task x (omega (arith, count))));
         }
 
-        abbrev pub findable : {words : List ℕ} {posts atoms : List ℤ} → IsTree J estOrder (replicate (J .count) white) (made .«number_of_internal_nodes») words → postCount ≡ length posts → atomCount ≡ length atoms
+        abbrev pub findable : {words : List ℕ} {posts atoms : List ℤ} → IsTree J estOrder (replicate (J .count) white) (made .«number_of_internal_nodes») words → postCount ≡ length posts
+            → atomCount ≡ length atoms
             → EdgeFindable (record { inner = made .«number_of_internal_nodes»; height = made .height; leaves = n }) words es posts atoms est lst lct (r .durations) reverseMapping sortedTasks mapping
         findable {words} {posts} {atoms} full p q = record {
           J = J;

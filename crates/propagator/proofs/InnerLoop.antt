@@ -123,12 +123,14 @@ module _ {size : TreeSize} {lct : ℕ} {words : List ℕ} {es posts atoms : List
         r .at,
         rest-is ∙ elim (bool (exceeds bar lct)) [
           | inr y ↦ inner-off zeroAt (s .J) (s .estOrder) (s .lctOrder) f (s .level) (r .st) (test-is y)
-          | inl y ↦ inner-none zeroAt (s .J) (s .estOrder) (s .lctOrder) f (s .level) (r .st) (test-is y) (no-task reverseMapping found (sym is ∙ z ∙ sym (candidate-some reverseMapping lct bar found y)))
+          | inl y ↦ inner-none zeroAt (s .J) (s .estOrder) (s .lctOrder) f (s .level) (r .st) (test-is y)
+              (no-task reverseMapping found (sym is ∙ z ∙ sym (candidate-some reverseMapping lct bar found y)))
         ],
       )
 
       -- one was considered
-      pub one-less : {words″ : List ℕ} {es″ posts″ atoms″ : List ℤ} {w″ : Written} {u : code.Turn} → u ≡ turn.On w″ → Considered still-considerable u words″ es″ posts″ atoms″ → Turned f words″ es″ posts″ atoms″ w″
+      pub one-less : {words″ : List ℕ} {es″ posts″ atoms″ : List ℤ} {w″ : Written} {u : code.Turn} → u ≡ turn.On w″ → Considered still-considerable u words″ es″ posts″ atoms″
+          → Turned f words″ es″ posts″ atoms″ w″
       one-less is all =
           let (st′, a, next) = rw is at all in
           record { st = st′; reached = turned (s .level) (r .st) st′ (r .reached) (next 0 ∙ inner-end zeroAt (s .J) (s .estOrder) (s .lctOrder) 0 (s .level) st′); at = a; rest = rest-is ∙ next f }

@@ -27,7 +27,8 @@ module _ {inner : ℕ} {words mapping est durations : List ℕ} {j : ℕ} (m : M
   moved e {words′} q = subst (λ (k : ℕ). Coloured gray shown k words′) e q
 
 -- the task of the level may leave Theta
-module _ {size : TreeSize} {lct : ℕ} {words : List ℕ} {es posts atoms : List ℤ} {w : Written} {est lst durations reverseMapping mapping : List ℕ} (s : Considerable size lct words es posts atoms w est lst durations reverseMapping mapping)
+module _ {size : TreeSize} {lct : ℕ} {words : List ℕ} {es posts atoms : List ℤ} {w : Written} {est lst durations reverseMapping mapping : List ℕ}
+    (s : Considerable size lct words es posts atoms w est lst durations reverseMapping mapping)
     (j : ℕ) (z : j ≡ getD (s .lctOrder) (s .level) 0) where
   abbrev n : ℕ
   n = size .leaves

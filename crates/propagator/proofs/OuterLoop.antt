@@ -114,7 +114,8 @@ module _ {size : TreeSize} {words : List ℕ} {es posts atoms : List ℤ} {est l
 
   module _ {t : ℕ} {words′ : List ℕ} {es′ posts′ atoms′ : List ℤ} {w′ : Written} (v : Level t words′ es′ posts′ atoms′ w′) where
     -- all levels are done
-    pub all-done : {r : Finished} → n ≤ t + 1 → (r .outcome ≡ outcome.Done (w′ .posts)) × (r .changes ≡ w′ .changes) → EdgeFound J estOrder lctOrder posts atoms (r .outcome) (r .changes) es′ posts′ atoms′
+    pub all-done : {r : Finished} → n ≤ t + 1 → (r .outcome ≡ outcome.Done (w′ .posts)) × (r .changes ≡ w′ .changes)
+        → EdgeFound J estOrder lctOrder posts atoms (r .outcome) (r .changes) es′ posts′ atoms′
     all-done q f = ends (v .st) done is (v .at) (ap outcomeNumbers (f .0) ∙ ap (λ (k : ℕ). outcomeNumbers (outcome.Done k)) (v .at .posted)) (f .1) (no-more (v .st) done is (v .at) refl)
       where
         none : n - 1 - t ≡ 0
@@ -187,7 +188,8 @@ module _ {size : TreeSize} {words : List ℕ} {es posts atoms : List ℤ} {est l
       pub size-fits : SizeFits size
       size-fits = considering.size-fits here
 
-      pub overloads : {r : Finished} {atoms″ : List ℤ} → exceeds ect c ≡ true → ConflictExplained atoms′ atoms″ w′ r (conflictOf shown reverseMapping n est durations c) → EdgeFound J estOrder lctOrder posts atoms (r .outcome) (r .changes) es′ posts′ atoms″
+      pub overloads : {r : Finished} {atoms″ : List ℤ} → exceeds ect c ≡ true → ConflictExplained atoms′ atoms″ w′ r (conflictOf shown reverseMapping n est durations c)
+          → EdgeFound J estOrder lctOrder posts atoms (r .outcome) (r .changes) es′ posts′ atoms″
       overloads {r} {atoms″} q k = ends (v .st) (overload reason) is (v .at) answer (k .changes) words-are
         where
           reason : List Atom
@@ -203,7 +205,8 @@ module _ {size : TreeSize} {words : List ℕ} {es posts atoms : List ℤ} {est l
           answer = ap outcomeNumbers (k .answer ∙ ap (λ (l : List Atom). outcome.Overload (w′ .posts) (w′ .atoms) (length l)) reason-is) ∙ rw (v .at .posted, v .at .explained) refl
 
           words-are : atoms″ ≡ sets atoms 0 (atomWords (reasons (v .st .posts) ++ reason))
-          words-are = k .atom-words ∙ ap (λ (l : List Atom). sets atoms′ (3 * w′ .atoms) (atomWords l)) reason-is ∙ rw (v .at .atom-words, v .at .explained) (reason-stored atoms (reasons (v .st .posts)) reason)
+          words-are = k .atom-words ∙ ap (λ (l : List Atom). sets atoms′ (3 * w′ .atoms) (atomWords l)) reason-is
+              ∙ rw (v .at .atom-words, v .at .explained) (reason-stored atoms (reasons (v .st .posts)) reason)
 
       -- they do not: the task of the level goes to Lambda
       abbrev pub moves : Movable inn words′ mapping est durations j
@@ -261,7 +264,8 @@ module _ {size : TreeSize} {words : List ℕ} {es posts atoms : List ℤ} {est l
         inner-is z = ap (λ (f : ℕ). inner zeroAt J estOrder lctOrder f (suc t) st₁) (s .arrays .count) ∙ z
 
         -- the inner loop ended,
-        pub one-more : {words‴ : List ℕ} {es″ posts″ atoms″ : List ℤ} {w″ : Written} {u : code.Turn} → u ≡ turn.On w″ → AllConsidered goes-on u words‴ es″ posts″ atoms″ → Level (t + 1) words‴ es″ posts″ atoms″ w″
+        pub one-more : {words‴ : List ℕ} {es″ posts″ atoms″ : List ℤ} {w″ : Written} {u : code.Turn} → u ≡ turn.On w″ → AllConsidered goes-on u words‴ es″ posts″ atoms″
+            → Level (t + 1) words‴ es″ posts″ atoms″ w″
         one-more {words‴} {es″} {posts″} {atoms″} {w″} is all =
             let (st′, a, z) = rw is at all in
             let one : suc t ≡ t + 1 = omega arith in

@@ -84,7 +84,8 @@ module _ {size : TreeSize} {lct : ℕ} {words : List ℕ} {es posts atoms : List
 
   pub over-asked : exceeds (leaves.ect J estOrder ls) lct ≡ true → ConflictExplainable (length atoms) (w .atoms) (thetaIn words inn reverseMapping n) est durations (leaves.sum J estOrder ls) lct
   over-asked q = overloaded-at (theta-is s) (s .ends)
-      (meeting.conflict-explainable J estOrder lctOrder G est durations (held s (s .arrays .starts)) (held s (s .arrays .lasts)) t ls (considering.Λ s) (considering.shape s) (s .small) (length atoms) (w .atoms)
+      (meeting.conflict-explainable J estOrder lctOrder G est durations (held s (s .arrays .starts)) (held s (s .arrays .lasts)) t ls (considering.Λ s) (considering.shape s) (s .small) (length atoms)
+      (w .atoms)
       (ap (exceeds (leaves.ect J estOrder ls)) (sym (s .ends)) ∙ q) over-room)
 
   pub conflict-is : conflictOf (considering.shown s) reverseMapping n est durations lct ≡ conflict zeroAt J (completion J (getD lctOrder t 0)) (leaves.sum J estOrder ls) (leaves.theta J estOrder ls)

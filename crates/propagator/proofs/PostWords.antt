@@ -36,7 +36,8 @@ module _ (reverseMapping : List ℕ) (lct : ℕ) (bar found : Option ℕ) where
 -- the reason of a post is short, by the tasks of Theta
 pub reason-few : (words : List ℕ) (inner : ℕ) (reverseMapping : List ℕ) (n : ℕ) (es ds : List ℕ) (i b lct p : ℕ) → n ≤ TASKS
     → length (propagation zeroAt (starting es ds) i b lct p (thetaIn words inner reverseMapping n)) ≤ 97
-reason-few words inner reverseMapping n es ds i b lct p q = omega (arith, propagation-length zeroAt (starting es ds) i b lct p (thetaIn words inner reverseMapping n), theta-few (whiteIn words inner) (taskIn reverseMapping) 0 n)
+reason-few words inner reverseMapping n es ds i b lct p q =
+    omega (arith, propagation-length zeroAt (starting es ds) i b lct p (thetaIn words inner reverseMapping n), theta-few (whiteIn words inner) (taskIn reverseMapping) 0 n)
 
 -- a reason that stands where the explanation has written it: how long it is, and the post's words
 module _ {atoms atoms′ : List ℤ} {k end : ℕ} {reason : List Atom} (s : Stored atoms atoms′ k end reason) where

@@ -49,4 +49,5 @@ overload-read atoms t reason e = subst (λ (x : End). ReadOverload (endReason x)
 
 -- The words that a run leaves are read so.
 pub handed : (t : Trace) (posts atoms : List ℤ) {posts′ atoms′ : List ℤ} → posts′ ≡ postsAfter posts t → atoms′ ≡ atomsAfter atoms t → Handed t posts′ atoms′
-handed t posts atoms {posts′} {atoms′} p b = subst (λ (u : List ℤ). Handed t u atoms′) (sym p) (subst (Handed t (postsAfter posts t)) (sym b) (record { posts = reads posts atoms t; overloads = overload-read atoms t }))
+handed t posts atoms {posts′} {atoms′} p b =
+    subst (λ (u : List ℤ). Handed t u atoms′) (sym p) (subst (Handed t (postsAfter posts t)) (sym b) (record { posts = reads posts atoms t; overloads = overload-read atoms t }))

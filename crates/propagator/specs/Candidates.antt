@@ -57,7 +57,8 @@ pub record Posted (posts atoms posts′ atoms′ : List ℤ) (before after : Wri
 
 -- What stands at a level of a run: the tasks and orders, the arrays that hold them, and the state st that the definition goes through and that tree and slices
 -- are at.
-pub record Considerable (size : TreeSize) (lct : ℕ) (words : List ℕ) (es posts atoms : List ℤ) (w : Written) (est lst durations reverseMapping mapping : List ℕ) : Type 0 where
+pub record Considerable (size : TreeSize) (lct : ℕ) (words : List ℕ) (es posts atoms : List ℤ) (w : Written)
+    (est lst durations reverseMapping mapping : List ℕ) : Type 0 where
   pub J : Tasks natural
   pub estOrder : List ℕ
   pub lctOrder : List ℕ
@@ -79,7 +80,8 @@ module _ {size : TreeSize} {lct : ℕ} {words : List ℕ} {es posts atoms : List
     (s : Considerable size lct words es posts atoms w est lst durations reverseMapping mapping) where
   -- the state st′ follows: tree and slices are at it
   abbrev pub AtNow : State → List ℕ → List ℤ → List ℤ → List ℤ → Written → Type 0
-  AtNow st′ words′ es′ posts′ atoms′ w′ = At (s .J) (s .estOrder) (s .posts₀) (s .atoms₀) st′ (size .inner) words′ es′ posts′ atoms′ (w′ .posts) (w′ .atoms) (w′ .changes)
+  AtNow st′ words′ es′ posts′ atoms′ w′ = At (s .J) (s .estOrder) (s .posts₀) (s .atoms₀) st′ (size .inner) words′ es′ posts′ atoms′ (w′ .posts) (w′ .atoms)
+      (w′ .changes)
 
   abbrev pub turns : ℕ → State → Turn
   turns f st′ = inner zeroAt (s .J) (s .estOrder) (s .lctOrder) f (s .level) st′

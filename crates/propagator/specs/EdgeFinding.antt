@@ -25,7 +25,8 @@ use Rattle.runs.specs.declared.outcome.Finished.{Finished}
 
 -- the reason of an overload, by the tree and the arrays
 abbrev pub conflictOf : {inner : ℕ} {words : List ℕ} → Held inner words → List ℕ → ℕ → List ℕ → List ℕ → ℕ → List Atom
-conflictOf {inner} {words} h reverseMapping n est durations lct = conflict zeroAt (starting est durations) lct (sum (h .J) (h .estOrder) (h .leaves)) (thetaIn words inner reverseMapping n)
+conflictOf {inner} {words} h reverseMapping n est durations lct =
+    conflict zeroAt (starting est durations) lct (sum (h .J) (h .estOrder) (h .leaves)) (thetaIn words inner reverseMapping n)
 
 -- it stands after the atoms written so far
 pub record ConflictExplained (atoms atoms′ : List ℤ) (w : Written) (r : Finished) (reason : List Atom) : Type 0 where
@@ -34,7 +35,8 @@ pub record ConflictExplained (atoms atoms′ : List ℤ) (w : Written) (r : Fini
   pub changes : r .changes ≡ w .changes
 
 -- What edge finding is given: the tasks in both orders, the arrays that hold them, room for posts and reasons, and the tree of all tasks.
-pub record EdgeFindable (size : TreeSize) (words : List ℕ) (es posts atoms : List ℤ) (est lst lct durations reverseMapping sortedTasks mapping : List ℕ) : Type 0 where
+pub record EdgeFindable (size : TreeSize) (words : List ℕ) (es posts atoms : List ℤ)
+    (est lst lct durations reverseMapping sortedTasks mapping : List ℕ) : Type 0 where
   pub J : Tasks natural
   pub estOrder : List ℕ
   pub lctOrder : List ℕ
@@ -48,7 +50,8 @@ pub record EdgeFindable (size : TreeSize) (words : List ℕ) (es posts atoms : L
   pub at : At J estOrder posts atoms (allWhite J) (size .inner) words es posts atoms 0 0 (size .leaves)
 
 -- What it leaves: the trace of the run's definition.
-pub record EdgeFound (J : Tasks natural) (estOrder lctOrder : List ℕ) (posts atoms : List ℤ) (r : Outcome) (changed : ℕ) (es′ posts′ atoms′ : List ℤ) : Type 0 where
+pub record EdgeFound (J : Tasks natural) (estOrder lctOrder : List ℕ) (posts atoms : List ℤ) (r : Outcome) (changed : ℕ)
+    (es′ posts′ atoms′ : List ℤ) : Type 0 where
   pub answer : outcomeNumbers r ≡ traceNumbers (run zeroAt J estOrder lctOrder)
   pub changes : changed ≡ run zeroAt J estOrder lctOrder .changes
   pub starts : es′ ≡ run zeroAt J estOrder lctOrder .starts

@@ -36,7 +36,8 @@ ghost use Rattle.propagator.specs.RunArrays.{SizeFits};
 ghost use Rattle.propagator.specs.FilledTheta.{Fillable, Filled};
 ghost use Rattle.propagator.specs.EdgeFinding.{ConflictExplained, conflictOf, EdgeFindable, EdgeFound};
 ghost use Rattle.propagator.specs.MovedToLambda.{Movable, Moved};
-ghost use Rattle.propagator.specs.Candidates.{nothingWritten, counted, Proposes, reasonOf, Posted, Considerable, Considered, AllConsidered, Responsible-for};
+ghost use Rattle.propagator.specs.Candidates.{nothingWritten, counted, Proposes, reasonOf, Posted, Considerable, Considered, AllConsidered};
+ghost use Rattle.propagator.specs.Candidates.{Responsible-for};
 
 // What a run hands back: the record, how the run ended, and its leaf changes.
 pub struct Run {
@@ -249,10 +250,12 @@ fn overload<'a>(
     lct: u32,
 ) -> Finished
     requires { ⌜ ((h : Held (size .inner) (now nodes))
-        × (ConflictExplainable (length (now atoms)) (written .atoms) (thetaIn (now nodes) (size .inner) (now «reverse_mapping») (size .leaves)) (now est) (now durations)
+        × (ConflictExplainable (length (now atoms)) (written .atoms) (thetaIn (now nodes) (size .inner) (now «reverse_mapping») (size .leaves)) (now est)
+        (now durations)
         (sum (h .J) (h .estOrder) (h .leaves)) lct) × SizeFits size) ⌝ }
     ensures { λ r. ⌜ ((h : Held (size .inner) (now (nodes .entry)))
-        → ConflictExplained (now (atoms .entry)) (now (atoms .exit)) written r (conflictOf h (now («reverse_mapping» .entry)) (size .leaves) (now (est .entry)) (now (durations .entry)) lct)) ⌝ }
+        → ConflictExplained (now (atoms .entry)) (now (atoms .exit)) written r
+        (conflictOf h (now («reverse_mapping» .entry)) (size .leaves) (now (est .entry)) (now (durations .entry)) lct)) ⌝ }
 {
     let p_theta = ThetaLambdaTree::sum_of_processing_times(nodes);
     let at = written.atoms;
@@ -486,7 +489,8 @@ fn post<'a>(
     lct: u32,
 ) -> Written
     requires { ⌜ ((h : Held (size .inner) (now nodes))
-        × (PropagationExplainable (length (now atoms)) (written .atoms) (thetaIn (now nodes) (size .inner) (now «reverse_mapping») (size .leaves)) (now est) (now durations)
+        × (PropagationExplainable (length (now atoms)) (written .atoms) (thetaIn (now nodes) (size .inner) (now «reverse_mapping») (size .leaves)) (now est)
+        (now durations)
         (sum (h .J) (h .estOrder) (h .leaves)) lct i «new_bound»)
         × (4 * written .posts + 4 ≤ length (now posts)) × SizeFits size × (written .atoms ≤ ATOMS)) ⌝ }
     ensures { λ r. ⌜ ((h : Held (size .inner) (now (nodes .entry)))

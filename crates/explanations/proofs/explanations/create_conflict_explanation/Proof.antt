@@ -26,7 +26,8 @@ tasks c = taskIn (c .args .reverse-mapping .now)
 
 -- what is asked, of the leaves
 given : (c : tie.Start) → let a = c .args in ConflictExplainable (length (a .atoms .now)) (a .k) (between (white c) (tasks c) 0 (a .n)) (a .est .now) (a .durations .now) (a .p-theta) (a .lct)
-given c = let a = c .args in subst (λ (ks : List ℕ). ConflictExplainable (length (a .atoms .now)) (a .k) ks (a .est .now) (a .durations .now) (a .p-theta) (a .lct)) (all-leaves (white c) (tasks c) (a .n)) (c .pre .0)
+given c = let a = c .args in subst (λ (ks : List ℕ). ConflictExplainable (length (a .atoms .now)) (a .k) ks (a .est .now) (a .durations .now) (a .p-theta) (a .lct))
+    (all-leaves (white c) (tasks c) (a .n)) (c .pre .0)
 
 -- what ω passes lct by
 abbrev start : tie.After-preceding → tie.Start

@@ -26,8 +26,10 @@ abbrev tasks : tie.Start → ℕ → ℕ
 tasks c = taskIn (c .args .reverse-mapping .now)
 
 -- what is asked, of the leaves
-given : (c : tie.Start) → let a = c .args in PropagationExplainable (length (a .atoms .now)) (a .k) (between (white c) (tasks c) 0 (a .n)) (a .est .now) (a .durations .now) (a .p-theta) (a .lct-j) (a .propagated-task) (a .new-bound)
-given c = let a = c .args in subst (λ (ks : List ℕ). PropagationExplainable (length (a .atoms .now)) (a .k) ks (a .est .now) (a .durations .now) (a .p-theta) (a .lct-j) (a .propagated-task) (a .new-bound)) (all-leaves (white c) (tasks c) (a .n))
+given : (c : tie.Start) → let a = c .args in
+    PropagationExplainable (length (a .atoms .now)) (a .k) (between (white c) (tasks c) 0 (a .n)) (a .est .now) (a .durations .now) (a .p-theta) (a .lct-j) (a .propagated-task) (a .new-bound)
+given c = let a = c .args in subst (λ (ks : List ℕ).
+    PropagationExplainable (length (a .atoms .now)) (a .k) ks (a .est .now) (a .durations .now) (a .p-theta) (a .lct-j) (a .propagated-task) (a .new-bound)) (all-leaves (white c) (tasks c) (a .n))
     (c .pre .0)
 
 -- what ω and i pass lct by,
@@ -37,7 +39,8 @@ start c = c .before .before .before .before .before
 abbrev walk : tie.After-min → tie.After-preceding
 walk c = c .before .before .before
 
-early : (c : tie.After-min) → let a = start (walk c) .args in c .min .result ≡ min (getD (a .est .now) (a .propagated-task) 0) (getD (a .est .now) (tasks (start (walk c)) (walk c .preceding .result .first .0)) 0)
+early : (c : tie.After-min) → let a = start (walk c) .args in
+    c .min .result ≡ min (getD (a .est .now) (a .propagated-task) 0) (getD (a .est .now) (tasks (start (walk c)) (walk c .preceding .result .first .0)) 0)
 early c = let a = start (walk c) .args in c .min .ensures ∙ ap (min (getD (a .est .now) (a .propagated-task) 0)) (c .before .of-leaf .ensures)
 
 numbers : (c : tie.After-min) → let w = walk c in let s = start w in Reach (white s) (tasks s) 0 (s .args .n) (given s) (w .preceding .ensures) (c .min .result)
@@ -50,7 +53,8 @@ room c =
     let w = walk least in
     let s = start w in
     let r = least .min .result in
-    last-room (white s) (tasks s) 0 (s .args .n) (given s) (w .preceding .ensures) r (r + w .preceding .result .lasts + getD (s .args .durations .now) (s .args .propagated-task) 0 - 1) refl (c .write-bounds .ensures)
+    last-room (white s) (tasks s) 0 (s .args .n) (given s) (w .preceding .ensures) r (r + w .preceding .result .lasts + getD (s .args .durations .now) (s .args .propagated-task) 0 - 1) refl
+    (c .write-bounds .ensures)
 
 preceding-requires : tie.Need-preceding-requires
 preceding-requires c κs = let s = c .before .before .before .before in (post-walk (white s) (tasks s) 0 (s .args .n) (given s), s .pre .1, s .pre .2)
@@ -93,7 +97,8 @@ returns c =
     let a = s .args in
     subst (λ (ks : List ℕ). Stored (a .atoms .now) (c .before .write-atom .last .0) (a .k) (c .before .before .before .before .write-bounds .result + 1)
     (propagation zeroAt (starting (a .est .now) (a .durations .now)) (a .propagated-task) (a .new-bound) (a .lct-j) (a .p-theta) ks)) (sym (all-leaves (white s) (tasks s) (a .n)))
-    (propagation-stored (white s) (tasks s) (a .est .now) (a .durations .now) 0 (a .n) (a .p-theta) (w .preceding .result .first .0) (w .preceding .result .lasts) (given s .white .total) (a .propagated-task) (a .new-bound)
+    (propagation-stored (white s) (tasks s) (a .est .now) (a .durations .now) 0 (a .n) (a .p-theta) (w .preceding .result .first .0) (w .preceding .result .lasts) (given s .white .total)
+    (a .propagated-task) (a .new-bound)
     (a .lct-j) (r .min .result) (w .preceding .ensures) (early r)
     (c .before .before .before .before .write-bounds .ensures) (c .before .write-atom .ensures))
 

@@ -1,4 +1,4 @@
--- The leaves are split where ω′ begins, and the two halves are written one behind the other.
+-- The leaves are split where ω′ begins, and the two halves are written one after the other.
 use Prim.Native.Nat.{ℕ, _≤_}
 use native.Mathlib.Omega.{arith}
 use borrow.Author.Needs.{needs}
@@ -44,7 +44,8 @@ returns c =
     let at = c .before .before .before .before .before .before .before in
     let a = start at .args in
     let w = at .attaining in
-    bounds-stored (whiteIn (a .nodes .now) (a .inner)) (taskIn (a .reverse-mapping .now)) (a .est .now) (a .durations .now) (a .from .0) (a .n) (a .p-omega) (first at) (w .result .lasts) (start at .pre .0 .total)
+    bounds-stored (whiteIn (a .nodes .now) (a .inner)) (taskIn (a .reverse-mapping .now)) (a .est .now) (a .durations .now) (a .from .0) (a .n) (a .p-omega) (first at) (w .result .lasts)
+    (start at .pre .0 .total)
     (a .new-bound) (a .r) (a .last) (w .ensures)
     (c .before .before .before .before .write-within .ensures) (c .before .write-within2 .ensures)
 

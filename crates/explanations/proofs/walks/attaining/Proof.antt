@@ -1,4 +1,4 @@
--- The invariant `WalkedTo`: x is a leaf of Θ, pOmegaPrime what the tasks from it on last, and none before it attains the bound; the walk must stop inside, as one does.
+-- The invariant `WalkedTo`: x is a leaf of Θ, the tasks from it on last p_omega_prime, and none before it attains the bound. One does, so the walk stops inside.
 use mathlib.Core.Path.{subst}
 use mathlib.Core.List.{List}
 use Prim.Native.Nat.{ℕ, _+_, _-_, _<_, _^_}
@@ -23,7 +23,8 @@ abbrev begin : tie.After-next-in-theta Inv-loop μ-loop → tie.Start Inv-loop �
 begin c = c .before .before .before
 
 given : (c : tie.After-next-in-theta Inv-loop μ-loop)
-    → let a = begin c .args in Walk (Attains (a .est .now) (a .new-bound)) (between (whiteIn (a .nodes .now) (a .inner)) (taskIn (a .reverse-mapping .now)) (c .next-in-theta .result .0) (a .n)) (a .est .now)
+    → let a = begin c .args in Walk (Attains (a .est .now) (a .new-bound)) (between (whiteIn (a .nodes .now) (a .inner)) (taskIn (a .reverse-mapping .now)) (c .next-in-theta .result .0) (a .n))
+    (a .est .now)
     (a .durations .now) (a .p-omega) 0
 given c = let a = begin c .args in
     subst (λ (ks : List ℕ). Walk (Attains (a .est .now) (a .new-bound)) ks (a .est .now) (a .durations .now) (a .p-omega) 0)

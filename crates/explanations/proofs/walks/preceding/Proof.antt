@@ -1,4 +1,4 @@
--- The invariant `WalkedTo`: x is a leaf of Θ, pOmega what the tasks from it on last, and none before it passes lct; the walk must stop inside, as one does.
+-- The invariant `WalkedTo`: x is a leaf of Θ, the tasks from it on last p_omega, and none before it passes lct. One task does, so the walk stops inside.
 use Prim.Native.Nat.{ℕ, _+_, _-_, _<_, _^_}
 use native.Mathlib.Omega.{arith}
 use lib.ListN.{getD}

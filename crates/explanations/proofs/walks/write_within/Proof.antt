@@ -1,4 +1,4 @@
--- The invariant `Written`: the atoms of Θ's tasks before leaf x stand from place k up to `at`, and the rest is as it was.
+-- The invariant `Written`: the atoms of Θ's tasks before leaf x stand from place k up to `at`, and the rest is unchanged.
 use mathlib.Core.Path.{_≡_, sym, ap, subst, _∙_}
 use mathlib.Core.Bool.{Bool, true}
 use mathlib.Core.List.{List, [], _∷_}
@@ -129,7 +129,8 @@ returns c =
     let none : between (white w) (tasks w) (l .x .0) (a .to) ≡ [] = ap (λ (x : ℕ). between (white w) (tasks w) x (a .to)) all ∙ between-none (white w) (tasks w) (a .to) in
     subst (λ (ks : List ℕ). Stored (a .atoms .now) (l .atoms) (a .k) (l .at) (within zeroAt (lasting (a .durations .now)) (a .low) (a .high) ks))
     (sym (next-same (white w) (tasks w) (w .before .next-in-theta .ensures)))
-    (written-all (subst (λ (rest : List ℕ). Written (a .atoms .now) (a .k) (between (white w) (tasks w) (w .before .next-in-theta .result .0) (a .to)) (a .durations .now) (a .low) (a .high) (l .atoms) rest
+    (written-all (subst (λ (rest : List ℕ). Written (a .atoms .now) (a .k) (between (white w) (tasks w) (w .before .next-in-theta .result .0) (a .to)) (a .durations .now) (a .low) (a .high)
+    (l .atoms) rest
     (l .at)) none (l .inv .2)))
 
 pub write-within-spec : {M : Type 1} → statement M

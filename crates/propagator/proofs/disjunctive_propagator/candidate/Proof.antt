@@ -1,4 +1,4 @@
--- `candidates::turns::candidate` meets its contract.
+-- The test on ect_bar and the search are the definition's, and with no ect_bar past lct there is no candidate.
 use mathlib.Core.Path.{_≡_, sym, ap, _∙_}
 use mathlib.Core.Option.{Option}
 use Prim.Native.Nat.{ℕ}

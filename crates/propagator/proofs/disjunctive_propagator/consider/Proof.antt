@@ -1,4 +1,4 @@
--- Where the arms of the test for a post meet, `Tried` holds: a post was made, or nothing was written and the bound is the start. The rest is one path for both.
+-- Where the arms of the test meet, `Tried` holds: a post was made, or nothing was written and the bound is the start. The rest serves both.
 use mathlib.Core.Path.{_≡_, ap, _∙_}
 use mathlib.Core.Logic.{⊎-elim, inl, inr}
 use Prim.Native.Nat.{ℕ}
@@ -11,7 +11,8 @@ use Rattle.trees.specs.Ects.{raisedTo}
 use Rattle.trees.specs.Leaves.{ect}
 use Rattle.trees.specs.Operations.{Answers}
 use Rattle.propagator.specs.Candidates.{Considerable, Responsible-for}
-use Rattle.propagator.proofs.ConsideredTask.{shown, size-fits, few-changes, known, post-room, many-atoms, start-inside, may-clear, asked, Tried, tried-sizes, tried-changes, tried-emptied, tried-on}
+use Rattle.propagator.proofs.ConsideredTask.{shown, size-fits, few-changes, known, post-room, many-atoms, start-inside, may-clear, asked, Tried, tried-sizes, tried-changes, tried-emptied}
+use Rattle.propagator.proofs.ConsideredTask.{tried-on}
 use Rattle.propagator.proofs.disjunctive_propagator.consider.Statement.{statement}
 use Rattle.propagator.proofs.disjunctive_propagator.consider.Tie as tie
 
@@ -104,5 +105,6 @@ consider-spec =
     tie.close
     (tie.spec
     (λ c. search (needs, known)) (λ c. search (needs, known)) (λ c κs. search needs) post-requires mul-if2 (λ c. search (needs, known))
-    same-length same-length-2 returns (λ c κs. search needs) (λ c. let a = asks (start (c .before .before .before .before)) in omega (arith, known (a .1) (a .2))) (λ c. search (needs, start-inside)) leaf-of-requires
+    same-length same-length-2 returns (λ c κs. search needs) (λ c. let a = asks (start (c .before .before .before .before)) in omega (arith, known (a .1) (a .2)))
+    (λ c. search (needs, start-inside)) leaf-of-requires
     remove-from-lambda-requires counted-requires (λ c. search needs) same-length-4 same-length-5 returns-2)

@@ -1,4 +1,4 @@
--- `candidates::turns::consider_all` meets its contract.
+-- The invariant `Turned`: tree and slices are at a state of the definition's inner loop that has as many turns left as the counter.
 use mathlib.Core.Path.{_≡_, refl}
 use mathlib.Core.List.{List}
 use Prim.Native.Nat.{ℕ, suc, _-_}
@@ -15,7 +15,8 @@ use Rattle.propagator.proofs.disjunctive_propagator.consider_all.Statem
 use Rattle.propagator.proofs.disjunctive_propagator.consider_all.Tie as tie
 
 -- what the loop has got to; the slices keep their lengths
-record Loop (size : TreeSize) (lct : ℕ) (nodes₀ : List ℕ) (earliest₀ posts₀ atoms₀ : List ℤ) (w₀ : Written) (est lst durations reverseMapping mapping nodes : List ℕ) (earliest posts atoms : List ℤ) (w : Written)
+record Loop (size : TreeSize) (lct : ℕ) (nodes₀ : List ℕ) (earliest₀ posts₀ atoms₀ : List ℤ) (w₀ : Written) (est lst durations reverseMapping mapping nodes : List ℕ) (earliest posts atoms : List ℤ)
+    (w : Written)
     (left : ℕ) : Type 0 where
   considerable : Considerable size lct nodes₀ earliest₀ posts₀ atoms₀ w₀ est lst durations reverseMapping mapping
   reached : (s : Considerable size lct nodes₀ earliest₀ posts₀ atoms₀ w₀ est lst durations reverseMapping mapping) → Turned s left nodes earliest posts atoms w

@@ -1,4 +1,4 @@
--- `levels::run_levels::edge_finding` meets its contract.
+-- The invariant `Level`: at the head of level `index`, tree and slices are at a state from which the definition's outer loop has the same trace.
 use mathlib.Core.Path.{_≡_, refl, sym, _∙_}
 use mathlib.Core.Bool.{Bool, true, false}
 use mathlib.Core.List.{List}
@@ -16,7 +16,8 @@ use Rattle.propagator.proofs.disjunctive_propagator.edge_finding.Statem
 use Rattle.propagator.proofs.disjunctive_propagator.edge_finding.Tie as tie
 
 -- the level that the loop stands at; the slices keep their lengths
-record Loop (size : TreeSize) (n : ℕ) (nodes₀ : List ℕ) (earliest₀ posts₀ atoms₀ : List ℤ) (est lst lct durations reverseMapping sortedTasks mapping nodes : List ℕ) (earliest posts atoms : List ℤ) (w : Written)
+record Loop (size : TreeSize) (n : ℕ) (nodes₀ : List ℕ) (earliest₀ posts₀ atoms₀ : List ℤ) (est lst lct durations reverseMapping sortedTasks mapping nodes : List ℕ) (earliest posts atoms : List ℤ)
+    (w : Written)
     (index : ℕ) : Type 0 where
   findable : EdgeFindable size nodes₀ earliest₀ posts₀ atoms₀ est lst lct durations reverseMapping sortedTasks mapping
   level : (s : EdgeFindable size nodes₀ earliest₀ posts₀ atoms₀ est lst lct durations reverseMapping sortedTasks mapping) → Level s index nodes earliest posts atoms w
@@ -63,7 +64,8 @@ abbrev moved : tie.After-consider-all Inv-loop μ-loop → tie.After-move-to-lam
 moved c = moved-before (counts c)
 
 loop-holds : tie.Need-loop-holds Inv-loop μ-loop
-loop-holds c = let s = c .before .pre in record { findable = s; level = λ s. rw (c .new .ensures) (first-level s); count = refl; small = first-level s .small; starts-length = refl; posts-length = refl; atoms-length = refl }
+loop-holds c = let s = c .before .pre in
+    record { findable = s; level = λ s. rw (c .new .ensures) (first-level s); count = refl; small = first-level s .small; starts-length = refl; posts-length = refl; atoms-length = refl }
 
 mul-lct-j : tie.Need-mul-lct-j Inv-loop μ-loop
 mul-lct-j c = let l = c .before .before .loop in omega (arith, sorted-task-small (l .inv .findable) (l .index) (l .inv .small))
@@ -126,7 +128,8 @@ loop-again c =
       findable = v .findable;
       level = λ s.
           let g = goes-on s (v .level s) (more (level-of move)) (quiet move s) (move .move-to-lambda .ensures) (counts considered .counted .ensures) in
-          one-more s (v .level s) (more (level-of move)) (quiet move s) (move .move-to-lambda .ensures) (counts considered .counted .ensures) (c .before .x .given .1) (considered .consider-all .ensures g);
+          one-more s (v .level s) (more (level-of move)) (quiet move s) (move .move-to-lambda .ensures) (counts considered .counted .ensures) (c .before .x .given .1)
+          (considered .consider-all .ensures g);
       count = v .count;
       small = more (level-of move);
       starts-length = search needs;
@@ -153,7 +156,8 @@ returns-2 c = λ s.
     let move = moved considered in
     let l = head (c .before) .loop .inv .level s in
     let g = goes-on s l (more (level-of move)) (quiet move s) (move .move-to-lambda .ensures) (counts considered .counted .ensures) in
-    one-emptied s l (more (level-of move)) (quiet move s) (move .move-to-lambda .ensures) (counts considered .counted .ensures) (considered .consider-all .last .0) (c .before .before .x2 .given .1) (considered .consider-all .ensures g) (c .finished .ensures)
+    one-emptied s l (more (level-of move)) (quiet move s) (move .move-to-lambda .ensures) (counts considered .counted .ensures) (considered .consider-all .last .0) (c .before .before .x2 .given .1)
+    (considered .consider-all .ensures g) (c .finished .ensures)
 
 returns-3 : tie.Need-returns-3 Inv-loop μ-loop
 returns-3 c = λ s. all-done s (c .before .before .loop .inv .level s) (omega (arith, c .before .before .loop .inv .count)) (c .finished2 .ensures)
@@ -165,6 +169,7 @@ edge-finding-spec =
     Inv-loop μ-loop (λ c κs. search needs) loop-holds (λ c. search needs) (λ c. search needs) (λ c. search needs) mul-lct-j
     (λ c. search (needs, sorted-task-small)) (λ c κs. search needs) overload-requires (λ c. search needs)
     (λ c. search needs) (λ c. search needs) returns move-to-lambda-requires (λ c. search needs) counted-requires
-    (λ c. search needs) (λ c. search needs) (λ c. let level = level-of (moved-before (c .before)) in omega (arith, sorted-task-small (level .before .loop .inv .findable) (level .before .loop .index + 1) (more level))) (λ c. search (needs, sorted-task-small)) consider-all-requires
+    (λ c. search needs) (λ c. search needs) (λ c. let level = level-of (moved-before (c .before)) in
+    omega (arith, sorted-task-small (level .before .loop .inv .findable) (level .before .loop .index + 1) (more level))) (λ c. search (needs, sorted-task-small)) consider-all-requires
     (λ c. search needs) loop-less loop-again (λ c. search needs) (λ c κs. search needs) same-length-4 same-length-5 same-length-6
     returns-2 (λ c κs. search needs) (λ c. search needs) (λ c. search needs) (λ c. search needs) returns-3)

@@ -1,4 +1,4 @@
--- `levels::run_levels::fill` meets its contract.
+-- The invariant: the first x leaves are white and the rest empty; the rebuilt inner nodes then make the tree of all tasks.
 use mathlib.Core.Path.{refl}
 use mathlib.Core.List.{List}
 use Prim.Native.Nat.{ℕ, _-_, _≤_, _<_}

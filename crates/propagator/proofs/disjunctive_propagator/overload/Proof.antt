@@ -1,4 +1,4 @@
--- `levels::run_levels::overload` meets its contract.
+-- The tree answers the sum that the reason asks for, and the outcome says where the reason stands and how long it is.
 use mathlib.Core.Path.{refl, sym, subst}
 use Prim.Native.Nat.{ℕ}
 use lib.ListN.{length}
@@ -15,10 +15,12 @@ use Rattle.propagator.proofs.disjunctive_propagator.overload.Tie as tie
 
 -- what is asked, with the sum that the tree answered
 given : (c : tie.After-sum-of-processing-times)
-    → let a = c .before .args in ConflictExplainable (length (a .atoms .now)) (a .written .atoms) (thetaIn (a .nodes .now) (a .size .inner) (a .reverse-mapping .now) (a .size .leaves)) (a .est .now) (a .durations .now)
+    → let a = c .before .args in ConflictExplainable (length (a .atoms .now)) (a .written .atoms) (thetaIn (a .nodes .now) (a .size .inner) (a .reverse-mapping .now) (a .size .leaves)) (a .est .now)
+    (a .durations .now)
     (c .sum-of-processing-times .result) (a .lct)
 given c = let a = c .before .args in
-    subst (λ (p : ℕ). ConflictExplainable (length (a .atoms .now)) (a .written .atoms) (thetaIn (a .nodes .now) (a .size .inner) (a .reverse-mapping .now) (a .size .leaves)) (a .est .now) (a .durations .now) p (a .lct))
+    subst (λ (p : ℕ). ConflictExplainable (length (a .atoms .now)) (a .written .atoms) (thetaIn (a .nodes .now) (a .size .inner) (a .reverse-mapping .now) (a .size .leaves)) (a .est .now)
+    (a .durations .now) p (a .lct))
     (sym (c .sum-of-processing-times .ensures (a .size .inner) (c .before .pre .0))) (c .before .pre .1)
 
 abbrev sums : tie.After-create-conflict-explanation → tie.After-sum-of-processing-times

@@ -1,4 +1,4 @@
--- `candidates::turns::post` meets its contract.
+-- The tree answers the sum that the reason asks for, the explanation writes the reason, and the post's words say where it stands and how long it is.
 use mathlib.Core.Path.{refl, sym, subst}
 use Prim.Native.Nat.{ℕ, _+_}
 use lib.ListN.{length}
@@ -15,10 +15,12 @@ use Rattle.propagator.proofs.disjunctive_propagator.post.Tie as tie
 
 -- what is asked, with the sum that the tree answered
 given : (c : tie.After-sum-of-processing-times)
-    → let a = c .before .args in PropagationExplainable (length (a .atoms .now)) (a .written .atoms) (thetaIn (a .nodes .now) (a .size .inner) (a .reverse-mapping .now) (a .size .leaves)) (a .est .now) (a .durations .now)
+    → let a = c .before .args in PropagationExplainable (length (a .atoms .now)) (a .written .atoms) (thetaIn (a .nodes .now) (a .size .inner) (a .reverse-mapping .now) (a .size .leaves))
+    (a .est .now) (a .durations .now)
     (c .sum-of-processing-times .result) (a .lct) (a .i) (a .new-bound)
 given c = let a = c .before .args in
-    subst (λ (p : ℕ). PropagationExplainable (length (a .atoms .now)) (a .written .atoms) (thetaIn (a .nodes .now) (a .size .inner) (a .reverse-mapping .now) (a .size .leaves)) (a .est .now) (a .durations .now) p (a .lct) (a .i) (a .new-bound))
+    subst (λ (p : ℕ). PropagationExplainable (length (a .atoms .now)) (a .written .atoms) (thetaIn (a .nodes .now) (a .size .inner) (a .reverse-mapping .now) (a .size .leaves)) (a .est .now)
+    (a .durations .now) p (a .lct) (a .i) (a .new-bound))
     (sym (c .sum-of-processing-times .ensures (a .size .inner) (c .before .pre .0))) (c .before .pre .1)
 
 abbrev sums : tie.After-create-propagation-explanation → tie.After-sum-of-processing-times
@@ -34,7 +36,8 @@ write-post-requires c κs =
     let a = s .before .args in
     let pre = s .before .pre in
     post-fits (made .create-propagation-explanation .ensures) (pre .1 .known .task) (pre .2) (pre .4)
-    (reason-few (a .nodes .now) (a .size .inner) (a .reverse-mapping .now) (a .size .leaves) (a .est .now) (a .durations .now) (a .i) (a .new-bound) (a .lct) (s .sum-of-processing-times .result) (pre .3 .leaves))
+    (reason-few (a .nodes .now) (a .size .inner) (a .reverse-mapping .now) (a .size .leaves) (a .est .now) (a .durations .now) (a .i) (a .new-bound) (a .lct) (s .sum-of-processing-times .result)
+    (pre .3 .leaves))
 
 returns : tie.Need-returns
 returns c = λ h.

@@ -1,4 +1,4 @@
--- `run_accepted`: the arrays and the tree of all tasks are what edge finding asks for, and what it leaves is the trace.
+-- The arrays and the tree of all tasks are what edge finding asks for, and what it leaves is the trace.
 use mathlib.Core.Path.{_≡_, refl}
 use mathlib.Core.List.{List}
 use Prim.Native.Nat.{ℕ}
@@ -51,8 +51,10 @@ can-fill c =
 -- and that of all tasks is what edge finding begins with
 abbrev can-find : (c : tie.After-new) (words : List ℕ) → let a = start c .args in
     Filled (c .new .result .«number_of_internal_nodes») (a .t1 .count) (c .new .result .nodes) words (reverseMapping c .sort-numbers .last .0) (est c .moments-of .last .0) (a .t1 .durations)
-    → EdgeFindable (record { inner = c .new .result .«number_of_internal_nodes»; height = c .new .result .height; leaves = a .t1 .count }) words (a .earliest .now) (a .posts .now) (a .atoms .now) (est c .moments-of .last .0)
-    (lst c .moments-of2 .last .0) (lct c .completions .last .0) (a .t1 .durations) (reverseMapping c .sort-numbers .last .0) (sortedTasks c .sort-numbers-down .last .0) (places c .leaf-places .last .0)
+    → EdgeFindable (record { inner = c .new .result .«number_of_internal_nodes»; height = c .new .result .height; leaves = a .t1 .count }) words (a .earliest .now) (a .posts .now) (a .atoms .now)
+    (est c .moments-of .last .0)
+    (lst c .moments-of2 .last .0) (lct c .completions .last .0) (a .t1 .durations) (reverseMapping c .sort-numbers .last .0) (sortedTasks c .sort-numbers-down .last .0)
+    (places c .leaf-places .last .0)
 can-find c words filled =
     let s = start c in
     let a = s .args in
