@@ -14,7 +14,7 @@ use Rattle.scheduling.specs.Words.{atomWords}
 use Rattle.explanations.specs.Walks.{lasts, Each, Precedes, Attains, between, StopsAt, Known, Walk}
 use Rattle.explanations.specs.WrittenAtoms.{starting, lasting, Ends, Writable}
 use Rattle.post_words.specs.StoredAtoms.{Stored}
-use Rattle.explanations.specs.Explanations.{Overloads, White, Overloaded, Preceded}
+use Rattle.explanations.specs.Explanations.{Overloads, White, ConflictExplainable, PropagationExplainable}
 use Rattle.scheduling.proofs.Words.{atoms-none, atoms-more}
 use Rattle.explanations.proofs.Places.{lasts-drop}
 use Rattle.explanations.proofs.LeafWalk.{between-split, met-front, met-rest, met-task, met-each}
@@ -107,7 +107,7 @@ rest-writable white task a n x {size} {k} {high} {ds} from to ends room = subst 
       room = omega (arith, length-drop (length (between white task a x)) (between white task a n));
     })
 
-module _ (white : ℕ → Bool) (task : ℕ → ℕ) (a n : ℕ) {size k : ℕ} {es ds : List ℕ} {p lct : ℕ} (c : Overloaded size k (between white task a n) es ds p lct) where
+module _ (white : ℕ → Bool) (task : ℕ → ℕ) (a n : ℕ) {size k : ℕ} {es ds : List ℕ} {p lct : ℕ} (c : ConflictExplainable size k (between white task a n) es ds p lct) where
   abbrev starts-by : Each (λ t. getD es t 0 ≤ lct) (between white task a n)
   starts-by x s = omega (arith, c .white .ends x s)
 
@@ -156,7 +156,7 @@ module _ (white : ℕ → Bool) (task : ℕ → ℕ) (a n : ℕ) {size k : ℕ} 
     pub overload-writable : {high : ℕ} → lct ≤ high → Writable size k (between white task x n) ds high
     overload-writable {high} h = rest-writable white task a n x (s .from) (omega (arith, s .small)) (white-ends high (c .white) h) (c .room)
 
-module _ (white : ℕ → Bool) (task : ℕ → ℕ) (a n : ℕ) {size k : ℕ} {es ds : List ℕ} {p lct i b : ℕ} (c : Preceded size k (between white task a n) es ds p lct i b) where
+module _ (white : ℕ → Bool) (task : ℕ → ℕ) (a n : ℕ) {size k : ℕ} {es ds : List ℕ} {p lct i b : ℕ} (c : PropagationExplainable size k (between white task a n) es ds p lct i b) where
   abbrev theta : List ℕ
   theta = between white task a n
 

@@ -10,7 +10,7 @@ use Rattle.runs.specs.Runs.{within, conflict, bounds, propagation}
 use Rattle.scheduling.specs.Words.{atomWords}
 use Rattle.explanations.specs.Walks.{lasts, Each, Known}
 use Rattle.explanations.specs.WrittenAtoms.{starting}
-use Rattle.explanations.specs.Explanations.{Overloaded, Preceded}
+use Rattle.explanations.specs.Explanations.{ConflictExplainable, PropagationExplainable}
 
 -- moment of a start that is not negative
 abbrev at : ℕ → ℕ
@@ -35,9 +35,9 @@ ds = 1 ∷ 3 ∷ 3 ∷ []
 abbrev theta : List ℕ
 theta = 0 ∷ 1 ∷ 2 ∷ []
 
-overloaded : Overloaded 18 0 theta es ds 7 (at 14)
+conflict-explainable : ConflictExplainable 18 0 theta es ds 7 (at 14)
 unfolding lasts
-overloaded = record {
+conflict-explainable = record {
   white = record {
     known = each-three (Known es ds) 0 1 2 (record { task = omega arith; start = omega arith; duration = omega arith })
         (record { task = omega arith; start = omega arith; duration = omega arith })
@@ -66,9 +66,9 @@ ds′ = 1 ∷ 4 ∷ 5 ∷ []
 abbrev theta′ : List ℕ
 theta′ = 0 ∷ 1 ∷ []
 
-preceded : Preceded 15 0 theta′ es′ ds′ 5 (at 9) 2 (at 9)
+propagation-explainable : PropagationExplainable 15 0 theta′ es′ ds′ 5 (at 9) 2 (at 9)
 unfolding lasts
-preceded = record {
+propagation-explainable = record {
   white = record {
     known = each-two (Known es′ ds′) 0 1 (record { task = omega arith; start = omega arith; duration = omega arith })
         (record { task = omega arith; start = omega arith; duration = omega arith });

@@ -18,7 +18,7 @@ pub record White (theta es ds : List ℕ) (p lct : ℕ) : Type 0 where
   pub ends : Each (λ k. getD es k 0 + getD ds k 0 ≤ lct) theta
 
 -- An overload of Θ, and room for its reason, whose lower bounds lie less than p before the est of ω: `early` says that they are moments.
-pub record Overloaded (size k : ℕ) (theta es ds : List ℕ) (p lct : ℕ) : Type 0 where
+pub record ConflictExplainable (size k : ℕ) (theta es ds : List ℕ) (p lct : ℕ) : Type 0 where
   pub white : White theta es ds p lct
   pub overloads : Somewhere (Overloads es lct) ds theta
   pub early : Each (λ t. p ≤ getD es t 0) theta
@@ -26,7 +26,7 @@ pub record Overloaded (size k : ℕ) (theta es ds : List ℕ) (p lct : ℕ) : Ty
   pub room : 3 * k + 6 * length theta ≤ size
 
 -- A task i that has to go after tasks of Θ, some of which give the bound b, and room for the reason.
-pub record Preceded (size k : ℕ) (theta es ds : List ℕ) (p lct i b : ℕ) : Type 0 where
+pub record PropagationExplainable (size k : ℕ) (theta es ds : List ℕ) (p lct i b : ℕ) : Type 0 where
   pub white : White theta es ds p lct
   pub known : Known es ds i
   pub precedes : Somewhere (Precedes es lct (getD es i 0) (getD ds i 0)) ds theta

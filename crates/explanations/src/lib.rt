@@ -1,2 +1,3 @@
+// The two explanations of the disjunctive propagator, and the walks over Θ that they make.
 pub mod explanations;
-pub mod walks;
+mod walks;

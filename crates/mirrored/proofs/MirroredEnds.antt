@@ -31,7 +31,7 @@ use Rattle.records.specs.declared.record.DisjunctivePropagator.{DisjunctiveProp
 use Rattle.records.specs.Refusals.{Accepted}
 use Rattle.runs.specs.declared.outcome.Outcome.{Outcome}
 use Rattle.runs.specs.EndNumbers.{endNumbers, traceNumbers}
-use Rattle.propagator.specs.Ran.{Runnable, traceOf, Left}
+use Rattle.propagator.specs.Ran.{Runnable, traceOf, RunLeft}
 use Rattle.propagator.proofs.AcceptedInput as accepting
 use Rattle.mirrored.specs.MirroredSlices.{Reflectable, Durations, Ended, Told}
 use Rattle.mirrored.specs.RanMirrored.{LeftMirrored}
@@ -156,7 +156,7 @@ module _ (before : DisjunctivePropagator) (es ls : List ℤ) (postCount atomCoun
   -- what the core leaves
   module _ {from to posts atoms from′ posts′ atoms′ : List ℤ} {r : Outcome} {changed : ℕ} (f : from ≡ mirrorStarts (take (length ls) (before .durations)) ls)
       (t : to ≡ mirrorStarts (take (length es) (before .durations)) es)
-      (l : Left before from to posts atoms r changed from′ posts′ atoms′) where
+      (l : RunLeft before from to posts atoms r changed from′ posts′ atoms′) where
     core-is : traceOf before from to ≡ mirroredRun ds es ls
     core-is = ap₂ (λ (x y : List ℤ). traceOf before x y) (from-is f) (to-is t)
 

@@ -25,7 +25,7 @@ use Rattle.records.specs.Refusals.{runNumber}
 use Rattle.records.proofs.CreationNumbers.{created-as}
 use Rattle.records.proofs.Creation.{created-new}
 use Rattle.propagator.specs.declared.disjunctive_propagator.Run.{Run}
-use Rattle.propagator.specs.Ran.{traceOf, Left, Ran}
+use Rattle.propagator.specs.Ran.{traceOf, RunLeft, Ran}
 use Rattle.propagator.proofs.ReadTrace.{handed}
 use Rattle.plan_cli.specs.RunSlices.{ShowsRun, Shown}
 use Rattle.plan_cli.specs.Printed.{numbered, ranOn, planned}
@@ -36,7 +36,7 @@ module _ (r : DisjunctivePropagator) (es ls : List ℤ) where
   tr = traceOf r es ls
 
   module _ (p₀ a₀ : List ℤ) (room-p : length p₀ ≡ 4 * TASKS) (room-a : length a₀ ≡ 3 * ATOMS) (ran : Run) (es′ posts atoms : List ℤ) where
-    left-shows : length es′ ≤ TASKS → Left r es ls p₀ a₀ (ran .outcome) (ran .changes) es′ posts atoms → ShowsRun tr (ran .outcome) posts atoms es′
+    left-shows : length es′ ≤ TASKS → RunLeft r es ls p₀ a₀ (ran .outcome) (ran .changes) es′ posts atoms → ShowsRun tr (ran .outcome) posts atoms es′
     left-shows few l =
         let h = handed tr p₀ a₀ (l .post-words) (l .atom-words) in
         let few-posts : length (tr .posts) ≤ TASKS = omega (arith, l .posts-fit, posts-length (tr .posts) 0, room-p) in

@@ -7,7 +7,7 @@ use lib.ListN.{length}
 use Rattle.records.specs.declared.record.DisjunctivePropagator.{DisjunctivePropagator}
 use Rattle.records.proofs.RefusedRuns.{accepted-run}
 use Rattle.runs.specs.declared.outcome.Outcome.{Outcome}
-use Rattle.propagator.specs.Ran.{Left, Ran}
+use Rattle.propagator.specs.Ran.{RunLeft, Ran}
 use Rattle.mirrored.specs.RanMirrored.{LeftMirrored, RanMirrored}
 use Rattle.ranges.specs.declared.range.Range.{Range}
 use Rattle.ranges.specs.Bars.{allBarsFit}
@@ -28,7 +28,7 @@ lent before ys posts atoms answer changed after es′ posts′ atoms′ size ran
       record { number = k .answer; no-changes = k .changes; same-ranges = ap (withStarts ys) (k .starts) ∙ own-starts ys; same-posts = k .post-words; same-atoms = k .atom-words });
   accepted = λ z. (let (ok, fit) = accepted-run before (earliests ys) (latests ys) (allBarsFit ys) (length posts) (length atoms) .0 z in let a = ran .accepted z in record {
     promise = promised before ys posts atoms es′ posts′ atoms′ answer ok fit size a;
-    left = subst (λ (es : List ℤ). Left before (earliests ys) (latests ys) posts atoms answer changed es posts′ atoms′) (a .starts) a;
+    left = subst (λ (es : List ℤ). RunLeft before (earliests ys) (latests ys) posts atoms answer changed es posts′ atoms′) (a .starts) a;
     stored = ap (withStarts ys) (a .starts);
   });
 }

@@ -24,7 +24,7 @@ use Rattle.runs.specs.declared.outcome.Outcome.{Outcome}
 use Rattle.runs.specs.Outcomes.{outcomeNumbers, valueOf}
 use Rattle.runs.specs.EndNumbers.{traceNumbers}
 use Rattle.runs.proofs.TraceNumbers.{not-refused, posts-made, kind-done, kind-emptied, kind-overload}
-use Rattle.propagator.specs.Ran.{traceOf, Left}
+use Rattle.propagator.specs.Ran.{traceOf, RunLeft}
 use Rattle.propagator.proofs.ReadTrace.{Handed, handed}
 use Rattle.ranges.specs.declared.range.Range.{Range}
 use Rattle.ranges.specs.Bars.{allBarsFit}
@@ -39,7 +39,7 @@ use Rattle.promises.proofs.StoredStarts.{proper, stayed, moved-on}
 
 module _ (before : DisjunctivePropagator) (ranges : List Range) (posts atoms es′ posts′ atoms′ : List ℤ) (answer : Outcome) {changed : ℕ}
     (ok : Accepted before (earliests ranges) (latests ranges) (length posts) (length atoms)) (fit : allBarsFit ranges ≡ true) (size : length es′ ≡ length ranges)
-    (left : Left before (earliests ranges) (latests ranges) posts atoms answer changed es′ posts′ atoms′) where
+    (left : RunLeft before (earliests ranges) (latests ranges) posts atoms answer changed es′ posts′ atoms′) where
   abbrev ranges′ : List Range
   ranges′ = withStarts ranges es′
 

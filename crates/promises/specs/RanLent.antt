@@ -9,7 +9,7 @@ use Rattle.records.specs.declared.record.DisjunctivePropagator.{DisjunctiveProp
 use Rattle.records.specs.Refusals.{runNumber}
 use Rattle.runs.specs.declared.outcome.Outcome.{Outcome}
 use Rattle.runs.specs.Outcomes.{outcomeNumbers}
-use Rattle.propagator.specs.Ran.{traceOf, Left}
+use Rattle.propagator.specs.Ran.{traceOf, RunLeft}
 use Rattle.ranges.specs.declared.range.Range.{Range}
 use Rattle.ranges.specs.Bars.{allBarsFit}
 use Rattle.ranges.specs.Ranges.{earliests, latests, withStarts}
@@ -33,7 +33,7 @@ module _ (before : DisjunctivePropagator) (ranges : List Range) (posts atoms : L
   -- of posts and reasons over what stood there; the ranges are the old ones in which its starts are stored.
   pub record AcceptedLent : Type 0 where
     pub promise : Promise before ranges answer ranges′ posts′ atoms′
-    pub left : Left before (earliests ranges) (latests ranges) posts atoms answer changed
+    pub left : RunLeft before (earliests ranges) (latests ranges) posts atoms answer changed
         (traceOf before (earliests ranges) (latests ranges) .starts) posts′ atoms′
     pub stored : ranges′ ≡ withStarts ranges (traceOf before (earliests ranges) (latests ranges) .starts)
 

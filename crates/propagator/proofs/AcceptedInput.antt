@@ -37,8 +37,8 @@ module _ (r : DisjunctivePropagator) (lawful : Lawful r) where
   sum-is = ap (total (λ k. getD (take (r .count) (r .durations)) k 0)) count ∙ total-ext (λ k. getD (take (r .count) (r .durations)) k 0) (λ k. getD (r .durations) k 0) (r .count) lasts-at
 
 -- What the core runs,
-pub accepted : (r : DisjunctivePropagator) (es ls : List ℤ) (posts atoms : ℕ) → Runnable r es ls posts atoms → demand.Accepted MIRRORED (take (r .count) (r .durations)) es ls
-accepted r es ls posts atoms a =
+pub accepted : (r : DisjunctivePropagator) (es ls : List ℤ) (postCount atomCount : ℕ) → Runnable r es ls postCount atomCount → demand.Accepted MIRRORED (take (r .count) (r .durations)) es ls
+accepted r es ls postCount atomCount a =
     let c = count r (a .lawful) in
     record {
       some = omega (arith, c, a .lawful .some);
@@ -55,8 +55,8 @@ unfolding up dn
 wider z h = omega ints
 
 -- and an accepted run, which takes more for given than the core does.
-module _ (r : DisjunctivePropagator) (es ls : List ℤ) (posts atoms : ℕ) (a : Accepted r es ls posts atoms) where
-  pub runnable : Runnable r es ls posts atoms
+module _ (r : DisjunctivePropagator) (es ls : List ℤ) (postCount atomCount : ℕ) (a : Accepted r es ls postCount atomCount) where
+  pub runnable : Runnable r es ls postCount atomCount
   runnable = record {
     lawful = a .lawful;
     counts = a .counts;
@@ -68,7 +68,7 @@ module _ (r : DisjunctivePropagator) (es ls : List ℤ) (posts atoms : ℕ) (a :
 
   pub narrow : demand.Accepted START (take (r .count) (r .durations)) es ls
   narrow =
-      let b = accepted r es ls posts atoms runnable in
+      let b = accepted r es ls postCount atomCount runnable in
       let c = count r (a .lawful) in
       record {
         some = b .some;

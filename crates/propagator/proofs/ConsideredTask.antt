@@ -2,20 +2,22 @@
 use mathlib.Core.Path.{_≡_, refl, sym, ap, subst, _∙_}
 use mathlib.Core.List.{List, [], _∷_, _++_, map}
 use mathlib.Core.Bool.{true, false}
+use mathlib.Core.Logic.{_⊎_, inl, inr}
 use mathlib.Core.Option.{some}
 use Prim.Native.Nat.{ℕ, suc, _+_, _*_, _≤_, _<_}
 use native.Mathlib.Nat.{mul-le-mul, mul-le-mul-right, mul-left-comm}
 use native.Mathlib.Omega.{arith}
 use lib.IntN.{ℤ, pos}
 use lib.ListN.{length, getD, set, length-append, length-map}
-use lib.Seq.{sets, length-sets}
+use lib.Seq.{sets, length-sets, set-getD}
 use borrow.Author.Tests.{lt-ltb, le-ltb}
 use Rattle.integers.specs.Limits.{TASKS, ATOMS, INNER}
 use Rattle.integers.specs.Moments.{instant, zeroAt}
 use Rattle.integers.specs.Orders.{index}
 use Rattle.scheduling.specs.Scheduling.{natural, Tasks, TaskSet, Atom, completion}
+use Rattle.trees.specs.declared.complete_tree.TreeSize.{TreeSize}
 use Rattle.trees.specs.Ects.{exceeds, raisedTo}
-use Rattle.trees.proofs.Ects.{raised-some, within-bound}
+use Rattle.trees.proofs.Ects.{raised-some, within-bound, raised-least}
 use Rattle.trees.specs.Leaves as leaves
 use Rattle.trees.specs.Leaves.{Leaf, empty}
 use Rattle.trees.specs.ArraySearches.{thetaIn}
@@ -36,42 +38,46 @@ use Rattle.runs.proofs.AtomRoom as room
 use Rattle.runs.proofs.LevelSteps as steps
 use Rattle.runs.proofs.ReachedStates.{reached-inv}
 use Rattle.explanations.specs.WrittenAtoms.{starting}
-use Rattle.explanations.specs.Explanations.{Preceded}
+use Rattle.explanations.specs.Explanations.{PropagationExplainable}
 use Rattle.explanations.proofs.ExplanationAtoms.{Alike, propagation-same}
 use Rattle.propagator.specs.declared.disjunctive_propagator.Written.{Written}
 use Rattle.propagator.specs.declared.disjunctive_propagator.Turn.the-variants as turn
-use Rattle.propagator.specs.RunArrays.{Ordered, Holds}
-use Rattle.propagator.specs.Candidates.{reasonOf, Posted, Standing, AtNow, Considered, Responsible-for}
+use Rattle.propagator.specs.RunArrays.{Ordered, Holds, SizeFits}
+use Rattle.propagator.specs.Candidates.{counted, reasonOf, Posted, Considerable, AtNow, Considered, Responsible-for}
 use Rattle.propagator.proofs.ExplanationInput as meeting
 use Rattle.integers.proofs.Lists.{map-set}
 
--- one leaf change more
-abbrev pub one-change : Written → Written
-one-change w = record { posts = w .posts; atoms = w .atoms; changes = w .changes + 1 }
-
 -- what is asked of, and said by, an explanation, with other names for the same values
-preceded-at : {size k : ℕ} {est dur θ θ′ : List ℕ} {p c c′ i i′ b : ℕ} → θ ≡ θ′ → c ≡ c′ → i ≡ i′ → Preceded size k θ′ est dur p c′ i′ b → Preceded size k θ est dur p c i b
-preceded-at a e f m = rw (a, e, f) m
+explainable-at : {size k : ℕ} {est durations θ θ′ : List ℕ} {p c c′ i i′ b : ℕ} → θ ≡ θ′ → c ≡ c′ → i ≡ i′ → PropagationExplainable size k θ′ est durations p c′ i′ b
+    → PropagationExplainable size k θ est durations p c i b
+explainable-at a e f m = rw (a, e, f) m
 
 propagation-at : (K : Tasks natural) (p b : ℕ) {θ θ′ : List ℕ} {c c′ i i′ : ℕ} → θ ≡ θ′ → c ≡ c′ → i ≡ i′ → propagation zeroAt K i b c p θ ≡ propagation zeroAt K i′ b c′ p θ′
 propagation-at K p b a e f = rw (a, e, f)
 
 -- the words of one post more, of its reason, and of a start that is raised
-posts-at : (ps₀ : List ℤ) {ps ps′ : List ℤ} (posts : List Post) (p : Post) {k m i many : ℕ} {b : ℤ} → ps ≡ sets ps₀ 0 (postWords 0 posts) → k ≡ length posts → m ≡ length (reasons posts) → i ≡ p .task
+posts-at : (posts₀ : List ℤ) {posts posts′ : List ℤ} (made : List Post) (p : Post) {k m i many : ℕ} {b : ℤ} → posts ≡ sets posts₀ 0 (postWords 0 made) → k ≡ length made → m ≡ length (reasons made)
+    → i ≡ p .task
     → b ≡ p .bound → many ≡ length (p .reason)
-    → ps′ ≡ sets ps (4 * k) (pos i ∷ b ∷ pos m ∷ pos many ∷ []) → ps′ ≡ sets ps₀ 0 (postWords 0 (posts ++ (p ∷ [])))
-posts-at ps₀ posts p a c d e f g h = h ∙ rw (a, c, d, e, f, g) (post-stored ps₀ posts p)
+    → posts′ ≡ sets posts (4 * k) (pos i ∷ b ∷ pos m ∷ pos many ∷ []) → posts′ ≡ sets posts₀ 0 (postWords 0 (made ++ (p ∷ [])))
+posts-at posts₀ made p a c d e f g h = h ∙ rw (a, c, d, e, f, g) (post-stored posts₀ made p)
 
-atoms-at : (as₀ : List ℤ) {as′ bs : List ℤ} (posts : List Post) (p : Post) {m : ℕ} {ws : List ℤ} → as′ ≡ sets as₀ 0 (atomWords (reasons posts)) → m ≡ length (reasons posts)
+atoms-at : (atoms₀ : List ℤ) {atoms atoms′ : List ℤ} (made : List Post) (p : Post) {m : ℕ} {ws : List ℤ} → atoms ≡ sets atoms₀ 0 (atomWords (reasons made)) → m ≡ length (reasons made)
     → ws ≡ atomWords (p .reason)
-    → bs ≡ sets as′ (3 * m) ws → bs ≡ sets as₀ 0 (atomWords (reasons (posts ++ (p ∷ []))))
-atoms-at as₀ posts p a c d h = h ∙ rw (a, c, d) (reason-stored as₀ (reasons posts) (p .reason) ∙ ap (λ (r : List Atom). sets as₀ 0 (atomWords r)) (sym (reasons-more posts p)))
+    → atoms′ ≡ sets atoms (3 * m) ws → atoms′ ≡ sets atoms₀ 0 (atomWords (reasons (made ++ (p ∷ []))))
+atoms-at atoms₀ made p a c d h = h ∙ rw (a, c, d) (reason-stored atoms₀ (reasons made) (p .reason) ∙ ap (λ (r : List Atom). sets atoms₀ 0 (atomWords r)) (sym (reasons-more made p)))
 
 starts-at : {es es′ : List ℤ} (starts : List ℕ) (b : ℕ) {i j : ℕ} → es ≡ map (instant zeroAt) starts → i ≡ j → es′ ≡ set es i (instant zeroAt b) → es′ ≡ map (instant zeroAt) (set starts j b)
 starts-at starts b {i} {j} a d h = h ∙ rw (a, d) (sym (map-set (instant zeroAt) starts j b))
 
-module _ {n inn height lct : ℕ} {words : List ℕ} {es ps as′ : List ℤ} {w : Written} {est lst dur tasks mapping : List ℕ}
-    (s : Standing n inn height lct words es ps as′ w est lst dur tasks mapping) where
+module _ {size : TreeSize} {lct : ℕ} {words : List ℕ} {es posts atoms : List ℤ} {w : Written} {est lst durations reverseMapping mapping : List ℕ}
+    (s : Considerable size lct words es posts atoms w est lst durations reverseMapping mapping) where
+  abbrev n : ℕ
+  n = size .leaves
+
+  abbrev inn : ℕ
+  inn = size .inner
+
   abbrev J : Tasks natural
   J = s .J
 
@@ -118,17 +124,21 @@ module _ {n inn height lct : ℕ} {words : List ℕ} {es ps as′ : List ℤ} {w
   abbrev pub shown : Held inn words
   shown = record { J = J; estOrder = estOrder; leaves = ls; limited = G .limited; tree = s .at .tree }
 
-  pub tall : Tall shown height
+  pub tall : Tall shown (size .height)
   tall = s .arrays .tall ∙ ap heightFor (sym (s .arrays .count))
 
-  pub theta-is : thetaIn words inn tasks n ≡ leaves.theta J estOrder ls
-  theta-is = ap (thetaIn words inn tasks) (sym (s .arrays .count)) ∙ theta-of (G .limited) (s .at .tree) tasks (λ j q. s .arrays .tasks .at j (omega (arith, s .arrays .count)))
+  pub theta-is : thetaIn words inn reverseMapping n ≡ leaves.theta J estOrder ls
+  theta-is = ap (thetaIn words inn reverseMapping) (sym (s .arrays .count))
+      ∙ theta-of (G .limited) (s .at .tree) reverseMapping (λ j q. s .arrays .reverse-mapping .at j (omega (arith, s .arrays .count)))
 
   pub few : n ≤ TASKS
   few = omega (arith, G .limited .count, s .arrays .count)
 
-  pub inner-few : inn ≤ INNER
+  inner-few : inn ≤ INNER
   inner-few = omega (arith, s .at .tree .complete, room-for (J .count) (omega (arith, G .limited .count)))
+
+  pub size-fits : SizeFits size
+  size-fits = record { leaves = few; inner = inner-few }
 
   pub few-changes : w .changes ≤ 4 * TASKS
   few-changes = omega (
@@ -149,8 +159,8 @@ module _ {n inn height lct : ℕ} {words : List ℕ} {es ps as′ : List ℤ} {w
   reasons-short = subst (λ (n : ℕ). length (reasons (s .st .posts)) + length (s .st .posts) ≤ length (s .st .posts) * (2 * n)) (s .arrays .count)
       (room.reasons-short zeroAt J (G .proper) estOrder lctOrder (G .by-earliest) (G .by-completion) (s .st .posts) (inv .good))
 
-  pub atoms-size : length as′ ≡ length (s .as₀)
-  atoms-size = ap length (s .at .atoms) ∙ length-sets (s .as₀) 0 (atomWords (reasons (s .st .posts)))
+  pub atoms-size : length atoms ≡ length (s .atoms₀)
+  atoms-size = ap length (s .at .atom-words) ∙ length-sets (s .atoms₀) 0 (atomWords (reasons (s .st .posts)))
 
   pub found-inside : (x : ℕ) → leaves.responsible J estOrder ls ≡ some x → x < J .count
   found-inside x z = tree.one-found J (G .proper) estOrder (G .by-earliest) ls Θ Λ shape x z .small
@@ -201,7 +211,7 @@ module _ {n inn height lct : ℕ} {words : List ℕ} {es ps as′ : List ℤ} {w
       mul-le-mul {n₁ = length (s .st .posts)} {m₁ = 2 * n} {n₂ = TASKS} {m₂ = 2 * TASKS} (omega (arith, fewer, s .small, few, s .arrays .count)) (omega (arith, few)),
     )
 
-    atom-room : 3 * w .atoms + 6 * length (leaves.theta J estOrder ls) + 3 ≤ length as′
+    atom-room : 3 * w .atoms + 6 * length (leaves.theta J estOrder ls) + 3 ≤ length atoms
     atom-room = omega (
       arith,
       s .at .explained,
@@ -216,8 +226,8 @@ module _ {n inn height lct : ℕ} {words : List ℕ} {es ps as′ : List ℤ} {w
         twice : n * (2 * n) ≡ 2 * (n * n)
         twice = mul-left-comm n 2 n
 
-    pub post-room : 4 * w .posts + 4 ≤ length ps
-    post-room = omega (arith, s .at .posted, fewer, s .small, s .post-room, s .arrays .count, ap length (s .at .posts) ∙ length-sets (s .ps₀) 0 (postWords 0 (s .st .posts)))
+    pub post-room : 4 * w .posts + 4 ≤ length posts
+    post-room = omega (arith, s .at .posted, fewer, s .small, s .post-room, s .arrays .count, ap length (s .at .post-words) ∙ length-sets (s .posts₀) 0 (postWords 0 (s .st .posts)))
 
     -- the task's leaf may be emptied, and is then
     place-inside : {k : ℕ} → k ≡ getD mapping i 0 → k < J .count
@@ -242,9 +252,9 @@ module _ {n inn height lct : ℕ} {words : List ℕ} {es ps as′ : List ℤ} {w
         up′ = omega (arith, up, task-start)
 
         -- what `post` asks
-        pub asked : Preceded (length as′) (w .atoms) (thetaIn words inn tasks n) est dur (leaves.sum J estOrder ls) lct i b
-        asked = preceded-at theta-is (s .ends) (r .task)
-            (meeting.preceded J estOrder lctOrder G est dur (held (s .arrays .starts)) (held (s .arrays .durations)) t ls Λ shape (s .small) (length as′)
+        pub asked : PropagationExplainable (length atoms) (w .atoms) (thetaIn words inn reverseMapping n) est durations (leaves.sum J estOrder ls) lct i b
+        asked = explainable-at theta-is (s .ends) (r .task)
+            (meeting.propagation-explainable J estOrder lctOrder G est durations (held (s .arrays .starts)) (held (s .arrays .lasts)) t ls Λ shape (s .small) (length atoms)
             (w .atoms) x b found passes ect-is up′ atom-room)
 
         abbrev now : List Atom
@@ -253,32 +263,32 @@ module _ {n inn height lct : ℕ} {words : List ℕ} {es ps as′ : List ℤ} {w
         abbrev made : Post
         made = record { task = T x; bound = instant zeroAt b; reason = now }
 
-        reason-is : reasonOf shown tasks n est dur i b lct ≡ now
-        reason-is = propagation-at (starting est dur) (leaves.sum J estOrder ls) b theta-is (s .ends) (r .task)
-            ∙ propagation-same zeroAt (starting est dur) J (T x) b (completion J (getD lctOrder t 0)) (leaves.sum J estOrder ls) (leaves.theta J estOrder ls)
+        reason-is : reasonOf shown reverseMapping n est durations i b lct ≡ now
+        reason-is = propagation-at (starting est durations) (leaves.sum J estOrder ls) b theta-is (s .ends) (r .task)
+            ∙ propagation-same zeroAt (starting est durations) J (T x) b (completion J (getD lctOrder t 0)) (leaves.sum J estOrder ls) (leaves.theta J estOrder ls)
             (alike (T x) (found .gray .small)) (λ y q.
-            alike (getD (leaves.theta J estOrder ls) y 0) (meeting.each-listed J estOrder lctOrder G est dur (held (s .arrays .starts)) (held (s .arrays .durations)) t ls Λ shape (s .small) y q))
+            alike (getD (leaves.theta J estOrder ls) y 0) (meeting.each-listed J estOrder lctOrder G est durations (held (s .arrays .starts)) (held (s .arrays .lasts)) t ls Λ shape (s .small) y q))
           where
-            alike : (k : ℕ) → k < J .count → Alike (starting est dur) J k
-            alike = meeting.alike J estOrder lctOrder G est dur (held (s .arrays .starts)) (held (s .arrays .durations))
+            alike : (k : ℕ) → k < J .count → Alike (starting est durations) J k
+            alike = meeting.alike J estOrder lctOrder G est durations (held (s .arrays .starts)) (held (s .arrays .lasts))
 
         -- the state with the post
         abbrev after : State
         after = posted zeroAt J estOrder lctOrder (s .st) (T x) b t
 
-        module _ {ps′ bs : List ℤ} {w′ : Written} (p : Posted ps as′ ps′ bs w w′ i b (reasonOf shown tasks n est dur i b lct)) where
-          post-at : AtNow s after words es ps′ bs w′
+        module _ {posts′ atoms′ : List ℤ} {w′ : Written} (p : Posted posts atoms posts′ atoms′ w w′ i b (reasonOf shown reverseMapping n est durations i b lct)) where
+          post-at : AtNow s after words es posts′ atoms′ w′
           post-at = record {
             tree = s .at .tree;
             starts = s .at .starts;
-            posts = posts-at (s .ps₀) (s .st .posts) made (s .at .posts) (s .at .posted) (s .at .explained) (r .task) refl (ap length reason-is) (p .post-words);
-            atoms = atoms-at (s .as₀) (s .st .posts) made (s .at .atoms) (s .at .explained) (ap atomWords reason-is) (p .atom-words);
-            posted = omega (arith, p .posts, s .at .posted, length-append (s .st .posts) (made ∷ []));
-            explained = omega (arith, p .atoms, s .at .explained, ap length reason-is, ap length (reasons-more (s .st .posts) made), length-append (reasons (s .st .posts)) now);
-            counted = p .changes ∙ s .at .counted;
+            post-words = posts-at (s .posts₀) (s .st .posts) made (s .at .post-words) (s .at .posted) (s .at .explained) (r .task) refl (ap length reason-is) (p .post-words);
+            atom-words = atoms-at (s .atoms₀) (s .st .posts) made (s .at .atom-words) (s .at .explained) (ap atomWords reason-is) (p .atom-words);
+            posted = omega (arith, p .posted, s .at .posted, length-append (s .st .posts) (made ∷ []));
+            explained = omega (arith, p .explained, s .at .explained, ap length reason-is, ap length (reasons-more (s .st .posts) made), length-append (reasons (s .st .posts)) now);
+            counted = p .counted ∙ s .at .counted;
           }
 
-          pub emptied : getD lst i 0 < b → Considered s (turn.Emptied w′) words es ps′ bs
+          pub emptied : getD lst i 0 < b → Considered s (turn.Emptied w′) words es posts′ atoms′
           emptied high = (
             after,
             post-at,
@@ -286,7 +296,7 @@ module _ {n inn height lct : ℕ} {words : List ℕ} {es ps as′ : List ℤ} {w
           )
 
           pub raised-on : {k : ℕ} {words′ : List ℕ} {es′ : List ℤ} → b ≤ getD lst i 0 → es′ ≡ set es i (instant zeroAt b) → k ≡ getD mapping i 0 → Cleared k words′
-              → Considered s (turn.On (one-change w′)) words′ es′ ps′ bs
+              → Considered s (turn.On (counted w′ 1)) words′ es′ posts′ atoms′
           raised-on {words′ = words′} {es′} low e at-leaf q = (
             next,
             at-next,
@@ -296,26 +306,26 @@ module _ {n inn height lct : ℕ} {words : List ℕ} {es ps as′ : List ℤ} {w
               next : State
               next = dropped (raised after (T x) b) x
 
-              at-next : AtNow s next words′ es′ ps′ bs (one-change w′)
+              at-next : AtNow s next words′ es′ posts′ atoms′ (counted w′ 1)
               at-next = record {
                 tree = cleared words′ at-leaf q;
                 starts = starts-at (s .st .starts) b (s .at .starts) (r .task) e;
-                posts = post-at .posts;
-                atoms = post-at .atoms;
+                post-words = post-at .post-words;
+                atom-words = post-at .atom-words;
                 posted = post-at .posted;
                 explained = post-at .explained;
                 counted = ap (λ (c : ℕ). c + 1) (post-at .counted);
               }
 
       -- no post
-      pub passed-on : {k : ℕ} {words′ : List ℕ} → b ≤ getD est i 0 → k ≡ getD mapping i 0 → Cleared k words′ → Considered s (turn.On (one-change w)) words′ es ps as′
+      pub passed-on : {k : ℕ} {words′ : List ℕ} → b ≤ getD est i 0 → k ≡ getD mapping i 0 → Cleared k words′ → Considered s (turn.On (counted w 1)) words′ es posts atoms
       passed-on {words′ = words′} low at-leaf q = (
         dropped (s .st) x,
         record {
           tree = cleared words′ at-leaf q;
           starts = s .at .starts;
-          posts = s .at .posts;
-          atoms = s .at .atoms;
+          post-words = s .at .post-words;
+          atom-words = s .at .atom-words;
           posted = s .at .posted;
           explained = s .at .explained;
           counted = ap (λ (c : ℕ). c + 1) (s .at .counted);
@@ -325,3 +335,45 @@ module _ {n inn height lct : ℕ} {words : List ℕ} {es ps as′ : List ℤ} {w
         where
           still : exceeds (leaves.ect J estOrder ls) (J .earliest (T x)) ≡ false
           still = subst (λ (e : ℕ). exceeds (leaves.ect J estOrder ls) e ≡ false) task-start (within-bound (getD est i 0) (getD est i 0) (leaves.ect J estOrder ls) (omega (arith, low, is)))
+
+      -- what the test for a post leaves: a post, or nothing new where the bound is not above the start
+      abbrev pub Tried : List ℤ → List ℤ → Written → Type 0
+      Tried posts′ atoms′ w′ = ((getD est i 0 < b) × Posted posts atoms posts′ atoms′ w w′ i b (reasonOf shown reverseMapping n est durations i b lct))
+          ⊎ ((b ≤ getD est i 0) × (posts′ ≡ posts) × (atoms′ ≡ atoms) × (w′ ≡ w))
+
+      module _ {posts′ atoms′ : List ℤ} {w′ : Written} where
+        pub tried-sizes : Tried posts′ atoms′ w′ → (length posts′ ≡ length posts) × (length atoms′ ≡ length atoms)
+        tried-sizes (inl (up, p)) = let reason = reasonOf shown reverseMapping n est durations i b lct in (
+          ap length (p .post-words) ∙ length-sets posts (4 * w .posts) (pos i ∷ instant zeroAt b ∷ pos (w .atoms) ∷ pos (length reason) ∷ []),
+          ap length (p .atom-words) ∙ length-sets atoms (3 * w .atoms) (atomWords reason),
+        )
+        tried-sizes (inr (low, e, f, g)) = (ap length e, ap length f)
+
+        pub tried-changes : Tried posts′ atoms′ w′ → w′ .changes ≡ w .changes
+        tried-changes (inl (up, p)) = p .counted
+        tried-changes (inr (low, e, f, g)) = ap (λ (w : Written). w .changes) g
+
+        -- a bound above the latest start was posted
+        pub tried-emptied : Tried posts′ atoms′ w′ → getD lst i 0 < b → Considered s (turn.Emptied w′) words es posts′ atoms′
+        tried-emptied (inl (up, p)) high = emptied up p high
+        tried-emptied (inr (low, e, f, g)) high = absurd (omega (arith, low, high, task-start, task-latest, G .proper .ranges (T x) (found .gray .small)))
+
+        -- a start that is not raised is written as it was
+        pub tried-on : {k : ℕ} {words′ : List ℕ} {es′ : List ℤ} → Tried posts′ atoms′ w′ → b ≤ getD lst i 0 → es′ ≡ set es i (instant zeroAt b) → k ≡ getD mapping i 0 → Cleared k words′
+            → Considered s (turn.On (counted w′ 1)) words′ es′ posts′ atoms′
+        tried-on (inl (up, p)) fits e at-leaf q = raised-on up p fits e at-leaf q
+        tried-on {words′ = words′} (inr (low, f, g, h)) fits e at-leaf q = rw (e ∙ same, f, g, h) (passed-on low at-leaf q)
+          where
+            same-start : b ≡ getD (s .st .starts) i 0
+            same-start = omega (
+              arith,
+              low,
+              is,
+              raised-least (getD est i 0) (leaves.ect J estOrder ls),
+              task-start,
+              ap (λ (k : ℕ). getD (s .st .starts) k 0) (r .task),
+              inv .facts .same-in (T x) (found .gray),
+            )
+
+            same : set es i (instant zeroAt b) ≡ es
+            same = rw (s .at .starts, same-start) (sym (map-set (instant zeroAt) (s .st .starts) i (getD (s .st .starts) i 0)) ∙ ap (map (instant zeroAt)) (set-getD (s .st .starts) i 0))

@@ -14,7 +14,7 @@ use Rattle.trees.specs.Operations.{HeldLeaves, HasTask, Whitened}
 use Rattle.trees.proofs.RebuiltTrees.{tree-leaves}
 use Rattle.propagator.specs.FilledTheta.{Fillable}
 
-module _ {inner n : ℕ} {words tasks est dur : List ℕ} (f : Fillable inner n words tasks est dur) where
+module _ {inner n : ℕ} {words reverseMapping est durations : List ℕ} (f : Fillable inner n words reverseMapping est durations) where
   -- the first x leaves are white
   abbrev pub upTo : ℕ → List Leaf
   upTo x = filled (λ _. white) x (replicate (f .J .count) empty)
@@ -24,17 +24,17 @@ module _ {inner n : ℕ} {words tasks est dur : List ℕ} (f : Fillable inner n 
 
   module _ (x : ℕ) (q : x < n) where
     abbrev t : ℕ
-    t = getD tasks x 0
+    t = getD reverseMapping x 0
 
     pub task-known : t < TASKS
     task-known = omega (arith, f .task x q, f .known x q)
 
     -- the task that the mapping gives has its place there
-    pub placed : {i : ℕ} → i ≡ getD tasks x 0 → {e p : ℕ} → e ≡ getD est i 0 → p ≡ getD dur i 0 → HasTask (f .J) (f .estOrder) x e p
+    pub placed : {i : ℕ} → i ≡ getD reverseMapping x 0 → {e p : ℕ} → e ≡ getD est i 0 → p ≡ getD durations i 0 → HasTask (f .J) (f .estOrder) x e p
     placed is s d = record {
       inside = omega (arith, f .count);
       start = s ∙ ap (λ (k : ℕ). getD est k 0) (is ∙ f .task x q) ∙ f .start x q;
-      lasts = d ∙ ap (λ (k : ℕ). getD dur k 0) (is ∙ f .task x q) ∙ f .lasts x q;
+      lasts = d ∙ ap (λ (k : ℕ). getD durations k 0) (is ∙ f .task x q) ∙ f .lasts x q;
     }
 
   -- the words with the first x leaves white

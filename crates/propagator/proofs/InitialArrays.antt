@@ -43,14 +43,14 @@ use Rattle.records.specs.declared.record.DisjunctivePropagator.{DisjunctiveProp
 use Rattle.propagator.specs.RunArrays.{Ordered, Holds, At}
 use Rattle.runs.specs.declared.outcome.Outcome.{Outcome}
 use Rattle.propagator.specs.FilledTheta.{Fillable}
-use Rattle.propagator.specs.EdgeFinding.{Begun, Ended}
-use Rattle.propagator.specs.Ran.{Runnable, traceOf, Left}
+use Rattle.propagator.specs.EdgeFinding.{EdgeFindable, EdgeFound}
+use Rattle.propagator.specs.Ran.{Runnable, traceOf, RunLeft}
 use Rattle.propagator.proofs.AcceptedInput as accepting
 
 zeros-long : length noTasks ≡ TASKS
 zeros-long = length-replicate {A = ℕ} TASKS 0
 
-module _ (r : DisjunctivePropagator) (es ls : List ℤ) (posts atoms : ℕ) (a : Runnable r es ls posts atoms) (long : length (r .durations) ≡ TASKS) where
+module _ (r : DisjunctivePropagator) (es ls : List ℤ) (postCount atomCount : ℕ) (a : Runnable r es ls postCount atomCount) (long : length (r .durations) ≡ TASKS) where
   abbrev n : ℕ
   n = r .count
 
@@ -71,7 +71,7 @@ module _ (r : DisjunctivePropagator) (es ls : List ℤ) (posts atoms : ℕ) (a :
 
   -- the same input, as the run's definition accepts it
   accepted : demand.Accepted MIRRORED ds es ls
-  accepted = accepting.accepted r es ls posts atoms a
+  accepted = accepting.accepted r es ls postCount atomCount a
 
   abbrev pub estOrder : List ℕ
   estOrder = earliestOrder J
@@ -96,10 +96,10 @@ module _ (r : DisjunctivePropagator) (es ls : List ℤ) (posts atoms : ℕ) (a :
   }
 
   -- an order sorted by an array's keys is that of the tasks
-  pub sorted-first : (est : List ℕ) → Holds n (J .earliest) est → {tasks : List ℕ} → SortedBy (byKey est) n tasks → take n tasks ≡ estOrder
+  pub sorted-first : (est : List ℕ) → Holds n (J .earliest) est → {reverseMapping : List ℕ} → SortedBy (byKey est) n reverseMapping → take n reverseMapping ≡ estOrder
   sorted-first est h s = sorted-as s (byEarliest J) (λ j k p q. ap₂ leb (h .at j p) (h .at k q)) ∙ ap (λ (m : ℕ). sort (byEarliest J) (numbers 0 m)) (sym count)
 
-  pub sorted-second : (lct : List ℕ) → Holds n (completion J) lct → {candidates : List ℕ} → SortedBy (byKeyDown lct) n candidates → take n candidates ≡ lctOrder
+  pub sorted-second : (lct : List ℕ) → Holds n (completion J) lct → {sortedTasks : List ℕ} → SortedBy (byKeyDown lct) n sortedTasks → take n sortedTasks ≡ lctOrder
   sorted-second lct h s = sorted-as s (byCompletion J) (λ j k p q. ap₂ leb (h .at k q) (h .at j p)) ∙ ap (λ (m : ℕ). sort (byCompletion J) (numbers 0 m)) (sym count)
 
   pub holds-order : (l m : List ℕ) → take n l ≡ m → length l ≡ TASKS → Holds n (λ j. getD m j 0) l
@@ -152,13 +152,14 @@ module _ (r : DisjunctivePropagator) (es ls : List ℤ) (posts atoms : ℕ) (a :
   completion-small k q = let z : k < length ds = omega (arith, count) in omega (arith, early k z .2, lasting k z)
 
   -- the state at the start: nothing is written
-  pub at-start : (inner : ℕ) (words : List ℕ) (ps as′ : List ℤ) → IsTree J estOrder (replicate (J .count) white) inner words → At J estOrder ps as′ (allWhite J) inner words es ps as′ 0 0 n
-  at-start inner words ps as′ t = record {
+  pub at-start : (inner : ℕ) (words : List ℕ) (posts atoms : List ℤ) → IsTree J estOrder (replicate (J .count) white) inner words
+      → At J estOrder posts atoms (allWhite J) inner words es posts atoms 0 0 n
+  at-start inner words posts atoms t = record {
     tree = t;
     starts = subst (λ (m : ℕ). es ≡ map (instant zeroAt) (tabulate (J .earliest) 0 m)) (a .counts .earliest ∙ sym count)
         (tabulated zeroAt es (J .earliest) 0 (λ k q. back k (omega (arith, q, a .counts .earliest, count))));
-    posts = no-posts-stored ps;
-    atoms = no-atoms-stored as′;
+    post-words = no-posts-stored posts;
+    atom-words = no-atoms-stored atoms;
     posted = refl;
     explained = sym no-reasons;
     counted = sym count;
@@ -171,10 +172,10 @@ module _ (r : DisjunctivePropagator) (es ls : List ℤ) (posts atoms : ℕ) (a :
   trace-is : traceOf r es ls ≡ run zeroAt J estOrder lctOrder
   trace-is = propagate-is ds es ls
 
-  posts-fit : length (postWords 0 (run zeroAt J estOrder lctOrder .posts)) ≤ posts
+  posts-fit : length (postWords 0 (run zeroAt J estOrder lctOrder .posts)) ≤ postCount
   posts-fit = omega (arith, few-words.posts-fit zeroAt J proper estOrder lctOrder by-earliest (ordered .by-completion) (accepted .some), count, a .words .posts)
 
-  atoms-fit : length (atomWords (reasons (run zeroAt J estOrder lctOrder .posts) ++ endReason (run zeroAt J estOrder lctOrder .end))) ≤ atoms
+  atoms-fit : length (atomWords (reasons (run zeroAt J estOrder lctOrder .posts) ++ endReason (run zeroAt J estOrder lctOrder .end))) ≤ atomCount
   atoms-fit = omega (
     arith,
     subst (λ (m : ℕ). length (atomWords (reasons (run zeroAt J estOrder lctOrder .posts) ++ endReason (run zeroAt J estOrder lctOrder .end))) ≤ 6 * (m * m)) count
@@ -193,25 +194,26 @@ module _ (r : DisjunctivePropagator) (es ls : List ℤ) (posts atoms : ℕ) (a :
     pub keys-small : {lct : List ℕ} → lct ≡ filled (completionAt lst (r .durations)) n noTasks → (k : ℕ) → k < n → getD lct k 0 ≤ largestKey
     keys-small {lct} c k q = omega (arith, ap (λ (o : List ℕ). getD o k 0) c ∙ holds-completions lst latest .at k q, completion-small k q)
 
-    module _ {lct tasks candidates : List ℕ} (c : lct ≡ filled (completionAt lst (r .durations)) n noTasks) (f : SortedBy (byKey est) n tasks) (g : SortedBy (byKeyDown lct) n candidates) where
+    module _ {lct reverseMapping sortedTasks : List ℕ} (c : lct ≡ filled (completionAt lst (r .durations)) n noTasks) (f : SortedBy (byKey est) n reverseMapping)
+        (g : SortedBy (byKeyDown lct) n sortedTasks) where
       pub completions : Holds n (completion J) lct
       completions = subst (Holds n (completion J)) (sym c) (holds-completions lst latest)
 
-      front : take n tasks ≡ estOrder
+      front : take n reverseMapping ≡ estOrder
       front = sorted-first est starts f
 
-      pub order : Holds n (λ j. getD estOrder j 0) tasks
-      order = holds-order tasks estOrder front (f .size)
+      pub order : Holds n (λ j. getD estOrder j 0) reverseMapping
+      order = holds-order reverseMapping estOrder front (f .size)
 
-      pub candidates-order : Holds n (λ t. getD lctOrder t 0) candidates
-      candidates-order = holds-order candidates lctOrder (sorted-second lct completions g) (g .size)
+      pub sorted-tasks-order : Holds n (λ t. getD lctOrder t 0) sortedTasks
+      sorted-tasks-order = holds-order sortedTasks lctOrder (sorted-second lct completions g) (g .size)
 
       -- the new tree, and the leaf of each task by the order
-      module _ {made : ThetaLambdaTree} {mapping : List ℕ} (t : New n made) (m : Maps n tasks mapping) where
+      module _ {made : ThetaLambdaTree} {mapping : List ℕ} (t : New n made) (m : Maps n reverseMapping mapping) where
         pub places : (x : ℕ) → x < n → getD mapping x 0 ≡ index estOrder x
         places x q = m .leaf x q ∙ ap (λ (o : List ℕ). index o x) front
 
-        abbrev pub fillable : Fillable (made .«number_of_internal_nodes») n (made .nodes) tasks est (r .durations)
+        abbrev pub fillable : Fillable (made .«number_of_internal_nodes») n (made .nodes) reverseMapping est (r .durations)
         fillable = record {
           J = J;
           estOrder = estOrder;
@@ -225,33 +227,34 @@ module _ (r : DisjunctivePropagator) (es ls : List ℤ) (posts atoms : ℕ) (a :
           lasts = λ x q. holds-durations .at (getD estOrder x 0) (omega (arith, count, by-earliest .task x (omega (arith, count))));
         }
 
-        abbrev pub begun : {words : List ℕ} {ps as′ : List ℤ} → IsTree J estOrder (replicate (J .count) white) (made .«number_of_internal_nodes») words → posts ≡ length ps → atoms ≡ length as′
-            → Begun n (made .«number_of_internal_nodes») (made .height) words es ps as′ est lst lct (r .durations) tasks candidates mapping
-        begun {words} {ps} {as′} full p q = record {
+        abbrev pub findable : {words : List ℕ} {posts atoms : List ℤ} → IsTree J estOrder (replicate (J .count) white) (made .«number_of_internal_nodes») words → postCount ≡ length posts
+            → atomCount ≡ length atoms
+            → EdgeFindable (record { inner = made .«number_of_internal_nodes»; height = made .height; leaves = n }) words es posts atoms est lst lct (r .durations) reverseMapping sortedTasks mapping
+        findable {words} {posts} {atoms} full p q = record {
           J = J;
           estOrder = estOrder;
           lctOrder = lctOrder;
           ordered = ordered;
-          arrays = record { count = count; starts = starts; durations = holds-durations; tasks = order; places = places; tall = t .size .least };
+          arrays = record { count = count; starts = starts; lasts = holds-durations; reverse-mapping = order; places = places; tall = t .size .least };
           latest = latest;
           completions = completions;
-          order = candidates-order;
+          order = sorted-tasks-order;
           post-room = omega (arith, p, a .words .posts);
           atom-room = omega (arith, q, a .words .atoms);
-          at = at-start (made .«number_of_internal_nodes») words ps as′ full;
+          at = at-start (made .«number_of_internal_nodes») words posts atoms full;
         }
 
       -- and what a run leaves
-      pub left : {ps as′ es′ ps′ bs : List ℤ} {o : Outcome} {c : ℕ} → posts ≡ length ps → atoms ≡ length as′ → Ended J estOrder lctOrder ps as′ o c es′ ps′ bs
-          → Left r es ls ps as′ o c es′ ps′ bs
-      left {ps} {as′} {es′} {ps′} {bs} {o} {c} p q d = record {
+      pub left : {posts atoms es′ posts′ atoms′ : List ℤ} {o : Outcome} {c : ℕ} → postCount ≡ length posts → atomCount ≡ length atoms → EdgeFound J estOrder lctOrder posts atoms o c es′ posts′ atoms′
+          → RunLeft r es ls posts atoms o c es′ posts′ atoms′
+      left {posts} {atoms} {es′} {posts′} {atoms′} {o} {c} p q d = record {
         answer = d .answer ∙ ap traceNumbers (sym trace-is);
         changes = d .changes ∙ ap (λ (t : Trace). t .changes) (sym trace-is);
         changes-most = omega (arith, d .changes, changes-most zeroAt J proper estOrder lctOrder by-earliest (ordered .by-completion) (accepted .some), count);
         starts = d .starts ∙ ap (λ (t : Trace). t .starts) (sym trace-is);
-        post-words = d .posts ∙ overwrites ps (postWords 0 (run zeroAt J estOrder lctOrder .posts)) (omega (arith, posts-fit, p)) ∙ ap (postsAfter ps) (sym trace-is);
-        atom-words = d .atoms ∙ overwrites as′ (atomWords (reasons (run zeroAt J estOrder lctOrder .posts) ++ endReason (run zeroAt J estOrder lctOrder .end))) (omega (arith, atoms-fit, q))
-            ∙ ap (atomsAfter as′) (sym trace-is);
-        posts-fit = subst (λ (t : Trace). length (postWords 0 (t .posts)) ≤ length ps) (sym trace-is) (omega (arith, posts-fit, p));
-        atoms-fit = subst (λ (t : Trace). length (atomWords (reasons (t .posts) ++ endReason (t .end))) ≤ length as′) (sym trace-is) (omega (arith, atoms-fit, q));
+        post-words = d .post-words ∙ overwrites posts (postWords 0 (run zeroAt J estOrder lctOrder .posts)) (omega (arith, posts-fit, p)) ∙ ap (postsAfter posts) (sym trace-is);
+        atom-words = d .atom-words ∙ overwrites atoms (atomWords (reasons (run zeroAt J estOrder lctOrder .posts) ++ endReason (run zeroAt J estOrder lctOrder .end))) (omega (arith, atoms-fit, q))
+            ∙ ap (atomsAfter atoms) (sym trace-is);
+        posts-fit = subst (λ (t : Trace). length (postWords 0 (t .posts)) ≤ length posts) (sym trace-is) (omega (arith, posts-fit, p));
+        atoms-fit = subst (λ (t : Trace). length (atomWords (reasons (t .posts) ++ endReason (t .end))) ≤ length atoms) (sym trace-is) (omega (arith, atoms-fit, q));
       }

@@ -11,6 +11,7 @@ use lib.ListN.{getD}
 use Rattle.integers.specs.Moments.{zeroAt}
 use Rattle.integers.proofs.Bools.{bool, clash}
 use Rattle.scheduling.specs.Scheduling.{completion}
+use Rattle.trees.specs.declared.complete_tree.TreeSize.{TreeSize}
 use Rattle.trees.specs.Ects.{exceeds}
 use Rattle.trees.specs.declared.disjunctive_task.LocalId.{LocalId}
 use Rattle.trees.specs.declared.theta_lambda_tree.Responsible.{Responsible}
@@ -23,7 +24,7 @@ use Rattle.runs.proofs.InnerLoop.{inner-end, inner-off, inner-none}
 use Rattle.propagator.specs.declared.disjunctive_propagator.Written.{Written}
 use Rattle.propagator.specs.declared.disjunctive_propagator.Turn as code
 use Rattle.propagator.specs.declared.disjunctive_propagator.Turn.the-variants as turn
-use Rattle.propagator.specs.Candidates.{Proposes, Standing, AtNow, turns, Considered, AllConsidered, Responsible-for}
+use Rattle.propagator.specs.Candidates.{Proposes, Considerable, AtNow, turns, Considered, AllConsidered, Responsible-for}
 use Rattle.propagator.proofs.PostWords.{candidate-none, candidate-some}
 use Rattle.propagator.proofs.ConsideredTask as considering
 use Rattle.propagator.proofs.ConsideredTask.{shown, tall}
@@ -37,36 +38,42 @@ task-or other (responsible.Task id) = id .0
 task-or other responsible.Nothing = other .0
 
 -- what a search answered
-some-task : (tasks : List ℕ) (u : Option ℕ) (id : LocalId) → responsible.Task id ≡ responsibleOf tasks u → (x : ℕ) × (u ≡ some x) × (id .0 ≡ getD tasks x 0)
-some-task tasks none id z = clash {b = true} refl (ap is-task z)
-some-task tasks (some x) id z = (x, refl, ap (task-or id) z)
+some-task : (reverseMapping : List ℕ) (u : Option ℕ) (id : LocalId) → responsible.Task id ≡ responsibleOf reverseMapping u → (x : ℕ) × (u ≡ some x) × (id .0 ≡ getD reverseMapping x 0)
+some-task reverseMapping none id z = clash {b = true} refl (ap is-task z)
+some-task reverseMapping (some x) id z = (x, refl, ap (task-or id) z)
 
-no-task : (tasks : List ℕ) (u : Option ℕ) → responsible.Nothing ≡ responsibleOf tasks u → u ≡ none
-no-task tasks none z = refl
-no-task tasks (some x) z = clash {b = true} refl (ap is-task (sym z))
+no-task : (reverseMapping : List ℕ) (u : Option ℕ) → responsible.Nothing ≡ responsibleOf reverseMapping u → u ≡ none
+no-task reverseMapping none z = refl
+no-task reverseMapping (some x) z = clash {b = true} refl (ap is-task (sym z))
 
-module _ {n inn height lct : ℕ} {words : List ℕ} {es ps as′ : List ℤ} {w : Written} {est lst dur tasks mapping : List ℕ}
-    (s : Standing n inn height lct words es ps as′ w est lst dur tasks mapping) where
+module _ {size : TreeSize} {lct : ℕ} {words : List ℕ} {es posts atoms : List ℤ} {w : Written} {est lst durations reverseMapping mapping : List ℕ}
+    (s : Considerable size lct words es posts atoms w est lst durations reverseMapping mapping) where
+  abbrev n : ℕ
+  n = size .leaves
+
+  abbrev inn : ℕ
+  inn = size .inner
+
   -- `left` turns are left, and the slices and the tree are at the state of a definition that has as many left
-  pub record Turned (left : ℕ) (words′ : List ℕ) (es′ ps′ bs : List ℤ) (w′ : Written) : Type 0 where
+  pub record Turned (left : ℕ) (words′ : List ℕ) (es′ posts′ atoms′ : List ℤ) (w′ : Written) : Type 0 where
     pub st : State
     pub reached : Reached zeroAt (s .J) (s .estOrder) (s .lctOrder) (s .level) st
-    pub at : AtNow s st words′ es′ ps′ bs w′
+    pub at : AtNow s st words′ es′ posts′ atoms′ w′
     pub rest : turns s n (s .st) ≡ turns s left st
 
-  pub none-yet : Turned n words es ps as′ w
+  pub none-yet : Turned n words es posts atoms w
   none-yet = record { st = s .st; reached = s .reached; at = s .at; rest = refl }
 
-  module _ {left : ℕ} {words′ : List ℕ} {es′ ps′ bs : List ℤ} {w′ : Written} (r : Turned left words′ es′ ps′ bs w′) where
-    abbrev pub stands : Standing n inn height lct words′ es′ ps′ bs w′ est lst dur tasks mapping
-    stands = record {
+  module _ {left : ℕ} {words′ : List ℕ} {es′ posts′ atoms′ : List ℤ} {w′ : Written} (r : Turned left words′ es′ posts′ atoms′ w′) where
+    abbrev pub still-considerable : Considerable size lct words′ es′ posts′ atoms′ w′ est lst durations reverseMapping mapping
+    still-considerable = record {
       J = s .J;
       estOrder = s .estOrder;
       lctOrder = s .lctOrder;
       level = s .level;
       st = r .st;
-      ps₀ = s .ps₀;
-      as₀ = s .as₀;
+      posts₀ = s .posts₀;
+      atoms₀ = s .atoms₀;
       ordered = s .ordered;
       arrays = s .arrays;
       latest = s .latest;
@@ -85,10 +92,10 @@ module _ {n inn height lct : ℕ} {words : List ℕ} {es ps as′ : List ℤ} {w
     found = leaves.responsible (s .J) (s .estOrder) (r .st .leaves)
 
     found-small : (x : ℕ) → leaves.responsible (s .J) (s .estOrder) (r .st .leaves) ≡ some x → x < n
-    found-small x z = omega (arith, s .arrays .count, considering.found-inside stands x z)
+    found-small x z = omega (arith, s .arrays .count, considering.found-inside still-considerable x z)
 
     -- no turn is left
-    pub ended : left ≡ 0 → AllConsidered s (turn.On w′) words′ es′ ps′ bs
+    pub ended : left ≡ 0 → AllConsidered s (turn.On w′) words′ es′ posts′ atoms′
     ended z = (r .st, r .at, r .rest ∙ ap (λ (f : ℕ). turns s f (r .st)) z ∙ inner-end zeroAt (s .J) (s .estOrder) (s .lctOrder) 0 (s .level) (r .st))
 
     -- the test, by the level's lct
@@ -96,12 +103,12 @@ module _ {n inn height lct : ℕ} {words : List ℕ} {es ps as′ : List ℤ} {w
     test-is y = ap (exceeds bar) (sym (s .ends)) ∙ y
 
     -- there is a task to consider
-    pub one-left : {next : Responsible} {id : LocalId} → next ≡ responsible.Task id → Proposes inn height words′ tasks lct next → (x : ℕ) × Responsible-for stands (id .0) x
-    one-left {id = id} is all = let z = all (shown stands) (tall stands) in
+    pub one-left : {next : Responsible} {id : LocalId} → next ≡ responsible.Task id → Proposes size words′ reverseMapping lct next → (x : ℕ) × Responsible-for still-considerable (id .0) x
+    one-left {id = id} is all = let z = all (shown still-considerable) (tall still-considerable) in
         elim (bool (exceeds bar lct)) [
-          | inr y ↦ clash {b = true} refl (ap is-task (sym is ∙ z ∙ sym (candidate-none tasks lct bar found y)))
-          | inl y ↦ (let (x, u, v) = some-task tasks found id (sym is ∙ z ∙ sym (candidate-some tasks lct bar found y)) in
-              (x, record { over = y; found = u; task = v ∙ s .arrays .tasks .at x (found-small x u) }))
+          | inr y ↦ clash {b = true} refl (ap is-task (sym is ∙ z ∙ sym (candidate-none reverseMapping lct bar found y)))
+          | inl y ↦ (let (x, u, v) = some-task reverseMapping found id (sym is ∙ z ∙ sym (candidate-some reverseMapping lct bar found y)) in
+              (x, record { over = y; found = u; task = v ∙ s .arrays .reverse-mapping .at x (found-small x u) }))
         ]
 
     -- a turn is taken
@@ -110,22 +117,24 @@ module _ {n inn height lct : ℕ} {words : List ℕ} {es ps as′ : List ℤ} {w
       rest-is = r .rest ∙ ap (λ (f : ℕ). turns s f (r .st)) some-left
 
       -- there is no task to consider
-      pub nothing-left : {next : Responsible} → next ≡ responsible.Nothing → Proposes inn height words′ tasks lct next → AllConsidered s (turn.On w′) words′ es′ ps′ bs
-      nothing-left is all = let z = all (shown stands) (tall stands) in (
+      pub nothing-left : {next : Responsible} → next ≡ responsible.Nothing → Proposes size words′ reverseMapping lct next → AllConsidered s (turn.On w′) words′ es′ posts′ atoms′
+      nothing-left is all = let z = all (shown still-considerable) (tall still-considerable) in (
         r .st,
         r .at,
         rest-is ∙ elim (bool (exceeds bar lct)) [
           | inr y ↦ inner-off zeroAt (s .J) (s .estOrder) (s .lctOrder) f (s .level) (r .st) (test-is y)
-          | inl y ↦ inner-none zeroAt (s .J) (s .estOrder) (s .lctOrder) f (s .level) (r .st) (test-is y) (no-task tasks found (sym is ∙ z ∙ sym (candidate-some tasks lct bar found y)))
+          | inl y ↦ inner-none zeroAt (s .J) (s .estOrder) (s .lctOrder) f (s .level) (r .st) (test-is y)
+              (no-task reverseMapping found (sym is ∙ z ∙ sym (candidate-some reverseMapping lct bar found y)))
         ],
       )
 
       -- one was considered
-      pub one-less : {words″ : List ℕ} {es″ ps″ bs′ : List ℤ} {w″ : Written} {u : code.Turn} → u ≡ turn.On w″ → Considered stands u words″ es″ ps″ bs′ → Turned f words″ es″ ps″ bs′ w″
+      pub one-less : {words″ : List ℕ} {es″ posts″ atoms″ : List ℤ} {w″ : Written} {u : code.Turn} → u ≡ turn.On w″ → Considered still-considerable u words″ es″ posts″ atoms″
+          → Turned f words″ es″ posts″ atoms″ w″
       one-less is all =
           let (st′, a, next) = rw is at all in
           record { st = st′; reached = turned (s .level) (r .st) st′ (r .reached) (next 0 ∙ inner-end zeroAt (s .J) (s .estOrder) (s .lctOrder) 0 (s .level) st′); at = a; rest = rest-is ∙ next f }
 
-      pub one-emptied : {words″ : List ℕ} {es″ ps″ bs′ : List ℤ} {w″ : Written} {u : code.Turn} → u ≡ turn.Emptied w″ → Considered stands u words″ es″ ps″ bs′
-          → AllConsidered s (turn.Emptied w″) words″ es″ ps″ bs′
+      pub one-emptied : {words″ : List ℕ} {es″ posts″ atoms″ : List ℤ} {w″ : Written} {u : code.Turn} → u ≡ turn.Emptied w″ → Considered still-considerable u words″ es″ posts″ atoms″
+          → AllConsidered s (turn.Emptied w″) words″ es″ posts″ atoms″
       one-emptied is all = let (st′, a, next) = rw is at all in (st′, a, rest-is ∙ next f)

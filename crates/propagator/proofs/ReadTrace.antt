@@ -33,20 +33,21 @@ pub record Handed (t : Trace) (posts′ atoms′ : List ℤ) : Type 0 where
   pub overloads : (reason : List Atom) → t .end ≡ overload reason → ReadOverload reason atoms′ (length (reasons (t .posts)))
 
 -- post j of a trace
-reads : (ps as′ : List ℤ) (t : Trace) (j : ℕ) → j < length (t .posts) → Read (post t j) (postsAfter ps t) (atomsAfter as′ t) (length (t .posts)) j
-reads ps as′ t j q =
-    let four = four-after ps t j q in
-    let there = read-at (postsAfter ps t) (atomsAfter as′ t) (length (t .posts)) j (startOf (t .posts) j) (length (post t j .reason)) (four .from) (four .count) q (four-inside ps t j q)
-    (stretch-inside as′ t j q) in
-    record { number = there .0; reason = there .1 ∙ reader as′ t j q; task = four .task; bound = four .bound }
+reads : (posts atoms : List ℤ) (t : Trace) (j : ℕ) → j < length (t .posts) → Read (post t j) (postsAfter posts t) (atomsAfter atoms t) (length (t .posts)) j
+reads posts atoms t j q =
+    let four = four-after posts t j q in
+    let there = read-at (postsAfter posts t) (atomsAfter atoms t) (length (t .posts)) j (startOf (t .posts) j) (length (post t j .reason)) (four .from) (four .count) q (four-inside posts t j q)
+    (stretch-inside atoms t j q) in
+    record { number = there .0; reason = there .1 ∙ reader atoms t j q; task = four .task; bound = four .bound }
 
 -- an overload's reason
-overload-read : (as′ : List ℤ) (t : Trace) (reason : List Atom) → t .end ≡ overload reason → ReadOverload reason (atomsAfter as′ t) (length (reasons (t .posts)))
-overload-read as′ t reason e = subst (λ (x : End). ReadOverload (endReason x) (atomsAfter as′ t) (length (reasons (t .posts)))) e (record { inside = inside; words = end-reader as′ t })
+overload-read : (atoms : List ℤ) (t : Trace) (reason : List Atom) → t .end ≡ overload reason → ReadOverload reason (atomsAfter atoms t) (length (reasons (t .posts)))
+overload-read atoms t reason e = subst (λ (x : End). ReadOverload (endReason x) (atomsAfter atoms t) (length (reasons (t .posts)))) e (record { inside = inside; words = end-reader atoms t })
   where
-    inside : 3 * length (reasons (t .posts)) + 3 * length (endReason (t .end)) ≤ length (atomsAfter as′ t)
-    inside = omega (arith, length-append (atomWords (atomsIn t)) (drop (length (atomWords (atomsIn t))) as′), atoms-length (atomsIn t), length-append (reasons (t .posts)) (endReason (t .end)))
+    inside : 3 * length (reasons (t .posts)) + 3 * length (endReason (t .end)) ≤ length (atomsAfter atoms t)
+    inside = omega (arith, length-append (atomWords (atomsIn t)) (drop (length (atomWords (atomsIn t))) atoms), atoms-length (atomsIn t), length-append (reasons (t .posts)) (endReason (t .end)))
 
 -- The words that a run leaves are read so.
-pub handed : (t : Trace) (ps as′ : List ℤ) {ps′ bs : List ℤ} → ps′ ≡ postsAfter ps t → bs ≡ atomsAfter as′ t → Handed t ps′ bs
-handed t ps as′ {ps′} {bs} p b = subst (λ (u : List ℤ). Handed t u bs) (sym p) (subst (Handed t (postsAfter ps t)) (sym b) (record { posts = reads ps as′ t; overloads = overload-read as′ t }))
+pub handed : (t : Trace) (posts atoms : List ℤ) {posts′ atoms′ : List ℤ} → posts′ ≡ postsAfter posts t → atoms′ ≡ atomsAfter atoms t → Handed t posts′ atoms′
+handed t posts atoms {posts′} {atoms′} p b =
+    subst (λ (u : List ℤ). Handed t u atoms′) (sym p) (subst (Handed t (postsAfter posts t)) (sym b) (record { posts = reads posts atoms t; overloads = overload-read atoms t }))

@@ -10,6 +10,7 @@ use lib.Seq.{sets}
 use Rattle.integers.specs.Moments.{instant, zeroAt}
 use Rattle.scheduling.specs.Scheduling.{natural, Tasks, Atom, completion}
 use Rattle.scheduling.specs.Words.{atomWords}
+use Rattle.trees.specs.declared.complete_tree.TreeSize.{TreeSize}
 use Rattle.trees.specs.Ects.{exceeds}
 use Rattle.trees.specs.declared.theta_lambda_tree.Responsible.{Responsible}
 use Rattle.trees.specs.declared.theta_lambda_tree.Responsible.the-variants as responsible
@@ -24,66 +25,76 @@ use Rattle.propagator.specs.declared.disjunctive_propagator.Turn as code
 use Rattle.propagator.specs.declared.disjunctive_propagator.Turn.the-variants as turn
 use Rattle.propagator.specs.RunArrays.{Ordered, Holds, Arrays, At}
 
+-- nothing is written, and some leaves have changed
+abbrev pub nothingWritten : ℕ → Written
+nothingWritten n = record { posts = 0; atoms = 0; changes = n }
+
+-- with more leaf changes
+abbrev pub counted : Written → ℕ → Written
+counted w more = record { posts = w .posts; atoms = w .atoms; changes = w .changes + more }
+
 -- the task to consider next, by ect_bar and the responsible leaf: none where ect_bar is not past lct
 unfoldable pub candidateOf : List ℕ → ℕ → Option ℕ → Option ℕ → Responsible
-candidateOf tasks lct ect-bar found = elim (exceeds ect-bar lct) [ true ↦ responsibleOf tasks found | false ↦ responsible.Nothing ]
+candidateOf reverseMapping lct ect-bar found = elim (exceeds ect-bar lct) [ true ↦ responsibleOf reverseMapping found | false ↦ responsible.Nothing ]
 
 -- the answer of `candidate`
-abbrev pub Proposes : ℕ → ℕ → List ℕ → List ℕ → ℕ → Responsible → Type 0
-Proposes inn height words tasks lct r = (h : Held inn words) → Tall h height
-    → r ≡ candidateOf tasks lct (leaves.ect-bar (h .J) (h .estOrder) (h .leaves)) (leaves.responsible (h .J) (h .estOrder) (h .leaves))
+abbrev pub Proposes : TreeSize → List ℕ → List ℕ → ℕ → Responsible → Type 0
+Proposes size words reverseMapping lct r = (h : Held (size .inner) words) → Tall h (size .height)
+    → r ≡ candidateOf reverseMapping lct (leaves.ect-bar (h .J) (h .estOrder) (h .leaves)) (leaves.responsible (h .J) (h .estOrder) (h .leaves))
 
 -- a post's reason, by the tree and the arrays
 abbrev pub reasonOf : {inn : ℕ} {words : List ℕ} → Held inn words → List ℕ → ℕ → List ℕ → List ℕ → ℕ → ℕ → ℕ → List Atom
-reasonOf {inn} {words} h tasks n est dur i bound lct =
-    propagation zeroAt (starting est dur) i bound lct (leaves.sum (h .J) (h .estOrder) (h .leaves)) (thetaIn words inn tasks n)
+reasonOf {inn} {words} h reverseMapping n est durations i newBound lct =
+    propagation zeroAt (starting est durations) i newBound lct (leaves.sum (h .J) (h .estOrder) (h .leaves)) (thetaIn words inn reverseMapping n)
 
 -- A post: its four words and its reason's stand after those written so far. It changes no leaf.
-pub record Posted (ps as′ ps′ bs : List ℤ) (before after : Written) (i bound : ℕ) (reason : List Atom) : Type 0 where
-  pub post-words : ps′ ≡ sets ps (4 * before .posts) (pos i ∷ instant zeroAt bound ∷ pos (before .atoms) ∷ pos (length reason) ∷ [])
-  pub atom-words : bs ≡ sets as′ (3 * before .atoms) (atomWords reason)
-  pub posts : after .posts ≡ before .posts + 1
-  pub atoms : after .atoms ≡ before .atoms + length reason
-  pub changes : after .changes ≡ before .changes
+pub record Posted (posts atoms posts′ atoms′ : List ℤ) (before after : Written) (i newBound : ℕ) (reason : List Atom) : Type 0 where
+  pub post-words : posts′ ≡ sets posts (4 * before .posts) (pos i ∷ instant zeroAt newBound ∷ pos (before .atoms) ∷ pos (length reason) ∷ [])
+  pub atom-words : atoms′ ≡ sets atoms (3 * before .atoms) (atomWords reason)
+  pub posted : after .posts ≡ before .posts + 1
+  pub explained : after .atoms ≡ before .atoms + length reason
+  pub counted : after .changes ≡ before .changes
 
 -- What stands at a level of a run: the tasks and orders, the arrays that hold them, and the state st that the definition goes through and that tree and slices
 -- are at.
-pub record Standing (n inner height lct : ℕ) (words : List ℕ) (es ps as′ : List ℤ) (w : Written) (est lst dur tasks mapping : List ℕ) : Type 0 where
+pub record Considerable (size : TreeSize) (lct : ℕ) (words : List ℕ) (es posts atoms : List ℤ) (w : Written)
+    (est lst durations reverseMapping mapping : List ℕ) : Type 0 where
   pub J : Tasks natural
   pub estOrder : List ℕ
   pub lctOrder : List ℕ
   pub level : ℕ
   pub st : State
-  pub ps₀ : List ℤ
-  pub as₀ : List ℤ
+  pub posts₀ : List ℤ
+  pub atoms₀ : List ℤ
   pub ordered : Ordered J estOrder lctOrder
-  pub arrays : Arrays J estOrder n inner height est dur tasks mapping
-  pub latest : Holds n (J .latest) lst
+  pub arrays : Arrays J estOrder size est durations reverseMapping mapping
+  pub latest : Holds (size .leaves) (J .latest) lst
   pub small : level < J .count
   pub ends : lct ≡ completion J (getD lctOrder level 0)
-  pub post-room : 4 * n ≤ length ps₀
-  pub atom-room : 6 * (n * n) ≤ length as₀
+  pub post-room : 4 * size .leaves ≤ length posts₀
+  pub atom-room : 6 * (size .leaves * size .leaves) ≤ length atoms₀
   pub reached : Reached zeroAt J estOrder lctOrder level st
-  pub at : At J estOrder ps₀ as₀ st inner words es ps as′ (w .posts) (w .atoms) (w .changes)
+  pub at : At J estOrder posts₀ atoms₀ st (size .inner) words es posts atoms (w .posts) (w .atoms) (w .changes)
 
-module _ {n inn height lct : ℕ} {words : List ℕ} {es ps as′ : List ℤ} {w : Written} {est lst dur tasks mapping : List ℕ}
-    (s : Standing n inn height lct words es ps as′ w est lst dur tasks mapping) where
+module _ {size : TreeSize} {lct : ℕ} {words : List ℕ} {es posts atoms : List ℤ} {w : Written} {est lst durations reverseMapping mapping : List ℕ}
+    (s : Considerable size lct words es posts atoms w est lst durations reverseMapping mapping) where
   -- the state st′ follows: tree and slices are at it
   abbrev pub AtNow : State → List ℕ → List ℤ → List ℤ → List ℤ → Written → Type 0
-  AtNow st′ words′ es′ ps′ bs w′ = At (s .J) (s .estOrder) (s .ps₀) (s .as₀) st′ inn words′ es′ ps′ bs (w′ .posts) (w′ .atoms) (w′ .changes)
+  AtNow st′ words′ es′ posts′ atoms′ w′ = At (s .J) (s .estOrder) (s .posts₀) (s .atoms₀) st′ (size .inner) words′ es′ posts′ atoms′ (w′ .posts) (w′ .atoms)
+      (w′ .changes)
 
   abbrev pub turns : ℕ → State → Turn
   turns f st′ = inner zeroAt (s .J) (s .estOrder) (s .lctOrder) f (s .level) st′
 
   -- one turn of the inner loop
   abbrev pub Considered : code.Turn → List ℕ → List ℤ → List ℤ → List ℤ → Type 0
-  Considered (turn.On w′) words′ es′ ps′ bs = (st′ : State) × AtNow st′ words′ es′ ps′ bs w′ × ((f : ℕ) → turns (suc f) (s .st) ≡ turns f st′)
-  Considered (turn.Emptied w′) words′ es′ ps′ bs = (st′ : State) × AtNow st′ words′ es′ ps′ bs w′ × ((f : ℕ) → turns (suc f) (s .st) ≡ stop st′)
+  Considered (turn.On w′) words′ es′ posts′ atoms′ = (st′ : State) × AtNow st′ words′ es′ posts′ atoms′ w′ × ((f : ℕ) → turns (suc f) (s .st) ≡ turns f st′)
+  Considered (turn.Emptied w′) words′ es′ posts′ atoms′ = (st′ : State) × AtNow st′ words′ es′ posts′ atoms′ w′ × ((f : ℕ) → turns (suc f) (s .st) ≡ stop st′)
 
   -- all of them
   abbrev pub AllConsidered : code.Turn → List ℕ → List ℤ → List ℤ → List ℤ → Type 0
-  AllConsidered (turn.On w′) words′ es′ ps′ bs = (st′ : State) × AtNow st′ words′ es′ ps′ bs w′ × (turns n (s .st) ≡ on st′)
-  AllConsidered (turn.Emptied w′) words′ es′ ps′ bs = (st′ : State) × AtNow st′ words′ es′ ps′ bs w′ × (turns n (s .st) ≡ stop st′)
+  AllConsidered (turn.On w′) words′ es′ posts′ atoms′ = (st′ : State) × AtNow st′ words′ es′ posts′ atoms′ w′ × (turns (size .leaves) (s .st) ≡ on st′)
+  AllConsidered (turn.Emptied w′) words′ es′ posts′ atoms′ = (st′ : State) × AtNow st′ words′ es′ posts′ atoms′ w′ × (turns (size .leaves) (s .st) ≡ stop st′)
 
   -- x is the leaf of the task i to consider
   pub record Responsible-for (i x : ℕ) : Type 0 where

@@ -7,6 +7,7 @@ use lib.ListN.{length, getD}
 use lib.Seq.{sets}
 use Rattle.integers.specs.Moments.{zeroAt}
 use Rattle.scheduling.specs.Scheduling.{natural, Tasks, Atom, completion}
+use Rattle.trees.specs.declared.complete_tree.TreeSize.{TreeSize}
 use Rattle.trees.specs.Leaves.{sum}
 use Rattle.trees.specs.ArraySearches.{thetaIn}
 use Rattle.trees.specs.Operations.{Held}
@@ -20,34 +21,39 @@ use Rattle.propagator.specs.declared.disjunctive_propagator.Written.{Wri
 use Rattle.propagator.specs.RunArrays.{Ordered, Holds, Arrays, At}
 use Rattle.runs.specs.declared.outcome.Outcome.{Outcome}
 use Rattle.runs.specs.declared.outcome.Outcome.the-variants as outcome
+use Rattle.runs.specs.declared.outcome.Finished.{Finished}
 
 -- the reason of an overload, by the tree and the arrays
 abbrev pub conflictOf : {inner : ℕ} {words : List ℕ} → Held inner words → List ℕ → ℕ → List ℕ → List ℕ → ℕ → List Atom
-conflictOf {inner} {words} h tasks n est dur lct = conflict zeroAt (starting est dur) lct (sum (h .J) (h .estOrder) (h .leaves)) (thetaIn words inner tasks n)
+conflictOf {inner} {words} h reverseMapping n est durations lct =
+    conflict zeroAt (starting est durations) lct (sum (h .J) (h .estOrder) (h .leaves)) (thetaIn words inner reverseMapping n)
 
 -- it stands after the atoms written so far
-pub record Conflicted (as′ bs : List ℤ) (w : Written) (r : Outcome) (reason : List Atom) : Type 0 where
-  pub atom-words : bs ≡ sets as′ (3 * w .atoms) (atomWords reason)
-  pub answer : r ≡ outcome.Overload (w .posts) (w .atoms) (length reason)
+pub record ConflictExplained (atoms atoms′ : List ℤ) (w : Written) (r : Finished) (reason : List Atom) : Type 0 where
+  pub atom-words : atoms′ ≡ sets atoms (3 * w .atoms) (atomWords reason)
+  pub answer : r .outcome ≡ outcome.Overload (w .posts) (w .atoms) (length reason)
+  pub changes : r .changes ≡ w .changes
 
 -- What edge finding is given: the tasks in both orders, the arrays that hold them, room for posts and reasons, and the tree of all tasks.
-pub record Begun (n inner height : ℕ) (words : List ℕ) (es ps as′ : List ℤ) (est lst lct dur tasks candidates mapping : List ℕ) : Type 0 where
+pub record EdgeFindable (size : TreeSize) (words : List ℕ) (es posts atoms : List ℤ)
+    (est lst lct durations reverseMapping sortedTasks mapping : List ℕ) : Type 0 where
   pub J : Tasks natural
   pub estOrder : List ℕ
   pub lctOrder : List ℕ
   pub ordered : Ordered J estOrder lctOrder
-  pub arrays : Arrays J estOrder n inner height est dur tasks mapping
-  pub latest : Holds n (J .latest) lst
-  pub completions : Holds n (completion J) lct
-  pub order : Holds n (λ t. getD lctOrder t 0) candidates
-  pub post-room : 4 * n ≤ length ps
-  pub atom-room : 6 * (n * n) ≤ length as′
-  pub at : At J estOrder ps as′ (allWhite J) inner words es ps as′ 0 0 n
+  pub arrays : Arrays J estOrder size est durations reverseMapping mapping
+  pub latest : Holds (size .leaves) (J .latest) lst
+  pub completions : Holds (size .leaves) (completion J) lct
+  pub order : Holds (size .leaves) (λ t. getD lctOrder t 0) sortedTasks
+  pub post-room : 4 * size .leaves ≤ length posts
+  pub atom-room : 6 * (size .leaves * size .leaves) ≤ length atoms
+  pub at : At J estOrder posts atoms (allWhite J) (size .inner) words es posts atoms 0 0 (size .leaves)
 
 -- What it leaves: the trace of the run's definition.
-pub record Ended (J : Tasks natural) (estOrder lctOrder : List ℕ) (ps as′ : List ℤ) (r : Outcome) (changed : ℕ) (es′ ps′ bs : List ℤ) : Type 0 where
+pub record EdgeFound (J : Tasks natural) (estOrder lctOrder : List ℕ) (posts atoms : List ℤ) (r : Outcome) (changed : ℕ)
+    (es′ posts′ atoms′ : List ℤ) : Type 0 where
   pub answer : outcomeNumbers r ≡ traceNumbers (run zeroAt J estOrder lctOrder)
   pub changes : changed ≡ run zeroAt J estOrder lctOrder .changes
   pub starts : es′ ≡ run zeroAt J estOrder lctOrder .starts
-  pub posts : ps′ ≡ sets ps 0 (postWords 0 (run zeroAt J estOrder lctOrder .posts))
-  pub atoms : bs ≡ sets as′ 0 (atomWords (reasons (run zeroAt J estOrder lctOrder .posts) ++ endReason (run zeroAt J estOrder lctOrder .end)))
+  pub post-words : posts′ ≡ sets posts 0 (postWords 0 (run zeroAt J estOrder lctOrder .posts))
+  pub atom-words : atoms′ ≡ sets atoms 0 (atomWords (reasons (run zeroAt J estOrder lctOrder .posts) ++ endReason (run zeroAt J estOrder lctOrder .end)))

@@ -9,19 +9,19 @@ use Rattle.trees.specs.Leaves.{empty, white}
 use Rattle.trees.specs.Trees.{Limited, IsTree}
 
 -- The words hold a tree of empty leaves, and the arrays the tasks.
-pub record Fillable (inner n : ℕ) (words tasks est dur : List ℕ) : Type 0 where
+pub record Fillable (inner n : ℕ) (words reverseMapping est durations : List ℕ) : Type 0 where
   pub J : Tasks natural
   pub estOrder : List ℕ
   pub limited : Limited J estOrder
   pub count : J .count ≡ n
   pub tree : IsTree J estOrder (replicate (J .count) empty) inner words
   pub few : n ≤ TASKS
-  pub task : (x : ℕ) → x < n → getD tasks x 0 ≡ getD estOrder x 0
+  pub task : (x : ℕ) → x < n → getD reverseMapping x 0 ≡ getD estOrder x 0
   pub known : (x : ℕ) → x < n → getD estOrder x 0 < TASKS
   pub start : (x : ℕ) → x < n → getD est (getD estOrder x 0) 0 ≡ J .earliest (getD estOrder x 0)
-  pub lasts : (x : ℕ) → x < n → getD dur (getD estOrder x 0) 0 ≡ J .duration (getD estOrder x 0)
+  pub lasts : (x : ℕ) → x < n → getD durations (getD estOrder x 0) 0 ≡ J .duration (getD estOrder x 0)
 
 -- Whatever tasks they are, the words hold the tree of white leaves.
 abbrev pub Filled : ℕ → ℕ → List ℕ → List ℕ → List ℕ → List ℕ → List ℕ → Type 0
-Filled inner n words words′ tasks est dur = (f : Fillable inner n words tasks est dur)
+Filled inner n words words′ reverseMapping est durations = (f : Fillable inner n words reverseMapping est durations)
     → IsTree (f .J) (f .estOrder) (replicate (f .J .count) white) inner words′

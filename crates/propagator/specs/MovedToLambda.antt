@@ -9,7 +9,7 @@ use Rattle.trees.specs.Leaves.{Leaf, gray, taskAt}
 use Rattle.trees.specs.Trees.{Limited, IsTree}
 
 -- The words hold a tree in which task j has its leaf.
-pub record Movable (inner : ℕ) (words mapping est dur : List ℕ) (j : ℕ) : Type 0 where
+pub record Movable (inner : ℕ) (words mapping est durations : List ℕ) (j : ℕ) : Type 0 where
   pub J : Tasks natural
   pub estOrder : List ℕ
   pub leaves : List Leaf
@@ -19,9 +19,9 @@ pub record Movable (inner : ℕ) (words mapping est dur : List ℕ) (j : ℕ) : 
   pub inside : getD mapping j 0 < J .count
   pub task : taskAt J estOrder (getD mapping j 0) ≡ j
   pub start : getD est j 0 ≡ J .earliest j
-  pub lasts : getD dur j 0 ≡ J .duration j
+  pub lasts : getD durations j 0 ≡ J .duration j
 
 -- Whatever tree they held, they now hold it with the leaf of j gray.
 abbrev pub Moved : ℕ → List ℕ → List ℕ → List ℕ → List ℕ → List ℕ → ℕ → Type 0
-Moved inner words words′ mapping est dur j = (m : Movable inner words mapping est dur j)
+Moved inner words words′ mapping est durations j = (m : Movable inner words mapping est durations j)
     → IsTree (m .J) (m .estOrder) (set (m .leaves) (getD mapping j 0) gray) inner words′

@@ -37,7 +37,7 @@ module _ (before : DisjunctivePropagator) (es ls : List ℤ) where
 
   -- An accepted run leaves that trace: its answer, its leaf changes, the earliest starts, the words of its posts and reasons over what stood in the lent
   -- slices, which have room for them.
-  pub record Left (posts atoms : List ℤ) (r : Outcome) (changed : ℕ) (es′ posts′ atoms′ : List ℤ) : Type 0 where
+  pub record RunLeft (posts atoms : List ℤ) (r : Outcome) (changed : ℕ) (es′ posts′ atoms′ : List ℤ) : Type 0 where
     pub answer : outcomeNumbers r ≡ traceNumbers traceOf
     pub changes : changed ≡ traceOf .changes
     pub changes-most : changed ≤ 4 * before .count - 3
@@ -61,4 +61,4 @@ pub record Ran (before : DisjunctivePropagator) (es ls : List ℤ) (bars : Bool)
   pub keeps : r .«record» ≡ before
   pub refused : (runNumber before es ls bars (length posts) (length atoms) ≡ 0 → ⊥)
       → Kept before es ls (runNumber before es ls bars (length posts) (length atoms)) posts atoms (r .outcome) (r .changes) es′ posts′ atoms′
-  pub accepted : runNumber before es ls bars (length posts) (length atoms) ≡ 0 → Left before es ls posts atoms (r .outcome) (r .changes) es′ posts′ atoms′
+  pub accepted : runNumber before es ls bars (length posts) (length atoms) ≡ 0 → RunLeft before es ls posts atoms (r .outcome) (r .changes) es′ posts′ atoms′

@@ -6,11 +6,12 @@ use Prim.Native.Nat.{ℕ, _+_, _*_, _^_, _≤_, _<_}
 use lib.IntN.{ℤ}
 use lib.ListN.{length, getD}
 use lib.Seq.{sets}
-use Rattle.integers.specs.Limits.{TASKS}
+use Rattle.integers.specs.Limits.{TASKS, INNER}
 use Rattle.integers.specs.Moments.{instant, zeroAt}
 use Rattle.integers.specs.Orders.{index}
 use Rattle.scheduling.specs.Scheduling.{natural, Tasks, Proper, processing, completion}
 use Rattle.scheduling.specs.Moments.{ByEarliest, ByCompletion}
+use Rattle.trees.specs.declared.complete_tree.TreeSize.{TreeSize}
 use Rattle.trees.specs.Trees.{Limited, IsTree}
 use Rattle.trees.specs.Shapes.{heightFor}
 use Rattle.runs.specs.Runs.{State}
@@ -32,23 +33,28 @@ pub record Holds (n : ℕ) (f : ℕ → ℕ) (array : List ℕ) : Type 0 where
   pub size : length array ≡ TASKS
   pub at : (k : ℕ) → k < n → getD array k 0 ≡ f k
 
+-- a tree that the arrays have room for
+pub record SizeFits (size : TreeSize) : Type 0 where
+  pub leaves : size .leaves ≤ TASKS
+  pub inner : size .inner ≤ INNER
+
 -- The arrays that a run reads: the earliest starts and the durations of the tasks, the task of each leaf and the leaf of each task; and the tree's size.
-pub record Arrays (J : Tasks natural) (estOrder : List ℕ) (n inner height : ℕ) (est dur leaves mapping : List ℕ) : Type 0 where
-  pub count : J .count ≡ n
-  pub starts : Holds n (J .earliest) est
-  pub durations : Holds n (J .duration) dur
-  pub tasks : Holds n (λ j. getD estOrder j 0) leaves
-  pub places : (k : ℕ) → k < n → getD mapping k 0 ≡ index estOrder k
-  pub tall : height ≡ heightFor n
+pub record Arrays (J : Tasks natural) (estOrder : List ℕ) (size : TreeSize) (est durations reverseMapping mapping : List ℕ) : Type 0 where
+  pub count : J .count ≡ size .leaves
+  pub starts : Holds (size .leaves) (J .earliest) est
+  pub lasts : Holds (size .leaves) (J .duration) durations
+  pub reverse-mapping : Holds (size .leaves) (λ j. getD estOrder j 0) reverseMapping
+  pub places : (k : ℕ) → k < size .leaves → getD mapping k 0 ≡ index estOrder k
+  pub tall : size .height ≡ heightFor (size .leaves)
 
 -- What a run has got to, at the state st: the tree shows its leaves, the slices hold its starts, posts and reasons over what stood there at entry, and its leaf
 -- changes are counted.
-pub record At (J : Tasks natural) (estOrder : List ℕ) (ps₀ as₀ : List ℤ) (st : State) (inner : ℕ) (words : List ℕ) (es ps as′ : List ℤ)
+pub record At (J : Tasks natural) (estOrder : List ℕ) (posts₀ atoms₀ : List ℤ) (st : State) (inner : ℕ) (words : List ℕ) (es posts atoms : List ℤ)
     (many far changed : ℕ) : Type 0 where
   pub tree : IsTree J estOrder (st .leaves) inner words
   pub starts : es ≡ map (instant zeroAt) (st .starts)
-  pub posts : ps ≡ sets ps₀ 0 (postWords 0 (st .posts))
-  pub atoms : as′ ≡ sets as₀ 0 (atomWords (reasons (st .posts)))
+  pub post-words : posts ≡ sets posts₀ 0 (postWords 0 (st .posts))
+  pub atom-words : atoms ≡ sets atoms₀ 0 (atomWords (reasons (st .posts)))
   pub posted : many ≡ length (st .posts)
   pub explained : far ≡ length (reasons (st .posts))
   pub counted : changed ≡ st .changes

@@ -13,6 +13,7 @@ use runs::outcome::Finished;
 use runs::outcome::Outcome;
 use sorts::sort_numbers;
 use sorts::sort_numbers_down;
+use trees::complete_tree::TreeSize;
 use trees::complete_tree::leaf_places;
 use trees::disjunctive_task::DisjunctiveTask;
 use trees::disjunctive_task::LeafPlace;
@@ -22,71 +23,27 @@ use trees::disjunctive_task::task_of;
 use trees::theta_lambda_tree::Responsible;
 use trees::theta_lambda_tree::ThetaLambdaTree;
 ghost use lib.ListN.{length};
-ghost use Rattle.propagator.specs.Ran.{Runnable, Left, Ran};
-ghost use Prim.Native.Nat.{_≤_, ℕ, _+_, _*_};
-ghost use Rattle.integers.specs.Limits.{TASKS, INNER, ATOMS};
+ghost use Rattle.propagator.specs.Ran.{Runnable, RunLeft, Ran};
+ghost use mathlib.Core.Path.{_≡_};
+ghost use Prim.Native.Nat.{_≤_, _<_, ℕ, _+_, _*_, _^_};
+ghost use Rattle.integers.specs.Limits.{ATOMS};
 ghost use Rattle.trees.specs.Ects.{exceeds, raisedTo};
 ghost use Rattle.trees.specs.Leaves.{ect, sum};
 ghost use Rattle.trees.specs.ArraySearches.{thetaIn};
 ghost use Rattle.trees.specs.Operations.{Held, Answers, Tall};
-ghost use Rattle.explanations.specs.Explanations.{Overloaded, Preceded};
+ghost use Rattle.explanations.specs.Explanations.{ConflictExplainable, PropagationExplainable};
+ghost use Rattle.propagator.specs.RunArrays.{SizeFits};
 ghost use Rattle.propagator.specs.FilledTheta.{Fillable, Filled};
-ghost use Rattle.propagator.specs.EdgeFinding.{Conflicted, conflictOf, Begun, Ended};
+ghost use Rattle.propagator.specs.EdgeFinding.{ConflictExplained, conflictOf, EdgeFindable, EdgeFound};
 ghost use Rattle.propagator.specs.MovedToLambda.{Movable, Moved};
-ghost use Rattle.propagator.specs.Candidates.{Proposes, reasonOf, Posted, Standing, Considered, AllConsidered, Responsible-for};
+ghost use Rattle.propagator.specs.Candidates.{nothingWritten, counted, Proposes, reasonOf, Posted, Considerable, Considered, AllConsidered};
+ghost use Rattle.propagator.specs.Candidates.{Responsible-for};
 
 // What a run hands back: the record, how the run ended, and its leaf changes.
 pub struct Run {
     pub record: DisjunctivePropagator,
     pub outcome: Outcome,
     pub changes: usize,
-}
-
-// The core of a run, for this pass and the mirrored one. It is public for the crate of the other pass, and not an open call: it tests nothing.
-pub fn run_accepted(
-    record: DisjunctivePropagator,
-    earliest: &mut [i32],
-    latest: &[i32],
-    posts: &mut [i32],
-    atoms: &mut [i32],
-) -> Finished
-    requires { ⌜ Runnable «record» (now earliest) (now latest) (length (now posts)) (length (now atoms)) ⌝ }
-    ensures { λ r. ⌜ Left «record» (now (earliest .entry)) (now (latest .entry)) (now (posts .entry)) (now (atoms .entry)) (r .outcome) (r .changes)
-        (now (earliest .exit)) (now (posts .exit)) (now (atoms .exit)) ⌝ }
-{
-    let n = record.count;
-    let mut est: [u32; TASKS] = [0; TASKS];
-    moments_of(&mut est, earliest);
-    let mut lst: [u32; TASKS] = [0; TASKS];
-    moments_of(&mut lst, latest);
-    let mut lct: [u32; TASKS] = [0; TASKS];
-    completions(&mut lct, &lst, &record.durations, n);
-    let mut tasks: [usize; TASKS] = [0; TASKS];
-    sort_numbers(&mut tasks, n, &est);
-    let mut candidates: [usize; TASKS] = [0; TASKS];
-    sort_numbers_down(&mut candidates, n, &lct);
-    let mut mapping: [usize; TASKS] = [0; TASKS];
-    leaf_places(&mut mapping, &tasks, n);
-    let mut tree = ThetaLambdaTree::new(n);
-    let inner = tree.number_of_internal_nodes;
-    let height = tree.height;
-    fill(&mut tree.nodes, inner, &tasks, &est, &record.durations, n);
-    edge_finding(
-        &mut tree.nodes,
-        earliest,
-        posts,
-        atoms,
-        &mapping,
-        &tasks,
-        &candidates,
-        &est,
-        &lst,
-        &lct,
-        &record.durations,
-        inner,
-        height,
-        n,
-    )
 }
 
 // A run on the record and the ranges, told whether their bars fit. It hands back the record, which no run changes.
@@ -127,43 +84,198 @@ pub fn propagate(
     }
 }
 
-// The reason of an overload, after the atoms written so far.
+// The core of a run, for this pass and the mirrored one. It tests nothing, so it is not an open call.
+pub fn run_accepted(
+    record: DisjunctivePropagator,
+    earliest: &mut [i32],
+    latest: &[i32],
+    posts: &mut [i32],
+    atoms: &mut [i32],
+) -> Finished
+    requires { ⌜ Runnable «record» (now earliest) (now latest) (length (now posts)) (length (now atoms)) ⌝ }
+    ensures { λ r. ⌜ RunLeft «record» (now (earliest .entry)) (now (latest .entry)) (now (posts .entry)) (now (atoms .entry)) (r .outcome) (r .changes)
+        (now (earliest .exit)) (now (posts .exit)) (now (atoms .exit)) ⌝ }
+{
+    let n = record.count;
+    let mut est: [u32; TASKS] = [0; TASKS];
+    moments_of(&mut est, earliest);
+    let mut lst: [u32; TASKS] = [0; TASKS];
+    moments_of(&mut lst, latest);
+    let mut lct: [u32; TASKS] = [0; TASKS];
+    completions(&mut lct, &lst, &record.durations, n);
+    let mut reverse_mapping: [usize; TASKS] = [0; TASKS];
+    sort_numbers(&mut reverse_mapping, n, &est);
+    let mut sorted_tasks: [usize; TASKS] = [0; TASKS];
+    sort_numbers_down(&mut sorted_tasks, n, &lct);
+    let mut mapping: [usize; TASKS] = [0; TASKS];
+    leaf_places(&mut mapping, &reverse_mapping, n);
+    let mut tree = ThetaLambdaTree::new(n);
+    let size = TreeSize {
+        inner: tree.number_of_internal_nodes,
+        height: tree.height,
+        leaves: n,
+    };
+    fill(
+        &mut tree.nodes,
+        size.inner,
+        &reverse_mapping,
+        &est,
+        &record.durations,
+        n,
+    );
+    edge_finding(
+        &mut tree.nodes,
+        earliest,
+        posts,
+        atoms,
+        &mapping,
+        &reverse_mapping,
+        &sorted_tasks,
+        &est,
+        &lst,
+        &lct,
+        &record.durations,
+        size,
+    )
+}
+
+// Performs the edge-finding algorithm (see `DisjunctivePropagator` for an intuition and the work on which it is based). Every task is in Theta, the sorted
+// tasks go from there to Lambda one by one, and the tasks of Lambda are considered after each.
+fn edge_finding<'a>(
+    nodes: &mut [u32; TREEWORDS],
+    earliest: &mut [i32],
+    posts: &mut [i32],
+    atoms: &mut [i32],
+    mapping: &'a [usize; TASKS],
+    reverse_mapping: &'a [usize; TASKS],
+    sorted_tasks: &'a [usize; TASKS],
+    est: &'a [u32; TASKS],
+    lst: &'a [u32; TASKS],
+    lct: &'a [u32; TASKS],
+    durations: &'a [u32; TASKS],
+    size: TreeSize,
+) -> Finished
+    requires { ⌜ EdgeFindable size (now nodes) (now earliest) (now posts) (now atoms) (now est) (now lst) (now lct) (now durations) (now «reverse_mapping»)
+        (now «sorted_tasks») (now mapping) ⌝ }
+    ensures { λ r. ⌜ ((s : EdgeFindable size (now (nodes .entry)) (now (earliest .entry)) (now (posts .entry)) (now (atoms .entry)) (now (est .entry))
+        (now (lst .entry)) (now (lct .entry)) (now (durations .entry)) (now («reverse_mapping» .entry)) (now («sorted_tasks» .entry)) (now (mapping .entry)))
+        → EdgeFound (s .J) (s .estOrder) (s .lctOrder) (now (posts .entry)) (now (atoms .entry)) (r .outcome) (r .changes) (now (earliest .exit))
+        (now (posts .exit)) (now (atoms .exit))) ⌝ }
+{
+    let n = size.leaves;
+    let mut w = Written::new(n);
+    let mut index: usize = 0;
+    while index + 1 < n {
+        let j = sorted_tasks[index];
+        let lct_j = lct[j];
+        if overloads(nodes, lct_j) {
+            return overload(
+                atoms,
+                w,
+                nodes,
+                reverse_mapping,
+                est,
+                durations,
+                size,
+                lct_j,
+            );
+        }
+        move_to_lambda(nodes, size.inner, mapping, est, durations, j);
+        index += 1;
+        match consider_all(
+            nodes,
+            earliest,
+            posts,
+            atoms,
+            w.counted(2),
+            mapping,
+            reverse_mapping,
+            est,
+            lst,
+            durations,
+            size,
+            lct[sorted_tasks[index]],
+        ) {
+            Turn::On(x) => w = x,
+            Turn::Emptied(x) => return x.finished(Outcome::Emptied(x.posts)),
+        }
+    }
+    w.finished(Outcome::Done(w.posts))
+}
+
+// Puts every task into Theta. The source adds them one by one; here the leaves come first and then each inner node once, which leaves the same tree.
+fn fill<'a>(
+    nodes: &mut [u32; TREEWORDS],
+    inner: usize,
+    reverse_mapping: &'a [usize; TASKS],
+    est: &'a [u32; TASKS],
+    durations: &'a [u32; TASKS],
+    n: usize,
+)
+    requires { ⌜ Fillable inner n (now nodes) (now «reverse_mapping») (now est) (now durations) ⌝ }
+    ensures { λ _. ⌜ Filled inner n (now (nodes .entry)) (now (nodes .exit)) (now («reverse_mapping» .entry)) (now (est .entry)) (now (durations .entry)) ⌝ }
+{
+    let mut x: usize = 0;
+    while x < n {
+        let id = task_of(reverse_mapping, LeafPlace(x));
+        let i = id.0;
+        let task = DisjunctiveTask {
+            start_time: est[i],
+            processing_time: durations[i],
+            id,
+        };
+        ThetaLambdaTree::lay_in_theta(nodes, inner, LeafPlace(x), task);
+        x += 1;
+    }
+    ThetaLambdaTree::rebuild(nodes, inner);
+}
+
+// Whether Theta overloads: its ect is past the level's lct.
+fn overloads(nodes: &[u32; TREEWORDS], lct: u32) -> bool
+    ensures { λ r. ⌜ Answers (λ J estOrder ls. exceeds (ect J estOrder ls) lct) (now (nodes .entry)) r ⌝ }
+{
+    let ect = ThetaLambdaTree::ect(nodes);
+    ect.exceeds(lct)
+}
+
+// The end of a run by an overload: its reason stands after the atoms written so far.
 fn overload<'a>(
     atoms: &mut [i32],
     written: Written,
     nodes: &'a [u32; TREEWORDS],
-    tasks: &'a [usize; TASKS],
+    reverse_mapping: &'a [usize; TASKS],
     est: &'a [u32; TASKS],
     durations: &'a [u32; TASKS],
-    inner: usize,
-    n: usize,
+    size: TreeSize,
     lct: u32,
-) -> Outcome
-    requires { ⌜ ((h : Held inner (now nodes))
-        × (Overloaded (length (now atoms)) (written .atoms) (thetaIn (now nodes) inner (now tasks) n) (now est) (now durations)
-        (sum (h .J) (h .estOrder) (h .leaves)) lct) × (n ≤ TASKS) × (inner ≤ INNER)) ⌝ }
-    ensures { λ r. ⌜ ((h : Held inner (now (nodes .entry)))
-        → Conflicted (now (atoms .entry)) (now (atoms .exit)) written r (conflictOf h (now (tasks .entry)) n (now (est .entry)) (now (durations .entry)) lct)) ⌝ }
+) -> Finished
+    requires { ⌜ ((h : Held (size .inner) (now nodes))
+        × (ConflictExplainable (length (now atoms)) (written .atoms) (thetaIn (now nodes) (size .inner) (now «reverse_mapping») (size .leaves)) (now est)
+        (now durations)
+        (sum (h .J) (h .estOrder) (h .leaves)) lct) × SizeFits size) ⌝ }
+    ensures { λ r. ⌜ ((h : Held (size .inner) (now (nodes .entry)))
+        → ConflictExplained (now (atoms .entry)) (now (atoms .exit)) written r
+        (conflictOf h (now («reverse_mapping» .entry)) (size .leaves) (now (est .entry)) (now (durations .entry)) lct)) ⌝ }
 {
-    let p = ThetaLambdaTree::sum_of_processing_times(nodes);
+    let p_theta = ThetaLambdaTree::sum_of_processing_times(nodes);
     let at = written.atoms;
     let end = create_conflict_explanation(
         atoms,
         at,
         nodes,
-        tasks,
-        inner,
-        n,
+        reverse_mapping,
+        size.inner,
+        size.leaves,
         est,
         durations,
-        p,
+        p_theta,
         lct,
     );
-    Outcome::Overload {
+    written.finished(Outcome::Overload {
         posts: written.posts,
         first: at,
         count: end - at,
-    }
+    })
 }
 
 // Moves task j from Theta to Lambda. The source empties its leaf first; the gray leaf goes over the white one here, which leaves the same tree.
@@ -187,301 +299,80 @@ fn move_to_lambda<'a>(
     ThetaLambdaTree::add_to_lambda(nodes, inner, place, task);
 }
 
-// Whether Theta overloads: its ect is past the level's lct.
-fn overloads(nodes: &[u32; TREEWORDS], lct: u32) -> bool
-    ensures { λ r. ⌜ Answers (λ J estOrder ls. exceeds (ect J estOrder ls) lct) (now (nodes .entry)) r ⌝ }
-{
-    let ect = ThetaLambdaTree::ect(nodes);
-    ect.exceeds(lct)
-}
-
-// The levels of edge finding: the candidates in order of falling lct go from Theta to Lambda, and Lambda is considered after each.
-pub fn edge_finding<'a>(
-    nodes: &mut [u32; TREEWORDS],
-    earliest: &mut [i32],
-    posts: &mut [i32],
-    atoms: &mut [i32],
-    mapping: &'a [usize; TASKS],
-    tasks: &'a [usize; TASKS],
-    candidates: &'a [usize; TASKS],
-    est: &'a [u32; TASKS],
-    lst: &'a [u32; TASKS],
-    lct: &'a [u32; TASKS],
-    durations: &'a [u32; TASKS],
-    inner: usize,
-    height: usize,
-    n: usize,
-) -> Finished
-    requires { ⌜ Begun n inner height (now nodes) (now earliest) (now posts) (now atoms) (now est) (now lst) (now lct) (now durations) (now tasks)
-        (now candidates) (now mapping) ⌝ }
-    ensures { λ r. ⌜ ((s : Begun n inner height (now (nodes .entry)) (now (earliest .entry)) (now (posts .entry)) (now (atoms .entry)) (now (est .entry))
-        (now (lst .entry)) (now (lct .entry)) (now (durations .entry)) (now (tasks .entry)) (now (candidates .entry)) (now (mapping .entry)))
-        → Ended (s .J) (s .estOrder) (s .lctOrder) (now (posts .entry)) (now (atoms .entry)) (r .outcome) (r .changes) (now (earliest .exit))
-        (now (posts .exit)) (now (atoms .exit))) ⌝ }
-{
-    let mut w = Written {
-        posts: 0,
-        atoms: 0,
-        changes: n,
-    };
-    let mut index: usize = 0;
-    while index + 1 < n {
-        let j = candidates[index];
-        let lct_j = lct[j];
-        if overloads(nodes, lct_j) {
-            let outcome = overload(atoms, w, nodes, tasks, est, durations, inner, n, lct_j);
-            return Finished {
-                outcome,
-                changes: w.changes,
-            };
-        }
-        move_to_lambda(nodes, inner, mapping, est, durations, j);
-        let changes = w.changes + 2;
-        let moved = Written {
-            posts: w.posts,
-            atoms: w.atoms,
-            changes,
-        };
-        index += 1;
-        let lct_next = lct[candidates[index]];
-        let turn = consider_all(
-            nodes,
-            earliest,
-            posts,
-            atoms,
-            moved,
-            mapping,
-            tasks,
-            est,
-            lst,
-            durations,
-            inner,
-            height,
-            n,
-            lct_next,
-        );
-        match turn {
-            Turn::On(x) => {
-                w = x;
-            }
-            Turn::Emptied(x) => {
-                return Finished {
-                    outcome: Outcome::Emptied(x.posts),
-                    changes: x.changes,
-                };
-            }
-        }
-    }
-    Finished {
-        outcome: Outcome::Done(w.posts),
-        changes: w.changes,
-    }
-}
-
-// Puts every task into Theta. The source adds them one by one; here the leaves come first and then each inner node once, which leaves the same tree.
-pub fn fill<'a>(
-    nodes: &mut [u32; TREEWORDS],
-    inner: usize,
-    tasks: &'a [usize; TASKS],
-    est: &'a [u32; TASKS],
-    durations: &'a [u32; TASKS],
-    n: usize,
-)
-    requires { ⌜ Fillable inner n (now nodes) (now tasks) (now est) (now durations) ⌝ }
-    ensures { λ _. ⌜ Filled inner n (now (nodes .entry)) (now (nodes .exit)) (now (tasks .entry)) (now (est .entry)) (now (durations .entry)) ⌝ }
-{
-    let mut x: usize = 0;
-    while x < n {
-        let id = task_of(tasks, LeafPlace(x));
-        let i = id.0;
-        let task = DisjunctiveTask {
-            start_time: est[i],
-            processing_time: durations[i],
-            id,
-        };
-        ThetaLambdaTree::lay_in_theta(nodes, inner, LeafPlace(x), task);
-        x += 1;
-    }
-    ThetaLambdaTree::rebuild(nodes, inner);
-}
-
 // The posts and the atoms written so far, and the leaf changes so far as the source makes them: it empties a leaf before it changes its colour.
-pub struct Written {
-    pub posts: usize,
-    pub atoms: usize,
-    pub changes: usize,
+struct Written {
+    posts: usize,
+    atoms: usize,
+    changes: usize,
+}
+
+impl Written {
+    // Nothing is written.
+    fn new(changes: usize) -> Written
+        ensures { λ r. ⌜ r ≡ nothingWritten changes ⌝ }
+    {
+        Written {
+            posts: 0,
+            atoms: 0,
+            changes,
+        }
+    }
+
+    // With more leaf changes.
+    fn counted(self, more: usize) -> Written
+        requires { ⌜ self .changes + more < 2 ^ 64 ⌝ }
+        ensures { λ r. ⌜ r ≡ counted self more ⌝ }
+    {
+        Written {
+            posts: self.posts,
+            atoms: self.atoms,
+            changes: self.changes + more,
+        }
+    }
+
+    // How a run ends, with its leaf changes.
+    fn finished(self, outcome: Outcome) -> Finished
+        ensures { λ r. ⌜ (r .outcome ≡ outcome) × (r .changes ≡ self .changes) ⌝ }
+    {
+        Finished {
+            outcome,
+            changes: self.changes,
+        }
+    }
 }
 
 // The tasks of Lambda were considered, or a post emptied a range.
-pub enum Turn {
+enum Turn {
     On(Written),
     Emptied(Written),
 }
 
-// The task to consider next: one of Lambda for which the edge-finding condition holds.
-fn candidate<'a>(
-    nodes: &'a [u32; TREEWORDS],
-    tasks: &'a [usize; TASKS],
-    inner: usize,
-    height: usize,
-    lct: u32,
-) -> Responsible
-    requires { ⌜ ((h : Held inner (now nodes)) × Tall h height) ⌝ }
-    ensures { λ r. ⌜ Proposes inner height (now (nodes .entry)) (now (tasks .entry)) lct r ⌝ }
-{
-    let ect_bar = ThetaLambdaTree::ect_bar(nodes);
-    if !ect_bar.exceeds(lct) {
-        return Responsible::Nothing;
-    }
-    ThetaLambdaTree::responsible_ect_bar(nodes, tasks, inner, height)
-}
-
-// Posts that task i starts at the bound or later, with its reason.
-fn post<'a>(
-    posts: &mut [i32],
-    atoms: &mut [i32],
-    written: Written,
-    nodes: &'a [u32; TREEWORDS],
-    tasks: &'a [usize; TASKS],
-    est: &'a [u32; TASKS],
-    durations: &'a [u32; TASKS],
-    inner: usize,
-    n: usize,
-    i: usize,
-    bound: u32,
-    lct: u32,
-) -> Written
-    requires { ⌜ ((h : Held inner (now nodes))
-        × (Preceded (length (now atoms)) (written .atoms) (thetaIn (now nodes) inner (now tasks) n) (now est) (now durations)
-        (sum (h .J) (h .estOrder) (h .leaves)) lct i bound)
-        × (4 * written .posts + 4 ≤ length (now posts)) × (n ≤ TASKS) × (inner ≤ INNER) × (written .atoms ≤ ATOMS)) ⌝ }
-    ensures { λ r. ⌜ ((h : Held inner (now (nodes .entry)))
-        → Posted (now (posts .entry)) (now (atoms .entry)) (now (posts .exit)) (now (atoms .exit)) written r i bound
-        (reasonOf h (now (tasks .entry)) n (now (est .entry)) (now (durations .entry)) i bound lct)) ⌝ }
-{
-    let p = ThetaLambdaTree::sum_of_processing_times(nodes);
-    let at = written.atoms;
-    let end = create_propagation_explanation(
-        atoms,
-        at,
-        nodes,
-        tasks,
-        inner,
-        n,
-        est,
-        durations,
-        p,
-        lct,
-        i,
-        bound,
-    );
-    write_post(posts, written.posts, i, bound, at, end - at);
-    Written {
-        posts: written.posts + 1,
-        atoms: end,
-        changes: written.changes,
-    }
-}
-
-// A task's earliest start, raised to the ect of Theta where that is later.
-fn raised_start(nodes: &[u32; TREEWORDS], start: u32) -> u32
-    ensures { λ r. ⌜ Answers (λ J estOrder ls. raisedTo start (ect J estOrder ls)) (now (nodes .entry)) r ⌝ }
-{
-    let ect = ThetaLambdaTree::ect(nodes);
-    ect.raised(start)
-}
-
-// Considers task i of Lambda: posts its bound where that is above its earliest start, and takes it out of Lambda.
-fn consider<'a>(
-    nodes: &mut [u32; TREEWORDS],
-    earliest: &mut [i32],
-    posts: &mut [i32],
-    atoms: &mut [i32],
-    written: Written,
-    mapping: &'a [usize; TASKS],
-    tasks: &'a [usize; TASKS],
-    est: &'a [u32; TASKS],
-    lst: &'a [u32; TASKS],
-    durations: &'a [u32; TASKS],
-    inner: usize,
-    n: usize,
-    id: LocalId,
-    lct: u32,
-) -> Turn
-    requires { ⌜ ((height : ℕ) × (x : ℕ) × (s : Standing n inner height lct (now nodes) (now earliest) (now posts) (now atoms) written (now est) (now lst)
-        (now durations) (now tasks) (now mapping)) × Responsible-for s (id .0) x) ⌝ }
-    ensures { λ r. ⌜ ((height x : ℕ) (s : Standing n inner height lct (now (nodes .entry)) (now (earliest .entry)) (now (posts .entry))
-        (now (atoms .entry)) written (now (est .entry)) (now (lst .entry)) (now (durations .entry)) (now (tasks .entry)) (now (mapping .entry)))
-        → Responsible-for s (id .0) x → Considered s r (now (nodes .exit)) (now (earliest .exit)) (now (posts .exit)) (now (atoms .exit))) ⌝ }
-{
-    let i = id.0;
-    let start = est[i];
-    let bound = raised_start(nodes, start);
-    let place = leaf_of(mapping, id);
-    if bound <= start {
-        ThetaLambdaTree::remove_from_lambda(nodes, inner, place);
-        let changes = written.changes + 1;
-        return Turn::On(Written {
-            posts: written.posts,
-            atoms: written.atoms,
-            changes,
-        });
-    }
-    let w = post(
-        posts,
-        atoms,
-        written,
-        nodes,
-        tasks,
-        est,
-        durations,
-        inner,
-        n,
-        i,
-        bound,
-        lct,
-    );
-    if bound > lst[i] {
-        return Turn::Emptied(w);
-    }
-    earliest[i] = start_of(bound);
-    ThetaLambdaTree::remove_from_lambda(nodes, inner, place);
-    let changes = w.changes + 1;
-    Turn::On(Written {
-        posts: w.posts,
-        atoms: w.atoms,
-        changes,
-    })
-}
-
 // Considers the tasks of Lambda for which the edge-finding condition holds, one after the other. Each turn takes one out, so n turns are enough.
-pub fn consider_all<'a>(
+fn consider_all<'a>(
     nodes: &mut [u32; TREEWORDS],
     earliest: &mut [i32],
     posts: &mut [i32],
     atoms: &mut [i32],
     written: Written,
     mapping: &'a [usize; TASKS],
-    tasks: &'a [usize; TASKS],
+    reverse_mapping: &'a [usize; TASKS],
     est: &'a [u32; TASKS],
     lst: &'a [u32; TASKS],
     durations: &'a [u32; TASKS],
-    inner: usize,
-    height: usize,
-    n: usize,
+    size: TreeSize,
     lct: u32,
 ) -> Turn
-    requires { ⌜ Standing n inner height lct (now nodes) (now earliest) (now posts) (now atoms) written (now est) (now lst) (now durations) (now tasks)
+    requires { ⌜ Considerable size lct (now nodes) (now earliest) (now posts) (now atoms) written (now est) (now lst) (now durations) (now «reverse_mapping»)
         (now mapping) ⌝ }
-    ensures { λ r. ⌜ ((s : Standing n inner height lct (now (nodes .entry)) (now (earliest .entry)) (now (posts .entry)) (now (atoms .entry)) written
-        (now (est .entry)) (now (lst .entry)) (now (durations .entry)) (now (tasks .entry)) (now (mapping .entry)))
+    ensures { λ r. ⌜ ((s : Considerable size lct (now (nodes .entry)) (now (earliest .entry)) (now (posts .entry)) (now (atoms .entry)) written
+        (now (est .entry)) (now (lst .entry)) (now (durations .entry)) (now («reverse_mapping» .entry)) (now (mapping .entry)))
         → AllConsidered s r (now (nodes .exit)) (now (earliest .exit)) (now (posts .exit)) (now (atoms .exit))) ⌝ }
 {
     let mut w = written;
-    let mut left = n;
+    let mut left = size.leaves;
     while left > 0 {
         left -= 1;
-        let next = candidate(nodes, tasks, inner, height, lct);
+        let next = candidate(nodes, reverse_mapping, size, lct);
         let Responsible::Task(id) = next else {
             return Turn::On(w);
         };
@@ -492,23 +383,140 @@ pub fn consider_all<'a>(
             atoms,
             w,
             mapping,
-            tasks,
+            reverse_mapping,
             est,
             lst,
             durations,
-            inner,
-            n,
+            size,
             id,
             lct,
         );
         match turn {
-            Turn::On(x) => {
-                w = x;
-            }
-            Turn::Emptied(x) => {
-                return Turn::Emptied(x);
-            }
+            Turn::On(x) => w = x,
+            Turn::Emptied(x) => return Turn::Emptied(x),
         }
     }
     Turn::On(w)
+}
+
+// The task to consider next: one of Lambda for which the edge-finding condition holds.
+fn candidate<'a>(
+    nodes: &'a [u32; TREEWORDS],
+    reverse_mapping: &'a [usize; TASKS],
+    size: TreeSize,
+    lct: u32,
+) -> Responsible
+    requires { ⌜ ((h : Held (size .inner) (now nodes)) × Tall h (size .height)) ⌝ }
+    ensures { λ r. ⌜ Proposes size (now (nodes .entry)) (now («reverse_mapping» .entry)) lct r ⌝ }
+{
+    let ect_bar = ThetaLambdaTree::ect_bar(nodes);
+    if !ect_bar.exceeds(lct) {
+        return Responsible::Nothing;
+    }
+    ThetaLambdaTree::responsible_ect_bar(nodes, reverse_mapping, size.inner, size.height)
+}
+
+// Considers task i of Lambda. Its new bound is posted where it is above its earliest start, and i leaves Lambda.
+fn consider<'a>(
+    nodes: &mut [u32; TREEWORDS],
+    earliest: &mut [i32],
+    posts: &mut [i32],
+    atoms: &mut [i32],
+    written: Written,
+    mapping: &'a [usize; TASKS],
+    reverse_mapping: &'a [usize; TASKS],
+    est: &'a [u32; TASKS],
+    lst: &'a [u32; TASKS],
+    durations: &'a [u32; TASKS],
+    size: TreeSize,
+    id: LocalId,
+    lct: u32,
+) -> Turn
+    requires { ⌜ ((x : ℕ) × (s : Considerable size lct (now nodes) (now earliest) (now posts) (now atoms) written (now est) (now lst)
+        (now durations) (now «reverse_mapping») (now mapping)) × Responsible-for s (id .0) x) ⌝ }
+    ensures { λ r. ⌜ ((x : ℕ) (s : Considerable size lct (now (nodes .entry)) (now (earliest .entry)) (now (posts .entry))
+        (now (atoms .entry)) written (now (est .entry)) (now (lst .entry)) (now (durations .entry)) (now («reverse_mapping» .entry)) (now (mapping .entry)))
+        → Responsible-for s (id .0) x → Considered s r (now (nodes .exit)) (now (earliest .exit)) (now (posts .exit)) (now (atoms .exit))) ⌝ }
+{
+    let i = id.0;
+    let start = est[i];
+    let new_bound = raised_start(nodes, start);
+    let mut w = written;
+    if new_bound > start {
+        w = post(
+            posts,
+            atoms,
+            written,
+            nodes,
+            reverse_mapping,
+            est,
+            durations,
+            size,
+            i,
+            new_bound,
+            lct,
+        );
+    }
+    if new_bound > lst[i] {
+        return Turn::Emptied(w);
+    }
+    earliest[i] = start_of(new_bound);
+    let place = leaf_of(mapping, id);
+    ThetaLambdaTree::remove_from_lambda(nodes, size.inner, place);
+    Turn::On(w.counted(1))
+}
+
+// A task's earliest start, raised to the ect of Theta where that is later.
+fn raised_start(nodes: &[u32; TREEWORDS], start: u32) -> u32
+    ensures { λ r. ⌜ Answers (λ J estOrder ls. raisedTo start (ect J estOrder ls)) (now (nodes .entry)) r ⌝ }
+{
+    let ect = ThetaLambdaTree::ect(nodes);
+    ect.raised(start)
+}
+
+// Posts that task i starts at the new bound or later, with its reason.
+fn post<'a>(
+    posts: &mut [i32],
+    atoms: &mut [i32],
+    written: Written,
+    nodes: &'a [u32; TREEWORDS],
+    reverse_mapping: &'a [usize; TASKS],
+    est: &'a [u32; TASKS],
+    durations: &'a [u32; TASKS],
+    size: TreeSize,
+    i: usize,
+    new_bound: u32,
+    lct: u32,
+) -> Written
+    requires { ⌜ ((h : Held (size .inner) (now nodes))
+        × (PropagationExplainable (length (now atoms)) (written .atoms) (thetaIn (now nodes) (size .inner) (now «reverse_mapping») (size .leaves)) (now est)
+        (now durations)
+        (sum (h .J) (h .estOrder) (h .leaves)) lct i «new_bound»)
+        × (4 * written .posts + 4 ≤ length (now posts)) × SizeFits size × (written .atoms ≤ ATOMS)) ⌝ }
+    ensures { λ r. ⌜ ((h : Held (size .inner) (now (nodes .entry)))
+        → Posted (now (posts .entry)) (now (atoms .entry)) (now (posts .exit)) (now (atoms .exit)) written r i «new_bound»
+        (reasonOf h (now («reverse_mapping» .entry)) (size .leaves) (now (est .entry)) (now (durations .entry)) i «new_bound» lct)) ⌝ }
+{
+    let p_theta = ThetaLambdaTree::sum_of_processing_times(nodes);
+    let at = written.atoms;
+    let end = create_propagation_explanation(
+        atoms,
+        at,
+        nodes,
+        reverse_mapping,
+        size.inner,
+        size.leaves,
+        est,
+        durations,
+        p_theta,
+        lct,
+        i,
+        new_bound,
+    );
+    write_post(posts, written.posts, i, new_bound, at, end - at);
+    Written {
+        posts: written.posts + 1,
+        atoms: end,
+        changes: written.changes,
+    }
 }

@@ -14,7 +14,18 @@ ghost use Rattle.scheduling.specs.Scheduling.{total};
 ghost use Rattle.records.specs.Records.{countFits, sumFits, totalTrue, lastsAt, unusedZero, recordOf, lawfulRecord, durationOf, durationAt};
 ghost use Rattle.records.specs.Records.{creationTests, zeroRecord, Creates};
 
-// Places from the count on are 0.
+// The propagator that uses disjunctive reasoning to propagate the disjunctive constraint (https://sofdem.github.io/gccat/gccat/Cdisjunctive.html).
+//
+// It implements edge finding as specified in [1] with explanations based on [2]. The reasoning is based on finding a task i and a subset of tasks: if i were
+// scheduled at its earliest start time, it would overflow the resource capacity, and thus i should be scheduled after all activities from this set.
+//
+// It follows the MiniZinc specification of disjunctive_strict (https://docs.minizinc.dev/en/stable/lib-globals-scheduling.html).
+//
+// Bibliography
+// - [1] P. Vilím, ‘Filtering algorithms for the unary resource constraint’, Archives of Control Sciences, vol. 18, no. 2, pp. 159–202, 2008.
+// - [2] R. A. Vasile, ‘Evaluating the Impact of Explanations on the Performance of an Edge-Finding Propagator’.
+//
+// Places of the durations from the count on are 0.
 #[repr(C)]
 pub struct DisjunctivePropagator {
     pub count: usize,

@@ -96,12 +96,12 @@ module _ (z : ℕ) (J : Tasks natural) (c : Chain z J) where
     differ s t q r e = omega (arith, ord .back s (omega arith), ord .back t r, ap (index lctOrder) e)
 
     -- so at level t it is that of task n − 1 − t
-    candidate-is : (t : ℕ) → t < n → suc (t + L t) ≡ n
-    candidate-is zero q =
+    sorted-task-is : (t : ℕ) → t < n → suc (t + L t) ≡ n
+    sorted-task-is zero q =
         let k : ℕ = n - 1 in
         let r : k < n = omega arith in
         omega (arith, later 0 (index lctOrder k) (omega arith) (ord .placed k r), ord .there k r, ord .task 0 q)
-    candidate-is (suc t) q = by (candidate-is t (omega arith)) (decLe (index lctOrder k) t)
+    sorted-task-is (suc t) q = by (sorted-task-is t (omega arith)) (decLe (index lctOrder k) t)
       where
         k : ℕ
         k = suc (L (suc t))
@@ -115,11 +115,11 @@ module _ (z : ℕ) (J : Tasks natural) (c : Chain z J) where
 
     -- f tasks are left behind the one of level t
     module _ (t f : ℕ) (left : suc (t + f) ≡ n) where
-      candidate-f : L t ≡ f
-      candidate-f = omega (arith, candidate-is t (omega arith))
+      sorted-task-f : L t ≡ f
+      sorted-task-f = omega (arith, sorted-task-is t (omega arith))
 
       lct-f : lct o J estOrder lctOrder t ≡ z + 10 * suc f
-      lct-f = let q : L t < n = ord .task t (omega arith) in omega (arith, candidate-f, c .single (L t) q, c .lasts (L t) q)
+      lct-f = let q : L t < n = ord .task t (omega arith) in omega (arith, sorted-task-f, c .single (L t) q, c .lasts (L t) q)
 
       in-below : (k : ℕ) → In J (below (suc f)) k → k ≤ f
       in-below k h = omega (arith, ltb-true k (suc f) (h .mem))
@@ -213,7 +213,7 @@ module _ (z : ℕ) (J : Tasks natural) (c : Chain z J) where
       mid = grayed st (index estOrder (L t))
 
       mid-shows : Shows (mid .leaves) (below (suc f)) (nothing with suc f)
-      mid-shows = subst (λ (k : ℕ). Shows (set (st .leaves) (index estOrder k) gray) (below (suc f)) (nothing with suc f)) (sym (candidate-f t (suc f) left)) (moved f (st .leaves) (omega arith) s)
+      mid-shows = subst (λ (k : ℕ). Shows (set (st .leaves) (index estOrder k) gray) (below (suc f)) (nothing with suc f)) (sym (sorted-task-f t (suc f) left)) (moved f (st .leaves) (omega arith) s)
 
       next : suc (suc t + f) ≡ n
       next = omega arith

@@ -31,11 +31,11 @@ use Rattle.runs.proofs.WalkClauses.{within-none, within-more, conflict-
 
 -- what the atoms say of k: nothing, or u ≤ z ≤ v
 abbrev pub Silent : List Atom → ℕ → Type 0
-Silent as′ k = (z : ℤ) → Admits as′ k z
+Silent atoms k = (z : ℤ) → Admits atoms k z
 
-pub record Says (as′ : List Atom) (k : ℕ) (u v : ℤ) : Type 0 where
-  pub told : (z : ℤ) → Admits as′ k z → (u ≤ℤ z) × (z ≤ℤ v)
-  pub tells : (z : ℤ) → u ≤ℤ z → z ≤ℤ v → Admits as′ k z
+pub record Says (atoms : List Atom) (k : ℕ) (u v : ℤ) : Type 0 where
+  pub told : (z : ℤ) → Admits atoms k z → (u ≤ℤ z) × (z ≤ℤ v)
+  pub tells : (z : ℤ) → u ≤ℤ z → z ≤ℤ v → Admits atoms k z
 
 pub joined : (xs ys : List Atom) (k : ℕ) (z : ℤ) → Admits xs k z → Admits ys k z → Admits (xs ++ ys) k z
 joined [] ys k z a b = b
@@ -179,14 +179,14 @@ module _ (o : ℕ) (J : Tasks natural) (ok : Proper J) (estOrder lctOrder : List
       by ih (inr y) ne = rw (th-out a d (omega arith) y) ih
 
   -- where the overload's walk stops ---------------------------------------------------------------------------------------------
-  pub record Stopped (c : ℕ) (as′ : List Atom) : Type 0 where
+  pub record Stopped (c : ℕ) (atoms : List Atom) : Type 0 where
     pub m : ℕ
     pub left : ℕ
     pub all : m + left ≡ n
     pub small : m < n
     pub mem : Θ (T m) ≡ true
     pub over : c < ea m + processing J (onward m)
-    pub is : as′ ≡ conflict-of o J c (processing J (onward m)) (ea m) (th m left)
+    pub is : atoms ≡ conflict-of o J c (processing J (onward m)) (ea m) (th m left)
 
   -- one step of it, where tasks are left
   conflict-on : (c p k : ℕ) (ks : List ℕ) → ltb c (J .earliest k + p) ≡ false → (ks ≡ [] → ⊥) → conflict o J c p (k ∷ ks) ≡ conflict o J c (p - J .duration k) ks
@@ -235,7 +235,7 @@ module _ (o : ℕ) (J : Tasks natural) (ok : Proper J) (estOrder lctOrder : List
     abbrev pub reach : ℕ → ℕ
     reach m = min (J .earliest i) (ea m) + processing J (onward m) + J .duration i
 
-    pub record First (a : ℕ) (as′ : List Atom) : Type 0 where
+    pub record First (a : ℕ) (atoms : List Atom) : Type 0 where
       pub m : ℕ
       pub left : ℕ
       pub all : m + left ≡ n
@@ -243,11 +243,11 @@ module _ (o : ℕ) (J : Tasks natural) (ok : Proper J) (estOrder lctOrder : List
       pub mem : Θ (T m) ≡ true
       pub over : c < reach m
       pub before : (j : ℕ) → a ≤ j → j < m → Θ (T j) ≡ true → reach j ≤ c
-      pub is : as′ ≡ propagation-of o J i b (processing J (onward m)) (min (J .earliest i) (ea m)) (th m left)
+      pub is : atoms ≡ propagation-of o J i b (processing J (onward m)) (min (J .earliest i) (ea m)) (th m left)
 
     -- one place more before the walk
-    earlier : (a : ℕ) (as′ : List Atom) → (Θ (T a) ≡ true → reach a ≤ c) → First (suc a) as′ → First a as′
-    earlier a as′ h f = record {
+    earlier : (a : ℕ) (atoms : List Atom) → (Θ (T a) ≡ true → reach a ≤ c) → First (suc a) atoms → First a atoms
+    earlier a atoms h f = record {
       m = f .m;
       left = f .left;
       all = f .all;
@@ -294,14 +294,14 @@ module _ (o : ℕ) (J : Tasks natural) (ok : Proper J) (estOrder lctOrder : List
     abbrev low : ℕ → ℕ → ℕ
     low m k = cond (onward m k) (ea m) r
 
-    pub record Second (a : ℕ) (as′ : List Atom) : Type 0 where
+    pub record Second (a : ℕ) (atoms : List Atom) : Type 0 where
       pub m : ℕ
       pub from : a ≤ m
       pub small : m < n
       pub mem : Θ (T m) ≡ true
       pub attains : ea m + processing J (onward m) ≡ b
-      pub says : (k : ℕ) → k < n → Θ k ≡ true → a ≤ rank k → Says as′ k (at (low m k)) (at (last - J .duration k))
-      pub silent : (k : ℕ) → Out a k → Silent as′ k
+      pub says : (k : ℕ) → k < n → Θ k ≡ true → a ≤ rank k → Says atoms k (at (low m k)) (at (last - J .duration k))
+      pub silent : (k : ℕ) → Out a k → Silent atoms k
 
     found-here : (d a p : ℕ) → a + suc d ≡ n → Θ (T a) ≡ true → p ≡ processing J (onward a) → b ≡ ea a + p → Second a (within o J (b - p) last (th a (suc d)))
     found-here d a p z v e att = record {

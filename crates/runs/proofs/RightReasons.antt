@@ -47,22 +47,22 @@ use Rattle.runs.proofs.ReasonWalks.{Silent, Says, says-then, left-part,
 use Rattle.runs.proofs.LevelSteps.{Measure}
 
 -- atoms that are met at each variable's own start
-met-of : (s : ℕ → ℤ) (as′ : List Atom) → ((k : ℕ) → Admits as′ k (s k)) → Every (Meets s) as′
+met-of : (s : ℕ → ℤ) (atoms : List Atom) → ((k : ℕ) → Admits atoms k (s k)) → Every (Meets s) atoms
 met-of s [] h = tt
 met-of s (a ∷ rest) h = (h (a .variable) .0 refl, met-of s rest (λ k. h k .1))
 
-least-of : (as′ : List Atom) (k : ℕ) (u v : ℤ) → u ≤ℤ v → Says as′ k u v → Least whole (Admits as′ k) u
-least-of as′ k u v q s = record { holds = s .tells u (≤ℤ-refl u) q; bounds = λ w h. (s .told w h) .0 }
+least-of : (atoms : List Atom) (k : ℕ) (u v : ℤ) → u ≤ℤ v → Says atoms k u v → Least whole (Admits atoms k) u
+least-of atoms k u v q s = record { holds = s .tells u (≤ℤ-refl u) q; bounds = λ w h. (s .told w h) .0 }
 
-greatest-of : (as′ : List Atom) (k : ℕ) (u v : ℤ) → u ≤ℤ v → Says as′ k u v → Largest whole (Admits as′ k) v
-greatest-of as′ k u v q s = record { holds = s .tells v q (≤ℤ-refl v); bounds = λ w h. (s .told w h) .1 }
+greatest-of : (atoms : List Atom) (k : ℕ) (u v : ℤ) → u ≤ℤ v → Says atoms k u v → Largest whole (Admits atoms k) v
+greatest-of atoms k u v q s = record { holds = s .tells v q (≤ℤ-refl v); bounds = λ w h. (s .told w h) .1 }
 
 between : (a b c : ℤ) → a ≤ℤ b → b ≤ℤ c → a ≤ℤ c
 between a b c h k = omega ints
 
 -- no greatest value where nothing is said
-unbounded : (as′ : List Atom) (k : ℕ) → Silent as′ k → (v : ℤ) → Largest whole (Admits as′ k) v → ⊥
-unbounded as′ k q v l =
+unbounded : (atoms : List Atom) (k : ℕ) → Silent atoms k → (v : ℤ) → Largest whole (Admits atoms k) v → ⊥
+unbounded atoms k q v l =
     let (o, h) = deep (λ _. v) 1 in
     omega (arith, plus o v 1 (h 0 (omega arith)), mono o (v +ℤ pos 1) v (l .bounds (v +ℤ pos 1) (q (v +ℤ pos 1))))
 
@@ -390,7 +390,7 @@ module _ (o : ℕ) (Z : Tasks whole) (okz : Proper Z) (deepz : (k : ℕ) → k <
           edge = edge-ℤ;
           holds = λ st sch. rule-sound Z okz st sch i (at b) edge-ℤ;
           reason-holds = subst (HoldsAtEntry Z) (sym (one .is)) at-entry;
-          reason-passes = subst (λ (as′ : List Atom). PassesWith Z as′ (consequentOf (record { task = i; bound = at b; reason = As }))) (sym (one .is)) passes;
+          reason-passes = subst (λ (atoms : List Atom). PassesWith Z atoms (consequentOf (record { task = i; bound = at b; reason = As }))) (sym (one .is)) passes;
         }
 
       -- an overload -------------------------------------------------------------------------------------------------------------

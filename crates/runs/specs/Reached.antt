@@ -7,7 +7,7 @@ use Rattle.integers.specs.Orders.{index}
 use Rattle.scheduling.specs.Scheduling.{natural, Tasks}
 use Rattle.trees.specs.Ects.{exceeds}
 use Rattle.trees.specs.Leaves.{ect}
-use Rattle.runs.specs.Runs.{State, on, grayed, allWhite, candidate, lct, inner}
+use Rattle.runs.specs.Runs.{State, on, grayed, allWhite, sortedTask, lct, inner}
 
 module _ (o : ℕ) (J : Tasks natural) (estOrder lctOrder : List ℕ) where
   -- Θ does not overload at level t
@@ -16,7 +16,7 @@ module _ (o : ℕ) (J : Tasks natural) (estOrder lctOrder : List ℕ) where
 
   -- the state in which the task of level t goes from Θ to Λ
   abbrev pub movedOn : ℕ → State → State
-  movedOn t st = grayed st (index estOrder (candidate o J estOrder lctOrder t))
+  movedOn t st = grayed st (index estOrder (sortedTask o J estOrder lctOrder t))
 
   -- the state at the head of level t
   pub data Entered : ℕ → State → Type 0 where

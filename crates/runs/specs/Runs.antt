@@ -101,11 +101,11 @@ module _ (o : ℕ) (J : Tasks natural) (estOrder lctOrder : List ℕ) where
   n = J .count
 
   -- `sorted_tasks[t]`, and its `lct_j`
-  abbrev pub candidate : ℕ → ℕ
-  candidate t = getD lctOrder t 0
+  abbrev pub sortedTask : ℕ → ℕ
+  sortedTask t = getD lctOrder t 0
 
   abbrev pub lct : ℕ → ℕ
-  lct t = completion J (candidate t)
+  lct t = completion J (sortedTask t)
 
   abbrev pub posted : State → ℕ → ℕ → ℕ → State
   posted st i b t = record {
@@ -147,7 +147,7 @@ module _ (o : ℕ) (J : Tasks natural) (estOrder lctOrder : List ℕ) where
   outer zero t st = ended st done
   outer (suc f) t st = elim (exceeds (ect J estOrder (st .leaves)) (lct t)) [
     | true ↦ ended st (overload (conflict o J (lct t) (sum J estOrder (st .leaves)) (theta J estOrder (st .leaves))))
-    | false ↦ elim (inner n (suc t) (grayed st (index estOrder (candidate t)))) [
+    | false ↦ elim (inner n (suc t) (grayed st (index estOrder (sortedTask t)))) [
       | on st′ ↦ outer f (suc t) st′
       | stop st′ ↦ ended st′ emptied
     ]

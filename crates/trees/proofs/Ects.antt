@@ -96,6 +96,11 @@ pub within-bound : (start m : ℕ) (o : Option ℕ) → raisedTo start o ≤ m �
 within-bound start m none r = refl
 within-bound start m (some v) r = le-ltb m v (omega arith)
 
+-- a raised start is not below the start
+pub raised-least : (start : ℕ) (o : Option ℕ) → start ≤ raisedTo start o
+raised-least start none = omega arith
+raised-least start (some v) = omega arith
+
 -- raised at all, it is the ect
 pub raised-some : (start b : ℕ) (o : Option ℕ) → b ≡ raisedTo start o → start < b → o ≡ some b
 raised-some start b none z q = absurd (omega arith)

@@ -46,6 +46,13 @@ pub struct Size {
     pub height: usize,
 }
 
+// The size of the tree of a run: its inner nodes, the levels above its leaves, and the leaves that have a task.
+pub struct TreeSize {
+    pub inner: usize,
+    pub height: usize,
+    pub leaves: usize,
+}
+
 // The least tree with a leaf for each of `count` tasks.
 pub fn size_for(count: usize) -> Size
     requires { ⌜ count ≤ TASKS ⌝ }

@@ -72,7 +72,14 @@ fn store(nodes: &mut [u32; TREEWORDS], i: usize, n: Node)
     nodes[k + 3] = n.sum_of_processing_times_bar;
 }
 
-// A structure for calculating the ect of a set of tasks while allowing one element from another set: its nodes, as words, and its size.
+// A structure for efficiently calculating the ECT of a set of tasks while only allowing one element from another (non-overlapping) set: its nodes, as words,
+// and its size.
+//
+// The implementation is based on [1]. The idea is to have a complete binary tree where the leaf nodes represent the tasks. These leaf nodes are sorted by EST,
+// and this allows the values of the inner nodes to be calculated using a recursive formula.
+//
+// Bibliography
+// - [1] P. Vilím, ‘Filtering algorithms for the unary resource constraint’, Archives of Control Sciences, vol. 18, no. 2, pp. 159–202, 2008.
 pub struct ThetaLambdaTree {
     pub nodes: [u32; TREEWORDS],
     pub number_of_internal_nodes: usize,

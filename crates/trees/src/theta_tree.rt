@@ -52,7 +52,13 @@ fn store(nodes: &mut [u32; THETAWORDS], i: usize, n: Node)
     nodes[k + 1] = n.sum_of_processing_times;
 }
 
-// A structure for calculating the ect of a set of tasks.
+// A structure for efficiently calculating the ECT of a set of tasks.
+//
+// The implementation is based on [1]. The idea is to have a complete binary tree where the leaf nodes represent the tasks. These leaf nodes are sorted by EST,
+// and this allows the values of the inner nodes to be calculated using a recursive formula.
+//
+// Bibliography
+// - [1] P. Vilím, ‘Filtering algorithms for the unary resource constraint’, Archives of Control Sciences, vol. 18, no. 2, pp. 159–202, 2008.
 pub struct ThetaTree {
     pub nodes: [u32; THETAWORDS],
     // The place of the leaf of each task.

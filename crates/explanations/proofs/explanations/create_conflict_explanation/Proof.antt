@@ -12,7 +12,7 @@ use Rattle.trees.specs.ArraySearches.{whiteIn, taskIn}
 use Rattle.explanations.specs.Walks.{between}
 use Rattle.explanations.specs.WrittenAtoms.{starting}
 use Rattle.post_words.specs.StoredAtoms.{Stored}
-use Rattle.explanations.specs.Explanations.{Overloaded}
+use Rattle.explanations.specs.Explanations.{ConflictExplainable}
 use Rattle.explanations.proofs.LeafWalk.{all-leaves}
 use Rattle.explanations.proofs.StoredReasons.{Overflow, overflow, overload-walk, overload-known, overload-stops, overload-writable, conflict-stored}
 use Rattle.explanations.proofs.explanations.create_conflict_explanation.Statement.{statement}
@@ -22,11 +22,12 @@ abbrev white : tie.Start → ℕ → Bool
 white c = whiteIn (c .args .nodes .now) (c .args .inner)
 
 abbrev tasks : tie.Start → ℕ → ℕ
-tasks c = taskIn (c .args .tasks .now)
+tasks c = taskIn (c .args .reverse-mapping .now)
 
 -- what is asked, of the leaves
-given : (c : tie.Start) → let a = c .args in Overloaded (length (a .atoms .now)) (a .k) (between (white c) (tasks c) 0 (a .n)) (a .est .now) (a .dur .now) (a .p) (a .lct)
-given c = let a = c .args in subst (λ (ks : List ℕ). Overloaded (length (a .atoms .now)) (a .k) ks (a .est .now) (a .dur .now) (a .p) (a .lct)) (all-leaves (white c) (tasks c) (a .n)) (c .pre .0)
+given : (c : tie.Start) → let a = c .args in ConflictExplainable (length (a .atoms .now)) (a .k) (between (white c) (tasks c) 0 (a .n)) (a .est .now) (a .durations .now) (a .p-theta) (a .lct)
+given c = let a = c .args in subst (λ (ks : List ℕ). ConflictExplainable (length (a .atoms .now)) (a .k) ks (a .est .now) (a .durations .now) (a .p-theta) (a .lct))
+    (all-leaves (white c) (tasks c) (a .n)) (c .pre .0)
 
 -- what ω passes lct by
 abbrev start : tie.After-preceding → tie.Start
@@ -46,25 +47,25 @@ of-leaf-requires c κs = let w = c .before in let s = start w in
     (omega (arith, w .preceding .ensures .small, s .pre .1), overload-known (white s) (tasks s) 0 (s .args .n) (given s) (w .preceding .ensures) .start)
 
 add-delta : tie.Need-add-delta
-add-delta c = omega (arith, numbers (c .before))
+add-delta c = omega (arith, numbers c)
 
 add-delta-2 : tie.Need-add-delta-2
-add-delta-2 c = omega (arith, numbers (c .before))
+add-delta-2 c = omega (arith, numbers c)
 
 sub-delta : tie.Need-sub-delta
-sub-delta c = omega (arith, numbers (c .before))
+sub-delta c = omega (arith, numbers c)
 
 sub-low : tie.Need-sub-low
-sub-low c = omega (arith, numbers (c .before))
+sub-low c = omega (arith, numbers c)
 
 add-high : tie.Need-add-high
-add-high c = omega (arith, numbers (c .before))
+add-high c = omega (arith, numbers c)
 
 write-within-requires : tie.Need-write-within-requires
 write-within-requires c κs =
-    let w = walk (c .before .before) in
+    let w = walk (c .before) in
     let s = start w in (
-      overload-writable (white s) (tasks s) 0 (s .args .n) (given s) (w .preceding .ensures) (omega (arith, numbers (c .before .before))),
+      overload-writable (white s) (tasks s) 0 (s .args .n) (given s) (w .preceding .ensures) (omega (arith, numbers (c .before))),
       omega (arith, w .preceding .ensures .small),
       s .pre .1,
       s .pre .2,
@@ -72,13 +73,13 @@ write-within-requires c κs =
 
 returns : tie.Need-returns
 returns c =
-    let at = c .before .before .before .before in
+    let at = c .before .before .before in
     let w = walk at in
     let s = start w in
     let a = s .args in
     subst (λ (ks : List ℕ). Stored (a .atoms .now) (c .before .write-within .last .0) (a .k) (c .before .write-within .result)
-    (conflict zeroAt (starting (a .est .now) (a .dur .now)) (a .lct) (a .p) ks)) (sym (all-leaves (white s) (tasks s) (a .n)))
-    (conflict-stored (white s) (tasks s) (a .est .now) (a .dur .now) 0 (a .n) (a .p) (w .preceding .result .first .0) (w .preceding .result .lasts) (given s .white .total) (a .lct)
+    (conflict zeroAt (starting (a .est .now) (a .durations .now)) (a .lct) (a .p-theta) ks)) (sym (all-leaves (white s) (tasks s) (a .n)))
+    (conflict-stored (white s) (tasks s) (a .est .now) (a .durations .now) 0 (a .n) (a .p-theta) (w .preceding .result .first .0) (w .preceding .result .lasts) (given s .white .total) (a .lct)
     (overload-stops (white s) (tasks s) 0 (a .n) (given s) (w .preceding .ensures))
     (at .of-leaf .ensures) (c .before .write-within .ensures))
 

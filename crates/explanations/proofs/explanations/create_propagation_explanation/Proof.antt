@@ -12,7 +12,7 @@ use Rattle.trees.specs.ArraySearches.{whiteIn, taskIn}
 use Rattle.explanations.specs.Walks.{between}
 use Rattle.explanations.specs.WrittenAtoms.{starting}
 use Rattle.post_words.specs.StoredAtoms.{Stored}
-use Rattle.explanations.specs.Explanations.{Preceded}
+use Rattle.explanations.specs.Explanations.{PropagationExplainable}
 use Rattle.explanations.proofs.LeafWalk.{all-leaves}
 use Rattle.post_words.proofs.StoredAtoms.{stored-length}
 use Rattle.explanations.proofs.StoredReasons.{post-walk, post-known, bound-walk, post-writable, Reach, reach, last-room, propagation-stored}
@@ -23,11 +23,13 @@ abbrev white : tie.Start → ℕ → Bool
 white c = whiteIn (c .args .nodes .now) (c .args .inner)
 
 abbrev tasks : tie.Start → ℕ → ℕ
-tasks c = taskIn (c .args .tasks .now)
+tasks c = taskIn (c .args .reverse-mapping .now)
 
 -- what is asked, of the leaves
-given : (c : tie.Start) → let a = c .args in Preceded (length (a .atoms .now)) (a .k) (between (white c) (tasks c) 0 (a .n)) (a .est .now) (a .dur .now) (a .p) (a .lct) (a .i) (a .bound)
-given c = let a = c .args in subst (λ (ks : List ℕ). Preceded (length (a .atoms .now)) (a .k) ks (a .est .now) (a .dur .now) (a .p) (a .lct) (a .i) (a .bound)) (all-leaves (white c) (tasks c) (a .n))
+given : (c : tie.Start) → let a = c .args in
+    PropagationExplainable (length (a .atoms .now)) (a .k) (between (white c) (tasks c) 0 (a .n)) (a .est .now) (a .durations .now) (a .p-theta) (a .lct-j) (a .propagated-task) (a .new-bound)
+given c = let a = c .args in subst (λ (ks : List ℕ).
+    PropagationExplainable (length (a .atoms .now)) (a .k) ks (a .est .now) (a .durations .now) (a .p-theta) (a .lct-j) (a .propagated-task) (a .new-bound)) (all-leaves (white c) (tasks c) (a .n))
     (c .pre .0)
 
 -- what ω and i pass lct by,
@@ -37,8 +39,9 @@ start c = c .before .before .before .before .before
 abbrev walk : tie.After-min → tie.After-preceding
 walk c = c .before .before .before
 
-early : (c : tie.After-min) → let a = start (walk c) .args in c .min .result ≡ min (getD (a .est .now) (a .i) 0) (getD (a .est .now) (tasks (start (walk c)) (walk c .preceding .result .first .0)) 0)
-early c = let a = start (walk c) .args in c .min .ensures ∙ ap (min (getD (a .est .now) (a .i) 0)) (c .before .of-leaf .ensures)
+early : (c : tie.After-min) → let a = start (walk c) .args in
+    c .min .result ≡ min (getD (a .est .now) (a .propagated-task) 0) (getD (a .est .now) (tasks (start (walk c)) (walk c .preceding .result .first .0)) 0)
+early c = let a = start (walk c) .args in c .min .ensures ∙ ap (min (getD (a .est .now) (a .propagated-task) 0)) (c .before .of-leaf .ensures)
 
 numbers : (c : tie.After-min) → let w = walk c in let s = start w in Reach (white s) (tasks s) 0 (s .args .n) (given s) (w .preceding .ensures) (c .min .result)
 numbers c = let w = walk c in let s = start w in reach (white s) (tasks s) 0 (s .args .n) (given s) (w .preceding .ensures) (early c)
@@ -50,7 +53,8 @@ room c =
     let w = walk least in
     let s = start w in
     let r = least .min .result in
-    last-room (white s) (tasks s) 0 (s .args .n) (given s) (w .preceding .ensures) r (r + w .preceding .result .lasts + getD (s .args .dur .now) (s .args .i) 0 - 1) refl (c .write-bounds .ensures)
+    last-room (white s) (tasks s) 0 (s .args .n) (given s) (w .preceding .ensures) r (r + w .preceding .result .lasts + getD (s .args .durations .now) (s .args .propagated-task) 0 - 1) refl
+    (c .write-bounds .ensures)
 
 preceding-requires : tie.Need-preceding-requires
 preceding-requires c κs = let s = c .before .before .before .before in (post-walk (white s) (tasks s) 0 (s .args .n) (given s), s .pre .1, s .pre .2)
@@ -92,9 +96,10 @@ returns c =
     let s = start w in
     let a = s .args in
     subst (λ (ks : List ℕ). Stored (a .atoms .now) (c .before .write-atom .last .0) (a .k) (c .before .before .before .before .write-bounds .result + 1)
-    (propagation zeroAt (starting (a .est .now) (a .dur .now)) (a .i) (a .bound) (a .lct) (a .p) ks)) (sym (all-leaves (white s) (tasks s) (a .n)))
-    (propagation-stored (white s) (tasks s) (a .est .now) (a .dur .now) 0 (a .n) (a .p) (w .preceding .result .first .0) (w .preceding .result .lasts) (given s .white .total) (a .i) (a .bound)
-    (a .lct) (r .min .result) (w .preceding .ensures) (early r)
+    (propagation zeroAt (starting (a .est .now) (a .durations .now)) (a .propagated-task) (a .new-bound) (a .lct-j) (a .p-theta) ks)) (sym (all-leaves (white s) (tasks s) (a .n)))
+    (propagation-stored (white s) (tasks s) (a .est .now) (a .durations .now) 0 (a .n) (a .p-theta) (w .preceding .result .first .0) (w .preceding .result .lasts) (given s .white .total)
+    (a .propagated-task) (a .new-bound)
+    (a .lct-j) (r .min .result) (w .preceding .ensures) (early r)
     (c .before .before .before .before .write-bounds .ensures) (c .before .write-atom .ensures))
 
 pub create-propagation-explanation-spec : {M : Type 1} → statement M

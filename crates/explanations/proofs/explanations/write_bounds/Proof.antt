@@ -1,4 +1,4 @@
--- The leaves are split where ω′ begins, and the two halves are written one behind the other.
+-- The leaves are split where ω′ begins, and the two halves are written one after the other.
 use Prim.Native.Nat.{ℕ, _≤_}
 use native.Mathlib.Omega.{arith}
 use borrow.Author.Needs.{needs}
@@ -19,10 +19,10 @@ inside c = omega (arith, c .attaining .ensures .small)
 
 write-within-requires : tie.Need-write-within-requires
 write-within-requires c κs =
-    let at = c .before .before .before in
+    let at = c .before .before in
     let a = start at .args in
     let from = at .attaining .ensures .from in (
-      writable-first (whiteIn (a .nodes .now) (a .inner)) (taskIn (a .tasks .now)) (a .from .0) (a .n) (first at) from (inside at) (start at .pre .1),
+      writable-first (whiteIn (a .nodes .now) (a .inner)) (taskIn (a .reverse-mapping .now)) (a .from .0) (a .n) (first at) from (inside at) (start at .pre .1),
       from,
       omega (arith, inside at, start at .pre .3),
       start at .pre .4,
@@ -30,9 +30,9 @@ write-within-requires c κs =
 
 write-within-requires-2 : tie.Need-write-within-requires-2
 write-within-requires-2 c κs =
-    let at = c .before .before .before .before .before .before in
+    let at = c .before .before .before .before .before in
     let a = start at .args in (
-      writable-rest (whiteIn (a .nodes .now) (a .inner)) (taskIn (a .tasks .now)) (a .from .0) (a .n) (first at) (at .attaining .ensures .from) (inside at) (a .r) (start at .pre .1)
+      writable-rest (whiteIn (a .nodes .now) (a .inner)) (taskIn (a .reverse-mapping .now)) (a .from .0) (a .n) (first at) (at .attaining .ensures .from) (inside at) (a .r) (start at .pre .1)
           (c .before .before .write-within .ensures),
       inside at,
       start at .pre .3,
@@ -41,11 +41,12 @@ write-within-requires-2 c κs =
 
 returns : tie.Need-returns
 returns c =
-    let at = c .before .before .before .before .before .before .before .before in
+    let at = c .before .before .before .before .before .before .before in
     let a = start at .args in
     let w = at .attaining in
-    bounds-stored (whiteIn (a .nodes .now) (a .inner)) (taskIn (a .tasks .now)) (a .est .now) (a .dur .now) (a .from .0) (a .n) (a .p) (first at) (w .result .lasts) (start at .pre .0 .total)
-    (a .bound) (a .r) (a .last) (w .ensures)
+    bounds-stored (whiteIn (a .nodes .now) (a .inner)) (taskIn (a .reverse-mapping .now)) (a .est .now) (a .durations .now) (a .from .0) (a .n) (a .p-omega) (first at) (w .result .lasts)
+    (start at .pre .0 .total)
+    (a .new-bound) (a .r) (a .last) (w .ensures)
     (c .before .before .before .before .write-within .ensures) (c .before .write-within2 .ensures)
 
 pub write-bounds-spec : {M : Type 1} → statement M

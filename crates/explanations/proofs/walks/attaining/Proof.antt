@@ -1,4 +1,4 @@
--- The invariant `WalkedTo`: x is a leaf of Θ, q what the tasks from it on last, and none before it attains the bound; the walk must stop inside, as one does.
+-- The invariant `WalkedTo`: x is a leaf of Θ, the tasks from it on last p_omega_prime, and none before it attains the bound. One does, so the walk stops inside.
 use mathlib.Core.Path.{subst}
 use mathlib.Core.List.{List}
 use Prim.Native.Nat.{ℕ, _+_, _-_, _<_, _^_}
@@ -12,37 +12,39 @@ use Rattle.explanations.proofs.walks.attaining.Statement.{statement}
 use Rattle.explanations.proofs.walks.attaining.Tie as tie
 
 abbrev Inv-loop : tie.InvT-loop
-Inv-loop nodes tasks inner n est dur p bound x₀ q₀ x q = WalkedTo (whiteIn nodes inner) (taskIn tasks) (Attains est bound) dur (x₀ .0) n (x .0) q
+Inv-loop nodes reverseMapping inner n est durations pOmega newBound x₀ pOmegaPrime₀ x pOmegaPrime =
+    WalkedTo (whiteIn nodes inner) (taskIn reverseMapping) (Attains est newBound) durations (x₀ .0) n (x .0) pOmegaPrime
 
 abbrev μ-loop : tie.MeasureT-loop
-μ-loop nodes tasks inner n est dur p bound x₀ q₀ x q = n - x .0
+μ-loop nodes reverseMapping inner n est durations pOmega newBound x₀ pOmegaPrime₀ x pOmegaPrime = n - x .0
 
 -- what is asked, of the first leaf that the walk meets
 abbrev begin : tie.After-next-in-theta Inv-loop μ-loop → tie.Start Inv-loop μ-loop
 begin c = c .before .before .before
 
 given : (c : tie.After-next-in-theta Inv-loop μ-loop)
-    → let a = begin c .args in Walk (Attains (a .est .now) (a .bound)) (between (whiteIn (a .nodes .now) (a .inner)) (taskIn (a .tasks .now)) (c .next-in-theta .result .0) (a .n)) (a .est .now)
-    (a .dur .now) (a .p) 0
+    → let a = begin c .args in Walk (Attains (a .est .now) (a .new-bound)) (between (whiteIn (a .nodes .now) (a .inner)) (taskIn (a .reverse-mapping .now)) (c .next-in-theta .result .0) (a .n))
+    (a .est .now)
+    (a .durations .now) (a .p-omega) 0
 given c = let a = begin c .args in
-    subst (λ (ks : List ℕ). Walk (Attains (a .est .now) (a .bound)) ks (a .est .now) (a .dur .now) (a .p) 0)
-    (next-same (whiteIn (a .nodes .now) (a .inner)) (taskIn (a .tasks .now)) (c .next-in-theta .ensures)) (begin c .pre .0)
+    subst (λ (ks : List ℕ). Walk (Attains (a .est .now) (a .new-bound)) ks (a .est .now) (a .durations .now) (a .p-omega) 0)
+    (next-same (whiteIn (a .nodes .now) (a .inner)) (taskIn (a .reverse-mapping .now)) (c .next-in-theta .ensures)) (begin c .pre .0)
 
 abbrev start : tie.At-loop Inv-loop μ-loop → tie.Start Inv-loop μ-loop
 start c = begin (c .before)
 
 -- the task of the leaf that the walk has reached
 abbrev here : tie.At-loop Inv-loop μ-loop → ℕ
-here c = taskIn (start c .args .tasks .now) (c .loop .x .0)
+here c = taskIn (start c .args .reverse-mapping .now) (c .loop .x .0)
 
-task : (c : tie.At-loop Inv-loop μ-loop) → Known (start c .args .est .now) (start c .args .dur .now) (here c)
-task c = known-there (c .loop .inv) (Known (start c .args .est .now) (start c .args .dur .now)) (given (c .before) .known)
+task : (c : tie.At-loop Inv-loop μ-loop) → Known (start c .args .est .now) (start c .args .durations .now) (here c)
+task c = known-there (c .loop .inv) (Known (start c .args .est .now) (start c .args .durations .now)) (given (c .before) .known)
 
 -- no sum wraps there
-sum : (c : tie.At-loop Inv-loop μ-loop) → getD (start c .args .est .now) (here c) 0 + c .loop .q < 2 ^ 32
+sum : (c : tie.At-loop Inv-loop μ-loop) → getD (start c .args .est .now) (here c) 0 + c .loop .p-omega-prime < 2 ^ 32
 sum c = let a = start c .args in omega (
   arith,
-  known-there (c .loop .inv) (λ k. getD (a .est .now) k 0 + a .p + 0 < 2 ^ 32) (given (c .before) .fits),
+  known-there (c .loop .inv) (λ k. getD (a .est .now) k 0 + a .p-omega + 0 < 2 ^ 32) (given (c .before) .fits),
   most-there (c .loop .inv),
   given (c .before) .total,
 )
@@ -59,8 +61,8 @@ add-if1 c = omega (arith, c .of-leaf .ensures, sum (c .before))
 of-leaf-requires-2 : tie.Need-of-leaf-requires-2 Inv-loop μ-loop
 of-leaf-requires-2 c κs = (omega (arith, c .before .before .loop .inv .small), task (c .before .before) .duration)
 
-sub-q : tie.Need-sub-q Inv-loop μ-loop
-sub-q c = omega (arith, c .of-leaf2 .ensures, enough-there (c .before .before .before .loop .inv))
+sub-p-omega-prime : tie.Need-sub-p-omega-prime Inv-loop μ-loop
+sub-p-omega-prime c = omega (arith, c .of-leaf2 .ensures, enough-there (c .before .before .before .loop .inv))
 
 add-t15 : tie.Need-add-t15 Inv-loop μ-loop
 add-t15 c = omega (arith, c .before .before .before .before .loop .inv .small)
@@ -81,11 +83,11 @@ returns : tie.Need-returns Inv-loop μ-loop
 returns c =
     let at = c .before .before in
     let a = start at .args in
-    stops-from (whiteIn (a .nodes .now) (a .inner)) (taskIn (a .tasks .now)) (at .before .next-in-theta .ensures) (halts (at .loop .inv) (rw (c .before .of-leaf .ensures) at (c .if1 .left)))
+    stops-from (whiteIn (a .nodes .now) (a .inner)) (taskIn (a .reverse-mapping .now)) (at .before .next-in-theta .ensures) (halts (at .loop .inv) (rw (c .before .of-leaf .ensures) at (c .if1 .left)))
 
 pub attaining-spec : {M : Type 1} → statement M
 attaining-spec =
     tie.close
     (tie.spec
-    Inv-loop μ-loop (λ c κs. search needs) loop-holds of-leaf-requires add-if1 of-leaf-requires-2 sub-q add-t15
+    Inv-loop μ-loop (λ c κs. search needs) loop-holds of-leaf-requires add-if1 of-leaf-requires-2 sub-p-omega-prime add-t15
     next-in-theta-requires-2 loop-less loop-again returns)

@@ -1,4 +1,4 @@
--- The invariant `WalkedTo`: x is a leaf of Θ, q what the tasks from it on last, and none before it passes lct; the walk must stop inside, as one does.
+-- The invariant `WalkedTo`: x is a leaf of Θ, the tasks from it on last p_omega, and none before it passes lct. One task does, so the walk stops inside.
 use Prim.Native.Nat.{ℕ, _+_, _-_, _<_, _^_}
 use native.Mathlib.Omega.{arith}
 use lib.ListN.{getD}
@@ -10,26 +10,27 @@ use Rattle.explanations.proofs.walks.preceding.Statement.{statement}
 use Rattle.explanations.proofs.walks.preceding.Tie as tie
 
 abbrev Inv-loop : tie.InvT-loop
-Inv-loop nodes tasks inner n est dur p lct e d x₀ q₀ x q = WalkedTo (whiteIn nodes inner) (taskIn tasks) (Precedes est lct e d) dur 0 n (x .0) q
+Inv-loop nodes reverseMapping inner n est durations pTheta lct estPropagated pPropagated x₀ pOmega₀ x pOmega =
+    WalkedTo (whiteIn nodes inner) (taskIn reverseMapping) (Precedes est lct estPropagated pPropagated) durations 0 n (x .0) pOmega
 
 abbrev μ-loop : tie.MeasureT-loop
-μ-loop nodes tasks inner n est dur p lct e d x₀ q₀ x q = n - x .0
+μ-loop nodes reverseMapping inner n est durations pTheta lct estPropagated pPropagated x₀ pOmega₀ x pOmega = n - x .0
 
 abbrev start : tie.At-loop Inv-loop μ-loop → tie.Start Inv-loop μ-loop
 start c = c .before .before .before .before
 
 -- the task of the leaf that the walk has reached
 abbrev here : tie.At-loop Inv-loop μ-loop → ℕ
-here c = taskIn (start c .args .tasks .now) (c .loop .x .0)
+here c = taskIn (start c .args .reverse-mapping .now) (c .loop .x .0)
 
-task : (c : tie.At-loop Inv-loop μ-loop) → Known (start c .args .est .now) (start c .args .dur .now) (here c)
-task c = known-there (c .loop .inv) (Known (start c .args .est .now) (start c .args .dur .now)) (start c .pre .0 .known)
+task : (c : tie.At-loop Inv-loop μ-loop) → Known (start c .args .est .now) (start c .args .durations .now) (here c)
+task c = known-there (c .loop .inv) (Known (start c .args .est .now) (start c .args .durations .now)) (start c .pre .0 .known)
 
 -- no sum wraps there
-sum : (c : tie.At-loop Inv-loop μ-loop) → getD (start c .args .est .now) (here c) 0 + c .loop .q + start c .args .d < 2 ^ 32
+sum : (c : tie.At-loop Inv-loop μ-loop) → getD (start c .args .est .now) (here c) 0 + c .loop .p-omega + start c .args .p-propagated < 2 ^ 32
 sum c = let a = start c .args in omega (
   arith,
-  known-there (c .loop .inv) (λ k. getD (a .est .now) k 0 + a .p + a .d < 2 ^ 32) (start c .pre .0 .fits),
+  known-there (c .loop .inv) (λ k. getD (a .est .now) k 0 + a .p-theta + a .p-propagated < 2 ^ 32) (start c .pre .0 .fits),
   most-there (c .loop .inv),
   start c .pre .0 .total,
 )
@@ -49,8 +50,8 @@ add-if1-2 c = omega (arith, c .min .ensures, c .before .of-leaf .ensures, sum (c
 of-leaf-requires-2 : tie.Need-of-leaf-requires-2 Inv-loop μ-loop
 of-leaf-requires-2 c κs = (omega (arith, c .before .before .before .loop .inv .small), task (c .before .before .before) .duration)
 
-sub-q : tie.Need-sub-q Inv-loop μ-loop
-sub-q c = omega (arith, c .of-leaf2 .ensures, enough-there (c .before .before .before .before .loop .inv))
+sub-p-omega : tie.Need-sub-p-omega Inv-loop μ-loop
+sub-p-omega c = omega (arith, c .of-leaf2 .ensures, enough-there (c .before .before .before .before .loop .inv))
 
 add-t19 : tie.Need-add-t19 Inv-loop μ-loop
 add-t19 c = let at = c .before .before .before .before .before in omega (arith, at .loop .inv .small)
@@ -76,4 +77,4 @@ preceding-spec =
     tie.close
     (tie.spec
     Inv-loop μ-loop (λ c κs. search needs) loop-holds of-leaf-requires (λ c κs. search needs) add-if1 add-if1-2
-    of-leaf-requires-2 sub-q add-t19 next-in-theta-requires-2 loop-less loop-again returns)
+    of-leaf-requires-2 sub-p-omega add-t19 next-in-theta-requires-2 loop-less loop-again returns)

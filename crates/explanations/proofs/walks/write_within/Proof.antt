@@ -1,4 +1,4 @@
--- The invariant `Written`: the atoms of Θ's tasks before leaf x stand from place k up to `at`, and the rest is as it was.
+-- The invariant `Written`: the atoms of Θ's tasks before leaf x stand from place k up to `at`, and the rest is unchanged.
 use mathlib.Core.Path.{_≡_, sym, ap, subst, _∙_}
 use mathlib.Core.Bool.{Bool, true}
 use mathlib.Core.List.{List, [], _∷_}
@@ -19,11 +19,11 @@ use Rattle.explanations.proofs.walks.write_within.Statement.{statement}
 use Rattle.explanations.proofs.walks.write_within.Tie as tie
 
 abbrev Inv-loop : tie.InvT-loop
-Inv-loop atoms₀ k nodes tasks inner to dur low high x₀ at₀ atoms x at = (x .0 ≤ to) × (x .0 < to → whiteIn nodes inner (x .0) ≡ true)
-    × Written atoms₀ k (between (whiteIn nodes inner) (taskIn tasks) (x₀ .0) to) dur low high atoms (between (whiteIn nodes inner) (taskIn tasks) (x .0) to) at
+Inv-loop atoms₀ k nodes reverseMapping inner to durations low high x₀ at₀ atoms x at = (x .0 ≤ to) × (x .0 < to → whiteIn nodes inner (x .0) ≡ true)
+    × Written atoms₀ k (between (whiteIn nodes inner) (taskIn reverseMapping) (x₀ .0) to) durations low high atoms (between (whiteIn nodes inner) (taskIn reverseMapping) (x .0) to) at
 
 abbrev μ-loop : tie.MeasureT-loop
-μ-loop atoms₀ k nodes tasks inner to dur low high x₀ at₀ atoms x at = to - x .0
+μ-loop atoms₀ k nodes reverseMapping inner to durations low high x₀ at₀ atoms x at = to - x .0
 
 abbrev start : tie.At-loop Inv-loop μ-loop → tie.Start Inv-loop μ-loop
 start c = c .before .before .before
@@ -32,26 +32,26 @@ abbrev white : tie.At-loop Inv-loop μ-loop → ℕ → Bool
 white c = whiteIn (start c .args .nodes .now) (start c .args .inner)
 
 abbrev tasks : tie.At-loop Inv-loop μ-loop → ℕ → ℕ
-tasks c = taskIn (start c .args .tasks .now)
+tasks c = taskIn (start c .args .reverse-mapping .now)
 
 -- what is still to be written: the task of the leaf that the walk has reached, and those after it
 abbrev at-leaf : tie.After-task-of Inv-loop μ-loop → tie.At-loop Inv-loop μ-loop
 at-leaf c = c .before .before .before
 
 here : (c : tie.After-task-of Inv-loop μ-loop) → let w = at-leaf c in let a = start w .args in let l = w .loop in
-    Written (a .atoms .now) (a .k) (between (white w) (tasks w) (w .before .next-in-theta .result .0) (a .to)) (a .dur .now) (a .low) (a .high) (l .atoms)
+    Written (a .atoms .now) (a .k) (between (white w) (tasks w) (w .before .next-in-theta .result .0) (a .to)) (a .durations .now) (a .low) (a .high) (l .atoms)
     (c .task-of .result .0 ∷ between (white w) (tasks w) (l .x .0 + 1) (a .to)) (l .at)
 here c =
     let w = at-leaf c in
     let a = start w .args in
     let l = w .loop in
     let small : l .x .0 < a .to = omega arith in
-    subst (λ (rest : List ℕ). Written (a .atoms .now) (a .k) (between (white w) (tasks w) (w .before .next-in-theta .result .0) (a .to)) (a .dur .now) (a .low) (a .high) (l .atoms) rest (l .at))
+    subst (λ (rest : List ℕ). Written (a .atoms .now) (a .k) (between (white w) (tasks w) (w .before .next-in-theta .result .0) (a .to)) (a .durations .now) (a .low) (a .high) (l .atoms) rest (l .at))
     (between-white (white w) (tasks w) (l .x .0) (a .to) small (l .inv .1 small) ∙ ap (λ (t : ℕ). t ∷ between (white w) (tasks w) (l .x .0 + 1) (a .to)) (sym (c .task-of .ensures)))
     (l .inv .2)
 
 -- that task can end in time, and there is room for its atoms
-task : (c : tie.After-task-of Inv-loop μ-loop) → Ends (start (at-leaf c) .args .dur .now) (start (at-leaf c) .args .high) (c .task-of .result .0)
+task : (c : tie.After-task-of Inv-loop μ-loop) → Ends (start (at-leaf c) .args .durations .now) (start (at-leaf c) .args .high) (c .task-of .result .0)
 task c = here c .writable .ends 0 (omega arith)
 
 room : (c : tie.After-task-of Inv-loop μ-loop) → 3 * at-leaf c .loop .at + 6 ≤ length (at-leaf c .loop .atoms)
@@ -63,7 +63,7 @@ turn c = c .before .before
 
 length-first : (c : tie.After-write-atom Inv-loop μ-loop) → length (c .write-atom .last .0) ≡ length (at-leaf (turn c) .loop .atoms)
 length-first c = let w = at-leaf (turn c) in let a = start w .args in
-    ap length (c .write-atom .ensures) ∙ length-sets (w .loop .atoms) (3 * w .loop .at) (lower (a .dur .now) (a .low) (a .high) (turn c .task-of .result .0))
+    ap length (c .write-atom .ensures) ∙ length-sets (w .loop .atoms) (3 * w .loop .at) (lower (a .durations .now) (a .low) (a .high) (turn c .task-of .result .0))
 
 loop-holds : tie.Need-loop-holds Inv-loop μ-loop
 loop-holds c =
@@ -71,8 +71,8 @@ loop-holds c =
     let next = c .next-in-theta .ensures in (
       next .to,
       next .found,
-      written-none (subst (λ (ks : List ℕ). Writable (length (a .atoms .now)) (a .k) ks (a .dur .now) (a .high))
-          (next-same (whiteIn (a .nodes .now) (a .inner)) (taskIn (a .tasks .now)) next) (c .before .before .pre .0)),
+      written-none (subst (λ (ks : List ℕ). Writable (length (a .atoms .now)) (a .k) ks (a .durations .now) (a .high))
+          (next-same (whiteIn (a .nodes .now) (a .inner)) (taskIn (a .reverse-mapping .now)) next) (c .before .before .pre .0)),
     )
 
 write-atom-requires : tie.Need-write-atom-requires Inv-loop μ-loop
@@ -111,7 +111,7 @@ loop-again c =
     let next = c .next-in-theta2 .ensures in (
       next .to,
       next .found,
-      subst (λ (rest : List ℕ). Written (a .atoms .now) (a .k) (between (white w) (tasks w) (w .before .next-in-theta .result .0) (a .to)) (a .dur .now) (a .low) (a .high)
+      subst (λ (rest : List ℕ). Written (a .atoms .now) (a .k) (between (white w) (tasks w) (w .before .next-in-theta .result .0) (a .to)) (a .durations .now) (a .low) (a .high)
           (c .before .before .before .write-atom2 .last .0) rest (l .at + 2))
           (next-same (white w) (tasks w) next)
           (written-more (here (turn made)) (made .write-atom .ensures) (c .before .before .before .write-atom2 .ensures)),
@@ -127,9 +127,10 @@ returns c =
     let l = w .loop in
     let all : l .x .0 ≡ a .to = omega (arith, l .inv .0) in
     let none : between (white w) (tasks w) (l .x .0) (a .to) ≡ [] = ap (λ (x : ℕ). between (white w) (tasks w) x (a .to)) all ∙ between-none (white w) (tasks w) (a .to) in
-    subst (λ (ks : List ℕ). Stored (a .atoms .now) (l .atoms) (a .k) (l .at) (within zeroAt (lasting (a .dur .now)) (a .low) (a .high) ks))
+    subst (λ (ks : List ℕ). Stored (a .atoms .now) (l .atoms) (a .k) (l .at) (within zeroAt (lasting (a .durations .now)) (a .low) (a .high) ks))
     (sym (next-same (white w) (tasks w) (w .before .next-in-theta .ensures)))
-    (written-all (subst (λ (rest : List ℕ). Written (a .atoms .now) (a .k) (between (white w) (tasks w) (w .before .next-in-theta .result .0) (a .to)) (a .dur .now) (a .low) (a .high) (l .atoms) rest
+    (written-all (subst (λ (rest : List ℕ). Written (a .atoms .now) (a .k) (between (white w) (tasks w) (w .before .next-in-theta .result .0) (a .to)) (a .durations .now) (a .low) (a .high)
+    (l .atoms) rest
     (l .at)) none (l .inv .2)))
 
 pub write-within-spec : {M : Type 1} → statement M

@@ -1,4 +1,4 @@
--- `candidates::turns::consider_all` meets its contract.
+-- The invariant `Turned`: tree and slices are at a state of the definition's inner loop that has as many turns left as the counter.
 use mathlib.Core.Path.{_≡_, refl}
 use mathlib.Core.List.{List}
 use Prim.Native.Nat.{ℕ, suc, _-_}
@@ -6,28 +6,30 @@ use native.Mathlib.Omega.{arith}
 use lib.IntN.{ℤ}
 use lib.ListN.{length}
 use borrow.Author.Needs.{needs}
+use Rattle.trees.specs.declared.complete_tree.TreeSize.{TreeSize}
 use Rattle.propagator.specs.declared.disjunctive_propagator.Written.{Written}
-use Rattle.propagator.specs.Candidates.{Standing}
+use Rattle.propagator.specs.Candidates.{Considerable}
 use Rattle.propagator.proofs.ConsideredTask.{shown, tall}
-use Rattle.propagator.proofs.InnerLoop.{Turned, none-yet, stands, ended, nothing-left, one-left, one-less, one-emptied}
+use Rattle.propagator.proofs.InnerLoop.{Turned, none-yet, still-considerable, ended, nothing-left, one-left, one-less, one-emptied}
 use Rattle.propagator.proofs.disjunctive_propagator.consider_all.Statement.{statement}
 use Rattle.propagator.proofs.disjunctive_propagator.consider_all.Tie as tie
 
 -- what the loop has got to; the slices keep their lengths
-record Loop (n inner height lct : ℕ) (nodes₀ : List ℕ) (earliest₀ posts₀ atoms₀ : List ℤ) (w₀ : Written) (est lst durations tasks mapping nodes : List ℕ) (earliest posts atoms : List ℤ) (w : Written)
+record Loop (size : TreeSize) (lct : ℕ) (nodes₀ : List ℕ) (earliest₀ posts₀ atoms₀ : List ℤ) (w₀ : Written) (est lst durations reverseMapping mapping nodes : List ℕ) (earliest posts atoms : List ℤ)
+    (w : Written)
     (left : ℕ) : Type 0 where
-  stood : Standing n inner height lct nodes₀ earliest₀ posts₀ atoms₀ w₀ est lst durations tasks mapping
-  reached : (s : Standing n inner height lct nodes₀ earliest₀ posts₀ atoms₀ w₀ est lst durations tasks mapping) → Turned s left nodes earliest posts atoms w
+  considerable : Considerable size lct nodes₀ earliest₀ posts₀ atoms₀ w₀ est lst durations reverseMapping mapping
+  reached : (s : Considerable size lct nodes₀ earliest₀ posts₀ atoms₀ w₀ est lst durations reverseMapping mapping) → Turned s left nodes earliest posts atoms w
   starts-length : length earliest ≡ length earliest₀
   posts-length : length posts ≡ length posts₀
   atoms-length : length atoms ≡ length atoms₀
 
 abbrev Inv-loop : tie.InvT-loop
-Inv-loop nodes₀ earliest₀ posts₀ atoms₀ mapping tasks est lst durations inner height n lct w₀ left₀ nodes earliest posts atoms w left =
-    Loop n inner height lct nodes₀ earliest₀ posts₀ atoms₀ w₀ est lst durations tasks mapping nodes earliest posts atoms w left
+Inv-loop nodes₀ earliest₀ posts₀ atoms₀ mapping reverseMapping est lst durations size lct w₀ left₀ nodes earliest posts atoms w left =
+    Loop size lct nodes₀ earliest₀ posts₀ atoms₀ w₀ est lst durations reverseMapping mapping nodes earliest posts atoms w left
 
 abbrev μ-loop : tie.MeasureT-loop
-μ-loop nodes₀ earliest₀ posts₀ atoms₀ mapping tasks est lst durations inner height n lct w₀ left₀ nodes earliest posts atoms w left = left
+μ-loop nodes₀ earliest₀ posts₀ atoms₀ mapping reverseMapping est lst durations size lct w₀ left₀ nodes earliest posts atoms w left = left
 
 positive : (c : tie.In-loop Inv-loop μ-loop) → c .before .loop .left ≡ suc (c .before .loop .left - 1)
 positive c = omega arith
@@ -40,10 +42,10 @@ abbrev entered : tie.After-next Inv-loop μ-loop → tie.In-loop Inv-loop μ-loo
 entered c = c .before .before .before .before
 
 loop-holds : tie.Need-loop-holds Inv-loop μ-loop
-loop-holds c = record { stood = c .pre; reached = λ s. none-yet s; starts-length = refl; posts-length = refl; atoms-length = refl }
+loop-holds c = record { considerable = c .pre; reached = λ s. none-yet s; starts-length = refl; posts-length = refl; atoms-length = refl }
 
 candidate-requires : tie.Need-candidate-requires Inv-loop μ-loop
-candidate-requires c κs = let v = c .before .before .loop .inv in (let a = stands (v .stood) (v .reached (v .stood)) in (shown a, tall a))
+candidate-requires c κs = let v = c .before .before .loop .inv in (let a = still-considerable (v .considerable) (v .reached (v .considerable)) in (shown a, tall a))
 
 returns : tie.Need-returns Inv-loop μ-loop
 returns c = λ s.
@@ -55,9 +57,9 @@ consider-requires c κs =
     let next = answered c in
     let turn = entered next in
     let v = turn .before .loop .inv in
-    let r = v .reached (v .stood) in
-    let (x, o) = one-left (v .stood) r (next .next .given .1) (next .before .before .candidate .ensures) in
-    (turn .before .before .args .height, x, stands (v .stood) r, o)
+    let r = v .reached (v .considerable) in
+    let (x, o) = one-left (v .considerable) r (next .next .given .1) (next .before .before .candidate .ensures) in
+    (x, still-considerable (v .considerable) r, o)
 
 loop-again : tie.Need-loop-again Inv-loop μ-loop
 loop-again c =
@@ -66,11 +68,11 @@ loop-again c =
     let turn = entered next in
     let v = turn .before .loop .inv in
     record {
-      stood = v .stood;
+      considerable = v .considerable;
       reached = λ s.
           let r = v .reached s in
           let (x, o) = one-left s r (next .next .given .1) (next .before .before .candidate .ensures) in
-          one-less s r (positive turn) (c .before .turn .given .1) (considered .consider .ensures (turn .before .before .args .height) x (stands s r) o);
+          one-less s r (positive turn) (c .before .turn .given .1) (considered .consider .ensures x (still-considerable s r) o);
       starts-length = search needs;
       posts-length = search needs;
       atoms-length = search needs;
@@ -83,7 +85,7 @@ returns-2 c = λ s.
     let turn = entered next in
     let r = turn .before .loop .inv .reached s in
     let (x, o) = one-left s r (next .next .given .1) (next .before .before .candidate .ensures) in
-    one-emptied s r (positive turn) (c .before .turn2 .given .1) (considered .consider .ensures (turn .before .before .args .height) x (stands s r) o)
+    one-emptied s r (positive turn) (c .before .turn2 .given .1) (considered .consider .ensures x (still-considerable s r) o)
 
 returns-3 : tie.Need-returns-3 Inv-loop μ-loop
 returns-3 c = λ s. ended s (c .before .loop .inv .reached s) (omega arith)

@@ -1,4 +1,4 @@
--- `levels::run_levels::edge_finding` meets its contract.
+-- The invariant `Level`: at the head of level `index`, tree and slices are at a state from which the definition's outer loop has the same trace.
 use mathlib.Core.Path.{_≡_, refl, sym, _∙_}
 use mathlib.Core.Bool.{Bool, true, false}
 use mathlib.Core.List.{List}
@@ -8,38 +8,44 @@ use lib.IntN.{ℤ}
 use lib.ListN.{length, getD}
 use borrow.Author.Needs.{needs}
 use Rattle.trees.specs.Ects.{exceeds}
+use Rattle.trees.specs.declared.complete_tree.TreeSize.{TreeSize}
 use Rattle.propagator.specs.declared.disjunctive_propagator.Written.{Written}
-use Rattle.propagator.specs.EdgeFinding.{Begun}
-use Rattle.propagator.proofs.OuterLoop.{Level, shown, ect, few, candidate-small, first-level, all-done, over-asked, over-inner, few-changes, overloads, moves, goes-on, one-more, one-emptied}
+use Rattle.propagator.specs.EdgeFinding.{EdgeFindable}
+use Rattle.propagator.proofs.OuterLoop.{Level, shown, ect, sorted-task-small, first-level, all-done, over-asked, size-fits, few-changes, overloads, moves, goes-on, one-more, one-emptied}
 use Rattle.propagator.proofs.disjunctive_propagator.edge_finding.Statement.{statement}
 use Rattle.propagator.proofs.disjunctive_propagator.edge_finding.Tie as tie
 
 -- the level that the loop stands at; the slices keep their lengths
-record Loop (n inner height : ℕ) (nodes₀ : List ℕ) (earliest₀ posts₀ atoms₀ : List ℤ) (est lst lct durations tasks candidates mapping nodes : List ℕ) (earliest posts atoms : List ℤ) (w : Written)
+record Loop (size : TreeSize) (n : ℕ) (nodes₀ : List ℕ) (earliest₀ posts₀ atoms₀ : List ℤ) (est lst lct durations reverseMapping sortedTasks mapping nodes : List ℕ) (earliest posts atoms : List ℤ)
+    (w : Written)
     (index : ℕ) : Type 0 where
-  begun : Begun n inner height nodes₀ earliest₀ posts₀ atoms₀ est lst lct durations tasks candidates mapping
-  level : (s : Begun n inner height nodes₀ earliest₀ posts₀ atoms₀ est lst lct durations tasks candidates mapping) → Level s index nodes earliest posts atoms w
-  small : index < n
+  findable : EdgeFindable size nodes₀ earliest₀ posts₀ atoms₀ est lst lct durations reverseMapping sortedTasks mapping
+  level : (s : EdgeFindable size nodes₀ earliest₀ posts₀ atoms₀ est lst lct durations reverseMapping sortedTasks mapping) → Level s index nodes earliest posts atoms w
+  count : n ≡ size .leaves
+  small : index < size .leaves
   starts-length : length earliest ≡ length earliest₀
   posts-length : length posts ≡ length posts₀
   atoms-length : length atoms ≡ length atoms₀
 
 abbrev Inv-loop : tie.InvT-loop
-Inv-loop nodes₀ earliest₀ posts₀ atoms₀ mapping tasks candidates est lst lct durations inner height n w₀ index₀ nodes earliest posts atoms w index =
-    Loop n inner height nodes₀ earliest₀ posts₀ atoms₀ est lst lct durations tasks candidates mapping nodes earliest posts atoms w index
+Inv-loop nodes₀ earliest₀ posts₀ atoms₀ mapping reverseMapping sortedTasks est lst lct durations size n w₀ index₀ nodes earliest posts atoms w index =
+    Loop size n nodes₀ earliest₀ posts₀ atoms₀ est lst lct durations reverseMapping sortedTasks mapping nodes earliest posts atoms w index
 
 abbrev μ-loop : tie.MeasureT-loop
-μ-loop nodes₀ earliest₀ posts₀ atoms₀ mapping tasks candidates est lst lct durations inner height n w₀ index₀ nodes earliest posts atoms w index = n - index
+μ-loop nodes₀ earliest₀ posts₀ atoms₀ mapping reverseMapping sortedTasks est lst lct durations size n w₀ index₀ nodes earliest posts atoms w index = size .leaves - index
+
+abbrev start : tie.In-loop Inv-loop μ-loop → tie.Start Inv-loop μ-loop
+start c = c .before .before .before
 
 -- inside the loop: the level's task and its lct, and that a level follows
 abbrev task : tie.In-loop Inv-loop μ-loop → ℕ
-task c = getD (c .before .before .args .candidates .now) (c .before .loop .index) 0
+task c = getD (start c .args .sorted-tasks .now) (c .before .loop .index) 0
 
 abbrev end : tie.In-loop Inv-loop μ-loop → ℕ
-end c = getD (c .before .before .args .lct .now) (task c) 0
+end c = getD (start c .args .lct .now) (task c) 0
 
-more : (c : tie.In-loop Inv-loop μ-loop) → c .before .loop .index + 1 < c .before .before .args .n
-more c = omega arith
+more : (c : tie.In-loop Inv-loop μ-loop) → c .before .loop .index + 1 < start c .args .size .leaves
+more c = omega (arith, c .before .loop .inv .count)
 
 -- where the level was entered, from its test and from the move of its task; and that move, from the tasks considered
 abbrev entered : tie.After-overloads Inv-loop μ-loop → tie.In-loop Inv-loop μ-loop
@@ -48,35 +54,42 @@ entered c = c .before .before .before .before
 abbrev level-of : tie.After-move-to-lambda Inv-loop μ-loop → tie.In-loop Inv-loop μ-loop
 level-of c = entered (c .before .before .before)
 
+abbrev counts : tie.After-consider-all Inv-loop μ-loop → tie.After-counted Inv-loop μ-loop
+counts c = c .before .before .before
+
+abbrev moved-before : tie.After-counted Inv-loop μ-loop → tie.After-move-to-lambda Inv-loop μ-loop
+moved-before c = c .before .before .before .before .before
+
 abbrev moved : tie.After-consider-all Inv-loop μ-loop → tie.After-move-to-lambda Inv-loop μ-loop
-moved c = c .before .before .before .before .before .before .before .before
+moved c = moved-before (counts c)
 
 loop-holds : tie.Need-loop-holds Inv-loop μ-loop
-loop-holds c = let s = c .pre in record { begun = s; level = λ s. first-level s; small = first-level s .small; starts-length = refl; posts-length = refl; atoms-length = refl }
+loop-holds c = let s = c .before .pre in
+    record { findable = s; level = λ s. rw (c .new .ensures) (first-level s); count = refl; small = first-level s .small; starts-length = refl; posts-length = refl; atoms-length = refl }
 
 mul-lct-j : tie.Need-mul-lct-j Inv-loop μ-loop
-mul-lct-j c = let l = c .before .before .loop in omega (arith, candidate-small (l .inv .begun) (l .index) (l .inv .small))
+mul-lct-j c = let l = c .before .before .loop in omega (arith, sorted-task-small (l .inv .findable) (l .index) (l .inv .small))
 
 -- the test of the level, by the tree of whatever it began with
 abbrev Test : tie.In-loop Inv-loop μ-loop → Bool → Type 0
-Test c u = let a = c .before .before .args in let l = c .before .loop in
-    (s : Begun (a .n) (a .inner) (a .height) (a .nodes .now) (a .earliest .now) (a .posts .now) (a .atoms .now) (a .est .now) (a .lst .now) (a .lct .now) (a .durations .now) (a .tasks .now)
-    (a .candidates .now) (a .mapping .now))
+Test c u = let a = start c .args in let l = c .before .loop in
+    (s : EdgeFindable (a .size) (a .nodes .now) (a .earliest .now) (a .posts .now) (a .atoms .now) (a .est .now) (a .lst .now) (a .lct .now) (a .durations .now) (a .reverse-mapping .now)
+    (a .sorted-tasks .now) (a .mapping .now))
     → exceeds (ect s (l .inv .level s) (more c)) (end c) ≡ u
 
 passes : (c : tie.Then1 Inv-loop μ-loop) → Test (entered (c .before)) true
-passes c s = let level = entered (c .before) in sym (c .before .overloads .ensures (level .before .before .args .inner) (shown s (level .before .loop .inv .level s) (more level))) ∙ c .if1 .taken
+passes c s = let level = entered (c .before) in sym (c .before .overloads .ensures (start level .args .size .inner) (shown s (level .before .loop .inv .level s) (more level))) ∙ c .if1 .taken
 
 quiet : (c : tie.After-move-to-lambda Inv-loop μ-loop) → Test (level-of c) false
 quiet c s = let level = level-of c in let test = c .before .before .before in
-    sym (test .overloads .ensures (level .before .before .args .inner) (shown s (level .before .loop .inv .level s) (more level))) ∙ c .before .before .if1 .left
+    sym (test .overloads .ensures (start level .args .size .inner) (shown s (level .before .loop .inv .level s) (more level))) ∙ c .before .before .if1 .left
 
 overload-requires : tie.Need-overload-requires Inv-loop μ-loop
 overload-requires c κs =
     let level = entered (c .before .before .before) in
     let v = level .before .loop .inv in
-    let l = v .level (v .begun) in
-    (shown (v .begun) l (more level), over-asked (v .begun) l (more level) (passes (c .before .before) (v .begun)), few (v .begun), over-inner (v .begun) l (more level))
+    let l = v .level (v .findable) in
+    (shown (v .findable) l (more level), over-asked (v .findable) l (more level) (passes (c .before .before) (v .findable)), size-fits (v .findable) l (more level))
 
 returns : tie.Need-returns Inv-loop μ-loop
 returns c = λ s.
@@ -88,22 +101,23 @@ move-to-lambda-requires : tie.Need-move-to-lambda-requires Inv-loop μ-loop
 move-to-lambda-requires c κs =
     let level = entered (c .before .before) in
     let v = level .before .loop .inv in
-    moves (v .begun) (v .level (v .begun)) (more level)
+    moves (v .findable) (v .level (v .findable)) (more level)
 
-add-changes : tie.Need-add-changes Inv-loop μ-loop
-add-changes c =
-    let level = level-of (c .before) in
+counted-requires : tie.Need-counted-requires Inv-loop μ-loop
+counted-requires c κs =
+    let level = level-of (c .before .before .before .before) in
     let v = level .before .loop .inv in
-    omega (arith, few-changes (v .begun) (v .level (v .begun)) (more level))
-
-mul-lct-next-2 : tie.Need-mul-lct-next-2 Inv-loop μ-loop
-mul-lct-next-2 c = let level = level-of (c .before .before) in omega (arith, candidate-small (level .before .loop .inv .begun) (level .before .loop .index + 1) (more level))
+    omega (arith, few-changes (v .findable) (v .level (v .findable)) (more level))
 
 consider-all-requires : tie.Need-consider-all-requires Inv-loop μ-loop
 consider-all-requires c κs =
-    let move = c .before .before .before .before .before .before .before in
+    let two = c .before .before in
+    let move = moved-before two in
     let v = level-of move .before .loop .inv in
-    goes-on (v .begun) (v .level (v .begun)) (more (level-of move)) (quiet move (v .begun)) (move .move-to-lambda .ensures)
+    goes-on (v .findable) (v .level (v .findable)) (more (level-of move)) (quiet move (v .findable)) (move .move-to-lambda .ensures) (two .counted .ensures)
+
+loop-less : tie.Need-loop-less Inv-loop μ-loop
+loop-less c = omega (arith, more (level-of (moved (c .before .before .before .before .before .before))))
 
 loop-again : tie.Need-loop-again Inv-loop μ-loop
 loop-again c =
@@ -111,10 +125,12 @@ loop-again c =
     let move = moved considered in
     let v = level-of move .before .loop .inv in
     record {
-      begun = v .begun;
+      findable = v .findable;
       level = λ s.
-          let g = goes-on s (v .level s) (more (level-of move)) (quiet move s) (move .move-to-lambda .ensures) in
-          one-more s (v .level s) (more (level-of move)) (quiet move s) (move .move-to-lambda .ensures) (c .before .turn .given .1) (considered .consider-all .ensures g);
+          let g = goes-on s (v .level s) (more (level-of move)) (quiet move s) (move .move-to-lambda .ensures) (counts considered .counted .ensures) in
+          one-more s (v .level s) (more (level-of move)) (quiet move s) (move .move-to-lambda .ensures) (counts considered .counted .ensures) (c .before .x .given .1)
+          (considered .consider-all .ensures g);
+      count = v .count;
       small = more (level-of move);
       starts-length = search needs;
       posts-length = search needs;
@@ -126,32 +142,34 @@ abbrev head : tie.After-known-told2 Inv-loop μ-loop → tie.At-loop Inv-loop μ
 head c = level-of (moved (c .before .before .before .before .before .before)) .before
 
 same-length-4 : tie.Need-same-length-4 Inv-loop μ-loop
-same-length-4 c = search (needs, head c .loop .inv .starts-length)
+same-length-4 c = search (needs, head (c .before) .loop .inv .starts-length)
 
 same-length-5 : tie.Need-same-length-5 Inv-loop μ-loop
-same-length-5 c = search (needs, head c .loop .inv .posts-length)
+same-length-5 c = search (needs, head (c .before) .loop .inv .posts-length)
 
 same-length-6 : tie.Need-same-length-6 Inv-loop μ-loop
-same-length-6 c = search (needs, head c .loop .inv .atoms-length)
+same-length-6 c = search (needs, head (c .before) .loop .inv .atoms-length)
 
 returns-2 : tie.Need-returns-2 Inv-loop μ-loop
 returns-2 c = λ s.
-    let considered = c .before .before .before .before .before .before in
+    let considered = c .before .before .before .before .before .before .before in
     let move = moved considered in
-    let l = head c .loop .inv .level s in
-    let g = goes-on s l (more (level-of move)) (quiet move s) (move .move-to-lambda .ensures) in
-    one-emptied s l (more (level-of move)) (quiet move s) (move .move-to-lambda .ensures) (considered .consider-all .last .0) (c .before .turn2 .given .1) (considered .consider-all .ensures g)
+    let l = head (c .before) .loop .inv .level s in
+    let g = goes-on s l (more (level-of move)) (quiet move s) (move .move-to-lambda .ensures) (counts considered .counted .ensures) in
+    one-emptied s l (more (level-of move)) (quiet move s) (move .move-to-lambda .ensures) (counts considered .counted .ensures) (considered .consider-all .last .0) (c .before .before .x2 .given .1)
+    (considered .consider-all .ensures g) (c .finished .ensures)
 
 returns-3 : tie.Need-returns-3 Inv-loop μ-loop
-returns-3 c = λ s. all-done s (c .before .loop .inv .level s) (omega arith)
+returns-3 c = λ s. all-done s (c .before .before .loop .inv .level s) (omega (arith, c .before .before .loop .inv .count)) (c .finished2 .ensures)
 
 pub edge-finding-spec : {M : Type 1} → statement M
 edge-finding-spec =
     tie.close
     (tie.spec
-    Inv-loop μ-loop loop-holds (λ c. search needs) (λ c. search needs) (λ c. search needs) mul-lct-j
-    (λ c. search (needs, candidate-small)) (λ c κs. search needs) overload-requires (λ c. search needs)
-    (λ c. search needs) (λ c. search needs) returns move-to-lambda-requires add-changes (λ c. search needs)
-    (λ c. search needs) (λ c. search needs) mul-lct-next-2 (λ c. search (needs, candidate-small)) consider-all-requires
-    (λ c. search needs) (λ c. search needs) loop-again (λ c. search needs) same-length-4 same-length-5 same-length-6
-    returns-2 (λ c. search needs) (λ c. search needs) (λ c. search needs) returns-3)
+    Inv-loop μ-loop (λ c κs. search needs) loop-holds (λ c. search needs) (λ c. search needs) (λ c. search needs) mul-lct-j
+    (λ c. search (needs, sorted-task-small)) (λ c κs. search needs) overload-requires (λ c. search needs)
+    (λ c. search needs) (λ c. search needs) returns move-to-lambda-requires (λ c. search needs) counted-requires
+    (λ c. search needs) (λ c. search needs) (λ c. let level = level-of (moved-before (c .before)) in
+    omega (arith, sorted-task-small (level .before .loop .inv .findable) (level .before .loop .index + 1) (more level))) (λ c. search (needs, sorted-task-small)) consider-all-requires
+    (λ c. search needs) loop-less loop-again (λ c. search needs) (λ c κs. search needs) same-length-4 same-length-5 same-length-6
+    returns-2 (λ c κs. search needs) (λ c. search needs) (λ c. search needs) (λ c. search needs) returns-3)

@@ -1,4 +1,4 @@
--- `levels::run_levels::fill` meets its contract.
+-- The invariant: the first x leaves are white and the rest empty; the rebuilt inner nodes then make the tree of all tasks.
 use mathlib.Core.Path.{refl}
 use mathlib.Core.List.{List}
 use Prim.Native.Nat.{ℕ, _-_, _≤_, _<_}
@@ -13,23 +13,23 @@ use Rattle.propagator.proofs.disjunctive_propagator.fill.Statement.{sta
 use Rattle.propagator.proofs.disjunctive_propagator.fill.Tie as tie
 
 -- the first x leaves are white
-record Loop (inner n : ℕ) (nodes₀ tasks est durations nodes : List ℕ) (x : ℕ) : Type 0 where
-  fillable : Fillable inner n nodes₀ tasks est durations
-  leaves : (f : Fillable inner n nodes₀ tasks est durations) → HasLeaves (f .J) (f .estOrder) (upTo f x) inner nodes
+record Loop (inner n : ℕ) (nodes₀ reverseMapping est durations nodes : List ℕ) (x : ℕ) : Type 0 where
+  fillable : Fillable inner n nodes₀ reverseMapping est durations
+  leaves : (f : Fillable inner n nodes₀ reverseMapping est durations) → HasLeaves (f .J) (f .estOrder) (upTo f x) inner nodes
   small : x ≤ n
 
 abbrev Inv-loop : tie.InvT-loop
-Inv-loop nodes₀ inner tasks est durations n x₀ nodes x = Loop inner n nodes₀ tasks est durations nodes x
+Inv-loop nodes₀ inner reverseMapping est durations n x₀ nodes x = Loop inner n nodes₀ reverseMapping est durations nodes x
 
 abbrev μ-loop : tie.MeasureT-loop
-μ-loop nodes₀ inner tasks est durations n x₀ nodes x = n - x
+μ-loop nodes₀ inner reverseMapping est durations n x₀ nodes x = n - x
 
 inside : (c : tie.In-loop Inv-loop μ-loop) → c .before .loop .x < c .before .before .args .n
 inside c = omega arith
 
 -- the task of the leaf
 abbrev task : tie.After-task-of Inv-loop μ-loop → ℕ
-task c = getD (c .before .before .before .args .tasks .now) (c .before .before .loop .x) 0
+task c = getD (c .before .before .before .args .reverse-mapping .now) (c .before .before .loop .x) 0
 
 known : (c : tie.After-task-of Inv-loop μ-loop) → c .task-of .result .0 < TASKS
 known c = omega (arith, c .task-of .ensures, task-known (c .before .before .loop .inv .fillable) (c .before .before .loop .x) (inside (c .before)))

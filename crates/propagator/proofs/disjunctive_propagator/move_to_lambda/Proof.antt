@@ -1,4 +1,4 @@
--- `levels::run_levels::move_to_lambda` meets its contract.
+-- The task's leaf is where the mapping says, and it becomes gray.
 use mathlib.Core.Path.{refl}
 use borrow.Author.Needs.{needs}
 use Rattle.propagator.proofs.MovedToLambda.{shown, placed, moved}

@@ -1,4 +1,4 @@
--- `levels::run_levels::overloads` meets its contract.
+-- The tree's ect is that of its leaves, and it is compared with the level's lct.
 use mathlib.Core.Path.{ap, _∙_}
 use mathlib.Core.Option.{Option}
 use Prim.Native.Nat.{ℕ}

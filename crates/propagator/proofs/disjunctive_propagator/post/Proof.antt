@@ -1,4 +1,4 @@
--- `candidates::turns::post` meets its contract.
+-- The tree answers the sum that the reason asks for, the explanation writes the reason, and the post's words say where it stands and how long it is.
 use mathlib.Core.Path.{refl, sym, subst}
 use Prim.Native.Nat.{ℕ, _+_}
 use lib.ListN.{length}
@@ -7,7 +7,7 @@ use Rattle.integers.specs.Moments.{zeroAt}
 use Rattle.runs.specs.Runs.{propagation}
 use Rattle.trees.specs.ArraySearches.{thetaIn}
 use Rattle.explanations.specs.WrittenAtoms.{starting}
-use Rattle.explanations.specs.Explanations.{Preceded}
+use Rattle.explanations.specs.Explanations.{PropagationExplainable}
 use Rattle.propagator.specs.Candidates.{Posted}
 use Rattle.propagator.proofs.PostWords.{reason-few, post-fits, post-done}
 use Rattle.propagator.proofs.disjunctive_propagator.post.Statement.{statement}
@@ -15,17 +15,19 @@ use Rattle.propagator.proofs.disjunctive_propagator.post.Tie as tie
 
 -- what is asked, with the sum that the tree answered
 given : (c : tie.After-sum-of-processing-times)
-    → let a = c .before .args in Preceded (length (a .atoms .now)) (a .written .atoms) (thetaIn (a .nodes .now) (a .inner) (a .tasks .now) (a .n)) (a .est .now) (a .durations .now)
-    (c .sum-of-processing-times .result) (a .lct) (a .i) (a .bound)
+    → let a = c .before .args in PropagationExplainable (length (a .atoms .now)) (a .written .atoms) (thetaIn (a .nodes .now) (a .size .inner) (a .reverse-mapping .now) (a .size .leaves))
+    (a .est .now) (a .durations .now)
+    (c .sum-of-processing-times .result) (a .lct) (a .i) (a .new-bound)
 given c = let a = c .before .args in
-    subst (λ (p : ℕ). Preceded (length (a .atoms .now)) (a .written .atoms) (thetaIn (a .nodes .now) (a .inner) (a .tasks .now) (a .n)) (a .est .now) (a .durations .now) p (a .lct) (a .i) (a .bound))
-    (sym (c .sum-of-processing-times .ensures (a .inner) (c .before .pre .0))) (c .before .pre .1)
+    subst (λ (p : ℕ). PropagationExplainable (length (a .atoms .now)) (a .written .atoms) (thetaIn (a .nodes .now) (a .size .inner) (a .reverse-mapping .now) (a .size .leaves)) (a .est .now)
+    (a .durations .now) p (a .lct) (a .i) (a .new-bound))
+    (sym (c .sum-of-processing-times .ensures (a .size .inner) (c .before .pre .0))) (c .before .pre .1)
 
 abbrev sums : tie.After-create-propagation-explanation → tie.After-sum-of-processing-times
 sums c = c .before .before .before .before
 
 create-propagation-explanation-requires : tie.Need-create-propagation-explanation-requires
-create-propagation-explanation-requires c κs = let s = c .before .before .before in (given s, s .before .pre .3, s .before .pre .4)
+create-propagation-explanation-requires c κs = let s = c .before .before .before in (given s, s .before .pre .3 .leaves, s .before .pre .3 .inner)
 
 write-post-requires : tie.Need-write-post-requires
 write-post-requires c κs =
@@ -33,8 +35,9 @@ write-post-requires c κs =
     let s = sums made in
     let a = s .before .args in
     let pre = s .before .pre in
-    post-fits (made .create-propagation-explanation .ensures) (pre .1 .known .task) (pre .2) (pre .5)
-    (reason-few (a .nodes .now) (a .inner) (a .tasks .now) (a .n) (a .est .now) (a .durations .now) (a .i) (a .bound) (a .lct) (s .sum-of-processing-times .result) (pre .3))
+    post-fits (made .create-propagation-explanation .ensures) (pre .1 .known .task) (pre .2) (pre .4)
+    (reason-few (a .nodes .now) (a .size .inner) (a .reverse-mapping .now) (a .size .leaves) (a .est .now) (a .durations .now) (a .i) (a .new-bound) (a .lct) (s .sum-of-processing-times .result)
+    (pre .3 .leaves))
 
 returns : tie.Need-returns
 returns c = λ h.
@@ -42,9 +45,9 @@ returns c = λ h.
     let s = sums made in
     let a = s .before .args in
     subst (λ (p : ℕ). Posted (a .posts .now) (a .atoms .now) (c .before .before .write-post .last .0) (made .create-propagation-explanation .last .0) (a .written)
-    (record { posts = a .written .posts + 1; atoms = made .create-propagation-explanation .result; changes = a .written .changes }) (a .i) (a .bound)
-    (propagation zeroAt (starting (a .est .now) (a .durations .now)) (a .i) (a .bound) (a .lct) p (thetaIn (a .nodes .now) (a .inner) (a .tasks .now) (a .n))))
-    (s .sum-of-processing-times .ensures (a .inner) h)
+    (record { posts = a .written .posts + 1; atoms = made .create-propagation-explanation .result; changes = a .written .changes }) (a .i) (a .new-bound)
+    (propagation zeroAt (starting (a .est .now) (a .durations .now)) (a .i) (a .new-bound) (a .lct) p (thetaIn (a .nodes .now) (a .size .inner) (a .reverse-mapping .now) (a .size .leaves))))
+    (s .sum-of-processing-times .ensures (a .size .inner) h)
     (post-done (made .create-propagation-explanation .ensures) refl refl refl refl (c .before .before .write-post .ensures))
 
 pub post-spec : {M : Type 1} → statement M

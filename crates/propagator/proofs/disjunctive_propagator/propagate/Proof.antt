@@ -1,4 +1,4 @@
--- `propagator::disjunctive_propagator::propagate` meets its contract: what no test refuses is run.
+-- What no test refuses is run, and what a test refuses leaves everything unchanged.
 use mathlib.Core.Path.{_≡_, refl, ap}
 use mathlib.Core.Bool.{true}
 use native.Mathlib.Omega.{arith}

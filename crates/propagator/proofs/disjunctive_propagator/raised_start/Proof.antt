@@ -1,4 +1,4 @@
--- `candidates::turns::raised_start` meets its contract.
+-- The tree's ect is that of its leaves, and it raises the start.
 use mathlib.Core.Path.{ap, _∙_}
 use mathlib.Core.Option.{Option}
 use Prim.Native.Nat.{ℕ}

@@ -1,4 +1,4 @@
--- `run_accepted`: the arrays and the tree of all tasks are what edge finding asks for, and what it leaves is the trace.
+-- The arrays and the tree of all tasks are what edge finding asks for, and what it leaves is the trace.
 use mathlib.Core.Path.{_≡_, refl}
 use mathlib.Core.List.{List}
 use Prim.Native.Nat.{ℕ}
@@ -7,8 +7,8 @@ use borrow.Author.Needs.{needs}
 use Rattle.integers.specs.Limits.{TASKS}
 use Rattle.sorts.proofs.Sorted.{sorted-permutes}
 use Rattle.propagator.specs.FilledTheta.{Fillable, Filled}
-use Rattle.propagator.specs.EdgeFinding.{Begun}
-use Rattle.propagator.proofs.InitialArrays.{key-small, keys-small, latest, fillable, begun, left}
+use Rattle.propagator.specs.EdgeFinding.{EdgeFindable}
+use Rattle.propagator.proofs.InitialArrays.{key-small, keys-small, latest, fillable, findable, left}
 use Rattle.propagator.proofs.disjunctive_propagator.run_accepted.Statement.{statement}
 use Rattle.propagator.proofs.disjunctive_propagator.run_accepted.Tie as tie
 
@@ -20,14 +20,14 @@ long c = search needs
 abbrev places : tie.After-new → tie.After-leaf-places
 places c = c .before
 
-abbrev candidates : tie.After-new → tie.After-sort-numbers-down
-candidates c = places c .before .before .before
+abbrev sortedTasks : tie.After-new → tie.After-sort-numbers-down
+sortedTasks c = places c .before .before .before
 
-abbrev tasks : tie.After-new → tie.After-sort-numbers
-tasks c = candidates c .before .before .before
+abbrev reverseMapping : tie.After-new → tie.After-sort-numbers
+reverseMapping c = sortedTasks c .before .before .before
 
 abbrev lct : tie.After-new → tie.After-completions
-lct c = tasks c .before .before .before
+lct c = reverseMapping c .before .before .before
 
 abbrev lst : tie.After-new → tie.After-moments-of2
 lst c = lct c .before .before .before .before .before
@@ -40,25 +40,27 @@ start c = est c .before .before .before
 
 -- the tree of no task can be filled,
 abbrev can-fill : (c : tie.After-new) → let a = start c .args in
-    Fillable (c .new .result .«number_of_internal_nodes») (a .t1 .count) (c .new .result .nodes) (tasks c .sort-numbers .last .0) (est c .moments-of .last .0) (a .t1 .durations)
+    Fillable (c .new .result .«number_of_internal_nodes») (a .t1 .count) (c .new .result .nodes) (reverseMapping c .sort-numbers .last .0) (est c .moments-of .last .0) (a .t1 .durations)
 can-fill c =
     let s = start c in
     let a = s .args in
     fillable (a .t1) (a .earliest .now) (a .latest .now) (length (a .posts .now)) (length (a .atoms .now)) (s .pre) (long s) (est c .moments-of .ensures) (lst c .moments-of2 .ensures)
     (lct c .completions .ensures)
-    (tasks c .sort-numbers .ensures) (candidates c .sort-numbers-down .ensures) (c .new .ensures) (places c .leaf-places .ensures .0)
+    (reverseMapping c .sort-numbers .ensures) (sortedTasks c .sort-numbers-down .ensures) (c .new .ensures) (places c .leaf-places .ensures .0)
 
 -- and that of all tasks is what edge finding begins with
-abbrev can-begin : (c : tie.After-new) (words : List ℕ) → let a = start c .args in
-    Filled (c .new .result .«number_of_internal_nodes») (a .t1 .count) (c .new .result .nodes) words (tasks c .sort-numbers .last .0) (est c .moments-of .last .0) (a .t1 .durations)
-    → Begun (a .t1 .count) (c .new .result .«number_of_internal_nodes») (c .new .result .height) words (a .earliest .now) (a .posts .now) (a .atoms .now) (est c .moments-of .last .0)
-    (lst c .moments-of2 .last .0) (lct c .completions .last .0) (a .t1 .durations) (tasks c .sort-numbers .last .0) (candidates c .sort-numbers-down .last .0) (places c .leaf-places .last .0)
-can-begin c words filled =
+abbrev can-find : (c : tie.After-new) (words : List ℕ) → let a = start c .args in
+    Filled (c .new .result .«number_of_internal_nodes») (a .t1 .count) (c .new .result .nodes) words (reverseMapping c .sort-numbers .last .0) (est c .moments-of .last .0) (a .t1 .durations)
+    → EdgeFindable (record { inner = c .new .result .«number_of_internal_nodes»; height = c .new .result .height; leaves = a .t1 .count }) words (a .earliest .now) (a .posts .now) (a .atoms .now)
+    (est c .moments-of .last .0)
+    (lst c .moments-of2 .last .0) (lct c .completions .last .0) (a .t1 .durations) (reverseMapping c .sort-numbers .last .0) (sortedTasks c .sort-numbers-down .last .0)
+    (places c .leaf-places .last .0)
+can-find c words filled =
     let s = start c in
     let a = s .args in
-    begun (a .t1) (a .earliest .now) (a .latest .now) (length (a .posts .now)) (length (a .atoms .now)) (s .pre) (long s) (est c .moments-of .ensures) (lst c .moments-of2 .ensures)
+    findable (a .t1) (a .earliest .now) (a .latest .now) (length (a .posts .now)) (length (a .atoms .now)) (s .pre) (long s) (est c .moments-of .ensures) (lst c .moments-of2 .ensures)
     (lct c .completions .ensures)
-    (tasks c .sort-numbers .ensures) (candidates c .sort-numbers-down .ensures) (c .new .ensures) (places c .leaf-places .ensures .0) (filled (can-fill c)) refl refl
+    (reverseMapping c .sort-numbers .ensures) (sortedTasks c .sort-numbers-down .ensures) (c .new .ensures) (places c .leaf-places .ensures .0) (filled (can-fill c)) refl refl
 
 completions-requires : tie.Need-completions-requires
 completions-requires c κs =
@@ -94,7 +96,7 @@ fill-requires c κs = can-fill (c .before .before .before .before .before)
 edge-finding-requires : tie.Need-edge-finding-requires
 edge-finding-requires c κs =
     let full = c .before .before .before .before .before .before .before .before .before .before .before .before in
-    can-begin (full .before .before .before .before .before .before) _ (full .fill .ensures)
+    can-find (full .before .before .before .before .before .before) _ (full .fill .ensures)
 
 returns : tie.Need-returns
 returns c =
@@ -104,7 +106,7 @@ returns c =
     let a = s .args in
     left (a .t1) (a .earliest .now) (a .latest .now) (length (a .posts .now)) (length (a .atoms .now)) (s .pre) (long s) (est u .moments-of .ensures) (lst u .moments-of2 .ensures)
     (lct u .completions .ensures)
-    (tasks u .sort-numbers .ensures) (candidates u .sort-numbers-down .ensures) refl refl (c .before .before .before .edge-finding .ensures (can-begin u _ (full .fill .ensures)))
+    (reverseMapping u .sort-numbers .ensures) (sortedTasks u .sort-numbers-down .ensures) refl refl (c .before .before .before .edge-finding .ensures (can-find u _ (full .fill .ensures)))
 
 pub run-accepted-spec : {M : Type 1} → statement M
 run-accepted-spec =
