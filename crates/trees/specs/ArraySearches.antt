@@ -38,7 +38,7 @@ responsibleOf tasks none = responsible.Nothing
 responsibleOf tasks (some x) = responsible.Task (record { 0 = getD tasks x 0 })
 
 -- What a search from node i of height h asks of the array.
-pub record Searched (m h i : ℕ) (at : ℕ → Node) : Type 0 where
+pub record Searchable (m h i : ℕ) (at : ℕ → Node) : Type 0 where
   pub tree : TreeOf joinOf m (leavesOf m at) at
   pub bounded : Bounded size Fair (leavesOf m at)
   pub has-height : HasHeight m h i
