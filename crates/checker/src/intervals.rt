@@ -6,7 +6,7 @@ use integers::numbers::min64;
 ghost use mathlib.Core.Path.{_≡_};
 ghost use Prim.Native.Nat.{_+_, _^_, _<_};
 ghost use Rattle.scheduling.specs.Scheduling.{natural, Tasks, TaskSet};
-ghost use Rattle.chosen_sets.specs.TaskArrays.{Held, Late};
+ghost use Rattle.chosen_sets.specs.TaskArrays.{HeldSet, Late};
 ghost use Rattle.checker.specs.BoundArrays.{gathered, intervalOf};
 
 pub struct Interval {
@@ -42,8 +42,8 @@ pub fn gather<'a>(
     durations: &'a [u32; TASKS],
     n: usize,
 ) -> Interval
-    requires { ⌜ ((J : Tasks natural) × (Ω : TaskSet) × Held J Ω n (now chosen) (now est) (now durations) × Late J n (now lst)) ⌝ }
-    ensures { λ r. ⌜ ((J : Tasks natural) (Ω : TaskSet) → Held J Ω n (now (chosen .entry)) (now (est .entry)) (now (durations .entry))
+    requires { ⌜ ((J : Tasks natural) × (Ω : TaskSet) × HeldSet J Ω n (now chosen) (now est) (now durations) × Late J n (now lst)) ⌝ }
+    ensures { λ r. ⌜ ((J : Tasks natural) (Ω : TaskSet) → HeldSet J Ω n (now (chosen .entry)) (now (est .entry)) (now (durations .entry))
         → Late J n (now (lst .entry)) → r ≡ intervalOf J Ω n) ⌝ }
 {
     let mut gathered = Interval {

@@ -1,4 +1,4 @@
--- The next task goes into the theta tree: what its leaf gets, and what the tree answers then. And how the arrays come to hold the tasks.
+-- The next task goes into the theta tree: its leaf becomes white, and the root has the ect of the tasks read. And the arrays come to hold the tasks.
 use mathlib.Core.Path.{_≡_, refl, sym, ap, ap₂, subst, _∙_, fun-ext}
 use mathlib.Core.List.{List, []}
 use mathlib.Core.Option.{Option}
@@ -29,7 +29,7 @@ use Rattle.records.specs.Records.{momentsIn}
 use Rattle.records.specs.Refusals.{AcceptedInput}
 use Rattle.records.proofs.AcceptedTasks.{count, completion-small, completions-are, completions-at}
 use Rattle.chosen_sets.specs.ColouredLeaves.{colours}
-use Rattle.chosen_sets.specs.TaskArrays.{Held}
+use Rattle.chosen_sets.specs.TaskArrays.{HeldSet}
 use Rattle.chosen_sets.proofs.ColouredLeaves.{limited, front-is}
 use Rattle.chosen_sets.proofs.Ects.{tree-ect}
 use Rattle.chosen_sets.proofs.RecordArrays.{held as in-arrays, late}
@@ -110,7 +110,7 @@ module _ (r : DisjunctivePropagator) (es ls : List ℤ) (a : AcceptedInput r es 
   pub keys-small : (k : ℕ) → k < r .count → completionAt lst (r .durations) k ≤ largestKey
   keys-small k q = omega (arith, completions-are r es ls a long lst latest k q, completion-small r es ls a long k q)
 
-  pub held : Held M noTask (r .count) [] est (r .durations)
+  pub held : HeldSet M noTask (r .count) [] est (r .durations)
   held = in-arrays r es ls a long e (λ k q. refl)
 
   module _ {lct : List ℕ} (c : lct ≡ filled (completionAt lst (r .durations)) (r .count) noTasks) where
