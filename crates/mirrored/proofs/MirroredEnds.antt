@@ -88,7 +88,7 @@ module _ (before : DisjunctivePropagator) (es ls : List ℤ) (postCount atomCoun
   count : length ds ≡ n
   count = accepting.count before (a .lawful)
 
-  here : demand.Accepted START ds es ls
+  here : demand.AcceptedTasks START ds es ls
   here = accepting.narrow before es ls postCount atomCount a
 
   es-long : length es ≡ length ds
@@ -97,7 +97,7 @@ module _ (before : DisjunctivePropagator) (es ls : List ℤ) (postCount atomCoun
   ls-long : length ls ≡ length ds
   ls-long = a .counts .latest ∙ sym count
 
-  there : demand.Accepted MIRRORED ds early late
+  there : demand.AcceptedTasks MIRRORED ds early late
   there = laws.mirrored-accepted ds es ls here es-long ls-long
 
   run-long : length (mirroredRun ds es ls .starts) ≡ length ds
@@ -216,7 +216,8 @@ module _ (before : DisjunctivePropagator) (es ls : List ℤ) (postCount atomCoun
       small = few-atoms;
     }
 
-    pub left-mirrored : postCount ≤ length posts → atomCount ≤ length atoms → {posts″ atoms″ : List ℤ} → WordsMirrored words-mirrorable posts″ atoms″ → LeftMirrored before es ls posts atoms r ls′ posts″ atoms″
+    pub left-mirrored : postCount ≤ length posts → atomCount ≤ length atoms → {posts″ atoms″ : List ℤ} → WordsMirrored words-mirrorable posts″ atoms″
+        → LeftMirrored before es ls posts atoms r ls′ posts″ atoms″
     left-mirrored p q t = record {
       answer = m .answer ∙ sym (same-numbers ds (mirroredRun ds es ls));
       starts = m .starts;

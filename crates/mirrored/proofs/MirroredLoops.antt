@@ -65,7 +65,8 @@ module _ (ds array : List ℕ) (d : Durations ds array) (words : List ℤ) (of a
 
 -- Posts --------------------------------------------------------------------------------------------------------------------------
 
-module _ {old : List ℤ} {count : ℕ} {array : List ℕ} (h : PostsMirrorable old count array) (words : List ℤ) (j : ℕ) (q : j < count) (e : words ≡ postWords 0 (postsTo (h .ds) j (h .posts)) ++ h .tail) where
+module _ {old : List ℤ} {count : ℕ} {array : List ℕ} (h : PostsMirrorable old count array) (words : List ℤ) (j : ℕ) (q : j < count)
+    (e : words ≡ postWords 0 (postsTo (h .ds) j (h .posts)) ++ h .tail) where
   abbrev p : Post
   p = getD (h .posts) j no-post
 
@@ -87,7 +88,8 @@ module _ {old : List ℤ} {count : ℕ} {array : List ℕ} (h : PostsMirrorable 
   pub post-mirrorable : WordMirrorable words (taskAt j) (boundAt j) array
   post-mirrorable = word-mirrorable (h .ds) array (h .durations) words (taskAt j) (boundAt j) (consequentOf p) (h .near j q) task bound (omega (arith, room)) (omega (arith, room))
 
-  pub post-mirrored : {now : List ℤ} {of at : ℕ} → of ≡ taskAt j → at ≡ boundAt j → now ≡ set words at (mirroredWord words of at array) → now ≡ postWords 0 (postsTo (h .ds) (j + 1) (h .posts)) ++ h .tail
+  pub post-mirrored : {now : List ℤ} {of at : ℕ} → of ≡ taskAt j → at ≡ boundAt j → now ≡ set words at (mirroredWord words of at array)
+      → now ≡ postWords 0 (postsTo (h .ds) (j + 1) (h .posts)) ++ h .tail
   post-mirrored of-is at-is z = z ∙ ap₂ (λ (of at : ℕ). set words at (mirroredWord words of at array)) of-is at-is
       ∙ ap₂ (λ (l : List ℤ) (v : ℤ). set l (boundAt j) v) e (word-is (h .ds) array (h .durations) words (taskAt j) (boundAt j) (consequentOf p) (h .near j q) task bound)
       ∙ posts-step (h .ds) (h .posts) (h .tail) 0 j inside
@@ -104,7 +106,8 @@ small-kind : (k : ℕ) → k < 2 → (pos 0 ≤ℤ pos k) × (pos k ≤ℤ pos 1
 unfolding up dn
 small-kind k q = (omega ints, omega ints)
 
-module _ {old : List ℤ} {count : ℕ} {array : List ℕ} (h : AtomsMirrorable old count array) (words : List ℤ) (k : ℕ) (q : k < count) (e : words ≡ atomWords (atomsTo (h .ds) k (h .atoms)) ++ h .tail) where
+module _ {old : List ℤ} {count : ℕ} {array : List ℕ} (h : AtomsMirrorable old count array) (words : List ℤ) (k : ℕ) (q : k < count)
+    (e : words ≡ atomWords (atomsTo (h .ds) k (h .atoms)) ++ h .tail) where
   abbrev a : Atom
   a = getD (h .atoms) k no-atom
 

@@ -20,8 +20,8 @@ ghost use Rattle.scheduling.specs.MirroredTime.{mirrorStart};
 ghost use Rattle.runs.specs.Words.{reasons, atomsIn};
 ghost use Rattle.runs.specs.Mirrored.{mirrorStarts};
 ghost use Rattle.runs.specs.Outcomes.{valueOf};
-ghost use Rattle.mirrored.specs.MirroredSlices.{StartsMirrorable, mirroredWord, WordMirrorable, PostsMirrorable, PostsMirrored, AtomsMirrorable, AtomsMirrored, ReasonsCountable, AtomsCountable};
-ghost use Rattle.mirrored.specs.MirroredSlices.{WordsMirrorable, WordsMirrored};
+ghost use Rattle.mirrored.specs.MirroredSlices.{StartsMirrorable, mirroredWord, WordMirrorable, PostsMirrorable, PostsMirrored, AtomsMirrorable};
+ghost use Rattle.mirrored.specs.MirroredSlices.{AtomsMirrored, ReasonsCountable, AtomsCountable, WordsMirrorable, WordsMirrored};
 
 // A start of a task that lasts p, in mirrored time; and back.
 fn mirror_start(x: i32, p: u32) -> i32
@@ -138,7 +138,8 @@ pub fn mirror_words(
     durations: &[u32; TASKS],
 )
     requires { ⌜ WordsMirrorable outcome (now posts) (now atoms) (now durations) ⌝ }
-    ensures { λ _. ⌜ ((e : WordsMirrorable outcome (now (posts .entry)) (now (atoms .entry)) (now (durations .entry))) → WordsMirrored e (now (posts .exit)) (now (atoms .exit))) ⌝ }
+    ensures { λ _. ⌜ ((e : WordsMirrorable outcome (now (posts .entry)) (now (atoms .entry)) (now (durations .entry)))
+        → WordsMirrored e (now (posts .exit)) (now (atoms .exit))) ⌝ }
 {
     let count = posts_of(outcome);
     let many = atoms_of(outcome, posts);

@@ -37,7 +37,7 @@ module _ (r : DisjunctivePropagator) (lawful : Lawful r) where
   sum-is = ap (total (λ k. getD (take (r .count) (r .durations)) k 0)) count ∙ total-ext (λ k. getD (take (r .count) (r .durations)) k 0) (λ k. getD (r .durations) k 0) (r .count) lasts-at
 
 -- What the core runs,
-pub accepted : (r : DisjunctivePropagator) (es ls : List ℤ) (posts atoms : ℕ) → Runnable r es ls posts atoms → demand.Accepted MIRRORED (take (r .count) (r .durations)) es ls
+pub accepted : (r : DisjunctivePropagator) (es ls : List ℤ) (posts atoms : ℕ) → Runnable r es ls posts atoms → demand.AcceptedTasks MIRRORED (take (r .count) (r .durations)) es ls
 accepted r es ls posts atoms a =
     let c = count r (a .lawful) in
     record {
@@ -66,7 +66,7 @@ module _ (r : DisjunctivePropagator) (es ls : List ℤ) (posts atoms : ℕ) (a :
     words = a .words;
   }
 
-  pub narrow : demand.Accepted START (take (r .count) (r .durations)) es ls
+  pub narrow : demand.AcceptedTasks START (take (r .count) (r .durations)) es ls
   narrow =
       let b = accepted r es ls posts atoms runnable in
       let c = count r (a .lawful) in

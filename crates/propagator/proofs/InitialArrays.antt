@@ -70,7 +70,7 @@ module _ (r : DisjunctivePropagator) (es ls : List ℤ) (posts atoms : ℕ) (a :
   count = accepting.count r (a .lawful)
 
   -- the same input, as the run's definition accepts it
-  accepted : demand.Accepted MIRRORED ds es ls
+  accepted : demand.AcceptedTasks MIRRORED ds es ls
   accepted = accepting.accepted r es ls posts atoms a
 
   abbrev pub estOrder : List ℕ

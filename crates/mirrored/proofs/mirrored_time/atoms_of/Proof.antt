@@ -27,7 +27,8 @@ returns-2 : tie.Need-returns-2
 returns-2 c = λ a. let o = c .before .outcome2 .given in overload-atoms a (o .0 .0) (o .0 .1 .0) (o .0 .1 .1 .0) (o .1)
 
 returns-3 : tie.Need-returns-3
-returns-3 c = λ a. let o = c .before .before .outcome3 .given in c .atoms-of-posts2 .ensures (reasons-countable a (o .0 .0) (ap (λ (r : Outcome). valueOf r 0) (o .1))) ∙ emptied-atoms a (o .0 .0) (o .1)
+returns-3 c = λ a. let o = c .before .before .outcome3 .given in c .atoms-of-posts2 .ensures (reasons-countable a (o .0 .0) (ap (λ (r : Outcome). valueOf r 0) (o .1)))
+    ∙ emptied-atoms a (o .0 .0) (o .1)
 
 returns-4 : tie.Need-returns-4
 returns-4 c = λ a. let o = c .enum-told .given in absurd (no-refusal a (o .0 .0) (o .1))

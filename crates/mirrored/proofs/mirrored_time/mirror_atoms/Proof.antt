@@ -32,7 +32,8 @@ loop-holds : tie.Need-loop-holds Inv-loop μ-loop
 loop-holds c = record { mirrorable = c .pre; mirrored = λ h. h .words-are ∙ ap (λ (l : List Atom). atomWords l ++ h .tail) (sym (atoms-begin (h .ds) (h .atoms))); small = omega arith; size = refl }
 
 mirror-kind-requires : tie.Need-mirror-kind-requires Inv-loop μ-loop
-mirror-kind-requires c κs = let l = c .before .before .before .loop in let v = l .inv in rw (c .kind-at .ensures) (kind-mirrorable (v .mirrorable) (l .atoms) (l .k) (omega arith) (v .mirrored (v .mirrorable)))
+mirror-kind-requires c κs = let l = c .before .before .before .loop in let v = l .inv in
+    rw (c .kind-at .ensures) (kind-mirrorable (v .mirrorable) (l .atoms) (l .k) (omega arith) (v .mirrored (v .mirrorable)))
 
 mirror-word-requires : tie.Need-mirror-word-requires Inv-loop μ-loop
 mirror-word-requires c κs =

@@ -19,7 +19,8 @@ returns : tie.Need-returns
 returns c =
     let o = c .before .before .before .before .before .before .before .before .posts-of in
     let t = c .before .before .before .before .before .before .atoms-of in
-    λ e. words-mirrored e (o .result) (t .result) (post-count e (o .result) (o .ensures)) (t .ensures (atoms-countable e)) (c .before .before .before .before .mirror-posts .ensures) (c .before .mirror-atoms .ensures)
+    λ e. words-mirrored e (o .result) (t .result) (post-count e (o .result) (o .ensures)) (t .ensures (atoms-countable e)) (c .before .before .before .before .mirror-posts .ensures)
+    (c .before .mirror-atoms .ensures)
 
 pub mirror-words-spec : {M : Type 1} → statement M
 mirror-words-spec =
