@@ -1,4 +1,4 @@
--- p of a set of tasks: more tasks, one task more, one less, none.
+-- How p of a set changes with its tasks: more tasks, one more, one less, none.
 use mathlib.Core.Path.{_≡_, refl, ap}
 use mathlib.Core.Bool.{Bool, true, false, cond}
 use mathlib.Core.Logic.{_⊎_, inl, inr}

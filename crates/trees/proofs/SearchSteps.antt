@@ -341,7 +341,7 @@ pub record AnswerAt (m h : ℕ) (at : ℕ → Node) (position : ℕ) : Type 0 wh
   pub small : place < TASKS
   pub same : searchEct (leavesOf m at) h 0 ≡ some place
 
--- What a search from the root asks: the leaves past the tasks are not gray.
+-- What a search from the root requires: the leaves after those of the tasks are not gray.
 pub record RootSearchable (m h : ℕ) (at : ℕ → Node) : Type 0 where
   pub from-root : Searchable m h 0 at
   pub complete : m + 1 ≡ width h

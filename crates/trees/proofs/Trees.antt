@@ -1,4 +1,4 @@
--- The laws of the two trees: what the operations ask and do, and what the root holds, by the colours of the leaves.
+-- The laws of the two trees: what the operations require and do, and what the root holds, by the colours of the leaves.
 use mathlib.Core.Path.{_≡_, refl, sym, ap, ap₂, subst, _∙_}
 use mathlib.Core.Bool.{not}
 use mathlib.Core.List.{List}

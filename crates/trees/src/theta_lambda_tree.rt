@@ -301,7 +301,7 @@ impl ThetaLambdaTree {
     }
 
     // Returns the place of the first leaf from `place` on, below `count`, whose task is in Theta, or `count` where there is none. The source collects these
-    // leaves' tasks in a list (`get_theta`); here who wants them walks over the leaves.
+    // leaves' tasks in a list (`get_theta`); here the caller goes over the leaves.
     pub fn next_in_theta(
         nodes: &[u32; TREEWORDS],
         inner: usize,
