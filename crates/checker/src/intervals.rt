@@ -9,6 +9,9 @@ ghost use Rattle.scheduling.specs.Scheduling.{natural, Tasks, TaskSet};
 ghost use Rattle.chosen_sets.specs.TaskArrays.{HeldSet, Late};
 ghost use Rattle.checker.specs.BoundArrays.{gathered, intervalOf};
 
+// The largest moment, with which the search for the least earliest start begins.
+const LARGEST: u64 = u32::MAX as u64;
+
 pub struct Interval {
     pub some: bool,
     pub lb: u64,
@@ -48,7 +51,7 @@ pub fn gather<'a>(
 {
     let mut gathered = Interval {
         some: false,
-        lb: 4294967295,
+        lb: LARGEST,
         ub: 0,
         p: 0,
     };

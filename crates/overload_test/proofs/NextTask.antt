@@ -9,7 +9,7 @@ use lib.Dec.{leb}
 use lib.IntN.{ℤ}
 use lib.ListN.{length, getD, set, take}
 use lib.Seq.{getD-take}
-use Rattle.integers.specs.Limits.{TASKS}
+use Rattle.integers.specs.Limits.{TASKS, U32MAX}
 use Rattle.integers.specs.FilledLists.{filled, noTasks}
 use Rattle.integers.specs.Orders.{index, numbers, sort}
 use Rattle.scheduling.specs.Scheduling.{natural, Tasks, TaskSet, completion}
@@ -22,7 +22,7 @@ use Rattle.trees.specs.Trees.{IsPlainTree}
 use Rattle.trees.specs.Operations.{HasTask}
 use Rattle.trees.specs.PlainOperations.{HeldPlain, PlainNew, PlainWhitened}
 use Rattle.sorts.specs.Orders.{SortedBy, byKey}
-use Rattle.integers.specs.Moments.{momentAt, completionAt, largestKey}
+use Rattle.integers.specs.Moments.{momentAt, completionAt}
 use Rattle.sorts.proofs.Sorted.{sorted-as}
 use Rattle.records.specs.declared.record.DisjunctivePropagator.{DisjunctivePropagator}
 use Rattle.records.specs.Records.{momentsIn}
@@ -107,7 +107,7 @@ module _ (r : DisjunctivePropagator) (es ls : List ℤ) (a : AcceptedInput r es 
   latest : (k : ℕ) → k < r .count → getD lst k 0 ≡ M .latest k
   latest k q = late r es ls a long l .at k q
 
-  pub keys-small : (k : ℕ) → k < r .count → completionAt lst (r .durations) k ≤ largestKey
+  pub keys-small : (k : ℕ) → k < r .count → completionAt lst (r .durations) k ≤ U32MAX
   keys-small k q = omega (arith, completions-are r es ls a long lst latest k q, completion-small r es ls a long k q)
 
   pub held : HeldSet M noTask (r .count) [] est (r .durations)
