@@ -18,13 +18,13 @@ use Rattle.scheduling.proofs.Sets.{total-part, total-mono}
 use Rattle.scheduling.proofs.Processing.{processing-is}
 use Rattle.trees.specs.Ects.{exceeds}
 use Rattle.trees.specs.NodeBounds.{LATEST}
-use Rattle.chosen_sets.specs.TaskArrays.{Held, Late}
+use Rattle.chosen_sets.specs.TaskArrays.{HeldSet, Late}
 use Rattle.checker.specs.declared.intervals.Interval.{Interval}
 use Rattle.checker.specs.Formulas.{_but_, any, lowest, highest, overloadsSpan, comesAfter}
 use Rattle.checker.specs.BoundArrays.{intervalOf}
 use Rattle.checker.proofs.GatheredIntervals.{any-some, lowest-is}
 
-module _ {J : Tasks natural} {Ω : TaskSet} {n : ℕ} {chosen : List Bool} {est durations : List ℕ} (h : Held J Ω n chosen est durations) (v : Interval) (z : v ≡ intervalOf J Ω n) where
+module _ {J : Tasks natural} {Ω : TaskSet} {n : ℕ} {chosen : List Bool} {est durations : List ℕ} (h : HeldSet J Ω n chosen est durations) (v : Interval) (z : v ≡ intervalOf J Ω n) where
   -- what is gathered, by fields
   some-is : v .some ≡ any Ω (J .count)
   some-is = ap (λ (x : Interval). x .some) z ∙ ap (any Ω) (sym (h .count))
@@ -87,7 +87,7 @@ module _ {J : Tasks natural} {Ω : TaskSet} {n : ℕ} {chosen : List Bool} {est 
 
 -- the others, in the array
 pub others-held : {J : Tasks natural} {Ω : TaskSet} {n : ℕ} {chosen : List Bool} {est durations : List ℕ} → length chosen ≡ TASKS → (i : ℕ) → i < n
-    → Held J Ω n chosen est durations → Held J (Ω but i) n (set chosen i false) est durations
+    → HeldSet J Ω n chosen est durations → HeldSet J (Ω but i) n (set chosen i false) est durations
 others-held {J} {Ω} {n} {chosen} {est} {durations} size i q h = record {
   proper = h .proper;
   count = h .count;

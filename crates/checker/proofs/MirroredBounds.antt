@@ -16,7 +16,7 @@ use Rattle.trees.specs.NodeBounds.{LATEST}
 use Rattle.integers.specs.WholeNumbers.{Within}
 use Rattle.checker.specs.StartBounds.{mirrorBound}
 use Rattle.checker.specs.Formulas.{known, valueOf}
-use Rattle.chosen_sets.specs.TaskArrays.{Held, Late}
+use Rattle.chosen_sets.specs.TaskArrays.{HeldSet, Late}
 use Rattle.checking.specs.TaskBounds.{boundsBetween}
 use Rattle.checker.specs.BoundArrays.{mirroredMoment}
 use Rattle.checker.proofs.MirroredAtoms.{mirrored-moment}
@@ -63,7 +63,7 @@ mirrored-most p one h l u e w = by (known (mirrorBound p u) && known (mirrorBoun
 
 -- The arrays ---------------------------------------------------------------------------------------------------------------------
 
-module _ {J : Tasks natural} {Ω : TaskSet} {n : ℕ} {chosen : List Bool} {est durations lst : List ℕ} (h : Held J Ω n chosen est durations) (l : Late J n lst) (i : ℕ) (q : i < n) where
+module _ {J : Tasks natural} {Ω : TaskSet} {n : ℕ} {chosen : List Bool} {est durations lst : List ℕ} (h : HeldSet J Ω n chosen est durations) (l : Late J n lst) (i : ℕ) (q : i < n) where
   pub lasts-one : 1 ≤ getD durations i 0
   lasts-one = omega (arith, h .lasts i q, h .proper .lasts i (omega (arith, h .count)))
 

@@ -11,7 +11,7 @@ use Rattle.scheduling.specs.Scheduling.{natural, Tasks, TaskSet, total, complet
 use Rattle.scheduling.proofs.Sets.{total-none, total-suc, total-part, total-mono}
 use Rattle.checker.specs.declared.intervals.Interval.{Interval}
 use Rattle.checker.specs.Formulas.{any, lowest, highest}
-use Rattle.chosen_sets.specs.TaskArrays.{Held, Late}
+use Rattle.chosen_sets.specs.TaskArrays.{HeldSet, Late}
 use Rattle.checker.specs.BoundArrays.{interval, gathered, intervalOf}
 
 module _ (J : Tasks natural) (Ω : TaskSet) where
@@ -32,7 +32,7 @@ module _ (J : Tasks natural) (Ω : TaskSet) where
       by false true l h t = ap (interval true l h) (omega arith)
       by false false l h t = ap (interval false l h) (omega arith)
 
-module _ {J : Tasks natural} {Ω : TaskSet} {n : ℕ} {chosen : List Bool} {est durations lst : List ℕ} (h : Held J Ω n chosen est durations) (l : Late J n lst) (i : ℕ) (q : i < n) where
+module _ {J : Tasks natural} {Ω : TaskSet} {n : ℕ} {chosen : List Bool} {est durations lst : List ℕ} (h : HeldSet J Ω n chosen est durations) (l : Late J n lst) (i : ℕ) (q : i < n) where
   -- no number of task i, nor a sum of them, leaves 64 bits
   pub duration-fits : getD durations i 0 < 2 ^ 64
   duration-fits = omega (arith, h .lasts i q, h .sum, total-part (J .duration) n i q)

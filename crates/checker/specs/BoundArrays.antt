@@ -6,7 +6,7 @@ use lib.ListN.{getD, replicate}
 use Rattle.integers.specs.Limits.{TASKS}
 use Rattle.integers.specs.FilledLists.{filled}
 use Rattle.scheduling.specs.Scheduling.{natural, Tasks, TaskSet, total}
-use Rattle.chosen_sets.specs.TaskArrays.{Held, Late}
+use Rattle.chosen_sets.specs.TaskArrays.{HeldSet, Late}
 use Rattle.checking.specs.declared.start_bounds.Bounds.{Bounds}
 use Rattle.checker.specs.declared.intervals.Interval.{Interval}
 use Rattle.checker.specs.Formulas.{any, lowest, highest}
@@ -27,7 +27,7 @@ mirroredBounds b durations n = record {
 
 -- the bounds are those of J's tasks in Ω
 pub record Bounding (J : Tasks natural) (Ω : TaskSet) (n : ℕ) (b : Bounds) (durations : List ℕ) : Type 0 where
-  pub held : Held J Ω n (b .bounded) (b .est) durations
+  pub held : HeldSet J Ω n (b .bounded) (b .est) durations
   pub late : Late J n (b .lst)
 
 -- What the loop gathers --------------------------------------------------------------------------------------------------------

@@ -4,6 +4,7 @@ use mathlib.Core.Option.{Option, some, none}
 use Prim.Native.Nat.{ℕ, zero, suc, _+_, min, max}
 use lib.Dec.{eqb, ltb}
 use lib.IntN.{ℤ, pos, negsuc}
+use Rattle.integers.specs.Limits.{U32MAX}
 use Rattle.integers.specs.Moments.{zeroAt}
 use Rattle.scheduling.specs.Scheduling.{whole, natural, Tasks, TaskSet, completion, processing}
 use Rattle.scheduling.specs.Moments.{moments}
@@ -20,7 +21,7 @@ any Ω (suc k) = any Ω k || Ω k
 module _ (J : Tasks natural) (Ω : TaskSet) where
   -- `lb_interval` and `ub_interval`: the least earliest start and the greatest latest completion of the tasks of Ω below k
   unfoldable pub lowest : ℕ → ℕ
-  lowest zero = 4294967295
+  lowest zero = U32MAX
   lowest (suc k) = cond (Ω k) (min (lowest k) (J .earliest k)) (lowest k)
 
   unfoldable pub highest : ℕ → ℕ

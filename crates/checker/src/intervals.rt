@@ -6,8 +6,11 @@ use integers::numbers::min64;
 ghost use mathlib.Core.Path.{_≡_};
 ghost use Prim.Native.Nat.{_+_, _^_, _<_};
 ghost use Rattle.scheduling.specs.Scheduling.{natural, Tasks, TaskSet};
-ghost use Rattle.chosen_sets.specs.TaskArrays.{Held, Late};
+ghost use Rattle.chosen_sets.specs.TaskArrays.{HeldSet, Late};
 ghost use Rattle.checker.specs.BoundArrays.{gathered, intervalOf};
+
+// The largest moment, with which the search for the least earliest start begins.
+const LARGEST: u64 = u32::MAX as u64;
 
 pub struct Interval {
     pub some: bool,
@@ -42,13 +45,13 @@ pub fn gather<'a>(
     durations: &'a [u32; TASKS],
     n: usize,
 ) -> Interval
-    requires { ⌜ ((J : Tasks natural) × (Ω : TaskSet) × Held J Ω n (now chosen) (now est) (now durations) × Late J n (now lst)) ⌝ }
-    ensures { λ r. ⌜ ((J : Tasks natural) (Ω : TaskSet) → Held J Ω n (now (chosen .entry)) (now (est .entry)) (now (durations .entry))
+    requires { ⌜ ((J : Tasks natural) × (Ω : TaskSet) × HeldSet J Ω n (now chosen) (now est) (now durations) × Late J n (now lst)) ⌝ }
+    ensures { λ r. ⌜ ((J : Tasks natural) (Ω : TaskSet) → HeldSet J Ω n (now (chosen .entry)) (now (est .entry)) (now (durations .entry))
         → Late J n (now (lst .entry)) → r ≡ intervalOf J Ω n) ⌝ }
 {
     let mut gathered = Interval {
         some: false,
-        lb: 4294967295,
+        lb: LARGEST,
         ub: 0,
         p: 0,
     };

@@ -1,4 +1,4 @@
--- The leaves of the theta tree get their colours, one after the other, and it is then the tree of the chosen tasks.
+-- The leaves of the theta tree get their colours one by one, and in the end it is the tree of the chosen tasks.
 use mathlib.Core.Path.{_≡_, refl, sym, ap, ap₂, subst, _∙_}
 use mathlib.Core.Bool.{Bool, true, false, cond}
 use mathlib.Core.Logic.{_⊎_, inl, inr}
@@ -25,12 +25,12 @@ use Rattle.trees.specs.Trees.{Limited, IsPlainTree}
 use Rattle.trees.specs.Operations.{HasTask}
 use Rattle.trees.specs.PlainOperations.{HeldPlain, PlainNew}
 use Rattle.trees.proofs.RootAnswers as tree
-use Rattle.chosen_sets.specs.ColouredLeaves.{colours, Takes, Took, Colourable}
-use Rattle.chosen_sets.specs.TaskArrays.{Held}
+use Rattle.chosen_sets.specs.ColouredLeaves.{colours, LeafColourable, LeafColoured, TreeColourable}
+use Rattle.chosen_sets.specs.TaskArrays.{HeldSet}
 
 -- The tree of the tasks that the arrays hold -----------------------------------------------------------------------------------
 
-module _ {J : Tasks natural} {Ω : TaskSet} {n : ℕ} {chosen : List Bool} {est durations : List ℕ} (h : Held J Ω n chosen est durations) where
+module _ {J : Tasks natural} {Ω : TaskSet} {n : ℕ} {chosen : List Bool} {est durations : List ℕ} (h : HeldSet J Ω n chosen est durations) where
   -- the tree's numbers stay in their range
   pub limited : Limited J (byEarliest J)
   limited =
@@ -51,7 +51,7 @@ module _ {J : Tasks natural} {Ω : TaskSet} {n : ℕ} {chosen : List Bool} {est 
   task-at {m} s x q = sym (getD-take n m x 0 q) ∙ ap (λ (o : List ℕ). getD o x 0) (front-is s)
 
   -- a new tree over the sorted order
-  abbrev pub colourable : {m : List ℕ} {t : ThetaTree} → SortedBy (byKey est) n m → PlainNew n m t → Colourable (t .«number_of_internal_nodes») n (t .nodes) m chosen est durations
+  abbrev pub colourable : {m : List ℕ} {t : ThetaTree} → SortedBy (byKey est) n m → PlainNew n m t → TreeColourable (t .«number_of_internal_nodes») n (t .nodes) m chosen est durations
   colourable {t = t} s new = record {
     J = J;
     Ω = Ω;
@@ -66,7 +66,7 @@ module _ {J : Tasks natural} {Ω : TaskSet} {n : ℕ} {chosen : List Bool} {est 
 
 -- One leaf after the other -----------------------------------------------------------------------------------------------------
 
-module _ {inner n : ℕ} {words tasks : List ℕ} {chosen : List Bool} {est durations : List ℕ} (f : Colourable inner n words tasks chosen est durations) where
+module _ {inner n : ℕ} {words tasks : List ℕ} {chosen : List Bool} {est durations : List ℕ} (f : TreeColourable inner n words tasks chosen est durations) where
   abbrev estOrder : List ℕ
   estOrder = byEarliest (f .J)
 
@@ -109,10 +109,10 @@ module _ {inner n : ℕ} {words tasks : List ℕ} {chosen : List Bool} {est dura
     abbrev shown : {now : List ℕ} → Shows (upTo x) now → HeldPlain inner now
     shown i = record { J = f .J; estOrder = byEarliest (f .J); leaves = upTo x; limited = limited (f .held); tree = i }
 
-    pub takes : {now : List ℕ} → Shows (upTo x) now → Takes inner now x (getD chosen t false) (getD est t 0) (getD durations t 0)
-    takes i y = (shown i, has-task)
+    pub leaf-colourable : {now : List ℕ} → Shows (upTo x) now → LeafColourable inner now x (getD chosen t false) (getD est t 0) (getD durations t 0)
+    leaf-colourable i y = (shown i, has-task)
 
-    pub one-more : {now now′ : List ℕ} → Shows (upTo x) now → Took inner now now′ x (getD chosen t false) (getD est t 0) (getD durations t 0) → Shows (upTo (x + 1)) now′
+    pub one-more : {now now′ : List ℕ} → Shows (upTo x) now → LeafColoured inner now now′ x (getD chosen t false) (getD est t 0) (getD durations t 0) → Shows (upTo (x + 1)) now′
     one-more {now} {now′} i p = subst (λ (ls : List Leaf). Shows ls now′) (sym (filled-more colour x blank)) (by (bool (f .Ω (getD estOrder x 0))))
       where
         by : (f .Ω (getD estOrder x 0) ≡ true) ⊎ (f .Ω (getD estOrder x 0) ≡ false) → Shows (set (upTo x) x (colour x)) now′

@@ -1,4 +1,4 @@
--- The arrays hold the moments of a record's tasks whose ranges are accepted, and a set of them, as the theta tree takes them.
+-- The moments of an accepted record's tasks, and a set of these tasks, stand in the arrays as `theta_ect` requires.
 use mathlib.Core.Path.{_≡_, ap, subst, _∙_}
 use mathlib.Core.Bool.{Bool, false}
 use mathlib.Core.List.{List}
@@ -14,7 +14,7 @@ use Rattle.records.specs.declared.record.DisjunctivePropagator.{DisjunctiveProp
 use Rattle.records.specs.Records.{momentsIn}
 use Rattle.records.specs.Refusals.{AcceptedInput}
 use Rattle.records.proofs.AcceptedTasks.{count, durations-at, sum-fits, proper, between, moments-at}
-use Rattle.chosen_sets.specs.TaskArrays.{Held, Late}
+use Rattle.chosen_sets.specs.TaskArrays.{HeldSet, Late}
 
 module _ (r : DisjunctivePropagator) (es ls : List ℤ) (a : AcceptedInput r es ls) (long : length (r .durations) ≡ TASKS) where
   abbrev M : Tasks natural
@@ -24,7 +24,7 @@ module _ (r : DisjunctivePropagator) (es ls : List ℤ) (a : AcceptedInput r es 
   limits k q = between r es ls a long k (omega (arith, count r es ls a long))
 
   pub held : {est : List ℕ} → est ≡ filled (momentAt es) (length es) noTasks → {Ω : TaskSet} {chosen : List Bool} → ((k : ℕ) → k < r .count → getD chosen k false ≡ Ω k)
-      → Held M Ω (r .count) chosen est (r .durations)
+      → HeldSet M Ω (r .count) chosen est (r .durations)
   held e member = record {
     proper = proper r es ls a long;
     count = count r es ls a long;

@@ -9,7 +9,7 @@ use Rattle.scheduling.specs.Scheduling.{natural, Tasks, Proper, TaskSet, total}
 use Rattle.trees.specs.NodeBounds.{LATEST}
 
 -- n tasks, their earliest starts and durations, and which of them are chosen
-pub record Held (J : Tasks natural) (Ω : TaskSet) (n : ℕ) (chosen : List Bool) (est durations : List ℕ) : Type 0 where
+pub record HeldSet (J : Tasks natural) (Ω : TaskSet) (n : ℕ) (chosen : List Bool) (est durations : List ℕ) : Type 0 where
   pub proper : Proper J
   pub count : J .count ≡ n
   pub few : n ≤ TASKS

@@ -12,8 +12,8 @@ ghost use mathlib.Core.Path.{_≡_};
 ghost use Rattle.scheduling.specs.Scheduling.{natural, Tasks, TaskSet};
 ghost use Rattle.scheduling.specs.Ects.{ectOf};
 ghost use Rattle.trees.specs.Ects.{momentOf};
-ghost use Rattle.chosen_sets.specs.ColouredLeaves.{Takes, Took, Colourable, Coloured};
-ghost use Rattle.chosen_sets.specs.TaskArrays.{Held};
+ghost use Rattle.chosen_sets.specs.ColouredLeaves.{LeafColourable, LeafColoured, TreeColourable, TreeColoured};
+ghost use Rattle.chosen_sets.specs.TaskArrays.{HeldSet};
 
 // Puts a task into the leaf at a place, where it is chosen.
 fn put_chosen(
@@ -25,8 +25,8 @@ fn put_chosen(
     est: u32,
     p: u32,
 )
-    requires { ⌜ Takes inner (now nodes) (place .0) chosen est p ⌝ }
-    ensures { λ _. ⌜ Took inner (now (nodes .entry)) (now (nodes .exit)) (place .0) chosen est p ⌝ }
+    requires { ⌜ LeafColourable inner (now nodes) (place .0) chosen est p ⌝ }
+    ensures { λ _. ⌜ LeafColoured inner (now (nodes .entry)) (now (nodes .exit)) (place .0) chosen est p ⌝ }
 {
     if chosen {
         let task = DisjunctiveTask {
@@ -48,8 +48,8 @@ fn fill<'a>(
     durations: &'a [u32; TASKS],
     n: usize,
 )
-    requires { ⌜ Colourable inner n (now nodes) (now tasks) (now chosen) (now est) (now durations) ⌝ }
-    ensures { λ _. ⌜ Coloured inner n (now (nodes .entry)) (now (nodes .exit)) (now (tasks .entry)) (now (chosen .entry)) (now (est .entry))
+    requires { ⌜ TreeColourable inner n (now nodes) (now tasks) (now chosen) (now est) (now durations) ⌝ }
+    ensures { λ _. ⌜ TreeColoured inner n (now (nodes .entry)) (now (nodes .exit)) (now (tasks .entry)) (now (chosen .entry)) (now (est .entry))
         (now (durations .entry)) ⌝ }
 {
     let mut x: usize = 0;
@@ -76,9 +76,9 @@ pub fn theta_ect<'a>(
     durations: &'a [u32; TASKS],
     n: usize,
 ) -> Ect
-    requires { ⌜ ((J : Tasks natural) × (Ω : TaskSet) × Held J Ω n (now chosen) (now est) (now durations)) ⌝ }
-    ensures { λ r. ⌜ ((J : Tasks natural) (Ω : TaskSet) → Held J Ω n (now (chosen .entry)) (now (est .entry)) (now (durations .entry)) → momentOf r ≡ ectOf J Ω)
-        ⌝ }
+    requires { ⌜ ((J : Tasks natural) × (Ω : TaskSet) × HeldSet J Ω n (now chosen) (now est) (now durations)) ⌝ }
+    ensures { λ r. ⌜ ((J : Tasks natural) (Ω : TaskSet) → HeldSet J Ω n (now (chosen .entry)) (now (est .entry)) (now (durations .entry))
+        → momentOf r ≡ ectOf J Ω) ⌝ }
 {
     let mut order: [usize; TASKS] = [0; TASKS];
     sort_numbers(&mut order, n, est);

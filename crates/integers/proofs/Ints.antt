@@ -90,7 +90,7 @@ pub <ℤ-show : {a b : ℤ} → up a + dn b < up b + dn a → a <ℤ b
 pub ≡ℤ-show : {a b : ℤ} → up a + dn b ≡ up b + dn a → a ≡ b
 ≡ℤ-show {a} {b} h = eq-of a b h
 
--- ---- what a test of two signed numbers tells, as a branch hands it over
+-- ---- what a test of two signed numbers says in the branch that is taken
 bool-T : {t : Bool} → t ≡ true → T t
 bool-T e = subst T (sym e) tt
 

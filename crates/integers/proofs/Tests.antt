@@ -116,7 +116,7 @@ first-refuses t ts is d = (
   λ f. refusal-here t ts (broken is .1 f),
 )
 
--- Tests, and others behind them: a number that is none of the first is given where those are passed and the others give it.
+-- Tests, and others after them: a number that is none of the first is given where those are passed and the others give it.
 -- What holds where the first are passed may be used for the others.
 pub behind : (ts us : List Test) {n : ℕ} {F G : Type 0} → (AllPassed ts ↔ F) → other ts n ≡ true → (F → refusal us ≡ n ↔ G) → refusal (ts ++ us) ≡ n ↔ (F × G)
 behind ts us {n} {F} {G} is d rest = (
@@ -131,7 +131,7 @@ behind ts us {n} {F} {G} is d rest = (
       | inr y ↦ absurd (other-cons t ts n d .0 (sym (refusal-here t (ts ++ us) y) ∙ h))
     ]
 
--- one test, and others behind it
+-- one test, and others after it
 pub first-holds : (t : Test) (us : List Test) {n : ℕ} {F G : Type 0} → (t .passed ≡ true ↔ F) → other (t ∷ []) n ≡ true → (F → refusal us ≡ n ↔ G) → refusal (t ∷ us) ≡ n ↔ (F × G)
 first-holds t us is d rest = behind (t ∷ []) us (λ p. is .0 (p .0), λ f. (is .1 f, tt)) d rest
 
@@ -143,7 +143,7 @@ module _ (ts : List Test) (t : Test) {F G : Type 0} (is : AllPassed ts ↔ F) (o
   pub more-refused : other ts (t .number) ≡ true → unused [] (t .number) ≡ true → refusal (ts ++ (t ∷ [])) ≡ t .number ↔ (F × (G → ⊥))
   more-refused d e = behind ts (t ∷ []) is d (λ _. first-refuses t [] own e)
 
--- a test behind others that are passed
+-- a test after others that are passed
 pub refuses : (before : List Test) (t : Test) (after : List Test) → AllPassed before → t .passed ≡ false → refusal (before ++ (t ∷ after)) ≡ t .number
 refuses [] t after h q = refusal-here t after q
 refuses (b ∷ bs) t after h q = refusal-next b (bs ++ (t ∷ after)) (h .0) ∙ refuses bs t after (h .1) q

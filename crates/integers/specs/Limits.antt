@@ -61,3 +61,10 @@ MOMENT = 400000000
 
 abbrev pub LENGTH : ℕ
 LENGTH = 400000000
+
+-- the largest i32 and the largest u32
+abbrev pub I32MAX : ℕ
+I32MAX = 2147483647
+
+abbrev pub U32MAX : ℕ
+U32MAX = 4294967295

@@ -22,10 +22,6 @@ instant o m = subℕ m o
 abbrev pub zeroAt : ℕ
 zeroAt = 2147483648
 
--- the largest key, which is that of a u32
-abbrev pub largestKey : ℕ
-largestKey = 4294967295
-
 -- the moment of task k's start
 abbrev pub momentAt : List ℤ → ℕ → ℕ
 momentAt xs k = moment zeroAt (getD xs k (pos 0))

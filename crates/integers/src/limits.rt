@@ -19,21 +19,30 @@ pub const ATOMWORDS: usize = 13824;
 
 // Variables of a state.
 pub const VARIABLES: usize = 64;
+
 // Starts lie from -START to START, and durations sum to at most DURATIONS.
 pub const START: i32 = 400_000_000;
 
 pub const DURATIONS: u32 = 400_000_000;
+
 // Due moments lie from -DUE to DUE.
 pub const DUE: i32 = 400_000_000;
+
 // An atom's value lies from -VALUE to VALUE.
 pub const VALUE: i32 = 900_000_000;
+
 // Premises of a check, and holes of a domain.
 pub const PREMISES: usize = 512;
 
 pub const HOLES: usize = 16;
+
 // Barred starts of a range.
 pub const BARS: usize = 16;
+
 // A moment that is asked about lies from -MOMENT to MOMENT, and a length of time from 1 to LENGTH.
 pub const MOMENT: i32 = 400_000_000;
 
 pub const LENGTH: i32 = 400_000_000;
+
+// The moment of 0: `zeroAt` of specs/Moments.antt.
+pub const ZERO_AT: i64 = 2147483648;

@@ -1,24 +1,25 @@
 // Moments: a whole number of 32 bits as the u32 that is 2^31 more, so that sums and comparisons are of natural numbers.
 use crate::limits::TASKS;
+use crate::limits::ZERO_AT;
 ghost use mathlib.Core.Path.{_≡_};
 ghost use Prim.Native.Nat.{ℕ, _≤_, _<_};
 ghost use lib.ListN.{length};
-ghost use Rattle.integers.specs.Limits.{TASKS};
+ghost use Rattle.integers.specs.Limits.{TASKS, U32MAX};
 ghost use Rattle.integers.specs.FilledLists.{filled};
-ghost use Rattle.integers.specs.Moments.{moment, instant, zeroAt, momentAt, completionAt, largestKey};
+ghost use Rattle.integers.specs.Moments.{moment, instant, zeroAt, momentAt, completionAt};
 
 // The moment of a whole number.
 pub fn moment_of(x: i32) -> u32
     ensures { λ r. ⌜ r ≡ moment zeroAt x ⌝ }
 {
-    ((x as i64) + 2147483648) as u32
+    ((x as i64) + ZERO_AT) as u32
 }
 
 // The whole number at a moment.
 pub fn start_of(m: u32) -> i32
     ensures { λ r. ⌜ r ≡ instant zeroAt m ⌝ }
 {
-    ((m as i64) - 2147483648) as i32
+    ((m as i64) - ZERO_AT) as i32
 }
 
 // The moments of the starts, in the first places.
@@ -40,7 +41,7 @@ pub fn completions(
     durations: &[u32; TASKS],
     n: usize,
 )
-    requires { ⌜ (n ≤ TASKS) × ((k : ℕ) → k < n → completionAt (now latest) (now durations) k ≤ largestKey) ⌝ }
+    requires { ⌜ (n ≤ TASKS) × ((k : ℕ) → k < n → completionAt (now latest) (now durations) k ≤ U32MAX) ⌝ }
     ensures { λ _. ⌜ now (out .exit) ≡ filled (completionAt (now (latest .entry)) (now (durations .entry))) n (now (out .entry)) ⌝ }
 {
     let mut i = 0;

@@ -3,6 +3,7 @@ ghost use mathlib.Core.Path.{_≡_};
 ghost use lib.IntN.{pos};
 ghost use lib.Signed.{_≤ℤ_, leZ};
 ghost use Prim.Native.Nat.{_<_, min, max};
+ghost use Rattle.integers.specs.Moments.{zeroAt};
 
 // A whole number that is not negative, as a duration is.
 pub fn nat_of(x: i32) -> u32
@@ -14,7 +15,7 @@ pub fn nat_of(x: i32) -> u32
 
 // A count or a task's number as a word.
 pub fn word_of(n: usize) -> i32
-    requires { ⌜ n < 2147483648 ⌝ }
+    requires { ⌜ n < zeroAt ⌝ }
     ensures { λ r. ⌜ r ≡ pos n ⌝ }
 {
     n as i32

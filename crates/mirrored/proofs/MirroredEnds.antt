@@ -1,4 +1,4 @@
--- What the mirrored pass hands to the core, and what it makes of what the core leaves.
+-- The mirrored ranges may be run on; what the run leaves may be mirrored back, and is then the mirrored pass.
 use mathlib.Core.Path.{_≡_, refl, sym, ap, ap₂, subst, _∙_}
 use mathlib.Core.List.{List, [], _∷_}
 use Prim.Native.Nat.{ℕ, _*_, _≤_, _<_}
@@ -33,7 +33,7 @@ use Rattle.runs.specs.declared.outcome.Outcome.{Outcome}
 use Rattle.runs.specs.EndNumbers.{endNumbers, traceNumbers}
 use Rattle.propagator.specs.Ran.{Runnable, traceOf, RunLeft}
 use Rattle.propagator.proofs.AcceptedInput as accepting
-use Rattle.mirrored.specs.MirroredSlices.{Reflectable, Durations, Ended, Told}
+use Rattle.mirrored.specs.MirroredSlices.{StartsMirrorable, Durations, WordsMirrorable, WordsMirrored}
 use Rattle.mirrored.specs.RanMirrored.{LeftMirrored}
 use Rattle.mirrored.specs.RanInMirror.{RanInMirror}
 
@@ -88,7 +88,7 @@ module _ (before : DisjunctivePropagator) (es ls : List ℤ) (postCount atomCoun
   count : length ds ≡ n
   count = accepting.count before (a .lawful)
 
-  here : demand.Accepted START ds es ls
+  here : demand.AcceptedTasks START ds es ls
   here = accepting.narrow before es ls postCount atomCount a
 
   es-long : length es ≡ length ds
@@ -97,7 +97,7 @@ module _ (before : DisjunctivePropagator) (es ls : List ℤ) (postCount atomCoun
   ls-long : length ls ≡ length ds
   ls-long = a .counts .latest ∙ sym count
 
-  there : demand.Accepted MIRRORED ds early late
+  there : demand.AcceptedTasks MIRRORED ds early late
   there = laws.mirrored-accepted ds es ls here es-long ls-long
 
   run-long : length (mirroredRun ds es ls .starts) ≡ length ds
@@ -107,9 +107,9 @@ module _ (before : DisjunctivePropagator) (es ls : List ℤ) (postCount atomCoun
   lasts-at k q = accepting.lasts-at before (a .lawful) k q
 
   -- starts that may be mirrored
-  reflectable : (zs : List ℤ) → length zs ≡ length ds → ((k : ℕ) → k < length ds → SFits w32 (getD (mirrorStarts ds zs) k (pos 0))) → (out : List ℤ) → length out ≡ n
-      → Reflectable out zs (before .durations)
-  reflectable zs e f out l = record {
+  starts-mirrorable : (zs : List ℤ) → length zs ≡ length ds → ((k : ℕ) → k < length ds → SFits w32 (getD (mirrorStarts ds zs) k (pos 0))) → (out : List ℤ) → length out ≡ n
+      → StartsMirrorable out zs (before .durations)
+  starts-mirrorable zs e f out l = record {
     places = omega (arith, l, e, count);
     few = omega (arith, e, count, a .lawful .few);
     long = long;
@@ -117,11 +117,11 @@ module _ (before : DisjunctivePropagator) (es ls : List ℤ) (postCount atomCoun
         (subst (SFits w32) (laws.mirror-at ds zs e k) (f k (omega (arith, e))));
   }
 
-  pub reflect-latest : (out : List ℤ) → length out ≡ n → Reflectable out ls (before .durations)
-  reflect-latest = reflectable ls ls-long (λ k q. wide-fits (getD early k (pos 0)) (there .from k q) (higher (getD early k (pos 0)) (getD late k (pos 0)) (there .ranges k q) (there .to k q)))
+  pub latest-mirrorable : (out : List ℤ) → length out ≡ n → StartsMirrorable out ls (before .durations)
+  latest-mirrorable = starts-mirrorable ls ls-long (λ k q. wide-fits (getD early k (pos 0)) (there .from k q) (higher (getD early k (pos 0)) (getD late k (pos 0)) (there .ranges k q) (there .to k q)))
 
-  pub reflect-earliest : (out : List ℤ) → length out ≡ n → Reflectable out es (before .durations)
-  reflect-earliest = reflectable es es-long (λ k q. wide-fits (getD late k (pos 0)) (lower (getD early k (pos 0)) (getD late k (pos 0)) (there .from k q) (there .ranges k q)) (there .to k q))
+  pub earliest-mirrorable : (out : List ℤ) → length out ≡ n → StartsMirrorable out es (before .durations)
+  earliest-mirrorable = starts-mirrorable es es-long (λ k q. wide-fits (getD late k (pos 0)) (lower (getD early k (pos 0)) (getD late k (pos 0)) (there .from k q) (there .ranges k q)) (there .to k q))
 
   -- and back
   back-fits : (k : ℕ) → k < length ds → SFits w32 (getD (mirrorStarts ds (mirroredRun ds es ls .starts)) k (pos 0))
@@ -163,8 +163,8 @@ module _ (before : DisjunctivePropagator) (es ls : List ℤ) (postCount atomCoun
     pub left-starts : from′ ≡ mirroredRun ds es ls .starts
     left-starts = l .starts ∙ ap (λ (x : Trace). x .starts) core-is
 
-    pub reflect-back : (out : List ℤ) → length out ≡ n → Reflectable out from′ (before .durations)
-    reflect-back out e = subst (λ (zs : List ℤ). Reflectable out zs (before .durations)) (sym left-starts) (reflectable (mirroredRun ds es ls .starts) run-long back-fits out e)
+    pub left-mirrorable : (out : List ℤ) → length out ≡ n → StartsMirrorable out from′ (before .durations)
+    left-mirrorable out e = subst (λ (zs : List ℤ). StartsMirrorable out zs (before .durations)) (sym left-starts) (starts-mirrorable (mirroredRun ds es ls .starts) run-long back-fits out e)
 
     pub ran-in-mirror : {ls′ : List ℤ} → ls′ ≡ mirrorStarts (take (length from′) (before .durations)) from′ → RanInMirror before es ls posts atoms r ls′ posts′ atoms′
     ran-in-mirror z = record {
@@ -175,7 +175,7 @@ module _ (before : DisjunctivePropagator) (es ls : List ℤ) (postCount atomCoun
       atom-words = l .atom-words ∙ ap (atomsAfter atoms) core-is;
     }
 
-  -- what is told of it
+  -- its words may be mirrored back
   pub durations-are : Durations ds (before .durations)
   durations-are = record { few = omega (arith, count, a .lawful .few); same = λ k q. sym (lasts-at k (omega (arith, count))) }
 
@@ -200,8 +200,8 @@ module _ (before : DisjunctivePropagator) (es ls : List ℤ) (postCount atomCoun
   )
 
   module _ {posts atoms posts′ atoms′ ls′ : List ℤ} {r : Outcome} (m : RanInMirror before es ls posts atoms r ls′ posts′ atoms′) where
-    abbrev pub ended : Ended r posts′ atoms′ (before .durations)
-    ended = record {
+    abbrev pub words-mirrorable : WordsMirrorable r posts′ atoms′ (before .durations)
+    words-mirrorable = record {
       ds = take (before .count) (before .durations);
       trace = mirroredRun (take (before .count) (before .durations)) es ls;
       old-posts = posts;
@@ -216,7 +216,8 @@ module _ (before : DisjunctivePropagator) (es ls : List ℤ) (postCount atomCoun
       small = few-atoms;
     }
 
-    pub left-mirrored : postCount ≤ length posts → atomCount ≤ length atoms → {posts″ atoms″ : List ℤ} → Told ended posts″ atoms″ → LeftMirrored before es ls posts atoms r ls′ posts″ atoms″
+    pub left-mirrored : postCount ≤ length posts → atomCount ≤ length atoms → {posts″ atoms″ : List ℤ} → WordsMirrored words-mirrorable posts″ atoms″
+        → LeftMirrored before es ls posts atoms r ls′ posts″ atoms″
     left-mirrored p q t = record {
       answer = m .answer ∙ sym (same-numbers ds (mirroredRun ds es ls));
       starts = m .starts;

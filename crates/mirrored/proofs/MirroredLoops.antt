@@ -1,4 +1,4 @@
--- What a turn of each loop of the mirrored pass may do and leaves, and how many posts and atoms an outcome tells of.
+-- One turn of each loop of the mirrored pass: what it may mirror, and what is mirrored after it; and how many posts and atoms an outcome has.
 use mathlib.Core.Path.{_≡_, refl, sym, ap, ap₂, subst, _∙_}
 use mathlib.Core.List.{List, [], _∷_, _++_}
 use Prim.Native.Nat.{ℕ, zero, suc, _+_, _-_, _*_, _≤_, _<_}
@@ -30,7 +30,7 @@ use Rattle.runs.specs.declared.outcome.Outcome.{Outcome}
 use Rattle.runs.specs.declared.outcome.Outcome.the-variants as outcome
 use Rattle.runs.specs.Outcomes.{outcomeNumbers, valueOf}
 use Rattle.runs.proofs.TraceNumbers.{not-refused, posts-made, kind-done, kind-emptied, kind-overload}
-use Rattle.mirrored.specs.MirroredSlices.{mirroredWord, Mirrorable, Durations, PostsHeld, AtomsHeld, Counted, Answered}
+use Rattle.mirrored.specs.MirroredSlices.{mirroredWord, WordMirrorable, Durations, PostsMirrorable, AtomsMirrorable, ReasonsCountable, AtomsCountable}
 
 -- Starts, filled in from the front -----------------------------------------------------------------------------------------------
 
@@ -54,7 +54,7 @@ module _ (ds array : List ℕ) (d : Durations ds array) (words : List ℤ) (of a
   pub word-is : mirroredWord words of at array ≡ mirrorStart (durationIn ds (a .variable)) (a .value)
   word-is = ap₂ (λ (t z : ℤ). mirrorStart (getD array (natAbs t) 0) z) task start ∙ ap (λ (p : ℕ). mirrorStart p (a .value)) (d .same (a .variable) (near .task))
 
-  pub word-mirrorable : of < length words → at < length words → Mirrorable words of at array
+  pub word-mirrorable : of < length words → at < length words → WordMirrorable words of at array
   word-mirrorable p q = record {
     of-inside = p;
     at-inside = q;
@@ -65,7 +65,8 @@ module _ (ds array : List ℕ) (d : Durations ds array) (words : List ℤ) (of a
 
 -- Posts --------------------------------------------------------------------------------------------------------------------------
 
-module _ {old : List ℤ} {count : ℕ} {array : List ℕ} (h : PostsHeld old count array) (words : List ℤ) (j : ℕ) (q : j < count) (e : words ≡ postWords 0 (postsTo (h .ds) j (h .posts)) ++ h .tail) where
+module _ {old : List ℤ} {count : ℕ} {array : List ℕ} (h : PostsMirrorable old count array) (words : List ℤ) (j : ℕ) (q : j < count)
+    (e : words ≡ postWords 0 (postsTo (h .ds) j (h .posts)) ++ h .tail) where
   abbrev p : Post
   p = getD (h .posts) j no-post
 
@@ -84,11 +85,12 @@ module _ {old : List ℤ} {count : ℕ} {array : List ℕ} (h : PostsHeld old co
   room : 4 * j + 4 ≤ length words
   room = omega (arith, size, posts-length (postsTo (h .ds) j (h .posts)) 0, filled-length (λ k. mirrorPost (h .ds) (getD (h .posts) k no-post)) j (h .posts), inside)
 
-  pub post-mirrorable : Mirrorable words (taskAt j) (boundAt j) array
+  pub post-mirrorable : WordMirrorable words (taskAt j) (boundAt j) array
   post-mirrorable = word-mirrorable (h .ds) array (h .durations) words (taskAt j) (boundAt j) (consequentOf p) (h .near j q) task bound (omega (arith, room)) (omega (arith, room))
 
-  pub post-told : {now : List ℤ} {of at : ℕ} → of ≡ taskAt j → at ≡ boundAt j → now ≡ set words at (mirroredWord words of at array) → now ≡ postWords 0 (postsTo (h .ds) (j + 1) (h .posts)) ++ h .tail
-  post-told of-is at-is z = z ∙ ap₂ (λ (of at : ℕ). set words at (mirroredWord words of at array)) of-is at-is
+  pub post-mirrored : {now : List ℤ} {of at : ℕ} → of ≡ taskAt j → at ≡ boundAt j → now ≡ set words at (mirroredWord words of at array)
+      → now ≡ postWords 0 (postsTo (h .ds) (j + 1) (h .posts)) ++ h .tail
+  post-mirrored of-is at-is z = z ∙ ap₂ (λ (of at : ℕ). set words at (mirroredWord words of at array)) of-is at-is
       ∙ ap₂ (λ (l : List ℤ) (v : ℤ). set l (boundAt j) v) e (word-is (h .ds) array (h .durations) words (taskAt j) (boundAt j) (consequentOf p) (h .near j q) task bound)
       ∙ posts-step (h .ds) (h .posts) (h .tail) 0 j inside
 
@@ -104,7 +106,8 @@ small-kind : (k : ℕ) → k < 2 → (pos 0 ≤ℤ pos k) × (pos k ≤ℤ pos 1
 unfolding up dn
 small-kind k q = (omega ints, omega ints)
 
-module _ {old : List ℤ} {count : ℕ} {array : List ℕ} (h : AtomsHeld old count array) (words : List ℤ) (k : ℕ) (q : k < count) (e : words ≡ atomWords (atomsTo (h .ds) k (h .atoms)) ++ h .tail) where
+module _ {old : List ℤ} {count : ℕ} {array : List ℕ} (h : AtomsMirrorable old count array) (words : List ℤ) (k : ℕ) (q : k < count)
+    (e : words ≡ atomWords (atomsTo (h .ds) k (h .atoms)) ++ h .tail) where
   abbrev a : Atom
   a = getD (h .atoms) k no-atom
 
@@ -147,21 +150,21 @@ module _ {old : List ℤ} {count : ℕ} {array : List ℕ} (h : AtomsHeld old co
     same : length then ≡ length words
     same = ap length t ∙ length-set words (kindAt k) (pos 1 -ℤ getD words (kindAt k) (pos 0))
 
-    pub value-mirrorable : Mirrorable then (variableAt k) (valueAt k) array
+    pub value-mirrorable : WordMirrorable then (variableAt k) (valueAt k) array
     value-mirrorable = word-mirrorable (h .ds) array (h .durations) then (variableAt k) (valueAt k) a near (still (variableAt k) (omega arith) ∙ variable) (still (valueAt k) (omega arith) ∙ value)
         (omega (arith, long, same)) (omega (arith, long, same))
 
-    pub atom-told : {now : List ℤ} {of at : ℕ} → of ≡ variableAt k → at ≡ valueAt k → now ≡ set then at (mirroredWord then of at array)
+    pub atom-mirrored : {now : List ℤ} {of at : ℕ} → of ≡ variableAt k → at ≡ valueAt k → now ≡ set then at (mirroredWord then of at array)
         → now ≡ atomWords (atomsTo (h .ds) (k + 1) (h .atoms)) ++ h .tail
-    atom-told of-is at-is z = z ∙ ap₂ (λ (of at : ℕ). set then at (mirroredWord then of at array)) of-is at-is ∙ ap₂ (λ (l : List ℤ) (v : ℤ). set l (valueAt k) v)
+    atom-mirrored of-is at-is z = z ∙ ap₂ (λ (of at : ℕ). set then at (mirroredWord then of at array)) of-is at-is ∙ ap₂ (λ (l : List ℤ) (v : ℤ). set l (valueAt k) v)
         (t ∙ ap₂ (λ (l : List ℤ) (v : ℤ). set l (kindAt k) v) e (ap (λ (v : ℤ). pos 1 -ℤ v) kind ∙ kind-is (a .kind) (near .kind)))
         (word-is (h .ds) array (h .durations) then (variableAt k) (valueAt k) a near (still (variableAt k) (omega arith) ∙ variable) (still (valueAt k) (omega arith) ∙ value))
         ∙ atoms-step (h .ds) (h .atoms) (h .tail) k within
 
 -- How many -----------------------------------------------------------------------------------------------------------------------
 
-pub none-counted : {words : List ℤ} {count : ℕ} (c : Counted words count) → count ≡ 0 → 0 ≡ length (reasons (c .posts))
-none-counted c z = none (c .posts) (c .number ∙ z)
+pub none-countable : {words : List ℤ} {count : ℕ} (c : ReasonsCountable words count) → count ≡ 0 → 0 ≡ length (reasons (c .posts))
+none-countable c z = none (c .posts) (c .number ∙ z)
   where
     none : (ps : List Post) → length ps ≡ 0 → 0 ≡ length (reasons ps)
     none [] z = sym no-reasons
@@ -176,8 +179,8 @@ pub record Last (words : List ℤ) (count : ℕ) (all : ℕ) : Type 0 where
   pub sum : first + many ≡ all
   pub inside : 4 * (count - 1) + 4 ≤ length words
 
-pub last-counted : {words : List ℤ} {count : ℕ} (c : Counted words count) → 0 < count → Last words count (length (reasons (c .posts)))
-last-counted {words} {count} c h = record {
+pub last-countable : {words : List ℤ} {count : ℕ} (c : ReasonsCountable words count) → 0 < count → Last words count (length (reasons (c .posts)))
+last-countable {words} {count} c h = record {
   first = startOf (c .posts) j;
   many = length (getD (c .posts) j no-post .reason);
   first-is = at 2 (omega arith) ∙ four-words (c .posts) 0 j inside .from ∙ ap pos plain;
@@ -202,7 +205,7 @@ last-counted {words} {count} c h = record {
     at i q = ap (λ (l : List ℤ). getD l (4 * j + i) (pos 0)) (c .words-are) ∙ List·getD-append (postWords 0 (c .posts)) (c .tail) (pos 0) (4 * j + i) (omega (arith, posts-length (c .posts) 0, inside))
 
 -- An answer shows how many atoms follow those of the posts.
-module _ {r : Outcome} {words : List ℤ} (a : Answered r words) where
+module _ {r : Outcome} {words : List ℤ} (a : AtomsCountable r words) where
   abbrev ps : List Post
   ps = a .trace .posts
 
@@ -212,12 +215,12 @@ module _ {r : Outcome} {words : List ℤ} (a : Answered r words) where
   pub all-atoms : length (atomsIn (a .trace)) ≡ length (reasons ps) + length (endReason end)
   all-atoms = length-append (reasons ps) (endReason end)
 
-  -- the posts that it tells of are counted
+  -- its posts are counted
   pub many-posts : valueOf r 0 ≡ length ps
   many-posts = posts-made r (a .trace) (a .answer)
 
-  abbrev pub counted : (m : ℕ) → valueOf r 0 ≡ m → Counted words m
-  counted m z = record {
+  abbrev pub reasons-countable : (m : ℕ) → valueOf r 0 ≡ m → ReasonsCountable words m
+  reasons-countable m z = record {
     posts = ps;
     tail = drop (length (postWords 0 ps)) (a .old);
     words-are = a .words-are;

@@ -31,7 +31,7 @@ falls = refl
 
 -- Around zero the second starts at −1 or earlier, since the first starts from 0 to 1 and the second by 3: even a latest start that is later than the second's
 -- own is enough.
-pub told : pass (pos 0) .posts ≡ record {
+pub mirrored-back : pass (pos 0) .posts ≡ record {
   task = 1;
   bound = negsuc 0;
   reason = record { variable = 0; kind = 1; value = pos 1 } ∷ record { variable = 0; kind = 0; value = pos 0 } ∷ record
@@ -39,4 +39,4 @@ pub told : pass (pos 0) .posts ≡ record {
 } ∷ []
 unfolding propagate run outer inner decoded conflict propagation bounds within tabulate heightFrom sort insert index numbers width root responsible theta joinOf
     isEmpty gray tested descentP descentEct stepP stepEct searchP searchEct thetaOf nodeOver
-told = refl
+mirrored-back = refl

@@ -1,4 +1,4 @@
--- What the functions of the mirrored pass take and leave: starts put into mirrored time, and what a run there leaves told in the caller's.
+-- What the functions of the mirrored pass require and ensure of slices: starts in mirrored time, and a run's words there mirrored back.
 use mathlib.Core.Path.{_≡_}
 use mathlib.Core.List.{List, _++_}
 use Prim.Native.Nat.{ℕ, _≤_, _<_}
@@ -21,7 +21,7 @@ use Rattle.runs.specs.Outcomes.{outcomeNumbers}
 use Rattle.runs.specs.EndNumbers.{traceNumbers}
 
 -- The starts have a place each, and mirrored they are i32s.
-pub record Reflectable (out starts : List ℤ) (durations : List ℕ) : Type 0 where
+pub record StartsMirrorable (out starts : List ℤ) (durations : List ℕ) : Type 0 where
   pub places : length out ≡ length starts
   pub few : length starts ≤ TASKS
   pub long : length durations ≡ TASKS
@@ -32,7 +32,7 @@ abbrev pub mirroredWord : List ℤ → ℕ → ℕ → List ℕ → ℤ
 mirroredWord words of at durations = mirrorStart (getD durations (natAbs (getD words of (pos 0))) 0) (getD words at (pos 0))
 
 -- Both words are there, the first is a task, and the mirrored start is an i32.
-pub record Mirrorable (words : List ℤ) (of at : ℕ) (durations : List ℕ) : Type 0 where
+pub record WordMirrorable (words : List ℤ) (of at : ℕ) (durations : List ℕ) : Type 0 where
   pub of-inside : of < length words
   pub at-inside : at < length words
   pub natural : pos 0 ≤ℤ getD words of (pos 0)
@@ -45,7 +45,7 @@ pub record Durations (ds array : List ℕ) : Type 0 where
   pub same : (k : ℕ) → k < length ds → getD array k 0 ≡ getD ds k 0
 
 -- The words of `count` posts of a run in mirrored time, and after them any.
-pub record PostsHeld (words : List ℤ) (count : ℕ) (array : List ℕ) : Type 0 where
+pub record PostsMirrorable (words : List ℤ) (count : ℕ) (array : List ℕ) : Type 0 where
   pub ds : List ℕ
   pub posts : List Post
   pub tail : List ℤ
@@ -56,11 +56,11 @@ pub record PostsHeld (words : List ℤ) (count : ℕ) (array : List ℕ) : Type 
   pub near : (j : ℕ) → j < count → Near ds (consequentOf (getD posts j no-post))
 
 -- They are mirrored, whatever posts they are.
-abbrev pub PostsTold : List ℤ → ℕ → List ℕ → List ℤ → Type 0
-PostsTold words count array words′ = (h : PostsHeld words count array) → words′ ≡ postWords 0 (postsTo (h .ds) count (h .posts)) ++ h .tail
+abbrev pub PostsMirrored : List ℤ → ℕ → List ℕ → List ℤ → Type 0
+PostsMirrored words count array words′ = (h : PostsMirrorable words count array) → words′ ≡ postWords 0 (postsTo (h .ds) count (h .posts)) ++ h .tail
 
 -- The words of `count` atoms of a run in mirrored time, and after them any.
-pub record AtomsHeld (words : List ℤ) (count : ℕ) (array : List ℕ) : Type 0 where
+pub record AtomsMirrorable (words : List ℤ) (count : ℕ) (array : List ℕ) : Type 0 where
   pub ds : List ℕ
   pub atoms : List Atom
   pub tail : List ℤ
@@ -71,11 +71,11 @@ pub record AtomsHeld (words : List ℤ) (count : ℕ) (array : List ℕ) : Type 
   pub near : Every (Near ds) atoms
 
 -- They are mirrored, whatever atoms they are.
-abbrev pub AtomsTold : List ℤ → ℕ → List ℕ → List ℤ → Type 0
-AtomsTold words count array words′ = (h : AtomsHeld words count array) → words′ ≡ atomWords (atomsTo (h .ds) count (h .atoms)) ++ h .tail
+abbrev pub AtomsMirrored : List ℤ → ℕ → List ℕ → List ℤ → Type 0
+AtomsMirrored words count array words′ = (h : AtomsMirrorable words count array) → words′ ≡ atomWords (atomsTo (h .ds) count (h .atoms)) ++ h .tail
 
 -- The words of a run's `count` posts, and after them any.
-pub record Counted (words : List ℤ) (count : ℕ) : Type 0 where
+pub record ReasonsCountable (words : List ℤ) (count : ℕ) : Type 0 where
   pub posts : List Post
   pub tail : List ℤ
   pub words-are : words ≡ postWords 0 posts ++ tail
@@ -84,7 +84,7 @@ pub record Counted (words : List ℤ) (count : ℕ) : Type 0 where
   pub small : length (reasons posts) ≤ ATOMS
 
 -- A run's answer, and the words of its posts over what stood in the slice.
-pub record Answered (r : Outcome) (words : List ℤ) : Type 0 where
+pub record AtomsCountable (r : Outcome) (words : List ℤ) : Type 0 where
   pub trace : Trace
   pub old : List ℤ
   pub answer : outcomeNumbers r ≡ traceNumbers trace
@@ -93,7 +93,7 @@ pub record Answered (r : Outcome) (words : List ℤ) : Type 0 where
   pub small : length (atomsIn trace) ≤ ATOMS
 
 -- A run in mirrored time: its answer and its words over what stood in the slices; all its numbers are near.
-pub record Ended (r : Outcome) (posts atoms : List ℤ) (array : List ℕ) : Type 0 where
+pub record WordsMirrorable (r : Outcome) (posts atoms : List ℤ) (array : List ℕ) : Type 0 where
   pub ds : List ℕ
   pub trace : Trace
   pub old-posts : List ℤ
@@ -107,7 +107,7 @@ pub record Ended (r : Outcome) (posts atoms : List ℤ) (array : List ℕ) : Typ
   pub few : length (trace .posts) ≤ TASKS
   pub small : length (atomsIn trace) ≤ ATOMS
 
--- It is told in the caller's time.
-pub record Told {r : Outcome} {posts atoms : List ℤ} {array : List ℕ} (e : Ended r posts atoms array) (posts′ atoms′ : List ℤ) : Type 0 where
+-- Mirrored, its words are those of the mirrored trace.
+pub record WordsMirrored {r : Outcome} {posts atoms : List ℤ} {array : List ℕ} (e : WordsMirrorable r posts atoms array) (posts′ atoms′ : List ℤ) : Type 0 where
   pub post-words : posts′ ≡ postsAfter (e .old-posts) (mirrorTrace (e .ds) (e .trace))
   pub atom-words : atoms′ ≡ atomsAfter (e .old-atoms) (mirrorTrace (e .ds) (e .trace))

@@ -31,14 +31,14 @@ module _ (before : DisjunctivePropagator) (es ls : List ℤ) where
     pub posts-fit : length (postWords 0 (mirroredOf .posts)) ≤ length posts
     pub atoms-fit : length (atomWords (atomsIn mirroredOf)) ≤ length atoms
 
-  -- A refused pass leaves everything as it was.
+  -- A refused pass leaves everything unchanged.
   pub record KeptMirrored (number : ℕ) (posts atoms : List ℤ) (r : Outcome) (ls′ posts′ atoms′ : List ℤ) : Type 0 where
     pub answer : outcomeNumbers r ≡ refusedBy number
     pub starts : ls′ ≡ ls
     pub post-words : posts′ ≡ posts
     pub atom-words : atoms′ ≡ atoms
 
--- A mirrored pass, told whether the bars of its ranges fit: the first test of a run that fails on the caller's own numbers refuses it, and nothing changes;
+-- A mirrored pass on ranges whose bars fit if `bars`: the first test of a run that fails on the caller's own numbers refuses it, and nothing changes;
 -- else it leaves the trace.
 pub record RanMirrored (before : DisjunctivePropagator) (es ls : List ℤ) (bars : Bool) (posts atoms : List ℤ) (r : Outcome)
     (ls′ posts′ atoms′ : List ℤ) : Type 0 where

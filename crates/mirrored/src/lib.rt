@@ -1,3 +1,3 @@
-// The mirrored pass.
+// The mirrored pass, and starts and words in mirrored time.
 pub mod mirrored_propagator;
-pub mod mirrored_time;
+mod mirrored_time;

@@ -1,6 +1,6 @@
-// The mirrored pass: latest starts fall by the mirrored rule. It is a run in mirrored time, where the caller's moment t is -t, told in the caller's time.
+// The mirrored pass: latest starts fall by the mirrored rule. It is a run in mirrored time, where the caller's moment t is -t, and its words are mirrored back.
 use crate::mirrored_time::mirror_starts;
-use crate::mirrored_time::tell;
+use crate::mirrored_time::mirror_words;
 use integers::limits::TASKS;
 use propagator::disjunctive_propagator::run_accepted;
 use records::record::DisjunctivePropagator;
@@ -34,7 +34,7 @@ fn run_in_mirror(
     finished.outcome
 }
 
-// A mirrored pass on the record's durations and the ranges, told whether their bars fit.
+// A mirrored pass on the record's durations and the ranges, whose bars fit if `bars_fit`.
 pub fn propagate_mirrored(
     record: DisjunctivePropagator,
     earliest: &[i32],
@@ -61,6 +61,6 @@ pub fn propagate_mirrored(
     }
     let durations = record.durations;
     let outcome = run_in_mirror(record, earliest, latest, posts, atoms);
-    tell(outcome, posts, atoms, &durations);
+    mirror_words(outcome, posts, atoms, &durations);
     outcome
 }

@@ -1,5 +1,4 @@
-// Starts put into mirrored time, where the caller's moment t is -t, and what a run there leaves told in the caller's time.
-// What is public here is so for the crate of the mirrored pass, and is no open call: it tests nothing.
+// Starts in mirrored time, where the caller's moment t is -t, and the words that a run there leaves, mirrored back in their places.
 use integers::limits::TASKS;
 use integers::numbers::nat_of;
 use post_words::atom_count;
@@ -21,8 +20,8 @@ ghost use Rattle.scheduling.specs.MirroredTime.{mirrorStart};
 ghost use Rattle.runs.specs.Words.{reasons, atomsIn};
 ghost use Rattle.runs.specs.Mirrored.{mirrorStarts};
 ghost use Rattle.runs.specs.Outcomes.{valueOf};
-ghost use Rattle.mirrored.specs.MirroredSlices.{Reflectable, mirroredWord, Mirrorable, PostsHeld, PostsTold, AtomsHeld, AtomsTold, Counted, Answered};
-ghost use Rattle.mirrored.specs.MirroredSlices.{Ended, Told};
+ghost use Rattle.mirrored.specs.MirroredSlices.{StartsMirrorable, mirroredWord, WordMirrorable, PostsMirrorable, PostsMirrored, AtomsMirrorable};
+ghost use Rattle.mirrored.specs.MirroredSlices.{AtomsMirrored, ReasonsCountable, AtomsCountable, WordsMirrorable, WordsMirrored};
 
 // A start of a task that lasts p, in mirrored time; and back.
 fn mirror_start(x: i32, p: u32) -> i32
@@ -34,7 +33,7 @@ fn mirror_start(x: i32, p: u32) -> i32
 
 // Each start, mirrored, in its place of `out`.
 pub fn mirror_starts(out: &mut [i32], starts: &[i32], durations: &[u32; TASKS])
-    requires { ⌜ Reflectable (now out) (now starts) (now durations) ⌝ }
+    requires { ⌜ StartsMirrorable (now out) (now starts) (now durations) ⌝ }
     ensures { λ _. ⌜ now (out .exit) ≡ mirrorStarts (take (length (now (starts .entry))) (now (durations .entry))) (now (starts .entry)) ⌝ }
 {
     let mut k = 0;
@@ -46,7 +45,7 @@ pub fn mirror_starts(out: &mut [i32], starts: &[i32], durations: &[u32; TASKS])
 
 // The word at `at` is a start of the task that the word at `of` names: it is mirrored in its place.
 fn mirror_word(words: &mut [i32], of: usize, at: usize, durations: &[u32; TASKS])
-    requires { ⌜ Mirrorable (now words) of at (now durations) ⌝ }
+    requires { ⌜ WordMirrorable (now words) of at (now durations) ⌝ }
     ensures { λ _. ⌜ now (words .exit) ≡ set (now (words .entry)) at (mirroredWord (now (words .entry)) of at (now (durations .entry))) ⌝ }
 {
     let task = nat_of(words[of]) as usize;
@@ -63,8 +62,8 @@ fn mirror_kind(words: &mut [i32], at: usize)
 
 // Of each post the bound is mirrored.
 fn mirror_posts(posts: &mut [i32], count: usize, durations: &[u32; TASKS])
-    requires { ⌜ PostsHeld (now posts) count (now durations) ⌝ }
-    ensures { λ _. ⌜ PostsTold (now (posts .entry)) count (now (durations .entry)) (now (posts .exit)) ⌝ }
+    requires { ⌜ PostsMirrorable (now posts) count (now durations) ⌝ }
+    ensures { λ _. ⌜ PostsMirrored (now (posts .entry)) count (now (durations .entry)) (now (posts .exit)) ⌝ }
 {
     let mut j = 0;
     while j < count {
@@ -73,10 +72,10 @@ fn mirror_posts(posts: &mut [i32], count: usize, durations: &[u32; TASKS])
     }
 }
 
-// Of each atom the kind and the value are.
+// Of each atom the kind and the value are mirrored.
 fn mirror_atoms(atoms: &mut [i32], count: usize, durations: &[u32; TASKS])
-    requires { ⌜ AtomsHeld (now atoms) count (now durations) ⌝ }
-    ensures { λ _. ⌜ AtomsTold (now (atoms .entry)) count (now (durations .entry)) (now (atoms .exit)) ⌝ }
+    requires { ⌜ AtomsMirrorable (now atoms) count (now durations) ⌝ }
+    ensures { λ _. ⌜ AtomsMirrored (now (atoms .entry)) count (now (durations .entry)) (now (atoms .exit)) ⌝ }
 {
     let mut k = 0;
     while k < count {
@@ -88,8 +87,8 @@ fn mirror_atoms(atoms: &mut [i32], count: usize, durations: &[u32; TASKS])
 
 // How many atoms the reasons of `count` posts have: the last post's reason ends with the last.
 fn atoms_of_posts(posts: &[i32], count: usize) -> usize
-    requires { ⌜ Counted (now posts) count ⌝ }
-    ensures { λ r. ⌜ ((c : Counted (now (posts .entry)) count) → r ≡ length (reasons (c .posts))) ⌝ }
+    requires { ⌜ ReasonsCountable (now posts) count ⌝ }
+    ensures { λ r. ⌜ ((c : ReasonsCountable (now (posts .entry)) count) → r ≡ length (reasons (c .posts))) ⌝ }
 {
     if count == 0 {
         return 0;
@@ -98,7 +97,7 @@ fn atoms_of_posts(posts: &[i32], count: usize) -> usize
     first_atom(posts, last) as usize + atom_count(posts, last) as usize
 }
 
-// How many posts an outcome tells of.
+// How many posts a run with this outcome made.
 fn posts_of(outcome: Outcome) -> usize
     ensures { λ r. ⌜ r ≡ valueOf outcome 0 ⌝ }
 {
@@ -116,8 +115,8 @@ fn posts_of(outcome: Outcome) -> usize
 
 // How many atoms a run wrote: those of its posts, and an overload's after them.
 fn atoms_of(outcome: Outcome, posts: &[i32]) -> usize
-    requires { ⌜ Answered outcome (now posts) ⌝ }
-    ensures { λ r. ⌜ ((a : Answered outcome (now (posts .entry))) → r ≡ length (atomsIn (a .trace))) ⌝ }
+    requires { ⌜ AtomsCountable outcome (now posts) ⌝ }
+    ensures { λ r. ⌜ ((a : AtomsCountable outcome (now (posts .entry))) → r ≡ length (atomsIn (a .trace))) ⌝ }
 {
     match outcome {
         Outcome::Done(m) => atoms_of_posts(posts, m),
@@ -131,10 +130,16 @@ fn atoms_of(outcome: Outcome, posts: &[i32]) -> usize
     }
 }
 
-// What a run in mirrored time wrote is told in the caller's time.
-pub fn tell(outcome: Outcome, posts: &mut [i32], atoms: &mut [i32], durations: &[u32; TASKS])
-    requires { ⌜ Ended outcome (now posts) (now atoms) (now durations) ⌝ }
-    ensures { λ _. ⌜ ((e : Ended outcome (now (posts .entry)) (now (atoms .entry)) (now (durations .entry))) → Told e (now (posts .exit)) (now (atoms .exit))) ⌝ }
+// The words that a run in mirrored time wrote, mirrored back into the caller's time.
+pub fn mirror_words(
+    outcome: Outcome,
+    posts: &mut [i32],
+    atoms: &mut [i32],
+    durations: &[u32; TASKS],
+)
+    requires { ⌜ WordsMirrorable outcome (now posts) (now atoms) (now durations) ⌝ }
+    ensures { λ _. ⌜ ((e : WordsMirrorable outcome (now (posts .entry)) (now (atoms .entry)) (now (durations .entry)))
+        → WordsMirrored e (now (posts .exit)) (now (atoms .exit))) ⌝ }
 {
     let count = posts_of(outcome);
     let many = atoms_of(outcome, posts);

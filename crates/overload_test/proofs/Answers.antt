@@ -1,4 +1,4 @@
--- The answer: yes with the first place at which the tasks read overload, or no where there is none; and what that means over whole numbers.
+-- The answer is yes at the first place where the tasks read overload, and no where there is none; over whole numbers it says whether any set overloads.
 use mathlib.Core.Path.{_≡_, refl, sym, ap, _∙_}
 use mathlib.Core.Bool.{Bool, true, false}
 use mathlib.Core.Logic.{_⊎_, inl, inr, _↔_}
@@ -67,9 +67,9 @@ module _ (J : Tasks natural) where
     is : answerFrom J k d ≡ No
     none : (j : ℕ) → k ≤ j → j < k + d → overloadsAt J j ≡ false
 
-  told : (k d : ℕ) → Stopped k d ⊎ Passed k d
-  told k zero = inr (record { is = ends-no k; none = λ j p q. absurd (omega arith) })
-  told k (suc d) = by (bool (overloadsAt J k)) (told (suc k) d)
+  stopped-or-passed : (k d : ℕ) → Stopped k d ⊎ Passed k d
+  stopped-or-passed k zero = inr (record { is = ends-no k; none = λ j p q. absurd (omega arith) })
+  stopped-or-passed k (suc d) = by (bool (overloadsAt J k)) (stopped-or-passed (suc k) d)
     where
       by : (overloadsAt J k ≡ true) ⊎ (overloadsAt J k ≡ false) → Stopped (suc k) d ⊎ Passed (suc k) d → Stopped k (suc d) ⊎ Passed k (suc d)
       by (inl y) t = inl (record { at = k; is = stops k d y; small = omega arith; over = y })
@@ -83,7 +83,7 @@ module _ (J : Tasks natural) where
     pub many : (k : ℕ) → overloadNumbers r ≡ answered 0 (pos k ∷ []) → (1 ≤ k) × (k ≤ J .count)
 
   pub says : Proper J → (r : Overload) → r ≡ answerOf J → Says r
-  says ok r z = by (told 0 (J .count))
+  says ok r z = by (stopped-or-passed 0 (J .count))
     where
       by : Stopped 0 (J .count) ⊎ Passed 0 (J .count) → Says r
       by (inl s) =

@@ -1,4 +1,4 @@
--- The next task goes into the theta tree: what its leaf gets, and what the tree answers then. And how the arrays come to hold the tasks.
+-- The next task goes into the theta tree: its leaf becomes white, and the root has the ect of the tasks read. And the arrays come to hold the tasks.
 use mathlib.Core.Path.{_≡_, refl, sym, ap, ap₂, subst, _∙_, fun-ext}
 use mathlib.Core.List.{List, []}
 use mathlib.Core.Option.{Option}
@@ -9,7 +9,7 @@ use lib.Dec.{leb}
 use lib.IntN.{ℤ}
 use lib.ListN.{length, getD, set, take}
 use lib.Seq.{getD-take}
-use Rattle.integers.specs.Limits.{TASKS}
+use Rattle.integers.specs.Limits.{TASKS, U32MAX}
 use Rattle.integers.specs.FilledLists.{filled, noTasks}
 use Rattle.integers.specs.Orders.{index, numbers, sort}
 use Rattle.scheduling.specs.Scheduling.{natural, Tasks, TaskSet, completion}
@@ -22,14 +22,14 @@ use Rattle.trees.specs.Trees.{IsPlainTree}
 use Rattle.trees.specs.Operations.{HasTask}
 use Rattle.trees.specs.PlainOperations.{HeldPlain, PlainNew, PlainWhitened}
 use Rattle.sorts.specs.Orders.{SortedBy, byKey}
-use Rattle.integers.specs.Moments.{momentAt, completionAt, largestKey}
+use Rattle.integers.specs.Moments.{momentAt, completionAt}
 use Rattle.sorts.proofs.Sorted.{sorted-as}
 use Rattle.records.specs.declared.record.DisjunctivePropagator.{DisjunctivePropagator}
 use Rattle.records.specs.Records.{momentsIn}
 use Rattle.records.specs.Refusals.{AcceptedInput}
 use Rattle.records.proofs.AcceptedTasks.{count, completion-small, completions-are, completions-at}
 use Rattle.chosen_sets.specs.ColouredLeaves.{colours}
-use Rattle.chosen_sets.specs.TaskArrays.{Held}
+use Rattle.chosen_sets.specs.TaskArrays.{HeldSet}
 use Rattle.chosen_sets.proofs.ColouredLeaves.{limited, front-is}
 use Rattle.chosen_sets.proofs.Ects.{tree-ect}
 use Rattle.chosen_sets.proofs.RecordArrays.{held as in-arrays, late}
@@ -107,10 +107,10 @@ module _ (r : DisjunctivePropagator) (es ls : List ℤ) (a : AcceptedInput r es 
   latest : (k : ℕ) → k < r .count → getD lst k 0 ≡ M .latest k
   latest k q = late r es ls a long l .at k q
 
-  pub keys-small : (k : ℕ) → k < r .count → completionAt lst (r .durations) k ≤ largestKey
+  pub keys-small : (k : ℕ) → k < r .count → completionAt lst (r .durations) k ≤ U32MAX
   keys-small k q = omega (arith, completions-are r es ls a long lst latest k q, completion-small r es ls a long k q)
 
-  pub held : Held M noTask (r .count) [] est (r .durations)
+  pub held : HeldSet M noTask (r .count) [] est (r .durations)
   held = in-arrays r es ls a long e (λ k q. refl)
 
   module _ {lct : List ℕ} (c : lct ≡ filled (completionAt lst (r .durations)) (r .count) noTasks) where

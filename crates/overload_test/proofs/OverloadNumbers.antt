@@ -1,4 +1,4 @@
--- The numbers tell the answers apart.
+-- Different answers have different numbers.
 use mathlib.Core.Path.{_≡_, refl}
 use Prim.Native.Nat.{ℕ, zero, suc}
 use Rattle.integers.specs.Answers.{Answer}

@@ -9,7 +9,7 @@ use Rattle.scheduling.specs.Scheduling.{natural, Tasks, TaskSet, completion}
 use Rattle.scheduling.specs.Ects.{byEarliest}
 use Rattle.trees.specs.Trees.{IsPlainTree}
 use Rattle.chosen_sets.specs.ColouredLeaves.{colours}
-use Rattle.chosen_sets.specs.TaskArrays.{Held}
+use Rattle.chosen_sets.specs.TaskArrays.{HeldSet}
 use Rattle.overload_test.specs.ReadTasks.{byCompletion}
 
 -- no task is in theta yet
@@ -19,7 +19,7 @@ noTask k = false
 -- The arrays hold the tasks J, the place of each one's leaf, and the order in which they are read; the words a tree of empty leaves.
 pub record Readable (inner n : ℕ) (words mapping tasks est lct durations : List ℕ) : Type 0 where
   pub J : Tasks natural
-  pub held : Held J noTask n [] est durations
+  pub held : HeldSet J noTask n [] est durations
   pub ends : (k : ℕ) → k < n → getD lct k 0 ≡ completion J k
   pub tree : IsPlainTree J (byEarliest J) (colours J noTask) inner words
   pub place : (k : ℕ) → k < n → getD mapping k 0 ≡ index (byEarliest J) k

@@ -1,4 +1,4 @@
--- What the call answers, and what that means.
+-- The contract of the overload test: what it answers, and what that means for sets of tasks.
 use mathlib.Core.Path.{_≡_}
 use mathlib.Core.Bool.{Bool}
 use mathlib.Core.List.{List, [], _∷_}
@@ -14,9 +14,8 @@ use Rattle.overload_test.specs.declared.Overload.{Overload}
 use Rattle.overload_test.specs.ReadTasks.{answerOf}
 use Rattle.overload_test.specs.Numbers.{overloadNumbers}
 
--- The call is told whether the bars of its ranges fit. The first test that fails refuses the input; else the answer is the definition's. It is yes exactly
--- where some set of all the tasks overloads,
--- with the number of tasks read, and no exactly where none does.
+-- On ranges whose bars fit if `bars`: the first test that fails refuses the input; else the answer is the definition's. It is yes, with the number of tasks
+-- read, exactly where some set of all the tasks overloads, and no exactly where none does.
 pub record OverloadTested (before : DisjunctivePropagator) (es ls : List ℤ) (bars : Bool) (r : Overload) : Type 0 where
   pub refused : (inputNumber before es ls bars ≡ 0 → ⊥) → overloadNumbers r ≡ refusedBy (inputNumber before es ls bars)
   pub answer : inputNumber before es ls bars ≡ 0 → r ≡ answerOf (momentsIn before es ls)

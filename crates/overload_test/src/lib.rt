@@ -59,7 +59,7 @@ fn read_tasks<'a>(
 }
 
 // The test of a record and ranges that nothing refuses.
-fn accepted(record: DisjunctivePropagator, earliest: &[i32], latest: &[i32]) -> Overload
+fn test_accepted(record: DisjunctivePropagator, earliest: &[i32], latest: &[i32]) -> Overload
     requires { ⌜ AcceptedInput «record» (now earliest) (now latest) ⌝ }
     ensures { λ r. ⌜ r ≡ answerOf (momentsIn «record» (now (earliest .entry)) (now (latest .entry))) ⌝ }
 {
@@ -91,7 +91,7 @@ fn accepted(record: DisjunctivePropagator, earliest: &[i32], latest: &[i32]) -> 
     )
 }
 
-// Whether some set of the record's tasks overloads in these ranges. The call is told whether their bars fit.
+// Whether some set of the record's tasks overloads in these ranges, whose bars fit if `bars_fit`.
 pub fn overload_test(
     record: DisjunctivePropagator,
     earliest: &[i32],
@@ -111,5 +111,5 @@ pub fn overload_test(
     if number != 0 {
         return Overload::Refused(number);
     }
-    accepted(record, earliest, latest)
+    test_accepted(record, earliest, latest)
 }

@@ -8,6 +8,9 @@ use records::record::DisjunctivePropagator;
 ghost use mathlib.Core.Path.{_≡_};
 ghost use Rattle.pages.specs.Pages.{pageNumber, Paged};
 
+// The bytes of a line, its line feed among them.
+const LINE: usize = 31;
+
 // The number that refuses a page, or 0: 20, 10, 3, 4, 14, 15.
 fn page_refusal(record: DisjunctivePropagator, earliest: &[i32], latest: &[i32], room: usize) -> u32
     ensures { λ r. ⌜ r ≡ pageNumber «record» (now (earliest .entry)) (now (latest .entry)) room ⌝ }
@@ -16,7 +19,7 @@ fn page_refusal(record: DisjunctivePropagator, earliest: &[i32], latest: &[i32],
     if number != 0 {
         return number;
     }
-    if room < 31 * (record.count + 1) {
+    if room < LINE * (record.count + 1) {
         return refused::PAGE_ROOM;
     }
     0

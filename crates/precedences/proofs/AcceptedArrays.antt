@@ -14,7 +14,7 @@ use Rattle.integers.specs.Moments.{momentAt}
 use Rattle.records.specs.declared.record.DisjunctivePropagator.{DisjunctivePropagator}
 use Rattle.records.specs.Records.{momentsIn}
 use Rattle.records.specs.Refusals.{AcceptedInput}
-use Rattle.chosen_sets.specs.TaskArrays.{Held}
+use Rattle.chosen_sets.specs.TaskArrays.{HeldSet}
 use Rattle.chosen_sets.proofs.RecordArrays.{held, late}
 use Rattle.precedences.specs.PredecessorArrays.{precedesAt, comesBefore, Ranged}
 
@@ -32,7 +32,7 @@ module _ {n : ℕ} {est lst durations : List ℕ} (f : Ranged n est lst duration
   precedes-is : (k : ℕ) → k < n → precedesAt est lst durations i k ≡ comesBefore (f .J) i k
   precedes-is k r = rw (f .late .at k r, f .held .start i q, f .held .lasts i q)
 
-  pub chosen : {before : List Bool} → before ≡ filled (precedesAt est lst durations i) n (replicate TASKS false) → Held (f .J) (comesBefore (f .J) i) n before est durations
+  pub chosen : {before : List Bool} → before ≡ filled (precedesAt est lst durations i) n (replicate TASKS false) → HeldSet (f .J) (comesBefore (f .J) i) n before est durations
   chosen e = let h = f .held in
       record {
         proper = h .proper;

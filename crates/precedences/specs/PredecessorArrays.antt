@@ -9,7 +9,7 @@ use lib.ListN.{getD}
 use Rattle.integers.specs.Moments.{instant, zeroAt}
 use Rattle.scheduling.specs.Scheduling.{natural, Tasks, TaskSet}
 use Rattle.scheduling.specs.Ects.{ectOf}
-use Rattle.chosen_sets.specs.TaskArrays.{Held, Late}
+use Rattle.chosen_sets.specs.TaskArrays.{HeldSet, Late}
 
 -- the whole number at task k's moment
 abbrev pub startAt : List ℕ → ℕ → ℤ
@@ -31,5 +31,5 @@ module _ (J : Tasks natural) (i : ℕ) where
 -- The arrays hold the ranges and the durations of n tasks.
 pub record Ranged (n : ℕ) (est lst durations : List ℕ) : Type 0 where
   pub J : Tasks natural
-  pub held : Held J (λ _. false) n [] est durations
+  pub held : HeldSet J (λ _. false) n [] est durations
   pub late : Late J n lst

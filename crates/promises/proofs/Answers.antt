@@ -1,4 +1,4 @@
--- What a caller reads of an answer and of the words beside it is what stands in the trace that they are of.
+-- What a caller reads from an answer and from the words is what the trace has.
 use mathlib.Core.Path.{_≡_, sym, ap, subst, _∙_}
 use mathlib.Core.List.{List}
 use mathlib.Core.Logic.{⊎-elim}

@@ -1,4 +1,4 @@
--- A reason that was kept stays true, whatever the ranges are later: a post's, and an overload's, of a run and of a mirrored pass.
+-- A reason that was kept stays true on any later ranges: a post's and an overload's, of a run and of a mirrored pass.
 use mathlib.Core.Path.{_≡_, sym, subst}
 use mathlib.Core.List.{List, [], map}
 use mathlib.Core.Logic.{inl, inr, ⊎-elim}
@@ -42,7 +42,7 @@ follows : (s : ℕ → ℤ) (consequent : Option Atom) → (Unmet s consequent �
 follows s none h = h tt
 follows s (some a) h = met (a .kind) (a .value) (s (a .variable)) h
 
--- whether tasks overlap is read of their number and their durations
+-- whether tasks overlap depends only on their number and their durations
 module _ (J K : Tasks whole) (count : J .count ≡ K .count) (duration : (k : ℕ) → J .duration k ≡ K .duration k) where
   apart-alike : (s : ℕ → ℤ) → NoOverlap J s → NoOverlap K s
   apart-alike s h j k p q d = ⊎-elim (λ y. inl (ends j k y)) (λ y. inr (ends k j y)) (h j k (omega (arith, count, p)) (omega (arith, count, q)) d)

@@ -1,4 +1,4 @@
--- The largest of a start and its bounds, and the smallest: between which values it lies, and what it does not pass.
+-- The largest of a start and its bounds, and the smallest of a latest start and its bounds: the limits that each keeps.
 use mathlib.Core.Path.{_≡_, refl}
 use mathlib.Core.Logic.{_⊎_, inl, ⊎-elim}
 use lib.IntN.{ℤ}

@@ -1,4 +1,4 @@
--- What a core leaves of the ranges' numbers, once its starts are stored in the ranges, is what the open call promises.
+-- Once the starts that a core leaves are stored in the ranges, the open call's contract holds.
 use mathlib.Core.Path.{_≡_, ap, subst, _∙_}
 use mathlib.Core.List.{List}
 use Prim.Native.Nat.{ℕ}

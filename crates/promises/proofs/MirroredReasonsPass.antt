@@ -33,13 +33,13 @@ use Rattle.propagator.proofs.AcceptedInput.{count, narrow}
 use Rattle.mirrored.specs.RanMirrored.{mirroredOf}
 use Rattle.promises.specs.Promise.{checkDurations}
 
--- an atom of the run in mirrored time is, told in the caller's, within the limits of a check
-told-bound : (ds : List ℕ) → length ds ≤ TASKS → (a : Atom) → Near ds a → Bound (mirrorAtom (durationIn ds) a)
+-- an atom of the run in mirrored time, mirrored back, is within the limits of a check
+mirrored-bound : (ds : List ℕ) → length ds ≤ TASKS → (a : Atom) → Near ds a → Bound (mirrorAtom (durationIn ds) a)
 unfolding up dn
-told-bound ds few a r = record {
+mirrored-bound ds few a r = record {
   known = omega (arith, r .task);
   kind = kind (a .kind) (r .kind);
-  value = let t = laws.near-told ds a r in let z = mirrorAtom (durationIn ds) a .value in record { low = omega (ints, at-moment MIRRORED z (t .0)); high = omega (ints, t .1) };
+  value = let t = laws.near-mirrored ds a r in let z = mirrorAtom (durationIn ds) a .value in record { low = omega (ints, at-moment MIRRORED z (t .0)); high = omega (ints, t .1) };
 }
   where
     kind : (k : ℕ) → k < 2 → mirrorKind k < 2
@@ -49,7 +49,7 @@ told-bound ds few a r = record {
 
 all-bound : (ds : List ℕ) → length ds ≤ TASKS → (xs : List Atom) → Every (Near ds) xs → Every Bound (mirrorAtoms (durationIn ds) xs)
 all-bound ds few [] h = tt
-all-bound ds few (a ∷ rest) h = (told-bound ds few a (h .0), all-bound ds few rest (h .1))
+all-bound ds few (a ∷ rest) h = (mirrored-bound ds few a (h .0), all-bound ds few rest (h .1))
 
 -- a start above a bound meets what a check adds for it
 above-bound : (u b : ℤ) → b <ℤ u → (b +ℤ pos 1) ≤ℤ u
@@ -66,7 +66,7 @@ module _ (before : DisjunctivePropagator) (es ls : List ℤ) (posts atoms : ℕ)
   abbrev run : Trace
   run = mirroredRun ds es ls
 
-  accepted : demand.Accepted START ds es ls
+  accepted : demand.AcceptedTasks START ds es ls
   accepted = narrow before es ls posts atoms a
 
   es-long : length es ≡ length ds
@@ -90,7 +90,7 @@ module _ (before : DisjunctivePropagator) (es ls : List ℤ) (posts atoms : ℕ)
   same : J .duration ≡ durationAt (checkDurations before)
   same = fun-ext (λ k. sym (natural-duration ds k))
 
-  -- a reason told in the caller's time, of atoms r of the run
+  -- a reason of atoms r of the run, mirrored back
   checked : (r : List Atom) (c : Option Atom) → Every (Near ds) r → length r ≤ 2 * length ds → BoundIfAny c → let reason = mirrorAtoms (durationIn ds) r in
       Every (Meets (J .latest)) (given reason c) → PassesFormula (mirror J) (mirrorAtoms (J .duration) reason) (mirrorIfAny (J .duration) c)
       → checkMirroredOf (checkDurations before) (atomWords reason) (consequentWords c) ≡ Passed
@@ -101,14 +101,14 @@ module _ (before : DisjunctivePropagator) (es ls : List ℤ) (posts atoms : ℕ)
       (subst (λ (d : ℕ → ℕ). PassesFormula (tasksWith (checkDurations before)) (mirrorAtoms d reason) (mirrorIfAny d c)) same
       (passes-alike (mirror J) (tasksWith (checkDurations before)) (sym (natural-count ds)) (λ k. sym (natural-duration ds k)) (mirrorAtoms (J .duration) reason) (mirrorIfAny (J .duration) c) p))
 
-  -- a post of the run, told in the caller's time
-  told-passes : (j : ℕ) → j < length (run .posts)
+  -- a post of the run, mirrored back
+  mirrored-passes : (j : ℕ) → j < length (run .posts)
       → checkMirroredOf (checkDurations before) (atomWords (mirrorPost ds (post run j) .reason)) (atomWords (mirroredConsequent (mirrorPost ds (post run j)) ∷ [])) ≡ Passed
-  told-passes j q =
+  mirrored-passes j q =
       let p : Post = mirrorPost ds (post run j) in
       let r : MirroredPostRight J p = subst (MirroredPostRight J) (laws.post-at ds run j q) (right .posts j (omega (arith, laws.posts-same ds run))) in
       let s = laws.reason-near ds es ls accepted es-long ls-long j q in
-      checked (post run j .reason) (some (mirroredConsequent p)) (s .0) (s .1) (told-bound ds (accepted .few) (consequentOf (post run j)) (laws.post-near ds es ls accepted es-long ls-long j q))
+      checked (post run j .reason) (some (mirroredConsequent p)) (s .0) (s .1) (mirrored-bound ds (accepted .few) (consequentOf (post run j)) (laws.post-near ds es ls accepted es-long ls-long j q))
       (every-append (Meets (J .latest)) (p .reason) (negation (mirroredConsequent p) ∷ []) (met (p .reason) (r .reason-holds)) (above-bound (J .latest (p .task)) (p .bound) (r .lowers), tt))
       (r .reason-passes)
 
@@ -117,7 +117,8 @@ module _ (before : DisjunctivePropagator) (es ls : List ℤ) (posts atoms : ℕ)
       → checkMirroredOf (checkDurations before) (atomWords (post (mirroredOf before es ls) j .reason)) (atomWords (mirroredConsequent (post (mirroredOf before es ls) j) ∷ [])) ≡ Passed
   post-passes j q =
       let small : j < length (run .posts) = omega (arith, laws.posts-same ds run) in
-      subst (λ (p : Post). checkMirroredOf (checkDurations before) (atomWords (p .reason)) (atomWords (mirroredConsequent p ∷ [])) ≡ Passed) (sym (laws.post-at ds run j small)) (told-passes j small)
+      subst (λ (p : Post). checkMirroredOf (checkDurations before) (atomWords (p .reason)) (atomWords (mirroredConsequent p ∷ [])) ≡ Passed) (sym (laws.post-at ds run j small))
+      (mirrored-passes j small)
 
   -- an overload's with none.
   pub overload-passes : (reason : List Atom) → mirroredOf before es ls .end ≡ overload reason → checkMirroredOf (checkDurations before) (atomWords reason) [] ≡ Passed

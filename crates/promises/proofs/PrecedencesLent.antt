@@ -1,4 +1,4 @@
--- What the pass by precedences leaves of the ranges' numbers, once its starts are stored in the ranges, is what the open pass promises.
+-- Once the starts that the pass by precedences leaves are stored in the ranges, the open pass's contract holds.
 use mathlib.Core.Path.{_≡_, refl, ap, _∙_}
 use mathlib.Core.Bool.{true}
 use mathlib.Core.List.{List, []}

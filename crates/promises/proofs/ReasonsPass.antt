@@ -53,7 +53,7 @@ module _ (before : DisjunctivePropagator) (es ls : List ℤ) (posts atoms : ℕ)
   abbrev J : Tasks whole
   J = tasksIn before es ls
 
-  accepted : demand.Accepted START l es ls
+  accepted : demand.AcceptedTasks START l es ls
   accepted = narrow before es ls posts atoms a
 
   -- The trace is right.

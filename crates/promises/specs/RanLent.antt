@@ -37,7 +37,7 @@ module _ (before : DisjunctivePropagator) (ranges : List Range) (posts atoms : L
         (traceOf before (earliests ranges) (latests ranges) .starts) posts′ atoms′
     pub stored : ranges′ ≡ withStarts ranges (traceOf before (earliests ranges) (latests ranges) .starts)
 
-  -- The record stays as it was.
+  -- The record is unchanged.
   pub record RanLent : Type 0 where
     pub same-record : after ≡ before
     pub refused : (lentNumber before ranges posts atoms ≡ 0 → ⊥) → RefusedLent

@@ -1,4 +1,4 @@
--- Two calls that give the same, as a caller reads them: two runs, two mirrored passes, two passes by precedences.
+-- When two calls give the same results, as a caller reads them: two runs, two mirrored passes, two passes by precedences.
 use mathlib.Core.Path.{_≡_}
 use mathlib.Core.List.{List}
 use Prim.Native.Nat.{ℕ, _<_}

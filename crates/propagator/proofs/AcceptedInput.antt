@@ -37,7 +37,7 @@ module _ (r : DisjunctivePropagator) (lawful : Lawful r) where
   sum-is = ap (total (λ k. getD (take (r .count) (r .durations)) k 0)) count ∙ total-ext (λ k. getD (take (r .count) (r .durations)) k 0) (λ k. getD (r .durations) k 0) (r .count) lasts-at
 
 -- What the core runs,
-pub accepted : (r : DisjunctivePropagator) (es ls : List ℤ) (postCount atomCount : ℕ) → Runnable r es ls postCount atomCount → demand.Accepted MIRRORED (take (r .count) (r .durations)) es ls
+pub accepted : (r : DisjunctivePropagator) (es ls : List ℤ) (postCount atomCount : ℕ) → Runnable r es ls postCount atomCount → demand.AcceptedTasks MIRRORED (take (r .count) (r .durations)) es ls
 accepted r es ls postCount atomCount a =
     let c = count r (a .lawful) in
     record {
@@ -66,7 +66,7 @@ module _ (r : DisjunctivePropagator) (es ls : List ℤ) (postCount atomCount : �
     words = a .words;
   }
 
-  pub narrow : demand.Accepted START (take (r .count) (r .durations)) es ls
+  pub narrow : demand.AcceptedTasks START (take (r .count) (r .durations)) es ls
   narrow =
       let b = accepted r es ls postCount atomCount runnable in
       let c = count r (a .lawful) in

@@ -8,9 +8,9 @@ use lib.Dec.{leb}
 use lib.IntN.{ℤ, pos, negℤ}
 use lib.ListN.{length, getD, take, replicate, length-replicate}
 use lib.Seq.{getD-take}
-use Rattle.integers.specs.Limits.{TASKS, DURATIONS, MIRRORED}
+use Rattle.integers.specs.Limits.{TASKS, DURATIONS, MIRRORED, U32MAX}
 use Rattle.integers.specs.FilledLists.{filled, noTasks}
-use Rattle.integers.specs.Moments.{instant, zeroAt, Above, momentAt, completionAt, largestKey}
+use Rattle.integers.specs.Moments.{instant, zeroAt, Above, momentAt, completionAt}
 use Rattle.integers.specs.Orders.{sort, index, numbers}
 use Rattle.integers.proofs.FilledLists.{filled-length, filled-at}
 use Rattle.integers.proofs.Ints.{up, dn}
@@ -70,7 +70,7 @@ module _ (r : DisjunctivePropagator) (es ls : List ℤ) (postCount atomCount : �
   count = accepting.count r (a .lawful)
 
   -- the same input, as the run's definition accepts it
-  accepted : demand.Accepted MIRRORED ds es ls
+  accepted : demand.AcceptedTasks MIRRORED ds es ls
   accepted = accepting.accepted r es ls postCount atomCount a
 
   abbrev pub estOrder : List ℕ
@@ -145,10 +145,10 @@ module _ (r : DisjunctivePropagator) (es ls : List ℤ) (postCount atomCount : �
   }
 
   -- a latest completion is a key
-  pub key-small : (lst : List ℕ) → Holds n (J .latest) lst → (k : ℕ) → k < n → completionAt lst (r .durations) k ≤ largestKey
+  pub key-small : (lst : List ℕ) → Holds n (J .latest) lst → (k : ℕ) → k < n → completionAt lst (r .durations) k ≤ U32MAX
   key-small lst h k q = let z : k < length ds = omega (arith, count) in omega (arith, h .at k q, holds-durations .at k q, early k z .2, lasting k z)
 
-  pub completion-small : (k : ℕ) → k < n → completion J k ≤ largestKey
+  pub completion-small : (k : ℕ) → k < n → completion J k ≤ U32MAX
   completion-small k q = let z : k < length ds = omega (arith, count) in omega (arith, early k z .2, lasting k z)
 
   -- the state at the start: nothing is written
@@ -191,7 +191,7 @@ module _ (r : DisjunctivePropagator) (es ls : List ℤ) (postCount atomCount : �
     pub latest : Holds n (J .latest) lst
     latest = subst (Holds n (J .latest)) (sym l) (holds-starts ls (a .counts .latest))
 
-    pub keys-small : {lct : List ℕ} → lct ≡ filled (completionAt lst (r .durations)) n noTasks → (k : ℕ) → k < n → getD lct k 0 ≤ largestKey
+    pub keys-small : {lct : List ℕ} → lct ≡ filled (completionAt lst (r .durations)) n noTasks → (k : ℕ) → k < n → getD lct k 0 ≤ U32MAX
     keys-small {lct} c k q = omega (arith, ap (λ (o : List ℕ). getD o k 0) c ∙ holds-completions lst latest .at k q, completion-small k q)
 
     module _ {lct reverseMapping sortedTasks : List ℕ} (c : lct ≡ filled (completionAt lst (r .durations)) n noTasks) (f : SortedBy (byKey est) n reverseMapping)

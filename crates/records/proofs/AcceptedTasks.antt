@@ -7,9 +7,9 @@ use native.Mathlib.Omega.{arith}
 use lib.IntN.{ℤ, pos, negℤ}
 use lib.ListN.{length, getD, take, length-replicate}
 use lib.Seq.{getD-take, length-take-le}
-use Rattle.integers.specs.Limits.{TASKS, START, DURATIONS}
+use Rattle.integers.specs.Limits.{TASKS, START, DURATIONS, U32MAX}
 use Rattle.integers.specs.FilledLists.{filled, noTasks}
-use Rattle.integers.specs.Moments.{zeroAt, Above, momentAt, completionAt, largestKey}
+use Rattle.integers.specs.Moments.{zeroAt, Above, momentAt, completionAt}
 use Rattle.integers.proofs.FilledLists.{filled-at}
 use Rattle.integers.proofs.Ints.{up, dn}
 use Rattle.integers.proofs.MomentSums.{mono, above-up, above-show}
@@ -83,7 +83,7 @@ module _ (r : DisjunctivePropagator) (es ls : List ℤ) (a : AcceptedInput r es 
   pub lasting : (k : ℕ) → k < J .count → J .duration k ≤ DURATIONS
   lasting k q = omega (arith, short, processing-less J (λ _. true) k (record { small = q; mem = refl }))
 
-  pub completion-small : (k : ℕ) → k < r .count → completion J k ≤ largestKey
+  pub completion-small : (k : ℕ) → k < r .count → completion J k ≤ U32MAX
   completion-small k q = let z : k < J .count = omega (arith, count) in omega (arith, between k z .2, lasting k z)
 
   -- the arrays hold them

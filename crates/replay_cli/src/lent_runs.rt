@@ -9,6 +9,7 @@ use disjunctive::Precedences;
 use disjunctive::Range;
 use disjunctive::Reason;
 ghost use Prim.Native.Nat.{_≤_};
+ghost use Rattle.replay_cli.specs.RangeLists.{RANGES};
 
 // What a run or a mirrored pass answers, and the ranges that it leaves.
 pub struct Ran {
@@ -30,7 +31,7 @@ pub fn run(
     posts: &mut [i32],
     atoms: &mut [i32],
 ) -> Ran
-    requires { ⌜ ranges .count ≤ 64 ⌝ }
+    requires { ⌜ ranges .count ≤ RANGES ⌝ }
 {
     let mut propagator = record;
     let mut kept = ranges.kept;
@@ -50,7 +51,7 @@ pub fn run_mirrored(
     posts: &mut [i32],
     atoms: &mut [i32],
 ) -> Ran
-    requires { ⌜ ranges .count ≤ 64 ⌝ }
+    requires { ⌜ ranges .count ≤ RANGES ⌝ }
 {
     let mut kept = ranges.kept;
     let n = ranges.count;
@@ -64,7 +65,7 @@ pub fn run_mirrored(
 
 // The pass by precedences.
 pub fn precedences(record: DisjunctivePropagator, ranges: Ranges) -> Raised
-    requires { ⌜ ranges .count ≤ 64 ⌝ }
+    requires { ⌜ ranges .count ≤ RANGES ⌝ }
 {
     let mut kept = ranges.kept;
     let n = ranges.count;
@@ -77,7 +78,7 @@ pub fn precedences(record: DisjunctivePropagator, ranges: Ranges) -> Raised
 
 // A task's bound by precedences.
 pub fn precedence_bound(record: DisjunctivePropagator, ranges: Ranges, task: usize) -> BoundAbove
-    requires { ⌜ ranges .count ≤ 64 ⌝ }
+    requires { ⌜ ranges .count ≤ RANGES ⌝ }
 {
     let kept = ranges.kept;
     let n = ranges.count;
@@ -91,7 +92,7 @@ pub fn precedence_reason(
     task: usize,
     reason: &mut [i32],
 ) -> Reason
-    requires { ⌜ ranges .count ≤ 64 ⌝ }
+    requires { ⌜ ranges .count ≤ RANGES ⌝ }
 {
     let kept = ranges.kept;
     let n = ranges.count;
@@ -100,7 +101,7 @@ pub fn precedence_reason(
 
 // The overload test.
 pub fn overload_test(record: DisjunctivePropagator, ranges: Ranges) -> Overload
-    requires { ⌜ ranges .count ≤ 64 ⌝ }
+    requires { ⌜ ranges .count ≤ RANGES ⌝ }
 {
     let kept = ranges.kept;
     let n = ranges.count;

@@ -6,10 +6,11 @@ use disjunctive::DisjunctivePropagator;
 use disjunctive::FreeStart;
 use disjunctive::Page;
 ghost use Prim.Native.Nat.{_≤_};
+ghost use Rattle.replay_cli.specs.RangeLists.{RANGES};
 
 // The page.
 pub fn page(record: DisjunctivePropagator, ranges: Ranges, sheet: &mut [u8]) -> Page
-    requires { ⌜ ranges .count ≤ 64 ⌝ }
+    requires { ⌜ ranges .count ≤ RANGES ⌝ }
 {
     let kept = ranges.kept;
     let n = ranges.count;
@@ -18,7 +19,7 @@ pub fn page(record: DisjunctivePropagator, ranges: Ranges, sheet: &mut [u8]) -> 
 
 // The charges.
 pub fn charges(record: DisjunctivePropagator, ranges: Ranges, due: &[i32]) -> Charges
-    requires { ⌜ ranges .count ≤ 64 ⌝ }
+    requires { ⌜ ranges .count ≤ RANGES ⌝ }
 {
     let kept = ranges.kept;
     let n = ranges.count;
@@ -27,7 +28,7 @@ pub fn charges(record: DisjunctivePropagator, ranges: Ranges, due: &[i32]) -> Ch
 
 // The earliest free start.
 pub fn free_start(record: DisjunctivePropagator, ranges: Ranges, t: i32, d: i32) -> FreeStart
-    requires { ⌜ ranges .count ≤ 64 ⌝ }
+    requires { ⌜ ranges .count ≤ RANGES ⌝ }
 {
     let kept = ranges.kept;
     let n = ranges.count;
@@ -36,7 +37,7 @@ pub fn free_start(record: DisjunctivePropagator, ranges: Ranges, t: i32, d: i32)
 
 // The busiest stretch.
 pub fn busiest_stretch(record: DisjunctivePropagator, ranges: Ranges, w: i32) -> Busiest
-    requires { ⌜ ranges .count ≤ 64 ⌝ }
+    requires { ⌜ ranges .count ≤ RANGES ⌝ }
 {
     let kept = ranges.kept;
     let n = ranges.count;

@@ -22,10 +22,12 @@ use disjunctive::DisjunctivePropagator;
 use disjunctive::Overload;
 use disjunctive::Precedences;
 use disjunctive::Reason;
+use integers::limits::TASKS;
 ghost use Prim.Native.Nat.{_≤_};
+ghost use Rattle.replay_cli.specs.RangeLists.{RANGES};
 
-// Words of the reason of one bound of 48 tasks.
-const REASON: usize = 288;
+// Words of the reason of one bound: two atoms for each task.
+const REASON: usize = 6 * TASKS;
 
 // The answer on ranges that may have barred starts.
 pub fn tells_barred(record: DisjunctivePropagator, word: &[u8], ranges: Ranges) {
@@ -61,7 +63,7 @@ fn says_overload(answer: Overload) {
 
 // `precede`: the pass by the precedences that can be read off leaves earliest starts, or names the task whose bound passes its latest start.
 fn raises(record: DisjunctivePropagator, ranges: Ranges)
-    requires { ⌜ ranges .count ≤ 64 ⌝ }
+    requires { ⌜ ranges .count ≤ RANGES ⌝ }
 {
     let now = precedences(record, ranges);
     let answer = now.answer;
@@ -99,7 +101,7 @@ fn says_bound(answer: BoundAbove) {
 
 // `precede-why`: the reason of it.
 fn explains(record: DisjunctivePropagator, ranges: Ranges, task: usize)
-    requires { ⌜ ranges .count ≤ 64 ⌝ }
+    requires { ⌜ ranges .count ≤ RANGES ⌝ }
 {
     let mut atoms = [0i32; REASON];
     let answer = precedence_reason(record, ranges, task, &mut atoms);

@@ -13,10 +13,11 @@ use disjunctive::Outcome;
 use integers::limits::ATOMWORDS;
 use integers::limits::POSTWORDS;
 ghost use Prim.Native.Nat.{_≤_};
+ghost use Rattle.replay_cli.specs.RangeLists.{RANGES};
 
 // `run`: its posts, its end, the earliest starts that it leaves and its leaf changes; or the number that refused it.
 pub fn runs(record: DisjunctivePropagator, ranges: Ranges)
-    requires { ⌜ ranges .count ≤ 64 ⌝ }
+    requires { ⌜ ranges .count ≤ RANGES ⌝ }
 {
     let mut posts = [0i32; POSTWORDS];
     let mut atoms = [0i32; ATOMWORDS];
@@ -33,7 +34,7 @@ pub fn runs(record: DisjunctivePropagator, ranges: Ranges)
 
 // `mirror`: the same of the mirrored pass, with latest starts and no leaf changes.
 pub fn mirrors(record: DisjunctivePropagator, ranges: Ranges)
-    requires { ⌜ ranges .count ≤ 64 ⌝ }
+    requires { ⌜ ranges .count ≤ RANGES ⌝ }
 {
     let mut posts = [0i32; POSTWORDS];
     let mut atoms = [0i32; ATOMWORDS];

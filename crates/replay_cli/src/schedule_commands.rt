@@ -19,6 +19,7 @@ use disjunctive::FreeStart;
 use disjunctive::Page;
 use integers::limits::TASKS;
 ghost use Prim.Native.Nat.{_≤_};
+ghost use Rattle.replay_cli.specs.RangeLists.{RANGES};
 
 // Bytes of a page of 48 tasks.
 const PAGE: usize = 1519;
@@ -58,7 +59,7 @@ pub fn tells_fixed(
 
 // `page`: the page of a fixed schedule.
 fn pages(record: DisjunctivePropagator, ranges: Ranges)
-    requires { ⌜ ranges .count ≤ 64 ⌝ }
+    requires { ⌜ ranges .count ≤ RANGES ⌝ }
 {
     let mut sheet = [0u8; PAGE];
     let answer = page(record, ranges, &mut sheet);
@@ -70,7 +71,7 @@ fn pages(record: DisjunctivePropagator, ranges: Ranges)
 
 // `charges`: the charges of a fixed schedule by the due moments, and their total.
 fn bills(record: DisjunctivePropagator, ranges: Ranges, due: &[i32])
-    requires { ⌜ ranges .count ≤ 64 ⌝ }
+    requires { ⌜ ranges .count ≤ RANGES ⌝ }
 {
     let made = charges(record, ranges, due);
     let answer = made.answer;

@@ -29,7 +29,7 @@ use Rattle.trees.proofs.RootAnswers as tree
 use Rattle.runs.specs.Traces.{Post, Trace, overload}
 use Rattle.runs.specs.Demand.{consequentOf, post}
 use Rattle.runs.specs.Runs.{atLeast, atMost, within, conflict, conflict-of, bounds, propagation, propagation-of, propagate, earliestOrder, completionOrder}
-use Rattle.runs.proofs.Demand.{Accepted, by-earliest, by-completion}
+use Rattle.runs.proofs.Demand.{AcceptedTasks, by-earliest, by-completion}
 use Rattle.runs.proofs.AtomRoom as room
 use Rattle.runs.proofs.LevelSteps.{Measure, OutOk, run-ok}
 use Rattle.runs.proofs.WalkStops as stops
@@ -196,7 +196,7 @@ module _ (o : ℕ) (J : Tasks natural) (ok : Proper J) (low high d : ℕ) (early
     }
 
 -- Of an accepted run whose tasks cannot end before −near nor start after near, wherever they start: their durations sum to at most DURATIONS.
-module _ (limit near : ℕ) (fits : limit ≤ MIRRORED) (close : near ≤ MIRRORED) (ds : List ℕ) (es ls : List ℤ) (a : Accepted limit ds es ls)
+module _ (limit near : ℕ) (fits : limit ≤ MIRRORED) (close : near ≤ MIRRORED) (ds : List ℕ) (es ls : List ℤ) (a : AcceptedTasks limit ds es ls)
     (ends : (k : ℕ) → k < length ds → Above near (getD es k (pos 0) +ℤ pos (getD ds k 0))) (starts : (k : ℕ) → k < length ds → getD ls k (pos 0) ≤ℤ pos near) where
   abbrev tr : Trace
   tr = propagate ds es ls

@@ -113,7 +113,7 @@ module _ (z : ℕ) (J : Tasks natural) (c : Chain z J) where
         by before (yes r) = omega (arith, later (index lctOrder k) t r (omega arith), ord .there k small, later t (suc t) (omega arith) q, differ t (suc t) (omega arith) q)
         by before (no r) = absurd (omega (arith, later (suc t) (index lctOrder k) (omega arith) (ord .placed k small), ord .there k small))
 
-    -- f tasks are left behind the one of level t
+    -- f tasks are left after the one of level t
     module _ (t f : ℕ) (left : suc (t + f) ≡ n) where
       sorted-task-f : L t ≡ f
       sorted-task-f = omega (arith, sorted-task-is t (omega arith))
@@ -148,7 +148,7 @@ module _ (z : ℕ) (J : Tasks natural) (c : Chain z J) where
             let (v, is, e) = tree.bar-some J proper estOrder rk ls (below (suc f)) nothing s (inl (f, last-in)) in
             ap (λ (u : Option ℕ). exceeds u (lct o J estOrder lctOrder t)) is ∙ le-ltb (lct o J estOrder lctOrder t) v (omega (arith, lct-f, bar-f v (e .holds)))
 
-      -- where it is the task behind these, that task passes, is found, and is not raised
+      -- where it is the task after these, that task passes, is found, and is not raised
       module _ (small : suc f < n) (ls : List Leaf) (s : Shows ls (below (suc f)) (nothing with suc f)) where
         only : (k : ℕ) → (nothing with suc f) k ≡ true → k ≡ suc f
         only k h = elim (with-in nothing (suc f) k h) [ inl e ↦ e | inr e ↦ clash e refl ]
@@ -288,7 +288,7 @@ module _ (n : ℕ) where
           let at : getD es k (pos 0) ≡ pos (10 * k) = start-at k (omega (arith, long)) in
           ap (λ (j : ℕ). instant zeroAt (J .earliest j)) e ∙ instant-moment zeroAt (getD es k (pos 0)) (subst (Above zeroAt) (sym at) (above k))
 
-  -- The run on them, for a count of 1 or more: no post, the starts as they were, and 4n − 3 leaf changes.
+  -- The run on them, for a count of 1 or more: no post, the starts unchanged, and 4n − 3 leaf changes.
   pub costliest-run : 1 ≤ n → propagate (costliestDurations n) es es ≡ record { posts = []; end = done; starts = es; changes = 4 * n - 3 }
   costliest-run one =
       propagate-is (costliestDurations n) es es

@@ -30,7 +30,7 @@ use Rattle.runs.proofs.RightReasons.{all-right}
 
 -- What no number refuses: from 1 to TASKS tasks, durations of 1 or more with a sum of at most DURATIONS, starts within ±limit, each earliest at most its latest.
 -- The caller's limit is START; mirrored, such starts are within MIRRORED.
-pub record Accepted (limit : ℕ) (ds : List ℕ) (es ls : List ℤ) : Type 0 where
+pub record AcceptedTasks (limit : ℕ) (ds : List ℕ) (es ls : List ℤ) : Type 0 where
   pub some : 1 ≤ length ds
   pub few : length ds ≤ TASKS
   pub lasts : (k : ℕ) → k < length ds → 1 ≤ getD ds k 0
@@ -143,7 +143,7 @@ by-completion J =
     record { task = r .task; placed = r .placed; there = r .there; back = r .back; sorted = λ s t q h. leb-true _ _ (r .sorted s t q h) }
 
 -- within a limit that leaves room before the least moment for all durations
-pub demand-3 : (limit : ℕ) → limit ≤ MIRRORED → (ds : List ℕ) (es ls : List ℤ) → Accepted limit ds es ls → Right (tasksOf ds es ls) (propagate ds es ls)
+pub demand-3 : (limit : ℕ) → limit ≤ MIRRORED → (ds : List ℕ) (es ls : List ℤ) → AcceptedTasks limit ds es ls → Right (tasksOf ds es ls) (propagate ds es ls)
 unfolding propagate
 demand-3 limit near ds es ls a =
     run-right zeroAt (tasksOf ds es ls) okz deepz (a .some) room (earliestOrder J) (completionOrder J) (by-earliest J) (by-completion J)

@@ -1,4 +1,4 @@
--- The run, step by step: what stands at each level, for posts and reasons that are good by any measure.
+-- What holds at each level of a run, and how each step keeps it, for any property of posts and reasons that holds where the run makes them.
 use mathlib.Core.Path.{_≡_, refl, sym, ap, subst, _∙_}
 use mathlib.Core.Bool.{true, false}
 use mathlib.Core.Logic.{_⊎_, inl, inr}
@@ -65,7 +65,7 @@ posts-same J now now′ m task bound task′ bound′ ns ts bs p = record {
 }
 
 -- Of the posts the first m stand in the starts, which are in their ranges, and no other start changed; each post after them is above its task's latest start.
-pub record Standing (J : Tasks natural) (now : ℕ → ℕ) (m made : ℕ) (task bound : ℕ → ℕ) : Type 0 where
+pub record StandsAt (J : Tasks natural) (now : ℕ → ℕ) (m made : ℕ) (task bound : ℕ → ℕ) : Type 0 where
   pub stand : Posts J now m task bound
   pub from : (k : ℕ) → k < J .count → J .earliest k ≤ now k
   pub to : (k : ℕ) → k < J .count → now k ≤ J .latest k
@@ -220,10 +220,10 @@ module _ (o : ℕ) (J : Tasks natural) (ok : Proper J) (estOrder lctOrder : List
       | inr z ↦ elim (decLt (place k) t) [ yes y ↦ omega (arith, v .facts .left k (record { small = q; mem = z }) y .raised) | no y ↦ omega (arith, v .facts .same-on k q (omega arith)) ]
     ]
 
-    -- the posts of a list that begins with those of a state, told by the starts that a trace has for it
+    -- the posts of a list that begins with those of a state, by the starts that a trace has for it
     standing : (t : ℕ) (st : State) (ps : List Post) → Inv t st → ((j : ℕ) → j < length (st .posts) → getD ps j no-post ≡ getD (st .posts) j no-post)
         → ((j : ℕ) → length (st .posts) ≤ j → j < length ps → J .latest (taskOf ps j) < boundOf ps j)
-        → Standing J (λ k. moment o (getD (map (instant o) (st .starts)) k (pos 0))) (length (st .posts)) (length ps) (taskOf ps) (boundOf ps)
+        → StandsAt J (λ k. moment o (getD (map (instant o) (st .starts)) k (pos 0))) (length (st .posts)) (length ps) (taskOf ps) (boundOf ps)
     standing t st ps v olds highs = record {
       stand = posts-same J (now st) (λ k. moment o (getD (map (instant o) (st .starts)) k (pos 0))) (length (st .posts)) (taskOf (st .posts)) (boundOf (st .posts)) (taskOf ps) (boundOf ps) at
           (λ j q. ap (λ (p : Post). p .task) (olds j q)) (λ j q. ap (λ (p : Post). moment o (p .bound)) (olds j q)) (v .posted);
@@ -240,7 +240,7 @@ module _ (o : ℕ) (J : Tasks natural) (ok : Proper J) (estOrder lctOrder : List
       pub many : ℕ
       pub all : (tr .end ≡ emptied → ⊥) → many ≡ length (tr .posts)
       pub but-last : tr .end ≡ emptied → suc many ≡ length (tr .posts)
-      pub stand : Standing J (λ k. moment o (getD (tr .starts) k (pos 0))) many (length (tr .posts)) (taskOf (tr .posts)) (boundOf (tr .posts))
+      pub stand : StandsAt J (λ k. moment o (getD (tr .starts) k (pos 0))) many (length (tr .posts)) (taskOf (tr .posts)) (boundOf (tr .posts))
 
     all-stand : (t : ℕ) (st : State) (e : End) → (e ≡ emptied → ⊥) → Inv t st → StartsLeft (edges.ended o J estOrder lctOrder st e)
     all-stand t st e ne v = record { many = length (st .posts); all = λ _. refl; but-last = λ z. absurd (ne z); stand = standing t st (st .posts) v (λ j q. refl) (λ j q r. absurd (omega arith)) }

@@ -1,4 +1,4 @@
--- The mirrored pass is right: what a run on mirrored tasks leaves, told in the caller's time, is what the mirrored rule gives. Its words are the run's, mirrored in place.
+-- The mirrored pass is right: a run on mirrored tasks, mirrored back, is what the mirrored rule gives, and its words are the run's, mirrored in place.
 use mathlib.Core.Path.{_≡_, refl, sym, ap, ap₂, subst, fun-ext, _∙_}
 use mathlib.Core.Bool.{true}
 use mathlib.Core.List.{List, [], _∷_, _++_, map, map-append}
@@ -33,7 +33,7 @@ use Rattle.runs.specs.Words.{postWords, reasons, endReason, atomsIn, pos
 use Rattle.runs.specs.MirroredWords.{Near, postsTo, atomsTo}
 use Rattle.runs.specs.Mirrored.{mirrorStarts, durationIn, mirrorPost, mirrorEnd, mirrorTrace, mirroredRun, mirroredPass, MirroredPostRight, MirroredOverloadRight, MirroredRight}
 use Rattle.runs.proofs.WrittenSlices.{posts-length}
-use Rattle.runs.proofs.Demand.{Accepted, by-earliest, by-completion, demand-3}
+use Rattle.runs.proofs.Demand.{AcceptedTasks, by-earliest, by-completion, demand-3}
 use Rattle.runs.proofs.WordRoom.{posts-fit, atoms-fit}
 use Rattle.runs.proofs.InnerLoop.{propagate-is}
 use Rattle.runs.proofs.PostReaders.{four-words, startOf}
@@ -236,10 +236,11 @@ near-at ds [] h m q = absurd (omega arith)
 near-at ds (a ∷ rest) h zero q = h .0
 near-at ds (a ∷ rest) h (suc m) q = near-at ds rest (h .1) m (omega arith)
 
--- Told in the caller's time, what is near is within ±MIRRORED, and so an i32.
-pub near-told : (ds : List ℕ) (a : Atom) → Near ds a → Above MIRRORED (mirrorStart (durationIn ds (a .variable)) (a .value)) × (mirrorStart (durationIn ds (a .variable)) (a .value) ≤ℤ pos MIRRORED)
+-- Mirrored back, what is near is within ±MIRRORED, and so fits an i32.
+pub near-mirrored : (ds : List ℕ) (a : Atom) → Near ds a → Above MIRRORED (mirrorStart (durationIn ds (a .variable)) (a .value))
+    × (mirrorStart (durationIn ds (a .variable)) (a .value) ≤ℤ pos MIRRORED)
 unfolding up dn
-near-told ds a r = (
+near-mirrored ds a r = (
   above-show MIRRORED (mirrorStart p (a .value)) (omega (ints, at-mirror p (a .value), sumℤ (a .value) (pos p), r .high)),
   omega (ints, at-mirror p (a .value), at-moment MIRRORED (a .value) (r .low)),
 )
@@ -255,10 +256,10 @@ near-fits ds a r = fits-show w32 z (omega (ints, at-moment MIRRORED z (t .0), t 
     z = mirrorStart (durationIn ds (a .variable)) (a .value)
 
     t : Above MIRRORED (mirrorStart (durationIn ds (a .variable)) (a .value)) × (mirrorStart (durationIn ds (a .variable)) (a .value) ≤ℤ pos MIRRORED)
-    t = near-told ds a r
+    t = near-mirrored ds a r
 
 -- What the caller lends, mirrored, is accepted with the wider limit.
-module _ (ds : List ℕ) (es ls : List ℤ) (a : Accepted START ds es ls) (long-es : length es ≡ length ds) (long-ls : length ls ≡ length ds) where
+module _ (ds : List ℕ) (es ls : List ℤ) (a : AcceptedTasks START ds es ls) (long-es : length es ≡ length ds) (long-ls : length ls ≡ length ds) where
   -- what the run is called with
   abbrev early : List ℤ
   early = mirrorStarts ds ls
@@ -276,7 +277,7 @@ module _ (ds : List ℕ) (es ls : List ℤ) (a : Accepted START ds es ls) (long-
   starting : (k : ℕ) → k < length ds → getD late k (pos 0) ≤ℤ pos START
   starting k q = subst (λ (z : ℤ). z ≤ℤ pos START) (sym (mirror-at ds es long-es k)) (high (getD ds k 0) (getD es k (pos 0)) (a .from k q))
 
-  pub mirrored-accepted : Accepted MIRRORED ds (mirrorStarts ds ls) (mirrorStarts ds es)
+  pub mirrored-accepted : AcceptedTasks MIRRORED ds (mirrorStarts ds ls) (mirrorStarts ds es)
   mirrored-accepted = record {
     some = a .some;
     few = a .few;

@@ -1,4 +1,4 @@
--- From the words alone: the four words of a post, and the stretch of atoms that they name.
+-- The words alone give back each post: its four words, and the atoms of its reason that they name.
 use mathlib.Core.Path.{_≡_, refl, ap, _∙_}
 use mathlib.Core.List.{List, [], _∷_, _++_, append-assoc}
 use Prim.Native.Nat.{ℕ, zero, suc, _+_, _-_, _*_, _≤_, _<_}
@@ -70,7 +70,7 @@ stretch-words entry all f r h =
     ap (take (3 * r)) (drop-append-le (3 * f) ws (drop (length ws) entry) (omega arith))
     ∙ take-append-le (3 * r) (drop (3 * f) ws) (drop (length ws) entry) (omega (arith, length-drop (3 * f) ws)) ∙ ap (take (3 * r)) (drop-words f all) ∙ take-words r (drop f all)
 
--- What the post reader hands out for post j of a run is that post's reason, whatever stood in the slice,
+-- What the post reader answers for post j of a run is that post's reason, whatever stood in the slice,
 pub reader : (entry : List ℤ) (t : Trace) (j : ℕ) → j < length (t .posts)
     → take (3 * length (post t j .reason)) (drop (3 * startOf (t .posts) j) (atomsAfter entry t)) ≡ atomWords (post t j .reason)
 reader entry t j h =

@@ -1,4 +1,4 @@
--- What holds at every state that a run goes through.
+-- Every state that a run goes through has the invariant of its level, and so Θ has a task there and an ect.
 use mathlib.Core.Path.{_≡_, refl, sym, ap, subst, _∙_}
 use mathlib.Core.Bool.{Bool, true, false}
 use mathlib.Core.Logic.{inl, inr}

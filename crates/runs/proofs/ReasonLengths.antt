@@ -1,4 +1,4 @@
--- How many atoms a reason has.
+-- A reason has at most two atoms for each task of Θ, and one more where it is that of a post.
 use mathlib.Core.Path.{_≡_, refl}
 use mathlib.Core.List.{List, [], _∷_}
 use mathlib.Core.Logic.{inl, inr}

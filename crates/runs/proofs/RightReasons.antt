@@ -1,4 +1,4 @@
--- Every post of a run and every overload's reason is right.
+-- Every post of a run and every overload's reason is right: the bound is an edge-finding bound, and the reason holds at entry and passes the formula.
 use mathlib.Core.Path.{_≡_, refl, sym, ap, subst, _∙_}
 use mathlib.Core.Bool.{true, false}
 use mathlib.Core.Logic.{inl, inr}

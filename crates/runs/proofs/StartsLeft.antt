@@ -26,7 +26,7 @@ use Rattle.trees.proofs.Ects.{past-or-not}
 use Rattle.trees.specs.Leaves.{ect, ect-bar, responsible}
 use Rattle.runs.specs.Traces.{Trace}
 use Rattle.runs.specs.Runs.{State, Turn, on, stop, inner, outer, run, lct, grayed, dropped, raised, posted, tabulate, propagate, earliestOrder, completionOrder}
-use Rattle.runs.proofs.Demand.{Accepted}
+use Rattle.runs.proofs.Demand.{AcceptedTasks}
 use Rattle.runs.proofs.InnerLoop.{opt, turn, inner-end, inner-off, inner-none, inner-pass, inner-stop, inner-raise, propagate-is, run-is, outer-end, outer-over, outer-on, outer-stop}
 use Rattle.runs.proofs.TaskLists.{tab-length, tab-at}
 
@@ -126,7 +126,7 @@ module _ (ds : List ℕ) (es ls : List ℤ) where
     to = λ k r. at (λ k v. v ≤ J .latest k) l i b q k (omega (arith, h .long)) (h .to k r);
   }
 
-  module _ (limit : ℕ) (near : limit ≤ MIRRORED) (a : Accepted limit ds es ls) where
+  module _ (limit : ℕ) (near : limit ≤ MIRRORED) (a : AcceptedTasks limit ds es ls) where
     above : (k : ℕ) → k < length ds → Above zeroAt (getD es k (pos 0))
     above k q = more-above limit zeroAt (omega arith) (getD es k (pos 0)) (a .from k q)
 

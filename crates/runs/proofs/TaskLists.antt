@@ -1,4 +1,4 @@
--- What there is of each task, in a list: how many there are, which one stands where, and which list it is.
+-- A list with one value for each task: its length, the value of a task, and when another list is the same.
 use mathlib.Core.Path.{_≡_, refl, sym, ap, ap₂, _∙_}
 use mathlib.Core.List.{List, [], _∷_, map}
 use Prim.Native.Nat.{ℕ, zero, suc, _+_, _<_}

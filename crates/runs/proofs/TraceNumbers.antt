@@ -1,4 +1,4 @@
--- What the numbers that a run answers say of its trace; and numbers tell outcomes apart.
+-- The numbers of an answer show how the trace ended and how many posts and atoms it has, and different outcomes have different numbers.
 use mathlib.Core.Path.{_≡_, refl, sym, ap, subst, _∙_}
 use mathlib.Core.List.{List}
 use mathlib.Core.Logic.{_↔_}

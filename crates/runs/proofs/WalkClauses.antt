@@ -1,4 +1,4 @@
--- The clauses of the reasons: what each walk does at the task it has come to.
+-- The clauses of the reasons: what each walk over the tasks does at the task where it stands.
 use mathlib.Core.Path.{_≡_, refl}
 use mathlib.Core.Bool.{true, false}
 use mathlib.Core.List.{List, [], _∷_}

@@ -1,4 +1,4 @@
--- A lent slice that is written from the front: one post or one reason more.
+-- One more post or reason, written after those in a lent slice, makes it the slice of all of them.
 use mathlib.Core.Path.{_≡_, refl, sym, ap, _∙_}
 use mathlib.Core.List.{List, [], _∷_, _++_, append-assoc, append-nil}
 use Prim.Native.Nat.{ℕ, zero, suc, _+_, _*_, _≤_, _<_}

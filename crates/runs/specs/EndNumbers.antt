@@ -1,4 +1,4 @@
--- Which numbers a run answers, by its trace.
+-- The numbers that a run answers, by its trace.
 use mathlib.Core.List.{[], _∷_}
 use Prim.Native.Nat.{ℕ}
 use lib.IntN.{pos}

@@ -1,4 +1,4 @@
--- The mirrored pass: a run on mirrored tasks, told in the caller's time; and what it must be.
+-- The mirrored pass: a run on mirrored tasks, mirrored back into the caller's time; and what it must be.
 use mathlib.Core.Path.{_≡_}
 use mathlib.Core.Logic.{_↔_}
 use mathlib.Core.List.{List, [], _∷_, map}

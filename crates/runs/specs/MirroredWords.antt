@@ -1,4 +1,4 @@
--- The words of a run in mirrored time, told in the caller's time in place: how far its numbers lie, and the posts and atoms when some are told.
+-- The words of a run in mirrored time while they are mirrored in place: the limits of their numbers, and the first posts and atoms mirrored.
 use mathlib.Core.List.{List}
 use Prim.Native.Nat.{ℕ, _<_}
 use lib.IntN.{pos, _+ℤ_}

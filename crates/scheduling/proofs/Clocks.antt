@@ -1,4 +1,4 @@
--- The definitions over whole numbers, and over their moments: each says the same on both clocks.
+-- Each definition means the same over whole numbers and over their moments.
 use mathlib.Core.Path.{_≡_, refl, sym, ap, subst, _∙_}
 use mathlib.Core.Logic.{_⊎_, inl, inr}
 use Prim.Native.Nat.{ℕ, _+_, _-_, _≤_, _<_}

@@ -1,4 +1,4 @@
--- Lists of atoms of which something holds: one list after another, their parts, and a weaker statement.
+-- What holds of every atom of a list holds of its parts, of both lists put together, and stays true when weakened.
 use mathlib.Core.List.{List, [], _∷_, _++_}
 use Rattle.scheduling.specs.Scheduling.{Atom, Every}
 

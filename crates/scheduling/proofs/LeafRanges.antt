@@ -1,4 +1,4 @@
--- What a node holds, over its range of leaves: d leaves from a on. Moment 0 stands for minus infinity.
+-- The values of a node over its range of leaves: d leaves from a on. Moment 0 stands for minus infinity.
 use mathlib.Core.Path.{_≡_, refl, sym, subst, _∙_}
 use mathlib.Core.Bool.{Bool, true, false, cond}
 use mathlib.Core.Logic.{_⊎_, inl, inr}

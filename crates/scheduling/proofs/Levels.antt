@@ -1,4 +1,4 @@
--- The run: what stands at each level, how each step keeps it, and what it comes to.
+-- The levels of a run, over sets of tasks alone: what holds at each, how each step keeps it, and what follows when it ends.
 use mathlib.Core.Path.{_≡_, refl, sym, ap, subst, _∙_}
 use mathlib.Core.Bool.{true, false}
 use mathlib.Core.Logic.{_⊎_, inl, inr}
@@ -312,7 +312,7 @@ module _ (J : Tasks natural) (ok : Proper J) (ect : TaskSet → ℕ) (ect-is : (
     pub no-passing : (i b : ℕ) → EdgeFindingBound J i b → b ≤ J .latest i
     no-passing i b r = omega (arith, edge-now i b r, f .inside i (r .outside .small))
 
-    -- a start is as it was, or raised to one of its bounds
+    -- a start is unchanged, or raised to one of its bounds
     now-edge : (i : ℕ) → i < J .count → (now i ≡ J .earliest i) ⊎ ((J .earliest i < now i) × EdgeFindingBound J i (now i))
     now-edge i q = elim (decLt (place i) t) [
       | no z ↦ inl (f .same-on i q (omega arith))

@@ -214,7 +214,7 @@ module _ (J : Tasks whole) where
   pub conflict-mirrored : Conflict (mirror J) ↔ MirroredConflict J
   conflict-mirrored = (conflict→, conflict←)
 
-  -- A run in mirrored time that is done, told in the caller's.
+  -- A run in mirrored time that is done, mirrored back.
   module _ (now now′ : ℕ → ℤ) (m : ℕ) (task : ℕ → ℕ) (bound bound′ : ℕ → ℤ)
       (at : (k : ℕ) → k < J .count → now′ k ≡ mirrorStart (J .duration k) (now k)) (by : (j : ℕ) → j < m → bound′ j ≡ mirrorStart (J .duration (task j)) (bound j))
       (r : Done (mirror J) now m task bound) where

@@ -1,4 +1,4 @@
--- The edge-finding rule is sound, an overload leaves no schedule, and so it is with the checker's formula, over natural numbers.
+-- The edge-finding rule and the checker's formula are sound, and an overload leaves no schedule, over natural numbers.
 use mathlib.Core.Path.{_≡_, refl, ap}
 use mathlib.Core.Logic.{inl, inr}
 use Prim.Native.Nat.{ℕ, _+_, _≤_, _<_, min}

@@ -1,4 +1,4 @@
--- The number of tasks of a set.
+-- How many tasks a set has, and how that changes with one task more or less.
 use mathlib.Core.Path.{_≡_, refl, ap}
 use mathlib.Core.Bool.{Bool, true, false}
 use Prim.Native.Nat.{ℕ, zero, suc, _≤_, _<_}

@@ -1,4 +1,4 @@
--- Tasks that do not overlap, in a window of time, fit there.
+-- Tasks that do not overlap and lie in a window of time last no longer together than the window.
 use mathlib.Core.Path.{_≡_, refl}
 use mathlib.Core.Logic.{inl, inr}
 use Prim.Native.Nat.{ℕ, zero, suc, _+_, _≤_, _<_}

@@ -1,4 +1,4 @@
--- The words of atoms: none, one more, one list after another, how many, those of a stretch, those of one atom.
+-- The words of atoms: of none, of one, of lists put together and of a stretch, and how many they are.
 use mathlib.Core.Path.{_≡_, refl, sym, ap, subst, _∙_}
 use mathlib.Core.List.{List, [], _∷_, _++_, append-nil}
 use Prim.Native.Nat.{ℕ, zero, suc, _+_, _*_, _<_}

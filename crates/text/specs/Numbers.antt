@@ -6,6 +6,8 @@ use mathlib.Core.Option.{Option, none, some}
 use Prim.Native.Nat.{ℕ, suc, _+_, _-_, _*_}
 use lib.Dec.{leb, eqb}
 use lib.IntN.{ℤ, pos, negℤ}
+use Rattle.integers.specs.Limits.{I32MAX}
+use Rattle.integers.specs.Moments.{zeroAt}
 
 -- white space: a space, and the codes 9 to 13 (tab, line feed, vertical tab, form feed, carriage return)
 unfoldable pub space : ℕ → Bool
@@ -47,8 +49,8 @@ value n (b ∷ bs) = value (n * 10 + (b - 48)) bs
 
 -- a magnitude and its sign: the number, where an i32 holds it
 unfoldable pub ranged : Bool → ℕ → Option ℤ
-ranged true n = elim (leb n 2147483648) [ true ↦ some (negℤ (pos n)) | false ↦ none ]
-ranged false n = elim (leb n 2147483647) [ true ↦ some (pos n) | false ↦ none ]
+ranged true n = elim (leb n zeroAt) [ true ↦ some (negℤ (pos n)) | false ↦ none ]
+ranged false n = elim (leb n I32MAX) [ true ↦ some (pos n) | false ↦ none ]
 
 -- one digit or more, and the sign that stood before them
 unfoldable pub unsigned : Bool → List ℕ → Option ℤ

@@ -7,6 +7,7 @@ use lib.Dec.{eqb}
 use lib.IntN.{ℤ, pos}
 use lib.ListN.{length, take, set, replicate}
 use Rattle.integers.specs.Limits.{TASKS}
+use Rattle.integers.specs.Moments.{zeroAt}
 use Rattle.integers.specs.Words.{overwritten}
 use Rattle.text.specs.Numbers.{space, digit, ranged}
 use Rattle.text.specs.declared.reading.Word.{Word}
@@ -19,7 +20,7 @@ use Rattle.text.specs.declared.reading.Scanner.{Scanner}
 -- ---- a word
 -- the least magnitude that no i32 has
 abbrev pub BEYOND : ℕ
-BEYOND = 2147483649
+BEYOND = zeroAt + 1
 
 -- a digit behind a magnitude, which stops at BEYOND
 unfoldable pub digitAfter : Bool → ℕ → ℕ → Word

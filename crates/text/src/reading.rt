@@ -1,4 +1,5 @@
 // Numbers in text: words parted by white space, each a decimal number that fits an i32.
+use integers::limits;
 use integers::limits::TASKS;
 use integers::moments::start_of;
 ghost use mathlib.Core.Path.{_≡_};
@@ -12,8 +13,14 @@ ghost use Rattle.text.specs.Scanner.{gathered};
 // How many numbers are kept: a count of tasks, and three numbers for each task.
 pub const KEPT: usize = 1 + 3 * TASKS;
 
+// The moment of 0, which is the largest magnitude of a negative i32.
+const ZERO_AT: u32 = limits::ZERO_AT as u32;
+
+// The largest i32.
+const LARGEST: u32 = i32::MAX as u32;
+
 // The least magnitude that no i32 has. Every larger one counts as this one, so that a word may have any number of digits.
-const BEYOND: u32 = 2147483649;
+const BEYOND: u32 = ZERO_AT + 1;
 
 // The largest usize, where the count of numbers stops.
 const MOST: usize = usize::MAX;
@@ -116,15 +123,15 @@ fn signed(negative: bool, magnitude: u32) -> Reading
     ensures { λ r. ⌜ r ≡ given (ranged negative magnitude) ⌝ }
 {
     if negative {
-        if 2147483648 < magnitude {
+        if ZERO_AT < magnitude {
             return Reading::Wrong;
         }
-        return Reading::Number(start_of(2147483648 - magnitude));
+        return Reading::Number(start_of(ZERO_AT - magnitude));
     }
-    if 2147483647 < magnitude {
+    if LARGEST < magnitude {
         return Reading::Wrong;
     }
-    Reading::Number(start_of(2147483648 + magnitude))
+    Reading::Number(start_of(ZERO_AT + magnitude))
 }
 
 // One more, up to MOST.

@@ -1,8 +1,12 @@
-// Text put together in a buffer: each function puts bytes at a place and answers the place behind them.
+// Text put together in a buffer: each function puts bytes at a place and answers the place after them.
+use integers::limits;
 use integers::moments::moment_of;
 ghost use Prim.Native.Nat.{_+_, _≤_};
 ghost use lib.ListN.{length};
 ghost use Rattle.text.specs.DecimalText.{natural, decimal, Puts};
+
+// The moment of 0.
+const ZERO_AT: usize = limits::ZERO_AT as usize;
 
 // The bytes of a slice.
 pub fn put_bytes(out: &mut [u8], at: usize, bytes: &[u8]) -> usize
@@ -47,9 +51,9 @@ pub fn put_number(out: &mut [u8], at: usize, x: i32) -> usize
     ensures within { λ r. ⌜ r ≤ at + 11 ⌝ }
 {
     let moment = moment_of(x) as usize;
-    if 2147483648 <= moment {
-        return put_digits(out, at, moment - 2147483648);
+    if ZERO_AT <= moment {
+        return put_digits(out, at, moment - ZERO_AT);
     }
     out[at] = b'-';
-    put_digits(out, at + 1, 2147483648 - moment)
+    put_digits(out, at + 1, ZERO_AT - moment)
 }

@@ -91,7 +91,7 @@ module _ {A : Type 0} (join : A → A → A) where
   pub own-leaves : (m : ℕ) (leaf at : ℕ → A) → TreeOf join m leaf at → leavesOf m at ≡ leaf
   own-leaves m leaf at t = fun-ext (t .leaves)
 
-  -- a tree over leaves of which one was put is one over them as they were, but for that one
+  -- a tree over leaves of which one was put is one over the old ones, but for that one
   pub put-tree : {m : ℕ} (at : ℕ → A) {at′ at″ : ℕ → A} (place : ℕ) (n : A) → at′ ≡ changed at (m + place) n → TreeOf join m (leavesOf m at′) at″ → TreeOf join m (changed (leavesOf m at) place n) at″
   put-tree {m} at {at″ = at″} place n e = subst (λ (leaf : ℕ → A). TreeOf join m leaf at″) (ap (leavesOf m) e ∙ changed-leaf m at place n)
 

@@ -31,7 +31,7 @@ use Rattle.trees.specs.declared.theta_lambda_tree.Responsible.the-varian
 use Rattle.trees.specs.Shapes.{width, nodeOver}
 use Rattle.trees.specs.Arrays.{leftmost, HasHeight, leavesOf}
 use Rattle.trees.specs.Searches.{stepP, stepEct, searchP, searchEct}
-use Rattle.trees.specs.ArraySearches.{aroundOf, Searched, nowhere, foundAt, responsibleOf}
+use Rattle.trees.specs.ArraySearches.{aroundOf, Searchable, nowhere, foundAt, responsibleOf}
 use Rattle.trees.proofs.Heights.{leftmost-leaf, leftmost-left, leftmost-right, inner-height, left-height, right-height, leaf-at, height-inside, root-first}
 use Rattle.trees.proofs.ArrayTrees.{node-is, over-fits}
 
@@ -123,7 +123,7 @@ falls is above = omega arith
 
 module _ {m : ℕ} {at : ℕ → Node} where
   -- a node of the array
-  module _ {h i : ℕ} (s : Searched m h i at) where
+  module _ {h i : ℕ} (s : Searchable m h i at) where
     pub node-small : i < NODES
     node-small = omega (arith, height-inside m h i (s .has-height), s .room)
 
@@ -138,11 +138,11 @@ module _ {m : ℕ} {at : ℕ → Node} where
         by zero t = absurd (omega (arith, leaf-at m i t))
         by (suc g) t = (node-fits g (2 * i + 1) (left-height m g i t), node-fits g (2 * i + 2) (right-height m g i t))
 
-    child : (g j : ℕ) → HasHeight m g j → Searched m g j at
+    child : (g j : ℕ) → HasHeight m g j → Searchable m g j at
     child g j t = record { tree = s .tree; bounded = s .bounded; has-height = t; room = s .room }
 
   -- What is read at a node, by whether it is a leaf: b is the test.
-  module _ {h i : ℕ} (s : Searched m h i at) {b : Bool} (test : b ≡ leb m i) where
+  module _ {h i : ℕ} (s : Searchable m h i at) {b : Bool} (test : b ≡ leb m i) where
     pub leaf-read : {n : Node} → b ≡ true → n ≡ at i → around.Leaf n ≡ aroundOf m at i
     unfolding aroundOf
     leaf-read is e = rw (sym test ∙ is, aroundOf) (ap around.Leaf e)
@@ -158,7 +158,7 @@ module _ {m : ℕ} {at : ℕ → Node} where
     right-small is e = omega (arith, leb-false m i (sym test ∙ is), s .room)
 
   -- It decides the step there.
-  module _ {h i : ℕ} (s : Searched m h i at) where
+  module _ {h i : ℕ} (s : Searchable m h i at) where
     over : {D : Type 0} (f : Node → Node → Node → D) (g : ℕ) → HasHeight m (suc g) i
         → f (nodeOver joinOf (leavesOf m at) (suc g) (leftmost (suc g) i - m)) (nodeOver joinOf (leavesOf m at) g (leftmost (suc g) i - m))
         (nodeOver joinOf (leavesOf m at) g ((leftmost (suc g) i - m) + width g)) ≡ f (at i) (at (2 * i + 1)) (at (2 * i + 2))
@@ -184,10 +184,10 @@ module _ {m : ℕ} {at : ℕ → Node} where
     abbrev raised : 1 ≤ h → HasHeight m (suc (h - 1)) i
     raised above = let z : h ≡ suc (h - 1) = omega arith in subst (λ (g : ℕ). HasHeight m g i) z (s .has-height)
 
-    pub left-child : {j : ℕ} → j ≡ 2 * i + 1 → 1 ≤ h → Searched m (h - 1) j at
+    pub left-child : {j : ℕ} → j ≡ 2 * i + 1 → 1 ≤ h → Searchable m (h - 1) j at
     left-child {j} e above = child s (h - 1) j (rw e (left-height m (h - 1) i (raised above)))
 
-    pub right-child : {j : ℕ} → j ≡ 2 * i + 2 → 1 ≤ h → Searched m (h - 1) j at
+    pub right-child : {j : ℕ} → j ≡ 2 * i + 2 → 1 ≤ h → Searchable m (h - 1) j at
     right-child {j} e above = child s (h - 1) j (rw e (right-height m (h - 1) i (raised above)))
 
     abbrev L : ℕ → Node
@@ -341,13 +341,13 @@ pub record AnswerAt (m h : ℕ) (at : ℕ → Node) (position : ℕ) : Type 0 wh
   pub small : place < TASKS
   pub same : searchEct (leavesOf m at) h 0 ≡ some place
 
--- What a search from the root asks: the leaves past the tasks are not gray.
-pub record Searchable (m h : ℕ) (at : ℕ → Node) : Type 0 where
-  pub searched : Searched m h 0 at
+-- What a search from the root requires: the leaves after those of the tasks are not gray.
+pub record RootSearchable (m h : ℕ) (at : ℕ → Node) : Type 0 where
+  pub from-root : Searchable m h 0 at
   pub complete : m + 1 ≡ width h
   pub past : (k : ℕ) → TASKS ≤ k → gray (leavesOf m at k) ≡ false
 
-module _ (m h : ℕ) (at : ℕ → Node) (s : Searchable m h at) where
+module _ (m h : ℕ) (at : ℕ → Node) (s : RootSearchable m h at) where
   abbrev root : Option ℕ
   root = searchEct (leavesOf m at) h 0
 
@@ -370,7 +370,7 @@ module _ (m h : ℕ) (at : ℕ → Node) (s : Searchable m h at) where
     where
       by : (o : Option ℕ) → root ≡ o → r ≡ foundAt m o → root ≡ none
       by none q z = q
-      by (some x) q z = absurd (omega (arith, below x q, s .searched .room))
+      by (some x) q z = absurd (omega (arith, below x q, s .from-root .room))
 
 -- the task of the answer
 pub task-is : (tasks : List ℕ) (o : Option ℕ) (x : ℕ) (id : LocalId) → o ≡ some x → id .0 ≡ getD tasks x 0 → responsible.Task id ≡ responsibleOf tasks o

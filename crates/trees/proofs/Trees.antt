@@ -1,4 +1,4 @@
--- The laws of the two trees: what the operations ask and do, and what the root holds, by the colours of the leaves.
+-- The laws of the two trees: what the operations require and do, and what the root holds, by the colours of the leaves.
 use mathlib.Core.Path.{_≡_, refl, sym, ap, ap₂, subst, _∙_}
 use mathlib.Core.Bool.{not}
 use mathlib.Core.List.{List}
@@ -30,7 +30,7 @@ use Rattle.trees.proofs.ArrayTrees.{over-leaf, over-join, own-leaves, o
 use Rattle.trees.proofs.NodeWords.{blank-nodes, plain-blank-nodes}
 use Rattle.trees.proofs.LeafColours.{white-is, past-empty, bounded, plain-bounded, coloured}
 use Rattle.trees.proofs.WhiteTasks.{theta-same}
-use Rattle.trees.proofs.SearchSteps.{Searchable}
+use Rattle.trees.proofs.SearchSteps.{RootSearchable}
 
 -- Nodes of any kind over the leaves' colours: `node` is that of a leaf, by colour and place.
 module _ {A : Type 0} (size : A → ℕ) (Fair : A → Type 0) (join : A → A → A) (node : Leaf → ℕ → A) where
@@ -141,9 +141,9 @@ module _ {J : Tasks natural} {estOrder : List ℕ} (lim : Limited J estOrder) {l
   root-of = root-is joinOf inner (heightFor (J .count)) (nodeAt words) (t .complete) own-is-tree ∙ ap (λ (leaf : ℕ → Node). nodeOver joinOf leaf (heightFor (J .count)) 0) own
 
   -- the search from the root, `responsible_ect_bar`
-  pub searchable : (h : ℕ) → h ≡ heightFor (J .count) → Searchable inner h (nodeAt words)
-  searchable h z = rw z (record {
-    searched = record {
+  pub root-searchable : (h : ℕ) → h ≡ heightFor (J .count) → RootSearchable inner h (nodeAt words)
+  root-searchable h z = rw z (record {
+    from-root = record {
       tree = own-is-tree;
       bounded = rw own (bounded J estOrder lim ls (t .colours));
       has-height = root-height inner (heightFor (J .count)) (t .complete);

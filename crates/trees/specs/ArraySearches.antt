@@ -37,8 +37,8 @@ abbrev pub responsibleOf : List ℕ → Option ℕ → Responsible
 responsibleOf tasks none = responsible.Nothing
 responsibleOf tasks (some x) = responsible.Task (record { 0 = getD tasks x 0 })
 
--- What a search from node i of height h asks of the array.
-pub record Searched (m h i : ℕ) (at : ℕ → Node) : Type 0 where
+-- What a search from node i of height h requires of the array.
+pub record Searchable (m h i : ℕ) (at : ℕ → Node) : Type 0 where
   pub tree : TreeOf joinOf m (leavesOf m at) at
   pub bounded : Bounded size Fair (leavesOf m at)
   pub has-height : HasHeight m h i

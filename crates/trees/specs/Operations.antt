@@ -1,4 +1,4 @@
--- What the operations of the theta-lambda tree ask of its words and promise: by the leaves that the words hold, whatever tasks, order and leaves these are.
+-- What the operations of the theta-lambda tree require and ensure of its words: by the leaves that these hold, whatever the tasks, their order and colours.
 use mathlib.Core.Path.{_≡_}
 use mathlib.Core.List.{List}
 use Prim.Native.Nat.{ℕ, _<_}
@@ -13,7 +13,7 @@ use Rattle.trees.specs.Leaves.{Leaf, empty, white, startAt, durationAt, 
 use Rattle.trees.specs.ArraySearches.{responsibleOf}
 use Rattle.trees.specs.Trees.{Limited, IsTree, HasLeaves}
 
--- Tasks in an order and leaves over them, of which the words hold the tree.
+-- The words hold the tree over leaves of some tasks in some order.
 pub record Held (inner : ℕ) (words : List ℕ) : Type 0 where
   pub J : Tasks natural
   pub estOrder : List ℕ
@@ -21,7 +21,7 @@ pub record Held (inner : ℕ) (words : List ℕ) : Type 0 where
   pub limited : Limited J estOrder
   pub tree : IsTree J estOrder leaves inner words
 
--- The same where the words hold the leaves alone.
+-- The words hold the leaves alone, and the inner nodes may be anything.
 pub record HeldLeaves (inner : ℕ) (words : List ℕ) : Type 0 where
   pub J : Tasks natural
   pub estOrder : List ℕ

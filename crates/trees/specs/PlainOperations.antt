@@ -1,4 +1,4 @@
--- What the operations of the theta tree ask of its words and promise: by the leaves that the words hold, whatever tasks, order and leaves these are.
+-- What the operations of the theta tree require and ensure of its words: by the leaves that these hold, whatever the tasks, their order and colours.
 use mathlib.Core.Path.{_≡_}
 use mathlib.Core.List.{List}
 use Prim.Native.Nat.{ℕ}
@@ -9,7 +9,7 @@ use Rattle.trees.specs.Leaves.{Leaf, empty, white}
 use Rattle.trees.specs.Mappings.{Maps}
 use Rattle.trees.specs.Trees.{Limited, IsPlainTree}
 
--- Tasks in an order and leaves over them, of which the words hold the theta tree.
+-- The words hold the theta tree over leaves of some tasks in some order.
 pub record HeldPlain (inner : ℕ) (words : List ℕ) : Type 0 where
   pub J : Tasks natural
   pub estOrder : List ℕ

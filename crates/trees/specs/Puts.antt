@@ -1,4 +1,4 @@
--- What an operation on the words of a tree asks, and what it does: one leaf changes, and every inner node is the join of its children again.
+-- What `put` requires and ensures of the words of a tree: one leaf changes, and every inner node is the join of its children again.
 use mathlib.Core.Path.{_≡_}
 use mathlib.Core.List.{List}
 use Prim.Native.Nat.{ℕ}

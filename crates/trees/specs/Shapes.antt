@@ -1,4 +1,4 @@
--- Complete binary trees over leaves 0, 1, .., at any type of nodes: the node over a range of leaves, and the height that a number of leaves asks for.
+-- Complete binary trees over leaves 0, 1, .., at any type of nodes: the node over a range of leaves, and the height that a number of leaves needs.
 use mathlib.Core.Bool.{true, false}
 use Prim.Native.Nat.{ℕ, zero, suc, _+_}
 use lib.Dec.{ltb}

@@ -1,4 +1,4 @@
-// Complete binary trees in an array: where the children and the parent of a node stand, and how many inner nodes a number of leaves asks for.
+// Complete binary trees in an array: where the children and the parent of a node stand, and how many inner nodes a number of leaves needs.
 use integers::limits::TASKS;
 ghost use mathlib.Core.Path.{_≡_};
 ghost use Prim.Native.Nat.{_+_, _*_, _-_, _/_, _≤_, _<_};

@@ -32,7 +32,7 @@ ghost use Rattle.trees.specs.Words.{nodeAt};
 ghost use Rattle.trees.specs.Bounds.{NeedsUpheap};
 ghost use Rattle.trees.specs.Puts.{Puttable, Put};
 ghost use Rattle.trees.specs.Searches.{searchP, searchEct};
-ghost use Rattle.trees.specs.ArraySearches.{Searched, aroundOf, foundAt, whiteIn, Next};
+ghost use Rattle.trees.specs.ArraySearches.{Searchable, aroundOf, foundAt, whiteIn, Next};
 ghost use Rattle.trees.specs.Leaves.{empty, gray, ect, ect-bar, sum};
 ghost use Rattle.trees.specs.Trees.{IsTree};
 ghost use Rattle.trees.specs.Operations.{Held, HeldLeaves, New, Answers, Tall, Responds, HasPlace, Coloured, Whitened};
@@ -153,7 +153,7 @@ impl ThetaLambdaTree {
 
     // What a search reads at a node.
     fn around(nodes: &[u32; TREEWORDS], inner: usize, position: usize) -> Around
-        requires { ⌜ ((h : ℕ) × Searched inner h position (nodeAt (now nodes))) ⌝ }
+        requires { ⌜ ((h : ℕ) × Searchable inner h position (nodeAt (now nodes))) ⌝ }
         ensures { λ r. ⌜ r ≡ aroundOf inner (nodeAt (now (nodes .entry))) position ⌝ }
     {
         let node = load(nodes, position);
@@ -172,7 +172,7 @@ impl ThetaLambdaTree {
         position: usize,
         height: usize,
     ) -> usize
-        requires { ⌜ Searched inner height position (nodeAt (now nodes)) ⌝ }
+        requires { ⌜ Searchable inner height position (nodeAt (now nodes)) ⌝ }
         ensures { λ r. ⌜ r ≡ foundAt inner (searchEct (leavesOf inner (nodeAt (now (nodes .entry)))) height (leftmost height position - inner)) ⌝ }
     {
         let around = ThetaLambdaTree::around(nodes, inner, position);
@@ -201,7 +201,7 @@ impl ThetaLambdaTree {
         position: usize,
         height: usize,
     ) -> usize
-        requires { ⌜ Searched inner height position (nodeAt (now nodes)) ⌝ }
+        requires { ⌜ Searchable inner height position (nodeAt (now nodes)) ⌝ }
         ensures { λ r. ⌜ r ≡ foundAt inner (searchP (leavesOf inner (nodeAt (now (nodes .entry)))) height (leftmost height position - inner)) ⌝ }
     {
         let around = ThetaLambdaTree::around(nodes, inner, position);
@@ -308,7 +308,7 @@ impl ThetaLambdaTree {
     }
 
     // Returns the place of the first leaf from `place` on, below `count`, whose task is in Theta, or `count` where there is none. The source collects these
-    // leaves' tasks in a list (`get_theta`); here who wants them walks over the leaves.
+    // leaves' tasks in a list (`get_theta`); here the caller goes over the leaves.
     pub fn next_in_theta(
         nodes: &[u32; TREEWORDS],
         inner: usize,

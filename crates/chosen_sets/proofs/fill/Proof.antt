@@ -1,4 +1,4 @@
--- `chosen_sets::theta::fill` meets its contract: after x turns the first x leaves have their colours.
+-- After x turns the first x leaves have their colours, and the others are empty.
 use mathlib.Core.Path.{sym, subst}
 use mathlib.Core.Bool.{Bool, false}
 use mathlib.Core.List.{List}
@@ -7,15 +7,15 @@ use native.Mathlib.Omega.{arith}
 use lib.ListN.{getD}
 use borrow.Author.Needs.{needs}
 use Rattle.integers.specs.Limits.{TASKS}
-use Rattle.chosen_sets.specs.ColouredLeaves.{Takes, Took, Colourable}
-use Rattle.chosen_sets.proofs.ColouredLeaves.{upTo, Shows, none-coloured, task-known, takes, one-more, all-coloured}
+use Rattle.chosen_sets.specs.ColouredLeaves.{LeafColourable, LeafColoured, TreeColourable}
+use Rattle.chosen_sets.proofs.ColouredLeaves.{upTo, Shows, none-coloured, task-known, leaf-colourable, one-more, all-coloured}
 use Rattle.chosen_sets.proofs.fill.Statement.{statement}
 use Rattle.chosen_sets.proofs.fill.Tie as tie
 
 -- the first x leaves have their colours
 record Loop (inner n : ℕ) (nodes₀ tasks : List ℕ) (chosen : List Bool) (est durations nodes : List ℕ) (x : ℕ) : Type 0 where
-  colourable : Colourable inner n nodes₀ tasks chosen est durations
-  tree : (f : Colourable inner n nodes₀ tasks chosen est durations) → Shows f (upTo f x) nodes
+  colourable : TreeColourable inner n nodes₀ tasks chosen est durations
+  tree : (f : TreeColourable inner n nodes₀ tasks chosen est durations) → Shows f (upTo f x) nodes
   small : x ≤ n
 
 abbrev Inv-loop : tie.InvT-loop
@@ -34,13 +34,14 @@ task c = getD (c .before .before .before .args .tasks .now) (c .before .before .
 known : (c : tie.After-task-of Inv-loop μ-loop) → c .task-of .result .0 < TASKS
 known c = omega (arith, c .task-of .ensures, task-known (c .before .before .loop .inv .colourable) (c .before .before .loop .x) (inside (c .before)))
 
--- what is asked and said of it is asked and said of the number that the mapping gives
+-- what is required and ensured of the task is required and ensured of the number that the array gives
 abbrev May : tie.After-task-of Inv-loop μ-loop → List ℕ → ℕ → Type 0
-May c words i = let a = c .before .before .before .args in Takes (a .inner) words (c .before .before .loop .x) (getD (a .chosen .now) i false) (getD (a .est .now) i 0) (getD (a .durations .now) i 0)
+May c words i = let a = c .before .before .before .args in
+    LeafColourable (a .inner) words (c .before .before .loop .x) (getD (a .chosen .now) i false) (getD (a .est .now) i 0) (getD (a .durations .now) i 0)
 
 abbrev Was : tie.After-task-of Inv-loop μ-loop → List ℕ → List ℕ → ℕ → Type 0
 Was c words words′ i = let a = c .before .before .before .args in
-    Took (a .inner) words words′ (c .before .before .loop .x) (getD (a .chosen .now) i false) (getD (a .est .now) i 0) (getD (a .durations .now) i 0)
+    LeafColoured (a .inner) words words′ (c .before .before .loop .x) (getD (a .chosen .now) i false) (getD (a .est .now) i 0) (getD (a .durations .now) i 0)
 
 may : (c : tie.After-task-of Inv-loop μ-loop) {words : List ℕ} → May c words (task c) → May c words (c .task-of .result .0)
 may c {words} q = subst (May c words) (sym (c .task-of .ensures)) q
@@ -73,7 +74,7 @@ put-chosen-requires : tie.Need-put-chosen-requires Inv-loop μ-loop
 put-chosen-requires c κs =
     let at = c .before .before .before .before in
     let v = at .before .before .loop .inv in
-    may at (takes (v .colourable) (at .before .before .loop .x) (inside (at .before)) (v .tree (v .colourable)))
+    may at (leaf-colourable (v .colourable) (at .before .before .loop .x) (inside (at .before)) (v .tree (v .colourable)))
 
 loop-again : tie.Need-loop-again Inv-loop μ-loop
 loop-again c =

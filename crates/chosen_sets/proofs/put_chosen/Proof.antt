@@ -1,4 +1,4 @@
--- `chosen_sets::theta::put_chosen` meets its contract: where the task is not chosen, no word changes.
+-- A chosen task is added to the tree; for any other no word changes.
 use mathlib.Core.Path.{refl}
 use Rattle.integers.proofs.Bools.{clash}
 use Rattle.chosen_sets.proofs.put_chosen.Statement.{statement}

@@ -1,10 +1,10 @@
--- `theta_ect`: the chosen tasks go into a new tree over the tasks by earliest start, which answers their ect.
+-- The chosen tasks go into a new tree over the tasks by earliest start, and its root has their ect.
 use mathlib.Core.Path.{_∙_}
 use borrow.Author.Needs.{needs}
 use Rattle.scheduling.specs.Scheduling.{natural, Tasks, TaskSet}
 use Rattle.sorts.proofs.Sorted.{sorted-permutes}
-use Rattle.chosen_sets.specs.ColouredLeaves.{Colourable}
-use Rattle.chosen_sets.specs.TaskArrays.{Held}
+use Rattle.chosen_sets.specs.ColouredLeaves.{TreeColourable}
+use Rattle.chosen_sets.specs.TaskArrays.{HeldSet}
 use Rattle.chosen_sets.proofs.ColouredLeaves.{colourable, coloured}
 use Rattle.chosen_sets.proofs.Ects.{tree-ect}
 use Rattle.chosen_sets.proofs.theta_ect.Statement.{statement}
@@ -17,8 +17,8 @@ start c = c .before .before .before .before
 abbrev sorted : tie.After-new → tie.After-sort-numbers
 sorted c = c .before .before
 
-abbrev ready : (c : tie.After-new) → let a = start c .args in (J : Tasks natural) (Ω : TaskSet) → Held J Ω (a .n) (a .chosen .now) (a .est .now) (a .durations .now)
-    → Colourable (c .new .result .«number_of_internal_nodes») (a .n) (c .new .result .nodes) (sorted c .sort-numbers .last .0) (a .chosen .now) (a .est .now) (a .durations .now)
+abbrev ready : (c : tie.After-new) → let a = start c .args in (J : Tasks natural) (Ω : TaskSet) → HeldSet J Ω (a .n) (a .chosen .now) (a .est .now) (a .durations .now)
+    → TreeColourable (c .new .result .«number_of_internal_nodes») (a .n) (c .new .result .nodes) (sorted c .sort-numbers .last .0) (a .chosen .now) (a .est .now) (a .durations .now)
 ready c J Ω h = colourable h (sorted c .sort-numbers .ensures) (c .new .ensures)
 
 new-requires : tie.Need-new-requires

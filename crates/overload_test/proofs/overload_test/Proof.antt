@@ -1,4 +1,4 @@
--- `overload_test::overload_test::overload_test` meets its contract.
+-- What no test refuses is accepted, and the answer read off the tasks is then yes exactly where some set overloads.
 use mathlib.Core.Path.{_≡_, sym, ap, _∙_}
 use mathlib.Core.Bool.{true}
 use lib.ListN.{length}
@@ -24,14 +24,14 @@ returns c =
     let a = n .before .before .before .args in
     is-refused (a .t1) (a .earliest .now) (a .latest .now) (a .bars-fit) _ (λ z. c .if1 .taken (n .input-refusal .ensures ∙ z)) (ap refusedBy (n .input-refusal .ensures))
 
-accepted-requires : tie.Need-accepted-requires
-accepted-requires c κs = passed c .0
+test-accepted-requires : tie.Need-test-accepted-requires
+test-accepted-requires c κs = passed c .0
 
 returns-2 : tie.Need-returns-2
 returns-2 c =
     let s = c .before .before .before .before .before in
     let a = s .args in
-    tested (a .t1) (a .earliest .now) (a .latest .now) (a .bars-fit) _ (passed (c .before) .0) (passed (c .before) .1) (long s) (c .accepted .ensures)
+    tested (a .t1) (a .earliest .now) (a .latest .now) (a .bars-fit) _ (passed (c .before) .0) (passed (c .before) .1) (long s) (c .test-accepted .ensures)
 
 pub overload-test-spec : {M : Type 1} → statement M
-overload-test-spec = tie.close (tie.spec (λ c κs. search needs) returns accepted-requires returns-2)
+overload-test-spec = tie.close (tie.spec (λ c κs. search needs) returns test-accepted-requires returns-2)

@@ -1,4 +1,4 @@
--- `overload_test::read_tasks` meets its contract.
+-- After k turns Theta has the first k tasks by latest completion, and none of them overloaded when it was read.
 use mathlib.Core.Path.{_≡_, sym, _∙_}
 use mathlib.Core.List.{List}
 use Prim.Native.Nat.{ℕ, _+_, _-_, _≤_, _<_}

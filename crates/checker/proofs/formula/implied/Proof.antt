@@ -10,7 +10,7 @@ use Rattle.integers.specs.Limits.{TASKS}
 use Rattle.scheduling.specs.Scheduling.{natural, Tasks, TaskSet}
 use Rattle.checker.specs.Formulas.{_but_}
 use Rattle.trees.specs.Ects.{momentOf}
-use Rattle.chosen_sets.specs.TaskArrays.{Held}
+use Rattle.chosen_sets.specs.TaskArrays.{HeldSet}
 use Rattle.checker.specs.BoundArrays.{Bounding, intervalOf}
 use Rattle.checker.proofs.EarlyAnswers.{none-after, joint-fits, room-before, after-where, others-held}
 use Rattle.checker.proofs.formula.implied.Statement.{statement}
@@ -21,7 +21,7 @@ size c = search needs
 
 -- the tasks but i are those of the changed array
 held : (c : tie.After-gather-arg2) {J : Tasks natural} {Ω : TaskSet} → let a = c .before .before .before .before .before .args in Bounding J Ω (a .n) (a .t1) (a .durations .now)
-    → Held J (Ω but a .i) (a .n) (set (a .t1 .bounded) (a .i) false) (a .t1 .est) (a .durations .now)
+    → HeldSet J (Ω but a .i) (a .n) (set (a .t1 .bounded) (a .i) false) (a .t1 .est) (a .durations .now)
 held c d = let a = c .before .before .before .before .before in others-held (size c) (a .args .i) (a .pre .0) (d .held)
 
 gather-requires : tie.Need-gather-requires

@@ -8,7 +8,7 @@ use lib.ListN.{getD}
 use borrow.Author.Needs.{needs}
 use Rattle.scheduling.specs.Scheduling.{natural, Tasks, TaskSet}
 use Rattle.checker.specs.declared.intervals.Interval.{Interval}
-use Rattle.chosen_sets.specs.TaskArrays.{Held, Late}
+use Rattle.chosen_sets.specs.TaskArrays.{HeldSet, Late}
 use Rattle.checker.specs.BoundArrays.{intervalOf}
 use Rattle.checker.proofs.TaskLoop.{none-gathered, duration-fits, start-fits, latest-fits, completion-fits, sum-fits, next-gathered}
 use Rattle.checker.proofs.intervals.gather.Statement.{statement}
@@ -16,8 +16,8 @@ use Rattle.checker.proofs.intervals.gather.Tie as tie
 
 -- the tasks below i are gathered
 record Loop (chosen : List Bool) (est lst durations : List ℕ) (n : ℕ) (v : Interval) (i : ℕ) : Type 0 where
-  some : (J : Tasks natural) × (Ω : TaskSet) × Held J Ω n chosen est durations × Late J n lst
-  at : (J : Tasks natural) (Ω : TaskSet) → Held J Ω n chosen est durations → Late J n lst → v ≡ intervalOf J Ω i
+  some : (J : Tasks natural) × (Ω : TaskSet) × HeldSet J Ω n chosen est durations × Late J n lst
+  at : (J : Tasks natural) (Ω : TaskSet) → HeldSet J Ω n chosen est durations → Late J n lst → v ≡ intervalOf J Ω i
   small : i ≤ n
 
 abbrev Inv-loop : tie.InvT-loop

@@ -1,4 +1,4 @@
--- `mirrored::mirrored_propagator::propagate_mirrored` meets its contract: what no test refuses is run in mirrored time and told in the caller's.
+-- What no test refuses is run in mirrored time, and its words are mirrored back: they are those of the mirrored pass.
 use mathlib.Core.Path.{_≡_, refl, ap}
 use mathlib.Core.Bool.{true}
 use native.Mathlib.Omega.{arith}
@@ -7,7 +7,7 @@ use Rattle.integers.specs.Answers.{refusedBy}
 use Rattle.integers.specs.Limits.{TASKS}
 use Rattle.records.specs.Refusals.{Accepted}
 use Rattle.records.proofs.RefusedRuns.{accepted-run}
-use Rattle.mirrored.proofs.MirroredEnds.{ended, left-mirrored}
+use Rattle.mirrored.proofs.MirroredEnds.{words-mirrorable, left-mirrored}
 use borrow.Author.Needs.{needs}
 use Rattle.mirrored.proofs.mirrored_propagator.propagate_mirrored.Statement.{statement}
 use Rattle.mirrored.proofs.mirrored_propagator.propagate_mirrored.Tie as tie
@@ -33,13 +33,13 @@ returns c =
 run-in-mirror-requires : tie.Need-run-in-mirror-requires
 run-in-mirror-requires c κs = passed (c .before .before .before .before) .0
 
-tell-requires : tie.Need-tell-requires
-tell-requires c κs =
+mirror-words-requires : tie.Need-mirror-words-requires
+mirror-words-requires c κs =
     let ran = c .before .before .before .before .before .before in
     let e = ran .before .before .before .before .before in
     let s = e .before .before .before .before .before in
     let a = s .args in
-    ended (a .t1) (a .earliest .now) (a .latest .now) (length (a .posts .now)) (length (a .atoms .now)) (passed e .0) (long s) (ran .run-in-mirror .ensures)
+    words-mirrorable (a .t1) (a .earliest .now) (a .latest .now) (length (a .posts .now)) (length (a .atoms .now)) (passed e .0) (long s) (ran .run-in-mirror .ensures)
 
 returns-2 : tie.Need-returns-2
 returns-2 c =
@@ -51,12 +51,12 @@ returns-2 c =
     record {
       refused = λ h. absurd (h (accepted-run (a .t1) (a .earliest .now) (a .latest .now) (a .bars-fit) (length (a .posts .now)) (length (a .atoms .now)) .1 (passed e)));
       accepted = λ z. left-mirrored (a .t1) (a .earliest .now) (a .latest .now) (length (a .posts .now)) (length (a .atoms .now)) (passed e .0) (long s) r (omega arith) (omega arith)
-          (c .before .before .tell .ensures (ended (a .t1) (a .earliest .now) (a .latest .now) (length (a .posts .now)) (length (a .atoms .now)) (passed e .0) (long s) r));
+          (c .before .before .mirror-words .ensures (words-mirrorable (a .t1) (a .earliest .now) (a .latest .now) (length (a .posts .now)) (length (a .atoms .now)) (passed e .0) (long s) r));
     }
 
 pub propagate-mirrored-spec : {M : Type 1} → statement M
 propagate-mirrored-spec =
     tie.close
     (tie.spec
-    (λ c κs. search needs) (λ c. search needs) returns run-in-mirror-requires tell-requires (λ c. search needs)
+    (λ c κs. search needs) (λ c. search needs) returns run-in-mirror-requires mirror-words-requires (λ c. search needs)
     (λ c. search needs) (λ c. search needs) returns-2)

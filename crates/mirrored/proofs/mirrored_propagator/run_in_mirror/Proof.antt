@@ -8,8 +8,8 @@ use lib.ListN.{length, take, drop, replicate, length-replicate}
 use lib.Seq.{length-take-le, length-front, take-at}
 use Rattle.integers.specs.Limits.{TASKS}
 use Rattle.runs.specs.Mirrored.{mirrorStarts}
-use Rattle.mirrored.specs.MirroredSlices.{Reflectable}
-use Rattle.mirrored.proofs.MirroredEnds.{reflect-latest, reflect-earliest, runnable-at, reflect-back, ran-in-mirror}
+use Rattle.mirrored.specs.MirroredSlices.{StartsMirrorable}
+use Rattle.mirrored.proofs.MirroredEnds.{latest-mirrorable, earliest-mirrorable, runnable-at, left-mirrorable, ran-in-mirror}
 use borrow.Author.Needs.{needs}
 use Rattle.mirrored.proofs.mirrored_propagator.run_in_mirror.Statement.{statement}
 use Rattle.mirrored.proofs.mirrored_propagator.run_in_mirror.Tie as tie
@@ -85,7 +85,7 @@ mirror-starts-requires : tie.Need-mirror-starts-requires
 mirror-starts-requires c κs =
     let s = c .before .before .before .before in
     let a = s .args in
-    reflect-latest (a .«record») (a .earliest .now) (a .latest .now) (length (a .posts .now)) (length (a .atoms .now)) (s .pre) (long s) (take (a .«record» .count) zeros)
+    latest-mirrorable (a .«record») (a .earliest .now) (a .latest .now) (length (a .posts .now)) (length (a .atoms .now)) (s .pre) (long s) (take (a .«record» .count) zeros)
     (front (a .«record» .count) (s .pre .lawful .few))
 
 slice-aggregate-mirror-starts-2 : tie.Need-slice-aggregate-mirror-starts-2
@@ -95,7 +95,7 @@ mirror-starts-requires-2 : tie.Need-mirror-starts-requires-2
 mirror-starts-requires-2 c κs =
     let s = c .before .before .before .before .before .before .before .before in
     let a = s .args in
-    reflect-earliest (a .«record») (a .earliest .now) (a .latest .now) (length (a .posts .now)) (length (a .atoms .now)) (s .pre) (long s) (take (a .«record» .count) zeros)
+    earliest-mirrorable (a .«record») (a .earliest .now) (a .latest .now) (length (a .posts .now)) (length (a .atoms .now)) (s .pre) (long s) (take (a .«record» .count) zeros)
     (front (a .«record» .count) (s .pre .lawful .few))
 
 array-borrow-prefix-from-2 : tie.Need-array-borrow-prefix-from-2
@@ -130,8 +130,8 @@ mirror-starts-requires-3 c κs =
     let i = made r in
     let s = start i in
     let a = s .args in
-    subst (λ (zs : List ℤ). Reflectable (a .latest .now) zs (a .«record» .durations)) (sym (back-is r))
-    (reflect-back (a .«record») (a .earliest .now) (a .latest .now) (length (a .posts .now)) (length (a .atoms .now)) (s .pre) (long s) (from-is i) (to-is i) (r .run-accepted .ensures)
+    subst (λ (zs : List ℤ). StartsMirrorable (a .latest .now) zs (a .«record» .durations)) (sym (back-is r))
+    (left-mirrorable (a .«record») (a .earliest .now) (a .latest .now) (length (a .posts .now)) (length (a .atoms .now)) (s .pre) (long s) (from-is i) (to-is i) (r .run-accepted .ensures)
     (a .latest .now) (s .pre .counts .latest))
 
 returns : tie.Need-returns

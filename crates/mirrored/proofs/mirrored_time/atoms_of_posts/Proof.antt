@@ -1,4 +1,4 @@
--- The last post's stretch begins where the others end, so its first atom's number and its atoms are all that there are.
+-- The last post's reason ends where all atoms end, so its first atom's number plus its count is how many there are.
 use mathlib.Core.Path.{sym, ap, ap₂, subst, _∙_}
 use Prim.Native.Nat.{_+_}
 use native.Mathlib.Omega.{arith}
@@ -6,17 +6,17 @@ use lib.IntN.{ℤ, pos, natAbs}
 use lib.ListN.{length}
 use lib.Signed.{_≤ℤ_}
 use Rattle.runs.specs.Words.{reasons}
-use Rattle.mirrored.proofs.MirroredLoops.{natural, none-counted, Last, last-counted}
+use Rattle.mirrored.proofs.MirroredLoops.{natural, none-countable, Last, last-countable}
 use borrow.Author.Needs.{needs}
 use Rattle.mirrored.proofs.mirrored_time.atoms_of_posts.Statement.{statement}
 use Rattle.mirrored.proofs.mirrored_time.atoms_of_posts.Tie as tie
 
 -- the last post's words
 last : (c : tie.Else1) → Last (c .before .args .posts .now) (c .before .args .count) (length (reasons (c .before .pre .posts)))
-last c = last-counted (c .before .pre) (omega arith)
+last c = last-countable (c .before .pre) (omega arith)
 
 returns : tie.Need-returns
-returns c = λ k. none-counted k (omega arith)
+returns c = λ k. none-countable k (omega arith)
 
 first-atom-requires : tie.Need-first-atom-requires
 first-atom-requires c κs =
@@ -30,7 +30,7 @@ atom-count-requires c κs =
 
 returns-2 : tie.Need-returns-2
 returns-2 c = λ k.
-    let l = last-counted k (omega arith) in
+    let l = last-countable k (omega arith) in
     ap₂ _+_ (c .before .first-atom .ensures ∙ ap natAbs (l .first-is)) (c .atom-count .ensures ∙ ap natAbs (l .many-is)) ∙ l .sum
 
 pub atoms-of-posts-spec : {M : Type 1} → statement M

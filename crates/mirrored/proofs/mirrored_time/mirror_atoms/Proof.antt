@@ -1,4 +1,4 @@
--- `mirrored_words::mirrored_time::mirror_atoms` meets its contract.
+-- After k turns the kinds and values of the first k atoms are mirrored, and all other words are unchanged.
 use mathlib.Core.Path.{_≡_, refl, sym, ap, _∙_}
 use mathlib.Core.List.{List, _++_}
 use Prim.Native.Nat.{ℕ, _-_, _≤_}
@@ -9,16 +9,16 @@ use Rattle.scheduling.specs.Scheduling.{Atom}
 use Rattle.scheduling.specs.Words.{atomWords}
 use Rattle.runs.proofs.Mirrored.{atoms-begin}
 use Rattle.runs.specs.MirroredWords.{atomsTo}
-use Rattle.mirrored.specs.MirroredSlices.{AtomsHeld}
-use Rattle.mirrored.proofs.MirroredLoops.{kind-mirrorable, value-mirrorable, atom-told}
+use Rattle.mirrored.specs.MirroredSlices.{AtomsMirrorable}
+use Rattle.mirrored.proofs.MirroredLoops.{kind-mirrorable, value-mirrorable, atom-mirrored}
 use borrow.Author.Needs.{needs}
 use Rattle.mirrored.proofs.mirrored_time.mirror_atoms.Statement.{statement}
 use Rattle.mirrored.proofs.mirrored_time.mirror_atoms.Tie as tie
 
 -- the first k atoms are mirrored
 record Loop (old : List ℤ) (count : ℕ) (array : List ℕ) (words : List ℤ) (k : ℕ) : Type 0 where
-  held : AtomsHeld old count array
-  told : (h : AtomsHeld old count array) → words ≡ atomWords (atomsTo (h .ds) k (h .atoms)) ++ h .tail
+  mirrorable : AtomsMirrorable old count array
+  mirrored : (h : AtomsMirrorable old count array) → words ≡ atomWords (atomsTo (h .ds) k (h .atoms)) ++ h .tail
   small : k ≤ count
   size : length words ≡ length old
 
@@ -29,10 +29,11 @@ abbrev μ-loop : tie.MeasureT-loop
 μ-loop atoms₀ count durations k₀ atoms k = count - k
 
 loop-holds : tie.Need-loop-holds Inv-loop μ-loop
-loop-holds c = record { held = c .pre; told = λ h. h .words-are ∙ ap (λ (l : List Atom). atomWords l ++ h .tail) (sym (atoms-begin (h .ds) (h .atoms))); small = omega arith; size = refl }
+loop-holds c = record { mirrorable = c .pre; mirrored = λ h. h .words-are ∙ ap (λ (l : List Atom). atomWords l ++ h .tail) (sym (atoms-begin (h .ds) (h .atoms))); small = omega arith; size = refl }
 
 mirror-kind-requires : tie.Need-mirror-kind-requires Inv-loop μ-loop
-mirror-kind-requires c κs = let l = c .before .before .before .loop in let v = l .inv in rw (c .kind-at .ensures) (kind-mirrorable (v .held) (l .atoms) (l .k) (omega arith) (v .told (v .held)))
+mirror-kind-requires c κs = let l = c .before .before .before .loop in let v = l .inv in
+    rw (c .kind-at .ensures) (kind-mirrorable (v .mirrorable) (l .atoms) (l .k) (omega arith) (v .mirrored (v .mirrorable)))
 
 mirror-word-requires : tie.Need-mirror-word-requires Inv-loop μ-loop
 mirror-word-requires c κs =
@@ -40,7 +41,7 @@ mirror-word-requires c κs =
     let l = called .before .before .before .before .loop in
     let v = l .inv in
     rw (c .before .variable-at .ensures, c .value-at .ensures)
-    (value-mirrorable (v .held) (l .atoms) (l .k) (omega arith) (v .told (v .held)) (called .before .kind-at .ensures) (called .mirror-kind .ensures))
+    (value-mirrorable (v .mirrorable) (l .atoms) (l .k) (omega arith) (v .mirrored (v .mirrorable)) (called .before .kind-at .ensures) (called .mirror-kind .ensures))
 
 loop-again : tie.Need-loop-again Inv-loop μ-loop
 loop-again c =
@@ -49,8 +50,8 @@ loop-again c =
     let l = called .before .before .before .before .loop in
     let v = l .inv in
     record {
-      held = v .held;
-      told = λ h. atom-told h (l .atoms) (l .k) (omega arith) (v .told h) (called .before .kind-at .ensures) (called .mirror-kind .ensures) (placed .before .variable-at .ensures)
+      mirrorable = v .mirrorable;
+      mirrored = λ h. atom-mirrored h (l .atoms) (l .k) (omega arith) (v .mirrored h) (called .before .kind-at .ensures) (called .mirror-kind .ensures) (placed .before .variable-at .ensures)
           (placed .value-at .ensures) (c .before .mirror-word .ensures);
       small = omega arith;
       size = search needs;
@@ -60,7 +61,7 @@ returns : tie.Need-returns Inv-loop μ-loop
 returns c =
     let l = c .before .loop in
     let e : l .k ≡ c .before .before .args .count = omega (arith, l .inv .small) in
-    λ h. l .inv .told h ∙ ap (λ (i : ℕ). atomWords (atomsTo (h .ds) i (h .atoms)) ++ h .tail) e
+    λ h. l .inv .mirrored h ∙ ap (λ (i : ℕ). atomWords (atomsTo (h .ds) i (h .atoms)) ++ h .tail) e
 
 pub mirror-atoms-spec : {M : Type 1} → statement M
 mirror-atoms-spec =

@@ -1,4 +1,4 @@
--- `mirrored_words::mirrored_time::mirror_kind` meets its contract.
+-- A kind is 0 or 1, so the machine's difference 1 - kind is the whole numbers' difference.
 use mathlib.Core.Path.{_≡_, sym, ap, ap₂, subst, _∙_}
 use native.Mathlib.Omega.{arith}
 use lib.IntN.{ℤ, pos, _-ℤ_}

@@ -1,4 +1,4 @@
--- `mirrored_words::mirrored_time::mirror_start` meets its contract.
+-- The sum of an i32 and a u32 fits an i64, so the machine's sum and negation are the whole numbers'.
 use mathlib.Core.Path.{_≡_, sym, ap, ap₂, subst, _∙_}
 use Prim.Native.Nat.{ℕ, _<_, _^_}
 use native.Mathlib.Omega.{arith}

@@ -1,4 +1,4 @@
--- `mirrored_words::mirrored_time::mirror_starts` meets its contract.
+-- After k turns the first k places hold the mirrored starts, and the others are unchanged.
 use mathlib.Core.Path.{_≡_, refl, sym, ap, ap₂, subst, _∙_}
 use Prim.Native.Nat.{ℕ, _+_, _-_, _≤_}
 use mathlib.Core.List.{List}

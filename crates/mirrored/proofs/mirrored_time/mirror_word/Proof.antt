@@ -1,4 +1,4 @@
--- `mirrored_words::mirrored_time::mirror_word` meets its contract.
+-- The word at `of` is a task's number, so the duration that is read is that task's, and the mirrored start fits an i32 as required.
 use mathlib.Core.Path.{_≡_, sym, ap, ap₂, subst, _∙_}
 use Prim.Native.Nat.{ℕ}
 use native.Mathlib.Omega.{arith}

@@ -1,4 +1,4 @@
--- `trees::complete_tree::leaf_places` meets its contract. The loop's invariant is `Placed`: the mapping has the places of the tasks passed.
+-- The loop's invariant is `Placed`: the mapping has the place of each task that stands before i in the order.
 use mathlib.Core.Path.{_≡_}
 use Prim.Native.Nat.{_≤_, _-_}
 use native.Mathlib.Omega.{arith}

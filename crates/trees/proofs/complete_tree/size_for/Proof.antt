@@ -1,4 +1,4 @@
--- `trees::complete_tree::size_for` meets its contract. The loop's invariant: the leaves are those of the height, and from there on the least height is still the one looked for.
+-- The loop's invariant: a tree of this height has `leaves` leaves, and the least height with enough of them is this one or larger.
 use mathlib.Core.Path.{_≡_, refl, sym, _∙_}
 use Prim.Native.Nat.{_+_, _≤_, _<_, _-_}
 use native.Mathlib.Omega.{arith}

@@ -1,4 +1,4 @@
--- `trees::theta_lambda_tree::store` meets its contract.
+-- Four words are written at 4i, so node i becomes n and every other node is unchanged.
 use borrow.Author.Needs.{needs}
 use Rattle.trees.proofs.NodeWords.{stored}
 use Rattle.trees.proofs.theta_lambda_tree.store.Statement.{statement}

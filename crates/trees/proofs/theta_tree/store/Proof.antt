@@ -1,4 +1,4 @@
--- `trees::theta_tree::store` meets its contract.
+-- Two words are written at 2i, so node i becomes n and every other node is unchanged.
 use borrow.Author.Needs.{needs}
 use Rattle.trees.proofs.NodeWords.{plain-stored}
 use Rattle.trees.proofs.theta_tree.store.Statement.{statement}

@@ -1,4 +1,4 @@
--- `ects::earliest_completion::Ect::decoded` meets its contract.
+-- The word 0 codes no task; every other word is its own moment.
 use mathlib.Core.Path.{sym}
 use native.Mathlib.Omega.{arith}
 use Rattle.trees.proofs.Ects.{decoded-none, decoded-some}

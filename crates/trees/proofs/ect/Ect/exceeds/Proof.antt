@@ -1,4 +1,4 @@
--- `ects::earliest_completion::Ect::exceeds` meets its contract.
+-- By the case of the ect: that of no task is past nothing, a moment is compared.
 use mathlib.Core.Path.{sym, ap}
 use borrow.Author.Needs.{needs}
 use Rattle.trees.specs.declared.ect.Ect.{Ect}

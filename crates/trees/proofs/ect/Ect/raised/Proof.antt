@@ -1,4 +1,4 @@
--- `ects::earliest_completion::Ect::raised` meets its contract.
+-- By the case of the ect: that of no task leaves the start, a moment is the larger of the two.
 use mathlib.Core.Path.{sym, ap, _∙_}
 use borrow.Author.Needs.{needs}
 use Rattle.trees.specs.declared.ect.Ect.{Ect}

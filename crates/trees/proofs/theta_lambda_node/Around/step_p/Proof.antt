@@ -1,4 +1,4 @@
--- `nodes::theta_lambda_node::Around::step_p` meets its contract.
+-- By what was read: a gray leaf ends the search by sums, an inner node hands it to a child.
 use mathlib.Core.Path.{sym, ap, _∙_}
 use borrow.Author.Needs.{needs}
 use Rattle.trees.specs.SearchSteps.{stepAtP}

@@ -1,4 +1,4 @@
--- `nodes::theta_lambda_node::Node::descent_ect_bar` meets its contract.
+-- The three tests are made in the order of `descentEct`, and the first that holds decides.
 use mathlib.Core.Path.{sym, _∙_}
 use borrow.Author.Needs.{needs}
 use Rattle.trees.specs.Descents.{descentEct}

@@ -1,4 +1,4 @@
--- `nodes::theta_lambda_node::Node::is_empty` meets its contract.
+-- The four comparisons with 0, one after the other, are the conjunction `isEmpty`.
 use borrow.Author.Tests.{ne-eqb, eq-eqb}
 use Rattle.trees.specs.Nodes.{isEmpty}
 use Rattle.trees.proofs.theta_lambda_node.Node.is_empty.Statement.{statement}

@@ -1,4 +1,4 @@
--- `nodes::theta_lambda_node::Node::is_gray` meets its contract.
+-- The two comparisons with 0, one after the other, are the conjunction `gray`.
 use borrow.Author.Tests.{ne-eqb, eq-eqb}
 use Rattle.trees.specs.Descents.{gray}
 use Rattle.trees.proofs.theta_lambda_node.Node.is_gray.Statement.{statement}

@@ -1,4 +1,4 @@
--- `nodes::theta_lambda_node::Node::join` meets its contract.
+-- Both children are fair and small, so no sum passes 32 bits and the machine's values are those of `joinOf`.
 use borrow.Author.Needs.{needs}
 use Rattle.trees.specs.Nodes.{joinOf}
 use Rattle.trees.proofs.theta_lambda_node.Node.join.Statement.{statement}

@@ -1,4 +1,4 @@
--- `nodes::theta_lambda_node::Node::tested` meets its contract.
+-- The code compares before it looks for an empty child; a conjunction does not depend on the order.
 use mathlib.Core.Bool.{not}
 use mathlib.Core.Path.{sym, ap, _∙_}
 use lib.Dec.{eqb}

@@ -1,4 +1,4 @@
--- `trees::theta_lambda_tree::ThetaLambdaTree::add_to_lambda` meets its contract.
+-- The task's duration and start are within the limits, so its ect fits 32 bits; its gray node may be put at its leaf.
 use mathlib.Core.Path.{_≡_, ap₂}
 use mathlib.Core.List.{List}
 use Prim.Native.Nat.{ℕ, _+_}

@@ -1,4 +1,4 @@
--- `trees::theta_lambda_tree::ThetaLambdaTree::around` meets its contract.
+-- A position at or after the inner nodes is a leaf; before it, both children lie within the array.
 use Rattle.trees.proofs.SearchSteps.{reads}
 use Rattle.trees.proofs.theta_lambda_tree.ThetaLambdaTree.around.Statement.{statement}
 use Rattle.trees.proofs.theta_lambda_tree.ThetaLambdaTree.around.Tie as tie

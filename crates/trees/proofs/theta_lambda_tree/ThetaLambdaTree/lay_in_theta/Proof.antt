@@ -1,4 +1,4 @@
--- `trees::theta_lambda_tree::ThetaLambdaTree::lay_in_theta` meets its contract.
+-- The white node of the task is stored at its leaf; no other leaf changes, and nothing is said of the inner nodes.
 use mathlib.Core.Path.{_≡_, ap, ap₂, _∙_}
 use mathlib.Core.List.{List}
 use Prim.Native.Nat.{ℕ, _+_}

@@ -1,4 +1,4 @@
--- `trees::theta_lambda_tree::ThetaLambdaTree::new` meets its contract.
+-- Words that are all 0 hold the tree of empty leaves, whatever the tasks; the size is the least for their number.
 use mathlib.Core.Path.{refl, sym, ap, _∙_}
 use Prim.Native.Nat.{ℕ}
 use borrow.Author.Needs.{needs}

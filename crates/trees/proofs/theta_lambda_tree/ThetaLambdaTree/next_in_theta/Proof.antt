@@ -1,4 +1,4 @@
--- `trees::theta_lambda_tree::ThetaLambdaTree::next_in_theta` meets its contract. The loop's invariant: no leaf passed is white.
+-- The loop's invariant: no leaf from `place` to before x is white.
 use mathlib.Core.Path.{_≡_, sym, ap, _∙_}
 use mathlib.Core.Bool.{not, false}
 use Prim.Native.Nat.{ℕ, _-_, _≤_, _<_}

@@ -1,4 +1,4 @@
--- `trees::theta_lambda_tree::ThetaLambdaTree::rebuild` meets its contract. The loop's invariant is `DuringRebuild`: the leaves stay, and every inner node from i on is right.
+-- The loop's invariant is `DuringRebuild`: the leaves stay, and every inner node from i on is the join of its children.
 use mathlib.Core.Path.{_≡_}
 use native.Mathlib.Omega.{arith}
 use lib.ListN.{length}

@@ -1,4 +1,4 @@
--- `trees::theta_lambda_tree::ThetaLambdaTree::remove_from_lambda` meets its contract.
+-- The empty node may be put at any leaf: it makes no sum larger.
 use mathlib.Core.Path.{refl}
 use borrow.Author.Needs.{needs}
 use Rattle.trees.specs.Leaves.{empty}

@@ -1,18 +1,18 @@
--- `trees::theta_lambda_tree::ThetaLambdaTree::responsible_ect_bar` meets its contract. The position that the search answers is that of a task's leaf, since the leaves past the tasks are not gray.
+-- The search ends at the leaf of a task, since the leaves after those of the tasks are not gray.
 use mathlib.Core.Path.{_≡_, sym, ap, _∙_}
 use Prim.Native.Nat.{ℕ}
 use native.Mathlib.Omega.{arith}
 use lib.ListN.{getD}
 use Rattle.trees.specs.ArraySearches.{responsibleOf}
 use Rattle.trees.specs.Words.{nodeAt}
-use Rattle.trees.proofs.SearchSteps.{Searchable, answer-at, no-answer, task-is}
-use Rattle.trees.proofs.Trees.{searchable, responsible-of}
+use Rattle.trees.proofs.SearchSteps.{RootSearchable, answer-at, no-answer, task-is}
+use Rattle.trees.proofs.Trees.{root-searchable, responsible-of}
 use Rattle.trees.proofs.theta_lambda_tree.ThetaLambdaTree.responsible_ect_bar.Statement.{statement}
 use Rattle.trees.proofs.theta_lambda_tree.ThetaLambdaTree.responsible_ect_bar.Tie as tie
 
 -- the search may begin at the root
-asked : (c : tie.Start) → Searchable (c .args .inner) (c .args .height) (nodeAt (c .args .nodes .now))
-asked c = let (h, z) = c .pre in searchable (h .limited) (h .tree) (c .args .height) z
+asked : (c : tie.Start) → RootSearchable (c .args .inner) (c .args .height) (nodeAt (c .args .nodes .now))
+asked c = let (h, z) = c .pre in root-searchable (h .limited) (h .tree) (c .args .height) z
 
 returns : tie.Need-returns
 returns c = λ h z. let a = c .before .before .args in
@@ -42,4 +42,4 @@ returns-2 c = λ h z.
 
 pub responsible-ect-bar-spec : {M : Type 1} → statement M
 responsible-ect-bar-spec =
-    tie.close (tie.spec (λ c κs. asked c .searched) returns get-leaf-node-index-requires task-of-requires returns-2)
+    tie.close (tie.spec (λ c κs. asked c .from-root) returns get-leaf-node-index-requires task-of-requires returns-2)

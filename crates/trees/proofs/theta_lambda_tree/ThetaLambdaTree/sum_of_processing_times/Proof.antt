@@ -1,4 +1,4 @@
--- `trees::theta_lambda_tree::ThetaLambdaTree::sum_of_processing_times` meets its contract.
+-- The words hold the tree over the leaves, so the first node is the root and has the sum of Theta.
 use mathlib.Core.Path.{ap, _∙_}
 use borrow.Author.Needs.{needs}
 use Rattle.trees.specs.declared.theta_lambda_node.Node.{Node}

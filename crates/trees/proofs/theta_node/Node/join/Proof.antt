@@ -1,4 +1,4 @@
--- `nodes::theta_node::Node::join` meets its contract.
+-- Both children are fair and small, so no sum passes 32 bits and the machine's values are those of `plainJoinOf`.
 use borrow.Author.Needs.{needs}
 use Rattle.trees.specs.Nodes.{plainJoinOf}
 use Rattle.trees.proofs.theta_node.Node.join.Statement.{statement}

@@ -1,4 +1,4 @@
--- `trees::theta_tree::ThetaTree::ect` meets its contract.
+-- The words hold the tree over the white leaves, so the first node is the root and its word codes the ect of Theta.
 use mathlib.Core.Path.{ap, _∙_}
 use borrow.Author.Needs.{needs}
 use Rattle.trees.specs.declared.theta_node.Node.{Node}

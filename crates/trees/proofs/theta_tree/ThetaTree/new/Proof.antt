@@ -1,4 +1,4 @@
--- `trees::theta_tree::ThetaTree::new` meets its contract.
+-- Words that are all 0 hold the tree of empty leaves, whatever the tasks; the mapping is the inverse of the order.
 use mathlib.Core.Path.{refl, sym, ap, _∙_}
 use Prim.Native.Nat.{ℕ}
 use borrow.Author.Needs.{needs}

@@ -1,4 +1,4 @@
--- `trees::theta_tree::ThetaTree::put` meets its contract. The leaf is stored, and `upheap` makes the rest right again.
+-- The leaf is stored, and `upheap` makes its ancestors the joins of their children again.
 use Rattle.trees.proofs.ArrayTrees.{puts}
 use Rattle.trees.proofs.theta_tree.ThetaTree.put.Statement.{statement}
 use Rattle.trees.proofs.theta_tree.ThetaTree.put.Tie as tie

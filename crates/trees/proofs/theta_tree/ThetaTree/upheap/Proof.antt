@@ -1,4 +1,4 @@
--- `trees::theta_tree::ThetaTree::upheap` meets its contract. The loop's invariant is `DuringUpheap`: the leaves stay, and the parent of node i alone is not yet right.
+-- The loop's invariant is `DuringUpheap`: the leaves stay, and only the parent of node i may not be the join of its children.
 use mathlib.Core.Path.{_≡_}
 use lib.ListN.{length}
 use Rattle.integers.specs.Limits.{THETAWORDS}

@@ -1,4 +1,4 @@
--- `overload_test::accepted` meets its contract.
+-- The arrays are filled and sorted and the tree is new, so `read_tasks` may start and its answer is that of the tasks' moments.
 use mathlib.Core.Path.{_≡_}
 use lib.ListN.{length}
 use borrow.Author.Needs.{needs}
@@ -6,8 +6,8 @@ use Rattle.integers.specs.Limits.{TASKS}
 use Rattle.sorts.proofs.Sorted.{sorted-permutes}
 use Rattle.overload_test.specs.ReadArrays.{Readable}
 use Rattle.overload_test.proofs.NextTask.{keys-small, readable}
-use Rattle.overload_test.proofs.accepted.Statement.{statement}
-use Rattle.overload_test.proofs.accepted.Tie as tie
+use Rattle.overload_test.proofs.test_accepted.Statement.{statement}
+use Rattle.overload_test.proofs.test_accepted.Tie as tie
 
 -- the durations have TASKS places
 long : (c : tie.Start) → length (c .args .«record» .durations) ≡ TASKS
@@ -65,8 +65,8 @@ returns c =
     let made = c .before .before .before .before .before .before .before .before .before in
     c .read-tasks .ensures (ready made)
 
-pub accepted-spec : {M : Type 1} → statement M
-accepted-spec =
+pub test-accepted-spec : {M : Type 1} → statement M
+test-accepted-spec =
     tie.close
     (tie.spec
     (λ c κs. search needs) (λ c κs. search needs) completions-requires (λ c κs. search needs) (λ c κs. search needs)
