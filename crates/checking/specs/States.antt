@@ -1,7 +1,7 @@
 -- The variable state: which states are accepted, and what the open calls answer. Each definition takes its tests in the order in which
 -- they are tried: 22 where a state is given, 7 where a list is, 6, then 21 or a contradiction, atom by atom.
 use mathlib.Core.Path.{_≡_}
-use mathlib.Core.Bool.{Bool, true, false, cond, _&&_}
+use mathlib.Core.Bool.{Bool, true, cond, _&&_}
 use mathlib.Core.List.{List, [], _∷_}
 use Prim.Native.Nat.{ℕ, _+_, _*_, _<_}
 use lib.Dec.{ltb}
@@ -24,6 +24,8 @@ use Rattle.checking.specs.declared.variable_state.Truth.{Truth}
 use Rattle.checking.specs.declared.variable_state.Truth.the-variants as truth
 use Rattle.checking.specs.declared.variable_state.Bound.{Bound}
 use Rattle.checking.specs.declared.variable_state.Bound.the-variants as bound
+use Rattle.checking.specs.declared.variable_state.Side.{Side}
+use Rattle.checking.specs.declared.variable_state.Side.the-variants.{Lower, Upper}
 
 -- States -----------------------------------------------------------------------------------------------------------------------
 
@@ -95,9 +97,9 @@ lowerOf d = d .«lower_bound»
 abbrev pub upperOf : Domain → IntExt
 upperOf d = d .«upper_bound»
 
-abbrev pub sideOf : Bool → Domain → IntExt
-sideOf true = lowerOf
-sideOf false = upperOf
+abbrev pub sideOf : Side → Domain → IntExt
+sideOf Lower = lowerOf
+sideOf Upper = upperOf
 
 unfoldable pub boundOf : (Domain → IntExt) → VariableState → ℤ → Bound
 boundOf side s x = cond (accepted (s .domains)) (cond (rightVariable x) (bound.At (side (domainAt s (natAbs x)))) (bound.Refused refused.ATOMS))

@@ -55,6 +55,12 @@ pub enum Bound {
     Refused(u32),
 }
 
+// Which of the two bounds.
+pub enum Side {
+    Lower,
+    Upper,
+}
+
 impl VariableState {
     // The state in which every variable may be any integer.
     pub fn empty() -> VariableState
@@ -147,9 +153,9 @@ impl VariableState {
         Truth::False
     }
 
-    // A variable's lower bound, or its upper bound.
-    fn bound_of(self, variable: i32, lower: bool) -> Bound
-        ensures { λ r. ⌜ (r ≡ boundOf (sideOf lower) self variable) × (accepted (self .domains) ≡ true → Accepted self) ⌝ }
+    // The bound of a variable on one side.
+    pub fn bound(self, side: Side, variable: i32) -> Bound
+        ensures { λ r. ⌜ (r ≡ boundOf (sideOf side) self variable) × (accepted (self .domains) ≡ true → Accepted self) ⌝ }
     {
         if !self.is_accepted() {
             return Bound::Refused(refused::STATE);
@@ -161,10 +167,10 @@ impl VariableState {
         let domain = self.domains[x];
         let lower_bound = domain.lower_bound;
         let upper_bound = domain.upper_bound;
-        if lower {
-            return Bound::At(lower_bound);
+        match side {
+            Side::Lower => Bound::At(lower_bound),
+            Side::Upper => Bound::At(upper_bound),
         }
-        Bound::At(upper_bound)
     }
 
     // The least value of a variable, or minus infinity.
@@ -172,7 +178,7 @@ impl VariableState {
         ensures equals { λ r. ⌜ boundNumbers r ≡ boundNumbers (boundOf lowerOf self variable) ⌝ }
         ensures means { λ r. ⌜ LowerMeans self variable r ⌝ }
     {
-        self.bound_of(variable, true)
+        self.bound(Side::Lower, variable)
     }
 
     // The greatest value of a variable, or plus infinity.
@@ -180,7 +186,7 @@ impl VariableState {
         ensures equals { λ r. ⌜ boundNumbers r ≡ boundNumbers (boundOf upperOf self variable) ⌝ }
         ensures means { λ r. ⌜ UpperMeans self variable r ⌝ }
     {
-        self.bound_of(variable, false)
+        self.bound(Side::Upper, variable)
     }
 
     // Apply the premises and, if present, the negated consequent, one after the other, from the empty state. Its domains are narrowed in an array and copied
