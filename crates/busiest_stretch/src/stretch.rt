@@ -3,7 +3,7 @@
 use crate::answer::Busiest;
 use crate::covering::covered;
 use fixed_schedules::asked::length_fits;
-use fixed_schedules::order::order_of;
+use fixed_schedules::refusals::FixedOrder;
 use fixed_schedules::refusals::fixed_refusal;
 use integers::limits::TASKS;
 use integers::moments::moments_of;
@@ -11,8 +11,7 @@ use integers::moments::start_of;
 use integers::numbers::nat_of;
 use integers::refused;
 use records::record::DisjunctivePropagator;
-ghost use mathlib.Core.Path.{_≡_};
-ghost use Rattle.fixed_schedules.specs.Neighbours.{inMoments};
+ghost use Rattle.fixed_schedules.specs.Neighbours.{inMoments, Tested};
 ghost use Rattle.busiest_stretch.specs.Stretches.{stretchNumber, Answered};
 ghost use Rattle.busiest_stretch.specs.StretchMoments.{Slidable, Run, Held, Tried, BusiestMoment};
 
@@ -22,18 +21,23 @@ pub struct Stretch {
     pub start: u32,
 }
 
-// The number that refuses a question, or 0: 20, 10, 3, 4, 14, 23.
-fn stretch_refusal(record: DisjunctivePropagator, earliest: &[i32], latest: &[i32], w: i32) -> u32
-    ensures { λ r. ⌜ r ≡ stretchNumber «record» (now (earliest .entry)) (now (latest .entry)) w ⌝ }
+// The number that refuses a question, or 0 and the tasks by start: 20, 10, 3, 4, 14, 23.
+fn stretch_refusal(
+    record: DisjunctivePropagator,
+    earliest: &[i32],
+    latest: &[i32],
+    w: i32,
+) -> FixedOrder
+    ensures { λ r. ⌜ Tested (now (earliest .entry)) (stretchNumber «record» (now (earliest .entry)) (now (latest .entry)) w) r ⌝ }
 {
-    let number = fixed_refusal(record, earliest, latest);
-    if number != 0 {
-        return number;
+    let fixed = fixed_refusal(record, earliest, latest);
+    if fixed.number != 0 {
+        return fixed;
     }
     if !length_fits(w) {
-        return refused::LENGTH;
+        return FixedOrder::refused_by(refused::LENGTH);
     }
-    0
+    fixed
 }
 
 // The better of the best stretch so far and the one from x on, where that start counts: more is covered, or as much from an earlier start.
@@ -108,17 +112,16 @@ pub fn busiest_stretch(
 ) -> Busiest
     ensures { λ r. ⌜ Answered «record» (now (earliest .entry)) (now (latest .entry)) w r ⌝ }
 {
-    let number = stretch_refusal(record, earliest, latest, w);
-    if number != 0 {
-        return Busiest::Refused(number);
+    let fixed = stretch_refusal(record, earliest, latest, w);
+    if fixed.number != 0 {
+        return Busiest::Refused(fixed.number);
     }
     let n = record.count;
-    let order = order_of(earliest);
     let mut starts: [u32; TASKS] = [0; TASKS];
     moments_of(&mut starts, earliest);
     let length = nat_of(w);
-    let first = starts[order[0]];
-    let last = starts[order[n - 1]];
+    let first = starts[fixed.order[0]];
+    let last = starts[fixed.order[n - 1]];
     let best = busiest(&starts, &record.durations, n, length, first, last);
     Busiest::Stretch(best.covered, start_of(best.start))
 }

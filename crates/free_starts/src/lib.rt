@@ -1,7 +1,7 @@
 // The least start at or after a moment at which a volume overlaps no task of a fixed schedule.
 use fixed_schedules::asked::length_fits;
 use fixed_schedules::asked::moment_fits;
-use fixed_schedules::order::order_of;
+use fixed_schedules::refusals::FixedOrder;
 use fixed_schedules::refusals::fixed_refusal;
 use integers::limits::TASKS;
 use integers::moments::moment_of;
@@ -10,10 +10,9 @@ use integers::moments::start_of;
 use integers::numbers::nat_of;
 use integers::refused;
 use records::record::DisjunctivePropagator;
-ghost use mathlib.Core.Path.{_≡_};
 ghost use Prim.Native.Nat.{_+_, _≤_};
 ghost use Rattle.integers.specs.Moments.{zeroAt};
-ghost use Rattle.fixed_schedules.specs.Neighbours.{inMoments};
+ghost use Rattle.fixed_schedules.specs.Neighbours.{inMoments, Tested};
 ghost use Rattle.free_starts.specs.FreeStarts.{LATEST, EarliestFree, freeNumber, Answered};
 ghost use Rattle.free_starts.specs.StartMoments.{Askable};
 
@@ -23,27 +22,27 @@ pub enum FreeStart {
     Refused(u32),
 }
 
-// The number that refuses a question, or 0: 20, 10, 3, 4, 14, 18.
+// The number that refuses a question, or 0 and the tasks by start: 20, 10, 3, 4, 14, 18.
 fn free_refusal(
     record: DisjunctivePropagator,
     earliest: &[i32],
     latest: &[i32],
     t: i32,
     d: i32,
-) -> u32
-    ensures { λ r. ⌜ r ≡ freeNumber «record» (now (earliest .entry)) (now (latest .entry)) t d ⌝ }
+) -> FixedOrder
+    ensures { λ r. ⌜ Tested (now (earliest .entry)) (freeNumber «record» (now (earliest .entry)) (now (latest .entry)) t d) r ⌝ }
 {
-    let number = fixed_refusal(record, earliest, latest);
-    if number != 0 {
-        return number;
+    let fixed = fixed_refusal(record, earliest, latest);
+    if fixed.number != 0 {
+        return fixed;
     }
     if !length_fits(d) {
-        return refused::QUESTION;
+        return FixedOrder::refused_by(refused::QUESTION);
     }
     if !moment_fits(t) {
-        return refused::QUESTION;
+        return FixedOrder::refused_by(refused::QUESTION);
     }
-    0
+    fixed
 }
 
 // One pass over the tasks by start: what does not end by the next task's start has to wait for that task's end.
@@ -84,17 +83,16 @@ pub fn free_start(
 ) -> FreeStart
     ensures { λ r. ⌜ Answered «record» (now (earliest .entry)) (now (latest .entry)) t d r ⌝ }
 {
-    let number = free_refusal(record, earliest, latest, t, d);
-    if number != 0 {
-        return FreeStart::Refused(number);
+    let fixed = free_refusal(record, earliest, latest, t, d);
+    if fixed.number != 0 {
+        return FreeStart::Refused(fixed.number);
     }
-    let order = order_of(earliest);
     let mut starts: [u32; TASKS] = [0; TASKS];
     moments_of(&mut starts, earliest);
     let from = moment_of(t);
     let length = nat_of(d);
     let free = first_free(
-        &order,
+        &fixed.order,
         &starts,
         &record.durations,
         record.count,
