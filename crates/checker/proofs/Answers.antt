@@ -13,7 +13,7 @@ use Rattle.checking.specs.declared.variable_state.Application.{Application}
 use Rattle.checking.specs.declared.variable_state.Application.the-variants as application
 use Rattle.checking.specs.declared.variable_state.Applied.{Applied}
 use Rattle.checking.specs.Answers.{AppliedAs}
-use Rattle.checking.specs.States.{Accepted, prepared}
+use Rattle.checking.specs.States.{AcceptedState, prepared}
 use Rattle.checking.proofs.StateNumbers.{applied-apart}
 use Rattle.checking.proofs.PreparedStates.{prepared-right, prepared-accepted}
 use Rattle.records.specs.declared.record.Created.{Created}
@@ -103,8 +103,8 @@ module _ (ds ps cs : List ℤ) where
           pub few-tasks : made .«record» .count ≤ TASKS
           few-tasks = by-state .bounding .held .few
 
-          pub accepted-state : Accepted (applied .state)
-          accepted-state = subst Accepted (sym (as-prepared .state)) (prepared-accepted ps cs)
+          pub accepted-state : AcceptedState (applied .state)
+          accepted-state = subst AcceptedState (sym (as-prepared .state)) (prepared-accepted ps cs)
 
           pub can-judge : (b : Bounds) → b ≡ boundsOf (applied .state) (made .«record» .count)
               → Judgeable ds (lowerAs Forward ds (applied .state)) (upperAs Forward ds (applied .state)) (made .«record» .count) b (made .«record» .durations)

@@ -1,4 +1,4 @@
-// The check of a reason: the source's formula, on the state that the premises and the negated consequent leave.
+// The check of a reason: `check` of the source's `DisjunctiveEdgeFindingChecker`, on the state that the premises and the negated consequent leave.
 use crate::formula::implied;
 use crate::formula::overloaded;
 use crate::mirrored_bounds::mirrored_bounds;
@@ -56,14 +56,14 @@ fn judge(bounds: Bounds, durations: &[u32; TASKS], n: usize, consequent: &[i32])
     if consequent.len() == 0 {
         return verdict_of(overloaded(bounds, durations, n));
     }
-    let i = integers::numbers::nat_of(consequent[0]) as usize;
-    if i >= n {
+    let propagating_task = integers::numbers::nat_of(consequent[0]) as usize;
+    if propagating_task >= n {
         return Verdict::Refused(refused::CONSEQUENT);
     }
-    if !bounds.bounded[i] {
+    if !bounds.bounded[propagating_task] {
         return Verdict::Refused(refused::CONSEQUENT);
     }
-    verdict_of(implied(bounds, durations, n, i))
+    verdict_of(implied(bounds, durations, n, propagating_task))
 }
 
 // The check, with its formula judged in one direction.
@@ -106,7 +106,7 @@ pub fn check(durations: &[i32], premises: &[i32], consequent: &[i32]) -> Verdict
     check_as(Direction::Forward, durations, premises, consequent)
 }
 
-// The check for a reason of a latest start: in the caller's time too, but judged by the formula in mirrored time.
+// The check of a reason for a latest start: its words are in the caller's time, and the formula is judged in mirrored time.
 pub fn check_mirrored(durations: &[i32], premises: &[i32], consequent: &[i32]) -> Verdict
     ensures { λ r. ⌜ CheckedMirrored (now (durations .entry)) (now (premises .entry)) (now (consequent .entry)) r ⌝ }
 {

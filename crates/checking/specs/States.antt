@@ -60,8 +60,8 @@ pub record AllProper (ds : List Domain) : Type 0 where
   pub size : length ds ≡ VARIABLES
   pub each : (x : ℕ) → x < VARIABLES → Proper (getD ds x noDomain)
 
-abbrev pub Accepted : VariableState → Type 0
-Accepted s = AllProper (s .domains)
+abbrev pub AcceptedState : VariableState → Type 0
+AcceptedState s = AllProper (s .domains)
 
 -- One atom ---------------------------------------------------------------------------------------------------------------------
 

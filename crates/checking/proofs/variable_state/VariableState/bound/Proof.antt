@@ -10,13 +10,13 @@ use Rattle.integers.proofs.Ints.{back}
 use Rattle.checking.specs.Atoms.{rightVariable}
 use Rattle.checking.proofs.Atoms.{right-variable}
 use Rattle.checking.specs.declared.variable_state.Bound.the-variants.{At}
-use Rattle.checking.specs.States.{Accepted, domainAt, accepted, boundOf}
+use Rattle.checking.specs.States.{AcceptedState, domainAt, accepted, boundOf}
 use borrow.Author.Needs.{needs}
 use Rattle.checking.proofs.variable_state.VariableState.bound.Statement.{statement}
 use Rattle.checking.proofs.variable_state.VariableState.bound.Tie as tie
 
 -- what the tests say: the state, and the variable
-proper : (c : tie.After-is-accepted) → accepted (c .before .args .t1 .domains) ≡ true → Accepted (c .before .args .t1)
+proper : (c : tie.After-is-accepted) → accepted (c .before .args .t1 .domains) ≡ true → AcceptedState (c .before .args .t1)
 proper c y = c .is-accepted .ensures .1 (c .is-accepted .ensures .0 ∙ y)
 
 state-right : (c : tie.Else1) → accepted (c .before .before .args .t1 .domains) ≡ true
