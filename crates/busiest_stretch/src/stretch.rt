@@ -2,7 +2,7 @@
 // least start that reaches the most is a task's start, or one from which the stretch ends with a task.
 use crate::answer::Busiest;
 use crate::covering::covered;
-use fixed_schedules::asked::length_fits;
+use fixed_schedules::parameters::length_fits;
 use fixed_schedules::refusals::FixedOrder;
 use fixed_schedules::refusals::fixed_refusal;
 use integers::limits::TASKS;
@@ -12,8 +12,8 @@ use integers::numbers::nat_of;
 use integers::refused;
 use records::record::DisjunctivePropagator;
 ghost use Rattle.fixed_schedules.specs.Neighbours.{inMoments, Tested};
-ghost use Rattle.busiest_stretch.specs.Stretches.{stretchNumber, Answered};
-ghost use Rattle.busiest_stretch.specs.StretchMoments.{Slidable, Run, Held, Tried, BusiestMoment};
+ghost use Rattle.busiest_stretch.specs.Stretches.{stretchNumber, BusiestAnswered};
+ghost use Rattle.busiest_stretch.specs.StretchMoments.{Slidable, FirstAndLast, StretchHeld, Tried, BusiestMoment};
 
 // A stretch by the moment of its start, and the time of it that tasks cover.
 pub struct Stretch {
@@ -21,7 +21,7 @@ pub struct Stretch {
     pub start: u32,
 }
 
-// The number that refuses a question, or 0 and the tasks by start: 20, 10, 3, 4, 14, 23.
+// The number that refuses a call, or 0 and the tasks by start: 20, 10, 3, 4, 14, 23.
 fn stretch_refusal(
     record: DisjunctivePropagator,
     earliest: &[i32],
@@ -51,8 +51,8 @@ fn better<'a>(
     best: Stretch,
     x: u32,
 ) -> Stretch
-    requires { ⌜ Slidable n (now starts) (now durations) w × Run n (now starts) first last
-        × Held (inMoments n (now starts) (now durations)) w first last (best .covered) (best .start) ⌝ }
+    requires { ⌜ Slidable n (now starts) (now durations) w × FirstAndLast n (now starts) first last
+        × StretchHeld (inMoments n (now starts) (now durations)) w first last (best .covered) (best .start) ⌝ }
     ensures { λ r. ⌜ Tried (inMoments n (now (starts .entry)) (now (durations .entry))) w first last x (best .covered) (best .start) (r .covered) (r .start) ⌝ }
 {
     if x < first {
@@ -85,7 +85,7 @@ fn busiest<'a>(
     first: u32,
     last: u32,
 ) -> Stretch
-    requires { ⌜ Slidable n (now starts) (now durations) w × Run n (now starts) first last ⌝ }
+    requires { ⌜ Slidable n (now starts) (now durations) w × FirstAndLast n (now starts) first last ⌝ }
     ensures { λ r. ⌜ BusiestMoment (inMoments n (now (starts .entry)) (now (durations .entry))) w first last (r .covered) (r .start) ⌝ }
 {
     let mut best = Stretch {
@@ -110,7 +110,7 @@ pub fn busiest_stretch(
     latest: &[i32],
     w: i32,
 ) -> Busiest
-    ensures { λ r. ⌜ Answered «record» (now (earliest .entry)) (now (latest .entry)) w r ⌝ }
+    ensures { λ r. ⌜ BusiestAnswered «record» (now (earliest .entry)) (now (latest .entry)) w r ⌝ }
 {
     let fixed = stretch_refusal(record, earliest, latest, w);
     if fixed.number != 0 {

@@ -1,6 +1,6 @@
-// The least start at or after a moment at which a volume overlaps no task of a fixed schedule.
-use fixed_schedules::asked::length_fits;
-use fixed_schedules::asked::moment_fits;
+// The least start at or after a moment at which a further task overlaps no task of a fixed schedule.
+use fixed_schedules::parameters::length_fits;
+use fixed_schedules::parameters::moment_fits;
 use fixed_schedules::refusals::FixedOrder;
 use fixed_schedules::refusals::fixed_refusal;
 use integers::limits::TASKS;
@@ -13,16 +13,16 @@ use records::record::DisjunctivePropagator;
 ghost use Prim.Native.Nat.{_+_, _≤_};
 ghost use Rattle.integers.specs.Moments.{zeroAt};
 ghost use Rattle.fixed_schedules.specs.Neighbours.{inMoments, Tested};
-ghost use Rattle.free_starts.specs.FreeStarts.{LATEST, EarliestFree, freeNumber, Answered};
-ghost use Rattle.free_starts.specs.StartMoments.{Askable};
+ghost use Rattle.free_starts.specs.FreeStarts.{LATEST, EarliestFree, freeNumber, FreeStartAnswered};
+ghost use Rattle.free_starts.specs.StartMoments.{Searchable};
 
-// The start, or the number that refused the question.
+// The start, or the number that refused the call.
 pub enum FreeStart {
     At(i32),
     Refused(u32),
 }
 
-// The number that refuses a question, or 0 and the tasks by start: 20, 10, 3, 4, 14, 18.
+// The number that refuses a call, or 0 and the tasks by start: 20, 10, 3, 4, 14, 18.
 fn free_refusal(
     record: DisjunctivePropagator,
     earliest: &[i32],
@@ -54,7 +54,7 @@ fn first_free<'a>(
     t: u32,
     d: u32,
 ) -> u32
-    requires { ⌜ Askable n (now order) (now starts) (now durations) t d ⌝ }
+    requires { ⌜ Searchable n (now order) (now starts) (now durations) t d ⌝ }
     ensures { λ r. ⌜ EarliestFree (inMoments n (now (starts .entry)) (now (durations .entry))) t d r × (r ≤ zeroAt + LATEST) ⌝ }
 {
     let mut free = t;
@@ -73,7 +73,7 @@ fn first_free<'a>(
     free
 }
 
-// The least start at or after t at which a volume of duration d overlaps no task.
+// The least start at or after t at which a further task of duration d overlaps none.
 pub fn free_start(
     record: DisjunctivePropagator,
     earliest: &[i32],
@@ -81,7 +81,7 @@ pub fn free_start(
     t: i32,
     d: i32,
 ) -> FreeStart
-    ensures { λ r. ⌜ Answered «record» (now (earliest .entry)) (now (latest .entry)) t d r ⌝ }
+    ensures { λ r. ⌜ FreeStartAnswered «record» (now (earliest .entry)) (now (latest .entry)) t d r ⌝ }
 {
     let fixed = free_refusal(record, earliest, latest, t, d);
     if fixed.number != 0 {

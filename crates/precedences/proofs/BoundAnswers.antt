@@ -26,7 +26,7 @@ use Rattle.precedences.proofs.Soundness.{bound-sound}
 use Rattle.precedences.specs.declared.reason.BoundAbove.{BoundAbove}
 use Rattle.precedences.specs.declared.reason.BoundAbove.the-variants as bound
 use Rattle.precedences.specs.ReasonNumbers.{boundNumbers}
-use Rattle.precedences.specs.Bounds.{RaisesTo, Raises, BoundTold, boundNumber, BoundGiven}
+use Rattle.precedences.specs.Bounds.{RaisesTo, Raises, BoundAnswered, boundNumber, BoundGiven}
 use Rattle.precedences.specs.ReasonArrays.{BoundLeft}
 use Rattle.precedences.proofs.BoundAbove.{from-start, among, raises-yes}
 
@@ -66,7 +66,7 @@ module _ (r : DisjunctivePropagator) (es ls : List ℤ) (a : AcceptedInput r es 
   none-answered : (Raises Z i → ⊥) → boundNumbers x ≡ answered 1 []
   none-answered no-raise = elim (bool (exceeds (boundAt M i) (M .earliest i))) [ inl h ↦ absurd (no-raise (raises-yes r es ls a long i q h)) | inr h ↦ left .none h ]
 
-  pub told : BoundTold (tasksIn r es ls) i x
+  pub told : BoundAnswered (tasksIn r es ls) i x
   told = record {
     told = λ b. (is-answered b, answers-bound b);
     none = (λ e w. (let z = same-kind (sym e ∙ answers-bound (w .0) (w .1)) in omega (arith, z)), none-answered);
@@ -74,7 +74,7 @@ module _ (r : DisjunctivePropagator) (es ls : List ℤ) (a : AcceptedInput r es 
   }
 
 -- The contract, of a call that is accepted, and of others.
-pub bound-given : (before : DisjunctivePropagator) (es ls : List ℤ) (bars : Bool) (task : ℕ) (x : BoundAbove) → boundNumber before es ls bars task ≡ 0 → BoundTold (tasksIn before es ls) task x
+pub bound-given : (before : DisjunctivePropagator) (es ls : List ℤ) (bars : Bool) (task : ℕ) (x : BoundAbove) → boundNumber before es ls bars task ≡ 0 → BoundAnswered (tasksIn before es ls) task x
     → BoundGiven before es ls bars task x
 bound-given before es ls bars task x z t = record { refused = λ h. absurd (h z); given = λ _. t }
 

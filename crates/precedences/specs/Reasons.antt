@@ -42,7 +42,7 @@ module _ (J : Tasks whole) (i : ℕ) where
   abbrev pub reasonOf : List Atom
   reasonOf = atLeast i (J .earliest i) ∷ bothBounds (J .earliest) (J .latest) (predecessors J i) (J .count)
 
-  -- An accepted call, from the words ws to ws′. Where the bound raises i, the reason stands at the front, with every word after it as it was, and the answer is
+  -- An accepted call, from the words ws to ws′. Where the bound raises i, the reason stands at the front, with every word after it unchanged, and the answer is
   -- its atom count; elsewhere that is 0, and no word changes. The reason holds at entry. Starts of whatever range that meet it, no two
   -- tasks overlapping, have all of P before i, and none of them are below the bound at i.
   pub record Explained (ws : List ℤ) (r : Reason) (ws′ : List ℤ) : Type 0 where

@@ -5,7 +5,7 @@ use native.Mathlib.Omega.{arith}
 use borrow.Author.Needs.{needs}
 use Rattle.integers.proofs.Ints.{back}
 use Rattle.fixed_schedules.specs.FixedSchedules.{fixedNumber}
-use Rattle.fixed_schedules.specs.Asked.{momentFits, lengthFits}
+use Rattle.fixed_schedules.specs.Parameters.{momentFits, lengthFits}
 use Rattle.fixed_schedules.proofs.FixedRefused.{tested-not}
 use Rattle.free_starts.proofs.FreeStartRefused.{schedule-first, wrong-length, wrong-moment, none-wrong}
 use Rattle.free_starts.proofs.free_refusal.Statement.{statement}
@@ -19,8 +19,8 @@ number c = sym (c .before .before .fixed-refusal .ensures .number) ∙ c .if1 .l
 lasting : (c : tie.After-length-fits) → c .length-fits .result ≡ lengthFits (c .before .before .before .before .args .d)
 lasting c = c .length-fits .ensures ∙ ap lengthFits (back (c .before .before .before .before .fits .d))
 
-asked : (c : tie.After-moment-fits) → c .moment-fits .result ≡ momentFits (c .before .before .before .before .before .before .args .t)
-asked c = c .moment-fits .ensures ∙ ap momentFits (back (c .before .before .before .before .before .before .fits .t))
+from : (c : tie.After-moment-fits) → c .moment-fits .result ≡ momentFits (c .before .before .before .before .before .before .args .t)
+from c = c .moment-fits .ensures ∙ ap momentFits (back (c .before .before .before .before .before .before .fits .t))
 
 returns : tie.Need-returns
 returns c =
@@ -40,7 +40,7 @@ returns-3 c =
     let test = c .before .before in
     let a = test .before .before .before .before .before .before .args in
     tested-not (c .refused-by2 .ensures) (λ z. absurd (omega arith))
-    (sym (wrong-moment (a .«record») (a .earliest .now) (a .latest .now) (a .t) (a .d) (number (test .before .before .before)) (sym (asked test) ∙ not-true _ (c .before .if3 .taken))))
+    (sym (wrong-moment (a .«record») (a .earliest .now) (a .latest .now) (a .t) (a .d) (number (test .before .before .before)) (sym (from test) ∙ not-true _ (c .before .if3 .taken))))
 
 returns-4 : tie.Need-returns-4
 returns-4 c =
@@ -48,7 +48,7 @@ returns-4 c =
     let a = passed .before .before .before .args in
     record {
       number = passed .if1 .left ∙ sym (none-wrong (a .«record») (a .earliest .now) (a .latest .now) (a .t) (a .d) (number passed)
-          (sym (lasting (c .before .before .before)) ∙ not-false _ (c .before .before .if2 .left)) (sym (asked (c .before)) ∙ not-false _ (c .if3 .left)));
+          (sym (lasting (c .before .before .before)) ∙ not-false _ (c .before .before .if2 .left)) (sym (from (c .before)) ∙ not-false _ (c .if3 .left)));
       order = λ z. passed .before .before .fixed-refusal .ensures .order (number passed);
     }
 

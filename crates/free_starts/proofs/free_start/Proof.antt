@@ -9,14 +9,14 @@ use mir.Val.{toZ, ofZ}
 use Rattle.integers.specs.Moments.{moment, zeroAt}
 use Rattle.integers.proofs.Ints.{ints, up, dn, back, back-of}
 use Rattle.fixed_schedules.specs.FixedSchedules.{AcceptedFixed, orderOf}
-use Rattle.fixed_schedules.specs.Asked.{MomentFits, LengthFits}
+use Rattle.fixed_schedules.specs.Parameters.{MomentFits, LengthFits}
 use Rattle.free_starts.specs.FreeStarts.{freeNumber}
-use Rattle.free_starts.proofs.FreeStartRefused.{accepted-question}
-use Rattle.free_starts.proofs.Answers.{askable, found, refused, answered}
+use Rattle.free_starts.proofs.FreeStartRefused.{accepted-call}
+use Rattle.free_starts.proofs.Answers.{searchable, found, refused, answered}
 use Rattle.free_starts.proofs.free_start.Statement.{statement}
 use Rattle.free_starts.proofs.free_start.Tie as tie
 
--- the number that refuses the question
+-- the number that refuses the call
 said : (c : tie.After-free-refusal) → let a = c .before .args in c .free-refusal .result .number ≡ freeNumber (a .t1) (a .earliest .now) (a .latest .now) (a .t) (a .d)
 said c =
     let s = c .before in
@@ -34,9 +34,9 @@ sorted : (c : tie.Else1) → let es = c .before .before .args .earliest .now in 
 sorted c = let f = c .before .free-refusal in f .ensures .order (sym (f .ensures .number) ∙ c .if1 .left)
 
 held : (c : tie.Else1) → let a = c .before .before .args in AcceptedFixed (a .t1) (a .earliest .now) (a .latest .now) × (LengthFits (a .d) × MomentFits (a .t))
-held c = let a = c .before .before .args in accepted-question (a .t1) (a .earliest .now) (a .latest .now) (a .t) (a .d) .0 (number c)
+held c = let a = c .before .before .args in accepted-call (a .t1) (a .earliest .now) (a .latest .now) (a .t) (a .d) .0 (number c)
 
--- the entry, and what is asked, in moments
+-- the entry, and the call's moment and length
 abbrev start : tie.After-moment-of → tie.Start
 start c = c .before .before .before .before .before
 
@@ -62,7 +62,7 @@ first-free-requires c κs =
     let passed = moments .before .before in
     let a = passed .before .before .args in
     let h = held passed in
-    askable (a .t1) (a .earliest .now) (a .latest .now) (a .t) (a .d) (h .0) (h .1) _ (moments .moments-of .ensures) _ _ (from (c .before .before .before .before .before .before))
+    searchable (a .t1) (a .earliest .now) (a .latest .now) (a .t) (a .d) (h .0) (h .1) _ (moments .moments-of .ensures) _ _ (from (c .before .before .before .before .before .before))
     (lasting (c .before .before .before .before .before)) _ (sorted passed)
 
 returns-2 : tie.Need-returns-2

@@ -9,14 +9,14 @@ use mir.Syntax.{w32}
 use Rattle.integers.specs.Limits.{TASKS}
 use Rattle.integers.proofs.Ints.{ints, up, dn, back, back-of}
 use Rattle.fixed_schedules.specs.FixedSchedules.{AcceptedFixed, orderOf}
-use Rattle.fixed_schedules.specs.Asked.{LengthFits}
+use Rattle.fixed_schedules.specs.Parameters.{LengthFits}
 use Rattle.busiest_stretch.specs.Stretches.{stretchNumber}
-use Rattle.busiest_stretch.proofs.StretchRefused.{accepted-question}
+use Rattle.busiest_stretch.proofs.StretchRefused.{accepted-call}
 use Rattle.busiest_stretch.proofs.Answers.{task-small, slidable, runs, found, refused, answered}
 use Rattle.busiest_stretch.proofs.stretch.busiest_stretch.Statement.{statement}
 use Rattle.busiest_stretch.proofs.stretch.busiest_stretch.Tie as tie
 
--- the number that refuses the question
+-- the number that refuses the call
 said : (c : tie.After-stretch-refusal) → let a = c .before .args in c .stretch-refusal .result .number ≡ stretchNumber (a .t1) (a .earliest .now) (a .latest .now) (a .w)
 said c =
     let s = c .before in
@@ -32,7 +32,7 @@ sorted : (c : tie.Else1) → let es = c .before .before .args .earliest .now in 
 sorted c = let f = c .before .stretch-refusal in f .ensures .order (sym (f .ensures .number) ∙ c .if1 .left)
 
 held : (c : tie.Else1) → let a = c .before .before .args in AcceptedFixed (a .t1) (a .earliest .now) (a .latest .now) × LengthFits (a .w)
-held c = let a = c .before .before .args in accepted-question (a .t1) (a .earliest .now) (a .latest .now) (a .w) .0 (number c)
+held c = let a = c .before .before .args in accepted-call (a .t1) (a .earliest .now) (a .latest .now) (a .w) .0 (number c)
 
 -- the entry, the length, and the order's places
 abbrev start : tie.After-nat-of → tie.Start
@@ -86,22 +86,22 @@ array-read-last c = placed (c .before .before) (start (c .before .before) .args 
 
 busiest-requires : tie.Need-busiest-requires
 busiest-requires c κs =
-    let asked = c .before .before .before .before .before in
-    let a = start asked .args in
-    let h = held (asked .before .before .before) in (
-      slidable (a .t1) (a .earliest .now) (a .latest .now) (a .w) (h .0) (h .1) _ (asked .before .moments-of .ensures) _ (lasting asked) _ (sorted (asked .before .before .before)),
-      runs (a .t1) (a .earliest .now) (a .latest .now) (a .w) (h .0) (h .1) _ (asked .before .moments-of .ensures) _ (lasting asked) _ (sorted (asked .before .before .before)),
+    let measured = c .before .before .before .before .before in
+    let a = start measured .args in
+    let h = held (measured .before .before .before) in (
+      slidable (a .t1) (a .earliest .now) (a .latest .now) (a .w) (h .0) (h .1) _ (measured .before .moments-of .ensures) _ (lasting measured) _ (sorted (measured .before .before .before)),
+      runs (a .t1) (a .earliest .now) (a .latest .now) (a .w) (h .0) (h .1) _ (measured .before .moments-of .ensures) _ (lasting measured) _ (sorted (measured .before .before .before)),
     )
 
 returns-2 : tie.Need-returns-2
 returns-2 c =
-    let asked = c .before .before .before .before .before .before .before in
-    let a = start asked .args in
-    let s = asked .before .before .before in
+    let measured = c .before .before .before .before .before .before .before in
+    let a = start measured .args in
+    let s = measured .before .before .before in
     let h = held s in
     let best = c .before .busiest in
     answered (a .t1) (a .earliest .now) (a .latest .now) (a .w) _ (number s)
-    (found (a .t1) (a .earliest .now) (a .latest .now) (a .w) (h .0) (h .1) _ (asked .before .moments-of .ensures) _ (lasting asked) _ (sorted (asked .before .before .before))
+    (found (a .t1) (a .earliest .now) (a .latest .now) (a .w) (h .0) (h .1) _ (measured .before .moments-of .ensures) _ (lasting measured) _ (sorted (measured .before .before .before))
     (best .result .covered) (best .result .start) (best .ensures) _ (back-of w32 (c .start-of .result) (c .start-of .ok) ∙ c .start-of .ensures))
 
 pub busiest-stretch-spec : {M : Type 1} → statement M

@@ -5,7 +5,7 @@ use native.Mathlib.Omega.{arith}
 use borrow.Author.Needs.{needs}
 use Rattle.integers.proofs.Ints.{back}
 use Rattle.fixed_schedules.specs.FixedSchedules.{fixedNumber}
-use Rattle.fixed_schedules.specs.Asked.{lengthFits}
+use Rattle.fixed_schedules.specs.Parameters.{lengthFits}
 use Rattle.fixed_schedules.proofs.FixedRefused.{tested-not}
 use Rattle.busiest_stretch.proofs.StretchRefused.{schedule-first, wrong-length, none-wrong}
 use Rattle.busiest_stretch.proofs.stretch.stretch_refusal.Statement.{statement}

@@ -5,7 +5,7 @@ use lib.ListN.{length, take}
 use borrow.Author.Needs.{needs}
 use Rattle.fixed_schedules.specs.FixedSchedules.{orderOf}
 use Rattle.fixed_schedules.proofs.AcceptedSchedules.{input-of, listed}
-use Rattle.pages.specs.Pages.{pageNumber, Accepted}
+use Rattle.pages.specs.Pages.{pageNumber, AcceptedPage}
 use Rattle.pages.proofs.PageRefused.{accepted-page}
 use Rattle.pages.proofs.PageLines.{refused, written}
 use Rattle.pages.proofs.page.page.Statement.{statement}
@@ -19,7 +19,7 @@ number c = sym (c .before .page-refusal .ensures .number) ∙ c .if1 .left
 sorted : (c : tie.Else1) → let es = c .before .before .before .args .earliest .now in take (length es) (c .before .page-refusal .result .order) ≡ orderOf es
 sorted c = c .before .page-refusal .ensures .order (number c)
 
-held : (c : tie.Else1) → let a = c .before .before .before .args in Accepted (a .t1) (a .earliest .now) (a .latest .now) (length (a .out .now))
+held : (c : tie.Else1) → let a = c .before .before .before .args in AcceptedPage (a .t1) (a .earliest .now) (a .latest .now) (length (a .out .now))
 held c = let a = c .before .before .before .args in accepted-page (a .t1) (a .earliest .now) (a .latest .now) (length (a .out .now)) .0 (number c)
 
 returns : tie.Need-returns
