@@ -1,9 +1,9 @@
 -- A struct of the calls beside the run gives its answer back, so different answers are different structs.
 use mathlib.Core.Path.{_≡_, refl, sym, ap, _∙_}
 use Prim.Native.Nat.{ℕ, zero, suc, _/_}
-use Rattle.charges.specs.declared.answer.Billing.{Billing}
-use Rattle.charges.specs.declared.answer.Billing.the-variants as billing
-use Rattle.charges.specs.declared.answer.Bill.{Bill}
+use Rattle.charges.specs.declared.answer.Charging.{Charging}
+use Rattle.charges.specs.declared.answer.Charging.the-variants as charging
+use Rattle.charges.specs.declared.answer.TaskCharges.{TaskCharges}
 use Rattle.charges.specs.declared.answer.Charges.{Charges}
 use Rattle.overload_test.specs.declared.Overload.{Overload}
 use Rattle.overload_test.specs.declared.Overload.the-variants as overload
@@ -99,22 +99,22 @@ pages-apart = apart (λ r. countAnswer (pageNumbers r)) (λ a. pageAt (a .kind) 
     back (page.Refused number) = refl
 
 -- Charges
-abbrev billingAt : ℕ → ℕ → Billing
-billingAt zero number = billing.Made
-billingAt (suc k) number = billing.Refused number
+abbrev chargingAt : ℕ → ℕ → Charging
+chargingAt zero number = charging.Made
+chargingAt (suc k) number = charging.Refused number
 
-abbrev charged : Bill → Billing → Charges
-charged b r = record { bill = b; answer = r }
+abbrev charged : TaskCharges → Charging → Charges
+charged b r = record { charged = b; answer = r }
 
 abbrev chargesAt : ChargesAnswer → Charges
-chargesAt a = charged (record { charges = a .charges; total = a .total }) (billingAt (a .kind) (a .number))
+chargesAt a = charged (record { charges = a .charges; total = a .total }) (chargingAt (a .kind) (a .number))
 
 pub charges-apart : (c c′ : Charges) → chargesAnswer c ≡ chargesAnswer c′ → c ≡ c′
-charges-apart = apart chargesAnswer chargesAt (λ c. by (c .bill) (c .answer))
+charges-apart = apart chargesAnswer chargesAt (λ c. by (c .charged) (c .answer))
   where
-    by : (b : Bill) (r : Billing) → chargesAt (chargesAnswer (charged b r)) ≡ charged b r
-    by b billing.Made = refl
-    by b (billing.Refused number) = refl
+    by : (b : TaskCharges) (r : Charging) → chargesAt (chargesAnswer (charged b r)) ≡ charged b r
+    by b charging.Made = refl
+    by b (charging.Refused number) = refl
 
 -- A free start
 abbrev startAt : ℕ → StartAnswer → FreeStart

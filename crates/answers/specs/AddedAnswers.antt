@@ -30,6 +30,6 @@ startAnswer a = record { kind = a .kind; number = a .number; start = valueAt 0 a
 abbrev pub busiestAnswer : Answer → BusiestAnswer
 busiestAnswer a = record { kind = a .kind; number = a .number; time = natAt 0 a; start = valueAt 1 a }
 
--- the numbers of the charges, and their bill as it is
+-- the numbers of the answer, and the charges unchanged
 abbrev pub chargesAnswer : Charges → ChargesAnswer
-chargesAnswer c = record { kind = chargesNumbers c .kind; number = chargesNumbers c .number; total = c .bill .total; charges = c .bill .charges }
+chargesAnswer c = record { kind = chargesNumbers c .kind; number = chargesNumbers c .number; total = c .charged .total; charges = c .charged .charges }

@@ -1,9 +1,9 @@
 // The answers of the calls beside the run as structs of numbers, and the functions that make them of the enums. Kind 3 is Refused with its number;
 // what a kind does not have is 0.
 use busiest_stretch::answer::Busiest;
-use charges::answer::Bill;
-use charges::answer::Billing;
 use charges::answer::Charges;
+use charges::answer::Charging;
+use charges::answer::TaskCharges;
 use free_starts::FreeStart;
 use integers::limits::TASKS;
 use overload_test::Overload;
@@ -69,7 +69,7 @@ pub struct BusiestAnswer {
     pub start: i32,
 }
 
-// The charges: kind 0 has the bill, the charges by task number in cents and their sum.
+// The charges: kind 0 has the charges by task number, in cents, and their sum.
 #[repr(C)]
 pub struct ChargesAnswer {
     pub kind: u32,
@@ -226,26 +226,26 @@ pub fn reason_numbers(answer: Reason) -> CountAnswer
     }
 }
 
-// A bill with the numbers of the charges' answer.
-fn charges_answer(kind: u32, number: u32, bill: Bill) -> ChargesAnswer
-    ensures { λ r. ⌜ r ≡ record { kind = kind; number = number; total = bill .total; charges = bill .charges } ⌝ }
+// The charges with the numbers of their answer.
+fn charges_answer(kind: u32, number: u32, charged: TaskCharges) -> ChargesAnswer
+    ensures { λ r. ⌜ r ≡ record { kind = kind; number = number; total = charged .total; charges = charged .charges } ⌝ }
 {
-    let charges = bill.charges;
+    let charges = charged.charges;
     ChargesAnswer {
         kind,
         number,
-        total: bill.total,
+        total: charged.total,
         charges,
     }
 }
 
-// The numbers of charges, with their bill.
+// The numbers of the answer, with the charges.
 pub fn charges_numbers(made: Charges) -> ChargesAnswer
     ensures { λ r. ⌜ r ≡ chargesAnswer made ⌝ }
 {
     let answer = made.answer;
     match answer {
-        Billing::Made => charges_answer(0, 0, made.bill),
-        Billing::Refused(number) => charges_answer(3, number, made.bill),
+        Charging::Made => charges_answer(0, 0, made.charged),
+        Charging::Refused(number) => charges_answer(3, number, made.charged),
     }
 }

@@ -20,13 +20,13 @@ use Rattle.records.specs.declared.record.DisjunctivePropagator.{DisjunctiveProp
 use Rattle.records.specs.Records.{durationOf}
 use Rattle.fixed_schedules.specs.FixedSchedules.{orderOf, tasksOn, AcceptedFixed}
 use Rattle.fixed_schedules.specs.Neighbours.{inMoments}
-use Rattle.fixed_schedules.specs.Asked.{LengthFits}
-use Rattle.fixed_schedules.proofs.AcceptedSchedules.{Told, input-of, told, by-moments, moment-low, moment-high}
+use Rattle.fixed_schedules.specs.Parameters.{LengthFits}
+use Rattle.fixed_schedules.proofs.AcceptedSchedules.{AtMoments, input-of, at-moments, by-moments, moment-low, moment-high}
 use Rattle.busiest_stretch.specs.declared.answer.Busiest.{Busiest}
 use Rattle.busiest_stretch.specs.declared.answer.Busiest.the-variants.{Stretch, Refused}
 use Rattle.busiest_stretch.specs.Numbers.{busiestNumbers}
-use Rattle.busiest_stretch.specs.Stretches.{common, covered, Counts, BusiestAt, stretchNumber, Found, Answered}
-use Rattle.busiest_stretch.specs.StretchMoments.{commonIn, commonAt, coveredIn, Slidable, Run, BusiestMoment}
+use Rattle.busiest_stretch.specs.Stretches.{common, covered, Counts, BusiestAt, stretchNumber, BusiestFound, BusiestAnswered}
+use Rattle.busiest_stretch.specs.StretchMoments.{commonIn, commonAt, coveredIn, Slidable, FirstAndLast, BusiestMoment}
 use Rattle.busiest_stretch.proofs.StretchRefused.{stretch-many}
 
 -- a difference that is not negative, or 0
@@ -49,38 +49,42 @@ common-same o a b x y p q r s = positive (minℤ b y -ℤ maxℤ a x) (min (mome
     sums = omega (arith, earlier, later, subℤ (minℤ b y) (maxℤ a x))
 
 -- ---- the tasks J of whole numbers, and M of their moments
-module _ (o : ℕ) (J : Tasks whole) (M : Tasks natural) (told : Told o J M) where
+module _ (o : ℕ) (J : Tasks whole) (M : Tasks natural) (at-moments : AtMoments o J M) where
   covered-same : (w : ℕ) (x : ℤ) → Above o x → covered J w x ≡ coveredIn M w (moment o x)
   covered-same w x p =
       total-ext (λ k. common (J .earliest k) (J .earliest k +ℤ pos (J .duration k)) x (x +ℤ pos w)) (commonAt M w (moment o x)) (J .count) each
-      ∙ ap (total (commonAt M w (moment o x))) (sym (told .count))
+      ∙ ap (total (commonAt M w (moment o x))) (sym (at-moments .count))
     where
       each : (k : ℕ) → k < J .count → common (J .earliest k) (J .earliest k +ℤ pos (J .duration k)) x (x +ℤ pos w) ≡ commonAt M w (moment o x) k
       each k q =
           let a = J .earliest k in
           let d = J .duration k in
-          common-same o a (a +ℤ pos d) x (x +ℤ pos w) (told .above k q) (plus-above o a d (told .above k q)) p (plus-above o x w p)
-          ∙ ap (λ (e : ℕ). commonIn (moment o a) e (moment o x) (moment o (x +ℤ pos w))) (plus o a d (told .above k q))
+          common-same o a (a +ℤ pos d) x (x +ℤ pos w) (at-moments .above k q) (plus-above o a d (at-moments .above k q)) p (plus-above o x w p)
+          ∙ ap (λ (e : ℕ). commonIn (moment o a) e (moment o x) (moment o (x +ℤ pos w))) (plus o a d (at-moments .above k q))
           ∙ ap (commonIn (moment o a) (moment o a + d) (moment o x)) (plus o x w p)
-          ∙ ap (λ (s : ℕ). commonIn s (s + d) (moment o x) (moment o x + w)) (sym (told .start k q))
-          ∙ ap (λ (n : ℕ). commonIn (M .earliest k) (M .earliest k + n) (moment o x) (moment o x + w)) (sym (told .lasts k q))
+          ∙ ap (λ (s : ℕ). commonIn s (s + d) (moment o x) (moment o x + w)) (sym (at-moments .start k q))
+          ∙ ap (λ (n : ℕ). commonIn (M .earliest k) (M .earliest k + n) (moment o x) (moment o x + w)) (sym (at-moments .lasts k q))
 
   -- what is busiest in moments is so in whole numbers
   module _ (first last : ℕ) (least : (k : ℕ) → k < J .count → first ≤ M .earliest k) (greatest : (k : ℕ) → k < J .count → M .earliest k ≤ last)
       (starts-first : (k : ℕ) × (k < J .count) × (M .earliest k ≡ first)) (starts-last : (k : ℕ) × (k < J .count) × (M .earliest k ≡ last)) where
     counts-above : (u : ℤ) → Counts J u → Above o u
-    counts-above u h = let (k, q, l) = h .from in above-up o (J .earliest k) u l (told .above k q)
+    counts-above u h = let (k, q, l) = h .from in above-up o (J .earliest k) u l (at-moments .above k q)
 
     counts-from : (u : ℤ) → Counts J u → first ≤ moment o u
-    counts-from u h = let (k, q, l) = h .from in omega (arith, least k q, told .start k q, mono o (J .earliest k) u l)
+    counts-from u h = let (k, q, l) = h .from in omega (arith, least k q, at-moments .start k q, mono o (J .earliest k) u l)
 
     counts-to : (u : ℤ) → Counts J u → moment o u ≤ last
-    counts-to u h = let (k, q, l) = h .to in omega (arith, greatest k q, told .start k q, mono o u (J .earliest k) l)
+    counts-to u h = let (k, q, l) = h .to in omega (arith, greatest k q, at-moments .start k q, mono o u (J .earliest k) l)
 
     counts-up : (m : ℕ) → first ≤ m → m ≤ last → Counts J (instant o m)
     counts-up m l h = record {
-      from = (let (k, q, e) = starts-first in (k, q, reflect o (J .earliest k) (instant o m) (told .above k q) (instant-above o m) (omega (arith, e, told .start k q, moment-instant o m))));
-      to = (let (k, q, e) = starts-last in (k, q, reflect o (instant o m) (J .earliest k) (instant-above o m) (told .above k q) (omega (arith, e, told .start k q, moment-instant o m))));
+      from = (let (k, q, e) = starts-first in (
+        k,
+        q,
+        reflect o (J .earliest k) (instant o m) (at-moments .above k q) (instant-above o m) (omega (arith, e, at-moments .start k q, moment-instant o m)),
+      ));
+      to = (let (k, q, e) = starts-last in (k, q, reflect o (instant o m) (J .earliest k) (instant-above o m) (at-moments .above k q) (omega (arith, e, at-moments .start k q, moment-instant o m))));
     }
 
     busiest-up : (w c m : ℕ) → BusiestMoment M w first last c m → BusiestAt J w c (instant o m)
@@ -96,7 +100,7 @@ module _ (o : ℕ) (J : Tasks whole) (M : Tasks natural) (told : Told o J M) whe
 
 -- the first and the last of an order by start
 pub run-of : (n : ℕ) (order starts : List ℕ) (place : ℕ → ℕ) → Ordered n (λ t. getD order t 0) place (λ j k. getD starts j 0 ≤ getD starts k 0) → 1 ≤ n
-    → Run n starts (getD starts (getD order 0 0) 0) (getD starts (getD order (n - 1) 0) 0)
+    → FirstAndLast n starts (getD starts (getD order 0 0) 0) (getD starts (getD order (n - 1) 0) 0)
 run-of n order starts place o h = record {
   least = λ k q. rw (o .there k q) at (o .sorted 0 (place k) (omega arith) (o .placed k q));
   greatest = λ k q. rw (o .there k q) at (o .sorted (place k) (n - 1) (omega (arith, o .placed k q)) (omega arith));
@@ -104,7 +108,7 @@ run-of n order starts place o h = record {
   starts-last = (getD order (n - 1) 0, o .task (n - 1) (omega arith), refl);
 }
 
--- ---- an accepted question
+-- ---- an accepted call
 module _ (r : DisjunctivePropagator) (es ls : List ℤ) (w : ℤ) (a : AcceptedFixed r es ls) (q : LengthFits w) (starts : List ℕ) (s : starts ≡ filled (momentAt es) (length es) noTasks)
     (length′ : ℕ) (p : pos length′ ≡ w) (order : List ℕ) (e : take (length es) order ≡ orderOf es) where
   by-start : Ordered (r .count) (λ t. getD order t 0) (index (orderOf es)) (λ j k. getD starts j 0 ≤ getD starts k 0)
@@ -124,30 +128,30 @@ module _ (r : DisjunctivePropagator) (es ls : List ℤ) (w : ℤ) (a : AcceptedF
     length = omega (ints, q .high);
   }
 
-  pub runs : Run (r .count) starts (getD starts (getD order 0 0) 0) (getD starts (getD order (r .count - 1) 0) 0)
+  pub runs : FirstAndLast (r .count) starts (getD starts (getD order 0 0) 0) (getD starts (getD order (r .count - 1) 0) 0)
   runs = run-of (r .count) order starts (index (orderOf es)) by-start (a .lawful .some)
 
   pub found : (c m : ℕ) → BusiestMoment (inMoments (r .count) starts (r .durations)) length′ (getD starts (getD order 0 0) 0) (getD starts (getD order (r .count - 1) 0) 0) c m
-      → (x : ℤ) → x ≡ instant zeroAt m → Found r es ls w (Stretch c x)
+      → (x : ℤ) → x ≡ instant zeroAt m → BusiestFound r es ls w (Stretch c x)
   found c m b x z = record {
     time = c;
     start = instant zeroAt m;
     answer = ap (λ (s : ℤ). busiestNumbers (Stretch c s)) z;
     busiest = subst (λ (n : ℕ). BusiestAt (tasksOn r es ls) n c (instant zeroAt m)) (ap durationOf p)
-        (busiest-up zeroAt (tasksOn r es ls) (inMoments (r .count) starts (r .durations)) (told r es ls (input-of a) starts s) (getD starts (getD order 0 0) 0)
+        (busiest-up zeroAt (tasksOn r es ls) (inMoments (r .count) starts (r .durations)) (at-moments r es ls (input-of a) starts s) (getD starts (getD order 0 0) 0)
         (getD starts (getD order (r .count - 1) 0) 0) (runs .least) (runs .greatest) (runs .starts-first) (runs .starts-last) length′ c m b);
   }
 
 -- ---- the call
 module _ (r : DisjunctivePropagator) (es ls : List ℤ) (w : ℤ) where
-  pub refused : (m : ℕ) → m ≡ stretchNumber r es ls w → (m ≡ 0 → ⊥) → Answered r es ls w (Refused m)
+  pub refused : (m : ℕ) → m ≡ stretchNumber r es ls w → (m ≡ 0 → ⊥) → BusiestAnswered r es ls w (Refused m)
   refused m e not = record { refused = λ _. ap refusedBy e; found = λ z. absurd (not (e ∙ z)) }
 
-  pub answered : (x : Busiest) → stretchNumber r es ls w ≡ 0 → Found r es ls w x → Answered r es ls w x
+  pub answered : (x : Busiest) → stretchNumber r es ls w ≡ 0 → BusiestFound r es ls w x → BusiestAnswered r es ls w x
   answered x z f = record { refused = λ not. absurd (not z); found = λ _. f }
 
 -- too many ranges are refused as none are
-pub too-many : (r : DisjunctivePropagator) (es ls : List ℤ) (w : ℤ) (x : Busiest) → TASKS < length es → Answered r [] [] w x → Answered r es ls w x
+pub too-many : (r : DisjunctivePropagator) (es ls : List ℤ) (w : ℤ) (x : Busiest) → TASKS < length es → BusiestAnswered r [] [] w x → BusiestAnswered r es ls w x
 too-many r es ls w x many a =
     let (same, not) = stretch-many r es ls w many in
     record { refused = λ _. a .refused (λ z. not (sym same ∙ z)) ∙ ap refusedBy same; found = λ z. absurd (not z) }

@@ -1,4 +1,4 @@
--- What refuses a question: what holds where nothing does, and the sole ground for each number.
+-- What refuses a call: what holds where nothing does, and the sole ground for each number.
 use mathlib.Core.Path.{_≡_, refl, _∙_}
 use mathlib.Core.Bool.{true, false}
 use mathlib.Core.Logic.{_↔_}
@@ -13,19 +13,19 @@ use Rattle.records.specs.declared.record.DisjunctivePropagator.{DisjunctiveProp
 use Rattle.records.specs.Records.{Lawful}
 use Rattle.records.specs.Refusals.{CountsFit, StartsFit, RangesFit}
 use Rattle.fixed_schedules.specs.FixedSchedules.{fixedTests, fixedNumber, Fixed, AcceptedFixed}
-use Rattle.fixed_schedules.specs.Asked.{lengthFits, LengthFits}
-use Rattle.fixed_schedules.proofs.AskedMoments.{length-is}
+use Rattle.fixed_schedules.specs.Parameters.{lengthFits, LengthFits}
+use Rattle.fixed_schedules.proofs.ParameterMoments.{length-is}
 use Rattle.fixed_schedules.proofs.FixedRefused.{fixed-first, fixed-then, fixed-20, fixed-10, fixed-3, fixed-4, fixed-14, fixed-many, passed-fixed}
 use Rattle.busiest_stretch.specs.Stretches.{stretchNumber}
 
 module _ (r : DisjunctivePropagator) (es ls : List ℤ) (w : ℤ) where
-  -- the test that is the question's own
+  -- the test that is the call's own
   abbrev t23 : Test
   t23 = test 23 (lengthFits w)
 
-  -- nothing refuses the question
-  pub accepted-question : stretchNumber r es ls w ≡ 0 ↔ (AcceptedFixed r es ls × LengthFits w)
-  accepted-question = more-accepted (fixedTests r es ls) t23 (passed-fixed r es ls) (length-is w) refl refl
+  -- nothing refuses the call
+  pub accepted-call : stretchNumber r es ls w ≡ 0 ↔ (AcceptedFixed r es ls × LengthFits w)
+  accepted-call = more-accepted (fixedTests r es ls) t23 (passed-fixed r es ls) (length-is w) refl refl
 
   -- what is wrong with the schedule goes before
   pub schedule-first : (fixedNumber r es ls ≡ 0 → ⊥) → stretchNumber r es ls w ≡ fixedNumber r es ls

@@ -6,7 +6,7 @@ use native.Mathlib.Omega.{arith}
 use native.Mathlib.Numerals.{add-one}
 use Rattle.integers.proofs.Bools.{below-suc}
 use Rattle.scheduling.specs.Scheduling.{natural, Tasks}
-use Rattle.busiest_stretch.specs.StretchMoments.{coveredIn, NoWorse, Held, Tried, BusiestMoment}
+use Rattle.busiest_stretch.specs.StretchMoments.{coveredIn, NoWorse, StretchHeld, Tried, BusiestMoment}
 use Rattle.busiest_stretch.proofs.CoveredTime.{edge}
 use Rattle.busiest_stretch.proofs.LocalBest.{no-worse-chain, Turns, reaches}
 
@@ -16,19 +16,19 @@ Beats M w first last c x u = first ≤ u → u ≤ last → NoWorse (coveredIn M
 
 -- Nor than those of the first i tasks: from the task's start on, and up to its end.
 pub record Best (M : Tasks natural) (w first last i c x : ℕ) : Type 0 where
-  pub held : Held M w first last c x
+  pub held : StretchHeld M w first last c x
   pub starts : (k : ℕ) → k < i → Beats M w first last c x (M .earliest k)
   pub ends : (k : ℕ) → k < i → (u : ℕ) → M .earliest k + M .duration k ≡ u + w → Beats M w first last c x u
 
 module _ (M : Tasks natural) (w first last : ℕ) where
   -- a start that is tried: the best stays, or gives way
-  pub stays : (x c s : ℕ) → Held M w first last c s → Beats M w first last c s x → Tried M w first last x c s c s
+  pub stays : (x c s : ℕ) → StretchHeld M w first last c s → Beats M w first last c s x → Tried M w first last x c s c s
   stays x c s h t = record { held = h; kept = inr (refl, omega arith); tried = t }
 
   pub gives-way : (x c s d : ℕ) → first ≤ x → x ≤ last → d ≡ coveredIn M w x → NoWorse c s d x → Tried M w first last x c s d x
   gives-way x c s d l h e k = record { held = record { from = l; to = h; covers = sym e }; kept = k; tried = λ _ _. inr (sym e, omega arith) }
 
-  pub none-yet : (c x : ℕ) → Held M w first last c x → Best M w first last 0 c x
+  pub none-yet : (c x : ℕ) → StretchHeld M w first last c x → Best M w first last 0 c x
   none-yet c x h = record { held = h; starts = λ k q. absurd (omega arith); ends = λ k q. absurd (omega arith) }
 
   -- both of one more task are tried

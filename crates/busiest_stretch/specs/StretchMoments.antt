@@ -32,7 +32,7 @@ pub record Slidable (n : ℕ) (starts ds : List ℕ) (w : ℕ) : Type 0 where
   pub length : w ≤ LENGTH
 
 -- The first and the last start.
-pub record Run (n : ℕ) (starts : List ℕ) (first last : ℕ) : Type 0 where
+pub record FirstAndLast (n : ℕ) (starts : List ℕ) (first last : ℕ) : Type 0 where
   pub least : (k : ℕ) → k < n → first ≤ getD starts k 0
   pub greatest : (k : ℕ) → k < n → getD starts k 0 ≤ last
   pub starts-first : (k : ℕ) × (k < n) × (getD starts k 0 ≡ first)
@@ -40,18 +40,18 @@ pub record Run (n : ℕ) (starts : List ℕ) (first last : ℕ) : Type 0 where
 
 module _ (M : Tasks natural) (w first last : ℕ) where
   -- A stretch whose start counts, with the time covered.
-  pub record Held (c x : ℕ) : Type 0 where
+  pub record StretchHeld (c x : ℕ) : Type 0 where
     pub from : first ≤ x
     pub to : x ≤ last
     pub covers : coveredIn M w x ≡ c
 
   -- The stretch (d, y) after the start x was tried against (c, s).
   pub record Tried (x c s d y : ℕ) : Type 0 where
-    pub held : Held d y
+    pub held : StretchHeld d y
     pub kept : NoWorse c s d y
     pub tried : first ≤ x → x ≤ last → NoWorse (coveredIn M w x) x d y
 
   -- No stretch is better.
   pub record BusiestMoment (c x : ℕ) : Type 0 where
-    pub held : Held c x
+    pub held : StretchHeld c x
     pub most : (u : ℕ) → first ≤ u → u ≤ last → NoWorse (coveredIn M w u) u c x

@@ -1,4 +1,4 @@
--- The busiest stretch of a fixed schedule: how much of a stretch is covered, what refuses the question, and what the call answers.
+-- The busiest stretch of a fixed schedule: how much of a stretch is covered, what refuses the call, and what the call answers.
 use mathlib.Core.Path.{_≡_}
 use mathlib.Core.List.{List, [], _∷_, _++_}
 use Prim.Native.Nat.{ℕ, _≤_, _<_}
@@ -12,7 +12,7 @@ use Rattle.scheduling.specs.Scheduling.{whole, Tasks, total}
 use Rattle.records.specs.declared.record.DisjunctivePropagator.{DisjunctivePropagator}
 use Rattle.records.specs.Records.{durationOf}
 use Rattle.fixed_schedules.specs.FixedSchedules.{tasksOn, fixedTests}
-use Rattle.fixed_schedules.specs.Asked.{lengthFits}
+use Rattle.fixed_schedules.specs.Parameters.{lengthFits}
 use Rattle.busiest_stretch.specs.declared.answer.Busiest.{Busiest}
 use Rattle.busiest_stretch.specs.Numbers.{busiestNumbers}
 
@@ -45,13 +45,13 @@ abbrev pub stretchNumber : DisjunctivePropagator → List ℤ → List ℤ → �
 stretchNumber r es ls w = refusal (stretchTests r es ls w)
 
 -- The answer is the greatest covered time and the least start that reaches it.
-pub record Found (r : DisjunctivePropagator) (es ls : List ℤ) (w : ℤ) (a : Busiest) : Type 0 where
+pub record BusiestFound (r : DisjunctivePropagator) (es ls : List ℤ) (w : ℤ) (a : Busiest) : Type 0 where
   pub time : ℕ
   pub start : ℤ
   pub answer : busiestNumbers a ≡ answered 0 (pos time ∷ start ∷ [])
   pub busiest : BusiestAt (tasksOn r es ls) (durationOf w) time start
 
--- The first test that fails refuses the question; else the answer is the busiest stretch.
-pub record Answered (r : DisjunctivePropagator) (es ls : List ℤ) (w : ℤ) (a : Busiest) : Type 0 where
+-- The first test that fails refuses the call; else the answer is the busiest stretch.
+pub record BusiestAnswered (r : DisjunctivePropagator) (es ls : List ℤ) (w : ℤ) (a : Busiest) : Type 0 where
   pub refused : (stretchNumber r es ls w ≡ 0 → ⊥) → busiestNumbers a ≡ refusedBy (stretchNumber r es ls w)
-  pub found : stretchNumber r es ls w ≡ 0 → Found r es ls w a
+  pub found : stretchNumber r es ls w ≡ 0 → BusiestFound r es ls w a

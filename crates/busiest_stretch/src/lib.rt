@@ -1,4 +1,4 @@
-// The busiest stretch: where a stretch of a given length has the most scanning in it, beside a fixed schedule.
+// The busiest stretch of a fixed schedule: where tasks cover most of a stretch of a given length.
 pub mod answer;
-pub mod covering;
+mod covering;
 pub mod stretch;

@@ -2,8 +2,8 @@
 // least start that reaches the most is a task's start, or one from which the stretch ends with a task.
 use crate::answer::Busiest;
 use crate::covering::covered;
-use fixed_schedules::asked::length_fits;
-use fixed_schedules::order::order_of;
+use fixed_schedules::parameters::length_fits;
+use fixed_schedules::refusals::FixedOrder;
 use fixed_schedules::refusals::fixed_refusal;
 use integers::limits::TASKS;
 use integers::moments::moments_of;
@@ -11,10 +11,9 @@ use integers::moments::start_of;
 use integers::numbers::nat_of;
 use integers::refused;
 use records::record::DisjunctivePropagator;
-ghost use mathlib.Core.Path.{_≡_};
-ghost use Rattle.fixed_schedules.specs.Neighbours.{inMoments};
-ghost use Rattle.busiest_stretch.specs.Stretches.{stretchNumber, Answered};
-ghost use Rattle.busiest_stretch.specs.StretchMoments.{Slidable, Run, Held, Tried, BusiestMoment};
+ghost use Rattle.fixed_schedules.specs.Neighbours.{inMoments, Tested};
+ghost use Rattle.busiest_stretch.specs.Stretches.{stretchNumber, BusiestAnswered};
+ghost use Rattle.busiest_stretch.specs.StretchMoments.{Slidable, FirstAndLast, StretchHeld, Tried, BusiestMoment};
 
 // A stretch by the moment of its start, and the time of it that tasks cover.
 pub struct Stretch {
@@ -22,18 +21,23 @@ pub struct Stretch {
     pub start: u32,
 }
 
-// The number that refuses a question, or 0: 20, 10, 3, 4, 14, 23.
-fn stretch_refusal(record: DisjunctivePropagator, earliest: &[i32], latest: &[i32], w: i32) -> u32
-    ensures { λ r. ⌜ r ≡ stretchNumber «record» (now (earliest .entry)) (now (latest .entry)) w ⌝ }
+// The number that refuses a call, or 0 and the tasks by start: 20, 10, 3, 4, 14, 23.
+fn stretch_refusal(
+    record: DisjunctivePropagator,
+    earliest: &[i32],
+    latest: &[i32],
+    w: i32,
+) -> FixedOrder
+    ensures { λ r. ⌜ Tested (now (earliest .entry)) (stretchNumber «record» (now (earliest .entry)) (now (latest .entry)) w) r ⌝ }
 {
-    let number = fixed_refusal(record, earliest, latest);
-    if number != 0 {
-        return number;
+    let fixed = fixed_refusal(record, earliest, latest);
+    if fixed.number != 0 {
+        return fixed;
     }
     if !length_fits(w) {
-        return refused::LENGTH;
+        return FixedOrder::refused_by(refused::LENGTH);
     }
-    0
+    fixed
 }
 
 // The better of the best stretch so far and the one from x on, where that start counts: more is covered, or as much from an earlier start.
@@ -47,8 +51,8 @@ fn better<'a>(
     best: Stretch,
     x: u32,
 ) -> Stretch
-    requires { ⌜ Slidable n (now starts) (now durations) w × Run n (now starts) first last
-        × Held (inMoments n (now starts) (now durations)) w first last (best .covered) (best .start) ⌝ }
+    requires { ⌜ Slidable n (now starts) (now durations) w × FirstAndLast n (now starts) first last
+        × StretchHeld (inMoments n (now starts) (now durations)) w first last (best .covered) (best .start) ⌝ }
     ensures { λ r. ⌜ Tried (inMoments n (now (starts .entry)) (now (durations .entry))) w first last x (best .covered) (best .start) (r .covered) (r .start) ⌝ }
 {
     if x < first {
@@ -81,7 +85,7 @@ fn busiest<'a>(
     first: u32,
     last: u32,
 ) -> Stretch
-    requires { ⌜ Slidable n (now starts) (now durations) w × Run n (now starts) first last ⌝ }
+    requires { ⌜ Slidable n (now starts) (now durations) w × FirstAndLast n (now starts) first last ⌝ }
     ensures { λ r. ⌜ BusiestMoment (inMoments n (now (starts .entry)) (now (durations .entry))) w first last (r .covered) (r .start) ⌝ }
 {
     let mut best = Stretch {
@@ -106,19 +110,18 @@ pub fn busiest_stretch(
     latest: &[i32],
     w: i32,
 ) -> Busiest
-    ensures { λ r. ⌜ Answered «record» (now (earliest .entry)) (now (latest .entry)) w r ⌝ }
+    ensures { λ r. ⌜ BusiestAnswered «record» (now (earliest .entry)) (now (latest .entry)) w r ⌝ }
 {
-    let number = stretch_refusal(record, earliest, latest, w);
-    if number != 0 {
-        return Busiest::Refused(number);
+    let fixed = stretch_refusal(record, earliest, latest, w);
+    if fixed.number != 0 {
+        return Busiest::Refused(fixed.number);
     }
     let n = record.count;
-    let order = order_of(earliest);
     let mut starts: [u32; TASKS] = [0; TASKS];
     moments_of(&mut starts, earliest);
     let length = nat_of(w);
-    let first = starts[order[0]];
-    let last = starts[order[n - 1]];
+    let first = starts[fixed.order[0]];
+    let last = starts[fixed.order[n - 1]];
     let best = busiest(&starts, &record.durations, n, length, first, last);
     Busiest::Stretch(best.covered, start_of(best.start))
 }

@@ -1,4 +1,4 @@
--- The bill of an accepted call, and what the call answers.
+-- The charges of an accepted call, and what the call answers.
 use mathlib.Core.Path.{_≡_, sym, ap, _∙_}
 use mathlib.Core.List.{List, [], _∷_}
 use Prim.Native.Nat.{ℕ, _<_}
@@ -12,31 +12,31 @@ use Rattle.integers.proofs.FilledLists.{filled-at, filled-past, filled-length, 
 use Rattle.scheduling.specs.Scheduling.{total}
 use Rattle.records.specs.declared.record.DisjunctivePropagator.{DisjunctivePropagator}
 use Rattle.fixed_schedules.proofs.AcceptedSchedules.{input-of, started, short}
-use Rattle.charges.specs.declared.answer.Bill.{Bill}
+use Rattle.charges.specs.declared.answer.TaskCharges.{TaskCharges}
 use Rattle.charges.specs.declared.answer.Charges.{Charges}
-use Rattle.charges.specs.declared.answer.Billing.the-variants.{Made, Refused}
-use Rattle.charges.specs.Charges.{chargeAt, noBill, chargesNumber, Accepted, BillRight, Charged}
+use Rattle.charges.specs.declared.answer.Charging.the-variants.{Made, Refused}
+use Rattle.charges.specs.Charges.{chargeAt, noCharges, chargesNumber, AcceptedCharges, ChargesRight, Charged}
 use Rattle.charges.specs.ChargeLoop.{Chargeable, Summed}
 use Rattle.charges.proofs.ChargesRefused.{accepted-charges, charges-many}
 
 module _ (r : DisjunctivePropagator) (es ls due : List ℤ) where
-  pub chargeable : Accepted r es ls due → Chargeable (r .durations) es due
+  pub chargeable : AcceptedCharges r es ls due → Chargeable (r .durations) es due
   chargeable a = record {
     started = started r es ls (input-of (a .schedule));
     durations = short r es ls (input-of (a .schedule));
     dues = record { long = a .dues .long ∙ sym (a .schedule .counts .earliest); within = a .dues .within };
   }
 
-  pub refused : (m : ℕ) (b : Bill) → m ≡ chargesNumber r es ls due → (m ≡ 0 → ⊥) → b ≡ noBill → Charged r es ls due (record { bill = b; answer = Refused m })
+  pub refused : (m : ℕ) (b : TaskCharges) → m ≡ chargesNumber r es ls due → (m ≡ 0 → ⊥) → b ≡ noCharges → Charged r es ls due (record { charged = b; answer = Refused m })
   refused m b e not none = record { refused = λ _. (ap refusedBy e, none); made = λ z. absurd (not (e ∙ z)) }
 
-  pub made : (b : Bill) → chargesNumber r es ls due ≡ 0 → Summed (r .durations) es due b → Charged r es ls due (record { bill = b; answer = Made })
+  pub made : (b : TaskCharges) → chargesNumber r es ls due ≡ 0 → Summed (r .durations) es due b → Charged r es ls due (record { charged = b; answer = Made })
   made b z s = record { refused = λ not. absurd (not z); made = λ _. (ap (λ (n : ℕ). answered 0 (pos n ∷ [])) (right .total), right) }
     where
       f : ℕ → ℕ
       f = chargeAt (r .durations) es due
 
-      a : Accepted r es ls due
+      a : AcceptedCharges r es ls due
       a = accepted-charges r es ls due .0 z
 
       count : length es ≡ r .count
@@ -45,7 +45,7 @@ module _ (r : DisjunctivePropagator) (es ls due : List ℤ) where
       long : length noTasks ≡ TASKS
       long = length-replicate {A = ℕ} TASKS 0
 
-      right : BillRight r es due b
+      right : ChargesRight r es due b
       right = record {
         long = ap length (s .charges) ∙ filled-length f (length es) noTasks ∙ long;
         charge = λ k q. ap (λ (l : List ℕ). getD l k 0) (s .charges) ∙ filled-at f (length es) noTasks 0 k (omega (arith, count)) (omega (arith, count, long, a .schedule .lawful .few));

@@ -19,7 +19,7 @@ use Rattle.records.specs.Refusals.{CountsFit, StartsFit, RangesFit}
 use Rattle.records.proofs.RefusedRuns.{within-is}
 use Rattle.fixed_schedules.specs.FixedSchedules.{fixedTests, fixedNumber, Fixed, AcceptedFixed}
 use Rattle.fixed_schedules.proofs.FixedRefused.{fixed-first, fixed-then, fixed-20, fixed-10, fixed-3, fixed-4, fixed-14, fixed-many, passed-fixed}
-use Rattle.charges.specs.Charges.{dueFitsAt, chargesNumber, DueFits, DuesFit, Accepted}
+use Rattle.charges.specs.Charges.{dueFitsAt, chargesNumber, DueFits, DuesFit, AcceptedCharges}
 
 due-is : (z : ℤ) → leZ (negℤ (pos DUE)) z && leZ z (pos DUE) ≡ true ↔ DueFits z
 due-is z = let w = within-is (negℤ (pos DUE)) (pos DUE) z in (λ h. record { low = w .0 h .0; high = w .0 h .1 }, λ f. w .1 (f .low, f .high))
@@ -39,7 +39,7 @@ module _ (r : DisjunctivePropagator) (es ls due : List ℤ) where
   t19 = test 19 (eqb (length due) (r .count) && allBelow (dueFitsAt due) (length due))
 
   -- nothing refuses the call
-  pub accepted-charges : chargesNumber r es ls due ≡ 0 ↔ Accepted r es ls due
+  pub accepted-charges : chargesNumber r es ls due ≡ 0 ↔ AcceptedCharges r es ls due
   accepted-charges =
       let w = more-accepted (fixedTests r es ls) t19 (passed-fixed r es ls) (dues-are (r .count) due) refl refl in
       (λ h. (let f = w .0 h in record { schedule = f .0; dues = f .1 }), λ a. w .1 (a .schedule, a .dues))

@@ -8,7 +8,7 @@ use Rattle.integers.specs.FilledLists.{filled, noTasks}
 use Rattle.integers.specs.Limits.{DURATIONS}
 use Rattle.scheduling.specs.Scheduling.{total}
 use Rattle.fixed_schedules.specs.Neighbours.{Started}
-use Rattle.charges.specs.declared.answer.Bill.{Bill}
+use Rattle.charges.specs.declared.answer.TaskCharges.{TaskCharges}
 use Rattle.charges.specs.Charges.{DuesFit, chargeAt}
 
 -- Starts, durations and due moments within the limits, and a due moment for each task.
@@ -18,6 +18,6 @@ pub record Chargeable (ds : List ℕ) (es due : List ℤ) : Type 0 where
   pub dues : DuesFit (length es) due
 
 -- The tasks' charges in the first places of an array of zeros, and their sum.
-pub record Summed (ds : List ℕ) (es due : List ℤ) (b : Bill) : Type 0 where
+pub record Summed (ds : List ℕ) (es due : List ℤ) (b : TaskCharges) : Type 0 where
   pub charges : b .charges ≡ filled (chargeAt ds es due) (length es) noTasks
   pub sum : b .total ≡ total (chargeAt ds es due) (length es)

@@ -17,7 +17,7 @@ use Rattle.records.specs.declared.record.DisjunctivePropagator.{DisjunctiveProp
 use Rattle.records.specs.Refusals.{withinAt}
 use Rattle.fixed_schedules.specs.FixedSchedules.{endAt, fixedTests, AcceptedFixed}
 use Rattle.charges.specs.Tariff.{costOf, minutesLate}
-use Rattle.charges.specs.declared.answer.Bill.{Bill}
+use Rattle.charges.specs.declared.answer.TaskCharges.{TaskCharges}
 use Rattle.charges.specs.declared.answer.Charges.{Charges}
 use Rattle.charges.specs.Numbers.{chargesNumbers}
 
@@ -44,7 +44,7 @@ pub record DuesFit (n : ℕ) (due : List ℤ) : Type 0 where
   pub within : (k : ℕ) → k < length due → DueFits (getD due k (pos 0))
 
 -- and what holds of a call that no test refuses.
-pub record Accepted (r : DisjunctivePropagator) (es ls due : List ℤ) : Type 0 where
+pub record AcceptedCharges (r : DisjunctivePropagator) (es ls due : List ℤ) : Type 0 where
   pub schedule : AcceptedFixed r es ls
   pub dues : DuesFit (r .count) due
 
@@ -58,19 +58,19 @@ MINUTES = DUE + START + DURATIONS
 abbrev pub chargeAt : List ℕ → List ℤ → List ℤ → ℕ → ℕ
 chargeAt ds es due k = costOf (minutesLate (endAt ds es k) (getD due k (pos 0)))
 
--- A bill has each task's charge at its number, 0 in the other places, and the sum of the tasks' charges.
-pub record BillRight (r : DisjunctivePropagator) (es due : List ℤ) (b : Bill) : Type 0 where
+-- Each task's charge stands at its number, 0 in the other places; and the total is the sum of the tasks' charges.
+pub record ChargesRight (r : DisjunctivePropagator) (es due : List ℤ) (b : TaskCharges) : Type 0 where
   pub long : length (b .charges) ≡ TASKS
   pub charge : (k : ℕ) → k < r .count → getD (b .charges) k 0 ≡ chargeAt (r .durations) es due k
   pub unused : (k : ℕ) → r .count ≤ k → getD (b .charges) k 0 ≡ 0
   pub total : b .total ≡ total (chargeAt (r .durations) es due) (r .count)
 
--- the bill of zeros
-abbrev pub noBill : Bill
-noBill = record { charges = noTasks; total = 0 }
+-- charges of zero
+abbrev pub noCharges : TaskCharges
+noCharges = record { charges = noTasks; total = 0 }
 
--- The call: the first test that fails refuses it, with the bill of zeros; else it answers the bill and its total.
+-- The call: the first test that fails refuses it, with charges of zero; else it answers the charges and their total.
 pub record Charged (r : DisjunctivePropagator) (es ls due : List ℤ) (c : Charges) : Type 0 where
-  pub refused : (chargesNumber r es ls due ≡ 0 → ⊥) → (chargesNumbers c ≡ refusedBy (chargesNumber r es ls due)) × (c .bill ≡ noBill)
+  pub refused : (chargesNumber r es ls due ≡ 0 → ⊥) → (chargesNumbers c ≡ refusedBy (chargesNumber r es ls due)) × (c .charged ≡ noCharges)
   pub made : chargesNumber r es ls due ≡ 0 → (chargesNumbers c ≡ answered 0 (pos (total (chargeAt (r .durations) es due) (r .count)) ∷ []))
-      × BillRight r es due (c .bill)
+      × ChargesRight r es due (c .charged)

@@ -3,8 +3,8 @@ use mathlib.Core.List.{[], _∷_}
 use lib.IntN.{pos}
 use Rattle.integers.specs.Answers.{Answer, answered, refusedBy}
 use Rattle.charges.specs.declared.answer.Charges.{Charges}
-use Rattle.charges.specs.declared.answer.Billing.the-variants.{Made, Refused}
+use Rattle.charges.specs.declared.answer.Charging.the-variants.{Made, Refused}
 
--- the value is the total of the bill that is made
+-- the value is the total of the charges that are made
 abbrev pub chargesNumbers : Charges → Answer
-chargesNumbers c = elim (c .answer) [ Made ↦ answered 0 (pos (c .bill .total) ∷ []) | Refused number ↦ refusedBy number ]
+chargesNumbers c = elim (c .answer) [ Made ↦ answered 0 (pos (c .charged .total) ∷ []) | Refused number ↦ refusedBy number ]

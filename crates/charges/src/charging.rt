@@ -1,7 +1,7 @@
 // The charges: refused by number, or made by the tariff.
-use crate::answer::Bill;
-use crate::answer::Billing;
 use crate::answer::Charges;
+use crate::answer::Charging;
+use crate::answer::TaskCharges;
 use crate::rates::cost_of;
 use crate::refusals::charges_refusal;
 use integers::limits::TASKS;
@@ -13,7 +13,7 @@ ghost use lib.IntN.{pos, _+ℤ_};
 ghost use Rattle.integers.specs.Limits.{DURATIONS};
 ghost use Rattle.records.specs.Refusals.{StartFits};
 ghost use Rattle.charges.specs.Tariff.{minutesLate, costOf};
-ghost use Rattle.charges.specs.Charges.{DueFits, MINUTES, noBill, Charged};
+ghost use Rattle.charges.specs.Charges.{DueFits, MINUTES, noCharges, Charged};
 ghost use Rattle.charges.specs.ChargeLoop.{Chargeable, Summed};
 
 // How many minutes after its due moment a task ends.
@@ -37,8 +37,8 @@ fn charge_of(start: i32, duration: u32, due: i32) -> u32
     cost_of(minutes_late(start, duration, due))
 }
 
-// The bill of a schedule.
-fn bill_of(earliest: &[i32], durations: &[u32; TASKS], due: &[i32]) -> Bill
+// The charges of a schedule.
+fn charges_of(earliest: &[i32], durations: &[u32; TASKS], due: &[i32]) -> TaskCharges
     requires { ⌜ Chargeable (now durations) (now earliest) (now due) ⌝ }
     ensures { λ r. ⌜ Summed (now (durations .entry)) (now (earliest .entry)) (now (due .entry)) r ⌝ }
 {
@@ -51,23 +51,23 @@ fn bill_of(earliest: &[i32], durations: &[u32; TASKS], due: &[i32]) -> Bill
         sum += cost;
         i += 1;
     }
-    Bill {
+    TaskCharges {
         charges: out,
         total: sum,
     }
 }
 
-// The bill of zeros.
-fn no_bill() -> Bill
-    ensures { λ r. ⌜ r ≡ noBill ⌝ }
+// Charges of zero.
+fn no_charges() -> TaskCharges
+    ensures { λ r. ⌜ r ≡ noCharges ⌝ }
 {
-    Bill {
+    TaskCharges {
         charges: [0u32; TASKS],
         total: 0,
     }
 }
 
-// The charges of a fixed schedule; or the bill of zeros, with the number that refused the call.
+// The charges of a fixed schedule; or charges of zero, with the number that refused the call.
 pub fn charges(
     record: DisjunctivePropagator,
     earliest: &[i32],
@@ -79,12 +79,12 @@ pub fn charges(
     let number = charges_refusal(record, earliest, latest, due);
     if number != 0 {
         return Charges {
-            bill: no_bill(),
-            answer: Billing::Refused(number),
+            charged: no_charges(),
+            answer: Charging::Refused(number),
         };
     }
     Charges {
-        bill: bill_of(earliest, &record.durations, due),
-        answer: Billing::Made,
+        charged: charges_of(earliest, &record.durations, due),
+        answer: Charging::Made,
     }
 }

@@ -1,5 +1,5 @@
 // Loan charges: what each task of a fixed schedule costs that ends after its due moment, by a printed tariff.
 pub mod answer;
 pub mod charging;
-pub mod rates;
-pub mod refusals;
+mod rates;
+mod refusals;

@@ -24,9 +24,9 @@ pub fn charges_refusal(
 ) -> u32
     ensures { λ r. ⌜ r ≡ chargesNumber «record» (now (earliest .entry)) (now (latest .entry)) (now (due .entry)) ⌝ }
 {
-    let number = fixed_refusal(record, earliest, latest);
-    if number != 0 {
-        return number;
+    let fixed = fixed_refusal(record, earliest, latest);
+    if fixed.number != 0 {
+        return fixed.number;
     }
     if due.len() != record.count {
         return refused::DUE;

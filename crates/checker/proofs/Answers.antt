@@ -1,6 +1,5 @@
 -- The answer of a check, test by test.
 use mathlib.Core.Path.{_≡_, refl, sym, ap, subst, _∙_}
-use mathlib.Core.Bool.{Bool, true, false}
 use mathlib.Core.List.{List}
 use Prim.Native.Nat.{ℕ, zero, suc, _≤_}
 use native.Mathlib.Omega.{arith}
@@ -14,7 +13,7 @@ use Rattle.checking.specs.declared.variable_state.Application.{Application}
 use Rattle.checking.specs.declared.variable_state.Application.the-variants as application
 use Rattle.checking.specs.declared.variable_state.Applied.{Applied}
 use Rattle.checking.specs.Answers.{AppliedAs}
-use Rattle.checking.specs.States.{Accepted, prepared}
+use Rattle.checking.specs.States.{AcceptedState, prepared}
 use Rattle.checking.proofs.StateNumbers.{applied-apart}
 use Rattle.checking.proofs.PreparedStates.{prepared-right, prepared-accepted}
 use Rattle.records.specs.declared.record.Created.{Created}
@@ -27,6 +26,8 @@ use Rattle.checker.specs.declared.checker.Verdict.{Verdict}
 use Rattle.checker.specs.declared.checker.Verdict.the-variants.{Contradiction, Refused}
 use Rattle.checking.specs.declared.start_bounds.Bounds.{Bounds}
 use Rattle.checker.specs.Checks.{judged, concluded, checkAfter, checkOf}
+use Rattle.checker.specs.declared.checker.Direction.{Direction}
+use Rattle.checker.specs.declared.checker.Direction.the-variants.{Forward, Mirrored}
 use Rattle.checker.specs.MirroredChecks.{lowerAs, upperAs, judgedAs, checkAs}
 use Rattle.checking.specs.TaskBounds.{boundsOf}
 use Rattle.checker.specs.CheckArrays.{Judgeable, Consequent}
@@ -38,23 +39,23 @@ module _ (ds ps cs : List ℤ) where
   unfolding checkOf
   check-after n e = ap (λ (m : ℕ). checkAfter (judged ds) m ps cs) e
 
-  module _ (mirrored : Bool) where
-    after : (n : ℕ) → refusal (creationTests ds) ≡ n → checkAs mirrored ds ps cs ≡ checkAfter (judgedAs mirrored ds) n ps cs
-    after n e = ap (λ (m : ℕ). checkAfter (judgedAs mirrored ds) m ps cs) e
+  module _ (direction : Direction) where
+    after : (n : ℕ) → refusal (creationTests ds) ≡ n → checkAs direction ds ps cs ≡ checkAfter (judgedAs direction ds) n ps cs
+    after n e = ap (λ (m : ℕ). checkAfter (judgedAs direction ds) m ps cs) e
 
     -- 1, 2 or 5
     module _ (made : Created) (creates : Creates ds made) where
       is : made ≡ created ds
       is = created-as creates
 
-      pub is-refused : (n : ℕ) → made .answer ≡ creation.Refused n → Refused n ≡ checkAs mirrored ds ps cs
+      pub is-refused : (n : ℕ) → made .answer ≡ creation.Refused n → Refused n ≡ checkAs direction ds ps cs
       is-refused n a = elim (ℕ-discrete (refusal (creationTests ds)) 0) [
         | yes z ↦ (let e : creation.Accepted ≡ creation.Refused n = sym (ap (λ (m : Created). m .answer) (is ∙ created-new ds z)) ∙ a in absurd (let w : _≡_ {A = ℕ} 0 1 = cc in omega arith))
         | no z ↦ (let e : creation.Refused (refusal (creationTests ds)) ≡ creation.Refused n = sym (ap (λ (m : Created). m .answer) (is ∙ created-not ds (refusal (creationTests ds)) refl z)) ∙ a in
             by n z (let w : refusal (creationTests ds) ≡ n = cc in w))
       ]
         where
-          by : (n : ℕ) → (refusal (creationTests ds) ≡ 0 → ⊥) → refusal (creationTests ds) ≡ n → Refused n ≡ checkAs mirrored ds ps cs
+          by : (n : ℕ) → (refusal (creationTests ds) ≡ 0 → ⊥) → refusal (creationTests ds) ≡ n → Refused n ≡ checkAs direction ds ps cs
           by zero z e = absurd (z e)
           by (suc n) z e = sym (after (suc n) e)
 
@@ -69,17 +70,17 @@ module _ (ds ps cs : List ℤ) where
         same : applied ≡ prepared ps cs
         same = applied-apart as-prepared
 
-        check-is : checkAs mirrored ds ps cs ≡ concluded (judgedAs mirrored ds) applied (consequentOf cs)
-        check-is = after 0 (accepts a) ∙ ap (λ (r : Applied). concluded (judgedAs mirrored ds) r (consequentOf cs)) (sym same)
+        check-is : checkAs direction ds ps cs ≡ concluded (judgedAs direction ds) applied (consequentOf cs)
+        check-is = after 0 (accepts a) ∙ ap (λ (r : Applied). concluded (judgedAs direction ds) r (consequentOf cs)) (sym same)
 
         -- 7, 6, 21 and contradictions
-        concludes : (x : Application) → applied .answer ≡ x → checkAs mirrored ds ps cs ≡ concluded (judgedAs mirrored ds) (record { answer = x; state = applied .state }) (consequentOf cs)
-        concludes x e = check-is ∙ ap (λ (y : Application). concluded (judgedAs mirrored ds) (record { answer = y; state = applied .state }) (consequentOf cs)) e
+        concludes : (x : Application) → applied .answer ≡ x → checkAs direction ds ps cs ≡ concluded (judgedAs direction ds) (record { answer = x; state = applied .state }) (consequentOf cs)
+        concludes x e = check-is ∙ ap (λ (y : Application). concluded (judgedAs direction ds) (record { answer = y; state = applied .state }) (consequentOf cs)) e
 
-        pub contradicted : (x : ℕ) → applied .answer ≡ application.Contradiction x → Contradiction x ≡ checkAs mirrored ds ps cs
+        pub contradicted : (x : ℕ) → applied .answer ≡ application.Contradiction x → Contradiction x ≡ checkAs direction ds ps cs
         contradicted x e = sym (concludes (application.Contradiction x) e)
 
-        pub refused-atoms : (n : ℕ) → applied .answer ≡ application.Refused n → Refused n ≡ checkAs mirrored ds ps cs
+        pub refused-atoms : (n : ℕ) → applied .answer ≡ application.Refused n → Refused n ≡ checkAs direction ds ps cs
         refused-atoms n e = sym (concludes (application.Refused n) e)
 
         -- 8 and the formula
@@ -93,29 +94,29 @@ module _ (ds ps cs : List ℤ) where
           abbrev durations : List ℕ
           durations = made .«record» .durations
 
-          by-state : Judgeable ds (lowerAs false ds (applied .state)) (upperAs false ds (applied .state)) n (boundsOf (applied .state) n) durations
+          by-state : Judgeable ds (lowerAs Forward ds (applied .state)) (upperAs Forward ds (applied .state)) n (boundsOf (applied .state) n) durations
           by-state = rw (is, created-new ds (accepts a), same) (judgeable ds ps cs (accepts a) consistent)
 
-          by-state-mirrored : Judgeable ds (lowerAs true ds (applied .state)) (upperAs true ds (applied .state)) n (mirroredBounds (boundsOf (applied .state) n) durations n) durations
+          by-state-mirrored : Judgeable ds (lowerAs Mirrored ds (applied .state)) (upperAs Mirrored ds (applied .state)) n (mirroredBounds (boundsOf (applied .state) n) durations n) durations
           by-state-mirrored = rw (is, created-new ds (accepts a), same) (mirrored-judgeable ds ps cs (accepts a) consistent)
 
           pub few-tasks : made .«record» .count ≤ TASKS
           few-tasks = by-state .bounding .held .few
 
-          pub accepted-state : Accepted (applied .state)
-          accepted-state = subst Accepted (sym (as-prepared .state)) (prepared-accepted ps cs)
+          pub accepted-state : AcceptedState (applied .state)
+          accepted-state = subst AcceptedState (sym (as-prepared .state)) (prepared-accepted ps cs)
 
           pub can-judge : (b : Bounds) → b ≡ boundsOf (applied .state) (made .«record» .count)
-              → Judgeable ds (lowerAs false ds (applied .state)) (upperAs false ds (applied .state)) (made .«record» .count) b (made .«record» .durations)
-          can-judge b z = subst (λ (x : Bounds). Judgeable ds (lowerAs false ds (applied .state)) (upperAs false ds (applied .state)) n x durations) (sym z) by-state
+              → Judgeable ds (lowerAs Forward ds (applied .state)) (upperAs Forward ds (applied .state)) (made .«record» .count) b (made .«record» .durations)
+          can-judge b z = subst (λ (x : Bounds). Judgeable ds (lowerAs Forward ds (applied .state)) (upperAs Forward ds (applied .state)) n x durations) (sym z) by-state
 
           pub can-judge-mirrored : (b b′ : Bounds) → b ≡ boundsOf (applied .state) (made .«record» .count) → b′ ≡ mirroredBounds b (made .«record» .durations) (made .«record» .count)
-              → Judgeable ds (lowerAs true ds (applied .state)) (upperAs true ds (applied .state)) (made .«record» .count) b′ (made .«record» .durations)
-          can-judge-mirrored b b′ z y = subst (λ (x : Bounds). Judgeable ds (lowerAs true ds (applied .state)) (upperAs true ds (applied .state)) n x durations)
+              → Judgeable ds (lowerAs Mirrored ds (applied .state)) (upperAs Mirrored ds (applied .state)) (made .«record» .count) b′ (made .«record» .durations)
+          can-judge-mirrored b b′ z y = subst (λ (x : Bounds). Judgeable ds (lowerAs Mirrored ds (applied .state)) (upperAs Mirrored ds (applied .state)) n x durations)
               (sym (y ∙ ap (λ (x : Bounds). mirroredBounds x durations n) z)) by-state-mirrored
 
           pub consequent-right : Consequent cs
           consequent-right = let (p, short, right) = right-lists ps cs (prepared-right ps cs consistent) in record { short = short; right = right }
 
-          pub concluded-by : (r : Verdict) → r ≡ judgedAs mirrored ds (applied .state) (consequentOf cs) → r ≡ checkAs mirrored ds ps cs
+          pub concluded-by : (r : Verdict) → r ≡ judgedAs direction ds (applied .state) (consequentOf cs) → r ≡ checkAs direction ds ps cs
           concluded-by r j = j ∙ sym (concludes application.Consistent e)

@@ -1,11 +1,11 @@
 -- The checks' definitions keep the promises.
 use mathlib.Core.Path.{_≡_, refl, sym, subst, _∙_}
-use mathlib.Core.Bool.{true, false}
 use mathlib.Core.List.{List}
 use lib.IntN.{ℤ}
 use Rattle.checker.specs.declared.checker.Verdict.{Verdict}
 use Rattle.checker.specs.declared.checker.Verdict.the-variants.{Passed}
 use Rattle.checker.specs.Checks.{checkOf}
+use Rattle.checker.specs.declared.checker.Direction.the-variants.{Forward, Mirrored}
 use Rattle.checker.specs.MirroredChecks.{checkAs, checkMirroredOf}
 use Rattle.checker.specs.Checked.{Checked, CheckedMirrored}
 use Rattle.checker.proofs.VerdictNumbers.{verdicts-apart}
@@ -14,11 +14,11 @@ use Rattle.checker.proofs.Soundness.{check-sound, mirrored-sound, exact
 use Rattle.checker.proofs.Unjudged.{unjudged}
 
 module _ (ds ps cs : List ℤ) where
-  same : checkAs false ds ps cs ≡ checkOf ds ps cs
+  same : checkAs Forward ds ps cs ≡ checkOf ds ps cs
   unfolding checkOf
   same = refl
 
-  same-mirrored : checkAs true ds ps cs ≡ checkMirroredOf ds ps cs
+  same-mirrored : checkAs Mirrored ds ps cs ≡ checkMirroredOf ds ps cs
   unfolding checkMirroredOf
   same-mirrored = refl
 
@@ -34,8 +34,8 @@ module _ (ds ps cs : List ℤ) where
   }
 
   -- the open calls, from the check in either time
-  pub checked : (r : Verdict) → r ≡ checkAs false ds ps cs → Checked ds ps cs r
+  pub checked : (r : Verdict) → r ≡ checkAs Forward ds ps cs → Checked ds ps cs r
   checked r e = subst (Checked ds ps cs) (sym (e ∙ same)) check-promise
 
-  pub checked-mirrored : (r : Verdict) → r ≡ checkAs true ds ps cs → CheckedMirrored ds ps cs r
+  pub checked-mirrored : (r : Verdict) → r ≡ checkAs Mirrored ds ps cs → CheckedMirrored ds ps cs r
   checked-mirrored r e = subst (CheckedMirrored ds ps cs) (sym (e ∙ same-mirrored)) mirrored-promise

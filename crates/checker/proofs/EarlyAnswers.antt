@@ -29,11 +29,11 @@ module _ {J : Tasks natural} {Ω : TaskSet} {n : ℕ} {chosen : List Bool} {est 
   some-is : v .some ≡ any Ω (J .count)
   some-is = ap (λ (x : Interval). x .some) z ∙ ap (any Ω) (sym (h .count))
 
-  lb-is : v .lb ≡ lowest J Ω (J .count)
-  lb-is = ap (λ (x : Interval). x .lb) z ∙ ap (lowest J Ω) (sym (h .count))
+  lb-is : v .«lb_interval» ≡ lowest J Ω (J .count)
+  lb-is = ap (λ (x : Interval). x .«lb_interval») z ∙ ap (lowest J Ω) (sym (h .count))
 
-  ub-is : v .ub ≡ highest J Ω (J .count)
-  ub-is = ap (λ (x : Interval). x .ub) z ∙ ap (highest J Ω) (sym (h .count))
+  ub-is : v .«ub_interval» ≡ highest J Ω (J .count)
+  ub-is = ap (λ (x : Interval). x .«ub_interval») z ∙ ap (highest J Ω) (sym (h .count))
 
   p-is : v .p ≡ processing J Ω
   p-is = ap (λ (x : Interval). x .p) z ∙ ap (total (λ k. cond (Ω k) (J .duration k) 0)) (sym (h .count)) ∙ sym (processing-is J Ω)
@@ -41,7 +41,7 @@ module _ {J : Tasks natural} {Ω : TaskSet} {n : ℕ} {chosen : List Bool} {est 
   p-most : v .p ≤ total (J .duration) n
   p-most = omega (arith, ap (λ (x : Interval). x .p) z, total-mono (λ k. cond (Ω k) (J .duration k) 0) (J .duration) n (λ k r. cond-most (Ω k) (J .duration k)))
 
-  lb-most : v .some ≡ true → v .lb ≤ LATEST
+  lb-most : v .some ≡ true → v .«lb_interval» ≤ LATEST
   lb-most y =
       let ne : NonEmpty J Ω = any-some J Ω (sym some-is ∙ y) in
       let l : Est J Ω (lowest J Ω (J .count)) = lowest-is J Ω (λ k q. omega (arith, h .early k (omega (arith, h .count)))) ne in
@@ -52,18 +52,18 @@ module _ {J : Tasks natural} {Ω : TaskSet} {n : ℕ} {chosen : List Bool} {est 
   pub none-overloads : v .some ≡ false → false ≡ overloadsSpan J Ω
   none-overloads y = rw (sym some-is ∙ y) refl
 
-  pub reach-fits : v .some ≡ true → v .lb + v .p < 2 ^ 64
+  pub reach-fits : v .some ≡ true → v .«lb_interval» + v .p < 2 ^ 64
   reach-fits y = omega (arith, lb-most y, p-most, h .sum)
 
-  pub some-overloads : v .some ≡ true → ltb (v .ub) (v .lb + v .p) ≡ overloadsSpan J Ω
+  pub some-overloads : v .some ≡ true → ltb (v .«ub_interval») (v .«lb_interval» + v .p) ≡ overloadsSpan J Ω
   some-overloads y = rw (sym some-is ∙ y, lb-is, ub-is, p-is) refl
 
   -- with a consequent on task i
   module _ {lst : List ℕ} (l : Late J n lst) (i : ℕ) (q : i < n) where
     abbrev reach : ℕ
-    reach = min (getD est i 0) (v .lb) + v .p + getD durations i 0
+    reach = min (getD est i 0) (v .«lb_interval») + v .p + getD durations i 0
 
-    pub joint-fits : v .some ≡ true → (min (getD est i 0) (v .lb) + v .p < 2 ^ 64) × (reach < 2 ^ 64)
+    pub joint-fits : v .some ≡ true → (min (getD est i 0) (v .«lb_interval») + v .p < 2 ^ 64) × (reach < 2 ^ 64)
     joint-fits y = (omega (arith, lb-most y, p-most, h .sum), omega (arith, lb-most y, p-most, h .sum, h .lasts i q, total-part (J .duration) n i q))
 
     pub none-after : v .some ≡ false → false ≡ comesAfter J Ω i
@@ -75,20 +75,20 @@ module _ {J : Tasks natural} {Ω : TaskSet} {n : ℕ} {chosen : List Bool} {est 
     reach-is : reach ≡ whole-reach
     reach-is = rw (h .start i q, lb-is, p-is, h .lasts i q) refl
 
-    pub room-before : v .some ≡ true → reach ≤ v .ub → false ≡ comesAfter J Ω i
+    pub room-before : v .some ≡ true → reach ≤ v .«ub_interval» → false ≡ comesAfter J Ω i
     room-before y r =
         let no : ltb (highest J Ω (J .count)) whole-reach ≡ false = le-ltb (highest J Ω (J .count)) whole-reach (omega (arith, r, reach-is, ub-is)) in
         rw (sym some-is ∙ y, no) refl
 
-    pub after-where : v .some ≡ true → v .ub < reach → (e : Option ℕ) → e ≡ ectOf J Ω → exceeds e (getD lst i 0) ≡ comesAfter J Ω i
+    pub after-where : v .some ≡ true → v .«ub_interval» < reach → (e : Option ℕ) → e ≡ ectOf J Ω → exceeds e (getD lst i 0) ≡ comesAfter J Ω i
     after-where y r e w =
         let yes-so : ltb (highest J Ω (J .count)) whole-reach ≡ true = lt-ltb (highest J Ω (J .count)) whole-reach (omega (arith, r, reach-is, ub-is)) in
         rw (sym some-is ∙ y, yes-so, l .at i q, w) refl
 
--- the others, in the array
-pub others-held : {J : Tasks natural} {Ω : TaskSet} {n : ℕ} {chosen : List Bool} {est durations : List ℕ} → length chosen ≡ TASKS → (i : ℕ) → i < n
+-- theta, in the array
+pub theta-held : {J : Tasks natural} {Ω : TaskSet} {n : ℕ} {chosen : List Bool} {est durations : List ℕ} → length chosen ≡ TASKS → (i : ℕ) → i < n
     → HeldSet J Ω n chosen est durations → HeldSet J (Ω but i) n (set chosen i false) est durations
-others-held {J} {Ω} {n} {chosen} {est} {durations} size i q h = record {
+theta-held {J} {Ω} {n} {chosen} {est} {durations} size i q h = record {
   proper = h .proper;
   count = h .count;
   few = h .few;

@@ -24,7 +24,7 @@ use Rattle.scheduling.proofs.Agreement.{Agree, overloads→, formula→, set-ov
 use Rattle.scheduling.proofs.Clocks.{sound, overload→, overload←, checks→, checks←}
 use Rattle.trees.specs.Ects.{exceeds}
 use Rattle.trees.proofs.Ects.{exceeds-yes, some-exceeds}
-use Rattle.checker.specs.Formulas.{bounded, others, ranges, tasks, any, lowest, highest, overloaded, implied}
+use Rattle.checker.specs.Formulas.{bounded, theta, ranges, tasks, any, lowest, highest, overloaded, implied}
 use Rattle.checker.proofs.GatheredIntervals.{any-yes, any-some, lowest-is, highest-is}
 
 -- The bounds of each task are the least and the greatest value that the atoms admit, in the range of an i32; none where there is none.
@@ -191,18 +191,18 @@ module _ (J : Tasks whole) (lasts : (k : ℕ) → k < J .count → 1 ≤ J .dura
   -- with a consequent on task i, which has two bounds --------------------------------------------------------------------------
   module _ (i : ℕ) (small : i < n) where
     abbrev Ω : TaskSet
-    Ω = others n (J .duration) lower upper i
+    Ω = theta n (J .duration) lower upper i
 
     self-out : Ω i ≡ false
     self-out = rw (eq-eqb i i refl)
 
-    -- the others with i are all
+    -- theta with i is all
     with-all : X i ≡ true → (k : ℕ) → k < n → (Ω with i) k ≡ X k
     with-all y k q = elim (ℕ-discrete k i) [ yes z ↦ rw (z, eq-eqb i i refl) (sym y) | no z ↦ rw (ne-eqb k i z) ]
 
-    -- and a set outside of which i is, with i all, is the others
-    the-others : (S : TaskSet) → S i ≡ false → ((k : ℕ) → k < n → (S with i) k ≡ X k) → (k : ℕ) → k < n → S k ≡ Ω k
-    the-others S out same k q = elim (ℕ-discrete k i)
+    -- and a set outside of which i is, with i all, is theta
+    is-theta : (S : TaskSet) → S i ≡ false → ((k : ℕ) → k < n → (S with i) k ≡ X k) → (k : ℕ) → k < n → S k ≡ Ω k
+    is-theta S out same k q = elim (ℕ-discrete k i)
         [ yes z ↦ rw z (out ∙ sym self-out) | no z ↦ rw (ne-eqb k i z) (subst (λ (b : Bool). b || S k ≡ X k) (ne-eqb k i z) (same k q)) ]
 
     abbrev reach : ℕ
@@ -245,7 +245,7 @@ module _ (J : Tasks whole) (lasts : (k : ℕ) → k < J .count → 1 ≤ J .dura
           let g : RuleFormula (p .ranges) (p .set) i = subst (λ (j : ℕ). RuleFormula (p .ranges) (p .set) j) on-i (p .formula) in
           let on-R : RuleFormula R (p .set) i = formula→ (p .ranges) R (p .set with i) (agrees (p .set with i) (p .ranges) b) (p .set) i (λ k h. with-more (p .set) k (h .mem))
           (with-self (p .set)) g in
-          let f : RuleFormula N Ω i = checks→ zeroAt R proper low-R Ω i (set-formula R (p .set) Ω (the-others (p .set) (g .outside .mem) (determined (p .set with i) (p .ranges) b)) i on-R) in
+          let f : RuleFormula N Ω i = checks→ zeroAt R proper low-R Ω i (set-formula R (p .set) Ω (is-theta (p .set) (g .outside .mem) (determined (p .set with i) (p .ranges) b)) i on-R) in
           let ne : NonEmpty N Ω = (f .est .holds .0, f .est .holds .1) in
           let s : f .start ≡ low Ω = est-same N Ω (f .start) (low Ω) (f .est) (lowest-is N Ω fits-N ne) in
           let e : f .end ≡ high Ω = lct-same N Ω (f .end) (high Ω) (f .lct) (highest-is N Ω ne) in

@@ -23,6 +23,7 @@ use Rattle.checker.specs.Formulas.{known, bounded, implied, overloaded}
 use Rattle.checker.specs.StartBounds.{mirrorBound}
 use Rattle.checker.specs.declared.checker.Verdict.the-variants.{Refused}
 use Rattle.checker.specs.Checks.{verdict, judged, concluded, checkAfter, checkOf}
+use Rattle.checker.specs.declared.checker.Direction.the-variants.{Mirrored}
 use Rattle.checker.specs.MirroredChecks.{lowerAs, upperAs, judgedAs, checkMirroredOf}
 use Rattle.checker.specs.Unjudged.{wordTests, Unjudged}
 use Rattle.checker.specs.Verdicts.{verdictNumbers}
@@ -51,26 +52,26 @@ module _ (ds : List ℤ) (a : Answer) (o : Other a) where
   alike false true x y e h = absurd (let z : _≡_ {A = ℕ} 0 1 = cc in omega arith)
   alike false false x y e h = h
 
-  judged-same : (s : VariableState) (c : Option Atom) → verdictNumbers (judgedAs true ds s c) ≡ a ↔ verdictNumbers (judged ds s c) ≡ a
+  judged-same : (s : VariableState) (c : Option Atom) → verdictNumbers (judgedAs Mirrored ds s c) ≡ a ↔ verdictNumbers (judged ds s c) ≡ a
   judged-same s none = (
-    λ h. absurd (verdict-kind (overloaded (length ds) (durationAt ds) (lowerAs true ds s) (upperAs true ds s)) a h o),
+    λ h. absurd (verdict-kind (overloaded (length ds) (durationAt ds) (lowerAs Mirrored ds s) (upperAs Mirrored ds s)) a h o),
     λ h. absurd (verdict-kind (overloaded (length ds) (durationAt ds) (lowerIn s) (upperIn s)) a h o),
   )
   judged-same s (some b) =
       let k = b .variable in
-      let e : bounded (length ds) (durationAt ds) (lowerAs true ds s) (upperAs true ds s) k ≡ bounded (length ds) (durationAt ds) (lowerIn s) (upperIn s) k =
+      let e : bounded (length ds) (durationAt ds) (lowerAs Mirrored ds s) (upperAs Mirrored ds s) k ≡ bounded (length ds) (durationAt ds) (lowerIn s) (upperIn s) k =
       both (durationAt ds k) (lowerIn s k) (upperIn s k) in
       let test = ap (λ (x : Bool). ltb k (length ds) && x) e in
-      let there = implied (length ds) (durationAt ds) (lowerAs true ds s) (upperAs true ds s) k in
+      let there = implied (length ds) (durationAt ds) (lowerAs Mirrored ds s) (upperAs Mirrored ds s) k in
       let here = implied (length ds) (durationAt ds) (lowerIn s) (upperIn s) k in
       (alike _ _ there here test, alike _ _ here there (sym test))
 
-  after-same : (ps cs : List ℤ) (n : ℕ) → verdictNumbers (checkAfter (judgedAs true ds) n ps cs) ≡ a ↔ verdictNumbers (checkAfter (judged ds) n ps cs) ≡ a
+  after-same : (ps cs : List ℤ) (n : ℕ) → verdictNumbers (checkAfter (judgedAs Mirrored ds) n ps cs) ≡ a ↔ verdictNumbers (checkAfter (judged ds) n ps cs) ≡ a
   after-same ps cs (suc n) = (λ h. h, λ h. h)
   after-same ps cs zero = by (prepared ps cs .answer) refl
     where
       by : (w : Application) → prepared ps cs .answer ≡ w
-          → verdictNumbers (concluded (judgedAs true ds) (prepared ps cs) (consequentOf cs)) ≡ a ↔ verdictNumbers (concluded (judged ds) (prepared ps cs) (consequentOf cs)) ≡ a
+          → verdictNumbers (concluded (judgedAs Mirrored ds) (prepared ps cs) (consequentOf cs)) ≡ a ↔ verdictNumbers (concluded (judged ds) (prepared ps cs) (consequentOf cs)) ≡ a
       by application.Consistent p = rw p (judged-same (prepared ps cs .state) (consequentOf cs))
       by (application.Contradiction x) p = rw p (λ h. h, λ h. h)
       by (application.Refused n) p = rw p (λ h. h, λ h. h)

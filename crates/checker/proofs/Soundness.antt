@@ -40,6 +40,8 @@ use Rattle.checker.proofs.Formulas.{Reads, determined, overloaded-sound
 use Rattle.checker.specs.declared.checker.Verdict.{Verdict}
 use Rattle.checker.specs.declared.checker.Verdict.the-variants.{Passed, NotPassed, Contradiction, Refused}
 use Rattle.checker.specs.Checks.{verdict, judgedBy, concluded, checkAfter, checkOf, tasksWith}
+use Rattle.checker.specs.declared.checker.Direction.{Direction}
+use Rattle.checker.specs.declared.checker.Direction.the-variants.{Forward, Mirrored}
 use Rattle.checker.specs.MirroredChecks.{mirrorIfAny, lowerAs, upperAs, judgedAs, checkAs, checkMirroredOf}
 use Rattle.checker.specs.Verdicts.{verdictNumbers}
 use Rattle.checker.proofs.MirroredGiven.{given-mirrored, contradicts-mirrored}
@@ -129,9 +131,9 @@ module _ (ds : List ℤ) (ok : refusal (creationTests ds) ≡ 0) where
     state = prepared ps cs .state
 
     -- the mirrored bounds are those of the mirrored atoms
-    pub reads-mirrored : Reads (length ds) (given (mirrorAtoms (durationAt ds) (atomsOf ps)) (mirrorIfAny (durationAt ds) (consequentOf cs))) (lowerAs true ds (prepared ps cs .state))
-        (upperAs true ds (prepared ps cs .state))
-    reads-mirrored = subst (λ (l : List Atom). Reads (length ds) l (lowerAs true ds state) (upperAs true ds state)) (sym (given-mirrored (durationAt ds) (atomsOf ps) (consequentOf cs)))
+    pub reads-mirrored : Reads (length ds) (given (mirrorAtoms (durationAt ds) (atomsOf ps)) (mirrorIfAny (durationAt ds) (consequentOf cs))) (lowerAs Mirrored ds (prepared ps cs .state))
+        (upperAs Mirrored ds (prepared ps cs .state))
+    reads-mirrored = subst (λ (l : List Atom). Reads (length ds) l (lowerAs Mirrored ds state) (upperAs Mirrored ds state)) (sym (given-mirrored (durationAt ds) (atomsOf ps) (consequentOf cs)))
         (mirrored-reads (length ds) (durationAt ds) (given (atomsOf ps) (consequentOf cs)) (lowerIn state) (upperIn state) (λ k q. (durations-last k q, durations-most k q))
         (λ k q. upper-near ps cs k (omega (arith, few))) (reads ds ps cs few consistent))
 
@@ -141,12 +143,12 @@ alike ds d lower upper none = refl
 alike ds d lower upper (some a) = refl
 
 -- A check in either time that the formula judges: the durations are accepted, and the atoms consistent.
-record Judged (mirrored : Bool) (ds ps cs : List ℤ) : Type 0 where
+record Judged (direction : Direction) (ds ps cs : List ℤ) : Type 0 where
   ok : refusal (creationTests ds) ≡ 0
   consistent : prepared ps cs .answer ≡ application.Consistent
-  judgement : checkAs mirrored ds ps cs ≡ judgedAs mirrored ds (prepared ps cs .state) (consequentOf cs)
+  judgement : checkAs direction ds ps cs ≡ judgedAs direction ds (prepared ps cs .state) (consequentOf cs)
 
-judged-check : (m : Bool) (ds ps cs : List ℤ) → verdictNumbers (checkAs m ds ps cs) .kind < 2 → Judged m ds ps cs
+judged-check : (m : Direction) (ds ps cs : List ℤ) → verdictNumbers (checkAs m ds ps cs) .kind < 2 → Judged m ds ps cs
 judged-check m ds ps cs e = by (refusal (creationTests ds)) refl e
   where
     on : refusal (creationTests ds) ≡ 0 → (w : Application) → prepared ps cs .answer ≡ w → verdictNumbers (concluded (judgedAs m ds) (prepared ps cs) (consequentOf cs)) .kind < 2 → Judged m ds ps cs
@@ -158,14 +160,14 @@ judged-check m ds ps cs e = by (refusal (creationTests ds)) refl e
     by zero p v = on p (prepared ps cs .answer) refl v
     by (suc n) p v = absurd (omega arith)
 
-passed-judged : (m : Bool) (ds ps cs : List ℤ) → checkAs m ds ps cs ≡ Passed → Judged m ds ps cs
+passed-judged : (m : Direction) (ds ps cs : List ℤ) → checkAs m ds ps cs ≡ Passed → Judged m ds ps cs
 passed-judged m ds ps cs e = judged-check m ds ps cs (let z : verdictNumbers (checkAs m ds ps cs) .kind ≡ 0 = ap (λ (v : Verdict). verdictNumbers v .kind) e in omega (arith, z))
 
 -- A passed check meets the formula,
 pub check-formula : (ds ps cs : List ℤ) → checkOf ds ps cs ≡ Passed → (refusal (creationTests ds) ≡ 0) × PassesFormula (tasksWith ds) (atomsOf ps) (consequentOf cs)
 unfolding checkOf
 check-formula ds ps cs e =
-    let j = passed-judged false ds ps cs e in
+    let j = passed-judged Forward ds ps cs e in
     let s = prepared ps cs .state in
     (j .ok, judged-sound ds (j .ok) (lowerIn s) (upperIn s) (atomsOf ps) (consequentOf cs) (reads ds ps cs (few ds (j .ok)) (j .consistent)) (sym (j .judgement) ∙ e))
 
@@ -180,12 +182,12 @@ pub mirrored-formula : (ds ps cs : List ℤ) → checkMirroredOf ds ps cs ≡ Pa
     → (refusal (creationTests ds) ≡ 0) × PassesFormula (tasksWith ds) (mirrorAtoms (durationAt ds) (atomsOf ps)) (mirrorIfAny (durationAt ds) (consequentOf cs))
 unfolding checkMirroredOf
 mirrored-formula ds ps cs e =
-    let j = passed-judged true ds ps cs e in
+    let j = passed-judged Mirrored ds ps cs e in
     let s = prepared ps cs .state in
     let d = durationAt ds in (
       j .ok,
-      judged-sound ds (j .ok) (lowerAs true ds s) (upperAs true ds s) (mirrorAtoms d (atomsOf ps)) (mirrorIfAny d (consequentOf cs)) (reads-mirrored ds (j .ok) ps cs (j .consistent))
-          (alike ds d (lowerAs true ds s) (upperAs true ds s) (consequentOf cs) ∙ sym (j .judgement) ∙ e),
+      judged-sound ds (j .ok) (lowerAs Mirrored ds s) (upperAs Mirrored ds s) (mirrorAtoms d (atomsOf ps)) (mirrorIfAny d (consequentOf cs)) (reads-mirrored ds (j .ok) ps cs (j .consistent))
+          (alike ds d (lowerAs Mirrored ds s) (upperAs Mirrored ds s) (consequentOf cs) ∙ sym (j .judgement) ∙ e),
     )
 
 -- so that no starts, mirrored, contradict it.
@@ -210,8 +212,8 @@ unfolding checkMirroredOf
 mirrored-consistent-passes ds ps cs ok consistent p =
     let s = prepared ps cs .state in
     let d = durationAt ds in
-    rw (ok, consistent) (sym (alike ds d (lowerAs true ds s) (upperAs true ds s) (consequentOf cs))
-    ∙ judged-passes ds ok (lowerAs true ds s) (upperAs true ds s) (mirrorAtoms d (atomsOf ps)) (mirrorIfAny d (consequentOf cs)) (reads-mirrored ds ok ps cs consistent) p)
+    rw (ok, consistent) (sym (alike ds d (lowerAs Mirrored ds s) (upperAs Mirrored ds s) (consequentOf cs))
+    ∙ judged-passes ds ok (lowerAs Mirrored ds s) (upperAs Mirrored ds s) (mirrorAtoms d (atomsOf ps)) (mirrorIfAny d (consequentOf cs)) (reads-mirrored ds ok ps cs consistent) p)
 
 -- so that it passes exactly there.
 kind-0 : (v : Verdict) → verdictNumbers v .kind ≡ 0 → v ≡ Passed
@@ -223,14 +225,14 @@ kind-0 (Refused n) e = absurd (omega arith)
 pub exactly-passed : (ds ps cs : List ℤ) → verdictNumbers (checkOf ds ps cs) .kind < 2 → verdictNumbers (checkOf ds ps cs) .kind ≡ 0 ↔ PassesFormula (tasksWith ds) (atomsOf ps) (consequentOf cs)
 unfolding checkOf
 exactly-passed ds ps cs h =
-    let j = judged-check false ds ps cs h in
+    let j = judged-check Forward ds ps cs h in
     (λ e. check-formula ds ps cs (kind-0 (checkOf ds ps cs) e) .1, λ f. ap (λ (v : Verdict). verdictNumbers v .kind) (consistent-passes ds ps cs (j .ok) (j .consistent) f))
 
 pub exactly-mirrored : (ds ps cs : List ℤ) → verdictNumbers (checkMirroredOf ds ps cs) .kind < 2
     → verdictNumbers (checkMirroredOf ds ps cs) .kind ≡ 0 ↔ PassesFormula (tasksWith ds) (mirrorAtoms (durationAt ds) (atomsOf ps)) (mirrorIfAny (durationAt ds) (consequentOf cs))
 unfolding checkMirroredOf
 exactly-mirrored ds ps cs h =
-    let j = judged-check true ds ps cs h in
+    let j = judged-check Mirrored ds ps cs h in
     (λ e. mirrored-formula ds ps cs (kind-0 (checkMirroredOf ds ps cs) e) .1, λ f. ap (λ (v : Verdict). verdictNumbers v .kind) (mirrored-consistent-passes ds ps cs (j .ok) (j .consistent) f))
 
 -- Accepted atoms of the kinds ≥, ≤ and = are consistent where each variable can meet them.

@@ -36,6 +36,7 @@ use Rattle.checker.specs.declared.checker.Verdict.{Verdict}
 use Rattle.checker.specs.declared.checker.Verdict.the-variants.{Refused}
 use Rattle.checking.specs.declared.start_bounds.Bounds.{Bounds}
 use Rattle.checker.specs.Checks.{verdict, judgedBy, tasksWith}
+use Rattle.checker.specs.declared.checker.Direction.the-variants.{Forward, Mirrored}
 use Rattle.checker.specs.MirroredChecks.{mirrorIfAny, lowerAs, upperAs}
 use Rattle.checking.specs.TaskBounds.{boundsBetween, boundsAt, boundsOf}
 use Rattle.checker.specs.CheckArrays.{Judgeable, Consequent}
@@ -167,7 +168,7 @@ module _ (ds ps cs : List ℤ) (ok : refusal (creationTests ds) ≡ 0) (consiste
   sum-fits : total (durationAt ds) n ≤ DURATIONS
   sum-fits = omega (arith, created-lawful ds ok .sum, same-sum ds few)
 
-  pub judgeable : Judgeable ds (lowerAs false ds s) (upperAs false ds s) n B (newRecord ds .durations)
+  pub judgeable : Judgeable ds (lowerAs Forward ds s) (upperAs Forward ds s) n B (newRecord ds .durations)
   judgeable = record {
     count = refl;
     bounding = record {
@@ -190,9 +191,9 @@ module _ (ds ps cs : List ℤ) (ok : refusal (creationTests ds) ≡ 0) (consiste
 
   -- in mirrored time
   abbrev there : Tasks natural
-  there = tasksOf ds (lowerAs true ds s) (upperAs true ds s)
+  there = tasksOf ds (lowerAs Mirrored ds s) (upperAs Mirrored ds s)
 
-  member-mirrored : (k : ℕ) → k < n → getD (B .bounded) k false ≡ twoSided ds (lowerAs true ds s) (upperAs true ds s) k
+  member-mirrored : (k : ℕ) → k < n → getD (B .bounded) k false ≡ twoSided ds (lowerAs Mirrored ds s) (upperAs Mirrored ds s) k
   member-mirrored k q = at (λ k. boundsAt s k .known) false k q ∙ mirrored-known (durationAt ds k) (l k) (u k)
 
   start-mirrored : (k : ℕ) → k < n → mirroredMoment (getD (B .bounded) k false) (getD (B .lst) k 0) (getD (newRecord ds .durations) k 0) ≡ there .earliest k
@@ -203,12 +204,13 @@ module _ (ds ps cs : List ℤ) (ok : refusal (creationTests ds) ≡ 0) (consiste
   late-mirrored k q = moment-alike (at (λ k. boundsAt s k .known) false k q) (at (λ k. boundsAt s k .est) 0 k q) (lasts k q)
       ∙ lst-mirrored (durationAt ds k) (durations-most ds ok k q) (l k) (u k) (near-l k q)
 
-  pub mirrored-judgeable : Judgeable ds (lowerAs true ds s) (upperAs true ds s) n (mirroredBounds B (newRecord ds .durations) n) (newRecord ds .durations)
+  pub mirrored-judgeable : Judgeable ds (lowerAs Mirrored ds s) (upperAs Mirrored ds s) n (mirroredBounds B (newRecord ds .durations) n) (newRecord ds .durations)
   mirrored-judgeable = record {
     count = refl;
     bounding = record {
       held = record {
-        proper = moments-proper J₀ (durations-last ds ok) (given (mirrorAtoms (durationAt ds) (atomsOf ps)) (mirrorIfAny (durationAt ds) (consequentOf cs))) (lowerAs true ds s) (upperAs true ds s)
+        proper = moments-proper J₀ (durations-last ds ok) (given (mirrorAtoms (durationAt ds) (atomsOf ps)) (mirrorIfAny (durationAt ds) (consequentOf cs))) (lowerAs Mirrored ds s)
+            (upperAs Mirrored ds s)
             (reads-mirrored ds ok ps cs consistent);
         count = refl;
         few = few;

@@ -33,11 +33,11 @@ pub record Bounding (J : Tasks natural) (Ω : TaskSet) (n : ℕ) (b : Bounds) (d
 -- What the loop gathers --------------------------------------------------------------------------------------------------------
 
 abbrev pub interval : Bool → ℕ → ℕ → ℕ → Interval
-interval some lb ub p = record { some = some; lb = lb; ub = ub; p = p }
+interval some lb ub p = record { some = some; «lb_interval» = lb; «ub_interval» = ub; p = p }
 
 -- one task more, where it is chosen
 abbrev pub gathered : Interval → Bool → ℕ → ℕ → ℕ → Interval
-gathered v true est lct p = interval true (min (v .lb) est) (max (v .ub) lct) (v .p + p)
+gathered v true est lct p = interval true (min (v .«lb_interval») est) (max (v .«ub_interval») lct) (v .p + p)
 gathered v false est lct p = v
 
 -- the tasks of Ω below k

@@ -32,7 +32,7 @@ module _ (J : Tasks natural) (Ω : TaskSet) where
   abbrev pub overloadsSpan : Bool
   overloadsSpan = any Ω (J .count) && ltb (highest (J .count)) (lowest (J .count) + processing J Ω)
 
-  -- Ω has a task; task i can start neither before nor among those of Ω: min(est i, lb) + p + p i > ub; and their ect is past i's latest start
+  -- Ω has a task; task i can start neither before nor among those of Ω: min(est i, lb_interval) + p + p i > ub_interval; and their ect is past i's latest start
   abbrev pub comesAfter : ℕ → Bool
   comesAfter i =
       any Ω (J .count)
@@ -56,12 +56,12 @@ valueOf (some z) = z
 
 -- n tasks with their durations, and the bounds of each one's start
 module _ (n : ℕ) (duration : ℕ → ℕ) (lower upper : ℕ → Option ℤ) where
-  -- the tasks with two finite bounds, and those but i
+  -- the tasks with two finite bounds, and those but the propagating task i
   abbrev pub bounded : TaskSet
   bounded k = known (lower k) && known (upper k)
 
-  abbrev pub others : ℕ → TaskSet
-  others i = bounded but i
+  abbrev pub theta : ℕ → TaskSet
+  theta i = bounded but i
 
   -- the ranges that the bounds give; a task that lacks one stands at the least i32, whose moment is 0
   abbrev pub ranges : Tasks whole
@@ -79,6 +79,6 @@ module _ (n : ℕ) (duration : ℕ → ℕ) (lower upper : ℕ → Option ℤ) w
   unfoldable pub overloaded : Bool
   overloaded = overloadsSpan tasks bounded
 
-  -- with a consequent on task i: it comes after the others
+  -- with a consequent on the propagating task i: it comes after those of theta
   unfoldable pub implied : ℕ → Bool
-  implied i = comesAfter tasks (others i) i
+  implied i = comesAfter tasks (theta i) i

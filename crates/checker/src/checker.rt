@@ -1,4 +1,4 @@
-// The check of a reason: the source's formula, on the state that the premises and the negated consequent leave.
+// The check of a reason: `check` of the source's `DisjunctiveEdgeFindingChecker`, on the state that the premises and the negated consequent leave.
 use crate::formula::implied;
 use crate::formula::overloaded;
 use crate::mirrored_bounds::mirrored_bounds;
@@ -29,6 +29,12 @@ pub enum Verdict {
     Refused(u32),
 }
 
+// Whether the formula is judged in the caller's time or in mirrored time.
+pub enum Direction {
+    Forward,
+    Mirrored,
+}
+
 // What the formula says.
 fn verdict_of(holds: bool) -> Verdict
     ensures { λ r. ⌜ r ≡ verdict holds ⌝ }
@@ -50,19 +56,24 @@ fn judge(bounds: Bounds, durations: &[u32; TASKS], n: usize, consequent: &[i32])
     if consequent.len() == 0 {
         return verdict_of(overloaded(bounds, durations, n));
     }
-    let i = integers::numbers::nat_of(consequent[0]) as usize;
-    if i >= n {
+    let propagating_task = integers::numbers::nat_of(consequent[0]) as usize;
+    if propagating_task >= n {
         return Verdict::Refused(refused::CONSEQUENT);
     }
-    if !bounds.bounded[i] {
+    if !bounds.bounded[propagating_task] {
         return Verdict::Refused(refused::CONSEQUENT);
     }
-    verdict_of(implied(bounds, durations, n, i))
+    verdict_of(implied(bounds, durations, n, propagating_task))
 }
 
-// The check in the caller's time, or with its formula in mirrored time.
-fn check_as(mirrored: bool, durations: &[i32], premises: &[i32], consequent: &[i32]) -> Verdict
-    ensures { λ r. ⌜ r ≡ checkAs mirrored (now (durations .entry)) (now (premises .entry)) (now (consequent .entry)) ⌝ }
+// The check, with its formula judged in one direction.
+fn check_as(
+    direction: Direction,
+    durations: &[i32],
+    premises: &[i32],
+    consequent: &[i32],
+) -> Verdict
+    ensures { λ r. ⌜ r ≡ checkAs direction (now (durations .entry)) (now (premises .entry)) (now (consequent .entry)) ⌝ }
 {
     let made = create(durations);
     let creation = made.answer;
@@ -75,11 +86,13 @@ fn check_as(mirrored: bool, durations: &[i32], premises: &[i32], consequent: &[i
     match answer {
         Application::Consistent => {
             let bounds = bounds_of(applied.state, tasks.count);
-            if !mirrored {
-                return judge(bounds, &tasks.durations, tasks.count, consequent);
+            match direction {
+                Direction::Forward => judge(bounds, &tasks.durations, tasks.count, consequent),
+                Direction::Mirrored => {
+                    let there = mirrored_bounds(bounds, &tasks.durations, tasks.count);
+                    judge(there, &tasks.durations, tasks.count, consequent)
+                }
             }
-            let there = mirrored_bounds(bounds, &tasks.durations, tasks.count);
-            judge(there, &tasks.durations, tasks.count, consequent)
         }
         Application::Contradiction(x) => Verdict::Contradiction(x),
         Application::Refused(number) => Verdict::Refused(number),
@@ -90,12 +103,12 @@ fn check_as(mirrored: bool, durations: &[i32], premises: &[i32], consequent: &[i
 pub fn check(durations: &[i32], premises: &[i32], consequent: &[i32]) -> Verdict
     ensures { λ r. ⌜ Checked (now (durations .entry)) (now (premises .entry)) (now (consequent .entry)) r ⌝ }
 {
-    check_as(false, durations, premises, consequent)
+    check_as(Direction::Forward, durations, premises, consequent)
 }
 
-// The check for a reason of a latest start: in the caller's time too, but judged by the formula in mirrored time.
+// The check of a reason for a latest start: its words are in the caller's time, and the formula is judged in mirrored time.
 pub fn check_mirrored(durations: &[i32], premises: &[i32], consequent: &[i32]) -> Verdict
     ensures { λ r. ⌜ CheckedMirrored (now (durations .entry)) (now (premises .entry)) (now (consequent .entry)) r ⌝ }
 {
-    check_as(true, durations, premises, consequent)
+    check_as(Direction::Mirrored, durations, premises, consequent)
 }

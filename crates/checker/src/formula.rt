@@ -1,4 +1,4 @@
-// The source's formula, from the bounds of the tasks.
+// The formula of the source's `DisjunctiveEdgeFindingChecker`, from the bounds of the tasks.
 use crate::intervals::gather;
 use checking::start_bounds::Bounds;
 use chosen_sets::theta_ect;
@@ -19,23 +19,25 @@ pub fn overloaded(bounds: Bounds, durations: &[u32; TASKS], n: usize) -> bool
     if !v.some {
         return false;
     }
-    v.lb + v.p > v.ub
+    v.lb_interval + v.p > v.ub_interval
 }
 
-// With a consequent on task i: it cannot start before the others, nor among them, and these end past its latest start.
-pub fn implied(bounds: Bounds, durations: &[u32; TASKS], n: usize, i: usize) -> bool
-    requires { ⌜ (i < n) × ((J : Tasks natural) × (Ω : TaskSet) × Bounding J Ω n bounds (now durations)) ⌝ }
-    ensures { λ r. ⌜ ((J : Tasks natural) (Ω : TaskSet) → Bounding J Ω n bounds (now (durations .entry)) → r ≡ comesAfter J (Ω but i) i) ⌝ }
+// With a consequent on the propagating task: it cannot start before the tasks of theta, nor among them, and these end past its latest start.
+pub fn implied(bounds: Bounds, durations: &[u32; TASKS], n: usize, propagating_task: usize) -> bool
+    requires { ⌜ («propagating_task» < n) × ((J : Tasks natural) × (Ω : TaskSet) × Bounding J Ω n bounds (now durations)) ⌝ }
+    ensures { λ r. ⌜ ((J : Tasks natural) (Ω : TaskSet) → Bounding J Ω n bounds (now (durations .entry))
+        → r ≡ comesAfter J (Ω but «propagating_task») «propagating_task») ⌝ }
 {
-    let mut others = bounds.bounded;
-    others[i] = false;
-    let v = gather(&others, &bounds.est, &bounds.lst, durations, n);
+    let mut theta = bounds.bounded;
+    theta[propagating_task] = false;
+    let v = gather(&theta, &bounds.est, &bounds.lst, durations, n);
     if !v.some {
         return false;
     }
-    if min64(bounds.est[i] as u64, v.lb) + v.p + durations[i] as u64 <= v.ub {
+    let est = bounds.est[propagating_task] as u64;
+    if min64(est, v.lb_interval) + v.p + durations[propagating_task] as u64 <= v.ub_interval {
         return false;
     }
-    let ect = theta_ect(&others, &bounds.est, durations, n);
-    ect.exceeds(bounds.lst[i])
+    let ect = theta_ect(&theta, &bounds.est, durations, n);
+    ect.exceeds(bounds.lst[propagating_task])
 }

@@ -1,5 +1,5 @@
-// What the source's loop over the tasks gathers of a set: whether it has a task, its least earliest start, its greatest latest completion, its
-// duration sum. Moments are of 32 bits, and sums of them are formed in 64.
+// What the loop of `DisjunctiveEdgeFindingChecker` over the tasks gathers of a set: whether it has a task, its least earliest start, its greatest
+// latest completion, its duration sum. Moments are of 32 bits, and sums of them are formed in 64.
 use integers::limits::TASKS;
 use integers::numbers::max64;
 use integers::numbers::min64;
@@ -14,8 +14,8 @@ const LARGEST: u64 = u32::MAX as u64;
 
 pub struct Interval {
     pub some: bool,
-    pub lb: u64,
-    pub ub: u64,
+    pub lb_interval: u64,
+    pub ub_interval: u64,
     pub p: u64,
 }
 
@@ -30,8 +30,8 @@ impl Interval {
         }
         Interval {
             some: true,
-            lb: min64(self.lb, est),
-            ub: max64(self.ub, lct),
+            lb_interval: min64(self.lb_interval, est),
+            ub_interval: max64(self.ub_interval, lct),
             p: self.p + p,
         }
     }
@@ -51,8 +51,8 @@ pub fn gather<'a>(
 {
     let mut gathered = Interval {
         some: false,
-        lb: LARGEST,
-        ub: 0,
+        lb_interval: LARGEST,
+        ub_interval: 0,
         p: 0,
     };
     let mut i = 0;

@@ -28,7 +28,7 @@ use Rattle.checking.proofs.Domains.{used}
 use Rattle.checking.proofs.NarrowedDomains.{lower-case, lower-tight, upper-case, low, low-cut, high, high-cut}
 use Rattle.checking.specs.declared.variable_state.VariableState.{VariableState}
 use Rattle.checking.specs.declared.variable_state.Applied.{Applied}
-use Rattle.checking.specs.States.{Accepted, noDomain, domainAt, put, emptyState, stepped, applyAll, prepared}
+use Rattle.checking.specs.States.{AcceptedState, noDomain, domainAt, put, emptyState, stepped, applyAll, prepared}
 use Rattle.checking.proofs.Meaning.{Known}
 use Rattle.checking.proofs.PreparedStates.{ran}
 use Rattle.checking.proofs.Promises.{given-known}
@@ -115,7 +115,7 @@ AllValued = Every (λ a. Valued (a .kind) (a .value))
 near-empty : NearState emptyState
 near-empty x h = subst Near (sym (getD-replicate VARIABLES x allIntegers noDomain h)) (record { lower = λ u e. absurd (no-int u e); upper = λ u e. absurd (no-int′ u e) })
 
-near-stepped : (s : VariableState) (a : Atom) → Accepted s → a .variable < VARIABLES → Valued (a .kind) (a .value) → NearState s → NearState (stepped s a .state)
+near-stepped : (s : VariableState) (a : Atom) → AcceptedState s → a .variable < VARIABLES → Valued (a .kind) (a .value) → NearState s → NearState (stepped s a .state)
 near-stepped s a acc k w n = stepped-case s a (λ r. NearState (r .state)) (λ _. n) (λ _ _ x h. by x h (bool (eqb x (a .variable)))) (λ _ _. n)
   where
     d : Domain
@@ -127,7 +127,7 @@ near-stepped s a acc k w n = stepped-case s a (λ r. NearState (r .state)) (λ _
         (near-applied (domainAt s (a .variable)) (a .kind) (a .value) (acc .each (a .variable) k .tight) (n (a .variable) k) w))
     by x h (inr m) = subst Near (sym (put-other s (a .variable) x d (eqb-false x (a .variable) m))) (n x h)
 
-near-all : (atoms : List Atom) → Known atoms → AllValued atoms → (s : VariableState) → Accepted s → NearState s → NearState (applyAll atoms s .state)
+near-all : (atoms : List Atom) → Known atoms → AllValued atoms → (s : VariableState) → AcceptedState s → NearState s → NearState (applyAll atoms s .state)
 near-all [] k w s acc n = subst (λ (r : Applied). NearState (r .state)) (sym (all-end s)) n
 near-all (a ∷ rest) k w s acc n = all-case s a rest (λ r. NearState (r .state))
     (λ _. near-all rest (k .1) (w .1) (stepped s a .state) (stepped-accepted s a acc (k .0)) (near-stepped s a acc (k .0) (w .0) n)) (λ _ _. n) (λ _ _. near-empty)

@@ -21,7 +21,7 @@ use Rattle.checking.specs.declared.variable_state.Application.the-varian
 use Rattle.checking.specs.declared.variable_state.Bound.{Bound}
 use Rattle.checking.specs.declared.variable_state.Bound.the-variants.{At}
 use Rattle.checking.specs.Bounds.{finite, lowerIn, upperIn}
-use Rattle.checking.specs.States.{Accepted, domainAt, boundOf, lowerOf, upperOf, prepared}
+use Rattle.checking.specs.States.{AcceptedState, domainAt, boundOf, lowerOf, upperOf, prepared}
 use Rattle.checking.specs.TaskBounds.{boundsBetween, taskBounds, boundsAt}
 use Rattle.checking.proofs.AcceptedStates.{state-accepted}
 use Rattle.checking.proofs.BoundLimits.{prepared-near}
@@ -30,11 +30,11 @@ use Rattle.checking.proofs.PreparedStates.{prepared-accepted, prepared-
 -- An accepted state ------------------------------------------------------------------------------------------------------------
 
 -- the query answers with the bound of the domain
-at : (side : Domain → IntExt) (s : VariableState) → Accepted s → (x : ℕ) → x < VARIABLES → boundOf side s (pos x) ≡ At (side (domainAt s x))
+at : (side : Domain → IntExt) (s : VariableState) → AcceptedState s → (x : ℕ) → x < VARIABLES → boundOf side s (pos x) ≡ At (side (domainAt s x))
 unfolding boundOf
 at side s a x h = rw (state-accepted (s .domains) a, number-right x h) refl
 
-pub bounds-at : (s : VariableState) → Accepted s → (x : ℕ) → x < VARIABLES → taskBounds (domainAt s x) ≡ boundsAt s x
+pub bounds-at : (s : VariableState) → AcceptedState s → (x : ℕ) → x < VARIABLES → taskBounds (domainAt s x) ≡ boundsAt s x
 bounds-at s a x h = ap₂ (λ (l u : Bound). boundsBetween (finite l) (finite u)) (sym (at lowerOf s a x h)) (sym (at upperOf s a x h))
 
 -- A prepared state -------------------------------------------------------------------------------------------------------------

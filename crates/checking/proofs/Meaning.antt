@@ -22,7 +22,7 @@ use Rattle.checking.specs.declared.variable_state.VariableState.{Variabl
 use Rattle.checking.specs.declared.variable_state.Application.{Application}
 use Rattle.checking.specs.declared.variable_state.Application.the-variants.{Consistent, Contradiction, Refused}
 use Rattle.checking.specs.declared.variable_state.Applied.{Applied}
-use Rattle.checking.specs.States.{Accepted, noDomain, domainAt, put, emptyState, stepped, applyAll}
+use Rattle.checking.specs.States.{AcceptedState, noDomain, domainAt, put, emptyState, stepped, applyAll}
 use Rattle.checking.specs.Answers.{applicationNumbers}
 use Rattle.checking.specs.Promises.{Narrows, Excludes, lacksRoom}
 use Rattle.checking.proofs.States.{put-same, put-other, stepped-case, stepped-accepted, all-case, all-end, all-consistent, all-contradiction, all-refused}
@@ -43,7 +43,7 @@ pub same-number : (x y : ℕ) → Refused x ≡ Refused y → x ≡ y
 same-number x y e = cc
 
 -- ---- one atom
-module _ (s : VariableState) (a : Atom) (acc : Accepted s) (known : a .variable < VARIABLES) where
+module _ (s : VariableState) (a : Atom) (acc : AcceptedState s) (known : a .variable < VARIABLES) where
   abbrev d : Domain
   d = domainAt s (a .variable)
 
@@ -102,7 +102,7 @@ module _ (s : VariableState) (a : Atom) (acc : Accepted s) (known : a .variable 
 abbrev pub Known : List Atom → Type 0
 Known = Every (λ a. a .variable < VARIABLES)
 
-pub all-admits : (atoms : List Atom) → Known atoms → (s : VariableState) → Accepted s → applyAll atoms s .answer ≡ Consistent
+pub all-admits : (atoms : List Atom) → Known atoms → (s : VariableState) → AcceptedState s → applyAll atoms s .answer ≡ Consistent
     → (x : ℕ) (z : ℤ) → Admitted (domainAt (applyAll atoms s .state) x) z ↔ (Admitted (domainAt s x) z × Admits atoms x z)
 all-admits [] k s acc e x z = subst (λ (r : Applied). Admitted (domainAt (r .state) x) z ↔ (Admitted (domainAt s x) z × Unit {0})) (sym (all-end s)) (λ m. (m, tt), λ m. m .0)
 all-admits (a ∷ rest) k s acc e x z =
@@ -135,10 +135,10 @@ pub record Stops (atoms : List Atom) (s : VariableState) : Type 0 where
   pub split : atoms ≡ before ++ (atom ∷ after)
   pub state : VariableState
   pub reached : applyAll before s ≡ record { answer = Consistent; state = state }
-  pub accepted-there : Accepted state
+  pub accepted-there : AcceptedState state
   pub known-there : atom .variable < VARIABLES
 
-abbrev here-stops : (a : Atom) (rest : List Atom) (s : VariableState) → Accepted s → a .variable < VARIABLES → Stops (a ∷ rest) s
+abbrev here-stops : (a : Atom) (rest : List Atom) (s : VariableState) → AcceptedState s → a .variable < VARIABLES → Stops (a ∷ rest) s
 here-stops a rest s acc k = record { before = []; atom = a; after = rest; split = refl; state = s; reached = all-end s; accepted-there = acc; known-there = k }
 
 abbrev later-stops : (a : Atom) (rest : List Atom) (s : VariableState) → stepped s a .answer ≡ Consistent → Stops rest (stepped s a .state) → Stops (a ∷ rest) s
@@ -153,7 +153,7 @@ later-stops a rest s n p = record {
   known-there = p .known-there;
 }
 
-pub all-contradiction-at : (atoms : List Atom) → Known atoms → (s : VariableState) → Accepted s → (y : ℕ) → applyAll atoms s .answer ≡ Contradiction y
+pub all-contradiction-at : (atoms : List Atom) → Known atoms → (s : VariableState) → AcceptedState s → (y : ℕ) → applyAll atoms s .answer ≡ Contradiction y
     → (p : Stops atoms s) × (p .atom .variable ≡ y) × (p .state ≡ applyAll atoms s .state) × Excludes (p .state) (p .atom)
 all-contradiction-at [] k s acc y = λ e. differ Consistent (Contradiction y) (sym (ap (λ (r : Applied). r .answer) (all-end s)) ∙ e) (omega arith)
 all-contradiction-at (a ∷ rest) k s acc y =
@@ -162,7 +162,7 @@ all-contradiction-at (a ∷ rest) k s acc y =
     (λ x n q. let (u, v, w) = step-contradiction s a acc (k .0) x n in (here-stops a rest s acc (k .0), sym u ∙ same-variable x y q, refl, w))
     (λ m _ q. differ (Refused m) (Contradiction y) q (omega arith))
 
-pub all-refused-at : (atoms : List Atom) → Known atoms → (s : VariableState) → Accepted s → (n : ℕ) → applyAll atoms s .answer ≡ Refused n
+pub all-refused-at : (atoms : List Atom) → Known atoms → (s : VariableState) → AcceptedState s → (n : ℕ) → applyAll atoms s .answer ≡ Refused n
     → (n ≡ 21) × (applyAll atoms s .state ≡ emptyState) × (p : Stops atoms s) × (lacksRoom (p .state) (p .atom) ≡ true)
 all-refused-at [] k s acc n = λ e. differ Consistent (Refused n) (sym (ap (λ (r : Applied). r .answer) (all-end s)) ∙ e) (omega arith)
 all-refused-at (a ∷ rest) k s acc n =

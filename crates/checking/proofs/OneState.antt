@@ -26,7 +26,7 @@ use Rattle.checking.proofs.Values.{some-value}
 use Rattle.checking.specs.declared.variable_state.VariableState.{VariableState}
 use Rattle.checking.specs.declared.variable_state.Application.the-variants.{Consistent, Contradiction, Refused}
 use Rattle.checking.specs.Shuffles.{Shuffled}
-use Rattle.checking.specs.States.{Accepted, domainAt, emptyState, stepped, appliedTo, applyAll, prepared}
+use Rattle.checking.specs.States.{AcceptedState, domainAt, emptyState, stepped, appliedTo, applyAll, prepared}
 use Rattle.checking.proofs.Meaning.{Known, all-append, step-admits, step-contradiction, step-refused}
 use Rattle.checking.proofs.PreparedStates.{prepared-accepted, prepared-admits, prepared-right, prepared-runs}
 use Rattle.checking.proofs.Promises.{prepare-means, given-known, same-state}
@@ -94,7 +94,7 @@ met-room d (suc (suc zero)) v h e = clash e refl
 met-room d (suc (suc (suc k))) v h e = h v (crowded-admits d v e) refl
 
 -- and changes nothing
-met-step : (s : VariableState) (a : Atom) → Accepted s → a .variable < VARIABLES → ((z : ℤ) → Admitted (domainAt s (a .variable)) z → Allows a z)
+met-step : (s : VariableState) (a : Atom) → AcceptedState s → a .variable < VARIABLES → ((z : ℤ) → Admitted (domainAt s (a .variable)) z → Allows a z)
     → (stepped s a .answer ≡ Consistent) × (stepped s a .state ≡ s)
 met-step s a acc h met = by (stepped s a .answer) refl
   where
@@ -108,7 +108,7 @@ met-step s a acc h met = by (stepped s a .answer) refl
     by (Refused n) e = absurd (met-room (domainAt s (a .variable)) (a .kind) (a .value) met (step-refused s a acc h n e .2))
 
 -- so with each atom of a list
-each-met : (atoms : List Atom) → Known atoms → (s : VariableState) → Accepted s → ((x : ℕ) → x < VARIABLES → (z : ℤ) → Admitted (domainAt s x) z → Admits atoms x z)
+each-met : (atoms : List Atom) → Known atoms → (s : VariableState) → AcceptedState s → ((x : ℕ) → x < VARIABLES → (z : ℤ) → Admitted (domainAt s x) z → Admits atoms x z)
     → Every (λ a. stepped s a ≡ record { answer = Consistent; state = s }) atoms
 each-met [] known s acc met = tt
 each-met (a ∷ rest) known s acc met =

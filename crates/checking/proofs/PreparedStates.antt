@@ -19,7 +19,7 @@ use Rattle.checking.specs.declared.variable_state.VariableState.{Variabl
 use Rattle.checking.specs.declared.variable_state.Application.the-variants.{Consistent, Refused}
 use Rattle.checking.specs.declared.variable_state.Applied.{Applied}
 use Rattle.checking.specs.Answers.{applicationNumbers}
-use Rattle.checking.specs.States.{Accepted, domainAt, emptyState, stepped, applyAll, prepared}
+use Rattle.checking.specs.States.{AcceptedState, domainAt, emptyState, stepped, applyAll, prepared}
 use Rattle.checking.proofs.Meaning.{differ, step-admits, step-contradiction, step-refused, Known, empty-admits}
 use Rattle.checking.proofs.Promises.{prepare-means, given-known}
 use Rattle.checking.proofs.States.{stepped-accepted, all-accepted, empty-accepted, all-case, all-end}
@@ -31,7 +31,7 @@ no-room d (suc zero) v h = refl
 no-room d (suc (suc zero)) v h = refl
 no-room d (suc (suc (suc k))) v h = absurd (omega arith)
 
-all-success : (atoms : List Atom) → Known atoms → Every (λ a. a .kind < 3) atoms → (s : VariableState) → Accepted s
+all-success : (atoms : List Atom) → Known atoms → Every (λ a. a .kind < 3) atoms → (s : VariableState) → AcceptedState s
     → ((x : ℕ) → x < VARIABLES → (z : ℤ) × Admitted (domainAt s x) z × Admits atoms x z) → applyAll atoms s .answer ≡ Consistent
 all-success [] k kinds s acc w = ap (λ (r : Applied). r .answer) (all-end s)
 all-success (a ∷ rest) k kinds s acc w = all-case s a rest (λ r. r .answer ≡ Consistent)
@@ -65,8 +65,8 @@ module _ (premises consequent : List ℤ) where
   pub prepared-right : prepared premises consequent .answer ≡ Consistent → rightLists premises consequent ≡ true
   prepared-right = ran (λ r. r .answer ≡ Consistent → rightLists premises consequent ≡ true) (λ r _. r) (λ n e. differ (Refused n) Consistent e (omega arith))
 
-  pub prepared-accepted : Accepted state
-  prepared-accepted = ran (λ r. Accepted (r .state)) (λ r. all-accepted atoms (given-known premises consequent r) emptyState empty-accepted) (λ _. empty-accepted)
+  pub prepared-accepted : AcceptedState state
+  prepared-accepted = ran (λ r. AcceptedState (r .state)) (λ r. all-accepted atoms (given-known premises consequent r) emptyState empty-accepted) (λ _. empty-accepted)
 
   pub prepared-proper : (x : ℕ) → x < VARIABLES → Proper (domainAt state x)
   prepared-proper x h = prepared-accepted .each x h

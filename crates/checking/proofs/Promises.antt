@@ -30,7 +30,7 @@ use Rattle.checking.specs.declared.variable_state.Truth.the-variants as 
 use Rattle.checking.specs.declared.variable_state.Bound.{Bound}
 use Rattle.checking.specs.declared.variable_state.Bound.the-variants as bound
 use Rattle.checking.specs.Answers.{applicationNumbers, AppliedAs, truthNumbers, boundNumbers}
-use Rattle.checking.specs.States.{Accepted, Sized, noDomain, domainAt, emptyState, accepted, stepped, appliedTo, truthOf, boundOf, lowerOf, upperOf, applyAll, prepared}
+use Rattle.checking.specs.States.{AcceptedState, Sized, noDomain, domainAt, emptyState, accepted, stepped, appliedTo, truthOf, boundOf, lowerOf, upperOf, applyAll, prepared}
 use Rattle.checking.specs.Promises.{lacksRoom, queryRefusal, EmptyMeans, ApplyMeans, TruthMeans, LowerMeans, UpperMeans, Reaches, PrepareMeans}
 use Rattle.checking.proofs.StateNumbers.{other-kind, applications-apart, ext-number, exts-apart}
 use Rattle.checking.proofs.AcceptedStates.{state-accepted, proper-state}
@@ -45,7 +45,7 @@ empty-promise r e = (e, subst EmptyMeans (sym e) (record { any = empty-admits; a
 applied-as : {r t : Applied} → r ≡ t → AppliedAs t r
 applied-as e = record { answer = ap (λ (a : Applied). applicationNumbers (a .answer)) e; state = ap (λ (a : Applied). a .state) e }
 
-module _ (s : VariableState) (x k v : ℤ) (proper : accepted (s .domains) ≡ true → Accepted s) where
+module _ (s : VariableState) (x k v : ℤ) (proper : accepted (s .domains) ≡ true → AcceptedState s) where
   is-refused : (n : ℕ) → n ≡ cond (accepted (s .domains)) (cond (rightAtom x k v) (cond (lacksRoom s (atomFrom x k v)) 21 0) 6) 22 → ApplyMeans s x k v (record { answer = Refused n; state = s })
   is-refused n e = record {
     number = e;
@@ -81,7 +81,7 @@ module _ (s : VariableState) (x k v : ℤ) (proper : accepted (s .domains) ≡ t
   apply-promise r e = (applied-as e, subst (ApplyMeans s x k v) (sym e) apply-means)
 
 -- ---- is_true
-module _ (s : VariableState) (x k v : ℤ) (proper : accepted (s .domains) ≡ true → Accepted s) where
+module _ (s : VariableState) (x k v : ℤ) (proper : accepted (s .domains) ≡ true → AcceptedState s) where
   truth-back : (n : ℕ) → n ≡ queryRefusal s (rightAtom x k v) → TruthMeans s x k v (truth.Refused n)
   truth-back n e = record { number = e; holds = λ q. other-kind (refusedBy n) (answered 0 []) q (omega arith); fails = λ q. other-kind (refusedBy n) (answered 1 []) q (omega arith) }
 
@@ -108,7 +108,7 @@ module _ (s : VariableState) (x k v : ℤ) (proper : accepted (s .domains) ≡ t
   truth-promise r e = (ap truthNumbers e, subst (TruthMeans s x k v) (sym e) truth-means)
 
 -- ---- bounds
-module _ (s : VariableState) (x : ℤ) (proper : accepted (s .domains) ≡ true → Accepted s) where
+module _ (s : VariableState) (x : ℤ) (proper : accepted (s .domains) ≡ true → AcceptedState s) where
   abbrev d : Domain
   d = domainAt s (natAbs x)
 
@@ -221,7 +221,7 @@ module _ (premises consequent : List ℤ) where
   prepare-promise r e = (applied-as e, subst (PrepareMeans premises consequent) (sym e) prepare-means)
 
 -- ---- canonical: two accepted states admit the same values for every variable exactly when they are equal
-pub same-state : (s t : VariableState) → Accepted s → Accepted t → ((x : ℕ) → x < VARIABLES → (z : ℤ) → Admitted (domainAt s x) z ↔ Admitted (domainAt t x) z) → s ≡ t
+pub same-state : (s t : VariableState) → AcceptedState s → AcceptedState t → ((x : ℕ) → x < VARIABLES → (z : ℤ) → Admitted (domainAt s x) z ↔ Admitted (domainAt t x) z) → s ≡ t
 same-state s t a b same = λ i. record {
   domains = ext-getD noDomain (s .domains) (t .domains) (a .size ∙ sym (b .size))
       (λ x h. let l : x < VARIABLES = omega (arith, a .size) in same-values (domainAt s x) (domainAt t x) (a .each x l) (b .each x l) (λ z. same x l z .0) (λ z. same x l z .1)) i;

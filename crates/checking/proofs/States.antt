@@ -24,7 +24,7 @@ use Rattle.checking.specs.declared.variable_state.VariableState.{Variabl
 use Rattle.checking.specs.declared.variable_state.Application.{Application}
 use Rattle.checking.specs.declared.variable_state.Application.the-variants.{Consistent, Contradiction, Refused}
 use Rattle.checking.specs.declared.variable_state.Applied.{Applied}
-use Rattle.checking.specs.States.{Accepted, noDomain, domainAt, put, emptyState, outcome, stepped, applyAll}
+use Rattle.checking.specs.States.{AcceptedState, noDomain, domainAt, put, emptyState, outcome, stepped, applyAll}
 
 -- ---- what an atom does to a domain, by cases
 module _ (d : Domain) (k : ℕ) (v : ℤ) where
@@ -55,7 +55,7 @@ module _ (d : Domain) (k : ℕ) (v : ℤ) where
 pub all-tight : Tight allIntegers
 all-tight = made-tight NegativeInf PositiveInf [] refl refl (omega arith) tt (λ h m. absurd (has-none h m))
 
-pub empty-accepted : Accepted emptyState
+pub empty-accepted : AcceptedState emptyState
 empty-accepted = record {
   size = length-replicate VARIABLES allIntegers;
   each = λ x h. subst Proper (sym (getD-replicate VARIABLES x allIntegers noDomain h)) (record { tight = all-tight; ordered = refl });
@@ -67,7 +67,7 @@ put-same s x d h = getD-set-same (s .domains) x d noDomain h
 pub put-other : (s : VariableState) (x y : ℕ) (d : Domain) → (y ≡ x → ⊥) → domainAt (put s x d) y ≡ domainAt s y
 put-other s x y d n = getD-set-other (s .domains) x y d noDomain n
 
-pub put-accepted : (s : VariableState) (x : ℕ) (d : Domain) → Accepted s → x < VARIABLES → Proper d → Accepted (put s x d)
+pub put-accepted : (s : VariableState) (x : ℕ) (d : Domain) → AcceptedState s → x < VARIABLES → Proper d → AcceptedState (put s x d)
 put-accepted s x d a h p = record {
   size = length-set (s .domains) x d ∙ a .size;
   each = λ y l. by y l (bool (eqb y x));
@@ -152,12 +152,12 @@ pub stepped-case : (s : VariableState) (a : Atom) (P : Applied → Type 0)
 unfolding stepped
 stepped-case s a P f g h = reduced-case (domainAt s (a .variable)) (a .kind) (a .value) (λ r. P (outcome s a r)) f g h
 
-pub stepped-accepted : (s : VariableState) (a : Atom) → Accepted s → a .variable < VARIABLES → Accepted (stepped s a .state)
-stepped-accepted s a acc h = stepped-case s a (λ r. Accepted (r .state)) (λ _. acc)
+pub stepped-accepted : (s : VariableState) (a : Atom) → AcceptedState s → a .variable < VARIABLES → AcceptedState (stepped s a .state)
+stepped-accepted s a acc h = stepped-case s a (λ r. AcceptedState (r .state)) (λ _. acc)
     (λ p q. put-accepted s (a .variable) (applied (domainAt s (a .variable)) (a .kind) (a .value)) acc h
     (record { tight = applied-tight (domainAt s (a .variable)) (a .kind) (a .value) (acc .each (a .variable) h .tight) p; ordered = q })) (λ _ _. acc)
 
-pub all-accepted : (atoms : List Atom) → Every (λ a. a .variable < VARIABLES) atoms → (s : VariableState) → Accepted s → Accepted (applyAll atoms s .state)
-all-accepted [] k s acc = subst (λ (r : Applied). Accepted (r .state)) (sym (all-end s)) acc
-all-accepted (a ∷ rest) k s acc = all-case s a rest (λ r. Accepted (r .state)) (λ _. all-accepted rest (k .1) (stepped s a .state) (stepped-accepted s a acc (k .0))) (λ _ _. acc)
+pub all-accepted : (atoms : List Atom) → Every (λ a. a .variable < VARIABLES) atoms → (s : VariableState) → AcceptedState s → AcceptedState (applyAll atoms s .state)
+all-accepted [] k s acc = subst (λ (r : Applied). AcceptedState (r .state)) (sym (all-end s)) acc
+all-accepted (a ∷ rest) k s acc = all-case s a rest (λ r. AcceptedState (r .state)) (λ _. all-accepted rest (k .1) (stepped s a .state) (stepped-accepted s a acc (k .0))) (λ _ _. acc)
     (λ _ _. empty-accepted)

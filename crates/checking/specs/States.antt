@@ -1,7 +1,7 @@
 -- The variable state: which states are accepted, and what the open calls answer. Each definition takes its tests in the order in which
 -- they are tried: 22 where a state is given, 7 where a list is, 6, then 21 or a contradiction, atom by atom.
 use mathlib.Core.Path.{_≡_}
-use mathlib.Core.Bool.{Bool, true, false, cond, _&&_}
+use mathlib.Core.Bool.{Bool, true, cond, _&&_}
 use mathlib.Core.List.{List, [], _∷_}
 use Prim.Native.Nat.{ℕ, _+_, _*_, _<_}
 use lib.Dec.{ltb}
@@ -24,6 +24,8 @@ use Rattle.checking.specs.declared.variable_state.Truth.{Truth}
 use Rattle.checking.specs.declared.variable_state.Truth.the-variants as truth
 use Rattle.checking.specs.declared.variable_state.Bound.{Bound}
 use Rattle.checking.specs.declared.variable_state.Bound.the-variants as bound
+use Rattle.checking.specs.declared.variable_state.Side.{Side}
+use Rattle.checking.specs.declared.variable_state.Side.the-variants.{Lower, Upper}
 
 -- States -----------------------------------------------------------------------------------------------------------------------
 
@@ -58,8 +60,8 @@ pub record AllProper (ds : List Domain) : Type 0 where
   pub size : length ds ≡ VARIABLES
   pub each : (x : ℕ) → x < VARIABLES → Proper (getD ds x noDomain)
 
-abbrev pub Accepted : VariableState → Type 0
-Accepted s = AllProper (s .domains)
+abbrev pub AcceptedState : VariableState → Type 0
+AcceptedState s = AllProper (s .domains)
 
 -- One atom ---------------------------------------------------------------------------------------------------------------------
 
@@ -74,7 +76,7 @@ outcome s a r = elim (r .effect) [
 unfoldable pub stepped : VariableState → Atom → Applied
 stepped s a = outcome s a (reduced (domainAt s (a .variable)) (a .kind) (a .value))
 
--- apply: a refusal and a contradiction hand back the state given
+-- apply: a refusal and a contradiction return the state given
 unfoldable pub appliedTo : VariableState → ℤ → ℤ → ℤ → Applied
 appliedTo s x k v =
     cond (accepted (s .domains))
@@ -95,9 +97,9 @@ lowerOf d = d .«lower_bound»
 abbrev pub upperOf : Domain → IntExt
 upperOf d = d .«upper_bound»
 
-abbrev pub sideOf : Bool → Domain → IntExt
-sideOf true = lowerOf
-sideOf false = upperOf
+abbrev pub sideOf : Side → Domain → IntExt
+sideOf Lower = lowerOf
+sideOf Upper = upperOf
 
 unfoldable pub boundOf : (Domain → IntExt) → VariableState → ℤ → Bound
 boundOf side s x = cond (accepted (s .domains)) (cond (rightVariable x) (bound.At (side (domainAt s (natAbs x)))) (bound.Refused refused.ATOMS))
@@ -105,7 +107,7 @@ boundOf side s x = cond (accepted (s .domains)) (cond (rightVariable x) (bound.A
 
 -- A list of atoms --------------------------------------------------------------------------------------------------------------
 
--- Atom by atom: a contradiction hands back the state before the failing atom, and a refusal the empty state.
+-- Atom by atom: a contradiction returns the state before the failing atom, and a refusal the empty state.
 unfoldable pub applyAll : List Atom → VariableState → Applied
 applyAll [] s = record { answer = application.Consistent; state = s }
 applyAll (a ∷ rest) s = elim (stepped s a .answer) [

@@ -74,7 +74,7 @@ pub fn atom_is_accepted(variable: i32, kind: i32, value: i32) -> bool
 }
 
 // Whether the words are a multiple of three, and every three of them an atom.
-pub fn words_are_accepted(words: &[i32]) -> bool
+fn words_are_accepted(words: &[i32]) -> bool
     ensures { λ r. ⌜ r ≡ rightWords (now (words .entry)) ⌝ }
 {
     let mut i = 0;
@@ -91,7 +91,7 @@ pub fn words_are_accepted(words: &[i32]) -> bool
 }
 
 // The atom of the three words from place i on.
-pub fn atom_at(words: &[i32], i: usize) -> AtomicConstraint
+fn atom_at(words: &[i32], i: usize) -> AtomicConstraint
     requires { ⌜ (i + 3 ≤ length (now words)) × (rightWords (drop i (now words)) ≡ true) ⌝ }
     ensures { λ r. ⌜ atomOf r ≡ atomAt (now (words .entry)) i ⌝ }
 {
@@ -100,7 +100,7 @@ pub fn atom_at(words: &[i32], i: usize) -> AtomicConstraint
 
 impl AtomicConstraint {
     // The atom of three words.
-    pub fn new(variable: i32, kind: i32, value: i32) -> AtomicConstraint
+    pub(crate) fn new(variable: i32, kind: i32, value: i32) -> AtomicConstraint
         requires { ⌜ rightAtom variable kind value ≡ true ⌝ }
         ensures { λ r. ⌜ atomOf r ≡ atomFrom variable kind value ⌝ }
     {
@@ -112,7 +112,7 @@ impl AtomicConstraint {
     }
 
     // The strongest atom that excludes this one.
-    pub fn negate(self) -> AtomicConstraint
+    fn negate(self) -> AtomicConstraint
         requires { ⌜ Within VALUE (self .value) ⌝ }
         ensures { λ r. ⌜ atomOf r ≡ negation (atomOf self) ⌝ }
     {
@@ -145,7 +145,7 @@ impl AtomicConstraint {
 }
 
 // The atom of the three words from place i on, of the premises' words followed by the consequent's, whose atom is negated.
-pub fn given_at(premises: &[i32], consequent: &[i32], i: usize) -> AtomicConstraint
+pub(crate) fn given_at(premises: &[i32], consequent: &[i32], i: usize) -> AtomicConstraint
     requires { ⌜ (i < length (now premises) + length (now consequent)) × (rightFrom (now premises) (now consequent) i ≡ true) ⌝ }
     ensures { λ r. ⌜ atomOf r ≡ givenAt (now (premises .entry)) (now (consequent .entry)) i ⌝ }
 {
@@ -156,7 +156,7 @@ pub fn given_at(premises: &[i32], consequent: &[i32], i: usize) -> AtomicConstra
 }
 
 // Whether the premises are atoms, and the consequent one atom or none.
-pub fn lists_are_accepted(premises: &[i32], consequent: &[i32]) -> bool
+pub(crate) fn lists_are_accepted(premises: &[i32], consequent: &[i32]) -> bool
     ensures { λ r. ⌜ r ≡ rightLists (now (premises .entry)) (now (consequent .entry)) ⌝ }
 {
     if !words_are_accepted(premises) {

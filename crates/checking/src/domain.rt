@@ -28,14 +28,14 @@ pub enum Effect {
     Full,
 }
 
-// The effect, and the domain after it, crossed where no value is left; where there is no room, the domain as it was.
+// The effect, and the domain after it, crossed where no value is left; where there is no room, the domain unchanged.
 pub struct Reduced {
     pub effect: Effect,
     pub domain: Domain,
 }
 
 impl Domain {
-    pub fn all_integers() -> Domain
+    pub(crate) fn all_integers() -> Domain
         ensures { λ r. ⌜ r ≡ allIntegers ⌝ }
     {
         Domain {
@@ -194,7 +194,7 @@ impl Domain {
     }
 
     // Apply an atom on this domain's variable.
-    pub fn apply(self, comparison: Comparison, value: i32) -> Reduced
+    pub(crate) fn apply(self, comparison: Comparison, value: i32) -> Reduced
         requires { ⌜ Tight self × Within (VALUE + 1) value ⌝ }
         ensures { λ r. ⌜ r ≡ reduced self (kindOf comparison) value ⌝ }
     {
@@ -220,7 +220,7 @@ impl Domain {
     }
 
     // Whether every value of the domain meets an atom on its variable.
-    pub fn is_true(self, comparison: Comparison, value: i32) -> bool
+    pub(crate) fn is_true(self, comparison: Comparison, value: i32) -> bool
         requires { ⌜ Tight self ⌝ }
         ensures { λ r. ⌜ r ≡ isTrue self (kindOf comparison) value ⌝ }
     {
@@ -251,7 +251,7 @@ impl Domain {
     }
 
     // Whether the domain is one that a call may be given.
-    pub fn is_accepted(self) -> bool
+    pub(crate) fn is_accepted(self) -> bool
         ensures { λ r. ⌜ (r ≡ acceptedDomain self) × (r ≡ true → length (self .holes) ≡ HOLES) ⌝ }
     {
         let lower_bound = self.lower_bound;

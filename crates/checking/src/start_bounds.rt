@@ -1,4 +1,4 @@
-// The bounds that a state leaves to the tasks' starts, as moments: who checks asks for them here.
+// The bounds that a state leaves to the tasks' starts, as moments.
 use crate::domain::Domain;
 use crate::int_ext::IntExt;
 use crate::variable_state::VariableState;
@@ -6,7 +6,7 @@ use integers::limits::TASKS;
 ghost use mathlib.Core.Path.{_≡_};
 ghost use Prim.Native.Nat.{_≤_};
 ghost use Rattle.integers.specs.Limits.{TASKS};
-ghost use Rattle.checking.specs.States.{Accepted};
+ghost use Rattle.checking.specs.States.{AcceptedState};
 ghost use Rattle.checking.specs.TaskBounds.{noBounds, taskBounds, boundsOf};
 
 // Both bounds of one start, where they are finite; else 0.
@@ -57,7 +57,7 @@ fn task_bounds(domain: Domain) -> TaskBounds
 
 // The bounds of the first n variables, which are the tasks' starts.
 pub fn bounds_of(state: VariableState, n: usize) -> Bounds
-    requires { ⌜ (n ≤ TASKS) × Accepted state ⌝ }
+    requires { ⌜ (n ≤ TASKS) × AcceptedState state ⌝ }
     ensures { λ r. ⌜ r ≡ boundsOf state n ⌝ }
 {
     let mut bounded = [false; TASKS];

@@ -21,8 +21,8 @@ ghost use Rattle.integers.specs.WholeNumbers.{Within};
 ghost use Rattle.checking.specs.Atoms.{atomOf, atomsOf, consequentOf, rightLists};
 ghost use Rattle.checking.specs.Answers.{truthNumbers, boundNumbers, AppliedAs};
 ghost use Rattle.checking.specs.Promises.{EmptyMeans, ApplyMeans, TruthMeans, LowerMeans, UpperMeans, PrepareMeans};
-ghost use Rattle.checking.specs.States.{emptyState, accepted, stepped, appliedTo, truthOf, boundOf, applyAll, prepared, AllProper, Accepted, lowerOf};
-ghost use Rattle.checking.specs.States.{upperOf, sideOf};
+ghost use Rattle.checking.specs.States.{emptyState, accepted, stepped, appliedTo, truthOf, boundOf, applyAll, prepared, AllProper, AcceptedState};
+ghost use Rattle.checking.specs.States.{lowerOf, upperOf, sideOf};
 
 // The domains of the variables, by number. An unmentioned variable may be any integer.
 pub struct VariableState {
@@ -55,9 +55,15 @@ pub enum Bound {
     Refused(u32),
 }
 
+// Which of the two bounds.
+pub enum Side {
+    Lower,
+    Upper,
+}
+
 impl VariableState {
-    // The state in which every variable may be any integer.
-    pub fn empty() -> VariableState
+    // The empty state, in which every variable may be any integer: the source's `Default`.
+    pub fn default() -> VariableState
         ensures equals { λ r. ⌜ r ≡ emptyState ⌝ }
         ensures means { λ r. ⌜ EmptyMeans r ⌝ }
     {
@@ -69,7 +75,7 @@ impl VariableState {
 
     // Whether the state is one that a call may be given.
     fn is_accepted(self) -> bool
-        ensures { λ r. ⌜ (r ≡ accepted (self .domains)) × (r ≡ true → Accepted self) ⌝ }
+        ensures { λ r. ⌜ (r ≡ accepted (self .domains)) × (r ≡ true → AcceptedState self) ⌝ }
     {
         let domains = self.domains;
         domains_are_accepted(domains)
@@ -77,7 +83,7 @@ impl VariableState {
 
     // Apply one atom.
     fn apply_atom(mut self, atom: AtomicConstraint) -> Applied
-        requires { ⌜ Accepted self × ((atom .identifier < VARIABLES) × Within (VALUE + 1) (atom .value)) ⌝ }
+        requires { ⌜ AcceptedState self × ((atom .identifier < VARIABLES) × Within (VALUE + 1) (atom .value)) ⌝ }
         ensures { λ r. ⌜ r ≡ stepped self (atomOf atom) ⌝ }
     {
         let x = atom.identifier;
@@ -106,7 +112,7 @@ impl VariableState {
         }
     }
 
-    // Apply the atom (variable, kind, value). A contradiction and a refusal hand back the state as it was.
+    // Apply the atom (variable, kind, value). A contradiction and a refusal return the state unchanged.
     pub fn apply(self, variable: i32, kind: i32, value: i32) -> Applied
         ensures equals { λ r. ⌜ AppliedAs (appliedTo self variable kind value) r ⌝ }
         ensures means { λ r. ⌜ ApplyMeans self variable kind value r ⌝ }
@@ -126,7 +132,7 @@ impl VariableState {
         self.apply_atom(AtomicConstraint::new(variable, kind, value))
     }
 
-    // Is the atom (variable, kind, value) true of every admitted value?
+    // Whether the atom (variable, kind, value) is true of every admitted value.
     pub fn is_true(self, variable: i32, kind: i32, value: i32) -> Truth
         ensures equals { λ r. ⌜ truthNumbers r ≡ truthNumbers (truthOf self variable kind value) ⌝ }
         ensures means { λ r. ⌜ TruthMeans self variable kind value r ⌝ }
@@ -147,9 +153,9 @@ impl VariableState {
         Truth::False
     }
 
-    // A variable's lower bound, or its upper bound.
-    fn bound_of(self, variable: i32, lower: bool) -> Bound
-        ensures { λ r. ⌜ (r ≡ boundOf (sideOf lower) self variable) × (accepted (self .domains) ≡ true → Accepted self) ⌝ }
+    // The bound of a variable on one side.
+    pub fn bound(self, side: Side, variable: i32) -> Bound
+        ensures { λ r. ⌜ (r ≡ boundOf (sideOf side) self variable) × (accepted (self .domains) ≡ true → AcceptedState self) ⌝ }
     {
         if !self.is_accepted() {
             return Bound::Refused(refused::STATE);
@@ -161,10 +167,10 @@ impl VariableState {
         let domain = self.domains[x];
         let lower_bound = domain.lower_bound;
         let upper_bound = domain.upper_bound;
-        if lower {
-            return Bound::At(lower_bound);
+        match side {
+            Side::Lower => Bound::At(lower_bound),
+            Side::Upper => Bound::At(upper_bound),
         }
-        Bound::At(upper_bound)
     }
 
     // The least value of a variable, or minus infinity.
@@ -172,7 +178,7 @@ impl VariableState {
         ensures equals { λ r. ⌜ boundNumbers r ≡ boundNumbers (boundOf lowerOf self variable) ⌝ }
         ensures means { λ r. ⌜ LowerMeans self variable r ⌝ }
     {
-        self.bound_of(variable, true)
+        self.bound(Side::Lower, variable)
     }
 
     // The greatest value of a variable, or plus infinity.
@@ -180,11 +186,11 @@ impl VariableState {
         ensures equals { λ r. ⌜ boundNumbers r ≡ boundNumbers (boundOf upperOf self variable) ⌝ }
         ensures means { λ r. ⌜ UpperMeans self variable r ⌝ }
     {
-        self.bound_of(variable, false)
+        self.bound(Side::Upper, variable)
     }
 
-    // Apply the premises and, if present, the negated consequent, one after the other, from the empty state. Its domains are narrowed in an array and copied
-    // once, into what is returned.
+    // Apply the premises and, if present, the negated consequent, one after the other, from the empty state. The domains are narrowed in an array, which is
+    // copied once, into the state returned.
     fn apply_all(premises: &[i32], consequent: &[i32]) -> Applied
         requires { ⌜ (length (now premises) ≤ 3 * PREMISES + 2) × (rightLists (now premises) (now consequent) ≡ true) ⌝ }
         ensures { λ r. ⌜ r ≡ applyAll (given (atomsOf (now (premises .entry))) (consequentOf (now (consequent .entry)))) emptyState ⌝ }
@@ -215,7 +221,7 @@ impl VariableState {
                 Effect::Full => {
                     return Applied {
                         answer: Application::Refused(refused::HOLES),
-                        state: VariableState::empty(),
+                        state: VariableState::default(),
                     };
                 }
             }
@@ -228,7 +234,7 @@ impl VariableState {
     }
 
     // The state after all the premises and, if present, the negated consequent. A contradiction names the variable of the first failing atom
-    // and hands back the state before it; a refusal hands back the empty state.
+    // and returns the state before it; a refusal returns the empty state.
     pub fn prepare_for_conflict_check(premises: &[i32], consequent: &[i32]) -> Applied
         ensures equals { λ r. ⌜ AppliedAs (prepared (now (premises .entry)) (now (consequent .entry))) r ⌝ }
         ensures means { λ r. ⌜ PrepareMeans (now (premises .entry)) (now (consequent .entry)) r ⌝ }
@@ -236,13 +242,13 @@ impl VariableState {
         if 3 * PREMISES + 2 < premises.len() {
             return Applied {
                 answer: Application::Refused(refused::PREMISES),
-                state: VariableState::empty(),
+                state: VariableState::default(),
             };
         }
         if !lists_are_accepted(premises, consequent) {
             return Applied {
                 answer: Application::Refused(refused::ATOMS),
-                state: VariableState::empty(),
+                state: VariableState::default(),
             };
         }
         VariableState::apply_all(premises, consequent)

@@ -10,9 +10,9 @@ ghost use Prim.Native.Nat.{_≤_};
 ghost use Rattle.integers.specs.Limits.{TASKS};
 ghost use Rattle.ranges.specs.TakenApart.{firstEarliest, firstLatest};
 ghost use Rattle.charges.specs.Charges.{Charged};
-ghost use Rattle.free_starts.specs.FreeStarts.{Answered as FreeStartAnswered};
+ghost use Rattle.free_starts.specs.FreeStarts.{FreeStartAnswered};
 ghost use Rattle.pages.specs.Pages.{Paged};
-ghost use Rattle.busiest_stretch.specs.Stretches.{Answered as BusiestAnswered};
+ghost use Rattle.busiest_stretch.specs.Stretches.{BusiestAnswered};
 
 // The page of the first `count` places of the arrays.
 pub fn page_core(record: DisjunctivePropagator, starts: Starts, out: &mut [u8]) -> Page

@@ -21,7 +21,7 @@ use Rattle.fixed_schedules.specs.Neighbours.{Started, Listed, inMoments}
 use Rattle.fixed_schedules.proofs.ScheduleOrder.{start-above, start-moment, ordered, order-length, key-at, ordered-moments}
 
 -- The tasks M are the tasks J, with the moments of their starts.
-pub record Told (o : ℕ) (J : Tasks whole) (M : Tasks natural) : Type 0 where
+pub record AtMoments (o : ℕ) (J : Tasks whole) (M : Tasks natural) : Type 0 where
   pub count : M .count ≡ J .count
   pub above : (k : ℕ) → k < J .count → Above o (J .earliest k)
   pub start : (k : ℕ) → k < J .count → M .earliest k ≡ moment o (J .earliest k)
@@ -51,8 +51,8 @@ module _ (r : DisjunctivePropagator) (es ls : List ℤ) (a : AcceptedInput r es 
 
   -- the array of moments has those of the starts
   module _ (starts : List ℕ) (s : starts ≡ filled (momentAt es) (length es) noTasks) where
-    pub told : Told zeroAt (tasksOn r es ls) (inMoments (r .count) starts (r .durations))
-    told = record {
+    pub at-moments : AtMoments zeroAt (tasksOn r es ls) (inMoments (r .count) starts (r .durations))
+    at-moments = record {
       count = refl;
       above = λ k q. start-above (startAt es k) (a .starts .earliest k (omega (arith, a .counts .earliest)));
       start = λ k q. key-at es starts (started .few) s k (omega (arith, a .counts .earliest));
@@ -68,12 +68,12 @@ module _ (r : DisjunctivePropagator) (es ls : List ℤ) (a : AcceptedInput r es 
     unfolding up dn
     moment-low k q = omega (
       ints,
-      told .start k q,
-      at-moment zeroAt (startAt es k) (told .above k q),
+      at-moments .start k q,
+      at-moment zeroAt (startAt es k) (at-moments .above k q),
       a .starts .earliest k (omega (arith, a .counts .earliest)) .low,
       up-neg (pos START),
       dn-neg (pos START),
     )
 
     pub moment-high : (k : ℕ) → k < r .count → getD starts k 0 ≤ zeroAt + START
-    moment-high k q = omega (arith, told .start k q, start-moment (startAt es k) (a .starts .earliest k (omega (arith, a .counts .earliest))))
+    moment-high k q = omega (arith, at-moments .start k q, start-moment (startAt es k) (a .starts .earliest k (omega (arith, a .counts .earliest))))

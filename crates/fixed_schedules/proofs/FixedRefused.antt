@@ -19,7 +19,13 @@ use Rattle.records.specs.Records.{Lawful}
 use Rattle.records.specs.Refusals.{rangeTests, rangeNumber, CountsFit, StartsFit, RangesFit}
 use Rattle.records.proofs.RefusedRuns.{passed-ranges, range-20, range-10, range-3, range-4, range-holds, range-many}
 use Rattle.fixed_schedules.specs.FixedSchedules.{startAt, sameStart, oneStartAt, apartAt, allApart, fixedTests, fixedNumber, tasksOn, Fixed, AcceptedFixed}
+use Rattle.fixed_schedules.specs.declared.refusals.FixedOrder.{FixedOrder}
+use Rattle.fixed_schedules.specs.Neighbours.{Tested}
 use Rattle.fixed_schedules.proofs.Neighbours.{apart-read, apart-show}
+
+-- a schedule that a number refuses may have any order
+pub tested-not : {es : List ℤ} {m n : ℕ} {r : FixedOrder} → r .number ≡ n → (n ≡ 0 → ⊥) → n ≡ m → Tested es m r
+tested-not e not z = record { number = e ∙ z; order = λ y. absurd (not (z ∙ y)) }
 
 same-is : (a b : ℤ) → sameStart a b ≡ true ↔ (a ≡ b)
 same-is a b = (

@@ -2,4 +2,4 @@ pub mod ScheduleOrder
 pub mod Neighbours
 pub mod FixedRefused
 pub mod AcceptedSchedules
-pub mod AskedMoments
+pub mod ParameterMoments

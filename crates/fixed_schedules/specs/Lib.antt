@@ -1,4 +1,4 @@
 pub mod FixedSchedules
 pub mod Neighbours
-pub mod Asked
+pub mod Parameters
 pub mod Examples

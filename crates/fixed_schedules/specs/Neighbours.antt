@@ -1,14 +1,16 @@
--- What the functions on a fixed schedule take for given, and what the test of neighbours is.
+-- What the functions on a fixed schedule take for given and answer, and what the test of neighbours is.
+use mathlib.Core.Path.{_≡_}
 use mathlib.Core.Bool.{Bool}
 use mathlib.Core.List.{List}
 use Prim.Native.Nat.{ℕ, _+_, _≤_, _<_}
 use lib.IntN.{ℤ}
 use lib.Signed.{leZ}
-use lib.ListN.{length, getD}
+use lib.ListN.{length, getD, take}
 use Rattle.integers.specs.Limits.{TASKS, DURATIONS}
 use Rattle.scheduling.specs.Scheduling.{natural, Tasks}
 use Rattle.records.specs.Refusals.{StartFits}
-use Rattle.fixed_schedules.specs.FixedSchedules.{startAt, endAt}
+use Rattle.fixed_schedules.specs.declared.refusals.FixedOrder.{FixedOrder}
+use Rattle.fixed_schedules.specs.FixedSchedules.{startAt, endAt, orderOf}
 
 -- Few tasks, with starts within the limits.
 pub record Started (es : List ℤ) : Type 0 where
@@ -29,3 +31,8 @@ inMoments n starts ds = record { count = n; earliest = λ k. getD starts k 0; la
 -- the task at place t of an order ends by the start of the next
 abbrev pub neighboursApart : List ℕ → List ℤ → List ℕ → ℕ → Bool
 neighboursApart order es ds t = leZ (endAt ds es (getD order t 0)) (startAt es (getD order (t + 1) 0))
+
+-- The number is m; and where that is 0, the order's first places have the tasks by start.
+pub record Tested (es : List ℤ) (m : ℕ) (r : FixedOrder) : Type 0 where
+  pub number : r .number ≡ m
+  pub order : m ≡ 0 → take (length es) (r .order) ≡ orderOf es

@@ -18,37 +18,37 @@ use Rattle.records.specs.declared.record.DisjunctivePropagator.{DisjunctiveProp
 use Rattle.records.specs.Records.{durationOf}
 use Rattle.fixed_schedules.specs.FixedSchedules.{orderOf, tasksOn, AcceptedFixed}
 use Rattle.fixed_schedules.specs.Neighbours.{inMoments}
-use Rattle.fixed_schedules.specs.Asked.{MomentFits, LengthFits}
-use Rattle.fixed_schedules.proofs.AcceptedSchedules.{Told, input-of, short, told, by-moments, moment-high}
-use Rattle.fixed_schedules.proofs.AskedMoments.{asked-above, asked-moment}
+use Rattle.fixed_schedules.specs.Parameters.{MomentFits, LengthFits}
+use Rattle.fixed_schedules.proofs.AcceptedSchedules.{AtMoments, input-of, short, at-moments, by-moments, moment-high}
+use Rattle.fixed_schedules.proofs.ParameterMoments.{parameter-above, parameter-moment}
 use Rattle.free_starts.specs.declared.FreeStart.{FreeStart}
 use Rattle.free_starts.specs.declared.FreeStart.the-variants.{At, Refused}
 use Rattle.free_starts.specs.Numbers.{freeStartNumbers}
-use Rattle.free_starts.specs.FreeStarts.{LATEST, Free, EarliestFree, freeNumber, Found, Answered}
-use Rattle.free_starts.specs.StartMoments.{Askable}
+use Rattle.free_starts.specs.FreeStarts.{LATEST, Free, EarliestFree, freeNumber, FreeStartFound, FreeStartAnswered}
+use Rattle.free_starts.specs.StartMoments.{Searchable}
 use Rattle.free_starts.proofs.FreeStartRefused.{free-many}
 
 -- ---- the tasks J of whole numbers, and M of their moments
-module _ (o : ℕ) (J : Tasks whole) (M : Tasks natural) (told : Told o J M) where
+module _ (o : ℕ) (J : Tasks whole) (M : Tasks natural) (at-moments : AtMoments o J M) where
   free-up : (d m : ℕ) → Free M d m → Free J d (instant o m)
   unfolding up dn
   free-up d m f k q =
       let a = at-moment o (instant o m) (instant-above o m) in
-      let b = at-moment o (J .earliest k) (told .above k q) in
+      let b = at-moment o (J .earliest k) (at-moments .above k q) in
       ⊎-elim
-      (λ h. inl (omega (ints, h, a, b, moment-instant o m, told .start k q, sumℤ (instant o m) (pos d))))
-      (λ h. inr (omega (ints, h, a, b, moment-instant o m, told .start k q, told .lasts k q, sumℤ (J .earliest k) (pos (J .duration k)))))
-      (f k (omega (arith, told .count)))
+      (λ h. inl (omega (ints, h, a, b, moment-instant o m, at-moments .start k q, sumℤ (instant o m) (pos d))))
+      (λ h. inr (omega (ints, h, a, b, moment-instant o m, at-moments .start k q, at-moments .lasts k q, sumℤ (J .earliest k) (pos (J .duration k)))))
+      (f k (omega (arith, at-moments .count)))
 
   free-down : (d : ℕ) (u : ℤ) → Above o u → Free J d u → Free M d (moment o u)
   unfolding up dn
   free-down d u p f k q =
-      let r : k < J .count = omega (arith, told .count) in
+      let r : k < J .count = omega (arith, at-moments .count) in
       let a = at-moment o u p in
-      let b = at-moment o (J .earliest k) (told .above k r) in
+      let b = at-moment o (J .earliest k) (at-moments .above k r) in
       ⊎-elim
-      (λ h. inl (omega (ints, h, a, b, told .start k r, sumℤ u (pos d))))
-      (λ h. inr (omega (ints, h, a, b, told .start k r, told .lasts k r, sumℤ (J .earliest k) (pos (J .duration k)))))
+      (λ h. inl (omega (ints, h, a, b, at-moments .start k r, sumℤ u (pos d))))
+      (λ h. inr (omega (ints, h, a, b, at-moments .start k r, at-moments .lasts k r, sumℤ (J .earliest k) (pos (J .duration k)))))
       (f k r)
 
   -- the earliest free moment is that of the earliest free start
@@ -61,42 +61,42 @@ module _ (o : ℕ) (J : Tasks whole) (M : Tasks natural) (told : Told o J M) whe
         e .none-before (moment o u) (mono o t u h) (omega (arith, mono< o u (instant o m) q (instant-above o m) l, moment-instant o m)) (free-down d u q f));
   }
 
--- ---- an accepted question
+-- ---- an accepted call
 module _ (r : DisjunctivePropagator) (es ls : List ℤ) (t d : ℤ) (a : AcceptedFixed r es ls) (q : LengthFits d × MomentFits t) (starts : List ℕ) (s : starts ≡ filled (momentAt es) (length es) noTasks)
     (from lasting : ℕ) (m : from ≡ moment zeroAt t) (p : pos lasting ≡ d) where
   -- the pass may start
-  pub askable : (order : List ℕ) → take (length es) order ≡ orderOf es → Askable (r .count) order starts (r .durations) from lasting
+  pub searchable : (order : List ℕ) → take (length es) order ≡ orderOf es → Searchable (r .count) order starts (r .durations) from lasting
   unfolding up dn
-  askable order e = record {
+  searchable order e = record {
     few = a .lawful .few;
     place = index (orderOf es);
     by-start = by-moments r es ls (input-of a) starts s order e;
     ends = λ k l. omega (arith, moment-high r es ls (input-of a) starts s k l, short r es ls (input-of a) k (omega (arith, a .counts .earliest)));
-    moment = omega (arith, asked-moment t (q .1));
+    moment = omega (arith, parameter-moment t (q .1));
     duration = omega (ints, q .0 .high);
   }
 
   -- and what it finds is the answer
-  pub found : (free : ℕ) → EarliestFree (inMoments (r .count) starts (r .durations)) from lasting free → free ≤ zeroAt + LATEST → (x : ℤ) → x ≡ instant zeroAt free → Found r es ls t d (At x)
+  pub found : (free : ℕ) → EarliestFree (inMoments (r .count) starts (r .durations)) from lasting free → free ≤ zeroAt + LATEST → (x : ℤ) → x ≡ instant zeroAt free → FreeStartFound r es ls t d (At x)
   unfolding up dn
   found free e l x z = record {
     start = instant zeroAt free;
     answer = ap (λ (s : ℤ). freeStartNumbers (At s)) z;
     earliest = subst (λ (n : ℕ). EarliestFree (tasksOn r es ls) t n (instant zeroAt free)) (ap durationOf p)
-        (earliest-up zeroAt (tasksOn r es ls) (inMoments (r .count) starts (r .durations)) (told r es ls (input-of a) starts s) t lasting free (asked-above t (q .1)) (rw m at e));
+        (earliest-up zeroAt (tasksOn r es ls) (inMoments (r .count) starts (r .durations)) (at-moments r es ls (input-of a) starts s) t lasting free (parameter-above t (q .1)) (rw m at e));
     limit = omega (ints, at-moment zeroAt (instant zeroAt free) (instant-above zeroAt free), moment-instant zeroAt free);
   }
 
 -- ---- the call
 module _ (r : DisjunctivePropagator) (es ls : List ℤ) (t d : ℤ) where
-  pub refused : (m : ℕ) → m ≡ freeNumber r es ls t d → (m ≡ 0 → ⊥) → Answered r es ls t d (Refused m)
+  pub refused : (m : ℕ) → m ≡ freeNumber r es ls t d → (m ≡ 0 → ⊥) → FreeStartAnswered r es ls t d (Refused m)
   refused m e not = record { refused = λ _. ap refusedBy e; found = λ z. absurd (not (e ∙ z)) }
 
-  pub answered : (x : FreeStart) → freeNumber r es ls t d ≡ 0 → Found r es ls t d x → Answered r es ls t d x
+  pub answered : (x : FreeStart) → freeNumber r es ls t d ≡ 0 → FreeStartFound r es ls t d x → FreeStartAnswered r es ls t d x
   answered x z f = record { refused = λ not. absurd (not z); found = λ _. f }
 
 -- too many ranges are refused as none are
-pub too-many : (r : DisjunctivePropagator) (es ls : List ℤ) (t d : ℤ) (x : FreeStart) → TASKS < length es → Answered r [] [] t d x → Answered r es ls t d x
+pub too-many : (r : DisjunctivePropagator) (es ls : List ℤ) (t d : ℤ) (x : FreeStart) → TASKS < length es → FreeStartAnswered r [] [] t d x → FreeStartAnswered r es ls t d x
 too-many r es ls t d x many a =
     let (same, not) = free-many r es ls t d many in
     record { refused = λ _. a .refused (λ z. not (sym same ∙ z)) ∙ ap refusedBy same; found = λ z. absurd (not z) }

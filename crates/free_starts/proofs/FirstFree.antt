@@ -1,4 +1,4 @@
--- The pass over the tasks by start: a volume that does not end by the next task's start is free only from that task's end on.
+-- The pass over the tasks by start: a further task that does not end by the next task's start is free only from that task's end on.
 use mathlib.Core.Path.{_≡_}
 use mathlib.Core.Logic.{inl, inr, ⊎-elim}
 use Prim.Native.Nat.{ℕ, _+_, _≤_, _<_}
@@ -36,7 +36,7 @@ module _ (J : Tasks natural) (at place : ℕ → ℕ) (o : Ordered (J .count) at
     none-before = w .none-before;
   }
 
-  -- the volume ends by the next task's start, and so by those of all after it
+  -- the further task ends by the next task's start, and so by those of all after it
   pub stops : (i s : ℕ) → i < J .count → Passed J at t d i s → s + d ≤ J .earliest (at i) → EarliestFree J t d s
   stops i s q w h = record { from = w .from; free = free; none-before = w .none-before }
     where

@@ -1,4 +1,4 @@
--- What refuses a question: what holds where nothing does, and the sole ground for each number.
+-- What refuses a call: what holds where nothing does, and the sole ground for each number.
 use mathlib.Core.Path.{_≡_, refl, _∙_}
 use mathlib.Core.Bool.{true, false, _&&_}
 use mathlib.Core.Logic.{_↔_}
@@ -14,25 +14,25 @@ use Rattle.records.specs.declared.record.DisjunctivePropagator.{DisjunctiveProp
 use Rattle.records.specs.Records.{Lawful}
 use Rattle.records.specs.Refusals.{CountsFit, StartsFit, RangesFit}
 use Rattle.fixed_schedules.specs.FixedSchedules.{fixedTests, fixedNumber, Fixed, AcceptedFixed}
-use Rattle.fixed_schedules.specs.Asked.{momentFits, lengthFits, MomentFits, LengthFits}
-use Rattle.fixed_schedules.proofs.AskedMoments.{moment-is, length-is}
+use Rattle.fixed_schedules.specs.Parameters.{momentFits, lengthFits, MomentFits, LengthFits}
+use Rattle.fixed_schedules.proofs.ParameterMoments.{moment-is, length-is}
 use Rattle.fixed_schedules.proofs.FixedRefused.{fixed-first, fixed-then, fixed-20, fixed-10, fixed-3, fixed-4, fixed-14, fixed-many, passed-fixed}
 use Rattle.free_starts.specs.FreeStarts.{freeNumber}
 
 module _ (r : DisjunctivePropagator) (es ls : List ℤ) (t d : ℤ) where
-  -- the test that is the question's own
+  -- the test that is the call's own
   abbrev t18 : Test
   t18 = test 18 (lengthFits d && momentFits t)
 
-  asked-is : lengthFits d && momentFits t ≡ true ↔ (LengthFits d × MomentFits t)
-  asked-is = (
+  parameters-fit : lengthFits d && momentFits t ≡ true ↔ (LengthFits d × MomentFits t)
+  parameters-fit = (
     λ h. (let w = and-true (lengthFits d) (momentFits t) h in (length-is d .0 (w .0), moment-is t .0 (w .1))),
     λ f. and-yes (lengthFits d) (momentFits t) (length-is d .1 (f .0)) (moment-is t .1 (f .1)),
   )
 
-  -- nothing refuses the question
-  pub accepted-question : freeNumber r es ls t d ≡ 0 ↔ (AcceptedFixed r es ls × (LengthFits d × MomentFits t))
-  accepted-question = more-accepted (fixedTests r es ls) t18 (passed-fixed r es ls) asked-is refl refl
+  -- nothing refuses the call
+  pub accepted-call : freeNumber r es ls t d ≡ 0 ↔ (AcceptedFixed r es ls × (LengthFits d × MomentFits t))
+  accepted-call = more-accepted (fixedTests r es ls) t18 (passed-fixed r es ls) parameters-fit refl refl
 
   -- what is wrong with the schedule goes before
   pub schedule-first : (fixedNumber r es ls ≡ 0 → ⊥) → freeNumber r es ls t d ≡ fixedNumber r es ls
@@ -66,7 +66,7 @@ module _ (r : DisjunctivePropagator) (es ls : List ℤ) (t d : ℤ) where
   refused-14 = fixed-14 r es ls (t18 ∷ []) refl
 
   pub refused-18 : freeNumber r es ls t d ≡ 18 ↔ (AcceptedFixed r es ls × (LengthFits d × MomentFits t → ⊥))
-  refused-18 = more-refused (fixedTests r es ls) t18 (passed-fixed r es ls) asked-is refl refl
+  refused-18 = more-refused (fixedTests r es ls) t18 (passed-fixed r es ls) parameters-fit refl refl
 
 -- more ranges than any record has tasks are refused by the number that refuses none
 pub free-many : (r : DisjunctivePropagator) (es ls : List ℤ) (t d : ℤ) → TASKS < length es → (freeNumber r [] [] t d ≡ freeNumber r es ls t d) × (freeNumber r es ls t d ≡ 0 → ⊥)

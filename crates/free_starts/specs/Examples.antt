@@ -47,7 +47,7 @@ after-both d zero q = inr (record { le = tt })
 after-both d (suc zero) q = inr (record { le = tt })
 after-both d (suc (suc k)) q = absurd (omega arith)
 
--- one task that starts as late as can be and lasts as long: asked about the moment of its start, or a later one, the first free start is at the latest
+-- one task that starts as late as can be and lasts as long: from the moment of its start, or a later one, the first free start is at the latest
 one : DisjunctivePropagator
 one = newRecord (pos DURATIONS ∷ [])
 

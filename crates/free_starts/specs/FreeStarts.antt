@@ -1,4 +1,4 @@
--- The earliest free start beside a fixed schedule: what it is, what refuses the question, and what the call answers.
+-- The earliest free start beside a fixed schedule: what it is, what refuses the call, and what the call answers.
 use mathlib.Core.Path.{_≡_}
 use mathlib.Core.Bool.{_&&_}
 use mathlib.Core.List.{List, [], _∷_, _++_}
@@ -14,12 +14,12 @@ use Rattle.scheduling.specs.Scheduling.{Clock, Tasks}
 use Rattle.records.specs.declared.record.DisjunctivePropagator.{DisjunctivePropagator}
 use Rattle.records.specs.Records.{durationOf}
 use Rattle.fixed_schedules.specs.FixedSchedules.{tasksOn, fixedTests}
-use Rattle.fixed_schedules.specs.Asked.{momentFits, lengthFits}
+use Rattle.fixed_schedules.specs.Parameters.{momentFits, lengthFits}
 use Rattle.free_starts.specs.declared.FreeStart.{FreeStart}
 use Rattle.free_starts.specs.Numbers.{freeStartNumbers}
 
 module _ {C : Clock} (J : Tasks C) where
-  -- a volume of duration d that starts at s overlaps no task: it ends by the task's start, or starts at the task's end or later
+  -- a further task of duration d that starts at s overlaps none: it ends by the other's start, or starts at the other's end or later
   abbrev pub Free : ℕ → C .Moment → Type 0
   Free d s = (k : ℕ) → k < J .count → C .upto (C .later s d) (J .earliest k) ⊎ C .upto (C .later (J .earliest k) (J .duration k)) s
 
@@ -36,18 +36,18 @@ freeTests r es ls t d = fixedTests r es ls ++ (test refused.QUESTION (lengthFits
 abbrev pub freeNumber : DisjunctivePropagator → List ℤ → List ℤ → ℤ → ℤ → ℕ
 freeNumber r es ls t d = refusal (freeTests r es ls t d)
 
--- no free start is later: no task ends later, and no moment that is asked about is later
+-- no free start is later: no task ends later, and no moment that a call takes is later
 abbrev pub LATEST : ℕ
 LATEST = START + DURATIONS
 
 -- The answer is a start, the earliest free one, over all whole numbers.
-pub record Found (r : DisjunctivePropagator) (es ls : List ℤ) (t d : ℤ) (a : FreeStart) : Type 0 where
+pub record FreeStartFound (r : DisjunctivePropagator) (es ls : List ℤ) (t d : ℤ) (a : FreeStart) : Type 0 where
   pub start : ℤ
   pub answer : freeStartNumbers a ≡ answered 0 (start ∷ [])
   pub earliest : EarliestFree (tasksOn r es ls) t (durationOf d) start
   pub limit : start ≤ℤ pos LATEST
 
--- The first test that fails refuses the question; else there is a free start, and the answer is the earliest.
-pub record Answered (r : DisjunctivePropagator) (es ls : List ℤ) (t d : ℤ) (a : FreeStart) : Type 0 where
+-- The first test that fails refuses the call; else there is a free start, and the answer is the earliest.
+pub record FreeStartAnswered (r : DisjunctivePropagator) (es ls : List ℤ) (t d : ℤ) (a : FreeStart) : Type 0 where
   pub refused : (freeNumber r es ls t d ≡ 0 → ⊥) → freeStartNumbers a ≡ refusedBy (freeNumber r es ls t d)
-  pub found : freeNumber r es ls t d ≡ 0 → Found r es ls t d a
+  pub found : freeNumber r es ls t d ≡ 0 → FreeStartFound r es ls t d a

@@ -8,7 +8,7 @@ use Rattle.integers.specs.Orders.{Ordered}
 use Rattle.free_starts.specs.FreeStarts.{LATEST}
 
 -- The tasks stand in an order by start, and all numbers are far from the largest u32.
-pub record Askable (n : ℕ) (order starts ds : List ℕ) (t d : ℕ) : Type 0 where
+pub record Searchable (n : ℕ) (order starts ds : List ℕ) (t d : ℕ) : Type 0 where
   pub few : n ≤ TASKS
   pub place : ℕ → ℕ
   pub by-start : Ordered n (λ p. getD order p 0) place (λ j k. getD starts j 0 ≤ getD starts k 0)

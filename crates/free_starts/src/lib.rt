@@ -1,7 +1,7 @@
-// The least start at or after a moment at which a volume overlaps no task of a fixed schedule.
-use fixed_schedules::asked::length_fits;
-use fixed_schedules::asked::moment_fits;
-use fixed_schedules::order::order_of;
+// The least start at or after a moment at which a further task overlaps no task of a fixed schedule.
+use fixed_schedules::parameters::length_fits;
+use fixed_schedules::parameters::moment_fits;
+use fixed_schedules::refusals::FixedOrder;
 use fixed_schedules::refusals::fixed_refusal;
 use integers::limits::TASKS;
 use integers::moments::moment_of;
@@ -10,40 +10,39 @@ use integers::moments::start_of;
 use integers::numbers::nat_of;
 use integers::refused;
 use records::record::DisjunctivePropagator;
-ghost use mathlib.Core.Path.{_≡_};
 ghost use Prim.Native.Nat.{_+_, _≤_};
 ghost use Rattle.integers.specs.Moments.{zeroAt};
-ghost use Rattle.fixed_schedules.specs.Neighbours.{inMoments};
-ghost use Rattle.free_starts.specs.FreeStarts.{LATEST, EarliestFree, freeNumber, Answered};
-ghost use Rattle.free_starts.specs.StartMoments.{Askable};
+ghost use Rattle.fixed_schedules.specs.Neighbours.{inMoments, Tested};
+ghost use Rattle.free_starts.specs.FreeStarts.{LATEST, EarliestFree, freeNumber, FreeStartAnswered};
+ghost use Rattle.free_starts.specs.StartMoments.{Searchable};
 
-// The start, or the number that refused the question.
+// The start, or the number that refused the call.
 pub enum FreeStart {
     At(i32),
     Refused(u32),
 }
 
-// The number that refuses a question, or 0: 20, 10, 3, 4, 14, 18.
+// The number that refuses a call, or 0 and the tasks by start: 20, 10, 3, 4, 14, 18.
 fn free_refusal(
     record: DisjunctivePropagator,
     earliest: &[i32],
     latest: &[i32],
     t: i32,
     d: i32,
-) -> u32
-    ensures { λ r. ⌜ r ≡ freeNumber «record» (now (earliest .entry)) (now (latest .entry)) t d ⌝ }
+) -> FixedOrder
+    ensures { λ r. ⌜ Tested (now (earliest .entry)) (freeNumber «record» (now (earliest .entry)) (now (latest .entry)) t d) r ⌝ }
 {
-    let number = fixed_refusal(record, earliest, latest);
-    if number != 0 {
-        return number;
+    let fixed = fixed_refusal(record, earliest, latest);
+    if fixed.number != 0 {
+        return fixed;
     }
     if !length_fits(d) {
-        return refused::QUESTION;
+        return FixedOrder::refused_by(refused::QUESTION);
     }
     if !moment_fits(t) {
-        return refused::QUESTION;
+        return FixedOrder::refused_by(refused::QUESTION);
     }
-    0
+    fixed
 }
 
 // One pass over the tasks by start: what does not end by the next task's start has to wait for that task's end.
@@ -55,7 +54,7 @@ fn first_free<'a>(
     t: u32,
     d: u32,
 ) -> u32
-    requires { ⌜ Askable n (now order) (now starts) (now durations) t d ⌝ }
+    requires { ⌜ Searchable n (now order) (now starts) (now durations) t d ⌝ }
     ensures { λ r. ⌜ EarliestFree (inMoments n (now (starts .entry)) (now (durations .entry))) t d r × (r ≤ zeroAt + LATEST) ⌝ }
 {
     let mut free = t;
@@ -74,7 +73,7 @@ fn first_free<'a>(
     free
 }
 
-// The least start at or after t at which a volume of duration d overlaps no task.
+// The least start at or after t at which a further task of duration d overlaps none.
 pub fn free_start(
     record: DisjunctivePropagator,
     earliest: &[i32],
@@ -82,19 +81,18 @@ pub fn free_start(
     t: i32,
     d: i32,
 ) -> FreeStart
-    ensures { λ r. ⌜ Answered «record» (now (earliest .entry)) (now (latest .entry)) t d r ⌝ }
+    ensures { λ r. ⌜ FreeStartAnswered «record» (now (earliest .entry)) (now (latest .entry)) t d r ⌝ }
 {
-    let number = free_refusal(record, earliest, latest, t, d);
-    if number != 0 {
-        return FreeStart::Refused(number);
+    let fixed = free_refusal(record, earliest, latest, t, d);
+    if fixed.number != 0 {
+        return FreeStart::Refused(fixed.number);
     }
-    let order = order_of(earliest);
     let mut starts: [u32; TASKS] = [0; TASKS];
     moments_of(&mut starts, earliest);
     let from = moment_of(t);
     let length = nat_of(d);
     let free = first_free(
-        &order,
+        &fixed.order,
         &starts,
         &record.durations,
         record.count,

@@ -1,4 +1,4 @@
--- A page's lines, put one behind the other, and read back by their places.
+-- A page's lines, one after the other, and read back by their places.
 use mathlib.Core.Path.{_≡_, refl, sym, ap, subst, _∙_}
 use mathlib.Core.Bool.{true}
 use mathlib.Core.List.{List, [], _∷_, _++_, flatMap, append-assoc, append-nil}
@@ -25,7 +25,7 @@ use Rattle.pages.specs.Lines.{LINE, heading}
 use Rattle.pages.specs.declared.answer.Page.{Page}
 use Rattle.pages.specs.declared.answer.Page.the-variants.{Written, Refused}
 use Rattle.pages.specs.Numbers.{pageNumbers}
-use Rattle.pages.specs.Pages.{lineAt, pageOf, pageNumber, Accepted, OneLineEach, Paged}
+use Rattle.pages.specs.Pages.{lineAt, pageOf, pageNumber, AcceptedPage, OneLineEach, Paged}
 use Rattle.pages.proofs.RightAligned.{line-length, line-once}
 use Rattle.pages.proofs.PageRefused.{page-many, accepted-page}
 
@@ -122,7 +122,7 @@ module _ (r : DisjunctivePropagator) (es ls : List ℤ) (out : List ℕ) where
     lines = λ _. one;
   }
     where
-      a : Accepted r es ls (length out)
+      a : AcceptedPage r es ls (length out)
       a = accepted-page r es ls (length out) .0 z
 
       one : OneLineEach (r .durations) es (pageOf (r .durations) es)

@@ -17,7 +17,7 @@ use Rattle.records.specs.Refusals.{CountsFit, StartsFit, RangesFit}
 use Rattle.fixed_schedules.specs.FixedSchedules.{fixedTests, fixedNumber, Fixed, AcceptedFixed}
 use Rattle.fixed_schedules.proofs.FixedRefused.{fixed-first, fixed-then, fixed-20, fixed-10, fixed-3, fixed-4, fixed-14, fixed-many, passed-fixed}
 use Rattle.pages.specs.Lines.{LINE}
-use Rattle.pages.specs.Pages.{pageNumber, Accepted}
+use Rattle.pages.specs.Pages.{pageNumber, AcceptedPage}
 
 module _ (r : DisjunctivePropagator) (es ls : List ℤ) (bytes : ℕ) where
   -- the test that is a page's own
@@ -28,7 +28,7 @@ module _ (r : DisjunctivePropagator) (es ls : List ℤ) (bytes : ℕ) where
   room-is = (λ h. leb-true (LINE * (r .count + 1)) bytes h, λ h. le-leb (LINE * (r .count + 1)) bytes h)
 
   -- nothing refuses the page
-  pub accepted-page : pageNumber r es ls bytes ≡ 0 ↔ Accepted r es ls bytes
+  pub accepted-page : pageNumber r es ls bytes ≡ 0 ↔ AcceptedPage r es ls bytes
   accepted-page =
       let w = more-accepted (fixedTests r es ls) t15 (passed-fixed r es ls) room-is refl refl in
       (λ h. (let f = w .0 h in record { schedule = f .0; room = f .1 }), λ a. w .1 (a .schedule, a .room))

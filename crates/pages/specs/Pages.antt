@@ -27,7 +27,7 @@ abbrev pub pageNumber : DisjunctivePropagator → List ℤ → List ℤ → ℕ 
 pageNumber r es ls room = refusal (pageTests r es ls room)
 
 -- What holds of a page that is written.
-pub record Accepted (r : DisjunctivePropagator) (es ls : List ℤ) (bytes : ℕ) : Type 0 where
+pub record AcceptedPage (r : DisjunctivePropagator) (es ls : List ℤ) (bytes : ℕ) : Type 0 where
   pub schedule : AcceptedFixed r es ls
   pub room : LINE * (r .count + 1) ≤ bytes
 
@@ -41,9 +41,8 @@ lineAt ds es k = lineOf k (startAt es k) (endAt ds es k)
 abbrev pub pageOf : List ℕ → List ℤ → List ℕ
 pageOf ds es = heading ++ flatMap (lineAt ds es) (orderOf es)
 
--- A page has the heading and one line for each task, by start, least first: `orderOf` is an order of the tasks 0 to n − 1, line t is that of the task at t, and
--- no two
--- tasks have one line.
+-- A page has the heading and one line for each task, by start, least first: `orderOf` is an order of the tasks 0 to n − 1, line t is that of the task at t,
+-- and no two tasks have one line.
 pub record OneLineEach (ds : List ℕ) (es : List ℤ) (page : List ℕ) : Type 0 where
   pub long : length page ≡ LINE * (length es + 1)
   pub first : take LINE page ≡ heading
@@ -53,18 +52,18 @@ pub record OneLineEach (ds : List ℕ) (es : List ℤ) (page : List ℕ) : Type 
 
 -- What the call leaves -----------------------------------------------------------------------------------------------------------
 
--- A refused page leaves the buffer as it was.
-pub record Kept (number : ℕ) (bytes : List ℕ) (p : Page) (bytes′ : List ℕ) : Type 0 where
+-- A refused page leaves the buffer unchanged.
+pub record PageKept (number : ℕ) (bytes : List ℕ) (p : Page) (bytes′ : List ℕ) : Type 0 where
   pub answer : pageNumbers p ≡ refusedBy number
   pub keeps : bytes′ ≡ bytes
 
--- A page that is written stands at the front of the buffer, and the bytes beyond it are as they were.
-pub record Left (r : DisjunctivePropagator) (es : List ℤ) (bytes : List ℕ) (p : Page) (bytes′ : List ℕ) : Type 0 where
+-- A page that is written stands at the front of the buffer, and the bytes after it are unchanged.
+pub record PageLeft (r : DisjunctivePropagator) (es : List ℤ) (bytes : List ℕ) (p : Page) (bytes′ : List ℕ) : Type 0 where
   pub answer : pageNumbers p ≡ answered 0 (pos (LINE * (r .count + 1)) ∷ [])
   pub text : bytes′ ≡ overwritten bytes (pageOf (r .durations) es)
 
 -- A page: the first test that fails refuses it; else the page is written, which has one line for each task.
 pub record Paged (r : DisjunctivePropagator) (es ls : List ℤ) (bytes : List ℕ) (p : Page) (bytes′ : List ℕ) : Type 0 where
-  pub refused : (pageNumber r es ls (length bytes) ≡ 0 → ⊥) → Kept (pageNumber r es ls (length bytes)) bytes p bytes′
-  pub written : pageNumber r es ls (length bytes) ≡ 0 → Left r es bytes p bytes′
+  pub refused : (pageNumber r es ls (length bytes) ≡ 0 → ⊥) → PageKept (pageNumber r es ls (length bytes)) bytes p bytes′
+  pub written : pageNumber r es ls (length bytes) ≡ 0 → PageLeft r es bytes p bytes′
   pub lines : pageNumber r es ls (length bytes) ≡ 0 → OneLineEach (r .durations) es (pageOf (r .durations) es)

@@ -16,7 +16,7 @@ ghost use Rattle.text.specs.DecimalText.{decimal, Puts};
 ghost use Rattle.pages.specs.Lines.{LINE, padLeft, heading, lineOf};
 ghost use Rattle.pages.specs.Pages.{lineAt};
 
-// A number, right-aligned: written behind spaces, of which as many are taken along as the width asks for.
+// A number, right-aligned: it is written after spaces, and the text ends with it and is as long as the width.
 fn put_right(out: &mut [u8], at: usize, width: usize, x: i32) -> usize
     requires { ⌜ (at + width ≤ length (now out)) × (length (decimal x) ≤ width) × (width ≤ 11) ⌝ }
     ensures { λ r. ⌜ Puts (now (out .entry)) (now (out .exit)) at (padLeft width (decimal x)) r ⌝ }
@@ -48,7 +48,7 @@ fn put_heading(out: &mut [u8]) -> usize
     put_bytes(out, 0, b"NR       START         END    \n")
 }
 
-// The heading, and behind it the lines of the tasks in an order.
+// The heading, and after it the lines of the tasks in an order.
 pub fn put_lines(
     out: &mut [u8],
     order: &[usize; TASKS],

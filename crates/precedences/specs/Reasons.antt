@@ -42,7 +42,7 @@ module _ (J : Tasks whole) (i : ℕ) where
   abbrev pub reasonOf : List Atom
   reasonOf = atLeast i (J .earliest i) ∷ bothBounds (J .earliest) (J .latest) (predecessors J i) (J .count)
 
-  -- An accepted call, from the words ws to ws′. Where the bound raises i, the reason stands at the front, with every word after it as it was, and the answer is
+  -- An accepted call, from the words ws to ws′. Where the bound raises i, the reason stands at the front, with every word after it unchanged, and the answer is
   -- its atom count; elsewhere that is 0, and no word changes. The reason holds at entry. Starts of whatever range that meet it, no two
   -- tasks overlapping, have all of P before i, and none of them are below the bound at i.
   pub record Explained (ws : List ℤ) (r : Reason) (ws′ : List ℤ) : Type 0 where
@@ -65,7 +65,7 @@ pub record KeptWords (ws : List ℤ) (number : ℕ) (r : Reason) (ws′ : List �
   pub answer : reasonNumbers r ≡ refusedBy number
   pub words : ws′ ≡ ws
 
--- The call is told whether the bars of its ranges fit. The first test that fails refuses it.
+-- `bars` says whether the bars of the ranges fit. The first test that fails refuses the call.
 pub record ReasonGiven (before : DisjunctivePropagator) (es ls : List ℤ) (bars : Bool) (task : ℕ) (ws : List ℤ) (r : Reason) (ws′ : List ℤ) : Type 0 where
   pub refused : (reasonNumber before es ls bars task (length ws) ≡ 0 → ⊥) → KeptWords ws (reasonNumber before es ls bars task (length ws)) r ws′
   pub given : reasonNumber before es ls bars task (length ws) ≡ 0 → Explained (tasksIn before es ls) task ws r ws′

@@ -14,7 +14,7 @@ ghost use Rattle.records.specs.Records.{tasksIn, recordOf};
 ghost use Rattle.records.specs.Refusals.{AcceptedInput};
 ghost use Rattle.precedences.specs.PredecessorArrays.{Ranged};
 ghost use Rattle.precedences.specs.ReasonArrays.{BoundLeft};
-ghost use Rattle.precedences.specs.Bounds.{BoundTold, boundNumber, BoundGiven};
+ghost use Rattle.precedences.specs.Bounds.{BoundAnswered, boundNumber, BoundGiven};
 
 // Task i's bound, where it is above the earliest start.
 fn bound_above<'a>(
@@ -43,7 +43,7 @@ fn accepted_bound(
     task: usize,
 ) -> BoundAbove
     requires { ⌜ AcceptedInput «record» (now earliest) (now latest) × (task < «record» .count) ⌝ }
-    ensures { λ r. ⌜ BoundTold (tasksIn «record» (now (earliest .entry)) (now (latest .entry))) task r ⌝ }
+    ensures { λ r. ⌜ BoundAnswered (tasksIn «record» (now (earliest .entry)) (now (latest .entry))) task r ⌝ }
 {
     let n = record.count;
     let durations = record.durations;
@@ -55,7 +55,7 @@ fn accepted_bound(
 }
 
 // The number that refuses the call, or 0: 20, 10, 3, 4, 13, 17.
-pub fn bound_refusal<'a>(
+pub(crate) fn bound_refusal<'a>(
     n: usize,
     durations: &'a [u32; TASKS],
     total: u32,
@@ -76,7 +76,7 @@ pub fn bound_refusal<'a>(
     0
 }
 
-// The task's bound over these ranges, where it is above the earliest start. The call is told whether their bars fit.
+// The task's bound over these ranges, where it is above the earliest start. `bars_fit` says whether the ranges' bars fit.
 pub fn precedence_bound(
     record: DisjunctivePropagator,
     earliest: &[i32],

@@ -2,5 +2,5 @@
 pub mod answers;
 pub mod bounds;
 pub mod pass;
-pub mod predecessors;
+mod predecessors;
 pub mod reason;

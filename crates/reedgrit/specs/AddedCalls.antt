@@ -8,7 +8,7 @@ use Rattle.overload_test.specs.Numbers.{overloadNumbers}
 use Rattle.overload_test.specs.Tested.{OverloadTested}
 use Rattle.task_changes.specs.Changes.{AddedLent, RemovedLent}
 use Rattle.task_changes.specs.Numbers.{changeNumbers}
-use Rattle.free_starts.specs.FreeStarts.{Answered as FreeStartAnswered}
+use Rattle.free_starts.specs.FreeStarts.{FreeStartAnswered}
 use Rattle.free_starts.specs.Numbers.{freeStartNumbers}
 use Rattle.pages.specs.Numbers.{pageNumbers}
 use Rattle.pages.specs.Pages.{Paged}
@@ -18,7 +18,7 @@ use Rattle.precedences.specs.Bounds.{BoundGiven}
 use Rattle.precedences.specs.Reasons.{ReasonGiven}
 use Rattle.runs.specs.Outcomes.{outcomeNumbers}
 use Rattle.busiest_stretch.specs.Numbers.{busiestNumbers}
-use Rattle.busiest_stretch.specs.Stretches.{Answered as BusiestAnswered}
+use Rattle.busiest_stretch.specs.Stretches.{BusiestAnswered}
 use Rattle.ranges.specs.declared.range.Range.{Range}
 use Rattle.promises.specs.PrecedencesLent.{PrecedencesLent}
 use Rattle.promises.specs.RanMirroredLent.{RanMirroredLent}

@@ -37,7 +37,7 @@ impl Session {
         Session {
             made: false,
             record,
-            state: VariableState::empty(),
+            state: VariableState::default(),
         }
     }
 

@@ -12,8 +12,8 @@ use crate::parts::bytes_of;
 use crate::parts::same;
 use crate::range_lists::RANGES;
 use crate::range_lists::Ranges;
-use disjunctive::Billing;
 use disjunctive::Busiest;
+use disjunctive::Charging;
 use disjunctive::DisjunctivePropagator;
 use disjunctive::FreeStart;
 use disjunctive::Page;
@@ -75,15 +75,15 @@ fn bills(record: DisjunctivePropagator, ranges: Ranges, due: &[i32])
 {
     let made = charges(record, ranges, due);
     let answer = made.answer;
-    let bill = made.bill;
+    let charged = made.charged;
     match answer {
-        Billing::Made => {
-            let charges = bill.charges;
-            let total = bill.total;
+        Charging::Made => {
+            let charges = charged.charges;
+            let total = charged.total;
             say_charges(charges, ranges.count);
             say_counted(b"total", total as usize);
         }
-        Billing::Refused(number) => say_refused(number),
+        Charging::Refused(number) => say_refused(number),
     }
 }
 

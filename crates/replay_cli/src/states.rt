@@ -26,7 +26,7 @@ ghost use Rattle.integers.specs.Limits.{VARIABLES};
 // `state`: the empty state.
 pub fn emptied() -> VariableState {
     say(b"empty\n");
-    VariableState::empty()
+    VariableState::default()
 }
 
 // Whether a list is one of atoms, and not empty.

@@ -1,6 +1,5 @@
-// The open calls on a fixed schedule in lent ranges: its page, its charges, the earliest free start beside it, and its busiest stretch. Of what is lent only
-// the
-// page's buffer changes.
+// The open calls on a fixed schedule in lent ranges: its page, its charges, the earliest free start beside it, and its busiest stretch. Of what is
+// lent, only the page's buffer changes.
 use crate::fixed_schedule_cores::charges_core;
 use crate::fixed_schedule_cores::free_core;
 use crate::fixed_schedule_cores::page_core;
@@ -13,9 +12,9 @@ use ranges::range::Range;
 use ranges::starts::starts_of;
 use records::record::DisjunctivePropagator;
 ghost use Rattle.charges.specs.Charges.{Charged};
-ghost use Rattle.free_starts.specs.FreeStarts.{Answered as FreeStartAnswered};
+ghost use Rattle.free_starts.specs.FreeStarts.{FreeStartAnswered};
 ghost use Rattle.pages.specs.Pages.{Paged};
-ghost use Rattle.busiest_stretch.specs.Stretches.{Answered as BusiestAnswered};
+ghost use Rattle.busiest_stretch.specs.Stretches.{BusiestAnswered};
 ghost use Rattle.ranges.specs.Ranges.{earliests, latests};
 
 // The schedule's page.
@@ -34,7 +33,7 @@ pub fn charges(propagator: &DisjunctivePropagator, ranges: &[Range], due: &[i32]
     charges_core(*propagator, starts, due)
 }
 
-// The least start at or after t at which a volume of duration d overlaps no task of the schedule.
+// The least start at or after t at which a further task of duration d overlaps no task of the schedule.
 pub fn free_start(propagator: &DisjunctivePropagator, ranges: &[Range], t: i32, d: i32) -> FreeStart
     ensures { λ r. ⌜ FreeStartAnswered (now (propagator .entry)) (earliests (now (ranges .entry))) (latests (now (ranges .entry))) t d r ⌝ }
 {

@@ -1,4 +1,4 @@
--- With place i cleared the array holds the set without i, so that `gather` and `theta_ect` speak of the other tasks.
+-- With the propagating task cleared the array holds theta, which `gather` and `theta_ect` then speak of.
 use mathlib.Core.Path.{_≡_, _∙_}
 use mathlib.Core.Bool.{false}
 use Prim.Native.Nat.{_+_, _^_, _<_, min}
@@ -12,40 +12,42 @@ use Rattle.checker.specs.Formulas.{_but_}
 use Rattle.trees.specs.Ects.{momentOf}
 use Rattle.chosen_sets.specs.TaskArrays.{HeldSet}
 use Rattle.checker.specs.BoundArrays.{Bounding, intervalOf}
-use Rattle.checker.proofs.EarlyAnswers.{none-after, joint-fits, room-before, after-where, others-held}
+use Rattle.checker.proofs.EarlyAnswers.{none-after, joint-fits, room-before, after-where, theta-held}
 use Rattle.checker.proofs.formula.implied.Statement.{statement}
 use Rattle.checker.proofs.formula.implied.Tie as tie
 
 size : (c : tie.After-gather-arg2) → let a = c .before .before .before .before .before .args in length (a .t1 .bounded) ≡ TASKS
 size c = search needs
 
--- the tasks but i are those of the changed array
+-- theta is the set of the changed array
 held : (c : tie.After-gather-arg2) {J : Tasks natural} {Ω : TaskSet} → let a = c .before .before .before .before .before .args in Bounding J Ω (a .n) (a .t1) (a .durations .now)
-    → HeldSet J (Ω but a .i) (a .n) (set (a .t1 .bounded) (a .i) false) (a .t1 .est) (a .durations .now)
-held c d = let a = c .before .before .before .before .before in others-held (size c) (a .args .i) (a .pre .0) (d .held)
+    → HeldSet J (Ω but a .propagating-task) (a .n) (set (a .t1 .bounded) (a .propagating-task) false) (a .t1 .est) (a .durations .now)
+held c d = let a = c .before .before .before .before .before in theta-held (size c) (a .args .propagating-task) (a .pre .0) (d .held)
 
 gather-requires : tie.Need-gather-requires
 gather-requires c κs =
     let (q, (J, Ω, d)) = c .before .before .before .before .before .pre in
-    (J, Ω but c .before .before .before .before .before .args .i, held c d, d .late)
+    (J, Ω but c .before .before .before .before .before .args .propagating-task, held c d, d .late)
 
--- where the function began, from the call of `gather`, and what the call says of the others
+-- where the function began, from the call of `gather`, and what the call says of theta
 abbrev start : tie.After-gather → tie.Start
 start c = c .before .before .before .before .before .before
 
-said : (c : tie.After-gather) {J : Tasks natural} {Ω : TaskSet} → let a = start c .args in Bounding J Ω (a .n) (a .t1) (a .durations .now) → c .gather .result ≡ intervalOf J (Ω but a .i) (a .n)
+said : (c : tie.After-gather) {J : Tasks natural} {Ω : TaskSet} → let a = start c .args in Bounding J Ω (a .n) (a .t1) (a .durations .now)
+    → c .gather .result ≡ intervalOf J (Ω but a .propagating-task) (a .n)
 said c d = c .gather .ensures _ _ (held (c .before) d) (d .late)
 
 returns : tie.Need-returns
-returns c = λ J Ω d. let g = c .before .before in none-after (held (g .before) d) _ (said g d) (d .late) (start g .args .i) (start g .pre .0) (not-true _ (c .if1 .taken))
+returns c = λ J Ω d. let g = c .before .before in none-after (held (g .before) d) _ (said g d) (d .late) (start g .args .propagating-task) (start g .pre .0) (not-true _ (c .if1 .taken))
 
--- where there are others, both sums fit
-sums-fit : (c : tie.Else1) → let v = c .before .before .gather .result in let a = start (c .before .before) .args in let most = min (getD (a .t1 .est) (a .i) 0) (v .lb) + v .p in
-    (most < 2 ^ 64) × (most + getD (a .durations .now) (a .i) 0 < 2 ^ 64)
+-- where theta has a task, both sums fit
+sums-fit : (c : tie.Else1) → let v = c .before .before .gather .result in let a = start (c .before .before) .args in
+    let most = min (getD (a .t1 .est) (a .propagating-task) 0) (v .«lb_interval») + v .p in
+    (most < 2 ^ 64) × (most + getD (a .durations .now) (a .propagating-task) 0 < 2 ^ 64)
 sums-fit c =
     let g = c .before .before in
     let (q, (J, Ω, d)) = start g .pre in
-    joint-fits (held (g .before) d) _ (said g d) (d .late) (start g .args .i) q (not-false _ (c .if1 .left))
+    joint-fits (held (g .before) d) _ (said g d) (d .late) (start g .args .propagating-task) q (not-false _ (c .if1 .left))
 
 add-if2 : tie.Need-add-if2
 add-if2 c = omega (arith, c .before .min64 .ensures, sums-fit (c .before .before .before) .0)
@@ -60,14 +62,14 @@ returns-2 : tie.Need-returns-2
 returns-2 c = λ J Ω d.
     let some = c .before .before .before .before .before .before in
     let g = some .before .before in
-    room-before (held (g .before) d) _ (said g d) (d .late) (start g .args .i) (start g .pre .0) (not-false _ (some .if1 .left))
+    room-before (held (g .before) d) _ (said g d) (d .late) (start g .args .propagating-task) (start g .pre .0) (not-false _ (some .if1 .left))
     (omega (arith, c .before .before .before .before .min64 .ensures, c .if2 .taken))
 
 theta-ect-requires : tie.Need-theta-ect-requires
 theta-ect-requires c κs =
     let g = c .before .before .before .before .before .before .before .before .before .before .before in
     let (q, (J, Ω, d)) = start g .pre in
-    (J, Ω but start g .args .i, held (g .before) d)
+    (J, Ω but start g .args .propagating-task, held (g .before) d)
 
 returns-3 : tie.Need-returns-3
 returns-3 c = λ J Ω d.
@@ -76,8 +78,8 @@ returns-3 c = λ J Ω d.
     let first = c .before .before .before .before .before .before .before .before .before .before .min64 .ensures in
     let past = c .before .before .before .before .before .before .if2 .left in
     let ect = c .before .before .theta-ect in
-    c .exceeds .ensures ∙ after-where (held (g .before) d) _ (said g d) (d .late) (start g .args .i) (start g .pre .0) (not-false _ (some .if1 .left)) (omega (arith, first, past))
-    (momentOf (ect .result)) (ect .ensures J (Ω but start g .args .i) (held (g .before) d))
+    c .exceeds .ensures ∙ after-where (held (g .before) d) _ (said g d) (d .late) (start g .args .propagating-task) (start g .pre .0) (not-false _ (some .if1 .left)) (omega (arith, first, past))
+    (momentOf (ect .result)) (ect .ensures J (Ω but start g .args .propagating-task) (held (g .before) d))
 
 pub implied-spec : {M : Type 1} → statement M
 implied-spec =

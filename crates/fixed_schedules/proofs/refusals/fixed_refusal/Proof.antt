@@ -1,6 +1,7 @@
--- The record's own number goes before; neighbours in the order of starts then stand for all pairs of tasks, by `neighbours-are`.
+-- The number of the record and its ranges goes before; then neighbours in the order of starts decide for all pairs, by `neighbours-are`.
 use mathlib.Core.Path.{_≡_, sym, _∙_}
 use mathlib.Core.Bool.{true}
+use native.Mathlib.Omega.{arith}
 use lib.ListN.{length}
 use borrow.Author.Tests.{not-true, not-false}
 use borrow.Author.Needs.{needs}
@@ -9,7 +10,7 @@ use Rattle.records.specs.Refusals.{rangeTests, AcceptedInput}
 use Rattle.records.proofs.RefusedRuns.{ranges-passed, accepted-ranges}
 use Rattle.fixed_schedules.specs.FixedSchedules.{oneStartAt, allApart}
 use Rattle.fixed_schedules.proofs.Neighbours.{neighbours-are}
-use Rattle.fixed_schedules.proofs.FixedRefused.{ranges-first, more-starts, overlapping, none-wrong}
+use Rattle.fixed_schedules.proofs.FixedRefused.{tested-not, ranges-first, more-starts, overlapping, none-wrong}
 use Rattle.fixed_schedules.proofs.AcceptedSchedules.{started, lasting, listed}
 use Rattle.fixed_schedules.proofs.refusals.fixed_refusal.Statement.{statement}
 use Rattle.fixed_schedules.proofs.refusals.fixed_refusal.Tie as tie
@@ -43,15 +44,20 @@ apart c = sym (pairs (c .before)) ∙ not-false _ (c .if3 .left)
 
 returns : tie.Need-returns
 returns c =
-    let a = c .before .before .before .before .args in
-    c .before .range-refusal .ensures ∙ sym (ranges-first (a .t1) (a .earliest .now) (a .latest .now) (λ z. c .if1 .taken (c .before .range-refusal .ensures ∙ z)))
+    let not = c .before .if1 .taken in
+    let e = c .before .before .range-refusal .ensures in
+    let a = c .before .before .before .before .before .args in
+    tested-not (c .refused-by .ensures) not (e ∙ sym (ranges-first (a .t1) (a .earliest .now) (a .latest .now) (λ z. not (e ∙ z))))
 
 one-start-requires : tie.Need-one-start-requires
 one-start-requires c κs = let n = held c .counts in n .earliest ∙ sym (n .latest)
 
 returns-2 : tie.Need-returns-2
-returns-2 c = let a = c .before .before .before .before .before .before .args in
-    sym (more-starts (a .t1) (a .earliest .now) (a .latest .now) (passed (c .before .before)) (sym (c .before .one-start .ensures) ∙ not-true _ (c .if2 .taken)))
+returns-2 c =
+    let test = c .before .before in
+    let a = test .before .before .before .before .before .args in
+    tested-not (c .refused-by2 .ensures) (λ z. absurd (omega arith))
+    (sym (more-starts (a .t1) (a .earliest .now) (a .latest .now) (passed (test .before)) (sym (test .one-start .ensures) ∙ not-true _ (c .before .if2 .taken))))
 
 order-of-requires : tie.Need-order-of-requires
 order-of-requires c κs = let a = c .before .before .before .before .before .before .args in started (a .t1) (a .earliest .now) (a .latest .now) (held (c .before .before))
@@ -62,18 +68,23 @@ neighbours-apart-requires c κs = let ranged = c .before .before .before .before
 
 returns-3 : tie.Need-returns-3
 returns-3 c =
-    let ranged = passing (c .before) in
+    let ranged = passing (c .before .before) in
     let a = ranged .before .before .before .before .args in
-    sym (overlapping (a .t1) (a .earliest .now) (a .latest .now) (passed ranged) (sym (pairs (c .before)) ∙ not-true _ (c .if3 .taken)))
+    tested-not (c .refused-by3 .ensures) (λ z. absurd (omega arith))
+    (sym (overlapping (a .t1) (a .earliest .now) (a .latest .now) (passed ranged) (sym (pairs (c .before .before)) ∙ not-true _ (c .before .if3 .taken))))
 
 returns-4 : tie.Need-returns-4
 returns-4 c =
     let ranged = passing (c .before) in
     let a = ranged .before .before .before .before .args in
-    sym (none-wrong (a .t1) (a .earliest .now) (a .latest .now) (passed ranged) (one (c .before .before .before .before .before .before)) (apart c))
+    record {
+      number = sym (none-wrong (a .t1) (a .earliest .now) (a .latest .now) (passed ranged) (one (c .before .before .before .before .before .before)) (apart c));
+      order = λ z. c .before .before .before .before .before .order-of .ensures;
+    }
 
 pub fixed-refusal-spec : {M : Type 1} → statement M
 fixed-refusal-spec =
     tie.close
     (tie.spec
-    (λ c κs. search needs) returns one-start-requires returns-2 order-of-requires neighbours-apart-requires returns-3 returns-4)
+    (λ c κs. search needs) (λ c κs. search needs) returns one-start-requires (λ c κs. search needs) returns-2
+    order-of-requires neighbours-apart-requires (λ c κs. search needs) returns-3 returns-4)

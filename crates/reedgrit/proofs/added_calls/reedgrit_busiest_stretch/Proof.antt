@@ -16,7 +16,7 @@ use Rattle.records.proofs.record.DisjunctivePropagator as P
 use Rattle.busiest_stretch.proofs.answer.Busiest as O
 use Rattle.busiest_stretch.proofs.answer.Busiest.Laws as O′
 use Rattle.busiest_stretch.specs.Numbers.{busiestNumbers}
-use Rattle.busiest_stretch.specs.Stretches.{Answered as BusiestAnswered}
+use Rattle.busiest_stretch.specs.Stretches.{BusiestAnswered}
 use Rattle.ranges.specs.Ranges.{earliests, latests}
 use Rattle.ranges.proofs.range.Range as T
 use Rattle.disjunctive.proofs.open_calls.of_fixed_schedules.busiest_stretch as lent

@@ -16,7 +16,7 @@ use Rattle.records.proofs.record.DisjunctivePropagator as P
 use Rattle.free_starts.proofs.FreeStart as O
 use Rattle.free_starts.proofs.FreeStart.Laws as O′
 use Rattle.free_starts.specs.Numbers.{freeStartNumbers}
-use Rattle.free_starts.specs.FreeStarts.{Answered as FreeStartAnswered}
+use Rattle.free_starts.specs.FreeStarts.{FreeStartAnswered}
 use Rattle.ranges.specs.Ranges.{earliests, latests}
 use Rattle.ranges.proofs.range.Range as T
 use Rattle.disjunctive.proofs.open_calls.of_fixed_schedules.free_start as lent

@@ -1,7 +1,7 @@
 -- The two cases of the definition, by whether the task is chosen.
 use mathlib.Core.Path.{sym, ap, _∙_}
 use mathlib.Core.Bool.{Bool, true}
-use Prim.Native.Nat.{ℕ, _+_, min, max}
+use Prim.Native.Nat.{ℕ, _+_, min}
 use borrow.Author.Needs.{needs}
 use borrow.Author.Tests.{not-true, not-false}
 use Rattle.checker.specs.BoundArrays.{interval, gathered}
@@ -15,7 +15,7 @@ returns-2 : tie.Need-returns-2
 returns-2 c =
     let a = c .before .before .before .before .args in
     ap (λ (x : ℕ). interval true x (c .before .max64 .result) (a .self .p + a .p)) (c .before .before .min64 .ensures)
-    ∙ ap (λ (x : ℕ). interval true (min (a .self .lb) (a .est)) x (a .self .p + a .p)) (c .before .max64 .ensures)
+    ∙ ap (λ (x : ℕ). interval true (min (a .self .«lb_interval») (a .est)) x (a .self .p + a .p)) (c .before .max64 .ensures)
     ∙ sym (ap (λ (b : Bool). gathered (a .self) b (a .est) (a .lct) (a .p)) (not-false (a .chosen) (c .before .before .before .if1 .left)))
 
 pub with-spec : {M : Type 1} → statement M

@@ -11,14 +11,14 @@ use Rattle.integers.proofs.WholeNumbers.{wider}
 use Rattle.checking.specs.Atoms.{atomOf, atomFrom, rightAtom}
 use Rattle.checking.proofs.Atoms.{right-atom}
 use Rattle.checking.proofs.ReadWords.{read-right, read-atom, made-known}
-use Rattle.checking.specs.States.{Accepted, accepted, stepped, appliedTo}
+use Rattle.checking.specs.States.{AcceptedState, accepted, stepped, appliedTo}
 use Rattle.checking.proofs.Promises.{apply-promise}
 use borrow.Author.Needs.{needs}
 use Rattle.checking.proofs.variable_state.VariableState.apply.Statement.{statement}
 use Rattle.checking.proofs.variable_state.VariableState.apply.Tie as tie
 
 -- what the tests say: the state, and the words
-proper : (c : tie.After-is-accepted) → accepted (c .before .args .self .domains) ≡ true → Accepted (c .before .args .self)
+proper : (c : tie.After-is-accepted) → accepted (c .before .args .self .domains) ≡ true → AcceptedState (c .before .args .self)
 proper c y = c .is-accepted .ensures .1 (c .is-accepted .ensures .0 ∙ y)
 
 state-right : (c : tie.Else1) → accepted (c .before .before .args .self .domains) ≡ true

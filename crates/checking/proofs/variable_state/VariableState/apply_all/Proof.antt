@@ -19,7 +19,7 @@ use Rattle.checking.specs.declared.domain.Reduced.{Reduced}
 use Rattle.checking.specs.Domains.{reduced, Proper}
 use Rattle.checking.specs.declared.variable_state.Application.the-variants.{Refused}
 use Rattle.checking.specs.declared.variable_state.VariableState.{VariableState}
-use Rattle.checking.specs.States.{Accepted, domainAt, put, emptyState, applyAll}
+use Rattle.checking.specs.States.{AcceptedState, domainAt, put, emptyState, applyAll}
 use Rattle.checking.proofs.States.{empty-accepted, put-accepted, reduced-proper, stepped-is, when-narrowed, when-emptied, when-full, all-consistent, all-contradiction, all-refused, all-end}
 use borrow.Author.Needs.{needs}
 use Rattle.checking.proofs.variable_state.VariableState.apply_all.Statement.{statement}
@@ -28,7 +28,7 @@ use Rattle.checking.proofs.variable_state.VariableState.apply_all.Tie a
 abbrev Inv-loop : tie.InvT-loop
 Inv-loop premises consequent words domains₀ i₀ domains i = (i ≤ length premises + length consequent)
     × ((rightFrom premises consequent i ≡ true)
-    × (Accepted (record { domains = domains })
+    × (AcceptedState (record { domains = domains })
     × (applyAll (givenFrom premises consequent i) (record { domains = domains }) ≡ applyAll (given (atomsOf premises) (consequentOf consequent)) emptyState)))
 
 abbrev μ-loop : tie.MeasureT-loop
@@ -42,7 +42,7 @@ loop-holds c =
     let ps = c .before .args .premises .now in
     let cs = c .before .args .consequent .now in
     let is-empty : record { domains = replicate VARIABLES (c .all-integers .result) } ≡ emptyState = (λ i. record { domains = replicate VARIABLES (c .all-integers .ensures i) }) in
-    (omega arith, (right-start ps cs ∙ c .before .pre .1, (subst Accepted (sym is-empty) empty-accepted, ap₂ applyAll (given-start ps cs) is-empty)))
+    (omega arith, (right-start ps cs ∙ c .before .pre .1, (subst AcceptedState (sym is-empty) empty-accepted, ap₂ applyAll (given-start ps cs) is-empty)))
 
 -- the lists given, at a turn
 abbrev ps : tie.In-loop Inv-loop μ-loop → List ℤ
@@ -127,7 +127,7 @@ returns-2 c =
     let a = atomOf (read-at applied .given-at .result) in
     let s = state-at applied in
     let r = applied .apply .result in
-    (λ i. record { answer = Refused 21; state = c .empty .ensures .0 i })
+    (λ i. record { answer = Refused 21; state = c .default .ensures .0 i })
     ∙ sym (still applied ∙ all-refused s a (rest applied) 21 s (stepped-is s a r (said applied) ∙ when-full s a r (c .before .enum-told3 .given .1)))
 
 loop-again : tie.Need-loop-again Inv-loop μ-loop

@@ -1,4 +1,4 @@
--- The domain's own answer decides: it is stored, or the state is handed back as it was.
+-- The domain's own answer decides: it is stored, or the state is returned unchanged.
 use mathlib.Core.Path.{_≡_, sym, ap, _∙_, subst}
 use Prim.Native.Nat.{_+_}
 use mir.Syntax.{w32}

@@ -10,14 +10,14 @@ use Rattle.integers.proofs.Ints.{back}
 use Rattle.checking.specs.Atoms.{atomOf, atomFrom, rightAtom}
 use Rattle.checking.proofs.ReadWords.{read-right, read-atom, made-known}
 use Rattle.checking.specs.Domains.{isTrue}
-use Rattle.checking.specs.States.{Accepted, domainAt, accepted, truthOf}
+use Rattle.checking.specs.States.{AcceptedState, domainAt, accepted, truthOf}
 use Rattle.checking.proofs.Promises.{truth-promise}
 use borrow.Author.Needs.{needs}
 use Rattle.checking.proofs.variable_state.VariableState.is_true.Statement.{statement}
 use Rattle.checking.proofs.variable_state.VariableState.is_true.Tie as tie
 
 -- what the tests say: the state, and the words
-proper : (c : tie.After-is-accepted) → accepted (c .before .args .t1 .domains) ≡ true → Accepted (c .before .args .t1)
+proper : (c : tie.After-is-accepted) → accepted (c .before .args .t1 .domains) ≡ true → AcceptedState (c .before .args .t1)
 proper c y = c .is-accepted .ensures .1 (c .is-accepted .ensures .0 ∙ y)
 
 state-right : (c : tie.Else1) → accepted (c .before .before .args .t1 .domains) ≡ true

@@ -22,7 +22,7 @@ returns : tie.Need-returns
 unfolding prepared
 returns c =
     let n : ltb (3 * PREMISES + 2) (length (now (c .before .before .args .premises))) ≡ true = lt-ltb (3 * PREMISES + 2) (length (now (c .before .before .args .premises))) (c .before .if1 .taken) in
-    prepare-promise (now (c .before .before .args .premises)) (now (c .before .before .args .consequent)) _ (rw n (λ i. record { answer = Refused 7; state = c .empty .ensures .0 i }))
+    prepare-promise (now (c .before .before .args .premises)) (now (c .before .before .args .consequent)) _ (rw n (λ i. record { answer = Refused 7; state = c .default .ensures .0 i }))
 
 few : (c : tie.Else1) → ltb (3 * PREMISES + 2) (length (now (c .before .args .premises))) ≡ false
 few c = le-ltb (3 * PREMISES + 2) (length (now (c .before .args .premises))) (c .if1 .left)
@@ -34,7 +34,7 @@ returns-2 c =
     let ps : List ℤ = now (s .args .premises) in
     let cs : List ℤ = now (s .args .consequent) in
     let n : rightLists ps cs ≡ false = sym (c .before .before .lists-are-accepted .ensures) ∙ not-true (c .before .before .lists-are-accepted .result) (c .before .if2 .taken) in
-    prepare-promise ps cs _ (rw (few (c .before .before .before), n) (λ i. record { answer = Refused 6; state = c .empty2 .ensures .0 i }))
+    prepare-promise ps cs _ (rw (few (c .before .before .before), n) (λ i. record { answer = Refused 6; state = c .default2 .ensures .0 i }))
 
 lists-right : (c : tie.Else2) → rightLists (now (c .before .before .before .args .premises)) (now (c .before .before .before .args .consequent)) ≡ true
 lists-right c = sym (c .before .lists-are-accepted .ensures) ∙ not-false (c .before .lists-are-accepted .result) (c .if2 .left)

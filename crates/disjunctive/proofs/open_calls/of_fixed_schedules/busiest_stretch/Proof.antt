@@ -42,7 +42,7 @@ use Rattle.records.specs.declared.record.DisjunctivePropagator.{DisjunctiveProp
 use Rattle.records.proofs.record.DisjunctivePropagator as P
 use Rattle.records.proofs.record.DisjunctivePropagator.Laws as P′
 use Rattle.busiest_stretch.specs.declared.answer.Busiest.{Busiest}
-use Rattle.busiest_stretch.specs.Stretches.{Answered}
+use Rattle.busiest_stretch.specs.Stretches.{BusiestAnswered}
 use Rattle.busiest_stretch.proofs.Answers.{too-many}
 use Rattle.busiest_stretch.proofs.answer.Busiest as O
 use Rattle.busiest_stretch.proofs.answer.Busiest.Laws as O′
@@ -83,7 +83,7 @@ abbrev ArgC : Type 0
 ArgC = DisjunctivePropagator × (Starts × (ℤ × Unit {0}))
 
 abbrev Said : DisjunctivePropagator → ℤ → Starts → Busiest → Type 0
-Said h w s r = Answered h (take (s .count) (s .earliest)) (take (s .count) (s .latest)) w r
+Said h w s r = BusiestAnswered h (take (s .count) (s .earliest)) (take (s .count) (s .latest)) w r
 
 module _ {M : Type 1} (𝓤 : URA M) (H : Heap 𝓤) (A : Atoms 𝓤) (at-mem : Memory → SProp 𝓤) (run : Routine → Fun 𝓤) where
   -- the contract that the proof cites
@@ -107,7 +107,7 @@ module _ {M : Type 1} (𝓤 : URA M) (H : Heap 𝓤) (A : Atoms 𝓤) (W : Given
   abbrev Had : Busiest → Val → List (Item 𝓤)
   Had r v = ‵ (flft κ q) ∷ (‵ (flft κ₁ q₁) ⊛ ‵ ftrue) ∷ ‵ (O.the-row .own r (v ∷ [])) ∷ []
 
-  exits : (r : Busiest) (v : Val) → Answered h (earliests ys) (latests ys) w r → ent 𝓤 (⋆ 𝓤 H A (Had r v)) (Post v)
+  exits : (r : Busiest) (v : Val) → BusiestAnswered h (earliests ys) (latests ys) w r → ent 𝓤 (⋆ 𝓤 H A (Had r v)) (Post v)
   exits r v e =
       qed W (Had r v) ∵
       suffices ! _ (ends-at 𝓤 H A f.ended stayed (f.clauses 𝓤 H A at-mem run) W (((κ, (κ₁, tt)), (q, (q₁, tt)), tt, x, at), tt) v r (tt, (tt, (tt, tt))) (tt, (tt, (tt, tt)))) $ says ! e $
@@ -153,7 +153,7 @@ module _ {M : Type 1} (𝓤 : URA M) (H : Heap 𝓤) (A : Atoms 𝓤) (W : Given
           returns ! (look ! 17 refl) $ forget ! 17 refl $ forget ! 15 refl $ forget ! 13 refl $ forget ! 11 refl $ forget ! 9 refl $ forget ! 7 refl $
           move ! (17 ∷ 18 ∷ []) $ free1 ! $ move ! (15 ∷ 16 ∷ []) $ free1 ! $ move ! (13 ∷ 14 ∷ []) $ free1 ! $ move ! (11 ∷ 12 ∷ []) $ free1 ! $ move ! (9 ∷ 10 ∷ []) $ free1 ! $ move !
           (7 ∷ 8 ∷ []) $ free1 ! $ free0 ! $
-          keep ! (1 ∷ 3 ∷ 0 ∷ []) $ by ! (exits r v₂ (apart (λ es ls. Answered h es ls w r) ys s e₁ (too-many h (earliests ys) (latests ys) w r) e₂))))))))))))
+          keep ! (1 ∷ 3 ∷ 0 ∷ []) $ by ! (exits r v₂ (apart (λ es ls. BusiestAnswered h es ls w r) ys s e₁ (too-many h (earliests ys) (latests ys) w r) e₂))))))))))))
 
 module _ {M : Type 1} (𝓤 : URA M) (H : Heap 𝓤) (A : Atoms 𝓤) (W : Given 𝓤 H A) (at-mem : Memory → SProp 𝓤) (run : Routine → Fun 𝓤) where
   f-walks : (C : Calls 𝓤 H) (Λ : Loops 𝓤 H) → FmC 𝓤 H (W .laws) C → Triple 𝓤 (C #starts-of) (Reads S.the-row Taken 𝓤 H A) → Triple 𝓤 (C #stretch-core) (Core 𝓤 H A at-mem run)

@@ -2,9 +2,9 @@
 use mathlib.Core.Path.{ap, _∙_}
 use borrow.Author.Needs.{needs}
 use Rattle.integers.proofs.Ints.{back}
-use Rattle.fixed_schedules.specs.Asked.{momentFits}
-use Rattle.fixed_schedules.proofs.asked.moment_fits.Statement.{statement}
-use Rattle.fixed_schedules.proofs.asked.moment_fits.Tie as tie
+use Rattle.fixed_schedules.specs.Parameters.{momentFits}
+use Rattle.fixed_schedules.proofs.parameters.moment_fits.Statement.{statement}
+use Rattle.fixed_schedules.proofs.parameters.moment_fits.Tie as tie
 
 returns : tie.Need-returns
 returns c = c .within .ensures ∙ ap momentFits (back (c .before .fits .t))

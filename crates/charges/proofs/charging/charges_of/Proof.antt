@@ -16,8 +16,8 @@ use Rattle.fixed_schedules.specs.FixedSchedules.{startAt, endAt}
 use Rattle.charges.specs.Tariff.{minutesLate, costOf}
 use Rattle.charges.specs.Charges.{DueFits, chargeAt}
 use Rattle.charges.proofs.Costs.{cost-most}
-use Rattle.charges.proofs.charging.bill_of.Statement.{statement}
-use Rattle.charges.proofs.charging.bill_of.Tie as tie
+use Rattle.charges.proofs.charging.charges_of.Statement.{statement}
+use Rattle.charges.proofs.charging.charges_of.Tie as tie
 
 abbrev Inv-loop : tie.InvT-loop
 Inv-loop earliest durations due out₀ sum₀ i₀ out sum i =
@@ -91,8 +91,8 @@ returns c =
     let e : c .before .loop .i ≡ length (a .earliest .now) = omega arith in
     record { charges = c .before .loop .inv .1 .0 ∙ ap (λ (n : ℕ). filled f n noTasks) e; sum = c .before .loop .inv .1 .1 .0 ∙ ap (total f) e }
 
-pub bill-of-spec : {M : Type 1} → statement M
-bill-of-spec =
+pub charges-of-spec : {M : Type 1} → statement M
+charges-of-spec =
     tie.close
     (tie.spec
     Inv-loop μ-loop loop-holds (λ c. search needs) (λ c. search needs) (λ c. search needs) element-copy-out-charge-of

@@ -1,4 +1,4 @@
--- What a call on a fixed schedule is asked besides it: a moment, or a length of time.
+-- What a call on a fixed schedule takes besides it: a moment, or a length of time.
 use mathlib.Core.Bool.{Bool, _&&_}
 use lib.IntN.{ℤ, pos, negℤ}
 use lib.Signed.{leZ, _≤ℤ_}

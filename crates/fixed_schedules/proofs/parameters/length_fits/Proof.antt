@@ -2,9 +2,9 @@
 use mathlib.Core.Path.{ap, _∙_}
 use borrow.Author.Needs.{needs}
 use Rattle.integers.proofs.Ints.{back}
-use Rattle.fixed_schedules.specs.Asked.{lengthFits}
-use Rattle.fixed_schedules.proofs.asked.length_fits.Statement.{statement}
-use Rattle.fixed_schedules.proofs.asked.length_fits.Tie as tie
+use Rattle.fixed_schedules.specs.Parameters.{lengthFits}
+use Rattle.fixed_schedules.proofs.parameters.length_fits.Statement.{statement}
+use Rattle.fixed_schedules.proofs.parameters.length_fits.Tie as tie
 
 returns : tie.Need-returns
 returns c = c .within .ensures ∙ ap lengthFits (back (c .before .fits .d))

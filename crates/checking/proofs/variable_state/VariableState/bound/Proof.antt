@@ -10,13 +10,13 @@ use Rattle.integers.proofs.Ints.{back}
 use Rattle.checking.specs.Atoms.{rightVariable}
 use Rattle.checking.proofs.Atoms.{right-variable}
 use Rattle.checking.specs.declared.variable_state.Bound.the-variants.{At}
-use Rattle.checking.specs.States.{Accepted, domainAt, accepted, boundOf}
+use Rattle.checking.specs.States.{AcceptedState, domainAt, accepted, boundOf}
 use borrow.Author.Needs.{needs}
-use Rattle.checking.proofs.variable_state.VariableState.bound_of.Statement.{statement}
-use Rattle.checking.proofs.variable_state.VariableState.bound_of.Tie as tie
+use Rattle.checking.proofs.variable_state.VariableState.bound.Statement.{statement}
+use Rattle.checking.proofs.variable_state.VariableState.bound.Tie as tie
 
 -- what the tests say: the state, and the variable
-proper : (c : tie.After-is-accepted) → accepted (c .before .args .t1 .domains) ≡ true → Accepted (c .before .args .t1)
+proper : (c : tie.After-is-accepted) → accepted (c .before .args .t1 .domains) ≡ true → AcceptedState (c .before .args .t1)
 proper c y = c .is-accepted .ensures .1 (c .is-accepted .ensures .0 ∙ y)
 
 state-right : (c : tie.Else1) → accepted (c .before .before .args .t1 .domains) ≡ true
@@ -49,22 +49,24 @@ element-copy-out-domain c = subst (λ (x : ℕ). x < VARIABLES) (sym (is c)) (ri
 returns-3 : tie.Need-returns-3
 unfolding boundOf
 returns-3 c =
-    let right = c .before .before .before .before .before in (
-      rw (state-right right, variable-right (c .before .before .before), c .if3 .taken) (ap (λ (x : ℕ). At (domainAt (right .before .before .args .t1) x .«lower_bound»)) (is (c .before .before))),
+    let right = c .before .before .before .before .before .before in (
+      rw (state-right right, variable-right (c .before .before .before .before), c .enum-told .given .1)
+          (ap (λ (x : ℕ). At (domainAt (right .before .before .args .t1) x .«lower_bound»)) (is (c .before .before .before))),
       proper (right .before),
     )
 
 returns-4 : tie.Need-returns-4
 unfolding boundOf
 returns-4 c =
-    let right = c .before .before .before .before .before in (
-      rw (state-right right, variable-right (c .before .before .before), c .if3 .left) (ap (λ (x : ℕ). At (domainAt (right .before .before .args .t1) x .«upper_bound»)) (is (c .before .before))),
+    let right = c .before .before .before .before .before .before in (
+      rw (state-right right, variable-right (c .before .before .before .before), c .enum-told2 .given .1)
+          (ap (λ (x : ℕ). At (domainAt (right .before .before .args .t1) x .«upper_bound»)) (is (c .before .before .before))),
       proper (right .before),
     )
 
-pub bound-of-spec : {M : Type 1} → statement M
-bound-of-spec =
+pub bound-spec : {M : Type 1} → statement M
+bound-spec =
     tie.close
     (tie.spec
     (λ c κs. search needs) returns (λ c κs. search needs) returns-2 nat-of-requires (λ c. search needs)
-    (λ c. search needs) element-copy-out-domain returns-3 returns-4)
+    (λ c. search needs) element-copy-out-domain (λ c. search needs) (λ c. search needs) returns-3 returns-4)

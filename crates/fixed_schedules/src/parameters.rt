@@ -1,7 +1,7 @@
-// What a call on a fixed schedule is asked besides it: a moment, or a length of time.
+// What a call on a fixed schedule takes besides it: a moment, or a length of time.
 use records::refusals::within;
 ghost use mathlib.Core.Path.{_≡_};
-ghost use Rattle.fixed_schedules.specs.Asked.{momentFits, lengthFits};
+ghost use Rattle.fixed_schedules.specs.Parameters.{momentFits, lengthFits};
 
 // Whether a moment is within the limits.
 pub fn moment_fits(t: i32) -> bool
