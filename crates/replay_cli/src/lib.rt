@@ -1,7 +1,6 @@
 // The oracle's line protocol over the open calls: a command to a line, and for each the lines of its answer and then `end`.
 // What is proved here is that every function is safe and ends; contracts say no more than that needs. What the lines say is tested.
-pub mod changes;
-pub mod checks;
+pub mod check_commands;
 pub mod commands;
 pub mod input;
 pub mod lent_runs;
@@ -11,8 +10,8 @@ pub mod parts;
 pub mod posts;
 pub mod range_commands;
 pub mod range_lists;
+pub mod record_commands;
 pub mod run_commands;
-pub mod running;
 pub mod schedule_commands;
 pub mod serving;
-pub mod states;
+pub mod state_commands;

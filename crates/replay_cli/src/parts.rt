@@ -43,7 +43,7 @@ pub fn span(numbers: &[i32], from: usize, to: usize) -> &[i32] {
     &numbers[from..to]
 }
 
-// Number k of a list, or 0 behind its end.
+// Number k of a list, or 0 after its end.
 pub fn number_at(numbers: &[i32], k: usize) -> i32 {
     if k < numbers.len() {
         return numbers[k];
@@ -72,7 +72,7 @@ pub fn first_word(line: &[u8]) -> &[u8] {
     bytes_of(line, from, run_end(line, from, false))
 }
 
-// What stands behind the first word.
+// What stands after the first word.
 pub fn after_word(line: &[u8]) -> &[u8] {
     let from = run_end(line, 0, true);
     bytes_of(line, run_end(line, from, false), line.len())
@@ -88,7 +88,7 @@ fn keep(kept: &mut [i32], count: usize, x: i32) -> usize {
 }
 
 impl Scan {
-    // The scan behind a word that has ended.
+    // The scan after a word that has ended.
     fn after(self, valid: bool, count: usize) -> Scan {
         Scan {
             valid,

@@ -1,4 +1,4 @@
-// The variable state's calls.
+// The commands on the variable state.
 use crate::lines::say;
 use crate::lines::say_contradiction;
 use crate::lines::say_count;
@@ -24,7 +24,7 @@ ghost use Prim.Native.Nat.{_<_};
 ghost use Rattle.integers.specs.Limits.{VARIABLES};
 
 // `state`: the empty state.
-pub fn emptied() -> VariableState {
+pub fn answer_state() -> VariableState {
     say(b"empty\n");
     VariableState::empty()
 }
@@ -34,8 +34,8 @@ fn has_atoms(words: &[i32]) -> bool {
     words.len() >= 3 && words.len() % 3 == 0
 }
 
-// `apply`: the state with the first atom of a list, or as it was.
-pub fn applied(state: VariableState, words: &[i32]) -> VariableState {
+// `apply`: the state with the first atom of a list, or the state unchanged.
+pub fn answer_apply(state: VariableState, words: &[i32]) -> VariableState {
     if !has_atoms(words) {
         say_error();
         return state;
@@ -56,7 +56,7 @@ pub fn applied(state: VariableState, words: &[i32]) -> VariableState {
 }
 
 // `is-true`, `lower`, `upper` and `show`, of the first atom or variable of a list. Whether the word is one of them.
-pub fn tells(state: VariableState, word: &[u8], words: &[i32]) -> bool {
+pub fn answer_query(state: VariableState, word: &[u8], words: &[i32]) -> bool {
     if has_atoms(words) && same(word, b"is-true") {
         say_truth(state.is_true(
             number_at(words, 0),
@@ -168,8 +168,8 @@ fn say_mentioned(state: VariableState, premises: &[i32], consequent: &[i32]) {
     }
 }
 
-// `prepare`: the state of the premises and the negated consequent, or the state as it was.
-pub fn prepared(state: VariableState, premises: &[i32], consequent: &[i32]) -> VariableState {
+// `prepare`: the state of the premises and the negated consequent, or the state unchanged.
+pub fn answer_prepare(state: VariableState, premises: &[i32], consequent: &[i32]) -> VariableState {
     let next = VariableState::prepare_for_conflict_check(premises, consequent);
     let answer = next.answer;
     let after = next.state;
