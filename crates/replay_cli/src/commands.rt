@@ -94,7 +94,11 @@ impl Session {
     fn answer_lists(self, word: &[u8], words: &[i32], ends: &[usize], n: usize) -> Session {
         if same(word, b"prepare") {
             let state = self.state;
-            return self.with_state(answer_prepare(state, list(words, ends, 0), list(words, ends, 1)));
+            return self.with_state(answer_prepare(
+                state,
+                list(words, ends, 0),
+                list(words, ends, 1),
+            ));
         }
         if answer_check(word, words, ends) {
             return self;

@@ -5,6 +5,7 @@ use integers::numbers::nat_of;
 use text::reading::Reading;
 use text::reading::Word;
 use text::reading::is_space;
+use text::words::Run;
 use text::words::run_end;
 
 // Numbers of a line that are kept. A list of premises this long is refused for its length.
@@ -68,14 +69,14 @@ pub fn same(a: &[u8], b: &[u8]) -> bool {
 
 // The first word of a line.
 pub fn first_word(line: &[u8]) -> &[u8] {
-    let from = run_end(line, 0, true);
-    bytes_of(line, from, run_end(line, from, false))
+    let from = run_end(line, 0, Run::Space);
+    bytes_of(line, from, run_end(line, from, Run::Word))
 }
 
 // What stands after the first word.
 pub fn after_word(line: &[u8]) -> &[u8] {
-    let from = run_end(line, 0, true);
-    bytes_of(line, run_end(line, from, false), line.len())
+    let from = run_end(line, 0, Run::Space);
+    bytes_of(line, run_end(line, from, Run::Word), line.len())
 }
 
 // The numbers with one more, where there is a place for it.

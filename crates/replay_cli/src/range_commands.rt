@@ -9,7 +9,13 @@ use crate::schedule_commands::answer_fixed;
 use disjunctive::DisjunctivePropagator;
 
 // The answer to a command on ranges, with n lists.
-pub fn answer_ranges(record: DisjunctivePropagator, word: &[u8], words: &[i32], ends: &[usize], n: usize) {
+pub fn answer_ranges(
+    record: DisjunctivePropagator,
+    word: &[u8],
+    words: &[i32],
+    ends: &[usize],
+    n: usize,
+) {
     let a = list(words, ends, 0);
     if same(word, b"precede-why") || same(word, b"precede-bound") {
         let ranges = ranges_of(span(a, 1, a.len())).with_lists(words, ends, n);
