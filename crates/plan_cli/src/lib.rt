@@ -3,6 +3,7 @@ pub mod answer;
 pub mod input;
 pub mod inputs;
 pub mod lines;
+pub mod plan;
 pub mod program;
 pub mod report;
 pub mod stdin;
