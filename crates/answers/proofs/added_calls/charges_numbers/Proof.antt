@@ -1,4 +1,4 @@
--- `request_answers::charges_numbers` meets its contract: each case gives its own numbers, and the bill.
+-- Each case gives its own numbers, and the bill.
 use mathlib.Core.Path.{sym, _∙_}
 use Rattle.answers.specs.AddedAnswers.{chargesAnswer}
 use borrow.Author.Needs.{needs}

@@ -1,4 +1,4 @@
--- `states::bound_in` meets its contract: the flag picks the side.
+-- The flag picks the side.
 use mathlib.Core.Path.{ap, _∙_}
 use lib.IntN.{ℤ}
 use borrow.Author.Needs.{needs}
