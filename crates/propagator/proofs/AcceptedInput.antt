@@ -16,7 +16,7 @@ use Rattle.scheduling.proofs.Sets.{total-ext}
 use Rattle.runs.proofs.Demand as demand
 use Rattle.records.specs.declared.record.DisjunctivePropagator.{DisjunctivePropagator}
 use Rattle.records.specs.Records.{Lawful}
-use Rattle.records.specs.Refusals.{Accepted}
+use Rattle.records.specs.Refusals.{AcceptedRun}
 use Rattle.propagator.specs.Ran.{Runnable}
 
 -- The durations of a lawful record: none is 0, so there are as many as its count says.
@@ -55,7 +55,7 @@ unfolding up dn
 wider z h = omega ints
 
 -- and an accepted run, which takes more for given than the core does.
-module _ (r : DisjunctivePropagator) (es ls : List ℤ) (posts atoms : ℕ) (a : Accepted r es ls posts atoms) where
+module _ (r : DisjunctivePropagator) (es ls : List ℤ) (posts atoms : ℕ) (a : AcceptedRun r es ls posts atoms) where
   pub runnable : Runnable r es ls posts atoms
   runnable = record {
     lawful = a .lawful;
