@@ -1,6 +1,5 @@
-// The open calls on a fixed schedule in lent ranges: its page, its charges, the earliest free start beside it, and its busiest stretch. Of what is lent only
-// the
-// page's buffer changes.
+// The open calls on a fixed schedule in lent ranges: its page, its charges, the earliest free start beside it, and its busiest stretch.
+// Of what is lent only the page's buffer changes.
 use crate::fixed_schedule_cores::charges_core;
 use crate::fixed_schedule_cores::free_core;
 use crate::fixed_schedule_cores::page_core;
@@ -20,7 +19,8 @@ ghost use Rattle.ranges.specs.Ranges.{earliests, latests};
 
 // The schedule's page.
 pub fn page(propagator: &DisjunctivePropagator, ranges: &[Range], out: &mut [u8]) -> Page
-    ensures { λ r. ⌜ Paged (now (propagator .entry)) (earliests (now (ranges .entry))) (latests (now (ranges .entry))) (now (out .entry)) r (now (out .exit)) ⌝ }
+    ensures { λ r. ⌜ Paged (now (propagator .entry)) (earliests (now (ranges .entry))) (latests (now (ranges .entry))) (now (out .entry)) r
+        (now (out .exit)) ⌝ }
 {
     let starts = starts_of(ranges);
     page_core(*propagator, starts, out)
