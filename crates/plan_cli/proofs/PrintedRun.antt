@@ -19,7 +19,7 @@ use Rattle.plan_cli.specs.Lines.{doneLine, overloadLines, emptiedLine, r
 use Rattle.plan_cli.specs.RunLines.{postLines, endLines, runLines, answerLines}
 use Rattle.plan_cli.specs.RunSlices.{PostsHeld, ShowsRun, Shown}
 
--- `count` posts that the slices hold, with room for them and for `more` atoms, and `rest` behind them
+-- `count` posts that the slices hold, with room for them and for `more` atoms, and `rest` after them
 pub record Parts (what : ℕ ⊎ Trace) (posts atoms : List ℤ) (count more : ℕ) (rest : List ℕ) : Type 0 where
   pub list : List Post
   pub holds : PostsHeld list posts atoms count

@@ -8,6 +8,7 @@ use crate::report::put_run;
 use integers::limits::ATOMWORDS;
 use integers::limits::POSTWORDS;
 use integers::limits::TASKS;
+use integers::refused;
 use text::reading::Numbers;
 ghost use mathlib.Core.List.{List};
 ghost use mathlib.Core.Option.{Option};
@@ -32,7 +33,7 @@ pub fn put_answer(out: &mut [u8], numbers: Numbers) -> usize
         return put_refused(out, 0, 0);
     };
     if n > TASKS {
-        return put_refused(out, 0, 1);
+        return put_refused(out, 0, refused::TASK_COUNT);
     }
     let kept = numbers.kept;
     let earliest = column_of(&kept, n, 1);

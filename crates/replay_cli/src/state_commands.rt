@@ -18,6 +18,7 @@ use checking::variable_state::Truth;
 use checking::variable_state::VariableState;
 use integers::limits::VARIABLES;
 use integers::numbers::word_of;
+use integers::refused;
 use post_words::atoms_in;
 use post_words::variable_at;
 ghost use Prim.Native.Nat.{_<_};
@@ -115,7 +116,7 @@ fn say_ext(x: IntExt) {
 // The line of a variable: its bounds and its holes.
 fn say_variable(state: VariableState, x: usize) {
     if x >= VARIABLES {
-        return say_refused(6);
+        return say_refused(refused::ATOMS);
     }
     let domain = state.domains[x];
     say(b"var");

@@ -35,7 +35,7 @@ unfoldable pub digits : List ℕ → Bool
 digits [] = true
 digits (b ∷ bs) = digit b && digits bs
 
--- the value of digits behind those of n
+-- the value of digits after those of n
 unfoldable pub value : ℕ → List ℕ → ℕ
 value n [] = n
 value n (b ∷ bs) = value (n * 10 + (b - 48)) bs

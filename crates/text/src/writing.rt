@@ -1,4 +1,4 @@
-// Text put together in a buffer: each function puts bytes at a place and answers the place behind them.
+// Text put together in a buffer: each function puts bytes at a place and answers the place after them.
 use integers::moments::moment_of;
 ghost use Prim.Native.Nat.{_+_, _≤_};
 ghost use lib.ListN.{length};
