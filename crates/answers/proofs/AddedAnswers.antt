@@ -40,7 +40,7 @@ use Rattle.answers.specs.declared.added_calls.ChargesAnswer.{ChargesAnsw
 use Rattle.answers.specs.AddedAnswers.{mirroredAnswer, countAnswer, changeAnswer, startAnswer, busiestAnswer, chargesAnswer}
 use Rattle.answers.proofs.SourceAnswers.{atoms-back}
 
--- what can be read back is told apart
+-- answers that can be read back differ
 apart : {R A : Type 0} (f : R → A) (back : A → R) → ((r : R) → back (f r) ≡ r) → (r r′ : R) → f r ≡ f r′ → r ≡ r′
 apart f back is r r′ e = sym (is r) ∙ ap back e ∙ is r′
 

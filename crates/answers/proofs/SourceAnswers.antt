@@ -66,7 +66,7 @@ check-back (verdict.Refused number) = refl
 pub checks-apart : (r r′ : Verdict) → checkAnswer (verdictNumbers r) ≡ checkAnswer (verdictNumbers r′) → r ≡ r′
 checks-apart r r′ e = verdicts-apart r r′ (sym (check-back r) ∙ ap (λ (a : CheckAnswer). checkAt (a .kind) a) e ∙ check-back r′)
 
--- Questions to a state ---------------------------------------------------------------------------------------------------------
+-- Queries of a state ---------------------------------------------------------------------------------------------------------
 
 -- is_true, and what comes of premises that lead to no state
 abbrev saidAt : ℕ → StateAnswer → Answer

@@ -1,5 +1,5 @@
 -- An answer by the papers' numbers as a struct: the kind, the number, and the values in their places; a value that its case does not have is 0.
--- Different answers are different structs (proofs/Apart.antt).
+-- Different answers are different structs (proofs/SourceAnswers.antt).
 use mathlib.Core.Path.{_≡_}
 use mathlib.Core.Bool.{cond}
 use Prim.Native.Nat.{ℕ, _+_, _^_, _<_}
@@ -24,9 +24,9 @@ valueAt k a = getD (a .values) k (pos 0)
 abbrev pub natAt : ℕ → Answer → ℕ
 natAt k a = natAbs (valueAt k a)
 
--- An overload's reason is told in words, as a post's is, and an atom has three: a usize counts those up to its end.
-abbrev pub ToldInWords : Outcome → Type 0
-ToldInWords o = wordsOf (valueOf o 1) + wordsOf (valueOf o 2) < 2 ^ 64
+-- An overload's reason is given in words, as a post's is, and an atom has three: a usize counts the words up to its end.
+abbrev pub WordsCountable : Outcome → Type 0
+WordsCountable o = wordsOf (valueOf o 1) + wordsOf (valueOf o 2) < 2 ^ 64
 
 -- a run: its post count and, of an overload's reason, the first word's index and the word count; and its leaf changes
 abbrev pub runAnswer : Answer → ℕ → RunAnswer
@@ -43,7 +43,7 @@ runAnswer a changed = record {
 abbrev pub checkAnswer : Answer → CheckAnswer
 checkAnswer a = record { kind = a .kind; number = a .number; variable = natAt 0 a }
 
--- a question to a state: a contradiction, which is kind 2, has its variable; a bound has an infinity's sign, or 0, and the whole number
+-- a query of a state: a contradiction, which is kind 2, has its variable; a bound has an infinity's sign, or 0, and the whole number
 abbrev pub stateAnswer : Answer → StateAnswer
 stateAnswer a = record {
   kind = a .kind;
@@ -54,10 +54,10 @@ stateAnswer a = record {
 }
 
 -- what the state says, unless the premises lead to none: 21 or a contradiction
-abbrev pub askedAt : Application → StateAnswer → StateAnswer
-askedAt application.Consistent here = here
-askedAt (application.Contradiction x) here = stateAnswer (applicationNumbers (application.Contradiction x))
-askedAt (application.Refused n) here = stateAnswer (applicationNumbers (application.Refused n))
+abbrev pub queriedAt : Application → StateAnswer → StateAnswer
+queriedAt application.Consistent here = here
+queriedAt (application.Contradiction x) here = stateAnswer (applicationNumbers (application.Contradiction x))
+queriedAt (application.Refused n) here = stateAnswer (applicationNumbers (application.Refused n))
 
 -- a is made of the numbers of an answer of which P holds
 pub record NumbersOf {R A : Type 0} (numbers : R → A) (P : R → Type 0) (a : A) : Type 0 where

@@ -23,7 +23,7 @@ ghost use Rattle.precedences.specs.Numbers.{precedencesNumbers};
 ghost use Rattle.precedences.specs.ReasonNumbers.{reasonNumbers, boundNumbers};
 ghost use Rattle.runs.specs.Outcomes.{outcomeNumbers};
 ghost use Rattle.busiest_stretch.specs.Numbers.{busiestNumbers};
-ghost use Rattle.answers.specs.SourceAnswers.{ToldInWords};
+ghost use Rattle.answers.specs.SourceAnswers.{WordsCountable};
 ghost use Rattle.answers.specs.AddedAnswers.{mirroredAnswer, countAnswer, changeAnswer, startAnswer, busiestAnswer, chargesAnswer};
 
 // How a mirrored pass ended: kind 0 is Done, 1 Overload with the stretch of atom words that is its reason, 2 Emptied.
@@ -118,7 +118,7 @@ fn start_answer(kind: u32, number: u32, start: i32) -> StartAnswer
 
 // The numbers of a mirrored pass.
 pub fn mirrored_numbers(outcome: Outcome) -> MirroredAnswer
-    requires { ⌜ ToldInWords outcome ⌝ }
+    requires { ⌜ WordsCountable outcome ⌝ }
     ensures { λ r. ⌜ r ≡ mirroredAnswer (outcomeNumbers outcome) ⌝ }
 {
     match outcome {

@@ -1,4 +1,3 @@
-// The answers of creation, the run, the post reader, the check and the questions to a state as structs of numbers: an enum cannot cross to C, so each is filled
-// from the answer's enum.
+// The answers of all calls as structs of numbers for C, and the functions that fill them from the answers' enums.
 pub mod added_calls;
 pub mod source_calls;

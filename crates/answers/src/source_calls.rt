@@ -17,7 +17,7 @@ ghost use Rattle.records.specs.Records.{creationNumber};
 ghost use Rattle.checking.specs.Answers.{truthNumbers, extNumbers, boundNumbers};
 ghost use Rattle.checker.specs.Verdicts.{verdictNumbers};
 ghost use Rattle.runs.specs.Outcomes.{outcomeNumbers};
-ghost use Rattle.answers.specs.SourceAnswers.{ToldInWords, runAnswer, checkAnswer, stateAnswer, askedAt};
+ghost use Rattle.answers.specs.SourceAnswers.{WordsCountable, runAnswer, checkAnswer, stateAnswer, queriedAt};
 
 // A new record, and the number that refused its durations, or 0.
 #[repr(C)]
@@ -79,7 +79,7 @@ pub fn creation_number(answer: Creation) -> u32
 
 // The numbers of a run's outcome, and its leaf changes. An outcome alone does not say that its words can be counted; the run's promise does.
 pub fn finished_numbers(finished: Finished) -> RunAnswer
-    requires { ⌜ ToldInWords (finished .outcome) ⌝ }
+    requires { ⌜ WordsCountable (finished .outcome) ⌝ }
     ensures { λ r. ⌜ r ≡ runAnswer (outcomeNumbers (finished .outcome)) (finished .changes) ⌝ }
 {
     let outcome = finished.outcome;
@@ -151,7 +151,7 @@ fn contradiction_numbers(variable: usize) -> StateAnswer
     }
 }
 
-// They, or the question, are refused.
+// They, or the query, are refused.
 pub fn refusal_numbers(number: u32) -> StateAnswer
     ensures { λ r. ⌜ r ≡ stateAnswer (refusedBy number) ⌝ }
 {
@@ -226,9 +226,9 @@ pub fn bound_numbers(bound: Bound) -> StateAnswer
     }
 }
 
-// What a question to the state that atoms lead to answers: `here`, unless they lead to none.
+// What a query of the state that atoms lead to answers: `here`, unless they lead to none.
 pub fn state_numbers(answer: Application, here: StateAnswer) -> StateAnswer
-    ensures { λ r. ⌜ r ≡ askedAt answer here ⌝ }
+    ensures { λ r. ⌜ r ≡ queriedAt answer here ⌝ }
 {
     match answer {
         Application::Consistent => here,

@@ -124,7 +124,7 @@ module _ (n : ℕ) where
         ∙ ap (λ (k : ℕ). numbered k (ran (traceOf (newRecord ds) es es))) accepted
         ∙ ap (λ (l : List ℕ). ran (propagate l es es)) durations-are
 
-    -- The run that `plan` makes of the lines: no post, the starts as they were, and 4n − 3 leaf changes.
+    -- The run that `plan` makes of the lines: no post, the starts unchanged, and 4n − 3 leaf changes.
     pub costliest-reaches : answered (numbersOf (instanceLines (costliest n))) ≡ inr (record { posts = []; end = done; starts = es; changes = 4 * n - 3 })
     costliest-reaches = costliest-answered n few ∙ planned-is ∙ ap ran (costliest-run n one)
 

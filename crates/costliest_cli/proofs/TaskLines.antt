@@ -21,7 +21,7 @@ module _ {o₀ o₁ o₂ o₃ o₄ o₅ o₆ : List ℕ} {a₀ a₁ a₂ a₃ a�
 pub costliest-length : (n : ℕ) → length (costliest n) ≡ n
 costliest-length n = tab-length costliestTask 0 n
 
--- the buffer with the line of task k behind those before it
+-- the buffer with the line of task k after those before it
 pub puts-one-more : {o₀ o₁ o₂ : List ℕ} {a₀ a₁ a₂ : ℕ} (n k : ℕ) → k < n → Puts o₀ o₁ a₀ (lines taskLine (take k (costliest n))) a₁ → Puts o₁ o₂ a₁ (taskLine (costliestTask k)) a₂
     → Puts o₀ o₂ a₀ (lines taskLine (take (k + 1) (costliest n))) a₂
 puts-one-more n k q p r =

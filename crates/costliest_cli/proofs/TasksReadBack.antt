@@ -22,20 +22,20 @@ use Rattle.costliest_cli.specs.Tasks.{taskLine, instanceLines, costliest
 use Rattle.costliest_cli.proofs.TaskLines.{costliest-length}
 
 -- ---- tasks whose numbers are of 32 bits
-record Held (z : ℤ) : Type 0 where
+record HeldNumber (z : ℤ) : Type 0 where
   low : negsuc 2147483647 ≤ℤ z
   high : z ≤ℤ pos 2147483647
 
 record HeldTask (t : Triple) : Type 0 where
-  earliest : Held (t .earliest)
-  latest : Held (t .latest)
-  duration : Held (t .duration)
+  earliest : HeldNumber (t .earliest)
+  latest : HeldNumber (t .latest)
+  duration : HeldNumber (t .duration)
 
 abbrev AllHeld : List Triple → Type 0
 AllHeld [] = Unit {0}
 AllHeld (t ∷ ts) = HeldTask t × AllHeld ts
 
-held : (n : ℕ) → n ≤ 2147483647 → Held (pos n)
+held : (n : ℕ) → n ≤ 2147483647 → HeldNumber (pos n)
 unfolding up dn
 held n h = record { low = omega ints; high = omega ints }
 

@@ -15,7 +15,7 @@ ghost use lib.IntN.{ℤ};
 ghost use lib.ListN.{length};
 ghost use Rattle.text.specs.DecimalText.{Puts};
 ghost use Rattle.text.specs.Scanner.{gathered};
-ghost use Rattle.plan_cli.specs.Printed.{Written};
+ghost use Rattle.plan_cli.specs.Printed.{TextWritten};
 ghost use Rattle.costliest_cli.specs.Written.{ROOM, answerLines, written};
 ghost use Rattle.costliest_cli.specs.Asked.{askedIn};
 
@@ -38,7 +38,7 @@ fn put_answer(out: &mut [u8], numbers: Numbers) -> usize
 // What is written for a text that is at hand whole.
 pub fn print(out: &mut [u8], text: &[u8]) -> usize
     requires { ⌜ ROOM ≤ length (now out) ⌝ }
-    ensures { λ r. ⌜ Written (now (out .exit)) r (written (now (text .entry))) ⌝ }
+    ensures { λ r. ⌜ TextWritten (now (out .exit)) r (written (now (text .entry))) ⌝ }
 {
     put_answer(out, numbers_of(text))
 }
@@ -46,7 +46,7 @@ pub fn print(out: &mut [u8], text: &[u8]) -> usize
 // What is written for the text that is read.
 fn answer_input(out: &mut [u8]) -> usize
     requires { ⌜ ROOM ≤ length (now out) ⌝ }
-    ensures { λ r. ⌜ ((text : List ℕ) × Written (now (out .exit)) r (written text)) ⌝ }
+    ensures { λ r. ⌜ ((text : List ℕ) × TextWritten (now (out .exit)) r (written text)) ⌝ }
 {
     put_answer(out, read_numbers())
 }

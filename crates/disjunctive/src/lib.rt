@@ -1,10 +1,12 @@
-// The open calls, all in one place: creation, a task added or taken off, the run, the mirrored pass, the pass by precedences, one task's bound and its reason,
-// the overload test, the post reader, the check and the mirrored check, the page, the charges, the earliest free start, the busiest stretch, and the calls of
-// the variable state. None has a `requires`. With each call come the types of what it takes and answers.
-pub mod cores;
-pub mod fixed_schedule_cores;
+// The open calls, all in one place; none has a `requires`. With each come the types of what it takes and answers.
+// On a record: creation, a task added or removed.
+// On a record and ranges: the run, the mirrored pass, the pass by precedences, one task's bound and its reason, the overload test.
+// On a fixed schedule: the page, the charges, the earliest free start, the busiest stretch.
+// On words: the post reader, the check, the mirrored check, and the calls of the variable state.
+mod cores;
+mod fixed_schedule_cores;
 pub mod open_calls;
-pub mod precedence_cores;
+mod precedence_cores;
 
 pub use crate::open_calls::by_precedence::precedence_bound;
 pub use crate::open_calls::by_precedence::precedence_reason;

@@ -28,7 +28,7 @@ use Rattle.runs.proofs.Mirrored as laws
 use Rattle.runs.specs.MirroredWords.{Near}
 use Rattle.runs.proofs.StartsLeft.{starts-length}
 use Rattle.records.specs.declared.record.DisjunctivePropagator.{DisjunctivePropagator}
-use Rattle.records.specs.Refusals.{Accepted}
+use Rattle.records.specs.Refusals.{AcceptedRun}
 use Rattle.runs.specs.declared.outcome.Outcome.{Outcome}
 use Rattle.runs.specs.EndNumbers.{endNumbers, traceNumbers}
 use Rattle.propagator.specs.Ran.{Runnable, traceOf, RunLeft}
@@ -72,7 +72,7 @@ wider-high : (a : ℤ) → a ≤ℤ pos START → a ≤ℤ pos MIRRORED
 unfolding up dn
 wider-high a h = omega ints
 
-module _ (before : DisjunctivePropagator) (es ls : List ℤ) (postCount atomCount : ℕ) (a : Accepted before es ls postCount atomCount) (long : length (before .durations) ≡ TASKS) where
+module _ (before : DisjunctivePropagator) (es ls : List ℤ) (postCount atomCount : ℕ) (a : AcceptedRun before es ls postCount atomCount) (long : length (before .durations) ≡ TASKS) where
   abbrev n : ℕ
   n = before .count
 

@@ -7,7 +7,7 @@ use records::record::DisjunctivePropagator;
 use records::refusals::run_refusal;
 use runs::outcome::Outcome;
 ghost use lib.ListN.{length};
-ghost use Rattle.records.specs.Refusals.{Accepted};
+ghost use Rattle.records.specs.Refusals.{AcceptedRun};
 ghost use Rattle.mirrored.specs.RanInMirror.{RanInMirror};
 ghost use Rattle.mirrored.specs.RanMirrored.{RanMirrored};
 
@@ -19,7 +19,7 @@ fn run_in_mirror(
     posts: &mut [i32],
     atoms: &mut [i32],
 ) -> Outcome
-    requires { ⌜ Accepted «record» (now earliest) (now latest) (length (now posts)) (length (now atoms)) ⌝ }
+    requires { ⌜ AcceptedRun «record» (now earliest) (now latest) (length (now posts)) (length (now atoms)) ⌝ }
     ensures { λ r. ⌜ RanInMirror «record» (now (earliest .entry)) (now (latest .entry)) (now (posts .entry)) (now (atoms .entry)) r (now (latest .exit))
         (now (posts .exit)) (now (atoms .exit)) ⌝ }
 {

@@ -17,12 +17,12 @@ use Rattle.runs.specs.declared.outcome.Outcome.the-variants as outcome
 use Rattle.runs.proofs.TraceNumbers.{not-refused, posts-made, kind-done, kind-emptied, kind-overload}
 use Rattle.plan_cli.specs.Lines.{doneLine, overloadLines, emptiedLine, refusedLine}
 use Rattle.plan_cli.specs.RunLines.{postLines, endLines, runLines, answerLines}
-use Rattle.plan_cli.specs.RunSlices.{Holds, ShowsRun, Shown}
+use Rattle.plan_cli.specs.RunSlices.{PostsHeld, ShowsRun, Shown}
 
--- `count` posts that the slices hold, with room for them and for `more` atoms, and `rest` behind them
+-- `count` posts that the slices hold, with room for them and for `more` atoms, and `rest` after them
 pub record Parts (what : ℕ ⊎ Trace) (posts atoms : List ℤ) (count more : ℕ) (rest : List ℕ) : Type 0 where
   pub list : List Post
-  pub holds : Holds list posts atoms count
+  pub holds : PostsHeld list posts atoms count
   pub text : answerLines what ≡ postLines list ++ rest
   pub few : 44 * length list + 33 * (length (reasons list) + more) ≤ 44 * TASKS + 33 * ATOMS
 
@@ -33,7 +33,7 @@ module _ (posts atoms starts : List ℤ) where
   unfolding runLines
   run-parts t r s count e z q = record {
     list = t .posts;
-    holds = subst (Holds (t .posts) posts atoms) (sym q) (s .holds);
+    holds = subst (PostsHeld (t .posts) posts atoms) (sym q) (s .holds);
     text = (λ i. postLines (t .posts) ++ endLines (z i) (sym (s .starts-are) i));
     few = subst (λ (x : End). 44 * length (t .posts) + 33 * (length (reasons (t .posts)) + length (endReason x)) ≤ 44 * TASKS + 33 * ATOMS) z (omega (arith, s .few-posts, s .few-atoms));
   }

@@ -18,7 +18,7 @@ use Rattle.text.specs.DecimalText.{Puts}
 use Rattle.text.proofs.PutBytes.{puts-append}
 use Rattle.plan_cli.specs.Lines.{newline, doneWord, overloadLine, postLine, lines, whyLines, spaced, doneLine, overloadLines}
 use Rattle.plan_cli.specs.RunLines.{postOf}
-use Rattle.plan_cli.specs.RunSlices.{Held, Holds, Posts}
+use Rattle.plan_cli.specs.RunSlices.{PostHeld, PostsHeld, Posts}
 use Rattle.plan_cli.proofs.RunLines.{puts-as, puts-first, puts-next, puts-all}
 
 pub puts-done : {o₀ o₁ o₂ o₃ : List ℕ} {a₀ a₁ a₂ a₃ : ℕ} (xs : List ℤ) → Puts o₀ o₁ a₀ doneWord a₁ → Puts o₁ o₂ a₁ (spaced xs) a₂ → Puts o₂ o₃ a₂ newline a₃ → Puts o₀ o₃ a₀ (doneLine xs) a₃
@@ -32,15 +32,15 @@ puts-overload reason p q = puts-append p q
 -- a post's line, whose words come back from their bits, and its reason
 pub puts-posted : {o₀ o₁ o₂ : List ℕ} {a₀ a₁ a₂ : ℕ} {x y : ℤ} (posts atoms words : List ℤ) (count j : ℕ) → x ≡ taskWord posts j → y ≡ boundOf posts j → words ≡ reasonWords posts atoms count j
     → Puts o₀ o₁ a₀ (postLine x y) a₁ → ((reason : List Atom) → words ≡ atomWords reason → Puts o₁ o₂ a₁ (whyLines reason) a₂)
-    → (p : Post) → Held posts atoms count j p → Puts o₀ o₂ a₀ (postOf p) a₂
+    → (p : Post) → PostHeld posts atoms count j p → Puts o₀ o₂ a₀ (postOf p) a₂
 puts-posted posts atoms words count j e f w line why p h =
     puts-append (puts-as (λ i. postLine ((e ∙ h .task) i) ((f ∙ h .bound) i)) line) (why (p .reason) (w ∙ h .reason))
 
 -- ---- all posts, one by one
 -- How far the buffer is written when j posts are put.
 pub record Reached (out₀ : List ℕ) (posts atoms : List ℤ) (count : ℕ) (out : List ℕ) (end j : ℕ) : Type 0 where
-  pub puts : (ps : List Post) → Holds ps posts atoms count → Puts out₀ out 0 (lines postOf (take j ps)) end
-  pub within : (ps : List Post) → Holds ps posts atoms count → end ≤ 44 * j + 33 * length (reasons (take j ps))
+  pub puts : (ps : List Post) → PostsHeld ps posts atoms count → Puts out₀ out 0 (lines postOf (take j ps)) end
+  pub within : (ps : List Post) → PostsHeld ps posts atoms count → end ≤ 44 * j + 33 * length (reasons (take j ps))
 
 module _ (out₀ : List ℕ) (posts atoms : List ℤ) (count : ℕ) where
   pub reached-none : Reached out₀ posts atoms count out₀ 0 0
@@ -50,7 +50,7 @@ module _ (out₀ : List ℕ) (posts atoms : List ℤ) (count : ℕ) where
     abbrev words : List ℤ
     words = reasonWords posts atoms count j
 
-    long : (ps : List Post) → Holds ps posts atoms count → j < count → length words ≡ 3 * length (getD ps j no-post .reason)
+    long : (ps : List Post) → PostsHeld ps posts atoms count → j < count → length words ≡ 3 * length (getD ps j no-post .reason)
     long ps h q = ap length (h .each j q .reason) ∙ atoms-length (getD ps j no-post .reason)
 
     -- there is room for the next
@@ -60,13 +60,13 @@ module _ (out₀ : List ℕ) (posts atoms : List ℤ) (count : ℕ) where
       omega (arith, r .within (p .list) (p .holds), long (p .list) (p .holds) q, p .holds .many, p .fits, reasons-suc (p .list) j (omega (arith, p .holds .many)), reasons-most (p .list) (suc j)),
     )
 
-    pub reached-next : (out′ : List ℕ) (end′ : ℕ) → j < count → ((p : Post) → Held posts atoms count j p → Puts out out′ end (postOf p) end′) → end′ ≤ end + 44 + 11 * length words
+    pub reached-next : (out′ : List ℕ) (end′ : ℕ) → j < count → ((p : Post) → PostHeld posts atoms count j p → Puts out out′ end (postOf p) end′) → end′ ≤ end + 44 + 11 * length words
         → Reached out₀ posts atoms count out′ end′ (j + 1)
     reached-next out′ end′ q put most = record {
       puts = λ ps h. puts-next postOf no-post ps j (omega (arith, h .many)) (r .puts ps h) (put (getD ps j no-post) (h .each j q));
       within = λ ps h. let s = reasons-suc ps j (omega (arith, h .many)) in let w = r .within ps h in let l = long ps h q in rw (add-one j) (omega arith);
     }
 
-    pub reached-all : count ≤ j → ((ps : List Post) → Holds ps posts atoms count → Puts out₀ out 0 (lines postOf ps) end)
-        × ((ps : List Post) → Holds ps posts atoms count → j ≤ count → end ≤ 44 * length ps + 33 * length (reasons ps))
+    pub reached-all : count ≤ j → ((ps : List Post) → PostsHeld ps posts atoms count → Puts out₀ out 0 (lines postOf ps) end)
+        × ((ps : List Post) → PostsHeld ps posts atoms count → j ≤ count → end ≤ 44 * length ps + 33 * length (reasons ps))
     reached-all q = (λ ps h. puts-all postOf no-post ps j (omega (arith, h .many)) (r .puts ps h), λ ps h s. omega (arith, h .many, r .within ps h, reasons-most ps j))

@@ -14,7 +14,7 @@ newline = bytesOf "\n"
 abbrev pub space : List ℕ
 space = bytesOf " "
 
--- the words before what a line tells
+-- the words at the front of a line
 abbrev pub postWord : List ℕ
 postWord = bytesOf "post "
 
@@ -27,7 +27,7 @@ doneWord = bytesOf "done"
 abbrev pub refusedWord : List ℕ
 refusedWord = bytesOf "refused "
 
--- the lines that tell no more
+-- the lines of one word
 abbrev pub overloadLine : List ℕ
 overloadLine = bytesOf "overload\n"
 
@@ -45,7 +45,7 @@ postLine task bound = postWord ++ decimal task ++ space ++ decimal bound ++ newl
 unfoldable pub whyLine : ℤ → ℤ → ℤ → List ℕ
 whyLine variable kind value = whyWord ++ decimal variable ++ sign kind ++ decimal value ++ newline
 
--- the bytes of each, one behind the other
+-- the bytes of each, one after the other
 unfoldable pub lines : {A : Type 0} → (A → List ℕ) → List A → List ℕ
 lines f [] = []
 lines f (x ∷ xs) = f x ++ lines f xs

@@ -67,7 +67,7 @@ unfoldable pub printed : List ℕ → List ℕ
 printed text = answerLines (answered (numbersOf text))
 
 -- The first n bytes of a buffer are the text, and no more.
-pub record Written (out : List ℕ) (n : ℕ) (text : List ℕ) : Type 0 where
+pub record TextWritten (out : List ℕ) (n : ℕ) (text : List ℕ) : Type 0 where
   pub count : n ≡ length text
   pub bytes : take n out ≡ text
   pub inside : n ≤ length out

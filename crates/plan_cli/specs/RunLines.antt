@@ -6,7 +6,7 @@ use lib.IntN.{ℤ, pos}
 use Rattle.runs.specs.Traces.{Post, End, done, overload, emptied, Trace}
 use Rattle.plan_cli.specs.Lines.{postLine, lines, whyLines, doneLine, overloadLines, emptiedLine, refusedLine}
 
--- a post and its reason behind it, and all posts
+-- a post with its reason after it, and all posts
 abbrev pub postOf : Post → List ℕ
 postOf p = postLine (pos (p .task)) (p .bound) ++ whyLines (p .reason)
 

@@ -17,7 +17,7 @@ pub enum Counted {
     Wrong,
 }
 
-// The first number counts the triples behind it.
+// The first number counts the triples after it.
 pub fn task_count(numbers: Numbers) -> Counted
     ensures { λ r. ⌜ ((xs : Option (List ℤ)) → numbers ≡ gathered xs → r ≡ countIn xs) ⌝ }
 {

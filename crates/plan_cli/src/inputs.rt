@@ -1,4 +1,4 @@
-// Several inputs in one text, each ended by a '%': where one ends, and its answer, with a '%' on a line behind it.
+// Several inputs in one text, each ended by a '%': where one ends, and its answer, with a '%' on a line after it.
 use libc::STDOUT_FILENO;
 ghost use mathlib.Core.Path.{_≡_};
 ghost use Prim.Native.Nat.{_+_, _≤_};

@@ -1,8 +1,9 @@
 // The program of one run: its input as numbers, the run, and what is printed of it.
-pub mod answer;
+mod answer;
 pub mod input;
 pub mod inputs;
 pub mod lines;
+mod plan;
 pub mod program;
-pub mod report;
+mod report;
 pub mod stdin;

@@ -1,4 +1,4 @@
-// The lines of a run, put into a buffer one behind the other.
+// The lines of a run, put into a buffer one after the other.
 use post_words::atoms_in;
 use post_words::kind_at;
 use post_words::value_at;
@@ -64,7 +64,7 @@ pub fn put_refused(out: &mut [u8], at: usize, number: u32) -> usize
     put_bytes(out, b, b"\n")
 }
 
-// The lines of a reason, for whose words 11 bytes each are room enough.
+// The lines of a reason, with at most 11 bytes for each of its words.
 pub fn put_reason(out: &mut [u8], at: usize, words: &[i32]) -> usize
     requires { ⌜ at + 11 * length (now words) ≤ length (now out) ⌝ }
     ensures text { λ r. ⌜ ((atoms : List Atom) → now (words .entry) ≡ atomWords atoms → Puts (now (out .entry)) (now (out .exit)) at (whyLines atoms) r) ⌝ }
@@ -86,7 +86,7 @@ pub fn put_reason(out: &mut [u8], at: usize, words: &[i32]) -> usize
     end
 }
 
-// A number behind a space.
+// A space and a number.
 fn put_spaced(out: &mut [u8], at: usize, x: i32) -> usize
     requires { ⌜ at + 12 ≤ length (now out) ⌝ }
     ensures text { λ r. ⌜ Puts (now (out .entry)) (now (out .exit)) at (spacedOne x) r ⌝ }
@@ -96,7 +96,7 @@ fn put_spaced(out: &mut [u8], at: usize, x: i32) -> usize
     put_number(out, a, x)
 }
 
-// Numbers, each behind a space.
+// Numbers, a space before each.
 pub fn put_starts(out: &mut [u8], at: usize, starts: &[i32]) -> usize
     requires { ⌜ at + 12 * length (now starts) ≤ length (now out) ⌝ }
     ensures text { λ r. ⌜ Puts (now (out .entry)) (now (out .exit)) at (spaced (now (starts .entry))) r ⌝ }

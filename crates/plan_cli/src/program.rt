@@ -7,7 +7,7 @@ ghost use mathlib.Core.List.{List};
 ghost use Prim.Native.Nat.{ℕ, _≤_};
 ghost use lib.ListN.{length};
 ghost use Rattle.plan_cli.specs.RunSlices.{ROOM};
-ghost use Rattle.plan_cli.specs.Printed.{printed, Written};
+ghost use Rattle.plan_cli.specs.Printed.{printed, TextWritten};
 
 // Bytes for the lines of any run.
 pub const ROOM: usize = 160000;
@@ -15,7 +15,7 @@ pub const ROOM: usize = 160000;
 // What is printed for a text that is at hand whole.
 pub fn print(out: &mut [u8], text: &[u8]) -> usize
     requires { ⌜ ROOM ≤ length (now out) ⌝ }
-    ensures { λ r. ⌜ Written (now (out .exit)) r (printed (now (text .entry))) ⌝ }
+    ensures { λ r. ⌜ TextWritten (now (out .exit)) r (printed (now (text .entry))) ⌝ }
 {
     put_answer(out, numbers_of(text))
 }
@@ -23,7 +23,7 @@ pub fn print(out: &mut [u8], text: &[u8]) -> usize
 // What is printed for the text that is read.
 fn answer_input(out: &mut [u8]) -> usize
     requires { ⌜ ROOM ≤ length (now out) ⌝ }
-    ensures { λ r. ⌜ ((text : List ℕ) × Written (now (out .exit)) r (printed text)) ⌝ }
+    ensures { λ r. ⌜ ((text : List ℕ) × TextWritten (now (out .exit)) r (printed text)) ⌝ }
 {
     put_answer(out, read_numbers())
 }

@@ -22,7 +22,7 @@ ghost use Rattle.post_words.specs.Posts.{reasonWords};
 ghost use Rattle.text.specs.DecimalText.{Puts};
 ghost use Rattle.plan_cli.specs.Lines.{doneLine, overloadLines};
 ghost use Rattle.plan_cli.specs.RunLines.{postOf, postLines, answerLines};
-ghost use Rattle.plan_cli.specs.RunSlices.{Held, Holds, Posts, Shown, Printable};
+ghost use Rattle.plan_cli.specs.RunSlices.{PostHeld, PostsHeld, Posts, Shown, Printable};
 
 // Post j of the two slices, with its reason.
 fn put_posted(
@@ -34,7 +34,8 @@ fn put_posted(
     j: usize,
 ) -> usize
     requires { ⌜ (4 * j + 4 ≤ length (now posts)) × (at + 44 + 11 * length (reasonWords (now posts) (now atoms) count j) ≤ length (now out)) ⌝ }
-    ensures text { λ r. ⌜ ((p : Post) → Held (now (posts .entry)) (now (atoms .entry)) count j p → Puts (now (out .entry)) (now (out .exit)) at (postOf p) r) ⌝ }
+    ensures text { λ r. ⌜ ((p : Post) → PostHeld (now (posts .entry)) (now (atoms .entry)) count j p
+        → Puts (now (out .entry)) (now (out .exit)) at (postOf p) r) ⌝ }
     ensures within { λ r. ⌜ r ≤ at + 44 + 11 * length (reasonWords (now (posts .entry)) (now (atoms .entry)) count j) ⌝ }
 {
     let end = put_post(out, at, task_word(posts, j), bound_word(posts, j));
@@ -44,9 +45,10 @@ fn put_posted(
 // All posts, from the front of the buffer on.
 fn put_posts(out: &mut [u8], posts: &[i32], atoms: &[i32], count: usize) -> usize
     requires { ⌜ Posts (now posts) (now atoms) count (length (now out)) ⌝ }
-    ensures text { λ r. ⌜ ((ps : List Post) → Holds ps (now (posts .entry)) (now (atoms .entry)) count
+    ensures text { λ r. ⌜ ((ps : List Post) → PostsHeld ps (now (posts .entry)) (now (atoms .entry)) count
         → Puts (now (out .entry)) (now (out .exit)) 0 (postLines ps) r) ⌝ }
-    ensures within { λ r. ⌜ ((ps : List Post) → Holds ps (now (posts .entry)) (now (atoms .entry)) count → r ≤ 44 * length ps + 33 * length (reasons ps)) ⌝ }
+    ensures within { λ r. ⌜ ((ps : List Post) → PostsHeld ps (now (posts .entry)) (now (atoms .entry)) count
+        → r ≤ 44 * length ps + 33 * length (reasons ps)) ⌝ }
 {
     let mut end = 0;
     let mut j = 0;

@@ -33,7 +33,7 @@ module _ (posts atoms : List ℤ) (count index : ℕ) where
   unfolding reasonWords
   reason-none h = let y : eqb (postNumber posts atoms count index) 0 ≡ false = ne-eqb (postNumber posts atoms count index) 0 h in rw (y, reasonWords)
 
-  -- a post whose words are a stretch inside the slices is read, and the stretch is handed out
+  -- a post whose words are a stretch inside the slices is read, and the stretch is given
   pub read-at : (f c : ℕ) → firstAtom posts index ≡ pos f → atomCount posts index ≡ pos c → index < count → 4 * index + 4 ≤ length posts → 3 * f + 3 * c ≤ length atoms
       → (postNumber posts atoms count index ≡ 0) × (reasonWords posts atoms count index ≡ take (3 * c) (drop (3 * f) atoms))
   unfolding up dn

@@ -21,7 +21,7 @@ use Rattle.checker.specs.MirroredChecks.{checkMirroredOf}
 use Rattle.checker.specs.Verdicts.{verdictNumbers}
 use Rattle.post_words.specs.Posts.{taskOf, boundOf}
 use Rattle.records.specs.declared.record.DisjunctivePropagator.{DisjunctivePropagator}
-use Rattle.records.specs.Refusals.{Accepted}
+use Rattle.records.specs.Refusals.{AcceptedRun}
 use Rattle.runs.specs.declared.outcome.Outcome.{Outcome}
 use Rattle.runs.specs.Outcomes.{outcomeNumbers, valueOf}
 use Rattle.runs.specs.EndNumbers.{traceNumbers}
@@ -41,7 +41,7 @@ use Rattle.promises.proofs.Largest.{between-least, reached-least}
 use Rattle.promises.proofs.StoredStarts.{proper, latest-stayed, moved-back}
 
 module _ (before : DisjunctivePropagator) (ranges : List Range) (posts atoms ls′ posts′ atoms′ : List ℤ) (answer : Outcome)
-    (ok : Accepted before (earliests ranges) (latests ranges) (length posts) (length atoms)) (fit : allBarsFit ranges ≡ true) (size : length ls′ ≡ length ranges)
+    (ok : AcceptedRun before (earliests ranges) (latests ranges) (length posts) (length atoms)) (fit : allBarsFit ranges ≡ true) (size : length ls′ ≡ length ranges)
     (left : LeftMirrored before (earliests ranges) (latests ranges) posts atoms answer ls′ posts′ atoms′) where
   abbrev ranges′ : List Range
   ranges′ = withLatests ranges ls′

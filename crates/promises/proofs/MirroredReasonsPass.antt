@@ -23,7 +23,7 @@ use Rattle.runs.proofs.Demand as demand
 use Rattle.runs.proofs.Mirrored as laws
 use Rattle.records.specs.declared.record.DisjunctivePropagator.{DisjunctivePropagator}
 use Rattle.records.specs.Records.{durationAt, creationTests, tasksIn}
-use Rattle.records.specs.Refusals.{Accepted}
+use Rattle.records.specs.Refusals.{AcceptedRun}
 use Rattle.records.proofs.Creation.{natural-count, natural-duration, natural-accepted}
 use Rattle.checker.specs.declared.checker.Verdict.the-variants.{Passed}
 use Rattle.checker.specs.Checks.{consequentWords, tasksWith}
@@ -56,7 +56,7 @@ above-bound : (u b : ℤ) → b <ℤ u → (b +ℤ pos 1) ≤ℤ u
 unfolding up dn
 above-bound u b h = omega (ints, sumℤ b (pos 1))
 
-module _ (before : DisjunctivePropagator) (es ls : List ℤ) (posts atoms : ℕ) (a : Accepted before es ls posts atoms) where
+module _ (before : DisjunctivePropagator) (es ls : List ℤ) (posts atoms : ℕ) (a : AcceptedRun before es ls posts atoms) where
   abbrev ds : List ℕ
   ds = take (before .count) (before .durations)
 

@@ -19,7 +19,7 @@ use Rattle.checker.specs.Checks.{checkOf}
 use Rattle.checker.specs.Verdicts.{verdictNumbers}
 use Rattle.post_words.specs.Posts.{taskOf, boundOf}
 use Rattle.records.specs.declared.record.DisjunctivePropagator.{DisjunctivePropagator}
-use Rattle.records.specs.Refusals.{Accepted}
+use Rattle.records.specs.Refusals.{AcceptedRun}
 use Rattle.runs.specs.declared.outcome.Outcome.{Outcome}
 use Rattle.runs.specs.Outcomes.{outcomeNumbers, valueOf}
 use Rattle.runs.specs.EndNumbers.{traceNumbers}
@@ -38,7 +38,7 @@ use Rattle.promises.proofs.Largest.{between, reached}
 use Rattle.promises.proofs.StoredStarts.{proper, stayed, moved-on}
 
 module _ (before : DisjunctivePropagator) (ranges : List Range) (posts atoms es′ posts′ atoms′ : List ℤ) (answer : Outcome) {changed : ℕ}
-    (ok : Accepted before (earliests ranges) (latests ranges) (length posts) (length atoms)) (fit : allBarsFit ranges ≡ true) (size : length es′ ≡ length ranges)
+    (ok : AcceptedRun before (earliests ranges) (latests ranges) (length posts) (length atoms)) (fit : allBarsFit ranges ≡ true) (size : length es′ ≡ length ranges)
     (left : RunLeft before (earliests ranges) (latests ranges) posts atoms answer changed es′ posts′ atoms′) where
   abbrev ranges′ : List Range
   ranges′ = withStarts ranges es′

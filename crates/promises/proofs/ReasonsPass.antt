@@ -23,7 +23,7 @@ use Rattle.runs.proofs.AtomShapes.{Shaped, post-shaped, overload-shaped}
 use Rattle.integers.specs.WholeNumbers.{Within}
 use Rattle.records.specs.declared.record.DisjunctivePropagator.{DisjunctivePropagator}
 use Rattle.records.specs.Records.{creationTests, tasksIn}
-use Rattle.records.specs.Refusals.{Accepted}
+use Rattle.records.specs.Refusals.{AcceptedRun}
 use Rattle.records.proofs.Creation.{natural-count, natural-duration, natural-accepted}
 use Rattle.checker.specs.declared.checker.Verdict.the-variants.{Passed}
 use Rattle.checker.specs.Checks.{checkOf, tasksWith, consequentWords}
@@ -46,7 +46,7 @@ below-bound : (u b : ℤ) → u <ℤ b → u ≤ℤ (b +ℤ negsuc 0)
 unfolding up dn
 below-bound u b h = omega (ints, sumℤ b (negsuc 0))
 
-module _ (before : DisjunctivePropagator) (es ls : List ℤ) (posts atoms : ℕ) (a : Accepted before es ls posts atoms) where
+module _ (before : DisjunctivePropagator) (es ls : List ℤ) (posts atoms : ℕ) (a : AcceptedRun before es ls posts atoms) where
   abbrev l : List ℕ
   l = take (before .count) (before .durations)
 

@@ -9,7 +9,7 @@ use lib.ListN.{length, getD, take, length-map, List·getD-map}
 use lib.Signed.{_≤ℤ_}
 use Rattle.scheduling.specs.Scheduling.{whole, Tasks}
 use Rattle.records.specs.declared.record.DisjunctivePropagator.{DisjunctivePropagator}
-use Rattle.records.specs.Refusals.{Accepted, CountsFit}
+use Rattle.records.specs.Refusals.{AcceptedRun, CountsFit}
 use Rattle.ranges.specs.declared.range.Range.{Range}
 use Rattle.ranges.specs.Bars.{allBarsFit}
 use Rattle.ranges.specs.Moves.{storedStart, storedLatest}
@@ -34,7 +34,7 @@ module _ (before : DisjunctivePropagator) (ranges : List Range) where
   few k q = omega (arith, take-most (before .count) (before .durations))
 
   -- an accepted range has its ends in order
-  pub proper : {posts atoms : ℕ} → Accepted before (earliests ranges) (latests ranges) posts atoms → (k : ℕ) → k < J .count → J .earliest k ≤ℤ J .latest k
+  pub proper : {posts atoms : ℕ} → AcceptedRun before (earliests ranges) (latests ranges) posts atoms → (k : ℕ) → k < J .count → J .earliest k ≤ℤ J .latest k
   proper ok k q = ok .ranges k (omega (arith, few k q, ok .counts .earliest))
 
   -- the ends of range k are those of task k

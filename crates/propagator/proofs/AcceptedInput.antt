@@ -16,7 +16,7 @@ use Rattle.scheduling.proofs.Sets.{total-ext}
 use Rattle.runs.proofs.Demand as demand
 use Rattle.records.specs.declared.record.DisjunctivePropagator.{DisjunctivePropagator}
 use Rattle.records.specs.Records.{Lawful}
-use Rattle.records.specs.Refusals.{Accepted}
+use Rattle.records.specs.Refusals.{AcceptedRun}
 use Rattle.propagator.specs.Ran.{Runnable}
 
 -- The durations of a lawful record: none is 0, so there are as many as its count says.
@@ -55,7 +55,7 @@ unfolding up dn
 wider z h = omega ints
 
 -- and an accepted run, which takes more for given than the core does.
-module _ (r : DisjunctivePropagator) (es ls : List ℤ) (postCount atomCount : ℕ) (a : Accepted r es ls postCount atomCount) where
+module _ (r : DisjunctivePropagator) (es ls : List ℤ) (postCount atomCount : ℕ) (a : AcceptedRun r es ls postCount atomCount) where
   pub runnable : Runnable r es ls postCount atomCount
   runnable = record {
     lawful = a .lawful;

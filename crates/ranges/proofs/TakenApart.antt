@@ -112,7 +112,7 @@ module _ (Said : List ℤ → List ℤ → List ℤ → Type 0) (ys : List Range
       → (TASKS < length (earliests ys) → Said [] [] [] → Said (earliests ys) (latests ys) own) → Stored with
   stored with own size none all as-none = ⊎-elim (few with) (λ h. many with own size none all (as-none (omega (arith, h, length-map ys (λ (y : Range). y .earliest)))) h) (fits-or-not (length ys))
 
--- ---- calls that leave the ranges as they are
+-- ---- calls that leave the ranges unchanged
 -- what a core says of the ranges taken apart holds of the ranges; where there are too many, the core was passed none
 pub apart : (Said : List ℤ → List ℤ → Type 0) (ys : List Range) (s : Starts) → s ≡ startsOf ys → (TASKS < length (earliests ys) → Said [] [] → Said (earliests ys) (latests ys))
     → Said (take (s .count) (s .earliest)) (take (s .count) (s .latest)) → Said (earliests ys) (latests ys)

@@ -32,7 +32,7 @@ withEarliest y e = record { earliest = e; latest = y .latest; count = y .count; 
 abbrev pub withLatest : Range → ℤ → Range
 withLatest y l = record { earliest = y .earliest; latest = l; count = y .count; barred = y .barred }
 
--- the ranges in which the earliest starts es are stored, from the first on; a range for which there is none is as it was
+-- the ranges in which the earliest starts es are stored, from the first on; a range for which there is none is unchanged
 unfoldable pub withStarts : List Range → List ℤ → List Range
 withStarts [] es = []
 withStarts (y ∷ ys) [] = y ∷ ys

@@ -1,4 +1,5 @@
-pub mod bars;
-pub mod moves;
+// Ranges of starts with barred starts: whether the bars fit, ranges as arrays of numbers, and starts stored back.
+mod bars;
+mod moves;
 pub mod range;
 pub mod starts;

@@ -1,6 +1,4 @@
 // Lent ranges are taken apart into arrays of numbers, and starts are stored back into them.
-// What is public here is so for the crate of the calls on lent ranges, and is no open call: what stores relies on there being no more starts than ranges, and
-// tests nothing.
 use crate::bars::all_bars_fit;
 use crate::moves::stored_latest;
 use crate::moves::stored_start;

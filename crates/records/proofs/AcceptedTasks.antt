@@ -19,10 +19,10 @@ use Rattle.scheduling.proofs.Sets.{total-ext}
 use Rattle.scheduling.proofs.Clocks.{sound}
 use Rattle.records.specs.declared.record.DisjunctivePropagator.{DisjunctivePropagator}
 use Rattle.records.specs.Records.{tasksIn, momentsIn}
-use Rattle.records.specs.Refusals.{AcceptedInput, Accepted}
+use Rattle.records.specs.Refusals.{AcceptedInput, AcceptedRun}
 
 -- an accepted run's are such
-pub input-of : {r : DisjunctivePropagator} {es ls : List ℤ} {posts atoms : ℕ} → Accepted r es ls posts atoms → AcceptedInput r es ls
+pub input-of : {r : DisjunctivePropagator} {es ls : List ℤ} {posts atoms : ℕ} → AcceptedRun r es ls posts atoms → AcceptedInput r es ls
 input-of a = record { lawful = a .lawful; counts = a .counts; starts = a .starts; ranges = a .ranges }
 
 zeros-long : length noTasks ≡ TASKS

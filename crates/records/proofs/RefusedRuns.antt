@@ -18,7 +18,7 @@ use Rattle.integers.proofs.Tests.{all-at, all-show, other, unused, accepts, acc
 use Rattle.records.specs.declared.record.DisjunctivePropagator.{DisjunctivePropagator}
 use Rattle.records.specs.Records.{lawfulRecord, Lawful}
 use Rattle.records.specs.Refusals.{startFitsAt, rangeFitsAt, rangeTests, rangeNumber, inputTests, inputNumber, runNumber, StartFits, CountsFit, StartsFit, RangesFit, WordsFit, AcceptedInput}
-use Rattle.records.specs.Refusals.{Accepted}
+use Rattle.records.specs.Refusals.{AcceptedRun}
 use Rattle.records.proofs.Lawful.{lawful-is}
 
 -- a number from low to high, tested and as a fact
@@ -107,7 +107,7 @@ module _ (r : DisjunctivePropagator) (es ls : List ℤ) (after : List Test) wher
   range-4 other = first-holds _ _ (lawful-is r) refl
       (λ _. first-holds _ _ (counts-are (r .count) es ls) refl (λ _. first-holds _ _ (starts-are (r .count) es ls) refl (λ _. first-refuses _ _ (ranges-are (r .count) es ls) other)))
 
-  -- a number that is none of theirs: all of them hold, and the tests behind them give it
+  -- a number that is none of theirs: all of them hold, and the tests after them give it
   pub range-holds : {n : ℕ} {G : Type 0} → other (rangeTests r es ls) n ≡ true → (CountsFit (r .count) es ls → refusal after ≡ n ↔ G)
       → refusal (rangeTests r es ls ++ after) ≡ n ↔ (Lawful r × (CountsFit (r .count) es ls × (StartsFit es ls × (RangesFit es ls × G))))
   range-holds d rest = let w = behind (rangeTests r es ls) after (passed-ranges r es ls) d (λ a. rest (a .counts)) in (
@@ -167,7 +167,7 @@ module _ (r : DisjunctivePropagator) (es ls : List ℤ) (bars : Bool) (posts ato
   words-enough h q = refusal-after (inputTests r es ls bars) (t9 ∷ []) h ∙ accepts (t9 ∷ []) (q, tt)
 
   -- nothing refuses the run
-  pub accepted-run : runNumber r es ls bars posts atoms ≡ 0 ↔ (Accepted r es ls posts atoms × (bars ≡ true))
+  pub accepted-run : runNumber r es ls bars posts atoms ≡ 0 ↔ (AcceptedRun r es ls posts atoms × (bars ≡ true))
   accepted-run = let w = more-accepted (inputTests r es ls bars) t9 (passed-input r es ls bars) (words-are (r .count) posts atoms) refl refl in (
     λ h. (let ((a, b), w) = w .0 h in (record { lawful = a .lawful; counts = a .counts; starts = a .starts; ranges = a .ranges; words = w }, b)),
     λ f. w .1 ((record { lawful = f .0 .lawful; counts = f .0 .counts; starts = f .0 .starts; ranges = f .0 .ranges }, f .1), f .0 .words),

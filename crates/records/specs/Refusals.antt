@@ -82,7 +82,7 @@ pub record AcceptedInput (r : DisjunctivePropagator) (es ls : List ℤ) : Type 0
   pub ranges : RangesFit es ls
 
 -- What holds of an accepted run.
-pub record Accepted (r : DisjunctivePropagator) (es ls : List ℤ) (postWords atomWords : ℕ) : Type 0 where
+pub record AcceptedRun (r : DisjunctivePropagator) (es ls : List ℤ) (postWords atomWords : ℕ) : Type 0 where
   pub lawful : Lawful r
   pub counts : CountsFit (r .count) es ls
   pub starts : StartsFit es ls

@@ -1,3 +1,3 @@
-// The propagator's record, and its creation.
+// The propagator's record, its creation, and the numbers that refuse a run on it.
 pub mod record;
 pub mod refusals;

@@ -18,7 +18,7 @@ use Rattle.promises.specs.RanLent.{lentNumber, RanLent}
 use Rattle.promises.specs.RanMirroredLent.{RanMirroredLent}
 use Rattle.answers.specs.declared.source_calls.RunAnswer.{RunAnswer}
 use Rattle.answers.specs.declared.added_calls.MirroredAnswer.{MirroredAnswer}
-use Rattle.answers.specs.SourceAnswers.{ToldInWords}
+use Rattle.answers.specs.SourceAnswers.{WordsCountable}
 use Rattle.reedgrit.specs.SourceCalls.{RanNumbers}
 use Rattle.reedgrit.specs.AddedCalls.{MirroredNumbers}
 
@@ -31,11 +31,11 @@ accepted o (suc m) refused k = elim (differ (sym (ap (λ (a : Answer). a .kind) 
     differ e = omega arith
 
 -- words inside a slice are fewer than a machine word counts
-told : (o : Outcome) (n : ℕ) → n < 2 ^ 64 → (outcomeNumbers o .kind ≡ 1 → 3 * valueOf o 1 + 3 * valueOf o 2 ≤ n) → ToldInWords o
-told (outcome.Done posts) n room inside = omega arith
-told (outcome.Overload posts first count) n room inside = omega (arith, inside refl)
-told (outcome.Emptied posts) n room inside = omega arith
-told (outcome.Refused number) n room inside = omega arith
+countable : (o : Outcome) (n : ℕ) → n < 2 ^ 64 → (outcomeNumbers o .kind ≡ 1 → 3 * valueOf o 1 + 3 * valueOf o 2 ≤ n) → WordsCountable o
+countable (outcome.Done posts) n room inside = omega arith
+countable (outcome.Overload posts first count) n room inside = omega (arith, inside refl)
+countable (outcome.Emptied posts) n room inside = omega arith
+countable (outcome.Refused number) n room inside = omega arith
 
 module _ (before : DisjunctivePropagator) (ranges : List Range) (posts atoms : List ℤ) (ranges′ : List Range) (posts′ atoms′ : List ℤ) where
   -- The run --------------------------------------------------------------------------------------------------------------------
@@ -44,19 +44,19 @@ module _ (before : DisjunctivePropagator) (ranges : List Range) (posts atoms : L
     run-kept : outcomeNumbers o .kind ≡ 1 → OverloadPromise (Reason before ranges o ranges′ posts′ atoms′) o atoms′
     run-kept k = ran .accepted (accepted o (lentNumber before ranges posts atoms) (λ e. ran .refused e .number) k) .promise .overload k
 
-    pub run-told : length atoms′ ≡ length atoms → length atoms < 2 ^ 64 → ToldInWords o
-    run-told same room = told o (length atoms) room (λ k. omega (arith, same, run-kept k .inside))
+    pub run-countable : length atoms′ ≡ length atoms → length atoms < 2 ^ 64 → WordsCountable o
+    run-countable same room = countable o (length atoms) room (λ k. omega (arith, same, run-kept k .inside))
 
   -- `count` words from `first` on
   pub run-words : (a : RunAnswer) (after : DisjunctivePropagator) (n : RanNumbers before ranges posts atoms a after ranges′ posts′ atoms′) → a .kind ≡ 1
-      → (a .first + a .count ≤ length atoms′) × Reason before ranges (n .finished .outcome) ranges′ posts′ atoms′ (take (a .count) (drop (a .first) atoms′)) none
-  run-words a after n k = subst Pointed (sym (n .numbers)) (kept .inside, kept .reason)
+      → (a .first + a .count ≤ length atoms′) × Reason before ranges (n .answer .outcome) ranges′ posts′ atoms′ (take (a .count) (drop (a .first) atoms′)) none
+  run-words a after n k = subst Pointed (sym (n .are)) (kept .inside, kept .reason)
     where
       Pointed : RunAnswer → Type 0
-      Pointed b = (b .first + b .count ≤ length atoms′) × Reason before ranges (n .finished .outcome) ranges′ posts′ atoms′ (take (b .count) (drop (b .first) atoms′)) none
+      Pointed b = (b .first + b .count ≤ length atoms′) × Reason before ranges (n .answer .outcome) ranges′ posts′ atoms′ (take (b .count) (drop (b .first) atoms′)) none
 
-      kept : OverloadPromise (Reason before ranges (n .finished .outcome) ranges′ posts′ atoms′) (n .finished .outcome) atoms′
-      kept = run-kept (n .finished .outcome) (n .finished .changes) after (n .ran) (sym (ap (λ (b : RunAnswer). b .kind) (n .numbers)) ∙ k)
+      kept : OverloadPromise (Reason before ranges (n .answer .outcome) ranges′ posts′ atoms′) (n .answer .outcome) atoms′
+      kept = run-kept (n .answer .outcome) (n .answer .changes) after (n .promised) (sym (ap (λ (b : RunAnswer). b .kind) (n .are)) ∙ k)
 
   -- The mirrored pass ----------------------------------------------------------------------------------------------------------
 
@@ -64,8 +64,8 @@ module _ (before : DisjunctivePropagator) (ranges : List Range) (posts atoms : L
     mirrored-kept : outcomeNumbers o .kind ≡ 1 → OverloadPromise (MirroredReason before ranges o ranges′ posts′ atoms′) o atoms′
     mirrored-kept k = ran .accepted (accepted o (lentNumber before ranges posts atoms) (λ e. ran .refused e .number) k) .promise .overload k
 
-    pub mirrored-told : length atoms′ ≡ length atoms → length atoms < 2 ^ 64 → ToldInWords o
-    mirrored-told same room = told o (length atoms) room (λ k. omega (arith, same, mirrored-kept k .inside))
+    pub mirrored-countable : length atoms′ ≡ length atoms → length atoms < 2 ^ 64 → WordsCountable o
+    mirrored-countable same room = countable o (length atoms) room (λ k. omega (arith, same, mirrored-kept k .inside))
 
   pub mirrored-words : (a : MirroredAnswer) (n : MirroredNumbers before ranges posts atoms a ranges′ posts′ atoms′) → a .kind ≡ 1
       → (a .first + a .count ≤ length atoms′) × MirroredReason before ranges (n .answer) ranges′ posts′ atoms′ (take (a .count) (drop (a .first) atoms′)) none

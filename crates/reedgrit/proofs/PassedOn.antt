@@ -1,5 +1,4 @@
--- A call that passes all that it is passed on to an open call, for good, and returns the numbers of what that answers. The tokens and what is said of what was lent go through as they are, so what is
--- left to such a call is the walk of its MIR.
+-- An exported call passes its arguments on to an open call, for good, and returns the numbers of its answer. The tokens pass through unchanged, so what is left is the walk of its MIR.
 use mathlib.Core.Path.{_≡_}
 use Prim.Native.Nat.{ℕ}
 use mathlib.Core.List.{List, [], _∷_}
@@ -34,7 +33,7 @@ use denote.Triple.Walked.{says}
 use Rattle.disjunctive.proofs.Calls.{ContractOf, calls-by}
 
 -- the open call's signature, the machine values of what it is passed, and what it says of what it is passed, of its answer and of what it leaves; the numbers of an answer, and what the function that
--- makes them asks of it, if anything; and what the exported call says
+-- makes them requires of it, if anything; and what the exported call says
 pub record Passing : Type 2 where
   pub lent : Ended
   pub O : RattleType
@@ -42,22 +41,22 @@ pub record Passing : Type 2 where
   pub values : (κs : Lfts (lent .signature .lifetimes)) → Spells (typesAt (lent .signature .params) κs)
   pub tells : (κs : Lfts (lent .signature .lifetimes)) → Tellss (typesAt (lent .signature .params) κs) (Ises (typesAt (lent .signature .params) κs)) (values κs)
   pub numbers : O .Denot → N .Denot
-  pub asks : O .Denot → Option (Type 0)
-  pub Left : (κs : Lfts (lent .signature .lifetimes)) → Args (lent .signature) κs → O .Denot → AtExit lent κs → Type 0
-  pub Told : (κs : Lfts (lent .signature .lifetimes)) → Args (lent .signature) κs → N .Denot → AtExit lent κs → Type 0
+  pub required : O .Denot → Option (Type 0)
+  pub Promised : (κs : Lfts (lent .signature .lifetimes)) → Args (lent .signature) κs → O .Denot → AtExit lent κs → Type 0
+  pub Numbered : (κs : Lfts (lent .signature .lifetimes)) → Args (lent .signature) κs → N .Denot → AtExit lent κs → Type 0
 
 -- what is asked of an answer, as the assertion that a `requires` is and as a fact
-abbrev asking : {M : Type 1} (𝓤 : URA M) → Option (Type 0) → SProp 𝓤
-asking 𝓤 none = emp 𝓤
-asking 𝓤 (some φ) = fact 𝓤 φ
+abbrev requirement : {M : Type 1} (𝓤 : URA M) → Option (Type 0) → SProp 𝓤
+requirement 𝓤 none = emp 𝓤
+requirement 𝓤 (some φ) = fact 𝓤 φ
 
 abbrev Met : Option (Type 0) → Type 0
 Met none = Unit {0}
 Met (some φ) = φ
 
-met-asking : {M : Type 1} (𝓤 : URA M) (o : Option (Type 0)) → Met o → ent 𝓤 (emp 𝓤) (asking 𝓤 o)
-met-asking 𝓤 none x = id⊢ 𝓤 (emp 𝓤)
-met-asking 𝓤 (some φ) x = factI 𝓤 φ (emp 𝓤) x
+met-requirement : {M : Type 1} (𝓤 : URA M) (o : Option (Type 0)) → Met o → ent 𝓤 (emp 𝓤) (requirement 𝓤 o)
+met-requirement 𝓤 none x = id⊢ 𝓤 (emp 𝓤)
+met-requirement 𝓤 (some φ) x = factI 𝓤 φ (emp 𝓤) x
 
 module _ (D : Passing) where
   -- the signature with another result
@@ -73,23 +72,23 @@ module _ (D : Passing) where
 
   module _ {M : Type 1} (𝓤 : URA M) (H : Heap 𝓤) (A : Atoms 𝓤) where
     -- what the open call, the function that makes the numbers and the exported call ask and say
-    abbrev left : Clauses 𝓤 (answering (D .O))
-    left κs a = record { ghost = Unit {0}; requires = λ _. emp 𝓤; ensures = λ _ r e. fact 𝓤 (D .Left κs a r e) }
+    abbrev promised : Clauses 𝓤 (answering (D .O))
+    promised κs a = record { ghost = Unit {0}; requires = λ _. emp 𝓤; ensures = λ _ r e. fact 𝓤 (D .Promised κs a r e) }
 
     abbrev made : Clauses 𝓤 numbering
-    made κs a = record { ghost = Unit {0}; requires = λ _. asking 𝓤 (D .asks (a .0)); ensures = λ _ m e. fact 𝓤 (m ≡ D .numbers (a .0)) }
+    made κs a = record { ghost = Unit {0}; requires = λ _. requirement 𝓤 (D .required (a .0)); ensures = λ _ m e. fact 𝓤 (m ≡ D .numbers (a .0)) }
 
-    abbrev told : Clauses 𝓤 (answering (D .N))
-    told κs a = record { ghost = Unit {0}; requires = λ _. emp 𝓤; ensures = λ _ m e. fact 𝓤 (D .Told κs a m e) }
+    abbrev numbered : Clauses 𝓤 (answering (D .N))
+    numbered κs a = record { ghost = Unit {0}; requires = λ _. emp 𝓤; ensures = λ _ m e. fact 𝓤 (D .Numbered κs a m e) }
 
     abbrev pub Lent : Contract 𝓤
-    Lent = ContractOf 𝓤 H A (answering (D .O)) left
+    Lent = ContractOf 𝓤 H A (answering (D .O)) promised
 
     abbrev pub Numbers : Contract 𝓤
     Numbers = ContractOf 𝓤 H A numbering made
 
     abbrev pub Exported : Contract 𝓤
-    Exported = ContractOf 𝓤 H A (answering (D .N)) told
+    Exported = ContractOf 𝓤 H A (answering (D .N)) numbered
 
     -- what is passed, at its machine values
     abbrev pub written : (κs : Lfts (D .lent .signature .lifetimes)) → Shares (D .lent .signature .lifetimes) → AllOutlive (D .lent .signature .lifetimes) (D .lent .signature .outlives) κs
@@ -100,13 +99,13 @@ module _ (D : Passing) where
     abbrev pub Kept : (y : Bound 𝓤 H A (D .lent .signature)) → Lasts (D .lent) (y .0) (y .3) → List (Item 𝓤)
     Kept y us = raw (alive 𝓤 H A (D .lent .signature) (y .0) (y .1)) ∷ ‵ (lasts (D .lent) (y .0) (y .3) us) ∷ []
 
-    pub ends : Given 𝓤 H A → (y : Bound 𝓤 H A (D .lent .signature)) (us : Lasts (D .lent) (y .0) (y .3)) (w : Val) (m : D .N .Denot) → D .Told (y .0) (y .3) m (atExit (D .lent) (y .0) (y .3) us)
+    pub ends : Given 𝓤 H A → (y : Bound 𝓤 H A (D .lent .signature)) (us : Lasts (D .lent) (y .0) (y .3)) (w : Val) (m : D .N .Denot) → D .Numbered (y .0) (y .3) m (atExit (D .lent) (y .0) (y .3) us)
         → ent 𝓤 (⋆ 𝓤 H A (‵ (D .N .own m (w ∷ [])) ∷ Kept y us)) (Exported .post (y, tt) w)
     ends W y us w m e =
         qed W (‵ (D .N .own m (w ∷ [])) ∷ Kept y us) ∵ updating ! $ at-once ! $ show !
-        (λ (m′ : D .N .Denot). sep 𝓤 (Back 𝓤 H A (answering (D .N) .signature) y w m′) (ensured 𝓤 H A (answering (D .N)) told (y .0) (y .3) tt m′)) m $
+        (λ (m′ : D .N .Denot). sep 𝓤 (Back 𝓤 H A (answering (D .N) .signature) y w m′) (ensured 𝓤 H A (answering (D .N)) numbered (y .0) (y .3) tt m′)) m $
         move ! (1 ∷ 0 ∷ []) $ join ! $ frame ! $
-        show ! (λ (ws : Lasts (D .lent) (y .0) (y .3)). sep 𝓤 (sem 𝓤 H A (lasts (D .lent) (y .0) (y .3) ws)) (fact 𝓤 (D .Told (y .0) (y .3) m (atExit (D .lent) (y .0) (y .3) ws)))) us $ says ! e $
+        show ! (λ (ws : Lasts (D .lent) (y .0) (y .3)). sep 𝓤 (sem 𝓤 H A (lasts (D .lent) (y .0) (y .3) ws)) (fact 𝓤 (D .Numbered (y .0) (y .3) m (atExit (D .lent) (y .0) (y .3) ws)))) us $ says ! e $
         done !
 
 -- the two calls of the walk
@@ -114,18 +113,19 @@ module _ {M : Type 1} {𝓤 : URA M} {H : Heap 𝓤} {A : Atoms 𝓤} {K : Type 
     {xs : List Operand} {d : Place} {rest : Body} where
   pub calls-open : K → FmC 𝓤 H (W .laws) C → (D : Passing) → Triple 𝓤 (C f) (Lent D 𝓤 H A) → (y : Bound 𝓤 H A (D .lent .signature))
       → Opds K W (raw (Lent D 𝓤 H A .pre (y, tt)) ∷ Γ) E xs (passed 𝓤 H A (D .lent .signature) y)
-      → ((v : Val) (r : D .O .Denot) (us : Lasts (D .lent) (y .0) (y .3)) → D .Left (y .0) (y .3) r (atExit (D .lent) (y .0) (y .3) us) → Is (D .O) r (v ∷ [])
+      → ((v : Val) (r : D .O .Denot) (us : Lasts (D .lent) (y .0) (y .3)) → D .Promised (y .0) (y .3) r (atExit (D .lent) (y .0) (y .3) us) → Is (D .O) r (v ∷ [])
       → Seq K W (‵ (D .O .own r (v ∷ [])) ∷ raw (alive 𝓤 H A (D .lent .signature) (y .0) (y .1)) ∷ ‵ (lasts (D .lent) (y .0) (y .3) us) ∷ Γ) (lands C Λ E d v rest q))
       → Seq K W (raw (Lent D 𝓤 H A .pre (y, tt)) ∷ Γ) (runs C Λ E (seq (call f xs d) rest) q)
   calls-open t fm D known y os k =
-      calls-by t fm (answering D (D .O)) (left D 𝓤 H A) known (y, tt) os (λ v r us is. move t (3 ∷ []) $ heard t (D .Left (y .0) (y .3) r (atExit (D .lent) (y .0) (y .3) us)) (λ e. k v r us e is))
+      calls-by t fm (answering D (D .O)) (promised D 𝓤 H A) known (y, tt) os (λ v r us is. move t (3 ∷ []) $
+      heard t (D .Promised (y .0) (y .3) r (atExit (D .lent) (y .0) (y .3) us)) (λ e. k v r us e is))
 
-  pub calls-numbers : K → FmC 𝓤 H (W .laws) C → (D : Passing) → Triple 𝓤 (C f) (Numbers D 𝓤 H A) → (r : D .O .Denot) (v : Val) → Met (D .asks r)
+  pub calls-numbers : K → FmC 𝓤 H (W .laws) C → (D : Passing) → Triple 𝓤 (C f) (Numbers D 𝓤 H A) → (r : D .O .Denot) (v : Val) → Met (D .required r)
       → Opds K W (raw (Numbers D 𝓤 H A .pre ((tt, tt, tt, (r, tt), (v ∷ [], tt)), tt)) ∷ Γ) E xs (v ∷ [])
       → ((w : Val) (m : D .N .Denot) → m ≡ D .numbers r → Is (D .N) m (w ∷ []) → Seq K W (‵ (D .N .own m (w ∷ [])) ∷ Γ) (lands C Λ E d w rest q))
       → Seq K W (‵ (D .O .own r (v ∷ [])) ∷ Γ) (runs C Λ E (seq (call f xs d) rest) q)
   calls-numbers t fm D known r v met os k =
-      nothing t $ move t (1 ∷ 0 ∷ []) $ fjoin t $ nothing t $ join t $ use0 W (raw (asking 𝓤 (D .asks r))) (met-asking 𝓤 (D .asks r) met) $ move t (1 ∷ 0 ∷ []) $ join t $
+      nothing t $ move t (1 ∷ 0 ∷ []) $ fjoin t $ nothing t $ join t $ use0 W (raw (requirement 𝓤 (D .required r))) (met-requirement 𝓤 (D .required r) met) $ move t (1 ∷ 0 ∷ []) $ join t $
       use1 W (raw (Numbers D 𝓤 H A .pre ((tt, tt, tt, (r, tt), (v ∷ [], tt)), tt))) (id⊢ 𝓤 _) $
       calls-by t fm (numbering D) (made D 𝓤 H A) known ((tt, tt, tt, (r, tt), (v ∷ [], tt)), tt) os (λ w m us is.
       move t (3 ∷ []) $ heard t (m ≡ D .numbers r) (λ e. move t (1 ∷ 2 ∷ []) $ drop t $ drop t $ k w m e is))

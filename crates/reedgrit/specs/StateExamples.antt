@@ -1,4 +1,4 @@
--- The order of the tests of a question.
+-- The order of the tests of a query.
 use mathlib.Core.Path.{_≡_, refl}
 use mathlib.Core.List.{List, [], _∷_}
 use lib.IntN.{ℤ, pos}

@@ -17,34 +17,34 @@ use Rattle.checking.specs.declared.variable_state.Applied.{Applied}
 use Rattle.checking.specs.Answers.{applicationNumbers, truthNumbers, boundNumbers}
 use Rattle.checking.specs.States.{prepared, truthOf, boundOf, lowerOf, upperOf}
 use Rattle.answers.specs.declared.source_calls.StateAnswer.{StateAnswer}
-use Rattle.answers.specs.SourceAnswers.{stateAnswer, askedAt}
+use Rattle.answers.specs.SourceAnswers.{stateAnswer, queriedAt}
 
 -- prepare: whether premises and the negated consequent lead to a state, which is kind 0; a contradiction; or a refusal
 abbrev pub preparedAnswer : List ℤ → List ℤ → StateAnswer
 preparedAnswer premises consequent = stateAnswer (applicationNumbers (prepared premises consequent .answer))
 
--- A question to the state that premises lead to ---------------------------------------------------------------------------------
+-- A query to the state that premises lead to ---------------------------------------------------------------------------------
 
--- the words of the premises and those of the question are right
-abbrev pub rightQuestion : List ℤ → Bool → Bool
-rightQuestion premises own = rightWords premises && own
+-- the words of the premises and those of the query are right
+abbrev pub rightWordsOf : List ℤ → Bool → Bool
+rightWordsOf premises own = rightWords premises && own
 
 -- its tests, each over the whole input: 7, then 6
-abbrev pub questionTests : List ℤ → Bool → List Test
-questionTests premises own = test refused.PREMISES (leb (length premises) (3 * PREMISES + 2)) ∷ test refused.ATOMS (rightQuestion premises own) ∷ []
+abbrev pub stateTests : List ℤ → Bool → List Test
+stateTests premises own = test refused.PREMISES (leb (length premises) (3 * PREMISES + 2)) ∷ test refused.ATOMS (rightWordsOf premises own) ∷ []
 
-abbrev pub askedAfter : ℕ → Applied → (VariableState → Answer) → StateAnswer
-askedAfter zero applied question = askedAt (applied .answer) (stateAnswer (question (applied .state)))
-askedAfter (suc n) applied question = stateAnswer (refusedBy (suc n))
+abbrev pub queriedAfter : ℕ → Applied → (VariableState → Answer) → StateAnswer
+queriedAfter zero applied query = queriedAt (applied .answer) (stateAnswer (query (applied .state)))
+queriedAfter (suc n) applied query = stateAnswer (refusedBy (suc n))
 
-abbrev pub asked : List ℤ → Bool → (VariableState → Answer) → StateAnswer
-asked premises own question = askedAfter (refusal (questionTests premises own)) (prepared premises []) question
+abbrev pub queried : List ℤ → Bool → (VariableState → Answer) → StateAnswer
+queried premises own query = queriedAfter (refusal (stateTests premises own)) (prepared premises []) query
 
 abbrev pub truthAfter : List ℤ → ℤ → ℤ → ℤ → StateAnswer
-truthAfter premises x k v = asked premises (rightAtom x k v) (λ s. truthNumbers (truthOf s x k v))
+truthAfter premises x k v = queried premises (rightAtom x k v) (λ s. truthNumbers (truthOf s x k v))
 
 abbrev pub boundAfter : (Domain → IntExt) → List ℤ → ℤ → StateAnswer
-boundAfter side premises x = asked premises (rightVariable x) (λ s. boundNumbers (boundOf side s x))
+boundAfter side premises x = queried premises (rightVariable x) (λ s. boundNumbers (boundOf side s x))
 
 abbrev pub lowerAfter : List ℤ → ℤ → StateAnswer
 lowerAfter premises x = boundAfter lowerOf premises x

@@ -1,6 +1,6 @@
 // The open calls for C and Rust. Each answers a struct of numbers of the crate `answers`; a lent slice crosses as a pointer and a length.
 pub mod added_calls;
-pub mod checks;
-pub mod posts;
+mod checks;
+mod posts;
 pub mod source_calls;
-pub mod states;
+mod states;

@@ -1,4 +1,4 @@
-// Questions to the state that premises lead to; the state itself, of enums, does not cross.
+// Queries of the state that premises lead to; the state itself, of enums, does not cross.
 use answers::source_calls::StateAnswer;
 use answers::source_calls::bound_numbers;
 use answers::source_calls::refusal_numbers;
@@ -15,7 +15,7 @@ ghost use mathlib.Core.Bool.{false};
 ghost use Rattle.integers.specs.Tests.{refusal};
 ghost use Rattle.checking.specs.Answers.{boundNumbers};
 ghost use Rattle.checking.specs.States.{sideOf, boundOf};
-ghost use Rattle.reedgrit.specs.States.{preparedAnswer, questionTests, truthAfter, boundAfter};
+ghost use Rattle.reedgrit.specs.States.{preparedAnswer, stateTests, truthAfter, boundAfter};
 
 // Whether the premises and the negated consequent, of one atom or none, lead to a state; the state itself does not cross.
 pub fn prepared(premises: &[i32], consequent: &[i32]) -> StateAnswer
@@ -33,14 +33,14 @@ pub fn prepared(premises: &[i32], consequent: &[i32]) -> StateAnswer
     state_numbers(answer, consistent)
 }
 
-// The number of a question whose own words are not accepted: more premises than there may be come first.
+// The number of a query whose own words are not accepted: more premises than there may be come first.
 fn unfit_number(premises: &[i32]) -> u32
-    ensures { λ r. ⌜ r ≡ refusal (questionTests (now (premises .entry)) false) ⌝ }
+    ensures { λ r. ⌜ r ≡ refusal (stateTests (now (premises .entry)) false) ⌝ }
 {
     if 3 * PREMISES + 2 < premises.len() {
         return refused::PREMISES;
     }
-    6
+    refused::ATOMS
 }
 
 // Whether every value that the premises leave to a variable meets the atom (variable, kind, value).

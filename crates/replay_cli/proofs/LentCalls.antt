@@ -309,7 +309,7 @@ module _ {M : Type 1} (𝓤 : URA M) (H : Heap 𝓤) (A : Atoms 𝓤) (W : Given
           ran-is : (r : S .Denot) (v : Val) → Is S r (v ∷ []) → (zs : List Range) → InField zs (machK zs ∷ []) → Is R.the-row (ran r zs) (machR (ran r zs) ∷ [])
           ran-is r v is zs iz = LL.owes R.the-type R′.the-laws (ran r zs) (a .outcome-is r v is, (a .changes-is r v is, (iz, tt)))
 
--- ---- the function meets its contract
+-- ---- the law
 pub safe-lender : {M : Type 1} (𝓤 : URA M) (H : Heap 𝓤) (𝓜 : Model 𝓤 H) (𝓖 : GhostRules 𝓤 H) (𝓡 : Running 𝓤 H 𝓜) (w : Lent) (S : RattleType) (τ : Ty) (f : Name) (outcome changes : Operand)
     (says : Says w S 𝓤) → Answer 𝓤 H (𝓖 .A) (givenOf 𝓤 H 𝓜 𝓖) S τ outcome changes → (env : Names) (key : Name)
     → Closed 𝓤 H (tables 𝓤 H 𝓜 𝓡 env .C) (tables 𝓤 H 𝓜 𝓡 env .Λ) key (function w τ f outcome changes) → Triple 𝓤 (tables 𝓤 H 𝓜 𝓡 env .C f) (LentContract w S 𝓤 H (𝓖 .A) says)

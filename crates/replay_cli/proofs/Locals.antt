@@ -65,7 +65,7 @@ recordAt l γ h = record { ptr = (l, 0); name = γ; now = h }
 abbrev pub rangesAt : ℕ → GName → List Range → RefT (List Range)
 rangesAt l γ ys = record { ptr = (l, 0); name = γ; now = ys }
 
--- the first n ranges of an array, and those behind them
+-- the first n ranges of an array, and those after them
 abbrev pub First : ℕ → ℕ → List Range → Fml
 First l n ys = cells (mem T.the-row) (take n ys) l 0
 

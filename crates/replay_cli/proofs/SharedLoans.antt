@@ -1,4 +1,4 @@
--- What the walks of the calls that leave the ranges as they are share: a local record is lent as a `&`, and the first of a local array of ranges as a `&` slice, each for a lifetime of its own that
+-- What the walks of the calls that leave the ranges unchanged share: a local record is lent as a `&`, and the first of a local array of ranges as a `&` slice, each for a lifetime of its own that
 -- ends after the call; then both are room again.
 -- What else a call is passed, and the tokens of its lifetimes, go along as they came at entry.
 use mathlib.Core.Path.{refl}
@@ -35,7 +35,7 @@ use Rattle.replay_cli.specs.declared.range_lists.Ranges.{Ranges}
 use Rattle.replay_cli.proofs.range_lists.Ranges as R
 use Rattle.replay_cli.proofs.Locals.{machP, machN, machK, kept, room, recordAt, rangesAt, First, Behind, InField, kept-length, kept-of, record-in, record-room, kept-apart, kept-whole}
 
--- what the lender has meanwhile: the way back of what is lent, and the ranges behind the first n
+-- what the lender has meanwhile: the way back of what is lent, and the ranges after the first n
 abbrev pub RecordLent : ℕ → ℕ → DisjunctivePropagator → Fml
 RecordLent ν l h = flent (ν ∷ []) (partAt P.the-row fullShare h l 0)
 

@@ -1,8 +1,5 @@
 // A line's command, and its answer.
-use crate::changes::created;
-use crate::changes::with_task;
-use crate::changes::without_task;
-use crate::checks::checks;
+use crate::check_commands::answer_check;
 use crate::lines::say;
 use crate::lines::say_error;
 use crate::parts::LISTS;
@@ -12,11 +9,14 @@ use crate::parts::first_word;
 use crate::parts::list;
 use crate::parts::lists_in;
 use crate::parts::same;
-use crate::range_commands::asks;
-use crate::states::applied;
-use crate::states::emptied;
-use crate::states::prepared;
-use crate::states::tells;
+use crate::range_commands::answer_ranges;
+use crate::record_commands::answer_add;
+use crate::record_commands::answer_create;
+use crate::record_commands::answer_remove;
+use crate::state_commands::answer_apply;
+use crate::state_commands::answer_prepare;
+use crate::state_commands::answer_query;
+use crate::state_commands::answer_state;
 use disjunctive::DisjunctivePropagator;
 use disjunctive::VariableState;
 use disjunctive::create;
@@ -42,7 +42,7 @@ impl Session {
     }
 
     // The session with another record.
-    fn recorded(self, record: DisjunctivePropagator) -> Session {
+    fn with_record(self, record: DisjunctivePropagator) -> Session {
         let state = self.state;
         Session {
             made: true,
@@ -52,7 +52,7 @@ impl Session {
     }
 
     // The session with another state.
-    fn stated(self, state: VariableState) -> Session {
+    fn with_state(self, state: VariableState) -> Session {
         let made = self.made;
         let record = self.record;
         Session {
@@ -63,53 +63,57 @@ impl Session {
     }
 
     // The answer to a command with one list of numbers; others are passed on.
-    fn obey(self, word: &[u8], words: &[i32], ends: &[usize]) -> Session {
+    fn answer_list(self, word: &[u8], words: &[i32], ends: &[usize]) -> Session {
         let a = list(words, ends, 0);
         if same(word, b"create") {
-            return self.recorded(created(a));
+            return self.with_record(answer_create(a));
         }
         if self.made && same(word, b"add") {
             let record = self.record;
-            return self.recorded(with_task(record, a));
+            return self.with_record(answer_add(record, a));
         }
         if self.made && same(word, b"remove") {
             let record = self.record;
-            return self.recorded(without_task(record, a));
+            return self.with_record(answer_remove(record, a));
         }
         if same(word, b"state") {
-            return self.stated(emptied());
+            return self.with_state(answer_state());
         }
         if same(word, b"apply") {
             let state = self.state;
-            return self.stated(applied(state, a));
+            return self.with_state(answer_apply(state, a));
         }
         let state = self.state;
-        if !tells(state, word, a) {
-            return self.obey_lists(word, words, ends, 1);
+        if !answer_query(state, word, a) {
+            return self.answer_lists(word, words, ends, 1);
         }
         self
     }
 
     // The answer to a command with any number of lists.
-    fn obey_lists(self, word: &[u8], words: &[i32], ends: &[usize], n: usize) -> Session {
+    fn answer_lists(self, word: &[u8], words: &[i32], ends: &[usize], n: usize) -> Session {
         if same(word, b"prepare") {
             let state = self.state;
-            return self.stated(prepared(state, list(words, ends, 0), list(words, ends, 1)));
+            return self.with_state(answer_prepare(
+                state,
+                list(words, ends, 0),
+                list(words, ends, 1),
+            ));
         }
-        if checks(word, words, ends) {
+        if answer_check(word, words, ends) {
             return self;
         }
         if self.made {
             let record = self.record;
-            asks(record, word, words, ends, n);
+            answer_ranges(record, word, words, ends, n);
         } else {
             say_error();
         }
         self
     }
 
-    // A command's lists are read, and it is answered.
-    fn call(self, line: &[u8]) -> Session {
+    // The answer to a command, whose lists are read here.
+    fn answer_command(self, line: &[u8]) -> Session {
         let mut words = [0i32; WORDS];
         let mut ends = [0usize; LISTS];
         let n = lists_in(&mut words, &mut ends, after_word(line));
@@ -118,29 +122,29 @@ impl Session {
             return self;
         }
         if n == 1 {
-            return self.obey(first_word(line), &words, &ends);
+            return self.answer_list(first_word(line), &words, &ends);
         }
-        self.obey_lists(first_word(line), &words, &ends, n)
+        self.answer_lists(first_word(line), &words, &ends, n)
     }
 
-    // A line's answer, and `end` behind it. Empty lines and those that start with # have none.
-    pub fn answer(self, line: &[u8]) -> Session {
-        let asked = asked_of(line);
-        if asked.len() == 0 || asked[0] == b'#' {
+    // A line's answer, and `end` after it. Empty lines and those that start with # have none.
+    pub fn answer_line(self, line: &[u8]) -> Session {
+        let command = command_of(line);
+        if command.len() == 0 || command[0] == b'#' {
             return self;
         }
-        let word = first_word(asked);
+        let word = first_word(command);
         if word.len() == 0 {
             return self;
         }
-        let next = self.call(asked);
+        let next = self.answer_command(command);
         say(b"end\n");
         next
     }
 }
 
 // A line without the `> ` that a transcript has before its commands.
-fn asked_of(line: &[u8]) -> &[u8] {
+fn command_of(line: &[u8]) -> &[u8] {
     if line.len() < 2 {
         return &line[..];
     }

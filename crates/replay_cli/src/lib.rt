@@ -1,18 +1,17 @@
 // The oracle's line protocol over the open calls: a command to a line, and for each the lines of its answer and then `end`.
 // What is proved here is that every function is safe and ends; contracts say no more than that needs. What the lines say is tested.
-pub mod changes;
-pub mod checks;
-pub mod commands;
-pub mod input;
-pub mod lent_runs;
-pub mod lent_schedules;
-pub mod lines;
-pub mod parts;
-pub mod posts;
-pub mod range_commands;
-pub mod range_lists;
-pub mod run_commands;
-pub mod running;
-pub mod schedule_commands;
+mod check_commands;
+mod commands;
+mod input;
+mod lent_runs;
+mod lent_schedules;
+mod lines;
+mod parts;
+mod posts;
+mod range_commands;
+mod range_lists;
+mod record_commands;
+mod run_commands;
+mod schedule_commands;
 pub mod serving;
-pub mod states;
+mod state_commands;

@@ -5,6 +5,7 @@ use integers::numbers::nat_of;
 use text::reading::Reading;
 use text::reading::Word;
 use text::reading::is_space;
+use text::words::Run;
 use text::words::run_end;
 
 // Numbers of a line that are kept. A list of premises this long is refused for its length.
@@ -43,7 +44,7 @@ pub fn span(numbers: &[i32], from: usize, to: usize) -> &[i32] {
     &numbers[from..to]
 }
 
-// Number k of a list, or 0 behind its end.
+// Number k of a list, or 0 after its end.
 pub fn number_at(numbers: &[i32], k: usize) -> i32 {
     if k < numbers.len() {
         return numbers[k];
@@ -68,14 +69,14 @@ pub fn same(a: &[u8], b: &[u8]) -> bool {
 
 // The first word of a line.
 pub fn first_word(line: &[u8]) -> &[u8] {
-    let from = run_end(line, 0, true);
-    bytes_of(line, from, run_end(line, from, false))
+    let from = run_end(line, 0, Run::Space);
+    bytes_of(line, from, run_end(line, from, Run::Word))
 }
 
-// What stands behind the first word.
+// What stands after the first word.
 pub fn after_word(line: &[u8]) -> &[u8] {
-    let from = run_end(line, 0, true);
-    bytes_of(line, run_end(line, from, false), line.len())
+    let from = run_end(line, 0, Run::Space);
+    bytes_of(line, run_end(line, from, Run::Word), line.len())
 }
 
 // The numbers with one more, where there is a place for it.
@@ -88,7 +89,7 @@ fn keep(kept: &mut [i32], count: usize, x: i32) -> usize {
 }
 
 impl Scan {
-    // The scan behind a word that has ended.
+    // The scan after a word that has ended.
     fn after(self, valid: bool, count: usize) -> Scan {
         Scan {
             valid,

@@ -3,21 +3,27 @@ use crate::parts::list;
 use crate::parts::same;
 use crate::parts::span;
 use crate::range_lists::ranges_of;
-use crate::run_commands::tells_barred;
-use crate::run_commands::tells_bound;
-use crate::schedule_commands::tells_fixed;
+use crate::run_commands::answer_barred;
+use crate::run_commands::answer_bound;
+use crate::schedule_commands::answer_fixed;
 use disjunctive::DisjunctivePropagator;
 
 // The answer to a command on ranges, with n lists.
-pub fn asks(record: DisjunctivePropagator, word: &[u8], words: &[i32], ends: &[usize], n: usize) {
+pub fn answer_ranges(
+    record: DisjunctivePropagator,
+    word: &[u8],
+    words: &[i32],
+    ends: &[usize],
+    n: usize,
+) {
     let a = list(words, ends, 0);
     if same(word, b"precede-why") || same(word, b"precede-bound") {
         let ranges = ranges_of(span(a, 1, a.len())).with_lists(words, ends, n);
-        return tells_bound(record, word, ranges, a);
+        return answer_bound(record, word, ranges, a);
     }
     let ranges = ranges_of(a);
-    if n <= 2 && tells_fixed(record, word, ranges, list(words, ends, 1)) {
+    if n <= 2 && answer_fixed(record, word, ranges, list(words, ends, 1)) {
         return;
     }
-    tells_barred(record, word, ranges.with_lists(words, ends, n));
+    answer_barred(record, word, ranges.with_lists(words, ends, n));
 }

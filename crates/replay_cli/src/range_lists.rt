@@ -1,4 +1,4 @@
-// The ranges of a command: pairs of starts, and behind them, for a task, its barred starts.
+// The ranges of a command: pairs of starts, and after them lists of barred starts, each for one task.
 use crate::lines::say;
 use crate::lines::say_number;
 use crate::parts::list;
@@ -15,6 +15,12 @@ pub struct Ranges {
     pub valid: bool,
     pub count: usize,
     pub kept: [Range; RANGES],
+}
+
+// Which start of a range is said.
+pub enum StartBound {
+    Earliest,
+    Latest,
 }
 
 // A range of two starts that bars none.
@@ -50,7 +56,7 @@ pub fn ranges_of(pairs: &[i32]) -> Ranges {
     }
 }
 
-// The barred starts of a list that begins with a task: the first of those behind it.
+// The barred starts of a list that begins with a task: the first of those after it.
 fn bars_of(bars: &[i32]) -> [i32; BARS] {
     let mut barred = [0; BARS];
     let mut i = 0;
@@ -102,24 +108,24 @@ impl Ranges {
     }
 }
 
-// The earliest start of range i, or its latest.
-fn start_at(ranges: [Range; RANGES], i: usize, latest: bool) -> i32 {
+// The earliest or the latest start of range i, or 0 after the last range.
+fn start_at(ranges: [Range; RANGES], i: usize, bound: StartBound) -> i32 {
     if i >= RANGES {
         return 0;
     }
     let range = ranges[i];
-    if latest {
-        return range.latest;
+    match bound {
+        StartBound::Earliest => range.earliest,
+        StartBound::Latest => range.latest,
     }
-    range.earliest
 }
 
 // The line of the first n starts: the earliest, or the latest.
-pub fn say_starts(ranges: [Range; RANGES], n: usize, latest: bool) {
+pub fn say_starts(ranges: [Range; RANGES], n: usize, bound: StartBound) {
     say(b"starts");
     let mut i = 0;
     while i < n {
-        say_number(start_at(ranges, i, latest));
+        say_number(start_at(ranges, i, bound));
         i += 1;
     }
     say(b"\n");

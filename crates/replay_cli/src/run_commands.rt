@@ -3,6 +3,8 @@ use crate::lent_runs::overload_test;
 use crate::lent_runs::precedence_bound;
 use crate::lent_runs::precedence_reason;
 use crate::lent_runs::precedences;
+use crate::lent_runs::run;
+use crate::lent_runs::run_mirrored;
 use crate::lines::say;
 use crate::lines::say_counted;
 use crate::lines::say_error;
@@ -12,16 +14,20 @@ use crate::parts::number_at;
 use crate::parts::place_of;
 use crate::parts::same;
 use crate::posts::say_atoms;
+use crate::posts::say_overload;
+use crate::posts::say_posts;
 use crate::range_lists::RANGES;
 use crate::range_lists::Ranges;
+use crate::range_lists::StartBound;
 use crate::range_lists::say_starts;
-use crate::running::mirrors;
-use crate::running::runs;
 use disjunctive::BoundAbove;
 use disjunctive::DisjunctivePropagator;
+use disjunctive::Outcome;
 use disjunctive::Overload;
 use disjunctive::Precedences;
 use disjunctive::Reason;
+use integers::limits::ATOMWORDS;
+use integers::limits::POSTWORDS;
 use integers::limits::TASKS;
 ghost use Prim.Native.Nat.{_≤_};
 ghost use Rattle.replay_cli.specs.RangeLists.{RANGES};
@@ -30,7 +36,7 @@ ghost use Rattle.replay_cli.specs.RangeLists.{RANGES};
 const REASON: usize = 6 * TASKS;
 
 // The answer on ranges that may have barred starts.
-pub fn tells_barred(record: DisjunctivePropagator, word: &[u8], ranges: Ranges) {
+pub fn answer_barred(record: DisjunctivePropagator, word: &[u8], ranges: Ranges) {
     if !ranges.valid {
         return say_error();
     }
@@ -38,22 +44,78 @@ pub fn tells_barred(record: DisjunctivePropagator, word: &[u8], ranges: Ranges) 
         return say_error();
     }
     if same(word, b"run") {
-        return runs(record, ranges);
+        return answer_run(record, ranges);
     }
     if same(word, b"mirror") {
-        return mirrors(record, ranges);
+        return answer_mirrored(record, ranges);
     }
     if same(word, b"quick") {
-        return says_overload(overload_test(record, ranges));
+        return say_overload_test(overload_test(record, ranges));
     }
     if same(word, b"precede") {
-        return raises(record, ranges);
+        return answer_precedences(record, ranges);
     }
     say_error();
 }
 
+// `run`: its posts, its end, the earliest starts that it leaves and its leaf changes; or the number that refused it.
+fn answer_run(record: DisjunctivePropagator, ranges: Ranges)
+    requires { ⌜ ranges .count ≤ RANGES ⌝ }
+{
+    let mut posts = [0i32; POSTWORDS];
+    let mut atoms = [0i32; ATOMWORDS];
+    let now = run(record, ranges, &mut posts, &mut atoms);
+    let outcome = now.outcome;
+    say_outcome(outcome, &posts, &atoms);
+    if let Outcome::Refused(_) = outcome {
+        return;
+    }
+    let kept = now.ranges;
+    say_starts(kept, ranges.count, StartBound::Earliest);
+    say_counted(b"changes", now.changes);
+}
+
+// `mirror`: the same of the mirrored pass, with latest starts and no leaf changes.
+fn answer_mirrored(record: DisjunctivePropagator, ranges: Ranges)
+    requires { ⌜ ranges .count ≤ RANGES ⌝ }
+{
+    let mut posts = [0i32; POSTWORDS];
+    let mut atoms = [0i32; ATOMWORDS];
+    let now = run_mirrored(record, ranges, &mut posts, &mut atoms);
+    let outcome = now.outcome;
+    say_outcome(outcome, &posts, &atoms);
+    if let Outcome::Refused(_) = outcome {
+        return;
+    }
+    let kept = now.ranges;
+    say_starts(kept, ranges.count, StartBound::Latest);
+}
+
+// The posts, and the line of the end; after that of an overload its reason.
+fn say_outcome(outcome: Outcome, posts: &[i32], atoms: &[i32]) {
+    match outcome {
+        Outcome::Done(count) => {
+            say_posts(posts, atoms, count);
+            say(b"done\n");
+        }
+        Outcome::Overload {
+            posts: made,
+            first,
+            count,
+        } => {
+            say_posts(posts, atoms, made);
+            say_overload(atoms, first, count);
+        }
+        Outcome::Emptied(count) => {
+            say_posts(posts, atoms, count);
+            say(b"emptied\n");
+        }
+        Outcome::Refused(number) => say_refused(number),
+    }
+}
+
 // `quick`: whether some set overloads.
-fn says_overload(answer: Overload) {
+fn say_overload_test(answer: Overload) {
     match answer {
         Overload::Yes(read) => say_counted(b"yes", read),
         Overload::No => say(b"no\n"),
@@ -62,21 +124,21 @@ fn says_overload(answer: Overload) {
 }
 
 // `precede`: the pass by the precedences that can be read off leaves earliest starts, or names the task whose bound passes its latest start.
-fn raises(record: DisjunctivePropagator, ranges: Ranges)
+fn answer_precedences(record: DisjunctivePropagator, ranges: Ranges)
     requires { ⌜ ranges .count ≤ RANGES ⌝ }
 {
     let now = precedences(record, ranges);
     let answer = now.answer;
     let kept = now.ranges;
     match answer {
-        Precedences::Done => say_starts(kept, ranges.count, false),
+        Precedences::Done => say_starts(kept, ranges.count, StartBound::Earliest),
         Precedences::Emptied(task) => say_counted(b"passes", task),
         Precedences::Refused(number) => say_refused(number),
     }
 }
 
 // The answer about the bound of the task that is named first, on ranges that may have barred starts.
-pub fn tells_bound(record: DisjunctivePropagator, word: &[u8], ranges: Ranges, named: &[i32]) {
+pub fn answer_bound(record: DisjunctivePropagator, word: &[u8], ranges: Ranges, named: &[i32]) {
     if !ranges.valid || named.len() == 0 {
         return say_error();
     }
@@ -85,13 +147,13 @@ pub fn tells_bound(record: DisjunctivePropagator, word: &[u8], ranges: Ranges, n
     }
     let task = place_of(number_at(named, 0));
     if same(word, b"precede-bound") {
-        return says_bound(precedence_bound(record, ranges, task));
+        return say_bound_above(precedence_bound(record, ranges, task));
     }
-    explains(record, ranges, task);
+    answer_reason(record, ranges, task);
 }
 
 // `precede-bound`: a task's bound, where it is above the earliest start.
-fn says_bound(answer: BoundAbove) {
+fn say_bound_above(answer: BoundAbove) {
     match answer {
         BoundAbove::At(bound) => say_valued(b"bound", bound),
         BoundAbove::NoBound => say(b"none\n"),
@@ -100,7 +162,7 @@ fn says_bound(answer: BoundAbove) {
 }
 
 // `precede-why`: the reason of it.
-fn explains(record: DisjunctivePropagator, ranges: Ranges, task: usize)
+fn answer_reason(record: DisjunctivePropagator, ranges: Ranges, task: usize)
     requires { ⌜ ranges .count ≤ RANGES ⌝ }
 {
     let mut atoms = [0i32; REASON];

@@ -25,7 +25,7 @@ ghost use Rattle.replay_cli.specs.RangeLists.{RANGES};
 const PAGE: usize = 1519;
 
 // The answer on a fixed schedule, and what more is asked. Whether the word asks for one.
-pub fn tells_fixed(
+pub fn answer_fixed(
     record: DisjunctivePropagator,
     word: &[u8],
     ranges: Ranges,
@@ -39,26 +39,26 @@ pub fn tells_fixed(
     }
     let k = asked.len();
     if k == 0 && same(word, b"page") {
-        pages(record, ranges);
+        answer_page(record, ranges);
         return true;
     }
     if same(word, b"charges") {
-        bills(record, ranges, asked);
+        answer_charges(record, ranges, asked);
         return true;
     }
     if k == 2 && same(word, b"free") {
-        says_start(free_start(record, ranges, asked[0], asked[1]));
+        say_free_start(free_start(record, ranges, asked[0], asked[1]));
         return true;
     }
     if k == 1 && same(word, b"busiest") {
-        says_stretch(busiest_stretch(record, ranges, asked[0]));
+        say_stretch(busiest_stretch(record, ranges, asked[0]));
         return true;
     }
     false
 }
 
 // `page`: the page of a fixed schedule.
-fn pages(record: DisjunctivePropagator, ranges: Ranges)
+fn answer_page(record: DisjunctivePropagator, ranges: Ranges)
     requires { ⌜ ranges .count ≤ RANGES ⌝ }
 {
     let mut sheet = [0u8; PAGE];
@@ -70,7 +70,7 @@ fn pages(record: DisjunctivePropagator, ranges: Ranges)
 }
 
 // `charges`: the charges of a fixed schedule by the due moments, and their total.
-fn bills(record: DisjunctivePropagator, ranges: Ranges, due: &[i32])
+fn answer_charges(record: DisjunctivePropagator, ranges: Ranges, due: &[i32])
     requires { ⌜ ranges .count ≤ RANGES ⌝ }
 {
     let made = charges(record, ranges, due);
@@ -87,7 +87,7 @@ fn bills(record: DisjunctivePropagator, ranges: Ranges, due: &[i32])
     }
 }
 
-// Charge i, or 0 behind the last.
+// Charge i, or 0 after the last.
 fn charge_at(charges: [u32; TASKS], i: usize) -> usize {
     if i >= TASKS {
         return 0;
@@ -107,7 +107,7 @@ fn say_charges(charges: [u32; TASKS], n: usize) {
 }
 
 // `free`: the earliest free start beside a fixed schedule.
-fn says_start(answer: FreeStart) {
+fn say_free_start(answer: FreeStart) {
     match answer {
         FreeStart::At(start) => say_valued(b"start", start),
         FreeStart::Refused(number) => say_refused(number),
@@ -115,7 +115,7 @@ fn says_start(answer: FreeStart) {
 }
 
 // `busiest`: the busiest stretch of a fixed schedule.
-fn says_stretch(answer: Busiest) {
+fn say_stretch(answer: Busiest) {
     match answer {
         Busiest::Stretch(time, start) => {
             say(b"covered");

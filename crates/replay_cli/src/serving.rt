@@ -14,7 +14,7 @@ pub fn serve() {
     let mut lines = u64::MAX;
     while lines > 0 && more {
         let next = next_line(&mut line);
-        session = session.answer(bytes_of(&line, 0, next.held));
+        session = session.answer_line(bytes_of(&line, 0, next.held));
         more = next.more;
         lines -= 1;
     }

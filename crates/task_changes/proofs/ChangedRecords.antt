@@ -24,7 +24,7 @@ use Rattle.task_changes.specs.declared.changes.Change.{Change}
 use Rattle.task_changes.specs.declared.changes.Change.the-variants.{Made, Refused}
 use Rattle.task_changes.specs.Lists.{placed, sumOf, without}
 use Rattle.task_changes.specs.Numbers.{changeNumbers}
-use Rattle.task_changes.specs.Changes.{Left, durationsOf, added, removed, addTests, addNumber, removeTests, removeNumber, TaskAdded, TaskRemoved}
+use Rattle.task_changes.specs.Changes.{ChangeLeft, durationsOf, added, removed, addTests, addNumber, removeTests, removeNumber, TaskAdded, TaskRemoved}
 use Rattle.task_changes.proofs.PlacedLists.{placed-front, placed-at, placed-past, last-stored}
 use Rattle.task_changes.proofs.LeftOut.{without-length, without-all}
 use Rattle.task_changes.proofs.Sums.{sum-more, sum-without, sum-placed}
@@ -152,7 +152,7 @@ removable r t h = facts (accepted (removeTests r t) refl h)
     facts (a, (b, (c, _))) = record { lawful = lawful-is r .0 a; there = ltb-true t (r .count) b; many = omega (arith, count-is (r .count - 1) .0 c .0) }
 
 -- What the calls meet.
-left : {c : Changed} {after : DisjunctivePropagator} {x : Change} → c ≡ record { «record» = after; answer = x } → Left (changeNumbers x) after c
+left : {c : Changed} {after : DisjunctivePropagator} {x : Change} → c ≡ record { «record» = after; answer = x } → ChangeLeft (changeNumbers x) after c
 left e = record { answer = ap (λ (y : Changed). changeNumbers (y .answer)) e; stands = ap (λ (y : Changed). y .«record») e }
 
 module _ (r : DisjunctivePropagator) (d : ℤ) (c : Changed) where

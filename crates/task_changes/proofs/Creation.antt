@@ -25,7 +25,7 @@ use Rattle.task_changes.specs.Changes.{durationsOf, addNumber}
 use Rattle.task_changes.proofs.Sums.{sum-more, sum-given}
 use Rattle.task_changes.proofs.ChangedRecords.{count, sum, lasts}
 
--- durations of a record, and one of a caller's behind them
+-- durations of a record, and one of a caller's after them
 given-more : (l : List ℕ) (d : ℤ) → map durationOf (map pos l ++ (d ∷ [])) ≡ l ++ (durationOf d ∷ [])
 given-more [] d = refl
 given-more (x ∷ xs) d = ap (λ (m : List ℕ). x ∷ m) (given-more xs d)

@@ -18,7 +18,7 @@ use Rattle.task_changes.specs.Numbers.{changeNumbers}
 use Rattle.task_changes.specs.Lists.{placed, without}
 
 -- What a call leaves: its answer, by the papers' numbers, and the record.
-pub record Left (a : Answer) (after : DisjunctivePropagator) (c : Changed) : Type 0 where
+pub record ChangeLeft (a : Answer) (after : DisjunctivePropagator) (c : Changed) : Type 0 where
   pub answer : changeNumbers (c .answer) ≡ a
   pub stands : c .«record» ≡ after
 
@@ -66,15 +66,15 @@ module _ (r : DisjunctivePropagator) where
   abbrev pub removeNumber : ℕ → ℕ
   removeNumber t = refusal (removeTests t)
 
-  -- The first test that fails refuses a call, and the record stays as it was; else the record is the definition's, and lawful.
+  -- The first test that fails refuses a call, and the record stays unchanged; else the record is the definition's, and lawful.
   pub record TaskAdded (d : ℤ) (c : Changed) : Type 0 where
-    pub refused : (addNumber d ≡ 0 → ⊥) → Left (refusedBy (addNumber d)) r c
-    pub made : addNumber d ≡ 0 → Left (answered 0 []) (added (durationOf d)) c
+    pub refused : (addNumber d ≡ 0 → ⊥) → ChangeLeft (refusedBy (addNumber d)) r c
+    pub made : addNumber d ≡ 0 → ChangeLeft (answered 0 []) (added (durationOf d)) c
     pub lawful : addNumber d ≡ 0 → Lawful (c .«record»)
 
   pub record TaskRemoved (t : ℕ) (c : Changed) : Type 0 where
-    pub refused : (removeNumber t ≡ 0 → ⊥) → Left (refusedBy (removeNumber t)) r c
-    pub made : removeNumber t ≡ 0 → Left (answered 0 []) (removed t) c
+    pub refused : (removeNumber t ≡ 0 → ⊥) → ChangeLeft (refusedBy (removeNumber t)) r c
+    pub made : removeNumber t ≡ 0 → ChangeLeft (answered 0 []) (removed t) c
     pub lawful : removeNumber t ≡ 0 → Lawful (c .«record»)
 
   -- the same on a lent record: what stands there at the end, and the answer

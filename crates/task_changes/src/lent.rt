@@ -3,7 +3,7 @@ use crate::changes::Change;
 use records::record::DisjunctivePropagator;
 ghost use Rattle.task_changes.specs.Changes.{AddedLent, RemovedLent};
 
-// The record becomes the one with a task more, or stays as it was.
+// The record becomes the one with a task more, or stays unchanged.
 pub fn add(propagator: &mut DisjunctivePropagator, duration: i32) -> Change
     ensures { λ r. ⌜ AddedLent (now (propagator .entry)) duration r (now (propagator .exit)) ⌝ }
 {
@@ -12,7 +12,7 @@ pub fn add(propagator: &mut DisjunctivePropagator, duration: i32) -> Change
     changed.answer
 }
 
-// The record becomes the one without the task, or stays as it was.
+// The record becomes the one without the task, or stays unchanged.
 pub fn remove(propagator: &mut DisjunctivePropagator, task: usize) -> Change
     ensures { λ r. ⌜ RemovedLent (now (propagator .entry)) task r (now (propagator .exit)) ⌝ }
 {

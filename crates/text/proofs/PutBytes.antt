@@ -1,4 +1,4 @@
--- Bytes put into a buffer one behind the other.
+-- Bytes put into a buffer one after the other.
 use mathlib.Core.Path.{_≡_, refl, sym, ap, _∙_}
 use mathlib.Core.List.{List, [], _∷_, _++_}
 use Prim.Native.Nat.{ℕ, _+_, _<_}
@@ -17,7 +17,7 @@ puts-length {before} {after} {bytes} {at} p = ap length (p .text) ∙ length-set
 pub puts-one : (before : List ℕ) (at b : ℕ) → Puts before (set before at b) at (b ∷ []) (at + 1)
 puts-one before at b = record { text = refl; end = refl }
 
--- bytes, and bytes behind them
+-- bytes, and bytes after them
 pub puts-append : {first second third us vs : List ℕ} {at middle next : ℕ} → Puts first second at us middle → Puts second third middle vs next → Puts first third at (us ++ vs) next
 puts-append {first} {second} {third} {us} {vs} {at} {middle} {next} p q = record {
   text = q .text ∙ ap (λ (l : List ℕ). sets l middle vs) (p .text) ∙ ap (λ (k : ℕ). sets (sets first at us) k vs) (p .end) ∙ sym (sets-append us vs first at);

@@ -1,4 +1,4 @@
--- Numbers that are written one behind the other, with white space behind each, are read back.
+-- Numbers that are written one after the other, with white space after each, are read back.
 use mathlib.Core.Path.{_≡_, refl, sym, ap, _∙_}
 use mathlib.Core.Bool.{true, false}
 use mathlib.Core.List.{List, [], _∷_, _++_, append-nil, append-assoc}
@@ -58,7 +58,7 @@ pub no-numbers : numbersOf [] ≡ some []
 unfolding numbersOf tokens pieces filled numbers
 no-numbers = refl
 
--- A number that is written before white space is read before the numbers behind it.
+-- A number that is written before white space is read before the numbers after it.
 pub number-back : (z : ℤ) (b : ℕ) (bs : List ℕ) (xs : List ℤ) → negsuc 2147483647 ≤ℤ z → z ≤ℤ pos 2147483647 → space b ≡ true → numbersOf bs ≡ some xs → numbersOf (decimal z ++ b ∷ bs) ≡ some (z ∷ xs)
 unfolding numbersOf numbers before
 number-back z b bs xs low high h e =

@@ -67,7 +67,7 @@ module _ (negative : Bool) where
       by ih (inl d) = rw (next-digit n b, after-digit negative n b d) (elim (and-false (digit b) (digits bs) t) [ inl e ↦ clash d e | inr e ↦ ih e ])
       by ih (inr d) = rw (next-digit n b, after-other negative n b d) (wrong-word bs)
 
-  -- digits behind a sign or behind nothing
+  -- digits after a sign or after nothing
   unsigned-word : (b : ℕ) (bs : List ℕ) → readingOf (foldl nextOf (Digits negative 0) (b ∷ bs)) ≡ given (unsigned negative (b ∷ bs))
   unfolding readingOf unsigned given
   unsigned-word b bs = by (bool (digits (b ∷ bs)))

@@ -60,7 +60,7 @@ over : Numbers → List (List ℕ) → Numbers
 over ns [] = ns
 over ns (w ∷ ws) = over (withReading ns (given (numberOf w))) ws
 
--- numbers behind others
+-- numbers after others
 behind : List ℤ → Option (List ℤ) → Option (List ℤ)
 behind xs none = none
 behind xs (some ys) = some (xs ++ ys)
@@ -118,13 +118,13 @@ scanned bs = scans (gathered (some [])) [] bs ∙ over-all [] (tokens bs) ∙ ap
     whole (some xs) = refl
 
 -- ---- what a text's numbers give
--- behind what was written stands what stood there
+-- after what was written stands what stood there
 past : {A : Type 0} (z ws : List A) (k : ℕ) (d : A) → length ws ≤ k → getD (overwritten z ws) k d ≡ getD z k d
 past z ws k d h =
     let e : k ≡ length ws + (k - length ws) = omega arith in
     ap (λ (j : ℕ). getD (overwritten z ws) j d) e ∙ getD-append-add ws (drop (length ws) z) (k - length ws) d ∙ getD-drop (length ws) z (k - length ws) d ∙ ap (λ (j : ℕ). getD z j d) (sym e)
 
--- each at its place, and zeros behind the last
+-- each at its place, and zeros after the last
 pub kept-at : (xs : List ℤ) (k : ℕ) → k < KEPT → getD (gathered (some xs) .kept) k (pos 0) ≡ getD xs k (pos 0)
 kept-at xs k h = elim (decLt k (length (take KEPT xs))) [
   | yes q ↦ List·getD-append (take KEPT xs) (drop (length (take KEPT xs)) zeros) (pos 0) k q ∙ getD-take KEPT xs k (pos 0) h

@@ -22,7 +22,7 @@ unfoldable pub decimal : ℤ → List ℕ
 decimal (pos n) = natural n
 decimal (negsuc n) = 45 ∷ natural (suc n)
 
--- `bytes` stand in the buffer from `at` on, the rest is as it was, and `next` is the place behind them
+-- `bytes` stand in the buffer from `at` on, the rest is unchanged, and `next` is the place after them
 pub record Puts (before after : List ℕ) (at : ℕ) (bytes : List ℕ) (next : ℕ) : Type 0 where
   pub text : after ≡ sets before at bytes
   pub end : next ≡ at + length bytes

@@ -1,4 +1,5 @@
 pub mod Numbers
+pub mod Words
 pub mod Scanner
 pub mod Examples
 pub mod DecimalText

@@ -1,9 +1,9 @@
 -- Numbers in text: words parted by white space, each a decimal number that fits an i32.
 -- A byte is the number of its ASCII code: 45 is the minus sign, and 48 to 57 are the digits.
-use mathlib.Core.Bool.{Bool, true, false, _&&_, _||_, Bool·beq}
+use mathlib.Core.Bool.{Bool, true, false, _&&_, _||_}
 use mathlib.Core.List.{List, [], _∷_, _++_}
 use mathlib.Core.Option.{Option, none, some}
-use Prim.Native.Nat.{ℕ, suc, _+_, _-_, _*_}
+use Prim.Native.Nat.{ℕ, _+_, _-_, _*_}
 use lib.Dec.{leb, eqb}
 use lib.IntN.{ℤ, pos, negℤ}
 use Rattle.integers.specs.Limits.{I32MAX}
@@ -28,11 +28,6 @@ filled ((b ∷ w) ∷ ws) = (b ∷ w) ∷ filled ws
 unfoldable pub tokens : List ℕ → List (List ℕ)
 tokens bs = filled (pieces [] bs)
 
--- how many bytes from the front on are white space or, where `white` is false, are none
-unfoldable pub run : Bool → List ℕ → ℕ
-run white [] = 0
-run white (b ∷ bs) = elim (Bool·beq (space b) white) [ true ↦ suc (run white bs) | false ↦ 0 ]
-
 -- a digit, 0 to 9
 unfoldable pub digit : ℕ → Bool
 digit b = leb 48 b && leb b 57
@@ -42,7 +37,7 @@ unfoldable pub digits : List ℕ → Bool
 digits [] = true
 digits (b ∷ bs) = digit b && digits bs
 
--- the value of digits behind those of n
+-- the value of digits after those of n
 unfoldable pub value : ℕ → List ℕ → ℕ
 value n [] = n
 value n (b ∷ bs) = value (n * 10 + (b - 48)) bs

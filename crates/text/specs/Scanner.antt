@@ -22,7 +22,7 @@ use Rattle.text.specs.declared.reading.Scanner.{Scanner}
 abbrev pub BEYOND : ℕ
 BEYOND = zeroAt + 1
 
--- a digit behind a magnitude, which stops at BEYOND
+-- a digit after a magnitude, which stops at BEYOND
 unfoldable pub digitAfter : Bool → ℕ → ℕ → Word
 digitAfter negative n b = elim (digit b) [ true ↦ word.Digits negative (min (n * 10 + (b - 48)) BEYOND) | false ↦ word.Wrong ]
 
@@ -95,7 +95,7 @@ stepOf s b = elim (space b) [
   | false ↦ record { numbers = s .numbers; word = nextOf (s .word) b }
 ]
 
--- ---- what the scanner has to find: how many numbers there are, and the first of them with zeros behind
+-- ---- what the scanner has to find: how many numbers there are, and the first of them with zeros after
 abbrev pub gathered : Option (List ℤ) → Numbers
 gathered none = notNumbers
 gathered (some xs) = record { valid = true; count = min (length xs) MOST; kept = overwritten zeros (take KEPT xs) }

@@ -1,4 +1,4 @@
-// Whole numbers read from bytes. The reader is a state that is handed on from piece to piece, so that input of any length is read.
+// Whole numbers read from bytes and written to them, and the words of a line.
 pub mod reading;
 pub mod words;
 pub mod writing;

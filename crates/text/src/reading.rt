@@ -52,7 +52,7 @@ pub struct Numbers {
     pub valid: bool,
     // how many there are, up to MOST
     pub count: usize,
-    // the first of them, and zeros behind them
+    // the first of them, and zeros after them
     pub kept: [i32; KEPT],
 }
 
@@ -72,7 +72,7 @@ pub fn is_space(byte: u8) -> bool
     9 <= byte && byte <= 13
 }
 
-// A byte behind a magnitude. A tenth of BEYOND decides whether the new magnitude passes it, so that nothing overflows.
+// A byte after a magnitude. A tenth of BEYOND decides whether the new magnitude passes it, so that nothing overflows.
 fn with_digit(negative: bool, magnitude: u32, byte: u8) -> Word
     ensures { λ r. ⌜ r ≡ digitAfter negative magnitude byte ⌝ }
 {
@@ -178,7 +178,7 @@ impl Numbers {
         }
     }
 
-    // A number more; one word that is no number spoils all.
+    // A number more; one word that is no number makes all of them invalid.
     fn with_number(self, x: i32) -> Numbers
         ensures { λ r. ⌜ r ≡ withNumber self x ⌝ }
     {

@@ -38,7 +38,7 @@ pub fn precedence_bound(
     bound_core(*propagator, starts, task)
 }
 
-// Writes the reason of the task's bound over the lent ranges, and tells how many atoms it has.
+// Writes the reason of the task's bound over the lent ranges, and answers how many atoms it has.
 pub fn precedence_reason(
     propagator: &DisjunctivePropagator,
     ranges: &[Range],

@@ -19,7 +19,8 @@ ghost use Rattle.ranges.specs.Ranges.{earliests, latests};
 
 // The schedule's page.
 pub fn page(propagator: &DisjunctivePropagator, ranges: &[Range], out: &mut [u8]) -> Page
-    ensures { λ r. ⌜ Paged (now (propagator .entry)) (earliests (now (ranges .entry))) (latests (now (ranges .entry))) (now (out .entry)) r (now (out .exit)) ⌝ }
+    ensures { λ r. ⌜ Paged (now (propagator .entry)) (earliests (now (ranges .entry))) (latests (now (ranges .entry))) (now (out .entry)) r
+        (now (out .exit)) ⌝ }
 {
     let starts = starts_of(ranges);
     page_core(*propagator, starts, out)

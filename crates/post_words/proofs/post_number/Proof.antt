@@ -28,7 +28,7 @@ inside c = le-leb (4 * c .before .before .args .index + 4) (length (c .before .b
 from : (c : tie.After-at-most) → c .at-most .result ≡ leZ (pos 0) (firstAtom (c .before .before .before .before .args .posts .now) (c .before .before .before .before .args .index))
 from c = let a = c .before .before .before .before .args in c .at-most .ensures ∙ ap (leZ (pos 0)) (back-of w32 (firstAtom (a .posts .now) (a .index)) (c .before .at-most-arg .given))
 
--- the entry, from behind the third test; and below from behind the fourth
+-- the entry, from after the third test; and below from after the fourth
 abbrev begin : tie.Else3 → tie.Start
 begin c = c .before .before .before .before .before
 

@@ -1,4 +1,4 @@
--- Three stores behind one another, each value as its callee gives it.
+-- Three stores one after another, each value as its callee gives it.
 use native.Mathlib.Numerals.{add-one, add-two}
 use mir.Syntax.{w32}
 use Rattle.integers.proofs.Ints.{back, back-of}

@@ -1,4 +1,4 @@
--- Four stores behind one another, each value as its callee gives it.
+-- Four stores one after another, each value as its callee gives it.
 use native.Mathlib.Numerals.{add-one, add-two, add-three}
 use mir.Syntax.{w32}
 use Rattle.integers.proofs.Ints.{back-of}

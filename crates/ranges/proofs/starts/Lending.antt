@@ -107,7 +107,7 @@ Taken ys s = s ≡ startsOf ys
 abbrev pub TakenWithBars : List Range → StartsWithBars → Type 0
 TakenWithBars ys s = s ≡ startsWithBars ys
 
--- ---- ranges lent as `&` are passed to it as they are
+-- ---- ranges lent as `&` are passed to it unchanged
 module _ {M : Type 1} {𝓤 : URA M} {H : Heap 𝓤} {A : Atoms 𝓤} {K : Type 0} {W : Given 𝓤 H A} {Γ : List (Item 𝓤)} where
   pub calls-reader : {C : Calls 𝓤 H} {Λ : Loops 𝓤 H} {E : Env 𝓤 H} {q : Post 𝓤 H} {f : Name} {xs : List Operand} {d : Place} {rest : Body}
       → K → FmC 𝓤 H (W .laws) C → (R : RattleType) (Said : List Range → R .Denot → Type 0) → Triple 𝓤 (C f) (Reads R Said 𝓤 H A) → (κ : Lft) (p : Share) (x : RefT (List Range))

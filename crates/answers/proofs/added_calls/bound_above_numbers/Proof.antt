@@ -1,4 +1,4 @@
--- `request_answers::bound_above_numbers` meets its contract: each case gives its own numbers.
+-- Each case gives its own numbers.
 use mathlib.Core.Path.{sym, _∙_}
 use mir.Syntax.{w32}
 use Rattle.integers.proofs.Ints.{back-of}

@@ -1,4 +1,4 @@
--- `request_answers::change_numbers` meets its contract: each case gives its own numbers.
+-- Each case gives its own numbers.
 use mathlib.Core.Path.{sym}
 use Rattle.task_changes.specs.Numbers.{changeNumbers}
 use Rattle.answers.specs.AddedAnswers.{changeAnswer}

@@ -1,8 +1,8 @@
--- `request_answers::mirrored_numbers` meets its contract: each case gives its own numbers.
+-- Each case gives its own numbers.
 use mathlib.Core.Path.{sym, subst, _∙_}
 use native.Mathlib.Omega.{arith}
 use Rattle.runs.specs.Outcomes.{outcomeNumbers}
-use Rattle.answers.specs.SourceAnswers.{ToldInWords}
+use Rattle.answers.specs.SourceAnswers.{WordsCountable}
 use Rattle.answers.specs.AddedAnswers.{mirroredAnswer}
 use borrow.Author.Needs.{needs}
 use Rattle.answers.proofs.added_calls.mirrored_numbers.Statement.{statement}
@@ -10,10 +10,10 @@ use Rattle.answers.proofs.added_calls.mirrored_numbers.Tie as tie
 
 -- an overload's words can be counted
 words-of-requires : tie.Need-words-of-requires
-words-of-requires c κs = let case = c .before in omega (arith, subst ToldInWords (case .outcome2 .given .1) (case .before .before .pre))
+words-of-requires c κs = let case = c .before in omega (arith, subst WordsCountable (case .outcome2 .given .1) (case .before .before .pre))
 
 words-of-requires-2 : tie.Need-words-of-requires-2
-words-of-requires-2 c κs = let case = c .before .before in omega (arith, subst ToldInWords (case .outcome2 .given .1) (case .before .before .pre))
+words-of-requires-2 c κs = let case = c .before .before in omega (arith, subst WordsCountable (case .outcome2 .given .1) (case .before .before .pre))
 
 returns : tie.Need-returns
 returns c = c .mirrored-answer .ensures ∙ sym (λ i. mirroredAnswer (outcomeNumbers (c .before .before .outcome .given .1 i)))

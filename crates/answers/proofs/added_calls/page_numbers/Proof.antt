@@ -1,4 +1,4 @@
--- `request_answers::page_numbers` meets its contract: each case gives its own numbers.
+-- Each case gives its own numbers.
 use mathlib.Core.Path.{sym, _∙_}
 use Rattle.pages.specs.Numbers.{pageNumbers}
 use Rattle.answers.specs.AddedAnswers.{countAnswer}

@@ -1,4 +1,4 @@
--- `request_answers::reason_numbers` meets its contract: each case gives its own numbers.
+-- Each case gives its own numbers.
 use mathlib.Core.Path.{sym, _∙_}
 use Rattle.precedences.specs.ReasonNumbers.{reasonNumbers}
 use Rattle.answers.specs.AddedAnswers.{countAnswer}

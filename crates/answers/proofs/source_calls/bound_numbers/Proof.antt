@@ -1,4 +1,4 @@
--- `call_answers::bound_numbers` meets its contract.
+-- By cases: a bound has the numbers of its value, and a refusal its number.
 use mathlib.Core.Path.{sym, _∙_}
 use Rattle.checking.specs.Answers.{boundNumbers}
 use Rattle.answers.specs.SourceAnswers.{stateAnswer}

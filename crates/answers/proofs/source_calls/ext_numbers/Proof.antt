@@ -1,4 +1,4 @@
--- `call_answers::ext_numbers` meets its contract.
+-- By cases: a whole number has sign 0 and its value, an infinity its sign and the value 0.
 use mathlib.Core.Path.{sym, _∙_}
 use mir.Syntax.{w32}
 use Rattle.integers.proofs.Ints.{back-of}

@@ -1,18 +1,18 @@
--- `call_answers::finished_numbers` meets its contract: each case gives its own numbers, and the leaf changes stand beside them.
+-- Each case gives its own numbers, and the leaf changes stand beside them.
 use mathlib.Core.Path.{sym, subst, _∙_}
 use native.Mathlib.Omega.{arith}
 use borrow.Author.Needs.{needs}
 use Rattle.runs.specs.Outcomes.{outcomeNumbers}
-use Rattle.answers.specs.SourceAnswers.{ToldInWords, runAnswer}
+use Rattle.answers.specs.SourceAnswers.{WordsCountable, runAnswer}
 use Rattle.answers.proofs.source_calls.finished_numbers.Statement.{statement}
 use Rattle.answers.proofs.source_calls.finished_numbers.Tie as tie
 
 -- an overload's words can be counted
 words-of-requires : tie.Need-words-of-requires
-words-of-requires c κs = let case = c .before in omega (arith, subst ToldInWords (case .outcome2 .given .1) (case .before .before .pre))
+words-of-requires c κs = let case = c .before in omega (arith, subst WordsCountable (case .outcome2 .given .1) (case .before .before .pre))
 
 words-of-requires-2 : tie.Need-words-of-requires-2
-words-of-requires-2 c κs = let case = c .before .before in omega (arith, subst ToldInWords (case .outcome2 .given .1) (case .before .before .pre))
+words-of-requires-2 c κs = let case = c .before .before in omega (arith, subst WordsCountable (case .outcome2 .given .1) (case .before .before .pre))
 
 returns : tie.Need-returns
 returns c = c .run-answer .ensures ∙ sym (λ i. runAnswer (outcomeNumbers (c .before .before .outcome .given .1 i)) (c .before .before .before .before .args .finished .changes))

@@ -1,4 +1,4 @@
--- `call_answers::truth_numbers` meets its contract.
+-- By cases: yes is kind 0, no is kind 1, and a refusal has its number.
 use mathlib.Core.Path.{sym, _∙_}
 use Rattle.checking.specs.Answers.{truthNumbers}
 use Rattle.answers.specs.SourceAnswers.{stateAnswer}

@@ -1,4 +1,4 @@
--- `call_answers::verdict_numbers` meets its contract: each case gives its own numbers.
+-- Each case gives its own numbers.
 use mathlib.Core.Path.{sym, _∙_}
 use borrow.Author.Needs.{needs}
 use Rattle.checker.specs.Verdicts.{verdictNumbers}

@@ -1,4 +1,4 @@
--- The count's line, and the tasks' lines behind it.
+-- The count's line, and the tasks' lines after it.
 use native.Mathlib.Omega.{arith}
 use Rattle.integers.specs.Texts.{bytesOf}
 use Rattle.costliest_cli.proofs.TaskLines.{puts-instance}

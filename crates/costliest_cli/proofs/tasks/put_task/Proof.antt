@@ -1,4 +1,4 @@
--- Three numbers with what stands between them, put one behind the other; each has at most 20 bytes.
+-- Three numbers with what stands between them, put one after the other; each has at most 20 bytes.
 use native.Mathlib.Omega.{arith}
 use Rattle.integers.specs.Texts.{bytesOf}
 use Rattle.costliest_cli.proofs.TaskLines.{puts-task}

@@ -1,4 +1,4 @@
--- `cores::overload_core` meets its contract: what `overload_test` ensures of the first `count` places of the arrays.
+-- What `overload_test` ensures of the first `count` places of the arrays.
 use mathlib.Core.Path.{sym}
 use lib.Seq.{length-take-le}
 use native.Mathlib.Omega.{arith}

@@ -1,4 +1,4 @@
--- `cores::run_core` meets its contract: what `propagate` ensures of the first `count` places of the arrays.
+-- What `propagate` ensures of the first `count` places of the arrays.
 use mathlib.Core.Path.{_≡_, refl, sym, _∙_}
 use lib.ListN.{length, drop}
 use lib.Seq.{length-take-le, length-front, take-at}

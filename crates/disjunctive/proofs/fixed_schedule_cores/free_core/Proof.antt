@@ -1,4 +1,4 @@
--- `of_fixed_schedules::free_core` meets its contract: what `free_start` of `free_starts` ensures of the first `count` places of the arrays.
+-- What `free_start` ensures of the first `count` places of the arrays.
 use mathlib.Core.Path.{sym}
 use lib.Seq.{length-take-le}
 use native.Mathlib.Omega.{arith}

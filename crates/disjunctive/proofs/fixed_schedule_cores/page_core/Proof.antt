@@ -1,4 +1,4 @@
--- `of_fixed_schedules::page_core` meets its contract: what `page` ensures of the first `count` places of the arrays.
+-- What `page` ensures of the first `count` places of the arrays.
 use mathlib.Core.Path.{sym}
 use lib.Seq.{length-take-le}
 use native.Mathlib.Omega.{arith}

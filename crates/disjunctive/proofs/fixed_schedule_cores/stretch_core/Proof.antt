@@ -1,4 +1,4 @@
--- `of_fixed_schedules::stretch_core` meets its contract: what `busiest_stretch` of the crate `busiest_stretch` ensures of the first `count` places of the arrays.
+-- What `busiest_stretch` ensures of the first `count` places of the arrays.
 use mathlib.Core.Path.{sym}
 use lib.Seq.{length-take-le}
 use native.Mathlib.Omega.{arith}

@@ -1,4 +1,4 @@
--- `ranges::run` meets its contract: a walk of its MIR, by hand. The borrows of the record and of the ranges are opened. The ranges are lent as a `&` for a lifetime of the call of `starts_with_bars`,
+-- A walk of its MIR, by hand. The borrows of the record and of the ranges are opened. The ranges are lent as a `&` for a lifetime of the call of `starts_with_bars`,
 -- come back, are closed, and are passed on for good to `store_starts`.
 -- `run_core` is passed the record by value, and the posts and the atoms for good: they are not opened here. The record that it returns is stored.
 use mathlib.Core.Path.{_≡_, refl, sym, ap, subst}

@@ -1,6 +1,6 @@
--- `ranges::run_mirrored` meets its contract: a walk of its MIR, by hand. The borrow of the ranges is opened. They are lent as a `&` for a lifetime of the call of `starts_with_bars`, come back, are
+-- A walk of its MIR, by hand. The borrow of the ranges is opened. They are lent as a `&` for a lifetime of the call of `starts_with_bars`, come back, are
 -- closed, and are passed on for good to `store_latest`.
--- `mirrored_core` is passed a copy of the lent record, which stays as it is, and the posts and the atoms for good: they are not opened here.
+-- `mirrored_core` is passed a copy of the lent record, which stays unchanged, and the posts and the atoms for good: they are not opened here.
 use mathlib.Core.Path.{_≡_, refl, sym, ap, subst}
 use Prim.Native.Nat.{ℕ, _≤_}
 use mathlib.Core.List.{List, [], _∷_}

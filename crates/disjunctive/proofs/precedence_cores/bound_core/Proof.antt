@@ -1,4 +1,4 @@
--- `by_precedence::bound_core` meets its contract: what `precedence_bound` of `precedence_reasons` ensures of the first `count` places of the arrays.
+-- What `precedence_bound` ensures of the first `count` places of the arrays.
 use mathlib.Core.Path.{sym}
 use lib.Seq.{length-take-le}
 use native.Mathlib.Omega.{arith}

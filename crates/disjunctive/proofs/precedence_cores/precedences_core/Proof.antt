@@ -1,4 +1,4 @@
--- `by_precedence::precedences_core` meets its contract: what `precedences` ensures of the first `count` places of the arrays.
+-- What `precedences` ensures of the first `count` places of the arrays.
 use mathlib.Core.Path.{_≡_, refl, sym, _∙_}
 use lib.ListN.{length, drop}
 use lib.Seq.{length-take-le, length-front, take-at}

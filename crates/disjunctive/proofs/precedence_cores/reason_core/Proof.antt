@@ -1,4 +1,4 @@
--- `by_precedence::reason_core` meets its contract: what `precedence_reason` of `precedence_reasons` ensures of the first `count` places of the arrays.
+-- What `precedence_reason` ensures of the first `count` places of the arrays.
 use mathlib.Core.Path.{sym}
 use lib.Seq.{length-take-le}
 use native.Mathlib.Omega.{arith}

@@ -5,7 +5,7 @@ use native.Mathlib.Omega.{arith}
 use lib.ListN.{length}
 use Rattle.integers.specs.Answers.{refusedBy}
 use Rattle.integers.specs.Limits.{TASKS}
-use Rattle.records.specs.Refusals.{Accepted}
+use Rattle.records.specs.Refusals.{AcceptedRun}
 use Rattle.records.proofs.RefusedRuns.{accepted-run}
 use Rattle.mirrored.proofs.MirroredEnds.{words-mirrorable, left-mirrored}
 use borrow.Author.Needs.{needs}
@@ -17,7 +17,7 @@ long : (c : tie.Start) → length (c .args .t1 .durations) ≡ TASKS
 long c = search needs
 
 -- no test failed
-passed : (c : tie.Else1) → let a = c .before .before .before .before .before .args in Accepted (a .t1) (a .earliest .now) (a .latest .now) (length (a .posts .now)) (length (a .atoms .now))
+passed : (c : tie.Else1) → let a = c .before .before .before .before .before .args in AcceptedRun (a .t1) (a .earliest .now) (a .latest .now) (length (a .posts .now)) (length (a .atoms .now))
     × (a .bars-fit ≡ true)
 passed c = let a = c .before .before .before .before .before .args in
     accepted-run (a .t1) (a .earliest .now) (a .latest .now) (a .bars-fit) (length (a .posts .now)) (length (a .atoms .now)) .0 (omega (arith, c .before .run-refusal .ensures))

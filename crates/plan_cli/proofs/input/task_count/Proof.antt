@@ -1,4 +1,4 @@
--- Each test rules out one shape of the list; past them the first number counts the triples behind it.
+-- Each test rules out one shape of the list; past them the first number counts the triples after it.
 use mathlib.Core.Path.{_≡_, sym, ap, _∙_}
 use native.Mathlib.Omega.{arith}
 use lib.IntN.{ℤ, pos}

@@ -1,4 +1,4 @@
--- The five parts behind one another are the line, and their widths add up to at most 44.
+-- The five parts one after another are the line, and their widths add up to at most 44.
 use native.Mathlib.Omega.{arith}
 use Rattle.integers.proofs.Ints.{back}
 use Rattle.integers.specs.Texts.{bytesOf}
@@ -10,14 +10,16 @@ use Rattle.plan_cli.proofs.lines.put_post.Tie as tie
 returns : tie.Need-returns
 unfolding bytesOf
 returns c =
-    let e = c .before .before .put-bytes3 in
-    let d = c .before .before .before .before .before .before .before .put-number2 in
-    let k = c .before .before .before .before .before .before .before .before .before .before .before .put-bytes2 in
-    let b = c .before .before .before .before .before .before .before .before .before .before .before .before .before .before .before .before .put-number in
-    let a = c .before .before .before .before .before .before .before .before .before .before .before .before .before .before .before .before .before .before .before .before .put-bytes in
-    let s = c .before .before .before .before .before .before .before .before .before .before .before .before .before .before .before .before .before .before .before .before .before .before .before
-    .before in
-    (puts-post (back (s .fits .task)) (back (s .fits .bound)) (a .ensures) (b .ensures .0) (k .ensures) (d .ensures .0) (e .ensures), omega (arith, a .ensures .end, k .ensures .end, e .ensures .end))
+    let end = c .before .before in
+    let bound = end .before .before .before .before .before in
+    let space = bound .before .before .before .before in
+    let task = space .before .before .before .before .before in
+    let word = task .before .before .before .before in
+    let s = word .before .before .before .before in (
+      puts-post (back (s .fits .task)) (back (s .fits .bound)) (word .put-bytes .ensures) (task .put-number .ensures .0) (space .put-bytes2 .ensures) (bound .put-number2 .ensures .0)
+          (end .put-bytes3 .ensures),
+      omega (arith, word .put-bytes .ensures .end, space .put-bytes2 .ensures .end, end .put-bytes3 .ensures .end),
+    )
 
 pub put-post-spec : {M : Type 1} → statement M
 put-post-spec =

@@ -1,4 +1,4 @@
--- The invariant: the lines of the first k atoms stand behind `at`, at most 33 bytes each.
+-- The invariant: the lines of the first k atoms stand from `at` on, at most 33 bytes each.
 use mathlib.Core.Path.{_≡_, refl, ap, _∙_}
 use mathlib.Core.List.{List}
 use Prim.Native.Nat.{ℕ, _+_, _*_, _/_, _-_, _≤_}

@@ -1,4 +1,4 @@
--- The three parts behind one another are the line, and their widths add up to at most 29.
+-- The three parts one after another are the line, and their widths add up to at most 29.
 use native.Mathlib.Omega.{arith}
 use Rattle.integers.specs.Texts.{bytesOf}
 use Rattle.plan_cli.proofs.RunLines.{puts-refused}

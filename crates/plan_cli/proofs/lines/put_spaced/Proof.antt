@@ -1,4 +1,4 @@
--- A space and the number behind it, 12 bytes at most.
+-- A space and the number after it, 12 bytes at most.
 use native.Mathlib.Omega.{arith}
 use Rattle.integers.proofs.Ints.{back}
 use Rattle.integers.specs.Texts.{bytesOf}

@@ -1,4 +1,4 @@
--- The invariant: the first i numbers stand behind `at`, each behind a space, at most 12 bytes each.
+-- The invariant: the first i numbers stand from `at` on, each after a space, at most 12 bytes each.
 use mathlib.Core.Path.{_≡_, refl, ap, _∙_}
 use Prim.Native.Nat.{_+_, _*_, _-_, _≤_}
 use native.Mathlib.Omega.{arith}

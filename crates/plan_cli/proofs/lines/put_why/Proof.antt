@@ -1,4 +1,4 @@
--- The five parts behind one another are the line, and their widths add up to at most 33.
+-- The five parts one after another are the line, and their widths add up to at most 33.
 use native.Mathlib.Omega.{arith}
 use Rattle.integers.proofs.Ints.{back}
 use Rattle.integers.specs.Texts.{bytesOf}
@@ -10,14 +10,15 @@ use Rattle.plan_cli.proofs.lines.put_why.Tie as tie
 returns : tie.Need-returns
 unfolding bytesOf
 returns c =
-    let e = c .before .before .put-bytes2 in
-    let d = c .before .before .before .before .before .before .before .put-number2 in
-    let k = c .before .before .before .before .before .before .before .before .before .before .before .put-sign in
-    let b = c .before .before .before .before .before .before .before .before .before .before .before .before .before .before .before .put-number in
-    let a = c .before .before .before .before .before .before .before .before .before .before .before .before .before .before .before .before .before .before .before .put-bytes in
-    let s = c .before .before .before .before .before .before .before .before .before .before .before .before .before .before .before .before .before .before .before .before .before .before .before in (
-      puts-why (back (s .fits .variable)) (back (s .fits .kind)) (back (s .fits .value)) (a .ensures) (b .ensures .0) (k .ensures .0) (d .ensures .0) (e .ensures),
-      omega (arith, a .ensures .end, e .ensures .end),
+    let end = c .before .before in
+    let value = end .before .before .before .before .before in
+    let sign = value .before .before .before .before in
+    let variable = sign .before .before .before .before in
+    let word = variable .before .before .before .before in
+    let s = word .before .before .before .before in (
+      puts-why (back (s .fits .variable)) (back (s .fits .kind)) (back (s .fits .value)) (word .put-bytes .ensures) (variable .put-number .ensures .0) (sign .put-sign .ensures .0)
+          (value .put-number2 .ensures .0) (end .put-bytes2 .ensures),
+      omega (arith, word .put-bytes .ensures .end, end .put-bytes2 .ensures .end),
     )
 
 pub put-why-spec : {M : Type 1} → statement M

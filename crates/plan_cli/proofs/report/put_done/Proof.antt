@@ -1,4 +1,4 @@
--- The three parts behind one another are the line.
+-- The three parts one after another are the line.
 use native.Mathlib.Omega.{arith}
 use Rattle.integers.specs.Texts.{bytesOf}
 use Rattle.plan_cli.proofs.Reports.{puts-done}

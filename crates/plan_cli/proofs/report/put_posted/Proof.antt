@@ -1,4 +1,4 @@
--- The post's own line, and behind it the lines of what `post_reason` reads of the atoms.
+-- The post's own line, and after it the lines of what `post_reason` reads of the atoms.
 use mathlib.Core.Path.{ap, _∙_}
 use native.Mathlib.Omega.{arith}
 use lib.ListN.{length}

@@ -5,7 +5,7 @@ use native.Mathlib.Omega.{arith}
 use lib.ListN.{length}
 use borrow.Author.Needs.{needs}
 use Rattle.integers.specs.Answers.{refusedBy}
-use Rattle.records.specs.Refusals.{Accepted}
+use Rattle.records.specs.Refusals.{AcceptedRun}
 use Rattle.records.proofs.RefusedRuns.{accepted-run}
 use Rattle.propagator.proofs.AcceptedInput.{runnable}
 use Rattle.propagator.proofs.TooManyRanges.{is-refused}
@@ -14,7 +14,7 @@ use Rattle.propagator.proofs.disjunctive_propagator.propagate.Tie as ti
 
 -- no test failed
 passed : (c : tie.After-run-accepted-arg) → let a = c .before .before .before .before .before .before .args in
-    Accepted (a .t1) (a .earliest .now) (a .latest .now) (length (a .posts .now)) (length (a .atoms .now)) × (a .bars-fit ≡ true)
+    AcceptedRun (a .t1) (a .earliest .now) (a .latest .now) (length (a .posts .now)) (length (a .atoms .now)) × (a .bars-fit ≡ true)
 passed c = let a = c .before .before .before .before .before .before .args in
     accepted-run (a .t1) (a .earliest .now) (a .latest .now) (a .bars-fit) (length (a .posts .now)) (length (a .atoms .now)) .0 (omega (arith, c .before .before .run-refusal .ensures))
 

@@ -1,4 +1,4 @@
--- `bars::all_bars_fit` meets its contract: a walk of its MIR, by hand, with its loop.
+-- A walk of its MIR, by hand, with its loop. The invariant: the bars of the ranges before i fit.
 -- A turn looks into the slice, copies range i out, and shuts the slice; the copy goes to `bars_fit`, and where its bars do not fit the function returns inside the turn.
 -- The invariant: the bars of all ranges fit exactly where those of the ranges from place i on do.
 use mathlib.Core.Path.{_≡_, refl, sym, _∙_, ap}

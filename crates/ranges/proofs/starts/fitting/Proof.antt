@@ -1,4 +1,4 @@
--- `starts::fitting` meets its contract.
+-- Both ways out are the two cases of `taken`.
 use mathlib.Core.Path.{sym}
 use native.Mathlib.Omega.{arith}
 use Rattle.ranges.proofs.TakenApart.{taken-all, taken-none}

@@ -1,4 +1,4 @@
--- `starts::starts_of` meets its contract: a walk of its MIR, by hand, with its loop. Both arrays are the rows of their numbers while the loop runs.
+-- A walk of its MIR, by hand, with its loop. Both arrays are the rows of their numbers while the loop runs.
 -- A turn looks into the slice, copies range i out, and shuts the slice; then each of its two numbers is stored at place i of its array.
 -- The invariant, where t ranges are left: i + t is the count, and the arrays have the numbers of the first i ranges, and zeros after them.
 use mathlib.Core.Path.{_≡_, refl, sym, _∙_, ap}

@@ -1,4 +1,4 @@
--- `starts::starts_with_bars` meets its contract: a walk of its MIR, by hand. The slice is passed to `all_bars_fit`, a copy of it to `starts_of`, and what they answer is put together.
+-- A walk of its MIR, by hand. The slice is passed to `all_bars_fit`, a copy of it to `starts_of`, and what they answer is put together.
 use mathlib.Core.Path.{_≡_, refl, ap, subst, _∙_}
 use mathlib.Core.Bool.{Bool}
 use mathlib.Core.List.{List, [], _∷_}

@@ -1,4 +1,4 @@
--- `starts::store_latest` meets its contract: the walk of `StoreWalk`, where the latest starts are stored in the second field of a range.
+-- The walk of `StoreWalk`, where the latest starts are stored in the second field of a range.
 use mathlib.Core.Path.{refl}
 use Prim.Native.Nat.{ℕ}
 use mathlib.Core.List.{List, [], _∷_}

@@ -1,4 +1,4 @@
--- `starts::store_starts` meets its contract: the walk of `StoreWalk`, where the earliest starts are stored in the first field of a range.
+-- The walk of `StoreWalk`, where the earliest starts are stored in the first field of a range.
 use mathlib.Core.Path.{refl}
 use Prim.Native.Nat.{ℕ}
 use mathlib.Core.List.{List, [], _∷_}

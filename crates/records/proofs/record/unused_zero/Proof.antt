@@ -1,4 +1,4 @@
--- `records::record::unused_zero` meets its contract. The loop's invariant is `Gathered`.
+-- The loop's invariant is `Gathered`: what was found so far of the unused places.
 use Prim.Native.Nat.{_-_, _≤_}
 use native.Mathlib.Omega.{arith}
 use borrow.Author.Needs.{needs}

@@ -17,7 +17,7 @@ use Rattle.records.proofs.refusals.range_refusal.Tie as tie
 abbrev tests : tie.Start → List Test
 tests c = rangeTests (recordOf (c .args .n) (c .args .durations .now) (c .args .total)) (c .args .earliest .now) (c .args .latest .now)
 
--- where the counts are tested, and what is behind it
+-- where the counts are tested, and what is after it
 abbrev start : tie.Else3 → tie.Start
 start c = c .before .before .before .before
 

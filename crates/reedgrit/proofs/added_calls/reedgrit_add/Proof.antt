@@ -1,4 +1,4 @@
--- `requests::reedgrit_add` meets its contract: a walk of its MIR, by hand. The record is passed on to the open call for good, and the numbers of its answer are returned.
+-- A walk of its MIR, by hand. The record is passed on to the open call for good, and the numbers of its answer are returned.
 use mathlib.Core.Path.{refl}
 use mathlib.Core.List.{[], _∷_}
 use mathlib.Core.Option.{none}
@@ -39,9 +39,9 @@ passing = record {
   values = λ κs. (ptr-vals, (sint-vals w32, tt));
   tells = λ κs. (mut-tells (named 0) (κs .0) P.the-row, (sint-tells w32, tt));
   numbers = λ r. changeAnswer (changeNumbers r);
-  asks = λ r. none;
-  Left = λ κs a r e. AddedLent (now (a .0)) (a .1 .0) r (now (e .0));
-  Told = λ κs a m e. AddedNumbers (now (a .0)) (a .1 .0) m (now (e .0));
+  required = λ r. none;
+  Promised = λ κs a r e. AddedLent (now (a .0)) (a .1 .0) r (now (e .0));
+  Numbered = λ κs a m e. AddedNumbers (now (a .0)) (a .1 .0) m (now (e .0));
 }
 
 walk : {M : Type 1} → Walks M passing code.function #lent #numbers

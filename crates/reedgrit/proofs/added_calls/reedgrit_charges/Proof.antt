@@ -1,4 +1,4 @@
--- `requests::reedgrit_charges` meets its contract: a walk of its MIR, by hand. The record, the ranges and the due moments are passed on to the open call for good, and the numbers of its answer are
+-- A walk of its MIR, by hand. The record, the ranges and the due moments are passed on to the open call for good, and the numbers of its answer are
 -- returned.
 use mathlib.Core.Path.{refl}
 use mathlib.Core.List.{[], _∷_}
@@ -40,9 +40,9 @@ passing = record {
   values = λ κs. (ptr-vals, (slice-vals, (slice-vals, tt)));
   tells = λ κs. (shr-tells (named 0) (κs .0) P.the-row, (shr-slice-tells (named 1) (κs .1 .0) T.the-row, (shr-slice-tells (named 2) (κs .1 .1 .0) i32, tt)));
   numbers = λ r. chargesAnswer r;
-  asks = λ r. none;
-  Left = λ κs a r e. Charged (now (a .0)) (earliests (now (a .1 .0))) (latests (now (a .1 .0))) (now (a .1 .1 .0)) r;
-  Told = λ κs a m e. ChargesNumbers (now (a .0)) (now (a .1 .0)) (now (a .1 .1 .0)) m;
+  required = λ r. none;
+  Promised = λ κs a r e. Charged (now (a .0)) (earliests (now (a .1 .0))) (latests (now (a .1 .0))) (now (a .1 .1 .0)) r;
+  Numbered = λ κs a m e. ChargesNumbers (now (a .0)) (now (a .1 .0)) (now (a .1 .1 .0)) m;
 }
 
 walk : {M : Type 1} → Walks M passing code.function #lent #numbers

@@ -1,4 +1,4 @@
--- `requests::reedgrit_precedence_bound` meets its contract: a walk of its MIR, by hand. The record, the ranges and the task are passed on to the open call for good, and the numbers of its answer are
+-- A walk of its MIR, by hand. The record, the ranges and the task are passed on to the open call for good, and the numbers of its answer are
 -- returned.
 use mathlib.Core.Path.{refl}
 use mathlib.Core.List.{[], _∷_}
@@ -43,9 +43,9 @@ passing = record {
   values = λ κs. (ptr-vals, (slice-vals, (uint-vals w64, tt)));
   tells = λ κs. (shr-tells (named 0) (κs .0) P.the-row, (shr-slice-tells (named 1) (κs .1 .0) T.the-row, (uint-tells w64, tt)));
   numbers = λ r. startAnswer (boundNumbers r);
-  asks = λ r. none;
-  Left = λ κs a r e. BoundGiven (now (a .0)) (earliests (now (a .1 .0))) (latests (now (a .1 .0))) (allBarsFit (now (a .1 .0))) (a .1 .1 .0) r;
-  Told = λ κs a m e. BoundNumbers (now (a .0)) (now (a .1 .0)) (a .1 .1 .0) m;
+  required = λ r. none;
+  Promised = λ κs a r e. BoundGiven (now (a .0)) (earliests (now (a .1 .0))) (latests (now (a .1 .0))) (allBarsFit (now (a .1 .0))) (a .1 .1 .0) r;
+  Numbered = λ κs a m e. BoundNumbers (now (a .0)) (now (a .1 .0)) (a .1 .1 .0) m;
 }
 
 walk : {M : Type 1} → Walks M passing code.function #lent #numbers

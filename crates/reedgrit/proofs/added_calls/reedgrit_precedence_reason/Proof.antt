@@ -1,4 +1,4 @@
--- `requests::reedgrit_precedence_reason` meets its contract: a walk of its MIR, by hand. The record, the ranges, the task and the words are passed on to the open call for good, and the numbers of its
+-- A walk of its MIR, by hand. The record, the ranges, the task and the words are passed on to the open call for good, and the numbers of its
 -- answer are returned.
 use mathlib.Core.Path.{refl}
 use mathlib.Core.List.{[], _∷_}
@@ -45,9 +45,9 @@ passing = record {
   values = λ κs. (ptr-vals, (slice-vals, (uint-vals w64, (slice-vals, tt))));
   tells = λ κs. (shr-tells (named 0) (κs .0) P.the-row, (shr-slice-tells (named 1) (κs .1 .0) T.the-row, (uint-tells w64, (mut-slice-tells (named 2) (κs .1 .1 .0) i32, tt))));
   numbers = λ r. countAnswer (reasonNumbers r);
-  asks = λ r. none;
-  Left = λ κs a r e. ReasonGiven (now (a .0)) (earliests (now (a .1 .0))) (latests (now (a .1 .0))) (allBarsFit (now (a .1 .0))) (a .1 .1 .0) (now (a .1 .1 .1 .0)) r (now (e .1 .1 .1 .0));
-  Told = λ κs a m e. ReasonNumbers (now (a .0)) (now (a .1 .0)) (a .1 .1 .0) (now (a .1 .1 .1 .0)) m (now (e .1 .1 .1 .0));
+  required = λ r. none;
+  Promised = λ κs a r e. ReasonGiven (now (a .0)) (earliests (now (a .1 .0))) (latests (now (a .1 .0))) (allBarsFit (now (a .1 .0))) (a .1 .1 .0) (now (a .1 .1 .1 .0)) r (now (e .1 .1 .1 .0));
+  Numbered = λ κs a m e. ReasonNumbers (now (a .0)) (now (a .1 .0)) (a .1 .1 .0) (now (a .1 .1 .1 .0)) m (now (e .1 .1 .1 .0));
 }
 
 walk : {M : Type 1} → Walks M passing code.function #lent #numbers

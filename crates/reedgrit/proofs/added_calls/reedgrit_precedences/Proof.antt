@@ -1,4 +1,4 @@
--- `requests::reedgrit_precedences` meets its contract: a walk of its MIR, by hand. The record and the ranges are passed on to the open call for good, and the numbers of its answer are returned.
+-- A walk of its MIR, by hand. The record and the ranges are passed on to the open call for good, and the numbers of its answer are returned.
 use mathlib.Core.Path.{refl}
 use mathlib.Core.List.{[], _∷_}
 use mathlib.Core.Option.{none}
@@ -40,9 +40,9 @@ passing = record {
   values = λ κs. (ptr-vals, (slice-vals, tt));
   tells = λ κs. (shr-tells (named 0) (κs .0) P.the-row, (mut-slice-tells (named 1) (κs .1 .0) T.the-row, tt));
   numbers = λ r. countAnswer (precedencesNumbers r);
-  asks = λ r. none;
-  Left = λ κs a r e. PrecedencesLent (now (a .0)) (now (a .1 .0)) r (now (e .1 .0));
-  Told = λ κs a m e. PrecedencesNumbers (now (a .0)) (now (a .1 .0)) m (now (e .1 .0));
+  required = λ r. none;
+  Promised = λ κs a r e. PrecedencesLent (now (a .0)) (now (a .1 .0)) r (now (e .1 .0));
+  Numbered = λ κs a m e. PrecedencesNumbers (now (a .0)) (now (a .1 .0)) m (now (e .1 .0));
 }
 
 walk : {M : Type 1} → Walks M passing code.function #lent #numbers

@@ -1,4 +1,4 @@
--- `requests::reedgrit_run_mirrored` meets its contract: a walk of its MIR, by hand. The record, the ranges, the posts and the atoms are passed on to the open call for good, and the numbers of its
+-- A walk of its MIR, by hand. The record, the ranges, the posts and the atoms are passed on to the open call for good, and the numbers of its
 -- answer are returned.
 use mathlib.Core.Path.{refl}
 use mathlib.Core.List.{[], _∷_}
@@ -22,7 +22,7 @@ use Rattle.disjunctive.proofs.open_calls.run_mirrored as lent
 use Rattle.disjunctive.proofs.open_calls.run_mirrored.Symbol as lent-def
 use Rattle.disjunctive.proofs.open_calls.run_mirrored.Symbol.{name as #lent}
 use Rattle.disjunctive.proofs.open_calls.run_mirrored.Met as lent-thm
-use Rattle.answers.specs.SourceAnswers.{ToldInWords}
+use Rattle.answers.specs.SourceAnswers.{WordsCountable}
 use Rattle.answers.specs.AddedAnswers.{mirroredAnswer}
 use Rattle.reedgrit.specs.AddedCalls.{MirroredNumbers}
 use Rattle.answers.proofs.added_calls.MirroredAnswer as N
@@ -30,7 +30,7 @@ use Rattle.answers.proofs.added_calls.MirroredAnswer.Laws as N′
 use Rattle.answers.proofs.added_calls.mirrored_numbers.Symbol as numbers-def
 use Rattle.answers.proofs.added_calls.mirrored_numbers.Symbol.{name as #numbers}
 use Rattle.answers.proofs.added_calls.mirrored_numbers.Met as numbers-thm
-use Rattle.reedgrit.proofs.OverloadWords.{mirrored-told}
+use Rattle.reedgrit.proofs.OverloadWords.{mirrored-countable}
 use Rattle.reedgrit.proofs.PassedOn.{Passing, Lent, written, ends, calls-open, calls-numbers, fourth-as-long, Walks, passed-on}
 use Rattle.reedgrit.proofs.added_calls.reedgrit_run_mirrored.Key.{name as #reedgrit-run-mirrored}
 use Rattle.reedgrit.proofs.added_calls.reedgrit_run_mirrored.Statement as stated
@@ -47,9 +47,9 @@ passing = record {
     (mut-slice-tells (named 1) (κs .1 .0) T.the-row, (mut-slice-tells (named 2) (κs .1 .1 .0) i32, (mut-slice-tells (named 3) (κs .1 .1 .1 .0) i32, tt))),
   );
   numbers = λ r. mirroredAnswer (outcomeNumbers r);
-  asks = λ r. some (ToldInWords r);
-  Left = λ κs a r e. RanMirroredLent (now (a .0)) (now (a .1 .0)) (now (a .1 .1 .0)) (now (a .1 .1 .1 .0)) r (now (e .1 .0)) (now (e .1 .1 .0)) (now (e .1 .1 .1 .0));
-  Told = λ κs a m e. MirroredNumbers (now (a .0)) (now (a .1 .0)) (now (a .1 .1 .0)) (now (a .1 .1 .1 .0)) m (now (e .1 .0)) (now (e .1 .1 .0)) (now (e .1 .1 .1 .0));
+  required = λ r. some (WordsCountable r);
+  Promised = λ κs a r e. RanMirroredLent (now (a .0)) (now (a .1 .0)) (now (a .1 .1 .0)) (now (a .1 .1 .1 .0)) r (now (e .1 .0)) (now (e .1 .1 .0)) (now (e .1 .1 .1 .0));
+  Numbered = λ κs a m e. MirroredNumbers (now (a .0)) (now (a .1 .0)) (now (a .1 .1 .0)) (now (a .1 .1 .1 .0)) m (now (e .1 .0)) (now (e .1 .1 .0)) (now (e .1 .1 .1 .0));
 }
 
 walk : {M : Type 1} → Walks M passing code.function #lent #numbers
@@ -81,7 +81,7 @@ walk 𝓤 H A W C Λ fm known-lent known-numbers κs qs bounds a are =
     land ! (from ! (stop !)) (init ! 15 refl (EL.lawful O.the-type O′.the-laws 𝓤 H A W tt .typed r _ is₁ .0)) $
     -- [what is left; what the answer owns; the tokens; …]: the last atoms are as many as the first
     move ! (2 ∷ []) $ fourth-as-long ! (λ la. move ! (1 ∷ []) $
-    calls-numbers ! fm passing known-numbers r v (mirrored-told (now (a .0)) (now (a .1 .0)) (now (a .1 .1 .0)) (now (a .1 .1 .1 .0)) (us .1 .0) (us .1 .1 .0) (us .1 .1 .1 .0) r e₁ la (ga .0))
+    calls-numbers ! fm passing known-numbers r v (mirrored-countable (now (a .0)) (now (a .1 .0)) (now (a .1 .1 .0)) (now (a .1 .1 .1 .0)) (us .1 .0) (us .1 .1 .0) (us .1 .1 .1 .0) r e₁ la (ga .0))
     (and-then ! (load ! (from ! (stop !)) (look ! 15 refl)) (no-more !)) (λ w m e₂ is₂.
     land ! (from ! (stop !)) (init ! 25 refl (LL.lawful N.the-type N′.the-laws 𝓤 H A W .typed m _ is₂ .0)) $
     returns ! (look ! 25 refl) $ forget ! 25 refl $ forget ! 23 refl $ forget ! 21 refl $ forget ! 19 refl $ forget ! 17 refl $ forget ! 15 refl $ forget ! 13 refl $ forget ! 11 refl $ forget ! 9 refl

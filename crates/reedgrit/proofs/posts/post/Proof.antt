@@ -1,4 +1,4 @@
--- `posts::post` meets its contract.
+-- The post reader's number is 11, and all else 0, or it is 0, and the words that are read are inside the slices.
 use mathlib.Core.Path.{sym, _∙_}
 use borrow.Author.Needs.{needs}
 use Rattle.post_words.proofs.PostReader.{readable}

@@ -1,4 +1,4 @@
--- `posts::read_post` meets its contract.
+-- Each field of the struct is one word of the post, and the stretch of its atoms is counted in words.
 use mathlib.Core.Path.{ap, _∙_}
 use mir.Syntax.{w32}
 use Rattle.post_words.specs.Posts.{wordsOf}

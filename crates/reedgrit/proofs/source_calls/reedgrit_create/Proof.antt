@@ -1,4 +1,4 @@
--- `calls::reedgrit_create` meets its contract.
+-- The record is the one that `create` makes, and the number is that of its answer.
 use borrow.Author.Needs.{needs}
 use Rattle.records.proofs.CreationNumbers.{created-as}
 use Rattle.reedgrit.proofs.source_calls.reedgrit_create.Statement.{statement}

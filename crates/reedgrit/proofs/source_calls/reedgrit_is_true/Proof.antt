@@ -1,4 +1,4 @@
--- `calls::reedgrit_is_true` meets its contract, which is that of `truth_after`.
+-- The numbers are those of `truth_after`.
 use mathlib.Core.Path.{_∙_}
 use borrow.Author.Needs.{needs}
 use Rattle.integers.proofs.Ints.{back}

@@ -1,4 +1,4 @@
--- `calls::reedgrit_lower_bound` meets its contract, which is that of `bound_after` on its side.
+-- The numbers are those of `bound_after` on the lower side.
 use mathlib.Core.Path.{ap, _∙_}
 use borrow.Author.Needs.{needs}
 use Rattle.integers.proofs.Ints.{back}

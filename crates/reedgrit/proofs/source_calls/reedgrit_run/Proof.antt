@@ -1,4 +1,4 @@
--- `calls::reedgrit_run` meets its contract: a walk of its MIR, by hand. The record, the ranges, the posts and the atoms are passed on to the open run for good, and the numbers of its outcome and its
+-- A walk of its MIR, by hand. The record, the ranges, the posts and the atoms are passed on to the open run for good, and the numbers of its outcome and its
 -- leaf changes are returned.
 use mathlib.Core.Path.{refl}
 use mathlib.Core.List.{[], _∷_}
@@ -21,14 +21,14 @@ use Rattle.disjunctive.proofs.open_calls.run as lent
 use Rattle.disjunctive.proofs.open_calls.run.Symbol as lent-def
 use Rattle.disjunctive.proofs.open_calls.run.Symbol.{name as #lent}
 use Rattle.disjunctive.proofs.open_calls.run.Met as lent-thm
-use Rattle.answers.specs.SourceAnswers.{ToldInWords, runAnswer}
+use Rattle.answers.specs.SourceAnswers.{WordsCountable, runAnswer}
 use Rattle.reedgrit.specs.SourceCalls.{RanNumbers}
 use Rattle.answers.proofs.source_calls.RunAnswer as N
 use Rattle.answers.proofs.source_calls.RunAnswer.Laws as N′
 use Rattle.answers.proofs.source_calls.finished_numbers.Symbol as numbers-def
 use Rattle.answers.proofs.source_calls.finished_numbers.Symbol.{name as #numbers}
 use Rattle.answers.proofs.source_calls.finished_numbers.Met as numbers-thm
-use Rattle.reedgrit.proofs.OverloadWords.{run-told}
+use Rattle.reedgrit.proofs.OverloadWords.{run-countable}
 use Rattle.reedgrit.proofs.PassedOn.{Passing, Lent, written, ends, calls-open, calls-numbers, fourth-as-long, Walks, passed-on}
 use Rattle.reedgrit.proofs.source_calls.reedgrit_run.Key.{name as #reedgrit-run}
 use Rattle.reedgrit.proofs.source_calls.reedgrit_run.Statement as stated
@@ -45,9 +45,9 @@ passing = record {
     (mut-slice-tells (named 1) (κs .1 .0) T.the-row, (mut-slice-tells (named 2) (κs .1 .1 .0) i32, (mut-slice-tells (named 3) (κs .1 .1 .1 .0) i32, tt))),
   );
   numbers = λ r. runAnswer (outcomeNumbers (r .outcome)) (r .changes);
-  asks = λ r. some (ToldInWords (r .outcome));
-  Left = λ κs a r e. RanLent (now (a .0)) (now (a .1 .0)) (now (a .1 .1 .0)) (now (a .1 .1 .1 .0)) (r .outcome) (r .changes) (now (e .0)) (now (e .1 .0)) (now (e .1 .1 .0)) (now (e .1 .1 .1 .0));
-  Told = λ κs a m e. RanNumbers (now (a .0)) (now (a .1 .0)) (now (a .1 .1 .0)) (now (a .1 .1 .1 .0)) m (now (e .0)) (now (e .1 .0)) (now (e .1 .1 .0)) (now (e .1 .1 .1 .0));
+  required = λ r. some (WordsCountable (r .outcome));
+  Promised = λ κs a r e. RanLent (now (a .0)) (now (a .1 .0)) (now (a .1 .1 .0)) (now (a .1 .1 .1 .0)) (r .outcome) (r .changes) (now (e .0)) (now (e .1 .0)) (now (e .1 .1 .0)) (now (e .1 .1 .1 .0));
+  Numbered = λ κs a m e. RanNumbers (now (a .0)) (now (a .1 .0)) (now (a .1 .1 .0)) (now (a .1 .1 .1 .0)) m (now (e .0)) (now (e .1 .0)) (now (e .1 .1 .0)) (now (e .1 .1 .1 .0));
 }
 
 walk : {M : Type 1} → Walks M passing code.function #lent #numbers
@@ -81,7 +81,7 @@ walk 𝓤 H A W C Λ fm known-lent known-numbers κs qs bounds a are =
     -- [what is left; what the answer owns; the tokens; …]: the last atoms are as many as the first
     move ! (2 ∷ []) $ fourth-as-long ! (λ la. move ! (1 ∷ []) $
     calls-numbers ! fm passing known-numbers r v
-    (run-told (now (a .0)) (now (a .1 .0)) (now (a .1 .1 .0)) (now (a .1 .1 .1 .0)) (us .1 .0) (us .1 .1 .0) (us .1 .1 .1 .0) (r .outcome) (r .changes) (us .0) e₁ la (ga .0))
+    (run-countable (now (a .0)) (now (a .1 .0)) (now (a .1 .1 .0)) (now (a .1 .1 .1 .0)) (us .1 .0) (us .1 .1 .0) (us .1 .1 .1 .0) (r .outcome) (r .changes) (us .0) e₁ la (ga .0))
     (and-then ! (load ! (from ! (stop !)) (look ! 17 refl)) (no-more !)) (λ w m e₂ is₂.
     land ! (from ! (stop !)) (init ! 27 refl (LL.lawful N.the-type N′.the-laws 𝓤 H A W .typed m _ is₂ .0)) $
     returns ! (look ! 27 refl) $ forget ! 27 refl $ forget ! 25 refl $ forget ! 23 refl $ forget ! 21 refl $ forget ! 19 refl $ forget ! 17 refl $ forget ! 15 refl $ forget ! 13 refl $ forget ! 11
@@ -89,7 +89,7 @@ walk 𝓤 H A W C Λ fm known-lent known-numbers κs qs bounds a are =
     move ! (27 ∷ 28 ∷ []) $ free1 ! $ move ! (25 ∷ 26 ∷ []) $ free1 ! $ move ! (23 ∷ 24 ∷ []) $ free1 ! $ move ! (21 ∷ 22 ∷ []) $ free1 ! $ move ! (19 ∷ 20 ∷ []) $ free1 ! $ move !
     (17 ∷ 18 ∷ []) $ free1 ! $ move ! (15 ∷ 16 ∷ []) $ free1 ! $ move ! (13 ∷ 14 ∷ []) $ free1 ! $ move ! (11 ∷ 12 ∷ []) $ free1 ! $ move ! (9 ∷ 10 ∷ []) $ free1 ! $ move !
     (7 ∷ 8 ∷ []) $ free1 ! $ move ! (5 ∷ 6 ∷ []) $ free1 ! $ move ! (3 ∷ 4 ∷ []) $ free1 ! $ free0 ! $
-    keep ! (0 ∷ 2 ∷ 1 ∷ []) $ by ! (ends passing 𝓤 H A W y us w m (record { finished = r; numbers = e₂; ran = e₁ }))))))))))))))))))
+    keep ! (0 ∷ 2 ∷ 1 ∷ []) $ by ! (ends passing 𝓤 H A W y us w m (record { answer = r; are = e₂; promised = e₁ }))))))))))))))))))
 
 pub reedgrit-run-spec : {M : Type 1} → stated.statement M
 unfolding code.routine

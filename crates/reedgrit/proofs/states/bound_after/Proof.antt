@@ -1,4 +1,4 @@
--- `states::bound_after` meets its contract: where the question's variable is known, the premises' tests are the question's.
+-- Where the query's variable is known, the premises' tests are the query's.
 use mathlib.Core.Path.{_≡_, sym, ap, _∙_}
 use borrow.Author.Needs.{needs}
 use borrow.Author.Tests.{not-true, not-false}
@@ -7,12 +7,12 @@ use Rattle.checking.specs.Atoms.{rightVariable}
 use Rattle.checking.specs.Answers.{boundNumbers}
 use Rattle.checking.specs.States.{sideOf, boundOf}
 use Rattle.checking.proofs.StateNumbers.{applied-apart}
-use Rattle.answers.specs.SourceAnswers.{stateAnswer, askedAt}
+use Rattle.answers.specs.SourceAnswers.{stateAnswer, queriedAt}
 use Rattle.reedgrit.proofs.StateTests.{unfit, fit}
 use Rattle.reedgrit.proofs.states.bound_after.Statement.{statement}
 use Rattle.reedgrit.proofs.states.bound_after.Tie as tie
 
--- what the test of the question's variable says
+-- what the test of the query's variable says
 said : (c : tie.After-variable-is-accepted) → c .variable-is-accepted .result ≡ rightVariable (c .before .args .variable)
 said c = c .variable-is-accepted .ensures ∙ ap rightVariable (back (c .before .fits .variable))
 
@@ -31,7 +31,7 @@ returns-2 c =
     let a = s .args in
     let made = c .before .before .before .prepare-for-conflict-check in
     c .state-numbers .ensures
-    ∙ ap (askedAt (made .result .answer)) (c .before .bound-numbers .ensures ∙ ap stateAnswer (c .before .before .bound-in .ensures)
+    ∙ ap (queriedAt (made .result .answer)) (c .before .bound-numbers .ensures ∙ ap stateAnswer (c .before .before .bound-in .ensures)
     ∙ (λ i. stateAnswer (boundNumbers (boundOf (sideOf (a .lower)) (made .result .state) (back (s .fits .variable) i)))))
     ∙ fit (a .premises .now) (rightVariable (a .variable)) (λ t. boundNumbers (boundOf (sideOf (a .lower)) t (a .variable)))
     (sym (said (test .before)) ∙ not-false (test .before .variable-is-accepted .result) (test .if1 .left)) (made .result) (applied-apart (made .ensures .0))

@@ -1,4 +1,4 @@
--- `states::prepared` meets its contract: where the list leads to a state, the struct handed in is the answer's.
+-- The struct of a consistent state is the one that is passed to `state_numbers`; the other answers have numbers of their own.
 use mathlib.Core.Path.{ap, _∙_}
 use borrow.Author.Needs.{needs}
 use Rattle.answers.specs.SourceAnswers.{stateAnswer}

@@ -1,4 +1,4 @@
--- `states::unfit_number` meets its contract: a question of which 6 is sure is refused by 7 where there are too many premises.
+-- A query that 6 refuses is refused by 7 where there are too many premises.
 use mathlib.Core.Path.{sym}
 use mathlib.Core.Bool.{false}
 use native.Mathlib.Omega.{arith}

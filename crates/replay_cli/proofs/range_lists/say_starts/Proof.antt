@@ -5,10 +5,10 @@ use Rattle.replay_cli.proofs.range_lists.say_starts.Statement.{statemen
 use Rattle.replay_cli.proofs.range_lists.say_starts.Tie as tie
 
 abbrev Inv-loop : tie.InvT-loop
-Inv-loop ranges n latest i₀ t6 i = Unit {0}
+Inv-loop ranges n bound i₀ t6 i = Unit {0}
 
 abbrev μ-loop : tie.MeasureT-loop
-μ-loop ranges n latest i₀ t6 i = n - i
+μ-loop ranges n bound i₀ t6 i = n - i
 
 pub say-starts-spec : {M : Type 1} → statement M
 say-starts-spec =

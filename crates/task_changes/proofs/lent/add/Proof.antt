@@ -1,4 +1,4 @@
--- `lent::add` meets its contract: `changes::add` is called on the lent record, and the record that it returns is stored.
+-- `changes::add` is called on the lent record, and the record that it returns is stored.
 use lib.IntN.{ℤ}
 use mir.Syntax.{w32}
 use mir.Val.{vint, ofZ}

@@ -1,4 +1,4 @@
--- `lent::remove` meets its contract: `changes::remove` is called on the lent record, and the record that it returns is stored.
+-- `changes::remove` is called on the lent record, and the record that it returns is stored.
 use Prim.Native.Nat.{ℕ}
 use mir.Syntax.{w64}
 use mir.Val.{vint}

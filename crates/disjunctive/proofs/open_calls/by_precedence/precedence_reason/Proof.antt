@@ -1,4 +1,4 @@
--- `ranges::by_precedence::precedence_reason` meets its contract: a walk of its MIR, by hand. The ranges are passed on to `starts_with_bars` as they are, the lent record is copied, and the words are
+-- A walk of its MIR, by hand. The ranges are passed on to `starts_with_bars` unchanged, the lent record is copied, and the words are
 -- passed on for good to `reason_core`.
 use mathlib.Core.Path.{_≡_, refl}
 use Prim.Native.Nat.{ℕ, _≤_}

@@ -1,6 +1,6 @@
--- `ranges::by_precedence::precedences` meets its contract: a walk of its MIR, by hand. The borrow of the ranges is opened. They are lent as a `&` for a lifetime of the call of `starts_with_bars`,
+-- A walk of its MIR, by hand. The borrow of the ranges is opened. They are lent as a `&` for a lifetime of the call of `starts_with_bars`,
 -- come back, are closed, and are passed on for good to `store_starts`.
--- `precedences_core` is passed a copy of the lent record, which stays as it is.
+-- `precedences_core` is passed a copy of the lent record, which stays unchanged.
 use mathlib.Core.Path.{_≡_, refl, sym, ap, subst}
 use Prim.Native.Nat.{ℕ, _≤_}
 use mathlib.Core.List.{List, [], _∷_}

@@ -1,5 +1,5 @@
--- `ranges::of_fixed_schedules::charges` meets its contract: a walk of its MIR, by hand. The ranges are passed on to `starts_of` as they are, the lent record is copied, and the due moments are passed
--- on to `charges_core` as they are.
+-- A walk of its MIR, by hand. The ranges are passed on to `starts_of` unchanged, the lent record is copied, and the due moments are passed
+-- on to `charges_core` unchanged.
 -- Of what is lent nothing is kept: all references are shared.
 use mathlib.Core.Path.{refl}
 use Prim.Native.Nat.{ℕ, _≤_}

@@ -1,4 +1,4 @@
--- `ranges::of_fixed_schedules::free_start` meets its contract: a walk of its MIR, by hand. The ranges are passed on to `starts_of` as they are; the record's borrow is looked into, the record copied,
+-- A walk of its MIR, by hand. The ranges are passed on to `starts_of` unchanged; the record's borrow is looked into, the record copied,
 -- and the borrow shut.
 -- Of what is lent nothing is kept: both references are shared.
 use mathlib.Core.Path.{refl}

@@ -1,4 +1,4 @@
--- `ranges::of_fixed_schedules::page` meets its contract: a walk of its MIR, by hand. The ranges are passed on to `starts_of` as they are, the lent record is copied, and the buffer is passed on for
+-- A walk of its MIR, by hand. The ranges are passed on to `starts_of` unchanged, the lent record is copied, and the buffer is passed on for
 -- good to `page_core`.
 use mathlib.Core.Path.{_≡_, refl}
 use Prim.Native.Nat.{ℕ, _≤_}

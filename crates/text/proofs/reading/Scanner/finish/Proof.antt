@@ -1,4 +1,4 @@
--- What the last word reads, put behind the numbers.
+-- What the last word reads, put after the numbers.
 use mathlib.Core.Path.{ap, _∙_}
 use borrow.Author.Needs.{needs}
 use Rattle.text.specs.Scanner.{withReading}

@@ -1,8 +1,8 @@
 -- Only the measure is needed; the first word of each atom is inside the slice.
 use Prim.Native.Nat.{_-_}
 use borrow.Author.Needs.{needs}
-use Rattle.replay_cli.proofs.states.mentions.Statement.{statement}
-use Rattle.replay_cli.proofs.states.mentions.Tie as tie
+use Rattle.replay_cli.proofs.state_commands.mentions.Statement.{statement}
+use Rattle.replay_cli.proofs.state_commands.mentions.Tie as tie
 
 abbrev Inv-loop : tie.InvT-loop
 Inv-loop words variable n k₀ k = Unit {0}

@@ -1,4 +1,4 @@
-// The record: created, with a task more, and without a task.
+// The commands that change the record: `create`, `add` and `remove`.
 use crate::lines::say;
 use crate::lines::say_counted;
 use crate::lines::say_error;
@@ -12,8 +12,8 @@ use task_changes::changes::Changed;
 use task_changes::changes::add;
 use task_changes::changes::remove;
 
-// `create`: the record of the durations.
-pub fn created(durations: &[i32]) -> DisjunctivePropagator {
+// `create`: a record of the durations.
+pub fn answer_create(durations: &[i32]) -> DisjunctivePropagator {
     let made = create(durations);
     let answer = made.answer;
     match answer {
@@ -23,26 +23,26 @@ pub fn created(durations: &[i32]) -> DisjunctivePropagator {
     made.record
 }
 
-// `add`: the record with a task of the duration more.
-pub fn with_task(record: DisjunctivePropagator, words: &[i32]) -> DisjunctivePropagator {
+// `add`: the record with one more task, of the duration.
+pub fn answer_add(record: DisjunctivePropagator, words: &[i32]) -> DisjunctivePropagator {
     if words.len() != 1 {
         say_error();
         return record;
     }
-    said(add(record, words[0]), b"added\n")
+    say_change(add(record, words[0]), b"added\n")
 }
 
 // `remove`: the record without the task.
-pub fn without_task(record: DisjunctivePropagator, words: &[i32]) -> DisjunctivePropagator {
+pub fn answer_remove(record: DisjunctivePropagator, words: &[i32]) -> DisjunctivePropagator {
     if words.len() != 1 {
         say_error();
         return record;
     }
-    said(remove(record, place_of(words[0])), b"removed\n")
+    say_change(remove(record, place_of(words[0])), b"removed\n")
 }
 
-// The record after a change, and the line of it.
-fn said(changed: Changed, line: &[u8]) -> DisjunctivePropagator {
+// The line of a change, and the record after it.
+fn say_change(changed: Changed, line: &[u8]) -> DisjunctivePropagator {
     let answer = changed.answer;
     match answer {
         Change::Made => say(line),

@@ -1,4 +1,4 @@
-// The variable state's calls.
+// The commands on the variable state.
 use crate::lines::say;
 use crate::lines::say_contradiction;
 use crate::lines::say_count;
@@ -18,13 +18,14 @@ use checking::variable_state::Truth;
 use checking::variable_state::VariableState;
 use integers::limits::VARIABLES;
 use integers::numbers::word_of;
+use integers::refused;
 use post_words::atoms_in;
 use post_words::variable_at;
 ghost use Prim.Native.Nat.{_<_};
 ghost use Rattle.integers.specs.Limits.{VARIABLES};
 
 // `state`: the empty state.
-pub fn emptied() -> VariableState {
+pub fn answer_state() -> VariableState {
     say(b"empty\n");
     VariableState::default()
 }
@@ -34,8 +35,8 @@ fn has_atoms(words: &[i32]) -> bool {
     words.len() >= 3 && words.len() % 3 == 0
 }
 
-// `apply`: the state with the first atom of a list, or as it was.
-pub fn applied(state: VariableState, words: &[i32]) -> VariableState {
+// `apply`: the state with the first atom of a list, or the state unchanged.
+pub fn answer_apply(state: VariableState, words: &[i32]) -> VariableState {
     if !has_atoms(words) {
         say_error();
         return state;
@@ -56,7 +57,7 @@ pub fn applied(state: VariableState, words: &[i32]) -> VariableState {
 }
 
 // `is-true`, `lower`, `upper` and `show`, of the first atom or variable of a list. Whether the word is one of them.
-pub fn tells(state: VariableState, word: &[u8], words: &[i32]) -> bool {
+pub fn answer_query(state: VariableState, word: &[u8], words: &[i32]) -> bool {
     if has_atoms(words) && same(word, b"is-true") {
         say_truth(state.is_true(
             number_at(words, 0),
@@ -115,7 +116,7 @@ fn say_ext(x: IntExt) {
 // The line of a variable: its bounds and its holes.
 fn say_variable(state: VariableState, x: usize) {
     if x >= VARIABLES {
-        return say_refused(6);
+        return say_refused(refused::ATOMS);
     }
     let domain = state.domains[x];
     say(b"var");
@@ -168,8 +169,8 @@ fn say_mentioned(state: VariableState, premises: &[i32], consequent: &[i32]) {
     }
 }
 
-// `prepare`: the state of the premises and the negated consequent, or the state as it was.
-pub fn prepared(state: VariableState, premises: &[i32], consequent: &[i32]) -> VariableState {
+// `prepare`: the state of the premises and the negated consequent, or the state unchanged.
+pub fn answer_prepare(state: VariableState, premises: &[i32], consequent: &[i32]) -> VariableState {
     let next = VariableState::prepare_for_conflict_check(premises, consequent);
     let answer = next.answer;
     let after = next.state;

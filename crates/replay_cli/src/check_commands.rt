@@ -1,4 +1,4 @@
-// The check and the mirrored check.
+// The commands of the check and of the mirrored check.
 use crate::lines::say;
 use crate::lines::say_contradiction;
 use crate::lines::say_refused;
@@ -9,7 +9,7 @@ use disjunctive::check;
 use disjunctive::check_mirrored;
 
 // `check` and `check-mirrored`: the durations, the premises and the consequent. Whether the word is one of the two.
-pub fn checks(word: &[u8], words: &[i32], ends: &[usize]) -> bool {
+pub fn answer_check(word: &[u8], words: &[i32], ends: &[usize]) -> bool {
     let durations = list(words, ends, 0);
     let premises = list(words, ends, 1);
     let consequent = list(words, ends, 2);

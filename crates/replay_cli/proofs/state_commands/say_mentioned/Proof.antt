@@ -1,8 +1,8 @@
 -- Each turn says one variable at most; the loop keeps nothing.
 use Prim.Native.Nat.{_-_}
 use borrow.Author.Needs.{needs}
-use Rattle.replay_cli.proofs.states.say_mentioned.Statement.{statement}
-use Rattle.replay_cli.proofs.states.say_mentioned.Tie as tie
+use Rattle.replay_cli.proofs.state_commands.say_mentioned.Statement.{statement}
+use Rattle.replay_cli.proofs.state_commands.say_mentioned.Tie as tie
 
 abbrev Inv-loop : tie.InvT-loop
 Inv-loop state premises consequent x₀ x = Unit {0}
