@@ -134,7 +134,7 @@ abbrev nowhere : Ty × ℕ
 nowhere = (tyEnum [] ttnil, zero)
 
 abbrev pub At : List (Ty × ℕ) → List Cell → ℕ → Ty → Option Val → Type 0
-At E σ i τ o = (b : ℕ) × ((getD E i nowhere ≡ (τ, b)) × (cellAt σ i ≡ some (τ, b, o)))
+At E σ i τ o = (b : ℕ) × (getD E i nowhere ≡ (τ, b)) × (cellAt σ i ≡ some (τ, b, o))
 
 abbrev pub AllAt : List (Ty × ℕ) → List Cell → List ℕ → List Val → Type 0
 AllAt E σ [] [] = Unit {0}

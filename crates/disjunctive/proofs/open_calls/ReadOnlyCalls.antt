@@ -135,6 +135,10 @@ lends-again (some (j, τ)) n b =
     seq (assign (after n) (addrOf (place (suc (suc (suc j))) (field 0 ∷ deref τ ∷ []))))
     (seq (assign (after (suc n)) (aggregate (copy (after n) ∷ copy (place (suc (suc (suc j))) (field 1 ∷ [])) ∷ []))) b)
 
+abbrev againTys : Option (ℕ × Ty) → List Ty
+againTys none = []
+againTys (some (j, τ)) = tyRef erased mut τ ∷ sliceTy (tyRef erased mut τ) ∷ []
+
 abbrev lent-again : Option (ℕ × Ty) → ℕ → (ℕ × ℕ) × ℕ → List (ℕ × Val)
 lent-again none n x = []
 lent-again (some t) n x = (n, vptr (x .0 .0) (x .0 .1)) ∷ (suc n, sliceVal (x .0) (x .1)) ∷ []
@@ -154,7 +158,7 @@ module _ {M : Type 1} {𝓤 : URA M} {H : Heap 𝓤} {A : Atoms 𝓤} {K : Type 
   copied t k c₀ c₁ c₂ σ [] (v ∷ vs) at-k e = absurd e
   copied t k c₀ c₁ c₂ σ (i ∷ is) [] at-k e = absurd e
   copied t {Γ} k c₀ c₁ c₂ σ (i ∷ is) (v ∷ vs) at-k e =
-      and-then t (load t (finds-local t (e .0 .1 .1 .0) (stop t)) (look-in t k (subst (λ (j : Item 𝓤). Part K W j fullShare (e .0 .0) (e .0 .1 .0) zero v (λ u. ‵ (cells (store (c₀ ∷ c₁ ∷ c₂ ∷ σ) (suc (suc (suc i))) u)))) (sym at-k) (local-at t (c₀ ∷ c₁ ∷ c₂ ∷ σ) (suc (suc (suc i))) (e .0 .1 .1 .1)))))
+      and-then t (load t (finds-local t (e .0 .1 .1) (stop t)) (look-in t k (subst (λ (j : Item 𝓤). Part K W j fullShare (e .0 .0) (e .0 .1 .0) zero v (λ u. ‵ (cells (store (c₀ ∷ c₁ ∷ c₂ ∷ σ) (suc (suc (suc i))) u)))) (sym at-k) (local-at t (c₀ ∷ c₁ ∷ c₂ ∷ σ) (suc (suc (suc i))) (e .0 .1 .2)))))
       (copied t k c₀ c₁ c₂ σ is vs at-k (e .1))
 
   runs-again : K → {Γ : List (Item 𝓤)} {C : Calls 𝓤 H} {Λ : Loops 𝓤 H} {E : Env 𝓤 H} {q : Post 𝓤 H} {rest : Body} {e₀ e₁ e₂ : Ty × ℕ} (c₀ c₁ c₂ : Cell) (σ : List Cell) (o : Option (ℕ × Ty)) (n : ℕ) (x : (ℕ × ℕ) × ℕ)
@@ -164,11 +168,11 @@ module _ {M : Type 1} {𝓤 : URA M} {H : Heap 𝓤} {A : Atoms 𝓤} {K : Type 
   runs-again t c₀ c₁ c₂ σ (some (j, τ)) n x (ℓ, a₁, a₂, a₃, a₄, a₅, fits) =
       let ρ : List Cell = c₀ ∷ c₁ ∷ c₂ ∷ store σ n (vptr (x .0 .0) (x .0 .1)) in
       step (λ s.
-      assigns t (addr t (finds-local t (a₁ .1 .0) (fld t refl (hop t (look-in t 0 (sub t 0 refl (local-at t (c₀ ∷ c₁ ∷ c₂ ∷ σ) (suc (suc (suc j))) (a₁ .1 .1)))) (stop t)))))
-      (finds-local t (a₂ .1 .0) (stop t)) (local-init t 0 (c₀ ∷ c₁ ∷ c₂ ∷ σ) (suc (suc (suc n))) refl (a₂ .1 .1) (tt, tt)) $
-      assigns t (agg t (and-then t (load t (finds-local t (a₄ .1 .0) (stop t)) (look-in t 0 (local-at t ρ (suc (suc (suc n))) (a₄ .1 .1))))
-      (and-then t (load t (finds-local t (a₃ .1 .0) (fld t refl (stop t))) (look-in t 0 (sub t 1 refl (local-at t ρ (suc (suc (suc j))) (a₃ .1 .1))))) (no-more t))))
-      (finds-local t (a₅ .1 .0) (stop t)) (local-init t 0 ρ (suc (suc (suc (suc n)))) refl (a₅ .1 .1) fits) $ s)
+      assigns t (addr t (finds-local t (a₁ .1) (fld t refl (hop t (look-in t 0 (sub t 0 refl (local-at t (c₀ ∷ c₁ ∷ c₂ ∷ σ) (suc (suc (suc j))) (a₁ .2)))) (stop t)))))
+      (finds-local t (a₂ .1) (stop t)) (local-init t 0 (c₀ ∷ c₁ ∷ c₂ ∷ σ) (suc (suc (suc n))) refl (a₂ .2) (tt, tt)) $
+      assigns t (agg t (and-then t (load t (finds-local t (a₄ .1) (stop t)) (look-in t 0 (local-at t ρ (suc (suc (suc n))) (a₄ .2))))
+      (and-then t (load t (finds-local t (a₃ .1) (fld t refl (stop t))) (look-in t 0 (sub t 1 refl (local-at t ρ (suc (suc (suc j))) (a₃ .2))))) (no-more t))))
+      (finds-local t (a₅ .1) (stop t)) (local-init t 0 ρ (suc (suc (suc (suc n)))) refl (a₅ .2) fits) $ s)
 
 -- ---- the call: what it reads, what else it is passed, with the lifetimes of that, what it answers, and what is said of an answer over starts. A call that is passed more ranges than a record has tasks
 -- passes none to its core
@@ -180,14 +184,12 @@ pub record Reading : Type 2 where
   pub Holds : (κs : Lfts lifetimes) → DisjunctivePropagator → List ℤ → List ℤ → Bool → Denots (typesAt beside κs) → Answer .Denot → Outs κs beside (all yes beside) → Type 0
   pub too-many : (κs : Lfts lifetimes) (h : DisjunctivePropagator) (es ls : List ℤ) (bars : Bool) (a : Denots (typesAt beside κs)) (r : Answer .Denot) (e : Outs κs beside (all yes beside))
       → TASKS < length es → Holds κs h [] [] bars a r e → Holds κs h es ls bars a r e
-  -- the types of its locals: of the answer, of what else it is passed, and those after the record's copy; and the locals that the core is passed beside the record and the starts
+  -- the types of its locals, of the answer and of what else it is passed; where a `&mut` slice is passed on, its local, its elements' type, its pointer and its length; and the locals that the core is passed
+  -- beside the record and the starts
   pub answerTy : Ty
   pub besideTys : List Ty
-  pub moreTys : List Ty
+  pub again : Option (ℕ × Ty × ((κs : Lfts lifetimes) → Denots (typesAt beside κs) → (ℕ × ℕ) × ℕ))
   pub operands : List ℕ
-  -- where a `&mut` slice is passed on, its local and its elements' type; and the slice's pointer and length
-  pub again : Option (ℕ × Ty)
-  pub slice : (κs : Lfts lifetimes) → Denots (typesAt beside κs) → (ℕ × ℕ) × ℕ
   pub values : (κs : Lfts lifetimes) → Spells (typesAt beside κs)
   pub tells : (κs : Lfts lifetimes) → Tellss (typesAt beside κs) (Ises (typesAt beside κs)) (values κs)
 
@@ -197,6 +199,15 @@ module _ (D : Reading) where
     signature = record { lifetimes = D .lifetimes; outlives = []; params = plain (λ _. P.the-row) ∷ plain (λ _. Read (D .reader)) ∷ D .beside; result = plain (λ _. D .Answer) };
     kept = (yes, (yes, all yes (D .beside)));
   }
+
+  -- the slice that is lent again, if one is
+  abbrev again-of : Option (ℕ × Ty × ((κs : Lfts (D .lifetimes)) → Denots (typesAt (D .beside) κs) → (ℕ × ℕ) × ℕ)) → Option (ℕ × Ty)
+  again-of none = none
+  again-of (some (j, τ, x)) = some (j, τ)
+
+  abbrev slice-of : Option (ℕ × Ty × ((κs : Lfts (D .lifetimes)) → Denots (typesAt (D .beside) κs) → (ℕ × ℕ) × ℕ)) → (κs : Lfts (D .lifetimes)) → Denots (typesAt (D .beside) κs) → (ℕ × ℕ) × ℕ
+  slice-of none κs a = ((0, 0), 0)
+  slice-of (some (j, τ, x)) κs a = x κs a
 
   -- what the open call is passed
   abbrev Passed : Lfts (suc (suc (D .lifetimes))) → List RattleType
@@ -247,8 +258,14 @@ module _ (D : Reading) where
   abbrev number : ℕ
   number = length (D .besideTys)
 
+  abbrev again : Option (ℕ × Ty)
+  again = again-of D (D .again)
+
+  abbrev slice : (κs : Lfts (D .lifetimes)) → Denots (typesAt (D .beside) κs) → (ℕ × ℕ) × ℕ
+  slice = slice-of D (D .again)
+
   abbrev afterTys : List Ty
-  afterTys = D .besideTys ++ (readTy (D .reader) ∷ P′.mir ∷ D .moreTys)
+  afterTys = D .besideTys ++ (readTy (D .reader) ∷ P′.mir ∷ againTys again)
 
   abbrev lentTys : List Ty
   lentTys = tyRef (named 0) imm (pointee (P.the-row .written)) ∷ sliceTy (tyRef (named 1) imm (pointee (T.the-row .written))) ∷ afterTys
@@ -262,7 +279,7 @@ module _ (D : Reading) where
     body =
         seq (call (nameOf (D .reader)) (copy (place 2 []) ∷ []) (after number))
         (seq (assign (after (suc number)) (rvOpd (copy (place 1 (deref P′.mir ∷ [])))))
-        (lends-again (D .again) (suc (suc number)) (seq (call f (copies (suc number ∷ number ∷ D .operands)) (place 0 [])) return)));
+        (lends-again again (suc (suc number)) (seq (call f (copies (suc number ∷ number ∷ D .operands)) (place 0 [])) return)));
   }
 
   -- where the locals are found: each of these is `refl` once the types are written out
@@ -270,9 +287,9 @@ module _ (D : Reading) where
     pub fits : Fit afterTys (others D κs a)
     pub starts-at : At (envOf (fresh afterTys bs)) (passing (fresh afterTys bs) (others D κs a)) number (readTy (D .reader)) none
     pub record-at : (w : Val) → At (envOf (fresh afterTys bs)) (store (passing (fresh afterTys bs) (others D κs a)) number w) (suc number) P′.mir none
-    pub again-at : (w u : Val) → AgainAt (D .again) (suc (suc number)) (D .slice κs a) (envOf (fresh afterTys bs)) (store (store (passing (fresh afterTys bs) (others D κs a)) number w) (suc number) u)
+    pub again-at : (w u : Val) → AgainAt again (suc (suc number)) (slice κs a) (envOf (fresh afterTys bs)) (store (store (passing (fresh afterTys bs) (others D κs a)) number w) (suc number) u)
     pub passed-at : (w u : Val) → AllAt (envOf (fresh afterTys bs))
-        (stores (store (store (passing (fresh afterTys bs) (others D κs a)) number w) (suc number) u) (lent-again (D .again) (suc (suc number)) (D .slice κs a)))
+        (stores (store (store (passing (fresh afterTys bs) (others D κs a)) number w) (suc number) u) (lent-again again (suc (suc number)) (slice κs a)))
         (suc number ∷ number ∷ D .operands) (u ∷ w ∷ others D κs a)
 
   module _ {M : Type 1} (𝓤 : URA M) (H : Heap 𝓤) (A : Atoms 𝓤) (W : Given 𝓤 H A) where
@@ -325,11 +342,11 @@ module _ (D : Reading) where
         copied-to bs w = store (store (passed bs) number w) (suc number) (machP (now (a .0)))
 
         abbrev called : Blocks (D .answerTy ∷ lentTys) → Val → List Cell
-        called bs w = stores (copied-to bs w) (lent-again (D .again) (suc (suc number)) (D .slice (κs .1 .1) (a .1 .1)))
+        called bs w = stores (copied-to bs w) (lent-again again (suc (suc number)) (slice (κs .1 .1) (a .1 .1)))
 
         same-locals : (bs : Blocks (D .answerTy ∷ lentTys)) (w : Val) → envOf (called bs w) ≡ envOf (fresh afterTys (bs .1 .1 .1))
         same-locals bs w =
-            env-stores (lent-again (D .again) (suc (suc number)) (D .slice (κs .1 .1) (a .1 .1))) (copied-to bs w) ∙ (env-store (store (passed bs) number w) (suc number) (machP (now (a .0)))
+            env-stores (lent-again again (suc (suc number)) (slice (κs .1 .1) (a .1 .1))) (copied-to bs w) ∙ (env-store (store (passed bs) number w) (suc number) (machP (now (a .0)))
             ∙ (env-store (passed bs) number w ∙ env-passing (fresh afterTys (bs .1 .1 .1)) (others D (κs .1 .1) (a .1 .1))))
 
         walk : ent 𝓤 (sep 𝓤 (toks 𝓤 A (suc (suc (D .lifetimes))) κs qs) (sem 𝓤 H A (owns (Passed D κs) a (x .4)))) (WpFn 𝓤 H C Λ (function f) (flat (Passed D κs) (x .4)) (Open D 𝓤 H A .post (x, tt)))
@@ -343,17 +360,17 @@ module _ (D : Reading) where
             -- [the ranges' token; the ranges; the others' tokens; the record's token; the others; res; the record's borrow; the locals]
             calls-reader ! fm (Read (D .reader)) (Says (D .reader)) known-reader (κs .1 .0) (qs .1 .0) (a .1 .0)
             (and-then ! (load ! (from ! (stop !)) (look-in ! 6 (local-at ! (answer none bs ∷ reference bs ∷ ranges bs ∷ passed bs) 2 refl))) (no-more !)) (λ w s e₁ is₁.
-            land ! (finds-local ! (l .starts-at .1 .0) (stop !)) (local-init ! 7 (answer none bs ∷ reference bs ∷ ranges bs ∷ passed bs) (suc (suc (suc number))) refl (l .starts-at .1 .1) (read-typed 𝓤 H A W (D .reader) s w is₁)) $
+            land ! (finds-local ! (l .starts-at .1) (stop !)) (local-init ! 7 (answer none bs ∷ reference bs ∷ ranges bs ∷ passed bs) (suc (suc (suc number))) refl (l .starts-at .2) (read-typed 𝓤 H A W (D .reader) s w is₁)) $
             -- [what the starts own; the ranges' token; the others' tokens; the record's token; the others; res; the record's borrow; the locals]
             move ! (6 ∷ 3 ∷ []) $ looks-into ! tt (now (a .0)) (a .0 .ptr .0) (a .0 .ptr .1) (λ q′ gh.
             -- [a share of the record's cell; what it owns; what shuts it; its borrow; what the starts own; the ranges' token; the others' tokens; the others; res; the locals]
             assigns ! (of-opd ! (load ! (from ! (hop ! (look-in ! 9 (local-at ! (answer none bs ∷ reference bs ∷ ranges bs ∷ store (passed bs) number w) 1 refl)) (stop !))) (look ! 0 refl)))
-            (finds-local ! (l .record-at w .1 .0) (stop !))
-            (local-init ! 9 (answer none bs ∷ reference bs ∷ ranges bs ∷ store (passed bs) number w) (suc (suc (suc (suc number)))) refl (l .record-at w .1 .1)
+            (finds-local ! (l .record-at w .1) (stop !))
+            (local-init ! 9 (answer none bs ∷ reference bs ∷ ranges bs ∷ store (passed bs) number w) (suc (suc (suc (suc number)))) refl (l .record-at w .2)
             (LL.lawful P.the-type P′.the-laws 𝓤 H A W .typed (now (a .0)) (machP (now (a .0)) ∷ []) gh .0)) $
             shuts-record ! tt q′ (now (a .0)) (a .0 .ptr .0) (a .0 .ptr .1) $
             -- [the record's token; its borrow; what the starts own; the ranges' token; the others' tokens; the others; res; the locals]
-            move ! (7 ∷ []) $ runs-again ! (answer none bs) (reference bs) (ranges bs) (copied-to bs w) (D .again) (suc (suc number)) (D .slice (κs .1 .1) (a .1 .1)) (l .again-at w (machP (now (a .0)))) $
+            move ! (7 ∷ []) $ runs-again ! (answer none bs) (reference bs) (ranges bs) (copied-to bs w) again (suc (suc number)) (slice (κs .1 .1) (a .1 .1)) (l .again-at w (machP (now (a .0)))) $
             move ! (3 ∷ 6 ∷ []) $ fjoin ! $ owned ! P.the-row (Is P.the-row) ((LL.makes P.the-type P′.the-plain) 𝓤 H A) (now (a .0)) _ gh $ fjoin ! $ move ! (5 ∷ 0 ∷ []) $ join ! $
             use0 W (raw (fact 𝓤 (startsIn (D .reader) s .count ≤ TASKS))) (factI 𝓤 (startsIn (D .reader) s .count ≤ TASKS) (emp 𝓤) (few (D .reader) (now (a .1 .0)) s e₁)) $
             move ! (1 ∷ 0 ∷ []) $ join ! $ use1 W (raw (Core D 𝓤 H A .pre (to-core s w))) (id⊢ 𝓤 _) $
