@@ -1,4 +1,5 @@
 mod AllPlaces
+pub mod Locals
 pub mod LentRuns
 pub mod Calls
 pub mod Routines

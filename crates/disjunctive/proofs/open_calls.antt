@@ -1,2 +1,3 @@
 pub mod LentRecord
 pub mod CoreCalls
+pub mod ReadOnlyCalls
