@@ -1,34 +1,21 @@
+-- By the comparison, and of the four kinds only ≠ is 3.
 use borrow.Author.Needs.{needs}
 use Rattle.checking.proofs.bound_words.makes_hole.Statement.{statement}
 use Rattle.checking.proofs.bound_words.makes_hole.Tie as tie
-use Rattle.checking.proofs.bound_words.makes_hole.Reads as reads
-use Rattle.checking.proofs.bound_words.makes_hole.Lts as lts
-
-enum-told : tie.Need-enum-told
-enum-told c = search needs
-
-enum-told-2 : tie.Need-enum-told-2
-enum-told-2 c = search needs
-
-enum-told-3 : tie.Need-enum-told-3
-enum-told-3 c = search needs
-
-enum-told-4 : tie.Need-enum-told-4
-enum-told-4 c = search needs
 
 returns : tie.Need-returns
-returns c = search needs
+returns c = rw (c .enum-told .given .1)
 
 returns-2 : tie.Need-returns-2
-returns-2 c = search needs
+returns-2 c = rw (c .enum-told2 .given .1)
 
 returns-3 : tie.Need-returns-3
-returns-3 c = search needs
+returns-3 c = rw (c .enum-told3 .given .1)
 
 returns-4 : tie.Need-returns-4
-returns-4 c = search needs
+returns-4 c = rw (c .enum-told4 .given .1)
 
 pub makes-hole-spec : {M : Type 1} → statement M
 makes-hole-spec =
     tie.close
-    (tie.spec enum-told enum-told-2 enum-told-3 enum-told-4 returns returns-2 returns-3 returns-4)
+    (tie.spec (λ c. search needs) (λ c. search needs) (λ c. search needs) (λ c. search needs) returns returns-2 returns-3 returns-4)
