@@ -12,15 +12,13 @@ use Rattle.checking.proofs.Atoms.{right-lists}
 use Rattle.checking.specs.declared.variable_state.Application.{Application}
 use Rattle.checking.specs.declared.variable_state.Application.the-variants as application
 use Rattle.checking.specs.declared.variable_state.Applied.{Applied}
-use Rattle.checking.specs.Answers.{AppliedAs}
-use Rattle.checking.specs.States.{AcceptedState, prepared}
-use Rattle.checking.proofs.StateNumbers.{applied-apart}
-use Rattle.checking.proofs.PreparedStates.{prepared-right, prepared-accepted}
+use Rattle.checking.specs.States.{prepared}
+use Rattle.checking.proofs.PreparedStates.{prepared-right}
 use Rattle.records.specs.declared.record.Created.{Created}
 use Rattle.records.specs.declared.record.Creation.the-variants as creation
 use Rattle.records.specs.Records.{creationTests, created, Creates}
 use Rattle.records.proofs.CreationNumbers.{created-as}
-use Rattle.records.proofs.Creation.{created-new, created-not}
+use Rattle.records.proofs.Creation.{created-new, created-not, created-lawful}
 use Rattle.checker.specs.BoundArrays.{mirroredBounds}
 use Rattle.checker.specs.declared.checker.Verdict.{Verdict}
 use Rattle.checker.specs.declared.checker.Verdict.the-variants.{Contradiction, Refused}
@@ -34,6 +32,10 @@ use Rattle.checker.specs.CheckArrays.{Judgeable, Consequent}
 use Rattle.checker.proofs.Verdicts.{judgeable, mirrored-judgeable}
 
 module _ (ds ps cs : List ℤ) where
+  -- the premises and the negated consequent, applied
+  abbrev applied : Applied
+  applied = prepared ps cs
+
   -- what comes after 1, 2 and 5
   pub check-after : (n : ℕ) → refusal (creationTests ds) ≡ n → checkOf ds ps cs ≡ checkAfter (judged ds) n ps cs
   unfolding checkOf
@@ -66,16 +68,13 @@ module _ (ds ps cs : List ℤ) where
             absurd (let w : _≡_ {A = ℕ} 0 1 = cc in omega arith))
       ]
 
-      module _ (a : made .answer ≡ creation.Accepted) (applied : Applied) (as-prepared : AppliedAs (prepared ps cs) applied) where
-        same : applied ≡ prepared ps cs
-        same = applied-apart as-prepared
-
-        check-is : checkAs direction ds ps cs ≡ concluded (judgedAs direction ds) applied (consequentOf cs)
-        check-is = after 0 (accepts a) ∙ ap (λ (r : Applied). concluded (judgedAs direction ds) r (consequentOf cs)) (sym same)
+      module _ (a : made .answer ≡ creation.Accepted) where
+        pub few-tasks : made .«record» .count ≤ TASKS
+        few-tasks = rw (is, created-new ds (accepts a)) (created-lawful ds (accepts a) .few)
 
         -- 7, 6, 21 and contradictions
         concludes : (x : Application) → applied .answer ≡ x → checkAs direction ds ps cs ≡ concluded (judgedAs direction ds) (record { answer = x; state = applied .state }) (consequentOf cs)
-        concludes x e = check-is ∙ ap (λ (y : Application). concluded (judgedAs direction ds) (record { answer = y; state = applied .state }) (consequentOf cs)) e
+        concludes x e = after 0 (accepts a) ∙ ap (λ (y : Application). concluded (judgedAs direction ds) (record { answer = y; state = applied .state }) (consequentOf cs)) e
 
         pub contradicted : (x : ℕ) → applied .answer ≡ application.Contradiction x → Contradiction x ≡ checkAs direction ds ps cs
         contradicted x e = sym (concludes (application.Contradiction x) e)
@@ -85,9 +84,6 @@ module _ (ds ps cs : List ℤ) where
 
         -- 8 and the formula
         module _ (e : applied .answer ≡ application.Consistent) where
-          consistent : prepared ps cs .answer ≡ application.Consistent
-          consistent = ap (λ (r : Applied). r .answer) (sym same) ∙ e
-
           abbrev n : ℕ
           n = made .«record» .count
 
@@ -95,16 +91,10 @@ module _ (ds ps cs : List ℤ) where
           durations = made .«record» .durations
 
           by-state : Judgeable ds (lowerAs Forward ds (applied .state)) (upperAs Forward ds (applied .state)) n (boundsOf (applied .state) n) durations
-          by-state = rw (is, created-new ds (accepts a), same) (judgeable ds ps cs (accepts a) consistent)
+          by-state = rw (is, created-new ds (accepts a)) (judgeable ds ps cs (accepts a) e)
 
           by-state-mirrored : Judgeable ds (lowerAs Mirrored ds (applied .state)) (upperAs Mirrored ds (applied .state)) n (mirroredBounds (boundsOf (applied .state) n) durations n) durations
-          by-state-mirrored = rw (is, created-new ds (accepts a), same) (mirrored-judgeable ds ps cs (accepts a) consistent)
-
-          pub few-tasks : made .«record» .count ≤ TASKS
-          few-tasks = by-state .bounding .held .few
-
-          pub accepted-state : AcceptedState (applied .state)
-          accepted-state = subst AcceptedState (sym (as-prepared .state)) (prepared-accepted ps cs)
+          by-state-mirrored = rw (is, created-new ds (accepts a)) (mirrored-judgeable ds ps cs (accepts a) e)
 
           pub can-judge : (b : Bounds) → b ≡ boundsOf (applied .state) (made .«record» .count)
               → Judgeable ds (lowerAs Forward ds (applied .state)) (upperAs Forward ds (applied .state)) (made .«record» .count) b (made .«record» .durations)
@@ -116,7 +106,7 @@ module _ (ds ps cs : List ℤ) where
               (sym (y ∙ ap (λ (x : Bounds). mirroredBounds x durations n) z)) by-state-mirrored
 
           pub consequent-right : Consequent cs
-          consequent-right = let (p, short, right) = right-lists ps cs (prepared-right ps cs consistent) in record { short = short; right = right }
+          consequent-right = let (p, short, right) = right-lists ps cs (prepared-right ps cs e) in record { short = short; right = right }
 
           pub concluded-by : (r : Verdict) → r ≡ judgedAs direction ds (applied .state) (consequentOf cs) → r ≡ checkAs direction ds ps cs
           concluded-by r j = j ∙ sym (concludes application.Consistent e)

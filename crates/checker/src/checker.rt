@@ -2,10 +2,9 @@
 use crate::formula::implied;
 use crate::formula::overloaded;
 use crate::mirrored_bounds::mirrored_bounds;
+use checking::prepared_bounds::prepare_bounds;
 use checking::start_bounds::Bounds;
-use checking::start_bounds::bounds_of;
 use checking::variable_state::Application;
-use checking::variable_state::VariableState;
 use integers::limits::TASKS;
 use integers::refused;
 use records::record::Creation;
@@ -81,11 +80,11 @@ fn check_as(
         return Verdict::Refused(number);
     }
     let tasks = made.record;
-    let applied = VariableState::prepare_for_conflict_check(premises, consequent);
-    let answer = applied.answer;
+    let prepared = prepare_bounds(premises, consequent, tasks.count);
+    let answer = prepared.answer;
     match answer {
         Application::Consistent => {
-            let bounds = bounds_of(applied.state, tasks.count);
+            let bounds = prepared.bounds;
             match direction {
                 Direction::Forward => judge(bounds, &tasks.durations, tasks.count, consequent),
                 Direction::Mirrored => {

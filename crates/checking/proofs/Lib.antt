@@ -21,3 +21,5 @@ pub mod OneState
 pub mod BoundLimits
 pub mod Bounds
 pub mod Instances
+pub mod BoundWords
+pub mod HeldWords

@@ -7,3 +7,4 @@ pub mod Promises
 pub mod Shuffles
 pub mod Bounds
 pub mod TaskBounds
+pub mod BoundWords

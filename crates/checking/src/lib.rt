@@ -1,6 +1,8 @@
 // The variable state, over i32 as in the source.
 pub mod atomic_constraint;
+pub mod bound_words;
 pub mod domain;
 pub mod int_ext;
+pub mod prepared_bounds;
 pub mod start_bounds;
 pub mod variable_state;

@@ -9,7 +9,7 @@ use denote.Builtin.{i32}
 use denote.Signature.{plain}
 use denote.Signed.{sint-vals, sint-tells}
 use denote.Enum.Laws as L
-use Rattle.busiest_stretch.specs.Stretches.{Answered}
+use Rattle.busiest_stretch.specs.Stretches.{BusiestAnswered}
 use Rattle.busiest_stretch.proofs.Answers.{too-many}
 use Rattle.busiest_stretch.proofs.answer.Busiest as O
 use Rattle.busiest_stretch.proofs.answer.Busiest.Laws as O′
@@ -26,7 +26,7 @@ call = record {
   lifetimes = 0;
   beside = plain (λ _. i32) ∷ [];
   Answer = O.the-row;
-  Holds = λ κs h es ls bars a r e. Answered h es ls (a .0) r;
+  Holds = λ κs h es ls bars a r e. BusiestAnswered h es ls (a .0) r;
   too-many = λ κs h es ls bars a r e. too-many h es ls (a .0) r;
   answerTy = O′.mir;
   besideTys = tyInt w32 ∷ [];

@@ -1,0 +1,171 @@
+-- A domain without holes is its bounds: what an atom makes of it, it makes of their words.
+use mathlib.Core.Path.{_≡_, refl, sym, ap, ap₂, _∙_, subst}
+use mathlib.Core.Logic.{⊎-elim}
+use mathlib.Core.Bool.{Bool, true, false, cond, _||_}
+use mathlib.Core.List.{List, [], _∷_}
+use Prim.Native.Nat.{ℕ, zero, suc, _+_, _-_, _≤_, _<_, max}
+use native.Mathlib.Omega.{arith}
+use borrow.Author.Tests.{le-leb, lt-leb, ne-eqb}
+use lib.Dec.{leb, eqb}
+use lib.IntN.{ℤ}
+use lib.Signed.{leZ}
+use Rattle.integers.specs.Limits.{VALUE}
+use Rattle.integers.specs.Moments.{moment, Above, zeroAt, largestKey}
+use Rattle.integers.specs.WholeNumbers.{Within}
+use Rattle.integers.proofs.Bools.{bool, clash}
+use Rattle.integers.proofs.Ints.{ints, up, dn, le-leZ}
+use Rattle.integers.proofs.MomentSums.{at-moment, above-show, mono, mono<}
+use Rattle.holes.specs.Holes.{kept, above, below, firstFrom, lastUpTo}
+use Rattle.checking.specs.declared.int_ext.IntExt.{IntExt}
+use Rattle.checking.specs.declared.int_ext.IntExt.the-variants.{Int, NegativeInf, PositiveInf}
+use Rattle.checking.specs.declared.domain.Domain.{Domain}
+use Rattle.checking.specs.declared.bound_words.BoundWords.{BoundWords}
+use Rattle.checking.specs.declared.start_bounds.TaskBounds.{TaskBounds}
+use Rattle.checking.specs.declared.variable_state.Bound.the-variants.{At}
+use Rattle.checking.specs.Bounds.{finite}
+use Rattle.checking.specs.Domains.{leExt, ltExt, holesOf, domainOf, consistent, Tight, tightenedLower, tightenedUpper, applied}
+use Rattle.checking.specs.BoundWords.{lowerWord, upperWord, wordsOf, narrowedWords, wordsLeaveValue, wordBounds, HoleFree}
+use Rattle.checking.specs.TaskBounds.{noBounds, twoBounds, boundsBetween, taskBounds}
+use Rattle.checking.proofs.NarrowedDomains.{lower-case, lower-tight, upper-case, upper-lower}
+
+-- Values ------------------------------------------------------------------------------------------------------------------------
+
+-- A value near the limits has a moment, which is neither 0 nor the largest key.
+record Inner (z : ℤ) : Type 0 where
+  above : Above zeroAt z
+  positive : 0 < moment zeroAt z
+  below : moment zeroAt z < largestKey
+
+near-moment : (z : ℤ) → Within (VALUE + 1) z → Inner z
+unfolding up dn
+near-moment z w =
+    let a : Above zeroAt z = above-show zeroAt z (omega (ints, w .low)) in
+    record { above = a; positive = omega (ints, w .low, at-moment zeroAt z a); below = omega (ints, w .high, at-moment zeroAt z a) }
+
+twice : (z : ℤ) → Inner z → largestKey - (largestKey - moment zeroAt z) ≡ moment zeroAt z
+twice z i = omega (arith, i .below)
+
+-- The lower bound ---------------------------------------------------------------------------------------------------------------
+
+module _ (d : Domain) (t : Tight d) (free : HoleFree d) (v : ℤ) where
+  raised-is : domainOf (Int (firstFrom v (holesOf d))) (d .«upper_bound») (above (firstFrom v (holesOf d)) (holesOf d)) ≡ domainOf (Int v) (d .«upper_bound») []
+  unfolding firstFrom kept
+  raised-is = ap (λ (hs : List ℤ). domainOf (Int (firstFrom v hs)) (d .«upper_bound») (above (firstFrom v hs) hs)) (free .none)
+
+  lowered-is : domainOf (d .«lower_bound») (Int (lastUpTo v (holesOf d))) (below (lastUpTo v (holesOf d)) (holesOf d)) ≡ domainOf (d .«lower_bound») (Int v) []
+  unfolding lastUpTo kept
+  lowered-is = ap (λ (hs : List ℤ). domainOf (d .«lower_bound») (Int (lastUpTo v hs)) (below (lastUpTo v hs) hs)) (free .none)
+
+  -- the bound is there already, or it is v
+  raised : (P : Domain → Type 0) → (leExt (Int v) (d .«lower_bound») ≡ true → P d) → (leExt (Int v) (d .«lower_bound») ≡ false → P (domainOf (Int v) (d .«upper_bound») []))
+      → P (tightenedLower d v)
+  raised P f g = lower-case d v t P f (λ n. subst P (sym raised-is) (g n))
+
+  lowered : (P : Domain → Type 0) → (leExt (d .«upper_bound») (Int v) ≡ true → P d) → (leExt (d .«upper_bound») (Int v) ≡ false → P (domainOf (d .«lower_bound») (Int v) []))
+      → P (tightenedUpper d v)
+  lowered P f g = upper-case d v t P f (λ n. subst P (sym lowered-is) (g n))
+
+  same-value : (u : ℤ) → Int v ≡ Int u → v ≡ u
+  same-value u e = cc
+
+  module _ (near : Within (VALUE + 1) v) where
+    raised-free : HoleFree (tightenedLower d v)
+    raised-free = raised HoleFree (λ _. free) (λ _. record { none = refl; lower = λ u e. subst (Within (VALUE + 1)) (same-value u e) near; upper = free .upper })
+
+    lowered-free : HoleFree (tightenedUpper d v)
+    lowered-free = lowered HoleFree (λ _. free) (λ _. record { none = refl; lower = free .lower; upper = λ u e. subst (Within (VALUE + 1)) (same-value u e) near })
+
+-- the bound that is there is at or above v, or below it
+lower-there : (b : IntExt) (v : ℤ) → ltExt b PositiveInf ≡ true → leExt (Int v) b ≡ true → moment zeroAt v ≤ lowerWord b
+lower-there (Int z) v f y = mono zeroAt v z (omega ints)
+lower-there NegativeInf v f y = clash y refl
+lower-there PositiveInf v f y = clash f refl
+
+lower-less : (b : IntExt) (v : ℤ) → ltExt b PositiveInf ≡ true → leExt (Int v) b ≡ false → lowerWord b ≤ moment zeroAt v
+lower-less (Int z) v f n = mono zeroAt z v (omega ints)
+lower-less NegativeInf v f n = omega arith
+lower-less PositiveInf v f n = clash f refl
+
+upper-there : (b : IntExt) (v : ℤ) → ltExt NegativeInf b ≡ true → leExt b (Int v) ≡ true → largestKey - moment zeroAt v ≤ upperWord b
+upper-there (Int z) v f y = let h = mono zeroAt z v (omega ints) in omega arith
+upper-there NegativeInf v f y = clash f refl
+upper-there PositiveInf v f y = clash y refl
+
+upper-less : (b : IntExt) (v : ℤ) → ltExt NegativeInf b ≡ true → leExt b (Int v) ≡ false → upperWord b ≤ largestKey - moment zeroAt v
+upper-less (Int z) v f n = let h = mono zeroAt v z (omega ints) in omega arith
+upper-less NegativeInf v f n = clash f refl
+upper-less PositiveInf v f n = omega arith
+
+max-left : (a b : ℕ) → b ≤ a → a ≡ max a b
+max-left a b h = omega arith
+
+max-right : (a b : ℕ) → a ≤ b → b ≡ max a b
+max-right a b h = omega arith
+
+module _ (d : Domain) (t : Tight d) (free : HoleFree d) (v : ℤ) where
+  raised-words : wordsOf (tightenedLower d v) ≡ narrowedWords (wordsOf d) 0 v
+  raised-words = raised d t free v (λ e. wordsOf e ≡ narrowedWords (wordsOf d) 0 v)
+      (λ y. ap (λ (m : ℕ). words m) (max-left (lowerWord (d .«lower_bound»)) (moment zeroAt v) (lower-there (d .«lower_bound») v (t .lower-finite) y)))
+      (λ n. ap (λ (m : ℕ). words m) (max-right (lowerWord (d .«lower_bound»)) (moment zeroAt v) (lower-less (d .«lower_bound») v (t .lower-finite) n)))
+    where
+      words : ℕ → BoundWords
+      words m = record { lower = m; upper = upperWord (d .«upper_bound») }
+
+  lowered-words : wordsOf (tightenedUpper d v) ≡ narrowedWords (wordsOf d) 1 v
+  lowered-words = lowered d t free v (λ e. wordsOf e ≡ narrowedWords (wordsOf d) 1 v)
+      (λ y. ap (λ (m : ℕ). words m) (max-left (upperWord (d .«upper_bound»)) (largestKey - moment zeroAt v) (upper-there (d .«upper_bound») v (t .upper-finite) y)))
+      (λ n. ap (λ (m : ℕ). words m) (max-right (upperWord (d .«upper_bound»)) (largestKey - moment zeroAt v) (upper-less (d .«upper_bound») v (t .upper-finite) n)))
+    where
+      words : ℕ → BoundWords
+      words m = record { lower = lowerWord (d .«lower_bound»); upper = m }
+
+-- Every atom that makes no hole ---------------------------------------------------------------------------------------------------
+
+pub applied-free : (d : Domain) → Tight d → HoleFree d → (k : ℕ) → k < 3 → (v : ℤ) → Within (VALUE + 1) v → HoleFree (applied d k v)
+applied-free d t free zero h v near = raised-free d t free v near
+applied-free d t free (suc zero) h v near = lowered-free d t free v near
+applied-free d t free (suc (suc zero)) h v near = lowered-free (tightenedLower d v) (lower-tight d v t) (raised-free d t free v near) v near
+applied-free d t free (suc (suc (suc k))) h v near = absurd (omega arith)
+
+pub applied-words : (d : Domain) → Tight d → HoleFree d → (k : ℕ) → k < 3 → (v : ℤ) → Within (VALUE + 1) v → wordsOf (applied d k v) ≡ narrowedWords (wordsOf d) k v
+applied-words d t free zero h v near = raised-words d t free v
+applied-words d t free (suc zero) h v near = lowered-words d t free v
+applied-words d t free (suc (suc zero)) h v near =
+    lowered-words (tightenedLower d v) (lower-tight d v t) (raised-free d t free v near) v ∙ ap (λ (w : BoundWords). narrowedWords w 1 v) (raised-words d t free v)
+applied-words d t free (suc (suc (suc k))) h v near = absurd (omega arith)
+
+-- What the words tell ---------------------------------------------------------------------------------------------------------------
+
+-- the bounds have crossed where their words have
+pub words-consistent : (d : Domain) → Tight d → HoleFree d → wordsLeaveValue (wordsOf d) ≡ consistent d
+words-consistent d t free = by (d .«lower_bound») (d .«upper_bound») (t .lower-finite) (t .upper-finite) (free .lower) (free .upper)
+  where
+    two : (a b : ℤ) → Inner a → Inner b → leb (moment zeroAt a) (largestKey - (largestKey - moment zeroAt b)) ≡ leZ a b
+    two a b i j = ap (leb (moment zeroAt a)) (twice b j) ∙ ⊎-elim
+        (λ y. le-leb (moment zeroAt a) (moment zeroAt b) (mono zeroAt a b (omega ints)) ∙ sym y)
+        (λ n. lt-leb (moment zeroAt a) (moment zeroAt b) (mono< zeroAt b a (j .above) (i .above) (omega ints)) ∙ sym n) (bool (leZ a b))
+
+    by : (l u : IntExt) → ltExt l PositiveInf ≡ true → ltExt NegativeInf u ≡ true → ((z : ℤ) → l ≡ Int z → Within (VALUE + 1) z) → ((z : ℤ) → u ≡ Int z → Within (VALUE + 1) z)
+        → leb (lowerWord l) (largestKey - upperWord u) ≡ leExt l u
+    by NegativeInf u p q f g = le-leb 0 (largestKey - upperWord u) (omega arith)
+    by PositiveInf u p q f g = clash p refl
+    by (Int a) NegativeInf p q f g = clash q refl
+    by (Int a) PositiveInf p q f g = le-leb (moment zeroAt a) (largestKey - 0) (omega (arith, near-moment a (f a refl) .below))
+    by (Int a) (Int b) p q f g = two a b (near-moment a (f a refl)) (near-moment b (g b refl))
+
+-- the bounds of a domain are those of its words
+pub words-bounds : (d : Domain) → Tight d → HoleFree d → wordBounds (wordsOf d) ≡ taskBounds d
+words-bounds d t free = by (d .«lower_bound») (d .«upper_bound») (t .upper-finite) (free .lower) (free .upper)
+  where
+    by : (l u : IntExt) → ltExt NegativeInf u ≡ true → ((z : ℤ) → l ≡ Int z → Within (VALUE + 1) z) → ((z : ℤ) → u ≡ Int z → Within (VALUE + 1) z)
+        → wordBounds (record { lower = lowerWord l; upper = upperWord u }) ≡ boundsBetween (finite (At l)) (finite (At u))
+    by NegativeInf u q f g = refl
+    by PositiveInf u q f g = refl
+    by (Int a) NegativeInf q f g = clash q refl
+    by (Int a) PositiveInf q f g = let h : eqb (moment zeroAt a) 0 ≡ false = ne-eqb (moment zeroAt a) 0 (omega (arith, near-moment a (f a refl) .positive)) in rw h refl
+    by (Int a) (Int b) q f g =
+        let i = near-moment a (f a refl) in
+        let j = near-moment b (g b refl) in
+        let h : eqb (moment zeroAt a) 0 ≡ false = ne-eqb (moment zeroAt a) 0 (omega (arith, i .positive)) in
+        let k : eqb (largestKey - moment zeroAt b) 0 ≡ false = ne-eqb (largestKey - moment zeroAt b) 0 (omega (arith, j .below)) in
+        rw (h, k) (ap (twoBounds (moment zeroAt a)) (twice b j))

@@ -1,0 +1,164 @@
+-- The words of a state's bounds: an atom that makes no hole makes of them what it makes of the state.
+use mathlib.Core.Path.{_≡_, refl, sym, ap, ap₂, _∙_, subst}
+use mathlib.Core.Logic.{_⊎_, inl, inr}
+use mathlib.Core.Bool.{Bool, true, false, cond, _||_}
+use mathlib.Core.List.{List, [], _∷_}
+use Prim.Native.Nat.{ℕ, zero, suc, _+_, _≤_, _<_}
+use native.Mathlib.Omega.{arith}
+use borrow.Author.Tests.{eqb-true, eqb-false, leb-false}
+use lib.Dec.{leb, eqb}
+use lib.IntN.{ℤ}
+use lib.ListN.{length, getD, set, replicate, length-set, length-replicate, getD-replicate}
+use lib.Seq.{getD-set-same, getD-set-other}
+use Rattle.integers.specs.Limits.{VARIABLES, TASKS, VALUE}
+use Rattle.integers.specs.FilledLists.{filled}
+use Rattle.integers.specs.WholeNumbers.{Within}
+use Rattle.integers.proofs.Bools.{bool, or-false}
+use Rattle.integers.proofs.FilledLists.{getD-fresh}
+use Rattle.scheduling.specs.Scheduling.{Atom}
+use Rattle.checking.specs.declared.int_ext.IntExt.the-variants.{Int, NegativeInf, PositiveInf}
+use Rattle.checking.specs.declared.domain.Domain.{Domain}
+use Rattle.checking.specs.declared.domain.Effect.the-variants.{Narrowed, Emptied}
+use Rattle.checking.specs.declared.domain.Reduced.{Reduced}
+use Rattle.checking.specs.declared.bound_words.BoundWords.{BoundWords}
+use Rattle.checking.specs.declared.start_bounds.Bounds.{Bounds}
+use Rattle.checking.specs.declared.start_bounds.TaskBounds.{TaskBounds}
+use Rattle.checking.specs.declared.variable_state.VariableState.{VariableState}
+use Rattle.checking.specs.declared.variable_state.Application.the-variants.{Consistent, Contradiction}
+use Rattle.checking.specs.declared.variable_state.Applied.{Applied}
+use Rattle.checking.specs.Domains.{allIntegers, consistent, applied, needsRoom, settled, reduced, Tight}
+use Rattle.checking.specs.BoundWords.{makesHole, wordsOf, narrowedWords, wordsLeaveValue, wordBounds, wordsAt, wordsBounds, HoleFree, Holds}
+use Rattle.checking.specs.States.{noDomain, domainAt, put, emptyState, stepped}
+use Rattle.checking.specs.TaskBounds.{taskBounds, boundsAt, boundsOf}
+use Rattle.checking.proofs.BoundWords.{applied-free, applied-words, words-consistent, words-bounds}
+use Rattle.checking.proofs.Bounds.{bounds-at}
+use Rattle.checking.proofs.NarrowedDomains.{applied-tight}
+use Rattle.checking.proofs.States.{empty-accepted, put-same, put-other, put-accepted, stepped-is, when-narrowed, when-emptied}
+
+-- the first atom makes no hole, nor do the others
+pub no-hole : (a : Atom) (rest : List Atom) → makesHole (a ∷ rest) ≡ false → (a .kind < 3) × (makesHole rest ≡ false)
+unfolding makesHole
+no-hole a rest e = let (p, q) = or-false (leb 3 (a .kind)) (makesHole rest) e in (leb-false 3 (a .kind) p, q)
+
+-- Without bounds ----------------------------------------------------------------------------------------------------------------------
+
+no-value : (z : ℤ) → NegativeInf ≡ Int z → ⊥
+no-value z e = let q : _≡_ {A = ℕ} 0 1 = cc in omega arith
+
+no-value′ : (z : ℤ) → PositiveInf ≡ Int z → ⊥
+no-value′ z e = let q : _≡_ {A = ℕ} 0 1 = cc in omega arith
+
+all-free : HoleFree allIntegers
+all-free = record { none = refl; lower = λ u e. absurd (no-value u e); upper = λ u e. absurd (no-value′ u e) }
+
+pub none-held : (lower upper : List ℕ) → lower ≡ replicate VARIABLES 0 → upper ≡ replicate VARIABLES 0 → Holds emptyState lower upper
+none-held lower upper p q = record {
+  lower-size = ap length p ∙ length-replicate {A = ℕ} VARIABLES 0;
+  upper-size = ap length q ∙ length-replicate {A = ℕ} VARIABLES 0;
+  accepted = empty-accepted;
+  free = λ x h. subst HoleFree (sym (any x h)) all-free;
+  words = λ x h. ap₂ (λ (l u : List ℕ). wordsAt l u x) p q ∙ ap₂ (λ (l u : ℕ). record { lower = l; upper = u }) (getD-fresh 0 VARIABLES x) (getD-fresh 0 VARIABLES x) ∙ ap wordsOf (sym (any x h));
+}
+  where
+    any : (x : ℕ) → x < VARIABLES → domainAt emptyState x ≡ allIntegers
+    any x h = getD-replicate VARIABLES x allIntegers noDomain h
+
+-- One atom ----------------------------------------------------------------------------------------------------------------------------
+
+no-room : (d : Domain) (k : ℕ) (v : ℤ) → k < 3 → needsRoom d k v ≡ false
+no-room d zero v h = refl
+no-room d (suc zero) v h = refl
+no-room d (suc (suc zero)) v h = refl
+no-room d (suc (suc (suc k))) v h = absurd (omega arith)
+
+module _ (s : VariableState) (lower upper : List ℕ) (held : Holds s lower upper) (a : Atom) (known : a .variable < VARIABLES) (kind : a .kind < 3) (near : Within (VALUE + 1) (a .value)) where
+  abbrev d : Domain
+  d = domainAt s (a .variable)
+
+  abbrev d′ : Domain
+  d′ = applied d (a .kind) (a .value)
+
+  abbrev w : BoundWords
+  w = narrowedWords (wordsAt lower upper (a .variable)) (a .kind) (a .value)
+
+  tight : Tight d
+  tight = held .accepted .each (a .variable) known .tight
+
+  tight′ : Tight d′
+  tight′ = applied-tight d (a .kind) (a .value) tight (no-room d (a .kind) (a .value) kind)
+
+  free′ : HoleFree d′
+  free′ = applied-free d tight (held .free (a .variable) known) (a .kind) kind (a .value) near
+
+  words′ : w ≡ wordsOf d′
+  words′ = ap (λ (v : BoundWords). narrowedWords v (a .kind) (a .value)) (held .words (a .variable) known)
+      ∙ sym (applied-words d tight (held .free (a .variable) known) (a .kind) kind (a .value) near)
+
+  leaves : {t : Bool} → wordsLeaveValue w ≡ t → consistent d′ ≡ t
+  leaves e = sym (words-consistent d′ tight′ free′) ∙ ap wordsLeaveValue (sym words′) ∙ e
+
+  narrows : consistent d′ ≡ true → record { effect = Narrowed; domain = d′ } ≡ reduced d (a .kind) (a .value)
+  unfolding reduced settled
+  narrows e = let n = no-room d (a .kind) (a .value) kind in rw (n, e)
+
+  empties : consistent d′ ≡ false → record { effect = Emptied; domain = d′ } ≡ reduced d (a .kind) (a .value)
+  unfolding reduced settled
+  empties e = let n = no-room d (a .kind) (a .value) kind in rw (n, e)
+
+  -- the words cross where the atom is contradicted
+  pub held-contradiction : wordsLeaveValue w ≡ false → stepped s a ≡ record { answer = Contradiction (a .variable); state = s }
+  held-contradiction e =
+      let r : Reduced = record { effect = Emptied; domain = d′ } in
+      stepped-is s a r (empties (leaves e)) ∙ when-emptied s a r refl
+
+  module _ (e : wordsLeaveValue w ≡ true) where
+    pub held-consistent : stepped s a ≡ record { answer = Consistent; state = put s (a .variable) d′ }
+    held-consistent =
+        let r : Reduced = record { effect = Narrowed; domain = d′ } in
+        stepped-is s a r (narrows (leaves e)) ∙ when-narrowed s a r refl
+
+    stored : (x : ℕ) → x < VARIABLES → (eqb x (a .variable) ≡ true) ⊎ (eqb x (a .variable) ≡ false)
+        → HoleFree (domainAt (put s (a .variable) d′) x) × (wordsAt (set lower (a .variable) (w .lower)) (set upper (a .variable) (w .upper)) x ≡ wordsOf (domainAt (put s (a .variable) d′) x))
+    stored x h (inl y) = subst
+        (λ (i : ℕ). HoleFree (domainAt (put s (a .variable) d′) i) × (wordsAt (set lower (a .variable) (w .lower)) (set upper (a .variable) (w .upper)) i ≡ wordsOf (domainAt (put s (a .variable) d′) i)))
+        (sym (eqb-true x (a .variable) y))
+        (let same = put-same s (a .variable) d′ (omega (arith, held .accepted .size)) in (
+          subst HoleFree (sym same) free′,
+          ap₂ (λ (l u : ℕ). record { lower = l; upper = u }) (getD-set-same lower (a .variable) (w .lower) 0 (omega (arith, held .lower-size)))
+              (getD-set-same upper (a .variable) (w .upper) 0 (omega (arith, held .upper-size))) ∙ words′ ∙ ap wordsOf (sym same),
+        ))
+    stored x h (inr n) =
+        let other = put-other s (a .variable) x d′ (eqb-false x (a .variable) n) in (
+          subst HoleFree (sym other) (held .free x h),
+          ap₂ (λ (l u : ℕ). record { lower = l; upper = u }) (getD-set-other lower (a .variable) x (w .lower) 0 (eqb-false x (a .variable) n))
+              (getD-set-other upper (a .variable) x (w .upper) 0 (eqb-false x (a .variable) n)) ∙ held .words x h ∙ ap wordsOf (sym other),
+        )
+
+    -- else they are the bounds of the state after it
+    pub held-next : Holds (put s (a .variable) d′) (set lower (a .variable) (w .lower)) (set upper (a .variable) (w .upper))
+    held-next = record {
+      lower-size = length-set lower (a .variable) (w .lower) ∙ held .lower-size;
+      upper-size = length-set upper (a .variable) (w .upper) ∙ held .upper-size;
+      accepted = put-accepted s (a .variable) d′ (held .accepted) known (record { tight = tight′; ordered = leaves e });
+      free = λ x h. stored x h (bool (eqb x (a .variable))) .0;
+      words = λ x h. stored x h (bool (eqb x (a .variable))) .1;
+    }
+
+-- The tasks' bounds ----------------------------------------------------------------------------------------------------------------------
+
+filled-same : {A : Type 0} (f g : ℕ → A) (l : List A) (n : ℕ) → ((k : ℕ) → k < n → f k ≡ g k) → filled f n l ≡ filled g n l
+unfolding filled
+filled-same f g l zero e = refl
+filled-same {A} f g l (suc n) e = ap₂ (λ (m : List A) (v : A). set m n v) (filled-same f g l n (λ k h. e k (omega arith))) (e n (omega arith))
+
+pub held-bounds : (s : VariableState) (lower upper : List ℕ) (n : ℕ) → n ≤ TASKS → Holds s lower upper → wordsBounds lower upper n ≡ boundsOf s n
+held-bounds s lower upper n few held = λ i. record {
+  bounded = filled-same (λ k. wordBounds (wordsAt lower upper k) .known) (λ k. boundsAt s k .known) (replicate TASKS false) n (λ k h. ap (λ (b : TaskBounds). b .known) (at k h)) i;
+  est = filled-same (λ k. wordBounds (wordsAt lower upper k) .est) (λ k. boundsAt s k .est) (replicate TASKS 0) n (λ k h. ap (λ (b : TaskBounds). b .est) (at k h)) i;
+  lst = filled-same (λ k. wordBounds (wordsAt lower upper k) .lst) (λ k. boundsAt s k .lst) (replicate TASKS 0) n (λ k h. ap (λ (b : TaskBounds). b .lst) (at k h)) i;
+}
+  where
+    at : (k : ℕ) → k < n → wordBounds (wordsAt lower upper k) ≡ boundsAt s k
+    at k h =
+        let known : k < VARIABLES = omega arith in
+        ap wordBounds (held .words k known) ∙ words-bounds (domainAt s k) (held .accepted .each k known .tight) (held .free k known) ∙ bounds-at s (held .accepted) k known

@@ -1,0 +1,99 @@
+-- What the code holds of lists that make no hole: the bounds of each domain, as two words. The state that they stand for is that of States.antt.
+use mathlib.Core.Path.{_≡_}
+use mathlib.Core.Bool.{Bool, true, false, cond, _||_}
+use mathlib.Core.List.{List, [], _∷_}
+use Prim.Native.Nat.{ℕ, zero, suc, _+_, _-_, _*_, _≤_, _<_, max}
+use lib.Dec.{leb, eqb}
+use lib.IntN.{ℤ}
+use lib.ListN.{length, getD, replicate}
+use Rattle.integers.specs.Limits.{TASKS, VARIABLES, PREMISES, VALUE}
+use Rattle.integers.specs.FilledLists.{filled}
+use Rattle.integers.specs.Moments.{moment, zeroAt, largestKey}
+use Rattle.integers.specs.WholeNumbers.{Within}
+use Rattle.scheduling.specs.Scheduling.{Atom, given}
+use Rattle.checking.specs.Atoms.{atomsOf, consequentOf, rightLists}
+use Rattle.checking.specs.declared.int_ext.IntExt.{IntExt}
+use Rattle.checking.specs.declared.int_ext.IntExt.the-variants.{Int, NegativeInf, PositiveInf}
+use Rattle.checking.specs.declared.domain.Domain.{Domain}
+use Rattle.checking.specs.declared.bound_words.BoundWords.{BoundWords}
+use Rattle.checking.specs.declared.start_bounds.Bounds.{Bounds}
+use Rattle.checking.specs.declared.start_bounds.TaskBounds.{TaskBounds}
+use Rattle.checking.specs.declared.variable_state.VariableState.{VariableState}
+use Rattle.checking.specs.Domains.{holesOf}
+use Rattle.checking.specs.States.{Accepted, domainAt}
+use Rattle.checking.specs.TaskBounds.{noBounds, twoBounds}
+
+-- Lists that make no hole ------------------------------------------------------------------------------------------------------
+
+-- an atom is ≠
+unfoldable pub makesHole : List Atom → Bool
+makesHole [] = false
+makesHole (a ∷ rest) = leb 3 (a .kind) || makesHole rest
+
+-- The lists pass the tests 7 and 6.
+pub record Applicable (premises consequent : List ℤ) : Type 0 where
+  pub few : length premises ≤ 3 * PREMISES + 2
+  pub right : rightLists premises consequent ≡ true
+
+-- And no atom of them is ≠, the consequent negated.
+pub record WithoutHoles (premises consequent : List ℤ) : Type 0 where
+  pub applicable : Applicable premises consequent
+  pub none : makesHole (given (atomsOf premises) (consequentOf consequent)) ≡ false
+
+-- Words ------------------------------------------------------------------------------------------------------------------------
+
+-- a lower bound is its moment, and an upper bound the complement of its moment: 0 is no bound
+abbrev pub lowerWord : IntExt → ℕ
+lowerWord (Int z) = moment zeroAt z
+lowerWord NegativeInf = 0
+lowerWord PositiveInf = 0
+
+abbrev pub upperWord : IntExt → ℕ
+upperWord (Int z) = largestKey - moment zeroAt z
+upperWord NegativeInf = 0
+upperWord PositiveInf = 0
+
+abbrev pub wordsOf : Domain → BoundWords
+wordsOf d = record { lower = lowerWord (d .«lower_bound»); upper = upperWord (d .«upper_bound») }
+
+-- an atom applied, by its kind: 0 is ≥, 1 is ≤, 2 is =
+abbrev pub narrowedWords : BoundWords → ℕ → ℤ → BoundWords
+narrowedWords w zero v = record { lower = max (w .lower) (moment zeroAt v); upper = w .upper }
+narrowedWords w (suc zero) v = record { lower = w .lower; upper = max (w .upper) (largestKey - moment zeroAt v) }
+narrowedWords w (suc (suc zero)) v = record { lower = max (w .lower) (moment zeroAt v); upper = max (w .upper) (largestKey - moment zeroAt v) }
+narrowedWords w (suc (suc (suc k))) v = w
+
+-- the bounds have not crossed
+abbrev pub wordsLeaveValue : BoundWords → Bool
+wordsLeaveValue w = leb (w .lower) (largestKey - w .upper)
+
+-- the bounds that they are, where there are two
+abbrev pub wordBounds : BoundWords → TaskBounds
+wordBounds w = cond (eqb (w .lower) 0 || eqb (w .upper) 0) noBounds (twoBounds (w .lower) (largestKey - w .upper))
+
+-- The words of all variables ---------------------------------------------------------------------------------------------------
+
+abbrev pub wordsAt : List ℕ → List ℕ → ℕ → BoundWords
+wordsAt lower upper x = record { lower = getD lower x 0; upper = getD upper x 0 }
+
+-- the bounds of the first n
+abbrev pub wordsBounds : List ℕ → List ℕ → ℕ → Bounds
+wordsBounds lower upper n = record {
+  bounded = filled (λ k. wordBounds (wordsAt lower upper k) .known) n (replicate TASKS false);
+  est = filled (λ k. wordBounds (wordsAt lower upper k) .est) n (replicate TASKS 0);
+  lst = filled (λ k. wordBounds (wordsAt lower upper k) .lst) n (replicate TASKS 0);
+}
+
+-- The domain has no hole, and its bounds are values of atoms.
+pub record HoleFree (d : Domain) : Type 0 where
+  pub none : holesOf d ≡ []
+  pub lower : (u : ℤ) → d .«lower_bound» ≡ Int u → Within (VALUE + 1) u
+  pub upper : (u : ℤ) → d .«upper_bound» ≡ Int u → Within (VALUE + 1) u
+
+-- The words are the bounds of the state's domains, which have no holes.
+pub record Holds (s : VariableState) (lower upper : List ℕ) : Type 0 where
+  pub lower-size : length lower ≡ VARIABLES
+  pub upper-size : length upper ≡ VARIABLES
+  pub accepted : Accepted s
+  pub free : (x : ℕ) → x < VARIABLES → HoleFree (domainAt s x)
+  pub words : (x : ℕ) → x < VARIABLES → wordsAt lower upper x ≡ wordsOf (domainAt s x)
