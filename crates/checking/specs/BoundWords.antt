@@ -20,7 +20,7 @@ use Rattle.checking.specs.declared.start_bounds.Bounds.{Bounds}
 use Rattle.checking.specs.declared.start_bounds.TaskBounds.{TaskBounds}
 use Rattle.checking.specs.declared.variable_state.VariableState.{VariableState}
 use Rattle.checking.specs.Domains.{holesOf}
-use Rattle.checking.specs.States.{Accepted, domainAt}
+use Rattle.checking.specs.States.{AcceptedState, domainAt}
 use Rattle.checking.specs.TaskBounds.{noBounds, twoBounds}
 
 -- Lists that make no hole ------------------------------------------------------------------------------------------------------
@@ -94,6 +94,6 @@ pub record HoleFree (d : Domain) : Type 0 where
 pub record Holds (s : VariableState) (lower upper : List ℕ) : Type 0 where
   pub lower-size : length lower ≡ VARIABLES
   pub upper-size : length upper ≡ VARIABLES
-  pub accepted : Accepted s
+  pub accepted : AcceptedState s
   pub free : (x : ℕ) → x < VARIABLES → HoleFree (domainAt s x)
   pub words : (x : ℕ) → x < VARIABLES → wordsAt lower upper x ≡ wordsOf (domainAt s x)

@@ -168,22 +168,22 @@ module _ {M : Type 1} {𝓤 : URA M} {H : Heap 𝓤} {A : Atoms 𝓤} {K : Type 
         → Writes K W Γ τ b zero v (put 𝓤 H A n (‵ (cells (store σ i v))) Γ)
     local-init t n σ i {τ} {b} {v} at-n e wt = record {
       go = λ P h.
-        let R : SProp 𝓤 = sep 𝓤 (sem 𝓤 H A (rest σ i)) (⋆ 𝓤 H A (del 𝓤 H A n Γ)) in
-        let a : SProp 𝓤 = H .at fullShare τ b zero v in
-        via 𝓤 (sep 𝓤 (H .room τ b zero) (wand 𝓤 a P))
-        (via 𝓤 (sep 𝓤 (H .room τ b zero) R)
-        (via 𝓤 (sep 𝓤 (sem 𝓤 H A (cells σ)) (⋆ 𝓤 H A (del 𝓤 H A n Γ)))
-        (subst (λ (j : Item 𝓤). ent 𝓤 (⋆ 𝓤 H A Γ) (sep 𝓤 (mean 𝓤 H A j) (⋆ 𝓤 H A (del 𝓤 H A n Γ)))) at-n (pull 𝓤 H A n Γ))
-        (via 𝓤 (sep 𝓤 (sep 𝓤 (H .room τ b zero) (sem 𝓤 H A (rest σ i))) (⋆ 𝓤 H A (del 𝓤 H A n Γ)))
-        (monoL 𝓤 (⋆ 𝓤 H A (del 𝓤 H A n Γ)) (subst (λ (o : Option Cell). ent 𝓤 (sem 𝓤 H A (cells σ)) (sep 𝓤 (sem 𝓤 H A (lying o)) (sem 𝓤 H A (rest σ i)))) e (out 𝓤 H A σ i)))
-        (assoc∗ 𝓤 (H .room τ b zero) (sem 𝓤 H A (rest σ i)) (⋆ 𝓤 H A (del 𝓤 H A n Γ)))))
-        (monoR 𝓤 (H .room τ b zero) (wandI 𝓤 R a P (via 𝓤 (sep 𝓤 a R) (comm∗ 𝓤 R a)
-        (via 𝓤 (sep 𝓤 (sep 𝓤 a (sem 𝓤 H A (rest σ i))) (⋆ 𝓤 H A (del 𝓤 H A n Γ))) (assoc′ 𝓤 a (sem 𝓤 H A (rest σ i)) (⋆ 𝓤 H A (del 𝓤 H A n Γ)))
-        (via 𝓤 (sep 𝓤 (sem 𝓤 H A (cells (store σ i v))) (⋆ 𝓤 H A (del 𝓤 H A n Γ)))
-        (monoL 𝓤 (⋆ 𝓤 H A (del 𝓤 H A n Γ))
-        (subst (λ (o : Option Cell). ent 𝓤 (sep 𝓤 (sem 𝓤 H A (lying (filled o v))) (sem 𝓤 H A (rest σ i))) (sem 𝓤 H A (cells (store σ i v)))) e (into 𝓤 H A σ i v)))
-        (via 𝓤 (⋆ 𝓤 H A (put 𝓤 H A n (‵ (cells (store σ i v))) Γ)) (fill 𝓤 H A n (‵ (cells (store σ i v))) Γ) h)))))))
-        (guardI 𝓤 (Decided (hasTy τ v) × WT v) (sep 𝓤 (H .room τ b zero) (wand 𝓤 a P)) wt);
+          let R : SProp 𝓤 = sep 𝓤 (sem 𝓤 H A (rest σ i)) (⋆ 𝓤 H A (del 𝓤 H A n Γ)) in
+          let a : SProp 𝓤 = H .at fullShare τ b zero v in
+          via 𝓤 (sep 𝓤 (H .room τ b zero) (wand 𝓤 a P))
+          (via 𝓤 (sep 𝓤 (H .room τ b zero) R)
+          (via 𝓤 (sep 𝓤 (sem 𝓤 H A (cells σ)) (⋆ 𝓤 H A (del 𝓤 H A n Γ)))
+          (subst (λ (j : Item 𝓤). ent 𝓤 (⋆ 𝓤 H A Γ) (sep 𝓤 (mean 𝓤 H A j) (⋆ 𝓤 H A (del 𝓤 H A n Γ)))) at-n (pull 𝓤 H A n Γ))
+          (via 𝓤 (sep 𝓤 (sep 𝓤 (H .room τ b zero) (sem 𝓤 H A (rest σ i))) (⋆ 𝓤 H A (del 𝓤 H A n Γ)))
+          (monoL 𝓤 (⋆ 𝓤 H A (del 𝓤 H A n Γ)) (subst (λ (o : Option Cell). ent 𝓤 (sem 𝓤 H A (cells σ)) (sep 𝓤 (sem 𝓤 H A (lying o)) (sem 𝓤 H A (rest σ i)))) e (out 𝓤 H A σ i)))
+          (assoc∗ 𝓤 (H .room τ b zero) (sem 𝓤 H A (rest σ i)) (⋆ 𝓤 H A (del 𝓤 H A n Γ)))))
+          (monoR 𝓤 (H .room τ b zero) (wandI 𝓤 R a P (via 𝓤 (sep 𝓤 a R) (comm∗ 𝓤 R a)
+          (via 𝓤 (sep 𝓤 (sep 𝓤 a (sem 𝓤 H A (rest σ i))) (⋆ 𝓤 H A (del 𝓤 H A n Γ))) (assoc′ 𝓤 a (sem 𝓤 H A (rest σ i)) (⋆ 𝓤 H A (del 𝓤 H A n Γ)))
+          (via 𝓤 (sep 𝓤 (sem 𝓤 H A (cells (store σ i v))) (⋆ 𝓤 H A (del 𝓤 H A n Γ)))
+          (monoL 𝓤 (⋆ 𝓤 H A (del 𝓤 H A n Γ))
+          (subst (λ (o : Option Cell). ent 𝓤 (sep 𝓤 (sem 𝓤 H A (lying (filled o v))) (sem 𝓤 H A (rest σ i))) (sem 𝓤 H A (cells (store σ i v)))) e (into 𝓤 H A σ i v)))
+          (via 𝓤 (⋆ 𝓤 H A (put 𝓤 H A n (‵ (cells (store σ i v))) Γ)) (fill 𝓤 H A n (‵ (cells (store σ i v))) Γ) h)))))))
+          (guardI 𝓤 (Decided (hasTy τ v) × WT v) (sep 𝓤 (H .room τ b zero) (wand 𝓤 a P)) wt);
     }
 
     pub finds-local : K → {i : ℕ} {E : Env 𝓤 H} {st : List PStep} {sp : Spot 𝓤 H} {τ : Ty} {b : ℕ} → getD E i nowhere ≡ (τ, b) → Walks K W Γ E (τ, b, zero) st sp → Finds K W Γ E (place i st) sp

@@ -2,7 +2,7 @@
 use mathlib.Core.Path.{_≡_, sym, ap, _∙_, subst}
 use Rattle.checking.specs.declared.variable_state.Applied.{Applied}
 use Rattle.checking.specs.declared.variable_state.VariableState.{VariableState}
-use Rattle.checking.specs.States.{Accepted, prepared}
+use Rattle.checking.specs.States.{AcceptedState, prepared}
 use Rattle.checking.specs.TaskBounds.{boundsOf}
 use Rattle.checking.proofs.PreparedStates.{prepared-accepted}
 use Rattle.checking.proofs.StateNumbers.{applied-apart}
@@ -16,7 +16,7 @@ prepare-words-requires c κs = (c .before .before .pre, c .before .are-without-h
 bounds-of-requires : tie.Need-bounds-of-requires
 bounds-of-requires c κs =
     let s = c .before .before .before in
-    (s .pre, subst Accepted (sym (c .prepare-for-conflict-check .ensures .0 .state)) (prepared-accepted (s .args .premises .now) (s .args .consequent .now)))
+    (s .pre, subst AcceptedState (sym (c .prepare-for-conflict-check .ensures .0 .state)) (prepared-accepted (s .args .premises .now) (s .args .consequent .now)))
 
 returns-2 : tie.Need-returns-2
 returns-2 c =
