@@ -24,7 +24,7 @@ use Rattle.checking.specs.declared.start_bounds.TaskBounds.{TaskBounds}
 use Rattle.checking.specs.declared.variable_state.Bound.the-variants.{At}
 use Rattle.checking.specs.Bounds.{finite}
 use Rattle.checking.specs.Domains.{leExt, ltExt, holesOf, domainOf, consistent, Tight, tightenedLower, tightenedUpper, applied}
-use Rattle.checking.specs.BoundWords.{lowerWord, upperWord, wordsOf, narrowedWords, wordsLeaveValue, wordBounds, HoleFree}
+use Rattle.checking.specs.BoundWords.{lowerWord, upperWord, wordsOf, appliedWords, consistentWords, taskBoundsOfWords, HoleFree}
 use Rattle.checking.specs.TaskBounds.{noBounds, twoBounds, boundsBetween, taskBounds}
 use Rattle.checking.proofs.NarrowedDomains.{lower-case, lower-tight, upper-case, upper-lower}
 
@@ -103,16 +103,16 @@ max-right : (a b : ℕ) → a ≤ b → b ≡ max a b
 max-right a b h = omega arith
 
 module _ (d : Domain) (t : Tight d) (free : HoleFree d) (v : ℤ) where
-  raised-words : wordsOf (tightenedLower d v) ≡ narrowedWords (wordsOf d) 0 v
-  raised-words = raised d t free v (λ e. wordsOf e ≡ narrowedWords (wordsOf d) 0 v)
+  raised-words : wordsOf (tightenedLower d v) ≡ appliedWords (wordsOf d) 0 v
+  raised-words = raised d t free v (λ e. wordsOf e ≡ appliedWords (wordsOf d) 0 v)
       (λ y. ap (λ (m : ℕ). words m) (max-left (lowerWord (d .«lower_bound»)) (moment zeroAt v) (lower-there (d .«lower_bound») v (t .lower-finite) y)))
       (λ n. ap (λ (m : ℕ). words m) (max-right (lowerWord (d .«lower_bound»)) (moment zeroAt v) (lower-less (d .«lower_bound») v (t .lower-finite) n)))
     where
       words : ℕ → BoundWords
       words m = record { lower = m; upper = upperWord (d .«upper_bound») }
 
-  lowered-words : wordsOf (tightenedUpper d v) ≡ narrowedWords (wordsOf d) 1 v
-  lowered-words = lowered d t free v (λ e. wordsOf e ≡ narrowedWords (wordsOf d) 1 v)
+  lowered-words : wordsOf (tightenedUpper d v) ≡ appliedWords (wordsOf d) 1 v
+  lowered-words = lowered d t free v (λ e. wordsOf e ≡ appliedWords (wordsOf d) 1 v)
       (λ y. ap (λ (m : ℕ). words m) (max-left (upperWord (d .«upper_bound»)) (largestKey - moment zeroAt v) (upper-there (d .«upper_bound») v (t .upper-finite) y)))
       (λ n. ap (λ (m : ℕ). words m) (max-right (upperWord (d .«upper_bound»)) (largestKey - moment zeroAt v) (upper-less (d .«upper_bound») v (t .upper-finite) n)))
     where
@@ -127,17 +127,17 @@ applied-free d t free (suc zero) h v near = lowered-free d t free v near
 applied-free d t free (suc (suc zero)) h v near = lowered-free (tightenedLower d v) (lower-tight d v t) (raised-free d t free v near) v near
 applied-free d t free (suc (suc (suc k))) h v near = absurd (omega arith)
 
-pub applied-words : (d : Domain) → Tight d → HoleFree d → (k : ℕ) → k < 3 → (v : ℤ) → Within (VALUE + 1) v → wordsOf (applied d k v) ≡ narrowedWords (wordsOf d) k v
+pub applied-words : (d : Domain) → Tight d → HoleFree d → (k : ℕ) → k < 3 → (v : ℤ) → Within (VALUE + 1) v → wordsOf (applied d k v) ≡ appliedWords (wordsOf d) k v
 applied-words d t free zero h v near = raised-words d t free v
 applied-words d t free (suc zero) h v near = lowered-words d t free v
 applied-words d t free (suc (suc zero)) h v near =
-    lowered-words (tightenedLower d v) (lower-tight d v t) (raised-free d t free v near) v ∙ ap (λ (w : BoundWords). narrowedWords w 1 v) (raised-words d t free v)
+    lowered-words (tightenedLower d v) (lower-tight d v t) (raised-free d t free v near) v ∙ ap (λ (w : BoundWords). appliedWords w 1 v) (raised-words d t free v)
 applied-words d t free (suc (suc (suc k))) h v near = absurd (omega arith)
 
 -- What the words tell ---------------------------------------------------------------------------------------------------------------
 
 -- the bounds have crossed where their words have
-pub words-consistent : (d : Domain) → Tight d → HoleFree d → wordsLeaveValue (wordsOf d) ≡ consistent d
+pub words-consistent : (d : Domain) → Tight d → HoleFree d → consistentWords (wordsOf d) ≡ consistent d
 words-consistent d t free = by (d .«lower_bound») (d .«upper_bound») (t .lower-finite) (t .upper-finite) (free .lower) (free .upper)
   where
     two : (a b : ℤ) → Inner a → Inner b → leb (moment zeroAt a) (largestKey - (largestKey - moment zeroAt b)) ≡ leZ a b
@@ -154,11 +154,11 @@ words-consistent d t free = by (d .«lower_bound») (d .«upper_bound») (t .low
     by (Int a) (Int b) p q f g = two a b (near-moment a (f a refl)) (near-moment b (g b refl))
 
 -- the bounds of a domain are those of its words
-pub words-bounds : (d : Domain) → Tight d → HoleFree d → wordBounds (wordsOf d) ≡ taskBounds d
+pub words-bounds : (d : Domain) → Tight d → HoleFree d → taskBoundsOfWords (wordsOf d) ≡ taskBounds d
 words-bounds d t free = by (d .«lower_bound») (d .«upper_bound») (t .upper-finite) (free .lower) (free .upper)
   where
     by : (l u : IntExt) → ltExt NegativeInf u ≡ true → ((z : ℤ) → l ≡ Int z → Within (VALUE + 1) z) → ((z : ℤ) → u ≡ Int z → Within (VALUE + 1) z)
-        → wordBounds (record { lower = lowerWord l; upper = upperWord u }) ≡ boundsBetween (finite (At l)) (finite (At u))
+        → taskBoundsOfWords (record { lower = lowerWord l; upper = upperWord u }) ≡ boundsBetween (finite (At l)) (finite (At u))
     by NegativeInf u q f g = refl
     by PositiveInf u q f g = refl
     by (Int a) NegativeInf q f g = clash q refl

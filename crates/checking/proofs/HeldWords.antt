@@ -27,12 +27,13 @@ use Rattle.checking.specs.declared.variable_state.VariableState.{Variabl
 use Rattle.checking.specs.declared.variable_state.Application.the-variants.{Consistent, Contradiction}
 use Rattle.checking.specs.declared.variable_state.Applied.{Applied}
 use Rattle.checking.specs.Domains.{allIntegers, consistent, applied, needsRoom, settled, reduced, Tight}
-use Rattle.checking.specs.BoundWords.{makesHole, wordsOf, narrowedWords, wordsLeaveValue, wordBounds, wordsAt, wordsBounds, HoleFree, Holds}
+use Rattle.checking.specs.BoundWords.{makesHole, wordsOf, appliedWords, consistentWords, taskBoundsOfWords, wordsAt, boundsOfWords, HoleFree, HeldWords}
 use Rattle.checking.specs.States.{noDomain, domainAt, put, emptyState, stepped}
 use Rattle.checking.specs.TaskBounds.{taskBounds, boundsAt, boundsOf}
 use Rattle.checking.proofs.BoundWords.{applied-free, applied-words, words-consistent, words-bounds}
 use Rattle.checking.proofs.Bounds.{bounds-at}
 use Rattle.checking.proofs.NarrowedDomains.{applied-tight}
+use Rattle.checking.proofs.PreparedStates.{no-room}
 use Rattle.checking.proofs.States.{empty-accepted, put-same, put-other, put-accepted, stepped-is, when-narrowed, when-emptied}
 
 -- the first atom makes no hole, nor do the others
@@ -51,7 +52,7 @@ no-value′ z e = let q : _≡_ {A = ℕ} 0 1 = cc in omega arith
 all-free : HoleFree allIntegers
 all-free = record { none = refl; lower = λ u e. absurd (no-value u e); upper = λ u e. absurd (no-value′ u e) }
 
-pub none-held : (lower upper : List ℕ) → lower ≡ replicate VARIABLES 0 → upper ≡ replicate VARIABLES 0 → Holds emptyState lower upper
+pub none-held : (lower upper : List ℕ) → lower ≡ replicate VARIABLES 0 → upper ≡ replicate VARIABLES 0 → HeldWords emptyState lower upper
 none-held lower upper p q = record {
   lower-size = ap length p ∙ length-replicate {A = ℕ} VARIABLES 0;
   upper-size = ap length q ∙ length-replicate {A = ℕ} VARIABLES 0;
@@ -65,13 +66,7 @@ none-held lower upper p q = record {
 
 -- One atom ----------------------------------------------------------------------------------------------------------------------------
 
-no-room : (d : Domain) (k : ℕ) (v : ℤ) → k < 3 → needsRoom d k v ≡ false
-no-room d zero v h = refl
-no-room d (suc zero) v h = refl
-no-room d (suc (suc zero)) v h = refl
-no-room d (suc (suc (suc k))) v h = absurd (omega arith)
-
-module _ (s : VariableState) (lower upper : List ℕ) (held : Holds s lower upper) (a : Atom) (known : a .variable < VARIABLES) (kind : a .kind < 3) (near : Within (VALUE + 1) (a .value)) where
+module _ (s : VariableState) (lower upper : List ℕ) (held : HeldWords s lower upper) (a : Atom) (known : a .variable < VARIABLES) (kind : a .kind < 3) (near : Within (VALUE + 1) (a .value)) where
   abbrev d : Domain
   d = domainAt s (a .variable)
 
@@ -79,7 +74,7 @@ module _ (s : VariableState) (lower upper : List ℕ) (held : Holds s lower uppe
   d′ = applied d (a .kind) (a .value)
 
   abbrev w : BoundWords
-  w = narrowedWords (wordsAt lower upper (a .variable)) (a .kind) (a .value)
+  w = appliedWords (wordsAt lower upper (a .variable)) (a .kind) (a .value)
 
   tight : Tight d
   tight = held .accepted .each (a .variable) known .tight
@@ -91,11 +86,11 @@ module _ (s : VariableState) (lower upper : List ℕ) (held : Holds s lower uppe
   free′ = applied-free d tight (held .free (a .variable) known) (a .kind) kind (a .value) near
 
   words′ : w ≡ wordsOf d′
-  words′ = ap (λ (v : BoundWords). narrowedWords v (a .kind) (a .value)) (held .words (a .variable) known)
+  words′ = ap (λ (v : BoundWords). appliedWords v (a .kind) (a .value)) (held .words (a .variable) known)
       ∙ sym (applied-words d tight (held .free (a .variable) known) (a .kind) kind (a .value) near)
 
-  leaves : {t : Bool} → wordsLeaveValue w ≡ t → consistent d′ ≡ t
-  leaves e = sym (words-consistent d′ tight′ free′) ∙ ap wordsLeaveValue (sym words′) ∙ e
+  leaves : {t : Bool} → consistentWords w ≡ t → consistent d′ ≡ t
+  leaves e = sym (words-consistent d′ tight′ free′) ∙ ap consistentWords (sym words′) ∙ e
 
   narrows : consistent d′ ≡ true → record { effect = Narrowed; domain = d′ } ≡ reduced d (a .kind) (a .value)
   unfolding reduced settled
@@ -106,12 +101,12 @@ module _ (s : VariableState) (lower upper : List ℕ) (held : Holds s lower uppe
   empties e = let n = no-room d (a .kind) (a .value) kind in rw (n, e)
 
   -- the words cross where the atom is contradicted
-  pub held-contradiction : wordsLeaveValue w ≡ false → stepped s a ≡ record { answer = Contradiction (a .variable); state = s }
+  pub held-contradiction : consistentWords w ≡ false → stepped s a ≡ record { answer = Contradiction (a .variable); state = s }
   held-contradiction e =
       let r : Reduced = record { effect = Emptied; domain = d′ } in
       stepped-is s a r (empties (leaves e)) ∙ when-emptied s a r refl
 
-  module _ (e : wordsLeaveValue w ≡ true) where
+  module _ (e : consistentWords w ≡ true) where
     pub held-consistent : stepped s a ≡ record { answer = Consistent; state = put s (a .variable) d′ }
     held-consistent =
         let r : Reduced = record { effect = Narrowed; domain = d′ } in
@@ -135,7 +130,7 @@ module _ (s : VariableState) (lower upper : List ℕ) (held : Holds s lower uppe
         )
 
     -- else they are the bounds of the state after it
-    pub held-next : Holds (put s (a .variable) d′) (set lower (a .variable) (w .lower)) (set upper (a .variable) (w .upper))
+    pub held-next : HeldWords (put s (a .variable) d′) (set lower (a .variable) (w .lower)) (set upper (a .variable) (w .upper))
     held-next = record {
       lower-size = length-set lower (a .variable) (w .lower) ∙ held .lower-size;
       upper-size = length-set upper (a .variable) (w .upper) ∙ held .upper-size;
@@ -151,14 +146,14 @@ unfolding filled
 filled-same f g l zero e = refl
 filled-same {A} f g l (suc n) e = ap₂ (λ (m : List A) (v : A). set m n v) (filled-same f g l n (λ k h. e k (omega arith))) (e n (omega arith))
 
-pub held-bounds : (s : VariableState) (lower upper : List ℕ) (n : ℕ) → n ≤ TASKS → Holds s lower upper → wordsBounds lower upper n ≡ boundsOf s n
+pub held-bounds : (s : VariableState) (lower upper : List ℕ) (n : ℕ) → n ≤ TASKS → HeldWords s lower upper → boundsOfWords lower upper n ≡ boundsOf s n
 held-bounds s lower upper n few held = λ i. record {
-  bounded = filled-same (λ k. wordBounds (wordsAt lower upper k) .known) (λ k. boundsAt s k .known) (replicate TASKS false) n (λ k h. ap (λ (b : TaskBounds). b .known) (at k h)) i;
-  est = filled-same (λ k. wordBounds (wordsAt lower upper k) .est) (λ k. boundsAt s k .est) (replicate TASKS 0) n (λ k h. ap (λ (b : TaskBounds). b .est) (at k h)) i;
-  lst = filled-same (λ k. wordBounds (wordsAt lower upper k) .lst) (λ k. boundsAt s k .lst) (replicate TASKS 0) n (λ k h. ap (λ (b : TaskBounds). b .lst) (at k h)) i;
+  bounded = filled-same (λ k. taskBoundsOfWords (wordsAt lower upper k) .known) (λ k. boundsAt s k .known) (replicate TASKS false) n (λ k h. ap (λ (b : TaskBounds). b .known) (at k h)) i;
+  est = filled-same (λ k. taskBoundsOfWords (wordsAt lower upper k) .est) (λ k. boundsAt s k .est) (replicate TASKS 0) n (λ k h. ap (λ (b : TaskBounds). b .est) (at k h)) i;
+  lst = filled-same (λ k. taskBoundsOfWords (wordsAt lower upper k) .lst) (λ k. boundsAt s k .lst) (replicate TASKS 0) n (λ k h. ap (λ (b : TaskBounds). b .lst) (at k h)) i;
 }
   where
-    at : (k : ℕ) → k < n → wordBounds (wordsAt lower upper k) ≡ boundsAt s k
+    at : (k : ℕ) → k < n → taskBoundsOfWords (wordsAt lower upper k) ≡ boundsAt s k
     at k h =
         let known : k < VARIABLES = omega arith in
-        ap wordBounds (held .words k known) ∙ words-bounds (domainAt s k) (held .accepted .each k known .tight) (held .free k known) ∙ bounds-at s (held .accepted) k known
+        ap taskBoundsOfWords (held .words k known) ∙ words-bounds (domainAt s k) (held .accepted .each k known .tight) (held .free k known) ∙ bounds-at s (held .accepted) k known

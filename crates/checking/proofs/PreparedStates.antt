@@ -25,7 +25,7 @@ use Rattle.checking.proofs.Promises.{prepare-means, given-known}
 use Rattle.checking.proofs.States.{stepped-accepted, all-accepted, empty-accepted, all-case, all-end}
 
 -- ---- a list that succeeds
-no-room : (d : Domain) (k : ℕ) (v : ℤ) → k < 3 → needsRoom d k v ≡ false
+pub no-room : (d : Domain) (k : ℕ) (v : ℤ) → k < 3 → needsRoom d k v ≡ false
 no-room d zero v h = refl
 no-room d (suc zero) v h = refl
 no-room d (suc (suc zero)) v h = refl

@@ -57,19 +57,19 @@ abbrev pub wordsOf : Domain → BoundWords
 wordsOf d = record { lower = lowerWord (d .«lower_bound»); upper = upperWord (d .«upper_bound») }
 
 -- an atom applied, by its kind: 0 is ≥, 1 is ≤, 2 is =
-abbrev pub narrowedWords : BoundWords → ℕ → ℤ → BoundWords
-narrowedWords w zero v = record { lower = max (w .lower) (moment zeroAt v); upper = w .upper }
-narrowedWords w (suc zero) v = record { lower = w .lower; upper = max (w .upper) (largestKey - moment zeroAt v) }
-narrowedWords w (suc (suc zero)) v = record { lower = max (w .lower) (moment zeroAt v); upper = max (w .upper) (largestKey - moment zeroAt v) }
-narrowedWords w (suc (suc (suc k))) v = w
+abbrev pub appliedWords : BoundWords → ℕ → ℤ → BoundWords
+appliedWords w zero v = record { lower = max (w .lower) (moment zeroAt v); upper = w .upper }
+appliedWords w (suc zero) v = record { lower = w .lower; upper = max (w .upper) (largestKey - moment zeroAt v) }
+appliedWords w (suc (suc zero)) v = record { lower = max (w .lower) (moment zeroAt v); upper = max (w .upper) (largestKey - moment zeroAt v) }
+appliedWords w (suc (suc (suc k))) v = w
 
 -- the bounds have not crossed
-abbrev pub wordsLeaveValue : BoundWords → Bool
-wordsLeaveValue w = leb (w .lower) (largestKey - w .upper)
+abbrev pub consistentWords : BoundWords → Bool
+consistentWords w = leb (w .lower) (largestKey - w .upper)
 
 -- the bounds that they are, where there are two
-abbrev pub wordBounds : BoundWords → TaskBounds
-wordBounds w = cond (eqb (w .lower) 0 || eqb (w .upper) 0) noBounds (twoBounds (w .lower) (largestKey - w .upper))
+abbrev pub taskBoundsOfWords : BoundWords → TaskBounds
+taskBoundsOfWords w = cond (eqb (w .lower) 0 || eqb (w .upper) 0) noBounds (twoBounds (w .lower) (largestKey - w .upper))
 
 -- The words of all variables ---------------------------------------------------------------------------------------------------
 
@@ -77,11 +77,11 @@ abbrev pub wordsAt : List ℕ → List ℕ → ℕ → BoundWords
 wordsAt lower upper x = record { lower = getD lower x 0; upper = getD upper x 0 }
 
 -- the bounds of the first n
-abbrev pub wordsBounds : List ℕ → List ℕ → ℕ → Bounds
-wordsBounds lower upper n = record {
-  bounded = filled (λ k. wordBounds (wordsAt lower upper k) .known) n (replicate TASKS false);
-  est = filled (λ k. wordBounds (wordsAt lower upper k) .est) n (replicate TASKS 0);
-  lst = filled (λ k. wordBounds (wordsAt lower upper k) .lst) n (replicate TASKS 0);
+abbrev pub boundsOfWords : List ℕ → List ℕ → ℕ → Bounds
+boundsOfWords lower upper n = record {
+  bounded = filled (λ k. taskBoundsOfWords (wordsAt lower upper k) .known) n (replicate TASKS false);
+  est = filled (λ k. taskBoundsOfWords (wordsAt lower upper k) .est) n (replicate TASKS 0);
+  lst = filled (λ k. taskBoundsOfWords (wordsAt lower upper k) .lst) n (replicate TASKS 0);
 }
 
 -- The domain has no hole, and its bounds are values of atoms.
@@ -91,7 +91,7 @@ pub record HoleFree (d : Domain) : Type 0 where
   pub upper : (u : ℤ) → d .«upper_bound» ≡ Int u → Within (VALUE + 1) u
 
 -- The words are the bounds of the state's domains, which have no holes.
-pub record Holds (s : VariableState) (lower upper : List ℕ) : Type 0 where
+pub record HeldWords (s : VariableState) (lower upper : List ℕ) : Type 0 where
   pub lower-size : length lower ≡ VARIABLES
   pub upper-size : length upper ≡ VARIABLES
   pub accepted : AcceptedState s

@@ -6,7 +6,7 @@ use integers::numbers::max;
 ghost use mathlib.Core.Path.{_≡_};
 ghost use lib.Dec.{leb};
 ghost use Rattle.checking.specs.Atoms.{kindOf};
-ghost use Rattle.checking.specs.BoundWords.{narrowedWords, wordsLeaveValue, wordBounds};
+ghost use Rattle.checking.specs.BoundWords.{appliedWords, consistentWords, taskBoundsOfWords};
 
 // The lower bound's moment, and the complement of the upper bound's.
 pub struct BoundWords {
@@ -29,24 +29,25 @@ pub fn makes_hole(comparison: Comparison) -> bool
 impl BoundWords {
     // Apply an atom that makes no hole.
     pub fn apply(self, comparison: Comparison, value: i32) -> BoundWords
-        ensures { λ r. ⌜ r ≡ narrowedWords self (kindOf comparison) value ⌝ }
+        ensures { λ r. ⌜ r ≡ appliedWords self (kindOf comparison) value ⌝ }
     {
         let lower = self.lower;
         let upper = self.upper;
         let m = moment_of(value);
-        let complement = u32::MAX - m;
+        let raised = max(lower, m);
+        let lowered = max(upper, u32::MAX - m);
         match comparison {
             Comparison::GreaterEqual => BoundWords {
-                lower: max(lower, m),
+                lower: raised,
                 upper,
             },
             Comparison::LessEqual => BoundWords {
                 lower,
-                upper: max(upper, complement),
+                upper: lowered,
             },
             Comparison::Equal => BoundWords {
-                lower: max(lower, m),
-                upper: max(upper, complement),
+                lower: raised,
+                upper: lowered,
             },
             Comparison::NotEqual => self,
         }
@@ -54,14 +55,14 @@ impl BoundWords {
 
     // Whether the bounds leave a value.
     pub fn is_consistent(self) -> bool
-        ensures { λ r. ⌜ r ≡ wordsLeaveValue self ⌝ }
+        ensures { λ r. ⌜ r ≡ consistentWords self ⌝ }
     {
         self.lower <= u32::MAX - self.upper
     }
 
     // Both bounds, where they are finite; else 0.
     pub fn task_bounds(self) -> TaskBounds
-        ensures { λ r. ⌜ r ≡ wordBounds self ⌝ }
+        ensures { λ r. ⌜ r ≡ taskBoundsOfWords self ⌝ }
     {
         let lower = self.lower;
         let upper = self.upper;

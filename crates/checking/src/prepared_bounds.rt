@@ -17,7 +17,7 @@ ghost use lib.ListN.{replicate};
 ghost use Rattle.integers.specs.Limits.{TASKS, VARIABLES};
 ghost use Rattle.scheduling.specs.Scheduling.{given};
 ghost use Rattle.checking.specs.Atoms.{atomsOf, consequentOf};
-ghost use Rattle.checking.specs.BoundWords.{makesHole, Applicable, WithoutHoles, Holds, wordsBounds};
+ghost use Rattle.checking.specs.BoundWords.{makesHole, Applicable, WithoutHoles, HeldWords, boundsOfWords};
 ghost use Rattle.checking.specs.States.{emptyState, applyAll, prepared};
 ghost use Rattle.checking.specs.TaskBounds.{boundsOf};
 
@@ -32,9 +32,9 @@ fn lists_make_hole(premises: &[i32], consequent: &[i32]) -> bool
     requires { ⌜ Applicable (now premises) (now consequent) ⌝ }
     ensures { λ r. ⌜ r ≡ makesHole (given (atomsOf (now (premises .entry))) (consequentOf (now (consequent .entry)))) ⌝ }
 {
-    let words = premises.len() + consequent.len();
+    let end = premises.len() + consequent.len();
     let mut i = 0;
-    while i < words {
+    while i < end {
         let atom = given_at(premises, consequent, i);
         let comparison = atom.comparison;
         if makes_hole(comparison) {
@@ -67,7 +67,7 @@ fn apply_all(
 ) -> Application
     requires { ⌜ WithoutHoles (now premises) (now consequent) × ((now lower ≡ replicate VARIABLES 0) × (now upper ≡ replicate VARIABLES 0)) ⌝ }
     ensures { λ r. ⌜ (r ≡ prepared (now (premises .entry)) (now (consequent .entry)) .answer)
-        × Holds (prepared (now (premises .entry)) (now (consequent .entry)) .state) (now (lower .exit)) (now (upper .exit)) ⌝ }
+        × HeldWords (prepared (now (premises .entry)) (now (consequent .entry)) .state) (now (lower .exit)) (now (upper .exit)) ⌝ }
 {
     let words = premises.len() + consequent.len();
     let mut i = 0;
@@ -94,7 +94,7 @@ fn apply_all(
 // The bounds of the first n variables, which are the tasks' starts.
 fn bounds_of_words(lower: &[u32; VARIABLES], upper: &[u32; VARIABLES], n: usize) -> Bounds
     requires { ⌜ n ≤ TASKS ⌝ }
-    ensures { λ r. ⌜ r ≡ wordsBounds (now (lower .entry)) (now (upper .entry)) n ⌝ }
+    ensures { λ r. ⌜ r ≡ boundsOfWords (now (lower .entry)) (now (upper .entry)) n ⌝ }
 {
     let mut bounded = [false; TASKS];
     let mut est = [0u32; TASKS];

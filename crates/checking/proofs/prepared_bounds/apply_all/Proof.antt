@@ -13,7 +13,7 @@ use Rattle.integers.proofs.Ints.{back-of}
 use Rattle.scheduling.specs.Scheduling.{Atom, given}
 use Rattle.integers.specs.WholeNumbers.{Within}
 use Rattle.checking.specs.Atoms.{kindOf, atomOf, atomsOf, consequentOf, givenAt, rightFrom}
-use Rattle.checking.specs.BoundWords.{makesHole, narrowedWords, wordsLeaveValue, wordsAt, Holds}
+use Rattle.checking.specs.BoundWords.{makesHole, appliedWords, consistentWords, wordsAt, HeldWords}
 use Rattle.checking.proofs.Atoms.{right-lists}
 use Rattle.checking.proofs.Given.{Next, givenFrom, given-start, right-start, given-end, next}
 use Rattle.checking.proofs.HeldWords.{no-hole, none-held, held-contradiction, held-consistent, held-next}
@@ -32,7 +32,7 @@ abbrev Inv-loop : tie.InvT-loop
 Inv-loop lower₀ upper₀ premises consequent words i₀ lower upper i = (i ≤ length premises + length consequent)
     × ((rightFrom premises consequent i ≡ true)
     × ((makesHole (givenFrom premises consequent i) ≡ false)
-    × ((s : VariableState) × Holds s lower upper × (applyAll (givenFrom premises consequent i) s ≡ applyAll (given (atomsOf premises) (consequentOf consequent)) emptyState))))
+    × ((s : VariableState) × HeldWords s lower upper × (applyAll (givenFrom premises consequent i) s ≡ applyAll (given (atomsOf premises) (consequentOf consequent)) emptyState))))
 
 abbrev μ-loop : tie.MeasureT-loop
 μ-loop lower₀ upper₀ premises consequent words i₀ lower upper i = words - i
@@ -97,7 +97,7 @@ loop-at c = read-at c .before .before
 abbrev state-at : tie.After-apply Inv-loop μ-loop → VariableState
 state-at c = loop-at c .loop .inv .1 .1 .1 .0
 
-abbrev held-at : (c : tie.After-apply Inv-loop μ-loop) → Holds (state-at c) (loop-at c .loop .lower) (loop-at c .loop .upper)
+abbrev held-at : (c : tie.After-apply Inv-loop μ-loop) → HeldWords (state-at c) (loop-at c .loop .lower) (loop-at c .loop .upper)
 held-at c = loop-at c .loop .inv .1 .1 .1 .1
 
 abbrev atom : tie.After-apply Inv-loop μ-loop → Atom
@@ -123,15 +123,15 @@ still c =
     ∙ ap (λ (m : List Atom). applyAll m (state-at c)) (atoms c)
 
 -- what the call says, of the atom's own value
-said : (c : tie.After-apply Inv-loop μ-loop) → c .apply .result ≡ narrowedWords (wordsAt (loop-at c .loop .lower) (loop-at c .loop .upper) (atom c .variable)) (atom c .kind) (atom c .value)
+said : (c : tie.After-apply Inv-loop μ-loop) → c .apply .result ≡ appliedWords (wordsAt (loop-at c .loop .lower) (loop-at c .loop .upper) (atom c .variable)) (atom c .kind) (atom c .value)
 said c =
     let a = read-at c .given-at .result in
     let small = c .before .before .before .struct-told .given .1 .1 .0 .1 in
-    c .apply .ensures ∙ ap (narrowedWords (wordsAt (loop-at c .loop .lower) (loop-at c .loop .upper) (a .identifier)) (kindOf (a .comparison))) (back-of w32 (a .value) small)
+    c .apply .ensures ∙ ap (appliedWords (wordsAt (loop-at c .loop .lower) (loop-at c .loop .upper) (a .identifier)) (kindOf (a .comparison))) (back-of w32 (a .value) small)
 
 crosses : (c : tie.After-is-consistent Inv-loop μ-loop) {t : Bool} → c .is-consistent .result ≡ t
-    → wordsLeaveValue (narrowedWords (wordsAt (loop-at (c .before) .loop .lower) (loop-at (c .before) .loop .upper) (atom (c .before) .variable)) (atom (c .before) .kind) (atom (c .before) .value)) ≡ t
-crosses c e = ap wordsLeaveValue (sym (said (c .before))) ∙ sym (c .is-consistent .ensures) ∙ e
+    → consistentWords (appliedWords (wordsAt (loop-at (c .before) .loop .lower) (loop-at (c .before) .loop .upper) (atom (c .before) .variable)) (atom (c .before) .kind) (atom (c .before) .value)) ≡ t
+crosses c e = ap consistentWords (sym (said (c .before))) ∙ sym (c .is-consistent .ensures) ∙ e
 
 returns : tie.Need-returns Inv-loop μ-loop
 returns c =
@@ -141,7 +141,7 @@ returns c =
     let a = atom b in
     let e = still b ∙ all-contradiction s a (rest b) (a .variable) s
     (held-contradiction s (l .lower) (l .upper) (held-at b) a (known (read-at b)) (free b .0) (value (read-at b)) (crosses (c .before) (not-true _ (c .if1 .taken)))) in
-    (ap (λ (r : Applied). r .answer) (sym e), subst (λ (r : Applied). Holds (r .state) (l .lower) (l .upper)) (sym e) (held-at b))
+    (ap (λ (r : Applied). r .answer) (sym e), subst (λ (r : Applied). HeldWords (r .state) (l .lower) (l .upper)) (sym e) (held-at b))
 
 mul-lower : tie.Need-mul-lower Inv-loop μ-loop
 mul-lower c = omega (arith, known (read-at (c .before .before)))
@@ -175,7 +175,7 @@ loop-again c =
           free b .1,
           (
             t,
-            subst (λ (w : BoundWords). Holds t (set (l .lower) (a .variable) (w .lower)) (set (l .upper) (a .variable) (w .upper))) (sym (said b)) h,
+            subst (λ (w : BoundWords). HeldWords t (set (l .lower) (a .variable) (w .lower)) (set (l .upper) (a .variable) (w .upper))) (sym (said b)) h,
             sym (all-consistent s a (rest b) t e) ∙ sym (still b) ∙ runs,
           ),
         ),
@@ -191,7 +191,7 @@ returns-2 c =
     let s = l .inv .1 .1 .1 .0 in
     let e = prepared-runs ps cs (start .pre .0 .applicable .few) (start .pre .0 .applicable .right) ∙ sym (l .inv .1 .1 .1 .2)
     ∙ ap (λ (m : List Atom). applyAll m s) (given-end ps cs (l .i) (omega arith)) ∙ all-end s in
-    (ap (λ (r : Applied). r .answer) (sym e), subst (λ (r : Applied). Holds (r .state) (l .lower) (l .upper)) (sym e) (l .inv .1 .1 .1 .1))
+    (ap (λ (r : Applied). r .answer) (sym e), subst (λ (r : Applied). HeldWords (r .state) (l .lower) (l .upper)) (sym e) (l .inv .1 .1 .1 .1))
 
 pub apply-all-spec : {M : Type 1} → statement M
 apply-all-spec =

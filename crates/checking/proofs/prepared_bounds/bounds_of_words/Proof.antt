@@ -9,13 +9,13 @@ use Rattle.integers.specs.Limits.{TASKS}
 use Rattle.integers.specs.FilledLists.{filled}
 use Rattle.integers.proofs.FilledLists.{filled-none, filled-store}
 use Rattle.checking.specs.declared.start_bounds.TaskBounds.{TaskBounds}
-use Rattle.checking.specs.BoundWords.{wordBounds, wordsAt, wordsBounds}
+use Rattle.checking.specs.BoundWords.{taskBoundsOfWords, wordsAt, boundsOfWords}
 use Rattle.checking.proofs.prepared_bounds.bounds_of_words.Statement.{statement}
 use Rattle.checking.proofs.prepared_bounds.bounds_of_words.Tie as tie
 
 abbrev Inv-loop : tie.InvT-loop
-Inv-loop lower upper n bounded₀ est₀ lst₀ i₀ bounded est lst i = (i ≤ n) × (bounded ≡ filled (λ k. wordBounds (wordsAt lower upper k) .known) i (replicate TASKS false))
-    × (est ≡ filled (λ k. wordBounds (wordsAt lower upper k) .est) i (replicate TASKS 0)) × (lst ≡ filled (λ k. wordBounds (wordsAt lower upper k) .lst) i (replicate TASKS 0))
+Inv-loop lower upper n bounded₀ est₀ lst₀ i₀ bounded est lst i = (i ≤ n) × (bounded ≡ filled (λ k. taskBoundsOfWords (wordsAt lower upper k) .known) i (replicate TASKS false))
+    × (est ≡ filled (λ k. taskBoundsOfWords (wordsAt lower upper k) .est) i (replicate TASKS 0)) × (lst ≡ filled (λ k. taskBoundsOfWords (wordsAt lower upper k) .lst) i (replicate TASKS 0))
 
 abbrev μ-loop : tie.MeasureT-loop
 μ-loop lower upper n bounded₀ est₀ lst₀ i₀ bounded est lst i = n - i
@@ -25,9 +25,9 @@ loop-holds c =
     let lower = c .args .lower .now in
     let upper = c .args .upper .now in (
       omega arith,
-      sym (filled-none (λ k. wordBounds (wordsAt lower upper k) .known) (replicate TASKS false)),
-      sym (filled-none (λ k. wordBounds (wordsAt lower upper k) .est) (replicate TASKS 0)),
-      sym (filled-none (λ k. wordBounds (wordsAt lower upper k) .lst) (replicate TASKS 0)),
+      sym (filled-none (λ k. taskBoundsOfWords (wordsAt lower upper k) .known) (replicate TASKS false)),
+      sym (filled-none (λ k. taskBoundsOfWords (wordsAt lower upper k) .est) (replicate TASKS 0)),
+      sym (filled-none (λ k. taskBoundsOfWords (wordsAt lower upper k) .lst) (replicate TASKS 0)),
     )
 
 loop-again : tie.Need-loop-again Inv-loop μ-loop
@@ -38,9 +38,9 @@ loop-again c =
     let upper = a .upper .now in
     let z = c .task-bounds .ensures in (
       omega arith,
-      filled-store (λ k. wordBounds (wordsAt lower upper k) .known) (replicate TASKS false) (l .bounded) (l .i) (c .task-bounds .result .known) (l .inv .1) (ap (λ (b : TaskBounds). b .known) z),
-      filled-store (λ k. wordBounds (wordsAt lower upper k) .est) (replicate TASKS 0) (l .est) (l .i) (c .task-bounds .result .est) (l .inv .2) (ap (λ (b : TaskBounds). b .est) z),
-      filled-store (λ k. wordBounds (wordsAt lower upper k) .lst) (replicate TASKS 0) (l .lst) (l .i) (c .task-bounds .result .lst) (l .inv .3) (ap (λ (b : TaskBounds). b .lst) z),
+      filled-store (λ k. taskBoundsOfWords (wordsAt lower upper k) .known) (replicate TASKS false) (l .bounded) (l .i) (c .task-bounds .result .known) (l .inv .1) (ap (λ (b : TaskBounds). b .known) z),
+      filled-store (λ k. taskBoundsOfWords (wordsAt lower upper k) .est) (replicate TASKS 0) (l .est) (l .i) (c .task-bounds .result .est) (l .inv .2) (ap (λ (b : TaskBounds). b .est) z),
+      filled-store (λ k. taskBoundsOfWords (wordsAt lower upper k) .lst) (replicate TASKS 0) (l .lst) (l .i) (c .task-bounds .result .lst) (l .inv .3) (ap (λ (b : TaskBounds). b .lst) z),
     )
 
 returns : tie.Need-returns Inv-loop μ-loop
@@ -48,7 +48,7 @@ returns c =
     let l = c .before .loop in
     let a = c .before .before .args in
     let e : l .i ≡ a .n = omega arith in
-    (λ k. record { bounded = l .inv .1 k; est = l .inv .2 k; lst = l .inv .3 k }) ∙ ap (wordsBounds (a .lower .now) (a .upper .now)) e
+    (λ k. record { bounded = l .inv .1 k; est = l .inv .2 k; lst = l .inv .3 k }) ∙ ap (boundsOfWords (a .lower .now) (a .upper .now)) e
 
 pub bounds-of-words-spec : {M : Type 1} → statement M
 bounds-of-words-spec =

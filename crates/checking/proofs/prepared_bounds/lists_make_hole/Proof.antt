@@ -17,15 +17,15 @@ use Rattle.checking.proofs.prepared_bounds.lists_make_hole.Statement.{s
 use Rattle.checking.proofs.prepared_bounds.lists_make_hole.Tie as tie
 
 abbrev Inv-loop : tie.InvT-loop
-Inv-loop premises consequent words i₀ i = (i ≤ length premises + length consequent)
+Inv-loop premises consequent end i₀ i = (i ≤ length premises + length consequent)
     × ((rightFrom premises consequent i ≡ true)
     × (makesHole (givenFrom premises consequent i) ≡ makesHole (given (atomsOf premises) (consequentOf consequent))))
 
 abbrev μ-loop : tie.MeasureT-loop
-μ-loop premises consequent words i₀ i = words - i
+μ-loop premises consequent end i₀ i = end - i
 
-add-words : tie.Need-add-words Inv-loop μ-loop
-add-words c = omega (arith, c .pre .few, right-lists (c .args .premises .now) (c .args .consequent .now) (c .pre .right) .1)
+add-end : tie.Need-add-end Inv-loop μ-loop
+add-end c = omega (arith, c .pre .few, right-lists (c .args .premises .now) (c .args .consequent .now) (c .pre .right) .1)
 
 loop-holds : tie.Need-loop-holds Inv-loop μ-loop
 loop-holds c =
@@ -78,4 +78,4 @@ pub lists-make-hole-spec : {M : Type 1} → statement M
 lists-make-hole-spec =
     tie.close
     (tie.spec
-    Inv-loop μ-loop add-words loop-holds given-at-requires (λ c κs. search needs) returns (λ c. search needs) (λ c. search needs) loop-again returns-2)
+    Inv-loop μ-loop add-end loop-holds given-at-requires (λ c κs. search needs) returns (λ c. search needs) (λ c. search needs) loop-again returns-2)
