@@ -42,19 +42,19 @@ fn put_chosen(
 fn fill<'a>(
     nodes: &mut [u32; THETAWORDS],
     inner: usize,
-    tasks: &'a [usize; TASKS],
+    reverse_mapping: &'a [usize; TASKS],
     chosen: &'a [bool; TASKS],
     est: &'a [u32; TASKS],
     durations: &'a [u32; TASKS],
     n: usize,
 )
-    requires { ⌜ TreeColourable inner n (now nodes) (now tasks) (now chosen) (now est) (now durations) ⌝ }
-    ensures { λ _. ⌜ TreeColoured inner n (now (nodes .entry)) (now (nodes .exit)) (now (tasks .entry)) (now (chosen .entry)) (now (est .entry))
+    requires { ⌜ TreeColourable inner n (now nodes) (now «reverse_mapping») (now chosen) (now est) (now durations) ⌝ }
+    ensures { λ _. ⌜ TreeColoured inner n (now (nodes .entry)) (now (nodes .exit)) (now («reverse_mapping» .entry)) (now (chosen .entry)) (now (est .entry))
         (now (durations .entry)) ⌝ }
 {
     let mut x: usize = 0;
     while x < n {
-        let id = task_of(tasks, LeafPlace(x));
+        let id = task_of(reverse_mapping, LeafPlace(x));
         let i = id.0;
         put_chosen(
             nodes,

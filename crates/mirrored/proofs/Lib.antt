@@ -1,4 +1,4 @@
-pub mod MirroredLoops
-pub mod MirroredTrace
-pub mod MirroredEnds
+mod MirroredLoops
+mod MirroredTrace
+mod MirroredEnds
 pub mod TooManyRanges

@@ -29,7 +29,7 @@ inside c = omega arith
 
 -- the task of the leaf
 abbrev task : tie.After-task-of Inv-loop μ-loop → ℕ
-task c = getD (c .before .before .before .args .tasks .now) (c .before .before .loop .x) 0
+task c = getD (c .before .before .before .args .reverse-mapping .now) (c .before .before .loop .x) 0
 
 known : (c : tie.After-task-of Inv-loop μ-loop) → c .task-of .result .0 < TASKS
 known c = omega (arith, c .task-of .ensures, task-known (c .before .before .loop .inv .colourable) (c .before .before .loop .x) (inside (c .before)))
