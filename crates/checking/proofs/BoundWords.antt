@@ -1,32 +1,31 @@
 -- A domain without holes is its bounds: what an atom makes of it, it makes of their words.
-use mathlib.Core.Path.{_≡_, refl, sym, ap, ap₂, _∙_, subst}
+use mathlib.Core.Path.{_≡_, refl, sym, ap, _∙_, subst}
 use mathlib.Core.Logic.{⊎-elim}
-use mathlib.Core.Bool.{Bool, true, false, cond, _||_}
-use mathlib.Core.List.{List, [], _∷_}
+use mathlib.Core.Bool.{true, false}
+use mathlib.Core.List.{List, []}
 use Prim.Native.Nat.{ℕ, zero, suc, _+_, _-_, _≤_, _<_, max}
 use native.Mathlib.Omega.{arith}
 use borrow.Author.Tests.{le-leb, lt-leb, ne-eqb}
 use lib.Dec.{leb, eqb}
 use lib.IntN.{ℤ}
 use lib.Signed.{leZ}
-use Rattle.integers.specs.Limits.{VALUE}
-use Rattle.integers.specs.Moments.{moment, Above, zeroAt, largestKey}
+use Rattle.integers.specs.Limits.{VALUE, U32MAX}
+use Rattle.integers.specs.Moments.{moment, Above, zeroAt}
 use Rattle.integers.specs.WholeNumbers.{Within}
 use Rattle.integers.proofs.Bools.{bool, clash}
-use Rattle.integers.proofs.Ints.{ints, up, dn, le-leZ}
+use Rattle.integers.proofs.Ints.{ints, up, dn}
 use Rattle.integers.proofs.MomentSums.{at-moment, above-show, mono, mono<}
 use Rattle.holes.specs.Holes.{kept, above, below, firstFrom, lastUpTo}
 use Rattle.checking.specs.declared.int_ext.IntExt.{IntExt}
 use Rattle.checking.specs.declared.int_ext.IntExt.the-variants.{Int, NegativeInf, PositiveInf}
 use Rattle.checking.specs.declared.domain.Domain.{Domain}
 use Rattle.checking.specs.declared.bound_words.BoundWords.{BoundWords}
-use Rattle.checking.specs.declared.start_bounds.TaskBounds.{TaskBounds}
 use Rattle.checking.specs.declared.variable_state.Bound.the-variants.{At}
 use Rattle.checking.specs.Bounds.{finite}
 use Rattle.checking.specs.Domains.{leExt, ltExt, holesOf, domainOf, consistent, Tight, tightenedLower, tightenedUpper, applied}
 use Rattle.checking.specs.BoundWords.{lowerWord, upperWord, wordsOf, appliedWords, consistentWords, taskBoundsOfWords, HoleFree}
-use Rattle.checking.specs.TaskBounds.{noBounds, twoBounds, boundsBetween, taskBounds}
-use Rattle.checking.proofs.NarrowedDomains.{lower-case, lower-tight, upper-case, upper-lower}
+use Rattle.checking.specs.TaskBounds.{twoBounds, boundsBetween, taskBounds}
+use Rattle.checking.proofs.NarrowedDomains.{lower-case, lower-tight, upper-case}
 
 -- Values ------------------------------------------------------------------------------------------------------------------------
 
@@ -34,7 +33,7 @@ use Rattle.checking.proofs.NarrowedDomains.{lower-case, lower-tight, up
 record Inner (z : ℤ) : Type 0 where
   above : Above zeroAt z
   positive : 0 < moment zeroAt z
-  below : moment zeroAt z < largestKey
+  below : moment zeroAt z < U32MAX
 
 near-moment : (z : ℤ) → Within (VALUE + 1) z → Inner z
 unfolding up dn
@@ -42,7 +41,7 @@ near-moment z w =
     let a : Above zeroAt z = above-show zeroAt z (omega (ints, w .low)) in
     record { above = a; positive = omega (ints, w .low, at-moment zeroAt z a); below = omega (ints, w .high, at-moment zeroAt z a) }
 
-twice : (z : ℤ) → Inner z → largestKey - (largestKey - moment zeroAt z) ≡ moment zeroAt z
+twice : (z : ℤ) → Inner z → U32MAX - (U32MAX - moment zeroAt z) ≡ moment zeroAt z
 twice z i = omega (arith, i .below)
 
 -- The lower bound ---------------------------------------------------------------------------------------------------------------
@@ -86,12 +85,12 @@ lower-less (Int z) v f n = mono zeroAt z v (omega ints)
 lower-less NegativeInf v f n = omega arith
 lower-less PositiveInf v f n = clash f refl
 
-upper-there : (b : IntExt) (v : ℤ) → ltExt NegativeInf b ≡ true → leExt b (Int v) ≡ true → largestKey - moment zeroAt v ≤ upperWord b
+upper-there : (b : IntExt) (v : ℤ) → ltExt NegativeInf b ≡ true → leExt b (Int v) ≡ true → U32MAX - moment zeroAt v ≤ upperWord b
 upper-there (Int z) v f y = let h = mono zeroAt z v (omega ints) in omega arith
 upper-there NegativeInf v f y = clash f refl
 upper-there PositiveInf v f y = clash y refl
 
-upper-less : (b : IntExt) (v : ℤ) → ltExt NegativeInf b ≡ true → leExt b (Int v) ≡ false → upperWord b ≤ largestKey - moment zeroAt v
+upper-less : (b : IntExt) (v : ℤ) → ltExt NegativeInf b ≡ true → leExt b (Int v) ≡ false → upperWord b ≤ U32MAX - moment zeroAt v
 upper-less (Int z) v f n = let h = mono zeroAt v z (omega ints) in omega arith
 upper-less NegativeInf v f n = clash f refl
 upper-less PositiveInf v f n = omega arith
@@ -113,8 +112,8 @@ module _ (d : Domain) (t : Tight d) (free : HoleFree d) (v : ℤ) where
 
   lowered-words : wordsOf (tightenedUpper d v) ≡ appliedWords (wordsOf d) 1 v
   lowered-words = lowered d t free v (λ e. wordsOf e ≡ appliedWords (wordsOf d) 1 v)
-      (λ y. ap (λ (m : ℕ). words m) (max-left (upperWord (d .«upper_bound»)) (largestKey - moment zeroAt v) (upper-there (d .«upper_bound») v (t .upper-finite) y)))
-      (λ n. ap (λ (m : ℕ). words m) (max-right (upperWord (d .«upper_bound»)) (largestKey - moment zeroAt v) (upper-less (d .«upper_bound») v (t .upper-finite) n)))
+      (λ y. ap (λ (m : ℕ). words m) (max-left (upperWord (d .«upper_bound»)) (U32MAX - moment zeroAt v) (upper-there (d .«upper_bound») v (t .upper-finite) y)))
+      (λ n. ap (λ (m : ℕ). words m) (max-right (upperWord (d .«upper_bound»)) (U32MAX - moment zeroAt v) (upper-less (d .«upper_bound») v (t .upper-finite) n)))
     where
       words : ℕ → BoundWords
       words m = record { lower = lowerWord (d .«lower_bound»); upper = m }
@@ -140,17 +139,17 @@ applied-words d t free (suc (suc (suc k))) h v near = absurd (omega arith)
 pub words-consistent : (d : Domain) → Tight d → HoleFree d → consistentWords (wordsOf d) ≡ consistent d
 words-consistent d t free = by (d .«lower_bound») (d .«upper_bound») (t .lower-finite) (t .upper-finite) (free .lower) (free .upper)
   where
-    two : (a b : ℤ) → Inner a → Inner b → leb (moment zeroAt a) (largestKey - (largestKey - moment zeroAt b)) ≡ leZ a b
+    two : (a b : ℤ) → Inner a → Inner b → leb (moment zeroAt a) (U32MAX - (U32MAX - moment zeroAt b)) ≡ leZ a b
     two a b i j = ap (leb (moment zeroAt a)) (twice b j) ∙ ⊎-elim
         (λ y. le-leb (moment zeroAt a) (moment zeroAt b) (mono zeroAt a b (omega ints)) ∙ sym y)
         (λ n. lt-leb (moment zeroAt a) (moment zeroAt b) (mono< zeroAt b a (j .above) (i .above) (omega ints)) ∙ sym n) (bool (leZ a b))
 
     by : (l u : IntExt) → ltExt l PositiveInf ≡ true → ltExt NegativeInf u ≡ true → ((z : ℤ) → l ≡ Int z → Within (VALUE + 1) z) → ((z : ℤ) → u ≡ Int z → Within (VALUE + 1) z)
-        → leb (lowerWord l) (largestKey - upperWord u) ≡ leExt l u
-    by NegativeInf u p q f g = le-leb 0 (largestKey - upperWord u) (omega arith)
+        → leb (lowerWord l) (U32MAX - upperWord u) ≡ leExt l u
+    by NegativeInf u p q f g = le-leb 0 (U32MAX - upperWord u) (omega arith)
     by PositiveInf u p q f g = clash p refl
     by (Int a) NegativeInf p q f g = clash q refl
-    by (Int a) PositiveInf p q f g = le-leb (moment zeroAt a) (largestKey - 0) (omega (arith, near-moment a (f a refl) .below))
+    by (Int a) PositiveInf p q f g = le-leb (moment zeroAt a) (U32MAX - 0) (omega (arith, near-moment a (f a refl) .below))
     by (Int a) (Int b) p q f g = two a b (near-moment a (f a refl)) (near-moment b (g b refl))
 
 -- the bounds of a domain are those of its words
@@ -167,5 +166,5 @@ words-bounds d t free = by (d .«lower_bound») (d .«upper_bound») (t .upper-f
         let i = near-moment a (f a refl) in
         let j = near-moment b (g b refl) in
         let h : eqb (moment zeroAt a) 0 ≡ false = ne-eqb (moment zeroAt a) 0 (omega (arith, i .positive)) in
-        let k : eqb (largestKey - moment zeroAt b) 0 ≡ false = ne-eqb (largestKey - moment zeroAt b) 0 (omega (arith, j .below)) in
+        let k : eqb (U32MAX - moment zeroAt b) 0 ≡ false = ne-eqb (U32MAX - moment zeroAt b) 0 (omega (arith, j .below)) in
         rw (h, k) (ap (twoBounds (moment zeroAt a)) (twice b j))

@@ -6,9 +6,9 @@ use Prim.Native.Nat.{ℕ, zero, suc, _+_, _-_, _*_, _≤_, _<_, max}
 use lib.Dec.{leb, eqb}
 use lib.IntN.{ℤ}
 use lib.ListN.{length, getD, replicate}
-use Rattle.integers.specs.Limits.{TASKS, VARIABLES, PREMISES, VALUE}
+use Rattle.integers.specs.Limits.{TASKS, VARIABLES, PREMISES, VALUE, U32MAX}
 use Rattle.integers.specs.FilledLists.{filled}
-use Rattle.integers.specs.Moments.{moment, zeroAt, largestKey}
+use Rattle.integers.specs.Moments.{moment, zeroAt}
 use Rattle.integers.specs.WholeNumbers.{Within}
 use Rattle.scheduling.specs.Scheduling.{Atom, given}
 use Rattle.checking.specs.Atoms.{atomsOf, consequentOf, rightLists}
@@ -49,7 +49,7 @@ lowerWord NegativeInf = 0
 lowerWord PositiveInf = 0
 
 abbrev pub upperWord : IntExt → ℕ
-upperWord (Int z) = largestKey - moment zeroAt z
+upperWord (Int z) = U32MAX - moment zeroAt z
 upperWord NegativeInf = 0
 upperWord PositiveInf = 0
 
@@ -59,17 +59,17 @@ wordsOf d = record { lower = lowerWord (d .«lower_bound»); upper = upperWord (
 -- an atom applied, by its kind: 0 is ≥, 1 is ≤, 2 is =
 abbrev pub appliedWords : BoundWords → ℕ → ℤ → BoundWords
 appliedWords w zero v = record { lower = max (w .lower) (moment zeroAt v); upper = w .upper }
-appliedWords w (suc zero) v = record { lower = w .lower; upper = max (w .upper) (largestKey - moment zeroAt v) }
-appliedWords w (suc (suc zero)) v = record { lower = max (w .lower) (moment zeroAt v); upper = max (w .upper) (largestKey - moment zeroAt v) }
+appliedWords w (suc zero) v = record { lower = w .lower; upper = max (w .upper) (U32MAX - moment zeroAt v) }
+appliedWords w (suc (suc zero)) v = record { lower = max (w .lower) (moment zeroAt v); upper = max (w .upper) (U32MAX - moment zeroAt v) }
 appliedWords w (suc (suc (suc k))) v = w
 
 -- the bounds have not crossed
 abbrev pub consistentWords : BoundWords → Bool
-consistentWords w = leb (w .lower) (largestKey - w .upper)
+consistentWords w = leb (w .lower) (U32MAX - w .upper)
 
 -- the bounds that they are, where there are two
 abbrev pub taskBoundsOfWords : BoundWords → TaskBounds
-taskBoundsOfWords w = cond (eqb (w .lower) 0 || eqb (w .upper) 0) noBounds (twoBounds (w .lower) (largestKey - w .upper))
+taskBoundsOfWords w = cond (eqb (w .lower) 0 || eqb (w .upper) 0) noBounds (twoBounds (w .lower) (U32MAX - w .upper))
 
 -- The words of all variables ---------------------------------------------------------------------------------------------------
 

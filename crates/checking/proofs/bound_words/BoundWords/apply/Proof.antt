@@ -1,21 +1,21 @@
 -- By the comparison, each way the definition's: a word becomes the larger of itself and the value's own, or stays.
 use mathlib.Core.Path.{_≡_, ap, ap₂, _∙_}
 use Prim.Native.Nat.{ℕ, _-_, max}
-use Rattle.integers.specs.Moments.{moment, zeroAt, largestKey}
+use Rattle.integers.specs.Moments.{moment, zeroAt}
+use Rattle.integers.specs.Limits.{U32MAX}
 use Rattle.integers.proofs.Ints.{back}
-use Rattle.checking.specs.declared.bound_words.BoundWords.{BoundWords}
 use borrow.Author.Needs.{needs}
 use Rattle.checking.proofs.bound_words.BoundWords.apply.Statement.{statement}
 use Rattle.checking.proofs.bound_words.BoundWords.apply.Tie as tie
 
 -- both words, each the larger of the one held and the value's own
 both : (c : tie.After-max2) → let w = c .before .before .before .args .self in let v = c .before .before .before .args .value in
-    (c .before .max .result ≡ max (w .lower) (moment zeroAt v)) × (c .max2 .result ≡ max (w .upper) (largestKey - moment zeroAt v))
+    (c .before .max .result ≡ max (w .lower) (moment zeroAt v)) × (c .max2 .result ≡ max (w .upper) (U32MAX - moment zeroAt v))
 both c =
     let m = c .before .before in
     let w = m .before .args .self in
     let e : m .moment-of .result ≡ moment zeroAt (m .before .args .value) = m .moment-of .ensures ∙ ap (moment zeroAt) (back (m .before .fits .value)) in
-    (c .before .max .ensures ∙ ap (max (w .lower)) e, c .max2 .ensures ∙ ap (λ (t : ℕ). max (w .upper) (largestKey - t)) e)
+    (c .before .max .ensures ∙ ap (max (w .lower)) e, c .max2 .ensures ∙ ap (λ (t : ℕ). max (w .upper) (U32MAX - t)) e)
 
 returns : tie.Need-returns
 returns c =
