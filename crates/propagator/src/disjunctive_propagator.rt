@@ -97,12 +97,13 @@ pub fn run_accepted(
         (now (earliest .exit)) (now (posts .exit)) (now (atoms .exit)) ⌝ }
 {
     let n = record.count;
+    let durations = &record.durations;
     let mut est: [u32; TASKS] = [0; TASKS];
     moments_of(&mut est, earliest);
     let mut lst: [u32; TASKS] = [0; TASKS];
     moments_of(&mut lst, latest);
     let mut lct: [u32; TASKS] = [0; TASKS];
-    completions(&mut lct, &lst, &record.durations, n);
+    completions(&mut lct, &lst, durations, n);
     let mut reverse_mapping: [usize; TASKS] = [0; TASKS];
     sort_numbers(&mut reverse_mapping, n, &est);
     let mut sorted_tasks: [usize; TASKS] = [0; TASKS];
@@ -110,19 +111,13 @@ pub fn run_accepted(
     let mut mapping: [usize; TASKS] = [0; TASKS];
     leaf_places(&mut mapping, &reverse_mapping, n);
     let mut tree = ThetaLambdaTree::new(n);
+    let inner = tree.number_of_internal_nodes;
     let size = TreeSize {
-        inner: tree.number_of_internal_nodes,
+        inner,
         height: tree.height,
         leaves: n,
     };
-    fill(
-        &mut tree.nodes,
-        size.inner,
-        &reverse_mapping,
-        &est,
-        &record.durations,
-        n,
-    );
+    fill(&mut tree.nodes, inner, &reverse_mapping, &est, durations, n);
     edge_finding(
         &mut tree.nodes,
         earliest,
@@ -134,7 +129,7 @@ pub fn run_accepted(
         &est,
         &lst,
         &lct,
-        &record.durations,
+        durations,
         size,
     )
 }
