@@ -22,16 +22,16 @@ use trees::disjunctive_task::leaf_of;
 use trees::disjunctive_task::task_of;
 use trees::theta_lambda_tree::Responsible;
 use trees::theta_lambda_tree::ThetaLambdaTree;
-ghost use lib.ListN.{length};
-ghost use Rattle.propagator.specs.Ran.{Runnable, RunLeft, Ran};
 ghost use mathlib.Core.Path.{_≡_};
 ghost use Prim.Native.Nat.{_≤_, _<_, ℕ, _+_, _*_, _^_};
+ghost use lib.ListN.{length};
 ghost use Rattle.integers.specs.Limits.{ATOMS};
 ghost use Rattle.trees.specs.Ects.{exceeds, raisedTo};
 ghost use Rattle.trees.specs.Leaves.{ect, sum};
 ghost use Rattle.trees.specs.ArraySearches.{thetaIn};
 ghost use Rattle.trees.specs.Operations.{Held, Answers, Tall};
 ghost use Rattle.explanations.specs.Explanations.{ConflictExplainable, PropagationExplainable};
+ghost use Rattle.propagator.specs.Ran.{Runnable, RunLeft, Ran};
 ghost use Rattle.propagator.specs.RunArrays.{SizeFits};
 ghost use Rattle.propagator.specs.FilledTheta.{Fillable, Filled};
 ghost use Rattle.propagator.specs.EdgeFinding.{ConflictExplained, conflictOf, EdgeFindable, EdgeFound};
@@ -97,12 +97,13 @@ pub fn run_accepted(
         (now (earliest .exit)) (now (posts .exit)) (now (atoms .exit)) ⌝ }
 {
     let n = record.count;
+    let durations = &record.durations;
     let mut est: [u32; TASKS] = [0; TASKS];
     moments_of(&mut est, earliest);
     let mut lst: [u32; TASKS] = [0; TASKS];
     moments_of(&mut lst, latest);
     let mut lct: [u32; TASKS] = [0; TASKS];
-    completions(&mut lct, &lst, &record.durations, n);
+    completions(&mut lct, &lst, durations, n);
     let mut reverse_mapping: [usize; TASKS] = [0; TASKS];
     sort_numbers(&mut reverse_mapping, n, &est);
     let mut sorted_tasks: [usize; TASKS] = [0; TASKS];
@@ -110,19 +111,13 @@ pub fn run_accepted(
     let mut mapping: [usize; TASKS] = [0; TASKS];
     leaf_places(&mut mapping, &reverse_mapping, n);
     let mut tree = ThetaLambdaTree::new(n);
+    let inner = tree.number_of_internal_nodes;
     let size = TreeSize {
-        inner: tree.number_of_internal_nodes,
+        inner,
         height: tree.height,
         leaves: n,
     };
-    fill(
-        &mut tree.nodes,
-        size.inner,
-        &reverse_mapping,
-        &est,
-        &record.durations,
-        n,
-    );
+    fill(&mut tree.nodes, inner, &reverse_mapping, &est, durations, n);
     edge_finding(
         &mut tree.nodes,
         earliest,
@@ -134,7 +129,7 @@ pub fn run_accepted(
         &est,
         &lst,
         &lct,
-        &record.durations,
+        durations,
         size,
     )
 }
@@ -251,8 +246,7 @@ fn overload<'a>(
 ) -> Finished
     requires { ⌜ ((h : Held (size .inner) (now nodes))
         × (ConflictExplainable (length (now atoms)) (written .atoms) (thetaIn (now nodes) (size .inner) (now «reverse_mapping») (size .leaves)) (now est)
-        (now durations)
-        (sum (h .J) (h .estOrder) (h .leaves)) lct) × SizeFits size) ⌝ }
+        (now durations) (sum (h .J) (h .estOrder) (h .leaves)) lct) × SizeFits size) ⌝ }
     ensures { λ r. ⌜ ((h : Held (size .inner) (now (nodes .entry)))
         → ConflictExplained (now (atoms .entry)) (now (atoms .exit)) written r
         (conflictOf h (now («reverse_mapping» .entry)) (size .leaves) (now (est .entry)) (now (durations .entry)) lct)) ⌝ }
@@ -416,7 +410,8 @@ fn candidate<'a>(
     ThetaLambdaTree::responsible_ect_bar(nodes, reverse_mapping, size.inner, size.height)
 }
 
-// Considers task i of Lambda. Its new bound is posted where it is above its earliest start, and i leaves Lambda.
+// Considers task i of Lambda. Its new bound is posted where it is above its earliest start, and i leaves Lambda. A bound that is not raised is the start, so
+// that writing it changes nothing.
 fn consider<'a>(
     nodes: &mut [u32; TREEWORDS],
     earliest: &mut [i32],
@@ -490,8 +485,7 @@ fn post<'a>(
 ) -> Written
     requires { ⌜ ((h : Held (size .inner) (now nodes))
         × (PropagationExplainable (length (now atoms)) (written .atoms) (thetaIn (now nodes) (size .inner) (now «reverse_mapping») (size .leaves)) (now est)
-        (now durations)
-        (sum (h .J) (h .estOrder) (h .leaves)) lct i «new_bound»)
+        (now durations) (sum (h .J) (h .estOrder) (h .leaves)) lct i «new_bound»)
         × (4 * written .posts + 4 ≤ length (now posts)) × SizeFits size × (written .atoms ≤ ATOMS)) ⌝ }
     ensures { λ r. ⌜ ((h : Held (size .inner) (now (nodes .entry)))
         → Posted (now (posts .entry)) (now (atoms .entry)) (now (posts .exit)) (now (atoms .exit)) written r i «new_bound»

@@ -30,13 +30,13 @@ abbrev lct : tie.After-new → tie.After-completions
 lct c = reverseMapping c .before .before .before
 
 abbrev lst : tie.After-new → tie.After-moments-of2
-lst c = lct c .before .before .before .before .before
+lst c = lct c .before .before .before
 
 abbrev est : tie.After-new → tie.After-moments-of
 est c = lst c .before .before
 
 abbrev start : tie.After-new → tie.Start
-start c = est c .before .before .before
+start c = est c .before .before .before .before .before
 
 -- the tree of no task can be filled,
 abbrev can-fill : (c : tie.After-new) → let a = start c .args in
@@ -64,9 +64,9 @@ can-find c words filled =
 
 completions-requires : tie.Need-completions-requires
 completions-requires c κs =
-    let first = c .before .before .before .before .before .before in
-    let second = c .before .before .before .before in
-    let s = first .before .before .before in
+    let first = c .before .before .before .before in
+    let second = c .before .before in
+    let s = first .before .before .before .before .before in
     let a = s .args in (
       s .pre .lawful .few,
       key-small (a .t1) (a .earliest .now) (a .latest .now) (length (a .posts .now)) (length (a .atoms .now)) (s .pre) (long s) (second .moments-of2 .last .0)
@@ -75,9 +75,9 @@ completions-requires c κs =
 
 sort-numbers-down-requires : tie.Need-sort-numbers-down-requires
 sort-numbers-down-requires c κs =
-    let first = c .before .before .before .before .before .before .before .before .before .before .before .before in
-    let second = c .before .before .before .before .before .before .before .before .before .before in
-    let s = first .before .before .before in
+    let first = c .before .before .before .before .before .before .before .before .before .before in
+    let second = c .before .before .before .before .before .before .before .before in
+    let s = first .before .before .before .before .before in
     let a = s .args in (
       s .pre .lawful .few,
       refl,
@@ -91,17 +91,17 @@ leaf-places-requires c κs =
     (few, refl, sorted-permutes (c .before .before .before .before .before .sort-numbers .ensures))
 
 fill-requires : tie.Need-fill-requires
-fill-requires c κs = can-fill (c .before .before .before .before .before)
+fill-requires c κs = can-fill (c .before .before .before)
 
 edge-finding-requires : tie.Need-edge-finding-requires
 edge-finding-requires c κs =
-    let full = c .before .before .before .before .before .before .before .before .before .before .before .before in
-    can-find (full .before .before .before .before .before .before) _ (full .fill .ensures)
+    let full = c .before .before .before .before .before .before .before .before .before .before in
+    can-find (full .before .before .before .before) _ (full .fill .ensures)
 
 returns : tie.Need-returns
 returns c =
-    let full = c .before .before .before .before .before .before .before .before .before .before .before .before .before .before .before .before in
-    let u = full .before .before .before .before .before .before in
+    let full = c .before .before .before .before .before .before .before .before .before .before .before .before .before .before in
+    let u = full .before .before .before .before in
     let s = start u in
     let a = s .args in
     left (a .t1) (a .earliest .now) (a .latest .now) (length (a .posts .now)) (length (a .atoms .now)) (s .pre) (long s) (est u .moments-of .ensures) (lst u .moments-of2 .ensures)
