@@ -79,7 +79,11 @@ module _ (o : ℕ) (J : Tasks whole) (M : Tasks natural) (at-moments : AtMoments
 
     counts-up : (m : ℕ) → first ≤ m → m ≤ last → Counts J (instant o m)
     counts-up m l h = record {
-      from = (let (k, q, e) = starts-first in (k, q, reflect o (J .earliest k) (instant o m) (at-moments .above k q) (instant-above o m) (omega (arith, e, at-moments .start k q, moment-instant o m))));
+      from = (let (k, q, e) = starts-first in (
+        k,
+        q,
+        reflect o (J .earliest k) (instant o m) (at-moments .above k q) (instant-above o m) (omega (arith, e, at-moments .start k q, moment-instant o m)),
+      ));
       to = (let (k, q, e) = starts-last in (k, q, reflect o (instant o m) (J .earliest k) (instant-above o m) (at-moments .above k q) (omega (arith, e, at-moments .start k q, moment-instant o m))));
     }
 

@@ -111,8 +111,8 @@ module _ (ds ps cs : List ℤ) where
 
   -- The words --------------------------------------------------------------------------------------------------------------------
 
-  abbrev behind : List Test
-  behind = test 7 (leb (length ps) (3 * PREMISES + 2)) ∷ test 6 (rightLists ps cs) ∷ []
+  abbrev on-words : List Test
+  on-words = test 7 (leb (length ps) (3 * PREMISES + 2)) ∷ test 6 (rightLists ps cs) ∷ []
 
   is-late : Accepted → answer ≡ late
   is-late ok = ap verdictNumbers (check-after ds ps cs 0 ok)
@@ -120,18 +120,18 @@ module _ (ds ps cs : List ℤ) where
   pub word-number : (refusal (wordTests ds ps cs) ≡ 0 → ⊥) → verdictNumbers (checkOf ds ps cs) ≡ refusedBy (refusal (wordTests ds ps cs))
   word-number given-one = by (refusal (creationTests ds)) refl
     where
-      then : Accepted → refusal (wordTests ds ps cs) ≡ refusal behind → (leb (length ps) (3 * PREMISES + 2) ≡ true) ⊎ (leb (length ps) (3 * PREMISES + 2) ≡ false) → (rightLists ps cs ≡ true)
+      then : Accepted → refusal (wordTests ds ps cs) ≡ refusal on-words → (leb (length ps) (3 * PREMISES + 2) ≡ true) ⊎ (leb (length ps) (3 * PREMISES + 2) ≡ false) → (rightLists ps cs ≡ true)
           ⊎ (rightLists ps cs ≡ false)
           → answer ≡ refusedBy (refusal (wordTests ds ps cs))
-      then ok e (inl y) (inl z) = absurd (given-one (e ∙ accepts behind (y, (z, tt))))
+      then ok e (inl y) (inl z) = absurd (given-one (e ∙ accepts on-words (y, (z, tt))))
       then ok e (inl y) (inr z) = is-late ok ∙ late-refused 6 (prepare-means ps cs .malformed (leb-true _ _ y) z)
           ∙ ap refusedBy (sym (e ∙ refusal-next (test 7 (leb (length ps) (3 * PREMISES + 2))) (test 6 (rightLists ps cs) ∷ []) y ∙ refusal-here (test 6 (rightLists ps cs)) [] z))
       then ok e (inr y) z = is-late ok ∙ late-refused 7 (prepared-7 ps cs .1 (omega (arith, leb-false (length ps) (3 * PREMISES + 2) y)))
           ∙ ap refusedBy (sym (e ∙ refusal-here (test 7 (leb (length ps) (3 * PREMISES + 2))) (test 6 (rightLists ps cs) ∷ []) y))
 
       by : (n : ℕ) → refusal (creationTests ds) ≡ n → answer ≡ refusedBy (refusal (wordTests ds ps cs))
-      by zero z = then z (refusal-after (creationTests ds) behind (accepted (creationTests ds) refl z)) (bool (leb (length ps) (3 * PREMISES + 2))) (bool (rightLists ps cs))
-      by (suc m) z = ap verdictNumbers (check-after ds ps cs (suc m) z) ∙ ap refusedBy (sym (refusal-before (creationTests ds) behind (λ w. let v : suc m ≡ 0 = sym z ∙ w in omega arith) ∙ z))
+      by zero z = then z (refusal-after (creationTests ds) on-words (accepted (creationTests ds) refl z)) (bool (leb (length ps) (3 * PREMISES + 2))) (bool (rightLists ps cs))
+      by (suc m) z = ap verdictNumbers (check-after ds ps cs (suc m) z) ∙ ap refusedBy (sym (refusal-before (creationTests ds) on-words (λ w. let v : suc m ≡ 0 = sym z ∙ w in omega arith) ∙ z))
 
   -- The atoms --------------------------------------------------------------------------------------------------------------------
 

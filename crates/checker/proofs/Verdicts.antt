@@ -209,7 +209,8 @@ module _ (ds ps cs : List ℤ) (ok : refusal (creationTests ds) ≡ 0) (consiste
     count = refl;
     bounding = record {
       held = record {
-        proper = moments-proper J₀ (durations-last ds ok) (given (mirrorAtoms (durationAt ds) (atomsOf ps)) (mirrorIfAny (durationAt ds) (consequentOf cs))) (lowerAs Mirrored ds s) (upperAs Mirrored ds s)
+        proper = moments-proper J₀ (durations-last ds ok) (given (mirrorAtoms (durationAt ds) (atomsOf ps)) (mirrorIfAny (durationAt ds) (consequentOf cs))) (lowerAs Mirrored ds s)
+            (upperAs Mirrored ds s)
             (reads-mirrored ds ok ps cs consistent);
         count = refl;
         few = few;

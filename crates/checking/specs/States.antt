@@ -76,7 +76,7 @@ outcome s a r = elim (r .effect) [
 unfoldable pub stepped : VariableState → Atom → Applied
 stepped s a = outcome s a (reduced (domainAt s (a .variable)) (a .kind) (a .value))
 
--- apply: a refusal and a contradiction hand back the state given
+-- apply: a refusal and a contradiction return the state given
 unfoldable pub appliedTo : VariableState → ℤ → ℤ → ℤ → Applied
 appliedTo s x k v =
     cond (accepted (s .domains))
@@ -107,7 +107,7 @@ boundOf side s x = cond (accepted (s .domains)) (cond (rightVariable x) (bound.A
 
 -- A list of atoms --------------------------------------------------------------------------------------------------------------
 
--- Atom by atom: a contradiction hands back the state before the failing atom, and a refusal the empty state.
+-- Atom by atom: a contradiction returns the state before the failing atom, and a refusal the empty state.
 unfoldable pub applyAll : List Atom → VariableState → Applied
 applyAll [] s = record { answer = application.Consistent; state = s }
 applyAll (a ∷ rest) s = elim (stepped s a .answer) [

@@ -21,8 +21,8 @@ ghost use Rattle.integers.specs.WholeNumbers.{Within};
 ghost use Rattle.checking.specs.Atoms.{atomOf, atomsOf, consequentOf, rightLists};
 ghost use Rattle.checking.specs.Answers.{truthNumbers, boundNumbers, AppliedAs};
 ghost use Rattle.checking.specs.Promises.{EmptyMeans, ApplyMeans, TruthMeans, LowerMeans, UpperMeans, PrepareMeans};
-ghost use Rattle.checking.specs.States.{emptyState, accepted, stepped, appliedTo, truthOf, boundOf, applyAll, prepared, AllProper, AcceptedState, lowerOf};
-ghost use Rattle.checking.specs.States.{upperOf, sideOf};
+ghost use Rattle.checking.specs.States.{emptyState, accepted, stepped, appliedTo, truthOf, boundOf, applyAll, prepared, AllProper, AcceptedState};
+ghost use Rattle.checking.specs.States.{lowerOf, upperOf, sideOf};
 
 // The domains of the variables, by number. An unmentioned variable may be any integer.
 pub struct VariableState {

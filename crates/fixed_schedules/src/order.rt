@@ -38,7 +38,8 @@ pub fn order_of(earliest: &[i32]) -> [usize; TASKS]
 // Whether each task of an order ends by the start of the next.
 pub fn neighbours_apart(order: &[usize; TASKS], earliest: &[i32], durations: &[u32; TASKS]) -> bool
     requires { ⌜ Listed (now order) (now earliest) (now durations) ⌝ }
-    ensures { λ r. ⌜ r ≡ allBelow (neighboursApart (now (order .entry)) (now (earliest .entry)) (now (durations .entry))) (length (now (earliest .entry)) - 1) ⌝ }
+    ensures { λ r. ⌜ r ≡ allBelow (neighboursApart (now (order .entry)) (now (earliest .entry)) (now (durations .entry)))
+        (length (now (earliest .entry)) - 1) ⌝ }
 {
     let mut i = 0;
     while i + 1 < earliest.len() {

@@ -28,7 +28,7 @@ impl FixedOrder {
     }
 }
 
-// The number that refuses a schedule, or 0: 20, 10, 3, 4, 14. A schedule that passes is sorted by then, and whoever goes on takes that order.
+// The number that refuses a schedule, or 0: 20, 10, 3, 4, 14. A schedule that passes was sorted for its test, and its order is answered too.
 pub fn fixed_refusal(record: DisjunctivePropagator, earliest: &[i32], latest: &[i32]) -> FixedOrder
     ensures { λ r. ⌜ Tested (now (earliest .entry)) (fixedNumber «record» (now (earliest .entry)) (now (latest .entry))) r ⌝ }
 {

@@ -1,4 +1,4 @@
--- A page's lines, put one behind the other, and read back by their places.
+-- A page's lines, one after the other, and read back by their places.
 use mathlib.Core.Path.{_≡_, refl, sym, ap, subst, _∙_}
 use mathlib.Core.Bool.{true}
 use mathlib.Core.List.{List, [], _∷_, _++_, flatMap, append-assoc, append-nil}

@@ -103,13 +103,13 @@ line-once j k s t e f p q same =
     ∙ columns-front (natural k) (decimal t) (decimal f) (task-fits k q) in
     sym (read-back j (omega arith)) ∙ ap (λ (l : List ℕ). (getD l 0 0 - 48) * 10 + (getD l 1 0 - 48)) r ∙ read-back k (omega arith)
 
--- ---- a text written behind spaces, with as many of them as its width asks for
+-- ---- a text written after spaces, and the last bytes of both, as many as the width
 middle : (xs ys zs : List ℕ) (m width : ℕ) → length xs ≡ m → length ys ≡ width → take width (drop m (xs ++ (ys ++ zs))) ≡ ys
 middle xs ys zs m width p q = ap (take width) (drop-at xs (ys ++ zs) m p) ∙ take-at ys zs width q
 
-pub behind-spaces : (width : ℕ) (text : List ℕ) → length text ≤ width → width ≤ 11 → take width (drop (11 + length text - width) (sets (spaces 22) 11 text)) ≡ padLeft width text
+pub after-spaces : (width : ℕ) (text : List ℕ) → length text ≤ width → width ≤ 11 → take width (drop (11 + length text - width) (sets (spaces 22) 11 text)) ≡ padLeft width text
 unfolding padLeft
-behind-spaces width text h k =
+after-spaces width text h k =
     let m : ℕ = 11 + length text - width in
     let s : ℕ = width - length text in
     let rest : List ℕ = drop (11 + length text) (spaces 22) in
@@ -142,14 +142,14 @@ right-aligned {before} {after} {l} {at} {end} {next} width x {y} same p h k q = 
         ap (λ (n : ℕ). take n (drop (end - width) l)) wide
         ∙ ap (λ (n : ℕ). take width (drop n l)) from
         ∙ ap (λ (bytes : List ℕ). take width (drop (11 + length (decimal x) - width) bytes)) (p .text ∙ ap (λ (z : ℤ). sets (spaces 22) 11 (decimal z)) same)
-        ∙ behind-spaces width (decimal x) h k
+        ∙ after-spaces width (decimal x) h k
 
--- the place behind a number that is right-aligned
+-- the place after a number that is right-aligned
 pub puts-wide : {before after : List ℕ} {at next : ℕ} (width : ℕ) (x : ℤ) {y : ℤ} → y ≡ x → Puts before after at (padLeft width (decimal y)) next → length (decimal x) ≤ width → (next ≡ at + width)
     × (length after ≡ length before)
 puts-wide width x {y} e p h = (omega (arith, p .end, pad-length width (decimal y) (rw e h)), puts-length p)
 
--- ---- the fields of a line, put one behind the other
+-- ---- the fields of a line, one after the other
 pub puts-line : {o₀ o₁ o₂ o₃ o₄ o₅ o₆ : List ℕ} {at a b c d e r : ℕ} (task : ℕ) (start end : ℤ) {x y z : ℤ} → x ≡ pos task → y ≡ start → z ≡ end
     → Puts o₀ o₁ at (padLeft 2 (decimal x)) a → Puts o₁ o₂ a (spaces 1) b → Puts o₂ o₃ b (padLeft 11 (decimal y)) c → Puts o₃ o₄ c (spaces 1) d → Puts o₄ o₅ d (padLeft 11 (decimal z)) e
     → Puts o₅ o₆ e lineEnd r

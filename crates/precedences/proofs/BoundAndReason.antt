@@ -20,16 +20,16 @@ use Rattle.precedences.specs.Reasons.{atLeast, reasonOf, Explained}
 one-of : (J : Tasks whole) (i : ℕ) (x : BoundAbove) → BoundAnswered J i x → ((b : ℤ) × (boundNumbers x ≡ answered 0 (b ∷ []))) ⊎ (Raises J i → ⊥)
 one-of J i (bound.At b) t = inl (b, refl)
 one-of J i bound.NoBound t = inr (t .none .0 refl)
-one-of J i (bound.Refused number) t = inr (λ w. (let z = same-kind (t .told (w .0) .1 (w .1)) in omega (arith, z)))
+one-of J i (bound.Refused number) t = inr (λ w. (let z = same-kind (t .raised (w .0) .1 (w .1)) in omega (arith, z)))
 
 module _ (J : Tasks whole) (i : ℕ) (x : BoundAbove) (t : BoundAnswered J i x) {ws ws′ : List ℤ} (r : Reason) (e : Explained J i ws r ws′) where
   -- a bound exactly where the reason has atoms
   pub bound-with-atoms : ((b : ℤ) × (boundNumbers x ≡ answered 0 (b ∷ []))) ↔ (1 ≤ countAt (reasonNumbers r) 0)
   bound-with-atoms = (
-    λ w. (let z = same-count (e .written (w .0, t .told (w .0) .0 (w .1)) .0) 0 in omega (arith, z)),
+    λ w. (let z = same-count (e .written (w .0, t .raised (w .0) .0 (w .1)) .0) 0 in omega (arith, z)),
     λ h. elim (one-of J i x t) [ inl w ↦ w | inr no-raise ↦ (let z = same-count (e .nothing no-raise .0) 0 in absurd (omega (arith, z, h))) ],
   )
 
   -- no starts meet the reason and the opposite of the bound, whatever their ranges
   pub bound-explained : (b : ℤ) → boundNumbers x ≡ answered 0 (b ∷ []) → (s : ℕ → ℤ) → Contradicts J (reasonOf J i) (some (atLeast i b)) s → ⊥
-  bound-explained b z = e .sound b (t .told b .0 z .is-bound)
+  bound-explained b z = e .sound b (t .raised b .0 z .is-bound)

@@ -34,12 +34,12 @@ use Rattle.precedences.proofs.BoundAbove.{from-start, among, raises-yes
 module _ {n : ℕ} {est lst durations : List ℕ} (f : Ranged n est lst durations) (i : ℕ) (q : i < n) where
   pub bound-left : {b : ℤ} → exceeds (boundAt (f .J) i) (getD est i 0) ≡ true → b ≡ instant zeroAt (raisedTo (getD est i 0) (boundAt (f .J) i)) → BoundLeft (f .J) i (bound.At b)
   bound-left {b} h e = record {
-    told = λ _. ap (λ (x : ℤ). answered 0 (x ∷ [])) (e ∙ ap (λ (s : ℕ). instant zeroAt (raisedTo s (boundAt (f .J) i))) (f .held .start i q));
+    raised = λ _. ap (λ (x : ℤ). answered 0 (x ∷ [])) (e ∙ ap (λ (s : ℕ). instant zeroAt (raisedTo s (boundAt (f .J) i))) (f .held .start i q));
     none = λ k. clash (from-start f i q h) k;
   }
 
   pub none-left : exceeds (boundAt (f .J) i) (getD est i 0) ≡ false → BoundLeft (f .J) i bound.NoBound
-  none-left h = record { told = λ k. clash k (from-start f i q h); none = λ _. refl }
+  none-left h = record { raised = λ k. clash k (from-start f i q h); none = λ _. refl }
 
 -- The accepted call.
 module _ (r : DisjunctivePropagator) (es ls : List ℤ) (a : AcceptedInput r es ls) (long : length (r .durations) ≡ TASKS) (i : ℕ) (q : i < r .count) {x : BoundAbove}
@@ -54,7 +54,7 @@ module _ (r : DisjunctivePropagator) (es ls : List ℤ) (a : AcceptedInput r es 
   answers-bound b w =
       let g = found Z (proper-whole r es ls a long) (above r es ls a long) i (among r es ls a long i q) b (w .is-bound) in
       let up : M .earliest i < moment zeroAt b = mono< zeroAt (Z .earliest i) b (above r es ls a long i (among r es ls a long i q)) (g .above) (w .above) in
-      left .told (some-exceeds (boundAt M i) (moment zeroAt b) (M .earliest i) (g .is) up)
+      left .raised (some-exceeds (boundAt M i) (moment zeroAt b) (M .earliest i) (g .is) up)
       ∙ ap (λ (v : ℤ). answered 0 (v ∷ [])) (ap (instant zeroAt) (raised-up (M .earliest i) (boundAt M i) (moment zeroAt b) (g .is) up) ∙ instant-moment zeroAt b (g .above))
 
   is-answered : (b : ℤ) → boundNumbers x ≡ answered 0 (b ∷ []) → RaisesTo Z i b
@@ -66,9 +66,9 @@ module _ (r : DisjunctivePropagator) (es ls : List ℤ) (a : AcceptedInput r es 
   none-answered : (Raises Z i → ⊥) → boundNumbers x ≡ answered 1 []
   none-answered no-raise = elim (bool (exceeds (boundAt M i) (M .earliest i))) [ inl h ↦ absurd (no-raise (raises-yes r es ls a long i q h)) | inr h ↦ left .none h ]
 
-  pub told : BoundAnswered (tasksIn r es ls) i x
-  told = record {
-    told = λ b. (is-answered b, answers-bound b);
+  pub bound-answered : BoundAnswered (tasksIn r es ls) i x
+  bound-answered = record {
+    raised = λ b. (is-answered b, answers-bound b);
     none = (λ e w. (let z = same-kind (sym e ∙ answers-bound (w .0) (w .1)) in omega (arith, z)), none-answered);
     sound = λ b e s h. bound-sound Z (proper-whole r es ls a long) s h i (among r es ls a long i q) b (is-answered b e .is-bound);
   }

@@ -1,4 +1,4 @@
--- What a pass leaves meets its contract.
+-- What a pass leaves, refused, emptied or done, is what its contract says.
 use mathlib.Core.Path.{_≡_, refl, sym, ap, subst, _∙_}
 use mathlib.Core.Bool.{Bool, true}
 use mathlib.Core.List.{List}

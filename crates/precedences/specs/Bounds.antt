@@ -30,7 +30,7 @@ module _ (J : Tasks whole) (i : ℕ) where
 
   -- An accepted call answers exactly the bound that raises i, or that there is none. It may pass the latest start, and holds in every schedule.
   pub record BoundAnswered (r : BoundAbove) : Type 0 where
-    pub told : (b : ℤ) → (boundNumbers r ≡ answered 0 (b ∷ [])) ↔ RaisesTo b
+    pub raised : (b : ℤ) → (boundNumbers r ≡ answered 0 (b ∷ [])) ↔ RaisesTo b
     pub none : (boundNumbers r ≡ answered 1 []) ↔ (Raises → ⊥)
     pub sound : (b : ℤ) → boundNumbers r ≡ answered 0 (b ∷ []) → (s : ℕ → ℤ) → Schedule J s → b ≤ℤ s i
 
@@ -41,7 +41,7 @@ boundTests r es ls bars task = inputTests r es ls bars ++ (test refused.TASK (lt
 abbrev pub boundNumber : DisjunctivePropagator → List ℤ → List ℤ → Bool → ℕ → ℕ
 boundNumber r es ls bars task = refusal (boundTests r es ls bars task)
 
--- The call is told whether the bars of its ranges fit. The first test that fails refuses it.
+-- `bars` says whether the bars of the ranges fit. The first test that fails refuses the call.
 pub record BoundGiven (before : DisjunctivePropagator) (es ls : List ℤ) (bars : Bool) (task : ℕ) (r : BoundAbove) : Type 0 where
   pub refused : (boundNumber before es ls bars task ≡ 0 → ⊥) → boundNumbers r ≡ refusedBy (boundNumber before es ls bars task)
   pub given : boundNumber before es ls bars task ≡ 0 → BoundAnswered (tasksIn before es ls) task r

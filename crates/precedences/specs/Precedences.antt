@@ -47,7 +47,7 @@ pub record KeptStarts (es : List ℤ) (number : ℕ) (r : Precedences) (es′ : 
   pub answer : precedencesNumbers r ≡ refusedBy number
   pub starts : es′ ≡ es
 
--- The pass is told whether the bars of its ranges fit. The first of a run's tests on the record and its ranges that fails refuses it.
+-- `bars` says whether the bars of the ranges fit. The first of a run's tests on the record and its ranges that fails refuses the pass.
 pub record RanPrecedences (before : DisjunctivePropagator) (es ls : List ℤ) (bars : Bool) (r : Precedences) (es′ : List ℤ) : Type 0 where
   pub refused : (inputNumber before es ls bars ≡ 0 → ⊥) → KeptStarts es (inputNumber before es ls bars) r es′
   pub ran : inputNumber before es ls bars ≡ 0 → LeftPrecedences (tasksIn before es ls) es r es′

@@ -21,7 +21,7 @@ memberAt members k = getD members k false
 
 -- The answer about task i's bound: the bound where it is above the earliest start, else that there is none.
 pub record BoundLeft (J : Tasks natural) (i : ℕ) (r : BoundAbove) : Type 0 where
-  pub told : exceeds (boundAt J i) (J .earliest i) ≡ true → boundNumbers r ≡ answered 0 (instant zeroAt (raisedTo (J .earliest i) (boundAt J i)) ∷ [])
+  pub raised : exceeds (boundAt J i) (J .earliest i) ≡ true → boundNumbers r ≡ answered 0 (instant zeroAt (raisedTo (J .earliest i) (boundAt J i)) ∷ [])
   pub none : exceeds (boundAt J i) (J .earliest i) ≡ false → boundNumbers r ≡ answered 1 []
 
 -- The reason of task i's bound, over moments, and what is left in the words ws: nothing where the bound is not above the earliest start, else the reason at the

@@ -65,7 +65,7 @@ pub record KeptWords (ws : List ℤ) (number : ℕ) (r : Reason) (ws′ : List �
   pub answer : reasonNumbers r ≡ refusedBy number
   pub words : ws′ ≡ ws
 
--- The call is told whether the bars of its ranges fit. The first test that fails refuses it.
+-- `bars` says whether the bars of the ranges fit. The first test that fails refuses the call.
 pub record ReasonGiven (before : DisjunctivePropagator) (es ls : List ℤ) (bars : Bool) (task : ℕ) (ws : List ℤ) (r : Reason) (ws′ : List ℤ) : Type 0 where
   pub refused : (reasonNumber before es ls bars task (length ws) ≡ 0 → ⊥) → KeptWords ws (reasonNumber before es ls bars task (length ws)) r ws′
   pub given : reasonNumber before es ls bars task (length ws) ≡ 0 → Explained (tasksIn before es ls) task ws r ws′

@@ -55,7 +55,7 @@ fn accepted_bound(
 }
 
 // The number that refuses the call, or 0: 20, 10, 3, 4, 13, 17.
-pub fn bound_refusal<'a>(
+pub(crate) fn bound_refusal<'a>(
     n: usize,
     durations: &'a [u32; TASKS],
     total: u32,
@@ -76,7 +76,7 @@ pub fn bound_refusal<'a>(
     0
 }
 
-// The task's bound over these ranges, where it is above the earliest start. The call is told whether their bars fit.
+// The task's bound over these ranges, where it is above the earliest start. `bars_fit` says whether the ranges' bars fit.
 pub fn precedence_bound(
     record: DisjunctivePropagator,
     earliest: &[i32],

@@ -52,7 +52,7 @@ fn first_past<'a>(raised: &'a [u32; TASKS], lst: &'a [u32; TASKS], n: usize) -> 
     n
 }
 
-// The raised starts go into the caller's slice.
+// Stores the raised starts in the caller's slice.
 fn store(earliest: &mut [i32], raised: &[u32; TASKS])
     requires { ⌜ length (now earliest) ≤ TASKS ⌝ }
     ensures { λ _. ⌜ now (earliest .exit) ≡ filled (startAt (now (raised .entry))) (length (now (earliest .entry))) (now (earliest .entry)) ⌝ }
@@ -84,7 +84,7 @@ fn accepted(record: DisjunctivePropagator, earliest: &mut [i32], latest: &[i32])
     Precedences::Done
 }
 
-// Raises each earliest start to the ect of the tasks that must come before its task, where that is later. The call is told whether the bars of the ranges fit.
+// Raises each earliest start to the ect of the tasks that must come before its task, where that is later. `bars_fit` says whether the ranges' bars fit.
 pub fn precedences(
     record: DisjunctivePropagator,
     earliest: &mut [i32],

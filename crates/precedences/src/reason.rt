@@ -1,4 +1,4 @@
-// How many atoms were written, or the number that refused the input.
+// The reason of one task's bound, as atoms in the caller's words.
 use crate::bounds::bound_refusal;
 use crate::predecessors::bound_of;
 use crate::predecessors::predecessors;
@@ -22,6 +22,7 @@ ghost use Rattle.precedences.specs.PredecessorArrays.{startAt, Ranged};
 ghost use Rattle.precedences.specs.ReasonArrays.{memberAt, ReasonLeft};
 ghost use Rattle.precedences.specs.Reasons.{bothOf, bothBounds, Explained, reasonNumber, ReasonGiven, AcceptedReason};
 
+// How many atoms were written, or the number that refused the input.
 pub enum Reason {
     Written(usize),
     Refused(u32),
@@ -134,7 +135,7 @@ fn reason_refusal<'a>(
     0
 }
 
-// Writes the reason of the task's bound over these ranges, and tells how many atoms it has. The call is told whether their bars fit.
+// Writes the reason of the task's bound over these ranges, and answers how many atoms it has. `bars_fit` says whether the ranges' bars fit.
 pub fn precedence_reason(
     record: DisjunctivePropagator,
     earliest: &[i32],

@@ -1,5 +1,5 @@
-// The open calls on a fixed schedule in lent ranges: its page, its charges, the earliest free start beside it, and its busiest stretch. Of what is lent,
-// only the page's buffer changes.
+// The open calls on a fixed schedule in lent ranges: its page, its charges, the earliest free start beside it, and its busiest stretch. Of what is
+// lent, only the page's buffer changes.
 use crate::fixed_schedule_cores::charges_core;
 use crate::fixed_schedule_cores::free_core;
 use crate::fixed_schedule_cores::page_core;

@@ -40,7 +40,8 @@ returns : tie.Need-returns Inv-loop μ-loop
 returns c =
     let s = c .before .before .before .before .before in
     let l = c .before .before .before .before .loop in (
-      stops (inMoments (s .args .n) (s .args .starts .now) (s .args .durations .now)) (λ p. getD (s .args .order .now) p 0) (s .pre .place) (s .pre .by-start) (s .args .t) (s .args .d) (l .i) (l .free)
+      stops (inMoments (s .args .n) (s .args .starts .now) (s .args .durations .now)) (λ p. getD (s .args .order .now) p 0) (s .pre .place) (s .pre .by-start) (s .args .t) (s .args .d) (l .i)
+          (l .free)
           (c .before .before .before .loop-test .taken) (l .inv .2) (c .if1 .taken),
       l .inv .1,
     )

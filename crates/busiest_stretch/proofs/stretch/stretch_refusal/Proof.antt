@@ -30,7 +30,8 @@ returns-2 : tie.Need-returns-2
 returns-2 c =
     let test = c .before .before in
     let a = test .before .before .before .before .args in
-    tested-not (c .refused-by .ensures) (λ z. absurd (omega arith)) (sym (wrong-length (a .«record») (a .earliest .now) (a .latest .now) (a .w) (number (test .before)) (sym (lasting test) ∙ not-true _ (c .before .if2 .taken))))
+    tested-not (c .refused-by .ensures) (λ z. absurd (omega arith))
+    (sym (wrong-length (a .«record») (a .earliest .now) (a .latest .now) (a .w) (number (test .before)) (sym (lasting test) ∙ not-true _ (c .before .if2 .taken))))
 
 returns-3 : tie.Need-returns-3
 returns-3 c =

@@ -1,4 +1,4 @@
--- The two contracts, one after the other.
+-- The minutes late of the first call are what the tariff of the second is applied to.
 use mathlib.Core.Path.{sym, ap, ap₂, subst, _∙_}
 use lib.IntN.{ℤ, pos, _+ℤ_}
 use borrow.Author.Needs.{needs}

@@ -1,4 +1,4 @@
--- `charges::rates::cost_of` meets its contract: the code's array is the tariff's table, and each turn charges the hours of one of its rows.
+-- The code's array is the tariff's table. The invariant: `cost` is what the rows before i cost, and `done` the hours that they charge.
 use mathlib.Core.Path.{_≡_, refl}
 use Prim.Native.Nat.{_-_, _≤_, min}
 use native.Mathlib.Omega.{arith}

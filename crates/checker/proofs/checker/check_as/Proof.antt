@@ -1,4 +1,4 @@
--- `check_as`: what is judged are the bounds that the state leaves, or these mirrored.
+-- What is judged are the bounds that the state leaves, or these mirrored, by the direction.
 use mathlib.Core.Path.{_≡_, sym, _∙_}
 use mathlib.Core.List.{List}
 use lib.IntN.{ℤ}

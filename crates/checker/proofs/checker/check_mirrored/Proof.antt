@@ -1,4 +1,4 @@
--- The check of both kinds, asked in mirrored time: what it answers is `checkMirroredOf`, and the rest of the contract is a law about that.
+-- The answer is that of `check_as` in mirrored time; `checked-mirrored` says what Passed means.
 use borrow.Author.Needs.{needs}
 use Rattle.checker.proofs.Checked.{checked-mirrored}
 use Rattle.checker.proofs.checker.check_mirrored.Statement.{statement}

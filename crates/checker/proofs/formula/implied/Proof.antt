@@ -33,14 +33,16 @@ gather-requires c κs =
 abbrev start : tie.After-gather → tie.Start
 start c = c .before .before .before .before .before .before
 
-said : (c : tie.After-gather) {J : Tasks natural} {Ω : TaskSet} → let a = start c .args in Bounding J Ω (a .n) (a .t1) (a .durations .now) → c .gather .result ≡ intervalOf J (Ω but a .propagating-task) (a .n)
+said : (c : tie.After-gather) {J : Tasks natural} {Ω : TaskSet} → let a = start c .args in Bounding J Ω (a .n) (a .t1) (a .durations .now)
+    → c .gather .result ≡ intervalOf J (Ω but a .propagating-task) (a .n)
 said c d = c .gather .ensures _ _ (held (c .before) d) (d .late)
 
 returns : tie.Need-returns
 returns c = λ J Ω d. let g = c .before .before in none-after (held (g .before) d) _ (said g d) (d .late) (start g .args .propagating-task) (start g .pre .0) (not-true _ (c .if1 .taken))
 
 -- where theta has a task, both sums fit
-sums-fit : (c : tie.Else1) → let v = c .before .before .gather .result in let a = start (c .before .before) .args in let most = min (getD (a .t1 .est) (a .propagating-task) 0) (v .«lb_interval») + v .p in
+sums-fit : (c : tie.Else1) → let v = c .before .before .gather .result in let a = start (c .before .before) .args in
+    let most = min (getD (a .t1 .est) (a .propagating-task) 0) (v .«lb_interval») + v .p in
     (most < 2 ^ 64) × (most + getD (a .durations .now) (a .propagating-task) 0 < 2 ^ 64)
 sums-fit c =
     let g = c .before .before in

@@ -1,4 +1,4 @@
--- `order_of`: the tasks are sorted by the moments of their starts.
+-- The keys are the moments of the starts, so the sort by keys is the sort by starts.
 use borrow.Author.Needs.{needs}
 use Rattle.fixed_schedules.proofs.ScheduleOrder.{order-is}
 use Rattle.fixed_schedules.proofs.order.order_of.Statement.{statement}

@@ -1,4 +1,4 @@
--- The record's own number goes before; neighbours in the order of starts then stand for all pairs of tasks, by `neighbours-are`.
+-- The number of the record and its ranges goes before; then neighbours in the order of starts decide for all pairs, by `neighbours-are`.
 use mathlib.Core.Path.{_≡_, sym, _∙_}
 use mathlib.Core.Bool.{true}
 use native.Mathlib.Omega.{arith}

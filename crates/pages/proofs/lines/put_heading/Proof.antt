@@ -1,4 +1,4 @@
--- `lines::put_heading` meets its contract: the code's bytes are those of the heading's text.
+-- The code's bytes are those of the heading's text.
 use borrow.Author.Needs.{needs}
 use Rattle.integers.specs.Texts.{bytesOf}
 use Rattle.pages.proofs.lines.put_heading.Statement.{statement}

@@ -1,4 +1,4 @@
--- Each field has its width, so that its place is known, and the fields behind one another are the line.
+-- Each field has its width, so that its place is known, and the fields one after the other are the line.
 use mathlib.Core.Path.{_≡_, ap, _∙_}
 use Prim.Native.Nat.{_+_}
 use native.Mathlib.Omega.{arith}
@@ -29,7 +29,7 @@ end-is c =
 task-is : (c : tie.After-word-of) → toZ w32 (ofZ w32 (c .word-of .result)) ≡ pos (c .before .before .before .before .before .args .task)
 task-is c = back-of w32 (c .word-of .result) (c .word-of .ok) ∙ c .word-of .ensures
 
--- the entry, from where the task's field is put; and that place, from each field behind it
+-- the entry, from where the task's field is put; and that place, from each field after it
 abbrev begin : tie.After-put-right → tie.Start
 begin c = c .before .before .before .before .before .before
 
@@ -45,7 +45,7 @@ from-space-2 c = from-start (c .before .before .before .before .before)
 abbrev from-end : tie.After-put-right3 → tie.After-put-right
 from-end c = from-space-2 (c .before .before .before .before)
 
--- the place behind each field but the last, and the buffer's length there
+-- the place after each field but the last, and the buffer's length there
 after-task : (c : tie.After-put-right) → (c .put-right .result ≡ begin c .args .at + 2) × (length (c .put-right .last .0) ≡ length (begin c .args .out .now))
 after-task c = let s = begin c in puts-wide 2 (pos (s .args .task)) (task-is (c .before)) (c .put-right .ensures) (task-fits (s .args .task) (s .pre .1))
 

@@ -1,4 +1,4 @@
--- The invariant: behind the heading stand the lines of the first i tasks of the order, LINE bytes each.
+-- The invariant: after the heading stand the lines of the first i tasks of the order, LINE bytes each.
 use mathlib.Core.Path.{_≡_, refl, _∙_}
 use mathlib.Core.List.{flatMap}
 use Prim.Native.Nat.{ℕ, _+_, _-_, _*_, _≤_, _<_}

@@ -1,10 +1,10 @@
--- `precedence_reasons::bounds::accepted_bound` meets its contract.
+-- The two arrays of moments hold the ranges (`ranged`), and the bound over moments is that over whole numbers.
 use mathlib.Core.Path.{_≡_}
 use lib.ListN.{length}
 use Rattle.integers.specs.Limits.{TASKS}
 use Rattle.precedences.specs.PredecessorArrays.{Ranged}
 use Rattle.precedences.proofs.AcceptedArrays.{ranged}
-use Rattle.precedences.proofs.BoundAnswers.{told}
+use Rattle.precedences.proofs.BoundAnswers.{bound-answered}
 use borrow.Author.Needs.{needs}
 use Rattle.precedences.proofs.bounds.accepted_bound.Statement.{statement}
 use Rattle.precedences.proofs.bounds.accepted_bound.Tie as tie
@@ -34,7 +34,7 @@ returns c =
     let m = c .before .before .before .before in
     let s = start m in
     let a = s .args in
-    told (a .«record») (a .earliest .now) (a .latest .now) (s .pre .0) (long s) (a .task) (s .pre .1) (c .bound-above .ensures (ready m))
+    bound-answered (a .«record») (a .earliest .now) (a .latest .now) (s .pre .0) (long s) (a .task) (s .pre .1) (c .bound-above .ensures (ready m))
 
 pub accepted-bound-spec : {M : Type 1} → statement M
 accepted-bound-spec = tie.close (tie.spec (λ c κs. search needs) (λ c κs. search needs) bound-above-requires returns)

@@ -1,4 +1,4 @@
--- `precedence_reasons::bounds::bound_above` meets its contract.
+-- The test against the earliest start is that of the definition; past it, the raised start is the bound.
 use mathlib.Core.Path.{_≡_, sym, ap, _∙_}
 use mathlib.Core.Option.{Option}
 use Prim.Native.Nat.{ℕ}

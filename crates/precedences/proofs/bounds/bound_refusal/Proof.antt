@@ -1,4 +1,4 @@
--- `precedence_reasons::bounds::bound_refusal` meets its contract.
+-- A run's number on the record and its ranges goes before; then 17 where the task is none of the record's.
 use mathlib.Core.Path.{sym, _∙_}
 use borrow.Author.Tests.{lt-ltb, le-ltb}
 use Rattle.integers.specs.Tests.{AllPassed}

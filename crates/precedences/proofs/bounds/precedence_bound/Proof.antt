@@ -1,4 +1,4 @@
--- `precedence_reasons::bounds::precedence_bound` meets its contract.
+-- A number other than 0 refuses the call; else all tests are passed, which is what `accepted_bound` requires.
 use mathlib.Core.Path.{_≡_, sym, ap, _∙_}
 use Rattle.integers.specs.Answers.{refusedBy}
 use Rattle.precedences.specs.Bounds.{boundNumber}

@@ -1,4 +1,4 @@
--- `precedences::pass::accepted` meets its contract.
+-- The first raised start past its latest start is the emptied task; where there is none, all raised starts are stored.
 use mathlib.Core.Path.{_≡_}
 use lib.ListN.{length}
 use Rattle.integers.specs.Limits.{TASKS}

@@ -1,4 +1,4 @@
--- `precedences::pass::first_past` meets its contract.
+-- The invariant: no raised start below i is past its latest start.
 use Prim.Native.Nat.{ℕ, _-_, _≤_, _<_}
 use native.Mathlib.Omega.{arith}
 use lib.ListN.{getD}

@@ -1,4 +1,4 @@
--- `precedences::pass::precedences` meets its contract.
+-- A number other than 0 refuses the pass and changes no start; else all tests are passed, which is what `accepted` requires.
 use mathlib.Core.Path.{_≡_, refl, sym, ap, _∙_}
 use mathlib.Core.Bool.{true}
 use Rattle.integers.specs.Answers.{refusedBy}

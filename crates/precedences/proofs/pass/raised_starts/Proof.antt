@@ -1,4 +1,4 @@
--- `precedences::pass::raised_starts` meets its contract.
+-- The invariant: the first i places hold the raised starts, for every reading of the arrays as tasks, and the others 0.
 use mathlib.Core.Path.{_≡_, sym, ap, ap₂, _∙_}
 use mathlib.Core.List.{List}
 use Prim.Native.Nat.{ℕ, _-_, _≤_, _<_}

@@ -1,4 +1,4 @@
--- `precedences::pass::store` meets its contract.
+-- The invariant: the first k starts are the raised ones, and those from k on are unchanged.
 use mathlib.Core.Path.{_≡_, refl, sym, ap, _∙_}
 use Prim.Native.Nat.{ℕ, _+_, _-_, _≤_}
 use native.Mathlib.Omega.{arith}

@@ -1,4 +1,4 @@
--- `predecessors::predecessors::bound_of` meets its contract.
+-- The array of predecessors holds the set that the definition takes the ect of, so `theta_ect` answers the bound.
 use Rattle.precedences.specs.PredecessorArrays.{comesBefore}
 use Rattle.precedences.proofs.AcceptedArrays.{end-fits, chosen}
 use Rattle.precedences.proofs.predecessors.bound_of.Statement.{statement}

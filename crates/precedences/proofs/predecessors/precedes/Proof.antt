@@ -1,4 +1,4 @@
--- `predecessors::predecessors::precedes` meets its contract.
+-- The two tests of the definition: a task does not come before itself, and else the latest start decides.
 use borrow.Author.Tests.{eq-eqb, ne-eqb}
 use Rattle.precedences.proofs.predecessors.precedes.Statement.{statement}
 use Rattle.precedences.proofs.predecessors.precedes.Tie as tie

@@ -1,4 +1,4 @@
--- `predecessors::predecessors::predecessors` meets its contract.
+-- The invariant: the first j places say whether their task comes before task i, and the others are false.
 use mathlib.Core.Path.{_≡_, refl, sym, ap, _∙_}
 use mathlib.Core.Bool.{false}
 use Prim.Native.Nat.{ℕ, _+_, _-_, _≤_}

@@ -1,4 +1,4 @@
--- `precedence_reasons::reasons::accepted_reason` meets its contract.
+-- The two arrays of moments hold the ranges (`ranged`), and the reason over moments is that over whole numbers.
 use mathlib.Core.Path.{_≡_}
 use lib.ListN.{length}
 use Rattle.integers.specs.Limits.{TASKS}

@@ -1,4 +1,4 @@
--- `precedence_reasons::reasons::precedence_reason` meets its contract.
+-- A number other than 0 refuses the call and changes no word; else all tests are passed, which is what `accepted_reason` requires.
 use mathlib.Core.Path.{_≡_, refl, sym, ap, _∙_}
 use lib.ListN.{length}
 use Rattle.integers.specs.Answers.{refusedBy}

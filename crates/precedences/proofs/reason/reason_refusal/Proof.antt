@@ -1,4 +1,4 @@
--- `precedence_reasons::reasons::reason_refusal` meets its contract.
+-- The bound's number goes before; then 16 where the words have no room for the longest reason, 6 a task.
 use mathlib.Core.Path.{sym, _∙_}
 use Prim.Native.Nat.{_≤_}
 use native.Mathlib.Omega.{arith}

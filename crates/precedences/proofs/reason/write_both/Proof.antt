@@ -1,4 +1,4 @@
--- `precedence_reasons::reasons::write_both` meets its contract.
+-- A member has two atoms, stored one after the other; what is no member has none.
 use mathlib.Core.Path.{_≡_, ap, _∙_}
 use mathlib.Core.List.{List, [], _∷_}
 use Prim.Native.Nat.{_+_, _*_, _≤_}

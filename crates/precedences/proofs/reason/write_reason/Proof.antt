@@ -1,4 +1,4 @@
--- `precedence_reasons::reasons::write_reason` meets its contract.
+-- Where the bound raises nothing, no word changes; else the task's own atom is stored, and the members' atoms after it.
 use mathlib.Core.Path.{_≡_, sym, ap, _∙_}
 use mathlib.Core.List.{List, [], _∷_}
 use mathlib.Core.Option.{Option}

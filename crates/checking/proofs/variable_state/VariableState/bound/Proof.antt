@@ -50,7 +50,8 @@ returns-3 : tie.Need-returns-3
 unfolding boundOf
 returns-3 c =
     let right = c .before .before .before .before .before .before in (
-      rw (state-right right, variable-right (c .before .before .before .before), c .enum-told .given .1) (ap (λ (x : ℕ). At (domainAt (right .before .before .args .t1) x .«lower_bound»)) (is (c .before .before .before))),
+      rw (state-right right, variable-right (c .before .before .before .before), c .enum-told .given .1)
+          (ap (λ (x : ℕ). At (domainAt (right .before .before .args .t1) x .«lower_bound»)) (is (c .before .before .before))),
       proper (right .before),
     )
 
@@ -58,7 +59,8 @@ returns-4 : tie.Need-returns-4
 unfolding boundOf
 returns-4 c =
     let right = c .before .before .before .before .before .before in (
-      rw (state-right right, variable-right (c .before .before .before .before), c .enum-told2 .given .1) (ap (λ (x : ℕ). At (domainAt (right .before .before .args .t1) x .«upper_bound»)) (is (c .before .before .before))),
+      rw (state-right right, variable-right (c .before .before .before .before), c .enum-told2 .given .1)
+          (ap (λ (x : ℕ). At (domainAt (right .before .before .args .t1) x .«upper_bound»)) (is (c .before .before .before))),
       proper (right .before),
     )
 
