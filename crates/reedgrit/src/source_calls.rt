@@ -11,6 +11,7 @@ use answers::source_calls::RunAnswer;
 use answers::source_calls::StateAnswer;
 use answers::source_calls::creation_number;
 use answers::source_calls::finished_numbers;
+use checking::variable_state::Side;
 use disjunctive::open_calls::run;
 use ranges::range::Range;
 use records::record::DisjunctivePropagator;
@@ -98,7 +99,7 @@ pub extern "C" fn reedgrit_is_true(
 pub extern "C" fn reedgrit_lower_bound(premises: &[i32], variable: i32) -> StateAnswer
     ensures { λ r. ⌜ r ≡ lowerAfter (now (premises .entry)) variable ⌝ }
 {
-    bound_after(premises, variable, true)
+    bound_after(premises, Side::Lower, variable)
 }
 
 // The greatest value that they leave to it.
@@ -106,5 +107,5 @@ pub extern "C" fn reedgrit_lower_bound(premises: &[i32], variable: i32) -> State
 pub extern "C" fn reedgrit_upper_bound(premises: &[i32], variable: i32) -> StateAnswer
     ensures { λ r. ⌜ r ≡ upperAfter (now (premises .entry)) variable ⌝ }
 {
-    bound_after(premises, variable, false)
+    bound_after(premises, Side::Upper, variable)
 }

@@ -6,15 +6,14 @@ use answers::source_calls::state_numbers;
 use answers::source_calls::truth_numbers;
 use checking::atomic_constraint::atom_is_accepted;
 use checking::atomic_constraint::variable_is_accepted;
-use checking::variable_state::Bound;
+use checking::variable_state::Side;
 use checking::variable_state::VariableState;
 use integers::limits::PREMISES;
 use integers::refused;
 ghost use mathlib.Core.Path.{_≡_};
 ghost use mathlib.Core.Bool.{false};
 ghost use Rattle.integers.specs.Tests.{refusal};
-ghost use Rattle.checking.specs.Answers.{boundNumbers};
-ghost use Rattle.checking.specs.States.{sideOf, boundOf};
+ghost use Rattle.checking.specs.States.{sideOf};
 ghost use Rattle.reedgrit.specs.States.{preparedAnswer, stateTests, truthAfter, boundAfter};
 
 // Whether the premises and the negated consequent, of one atom or none, lead to a state; the state itself does not cross.
@@ -56,25 +55,15 @@ pub fn truth_after(premises: &[i32], variable: i32, kind: i32, value: i32) -> St
     state_numbers(answer, here)
 }
 
-// One of the two bounds that the state gives a variable.
-fn bound_in(state: VariableState, variable: i32, lower: bool) -> Bound
-    ensures { λ r. ⌜ boundNumbers r ≡ boundNumbers (boundOf (sideOf lower) state variable) ⌝ }
-{
-    if lower {
-        return state.lower_bound(variable);
-    }
-    state.upper_bound(variable)
-}
-
-// One of the two bounds that the premises leave to a variable.
-pub fn bound_after(premises: &[i32], variable: i32, lower: bool) -> StateAnswer
-    ensures { λ r. ⌜ r ≡ boundAfter (sideOf lower) (now (premises .entry)) variable ⌝ }
+// The bound on one side that the premises leave to a variable.
+pub fn bound_after(premises: &[i32], side: Side, variable: i32) -> StateAnswer
+    ensures { λ r. ⌜ r ≡ boundAfter (sideOf side) (now (premises .entry)) variable ⌝ }
 {
     if !variable_is_accepted(variable) {
         return refusal_numbers(unfit_number(premises));
     }
     let applied = VariableState::prepare_for_conflict_check(premises, &premises[..0]);
-    let here = bound_numbers(bound_in(applied.state, variable, lower));
+    let here = bound_numbers(applied.state.bound(side, variable));
     let answer = applied.answer;
     state_numbers(answer, here)
 }
