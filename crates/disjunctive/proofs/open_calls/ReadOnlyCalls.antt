@@ -5,28 +5,19 @@ use Rattle.disjunctive.proofs.Walk.{vptr, SProp, ent, sep, emp, id⊢, 
 use Rattle.disjunctive.proofs.Walk.{GhostRules, Running, tables, FmC, fmOf, Given, Item, ‵, raw, _⊛_, ⋆, _$_, _∵_, !, qed, by, move, keep, drop, use0, use1, split, join, fsplit, fsplit3}
 use Rattle.disjunctive.proofs.Walk.{fjoin, frame, done, look-in, look, stop, hop, from, load, of-opd, assigns, returns, enter, and-then, no-more, land, yes, RattleType, owns, Is, pointee}
 use Rattle.disjunctive.proofs.Walk.{ShrRef, ptr-vals, shr-tells, nothing, owned, heard, Ended, Clauses, Contract, Triple, entered, cited, says, TASKS, DisjunctivePropagator, earliests}
-use Rattle.disjunctive.proofs.Walk.{latests, firstEarliest, firstLatest, Range, rangesVal, Reads}
-pub use mathlib.Core.Path.{refl}
+use Rattle.disjunctive.proofs.Walk.{latests, firstEarliest, firstLatest, Range, rangesVal, Reads, refl, [], _∷_, some, none, length, tyRef, named, imm, mut, givenOf, now, sliceTy, slice-vals}
+use Rattle.disjunctive.proofs.Walk.{shr-slice-tells, plain}
 use mathlib.Core.List.{_++_}
-pub use mathlib.Core.List.{[], _∷_}
-pub use mathlib.Core.Option.{some, none}
-pub use lib.ListN.{length}
 use mir.Syntax.{rvOpd, return}
-pub use mir.Syntax.{w8, w32, w64, tyInt, tyRef, named, imm, mut}
 use base.Logic.{ex, snd∗}
 use contract.Lifetimes.{Lfts, Shares, toks}
 use contract.Monad.{fact-use}
 use contract.Running.{tablesOf}
-pub use contract.Running.{givenOf}
 use types.Kit.{show, updating, now as at-once}
-pub use denote.Builtin.{usize, i32, u8}
 use denote.RattleType.{Denots, Valss, flat}
 use denote.Laws.{Are, Ises, Spells, valss, Tellss, all-tell, owns-show, showss}
-pub use denote.Ref.{now}
 use denote.Slice.{ShrSlice}
-pub use denote.Slice.{sliceTy, slice-vals, shr-slice-tells, mut-slice-tells}
 use denote.Signature.{Slot, typesAt}
-pub use denote.Signature.{plain, shrSliceOf, mutSliceOf}
 use denote.Struct.Laws as LL
 use denote.Triple.End.{all, Fins, Outs, outs, lastsOf}
 use Rattle.records.proofs.record.DisjunctivePropagator as P
@@ -39,7 +30,6 @@ use Rattle.disjunctive.proofs.Locals.{stored, finds-local, copied, allo
 use Rattle.disjunctive.proofs.open_calls.LentAgain.{lends-again, againTys, lent-again, first-kept, AgainAt, runs-again}
 use Rattle.disjunctive.proofs.open_calls.LentRecord.{machP, looks-into, shuts-record}
 use Rattle.disjunctive.proofs.open_calls.StartsReaders.{Reader, Read, readTy, Says, startsIn, barsIn, barsFit, nameOf, routineOf, few, said-of, read-typed, read-met}
-pub use Rattle.disjunctive.proofs.open_calls.StartsReaders.{starts, starts-with-bars}
 
 -- ---- the call: what it reads, what else it is passed, with the lifetimes of that, what it answers, and what is said of an answer over starts. A call that is passed more ranges than a record has
 -- tasks

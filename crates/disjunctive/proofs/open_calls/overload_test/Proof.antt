@@ -6,7 +6,9 @@ use Rattle.overload_test.proofs.Overload as O
 use Rattle.overload_test.proofs.Overload.Laws as O′
 use Rattle.disjunctive.proofs.cores.overload_core.Symbol as core
 use Rattle.disjunctive.proofs.cores.overload_core.Met as core-thm
-use Rattle.disjunctive.proofs.open_calls.ReadOnlyCalls.{Reading, starts-with-bars, reads-only, givenOf, refl, [], _∷_, none}
+use Rattle.disjunctive.proofs.Walk.{givenOf, refl, [], _∷_, none}
+use Rattle.disjunctive.proofs.open_calls.ReadOnlyCalls.{Reading, reads-only}
+use Rattle.disjunctive.proofs.open_calls.StartsReaders.{starts-with-bars}
 use Rattle.disjunctive.proofs.open_calls.overload_test.Key.{name}
 use Rattle.disjunctive.proofs.open_calls.overload_test.Statement as stated
 use Rattle.disjunctive.proofs.open_calls.overload_test.Code as code

@@ -7,7 +7,9 @@ use Rattle.precedences.proofs.reason.BoundAbove as O
 use Rattle.precedences.proofs.reason.BoundAbove.Laws as O′
 use Rattle.disjunctive.proofs.precedence_cores.bound_core.Symbol as core
 use Rattle.disjunctive.proofs.precedence_cores.bound_core.Met as core-thm
-use Rattle.disjunctive.proofs.open_calls.ReadOnlyCalls.{Reading, starts-with-bars, reads-only, givenOf, refl, [], _∷_, none, w64, tyInt, usize, plain}
+use Rattle.disjunctive.proofs.Walk.{givenOf, refl, [], _∷_, none, w64, tyInt, usize, plain}
+use Rattle.disjunctive.proofs.open_calls.ReadOnlyCalls.{Reading, reads-only}
+use Rattle.disjunctive.proofs.open_calls.StartsReaders.{starts-with-bars}
 use Rattle.disjunctive.proofs.open_calls.by_precedence.precedence_bound.Key.{name}
 use Rattle.disjunctive.proofs.open_calls.by_precedence.precedence_bound.Statement as stated
 use Rattle.disjunctive.proofs.open_calls.by_precedence.precedence_bound.Code as code

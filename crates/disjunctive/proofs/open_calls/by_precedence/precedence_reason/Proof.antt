@@ -7,8 +7,9 @@ use Rattle.precedences.proofs.reason.Reason as O
 use Rattle.precedences.proofs.reason.Reason.Laws as O′
 use Rattle.disjunctive.proofs.precedence_cores.reason_core.Symbol as core
 use Rattle.disjunctive.proofs.precedence_cores.reason_core.Met as core-thm
-use Rattle.disjunctive.proofs.open_calls.ReadOnlyCalls.{Reading, starts-with-bars, reads-only, givenOf, refl, [], _∷_, some, length, w32, w64, named, mut, tyInt, tyRef, usize, i32, now, plain}
-use Rattle.disjunctive.proofs.open_calls.ReadOnlyCalls.{mutSliceOf, sliceTy, slice-vals, mut-slice-tells}
+use Rattle.disjunctive.proofs.Walk.{givenOf, refl, [], _∷_, some, length, w32, w64, named, mut, tyInt, tyRef, usize, i32, now, plain, mutSliceOf, sliceTy, slice-vals, mut-slice-tells}
+use Rattle.disjunctive.proofs.open_calls.ReadOnlyCalls.{Reading, reads-only}
+use Rattle.disjunctive.proofs.open_calls.StartsReaders.{starts-with-bars}
 use Rattle.disjunctive.proofs.open_calls.by_precedence.precedence_reason.Key.{name}
 use Rattle.disjunctive.proofs.open_calls.by_precedence.precedence_reason.Statement as stated
 use Rattle.disjunctive.proofs.open_calls.by_precedence.precedence_reason.Code as code

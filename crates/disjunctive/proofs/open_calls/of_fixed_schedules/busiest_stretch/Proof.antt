@@ -8,7 +8,9 @@ use Rattle.busiest_stretch.proofs.answer.Busiest as O
 use Rattle.busiest_stretch.proofs.answer.Busiest.Laws as O′
 use Rattle.disjunctive.proofs.fixed_schedule_cores.stretch_core.Symbol as core
 use Rattle.disjunctive.proofs.fixed_schedule_cores.stretch_core.Met as core-thm
-use Rattle.disjunctive.proofs.open_calls.ReadOnlyCalls.{Reading, starts, reads-only, givenOf, refl, [], _∷_, none, w32, tyInt, i32, plain}
+use Rattle.disjunctive.proofs.Walk.{givenOf, refl, [], _∷_, none, w32, tyInt, i32, plain}
+use Rattle.disjunctive.proofs.open_calls.ReadOnlyCalls.{Reading, reads-only}
+use Rattle.disjunctive.proofs.open_calls.StartsReaders.{starts}
 use Rattle.disjunctive.proofs.open_calls.of_fixed_schedules.busiest_stretch.Key.{name}
 use Rattle.disjunctive.proofs.open_calls.of_fixed_schedules.busiest_stretch.Statement as stated
 use Rattle.disjunctive.proofs.open_calls.of_fixed_schedules.busiest_stretch.Code as code

@@ -6,8 +6,9 @@ use Rattle.charges.proofs.answer.Charges as O
 use Rattle.charges.proofs.answer.Charges.Laws as O′
 use Rattle.disjunctive.proofs.fixed_schedule_cores.charges_core.Symbol as core
 use Rattle.disjunctive.proofs.fixed_schedule_cores.charges_core.Met as core-thm
-use Rattle.disjunctive.proofs.open_calls.ReadOnlyCalls.{Reading, starts, reads-only, givenOf, refl, [], _∷_, none, w32, named, imm, tyInt, tyRef, i32, now, plain, shrSliceOf, sliceTy}
-use Rattle.disjunctive.proofs.open_calls.ReadOnlyCalls.{slice-vals, shr-slice-tells}
+use Rattle.disjunctive.proofs.Walk.{givenOf, refl, [], _∷_, none, w32, named, imm, tyInt, tyRef, i32, now, plain, shrSliceOf, sliceTy, slice-vals, shr-slice-tells}
+use Rattle.disjunctive.proofs.open_calls.ReadOnlyCalls.{Reading, reads-only}
+use Rattle.disjunctive.proofs.open_calls.StartsReaders.{starts}
 use Rattle.disjunctive.proofs.open_calls.of_fixed_schedules.charges.Key.{name}
 use Rattle.disjunctive.proofs.open_calls.of_fixed_schedules.charges.Statement as stated
 use Rattle.disjunctive.proofs.open_calls.of_fixed_schedules.charges.Code as code

@@ -8,7 +8,9 @@ use Rattle.free_starts.proofs.FreeStart as O
 use Rattle.free_starts.proofs.FreeStart.Laws as O′
 use Rattle.disjunctive.proofs.fixed_schedule_cores.free_core.Symbol as core
 use Rattle.disjunctive.proofs.fixed_schedule_cores.free_core.Met as core-thm
-use Rattle.disjunctive.proofs.open_calls.ReadOnlyCalls.{Reading, starts, reads-only, givenOf, refl, [], _∷_, none, w32, tyInt, i32, plain}
+use Rattle.disjunctive.proofs.Walk.{givenOf, refl, [], _∷_, none, w32, tyInt, i32, plain}
+use Rattle.disjunctive.proofs.open_calls.ReadOnlyCalls.{Reading, reads-only}
+use Rattle.disjunctive.proofs.open_calls.StartsReaders.{starts}
 use Rattle.disjunctive.proofs.open_calls.of_fixed_schedules.free_start.Key.{name}
 use Rattle.disjunctive.proofs.open_calls.of_fixed_schedules.free_start.Statement as stated
 use Rattle.disjunctive.proofs.open_calls.of_fixed_schedules.free_start.Code as code

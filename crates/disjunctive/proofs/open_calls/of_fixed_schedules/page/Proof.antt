@@ -6,8 +6,9 @@ use Rattle.pages.proofs.answer.Page as O
 use Rattle.pages.proofs.answer.Page.Laws as O′
 use Rattle.disjunctive.proofs.fixed_schedule_cores.page_core.Symbol as core
 use Rattle.disjunctive.proofs.fixed_schedule_cores.page_core.Met as core-thm
-use Rattle.disjunctive.proofs.open_calls.ReadOnlyCalls.{Reading, starts, reads-only, givenOf, refl, [], _∷_, some, length, w8, named, mut, tyInt, tyRef, u8, now, plain, mutSliceOf, sliceTy}
-use Rattle.disjunctive.proofs.open_calls.ReadOnlyCalls.{slice-vals, mut-slice-tells}
+use Rattle.disjunctive.proofs.Walk.{givenOf, refl, [], _∷_, some, length, w8, named, mut, tyInt, tyRef, u8, now, plain, mutSliceOf, sliceTy, slice-vals, mut-slice-tells}
+use Rattle.disjunctive.proofs.open_calls.ReadOnlyCalls.{Reading, reads-only}
+use Rattle.disjunctive.proofs.open_calls.StartsReaders.{starts}
 use Rattle.disjunctive.proofs.open_calls.of_fixed_schedules.page.Key.{name}
 use Rattle.disjunctive.proofs.open_calls.of_fixed_schedules.page.Statement as stated
 use Rattle.disjunctive.proofs.open_calls.of_fixed_schedules.page.Code as code
