@@ -1,4 +1,5 @@
 mod AllPlaces
+mod Walk
 pub mod Locals
 pub mod LentRuns
 pub mod Calls
