@@ -3,7 +3,6 @@ use mathlib.Core.Path.{_≡_, ap, ap₂, _∙_}
 use Prim.Native.Nat.{ℕ, _-_, max}
 use Rattle.integers.specs.Moments.{moment, zeroAt, largestKey}
 use Rattle.integers.proofs.Ints.{back}
-use Rattle.checking.specs.declared.bound_words.BoundWords.{BoundWords}
 use borrow.Author.Needs.{needs}
 use Rattle.checking.proofs.bound_words.BoundWords.apply.Statement.{statement}
 use Rattle.checking.proofs.bound_words.BoundWords.apply.Tie as tie
