@@ -44,13 +44,13 @@ pub record Valued (k : ℕ) (v : ℤ) : Type 0 where
   pub any : Within (VALUE + 1) v
   pub other : 3 ≤ k → Within VALUE v
 
-same-int : (a b : ℤ) → Int a ≡ Int b → a ≡ b
+pub same-int : (a b : ℤ) → Int a ≡ Int b → a ≡ b
 same-int a b e = cc
 
-no-int : (b : ℤ) → NegativeInf ≡ Int b → ⊥
+pub no-int : (b : ℤ) → NegativeInf ≡ Int b → ⊥
 no-int b e = let z : _≡_ {A = ℕ} 0 1 = cc in omega arith
 
-no-int′ : (b : ℤ) → PositiveInf ≡ Int b → ⊥
+pub no-int′ : (b : ℤ) → PositiveInf ≡ Int b → ⊥
 no-int′ b e = let z : _≡_ {A = ℕ} 0 1 = cc in omega arith
 
 near-first : (v b : ℤ) (hs : List ℤ) → Within (VALUE + 1) v → First v hs b → length hs ≤ HOLES → Within (VALUE + 1 + HOLES) b

@@ -25,9 +25,10 @@ use Rattle.checking.specs.Bounds.{finite}
 use Rattle.checking.specs.Domains.{leExt, ltExt, holesOf, domainOf, consistent, Tight, tightenedLower, tightenedUpper, applied}
 use Rattle.checking.specs.BoundWords.{lowerWord, upperWord, wordsOf, appliedWords, consistentWords, taskBoundsOfWords, HoleFree}
 use Rattle.checking.specs.TaskBounds.{twoBounds, boundsBetween, taskBounds}
+use Rattle.checking.proofs.BoundLimits.{same-int}
 use Rattle.checking.proofs.NarrowedDomains.{lower-case, lower-tight, upper-case}
 
--- Values ------------------------------------------------------------------------------------------------------------------------
+-- Values -----------------------------------------------------------------------------------------------------------------------
 
 -- A value near the limits has a moment, which is neither 0 nor the largest key.
 record Inner (z : ℤ) : Type 0 where
@@ -44,7 +45,7 @@ near-moment z w =
 twice : (z : ℤ) → Inner z → U32MAX - (U32MAX - moment zeroAt z) ≡ moment zeroAt z
 twice z i = omega (arith, i .below)
 
--- The lower bound ---------------------------------------------------------------------------------------------------------------
+-- Bounds that an atom moves ----------------------------------------------------------------------------------------------------
 
 module _ (d : Domain) (t : Tight d) (free : HoleFree d) (v : ℤ) where
   raised-is : domainOf (Int (firstFrom v (holesOf d))) (d .«upper_bound») (above (firstFrom v (holesOf d)) (holesOf d)) ≡ domainOf (Int v) (d .«upper_bound») []
@@ -64,15 +65,12 @@ module _ (d : Domain) (t : Tight d) (free : HoleFree d) (v : ℤ) where
       → P (tightenedUpper d v)
   lowered P f g = upper-case d v t P f (λ n. subst P (sym lowered-is) (g n))
 
-  same-value : (u : ℤ) → Int v ≡ Int u → v ≡ u
-  same-value u e = cc
-
   module _ (near : Within (VALUE + 1) v) where
     raised-free : HoleFree (tightenedLower d v)
-    raised-free = raised HoleFree (λ _. free) (λ _. record { none = refl; lower = λ u e. subst (Within (VALUE + 1)) (same-value u e) near; upper = free .upper })
+    raised-free = raised HoleFree (λ _. free) (λ _. record { none = refl; lower = λ u e. subst (Within (VALUE + 1)) (same-int v u e) near; upper = free .upper })
 
     lowered-free : HoleFree (tightenedUpper d v)
-    lowered-free = lowered HoleFree (λ _. free) (λ _. record { none = refl; lower = free .lower; upper = λ u e. subst (Within (VALUE + 1)) (same-value u e) near })
+    lowered-free = lowered HoleFree (λ _. free) (λ _. record { none = refl; lower = free .lower; upper = λ u e. subst (Within (VALUE + 1)) (same-int v u e) near })
 
 -- the bound that is there is at or above v, or below it
 lower-there : (b : IntExt) (v : ℤ) → ltExt b PositiveInf ≡ true → leExt (Int v) b ≡ true → moment zeroAt v ≤ lowerWord b
@@ -104,21 +102,21 @@ max-right a b h = omega arith
 module _ (d : Domain) (t : Tight d) (free : HoleFree d) (v : ℤ) where
   raised-words : wordsOf (tightenedLower d v) ≡ appliedWords (wordsOf d) 0 v
   raised-words = raised d t free v (λ e. wordsOf e ≡ appliedWords (wordsOf d) 0 v)
-      (λ y. ap (λ (m : ℕ). words m) (max-left (lowerWord (d .«lower_bound»)) (moment zeroAt v) (lower-there (d .«lower_bound») v (t .lower-finite) y)))
-      (λ n. ap (λ (m : ℕ). words m) (max-right (lowerWord (d .«lower_bound»)) (moment zeroAt v) (lower-less (d .«lower_bound») v (t .lower-finite) n)))
+      (λ y. ap words (max-left (lowerWord (d .«lower_bound»)) (moment zeroAt v) (lower-there (d .«lower_bound») v (t .lower-finite) y)))
+      (λ n. ap words (max-right (lowerWord (d .«lower_bound»)) (moment zeroAt v) (lower-less (d .«lower_bound») v (t .lower-finite) n)))
     where
       words : ℕ → BoundWords
       words m = record { lower = m; upper = upperWord (d .«upper_bound») }
 
   lowered-words : wordsOf (tightenedUpper d v) ≡ appliedWords (wordsOf d) 1 v
   lowered-words = lowered d t free v (λ e. wordsOf e ≡ appliedWords (wordsOf d) 1 v)
-      (λ y. ap (λ (m : ℕ). words m) (max-left (upperWord (d .«upper_bound»)) (U32MAX - moment zeroAt v) (upper-there (d .«upper_bound») v (t .upper-finite) y)))
-      (λ n. ap (λ (m : ℕ). words m) (max-right (upperWord (d .«upper_bound»)) (U32MAX - moment zeroAt v) (upper-less (d .«upper_bound») v (t .upper-finite) n)))
+      (λ y. ap words (max-left (upperWord (d .«upper_bound»)) (U32MAX - moment zeroAt v) (upper-there (d .«upper_bound») v (t .upper-finite) y)))
+      (λ n. ap words (max-right (upperWord (d .«upper_bound»)) (U32MAX - moment zeroAt v) (upper-less (d .«upper_bound») v (t .upper-finite) n)))
     where
       words : ℕ → BoundWords
       words m = record { lower = lowerWord (d .«lower_bound»); upper = m }
 
--- Every atom that makes no hole ---------------------------------------------------------------------------------------------------
+-- Every atom that makes no hole ------------------------------------------------------------------------------------------------
 
 pub applied-free : (d : Domain) → Tight d → HoleFree d → (k : ℕ) → k < 3 → (v : ℤ) → Within (VALUE + 1) v → HoleFree (applied d k v)
 applied-free d t free zero h v near = raised-free d t free v near
@@ -133,7 +131,7 @@ applied-words d t free (suc (suc zero)) h v near =
     lowered-words (tightenedLower d v) (lower-tight d v t) (raised-free d t free v near) v ∙ ap (λ (w : BoundWords). appliedWords w 1 v) (raised-words d t free v)
 applied-words d t free (suc (suc (suc k))) h v near = absurd (omega arith)
 
--- What the words tell ---------------------------------------------------------------------------------------------------------------
+-- What the words tell ----------------------------------------------------------------------------------------------------------
 
 -- the bounds have crossed where their words have
 pub words-consistent : (d : Domain) → Tight d → HoleFree d → consistentWords (wordsOf d) ≡ consistent d

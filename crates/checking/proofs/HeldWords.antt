@@ -1,35 +1,32 @@
 -- The words of a state's bounds: an atom that makes no hole makes of them what it makes of the state.
 use mathlib.Core.Path.{_≡_, refl, sym, ap, ap₂, _∙_, subst}
-use mathlib.Core.Logic.{_⊎_, inl, inr}
-use mathlib.Core.Bool.{Bool, true, false, cond, _||_}
-use mathlib.Core.List.{List, [], _∷_}
+use mathlib.Core.Bool.{Bool, true, false}
+use mathlib.Core.List.{List, _∷_}
 use Prim.Native.Nat.{ℕ, zero, suc, _+_, _≤_, _<_}
 use native.Mathlib.Omega.{arith}
-use borrow.Author.Tests.{eqb-true, eqb-false, leb-false}
-use lib.Dec.{leb, eqb}
-use lib.IntN.{ℤ}
-use lib.ListN.{length, getD, set, replicate, length-set, length-replicate, getD-replicate}
+use native.Mathlib.Decide.{ℕ-discrete}
+use borrow.Author.Tests.{leb-false}
+use lib.Dec.{leb}
+use lib.ListN.{length, set, replicate, length-set, length-replicate, getD-replicate}
 use lib.Seq.{getD-set-same, getD-set-other}
 use Rattle.integers.specs.Limits.{VARIABLES, TASKS, VALUE}
 use Rattle.integers.specs.FilledLists.{filled}
 use Rattle.integers.specs.WholeNumbers.{Within}
-use Rattle.integers.proofs.Bools.{bool, or-false}
+use Rattle.integers.proofs.Bools.{or-false}
 use Rattle.integers.proofs.FilledLists.{getD-fresh}
 use Rattle.scheduling.specs.Scheduling.{Atom}
-use Rattle.checking.specs.declared.int_ext.IntExt.the-variants.{Int, NegativeInf, PositiveInf}
 use Rattle.checking.specs.declared.domain.Domain.{Domain}
 use Rattle.checking.specs.declared.domain.Effect.the-variants.{Narrowed, Emptied}
 use Rattle.checking.specs.declared.domain.Reduced.{Reduced}
 use Rattle.checking.specs.declared.bound_words.BoundWords.{BoundWords}
-use Rattle.checking.specs.declared.start_bounds.Bounds.{Bounds}
 use Rattle.checking.specs.declared.start_bounds.TaskBounds.{TaskBounds}
 use Rattle.checking.specs.declared.variable_state.VariableState.{VariableState}
 use Rattle.checking.specs.declared.variable_state.Application.the-variants.{Consistent, Contradiction}
-use Rattle.checking.specs.declared.variable_state.Applied.{Applied}
-use Rattle.checking.specs.Domains.{allIntegers, consistent, applied, needsRoom, settled, reduced, Tight}
+use Rattle.checking.specs.Domains.{allIntegers, consistent, applied, settled, reduced, Tight}
 use Rattle.checking.specs.BoundWords.{makesHole, wordsOf, appliedWords, consistentWords, taskBoundsOfWords, wordsAt, boundsOfWords, HoleFree, HeldWords}
 use Rattle.checking.specs.States.{noDomain, domainAt, put, emptyState, stepped}
-use Rattle.checking.specs.TaskBounds.{taskBounds, boundsAt, boundsOf}
+use Rattle.checking.specs.TaskBounds.{boundsAt, boundsOf}
+use Rattle.checking.proofs.BoundLimits.{no-int, no-int′}
 use Rattle.checking.proofs.BoundWords.{applied-free, applied-words, words-consistent, words-bounds}
 use Rattle.checking.proofs.Bounds.{bounds-at}
 use Rattle.checking.proofs.NarrowedDomains.{applied-tight}
@@ -41,16 +38,13 @@ pub no-hole : (a : Atom) (rest : List Atom) → makesHole (a ∷ rest) ≡ false
 unfolding makesHole
 no-hole a rest e = let (p, q) = or-false (leb 3 (a .kind)) (makesHole rest) e in (leb-false 3 (a .kind) p, q)
 
--- Without bounds ----------------------------------------------------------------------------------------------------------------------
+abbrev pair : ℕ → ℕ → BoundWords
+pair l u = record { lower = l; upper = u }
 
-no-value : (z : ℤ) → NegativeInf ≡ Int z → ⊥
-no-value z e = let q : _≡_ {A = ℕ} 0 1 = cc in omega arith
-
-no-value′ : (z : ℤ) → PositiveInf ≡ Int z → ⊥
-no-value′ z e = let q : _≡_ {A = ℕ} 0 1 = cc in omega arith
+-- Without bounds ---------------------------------------------------------------------------------------------------------------
 
 all-free : HoleFree allIntegers
-all-free = record { none = refl; lower = λ u e. absurd (no-value u e); upper = λ u e. absurd (no-value′ u e) }
+all-free = record { none = refl; lower = λ u e. absurd (no-int u e); upper = λ u e. absurd (no-int′ u e) }
 
 pub none-held : (lower upper : List ℕ) → lower ≡ replicate VARIABLES 0 → upper ≡ replicate VARIABLES 0 → HeldWords emptyState lower upper
 none-held lower upper p q = record {
@@ -58,13 +52,13 @@ none-held lower upper p q = record {
   upper-size = ap length q ∙ length-replicate {A = ℕ} VARIABLES 0;
   accepted = empty-accepted;
   free = λ x h. subst HoleFree (sym (any x h)) all-free;
-  words = λ x h. ap₂ (λ (l u : List ℕ). wordsAt l u x) p q ∙ ap₂ (λ (l u : ℕ). record { lower = l; upper = u }) (getD-fresh 0 VARIABLES x) (getD-fresh 0 VARIABLES x) ∙ ap wordsOf (sym (any x h));
+  words = λ x h. ap₂ (λ (l u : List ℕ). wordsAt l u x) p q ∙ ap₂ pair (getD-fresh 0 VARIABLES x) (getD-fresh 0 VARIABLES x) ∙ ap wordsOf (sym (any x h));
 }
   where
     any : (x : ℕ) → x < VARIABLES → domainAt emptyState x ≡ allIntegers
     any x h = getD-replicate VARIABLES x allIntegers noDomain h
 
--- One atom ----------------------------------------------------------------------------------------------------------------------------
+-- One atom ---------------------------------------------------------------------------------------------------------------------
 
 module _ (s : VariableState) (lower upper : List ℕ) (held : HeldWords s lower upper) (a : Atom) (known : a .variable < VARIABLES) (kind : a .kind < 3) (near : Within (VALUE + 1) (a .value)) where
   abbrev d : Domain
@@ -112,22 +106,34 @@ module _ (s : VariableState) (lower upper : List ℕ) (held : HeldWords s lower 
         let r : Reduced = record { effect = Narrowed; domain = d′ } in
         stepped-is s a r (narrows (leaves e)) ∙ when-narrowed s a r refl
 
-    stored : (x : ℕ) → x < VARIABLES → (eqb x (a .variable) ≡ true) ⊎ (eqb x (a .variable) ≡ false)
-        → HoleFree (domainAt (put s (a .variable) d′) x) × (wordsAt (set lower (a .variable) (w .lower)) (set upper (a .variable) (w .upper)) x ≡ wordsOf (domainAt (put s (a .variable) d′) x))
-    stored x h (inl y) = subst
-        (λ (i : ℕ). HoleFree (domainAt (put s (a .variable) d′) i) × (wordsAt (set lower (a .variable) (w .lower)) (set upper (a .variable) (w .upper)) i ≡ wordsOf (domainAt (put s (a .variable) d′) i)))
-        (sym (eqb-true x (a .variable) y))
-        (let same = put-same s (a .variable) d′ (omega (arith, held .accepted .size)) in (
-          subst HoleFree (sym same) free′,
-          ap₂ (λ (l u : ℕ). record { lower = l; upper = u }) (getD-set-same lower (a .variable) (w .lower) 0 (omega (arith, held .lower-size)))
-              (getD-set-same upper (a .variable) (w .upper) 0 (omega (arith, held .upper-size))) ∙ words′ ∙ ap wordsOf (sym same),
-        ))
-    stored x h (inr n) =
-        let other = put-other s (a .variable) x d′ (eqb-false x (a .variable) n) in (
-          subst HoleFree (sym other) (held .free x h),
-          ap₂ (λ (l u : ℕ). record { lower = l; upper = u }) (getD-set-other lower (a .variable) x (w .lower) 0 (eqb-false x (a .variable) n))
-              (getD-set-other upper (a .variable) x (w .upper) 0 (eqb-false x (a .variable) n)) ∙ held .words x h ∙ ap wordsOf (sym other),
-        )
+    abbrev s′ : VariableState
+    s′ = put s (a .variable) d′
+
+    abbrev lower′ : List ℕ
+    lower′ = set lower (a .variable) (w .lower)
+
+    abbrev upper′ : List ℕ
+    upper′ = set upper (a .variable) (w .upper)
+
+    at-variable : HoleFree (domainAt s′ (a .variable)) × (wordsAt lower′ upper′ (a .variable) ≡ wordsOf (domainAt s′ (a .variable)))
+    at-variable =
+        let same = put-same s (a .variable) d′ (omega (arith, held .accepted .size)) in
+        let l = getD-set-same lower (a .variable) (w .lower) 0 (omega (arith, held .lower-size)) in
+        let u = getD-set-same upper (a .variable) (w .upper) 0 (omega (arith, held .upper-size)) in
+        (subst HoleFree (sym same) free′, ap₂ pair l u ∙ words′ ∙ ap wordsOf (sym same))
+
+    elsewhere : (x : ℕ) → x < VARIABLES → (x ≡ a .variable → ⊥) → HoleFree (domainAt s′ x) × (wordsAt lower′ upper′ x ≡ wordsOf (domainAt s′ x))
+    elsewhere x h n =
+        let other = put-other s (a .variable) x d′ n in
+        let l = getD-set-other lower (a .variable) x (w .lower) 0 n in
+        let u = getD-set-other upper (a .variable) x (w .upper) 0 n in
+        (subst HoleFree (sym other) (held .free x h), ap₂ pair l u ∙ held .words x h ∙ ap wordsOf (sym other))
+
+    stored : (x : ℕ) → x < VARIABLES → HoleFree (domainAt s′ x) × (wordsAt lower′ upper′ x ≡ wordsOf (domainAt s′ x))
+    stored x h = elim (ℕ-discrete x (a .variable)) [
+      | yes e ↦ subst (λ (i : ℕ). HoleFree (domainAt s′ i) × (wordsAt lower′ upper′ i ≡ wordsOf (domainAt s′ i))) (sym e) at-variable
+      | no n ↦ elsewhere x h n
+    ]
 
     -- else they are the bounds of the state after it
     pub held-next : HeldWords (put s (a .variable) d′) (set lower (a .variable) (w .lower)) (set upper (a .variable) (w .upper))
@@ -135,11 +141,11 @@ module _ (s : VariableState) (lower upper : List ℕ) (held : HeldWords s lower 
       lower-size = length-set lower (a .variable) (w .lower) ∙ held .lower-size;
       upper-size = length-set upper (a .variable) (w .upper) ∙ held .upper-size;
       accepted = put-accepted s (a .variable) d′ (held .accepted) known (record { tight = tight′; ordered = leaves e });
-      free = λ x h. stored x h (bool (eqb x (a .variable))) .0;
-      words = λ x h. stored x h (bool (eqb x (a .variable))) .1;
+      free = λ x h. stored x h .0;
+      words = λ x h. stored x h .1;
     }
 
--- The tasks' bounds ----------------------------------------------------------------------------------------------------------------------
+-- The tasks' bounds ------------------------------------------------------------------------------------------------------------
 
 filled-same : {A : Type 0} (f g : ℕ → A) (l : List A) (n : ℕ) → ((k : ℕ) → k < n → f k ≡ g k) → filled f n l ≡ filled g n l
 unfolding filled

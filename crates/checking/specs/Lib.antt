@@ -8,3 +8,4 @@ pub mod Shuffles
 pub mod Bounds
 pub mod TaskBounds
 pub mod BoundWords
+pub mod PreparedBounds

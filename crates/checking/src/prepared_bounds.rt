@@ -1,4 +1,4 @@
-// The bounds that lists of atoms leave to the tasks' starts. Lists that make no hole need no domains: their bounds are words.
+// The bounds that lists of atoms leave to the tasks' starts. Lists that make no hole are their bounds, held as words; others are applied to domains.
 use crate::atomic_constraint::given_at;
 use crate::atomic_constraint::lists_are_accepted;
 use crate::bound_words::BoundWords;
@@ -18,8 +18,8 @@ ghost use Rattle.integers.specs.Limits.{TASKS, VARIABLES};
 ghost use Rattle.scheduling.specs.Scheduling.{given};
 ghost use Rattle.checking.specs.Atoms.{atomsOf, consequentOf};
 ghost use Rattle.checking.specs.BoundWords.{makesHole, Applicable, WithoutHoles, HeldWords, boundsOfWords};
-ghost use Rattle.checking.specs.States.{emptyState, applyAll, prepared};
-ghost use Rattle.checking.specs.TaskBounds.{boundsOf};
+ghost use Rattle.checking.specs.PreparedBounds.{BoundsPrepared};
+ghost use Rattle.checking.specs.States.{prepared};
 
 // The answer of the lists, and the bounds that their state leaves to the tasks.
 pub struct PreparedBounds {
@@ -27,7 +27,7 @@ pub struct PreparedBounds {
     pub bounds: Bounds,
 }
 
-// Whether an atom can make a hole: one that is !=, the consequent negated.
+// Whether an atom can make a hole. The consequent is negated, so that = makes one there.
 fn lists_make_hole(premises: &[i32], consequent: &[i32]) -> bool
     requires { ⌜ Applicable (now premises) (now consequent) ⌝ }
     ensures { λ r. ⌜ r ≡ makesHole (given (atomsOf (now (premises .entry))) (consequentOf (now (consequent .entry)))) ⌝ }
@@ -58,7 +58,7 @@ fn are_without_holes(premises: &[i32], consequent: &[i32]) -> bool
     !lists_make_hole(premises, consequent)
 }
 
-// Apply the premises and, if present, the negated consequent, one after the other, to words without bounds.
+// Apply the premises and, if present, the negated consequent, one after the other, to words without bounds. A contradiction leaves the words before it.
 fn apply_all(
     lower: &mut [u32; VARIABLES],
     upper: &mut [u32; VARIABLES],
@@ -117,8 +117,7 @@ fn bounds_of_words(lower: &[u32; VARIABLES], upper: &[u32; VARIABLES], n: usize)
 // The answer and the bounds of lists that make no hole.
 fn prepare_words(premises: &[i32], consequent: &[i32], n: usize) -> PreparedBounds
     requires { ⌜ (n ≤ TASKS) × WithoutHoles (now premises) (now consequent) ⌝ }
-    ensures { λ r. ⌜ (r .answer ≡ prepared (now (premises .entry)) (now (consequent .entry)) .answer)
-        × (r .bounds ≡ boundsOf (prepared (now (premises .entry)) (now (consequent .entry)) .state) n) ⌝ }
+    ensures { λ r. ⌜ BoundsPrepared (now (premises .entry)) (now (consequent .entry)) n r ⌝ }
 {
     let mut lower = [0u32; VARIABLES];
     let mut upper = [0u32; VARIABLES];
@@ -132,8 +131,7 @@ fn prepare_words(premises: &[i32], consequent: &[i32], n: usize) -> PreparedBoun
 // The answer of the premises and the negated consequent, and the bounds that their state leaves to the first n variables.
 pub fn prepare_bounds(premises: &[i32], consequent: &[i32], n: usize) -> PreparedBounds
     requires { ⌜ n ≤ TASKS ⌝ }
-    ensures { λ r. ⌜ (r .answer ≡ prepared (now (premises .entry)) (now (consequent .entry)) .answer)
-        × (r .bounds ≡ boundsOf (prepared (now (premises .entry)) (now (consequent .entry)) .state) n) ⌝ }
+    ensures { λ r. ⌜ BoundsPrepared (now (premises .entry)) (now (consequent .entry)) n r ⌝ }
 {
     if are_without_holes(premises, consequent) {
         return prepare_words(premises, consequent, n);

@@ -43,17 +43,17 @@ module _ (c : tie.After-bounds) where
   s = prepared ps cs .state
 
   abbrev consistent : prepared ps cs .answer ≡ Consistent
-  consistent = sym (applied .prepare-bounds .ensures .0) ∙ c .before .enum-told2 .given .1
+  consistent = sym (applied .prepare-bounds .ensures .answer) ∙ c .before .enum-told2 .given .1
 
   abbrev can : let n = created .create .result .«record» in
       Judgeable ds (lowerAs Forward ds s) (upperAs Forward ds s) (n .count) (applied .prepare-bounds .result .bounds) (n .durations)
   can = can-judge ds ps cs (start .args .direction) (created .create .result) (created .create .ensures) (applied .before .before .enum-told .given .1) consistent
-      (applied .prepare-bounds .result .bounds) (applied .prepare-bounds .ensures .1)
+      (applied .prepare-bounds .result .bounds) (applied .prepare-bounds .ensures .bounds)
 
   abbrev can-mirrored : let n = created .create .result .«record» in (b : Bounds) → b ≡ mirroredBounds (applied .prepare-bounds .result .bounds) (n .durations) (n .count)
       → Judgeable ds (lowerAs Mirrored ds s) (upperAs Mirrored ds s) (n .count) b (n .durations)
   can-mirrored b z = can-judge-mirrored ds ps cs (start .args .direction) (created .create .result) (created .create .ensures) (applied .before .before .enum-told .given .1) consistent
-      (applied .prepare-bounds .result .bounds) b (applied .prepare-bounds .ensures .1) z
+      (applied .prepare-bounds .result .bounds) b (applied .prepare-bounds .ensures .bounds) z
 
   abbrev right : Consequent cs
   right = consequent-right ds ps cs (start .args .direction) (created .create .result) (created .create .ensures) (applied .before .before .enum-told .given .1) consistent
@@ -111,7 +111,7 @@ returns-4 c =
     let m = p .before .before .before .before .create in
     let a = p .before .before .before .before .before .args in
     contradicted (a .durations .now) (a .premises .now) (a .consequent .now) (a .direction) (m .result) (m .ensures) (p .before .before .enum-told .given .1)
-    (c .before .answer .given .0 .0) (sym (p .prepare-bounds .ensures .0) ∙ c .before .answer .given .1)
+    (c .before .answer .given .0 .0) (sym (p .prepare-bounds .ensures .answer) ∙ c .before .answer .given .1)
 
 returns-5 : tie.Need-returns-5
 returns-5 c =
@@ -119,7 +119,7 @@ returns-5 c =
     let m = p .before .before .before .before .create in
     let a = p .before .before .before .before .before .args in
     refused-atoms (a .durations .now) (a .premises .now) (a .consequent .now) (a .direction) (m .result) (m .ensures) (p .before .before .enum-told .given .1)
-    (c .before .answer2 .given .0 .0) (sym (p .prepare-bounds .ensures .0) ∙ c .before .answer2 .given .1)
+    (c .before .answer2 .given .0 .0) (sym (p .prepare-bounds .ensures .answer) ∙ c .before .answer2 .given .1)
 
 pub check-as-spec : {M : Type 1} → statement M
 check-as-spec =

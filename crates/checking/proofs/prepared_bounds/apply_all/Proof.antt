@@ -122,16 +122,18 @@ still c =
     prepared-runs (ps turn) (cs turn) (start .pre .0 .applicable .few) (start .pre .0 .applicable .right) ∙ sym (loop-at c .loop .inv .1 .1 .1 .2)
     ∙ ap (λ (m : List Atom). applyAll m (state-at c)) (atoms c)
 
--- what the call says, of the atom's own value
-said : (c : tie.After-apply Inv-loop μ-loop) → c .apply .result ≡ appliedWords (wordsAt (loop-at c .loop .lower) (loop-at c .loop .upper) (atom c .variable)) (atom c .kind) (atom c .value)
+-- the words that the atom makes of those held
+abbrev made : tie.After-apply Inv-loop μ-loop → BoundWords
+made c = appliedWords (wordsAt (loop-at c .loop .lower) (loop-at c .loop .upper) (atom c .variable)) (atom c .kind) (atom c .value)
+
+said : (c : tie.After-apply Inv-loop μ-loop) → c .apply .result ≡ made c
 said c =
     let a = read-at c .given-at .result in
     let small = c .before .before .before .struct-told .given .1 .1 .0 .1 in
     c .apply .ensures ∙ ap (appliedWords (wordsAt (loop-at c .loop .lower) (loop-at c .loop .upper) (a .identifier)) (kindOf (a .comparison))) (back-of w32 (a .value) small)
 
-crosses : (c : tie.After-is-consistent Inv-loop μ-loop) {t : Bool} → c .is-consistent .result ≡ t
-    → consistentWords (appliedWords (wordsAt (loop-at (c .before) .loop .lower) (loop-at (c .before) .loop .upper) (atom (c .before) .variable)) (atom (c .before) .kind) (atom (c .before) .value)) ≡ t
-crosses c e = ap consistentWords (sym (said (c .before))) ∙ sym (c .is-consistent .ensures) ∙ e
+answered : (c : tie.After-is-consistent Inv-loop μ-loop) {t : Bool} → c .is-consistent .result ≡ t → consistentWords (made (c .before)) ≡ t
+answered c e = ap consistentWords (sym (said (c .before))) ∙ sym (c .is-consistent .ensures) ∙ e
 
 returns : tie.Need-returns Inv-loop μ-loop
 returns c =
@@ -140,7 +142,7 @@ returns c =
     let l = loop-at b .loop in
     let a = atom b in
     let e = still b ∙ all-contradiction s a (rest b) (a .variable) s
-    (held-contradiction s (l .lower) (l .upper) (held-at b) a (known (read-at b)) (free b .0) (value (read-at b)) (crosses (c .before) (not-true _ (c .if1 .taken)))) in
+    (held-contradiction s (l .lower) (l .upper) (held-at b) a (known (read-at b)) (free b .0) (value (read-at b)) (answered (c .before) (not-true _ (c .if1 .taken)))) in
     (ap (λ (r : Applied). r .answer) (sym e), subst (λ (r : Applied). HeldWords (r .state) (l .lower) (l .upper)) (sym e) (held-at b))
 
 mul-lower : tie.Need-mul-lower Inv-loop μ-loop
@@ -162,7 +164,7 @@ loop-again c =
     let l = loop-at b .loop in
     let a = atom b in
     let turn = here (read-at b .before) in
-    let y = crosses (c .before) (not-false _ (c .if1 .left)) in
+    let y = answered (c .before) (not-false _ (c .if1 .left)) in
     let t : VariableState = put s (a .variable) (applied (domainAt s (a .variable)) (a .kind) (a .value)) in
     let h = held-next s (l .lower) (l .upper) (held-at b) a (known (read-at b)) (free b .0) (value (read-at b)) y in
     let e = held-consistent s (l .lower) (l .upper) (held-at b) a (known (read-at b)) (free b .0) (value (read-at b)) y in

@@ -1,6 +1,5 @@
 -- Test by test: each that fails answers false, and past all three the lists make no hole.
-use mathlib.Core.Path.{_≡_, sym, _∙_}
-use mathlib.Core.Bool.{true}
+use mathlib.Core.Path.{sym, _∙_}
 use native.Mathlib.Omega.{arith}
 use borrow.Author.Tests.{not-true, not-false}
 use Rattle.integers.proofs.Ints.{never}

@@ -1,8 +1,8 @@
 -- Either way the bounds are those of the prepared state: of its words, or of its domains.
-use mathlib.Core.Path.{_≡_, sym, ap, _∙_, subst}
+use mathlib.Core.Path.{sym, ap, _∙_, subst}
 use Rattle.checking.specs.declared.variable_state.Applied.{Applied}
 use Rattle.checking.specs.declared.variable_state.VariableState.{VariableState}
-use Rattle.checking.specs.States.{AcceptedState, prepared}
+use Rattle.checking.specs.States.{AcceptedState}
 use Rattle.checking.specs.TaskBounds.{boundsOf}
 use Rattle.checking.proofs.PreparedStates.{prepared-accepted}
 use Rattle.checking.proofs.StateNumbers.{applied-apart}
@@ -22,7 +22,10 @@ returns-2 : tie.Need-returns-2
 returns-2 c =
     let s = c .before .before .before .before in
     let as-prepared = c .before .prepare-for-conflict-check .ensures .0 in
-    (ap (λ (r : Applied). r .answer) (applied-apart as-prepared), c .bounds-of .ensures ∙ ap (λ (t : VariableState). boundsOf t (s .args .n)) (as-prepared .state))
+    record {
+      answer = ap (λ (r : Applied). r .answer) (applied-apart as-prepared);
+      bounds = c .bounds-of .ensures ∙ ap (λ (t : VariableState). boundsOf t (s .args .n)) (as-prepared .state);
+    }
 
 pub prepare-bounds-spec : {M : Type 1} → statement M
 prepare-bounds-spec =

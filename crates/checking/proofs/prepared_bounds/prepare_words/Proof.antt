@@ -11,7 +11,7 @@ apply-all-requires c κs = (c .before .before .pre .1, (refl, refl))
 returns : tie.Need-returns
 returns c =
     let applied = c .before .before .before .apply-all .ensures in
-    (applied .0, c .bounds-of-words .ensures ∙ held-bounds _ _ _ _ (c .before .before .before .before .before .before .pre .0) (applied .1))
+    record { answer = applied .0; bounds = c .bounds-of-words .ensures ∙ held-bounds _ _ _ _ (c .before .before .before .before .before .before .pre .0) (applied .1) }
 
 pub prepare-words-spec : {M : Type 1} → statement M
 prepare-words-spec = tie.close (tie.spec apply-all-requires (λ c κs. search needs) returns)
