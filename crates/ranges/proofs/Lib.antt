@@ -6,3 +6,5 @@ pub mod BarsFrom
 pub mod TakenApart
 pub mod LocalRows
 pub mod CountedLoops
+pub mod ValueCalls
+pub mod LocalCells

@@ -76,14 +76,14 @@ rangesBor κ b o γ ys = fbor κ (Held T.the-row (length ys) b o γ)
 
 -- ---- a function that reads lent ranges: its result, and what it says of it
 module _ (R : RattleType) (Said : List Range → R .Denot → Type 0) where
-  abbrev reader : Ended
+  abbrev pub reader : Ended
   reader = record {
     signature = record { lifetimes = 1; outlives = []; params = shrSliceOf (0 ∷ []) tt (plain (λ _. T.the-row)) ∷ []; result = plain (λ _. R) };
     kept = (yes, tt);
   }
 
   module _ {M : Type 1} (𝓤 : URA M) (H : Heap 𝓤) (A : Atoms 𝓤) where
-    abbrev reading : Clauses 𝓤 reader
+    abbrev pub reading : Clauses 𝓤 reader
     reading κs a = record { ghost = Unit {0}; requires = λ _. emp 𝓤; ensures = λ _ r e. fact 𝓤 (Said (now (a .0)) r) }
 
     abbrev pub Reads : Contract 𝓤
