@@ -13,7 +13,7 @@ use mir.Syntax.{Ty, Opd as Operand, Body, valueLocal, w64, tyInt, tyBool, tyPtr,
 use mir.Table.{spell}
 use mir.Val.{Val, vbool}
 use base.Logic.{SProp, ent}
-use base.Fml.{Lft, GName, Share, fat, froom, flft}
+use base.Fml.{Lft, Share, fat, froom, flft}
 use prog.Wp.{Heap, Env, afterSeq, afterTurn, Calls, Loops, Wp, atReturn, Tables}
 use ghost.Atoms.{Atoms}
 use contract.Running.{givenOf, tables, tablesOf}
@@ -25,6 +25,7 @@ use denote.Laws.{Is}
 use denote.Memory.{pointee}
 use denote.Plain.{bool-makes, bool-lawful}
 use denote.Builtin.{bool}
+use denote.Ref.{RefT, now}
 use denote.Slice.{Room}
 use denote.Steps.{only, owned}
 use denote.Struct.Laws as LL
@@ -38,8 +39,8 @@ use Rattle.ranges.proofs.BarsFrom.{all-on, all-end}
 use Rattle.ranges.proofs.LocalCells.{all-die, rooms, frees-all}
 use Rattle.ranges.proofs.ValueCalls.{Computes, calls-computing}
 use Rattle.ranges.proofs.starts.Lending.{mach, Reads}
-use Rattle.ranges.proofs.starts.ReaderWalk.{slice, Begun, Shown, meets}
-use Rattle.ranges.proofs.starts.ReadLoop.{Loop, Placed, past-copy, Before, Copied, Left, goes-on, reads-all}
+use Rattle.ranges.proofs.starts.ReaderWalk.{slice, Exits, Begun, Shown, meets}
+use Rattle.ranges.proofs.starts.ReadLoop.{Loop, Typed, past-copy, Before, Copied, Left, Acts, Ends, goes-on, reads-all}
 use Rattle.ranges.proofs.range.Range as T
 use Rattle.ranges.proofs.range.Range.Laws as T′
 use Rattle.ranges.proofs.bars.bars_fit.Symbol as bars-fit-def
@@ -78,8 +79,11 @@ module _ {M : Type 1} {𝓤 : URA M} {H : Heap 𝓤} {A : Atoms 𝓤} {K : Type 
   unless t o held on = first t $ branches t o held (λ z. skips t $ record { prf = on z .prf })
 
 module _ {M : Type 1} (𝓤 : URA M) (H : Heap 𝓤) (A : Atoms 𝓤) (W : Given 𝓤 H A) (𝓣 : Tables 𝓤 H) (known : Triple 𝓤 (𝓣 .C #bars-fit) (Computes T.the-row bool Fit 𝓤 H A))
-    (κ : Lft) (q : Share) (b o : ℕ) (γ : GName) (ys : List Range) where
-  module _ (Post : Val → SProp 𝓤) (exits : (v : Val) (r : Bool) → AllFit ys r → ent 𝓤 (⋆ 𝓤 H A (‵ (flft κ q) ∷ ‵ (bool .own r (v ∷ [])) ∷ [])) (Post v)) (g : Room T.the-row (length ys)) (l : ℕ → ℕ) where
+    (κ : Lft) (q : Share) (x : RefT (List Range)) where
+  abbrev ys : List Range
+  ys = now x
+
+  module _ (Post : Val → SProp 𝓤) (exits : Exits 𝓤 H A bool AllFit κ q x Post) (g : Room T.the-row (length ys)) (l : ℕ → ℕ) where
     abbrev En : Env 𝓤 H
     En = (tyBool, l 0) ∷ (slice, l 1) ∷ (tyInt w64, l 2) ∷ (tyInt w64, l 3) ∷ (tyBool, l 4) ∷ (tyInt w64, l 5) ∷ (tyPtr, l 6) ∷ (range, l 7) ∷ (tyBool, l 8) ∷ []
 
@@ -89,16 +93,10 @@ module _ {M : Type 1} (𝓤 : URA M) (H : Heap 𝓤) (A : Atoms 𝓤) (W : Given
       at = l;
       range = range;
       index = 3;
-      count = 2;
       test = 4;
-      scaled = 5;
-      pointer = 6;
-      copied = 7;
       κ = κ;
       q = q;
-      b = b;
-      o = o;
-      ys = ys;
+      ranges = x;
       n = length ys;
       entries = λ _. ‵ (froom tyBool (l 0) 0) ∷ ‵ (froom tyBool (l 8) 0) ∷ ‵ (all-die En) ∷ [];
       Known = λ i. allBarsFit (drop i ys) ≡ allBarsFit ys;
@@ -107,8 +105,8 @@ module _ {M : Type 1} (𝓤 : URA M) (H : Heap 𝓤) (A : Atoms 𝓤) (W : Given
       Post = Post;
     }
 
-    placed : Placed L
-    placed = record { index-at = refl; count-at = refl; test-at = refl; scaled-at = refl; pointer-at = refl; copied-at = refl; slice-at = refl; range-is = refl }
+    typed : Typed L
+    typed = record { index-at = refl; count-at = refl; test-at = refl; scaled-at = refl; pointer-at = refl; copied-at = refl; slice-at = refl; range-is = refl }
 
     -- from the order of the loop's entries to that of the locals
     abbrev order : List ℕ
@@ -119,8 +117,7 @@ module _ {M : Type 1} (𝓤 : URA M) (H : Heap 𝓤) (A : Atoms 𝓤) (W : Given
     answers t r e = frees-all t En $ owned t bool (Is bool) (bool-makes 𝓤 H A W) r _ refl $ move t (1 ∷ 0 ∷ []) $ by t (exits (vbool r) r e)
 
     -- what a turn does with the copy of range i
-    acts : (i : ℕ) (X : SProp 𝓤) → i < length ys → L .Known i → Is T.the-row (getD ys i anyRange) (mach (getD ys i anyRange) ∷ []) → (L .Known (suc i) → ent 𝓤 (⋆ 𝓤 H A (Before L (suc i))) X)
-        → ent 𝓤 (⋆ 𝓤 H A (Copied L i)) (Wp 𝓤 H (𝓣 .C) (𝓣 .Λ) En (L .turn) (afterTurn 𝓤 H X (Left L 𝓣)))
+    acts : Acts 𝓤 H A 𝓣 L
     unfolding afterTurn
     acts i X small same ge k =
         qed W (Copied L i) ∵ exec ! (𝓣 .C) (𝓣 .Λ) En (L .turn) (anyQ (afterTurn 𝓤 H X (Left L 𝓣))) $
@@ -134,25 +131,25 @@ module _ {M : Type 1} (𝓤 : URA M) (H : Heap 𝓤) (A : Atoms 𝓤) (W : Given
         forget ! 0 refl $ forget ! 1 refl $ forget ! 2 refl $ forget ! 3 refl $ forget ! 4 refl $ forget ! 5 refl $ forget ! 6 refl $ forget ! 9 refl $ forget ! 10 refl $
         keep ! order $ answers ! false (sym (sym same ∙ all-on ys i small ∙ and-left _ _ (failed (barsFit elem) z))))
         (λ z. forget ! 10 refl $
-        by ! (goes-on 𝓤 H A W 𝓣 L placed (omega arith) g i X _ _ _ _ small (k (sym (all-on ys i small ∙ and-is _ _ (passed (barsFit elem) z)) ∙ same)))))
+        by ! (goes-on 𝓤 H A W 𝓣 L typed (omega arith) g i X _ _ _ _ small (k (sym (all-on ys i small ∙ and-is _ _ (passed (barsFit elem) z)) ∙ same)))))
       where
         elem : Range
         elem = getD ys i anyRange
 
     -- no range is left
-    ends : L .Known (length ys) → ent 𝓤 (⋆ 𝓤 H A (Before L (length ys))) (Wp 𝓤 H (𝓣 .C) (𝓣 .Λ) En t-4 (atReturn 𝓤 H En Post))
+    ends : Ends 𝓤 H A 𝓣 L
     ends same =
         qed W (Before L (length ys)) ∵ exec ! (𝓣 .C) (𝓣 .Λ) En t-4 (atRet En Post) $ assigns ! (of-opd ! (true-lit !)) (from ! (stop !)) (init ! 9 refl (tt, tt)) $
         returns ! (look ! 9 refl) $ forget ! 0 refl $ forget ! 5 refl $ forget ! 6 refl $ forget ! 9 refl $ keep ! order $ answers ! true (sym (sym same ∙ all-end ys))
 
-  shown : Shown bool AllFit tyBool valueLocal valueLocal (drop 2 locals) t-1 𝓤 H A W 𝓣 κ q b o γ ys
+  shown : Shown bool AllFit tyBool valueLocal valueLocal (drop 2 locals) t-1 𝓤 H A W 𝓣 κ q x
   shown Post exits g l =
-      qed W (Begun bool AllFit tyBool valueLocal valueLocal (drop 2 locals) t-1 𝓤 H A W 𝓣 κ q b o γ ys l) ∵ exec ! (𝓣 .C) (𝓣 .Λ) (En Post exits g l) t-1 (atRet (En Post exits g l) Post) $
+      qed W (Begun bool AllFit tyBool valueLocal valueLocal (drop 2 locals) t-1 𝓤 H A W 𝓣 κ q x l) ∵ exec ! (𝓣 .C) (𝓣 .Λ) (En Post exits g l) t-1 (atRet (En Post exits g l) Post) $
       assigns ! (of-opd ! (load ! (from ! (fld ! refl (stop !))) (look-in ! 1 (sub ! 1 refl (whole !))))) (from ! (stop !)) (init ! 2 refl (tt, record { fits = g .0 })) $
       assigns ! (of-opd ! (lit ! tt)) (from ! (stop !)) (init ! 3 refl (tt, record { fits = lit< tt })) $ move ! (11 ∷ []) $ fsplit ! $ leave ! $ fsplit ! $ leave ! $
       -- [the borrow; _0; …; _8; all die; the token]
       keep ! (4 ∷ 8 ∷ 6 ∷ 7 ∷ 5 ∷ 3 ∷ 2 ∷ 11 ∷ 0 ∷ 1 ∷ 9 ∷ 10 ∷ []) $
-      by ! (reads-all 𝓤 H A W 𝓣 (L Post exits g l) (placed Post exits g l) (omega arith) g (acts Post exits g l) (ends Post exits g l) refl)
+      by ! (reads-all 𝓤 H A W 𝓣 (L Post exits g l) (typed Post exits g l) (omega arith) g (acts Post exits g l) (ends Post exits g l) refl)
 
 pub all-bars-fit-spec : {M : Type 1} → stated.statement M
 unfolding code.routine tablesOf

@@ -14,7 +14,7 @@ use mir.Syntax.{Ty, valueLocal, w32, w64, tyInt, tyBool, tyPtr}
 use mir.Table.{spell}
 use mir.Val.{Val, vint, vptr, ofZ, hasTy, WT}
 use base.Logic.{SProp, ent}
-use base.Fml.{Lft, GName, Share, fat, froom, flft}
+use base.Fml.{Lft, Share, fat, froom, flft}
 use prog.Wp.{Heap, Env, afterTurn, Wp, atReturn, Tables}
 use ghost.Atoms.{Atoms}
 use contract.Running.{givenOf, tables, tablesOf}
@@ -28,6 +28,7 @@ use denote.Plain.{uint-makes, uint-lawful}
 use denote.Array.{array-typed}
 use denote.Builtin.{i32, usize}
 use denote.Signed.{sint-vals, sint-tells, sint-lawful, sint-makes}
+use denote.Ref.{RefT, now}
 use denote.Slice.{Room}
 use denote.Index.{place-is, row, elem-out, elem-put}
 use denote.Steps.{only, owned}
@@ -44,8 +45,8 @@ use Rattle.ranges.proofs.LocalCells.{all-die, frees-all}
 use Rattle.ranges.proofs.LocalRows.{Numbers, numbers, machine, zeros, as-row, as-array}
 use Rattle.ranges.proofs.ValueCalls.{Computes, calls-computing}
 use Rattle.ranges.proofs.starts.Lending.{mach, machS, Reads, Taken}
-use Rattle.ranges.proofs.starts.ReaderWalk.{slice, Begun, Shown, meets}
-use Rattle.ranges.proofs.starts.ReadLoop.{Loop, Placed, past-copy, Before, Copied, Left, goes-on, reads-all}
+use Rattle.ranges.proofs.starts.ReaderWalk.{slice, Exits, Begun, Shown, meets}
+use Rattle.ranges.proofs.starts.ReadLoop.{Loop, Typed, past-copy, Before, Copied, Left, Acts, Ends, goes-on, reads-all}
 use Rattle.ranges.proofs.range.Range as T
 use Rattle.ranges.proofs.range.Range.Laws as T′
 use Rattle.ranges.proofs.starts.Starts as S
@@ -88,7 +89,10 @@ unfolding startsOf
 apart-is ys = refl
 
 module _ {M : Type 1} (𝓤 : URA M) (H : Heap 𝓤) (A : Atoms 𝓤) (W : Given 𝓤 H A) (𝓣 : Tables 𝓤 H) (known : Triple 𝓤 (𝓣 .C #fitting) (Computes usize usize Fitting 𝓤 H A))
-    (κ : Lft) (q : Share) (b o : ℕ) (γ : GName) (ys : List Range) where
+    (κ : Lft) (q : Share) (x : RefT (List Range)) where
+  abbrev ys : List Range
+  ys = now x
+
   abbrev m : ℕ
   m = length ys
 
@@ -98,7 +102,7 @@ module _ {M : Type 1} (𝓤 : URA M) (H : Heap 𝓤) (A : Atoms 𝓤) (W : Given
   array : (us : List ℤ) → Is Numbers us (machine us ∷ []) → Decided (hasTy numbers (machine us)) × WT (machine us)
   array us is = array-typed i32 (sint-lawful 𝓤 H A W w32 .typed) TASKS us (machine us ∷ []) is .0
 
-  module _ (Post : Val → SProp 𝓤) (exits : (v : Val) (r : Starts) → Taken ys r → ent 𝓤 (⋆ 𝓤 H A (‵ (flft κ q) ∷ ‵ (S.the-row .own r (v ∷ [])) ∷ [])) (Post v)) (g : Room T.the-row m) (l : ℕ → ℕ) where
+  module _ (Post : Val → SProp 𝓤) (exits : Exits 𝓤 H A S.the-row Taken κ q x Post) (g : Room T.the-row m) (l : ℕ → ℕ) where
     abbrev En : Env 𝓤 H
     En = (starts, l 0) ∷ (slice, l 1) ∷ (tyInt w64, l 2) ∷ (numbers, l 3) ∷ (numbers, l 4) ∷ (tyInt w64, l 5) ∷ (range, l 6) ∷ (tyInt w64, l 7) ∷ (tyBool, l 8) ∷ (tyInt w64, l 9) ∷ (tyPtr, l 10)
         ∷ (range, l 11) ∷ (tyPtr, l 12) ∷ (tyPtr, l 13) ∷ (tyPtr, l 14) ∷ (tyPtr, l 15) ∷ (numbers, l 16) ∷ (numbers, l 17) ∷ []
@@ -109,16 +113,10 @@ module _ {M : Type 1} (𝓤 : URA M) (H : Heap 𝓤) (A : Atoms 𝓤) (W : Given
       at = l;
       range = range;
       index = 5;
-      count = 2;
       test = 8;
-      scaled = 9;
-      pointer = 10;
-      copied = 11;
       κ = κ;
       q = q;
-      b = b;
-      o = o;
-      ys = ys;
+      ranges = x;
       n = n;
       entries = λ i. ‵ (row i32 fullShare (es ys i) (l 3) 0) ∷ ‵ (row i32 fullShare (ls ys i) (l 4) 0) ∷ ‵ (froom starts (l 0) 0) ∷ ‵ (froom range (l 6) 0) ∷ ‵ (froom (tyInt w64) (l 7) 0)
           ∷ ‵ (froom tyPtr (l 12) 0) ∷ ‵ (froom tyPtr (l 13) 0) ∷ ‵ (froom tyPtr (l 14) 0) ∷ ‵ (froom tyPtr (l 15) 0) ∷ ‵ (froom numbers (l 16) 0) ∷ ‵ (froom numbers (l 17) 0) ∷ ‵ (all-die En) ∷ [];
@@ -128,12 +126,11 @@ module _ {M : Type 1} (𝓤 : URA M) (H : Heap 𝓤) (A : Atoms 𝓤) (W : Given
       Post = Post;
     }
 
-    placed : Placed L
-    placed = record { index-at = refl; count-at = refl; test-at = refl; scaled-at = refl; pointer-at = refl; copied-at = refl; slice-at = refl; range-is = refl }
+    typed : Typed L
+    typed = record { index-at = refl; count-at = refl; test-at = refl; scaled-at = refl; pointer-at = refl; copied-at = refl; slice-at = refl; range-is = refl }
 
     -- what a turn does with the copy of range i
-    acts : (i : ℕ) (X : SProp 𝓤) → i < n → Unit {0} → Is T.the-row (getD ys i anyRange) (mach (getD ys i anyRange) ∷ []) → (Unit {0} → ent 𝓤 (⋆ 𝓤 H A (Before L (suc i))) X)
-        → ent 𝓤 (⋆ 𝓤 H A (Copied L i)) (Wp 𝓤 H (𝓣 .C) (𝓣 .Λ) En (L .turn) (afterTurn 𝓤 H X (Left L 𝓣)))
+    acts : Acts 𝓤 H A 𝓣 L
     acts i X small _ ge k =
         qed W (Copied L i) ∵ exec ! (𝓣 .C) (𝓣 .Λ) En (L .turn) (anyQ (afterTurn 𝓤 H X (Left L 𝓣))) $
         -- [index; copied; scaled; pointer; test; count; the slice; the token; the borrow; earliest; latest; _0; _6; _7; _12; _13; _14; _15; _16; _17; all die]
@@ -161,7 +158,7 @@ module _ {M : Type 1} (𝓤 : URA M) (H : Heap 𝓤) (A : Atoms 𝓤) (W : Given
         rewrite ! 0 (λ (us : List ℤ). ‵ (row i32 fullShare us (l 4) 0)) (field-more (λ (y : Range). y .latest) refl ys i (omega (arith, taken-fits m)) here) refl $
         -- [latest; earliest; index; …; the borrow; _0; _6; _7; _12; _13; _14; _15; …]
         forget ! 12 refl $ forget ! 14 refl $ forget ! 15 refl $ forget ! 16 refl $ forget ! 17 refl $ move ! (2 ∷ 3 ∷ 4 ∷ 5 ∷ 6 ∷ 7 ∷ 8 ∷ 9 ∷ 10 ∷ 1 ∷ []) $
-        by ! (goes-on 𝓤 H A W 𝓣 L placed (omega (arith, taken-fits m)) g i X _ _ _ _ small (k tt))))
+        by ! (goes-on 𝓤 H A W 𝓣 L typed (omega (arith, taken-fits m)) g i X _ _ _ _ small (k tt))))
       where
         elem : Range
         elem = getD ys i anyRange
@@ -185,8 +182,8 @@ module _ {M : Type 1} (𝓤 : URA M) (H : Heap 𝓤) (A : Atoms 𝓤) (W : Given
         scaled4 = omega (arith, taken-fits m)
 
     -- the rows are arrays again, and are put together
-    ends : ent 𝓤 (⋆ 𝓤 H A (Before L n)) (Wp 𝓤 H (𝓣 .C) (𝓣 .Λ) En t-7 (atReturn 𝓤 H En Post))
-    ends =
+    ends : Ends 𝓤 H A 𝓣 L
+    ends _ =
         qed W (Before L n) ∵ exec ! (𝓣 .C) (𝓣 .Λ) En t-7 (atRet En Post) $
         move ! (9 ∷ []) $ rewrite ! 0 (λ (us : List ℤ). ‵ (row i32 fullShare us (l 3) 0)) (sym (map-id (es ys n))) refl $
         use1 W (given _ (‵ (fat fullShare numbers (l 3) 0 (machine (whole-array (es ys n)))))) (as-array 𝓤 H A W (whole-array (es ys n)) (l 3) (full (λ (y : Range). y .earliest))) $ learn ! (λ ie.
@@ -209,9 +206,9 @@ module _ {M : Type 1} (𝓤 : URA M) (H : Heap 𝓤) (A : Atoms 𝓤) (W : Given
             → Is S.the-row (result ys) (machS (result ys) ∷ [])
         is ie il = LL.owes S.the-type S′.the-laws (result ys) ((refl, omega (arith, taken-fits m)), (ie, (il, tt)))
 
-  shown : Shown S.the-row Taken starts valueLocal valueLocal (from-place 2 locals) t-1 𝓤 H A W 𝓣 κ q b o γ ys
+  shown : Shown S.the-row Taken starts valueLocal valueLocal (from-place 2 locals) t-1 𝓤 H A W 𝓣 κ q x
   shown Post exits g l =
-      qed W (Begun S.the-row Taken starts valueLocal valueLocal (from-place 2 locals) t-1 𝓤 H A W 𝓣 κ q b o γ ys l) ∵ exec ! (𝓣 .C) (𝓣 .Λ) (En Post exits g l) t-1 (atRet (En Post exits g l) Post) $
+      qed W (Begun S.the-row Taken starts valueLocal valueLocal (from-place 2 locals) t-1 𝓤 H A W 𝓣 κ q x l) ∵ exec ! (𝓣 .C) (𝓣 .Λ) (En Post exits g l) t-1 (atRet (En Post exits g l) Post) $
       assigns ! (of-opd ! (load ! (from ! (fld ! refl (stop !))) (look-in ! 1 (sub ! 1 refl (whole !))))) (from ! (stop !)) (init ! 7 refl (tt, record { fits = g .0 })) $
       owned ! usize (Is usize) (uint-makes 𝓤 H A W w64) m _ (refl, g .0) $
       calls-computing ! (fmOf 𝓤 H (W .laws) 𝓣) usize usize Fitting known m (and-then ! (load ! (from ! (stop !)) (look ! 8 refl)) (no-more !)) (λ v r e is.
@@ -226,7 +223,7 @@ module _ {M : Type 1} (𝓤 : URA M) (H : Heap 𝓤) (A : Atoms 𝓤) (W : Given
       rewrite ! 0 (λ (us : List ℤ). ‵ (row i32 fullShare us (l 4) 0)) (padded-none (latests ys)) refl $
       -- [latest; earliest; the borrow; _0; the slice; _2; _5; …; _17; all die; the token]
       keep ! (6 ∷ 12 ∷ 10 ∷ 11 ∷ 9 ∷ 5 ∷ 4 ∷ 20 ∷ 2 ∷ 1 ∷ 0 ∷ 3 ∷ 7 ∷ 8 ∷ 13 ∷ 14 ∷ 15 ∷ 16 ∷ 17 ∷ 18 ∷ 19 ∷ []) $
-      by ! (reads-all 𝓤 H A W 𝓣 (L Post exits g l) (placed Post exits g l) (omega (arith, taken-fits m)) g (acts Post exits g l) (λ _. ends Post exits g l) tt))
+      by ! (reads-all 𝓤 H A W 𝓣 (L Post exits g l) (typed Post exits g l) (omega (arith, taken-fits m)) g (acts Post exits g l) (ends Post exits g l) tt))
     where
       none : List ℤ
       none = replicate TASKS (pos 0)
