@@ -18,9 +18,9 @@ use base.Logic.{SProp, ent}
 use base.Fml.{Lft, Share, fat, froom, flft, fshr-bor}
 use prog.Wp.{Heap, Out, Env, Spot, spotOf, afterSeq, afterBlock, afterTurn, Wp, atReturn, Tables}
 use ghost.Atoms.{Atoms}
-use types.Kit.{Given, Item, ‵, ⋆, anyQ, atRet, _$_, _∵_, !, qed, by, move, use1, rewrite}
+use types.Kit.{Given, Item, ‵, ⋆, anyQ, _$_, _∵_, !, qed, by, move, use1, rewrite}
 use types.Part.{whole, sub, look-in}
-use types.Run.{Walks, Finds, look, store, init, forget, stop, hop, fld, from, load, lit, of-opd, bin, assigns, assigns-last, stays, leaves-loop, exec, first, blocks}
+use types.Run.{Walks, Finds, look, store, init, forget, stop, hop, fld, from, load, lit, of-opd, bin, assigns, assigns-last, stays, leaves-loop, exec}
 use types.Share.{arr-parts}
 use denote.Laws.{Is, shows}
 use denote.Memory.{cellAt, shares}
