@@ -1,3 +1,4 @@
+pub mod Prelude
 pub mod BarTests
 pub mod MovedStarts
 pub mod AlikeRanges
