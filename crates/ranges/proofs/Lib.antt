@@ -1,3 +1,4 @@
+pub mod Prelude
 pub mod BarTests
 pub mod MovedStarts
 pub mod AlikeRanges
@@ -6,3 +7,5 @@ pub mod BarsFrom
 pub mod TakenApart
 pub mod LocalRows
 pub mod CountedLoops
+pub mod ValueCalls
+pub mod LocalCells

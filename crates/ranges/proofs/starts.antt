@@ -1,3 +1,5 @@
 pub mod Lending
+pub mod ReaderWalk
+pub mod ReadLoop
 pub mod StoreLoop
 pub mod StoreWalk

@@ -69,8 +69,9 @@ fn bars_fit(range: Range) -> bool
 pub fn all_bars_fit(ranges: &[Range]) -> bool
     ensures { λ r. ⌜ r ≡ allBarsFit (now (ranges .entry)) ⌝ }
 {
+    let count = ranges.len();
     let mut i = 0;
-    while i < ranges.len() {
+    while i < count {
         if !bars_fit(ranges[i]) {
             return false;
         }
