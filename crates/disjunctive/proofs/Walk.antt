@@ -22,7 +22,7 @@ pub use ghost.Atoms.{Atoms, sem}
 pub use contract.Monad.{fact, factI, Fun}
 pub use contract.Running.{GhostRules, givenOf, Running, tables}
 pub use sound.WpLaws.{FmC, fmOf}
-pub use types.Kit.{!, _$_, _∵_, _⊛_, await, by, done, drop, feqL, fjoin, frame, fsplit, fsplit3, Given, Goal, Item, join, keep, lands, later, move, pick, Post, qed, raw, rewrite, runs, Seq, split}
+pub use types.Kit.{ !, _$_, _∵_, _⊛_, await, by, done, drop, feqL, fjoin, frame, fsplit, fsplit3, Given, Goal, Item, join, keep, lands, later, move, pick, Post, qed, raw, rewrite, runs, Seq, split}
 pub use types.Kit.{Step, step, suffices, use0, use1, ‵, ⋆}
 pub use types.Part.{agg, look-in, sub, whole}
 pub use types.Run.{addr, alloc0, alloc1, and-then, assigns, enter, fld, forget, free0, free1, from, hop, init, land, load, look, no-more, of-opd, Opds, params1, pass0, pass1, returns, stop}

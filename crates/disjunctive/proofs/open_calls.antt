@@ -1,5 +1,5 @@
 pub mod LentRecord
 pub mod CoreCalls
-pub mod StartsReaders
-pub mod LentAgain
-pub mod ReadOnlyCalls
+mod StartsReaders
+mod LentAgain
+mod ReadOnlyCalls

@@ -1,5 +1,5 @@
--- An open call that leaves the record and the ranges as they are: it reads the starts off the ranges, copies the record, passes both to its core with what else it is passed, and returns what the core
--- answers. One walk, over what is read, what else is passed and what is said of an answer.
+-- An open call that leaves the record and the ranges unchanged: it reads the starts off the ranges, copies the record, passes both to its core, and returns the core's answer.
+-- One walk, over what is read, what else the core is passed, and what is said of an answer.
 use Rattle.disjunctive.proofs.Walk.{_≡_, sym, ap, _∙_, subst, ℕ, zero, suc, _<_, _≤_, Bool, List, Option, Decided, ℤ, URA, Name, Ty, deref, place, copy, seq, assign, call, Fn, Val, WT, hasTy}
 use Rattle.disjunctive.proofs.Walk.{vptr, SProp, ent, sep, emp, id⊢, via, fst∗, ftrue, fsep, flft, Model, Routine, Names, Heap, Calls, Loops, Env, WpFn, Closed, Atoms, sem, fact, factI}
 use Rattle.disjunctive.proofs.Walk.{GhostRules, Running, tables, FmC, fmOf, Given, Item, ‵, raw, _⊛_, ⋆, _$_, _∵_, !, qed, by, move, keep, drop, use0, use1, split, join, fsplit, fsplit3}
@@ -31,9 +31,8 @@ use Rattle.disjunctive.proofs.open_calls.LentAgain.{lends-again, againT
 use Rattle.disjunctive.proofs.open_calls.LentRecord.{machP, looks-into, shuts-record}
 use Rattle.disjunctive.proofs.open_calls.StartsReaders.{Reader, Read, readTy, Says, startsIn, barsIn, barsFit, nameOf, routineOf, few, said-of, read-typed, read-met}
 
--- ---- the call: what it reads, what else it is passed, with the lifetimes of that, what it answers, and what is said of an answer over starts. A call that is passed more ranges than a record has
--- tasks
--- passes none to its core
+-- ---- the call: what it reads, what else it is passed, with the lifetimes of that, what it answers, and what is said of an answer over starts.
+-- More ranges than a record has tasks are read as none, and `too-many` takes what is said of none to what is said of all
 pub record Reading : Type 2 where
   pub reader : Reader
   pub lifetimes : ℕ
@@ -45,13 +44,13 @@ pub record Reading : Type 2 where
   -- the machine values of what else is passed
   pub values : (κs : Lfts lifetimes) → Spells (typesAt beside κs)
   pub tells : (κs : Lfts lifetimes) → Tellss (typesAt beside κs) (Ises (typesAt beside κs)) (values κs)
-  -- the types of the locals, of the answer and of what else is passed; the local and the elements' type of a `&mut` slice that is passed on, if one is, and its pointer and length; and the locals that
-  -- the
-  -- core is passed beside the record and the starts
+  -- the types of the locals of the answer and of what else is passed
   pub answerTy : Ty
   pub besideTys : List Ty
+  -- the local and the elements' type of a `&mut` slice that is passed on, if one is, and its pointer and length
   pub again : Option (ℕ × Ty)
   pub slice : (κs : Lfts lifetimes) → Denots (typesAt beside κs) → (ℕ × ℕ) × ℕ
+  -- the locals that the core is passed beside the record and the starts
   pub operands : List ℕ
 
 module _ (D : Reading) where
@@ -152,7 +151,7 @@ module _ (D : Reading) where
         (lends-again (D .again) (suc (suc starts-local)) (seq (call f (copies (suc starts-local ∷ starts-local ∷ D .operands)) (place 0 [])) return)));
   }
 
-  -- the locals, once the parameters are passed, which are the reference v, the slice u and the others; with the starts; with the record's copy; and as the core is called
+  -- the locals: once the parameters are passed, with the reference v and the slice u; with the starts; with the record's copy; and as the core is called
   module _ (κs : Lfts (D .lifetimes)) (b : Beside κs) (v u : Val) (bs : Blocks tys) where
     abbrev E : List (Ty × ℕ)
     E = envOf (fresh tys bs)

@@ -1,6 +1,5 @@
--- A walk of its MIR, by hand. The borrows of the record and of the ranges are opened. The ranges are lent as a `&` for a lifetime of the call of `starts_with_bars`,
--- come back, are closed, and are passed on for good to `store_starts`.
--- `run_core` is passed the record by value, and the posts and the atoms for good: they are not opened here. The record that it returns is stored.
+-- The borrows of the record and of the ranges are opened. The ranges are lent as a `&` while `starts_with_bars` runs, and then passed on for good to `store_starts`.
+-- `run_core` is passed the record by value, and the posts and the atoms for good. The record that it returns is stored.
 use Rattle.disjunctive.proofs.Walk.{_≡_, refl, sym, ap, subst, ℕ, List, [], _∷_, ℤ, length, URA, fullShare, Ty, named, spell, Val, vptr, SProp, ent, via, emp, fst∗, Lft, GName, Share, ftrue}
 use Rattle.disjunctive.proofs.Walk.{fat, flft, Memory, Routine, Heap, Calls, Loops, WpFn, Atoms, Fun, givenOf, tables, FmC, Given, Item, ‵, _⊛_, ⋆, _$_, _∵_, !, qed, by, move, keep, drop}
 use Rattle.disjunctive.proofs.Walk.{use1, split, join, rewrite, fsplit, fsplit3, fjoin, suffices, frame, done, whole, sub, look-in, agg, look, init, forget, stop, hop, fld, from, load}

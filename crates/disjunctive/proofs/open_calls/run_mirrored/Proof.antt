@@ -1,6 +1,5 @@
--- A walk of its MIR, by hand. The borrow of the ranges is opened. They are lent as a `&` for a lifetime of the call of `starts_with_bars`, come back, are
--- closed, and are passed on for good to `store_latest`.
--- `mirrored_core` is passed a copy of the lent record, which stays as it is, and the posts and the atoms for good: they are not opened here.
+-- The borrow of the ranges is opened. They are lent as a `&` while `starts_with_bars` runs, and then passed on for good to `store_latest`.
+-- `mirrored_core` is passed a copy of the lent record, which is unchanged, and the posts and the atoms for good.
 use Rattle.disjunctive.proofs.Walk.{_≡_, refl, sym, ap, subst, ℕ, _≤_, List, [], _∷_, ℤ, length, URA, fullShare, Ty, named, spell, Val, vptr, SProp, ent, sep, via, emp, fst∗, id⊢, Lft, GName}
 use Rattle.disjunctive.proofs.Walk.{Share, ftrue, fat, flft, Memory, Routine, Heap, Calls, Loops, WpFn, Atoms, sem, Fun, fact, givenOf, tables, FmC, Given, Item, ‵, raw, _⊛_, later, ⋆, _$_}
 use Rattle.disjunctive.proofs.Walk.{_∵_, !, qed, by, move, keep, drop, use1, split, join, pick, rewrite, fsplit, fsplit3, fjoin, feqL, suffices, frame, await, done, whole, sub, look-in, agg}

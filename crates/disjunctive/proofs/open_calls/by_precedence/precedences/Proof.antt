@@ -1,6 +1,5 @@
--- A walk of its MIR, by hand. The borrow of the ranges is opened. They are lent as a `&` for a lifetime of the call of `starts_with_bars`,
--- come back, are closed, and are passed on for good to `store_starts`.
--- `precedences_core` is passed a copy of the lent record, which stays unchanged.
+-- The borrow of the ranges is opened. They are lent as a `&` while `starts_with_bars` runs, and then passed on for good to `store_starts`.
+-- `precedences_core` is passed a copy of the lent record, which is unchanged.
 use Rattle.disjunctive.proofs.Walk.{_≡_, refl, sym, ap, subst, ℕ, _≤_, List, [], _∷_, length, URA, fullShare, Ty, named, spell, Val, vptr, SProp, ent, via, emp, fst∗, Lft, GName, Share}
 use Rattle.disjunctive.proofs.Walk.{ftrue, fat, flft, Memory, Routine, Heap, Calls, Loops, WpFn, Atoms, sem, Fun, givenOf, tables, FmC, Given, Item, ‵, raw, _⊛_, ⋆, _$_, _∵_, !, qed, by}
 use Rattle.disjunctive.proofs.Walk.{move, keep, drop, use1, split, join, rewrite, fsplit, fsplit3, fjoin, suffices, frame, done, whole, sub, look-in, agg, look, init, forget, stop, hop, fld}
