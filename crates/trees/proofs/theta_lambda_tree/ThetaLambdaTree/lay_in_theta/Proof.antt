@@ -1,4 +1,4 @@
--- `trees::theta_lambda_tree::ThetaLambdaTree::lay_in_theta` meets its contract.
+-- The white leaf is stored, and no other leaf changes; nothing is said of its ancestors.
 use mathlib.Core.Path.{_≡_, ap, ap₂, _∙_}
 use mathlib.Core.List.{List}
 use Prim.Native.Nat.{ℕ, _+_}
