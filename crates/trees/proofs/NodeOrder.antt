@@ -1,19 +1,20 @@
 -- Nodes of which one is at most the other, word by word: a gray leaf is at most a white one, joins keep the order, and so the bar of the root never rises.
-use mathlib.Core.Path.{_≡_}
-use mathlib.Core.Bool.{false}
+use mathlib.Core.Path.{_≡_, refl}
+use mathlib.Core.Bool.{true, false}
 use mathlib.Core.List.{List}
 use Prim.Native.Nat.{ℕ, zero, suc, _+_, _≤_, _<_}
 use native.Mathlib.Omega.{arith}
 use native.Mathlib.Decide.{ℕ-discrete}
 use lib.ListN.{length, getD, set}
 use lib.Seq.{getD-set-same, getD-set-other}
+use Rattle.integers.proofs.Bools.{clash}
 use Rattle.scheduling.specs.Scheduling.{natural, Tasks}
 use Rattle.trees.specs.declared.theta_lambda_node.Node.{Node}
 use Rattle.trees.specs.Nodes.{joinOf}
 use Rattle.trees.specs.Shapes.{width, heightFor, nodeOver}
 use Rattle.trees.specs.Ects.{exceeds, raisedTo}
 use Rattle.trees.specs.Leaves as leaves
-use Rattle.trees.specs.Leaves.{Leaf, empty, white, gray, leafNode, startAt, durationAt, root}
+use Rattle.trees.specs.Leaves.{Leaf, empty, gray, inTheta, whiteAt, leafNode, startAt, durationAt, root}
 use Rattle.trees.proofs.Ects.{raised-decoded, within-bound}
 use Rattle.trees.proofs.ArrayTrees.{over-leaf, over-join}
 
@@ -53,8 +54,10 @@ over-under leaf each (suc h) a =
 same-most : (n : Node) → AtMost n n
 same-most n = record { ect = omega arith; sum = omega arith; ect-bar = omega arith; sum-bar = omega arith }
 
-gray-most : (e p : ℕ) → AtMost (leafNode gray e p) (leafNode white e p)
-gray-most e p = record { ect = omega arith; sum = omega arith; ect-bar = omega arith; sum-bar = omega arith }
+gray-most : (c : Leaf) (e p : ℕ) → inTheta c ≡ true → AtMost (leafNode gray e p) (leafNode c e p)
+gray-most leaves.empty e p z = clash z refl
+gray-most leaves.white e p z = record { ect = omega arith; sum = omega arith; ect-bar = omega arith; sum-bar = omega arith }
+gray-most leaves.gray e p z = clash z refl
 
 leaf-under : (c : Leaf) (e p : ℕ) → UnderBars (leafNode c e p)
 leaf-under leaves.empty e p = record { ect = omega arith; sum = omega arith }
@@ -72,14 +75,14 @@ module _ (J : Tasks natural) (estOrder : List ℕ) (ls : List Leaf) where
       (omega (arith, q, raised-decoded (root J estOrder ls .«ect_bar»), raised-decoded (root J estOrder ls .ect), root-under .ect))
 
   -- a white leaf turns gray: ect_bar does not rise
-  module _ (k : ℕ) (inside : k < length ls) (is : getD ls k empty ≡ white) where
+  module _ (k : ℕ) (inside : k < length ls) (is-white : whiteAt ls k ≡ true) where
     root-most : AtMost (root J estOrder (set ls k gray)) (root J estOrder ls)
     unfolding root
     root-most = over-most (leaves.leaves J estOrder (set ls k gray)) (leaves.leaves J estOrder ls) each (heightFor (J .count)) 0
       where
         each : (j : ℕ) → AtMost (leafNode (getD (set ls k gray) j empty) (startAt J estOrder j) (durationAt J estOrder j)) (leafNode (getD ls j empty) (startAt J estOrder j) (durationAt J estOrder j))
         each j = elim (ℕ-discrete j k) [
-          | yes z ↦ rw (z, getD-set-same ls k gray empty inside, is) (gray-most (startAt J estOrder k) (durationAt J estOrder k))
+          | yes z ↦ rw (z, getD-set-same ls k gray empty inside) (gray-most (getD ls k empty) (startAt J estOrder k) (durationAt J estOrder k) is-white)
           | no z ↦ rw (getD-set-other ls k j gray empty z) (same-most (leafNode (getD ls j empty) (startAt J estOrder j) (durationAt J estOrder j)))
         ]
 
