@@ -143,7 +143,7 @@ module _ {size : TreeSize} {lct : ℕ} {words : List ℕ} {es posts atoms : List
   pub few-changes : w .changes ≤ 4 * TASKS
   few-changes = omega (
     arith,
-    s .at .counted,
+    s .at .slices .counted,
     reached-changes zeroAt J (G .proper) estOrder lctOrder (G .by-earliest) (G .by-completion) t (s .st) (s .reached) (s .small),
     s .small,
     few,
@@ -160,7 +160,7 @@ module _ {size : TreeSize} {lct : ℕ} {words : List ℕ} {es posts atoms : List
       (room.reasons-short zeroAt J (G .proper) estOrder lctOrder (G .by-earliest) (G .by-completion) (s .st .posts) (inv .good))
 
   pub atoms-size : length atoms ≡ length (s .atoms₀)
-  atoms-size = ap length (s .at .atom-words) ∙ length-sets (s .atoms₀) 0 (atomWords (reasons (s .st .posts)))
+  atoms-size = ap length (s .at .slices .atom-words) ∙ length-sets (s .atoms₀) 0 (atomWords (reasons (s .st .posts)))
 
   pub found-inside : (x : ℕ) → leaves.responsible J estOrder ls ≡ some x → x < J .count
   found-inside x z = tree.one-found J (G .proper) estOrder (G .by-earliest) ls Θ Λ shape x z .small
@@ -180,7 +180,7 @@ module _ {size : TreeSize} {lct : ℕ} {words : List ℕ} {es posts atoms : List
 
     -- its start is in the slice
     pub start-inside : i < length es
-    start-inside = omega (arith, small, s .arrays .count, inv .known, ap length (s .at .starts), length-map (s .st .starts) (instant zeroAt))
+    start-inside = omega (arith, small, s .arrays .count, inv .known, ap length (s .at .slices .starts), length-map (s .st .starts) (instant zeroAt))
 
     task-start : getD est i 0 ≡ J .earliest (T x)
     task-start = s .arrays .starts .at i small ∙ ap (J .earliest) (r .task)
@@ -206,7 +206,7 @@ module _ {size : TreeSize} {lct : ℕ} {words : List ℕ} {es posts atoms : List
     pub many-atoms : w .atoms ≤ ATOMS
     many-atoms = omega (
       arith,
-      s .at .explained,
+      s .at .slices .explained,
       reasons-short,
       mul-le-mul {n₁ = length (s .st .posts)} {m₁ = 2 * n} {n₂ = TASKS} {m₂ = 2 * TASKS} (omega (arith, fewer, s .small, few, s .arrays .count)) (omega (arith, few)),
     )
@@ -214,7 +214,7 @@ module _ {size : TreeSize} {lct : ℕ} {words : List ℕ} {es posts atoms : List
     atom-room : 3 * w .atoms + 6 * length (leaves.theta J estOrder ls) + 3 ≤ length atoms
     atom-room = omega (
       arith,
-      s .at .explained,
+      s .at .slices .explained,
       reasons-short,
       theta-less,
       s .atom-room,
@@ -227,7 +227,7 @@ module _ {size : TreeSize} {lct : ℕ} {words : List ℕ} {es posts atoms : List
         twice = mul-left-comm n 2 n
 
     pub post-room : 4 * w .posts + 4 ≤ length posts
-    post-room = omega (arith, s .at .posted, fewer, s .small, s .post-room, s .arrays .count, ap length (s .at .post-words) ∙ length-sets (s .posts₀) 0 (postWords 0 (s .st .posts)))
+    post-room = omega (arith, s .at .slices .posted, fewer, s .small, s .post-room, s .arrays .count, ap length (s .at .slices .post-words) ∙ length-sets (s .posts₀) 0 (postWords 0 (s .st .posts)))
 
     -- the task's leaf may be emptied, and is then
     place-inside : {k : ℕ} → k ≡ getD mapping i 0 → k < J .count
@@ -280,12 +280,14 @@ module _ {size : TreeSize} {lct : ℕ} {words : List ℕ} {es posts atoms : List
           post-at : AtNow s after words es posts′ atoms′ w′
           post-at = record {
             tree = s .at .tree;
-            starts = s .at .starts;
-            post-words = posts-at (s .posts₀) (s .st .posts) made (s .at .post-words) (s .at .posted) (s .at .explained) (r .task) refl (ap length reason-is) (p .post-words);
-            atom-words = atoms-at (s .atoms₀) (s .st .posts) made (s .at .atom-words) (s .at .explained) (ap atomWords reason-is) (p .atom-words);
-            posted = omega (arith, p .posted, s .at .posted, length-append (s .st .posts) (made ∷ []));
-            explained = omega (arith, p .explained, s .at .explained, ap length reason-is, ap length (reasons-more (s .st .posts) made), length-append (reasons (s .st .posts)) now);
-            counted = p .counted ∙ s .at .counted;
+            slices = record {
+              starts = s .at .slices .starts;
+              post-words = posts-at (s .posts₀) (s .st .posts) made (s .at .slices .post-words) (s .at .slices .posted) (s .at .slices .explained) (r .task) refl (ap length reason-is) (p .post-words);
+              atom-words = atoms-at (s .atoms₀) (s .st .posts) made (s .at .slices .atom-words) (s .at .slices .explained) (ap atomWords reason-is) (p .atom-words);
+              posted = omega (arith, p .posted, s .at .slices .posted, length-append (s .st .posts) (made ∷ []));
+              explained = omega (arith, p .explained, s .at .slices .explained, ap length reason-is, ap length (reasons-more (s .st .posts) made), length-append (reasons (s .st .posts)) now);
+              counted = p .counted ∙ s .at .slices .counted;
+            };
           }
 
           pub emptied : getD lst i 0 < b → Considered s (turn.Emptied w′) words es posts′ atoms′
@@ -309,12 +311,14 @@ module _ {size : TreeSize} {lct : ℕ} {words : List ℕ} {es posts atoms : List
               at-next : AtNow s next words′ es′ posts′ atoms′ (counted w′ 1)
               at-next = record {
                 tree = cleared words′ at-leaf q;
-                starts = starts-at (s .st .starts) b (s .at .starts) (r .task) e;
-                post-words = post-at .post-words;
-                atom-words = post-at .atom-words;
-                posted = post-at .posted;
-                explained = post-at .explained;
-                counted = ap (λ (c : ℕ). c + 1) (post-at .counted);
+                slices = record {
+                  starts = starts-at (s .st .starts) b (s .at .slices .starts) (r .task) e;
+                  post-words = post-at .slices .post-words;
+                  atom-words = post-at .slices .atom-words;
+                  posted = post-at .slices .posted;
+                  explained = post-at .slices .explained;
+                  counted = ap (λ (c : ℕ). c + 1) (post-at .slices .counted);
+                };
               }
 
       -- no post
@@ -323,12 +327,14 @@ module _ {size : TreeSize} {lct : ℕ} {words : List ℕ} {es posts atoms : List
         dropped (s .st) x,
         record {
           tree = cleared words′ at-leaf q;
-          starts = s .at .starts;
-          post-words = s .at .post-words;
-          atom-words = s .at .atom-words;
-          posted = s .at .posted;
-          explained = s .at .explained;
-          counted = ap (λ (c : ℕ). c + 1) (s .at .counted);
+          slices = record {
+            starts = s .at .slices .starts;
+            post-words = s .at .slices .post-words;
+            atom-words = s .at .slices .atom-words;
+            posted = s .at .slices .posted;
+            explained = s .at .slices .explained;
+            counted = ap (λ (c : ℕ). c + 1) (s .at .slices .counted);
+          };
         },
         λ f. inner-pass zeroAt J estOrder lctOrder f t (s .st) x passes (r .found) still,
       )
@@ -376,4 +382,4 @@ module _ {size : TreeSize} {lct : ℕ} {words : List ℕ} {es posts atoms : List
             )
 
             same : set es i (instant zeroAt b) ≡ es
-            same = rw (s .at .starts, same-start) (sym (map-set (instant zeroAt) (s .st .starts) i (getD (s .st .starts) i 0)) ∙ ap (map (instant zeroAt)) (set-getD (s .st .starts) i 0))
+            same = rw (s .at .slices .starts, same-start) (sym (map-set (instant zeroAt) (s .st .starts) i (getD (s .st .starts) i 0)) ∙ ap (map (instant zeroAt)) (set-getD (s .st .starts) i 0))

@@ -10,7 +10,7 @@ use Rattle.integers.specs.FilledLists.{filled}
 use Rattle.integers.proofs.FilledLists.{filled-none, filled-more, filled-length, filled-at}
 use Rattle.trees.specs.Leaves.{Leaf, empty, white}
 use Rattle.trees.specs.Trees.{IsTree, HasLeaves}
-use Rattle.trees.specs.Operations.{HeldLeaves, HasTask, Whitened}
+use Rattle.trees.specs.Operations.{HeldLeaves, HasTask, LeafColoured}
 use Rattle.trees.proofs.RebuiltTrees.{tree-leaves}
 use Rattle.propagator.specs.FilledTheta.{Fillable}
 
@@ -41,7 +41,7 @@ module _ {inner n : ℕ} {words reverseMapping est durations : List ℕ} (f : Fi
   abbrev pub shown : (x : ℕ) {now : List ℕ} → HasLeaves (f .J) (f .estOrder) (upTo x) inner now → HeldLeaves inner now
   shown x i = record { J = f .J; estOrder = f .estOrder; leaves = upTo x; limited = f .limited; has = i }
 
-  pub one-white : (x : ℕ) {now now′ : List ℕ} (i : HasLeaves (f .J) (f .estOrder) (upTo x) inner now) → Whitened (shown x i) x now′ → HasLeaves (f .J) (f .estOrder) (upTo (x + 1)) inner now′
+  pub one-white : (x : ℕ) {now now′ : List ℕ} (i : HasLeaves (f .J) (f .estOrder) (upTo x) inner now) → LeafColoured white (shown x i) x now′ → HasLeaves (f .J) (f .estOrder) (upTo (x + 1)) inner now′
   one-white x {now} {now′} i p = subst (λ (ls : List Leaf). HasLeaves (f .J) (f .estOrder) ls inner now′) (sym (filled-more (λ _. white) x (replicate (f .J .count) empty))) p
 
   pub all-white : (x : ℕ) → x ≡ n → {now : List ℕ} → IsTree (f .J) (f .estOrder) (upTo x) inner now → IsTree (f .J) (f .estOrder) (replicate (f .J .count) white) inner now

@@ -156,13 +156,15 @@ module _ (r : DisjunctivePropagator) (es ls : List ℤ) (postCount atomCount : �
       → At J estOrder posts atoms (allWhite J) inner words es posts atoms 0 0 n
   at-start inner words posts atoms t = record {
     tree = t;
-    starts = subst (λ (m : ℕ). es ≡ map (instant zeroAt) (tabulate (J .earliest) 0 m)) (a .counts .earliest ∙ sym count)
-        (tabulated zeroAt es (J .earliest) 0 (λ k q. back k (omega (arith, q, a .counts .earliest, count))));
-    post-words = no-posts-stored posts;
-    atom-words = no-atoms-stored atoms;
-    posted = refl;
-    explained = sym no-reasons;
-    counted = sym count;
+    slices = record {
+      starts = subst (λ (m : ℕ). es ≡ map (instant zeroAt) (tabulate (J .earliest) 0 m)) (a .counts .earliest ∙ sym count)
+          (tabulated zeroAt es (J .earliest) 0 (λ k q. back k (omega (arith, q, a .counts .earliest, count))));
+      post-words = no-posts-stored posts;
+      atom-words = no-atoms-stored atoms;
+      posted = refl;
+      explained = sym no-reasons;
+      counted = sym count;
+    };
   }
     where
       back : (k : ℕ) → k < length ds → instant zeroAt (J .earliest (0 + k)) ≡ getD es k (pos 0)

@@ -1,60 +1,66 @@
 -- A white leaf becomes gray; that of a level's task may.
 use mathlib.Core.Path.{_≡_, sym, ap, subst, _∙_}
+use mathlib.Core.Bool.{Bool, true}
 use mathlib.Core.List.{List}
 use Prim.Native.Nat.{ℕ, _<_}
 use native.Mathlib.Omega.{arith}
-use lib.IntN.{ℤ}
-use lib.ListN.{getD}
+use lib.ListN.{getD, set}
 use Rattle.integers.specs.Orders.{index}
+use Rattle.scheduling.specs.Scheduling.{natural, Tasks}
 use Rattle.trees.specs.declared.complete_tree.TreeSize.{TreeSize}
-use Rattle.trees.specs.Leaves.{gray}
-use Rattle.trees.specs.Operations.{Held, HasTask, Coloured}
-use Rattle.propagator.specs.declared.disjunctive_propagator.Written.{Written}
-use Rattle.propagator.specs.Candidates.{Considerable}
-use Rattle.propagator.proofs.ConsideredTask.{few}
+use Rattle.trees.specs.Leaves.{Leaf, gray}
+use Rattle.trees.specs.Trees.{IsTree, HasLeaves}
+use Rattle.trees.specs.Operations.{Held, HeldLeaves, HasTask, Coloured, LeafColoured}
+use Rattle.propagator.specs.RunArrays.{Ordered, Arrays}
 use Rattle.propagator.specs.MovedToLambda.{Movable}
 
-module _ {inner : ℕ} {words mapping est durations : List ℕ} {j : ℕ} (m : Movable inner words mapping est durations j) where
-  abbrev pub shown : Held inner words
-  shown = record { J = m .J; estOrder = m .estOrder; leaves = m .leaves; limited = m .limited; tree = m .tree }
+module _ {inner : ℕ} {words mapping est durations : List ℕ} {j : ℕ} {joined : Bool} (m : Movable inner words mapping est durations j joined) where
+  abbrev pub shown : joined ≡ true → Held inner words
+  shown z = record { J = m .J; estOrder = m .estOrder; leaves = m .leaves; limited = m .limited; tree = m .tree z }
+
+  abbrev pub shown-leaves : HeldLeaves inner words
+  shown-leaves = record { J = m .J; estOrder = m .estOrder; leaves = m .leaves; limited = m .limited; has = m .has }
 
   -- the task has its place there
   pub placed : {k : ℕ} → k ≡ getD mapping j 0 → {e p : ℕ} → e ≡ getD est j 0 → p ≡ getD durations j 0 → HasTask (m .J) (m .estOrder) k e p
   placed is {e} {p} s d = subst (λ (k : ℕ). HasTask (m .J) (m .estOrder) k e p) (sym is)
       (record { inside = m .inside; start = s ∙ m .start ∙ ap (m .J .earliest) (sym (m .task)); lasts = d ∙ m .lasts ∙ ap (m .J .duration) (sym (m .task)) })
 
-  pub moved : {k : ℕ} → k ≡ getD mapping j 0 → {words′ : List ℕ} → Coloured gray shown k words′ → Coloured gray shown (getD mapping j 0) words′
-  moved e {words′} q = subst (λ (k : ℕ). Coloured gray shown k words′) e q
+  module _ {k : ℕ} (e : k ≡ getD mapping j 0) where
+    -- the words with the leaf gray
+    abbrev pub laid : {words′ : List ℕ} → LeafColoured gray shown-leaves k words′ → HeldLeaves inner words′
+    laid q = record { J = m .J; estOrder = m .estOrder; leaves = set (m .leaves) k gray; limited = m .limited; has = q }
 
--- the task of the level may leave Theta
-module _ {size : TreeSize} {lct : ℕ} {words : List ℕ} {es posts atoms : List ℤ} {w : Written} {est lst durations reverseMapping mapping : List ℕ}
-    (s : Considerable size lct words es posts atoms w est lst durations reverseMapping mapping)
-    (j : ℕ) (z : j ≡ getD (s .lctOrder) (s .level) 0) where
-  abbrev n : ℕ
-  n = size .leaves
+    pub moved-leaves : {words′ : List ℕ} → LeafColoured gray shown-leaves k words′ → LeafColoured gray shown-leaves (getD mapping j 0) words′
+    moved-leaves {words′} q = subst (λ (k : ℕ). LeafColoured gray shown-leaves k words′) e q
 
-  abbrev inn : ℕ
-  inn = size .inner
+    pub moved : {words′ : List ℕ} → IsTree (m .J) (m .estOrder) (set (m .leaves) k gray) inner words′ → IsTree (m .J) (m .estOrder) (set (m .leaves) (getD mapping j 0) gray) inner words′
+    moved {words′} q = subst (λ (k : ℕ). IsTree (m .J) (m .estOrder) (set (m .leaves) k gray) inner words′) e q
 
-  pub known-j : j < s .J .count
-  known-j = omega (arith, z, s .ordered .by-completion .task (s .level) (s .small))
+-- the task of a level may leave Theta
+module _ {J : Tasks natural} {estOrder lctOrder : List ℕ} (G : Ordered J estOrder lctOrder) {size : TreeSize} {est durations reverseMapping mapping : List ℕ}
+    (arrays : Arrays J estOrder size est durations reverseMapping mapping) (t : ℕ) (small : t < J .count) (j : ℕ) (z : j ≡ getD lctOrder t 0) where
+  pub known-j : j < J .count
+  known-j = omega (arith, z, G .by-completion .task t small)
 
-  pub place-j : getD mapping j 0 ≡ index (s .estOrder) j
-  place-j = s .arrays .places j (omega (arith, known-j, s .arrays .count))
+  pub place-j : getD mapping j 0 ≡ index estOrder j
+  place-j = arrays .places j (omega (arith, known-j, arrays .count))
 
-  abbrev pub movable : Movable inn words mapping est durations j
-  movable = record {
-    J = s .J;
-    estOrder = s .estOrder;
-    leaves = s .st .leaves;
-    limited = s .ordered .limited;
-    tree = s .at .tree;
-    known = omega (arith, known-j, few s, s .arrays .count);
-    inside = omega (arith, place-j, s .ordered .by-earliest .placed j known-j);
-    task = ap (λ (x : ℕ). getD (s .estOrder) x 0) place-j ∙ s .ordered .by-earliest .there j known-j;
-    start = s .arrays .starts .at j (omega (arith, known-j, s .arrays .count));
-    lasts = s .arrays .lasts .at j (omega (arith, known-j, s .arrays .count));
+  abbrev pub movable : {words : List ℕ} (ls : List Leaf) {joined : Bool} → HasLeaves J estOrder ls (size .inner) words → (joined ≡ true → IsTree J estOrder ls (size .inner) words)
+      → Movable (size .inner) words mapping est durations j joined
+  movable ls has tree = record {
+    J = J;
+    estOrder = estOrder;
+    leaves = ls;
+    limited = G .limited;
+    has = has;
+    tree = tree;
+    known = omega (arith, known-j, G .limited .count);
+    inside = omega (arith, place-j, G .by-earliest .placed j known-j);
+    task = ap (λ (x : ℕ). getD estOrder x 0) place-j ∙ G .by-earliest .there j known-j;
+    start = arrays .starts .at j (omega (arith, known-j, arrays .count));
+    lasts = arrays .lasts .at j (omega (arith, known-j, arrays .count));
   }
 
-  pub gray-place : getD mapping j 0 ≡ index (s .estOrder) (getD (s .lctOrder) (s .level) 0)
-  gray-place = place-j ∙ ap (λ (k : ℕ). index (s .estOrder) k) z
+  pub gray-place : getD mapping j 0 ≡ index estOrder (getD lctOrder t 0)
+  gray-place = place-j ∙ ap (λ (k : ℕ). index estOrder k) z

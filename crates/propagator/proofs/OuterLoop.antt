@@ -1,36 +1,44 @@
 -- The outer loop: what it has got to at a level, and how it goes on or ends from there.
 use mathlib.Core.Path.{_≡_, refl, sym, ap, subst, _∙_}
 use mathlib.Core.Bool.{Bool, true, false}
+use mathlib.Core.Logic.{inl, inr}
 use mathlib.Core.Option.{Option}
 use mathlib.Core.List.{List, [], _++_, append-nil}
 use Prim.Native.Nat.{ℕ, suc, _+_, _*_, _-_, _≤_, _<_}
 use native.Mathlib.Omega.{arith}
+use native.Mathlib.Decide.{decLt}
 use lib.IntN.{ℤ}
 use lib.ListN.{length, getD, set}
 use lib.Seq.{sets}
 use Rattle.integers.specs.Limits.{TASKS}
 use Rattle.integers.specs.Moments.{zeroAt}
 use Rattle.integers.specs.Orders.{index}
+use Rattle.integers.proofs.Bools.{bool, clash}
 use Rattle.scheduling.specs.Scheduling.{natural, Tasks, Atom, completion}
 use Rattle.trees.specs.declared.complete_tree.TreeSize.{TreeSize}
-use Rattle.trees.specs.Ects.{exceeds}
+use Rattle.trees.specs.Ects.{exceeds, raisedTo}
 use Rattle.trees.specs.Leaves as leaves
-use Rattle.trees.specs.Leaves.{gray}
+use Rattle.trees.specs.Leaves.{Leaf, gray}
 use Rattle.trees.specs.ArraySearches.{thetaIn}
-use Rattle.trees.specs.Trees.{IsTree}
-use Rattle.trees.specs.Operations.{Held}
+use Rattle.trees.specs.Trees.{IsTree, HasLeaves}
+use Rattle.trees.specs.Operations.{Held, Answers}
+use Rattle.trees.proofs.NodeOrder.{ect-within}
+use Rattle.trees.proofs.RebuiltTrees.{tree-leaves}
 use Rattle.runs.specs.Traces.{Trace, End, done, overload, emptied}
-use Rattle.runs.specs.Runs.{State, Turn, conflict, inner, outer, run, ended, grayed, allWhite}
+use Rattle.runs.specs.Runs.{State, Turn, on, conflict, inner, outer, run, ended, grayed, allWhite}
 use Rattle.scheduling.specs.Words.{atomWords}
 use Rattle.runs.specs.Words.{postWords, reasons, endReason}
 use Rattle.runs.proofs.WrittenSlices.{reason-stored}
+use Rattle.runs.proofs.LeafChanges.{reached-changes}
+use Rattle.runs.proofs.QuietLevels as quiet-levels
+use Rattle.runs.proofs.QuietLevels.{bar-falls}
 use Rattle.runs.proofs.InnerLoop.{run-is, outer-end, outer-over, outer-on, outer-stop}
 use Rattle.runs.specs.Reached.{Entered, begins, follows, at-head, moved}
 use Rattle.explanations.specs.Explanations.{ConflictExplainable}
 use Rattle.propagator.specs.declared.disjunctive_propagator.Turn as code
 use Rattle.propagator.specs.declared.disjunctive_propagator.Turn.the-variants as turn
 use Rattle.propagator.specs.declared.disjunctive_propagator.Written.{Written}
-use Rattle.propagator.specs.RunArrays.{Ordered, SizeFits, At}
+use Rattle.propagator.specs.RunArrays.{Ordered, SizeFits, Slices}
 use Rattle.propagator.specs.Candidates.{nothingWritten, counted, Considerable, AllConsidered}
 use Rattle.propagator.proofs.ConsideredTask as considering
 use Rattle.runs.specs.declared.outcome.Outcome.the-variants as outcome
@@ -38,7 +46,7 @@ use Rattle.runs.specs.declared.outcome.Finished.{Finished}
 use Rattle.propagator.specs.MovedToLambda.{Movable, Moved}
 use Rattle.runs.specs.Outcomes.{outcomeNumbers}
 use Rattle.runs.specs.EndNumbers.{endNumbers, traceNumbers}
-use Rattle.propagator.specs.EdgeFinding.{conflictOf, ConflictExplained, EdgeFindable, EdgeFound}
+use Rattle.propagator.specs.EdgeFinding.{HeldPast, conflictOf, ConflictExplained, EdgeFindable, EdgeFound}
 use Rattle.propagator.proofs.MovedToLambda as moving
 use Rattle.propagator.proofs.OverloadReason as overloading
 
@@ -68,12 +76,16 @@ module _ {size : TreeSize} {words : List ℕ} {es posts atoms : List ℤ} {est l
   abbrev rest-of : ℕ → ℕ → State → Trace
   rest-of f t st = outer zeroAt J estOrder lctOrder f t st
 
-  -- the loop stands at the head of level `t`
-  pub record Level (t : ℕ) (words′ : List ℕ) (es′ posts′ atoms′ : List ℤ) (w′ : Written) : Type 0 where
+  -- the loop stands at the head of level `t`: `last` is at least the ect_bar, and where the inner nodes are not joined it is at most the level's lct
+  pub record Level (t : ℕ) (words′ : List ℕ) (es′ posts′ atoms′ : List ℤ) (w′ : Written) (last : ℕ) (joined : Bool) : Type 0 where
     pub st : State
     pub small : t < n
     pub entered : Entered zeroAt J estOrder lctOrder t st
-    pub at : At J estOrder posts atoms st inn words′ es′ posts′ atoms′ (w′ .posts) (w′ .atoms) (w′ .changes)
+    pub has : HasLeaves J estOrder (st .leaves) inn words′
+    pub tree : joined ≡ true → IsTree J estOrder (st .leaves) inn words′
+    pub slices : Slices posts atoms st es′ posts′ atoms′ (w′ .posts) (w′ .atoms) (w′ .changes)
+    pub most : raisedTo 0 (leaves.ect-bar J estOrder (st .leaves)) ≤ last
+    pub lags : joined ≡ false → last ≤ completion J (getD lctOrder t 0)
     pub rest : whole ≡ rest-of (n - 1 - t) t st
 
   pub few : n ≤ TASKS
@@ -82,12 +94,23 @@ module _ {size : TreeSize} {words : List ℕ} {es posts atoms : List ℤ} {est l
   pub sorted-task-small : (t : ℕ) → t < n → getD sortedTasks t 0 < TASKS
   sorted-task-small t q = omega (arith, s .order .at t q, G .by-completion .task t (omega (arith, q, s .arrays .count)), G .limited .count)
 
-  pub first-level : Level 0 words es posts atoms (nothingWritten n)
-  first-level = record {
+  -- a tree of the run's tasks, and the moment that is told of its root
+  abbrev held : {words′ : List ℕ} {ls : List Leaf} → IsTree J estOrder ls inn words′ → Held inn words′
+  held {ls = ls} t = record { J = J; estOrder = estOrder; leaves = ls; limited = G .limited; tree = t }
+
+  abbrev pub Told : List ℕ → ℕ → Type 0
+  Told words′ last = Answers (λ J estOrder ls. raisedTo 0 (leaves.ect-bar J estOrder ls)) words′ last
+
+  pub first-level : {last : ℕ} → Told words last → Level 0 words es posts atoms (nothingWritten n) last true
+  first-level told = record {
     st = allWhite J;
     small = omega (arith, G .some, s .arrays .count);
     entered = begins;
-    at = s .at;
+    has = tree-leaves (G .limited) (s .at .tree);
+    tree = λ _. s .at .tree;
+    slices = s .at .slices;
+    most = omega (arith, told inn (held (s .at .tree)));
+    lags = λ z. clash {b = true} refl z;
     rest = run-is zeroAt J estOrder lctOrder ∙ ap (λ (f : ℕ). rest-of f 0 (allWhite J)) turns;
   }
     where
@@ -95,8 +118,8 @@ module _ {size : TreeSize} {words : List ℕ} {es posts atoms : List ℤ} {est l
       turns = omega (arith, s .arrays .count)
 
   -- how the run ends from a state
-  module _ (st : State) (end : End) (is : whole ≡ ended zeroAt J estOrder lctOrder st end) {words′ : List ℕ} {es′ posts′ atoms′ : List ℤ} {w′ : Written}
-      (a : At J estOrder posts atoms st inn words′ es′ posts′ atoms′ (w′ .posts) (w′ .atoms) (w′ .changes)) where
+  module _ (st : State) (end : End) (is : whole ≡ ended zeroAt J estOrder lctOrder st end) {es′ posts′ atoms′ : List ℤ} {w′ : Written}
+      (a : Slices posts atoms st es′ posts′ atoms′ (w′ .posts) (w′ .atoms) (w′ .changes)) where
     ends : {r : Finished} {atoms″ : List ℤ} → outcomeNumbers (r .outcome) ≡ endNumbers (length (st .posts)) (length (reasons (st .posts))) end → r .changes ≡ w′ .changes
         → atoms″ ≡ sets atoms 0 (atomWords (reasons (st .posts) ++ endReason end))
         → EdgeFound J estOrder lctOrder posts atoms (r .outcome) (r .changes) es′ posts′ atoms″
@@ -112,11 +135,11 @@ module _ {size : TreeSize} {words : List ℕ} {es posts atoms : List ℤ} {est l
     no-more : endReason end ≡ [] → atoms′ ≡ sets atoms 0 (atomWords (reasons (st .posts) ++ endReason end))
     no-more z = a .atom-words ∙ ap (λ (l : List Atom). sets atoms 0 (atomWords l)) (sym (ap (λ (l : List Atom). reasons (st .posts) ++ l) z ∙ append-nil (reasons (st .posts))))
 
-  module _ {t : ℕ} {words′ : List ℕ} {es′ posts′ atoms′ : List ℤ} {w′ : Written} (v : Level t words′ es′ posts′ atoms′ w′) where
+  module _ {t : ℕ} {words′ : List ℕ} {es′ posts′ atoms′ : List ℤ} {w′ : Written} {last : ℕ} {joined : Bool} (v : Level t words′ es′ posts′ atoms′ w′ last joined) where
     -- all levels are done
     pub all-done : {r : Finished} → n ≤ t + 1 → (r .outcome ≡ outcome.Done (w′ .posts)) × (r .changes ≡ w′ .changes)
         → EdgeFound J estOrder lctOrder posts atoms (r .outcome) (r .changes) es′ posts′ atoms′
-    all-done q f = ends (v .st) done is (v .at) (ap outcomeNumbers (f .0) ∙ ap (λ (k : ℕ). outcomeNumbers (outcome.Done k)) (v .at .posted)) (f .1) (no-more (v .st) done is (v .at) refl)
+    all-done q f = ends (v .st) done is (v .slices) (ap outcomeNumbers (f .0) ∙ ap (λ (k : ℕ). outcomeNumbers (outcome.Done k)) (v .slices .posted)) (f .1) (no-more (v .st) done is (v .slices) refl)
       where
         none : n - 1 - t ≡ 0
         none = omega arith
@@ -141,32 +164,8 @@ module _ {size : TreeSize} {words : List ℕ} {es posts atoms : List ℤ} {est l
       pub c-is : c ≡ completion J (getD lctOrder t 0)
       c-is = s .completions .at j j-small ∙ ap (completion J) j-is
 
-      abbrev here : Considerable size c words′ es′ posts′ atoms′ w′ est lst durations reverseMapping mapping
-      here = record {
-        J = J;
-        estOrder = estOrder;
-        lctOrder = lctOrder;
-        level = t;
-        st = v .st;
-        posts₀ = posts;
-        atoms₀ = atoms;
-        ordered = G;
-        arrays = s .arrays;
-        latest = s .latest;
-        small = omega (arith, v .small, s .arrays .count);
-        ends = c-is;
-        post-room = s .post-room;
-        atom-room = s .atom-room;
-        reached = at-head t (v .st) (v .entered);
-        at = v .at;
-      }
-
-      next : n - 1 - t ≡ suc (n - 1 - suc t)
-      next = omega arith
-
-      -- the tree, and the ect of Theta
-      abbrev pub shown : Held inn words′
-      shown = considering.shown here
+      pub small-t : t < J .count
+      small-t = omega (arith, v .small, s .arrays .count)
 
       abbrev pub ect : Option ℕ
       ect = leaves.ect J estOrder (v .st .leaves)
@@ -178,83 +177,114 @@ module _ {size : TreeSize} {words : List ℕ} {es posts atoms : List ℤ} {est l
       past-end : {u : Bool} → exceeds ect c ≡ u → exceeds ect end ≡ u
       past-end q = ap (exceeds ect) (sym c-is) ∙ q
 
+      next : n - 1 - t ≡ suc (n - 1 - suc t)
+      next = omega arith
+
       pub few-changes : w′ .changes ≤ 4 * TASKS
-      few-changes = considering.few-changes here
+      few-changes = omega (
+        arith,
+        v .slices .counted,
+        reached-changes zeroAt J (G .proper) estOrder lctOrder (G .by-earliest) (G .by-completion) t (v .st) (at-head t (v .st) (v .entered)) small-t,
+        v .small,
+        few,
+      )
+
+      -- where the ect_bar known last is past the level's lct, the inner nodes are joined
+      pub joined-past : c < last → joined ≡ true
+      joined-past q = elim (bool joined) [ inl z ↦ z | inr z ↦ absurd (omega (arith, v .lags z, c-is)) ]
+
+      abbrev pub tested : HeldPast inn words′ last c
+      tested = record { J = J; estOrder = estOrder; leaves = v .st .leaves; limited = G .limited; most = v .most; tree = λ q. v .tree (joined-past q) }
 
       -- the white tasks overload
-      pub over-asked : exceeds ect c ≡ true → ConflictExplainable (length atoms′) (w′ .atoms) (thetaIn words′ inn reverseMapping n) est durations (leaves.sum J estOrder (v .st .leaves)) c
-      over-asked = overloading.over-asked here
+      module _ (over : exceeds ect c ≡ true) where
+        pub tree-past : IsTree J estOrder (v .st .leaves) inn words′
+        tree-past = elim (decLt c last) [
+          | yes q ↦ v .tree (joined-past q)
+          | no q ↦ clash over (ect-within J estOrder (v .st .leaves) c (omega (arith, v .most)))
+        ]
 
-      pub size-fits : SizeFits size
-      size-fits = considering.size-fits here
-
-      pub overloads : {r : Finished} {atoms″ : List ℤ} → exceeds ect c ≡ true → ConflictExplained atoms′ atoms″ w′ r (conflictOf shown reverseMapping n est durations c)
-          → EdgeFound J estOrder lctOrder posts atoms (r .outcome) (r .changes) es′ posts′ atoms″
-      overloads {r} {atoms″} q k = ends (v .st) (overload reason) is (v .at) answer (k .changes) words-are
-        where
-          reason : List Atom
-          reason = conflict zeroAt J end (leaves.sum J estOrder (v .st .leaves)) (leaves.theta J estOrder (v .st .leaves))
-
-          reason-is : conflictOf shown reverseMapping n est durations c ≡ reason
-          reason-is = overloading.conflict-is here
-
-          is : whole ≡ ended zeroAt J estOrder lctOrder (v .st) (overload reason)
-          is = v .rest ∙ ap (λ (f : ℕ). rest-of f t (v .st)) next ∙ outer-over zeroAt J estOrder lctOrder (n - 1 - suc t) t (v .st) (past-end q)
-
-          answer : outcomeNumbers (r .outcome) ≡ endNumbers (length (v .st .posts)) (length (reasons (v .st .posts))) (overload reason)
-          answer = ap outcomeNumbers (k .answer ∙ ap (λ (l : List Atom). outcome.Overload (w′ .posts) (w′ .atoms) (length l)) reason-is) ∙ rw (v .at .posted, v .at .explained) refl
-
-          words-are : atoms″ ≡ sets atoms 0 (atomWords (reasons (v .st .posts) ++ reason))
-          words-are = k .atom-words ∙ ap (λ (l : List Atom). sets atoms′ (3 * w′ .atoms) (atomWords l)) reason-is
-              ∙ rw (v .at .atom-words, v .at .explained) (reason-stored atoms (reasons (v .st .posts)) reason)
-
-      -- they do not: the task of the level goes to Lambda
-      abbrev pub moves : Movable inn words′ mapping est durations j
-      moves = moving.movable here j j-is
-
-      module _ (quiet : exceeds ect c ≡ false) {words″ : List ℕ} (m : Moved inn words′ words″ mapping est durations j) {w₁ : Written} (two : w₁ ≡ counted w′ 2) where
-        -- the lct of the next level
-        abbrev pub d : ℕ
-        d = getD lct (getD sortedTasks (t + 1) 0) 0
-
-        abbrev st₁ : State
-        st₁ = grayed (v .st) (index estOrder (getD lctOrder t 0))
-
-        pub ends-d : d ≡ completion J (getD lctOrder (suc t) 0)
-        ends-d = let one : t + 1 ≡ suc t = omega arith in
-            let k-small : getD lctOrder (suc t) 0 < n = omega (arith, G .by-completion .task (suc t) (omega (arith, more, s .arrays .count)), s .arrays .count) in
-            ap (λ (u : ℕ). getD lct (getD sortedTasks u 0) 0) one ∙ ap (λ (k : ℕ). getD lct k 0) (s .order .at (suc t) (omega arith)) ∙ s .completions .at (getD lctOrder (suc t) 0) k-small
-
-        pub still : exceeds ect end ≡ false
-        still = past-end quiet
-
-        -- which the source makes in two leaf changes
-        abbrev pub goes-on : Considerable size d words″ es′ posts′ atoms′ w₁ est lst durations reverseMapping mapping
-        goes-on = record {
+        abbrev here : Considerable size c words′ es′ posts′ atoms′ w′ est lst durations reverseMapping mapping
+        here = record {
           J = J;
           estOrder = estOrder;
           lctOrder = lctOrder;
-          level = suc t;
-          st = st₁;
+          level = t;
+          st = v .st;
           posts₀ = posts;
           atoms₀ = atoms;
           ordered = G;
           arrays = s .arrays;
           latest = s .latest;
-          small = omega (arith, more, s .arrays .count);
-          ends = ends-d;
+          small = small-t;
+          ends = c-is;
           post-room = s .post-room;
           atom-room = s .atom-room;
-          reached = moved t (v .st) (v .entered) still;
-          at = record {
-            tree = subst (λ (k : ℕ). IsTree J estOrder (set (v .st .leaves) k gray) inn words″) (moving.gray-place here j j-is) (m moves);
-            starts = v .at .starts;
-            post-words = v .at .post-words;
-            atom-words = v .at .atom-words;
-            posted = ap (λ (w : Written). w .posts) two ∙ v .at .posted;
-            explained = ap (λ (w : Written). w .atoms) two ∙ v .at .explained;
-            counted = ap (λ (w : Written). w .changes) two ∙ ap (λ (c : ℕ). c + 2) (v .at .counted);
-          };
+          reached = at-head t (v .st) (v .entered);
+          at = record { tree = tree-past; slices = v .slices };
+        }
+
+        abbrev pub shown : Held inn words′
+        shown = considering.shown here
+
+        pub over-asked : ConflictExplainable (length atoms′) (w′ .atoms) (thetaIn words′ inn reverseMapping n) est durations (leaves.sum J estOrder (v .st .leaves)) c
+        over-asked = overloading.over-asked here over
+
+        pub size-fits : SizeFits size
+        size-fits = considering.size-fits here
+
+        pub overloads : {r : Finished} {atoms″ : List ℤ} → ConflictExplained atoms′ atoms″ w′ r (conflictOf shown reverseMapping n est durations c)
+            → EdgeFound J estOrder lctOrder posts atoms (r .outcome) (r .changes) es′ posts′ atoms″
+        overloads {r} {atoms″} k = ends (v .st) (overload reason) is (v .slices) answer (k .changes) words-are
+          where
+            reason : List Atom
+            reason = conflict zeroAt J end (leaves.sum J estOrder (v .st .leaves)) (leaves.theta J estOrder (v .st .leaves))
+
+            reason-is : conflictOf shown reverseMapping n est durations c ≡ reason
+            reason-is = overloading.conflict-is here
+
+            is : whole ≡ ended zeroAt J estOrder lctOrder (v .st) (overload reason)
+            is = v .rest ∙ ap (λ (f : ℕ). rest-of f t (v .st)) next ∙ outer-over zeroAt J estOrder lctOrder (n - 1 - suc t) t (v .st) (past-end over)
+
+            answer : outcomeNumbers (r .outcome) ≡ endNumbers (length (v .st .posts)) (length (reasons (v .st .posts))) (overload reason)
+            answer = ap outcomeNumbers (k .answer ∙ ap (λ (l : List Atom). outcome.Overload (w′ .posts) (w′ .atoms) (length l)) reason-is) ∙ rw (v .slices .posted, v .slices .explained) refl
+
+            words-are : atoms″ ≡ sets atoms 0 (atomWords (reasons (v .st .posts) ++ reason))
+            words-are = k .atom-words ∙ ap (λ (l : List Atom). sets atoms′ (3 * w′ .atoms) (atomWords l)) reason-is
+                ∙ rw (v .slices .atom-words, v .slices .explained) (reason-stored atoms (reasons (v .st .posts)) reason)
+
+      -- they do not: the task of the level goes to Lambda
+      abbrev pub moves : Movable inn words′ mapping est durations j joined
+      moves = moving.movable G (s .arrays) t small-t j j-is (v .st .leaves) (v .has) (v .tree)
+
+      -- the lct of the next level
+      abbrev pub d : ℕ
+      d = getD lct (getD sortedTasks (t + 1) 0) 0
+
+      pub ends-d : d ≡ completion J (getD lctOrder (suc t) 0)
+      ends-d = let one : t + 1 ≡ suc t = omega arith in
+          let k-small : getD lctOrder (suc t) 0 < n = omega (arith, G .by-completion .task (suc t) (omega (arith, more, s .arrays .count)), s .arrays .count) in
+          ap (λ (u : ℕ). getD lct (getD sortedTasks u 0) 0) one ∙ ap (λ (k : ℕ). getD lct k 0) (s .order .at (suc t) (omega arith)) ∙ s .completions .at (getD lctOrder (suc t) 0) k-small
+
+      module _ (quiet : exceeds ect c ≡ false) {needed : Bool} {words″ : List ℕ} (m : Moved inn words′ words″ mapping est durations j joined needed) {w₁ : Written} (two : w₁ ≡ counted w′ 2) where
+        abbrev st₁ : State
+        st₁ = grayed (v .st) (index estOrder (getD lctOrder t 0))
+
+        pub still : exceeds ect end ≡ false
+        still = past-end quiet
+
+        -- the gray leaf, which the source makes in two leaf changes
+        pub at-place : (P : List Leaf → Type 0) → P (set (v .st .leaves) (getD mapping j 0) gray) → P (st₁ .leaves)
+        at-place P p = subst (λ (k : ℕ). P (set (v .st .leaves) k gray)) (moving.gray-place G (s .arrays) t small-t j j-is) p
+
+        pub slices₁ : Slices posts atoms st₁ es′ posts′ atoms′ (w₁ .posts) (w₁ .atoms) (w₁ .changes)
+        slices₁ = record {
+          starts = v .slices .starts;
+          post-words = v .slices .post-words;
+          atom-words = v .slices .atom-words;
+          posted = ap (λ (w : Written). w .posts) two ∙ v .slices .posted;
+          explained = ap (λ (w : Written). w .atoms) two ∙ v .slices .explained;
+          counted = ap (λ (w : Written). w .changes) two ∙ ap (λ (c : ℕ). c + 2) (v .slices .counted);
         }
 
         unfold-level : whole ≡ rest-of (suc (n - 1 - suc t)) t (v .st)
@@ -263,24 +293,69 @@ module _ {size : TreeSize} {words : List ℕ} {es posts atoms : List ℤ} {est l
         inner-is : {u : Turn} → inner zeroAt J estOrder lctOrder n (suc t) st₁ ≡ u → inner zeroAt J estOrder lctOrder (J .count) (suc t) st₁ ≡ u
         inner-is z = ap (λ (f : ℕ). inner zeroAt J estOrder lctOrder f (suc t) st₁) (s .arrays .count) ∙ z
 
-        -- the inner loop ended,
-        pub one-more : {words‴ : List ℕ} {es″ posts″ atoms″ : List ℤ} {w″ : Written} {u : code.Turn} → u ≡ turn.On w″ → AllConsidered goes-on u words‴ es″ posts″ atoms″
-            → Level (t + 1) words‴ es″ posts″ atoms″ w″
-        one-more {words‴} {es″} {posts″} {atoms″} {w″} is all =
-            let (st′, a, z) = rw is at all in
+        -- the next level has no candidate, as the ect_bar known last is not past its lct
+        pub passed-over : needed ≡ false → last ≤ d → Level (t + 1) words″ es′ posts′ atoms′ w₁ last needed
+        passed-over not low =
             let one : suc t ≡ t + 1 = omega arith in
-            subst (λ (k : ℕ). Level k words‴ es″ posts″ atoms″ w″) one (record {
-              st = st′;
+            subst (λ (k : ℕ). Level k words″ es′ posts′ atoms′ w₁ last needed) one (record {
+              st = st₁;
               small = omega arith;
-              at = a;
-              entered = follows t (v .st) st′ (v .entered) still (inner-is z);
-              rest = unfold-level ∙ outer-on zeroAt J estOrder lctOrder (n - 1 - suc t) t (v .st) st′ still (inner-is z);
+              entered = follows t (v .st) st₁ (v .entered) still on-st₁;
+              has = at-place (λ ls. HasLeaves J estOrder ls inn words″) (m moves .0);
+              tree = λ z. clash z not;
+              slices = slices₁;
+              most = omega (arith, v .most, bar-falls zeroAt J (G .proper) estOrder lctOrder (G .by-earliest) (G .by-completion) t (v .st) small-t (v .entered));
+              lags = λ _. omega (arith, low, ends-d);
+              rest = unfold-level ∙ outer-on zeroAt J estOrder lctOrder (n - 1 - suc t) t (v .st) st₁ still on-st₁;
             })
+          where
+            on-st₁ : inner zeroAt J estOrder lctOrder (J .count) (suc t) st₁ ≡ on st₁
+            on-st₁ = quiet-levels.passed-over zeroAt J (G .proper) estOrder lctOrder (G .by-earliest) (G .by-completion) t (v .st) small-t (v .entered) (J .count) (omega (arith, v .most, low, ends-d))
 
-        -- or a post emptied a range
-        pub one-emptied : (words‴ : List ℕ) {es″ posts″ atoms″ : List ℤ} {w″ : Written} {u : code.Turn} {r : Finished} → u ≡ turn.Emptied w″ → AllConsidered goes-on u words‴ es″ posts″ atoms″
-            → (r .outcome ≡ outcome.Emptied (w″ .posts)) × (r .changes ≡ w″ .changes) → EdgeFound J estOrder lctOrder posts atoms (r .outcome) (r .changes) es″ posts″ atoms″
-        one-emptied words‴ {es″} {posts″} {atoms″} {w″} is all f =
-            let (st′, a, z) = rw is at all in
-            let stops : whole ≡ ended zeroAt J estOrder lctOrder st′ emptied = unfold-level ∙ outer-stop zeroAt J estOrder lctOrder (n - 1 - suc t) t (v .st) st′ still (inner-is z) in
-            ends st′ emptied stops a (ap outcomeNumbers (f .0) ∙ ap (λ (k : ℕ). outcomeNumbers (outcome.Emptied k)) (a .posted)) (f .1) (no-more st′ emptied stops a refl)
+        -- it may have one, and the words hold the tree
+        module _ (is-needed : needed ≡ true) where
+          abbrev pub goes-on : Considerable size d words″ es′ posts′ atoms′ w₁ est lst durations reverseMapping mapping
+          goes-on = record {
+            J = J;
+            estOrder = estOrder;
+            lctOrder = lctOrder;
+            level = suc t;
+            st = st₁;
+            posts₀ = posts;
+            atoms₀ = atoms;
+            ordered = G;
+            arrays = s .arrays;
+            latest = s .latest;
+            small = omega (arith, more, s .arrays .count);
+            ends = ends-d;
+            post-room = s .post-room;
+            atom-room = s .atom-room;
+            reached = moved t (v .st) (v .entered) still;
+            at = record { tree = at-place (λ ls. IsTree J estOrder ls inn words″) (m moves .1 is-needed); slices = slices₁ };
+          }
+
+          -- the inner loop ended,
+          pub one-more : {words‴ : List ℕ} {es″ posts″ atoms″ : List ℤ} {w″ : Written} {u : code.Turn} → u ≡ turn.On w″ → AllConsidered goes-on u words‴ es″ posts″ atoms″
+              → {last′ : ℕ} → Told words‴ last′ → Level (t + 1) words‴ es″ posts″ atoms″ w″ last′ needed
+          one-more {words‴} {es″} {posts″} {atoms″} {w″} is all {last′} told =
+              let (st′, a, z) = rw is at all in
+              let one : suc t ≡ t + 1 = omega arith in
+              subst (λ (k : ℕ). Level k words‴ es″ posts″ atoms″ w″ last′ needed) one (record {
+                st = st′;
+                small = omega arith;
+                entered = follows t (v .st) st′ (v .entered) still (inner-is z);
+                has = tree-leaves (G .limited) (a .tree);
+                tree = λ _. a .tree;
+                slices = a .slices;
+                most = omega (arith, told inn (held (a .tree)));
+                lags = λ not. clash is-needed not;
+                rest = unfold-level ∙ outer-on zeroAt J estOrder lctOrder (n - 1 - suc t) t (v .st) st′ still (inner-is z);
+              })
+
+          -- or a post emptied a range
+          pub one-emptied : (words‴ : List ℕ) {es″ posts″ atoms″ : List ℤ} {w″ : Written} {u : code.Turn} {r : Finished} → u ≡ turn.Emptied w″ → AllConsidered goes-on u words‴ es″ posts″ atoms″
+              → (r .outcome ≡ outcome.Emptied (w″ .posts)) × (r .changes ≡ w″ .changes) → EdgeFound J estOrder lctOrder posts atoms (r .outcome) (r .changes) es″ posts″ atoms″
+          one-emptied words‴ {es″} {posts″} {atoms″} {w″} is all f =
+              let (st′, a, z) = rw is at all in
+              let stops : whole ≡ ended zeroAt J estOrder lctOrder st′ emptied = unfold-level ∙ outer-stop zeroAt J estOrder lctOrder (n - 1 - suc t) t (v .st) st′ still (inner-is z) in
+              ends st′ emptied stops (a .slices) (ap outcomeNumbers (f .0) ∙ ap (λ (k : ℕ). outcomeNumbers (outcome.Emptied k)) (a .slices .posted)) (f .1) (no-more st′ emptied stops (a .slices) refl)

@@ -72,7 +72,7 @@ module _ {size : TreeSize} {lct : ℕ} {words : List ℕ} {es posts atoms : List
   over-room : 3 * w .atoms + 6 * length (leaves.theta J estOrder ls) ≤ length atoms
   over-room = omega (
     arith,
-    s .at .explained,
+    s .at .slices .explained,
     considering.reasons-short s,
     room.theta-most zeroAt J (G .proper) estOrder lctOrder (G .by-earliest) (G .by-completion) ls,
     s .arrays .count,

@@ -1,14 +1,16 @@
 -- Edge finding as code: what stands when it begins, and what it leaves, by the run's definition.
 use mathlib.Core.Path.{_≡_}
 use mathlib.Core.List.{List, _++_}
-use Prim.Native.Nat.{ℕ, _*_, _≤_}
+use Prim.Native.Nat.{ℕ, _*_, _≤_, _<_}
 use lib.IntN.{ℤ}
 use lib.ListN.{length, getD}
 use lib.Seq.{sets}
 use Rattle.integers.specs.Moments.{zeroAt}
 use Rattle.scheduling.specs.Scheduling.{natural, Tasks, Atom, completion}
 use Rattle.trees.specs.declared.complete_tree.TreeSize.{TreeSize}
-use Rattle.trees.specs.Leaves.{sum}
+use Rattle.trees.specs.Ects.{raisedTo}
+use Rattle.trees.specs.Leaves.{Leaf, ect-bar, sum}
+use Rattle.trees.specs.Trees.{Limited, IsTree}
 use Rattle.trees.specs.ArraySearches.{thetaIn}
 use Rattle.trees.specs.Operations.{Held}
 use Rattle.runs.specs.Runs.{conflict, run, allWhite}
@@ -22,6 +24,15 @@ use Rattle.propagator.specs.RunArrays.{Ordered, Holds, Arrays, At}
 use Rattle.runs.specs.declared.outcome.Outcome.{Outcome}
 use Rattle.runs.specs.declared.outcome.Outcome.the-variants as outcome
 use Rattle.runs.specs.declared.outcome.Finished.{Finished}
+
+-- Tasks in an order and leaves over them, of which `last` is at least the ect_bar; where it is past a moment, the words hold their tree.
+pub record HeldPast (inner : ℕ) (words : List ℕ) (last moment : ℕ) : Type 0 where
+  pub J : Tasks natural
+  pub estOrder : List ℕ
+  pub leaves : List Leaf
+  pub limited : Limited J estOrder
+  pub most : raisedTo 0 (ect-bar J estOrder leaves) ≤ last
+  pub tree : moment < last → IsTree J estOrder leaves inner words
 
 -- the reason of an overload, by the tree and the arrays
 abbrev pub conflictOf : {inner : ℕ} {words : List ℕ} → Held inner words → List ℕ → ℕ → List ℕ → List ℕ → ℕ → List Atom

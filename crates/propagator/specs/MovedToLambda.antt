@@ -1,27 +1,30 @@
 -- A task goes from Theta to Lambda: over any tasks, order and leaves that the tree's words hold.
 use mathlib.Core.Path.{_≡_}
+use mathlib.Core.Bool.{Bool, true}
 use mathlib.Core.List.{List}
 use Prim.Native.Nat.{ℕ, _<_}
 use lib.ListN.{getD, set}
 use Rattle.integers.specs.Limits.{TASKS}
 use Rattle.scheduling.specs.Scheduling.{natural, Tasks}
 use Rattle.trees.specs.Leaves.{Leaf, gray, taskAt}
-use Rattle.trees.specs.Trees.{Limited, IsTree}
+use Rattle.trees.specs.Trees.{Limited, IsTree, HasLeaves}
 
--- The words hold a tree in which task j has its leaf.
-pub record Movable (inner : ℕ) (words mapping est durations : List ℕ) (j : ℕ) : Type 0 where
+-- The words hold leaves of which one is that of task j, and their tree where the inner nodes are joined.
+pub record Movable (inner : ℕ) (words mapping est durations : List ℕ) (j : ℕ) (joined : Bool) : Type 0 where
   pub J : Tasks natural
   pub estOrder : List ℕ
   pub leaves : List Leaf
   pub limited : Limited J estOrder
-  pub tree : IsTree J estOrder leaves inner words
+  pub has : HasLeaves J estOrder leaves inner words
+  pub tree : joined ≡ true → IsTree J estOrder leaves inner words
   pub known : j < TASKS
   pub inside : getD mapping j 0 < J .count
   pub task : taskAt J estOrder (getD mapping j 0) ≡ j
   pub start : getD est j 0 ≡ J .earliest j
   pub lasts : getD durations j 0 ≡ J .duration j
 
--- Whatever tree they held, they now hold it with the leaf of j gray.
-abbrev pub Moved : ℕ → List ℕ → List ℕ → List ℕ → List ℕ → List ℕ → ℕ → Type 0
-Moved inner words words′ mapping est durations j = (m : Movable inner words mapping est durations j)
-    → IsTree (m .J) (m .estOrder) (set (m .leaves) (getD mapping j 0) gray) inner words′
+-- Whatever leaves they held, they now hold these with the leaf of j gray, and their tree where it is needed.
+abbrev pub Moved : ℕ → List ℕ → List ℕ → List ℕ → List ℕ → List ℕ → ℕ → Bool → Bool → Type 0
+Moved inner words words′ mapping est durations j joined needed = (m : Movable inner words mapping est durations j joined)
+    → HasLeaves (m .J) (m .estOrder) (set (m .leaves) (getD mapping j 0) gray) inner words′
+    × (needed ≡ true → IsTree (m .J) (m .estOrder) (set (m .leaves) (getD mapping j 0) gray) inner words′)

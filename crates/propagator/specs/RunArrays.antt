@@ -47,14 +47,17 @@ pub record Arrays (J : Tasks natural) (estOrder : List ℕ) (size : TreeSize) (e
   pub places : (k : ℕ) → k < size .leaves → getD mapping k 0 ≡ index estOrder k
   pub tall : size .height ≡ heightFor (size .leaves)
 
--- What a run has got to, at the state st: the tree shows its leaves, the slices hold its starts, posts and reasons over what stood there at entry, and its leaf
--- changes are counted.
-pub record At (J : Tasks natural) (estOrder : List ℕ) (posts₀ atoms₀ : List ℤ) (st : State) (inner : ℕ) (words : List ℕ) (es posts atoms : List ℤ)
-    (many far changed : ℕ) : Type 0 where
-  pub tree : IsTree J estOrder (st .leaves) inner words
+-- What a run has written at the state st: the slices hold its starts, posts and reasons over what stood there at entry, and its leaf changes are counted.
+pub record Slices (posts₀ atoms₀ : List ℤ) (st : State) (es posts atoms : List ℤ) (many far changed : ℕ) : Type 0 where
   pub starts : es ≡ map (instant zeroAt) (st .starts)
   pub post-words : posts ≡ sets posts₀ 0 (postWords 0 (st .posts))
   pub atom-words : atoms ≡ sets atoms₀ 0 (atomWords (reasons (st .posts)))
   pub posted : many ≡ length (st .posts)
   pub explained : far ≡ length (reasons (st .posts))
   pub counted : changed ≡ st .changes
+
+-- What a run has got to, at the state st: the tree shows its leaves, and the slices are those of the state.
+pub record At (J : Tasks natural) (estOrder : List ℕ) (posts₀ atoms₀ : List ℤ) (st : State) (inner : ℕ) (words : List ℕ) (es posts atoms : List ℤ)
+    (many far changed : ℕ) : Type 0 where
+  pub tree : IsTree J estOrder (st .leaves) inner words
+  pub slices : Slices posts₀ atoms₀ st es posts atoms many far changed

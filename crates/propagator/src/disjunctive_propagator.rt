@@ -27,14 +27,14 @@ ghost use Prim.Native.Nat.{_≤_, _<_, ℕ, _+_, _*_, _^_};
 ghost use lib.ListN.{length};
 ghost use Rattle.integers.specs.Limits.{ATOMS};
 ghost use Rattle.trees.specs.Ects.{exceeds, raisedTo};
-ghost use Rattle.trees.specs.Leaves.{ect, sum};
+ghost use Rattle.trees.specs.Leaves.{ect, ect-bar, sum};
 ghost use Rattle.trees.specs.ArraySearches.{thetaIn};
 ghost use Rattle.trees.specs.Operations.{Held, Answers, Tall};
 ghost use Rattle.explanations.specs.Explanations.{ConflictExplainable, PropagationExplainable};
 ghost use Rattle.propagator.specs.Ran.{Runnable, RunLeft, Ran};
 ghost use Rattle.propagator.specs.RunArrays.{SizeFits};
 ghost use Rattle.propagator.specs.FilledTheta.{Fillable, Filled};
-ghost use Rattle.propagator.specs.EdgeFinding.{ConflictExplained, conflictOf, EdgeFindable, EdgeFound};
+ghost use Rattle.propagator.specs.EdgeFinding.{HeldPast, ConflictExplained, conflictOf, EdgeFindable, EdgeFound};
 ghost use Rattle.propagator.specs.MovedToLambda.{Movable, Moved};
 ghost use Rattle.propagator.specs.Candidates.{nothingWritten, counted, Proposes, reasonOf, Posted, Considerable, Considered, AllConsidered};
 ghost use Rattle.propagator.specs.Candidates.{Responsible-for};
@@ -159,11 +159,13 @@ fn edge_finding<'a>(
 {
     let n = size.leaves;
     let mut w = Written::new(n);
+    let mut last_ect_bar = ect_bar_moment(nodes);
+    let mut joined = true;
     let mut index: usize = 0;
     while index + 1 < n {
         let j = sorted_tasks[index];
         let lct_j = lct[j];
-        if overloads(nodes, lct_j) {
+        if overloads(nodes, last_ect_bar, lct_j) {
             return overload(
                 atoms,
                 w,
@@ -175,24 +177,40 @@ fn edge_finding<'a>(
                 lct_j,
             );
         }
-        move_to_lambda(nodes, size.inner, mapping, est, durations, j);
         index += 1;
-        match consider_all(
+        let lct_next = lct[sorted_tasks[index]];
+        let needed = last_ect_bar > lct_next;
+        move_to_lambda(
             nodes,
-            earliest,
-            posts,
-            atoms,
-            w.counted(2),
+            size.inner,
             mapping,
-            reverse_mapping,
             est,
-            lst,
             durations,
-            size,
-            lct[sorted_tasks[index]],
-        ) {
-            Turn::On(x) => w = x,
-            Turn::Emptied(x) => return x.finished(Outcome::Emptied(x.posts)),
+            j,
+            joined,
+            needed,
+        );
+        joined = needed;
+        w = w.counted(2);
+        if needed {
+            match consider_all(
+                nodes,
+                earliest,
+                posts,
+                atoms,
+                w,
+                mapping,
+                reverse_mapping,
+                est,
+                lst,
+                durations,
+                size,
+                lct_next,
+            ) {
+                Turn::On(x) => w = x,
+                Turn::Emptied(x) => return x.finished(Outcome::Emptied(x.posts)),
+            }
+            last_ect_bar = ect_bar_moment(nodes);
         }
     }
     w.finished(Outcome::Done(w.posts))
@@ -225,10 +243,22 @@ fn fill<'a>(
     ThetaLambdaTree::rebuild(nodes, inner);
 }
 
-// Whether Theta overloads: its ect is past the level's lct.
-fn overloads(nodes: &[u32; TREEWORDS], lct: u32) -> bool
-    ensures { λ r. ⌜ Answers (λ J estOrder ls. exceeds (ect J estOrder ls) lct) (now (nodes .entry)) r ⌝ }
+// The ect_bar of the tree as a moment: 0 where no task is in Theta or Lambda.
+fn ect_bar_moment(nodes: &[u32; TREEWORDS]) -> u32
+    ensures { λ r. ⌜ Answers (λ J estOrder ls. raisedTo 0 (ect-bar J estOrder ls)) (now (nodes .entry)) r ⌝ }
 {
+    let ect_bar = ThetaLambdaTree::ect_bar(nodes);
+    ect_bar.raised(0)
+}
+
+// Whether Theta overloads: its ect is past the level's lct. It is at most the ect_bar, so the root is read only where the last known ect_bar is past lct.
+fn overloads(nodes: &[u32; TREEWORDS], last_ect_bar: u32, lct: u32) -> bool
+    ensures { λ r. ⌜ ((inner : ℕ) (h : HeldPast inner (now (nodes .entry)) «last_ect_bar» lct)
+        → r ≡ exceeds (ect (h .J) (h .estOrder) (h .leaves)) lct) ⌝ }
+{
+    if last_ect_bar <= lct {
+        return false;
+    }
     let ect = ThetaLambdaTree::ect(nodes);
     ect.exceeds(lct)
 }
@@ -272,7 +302,8 @@ fn overload<'a>(
     })
 }
 
-// Moves task j from Theta to Lambda. The source empties its leaf first; the gray leaf goes over the white one here, which leaves the same tree.
+// Moves task j from Theta to Lambda. The source empties its leaf first; the gray leaf goes over the white one here, which leaves the same tree. The inner nodes
+// are joined only where they are needed, and then all of them where they were not joined before.
 fn move_to_lambda<'a>(
     nodes: &mut [u32; TREEWORDS],
     inner: usize,
@@ -280,9 +311,11 @@ fn move_to_lambda<'a>(
     est: &'a [u32; TASKS],
     durations: &'a [u32; TASKS],
     j: usize,
+    joined: bool,
+    needed: bool,
 )
-    requires { ⌜ Movable inner (now nodes) (now mapping) (now est) (now durations) j ⌝ }
-    ensures { λ _. ⌜ Moved inner (now (nodes .entry)) (now (nodes .exit)) (now (mapping .entry)) (now (est .entry)) (now (durations .entry)) j ⌝ }
+    requires { ⌜ Movable inner (now nodes) (now mapping) (now est) (now durations) j joined ⌝ }
+    ensures { λ _. ⌜ Moved inner (now (nodes .entry)) (now (nodes .exit)) (now (mapping .entry)) (now (est .entry)) (now (durations .entry)) j joined needed ⌝ }
 {
     let place = leaf_of(mapping, LocalId(j));
     let task = DisjunctiveTask {
@@ -290,7 +323,14 @@ fn move_to_lambda<'a>(
         processing_time: durations[j],
         id: LocalId(j),
     };
-    ThetaLambdaTree::add_to_lambda(nodes, inner, place, task);
+    if joined && needed {
+        ThetaLambdaTree::add_to_lambda(nodes, inner, place, task);
+        return;
+    }
+    ThetaLambdaTree::lay_in_lambda(nodes, inner, place, task);
+    if needed {
+        ThetaLambdaTree::rebuild(nodes, inner);
+    }
 }
 
 // The posts and the atoms written so far, and the leaf changes so far as the source makes them: it empties a leaf before it changes its colour.

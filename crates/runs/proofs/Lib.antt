@@ -13,6 +13,7 @@ pub mod ReasonLengths
 pub mod AtomRoom
 pub mod WordRoom
 pub mod LeafChanges
+pub mod QuietLevels
 pub mod WalkStops
 pub mod AtomShapes
 pub mod StartsLeft

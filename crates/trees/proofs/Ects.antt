@@ -101,6 +101,12 @@ pub raised-least : (start : ℕ) (o : Option ℕ) → start ≤ raisedTo start o
 raised-least start none = omega arith
 raised-least start (some v) = omega arith
 
+-- raised from 0, it is the word that codes the ect
+pub raised-decoded : (v : ℕ) → raisedTo 0 (decoded v) ≡ v
+unfolding decoded
+raised-decoded zero = refl
+raised-decoded (suc v) = omega arith
+
 -- raised at all, it is the ect
 pub raised-some : (start b : ℕ) (o : Option ℕ) → b ≡ raisedTo start o → start < b → o ≡ some b
 raised-some start b none z q = absurd (omega arith)

@@ -9,7 +9,7 @@ use Rattle.trees.specs.declared.theta_lambda_tree.ThetaLambdaTree.{Theta
 use Rattle.trees.specs.declared.theta_lambda_tree.Responsible.{Responsible}
 use Rattle.trees.specs.Shapes.{heightFor}
 use Rattle.trees.specs.Arrays.{Sized}
-use Rattle.trees.specs.Leaves.{Leaf, empty, white, startAt, durationAt, responsible}
+use Rattle.trees.specs.Leaves.{Leaf, empty, startAt, durationAt, responsible}
 use Rattle.trees.specs.ArraySearches.{responsibleOf}
 use Rattle.trees.specs.Trees.{Limited, IsTree, HasLeaves}
 
@@ -61,6 +61,6 @@ HasPlace J estOrder place task = HasTask J estOrder place (task .«start_time»)
 abbrev pub Coloured : Leaf → {inner : ℕ} {words : List ℕ} → Held inner words → ℕ → List ℕ → Type 0
 Coloured c {inner} h place words′ = IsTree (h .J) (h .estOrder) (set (h .leaves) place c) inner words′
 
--- the leaf at the place is white then, and the inner nodes may be anything
-abbrev pub Whitened : {inner : ℕ} {words : List ℕ} → HeldLeaves inner words → ℕ → List ℕ → Type 0
-Whitened {inner} l place words′ = HasLeaves (l .J) (l .estOrder) (set (l .leaves) place white) inner words′
+-- the same of the leaves alone: the inner nodes may be anything
+abbrev pub LeafColoured : Leaf → {inner : ℕ} {words : List ℕ} → HeldLeaves inner words → ℕ → List ℕ → Type 0
+LeafColoured c {inner} l place words′ = HasLeaves (l .J) (l .estOrder) (set (l .leaves) place c) inner words′

@@ -33,9 +33,9 @@ ghost use Rattle.trees.specs.Bounds.{NeedsUpheap};
 ghost use Rattle.trees.specs.Puts.{Puttable, Put};
 ghost use Rattle.trees.specs.Searches.{searchP, searchEct};
 ghost use Rattle.trees.specs.ArraySearches.{Searchable, aroundOf, foundAt, whiteIn, Next};
-ghost use Rattle.trees.specs.Leaves.{empty, gray, ect, ect-bar, sum};
+ghost use Rattle.trees.specs.Leaves.{empty, white, gray, ect, ect-bar, sum};
 ghost use Rattle.trees.specs.Trees.{IsTree};
-ghost use Rattle.trees.specs.Operations.{Held, HeldLeaves, New, Answers, Tall, Responds, HasPlace, Coloured, Whitened};
+ghost use Rattle.trees.specs.Operations.{Held, HeldLeaves, New, Answers, Tall, Responds, HasPlace, Coloured, LeafColoured};
 
 // No position: there are as many nodes. A search answers with a number, not with an enum, so that a call at its end needs no room of its own.
 const NOWHERE: usize = NODES;
@@ -263,10 +263,27 @@ impl ThetaLambdaTree {
     )
         requires { ⌜ ((l : HeldLeaves inner (now nodes)) × HasPlace (l .J) (l .estOrder) (place .0) task) ⌝ }
         ensures { λ _. ⌜ ((l : HeldLeaves inner (now (nodes .entry))) → HasPlace (l .J) (l .estOrder) (place .0) task
-            → Whitened l (place .0) (now (nodes .exit))) ⌝ }
+            → LeafColoured white l (place .0) (now (nodes .exit))) ⌝ }
     {
         let ect = task.start_time + task.processing_time;
         let n = Node::new_white_node(ect, task.processing_time);
+        let position = inner + place.0;
+        store(nodes, position, n);
+    }
+
+    // Adds the provided task to Lambda, but for the leaf's ancestors, which are left to `rebuild`.
+    pub fn lay_in_lambda(
+        nodes: &mut [u32; TREEWORDS],
+        inner: usize,
+        place: LeafPlace,
+        task: DisjunctiveTask,
+    )
+        requires { ⌜ ((l : HeldLeaves inner (now nodes)) × HasPlace (l .J) (l .estOrder) (place .0) task) ⌝ }
+        ensures { λ _. ⌜ ((l : HeldLeaves inner (now (nodes .entry))) → HasPlace (l .J) (l .estOrder) (place .0) task
+            → LeafColoured gray l (place .0) (now (nodes .exit))) ⌝ }
+    {
+        let ect = task.start_time + task.processing_time;
+        let n = Node::new_gray_node(ect, task.processing_time);
         let position = inner + place.0;
         store(nodes, position, n);
     }

@@ -1,4 +1,4 @@
--- The invariant `Level`: at the head of level `index`, tree and slices are at a state from which the definition's outer loop has the same trace.
+-- The invariant `Level`: at the head of level `index`, leaves and slices are at a state from which the definition's outer loop has the same trace.
 use mathlib.Core.Path.{_≡_, refl, sym, _∙_}
 use mathlib.Core.Bool.{Bool, true, false}
 use mathlib.Core.List.{List}
@@ -7,20 +7,20 @@ use native.Mathlib.Omega.{arith}
 use lib.IntN.{ℤ}
 use lib.ListN.{length, getD}
 use borrow.Author.Needs.{needs}
+use borrow.Author.Tests.{ltb-false}
 use Rattle.trees.specs.Ects.{exceeds}
 use Rattle.trees.specs.declared.complete_tree.TreeSize.{TreeSize}
 use Rattle.propagator.specs.declared.disjunctive_propagator.Written.{Written}
 use Rattle.propagator.specs.EdgeFinding.{EdgeFindable}
-use Rattle.propagator.proofs.OuterLoop.{Level, shown, ect, sorted-task-small, first-level, all-done, over-asked, size-fits, few-changes, overloads, moves, goes-on, one-more, one-emptied}
+use Rattle.propagator.proofs.OuterLoop.{Level, tested, shown, ect, sorted-task-small, first-level, all-done, over-asked, size-fits, few-changes, overloads, moves, passed-over, goes-on, one-more, one-emptied}
 use Rattle.propagator.proofs.disjunctive_propagator.edge_finding.Statement.{statement}
 use Rattle.propagator.proofs.disjunctive_propagator.edge_finding.Tie as tie
 
 -- the level that the loop stands at; the slices keep their lengths
 record Loop (size : TreeSize) (n : ℕ) (nodes₀ : List ℕ) (earliest₀ posts₀ atoms₀ : List ℤ) (est lst lct durations reverseMapping sortedTasks mapping nodes : List ℕ) (earliest posts atoms : List ℤ)
-    (w : Written)
-    (index : ℕ) : Type 0 where
+    (w : Written) (last : ℕ) (joined : Bool) (index : ℕ) : Type 0 where
   findable : EdgeFindable size nodes₀ earliest₀ posts₀ atoms₀ est lst lct durations reverseMapping sortedTasks mapping
-  level : (s : EdgeFindable size nodes₀ earliest₀ posts₀ atoms₀ est lst lct durations reverseMapping sortedTasks mapping) → Level s index nodes earliest posts atoms w
+  level : (s : EdgeFindable size nodes₀ earliest₀ posts₀ atoms₀ est lst lct durations reverseMapping sortedTasks mapping) → Level s index nodes earliest posts atoms w last joined
   count : n ≡ size .leaves
   small : index < size .leaves
   starts-length : length earliest ≡ length earliest₀
@@ -28,14 +28,14 @@ record Loop (size : TreeSize) (n : ℕ) (nodes₀ : List ℕ) (earliest₀ posts
   atoms-length : length atoms ≡ length atoms₀
 
 abbrev Inv-loop : tie.InvT-loop
-Inv-loop nodes₀ earliest₀ posts₀ atoms₀ mapping reverseMapping sortedTasks est lst lct durations size n w₀ index₀ nodes earliest posts atoms w index =
-    Loop size n nodes₀ earliest₀ posts₀ atoms₀ est lst lct durations reverseMapping sortedTasks mapping nodes earliest posts atoms w index
+Inv-loop nodes₀ earliest₀ posts₀ atoms₀ mapping reverseMapping sortedTasks est lst lct durations size n w₀ last₀ joined₀ index₀ nodes earliest posts atoms w last joined index =
+    Loop size n nodes₀ earliest₀ posts₀ atoms₀ est lst lct durations reverseMapping sortedTasks mapping nodes earliest posts atoms w last joined index
 
 abbrev μ-loop : tie.MeasureT-loop
-μ-loop nodes₀ earliest₀ posts₀ atoms₀ mapping reverseMapping sortedTasks est lst lct durations size n w₀ index₀ nodes earliest posts atoms w index = size .leaves - index
+μ-loop nodes₀ earliest₀ posts₀ atoms₀ mapping reverseMapping sortedTasks est lst lct durations size n w₀ last₀ joined₀ index₀ nodes earliest posts atoms w last joined index = size .leaves - index
 
 abbrev start : tie.In-loop Inv-loop μ-loop → tie.Start Inv-loop μ-loop
-start c = c .before .before .before
+start c = c .before .before .before .before .before
 
 -- inside the loop: the level's task and its lct, and that a level follows
 abbrev task : tie.In-loop Inv-loop μ-loop → ℕ
@@ -47,30 +47,39 @@ end c = getD (start c .args .lct .now) (task c) 0
 more : (c : tie.In-loop Inv-loop μ-loop) → c .before .loop .index + 1 < start c .args .size .leaves
 more c = omega (arith, c .before .loop .inv .count)
 
--- where the level was entered, from its test and from the move of its task; and that move, from the tasks considered
+-- where the level was entered, from its test and from the move of its task
 abbrev entered : tie.After-overloads Inv-loop μ-loop → tie.In-loop Inv-loop μ-loop
 entered c = c .before .before .before .before
 
+abbrev not-over : tie.After-move-to-lambda Inv-loop μ-loop → tie.Else1 Inv-loop μ-loop
+not-over c = c .before .before .before .before
+
 abbrev level-of : tie.After-move-to-lambda Inv-loop μ-loop → tie.In-loop Inv-loop μ-loop
-level-of c = entered (c .before .before .before)
+level-of c = entered (not-over c .before)
 
-abbrev counts : tie.After-consider-all Inv-loop μ-loop → tie.After-counted Inv-loop μ-loop
-counts c = c .before .before .before
+-- the tree was needed, from the tasks considered; these, from the new ect_bar
+abbrev needing : tie.After-consider-all Inv-loop μ-loop → tie.Then2 Inv-loop μ-loop
+needing c = c .before .before .before .before .before
 
-abbrev moved-before : tie.After-counted Inv-loop μ-loop → tie.After-move-to-lambda Inv-loop μ-loop
-moved-before c = c .before .before .before .before .before
-
-abbrev moved : tie.After-consider-all Inv-loop μ-loop → tie.After-move-to-lambda Inv-loop μ-loop
-moved c = moved-before (counts c)
+abbrev considering : tie.After-known-told Inv-loop μ-loop → tie.After-consider-all Inv-loop μ-loop
+considering c = c .before .before .before .before .before .before
 
 loop-holds : tie.Need-loop-holds Inv-loop μ-loop
-loop-holds c = let s = c .before .pre in
-    record { findable = s; level = λ s. rw (c .new .ensures) (first-level s); count = refl; small = first-level s .small; starts-length = refl; posts-length = refl; atoms-length = refl }
+loop-holds c = let s = c .before .before .before .pre in
+    record {
+      findable = s;
+      level = λ s. rw (c .before .before .new .ensures) (first-level s (c .ect-bar-moment .ensures));
+      count = refl;
+      small = first-level s (c .ect-bar-moment .ensures) .small;
+      starts-length = refl;
+      posts-length = refl;
+      atoms-length = refl;
+    }
 
 mul-lct-j : tie.Need-mul-lct-j Inv-loop μ-loop
 mul-lct-j c = let l = c .before .before .loop in omega (arith, sorted-task-small (l .inv .findable) (l .index) (l .inv .small))
 
--- the test of the level, by the tree of whatever it began with
+-- the test of the level, by the leaves of whatever it began with
 abbrev Test : tie.In-loop Inv-loop μ-loop → Bool → Type 0
 Test c u = let a = start c .args in let l = c .before .loop in
     (s : EdgeFindable (a .size) (a .nodes .now) (a .earliest .now) (a .posts .now) (a .atoms .now) (a .est .now) (a .lst .now) (a .lct .now) (a .durations .now) (a .reverse-mapping .now)
@@ -78,58 +87,67 @@ Test c u = let a = start c .args in let l = c .before .loop in
     → exceeds (ect s (l .inv .level s) (more c)) (end c) ≡ u
 
 passes : (c : tie.Then1 Inv-loop μ-loop) → Test (entered (c .before)) true
-passes c s = let level = entered (c .before) in sym (c .before .overloads .ensures (start level .args .size .inner) (shown s (level .before .loop .inv .level s) (more level))) ∙ c .if1 .taken
+passes c s = let level = entered (c .before) in
+    sym (c .before .overloads .ensures (start level .args .size .inner) (tested s (level .before .loop .inv .level s) (more level))) ∙ c .if1 .taken
 
 quiet : (c : tie.After-move-to-lambda Inv-loop μ-loop) → Test (level-of c) false
-quiet c s = let level = level-of c in let test = c .before .before .before in
-    sym (test .overloads .ensures (start level .args .size .inner) (shown s (level .before .loop .inv .level s) (more level))) ∙ c .before .before .if1 .left
+quiet c s = let level = level-of c in let test = not-over c in
+    sym (test .before .overloads .ensures (start level .args .size .inner) (tested s (level .before .loop .inv .level s) (more level))) ∙ test .if1 .left
 
 overload-requires : tie.Need-overload-requires Inv-loop μ-loop
 overload-requires c κs =
     let level = entered (c .before .before .before) in
     let v = level .before .loop .inv in
     let l = v .level (v .findable) in
-    (shown (v .findable) l (more level), over-asked (v .findable) l (more level) (passes (c .before .before) (v .findable)), size-fits (v .findable) l (more level))
+    let over = passes (c .before .before) (v .findable) in
+    (shown (v .findable) l (more level) over, over-asked (v .findable) l (more level) over, size-fits (v .findable) l (more level) over)
 
 returns : tie.Need-returns Inv-loop μ-loop
 returns c = λ s.
     let test = c .before .before .before .before in
     let level = entered (test .before) in
-    let l = level .before .loop .inv .level s in overloads s l (more level) (passes test s) (c .before .overload .ensures (shown s l (more level)))
+    let l = level .before .loop .inv .level s in overloads s l (more level) (passes test s) (c .before .overload .ensures (shown s l (more level) (passes test s)))
+
+mul-lct-next-2 : tie.Need-mul-lct-next-2 Inv-loop μ-loop
+mul-lct-next-2 c =
+    let level = entered (c .before .before) in
+    omega (arith, sorted-task-small (level .before .loop .inv .findable) (level .before .loop .index + 1) (more level))
 
 move-to-lambda-requires : tie.Need-move-to-lambda-requires Inv-loop μ-loop
 move-to-lambda-requires c κs =
-    let level = entered (c .before .before) in
+    let level = entered (c .before .before .before .before) in
     let v = level .before .loop .inv in
     moves (v .findable) (v .level (v .findable)) (more level)
 
 counted-requires : tie.Need-counted-requires Inv-loop μ-loop
 counted-requires c κs =
-    let level = level-of (c .before .before .before .before) in
+    let level = level-of c in
     let v = level .before .loop .inv in
     omega (arith, few-changes (v .findable) (v .level (v .findable)) (more level))
 
 consider-all-requires : tie.Need-consider-all-requires Inv-loop μ-loop
 consider-all-requires c κs =
-    let two = c .before .before in
-    let move = moved-before two in
+    let need = c .before .before .before .before in
+    let move = need .before .before in
     let v = level-of move .before .loop .inv in
-    goes-on (v .findable) (v .level (v .findable)) (more (level-of move)) (quiet move (v .findable)) (move .move-to-lambda .ensures) (two .counted .ensures)
+    goes-on (v .findable) (v .level (v .findable)) (more (level-of move)) (quiet move (v .findable)) (move .move-to-lambda .ensures) (need .before .counted .ensures) (need .if2 .taken)
 
 loop-less : tie.Need-loop-less Inv-loop μ-loop
-loop-less c = omega (arith, more (level-of (moved (c .before .before .before .before .before .before))))
+loop-less c = omega (arith, more (level-of (needing (considering (c .before .before)) .before .before)))
 
 loop-again : tie.Need-loop-again Inv-loop μ-loop
 loop-again c =
-    let considered = c .before .before .before .before .before .before in
-    let move = moved considered in
+    let told = c .before .before in
+    let considered = considering told in
+    let need = needing considered in
+    let move = need .before .before in
     let v = level-of move .before .loop .inv in
     record {
       findable = v .findable;
       level = λ s.
-          let g = goes-on s (v .level s) (more (level-of move)) (quiet move s) (move .move-to-lambda .ensures) (counts considered .counted .ensures) in
-          one-more s (v .level s) (more (level-of move)) (quiet move s) (move .move-to-lambda .ensures) (counts considered .counted .ensures) (c .before .x .given .1)
-          (considered .consider-all .ensures g);
+          let g = goes-on s (v .level s) (more (level-of move)) (quiet move s) (move .move-to-lambda .ensures) (need .before .counted .ensures) (need .if2 .taken) in
+          one-more s (v .level s) (more (level-of move)) (quiet move s) (move .move-to-lambda .ensures) (need .before .counted .ensures) (need .if2 .taken) (told .before .x .given .1)
+          (considered .consider-all .ensures g) (c .ect-bar-moment2 .ensures);
       count = v .count;
       small = more (level-of move);
       starts-length = search needs;
@@ -137,9 +155,31 @@ loop-again c =
       atoms-length = search needs;
     }
 
+loop-less-2 : tie.Need-loop-less-2 Inv-loop μ-loop
+loop-less-2 c = omega (arith, more (level-of (c .before .before)))
+
+-- a level without a candidate
+loop-again-2 : tie.Need-loop-again-2 Inv-loop μ-loop
+loop-again-2 c =
+    let move = c .before .before in
+    let v = level-of move .before .loop .inv in
+    record {
+      findable = v .findable;
+      level = λ s.
+          passed-over s (v .level s) (more (level-of move)) (quiet move s) (move .move-to-lambda .ensures) (c .before .counted .ensures) (c .if2 .left) (ltb-false _ _ (c .if2 .left));
+      count = v .count;
+      small = more (level-of move);
+      starts-length = v .starts-length;
+      posts-length = v .posts-length;
+      atoms-length = v .atoms-length;
+    }
+
 -- the loop's head, from the return where a range is emptied
+abbrev emptying : tie.After-known-told2 Inv-loop μ-loop → tie.After-consider-all Inv-loop μ-loop
+emptying c = c .before .before .before .before .before .before
+
 abbrev head : tie.After-known-told2 Inv-loop μ-loop → tie.At-loop Inv-loop μ-loop
-head c = level-of (moved (c .before .before .before .before .before .before)) .before
+head c = level-of (needing (emptying c) .before .before) .before
 
 same-length-4 : tie.Need-same-length-4 Inv-loop μ-loop
 same-length-4 c = search (needs, head (c .before) .loop .inv .starts-length)
@@ -152,12 +192,13 @@ same-length-6 c = search (needs, head (c .before) .loop .inv .atoms-length)
 
 returns-2 : tie.Need-returns-2 Inv-loop μ-loop
 returns-2 c = λ s.
-    let considered = c .before .before .before .before .before .before .before in
-    let move = moved considered in
+    let considered = emptying (c .before) in
+    let need = needing considered in
+    let move = need .before .before in
     let l = head (c .before) .loop .inv .level s in
-    let g = goes-on s l (more (level-of move)) (quiet move s) (move .move-to-lambda .ensures) (counts considered .counted .ensures) in
-    one-emptied s l (more (level-of move)) (quiet move s) (move .move-to-lambda .ensures) (counts considered .counted .ensures) (considered .consider-all .last .0) (c .before .before .x2 .given .1)
-    (considered .consider-all .ensures g) (c .finished .ensures)
+    let g = goes-on s l (more (level-of move)) (quiet move s) (move .move-to-lambda .ensures) (need .before .counted .ensures) (need .if2 .taken) in
+    one-emptied s l (more (level-of move)) (quiet move s) (move .move-to-lambda .ensures) (need .before .counted .ensures) (need .if2 .taken) (considered .consider-all .last .0)
+    (c .before .before .x2 .given .1) (considered .consider-all .ensures g) (c .finished .ensures)
 
 returns-3 : tie.Need-returns-3 Inv-loop μ-loop
 returns-3 c = λ s. all-done s (c .before .before .loop .inv .level s) (omega (arith, c .before .before .loop .inv .count)) (c .finished2 .ensures)
@@ -166,10 +207,10 @@ pub edge-finding-spec : {M : Type 1} → statement M
 edge-finding-spec =
     tie.close
     (tie.spec
-    Inv-loop μ-loop (λ c κs. search needs) loop-holds (λ c. search needs) (λ c. search needs) (λ c. search needs) mul-lct-j
-    (λ c. search (needs, sorted-task-small)) (λ c κs. search needs) overload-requires (λ c. search needs)
-    (λ c. search needs) (λ c. search needs) returns move-to-lambda-requires (λ c. search needs) counted-requires
-    (λ c. search needs) (λ c. search needs) (λ c. let level = level-of (moved-before (c .before)) in
-    omega (arith, sorted-task-small (level .before .loop .inv .findable) (level .before .loop .index + 1) (more level))) (λ c. search (needs, sorted-task-small)) consider-all-requires
-    (λ c. search needs) loop-less loop-again (λ c. search needs) (λ c κs. search needs) same-length-4 same-length-5 same-length-6
-    returns-2 (λ c κs. search needs) (λ c. search needs) (λ c. search needs) (λ c. search needs) returns-3)
+    Inv-loop μ-loop (λ c κs. search needs) (λ c κs. search needs) loop-holds (λ c. search needs) (λ c. search needs)
+    (λ c. search needs) mul-lct-j (λ c. search (needs, sorted-task-small)) (λ c κs. search needs) overload-requires
+    (λ c. search needs) (λ c. search needs) (λ c. search needs) returns (λ c. search needs) (λ c. search needs)
+    (λ c. search needs) mul-lct-next-2 (λ c. search (needs, sorted-task-small)) move-to-lambda-requires counted-requires
+    consider-all-requires (λ c. search needs) (λ c. search needs) (λ c κs. search needs) same-length-4 same-length-5
+    same-length-6 returns-2 (λ c κs. search needs) loop-less loop-again loop-less-2 loop-again-2 (λ c κs. search needs)
+    (λ c. search needs) (λ c. search needs) (λ c. search needs) returns-3)

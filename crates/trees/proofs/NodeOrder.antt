@@ -1,0 +1,90 @@
+-- Nodes of which one is at most the other, word by word: a gray leaf is at most a white one, joins keep the order, and so the bar of the root never rises.
+use mathlib.Core.Path.{_≡_, refl}
+use mathlib.Core.Bool.{true, false}
+use mathlib.Core.List.{List}
+use Prim.Native.Nat.{ℕ, zero, suc, _+_, _≤_, _<_}
+use native.Mathlib.Omega.{arith}
+use native.Mathlib.Decide.{ℕ-discrete}
+use lib.ListN.{length, getD, set}
+use lib.Seq.{getD-set-same, getD-set-other}
+use Rattle.integers.proofs.Bools.{clash}
+use Rattle.scheduling.specs.Scheduling.{natural, Tasks}
+use Rattle.trees.specs.declared.theta_lambda_node.Node.{Node}
+use Rattle.trees.specs.Nodes.{joinOf}
+use Rattle.trees.specs.Shapes.{width, heightFor, nodeOver}
+use Rattle.trees.specs.Ects.{exceeds, raisedTo}
+use Rattle.trees.specs.Leaves as leaves
+use Rattle.trees.specs.Leaves.{Leaf, empty, gray, inTheta, whiteAt, leafNode, startAt, durationAt, root}
+use Rattle.trees.proofs.Ects.{raised-decoded, within-bound}
+use Rattle.trees.proofs.ArrayTrees.{over-leaf, over-join}
+
+pub record AtMost (m n : Node) : Type 0 where
+  pub ect : m .ect ≤ n .ect
+  pub sum : m .«sum_of_processing_times» ≤ n .«sum_of_processing_times»
+  pub ect-bar : m .«ect_bar» ≤ n .«ect_bar»
+  pub sum-bar : m .«sum_of_processing_times_bar» ≤ n .«sum_of_processing_times_bar»
+
+-- the values with a gray task are at least those without
+pub record UnderBars (n : Node) : Type 0 where
+  pub ect : n .ect ≤ n .«ect_bar»
+  pub sum : n .«sum_of_processing_times» ≤ n .«sum_of_processing_times_bar»
+
+join-most : (l l′ r r′ : Node) → AtMost l l′ → AtMost r r′ → AtMost (joinOf l r) (joinOf l′ r′)
+unfolding joinOf
+join-most l l′ r r′ a b = record { ect = omega arith; sum = omega arith; ect-bar = omega arith; sum-bar = omega arith }
+
+join-under : (l r : Node) → UnderBars l → UnderBars r → UnderBars (joinOf l r)
+unfolding joinOf
+join-under l r a b = record { ect = omega arith; sum = omega arith }
+
+over-most : (leaf leaf′ : ℕ → Node) → ((k : ℕ) → AtMost (leaf k) (leaf′ k)) → (h a : ℕ) → AtMost (nodeOver joinOf leaf h a) (nodeOver joinOf leaf′ h a)
+over-most leaf leaf′ each zero a = rw (over-leaf joinOf leaf a, over-leaf joinOf leaf′ a) (each a)
+over-most leaf leaf′ each (suc h) a =
+    rw (over-join joinOf leaf h a, over-join joinOf leaf′ h a)
+    (join-most (nodeOver joinOf leaf h a) (nodeOver joinOf leaf′ h a) (nodeOver joinOf leaf h (a + width h)) (nodeOver joinOf leaf′ h (a + width h)) (over-most leaf leaf′ each h a)
+    (over-most leaf leaf′ each h (a + width h)))
+
+over-under : (leaf : ℕ → Node) → ((k : ℕ) → UnderBars (leaf k)) → (h a : ℕ) → UnderBars (nodeOver joinOf leaf h a)
+over-under leaf each zero a = rw (over-leaf joinOf leaf a) (each a)
+over-under leaf each (suc h) a =
+    rw (over-join joinOf leaf h a)
+    (join-under (nodeOver joinOf leaf h a) (nodeOver joinOf leaf h (a + width h)) (over-under leaf each h a) (over-under leaf each h (a + width h)))
+
+-- leaves
+same-most : (n : Node) → AtMost n n
+same-most n = record { ect = omega arith; sum = omega arith; ect-bar = omega arith; sum-bar = omega arith }
+
+gray-most : (c : Leaf) (e p : ℕ) → inTheta c ≡ true → AtMost (leafNode gray e p) (leafNode c e p)
+gray-most leaves.empty e p z = clash z refl
+gray-most leaves.white e p z = record { ect = omega arith; sum = omega arith; ect-bar = omega arith; sum-bar = omega arith }
+gray-most leaves.gray e p z = clash z refl
+
+leaf-under : (c : Leaf) (e p : ℕ) → UnderBars (leafNode c e p)
+leaf-under leaves.empty e p = record { ect = omega arith; sum = omega arith }
+leaf-under leaves.white e p = record { ect = omega arith; sum = omega arith }
+leaf-under leaves.gray e p = record { ect = omega arith; sum = omega arith }
+
+module _ (J : Tasks natural) (estOrder : List ℕ) (ls : List Leaf) where
+  root-under : UnderBars (root J estOrder ls)
+  unfolding root
+  root-under = over-under (leaves.leaves J estOrder ls) (λ k. leaf-under (getD ls k empty) (startAt J estOrder k) (durationAt J estOrder k)) (heightFor (J .count)) 0
+
+  -- an ect_bar that is not past a moment: neither is the ect
+  pub ect-within : (m : ℕ) → raisedTo 0 (leaves.ect-bar J estOrder ls) ≤ m → exceeds (leaves.ect J estOrder ls) m ≡ false
+  ect-within m q = within-bound 0 m (leaves.ect J estOrder ls)
+      (omega (arith, q, raised-decoded (root J estOrder ls .«ect_bar»), raised-decoded (root J estOrder ls .ect), root-under .ect))
+
+  -- a white leaf turns gray: ect_bar does not rise
+  module _ (k : ℕ) (inside : k < length ls) (is-white : whiteAt ls k ≡ true) where
+    root-most : AtMost (root J estOrder (set ls k gray)) (root J estOrder ls)
+    unfolding root
+    root-most = over-most (leaves.leaves J estOrder (set ls k gray)) (leaves.leaves J estOrder ls) each (heightFor (J .count)) 0
+      where
+        each : (j : ℕ) → AtMost (leafNode (getD (set ls k gray) j empty) (startAt J estOrder j) (durationAt J estOrder j)) (leafNode (getD ls j empty) (startAt J estOrder j) (durationAt J estOrder j))
+        each j = elim (ℕ-discrete j k) [
+          | yes z ↦ rw (z, getD-set-same ls k gray empty inside) (gray-most (getD ls k empty) (startAt J estOrder k) (durationAt J estOrder k) is-white)
+          | no z ↦ rw (getD-set-other ls k j gray empty z) (same-most (leafNode (getD ls j empty) (startAt J estOrder j) (durationAt J estOrder j)))
+        ]
+
+    pub bar-falls : raisedTo 0 (leaves.ect-bar J estOrder (set ls k gray)) ≤ raisedTo 0 (leaves.ect-bar J estOrder ls)
+    bar-falls = omega (arith, raised-decoded (root J estOrder ls .«ect_bar»), raised-decoded (root J estOrder (set ls k gray) .«ect_bar»), root-most .ect-bar)
