@@ -166,30 +166,12 @@ fn edge_finding<'a>(
         let j = sorted_tasks[index];
         let lct_j = lct[j];
         if overloads(nodes, last_ect_bar, lct_j) {
-            return overload(
-                atoms,
-                w,
-                nodes,
-                reverse_mapping,
-                est,
-                durations,
-                size,
-                lct_j,
-            );
+            return w.overloaded(atoms, nodes, reverse_mapping, est, durations, size, lct_j);
         }
         index += 1;
         let lct_next = lct[sorted_tasks[index]];
         let needed = last_ect_bar > lct_next;
-        move_to_lambda(
-            nodes,
-            size.inner,
-            mapping,
-            est,
-            durations,
-            j,
-            joined,
-            needed,
-        );
+        move_to_lambda(nodes, mapping, est, durations, size, j, joined, needed);
         joined = needed;
         w = w.counted(2);
         if needed {
@@ -263,59 +245,21 @@ fn overloads(nodes: &[u32; TREEWORDS], last_ect_bar: u32, lct: u32) -> bool
     ect.exceeds(lct)
 }
 
-// The end of a run by an overload: its reason stands after the atoms written so far.
-fn overload<'a>(
-    atoms: &mut [i32],
-    written: Written,
-    nodes: &'a [u32; TREEWORDS],
-    reverse_mapping: &'a [usize; TASKS],
-    est: &'a [u32; TASKS],
-    durations: &'a [u32; TASKS],
-    size: TreeSize,
-    lct: u32,
-) -> Finished
-    requires { ⌜ ((h : Held (size .inner) (now nodes))
-        × (ConflictExplainable (length (now atoms)) (written .atoms) (thetaIn (now nodes) (size .inner) (now «reverse_mapping») (size .leaves)) (now est)
-        (now durations) (sum (h .J) (h .estOrder) (h .leaves)) lct) × SizeFits size) ⌝ }
-    ensures { λ r. ⌜ ((h : Held (size .inner) (now (nodes .entry)))
-        → ConflictExplained (now (atoms .entry)) (now (atoms .exit)) written r
-        (conflictOf h (now («reverse_mapping» .entry)) (size .leaves) (now (est .entry)) (now (durations .entry)) lct)) ⌝ }
-{
-    let p_theta = ThetaLambdaTree::sum_of_processing_times(nodes);
-    let at = written.atoms;
-    let end = create_conflict_explanation(
-        atoms,
-        at,
-        nodes,
-        reverse_mapping,
-        size.inner,
-        size.leaves,
-        est,
-        durations,
-        p_theta,
-        lct,
-    );
-    written.finished(Outcome::Overload {
-        posts: written.posts,
-        first: at,
-        count: end - at,
-    })
-}
-
 // Moves task j from Theta to Lambda. The source empties its leaf first; the gray leaf goes over the white one here, which leaves the same tree. The inner nodes
 // are joined only where they are needed, and then all of them where they were not joined before.
 fn move_to_lambda<'a>(
     nodes: &mut [u32; TREEWORDS],
-    inner: usize,
     mapping: &'a [usize; TASKS],
     est: &'a [u32; TASKS],
     durations: &'a [u32; TASKS],
+    size: TreeSize,
     j: usize,
     joined: bool,
     needed: bool,
 )
-    requires { ⌜ Movable inner (now nodes) (now mapping) (now est) (now durations) j joined ⌝ }
-    ensures { λ _. ⌜ Moved inner (now (nodes .entry)) (now (nodes .exit)) (now (mapping .entry)) (now (est .entry)) (now (durations .entry)) j joined needed ⌝ }
+    requires { ⌜ Movable (size .inner) (now nodes) (now mapping) (now est) (now durations) j joined ⌝ }
+    ensures { λ _. ⌜ Moved (size .inner) (now (nodes .entry)) (now (nodes .exit)) (now (mapping .entry)) (now (est .entry))
+        (now (durations .entry)) j joined needed ⌝ }
 {
     let place = leaf_of(mapping, LocalId(j));
     let task = DisjunctiveTask {
@@ -324,12 +268,12 @@ fn move_to_lambda<'a>(
         id: LocalId(j),
     };
     if joined && needed {
-        ThetaLambdaTree::add_to_lambda(nodes, inner, place, task);
+        ThetaLambdaTree::add_to_lambda(nodes, size.inner, place, task);
         return;
     }
-    ThetaLambdaTree::lay_in_lambda(nodes, inner, place, task);
+    ThetaLambdaTree::lay_in_lambda(nodes, size.inner, place, task);
     if needed {
-        ThetaLambdaTree::rebuild(nodes, inner);
+        ThetaLambdaTree::rebuild(nodes, size.inner);
     }
 }
 
@@ -372,6 +316,46 @@ impl Written {
             outcome,
             changes: self.changes,
         }
+    }
+
+    // The end of a run by an overload: its reason stands after the atoms written so far.
+    fn overloaded<'a>(
+        self,
+        atoms: &mut [i32],
+        nodes: &'a [u32; TREEWORDS],
+        reverse_mapping: &'a [usize; TASKS],
+        est: &'a [u32; TASKS],
+        durations: &'a [u32; TASKS],
+        size: TreeSize,
+        lct: u32,
+    ) -> Finished
+        requires { ⌜ ((h : Held (size .inner) (now nodes))
+            × (ConflictExplainable (length (now atoms)) (self .atoms) (thetaIn (now nodes) (size .inner) (now «reverse_mapping») (size .leaves)) (now est)
+            (now durations)
+            (sum (h .J) (h .estOrder) (h .leaves)) lct) × SizeFits size) ⌝ }
+        ensures { λ r. ⌜ ((h : Held (size .inner) (now (nodes .entry)))
+            → ConflictExplained (now (atoms .entry)) (now (atoms .exit)) self r
+            (conflictOf h (now («reverse_mapping» .entry)) (size .leaves) (now (est .entry)) (now (durations .entry)) lct)) ⌝ }
+    {
+        let p_theta = ThetaLambdaTree::sum_of_processing_times(nodes);
+        let at = self.atoms;
+        let end = create_conflict_explanation(
+            atoms,
+            at,
+            nodes,
+            reverse_mapping,
+            size.inner,
+            size.leaves,
+            est,
+            durations,
+            p_theta,
+            lct,
+        );
+        self.finished(Outcome::Overload {
+            posts: self.posts,
+            first: at,
+            count: end - at,
+        })
     }
 }
 

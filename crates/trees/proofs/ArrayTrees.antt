@@ -13,7 +13,8 @@ use Rattle.trees.proofs.Joins.{Additive}
 use Rattle.trees.specs.Shapes.{width, nodeOver}
 use Rattle.trees.specs.Arrays.{leftmost, HasHeight, changed, leavesOf, TreeOf}
 use Rattle.trees.specs.Bounds.{Bounded, NeedsUpheap, CanPut}
-use Rattle.trees.proofs.Heights.{once, twice, leftmost-leaf, leftmost-left, leftmost-right, root-height, root-first, inner-height, left-height, right-height, one-height, Path, path-height, path-up, leaf-path}
+use Rattle.trees.proofs.Heights.{once, twice, leftmost-leaf, leftmost-left, leftmost-right, root-height, root-first, inner-height, left-height, right-height, one-height, Path, path-height}
+use Rattle.trees.proofs.Heights.{path-up, leaf-path}
 
 -- one value changed
 pub changed-here : {A : Type 0} (f : ℕ → A) (i : ℕ) (v : A) → changed f i v i ≡ v

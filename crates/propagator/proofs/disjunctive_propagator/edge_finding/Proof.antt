@@ -12,7 +12,8 @@ use Rattle.trees.specs.Ects.{exceeds}
 use Rattle.trees.specs.declared.complete_tree.TreeSize.{TreeSize}
 use Rattle.propagator.specs.declared.disjunctive_propagator.Written.{Written}
 use Rattle.propagator.specs.EdgeFinding.{EdgeFindable}
-use Rattle.propagator.proofs.OuterLoop.{Level, tested, shown, ect, sorted-task-small, first-level, all-done, over-asked, size-fits, few-changes, overloads, moves, passed-over, goes-on, one-more, one-emptied}
+use Rattle.propagator.proofs.OuterLoop.{Level, tested, shown, ect, sorted-task-small, first-level, all-done, over-asked, size-fits, few-changes, overloads, moves, passed-over, goes-on}
+use Rattle.propagator.proofs.OuterLoop.{one-more, one-emptied}
 use Rattle.propagator.proofs.disjunctive_propagator.edge_finding.Statement.{statement}
 use Rattle.propagator.proofs.disjunctive_propagator.edge_finding.Tie as tie
 
@@ -94,8 +95,8 @@ quiet : (c : tie.After-move-to-lambda Inv-loop μ-loop) → Test (level-of c) fa
 quiet c s = let level = level-of c in let test = not-over c in
     sym (test .before .overloads .ensures (start level .args .size .inner) (tested s (level .before .loop .inv .level s) (more level))) ∙ test .if1 .left
 
-overload-requires : tie.Need-overload-requires Inv-loop μ-loop
-overload-requires c κs =
+overloaded-requires : tie.Need-overloaded-requires Inv-loop μ-loop
+overloaded-requires c κs =
     let level = entered (c .before .before .before) in
     let v = level .before .loop .inv in
     let l = v .level (v .findable) in
@@ -106,7 +107,7 @@ returns : tie.Need-returns Inv-loop μ-loop
 returns c = λ s.
     let test = c .before .before .before .before in
     let level = entered (test .before) in
-    let l = level .before .loop .inv .level s in overloads s l (more level) (passes test s) (c .before .overload .ensures (shown s l (more level) (passes test s)))
+    let l = level .before .loop .inv .level s in overloads s l (more level) (passes test s) (c .before .overloaded .ensures (shown s l (more level) (passes test s)))
 
 mul-lct-next-2 : tie.Need-mul-lct-next-2 Inv-loop μ-loop
 mul-lct-next-2 c =
@@ -208,7 +209,7 @@ edge-finding-spec =
     tie.close
     (tie.spec
     Inv-loop μ-loop (λ c κs. search needs) (λ c κs. search needs) loop-holds (λ c. search needs) (λ c. search needs)
-    (λ c. search needs) mul-lct-j (λ c. search (needs, sorted-task-small)) (λ c κs. search needs) overload-requires
+    (λ c. search needs) mul-lct-j (λ c. search (needs, sorted-task-small)) (λ c κs. search needs) overloaded-requires
     (λ c. search needs) (λ c. search needs) (λ c. search needs) returns (λ c. search needs) (λ c. search needs)
     (λ c. search needs) mul-lct-next-2 (λ c. search (needs, sorted-task-small)) move-to-lambda-requires counted-requires
     consider-all-requires (λ c. search needs) (λ c. search needs) (λ c κs. search needs) same-length-4 same-length-5
