@@ -37,8 +37,8 @@ front-overwritten = refl
 paper-limits : (TASKS ≡ 48) × (START ≡ 400000000) × (DURATIONS ≡ 400000000) × (VARIABLES ≡ 64) × (VALUE ≡ 900000000) × (PREMISES ≡ 512) × (HOLES ≡ 16)
 paper-limits = (refl, refl, refl, refl, refl, refl, refl)
 
-request-limits : (BARS ≡ 16) × (DUE ≡ 400000000) × (MOMENT ≡ 400000000) × (LENGTH ≡ 400000000)
-request-limits = (refl, refl, refl, refl)
+added-limits : (BARS ≡ 16) × (DUE ≡ 400000000) × (MOMENT ≡ 400000000) × (LENGTH ≡ 400000000)
+added-limits = (refl, refl, refl, refl)
 
 -- characters are their codes in ASCII, a line feed 10 among them
 text-bytes : bytesOf "NR 0-9\n" ≡ 78 ∷ 82 ∷ 32 ∷ 48 ∷ 45 ∷ 57 ∷ 10 ∷ []
