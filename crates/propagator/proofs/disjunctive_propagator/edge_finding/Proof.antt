@@ -12,7 +12,8 @@ use Rattle.trees.specs.Ects.{exceeds}
 use Rattle.trees.specs.declared.complete_tree.TreeSize.{TreeSize}
 use Rattle.propagator.specs.declared.disjunctive_propagator.Written.{Written}
 use Rattle.propagator.specs.EdgeFinding.{EdgeFindable}
-use Rattle.propagator.proofs.OuterLoop.{Level, tested, shown, ect, sorted-task-small, first-level, all-done, over-asked, size-fits, few-changes, overloads, moves, passed-over, goes-on, one-more, one-emptied}
+use Rattle.propagator.proofs.OuterLoop.{Level, tested, shown, ect, sorted-task-small, first-level, all-done, over-asked, size-fits, few-changes, overloads, moves, passed-over, goes-on}
+use Rattle.propagator.proofs.OuterLoop.{one-more, one-emptied}
 use Rattle.propagator.proofs.disjunctive_propagator.edge_finding.Statement.{statement}
 use Rattle.propagator.proofs.disjunctive_propagator.edge_finding.Tie as tie
 
