@@ -10,7 +10,7 @@ use Rattle.scheduling.specs.Scheduling.{natural, Tasks}
 use Rattle.trees.specs.declared.complete_tree.TreeSize.{TreeSize}
 use Rattle.trees.specs.Leaves.{Leaf, gray}
 use Rattle.trees.specs.Trees.{IsTree, HasLeaves}
-use Rattle.trees.specs.Operations.{Held, HeldLeaves, HasTask, Coloured, LeafColoured}
+use Rattle.trees.specs.Operations.{Held, HeldLeaves, HasTask, LeafColoured}
 use Rattle.propagator.specs.RunArrays.{Ordered, Arrays}
 use Rattle.propagator.specs.MovedToLambda.{Movable}
 

@@ -31,7 +31,7 @@ use Rattle.runs.specs.Words.{postWords, reasons, endReason}
 use Rattle.runs.proofs.WrittenSlices.{reason-stored}
 use Rattle.runs.proofs.LeafChanges.{reached-changes}
 use Rattle.runs.proofs.QuietLevels as quiet-levels
-use Rattle.runs.proofs.QuietLevels.{bar-falls}
+use Rattle.runs.proofs.QuietLevels.{ect-bar-no-later}
 use Rattle.runs.proofs.InnerLoop.{run-is, outer-end, outer-over, outer-on, outer-stop}
 use Rattle.runs.specs.Reached.{Entered, begins, follows, at-head, moved}
 use Rattle.explanations.specs.Explanations.{ConflictExplainable}
@@ -85,7 +85,7 @@ module _ {size : TreeSize} {words : List ℕ} {es posts atoms : List ℤ} {est l
     pub tree : joined ≡ true → IsTree J estOrder (st .leaves) inn words′
     pub slices : Slices posts atoms st es′ posts′ atoms′ (w′ .posts) (w′ .atoms) (w′ .changes)
     pub most : raisedTo 0 (leaves.ect-bar J estOrder (st .leaves)) ≤ last
-    pub lags : joined ≡ false → last ≤ completion J (getD lctOrder t 0)
+    pub unjoined : joined ≡ false → last ≤ completion J (getD lctOrder t 0)
     pub rest : whole ≡ rest-of (n - 1 - t) t st
 
   pub few : n ≤ TASKS
@@ -110,7 +110,7 @@ module _ {size : TreeSize} {words : List ℕ} {es posts atoms : List ℤ} {est l
     tree = λ _. s .at .tree;
     slices = s .at .slices;
     most = omega (arith, told inn (held (s .at .tree)));
-    lags = λ z. clash {b = true} refl z;
+    unjoined = λ z. clash {b = true} refl z;
     rest = run-is zeroAt J estOrder lctOrder ∙ ap (λ (f : ℕ). rest-of f 0 (allWhite J)) turns;
   }
     where
@@ -191,7 +191,7 @@ module _ {size : TreeSize} {words : List ℕ} {es posts atoms : List ℤ} {est l
 
       -- where the ect_bar known last is past the level's lct, the inner nodes are joined
       pub joined-past : c < last → joined ≡ true
-      joined-past q = elim (bool joined) [ inl z ↦ z | inr z ↦ absurd (omega (arith, v .lags z, c-is)) ]
+      joined-past q = elim (bool joined) [ inl z ↦ z | inr z ↦ absurd (omega (arith, v .unjoined z, c-is)) ]
 
       abbrev pub tested : HeldPast inn words′ last c
       tested = record { J = J; estOrder = estOrder; leaves = v .st .leaves; limited = G .limited; most = v .most; tree = λ q. v .tree (joined-past q) }
@@ -304,8 +304,8 @@ module _ {size : TreeSize} {words : List ℕ} {es posts atoms : List ℤ} {est l
               has = at-place (λ ls. HasLeaves J estOrder ls inn words″) (m moves .0);
               tree = λ z. clash z not;
               slices = slices₁;
-              most = omega (arith, v .most, bar-falls zeroAt J (G .proper) estOrder lctOrder (G .by-earliest) (G .by-completion) t (v .st) small-t (v .entered));
-              lags = λ _. omega (arith, low, ends-d);
+              most = omega (arith, v .most, ect-bar-no-later zeroAt J (G .proper) estOrder lctOrder (G .by-earliest) (G .by-completion) t (v .st) small-t (v .entered));
+              unjoined = λ _. omega (arith, low, ends-d);
               rest = unfold-level ∙ outer-on zeroAt J estOrder lctOrder (n - 1 - suc t) t (v .st) st₁ still on-st₁;
             })
           where
@@ -348,7 +348,7 @@ module _ {size : TreeSize} {words : List ℕ} {es posts atoms : List ℤ} {est l
                 tree = λ _. a .tree;
                 slices = a .slices;
                 most = omega (arith, told inn (held (a .tree)));
-                lags = λ not. clash is-needed not;
+                unjoined = λ not. clash is-needed not;
                 rest = unfold-level ∙ outer-on zeroAt J estOrder lctOrder (n - 1 - suc t) t (v .st) st′ still (inner-is z);
               })
 

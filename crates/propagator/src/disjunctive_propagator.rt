@@ -136,6 +136,9 @@ pub fn run_accepted(
 
 // Performs the edge-finding algorithm (see `DisjunctivePropagator` for an intuition and the work on which it is based). Every task is in Theta, the sorted
 // tasks go from there to Lambda one by one, and the tasks of Lambda are considered after each.
+//
+// A move to Lambda never raises ect_bar. So where the last known one is not past the next lct, that level has no candidate and no overload. The level is then
+// the gray leaf and its count alone, and the inner nodes are left until a level needs the root.
 fn edge_finding<'a>(
     nodes: &mut [u32; TREEWORDS],
     earliest: &mut [i32],
@@ -233,7 +236,7 @@ fn ect_bar_moment(nodes: &[u32; TREEWORDS]) -> u32
     ect_bar.raised(0)
 }
 
-// Whether Theta overloads: its ect is past the level's lct. It is at most the ect_bar, so the root is read only where the last known ect_bar is past lct.
+// Whether Theta overloads: its ect is past the level's lct. An ect is at most the ect_bar, so the root is read only where the last known ect_bar is past lct.
 fn overloads(nodes: &[u32; TREEWORDS], last_ect_bar: u32, lct: u32) -> bool
     ensures { λ r. ⌜ ((inner : ℕ) (h : HeldPast inner (now (nodes .entry)) «last_ect_bar» lct)
         → r ≡ exceeds (ect (h .J) (h .estOrder) (h .leaves)) lct) ⌝ }
@@ -246,7 +249,7 @@ fn overloads(nodes: &[u32; TREEWORDS], last_ect_bar: u32, lct: u32) -> bool
 }
 
 // Moves task j from Theta to Lambda. The source empties its leaf first; the gray leaf goes over the white one here, which leaves the same tree. The inner nodes
-// are joined only where they are needed, and then all of them where they were not joined before.
+// are joined only where they are needed: the leaf's ancestors, or all of them where they were not joined before.
 fn move_to_lambda<'a>(
     nodes: &mut [u32; TREEWORDS],
     mapping: &'a [usize; TASKS],

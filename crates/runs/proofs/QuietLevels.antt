@@ -4,7 +4,7 @@ use mathlib.Core.Bool.{true}
 use mathlib.Core.List.{List}
 use Prim.Native.Nat.{ℕ, zero, suc, _≤_, _<_}
 use native.Mathlib.Omega.{arith}
-use lib.ListN.{length, getD}
+use lib.ListN.{getD}
 use Rattle.integers.specs.Orders.{index}
 use Rattle.scheduling.specs.Scheduling.{natural, Tasks, Proper}
 use Rattle.scheduling.specs.Moments.{ByEarliest, ByCompletion}
@@ -35,10 +35,10 @@ module _ (o : ℕ) (J : Tasks natural) (ok : Proper J) (estOrder lctOrder : List
     is-white : whiteAt (st .leaves) (index estOrder (getD lctOrder t 0)) ≡ true
     is-white = inv .whites (getD lctOrder t 0) (ord .task t small) ∙ steps.theta-some o J ok estOrder lctOrder rk ord t small .mem
 
-    pub bar-falls : raisedTo 0 (ect-bar J estOrder (movedOn o J estOrder lctOrder t st .leaves)) ≤ raisedTo 0 (ect-bar J estOrder (st .leaves))
-    bar-falls = order.bar-falls J estOrder (st .leaves) (index estOrder (getD lctOrder t 0)) (omega (arith, inv .size, rk .placed (getD lctOrder t 0) (ord .task t small))) is-white
+    pub ect-bar-no-later : raisedTo 0 (ect-bar J estOrder (movedOn o J estOrder lctOrder t st .leaves)) ≤ raisedTo 0 (ect-bar J estOrder (st .leaves))
+    ect-bar-no-later = order.ect-bar-no-later J estOrder (st .leaves) (index estOrder (getD lctOrder t 0)) (omega (arith, inv .size, rk .placed (getD lctOrder t 0) (ord .task t small))) is-white
 
     -- the next level, then, has no candidate
     pub passed-over : (f : ℕ) → raisedTo 0 (ect-bar J estOrder (st .leaves)) ≤ lct o J estOrder lctOrder (suc t)
         → inner o J estOrder lctOrder f (suc t) (movedOn o J estOrder lctOrder t st) ≡ on (movedOn o J estOrder lctOrder t st)
-    passed-over f q = none-over f (suc t) (movedOn o J estOrder lctOrder t st) (omega (arith, q, bar-falls))
+    passed-over f q = none-over f (suc t) (movedOn o J estOrder lctOrder t st) (omega (arith, q, ect-bar-no-later))

@@ -1,4 +1,4 @@
--- Nodes of which one is at most the other, word by word: a gray leaf is at most a white one, joins keep the order, and so the bar of the root never rises.
+-- Nodes of which one is at most the other, word by word: joins keep that order, so a white leaf that turns gray does not raise the ect_bar of the root.
 use mathlib.Core.Path.{_≡_, refl}
 use mathlib.Core.Bool.{true, false}
 use mathlib.Core.List.{List}
@@ -86,5 +86,5 @@ module _ (J : Tasks natural) (estOrder : List ℕ) (ls : List Leaf) where
           | no z ↦ rw (getD-set-other ls k j gray empty z) (same-most (leafNode (getD ls j empty) (startAt J estOrder j) (durationAt J estOrder j)))
         ]
 
-    pub bar-falls : raisedTo 0 (leaves.ect-bar J estOrder (set ls k gray)) ≤ raisedTo 0 (leaves.ect-bar J estOrder ls)
-    bar-falls = omega (arith, raised-decoded (root J estOrder ls .«ect_bar»), raised-decoded (root J estOrder (set ls k gray) .«ect_bar»), root-most .ect-bar)
+    pub ect-bar-no-later : raisedTo 0 (leaves.ect-bar J estOrder (set ls k gray)) ≤ raisedTo 0 (leaves.ect-bar J estOrder ls)
+    ect-bar-no-later = omega (arith, raised-decoded (root J estOrder ls .«ect_bar»), raised-decoded (root J estOrder (set ls k gray) .«ect_bar»), root-most .ect-bar)

@@ -1,6 +1,5 @@
 -- Joined inner nodes that are needed again stay so by `add_to_lambda`; else the leaf is laid, and `rebuild` joins all inner nodes where they are needed.
-use mathlib.Core.Path.{_≡_, refl}
-use mathlib.Core.Bool.{Bool, true, false}
+use mathlib.Core.Path.{refl}
 use borrow.Author.Needs.{needs}
 use Rattle.integers.proofs.Bools.{clash}
 use Rattle.trees.proofs.RebuiltTrees.{tree-leaves}
