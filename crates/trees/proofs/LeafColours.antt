@@ -1,5 +1,5 @@
 -- Leaves by their colours: which of them the code takes for white, their bounds, and one of them changed.
-use mathlib.Core.Path.{_≡_, refl, ap}
+use mathlib.Core.Path.{_≡_, refl, ap, ap₂}
 use mathlib.Core.Bool.{Bool, true, false, not}
 use mathlib.Core.List.{List}
 use Prim.Native.Nat.{ℕ, zero, suc, _+_, _≤_, _<_}
@@ -18,6 +18,7 @@ use Rattle.trees.specs.Bounds.{Bounded}
 use Rattle.trees.specs.Leaves as leaves
 use Rattle.trees.specs.Leaves.{Leaf, inTheta, leafNode, startAt, durationAt, whiteAt}
 use Rattle.trees.specs.Trees.{plainLeaf, plainLeaves, Limited}
+use Rattle.trees.specs.Operations.{HasTask}
 use Rattle.trees.proofs.ArrayTrees.{changed-is}
 
 -- which leaves the code takes for white
@@ -25,6 +26,10 @@ pub white-is : (c : Leaf) (e p : ℕ) → 1 ≤ p → not (eqb (leafNode c e p .
 white-is leaves.empty e p q = refl
 white-is leaves.white e p q = ap not (ne-eqb (e + p) 0 (λ z. omega arith))
 white-is leaves.gray e p q = refl
+
+-- the node of a task's leaf, by what it is told of the task
+pub task-node : (c : Leaf) {J : Tasks natural} {estOrder : List ℕ} {place e p : ℕ} → HasTask J estOrder place e p → leafNode c e p ≡ leafNode c (startAt J estOrder place) (durationAt J estOrder place)
+task-node c h = ap₂ (leafNode c) (h .start) (h .lasts)
 
 -- bounds
 leaf-fair : (c : Leaf) (e p : ℕ) → e ≤ LATEST → Fair (leafNode c e p)

@@ -16,6 +16,7 @@ use Rattle.trees.proofs.Joins.{Additive, additive}
 use Rattle.trees.specs.Shapes.{width, heightFor, nodeOver}
 use Rattle.trees.specs.Arrays.{leftmost, HasHeight, changed, leavesOf, TreeOf}
 use Rattle.trees.specs.Words.{nodeAt}
+use Rattle.trees.specs.Puts.{Layable, Laid}
 use Rattle.trees.specs.Bounds.{Bounded}
 use Rattle.trees.specs.Leaves as leaves
 use Rattle.trees.specs.Leaves.{Leaf, empty, leafNode, startAt, durationAt}
@@ -126,18 +127,6 @@ module _ {A : Type 0} {size : A → ℕ} {Fair : A → Type 0} {join : A → A �
 pub ruleset rebuilds = (needs, node-small, left-small, right-small, fits-left, fits-right, goes-on)
 
 -- the leaves of tasks ------------------------------------------------------------------------------------------------------------
-
--- n may stand as the leaf at `place`, whatever its ancestors are
-pub record Layable (inner : ℕ) (words : List ℕ) (place : ℕ) (n : Node) : Type 0 where
-  pub fits : Fits size Fair n
-  pub inside : place ≤ inner
-  pub room : inner ≤ INNER
-  pub length : length words ≡ TREEWORDS
-
--- n stands there, and nothing else changed
-pub record Laid (inner : ℕ) (before after : List ℕ) (place : ℕ) (n : Node) : Type 0 where
-  pub nodes : nodeAt after ≡ changed (nodeAt before) (inner + place) n
-  pub length : length after ≡ TREEWORDS
 
 -- the leaves stand, and the inner nodes may be anything
 pub record Rebuildable (inner : ℕ) (words : List ℕ) : Type 0 where

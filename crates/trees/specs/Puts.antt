@@ -1,13 +1,13 @@
--- What `put` requires and ensures of the words of a tree: one leaf changes, and every inner node is the join of its children again.
+-- What `put` and `lay` require and ensure of the words of a tree: one leaf changes, and after `put` every inner node is the join of its children again.
 use mathlib.Core.Path.{_≡_}
 use mathlib.Core.List.{List}
-use Prim.Native.Nat.{ℕ}
+use Prim.Native.Nat.{ℕ, _+_, _≤_}
 use lib.ListN.{length}
-use Rattle.integers.specs.Limits.{THETAWORDS, TREEWORDS}
+use Rattle.integers.specs.Limits.{INNER, THETAWORDS, TREEWORDS}
 use Rattle.trees.specs.declared.theta_lambda_node.Node.{Node}
 use Rattle.trees.specs.declared.theta_node.Node as plain
 use Rattle.trees.specs.Nodes.{joinOf, plainJoinOf}
-use Rattle.trees.specs.NodeBounds.{Fair, size, PlainFair, plainSize}
+use Rattle.trees.specs.NodeBounds.{Fair, size, Fits, PlainFair, plainSize}
 use Rattle.trees.specs.Arrays.{leavesOf, changed, TreeOf}
 use Rattle.trees.specs.Words.{nodeAt, plainAt}
 use Rattle.trees.specs.Bounds.{CanPut}
@@ -22,7 +22,19 @@ pub record Put (inner : ℕ) (before after : List ℕ) (place : ℕ) (n : Node) 
   pub tree : TreeOf joinOf inner (changed (leavesOf inner (nodeAt before)) place n) (nodeAt after)
   pub length : length after ≡ TREEWORDS
 
--- the same of a theta tree
+-- n may stand as the leaf at `place`, whatever its ancestors are
+pub record Layable (inner : ℕ) (words : List ℕ) (place : ℕ) (n : Node) : Type 0 where
+  pub fits : Fits size Fair n
+  pub inside : place ≤ inner
+  pub room : inner ≤ INNER
+  pub length : length words ≡ TREEWORDS
+
+-- n stands there, and nothing else changed
+pub record Laid (inner : ℕ) (before after : List ℕ) (place : ℕ) (n : Node) : Type 0 where
+  pub nodes : nodeAt after ≡ changed (nodeAt before) (inner + place) n
+  pub length : length after ≡ TREEWORDS
+
+-- the first two of a theta tree
 pub record PlainPuttable (inner : ℕ) (words : List ℕ) (place : ℕ) (n : plain.Node) : Type 0 where
   pub takes : CanPut plainSize PlainFair plainJoinOf inner (plainAt words) place n
   pub length : length words ≡ THETAWORDS

@@ -30,7 +30,7 @@ ghost use Rattle.trees.specs.NodeBounds.{Fair, size};
 ghost use Rattle.trees.specs.Arrays.{leftmost, changed, leavesOf, TreeOf};
 ghost use Rattle.trees.specs.Words.{nodeAt};
 ghost use Rattle.trees.specs.Bounds.{NeedsUpheap};
-ghost use Rattle.trees.specs.Puts.{Puttable, Put};
+ghost use Rattle.trees.specs.Puts.{Puttable, Put, Layable, Laid};
 ghost use Rattle.trees.specs.Searches.{searchP, searchEct};
 ghost use Rattle.trees.specs.ArraySearches.{Searchable, aroundOf, foundAt, whiteIn, Next};
 ghost use Rattle.trees.specs.Leaves.{empty, white, gray, ect, ect-bar, sum};
@@ -254,7 +254,16 @@ impl ThetaLambdaTree {
         ThetaLambdaTree::put(nodes, inner, place, Node::empty());
     }
 
-    // Adds the provided task to Theta, but for the leaf's ancestors, which are left to `rebuild`.
+    // A leaf becomes the provided node, and its ancestors are left to `rebuild`.
+    fn lay(nodes: &mut [u32; TREEWORDS], inner: usize, place: LeafPlace, n: Node)
+        requires { ⌜ Layable inner (now nodes) (place .0) n ⌝ }
+        ensures { λ _. ⌜ Laid inner (now (nodes .entry)) (now (nodes .exit)) (place .0) n ⌝ }
+    {
+        let position = inner + place.0;
+        store(nodes, position, n);
+    }
+
+    // Adds the provided task to Theta, but for the leaf's ancestors.
     pub fn lay_in_theta(
         nodes: &mut [u32; TREEWORDS],
         inner: usize,
@@ -267,11 +276,10 @@ impl ThetaLambdaTree {
     {
         let ect = task.start_time + task.processing_time;
         let n = Node::new_white_node(ect, task.processing_time);
-        let position = inner + place.0;
-        store(nodes, position, n);
+        ThetaLambdaTree::lay(nodes, inner, place, n);
     }
 
-    // Adds the provided task to Lambda, but for the leaf's ancestors, which are left to `rebuild`.
+    // Adds the provided task to Lambda, but for the leaf's ancestors.
     pub fn lay_in_lambda(
         nodes: &mut [u32; TREEWORDS],
         inner: usize,
@@ -284,8 +292,7 @@ impl ThetaLambdaTree {
     {
         let ect = task.start_time + task.processing_time;
         let n = Node::new_gray_node(ect, task.processing_time);
-        let position = inner + place.0;
-        store(nodes, position, n);
+        ThetaLambdaTree::lay(nodes, inner, place, n);
     }
 
     // Calculates the values of all inner nodes, the last ones first.
