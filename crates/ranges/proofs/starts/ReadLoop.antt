@@ -46,7 +46,7 @@ pub record Loop {M : Type 1} (𝓤 : URA M) (H : Heap 𝓤) : Type 2 where
   pub Post : Val → SProp 𝓤
 
 module _ {M : Type 1} {𝓤 : URA M} {H : Heap 𝓤} (L : Loop 𝓤 H) where
-  -- the temporaries after the test, and the number that is read
+  -- the temporaries after the test, and the local that has the count
   abbrev scaled : ℕ
   scaled = suc (L .test)
 
