@@ -50,6 +50,13 @@ pub fn show_outcome(o: &Outcome, out: &mut String) {
     out.push_str(&format!("second{}\n", join(&o.second)));
 }
 
+/// An atom on a task in mirrored time; an atom on another variable stays.
+fn mirrored_atom(a: &Atom, durations: &[i32]) -> Atom {
+    let Some(p) = durations.get(a.variable as usize) else { return *a };
+    let kind = kind_of(a.comparison) as i64;
+    atom(a.variable as i64, if kind < 2 { 1 - kind } else { kind }, (-a.value - p) as i64)
+}
+
 /// Mirrors a run's answer back into the caller's time.
 pub fn mirrored_back(o: &Outcome, durations: &[i32]) -> Outcome {
     let turn = |reason: &Vec<Atom>| -> Vec<Atom> {
@@ -77,6 +84,33 @@ pub fn mirrored(pairs: &[(i32, i32)], holes: &[Vec<i32>], durations: &[i32]) -> 
         .map(|k| holes.get(k).map_or(vec![], |h| h.iter().rev().map(|v| -(v + durations[k])).collect()))
         .collect();
     (m, h)
+}
+
+/// The row of docs/DIFFERENCES.md that a check's panic belongs to, and the port's answer there; "none" where no row has this text at this input, so that
+/// the comparison shows it.
+fn panic_row(state: &VariableState<Atom>, durations: &[i32], consequent: Option<Atom>, text: &str) -> (&'static str, &'static str) {
+    let bounds = |v: u32| match (state.lower_bound(&v), state.upper_bound(&v)) {
+        (IntExt::Int(lower), IntExt::Int(upper)) => Some((i64::from(lower), i64::from(upper))),
+        _ => None,
+    };
+    let others = || (0..durations.len() as u32).filter(|&v| consequent.is_none_or(|c| c.variable != v)).filter_map(|v| Some((v, bounds(v)?)));
+    let (row, says) = match consequent {
+        Some(c) if c.variable as usize >= durations.len() || bounds(c.variable).is_none() => ("2", "propagating task"),
+        Some(_) if others().next().is_none() => ("4", "negate with overflow"),
+        None if others().next().is_none() => ("3", "subtract with overflow"),
+        None => {
+            let first = others().map(|(_, (lower, _))| lower).min().unwrap_or_default();
+            let last = others().map(|(v, (_, upper))| upper + i64::from(durations[v as usize])).max().unwrap_or_default();
+            (if last - first > i64::from(i32::MAX) { "11" } else { "none" }, "subtract with overflow")
+        }
+        Some(_) => ("none", ""),
+    };
+    let told = text.contains(says) || (row == "2" && text.contains("unwrap()"));
+    match row {
+        "2" if told => (row, "refused 8"),
+        "3" | "4" | "11" if told => (row, "not-passed"),
+        _ => ("none", "a panic of no row"),
+    }
 }
 
 impl Session {
@@ -266,7 +300,7 @@ impl Session {
                 out.push_str(&program(&text));
             }
             "page" | "free" | "charges" | "busiest" | "precede" | "precede-why" | "precede-bound" => self.request(line, out)?,
-            "check" => {
+            "check" | "check-mirrored" => {
                 let parts: Vec<Vec<&str>> = line.split(';').map(|p| p.split_whitespace().collect()).collect();
                 let d: Vec<i32> = numbers(&parts[0][1..])?.iter().map(|x| *x as i32).collect();
                 let premises = atoms(&numbers(parts.get(1).map_or(&[][..], |p| p))?)?;
@@ -281,18 +315,21 @@ impl Session {
                         return Some(());
                     }
                 }
+                // The mirrored check is the Rust's check of the mirrored atoms: what is refused or contradicted is so in either time.
+                let (premises, consequent) = if words[0] == "check" {
+                    (premises, consequent)
+                } else {
+                    (premises.iter().map(|a| mirrored_atom(a, &d)).collect(), consequent.map(|a| mirrored_atom(&a, &d)))
+                };
                 out.push_str(&match check(&d, &premises, consequent) {
                     Checked::Passed => "passed\n".to_string(),
                     Checked::NotPassed => "not-passed\n".to_string(),
                     Checked::Contradiction(v) => format!("contradiction {v}\n"),
                     Checked::Panic(m) => {
-                        // What the port answers where the Rust panics.
+                        // What the port answers where the Rust panics: each panic is held to its row of docs/DIFFERENCES.md, by its text and by the input.
                         let state = Self::steps(&premises, consequent).unwrap();
-                        let finite = |v: u32| {
-                            state.lower_bound(&v) != IntExt::NegativeInf && state.upper_bound(&v) != IntExt::PositiveInf
-                        };
-                        let eight = consequent.is_some_and(|c| c.variable as usize >= d.len() || !finite(c.variable));
-                        format!("panic {m}\n{}\n", if eight { "refused 8" } else { "not-passed" })
+                        let (row, answer) = panic_row(&state, &d, consequent, &m);
+                        format!("panic {row}: {m}\n{answer}\n")
                     }
                 });
             }
