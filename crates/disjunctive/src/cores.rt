@@ -28,7 +28,7 @@ pub struct CoreMirrored {
 }
 
 // The run on the first `count` places of the arrays.
-pub fn run_core(
+pub(crate) fn run_core(
     record: DisjunctivePropagator,
     ranges: StartsWithBars,
     posts: &mut [i32],
@@ -68,7 +68,7 @@ pub fn run_core(
 }
 
 // The mirrored pass on the first `count` places of the arrays.
-pub fn mirrored_core(
+pub(crate) fn mirrored_core(
     record: DisjunctivePropagator,
     ranges: StartsWithBars,
     posts: &mut [i32],
@@ -101,7 +101,7 @@ pub fn mirrored_core(
 }
 
 // The overload test on the first `count` places of the arrays.
-pub fn overload_core(record: DisjunctivePropagator, ranges: StartsWithBars) -> Overload
+pub(crate) fn overload_core(record: DisjunctivePropagator, ranges: StartsWithBars) -> Overload
     requires { ⌜ ranges .starts .count ≤ TASKS ⌝ }
     ensures { λ r. ⌜ OverloadTested «record» (firstEarliest (ranges .starts)) (firstLatest (ranges .starts)) (ranges .«bars_fit») r ⌝ }
 {

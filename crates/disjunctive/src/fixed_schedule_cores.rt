@@ -15,7 +15,7 @@ ghost use Rattle.pages.specs.Pages.{Paged};
 ghost use Rattle.busiest_stretch.specs.Stretches.{BusiestAnswered};
 
 // The page of the first `count` places of the arrays.
-pub fn page_core(record: DisjunctivePropagator, starts: Starts, out: &mut [u8]) -> Page
+pub(crate) fn page_core(record: DisjunctivePropagator, starts: Starts, out: &mut [u8]) -> Page
     requires { ⌜ starts .count ≤ TASKS ⌝ }
     ensures { λ r. ⌜ Paged «record» (firstEarliest starts) (firstLatest starts) (now (out .entry)) r (now (out .exit)) ⌝ }
 {
@@ -26,7 +26,7 @@ pub fn page_core(record: DisjunctivePropagator, starts: Starts, out: &mut [u8]) 
 }
 
 // The charges of the first `count` places of the arrays.
-pub fn charges_core(record: DisjunctivePropagator, starts: Starts, due: &[i32]) -> Charges
+pub(crate) fn charges_core(record: DisjunctivePropagator, starts: Starts, due: &[i32]) -> Charges
     requires { ⌜ starts .count ≤ TASKS ⌝ }
     ensures { λ r. ⌜ Charged «record» (firstEarliest starts) (firstLatest starts) (now (due .entry)) r ⌝ }
 {
@@ -37,7 +37,7 @@ pub fn charges_core(record: DisjunctivePropagator, starts: Starts, due: &[i32]) 
 }
 
 // The free start beside the first `count` places of the arrays.
-pub fn free_core(record: DisjunctivePropagator, starts: Starts, t: i32, d: i32) -> FreeStart
+pub(crate) fn free_core(record: DisjunctivePropagator, starts: Starts, t: i32, d: i32) -> FreeStart
     requires { ⌜ starts .count ≤ TASKS ⌝ }
     ensures { λ r. ⌜ FreeStartAnswered «record» (firstEarliest starts) (firstLatest starts) t d r ⌝ }
 {
@@ -48,7 +48,7 @@ pub fn free_core(record: DisjunctivePropagator, starts: Starts, t: i32, d: i32) 
 }
 
 // The busiest stretch of the first `count` places of the arrays.
-pub fn stretch_core(record: DisjunctivePropagator, starts: Starts, w: i32) -> Busiest
+pub(crate) fn stretch_core(record: DisjunctivePropagator, starts: Starts, w: i32) -> Busiest
     requires { ⌜ starts .count ≤ TASKS ⌝ }
     ensures { λ r. ⌜ BusiestAnswered «record» (firstEarliest starts) (firstLatest starts) w r ⌝ }
 {

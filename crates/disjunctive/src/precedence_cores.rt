@@ -21,7 +21,10 @@ pub struct CorePrecedences {
 }
 
 // The pass on the first `count` places of the arrays.
-pub fn precedences_core(record: DisjunctivePropagator, ranges: StartsWithBars) -> CorePrecedences
+pub(crate) fn precedences_core(
+    record: DisjunctivePropagator,
+    ranges: StartsWithBars,
+) -> CorePrecedences
     requires { ⌜ ranges .starts .count ≤ TASKS ⌝ }
     ensures { λ r. ⌜ PrecedencesCore «record» ranges r ⌝ }
 {
@@ -47,7 +50,11 @@ pub fn precedences_core(record: DisjunctivePropagator, ranges: StartsWithBars) -
 }
 
 // A task's bound over the first `count` places of the arrays.
-pub fn bound_core(record: DisjunctivePropagator, ranges: StartsWithBars, task: usize) -> BoundAbove
+pub(crate) fn bound_core(
+    record: DisjunctivePropagator,
+    ranges: StartsWithBars,
+    task: usize,
+) -> BoundAbove
     requires { ⌜ ranges .starts .count ≤ TASKS ⌝ }
     ensures { λ r. ⌜ BoundGiven «record» (firstEarliest (ranges .starts)) (firstLatest (ranges .starts)) (ranges .«bars_fit») task r ⌝ }
 {
@@ -59,7 +66,7 @@ pub fn bound_core(record: DisjunctivePropagator, ranges: StartsWithBars, task: u
 }
 
 // The reason of a task's bound over the first `count` places of the arrays.
-pub fn reason_core(
+pub(crate) fn reason_core(
     record: DisjunctivePropagator,
     ranges: StartsWithBars,
     task: usize,
