@@ -12,7 +12,7 @@ use Rattle.checking.specs.declared.variable_state.Application.the-variants as a
 use Rattle.checking.specs.Answers.{applicationNumbers}
 use Rattle.post_words.specs.Posts.{wordsOf}
 use Rattle.runs.specs.declared.outcome.Outcome.{Outcome}
-use Rattle.runs.specs.Outcomes.{valueOf}
+use Rattle.runs.specs.Outcomes.{firstOf, countOf}
 use Rattle.answers.specs.declared.source_calls.RunAnswer.{RunAnswer}
 use Rattle.answers.specs.declared.source_calls.CheckAnswer.{CheckAnswer}
 use Rattle.answers.specs.declared.source_calls.StateAnswer.{StateAnswer}
@@ -26,7 +26,7 @@ natAt k a = natAbs (valueAt k a)
 
 -- An overload's reason is given in words, as a post's is, and an atom has three: a usize counts the words up to its end.
 abbrev pub WordsCountable : Outcome → Type 0
-WordsCountable o = wordsOf (valueOf o 1) + wordsOf (valueOf o 2) < 2 ^ 64
+WordsCountable o = wordsOf (firstOf o) + wordsOf (countOf o) < 2 ^ 64
 
 -- a run: its post count and, of an overload's reason, the first word's index and the word count; and its leaf changes
 abbrev pub runAnswer : Answer → ℕ → RunAnswer

@@ -16,7 +16,7 @@ use Rattle.checking.specs.Atoms.{atomsOf}
 use Rattle.checking.proofs.Atoms.{atoms-words}
 use Rattle.post_words.specs.Posts.{taskWord, taskOf, boundOf, postNumber, reasonWords}
 use Rattle.runs.specs.declared.outcome.Outcome.{Outcome}
-use Rattle.runs.specs.Outcomes.{outcomeNumbers, valueOf}
+use Rattle.runs.specs.Outcomes.{outcomeNumbers, valueOf, firstOf, countOf}
 use Rattle.runs.specs.EndNumbers.{traceNumbers}
 use Rattle.runs.proofs.TraceNumbers.{posts-made, kind-done, kind-overload}
 use Rattle.propagator.proofs.ReadTrace.{Handed}
@@ -60,13 +60,13 @@ module _ (t : Trace) (answer : Outcome) (is : outcomeNumbers answer ≡ traceNum
 
     -- an overload's reason
     module _ (k : outcomeNumbers answer .kind ≡ 1) where
-      pub inside : 3 * valueOf answer 1 + 3 * valueOf answer 2 ≤ length atoms
+      pub inside : 3 * firstOf answer + 3 * countOf answer ≤ length atoms
       inside = let o = kind-overload answer t is k in omega (arith, o .first, o .count, handed .overloads (o .reason) (o .ended) .inside)
 
       pub overload-words : overloadOf answer atoms ≡ atomWords (kind-overload answer t is k .reason)
       overload-words =
           let o = kind-overload answer t is k in
-          ap (λ (n : ℕ). take (3 * n) (drop (3 * valueOf answer 1) atoms)) (o .count)
+          ap (λ (n : ℕ). take (3 * n) (drop (3 * firstOf answer) atoms)) (o .count)
           ∙ ap (λ (n : ℕ). take (3 * length (o .reason)) (drop (3 * n) atoms)) (o .first) ∙ handed .overloads (o .reason) (o .ended) .words
 
       pub overload-atoms : atomsOf (overloadOf answer atoms) ≡ kind-overload answer t is k .reason

@@ -18,7 +18,7 @@ use Rattle.checker.specs.Verdicts.{verdictNumbers}
 use Rattle.checker.specs.Checks.{tasksWith, consequentWords}
 use Rattle.checker.specs.Checked.{Checked}
 use Rattle.runs.specs.declared.outcome.Outcome.{Outcome}
-use Rattle.runs.specs.Outcomes.{outcomeNumbers, valueOf}
+use Rattle.runs.specs.Outcomes.{outcomeNumbers, valueOf, firstOf, countOf}
 use Rattle.ranges.specs.declared.range.Range.{Range}
 use Rattle.ranges.specs.Permitted.{FirstPermitted, PermittedSchedule}
 use Rattle.ranges.specs.Ranges.{earliests, anyRange}
@@ -98,7 +98,7 @@ module _ (before : DisjunctivePropagator) (ranges : List Range) (answer : Outcom
     pub read : (j : ℕ) → j < made → postNumber posts atoms made j ≡ 0
     pub reasons : (j : ℕ) → j < made → GoodReason before ranges (reasonOf answer posts atoms j) (some (says posts j))
     -- and an overload's, which stands in the slice.
-    pub inside : kind ≡ 1 → 3 * valueOf answer 1 + 3 * valueOf answer 2 ≤ length atoms
+    pub inside : kind ≡ 1 → 3 * firstOf answer + 3 * countOf answer ≤ length atoms
     pub overload : kind ≡ 1 → GoodReason before ranges (overloadOf answer atoms) none
 
 -- A refused run alters no lent buffer and hands back the record that it got.

@@ -17,7 +17,7 @@ use Rattle.checker.specs.Checks.{consequentWords}
 use Rattle.checker.specs.MirroredChecks.{mirrorIfAny}
 use Rattle.checker.specs.Checked.{CheckedMirrored}
 use Rattle.runs.specs.declared.outcome.Outcome.{Outcome}
-use Rattle.runs.specs.Outcomes.{outcomeNumbers, valueOf}
+use Rattle.runs.specs.Outcomes.{outcomeNumbers, valueOf, firstOf, countOf}
 use Rattle.ranges.specs.declared.range.Range.{Range}
 use Rattle.ranges.specs.Permitted.{LastPermitted, PermittedSchedule}
 use Rattle.ranges.specs.Ranges.{latests, anyRange}
@@ -87,5 +87,5 @@ module _ (before : DisjunctivePropagator) (ranges : List Range) (answer : Outcom
     pub read : (j : ℕ) → j < made → postNumber posts atoms made j ≡ 0
     pub reasons : (j : ℕ) → j < made → GoodMirroredReason before ranges (reasonOf answer posts atoms j) (some (saysMirrored posts j))
     -- and an overload's, which stands in the slice.
-    pub inside : kind ≡ 1 → 3 * valueOf answer 1 + 3 * valueOf answer 2 ≤ length atoms
+    pub inside : kind ≡ 1 → 3 * firstOf answer + 3 * countOf answer ≤ length atoms
     pub overload : kind ≡ 1 → GoodMirroredReason before ranges (overloadOf answer atoms) none

@@ -48,8 +48,8 @@ module _ (before : DisjunctivePropagator) (ranges : List Range) (answer : Outcom
   range k = getD ranges k anyRange
 
   -- the latest start that task k is left with
-  abbrev now : ℕ → ℤ
-  now k = getD (latests ranges′) k (pos 0)
+  abbrev latest′ : ℕ → ℤ
+  latest′ k = getD (latests ranges′) k (pos 0)
 
   -- A reason, for an atom or for none.
   pub record MirroredReason (words : List ℤ) (consequent : Option Atom) : Type 0 where
@@ -83,7 +83,7 @@ module _ (before : DisjunctivePropagator) (ranges : List Range) (answer : Outcom
     pub smallest : ℕ → ℤ
     pub done : MirroredDone J smallest made task bound
     -- Each latest start is the last permitted one up to there.
-    pub last : (k : ℕ) → k < J .count → LastPermitted (range k) (smallest k) (now k)
+    pub last : (k : ℕ) → k < J .count → LastPermitted (range k) (smallest k) (latest′ k)
 
   pub record MirroredPromise : Type 0 where
     -- The pass is Done, or it ends in Overload or Emptied.
@@ -97,14 +97,14 @@ module _ (before : DisjunctivePropagator) (ranges : List Range) (answer : Outcom
     pub otherwise : (kind ≡ 0 → ⊥) → (s : ℕ → ℤ) → Schedule J s → ⊥
     pub otherwise-permitted : (kind ≡ 0 → ⊥) → (s : ℕ → ℤ) → PermittedSchedule J ranges s → ⊥
     -- No schedule of permitted starts is lost: each starts every task at or before the latest start that the task is left with.
-    pub none-lost : (s : ℕ → ℤ) → PermittedSchedule J ranges s → (k : ℕ) → k < J .count → s k ≤ℤ now k
+    pub none-lost : (s : ℕ → ℤ) → PermittedSchedule J ranges s → (k : ℕ) → k < J .count → s k ≤ℤ latest′ k
     -- An emptied pass has a post. Its last one, and no other post of any pass, has a bound below its task's earliest start.
     pub emptied : kind ≡ 2 → 1 ≤ made
     pub below : (j : ℕ) → j < made → bound j <ℤ J .earliest (task j) ↔ ((kind ≡ 2) × (suc j ≡ made))
     -- Whatever the outcome, the task of every other post is left with the last permitted start up to the bound,
-    pub stands : (j : ℕ) → j < made → J .earliest (task j) ≤ℤ bound j → LastPermitted (range (task j)) (bound j) (now (task j))
+    pub stands : (j : ℕ) → j < made → J .earliest (task j) ≤ℤ bound j → LastPermitted (range (task j)) (bound j) (latest′ (task j))
     -- and a task that no such post names with the latest start that it had.
-    pub stays : (k : ℕ) → k < J .count → ((j : ℕ) → j < made → J .earliest (task j) ≤ℤ bound j → task j ≡ k → ⊥) → now k ≡ J .latest k
+    pub stays : (k : ℕ) → k < J .count → ((j : ℕ) → j < made → J .earliest (task j) ≤ℤ bound j → task j ≡ k → ⊥) → latest′ k ≡ J .latest k
     -- Whatever the outcome, every post holds in all schedules, and its reason holds at entry, meets the checker's formula mirrored, and passes the mirrored
     -- check.
     pub every-post : (j : ℕ) → j < made → MirroredPostPromise j

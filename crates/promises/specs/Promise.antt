@@ -17,7 +17,7 @@ use Rattle.post_words.specs.Posts.{taskWord, taskOf, boundOf, postNumber, reaso
 use Rattle.records.specs.declared.record.DisjunctivePropagator.{DisjunctivePropagator}
 use Rattle.records.specs.Records.{tasksIn}
 use Rattle.runs.specs.declared.outcome.Outcome.{Outcome}
-use Rattle.runs.specs.Outcomes.{outcomeNumbers, valueOf}
+use Rattle.runs.specs.Outcomes.{outcomeNumbers, valueOf, firstOf, countOf}
 use Rattle.ranges.specs.declared.range.Range.{Range}
 use Rattle.ranges.specs.Ranges.{earliests, latests, counts, places, anyRange}
 use Rattle.ranges.specs.Permitted.{FirstPermitted, PermittedSchedule}
@@ -38,12 +38,12 @@ reasonOf answer posts atoms j = reasonWords posts atoms (valueOf answer 0) j
 
 -- the words of an overload's reason, where the answer says that it stands
 abbrev pub overloadOf : Outcome → List ℤ → List ℤ
-overloadOf answer atoms = take (3 * valueOf answer 2) (drop (3 * valueOf answer 1) atoms)
+overloadOf answer atoms = take (3 * countOf answer) (drop (3 * firstOf answer) atoms)
 
 -- An overload, whose words are a reason of either direction: `Reason` below, or `MirroredReason`.
 pub record OverloadPromise (Reason : List ℤ → Option Atom → Type 0) (answer : Outcome) (atoms : List ℤ) : Type 0 where
   -- Its atoms are inside the slice: value 1 is the first one's index, value 2 their count.
-  pub inside : 3 * valueOf answer 1 + 3 * valueOf answer 2 ≤ length atoms
+  pub inside : 3 * firstOf answer + 3 * countOf answer ≤ length atoms
   -- They are a reason without consequent.
   pub reason : Reason (overloadOf answer atoms) none
 
@@ -73,8 +73,8 @@ module _ (before : DisjunctivePropagator) (ranges : List Range) (answer : Outcom
   range k = getD ranges k anyRange
 
   -- the earliest start that task k is left with
-  abbrev now : ℕ → ℤ
-  now k = getD (earliests ranges′) k (pos 0)
+  abbrev earliest′ : ℕ → ℤ
+  earliest′ k = getD (earliests ranges′) k (pos 0)
 
   -- A reason, for an atom or for none.
   pub record Reason (words : List ℤ) (consequent : Option Atom) : Type 0 where
@@ -108,7 +108,7 @@ module _ (before : DisjunctivePropagator) (ranges : List Range) (answer : Outcom
     pub largest : ℕ → ℤ
     pub done : Done J largest made task bound
     -- Each earliest start is the first permitted one from there on.
-    pub first : (k : ℕ) → k < J .count → FirstPermitted (range k) (largest k) (now k)
+    pub first : (k : ℕ) → k < J .count → FirstPermitted (range k) (largest k) (earliest′ k)
 
   pub record Promise : Type 0 where
     -- The run is Done, or it ends in Overload or Emptied.
@@ -121,14 +121,14 @@ module _ (before : DisjunctivePropagator) (ranges : List Range) (answer : Outcom
     pub otherwise : (kind ≡ 0 → ⊥) → (s : ℕ → ℤ) → Schedule J s → ⊥
     pub otherwise-permitted : (kind ≡ 0 → ⊥) → (s : ℕ → ℤ) → PermittedSchedule J ranges s → ⊥
     -- No schedule of permitted starts is lost: each starts every task at or after the earliest start that the task is left with.
-    pub none-lost : (s : ℕ → ℤ) → PermittedSchedule J ranges s → (k : ℕ) → k < J .count → now k ≤ℤ s k
+    pub none-lost : (s : ℕ → ℤ) → PermittedSchedule J ranges s → (k : ℕ) → k < J .count → earliest′ k ≤ℤ s k
     -- An emptied run has a post. Its last one, and no other post of any run, has a bound above its task's latest start.
     pub emptied : kind ≡ 2 → 1 ≤ made
     pub above : (j : ℕ) → j < made → J .latest (task j) <ℤ bound j ↔ ((kind ≡ 2) × (suc j ≡ made))
     -- Whatever the outcome, the task of every other post is left with the first permitted start from the bound on,
-    pub stands : (j : ℕ) → j < made → bound j ≤ℤ J .latest (task j) → FirstPermitted (range (task j)) (bound j) (now (task j))
+    pub stands : (j : ℕ) → j < made → bound j ≤ℤ J .latest (task j) → FirstPermitted (range (task j)) (bound j) (earliest′ (task j))
     -- and a task that no such post names with the start that it had.
-    pub stays : (k : ℕ) → k < J .count → ((j : ℕ) → j < made → bound j ≤ℤ J .latest (task j) → task j ≡ k → ⊥) → now k ≡ J .earliest k
+    pub stays : (k : ℕ) → k < J .count → ((j : ℕ) → j < made → bound j ≤ℤ J .latest (task j) → task j ≡ k → ⊥) → earliest′ k ≡ J .earliest k
     -- Whatever the outcome, every post holds in all schedules, and its reason holds at entry, meets the checker's formula, and passes the check.
     pub every-post : (j : ℕ) → j < made → PostPromise j
     -- So does an overload's reason.

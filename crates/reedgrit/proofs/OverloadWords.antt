@@ -10,7 +10,7 @@ use Rattle.integers.specs.Answers.{Answer, refusedBy}
 use Rattle.records.specs.declared.record.DisjunctivePropagator.{DisjunctivePropagator}
 use Rattle.runs.specs.declared.outcome.Outcome.{Outcome}
 use Rattle.runs.specs.declared.outcome.Outcome.the-variants as outcome
-use Rattle.runs.specs.Outcomes.{outcomeNumbers, valueOf}
+use Rattle.runs.specs.Outcomes.{outcomeNumbers, firstOf, countOf}
 use Rattle.ranges.specs.declared.range.Range.{Range}
 use Rattle.promises.specs.Promise.{Reason, OverloadPromise}
 use Rattle.promises.specs.MirroredPromise.{MirroredReason}
@@ -31,7 +31,7 @@ accepted o (suc m) refused k = elim (differ (sym (ap (λ (a : Answer). a .kind) 
     differ e = omega arith
 
 -- words inside a slice are fewer than a machine word counts
-countable : (o : Outcome) (n : ℕ) → n < 2 ^ 64 → (outcomeNumbers o .kind ≡ 1 → 3 * valueOf o 1 + 3 * valueOf o 2 ≤ n) → WordsCountable o
+countable : (o : Outcome) (n : ℕ) → n < 2 ^ 64 → (outcomeNumbers o .kind ≡ 1 → 3 * firstOf o + 3 * countOf o ≤ n) → WordsCountable o
 countable (outcome.Done posts) n room inside = omega arith
 countable (outcome.Overload posts first count) n room inside = omega (arith, inside refl)
 countable (outcome.Emptied posts) n room inside = omega arith

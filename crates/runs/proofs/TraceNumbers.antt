@@ -12,7 +12,7 @@ use Rattle.runs.specs.Traces.{End, done, overload, emptied, Trace}
 use Rattle.runs.specs.Words.{reasons}
 use Rattle.runs.specs.declared.outcome.Outcome.{Outcome}
 use Rattle.runs.specs.declared.outcome.Outcome.the-variants as outcome
-use Rattle.runs.specs.Outcomes.{outcomeNumbers, valueOf}
+use Rattle.runs.specs.Outcomes.{outcomeNumbers, valueOf, firstOf, countOf}
 use Rattle.runs.specs.EndNumbers.{endNumbers, traceNumbers}
 
 -- an outcome, read back from its numbers
@@ -35,8 +35,8 @@ outcomes-apart o o′ e = sym (outcome-back o) ∙ ap (λ (a : Answer). outcomeA
 pub record Overloaded (r : Outcome) (t : Trace) : Type 0 where
   pub reason : List Atom
   pub ended : t .end ≡ overload reason
-  pub first : valueOf r 1 ≡ length (reasons (t .posts))
-  pub count : valueOf r 2 ≡ length reason
+  pub first : firstOf r ≡ length (reasons (t .posts))
+  pub count : countOf r ≡ length reason
 
 -- an answer with the numbers of a trace
 module _ (r : Outcome) (t : Trace) (is : outcomeNumbers r ≡ traceNumbers t) where

@@ -17,3 +17,10 @@ outcomeNumbers (outcome.Refused number) = refusedBy number
 -- value k of an outcome; 0 where it has none
 abbrev pub valueOf : Outcome → ℕ → ℕ
 valueOf o k = natAbs (getD (outcomeNumbers o .values) k (pos 0))
+
+-- of an overload's reason the first atom's index, and how many atoms there are
+abbrev pub firstOf : Outcome → ℕ
+firstOf o = valueOf o 1
+
+abbrev pub countOf : Outcome → ℕ
+countOf o = valueOf o 2

@@ -60,14 +60,14 @@ module _ (J : Tasks whole) where
   abbrev pub MirroredConflict : Type 0
   MirroredConflict = ((Ω : TaskSet) × Overloads J Ω) ⊎ ((i : ℕ) × (b : ℤ) × MirroredBound i b × (b <ℤ J .earliest i))
 
-  -- Done, with the latest starts `now` and m posts: no conflict; each latest start is the smallest of its old value and its bounds;
+  -- Done, with the latest starts `start` and m posts: no conflict; each latest start is the smallest of its old value and its bounds;
   -- the posts are one for each task so moved, at the smallest of its bounds, and no others.
-  pub record MirroredDone (now : ℕ → ℤ) (m : ℕ) (task : ℕ → ℕ) (bound : ℕ → ℤ) : Type 0 where
+  pub record MirroredDone (start : ℕ → ℤ) (m : ℕ) (task : ℕ → ℕ) (bound : ℕ → ℤ) : Type 0 where
     pub no-overload : (Ω : TaskSet) → Overloads J Ω → ⊥
     pub no-passing : (i : ℕ) (b : ℤ) → MirroredBound i b → J .earliest i ≤ℤ b
-    pub starts : (i : ℕ) → i < J .count → Least whole (λ v. (J .latest i ≡ v) ⊎ MirroredBound i v) (now i)
+    pub starts : (i : ℕ) → i < J .count → Least whole (λ v. (J .latest i ≡ v) ⊎ MirroredBound i v) (start i)
     pub small : (j : ℕ) → j < m → task j < J .count
     pub lowers : (j : ℕ) → j < m → bound j <ℤ J .latest (task j)
     pub at-smallest : (j : ℕ) → j < m → Least whole (MirroredBound (task j)) (bound j)
-    pub every : (k : ℕ) → k < J .count → now k <ℤ J .latest k → (j : ℕ) × (j < m) × (task j ≡ k)
+    pub every : (k : ℕ) → k < J .count → start k <ℤ J .latest k → (j : ℕ) × (j < m) × (task j ≡ k)
     pub once : (i j : ℕ) → i < m → j < m → task i ≡ task j → i ≡ j

@@ -156,16 +156,16 @@ module _ {C : Clock} (J : Tasks C) where
   abbrev pub Conflict : Type 0
   Conflict = ((Ω : TaskSet) × Overloads Ω) ⊎ ((i : ℕ) × (b : C .Moment) × EdgeFindingBound i b × C .before (J .latest i) b)
 
-  -- Done, with the starts `now` and m posts: no conflict; each start is the largest of its old value and its edge-finding bounds;
+  -- Done, with the starts `start` and m posts: no conflict; each start is the largest of its old value and its edge-finding bounds;
   -- the posts are one for each task so raised, at the largest of its bounds, and no others.
-  pub record Done (now : ℕ → C .Moment) (m : ℕ) (task : ℕ → ℕ) (bound : ℕ → C .Moment) : Type 0 where
+  pub record Done (start : ℕ → C .Moment) (m : ℕ) (task : ℕ → ℕ) (bound : ℕ → C .Moment) : Type 0 where
     pub no-overload : (Ω : TaskSet) → Overloads Ω → ⊥
     pub no-passing : (i : ℕ) (b : C .Moment) → EdgeFindingBound i b → C .upto b (J .latest i)
-    pub starts : (i : ℕ) → i < J .count → Largest C (λ v. (J .earliest i ≡ v) ⊎ EdgeFindingBound i v) (now i)
+    pub starts : (i : ℕ) → i < J .count → Largest C (λ v. (J .earliest i ≡ v) ⊎ EdgeFindingBound i v) (start i)
     pub small : (j : ℕ) → j < m → task j < J .count
     pub raises : (j : ℕ) → j < m → C .before (J .earliest (task j)) (bound j)
     pub at-largest : (j : ℕ) → j < m → Largest C (EdgeFindingBound (task j)) (bound j)
-    pub every : (k : ℕ) → k < J .count → C .before (J .earliest k) (now k) → (j : ℕ) × (j < m) × (task j ≡ k)
+    pub every : (k : ℕ) → k < J .count → C .before (J .earliest k) (start k) → (j : ℕ) × (j < m) × (task j ≡ k)
     pub once : (i j : ℕ) → i < m → j < m → task i ≡ task j → i ≡ j
 
 -- Atoms and reasons ------------------------------------------------------------------------------------------------------------
