@@ -128,10 +128,12 @@ pub enum Family {
     Reversed,
     /// Any, with 0 to 16 barred starts for each task; the only one that has bars.
     Barred,
+    /// Those of `Mixed`, for the mirrored pass; the published Rust runs on them in mirrored time.
+    Mirrored,
 }
 
 impl Family {
-    pub const ALL: [Family; 5] = [Family::Mixed, Family::Done, Family::Sorted, Family::Reversed, Family::Barred];
+    pub const ALL: [Family; 6] = [Family::Mixed, Family::Done, Family::Sorted, Family::Reversed, Family::Barred, Family::Mirrored];
 
     pub fn name(self) -> &'static str {
         match self {
@@ -140,6 +142,7 @@ impl Family {
             Family::Sorted => "sorted",
             Family::Reversed => "reversed",
             Family::Barred => "barred",
+            Family::Mirrored => "mirrored",
         }
     }
 }
@@ -148,6 +151,11 @@ impl Family {
 pub struct Case {
     pub durations: Vec<i32>,
     pub ranges: Vec<Range>,
+}
+
+/// Ranges without bars in mirrored time.
+pub fn mirrored(durations: &[i32], ranges: &[Range]) -> Vec<Range> {
+    ranges.iter().zip(durations).map(|(range, duration)| Range::new(-range.latest - duration, -range.earliest - duration)).collect()
 }
 
 fn is_done(durations: &[i32], ranges: &[Range]) -> bool {
@@ -180,7 +188,7 @@ pub fn cases(family: Family, n: usize, count: usize, seed: u64) -> Vec<Case> {
     while made.len() < count {
         let mut durations = durations(&mut rng, n);
         let mut ranges = match family {
-            Family::Mixed | Family::Done => ranges(&mut rng, &durations),
+            Family::Mixed | Family::Done | Family::Mirrored => ranges(&mut rng, &durations),
             Family::Sorted | Family::Reversed => nested(&mut rng, &durations),
             Family::Barred => {
                 let free = ranges(&mut rng, &durations);
@@ -191,7 +199,7 @@ pub fn cases(family: Family, n: usize, count: usize, seed: u64) -> Vec<Case> {
             durations.reverse();
             ranges.reverse();
         }
-        if matches!(family, Family::Mixed | Family::Barred) || is_done(&durations, &ranges) {
+        if matches!(family, Family::Mixed | Family::Barred | Family::Mirrored) || is_done(&durations, &ranges) {
             made.push(Case { durations, ranges });
         }
     }

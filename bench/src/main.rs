@@ -3,13 +3,13 @@
 //! ```text
 //! bench [FOLDER]                   prints the tables; in FOLDER it leaves them as table.md, and the plot as plot.svg
 //! bench spin WHOSE WHAT N ROUNDS   works through one family without a clock, for an instruction count: WHOSE is ours or published,
-//!                                  WHAT is mixed, done, sorted, reversed, barred, reasons or changed
+//!                                  WHAT is mixed, done, sorted, reversed, barred, mirrored, reasons, changed or search
 //! ```
 use std::fmt::Write as _;
 use std::hint::black_box;
 use std::time::Instant;
 
-use bench::inputs::{Case, Check, Family, Rng, cases, checks};
+use bench::inputs::{Case, Check, Family, Rng, cases, checks, mirrored};
 use bench::published::{Atom, Checker, Domains, Published, atom, domains};
 use bench::search::{Machine, Ours, Search, Theirs, instance};
 use reedgrit::{Propagator, Range, Words, check};
@@ -27,16 +27,19 @@ struct Runner {
     ours: Propagator,
     published: Published,
     our_ranges: Vec<Range>,
+    their_ranges: Vec<Range>,
     their_domains: Domains,
 }
 
 impl Runner {
-    fn new(case: Case) -> Runner {
+    fn new(family: Family, case: Case) -> Runner {
+        let their_ranges = if family == Family::Mirrored { mirrored(&case.durations, &case.ranges) } else { case.ranges.clone() };
         Runner {
             ours: Propagator::new(&case.durations).expect("durations within the limits"),
             published: Published::new(&case.durations),
             our_ranges: case.ranges.clone(),
-            their_domains: domains(&case.ranges),
+            their_domains: domains(&their_ranges),
+            their_ranges,
             case,
         }
     }
@@ -46,7 +49,7 @@ impl Runner {
     fn ready(&mut self) {
         self.our_ranges.copy_from_slice(&self.case.ranges);
         self.published = Published::new(&self.case.durations);
-        for (domain, range) in self.their_domains.ranges.iter_mut().zip(&self.case.ranges) {
+        for (domain, range) in self.their_domains.ranges.iter_mut().zip(&self.their_ranges) {
             (domain.lower, domain.upper) = (range.earliest, range.latest);
         }
         self.their_domains.posts.clear();
@@ -76,9 +79,13 @@ impl Checking {
     }
 }
 
-fn run_ours(batch: &mut [Runner], words: &mut Words) {
+fn run_ours(family: Family, batch: &mut [Runner], words: &mut Words) {
     for one in batch {
-        let _ = black_box(one.ours.run(&mut one.our_ranges, words).map(|outcome| outcome.posts().len()));
+        if family == Family::Mirrored {
+            let _ = black_box(one.ours.run_mirrored(&mut one.our_ranges, words).map(|outcome| outcome.posts().len()));
+        } else {
+            let _ = black_box(one.ours.run(&mut one.our_ranges, words).map(|outcome| outcome.posts().len()));
+        }
     }
 }
 
@@ -145,10 +152,14 @@ fn figure<T>(
     Figure { ours: call(0), published: call(1), ratio: call(0) / call(1) }
 }
 
+fn runners(family: Family, n: usize) -> Vec<Runner> {
+    cases(family, n, CASES, SEED).into_iter().map(|case| Runner::new(family, case)).collect()
+}
+
 fn runs(family: Family, n: usize) -> Figure {
-    let mut runners: Vec<Runner> = cases(family, n, CASES, SEED).into_iter().map(Runner::new).collect();
+    let mut runners = runners(family, n);
     let mut words = Words::new(n);
-    figure(&mut runners, Runner::ready, |batch| run_ours(batch, &mut words), run_published)
+    figure(&mut runners, Runner::ready, |batch| run_ours(family, batch, &mut words), run_published)
 }
 
 fn check_figures(changed: bool, n: usize) -> Figure {
@@ -175,10 +186,14 @@ fn searched<M: Machine>(n: usize, machine: impl Fn(&[i32]) -> M) -> (usize, f64)
     (nodes, seconds)
 }
 
+/// How many times the nodes a second of the published Rust, at each size.
+type Ratios = [f64; 4];
+
 /// The same searches on both sides, nine times in turn; the middle of each side's times.
-fn search_table() -> String {
+fn search_table() -> (String, Ratios) {
+    let mut ratios = [0.0; 4];
     let mut text = String::from("| search | nodes | ours, nodes a second | published | ratio |\n|---|---|---|---|---|\n");
-    for n in SIZES {
+    for (n, ratio) in SIZES.into_iter().zip(&mut ratios) {
         let (mut ours, mut theirs) = (Vec::new(), Vec::new());
         let mut visited = [0, 0];
         for _ in 0..9 {
@@ -191,9 +206,10 @@ fn search_table() -> String {
         }
         assert_eq!(visited[0], visited[1], "both sides narrow the same");
         let (ours, theirs) = (visited[0] as f64 / median(ours), visited[0] as f64 / median(theirs));
-        let _ = writeln!(text, "| n = {n} | {} | {ours:.0} | {theirs:.0} | **{:.2}** |", visited[0], ours / theirs);
+        *ratio = ours / theirs;
+        let _ = writeln!(text, "| n = {n} | {} | {ours:.0} | {theirs:.0} | **{ratio:.2}** |", visited[0]);
     }
-    text
+    (text, ratios)
 }
 
 struct Row {
@@ -207,18 +223,31 @@ fn growth(times: [f64; 4]) -> f64 {
     (times[3] / times[0]).ln() / (SIZES[3] as f64 / SIZES[0] as f64).ln()
 }
 
+/// The limit: what the same algorithm takes in C, written by hand with the same answers, of the published Rust's time. It was measured once, on another
+/// machine; there is none for the mirrored pass.
+fn limit(family: &str) -> Option<[f64; 4]> {
+    Some(match family {
+        "mixed" => [0.19, 0.18, 0.17, 0.19],
+        "done" => [0.21, 0.20, 0.18, 0.21],
+        "sorted" => [0.20, 0.17, 0.16, 0.16],
+        "reversed" => [0.16, 0.14, 0.16, 0.17],
+        "barred" => [0.30, 0.25, 0.24, 0.24],
+        "reasons" | "changed" => [0.10, 0.08, 0.07, 0.07],
+        _ => return None,
+    })
+}
+
+/// A line for each series; a cell has our time and the published Rust's, their ratio, and the limit.
 fn table(rows: &[Row]) -> String {
-    let mut text = String::from("| call | inputs | | n = 8 | n = 16 | n = 32 | n = 48 | grows as |\n|---|---|---|---|---|---|---|---|\n");
+    let mut text = String::from("| call | inputs | n = 8 | n = 16 | n = 32 | n = 48 | grows as |\n|---|---|---|---|---|---|---|\n");
     for row in rows {
-        let line = |name: &str, label: &str, times: [f64; 4]| {
-            let cells: String = times.iter().map(|time| format!(" {time:.0} ns |")).collect();
-            format!("| {name} | {label} |{cells} n^{:.2} |\n", growth(times))
+        let limits = limit(row.family).map(|limits| limits.map(|limit| format!(" ({limit:.2})"))).unwrap_or_default();
+        let cell = |(figure, limit): (&Figure, String)| {
+            format!(" {:.0} / {:.0} ns **{:.2}**{limit} |", figure.ours, figure.published, figure.ratio)
         };
-        let first = format!("{} | {}", row.what, row.family);
-        text += &line(&first, "ours", row.figures.map(|figure| figure.ours));
-        text += &line(" | ", "published", row.figures.map(|figure| figure.published));
-        let ratios: String = row.figures.iter().map(|figure| format!(" **{:.2}** |", figure.ratio)).collect();
-        let _ = writeln!(text, "|  |  | ratio |{ratios}  |");
+        let cells: String = row.figures.iter().zip(limits).map(cell).collect();
+        let (ours, published) = (growth(row.figures.map(|figure| figure.ours)), growth(row.figures.map(|figure| figure.published)));
+        let _ = writeln!(text, "| {} | {} |{cells} n^{ours:.2} / n^{published:.2} |", row.what, row.family);
     }
     text
 }
@@ -262,6 +291,25 @@ fn plot(rows: &[Row]) -> String {
     svg + "</svg>\n"
 }
 
+/// The bar: the time of a call beside the published Rust's, at every size, and the nodes a second of the search.
+const RUNS: f64 = 0.40;
+const CHECKS: f64 = 0.30;
+const SEARCH: f64 = 2.0;
+
+fn misses(rows: &[Row], ratios: Ratios) -> Vec<String> {
+    let mut misses = Vec::new();
+    for row in rows {
+        let bar = if row.what == "run" { RUNS } else { CHECKS };
+        for (n, figure) in SIZES.iter().zip(&row.figures).filter(|(_, figure)| figure.ratio > bar) {
+            misses.push(format!("{} {} at n = {n}: {:.2} > {bar:.2}", row.what, row.family, figure.ratio));
+        }
+    }
+    for (n, ratio) in SIZES.iter().zip(ratios).filter(|(_, ratio)| *ratio < SEARCH) {
+        misses.push(format!("search at n = {n}: {ratio:.2} < {SEARCH:.2}"));
+    }
+    misses
+}
+
 fn measure(folder: Option<String>) {
     println!(
         "{CASES} inputs of each kind in batches of {BATCH}, {ROUNDS} rounds in turn, the medians of the rounds. Ours writes over what the run before"
@@ -276,25 +324,16 @@ fn measure(folder: Option<String>) {
     for (changed, name) in [(false, "reasons"), (true, "changed")] {
         rows.push(Row { what: "check", family: name, figures: SIZES.map(|n| check_figures(changed, n)) });
     }
-    let text = table(&rows) + "\n" + &search_table();
+    let (searches, ratios) = search_table();
+    let text = table(&rows) + "\n" + &searches;
     print!("{text}");
-    let mut misses = Vec::new();
-    for row in &rows {
-        let bar = if row.what == "run" { 0.6 } else { 1.0 };
-        for (n, figure) in SIZES.iter().zip(&row.figures) {
-            if figure.ratio > bar {
-                misses.push(format!("{} {} at n = {n}: {:.2} > {bar}", row.what, row.family, figure.ratio));
-            }
-        }
-        let (ours, published) = (growth(row.figures.map(|figure| figure.ours)), growth(row.figures.map(|figure| figure.published)));
-        if ours > published {
-            misses.push(format!("{} {}: ours grows as n^{ours:.2}, the published Rust as n^{published:.2}", row.what, row.family));
-        }
-    }
+    let misses = misses(&rows, ratios);
     if misses.is_empty() {
-        println!("\nWithin the bar: runs at most 0.6, checks at most 1.0, growth no worse.");
+        println!(
+            "\nWithin the bar: runs at most {RUNS:.2}, checks at most {CHECKS:.2} of the time, the search at least {SEARCH:.1} times the nodes."
+        );
     } else {
-        println!("\nAbove the bar:\n{}", misses.join("\n"));
+        println!("\nNot within the bar:\n{}", misses.join("\n"));
     }
     if let Some(folder) = folder {
         std::fs::write(format!("{folder}/table.md"), &text).expect("the folder can be written");
@@ -306,17 +345,27 @@ fn measure(folder: Option<String>) {
 /// One side of one family, over and over, without a clock.
 fn spin(whose: &str, what: &str, n: usize, rounds: usize) {
     let ours = whose == "ours";
+    if what == "search" {
+        for _ in 0..rounds {
+            if ours {
+                searched(n, Ours::new)
+            } else {
+                searched(n, Theirs::new)
+            };
+        }
+        return;
+    }
     if what == "reasons" || what == "changed" {
         let items: Vec<Checking> = checks(n, CASES, what == "changed", SEED).into_iter().map(Checking::new).collect();
         (0..rounds).for_each(|_| if ours { check_ours(&items) } else { check_published(&items) });
         return;
     }
     let family = Family::ALL.into_iter().find(|family| family.name() == what).expect("a family's name");
-    let mut runners: Vec<Runner> = cases(family, n, CASES, SEED).into_iter().map(Runner::new).collect();
+    let mut runners = runners(family, n);
     let mut words = Words::new(n);
     for _ in 0..rounds {
         runners.iter_mut().for_each(Runner::ready);
-        if ours { run_ours(&mut runners, &mut words) } else { run_published(&mut runners) }
+        if ours { run_ours(family, &mut runners, &mut words) } else { run_published(&mut runners) }
     }
 }
 

@@ -1,72 +1,86 @@
-//! One search over either library: depth first on which task goes next, with runs in both directions of time until nothing changes.
+//! One search over either library: depth first on which task goes next, with both passes until nothing changes. Each library is called as its
+//! user would call it: ours on the search's own ranges, with its mirrored pass; the published Rust on its domains, for latest starts in mirrored time.
 use crate::inputs::{Rng, schedule};
 use crate::published::{Domains, Published, domains};
-use reedgrit::{Outcome, Propagator, Range, Words};
+use reedgrit::{Mirrored, Outcome, Propagator, Range, Words};
 
-/// What the search asks of a library.
+/// What the search asks of a library: a pass that narrows ranges, and whether one became narrower; nothing where there is no schedule.
 pub trait Machine {
-    /// Raises earliest starts by one run, and says whether one rose; nothing where there is no schedule. `back` is mirrored time.
-    fn run(&mut self, ranges: &mut [Range], back: bool) -> Option<bool>;
+    fn raise(&mut self, ranges: &mut [Range]) -> Option<bool>;
+    fn lower(&mut self, ranges: &mut [Range]) -> Option<bool>;
 }
 
-/// Ours: one record for both directions. The ranges are copied in and out, as the published Rust's are.
+/// Ours: one record for both directions. A pass that finds no schedule leaves ranges that nobody reads again.
 pub struct Ours {
     propagator: Propagator,
     words: Words,
-    lent: Vec<Range>,
 }
 
 impl Ours {
     pub fn new(durations: &[i32]) -> Ours {
         let propagator = Propagator::new(durations).expect("durations within the limits");
-        Ours { words: propagator.words(), propagator, lent: Vec::new() }
+        Ours { words: propagator.words(), propagator }
     }
 }
 
 impl Machine for Ours {
-    fn run(&mut self, ranges: &mut [Range], _: bool) -> Option<bool> {
-        self.lent.clear();
-        self.lent.extend_from_slice(ranges);
-        let Outcome::Done { posts, .. } = self.propagator.run(&mut self.lent, &mut self.words).expect("ranges within the limits") else {
-            return None;
-        };
-        ranges.copy_from_slice(&self.lent);
-        Some(posts.len() > 0)
+    fn raise(&mut self, ranges: &mut [Range]) -> Option<bool> {
+        match self.propagator.run(ranges, &mut self.words).expect("ranges within the limits") {
+            Outcome::Done { posts, .. } => Some(posts.len() > 0),
+            _ => None,
+        }
+    }
+
+    fn lower(&mut self, ranges: &mut [Range]) -> Option<bool> {
+        match self.propagator.run_mirrored(ranges, &mut self.words).expect("ranges within the limits") {
+            Mirrored::Done { posts } => Some(posts.len() > 0),
+            _ => None,
+        }
     }
 }
 
 /// The published Rust: a propagator for each direction, kept through the search, as a solver keeps its propagators.
 pub struct Theirs {
-    propagators: [Published; 2],
+    durations: Vec<i32>,
+    there: Published,
+    back: Published,
     domains: Domains,
 }
 
 impl Theirs {
     pub fn new(durations: &[i32]) -> Theirs {
         Theirs {
-            propagators: [Published::new(durations), Published::new(durations)],
+            durations: durations.to_vec(),
+            there: Published::new(durations),
+            back: Published::new(durations),
             domains: domains(&vec![Range::new(0, 0); durations.len()]),
         }
     }
 }
 
 impl Machine for Theirs {
-    fn run(&mut self, ranges: &mut [Range], back: bool) -> Option<bool> {
+    fn raise(&mut self, ranges: &mut [Range]) -> Option<bool> {
         self.domains.posts.clear();
         for (domain, range) in self.domains.ranges.iter_mut().zip(&*ranges) {
             (domain.lower, domain.upper) = (range.earliest, range.latest);
         }
-        self.propagators[usize::from(back)].run(&mut self.domains).ok()?;
+        self.there.run(&mut self.domains).ok()?;
         for (domain, range) in self.domains.ranges.iter().zip(ranges) {
             range.earliest = domain.lower;
         }
         Some(!self.domains.posts.is_empty())
     }
-}
 
-fn mirror(ranges: &mut [Range], durations: &[i32]) {
-    for (range, duration) in ranges.iter_mut().zip(durations) {
-        *range = Range::new(-range.latest - duration, -range.earliest - duration);
+    fn lower(&mut self, ranges: &mut [Range]) -> Option<bool> {
+        self.domains.posts.clear();
+        for ((domain, range), duration) in self.domains.ranges.iter_mut().zip(&*ranges).zip(&self.durations) {
+            (domain.lower, domain.upper) = (-range.latest - duration, -range.earliest - duration);
+        }
+        self.back.run(&mut self.domains).ok()?;
+        for ((domain, range), duration) in self.domains.ranges.iter().zip(ranges).zip(&self.durations) {
+            range.latest = -domain.lower - duration;
+        }
+        Some(!self.domains.posts.is_empty())
     }
 }
 
@@ -81,11 +95,9 @@ pub struct Search<'a, M> {
 impl<M: Machine> Search<'_, M> {
     fn narrow(&mut self, ranges: &mut [Range]) -> Option<()> {
         loop {
-            let raised = self.machine.run(ranges, false)?;
-            mirror(ranges, self.durations);
-            let lowered = self.machine.run(ranges, true);
-            mirror(ranges, self.durations);
-            if !raised && !lowered? {
+            let raised = self.machine.raise(ranges)?;
+            let lowered = self.machine.lower(ranges)?;
+            if !raised && !lowered {
                 return Some(());
             }
         }

@@ -1,9 +1,10 @@
 //! Random series through the binding against the published Rust: runs, checks, states.
-use bench::inputs::{Case, Family, Rng, any_atom, barred, cases, checks, durations, ranges};
+use bench::inputs::{Case, Family, Rng, any_atom, barred, cases, checks, durations, mirrored, ranges};
 use bench::published::{Checked, Checker, Conflicted, Published, atom, domains};
+use bench::search::{Machine, Ours, Search, Theirs, instance};
 use pumpkin_checking::{IntExt, VariableState};
 use reedgrit::state::{Bound, NoState, lower_bound, upper_bound};
-use reedgrit::{Outcome, Propagator, Verdict, Words, check};
+use reedgrit::{Mirrored, Outcome, Propagator, Verdict, Words, check};
 use std::cmp::Ordering;
 
 /// How often each thing occurred in runs.
@@ -43,6 +44,27 @@ fn same_run(ours: &mut Propagator, words: &mut Words, case: &Case, seen: &mut Se
     let starts: Vec<(i32, i32)> = ranges.iter().map(|r| (r.earliest, r.latest)).collect();
     assert_eq!(starts, store.ranges.iter().map(|r| (r.lower, r.upper)).collect::<Vec<_>>());
     assert_eq!(*ours, before);
+}
+
+/// One mirrored pass of ours, and a run of a newly made published propagator in mirrored time: outcome, posts and latest starts are the same.
+fn same_mirrored(ours: &Propagator, words: &mut Words, case: &Case, seen: &mut Seen) {
+    let mut ranges = case.ranges.clone();
+    let mut store = domains(&mirrored(&case.durations, &ranges));
+    let outcome = ours.run_mirrored(&mut ranges, words).unwrap();
+    match (&outcome, Published::new(&case.durations).run(&mut store)) {
+        (Mirrored::Done { .. }, Ok(())) => seen.done += 1,
+        (Mirrored::Overload { .. }, Err(Conflicted::Propagator(_))) => seen.overload += 1,
+        (Mirrored::Emptied { .. }, Err(Conflicted::EmptyDomain)) => seen.emptied += 1,
+        (ours, theirs) => panic!("{:?} {:?} {ours} {theirs:?}", case.durations, case.ranges),
+    }
+    assert_eq!(outcome.posts().len(), store.posts.len());
+    for (post, (predicate, why)) in outcome.posts().zip(&store.posts) {
+        seen.posts += 1;
+        assert_eq!((post.task, -post.bound - case.durations[post.task]), (predicate.variable as usize, predicate.value));
+        assert_eq!(post.reason.len(), why.len());
+    }
+    let latest: Vec<i32> = ranges.iter().map(|r| r.latest).collect();
+    assert_eq!(latest, store.ranges.iter().zip(&case.durations).map(|(r, d)| -r.lower - d).collect::<Vec<_>>());
 }
 
 /// Series of runs on one record of ours, each against a newly made published propagator.
@@ -98,13 +120,34 @@ fn timed_runs() {
             for case in cases(family, n, 100, 5) {
                 let mut ours = Propagator::new(&case.durations).unwrap();
                 let mut words = ours.words();
-                same_run(&mut ours, &mut words, &case, &mut seen);
+                if family == Family::Mirrored {
+                    same_mirrored(&ours, &mut words, &case, &mut seen);
+                } else {
+                    same_run(&mut ours, &mut words, &case, &mut seen);
+                }
                 assert!(family != Family::Sorted || follow(&case, Ordering::Less));
                 assert!(family != Family::Reversed || follow(&case, Ordering::Greater));
             }
         }
-        assert!(matches!(family, Family::Mixed | Family::Barred) || seen.done == 400, "{seen:?}");
+        assert!(matches!(family, Family::Mixed | Family::Barred | Family::Mirrored) || seen.done == 400, "{seen:?}");
         assert_eq!(family == Family::Barred, seen.moved > 0, "{seen:?}");
+    }
+}
+
+/// The searches that the benchmark times: both libraries lead through the same nodes.
+#[test]
+fn timed_searches() {
+    fn visited<M: Machine>(machine: M, durations: &[i32], ranges: &[reedgrit::Range]) -> (bool, usize) {
+        let all: Vec<usize> = (0..durations.len()).collect();
+        let mut search = Search { machine, durations, nodes: 0, most: 300 };
+        (search.found(ranges.to_vec(), &all), search.nodes)
+    }
+    let mut rng = Rng::new(7);
+    for n in [3, 8, 16, 48] {
+        for _ in 0..20 {
+            let (durations, ranges) = instance(&mut rng, n);
+            assert_eq!(visited(Ours::new(&durations), &durations, &ranges), visited(Theirs::new(&durations), &durations, &ranges));
+        }
     }
 }
 

@@ -1,5 +1,5 @@
--- The answers of the calls beside the run as structs: the kind, the number, and the values in their places; a value that its case does not have is 0.
--- Different answers of one call are different structs (proofs/AddedAnswers.antt).
+-- The answers of the calls beside the run as structs: the kind, the number, and the values in their places. A value that a case lacks is 0. Different answers
+-- of one call are different structs (proofs/AddedAnswers.antt).
 use Rattle.integers.specs.Answers.{Answer}
 use Rattle.post_words.specs.Posts.{wordsOf}
 use Rattle.charges.specs.declared.answer.Charges.{Charges}

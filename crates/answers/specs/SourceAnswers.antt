@@ -1,5 +1,5 @@
--- An answer by the papers' numbers as a struct: the kind, the number, and the values in their places; a value that its case does not have is 0.
--- Different answers are different structs (proofs/SourceAnswers.antt).
+-- An answer by the papers' numbers as a struct: the kind, the number, and the values in their places. A value that a case lacks is 0. Different answers are
+-- different structs (proofs/SourceAnswers.antt).
 use mathlib.Core.Path.{_≡_}
 use mathlib.Core.Bool.{cond}
 use Prim.Native.Nat.{ℕ, _+_, _^_, _<_}
@@ -43,7 +43,7 @@ runAnswer a changed = record {
 abbrev pub checkAnswer : Answer → CheckAnswer
 checkAnswer a = record { kind = a .kind; number = a .number; variable = natAt 0 a }
 
--- a query of a state: a contradiction, which is kind 2, has its variable; a bound has an infinity's sign, or 0, and the whole number
+-- a query of a state. A contradiction, kind 2, has its variable. A bound has the sign of its infinity, or 0 and the whole number
 abbrev pub stateAnswer : Answer → StateAnswer
 stateAnswer a = record {
   kind = a .kind;

@@ -36,8 +36,8 @@ pub struct MirroredAnswer {
     pub count: usize,
 }
 
-// An answer with one count or task: of the overload test kind 0 is yes with the tasks read and 1 no; of a page kind 0 has its bytes; of the pass by
-// precedences kind 0 is Done and 1 Emptied with its task; of a reason kind 0 has its atoms.
+// An answer with one count or task. Overload test: kind 0 is yes, with the tasks read, and 1 no. Page: kind 0 has its bytes. Pass by precedences: kind 0 is
+// Done, and 1 Emptied, with its task. Reason: kind 0 has its atoms.
 #[repr(C)]
 pub struct CountAnswer {
     pub kind: u32,
@@ -52,7 +52,7 @@ pub struct ChangeAnswer {
     pub number: u32,
 }
 
-// An answer with one start: of the earliest free start kind 0 has it; of a bound by precedences kind 0 has it and 1 is none.
+// An answer with one start. Earliest free start: kind 0 has it. Bound by precedences: kind 0 has it, and 1 is none.
 #[repr(C)]
 pub struct StartAnswer {
     pub kind: u32,

@@ -1,3 +1,3 @@
-// The answers of all calls as structs of numbers for C, and the functions that fill them from the answers' enums.
+// The C structs that carry each call's answer, and the functions that fill them from the enums. Different answers give different structs.
 pub mod added_calls;
 pub mod source_calls;

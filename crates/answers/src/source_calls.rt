@@ -26,8 +26,8 @@ pub struct NewPropagator {
     pub number: u32,
 }
 
-// How a run ended, and its leaf changes. Kind 0 is Done, 1 Overload with the stretch of atom words that is its reason, as a post has one, 2 Emptied,
-// 3 Refused with its number. What a kind does not have is 0.
+// How a run ended, and its leaf changes. Kind 0 is Done, 1 Overload, 2 Emptied, 3 Refused with its number. An overload has the stretch of atom words that is
+// its reason, as a post has. What a kind lacks is 0.
 #[repr(C)]
 pub struct RunAnswer {
     pub kind: u32,
@@ -56,8 +56,8 @@ pub struct CheckAnswer {
     pub variable: usize,
 }
 
-// What a state says: kind 0 is yes (or a bound), 1 no, 2 a contradiction among the atoms that lead to the state, with its variable, 3 Refused
-// with its number. A bound has a sign, -1 and 1 for the infinities and 0 for the value.
+// What a state says. Kind 0 is yes or a bound, 1 no, 2 a contradiction among the atoms, with its variable, 3 Refused with its number. A bound has a sign: -1
+// and 1 for the infinities, 0 for a value.
 #[repr(C)]
 pub struct StateAnswer {
     pub kind: u32,

@@ -1,4 +1,4 @@
--- From any start to one that is no worse, where covered time rises no more: to the left while it does not fall, then to the right while it rises.
+-- From any start there is a way to one that is no worse and where covered time stops rising: to the left while it does not fall, then to the right while it rises.
 use mathlib.Core.Path.{_≡_, refl}
 use mathlib.Core.Logic.{_⊎_, inl, inr, ⊎-elim}
 use Prim.Native.Nat.{ℕ, zero, suc, _+_, _-_, _≤_, _<_}

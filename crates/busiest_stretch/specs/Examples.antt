@@ -25,7 +25,7 @@ touching : common (pos 1) (pos 5) (negsuc 3) (pos 1) ≡ 0
 unfolding minℤ maxℤ
 touching = refl
 
--- The stretches of length 5 from −2, −1, 0 and 1 on: the least start that reaches the most is 0, where no task starts or ends; the stretch ends with task 1.
+-- Stretches of length 5 from −2, −1, 0 and 1 on. The least start that reaches the most is 0. No task starts or ends there; the stretch ends with task 1.
 from-first : covered (tasksOn two starts starts) 5 (negsuc 1) ≡ 3
 unfolding two starts minℤ maxℤ total filled
 from-first = refl

@@ -1,4 +1,4 @@
--- The same in moments, as the code computes it, and what its functions take for given.
+-- The same in moments, as the code computes it, and what its functions require.
 use mathlib.Core.Path.{_≡_}
 use mathlib.Core.List.{List}
 use mathlib.Core.Logic.{_⊎_}

@@ -1,4 +1,4 @@
-// The busiest stretch of a fixed schedule: where tasks cover most of a stretch of a given length.
+// The stretch of a given length that the tasks of a fixed schedule cover most.
 pub mod answer;
 mod covering;
 pub mod stretch;

@@ -1,5 +1,5 @@
-// The stretch of a given length that tasks cover most. Covered time stops rising only where a task starts at the stretch's start or ends at its end, so the
-// least start that reaches the most is a task's start, or one from which the stretch ends with a task.
+// The stretch of a given length that tasks cover most. Covered time stops rising only where a task starts with the stretch or ends with it. So the least
+// start that reaches the most is a task's start, or the stretch from it ends with a task.
 use crate::answer::Busiest;
 use crate::covering::covered;
 use fixed_schedules::parameters::length_fits;
@@ -40,7 +40,7 @@ fn stretch_refusal(
     fixed
 }
 
-// The better of the best stretch so far and the one from x on, where that start counts: more is covered, or as much from an earlier start.
+// The better of the best stretch so far and the one from x on, where x counts as a start. Better covers more, or as much from an earlier start.
 fn better<'a>(
     starts: &'a [u32; TASKS],
     durations: &'a [u32; TASKS],
@@ -53,7 +53,8 @@ fn better<'a>(
 ) -> Stretch
     requires { ⌜ Slidable n (now starts) (now durations) w × FirstAndLast n (now starts) first last
         × StretchHeld (inMoments n (now starts) (now durations)) w first last (best .covered) (best .start) ⌝ }
-    ensures { λ r. ⌜ Tried (inMoments n (now (starts .entry)) (now (durations .entry))) w first last x (best .covered) (best .start) (r .covered) (r .start) ⌝ }
+    ensures { λ r. ⌜ Tried (inMoments n (now (starts .entry)) (now (durations .entry))) w first last x
+        (best .covered) (best .start) (r .covered) (r .start) ⌝ }
 {
     if x < first {
         return best;

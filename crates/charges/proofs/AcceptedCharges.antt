@@ -11,7 +11,7 @@ use Rattle.integers.specs.Limits.{TASKS}
 use Rattle.integers.proofs.FilledLists.{filled-at, filled-past, filled-length, getD-fresh}
 use Rattle.scheduling.specs.Scheduling.{total}
 use Rattle.records.specs.declared.record.DisjunctivePropagator.{DisjunctivePropagator}
-use Rattle.fixed_schedules.proofs.AcceptedSchedules.{input-of, started, short}
+use Rattle.fixed_schedules.proofs.AcceptedSchedules.{input-of, sortable, short}
 use Rattle.charges.specs.declared.answer.TaskCharges.{TaskCharges}
 use Rattle.charges.specs.declared.answer.Charges.{Charges}
 use Rattle.charges.specs.declared.answer.Charging.the-variants.{Made, Refused}
@@ -22,7 +22,7 @@ use Rattle.charges.proofs.ChargesRefused.{accepted-charges, charges-man
 module _ (r : DisjunctivePropagator) (es ls due : List ℤ) where
   pub chargeable : AcceptedCharges r es ls due → Chargeable (r .durations) es due
   chargeable a = record {
-    started = started r es ls (input-of (a .schedule));
+    sortable = sortable r es ls (input-of (a .schedule));
     durations = short r es ls (input-of (a .schedule));
     dues = record { long = a .dues .long ∙ sym (a .schedule .counts .earliest); within = a .dues .within };
   }

@@ -58,7 +58,7 @@ MINUTES = DUE + START + DURATIONS
 abbrev pub chargeAt : List ℕ → List ℤ → List ℤ → ℕ → ℕ
 chargeAt ds es due k = costOf (minutesLate (endAt ds es k) (getD due k (pos 0)))
 
--- Each task's charge stands at its number, 0 in the other places; and the total is the sum of the tasks' charges.
+-- Each task's charge is at its number, the other places are 0, and the total is the sum of the tasks' charges.
 pub record ChargesRight (r : DisjunctivePropagator) (es due : List ℤ) (b : TaskCharges) : Type 0 where
   pub long : length (b .charges) ≡ TASKS
   pub charge : (k : ℕ) → k < r .count → getD (b .charges) k 0 ≡ chargeAt (r .durations) es due k

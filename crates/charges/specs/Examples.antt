@@ -64,7 +64,7 @@ on-time = refl
 early : minutesLate (negsuc 2) (pos 5) ≡ 0
 early = refl
 
--- task 0 lasts 4 from 3 on and task 1 lasts 15 from −12 on, due at −54 and at 3: 61 minutes late, and on time
+-- task 0 lasts 4 from 3 on and is due at −54: 61 minutes late. Task 1 lasts 15 from −12 on and is due at 3: on time
 two : DisjunctivePropagator
 two = newRecord (pos 4 ∷ pos 15 ∷ [])
 

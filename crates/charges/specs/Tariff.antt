@@ -14,7 +14,7 @@ tariff =
     ∷ record { upto = 59; cents = 40 }
     ∷ []
 
--- what an hour costs, the first being hour 1: the cents of the first row that goes up to it or further; nothing where no row does
+-- what an hour costs, counted from 1: the cents of the first row whose limit is not below it, or nothing
 unfoldable pub rate : List Row → ℕ → ℕ
 rate [] hour = 0
 rate (row ∷ rows) hour = elim (leb hour (row .upto)) [ true ↦ row .cents | false ↦ rate rows hour ]
@@ -27,7 +27,7 @@ costOfHours n = total (λ k. rate tariff (k + 1)) n
 abbrev pub hoursBegun : ℕ → ℕ
 hoursBegun minutes = (minutes + 59) / 60
 
--- what it costs to be so many minutes late
+-- the cost of a number of minutes late
 abbrev pub costOf : ℕ → ℕ
 costOf minutes = costOfHours (hoursBegun minutes)
 
@@ -40,7 +40,6 @@ past (negsuc n) = 0
 abbrev pub minutesLate : ℤ → ℤ → ℕ
 minutesLate end due = past (end -ℤ due)
 
--- The tariff in the words that it is printed with, 25 for each of the hours 1 to 24 and 40 for each after that, at most 2,000.
--- The table costs the same: `as-printed`.
+-- The tariff as it is printed: 25 for each of the hours 1 to 24, 40 for each hour after that, at most 2,000. The table costs the same (`as-printed`).
 abbrev pub printed : ℕ → ℕ
 printed hours = min 2000 (25 * min hours 24 + 40 * (hours - 24))

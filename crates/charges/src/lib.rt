@@ -1,4 +1,4 @@
-// Loan charges: what each task of a fixed schedule costs that ends after its due moment, by a printed tariff.
+// Loan charges: the cost of each late task of a fixed schedule, by a printed tariff.
 pub mod answer;
 pub mod charging;
 mod rates;

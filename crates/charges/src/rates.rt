@@ -23,7 +23,7 @@ const TARIFF: [Row; 2] = [
     },
 ];
 
-// What so many minutes cost: of each row, the hours that are begun and not charged yet, all at once.
+// The cost of a number of minutes. For each row, the hours that are begun and not charged by the rows before are charged at once.
 pub fn cost_of(minutes: u32) -> u32
     requires { ⌜ minutes ≤ MINUTES ⌝ }
     ensures { λ r. ⌜ r ≡ costOf minutes ⌝ }

@@ -1,4 +1,4 @@
-// The check of a reason, in the caller's time or with its formula in mirrored time.
+// The check of a run's reason and of a mirrored pass's reason, and the formula, which is exactly Vilím's.
 pub mod checker;
 mod formula;
 mod intervals;

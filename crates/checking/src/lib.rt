@@ -1,4 +1,4 @@
-// The variable state, over i32 as in the source.
+// Atoms as words, domains with holes, the variable state, and the bounds that it leaves to starts; over i32, as in the source.
 pub mod atomic_constraint;
 pub mod bound_words;
 pub mod domain;

@@ -1,4 +1,4 @@
-// The program of the costliest instance: a size is read, and the instance of that size is written as the program `plan` reads it.
+// The program that writes the costliest instance of a size, to the byte, as `plan` reads it.
 pub mod program;
 pub mod size;
 pub mod tasks;

@@ -25,7 +25,8 @@ pub const ROOM: usize = 4096;
 // The instance that the numbers ask for, or the refusal.
 fn put_answer(out: &mut [u8], numbers: Numbers) -> usize
     requires { ⌜ ROOM ≤ length (now out) ⌝ }
-    ensures text { λ r. ⌜ ((xs : Option (List ℤ)) → numbers ≡ gathered xs → Puts (now (out .entry)) (now (out .exit)) 0 (answerLines (askedIn xs)) r) ⌝ }
+    ensures text { λ r. ⌜ ((xs : Option (List ℤ)) → numbers ≡ gathered xs
+        → Puts (now (out .entry)) (now (out .exit)) 0 (answerLines (askedIn xs)) r) ⌝ }
     ensures within { λ r. ⌜ r ≤ length (now (out .entry)) ⌝ }
 {
     let size = size_asked(numbers);
@@ -35,7 +36,7 @@ fn put_answer(out: &mut [u8], numbers: Numbers) -> usize
     put_instance(out, n)
 }
 
-// What is written for a text that is at hand whole.
+// What is written for a whole text.
 pub fn print(out: &mut [u8], text: &[u8]) -> usize
     requires { ⌜ ROOM ≤ length (now out) ⌝ }
     ensures { λ r. ⌜ TextWritten (now (out .exit)) r (written (now (text .entry))) ⌝ }

@@ -1,4 +1,5 @@
-// Further inputs of the program, each ended by a '%'. For each the program's answer is written, and a '%' on a line after it.
+// The program `costliest` on further inputs.
+// Each input ends with a '%'. Its answer is written, and a '%' on a line after it.
 use costliest_cli::program::ROOM;
 use costliest_cli::program::print;
 use libc::STDIN_FILENO;

@@ -1,4 +1,4 @@
-// The open calls, all in one place; none has a `requires`. With each come the types of what it takes and answers.
+// The open calls, all in one place, with the types of what each takes and answers; none has a `requires`.
 // On a record: creation, a task added or removed.
 // On a record and ranges: the run, the mirrored pass, the pass by precedences, one task's bound and its reason, the overload test.
 // On a fixed schedule: the page, the charges, the earliest free start, the busiest stretch.

@@ -17,7 +17,7 @@ use Rattle.scheduling.proofs.Sets.{total-part}
 use Rattle.records.specs.declared.record.DisjunctivePropagator.{DisjunctivePropagator}
 use Rattle.records.specs.Refusals.{AcceptedInput}
 use Rattle.fixed_schedules.specs.FixedSchedules.{startAt, orderOf, tasksOn, AcceptedFixed}
-use Rattle.fixed_schedules.specs.Neighbours.{Started, Listed, inMoments}
+use Rattle.fixed_schedules.specs.Neighbours.{Sortable, Traversable, inMoments}
 use Rattle.fixed_schedules.proofs.ScheduleOrder.{start-above, start-moment, ordered, order-length, key-at, ordered-moments}
 
 -- The tasks M are the tasks J, with the moments of their starts.
@@ -32,8 +32,8 @@ pub input-of : {r : DisjunctivePropagator} {es ls : List ℤ} → AcceptedFixed 
 input-of a = record { lawful = a .lawful; counts = a .counts; starts = a .starts; ranges = a .ranges }
 
 module _ (r : DisjunctivePropagator) (es ls : List ℤ) (a : AcceptedInput r es ls) where
-  pub started : Started es
-  started = record { few = omega (arith, a .counts .earliest, a .lawful .few); starts = a .starts .earliest }
+  pub sortable : Sortable es
+  sortable = record { few = omega (arith, a .counts .earliest, a .lawful .few); starts = a .starts .earliest }
 
   pub lasting : (k : ℕ) → k < length es → 1 ≤ getD (r .durations) k 0
   lasting k q = a .lawful .lasts k (omega (arith, a .counts .earliest))
@@ -41,9 +41,9 @@ module _ (r : DisjunctivePropagator) (es ls : List ℤ) (a : AcceptedInput r es 
   pub short : (k : ℕ) → k < length es → getD (r .durations) k 0 ≤ DURATIONS
   short k q = omega (arith, total-part (λ k. getD (r .durations) k 0) (r .count) k (omega (arith, a .counts .earliest)), a .lawful .sum)
 
-  pub listed : (order : List ℕ) → take (length es) order ≡ orderOf es → Listed order es (r .durations)
-  listed order e = record {
-    started = started;
+  pub traversable : (order : List ℕ) → take (length es) order ≡ orderOf es → Traversable order es (r .durations)
+  traversable order e = record {
+    sortable = sortable;
     durations = short;
     long = omega (arith, length-take (length es) order, ap length e, order-length es);
     tasks = λ t q. (let z = ordered es .task t q in rw (← e, getD-take (length es) order t 0 q) at z);
@@ -55,13 +55,13 @@ module _ (r : DisjunctivePropagator) (es ls : List ℤ) (a : AcceptedInput r es 
     at-moments = record {
       count = refl;
       above = λ k q. start-above (startAt es k) (a .starts .earliest k (omega (arith, a .counts .earliest)));
-      start = λ k q. key-at es starts (started .few) s k (omega (arith, a .counts .earliest));
+      start = λ k q. key-at es starts (sortable .few) s k (omega (arith, a .counts .earliest));
       lasts = λ k q. refl;
     }
 
     pub by-moments : (order : List ℕ) → take (length es) order ≡ orderOf es → Ordered (r .count) (λ t. getD order t 0) (index (orderOf es)) (λ j k. getD starts j 0 ≤ getD starts k 0)
     by-moments order e = subst (λ (n : ℕ). Ordered n (λ t. getD order t 0) (index (orderOf es)) (λ j k. getD starts j 0 ≤ getD starts k 0)) (a .counts .earliest)
-        (ordered-moments es order starts e (key-at es starts (started .few) s))
+        (ordered-moments es order starts e (key-at es starts (sortable .few) s))
 
     -- which are far from 0 and from the largest u32
     pub moment-low : (k : ℕ) → k < r .count → zeroAt ≤ START + getD starts k 0

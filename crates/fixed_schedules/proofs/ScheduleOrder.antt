@@ -25,7 +25,7 @@ use Rattle.sorts.specs.Orders.{SortedBy, byKey}
 use Rattle.sorts.proofs.Sorted.{sorted-as}
 use Rattle.records.specs.Refusals.{StartFits}
 use Rattle.fixed_schedules.specs.FixedSchedules.{startAt, byStart, orderOf}
-use Rattle.fixed_schedules.specs.Neighbours.{Started}
+use Rattle.fixed_schedules.specs.Neighbours.{Sortable}
 
 -- ---- the order of moments is that of starts
 pub moment-test : (a b : ℤ) → Above zeroAt a → Above zeroAt b → leb (moment zeroAt a) (moment zeroAt b) ≡ leZ a b
@@ -87,7 +87,7 @@ module _ (es : List ℤ) where
   key-at keys h e k q = ap (λ (l : List ℕ). getD l k 0) e ∙ filled-at (momentAt es) (length es) noTasks 0 k q h
 
   -- so the numbers sorted by them are the tasks by start
-  pub order-is : (keys order : List ℕ) → Started es → keys ≡ filled (momentAt es) (length es) noTasks → SortedBy (byKey keys) (length es) order → take (length es) order ≡ orderOf es
+  pub order-is : (keys order : List ℕ) → Sortable es → keys ≡ filled (momentAt es) (length es) noTasks → SortedBy (byKey keys) (length es) order → take (length es) order ≡ orderOf es
   order-is keys order h e s = sorted-as s (byStart es) (λ j k p q.
       ap₂ leb (key-at keys (h .few) e j p) (key-at keys (h .few) e k q)
       ∙ moment-test (startAt es j) (startAt es k) (start-above (startAt es j) (h .starts j p)) (start-above (startAt es k) (h .starts k q)))

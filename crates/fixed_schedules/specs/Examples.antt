@@ -10,7 +10,7 @@ use Rattle.records.specs.declared.record.DisjunctivePropagator.{DisjunctiveProp
 use Rattle.records.specs.Records.{unusedAt, lawfulRecord, newRecord}
 use Rattle.fixed_schedules.specs.FixedSchedules.{orderOf, fixedNumber}
 
--- task 0 starts at 3 and lasts 4, task 1 starts at −12 and lasts 15: it is the first, and ends where task 0 starts
+-- task 0 starts at 3 and lasts 4. Task 1 starts at −12 and lasts 15: it is the first, and ends where task 0 starts
 two : DisjunctivePropagator
 two = newRecord (pos 4 ∷ pos 15 ∷ [])
 

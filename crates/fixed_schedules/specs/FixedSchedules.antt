@@ -66,7 +66,7 @@ pub record AcceptedFixed (r : DisjunctivePropagator) (es ls : List ℤ) : Type 0
 
 -- The order ---------------------------------------------------------------------------------------------------------------------
 
--- j may stand before k: it starts no later
+-- j may come before k: it starts no later
 abbrev pub byStart : List ℤ → ℕ → ℕ → Bool
 byStart es j k = leZ (startAt es j) (startAt es k)
 

@@ -1,4 +1,4 @@
--- What the functions on a fixed schedule take for given and answer, and what the test of neighbours is.
+-- What the functions on a fixed schedule require and ensure, and the test of neighbours.
 use mathlib.Core.Path.{_≡_}
 use mathlib.Core.Bool.{Bool}
 use mathlib.Core.List.{List}
@@ -12,14 +12,14 @@ use Rattle.records.specs.Refusals.{StartFits}
 use Rattle.fixed_schedules.specs.declared.refusals.FixedOrder.{FixedOrder}
 use Rattle.fixed_schedules.specs.FixedSchedules.{startAt, endAt, orderOf}
 
--- Few tasks, with starts within the limits.
-pub record Started (es : List ℤ) : Type 0 where
+-- At most TASKS tasks, with starts within the limits.
+pub record Sortable (es : List ℤ) : Type 0 where
   pub few : length es ≤ TASKS
   pub starts : (k : ℕ) → k < length es → StartFits (startAt es k)
 
 -- Their durations are within the limits too, and an order has a task at each of its first places.
-pub record Listed (order : List ℕ) (es : List ℤ) (ds : List ℕ) : Type 0 where
-  pub started : Started es
+pub record Traversable (order : List ℕ) (es : List ℤ) (ds : List ℕ) : Type 0 where
+  pub sortable : Sortable es
   pub durations : (k : ℕ) → k < length es → getD ds k 0 ≤ DURATIONS
   pub long : length es ≤ length order
   pub tasks : (t : ℕ) → t < length es → getD order t 0 < length es

@@ -9,7 +9,7 @@ ghost use Prim.Native.Nat.{_-_};
 ghost use lib.ListN.{length, take};
 ghost use Rattle.integers.specs.Tests.{allBelow};
 ghost use Rattle.fixed_schedules.specs.FixedSchedules.{oneStartAt, orderOf};
-ghost use Rattle.fixed_schedules.specs.Neighbours.{Started, Listed, neighboursApart};
+ghost use Rattle.fixed_schedules.specs.Neighbours.{Sortable, Traversable, neighboursApart};
 
 // Whether every range holds one start: no earliest start is above its latest, nor the latest above the earliest.
 pub fn one_start(earliest: &[i32], latest: &[i32]) -> bool
@@ -24,7 +24,7 @@ pub fn one_start(earliest: &[i32], latest: &[i32]) -> bool
 
 // The tasks by start, least first.
 pub fn order_of(earliest: &[i32]) -> [usize; TASKS]
-    requires { ⌜ Started (now earliest) ⌝ }
+    requires { ⌜ Sortable (now earliest) ⌝ }
     ensures { λ r. ⌜ take (length (now (earliest .entry))) r ≡ orderOf (now (earliest .entry)) ⌝ }
 {
     let n = earliest.len();
@@ -37,7 +37,7 @@ pub fn order_of(earliest: &[i32]) -> [usize; TASKS]
 
 // Whether each task of an order ends by the start of the next.
 pub fn neighbours_apart(order: &[usize; TASKS], earliest: &[i32], durations: &[u32; TASKS]) -> bool
-    requires { ⌜ Listed (now order) (now earliest) (now durations) ⌝ }
+    requires { ⌜ Traversable (now order) (now earliest) (now durations) ⌝ }
     ensures { λ r. ⌜ r ≡ allBelow (neighboursApart (now (order .entry)) (now (earliest .entry)) (now (durations .entry)))
         (length (now (earliest .entry)) - 1) ⌝ }
 {

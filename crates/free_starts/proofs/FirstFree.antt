@@ -1,4 +1,4 @@
--- The pass over the tasks by start: a further task that does not end by the next task's start is free only from that task's end on.
+-- The pass over the tasks by start. A further task that does not end by the next task's start is free only from that task's end on.
 use mathlib.Core.Path.{_≡_}
 use mathlib.Core.Logic.{inl, inr, ⊎-elim}
 use Prim.Native.Nat.{ℕ, _+_, _≤_, _<_}

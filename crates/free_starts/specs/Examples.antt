@@ -47,7 +47,7 @@ after-both d zero q = inr (record { le = tt })
 after-both d (suc zero) q = inr (record { le = tt })
 after-both d (suc (suc k)) q = absurd (omega arith)
 
--- one task that starts as late as can be and lasts as long: from the moment of its start, or a later one, the first free start is at the latest
+-- one task with the latest start and the longest duration. From its start on, or a later moment, the first free start is the latest possible
 one : DisjunctivePropagator
 one = newRecord (pos DURATIONS ∷ [])
 
@@ -59,8 +59,9 @@ reaches = record {
   none-before = λ u h l f. ⊎-elim (λ w. omega (ints, h, l, w, sumℤ u (pos 1))) (λ w. omega (ints, h, l, w)) (f 0 (omega arith));
 }
   where
-    one-end : (k : ℕ) → k < 1 → (tasksOn one (pos START ∷ []) (pos START ∷ []) .earliest k +ℤ pos (tasksOn one (pos START ∷ []) (pos START ∷ []) .duration k))
-        ≤ℤ pos LATEST
+    one-end : (k : ℕ) → k < 1
+        → (tasksOn one (pos START ∷ []) (pos START ∷ []) .earliest k
+        +ℤ pos (tasksOn one (pos START ∷ []) (pos START ∷ []) .duration k)) ≤ℤ pos LATEST
     one-end zero q = record { le = tt }
     one-end (suc k) q = absurd (omega arith)
 

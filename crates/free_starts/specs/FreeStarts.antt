@@ -19,7 +19,7 @@ use Rattle.free_starts.specs.declared.FreeStart.{FreeStart}
 use Rattle.free_starts.specs.Numbers.{freeStartNumbers}
 
 module _ {C : Clock} (J : Tasks C) where
-  -- a further task of duration d that starts at s overlaps none: it ends by the other's start, or starts at the other's end or later
+  -- a further task of duration d that starts at s overlaps none: it ends by the other's start, or starts from the other's end on
   abbrev pub Free : ℕ → C .Moment → Type 0
   Free d s = (k : ℕ) → k < J .count → C .upto (C .later s d) (J .earliest k) ⊎ C .upto (C .later (J .earliest k) (J .duration k)) s
 

@@ -1,4 +1,4 @@
--- What the pass over the tasks takes for given: their starts as moments, and their order.
+-- What the pass over the tasks requires: their starts as moments, and their order.
 use mathlib.Core.List.{List}
 use Prim.Native.Nat.{ℕ, _+_, _≤_, _<_}
 use lib.ListN.{getD}
@@ -7,7 +7,7 @@ use Rattle.integers.specs.Moments.{zeroAt}
 use Rattle.integers.specs.Orders.{Ordered}
 use Rattle.free_starts.specs.FreeStarts.{LATEST}
 
--- The tasks stand in an order by start, and all numbers are far from the largest u32.
+-- The tasks are in an order by start, and all numbers are far from the largest u32.
 pub record Searchable (n : ℕ) (order starts ds : List ℕ) (t d : ℕ) : Type 0 where
   pub few : n ≤ TASKS
   pub place : ℕ → ℕ

@@ -1,4 +1,4 @@
-// The least start at or after a moment at which a further task overlaps no task of a fixed schedule.
+// The least start from a moment on at which a further task overlaps no task of a fixed schedule.
 use fixed_schedules::parameters::length_fits;
 use fixed_schedules::parameters::moment_fits;
 use fixed_schedules::refusals::FixedOrder;

@@ -1,4 +1,4 @@
--- Equal numbers have equal parts, and an answer that can be read back from its numbers is told apart by them.
+-- Equal numbers have equal parts. Answers that can be read back from their numbers are equal where the numbers are.
 use mathlib.Core.Path.{_≡_, sym, ap, _∙_}
 use Prim.Native.Nat.{ℕ}
 use lib.IntN.{ℤ, pos}

@@ -1,5 +1,5 @@
--- Facts on ℤ as facts on ℕ, for `omega`. Each integer z is the difference `up z` − `dn z` of two naturals, and an order, an equation or a sum of
--- integers is a linear statement about those naturals, with no condition on the range. `omega ints` reads and proves statements on ℤ by these laws.
+-- Facts on ℤ as facts on ℕ, for `omega`. Each integer z is the difference `up z` − `dn z` of two naturals. An order, an equation or a sum of integers is a linear statement about those
+-- naturals, whatever the range. `omega ints` reads and proves statements on ℤ by these laws.
 use mathlib.Core.Path.{_≡_, refl, sym, ap, _∙_, subst}
 use mathlib.Core.Logic.{_⊎_, inl, inr, ⊎-elim}
 use mathlib.Core.Bool.{Bool, true, false, not, cond}

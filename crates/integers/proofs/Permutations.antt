@@ -1,4 +1,4 @@
--- Permutations as lists: what stands in them, and the place of each number, which is the inverse.
+-- Permutations as lists: their numbers, and the place of each number, which is the inverse.
 use mathlib.Core.Path.{_≡_, refl, sym, ap, _∙_}
 use mathlib.Core.Bool.{Bool, true, false, _||_}
 use mathlib.Core.Logic.{_⊎_, inl, inr}
@@ -32,7 +32,7 @@ has-cases x k xs h = elim (or-true (eqb x k) (has xs k) (sym (has-cons x k xs) �
 pub has-not : (x k : ℕ) (xs : List ℕ) → has (x ∷ xs) k ≡ false → (x ≡ k → ⊥) × (has xs k ≡ false)
 has-not x k xs h = let r = or-false (eqb x k) (has xs k) (sym (has-cons x k xs) ∙ h) in (eqb-false x k (r .0), r .1)
 
--- what stands at a place is in the list
+-- the number at a place is in the list
 pub has-at : (l : List ℕ) (j : ℕ) → j < length l → has l (getD l j 0) ≡ true
 has-at [] j q = absurd (omega arith)
 has-at (x ∷ xs) zero q = has-here x xs
@@ -55,7 +55,7 @@ index-at (x ∷ xs) k h = by (λ y. index-at xs k y) (ℕ-discrete x k)
     by ih (yes z) = rw (index-here x xs k z) (omega arith, z)
     by ih (no z) = rw (index-later x xs k z) (elim (has-cases x k xs h) [ inl y ↦ absurd (z y) | inr y ↦ (let r = ih y in (omega (arith, r .0), r .1)) ])
 
--- and the place of what stands at a place, where no number stands twice
+-- and the place of the number at a place, where no number occurs twice
 pub index-back : (l : List ℕ) → Distinct l → (j : ℕ) → j < length l → index l (getD l j 0) ≡ j
 index-back [] d j q = absurd (omega arith)
 index-back (x ∷ xs) d zero q = index-here x xs x refl

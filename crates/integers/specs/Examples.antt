@@ -34,7 +34,8 @@ front-overwritten : overwritten {A = ℕ} (1 ∷ 2 ∷ 3 ∷ []) (7 ∷ 8 ∷ []
 front-overwritten = refl
 
 -- the limits are the papers' numbers
-paper-limits : (TASKS ≡ 48) × (START ≡ 400000000) × (DURATIONS ≡ 400000000) × (VARIABLES ≡ 64) × (VALUE ≡ 900000000) × (PREMISES ≡ 512) × (HOLES ≡ 16)
+paper-limits : (TASKS ≡ 48) × (START ≡ 400000000) × (DURATIONS ≡ 400000000) × (VARIABLES ≡ 64) × (VALUE ≡ 900000000)
+    × (PREMISES ≡ 512) × (HOLES ≡ 16)
 paper-limits = (refl, refl, refl, refl, refl, refl, refl)
 
 added-limits : (BARS ≡ 16) × (DUE ≡ 400000000) × (MOMENT ≡ 400000000) × (LENGTH ≡ 400000000)

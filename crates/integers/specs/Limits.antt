@@ -5,7 +5,7 @@ use Prim.Native.Nat.{ℕ, _+_}
 abbrev pub TASKS : ℕ
 TASKS = 48
 
--- nodes of a tree over so many tasks, those that are not leaves, and the words of each kind of tree: four or two to a node
+-- a tree over TASKS tasks: its nodes, those that are not leaves, and its words, four or two for each node
 abbrev pub NODES : ℕ
 NODES = 127
 
@@ -25,22 +25,22 @@ ATOMS = 4608
 abbrev pub VARIABLES : ℕ
 VARIABLES = 64
 
--- starts lie from −START to START, and durations sum to at most DURATIONS
+-- starts are from −START to START, and durations sum to at most DURATIONS
 abbrev pub START : ℕ
 START = 400000000
 
 abbrev pub DURATIONS : ℕ
 DURATIONS = 400000000
 
--- mirrored, such starts lie from −MIRRORED to MIRRORED
+-- in mirrored time, such starts are from −MIRRORED to MIRRORED
 abbrev pub MIRRORED : ℕ
 MIRRORED = START + DURATIONS
 
--- due moments lie from −DUE to DUE
+-- due moments are from −DUE to DUE
 abbrev pub DUE : ℕ
 DUE = 400000000
 
--- an atom's value lies from −VALUE to VALUE
+-- an atom's value is from −VALUE to VALUE
 abbrev pub VALUE : ℕ
 VALUE = 900000000
 
@@ -55,7 +55,7 @@ HOLES = 16
 abbrev pub BARS : ℕ
 BARS = 16
 
--- a moment that is asked about lies from −MOMENT to MOMENT, and a length of time from 1 to LENGTH
+-- a moment in a question is from −MOMENT to MOMENT, and a length of time from 1 to LENGTH
 abbrev pub MOMENT : ℕ
 MOMENT = 400000000
 

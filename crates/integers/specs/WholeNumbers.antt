@@ -5,7 +5,7 @@ use Prim.Native.Nat.{ℕ}
 use lib.IntN.{ℤ, pos, negℤ}
 use lib.Signed.{leZ, _≤ℤ_}
 
--- v lies from −n to n
+-- v is from −n to n
 pub record Within (n : ℕ) (v : ℤ) : Type 0 where
   pub low : negℤ (pos n) ≤ℤ v
   pub high : v ≤ℤ pos n
@@ -13,7 +13,7 @@ pub record Within (n : ℕ) (v : ℤ) : Type 0 where
 abbrev pub eqZ : ℤ → ℤ → Bool
 eqZ a b = leZ a b && leZ b a
 
--- x stands in the list
+-- x is in the list
 unfoldable pub has : List ℤ → ℤ → Bool
 has [] x = false
 has (h ∷ hs) x = eqZ h x || has hs x

@@ -21,7 +21,7 @@ pub fn word_of(n: usize) -> i32
     n as i32
 }
 
-// A number of 32 bits in 64, where sums of such numbers have room.
+// A number of 32 bits as one of 64 bits, in which sums of such numbers fit.
 pub fn wide(x: u32) -> u64
     ensures { λ r. ⌜ (r ≡ x) × (r < 4294967296) ⌝ }
 {

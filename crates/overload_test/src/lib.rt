@@ -1,4 +1,4 @@
-// Whether some set of the tasks overloads: the tasks go into the theta tree by latest completion, least first, until those read overload.
+// Whether some set of tasks overloads: the tasks go into the theta tree by latest completion, least first, until those read overload.
 use integers::limits::TASKS;
 use integers::limits::THETAWORDS;
 use integers::moments::completions;

@@ -16,9 +16,9 @@ use Rattle.integers.proofs.Permutations.{has-here, has-later}
 use Rattle.integers.specs.Texts.{bytesOf}
 use Rattle.records.specs.declared.record.DisjunctivePropagator.{DisjunctivePropagator}
 use Rattle.fixed_schedules.specs.FixedSchedules.{startAt, endAt, orderOf}
-use Rattle.fixed_schedules.specs.Neighbours.{Started}
+use Rattle.fixed_schedules.specs.Neighbours.{Sortable}
 use Rattle.fixed_schedules.proofs.ScheduleOrder.{ordered, order-length, order-permutes}
-use Rattle.fixed_schedules.proofs.AcceptedSchedules.{input-of, started, short}
+use Rattle.fixed_schedules.proofs.AcceptedSchedules.{input-of, sortable, short}
 use Rattle.text.specs.DecimalText.{Puts}
 use Rattle.text.proofs.PutBytes.{puts-append}
 use Rattle.pages.specs.Lines.{LINE, heading}
@@ -80,7 +80,7 @@ module _ (f : ℕ → List ℕ) where
       ∙ flat-line ks (λ j h. each j (has-later k j ks h)) t (omega arith)
 
 -- ---- the page of an accepted input
-module _ (ds : List ℕ) (es : List ℤ) (s : Started es) (short : (k : ℕ) → k < length es → getD ds k 0 ≤ DURATIONS) where
+module _ (ds : List ℕ) (es : List ℤ) (s : Sortable es) (short : (k : ℕ) → k < length es → getD ds k 0 ≤ DURATIONS) where
   pub each-line : (k : ℕ) → k < length es → length (lineAt ds es k) ≡ LINE
   each-line k q = line-length k (startAt es k) (getD ds k 0) (omega (arith, s .few)) (s .starts k q) (short k q)
 
@@ -126,7 +126,7 @@ module _ (r : DisjunctivePropagator) (es ls : List ℤ) (out : List ℕ) where
       a = accepted-page r es ls (length out) .0 z
 
       one : OneLineEach (r .durations) es (pageOf (r .durations) es)
-      one = one-line-each (r .durations) es (started r es ls (input-of (a .schedule))) (short r es ls (input-of (a .schedule)))
+      one = one-line-each (r .durations) es (sortable r es ls (input-of (a .schedule))) (short r es ls (input-of (a .schedule)))
 
       page : Puts out out′ 0 (pageOf (r .durations) es) n
       page = subst (λ (l : List ℕ). Puts out out′ 0 (heading ++ flatMap (lineAt (r .durations) es) l) n) e q

@@ -13,7 +13,7 @@ use Rattle.text.specs.DecimalText.{figures, natural, decimal}
 use Rattle.pages.specs.Lines.{padLeft, columns, heading}
 use Rattle.pages.specs.Pages.{pageOf, pageNumber}
 
--- the three names stand in the heading's columns
+-- the three names are in the heading's columns
 heading-columns : columns (bytesOf "NR") (bytesOf "START") (bytesOf "END") ≡ heading
 unfolding columns padLeft bytesOf
 heading-columns = refl

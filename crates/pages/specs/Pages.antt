@@ -41,8 +41,8 @@ lineAt ds es k = lineOf k (startAt es k) (endAt ds es k)
 abbrev pub pageOf : List ℕ → List ℤ → List ℕ
 pageOf ds es = heading ++ flatMap (lineAt ds es) (orderOf es)
 
--- A page has the heading and one line for each task, by start, least first: `orderOf` is an order of the tasks 0 to n − 1, line t is that of the task at t,
--- and no two tasks have one line.
+-- A page has the heading and one line for each task, by start, least first. `orderOf` orders the tasks 0 to n − 1. Line t is that of the task at place t,
+-- and no two tasks share a line.
 pub record OneLineEach (ds : List ℕ) (es : List ℤ) (page : List ℕ) : Type 0 where
   pub long : length page ≡ LINE * (length es + 1)
   pub first : take LINE page ≡ heading
@@ -57,7 +57,7 @@ pub record PageKept (number : ℕ) (bytes : List ℕ) (p : Page) (bytes′ : Lis
   pub answer : pageNumbers p ≡ refusedBy number
   pub keeps : bytes′ ≡ bytes
 
--- A page that is written stands at the front of the buffer, and the bytes after it are unchanged.
+-- A page is written at the front of the buffer, and the bytes after it are unchanged.
 pub record PageLeft (r : DisjunctivePropagator) (es : List ℤ) (bytes : List ℕ) (p : Page) (bytes′ : List ℕ) : Type 0 where
   pub answer : pageNumbers p ≡ answered 0 (pos (LINE * (r .count + 1)) ∷ [])
   pub text : bytes′ ≡ overwritten bytes (pageOf (r .durations) es)

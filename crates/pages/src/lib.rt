@@ -1,4 +1,4 @@
-// The page of a fixed schedule: its text, one line for each task.
+// The page: a fixed schedule as text, one line for each task.
 pub mod answer;
 mod lines;
 pub mod page;

@@ -11,7 +11,7 @@ ghost use lib.ListN.{length, take};
 ghost use mathlib.Core.List.{_++_, flatMap};
 ghost use Rattle.integers.specs.Limits.{TASKS, DURATIONS};
 ghost use Rattle.records.specs.Refusals.{StartFits};
-ghost use Rattle.fixed_schedules.specs.Neighbours.{Listed};
+ghost use Rattle.fixed_schedules.specs.Neighbours.{Traversable};
 ghost use Rattle.text.specs.DecimalText.{decimal, Puts};
 ghost use Rattle.pages.specs.Lines.{LINE, padLeft, heading, lineOf};
 ghost use Rattle.pages.specs.Pages.{lineAt};
@@ -55,7 +55,7 @@ pub fn put_lines(
     earliest: &[i32],
     durations: &[u32; TASKS],
 ) -> usize
-    requires { ⌜ Listed (now order) (now earliest) (now durations) × (LINE * (length (now earliest) + 1) ≤ length (now out)) ⌝ }
+    requires { ⌜ Traversable (now order) (now earliest) (now durations) × (LINE * (length (now earliest) + 1) ≤ length (now out)) ⌝ }
     ensures { λ r. ⌜ Puts (now (out .entry)) (now (out .exit)) 0
         (heading ++ flatMap (lineAt (now (durations .entry)) (now (earliest .entry))) (take (length (now (earliest .entry))) (now (order .entry)))) r ⌝ }
 {

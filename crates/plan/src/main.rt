@@ -1,4 +1,4 @@
-// The program of instance A; further inputs are further crates like this one.
+// The program `plan`; the gate runs it on instance A.
 fn main() {
     plan_cli::program::run();
 }

@@ -1,4 +1,4 @@
-// The program of one run: its input as numbers, the run, and what is printed of it.
+// The program `plan`: its input as numbers, the run, and what is printed, to the byte.
 mod answer;
 pub mod input;
 pub mod inputs;

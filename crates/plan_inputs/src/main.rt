@@ -1,4 +1,5 @@
-// Further inputs of the program, each ended by a '%'. For each the program's answer is written, and a '%' on a line after it.
+// The program `plan` on further inputs.
+// Each input ends with a '%'. Its answer is written, and a '%' on a line after it.
 // The answers in `stdout` are the published Rust's, after the program's own reading of its input.
 use libc::STDIN_FILENO;
 use plan_cli::inputs::end_of;

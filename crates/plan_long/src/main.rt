@@ -1,4 +1,4 @@
-// The program on 100 KB of white space around instance A, which it reads in many pieces.
+// The program `plan` on 100 KB of white space around instance A, which it reads in many pieces.
 fn main() {
     plan_cli::program::run();
 }

@@ -1,4 +1,4 @@
--- Atoms that stand in a lent slice: one run of atoms after another, and the slice keeps its length.
+-- Atoms that are stored in a lent slice: one list of atoms after another, and the slice keeps its length.
 use mathlib.Core.Path.{_≡_, ap, _∙_}
 use mathlib.Core.List.{List, _++_}
 use Prim.Native.Nat.{ℕ, _*_}

@@ -60,7 +60,7 @@ pub record PostFits (size j i from atoms : ℕ) : Type 0 where
   pub first : from < 2 ^ 31
   pub count : atoms < 2 ^ 31
 
--- 11: an index that is not below the post count, a post that is not inside its slice, a stretch that is not inside its own
+-- 11: an index that is not below the post count, or a post or a stretch that is not inside its slice
 abbrev pub postTests : List ℤ → List ℤ → ℕ → ℕ → List Test
 postTests posts atoms count index =
     test refused.POST (ltb index count)

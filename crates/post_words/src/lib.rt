@@ -1,5 +1,4 @@
-// Posts and atoms as words: where each word stands, what writes them, what reads a word of a post, and the post reader, which gives the number 0 or 11 and the
-// stretch of atoms that belongs to a post.
+// Posts and atoms as words: the place of each word, what writes them, and the post reader. It answers 0 or 11, and the stretch of atoms of a post.
 use integers::moments::start_of;
 use integers::numbers::nat_of;
 use integers::numbers::word_of;
@@ -21,7 +20,7 @@ pub const AT_LEAST: i32 = 0;
 
 pub const AT_MOST: i32 = 1;
 
-// Where post j begins with its task, and where its bound stands.
+// The place of post j's first word, its task, and the place of its bound.
 pub fn task_at(j: usize) -> usize
     requires { ⌜ 4 * j + 4 < 2 ^ 64 ⌝ }
     ensures { λ r. ⌜ r ≡ taskAt j ⌝ }
@@ -36,7 +35,7 @@ pub fn bound_at(j: usize) -> usize
     4 * j + 1
 }
 
-// Where atom k begins with its variable, and where its kind and its value stand.
+// The place of atom k's first word, its variable, and the places of its kind and its value.
 pub fn variable_at(k: usize) -> usize
     requires { ⌜ 3 * k + 3 < 2 ^ 64 ⌝ }
     ensures { λ r. ⌜ r ≡ variableAt k ⌝ }
@@ -113,7 +112,7 @@ pub fn write_atom(atoms: &mut [i32], k: usize, task: usize, kind: i32, value: u3
     atoms[at + 2] = start_of(value);
 }
 
-// The task of a post that stands in its slice, and its bound.
+// The task and the bound of a post that is inside its slice.
 pub fn task_word(posts: &[i32], index: usize) -> i32
     requires { ⌜ 4 * index + 4 ≤ length (now posts) ⌝ }
     ensures { λ r. ⌜ r ≡ taskWord (now (posts .entry)) index ⌝ }

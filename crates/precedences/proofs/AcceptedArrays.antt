@@ -16,16 +16,16 @@ use Rattle.records.specs.Records.{momentsIn}
 use Rattle.records.specs.Refusals.{AcceptedInput}
 use Rattle.chosen_sets.specs.TaskArrays.{HeldSet}
 use Rattle.chosen_sets.proofs.RecordArrays.{held, late}
-use Rattle.precedences.specs.PredecessorArrays.{precedesAt, comesBefore, Ranged}
+use Rattle.precedences.specs.PredecessorArrays.{precedesAt, comesBefore, Boundable}
 
 -- a record and its ranges that are accepted
 module _ (r : DisjunctivePropagator) (es ls : List ℤ) (a : AcceptedInput r es ls) (long : length (r .durations) ≡ TASKS) {est lst : List ℕ} (e : est ≡ filled (momentAt es) (length es) noTasks)
     (l : lst ≡ filled (momentAt ls) (length ls) noTasks) where
-  abbrev pub ranged : Ranged (r .count) est lst (r .durations)
-  ranged = record { J = momentsIn r es ls; held = held r es ls a long e (λ k q. refl); late = late r es ls a long l }
+  abbrev pub boundable : Boundable (r .count) est lst (r .durations)
+  boundable = record { J = momentsIn r es ls; held = held r es ls a long e (λ k q. refl); late = late r es ls a long l }
 
-module _ {n : ℕ} {est lst durations : List ℕ} (f : Ranged n est lst durations) (i : ℕ) (q : i < n) where
-  -- the moment before which their latest starts lie
+module _ {n : ℕ} {est lst durations : List ℕ} (f : Boundable n est lst durations) (i : ℕ) (q : i < n) where
+  -- the moment that their latest starts are below
   pub end-fits : getD est i 0 + getD durations i 0 < 4294967296
   end-fits = omega (arith, f .held .start i q, f .held .early i q, f .held .lasts i q, f .held .sum, total-part (f .J .duration) n i q)
 

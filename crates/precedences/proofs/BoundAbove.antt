@@ -1,4 +1,4 @@
--- Whether a task's bound raises it: in arrays, over moments and over whole numbers alike.
+-- Whether a task's bound raises it is the same in arrays, over moments and over whole numbers.
 use mathlib.Core.Path.{_≡_, sym, ap, _∙_}
 use mathlib.Core.Bool.{Bool, true, false}
 use mathlib.Core.List.{List}
@@ -14,12 +14,12 @@ use Rattle.records.specs.declared.record.DisjunctivePropagator.{DisjunctiveProp
 use Rattle.records.specs.Records.{tasksIn, momentsIn}
 use Rattle.records.specs.Refusals.{AcceptedInput}
 use Rattle.records.proofs.AcceptedTasks.{count, proper-whole, above}
-use Rattle.precedences.specs.PredecessorArrays.{boundAt, Ranged}
+use Rattle.precedences.specs.PredecessorArrays.{boundAt, Boundable}
 use Rattle.precedences.proofs.MomentBounds.{raises, raises-not}
 use Rattle.precedences.specs.Bounds.{Raises}
 
 -- the test of the array's start
-pub from-start : {n : ℕ} {est lst durations : List ℕ} (f : Ranged n est lst durations) (i : ℕ) → i < n → {b : Bool} → exceeds (boundAt (f .J) i) (getD est i 0) ≡ b
+pub from-start : {n : ℕ} {est lst durations : List ℕ} (f : Boundable n est lst durations) (i : ℕ) → i < n → {b : Bool} → exceeds (boundAt (f .J) i) (getD est i 0) ≡ b
     → exceeds (boundAt (f .J) i) (f .J .earliest i) ≡ b
 from-start f i q h = ap (exceeds (boundAt (f .J) i)) (sym (f .held .start i q)) ∙ h
 

@@ -20,7 +20,7 @@ use Rattle.records.specs.declared.record.DisjunctivePropagator.{DisjunctiveProp
 use Rattle.records.specs.Records.{tasksIn, momentsIn}
 use Rattle.records.specs.Refusals.{AcceptedInput}
 use Rattle.records.proofs.AcceptedTasks.{proper-whole, above}
-use Rattle.precedences.specs.PredecessorArrays.{boundAt, Ranged}
+use Rattle.precedences.specs.PredecessorArrays.{boundAt, Boundable}
 use Rattle.precedences.proofs.MomentBounds.{found}
 use Rattle.precedences.proofs.Soundness.{bound-sound}
 use Rattle.precedences.specs.declared.reason.BoundAbove.{BoundAbove}
@@ -31,7 +31,7 @@ use Rattle.precedences.specs.ReasonArrays.{BoundLeft}
 use Rattle.precedences.proofs.BoundAbove.{from-start, among, raises-yes}
 
 -- What the code answers of its arrays.
-module _ {n : ℕ} {est lst durations : List ℕ} (f : Ranged n est lst durations) (i : ℕ) (q : i < n) where
+module _ {n : ℕ} {est lst durations : List ℕ} (f : Boundable n est lst durations) (i : ℕ) (q : i < n) where
   pub bound-left : {b : ℤ} → exceeds (boundAt (f .J) i) (getD est i 0) ≡ true → b ≡ instant zeroAt (raisedTo (getD est i 0) (boundAt (f .J) i)) → BoundLeft (f .J) i (bound.At b)
   bound-left {b} h e = record {
     raised = λ _. ap (λ (x : ℤ). answered 0 (x ∷ [])) (e ∙ ap (λ (s : ℕ). instant zeroAt (raisedTo s (boundAt (f .J) i))) (f .held .start i q));

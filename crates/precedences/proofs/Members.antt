@@ -1,4 +1,4 @@
--- The atoms of the members of a set: task by task, how many, what holds of all of them, and that they depend on the tasks below n only.
+-- The atoms of the members of a set: task by task, their number, and what holds of all of them. They depend on the tasks below n only.
 use mathlib.Core.Path.{_≡_, refl, sym, ap, ap₂, subst, _∙_}
 use mathlib.Core.Bool.{Bool, true, false}
 use mathlib.Core.List.{List, [], _++_}

@@ -47,11 +47,11 @@ module _ (Z : Tasks whole) (ok : Proper Z) (low : (k : ℕ) → k < Z .count →
         ∙ ap (ltb (moment zeroAt (Z .latest j))) (plus zeroAt (Z .earliest i) (Z .duration i) (low i q)))
 
     -- a bound, and its moment
-    pub record Found (b : ℤ) : Type 0 where
+    pub record BoundMoment (b : ℤ) : Type 0 where
       pub above : Above zeroAt b
       pub is : boundAt N i ≡ some (moment zeroAt b)
 
-    pub found : (b : ℤ) → PrecedenceBound Z i b → Found b
+    pub found : (b : ℤ) → PrecedenceBound Z i b → BoundMoment b
     found b e =
         let v : Ect N (comesBefore N i) (moment zeroAt b) = set-ect N (predecessors Z i) (comesBefore N i) same-tasks (moment zeroAt b) (ect→ zeroAt Z ok low (predecessors Z i) b e) in
         record { above = part-above zeroAt Z ok low (predecessors Z i) b (e .holds); is = ect-is N fine (comesBefore N i) (moment zeroAt b) .1 v }

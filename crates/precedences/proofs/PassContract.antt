@@ -24,7 +24,7 @@ use Rattle.records.proofs.RefusedRuns.{accepted-input}
 use Rattle.trees.proofs.Ects.{past-by-bound, within-bound}
 use Rattle.precedences.specs.Predecessors.{PrecedenceBound}
 use Rattle.precedences.specs.PredecessorArrays.{startAt, boundAt}
-use Rattle.precedences.proofs.AcceptedArrays.{ranged}
+use Rattle.precedences.proofs.AcceptedArrays.{boundable}
 use Rattle.precedences.proofs.Soundness.{before-sound, bound-sound}
 use Rattle.precedences.proofs.MomentBounds.{passes, fits}
 use Rattle.precedences.specs.declared.answers.Precedences.{Precedences}
@@ -97,7 +97,7 @@ module _ (r : DisjunctivePropagator) (es ls : List ℤ) (a : AcceptedInput r es 
     raised-at k q = ap (λ (o : List ℕ). getD o k 0) z ∙ filled-at (raisedAt M) (r .count) noTasks 0 k q (omega (arith, a .lawful .few, length-replicate {A = ℕ} TASKS 0))
 
     latest-at : (k : ℕ) → k < r .count → getD lst k 0 ≡ M .latest k
-    latest-at k q = ranged r es ls a long e l .late .at k q
+    latest-at k q = boundable r es ls a long e l .late .at k q
 
     not-past : (k : ℕ) → k < r .count → k < i → (b : ℤ) → PrecedenceBound Z k b → b ≤ℤ Z .latest k
     not-past k q h = fits Z fine (above r es ls a long) k (known q) (within-bound (M .earliest k) (M .latest k) (boundAt M k) (omega (arith, p .none-before k h, raised-at k q, latest-at k q)))

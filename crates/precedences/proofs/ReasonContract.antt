@@ -30,7 +30,7 @@ use Rattle.records.specs.Records.{tasksIn, momentsIn}
 use Rattle.records.specs.Refusals.{AcceptedInput}
 use Rattle.records.proofs.AcceptedTasks.{count, proper-whole, above}
 use Rattle.precedences.specs.Predecessors.{predecessors, AllBefore, PrecedenceBound}
-use Rattle.precedences.specs.PredecessorArrays.{startAt, precedesAt, comesBefore, boundAt, Ranged}
+use Rattle.precedences.specs.PredecessorArrays.{startAt, precedesAt, comesBefore, boundAt, Boundable}
 use Rattle.precedences.proofs.MomentBounds.{high, same-tasks}
 use Rattle.precedences.proofs.AcceptedArrays.{chosen}
 use Rattle.precedences.proofs.Soundness.{all-before, bound-holds}
@@ -90,18 +90,19 @@ module _ (J : Tasks whole) (i : ℕ) (q : i < J .count) where
     bounded : ((k : ℕ) → k < J .count → 1 ≤ J .duration k) → (b : ℤ) → PrecedenceBound J i b → b ≤ℤ s i
     bounded lasts = bound-holds J lasts s (c .apart) i q from ranges
 
-  -- the contract from what stands in the words
+  -- the contract from the words that are written
   pub explained : ((k : ℕ) → k < J .count → 1 ≤ J .duration k) → (ws : List ℤ) (r : Reason) (ws′ : List ℤ)
       → (Raises J i → (reasonNumbers r ≡ answered 0 (pos (length (reasonOf J i)) ∷ [])) × (ws′ ≡ overwritten ws (atomWords (reasonOf J i))))
       → ((Raises J i → ⊥) → (reasonNumbers r ≡ answered 0 (pos 0 ∷ [])) × (ws′ ≡ ws)) → Explained J i ws r ws′
   explained lasts ws r ws′ w n = record { written = w; nothing = n; few = few; holds = holds; before = λ s c. first s c; sound = λ b e s c. c .consequent-not (bounded s c lasts b e) }
 
 -- where the bound raises nothing
-pub nothing-left : {n : ℕ} {est lst durations : List ℕ} (f : Ranged n est lst durations) (i : ℕ) → i < n → {l : List ℤ} → exceeds (boundAt (f .J) i) (getD est i 0) ≡ false → ReasonLeft (f .J) i l 0 l
+pub nothing-left : {n : ℕ} {est lst durations : List ℕ} (f : Boundable n est lst durations) (i : ℕ) → i < n → {l : List ℤ}
+    → exceeds (boundAt (f .J) i) (getD est i 0) ≡ false → ReasonLeft (f .J) i l 0 l
 nothing-left f i q h = record { written = λ k. clash k (from-start f i q h); nothing = λ _. (refl, refl) }
 
 -- The atoms that the arrays give.
-module _ {n : ℕ} {est lst durations : List ℕ} (f : Ranged n est lst durations) (i : ℕ) (q : i < n) {before : List Bool}
+module _ {n : ℕ} {est lst durations : List ℕ} (f : Boundable n est lst durations) (i : ℕ) (q : i < n) {before : List Bool}
     (e : before ≡ filled (precedesAt est lst durations i) n (replicate TASKS false)) where
   abbrev N : Tasks natural
   N = f .J

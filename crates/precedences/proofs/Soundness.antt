@@ -25,11 +25,11 @@ before : (a b c : ℤ) (d : ℕ) → a ≤ℤ b → (b +ℤ pos d) ≤ℤ c → 
 unfolding up dn
 before a b c d h k = omega (ints, sumℤ b (pos d))
 
--- a task k cannot start after task i, which starts at e or later and lasts d, where its latest start l is below e + d
+-- a task with latest start l cannot start after task i, which starts at e or later and lasts d, where l is below e + d
 not-after : (e l si sk : ℤ) (d : ℕ) → ltZ l (e +ℤ pos d) ≡ true → e ≤ℤ si → sk ≤ℤ l → (si +ℤ pos d) ≤ℤ sk → ⊥
 not-after e l si sk d y h k after = omega (ints, sumℤ e (pos d), sumℤ si (pos d))
 
--- At starts where no two tasks overlap, the tasks of P, started by their latest starts, end by the start of i, where that is not before its earliest.
+-- Take starts at which no two tasks overlap, P's no later than their latest, and i's no earlier than its earliest. Then all of P ends by the start of i.
 pub all-before : (J : Tasks whole) (s : ℕ → ℤ) → NoOverlap J s → (i : ℕ) → i < J .count → J .earliest i ≤ℤ s i → ((k : ℕ) → In J (predecessors J i) k → s k ≤ℤ J .latest k) → AllBefore J i s
 all-before J s apart i q from to k h =
     let m = and-true (not (eqb k i)) (ltZ (J .latest k) (J .earliest i +ℤ pos (J .duration i))) (h .mem) in

@@ -29,16 +29,17 @@ module _ (J : Tasks whole) where
   abbrev pub NoneEmptied : Type 0
   NoneEmptied = (k : ℕ) → k < J .count → (b : ℤ) → PrecedenceBound J k b → b ≤ℤ J .latest k
 
-  -- An accepted pass, from the earliest starts es to es′. It ends Emptied exactly with the lowest task whose bound passes its latest start, and no start
-  -- changes; then there is no schedule. Else it is Done: each start is the larger of its old value and its bound, both from the ranges at entry,
-  -- and every schedule starts each task at or after that. However it ends, all of P come before i in every schedule.
+  -- An accepted pass, from the earliest starts es to es′. It ends Emptied exactly with the lowest task whose bound passes its latest start. Then no start
+  -- changes, and there is no schedule. Otherwise it is Done: each start is the larger of its old value and its bound, both from the ranges at entry. Every
+  -- schedule starts each task at or after that. However it ends, all of P comes before i in every schedule.
   pub record LeftPrecedences (es : List ℤ) (r : Precedences) (es′ : List ℤ) : Type 0 where
     pub before : (s : ℕ → ℤ) → Schedule J s → (i : ℕ) → i < J .count → AllBefore J i s
     pub emptied : (i : ℕ) → (precedencesNumbers r ≡ answered 1 (pos i ∷ [])) ↔ FirstEmptied i
     pub done : (precedencesNumbers r ≡ answered 0 []) ↔ NoneEmptied
     pub kept : precedencesNumbers r .kind ≡ 1 → es′ ≡ es
     pub size : length es′ ≡ length es
-    pub starts : precedencesNumbers r .kind ≡ 0 → (i : ℕ) → i < J .count → Largest whole (λ v. (J .earliest i ≡ v) ⊎ PrecedenceBound J i v) (getD es′ i (pos 0))
+    pub starts : precedencesNumbers r .kind ≡ 0 → (i : ℕ) → i < J .count
+        → Largest whole (λ v. (J .earliest i ≡ v) ⊎ PrecedenceBound J i v) (getD es′ i (pos 0))
     pub no-schedule : precedencesNumbers r .kind ≡ 1 → (s : ℕ → ℤ) → Schedule J s → ⊥
     pub holds : precedencesNumbers r .kind ≡ 0 → (s : ℕ → ℤ) → Schedule J s → (i : ℕ) → i < J .count → getD es′ i (pos 0) ≤ℤ s i
 

@@ -29,7 +29,7 @@ module _ (J : Tasks natural) (i : ℕ) where
   boundAt = ectOf J comesBefore
 
 -- The arrays hold the ranges and the durations of n tasks.
-pub record Ranged (n : ℕ) (est lst durations : List ℕ) : Type 0 where
+pub record Boundable (n : ℕ) (est lst durations : List ℕ) : Type 0 where
   pub J : Tasks natural
   pub held : HeldSet J (λ _. false) n [] est durations
   pub late : Late J n lst

@@ -6,7 +6,7 @@ use lib.IntN.{pos}
 use Rattle.scheduling.specs.Scheduling.{whole, Tasks, tasksOf}
 use Rattle.precedences.specs.Predecessors.{predecessors}
 
--- 0..6,3; 1..1,5: task 1 starts before task 0 can end, so it comes first; task 0 can still start where task 1 ends at the soonest
+-- 0..6,3; 1..1,5: task 1 starts before task 0 can end, so it comes first. Task 0 can still start at the earliest end of task 1
 unfoldable pub F : Tasks whole
 F = tasksOf (3 ∷ 5 ∷ []) (pos 0 ∷ pos 1 ∷ []) (pos 6 ∷ pos 1 ∷ [])
 

@@ -24,8 +24,8 @@ pub record BoundLeft (J : Tasks natural) (i : ℕ) (r : BoundAbove) : Type 0 whe
   pub raised : exceeds (boundAt J i) (J .earliest i) ≡ true → boundNumbers r ≡ answered 0 (instant zeroAt (raisedTo (J .earliest i) (boundAt J i)) ∷ [])
   pub none : exceeds (boundAt J i) (J .earliest i) ≡ false → boundNumbers r ≡ answered 1 []
 
--- The reason of task i's bound, over moments, and what is left in the words ws: nothing where the bound is not above the earliest start, else the reason at the
--- front.
+-- The reason of task i's bound, over moments, and the words ws after the call. They are unchanged where the bound is not above the earliest start. Otherwise
+-- the reason is at the front.
 abbrev pub reasonAt : Tasks natural → ℕ → List Atom
 reasonAt J i = atLeast i (instant zeroAt (J .earliest i)) ∷ bothBounds (λ k. instant zeroAt (J .earliest k)) (λ k. instant zeroAt (J .latest k))
     (comesBefore J i) (J .count)

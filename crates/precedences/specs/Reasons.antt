@@ -42,9 +42,9 @@ module _ (J : Tasks whole) (i : ℕ) where
   abbrev pub reasonOf : List Atom
   reasonOf = atLeast i (J .earliest i) ∷ bothBounds (J .earliest) (J .latest) (predecessors J i) (J .count)
 
-  -- An accepted call, from the words ws to ws′. Where the bound raises i, the reason stands at the front, with every word after it unchanged, and the answer is
-  -- its atom count; elsewhere that is 0, and no word changes. The reason holds at entry. Starts of whatever range that meet it, no two
-  -- tasks overlapping, have all of P before i, and none of them are below the bound at i.
+  -- An accepted call, from the words ws to ws′. Where the bound raises i, the reason is at the front, every word after it is unchanged, and the answer is
+  -- its atom count. Elsewhere the answer is 0, and no word changes. The reason holds at entry. Take starts of any range that meet it, with no two tasks
+  -- overlapping. Then all of P comes before i, and i starts at or after the bound.
   pub record Explained (ws : List ℤ) (r : Reason) (ws′ : List ℤ) : Type 0 where
     pub written : Raises J i → (reasonNumbers r ≡ answered 0 (pos (length reasonOf) ∷ [])) × (ws′ ≡ overwritten ws (atomWords reasonOf))
     pub nothing : (Raises J i → ⊥) → (reasonNumbers r ≡ answered 0 (pos 0 ∷ [])) × (ws′ ≡ ws)
@@ -66,7 +66,8 @@ pub record KeptWords (ws : List ℤ) (number : ℕ) (r : Reason) (ws′ : List �
   pub words : ws′ ≡ ws
 
 -- `bars` says whether the bars of the ranges fit. The first test that fails refuses the call.
-pub record ReasonGiven (before : DisjunctivePropagator) (es ls : List ℤ) (bars : Bool) (task : ℕ) (ws : List ℤ) (r : Reason) (ws′ : List ℤ) : Type 0 where
+pub record ReasonGiven (before : DisjunctivePropagator) (es ls : List ℤ) (bars : Bool) (task : ℕ)
+    (ws : List ℤ) (r : Reason) (ws′ : List ℤ) : Type 0 where
   pub refused : (reasonNumber before es ls bars task (length ws) ≡ 0 → ⊥) → KeptWords ws (reasonNumber before es ls bars task (length ws)) r ws′
   pub given : reasonNumber before es ls bars task (length ws) ≡ 0 → Explained (tasksIn before es ls) task ws r ws′
 

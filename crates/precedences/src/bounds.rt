@@ -12,7 +12,7 @@ ghost use Prim.Native.Nat.{_<_};
 ghost use Rattle.integers.specs.Limits.{TASKS};
 ghost use Rattle.records.specs.Records.{tasksIn, recordOf};
 ghost use Rattle.records.specs.Refusals.{AcceptedInput};
-ghost use Rattle.precedences.specs.PredecessorArrays.{Ranged};
+ghost use Rattle.precedences.specs.PredecessorArrays.{Boundable};
 ghost use Rattle.precedences.specs.ReasonArrays.{BoundLeft};
 ghost use Rattle.precedences.specs.Bounds.{BoundAnswered, boundNumber, BoundGiven};
 
@@ -24,8 +24,8 @@ fn bound_above<'a>(
     n: usize,
     i: usize,
 ) -> BoundAbove
-    requires { ⌜ Ranged n (now est) (now lst) (now durations) × (i < n) ⌝ }
-    ensures { λ r. ⌜ ((f : Ranged n (now (est .entry)) (now (lst .entry)) (now (durations .entry))) → BoundLeft (f .J) i r) ⌝ }
+    requires { ⌜ Boundable n (now est) (now lst) (now durations) × (i < n) ⌝ }
+    ensures { λ r. ⌜ ((f : Boundable n (now (est .entry)) (now (lst .entry)) (now (durations .entry))) → BoundLeft (f .J) i r) ⌝ }
 {
     let start = est[i];
     let bound = bound_of(est, lst, durations, n, i);

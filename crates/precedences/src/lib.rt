@@ -1,4 +1,4 @@
-// The pass that raises earliest starts by the precedences that can be read off the ranges.
+// The precedences that the ranges show: the tasks before a task, the pass that raises earliest starts, one bound and its reason.
 pub mod answers;
 pub mod bounds;
 pub mod pass;

@@ -13,7 +13,7 @@ ghost use Rattle.integers.specs.FilledLists.{filled, noTasks};
 ghost use Rattle.integers.specs.Limits.{TASKS};
 ghost use Rattle.records.specs.Records.{tasksIn};
 ghost use Rattle.records.specs.Refusals.{AcceptedInput};
-ghost use Rattle.precedences.specs.PredecessorArrays.{startAt, Ranged};
+ghost use Rattle.precedences.specs.PredecessorArrays.{startAt, Boundable};
 ghost use Rattle.precedences.specs.PassArrays.{raisedAt, FirstPast};
 ghost use Rattle.precedences.specs.Precedences.{LeftPrecedences, RanPrecedences};
 
@@ -24,8 +24,8 @@ fn raised_starts<'a>(
     durations: &'a [u32; TASKS],
     n: usize,
 ) -> [u32; TASKS]
-    requires { ⌜ Ranged n (now est) (now lst) (now durations) ⌝ }
-    ensures { λ r. ⌜ ((f : Ranged n (now (est .entry)) (now (lst .entry)) (now (durations .entry))) → r ≡ filled (raisedAt (f .J)) n noTasks) ⌝ }
+    requires { ⌜ Boundable n (now est) (now lst) (now durations) ⌝ }
+    ensures { λ r. ⌜ ((f : Boundable n (now (est .entry)) (now (lst .entry)) (now (durations .entry))) → r ≡ filled (raisedAt (f .J)) n noTasks) ⌝ }
 {
     let mut raised = [0u32; TASKS];
     let mut i = 0;
@@ -67,7 +67,8 @@ fn store(earliest: &mut [i32], raised: &[u32; TASKS])
 // The pass on a record and ranges that nothing refuses.
 fn accepted(record: DisjunctivePropagator, earliest: &mut [i32], latest: &[i32]) -> Precedences
     requires { ⌜ AcceptedInput «record» (now earliest) (now latest) ⌝ }
-    ensures { λ r. ⌜ LeftPrecedences (tasksIn «record» (now (earliest .entry)) (now (latest .entry))) (now (earliest .entry)) r (now (earliest .exit)) ⌝ }
+    ensures { λ r. ⌜ LeftPrecedences (tasksIn «record» (now (earliest .entry)) (now (latest .entry)))
+        (now (earliest .entry)) r (now (earliest .exit)) ⌝ }
 {
     let n = record.count;
     let durations = record.durations;

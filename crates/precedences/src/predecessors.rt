@@ -10,7 +10,7 @@ ghost use lib.ListN.{getD, replicate};
 ghost use Rattle.integers.specs.FilledLists.{filled};
 ghost use Rattle.integers.specs.Limits.{TASKS};
 ghost use Rattle.trees.specs.Ects.{momentOf};
-ghost use Rattle.precedences.specs.PredecessorArrays.{precedesAt, boundAt, Ranged};
+ghost use Rattle.precedences.specs.PredecessorArrays.{precedesAt, boundAt, Boundable};
 
 // Whether task j, with its latest start, must come before task i, which ends at `end` or later.
 fn precedes(j: usize, latest: u32, i: usize, end: u32) -> bool
@@ -51,8 +51,8 @@ pub fn bound_of<'a>(
     n: usize,
     i: usize,
 ) -> Ect
-    requires { ⌜ Ranged n (now est) (now lst) (now durations) × (i < n) ⌝ }
-    ensures { λ r. ⌜ ((f : Ranged n (now (est .entry)) (now (lst .entry)) (now (durations .entry))) → momentOf r ≡ boundAt (f .J) i) ⌝ }
+    requires { ⌜ Boundable n (now est) (now lst) (now durations) × (i < n) ⌝ }
+    ensures { λ r. ⌜ ((f : Boundable n (now (est .entry)) (now (lst .entry)) (now (durations .entry))) → momentOf r ≡ boundAt (f .J) i) ⌝ }
 {
     let before = predecessors(est, lst, durations, n, i);
     theta_ect(&before, est, durations, n)

@@ -18,7 +18,7 @@ ghost use Rattle.integers.specs.Moments.{instant, zeroAt};
 ghost use Rattle.post_words.specs.StoredAtoms.{Stored};
 ghost use Rattle.records.specs.Records.{tasksIn, recordOf};
 ghost use Rattle.records.specs.Refusals.{AcceptedInput};
-ghost use Rattle.precedences.specs.PredecessorArrays.{startAt, Ranged};
+ghost use Rattle.precedences.specs.PredecessorArrays.{startAt, Boundable};
 ghost use Rattle.precedences.specs.ReasonArrays.{memberAt, ReasonLeft};
 ghost use Rattle.precedences.specs.Reasons.{bothOf, bothBounds, Explained, reasonNumber, ReasonGiven, AcceptedReason};
 
@@ -56,7 +56,8 @@ fn write_members<'a>(
     lst: &'a [u32; TASKS],
     n: usize,
 ) -> usize
-    requires { ⌜ (n ≤ TASKS) × (3 * (1 + length (bothBounds (startAt (now est)) (startAt (now lst)) (memberAt (now members)) n)) ≤ length (now atoms)) ⌝ }
+    requires { ⌜ (n ≤ TASKS)
+        × (3 * (1 + length (bothBounds (startAt (now est)) (startAt (now lst)) (memberAt (now members)) n)) ≤ length (now atoms)) ⌝ }
     ensures { λ r. ⌜ Stored (now (atoms .entry)) (now (atoms .exit)) 1 r
         (bothBounds (startAt (now (est .entry))) (startAt (now (lst .entry))) (memberAt (now (members .entry))) n) ⌝ }
 {
@@ -78,8 +79,8 @@ fn write_reason<'a>(
     n: usize,
     i: usize,
 ) -> usize
-    requires { ⌜ Ranged n (now est) (now lst) (now durations) × (i < n) × (6 * n ≤ length (now atoms)) ⌝ }
-    ensures { λ r. ⌜ ((f : Ranged n (now (est .entry)) (now (lst .entry)) (now (durations .entry)))
+    requires { ⌜ Boundable n (now est) (now lst) (now durations) × (i < n) × (6 * n ≤ length (now atoms)) ⌝ }
+    ensures { λ r. ⌜ ((f : Boundable n (now (est .entry)) (now (lst .entry)) (now (durations .entry)))
         → ReasonLeft (f .J) i (now (atoms .entry)) r (now (atoms .exit))) ⌝ }
 {
     let start = est[i];
@@ -123,7 +124,8 @@ fn reason_refusal<'a>(
     task: usize,
     words: usize,
 ) -> u32
-    ensures { λ r. ⌜ r ≡ reasonNumber (recordOf n (now (durations .entry)) total) (now (earliest .entry)) (now (latest .entry)) «bars_fit» task words ⌝ }
+    ensures { λ r. ⌜ r ≡ reasonNumber (recordOf n (now (durations .entry)) total) (now (earliest .entry)) (now (latest .entry))
+        «bars_fit» task words ⌝ }
 {
     let number = bound_refusal(n, durations, total, earliest, latest, bars_fit, task);
     if number != 0 {

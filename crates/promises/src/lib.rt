@@ -1,1 +1,2 @@
-// What the calls on lent ranges promise, as definitions (specs/), and that what the cores leave keeps it (proofs/); no code.
+// The contracts of the run, the mirrored pass and the precedence pass on lent ranges, the proofs that the cores meet them,
+// and the laws about a whole search; no code.

@@ -1,4 +1,4 @@
-// Ranges of starts with barred starts: whether the bars fit, ranges as arrays of numbers, and starts stored back.
+// Ranges with barred starts: whether the bars fit, lent ranges taken apart into numbers, and starts stored back into them.
 mod bars;
 mod moves;
 pub mod range;

@@ -32,8 +32,8 @@ use denote.Triple.Table.{entered, cited}
 use denote.Triple.Walked.{says}
 use Rattle.disjunctive.proofs.Calls.{ContractOf, calls-by}
 
--- the open call's signature, the machine values of what it is passed, and what it says of what it is passed, of its answer and of what it leaves; the numbers of an answer, and what the function that
--- makes them requires of it, if anything; and what the exported call says
+-- An exported call over an open one: the open call's signature, the machine values of its arguments, and its contract. Then the numbers of an answer, what the function that makes them requires,
+-- if anything, and the exported call's contract.
 pub record Passing : Type 2 where
   pub lent : Ended
   pub O : RattleType
@@ -45,7 +45,7 @@ pub record Passing : Type 2 where
   pub Promised : (κs : Lfts (lent .signature .lifetimes)) → Args (lent .signature) κs → O .Denot → AtExit lent κs → Type 0
   pub Numbered : (κs : Lfts (lent .signature .lifetimes)) → Args (lent .signature) κs → N .Denot → AtExit lent κs → Type 0
 
--- what is asked of an answer, as the assertion that a `requires` is and as a fact
+-- what is required of an answer, as an assertion and as a fact
 abbrev requirement : {M : Type 1} (𝓤 : URA M) → Option (Type 0) → SProp 𝓤
 requirement 𝓤 none = emp 𝓤
 requirement 𝓤 (some φ) = fact 𝓤 φ
@@ -96,13 +96,13 @@ module _ (D : Passing) where
     written κs qs bounds a = (κs, qs, bounds, a, valss (typesAt (D .lent .signature .params) κs) (D .values κs) a)
 
     -- what stays from the open call to the end
-    abbrev pub Kept : (y : Bound 𝓤 H A (D .lent .signature)) → Lasts (D .lent) (y .0) (y .3) → List (Item 𝓤)
-    Kept y us = raw (alive 𝓤 H A (D .lent .signature) (y .0) (y .1)) ∷ ‵ (lasts (D .lent) (y .0) (y .3) us) ∷ []
+    abbrev pub Remaining : (y : Bound 𝓤 H A (D .lent .signature)) → Lasts (D .lent) (y .0) (y .3) → List (Item 𝓤)
+    Remaining y us = raw (alive 𝓤 H A (D .lent .signature) (y .0) (y .1)) ∷ ‵ (lasts (D .lent) (y .0) (y .3) us) ∷ []
 
     pub ends : Given 𝓤 H A → (y : Bound 𝓤 H A (D .lent .signature)) (us : Lasts (D .lent) (y .0) (y .3)) (w : Val) (m : D .N .Denot) → D .Numbered (y .0) (y .3) m (atExit (D .lent) (y .0) (y .3) us)
-        → ent 𝓤 (⋆ 𝓤 H A (‵ (D .N .own m (w ∷ [])) ∷ Kept y us)) (Exported .post (y, tt) w)
+        → ent 𝓤 (⋆ 𝓤 H A (‵ (D .N .own m (w ∷ [])) ∷ Remaining y us)) (Exported .post (y, tt) w)
     ends W y us w m e =
-        qed W (‵ (D .N .own m (w ∷ [])) ∷ Kept y us) ∵ updating ! $ at-once ! $ show !
+        qed W (‵ (D .N .own m (w ∷ [])) ∷ Remaining y us) ∵ updating ! $ at-once ! $ show !
         (λ (m′ : D .N .Denot). sep 𝓤 (Back 𝓤 H A (answering (D .N) .signature) y w m′) (ensured 𝓤 H A (answering (D .N)) numbered (y .0) (y .3) tt m′)) m $
         move ! (1 ∷ 0 ∷ []) $ join ! $ frame ! $
         show ! (λ (ws : Lasts (D .lent) (y .0) (y .3)). sep 𝓤 (sem 𝓤 H A (lasts (D .lent) (y .0) (y .3) ws)) (fact 𝓤 (D .Numbered (y .0) (y .3) m (atExit (D .lent) (y .0) (y .3) ws)))) us $ says ! e $
@@ -130,7 +130,7 @@ module _ {M : Type 1} {𝓤 : URA M} {H : Heap 𝓤} {A : Atoms 𝓤} {K : Type 
       calls-by t fm (numbering D) (made D 𝓤 H A) known ((tt, tt, tt, (r, tt), (v ∷ [], tt)), tt) os (λ w m us is.
       move t (3 ∷ []) $ heard t (m ≡ D .numbers r) (λ e. move t (1 ∷ 2 ∷ []) $ drop t $ drop t $ k w m e is))
 
--- four were lent, the last of them a slice: it is as long as it was
+-- four arguments were lent, the last of them a slice, which keeps its length
 module _ {M : Type 1} {𝓤 : URA M} {H : Heap 𝓤} {A : Atoms 𝓤} {K : Type 0} {W : Given 𝓤 H A} {Γ : List (Item 𝓤)} {G : Goal 𝓤 H} where
   pub fourth-as-long : K → {F₁ F₂ F₃ X Y : Fml} {l m : ℕ} → (l ≡ m → Seq K W (‵ (fsep F₁ (fsep F₂ (fsep F₃ (fsep (fsep X (feq ℕ l m)) Y)))) ∷ Γ) G)
       → Seq K W (‵ (fsep F₁ (fsep F₂ (fsep F₃ (fsep (fsep X (feq ℕ l m)) Y)))) ∷ Γ) G

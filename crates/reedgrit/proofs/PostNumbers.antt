@@ -6,7 +6,7 @@ use lib.IntN.{ℤ, pos}
 use Rattle.post_words.specs.Posts.{postNumber}
 use Rattle.reedgrit.specs.Posts.{postAnswer, readPost, postAt, postNumbers}
 
--- a number that is not 0 stands alone
+-- beside a number that is not 0 all values are 0
 apart : (n : ℕ) (posts : List ℤ) (index : ℕ) → (n ≡ 0 → ⊥) → postAnswer n (pos 0) (pos 0) 0 0 ≡ postAt n posts index
 apart zero posts index some = elim (some refl) [ ]
 apart (suc n) posts index some = refl

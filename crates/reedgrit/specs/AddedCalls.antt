@@ -33,12 +33,14 @@ use Rattle.answers.specs.declared.added_calls.ChargesAnswer.{ChargesAnswer}
 use Rattle.answers.specs.AddedAnswers.{mirroredAnswer, countAnswer, changeAnswer, startAnswer, busiestAnswer, chargesAnswer}
 use Rattle.answers.specs.SourceAnswers.{NumbersOf}
 
-abbrev pub MirroredNumbers : DisjunctivePropagator → List Range → List ℤ → List ℤ → MirroredAnswer → List Range → List ℤ → List ℤ → Type 0
+abbrev pub MirroredNumbers : DisjunctivePropagator → List Range → List ℤ → List ℤ → MirroredAnswer
+    → List Range → List ℤ → List ℤ → Type 0
 MirroredNumbers before ranges posts atoms a ranges′ posts′ atoms′ =
     NumbersOf (λ r. mirroredAnswer (outcomeNumbers r)) (λ r. RanMirroredLent before ranges posts atoms r ranges′ posts′ atoms′) a
 
 abbrev pub OverloadNumbers : DisjunctivePropagator → List Range → CountAnswer → Type 0
-OverloadNumbers before ranges = NumbersOf (λ r. countAnswer (overloadNumbers r)) (OverloadTested before (earliests ranges) (latests ranges) (allBarsFit ranges))
+OverloadNumbers before ranges =
+    NumbersOf (λ r. countAnswer (overloadNumbers r)) (OverloadTested before (earliests ranges) (latests ranges) (allBarsFit ranges))
 
 abbrev pub AddedNumbers : DisjunctivePropagator → ℤ → ChangeAnswer → DisjunctivePropagator → Type 0
 AddedNumbers before duration a after = NumbersOf (λ r. changeAnswer (changeNumbers r)) (λ r. AddedLent before duration r after) a
@@ -62,7 +64,8 @@ abbrev pub PrecedencesNumbers : DisjunctivePropagator → List Range → CountAn
 PrecedencesNumbers before ranges a ranges′ = NumbersOf (λ r. countAnswer (precedencesNumbers r)) (λ r. PrecedencesLent before ranges r ranges′) a
 
 abbrev pub BoundNumbers : DisjunctivePropagator → List Range → ℕ → StartAnswer → Type 0
-BoundNumbers before ranges task = NumbersOf (λ r. startAnswer (boundNumbers r)) (BoundGiven before (earliests ranges) (latests ranges) (allBarsFit ranges) task)
+BoundNumbers before ranges task =
+    NumbersOf (λ r. startAnswer (boundNumbers r)) (BoundGiven before (earliests ranges) (latests ranges) (allBarsFit ranges) task)
 
 abbrev pub ReasonNumbers : DisjunctivePropagator → List Range → ℕ → List ℤ → CountAnswer → List ℤ → Type 0
 ReasonNumbers before ranges task reason a reason′ =

@@ -16,7 +16,8 @@ abbrev pub newNumbers : List ℤ → NewPropagator
 newNumbers ds = record { propagator = created ds .«record»; number = creationNumber (created ds .answer) }
 
 -- a run: the numbers of its outcome, and its leaf changes
-abbrev pub RanNumbers : DisjunctivePropagator → List Range → List ℤ → List ℤ → RunAnswer → DisjunctivePropagator → List Range → List ℤ → List ℤ → Type 0
+abbrev pub RanNumbers : DisjunctivePropagator → List Range → List ℤ → List ℤ → RunAnswer
+    → DisjunctivePropagator → List Range → List ℤ → List ℤ → Type 0
 RanNumbers before ranges posts atoms a after ranges′ posts′ atoms′ =
     NumbersOf (λ (r : Finished). runAnswer (outcomeNumbers (r .outcome)) (r .changes))
     (λ r. RanLent before ranges posts atoms (r .outcome) (r .changes) after ranges′ posts′ atoms′) a

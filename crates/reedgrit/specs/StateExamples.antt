@@ -15,9 +15,10 @@ use Rattle.reedgrit.specs.States.{truthAfter, lowerAfter}
 -- 0 ≠ v for v from 1 to 17: seventeen holes
 abbrev holes : List ℤ
 holes =
-    pos 0 ∷ pos 3 ∷ pos 1 ∷ pos 0 ∷ pos 3 ∷ pos 2 ∷ pos 0 ∷ pos 3 ∷ pos 3 ∷ pos 0 ∷ pos 3 ∷ pos 4 ∷ pos 0 ∷ pos 3 ∷ pos 5 ∷ pos 0 ∷ pos 3 ∷ pos 6
-    ∷ pos 0 ∷ pos 3 ∷ pos 7 ∷ pos 0 ∷ pos 3 ∷ pos 8 ∷ pos 0 ∷ pos 3 ∷ pos 9 ∷ pos 0 ∷ pos 3 ∷ pos 10 ∷ pos 0 ∷ pos 3 ∷ pos 11 ∷ pos 0 ∷ pos 3 ∷ pos 12
-    ∷ pos 0 ∷ pos 3 ∷ pos 13 ∷ pos 0 ∷ pos 3 ∷ pos 14 ∷ pos 0 ∷ pos 3 ∷ pos 15 ∷ pos 0 ∷ pos 3 ∷ pos 16 ∷ pos 0 ∷ pos 3 ∷ pos 17 ∷ []
+    pos 0 ∷ pos 3 ∷ pos 1 ∷ pos 0 ∷ pos 3 ∷ pos 2 ∷ pos 0 ∷ pos 3 ∷ pos 3 ∷ pos 0 ∷ pos 3 ∷ pos 4 ∷ pos 0 ∷ pos 3 ∷ pos 5
+    ∷ pos 0 ∷ pos 3 ∷ pos 6 ∷ pos 0 ∷ pos 3 ∷ pos 7 ∷ pos 0 ∷ pos 3 ∷ pos 8 ∷ pos 0 ∷ pos 3 ∷ pos 9
+    ∷ pos 0 ∷ pos 3 ∷ pos 10 ∷ pos 0 ∷ pos 3 ∷ pos 11 ∷ pos 0 ∷ pos 3 ∷ pos 12 ∷ pos 0 ∷ pos 3 ∷ pos 13
+    ∷ pos 0 ∷ pos 3 ∷ pos 14 ∷ pos 0 ∷ pos 3 ∷ pos 15 ∷ pos 0 ∷ pos 3 ∷ pos 16 ∷ pos 0 ∷ pos 3 ∷ pos 17 ∷ []
 
 -- 0 ≥ 1, 0 ≤ 0
 abbrev crossed : List ℤ

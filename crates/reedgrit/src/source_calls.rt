@@ -73,7 +73,7 @@ pub extern "C" fn reedgrit_check(
     checked(durations, premises, consequent)
 }
 
-// Whether the premises and the negated consequent, of one atom or none, lead to a state; the state itself does not cross.
+// Whether the premises and the negated consequent, of one atom or none, lead to a state. The state itself is not passed to C.
 #[no_mangle]
 pub extern "C" fn reedgrit_prepare(premises: &[i32], consequent: &[i32]) -> StateAnswer
     ensures { λ r. ⌜ r ≡ preparedAnswer (now (premises .entry)) (now (consequent .entry)) ⌝ }

@@ -1,4 +1,4 @@
-// Queries of the state that premises lead to; the state itself, of enums, does not cross.
+// Queries of the state that premises lead to. The state itself has enums and is not passed to C.
 use answers::source_calls::StateAnswer;
 use answers::source_calls::bound_numbers;
 use answers::source_calls::refusal_numbers;
@@ -16,7 +16,7 @@ ghost use Rattle.integers.specs.Tests.{refusal};
 ghost use Rattle.checking.specs.States.{sideOf};
 ghost use Rattle.reedgrit.specs.States.{preparedAnswer, stateTests, truthAfter, boundAfter};
 
-// Whether the premises and the negated consequent, of one atom or none, lead to a state; the state itself does not cross.
+// Whether the premises and the negated consequent, of one atom or none, lead to a state.
 pub fn prepared(premises: &[i32], consequent: &[i32]) -> StateAnswer
     ensures { λ r. ⌜ r ≡ preparedAnswer (now (premises .entry)) (now (consequent .entry)) ⌝ }
 {

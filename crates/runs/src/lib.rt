@@ -1,3 +1,2 @@
-// The run of edge finding as a function on values, and what it means: definitions (specs/) and theorems (proofs/). Its only code are the types of a run's
-// answer.
+// The run as a function on values, and the proof of demand 3 for it. Its only code are the types of a run's outcome.
 pub mod outcome;

@@ -1,1 +1,1 @@
-// Definitions (specs/) and theorems (proofs/) of scheduling on one machine; no code.
+// Scheduling on one machine: est, lct, p, ect, overloads, the edge-finding rule, schedules, reasons and checks. Definitions and theorems, no code.

@@ -30,15 +30,15 @@ use Rattle.task_changes.proofs.LeftOut.{without-length, without-all}
 use Rattle.task_changes.proofs.Sums.{sum-more, sum-without, sum-placed}
 
 -- A record of a list of durations: lawful where they are.
-pub record Listed (n : ℕ) (ds : List ℕ) : Type 0 where
+pub record Recordable (n : ℕ) (ds : List ℕ) : Type 0 where
   pub some : 1 ≤ n
   pub few : n ≤ TASKS
   pub long : length ds ≡ n
   pub lasts : (k : ℕ) → k < length ds → 1 ≤ getD ds k 0
   pub sum : sumOf ds ≤ DURATIONS
 
-listed-lawful : (n : ℕ) (ds : List ℕ) (stored : ℕ) → Listed n ds → stored ≡ sumOf ds → Lawful (record { count = n; durations = placed ds; total = stored })
-listed-lawful n ds stored l s = record {
+recordable-lawful : (n : ℕ) (ds : List ℕ) (stored : ℕ) → Recordable n ds → stored ≡ sumOf ds → Lawful (record { count = n; durations = placed ds; total = stored })
+recordable-lawful n ds stored l s = record {
   some = l .some;
   few = l .few;
   lasts = λ k q. subst (λ (x : ℕ). 1 ≤ x) (sym (placed-at ds k (omega (arith, l .long)))) (l .lasts k (omega (arith, l .long)));
@@ -68,7 +68,7 @@ module _ (r : DisjunctivePropagator) (l : Lawful r) (long : length (r .durations
   lasts k q = subst (λ (x : ℕ). 1 ≤ x) (sym (getD-take n (r .durations) k 0 (omega (arith, count)))) (l .lasts k (omega (arith, count)))
 
   pub added-lawful : (d : ℕ) → r .count < TASKS → 1 ≤ d → r .total + d ≤ DURATIONS → Lawful (added r d)
-  added-lawful d few last fits = listed-lawful (n + 1) (ds ++ (d ∷ [])) (r .total + d) (record {
+  added-lawful d few last fits = recordable-lawful (n + 1) (ds ++ (d ∷ [])) (r .total + d) (record {
     some = omega arith;
     few = omega arith;
     long = omega (arith, length-append ds (d ∷ []), count);
@@ -91,7 +91,7 @@ module _ (r : DisjunctivePropagator) (l : Lawful r) (long : length (r .durations
   part t q = omega (arith, l .stored, total-part (λ k. getD (r .durations) k 0) n t q)
 
   pub removed-lawful : (t : ℕ) → t < r .count → 2 ≤ r .count → Lawful (removed r t)
-  removed-lawful t q many = listed-lawful (n - 1) (without ds t) (r .total - getD (r .durations) t 0) (record {
+  removed-lawful t q many = recordable-lawful (n - 1) (without ds t) (r .total - getD (r .durations) t 0) (record {
     some = omega (arith, many);
     few = omega (arith, l .few);
     long = omega (arith, shorter, count);

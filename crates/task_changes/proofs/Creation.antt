@@ -1,4 +1,4 @@
--- Adding meets 1, 2 and 5 as creation does: of a lawful record, the number is that of creation with the durations of its tasks and the new one.
+-- Adding meets 1, 2 and 5 as creation does. For a lawful record, the number is that of creation with its durations and the new one.
 use mathlib.Core.Path.{_≡_, refl, sym, ap, _∙_}
 use mathlib.Core.Bool.{Bool, true}
 use mathlib.Core.Logic.{inl, inr}

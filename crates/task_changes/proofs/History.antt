@@ -25,7 +25,7 @@ use Rattle.task_changes.proofs.LeftOut.{without-few, without-length}
 use Rattle.task_changes.proofs.Sums.{sum-more, sum-without, sum-given}
 use Rattle.task_changes.proofs.ChangedRecords.{lasts, lasting, added-lawful, removed-lawful, addable, removable}
 
--- A record is that of these durations: they stand in its first places, with their sum.
+-- A record is that of these durations: they are in its first places, beside their sum.
 record Holds (r : DisjunctivePropagator) (ds : List ℕ) : Type 0 where
   count : r .count ≡ length ds
   array : r .durations ≡ placed ds

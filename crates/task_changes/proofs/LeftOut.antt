@@ -10,7 +10,7 @@ pub without-nil : (t : ℕ) → without [] t ≡ []
 unfolding without
 without-nil t = refl
 
--- a place past the end takes nothing off; nor does one number more, where it is the one that is left out
+-- one number more changes nothing, where it is the one that is left out
 pub without-same : (l : List ℕ) (x t : ℕ) → t ≡ length l → without (l ++ (x ∷ [])) t ≡ without l t
 unfolding without
 without-same [] x zero h = refl
@@ -37,7 +37,7 @@ without-length [] t h = absurd (omega arith)
 without-length (x ∷ xs) zero h = omega arith
 without-length (x ∷ xs) (suc t) h = omega (arith, without-length xs t (omega arith))
 
--- what holds of every number of a list holds of every one that is left
+-- what holds of every number of a list holds of every one that remains
 pub without-all : (P : ℕ → Type 0) (l : List ℕ) (t : ℕ) → ((k : ℕ) → k < length l → P (getD l k 0)) → (k : ℕ) → k < length (without l t) → P (getD (without l t) k 0)
 unfolding without
 without-all P [] t h k q = absurd (omega arith)

@@ -43,7 +43,7 @@ module _ (r : DisjunctivePropagator) where
     total = r .total - getD (r .durations) t 0;
   }
 
-  -- 20: a record that is not lawful; then, as for creation, 1: more than TASKS tasks; 2: a duration below 1; 5: a sum above DURATIONS
+  -- 20: a record that is not lawful. Then, as for creation, 1: more than TASKS tasks; 2: a duration below 1; 5: a sum above DURATIONS
   abbrev pub addTests : ℤ → List Test
   addTests d =
       test refused.RECORD (lawfulRecord r)
@@ -77,7 +77,7 @@ module _ (r : DisjunctivePropagator) where
     pub made : removeNumber t ≡ 0 → ChangeLeft (answered 0 []) (removed t) c
     pub lawful : removeNumber t ≡ 0 → Lawful (c .«record»)
 
-  -- the same on a lent record: what stands there at the end, and the answer
+  -- the same on a lent record: the record at the end, and the answer
   abbrev pub AddedLent : ℤ → Change → DisjunctivePropagator → Type 0
   AddedLent d answer after = TaskAdded d (record { «record» = after; answer = answer })
 

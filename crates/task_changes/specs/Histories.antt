@@ -1,4 +1,4 @@
--- Histories of a record: a creation, and then tasks added and taken off, each change made to the record that the one before left.
+-- Histories of a record: a creation, and then tasks added and removed. Each change is made to the record that the one before left.
 use mathlib.Core.List.{List, [], _∷_, _++_, map}
 use Prim.Native.Nat.{ℕ, zero, suc}
 use lib.IntN.{ℤ}
@@ -30,7 +30,7 @@ recordAfter (creation ds) = created ds .«record»
 recordAfter (adding h d) = leaves (addNumber (recordAfter h) d) (added (recordAfter h) (durationOf d)) (recordAfter h)
 recordAfter (removing h t) = leaves (removeNumber (recordAfter h) t) (removed (recordAfter h) t) (recordAfter h)
 
--- the durations of the tasks that it leaves, by number: an added one comes last, and one taken off is left out
+-- the durations of the tasks that it leaves, by number: an added one comes last, and a removed one is left out
 unfoldable pub durationsAfter : History → List ℕ
 durationsAfter (creation ds) = leaves (refusal (creationTests ds)) (map durationOf ds) []
 durationsAfter (adding h d) = leaves (addNumber (recordAfter h) d) (durationsAfter h ++ (durationOf d ∷ [])) (durationsAfter h)

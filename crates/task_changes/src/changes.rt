@@ -1,4 +1,4 @@
-// A task added to the record, or taken off.
+// A task added to the record, or removed.
 use integers::limits::DURATIONS;
 use integers::limits::TASKS;
 use integers::refused;

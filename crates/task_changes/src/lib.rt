@@ -1,3 +1,3 @@
-// Tasks added to a record and taken off.
+// A task added to the record or removed, and the stored total after any history.
 pub mod changes;
 pub mod lent;

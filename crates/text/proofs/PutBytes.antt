@@ -9,7 +9,7 @@ use lib.Seq.{sets, length-sets, take-suc, length-take-le}
 use Rattle.integers.proofs.Words.{sets-append}
 use Rattle.text.specs.DecimalText.{Puts}
 
--- the buffer stays as long as it was
+-- the buffer keeps its length
 pub puts-length : {before after bytes : List ℕ} {at next : ℕ} → Puts before after at bytes next → length after ≡ length before
 puts-length {before} {after} {bytes} {at} p = ap length (p .text) ∙ length-sets before at bytes
 

@@ -16,7 +16,7 @@ use Rattle.text.specs.declared.reading.Reading.the-variants as reading
 use Rattle.text.specs.declared.reading.Word.the-variants.{Empty, Digits, Wrong}
 use Rattle.text.proofs.Bytes.{after-digit, after-other, negative-over, positive-over}
 
--- ---- a magnitude that stays at the bound tells the same numbers apart
+-- ---- a magnitude that stops at the bound gives the same numbers
 large : (n : ℕ) (bs : List ℕ) → BEYOND ≤ n → BEYOND ≤ value n bs
 unfolding value
 large n [] h = h

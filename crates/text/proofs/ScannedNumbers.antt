@@ -117,8 +117,7 @@ scanned bs = scans (gathered (some [])) [] bs ∙ over-all [] (tokens bs) ∙ ap
     whole none = refl
     whole (some xs) = refl
 
--- ---- what a text's numbers give
--- after what was written stands what stood there
+-- ---- what a text's numbers give the places after what was written are unchanged
 past : {A : Type 0} (z ws : List A) (k : ℕ) (d : A) → length ws ≤ k → getD (overwritten z ws) k d ≡ getD z k d
 past z ws k d h =
     let e : k ≡ length ws + (k - length ws) = omega arith in

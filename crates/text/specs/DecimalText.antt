@@ -8,7 +8,7 @@ use lib.IntN.{ℤ, pos, negsuc}
 use lib.ListN.{length}
 use lib.Seq.{sets}
 
--- the digits of n: those of a tenth of n, where n has more than one, and then the last; k bounds how often that is done
+-- the digits of n: where n has more than one, those of a tenth of n, and then the last. k bounds the number of steps
 unfoldable pub figures : ℕ → ℕ → List ℕ
 figures zero n = (48 + n) ∷ []
 figures (suc k) n = elim (ltb n 10) [ true ↦ (48 + n) ∷ [] | false ↦ figures k (n / 10) ++ (48 + n % 10) ∷ [] ]
@@ -22,7 +22,7 @@ unfoldable pub decimal : ℤ → List ℕ
 decimal (pos n) = natural n
 decimal (negsuc n) = 45 ∷ natural (suc n)
 
--- `bytes` stand in the buffer from `at` on, the rest is unchanged, and `next` is the place after them
+-- `bytes` are in the buffer from `at` on, the rest is unchanged, and `next` is the place after them
 pub record Puts (before after : List ℕ) (at : ℕ) (bytes : List ℕ) (next : ℕ) : Type 0 where
   pub text : after ≡ sets before at bytes
   pub end : next ≡ at + length bytes

@@ -1,5 +1,5 @@
--- Numbers in text: words parted by white space, each a decimal number that fits an i32.
--- A byte is the number of its ASCII code: 45 is the minus sign, and 48 to 57 are the digits.
+-- Numbers in text: words separated by white space, each a decimal number that fits an i32. A byte is the number of its ASCII code: 45 is the minus sign, and
+-- 48 to 57 are the digits.
 use mathlib.Core.Bool.{Bool, true, false, _&&_, _||_}
 use mathlib.Core.List.{List, [], _∷_, _++_}
 use mathlib.Core.Option.{Option, none, some}

@@ -1,4 +1,4 @@
-// Whole numbers read from bytes and written to them, and the words of a line.
+// Whole numbers read from bytes and written as decimal text, and the words of a line.
 pub mod reading;
 pub mod words;
 pub mod writing;

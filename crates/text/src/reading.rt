@@ -1,4 +1,4 @@
-// Numbers in text: words parted by white space, each a decimal number that fits an i32.
+// Numbers in text: words separated by white space, each a decimal number that fits an i32.
 use integers::limits;
 use integers::limits::TASKS;
 use integers::moments::start_of;
@@ -7,7 +7,8 @@ ghost use Prim.Native.Nat.{_+_, min};
 ghost use mathlib.Core.List.{foldl};
 ghost use lib.ListN.{set};
 ghost use Rattle.text.specs.Numbers.{space, ranged, numbersOf};
-ghost use Rattle.text.specs.Scanner.{digitAfter, nextOf, given, readingOf, MOST, noNumbers, notNumbers, withNumber, withReading, atStart, endOf, stepOf};
+ghost use Rattle.text.specs.Scanner.{digitAfter, nextOf, given, readingOf, MOST, noNumbers, notNumbers};
+ghost use Rattle.text.specs.Scanner.{withNumber, withReading, atStart, endOf, stepOf};
 ghost use Rattle.text.specs.Scanner.{gathered};
 
 // How many numbers are kept: a count of tasks, and three numbers for each task.
@@ -31,7 +32,7 @@ pub enum Word {
     Empty,
     // a minus sign and nothing else
     Minus,
-    // digits: whether a minus sign stands before them, and their value, which stops at BEYOND
+    // digits: whether a minus sign comes before them, and their value, which stops at BEYOND
     Digits(bool, u32),
     // bytes that no number begins with
     Wrong,
@@ -258,7 +259,7 @@ impl Scanner {
     }
 }
 
-// The numbers of a text that is at hand whole.
+// The numbers of a whole text.
 pub fn numbers_of(bytes: &[u8]) -> Numbers
     ensures { λ r. ⌜ r ≡ gathered (numbersOf (now (bytes .entry))) ⌝ }
 {

@@ -1,4 +1,4 @@
-// Words of a line that is at hand whole.
+// The words of a whole line.
 use crate::reading::is_space;
 ghost use mathlib.Core.Path.{_≡_};
 ghost use Prim.Native.Nat.{_+_};

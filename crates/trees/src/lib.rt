@@ -1,4 +1,4 @@
-// The theta tree and the theta-lambda tree of the disjunctive propagator: complete binary trees over the tasks in order of earliest start.
+// The theta tree and the theta-lambda tree, complete binary trees over the tasks by earliest start; their nodes, and the ect as an answer.
 pub mod complete_tree;
 pub mod disjunctive_task;
 pub mod ect;

@@ -1,4 +1,4 @@
--- The invariant `Passed`: no start before `free` is free of the first i tasks, and `free` is free of them; `stops` closes it where the next task begins late enough.
+-- The invariant `Passed`: `free` is free of the first i tasks, and no start before it is. Where the next task starts late enough, `stops` ends the pass.
 use mathlib.Core.Path.{_≡_, refl}
 use mathlib.Core.Logic.{⊎-elim}
 use Prim.Native.Nat.{ℕ, _+_, _-_, _≤_, _<_}

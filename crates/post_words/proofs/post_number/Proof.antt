@@ -1,4 +1,4 @@
--- At each return the tests before it are passed and its own is not; the two words are read only where the post is inside its slice.
+-- At each return the tests before it are passed and its own is not. The two words are read only where the post is inside its slice.
 use mathlib.Core.Path.{_≡_, sym, ap, _∙_}
 use mathlib.Core.Bool.{true}
 use mathlib.Core.List.{[], _∷_}

@@ -1,4 +1,4 @@
--- Where the number is 0 the post can be read, so that its stretch lies inside the atoms.
+-- Where the number is 0 the post can be read, so its stretch is inside the atoms.
 use mathlib.Core.Path.{sym, _∙_}
 use native.Mathlib.Omega.{arith}
 use borrow.Author.Needs.{needs}

@@ -1,5 +1,5 @@
--- A change of a lent record, with an argument of any type: a walk, by hand, of the MIR that `lent::add` and `lent::remove` have. The borrow is opened, the record is copied out and passed on with the
--- argument, and the record that the call returns is stored; the borrow is closed at it.
+-- A change of a lent record, with an argument of any type: a walk, by hand, of the MIR that `lent::add` and `lent::remove` have. The borrow is opened, and the record is copied out and passed on
+-- with the argument. The record that the call returns is stored, and the borrow is closed.
 use mathlib.Core.Path.{_≡_, refl, ap}
 use Prim.Native.Nat.{ℕ}
 use mathlib.Core.List.{List, [], _∷_}
@@ -65,7 +65,7 @@ storing w core = record {
 abbrev machP : DisjunctivePropagator → Val
 machP d = LL.tuple-val P.the-type P′.the-laws (P.the-type .to d)
 
--- the argument's type, a number's; its machine value; the name of what is called, and what that says of the record, the argument and what it returns
+-- the argument's type, a number's, and its machine value; the name of the called function, and its contract
 module _ (w : Width) (D : Type 0) (coded : Coded D) (own : D → List Val → Fml) (val : D → Val) (core : Name) (Said : DisjunctivePropagator → D → Changed → Type 0) where
   abbrev N : RattleType
   N = plain-type D coded (tyInt w ∷ []) own

@@ -2,6 +2,7 @@
 use pumpkin_checking::{IntExt, VariableState};
 
 use crate::api::*;
+use crate::judge::Task;
 
 #[derive(Default)]
 pub struct Session {
@@ -9,10 +10,10 @@ pub struct Session {
     state: VariableState<Atom>,
 }
 
-fn numbers(words: &[&str]) -> Option<Vec<i64>> {
+pub fn numbers(words: &[&str]) -> Option<Vec<i64>> {
     words.iter().map(|w| w.parse().ok()).collect()
 }
-fn join<T: ToString>(v: &[T]) -> String {
+pub fn join<T: ToString>(v: &[T]) -> String {
     v.iter().map(|x| format!(" {}", x.to_string())).collect()
 }
 fn atoms(v: &[i64]) -> Option<Vec<Atom>> {
@@ -114,6 +115,14 @@ fn panic_row(state: &VariableState<Atom>, durations: &[i32], consequent: Option<
 }
 
 impl Session {
+    /// The created tasks with these ranges: `e0 l0 e1 l1 ..`.
+    pub fn tasks(&self, ranges: &str) -> Option<Vec<Task>> {
+        let durations = &self.machine.as_ref()?.durations;
+        let v = numbers(&ranges.split_whitespace().collect::<Vec<_>>())?;
+        let task = |(r, p): (&[i64], &i32)| Task { e: r[0], l: r[1], p: i64::from(*p) };
+        (v.len() == 2 * durations.len()).then(|| v.chunks(2).zip(durations).map(task).collect())
+    }
+
     fn run_words(&mut self, line: &str, mirror: bool, fresh: bool, out: &mut String) -> Option<()> {
         let machine = self.machine.as_mut()?;
         let parts: Vec<Vec<&str>> = line.split(';').map(|p| p.split_whitespace().collect()).collect();
@@ -300,6 +309,11 @@ impl Session {
                 out.push_str(&program(&text));
             }
             "page" | "free" | "charges" | "busiest" | "precede" | "precede-why" | "precede-bound" => self.request(line, out)?,
+            "conflict" | "conflict-page" => {
+                let tasks = self.tasks(line.strip_prefix(words[0])?.split(';').next()?)?;
+                let found = crate::conflicts::conflict(&tasks)?;
+                out.push_str(&if words[0] == "conflict" { crate::conflicts::show(&found) } else { crate::conflicts::page(&tasks, &found) });
+            }
             "check" | "check-mirrored" => {
                 let parts: Vec<Vec<&str>> = line.split(';').map(|p| p.split_whitespace().collect()).collect();
                 let d: Vec<i32> = numbers(&parts[0][1..])?.iter().map(|x| *x as i32).collect();

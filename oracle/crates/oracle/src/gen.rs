@@ -155,6 +155,20 @@ pub fn holes_met(rng: &mut Rng, tasks: &[Task], p: &[i64]) -> Vec<Vec<i32>> {
     holes
 }
 
+/// Lowers the latest start of one task that a run posts, to just below its bound, where no set overloads then: the task is late. Says whether there is one.
+pub fn made_late(tasks: &mut [Task]) -> bool {
+    let d: Vec<i32> = tasks.iter().map(|t| t.p as i32).collect();
+    for (task, bound, _) in Machine::create(&d).run(ranges(&pairs(tasks), &[])).posts {
+        let before = tasks[task];
+        tasks[task].l = before.l.min(i64::from(bound) - 1);
+        if quick_overload(&d, &pairs(tasks)).is_none() {
+            return true;
+        }
+        tasks[task] = before;
+    }
+    false
+}
+
 pub fn gen_runs(seed: u64, count: usize, nmax: i64, spread: i64, what: &str) {
     let mut rng = Rng(seed);
     let mut made = 0;
@@ -165,7 +179,12 @@ pub fn gen_runs(seed: u64, count: usize, nmax: i64, spread: i64, what: &str) {
         say(&mut s, format!("create{}", p.iter().map(|d| format!(" {d}")).collect::<String>()));
         let series = if what == "runs" { rng.to(1, 4) } else { 1 };
         for _ in 0..series {
-            let tasks = ranges_for(&mut rng, &p, spread);
+            let mut tasks = ranges_for(&mut rng, &p, spread);
+            let mut more = if what == "late" { 50 } else { 0 };
+            while more > 0 && !made_late(&mut tasks) {
+                tasks = ranges_for(&mut rng, &p, spread);
+                more -= 1;
+            }
             let mut line: String = if what == "mirror" { "mirror" } else { "run" }.into();
             line.extend(tasks.iter().map(|t| format!(" {} {}", t.e, t.l)));
             if what == "barred" || what == "met" {

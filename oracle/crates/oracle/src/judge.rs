@@ -105,6 +105,19 @@ impl Admitted {
     }
 }
 
+/// The starts of tasks with these ranges and barred starts.
+pub fn whole(tasks: &[Task], holes: &[Vec<i32>]) -> Vec<Admitted> {
+    tasks
+        .iter()
+        .enumerate()
+        .map(|(k, t)| Admitted {
+            lower: Some(t.e),
+            upper: Some(t.l),
+            holes: holes.get(k).map_or(vec![], |h| h.iter().map(|v| *v as i64).collect()),
+        })
+        .collect()
+}
+
 /// Is there a choice of starts, one for each task, with no two overlapping? A task without a lower
 /// bound fits before all others, one without an upper bound after all others (each only if its set
 /// is not empty, which a missing bound grants); the rest are tried in every order, each begun as

@@ -2,6 +2,7 @@ mod api;
 mod audit;
 mod bench;
 mod cli;
+mod conflicts;
 mod r#gen;
 mod judge;
 mod requests;
@@ -40,6 +41,7 @@ fn main() {
         Some("gen-mirror") => r#gen::gen_runs(seed, count, nmax, spread, "mirror"),
         Some("gen-barred") => r#gen::gen_runs(seed, count, nmax, spread, "barred"),
         Some("gen-met") => r#gen::gen_runs(seed, count, nmax, spread, "met"),
+        Some("gen-late") => r#gen::gen_runs(seed, count, nmax, spread, "late"),
         Some("gen-quick") => r#gen::gen_runs(seed, count, nmax, spread, "quick"),
         Some("gen-checks") => r#gen::gen_checks(seed, count, nmax, spread),
         Some("gen-kinds") => r#gen::gen_kinds(seed, count, nmax, spread),
@@ -48,6 +50,16 @@ fn main() {
         Some("gen-program") => r#gen::gen_program(seed, count, nmax, spread),
         Some("gen-states") => r#gen::gen_states(seed, count),
         Some("audit") => audit::audit(args.get(1).map_or("all", String::as_str), number(2, 1) as u64, number(3, 20000) as usize),
+        Some("judge") => {
+            let file = |k: usize| std::fs::read_to_string(args.get(k).expect("a file")).expect("a file that can be read");
+            match conflicts::judge(&file(1), &file(2)) {
+                Ok(told) => println!("judged over all sets: {told}"),
+                Err(wrong) => {
+                    print!("{wrong}");
+                    std::process::exit(1);
+                }
+            }
+        }
         Some("bench") => bench::bench(),
         Some(other) => {
             eprintln!("unknown: {other}");

@@ -1,4 +1,4 @@
--- Each case gives its own numbers, and the leaf changes stand beside them.
+-- Each case gives its own numbers; the leaf changes are beside them.
 use mathlib.Core.Path.{sym, subst, _∙_}
 use native.Mathlib.Omega.{arith}
 use borrow.Author.Needs.{needs}

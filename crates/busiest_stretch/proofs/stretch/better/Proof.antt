@@ -1,4 +1,4 @@
--- Each early return keeps the best (`stays`), as x does not count, covers less, or covers as much from a later start; else x takes its place (`gives-way`).
+-- Each early return keeps the best (`stays`): x does not count, covers less, or covers as much from a later start. Otherwise x is the best (`gives-way`).
 use mathlib.Core.Path.{sym, _∙_}
 use mathlib.Core.Logic.{inl, inr}
 use native.Mathlib.Omega.{arith}

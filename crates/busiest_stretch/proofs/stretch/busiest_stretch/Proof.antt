@@ -1,4 +1,4 @@
--- The search runs in moments: the first and the last start are those of the order's ends, and its answer is carried back to whole numbers.
+-- The search runs in moments. The first and the last start are those of the order's ends, and the answer is turned back into whole numbers.
 use mathlib.Core.Path.{_≡_, sym, ap, _∙_}
 use Prim.Native.Nat.{ℕ, _-_, _<_}
 use native.Mathlib.Omega.{arith}

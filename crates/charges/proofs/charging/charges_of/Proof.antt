@@ -52,7 +52,7 @@ loop-holds c =
     (omega arith, (sym (filled-none f noTasks), (sym (total-none f), omega arith)))
 
 element-copy-out-charge-of : tie.Need-element-copy-out-charge-of Inv-loop μ-loop
-element-copy-out-charge-of c = omega (arith, c .before .before .before .pre .started .few)
+element-copy-out-charge-of c = omega (arith, c .before .before .before .pre .sortable .few)
 
 shared-slice-copy-out-charge-of-2 : tie.Need-shared-slice-copy-out-charge-of-2 Inv-loop μ-loop
 shared-slice-copy-out-charge-of-2 c = omega (arith, c .before .before .before .before .pre .dues .long)
@@ -61,16 +61,16 @@ charge-of-requires : tie.Need-charge-of-requires Inv-loop μ-loop
 charge-of-requires c κs =
     let s = c .before .before .before .before .before in
     let i = c .before .before .before .before .loop .i in (
-      subst StartFits (sym (back-of w32 (startAt (s .args .earliest .now) i) (c .before .before .charge-of-arg .given))) (s .pre .started .starts i (omega arith)),
+      subst StartFits (sym (back-of w32 (startAt (s .args .earliest .now) i) (c .before .before .charge-of-arg .given))) (s .pre .sortable .starts i (omega arith)),
       s .pre .durations i (omega arith),
       subst DueFits (sym (back-of w32 (getD (s .args .due .now) i (pos 0)) (c .charge-of-arg3 .given))) (s .pre .dues .within i (omega (arith, s .pre .dues .long))),
     )
 
 array-write-out : tie.Need-array-write-out Inv-loop μ-loop
-array-write-out c = let s = c .before .before .before .before .before .before in omega (arith, s .pre .started .few)
+array-write-out c = let s = c .before .before .before .before .before .before in omega (arith, s .pre .sortable .few)
 
 add-sum : tie.Need-add-sum Inv-loop μ-loop
-add-sum c = let head = c .before .before .before .before .before in record { fits = omega (arith, cost-small c, head .loop .inv .1 .1 .1, head .before .pre .started .few) }
+add-sum c = let head = c .before .before .before .before .before in record { fits = omega (arith, cost-small c, head .loop .inv .1 .1 .1, head .before .pre .sortable .few) }
 
 loop-again : tie.Need-loop-again Inv-loop μ-loop
 loop-again c =

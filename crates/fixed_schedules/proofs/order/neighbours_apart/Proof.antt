@@ -60,28 +60,28 @@ seen c =
     let d = getD (s .args .durations .now) j 0 in
     ap (λ (m : ℕ). leb (m + d) (c .moment-of2 .result)) (moment-is (c .before .before .before))
     ∙ ap (λ (m : ℕ). leb (moment zeroAt (startAt es j) + d) m) (c .moment-of2 .ensures ∙ ap (moment zeroAt) (back-of w32 (startAt es k) (c .before .moment-of-arg2 .given)))
-    ∙ ends-by-test (startAt es j) (startAt es k) d (s .pre .started .starts j (task-small turn)) (s .pre .started .starts k (next-small turn))
+    ∙ ends-by-test (startAt es j) (startAt es k) d (s .pre .sortable .starts j (task-small turn)) (s .pre .sortable .starts k (next-small turn))
 
 loop-holds : tie.Need-loop-holds Inv-loop μ-loop
 loop-holds c = (omega arith, all-none _)
 
 element-copy-out-task : tie.Need-element-copy-out-task Inv-loop μ-loop
-element-copy-out-task c = omega (arith, c .before .before .pre .started .few)
+element-copy-out-task c = omega (arith, c .before .before .pre .sortable .few)
 
 element-copy-out-next : tie.Need-element-copy-out-next Inv-loop μ-loop
-element-copy-out-next c = omega (arith, c .before .before .before .pre .started .few, c .before .loop-test .taken)
+element-copy-out-next c = omega (arith, c .before .before .before .pre .sortable .few, c .before .loop-test .taken)
 
 mul-moment-of : tie.Need-mul-moment-of Inv-loop μ-loop
-mul-moment-of c = record { fits = omega (arith, task-small (c .before .before), c .before .before .before .before .pre .started .few) }
+mul-moment-of c = record { fits = omega (arith, task-small (c .before .before), c .before .before .before .before .pre .sortable .few) }
 
 shared-slice-copy-out-moment-of : tie.Need-shared-slice-copy-out-moment-of Inv-loop μ-loop
 shared-slice-copy-out-moment-of c = task-small (c .before .before)
 
 mul-end : tie.Need-mul-end Inv-loop μ-loop
-mul-end c = let turn = c .before .before .before .before in record { fits = omega (arith, task-small turn, begin turn .pre .started .few) }
+mul-end c = let turn = c .before .before .before .before in record { fits = omega (arith, task-small turn, begin turn .pre .sortable .few) }
 
 element-copy-out-end : tie.Need-element-copy-out-end Inv-loop μ-loop
-element-copy-out-end c = let turn = c .before .before .before .before in omega (arith, task-small turn, begin turn .pre .started .few)
+element-copy-out-end c = let turn = c .before .before .before .before in omega (arith, task-small turn, begin turn .pre .sortable .few)
 
 add-end : tie.Need-add-end Inv-loop μ-loop
 add-end c =
@@ -89,10 +89,10 @@ add-end c =
     let s = begin turn in
     let j = task-of turn in
     let q = task-small turn in
-    record { fits = omega (arith, moment-is (c .before), start-moment (startAt (s .args .earliest .now) j) (s .pre .started .starts j q), s .pre .durations j q) }
+    record { fits = omega (arith, moment-is (c .before), start-moment (startAt (s .args .earliest .now) j) (s .pre .sortable .starts j q), s .pre .durations j q) }
 
 mul-moment-of-2 : tie.Need-mul-moment-of-2 Inv-loop μ-loop
-mul-moment-of-2 c = let turn = c .before .before .before .before .before in record { fits = omega (arith, next-small turn, begin turn .pre .started .few) }
+mul-moment-of-2 c = let turn = c .before .before .before .before .before in record { fits = omega (arith, next-small turn, begin turn .pre .sortable .few) }
 
 shared-slice-copy-out-moment-of-2 : tie.Need-shared-slice-copy-out-moment-of-2 Inv-loop μ-loop
 shared-slice-copy-out-moment-of-2 c = next-small (c .before .before .before .before .before)

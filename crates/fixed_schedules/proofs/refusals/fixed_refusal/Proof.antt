@@ -11,7 +11,7 @@ use Rattle.records.proofs.RefusedRuns.{ranges-passed, accepted-ranges}
 use Rattle.fixed_schedules.specs.FixedSchedules.{oneStartAt, allApart}
 use Rattle.fixed_schedules.proofs.Neighbours.{neighbours-are}
 use Rattle.fixed_schedules.proofs.FixedRefused.{tested-not, ranges-first, more-starts, overlapping, none-wrong}
-use Rattle.fixed_schedules.proofs.AcceptedSchedules.{started, lasting, listed}
+use Rattle.fixed_schedules.proofs.AcceptedSchedules.{sortable, lasting, traversable}
 use Rattle.fixed_schedules.proofs.refusals.fixed_refusal.Statement.{statement}
 use Rattle.fixed_schedules.proofs.refusals.fixed_refusal.Tie as tie
 
@@ -60,11 +60,11 @@ returns-2 c =
     (sym (more-starts (a .t1) (a .earliest .now) (a .latest .now) (passed (test .before)) (sym (test .one-start .ensures) ∙ not-true _ (c .before .if2 .taken))))
 
 order-of-requires : tie.Need-order-of-requires
-order-of-requires c κs = let a = c .before .before .before .before .before .before .args in started (a .t1) (a .earliest .now) (a .latest .now) (held (c .before .before))
+order-of-requires c κs = let a = c .before .before .before .before .before .before .args in sortable (a .t1) (a .earliest .now) (a .latest .now) (held (c .before .before))
 
 neighbours-apart-requires : tie.Need-neighbours-apart-requires
 neighbours-apart-requires c κs = let ranged = c .before .before .before .before .before .before in let a = ranged .before .before .before .before .args in
-    listed (a .t1) (a .earliest .now) (a .latest .now) (held ranged) _ (c .before .before .before .order-of .ensures)
+    traversable (a .t1) (a .earliest .now) (a .latest .now) (held ranged) _ (c .before .before .before .order-of .ensures)
 
 returns-3 : tie.Need-returns-3
 returns-3 c =

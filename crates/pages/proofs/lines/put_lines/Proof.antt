@@ -51,19 +51,19 @@ loop-holds : tie.Need-loop-holds Inv-loop μ-loop
 loop-holds c = let a = c .before .before .before .before .before .args in (omega arith, refl, omega arith, puts-none (lineAt (a .durations .now) (a .earliest .now)) (a .order .now) _ _)
 
 element-copy-out-task : tie.Need-element-copy-out-task Inv-loop μ-loop
-element-copy-out-task c = let few = begin c .pre .0 .started .few in omega (arith, few, c .loop-test .taken)
+element-copy-out-task c = let few = begin c .pre .0 .sortable .few in omega (arith, few, c .loop-test .taken)
 
 mul-put-line : tie.Need-mul-put-line Inv-loop μ-loop
-mul-put-line c = let turn = c .before .before in record { fits = omega (arith, small turn, begin turn .pre .0 .started .few) }
+mul-put-line c = let turn = c .before .before in record { fits = omega (arith, small turn, begin turn .pre .0 .sortable .few) }
 
 shared-slice-copy-out-put-line : tie.Need-shared-slice-copy-out-put-line Inv-loop μ-loop
 shared-slice-copy-out-put-line c = small (c .before .before)
 
 mul-put-line-2 : tie.Need-mul-put-line-2 Inv-loop μ-loop
-mul-put-line-2 c = let turn = c .before .before .before in record { fits = omega (arith, small turn, begin turn .pre .0 .started .few) }
+mul-put-line-2 c = let turn = c .before .before .before in record { fits = omega (arith, small turn, begin turn .pre .0 .sortable .few) }
 
 element-copy-out-put-line : tie.Need-element-copy-out-put-line Inv-loop μ-loop
-element-copy-out-put-line c = let turn = c .before .before .before in omega (arith, small turn, begin turn .pre .0 .started .few)
+element-copy-out-put-line c = let turn = c .before .before .before in omega (arith, small turn, begin turn .pre .0 .sortable .few)
 
 put-line-requires : tie.Need-put-line-requires Inv-loop μ-loop
 unfolding bytesOf
@@ -74,8 +74,8 @@ put-line-requires c κs =
     let heading = turn .before .before .before .before .put-heading .ensures in
     let q = small turn in (
       omega (arith, l .inv .1, l .inv .2, heading .end, puts-length heading, s .pre .1, turn .loop-test .taken),
-      omega (arith, q, s .pre .0 .started .few),
-      rw (start-is (c .before)) (s .pre .0 .started .starts (task-of turn) q),
+      omega (arith, q, s .pre .0 .sortable .few),
+      rw (start-is (c .before)) (s .pre .0 .sortable .starts (task-of turn) q),
       s .pre .0 .durations (task-of turn) q,
     )
 
@@ -91,7 +91,7 @@ loop-again c =
       omega (arith, turn .loop-test .taken),
       puts-length w
           ∙ l .inv .1,
-      omega (arith, w .end, l .inv .2, each-line ds es (s .pre .0 .started) (s .pre .0 .durations) k (small turn)),
+      omega (arith, w .end, l .inv .2, each-line ds es (s .pre .0 .sortable) (s .pre .0 .durations) k (small turn)),
       puts-next (lineAt ds es) (s .args .order .now) (l .i) (omega (arith, s .pre .0 .long, turn .loop-test .taken)) (l .inv .3) w,
     )
 

@@ -4,7 +4,7 @@ use native.Mathlib.Omega.{arith}
 use lib.ListN.{length, take}
 use borrow.Author.Needs.{needs}
 use Rattle.fixed_schedules.specs.FixedSchedules.{orderOf}
-use Rattle.fixed_schedules.proofs.AcceptedSchedules.{input-of, listed}
+use Rattle.fixed_schedules.proofs.AcceptedSchedules.{input-of, traversable}
 use Rattle.pages.specs.Pages.{pageNumber, AcceptedPage}
 use Rattle.pages.proofs.PageRefused.{accepted-page}
 use Rattle.pages.proofs.PageLines.{refused, written}
@@ -31,7 +31,7 @@ put-lines-requires c κs =
     let passed = c .before .before .before .before .before in
     let a = passed .before .before .before .args in
     let h = held passed in
-    (listed (a .t1) (a .earliest .now) (a .latest .now) (input-of (h .schedule)) _ (sorted passed), omega (arith, h .room, h .schedule .counts .earliest))
+    (traversable (a .t1) (a .earliest .now) (a .latest .now) (input-of (h .schedule)) _ (sorted passed), omega (arith, h .room, h .schedule .counts .earliest))
 
 returns-2 : tie.Need-returns-2
 returns-2 c =

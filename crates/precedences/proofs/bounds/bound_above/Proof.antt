@@ -7,7 +7,7 @@ use mir.Syntax.{w32}
 use Rattle.integers.specs.Moments.{instant, zeroAt}
 use Rattle.integers.proofs.Ints.{back-of}
 use Rattle.trees.specs.Ects.{exceeds, raisedTo}
-use Rattle.precedences.specs.PredecessorArrays.{boundAt, Ranged}
+use Rattle.precedences.specs.PredecessorArrays.{boundAt, Boundable}
 use Rattle.precedences.proofs.BoundAnswers.{bound-left, none-left}
 use borrow.Author.Needs.{needs}
 use borrow.Author.Tests.{not-true, not-false}
@@ -19,7 +19,7 @@ abbrev start : tie.After-bound-of → tie.Start
 start t = t .before .before
 
 -- the test is the definition's
-tested : (x : tie.After-exceeds) → let a = start (x .before) .args in (f : Ranged (a .n) (a .est .now) (a .lst .now) (a .durations .now))
+tested : (x : tie.After-exceeds) → let a = start (x .before) .args in (f : Boundable (a .n) (a .est .now) (a .lst .now) (a .durations .now))
     → x .exceeds .result ≡ exceeds (boundAt (f .J) (a .i)) (getD (a .est .now) (a .i) 0)
 tested x f = x .exceeds .ensures ∙ ap (λ (o : Option ℕ). exceeds o (getD (start (x .before) .args .est .now) (start (x .before) .args .i) 0)) (x .before .bound-of .ensures f)
 

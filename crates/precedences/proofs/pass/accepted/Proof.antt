@@ -2,8 +2,8 @@
 use mathlib.Core.Path.{_≡_}
 use lib.ListN.{length}
 use Rattle.integers.specs.Limits.{TASKS}
-use Rattle.precedences.specs.PredecessorArrays.{Ranged}
-use Rattle.precedences.proofs.AcceptedArrays.{ranged}
+use Rattle.precedences.specs.PredecessorArrays.{Boundable}
+use Rattle.precedences.proofs.AcceptedArrays.{boundable}
 use Rattle.precedences.proofs.PassContract.{some-past, none-past}
 use borrow.Author.Needs.{needs}
 use Rattle.precedences.proofs.pass.accepted.Statement.{statement}
@@ -23,11 +23,11 @@ est c = lst c .before .before
 abbrev start : tie.After-durations2 → tie.Start
 start c = est c .before .before .before .before
 
-abbrev ready : (c : tie.After-durations2) → let r = start c .args .«record» in Ranged (r .count) (est c .moments-of .last .0) (lst c .moments-of2 .last .0) (r .durations)
+abbrev ready : (c : tie.After-durations2) → let r = start c .args .«record» in Boundable (r .count) (est c .moments-of .last .0) (lst c .moments-of2 .last .0) (r .durations)
 ready c =
     let s = start c in
     let a = s .args in
-    ranged (a .«record») (a .earliest .now) (a .latest .now) (s .pre) (long s) (est c .moments-of .ensures) (lst c .moments-of2 .ensures)
+    boundable (a .«record») (a .earliest .now) (a .latest .now) (s .pre) (long s) (est c .moments-of .ensures) (lst c .moments-of2 .ensures)
 
 raised-starts-requires : tie.Need-raised-starts-requires
 raised-starts-requires c κs = ready c

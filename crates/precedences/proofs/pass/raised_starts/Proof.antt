@@ -6,7 +6,7 @@ use native.Mathlib.Omega.{arith}
 use Rattle.integers.specs.FilledLists.{filled, noTasks}
 use Rattle.integers.proofs.FilledLists.{filled-none, filled-store}
 use Rattle.trees.specs.Ects.{raisedTo}
-use Rattle.precedences.specs.PredecessorArrays.{Ranged}
+use Rattle.precedences.specs.PredecessorArrays.{Boundable}
 use Rattle.precedences.specs.PassArrays.{raisedAt}
 use borrow.Author.Needs.{needs}
 use Rattle.precedences.proofs.pass.raised_starts.Statement.{statement}
@@ -14,8 +14,8 @@ use Rattle.precedences.proofs.pass.raised_starts.Tie as tie
 
 -- the starts below i are raised
 record Loop (est lst durations : List ℕ) (n : ℕ) (raised : List ℕ) (i : ℕ) : Type 0 where
-  ranged : Ranged n est lst durations
-  at : (f : Ranged n est lst durations) → raised ≡ filled (raisedAt (f .J)) i noTasks
+  boundable : Boundable n est lst durations
+  at : (f : Boundable n est lst durations) → raised ≡ filled (raisedAt (f .J)) i noTasks
   small : i ≤ n
 
 abbrev Inv-loop : tie.InvT-loop
@@ -25,20 +25,20 @@ abbrev μ-loop : tie.MeasureT-loop
 μ-loop est lst durations n raised₀ i₀ raised i = n - i
 
 loop-holds : tie.Need-loop-holds Inv-loop μ-loop
-loop-holds c = record { ranged = c .pre; at = λ f. sym (filled-none (raisedAt (f .J)) noTasks); small = omega arith }
+loop-holds c = record { boundable = c .pre; at = λ f. sym (filled-none (raisedAt (f .J)) noTasks); small = omega arith }
 
 bound-of-requires : tie.Need-bound-of-requires Inv-loop μ-loop
-bound-of-requires c κs = (c .before .loop .inv .ranged, omega arith)
+bound-of-requires c κs = (c .before .loop .inv .boundable, omega arith)
 
 element-copy-out-raised : tie.Need-element-copy-out-raised Inv-loop μ-loop
-element-copy-out-raised c = omega (arith, c .before .before .loop .inv .ranged .held .few)
+element-copy-out-raised c = omega (arith, c .before .before .loop .inv .boundable .held .few)
 
 loop-again : tie.Need-loop-again Inv-loop μ-loop
 loop-again c =
     let l = c .before .before .before .before .loop in
     let q : l .i < c .before .before .before .before .before .args .n = omega arith in
     record {
-      ranged = l .inv .ranged;
+      boundable = l .inv .boundable;
       at = λ f. filled-store (raisedAt (f .J)) noTasks (l .raised) (l .i) (c .raised .result) (l .inv .at f)
           (c .raised .ensures ∙ ap₂ raisedTo (f .held .start (l .i) q) (c .before .before .bound-of .ensures f));
       small = omega arith;

@@ -1,9 +1,9 @@
--- The two arrays of moments hold the ranges (`ranged`), and the reason over moments is that over whole numbers.
+-- The two arrays of moments hold the ranges (`boundable`), and the reason over moments is that over whole numbers.
 use mathlib.Core.Path.{_≡_}
 use lib.ListN.{length}
 use Rattle.integers.specs.Limits.{TASKS}
-use Rattle.precedences.specs.PredecessorArrays.{Ranged}
-use Rattle.precedences.proofs.AcceptedArrays.{ranged}
+use Rattle.precedences.specs.PredecessorArrays.{Boundable}
+use Rattle.precedences.proofs.AcceptedArrays.{boundable}
 use Rattle.precedences.proofs.ReasonContract.{gave}
 use borrow.Author.Needs.{needs}
 use Rattle.precedences.proofs.reason.accepted_reason.Statement.{statement}
@@ -20,11 +20,11 @@ est c = c .before .before
 abbrev start : tie.After-moments-of2 → tie.Start
 start c = est c .before .before .before
 
-abbrev ready : (c : tie.After-moments-of2) → let r = start c .args .«record» in Ranged (r .count) (est c .moments-of .last .0) (c .moments-of2 .last .0) (r .durations)
+abbrev ready : (c : tie.After-moments-of2) → let r = start c .args .«record» in Boundable (r .count) (est c .moments-of .last .0) (c .moments-of2 .last .0) (r .durations)
 ready c =
     let s = start c in
     let a = s .args in
-    ranged (a .«record») (a .earliest .now) (a .latest .now) (s .pre .0) (long s) (est c .moments-of .ensures) (c .moments-of2 .ensures)
+    boundable (a .«record») (a .earliest .now) (a .latest .now) (s .pre .0) (long s) (est c .moments-of .ensures) (c .moments-of2 .ensures)
 
 write-reason-requires : tie.Need-write-reason-requires
 write-reason-requires c κs = let m = c .before .before .before .before in let p = start m .pre .1 in (ready m, p .small, p .room)

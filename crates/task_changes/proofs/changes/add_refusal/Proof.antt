@@ -1,4 +1,4 @@
--- At each return the tests before it are passed and its own is not; room for the sum is tested by what the stored total leaves.
+-- At each return the tests before it are passed and its own is not. The sum is tested by what the stored total leaves.
 use mathlib.Core.Path.{_≡_, sym, ap, subst, _∙_}
 use mathlib.Core.List.{[], _∷_}
 use Prim.Native.Nat.{_+_, _≤_}

@@ -1,4 +1,4 @@
--- By recursion on n: the digits of its tenth stand in front, and its last digit after them.
+-- By recursion on n: the digits of its tenth come first, and its last digit after them.
 use mathlib.Core.Path.{ap}
 use Prim.Native.Nat.{ℕ, _<_}
 use native.Mathlib.Omega.{arith}

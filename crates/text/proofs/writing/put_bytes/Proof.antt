@@ -1,4 +1,4 @@
--- The invariant: the first i bytes stand from `at` on, and the rest is unchanged.
+-- The invariant: the first i bytes are written from `at` on, and the rest is unchanged.
 use mathlib.Core.Path.{_≡_, refl, ap, _∙_}
 use Prim.Native.Nat.{ℕ, _+_, _-_, _≤_}
 use native.Mathlib.Omega.{arith}

@@ -1,4 +1,4 @@
--- The moment lies on one side of the zero moment, at the number's magnitude, which has at most 10 digits.
+-- The moment is on one side of the zero moment, at the distance of the number's magnitude, which has at most 10 digits.
 use mathlib.Core.Path.{_≡_, ap, _∙_}
 use Prim.Native.Nat.{_≤_, _<_, _-_}
 use native.Mathlib.Omega.{arith}
