@@ -1,42 +1,33 @@
 -- The words of a state's bounds: an atom that makes no hole makes of them what it makes of the state.
 use mathlib.Core.Path.{_≡_, refl, sym, ap, ap₂, _∙_, subst}
 use mathlib.Core.Bool.{Bool, true, false}
-use mathlib.Core.List.{List, _∷_}
-use Prim.Native.Nat.{ℕ, zero, suc, _+_, _≤_, _<_}
+use mathlib.Core.List.{List}
+use Prim.Native.Nat.{ℕ, _+_, _≤_, _<_}
 use native.Mathlib.Omega.{arith}
 use native.Mathlib.Decide.{ℕ-discrete}
-use borrow.Author.Tests.{leb-false}
-use lib.Dec.{leb}
 use lib.ListN.{length, set, replicate, length-set, length-replicate, getD-replicate}
 use lib.Seq.{getD-set-same, getD-set-other}
 use Rattle.integers.specs.Limits.{VARIABLES, TASKS, VALUE}
-use Rattle.integers.specs.FilledLists.{filled}
 use Rattle.integers.specs.WholeNumbers.{Within}
-use Rattle.integers.proofs.Bools.{or-false}
 use Rattle.integers.proofs.FilledLists.{getD-fresh}
 use Rattle.scheduling.specs.Scheduling.{Atom}
 use Rattle.checking.specs.declared.domain.Domain.{Domain}
 use Rattle.checking.specs.declared.domain.Effect.the-variants.{Narrowed, Emptied}
 use Rattle.checking.specs.declared.domain.Reduced.{Reduced}
 use Rattle.checking.specs.declared.bound_words.BoundWords.{BoundWords}
-use Rattle.checking.specs.declared.start_bounds.TaskBounds.{TaskBounds}
 use Rattle.checking.specs.declared.variable_state.VariableState.{VariableState}
 use Rattle.checking.specs.declared.variable_state.Application.the-variants.{Consistent, Contradiction}
 use Rattle.checking.specs.Domains.{allIntegers, consistent, applied, settled, reduced, Tight}
-use Rattle.checking.specs.BoundWords.{makesHole, wordsOf, appliedWords, consistentWords, taskBoundsOfWords, wordsAt, boundsOfWords, HoleFree, HeldWords}
+use Rattle.checking.specs.BoundWords.{wordsOf, appliedWords, consistentWords, taskBoundsOfWords, wordsAt, boundsOfWords, HoleFree, HeldWords}
 use Rattle.checking.specs.States.{noDomain, domainAt, put, emptyState, stepped}
 use Rattle.checking.specs.TaskBounds.{boundsAt, boundsOf}
 use Rattle.checking.proofs.BoundLimits.{no-int, no-int′}
 use Rattle.checking.proofs.BoundWords.{applied-free, applied-words, words-consistent, words-bounds}
 use Rattle.checking.proofs.Bounds.{bounds-at}
+use Rattle.checking.proofs.FilledBounds.{bounds-same}
 use Rattle.checking.proofs.NarrowedDomains.{applied-tight}
 use Rattle.checking.proofs.PreparedStates.{no-room}
 use Rattle.checking.proofs.States.{empty-accepted, put-same, put-other, put-accepted, stepped-is, when-narrowed, when-emptied}
-
--- the first atom makes no hole, nor do the others
-pub no-hole : (a : Atom) (rest : List Atom) → makesHole (a ∷ rest) ≡ false → (a .kind < 3) × (makesHole rest ≡ false)
-unfolding makesHole
-no-hole a rest e = let (p, q) = or-false (leb 3 (a .kind)) (makesHole rest) e in (leb-false 3 (a .kind) p, q)
 
 abbrev pair : ℕ → ℕ → BoundWords
 pair l u = record { lower = l; upper = u }
@@ -147,19 +138,7 @@ module _ (s : VariableState) (lower upper : List ℕ) (held : HeldWords s lower 
 
 -- The tasks' bounds ------------------------------------------------------------------------------------------------------------
 
-filled-same : {A : Type 0} (f g : ℕ → A) (l : List A) (n : ℕ) → ((k : ℕ) → k < n → f k ≡ g k) → filled f n l ≡ filled g n l
-unfolding filled
-filled-same f g l zero e = refl
-filled-same {A} f g l (suc n) e = ap₂ (λ (m : List A) (v : A). set m n v) (filled-same f g l n (λ k h. e k (omega arith))) (e n (omega arith))
-
 pub held-bounds : (s : VariableState) (lower upper : List ℕ) (n : ℕ) → n ≤ TASKS → HeldWords s lower upper → boundsOfWords lower upper n ≡ boundsOf s n
-held-bounds s lower upper n few held = λ i. record {
-  bounded = filled-same (λ k. taskBoundsOfWords (wordsAt lower upper k) .known) (λ k. boundsAt s k .known) (replicate TASKS false) n (λ k h. ap (λ (b : TaskBounds). b .known) (at k h)) i;
-  est = filled-same (λ k. taskBoundsOfWords (wordsAt lower upper k) .est) (λ k. boundsAt s k .est) (replicate TASKS 0) n (λ k h. ap (λ (b : TaskBounds). b .est) (at k h)) i;
-  lst = filled-same (λ k. taskBoundsOfWords (wordsAt lower upper k) .lst) (λ k. boundsAt s k .lst) (replicate TASKS 0) n (λ k h. ap (λ (b : TaskBounds). b .lst) (at k h)) i;
-}
-  where
-    at : (k : ℕ) → k < n → taskBoundsOfWords (wordsAt lower upper k) ≡ boundsAt s k
-    at k h =
-        let known : k < VARIABLES = omega arith in
-        ap taskBoundsOfWords (held .words k known) ∙ words-bounds (domainAt s k) (held .accepted .each k known .tight) (held .free k known) ∙ bounds-at s (held .accepted) k known
+held-bounds s lower upper n few held = bounds-same (λ k. taskBoundsOfWords (wordsAt lower upper k)) (boundsAt s) n (λ k h.
+    let known : k < VARIABLES = omega arith in
+    ap taskBoundsOfWords (held .words k known) ∙ words-bounds (domainAt s k) (held .accepted .each k known .tight) (held .free k known) ∙ bounds-at s (held .accepted) k known)

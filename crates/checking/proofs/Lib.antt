@@ -2,6 +2,7 @@ pub mod Atoms
 pub mod RightWords
 pub mod ReadWords
 pub mod Given
+pub mod Remaining
 pub mod DomainBounds
 pub mod Domains
 pub mod NarrowedDomains
@@ -21,5 +22,6 @@ pub mod OneState
 pub mod BoundLimits
 pub mod Bounds
 pub mod Instances
+pub mod FilledBounds
 pub mod BoundWords
 pub mod HeldWords

@@ -28,7 +28,8 @@ use Rattle.checking.specs.declared.variable_state.Application.the-varian
 use Rattle.checking.specs.Shuffles.{Shuffled}
 use Rattle.checking.specs.States.{AcceptedState, domainAt, emptyState, stepped, appliedTo, applyAll, prepared}
 use Rattle.checking.proofs.Meaning.{Known, all-append, step-admits, step-contradiction, step-refused}
-use Rattle.checking.proofs.PreparedStates.{prepared-accepted, prepared-admits, prepared-right, prepared-runs}
+use Rattle.checking.proofs.PreparedStates.{prepared-accepted, prepared-admits, prepared-right}
+use Rattle.checking.proofs.Remaining.{prepared-runs}
 use Rattle.checking.proofs.Promises.{prepare-means, given-known, same-state}
 use Rattle.checking.proofs.States.{stepped-accepted, all-consistent, all-end}
 

@@ -5,7 +5,6 @@ use mathlib.Core.Bool.{Bool, true, false, cond}
 use mathlib.Core.List.{List, [], _∷_}
 use Prim.Native.Nat.{ℕ, zero, suc, _+_, _*_, _≤_, _<_}
 use native.Mathlib.Omega.{arith}
-use borrow.Author.Tests.{le-ltb}
 use lib.Dec.{ltb}
 use lib.IntN.{ℤ}
 use lib.ListN.{length}
@@ -22,6 +21,7 @@ use Rattle.checking.specs.Answers.{applicationNumbers}
 use Rattle.checking.specs.States.{AcceptedState, domainAt, emptyState, stepped, applyAll, prepared}
 use Rattle.checking.proofs.Meaning.{differ, step-admits, step-contradiction, step-refused, Known, empty-admits}
 use Rattle.checking.proofs.Promises.{prepare-means, given-known}
+use Rattle.checking.proofs.Remaining.{prepared-runs}
 use Rattle.checking.proofs.States.{stepped-accepted, all-accepted, empty-accepted, all-case, all-end}
 
 -- ---- a list that succeeds
@@ -58,10 +58,6 @@ module _ (premises consequent : List ℤ) where
       by false true q = f q
       by false false q = g 6
 
-  pub prepared-runs : length premises ≤ 3 * PREMISES + 2 → rightLists premises consequent ≡ true → prepared premises consequent ≡ applyAll atoms emptyState
-  unfolding prepared
-  prepared-runs l r = let few : ltb (3 * PREMISES + 2) (length premises) ≡ false = le-ltb (3 * PREMISES + 2) (length premises) l in rw (few, r) refl
-
   pub prepared-right : prepared premises consequent .answer ≡ Consistent → rightLists premises consequent ≡ true
   prepared-right = ran (λ r. r .answer ≡ Consistent → rightLists premises consequent ≡ true) (λ r _. r) (λ n e. differ (Refused n) Consistent e (omega arith))
 
@@ -80,5 +76,5 @@ module _ (premises consequent : List ℤ) where
   pub prepared-success : length premises ≤ 3 * PREMISES + 2 → rightLists premises consequent ≡ true → Every (λ a. a .kind < 3) atoms → ((x : ℕ) → x < VARIABLES → (z : ℤ) × Admits atoms x z)
       → prepared premises consequent .answer ≡ Consistent
   prepared-success l r kinds w =
-      ap (λ (t : Applied). t .answer) (prepared-runs l r)
+      ap (λ (t : Applied). t .answer) (prepared-runs premises consequent l r)
       ∙ all-success atoms (given-known premises consequent r) kinds emptyState empty-accepted (λ x h. let (z, m) = w x h in (z, empty-admits x h z, m))

@@ -22,7 +22,7 @@ use Rattle.checking.specs.Answers.{applicationNumbers}
 use Rattle.checking.specs.Promises.{lacksRoom, Reaches, NoRoom}
 use Rattle.checking.specs.States.{emptyState, stepped, applyAll, prepared}
 use Rattle.checking.proofs.Meaning.{all-append}
-use Rattle.checking.proofs.PreparedStates.{prepared-runs}
+use Rattle.checking.proofs.Remaining.{prepared-runs}
 use Rattle.checking.proofs.Promises.{prepare-means}
 use Rattle.checking.proofs.States.{stepped-case, all-refused}
 

@@ -1,44 +1,27 @@
 -- What the code holds of lists that make no hole: the bounds of each domain, as two words. The state that they stand for is that of States.antt.
 use mathlib.Core.Path.{_≡_}
-use mathlib.Core.Bool.{Bool, true, false, cond, _||_}
-use mathlib.Core.List.{List, [], _∷_}
-use Prim.Native.Nat.{ℕ, zero, suc, _+_, _-_, _*_, _≤_, _<_, max}
+use mathlib.Core.Bool.{Bool, cond, _||_}
+use mathlib.Core.List.{List, []}
+use Prim.Native.Nat.{ℕ, zero, suc, _+_, _-_, _<_, max}
 use lib.Dec.{leb, eqb}
 use lib.IntN.{ℤ}
-use lib.ListN.{length, getD, replicate}
-use Rattle.integers.specs.Limits.{TASKS, VARIABLES, PREMISES, VALUE, U32MAX}
-use Rattle.integers.specs.FilledLists.{filled}
+use lib.ListN.{length, getD}
+use Rattle.integers.specs.Limits.{VARIABLES, VALUE, U32MAX}
 use Rattle.integers.specs.Moments.{moment, zeroAt}
 use Rattle.integers.specs.WholeNumbers.{Within}
-use Rattle.scheduling.specs.Scheduling.{Atom, given}
-use Rattle.checking.specs.Atoms.{atomsOf, consequentOf, rightLists}
 use Rattle.checking.specs.declared.int_ext.IntExt.{IntExt}
 use Rattle.checking.specs.declared.int_ext.IntExt.the-variants.{Int, NegativeInf, PositiveInf}
 use Rattle.checking.specs.declared.domain.Domain.{Domain}
 use Rattle.checking.specs.declared.bound_words.BoundWords.{BoundWords}
-use Rattle.checking.specs.declared.start_bounds.Bounds.{Bounds}
 use Rattle.checking.specs.declared.start_bounds.TaskBounds.{TaskBounds}
+use Rattle.checking.specs.declared.prepared_bounds.OnWords.{OnWords}
+use Rattle.checking.specs.declared.prepared_bounds.OnWords.the-variants as onWords
+use Rattle.checking.specs.declared.variable_state.Application.the-variants as application
+use Rattle.checking.specs.declared.variable_state.Applied.{Applied}
 use Rattle.checking.specs.declared.variable_state.VariableState.{VariableState}
 use Rattle.checking.specs.Domains.{holesOf}
 use Rattle.checking.specs.States.{AcceptedState, domainAt}
-use Rattle.checking.specs.TaskBounds.{noBounds, twoBounds}
-
--- Lists that make no hole ------------------------------------------------------------------------------------------------------
-
--- an atom is ≠
-unfoldable pub makesHole : List Atom → Bool
-makesHole [] = false
-makesHole (a ∷ rest) = leb 3 (a .kind) || makesHole rest
-
--- The lists pass the tests 7 and 6.
-pub record Applicable (premises consequent : List ℤ) : Type 0 where
-  pub few : length premises ≤ 3 * PREMISES + 2
-  pub right : rightLists premises consequent ≡ true
-
--- And no atom of them is ≠, the consequent negated.
-pub record WithoutHoles (premises consequent : List ℤ) : Type 0 where
-  pub applicable : Applicable premises consequent
-  pub none : makesHole (given (atomsOf premises) (consequentOf consequent)) ≡ false
+use Rattle.checking.specs.TaskBounds.{noBounds, twoBounds, Bounds, boundsBy}
 
 -- Words ------------------------------------------------------------------------------------------------------------------------
 
@@ -78,11 +61,7 @@ wordsAt lower upper x = record { lower = getD lower x 0; upper = getD upper x 0 
 
 -- the bounds of the first n
 abbrev pub boundsOfWords : List ℕ → List ℕ → ℕ → Bounds
-boundsOfWords lower upper n = record {
-  bounded = filled (λ k. taskBoundsOfWords (wordsAt lower upper k) .known) n (replicate TASKS false);
-  est = filled (λ k. taskBoundsOfWords (wordsAt lower upper k) .est) n (replicate TASKS 0);
-  lst = filled (λ k. taskBoundsOfWords (wordsAt lower upper k) .lst) n (replicate TASKS 0);
-}
+boundsOfWords lower upper = boundsBy (λ k. taskBoundsOfWords (wordsAt lower upper k))
 
 -- The domain has no hole, and its bounds are values of atoms.
 pub record HoleFree (d : Domain) : Type 0 where
@@ -97,3 +76,9 @@ pub record HeldWords (s : VariableState) (lower upper : List ℕ) : Type 0 where
   pub accepted : AcceptedState s
   pub free : (x : ℕ) → x < VARIABLES → HoleFree (domainAt s x)
   pub words : (x : ℕ) → x < VARIABLES → wordsAt lower upper x ≡ wordsOf (domainAt s x)
+
+-- The answer is the prepared one, where no atom that can make a hole ended it; where all atoms were applied, the words are the bounds of the prepared state.
+abbrev pub AppliedToWords : Applied → List ℕ → List ℕ → OnWords → Type 0
+AppliedToWords p lower upper onWords.Consistent = (p .answer ≡ application.Consistent) × HeldWords (p .state) lower upper
+AppliedToWords p lower upper (onWords.Contradiction x) = p .answer ≡ application.Contradiction x
+AppliedToWords p lower upper onWords.MakesHole = Unit {0}

@@ -3,7 +3,7 @@
 use mathlib.Core.Path.{_≡_}
 use mathlib.Core.Bool.{Bool, true, cond, _&&_}
 use mathlib.Core.List.{List, [], _∷_}
-use Prim.Native.Nat.{ℕ, _+_, _*_, _<_}
+use Prim.Native.Nat.{ℕ, _+_, _*_, _≤_, _<_}
 use lib.Dec.{ltb}
 use lib.IntN.{ℤ, pos, natAbs}
 use lib.ListN.{length, getD, set, replicate}
@@ -115,6 +115,11 @@ applyAll (a ∷ rest) s = elim (stepped s a .answer) [
   | application.Contradiction x ↦ record { answer = application.Contradiction x; state = s }
   | application.Refused n ↦ record { answer = application.Refused n; state = emptyState }
 ]
+
+-- The lists pass the tests 7 and 6.
+pub record Applicable (premises consequent : List ℤ) : Type 0 where
+  pub few : length premises ≤ 3 * PREMISES + 2
+  pub right : rightLists premises consequent ≡ true
 
 -- prepare_for_conflict_check
 unfoldable pub prepared : List ℤ → List ℤ → Applied

@@ -7,20 +7,13 @@ ghost use mathlib.Core.Path.{_≡_};
 ghost use Prim.Native.Nat.{_≤_};
 ghost use Rattle.integers.specs.Limits.{TASKS};
 ghost use Rattle.checking.specs.States.{AcceptedState};
-ghost use Rattle.checking.specs.TaskBounds.{noBounds, taskBounds, boundsOf};
+ghost use Rattle.checking.specs.TaskBounds.{noBounds, taskBounds, boundsIn, Unbounded, boundsOf};
 
 // Both bounds of one start, where they are finite; else 0.
 pub struct TaskBounds {
     pub known: bool,
     pub est: u32,
     pub lst: u32,
-}
-
-// The tasks with two finite bounds, and these.
-pub struct Bounds {
-    pub bounded: [bool; TASKS],
-    pub est: [u32; TASKS],
-    pub lst: [u32; TASKS],
 }
 
 // No two bounds.
@@ -56,13 +49,16 @@ fn task_bounds(domain: Domain) -> TaskBounds
 }
 
 // The bounds of the first n variables, which are the tasks' starts.
-pub fn bounds_of(state: VariableState, n: usize) -> Bounds
-    requires { ⌜ (n ≤ TASKS) × AcceptedState state ⌝ }
-    ensures { λ r. ⌜ r ≡ boundsOf state n ⌝ }
+pub fn bounds_of(
+    bounded: &mut [bool; TASKS],
+    est: &mut [u32; TASKS],
+    lst: &mut [u32; TASKS],
+    state: VariableState,
+    n: usize,
+)
+    requires { ⌜ (n ≤ TASKS) × AcceptedState state × Unbounded (now bounded) (now est) (now lst) ⌝ }
+    ensures { λ _. ⌜ boundsIn (now (bounded .exit)) (now (est .exit)) (now (lst .exit)) ≡ boundsOf state n ⌝ }
 {
-    let mut bounded = [false; TASKS];
-    let mut est = [0u32; TASKS];
-    let mut lst = [0u32; TASKS];
     let mut i = 0;
     while i < n {
         let b = task_bounds(state.domains[i]);
@@ -71,5 +67,4 @@ pub fn bounds_of(state: VariableState, n: usize) -> Bounds
         lst[i] = b.lst;
         i += 1;
     }
-    Bounds { bounded, est, lst }
 }

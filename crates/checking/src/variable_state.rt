@@ -13,15 +13,13 @@ use integers::numbers::nat_of;
 use integers::refused;
 ghost use mathlib.Core.Path.{_≡_};
 ghost use mathlib.Core.Bool.{true};
-ghost use Prim.Native.Nat.{_+_, _*_, _≤_, _<_};
-ghost use lib.ListN.{length};
+ghost use Prim.Native.Nat.{_+_, _*_, _<_};
 ghost use Rattle.integers.specs.Limits.{VARIABLES, PREMISES, VALUE};
-ghost use Rattle.scheduling.specs.Scheduling.{given};
 ghost use Rattle.integers.specs.WholeNumbers.{Within};
-ghost use Rattle.checking.specs.Atoms.{atomOf, atomsOf, consequentOf, rightLists};
+ghost use Rattle.checking.specs.Atoms.{atomOf};
 ghost use Rattle.checking.specs.Answers.{truthNumbers, boundNumbers, AppliedAs};
 ghost use Rattle.checking.specs.Promises.{EmptyMeans, ApplyMeans, TruthMeans, LowerMeans, UpperMeans, PrepareMeans};
-ghost use Rattle.checking.specs.States.{emptyState, accepted, stepped, appliedTo, truthOf, boundOf, applyAll, prepared, AllProper, AcceptedState};
+ghost use Rattle.checking.specs.States.{emptyState, accepted, stepped, appliedTo, truthOf, boundOf, Applicable, prepared, AllProper, AcceptedState};
 ghost use Rattle.checking.specs.States.{lowerOf, upperOf, sideOf};
 
 // The domains of the variables, by number. An unmentioned variable may be any integer.
@@ -191,9 +189,9 @@ impl VariableState {
 
     // Apply the premises and, if present, the negated consequent, one after the other, from the empty state. The domains are narrowed in an array, which is
     // copied once, into the state returned.
-    fn apply_all(premises: &[i32], consequent: &[i32]) -> Applied
-        requires { ⌜ (length (now premises) ≤ 3 * PREMISES + 2) × (rightLists (now premises) (now consequent) ≡ true) ⌝ }
-        ensures { λ r. ⌜ r ≡ applyAll (given (atomsOf (now (premises .entry))) (consequentOf (now (consequent .entry)))) emptyState ⌝ }
+    pub(crate) fn apply_all(premises: &[i32], consequent: &[i32]) -> Applied
+        requires { ⌜ Applicable (now premises) (now consequent) ⌝ }
+        ensures { λ r. ⌜ r ≡ prepared (now (premises .entry)) (now (consequent .entry)) ⌝ }
     {
         let words = premises.len() + consequent.len();
         let domain = Domain::all_integers();

@@ -1,3 +1,2 @@
-pub mod Ects
-pub mod ColouredLeaves
+pub mod Recurrence
 pub mod RecordArrays

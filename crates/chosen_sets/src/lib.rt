@@ -1,72 +1,26 @@
-// The ect of a set of tasks, by the theta tree.
+// The ect of a set of tasks, by the textbook's recurrence over the tasks by earliest start.
 use integers::limits::TASKS;
-use integers::limits::THETAWORDS;
+use integers::numbers::max;
 use sorts::sort_numbers;
-use trees::disjunctive_task::DisjunctiveTask;
-use trees::disjunctive_task::LeafPlace;
-use trees::disjunctive_task::LocalId;
-use trees::disjunctive_task::task_of;
 use trees::ect::Ect;
-use trees::theta_tree::ThetaTree;
 ghost use mathlib.Core.Path.{_≡_};
+ghost use mathlib.Core.Bool.{true};
+ghost use Prim.Native.Nat.{_+_, _≤_, max};
+ghost use Rattle.integers.specs.Limits.{U32MAX};
 ghost use Rattle.scheduling.specs.Scheduling.{natural, Tasks, TaskSet};
 ghost use Rattle.scheduling.specs.Ects.{ectOf};
 ghost use Rattle.trees.specs.Ects.{momentOf};
-ghost use Rattle.chosen_sets.specs.ColouredLeaves.{LeafColourable, LeafColoured, TreeColourable, TreeColoured};
-ghost use Rattle.chosen_sets.specs.TaskArrays.{HeldSet};
+ghost use Rattle.chosen_sets.specs.TaskArrays.{HeldSet, completed};
 
-// Puts a task into the leaf at a place, where it is chosen.
-fn put_chosen(
-    nodes: &mut [u32; THETAWORDS],
-    inner: usize,
-    place: LeafPlace,
-    id: LocalId,
-    chosen: bool,
-    est: u32,
-    p: u32,
-)
-    requires { ⌜ LeafColourable inner (now nodes) (place .0) chosen est p ⌝ }
-    ensures { λ _. ⌜ LeafColoured inner (now (nodes .entry)) (now (nodes .exit)) (place .0) chosen est p ⌝ }
+// The ect with one task more, where it is chosen. 0 is that of no task, since a task lasts 1 or more.
+fn completed(ect: u32, chosen: bool, est: u32, p: u32) -> u32
+    requires { ⌜ (chosen ≡ true → max ect est + p ≤ U32MAX) ⌝ }
+    ensures { λ r. ⌜ r ≡ completed ect chosen est p ⌝ }
 {
-    if chosen {
-        let task = DisjunctiveTask {
-            start_time: est,
-            processing_time: p,
-            id,
-        };
-        ThetaTree::add(nodes, inner, place, task);
+    if !chosen {
+        return ect;
     }
-}
-
-// Puts the chosen tasks into Theta, leaf by leaf.
-fn fill<'a>(
-    nodes: &mut [u32; THETAWORDS],
-    inner: usize,
-    reverse_mapping: &'a [usize; TASKS],
-    chosen: &'a [bool; TASKS],
-    est: &'a [u32; TASKS],
-    durations: &'a [u32; TASKS],
-    n: usize,
-)
-    requires { ⌜ TreeColourable inner n (now nodes) (now «reverse_mapping») (now chosen) (now est) (now durations) ⌝ }
-    ensures { λ _. ⌜ TreeColoured inner n (now (nodes .entry)) (now (nodes .exit)) (now («reverse_mapping» .entry)) (now (chosen .entry)) (now (est .entry))
-        (now (durations .entry)) ⌝ }
-{
-    let mut x: usize = 0;
-    while x < n {
-        let id = task_of(reverse_mapping, LeafPlace(x));
-        let i = id.0;
-        put_chosen(
-            nodes,
-            inner,
-            LeafPlace(x),
-            id,
-            chosen[i],
-            est[i],
-            durations[i],
-        );
-        x += 1;
-    }
+    max(ect, est) + p
 }
 
 // The ect of the chosen ones of n tasks, or that none is chosen.
@@ -82,9 +36,12 @@ pub fn theta_ect<'a>(
 {
     let mut order: [usize; TASKS] = [0; TASKS];
     sort_numbers(&mut order, n, est);
-    let tree = ThetaTree::new(&order, n);
-    let inner = tree.number_of_internal_nodes;
-    let mut nodes = tree.nodes;
-    fill(&mut nodes, inner, &order, chosen, est, durations, n);
-    ThetaTree::ect(&nodes)
+    let mut ect: u32 = 0;
+    let mut x = 0;
+    while x < n {
+        let i = order[x];
+        ect = completed(ect, chosen[i], est[i], durations[i]);
+        x += 1;
+    }
+    Ect::decoded(ect)
 }

@@ -1,3 +1,4 @@
+pub mod Ects
 pub mod ReadTasks
 pub mod Answers
 pub mod Fewest

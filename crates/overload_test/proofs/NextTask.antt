@@ -28,13 +28,12 @@ use Rattle.records.specs.declared.record.DisjunctivePropagator.{DisjunctiveProp
 use Rattle.records.specs.Records.{momentsIn}
 use Rattle.records.specs.Refusals.{AcceptedInput}
 use Rattle.records.proofs.AcceptedTasks.{count, completion-small, completions-are, completions-at}
-use Rattle.chosen_sets.specs.ColouredLeaves.{colours}
 use Rattle.chosen_sets.specs.TaskArrays.{HeldSet}
-use Rattle.chosen_sets.proofs.ColouredLeaves.{limited, front-is}
-use Rattle.chosen_sets.proofs.Ects.{tree-ect}
+use Rattle.chosen_sets.proofs.Recurrence.{limited, front-is}
 use Rattle.chosen_sets.proofs.RecordArrays.{held as in-arrays, late}
 use Rattle.overload_test.specs.ReadTasks.{byCompletion, read, overloadsAt, answerFrom, answerOf}
-use Rattle.overload_test.specs.ReadArrays.{noTask, Readable}
+use Rattle.overload_test.specs.ReadArrays.{colours, noTask, Readable}
+use Rattle.overload_test.proofs.Ects.{tree-ect}
 use Rattle.overload_test.proofs.ReadTasks.{by-completion, read-none, all-blank, next-coloured}
 
 module _ {inner n : ℕ} {words mapping tasks est lct durations : List ℕ} (f : Readable inner n words mapping tasks est lct durations) where

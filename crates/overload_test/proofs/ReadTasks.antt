@@ -22,8 +22,8 @@ use Rattle.scheduling.proofs.Ects.{by-earliest, order-size, ect-is, ect-some}
 use Rattle.scheduling.proofs.Exists.{largest-at}
 use Rattle.trees.proofs.Ects.{exceeds-yes, some-exceeds}
 use Rattle.trees.specs.Leaves.{empty, white}
-use Rattle.chosen_sets.specs.ColouredLeaves.{colours}
 use Rattle.overload_test.specs.ReadTasks.{byCompletion, read, overloadsAt}
+use Rattle.overload_test.specs.ReadArrays.{colours}
 
 -- The front of a list ----------------------------------------------------------------------------------------------------------
 

@@ -1,16 +1,20 @@
 -- What the code holds while it reads: the tasks in arrays, and the theta tree.
 use mathlib.Core.Path.{_≡_}
-use mathlib.Core.Bool.{false}
-use mathlib.Core.List.{List, []}
+use mathlib.Core.Bool.{false, cond}
+use mathlib.Core.List.{List, [], map}
 use Prim.Native.Nat.{ℕ, _<_}
 use lib.ListN.{getD}
 use Rattle.integers.specs.Orders.{index}
 use Rattle.scheduling.specs.Scheduling.{natural, Tasks, TaskSet, completion}
 use Rattle.scheduling.specs.Ects.{byEarliest}
+use Rattle.trees.specs.Leaves.{Leaf, empty, white}
 use Rattle.trees.specs.Trees.{IsPlainTree}
-use Rattle.chosen_sets.specs.ColouredLeaves.{colours}
 use Rattle.chosen_sets.specs.TaskArrays.{HeldSet}
 use Rattle.overload_test.specs.ReadTasks.{byCompletion}
+
+-- the leaves stand in the order of earliest starts, and the tasks of Ω are in theta
+abbrev pub colours : Tasks natural → TaskSet → List Leaf
+colours J Ω = map (λ k. cond (Ω k) white empty) (byEarliest J)
 
 -- no task is in theta yet
 abbrev pub noTask : TaskSet

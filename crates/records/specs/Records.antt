@@ -109,11 +109,15 @@ creationNumbers (Refused number) = refusedBy number
 abbrev pub creationNumber : Creation → ℕ
 creationNumber answer = creationNumbers answer .number
 
+-- the durations of a record, from a caller's
+abbrev pub lengthsOf : List ℤ → List ℕ
+lengthsOf ds = filled (durationAt ds) (length ds) noTasks
+
 -- a new record: the durations with their sum
 abbrev pub newRecord : List ℤ → DisjunctivePropagator
 newRecord ds = record {
   count = length ds;
-  durations = filled (durationAt ds) (length ds) noTasks;
+  durations = lengthsOf ds;
   total = total (durationAt ds) (length ds);
 }
 

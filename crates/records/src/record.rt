@@ -8,11 +8,11 @@ ghost use Prim.Native.Nat.{_≤_, _<_};
 ghost use lib.Bits.{bitOr};
 ghost use lib.ListN.{length, getD};
 ghost use Rattle.integers.specs.Limits.{TASKS};
-ghost use Rattle.integers.specs.FilledLists.{filled, noTasks};
+ghost use Rattle.integers.specs.FilledLists.{noTasks};
 ghost use Rattle.integers.specs.Tests.{allBelow, refusal};
 ghost use Rattle.scheduling.specs.Scheduling.{total};
-ghost use Rattle.records.specs.Records.{countFits, sumFits, totalTrue, lastsAt, unusedZero, recordOf, lawfulRecord, durationOf, durationAt};
-ghost use Rattle.records.specs.Records.{creationTests, zeroRecord, Creates};
+ghost use Rattle.records.specs.Records.{countFits, sumFits, totalTrue, lastsAt, unusedZero, recordOf, lawfulRecord, durationOf};
+ghost use Rattle.records.specs.Records.{creationTests, lengthsOf, zeroRecord, Creates};
 
 // The propagator that uses disjunctive reasoning to propagate the disjunctive constraint (https://sofdem.github.io/gccat/gccat/Cdisjunctive.html).
 //
@@ -109,32 +109,31 @@ fn duration_of(x: i32) -> u32
 }
 
 // The durations of a record from a caller's.
-fn durations_of(durations: &[i32]) -> [u32; TASKS]
-    requires { ⌜ length (now durations) ≤ TASKS ⌝ }
-    ensures { λ r. ⌜ r ≡ filled (durationAt (now (durations .entry))) (length (now (durations .entry))) noTasks ⌝ }
+fn durations_of(lengths: &mut [u32; TASKS], durations: &[i32])
+    requires { ⌜ (now lengths ≡ noTasks) × (length (now durations) ≤ TASKS) ⌝ }
+    ensures { λ _. ⌜ now (lengths .exit) ≡ lengthsOf (now (durations .entry)) ⌝ }
 {
-    let mut out = [0u32; TASKS];
     let mut i = 0;
     while i < durations.len() {
-        out[i] = duration_of(durations[i]);
+        lengths[i] = duration_of(durations[i]);
         i += 1;
     }
-    out
 }
 
-// The number that refuses creation, or 0.
-fn creation_refusal(durations: &[i32]) -> u32
-    ensures { λ r. ⌜ r ≡ refusal (creationTests (now (durations .entry))) ⌝ }
+// The number that refuses creation, or 0. The durations of the record go into a lent array, so that none is copied.
+pub fn creation_refusal(lengths: &mut [u32; TASKS], durations: &[i32]) -> u32
+    requires { ⌜ now lengths ≡ noTasks ⌝ }
+    ensures { λ r. ⌜ (r ≡ refusal (creationTests (now (durations .entry)))) × (r ≡ 0 → now (lengths .exit) ≡ lengthsOf (now (durations .entry))) ⌝ }
 {
     let n = durations.len();
     if !count_fits(n) {
         return refused::TASK_COUNT;
     }
-    let lengths = durations_of(durations);
-    if !all_last(&lengths, n) {
+    durations_of(lengths, durations);
+    if !all_last(lengths, n) {
         return refused::DURATION;
     }
-    if !sum_fits(&lengths, n) {
+    if !sum_fits(lengths, n) {
         return refused::DURATION_SUM;
     }
     0
@@ -155,7 +154,8 @@ fn zeros() -> DisjunctivePropagator
 pub fn create(durations: &[i32]) -> Created
     ensures { λ r. ⌜ Creates (now (durations .entry)) r ⌝ }
 {
-    let number = creation_refusal(durations);
+    let mut lengths = [0u32; TASKS];
+    let number = creation_refusal(&mut lengths, durations);
     if number != 0 {
         return Created {
             record: zeros(),
@@ -163,7 +163,6 @@ pub fn create(durations: &[i32]) -> Created
         };
     }
     let n = durations.len();
-    let lengths = durations_of(durations);
     let total = total_of(&lengths, n) as u32;
     Created {
         record: DisjunctivePropagator {

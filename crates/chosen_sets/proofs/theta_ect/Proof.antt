@@ -1,36 +1,70 @@
--- The chosen tasks go into a new tree over the tasks by earliest start, and its root has their ect.
+-- The invariant: `ect` is that of the chosen ones among the first x tasks by earliest start, for every reading of the arrays as tasks and a set.
 use mathlib.Core.Path.{_∙_}
+use Prim.Native.Nat.{_-_, _≤_, _<_}
+use native.Mathlib.Omega.{arith}
+use lib.ListN.{getD}
 use borrow.Author.Needs.{needs}
+use Rattle.integers.specs.Limits.{TASKS}
 use Rattle.scheduling.specs.Scheduling.{natural, Tasks, TaskSet}
-use Rattle.sorts.proofs.Sorted.{sorted-permutes}
-use Rattle.chosen_sets.specs.ColouredLeaves.{TreeColourable}
 use Rattle.chosen_sets.specs.TaskArrays.{HeldSet}
-use Rattle.chosen_sets.proofs.ColouredLeaves.{colourable, coloured}
-use Rattle.chosen_sets.proofs.Ects.{tree-ect}
+use Rattle.chosen_sets.proofs.Recurrence.{Done, none-done, task-known, next-fits, one-done, all-done}
 use Rattle.chosen_sets.proofs.theta_ect.Statement.{statement}
 use Rattle.chosen_sets.proofs.theta_ect.Tie as tie
 
--- when the tree is made: what each call before left
-abbrev start : tie.After-new → tie.Start
+abbrev Inv-loop : tie.InvT-loop
+Inv-loop chosen est durations n order ect₀ x₀ ect x = (x ≤ n) × ((J : Tasks natural) (Ω : TaskSet) → HeldSet J Ω n chosen est durations → Done J Ω x ect)
+
+abbrev μ-loop : tie.MeasureT-loop
+μ-loop chosen est durations n order ect₀ x₀ ect x = n - x
+
+loop-holds : tie.Need-loop-holds Inv-loop μ-loop
+loop-holds c = (omega arith, λ J Ω h. none-done J Ω)
+
+-- a turn of the loop: where the function began, and the place and the task of the turn
+abbrev start : tie.In-loop Inv-loop μ-loop → tie.Start Inv-loop μ-loop
 start c = c .before .before .before .before
 
-abbrev sorted : tie.After-new → tie.After-sort-numbers
-sorted c = c .before .before
+inside : (c : tie.In-loop Inv-loop μ-loop) → c .before .loop .x < start c .args .n
+inside c = omega arith
 
-abbrev ready : (c : tie.After-new) → let a = start c .args in (J : Tasks natural) (Ω : TaskSet) → HeldSet J Ω (a .n) (a .chosen .now) (a .est .now) (a .durations .now)
-    → TreeColourable (c .new .result .«number_of_internal_nodes») (a .n) (c .new .result .nodes) (sorted c .sort-numbers .last .0) (a .chosen .now) (a .est .now) (a .durations .now)
-ready c J Ω h = colourable h (sorted c .sort-numbers .ensures) (c .new .ensures)
+place : (c : tie.In-loop Inv-loop μ-loop) → c .before .loop .x < TASKS
+place c = omega (arith, inside c, start c .pre .2 .few)
 
-new-requires : tie.Need-new-requires
-new-requires c κs = let s = c .before .before .before in (s .pre .2 .few, sorted-permutes (c .before .sort-numbers .ensures))
+task : (c : tie.In-loop Inv-loop μ-loop) → getD (c .before .before .sort-numbers .last .0) (c .before .loop .x) 0 < TASKS
+task c = task-known (start c .pre .2) (c .before .before .sort-numbers .ensures) (c .before .loop .x) (inside c)
 
-fill-requires : tie.Need-fill-requires
-fill-requires c κs = let s = c .before .before .before in ready s (start s .pre .0) (start s .pre .1) (start s .pre .2)
+mul-i : tie.Need-mul-i Inv-loop μ-loop
+mul-i c = omega (arith, place c)
 
-returns : tie.Need-returns
+mul-completed : tie.Need-mul-completed Inv-loop μ-loop
+mul-completed c = omega (arith, task (c .before))
+
+mul-completed-2 : tie.Need-mul-completed-2 Inv-loop μ-loop
+mul-completed-2 c = omega (arith, task (c .before .before))
+
+completed-requires : tie.Need-completed-requires Inv-loop μ-loop
+completed-requires c κs y =
+    let turn = c .before .before .before in
+    let (J, Ω, h) = start turn .pre in
+    next-fits h (turn .before .before .sort-numbers .ensures) (turn .before .loop .x) (inside turn) (turn .before .loop .ect) (turn .before .loop .inv .1 J Ω h)
+
+loop-again : tie.Need-loop-again Inv-loop μ-loop
+loop-again c =
+    let turn = c .before .before .before .before in
+    let l = turn .before .loop in (
+      omega (arith, inside turn),
+      λ J Ω h. one-done h (turn .before .before .sort-numbers .ensures) (l .x) (inside turn) (l .ect) (c .completed .result) (l .inv .1 J Ω h) (c .completed .ensures),
+    )
+
+returns : tie.Need-returns Inv-loop μ-loop
 returns c = λ J Ω h.
-    let made = c .before .before .before .before .before .before in
-    c .ect .ensures (made .new .result .«number_of_internal_nodes») (coloured h (c .before .before .fill .ensures (ready made J Ω h))) ∙ tree-ect J Ω (h .proper)
+    let l = c .before .before .loop in
+    c .decoded .ensures ∙ all-done h (c .before .before .before .sort-numbers .ensures) (l .x) (l .ect) (omega (arith, l .inv .0)) (l .inv .1 J Ω h)
 
 pub theta-ect-spec : {M : Type 1} → statement M
-theta-ect-spec = tie.close (tie.spec (λ c κs. search needs) new-requires fill-requires (λ c κs. search needs) returns)
+theta-ect-spec =
+    tie.close
+    (tie.spec
+    Inv-loop μ-loop (λ c κs. search needs) loop-holds mul-i (λ c. place c) (λ c. task c) mul-completed
+    (λ c. task (c .before)) mul-completed-2 (λ c. task (c .before .before)) completed-requires
+    (λ c. search needs) (λ c. search needs) loop-again (λ c κs. search needs) returns)

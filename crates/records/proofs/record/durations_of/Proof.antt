@@ -14,16 +14,16 @@ use Rattle.records.proofs.record.durations_of.Statement.{statement}
 use Rattle.records.proofs.record.durations_of.Tie as tie
 
 abbrev Inv-loop : tie.InvT-loop
-Inv-loop durations out₀ i₀ out i = (i ≤ length durations) × (out ≡ filled (durationAt durations) i noTasks)
+Inv-loop lengths₀ durations i₀ lengths i = (i ≤ length durations) × (lengths ≡ filled (durationAt durations) i noTasks)
 
 abbrev μ-loop : tie.MeasureT-loop
-μ-loop durations out₀ i₀ out i = length durations - i
+μ-loop lengths₀ durations i₀ lengths i = length durations - i
 
 loop-holds : tie.Need-loop-holds Inv-loop μ-loop
-loop-holds c = (omega arith, sym (filled-none (durationAt (c .args .durations .now)) noTasks))
+loop-holds c = (omega arith, c .pre .0 ∙ sym (filled-none (durationAt (c .args .durations .now)) noTasks))
 
-array-write-out : tie.Need-array-write-out Inv-loop μ-loop
-array-write-out c =
+element-write-lengths : tie.Need-element-write-lengths Inv-loop μ-loop
+element-write-lengths c =
     let loop = c .before .before .before .loop in
     omega (arith, ap length (loop .inv .1), filled-length (durationAt (c .before .before .before .before .args .durations .now)) (loop .i) noTasks)
 
@@ -33,7 +33,7 @@ loop-again c =
     let loop = c .before .before .before .loop in
     let x = getD (start .args .durations .now) (loop .i) (pos 0) in (
       omega arith,
-      filled-store (durationAt (start .args .durations .now)) noTasks (loop .out) (loop .i) (c .duration-of .result) (loop .inv .1)
+      filled-store (durationAt (start .args .durations .now)) noTasks (loop .lengths) (loop .i) (c .duration-of .result) (loop .inv .1)
           (c .duration-of .ensures ∙ ap durationOf (back-of w32 x (c .before .duration-of-arg .given))),
     )
 
@@ -48,4 +48,4 @@ durations-of-spec =
     tie.close
     (tie.spec
     Inv-loop μ-loop loop-holds (λ c. search needs) (λ c. search needs) (λ c κs. search needs) (λ c. search needs)
-    array-write-out (λ c. search needs) (λ c. search needs) loop-again returns)
+    element-write-lengths (λ c. search needs) (λ c. search needs) loop-again returns)

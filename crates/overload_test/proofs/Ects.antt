@@ -13,7 +13,7 @@ use Rattle.scheduling.proofs.Ects.{by-earliest, order-size, ect-none, ect-some}
 use Rattle.scheduling.proofs.Sets.{top}
 use Rattle.trees.specs.Leaves.{Leaf, empty, white, inTheta, inLambda, ect}
 use Rattle.trees.proofs.RootAnswers as tree
-use Rattle.chosen_sets.specs.ColouredLeaves.{colours}
+use Rattle.overload_test.specs.ReadArrays.{colours}
 
 white-cond : (b : Bool) → inTheta (cond b white empty) ≡ b
 white-cond true = refl

@@ -1,0 +1,81 @@
+-- The loops over the given atoms: to apply those that remain to the state so far is to prepare the whole.
+use mathlib.Core.Path.{_≡_, sym, ap, _∙_, subst}
+use mathlib.Core.Bool.{true, false}
+use mathlib.Core.List.{List, _∷_}
+use Prim.Native.Nat.{ℕ, _+_, _*_, _^_, _≤_, _<_}
+use native.Mathlib.Omega.{arith}
+use borrow.Author.Tests.{lt-ltb, le-ltb}
+use lib.Dec.{ltb}
+use lib.IntN.{ℤ}
+use lib.ListN.{length}
+use Rattle.integers.specs.Limits.{VARIABLES, PREMISES, VALUE}
+use Rattle.integers.specs.WholeNumbers.{Within}
+use Rattle.scheduling.specs.Scheduling.{Atom, given}
+use Rattle.checking.specs.declared.variable_state.VariableState.{VariableState}
+use Rattle.checking.specs.declared.variable_state.Application.the-variants.{Consistent, Contradiction, Refused}
+use Rattle.checking.specs.Atoms.{atomsOf, consequentOf, givenAt, rightLists, rightFrom}
+use Rattle.checking.specs.States.{emptyState, stepped, applyAll, Applicable, prepared}
+use Rattle.checking.proofs.Atoms.{right-lists}
+use Rattle.checking.proofs.Given.{Next, givenFrom, given-start, right-start, given-end, next}
+use Rattle.checking.proofs.States.{all-consistent, all-contradiction, all-refused, all-end}
+
+module _ (p c : List ℤ) where
+  -- the tests 7 and 6, past which all atoms are applied
+  pub prepared-many : 3 * PREMISES + 2 < length p → prepared p c ≡ record { answer = Refused 7; state = emptyState }
+  unfolding prepared
+  prepared-many l = let many : ltb (3 * PREMISES + 2) (length p) ≡ true = lt-ltb (3 * PREMISES + 2) (length p) l in rw many
+
+  pub prepared-wrong : length p ≤ 3 * PREMISES + 2 → rightLists p c ≡ false → prepared p c ≡ record { answer = Refused 6; state = emptyState }
+  unfolding prepared
+  prepared-wrong l r = let few : ltb (3 * PREMISES + 2) (length p) ≡ false = le-ltb (3 * PREMISES + 2) (length p) l in rw (few, r)
+
+  pub prepared-runs : length p ≤ 3 * PREMISES + 2 → rightLists p c ≡ true → prepared p c ≡ applyAll (given (atomsOf p) (consequentOf c)) emptyState
+  unfolding prepared
+  prepared-runs l r = let few : ltb (3 * PREMISES + 2) (length p) ≡ false = le-ltb (3 * PREMISES + 2) (length p) l in rw (few, r)
+
+  -- The atoms from place i on remain, and s is the state so far.
+  pub record Remaining (i : ℕ) (s : VariableState) : Type 0 where
+    pub within : i ≤ length p + length c
+    pub right : rightFrom p c i ≡ true
+    pub whole : prepared p c ≡ applyAll (givenFrom p c i) s
+
+  module _ (a : Applicable p c) where
+    pub words-fit : length p + length c < 2 ^ 64
+    words-fit = omega (arith, a .few, right-lists p c (a .right) .1)
+
+    pub all-remain : Remaining 0 emptyState
+    all-remain = record {
+      within = omega arith;
+      right = right-start p c ∙ a .right;
+      whole = prepared-runs (a .few) (a .right) ∙ ap (λ (m : List Atom). applyAll m emptyState) (sym (given-start p c));
+    }
+
+  module _ (i : ℕ) (s : VariableState) (m : Remaining i s) where
+    pub none-remains : length p + length c ≤ i → prepared p c ≡ record { answer = Consistent; state = s }
+    none-remains h = m .whole ∙ ap (λ (l : List Atom). applyAll l s) (given-end p c i h) ∙ all-end s
+
+    -- the next of them is a
+    module _ (q : i < length p + length c) (a : Atom) (e : a ≡ givenAt p c i) where
+      abbrev rest : List Atom
+      rest = givenFrom p c (i + 3)
+
+      is-next : Next p c i a
+      is-next = subst (Next p c i) (sym e) (next p c i q (m .right))
+
+      pub next-known : a .variable < VARIABLES
+      next-known = is-next .known
+
+      pub next-value : Within (VALUE + 1) (a .value)
+      next-value = is-next .value
+
+      from-here : prepared p c ≡ applyAll (a ∷ rest) s
+      from-here = m .whole ∙ ap (λ (l : List Atom). applyAll l s) (is-next .atoms)
+
+      pub next-consistent : (t : VariableState) → stepped s a ≡ record { answer = Consistent; state = t } → Remaining (i + 3) t
+      next-consistent t z = record { within = is-next .within; right = is-next .right; whole = from-here ∙ all-consistent s a rest t z }
+
+      pub next-contradicts : (x : ℕ) → stepped s a ≡ record { answer = Contradiction x; state = s } → prepared p c ≡ record { answer = Contradiction x; state = s }
+      next-contradicts x z = from-here ∙ all-contradiction s a rest x s z
+
+      pub next-refused : (n : ℕ) → stepped s a ≡ record { answer = Refused n; state = s } → prepared p c ≡ record { answer = Refused n; state = emptyState }
+      next-refused n z = from-here ∙ all-refused s a rest n s z
