@@ -29,7 +29,7 @@ fn run_in_mirror(
     mirror_starts(&mut from[..n], latest, &durations);
     let mut to: [i32; TASKS] = [0; TASKS];
     mirror_starts(&mut to[..n], earliest, &durations);
-    let finished = run_accepted(record, &mut from[..n], &to[..n], posts, atoms);
+    let finished = run_accepted(n, &durations, &mut from[..n], &to[..n], posts, atoms);
     mirror_starts(latest, &from[..n], &durations);
     finished.outcome
 }

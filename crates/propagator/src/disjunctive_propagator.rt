@@ -25,7 +25,8 @@ use trees::theta_lambda_tree::ThetaLambdaTree;
 ghost use mathlib.Core.Path.{_≡_};
 ghost use Prim.Native.Nat.{_≤_, _<_, ℕ, _+_, _*_, _^_};
 ghost use lib.ListN.{length};
-ghost use Rattle.integers.specs.Limits.{ATOMS};
+ghost use Rattle.integers.specs.Limits.{ATOMS, TASKS};
+ghost use Rattle.records.specs.Records.{recordOf};
 ghost use Rattle.trees.specs.Ects.{exceeds, raisedTo};
 ghost use Rattle.trees.specs.Leaves.{ect, ect-bar, sum};
 ghost use Rattle.trees.specs.ArraySearches.{thetaIn};
@@ -75,7 +76,14 @@ pub fn propagate(
             changes: 0,
         };
     }
-    let finished = run_accepted(record, earliest, latest, posts, atoms);
+    let finished = run_accepted(
+        record.count,
+        &record.durations,
+        earliest,
+        latest,
+        posts,
+        atoms,
+    );
     let outcome = finished.outcome;
     Run {
         record,
@@ -84,20 +92,20 @@ pub fn propagate(
     }
 }
 
-// The core of a run, for this pass and the mirrored one. It tests nothing, so it is not an open call.
+// The core of a run on n tasks, for this pass and the mirrored one. It tests nothing, so it is not an open call.
 pub fn run_accepted(
-    record: DisjunctivePropagator,
+    n: usize,
+    durations: &[u32; TASKS],
     earliest: &mut [i32],
     latest: &[i32],
     posts: &mut [i32],
     atoms: &mut [i32],
 ) -> Finished
-    requires { ⌜ Runnable «record» (now earliest) (now latest) (length (now posts)) (length (now atoms)) ⌝ }
-    ensures { λ r. ⌜ RunLeft «record» (now (earliest .entry)) (now (latest .entry)) (now (posts .entry)) (now (atoms .entry)) (r .outcome) (r .changes)
-        (now (earliest .exit)) (now (posts .exit)) (now (atoms .exit)) ⌝ }
+    requires { ⌜ ((stored : ℕ) × (length (now durations) ≡ TASKS)
+        × Runnable (recordOf n (now durations) stored) (now earliest) (now latest) (length (now posts)) (length (now atoms))) ⌝ }
+    ensures { λ r. ⌜ ((stored : ℕ) → RunLeft (recordOf n (now (durations .entry)) stored) (now (earliest .entry)) (now (latest .entry)) (now (posts .entry))
+        (now (atoms .entry)) (r .outcome) (r .changes) (now (earliest .exit)) (now (posts .exit)) (now (atoms .exit))) ⌝ }
 {
-    let n = record.count;
-    let durations = &record.durations;
     let mut est: [u32; TASKS] = [0; TASKS];
     moments_of(&mut est, earliest);
     let mut lst: [u32; TASKS] = [0; TASKS];

@@ -1,6 +1,6 @@
 -- The bars from place i on, as the loops over the places meet them, and a step by one.
 use mathlib.Core.Path.{_≡_, refl, sym, ap, _∙_}
-use mathlib.Core.Bool.{Bool, true, false, cond, _&&_, _||_}
+use mathlib.Core.Bool.{Bool, true, false, not, cond, _&&_, _||_}
 use mathlib.Core.List.{List, [], _∷_}
 use Prim.Native.Nat.{ℕ, suc, _+_, _-_, _≤_, _<_}
 use native.Mathlib.Omega.{arith}
@@ -18,9 +18,10 @@ use Rattle.integers.proofs.Ints.{ints, up, dn, sumℤ, fits-show, in-range, bac
 use Rattle.integers.specs.WholeNumbers.{eqZ, has}
 use Rattle.integers.proofs.WholeNumbers.{same-eqZ, other-eqZ}
 use Rattle.ranges.specs.declared.range.Range.{Range}
-use Rattle.ranges.specs.Bars.{barsOf, ascends, barsFit, allBarsFit}
+use Rattle.ranges.specs.Bars.{barsOf, ascends, isInside, barsFit, allBarsFit}
 use Rattle.ranges.specs.Moves.{pastBar, movedOn, beforeBar, movedBack}
 use Rattle.ranges.specs.Ranges.{anyRange}
+use Rattle.ranges.proofs.BarTests.{fit-few}
 use Rattle.ranges.proofs.range.Range as T
 use Rattle.ranges.proofs.range.Range.Laws as T′
 
@@ -44,7 +45,7 @@ module _ (y : Range) (i : ℕ) (small : i < length (barsOf y)) where
   here = rw (add-one i) (drop-cons (barsOf y) i (pos 0) small
       ∙ ap (λ (b : ℤ). b ∷ drop (suc i) (barsOf y)) (getD-take (y .count) (y .barred) i (pos 0) (omega (arith, length-take (y .count) (y .barred)))))
 
-  pub has-on : (x : ℤ) → has (drop i (barsOf y)) x ≡ eqZ (getD (y .barred) i (pos 0)) x || has (drop (i + 1) (barsOf y)) x
+  has-on : (x : ℤ) → has (drop i (barsOf y)) x ≡ eqZ (getD (y .barred) i (pos 0)) x || has (drop (i + 1) (barsOf y)) x
   unfolding has
   has-on x = ap (λ (bs : List ℤ). has bs x) here
 
@@ -57,7 +58,7 @@ module _ (y : Range) (i : ℕ) (small : i < length (barsOf y)) where
   moves-back e z = ap (movedBack e z) here
 
 -- two neighbours
-pub ascends-on : (y : Range) (i : ℕ) → 1 ≤ i → i < length (barsOf y)
+ascends-on : (y : Range) (i : ℕ) → 1 ≤ i → i < length (barsOf y)
     → ascends (drop (i - 1) (barsOf y)) ≡ ltZ (getD (y .barred) (i - 1) (pos 0)) (getD (y .barred) i (pos 0)) && ascends (drop i (barsOf y))
 unfolding ascends
 ascends-on y i one small =
@@ -67,7 +68,7 @@ ascends-on y i one small =
     ap ascends (d ∙ ap (λ (bs : List ℤ). getD (y .barred) (i - 1) (pos 0) ∷ bs) h) ∙ ap (λ (bs : List ℤ). ltZ (getD (y .barred) (i - 1) (pos 0)) (getD (y .barred) i (pos 0)) && ascends bs) (sym h)
 
 -- none is left, or none that has a neighbour
-pub has-end : (bs : List ℤ) (i : ℕ) (x : ℤ) → length bs ≤ i → has (drop i bs) x ≡ false
+has-end : (bs : List ℤ) (i : ℕ) (x : ℤ) → length bs ≤ i → has (drop i bs) x ≡ false
 unfolding has
 has-end bs i x h = ap (λ (l : List ℤ). has l x) (drop-of-length-le bs {i = i} h)
 
@@ -85,8 +86,42 @@ ascends-short [] h = refl
 ascends-short (b ∷ []) h = refl
 ascends-short (b ∷ c ∷ bs) h = absurd (omega arith)
 
-pub ascends-end : (bs : List ℤ) (i : ℕ) → 1 ≤ i → length bs ≤ i → ascends (drop (i - 1) bs) ≡ true
+ascends-end : (bs : List ℤ) (i : ℕ) → 1 ≤ i → length bs ≤ i → ascends (drop (i - 1) bs) ≡ true
 ascends-end bs i one h = ascends-short (drop (i - 1) bs) (omega (arith, length-drop (i - 1) bs))
+
+-- what the pass over the bars tests of place i, and what is left to test from there on
+inside-on : (a A p P q Q : Bool) → (a && A) && (not (p || P) && not (q || Q)) ≡ (a && (not p && not q)) && (A && (not P && not Q))
+inside-on false A p P q Q = refl
+inside-on true true true P q Q = refl
+inside-on true false true P q Q = refl
+inside-on true true false true true Q = refl
+inside-on true true false false true Q = refl
+inside-on true false false P true Q = refl
+inside-on true A false P false Q = refl
+
+module _ (y : Range) where
+  unfoldable pub fitFrom : ℕ → Bool
+  fitFrom i = ascends (drop (i - 1) (barsOf y)) && (not (has (drop i (barsOf y)) (y .earliest)) && not (has (drop i (barsOf y)) (y .latest)))
+
+  pub fit-first : y .count ≤ BARS → 1 ≤ length (barsOf y) → barsFit y ≡ isInside y (getD (y .barred) 0 (pos 0)) && fitFrom 1
+  unfolding fitFrom isInside
+  fit-first few some =
+      let b = getD (y .barred) 0 (pos 0) in
+      fit-few y few ∙ rw (has-on y 0 (omega arith) (y .earliest), has-on y 0 (omega arith) (y .latest))
+      (inside-on true (ascends (barsOf y)) (eqZ b (y .earliest)) (has (drop 1 (barsOf y)) (y .earliest)) (eqZ b (y .latest)) (has (drop 1 (barsOf y)) (y .latest)))
+
+  pub fit-on : (i : ℕ) → 1 ≤ i → i < length (barsOf y)
+      → fitFrom i ≡ (ltZ (getD (y .barred) (i - 1) (pos 0)) (getD (y .barred) i (pos 0)) && isInside y (getD (y .barred) i (pos 0))) && fitFrom (i + 1)
+  unfolding fitFrom isInside
+  fit-on i one small =
+      let e : i + 1 - 1 ≡ i = omega arith in
+      rw (ascends-on y i one small, has-on y i small (y .earliest), has-on y i small (y .latest), e) (inside-on (ltZ (getD (y .barred) (i - 1) (pos 0)) (getD (y .barred) i (pos 0)))
+      (ascends (drop i (barsOf y))) (eqZ (getD (y .barred) i (pos 0)) (y .earliest)) (has (drop (i + 1) (barsOf y)) (y .earliest)) (eqZ (getD (y .barred) i (pos 0)) (y .latest))
+      (has (drop (i + 1) (barsOf y)) (y .latest)))
+
+  pub fit-end : (i : ℕ) → 1 ≤ i → length (barsOf y) ≤ i → fitFrom i ≡ true
+  unfolding fitFrom
+  fit-end i one h = rw (ascends-end (barsOf y) i one h, has-end (barsOf y) i (y .earliest) h, has-end (barsOf y) i (y .latest) h)
 
 -- ---- the ranges from place i on
 pub all-on : (ys : List Range) (i : ℕ) → i < length ys → allBarsFit (drop i ys) ≡ barsFit (getD ys i anyRange) && allBarsFit (drop (suc i) ys)

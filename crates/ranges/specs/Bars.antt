@@ -9,7 +9,7 @@ use lib.ListN.{take}
 use lib.Signed.{ltZ}
 use Rattle.integers.specs.Limits.{BARS}
 use Rattle.holes.specs.Holes.{Ascending}
-use Rattle.integers.specs.WholeNumbers.{has}
+use Rattle.integers.specs.WholeNumbers.{eqZ, has}
 use Rattle.ranges.specs.declared.range.Range.{Range}
 
 -- the barred starts: the first `count` places, and no place past them
@@ -21,6 +21,10 @@ unfoldable pub ascends : List ℤ → Bool
 ascends [] = true
 ascends (b ∷ []) = true
 ascends (b ∷ c ∷ bs) = ltZ b c && ascends (c ∷ bs)
+
+-- a start is neither end of the range
+unfoldable pub isInside : Range → ℤ → Bool
+isInside y b = not (eqZ b (y .earliest)) && not (eqZ b (y .latest))
 
 -- there is room for them, they ascend, and neither end of the range is one of them
 unfoldable pub barsFit : Range → Bool

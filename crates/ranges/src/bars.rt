@@ -2,9 +2,12 @@
 use crate::range::Range;
 use integers::limits::BARS;
 ghost use mathlib.Core.Path.{_≡_};
+ghost use mathlib.Core.Bool.{_&&_};
+ghost use Prim.Native.Nat.{_≤_};
 ghost use lib.ListN.{length};
-ghost use Rattle.integers.specs.WholeNumbers.{has};
-ghost use Rattle.ranges.specs.Bars.{barsOf, ascends, barsFit, allBarsFit};
+ghost use lib.Signed.{ltZ};
+ghost use Rattle.integers.specs.Limits.{BARS};
+ghost use Rattle.ranges.specs.Bars.{barsOf, isInside, barsFit, allBarsFit};
 
 // How many places are read: the count, and no more than there are.
 pub fn places(range: Range) -> usize
@@ -16,14 +19,40 @@ pub fn places(range: Range) -> usize
     BARS
 }
 
-// Whether each barred start is below the next.
-fn ascending(range: Range) -> bool
-    ensures { λ r. ⌜ r ≡ ascends (barsOf range) ⌝ }
+// Whether the bar is neither end of the range.
+fn inside(range: Range, bar: i32) -> bool
+    ensures { λ r. ⌜ r ≡ isInside range bar ⌝ }
 {
-    let n = places(range);
+    if bar == range.earliest {
+        return false;
+    }
+    if bar == range.latest {
+        return false;
+    }
+    true
+}
+
+// Whether the bar is past the one before it, and neither end of the range.
+fn follows(range: Range, before: i32, bar: i32) -> bool
+    ensures { λ r. ⌜ r ≡ ltZ before bar && isInside range bar ⌝ }
+{
+    if bar <= before {
+        return false;
+    }
+    inside(range, bar)
+}
+
+// Whether the barred starts ascend and neither end of the range is one of them, in one pass.
+fn places_fit(range: Range) -> bool
+    requires { ⌜ (1 ≤ range .count) × (range .count ≤ BARS) ⌝ }
+    ensures { λ r. ⌜ r ≡ barsFit range ⌝ }
+{
+    if !inside(range, range.barred[0]) {
+        return false;
+    }
     let mut i = 1;
-    while i < n {
-        if range.barred[i] <= range.barred[i - 1] {
+    while i < range.count {
+        if !follows(range, range.barred[i - 1], range.barred[i]) {
             return false;
         }
         i += 1;
@@ -31,22 +60,7 @@ fn ascending(range: Range) -> bool
     true
 }
 
-// Whether the start is barred.
-fn is_barred(range: Range, start: i32) -> bool
-    ensures { λ r. ⌜ r ≡ has (barsOf range) start ⌝ }
-{
-    let n = places(range);
-    let mut i = 0;
-    while i < n {
-        if range.barred[i] == start {
-            return true;
-        }
-        i += 1;
-    }
-    false
-}
-
-// Whether there is room for the barred starts, they ascend, and neither end of the range is one of them.
+// Whether there is room for the barred starts, they ascend, and neither end of the range is one of them. Where there are none, no place is copied.
 fn bars_fit(range: Range) -> bool
     ensures { λ r. ⌜ r ≡ barsFit range ⌝ }
 {
@@ -56,13 +70,7 @@ fn bars_fit(range: Range) -> bool
     if range.count > BARS {
         return false;
     }
-    if !ascending(range) {
-        return false;
-    }
-    if is_barred(range, range.earliest) {
-        return false;
-    }
-    !is_barred(range, range.latest)
+    places_fit(range)
 }
 
 // Whether the bars of every range fit.

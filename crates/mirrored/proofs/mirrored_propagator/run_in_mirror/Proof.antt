@@ -64,16 +64,16 @@ to-is c = take-at (second c .mirror-starts2 .last .0) (drop (n c) zeros) (n c) (
 
 -- what the core left
 abbrev made : tie.After-run-accepted → tie.After-to2
-made c = c .before .before .before .before .before
+made c = c .before .before .before .before .before .before
 
 abbrev left : tie.After-run-accepted → List ℤ
-left c = c .run-accepted .last .1 .0
+left c = c .run-accepted .last .1 .1 .0
 
 left-long : (c : tie.After-run-accepted) → length (left c) ≡ n (made c)
-left-long c = c .run-accepted .kept .1 .0 ∙ length-take-le (n (made c)) (from (made c)) (omega (arith, from-long (made c), start (made c) .pre .lawful .few))
+left-long c = c .run-accepted .kept .1 .1 .0 ∙ length-take-le (n (made c)) (from (made c)) (omega (arith, from-long (made c), start (made c) .pre .lawful .few))
 
 back-long : (c : tie.After-run-accepted) → length (left c ++ drop (n (made c)) (from (made c))) ≡ TASKS
-back-long c = length-front (from (made c)) (left c) (n (made c)) (c .run-accepted .kept .1 .0) ∙ from-long (made c)
+back-long c = length-front (from (made c)) (left c) (n (made c)) (c .run-accepted .kept .1 .1 .0) ∙ from-long (made c)
 
 back-is : (c : tie.After-run-accepted) → take (n (made c)) (left c ++ drop (n (made c)) (from (made c))) ≡ left c
 back-is c = take-at (left c) (drop (n (made c)) (from (made c))) (n (made c)) (left-long c)
@@ -99,23 +99,23 @@ mirror-starts-requires-2 c κs =
     (front (a .«record» .count) (s .pre .lawful .few))
 
 array-borrow-prefix-from-2 : tie.Need-array-borrow-prefix-from-2
-array-borrow-prefix-from-2 c = omega (arith, from-long c, start c .pre .lawful .few)
+array-borrow-prefix-from-2 c = let i = c .before in omega (arith, from-long i, start i .pre .lawful .few)
 
 slice-aggregate-run-accepted : tie.Need-slice-aggregate-run-accepted
-slice-aggregate-run-accepted c = let i = c .before in sym (length-take-le (n i) (from i) (omega (arith, from-long i, start i .pre .lawful .few)))
+slice-aggregate-run-accepted c = let i = c .before .before in sym (length-take-le (n i) (from i) (omega (arith, from-long i, start i .pre .lawful .few)))
 
 array-share-prefix-to : tie.Need-array-share-prefix-to
-array-share-prefix-to c = omega (arith, to-long (c .before), start (c .before) .pre .lawful .few)
+array-share-prefix-to c = let i = c .before .before in omega (arith, to-long i, start i .pre .lawful .few)
 
 slice-aggregate-run-accepted-2 : tie.Need-slice-aggregate-run-accepted-2
-slice-aggregate-run-accepted-2 c = let i = c .before .before in sym (length-take-le (n i) (to i) (omega (arith, to-long i, start i .pre .lawful .few)))
+slice-aggregate-run-accepted-2 c = let i = c .before .before .before in sym (length-take-le (n i) (to i) (omega (arith, to-long i, start i .pre .lawful .few)))
 
 run-accepted-requires : tie.Need-run-accepted-requires
 run-accepted-requires c κs =
-    let i = c .before .before .before .before in
+    let i = c .before .before .before .before .before in
     let s = start i in
     let a = s .args in
-    runnable-at (a .«record») (a .earliest .now) (a .latest .now) (length (a .posts .now)) (length (a .atoms .now)) (s .pre) (long s) (from-is i) (to-is i)
+    (a .«record» .total, long s, runnable-at (a .«record») (a .earliest .now) (a .latest .now) (length (a .posts .now)) (length (a .atoms .now)) (s .pre) (long s) (from-is i) (to-is i))
 
 array-share-prefix-from : tie.Need-array-share-prefix-from
 array-share-prefix-from c = let r = c .before .before .before .before in omega (arith, back-long r, start (made r) .pre .lawful .few)
@@ -131,7 +131,7 @@ mirror-starts-requires-3 c κs =
     let s = start i in
     let a = s .args in
     subst (λ (zs : List ℤ). StartsMirrorable (a .latest .now) zs (a .«record» .durations)) (sym (back-is r))
-    (left-mirrorable (a .«record») (a .earliest .now) (a .latest .now) (length (a .posts .now)) (length (a .atoms .now)) (s .pre) (long s) (from-is i) (to-is i) (r .run-accepted .ensures)
+    (left-mirrorable (a .«record») (a .earliest .now) (a .latest .now) (length (a .posts .now)) (length (a .atoms .now)) (s .pre) (long s) (from-is i) (to-is i) (r .run-accepted .ensures (a .«record» .total))
     (a .latest .now) (s .pre .counts .latest))
 
 returns : tie.Need-returns
@@ -140,7 +140,7 @@ returns c =
     let i = made r in
     let s = start i in
     let a = s .args in
-    ran-in-mirror (a .«record») (a .earliest .now) (a .latest .now) (length (a .posts .now)) (length (a .atoms .now)) (s .pre) (long s) (from-is i) (to-is i) (r .run-accepted .ensures)
+    ran-in-mirror (a .«record») (a .earliest .now) (a .latest .now) (length (a .posts .now)) (length (a .atoms .now)) (s .pre) (long s) (from-is i) (to-is i) (r .run-accepted .ensures (a .«record» .total))
     (c .before .mirror-starts3 .ensures ∙ ap (λ (zs : List ℤ). mirrorStarts (take (length zs) (a .«record» .durations)) zs) (back-is r))
 
 pub run-in-mirror-spec : {M : Type 1} → statement M

@@ -5,6 +5,8 @@ use Prim.Native.Nat.{ℕ}
 use lib.ListN.{length}
 use borrow.Author.Needs.{needs}
 use Rattle.integers.specs.Limits.{TASKS}
+use Rattle.records.specs.declared.record.DisjunctivePropagator.{DisjunctivePropagator}
+use Rattle.records.specs.Records.{recordOf}
 use Rattle.sorts.proofs.Sorted.{sorted-permutes}
 use Rattle.propagator.specs.FilledTheta.{Fillable, Filled}
 use Rattle.propagator.specs.EdgeFinding.{EdgeFindable}
@@ -12,9 +14,9 @@ use Rattle.propagator.proofs.InitialArrays.{key-small, keys-small, late
 use Rattle.propagator.proofs.disjunctive_propagator.run_accepted.Statement.{statement}
 use Rattle.propagator.proofs.disjunctive_propagator.run_accepted.Tie as tie
 
--- the durations have TASKS places
-long : (c : tie.Start) → length (c .args .t1 .durations) ≡ TASKS
-long c = search needs
+-- a record of these tasks
+abbrev before : tie.Start → DisjunctivePropagator
+before c = recordOf (c .args .n) (c .args .durations .now) (c .pre .0)
 
 -- when the tree is made: what each call before left
 abbrev places : tie.After-new → tie.After-leaf-places
@@ -36,29 +38,29 @@ abbrev est : tie.After-new → tie.After-moments-of
 est c = lst c .before .before
 
 abbrev start : tie.After-new → tie.Start
-start c = est c .before .before .before .before .before
+start c = est c .before .before .before
 
 -- the tree of no task can be filled,
 abbrev can-fill : (c : tie.After-new) → let a = start c .args in
-    Fillable (c .new .result .«number_of_internal_nodes») (a .t1 .count) (c .new .result .nodes) (reverseMapping c .sort-numbers .last .0) (est c .moments-of .last .0) (a .t1 .durations)
+    Fillable (c .new .result .«number_of_internal_nodes») (a .n) (c .new .result .nodes) (reverseMapping c .sort-numbers .last .0) (est c .moments-of .last .0) (a .durations .now)
 can-fill c =
     let s = start c in
     let a = s .args in
-    fillable (a .t1) (a .earliest .now) (a .latest .now) (length (a .posts .now)) (length (a .atoms .now)) (s .pre) (long s) (est c .moments-of .ensures) (lst c .moments-of2 .ensures)
+    fillable (before s) (a .earliest .now) (a .latest .now) (length (a .posts .now)) (length (a .atoms .now)) (s .pre .2) (s .pre .1) (est c .moments-of .ensures) (lst c .moments-of2 .ensures)
     (lct c .completions .ensures)
     (reverseMapping c .sort-numbers .ensures) (sortedTasks c .sort-numbers-down .ensures) (c .new .ensures) (places c .leaf-places .ensures .0)
 
 -- and that of all tasks is what edge finding begins with
 abbrev can-find : (c : tie.After-new) (words : List ℕ) → let a = start c .args in
-    Filled (c .new .result .«number_of_internal_nodes») (a .t1 .count) (c .new .result .nodes) words (reverseMapping c .sort-numbers .last .0) (est c .moments-of .last .0) (a .t1 .durations)
-    → EdgeFindable (record { inner = c .new .result .«number_of_internal_nodes»; height = c .new .result .height; leaves = a .t1 .count }) words (a .earliest .now) (a .posts .now) (a .atoms .now)
+    Filled (c .new .result .«number_of_internal_nodes») (a .n) (c .new .result .nodes) words (reverseMapping c .sort-numbers .last .0) (est c .moments-of .last .0) (a .durations .now)
+    → EdgeFindable (record { inner = c .new .result .«number_of_internal_nodes»; height = c .new .result .height; leaves = a .n }) words (a .earliest .now) (a .posts .now) (a .atoms .now)
     (est c .moments-of .last .0)
-    (lst c .moments-of2 .last .0) (lct c .completions .last .0) (a .t1 .durations) (reverseMapping c .sort-numbers .last .0) (sortedTasks c .sort-numbers-down .last .0)
+    (lst c .moments-of2 .last .0) (lct c .completions .last .0) (a .durations .now) (reverseMapping c .sort-numbers .last .0) (sortedTasks c .sort-numbers-down .last .0)
     (places c .leaf-places .last .0)
 can-find c words filled =
     let s = start c in
     let a = s .args in
-    findable (a .t1) (a .earliest .now) (a .latest .now) (length (a .posts .now)) (length (a .atoms .now)) (s .pre) (long s) (est c .moments-of .ensures) (lst c .moments-of2 .ensures)
+    findable (before s) (a .earliest .now) (a .latest .now) (length (a .posts .now)) (length (a .atoms .now)) (s .pre .2) (s .pre .1) (est c .moments-of .ensures) (lst c .moments-of2 .ensures)
     (lct c .completions .ensures)
     (reverseMapping c .sort-numbers .ensures) (sortedTasks c .sort-numbers-down .ensures) (c .new .ensures) (places c .leaf-places .ensures .0) (filled (can-fill c)) refl refl
 
@@ -66,28 +68,28 @@ completions-requires : tie.Need-completions-requires
 completions-requires c κs =
     let first = c .before .before .before .before in
     let second = c .before .before in
-    let s = first .before .before .before .before .before in
+    let s = first .before .before .before in
     let a = s .args in (
-      s .pre .lawful .few,
-      key-small (a .t1) (a .earliest .now) (a .latest .now) (length (a .posts .now)) (length (a .atoms .now)) (s .pre) (long s) (second .moments-of2 .last .0)
-          (latest (a .t1) (a .earliest .now) (a .latest .now) (length (a .posts .now)) (length (a .atoms .now)) (s .pre) (long s) (first .moments-of .ensures) (second .moments-of2 .ensures)),
+      s .pre .2 .lawful .few,
+      key-small (before s) (a .earliest .now) (a .latest .now) (length (a .posts .now)) (length (a .atoms .now)) (s .pre .2) (s .pre .1) (second .moments-of2 .last .0)
+          (latest (before s) (a .earliest .now) (a .latest .now) (length (a .posts .now)) (length (a .atoms .now)) (s .pre .2) (s .pre .1) (first .moments-of .ensures) (second .moments-of2 .ensures)),
     )
 
 sort-numbers-down-requires : tie.Need-sort-numbers-down-requires
 sort-numbers-down-requires c κs =
     let first = c .before .before .before .before .before .before .before .before .before .before in
     let second = c .before .before .before .before .before .before .before .before in
-    let s = first .before .before .before .before .before in
+    let s = first .before .before .before in
     let a = s .args in (
-      s .pre .lawful .few,
+      s .pre .2 .lawful .few,
       refl,
-      keys-small (a .t1) (a .earliest .now) (a .latest .now) (length (a .posts .now)) (length (a .atoms .now)) (s .pre) (long s) (first .moments-of .ensures)
+      keys-small (before s) (a .earliest .now) (a .latest .now) (length (a .posts .now)) (length (a .atoms .now)) (s .pre .2) (s .pre .1) (first .moments-of .ensures)
           (second .moments-of2 .ensures) (c .before .before .before .before .before .completions .ensures),
     )
 
 leaf-places-requires : tie.Need-leaf-places-requires
 leaf-places-requires c κs =
-    let few = c .before .before .before .before .before .before .before .before .before .before .before .before .before .before .before .before .before .before .pre .lawful .few in
+    let few = c .before .before .before .before .before .before .before .before .before .before .before .before .before .before .before .before .pre .2 .lawful .few in
     (few, refl, sorted-permutes (c .before .before .before .before .before .sort-numbers .ensures))
 
 fill-requires : tie.Need-fill-requires
@@ -104,9 +106,20 @@ returns c =
     let u = full .before .before .before .before in
     let s = start u in
     let a = s .args in
-    left (a .t1) (a .earliest .now) (a .latest .now) (length (a .posts .now)) (length (a .atoms .now)) (s .pre) (long s) (est u .moments-of .ensures) (lst u .moments-of2 .ensures)
+    let l = left (before s) (a .earliest .now) (a .latest .now) (length (a .posts .now)) (length (a .atoms .now)) (s .pre .2) (s .pre .1) (est u .moments-of .ensures) (lst u .moments-of2 .ensures)
     (lct u .completions .ensures)
-    (reverseMapping u .sort-numbers .ensures) (sortedTasks u .sort-numbers-down .ensures) refl refl (c .before .before .before .edge-finding .ensures (can-find u _ (full .fill .ensures)))
+    (reverseMapping u .sort-numbers .ensures) (sortedTasks u .sort-numbers-down .ensures) refl refl (c .before .before .before .edge-finding .ensures (can-find u _ (full .fill .ensures))) in
+    -- the stored sum stands in no field
+    λ stored. record {
+      answer = l .answer;
+      changes = l .changes;
+      changes-most = l .changes-most;
+      starts = l .starts;
+      post-words = l .post-words;
+      atom-words = l .atom-words;
+      posts-fit = l .posts-fit;
+      atoms-fit = l .atoms-fit;
+    }
 
 pub run-accepted-spec : {M : Type 1} → statement M
 run-accepted-spec =
