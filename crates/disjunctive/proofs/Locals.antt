@@ -3,7 +3,7 @@ use Rattle.disjunctive.proofs.Walk.{_≡_, refl, sym, ap, _∙_, subst,
 use Rattle.disjunctive.proofs.Walk.{ent, sep, emp, id⊢, via, fst∗, ftrue, fsep, fat, Heap, Env, Atoms, sem, Given, Item, ‵, ⋆, Goal, Seq, Step, step, _$_, move, drop, fsplit, fjoin, look-in}
 use Rattle.disjunctive.proofs.Walk.{Opds, stop, load, and-then, no-more, forget, alloc1, alloc0, init, params1, pass1, pass0, free1, free0, nothing}
 use lib.ListN.{getD}
-use mir.Syntax.{tyEnum, ttnil, Step as PStep, Local, local, valueLocal}
+use mir.Syntax.{tyEnum, ttnil, Step as PStep, Home, Local, local, valueLocal}
 use base.Logic.{wand, comm∗, assoc∗, assoc′, monoL, monoR, emp∗, wandI, allI, guardI}
 use base.Fml.{Fml, froom, fdies}
 use prog.Wp.{Spot, walk}
@@ -59,9 +59,13 @@ abbrev pub fresh : (τs : List Ty) → Blocks τs → List Cell
 fresh [] bs = []
 fresh (τ ∷ τs) bs = (τ, bs .0, none) ∷ fresh τs (bs .1)
 
+-- each with its home
+abbrev pub homed : (ℕ → Home) → List Ty → List Local
+homed h [] = []
+homed h (τ ∷ τs) = local τ (h zero) ∷ homed (λ i. h (suc i)) τs
+
 abbrev pub locals : List Ty → List Local
-locals [] = []
-locals (τ ∷ τs) = local τ valueLocal ∷ locals τs
+locals τs = homed (λ _. valueLocal) τs
 
 pub env-store : (σ : List Cell) (i : ℕ) (v : Val) → envOf (store σ i v) ≡ envOf σ
 env-store [] i v = refl
@@ -129,7 +133,7 @@ module _ {M : Type 1} (𝓤 : URA M) (H : Heap 𝓤) (A : Atoms 𝓤) where
       via 𝓤 (sep 𝓤 ⟦ held c ⟧ (sep 𝓤 ⟦ lying (filled (cellAt σ i) v) ⟧ ⟦ rest σ i ⟧)) (swap ⟦ lying (filled (cellAt σ i) v) ⟧ ⟦ held c ⟧ ⟦ rest σ i ⟧) (monoR 𝓤 ⟦ held c ⟧ (into σ i v))
 
 -- a local of a given type and content is found at a number; and values at several
-abbrev nowhere : Ty × ℕ
+abbrev pub nowhere : Ty × ℕ
 nowhere = (tyEnum [] ttnil, zero)
 
 abbrev pub At : List (Ty × ℕ) → List Cell → ℕ → Ty → Option Val → Type 0
@@ -203,11 +207,11 @@ module _ {M : Type 1} {𝓤 : URA M} {H : Heap 𝓤} {A : Atoms 𝓤} {K : Type 
         (copied t n σ is vs at-n (e .1))
 
   -- the locals are allocated, all at once
-  pub allocates : K → {Γ : List (Item 𝓤)} (τs : List Ty) {Kt : Env 𝓤 H → Goal 𝓤 H} → ((bs : Blocks τs) → Seq K W (‵ (cells (fresh τs bs)) ∷ Γ) (Kt (envOf (fresh τs bs))))
-      → Seq K W Γ (allocs (locals τs) Kt)
+  pub allocates : K → {Γ : List (Item 𝓤)} (h : ℕ → Home) (τs : List Ty) {Kt : Env 𝓤 H → Goal 𝓤 H} → ((bs : Blocks τs) → Seq K W (‵ (cells (fresh τs bs)) ∷ Γ) (Kt (envOf (fresh τs bs))))
+      → Seq K W Γ (allocs (homed h τs) Kt)
   unfolding cells
-  allocates t [] k = alloc0 t $ nothing t $ k tt
-  allocates t (τ ∷ τs) {Kt} k = alloc1 t (λ b. fjoin t $ allocates t τs {Kt = λ E. Kt ((τ, b) ∷ E)} (λ bs. move t (1 ∷ 0 ∷ []) $ fjoin t $ k (b, bs)))
+  allocates t h [] k = alloc0 t $ nothing t $ k tt
+  allocates t h (τ ∷ τs) {Kt} k = alloc1 t (λ b. fjoin t $ allocates t (λ i. h (suc i)) τs {Kt = λ E. Kt ((τ, b) ∷ E)} (λ bs. move t (1 ∷ 0 ∷ []) $ fjoin t $ k (b, bs)))
 
   -- the parameters are stored, and in the end all are freed
   passes-all : K → {Γ : List (Item 𝓤)} (τs : List Ty) (bs : Blocks τs) (vs : List Val) {g : Goal 𝓤 H} → Fit τs vs

@@ -1,5 +1,6 @@
 pub mod LentRecord
 pub mod CoreCalls
-mod StartsReaders
-mod LentAgain
-mod ReadOnlyCalls
+pub mod StartsReaders
+pub mod LentAgain
+pub mod ReadOnlyCalls
+pub mod ReadCalls

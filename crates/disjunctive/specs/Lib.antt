@@ -1,3 +1,4 @@
+pub mod GivenRanges
 pub mod Cores
 pub mod PrecedencesCore
 pub mod Examples

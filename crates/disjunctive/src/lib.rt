@@ -3,6 +3,7 @@
 // On a record and ranges: the run, the mirrored pass, the pass by precedences, one task's bound and its reason, the overload test.
 // On a fixed schedule: the page, the charges, the earliest free start, the busiest stretch.
 // On words: the post reader, the check, the mirrored check, and the calls of the variable state.
+pub mod by_value;
 mod cores;
 mod fixed_schedule_cores;
 pub mod open_calls;

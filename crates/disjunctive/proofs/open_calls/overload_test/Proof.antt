@@ -1,39 +1,20 @@
 -- Nothing is passed beside the record and the starts.
 use denote.Enum.Laws as L
-use Rattle.overload_test.specs.Tested.{OverloadTested}
-use Rattle.overload_test.proofs.TooManyRanges.{too-many}
 use Rattle.overload_test.proofs.Overload as O
 use Rattle.overload_test.proofs.Overload.Laws as O′
 use Rattle.disjunctive.proofs.cores.overload_core.Symbol as core
 use Rattle.disjunctive.proofs.cores.overload_core.Met as core-thm
-use Rattle.disjunctive.proofs.Walk.{givenOf, refl, [], _∷_, none}
-use Rattle.disjunctive.proofs.open_calls.ReadOnlyCalls.{Reading, reads-only}
-use Rattle.disjunctive.proofs.open_calls.StartsReaders.{starts-with-bars}
+use Rattle.disjunctive.proofs.Walk.{givenOf, refl}
+use Rattle.disjunctive.proofs.open_calls.ReadCalls.{overload-test}
+use Rattle.disjunctive.proofs.open_calls.ReadOnlyCalls.{reads-only}
 use Rattle.disjunctive.proofs.open_calls.overload_test.Key.{name}
 use Rattle.disjunctive.proofs.open_calls.overload_test.Statement as stated
 use Rattle.disjunctive.proofs.open_calls.overload_test.Code as code
 
-abbrev call : Reading
-call = record {
-  reader = starts-with-bars;
-  lifetimes = 0;
-  beside = [];
-  Answer = O.the-row;
-  Holds = λ κs h es ls bars b r e. OverloadTested h es ls bars r;
-  too-many = λ κs h es ls bars b r e. too-many h es ls bars bars r;
-  values = λ κs. tt;
-  tells = λ κs. tt;
-  answerTy = O′.mir;
-  besideTys = [];
-  again = none;
-  slice = λ κs b. ((0, 0), 0);
-  operands = [];
-}
-
 pub overload-test-spec : {M : Type 1} → stated.statement M
 unfolding code.routine
 overload-test-spec 𝓤 H 𝓜 𝓖 𝓡 =
-    reads-only call 𝓤 H 𝓜 𝓖 𝓡 code.env name core.name (λ r v is. L.lawful O.the-type O′.the-laws 𝓤 H (𝓖 .A) (givenOf 𝓤 H 𝓜 𝓖) tt .typed r _ is .0)
+    reads-only overload-test 𝓤 H 𝓜 𝓖 𝓡 code.env name core.name (λ r v is. L.lawful O.the-type O′.the-laws 𝓤 H (𝓖 .A) (givenOf 𝓤 H 𝓜 𝓖) tt .typed r _ is .0)
     (λ κs b are v u bs. record {
       fits = tt;
       starts-at = (_, refl, refl);

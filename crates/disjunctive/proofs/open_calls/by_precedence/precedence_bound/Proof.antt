@@ -1,40 +1,20 @@
 -- The task's number is passed beside the record and the starts.
-use denote.Plain.{uint-vals, uint-tells}
 use denote.Enum.Laws as L
-use Rattle.precedences.specs.Bounds.{BoundGiven}
-use Rattle.precedences.proofs.ReasonTooManyRanges.{too-many-bound}
 use Rattle.precedences.proofs.reason.BoundAbove as O
 use Rattle.precedences.proofs.reason.BoundAbove.Laws as O′
 use Rattle.disjunctive.proofs.precedence_cores.bound_core.Symbol as core
 use Rattle.disjunctive.proofs.precedence_cores.bound_core.Met as core-thm
-use Rattle.disjunctive.proofs.Walk.{givenOf, refl, [], _∷_, none, w64, tyInt, usize, plain}
-use Rattle.disjunctive.proofs.open_calls.ReadOnlyCalls.{Reading, reads-only}
-use Rattle.disjunctive.proofs.open_calls.StartsReaders.{starts-with-bars}
+use Rattle.disjunctive.proofs.Walk.{givenOf, refl}
+use Rattle.disjunctive.proofs.open_calls.ReadCalls.{precedence-bound}
+use Rattle.disjunctive.proofs.open_calls.ReadOnlyCalls.{reads-only}
 use Rattle.disjunctive.proofs.open_calls.by_precedence.precedence_bound.Key.{name}
 use Rattle.disjunctive.proofs.open_calls.by_precedence.precedence_bound.Statement as stated
 use Rattle.disjunctive.proofs.open_calls.by_precedence.precedence_bound.Code as code
 
-abbrev call : Reading
-call = record {
-  reader = starts-with-bars;
-  lifetimes = 0;
-  beside = plain (λ _. usize) ∷ [];
-  Answer = O.the-row;
-  Holds = λ κs h es ls bars b r e. BoundGiven h es ls bars (b .0) r;
-  too-many = λ κs h es ls bars b r e. too-many-bound h es ls bars bars (b .0) r;
-  values = λ κs. (uint-vals w64, tt);
-  tells = λ κs. (uint-tells w64, tt);
-  answerTy = O′.mir;
-  besideTys = tyInt w64 ∷ [];
-  again = none;
-  slice = λ κs b. ((0, 0), 0);
-  operands = 3 ∷ [];
-}
-
 pub precedence-bound-spec : {M : Type 1} → stated.statement M
 unfolding code.routine
 precedence-bound-spec 𝓤 H 𝓜 𝓖 𝓡 =
-    reads-only call 𝓤 H 𝓜 𝓖 𝓡 code.env name core.name (λ r v is. L.lawful O.the-type O′.the-laws 𝓤 H (𝓖 .A) (givenOf 𝓤 H 𝓜 𝓖) tt .typed r _ is .0)
+    reads-only precedence-bound 𝓤 H 𝓜 𝓖 𝓡 code.env name core.name (λ r v is. L.lawful O.the-type O′.the-laws 𝓤 H (𝓖 .A) (givenOf 𝓤 H 𝓜 𝓖) tt .typed r _ is .0)
     (λ κs b are v u bs. record {
       fits = ((tt, record { fits = are .0 .1 }), tt);
       starts-at = (_, refl, refl);

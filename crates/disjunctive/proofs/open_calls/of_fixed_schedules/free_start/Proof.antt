@@ -1,41 +1,21 @@
 -- The moment and the duration are passed beside the record and the starts.
 use mir.ValLaws.{ofZ-fits}
-use denote.Signed.{sint-vals, sint-tells}
 use denote.Enum.Laws as L
-use Rattle.free_starts.specs.FreeStarts.{FreeStartAnswered}
-use Rattle.free_starts.proofs.Answers.{too-many}
 use Rattle.free_starts.proofs.FreeStart as O
 use Rattle.free_starts.proofs.FreeStart.Laws as O′
 use Rattle.disjunctive.proofs.fixed_schedule_cores.free_core.Symbol as core
 use Rattle.disjunctive.proofs.fixed_schedule_cores.free_core.Met as core-thm
-use Rattle.disjunctive.proofs.Walk.{givenOf, refl, [], _∷_, none, w32, tyInt, i32, plain}
-use Rattle.disjunctive.proofs.open_calls.ReadOnlyCalls.{Reading, reads-only}
-use Rattle.disjunctive.proofs.open_calls.StartsReaders.{starts}
+use Rattle.disjunctive.proofs.Walk.{givenOf, refl, w32}
+use Rattle.disjunctive.proofs.open_calls.ReadCalls.{free-start}
+use Rattle.disjunctive.proofs.open_calls.ReadOnlyCalls.{reads-only}
 use Rattle.disjunctive.proofs.open_calls.of_fixed_schedules.free_start.Key.{name}
 use Rattle.disjunctive.proofs.open_calls.of_fixed_schedules.free_start.Statement as stated
 use Rattle.disjunctive.proofs.open_calls.of_fixed_schedules.free_start.Code as code
 
-abbrev call : Reading
-call = record {
-  reader = starts;
-  lifetimes = 0;
-  beside = plain (λ _. i32) ∷ plain (λ _. i32) ∷ [];
-  Answer = O.the-row;
-  Holds = λ κs h es ls bars b r e. FreeStartAnswered h es ls (b .0) (b .1 .0) r;
-  too-many = λ κs h es ls bars b r e. too-many h es ls (b .0) (b .1 .0) r;
-  values = λ κs. (sint-vals w32, (sint-vals w32, tt));
-  tells = λ κs. (sint-tells w32, (sint-tells w32, tt));
-  answerTy = O′.mir;
-  besideTys = tyInt w32 ∷ tyInt w32 ∷ [];
-  again = none;
-  slice = λ κs b. ((0, 0), 0);
-  operands = 3 ∷ 4 ∷ [];
-}
-
 pub free-start-spec : {M : Type 1} → stated.statement M
 unfolding code.routine
 free-start-spec 𝓤 H 𝓜 𝓖 𝓡 =
-    reads-only call 𝓤 H 𝓜 𝓖 𝓡 code.env name core.name (λ r v is. L.lawful O.the-type O′.the-laws 𝓤 H (𝓖 .A) (givenOf 𝓤 H 𝓜 𝓖) tt .typed r _ is .0)
+    reads-only free-start 𝓤 H 𝓜 𝓖 𝓡 code.env name core.name (λ r v is. L.lawful O.the-type O′.the-laws 𝓤 H (𝓖 .A) (givenOf 𝓤 H 𝓜 𝓖) tt .typed r _ is .0)
     (λ κs b are v u bs. record {
       fits = ((tt, ofZ-fits w32 (b .0) (record { sfits = are .0 .1 })), ((tt, ofZ-fits w32 (b .1 .0) (record { sfits = are .1 .0 .1 })), tt));
       starts-at = (_, refl, refl);

@@ -1,39 +1,20 @@
 -- The buffer is passed beside the record and the starts, for good.
 use denote.Enum.Laws as L
-use Rattle.pages.specs.Pages.{Paged}
-use Rattle.pages.proofs.PageLines.{too-many}
 use Rattle.pages.proofs.answer.Page as O
 use Rattle.pages.proofs.answer.Page.Laws as O′
 use Rattle.disjunctive.proofs.fixed_schedule_cores.page_core.Symbol as core
 use Rattle.disjunctive.proofs.fixed_schedule_cores.page_core.Met as core-thm
-use Rattle.disjunctive.proofs.Walk.{givenOf, refl, [], _∷_, some, length, w8, named, mut, tyInt, tyRef, u8, now, plain, mutSliceOf, sliceTy, slice-vals, mut-slice-tells}
-use Rattle.disjunctive.proofs.open_calls.ReadOnlyCalls.{Reading, reads-only}
-use Rattle.disjunctive.proofs.open_calls.StartsReaders.{starts}
+use Rattle.disjunctive.proofs.Walk.{givenOf, refl, named}
+use Rattle.disjunctive.proofs.open_calls.ReadCalls.{page}
+use Rattle.disjunctive.proofs.open_calls.ReadOnlyCalls.{reads-only}
 use Rattle.disjunctive.proofs.open_calls.of_fixed_schedules.page.Key.{name}
 use Rattle.disjunctive.proofs.open_calls.of_fixed_schedules.page.Statement as stated
 use Rattle.disjunctive.proofs.open_calls.of_fixed_schedules.page.Code as code
 
-abbrev call : Reading
-call = record {
-  reader = starts;
-  lifetimes = 1;
-  beside = mutSliceOf (0 ∷ []) tt (plain (λ _. u8)) ∷ [];
-  Answer = O.the-row;
-  Holds = λ κs h es ls bars b r e. Paged h es ls (now (b .0)) r (now (e .0));
-  too-many = λ κs h es ls bars b r e. too-many h es ls (now (b .0)) r (now (e .0));
-  values = λ κs. (slice-vals, tt);
-  tells = λ κs. (mut-slice-tells (named 0) (κs .0) u8, tt);
-  answerTy = O′.mir;
-  besideTys = sliceTy (tyRef (named 2) mut (tyInt w8)) ∷ [];
-  again = some (3, tyInt w8);
-  slice = λ κs b. (b .0 .ptr, length (now (b .0)));
-  operands = 7 ∷ [];
-}
-
 pub page-spec : {M : Type 1} → stated.statement M
 unfolding code.routine
 page-spec 𝓤 H 𝓜 𝓖 𝓡 =
-    reads-only call 𝓤 H 𝓜 𝓖 𝓡 code.env name core.name (λ r v is. L.lawful O.the-type O′.the-laws 𝓤 H (𝓖 .A) (givenOf 𝓤 H 𝓜 𝓖) tt .typed r _ is .0)
+    reads-only page 𝓤 H 𝓜 𝓖 𝓡 code.env name core.name (λ r v is. L.lawful O.the-type O′.the-laws 𝓤 H (𝓖 .A) (givenOf 𝓤 H 𝓜 𝓖) tt .typed r _ is .0)
     (λ κs b are v u bs. record {
       fits = ((tt, (tt, (record { fits = are .0 .0 .1 .0 }, tt))), tt);
       starts-at = (_, refl, refl);

@@ -1,0 +1,4 @@
+mod LentCounts
+mod LocalRanges
+mod Loans
+mod PlainCalls

@@ -1,0 +1,65 @@
+-- The record is lent as a `&`, and the ranges as a `&mut`.
+use mathlib.Core.Logic.{inr}
+use mir.Val.{vstruct, ofList}
+use denote.Struct.Laws as LL
+use denote.Enum.Laws as L
+use Rattle.promises.specs.RanMirroredLent.{RanMirroredLent}
+use Rattle.runs.proofs.outcome.Outcome as F
+use Rattle.runs.proofs.outcome.Outcome.Laws as F′
+use Rattle.disjunctive.specs.GivenRanges.{StoredIn}
+use Rattle.disjunctive.proofs.Walk.{givenOf, refl, sym, ap, subst, [], _∷_, some, Val, w32, named, mut, tyInt, tyRef, i32, now, length, Is, plain, mutSliceOf, sliceTy, slice-vals, mut-slice-tells, only}
+use Rattle.disjunctive.proofs.open_calls.run_mirrored.Symbol as lent
+use Rattle.disjunctive.proofs.open_calls.run_mirrored.Met as lent-thm
+use Rattle.disjunctive.proofs.by_value.RanMirrored as R
+use Rattle.disjunctive.proofs.by_value.RanMirrored.Laws as R′
+use Rattle.disjunctive.proofs.by_value.LocalRanges.{machK}
+use Rattle.disjunctive.proofs.by_value.Loans.{shared, changed}
+use Rattle.disjunctive.proofs.by_value.PlainCalls.{Plain, by-lending}
+use Rattle.disjunctive.proofs.by_value.run_mirrored.Key.{name}
+use Rattle.disjunctive.proofs.by_value.run_mirrored.Statement as stated
+use Rattle.disjunctive.proofs.by_value.run_mirrored.Code as code
+
+abbrev call : Plain
+call = record {
+  record-as = shared;
+  ranges-as = changed;
+  lifetimes = 2;
+  beside = mutSliceOf (0 ∷ []) tt (plain (λ _. i32)) ∷ mutSliceOf (1 ∷ []) tt (plain (λ _. i32)) ∷ [];
+  Answer = F.the-row;
+  Holds = λ κs h ys b r h′ ys′ e. RanMirroredLent h ys (now (b .0)) (now (b .1 .0)) r ys′ (now (e .0)) (now (e .1 .0));
+  Result = R.the-row;
+  result = λ r zs. record { outcome = r; ranges = zs };
+  Said = λ κs h x b r e. StoredIn x (r .ranges) (λ ys ys′. RanMirroredLent h ys (now (b .0)) (now (b .1 .0)) (r .outcome) ys′ (now (e .0)) (now (e .1 .0)));
+  said = λ κs h h′ x b r zs e holds rest. record { promise = holds; others = rest };
+  values = λ κs. (slice-vals, (slice-vals, tt));
+  tells = λ κs. (mut-slice-tells (named 0) (κs .0) i32, (mut-slice-tells (named 1) (κs .1 .0) i32, tt));
+  resultTy = R′.mir;
+  answerTy = F′.mir;
+  besideTys = sliceTy (tyRef (named 0) mut (tyInt w32)) ∷ sliceTy (tyRef (named 1) mut (tyInt w32)) ∷ [];
+  again = some (3, tyInt w32);
+  slice = λ κs b. (b .0 .ptr, length (now (b .0)));
+  again₂ = some (4, tyInt w32);
+  slice₂ = λ κs b. (b .1 .0 .ptr, length (now (b .1 .0)));
+  operands = 13 ∷ 15 ∷ [];
+}
+
+pub run-mirrored-spec : {M : Type 1} → stated.statement M
+unfolding code.routine
+run-mirrored-spec 𝓤 H 𝓜 𝓖 𝓡 =
+    let W = givenOf 𝓤 H 𝓜 𝓖 in
+    by-lending 𝓤 H call 𝓜 𝓖 𝓡 code.env name lent.name (record {
+      answer = λ r v is. L.lawful F.the-type F′.the-laws 𝓤 H (𝓖 .A) W tt .typed r _ is .0;
+      made = λ r v is zs iz. subst (λ (u : Val). Is F.the-row r (u ∷ []) → Is R.the-row (record { outcome = r; ranges = zs }) (vstruct (ofList (u ∷ machK zs ∷ [])) ∷ []))
+          (sym (ap only (L.tells F.the-type F′.the-laws r (v ∷ []) is))) (λ is′. LL.owes R.the-type R′.the-laws (record { outcome = r; ranges = zs }) (is′, (iz, tt))) is;
+      typed = λ d v is. LL.lawful R.the-type R′.the-laws 𝓤 H (𝓖 .A) W .typed d _ is .0;
+      makes = (LL.makes R.the-type R′.the-plain) 𝓤 H (𝓖 .A);
+    })
+    (λ κs b are h x n bs. record {
+      fits = ((tt, (tt, (record { fits = are .0 .0 .1 .0 }, tt))), ((tt, (tt, (record { fits = are .1 .0 .0 .1 .0 }, tt))), tt));
+      places = ((_, refl, refl), (_, refl, refl), (_, refl, refl), (_, refl, refl), (_, refl, refl), (_, refl, refl), (_, refl, refl), (_, refl, refl));
+      agains = ((named 0, (_, refl, refl), (_, refl, refl), (_, refl, refl), (_, refl, refl), (_, refl, refl), (tt, (tt, (record { fits = are .0 .0 .1 .0 }, tt)))), (named 1, (_, refl, refl), (_, refl, refl), (_, refl, refl), (_, refl, refl), (_, refl, refl), (tt, (tt, (record { fits = are .1 .0 .0 .1 .0 }, tt)))));
+      apart = refl;
+      passed = ((_, _, refl, inr (1, refl)), ((_, _, refl, inr (3, refl)), ((_, _, refl, inr (5, refl)), ((_, _, refl, inr (7, refl)), tt))));
+      ends = λ h′ zs v. (refl, (_, refl, refl), (_, refl, refl), (_, refl, refl), (_, refl, refl), refl);
+    })
+    (code.unfolded 𝓤 H 𝓜 𝓡) code.calls-disjunctive·by-value·lent lent.routine code.calls-disjunctive·open-calls·run-mirrored (lent-thm.met 𝓤 H 𝓜 𝓖 𝓡)
