@@ -28,7 +28,7 @@ pub enum Overload {
 fn read_tasks<'a>(
     nodes: &mut [u32; THETAWORDS],
     inner: usize,
-    mapping: &'a [usize; TASKS],
+    mapping: &'a [u32; TASKS],
     tasks: &'a [usize; TASKS],
     est: &'a [u32; TASKS],
     lct: &'a [u32; TASKS],

@@ -19,11 +19,11 @@ use Rattle.trees.specs.declared.complete_tree.TreeSize.{TreeSize}
 use Rattle.trees.specs.Ects.{exceeds, raisedTo}
 use Rattle.trees.proofs.Ects.{raised-some, within-bound, raised-least}
 use Rattle.trees.specs.Leaves as leaves
-use Rattle.trees.specs.Leaves.{Leaf, empty}
+use Rattle.trees.specs.Leaves.{Leaf, empty, grayAt}
 use Rattle.trees.specs.ArraySearches.{thetaIn}
 use Rattle.trees.specs.Shapes.{heightFor}
 use Rattle.trees.specs.Trees.{IsTree}
-use Rattle.trees.specs.Operations.{Held, Tall, Coloured}
+use Rattle.trees.specs.Operations.{Held, Tall, InLambda, Coloured}
 use Rattle.trees.proofs.Heights.{room as room-for}
 use Rattle.trees.proofs.RootAnswers as tree
 use Rattle.trees.proofs.Trees.{theta-of}
@@ -230,17 +230,20 @@ module _ {size : TreeSize} {lct : ℕ} {words : List ℕ} {es posts atoms : List
     post-room = omega (arith, s .at .slices .posted, fewer, s .small, s .post-room, s .arrays .count, ap length (s .at .slices .post-words) ∙ length-sets (s .posts₀) 0 (postWords 0 (s .st .posts)))
 
     -- the task's leaf may be emptied, and is then
-    place-inside : {k : ℕ} → k ≡ getD mapping i 0 → k < J .count
-    place-inside e = omega (arith, e, leaf, found .small)
+    in-lambda : {k : ℕ} → k ≡ getD mapping i 0 → (k < J .count) × (grayAt ls k ≡ true)
+    in-lambda e = (
+      omega (arith, e, leaf, found .small),
+      ap (grayAt ls) (e ∙ leaf) ∙ tree.gray-at J (G .proper) estOrder (G .by-earliest) ls Θ Λ shape x (found .small) ∙ found .gray .mem,
+    )
 
-    pub may-clear : {k : ℕ} → k ≡ getD mapping i 0 → (h : Held inn words) × (k < h .J .count)
-    may-clear e = (shown, place-inside e)
+    pub may-clear : {k : ℕ} → k ≡ getD mapping i 0 → (h : Held inn words) × InLambda h k
+    may-clear e = (shown, in-lambda e)
 
     abbrev pub Cleared : ℕ → List ℕ → Type 0
-    Cleared k words′ = (h : Held inn words) → k < h .J .count → Coloured empty h k words′
+    Cleared k words′ = (h : Held inn words) → InLambda h k → Coloured empty h k words′
 
     cleared : {k : ℕ} (words′ : List ℕ) → k ≡ getD mapping i 0 → Cleared k words′ → IsTree J estOrder (set ls x empty) inn words′
-    cleared words′ e q = subst (λ (k : ℕ). IsTree J estOrder (set ls k empty) inn words′) (e ∙ leaf) (q shown (place-inside e))
+    cleared words′ e q = subst (λ (k : ℕ). IsTree J estOrder (set ls k empty) inn words′) (e ∙ leaf) (q shown (in-lambda e))
 
     -- the start, raised to the ect of Theta
     module _ (b : ℕ) (is : b ≡ raisedTo (getD est i 0) (leaves.ect J estOrder ls)) where

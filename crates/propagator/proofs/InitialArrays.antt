@@ -14,6 +14,7 @@ use Rattle.integers.specs.Moments.{instant, zeroAt, Above, momentAt, completion
 use Rattle.integers.specs.Orders.{sort, index, numbers}
 use Rattle.integers.proofs.FilledLists.{filled-length, filled-at}
 use Rattle.integers.proofs.Ints.{up, dn}
+use Rattle.integers.proofs.StableSort.{key-whole, key-chain}
 use Rattle.integers.proofs.MomentSums.{mono, above-up, above-show, instant-moment}
 use Rattle.scheduling.specs.Scheduling.{whole, natural, Tasks, tasksOf, Proper, processing, completion}
 use Rattle.scheduling.proofs.Processing.{processing-less, processing-all}
@@ -21,7 +22,6 @@ use Rattle.scheduling.proofs.Clocks.{sound}
 use Rattle.scheduling.specs.Moments.{moments, ByEarliest}
 use Rattle.trees.specs.Leaves.{white}
 use Rattle.trees.specs.Trees.{IsTree}
-use Rattle.trees.specs.Mappings.{Maps}
 use Rattle.trees.specs.Operations.{New}
 use Rattle.trees.specs.declared.theta_lambda_tree.ThetaLambdaTree.{ThetaLambdaTree}
 use Rattle.trees.proofs.RootAnswers as tree
@@ -37,7 +37,8 @@ use Rattle.runs.proofs.LeafChanges.{changes-most}
 use Rattle.runs.proofs.WordRoom as few-words
 use Rattle.runs.proofs.InnerLoop.{propagate-is}
 use Rattle.runs.proofs.TaskLists.{tabulated}
-use Rattle.sorts.specs.Orders.{SortedBy, byKey, byKeyDown}
+use Rattle.sorts.specs.Orders.{SortedBy, Ranked, byKey, byKeyDown}
+use Rattle.sorts.proofs.Ranks.{rank-index}
 use Rattle.sorts.proofs.Sorted.{sorted-as}
 use Rattle.records.specs.declared.record.DisjunctivePropagator.{DisjunctivePropagator}
 use Rattle.propagator.specs.RunArrays.{Ordered, Holds, At}
@@ -210,10 +211,10 @@ module _ (r : DisjunctivePropagator) (es ls : List ℤ) (postCount atomCount : �
       pub sorted-tasks-order : Holds n (λ t. getD lctOrder t 0) sortedTasks
       sorted-tasks-order = holds-order sortedTasks lctOrder (sorted-second lct completions g) (g .size)
 
-      -- the new tree, and the leaf of each task by the order
-      module _ {made : ThetaLambdaTree} {mapping : List ℕ} (t : New n made) (m : Maps n reverseMapping mapping) where
+      -- the new tree, and the leaf of each task by its rank
+      module _ {made : ThetaLambdaTree} {mapping : List ℕ} (t : New n made) (m : Ranked (byKey est) n mapping) where
         pub places : (x : ℕ) → x < n → getD mapping x 0 ≡ index estOrder x
-        places x q = m .leaf x q ∙ ap (λ (o : List ℕ). index o x) front
+        places x q = m .at x q ∙ rank-index (byKey est) (key-whole (λ k. getD est k 0)) (key-chain (λ k. getD est k 0)) n x q ∙ ap (λ (o : List ℕ). index o x) (sym (f .front) ∙ front)
 
         abbrev pub fillable : Fillable (made .«number_of_internal_nodes») n (made .nodes) reverseMapping est (r .durations)
         fillable = record {

@@ -11,10 +11,9 @@ use records::record::DisjunctivePropagator;
 use records::refusals::run_refusal;
 use runs::outcome::Finished;
 use runs::outcome::Outcome;
-use sorts::sort_numbers;
 use sorts::sort_numbers_down;
+use sorts::sort_with_ranks;
 use trees::complete_tree::TreeSize;
-use trees::complete_tree::leaf_places;
 use trees::disjunctive_task::DisjunctiveTask;
 use trees::disjunctive_task::LeafPlace;
 use trees::disjunctive_task::LocalId;
@@ -113,11 +112,10 @@ pub fn run_accepted(
     let mut lct: [u32; TASKS] = [0; TASKS];
     completions(&mut lct, &lst, durations, n);
     let mut reverse_mapping: [usize; TASKS] = [0; TASKS];
-    sort_numbers(&mut reverse_mapping, n, &est);
+    let mut mapping: [u32; TASKS] = [0; TASKS];
+    sort_with_ranks(&mut reverse_mapping, &mut mapping, n, &est);
     let mut sorted_tasks: [usize; TASKS] = [0; TASKS];
     sort_numbers_down(&mut sorted_tasks, n, &lct);
-    let mut mapping: [usize; TASKS] = [0; TASKS];
-    leaf_places(&mut mapping, &reverse_mapping, n);
     let mut tree = ThetaLambdaTree::new(n);
     let inner = tree.number_of_internal_nodes;
     let size = TreeSize {
@@ -152,7 +150,7 @@ fn edge_finding<'a>(
     earliest: &mut [i32],
     posts: &mut [i32],
     atoms: &mut [i32],
-    mapping: &'a [usize; TASKS],
+    mapping: &'a [u32; TASKS],
     reverse_mapping: &'a [usize; TASKS],
     sorted_tasks: &'a [usize; TASKS],
     est: &'a [u32; TASKS],
@@ -260,7 +258,7 @@ fn overloads(nodes: &[u32; TREEWORDS], last_ect_bar: u32, lct: u32) -> bool
 // are joined only where they are needed: the leaf's ancestors, or all of them where they were not joined before.
 fn move_to_lambda<'a>(
     nodes: &mut [u32; TREEWORDS],
-    mapping: &'a [usize; TASKS],
+    mapping: &'a [u32; TASKS],
     est: &'a [u32; TASKS],
     durations: &'a [u32; TASKS],
     size: TreeSize,
@@ -383,7 +381,7 @@ fn consider_all<'a>(
     posts: &mut [i32],
     atoms: &mut [i32],
     written: Written,
-    mapping: &'a [usize; TASKS],
+    mapping: &'a [u32; TASKS],
     reverse_mapping: &'a [usize; TASKS],
     est: &'a [u32; TASKS],
     lst: &'a [u32; TASKS],
@@ -453,7 +451,7 @@ fn consider<'a>(
     posts: &mut [i32],
     atoms: &mut [i32],
     written: Written,
-    mapping: &'a [usize; TASKS],
+    mapping: &'a [u32; TASKS],
     reverse_mapping: &'a [usize; TASKS],
     est: &'a [u32; TASKS],
     lst: &'a [u32; TASKS],

@@ -205,6 +205,9 @@ module _ {A : Type 0} {size : A → ℕ} {Fair : A → Type 0} {join : A → A �
     }
 
     -- the same with the parent, its children and their join by other names
+    pub parent-inner : {p : ℕ} → p ≡ (i - 1) / 2 → p < m
+    parent-inner is-up = omega (arith, up-inner)
+
     pub parent-small : {p : ℕ} → p ≡ (i - 1) / 2 → p < NODES
     parent-small is-up = omega (arith, up-inner, c .room)
 

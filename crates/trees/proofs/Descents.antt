@@ -1,11 +1,11 @@
 -- What the choice of a child says: which test held, or that none did.
-use mathlib.Core.Path.{_≡_, refl}
+use mathlib.Core.Path.{_≡_, refl, sym, _∙_}
 use mathlib.Core.Bool.{Bool, true, false, _&&_, not}
 use mathlib.Core.Logic.{_⊎_, inl, inr}
 use Prim.Native.Nat.{ℕ, _+_}
 use native.Mathlib.Omega.{arith}
 use lib.Dec.{eqb}
-use borrow.Author.Tests.{eqb-true, eqb-false}
+use borrow.Author.Tests.{eqb-true, eqb-false, eq-eqb}
 use Rattle.integers.proofs.Bools.{bool, clash, and-true, and-false}
 use Rattle.trees.specs.declared.theta_lambda_node.Node.{Node}
 use Rattle.trees.specs.declared.theta_lambda_node.PDescent.{PDescent}
@@ -13,6 +13,7 @@ use Rattle.trees.specs.declared.theta_lambda_node.PDescent.the-variants.
 use Rattle.trees.specs.declared.theta_lambda_node.EctBarDescent.the-variants as bar
 use Rattle.trees.specs.declared.theta_lambda_node.EctBarDescent.{EctBarDescent}
 use Rattle.trees.specs.Nodes.{isEmpty}
+use Rattle.trees.specs.NodeBounds.{Fair}
 use Rattle.trees.specs.Descents.{tested, descentP, descentEct}
 
 -- the steps of the search by sums, numbered: those down, the end at a leaf, none
@@ -50,6 +51,19 @@ empty-bars n t =
     let b = eqb (n .«sum_of_processing_times») 0 in
     let v = and-true c d ((and-true b (c && d) ((and-true (eqb (n .ect) 0) (b && (c && d)) t) .1)) .1) in
     (eqb-true (n .«ect_bar») 0 (v .0), eqb-true (n .«sum_of_processing_times_bar») 0 (v .1))
+
+-- and a fair node without a sum bar is empty
+no-task : (n : Node) → Fair n → n .«sum_of_processing_times_bar» ≡ 0 → isEmpty n ≡ true
+unfolding isEmpty
+no-task n f z =
+    let blank = f .blank z in
+    rw (eq-eqb (n .ect) 0 (blank .0), eq-eqb (n .«sum_of_processing_times») 0 (omega (arith, f .sum)), eq-eqb (n .«ect_bar») 0 (blank .1), eq-eqb (n .«sum_of_processing_times_bar») 0 z)
+
+pub bar-empty : (n : Node) → Fair n → eqb (n .«sum_of_processing_times_bar») 0 ≡ isEmpty n
+bar-empty n f = elim (bool (eqb (n .«sum_of_processing_times_bar») 0)) [
+  | inl t ↦ t ∙ sym (no-task n f (eqb-true (n .«sum_of_processing_times_bar») 0 t))
+  | inr t ↦ elim (bool (isEmpty n)) [ inl e ↦ clash (eq-eqb (n .«sum_of_processing_times_bar») 0 (empty-bars n e .1)) t | inr e ↦ t ∙ sym e ]
+]
 
 tested-no : (child : Node) (value this : ℕ) → tested child value this ≡ false → TestFailed child value this
 unfolding tested

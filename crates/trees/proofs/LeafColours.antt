@@ -9,6 +9,7 @@ use lib.Dec.{eqb}
 use lib.ListN.{length, getD, set, List·getD-eq-default}
 use lib.Seq.{getD-set-same, getD-set-other}
 use borrow.Author.Tests.{ne-eqb}
+use Rattle.integers.proofs.Bools.{clash}
 use Rattle.scheduling.specs.Scheduling.{natural, Tasks, total}
 use Rattle.scheduling.proofs.Sets.{total-none, total-up, total-suc}
 use Rattle.trees.specs.Nodes.{emptyOf}
@@ -16,9 +17,10 @@ use Rattle.trees.specs.NodeBounds.{LATEST, Fair, size, PlainFair, plainS
 use Rattle.trees.specs.Arrays.{changed}
 use Rattle.trees.specs.Bounds.{Bounded}
 use Rattle.trees.specs.Leaves as leaves
-use Rattle.trees.specs.Leaves.{Leaf, inTheta, leafNode, startAt, durationAt, whiteAt}
+use Rattle.trees.specs.Leaves.{Leaf, inTheta, inLambda, leafNode, startAt, durationAt, whiteAt}
 use Rattle.trees.specs.Trees.{plainLeaf, plainLeaves, Limited}
 use Rattle.trees.specs.Operations.{HasTask}
+use Rattle.trees.specs.Puts.{whitePart}
 use Rattle.trees.proofs.ArrayTrees.{changed-is}
 
 -- which leaves the code takes for white
@@ -27,15 +29,21 @@ white-is leaves.empty e p q = refl
 white-is leaves.white e p q = ap not (ne-eqb (e + p) 0 (λ z. omega arith))
 white-is leaves.gray e p q = refl
 
+-- without its gray task a gray leaf is an empty one
+pub gray-white : (c : Leaf) (e p : ℕ) → inLambda c ≡ true → whitePart (leafNode c e p) ≡ whitePart emptyOf
+gray-white leaves.empty e p y = refl
+gray-white leaves.white e p y = clash y refl
+gray-white leaves.gray e p y = refl
+
 -- the node of a task's leaf, by what it is told of the task
 pub task-node : (c : Leaf) {J : Tasks natural} {estOrder : List ℕ} {place e p : ℕ} → HasTask J estOrder place e p → leafNode c e p ≡ leafNode c (startAt J estOrder place) (durationAt J estOrder place)
 task-node c h = ap₂ (leafNode c) (h .start) (h .lasts)
 
 -- bounds
-leaf-fair : (c : Leaf) (e p : ℕ) → e ≤ LATEST → Fair (leafNode c e p)
-leaf-fair leaves.empty e p q = record { ect = omega arith; ect-bar = omega arith; sum = omega arith }
-leaf-fair leaves.white e p q = record { ect = omega arith; ect-bar = omega arith; sum = omega arith }
-leaf-fair leaves.gray e p q = record { ect = omega arith; ect-bar = omega arith; sum = omega arith }
+leaf-fair : (c : Leaf) (e p : ℕ) → e ≤ LATEST → 1 ≤ p → Fair (leafNode c e p)
+leaf-fair leaves.empty e p q _ = record { ect = omega arith; ect-bar = omega arith; sum = omega arith; blank = λ _. (refl, refl) }
+leaf-fair leaves.white e p q some = record { ect = omega arith; ect-bar = omega arith; sum = omega arith; blank = λ z. absurd (omega arith) }
+leaf-fair leaves.gray e p q some = record { ect = omega arith; ect-bar = omega arith; sum = omega arith; blank = λ z. absurd (omega arith) }
 
 leaf-size : (c : Leaf) (e p : ℕ) → size (leafNode c e p) ≤ p
 leaf-size leaves.empty e p = omega arith
@@ -76,9 +84,9 @@ module _ (J : Tasks natural) (estOrder : List ℕ) where
     pub bounded : Bounded size Fair (leaves.leaves J estOrder ls)
     bounded = record {
       fair = λ k. elim (decLt k (J .count)) [
-        | yes q ↦ leaf-fair (getD ls k leaves.empty) (startAt J estOrder k) (durationAt J estOrder k) (lim .starts k q)
+        | yes q ↦ leaf-fair (getD ls k leaves.empty) (startAt J estOrder k) (durationAt J estOrder k) (lim .starts k q) (lim .lasts k q)
         | no q ↦ rw
-            (past-empty ls z k (omega arith)) (leaf-fair leaves.empty 0 0 (omega arith))
+            (past-empty ls z k (omega arith)) (leaf-fair leaves.empty 0 1 (omega arith) (omega arith))
       ];
       small = λ n. omega (
         arith,

@@ -4,6 +4,7 @@ pub mod Descents
 pub mod GrayLeaves
 pub mod Heights
 pub mod ArrayTrees
+pub mod WhiteParts
 pub mod NodeOrder
 pub mod NodeWords
 pub mod SearchSteps

@@ -1,16 +1,17 @@
 -- Words of an array that stand for nodes: what a store of one node's words does.
-use mathlib.Core.Path.{_≡_, ap, _∙_}
+use mathlib.Core.Path.{_≡_, sym, ap, _∙_}
 use mathlib.Core.List.{List}
 use Prim.Native.Nat.{ℕ, _+_, _*_, _<_}
 use native.Mathlib.Omega.{arith}
 use lib.ListN.{getD, set, length, length-set, replicate}
-use lib.Seq.{getD-set-same, getD-set-other}
+use lib.Seq.{getD-set-same, getD-set-other, set-getD}
 use Rattle.integers.specs.Limits.{NODES, THETAWORDS, TREEWORDS}
 use Rattle.integers.proofs.FilledLists.{getD-fresh}
 use Rattle.trees.specs.declared.theta_lambda_node.Node.{Node}
 use Rattle.trees.specs.declared.theta_node.Node as plain
 use Rattle.trees.specs.Nodes.{emptyOf, plainEmptyOf}
 use Rattle.trees.specs.Arrays.{changed}
+use Rattle.trees.specs.Puts.{whitePart}
 use Rattle.trees.specs.Words.{nodeAt, plainAt}
 use Rattle.trees.proofs.ArrayTrees.{changed-is}
 
@@ -99,6 +100,19 @@ stored ws i n h l = rw last (
 
     far : (j : ℕ) → (j ≡ 4 * i → ⊥) → (j ≡ 4 * i + 1 → ⊥) → (j ≡ 4 * i + 2 → ⊥) → (j ≡ 4 * i + 2 + 1 → ⊥) → getD out j 0 ≡ getD ws j 0
     far j p q r s = pair-other low (4 * i + 2) c d j r s ∙ pair-other ws (4 * i) a b j p q
+
+-- and one whose other values are those of n already
+pub bars-stored : (ws : List ℕ) (i : ℕ) (n : Node) → i < NODES → length ws ≡ TREEWORDS → whitePart (nodeAt ws i) ≡ whitePart n
+    → (nodeAt (set (set ws (4 * i + 2) (n .«ect_bar»)) (4 * i + 3) (n .«sum_of_processing_times_bar»)) ≡ changed (nodeAt ws) i n)
+    × (length (set (set ws (4 * i + 2) (n .«ect_bar»)) (4 * i + 3) (n .«sum_of_processing_times_bar»)) ≡ TREEWORDS)
+bars-stored ws i n h l e = rw kept at (stored ws i n h l)
+  where
+    first : set ws (4 * i) (n .ect) ≡ ws
+    first = ap (set ws (4 * i)) (sym (ap (λ (p : plain.Node). p .ect) e)) ∙ set-getD ws (4 * i) 0
+
+    kept : pair ws (4 * i) (n .ect) (n .«sum_of_processing_times») ≡ ws
+    kept = ap (λ (v : List ℕ). set v (4 * i + 1) (n .«sum_of_processing_times»)) first ∙ ap (set ws (4 * i + 1)) (sym (ap (λ (p : plain.Node). p .«sum_of_processing_times») e))
+        ∙ set-getD ws (4 * i + 1) 0
 
 -- words that are all 0 are empty nodes
 pub blank-nodes : (i : ℕ) → nodeAt (replicate TREEWORDS 0) i ≡ emptyOf

@@ -1,6 +1,6 @@
 -- The laws of the two trees: what the operations require and do, and what the root holds, by the colours of the leaves.
 use mathlib.Core.Path.{_≡_, refl, sym, ap, ap₂, subst, _∙_}
-use mathlib.Core.Bool.{not}
+use mathlib.Core.Bool.{true, not}
 use mathlib.Core.List.{List}
 use Prim.Native.Nat.{ℕ, zero, suc, _+_, _*_, _≤_, _<_}
 use native.Mathlib.Omega.{arith}
@@ -11,7 +11,7 @@ use Rattle.integers.proofs.FilledLists.{getD-fresh}
 use Rattle.scheduling.specs.Scheduling.{natural, Tasks}
 use Rattle.trees.specs.declared.theta_lambda_node.Node.{Node}
 use Rattle.trees.specs.declared.theta_node.Node as plain
-use Rattle.trees.specs.Nodes.{joinOf, plainOf, plainJoinOf}
+use Rattle.trees.specs.Nodes.{emptyOf, joinOf, plainOf, plainJoinOf}
 use Rattle.trees.specs.NodeBounds.{Fair, size, PlainFair, plainSize}
 use Rattle.trees.specs.Descents.{gray}
 use Rattle.trees.proofs.GrayLeaves.{gray-empty}
@@ -19,16 +19,16 @@ use Rattle.trees.specs.Shapes.{width, heightFor, nodeOver}
 use Rattle.trees.specs.Arrays.{changed, leavesOf, TreeOf}
 use Rattle.trees.specs.Words.{nodeAt, plainAt}
 use Rattle.trees.specs.Bounds.{Bounded, CanPut}
-use Rattle.trees.specs.Puts.{Puttable, Put, PlainPuttable, PlainPut}
+use Rattle.trees.specs.Puts.{Puttable, Put, whitePart, PlainPuttable, PlainPut}
 use Rattle.trees.specs.Searches.{searchEct}
 use Rattle.trees.specs.ArraySearches.{whiteIn, thetaIn}
 use Rattle.trees.specs.Leaves as leaves
-use Rattle.trees.specs.Leaves.{Leaf, empty, inTheta, leafNode, taskAt, startAt, durationAt, whiteAt, root, responsible, theta}
+use Rattle.trees.specs.Leaves.{Leaf, empty, inTheta, leafNode, taskAt, startAt, durationAt, whiteAt, grayAt, root, responsible, theta}
 use Rattle.trees.specs.Trees.{plainLeaf, plainLeaves, Limited, IsTree, IsPlainTree}
 use Rattle.trees.proofs.Heights.{enough, room, root-height}
 use Rattle.trees.proofs.ArrayTrees.{over-leaf, over-join, own-leaves, own-tree, root-is}
 use Rattle.trees.proofs.NodeWords.{blank-nodes, plain-blank-nodes}
-use Rattle.trees.proofs.LeafColours.{white-is, past-empty, bounded, plain-bounded, coloured}
+use Rattle.trees.proofs.LeafColours.{white-is, gray-white, past-empty, bounded, plain-bounded, coloured}
 use Rattle.trees.proofs.WhiteTasks.{theta-same}
 use Rattle.trees.proofs.SearchSteps.{RootSearchable}
 
@@ -128,6 +128,10 @@ module _ {J : Tasks natural} {estOrder : List ℕ} (lim : Limited J estOrder) {l
     complete = t .complete;
     colours = length-set ls k c ∙ t .colours;
   }
+
+  -- a gray leaf differs from an empty one in its bars alone
+  pub gray-part : (k : ℕ) → grayAt ls k ≡ true → whitePart (nodeAt words (inner + k)) ≡ whitePart emptyOf
+  gray-part k y = ap whitePart (t .tree .leaves k) ∙ gray-white (getD ls k empty) (startAt J estOrder k) (durationAt J estOrder k) y
 
   -- the root's values: `ect`, `ect_bar`, `sum_of_processing_times`
   own : leavesOf inner (nodeAt words) ≡ leaves.leaves J estOrder ls

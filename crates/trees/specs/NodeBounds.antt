@@ -1,4 +1,5 @@
 -- What keeps the numbers of a node within 32 bits: earliest starts up to LATEST, and durations that sum to at most DURATIONS.
+use mathlib.Core.Path.{_≡_}
 use Prim.Native.Nat.{ℕ, _+_, _≤_}
 use Rattle.integers.specs.Limits.{DURATIONS, VALUE, HOLES}
 use Rattle.integers.specs.Moments.{zeroAt}
@@ -9,11 +10,12 @@ use Rattle.trees.specs.declared.theta_node.Node as plain
 abbrev pub LATEST : ℕ
 LATEST = zeroAt + VALUE + HOLES + 1
 
--- An ect is at most the latest earliest start and the sum, and the bars are at least the plain values.
+-- An ect is at most the latest earliest start and the sum, the bars are at least the plain values, and a node without a sum bar has no task at all.
 pub record Fair (n : Node) : Type 0 where
   pub ect : n .ect ≤ LATEST + n .«sum_of_processing_times»
   pub ect-bar : n .«ect_bar» ≤ LATEST + n .«sum_of_processing_times_bar»
   pub sum : n .«sum_of_processing_times» ≤ n .«sum_of_processing_times_bar»
+  pub blank : n .«sum_of_processing_times_bar» ≡ 0 → (n .ect ≡ 0) × (n .«ect_bar» ≡ 0)
 
 abbrev pub size : Node → ℕ
 size n = n .«sum_of_processing_times_bar»

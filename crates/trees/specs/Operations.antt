@@ -1,5 +1,6 @@
 -- What the operations of the theta-lambda tree require and ensure of its words: by the leaves that these hold, whatever the tasks, their order and colours.
 use mathlib.Core.Path.{_≡_}
+use mathlib.Core.Bool.{true}
 use mathlib.Core.List.{List}
 use Prim.Native.Nat.{ℕ, _<_}
 use lib.ListN.{replicate, set}
@@ -9,7 +10,7 @@ use Rattle.trees.specs.declared.theta_lambda_tree.ThetaLambdaTree.{Theta
 use Rattle.trees.specs.declared.theta_lambda_tree.Responsible.{Responsible}
 use Rattle.trees.specs.Shapes.{heightFor}
 use Rattle.trees.specs.Arrays.{Sized}
-use Rattle.trees.specs.Leaves.{Leaf, empty, startAt, durationAt, responsible}
+use Rattle.trees.specs.Leaves.{Leaf, empty, grayAt, startAt, durationAt, responsible}
 use Rattle.trees.specs.ArraySearches.{responsibleOf}
 use Rattle.trees.specs.Trees.{Limited, IsTree, HasLeaves}
 
@@ -56,6 +57,10 @@ pub record HasTask (J : Tasks natural) (estOrder : List ℕ) (place e p : ℕ) :
 -- it is the one given
 abbrev pub HasPlace : Tasks natural → List ℕ → ℕ → DisjunctiveTask → Type 0
 HasPlace J estOrder place task = HasTask J estOrder place (task .«start_time») (task .«processing_time»)
+
+-- the leaf at the place is one of Lambda
+abbrev pub InLambda : {inner : ℕ} {words : List ℕ} → Held inner words → ℕ → Type 0
+InLambda h place = (place < h .J .count) × (grayAt (h .leaves) place ≡ true)
 
 -- the leaf at the place has the colour c then, and the words hold the tree of these leaves
 abbrev pub Coloured : Leaf → {inner : ℕ} {words : List ℕ} → Held inner words → ℕ → List ℕ → Type 0

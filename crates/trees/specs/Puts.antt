@@ -1,7 +1,7 @@
 -- What `put` and `lay` require and ensure of the words of a tree: one leaf changes, and after `put` every inner node is the join of its children again.
 use mathlib.Core.Path.{_≡_}
 use mathlib.Core.List.{List}
-use Prim.Native.Nat.{ℕ, _+_, _≤_}
+use Prim.Native.Nat.{ℕ, _+_, _*_, _≤_, _<_}
 use lib.ListN.{length}
 use Rattle.integers.specs.Limits.{INNER, THETAWORDS, TREEWORDS}
 use Rattle.trees.specs.declared.theta_lambda_node.Node.{Node}
@@ -21,6 +21,14 @@ pub record Puttable (inner : ℕ) (words : List ℕ) (place : ℕ) (n : Node) : 
 pub record Put (inner : ℕ) (before after : List ℕ) (place : ℕ) (n : Node) : Type 0 where
   pub tree : TreeOf joinOf inner (changed (leavesOf inner (nodeAt before)) place n) (nodeAt after)
   pub length : length after ≡ TREEWORDS
+
+-- a node without its gray tasks
+abbrev pub whitePart : Node → plain.Node
+whitePart n = record { ect = n .ect; «sum_of_processing_times» = n .«sum_of_processing_times» }
+
+-- Without their gray tasks, the first m nodes are the joins of their children.
+pub record WhiteJoins (m : ℕ) (at : ℕ → Node) : Type 0 where
+  pub joins : (i : ℕ) → i < m → whitePart (at i) ≡ plainJoinOf (whitePart (at (2 * i + 1))) (whitePart (at (2 * i + 2)))
 
 -- n may stand as the leaf at `place`, whatever its ancestors are
 pub record Layable (inner : ℕ) (words : List ℕ) (place : ℕ) (n : Node) : Type 0 where

@@ -71,14 +71,14 @@ pub fn size_for(count: usize) -> Size
 }
 
 // The place of each of the first `count` tasks in an order of them.
-pub fn leaf_places(mapping: &mut [usize; TASKS], order: &[usize; TASKS], count: usize)
+pub fn leaf_places(mapping: &mut [u32; TASKS], order: &[usize; TASKS], count: usize)
     requires { ⌜ (count ≤ TASKS) × (length (now mapping) ≡ TASKS) × Permutes count (take count (now order)) ⌝ }
     ensures { λ _. ⌜ Maps count (now (order .entry)) (now (mapping .exit)) × (length (now (mapping .exit)) ≡ TASKS) ⌝ }
 {
     let mut i: usize = 0;
     while i < count {
         let task = order[i];
-        mapping[task] = i;
+        mapping[task] = i as u32;
         i += 1;
     }
 }

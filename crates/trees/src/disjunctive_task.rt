@@ -18,13 +18,20 @@ pub struct DisjunctiveTask {
     pub id: LocalId,
 }
 
+// A place that stands in 32 bits.
+fn place_of(x: u32) -> usize
+    ensures { λ r. ⌜ r ≡ x ⌝ }
+{
+    x as usize
+}
+
 // The leaf of a task.
-pub fn leaf_of(mapping: &[usize; TASKS], id: LocalId) -> LeafPlace
+pub fn leaf_of(mapping: &[u32; TASKS], id: LocalId) -> LeafPlace
     requires { ⌜ id .0 < TASKS ⌝ }
     ensures { λ r. ⌜ r .0 ≡ getD (now (mapping .entry)) (id .0) 0 ⌝ }
 {
     let i = id.0;
-    LeafPlace(mapping[i])
+    LeafPlace(place_of(mapping[i]))
 }
 
 // The task of a leaf.

@@ -98,19 +98,11 @@ impl Node {
         }
     }
 
-    // Whether the node is the empty one.
+    // Whether the node is the empty one: every task lasts 1 or more, so that any other node has a sum with its gray task.
     fn is_empty(self) -> bool
+        requires { ⌜ Fair self ⌝ }
         ensures { λ r. ⌜ r ≡ isEmpty self ⌝ }
     {
-        if self.ect != 0 {
-            return false;
-        }
-        if self.sum_of_processing_times != 0 {
-            return false;
-        }
-        if self.ect_bar != 0 {
-            return false;
-        }
         self.sum_of_processing_times_bar == 0
     }
 
@@ -126,6 +118,7 @@ impl Node {
 
     // The node is not empty, and the value is this one.
     fn tested(self, value: u32, this: u32) -> bool
+        requires { ⌜ Fair self ⌝ }
         ensures { λ r. ⌜ r ≡ tested self value this ⌝ }
     {
         if value != this {

@@ -30,12 +30,12 @@ ghost use Rattle.trees.specs.NodeBounds.{Fair, size};
 ghost use Rattle.trees.specs.Arrays.{leftmost, changed, leavesOf, TreeOf};
 ghost use Rattle.trees.specs.Words.{nodeAt};
 ghost use Rattle.trees.specs.Bounds.{NeedsUpheap};
-ghost use Rattle.trees.specs.Puts.{Puttable, Put, Layable, Laid};
+ghost use Rattle.trees.specs.Puts.{Puttable, Put, whitePart, WhiteJoins, Layable, Laid};
 ghost use Rattle.trees.specs.Searches.{searchP, searchEct};
 ghost use Rattle.trees.specs.ArraySearches.{Searchable, aroundOf, foundAt, whiteIn, Next};
 ghost use Rattle.trees.specs.Leaves.{empty, white, gray, ect, ect-bar, sum};
 ghost use Rattle.trees.specs.Trees.{IsTree};
-ghost use Rattle.trees.specs.Operations.{Held, HeldLeaves, New, Answers, Tall, Responds, HasPlace, Coloured, LeafColoured};
+ghost use Rattle.trees.specs.Operations.{Held, HeldLeaves, New, Answers, Tall, Responds, HasPlace, InLambda, Coloured, LeafColoured};
 
 // No position: there are as many nodes. A search answers with a number, not with an enum, so that a call at its end needs no room of its own.
 const NOWHERE: usize = NODES;
@@ -68,6 +68,16 @@ fn store(nodes: &mut [u32; TREEWORDS], i: usize, n: Node)
     let k = 4 * i;
     nodes[k] = n.ect;
     nodes[k + 1] = n.sum_of_processing_times;
+    nodes[k + 2] = n.ect_bar;
+    nodes[k + 3] = n.sum_of_processing_times_bar;
+}
+
+// The same where the node's other values are those of n already.
+fn store_bars(nodes: &mut [u32; TREEWORDS], i: usize, n: Node)
+    requires { ⌜ (i < NODES) × (length (now nodes) ≡ TREEWORDS) × (whitePart (nodeAt (now nodes) i) ≡ whitePart n) ⌝ }
+    ensures { λ _. ⌜ (nodeAt (now (nodes .exit)) ≡ changed (nodeAt (now (nodes .entry))) i n) × (length (now (nodes .exit)) ≡ TREEWORDS) ⌝ }
+{
+    let k = 4 * i;
     nodes[k + 2] = n.ect_bar;
     nodes[k + 3] = n.sum_of_processing_times_bar;
 }
@@ -248,10 +258,20 @@ impl ThetaLambdaTree {
 
     // Removes a task from Lambda.
     pub fn remove_from_lambda(nodes: &mut [u32; TREEWORDS], inner: usize, place: LeafPlace)
-        requires { ⌜ ((h : Held inner (now nodes)) × (place .0 < h .J .count)) ⌝ }
-        ensures { λ _. ⌜ ((h : Held inner (now (nodes .entry))) → place .0 < h .J .count → Coloured empty h (place .0) (now (nodes .exit))) ⌝ }
+        requires { ⌜ ((h : Held inner (now nodes)) × InLambda h (place .0)) ⌝ }
+        ensures { λ _. ⌜ ((h : Held inner (now (nodes .entry))) → InLambda h (place .0) → Coloured empty h (place .0) (now (nodes .exit))) ⌝ }
     {
-        ThetaLambdaTree::put(nodes, inner, place, Node::empty());
+        ThetaLambdaTree::put_bars(nodes, inner, place, Node::empty());
+    }
+
+    // A leaf becomes the provided node, which differs from it in its bars alone: so do the leaf's ancestors.
+    fn put_bars(nodes: &mut [u32; TREEWORDS], inner: usize, place: LeafPlace, n: Node)
+        requires { ⌜ Puttable inner (now nodes) (place .0) n × (whitePart (nodeAt (now nodes) (inner + place .0)) ≡ whitePart n) ⌝ }
+        ensures { λ _. ⌜ Put inner (now (nodes .entry)) (now (nodes .exit)) (place .0) n ⌝ }
+    {
+        let position = inner + place.0;
+        store_bars(nodes, position, n);
+        ThetaLambdaTree::upheap_bars(nodes, inner, position);
     }
 
     // A leaf becomes the provided node, and its ancestors are left to `rebuild`.
@@ -327,6 +347,26 @@ impl ThetaLambdaTree {
             let r = load(nodes, right_child_of_parent);
             let n = Node::join(l, r);
             store(nodes, parent, n);
+            i = parent;
+        }
+    }
+
+    // Calculates the new bars for the ancestors of the provided index, whose other values stay.
+    fn upheap_bars(nodes: &mut [u32; TREEWORDS], inner: usize, index: usize)
+        requires { ⌜ NeedsUpheap size Fair joinOf inner (nodeAt (now nodes)) index × (length (now nodes) ≡ TREEWORDS)
+            × WhiteJoins inner (nodeAt (now nodes)) ⌝ }
+        ensures { λ _. ⌜ TreeOf joinOf inner (leavesOf inner (nodeAt (now (nodes .entry)))) (nodeAt (now (nodes .exit)))
+            × (length (now (nodes .exit)) ≡ TREEWORDS) ⌝ }
+    {
+        let mut i = index;
+        while i != 0 {
+            let parent = get_parent(i);
+            let left_child_of_parent = get_left_child_index(parent);
+            let right_child_of_parent = get_right_child_index(parent);
+            let l = load(nodes, left_child_of_parent);
+            let r = load(nodes, right_child_of_parent);
+            let n = Node::join(l, r);
+            store_bars(nodes, parent, n);
             i = parent;
         }
     }

@@ -62,7 +62,7 @@ fn store(nodes: &mut [u32; THETAWORDS], i: usize, n: Node)
 pub struct ThetaTree {
     pub nodes: [u32; THETAWORDS],
     // The place of the leaf of each task.
-    pub mapping: [usize; TASKS],
+    pub mapping: [u32; TASKS],
     pub number_of_internal_nodes: usize,
 }
 
@@ -73,7 +73,7 @@ impl ThetaTree {
         requires { ⌜ (count ≤ TASKS) × Permutes count (take count (now order)) ⌝ }
         ensures { λ r. ⌜ PlainNew count (now (order .entry)) r ⌝ }
     {
-        let mut mapping = [0; TASKS];
+        let mut mapping = [0u32; TASKS];
         leaf_places(&mut mapping, order, count);
         let size = size_for(count);
         ThetaTree {

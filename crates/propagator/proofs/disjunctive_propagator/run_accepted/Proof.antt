@@ -7,7 +7,6 @@ use borrow.Author.Needs.{needs}
 use Rattle.integers.specs.Limits.{TASKS}
 use Rattle.records.specs.declared.record.DisjunctivePropagator.{DisjunctivePropagator}
 use Rattle.records.specs.Records.{recordOf}
-use Rattle.sorts.proofs.Sorted.{sorted-permutes}
 use Rattle.propagator.specs.FilledTheta.{Fillable, Filled}
 use Rattle.propagator.specs.EdgeFinding.{EdgeFindable}
 use Rattle.propagator.proofs.InitialArrays.{key-small, keys-small, latest, fillable, findable, left}
@@ -19,17 +18,14 @@ abbrev before : tie.Start → DisjunctivePropagator
 before c = recordOf (c .args .n) (c .args .durations .now) (c .pre .0)
 
 -- when the tree is made: what each call before left
-abbrev places : tie.After-new → tie.After-leaf-places
-places c = c .before
-
 abbrev sortedTasks : tie.After-new → tie.After-sort-numbers-down
-sortedTasks c = places c .before .before .before
+sortedTasks c = c .before
 
-abbrev reverseMapping : tie.After-new → tie.After-sort-numbers
-reverseMapping c = sortedTasks c .before .before .before
+abbrev ranked : tie.After-new → tie.After-sort-with-ranks
+ranked c = sortedTasks c .before .before .before
 
 abbrev lct : tie.After-new → tie.After-completions
-lct c = reverseMapping c .before .before .before
+lct c = ranked c .before .before .before .before
 
 abbrev lst : tie.After-new → tie.After-moments-of2
 lst c = lct c .before .before .before
@@ -42,27 +38,27 @@ start c = est c .before .before .before
 
 -- the tree of no task can be filled,
 abbrev can-fill : (c : tie.After-new) → let a = start c .args in
-    Fillable (c .new .result .«number_of_internal_nodes») (a .n) (c .new .result .nodes) (reverseMapping c .sort-numbers .last .0) (est c .moments-of .last .0) (a .durations .now)
+    Fillable (c .new .result .«number_of_internal_nodes») (a .n) (c .new .result .nodes) (ranked c .sort-with-ranks .last .0) (est c .moments-of .last .0) (a .durations .now)
 can-fill c =
     let s = start c in
     let a = s .args in
     fillable (before s) (a .earliest .now) (a .latest .now) (length (a .posts .now)) (length (a .atoms .now)) (s .pre .2) (s .pre .1) (est c .moments-of .ensures) (lst c .moments-of2 .ensures)
     (lct c .completions .ensures)
-    (reverseMapping c .sort-numbers .ensures) (sortedTasks c .sort-numbers-down .ensures) (c .new .ensures) (places c .leaf-places .ensures .0)
+    (ranked c .sort-with-ranks .ensures .0) (sortedTasks c .sort-numbers-down .ensures) (c .new .ensures) (ranked c .sort-with-ranks .ensures .1)
 
 -- and that of all tasks is what edge finding begins with
 abbrev can-find : (c : tie.After-new) (words : List ℕ) → let a = start c .args in
-    Filled (c .new .result .«number_of_internal_nodes») (a .n) (c .new .result .nodes) words (reverseMapping c .sort-numbers .last .0) (est c .moments-of .last .0) (a .durations .now)
+    Filled (c .new .result .«number_of_internal_nodes») (a .n) (c .new .result .nodes) words (ranked c .sort-with-ranks .last .0) (est c .moments-of .last .0) (a .durations .now)
     → EdgeFindable (record { inner = c .new .result .«number_of_internal_nodes»; height = c .new .result .height; leaves = a .n }) words (a .earliest .now) (a .posts .now) (a .atoms .now)
     (est c .moments-of .last .0)
-    (lst c .moments-of2 .last .0) (lct c .completions .last .0) (a .durations .now) (reverseMapping c .sort-numbers .last .0) (sortedTasks c .sort-numbers-down .last .0)
-    (places c .leaf-places .last .0)
+    (lst c .moments-of2 .last .0) (lct c .completions .last .0) (a .durations .now) (ranked c .sort-with-ranks .last .0) (sortedTasks c .sort-numbers-down .last .0)
+    (ranked c .sort-with-ranks .last .1 .0)
 can-find c words filled =
     let s = start c in
     let a = s .args in
     findable (before s) (a .earliest .now) (a .latest .now) (length (a .posts .now)) (length (a .atoms .now)) (s .pre .2) (s .pre .1) (est c .moments-of .ensures) (lst c .moments-of2 .ensures)
     (lct c .completions .ensures)
-    (reverseMapping c .sort-numbers .ensures) (sortedTasks c .sort-numbers-down .ensures) (c .new .ensures) (places c .leaf-places .ensures .0) (filled (can-fill c)) refl refl
+    (ranked c .sort-with-ranks .ensures .0) (sortedTasks c .sort-numbers-down .ensures) (c .new .ensures) (ranked c .sort-with-ranks .ensures .1) (filled (can-fill c)) refl refl
 
 completions-requires : tie.Need-completions-requires
 completions-requires c κs =
@@ -77,20 +73,15 @@ completions-requires c κs =
 
 sort-numbers-down-requires : tie.Need-sort-numbers-down-requires
 sort-numbers-down-requires c κs =
-    let first = c .before .before .before .before .before .before .before .before .before .before in
-    let second = c .before .before .before .before .before .before .before .before in
+    let first = c .before .before .before .before .before .before .before .before .before .before .before in
+    let second = c .before .before .before .before .before .before .before .before .before in
     let s = first .before .before .before in
     let a = s .args in (
       s .pre .2 .lawful .few,
       refl,
       keys-small (before s) (a .earliest .now) (a .latest .now) (length (a .posts .now)) (length (a .atoms .now)) (s .pre .2) (s .pre .1) (first .moments-of .ensures)
-          (second .moments-of2 .ensures) (c .before .before .before .before .before .completions .ensures),
+          (second .moments-of2 .ensures) (c .before .before .before .before .before .before .completions .ensures),
     )
-
-leaf-places-requires : tie.Need-leaf-places-requires
-leaf-places-requires c κs =
-    let few = c .before .before .before .before .before .before .before .before .before .before .before .before .before .before .before .before .pre .2 .lawful .few in
-    (few, refl, sorted-permutes (c .before .before .before .before .before .sort-numbers .ensures))
 
 fill-requires : tie.Need-fill-requires
 fill-requires c κs = can-fill (c .before .before .before)
@@ -108,7 +99,7 @@ returns c =
     let a = s .args in
     let l = left (before s) (a .earliest .now) (a .latest .now) (length (a .posts .now)) (length (a .atoms .now)) (s .pre .2) (s .pre .1) (est u .moments-of .ensures) (lst u .moments-of2 .ensures)
     (lct u .completions .ensures)
-    (reverseMapping u .sort-numbers .ensures) (sortedTasks u .sort-numbers-down .ensures) refl refl (c .before .before .before .edge-finding .ensures (can-find u _ (full .fill .ensures))) in
+    (ranked u .sort-with-ranks .ensures .0) (sortedTasks u .sort-numbers-down .ensures) refl refl (c .before .before .before .edge-finding .ensures (can-find u _ (full .fill .ensures))) in
     -- the stored sum stands in no field
     λ stored. record {
       answer = l .answer;
@@ -126,5 +117,5 @@ run-accepted-spec =
     tie.close
     (tie.spec
     (λ c κs. search needs) (λ c κs. search needs) completions-requires (λ c κs. search needs)
-    sort-numbers-down-requires leaf-places-requires (λ c κs. search needs) fill-requires edge-finding-requires
+    sort-numbers-down-requires (λ c κs. search needs) fill-requires edge-finding-requires
     (λ c. search needs) (λ c. search needs) (λ c. search needs) returns)

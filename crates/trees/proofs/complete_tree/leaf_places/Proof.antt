@@ -51,5 +51,5 @@ pub leaf-places-spec : {M : Type 1} → statement M
 leaf-places-spec =
     tie.close
     (tie.spec
-    Inv-loop μ-loop loop-holds (λ c. search needs) (λ c. search needs) mul-mapping element-write-mapping
+    Inv-loop μ-loop loop-holds (λ c. search needs) (λ c. search needs) (λ c. record { fits = omega arith }) mul-mapping element-write-mapping
     (λ c. search needs) (λ c. search needs) loop-again returns)

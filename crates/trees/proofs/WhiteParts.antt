@@ -1,0 +1,47 @@
+-- The nodes without their gray tasks: where a leaf changes in its bars alone, these stay, and each is still the join of its children.
+use mathlib.Core.Path.{_≡_, refl, sym, ap, ap₂, subst, _∙_}
+use Prim.Native.Nat.{ℕ, _+_, _*_, _-_, _/_, _<_}
+use native.Mathlib.Omega.{arith}
+use native.Mathlib.Decide.{ℕ-discrete}
+use Rattle.trees.specs.declared.theta_lambda_node.Node.{Node}
+use Rattle.trees.specs.declared.theta_node.Node as plain
+use Rattle.trees.specs.Nodes.{joinOf, plainJoinOf}
+use Rattle.trees.specs.NodeBounds.{Fair, size}
+use Rattle.trees.specs.Arrays.{changed, TreeOf}
+use Rattle.trees.specs.Bounds.{CanPut}
+use Rattle.trees.specs.Puts.{whitePart, WhiteJoins}
+use Rattle.trees.proofs.Joins.{additive}
+use Rattle.trees.proofs.ArrayTrees.{changed-here, changed-other, DuringUpheap, parent-inner, upheaps, puts}
+
+join-white : (l r : Node) → whitePart (joinOf l r) ≡ plainJoinOf (whitePart l) (whitePart r)
+unfolding joinOf plainJoinOf
+join-white l r = refl
+
+-- a change of bars alone
+module _ {m : ℕ} {at at′ : ℕ → Node} (p : ℕ) (n : Node) (e : at′ ≡ changed at p n) (same : whitePart (at p) ≡ whitePart n) (w : WhiteJoins m at) where
+  white-is : (k : ℕ) → whitePart (at′ k) ≡ whitePart (at k)
+  white-is k = ap (λ (f : ℕ → Node). whitePart (f k)) e ∙ elim (ℕ-discrete k p) [
+    | yes z ↦ subst (λ (j : ℕ). whitePart (changed at p n j) ≡ whitePart (at j)) (sym z) (ap whitePart (changed-here at p n) ∙ sym same)
+    | no z ↦ ap whitePart (changed-other at p n k z)
+  ]
+
+  bars-changed : WhiteJoins m at′
+  bars-changed = record { joins = λ i q. white-is i ∙ w .joins i q ∙ sym (ap₂ plainJoinOf (white-is (2 * i + 1)) (white-is (2 * i + 2))) }
+
+-- a leaf is put: all nodes were joins,
+pub leaf-bars : {m : ℕ} {at at′ : ℕ → Node} {place : ℕ} {n : Node} → CanPut size Fair joinOf m at place n → at′ ≡ changed at (m + place) n → whitePart (at (m + place)) ≡ whitePart n → WhiteJoins m at′
+leaf-bars {m} {at} {at′} {place} {n} t e same = bars-changed (m + place) n e same (record { joins = λ i q. ap whitePart (t .tree .joins i q) ∙ join-white (at (2 * i + 1)) (at (2 * i + 2)) })
+
+-- and an ancestor is calculated, which is one without the gray tasks
+module _ {m : ℕ} {at₀ at : ℕ → Node} {i : ℕ} (c : DuringUpheap additive m at₀ at i) (q : i ≡ 0 → ⊥) (w : WhiteJoins m at) {p l r : ℕ} (is-up : p ≡ (i - 1) / 2) (is-left : l ≡ 2 * p + 1)
+    (is-right : r ≡ 2 * p + 2) {x y n : Node} (ex : x ≡ at l) (ey : y ≡ at r) (en : n ≡ joinOf x y) where
+  pub white-stays : whitePart (at p) ≡ whitePart n
+  white-stays = w .joins p (parent-inner additive c q is-up) ∙ sym (join-white (at (2 * p + 1)) (at (2 * p + 2)))
+      ∙ sym (ap whitePart (en ∙ ap₂ joinOf (ex ∙ ap at is-left) (ey ∙ ap at is-right)))
+
+  pub next-white : {at′ : ℕ → Node} → at′ ≡ changed at p n → WhiteJoins m at′
+  next-white e = bars-changed p n e white-stays w
+
+pub ruleset bar-upheaps = (upheaps, white-stays, next-white)
+
+pub ruleset bar-puts = (puts, leaf-bars)
