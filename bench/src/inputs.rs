@@ -164,8 +164,8 @@ fn is_done(durations: &[i32], ranges: &[Range]) -> bool {
     matches!(propagator.run(&mut ranges.to_vec(), &mut words), Ok(Outcome::Done { .. }))
 }
 
-/// Ranges of which each lies within the one before: from the last task on, which starts in the middle, each further task has room for itself
-/// and for those within, and a slack that is parted at random between both ends.
+/// Ranges of which each is within the one before. The last task starts in the middle; each task before it has room for itself and for those within,
+/// and a slack that is divided at random between both ends.
 fn nested(rng: &mut Rng, durations: &[i32]) -> Vec<Range> {
     let unit = (durations.iter().map(|d| i64::from(*d)).sum::<i64>() / durations.len() as i64).max(1);
     let slack = rng.pick(&[0, 1, unit, 3 * unit]);

@@ -11,7 +11,7 @@ use std::time::Instant;
 
 use bench::inputs::{Case, Check, Family, Rng, cases, checks, mirrored};
 use bench::published::{Atom, Checker, Domains, Published, atom, domains};
-use bench::search::{Machine, Ours, Search, Theirs, instance};
+use bench::search::{Machine, Ours, Search, TaskSet, Theirs, instance};
 use reedgrit::{Propagator, Range, Words, check};
 
 const SIZES: [usize; 4] = [8, 16, 32, 48];
@@ -177,9 +177,8 @@ fn searched<M: Machine>(n: usize, machine: impl Fn(&[i32]) -> M) -> (usize, f64)
     for _ in 0..SEARCHES {
         let (durations, ranges) = instance(&mut rng, n);
         let mut search = Search { machine: machine(&durations), durations: &durations, nodes: 0, most: NODES };
-        let all: Vec<usize> = (0..n).collect();
         let began = Instant::now();
-        black_box(search.found(ranges, &all));
+        black_box(search.found(ranges, TaskSet::all(n)));
         seconds += began.elapsed().as_secs_f64();
         nodes += search.nodes;
     }

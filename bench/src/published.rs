@@ -1,4 +1,4 @@
-//! The published Rust behind plain numbers.
+//! The published Rust, called with plain numbers.
 use pumpkin_checking::{Comparison, InferenceChecker, VariableState};
 use pumpkin_core::predicates::Predicate;
 use pumpkin_core::proof::ConstraintTag;

@@ -4,7 +4,7 @@ use crate::inputs::{Rng, schedule};
 use crate::published::{Domains, Published, domains};
 use reedgrit::{Mirrored, Outcome, Propagator, Range, Words};
 
-/// What the search asks of a library: a pass that narrows ranges, and whether one became narrower; nothing where there is no schedule.
+/// What the search needs from a library: passes that narrow ranges. Each says whether a range became narrower, or nothing where there is no schedule.
 pub trait Machine {
     fn raise(&mut self, ranges: &mut [Range]) -> Option<bool>;
     fn lower(&mut self, ranges: &mut [Range]) -> Option<bool>;
@@ -103,8 +103,8 @@ impl<M: Machine> Search<'_, M> {
         }
     }
 
-    /// Whether the tasks that are left can go behind the others; false also where the nodes are spent.
-    pub fn found(&mut self, mut ranges: Vec<Range>, left: &[usize]) -> bool {
+    /// Whether the tasks that are left can go after the others; false also where the nodes are spent. They are tried by earliest start, equal ones by number.
+    pub fn found(&mut self, mut ranges: Vec<Range>, left: TaskSet) -> bool {
         if self.nodes == self.most {
             return false;
         }
@@ -112,20 +112,51 @@ impl<M: Machine> Search<'_, M> {
         if self.narrow(&mut ranges).is_none() {
             return false;
         }
-        let mut order = left.to_vec();
-        order.sort_by_key(|task| ranges[*task].earliest);
-        left.is_empty() || order.into_iter().any(|next| self.next(&ranges, left, next))
+        let mut untried = left;
+        while let Some(next) = untried.tasks().min_by_key(|task| ranges[*task].earliest) {
+            untried = untried.without(next);
+            if self.next(&ranges, left.without(next), next) {
+                return true;
+            }
+        }
+        left == TaskSet(0)
     }
 
-    fn next(&mut self, ranges: &[Range], left: &[usize], next: usize) -> bool {
+    fn next(&mut self, ranges: &[Range], others: TaskSet, next: usize) -> bool {
         let end = ranges[next].earliest + self.durations[next];
-        let others: Vec<usize> = left.iter().copied().filter(|task| *task != next).collect();
-        let mut behind = ranges.to_vec();
-        behind[next].latest = behind[next].earliest;
-        for other in &others {
-            behind[*other].earliest = behind[*other].earliest.max(end);
+        if others.tasks().any(|other| ranges[other].latest < end) {
+            return false;
         }
-        others.iter().all(|other| behind[*other].earliest <= behind[*other].latest) && self.found(behind, &others)
+        let mut after = ranges.to_vec();
+        after[next].latest = after[next].earliest;
+        for other in others.tasks() {
+            after[other].earliest = after[other].earliest.max(end);
+        }
+        self.found(after, others)
+    }
+}
+
+/// A set of up to 64 tasks, a bit for each.
+#[derive(Clone, Copy, PartialEq, Eq)]
+pub struct TaskSet(u64);
+
+impl TaskSet {
+    pub fn all(n: usize) -> TaskSet {
+        TaskSet(u64::MAX >> (64 - n))
+    }
+
+    fn without(self, task: usize) -> TaskSet {
+        TaskSet(self.0 & !(1 << task))
+    }
+
+    /// The tasks by number.
+    fn tasks(self) -> impl Iterator<Item = usize> {
+        let mut bits = self.0;
+        std::iter::from_fn(move || {
+            let task = bits.trailing_zeros() as usize;
+            bits &= bits.wrapping_sub(1);
+            (task < 64).then_some(task)
+        })
     }
 }
 

@@ -1,7 +1,7 @@
 //! Random series through the binding against the published Rust: runs, checks, states.
 use bench::inputs::{Case, Family, Rng, any_atom, barred, cases, checks, durations, mirrored, ranges};
 use bench::published::{Checked, Checker, Conflicted, Published, atom, domains};
-use bench::search::{Machine, Ours, Search, Theirs, instance};
+use bench::search::{Machine, Ours, Search, TaskSet, Theirs, instance};
 use pumpkin_checking::{IntExt, VariableState};
 use reedgrit::state::{Bound, NoState, lower_bound, upper_bound};
 use reedgrit::{Mirrored, Outcome, Propagator, Verdict, Words, check};
@@ -138,9 +138,8 @@ fn timed_runs() {
 #[test]
 fn timed_searches() {
     fn visited<M: Machine>(machine: M, durations: &[i32], ranges: &[reedgrit::Range]) -> (bool, usize) {
-        let all: Vec<usize> = (0..durations.len()).collect();
         let mut search = Search { machine, durations, nodes: 0, most: 300 };
-        (search.found(ranges.to_vec(), &all), search.nodes)
+        (search.found(ranges.to_vec(), TaskSet::all(durations.len())), search.nodes)
     }
     let mut rng = Rng::new(7);
     for n in [3, 8, 16, 48] {

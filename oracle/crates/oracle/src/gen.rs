@@ -298,7 +298,7 @@ pub fn gen_checks(seed: u64, count: usize, nmax: i64, spread: i64) {
     }
 }
 
-/// The same premises said otherwise: a bound may stand one further off with a hole where it was.
+/// The same premises in other words: a bound may be one further away, with a hole at its old value.
 fn said_otherwise(rng: &mut Rng, reason: &[Atom]) -> Vec<Atom> {
     let mut out = Vec::new();
     for a in reason {

@@ -220,7 +220,7 @@ pub fn precedence(tasks: &[Task], i: usize) -> (Vec<usize>, Option<i64>) {
 
 /// The verdict for many tasks, by intervals instead of sets: an overloading set exists exactly when
 /// all tasks inside some interval [est, lct] overload it; without one, a task's largest bound comes
-/// from a set of all others that complete by some b. The audit holds it against `verdict`.
+/// from a set of all others that complete by some b. The audit compares it with `verdict`.
 /// Bounds are right only where nothing overloads.
 pub fn verdict_by_intervals(tasks: &[Task]) -> (bool, Vec<Option<i64>>) {
     let n = tasks.len();
