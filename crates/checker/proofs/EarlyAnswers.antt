@@ -1,16 +1,15 @@
 -- The formula from what is gathered: no sum wraps, and each early answer is the formula's.
 use mathlib.Core.Path.{_≡_, refl, sym, ap, _∙_}
 use mathlib.Core.Bool.{Bool, true, false, cond}
-use mathlib.Core.List.{List}
+use mathlib.Core.List.{List, [], _∷_}
 use mathlib.Core.Option.{Option}
-use Prim.Native.Nat.{ℕ, _+_, _^_, _≤_, _<_, min}
+use Prim.Native.Nat.{ℕ, zero, suc, _+_, _^_, _≤_, _<_, min}
 use native.Mathlib.Omega.{arith}
 use native.Mathlib.Decide.{ℕ-discrete}
 use lib.Dec.{ltb}
-use lib.ListN.{length, getD, set}
-use lib.Seq.{getD-set-same, getD-set-other}
+use lib.ListN.{getD, set}
+use lib.Seq.{getD-set-other}
 use borrow.Author.Tests.{eq-eqb, ne-eqb, lt-ltb, le-ltb}
-use Rattle.integers.specs.Limits.{TASKS}
 use Rattle.integers.proofs.Bools.{cond-most}
 use Rattle.scheduling.specs.Scheduling.{natural, Tasks, TaskSet, total, NonEmpty, Est, processing}
 use Rattle.scheduling.specs.Ects.{ectOf}
@@ -85,15 +84,20 @@ module _ {J : Tasks natural} {Ω : TaskSet} {n : ℕ} {chosen : List Bool} {est 
         let yes-so : ltb (highest J Ω (J .count)) whole-reach ≡ true = lt-ltb (highest J Ω (J .count)) whole-reach (omega (arith, r, reach-is, ub-is)) in
         rw (sym some-is ∙ y, yes-so, l .at i q, w) refl
 
--- theta, in the array
-pub theta-held : {J : Tasks natural} {Ω : TaskSet} {n : ℕ} {chosen : List Bool} {est durations : List ℕ} → length chosen ≡ TASKS → (i : ℕ) → i < n
+-- theta, in the array: a place that is cleared, or that the array has not, reads false
+cleared : (l : List Bool) (i : ℕ) → getD (set l i false) i false ≡ false
+cleared [] i = refl
+cleared (x ∷ xs) zero = refl
+cleared (x ∷ xs) (suc i) = cleared xs i
+
+pub theta-held : {J : Tasks natural} {Ω : TaskSet} {n : ℕ} {chosen : List Bool} {est durations : List ℕ} → (i : ℕ)
     → HeldSet J Ω n chosen est durations → HeldSet J (Ω but i) n (set chosen i false) est durations
-theta-held {J} {Ω} {n} {chosen} {est} {durations} size i q h = record {
+theta-held {J} {Ω} {n} {chosen} {est} {durations} i h = record {
   proper = h .proper;
   count = h .count;
   few = h .few;
   member = λ k r. elim (ℕ-discrete k i) [
-    | yes e ↦ rw (e, eq-eqb i i refl) (getD-set-same chosen i false false (omega (arith, size, h .few)))
+    | yes e ↦ rw (e, eq-eqb i i refl) (cleared chosen i)
     | no e ↦ rw (ne-eqb k i e) (getD-set-other chosen i k false false e ∙ h .member k r)
   ];
   start = h .start;

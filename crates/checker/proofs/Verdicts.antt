@@ -12,9 +12,9 @@ use lib.ListN.{length, getD, replicate, length-replicate}
 use borrow.Author.Tests.{lt-ltb, le-ltb}
 use Rattle.integers.specs.Limits.{TASKS, DURATIONS, VALUE, HOLES}
 use Rattle.integers.specs.Moments.{moment, zeroAt}
-use Rattle.integers.specs.FilledLists.{filled}
+use Rattle.integers.specs.FilledLists.{filled, noTasks}
 use Rattle.integers.specs.Tests.{refusal}
-use Rattle.integers.proofs.FilledLists.{filled-at}
+use Rattle.integers.proofs.FilledLists.{filled-at, filled-length}
 use Rattle.scheduling.specs.Scheduling.{whole, natural, Tasks, TaskSet, total, given}
 use Rattle.scheduling.specs.MirroredTime.{mirrorAtoms}
 use Rattle.trees.specs.NodeBounds.{LATEST}
@@ -34,11 +34,10 @@ use Rattle.checker.proofs.Formulas.{moments-proper}
 use Rattle.checker.proofs.MirroredBounds.{mirrored-known, est-mirrored, lst-mirrored, moment-alike, mirrored-most}
 use Rattle.checker.specs.declared.checker.Verdict.{Verdict}
 use Rattle.checker.specs.declared.checker.Verdict.the-variants.{Refused}
-use Rattle.checking.specs.declared.start_bounds.Bounds.{Bounds}
 use Rattle.checker.specs.Checks.{verdict, judgedBy, tasksWith}
 use Rattle.checker.specs.declared.checker.Direction.the-variants.{Forward, Mirrored}
 use Rattle.checker.specs.MirroredChecks.{mirrorIfAny, lowerAs, upperAs}
-use Rattle.checking.specs.TaskBounds.{boundsBetween, boundsAt, boundsOf}
+use Rattle.checking.specs.TaskBounds.{boundsBetween, boundsAt, Bounds, boundsOf}
 use Rattle.checker.specs.CheckArrays.{Judgeable, Consequent}
 use Rattle.checker.proofs.Soundness.{reads, reads-mirrored, near-latest, durations-last, durations-most}
 
@@ -143,6 +142,10 @@ module _ (ds ps cs : List ℤ) (ok : refusal (creationTests ds) ≡ 0) (consiste
   at : {A : Type 0} (f : ℕ → A) (d : A) (k : ℕ) → k < n → getD (filled f n (replicate TASKS d)) k d ≡ f k
   at f d k q = filled-at f n (replicate TASKS d) d k q (omega (arith, few, length-replicate TASKS d))
 
+  -- what was filled before is filled again
+  at-again : (f g : ℕ → ℕ) (k : ℕ) → k < n → getD (filled f n (filled g n noTasks)) k 0 ≡ f k
+  at-again f g k q = filled-at f n (filled g n noTasks) 0 k q (omega (arith, few, filled-length g n noTasks))
+
   abbrev l : ℕ → Option ℤ
   l k = lowerIn s k
 
@@ -215,13 +218,13 @@ module _ (ds ps cs : List ℤ) (ok : refusal (creationTests ds) ≡ 0) (consiste
         count = refl;
         few = few;
         member = member-mirrored;
-        start = λ k q. at (λ k. mirroredMoment (getD (B .bounded) k false) (getD (B .lst) k 0) (getD (newRecord ds .durations) k 0)) 0 k q ∙ start-mirrored k q;
+        start = λ k q. at-again (λ k. mirroredMoment (getD (B .bounded) k false) (getD (B .lst) k 0) (getD (newRecord ds .durations) k 0)) (λ k. boundsAt s k .est) k q ∙ start-mirrored k q;
         lasts = lasts;
         early = λ k q. mirrored-most (durationAt ds k) (durations-last ds ok k q) (durations-most ds ok k q) (l k) (u k) (u k) (near-u k q);
         sum = sum-fits;
       };
       late = record {
-        at = λ k q. at (λ k. mirroredMoment (getD (B .bounded) k false) (getD (B .est) k 0) (getD (newRecord ds .durations) k 0)) 0 k q ∙ late-mirrored k q;
+        at = λ k q. at-again (λ k. mirroredMoment (getD (B .bounded) k false) (getD (B .est) k 0) (getD (newRecord ds .durations) k 0)) (λ k. boundsAt s k .lst) k q ∙ late-mirrored k q;
         fits = λ k q. mirrored-most (durationAt ds k) (durations-last ds ok k q) (durations-most ds ok k q) (l k) (u k) (l k) (near-l k q);
       };
     };

@@ -2,12 +2,11 @@
 use mathlib.Core.Bool.{Bool, true, false, cond}
 use mathlib.Core.List.{List}
 use Prim.Native.Nat.{ℕ, _+_, _-_, min, max}
-use lib.ListN.{getD, replicate}
-use Rattle.integers.specs.Limits.{TASKS}
+use lib.ListN.{getD}
 use Rattle.integers.specs.FilledLists.{filled}
 use Rattle.scheduling.specs.Scheduling.{natural, Tasks, TaskSet, total}
 use Rattle.chosen_sets.specs.TaskArrays.{HeldSet, Late}
-use Rattle.checking.specs.declared.start_bounds.Bounds.{Bounds}
+use Rattle.checking.specs.TaskBounds.{Bounds, boundsIn}
 use Rattle.checker.specs.declared.intervals.Interval.{Interval}
 use Rattle.checker.specs.Formulas.{any, lowest, highest}
 
@@ -19,11 +18,9 @@ mirroredMoment known t p = cond known (4294967296 - (t + p)) 0
 
 -- the bounds in mirrored time
 abbrev pub mirroredBounds : Bounds → List ℕ → ℕ → Bounds
-mirroredBounds b durations n = record {
-  bounded = b .bounded;
-  est = filled (λ k. mirroredMoment (getD (b .bounded) k false) (getD (b .lst) k 0) (getD durations k 0)) n (replicate TASKS 0);
-  lst = filled (λ k. mirroredMoment (getD (b .bounded) k false) (getD (b .est) k 0) (getD durations k 0)) n (replicate TASKS 0);
-}
+mirroredBounds b durations n = boundsIn (b .bounded)
+    (filled (λ k. mirroredMoment (getD (b .bounded) k false) (getD (b .lst) k 0) (getD durations k 0)) n (b .est))
+    (filled (λ k. mirroredMoment (getD (b .bounded) k false) (getD (b .est) k 0) (getD durations k 0)) n (b .lst))
 
 -- the bounds are those of J's tasks in Ω
 pub record Bounding (J : Tasks natural) (Ω : TaskSet) (n : ℕ) (b : Bounds) (durations : List ℕ) : Type 0 where

@@ -8,7 +8,7 @@ use lib.IntN.{ℤ}
 use lib.ListN.{length}
 use Rattle.checking.specs.Atoms.{rightWords}
 use Rattle.records.specs.Records.{durationAt}
-use Rattle.checking.specs.declared.start_bounds.Bounds.{Bounds}
+use Rattle.checking.specs.TaskBounds.{Bounds}
 use Rattle.checker.specs.Formulas.{bounded, tasks}
 use Rattle.checker.specs.BoundArrays.{Bounding}
 

@@ -1,20 +1,19 @@
 // The check of a reason: `check` of the source's `DisjunctiveEdgeFindingChecker`, on the state that the premises and the negated consequent leave.
 use crate::formula::implied;
 use crate::formula::overloaded;
-use crate::mirrored_bounds::mirrored_bounds;
+use crate::mirrored_bounds::mirror_bounds;
 use checking::prepared_bounds::prepare_bounds;
-use checking::start_bounds::Bounds;
 use checking::variable_state::Application;
 use integers::limits::TASKS;
 use integers::refused;
-use records::record::Creation;
-use records::record::create;
+use records::record::creation_refusal;
 ghost use mathlib.Core.Path.{_≡_};
 ghost use mathlib.Core.List.{List};
 ghost use mathlib.Core.Option.{Option};
 ghost use Prim.Native.Nat.{ℕ};
 ghost use lib.IntN.{ℤ};
 ghost use Rattle.checking.specs.Atoms.{consequentOf};
+ghost use Rattle.checking.specs.TaskBounds.{boundsIn};
 ghost use Rattle.checker.specs.Checked.{Checked, CheckedMirrored};
 ghost use Rattle.checker.specs.Checks.{verdict, judgedBy};
 ghost use Rattle.checker.specs.MirroredChecks.{checkAs};
@@ -45,24 +44,32 @@ fn verdict_of(holds: bool) -> Verdict
     }
 }
 
-// The formula for the consequent, or for none.
-fn judge(bounds: Bounds, durations: &[u32; TASKS], n: usize, consequent: &[i32]) -> Verdict
-    requires { ⌜ ((ds : List ℤ) × (lower : ℕ → Option ℤ) × (upper : ℕ → Option ℤ) × Judgeable ds lower upper n bounds (now durations))
-        × Consequent (now consequent) ⌝ }
-    ensures { λ r. ⌜ ((ds : List ℤ) (lower upper : ℕ → Option ℤ) → Judgeable ds lower upper n bounds (now (durations .entry))
+// The formula for the consequent, or for none. The bounds are lent, and the propagating task leaves the bounded ones.
+fn judge<'a>(
+    bounded: &mut [bool; TASKS],
+    est: &'a [u32; TASKS],
+    lst: &'a [u32; TASKS],
+    durations: &'a [u32; TASKS],
+    n: usize,
+    consequent: &[i32],
+) -> Verdict
+    requires { ⌜ ((ds : List ℤ) × (lower : ℕ → Option ℤ) × (upper : ℕ → Option ℤ)
+        × Judgeable ds lower upper n (boundsIn (now bounded) (now est) (now lst)) (now durations)) × Consequent (now consequent) ⌝ }
+    ensures { λ r. ⌜ ((ds : List ℤ) (lower upper : ℕ → Option ℤ)
+        → Judgeable ds lower upper n (boundsIn (now (bounded .entry)) (now (est .entry)) (now (lst .entry))) (now (durations .entry))
         → r ≡ judgedBy ds lower upper (consequentOf (now (consequent .entry)))) ⌝ }
 {
     if consequent.len() == 0 {
-        return verdict_of(overloaded(bounds, durations, n));
+        return verdict_of(overloaded(bounded, est, lst, durations, n));
     }
     let propagating_task = integers::numbers::nat_of(consequent[0]) as usize;
     if propagating_task >= n {
         return Verdict::Refused(refused::CONSEQUENT);
     }
-    if !bounds.bounded[propagating_task] {
+    if !bounded[propagating_task] {
         return Verdict::Refused(refused::CONSEQUENT);
     }
-    verdict_of(implied(bounds, durations, n, propagating_task))
+    verdict_of(implied(bounded, est, lst, durations, n, propagating_task))
 }
 
 // The check, with its formula judged in one direction.
@@ -74,24 +81,22 @@ fn check_as(
 ) -> Verdict
     ensures { λ r. ⌜ r ≡ checkAs direction (now (durations .entry)) (now (premises .entry)) (now (consequent .entry)) ⌝ }
 {
-    let made = create(durations);
-    let creation = made.answer;
-    if let Creation::Refused(number) = creation {
+    let mut lengths = [0u32; TASKS];
+    let number = creation_refusal(&mut lengths, durations);
+    if number != 0 {
         return Verdict::Refused(number);
     }
-    let tasks = made.record;
-    let prepared = prepare_bounds(premises, consequent, tasks.count);
-    let answer = prepared.answer;
+    let n = durations.len();
+    let mut bounded = [false; TASKS];
+    let mut est = [0u32; TASKS];
+    let mut lst = [0u32; TASKS];
+    let answer = prepare_bounds(&mut bounded, &mut est, &mut lst, premises, consequent, n);
     match answer {
         Application::Consistent => {
-            let bounds = prepared.bounds;
-            match direction {
-                Direction::Forward => judge(bounds, &tasks.durations, tasks.count, consequent),
-                Direction::Mirrored => {
-                    let there = mirrored_bounds(bounds, &tasks.durations, tasks.count);
-                    judge(there, &tasks.durations, tasks.count, consequent)
-                }
+            if let Direction::Mirrored = direction {
+                mirror_bounds(&bounded, &mut est, &mut lst, &lengths, n);
             }
+            judge(&mut bounded, &est, &lst, &lengths, n, consequent)
         }
         Application::Contradiction(x) => Verdict::Contradiction(x),
         Application::Refused(number) => Verdict::Refused(number),

@@ -1,8 +1,8 @@
 // The bounds of the tasks in mirrored time.
-use checking::start_bounds::Bounds;
 use integers::limits::TASKS;
 ghost use mathlib.Core.Path.{_≡_};
 ghost use Prim.Native.Nat.{_+_, _≤_, _<_};
+ghost use Rattle.checking.specs.TaskBounds.{boundsIn};
 ghost use Rattle.scheduling.specs.Scheduling.{natural, Tasks, TaskSet};
 ghost use Rattle.checker.specs.BoundArrays.{mirroredMoment, mirroredBounds, Bounding};
 
@@ -17,23 +17,25 @@ fn mirrored_moment(known: bool, t: u32, p: u32) -> u32
     u32::MAX - (t + p) + 1
 }
 
-// The bounds in mirrored time: a range a..b with duration p becomes −(b + p)..−(a + p).
-pub fn mirrored_bounds(bounds: Bounds, durations: &[u32; TASKS], n: usize) -> Bounds
-    requires { ⌜ ((J : Tasks natural) × (Ω : TaskSet) × Bounding J Ω n bounds (now durations)) ⌝ }
-    ensures { λ r. ⌜ r ≡ mirroredBounds bounds (now (durations .entry)) n ⌝ }
+// The bounds become those in mirrored time: a range a..b with duration p becomes −(b + p)..−(a + p).
+pub fn mirror_bounds(
+    bounded: &[bool; TASKS],
+    est: &mut [u32; TASKS],
+    lst: &mut [u32; TASKS],
+    durations: &[u32; TASKS],
+    n: usize,
+)
+    requires { ⌜ ((J : Tasks natural) × (Ω : TaskSet) × Bounding J Ω n (boundsIn (now bounded) (now est) (now lst)) (now durations)) ⌝ }
+    ensures { λ _. ⌜ boundsIn (now (bounded .entry)) (now (est .exit)) (now (lst .exit))
+        ≡ mirroredBounds (boundsIn (now (bounded .entry)) (now (est .entry)) (now (lst .entry))) (now (durations .entry)) n ⌝ }
 {
-    let mut est = [0u32; TASKS];
-    let mut lst = [0u32; TASKS];
     let mut i = 0;
     while i < n {
+        let known = bounded[i];
         let p = durations[i];
-        est[i] = mirrored_moment(bounds.bounded[i], bounds.lst[i], p);
-        lst[i] = mirrored_moment(bounds.bounded[i], bounds.est[i], p);
+        let from = mirrored_moment(known, lst[i], p);
+        lst[i] = mirrored_moment(known, est[i], p);
+        est[i] = from;
         i += 1;
-    }
-    Bounds {
-        bounded: bounds.bounded,
-        est,
-        lst,
     }
 }

@@ -13,7 +13,7 @@ use Rattle.integers.proofs.Bools.{clash}
 use Rattle.scheduling.specs.Scheduling.{Atom, Every, Admits, given}
 use Rattle.checking.specs.Atoms.{atomsOf, consequentOf, rightLists}
 use Rattle.checking.specs.declared.domain.Domain.{Domain}
-use Rattle.checking.specs.Domains.{Admitted, needsRoom, Proper}
+use Rattle.checking.specs.Domains.{Admitted, needsRoom}
 use Rattle.checking.specs.declared.variable_state.VariableState.{VariableState}
 use Rattle.checking.specs.declared.variable_state.Application.the-variants.{Consistent, Refused}
 use Rattle.checking.specs.declared.variable_state.Applied.{Applied}
@@ -63,9 +63,6 @@ module _ (premises consequent : List ℤ) where
 
   pub prepared-accepted : AcceptedState state
   prepared-accepted = ran (λ r. AcceptedState (r .state)) (λ r. all-accepted atoms (given-known premises consequent r) emptyState empty-accepted) (λ _. empty-accepted)
-
-  pub prepared-proper : (x : ℕ) → x < VARIABLES → Proper (domainAt state x)
-  prepared-proper x h = prepared-accepted .each x h
 
   -- on success the state admits what the atoms admit
   module _ (ok : prepared premises consequent .answer ≡ Consistent) (x : ℕ) (h : x < VARIABLES) where

@@ -22,8 +22,8 @@ variable c = c .nat-of .ensures ∙ back-of w32 (getD (c .before .before .before
 
 returns : tie.Need-returns
 returns c = λ ds lower upper j.
-    let a = c .before .before .before .args in
-    c .verdict-of .ensures ∙ alone j (a .consequent .now) (omega (arith, c .before .before .if1 .taken)) (c .before .overloaded .result)
+    let a = c .before .before .before .before .args in
+    c .verdict-of .ensures ∙ alone j (a .consequent .now) (omega (arith, c .before .before .before .if1 .taken)) (c .before .overloaded .result)
     (c .before .overloaded .ensures (tasksOf ds lower upper) (twoSided ds lower upper) (j .bounding))
 
 nat-of-requires : tie.Need-nat-of-requires
@@ -41,16 +41,16 @@ returns-3 c = λ ds lower upper j.
     let f = c .before .before .before .before .before .before in
     let i = c .before .before .before .nat-of .result in
     no-bound j (f .args .consequent .now) (f .pre .1) (some-words (c .before .before .before .before .before)) i (variable (c .before .before .before)) (c .before .before .if2 .left)
-    (not-true (getD (f .args .t1 .bounded) i false) (c .if3 .taken))
+    (not-true (getD (f .args .bounded .now) i false) (c .if3 .taken))
 
 returns-4 : tie.Need-returns-4
 returns-4 c = λ ds lower upper j.
-    let f = c .before .before .before .before .before .before .before .before in
-    let i = c .before .before .before .before .before .nat-of .result in
+    let first = c .before .before .before .before .before .before .before .before in
+    let f = first .before in
+    let i = c .before .before .before .before .before .before .nat-of .result in
     c .verdict-of2 .ensures
-    ∙ bound-on j (f .args .consequent .now) (f .pre .1) (some-words (c .before .before .before .before .before .before .before)) i (variable (c .before .before .before .before .before))
-    (c .before .before .before .before .if2 .left)
-    (not-false (getD (f .args .t1 .bounded) i false) (c .before .before .if3 .left)) (c .before .implied .result)
+    ∙ bound-on j (f .args .consequent .now) (f .pre .1) (some-words first) i (variable (c .before .before .before .before .before .before)) (c .before .before .before .before .before .if2 .left)
+    (not-false (getD (f .args .bounded .now) i false) (c .before .before .before .if3 .left)) (c .before .implied .result)
     (c .before .implied .ensures (tasksOf ds lower upper) (twoSided ds lower upper) (j .bounding))
 
 pub judge-spec : {M : Type 1} → statement M

@@ -11,7 +11,7 @@ returns c = λ J Ω d. let g = c .before .before .gather in none-overloads (d .h
 
 add-result : tie.Need-add-result
 add-result c =
-    let start = c .before .before .before .before .before .before .before .before in
+    let start = c .before .before .before .before in
     let g = c .before .before .before .gather in
     let (J, Ω, d) = start .pre in
     omega (arith, reach-fits (d .held) (g .result) (g .ensures J Ω (d .held) (d .late)) (not-false (g .result .some) (c .before .if1 .left)))

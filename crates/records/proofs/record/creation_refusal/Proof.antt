@@ -61,7 +61,8 @@ sum-fits-requires c κs = few (c .before .before .before .before .before .before
 
 returns-3 : tie.Need-returns-3
 returns-3 c = (
-  sym (refuses (test 1 _ ∷ test 2 _ ∷ []) (test 5 _) [] (counted (c .before .before .before .before .before .before .before .before), (lasting (c .before .before .before), tt)) (sym (summed (c .before)) ∙ not-true _ (c .if3 .taken))),
+  sym (refuses (test 1 _ ∷ test 2 _ ∷ []) (test 5 _) [] (counted (c .before .before .before .before .before .before .before .before), (lasting (c .before .before .before), tt))
+      (sym (summed (c .before)) ∙ not-true _ (c .if3 .taken))),
   λ z. absurd (omega arith),
 )
 
