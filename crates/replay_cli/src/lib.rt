@@ -3,8 +3,6 @@
 mod check_commands;
 mod commands;
 mod input;
-mod lent_runs;
-mod lent_schedules;
 mod lines;
 mod parts;
 mod posts;

@@ -4,14 +4,13 @@ use crate::lines::say_number;
 use crate::parts::list;
 use crate::parts::number_at;
 use crate::parts::place_of;
+use disjunctive::Range;
+use disjunctive::by_value::RANGES;
+use disjunctive::by_value::Ranges;
 use integers::limits::BARS;
-use ranges::range::Range;
 
-// Ranges of one command that are kept: more than any record has tasks, so that a call refuses so many for their count.
-pub const RANGES: usize = 64;
-
-// The first `count` places have the ranges. `valid` is false where the command is not understood.
-pub struct Ranges {
+// The ranges of a command: the first `count` of those that are kept. `valid` is false where the command is not understood.
+pub struct RangeList {
     pub valid: bool,
     pub count: usize,
     pub kept: [Range; RANGES],
@@ -42,14 +41,14 @@ fn kept_of(pairs: &[i32]) -> usize {
 }
 
 // The ranges of a list of pairs.
-pub fn ranges_of(pairs: &[i32]) -> Ranges {
+pub fn ranges_of(pairs: &[i32]) -> RangeList {
     let mut kept = [range_of(0, 0); RANGES];
     let mut i = 0;
     while i < RANGES {
         kept[i] = range_of(number_at(pairs, 2 * i), number_at(pairs, 2 * i + 1));
         i += 1;
     }
-    Ranges {
+    RangeList {
         valid: pairs.len() % 2 == 0,
         count: kept_of(pairs),
         kept,
@@ -79,9 +78,18 @@ fn barred_by(range: Range, bars: &[i32]) -> Range {
     next
 }
 
-impl Ranges {
+impl RangeList {
+    // The ranges as a call takes them.
+    pub fn given(self) -> Ranges {
+        let ranges = self.kept;
+        Ranges {
+            count: self.count,
+            ranges,
+        }
+    }
+
     // The ranges with the barred starts of a list: its first number is the task.
-    fn with_bars(self, bars: &[i32]) -> Ranges {
+    fn with_bars(self, bars: &[i32]) -> RangeList {
         let mut next = self;
         let task = place_of(number_at(bars, 0));
         if bars.len() == 0 || task >= next.count {
@@ -97,7 +105,7 @@ impl Ranges {
     }
 
     // The ranges with the barred starts of lists 1 to n - 1 of a line.
-    pub fn with_lists(self, words: &[i32], ends: &[usize], n: usize) -> Ranges {
+    pub fn with_lists(self, words: &[i32], ends: &[usize], n: usize) -> RangeList {
         let mut next = self;
         let mut k = 1;
         while k < n {

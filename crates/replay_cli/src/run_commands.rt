@@ -1,10 +1,4 @@
 // The calls on ranges that may have barred starts: the run, the mirrored pass, the overload test and those by precedences.
-use crate::lent_runs::overload_test;
-use crate::lent_runs::precedence_bound;
-use crate::lent_runs::precedence_reason;
-use crate::lent_runs::precedences;
-use crate::lent_runs::run;
-use crate::lent_runs::run_mirrored;
 use crate::lines::say;
 use crate::lines::say_counted;
 use crate::lines::say_error;
@@ -16,8 +10,7 @@ use crate::parts::same;
 use crate::posts::say_atoms;
 use crate::posts::say_overload;
 use crate::posts::say_posts;
-use crate::range_lists::RANGES;
-use crate::range_lists::Ranges;
+use crate::range_lists::RangeList;
 use crate::range_lists::StartBound;
 use crate::range_lists::say_starts;
 use disjunctive::BoundAbove;
@@ -26,21 +19,22 @@ use disjunctive::Outcome;
 use disjunctive::Overload;
 use disjunctive::Precedences;
 use disjunctive::Reason;
+use disjunctive::by_value::overload_test;
+use disjunctive::by_value::precedence_bound;
+use disjunctive::by_value::precedence_reason;
+use disjunctive::by_value::precedences;
+use disjunctive::by_value::run;
+use disjunctive::by_value::run_mirrored;
 use integers::limits::ATOMWORDS;
 use integers::limits::POSTWORDS;
 use integers::limits::TASKS;
-ghost use Prim.Native.Nat.{_≤_};
-ghost use Rattle.replay_cli.specs.RangeLists.{RANGES};
 
 // Words of the reason of one bound: two atoms for each task.
 const REASON: usize = 6 * TASKS;
 
 // The answer on ranges that may have barred starts.
-pub fn answer_barred(record: DisjunctivePropagator, word: &[u8], ranges: Ranges) {
+pub fn answer_barred(record: DisjunctivePropagator, word: &[u8], ranges: RangeList) {
     if !ranges.valid {
-        return say_error();
-    }
-    if ranges.count > RANGES {
         return say_error();
     }
     if same(word, b"run") {
@@ -50,7 +44,7 @@ pub fn answer_barred(record: DisjunctivePropagator, word: &[u8], ranges: Ranges)
         return answer_mirrored(record, ranges);
     }
     if same(word, b"quick") {
-        return say_overload_test(overload_test(record, ranges));
+        return say_overload_test(overload_test(record, ranges.given()));
     }
     if same(word, b"precede") {
         return answer_precedences(record, ranges);
@@ -59,29 +53,26 @@ pub fn answer_barred(record: DisjunctivePropagator, word: &[u8], ranges: Ranges)
 }
 
 // `run`: its posts, its end, the earliest starts that it leaves and its leaf changes; or the number that refused it.
-fn answer_run(record: DisjunctivePropagator, ranges: Ranges)
-    requires { ⌜ ranges .count ≤ RANGES ⌝ }
-{
+fn answer_run(record: DisjunctivePropagator, ranges: RangeList) {
     let mut posts = [0i32; POSTWORDS];
     let mut atoms = [0i32; ATOMWORDS];
-    let now = run(record, ranges, &mut posts, &mut atoms);
-    let outcome = now.outcome;
+    let now = run(record, ranges.given(), &mut posts, &mut atoms);
+    let finished = now.finished;
+    let outcome = finished.outcome;
     say_outcome(outcome, &posts, &atoms);
     if let Outcome::Refused(_) = outcome {
         return;
     }
     let kept = now.ranges;
     say_starts(kept, ranges.count, StartBound::Earliest);
-    say_counted(b"changes", now.changes);
+    say_counted(b"changes", finished.changes);
 }
 
 // `mirror`: the same of the mirrored pass, with latest starts and no leaf changes.
-fn answer_mirrored(record: DisjunctivePropagator, ranges: Ranges)
-    requires { ⌜ ranges .count ≤ RANGES ⌝ }
-{
+fn answer_mirrored(record: DisjunctivePropagator, ranges: RangeList) {
     let mut posts = [0i32; POSTWORDS];
     let mut atoms = [0i32; ATOMWORDS];
-    let now = run_mirrored(record, ranges, &mut posts, &mut atoms);
+    let now = run_mirrored(record, ranges.given(), &mut posts, &mut atoms);
     let outcome = now.outcome;
     say_outcome(outcome, &posts, &atoms);
     if let Outcome::Refused(_) = outcome {
@@ -124,10 +115,8 @@ fn say_overload_test(answer: Overload) {
 }
 
 // `precede`: the pass by the precedences that can be read off leaves earliest starts, or names the task whose bound passes its latest start.
-fn answer_precedences(record: DisjunctivePropagator, ranges: Ranges)
-    requires { ⌜ ranges .count ≤ RANGES ⌝ }
-{
-    let now = precedences(record, ranges);
+fn answer_precedences(record: DisjunctivePropagator, ranges: RangeList) {
+    let now = precedences(record, ranges.given());
     let answer = now.answer;
     let kept = now.ranges;
     match answer {
@@ -138,16 +127,13 @@ fn answer_precedences(record: DisjunctivePropagator, ranges: Ranges)
 }
 
 // The answer about the bound of the task that is named first, on ranges that may have barred starts.
-pub fn answer_bound(record: DisjunctivePropagator, word: &[u8], ranges: Ranges, named: &[i32]) {
+pub fn answer_bound(record: DisjunctivePropagator, word: &[u8], ranges: RangeList, named: &[i32]) {
     if !ranges.valid || named.len() == 0 {
-        return say_error();
-    }
-    if ranges.count > RANGES {
         return say_error();
     }
     let task = place_of(number_at(named, 0));
     if same(word, b"precede-bound") {
-        return say_bound_above(precedence_bound(record, ranges, task));
+        return say_bound_above(precedence_bound(record, ranges.given(), task));
     }
     answer_reason(record, ranges, task);
 }
@@ -162,11 +148,9 @@ fn say_bound_above(answer: BoundAbove) {
 }
 
 // `precede-why`: the reason of it.
-fn answer_reason(record: DisjunctivePropagator, ranges: Ranges, task: usize)
-    requires { ⌜ ranges .count ≤ RANGES ⌝ }
-{
+fn answer_reason(record: DisjunctivePropagator, ranges: RangeList, task: usize) {
     let mut atoms = [0i32; REASON];
-    let answer = precedence_reason(record, ranges, task, &mut atoms);
+    let answer = precedence_reason(record, ranges.given(), task, &mut atoms);
     match answer {
         Reason::Written(count) => {
             say_counted(b"count", count);

@@ -1,8 +1,4 @@
 // The calls on a fixed schedule: the page, the charges, the earliest free start and the busiest stretch.
-use crate::lent_schedules::busiest_stretch;
-use crate::lent_schedules::charges;
-use crate::lent_schedules::free_start;
-use crate::lent_schedules::page;
 use crate::lines::say;
 use crate::lines::say_count;
 use crate::lines::say_counted;
@@ -10,16 +6,17 @@ use crate::lines::say_refused;
 use crate::lines::say_valued;
 use crate::parts::bytes_of;
 use crate::parts::same;
-use crate::range_lists::RANGES;
-use crate::range_lists::Ranges;
+use crate::range_lists::RangeList;
 use disjunctive::Busiest;
 use disjunctive::Charging;
 use disjunctive::DisjunctivePropagator;
 use disjunctive::FreeStart;
 use disjunctive::Page;
+use disjunctive::by_value::busiest_stretch;
+use disjunctive::by_value::charges;
+use disjunctive::by_value::free_start;
+use disjunctive::by_value::page;
 use integers::limits::TASKS;
-ghost use Prim.Native.Nat.{_≤_};
-ghost use Rattle.replay_cli.specs.RangeLists.{RANGES};
 
 // Bytes of a page of 48 tasks.
 const PAGE: usize = 1519;
@@ -28,13 +25,10 @@ const PAGE: usize = 1519;
 pub fn answer_fixed(
     record: DisjunctivePropagator,
     word: &[u8],
-    ranges: Ranges,
+    ranges: RangeList,
     asked: &[i32],
 ) -> bool {
     if !ranges.valid {
-        return false;
-    }
-    if ranges.count > RANGES {
         return false;
     }
     let k = asked.len();
@@ -47,22 +41,20 @@ pub fn answer_fixed(
         return true;
     }
     if k == 2 && same(word, b"free") {
-        say_free_start(free_start(record, ranges, asked[0], asked[1]));
+        say_free_start(free_start(record, ranges.given(), asked[0], asked[1]));
         return true;
     }
     if k == 1 && same(word, b"busiest") {
-        say_stretch(busiest_stretch(record, ranges, asked[0]));
+        say_stretch(busiest_stretch(record, ranges.given(), asked[0]));
         return true;
     }
     false
 }
 
 // `page`: the page of a fixed schedule.
-fn answer_page(record: DisjunctivePropagator, ranges: Ranges)
-    requires { ⌜ ranges .count ≤ RANGES ⌝ }
-{
+fn answer_page(record: DisjunctivePropagator, ranges: RangeList) {
     let mut sheet = [0u8; PAGE];
-    let answer = page(record, ranges, &mut sheet);
+    let answer = page(record, ranges.given(), &mut sheet);
     match answer {
         Page::Written(bytes) => say(bytes_of(&sheet, 0, bytes)),
         Page::Refused(number) => say_refused(number),
@@ -70,10 +62,8 @@ fn answer_page(record: DisjunctivePropagator, ranges: Ranges)
 }
 
 // `charges`: the charges of a fixed schedule by the due moments, and their total.
-fn answer_charges(record: DisjunctivePropagator, ranges: Ranges, due: &[i32])
-    requires { ⌜ ranges .count ≤ RANGES ⌝ }
-{
-    let made = charges(record, ranges, due);
+fn answer_charges(record: DisjunctivePropagator, ranges: RangeList, due: &[i32]) {
+    let made = charges(record, ranges.given(), due);
     let answer = made.answer;
     let charged = made.charged;
     match answer {

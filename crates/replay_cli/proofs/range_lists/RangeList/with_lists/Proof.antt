@@ -1,8 +1,8 @@
 -- Each turn takes in one list; the loop keeps nothing.
 use Prim.Native.Nat.{_-_}
 use borrow.Author.Needs.{needs}
-use Rattle.replay_cli.proofs.range_lists.Ranges.with_lists.Statement.{statement}
-use Rattle.replay_cli.proofs.range_lists.Ranges.with_lists.Tie as tie
+use Rattle.replay_cli.proofs.range_lists.RangeList.with_lists.Statement.{statement}
+use Rattle.replay_cli.proofs.range_lists.RangeList.with_lists.Tie as tie
 
 abbrev Inv-loop : tie.InvT-loop
 Inv-loop words ends n next₀ k₀ next k = Unit {0}

@@ -1,4 +1,0 @@
-pub mod Locals
-pub mod MutableLoans
-pub mod SharedLoans
-pub mod LentCalls
