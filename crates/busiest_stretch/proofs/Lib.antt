@@ -3,4 +3,3 @@ pub mod LocalBest
 pub mod TriedStretches
 pub mod StretchRefused
 pub mod Answers
-pub mod BusiestNumbers

@@ -10,12 +10,10 @@ use Rattle.integers.specs.Limits.{TASKS}
 use Rattle.integers.specs.Tests.{Test, test}
 use Rattle.integers.proofs.Tests.{accepts, refuses, more-accepted, more-refused}
 use Rattle.records.specs.declared.record.DisjunctivePropagator.{DisjunctivePropagator}
-use Rattle.records.specs.Records.{Lawful}
-use Rattle.records.specs.Refusals.{CountsFit, StartsFit, RangesFit}
-use Rattle.fixed_schedules.specs.FixedSchedules.{fixedTests, fixedNumber, Fixed, AcceptedFixed}
+use Rattle.fixed_schedules.specs.FixedSchedules.{fixedTests, fixedNumber, AcceptedFixed}
 use Rattle.fixed_schedules.specs.Parameters.{lengthFits, LengthFits}
 use Rattle.fixed_schedules.proofs.ParameterMoments.{length-is}
-use Rattle.fixed_schedules.proofs.FixedRefused.{fixed-first, fixed-then, fixed-20, fixed-10, fixed-3, fixed-4, fixed-14, fixed-many, passed-fixed}
+use Rattle.fixed_schedules.proofs.FixedRefused.{fixed-first, fixed-then, SoleGrounds, fixed-grounds, fixed-many, passed-fixed}
 use Rattle.busiest_stretch.specs.Stretches.{stretchNumber}
 
 module _ (r : DisjunctivePropagator) (es ls : List ℤ) (w : ℤ) where
@@ -38,21 +36,9 @@ module _ (r : DisjunctivePropagator) (es ls : List ℤ) (w : ℤ) where
   pub none-wrong : fixedNumber r es ls ≡ 0 → lengthFits w ≡ true → stretchNumber r es ls w ≡ 0
   none-wrong z h = fixed-then r es ls (t23 ∷ []) z ∙ accepts (t23 ∷ []) (h, tt)
 
-  -- The sole ground for each number: all before it hold, and its own does not.
-  pub refused-20 : stretchNumber r es ls w ≡ 20 ↔ (Lawful r → ⊥)
-  refused-20 = fixed-20 r es ls (t23 ∷ []) refl
-
-  pub refused-10 : stretchNumber r es ls w ≡ 10 ↔ (Lawful r × (CountsFit (r .count) es ls → ⊥))
-  refused-10 = fixed-10 r es ls (t23 ∷ []) refl
-
-  pub refused-3 : stretchNumber r es ls w ≡ 3 ↔ (Lawful r × (CountsFit (r .count) es ls × (StartsFit es ls → ⊥)))
-  refused-3 = fixed-3 r es ls (t23 ∷ []) refl
-
-  pub refused-4 : stretchNumber r es ls w ≡ 4 ↔ (Lawful r × (CountsFit (r .count) es ls × (StartsFit es ls × (RangesFit es ls → ⊥))))
-  refused-4 = fixed-4 r es ls (t23 ∷ []) refl
-
-  pub refused-14 : stretchNumber r es ls w ≡ 14 ↔ (Lawful r × (CountsFit (r .count) es ls × (StartsFit es ls × (RangesFit es ls × (Fixed r es ls → ⊥)))))
-  refused-14 = fixed-14 r es ls (t23 ∷ []) refl
+  -- The sole ground for each number: those of the schedule, and the call's own.
+  pub sole-grounds : SoleGrounds r es ls (stretchNumber r es ls w)
+  sole-grounds = fixed-grounds r es ls (t23 ∷ []) refl refl refl refl refl
 
   pub refused-23 : stretchNumber r es ls w ≡ 23 ↔ (AcceptedFixed r es ls × (LengthFits w → ⊥))
   refused-23 = more-refused (fixedTests r es ls) t23 (passed-fixed r es ls) (length-is w) refl refl

@@ -14,11 +14,9 @@ use Rattle.integers.specs.Tests.{Test, test, allBelow}
 use Rattle.integers.proofs.Bools.{and-true, and-yes}
 use Rattle.integers.proofs.Tests.{all-at, all-show, accepts, refuses, more-accepted, more-refused}
 use Rattle.records.specs.declared.record.DisjunctivePropagator.{DisjunctivePropagator}
-use Rattle.records.specs.Records.{Lawful}
-use Rattle.records.specs.Refusals.{CountsFit, StartsFit, RangesFit}
 use Rattle.records.proofs.RefusedRuns.{within-is}
-use Rattle.fixed_schedules.specs.FixedSchedules.{fixedTests, fixedNumber, Fixed, AcceptedFixed}
-use Rattle.fixed_schedules.proofs.FixedRefused.{fixed-first, fixed-then, fixed-20, fixed-10, fixed-3, fixed-4, fixed-14, fixed-many, passed-fixed}
+use Rattle.fixed_schedules.specs.FixedSchedules.{fixedTests, fixedNumber, AcceptedFixed}
+use Rattle.fixed_schedules.proofs.FixedRefused.{fixed-first, fixed-then, SoleGrounds, fixed-grounds, fixed-many, passed-fixed}
 use Rattle.charges.specs.Charges.{dueFitsAt, chargesNumber, DueFits, DuesFit, AcceptedCharges}
 
 due-is : (z : ℤ) → leZ (negℤ (pos DUE)) z && leZ z (pos DUE) ≡ true ↔ DueFits z
@@ -55,21 +53,9 @@ module _ (r : DisjunctivePropagator) (es ls due : List ℤ) where
   pub right-dues : fixedNumber r es ls ≡ 0 → t19 .passed ≡ true → chargesNumber r es ls due ≡ 0
   right-dues z h = fixed-then r es ls (t19 ∷ []) z ∙ accepts (t19 ∷ []) (h, tt)
 
-  -- The sole ground for each number: all before it hold, and its own does not.
-  pub refused-20 : chargesNumber r es ls due ≡ 20 ↔ (Lawful r → ⊥)
-  refused-20 = fixed-20 r es ls (t19 ∷ []) refl
-
-  pub refused-10 : chargesNumber r es ls due ≡ 10 ↔ (Lawful r × (CountsFit (r .count) es ls → ⊥))
-  refused-10 = fixed-10 r es ls (t19 ∷ []) refl
-
-  pub refused-3 : chargesNumber r es ls due ≡ 3 ↔ (Lawful r × (CountsFit (r .count) es ls × (StartsFit es ls → ⊥)))
-  refused-3 = fixed-3 r es ls (t19 ∷ []) refl
-
-  pub refused-4 : chargesNumber r es ls due ≡ 4 ↔ (Lawful r × (CountsFit (r .count) es ls × (StartsFit es ls × (RangesFit es ls → ⊥))))
-  refused-4 = fixed-4 r es ls (t19 ∷ []) refl
-
-  pub refused-14 : chargesNumber r es ls due ≡ 14 ↔ (Lawful r × (CountsFit (r .count) es ls × (StartsFit es ls × (RangesFit es ls × (Fixed r es ls → ⊥)))))
-  refused-14 = fixed-14 r es ls (t19 ∷ []) refl
+  -- The sole ground for each number: those of the schedule, and the call's own.
+  pub sole-grounds : SoleGrounds r es ls (chargesNumber r es ls due)
+  sole-grounds = fixed-grounds r es ls (t19 ∷ []) refl refl refl refl refl
 
   pub refused-19 : chargesNumber r es ls due ≡ 19 ↔ (AcceptedFixed r es ls × (DuesFit (r .count) due → ⊥))
   refused-19 = more-refused (fixedTests r es ls) t19 (passed-fixed r es ls) (dues-are (r .count) due) refl refl

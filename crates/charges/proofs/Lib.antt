@@ -2,4 +2,3 @@ pub mod Costs
 pub mod Lateness
 pub mod ChargesRefused
 pub mod AcceptedCharges
-pub mod ChargesNumbers

@@ -93,6 +93,14 @@ module _ (r : DisjunctivePropagator) (es ls : List ℤ) where
     pub none-wrong : allBelow (oneStartAt es ls) (length es) ≡ true → allApart (r .durations) es (length es) ≡ true → fixedNumber r es ls ≡ 0
     none-wrong o a = refusal-after (rangeTests r es ls) (t14 ∷ []) p ∙ accepts (t14 ∷ []) (and-yes (allBelow (oneStartAt es ls) (length es)) (allApart (r .durations) es (length es)) o a, tt)
 
+-- The sole ground for each number of a schedule, which no later test has: all before it hold, and its own does not.
+pub record SoleGrounds (r : DisjunctivePropagator) (es ls : List ℤ) (number : ℕ) : Type 0 where
+  pub refused-20 : number ≡ 20 ↔ (Lawful r → ⊥)
+  pub refused-10 : number ≡ 10 ↔ (Lawful r × (CountsFit (r .count) es ls → ⊥))
+  pub refused-3 : number ≡ 3 ↔ (Lawful r × (CountsFit (r .count) es ls × (StartsFit es ls → ⊥)))
+  pub refused-4 : number ≡ 4 ↔ (Lawful r × (CountsFit (r .count) es ls × (StartsFit es ls × (RangesFit es ls → ⊥))))
+  pub refused-14 : number ≡ 14 ↔ (Lawful r × (CountsFit (r .count) es ls × (StartsFit es ls × (RangesFit es ls × (Fixed r es ls → ⊥)))))
+
 -- Where other tests follow.
 module _ (r : DisjunctivePropagator) (es ls : List ℤ) (after : List Test) where
   pub fixed-first : (fixedNumber r es ls ≡ 0 → ⊥) → refusal (fixedTests r es ls ++ after) ≡ fixedNumber r es ls
@@ -101,21 +109,15 @@ module _ (r : DisjunctivePropagator) (es ls : List ℤ) (after : List Test) wher
   pub fixed-then : fixedNumber r es ls ≡ 0 → refusal (fixedTests r es ls ++ after) ≡ refusal after
   fixed-then h = refusal-after (fixedTests r es ls) after (passed-fixed r es ls .1 (accepted-fixed r es ls .0 h))
 
-  -- The sole ground for each number, which no later test has: all before it hold, and its own does not.
-  pub fixed-20 : unused after 20 ≡ true → refusal (fixedTests r es ls ++ after) ≡ 20 ↔ (Lawful r → ⊥)
-  fixed-20 other = range-20 r es ls (t14 r es ls ∷ after) other
-
-  pub fixed-10 : unused after 10 ≡ true → refusal (fixedTests r es ls ++ after) ≡ 10 ↔ (Lawful r × (CountsFit (r .count) es ls → ⊥))
-  fixed-10 other = range-10 r es ls (t14 r es ls ∷ after) other
-
-  pub fixed-3 : unused after 3 ≡ true → refusal (fixedTests r es ls ++ after) ≡ 3 ↔ (Lawful r × (CountsFit (r .count) es ls × (StartsFit es ls → ⊥)))
-  fixed-3 other = range-3 r es ls (t14 r es ls ∷ after) other
-
-  pub fixed-4 : unused after 4 ≡ true → refusal (fixedTests r es ls ++ after) ≡ 4 ↔ (Lawful r × (CountsFit (r .count) es ls × (StartsFit es ls × (RangesFit es ls → ⊥))))
-  fixed-4 other = range-4 r es ls (t14 r es ls ∷ after) other
-
-  pub fixed-14 : unused after 14 ≡ true → refusal (fixedTests r es ls ++ after) ≡ 14 ↔ (Lawful r × (CountsFit (r .count) es ls × (StartsFit es ls × (RangesFit es ls × (Fixed r es ls → ⊥)))))
-  fixed-14 other = range-holds r es ls (t14 r es ls ∷ after) refl (λ n. first-refuses (t14 r es ls) after (fixed-is r es ls (n .earliest)) other)
+  pub fixed-grounds : unused after 20 ≡ true → unused after 10 ≡ true → unused after 3 ≡ true → unused after 4 ≡ true → unused after 14 ≡ true
+      → SoleGrounds r es ls (refusal (fixedTests r es ls ++ after))
+  fixed-grounds u20 u10 u3 u4 u14 = record {
+    refused-20 = range-20 r es ls (t14 r es ls ∷ after) u20;
+    refused-10 = range-10 r es ls (t14 r es ls ∷ after) u10;
+    refused-3 = range-3 r es ls (t14 r es ls ∷ after) u3;
+    refused-4 = range-4 r es ls (t14 r es ls ∷ after) u4;
+    refused-14 = range-holds r es ls (t14 r es ls ∷ after) refl (λ n. first-refuses (t14 r es ls) after (fixed-is r es ls (n .earliest)) u14);
+  }
 
 -- more ranges than any record has tasks are refused by the number that refuses none, whatever tests follow
 pub fixed-many : (r : DisjunctivePropagator) (es ls : List ℤ) (after after′ : List Test) → TASKS < length es

@@ -11,12 +11,10 @@ use Rattle.integers.specs.Tests.{Test, test}
 use Rattle.integers.proofs.Bools.{and-true, and-yes, and-left, and-right}
 use Rattle.integers.proofs.Tests.{accepts, refuses, more-accepted, more-refused}
 use Rattle.records.specs.declared.record.DisjunctivePropagator.{DisjunctivePropagator}
-use Rattle.records.specs.Records.{Lawful}
-use Rattle.records.specs.Refusals.{CountsFit, StartsFit, RangesFit}
-use Rattle.fixed_schedules.specs.FixedSchedules.{fixedTests, fixedNumber, Fixed, AcceptedFixed}
+use Rattle.fixed_schedules.specs.FixedSchedules.{fixedTests, fixedNumber, AcceptedFixed}
 use Rattle.fixed_schedules.specs.Parameters.{momentFits, lengthFits, MomentFits, LengthFits}
 use Rattle.fixed_schedules.proofs.ParameterMoments.{moment-is, length-is}
-use Rattle.fixed_schedules.proofs.FixedRefused.{fixed-first, fixed-then, fixed-20, fixed-10, fixed-3, fixed-4, fixed-14, fixed-many, passed-fixed}
+use Rattle.fixed_schedules.proofs.FixedRefused.{fixed-first, fixed-then, SoleGrounds, fixed-grounds, fixed-many, passed-fixed}
 use Rattle.free_starts.specs.FreeStarts.{freeNumber}
 
 module _ (r : DisjunctivePropagator) (es ls : List ℤ) (t d : ℤ) where
@@ -49,21 +47,9 @@ module _ (r : DisjunctivePropagator) (es ls : List ℤ) (t d : ℤ) where
     pub none-wrong : lengthFits d ≡ true → momentFits t ≡ true → freeNumber r es ls t d ≡ 0
     none-wrong p q = fixed-then r es ls (t18 ∷ []) z ∙ accepts (t18 ∷ []) (and-yes (lengthFits d) (momentFits t) p q, tt)
 
-  -- The sole ground for each number: all before it hold, and its own does not.
-  pub refused-20 : freeNumber r es ls t d ≡ 20 ↔ (Lawful r → ⊥)
-  refused-20 = fixed-20 r es ls (t18 ∷ []) refl
-
-  pub refused-10 : freeNumber r es ls t d ≡ 10 ↔ (Lawful r × (CountsFit (r .count) es ls → ⊥))
-  refused-10 = fixed-10 r es ls (t18 ∷ []) refl
-
-  pub refused-3 : freeNumber r es ls t d ≡ 3 ↔ (Lawful r × (CountsFit (r .count) es ls × (StartsFit es ls → ⊥)))
-  refused-3 = fixed-3 r es ls (t18 ∷ []) refl
-
-  pub refused-4 : freeNumber r es ls t d ≡ 4 ↔ (Lawful r × (CountsFit (r .count) es ls × (StartsFit es ls × (RangesFit es ls → ⊥))))
-  refused-4 = fixed-4 r es ls (t18 ∷ []) refl
-
-  pub refused-14 : freeNumber r es ls t d ≡ 14 ↔ (Lawful r × (CountsFit (r .count) es ls × (StartsFit es ls × (RangesFit es ls × (Fixed r es ls → ⊥)))))
-  refused-14 = fixed-14 r es ls (t18 ∷ []) refl
+  -- The sole ground for each number: those of the schedule, and the call's own.
+  pub sole-grounds : SoleGrounds r es ls (freeNumber r es ls t d)
+  sole-grounds = fixed-grounds r es ls (t18 ∷ []) refl refl refl refl refl
 
   pub refused-18 : freeNumber r es ls t d ≡ 18 ↔ (AcceptedFixed r es ls × (LengthFits d × MomentFits t → ⊥))
   refused-18 = more-refused (fixedTests r es ls) t18 (passed-fixed r es ls) parameters-fit refl refl

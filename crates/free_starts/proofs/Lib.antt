@@ -1,4 +1,3 @@
 pub mod FirstFree
 pub mod FreeStartRefused
 pub mod Answers
-pub mod FreeStartNumbers

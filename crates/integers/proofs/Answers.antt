@@ -19,5 +19,5 @@ same-kind e = ap (λ (x : Answer). x .kind) e
 pub same-count : {a b : Answer} → a ≡ b → (n : ℕ) → countAt a n ≡ countAt b n
 same-count e n = ap (λ (x : Answer). countAt x n) e
 
-pub told-apart : {A : Type 0} (numbers : A → Answer) (back : Answer → A) → ((x : A) → back (numbers x) ≡ x) → (x y : A) → numbers x ≡ numbers y → x ≡ y
+pub told-apart : {A B : Type 0} (numbers : A → B) (back : B → A) → ((x : A) → back (numbers x) ≡ x) → (x y : A) → numbers x ≡ numbers y → x ≡ y
 told-apart numbers back read x y e = sym (read x) ∙ ap back e ∙ read y

@@ -10,7 +10,7 @@ use lib.Dec.{T, ltb, leb→le, le→leb, ltb→lt, lt→ltb, nltb→le}
 use lib.IntN.{ℤ, pos, negsuc, negℤ, natAbs, subℕ, _+ℤ_, _-ℤ_}
 use lib.Signed.{mag, leZ, ltZ, _≤ℤ_, _<ℤ_, pos-natAbs, yes-nonNeg}
 use Rattle.integers.specs.Extremes.{pickℤ, maxℤ, minℤ}
-use mir.Syntax.{Width, w32}
+use mir.Syntax.{Width}
 use mir.Val.{SFits, toZ, ofZ, hbits}
 use mir.ValLaws.{toZ-ofZ}
 
@@ -220,30 +220,3 @@ le-leZ a b h = by (leZ a b) refl
     by : (t : Bool) → leZ a b ≡ t → t ≡ true
     by true e = refl
     by false e = absurd (omega ints)
-
--- ---- examples
-ex₁ : (a b c : ℤ) → a ≤ℤ b → b <ℤ c → a <ℤ c
-ex₁ a b c h k = omega ints
-
-ex₂ : (a b c : ℤ) → a ≡ b → b ≤ℤ c → (a ≤ℤ c) × (c <ℤ a → ⊥)
-ex₂ a b c h k = omega ints
-
-ex₃ : (a b c : ℤ) → (a +ℤ c) ≤ℤ (b +ℤ c) → a ≤ℤ b
-ex₃ a b c h = omega (ints, sumℤ a c, sumℤ b c)
-
-ex₄ : (a : ℤ) → negsuc 999 ≤ℤ a → a ≤ℤ pos 1000 → (negsuc 2147483647 ≤ℤ (a +ℤ pos 5)) × ((a +ℤ pos 5) <ℤ pos 2000)
-unfolding up dn
-ex₄ a h k = omega (ints, sumℤ a (pos 5))
-
-ex₅ : (a b : ℤ) → a ≤ℤ b → b ≤ℤ a → a ≡ b
-ex₅ a b h k = omega ints
-
-ex₆ : (a : ℤ) → SFits w32 a → (a <ℤ pos 2147483648) × (negsuc 2147483647 ≤ℤ a)
-unfolding up dn
-ex₆ a h = omega (ints, in-range h)
-
-ex₇ : (a b c : ℤ) → leZ a b ≡ false → ltZ c b ≡ true → c <ℤ a
-ex₇ a b c h k = omega ints
-
-ex₈ : (a b c : ℤ) → a ≤ℤ c → b ≤ℤ c → maxℤ a b ≤ℤ c
-ex₈ a b c h k = ⊎-elim (λ w. omega ints) (λ w. omega ints) (maxℤ-is a b)

@@ -1,4 +1,3 @@
 pub mod RightAligned
 pub mod PageRefused
 pub mod PageLines
-pub mod PageNumbers

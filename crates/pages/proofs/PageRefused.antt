@@ -12,10 +12,8 @@ use Rattle.integers.specs.Limits.{TASKS}
 use Rattle.integers.specs.Tests.{Test, test}
 use Rattle.integers.proofs.Tests.{accepts, refuses, more-accepted, more-refused}
 use Rattle.records.specs.declared.record.DisjunctivePropagator.{DisjunctivePropagator}
-use Rattle.records.specs.Records.{Lawful}
-use Rattle.records.specs.Refusals.{CountsFit, StartsFit, RangesFit}
-use Rattle.fixed_schedules.specs.FixedSchedules.{fixedTests, fixedNumber, Fixed, AcceptedFixed}
-use Rattle.fixed_schedules.proofs.FixedRefused.{fixed-first, fixed-then, fixed-20, fixed-10, fixed-3, fixed-4, fixed-14, fixed-many, passed-fixed}
+use Rattle.fixed_schedules.specs.FixedSchedules.{fixedTests, fixedNumber, AcceptedFixed}
+use Rattle.fixed_schedules.proofs.FixedRefused.{fixed-first, fixed-then, SoleGrounds, fixed-grounds, fixed-many, passed-fixed}
 use Rattle.pages.specs.Lines.{LINE}
 use Rattle.pages.specs.Pages.{pageNumber, AcceptedPage}
 
@@ -44,21 +42,9 @@ module _ (r : DisjunctivePropagator) (es ls : List ℤ) (bytes : ℕ) where
   pub room-enough : fixedNumber r es ls ≡ 0 → LINE * (r .count + 1) ≤ bytes → pageNumber r es ls bytes ≡ 0
   room-enough z h = fixed-then r es ls (t15 ∷ []) z ∙ accepts (t15 ∷ []) (le-leb (LINE * (r .count + 1)) bytes h, tt)
 
-  -- The sole ground for each number: all before it hold, and its own does not.
-  pub refused-20 : pageNumber r es ls bytes ≡ 20 ↔ (Lawful r → ⊥)
-  refused-20 = fixed-20 r es ls (t15 ∷ []) refl
-
-  pub refused-10 : pageNumber r es ls bytes ≡ 10 ↔ (Lawful r × (CountsFit (r .count) es ls → ⊥))
-  refused-10 = fixed-10 r es ls (t15 ∷ []) refl
-
-  pub refused-3 : pageNumber r es ls bytes ≡ 3 ↔ (Lawful r × (CountsFit (r .count) es ls × (StartsFit es ls → ⊥)))
-  refused-3 = fixed-3 r es ls (t15 ∷ []) refl
-
-  pub refused-4 : pageNumber r es ls bytes ≡ 4 ↔ (Lawful r × (CountsFit (r .count) es ls × (StartsFit es ls × (RangesFit es ls → ⊥))))
-  refused-4 = fixed-4 r es ls (t15 ∷ []) refl
-
-  pub refused-14 : pageNumber r es ls bytes ≡ 14 ↔ (Lawful r × (CountsFit (r .count) es ls × (StartsFit es ls × (RangesFit es ls × (Fixed r es ls → ⊥)))))
-  refused-14 = fixed-14 r es ls (t15 ∷ []) refl
+  -- The sole ground for each number: those of the schedule, and the call's own.
+  pub sole-grounds : SoleGrounds r es ls (pageNumber r es ls bytes)
+  sole-grounds = fixed-grounds r es ls (t15 ∷ []) refl refl refl refl refl
 
   pub refused-15 : pageNumber r es ls bytes ≡ 15 ↔ (AcceptedFixed r es ls × (LINE * (r .count + 1) ≤ bytes → ⊥))
   refused-15 = more-refused (fixedTests r es ls) t15 (passed-fixed r es ls) room-is refl refl

@@ -8,14 +8,14 @@ use lib.IntN.{ℤ}
 use lib.Signed.{clashℤ}
 use lib.ListN.{length, getD}
 use Rattle.integers.specs.Limits.{TASKS}
-use Rattle.scheduling.specs.Scheduling.{whole, natural, Tasks}
+use Rattle.scheduling.specs.Scheduling.{whole, Tasks}
 use Rattle.trees.specs.Ects.{exceeds}
 use Rattle.records.specs.declared.record.DisjunctivePropagator.{DisjunctivePropagator}
 use Rattle.records.specs.Records.{tasksIn, momentsIn}
 use Rattle.records.specs.Refusals.{AcceptedInput}
 use Rattle.records.proofs.AcceptedTasks.{count, proper-whole, above}
 use Rattle.precedences.specs.PredecessorArrays.{boundAt, Boundable}
-use Rattle.precedences.proofs.MomentBounds.{raises, raises-not}
+use Rattle.precedences.proofs.MomentBounds.{passes, fits}
 use Rattle.precedences.specs.Bounds.{Raises}
 
 -- the test of the array's start
@@ -28,14 +28,11 @@ module _ (r : DisjunctivePropagator) (es ls : List ℤ) (a : AcceptedInput r es 
   abbrev Z : Tasks whole
   Z = tasksIn r es ls
 
-  abbrev M : Tasks natural
-  M = momentsIn r es ls
-
   pub among : i < tasksIn r es ls .count
   among = omega (arith, count r es ls a long)
 
   pub raises-yes : exceeds (boundAt (momentsIn r es ls) i) (momentsIn r es ls .earliest i) ≡ true → Raises (tasksIn r es ls) i
-  raises-yes h = let w = raises Z (proper-whole r es ls a long) (above r es ls a long) i among h in (w .0, record { is-bound = w .1; above = w .2 })
+  raises-yes h = let w = passes Z (proper-whole r es ls a long) (above r es ls a long) i among (Z .earliest i) (above r es ls a long i among) h in (w .0, record { is-bound = w .1; above = w .2 })
 
   pub raises-no : exceeds (boundAt (momentsIn r es ls) i) (momentsIn r es ls .earliest i) ≡ false → Raises (tasksIn r es ls) i → ⊥
-  raises-no h (b, w) = clashℤ (w .above) (raises-not Z (proper-whole r es ls a long) (above r es ls a long) i among h b (w .is-bound))
+  raises-no h (b, w) = clashℤ (w .above) (fits Z (proper-whole r es ls a long) (above r es ls a long) i among (Z .earliest i) (above r es ls a long i among) h b (w .is-bound))

@@ -5,7 +5,6 @@ pub mod RaisedStarts
 pub mod PassContract
 pub mod PassNumbers
 pub mod TooManyRanges
-pub mod ReasonNumbers
 pub mod Members
 pub mod BoundAbove
 pub mod BoundAnswers

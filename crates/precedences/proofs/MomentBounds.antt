@@ -69,22 +69,13 @@ module _ (Z : Tasks whole) (ok : Proper Z) (low : (k : ℕ) → k < Z .count →
         let e : Is zeroAt Z ok low (Ect Z (predecessors Z i)) v = ect← zeroAt Z ok low (predecessors Z i) v w in
         record { bound = e .at; is-bound = e .holds; above = e .above; is = e .is }
 
-    -- The bound passes the latest start, or no bound does.
-    pub passes : exceeds (boundAt N i) (N .latest i) ≡ true → (b : ℤ) × PrecedenceBound Z i b × (Z .latest i <ℤ b)
-    passes h =
-        let (v, z, past) = exceeds-yes (boundAt N i) (N .latest i) h in
-        let g = gives v z in
-        (g .bound, g .is-bound, reflect< zeroAt (Z .latest i) (g .bound) (high i q) (g .above) (omega (arith, g .is)))
+    -- The bound passes s, a latest or an earliest start, or no bound does.
+    module _ (s : ℤ) (deep : Above zeroAt s) where
+      pub passes : exceeds (boundAt N i) (moment zeroAt s) ≡ true → (b : ℤ) × PrecedenceBound Z i b × (s <ℤ b)
+      passes h =
+          let (v, z, past) = exceeds-yes (boundAt N i) (moment zeroAt s) h in
+          let g = gives v z in
+          (g .bound, g .is-bound, reflect< zeroAt s (g .bound) deep (g .above) (omega (arith, g .is)))
 
-    pub fits : exceeds (boundAt N i) (N .latest i) ≡ false → (b : ℤ) → PrecedenceBound Z i b → b ≤ℤ Z .latest i
-    fits h b e = let g = found b e in reflect zeroAt b (Z .latest i) (g .above) (high i q) (some-within (boundAt N i) (moment zeroAt b) (N .latest i) (g .is) h)
-
-    -- The same of the earliest start.
-    pub raises : exceeds (boundAt N i) (N .earliest i) ≡ true → (b : ℤ) × PrecedenceBound Z i b × (Z .earliest i <ℤ b)
-    raises h =
-        let (v, z, past) = exceeds-yes (boundAt N i) (N .earliest i) h in
-        let g = gives v z in
-        (g .bound, g .is-bound, reflect< zeroAt (Z .earliest i) (g .bound) (low i q) (g .above) (omega (arith, g .is)))
-
-    pub raises-not : exceeds (boundAt N i) (N .earliest i) ≡ false → (b : ℤ) → PrecedenceBound Z i b → b ≤ℤ Z .earliest i
-    raises-not h b e = let g = found b e in reflect zeroAt b (Z .earliest i) (g .above) (low i q) (some-within (boundAt N i) (moment zeroAt b) (N .earliest i) (g .is) h)
+      pub fits : exceeds (boundAt N i) (moment zeroAt s) ≡ false → (b : ℤ) → PrecedenceBound Z i b → b ≤ℤ s
+      fits h b e = let g = found b e in reflect zeroAt b s (g .above) deep (some-within (boundAt N i) (moment zeroAt b) (moment zeroAt s) (g .is) h)

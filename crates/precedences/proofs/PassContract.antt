@@ -26,7 +26,7 @@ use Rattle.precedences.specs.Predecessors.{PrecedenceBound}
 use Rattle.precedences.specs.PredecessorArrays.{startAt, boundAt}
 use Rattle.precedences.proofs.AcceptedArrays.{boundable}
 use Rattle.precedences.proofs.Soundness.{before-sound, bound-sound}
-use Rattle.precedences.proofs.MomentBounds.{passes, fits}
+use Rattle.precedences.proofs.MomentBounds.{high, passes, fits}
 use Rattle.precedences.specs.declared.answers.Precedences.{Precedences}
 use Rattle.precedences.specs.declared.answers.Precedences.the-variants.{Done, Emptied}
 use Rattle.precedences.specs.Numbers.{precedencesNumbers}
@@ -100,11 +100,12 @@ module _ (r : DisjunctivePropagator) (es ls : List ℤ) (a : AcceptedInput r es 
     latest-at k q = boundable r es ls a long e l .late .at k q
 
     not-past : (k : ℕ) → k < r .count → k < i → (b : ℤ) → PrecedenceBound Z k b → b ≤ℤ Z .latest k
-    not-past k q h = fits Z fine (above r es ls a long) k (known q) (within-bound (M .earliest k) (M .latest k) (boundAt M k) (omega (arith, p .none-before k h, raised-at k q, latest-at k q)))
+    not-past k q h = fits Z fine (above r es ls a long) k (known q) (Z .latest k) (high Z fine (above r es ls a long) k (known q))
+        (within-bound (M .earliest k) (M .latest k) (boundAt M k) (omega (arith, p .none-before k h, raised-at k q, latest-at k q)))
 
     pub some-past : i < r .count → LeftPrecedences (tasksIn r es ls) es (Emptied i) es
     some-past q =
-        let w = passes Z fine (above r es ls a long) i (known q)
+        let w = passes Z fine (above r es ls a long) i (known q) (Z .latest i) (high Z fine (above r es ls a long) i (known q))
         (past-by-bound (M .earliest i) (M .latest i) (boundAt M i) (proper r es ls a long .ranges i (known q)) (omega (arith, p .past q, raised-at i q, latest-at i q))) in
         ended-emptied Z fine es i (record { small = known q; bound = w .0; is-bound = w .1; passes = w .2; lowest = λ k h. not-past k (omega arith) h })
 

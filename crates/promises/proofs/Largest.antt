@@ -4,8 +4,12 @@ use mathlib.Core.Logic.{_⊎_, inl, ⊎-elim}
 use lib.IntN.{ℤ}
 use lib.Signed.{ltZ, _≤ℤ_, _<ℤ_}
 use Rattle.integers.proofs.Bools.{bool}
-use Rattle.integers.proofs.Ints.{ints}
+use Rattle.integers.proofs.Ints.{ints, ≤ℤ-cases}
 use Rattle.scheduling.specs.Scheduling.{whole, Largest, Least}
+
+-- what does not pass a limit is within it
+pub not-past : {a b : ℤ} → (b <ℤ a → ⊥) → a ≤ℤ b
+not-past {a} {b} n = ⊎-elim (λ y. y) (λ y. absurd (n y)) (≤ℤ-cases a b)
 
 module _ {P : ℤ → Type 0} {old v : ℤ} where
   -- it is not below the old value, and not above what neither the old value nor a bound passes

@@ -1,5 +1,5 @@
 -- Once the starts that a core leaves are stored in the ranges, the open call's contract holds.
-use mathlib.Core.Path.{_≡_, ap, subst, _∙_}
+use mathlib.Core.Path.{_≡_, sym, ap, subst, _∙_}
 use mathlib.Core.List.{List}
 use Prim.Native.Nat.{ℕ}
 use lib.IntN.{ℤ}
@@ -8,11 +8,14 @@ use Rattle.records.specs.declared.record.DisjunctivePropagator.{DisjunctiveProp
 use Rattle.records.proofs.RefusedRuns.{accepted-run}
 use Rattle.runs.specs.declared.outcome.Outcome.{Outcome}
 use Rattle.propagator.specs.Ran.{RunLeft, Ran}
+use Rattle.propagator.proofs.ReadTrace.{handed}
 use Rattle.mirrored.specs.RanMirrored.{LeftMirrored, RanMirrored}
 use Rattle.ranges.specs.declared.range.Range.{Range}
 use Rattle.ranges.specs.Bars.{allBarsFit}
 use Rattle.ranges.specs.Ranges.{earliests, latests, withStarts, withLatests}
 use Rattle.ranges.proofs.StoredStarts.{own-starts, own-latests}
+use Rattle.promises.specs.Promise.{Promise}
+use Rattle.promises.specs.MirroredPromise.{MirroredPromise}
 use Rattle.promises.specs.RanLent.{RanLent}
 use Rattle.promises.specs.RanMirroredLent.{RanMirroredLent}
 use Rattle.promises.proofs.PromiseKept.{promised}
@@ -27,7 +30,8 @@ lent before ys posts atoms answer changed after es′ posts′ atoms′ size ran
   refused = λ n. (let k = ran .refused n in
       record { number = k .answer; no-changes = k .changes; same-ranges = ap (withStarts ys) (k .starts) ∙ own-starts ys; same-posts = k .post-words; same-atoms = k .atom-words });
   accepted = λ z. (let (ok, fit) = accepted-run before (earliests ys) (latests ys) (allBarsFit ys) (length posts) (length atoms) .0 z in let a = ran .accepted z in record {
-    promise = promised before ys posts atoms es′ posts′ atoms′ answer ok fit size a;
+    promise = subst (λ (es : List ℤ). Promise before ys answer (withStarts ys es) posts′ atoms′) (sym (a .starts))
+        (promised before ys posts′ atoms′ answer ok fit (ap length (sym (a .starts)) ∙ size) (a .answer) (handed _ posts atoms (a .post-words) (a .atom-words)));
     left = subst (λ (es : List ℤ). RunLeft before (earliests ys) (latests ys) posts atoms answer changed es posts′ atoms′) (a .starts) a;
     stored = ap (withStarts ys) (a .starts);
   });
@@ -38,7 +42,8 @@ pub lent-mirrored : (before : DisjunctivePropagator) (ys : List Range) (posts at
 lent-mirrored before ys posts atoms answer ls′ posts′ atoms′ size ran = record {
   refused = λ n. (let k = ran .refused n in record { number = k .answer; same-ranges = ap (withLatests ys) (k .starts) ∙ own-latests ys; same-posts = k .post-words; same-atoms = k .atom-words });
   accepted = λ z. (let (ok, fit) = accepted-run before (earliests ys) (latests ys) (allBarsFit ys) (length posts) (length atoms) .0 z in let a = ran .accepted z in record {
-    promise = promised-mirrored before ys posts atoms ls′ posts′ atoms′ answer ok fit size a;
+    promise = subst (λ (ls : List ℤ). MirroredPromise before ys answer (withLatests ys ls) posts′ atoms′) (sym (a .starts))
+        (promised-mirrored before ys posts′ atoms′ answer ok fit (ap length (sym (a .starts)) ∙ size) (a .answer) (handed _ posts atoms (a .post-words) (a .atom-words)));
     left = subst (λ (ls : List ℤ). LeftMirrored before (earliests ys) (latests ys) posts atoms answer ls posts′ atoms′) (a .starts) a;
     stored = ap (withLatests ys) (a .starts);
   });

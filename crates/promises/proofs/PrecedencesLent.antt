@@ -37,7 +37,7 @@ module _ (before : DisjunctivePropagator) (ys : List Range) (r : Precedences) (e
 
   module _ (ok : AcceptedInput before (earliests ys) (latests ys)) (fit : allBarsFit ys ≡ true) (left : LeftPrecedences J (earliests ys) r es′) where
     first : precedencesNumbers r .kind ≡ 0 → (k : ℕ) → k < J .count → FirstPermitted (getD ys k anyRange) (getD es′ k (pos 0)) (getD (earliests (withStarts ys es′)) k (pos 0))
-    first z k q = moved-on before ys es′ (ok .counts) size k q fit
+    first z k q = moved-on before ys es′ (ok .counts) size k q fit refl
         (between (left .starts z k q) (left .done .0 (is-done r z) k q) (ok .ranges k (omega (arith, few before ys k q, ok .counts .earliest))))
 
     none-lost : precedencesNumbers r .kind ≡ 0 → (s : ℕ → ℤ) → PermittedSchedule J ys s → (k : ℕ) → k < J .count → getD (earliests (withStarts ys es′)) k (pos 0) ≤ℤ s k

@@ -57,17 +57,17 @@ module _ (before : DisjunctivePropagator) (ranges : List Range) where
         ∙ latest-is k
 
     -- one in its range moves
-    module _ (fit : allBarsFit ranges ≡ true) (between : (J .earliest k ≤ℤ getD zs k (pos 0)) × (getD zs k (pos 0) ≤ℤ J .latest k)) where
-      from : getD ranges k anyRange .earliest ≤ℤ getD zs k (pos 0)
-      from = subst (λ (e : ℤ). e ≤ℤ getD zs k (pos 0)) (sym (earliest-is k)) (between .0)
+    module _ (fit : allBarsFit ranges ≡ true) {v : ℤ} (is : getD zs k (pos 0) ≡ v) (between : (J .earliest k ≤ℤ v) × (v ≤ℤ J .latest k)) where
+      from : getD ranges k anyRange .earliest ≤ℤ v
+      from = subst (λ (e : ℤ). e ≤ℤ v) (sym (earliest-is k)) (between .0)
 
-      to : getD zs k (pos 0) ≤ℤ getD ranges k anyRange .latest
-      to = subst (λ (l : ℤ). getD zs k (pos 0) ≤ℤ l) (sym (latest-is k)) (between .1)
+      to : v ≤ℤ getD ranges k anyRange .latest
+      to = subst (λ (l : ℤ). v ≤ℤ l) (sym (latest-is k)) (between .1)
 
-      pub moved-on : FirstPermitted (getD ranges k anyRange) (getD zs k (pos 0)) (getD (earliests (withStarts ranges zs)) k (pos 0))
-      moved-on = subst (FirstPermitted (getD ranges k anyRange) (getD zs k (pos 0))) (sym (start-at ranges zs k inside (omega (arith, inside, size))))
-          (first-permitted (getD ranges k anyRange) (all-fit ranges fit k inside) (getD zs k (pos 0)) from to)
+      pub moved-on : FirstPermitted (getD ranges k anyRange) v (getD (earliests (withStarts ranges zs)) k (pos 0))
+      moved-on = subst (FirstPermitted (getD ranges k anyRange) v) (sym (start-at ranges zs k inside (omega (arith, inside, size)) ∙ ap (storedStart (getD ranges k anyRange)) is))
+          (first-permitted (getD ranges k anyRange) (all-fit ranges fit k inside) v from to)
 
-      pub moved-back : LastPermitted (getD ranges k anyRange) (getD zs k (pos 0)) (getD (latests (withLatests ranges zs)) k (pos 0))
-      moved-back = subst (LastPermitted (getD ranges k anyRange) (getD zs k (pos 0))) (sym (latest-at ranges zs k inside (omega (arith, inside, size))))
-          (last-permitted (getD ranges k anyRange) (all-fit ranges fit k inside) (getD zs k (pos 0)) from to)
+      pub moved-back : LastPermitted (getD ranges k anyRange) v (getD (latests (withLatests ranges zs)) k (pos 0))
+      moved-back = subst (LastPermitted (getD ranges k anyRange) v) (sym (latest-at ranges zs k inside (omega (arith, inside, size)) ∙ ap (storedLatest (getD ranges k anyRange)) is))
+          (last-permitted (getD ranges k anyRange) (all-fit ranges fit k inside) v from to)

@@ -149,15 +149,15 @@ module _ (J : Tasks natural) (estOrder lctOrder : List ℕ) (G : Ordered J estOr
     pub conflict-explainable : (size k : ℕ) → exceeds (ect J estOrder ls) c ≡ true → 3 * k + 6 * length θ ≤ size → ConflictExplainable size k θ est durations (sum J estOrder ls) c
     conflict-explainable size k over room =
         let o = stops.overload-stops zeroAt J ok estOrder lctOrder (G .by-earliest) (G .by-completion) t ls Λ s small over in
-        let (q, z, l) = at-spot (o .at) (o .inside) (o .white) in
+        let (q, z, l) = at-spot (o .m) (o .small) (o .mem) in
         record {
           white = white;
           room = room;
           fits = omega (arith, ends-fit, sum-most);
           overloads = record {
-            place = spot (o .at);
+            place = spot (o .m);
             small = q;
-            holds = subst (λ (j : ℕ). c < getD est j 0 + lasts durations (drop (spot (o .at)) θ)) (sym z) (omega (arith, o .passes, l, he .at (T (o .at)) (G .by-earliest .task (o .at) (o .inside))));
+            holds = subst (λ (j : ℕ). c < getD est j 0 + lasts durations (drop (spot (o .m)) θ)) (sym z) (omega (arith, o .over, l, he .at (T (o .m)) (G .by-earliest .task (o .m) (o .small))));
           };
           early = λ x r. let h = listed x r in omega (arith, sum-most, G .room (getD θ x 0) (h .small), he .at (getD θ x 0) (h .small));
         }

@@ -2,11 +2,10 @@
 use mathlib.Core.Path.{_≡_, refl, sym, ap, subst, _∙_}
 use mathlib.Core.List.{List}
 use mathlib.Core.Option.{none}
-use Prim.Native.Nat.{ℕ, zero, suc, _+_, _*_, _^_, _≤_, _<_}
+use Prim.Native.Nat.{ℕ, _+_, _*_, _^_, _≤_, _<_}
 use native.Mathlib.Omega.{arith}
 use lib.IntN.{ℤ}
 use lib.ListN.{length, take, drop}
-use Rattle.integers.specs.Answers.{Answer, refusedBy}
 use Rattle.records.specs.declared.record.DisjunctivePropagator.{DisjunctivePropagator}
 use Rattle.runs.specs.declared.outcome.Outcome.{Outcome}
 use Rattle.runs.specs.declared.outcome.Outcome.the-variants as outcome
@@ -21,14 +20,7 @@ use Rattle.answers.specs.declared.added_calls.MirroredAnswer.{MirroredAnswer}
 use Rattle.answers.specs.SourceAnswers.{WordsCountable}
 use Rattle.reedgrit.specs.SourceCalls.{RanNumbers}
 use Rattle.reedgrit.specs.AddedCalls.{MirroredNumbers}
-
--- an overload is no refusal
-accepted : (o : Outcome) (number : ℕ) → ((number ≡ 0 → ⊥) → outcomeNumbers o ≡ refusedBy number) → outcomeNumbers o .kind ≡ 1 → number ≡ 0
-accepted o zero refused k = refl
-accepted o (suc m) refused k = elim (differ (sym (ap (λ (a : Answer). a .kind) (refused (λ e. omega arith))) ∙ k)) [ ]
-  where
-    differ : refusedBy (suc m) .kind ≡ 1 → ⊥
-    differ e = omega arith
+use Rattle.promises.proofs.AcceptedCalls.{by-kind}
 
 -- words inside a slice are fewer than a machine word counts
 countable : (o : Outcome) (n : ℕ) → n < 2 ^ 64 → (outcomeNumbers o .kind ≡ 1 → 3 * firstOf o + 3 * countOf o ≤ n) → WordsCountable o
@@ -42,7 +34,7 @@ module _ (before : DisjunctivePropagator) (ranges : List Range) (posts atoms : L
 
   module _ (o : Outcome) (changed : ℕ) (after : DisjunctivePropagator) (ran : RanLent before ranges posts atoms o changed after ranges′ posts′ atoms′) where
     run-kept : outcomeNumbers o .kind ≡ 1 → OverloadPromise (Reason before ranges o ranges′ posts′ atoms′) o atoms′
-    run-kept k = ran .accepted (accepted o (lentNumber before ranges posts atoms) (λ e. ran .refused e .number) k) .promise .overload k
+    run-kept k = ran .accepted (by-kind o (lentNumber before ranges posts atoms) (λ e. ran .refused e .number) (omega (arith, k))) .promise .overload k
 
     pub run-countable : length atoms′ ≡ length atoms → length atoms < 2 ^ 64 → WordsCountable o
     run-countable same room = countable o (length atoms) room (λ k. omega (arith, same, run-kept k .inside))
@@ -62,7 +54,7 @@ module _ (before : DisjunctivePropagator) (ranges : List Range) (posts atoms : L
 
   module _ (o : Outcome) (ran : RanMirroredLent before ranges posts atoms o ranges′ posts′ atoms′) where
     mirrored-kept : outcomeNumbers o .kind ≡ 1 → OverloadPromise (MirroredReason before ranges o ranges′ posts′ atoms′) o atoms′
-    mirrored-kept k = ran .accepted (accepted o (lentNumber before ranges posts atoms) (λ e. ran .refused e .number) k) .promise .overload k
+    mirrored-kept k = ran .accepted (by-kind o (lentNumber before ranges posts atoms) (λ e. ran .refused e .number) (omega (arith, k))) .promise .overload k
 
     pub mirrored-countable : length atoms′ ≡ length atoms → length atoms < 2 ^ 64 → WordsCountable o
     mirrored-countable same room = countable o (length atoms) room (λ k. omega (arith, same, mirrored-kept k .inside))

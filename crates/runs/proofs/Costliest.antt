@@ -298,7 +298,3 @@ module _ (n : ℕ) where
     where
       total : n + 3 * (n - 1) ≡ 4 * n - 3
       total = omega arith
-
-  -- So it reaches the bound of a run's changes.
-  pub costliest-changes : 1 ≤ n → propagate (costliestDurations n) es es .changes ≡ 4 * n - 3
-  costliest-changes one = ap (λ (t : Trace). t .changes) (costliest-run one)

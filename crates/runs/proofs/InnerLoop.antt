@@ -1,4 +1,4 @@
--- The inner loop's clauses, and that it needs no more turns than there are gray leaves.
+-- The clauses of the two loops and their cases, and that the inner one needs no more turns than there are gray leaves.
 use mathlib.Core.Path.{_≡_, refl, sym, ap, subst, _∙_}
 use mathlib.Core.Bool.{Bool, true, false}
 use mathlib.Core.Logic.{_⊎_, inl, inr}
@@ -11,7 +11,7 @@ use lib.Dec.{ltb}
 use lib.IntN.{ℤ}
 use lib.ListN.{length, getD, set, length-set, replicate}
 use lib.Seq.{getD-set-same, getD-set-other}
-use borrow.Author.Tests.{ne-eqb, eq-eqb}
+use borrow.Author.Tests.{ne-eqb, eq-eqb, ltb-true, ltb-false, lt-ltb, le-ltb}
 use Rattle.scheduling.specs.Scheduling.{natural, Tasks, tasksOf, Proper, TaskSet}
 use Rattle.integers.proofs.Bools.{bool}
 use Rattle.scheduling.proofs.Sets.{_less_}
@@ -22,7 +22,7 @@ use Rattle.integers.specs.Orders.{index}
 use Rattle.trees.specs.Ects.{exceeds}
 use Rattle.trees.proofs.Ects.{past-or-not}
 use Rattle.trees.specs.Leaves.{Leaf, empty, white, sum, theta, inLambda, whiteAt, grayAt, responsible, ect, ect-bar}
-use Rattle.runs.specs.Traces.{done, overload, emptied}
+use Rattle.runs.specs.Traces.{Trace, done, overload, emptied}
 use Rattle.runs.specs.Runs.{State, Turn, on, stop, inner, outer, run, ended, grayed, tabulate, conflict, posted, raised, dropped, lct, earliestOrder, completionOrder, propagate}
 use Rattle.trees.proofs.RootAnswers as tree
 
@@ -74,6 +74,32 @@ module _ (o : ℕ) (J : Tasks natural) (estOrder lctOrder : List ℕ) (f t : ℕ
       unfolding inner
       inner-raise y a = rw (z, w, is, y, a, inner) refl
 
+  -- what is true of a turn, case by case: no bar past lct, nobody found, a candidate passed over, a range emptied, a start raised
+  pub record InnerCases (P : Turn → Type 0) : Type 0 where
+    pub off : Over false → P (on st)
+    pub absent : Over true → responsible J estOrder (st .leaves) ≡ none → P (on st)
+    pub passes : (x : ℕ) → Over true → responsible J estOrder (st .leaves) ≡ some x → exceeds (ect J estOrder (st .leaves)) (J .earliest (T x)) ≡ false
+        → P (inner o J estOrder lctOrder f t (dropped st x))
+    pub empties : (x b : ℕ) → Over true → responsible J estOrder (st .leaves) ≡ some x → ect J estOrder (st .leaves) ≡ some b → J .earliest (T x) < b → J .latest (T x) < b
+        → P (stop (posted o J estOrder lctOrder st (T x) b t))
+    pub raises : (x b : ℕ) → Over true → responsible J estOrder (st .leaves) ≡ some x → ect J estOrder (st .leaves) ≡ some b → J .earliest (T x) < b → b ≤ J .latest (T x)
+        → P (inner o J estOrder lctOrder f t (dropped (raised (posted o J estOrder lctOrder st (T x) b t) (T x) b) x))
+
+  pub inner-by : (P : Turn → Type 0) → InnerCases P → P (inner o J estOrder lctOrder (suc f) t st)
+  inner-by P c = elim (bool (exceeds (ect-bar J estOrder (st .leaves)) (lct o J estOrder lctOrder t))) [
+    | inr z ↦ subst P (sym (inner-off z)) (c .off z)
+    | inl z ↦ elim (opt (responsible J estOrder (st .leaves))) [
+      | inl w ↦ subst P (sym (inner-none z w)) (c .absent z w)
+      | inr (x, w) ↦ elim (past-or-not (ect J estOrder (st .leaves)) (J .earliest (T x))) [
+        | inl y ↦ subst P (sym (inner-pass x z w y)) (c .passes x z w y)
+        | inr (b, is, y) ↦ elim (bool (ltb (J .latest (T x)) b)) [
+          | inl a ↦ subst P (sym (inner-stop x z w b is y a)) (c .empties x b z w is (ltb-true _ _ y) (ltb-true _ _ a))
+          | inr a ↦ subst P (sym (inner-raise x z w b is y a)) (c .raises x b z w is (ltb-true _ _ y) (ltb-false _ _ a))
+        ]
+      ]
+    ]
+  ]
+
 module _ (o : ℕ) (J : Tasks natural) (ok : Proper J) (estOrder lctOrder : List ℕ) (rk : ByEarliest J (λ j. getD estOrder j 0) (λ k. index estOrder k)) where
   -- the gray tasks of the leaves
   abbrev pub lam : List Leaf → TaskSet
@@ -106,41 +132,23 @@ module _ (o : ℕ) (J : Tasks natural) (ok : Proper J) (estOrder lctOrder : List
   abbrev I : ℕ → ℕ → State → Turn
   I f t st = inner o J estOrder lctOrder f t st
 
-  inner-zero : (t : ℕ) (st : State) → I 0 t st ≡ on st
-  unfolding inner
-  inner-zero t st = refl
-
   -- one turn more changes nothing
   pub inner-more : (f t : ℕ) (st : State) → length (st .leaves) ≡ J .count → card J (lam (st .leaves)) ≤ f → I (suc f) t st ≡ I f t st
-  inner-more zero t st q few = by (bool (exceeds (ect-bar J estOrder (st .leaves)) (lct o J estOrder lctOrder t))) (opt (responsible J estOrder (st .leaves)))
-    where
-      by : (exceeds (ect-bar J estOrder (st .leaves)) (lct o J estOrder lctOrder t) ≡ true) ⊎ (exceeds (ect-bar J estOrder (st .leaves)) (lct o J estOrder lctOrder t) ≡ false)
-          → (responsible J estOrder (st .leaves) ≡ none) ⊎ ((x : ℕ) × (responsible J estOrder (st .leaves) ≡ some x)) → I 1 t st ≡ I 0 t st
-      by (inr z) w = inner-off o J estOrder lctOrder 0 t st z ∙ sym (inner-zero t st)
-      by (inl z) (inl w) = inner-none o J estOrder lctOrder 0 t st z w ∙ sym (inner-zero t st)
-      by (inl z) (inr w) = absurd (omega (arith, fewer (st .leaves) q (w .0) (w .1), few))
-  inner-more (suc f) t st q few = by (λ st′. inner-more f t st′) (bool (exceeds (ect-bar J estOrder (st .leaves)) (lct o J estOrder lctOrder t))) (opt (responsible J estOrder (st .leaves)))
-    where
-      IH : Type 0
-      IH = (st′ : State) → length (st′ .leaves) ≡ J .count → card J (lam (st′ .leaves)) ≤ f → I (suc f) t st′ ≡ I f t st′
-
-      took : IH → (x : ℕ) → exceeds (ect-bar J estOrder (st .leaves)) (lct o J estOrder lctOrder t) ≡ true → responsible J estOrder (st .leaves) ≡ some x → card J (lam (set (st .leaves) x empty)) ≤ f
-          → I (suc (suc f)) t st ≡ I (suc f) t st
-      took ih x z w down = elim (past-or-not (ect J estOrder (st .leaves)) (J .earliest (getD estOrder x 0))) [
-        | inl y ↦ inner-pass o J estOrder lctOrder (suc f) t st x z w y ∙ ih (dropped st x) (length-set (st .leaves) x empty ∙ q) down ∙ sym (inner-pass o J estOrder lctOrder f t st x z w y)
-        | inr (b, is, y) ↦ elim (bool (ltb (J .latest (getD estOrder x 0)) b)) [
-          | inl a ↦ inner-stop o J estOrder lctOrder (suc f) t st x z w b is y a ∙ sym (inner-stop o J estOrder lctOrder f t st x z w b is y a)
-          | inr a ↦ inner-raise o J estOrder lctOrder (suc f) t st x z w b is y a
-              ∙ ih (dropped (raised (posted o J estOrder lctOrder st (getD estOrder x 0) b t) (getD estOrder x 0) b) x) (length-set (st .leaves) x empty ∙ q) down
-              ∙ sym (inner-raise o J estOrder lctOrder f t st x z w b is y a)
-        ]
-      ]
-
-      by : IH → (exceeds (ect-bar J estOrder (st .leaves)) (lct o J estOrder lctOrder t) ≡ true) ⊎ (exceeds (ect-bar J estOrder (st .leaves)) (lct o J estOrder lctOrder t) ≡ false)
-          → (responsible J estOrder (st .leaves) ≡ none) ⊎ ((x : ℕ) × (responsible J estOrder (st .leaves) ≡ some x)) → I (suc (suc f)) t st ≡ I (suc f) t st
-      by ih (inr z) w = inner-off o J estOrder lctOrder (suc f) t st z ∙ sym (inner-off o J estOrder lctOrder f t st z)
-      by ih (inl z) (inl w) = inner-none o J estOrder lctOrder (suc f) t st z w ∙ sym (inner-none o J estOrder lctOrder f t st z w)
-      by ih (inl z) (inr w) = took ih (w .0) z (w .1) (omega (arith, fewer (st .leaves) q (w .0) (w .1), few))
+  inner-more zero t st q few = inner-by o J estOrder lctOrder 0 t st (λ u. u ≡ I 0 t st) (record {
+    off = λ z. sym (inner-end o J estOrder lctOrder 0 t st);
+    absent = λ z w. sym (inner-end o J estOrder lctOrder 0 t st);
+    passes = λ x z w y. absurd (omega (arith, fewer (st .leaves) q x w, few));
+    empties = λ x b z w is up high. absurd (omega (arith, fewer (st .leaves) q x w, few));
+    raises = λ x b z w is up fits. absurd (omega (arith, fewer (st .leaves) q x w, few));
+  })
+  inner-more (suc f) t st q few = inner-by o J estOrder lctOrder (suc f) t st (λ u. u ≡ I (suc f) t st) (record {
+    off = λ z. sym (inner-off o J estOrder lctOrder f t st z);
+    absent = λ z w. sym (inner-none o J estOrder lctOrder f t st z w);
+    passes = λ x z w y. inner-more f t _ (length-set (st .leaves) x empty ∙ q) (omega (arith, fewer (st .leaves) q x w, few)) ∙ sym (inner-pass o J estOrder lctOrder f t st x z w y);
+    empties = λ x b z w is up high. sym (inner-stop o J estOrder lctOrder f t st x z w b is (lt-ltb _ _ up) (lt-ltb _ _ high));
+    raises = λ x b z w is up fits. inner-more f t _ (length-set (st .leaves) x empty ∙ q) (omega (arith, fewer (st .leaves) q x w, few))
+        ∙ sym (inner-raise o J estOrder lctOrder f t st x z w b is (lt-ltb _ _ up) (le-ltb _ _ fits));
+  })
 
 -- the whole run's definition, and the outer loop's clauses
 pub propagate-is : (ds : List ℕ) (es ls : List ℤ) → let J = moments zeroAt (tasksOf ds es ls) in propagate ds es ls ≡ run zeroAt J (earliestOrder J) (completionOrder J)
@@ -174,3 +182,21 @@ module _ (o : ℕ) (J : Tasks natural) (estOrder lctOrder : List ℕ) where
           → outer o J estOrder lctOrder (suc f) t st ≡ ended o J estOrder lctOrder st′ emptied
       unfolding outer
       outer-stop y = rw (z, y, outer)
+
+    -- what is true of the rest of a run, case by case: the level overloads, the run goes on, a range is emptied
+    pub record OuterCases (P : Trace → Type 0) : Type 0 where
+      pub over : exceeds (ect J estOrder (st .leaves)) (lct o J estOrder lctOrder t) ≡ true
+          → P (ended o J estOrder lctOrder st (overload (conflict o J (lct o J estOrder lctOrder t) (sum J estOrder (st .leaves)) (theta J estOrder (st .leaves)))))
+      pub further : (st′ : State) → exceeds (ect J estOrder (st .leaves)) (lct o J estOrder lctOrder t) ≡ false
+          → inner o J estOrder lctOrder (J .count) (suc t) (grayed st (index estOrder (getD lctOrder t 0))) ≡ on st′ → P (outer o J estOrder lctOrder f (suc t) st′)
+      pub empties : (st′ : State) → exceeds (ect J estOrder (st .leaves)) (lct o J estOrder lctOrder t) ≡ false
+          → inner o J estOrder lctOrder (J .count) (suc t) (grayed st (index estOrder (getD lctOrder t 0))) ≡ stop st′ → P (ended o J estOrder lctOrder st′ emptied)
+
+    pub outer-by : (P : Trace → Type 0) → OuterCases P → P (outer o J estOrder lctOrder (suc f) t st)
+    outer-by P c = elim (bool (exceeds (ect J estOrder (st .leaves)) (lct o J estOrder lctOrder t))) [
+      | inl z ↦ subst P (sym (outer-over z)) (c .over z)
+      | inr z ↦ elim (turn (inner o J estOrder lctOrder (J .count) (suc t) (grayed st (index estOrder (getD lctOrder t 0))))) [
+        | inl (st′, e) ↦ subst P (sym (outer-on st′ z e)) (c .further st′ z e)
+        | inr (st′, e) ↦ subst P (sym (outer-stop st′ z e)) (c .empties st′ z e)
+      ]
+    ]

@@ -1,13 +1,12 @@
 -- A run of n tasks makes at most 4n − 3 leaf changes: n fill Θ, each level but the last moves one task to Λ, which is two, and only a task of Λ leaves it, which is one.
 use mathlib.Core.Path.{_≡_, refl, sym, ap, subst, _∙_}
 use mathlib.Core.Bool.{true, false}
-use mathlib.Core.Logic.{_⊎_, inl, inr}
+use mathlib.Core.Logic.{inl, inr}
 use mathlib.Core.List.{List}
-use mathlib.Core.Option.{some, none}
+use mathlib.Core.Option.{some}
 use Prim.Native.Nat.{ℕ, zero, suc, _+_, _-_, _*_, _≤_, _<_}
 use native.Mathlib.Omega.{arith}
 use native.Mathlib.Decide.{ℕ-discrete}
-use lib.Dec.{ltb}
 use lib.ListN.{length, getD, set, length-set, length-replicate, getD-replicate}
 use lib.Seq.{getD-set-same, getD-set-other}
 use borrow.Author.Tests.{ne-eqb, eq-eqb}
@@ -16,13 +15,11 @@ use Rattle.integers.proofs.Bools.{bool}
 use Rattle.scheduling.specs.Scheduling.{natural, Tasks, Proper, TaskSet, _with_}
 use Rattle.scheduling.specs.Moments.{ByEarliest, ByCompletion}
 use Rattle.scheduling.proofs.SetSizes.{card, card-same, card-none, card-with}
-use Rattle.trees.specs.Ects.{exceeds}
-use Rattle.trees.proofs.Ects.{past-or-not}
-use Rattle.trees.specs.Leaves.{Leaf, empty, white, gray, inLambda, ect, ect-bar, responsible}
+use Rattle.trees.specs.Leaves.{Leaf, empty, white, gray, inLambda, responsible}
 use Rattle.runs.specs.Traces.{Trace}
-use Rattle.runs.specs.Runs.{State, Turn, inner, outer, run, lct, allWhite, grayed, dropped, raised, posted}
+use Rattle.runs.specs.Runs.{State, Turn, inner, outer, run, allWhite, grayed, dropped, raised, posted}
 use Rattle.runs.specs.Reached.{movedOn, Entered, begins, follows, Reached, at-head, moved, turned}
-use Rattle.runs.proofs.InnerLoop.{opt, turn, lam, fewer, inner-end, inner-off, inner-none, inner-pass, inner-stop, inner-raise, run-is, outer-end, outer-over, outer-on, outer-stop}
+use Rattle.runs.proofs.InnerLoop.{lam, fewer, inner-end, inner-by, outer-end, outer-by, run-is}
 use Rattle.runs.proofs.ReachedStates.{state-of}
 
 -- a set has at most one task more with i
@@ -60,34 +57,14 @@ module _ (o : ℕ) (J : Tasks natural) (ok : Proper J) (estOrder lctOrder : List
 
   pub inner-counted : (w f t : ℕ) (st : State) → Counted w st → Counted w (state-of (inner o J estOrder lctOrder f t st))
   inner-counted w zero t st c = subst (λ (u : Turn). Counted w (state-of u)) (sym (inner-end o J estOrder lctOrder 0 t st)) c
-  inner-counted w (suc f) t st c = by (λ st′. inner-counted w f t st′) (bool (exceeds (ect-bar J estOrder (st .leaves)) (lct o J estOrder lctOrder t))) (opt (responsible J estOrder (st .leaves)))
-    where
-      Few : Turn → Type 0
-      Few u = Counted w (state-of u)
-
-      IH : Type 0
-      IH = (st′ : State) → Counted w st′ → Few (inner o J estOrder lctOrder f t st′)
-
-      T : ℕ → ℕ
-      T x = getD estOrder x 0
-
-      took : IH → (x : ℕ) → exceeds (ect-bar J estOrder (st .leaves)) (lct o J estOrder lctOrder t) ≡ true → responsible J estOrder (st .leaves) ≡ some x
-          → Few (inner o J estOrder lctOrder (suc f) t st)
-      took ih x z y = elim (past-or-not (ect J estOrder (st .leaves)) (J .earliest (T x))) [
-        | inl e ↦ subst Few (sym (inner-pass o J estOrder lctOrder f t st x z y e)) (ih (dropped st x) (less-by-one w st x y c))
-        | inr (b, is, e) ↦ elim (bool (ltb (J .latest (T x)) b)) [
-          | inl a ↦ subst Few (sym (inner-stop o J estOrder lctOrder f t st x z y b is e a)) (record { size = c .size; most = c .most })
-          | inr a ↦ subst Few (sym (inner-raise o J estOrder lctOrder f t st x z y b is e a))
-              (ih (dropped (raised (posted o J estOrder lctOrder st (T x) b t) (T x) b) x)
-              (less-by-one w (raised (posted o J estOrder lctOrder st (T x) b t) (T x) b) x y (record { size = c .size; most = c .most })))
-        ]
-      ]
-
-      by : IH → (exceeds (ect-bar J estOrder (st .leaves)) (lct o J estOrder lctOrder t) ≡ true) ⊎ (exceeds (ect-bar J estOrder (st .leaves)) (lct o J estOrder lctOrder t) ≡ false)
-          → (responsible J estOrder (st .leaves) ≡ none) ⊎ ((x : ℕ) × (responsible J estOrder (st .leaves) ≡ some x)) → Few (inner o J estOrder lctOrder (suc f) t st)
-      by ih (inr z) y = subst Few (sym (inner-off o J estOrder lctOrder f t st z)) c
-      by ih (inl z) (inl y) = subst Few (sym (inner-none o J estOrder lctOrder f t st z y)) c
-      by ih (inl z) (inr y) = took ih (y .0) z (y .1)
+  inner-counted w (suc f) t st c = inner-by o J estOrder lctOrder f t st (λ u. Counted w (state-of u)) (record {
+    off = λ z. c;
+    absent = λ z y. c;
+    passes = λ x z y e. inner-counted w f t _ (less-by-one w st x y c);
+    empties = λ x b z y is up high. record { size = c .size; most = c .most };
+    raises = λ x b z y is up fits. inner-counted w f t _
+        (less-by-one w (raised (posted o J estOrder lctOrder st (getD estOrder x 0) b t) (getD estOrder x 0) b) x y (record { size = c .size; most = c .most }));
+  })
 
   -- the task i goes from Θ to Λ
   more-by-three : (w : ℕ) (st : State) (i : ℕ) → i < n → Counted w st → Counted (w + 3) (grayed st (index estOrder i))
@@ -108,23 +85,14 @@ module _ (o : ℕ) (J : Tasks natural) (ok : Proper J) (estOrder lctOrder : List
 
   pub outer-counted : (f t : ℕ) (st : State) → suc (t + f) ≡ n → Counted (n + 3 * t) st → outer o J estOrder lctOrder f t st .changes ≤ 4 * n - 3
   outer-counted zero t st end c = subst (λ (r : Trace). r .changes ≤ 4 * n - 3) (sym (outer-end o J estOrder lctOrder 0 t st)) (omega (arith, c .most))
-  outer-counted (suc f) t st end c = elim (bool (exceeds (ect J estOrder (st .leaves)) (lct o J estOrder lctOrder t))) [
-    | inl z ↦ subst Few (sym (outer-over o J estOrder lctOrder f t st z)) (omega (arith, c .most))
-    | inr z ↦ elim (turn (inner o J estOrder lctOrder n (suc t) next)) [
-      | inl y ↦ subst Few (sym (outer-on o J estOrder lctOrder f t st (y .0) z (y .1)))
-          (outer-counted f (suc t) (y .0) (omega arith) (subst (λ (u : Turn). Counted (n + 3 * suc t) (state-of u)) (y .1) after))
-      | inr y ↦ subst Few (sym (outer-stop o J estOrder lctOrder f t st (y .0) z (y .1))) (omega (arith, subst (λ (u : Turn). Counted (n + 3 * suc t) (state-of u)) (y .1) after .most))
-    ]
-  ]
+  outer-counted (suc f) t st end c = outer-by o J estOrder lctOrder f t st (λ r. r .changes ≤ 4 * n - 3) (record {
+    over = λ z. omega (arith, c .most);
+    further = λ st′ z e. outer-counted f (suc t) st′ (omega arith) (subst (λ (u : Turn). Counted (n + 3 * suc t) (state-of u)) e after);
+    empties = λ st′ z e. omega (arith, subst (λ (u : Turn). Counted (n + 3 * suc t) (state-of u)) e after .most);
+  })
     where
-      Few : Trace → Type 0
-      Few r = r .changes ≤ 4 * n - 3
-
-      next : State
-      next = movedOn o J estOrder lctOrder t st
-
-      after : Counted (n + 3 * suc t) (state-of (inner o J estOrder lctOrder n (suc t) next))
-      after = inner-counted (n + 3 * suc t) n (suc t) next (moved-counted t st (omega arith) c)
+      after : Counted (n + 3 * suc t) (state-of (inner o J estOrder lctOrder n (suc t) (movedOn o J estOrder lctOrder t st)))
+      after = inner-counted (n + 3 * suc t) n (suc t) _ (moved-counted t st (omega arith) c)
 
   first-counted : Counted (n + 3 * 0) (allWhite J)
   first-counted = record {

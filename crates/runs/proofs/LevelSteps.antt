@@ -1,24 +1,24 @@
 -- What holds at each level of a run, and how each step keeps it, for any property of posts and reasons that holds where the run makes them.
 use mathlib.Core.Path.{_≡_, refl, sym, ap, subst, _∙_}
-use mathlib.Core.Bool.{true, false}
-use mathlib.Core.Logic.{_⊎_, inl, inr}
+use mathlib.Core.Bool.{Bool, true, false}
+use mathlib.Core.Logic.{inl, inr}
 use mathlib.Core.List.{List, [], _∷_, _++_, map}
 use mathlib.Core.Option.{Option, some}
 use Prim.Native.Nat.{ℕ, zero, suc, _+_, _-_, _≤_, _<_}
 use native.Mathlib.Omega.{arith}
 use native.Mathlib.Decide.{decLt, ℕ-discrete}
-use lib.Dec.{leb, ltb}
+use lib.Dec.{leb}
 use lib.IntN.{pos, subℕ}
 use lib.ListN.{length, getD, set, replicate, length-set, length-replicate, getD-replicate, List·getD-append}
 use lib.Seq.{getD-set-same, getD-set-other, getD-append-seam}
-use borrow.Author.Tests.{ne-eqb, eq-eqb, le-leb, lt-leb, ltb-true, ltb-false}
+use borrow.Author.Tests.{ne-eqb, eq-eqb, le-leb, lt-leb}
 use Rattle.scheduling.specs.Scheduling.{natural, Tasks, Proper, TaskSet, _with_, In, NonEmpty, completion, Ect, Done, Conflict, Atom}
 use Rattle.integers.proofs.Bools.{leb-step, bool, clash, below-suc}
 use Rattle.integers.proofs.Lists.{getD-map-in, length-snoc}
 use Rattle.scheduling.proofs.Sets.{_less_, with-new}
 use Rattle.scheduling.proofs.Scan.{scan, scan-is}
 use Rattle.scheduling.proofs.Levels.{Posts, Facts, next, leave, facts-same, last-fits, edge, finish, overloaded, more}
-use Rattle.scheduling.proofs.SetSizes.{card, card-less, card-zero, card-same, card-most}
+use Rattle.scheduling.proofs.SetSizes.{card, card-zero, card-most}
 use Rattle.integers.specs.Moments.{moment, Above, instant}
 use Rattle.integers.proofs.MomentSums.{moment-instant, instant-above, zero-above}
 use Rattle.scheduling.specs.Moments.{ByEarliest, ByCompletion}
@@ -29,10 +29,10 @@ use Rattle.runs.specs.Runs.{State, Turn, on, stop, inner, outer, run, ta
 use Rattle.runs.specs.Runs as edges
 use Rattle.trees.specs.Leaves as leaves
 use Rattle.trees.specs.Ects.{exceeds}
-use Rattle.trees.proofs.Ects.{one-moment, past-or-not, some-past, some-within}
+use Rattle.trees.proofs.Ects.{one-moment, some-past, some-within}
 use Rattle.trees.proofs.RootAnswers as tree
 use Rattle.runs.specs.Demand.{no-post}
-use Rattle.runs.proofs.InnerLoop.{opt, turn, inner-end, inner-off, inner-none, inner-pass, inner-stop, inner-raise, outer-end, outer-over, outer-on, outer-stop}
+use Rattle.runs.proofs.InnerLoop.{fewer, inner-end, inner-by, outer-end, outer-by}
 use Rattle.runs.proofs.TaskLists.{tab-length, tab-at}
 
 pub map-above : (o : ℕ) (l : List ℕ) (k : ℕ) → Above o (getD (map (λ (m : ℕ). subℕ m o) l) k (pos 0))
@@ -179,39 +179,29 @@ module _ (o : ℕ) (J : Tasks natural) (ok : Proper J) (estOrder lctOrder : List
 
     -- the leaf of i is changed
     module _ (ls : List Leaf) (i : ℕ) (c : Leaf) (size : length ls ≡ n) (small : i < n) where
-      here : getD (set ls (rank i) c) (rank i) empty ≡ c
-      here = getD-set-same ls (rank i) c empty (omega (arith, rk .placed i small))
-
-      there : (k : ℕ) → k < n → (k ≡ i → ⊥) → getD (set ls (rank i) c) (rank k) empty ≡ getD ls (rank k) empty
-      there k q ne = getD-set-other ls (rank i) (rank k) c empty (λ z. ne (sym (rk .there k q) ∙ ap T z ∙ rk .there i small))
+      -- what a leaf says is then Q, where it is Q at c and at the other leaves
+      changed : (f : Leaf → Bool) (Q : ℕ → Bool) → f c ≡ Q i → ((k : ℕ) → k < n → (k ≡ i → ⊥) → f (getD ls (rank k) empty) ≡ Q k) → (k : ℕ) → k < n → f (getD (set ls (rank i) c) (rank k) empty) ≡ Q k
+      changed f Q here others k q = elim (ℕ-discrete k i) [
+        | yes z ↦ rw z (ap f (getD-set-same ls (rank i) c empty (omega (arith, rk .placed i small))) ∙ here)
+        | no z ↦ ap f (getD-set-other ls (rank i) (rank k) c empty (λ y. z (sym (rk .there k q) ∙ ap T y ∙ rk .there i small))) ∙ others k q z
+      ]
 
     -- i leaves Λ
     module _ (t : ℕ) (ls : List Leaf) (i : ℕ) (size : length ls ≡ n) (small : i < n) (late : place i < t) where
       drop-whites : ((k : ℕ) → k < n → whiteAt ls (rank k) ≡ Th t k) → (k : ℕ) → k < n → whiteAt (set ls (rank i) empty) (rank k) ≡ Th t k
-      drop-whites w k q = elim (ℕ-discrete k i) [
-        | yes z ↦ rw z (ap inTheta (here ls i empty size small) ∙ sym (lt-leb t (place i) late))
-        | no z ↦ ap inTheta (there ls i empty size small k q z) ∙ w k q
-      ]
+      drop-whites w = changed ls i empty size small inTheta (Th t) (sym (lt-leb t (place i) late)) (λ k q z. w k q)
 
       drop-grays : (k : ℕ) → k < n → ((λ (k : ℕ). grayAt ls (rank k)) less i) k ≡ grayAt (set ls (rank i) empty) (rank k)
-      drop-grays k q = elim (ℕ-discrete k i) [
-        | yes z ↦ rw (z, eq-eqb i i refl) (sym (ap inLambda (here ls i empty size small)))
-        | no z ↦ rw (ne-eqb k i z) (sym (ap inLambda (there ls i empty size small k q z)))
-      ]
+      drop-grays k q = sym (changed ls i empty size small inLambda ((λ (k : ℕ). grayAt ls (rank k)) less i) (rw (eq-eqb i i refl)) (λ k q z. rw (ne-eqb k i z)) k q)
 
     -- L t goes from Θ to Λ
     module _ (t : ℕ) (ls : List Leaf) (size : length ls ≡ n) (small : t < n) where
       gray-whites : ((k : ℕ) → k < n → whiteAt ls (rank k) ≡ Th t k) → (k : ℕ) → k < n → whiteAt (set ls (rank (L t)) gray) (rank k) ≡ Th (suc t) k
-      gray-whites w k q = elim (ℕ-discrete k (L t)) [
-        | yes z ↦ rw z (ap inTheta (here ls (L t) gray size (ord .task t small)) ∙ sym (lt-leb (suc t) (place (L t)) (omega (arith, ord .back t small))))
-        | no z ↦ ap inTheta (there ls (L t) gray size (ord .task t small) k q z) ∙ w k q ∙ leb-step t (place k) (λ y. z (sym (ord .there k q) ∙ ap L y))
-      ]
+      gray-whites w = changed ls (L t) gray size (ord .task t small) inTheta (Th (suc t)) (sym (lt-leb (suc t) (place (L t)) (omega (arith, ord .back t small))))
+          (λ k q z. w k q ∙ leb-step t (place k) (λ y. z (sym (ord .there k q) ∙ ap L y)))
 
       gray-grays : (k : ℕ) → k < n → ((λ (k : ℕ). grayAt ls (rank k)) with L t) k ≡ grayAt (set ls (rank (L t)) gray) (rank k)
-      gray-grays k q = elim (ℕ-discrete k (L t)) [
-        | yes z ↦ rw (z, eq-eqb (L t) (L t) refl) (sym (ap inLambda (here ls (L t) gray size (ord .task t small))))
-        | no z ↦ rw (ne-eqb k (L t) z) (sym (ap inLambda (there ls (L t) gray size (ord .task t small) k q z)))
-      ]
+      gray-grays k q = sym (changed ls (L t) gray size (ord .task t small) inLambda ((λ (k : ℕ). grayAt ls (rank k)) with L t) (rw (eq-eqb (L t) (L t) refl)) (λ k q z. rw (ne-eqb k (L t) z)) k q)
 
     -- no start is below the old one: a task's start is raised when it leaves Λ
     from-entry : (t : ℕ) (st : State) → Inv t st → (k : ℕ) → k < n → J .earliest k ≤ now st k
@@ -335,39 +325,27 @@ module _ (o : ℕ) (J : Tasks natural) (ok : Proper J) (estOrder lctOrder : List
           },
         )
 
-      fewer : (f : ℕ) → card J (lam st) ≤ suc f → card J (λ k. grayAt (set (st .leaves) x empty) (rank k)) ≤ f
-      fewer f q = subst (λ (x : ℕ). card J (λ k. grayAt (set (st .leaves) x empty) (rank k)) ≤ f) at-x
-          (omega (arith, card-less J (lam st) i mem, card-same J (lam st less i) (λ k. grayAt (set (st .leaves) (rank i) empty) (rank k)) (drop-grays t (st .leaves) i (v .size) (mem .small) late)))
-
     pub inner-ok : (f t : ℕ) (st : State) → t < n → Inv t st → card J (lam st) ≤ f → TurnOk t (inner o J estOrder lctOrder f t st)
     inner-ok zero t st small v few = rw (inner-end o J estOrder lctOrder 0 t st) (record { inv = v; none-passes = λ q k h. absurd (card-zero J (lam st) few k h) })
-    inner-ok (suc f) t st small v few = by (λ st′. inner-ok f t st′ small) (bool (exceeds (barOf (st .leaves)) (En t)))
+    inner-ok (suc f) t st small v few = inner-by o J estOrder lctOrder f t st (TurnOk t) (record {
+      off = λ z. record { inv = v; none-passes = λ q k h. tree.most J ok estOrder rk (st .leaves) (Th t) (lam st) (shape t st v) k h (En t) z };
+      absent = λ z w. record {
+        inv = v;
+        none-passes = λ q. absurd (omega (
+          arith,
+          theta-past t st small v (ap (λ (u : Option ℕ). exceeds u (En t)) (sym (tree.none-found J ok estOrder rk (st .leaves) (Th t) (lam st) (shape t st v) w)) ∙ z),
+        ));
+      };
+      passes = λ x z w y. inner-ok f t _ small (pass-ok t st small v x (found x w) z y) (down x w);
+      empties = λ x b z w is up high. stop-ok t st small v x (found x w) z b is up high;
+      raises = λ x b z w is up fits. inner-ok f t _ small (raise-ok t st small v x (found x w) z b is up fits) (down x w);
+    })
       where
-        IH : Type 0
-        IH = (st′ : State) → Inv t st′ → card J (lam st′) ≤ f → TurnOk t (inner o J estOrder lctOrder f t st′)
+        found : (x : ℕ) → leaves.responsible J estOrder (st .leaves) ≡ some x → Found (st .leaves) (Th t) (lam st) (shape t st v) x
+        found = tree.one-found J ok estOrder rk (st .leaves) (Th t) (lam st) (shape t st v)
 
-        took : IH → exceeds (barOf (st .leaves)) (En t) ≡ true → (x : ℕ) → leaves.responsible J estOrder (st .leaves) ≡ some x → Found (st .leaves) (Th t) (lam st) (shape t st v) x
-            → TurnOk t (inner o J estOrder lctOrder (suc f) t st)
-        took ih z x w g = elim (past-or-not (ectOf (st .leaves)) (J .earliest (T x))) [
-          | inl y ↦ rw (inner-pass o J estOrder lctOrder f t st x z w y) (ih (edges.dropped st x) (pass-ok t st small v x g z y) (fewer t st small v x g z f few))
-          | inr (b, is, y) ↦ elim (bool (ltb (J .latest (T x)) b)) [
-            | inl a ↦ rw (inner-stop o J estOrder lctOrder f t st x z w b is y a) (stop-ok t st small v x g z b is (ltb-true _ _ y) (ltb-true _ _ a))
-            | inr a ↦ rw (inner-raise o J estOrder lctOrder f t st x z w b is y a) (ih _ (raise-ok t st small v x g z b is (ltb-true _ _ y) (ltb-false _ _ a)) (fewer t st small v x g z f few))
-          ]
-        ]
-
-        by : IH → (exceeds (barOf (st .leaves)) (En t) ≡ true) ⊎ (exceeds (barOf (st .leaves)) (En t) ≡ false) → TurnOk t (inner o J estOrder lctOrder (suc f) t st)
-        by ih (inr z) = rw (inner-off o J estOrder lctOrder f t st z) (record { inv = v; none-passes = λ q k h. tree.most J ok estOrder rk (st .leaves) (Th t) (lam st) (shape t st v) k h (En t) z })
-        by ih (inl z) = elim (opt (leaves.responsible J estOrder (st .leaves))) [
-          | inl w ↦ rw (inner-none o J estOrder lctOrder f t st z w) (record {
-            inv = v;
-            none-passes = λ q. absurd (omega (
-              arith,
-              theta-past t st small v (ap (λ (u : Option ℕ). exceeds u (En t)) (sym (tree.none-found J ok estOrder rk (st .leaves) (Th t) (lam st) (shape t st v) w)) ∙ z),
-            ));
-          })
-          | inr w ↦ took ih z (w .0) (w .1) (tree.one-found J ok estOrder rk (st .leaves) (Th t) (lam st) (shape t st v) (w .0) (w .1))
-        ]
+        down : (x : ℕ) → leaves.responsible J estOrder (st .leaves) ≡ some x → card J (λ k. grayAt (set (st .leaves) x empty) (rank k)) ≤ f
+        down x w = omega (arith, few, fewer o J ok estOrder lctOrder rk (st .leaves) (v .size) x w)
 
     pub record OutOk (tr : Trace) : Type 0 where
       pub goods : AllGood (tr .posts)
@@ -423,31 +401,22 @@ module _ (o : ℕ) (J : Tasks natural) (ok : Proper J) (estOrder lctOrder : List
       goods = w .1;
       left = w .2;
       above = map-above o (st .starts);
-      when-done = λ z. let y : _≡_ {A = ℕ} 0 1 = cc in
-          absurd (omega arith);
+      when-done = λ z. let y : _≡_ {A = ℕ} 0 1 = cc in absurd (omega arith);
       otherwise = λ _. w .0;
       over = λ r z. let y : _≡_ {A = ℕ} 0 1 = cc in absurd (omega arith);
     }
 
+    -- the level after one that does not overload
+    pub level-ok : (t : ℕ) (st : State) → suc t < n → Closed t st → exceeds (ectOf (st .leaves)) (En t) ≡ false → TurnOk (suc t) (inner o J estOrder lctOrder n (suc t) (edges.grayed st (rank (L t))))
+    level-ok t st small c z = inner-ok n (suc t) _ small (gray-ok t st (omega arith) c (theta-within t st (omega arith) (c .inv) z)) (card-most J (lam (edges.grayed st (rank (L t)))))
+
     outer-ok : (f t : ℕ) (st : State) → suc (t + f) ≡ n → Closed t st → OutOk (outer o J estOrder lctOrder f t st)
     outer-ok zero t st end c = rw (outer-end o J estOrder lctOrder 0 t st) (done-ok t st (omega arith) c)
-    outer-ok (suc f) t st end c = by (λ st′. outer-ok f (suc t) st′ (omega arith)) (bool (exceeds (ectOf (st .leaves)) (En t)))
-      where
-        IH : Type 0
-        IH = (st′ : State) → Closed (suc t) st′ → OutOk (outer o J estOrder lctOrder f (suc t) st′)
-
-        go : IH → exceeds (ectOf (st .leaves)) (En t) ≡ false → E (Th t) ≤ En t → OutOk (outer o J estOrder lctOrder (suc f) t st)
-        go ih z q = elim (turn (inner o J estOrder lctOrder n (suc t) (edges.grayed st (rank (L t))))) [
-          | inl w ↦ rw (outer-on o J estOrder lctOrder f t st (w .0) z (w .1)) (ih (w .0) (rw (w .1) at r))
-          | inr w ↦ rw (outer-stop o J estOrder lctOrder f t st (w .0) z (w .1)) (empty-ok (w .0) (rw (w .1) at r))
-        ]
-          where
-            r : TurnOk (suc t) (inner o J estOrder lctOrder n (suc t) (edges.grayed st (rank (L t))))
-            r = inner-ok n (suc t) (edges.grayed st (rank (L t))) (omega arith) (gray-ok t st (omega arith) c q) (card-most J (lam (edges.grayed st (rank (L t)))))
-
-        by : IH → (exceeds (ectOf (st .leaves)) (En t) ≡ true) ⊎ (exceeds (ectOf (st .leaves)) (En t) ≡ false) → OutOk (outer o J estOrder lctOrder (suc f) t st)
-        by ih (inl z) = rw (outer-over o J estOrder lctOrder f t st z) (over-ok t st (omega arith) (c .inv) z)
-        by ih (inr z) = go ih z (theta-within t st (omega arith) (c .inv) z)
+    outer-ok (suc f) t st end c = outer-by o J estOrder lctOrder f t st OutOk (record {
+      over = over-ok t st (omega arith) (c .inv);
+      further = λ st′ z e. outer-ok f (suc t) st′ (omega arith) (subst (TurnOk (suc t)) e (level-ok t st (omega arith) c z));
+      empties = λ st′ z e. empty-ok st′ (subst (TurnOk (suc t)) e (level-ok t st (omega arith) c z));
+    })
 
     -- the start
     abbrev pub st₀ : State

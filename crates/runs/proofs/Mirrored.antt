@@ -19,9 +19,9 @@ use Rattle.integers.proofs.MomentSums.{above-show, at-moment, more-above}
 use Rattle.scheduling.specs.Scheduling.{whole, natural, Tasks, tasksOf, Proper, Atom, Every, PassesWith, PassesAlone}
 use Rattle.scheduling.specs.Words.{atomWords, no-atom}
 use Rattle.scheduling.specs.MirroredTime.{mirrorStart, mirror, mirrorKind, mirrorAtom, mirrorAtoms, MirroredDone}
-use Rattle.scheduling.proofs.MirroredTime.{at-mirror, start-twice, start-falls, start-falls<, atom-twice, atoms-twice, edge-mirrored, conflict-mirrored, schedule-mirrored, done-mirrored}
+use Rattle.scheduling.proofs.MirroredTime.{at-mirror, start-twice, start-falls, atom-twice, atoms-twice, edge-mirrored, conflict-mirrored, schedule-mirrored, done-mirrored}
 use Rattle.scheduling.proofs.MirroredTime.{holds-mirrored}
-use Rattle.scheduling.proofs.Every.{every-append}
+use Rattle.scheduling.proofs.Every.{every-append, every-map}
 use Rattle.scheduling.proofs.Processing.{processing-all, processing-less}
 use Rattle.scheduling.proofs.Clocks.{sound}
 use Rattle.scheduling.specs.Moments.{moments}
@@ -77,20 +77,20 @@ below< p z s h = omega (ints, at-mirror p z, at-mirror p s)
 -- Traces -----------------------------------------------------------------------------------------------------------------------
 
 module _ (ds : List ℕ) where
+  end-twice : (e : End) → mirrorEnd ds (mirrorEnd ds e) ≡ e
+  end-twice done = refl
+  end-twice (overload r) = ap overload (atoms-twice (durationIn ds) r)
+  end-twice emptied = refl
+
+  -- so it ends as the trace does
   pub end-done : (e : End) → mirrorEnd ds e ≡ done ↔ e ≡ done
-  end-done done = (λ _. refl, λ _. refl)
-  end-done (overload r) = (λ z. let y : _≡_ {A = ℕ} 0 1 = cc in absurd (omega arith), λ z. let y : _≡_ {A = ℕ} 0 1 = cc in absurd (omega arith))
-  end-done emptied = (λ z. let y : _≡_ {A = ℕ} 0 1 = cc in absurd (omega arith), λ z. let y : _≡_ {A = ℕ} 0 1 = cc in absurd (omega arith))
+  end-done e = (λ z. sym (end-twice e) ∙ ap (mirrorEnd ds) z, λ z. ap (mirrorEnd ds) z)
 
   end-emptied : (e : End) → mirrorEnd ds e ≡ emptied ↔ e ≡ emptied
-  end-emptied done = (λ z. let y : _≡_ {A = ℕ} 0 1 = cc in absurd (omega arith), λ z. let y : _≡_ {A = ℕ} 0 1 = cc in absurd (omega arith))
-  end-emptied (overload r) = (λ z. let y : _≡_ {A = ℕ} 0 1 = cc in absurd (omega arith), λ z. let y : _≡_ {A = ℕ} 0 1 = cc in absurd (omega arith))
-  end-emptied emptied = (λ _. refl, λ _. refl)
+  end-emptied e = (λ z. sym (end-twice e) ∙ ap (mirrorEnd ds) z, λ z. ap (mirrorEnd ds) z)
 
   pub end-overload : (e : End) (reason : List Atom) → mirrorEnd ds e ≡ overload reason → (r : List Atom) × (e ≡ overload r) × (mirrorAtoms (durationIn ds) r ≡ reason)
-  end-overload done reason z = let y : _≡_ {A = ℕ} 0 1 = cc in absurd (omega arith)
-  end-overload (overload r) reason z = (r, refl, cc)
-  end-overload emptied reason z = let y : _≡_ {A = ℕ} 0 1 = cc in absurd (omega arith)
+  end-overload e reason z = (mirrorAtoms (durationIn ds) reason, sym (end-twice e) ∙ ap (mirrorEnd ds) z, atoms-twice (durationIn ds) reason)
 
   module _ (t : Trace) where
     pub posts-same : length (mirrorTrace ds t .posts) ≡ length (t .posts)
@@ -107,11 +107,9 @@ module _ (ds : List ℕ) (es ls : List ℤ) where
   right-post : (p : Post) → PostRight (mirror J) p → MirroredPostRight J (mirrorPost ds p)
   right-post p r = record {
     small = r .small;
-    lowers = subst (λ (z : ℤ). mirrorStart (J .duration (p .task)) (p .bound) <ℤ z) (start-twice (J .duration (p .task)) (J .latest (p .task)))
-        (start-falls< (J .duration (p .task)) (mirror J .earliest (p .task)) (p .bound) (r .raises));
+    lowers = omega (ints, at-mirror (J .duration (p .task)) (p .bound), at-mirror (J .duration (p .task)) (J .latest (p .task)), r .raises);
     rule = edge-mirrored J (p .task) (p .bound) .0 (r .edge);
-    holds = λ s h. subst (λ (z : ℤ). z ≤ℤ mirrorStart (J .duration (p .task)) (p .bound)) (start-twice (J .duration (p .task)) (s (p .task)))
-        (start-falls (J .duration (p .task)) (p .bound) (mirrorStart (J .duration (p .task)) (s (p .task))) (r .holds (λ k. mirrorStart (J .duration k) (s k)) (schedule-mirrored J s h)));
+    holds = λ s h. above (J .duration (p .task)) (s (p .task)) (p .bound) (r .holds (λ k. mirrorStart (J .duration k) (s k)) (schedule-mirrored J s h));
     reason-holds = holds-mirrored J (p .reason) (r .reason-holds);
     reason-passes = subst (λ (a : Atom). PassesWith (mirror J) (mirrorAtoms (J .duration) (mirrorAtoms (J .duration) (p .reason))) a) (sym (atom-twice (J .duration) (consequentOf p)))
         (subst (λ (xs : List Atom). PassesWith (mirror J) xs (consequentOf p)) (sym (atoms-twice (J .duration) (p .reason))) (r .reason-passes));
@@ -122,40 +120,6 @@ module _ (ds : List ℕ) (es ls : List ℤ) where
     reason-holds = holds-mirrored J reason (r .reason-holds);
     reason-passes = subst (PassesAlone (mirror J)) (sym (atoms-twice (J .duration) reason)) (r .reason-passes);
   }
-
-  -- the latest starts, whatever the outcome
-  module _ (t : Trace) (long : length (t .starts) ≡ length ds) (r : Right (mirror J) t) where
-    made : length (mirrorTrace ds t .posts) ≡ length (t .posts)
-    made = posts-same ds t
-
-    below-earliest : (j : ℕ) → j < length (mirrorTrace ds t .posts)
-        → post (mirrorTrace ds t) j .bound <ℤ J .earliest (post (mirrorTrace ds t) j .task) ↔ ((mirrorEnd ds (t .end) ≡ emptied) × (suc j ≡ length (mirrorTrace ds t .posts)))
-    below-earliest j m =
-        let q : j < length (t .posts) = omega (arith, made) in
-        let p : Post = post t j in
-        let d : ℕ = J .duration (p .task) in
-        subst (λ (x : Post). x .bound <ℤ J .earliest (x .task) ↔ ((mirrorEnd ds (t .end) ≡ emptied) × (suc j ≡ length (mirrorTrace ds t .posts)))) (sym (post-at ds t j q)) (
-          λ h. (let (e, z) = r .above j q .0 (below< d (p .bound) (J .earliest (p .task)) h) in (end-emptied ds (t .end) .1 e, z ∙ sym made)),
-          λ (e, z). below< d (J .earliest (p .task)) (p .bound) (r .above j q .1 (end-emptied ds (t .end) .0 e, z ∙ made)),
-        )
-
-    stands : (j : ℕ) → j < length (mirrorTrace ds t .posts) → J .earliest (post (mirrorTrace ds t) j .task) ≤ℤ post (mirrorTrace ds t) j .bound
-        → getD (mirrorStarts ds (t .starts)) (post (mirrorTrace ds t) j .task) (pos 0) ≡ post (mirrorTrace ds t) j .bound
-    stands j m =
-        let q : j < length (t .posts) = omega (arith, made) in
-        let p : Post = post t j in
-        let d : ℕ = J .duration (p .task) in
-        subst (λ (x : Post). J .earliest (x .task) ≤ℤ x .bound → getD (mirrorStarts ds (t .starts)) (x .task) (pos 0) ≡ x .bound) (sym (post-at ds t j q))
-        (λ h. mirror-at ds (t .starts) long (p .task) ∙ ap (mirrorStart d) (r .stands j q (above d (p .bound) (J .earliest (p .task)) h)))
-
-    stays : (k : ℕ) → k < J .count
-        → ((j : ℕ) → j < length (mirrorTrace ds t .posts) → J .earliest (post (mirrorTrace ds t) j .task) ≤ℤ post (mirrorTrace ds t) j .bound → post (mirrorTrace ds t) j .task ≡ k → ⊥)
-        → getD (mirrorStarts ds (t .starts)) k (pos 0) ≡ J .latest k
-    stays k q none = mirror-at ds (t .starts) long k ∙ ap (mirrorStart (J .duration k)) (r .stays k q free) ∙ start-twice (J .duration k) (J .latest k)
-      where
-        free : (j : ℕ) → j < length (t .posts) → post t j .bound ≤ℤ mirror J .latest (post t j .task) → post t j .task ≡ k → ⊥
-        free j m h = subst (λ (x : Post). J .earliest (x .task) ≤ℤ x .bound → x .task ≡ k → ⊥) (post-at ds t j m) (none j (omega (arith, made)))
-            (above (J .duration (post t j .task)) (J .earliest (post t j .task)) (post t j .bound) h)
 
   pub right-mirrored : (t : Trace) → length (t .starts) ≡ length ds → Right (mirror J) t → MirroredRight J (mirrorTrace ds t)
   right-mirrored t long r = record {
@@ -171,9 +135,18 @@ module _ (ds : List ℕ) (es ls : List ℤ) where
     posts = λ j q. let p : j < length (t .posts) = omega (arith, posts-same ds t) in subst (MirroredPostRight J) (sym (post-at ds t j p)) (right-post (post t j) (r .posts j p));
     overloads = λ reason z. let (a, e, same) = end-overload ds (t .end) reason z in subst (MirroredOverloadRight J) same (right-overload a (r .overloads a e));
     some-post = λ e. omega (arith, posts-same ds t, r .some-post (end-emptied ds (t .end) .0 e));
-    below = below-earliest t long r;
-    stands = stands t long r;
-    stays = stays t long r;
+    -- the latest starts, whatever the outcome
+    below = λ j m. let q : j < length (t .posts) = omega (arith, posts-same ds t) in
+        subst (λ (x : Post). x .bound <ℤ J .earliest (x .task) ↔ ((mirrorEnd ds (t .end) ≡ emptied) × (suc j ≡ length (mirrorTrace ds t .posts)))) (sym (post-at ds t j q)) (
+          λ h. (let (e, z) = r .above j q .0 (below< _ (post t j .bound) (J .earliest (post t j .task)) h) in (end-emptied ds (t .end) .1 e, z ∙ sym (posts-same ds t))),
+          λ (e, z). below< _ (J .earliest (post t j .task)) (post t j .bound) (r .above j q .1 (end-emptied ds (t .end) .0 e, z ∙ posts-same ds t)),
+        );
+    stands = λ j m. let q : j < length (t .posts) = omega (arith, posts-same ds t) in
+        subst (λ (x : Post). J .earliest (x .task) ≤ℤ x .bound → now (x .task) ≡ x .bound) (sym (post-at ds t j q))
+        (λ h. mirror-at ds (t .starts) long _ ∙ ap (mirrorStart _) (r .stands j q (above _ (post t j .bound) (J .earliest (post t j .task)) h)));
+    stays = λ k q none. mirror-at ds (t .starts) long k ∙ ap (mirrorStart (J .duration k)) (r .stays k q (λ j m h.
+        subst (λ (x : Post). J .earliest (x .task) ≤ℤ x .bound → x .task ≡ k → ⊥) (post-at ds t j m) (none j (omega (arith, posts-same ds t)))
+        (above _ (J .earliest (post t j .task)) (post t j .bound) h))) ∙ start-twice (J .duration k) (J .latest k);
   }
     where
       now : ℕ → ℤ
@@ -221,10 +194,6 @@ shaped-near ds es ls a s = record {
   where
     p : ℕ
     p = durationIn ds (a .variable)
-
-all-near : (ds : List ℕ) (es ls : List ℤ) (xs : List Atom) → Every (Shaped zeroAt (moments zeroAt (tasksOf ds es ls)) (zeroAt - START) (zeroAt + START) DURATIONS) xs → Every (Near ds) xs
-all-near ds es ls [] h = tt
-all-near ds es ls (a ∷ rest) h = (shaped-near ds es ls a (h .0), all-near ds es ls rest (h .1))
 
 all-reasons : (P : Atom → Type 0) (ps : List Post) → ((j : ℕ) → j < length ps → Every P (getD ps j no-post .reason)) → Every P (reasons ps)
 unfolding reasons
@@ -314,12 +283,12 @@ module _ (ds : List ℕ) (es ls : List ℤ) (a : AcceptedTasks START ds es ls) (
   pub reason-near : (j : ℕ) → j < length (mirroredRun ds es ls .posts) → Every (Near ds) (post (mirroredRun ds es ls) j .reason) × (length (post (mirroredRun ds es ls) j .reason) ≤ 2 * length ds)
   reason-near j q =
       let s = post-shaped MIRRORED START (omega arith) (omega arith) ds early late mirrored-accepted ending starting j q in
-      (all-near ds early late (post (mirroredRun ds es ls) j .reason) (s .because), s .few)
+      (every-map (shaped-near ds early late) (post (mirroredRun ds es ls) j .reason) (s .because), s .few)
 
   pub overload-near : (reason : List Atom) → mirroredRun ds es ls .end ≡ overload reason → Every (Near ds) reason × (length reason ≤ 2 * length ds)
   overload-near reason e =
       let s = overload-shaped MIRRORED START (omega arith) (omega arith) ds early late mirrored-accepted ending starting reason e in
-      (all-near ds early late reason (s .because), s .few)
+      (every-map (shaped-near ds early late) reason (s .because), s .few)
 
   pub atoms-near : Every (Near ds) (reasons (mirroredRun ds es ls .posts) ++ endReason (mirroredRun ds es ls .end))
   atoms-near = every-append (Near ds) (reasons (mirroredRun ds es ls .posts)) (endReason (mirroredRun ds es ls .end))

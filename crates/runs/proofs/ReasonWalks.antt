@@ -5,12 +5,12 @@ use mathlib.Core.Logic.{_⊎_, inl, inr}
 use mathlib.Core.List.{List, [], _∷_, _++_}
 use Prim.Native.Nat.{ℕ, zero, suc, _+_, _-_, _≤_, _<_, min}
 use native.Mathlib.Omega.{arith}
-use native.Mathlib.Decide.{ℕ-discrete}
+use native.Mathlib.Decide.{decLt, ℕ-discrete}
 use lib.Dec.{eqb, leb, ltb}
 use lib.IntN.{ℤ, subℕ}
 use lib.Signed.{_≤ℤ_}
 use lib.ListN.{getD}
-use borrow.Author.Tests.{ne-eqb, eq-eqb, eqb-true, eqb-false, leb-true, le-leb, lt-leb, ltb-true, ltb-false}
+use borrow.Author.Tests.{ne-eqb, eq-eqb, eqb-true, eqb-false, leb-true, le-leb, lt-leb, lt-ltb, le-ltb}
 use Rattle.scheduling.specs.Scheduling.{natural, Tasks, Proper, TaskSet, _with_, In, processing}
 use Rattle.integers.proofs.Bools.{leb-step, bool, clash}
 use Rattle.scheduling.proofs.Sets.{_less_}
@@ -25,7 +25,7 @@ use Rattle.trees.specs.Leaves as leaves
 use Rattle.trees.specs.Leaves.{taskAt}
 use Rattle.trees.specs.Searches.{thetaOf}
 use Rattle.trees.proofs.RootAnswers as tree
-use Rattle.trees.proofs.WhiteTasks.{theta-none, theta-white, theta-skip}
+use Rattle.trees.proofs.WhiteTasks.{theta-none, theta-white, theta-skip, theta-is}
 use Rattle.scheduling.specs.Scheduling.{Admits}
 use Rattle.runs.proofs.WalkClauses.{within-none, within-more, conflict-hit, conflict-miss, propagation-hit, propagation-miss, bounds-hit, bounds-miss}
 
@@ -76,6 +76,10 @@ module _ (o : ℕ) (J : Tasks natural) (ok : Proper J) (estOrder lctOrder : List
   abbrev pub onward : ℕ → TaskSet
   onward a k = leb a (rank k) && Θ k
 
+  -- and how long they last
+  abbrev pub dr : ℕ → ℕ
+  dr a = processing J (onward a)
+
   pub onward-in : (a k : ℕ) → onward a k ≡ true → (a ≤ rank k) × (Θ k ≡ true)
   onward-in a k h = go (leb a (rank k)) refl h
     where
@@ -96,13 +100,13 @@ module _ (o : ℕ) (J : Tasks natural) (ok : Proper J) (estOrder lctOrder : List
   pub placed : (a k : ℕ) → k < n → rank k ≡ a → k ≡ T a
   placed a k q z = sym (rk .there k q) ∙ ap T z
 
-  pub skip : (a : ℕ) → a < n → Θ (T a) ≡ false → processing J (onward a) ≡ processing J (onward (suc a))
+  pub skip : (a : ℕ) → a < n → Θ (T a) ≡ false → dr a ≡ dr (suc a)
   skip a q y = processing-same J (onward a) (onward (suc a)) (λ k r. elim (ℕ-discrete (rank k) a) [
     | yes z ↦ onward-not a k (ap Θ (placed a k r z) ∙ y) ∙ sym (onward-not (suc a) k (ap Θ (placed a k r z) ∙ y))
     | no z ↦ ap (λ (b : Bool). b && Θ k) (leb-step a (rank k) z)
   ])
 
-  pub step : (a : ℕ) → a < n → Θ (T a) ≡ true → processing J (onward a) ≡ processing J (onward (suc a)) + J .duration (T a)
+  pub step : (a : ℕ) → a < n → Θ (T a) ≡ true → dr a ≡ dr (suc a) + J .duration (T a)
   step a q y =
       let m : In J (onward a) (T a) = record { small = rk .task a q; mem = onward-out a (T a) (omega (arith, rk .back a q)) y } in
       omega (arith, processing-less J (onward a) (T a) m, processing-same J (onward a less T a) (onward (suc a)) rest)
@@ -113,11 +117,11 @@ module _ (o : ℕ) (J : Tasks natural) (ok : Proper J) (estOrder lctOrder : List
         | no z ↦ rw (ne-eqb k (T a) z) (ap (λ (b : Bool). b && Θ k) (leb-step a (rank k) (λ w. z (placed a k r w))))
       ]
 
-  pub none-left : processing J (onward n) ≡ 0
+  pub none-left : dr n ≡ 0
   none-left = processing-empty J (onward n) (λ k q. onward-early n k (rk .placed k q))
 
   -- `sum_of_processing_times`
-  pub sum-is : leaves.sum J estOrder ls ≡ processing J (onward 0)
+  pub sum-is : leaves.sum J estOrder ls ≡ dr 0
   sum-is = tree.sum-of J ok estOrder rk ls Θ Λ s ∙ processing-same J Θ (onward 0) (λ k q. sym (ap (λ (b : Bool). b && Θ k) (le-leb 0 (rank k) (omega arith))))
 
   -- the list of white tasks
@@ -178,21 +182,6 @@ module _ (o : ℕ) (J : Tasks natural) (ok : Proper J) (estOrder lctOrder : List
           (two-other (T a) k lo (hi - J .duration (T a)) (within o J lo hi (th (suc a) d)) (at lo) (at (hi - J .duration k)) ne ih)
       by ih (inr y) ne = rw (th-out a d (omega arith) y) ih
 
-  -- where the overload's walk stops ---------------------------------------------------------------------------------------------
-  pub record Stopped (c : ℕ) (atoms : List Atom) : Type 0 where
-    pub m : ℕ
-    pub left : ℕ
-    pub all : m + left ≡ n
-    pub small : m < n
-    pub mem : Θ (T m) ≡ true
-    pub over : c < ea m + processing J (onward m)
-    pub is : atoms ≡ conflict-of o J c (processing J (onward m)) (ea m) (th m left)
-
-  -- one step of it, where tasks are left
-  conflict-on : (c p k : ℕ) (ks : List ℕ) → ltb c (J .earliest k + p) ≡ false → (ks ≡ [] → ⊥) → conflict o J c p (k ∷ ks) ≡ conflict o J c (p - J .duration k) ks
-  conflict-on c p k [] y ne = absurd (ne refl)
-  conflict-on c p k (j ∷ ks) y ne = conflict-miss o J c p k j ks y
-
   -- a white leaf is in the list
   th-some : (d a x : ℕ) → a + d ≡ n → a ≤ x → x < n → Θ (T x) ≡ true → th a d ≡ [] → ⊥
   th-some zero a x z q r y e = omega arith
@@ -205,49 +194,24 @@ module _ (o : ℕ) (J : Tasks natural) (ok : Proper J) (estOrder lctOrder : List
       by ih (inl v) = cons (sym (th-in a d (omega arith) v) ∙ e)
       by ih (inr v) = elim (ℕ-discrete a x) [ yes w ↦ clash (rw (← w) at y) v | no w ↦ ih (omega arith) (sym (th-out a d (omega arith) v) ∙ e) ]
 
-  pub conflict-stops : (c d a p x : ℕ) → a + d ≡ n → p ≡ processing J (onward a) → a ≤ x → x < n → Θ (T x) ≡ true → c < ea x + processing J (onward x) → Stopped c (conflict o J c p (th a d))
-  conflict-stops c zero a p x z e q r y over = absurd (omega arith)
-  conflict-stops c (suc d) a p x z e q r y over =
-      by (λ p′ e′ g. conflict-stops c d (suc a) p′ x (omega arith) e′ g r y over) (bool (Θ (T a))) (bool (ltb c (ea a + p)))
-    where
-      IH : Type 0
-      IH = (p′ : ℕ) → p′ ≡ processing J (onward (suc a)) → suc a ≤ x → Stopped c (conflict o J c p′ (th (suc a) d))
+  -- where a walk stops: at the first white leaf from a on whose reach passes c; and the atoms from there on ---------------------------
+  pub record Stops (c : ℕ) (reach : ℕ → ℕ) (from : ℕ → ℕ → List Atom) (a : ℕ) (atoms : List Atom) : Type 0 where
+    pub m : ℕ
+    pub left : ℕ
+    pub all : m + left ≡ n
+    pub small : m < n
+    pub mem : Θ (T m) ≡ true
+    pub over : c < reach m
+    pub before : (j : ℕ) → a ≤ j → j < m → Θ (T j) ≡ true → reach j ≤ c
+    pub is : atoms ≡ from m left
 
-      by : IH → (Θ (T a) ≡ true) ⊎ (Θ (T a) ≡ false) → (ltb c (ea a + p) ≡ true) ⊎ (ltb c (ea a + p) ≡ false) → Stopped c (conflict o J c p (th a (suc d)))
-      by ih (inr v) u = elim (ℕ-discrete a x) [ yes w ↦ clash (rw (← w) at y) v | no w ↦ rw (th-out a d (omega arith) v) (ih p (e ∙ skip a (omega arith) v) (omega arith)) ]
-      by ih (inl v) (inl u) = record {
-        m = a;
-        left = suc d;
-        all = z;
-        small = omega arith;
-        mem = v;
-        over = omega (arith, e, ltb-true c (ea a + p) u);
-        is = rw (th-in a d (omega arith) v) (conflict-hit o J c p (T a) (th (suc a) d) u ∙ ap (λ (p : ℕ). conflict-of o J c p (ea a) (T a ∷ th (suc a) d)) e);
-      }
-      by ih (inl v) (inr u) = elim (ℕ-discrete a x) [
-        | yes w ↦ absurd (omega (arith, ltb-false c (ea a + p) u, e, rw (← w) at over))
-        | no w ↦ rw (th-in a d (omega arith) v, conflict-on c p (T a) (th (suc a) d) u (th-some d (suc a) x (omega arith) (omega arith) r y))
-            (ih (p - J .duration (T a)) (omega (arith, e, step a (omega arith) v)) (omega arith))
-      ]
-
-  -- where the first walk of a post's reason stops -------------------------------------------------------------------------------
-  module _ (i c b : ℕ) where
-    abbrev pub reach : ℕ → ℕ
-    reach m = min (J .earliest i) (ea m) + processing J (onward m) + J .duration i
-
-    pub record First (a : ℕ) (atoms : List Atom) : Type 0 where
-      pub m : ℕ
-      pub left : ℕ
-      pub all : m + left ≡ n
-      pub small : m < n
-      pub mem : Θ (T m) ≡ true
-      pub over : c < reach m
-      pub before : (j : ℕ) → a ≤ j → j < m → Θ (T j) ≡ true → reach j ≤ c
-      pub is : atoms ≡ propagation-of o J i b (processing J (onward m)) (min (J .earliest i) (ea m)) (th m left)
-
+  -- a walk that stops where the reach passes c, and goes on to the next leaf otherwise
+  module _ (c : ℕ) (reach : ℕ → ℕ) (from : ℕ → ℕ → List Atom) (walk : ℕ → List ℕ → List Atom)
+      (hit : (a d : ℕ) → a < n → Θ (T a) ≡ true → c < reach a → walk (dr a) (th a (suc d)) ≡ from a (suc d))
+      (miss : (a d : ℕ) → a < n → Θ (T a) ≡ true → reach a ≤ c → (th (suc a) d ≡ [] → ⊥) → walk (dr a) (th a (suc d)) ≡ walk (dr (suc a)) (th (suc a) d)) where
     -- one place more before the walk
-    earlier : (a : ℕ) (atoms : List Atom) → (Θ (T a) ≡ true → reach a ≤ c) → First (suc a) atoms → First a atoms
-    earlier a atoms h f = record {
+    earlier : (a : ℕ) {atoms : List Atom} → (Θ (T a) ≡ true → reach a ≤ c) → Stops c reach from (suc a) atoms → Stops c reach from a atoms
+    earlier a h f = record {
       m = f .m;
       left = f .left;
       all = f .all;
@@ -258,36 +222,52 @@ module _ (o : ℕ) (J : Tasks natural) (ok : Proper J) (estOrder lctOrder : List
       before = λ j q r y. elim (ℕ-discrete a j) [ yes w ↦ subst (λ (j : ℕ). reach j ≤ c) w (h (subst (λ (j : ℕ). Θ (T j) ≡ true) (sym w) y)) | no w ↦ f .before j (omega arith) r y ];
     }
 
-    pub first-stops : (d a p x : ℕ) → a + d ≡ n → p ≡ processing J (onward a) → a ≤ x → x < n → Θ (T x) ≡ true → c < reach x → First a (propagation o J i b c p (th a d))
-    first-stops zero a p x z e q r y over = absurd (omega arith)
-    first-stops (suc d) a p x z e q r y over =
-        by (λ p′ e′ g. first-stops d (suc a) p′ x (omega arith) e′ g r y over) (bool (Θ (T a))) (bool (ltb c (min (J .earliest i) (ea a) + p + J .duration i)))
+    stops : (d a x : ℕ) → a + d ≡ n → a ≤ x → x < n → Θ (T x) ≡ true → c < reach x → Stops c reach from a (walk (dr a) (th a d))
+    stops zero a x z q r y over = absurd (omega arith)
+    stops (suc d) a x z q r y over = by (λ g. stops d (suc a) x (omega arith) g r y over) (bool (Θ (T a)))
       where
-        IH : Type 0
-        IH = (p′ : ℕ) → p′ ≡ processing J (onward (suc a)) → suc a ≤ x → First (suc a) (propagation o J i b c p′ (th (suc a) d))
+        by : (suc a ≤ x → Stops c reach from (suc a) (walk (dr (suc a)) (th (suc a) d))) → (Θ (T a) ≡ true) ⊎ (Θ (T a) ≡ false) → Stops c reach from a (walk (dr a) (th a (suc d)))
+        by ih (inr v) = elim (ℕ-discrete a x)
+            [ yes w ↦ clash (rw (← w) at y) v | no w ↦ rw (th-out a d (omega arith) v, skip a (omega arith) v) (earlier a (λ t. clash t v) (ih (omega arith))) ]
+        by ih (inl v) = elim (decLt c (reach a)) [
+          | yes u ↦ record { m = a; left = suc d; all = z; small = omega arith; mem = v; over = u; before = λ j q r y. absurd (omega arith); is = hit a d (omega arith) v u }
+          | no u ↦ elim (ℕ-discrete a x) [
+            | yes w ↦ absurd (u (subst (λ (j : ℕ). c < reach j) (sym w) over))
+            | no w ↦ rw (miss a d (omega arith) v (omega arith) (th-some d (suc a) x (omega arith) (omega arith) r y)) (earlier a (λ _. omega arith) (ih (omega arith)))
+          ]
+        ]
 
-        by : IH → (Θ (T a) ≡ true) ⊎ (Θ (T a) ≡ false) → (ltb c (min (J .earliest i) (ea a) + p + J .duration i) ≡ true) ⊎ (ltb c (min (J .earliest i) (ea a) + p + J .duration i) ≡ false)
-            → First a (propagation o J i b c p (th a (suc d)))
-        by ih (inr v) u = elim (ℕ-discrete a x) [
-          | yes w ↦ clash (rw (← w) at y) v
-          | no w ↦ rw (th-out a d (omega arith) v) (earlier a (propagation o J i b c p (th (suc a) d)) (λ t. clash t v) (ih p (e ∙ skip a (omega arith) v) (omega arith)))
-        ]
-        by ih (inl v) (inl u) = record {
-          m = a;
-          left = suc d;
-          all = z;
-          small = omega arith;
-          mem = v;
-          over = omega (arith, e, ltb-true c (min (J .earliest i) (ea a) + p + J .duration i) u);
-          before = λ j q r y. absurd (omega arith);
-          is = rw (th-in a d (omega arith) v) (propagation-hit o J i b c p (T a) (th (suc a) d) u ∙ ap (λ (p : ℕ). propagation-of o J i b p (min (J .earliest i) (ea a)) (T a ∷ th (suc a) d)) e);
-        }
-        by ih (inl v) (inr u) = elim (ℕ-discrete a x) [
-          | yes w ↦ absurd (omega (arith, ltb-false c (min (J .earliest i) (ea a) + p + J .duration i) u, e, rw (← w) at over))
-          | no w ↦ rw (th-in a d (omega arith) v, propagation-miss o J i b c p (T a) (th (suc a) d) u)
-              (earlier a (propagation o J i b c (p - J .duration (T a)) (th (suc a) d)) (λ _. omega (arith, e, ltb-false c (min (J .earliest i) (ea a) + p + J .duration i) u))
-              (ih (p - J .duration (T a)) (omega (arith, e, step a (omega arith) v)) (omega arith)))
-        ]
+  -- the overload's
+  abbrev pub Stopped : ℕ → List Atom → Type 0
+  Stopped c = Stops c (λ m. ea m + dr m) (λ m left. conflict-of o J c (dr m) (ea m) (th m left)) 0
+
+  -- one step of it, where tasks are left
+  conflict-on : (c p k : ℕ) (ks : List ℕ) → ltb c (J .earliest k + p) ≡ false → (ks ≡ [] → ⊥) → conflict o J c p (k ∷ ks) ≡ conflict o J c (p - J .duration k) ks
+  conflict-on c p k [] y ne = absurd (ne refl)
+  conflict-on c p k (j ∷ ks) y ne = conflict-miss o J c p k j ks y
+
+  pub conflict-stops : (c x : ℕ) → x < n → Θ (T x) ≡ true → c < ea x + dr x → Stopped c (conflict o J c (leaves.sum J estOrder ls) (leaves.theta J estOrder ls))
+  conflict-stops c x small mem over = rw (sum-is, theta-is J estOrder ls)
+      (stops c (λ m. ea m + dr m) (λ m left. conflict-of o J c (dr m) (ea m) (th m left)) (conflict o J c)
+      (λ a d q v u. rw (th-in a d q v) (conflict-hit o J c (dr a) (T a) (th (suc a) d) (lt-ltb c (ea a + dr a) u)))
+      (λ a d q v u ne. rw (th-in a d q v, conflict-on c (dr a) (T a) (th (suc a) d) (le-ltb c (ea a + dr a) u) ne) (ap (λ (p : ℕ). conflict o J c p (th (suc a) d)) (omega (arith, step a q v))))
+      n 0 x (omega arith) (omega arith) small mem over)
+
+  -- the first of a post's reason
+  module _ (i c b : ℕ) where
+    abbrev pub reach : ℕ → ℕ
+    reach m = min (J .earliest i) (ea m) + dr m + J .duration i
+
+    abbrev pub First : List Atom → Type 0
+    First = Stops c reach (λ m left. propagation-of o J i b (dr m) (min (J .earliest i) (ea m)) (th m left)) 0
+
+    pub first-stops : (x : ℕ) → x < n → Θ (T x) ≡ true → c < reach x → First (propagation o J i b c (leaves.sum J estOrder ls) (leaves.theta J estOrder ls))
+    first-stops x small mem over = rw (sum-is, theta-is J estOrder ls)
+        (stops c reach (λ m left. propagation-of o J i b (dr m) (min (J .earliest i) (ea m)) (th m left)) (propagation o J i b c)
+        (λ a d q v u. rw (th-in a d q v) (propagation-hit o J i b c (dr a) (T a) (th (suc a) d) (lt-ltb c (reach a) u)))
+        (λ a d q v u ne. rw (th-in a d q v, propagation-miss o J i b c (dr a) (T a) (th (suc a) d) (le-ltb c (reach a) u))
+        (ap (λ (p : ℕ). propagation o J i b c p (th (suc a) d)) (omega (arith, step a q v))))
+        n 0 x (omega arith) (omega arith) small mem over)
 
   -- and the second: what it leaves says of each task ------------------------------------------------------------------------------
   module _ (b r last : ℕ) where
@@ -299,11 +279,11 @@ module _ (o : ℕ) (J : Tasks natural) (ok : Proper J) (estOrder lctOrder : List
       pub from : a ≤ m
       pub small : m < n
       pub mem : Θ (T m) ≡ true
-      pub attains : ea m + processing J (onward m) ≡ b
+      pub attains : ea m + dr m ≡ b
       pub says : (k : ℕ) → k < n → Θ k ≡ true → a ≤ rank k → Says atoms k (at (low m k)) (at (last - J .duration k))
       pub silent : (k : ℕ) → Out a k → Silent atoms k
 
-    found-here : (d a p : ℕ) → a + suc d ≡ n → Θ (T a) ≡ true → p ≡ processing J (onward a) → b ≡ ea a + p → Second a (within o J (b - p) last (th a (suc d)))
+    found-here : (d a p : ℕ) → a + suc d ≡ n → Θ (T a) ≡ true → p ≡ dr a → b ≡ ea a + p → Second a (within o J (b - p) last (th a (suc d)))
     found-here d a p z v e att = record {
       m = a;
       from = omega arith;
@@ -339,13 +319,13 @@ module _ (o : ℕ) (J : Tasks natural) (ok : Proper J) (estOrder lctOrder : List
               (f .says k q y (omega arith))
         ]
 
-    pub second-stops : (d a p x : ℕ) → a + d ≡ n → p ≡ processing J (onward a) → a ≤ x → x < n → Θ (T x) ≡ true → ea x + processing J (onward x) ≡ b → Second a (bounds o J b r last p (th a d))
+    pub second-stops : (d a p x : ℕ) → a + d ≡ n → p ≡ dr a → a ≤ x → x < n → Θ (T x) ≡ true → ea x + dr x ≡ b → Second a (bounds o J b r last p (th a d))
     second-stops zero a p x z e q t y att = absurd (omega arith)
     second-stops (suc d) a p x z e q t y att =
         by (λ p′ e′ g. second-stops d (suc a) p′ x (omega arith) e′ g t y att) (bool (Θ (T a))) (bool (eqb b (ea a + p)))
       where
         IH : Type 0
-        IH = (p′ : ℕ) → p′ ≡ processing J (onward (suc a)) → suc a ≤ x → Second (suc a) (bounds o J b r last p′ (th (suc a) d))
+        IH = (p′ : ℕ) → p′ ≡ dr (suc a) → suc a ≤ x → Second (suc a) (bounds o J b r last p′ (th (suc a) d))
 
         -- no white leaf at a
         over : Θ (T a) ≡ false → Second (suc a) (bounds o J b r last p (th (suc a) d)) → Second a (bounds o J b r last p (th (suc a) d))
@@ -364,7 +344,7 @@ module _ (o : ℕ) (J : Tasks natural) (ok : Proper J) (estOrder lctOrder : List
             [ yes w ↦ clash (rw (← w) at y) v | no w ↦ rw (th-out a d (omega arith) v) (over v (ih p (e ∙ skip a (omega arith) v) (omega arith))) ]
         by ih (inl v) (inl u) = rw (th-in a d (omega arith) v, bounds-hit o J b r last p (T a) (th (suc a) d) u, ← th-in a d (omega arith) v) (found-here d a p z v e (eqb-true b (ea a + p) u))
         by ih (inl v) (inr u) = elim (ℕ-discrete a x) [
-          | yes w ↦ absurd (eqb-false b (ea a + p) u (omega (arith, e, subst (λ (x : ℕ). ea x + processing J (onward x) ≡ b) (sym w) att)))
+          | yes w ↦ absurd (eqb-false b (ea a + p) u (omega (arith, e, subst (λ (x : ℕ). ea x + dr x ≡ b) (sym w) att)))
           | no w ↦ rw (th-in a d (omega arith) v, bounds-miss o J b r last p (T a) (th (suc a) d) u)
               (passed d a p z v (ih (p - J .duration (T a)) (omega (arith, e, step a (omega arith) v)) (omega arith)))
         ]

@@ -11,7 +11,7 @@ use lib.Dec.{leb}
 use lib.IntN.{ℤ, pos, negsuc, _+ℤ_, subℕ}
 use lib.Signed.{_≤ℤ_, ≤ℤ-refl}
 use lib.ListN.{getD}
-use borrow.Author.Tests.{ne-eqb, eq-eqb, leb-true, le-leb, lt-leb, lt-ltb, le-ltb}
+use borrow.Author.Tests.{ne-eqb, eq-eqb, le-leb, lt-leb, lt-ltb, le-ltb}
 use Rattle.scheduling.specs.Scheduling.{whole, natural, Tasks, Proper, TaskSet, _with_, Largest, Least, In, Outside, NonEmpty, Subset, completion, Est, Ect, EdgeFindingBound, RuleFormula}
 use Rattle.scheduling.specs.Scheduling as defs
 use Rattle.integers.proofs.Bools.{bool, clash}
@@ -20,8 +20,6 @@ use Rattle.scheduling.proofs.Processing.{processing-mono}
 use Rattle.scheduling.proofs.Scan.{scan, scan-is}
 use Rattle.scheduling.proofs.Levels.{edge}
 use Rattle.scheduling.proofs.Reasons as why
-use Rattle.scheduling.proofs.WalkStops as stops
-use Rattle.scheduling.proofs.Suffixes as suffixes
 use Rattle.integers.specs.Moments.{Above}
 use Rattle.integers.proofs.MomentSums.{mono, reflect, reflect<, above-up, plus, same, deep, moment-instant, instant-above}
 use Rattle.integers.proofs.Ints.{ints}
@@ -37,13 +35,13 @@ use Rattle.runs.specs.Runs.{within, conflict, bounds, propagation}
 use Rattle.runs.specs.Runs as edges
 use Rattle.trees.specs.Leaves as leaves
 use Rattle.trees.specs.Ects.{exceeds}
-use Rattle.trees.proofs.Ects.{one-moment, exceeds-yes}
+use Rattle.trees.proofs.Ects.{one-moment}
 use Rattle.trees.proofs.RootAnswers as tree
-use Rattle.trees.proofs.WhiteTasks.{theta-is}
 use Rattle.scheduling.specs.Scheduling.{Meets, Every, Admits, negation, HoldsAtEntry, Bounded, PassesWith, PassesAlone}
 use Rattle.runs.specs.Demand.{consequentOf, PostRight, OverloadRight}
 use Rattle.runs.proofs.ReasonWalks as walks
 use Rattle.runs.proofs.ReasonWalks.{Silent, Says, says-then, left-part, right-part, joined}
+use Rattle.runs.proofs.WalkStops as stops
 use Rattle.runs.proofs.LevelSteps.{Measure}
 
 -- atoms that are met at each variable's own start
@@ -56,9 +54,6 @@ least-of atoms k u v q s = record { holds = s .tells u (≤ℤ-refl u) q; bounds
 
 greatest-of : (atoms : List Atom) (k : ℕ) (u v : ℤ) → u ≤ℤ v → Says atoms k u v → Largest whole (Admits atoms k) v
 greatest-of atoms k u v q s = record { holds = s .tells v q (≤ℤ-refl v); bounds = λ w h. (s .told w h) .1 }
-
-between : (a b c : ℤ) → a ≤ℤ b → b ≤ℤ c → a ≤ℤ c
-between a b c h k = omega ints
 
 -- no greatest value where nothing is said
 unbounded : (atoms : List Atom) (k : ℕ) → Silent atoms k → (v : ℤ) → Largest whole (Admits atoms k) v → ⊥
@@ -125,11 +120,11 @@ module _ (o : ℕ) (Z : Tasks whole) (okz : Proper Z) (deepz : (k : ℕ) → k <
 
   -- bounds that hold at entry
   entry-low : (k g : ℕ) → k < n → g ≤ J .earliest k → (z : ℤ) → Z .earliest k ≤ℤ z → at g ≤ℤ z
-  entry-low k g q h z y = between (at g) (Z .earliest k) z (reflect o (at g) (Z .earliest k) (instant-above o g) (deepz k q) (omega (arith, moment-instant o g))) y
+  entry-low k g q h z y = omega (ints, reflect o (at g) (Z .earliest k) (instant-above o g) (deepz k q) (omega (arith, moment-instant o g)), y)
 
   entry-high : (k g : ℕ) → k < n → J .latest k ≤ g → (z : ℤ) → z ≤ℤ Z .latest k → z ≤ℤ at g
-  entry-high k g q h z y = between z (Z .latest k) (at g) y
-      (reflect o (Z .latest k) (at g) (above-up o (Z .earliest k) (Z .latest k) (okz .ranges k q) (deepz k q)) (instant-above o g) (omega (arith, moment-instant o g)))
+  entry-high k g q h z y = let w = reflect o (Z .latest k) (at g) (above-up o (Z .earliest k) (Z .latest k) (okz .ranges k q) (deepz k q)) (instant-above o g) (omega (arith, moment-instant o g)) in
+      omega (ints, w, y)
 
   module _ (t : ℕ) (ls : List Leaf) (Λ : TaskSet) where
     abbrev Θ : TaskSet
@@ -137,10 +132,10 @@ module _ (o : ℕ) (Z : Tasks whole) (okz : Proper Z) (deepz : (k : ℕ) → k <
 
     module _ (s : tree.Represents J ok estOrder rk ls Θ Λ) (small : t < n) where
       abbrev onward : ℕ → TaskSet
-      onward a = walks.onward o J ok estOrder lctOrder rk ls Θ Λ s a
+      onward = walks.onward o J ok estOrder lctOrder rk ls Θ Λ s
 
       abbrev dr : ℕ → ℕ
-      dr a = defs.processing J (onward a)
+      dr = walks.dr o J ok estOrder lctOrder rk ls Θ Λ s
 
       abbrev Out : ℕ → ℕ → Type 0
       Out = walks.Out o J ok estOrder lctOrder rk ls Θ Λ s
@@ -157,15 +152,9 @@ module _ (o : ℕ) (Z : Tasks whole) (okz : Proper Z) (deepz : (k : ℕ) → k <
       ect-is : ectOf ls ≡ some (E Θ)
       ect-is = tree.moment-some J ok estOrder rk ls Θ Λ s (L t) last-Θ
 
-      ect-of : (b : ℕ) → ectOf ls ≡ some b → Ect J Θ b
-      ect-of b = tree.moment-is J ok estOrder rk ls Θ Λ s b .0
-
       -- in the order of earliest starts
       after : (a k : ℕ) → k < n → a ≤ rank k → ea a ≤ J .earliest k
       after a k q h = omega (arith, ap (J .earliest) (rk .there k q), rk .sorted a (rank k) h (rk .placed k q))
-
-      ends : (k : ℕ) → In J Θ k → completion J k ≤ En t
-      ends k h = subst (λ (j : ℕ). completion J j ≤ En t) (ord .there k (h .small)) (ord .sorted t (place k) (leb-true t (place k) (h .mem)) (ord .placed k (h .small)))
 
       onward-est : (a : ℕ) → a < n → Θ (T a) ≡ true → Est J (onward a) (ea a)
       onward-est a q y = record {
@@ -177,9 +166,6 @@ module _ (o : ℕ) (Z : Tasks whole) (okz : Proper Z) (deepz : (k : ℕ) → k <
       out-of : (a k : ℕ) → (k < n → onward a k ≡ false) → Out a k
       out-of a k h x q r y z = elim (decLt k n)
           [ yes u ↦ clash (on-out a k (omega (arith, ap rank z, rk .back x r)) (rw z at y)) (h u) | no u ↦ omega (arith, ap (λ (j : ℕ). j) z, rk .task x r) ]
-
-      at-rank : (k : ℕ) → k < n → Θ k ≡ true → Θ (T (rank k)) ≡ true
-      at-rank k q y = rw (rk .there k q) y
 
       -- a post -----------------------------------------------------------------------------------------------------------------
       module _ (x : ℕ) (f : tree.Found J ok estOrder rk ls Θ Λ s x) (late : place (T x) < t) (over : exceeds (barOf ls) (En t) ≡ true) (b : ℕ) (is : ectOf ls ≡ some b)
@@ -210,12 +196,8 @@ module _ (o : ℕ) (Z : Tasks whole) (okz : Proper Z) (deepz : (k : ℕ) → k <
             subst (EdgeFindingBound Z i) (same o (e .at) (at b) (e .above) (instant-above o b) (e .is ∙ sym (moment-instant o b))) (e .holds)
 
         -- the first walk
-        one : walks.First o J ok estOrder lctOrder rk ls Θ Λ s i c b 0 As
-        one =
-            let (m, mm, h) = stops.passing J T rank rk Θ i c b (f .value) (f .attains) (f .has) i-small (tree.past-found J ok estOrder rk ls Θ Λ s f c over) (ect-of b is) up in
-            subst (λ (l : List ℕ). walks.First o J ok estOrder lctOrder rk ls Θ Λ s i c b 0 (propagation o J i b c (leaves.sum J estOrder ls) l)) (sym (theta-is J estOrder ls))
-            (walks.first-stops o J ok estOrder lctOrder rk ls Θ Λ s i c b n 0 (leaves.sum J estOrder ls) (rank m) (omega arith) (walks.sum-is o J ok estOrder lctOrder rk ls Θ Λ s) (omega arith)
-            (rk .placed m (mm .small)) (at-rank m (mm .small) (mm .mem)) (omega (arith, h, ap (J .earliest) (rk .there m (mm .small)))))
+        abbrev one : walks.First o J ok estOrder lctOrder rk ls Θ Λ s i c b As
+        one = stops.first-walk o J ok estOrder lctOrder rk ord t ls Λ s small x f over b is up
 
         abbrev m : ℕ
         m = one .m
@@ -229,14 +211,8 @@ module _ (o : ℕ) (Z : Tasks whole) (okz : Proper Z) (deepz : (k : ℕ) → k <
         -- the second
         two : walks.Second o J ok estOrder lctOrder rk ls Θ Λ s b r last m (bounds o J b r last (dr m) (thetaOf (whiteAt ls) (taskAt J estOrder) m (one .left)))
         two =
-            let (j, jm, h) = suffixes.attaining J T rank rk Θ b (ect-of b is) in
-            let back : dr (rank (T m)) ≡ dr m = ap dr (rk .back m (one .small)) in
-            let q : rank (T m) ≤ rank j = stops.after-first J T rank rk Θ i c b (T m) j (ect-of b is) (record { small = rk .task m (one .small); mem = one .mem }) jm
-            (omega (arith, one .over, back))
-            (λ l. omega (arith, one .before (rank j) (omega arith) (omega (arith, rk .back m (one .small))) (at-rank j (jm .small) (jm .mem)), ap (J .earliest) (rk .there j (jm .small)))) h in
-            walks.second-stops o J ok estOrder lctOrder rk ls Θ Λ s b r last (one .left) m (dr m) (rank j) (one .all) refl (omega (arith, rk .back m (one .small))) (rk .placed j (jm .small))
-            (at-rank j (jm .small) (jm .mem))
-            (omega (arith, h, ap (J .earliest) (rk .there j (jm .small))))
+            let w = stops.attaining-after o J ok estOrder lctOrder rk ord t ls Λ s small x f over b is up in
+            walks.second-stops o J ok estOrder lctOrder rk ls Θ Λ s b r last (one .left) m (dr m) (w .at) (one .all) refl (w .after) (w .inside) (w .white) (w .attains)
 
         abbrev m′ : ℕ
         m′ = two .m
@@ -260,7 +236,7 @@ module _ (o : ℕ) (Z : Tasks whole) (okz : Proper Z) (deepz : (k : ℕ) → k <
         low-i = omega arith
 
         by-c : (k : ℕ) → In J Ω k → completion J k ≤ c
-        by-c k h = ends k (record { small = h .small; mem = (on-in m k (h .mem)) .1 })
+        by-c k h = stops.ends o J ok estOrder lctOrder rk ord t ls Λ s small k (record { small = h .small; mem = (on-in m k (h .mem)) .1 })
 
         past : c < r + (dr m + J .duration i)
         past = omega (arith, one .over)
@@ -402,12 +378,7 @@ module _ (o : ℕ) (Z : Tasks whole) (okz : Proper Z) (deepz : (k : ℕ) → k <
         Os = conflict o J d (leaves.sum J estOrder ls) (theta J estOrder ls)
 
         stopped : walks.Stopped o J ok estOrder lctOrder rk ls Θ Λ s d Os
-        stopped =
-            let (b, is, over) = exceeds-yes (ectOf ls) d passes in
-            let (j, jm, h) = suffixes.attaining J T rank rk Θ b (ect-of b is) in
-            subst (λ (l : List ℕ). walks.Stopped o J ok estOrder lctOrder rk ls Θ Λ s d (conflict o J d (leaves.sum J estOrder ls) l)) (sym (theta-is J estOrder ls))
-            (walks.conflict-stops o J ok estOrder lctOrder rk ls Θ Λ s d n 0 (leaves.sum J estOrder ls) (rank j) (omega arith) (walks.sum-is o J ok estOrder lctOrder rk ls Θ Λ s) (omega arith)
-            (rk .placed j (jm .small)) (at-rank j (jm .small) (jm .mem)) (omega (arith, h, over, ap (J .earliest) (rk .there j (jm .small)))))
+        stopped = stops.overload-stops o J ok estOrder lctOrder rk ord t ls Λ s small passes
 
         abbrev q : ℕ
         q = stopped .m
@@ -431,7 +402,7 @@ module _ (o : ℕ) (Z : Tasks whole) (okz : Proper Z) (deepz : (k : ℕ) → k <
         low-O k h = after q k (h .small) ((on-in q k (h .mem)) .0)
 
         ends-O : (k : ℕ) → In J O k → completion J k ≤ d
-        ends-O k h = ends k (record { small = h .small; mem = (on-in q k (h .mem)) .1 })
+        ends-O k h = stops.ends o J ok estOrder lctOrder rk ord t ls Λ s small k (record { small = h .small; mem = (on-in q k (h .mem)) .1 })
 
         slack : d + (left + right) + 1 ≡ ea q + dr q
         slack = omega (arith, stopped .over)

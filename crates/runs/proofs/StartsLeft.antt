@@ -1,33 +1,24 @@
 -- The starts that a run leaves, however it ends: one for each task, in its range.
 use mathlib.Core.Path.{_≡_, refl, sym, ap, subst, _∙_}
-use mathlib.Core.Bool.{true, false}
 use mathlib.Core.List.{List, map}
-use mathlib.Core.Logic.{_⊎_, inl, inr}
-use mathlib.Core.Option.{some}
 use Prim.Native.Nat.{ℕ, zero, suc, _+_, _-_, _≤_, _<_}
 use native.Mathlib.Decide.{ℕ-discrete}
 use native.Mathlib.Omega.{arith}
-use lib.Dec.{ltb}
 use lib.IntN.{ℤ, pos}
 use lib.ListN.{length, getD, set, length-map, length-set}
 use lib.Seq.{getD-set-same, getD-set-other}
 use lib.Signed.{_≤ℤ_}
-use borrow.Author.Tests.{ltb-true, ltb-false}
 use Rattle.integers.specs.Limits.{MIRRORED}
 use Rattle.integers.specs.Moments.{Above, instant, zeroAt}
 use Rattle.integers.specs.Orders.{index}
-use Rattle.integers.proofs.Bools.{bool}
 use Rattle.integers.proofs.Lists.{getD-map-in}
 use Rattle.integers.proofs.MomentSums.{mono, reflect, above-up, more-above, moment-instant, instant-above}
 use Rattle.scheduling.specs.Scheduling.{natural, Tasks, tasksOf}
 use Rattle.scheduling.specs.Moments.{moments}
-use Rattle.trees.specs.Ects.{exceeds}
-use Rattle.trees.proofs.Ects.{past-or-not}
-use Rattle.trees.specs.Leaves.{ect, ect-bar, responsible}
 use Rattle.runs.specs.Traces.{Trace}
-use Rattle.runs.specs.Runs.{State, Turn, on, stop, inner, outer, run, lct, grayed, dropped, raised, posted, tabulate, propagate, earliestOrder, completionOrder}
+use Rattle.runs.specs.Runs.{State, Turn, on, stop, inner, outer, run, grayed, tabulate, propagate, earliestOrder, completionOrder}
 use Rattle.runs.proofs.Demand.{AcceptedTasks}
-use Rattle.runs.proofs.InnerLoop.{opt, turn, inner-end, inner-off, inner-none, inner-pass, inner-stop, inner-raise, propagate-is, run-is, outer-end, outer-over, outer-on, outer-stop}
+use Rattle.runs.proofs.InnerLoop.{inner-end, inner-by, outer-end, outer-by, run-is, propagate-is}
 use Rattle.runs.proofs.TaskLists.{tab-length, tab-at}
 
 -- the starts when the inner loop ends, and when a post empties a range
@@ -39,31 +30,13 @@ startsOf (stop st) = st .starts
 module _ (o : ℕ) (J : Tasks natural) (estOrder lctOrder : List ℕ) (P : List ℕ → Type 0) (raises : (l : List ℕ) (i b : ℕ) → J .earliest i < b → b ≤ J .latest i → P l → P (set l i b)) where
   inner-keeps : (f t : ℕ) (st : State) → P (st .starts) → P (startsOf (inner o J estOrder lctOrder f t st))
   inner-keeps zero t st h = subst (λ (u : Turn). P (startsOf u)) (sym (inner-end o J estOrder lctOrder 0 t st)) h
-  inner-keeps (suc f) t st h = by (inner-keeps f t) (bool (exceeds (ect-bar J estOrder (st .leaves)) (lct o J estOrder lctOrder t)))
-    where
-      Keeps : Turn → Type 0
-      Keeps u = P (startsOf u)
-
-      IH : Type 0
-      IH = (st′ : State) → P (st′ .starts) → P (startsOf (inner o J estOrder lctOrder f t st′))
-
-      took : IH → (x : ℕ) → exceeds (ect-bar J estOrder (st .leaves)) (lct o J estOrder lctOrder t) ≡ true → responsible J estOrder (st .leaves) ≡ some x
-          → Keeps (inner o J estOrder lctOrder (suc f) t st)
-      took ih x z w = let i : ℕ = getD estOrder x 0 in
-          elim (past-or-not (ect J estOrder (st .leaves)) (J .earliest i)) [
-            | inl y ↦ subst Keeps (sym (inner-pass o J estOrder lctOrder f t st x z w y)) (ih (dropped st x) h)
-            | inr (b, is, y) ↦ elim (bool (ltb (J .latest i) b)) [
-              | inl a ↦ subst Keeps (sym (inner-stop o J estOrder lctOrder f t st x z w b is y a)) h
-              | inr a ↦ subst Keeps (sym (inner-raise o J estOrder lctOrder f t st x z w b is y a))
-                  (ih (dropped (raised (posted o J estOrder lctOrder st i b t) i b) x) (raises (st .starts) i b (ltb-true (J .earliest i) b y) (ltb-false (J .latest i) b a) h))
-            ]
-          ]
-
-      by : IH → (exceeds (ect-bar J estOrder (st .leaves)) (lct o J estOrder lctOrder t) ≡ true) ⊎ (exceeds (ect-bar J estOrder (st .leaves)) (lct o J estOrder lctOrder t) ≡ false)
-          → Keeps (inner o J estOrder lctOrder (suc f) t st)
-      by ih (inr z) = subst Keeps (sym (inner-off o J estOrder lctOrder f t st z)) h
-      by ih (inl z) = elim (opt (responsible J estOrder (st .leaves)))
-          [ inl w ↦ subst Keeps (sym (inner-none o J estOrder lctOrder f t st z w)) h | inr w ↦ took ih (w .0) z (w .1) ]
+  inner-keeps (suc f) t st h = inner-by o J estOrder lctOrder f t st (λ u. P (startsOf u)) (record {
+    off = λ z. h;
+    absent = λ z w. h;
+    passes = λ x z w y. inner-keeps f t _ h;
+    empties = λ x b z w is up high. h;
+    raises = λ x b z w is up fits. inner-keeps f t _ (raises (st .starts) (getD estOrder x 0) b up fits h);
+  })
 
   -- a trace whose starts are those of a list of moments
   abbrev Left : Trace → Type 0
@@ -71,21 +44,14 @@ module _ (o : ℕ) (J : Tasks natural) (estOrder lctOrder : List ℕ) (P : List 
 
   outer-keeps : (f t : ℕ) (st : State) → P (st .starts) → Left (outer o J estOrder lctOrder f t st)
   outer-keeps zero t st h = subst Left (sym (outer-end o J estOrder lctOrder 0 t st)) (st .starts, refl, h)
-  outer-keeps (suc f) t st h = by (outer-keeps f (suc t)) (bool (exceeds (ect J estOrder (st .leaves)) (lct o J estOrder lctOrder t)))
+  outer-keeps (suc f) t st h = outer-by o J estOrder lctOrder f t st Left (record {
+    over = λ z. (st .starts, refl, h);
+    further = λ st′ z e. outer-keeps f (suc t) st′ (turned (on st′) e);
+    empties = λ st′ z e. (st′ .starts, refl, turned (stop st′) e);
+  })
     where
-      IH : Type 0
-      IH = (st′ : State) → P (st′ .starts) → Left (outer o J estOrder lctOrder f (suc t) st′)
-
       turned : (u : Turn) → inner o J estOrder lctOrder (J .count) (suc t) (grayed st (index estOrder (getD lctOrder t 0))) ≡ u → P (startsOf u)
-      turned u e = subst (λ (u : Turn). P (startsOf u)) e (inner-keeps (J .count) (suc t) (grayed st (index estOrder (getD lctOrder t 0))) h)
-
-      by : IH → (exceeds (ect J estOrder (st .leaves)) (lct o J estOrder lctOrder t) ≡ true) ⊎ (exceeds (ect J estOrder (st .leaves)) (lct o J estOrder lctOrder t) ≡ false)
-          → Left (outer o J estOrder lctOrder (suc f) t st)
-      by ih (inl z) = subst Left (sym (outer-over o J estOrder lctOrder f t st z)) (st .starts, refl, h)
-      by ih (inr z) = elim (turn (inner o J estOrder lctOrder (J .count) (suc t) (grayed st (index estOrder (getD lctOrder t 0))))) [
-        | inl w ↦ subst Left (sym (outer-on o J estOrder lctOrder f t st (w .0) z (w .1))) (ih (w .0) (turned (on (w .0)) (w .1)))
-        | inr w ↦ subst Left (sym (outer-stop o J estOrder lctOrder f t st (w .0) z (w .1))) (w .0 .starts, refl, turned (stop (w .0)) (w .1))
-      ]
+      turned u e = subst (λ (u : Turn). P (startsOf u)) e (inner-keeps (J .count) (suc t) _ h)
 
   run-keeps : P (tabulate (J .earliest) 0 (J .count)) → Left (run o J estOrder lctOrder)
   run-keeps h = subst Left (sym (run-is o J estOrder lctOrder)) (outer-keeps (J .count - 1) 0 _ h)

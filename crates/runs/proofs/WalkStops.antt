@@ -22,7 +22,7 @@ use Rattle.trees.specs.Leaves.{Leaf, whiteAt, taskAt, ect, ect-bar, sum, theta}
 use Rattle.trees.specs.Searches.{thetaOf}
 use Rattle.trees.proofs.RootAnswers as tree
 use Rattle.trees.proofs.WhiteTasks.{theta-none, theta-white, theta-skip, theta-is}
-use Rattle.runs.specs.Runs.{propagation}
+use Rattle.runs.specs.Runs.{propagation, conflict}
 use Rattle.runs.proofs.ReasonWalks as walks
 
 -- the white tasks of two stretches of leaves, one after the other
@@ -119,29 +119,23 @@ module _ (o : ℕ) (J : Tasks natural) (ok : Proper J) (estOrder lctOrder : List
         ))
 
     -- the overload's walk stops
-    pub record OverloadStops : Type 0 where
-      pub at : ℕ
-      pub inside : at < n
-      pub white : Θ (T at) ≡ true
-      pub passes : c < ea at + dr at
-
-    pub overload-stops : exceeds (ect J estOrder ls) c ≡ true → OverloadStops
+    pub overload-stops : exceeds (ect J estOrder ls) c ≡ true → walks.Stopped o J ok estOrder lctOrder rk ls Θ Λ s c (conflict o J c (sum J estOrder ls) (theta J estOrder ls))
     overload-stops y =
         let (b, is, over) = exceeds-yes (ect J estOrder ls) c y in
         let (j, jm, h) = attaining J T rank rk Θ b (ect-is b is) in
-        record { at = rank j; inside = rk .placed j (jm .small); white = at-rank j (jm .small) (jm .mem); passes = omega (arith, h, over, ap (J .earliest) (rk .there j (jm .small))) }
+        walks.conflict-stops o J ok estOrder lctOrder rk ls Θ Λ s c (rank j) (rk .placed j (jm .small)) (at-rank j (jm .small) (jm .mem))
+        (omega (arith, h, over, ap (J .earliest) (rk .there j (jm .small))))
 
     -- a post's two walks stop, the first no later than the second
     module _ (x : ℕ) (f : tree.Found J ok estOrder rk ls Θ Λ s x) (over : exceeds (ect-bar J estOrder ls) c ≡ true) (b : ℕ) (is : ect J estOrder ls ≡ some b) (up : J .earliest (T x) < b) where
       abbrev i : ℕ
       i = T x
 
-      pub first-walk : walks.First o J ok estOrder lctOrder rk ls Θ Λ s i c b 0 (propagation o J i b c (sum J estOrder ls) (theta J estOrder ls))
+      pub first-walk : walks.First o J ok estOrder lctOrder rk ls Θ Λ s i c b (propagation o J i b c (sum J estOrder ls) (theta J estOrder ls))
       first-walk =
           let (m, mm, h) = passing J T rank rk Θ i c b (f .value) (f .attains) (f .has) (f .gray .small) (tree.past-found J ok estOrder rk ls Θ Λ s f c over) (ect-is b is) up in
-          subst (λ (l : List ℕ). walks.First o J ok estOrder lctOrder rk ls Θ Λ s i c b 0 (propagation o J i b c (sum J estOrder ls) l)) (sym (theta-is J estOrder ls))
-          (walks.first-stops o J ok estOrder lctOrder rk ls Θ Λ s i c b n 0 (sum J estOrder ls) (rank m) (omega arith) (walks.sum-is o J ok estOrder lctOrder rk ls Θ Λ s) (omega arith)
-          (rk .placed m (mm .small)) (at-rank m (mm .small) (mm .mem)) (omega (arith, h, ap (J .earliest) (rk .there m (mm .small)))))
+          walks.first-stops o J ok estOrder lctOrder rk ls Θ Λ s i c b (rank m) (rk .placed m (mm .small)) (at-rank m (mm .small) (mm .mem))
+          (omega (arith, h, ap (J .earliest) (rk .there m (mm .small))))
 
       pub record Attaining : Type 0 where
         pub at : ℕ

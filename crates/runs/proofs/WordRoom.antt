@@ -1,32 +1,24 @@
 -- What a run writes fits the slices that it is lent: it makes fewer posts than there are tasks, so 4n words hold its posts, and 6n² the atoms of its reasons.
 use mathlib.Core.Path.{_≡_, refl, sym, subst}
-use mathlib.Core.Bool.{Bool, true, false}
-use mathlib.Core.Logic.{_⊎_, inl, inr}
 use mathlib.Core.List.{List, [], _∷_, _++_}
-use mathlib.Core.Option.{some, none}
+use mathlib.Core.Option.{some}
 use Prim.Native.Nat.{ℕ, zero, suc, _+_, _-_, _*_, _≤_, _<_}
 use native.Mathlib.Nat.{mul-le-mul-right, mul-left-comm}
 use native.Mathlib.Omega.{arith}
-use lib.Dec.{ltb}
 use lib.ListN.{length, getD, length-append}
-use borrow.Author.Tests.{ltb-true, ltb-false}
 use Rattle.integers.specs.Orders.{index}
-use Rattle.integers.proofs.Bools.{bool}
 use Rattle.integers.proofs.Lists.{length-snoc}
 use Rattle.scheduling.specs.Scheduling.{natural, Tasks, Proper, Atom}
 use Rattle.scheduling.specs.Words.{atomWords}
-use Rattle.scheduling.proofs.SetSizes.{card-most}
 use Rattle.scheduling.specs.Moments.{ByEarliest, ByCompletion}
 use Rattle.scheduling.proofs.Words.{atoms-length}
-use Rattle.trees.specs.Ects.{exceeds}
-use Rattle.trees.proofs.Ects.{past-or-not}
-use Rattle.trees.specs.Leaves.{ect, ect-bar, responsible}
+use Rattle.trees.specs.Leaves.{responsible}
 use Rattle.trees.proofs.RootAnswers as tree
 use Rattle.runs.specs.Traces.{Post, End, done, overload, emptied, Trace}
-use Rattle.runs.specs.Runs.{State, Turn, on, stop, inner, outer, run, lct, grayed, dropped, raised, posted}
+use Rattle.runs.specs.Runs.{State, Turn, on, stop, inner, outer, run}
 use Rattle.runs.specs.Words.{postWords, reasons, endReason}
 use Rattle.runs.proofs.WrittenSlices.{posts-length}
-use Rattle.runs.proofs.InnerLoop.{opt, turn, inner-end, inner-off, inner-none, inner-pass, inner-stop, inner-raise, run-is, outer-end, outer-over, outer-on, outer-stop}
+use Rattle.runs.proofs.InnerLoop.{inner-end, inner-by, outer-end, outer-by, run-is}
 use Rattle.runs.proofs.AtomRoom as room
 use Rattle.runs.proofs.LevelSteps as steps
 
@@ -58,9 +50,6 @@ module _ (o : ℕ) (J : Tasks natural) (ok : Proper J) (estOrder lctOrder : List
   abbrev T : ℕ → ℕ
   T x = getD estOrder x 0
 
-  abbrev Over : ℕ → State → Bool → Type 0
-  Over t st v = exceeds (ect-bar J estOrder (st .leaves)) (lct o J estOrder lctOrder t) ≡ v
-
   -- a task was found at leaf x
   module _ (t : ℕ) (st : State) (v : Inv t st) (x : ℕ) where
     abbrev Found : Type 0
@@ -77,62 +66,28 @@ module _ (o : ℕ) (J : Tasks natural) (ok : Proper J) (estOrder lctOrder : List
   -- they are of tasks that come before place t
   pub inner-few : (f t : ℕ) (st : State) → t < n → Inv t st → length (postsOf (inner o J estOrder lctOrder f t st)) ≤ t
   inner-few zero t st small v = subst (λ (u : Turn). length (postsOf u) ≤ t) (sym (inner-end o J estOrder lctOrder 0 t st)) (room.posts-few o J ok estOrder lctOrder rk ord t st v)
-  inner-few (suc f) t st small v = by (λ st′. inner-few f t st′ small) (bool (exceeds (ect-bar J estOrder (st .leaves)) (lct o J estOrder lctOrder t))) (opt (responsible J estOrder (st .leaves)))
-    where
-      Few : Turn → Type 0
-      Few u = length (postsOf u) ≤ t
-
-      IH : Type 0
-      IH = (st′ : State) → Inv t st′ → Few (inner o J estOrder lctOrder f t st′)
-
-      took : IH → (x : ℕ) → Over t st true → responsible J estOrder (st .leaves) ≡ some x → Found t st v x → Few (inner o J estOrder lctOrder (suc f) t st)
-      took ih x z w g = elim (past-or-not (ect J estOrder (st .leaves)) (J .earliest (T x))) [
-        | inl y ↦ subst Few (sym (inner-pass o J estOrder lctOrder f t st x z w y)) (ih (dropped st x) (steps.pass-ok o J ok estOrder lctOrder rk ord Short ShortEnd short t st small v x g z y))
-        | inr (b, is, y) ↦ elim (bool (ltb (J .latest (T x)) b)) [
-          | inl a ↦ subst Few (sym (inner-stop o J estOrder lctOrder f t st x z w b is y a)) (one-more t st v x g _)
-          | inr a ↦ subst Few (sym (inner-raise o J estOrder lctOrder f t st x z w b is y a))
-              (ih (dropped (raised (posted o J estOrder lctOrder st (T x) b t) (T x) b) x)
-              (steps.raise-ok o J ok estOrder lctOrder rk ord Short ShortEnd short t st small v x g z b is (ltb-true _ _ y) (ltb-false _ _ a)))
-        ]
-      ]
-
-      so-far : Few (on st)
-      so-far = room.posts-few o J ok estOrder lctOrder rk ord t st v
-
-      by : IH → (Over t st true) ⊎ (Over t st false) → (responsible J estOrder (st .leaves) ≡ none) ⊎ ((x : ℕ) × (responsible J estOrder (st .leaves) ≡ some x))
-          → Few (inner o J estOrder lctOrder (suc f) t st)
-      by ih (inr z) w = subst Few (sym (inner-off o J estOrder lctOrder f t st z)) so-far
-      by ih (inl z) (inl w) = subst Few (sym (inner-none o J estOrder lctOrder f t st z w)) so-far
-      by ih (inl z) (inr w) = took ih (w .0) z (w .1) (found t st v (w .0) (w .1))
+  inner-few (suc f) t st small v = inner-by o J estOrder lctOrder f t st (λ u. length (postsOf u) ≤ t) (record {
+    off = λ z. room.posts-few o J ok estOrder lctOrder rk ord t st v;
+    absent = λ z w. room.posts-few o J ok estOrder lctOrder rk ord t st v;
+    passes = λ x z w y. inner-few f t _ small (steps.pass-ok o J ok estOrder lctOrder rk ord Short ShortEnd short t st small v x (found t st v x w) z y);
+    empties = λ x b z w is up high. one-more t st v x (found t st v x w) _;
+    raises = λ x b z w is up fits. inner-few f t _ small (steps.raise-ok o J ok estOrder lctOrder rk ord Short ShortEnd short t st small v x (found t st v x w) z b is up fits);
+  })
 
   pub outer-few : (f t : ℕ) (st : State) → suc (t + f) ≡ n → Closed t st → suc (length (outer o J estOrder lctOrder f t st .posts)) ≤ n
   outer-few zero t st end c = subst (λ (r : Trace). suc (length (r .posts)) ≤ n) (sym (outer-end o J estOrder lctOrder 0 t st))
       (omega (arith, room.posts-few o J ok estOrder lctOrder rk ord t st (c .inv)))
-  outer-few (suc f) t st end c = by (λ st′. outer-few f (suc t) st′ (omega arith)) (bool (exceeds (ect J estOrder (st .leaves)) (lct o J estOrder lctOrder t)))
-    where
-      Few : Trace → Type 0
-      Few r = suc (length (r .posts)) ≤ n
-
-      IH : Type 0
-      IH = (st′ : State) → Closed (suc t) st′ → Few (outer o J estOrder lctOrder f (suc t) st′)
-
-      next : State
-      next = grayed st (index estOrder (getD lctOrder t 0))
-
-      go : IH → exceeds (ect J estOrder (st .leaves)) (lct o J estOrder lctOrder t) ≡ false → Inv (suc t) next → Few (outer o J estOrder lctOrder (suc f) t st)
-      go ih z v = elim (turn (inner o J estOrder lctOrder n (suc t) next)) [
-        | inl w ↦ subst Few (sym (outer-on o J estOrder lctOrder f t st (w .0) z (w .1)))
-            (ih (w .0) (subst (steps.TurnOk o J ok estOrder lctOrder rk ord Short ShortEnd short (suc t)) (w .1)
-            (steps.inner-ok o J ok estOrder lctOrder rk ord Short ShortEnd short n (suc t) next (omega arith) v (card-most J (steps.lam o J ok estOrder lctOrder rk ord Short ShortEnd short next)))))
-        | inr w ↦ subst Few (sym (outer-stop o J estOrder lctOrder f t st (w .0) z (w .1)))
-            (omega (arith, subst (λ (u : Turn). length (postsOf u) ≤ suc t) (w .1) (inner-few n (suc t) next (omega arith) v)))
-      ]
-
-      by : IH → (exceeds (ect J estOrder (st .leaves)) (lct o J estOrder lctOrder t) ≡ true) ⊎ (exceeds (ect J estOrder (st .leaves)) (lct o J estOrder lctOrder t) ≡ false)
-          → Few (outer o J estOrder lctOrder (suc f) t st)
-      by ih (inl z) = subst Few (sym (outer-over o J estOrder lctOrder f t st z)) (omega (arith, room.posts-few o J ok estOrder lctOrder rk ord t st (c .inv)))
-      by ih (inr z) = go ih z (steps.gray-ok o J ok estOrder lctOrder rk ord Short ShortEnd short t st (omega arith) c
-          (steps.theta-within o J ok estOrder lctOrder rk ord Short ShortEnd short t st (omega arith) (c .inv) z))
+  outer-few (suc f) t st end c = outer-by o J estOrder lctOrder f t st (λ r. suc (length (r .posts)) ≤ n) (record {
+    over = λ z. omega (arith, room.posts-few o J ok estOrder lctOrder rk ord t st (c .inv));
+    further = λ st′ z e. outer-few f (suc t) st′ (omega arith) (subst (steps.TurnOk o J ok estOrder lctOrder rk ord Short ShortEnd short (suc t)) e
+        (steps.level-ok o J ok estOrder lctOrder rk ord Short ShortEnd short t st (omega arith) c z));
+    empties = λ st′ z e. omega (
+      arith,
+      subst (λ (u : Turn). length (postsOf u) ≤ suc t) e (inner-few n (suc t) _ (omega arith)
+          (steps.gray-ok o J ok estOrder lctOrder rk ord Short ShortEnd short t st (omega arith) c
+          (steps.theta-within o J ok estOrder lctOrder rk ord Short ShortEnd short t st (omega arith) (c .inv) z))),
+    );
+  })
 
   module _ (one : 1 ≤ n) where
     abbrev tr : Trace

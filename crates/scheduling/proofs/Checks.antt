@@ -31,9 +31,6 @@ module _ {C : Clock} (B : Tasks C) (X : TaskSet) (e l : ℕ → C .Moment) (e-sa
   pub only-overloads : (Ω : TaskSet) → Subset B Ω X → Overloads B Ω → Overloads Only Ω
   only-overloads = overloads→ B Only X agree
 
-between : (a b c : ℤ) → a ≤ℤ b → b ≤ℤ c → a ≤ℤ c
-between a b c h k = omega ints
-
 -- Whole-number starts at which no two tasks overlap.
 module _ (B : Tasks whole) (lasts : (k : ℕ) → k < B .count → 1 ≤ B .duration k) (s : ℕ → ℤ)
     (apart : NoOverlap B s) where
@@ -64,7 +61,7 @@ module _ (B : Tasks whole) (lasts : (k : ℕ) → k < B .count → 1 ≤ B .dura
     to′ k q = elim (bool (X k)) [ inl y ↦ rw y (to k (record { small = q; mem = y })) | inr y ↦ rw y (≤ℤ-refl (s k)) ]
 
     ok : Proper K
-    ok = record { ranges = λ k q. between (K .earliest k) (s k) (K .latest k) (from′ k q) (to′ k q); lasts = lasts }
+    ok = record { ranges = λ k q. omega (ints, from′ k q, to′ k q); lasts = lasts }
 
     o : ℕ
     o = (deep (K .earliest) (B .count)) .0

@@ -98,17 +98,6 @@ module _ (J : Tasks natural) (ok : Proper J) (ect : TaskSet → ℕ) (ect-is : (
       back : (k : ℕ) → In J Λ′ k → In J Λ k
       back k h = record { small = h .small; mem = z k (h .small) ∙ h .mem }
 
-  pub start : Facts 0 (λ _. false) (J .earliest)
-  start = record {
-    fits-before = λ s q. absurd (omega arith);
-    gray = λ k h. clash (h .mem) refl;
-    not-passed = λ k h. clash (h .mem) refl;
-    left = λ k h q. absurd (omega arith);
-    same-in = λ k h. refl;
-    same-on = λ k q r. refl;
-    inside = ok .ranges;
-  }
-
   pub next : (t : ℕ) (Λ : TaskSet) (now : ℕ → ℕ) → t < J .count → Facts t Λ now → ((k : ℕ) → In J Λ k → ect (Θ t with k) ≤ End t) → ect (Θ t) ≤ End t → Facts (suc t) (Λ with L t) now
   next t Λ now small f none-passes level-fits =
       record {
@@ -185,6 +174,10 @@ module _ (J : Tasks natural) (ok : Proper J) (ect : TaskSet → ℕ) (ect-is : (
   Θ-some : (t : ℕ) → t < J .count → NonEmpty J (Θ t)
   Θ-some t q = (L t, in-Θ t (L t) (ord .task t q) (omega (arith, ord .back t q)))
 
+  -- every task of a level ends by its end
+  ends-by : (t k : ℕ) → In J (Θ t) k → completion J k ≤ End t
+  ends-by t k h = subst (λ (j : ℕ). completion J j ≤ End t) (ord .there k (h .small)) (ord .sorted t (place k) (leb-true t (place k) (h .mem)) (ord .placed k (h .small)))
+
   -- the last level is one task, which never overloads
   pub last-fits : (t : ℕ) → suc t ≡ J .count → ect (Θ t) ≤ End t
   last-fits t z = go (ect-is (Θ t) (Θ-some t (omega arith)) .holds)
@@ -223,16 +216,12 @@ module _ (J : Tasks natural) (ok : Proper J) (ect : TaskSet → ℕ) (ect-is : (
         set = Θ t;
         outside = record { small = q; mem = lt-leb t (place i) late };
         end = End t;
-        lct = record { holds = (L t, in-Θ t (L t) (ord .task t small) (omega (arith, ord .back t small)), refl); bounds = bounds };
+        lct = record { holds = (L t, in-Θ t (L t) (ord .task t small) (omega (arith, ord .back t small)), refl); bounds = λ w h. omega (arith, ends-by t (h .0) (h .1), h .2) };
         joint = ect (Θ t with i);
         ect-with = ect-is (Θ t with i) (i, record { small = q; mem = with-new (Θ t) i });
         passes = over;
         ect = ect-is (Θ t) (Θ-some t small);
       }
-    where
-      bounds : (w : ℕ) → (k : ℕ) × In J (Θ t) k × (completion J k ≡ w) → w ≤ End t
-      bounds w h = let (k, km, e) = h in omega
-          (arith, subst (λ (j : ℕ). completion J j ≤ End t) (ord .there k (km .small)) (ord .sorted t (place k) (leb-true t (place k) (km .mem)) (ord .placed k (km .small))))
 
   -- At the end of a level all of whose Λ is quiet:
   module _ (t : ℕ) (Λ : TaskSet) (now : ℕ → ℕ) (end : suc t ≡ J .count) (f : Facts t Λ now) (none-passes : (k : ℕ) → In J Λ k → ect (Θ t with k) ≤ End t) where
@@ -353,9 +342,6 @@ module _ (J : Tasks natural) (ok : Proper J) (ect : TaskSet → ℕ) (ect-is : (
   pub overloaded : (t : ℕ) → t < J .count → End t < ect (Θ t) → (Ω : TaskSet) × Overloads J Ω
   overloaded t small over = go (ect-is (Θ t) (Θ-some t small) .holds)
     where
-      by : (k : ℕ) → In J (Θ t) k → completion J k ≤ End t
-      by k km = subst (λ (j : ℕ). completion J j ≤ End t) (ord .there k (km .small)) (ord .sorted t (place k) (leb-true t (place k) (km .mem)) (ord .placed k (km .small)))
-
       go : EstPlusP J (Θ t) (ect (Θ t)) → (Ω : TaskSet) × Overloads J Ω
       go f = elim (top (f .part) (completion J) (J .count)) [
         | inl none ↦ clash (f .est .holds .1 .mem) (none (f .est .holds .0) (f .est .holds .1 .small))
@@ -366,7 +352,7 @@ module _ (J : Tasks natural) (ok : Proper J) (ect : TaskSet → ℕ) (ect-is : (
             end = completion J (m .at);
             est = f .est;
             lct = record { holds = (m .at, record { small = m .small; mem = m .mem }, refl); bounds = λ w h. omega (arith, m .top (h .0) (h .1 .small) (h .1 .mem), h .2) };
-            over = omega (arith, f .sum, by (m .at) (record { small = m .small; mem = f .within (m .at) (record { small = m .small; mem = m .mem }) }));
+            over = omega (arith, f .sum, ends-by t (m .at) (record { small = m .small; mem = f .within (m .at) (record { small = m .small; mem = m .mem }) }));
           },
         )
       ]

@@ -200,12 +200,7 @@ module _ (J : Tasks whole) where
 
   conflict→ : Conflict (mirror J) → MirroredConflict J
   conflict→ (inl (Ω, v)) = inl (Ω, overload→ J Ω v)
-  conflict→ (inr (i, b, r, q)) = inr (
-    i,
-    mirrorStart (J .duration i) b,
-    edge→ J i b r,
-    subst (λ (z : ℤ). mirrorStart (J .duration i) b <ℤ z) (start-twice (J .duration i) (J .earliest i)) (start-falls< (J .duration i) (mirror J .latest i) b q),
-  )
+  conflict→ (inr (i, b, r, q)) = inr (i, mirrorStart (J .duration i) b, edge→ J i b r, omega (ints, at-mirror (J .duration i) b, at-mirror (J .duration i) (J .earliest i), q))
 
   conflict← : MirroredConflict J → Conflict (mirror J)
   conflict← (inl (Ω, v)) = inl (Ω, overloads-mirrored Ω .1 v)
@@ -231,17 +226,12 @@ module _ (J : Tasks whole) where
     pub done-mirrored : MirroredDone J now′ m task bound′
     done-mirrored = record {
       no-overload = λ Ω v. r .no-overload Ω (overloads-mirrored Ω .1 v);
-      no-passing = λ i b e. subst (λ (z : ℤ). J .earliest i ≤ℤ z) (start-twice (d J i) b)
-          (subst (λ (z : ℤ). z ≤ℤ mirrorStart (d J i) (mirrorStart (d J i) b)) (start-twice (d J i) (J .earliest i))
-          (start-falls (d J i) (mirrorStart (d J i) b) (mirror J .latest i) (r .no-passing i (mirrorStart (d J i) b) (edge-of J i b e))));
+      no-passing = λ i b e. omega (ints, at-mirror (d J i) b, at-mirror (d J i) (J .earliest i), r .no-passing i (mirrorStart (d J i) b) (edge-of J i b e));
       starts = λ i q. subst (Least whole (λ v. (J .latest i ≡ v) ⊎ MirroredBound J i v)) (sym (at i q)) (least i (r .starts i q));
       small = r .small;
-      lowers = λ j q. subst (λ (z : ℤ). z <ℤ J .latest (task j)) (sym (by j q))
-          (subst (λ (z : ℤ). mirrorStart (d J (task j)) (bound j) <ℤ z) (start-twice (d J (task j)) (J .latest (task j)))
-          (start-falls< (d J (task j)) (mirror J .earliest (task j)) (bound j) (r .raises j q)));
+      lowers = λ j q. omega (ints, by j q, at-mirror (d J (task j)) (bound j), at-mirror (d J (task j)) (J .latest (task j)), r .raises j q);
       at-smallest = λ j q. subst (Least whole (MirroredBound J (task j))) (sym (by j q)) (smallest (task j) (bound j) (r .at-largest j q));
-      every = λ k q h. r .every k q (subst (λ (z : ℤ). mirror J .earliest k <ℤ z) (start-twice (d J k) (now k))
-          (start-falls< (d J k) (mirrorStart (d J k) (now k)) (J .latest k) (subst (λ (z : ℤ). z <ℤ J .latest k) (at k q) h)));
+      every = λ k q h. r .every k q (omega (ints, h, at k q, at-mirror (d J k) (now k), at-mirror (d J k) (J .latest k)));
       once = r .once;
     }
 

@@ -3,7 +3,6 @@ use mathlib.Core.Path.{_≡_, refl, sym, ap, ap₂, subst, _∙_}
 use mathlib.Core.List.{List, [], _∷_, _++_, map}
 use Prim.Native.Nat.{ℕ, zero, suc, _+_, _≤_, _<_}
 use native.Mathlib.Omega.{arith}
-use native.Mathlib.Decide.{ℕ-discrete}
 use lib.IntN.{ℤ, pos}
 use lib.ListN.{length, getD, take, length-map, length-append, length-replicate, List·getD-map}
 use lib.Seq.{length-take-le, getD-take, ext-getD}
@@ -39,6 +38,10 @@ tasks : {r : DisjunctivePropagator} {ds : List ℕ} → Holds r ds → durations
 tasks {r} {ds} h = ap₂ (λ (n : ℕ) (l : List ℕ). take n l) (h .count) (h .array) ∙ placed-front ds
 
 -- a step that is made and one that is refused
+either : (P : DisjunctivePropagator → Type 0) (k : ℕ) {r r′ : DisjunctivePropagator} → (k ≡ 0 → P r′) → ((k ≡ 0 → ⊥) → P r) → P (leaves k r′ r)
+either P zero new old = new refl
+either P (suc k) new old = old (λ e. omega arith)
+
 made-or-not : (k : ℕ) {r r′ : DisjunctivePropagator} {ds ds′ : List ℕ} → (k ≡ 0 → Holds r′ ds′) → Holds r ds → Holds (leaves k r′ r) (leaves k ds′ ds)
 made-or-not zero new old = new refl
 made-or-not (suc k) new old = old
@@ -105,49 +108,28 @@ pub total-true : (h : History) → (recordAfter h .total ≡ sumOf (durationsAft
 total-true h = (holds h .sum, tasks (holds h))
 
 -- From an accepted creation on, every record is lawful, so that 20 refuses no change.
-kept : (k : ℕ) {r r′ : DisjunctivePropagator} → (k ≡ 0 → Lawful r′) → Lawful r → Lawful (leaves k r′ r)
-kept zero new old = new refl
-kept (suc k) new old = old
-
 pub lawful-after : (h : History) → refusal (creationTests (startOf h)) ≡ 0 → Lawful (recordAfter h)
 unfolding recordAfter
 lawful-after (creation ds) z = subst (λ (k : ℕ). Lawful (createdAt k ds .«record»)) (sym z) (created-lawful ds z)
 lawful-after (adding h d) z =
     let r = recordAfter h in
-    kept (addNumber r d) (λ e. (let a = addable r d e in added-lawful r (a .lawful) (long (holds h)) (durationOf d) (a .room) (lasting d (a .lasts)) (a .fits))) (lawful-after h z)
+    either Lawful (addNumber r d) (λ e. (let a = addable r d e in added-lawful r (a .lawful) (long (holds h)) (durationOf d) (a .room) (lasting d (a .lasts)) (a .fits))) (λ _. lawful-after h z)
 lawful-after (removing h t) z =
     let r = recordAfter h in
-    kept (removeNumber r t) (λ e. (let a = removable r t e in removed-lawful r (a .lawful) (long (holds h)) t (a .there) (a .many))) (lawful-after h z)
+    either Lawful (removeNumber r t) (λ e. (let a = removable r t e in removed-lawful r (a .lawful) (long (holds h)) t (a .there) (a .many))) (λ _. lawful-after h z)
 
 -- Each call leaves what its step in a history does.
-leaves-new : (k : ℕ) (r r′ : DisjunctivePropagator) → k ≡ 0 → r′ ≡ leaves k r′ r
-leaves-new k r r′ e = sym (ap (λ (j : ℕ). leaves j r′ r) e)
-
-leaves-old : (k : ℕ) (r r′ : DisjunctivePropagator) → (k ≡ 0 → ⊥) → r ≡ leaves k r′ r
-leaves-old zero r r′ h = absurd (h refl)
-leaves-old (suc k) r r′ h = refl
-
 pub create-step : (ds : List ℤ) (c : Created) → c ≡ created ds → c .«record» ≡ recordAfter (creation ds)
 unfolding recordAfter
 create-step ds c e = ap (λ (x : Created). x .«record») e
 
 pub add-step : (h : History) (d : ℤ) (c : Changed) → TaskAdded (recordAfter h) d c → c .«record» ≡ recordAfter (adding h d)
 unfolding recordAfter
-add-step h d c a =
-    let r = recordAfter h in
-    elim (ℕ-discrete (addNumber r d) 0) [
-      | yes e ↦ a .made e .stands ∙ leaves-new (addNumber r d) r (added r (durationOf d)) e
-      | no e ↦ a .refused e .stands ∙ leaves-old (addNumber r d) r (added r (durationOf d)) e
-    ]
+add-step h d c a = either (λ x. c .«record» ≡ x) (addNumber (recordAfter h) d) (λ e. a .made e .stands) (λ e. a .refused e .stands)
 
 pub remove-step : (h : History) (t : ℕ) (c : Changed) → TaskRemoved (recordAfter h) t c → c .«record» ≡ recordAfter (removing h t)
 unfolding recordAfter
-remove-step h t c a =
-    let r = recordAfter h in
-    elim (ℕ-discrete (removeNumber r t) 0) [
-      | yes e ↦ a .made e .stands ∙ leaves-new (removeNumber r t) r (removed r t) e
-      | no e ↦ a .refused e .stands ∙ leaves-old (removeNumber r t) r (removed r t) e
-    ]
+remove-step h t c a = either (λ x. c .«record» ≡ x) (removeNumber (recordAfter h) t) (λ e. a .made e .stands) (λ e. a .refused e .stands)
 
 given-back : (l : List ℕ) → map durationOf (map pos l) ≡ l
 given-back [] = refl

@@ -2,6 +2,5 @@ pub mod PlacedLists
 pub mod LeftOut
 pub mod Sums
 pub mod ChangedRecords
-pub mod ChangeNumbers
 pub mod Creation
 pub mod History

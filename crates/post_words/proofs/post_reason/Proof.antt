@@ -18,12 +18,6 @@ returns c =
     let args = c .before .before .before .args in
     sym (reason-none (args .posts .now) (args .atoms .now) (args .post-count) (args .index) (λ z. c .before .if1 .taken (c .before .before .post-number .ensures ∙ z)))
 
-first-atom-requires : tie.Need-first-atom-requires
-first-atom-requires c κs = (read c .inside, read c .from)
-
-atom-count-requires : tie.Need-atom-count-requires
-atom-count-requires c κs = (read (c .before) .inside, read (c .before) .many)
-
 stretch-requires : tie.Need-stretch-requires
 stretch-requires c κs = omega (arith, c .before .first-atom .ensures, c .atom-count .ensures, read (c .before .before) .stretch)
 
@@ -39,4 +33,5 @@ pub post-reason-spec : {M : Type 1} → statement M
 post-reason-spec =
     tie.close
     (tie.spec
-    (λ c κs. search needs) (λ c. search needs) returns first-atom-requires (λ c. search needs) atom-count-requires (λ c. search needs) stretch-requires returns-2)
+    (λ c κs. search needs) (λ c. search needs) returns (λ c κs. (read c .inside, read c .from)) (λ c. search needs)
+    (λ c κs. (read (c .before) .inside, read (c .before) .many)) (λ c. search needs) stretch-requires returns-2)

@@ -8,12 +8,6 @@ use borrow.Author.Needs.{needs}
 use Rattle.post_words.proofs.write_atom.Statement.{statement}
 use Rattle.post_words.proofs.write_atom.Tie as tie
 
-slice-set-from-kind : tie.Need-slice-set-from-kind
-slice-set-from-kind c = simp length-set (omega arith)
-
-slice-set-from-atoms-2 : tie.Need-slice-set-from-atoms-2
-slice-set-from-atoms-2 c = simp length-set (omega arith)
-
 returns : tie.Need-returns
 returns c = rw (
   back-of w32 (c .before .word-of .result) (c .before .word-of .ok),
@@ -30,5 +24,5 @@ write-atom-spec =
     tie.close
     (tie.spec
     (λ c. search needs) (λ c κs. search needs) (λ c. search needs) (λ c. search needs) (λ c. search needs)
-    (λ c. search needs) slice-set-from-kind (λ c κs. search needs) (λ c. search needs) (λ c. search needs)
-    slice-set-from-atoms-2 (λ c. search needs) returns)
+    (λ c. search needs) (λ c. simp length-set (omega arith)) (λ c κs. search needs) (λ c. search needs)
+    (λ c. search needs) (λ c. simp length-set (omega arith)) (λ c. search needs) returns)

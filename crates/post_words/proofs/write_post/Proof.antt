@@ -8,15 +8,6 @@ use borrow.Author.Needs.{needs}
 use Rattle.post_words.proofs.write_post.Statement.{statement}
 use Rattle.post_words.proofs.write_post.Tie as tie
 
-slice-set-from-posts-2 : tie.Need-slice-set-from-posts-2
-slice-set-from-posts-2 c = simp length-set (omega arith)
-
-slice-set-from-posts-3 : tie.Need-slice-set-from-posts-3
-slice-set-from-posts-3 c = simp length-set (omega arith)
-
-slice-set-from-posts-4 : tie.Need-slice-set-from-posts-4
-slice-set-from-posts-4 c = simp length-set (omega arith)
-
 returns : tie.Need-returns
 returns c = rw (
   back-of w32 (c .before .before .before .word-of .result) (c .before .before .before .word-of .ok),
@@ -37,6 +28,6 @@ write-post-spec =
     tie.close
     (tie.spec
     (λ c. search needs) (λ c κs. search needs) (λ c. search needs) (λ c. search needs) (λ c κs. search needs)
-    (λ c. search needs) (λ c. search needs) slice-set-from-posts-2 (λ c κs. search needs) (λ c. search needs)
-    (λ c. search needs) slice-set-from-posts-3 (λ c κs. search needs) (λ c. search needs) (λ c. search needs)
-    slice-set-from-posts-4 (λ c. search needs) returns)
+    (λ c. search needs) (λ c. search needs) (λ c. simp length-set (omega arith)) (λ c κs. search needs)
+    (λ c. search needs) (λ c. search needs) (λ c. simp length-set (omega arith)) (λ c κs. search needs)
+    (λ c. search needs) (λ c. search needs) (λ c. simp length-set (omega arith)) (λ c. search needs) returns)

@@ -66,12 +66,6 @@ nat-of-requires c κs = omega (ints, back (c .before .before .before .before .fi
 mul-first : tie.Need-mul-first
 mul-first c = record { fits = omega (arith, placed (c .before) 0 (some (c .before))) }
 
-array-read-first : tie.Need-array-read-first
-array-read-first c = placed (c .before) 0 (some (c .before))
-
-sub-last : tie.Need-sub-last
-sub-last c = some (c .before)
-
 mul-last : tie.Need-mul-last
 mul-last c = record { fits = omega (arith, few (c .before) (start (c .before) .args .t1 .count - 1) (omega (arith, some (c .before)))) }
 
@@ -109,5 +103,5 @@ busiest-stretch-spec =
     tie.close
     (tie.spec
     (λ c κs. search needs) returns moments-of-requires nat-of-requires (λ c. search needs) mul-first
-    array-read-first sub-last mul-last element-copy-out-last mul-last-2 array-read-last busiest-requires
-    (λ c κs. search needs) returns-2)
+    (λ c. placed (c .before) 0 (some (c .before))) (λ c. some (c .before)) mul-last element-copy-out-last mul-last-2
+    array-read-last busiest-requires (λ c κs. search needs) returns-2)

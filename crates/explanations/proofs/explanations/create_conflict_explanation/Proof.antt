@@ -46,21 +46,6 @@ of-leaf-requires : tie.Need-of-leaf-requires
 of-leaf-requires c κs = let w = c .before in let s = start w in
     (omega (arith, w .preceding .ensures .small, s .pre .1), overload-known (white s) (tasks s) 0 (s .args .n) (given s) (w .preceding .ensures) .start)
 
-add-delta : tie.Need-add-delta
-add-delta c = omega (arith, numbers c)
-
-add-delta-2 : tie.Need-add-delta-2
-add-delta-2 c = omega (arith, numbers c)
-
-sub-delta : tie.Need-sub-delta
-sub-delta c = omega (arith, numbers c)
-
-sub-low : tie.Need-sub-low
-sub-low c = omega (arith, numbers c)
-
-add-high : tie.Need-add-high
-add-high c = omega (arith, numbers c)
-
 write-within-requires : tie.Need-write-within-requires
 write-within-requires c κs =
     let w = walk (c .before) in
@@ -87,5 +72,6 @@ pub create-conflict-explanation-spec : {M : Type 1} → statement M
 create-conflict-explanation-spec =
     tie.close
     (tie.spec
-    preceding-requires of-leaf-requires add-delta add-delta-2 sub-delta (λ c. search needs) sub-low add-high
-    write-within-requires (λ c. search needs) returns)
+    preceding-requires of-leaf-requires (λ c. omega (arith, numbers c)) (λ c. omega (arith, numbers c))
+    (λ c. omega (arith, numbers c)) (λ c. search needs) (λ c. omega (arith, numbers c))
+    (λ c. omega (arith, numbers c)) write-within-requires (λ c. search needs) returns)

@@ -63,15 +63,6 @@ of-leaf-requires : tie.Need-of-leaf-requires
 of-leaf-requires c κs = let w = c .before in let s = start w in
     (omega (arith, w .preceding .ensures .small, s .pre .1), post-known (white s) (tasks s) 0 (s .args .n) (given s) (w .preceding .ensures) .start)
 
-add-last : tie.Need-add-last
-add-last c = omega (arith, numbers c)
-
-add-last-2 : tie.Need-add-last-2
-add-last-2 c = omega (arith, numbers c)
-
-sub-last : tie.Need-sub-last
-sub-last c = omega (arith, numbers c)
-
 write-bounds-requires : tie.Need-write-bounds-requires
 write-bounds-requires c κs =
     let w = walk (c .before) in
@@ -107,5 +98,5 @@ create-propagation-explanation-spec =
     tie.close
     (tie.spec
     (λ c. search needs) (λ c. search needs) (λ c. search needs) (λ c. search needs) preceding-requires
-    of-leaf-requires (λ c κs. search needs) add-last add-last-2 sub-last write-bounds-requires write-atom-requires
-    add-result (λ c. search needs) returns)
+    of-leaf-requires (λ c κs. search needs) (λ c. omega (arith, numbers c)) (λ c. omega (arith, numbers c))
+    (λ c. omega (arith, numbers c)) write-bounds-requires write-atom-requires add-result (λ c. search needs) returns)

@@ -31,9 +31,6 @@ returns : tie.Need-returns
 returns c = let a = c .before .before .args in
     sym (not-one (a .earliest .now) (a .latest .now) (length (a .earliest .now)) (sym (c .before .ranges-fit .ensures) ∙ not-true _ (c .if1 .taken)))
 
-ranges-fit-requires-2 : tie.Need-ranges-fit-requires-2
-ranges-fit-requires-2 c κs = omega arith
-
 returns-2 : tie.Need-returns-2
 returns-2 c =
     let s = c .before .before .before in
@@ -43,4 +40,4 @@ returns-2 c =
     c .ranges-fit2 .ensures ∙ ap (allBelow (rangeFitsAt ls es)) same ∙ one-too es ls (length es) (sym (c .before .before .ranges-fit .ensures) ∙ not-false _ (c .before .if1 .left))
 
 pub one-start-spec : {M : Type 1} → statement M
-one-start-spec = tie.close (tie.spec (λ c κs. search needs) returns ranges-fit-requires-2 returns-2)
+one-start-spec = tie.close (tie.spec (λ c κs. search needs) returns (λ c κs. omega arith) returns-2)

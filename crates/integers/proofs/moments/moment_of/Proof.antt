@@ -32,8 +32,5 @@ add-result c = subst (SFits w64) (sym (sum _ (c .fits .x))) (fits _ (c .fits .x)
 cast-result-2 : tie.Need-cast-result-2
 cast-result-2 c = subst (λ (z : ℤ). T (nonNeg z) × Fits w32 (natAbs z)) (sym (whole _ (c .fits .x))) (tt, record { fits = omega (arith, moment-below (c .fits .x)) })
 
-returns : tie.Need-returns
-returns c = ap natAbs (whole _ (c .fits .x))
-
 pub moment-of-spec : {M : Type 1} → statement M
-moment-of-spec = tie.close (tie.spec cast-result add-result cast-result-2 returns)
+moment-of-spec = tie.close (tie.spec cast-result add-result cast-result-2 (λ c. ap natAbs (whole _ (c .fits .x))))

@@ -13,8 +13,5 @@ use Rattle.integers.proofs.numbers.nat_of.Tie as tie
 cast-result : tie.Need-cast-result
 cast-result c = subst (λ (z : ℤ). T (nonNeg z) × Fits w32 (natAbs z)) (sym (back (c .fits .x))) (yes-nonNeg (c .pre), fits-natAbs tt (c .fits .x))
 
-returns : tie.Need-returns
-returns c = nonneg-cast w32 (c .fits .x) (c .pre)
-
 pub nat-of-spec : {M : Type 1} → statement M
-nat-of-spec = tie.close (tie.spec cast-result returns)
+nat-of-spec = tie.close (tie.spec cast-result (λ c. nonneg-cast w32 (c .fits .x) (c .pre)))

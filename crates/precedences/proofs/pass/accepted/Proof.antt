@@ -29,9 +29,6 @@ ready c =
     let a = s .args in
     boundable (a .«record») (a .earliest .now) (a .latest .now) (s .pre) (long s) (est c .moments-of .ensures) (lst c .moments-of2 .ensures)
 
-raised-starts-requires : tie.Need-raised-starts-requires
-raised-starts-requires c κs = ready c
-
 returns : tie.Need-returns
 returns c =
     let f = c .before in
@@ -58,5 +55,5 @@ pub accepted-spec : {M : Type 1} → statement M
 accepted-spec =
     tie.close
     (tie.spec
-    (λ c κs. search needs) (λ c κs. search needs) raised-starts-requires (λ c κs. search needs) (λ c. search needs)
-    returns (λ c κs. search needs) (λ c. search needs) returns-2)
+    (λ c κs. search needs) (λ c κs. search needs) (λ c κs. ready c) (λ c κs. search needs) (λ c. search needs) returns
+    (λ c κs. search needs) (λ c. search needs) returns-2)

@@ -22,9 +22,6 @@ returns c =
     let a = start n .args in
     is-refused (a .t1) (a .earliest .now) (a .latest .now) (a .bars-fit) _ _ (λ z. c .if1 .taken (n .input-refusal .ensures ∙ z)) (ap refusedBy (n .input-refusal .ensures)) refl
 
-accepted-requires : tie.Need-accepted-requires
-accepted-requires c κs = passed (c .before) .0
-
 returns-2 : tie.Need-returns-2
 returns-2 c =
     let y = c .before in
@@ -36,4 +33,4 @@ pub precedences-spec : {M : Type 1} → statement M
 precedences-spec =
     tie.close
     (tie.spec
-    (λ c κs. search needs) (λ c. search needs) returns accepted-requires (λ c. search needs) returns-2)
+    (λ c κs. search needs) (λ c. search needs) returns (λ c κs. passed (c .before) .0) (λ c. search needs) returns-2)

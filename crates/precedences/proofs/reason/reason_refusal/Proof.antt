@@ -35,9 +35,6 @@ returns c =
     c .before .bound-refusal .ensures ∙ sym (refusal-before (boundTests (lent start) (args .earliest .now) (args .latest .now) (args .bars-fit) (args .task)) _
     (λ z. c .if1 .taken (c .before .bound-refusal .ensures ∙ z)))
 
-mul-if2 : tie.Need-mul-if2
-mul-if2 c = record { fits = omega (arith, few c) }
-
 returns-2 : tie.Need-returns-2
 returns-2 c =
     let start = c .before .before .before in
@@ -51,4 +48,4 @@ returns-3 c =
     sym (all-right (lent start) (args .earliest .now) (args .latest .now) (args .bars-fit) (args .task) (args .words) (passed (c .before)) (le-leb _ _ (c .if2 .left)))
 
 pub reason-refusal-spec : {M : Type 1} → statement M
-reason-refusal-spec = tie.close (tie.spec (λ c κs. search needs) returns mul-if2 returns-2 returns-3)
+reason-refusal-spec = tie.close (tie.spec (λ c κs. search needs) returns (λ c. record { fits = omega (arith, few c) }) returns-2 returns-3)

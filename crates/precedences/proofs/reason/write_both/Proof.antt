@@ -33,12 +33,6 @@ length-first c = ap length (first c) ∙ length-sets (start c .args .atoms .now)
 returns : tie.Need-returns
 returns c = let a = c .before .args in none-stored {l = a .atoms .now} {k = a .k} (a .member) (a .j) (instant zeroAt (a .est)) (instant zeroAt (a .lst)) (not-true _ (c .if1 .taken))
 
-write-atom-requires : tie.Need-write-atom-requires
-write-atom-requires c κs = (omega (arith, room (c .before)), c .before .before .pre .1)
-
-add-write-atom : tie.Need-add-write-atom
-add-write-atom c = omega (arith, room (c .before .before .before .before))
-
 write-atom-requires-2 : tie.Need-write-atom-requires-2
 write-atom-requires-2 c κs = (omega (arith, room (c .before .before .before .before), length-first (c .before .before)), start (c .before .before) .pre .1)
 
@@ -56,4 +50,6 @@ pub write-both-spec : {M : Type 1} → statement M
 write-both-spec =
     tie.close
     (tie.spec
-    returns write-atom-requires add-write-atom write-atom-requires-2 add-result (λ c. search needs) returns-2)
+    returns (λ c κs. (omega (arith, room (c .before)), c .before .before .pre .1))
+    (λ c. omega (arith, room (c .before .before .before .before))) write-atom-requires-2 add-result
+    (λ c. search needs) returns-2)

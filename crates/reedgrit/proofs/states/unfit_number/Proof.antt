@@ -10,8 +10,9 @@ use Rattle.reedgrit.proofs.states.unfit_number.Tie as tie
 returns : tie.Need-returns
 returns c = sym (too-many (c .before .args .premises .now) false (omega arith))
 
-returns-2 : tie.Need-returns-2
-returns-2 c = sym (malformed-own (c .before .args .premises .now) (omega arith))
-
 pub unfit-number-spec : {M : Type 1} → statement M
-unfit-number-spec = tie.close (tie.spec (λ c. search needs) (λ c. search needs) returns returns-2)
+unfit-number-spec =
+    tie.close
+    (tie.spec
+    (λ c. search needs) (λ c. search needs) returns
+    (λ c. sym (malformed-own (c .before .args .premises .now) (omega arith))))

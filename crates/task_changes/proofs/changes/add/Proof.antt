@@ -36,17 +36,8 @@ returns c =
 nat-of-requires : tie.Need-nat-of-requires
 nat-of-requires c κs = let s = c .before .before .before .before in subst (λ (z : ℤ). pos 0 ≤ℤ z) (sym (back (s .fits .duration))) (not-negative (s .args .duration) (passed c .lasts))
 
-mul-durations : tie.Need-mul-durations
-mul-durations c = record { fits = omega (arith, passed (c .before .before) .room) }
-
-array-write-durations : tie.Need-array-write-durations
-array-write-durations c = passed (c .before .before) .room
-
 add-sum : tie.Need-add-sum
 add-sum c = record { fits = omega (arith, passed (c .before .before) .fits, more-is (c .before)) }
-
-add-t9 : tie.Need-add-t9
-add-t9 c = record { fits = omega (arith, passed (c .before .before) .room) }
 
 returns-2 : tie.Need-returns-2
 returns-2 c =
@@ -59,4 +50,6 @@ pub add-spec : {M : Type 1} → statement M
 add-spec =
     tie.close
     (tie.spec
-    (λ c κs. search needs) returns nat-of-requires mul-durations array-write-durations add-sum add-t9 returns-2)
+    (λ c κs. search needs) returns nat-of-requires
+    (λ c. record { fits = omega (arith, passed (c .before .before) .room) }) (λ c. passed (c .before .before) .room)
+    add-sum (λ c. record { fits = omega (arith, passed (c .before .before) .room) }) returns-2)

@@ -59,9 +59,6 @@ nat-of-requires : tie.Need-nat-of-requires
 nat-of-requires c κs = subst (λ (z : ℤ). pos 0 ≤ℤ z) (sym (back (c .before .before .before .before .before .fits .duration)))
     (not-negative (c .before .before .before .before .before .args .duration) (leZ-true (pos 1) (c .before .before .before .before .before .args .duration) (first-three c .1 .1 .0)))
 
-sub-if4 : tie.Need-sub-if4
-sub-if4 c = fits (c .before .before .before .before)
-
 returns-4 : tie.Need-returns-4
 returns-4 c =
     let a = c .before .before .before .before .before .before .before .args in
@@ -88,5 +85,5 @@ pub add-refusal-spec : {M : Type 1} → statement M
 add-refusal-spec =
     tie.close
     (tie.spec
-    (λ c κs. search needs) returns returns-2 (λ c κs. search needs) returns-3 nat-of-requires sub-if4 returns-4
-    returns-5)
+    (λ c κs. search needs) returns returns-2 (λ c κs. search needs) returns-3 nat-of-requires
+    (λ c. fits (c .before .before .before .before)) returns-4 returns-5)

@@ -38,9 +38,6 @@ sub-rest c =
     let p = passed (c .before .before .before .before) in
     part (start .args .t1) (p .lawful) (long start) (start .args .task) (p .there)
 
-sub-t9 : tie.Need-sub-t9
-sub-t9 c = omega (arith, passed (c .before .before .before .before) .many)
-
 returns-2 : tie.Need-returns-2
 returns-2 c =
     let start = c .before .before .before .before .before .before .before .before in
@@ -52,4 +49,5 @@ pub remove-spec : {M : Type 1} → statement M
 remove-spec =
     tie.close
     (tie.spec
-    (λ c κs. search needs) returns mul-less element-copy-out-less without-task-requires sub-rest sub-t9 returns-2)
+    (λ c κs. search needs) returns mul-less element-copy-out-less without-task-requires sub-rest
+    (λ c. omega (arith, passed (c .before .before .before .before) .many)) returns-2)

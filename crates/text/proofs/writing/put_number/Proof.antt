@@ -28,9 +28,6 @@ returns c =
 put-digits-requires-2 : tie.Need-put-digits-requires-2
 put-digits-requires-2 c κs = simp length-set (omega (arith, natural-fits 9 (zeroAt - c .before .before .moment-of .result) (omega arith)))
 
-same-length-2 : tie.Need-same-length-2
-same-length-2 c = simp length-set at (c .before .before .put-digits2 .kept .0)
-
 returns-2 : tie.Need-returns-2
 returns-2 c =
     let s = c .before .before .before .before .before .before .before in
@@ -44,4 +41,5 @@ put-number-spec =
     tie.close
     (tie.spec
     (λ c κs. search needs) (λ c. search needs) put-digits-requires (λ c. search needs) returns (λ c. search needs)
-    (λ c. search needs) (λ c. search needs) put-digits-requires-2 same-length-2 returns-2)
+    (λ c. search needs) (λ c. search needs) put-digits-requires-2
+    (λ c. simp length-set at (c .before .before .put-digits2 .kept .0)) returns-2)

@@ -3,8 +3,5 @@ use borrow.Author.Needs.{needs}
 use Rattle.text.proofs.reading.Scanner.new.Statement.{statement}
 use Rattle.text.proofs.reading.Scanner.new.Tie as tie
 
-returns : tie.Need-returns
-returns c = rw (c .none .ensures)
-
 pub new-spec : {M : Type 1} → statement M
-new-spec = tie.close (tie.spec (λ c κs. search needs) returns)
+new-spec = tie.close (tie.spec (λ c κs. search needs) (λ c. rw (c .none .ensures)))
