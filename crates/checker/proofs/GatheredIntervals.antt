@@ -1,5 +1,5 @@
 -- What the source's loop over the tasks gathers: whether there is a task, the least earliest start and the greatest latest completion.
-use mathlib.Core.Path.{_≡_, refl, sym, ap, _∙_}
+use mathlib.Core.Path.{_≡_, refl, sym, ap, subst, _∙_}
 use mathlib.Core.Bool.{Bool, true, false, _||_}
 use mathlib.Core.Logic.{_⊎_, inl, inr}
 use Prim.Native.Nat.{ℕ, zero, suc, _≤_, _<_, min, max}
@@ -8,6 +8,33 @@ use native.Mathlib.Decide.{decLe}
 use Rattle.integers.proofs.Bools.{bool, clash, or-true, or-right, below-suc}
 use Rattle.scheduling.specs.Scheduling.{natural, Tasks, TaskSet, NonEmpty, Est, Lct, completion}
 use Rattle.checker.specs.Formulas.{any, lowest, highest}
+
+-- A running value: at each task of Ω it stays, or becomes the task's own, whichever comes under the other. So it ends under the values of all.
+module _ {Ω : TaskSet} (Under : ℕ → ℕ → Type 0) (self : (x : ℕ) → Under x x) (chain : (x y z : ℕ) → Under x y → Under y z → Under x z) (f v : ℕ → ℕ)
+    (out : (k : ℕ) → Ω k ≡ false → v (suc k) ≡ v k) (into : (k : ℕ) → Ω k ≡ true → ((v (suc k) ≡ v k) × Under (v k) (f k)) ⊎ ((v (suc k) ≡ f k) × Under (f k) (v k))) where
+  record Best (m : ℕ) : Type 0 where
+    under : (k : ℕ) → k < m → Ω k ≡ true → Under (v m) (f k)
+    reached : (v m ≡ v 0) ⊎ ((k : ℕ) × (k < m) × (Ω k ≡ true) × (f k ≡ v m))
+
+  stays : (m : ℕ) → Best m → v (suc m) ≡ v m → (Ω m ≡ true → Under (v m) (f m)) → Best (suc m)
+  stays m r e own = record {
+    under = λ k q y. subst (λ (x : ℕ). Under x (f k)) (sym e) (below-suc (λ k. Ω k ≡ true → Under (v m) (f k)) m (r .under) own k q y);
+    reached = elim (r .reached) [ inl z ↦ inl (e ∙ z) | inr z ↦ inr (z .0, omega (arith, z .1), z .2, z .3 ∙ sym e) ];
+  }
+
+  moves : (m : ℕ) → Best m → Ω m ≡ true → v (suc m) ≡ f m → Under (f m) (v m) → Best (suc m)
+  moves m r y e b = record {
+    under = λ k q z. subst (λ (x : ℕ). Under x (f k)) (sym e)
+        (below-suc (λ k. Ω k ≡ true → Under (f m) (f k)) m (λ k q w. chain (f m) (v m) (f k) b (r .under k q w)) (λ _. self (f m)) k q z);
+    reached = inr (m, omega arith, y, sym e);
+  }
+
+  best : (m : ℕ) → Best m
+  best zero = record { under = λ k q. absurd (omega arith); reached = inl refl }
+  best (suc m) = elim (bool (Ω m)) [
+    | inl y ↦ elim (into m y) [ inl z ↦ stays m (best m) (z .0) (λ _. z .1) | inr z ↦ moves m (best m) y (z .0) (z .1) ]
+    | inr y ↦ stays m (best m) (out m y) (λ z. clash z y)
+  ]
 
 module _ (J : Tasks natural) where
   abbrev n : ℕ
@@ -46,95 +73,49 @@ module _ (J : Tasks natural) where
     pub any-some : some-of n ≡ true → NonEmpty J Ω
     any-some y = let (k, q, w) = any-found n y in (k, record { small = q; mem = w })
 
-    low-in : (k : ℕ) → Ω k ≡ true → low (suc k) ≡ min (low k) (J .earliest k)
-    unfolding lowest
-    low-in k y = rw (y, lowest)
-
     low-out : (k : ℕ) → Ω k ≡ false → low (suc k) ≡ low k
     unfolding lowest
     low-out k y = rw (y, lowest)
+
+    low-in : (k : ℕ) → Ω k ≡ true → ((low (suc k) ≡ low k) × (low k ≤ J .earliest k)) ⊎ ((low (suc k) ≡ J .earliest k) × (J .earliest k ≤ low k))
+    unfolding lowest
+    low-in k y = let e : low (suc k) ≡ min (low k) (J .earliest k) = rw (y, lowest) in elim (decLe (low k) (J .earliest k)) [ yes w ↦ inl (omega arith, w) | no w ↦ inr (omega arith, omega arith) ]
 
     low-none : low 0 ≡ 4294967295
     unfolding lowest
     low-none = refl
 
-    high-in : (k : ℕ) → Ω k ≡ true → high (suc k) ≡ max (high k) (completion J k)
-    unfolding highest
-    high-in k y = rw (y, highest)
-
     high-out : (k : ℕ) → Ω k ≡ false → high (suc k) ≡ high k
     unfolding highest
     high-out k y = rw (y, highest)
+
+    high-in : (k : ℕ) → Ω k ≡ true → ((high (suc k) ≡ high k) × (completion J k ≤ high k)) ⊎ ((high (suc k) ≡ completion J k) × (high k ≤ completion J k))
+    unfolding highest
+    high-in k y =
+        let e : high (suc k) ≡ max (high k) (completion J k) = rw (y, highest) in
+        elim (decLe (completion J k) (high k)) [ yes w ↦ inl (omega arith, w) | no w ↦ inr (omega arith, omega arith) ]
 
     high-none : high 0 ≡ 0
     unfolding highest
     high-none = refl
 
     -- no earliest start is above the first value of the loop
-    module _ (fits : (k : ℕ) → k < n → J .earliest k ≤ 4294967295) where
-      record Lowest (m : ℕ) : Type 0 where
-        least : (k : ℕ) → k < m → Ω k ≡ true → low m ≤ J .earliest k
-        reached : (low m ≡ 4294967295) ⊎ ((k : ℕ) × (k < m) × (Ω k ≡ true) × (J .earliest k ≡ low m))
-
-      lowest-ok : (m : ℕ) → m ≤ n → Lowest m
-      lowest-ok zero q = record { least = λ k r. absurd (omega arith); reached = inl low-none }
-      lowest-ok (suc m) q = step (lowest-ok m (omega arith)) (bool (Ω m))
-        where
-          step : Lowest m → (Ω m ≡ true) ⊎ (Ω m ≡ false) → Lowest (suc m)
-          step r (inl y) = record {
-            least = below-suc (λ k. Ω k ≡ true → low (suc m) ≤ J .earliest k) m (λ k s z. omega (arith, low-in m y, r .least k s z)) (λ z. omega (arith, low-in m y));
-            reached = inr (elim (r .reached) [
-              | inl z ↦ (m, omega arith, y, omega (arith, low-in m y, fits m q))
-              | inr z ↦ pick z
-            ]);
-          }
-            where
-              pick : (k : ℕ) × (k < m) × (Ω k ≡ true) × (J .earliest k ≡ low m) → (k : ℕ) × (k < suc m) × (Ω k ≡ true) × (J .earliest k ≡ low (suc m))
-              pick z = elim (decLe (low m) (J .earliest m))
-                  [ yes w ↦ (z .0, omega (arith, z .1), z .2, omega (arith, z .3, low-in m y)) | no w ↦ (m, omega arith, y, omega (arith, low-in m y)) ]
-          step r (inr y) = record {
-            least = below-suc (λ k. Ω k ≡ true → low (suc m) ≤ J .earliest k) m (λ k s z. omega (arith, low-out m y, r .least k s z)) (λ z. clash z y);
-            reached = elim (r .reached) [ inl z ↦ inl (low-out m y ∙ z) | inr z ↦ inr (z .0, omega (arith, z .1), z .2, z .3 ∙ sym (low-out m y)) ];
-          }
-
-      pub lowest-is : NonEmpty J Ω → Est J Ω (low n)
-      lowest-is (i, im) = let r = lowest-ok n (omega arith) in
-          record {
-            holds = elim (r .reached) [
-              | inl z ↦ (i, im, omega (arith, z, r .least i (im .small) (im .mem), fits i (im .small)))
-              | inr z ↦ (z .0, record { small = z .1; mem = z .2 }, z .3)
-            ];
-            bounds = λ w h. omega (arith, h .2, r .least (h .0) (h .1 .small) (h .1 .mem));
-          }
-
-    record Highest (m : ℕ) : Type 0 where
-      greatest : (k : ℕ) → k < m → Ω k ≡ true → completion J k ≤ high m
-      reached : (high m ≡ 0) ⊎ ((k : ℕ) × (k < m) × (Ω k ≡ true) × (completion J k ≡ high m))
-
-    highest-ok : (m : ℕ) → Highest m
-    highest-ok zero = record { greatest = λ k r. absurd (omega arith); reached = inl high-none }
-    highest-ok (suc m) = step (highest-ok m) (bool (Ω m))
-      where
-        step : Highest m → (Ω m ≡ true) ⊎ (Ω m ≡ false) → Highest (suc m)
-        step r (inl y) = record {
-          greatest = below-suc (λ k. Ω k ≡ true → completion J k ≤ high (suc m)) m (λ k s z. omega (arith, high-in m y, r .greatest k s z)) (λ z. omega (arith, high-in m y));
-          reached = inr (elim (r .reached) [ inl z ↦ (m, omega arith, y, omega (arith, high-in m y)) | inr z ↦ pick z ]);
-        }
-          where
-            pick : (k : ℕ) × (k < m) × (Ω k ≡ true) × (completion J k ≡ high m) → (k : ℕ) × (k < suc m) × (Ω k ≡ true) × (completion J k ≡ high (suc m))
-            pick z = elim (decLe (completion J m) (high m))
-                [ yes w ↦ (z .0, omega (arith, z .1), z .2, omega (arith, z .3, high-in m y)) | no w ↦ (m, omega arith, y, omega (arith, high-in m y)) ]
-        step r (inr y) = record {
-          greatest = below-suc (λ k. Ω k ≡ true → completion J k ≤ high (suc m)) m (λ k s z. omega (arith, high-out m y, r .greatest k s z)) (λ z. clash z y);
-          reached = elim (r .reached) [ inl z ↦ inl (high-out m y ∙ z) | inr z ↦ inr (z .0, omega (arith, z .1), z .2, z .3 ∙ sym (high-out m y)) ];
+    pub lowest-is : ((k : ℕ) → k < n → J .earliest k ≤ 4294967295) → NonEmpty J Ω → Est J Ω (low n)
+    lowest-is fits (i, im) = let r = best (λ x y. x ≤ y) (λ x. omega arith) (λ x y z p q. omega arith) (J .earliest) low low-out low-in n in
+        record {
+          holds = elim (r .reached) [
+            | inl z ↦ (i, im, omega (arith, z, low-none, r .under i (im .small) (im .mem), fits i (im .small)))
+            | inr z ↦ (z .0, record { small = z .1; mem = z .2 }, z .3)
+          ];
+          bounds = λ w h. omega (arith, h .2, r .under (h .0) (h .1 .small) (h .1 .mem));
         }
 
     pub highest-is : NonEmpty J Ω → Lct J Ω (high n)
-    highest-is (i, im) = let r = highest-ok n in
+    highest-is (i, im) = let r = best (λ x y. y ≤ x) (λ x. omega arith) (λ x y z p q. omega arith) (completion J) high high-out high-in n in
         record {
           holds = elim (r .reached) [
-            | inl z ↦ (i, im, omega (arith, z, r .greatest i (im .small) (im .mem)))
+            | inl z ↦ (i, im, omega (arith, z, high-none, r .under i (im .small) (im .mem)))
             | inr z ↦ (z .0, record { small = z .1; mem = z .2 }, z .3)
           ];
-          bounds = λ w h. omega (arith, h .2, r .greatest (h .0) (h .1 .small) (h .1 .mem));
+          bounds = λ w h. omega (arith, h .2, r .under (h .0) (h .1 .small) (h .1 .mem));
         }

@@ -9,7 +9,7 @@ use Rattle.integers.specs.Limits.{TASKS}
 use Rattle.integers.specs.FilledLists.{filled, noTasks}
 use Rattle.integers.proofs.FilledLists.{filled-none, filled-store}
 use Rattle.checking.specs.declared.start_bounds.TaskBounds.{TaskBounds}
-use Rattle.checking.specs.TaskBounds.{Bounds, boundsIn, Unbounded, boundsBy}
+use Rattle.checking.specs.TaskBounds.{Bounds, boundsIn, withBounds, Unbounded, boundsBy}
 
 module _ (at : ℕ → TaskBounds) {bounded : List Bool} {est lst : List ℕ} where
   pub none-filled : Unbounded bounded est lst → boundsIn bounded est lst ≡ boundsBy at 0
@@ -17,7 +17,7 @@ module _ (at : ℕ → TaskBounds) {bounded : List Bool} {est lst : List ℕ} wh
       ((l ∙ sym (filled-none (λ k. at k .lst) noTasks)) i)
 
   pub one-filled : (k : ℕ) (t : TaskBounds) → t ≡ at k → boundsIn bounded est lst ≡ boundsBy at k
-      → boundsIn (set bounded k (t .known)) (set est k (t .est)) (set lst k (t .lst)) ≡ boundsBy at (k + 1)
+      → withBounds (boundsIn bounded est lst) k t ≡ boundsBy at (k + 1)
   one-filled k t e z = λ i. boundsIn
       (filled-store (λ k. at k .known) (replicate TASKS false) bounded k (t .known) (ap (λ (b : Bounds). b .bounded) z) (ap (λ (b : TaskBounds). b .known) e) i)
       (filled-store (λ k. at k .est) noTasks est k (t .est) (ap (λ (b : Bounds). b .est) z) (ap (λ (b : TaskBounds). b .est) e) i)

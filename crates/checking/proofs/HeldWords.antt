@@ -18,7 +18,7 @@ use Rattle.checking.specs.declared.bound_words.BoundWords.{BoundWords}
 use Rattle.checking.specs.declared.variable_state.VariableState.{VariableState}
 use Rattle.checking.specs.declared.variable_state.Application.the-variants.{Consistent, Contradiction}
 use Rattle.checking.specs.Domains.{allIntegers, consistent, applied, settled, reduced, Tight}
-use Rattle.checking.specs.BoundWords.{wordsOf, appliedWords, consistentWords, taskBoundsOfWords, wordsAt, boundsOfWords, HoleFree, HeldWords}
+use Rattle.checking.specs.BoundWords.{pairOf, wordsOf, appliedWords, consistentWords, taskBoundsOfWords, wordsAt, boundsOfWords, HoleFree, HeldWords}
 use Rattle.checking.specs.States.{noDomain, domainAt, put, emptyState, stepped}
 use Rattle.checking.specs.TaskBounds.{boundsAt, boundsOf}
 use Rattle.checking.proofs.BoundLimits.{no-int, no-int′}
@@ -28,9 +28,6 @@ use Rattle.checking.proofs.FilledBounds.{bounds-same}
 use Rattle.checking.proofs.NarrowedDomains.{applied-tight}
 use Rattle.checking.proofs.PreparedStates.{no-room}
 use Rattle.checking.proofs.States.{empty-accepted, put-same, put-other, put-accepted, stepped-is, when-narrowed, when-emptied}
-
-abbrev pair : ℕ → ℕ → BoundWords
-pair l u = record { lower = l; upper = u }
 
 -- Without bounds ---------------------------------------------------------------------------------------------------------------
 
@@ -43,7 +40,7 @@ none-held lower upper p q = record {
   upper-size = ap length q ∙ length-replicate {A = ℕ} VARIABLES 0;
   accepted = empty-accepted;
   free = λ x h. subst HoleFree (sym (any x h)) all-free;
-  words = λ x h. ap₂ (λ (l u : List ℕ). wordsAt l u x) p q ∙ ap₂ pair (getD-fresh 0 VARIABLES x) (getD-fresh 0 VARIABLES x) ∙ ap wordsOf (sym (any x h));
+  words = λ x h. ap₂ (λ (l u : List ℕ). wordsAt l u x) p q ∙ ap₂ pairOf (getD-fresh 0 VARIABLES x) (getD-fresh 0 VARIABLES x) ∙ ap wordsOf (sym (any x h));
 }
   where
     any : (x : ℕ) → x < VARIABLES → domainAt emptyState x ≡ allIntegers
@@ -111,14 +108,14 @@ module _ (s : VariableState) (lower upper : List ℕ) (held : HeldWords s lower 
         let same = put-same s (a .variable) d′ (omega (arith, held .accepted .size)) in
         let l = getD-set-same lower (a .variable) (w .lower) 0 (omega (arith, held .lower-size)) in
         let u = getD-set-same upper (a .variable) (w .upper) 0 (omega (arith, held .upper-size)) in
-        (subst HoleFree (sym same) free′, ap₂ pair l u ∙ words′ ∙ ap wordsOf (sym same))
+        (subst HoleFree (sym same) free′, ap₂ pairOf l u ∙ words′ ∙ ap wordsOf (sym same))
 
     elsewhere : (x : ℕ) → x < VARIABLES → (x ≡ a .variable → ⊥) → HoleFree (domainAt s′ x) × (wordsAt lower′ upper′ x ≡ wordsOf (domainAt s′ x))
     elsewhere x h n =
         let other = put-other s (a .variable) x d′ n in
         let l = getD-set-other lower (a .variable) x (w .lower) 0 n in
         let u = getD-set-other upper (a .variable) x (w .upper) 0 n in
-        (subst HoleFree (sym other) (held .free x h), ap₂ pair l u ∙ held .words x h ∙ ap wordsOf (sym other))
+        (subst HoleFree (sym other) (held .free x h), ap₂ pairOf l u ∙ held .words x h ∙ ap wordsOf (sym other))
 
     stored : (x : ℕ) → x < VARIABLES → HoleFree (domainAt s′ x) × (wordsAt lower′ upper′ x ≡ wordsOf (domainAt s′ x))
     stored x h = elim (ℕ-discrete x (a .variable)) [

@@ -36,8 +36,11 @@ upperWord (Int z) = U32MAX - moment zeroAt z
 upperWord NegativeInf = 0
 upperWord PositiveInf = 0
 
+abbrev pub pairOf : ℕ → ℕ → BoundWords
+pairOf lower upper = record { lower = lower; upper = upper }
+
 abbrev pub wordsOf : Domain → BoundWords
-wordsOf d = record { lower = lowerWord (d .«lower_bound»); upper = upperWord (d .«upper_bound») }
+wordsOf d = pairOf (lowerWord (d .«lower_bound»)) (upperWord (d .«upper_bound»))
 
 -- an atom applied, by its kind: 0 is ≥, 1 is ≤, 2 is =
 abbrev pub appliedWords : BoundWords → ℕ → ℤ → BoundWords
@@ -57,7 +60,7 @@ taskBoundsOfWords w = cond (eqb (w .lower) 0 || eqb (w .upper) 0) noBounds (twoB
 -- The words of all variables ---------------------------------------------------------------------------------------------------
 
 abbrev pub wordsAt : List ℕ → List ℕ → ℕ → BoundWords
-wordsAt lower upper x = record { lower = getD lower x 0; upper = getD upper x 0 }
+wordsAt lower upper x = pairOf (getD lower x 0) (getD upper x 0)
 
 -- the bounds of the first n
 abbrev pub boundsOfWords : List ℕ → List ℕ → ℕ → Bounds
@@ -77,7 +80,7 @@ pub record HeldWords (s : VariableState) (lower upper : List ℕ) : Type 0 where
   pub free : (x : ℕ) → x < VARIABLES → HoleFree (domainAt s x)
   pub words : (x : ℕ) → x < VARIABLES → wordsAt lower upper x ≡ wordsOf (domainAt s x)
 
--- The answer is the prepared one, where no atom that can make a hole ended it; where all atoms were applied, the words are the bounds of the prepared state.
+-- The answer is the prepared one, unless an atom that can make a hole ended it. Where all atoms were applied, the words are the prepared state's bounds.
 abbrev pub AppliedToWords : Applied → List ℕ → List ℕ → OnWords → Type 0
 AppliedToWords p lower upper onWords.Consistent = (p .answer ≡ application.Consistent) × HeldWords (p .state) lower upper
 AppliedToWords p lower upper (onWords.Contradiction x) = p .answer ≡ application.Contradiction x

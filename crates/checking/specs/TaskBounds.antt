@@ -5,7 +5,7 @@ use mathlib.Core.List.{List}
 use mathlib.Core.Option.{Option, some, none}
 use Prim.Native.Nat.{ℕ}
 use lib.IntN.{ℤ}
-use lib.ListN.{replicate}
+use lib.ListN.{set, replicate}
 use Rattle.integers.specs.Limits.{TASKS}
 use Rattle.integers.specs.FilledLists.{filled, noTasks}
 use Rattle.integers.specs.Moments.{moment, zeroAt}
@@ -44,6 +44,10 @@ pub record Bounds : Type 0 where
 
 abbrev pub boundsIn : List Bool → List ℕ → List ℕ → Bounds
 boundsIn bounded est lst = record { bounded = bounded; est = est; lst = lst }
+
+-- those of task k put in
+abbrev pub withBounds : Bounds → ℕ → TaskBounds → Bounds
+withBounds b k t = boundsIn (set (b .bounded) k (t .known)) (set (b .est) k (t .est)) (set (b .lst) k (t .lst))
 
 -- arrays of no bounds
 abbrev pub Unbounded : List Bool → List ℕ → List ℕ → Type 0

@@ -6,7 +6,7 @@ use integers::numbers::max;
 ghost use mathlib.Core.Path.{_≡_};
 ghost use lib.Dec.{leb};
 ghost use Rattle.checking.specs.Atoms.{kindOf};
-ghost use Rattle.checking.specs.BoundWords.{appliedWords, consistentWords, taskBoundsOfWords};
+ghost use Rattle.checking.specs.BoundWords.{appliedWords, consistentWords, pairOf, taskBoundsOfWords};
 
 // The lower bound's moment, and the complement of the upper bound's.
 pub struct BoundWords {
@@ -59,24 +59,22 @@ impl BoundWords {
     {
         self.lower <= u32::MAX - self.upper
     }
+}
 
-    // Both bounds, where they are finite; else 0.
-    pub fn task_bounds(self) -> TaskBounds
-        ensures { λ r. ⌜ r ≡ taskBoundsOfWords self ⌝ }
-    {
-        let lower = self.lower;
-        let upper = self.upper;
-        if lower == 0 || upper == 0 {
-            return TaskBounds {
-                known: false,
-                est: 0,
-                lst: 0,
-            };
-        }
-        TaskBounds {
-            known: true,
-            est: lower,
-            lst: u32::MAX - upper,
-        }
+// The bounds of a start that two words are, where there are two; else 0.
+pub fn bounds_between(lower: u32, upper: u32) -> TaskBounds
+    ensures { λ r. ⌜ r ≡ taskBoundsOfWords (pairOf lower upper) ⌝ }
+{
+    if lower == 0 || upper == 0 {
+        return TaskBounds {
+            known: false,
+            est: 0,
+            lst: 0,
+        };
+    }
+    TaskBounds {
+        known: true,
+        est: lower,
+        lst: u32::MAX - upper,
     }
 }

@@ -2,8 +2,10 @@
 use crate::atomic_constraint::given_at;
 use crate::atomic_constraint::lists_are_accepted;
 use crate::bound_words::BoundWords;
+use crate::bound_words::bounds_between;
 use crate::bound_words::makes_hole;
 use crate::start_bounds::bounds_of;
+use crate::start_bounds::put_bounds;
 use crate::variable_state::Application;
 use crate::variable_state::VariableState;
 use integers::limits::PREMISES;
@@ -75,14 +77,8 @@ fn bounds_of_words(
 {
     let mut i = 0;
     while i < n {
-        let words = BoundWords {
-            lower: lower[i],
-            upper: upper[i],
-        };
-        let b = words.task_bounds();
-        bounded[i] = b.known;
-        est[i] = b.est;
-        lst[i] = b.lst;
+        let b = bounds_between(lower[i], upper[i]);
+        put_bounds(bounded, est, lst, i, b);
         i += 1;
     }
 }

@@ -4,10 +4,10 @@ use crate::int_ext::IntExt;
 use crate::variable_state::VariableState;
 use integers::limits::TASKS;
 ghost use mathlib.Core.Path.{_≡_};
-ghost use Prim.Native.Nat.{_≤_};
+ghost use Prim.Native.Nat.{_≤_, _<_};
 ghost use Rattle.integers.specs.Limits.{TASKS};
 ghost use Rattle.checking.specs.States.{AcceptedState};
-ghost use Rattle.checking.specs.TaskBounds.{noBounds, taskBounds, boundsIn, Unbounded, boundsOf};
+ghost use Rattle.checking.specs.TaskBounds.{noBounds, taskBounds, boundsIn, withBounds, Unbounded, boundsOf};
 
 // Both bounds of one start, where they are finite; else 0.
 pub struct TaskBounds {
@@ -48,6 +48,23 @@ fn task_bounds(domain: Domain) -> TaskBounds
     }
 }
 
+// Put the bounds of one start into the arrays.
+pub fn put_bounds(
+    bounded: &mut [bool; TASKS],
+    est: &mut [u32; TASKS],
+    lst: &mut [u32; TASKS],
+    i: usize,
+    bounds: TaskBounds,
+)
+    requires { ⌜ i < TASKS ⌝ }
+    ensures { λ _. ⌜ boundsIn (now (bounded .exit)) (now (est .exit)) (now (lst .exit))
+        ≡ withBounds (boundsIn (now (bounded .entry)) (now (est .entry)) (now (lst .entry))) i bounds ⌝ }
+{
+    bounded[i] = bounds.known;
+    est[i] = bounds.est;
+    lst[i] = bounds.lst;
+}
+
 // The bounds of the first n variables, which are the tasks' starts.
 pub fn bounds_of(
     bounded: &mut [bool; TASKS],
@@ -62,9 +79,7 @@ pub fn bounds_of(
     let mut i = 0;
     while i < n {
         let b = task_bounds(state.domains[i]);
-        bounded[i] = b.known;
-        est[i] = b.est;
-        lst[i] = b.lst;
+        put_bounds(bounded, est, lst, i, b);
         i += 1;
     }
 }

@@ -20,9 +20,11 @@ loop-holds c = (omega arith, none-filled (λ k. taskBoundsOfWords (wordsAt (c .a
 
 loop-again : tie.Need-loop-again Inv-loop μ-loop
 loop-again c =
-    let l = c .before .before .before .before .loop in
-    let a = c .before .before .before .before .before .args in
-    (omega arith, one-filled (λ k. taskBoundsOfWords (wordsAt (a .lower .now) (a .upper .now) k)) (l .i) (c .task-bounds .result) (c .task-bounds .ensures) (l .inv .1))
+    let read = c .before .before .before .before in
+    let l = read .before .before .before .before .loop in
+    let a = read .before .before .before .before .before .args in
+    let b = read .bounds-between in
+    (omega arith, c .put-bounds .ensures ∙ one-filled (λ k. taskBoundsOfWords (wordsAt (a .lower .now) (a .upper .now) k)) (l .i) (b .result) (b .ensures) (l .inv .1))
 
 returns : tie.Need-returns Inv-loop μ-loop
 returns c =
@@ -36,5 +38,4 @@ bounds-of-words-spec =
     tie.close
     (tie.spec
     Inv-loop μ-loop loop-holds (λ c. search needs) (λ c. search needs) (λ c. search needs) (λ c. search needs) (λ c κs. search needs)
-    (λ c. search needs) (λ c. search needs) (λ c. search needs) (λ c. search needs) (λ c. search needs) (λ c. search needs)
-    (λ c. search needs) loop-again returns)
+    (λ c κs. search needs) (λ c. search needs) (λ c. search needs) loop-again returns)

@@ -20,10 +20,11 @@ loop-holds c = (omega arith, none-filled (boundsAt (c .args .t4)) (c .pre .2))
 
 loop-again : tie.Need-loop-again Inv-loop μ-loop
 loop-again c =
-    let start = c .before .before .before .before in
-    let l = c .before .before .before .loop in
-    let z = c .task-bounds .ensures ∙ bounds-at (start .args .t4) (start .pre .1) (l .i) (omega (arith, start .pre .0)) in
-    (omega arith, one-filled (boundsAt (start .args .t4)) (l .i) (c .task-bounds .result) z (l .inv .1))
+    let read = c .before .before .before .before in
+    let l = read .before .before .before .loop in
+    let start = read .before .before .before .before in
+    let z = read .task-bounds .ensures ∙ bounds-at (start .args .t4) (start .pre .1) (l .i) (omega (arith, start .pre .0)) in
+    (omega arith, c .put-bounds .ensures ∙ one-filled (boundsAt (start .args .t4)) (l .i) (read .task-bounds .result) z (l .inv .1))
 
 returns : tie.Need-returns Inv-loop μ-loop
 returns c =
@@ -35,6 +36,5 @@ pub bounds-of-spec : {M : Type 1} → statement M
 bounds-of-spec =
     tie.close
     (tie.spec
-    Inv-loop μ-loop loop-holds (λ c. search needs) (λ c. search needs) (λ c κs. search needs) (λ c. search needs)
-    (λ c. search needs) (λ c. search needs) (λ c. search needs) (λ c. search needs) (λ c. search needs)
-    (λ c. search needs) loop-again returns)
+    Inv-loop μ-loop loop-holds (λ c. search needs) (λ c. search needs) (λ c κs. search needs) (λ c κs. search needs)
+    (λ c. search needs) (λ c. search needs) loop-again returns)
