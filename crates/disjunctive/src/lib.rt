@@ -2,6 +2,7 @@
 // On a record: creation, a task added or removed.
 // On a record and ranges: the run, the mirrored pass, the pass by precedences, one task's bound and its reason, the overload test.
 // On a fixed schedule: the page, the charges, the earliest free start, the busiest stretch.
+// Each of these that takes ranges has a form with plain parameters in `by_value`.
 // On words: the post reader, the check, the mirrored check, and the calls of the variable state.
 pub mod by_value;
 mod cores;

@@ -1,6 +1,7 @@
 -- The locals that a call is lent: a record, and an array of ranges of which the first are lent. Each as it lies in memory, taken apart and put together again.
 use Rattle.disjunctive.proofs.Walk.{_≡_, refl, sym, _∙_, subst, ℕ, List, [], _∷_, Decided, URA, fullShare, Ty, w64, Val, WT, hasTy, fat, fsep, GName, Heap, Atoms, Given, Item, ‵, _⊛_, _$_}
-use Rattle.disjunctive.proofs.Walk.{move, use1, rewrite, split, fsplit, fjoin, drop, Goal, Seq, Step, step, RattleType, Is, shows, cellAt, spelt, owned, RefT, Room, length, DisjunctivePropagator, Range}
+use Rattle.disjunctive.proofs.Walk.{move, use1, rewrite, split, fsplit, fjoin, drop, Goal, Seq, Step, step, RattleType, Is, shows, cellAt, spelt, owned, RefT, Room, length}
+use Rattle.disjunctive.proofs.Walk.{DisjunctivePropagator, Range}
 use mathlib.Core.List.{map}
 use lib.Dec.{lit<}
 use lib.ListN.{take, drop as drop-list, take-append-drop, length-map}

@@ -1,10 +1,15 @@
 -- A call with plain parameters: it lends the record and the first of the ranges to the open call, and returns the answer, with the array where the call stores starts in it.
 -- One walk, over how the two are lent, what else is passed, and what is said of an answer.
-use Rattle.disjunctive.proofs.Walk.{_≡_, refl, sym, ap, _∙_, subst, ℕ, zero, suc, _≤_, List, [], _∷_, Option, some, none, Decided, URA, fullShare, Name, Ty, tyRef, tyInt, w64, imm, mut, place, copy, Body}
-use Rattle.disjunctive.proofs.Walk.{Operand, seq, assign, call, Fn, Val, WT, hasTy, vptr, SProp, ent, sep, emp, id⊢, via, fst∗, ftrue, fsep, fat, flft, GName, Model, Routine, Names, Heap, Calls}
-use Rattle.disjunctive.proofs.Walk.{Loops, Env, WpFn, Closed, Atoms, sem, fact, GhostRules, Running, givenOf, tables, FmC, fmOf, Given, Goal, Item, ‵, raw, _⊛_, ⋆, later, await, _$_, _∵_, !, qed}
-use Rattle.disjunctive.proofs.Walk.{by, move, keep, drop, use0, use1, rewrite, split, pick, join, fsplit, fjoin, frame, done, Post, runs, Seq, Step, step, look-in, sub, agg, Opds, stop, fld, from, load}
-use Rattle.disjunctive.proofs.Walk.{of-opd, addr, assigns, returns, enter, and-then, no-more, land, usize, yes, RattleType, owns, Is, shows, pointee, RefT, now, length, sliceTy, sliceVal, plain, nothing}
+use Rattle.disjunctive.proofs.Walk.{_≡_, refl, sym, ap, _∙_, subst, ℕ, zero, suc, _≤_, List, [], _∷_, Option, some, none, Decided, URA, fullShare, Name, Ty, tyRef, tyInt, w64, imm, mut}
+use Rattle.disjunctive.proofs.Walk.{place, copy, Body}
+use Rattle.disjunctive.proofs.Walk.{Operand, seq, assign, call, Fn, Val, WT, hasTy, vptr, SProp, ent, sep, emp, id⊢, via, fst∗, ftrue, fsep, fat, flft, GName, Model, Routine, Names, Heap}
+use Rattle.disjunctive.proofs.Walk.{Calls}
+use Rattle.disjunctive.proofs.Walk.{Loops, Env, WpFn, Closed, Atoms, sem, fact, GhostRules, Running, givenOf, tables, FmC, fmOf, Given, Goal, Item, ‵, raw, _⊛_, ⋆, later, await, _$_, _∵_}
+use Rattle.disjunctive.proofs.Walk.{ !, qed}
+use Rattle.disjunctive.proofs.Walk.{by, move, keep, drop, use0, use1, rewrite, split, pick, join, fsplit, fjoin, frame, done, Post, runs, Seq, Step, step, look-in, sub, agg, Opds, stop}
+use Rattle.disjunctive.proofs.Walk.{fld, from, load}
+use Rattle.disjunctive.proofs.Walk.{of-opd, addr, assigns, returns, enter, and-then, no-more, land, usize, yes, RattleType, owns, Is, shows, pointee, RefT, now, length, sliceTy, sliceVal}
+use Rattle.disjunctive.proofs.Walk.{plain, nothing}
 use Rattle.disjunctive.proofs.Walk.{heard, peeks, owned, only, says, calls-at, Ended, Clauses, Contract, Triple, entered, cited, DisjunctivePropagator, Range, earliests, latests}
 use mathlib.Core.Bool.{cond}
 use mathlib.Core.List.{_++_}
@@ -38,14 +43,16 @@ use Rattle.disjunctive.proofs.by_value.lent.Symbol as lent-def
 use Rattle.disjunctive.proofs.by_value.lent.Symbol.{name as #lent}
 use Rattle.disjunctive.proofs.by_value.lent.Met as lent-thm
 use Rattle.disjunctive.proofs.Calls.{ContractOf, calls-by}
-use Rattle.disjunctive.proofs.Locals.{Cell, cells, cellAt, store, stores, passing, envOf, Blocks, fresh, homed, nowhere, env-store, At, copies, Fit, local-at, local-init, stored, finds-local, allocates}
+use Rattle.disjunctive.proofs.Locals.{Cell, cells, cellAt, store, stores, passing, envOf, Blocks, fresh, homed, nowhere, env-store, At, copies, Fit, local-at, local-init, stored}
+use Rattle.disjunctive.proofs.Locals.{finds-local, allocates}
 use Rattle.disjunctive.proofs.Locals.{passes-params, frees-locals}
 use Rattle.disjunctive.proofs.open_calls.LentAgain.{lends-again, againTys, lent-again, AgainAt, runs-again}
 use Rattle.disjunctive.proofs.open_calls.ReadOnlyCalls.{Reading}
 use Rattle.disjunctive.proofs.open_calls.StartsReaders.{barsFit}
 use Rattle.disjunctive.proofs.by_value.LentCounts.{lent-fits, lent-take, lent-drop}
 use Rattle.disjunctive.proofs.by_value.LocalRanges.{machP, machN, machK, kept, recordAt, rangesAt, InField, kept-length, kept-typed, kept-of}
-use Rattle.disjunctive.proofs.by_value.Loans.{Lent, shared, changed, Reference, Slice, Last, seen, lastRecord, lastRanges, RecordOwed, RangesOwed, lends-record, record-back, lends-ranges, ranges-back}
+use Rattle.disjunctive.proofs.by_value.Loans.{Lent, shared, changed, Reference, Slice, Last, seen, lastRecord, lastRanges, RecordOwed, RangesOwed, lends-record, record-back, lends-ranges}
+use Rattle.disjunctive.proofs.by_value.Loans.{ranges-back}
 
 -- ---- the call: how the record and the ranges are lent, what else is passed, what is answered, what the open call says of both and of the record and the ranges at exit; and
 -- what is returned, and what is said of that
@@ -511,7 +518,8 @@ module _ (D : Plain) {M : Type 1} (𝓤 : URA M) (H : Heap 𝓤) (A : Atoms 𝓤
         (id⊢ 𝓤 _) $
         await ! tt $ pick ! (λ r. split ! $ move ! (1 ∷ []) $ pick ! (λ ws. split ! $ move ! (1 ∷ []) $
         heard ! (Answers D 𝓤 H A (to-open n l m ν μ γ δ .0) r ws) (λ holds.
-        move ! (1 ∷ []) $ split ! $ move ! (1 ∷ []) $ peeks ! (D .Answer) (Is (D .Answer)) (shows 𝓤 H A (D .Answer)) r (v ∷ []) (λ is. drop ! $ split3 ! $ move ! (3 ∷ []) $ fsplit ! $ drop ! $ fsplit ! $
+        move ! (1 ∷ []) $ split ! $ move ! (1 ∷ []) $ peeks ! (D .Answer) (Is (D .Answer)) (shows 𝓤 H A (D .Answer)) r (v ∷ []) (λ is.
+        drop ! $ split3 ! $ move ! (3 ∷ []) $ fsplit ! $ drop ! $ fsplit ! $
         -- [the last ranges; what else is left; the record's token; the ranges' token; the tokens; the ranges' way back; the record's way back; the locals before; those after; their ends]
         move ! (3 ∷ 5 ∷ 0 ∷ []) $ ranges-back ! tt (D .ranges-as) μ m δ n (x .ranges) few in-field (ws .1 .0) (λ zs iz seen-is rest-is.
         move ! (2 ∷ 4 ∷ []) $ record-back ! tt (D .record-as) ν l γ h (λ h′. move ! (0 ∷ 1 ∷ 4 ∷ 5 ∷ 6 ∷ []) $

@@ -234,7 +234,8 @@ module _ (D : Reading) {M : Type 1} (𝓤 : URA M) (H : Heap 𝓤) (A : Atoms �
       (laid : (bs : Blocks (tys D)) → Laid D κ′ b (vptr (a .0 .ptr .0) (a .0 .ptr .1)) (rangesVal (a .1 .0)) bs) where
     walk : ent 𝓤 (sep 𝓤 (tokens D 𝓤 H A x) (sem 𝓤 H A (owns (Passed D κs) a (x .4)))) (WpFn 𝓤 H C Λ (function D f) (flat (Passed D κs) (x .4)) (Open D 𝓤 H A .post (x, tt)))
     walk =
-        qed W ((record-token ⊛ ranges-token ⊛ other-tokens) ∷ ‵ (owns (Passed D κs) a (x .4)) ∷ []) ∵ enter ! C Λ (function D f) (flat (Passed D κs) (x .4)) _ $ allocates ! (λ _. valueLocal) (tys D) (λ bs.
+        qed W ((record-token ⊛ ranges-token ⊛ other-tokens) ∷ ‵ (owns (Passed D κs) a (x .4)) ∷ []) ∵ enter ! C Λ (function D f) (flat (Passed D κs) (x .4)) _ $
+        allocates ! (λ _. valueLocal) (tys D) (λ bs.
         let l : Laid D κ′ b (vptr (a .0 .ptr .0) (a .0 .ptr .1)) (rangesVal (a .1 .0)) bs = laid bs in
         let σ₀ : List Cell = entered-with D κ′ b (vptr (a .0 .ptr .0) (a .0 .ptr .1)) (rangesVal (a .1 .0)) bs in
         let n : ℕ = starts-local D in

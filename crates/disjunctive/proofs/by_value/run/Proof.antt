@@ -7,7 +7,8 @@ use Rattle.promises.specs.RanLent.{RanLent}
 use Rattle.runs.proofs.outcome.Finished as F
 use Rattle.runs.proofs.outcome.Finished.Laws as F′
 use Rattle.disjunctive.specs.GivenRanges.{given, StoredIn}
-use Rattle.disjunctive.proofs.Walk.{DisjunctivePropagator, givenOf, refl, sym, ap, subst, [], _∷_, some, Val, w32, named, mut, tyInt, tyRef, i32, now, length, Is, plain, mutSliceOf, sliceTy, slice-vals, mut-slice-tells, only}
+use Rattle.disjunctive.proofs.Walk.{DisjunctivePropagator, givenOf, refl, sym, ap, subst, [], _∷_, some, Val, w32, named, mut, tyInt, tyRef, i32, now, length, Is, plain, mutSliceOf}
+use Rattle.disjunctive.proofs.Walk.{sliceTy, slice-vals, mut-slice-tells, only}
 use Rattle.disjunctive.proofs.open_calls.run.Symbol as lent
 use Rattle.disjunctive.proofs.open_calls.run.Met as lent-thm
 use Rattle.disjunctive.proofs.by_value.Ran as R
@@ -30,7 +31,11 @@ call = record {
   Result = R.the-row;
   result = λ r zs. record { finished = r; ranges = zs };
   Said = λ κs h x b r e. StoredIn x (r .ranges) (λ ys ys′. RanLent h ys (now (b .0)) (now (b .1 .0)) (r .finished .outcome) (r .finished .changes) h ys′ (now (e .0)) (now (e .1 .0)));
-  said = λ κs h h′ x b r zs e holds rest. record { promise = subst (λ (g : DisjunctivePropagator). RanLent h (given x) (now (b .0)) (now (b .1 .0)) (r .outcome) (r .changes) g (take (x .count) zs) (now (e .0)) (now (e .1 .0))) (holds .same-record) holds; others = rest };
+  said = λ κs h h′ x b r zs e holds rest. record {
+    promise = subst (λ (g : DisjunctivePropagator). RanLent h (given x) (now (b .0)) (now (b .1 .0)) (r .outcome) (r .changes) g (take (x .count) zs) (now (e .0)) (now (e .1 .0)))
+        (holds .same-record) holds;
+    others = rest;
+  };
   values = λ κs. (slice-vals, (slice-vals, tt));
   tells = λ κs. (mut-slice-tells (named 0) (κs .0) i32, (mut-slice-tells (named 1) (κs .1 .0) i32, tt));
   resultTy = R′.mir;
@@ -57,7 +62,10 @@ run-spec 𝓤 H 𝓜 𝓖 𝓡 =
     (λ κs b are h x n bs. record {
       fits = ((tt, (tt, (record { fits = are .0 .0 .1 .0 }, tt))), ((tt, (tt, (record { fits = are .1 .0 .0 .1 .0 }, tt))), tt));
       places = ((_, refl, refl), (_, refl, refl), (_, refl, refl), (_, refl, refl), (_, refl, refl), (_, refl, refl), (_, refl, refl), (_, refl, refl));
-      agains = ((named 0, (_, refl, refl), (_, refl, refl), (_, refl, refl), (_, refl, refl), (_, refl, refl), (tt, (tt, (record { fits = are .0 .0 .1 .0 }, tt)))), (named 1, (_, refl, refl), (_, refl, refl), (_, refl, refl), (_, refl, refl), (_, refl, refl), (tt, (tt, (record { fits = are .1 .0 .0 .1 .0 }, tt)))));
+      agains = (
+        (named 0, (_, refl, refl), (_, refl, refl), (_, refl, refl), (_, refl, refl), (_, refl, refl), (tt, (tt, (record { fits = are .0 .0 .1 .0 }, tt)))),
+        (named 1, (_, refl, refl), (_, refl, refl), (_, refl, refl), (_, refl, refl), (_, refl, refl), (tt, (tt, (record { fits = are .1 .0 .0 .1 .0 }, tt)))),
+      );
       apart = refl;
       passed = ((_, _, refl, inr (1, refl)), ((_, _, refl, inr (3, refl)), ((_, _, refl, inr (5, refl)), ((_, _, refl, inr (7, refl)), tt))));
       ends = λ h′ zs v. (refl, (_, refl, refl), (_, refl, refl), (_, refl, refl), (_, refl, refl), refl);

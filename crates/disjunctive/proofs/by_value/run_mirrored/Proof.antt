@@ -7,7 +7,8 @@ use Rattle.promises.specs.RanMirroredLent.{RanMirroredLent}
 use Rattle.runs.proofs.outcome.Outcome as F
 use Rattle.runs.proofs.outcome.Outcome.Laws as F′
 use Rattle.disjunctive.specs.GivenRanges.{StoredIn}
-use Rattle.disjunctive.proofs.Walk.{givenOf, refl, sym, ap, subst, [], _∷_, some, Val, w32, named, mut, tyInt, tyRef, i32, now, length, Is, plain, mutSliceOf, sliceTy, slice-vals, mut-slice-tells, only}
+use Rattle.disjunctive.proofs.Walk.{givenOf, refl, sym, ap, subst, [], _∷_, some, Val, w32, named, mut, tyInt, tyRef, i32, now, length, Is, plain, mutSliceOf, sliceTy, slice-vals}
+use Rattle.disjunctive.proofs.Walk.{mut-slice-tells, only}
 use Rattle.disjunctive.proofs.open_calls.run_mirrored.Symbol as lent
 use Rattle.disjunctive.proofs.open_calls.run_mirrored.Met as lent-thm
 use Rattle.disjunctive.proofs.by_value.RanMirrored as R
@@ -57,7 +58,10 @@ run-mirrored-spec 𝓤 H 𝓜 𝓖 𝓡 =
     (λ κs b are h x n bs. record {
       fits = ((tt, (tt, (record { fits = are .0 .0 .1 .0 }, tt))), ((tt, (tt, (record { fits = are .1 .0 .0 .1 .0 }, tt))), tt));
       places = ((_, refl, refl), (_, refl, refl), (_, refl, refl), (_, refl, refl), (_, refl, refl), (_, refl, refl), (_, refl, refl), (_, refl, refl));
-      agains = ((named 0, (_, refl, refl), (_, refl, refl), (_, refl, refl), (_, refl, refl), (_, refl, refl), (tt, (tt, (record { fits = are .0 .0 .1 .0 }, tt)))), (named 1, (_, refl, refl), (_, refl, refl), (_, refl, refl), (_, refl, refl), (_, refl, refl), (tt, (tt, (record { fits = are .1 .0 .0 .1 .0 }, tt)))));
+      agains = (
+        (named 0, (_, refl, refl), (_, refl, refl), (_, refl, refl), (_, refl, refl), (_, refl, refl), (tt, (tt, (record { fits = are .0 .0 .1 .0 }, tt)))),
+        (named 1, (_, refl, refl), (_, refl, refl), (_, refl, refl), (_, refl, refl), (_, refl, refl), (tt, (tt, (record { fits = are .1 .0 .0 .1 .0 }, tt)))),
+      );
       apart = refl;
       passed = ((_, _, refl, inr (1, refl)), ((_, _, refl, inr (3, refl)), ((_, _, refl, inr (5, refl)), ((_, _, refl, inr (7, refl)), tt))));
       ends = λ h′ zs v. (refl, (_, refl, refl), (_, refl, refl), (_, refl, refl), (_, refl, refl), refl);

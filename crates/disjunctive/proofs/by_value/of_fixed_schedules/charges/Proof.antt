@@ -15,8 +15,8 @@ use Rattle.disjunctive.proofs.by_value.of_fixed_schedules.charges.Code 
 pub charges-spec : {M : Type 1} → stated.statement M
 unfolding code.routine
 charges-spec 𝓤 H 𝓜 𝓖 𝓡 =
-    reads-by-value 𝓤 H charges (sliceTy (tyRef (named 0) imm (tyInt w32)) ∷ []) none (3 ∷ []) 𝓜 𝓖 𝓡 code.env name lent.name (λ r v is. L.lawful O.the-type O′.the-laws 𝓤 H (𝓖 .A) (givenOf 𝓤 H 𝓜 𝓖) .typed r _ is .0)
-    ((L.makes O.the-type O′.the-plain) 𝓤 H (𝓖 .A))
+    reads-by-value 𝓤 H charges (sliceTy (tyRef (named 0) imm (tyInt w32)) ∷ []) none (3 ∷ []) 𝓜 𝓖 𝓡 code.env name lent.name
+    (λ r v is. L.lawful O.the-type O′.the-laws 𝓤 H (𝓖 .A) (givenOf 𝓤 H 𝓜 𝓖) .typed r _ is .0) ((L.makes O.the-type O′.the-plain) 𝓤 H (𝓖 .A))
     (λ κs b are h x n bs. record {
       fits = ((tt, (tt, (record { fits = are .0 .0 .1 .0 }, tt))), tt);
       places = ((_, refl, refl), (_, refl, refl), (_, refl, refl), (_, refl, refl), (_, refl, refl), (_, refl, refl), (_, refl, refl), (_, refl, refl));

@@ -16,8 +16,8 @@ use Rattle.disjunctive.proofs.by_value.of_fixed_schedules.free_start.Co
 pub free-start-spec : {M : Type 1} → stated.statement M
 unfolding code.routine
 free-start-spec 𝓤 H 𝓜 𝓖 𝓡 =
-    reads-by-value 𝓤 H free-start (tyInt w32 ∷ tyInt w32 ∷ []) none (3 ∷ 4 ∷ []) 𝓜 𝓖 𝓡 code.env name lent.name (λ r v is. L.lawful O.the-type O′.the-laws 𝓤 H (𝓖 .A) (givenOf 𝓤 H 𝓜 𝓖) tt .typed r _ is .0)
-    ((L.makes O.the-type O′.the-plain) 𝓤 H (𝓖 .A))
+    reads-by-value 𝓤 H free-start (tyInt w32 ∷ tyInt w32 ∷ []) none (3 ∷ 4 ∷ []) 𝓜 𝓖 𝓡 code.env name lent.name
+    (λ r v is. L.lawful O.the-type O′.the-laws 𝓤 H (𝓖 .A) (givenOf 𝓤 H 𝓜 𝓖) tt .typed r _ is .0) ((L.makes O.the-type O′.the-plain) 𝓤 H (𝓖 .A))
     (λ κs b are h x n bs. record {
       fits = ((tt, ofZ-fits w32 (b .0) (record { sfits = are .0 .1 })), ((tt, ofZ-fits w32 (b .1 .0) (record { sfits = are .1 .0 .1 })), tt));
       places = ((_, refl, refl), (_, refl, refl), (_, refl, refl), (_, refl, refl), (_, refl, refl), (_, refl, refl), (_, refl, refl), (_, refl, refl));
