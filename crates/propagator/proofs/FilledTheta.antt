@@ -1,17 +1,21 @@
--- The leaves become white, one after the other, and then the inner nodes are built.
-use mathlib.Core.Path.{_≡_, sym, ap, subst, _∙_}
+-- The leaves become white, one after the other, and the ect of their tasks is known.
+use mathlib.Core.Path.{_≡_, sym, ap, ap₂, subst, _∙_}
 use mathlib.Core.List.{List}
-use Prim.Native.Nat.{ℕ, _+_, _<_}
+use Prim.Native.Nat.{ℕ, _+_, _≤_, _<_, max}
 use native.Mathlib.Omega.{arith}
 use lib.ListN.{getD, replicate, length-replicate, getD-replicate}
 use lib.Seq.{ext-getD}
-use Rattle.integers.specs.Limits.{TASKS}
+use Rattle.integers.specs.Limits.{TASKS, DURATIONS}
 use Rattle.integers.specs.FilledLists.{filled}
 use Rattle.integers.proofs.FilledLists.{filled-none, filled-more, filled-length, filled-at}
-use Rattle.trees.specs.Leaves.{Leaf, empty, white}
-use Rattle.trees.specs.Trees.{IsTree, HasLeaves}
+use Rattle.scheduling.proofs.Sets.{total-up}
+use Rattle.trees.specs.NodeBounds.{LATEST}
+use Rattle.trees.specs.Ects.{raisedTo}
+use Rattle.trees.specs.Leaves.{Leaf, empty, white, durationAt, ect-bar}
+use Rattle.trees.specs.Trees.{HasLeaves}
 use Rattle.trees.specs.Operations.{HeldLeaves, HasTask, LeafColoured}
 use Rattle.trees.proofs.RebuiltTrees.{tree-leaves}
+use Rattle.trees.proofs.TasksInTurn.{ectOfFirst, first-none, first-more, first-small, all-in-turn}
 use Rattle.propagator.specs.FilledTheta.{Fillable}
 
 module _ {inner n : ℕ} {words reverseMapping est durations : List ℕ} (f : Fillable inner n words reverseMapping est durations) where
@@ -21,6 +25,9 @@ module _ {inner n : ℕ} {words reverseMapping est durations : List ℕ} (f : Fi
 
   pub none-white : HasLeaves (f .J) (f .estOrder) (upTo 0) inner words
   none-white = subst (λ (ls : List Leaf). HasLeaves (f .J) (f .estOrder) ls inner words) (sym (filled-none (λ _. white) (replicate (f .J .count) empty))) (tree-leaves (f .limited) (f .tree))
+
+  pub none-later : 0 ≡ ectOfFirst (f .J) (f .estOrder) 0
+  none-later = sym (first-none (f .J) (f .estOrder))
 
   module _ (x : ℕ) (q : x < n) where
     abbrev t : ℕ
@@ -44,8 +51,28 @@ module _ {inner n : ℕ} {words reverseMapping est durations : List ℕ} (f : Fi
   pub one-white : (x : ℕ) {now now′ : List ℕ} (i : HasLeaves (f .J) (f .estOrder) (upTo x) inner now) → LeafColoured white (shown x i) x now′ → HasLeaves (f .J) (f .estOrder) (upTo (x + 1)) inner now′
   one-white x {now} {now′} i p = subst (λ (ls : List Leaf). HasLeaves (f .J) (f .estOrder) ls inner now′) (sym (filled-more (λ _. white) x (replicate (f .J .count) empty))) p
 
-  pub all-white : (x : ℕ) → x ≡ n → {now : List ℕ} → IsTree (f .J) (f .estOrder) (upTo x) inner now → IsTree (f .J) (f .estOrder) (replicate (f .J .count) white) inner now
-  all-white x z {now} t = subst (λ (ls : List Leaf). IsTree (f .J) (f .estOrder) ls inner now) is t
+  -- the ect of the first x tasks
+  abbrev pub Ect : ℕ → ℕ → Type 0
+  Ect x ect = ect ≡ ectOfFirst (f .J) (f .estOrder) x
+
+  module _ {x ect e p m : ℕ} (is : Ect x ect) (h : HasTask (f .J) (f .estOrder) x e p) (z : m ≡ max ect e) where
+    pub one-later : Ect (x + 1) (m + p)
+    one-later = ap₂ _+_ (z ∙ ap₂ max is (h .start)) (h .lasts) ∙ sym (first-more (f .J) (f .estOrder) x)
+
+    pub ect-small : m + p ≤ LATEST + DURATIONS
+    ect-small = omega (
+      arith,
+      one-later,
+      first-small (f .J) (f .estOrder) (f .limited) (x + 1) (omega (arith, h .inside)),
+      total-up (durationAt (f .J) (f .estOrder)) (x + 1) (f .J .count) (omega (arith, h .inside)),
+      f .limited .durations,
+    )
+
+  pub all-later : (x : ℕ) → x ≡ n → {ect : ℕ} → Ect x ect → ect ≡ raisedTo 0 (ect-bar (f .J) (f .estOrder) (replicate (f .J .count) white))
+  all-later x z is = is ∙ ap (ectOfFirst (f .J) (f .estOrder)) (z ∙ sym (f .count)) ∙ sym (all-in-turn (f .J) (f .estOrder))
+
+  pub all-white : (x : ℕ) → x ≡ n → {now : List ℕ} → HasLeaves (f .J) (f .estOrder) (upTo x) inner now → HasLeaves (f .J) (f .estOrder) (replicate (f .J .count) white) inner now
+  all-white x z {now} t = subst (λ (ls : List Leaf). HasLeaves (f .J) (f .estOrder) ls inner now) is t
     where
       is : upTo x ≡ replicate (f .J .count) white
       is = ext-getD empty (upTo x) (replicate (f .J .count) white)

@@ -1,6 +1,6 @@
 -- What a run that the core may run brings to edge finding: the tasks' moments in arrays, in both orders, and the tree of all tasks.
 use mathlib.Core.Path.{_≡_, refl, sym, ap, ap₂, subst, _∙_}
-use mathlib.Core.Bool.{true}
+use mathlib.Core.Bool.{Bool, true}
 use mathlib.Core.List.{List, _++_, map}
 use Prim.Native.Nat.{ℕ, _+_, _-_, _*_, _≤_, _<_}
 use native.Mathlib.Omega.{arith}
@@ -8,6 +8,7 @@ use lib.Dec.{leb}
 use lib.IntN.{ℤ, pos, negℤ}
 use lib.ListN.{length, getD, take, replicate, length-replicate}
 use lib.Seq.{getD-take}
+use borrow.Author.Tests.{ltb-false}
 use Rattle.integers.specs.Limits.{TASKS, DURATIONS, MIRRORED, U32MAX}
 use Rattle.integers.specs.FilledLists.{filled, noTasks}
 use Rattle.integers.specs.Moments.{instant, zeroAt, Above, momentAt, completionAt}
@@ -20,9 +21,10 @@ use Rattle.scheduling.specs.Scheduling.{whole, natural, Tasks, tasksOf, Proper,
 use Rattle.scheduling.proofs.Processing.{processing-less, processing-all}
 use Rattle.scheduling.proofs.Clocks.{sound}
 use Rattle.scheduling.specs.Moments.{moments, ByEarliest}
-use Rattle.trees.specs.Leaves.{white}
-use Rattle.trees.specs.Trees.{IsTree}
-use Rattle.trees.specs.Operations.{New}
+use Rattle.trees.specs.Ects.{raisedTo}
+use Rattle.trees.specs.Leaves.{white, ect-bar}
+use Rattle.trees.specs.Trees.{HasLeaves}
+use Rattle.trees.specs.Operations.{HeldLeaves, New}
 use Rattle.trees.specs.declared.theta_lambda_tree.ThetaLambdaTree.{ThetaLambdaTree}
 use Rattle.trees.proofs.RootAnswers as tree
 use Rattle.runs.specs.Traces.{Trace}
@@ -41,10 +43,10 @@ use Rattle.sorts.specs.Orders.{SortedBy, Ranked, byKey, byKeyDown}
 use Rattle.sorts.proofs.Ranks.{rank-index}
 use Rattle.sorts.proofs.Sorted.{sorted-as}
 use Rattle.records.specs.declared.record.DisjunctivePropagator.{DisjunctivePropagator}
-use Rattle.propagator.specs.RunArrays.{Ordered, Holds, At}
+use Rattle.propagator.specs.RunArrays.{Ordered, Holds, Slices}
 use Rattle.runs.specs.declared.outcome.Outcome.{Outcome}
 use Rattle.propagator.specs.FilledTheta.{Fillable}
-use Rattle.propagator.specs.EdgeFinding.{EdgeFindable, EdgeFound}
+use Rattle.propagator.specs.EdgeFinding.{JoinedPast, EdgeFindable, EdgeFound}
 use Rattle.propagator.specs.Ran.{Runnable, traceOf, RunLeft}
 use Rattle.propagator.proofs.AcceptedInput as accepting
 
@@ -153,19 +155,15 @@ module _ (r : DisjunctivePropagator) (es ls : List ℤ) (postCount atomCount : �
   completion-small k q = let z : k < length ds = omega (arith, count) in omega (arith, early k z .2, lasting k z)
 
   -- the state at the start: nothing is written
-  pub at-start : (inner : ℕ) (words : List ℕ) (posts atoms : List ℤ) → IsTree J estOrder (replicate (J .count) white) inner words
-      → At J estOrder posts atoms (allWhite J) inner words es posts atoms 0 0 n
-  at-start inner words posts atoms t = record {
-    tree = t;
-    slices = record {
-      starts = subst (λ (m : ℕ). es ≡ map (instant zeroAt) (tabulate (J .earliest) 0 m)) (a .counts .earliest ∙ sym count)
-          (tabulated zeroAt es (J .earliest) 0 (λ k q. back k (omega (arith, q, a .counts .earliest, count))));
-      post-words = no-posts-stored posts;
-      atom-words = no-atoms-stored atoms;
-      posted = refl;
-      explained = sym no-reasons;
-      counted = sym count;
-    };
+  pub at-start : (posts atoms : List ℤ) → Slices posts atoms (allWhite J) es posts atoms 0 0 n
+  at-start posts atoms = record {
+    starts = subst (λ (m : ℕ). es ≡ map (instant zeroAt) (tabulate (J .earliest) 0 m)) (a .counts .earliest ∙ sym count)
+        (tabulated zeroAt es (J .earliest) 0 (λ k q. back k (omega (arith, q, a .counts .earliest, count))));
+    post-words = no-posts-stored posts;
+    atom-words = no-atoms-stored atoms;
+    posted = refl;
+    explained = sym no-reasons;
+    counted = sym count;
   }
     where
       back : (k : ℕ) → k < length ds → instant zeroAt (J .earliest (0 + k)) ≡ getD es k (pos 0)
@@ -211,6 +209,16 @@ module _ (r : DisjunctivePropagator) (es ls : List ℤ) (postCount atomCount : �
       pub sorted-tasks-order : Holds n (λ t. getD lctOrder t 0) sortedTasks
       sorted-tasks-order = holds-order sortedTasks lctOrder (sorted-second lct completions g) (g .size)
 
+      -- there is a first level, of a task
+      any : 0 < n
+      any = omega (arith, accepted .some, count)
+
+      first-small : getD sortedTasks 0 0 < n
+      first-small = omega (arith, sorted-tasks-order .at 0 any, ordered .by-completion .task 0 (accepted .some), count)
+
+      pub first-known : getD sortedTasks 0 0 < TASKS
+      first-known = omega (arith, first-small, few)
+
       -- the new tree, and the leaf of each task by its rank
       module _ {made : ThetaLambdaTree} {mapping : List ℕ} (t : New n made) (m : Ranked (byKey est) n mapping) where
         pub places : (x : ℕ) → x < n → getD mapping x 0 ≡ index estOrder x
@@ -230,10 +238,22 @@ module _ (r : DisjunctivePropagator) (es ls : List ℤ) (postCount atomCount : �
           lasts = λ x q. holds-durations .at (getD estOrder x 0) (omega (arith, count, by-earliest .task x (omega (arith, count))));
         }
 
-        abbrev pub findable : {words : List ℕ} {posts atoms : List ℤ} → IsTree J estOrder (replicate (J .count) white) (made .«number_of_internal_nodes») words → postCount ≡ length posts
-            → atomCount ≡ length atoms
-            → EdgeFindable (record { inner = made .«number_of_internal_nodes»; height = made .height; leaves = n }) words es posts atoms est lst lct (r .durations) reverseMapping sortedTasks mapping
-        findable {words} {posts} {atoms} full p q = record {
+        -- the first level's lct
+        pub first-lct : getD lct (getD sortedTasks 0 0) 0 ≡ completion J (getD lctOrder 0 0)
+        first-lct = ap (λ (k : ℕ). getD lct k 0) (sorted-tasks-order .at 0 any) ∙ completions .at (getD lctOrder 0 0) (omega (arith, first-small, sorted-tasks-order .at 0 any))
+
+        -- the white leaves that the tree was filled with, and the ect of all tasks
+        abbrev pub White : List ℕ → ℕ → Type 0
+        White words ect = HasLeaves J estOrder (replicate (J .count) white) (made .«number_of_internal_nodes») words × (ect ≡ raisedTo 0 (ect-bar J estOrder (replicate (J .count) white)))
+
+        abbrev pub begun : {words : List ℕ} {ect : ℕ} → White words ect → HeldLeaves (made .«number_of_internal_nodes») words
+        begun full = record { J = J; estOrder = estOrder; leaves = replicate (J .count) white; limited = ordered .limited; has = full .0 }
+
+        abbrev pub findable : {words words′ : List ℕ} {ect : ℕ} {past : Bool} {posts atoms : List ℤ} → White words ect
+            → JoinedPast (made .«number_of_internal_nodes») words words′ ect (getD lct (getD sortedTasks 0 0) 0) past → postCount ≡ length posts → atomCount ≡ length atoms
+            → EdgeFindable (record { inner = made .«number_of_internal_nodes»; height = made .height; leaves = n }) ect past words′ es posts atoms est lst lct (r .durations) reverseMapping
+            sortedTasks mapping
+        findable {words} {words′} {ect} {past} {posts} {atoms} full k p q = record {
           J = J;
           estOrder = estOrder;
           lctOrder = lctOrder;
@@ -244,7 +264,11 @@ module _ (r : DisjunctivePropagator) (es ls : List ℤ) (postCount atomCount : �
           order = sorted-tasks-order;
           post-room = omega (arith, p, a .words .posts);
           atom-room = omega (arith, q, a .words .atoms);
-          at = at-start (made .«number_of_internal_nodes») words posts atoms full;
+          ect-is = full .1;
+          has = k .has (begun full);
+          tree = k .tree (begun full);
+          unjoined = λ z. omega (arith, ltb-false (getD lct (getD sortedTasks 0 0) 0) ect (sym (k .past) ∙ z), first-lct);
+          slices = at-start posts atoms;
         }
 
       -- and what a run leaves

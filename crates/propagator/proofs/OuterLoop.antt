@@ -50,8 +50,8 @@ use Rattle.propagator.specs.EdgeFinding.{HeldPast, conflictOf, ConflictE
 use Rattle.propagator.proofs.MovedToLambda as moving
 use Rattle.propagator.proofs.OverloadReason as overloading
 
-module _ {size : TreeSize} {words : List ℕ} {es posts atoms : List ℤ} {est lst lct durations reverseMapping sortedTasks mapping : List ℕ}
-    (s : EdgeFindable size words es posts atoms est lst lct durations reverseMapping sortedTasks mapping) where
+module _ {size : TreeSize} {first : ℕ} {past : Bool} {words : List ℕ} {es posts atoms : List ℤ} {est lst lct durations reverseMapping sortedTasks mapping : List ℕ}
+    (s : EdgeFindable size first past words es posts atoms est lst lct durations reverseMapping sortedTasks mapping) where
   abbrev n : ℕ
   n = size .leaves
 
@@ -101,16 +101,19 @@ module _ {size : TreeSize} {words : List ℕ} {es posts atoms : List ℤ} {est l
   abbrev pub Told : List ℕ → ℕ → Type 0
   Told words′ last = Answers (λ J estOrder ls. raisedTo 0 (leaves.ect-bar J estOrder ls)) words′ last
 
-  pub first-level : {last : ℕ} → Told words last → Level 0 words es posts atoms (nothingWritten n) last true
-  first-level told = record {
+  pub any : 0 < n
+  any = omega (arith, G .some, s .arrays .count)
+
+  pub first-level : Level 0 words es posts atoms (nothingWritten n) first past
+  first-level = record {
     st = allWhite J;
-    small = omega (arith, G .some, s .arrays .count);
+    small = any;
     entered = begins;
-    has = tree-leaves (G .limited) (s .at .tree);
-    tree = λ _. s .at .tree;
-    slices = s .at .slices;
-    most = omega (arith, told inn (held (s .at .tree)));
-    unjoined = λ z. clash {b = true} refl z;
+    has = s .has;
+    tree = s .tree;
+    slices = s .slices;
+    most = omega (arith, s .ect-is);
+    unjoined = s .unjoined;
     rest = run-is zeroAt J estOrder lctOrder ∙ ap (λ (f : ℕ). rest-of f 0 (allWhite J)) turns;
   }
     where

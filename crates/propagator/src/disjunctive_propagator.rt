@@ -6,6 +6,7 @@ use integers::limits::TREEWORDS;
 use integers::moments::completions;
 use integers::moments::moments_of;
 use integers::moments::start_of;
+use integers::numbers::max;
 use post_words::write_post;
 use records::record::DisjunctivePropagator;
 use records::refusals::run_refusal;
@@ -29,12 +30,12 @@ ghost use Rattle.records.specs.Records.{recordOf};
 ghost use Rattle.trees.specs.Ects.{exceeds, raisedTo};
 ghost use Rattle.trees.specs.Leaves.{ect, ect-bar, sum};
 ghost use Rattle.trees.specs.ArraySearches.{thetaIn};
-ghost use Rattle.trees.specs.Operations.{Held, Answers, Tall};
+ghost use Rattle.trees.specs.Operations.{Held, HeldLeaves, Answers, Tall};
 ghost use Rattle.explanations.specs.Explanations.{ConflictExplainable, PropagationExplainable};
 ghost use Rattle.propagator.specs.Ran.{Runnable, RunLeft, Ran};
 ghost use Rattle.propagator.specs.RunArrays.{SizeFits};
 ghost use Rattle.propagator.specs.FilledTheta.{Fillable, Filled};
-ghost use Rattle.propagator.specs.EdgeFinding.{HeldPast, ConflictExplained, conflictOf, EdgeFindable, EdgeFound};
+ghost use Rattle.propagator.specs.EdgeFinding.{HeldPast, JoinedPast, ConflictExplained, conflictOf, EdgeFindable, EdgeFound};
 ghost use Rattle.propagator.specs.MovedToLambda.{Movable, Moved};
 ghost use Rattle.propagator.specs.Candidates.{nothingWritten, counted, Proposes, reasonOf, Posted, Considerable, Considered, AllConsidered};
 ghost use Rattle.propagator.specs.Candidates.{Responsible-for};
@@ -123,7 +124,8 @@ pub fn run_accepted(
         height: tree.height,
         leaves: n,
     };
-    fill(&mut tree.nodes, inner, &reverse_mapping, &est, durations, n);
+    let ect = fill(&mut tree.nodes, inner, &reverse_mapping, &est, durations, n);
+    let past = join_where_past(&mut tree.nodes, inner, ect, lct[sorted_tasks[0]]);
     edge_finding(
         &mut tree.nodes,
         earliest,
@@ -137,6 +139,8 @@ pub fn run_accepted(
         &lct,
         durations,
         size,
+        ect,
+        past,
     )
 }
 
@@ -144,7 +148,8 @@ pub fn run_accepted(
 // tasks go from there to Lambda one by one, and the tasks of Lambda are considered after each.
 //
 // A move to Lambda never raises ect_bar. So where the last known one is not past the next lct, that level has no candidate and no overload. The level is then
-// the gray leaf and its count alone, and the inner nodes are left until a level needs the root.
+// the gray leaf and its count alone, and the inner nodes are left until a level needs the root. The first known one is `ect`, that of all tasks. Where it is
+// `past` the first lct, the inner nodes are joined already.
 fn edge_finding<'a>(
     nodes: &mut [u32; TREEWORDS],
     earliest: &mut [i32],
@@ -158,18 +163,20 @@ fn edge_finding<'a>(
     lct: &'a [u32; TASKS],
     durations: &'a [u32; TASKS],
     size: TreeSize,
+    ect: u32,
+    past: bool,
 ) -> Finished
-    requires { ⌜ EdgeFindable size (now nodes) (now earliest) (now posts) (now atoms) (now est) (now lst) (now lct) (now durations) (now «reverse_mapping»)
-        (now «sorted_tasks») (now mapping) ⌝ }
-    ensures { λ r. ⌜ ((s : EdgeFindable size (now (nodes .entry)) (now (earliest .entry)) (now (posts .entry)) (now (atoms .entry)) (now (est .entry))
+    requires { ⌜ EdgeFindable size ect past (now nodes) (now earliest) (now posts) (now atoms) (now est) (now lst) (now lct) (now durations)
+        (now «reverse_mapping») (now «sorted_tasks») (now mapping) ⌝ }
+    ensures { λ r. ⌜ ((s : EdgeFindable size ect past (now (nodes .entry)) (now (earliest .entry)) (now (posts .entry)) (now (atoms .entry)) (now (est .entry))
         (now (lst .entry)) (now (lct .entry)) (now (durations .entry)) (now («reverse_mapping» .entry)) (now («sorted_tasks» .entry)) (now (mapping .entry)))
         → EdgeFound (s .J) (s .estOrder) (s .lctOrder) (now (posts .entry)) (now (atoms .entry)) (r .outcome) (r .changes) (now (earliest .exit))
         (now (posts .exit)) (now (atoms .exit))) ⌝ }
 {
     let n = size.leaves;
     let mut w = Written::new(n);
-    let mut last_ect_bar = ect_bar_moment(nodes);
-    let mut joined = true;
+    let mut last_ect_bar = ect;
+    let mut joined = past;
     let mut index: usize = 0;
     while index + 1 < n {
         let j = sorted_tasks[index];
@@ -207,7 +214,20 @@ fn edge_finding<'a>(
     w.finished(Outcome::Done(w.posts))
 }
 
-// Puts every task into Theta. The source adds them one by one; here the leaves come first and then each inner node once, which leaves the same tree.
+// Joins the inner nodes where an ect_bar is past lct, and answers whether it is.
+fn join_where_past(nodes: &mut [u32; TREEWORDS], inner: usize, ect_bar: u32, lct: u32) -> bool
+    requires { ⌜ HeldLeaves inner (now nodes) ⌝ }
+    ensures { λ r. ⌜ JoinedPast inner (now (nodes .entry)) (now (nodes .exit)) «ect_bar» lct r ⌝ }
+{
+    if ect_bar <= lct {
+        return false;
+    }
+    ThetaLambdaTree::rebuild(nodes, inner);
+    true
+}
+
+// Puts every task into Theta, and answers the ect of all: one after the other, as the leaves stand in the order of earliest starts. The source adds the tasks
+// one by one; here the inner nodes are left until a level needs the root.
 fn fill<'a>(
     nodes: &mut [u32; TREEWORDS],
     inner: usize,
@@ -215,10 +235,11 @@ fn fill<'a>(
     est: &'a [u32; TASKS],
     durations: &'a [u32; TASKS],
     n: usize,
-)
+) -> u32
     requires { ⌜ Fillable inner n (now nodes) (now «reverse_mapping») (now est) (now durations) ⌝ }
-    ensures { λ _. ⌜ Filled inner n (now (nodes .entry)) (now (nodes .exit)) (now («reverse_mapping» .entry)) (now (est .entry)) (now (durations .entry)) ⌝ }
+    ensures { λ r. ⌜ Filled inner n (now (nodes .entry)) (now (nodes .exit)) (now («reverse_mapping» .entry)) (now (est .entry)) (now (durations .entry)) r ⌝ }
 {
+    let mut ect: u32 = 0;
     let mut x: usize = 0;
     while x < n {
         let id = task_of(reverse_mapping, LeafPlace(x));
@@ -229,9 +250,10 @@ fn fill<'a>(
             id,
         };
         ThetaLambdaTree::lay_in_theta(nodes, inner, LeafPlace(x), task);
+        ect = max(ect, task.start_time) + task.processing_time;
         x += 1;
     }
-    ThetaLambdaTree::rebuild(nodes, inner);
+    ect
 }
 
 // The ect_bar of the tree as a moment: 0 where no task is in Theta or Lambda.

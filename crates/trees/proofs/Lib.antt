@@ -14,6 +14,7 @@ pub mod LeafColours
 pub mod RangeNodes
 pub mod ResponsibleTask
 pub mod RootAnswers
+pub mod TasksInTurn
 pub mod Trees
 pub mod RebuiltTrees
 pub mod Examples

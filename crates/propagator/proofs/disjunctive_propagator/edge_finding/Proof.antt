@@ -12,16 +12,17 @@ use Rattle.trees.specs.Ects.{exceeds}
 use Rattle.trees.specs.declared.complete_tree.TreeSize.{TreeSize}
 use Rattle.propagator.specs.declared.disjunctive_propagator.Written.{Written}
 use Rattle.propagator.specs.EdgeFinding.{EdgeFindable}
-use Rattle.propagator.proofs.OuterLoop.{Level, tested, shown, ect, sorted-task-small, first-level, all-done, over-asked, size-fits, few-changes, overloads, moves, passed-over, goes-on}
+use Rattle.propagator.proofs.OuterLoop.{Level, tested, shown, ect, sorted-task-small, any, first-level, all-done, over-asked, size-fits, few-changes, overloads, moves, passed-over, goes-on}
 use Rattle.propagator.proofs.OuterLoop.{one-more, one-emptied}
 use Rattle.propagator.proofs.disjunctive_propagator.edge_finding.Statement.{statement}
 use Rattle.propagator.proofs.disjunctive_propagator.edge_finding.Tie as tie
 
 -- the level that the loop stands at; the slices keep their lengths
-record Loop (size : TreeSize) (n : ℕ) (nodes₀ : List ℕ) (earliest₀ posts₀ atoms₀ : List ℤ) (est lst lct durations reverseMapping sortedTasks mapping nodes : List ℕ) (earliest posts atoms : List ℤ)
+record Loop (size : TreeSize) (ect : ℕ) (past : Bool) (n : ℕ) (nodes₀ : List ℕ) (earliest₀ posts₀ atoms₀ : List ℤ)
+    (est lst lct durations reverseMapping sortedTasks mapping nodes : List ℕ) (earliest posts atoms : List ℤ)
     (w : Written) (last : ℕ) (joined : Bool) (index : ℕ) : Type 0 where
-  findable : EdgeFindable size nodes₀ earliest₀ posts₀ atoms₀ est lst lct durations reverseMapping sortedTasks mapping
-  level : (s : EdgeFindable size nodes₀ earliest₀ posts₀ atoms₀ est lst lct durations reverseMapping sortedTasks mapping) → Level s index nodes earliest posts atoms w last joined
+  findable : EdgeFindable size ect past nodes₀ earliest₀ posts₀ atoms₀ est lst lct durations reverseMapping sortedTasks mapping
+  level : (s : EdgeFindable size ect past nodes₀ earliest₀ posts₀ atoms₀ est lst lct durations reverseMapping sortedTasks mapping) → Level s index nodes earliest posts atoms w last joined
   count : n ≡ size .leaves
   small : index < size .leaves
   starts-length : length earliest ≡ length earliest₀
@@ -29,14 +30,15 @@ record Loop (size : TreeSize) (n : ℕ) (nodes₀ : List ℕ) (earliest₀ posts
   atoms-length : length atoms ≡ length atoms₀
 
 abbrev Inv-loop : tie.InvT-loop
-Inv-loop nodes₀ earliest₀ posts₀ atoms₀ mapping reverseMapping sortedTasks est lst lct durations size n w₀ last₀ joined₀ index₀ nodes earliest posts atoms w last joined index =
-    Loop size n nodes₀ earliest₀ posts₀ atoms₀ est lst lct durations reverseMapping sortedTasks mapping nodes earliest posts atoms w last joined index
+Inv-loop nodes₀ earliest₀ posts₀ atoms₀ mapping reverseMapping sortedTasks est lst lct durations size ect past n w₀ last₀ joined₀ index₀ nodes earliest posts atoms w last joined index =
+    Loop size ect past n nodes₀ earliest₀ posts₀ atoms₀ est lst lct durations reverseMapping sortedTasks mapping nodes earliest posts atoms w last joined index
 
 abbrev μ-loop : tie.MeasureT-loop
-μ-loop nodes₀ earliest₀ posts₀ atoms₀ mapping reverseMapping sortedTasks est lst lct durations size n w₀ last₀ joined₀ index₀ nodes earliest posts atoms w last joined index = size .leaves - index
+μ-loop nodes₀ earliest₀ posts₀ atoms₀ mapping reverseMapping sortedTasks est lst lct durations size ect past n w₀ last₀ joined₀ index₀ nodes earliest posts atoms w last joined index =
+    size .leaves - index
 
 abbrev start : tie.In-loop Inv-loop μ-loop → tie.Start Inv-loop μ-loop
-start c = c .before .before .before .before .before
+start c = c .before .before .before
 
 -- inside the loop: the level's task and its lct, and that a level follows
 abbrev task : tie.In-loop Inv-loop μ-loop → ℕ
@@ -66,12 +68,12 @@ abbrev considering : tie.After-known-told Inv-loop μ-loop → tie.After-conside
 considering c = c .before .before .before .before .before .before
 
 loop-holds : tie.Need-loop-holds Inv-loop μ-loop
-loop-holds c = let s = c .before .before .before .pre in
+loop-holds c = let s = c .before .pre in
     record {
       findable = s;
-      level = λ s. rw (c .before .before .new .ensures) (first-level s (c .ect-bar-moment .ensures));
+      level = λ s. rw (c .new .ensures) (first-level s);
       count = refl;
-      small = first-level s (c .ect-bar-moment .ensures) .small;
+      small = any s;
       starts-length = refl;
       posts-length = refl;
       atoms-length = refl;
@@ -83,8 +85,8 @@ mul-lct-j c = let l = c .before .before .loop in omega (arith, sorted-task-small
 -- the test of the level, by the leaves of whatever it began with
 abbrev Test : tie.In-loop Inv-loop μ-loop → Bool → Type 0
 Test c u = let a = start c .args in let l = c .before .loop in
-    (s : EdgeFindable (a .size) (a .nodes .now) (a .earliest .now) (a .posts .now) (a .atoms .now) (a .est .now) (a .lst .now) (a .lct .now) (a .durations .now) (a .reverse-mapping .now)
-    (a .sorted-tasks .now) (a .mapping .now))
+    (s : EdgeFindable (a .size) (a .ect) (a .past) (a .nodes .now) (a .earliest .now) (a .posts .now) (a .atoms .now) (a .est .now) (a .lst .now) (a .lct .now) (a .durations .now)
+    (a .reverse-mapping .now) (a .sorted-tasks .now) (a .mapping .now))
     → exceeds (ect s (l .inv .level s) (more c)) (end c) ≡ u
 
 passes : (c : tie.Then1 Inv-loop μ-loop) → Test (entered (c .before)) true
@@ -148,7 +150,7 @@ loop-again c =
       level = λ s.
           let g = goes-on s (v .level s) (more (level-of move)) (quiet move s) (move .move-to-lambda .ensures) (need .before .counted .ensures) (need .if2 .taken) in
           one-more s (v .level s) (more (level-of move)) (quiet move s) (move .move-to-lambda .ensures) (need .before .counted .ensures) (need .if2 .taken) (told .before .x .given .1)
-          (considered .consider-all .ensures g) (c .ect-bar-moment2 .ensures);
+          (considered .consider-all .ensures g) (c .ect-bar-moment .ensures);
       count = v .count;
       small = more (level-of move);
       starts-length = search needs;
@@ -208,7 +210,7 @@ pub edge-finding-spec : {M : Type 1} → statement M
 edge-finding-spec =
     tie.close
     (tie.spec
-    Inv-loop μ-loop (λ c κs. search needs) (λ c κs. search needs) loop-holds (λ c. search needs) (λ c. search needs)
+    Inv-loop μ-loop (λ c κs. search needs) loop-holds (λ c. search needs) (λ c. search needs)
     (λ c. search needs) mul-lct-j (λ c. search (needs, sorted-task-small)) (λ c κs. search needs) overloaded-requires
     (λ c. search needs) (λ c. search needs) (λ c. search needs) returns (λ c. search needs) (λ c. search needs)
     (λ c. search needs) mul-lct-next-2 (λ c. search (needs, sorted-task-small)) move-to-lambda-requires counted-requires

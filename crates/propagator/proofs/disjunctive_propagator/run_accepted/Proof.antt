@@ -1,15 +1,18 @@
 -- The arrays and the tree of all tasks are what edge finding asks for, and what it leaves is the trace.
 use mathlib.Core.Path.{_≡_, refl}
+use mathlib.Core.Bool.{Bool}
 use mathlib.Core.List.{List}
-use Prim.Native.Nat.{ℕ}
-use lib.ListN.{length}
+use Prim.Native.Nat.{ℕ, _<_}
+use native.Mathlib.Omega.{arith}
+use lib.ListN.{length, getD}
 use borrow.Author.Needs.{needs}
 use Rattle.integers.specs.Limits.{TASKS}
 use Rattle.records.specs.declared.record.DisjunctivePropagator.{DisjunctivePropagator}
 use Rattle.records.specs.Records.{recordOf}
 use Rattle.propagator.specs.FilledTheta.{Fillable, Filled}
-use Rattle.propagator.specs.EdgeFinding.{EdgeFindable}
-use Rattle.propagator.proofs.InitialArrays.{key-small, keys-small, latest, fillable, findable, left}
+use Rattle.trees.specs.Operations.{HeldLeaves}
+use Rattle.propagator.specs.EdgeFinding.{JoinedPast, EdgeFindable}
+use Rattle.propagator.proofs.InitialArrays.{key-small, keys-small, latest, first-known, fillable, begun, findable, left}
 use Rattle.propagator.proofs.disjunctive_propagator.run_accepted.Statement.{statement}
 use Rattle.propagator.proofs.disjunctive_propagator.run_accepted.Tie as tie
 
@@ -46,19 +49,41 @@ can-fill c =
     (lct c .completions .ensures)
     (ranked c .sort-with-ranks .ensures .0) (sortedTasks c .sort-numbers-down .ensures) (c .new .ensures) (ranked c .sort-with-ranks .ensures .1)
 
--- and that of all tasks is what edge finding begins with
-abbrev can-find : (c : tie.After-new) (words : List ℕ) → let a = start c .args in
-    Filled (c .new .result .«number_of_internal_nodes») (a .n) (c .new .result .nodes) words (ranked c .sort-with-ranks .last .0) (est c .moments-of .last .0) (a .durations .now)
-    → EdgeFindable (record { inner = c .new .result .«number_of_internal_nodes»; height = c .new .result .height; leaves = a .n }) words (a .earliest .now) (a .posts .now) (a .atoms .now)
-    (est c .moments-of .last .0)
+-- the leaves of all tasks are there then,
+abbrev Full : tie.After-new → List ℕ → ℕ → Type 0
+Full c words ect = let a = start c .args in
+    Filled (c .new .result .«number_of_internal_nodes») (a .n) (c .new .result .nodes) words (ranked c .sort-with-ranks .last .0) (est c .moments-of .last .0) (a .durations .now) ect
+
+abbrev can-join : (c : tie.After-new) (words : List ℕ) (ect : ℕ) → Full c words ect → HeldLeaves (c .new .result .«number_of_internal_nodes») words
+can-join c words ect filled =
+    let s = start c in
+    let a = s .args in
+    begun (before s) (a .earliest .now) (a .latest .now) (length (a .posts .now)) (length (a .atoms .now)) (s .pre .2) (s .pre .1) (est c .moments-of .ensures) (lst c .moments-of2 .ensures)
+    (lct c .completions .ensures)
+    (ranked c .sort-with-ranks .ensures .0) (sortedTasks c .sort-numbers-down .ensures) (c .new .ensures) (ranked c .sort-with-ranks .ensures .1) (filled (can-fill c))
+
+-- and are what edge finding begins with
+abbrev can-find : (c : tie.After-new) (words words′ : List ℕ) (ect : ℕ) (past : Bool) → Full c words ect
+    → JoinedPast (c .new .result .«number_of_internal_nodes») words words′ ect (getD (lct c .completions .last .0) (getD (sortedTasks c .sort-numbers-down .last .0) 0 0) 0) past
+    → let a = start c .args in
+    EdgeFindable (record { inner = c .new .result .«number_of_internal_nodes»; height = c .new .result .height; leaves = a .n }) ect past words′ (a .earliest .now) (a .posts .now)
+    (a .atoms .now) (est c .moments-of .last .0)
     (lst c .moments-of2 .last .0) (lct c .completions .last .0) (a .durations .now) (ranked c .sort-with-ranks .last .0) (sortedTasks c .sort-numbers-down .last .0)
     (ranked c .sort-with-ranks .last .1 .0)
-can-find c words filled =
+can-find c words words′ ect past filled k =
     let s = start c in
     let a = s .args in
     findable (before s) (a .earliest .now) (a .latest .now) (length (a .posts .now)) (length (a .atoms .now)) (s .pre .2) (s .pre .1) (est c .moments-of .ensures) (lst c .moments-of2 .ensures)
     (lct c .completions .ensures)
-    (ranked c .sort-with-ranks .ensures .0) (sortedTasks c .sort-numbers-down .ensures) (c .new .ensures) (ranked c .sort-with-ranks .ensures .1) (filled (can-fill c)) refl refl
+    (ranked c .sort-with-ranks .ensures .0) (sortedTasks c .sort-numbers-down .ensures) (c .new .ensures) (ranked c .sort-with-ranks .ensures .1) (filled (can-fill c)) k refl refl
+
+-- the first task of the order is one
+known : (c : tie.After-new) → getD (sortedTasks c .sort-numbers-down .last .0) 0 0 < TASKS
+known c =
+    let s = start c in
+    let a = s .args in
+    first-known (before s) (a .earliest .now) (a .latest .now) (length (a .posts .now)) (length (a .atoms .now)) (s .pre .2) (s .pre .1) (est c .moments-of .ensures) (lst c .moments-of2 .ensures)
+    (lct c .completions .ensures) (ranked c .sort-with-ranks .ensures .0) (sortedTasks c .sort-numbers-down .ensures)
 
 completions-requires : tie.Need-completions-requires
 completions-requires c κs =
@@ -86,20 +111,26 @@ sort-numbers-down-requires c κs =
 fill-requires : tie.Need-fill-requires
 fill-requires c κs = can-fill (c .before .before .before)
 
+join-where-past-requires : tie.Need-join-where-past-requires
+join-where-past-requires c κs = let full = c .before in can-join (full .before .before .before .before) _ _ (full .fill .ensures)
+
 edge-finding-requires : tie.Need-edge-finding-requires
 edge-finding-requires c κs =
-    let full = c .before .before .before .before .before .before .before .before .before .before in
-    can-find (full .before .before .before .before) _ (full .fill .ensures)
+    let joined = c .before .before .before .before .before .before .before .before .before .before in
+    let full = joined .before .before in
+    can-find (full .before .before .before .before) _ _ _ _ (full .fill .ensures) (joined .join-where-past .ensures)
 
 returns : tie.Need-returns
 returns c =
-    let full = c .before .before .before .before .before .before .before .before .before .before .before .before .before .before in
+    let joined = c .before .before .before .before .before .before .before .before .before .before .before .before .before .before in
+    let full = joined .before .before in
     let u = full .before .before .before .before in
     let s = start u in
     let a = s .args in
     let l = left (before s) (a .earliest .now) (a .latest .now) (length (a .posts .now)) (length (a .atoms .now)) (s .pre .2) (s .pre .1) (est u .moments-of .ensures) (lst u .moments-of2 .ensures)
     (lct u .completions .ensures)
-    (ranked u .sort-with-ranks .ensures .0) (sortedTasks u .sort-numbers-down .ensures) refl refl (c .before .before .before .edge-finding .ensures (can-find u _ (full .fill .ensures))) in
+    (ranked u .sort-with-ranks .ensures .0) (sortedTasks u .sort-numbers-down .ensures) refl refl
+    (c .before .before .before .edge-finding .ensures (can-find u _ _ _ _ (full .fill .ensures) (joined .join-where-past .ensures))) in
     -- the stored sum stands in no field
     λ stored. record {
       answer = l .answer;
@@ -117,5 +148,6 @@ run-accepted-spec =
     tie.close
     (tie.spec
     (λ c κs. search needs) (λ c κs. search needs) completions-requires (λ c κs. search needs)
-    sort-numbers-down-requires (λ c κs. search needs) fill-requires edge-finding-requires
+    sort-numbers-down-requires (λ c κs. search needs) fill-requires (λ c. search needs)
+    (λ c. omega (arith, known (c .before .before .before .before .before))) (λ c. known (c .before .before .before .before .before)) join-where-past-requires edge-finding-requires
     (λ c. search needs) (λ c. search needs) (λ c. search needs) returns)
