@@ -339,7 +339,7 @@ module _ (o : ℕ) (Z : Tasks whole) (okz : Proper Z) (deepz : (k : ℕ) → k <
           bounded = ranges;
           formula = checks-down o B (okz .lasts) (Ω with i) (G .earliest) (G .latest) (λ k h. instant-above o (G .earliest k))
               (λ k h. at-le o (G .earliest k) (G .latest k) (range k (record { small = h .small; mem = h .mem }))) (λ k h. moment-instant o (G .earliest k)) (λ k h. moment-instant o (G .latest k))
-              Ω i (λ k h. with-old Ω i k (h .mem)) (with-new Ω i) passes-ℕ;
+              Ω (λ k h. with-old Ω i k (h .mem)) i (with-new Ω i) passes-ℕ;
         }
 
         at-entry : HoldsAtEntry Z (Pre ++ Mine)

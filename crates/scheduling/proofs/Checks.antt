@@ -1,5 +1,5 @@
 -- A check that passes is sound over all whole-number starts: only the ranges of the tasks that it looks at count.
-use mathlib.Core.Path.{_≡_, refl, sym, ap, _∙_}
+use mathlib.Core.Path.{_≡_, refl, sym, subst}
 use mathlib.Core.Bool.{true, cond}
 use mathlib.Core.Logic.{_⊎_, inl, inr}
 use Prim.Native.Nat.{ℕ, _+_, _-_, _≤_, _<_}
@@ -17,20 +17,6 @@ use Rattle.integers.proofs.Ints.{ints}
 use Rattle.scheduling.proofs.Clocks.{checks→, checks←, overload→, overload←}
 use Rattle.scheduling.specs.Moments.{moments}
 
--- other ranges outside X
-module _ {C : Clock} (B : Tasks C) (X : TaskSet) (e l : ℕ → C .Moment) (e-same : (k : ℕ) → In B X k → e k ≡ B .earliest k) (l-same : (k : ℕ) → In B X k → l k ≡ B .latest k) where
-  abbrev pub Only : Tasks C
-  Only = record { count = B .count; earliest = e; latest = l; duration = B .duration }
-
-  agree : Agree B Only X
-  agree = record { count = refl; duration = λ k. refl; earliest = λ k h. sym (e-same k h); latest = λ k h. sym (l-same k h) }
-
-  pub only-checks : (Ω : TaskSet) (i : ℕ) → Subset B Ω X → X i ≡ true → RuleFormula B Ω i → RuleFormula Only Ω i
-  only-checks = formula→ B Only X agree
-
-  pub only-overloads : (Ω : TaskSet) → Subset B Ω X → Overloads B Ω → Overloads Only Ω
-  only-overloads = overloads→ B Only X agree
-
 -- Whole-number starts at which no two tasks overlap.
 module _ (B : Tasks whole) (lasts : (k : ℕ) → k < B .count → 1 ≤ B .duration k) (s : ℕ → ℤ)
     (apart : NoOverlap B s) where
@@ -41,16 +27,12 @@ module _ (B : Tasks whole) (lasts : (k : ℕ) → k < B .count → 1 ≤ B .dura
     l′ : ℕ → ℤ
     l′ k = cond (X k) (B .latest k) (s k)
 
-    e-is : (k : ℕ) → In B X k → e′ k ≡ B .earliest k
-    unfolding e′
-    e-is k h = rw (h .mem)
-
-    l-is : (k : ℕ) → In B X k → l′ k ≡ B .latest k
-    unfolding l′
-    l-is k h = rw (h .mem)
-
     abbrev K : Tasks whole
-    K = Only B X e′ l′ e-is l-is
+    K = record { count = B .count; earliest = e′; latest = l′; duration = B .duration }
+
+    agree : Agree B K X
+    unfolding e′ l′
+    agree = record { count = refl; duration = λ k. refl; earliest = λ k h. rw (h .mem); latest = λ k h. rw (h .mem) }
 
     from′ : (k : ℕ) → k < B .count → K .earliest k ≤ℤ s k
     unfolding e′
@@ -88,11 +70,10 @@ module _ (B : Tasks whole) (lasts : (k : ℕ) → k < B .count → 1 ≤ B .dura
         (λ k h. mono o (K .earliest k) (s k) (from′ k (h .small))) (λ k h. mono o (s k) (K .latest k) (to′ k (h .small)))
 
   pub check-sound : (Ω : TaskSet) (i : ℕ) → RuleFormula B Ω i → ((k : ℕ) → In B (Ω with i) k → B .earliest k ≤ℤ s k) → ((k : ℕ) → In B (Ω with i) k → s k ≤ℤ B .latest k) → ⊥
-  check-sound Ω i c from to = by-check (Ω with i) from to Ω i
-      (only-checks B (Ω with i) (e′ (Ω with i) from to) (l′ (Ω with i) from to) (e-is (Ω with i) from to) (l-is (Ω with i) from to) Ω i (λ k h. with-old Ω i k (h .mem)) (with-new Ω i) c)
+  check-sound Ω i c from to = let X = Ω with i in by-check X from to Ω i (formula→ B (K X from to) X (agree X from to) Ω i (λ k h. with-old Ω i k (h .mem)) (with-new Ω i) c)
 
   pub overload-check : (Ω : TaskSet) → Overloads B Ω → ((k : ℕ) → In B Ω k → B .earliest k ≤ℤ s k) → ((k : ℕ) → In B Ω k → s k ≤ℤ B .latest k) → ⊥
-  overload-check Ω c from to = by-overload Ω from to Ω (only-overloads B Ω (e′ Ω from to) (l′ Ω from to) (e-is Ω from to) (l-is Ω from to) Ω (λ k h. h .mem) c)
+  overload-check Ω c from to = by-overload Ω from to Ω (overloads→ B (K Ω from to) Ω (agree Ω from to) Ω (λ k h. h .mem) c)
 
 -- From moments back to the whole-number ranges of the tasks that a check looks at: `e` and `l` are their moments. What stands at the other tasks is free.
 module _ (o : ℕ) (B : Tasks whole) (lasts : (k : ℕ) → k < B .count → 1 ≤ B .duration k) (X : TaskSet) (e l : ℕ → ℕ) (above : (k : ℕ) → In B X k → Above o (B .earliest k))
@@ -106,16 +87,21 @@ module _ (o : ℕ) (B : Tasks whole) (lasts : (k : ℕ) → k < B .count → 1 �
   l″ : ℕ → ℤ
   l″ k = cond (X k) (B .latest k) (pos 0)
 
-  e-in : (k : ℕ) → In B X k → e″ k ≡ B .earliest k
-  unfolding e″
-  e-in k h = rw (h .mem)
-
-  l-in : (k : ℕ) → In B X k → l″ k ≡ B .latest k
-  unfolding l″
-  l-in k h = rw (h .mem)
-
   abbrev K″ : Tasks whole
-  K″ = Only B X e″ l″ e-in l-in
+  K″ = record { count = B .count; earliest = e″; latest = l″; duration = B .duration }
+
+  to-whole : Agree K″ B X
+  unfolding e″ l″
+  to-whole = record { count = refl; duration = λ k. refl; earliest = λ k h. rw (h .mem); latest = λ k h. rw (h .mem) }
+
+  from-moments : Agree Moments (moments o K″) X
+  unfolding e″ l″
+  from-moments = record {
+    count = refl;
+    duration = λ k. refl;
+    earliest = λ k h. rw (h .mem) (sym (e-at k (record { small = h .small; mem = h .mem })));
+    latest = λ k h. rw (h .mem) (sym (l-at k (record { small = h .small; mem = h .mem })));
+  }
 
   ok″ : Proper K″
   unfolding e″ l″
@@ -125,21 +111,12 @@ module _ (o : ℕ) (B : Tasks whole) (lasts : (k : ℕ) → k < B .count → 1 �
   unfolding e″
   low″ k q = elim (bool (X k)) [ inl y ↦ rw y (above k (record { small = q; mem = y })) | inr y ↦ rw y (zero-above o) ]
 
-  up″ : {k : ℕ} → In Moments X k → In B X k
-  up″ h = record { small = h .small; mem = h .mem }
+  module _ (Ω : TaskSet) (sub : Subset B Ω X) where
+    below : {C : Clock} (J : Tasks C) → J .count ≡ B .count → Subset J Ω X
+    below J z k h = sub k (record { small = subst (λ (n : ℕ). k < n) z (h .small); mem = h .mem })
 
-  pub checks-down : (Ω : TaskSet) (i : ℕ) → Subset B Ω X → X i ≡ true → RuleFormula Moments Ω i → RuleFormula B Ω i
-  checks-down Ω i sub y c =
-      let n : RuleFormula (moments o K″) Ω i
-      = only-checks Moments X (λ k. moment o (e″ k)) (λ k. moment o (l″ k)) (λ k h. ap (moment o) (e-in k (up″ h)) ∙ e-at k (up″ h)) (λ k h. ap (moment o) (l-in k (up″ h)) ∙ l-at k (up″ h)) Ω i
-      (λ k h. sub k (record { small = h .small; mem = h .mem })) y c in
-      only-checks K″ X (B .earliest) (B .latest) (λ k h. sym (e-in k (record { small = h .small; mem = h .mem }))) (λ k h. sym (l-in k (record { small = h .small; mem = h .mem }))) Ω i
-      (λ k h. sub k (record { small = h .small; mem = h .mem })) y (checks← o K″ ok″ low″ Ω i n)
+    pub checks-down : (i : ℕ) → X i ≡ true → RuleFormula Moments Ω i → RuleFormula B Ω i
+    checks-down i y c = formula→ K″ B X to-whole Ω i (below K″ refl) y (checks← o K″ ok″ low″ Ω i (formula→ Moments (moments o K″) X from-moments Ω i (below Moments refl) y c))
 
-  pub overloads-down : (Ω : TaskSet) → Subset B Ω X → Overloads Moments Ω → Overloads B Ω
-  overloads-down Ω sub c =
-      let n : Overloads (moments o K″) Ω
-      = only-overloads Moments X (λ k. moment o (e″ k)) (λ k. moment o (l″ k)) (λ k h. ap (moment o) (e-in k (up″ h)) ∙ e-at k (up″ h)) (λ k h. ap (moment o) (l-in k (up″ h)) ∙ l-at k (up″ h)) Ω
-      (λ k h. sub k (record { small = h .small; mem = h .mem })) c in
-      only-overloads K″ X (B .earliest) (B .latest) (λ k h. sym (e-in k (record { small = h .small; mem = h .mem }))) (λ k h. sym (l-in k (record { small = h .small; mem = h .mem }))) Ω
-      (λ k h. sub k (record { small = h .small; mem = h .mem })) (overload← o K″ ok″ low″ Ω n)
+    pub overloads-down : Overloads Moments Ω → Overloads B Ω
+    overloads-down c = overloads→ K″ B X to-whole Ω (below K″ refl) (overload← o K″ ok″ low″ Ω (overloads→ Moments (moments o K″) X from-moments Ω (below Moments refl) c))
