@@ -1,70 +1,21 @@
-// The run, the mirrored pass and the overload test on ranges that are taken apart: the core is called on the first `count` places of the arrays.
+// The mirrored pass and the overload test on ranges that are taken apart: the core is called on the first `count` places of the arrays.
 use integers::limits::TASKS;
 use mirrored::mirrored_propagator::propagate_mirrored;
 use overload_test::Overload;
-use propagator::disjunctive_propagator::propagate;
 use ranges::starts::Starts;
 use ranges::starts::StartsWithBars;
 use records::record::DisjunctivePropagator;
-use runs::outcome::Finished;
 use runs::outcome::Outcome;
 ghost use Prim.Native.Nat.{_≤_};
 ghost use Rattle.integers.specs.Limits.{TASKS};
 ghost use Rattle.ranges.specs.TakenApart.{firstEarliest, firstLatest};
 ghost use Rattle.overload_test.specs.Tested.{OverloadTested};
-ghost use Rattle.disjunctive.specs.Cores.{RanCore, RanMirroredCore};
-
-// What a run on ranges that are taken apart returns.
-pub struct CoreRun {
-    pub record: DisjunctivePropagator,
-    pub finished: Finished,
-    pub starts: Starts,
-}
+ghost use Rattle.disjunctive.specs.Cores.{RanMirroredCore};
 
 // What a mirrored pass on ranges that are taken apart returns.
 pub struct CoreMirrored {
     pub outcome: Outcome,
     pub starts: Starts,
-}
-
-// The run on the first `count` places of the arrays.
-pub(crate) fn run_core(
-    record: DisjunctivePropagator,
-    ranges: StartsWithBars,
-    posts: &mut [i32],
-    atoms: &mut [i32],
-) -> CoreRun
-    requires { ⌜ ranges .starts .count ≤ TASKS ⌝ }
-    ensures { λ r. ⌜ RanCore «record» ranges (now (posts .entry)) (now (atoms .entry)) r (now (posts .exit)) (now (atoms .exit)) ⌝ }
-{
-    let starts = ranges.starts;
-    let n = starts.count;
-    let mut earliest = starts.earliest;
-    let latest = starts.latest;
-    let ran = propagate(
-        record,
-        &mut earliest[..n],
-        &latest[..n],
-        ranges.bars_fit,
-        posts,
-        atoms,
-    );
-    let after = ran.record;
-    let outcome = ran.outcome;
-    let finished = Finished {
-        outcome,
-        changes: ran.changes,
-    };
-    let raised = Starts {
-        count: n,
-        earliest,
-        latest,
-    };
-    CoreRun {
-        record: after,
-        finished,
-        starts: raised,
-    }
 }
 
 // The mirrored pass on the first `count` places of the arrays.

@@ -7,12 +7,16 @@ pub mod of_fixed_schedules;
 
 use crate::cores::mirrored_core;
 use crate::cores::overload_core;
-use crate::cores::run_core;
+use integers::limits::TASKS;
 use overload_test::Overload;
+use propagator::disjunctive_propagator::propagate;
+use ranges::bars::all_bars_fit;
 use ranges::range::Range;
+use ranges::starts::Starts;
 use ranges::starts::starts_with_bars;
 use ranges::starts::store_latest;
 use ranges::starts::store_starts;
+use ranges::starts::take_apart;
 use records::record::DisjunctivePropagator;
 use runs::outcome::Finished;
 use runs::outcome::Outcome;
@@ -33,11 +37,29 @@ pub fn run(
     ensures { λ r. ⌜ RanLent (now (propagator .entry)) (now (ranges .entry)) (now (posts .entry)) (now (atoms .entry)) (r .outcome) (r .changes)
         (now (propagator .exit)) (now (ranges .exit)) (now (posts .exit)) (now (atoms .exit)) ⌝ }
 {
-    let starts = starts_with_bars(ranges);
-    let ran = run_core(*propagator, starts, posts, atoms);
-    store_starts(ranges, ran.starts);
+    let bars_fit = all_bars_fit(ranges);
+    let mut earliest = [0; TASKS];
+    let mut latest = [0; TASKS];
+    let count = take_apart(ranges, &mut earliest, &mut latest);
+    let ran = propagate(
+        *propagator,
+        &mut earliest[..count],
+        &latest[..count],
+        bars_fit,
+        posts,
+        atoms,
+    );
+    let starts = Starts {
+        count,
+        earliest,
+        latest,
+    };
+    store_starts(ranges, starts);
     *propagator = ran.record;
-    ran.finished
+    Finished {
+        outcome: ran.outcome,
+        changes: ran.changes,
+    }
 }
 
 // Latest starts fall in the ranges; no earliest start changes.

@@ -17,7 +17,7 @@ use Rattle.ranges.specs.Bars.{allBarsFit}
 use Rattle.ranges.specs.Ranges.{earliests, latests, anyRange}
 use Rattle.ranges.specs.declared.starts.Starts.{Starts}
 use Rattle.ranges.specs.declared.starts.StartsWithBars.{StartsWithBars}
-use Rattle.ranges.specs.TakenApart.{taken, padded, startsOf, startsWithBars}
+use Rattle.ranges.specs.TakenApart.{taken, over, padded, TakenInto, startsOf, startsWithBars}
 
 -- ---- taken apart
 pub taken-all : (n : ℕ) → n ≤ TASKS → taken n ≡ n
@@ -34,14 +34,6 @@ fits-or-not n = ⊎-elim (λ y. inl (leb-true n TASKS y)) (λ y. inr (leb-false 
 pub taken-fits : (n : ℕ) → (taken n ≤ TASKS) × (taken n ≤ n)
 taken-fits n = ⊎-elim (λ h. omega (arith, taken-all n h)) (λ h. omega (arith, taken-none n h)) (fits-or-not n)
 
-pub padded-none : (zs : List ℤ) → replicate TASKS (pos 0) ≡ padded 0 zs
-unfolding padded
-padded-none zs = refl
-
-pub padded-length : (n : ℕ) (zs : List ℤ) → n ≤ TASKS → n ≤ length zs → length (padded n zs) ≡ TASKS
-unfolding padded
-padded-length n zs h k = simp (length-append, length-drop, length-take-le n zs k) (omega arith)
-
 -- one more number is stored
 front-more : (zs bs : List ℤ) (i : ℕ) → i < length zs → i < length bs → set (take i zs ++ drop i bs) i (getD zs i (pos 0)) ≡ take (suc i) zs ++ drop (suc i) bs
 front-more zs bs i h k =
@@ -49,21 +41,31 @@ front-more zs bs i h k =
     ∙ set-at (take i zs) (getD bs i (pos 0)) (drop (suc i) bs) (getD zs i (pos 0)) i (length-take-le i zs (omega arith))
     ∙ sym (ap (λ (us : List ℤ). us ++ drop (suc i) bs) (take-suc zs i (pos 0) h) ∙ append-assoc (take i zs) (getD zs i (pos 0) ∷ []) (drop (suc i) bs))
 
-pub padded-more : (zs : List ℤ) (i : ℕ) → i < TASKS → i < length zs → set (padded i zs) i (getD zs i (pos 0)) ≡ padded (suc i) zs
-unfolding padded
-padded-more zs i h k = front-more zs (replicate TASKS (pos 0)) i k h
+pub over-length : (n : ℕ) (zs us : List ℤ) → n ≤ length us → n ≤ length zs → length (over n zs us) ≡ length us
+over-length n zs us h k = simp (length-append, length-drop, length-take-le n zs k) (omega arith)
 
--- the same, of a field of range i
-pub field-more : (f : Range → ℤ) → f anyRange ≡ pos 0 → (ys : List Range) (i : ℕ) → i < TASKS → i < length ys → set (padded i (map f ys)) i (f (getD ys i anyRange)) ≡ padded (suc i) (map f ys)
-field-more f z ys i h k =
-    ap (λ (v : ℤ). set (padded i (map f ys)) i v) (sym (List·getD-map f ys i anyRange) ∙ ap (λ (d : ℤ). getD (map f ys) i d) z) ∙ padded-more (map f ys) i h (omega (arith, length-map ys f))
+-- of a field of range i
+pub over-more : (f : Range → ℤ) → f anyRange ≡ pos 0 → (ys : List Range) (us : List ℤ) (i : ℕ) → i < length us → i < length ys
+    → set (over i (map f ys) us) i (f (getD ys i anyRange)) ≡ over (suc i) (map f ys) us
+over-more f z ys us i h k =
+    ap (λ (v : ℤ). set (over i (map f ys) us) i v) (sym (List·getD-map f ys i anyRange) ∙ ap (λ (d : ℤ). getD (map f ys) i d) z)
+    ∙ front-more (map f ys) us i (omega (arith, length-map ys f)) h
 
-pub padded-take : (n : ℕ) (zs : List ℤ) → n ≤ length zs → take n (padded n zs) ≡ take n zs
+padded-take : (n : ℕ) (zs : List ℤ) → n ≤ length zs → take n (padded n zs) ≡ take n zs
 unfolding padded
 padded-take n zs h = take-at (take n zs) (drop n (replicate TASKS (pos 0))) n (length-take-le n zs h)
 
-pub padded-all : (n : ℕ) (zs : List ℤ) → length zs ≡ n → n ≤ TASKS → take (taken n) (padded (taken n) zs) ≡ zs
+padded-all : (n : ℕ) (zs : List ℤ) → length zs ≡ n → n ≤ TASKS → take (taken n) (padded (taken n) zs) ≡ zs
 padded-all n zs l h = rw (taken-all n h) (padded-take n zs (omega arith) ∙ take-all n zs (omega arith))
+
+-- what was taken into arrays of zeros
+pub taken-starts : (ys : List Range) (n : ℕ) (es ls : List ℤ) → TakenInto ys (replicate TASKS (pos 0)) (replicate TASKS (pos 0)) n es ls
+    → record { count = n; earliest = es; latest = ls } ≡ startsOf ys
+unfolding startsOf padded
+taken-starts ys n es ls t =
+    ap (λ (us : List ℤ). record { count = n; earliest = us; latest = ls }) (t .earliest)
+    ∙ ap (λ (us : List ℤ). record { count = n; earliest = over n (earliests ys) (replicate TASKS (pos 0)); latest = us }) (t .latest)
+    ∙ ap (λ (k : ℕ). record { count = k; earliest = over k (earliests ys) (replicate TASKS (pos 0)); latest = over k (latests ys) (replicate TASKS (pos 0)) }) (t .count)
 
 -- where the bars were asked for, the starts are those of the ranges, and what is said by the answer is said by whether the ranges' bars fit
 pub starts-of : (ys : List Range) (s : StartsWithBars) → s ≡ startsWithBars ys → s .starts ≡ startsOf ys

@@ -3,3 +3,4 @@ pub mod ReaderWalk
 pub mod ReadLoop
 pub mod StoreLoop
 pub mod StoreWalk
+pub mod LentArrays

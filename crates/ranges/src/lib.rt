@@ -1,5 +1,5 @@
 // Ranges with barred starts: whether the bars fit, lent ranges taken apart into numbers, and starts stored back into them.
-mod bars;
+pub mod bars;
 mod moves;
 pub mod range;
 pub mod starts;

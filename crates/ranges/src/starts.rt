@@ -9,7 +9,7 @@ ghost use Prim.Native.Nat.{_≤_};
 ghost use lib.ListN.{length, take};
 ghost use Rattle.integers.specs.Limits.{TASKS};
 ghost use Rattle.ranges.specs.Ranges.{withStarts, withLatests};
-ghost use Rattle.ranges.specs.TakenApart.{taken, startsOf, startsWithBars};
+ghost use Rattle.ranges.specs.TakenApart.{taken, TakenInto, startsOf, startsWithBars};
 
 // Ranges, taken apart: their numbers stand in the first `count` places, zeros after them.
 pub struct Starts {
@@ -34,13 +34,11 @@ fn fitting(n: usize) -> usize
     0
 }
 
-// Two numbers are copied for each range. No bar is read.
-pub fn starts_of(ranges: &[Range]) -> Starts
-    ensures { λ r. ⌜ r ≡ startsOf (now (ranges .entry)) ⌝ }
+// The two numbers of each range go into the first places of the arrays, whose other places are unchanged. How many ranges were taken apart is answered.
+pub fn take_apart(ranges: &[Range], earliest: &mut [i32; TASKS], latest: &mut [i32; TASKS]) -> usize
+    ensures { λ r. ⌜ TakenInto (now (ranges .entry)) (now (earliest .entry)) (now (latest .entry)) r (now (earliest .exit)) (now (latest .exit)) ⌝ }
 {
     let count = fitting(ranges.len());
-    let mut earliest = [0; TASKS];
-    let mut latest = [0; TASKS];
     let mut i = 0;
     while i < count {
         let range = ranges[i];
@@ -48,6 +46,16 @@ pub fn starts_of(ranges: &[Range]) -> Starts
         latest[i] = range.latest;
         i += 1;
     }
+    count
+}
+
+// Two numbers are copied for each range. No bar is read.
+pub fn starts_of(ranges: &[Range]) -> Starts
+    ensures { λ r. ⌜ r ≡ startsOf (now (ranges .entry)) ⌝ }
+{
+    let mut earliest = [0; TASKS];
+    let mut latest = [0; TASKS];
+    let count = take_apart(ranges, &mut earliest, &mut latest);
     Starts {
         count,
         earliest,

@@ -27,12 +27,13 @@ rest-of b = elim b [ seq a c ↦ c | skip ↦ skip | assign p v ↦ skip | block
 abbrev pub past-copy : Body → Body
 past-copy b = rest-of (rest-of (rest-of (rest-of (rest-of b))))
 
--- The loop: its locals and their addresses, the type of the copy, the numbers of the index and of the first of four temporaries, the lent ranges, and how many of them are read.
+-- The loop: its locals and their addresses, the type of the copy, the numbers of the count, of the index and of the first of four temporaries, the lent ranges, and how many of them are read.
 -- The rest is the caller's: the entries after i turns, what it knows of i, what a turn does with the copy, what is done after the loop, and what is then to hold.
 pub record Loop {M : Type 1} (𝓤 : URA M) (H : Heap 𝓤) : Type 2 where
   pub locals : Env 𝓤 H
   pub at : ℕ → ℕ
   pub range : Ty
+  pub limit : ℕ
   pub index : ℕ
   pub test : ℕ
   pub κ : Lft
@@ -57,7 +58,7 @@ module _ {M : Type 1} {𝓤 : URA M} {H : Heap 𝓤} (L : Loop 𝓤 H) where
   copied = suc pointer
 
   abbrev count : ℕ
-  count = 2
+  count = L .limit
 
   abbrev ys : List Range
   ys = now (L .ranges)

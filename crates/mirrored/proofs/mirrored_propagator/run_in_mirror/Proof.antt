@@ -131,7 +131,8 @@ mirror-starts-requires-3 c κs =
     let s = start i in
     let a = s .args in
     subst (λ (zs : List ℤ). StartsMirrorable (a .latest .now) zs (a .«record» .durations)) (sym (back-is r))
-    (left-mirrorable (a .«record») (a .earliest .now) (a .latest .now) (length (a .posts .now)) (length (a .atoms .now)) (s .pre) (long s) (from-is i) (to-is i) (r .run-accepted .ensures (a .«record» .total))
+    (left-mirrorable (a .«record») (a .earliest .now) (a .latest .now) (length (a .posts .now)) (length (a .atoms .now)) (s .pre) (long s) (from-is i) (to-is i) (r .run-accepted .ensures
+    (a .«record» .total))
     (a .latest .now) (s .pre .counts .latest))
 
 returns : tie.Need-returns
@@ -140,7 +141,8 @@ returns c =
     let i = made r in
     let s = start i in
     let a = s .args in
-    ran-in-mirror (a .«record») (a .earliest .now) (a .latest .now) (length (a .posts .now)) (length (a .atoms .now)) (s .pre) (long s) (from-is i) (to-is i) (r .run-accepted .ensures (a .«record» .total))
+    ran-in-mirror (a .«record») (a .earliest .now) (a .latest .now) (length (a .posts .now)) (length (a .atoms .now)) (s .pre) (long s) (from-is i) (to-is i) (r .run-accepted .ensures
+    (a .«record» .total))
     (c .before .mirror-starts3 .ensures ∙ ap (λ (zs : List ℤ). mirrorStarts (take (length zs) (a .«record» .durations)) zs) (back-is r))
 
 pub run-in-mirror-spec : {M : Type 1} → statement M

@@ -66,6 +66,7 @@ module _ {M : Type 1} (𝓤 : URA M) (H : Heap 𝓤) (A : Atoms 𝓤) (W : Given
       locals = En;
       at = l;
       range = range;
+      limit = 2;
       index = 3;
       test = 4;
       κ = κ;
