@@ -25,6 +25,8 @@ static void empty_slices(reedgrit_propagator *three) {
     assert(reedgrit_run_mirrored(three, NULL, 0, NULL, 0, NULL, 0).number == REEDGRIT_REFUSED_RANGE_COUNT);
     assert(reedgrit_post(NULL, 0, NULL, 0, 1, 0).number == REEDGRIT_REFUSED_POST);
     assert(reedgrit_overload_test(three, NULL, 0).number == REEDGRIT_REFUSED_RANGE_COUNT);
+    assert(reedgrit_conflict(three, NULL, 0).number == REEDGRIT_REFUSED_RANGE_COUNT);
+    assert(reedgrit_conflict_page(three, NULL, 0, NULL, 0).number == REEDGRIT_REFUSED_RANGE_COUNT);
     assert(reedgrit_precedences(three, NULL, 0).number == REEDGRIT_REFUSED_RANGE_COUNT);
     assert(reedgrit_precedence_bound(three, NULL, 0, 0).number == REEDGRIT_REFUSED_RANGE_COUNT);
     assert(reedgrit_precedence_reason(three, NULL, 0, 0, NULL, 0).number == REEDGRIT_REFUSED_RANGE_COUNT);
@@ -47,6 +49,7 @@ static void empty_slices(reedgrit_propagator *three) {
     assert(reedgrit_run(three, ranges, 3, NULL, 0, NULL, 0).number == REEDGRIT_REFUSED_ROOM);
     assert(reedgrit_run_mirrored(three, ranges, 3, NULL, 0, NULL, 0).number == REEDGRIT_REFUSED_ROOM);
     assert(reedgrit_precedence_reason(three, ranges, 3, 0, NULL, 0).number == REEDGRIT_REFUSED_REASON_ROOM);
+    assert(reedgrit_conflict_page(three, ranges, 3, NULL, 0).number == REEDGRIT_REFUSED_PAGE_ROOM);
     const reedgrit_range fixed[] = {from_to(0, 0), from_to(4, 4), from_to(9, 9)};
     assert(reedgrit_page(three, fixed, 3, NULL, 0).number == REEDGRIT_REFUSED_PAGE_ROOM);
     assert(reedgrit_charges(three, fixed, 3, NULL, 0).number == REEDGRIT_REFUSED_DUE);
@@ -68,6 +71,33 @@ static void overloads(void) {
     reedgrit_mirrored_answer back = reedgrit_run_mirrored(&two.propagator, tight, 2, posts, 8, atoms, 24);
     assert(back.kind == REEDGRIT_OVERLOAD && back.word_count == 12);
     assert(reedgrit_check_mirrored(fours, 2, atoms + back.first_word, back.word_count, NULL, 0).kind == REEDGRIT_PASSED);
+}
+
+/* Why they do not fit, in the numbers of the ranges: the sets, and the page that a person can add up. */
+static void conflicts(void) {
+    const int32_t fours[] = {4, 4}, durations[] = {3, 5};
+    uint8_t page[REEDGRIT_CONFLICT_PAGE_BYTES(2)];
+    reedgrit_new two = reedgrit_create(fours, 2);
+    const reedgrit_range tight[] = {from_to(0, 2), from_to(1, 2)}, loose[] = {from_to(0, 4), from_to(0, 4)};
+    reedgrit_conflict_answer overload = reedgrit_conflict(&two.propagator, tight, 2);
+    assert(overload.kind == REEDGRIT_CONFLICT_OVERLOAD && sizeof overload == 144 && sizeof overload.set == 56);
+    assert(overload.set.tasks[0] && overload.set.tasks[1] && !overload.set.tasks[2] && !overload.before.tasks[0]);
+    assert(overload.set.est == 0 && overload.set.p == 8 && overload.lct == 6 && overload.excess == 2);
+    reedgrit_count_answer written = reedgrit_conflict_page(&two.propagator, tight, 2, page, sizeof page);
+    assert(written.kind == REEDGRIT_CONFLICT_PAGE_WRITTEN);
+    printf("%.*s", (int)written.count, (const char *)page);
+    assert(reedgrit_conflict(&two.propagator, loose, 2).kind == REEDGRIT_CONFLICT_NOTHING);
+    assert(reedgrit_conflict_page(&two.propagator, loose, 2, page, sizeof page).kind == REEDGRIT_CONFLICT_PAGE_NOTHING);
+
+    two = reedgrit_create(durations, 2);
+    const reedgrit_range pair[] = {from_to(0, 5), from_to(1, 1)};
+    reedgrit_conflict_answer late = reedgrit_conflict(&two.propagator, pair, 2);
+    assert(late.kind == REEDGRIT_CONFLICT_LATE && late.task == 0 && late.latest_start == 5 && late.bound == 6);
+    assert(late.set.est == 0 && late.set.p == 8 && late.lct == 6 && late.excess == 2 && late.set.tasks[0] && late.set.tasks[1]);
+    assert(late.before.est == 1 && late.before.p == 5 && late.before.tasks[1] && !late.before.tasks[0]);
+    written = reedgrit_conflict_page(&two.propagator, pair, 2, page, sizeof page);
+    printf("%.*s", (int)written.count, (const char *)page);
+    assert(reedgrit_conflict_page(&two.propagator, pair, 2, page, sizeof page - 1).number == REEDGRIT_REFUSED_PAGE_ROOM);
 }
 
 /* The third task may not start at 9 or 10: its post is still 9, and its earliest start goes on to 11. */
@@ -187,6 +217,7 @@ int main(void) {
     assert(reedgrit_run(&made.propagator, again, 3, posts, POSTS, atoms, ATOMS).posts == 1 && again[2].earliest == 9);
 
     overloads();
+    conflicts();
     barred_starts(&made.propagator);
     empty_slices(&made.propagator);
 

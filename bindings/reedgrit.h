@@ -13,6 +13,7 @@
 #ifndef REEDGRIT_H
 #define REEDGRIT_H
 
+#include <stdbool.h>
 #include <stddef.h>
 #include <stdint.h>
 
@@ -27,11 +28,12 @@ enum { REEDGRIT_ABI = 3 };
 enum { REEDGRIT_TASKS = 48, REEDGRIT_BARS = 16, REEDGRIT_START = 400000000 };
 
 /* The room that calls need for n tasks: words for the posts of a run, for the atoms of their reasons, and for the reason of one bound by
- * precedences; bytes for a page. */
+ * precedences; bytes for the page of a schedule, and for that of a conflict. */
 #define REEDGRIT_POST_WORDS(n) (4 * (n))
 #define REEDGRIT_ATOM_WORDS(n) (6 * (n) * (n))
 #define REEDGRIT_REASON_WORDS(n) (6 * (n))
 #define REEDGRIT_PAGE_BYTES(n) (31 * ((n) + 1))
+#define REEDGRIT_CONFLICT_PAGE_BYTES(n) (43 * ((n) + 5))
 
 /* The structs below are those of a machine with 64 bits. */
 typedef char reedgrit_size_t_has_64_bits[sizeof(size_t) == 8 ? 1 : -1];
@@ -59,7 +61,7 @@ enum {
     REEDGRIT_REFUSED_REMOVED = 12,     /* a task to take off that is not there */
     REEDGRIT_REFUSED_BARS = 13,        /* more than 16 barred starts, ones that do not ascend strictly, or an end of the range among them */
     REEDGRIT_REFUSED_SCHEDULE = 14,    /* a schedule that is not fixed, or overlaps */
-    REEDGRIT_REFUSED_PAGE_ROOM = 15,   /* fewer bytes than REEDGRIT_PAGE_BYTES(n) */
+    REEDGRIT_REFUSED_PAGE_ROOM = 15,   /* fewer bytes than REEDGRIT_PAGE_BYTES(n), or than REEDGRIT_CONFLICT_PAGE_BYTES(n) */
     REEDGRIT_REFUSED_REASON_ROOM = 16, /* fewer words than REEDGRIT_REASON_WORDS(n) */
     REEDGRIT_REFUSED_TASK = 17,        /* a task that is not there */
     REEDGRIT_REFUSED_QUESTION = 18,    /* a moment asked about beyond +-400000000, or a duration below 1 or above 400000000 */
@@ -146,12 +148,35 @@ enum { REEDGRIT_TEST_OVERLOAD = 0, REEDGRIT_TEST_NO_OVERLOAD = 1 };
 enum { REEDGRIT_PRECEDENCES_DONE = 0, REEDGRIT_PRECEDENCES_EMPTIED = 1 };
 enum { REEDGRIT_REASON_WRITTEN = 0 };
 enum { REEDGRIT_PAGE_WRITTEN = 0 };
+enum { REEDGRIT_CONFLICT_PAGE_WRITTEN = 0, REEDGRIT_CONFLICT_PAGE_NOTHING = 1 };
 
 typedef struct {
     uint32_t kind;
     uint32_t number; /* of a refusal */
     size_t count;
 } reedgrit_count_answer;
+
+/* The kinds of a conflict. */
+enum { REEDGRIT_CONFLICT_NOTHING = 0, REEDGRIT_CONFLICT_OVERLOAD = 1, REEDGRIT_CONFLICT_LATE = 2 };
+
+/* A set of tasks, a flag for each number; its earliest start, and the sum of its durations. */
+typedef struct {
+    bool tasks[REEDGRIT_TASKS];
+    int32_t est;
+    uint32_t p;
+} reedgrit_work;
+
+typedef struct {
+    uint32_t kind;
+    uint32_t number; /* of a refusal */
+    size_t task; /* that is late, its latest start, and its bound above that */
+    int32_t latest_start;
+    int32_t bound;
+    reedgrit_work set; /* est + p is lct + excess */
+    int32_t lct; /* of an overload's set; of the others in a late task's set */
+    uint32_t excess;
+    reedgrit_work before; /* of a late task: est + p is the bound */
+} reedgrit_conflict_answer;
 
 /* The kind of a task added or taken off, those of a task's bound by precedences, and those of the other calls on a fixed schedule. */
 enum { REEDGRIT_CHANGED = 0 };
@@ -231,6 +256,34 @@ reedgrit_mirrored_answer reedgrit_run_mirrored(const reedgrit_propagator *propag
 /* Whether some set of the tasks overloads its span: REEDGRIT_TEST_OVERLOAD, with the tasks read until that is known, by latest completion, or
  * REEDGRIT_TEST_NO_OVERLOAD. Barred starts change no answer. Refuses by 20, 10, 3, 4, 13. */
 reedgrit_count_answer reedgrit_overload_test(const reedgrit_propagator *propagator, const reedgrit_range *ranges, size_t range_count);
+
+/* Why the tasks cannot fit, in numbers that can be added up. All are those of the ranges as they are lent, and an excess is 1 or more.
+ * REEDGRIT_CONFLICT_OVERLOAD, exactly where some set overloads its span: such a set, with its lct.
+ * REEDGRIT_CONFLICT_LATE, where none does, but a task must start after its latest start: it is in the set, and cannot go before the others of
+ * it, since est + p of the set is past their lct. So it starts after all of them, and not before est + p of `before`, which are some of them.
+ * REEDGRIT_CONFLICT_NOTHING, exactly where a run on the ranges is done. Then a schedule need not exist; in the other two cases none does.
+ * What a kind does not have is 0 and without flags. Barred starts change no answer. Refuses by 20, 10, 3, 4, 13. */
+reedgrit_conflict_answer reedgrit_conflict(const reedgrit_propagator *propagator, const reedgrit_range *ranges, size_t range_count);
+
+/* The same as text: a heading, a line of 43 bytes for each task of the set by number, and two sentences. The count is that of the bytes. Of two
+ * tasks with durations 3 and 5, from 0 to 5 and from 1 to 1, and of two with duration 4, from 0 to 2 and from 1 to 2:
+ *
+ *       NR        FROM       UNTIL       TAKES
+ *        0           0           8           3
+ *        1           1           6           5 *
+ *     0 comes after the others: 0 + 8 = 8 is past 6
+ *     0 starts after those marked *: 1 + 5 = 6 is past 5
+ *
+ *       NR        FROM       UNTIL       TAKES
+ *        0           0           6           4
+ *        1           1           6           4
+ *     6 units from 0 to 6, and they take 8
+ *     2 too many
+ *
+ * REEDGRIT_CONFLICT_PAGE_NOTHING: nothing is found, and nothing written. Bytes behind the page keep what they held. Refuses by 20, 10, 3, 4, 13,
+ * 15. */
+reedgrit_count_answer reedgrit_conflict_page(const reedgrit_propagator *propagator, const reedgrit_range *ranges, size_t range_count,
+                                             uint8_t *out, size_t out_bytes);
 
 /* A task more, which takes the number n. Refuses by 20, 1, 2, 5. */
 reedgrit_change_answer reedgrit_add(reedgrit_propagator *propagator, int32_t duration);

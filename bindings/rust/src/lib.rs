@@ -90,6 +90,7 @@ compile_error!("reedgrit links a static library that is written for x86-64 with 
 
 mod atoms;
 mod checks;
+mod conflicts;
 mod passes;
 mod posts;
 mod precedences;
@@ -103,6 +104,7 @@ pub mod state;
 
 pub use atoms::{Atom, Comparison};
 pub use checks::{Verdict, check, check_mirrored};
+pub use conflicts::{Conflict, Work};
 pub use passes::{Mirrored, Outcome};
 pub use posts::{LatestPost, LatestPosts, Post, Posts};
 pub use precedences::Precedences;

@@ -108,6 +108,28 @@ pub(crate) struct BusiestAnswer {
 
 #[repr(C)]
 #[derive(Clone, Copy, Debug, PartialEq, Eq)]
+pub(crate) struct Work {
+    pub tasks: [bool; TASKS],
+    pub est: i32,
+    pub p: u32,
+}
+
+#[repr(C)]
+#[derive(Clone, Copy, Debug, PartialEq, Eq)]
+pub(crate) struct ConflictAnswer {
+    pub kind: u32,
+    pub number: u32,
+    pub task: usize,
+    pub latest_start: i32,
+    pub bound: i32,
+    pub set: Work,
+    pub lct: i32,
+    pub excess: u32,
+    pub before: Work,
+}
+
+#[repr(C)]
+#[derive(Clone, Copy, Debug, PartialEq, Eq)]
 pub(crate) struct ChargesAnswer {
     pub kind: u32,
     pub number: u32,
@@ -130,6 +152,8 @@ unsafe extern "C" {
         atoms: *mut i32, atom_words: usize,
     ) -> MirroredAnswer;
     fn reedgrit_overload_test(record: *const Record, ranges: *const Range, range_count: usize) -> CountAnswer;
+    fn reedgrit_conflict(record: *const Record, ranges: *const Range, range_count: usize) -> ConflictAnswer;
+    fn reedgrit_conflict_page(record: *const Record, ranges: *const Range, range_count: usize, out: *mut u8, out_bytes: usize) -> CountAnswer;
     fn reedgrit_add(record: *mut Record, duration: i32) -> ChangeAnswer;
     fn reedgrit_remove(record: *mut Record, task: usize) -> ChangeAnswer;
     fn reedgrit_precedences(record: *const Record, ranges: *mut Range, range_count: usize) -> CountAnswer;
@@ -260,6 +284,16 @@ pub(crate) fn overload_test(record: &Record, ranges: &[Range]) -> CountAnswer {
     unsafe { reedgrit_overload_test(record, ranges.as_ptr(), ranges.len()) }
 }
 
+pub(crate) fn conflict(record: &Record, ranges: &[Range]) -> ConflictAnswer {
+    // SAFETY: as the module says; a flag that the library writes is a `bool`.
+    unsafe { reedgrit_conflict(record, ranges.as_ptr(), ranges.len()) }
+}
+
+pub(crate) fn conflict_page(record: &Record, ranges: &[Range], out: &mut [u8]) -> CountAnswer {
+    // SAFETY: as the module says.
+    unsafe { reedgrit_conflict_page(record, ranges.as_ptr(), ranges.len(), out.as_mut_ptr(), out.len()) }
+}
+
 pub(crate) fn add(record: &mut Record, duration: i32) -> ChangeAnswer {
     // SAFETY: as the module says.
     unsafe { reedgrit_add(record, duration) }
@@ -343,6 +377,7 @@ mod tests {
         assert_eq!(size_of::<StartAnswer>(), 12);
         assert_eq!(size_of::<BusiestAnswer>(), 16);
         assert_eq!(size_of::<ChargesAnswer>(), 204);
+        assert_eq!((size_of::<Work>(), size_of::<ConflictAnswer>()), (56, 144));
         assert_eq!((size_of::<Range>(), align_of::<Range>()), (80, 8));
         assert_eq!(size_of::<Atom>(), 12);
         assert_eq!(align_of::<Atom>(), align_of::<i32>());
@@ -369,6 +404,12 @@ mod tests {
             MirroredAnswer { kind: 3, number: 20, posts: 0, first_word: 0, word_count: 0 }
         );
         assert_eq!(overload_test(&broken, &ranges), refused);
+        let none = Work { tasks: [false; TASKS], est: 0, p: 0 };
+        assert_eq!(
+            conflict(&broken, &ranges),
+            ConflictAnswer { kind: 3, number: 20, task: 0, latest_start: 0, bound: 0, set: none, lct: 0, excess: 0, before: none }
+        );
+        assert_eq!(conflict_page(&broken, &ranges, &mut page_bytes), refused);
         assert_eq!(precedences(&broken, &mut ranges), refused);
         assert_eq!(precedence_bound(&broken, &ranges, 0), StartAnswer { kind: 3, number: 20, start: 0 });
         assert_eq!(precedence_reason(&broken, &ranges, 0, &mut atoms), refused);

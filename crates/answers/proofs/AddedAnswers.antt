@@ -1,11 +1,19 @@
 -- A struct of the calls beside the run gives its answer back, so different answers are different structs.
 use mathlib.Core.Path.{_≡_, refl}
 use Prim.Native.Nat.{ℕ, zero, suc}
+use lib.IntN.{ℤ}
 use Rattle.integers.proofs.Answers.{told-apart}
 use Rattle.charges.specs.declared.answer.Charging.{Charging}
 use Rattle.charges.specs.declared.answer.Charging.the-variants as charging
 use Rattle.charges.specs.declared.answer.TaskCharges.{TaskCharges}
 use Rattle.charges.specs.declared.answer.Charges.{Charges}
+use Rattle.conflicts.specs.declared.answer.Found.{Found}
+use Rattle.conflicts.specs.declared.answer.Found.the-variants as found
+use Rattle.conflicts.specs.declared.answer.Conflict.{Conflict}
+use Rattle.conflicts.specs.Numbers.{foundNumbers}
+use Rattle.conflict_pages.specs.declared.answer.ConflictPage.{ConflictPage}
+use Rattle.conflict_pages.specs.declared.answer.ConflictPage.the-variants as sheet
+use Rattle.conflict_pages.specs.Numbers.{conflictPageNumbers}
 use Rattle.charges.specs.Numbers.{chargesNumbers}
 use Rattle.overload_test.specs.declared.Overload.{Overload}
 use Rattle.overload_test.specs.declared.Overload.the-variants as overload
@@ -33,7 +41,8 @@ use Rattle.runs.specs.Outcomes.{outcomeNumbers}
 use Rattle.busiest_stretch.specs.declared.answer.Busiest.{Busiest}
 use Rattle.busiest_stretch.specs.declared.answer.Busiest.the-variants as busiest
 use Rattle.busiest_stretch.specs.Numbers.{busiestNumbers}
-use Rattle.answers.specs.AddedAnswers.{mirroredAnswer, countAnswer, changeAnswer, startAnswer, busiestAnswer, chargesAnswer}
+use Rattle.answers.specs.AddedAnswers.{mirroredAnswer, countAnswer, changeAnswer, startAnswer, busiestAnswer, chargesAnswer, conflictAnswer}
+use Rattle.answers.specs.SourceAnswers.{valueAt, natAt}
 use Rattle.answers.proofs.SourceAnswers.{outcomeFrom, outcome-back}
 
 -- The mirrored pass
@@ -67,6 +76,33 @@ charges-apart = told-apart chargesAnswer (λ a. chargesFrom (record { charges = 
         ≡ record { charged = b; answer = r }
     by b charging.Made = refl
     by b (charging.Refused number) = refl
+
+-- A conflict, and its page
+abbrev foundFrom : ℕ → ℕ → ℕ → ℤ → ℤ → Found
+foundFrom zero number task latest bound = found.NothingFound
+foundFrom (suc zero) number task latest bound = found.Overload
+foundFrom (suc (suc zero)) number task latest bound = found.Late task latest bound
+foundFrom (suc (suc (suc k))) number task latest bound = found.Refused number
+
+-- the conflict with something else found
+abbrev pub finding : Conflict → Found → Conflict
+finding c f = record { found = f; set = c .set; lct = c .lct; excess = c .excess; before = c .before }
+
+pub conflicts-apart : (c c′ : Conflict) → conflictAnswer c ≡ conflictAnswer c′ → c ≡ c′
+conflicts-apart = told-apart conflictAnswer
+    (λ a. record { found = foundFrom (a .kind) (a .number) (a .task) (a .«latest_start») (a .bound); set = a .set; lct = a .lct; excess = a .excess; before = a .before })
+    (λ c i. finding c (by (c .found) i))
+  where
+    by : (f : Found) → foundFrom (foundNumbers f .kind) (foundNumbers f .number) (natAt 0 (foundNumbers f)) (valueAt 1 (foundNumbers f)) (valueAt 2 (foundNumbers f)) ≡ f
+    by found.NothingFound = refl
+    by found.Overload = refl
+    by (found.Late task latest bound) = refl
+    by (found.Refused number) = refl
+
+pub conflict-pages-apart : (r r′ : ConflictPage) → countAnswer (conflictPageNumbers r) ≡ countAnswer (conflictPageNumbers r′) → r ≡ r′
+conflict-pages-apart = told-apart (λ r. countAnswer (conflictPageNumbers r))
+    (λ a. elim (a .kind) [ zero ↦ sheet.Written (a .count) | suc zero ↦ sheet.NothingFound | suc (suc k) ↦ sheet.Refused (a .number) ])
+    (λ r. elim r [ sheet.Written bytes ↦ refl | sheet.NothingFound ↦ refl | sheet.Refused number ↦ refl ])
 
 -- A free start
 pub free-starts-apart : (r r′ : FreeStart) → startAnswer (freeStartNumbers r) ≡ startAnswer (freeStartNumbers r′) → r ≡ r′

@@ -4,6 +4,10 @@ use busiest_stretch::answer::Busiest;
 use charges::answer::Charges;
 use charges::answer::Charging;
 use charges::answer::TaskCharges;
+use conflict_pages::answer::ConflictPage;
+use conflicts::answer::Conflict;
+use conflicts::answer::Found;
+use conflicts::answer::Work;
 use free_starts::FreeStart;
 use integers::limits::TASKS;
 use overload_test::Overload;
@@ -16,6 +20,7 @@ use runs::outcome::Outcome;
 use task_changes::changes::Change;
 ghost use mathlib.Core.Path.{_≡_};
 ghost use Rattle.overload_test.specs.Numbers.{overloadNumbers};
+ghost use Rattle.conflict_pages.specs.Numbers.{conflictPageNumbers};
 ghost use Rattle.task_changes.specs.Numbers.{changeNumbers};
 ghost use Rattle.free_starts.specs.Numbers.{freeStartNumbers};
 ghost use Rattle.pages.specs.Numbers.{pageNumbers};
@@ -24,7 +29,7 @@ ghost use Rattle.precedences.specs.ReasonNumbers.{reasonNumbers, boundNumbers};
 ghost use Rattle.runs.specs.Outcomes.{outcomeNumbers};
 ghost use Rattle.busiest_stretch.specs.Numbers.{busiestNumbers};
 ghost use Rattle.answers.specs.SourceAnswers.{WordsCountable};
-ghost use Rattle.answers.specs.AddedAnswers.{mirroredAnswer, countAnswer, changeAnswer, startAnswer, busiestAnswer, chargesAnswer};
+ghost use Rattle.answers.specs.AddedAnswers.{mirroredAnswer, countAnswer, changeAnswer, startAnswer, busiestAnswer, chargesAnswer, conflictAnswer};
 
 // How a mirrored pass ended: kind 0 is Done, 1 Overload with the stretch of atom words that is its reason, 2 Emptied.
 #[repr(C)]
@@ -36,8 +41,8 @@ pub struct MirroredAnswer {
     pub count: usize,
 }
 
-// An answer with one count or task. Overload test: kind 0 is yes, with the tasks read, and 1 no. Page: kind 0 has its bytes. Pass by precedences: kind 0 is
-// Done, and 1 Emptied, with its task. Reason: kind 0 has its atoms.
+// An answer with one count or task. Overload test: kind 0 is yes, with the tasks read, and 1 no. Page: kind 0 has its bytes. A conflict's page: kind 0 has
+// its bytes, and 1 is nothing found. Pass by precedences: kind 0 is Done, and 1 Emptied, with its task. Reason: kind 0 has its atoms.
 #[repr(C)]
 pub struct CountAnswer {
     pub kind: u32,
@@ -67,6 +72,20 @@ pub struct BusiestAnswer {
     pub number: u32,
     pub time: u32,
     pub start: i32,
+}
+
+// A conflict: kind 0 is nothing found, 1 an overload, and 2 a late task, with its number, its latest start and its bound. The sets and their sums are the call's.
+#[repr(C)]
+pub struct ConflictAnswer {
+    pub kind: u32,
+    pub number: u32,
+    pub task: usize,
+    pub latest_start: i32,
+    pub bound: i32,
+    pub set: Work,
+    pub lct: i32,
+    pub excess: u32,
+    pub before: Work,
 }
 
 // The charges: kind 0 has the charges by task number, in cents, and their sum.
@@ -247,5 +266,69 @@ pub fn charges_numbers(made: Charges) -> ChargesAnswer
     match answer {
         Charging::Made => charges_answer(0, 0, made.charged),
         Charging::Refused(number) => charges_answer(3, number, made.charged),
+    }
+}
+
+// What was found as numbers, with the sets.
+fn conflict_answer(
+    kind: u32,
+    number: u32,
+    task: usize,
+    latest_start: i32,
+    bound: i32,
+    shown: Conflict,
+) -> ConflictAnswer
+    ensures { λ r. ⌜ r ≡ record {
+      kind = kind;
+      number = number;
+      task = task;
+      «latest_start» = «latest_start»;
+      bound = bound;
+      set = shown .set;
+      lct = shown .lct;
+      excess = shown .excess;
+      before = shown .before;
+    } ⌝ }
+{
+    let set = shown.set;
+    let before = shown.before;
+    ConflictAnswer {
+        kind,
+        number,
+        task,
+        latest_start,
+        bound,
+        set,
+        lct: shown.lct,
+        excess: shown.excess,
+        before,
+    }
+}
+
+// The numbers of a conflict, with its sets.
+pub fn conflict_numbers(shown: Conflict) -> ConflictAnswer
+    ensures { λ r. ⌜ r ≡ conflictAnswer shown ⌝ }
+{
+    let found = shown.found;
+    match found {
+        Found::NothingFound => conflict_answer(0, 0, 0, 0, 0, shown),
+        Found::Overload => conflict_answer(1, 0, 0, 0, 0, shown),
+        Found::Late {
+            task,
+            latest_start,
+            bound,
+        } => conflict_answer(2, 0, task, latest_start, bound, shown),
+        Found::Refused(number) => conflict_answer(3, number, 0, 0, 0, shown),
+    }
+}
+
+// The numbers of a conflict's page.
+pub fn conflict_page_numbers(answer: ConflictPage) -> CountAnswer
+    ensures { λ r. ⌜ r ≡ countAnswer (conflictPageNumbers answer) ⌝ }
+{
+    match answer {
+        ConflictPage::Written(bytes) => count_answer(0, 0, bytes),
+        ConflictPage::NothingFound => count_answer(1, 0, 0),
+        ConflictPage::Refused(number) => count_answer(3, number, 0),
     }
 }

@@ -15,12 +15,15 @@ ghost use Rattle.promises.specs.RanMirroredLent.{RanMirroredLent};
 ghost use Rattle.disjunctive.specs.GivenRanges.{lentOf, given, StoredIn};
 
 pub mod by_precedence;
+pub mod of_conflicts;
 pub mod of_fixed_schedules;
 
 pub use crate::by_value::by_precedence::RanPrecedences;
 pub use crate::by_value::by_precedence::precedence_bound;
 pub use crate::by_value::by_precedence::precedence_reason;
 pub use crate::by_value::by_precedence::precedences;
+pub use crate::by_value::of_conflicts::conflict;
+pub use crate::by_value::of_conflicts::conflict_page;
 pub use crate::by_value::of_fixed_schedules::busiest_stretch;
 pub use crate::by_value::of_fixed_schedules::charges;
 pub use crate::by_value::of_fixed_schedules::free_start;

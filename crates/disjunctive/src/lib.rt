@@ -1,10 +1,11 @@
 // The open calls, all in one place, with the types of what each takes and answers; none has a `requires`.
 // On a record: creation, a task added or removed.
-// On a record and ranges: the run, the mirrored pass, the pass by precedences, one task's bound and its reason, the overload test.
+// On a record and ranges: the run, the mirrored pass, the pass by precedences, one task's bound and its reason, the overload test, the conflict and its page.
 // On a fixed schedule: the page, the charges, the earliest free start, the busiest stretch.
 // Each of these that takes ranges has a form with plain parameters in `by_value`.
 // On words: the post reader, the check, the mirrored check, and the calls of the variable state.
 pub mod by_value;
+mod conflict_cores;
 mod cores;
 mod fixed_schedule_cores;
 pub mod open_calls;
@@ -13,6 +14,8 @@ mod precedence_cores;
 pub use crate::open_calls::by_precedence::precedence_bound;
 pub use crate::open_calls::by_precedence::precedence_reason;
 pub use crate::open_calls::by_precedence::precedences;
+pub use crate::open_calls::of_conflicts::conflict;
+pub use crate::open_calls::of_conflicts::conflict_page;
 pub use crate::open_calls::of_fixed_schedules::busiest_stretch;
 pub use crate::open_calls::of_fixed_schedules::charges;
 pub use crate::open_calls::of_fixed_schedules::free_start;
@@ -33,6 +36,10 @@ pub use checking::variable_state::Applied;
 pub use checking::variable_state::Bound;
 pub use checking::variable_state::Truth;
 pub use checking::variable_state::VariableState;
+pub use conflict_pages::answer::ConflictPage;
+pub use conflicts::answer::Conflict;
+pub use conflicts::answer::Found;
+pub use conflicts::answer::Work;
 pub use free_starts::FreeStart;
 pub use overload_test::Overload;
 pub use pages::answer::Page;

@@ -3,6 +3,7 @@ use mathlib.Core.Path.{_≡_, refl, sym, ap, subst, _∙_}
 use mathlib.Core.Bool.{true}
 use mathlib.Core.List.{List, [], _∷_, _++_, flatMap, append-assoc, append-nil}
 use Prim.Native.Nat.{ℕ, zero, suc, _+_, _*_, _≤_, _<_}
+use native.Mathlib.Nat.{mul-zero, mul-suc}
 use native.Mathlib.Numerals.{add-one}
 use native.Mathlib.Omega.{arith}
 use lib.IntN.{ℤ}
@@ -30,18 +31,21 @@ use Rattle.pages.proofs.RightAligned.{line-length, line-once}
 use Rattle.pages.proofs.PageRefused.{page-many, accepted-page}
 
 module _ (f : ℕ → List ℕ) where
-  flat-append : (ks js : List ℕ) → flatMap f (ks ++ js) ≡ flatMap f ks ++ flatMap f js
+  pub flat-append : (ks js : List ℕ) → flatMap f (ks ++ js) ≡ flatMap f ks ++ flatMap f js
   unfolding flatMap
   flat-append [] js = refl
   flat-append (k ∷ ks) js = ap (λ (l : List ℕ). f k ++ l) (flat-append ks js) ∙ sym (append-assoc (f k) (flatMap f ks) (flatMap f js))
 
-  flat-one : (k : ℕ) → flatMap f (k ∷ []) ≡ f k
+  pub flat-one : (k : ℕ) → flatMap f (k ∷ []) ≡ f k
   unfolding flatMap
   flat-one k = append-nil (f k)
 
   flat-cons : (k : ℕ) (ks : List ℕ) → flatMap f (k ∷ ks) ≡ f k ++ flatMap f ks
   unfolding flatMap
   flat-cons k ks = refl
+
+  flat-front : (k : ℕ) (ks rest : List ℕ) → flatMap f (k ∷ ks) ++ rest ≡ f k ++ (flatMap f ks ++ rest)
+  flat-front k ks rest = ap (λ (l : List ℕ). l ++ rest) (flat-cons k ks) ∙ append-assoc (f k) (flatMap f ks) rest
 
   flat-nil : flatMap f [] ≡ []
   unfolding flatMap
@@ -64,20 +68,25 @@ module _ (f : ℕ → List ℕ) where
           ∙ flat-append (take i order) (getD order i 0 ∷ [])
           ∙ ap (λ (l : List ℕ). flatMap f (take i order) ++ l) (flat-one (getD order i 0))
 
-  -- ---- lines of one length, by their places
-  flat-length : (ks : List ℕ) → ((k : ℕ) → has ks k ≡ true → length (f k) ≡ LINE) → length (flatMap f ks) ≡ LINE * length ks
-  flat-length [] each = ap length flat-nil
-  flat-length (k ∷ ks) each = omega (arith, ap length (flat-cons k ks), length-append (f k) (flatMap f ks), each k (has-here k ks), flat-length ks (λ j h. each j (has-later k j ks h)))
+  -- ---- lines of one length, by their places, and what stands after them
+  module _ (wide : ℕ) where
+    pub flat-length : (ks : List ℕ) → ((k : ℕ) → has ks k ≡ true → length (f k) ≡ wide) → length (flatMap f ks) ≡ wide * length ks
+    flat-length [] each = ap length flat-nil ∙ sym (mul-zero wide)
+    flat-length (k ∷ ks) each = omega (
+      arith,
+      ap length (flat-cons k ks),
+      length-append (f k) (flatMap f ks),
+      each k (has-here k ks),
+      flat-length ks (λ j h. each j (has-later k j ks h)),
+      mul-suc wide (length ks),
+    )
 
-  flat-line : (ks : List ℕ) → ((k : ℕ) → has ks k ≡ true → length (f k) ≡ LINE) → (t : ℕ) → t < length ks → take LINE (drop (LINE * t) (flatMap f ks)) ≡ f (getD ks t 0)
-  flat-line [] each t q = absurd (omega arith)
-  flat-line (k ∷ ks) each zero q = ap (take LINE) (flat-cons k ks) ∙ take-at (f k) (flatMap f ks) LINE (each k (has-here k ks))
-  flat-line (k ∷ ks) each (suc t) q =
-      let e : LINE * suc t ≡ length (f k) + LINE * t = omega (arith, each k (has-here k ks)) in
-      ap (λ (n : ℕ). take LINE (drop n (flatMap f (k ∷ ks)))) e
-      ∙ ap (λ (l : List ℕ). take LINE (drop (length (f k) + LINE * t) l)) (flat-cons k ks)
-      ∙ ap (take LINE) (drop-append-add (f k) (flatMap f ks) (LINE * t))
-      ∙ flat-line ks (λ j h. each j (has-later k j ks h)) t (omega arith)
+    pub flat-line : (ks : List ℕ) → ((k : ℕ) → has ks k ≡ true → length (f k) ≡ wide) → (rest : List ℕ) (t : ℕ) → t < length ks → take wide (drop (wide * t) (flatMap f ks ++ rest)) ≡ f (getD ks t 0)
+    flat-line [] each rest t q = absurd (omega arith)
+    flat-line (k ∷ ks) each rest zero q = rw (mul-zero wide, flat-front k ks rest) (take-at (f k) (flatMap f ks ++ rest) wide (each k (has-here k ks)))
+    flat-line (k ∷ ks) each rest (suc t) q =
+        let e : wide * suc t ≡ length (f k) + wide * t = omega (arith, mul-suc wide t, each k (has-here k ks)) in
+        rw (e, flat-front k ks rest, drop-append-add (f k) (flatMap f ks ++ rest) (wide * t)) (flat-line ks (λ j h. each j (has-later k j ks h)) rest t (omega arith))
 
 -- ---- the page of an accepted input
 module _ (ds : List ℕ) (es : List ℤ) (s : Sortable es) (short : (k : ℕ) → k < length es → getD ds k 0 ≤ DURATIONS) where
@@ -91,13 +100,14 @@ module _ (ds : List ℕ) (es : List ℤ) (s : Sortable es) (short : (k : ℕ) �
   pub one-line-each : OneLineEach ds es (pageOf ds es)
   unfolding bytesOf
   one-line-each = record {
-    long = omega (arith, length-append heading (flatMap (lineAt ds es) (orderOf es)), flat-length (lineAt ds es) (orderOf es) of-order, order-length es);
+    long = omega (arith, length-append heading (flatMap (lineAt ds es) (orderOf es)), flat-length (lineAt ds es) LINE (orderOf es) of-order, order-length es);
     first = take-at heading (flatMap (lineAt ds es) (orderOf es)) LINE refl;
     line = λ t q.
         (let e : LINE * (t + 1) ≡ LINE + LINE * t = omega arith in
         ap (λ (n : ℕ). take LINE (drop n (pageOf ds es))) e
         ∙ ap (take LINE) (drop-append-add heading (flatMap (lineAt ds es) (orderOf es)) (LINE * t))
-        ∙ flat-line (lineAt ds es) (orderOf es) of-order t (omega (arith, order-length es)));
+        ∙ ap (λ (l : List ℕ). take LINE (drop (LINE * t) l)) (sym (append-nil (flatMap (lineAt ds es) (orderOf es))))
+        ∙ flat-line (lineAt ds es) LINE (orderOf es) of-order [] t (omega (arith, order-length es)));
     once = λ j k p q e. line-once j k (startAt es j) (startAt es k) (endAt ds es j) (endAt ds es k) (omega (arith, s .few)) (omega (arith, s .few)) e;
     order = ordered es;
   }

@@ -14,7 +14,7 @@ use Rattle.integers.specs.Texts.{bytesOf}
 use Rattle.records.specs.Refusals.{StartFits}
 use Rattle.text.specs.DecimalText.{natural, decimal, Puts}
 use Rattle.text.proofs.Decimals.{natural-fits, natural-small, natural-large}
-use Rattle.text.proofs.PutBytes.{puts-append, puts-length}
+use Rattle.text.proofs.PutBytes.{puts-append}
 use Rattle.pages.specs.Lines.{LINE, spaces, padLeft, lineEnd, columns, lineOf}
 
 -- ---- how long
@@ -47,23 +47,23 @@ pub task-fits : (task : ℕ) → task < TASKS → length (decimal (pos task)) �
 unfolding decimal
 task-fits task h = natural-fits 1 task (omega arith)
 
-decimal-fits : (z : ℤ) → negsuc 999999999 ≤ℤ z → z ≤ℤ pos 999999999 → length (decimal z) ≤ 11
+pub decimal-fits : (z : ℤ) → negsuc 999999998 ≤ℤ z → z ≤ℤ pos 999999999 → length (decimal z) ≤ 10
 unfolding decimal up dn
-decimal-fits (pos n) low high = let m : n < 1000000000 = omega ints in omega (arith, natural-fits 9 n (omega arith))
-decimal-fits (negsuc n) low high = let m : n < 1000000000 = omega ints in omega (arith, natural-fits 9 (suc n) (omega arith))
+decimal-fits (pos n) low high = let m : n < 1000000000 = omega ints in omega (arith, natural-fits 8 n (omega arith))
+decimal-fits (negsuc n) low high = let m : suc n < 1000000000 = omega ints in omega (arith, natural-fits 8 (suc n) (omega arith))
 
-pub start-fits : (z : ℤ) → StartFits z → length (decimal z) ≤ 11
+pub start-fits : (z : ℤ) → StartFits z → length (decimal z) ≤ 10
 unfolding up dn
 start-fits z h = decimal-fits z (omega (ints, h .low, up-neg (pos START), dn-neg (pos START))) (omega (ints, h .high))
 
-pub end-fits : (z : ℤ) (d : ℕ) → StartFits z → d ≤ DURATIONS → length (decimal (z +ℤ pos d)) ≤ 11
+pub end-fits : (z : ℤ) (d : ℕ) → StartFits z → d ≤ DURATIONS → length (decimal (z +ℤ pos d)) ≤ 10
 unfolding up dn
 end-fits z d h k =
     decimal-fits (z +ℤ pos d) (omega (ints, h .low, up-neg (pos START), dn-neg (pos START), sumℤ z (pos d))) (omega (ints, h .high, sumℤ z (pos d)))
 
 pub line-length : (task : ℕ) (start : ℤ) (d : ℕ) → task < TASKS → StartFits start → d ≤ DURATIONS → length (lineOf task start (start +ℤ pos d)) ≡ LINE
 unfolding decimal
-line-length task start d h i j = columns-length (natural task) (decimal start) (decimal (start +ℤ pos d)) (task-fits task h) (start-fits start i) (end-fits start d i j)
+line-length task start d h i j = columns-length (natural task) (decimal start) (decimal (start +ℤ pos d)) (task-fits task h) (omega (arith, start-fits start i)) (omega (arith, end-fits start d i j))
 
 -- ---- the first column tells the task
 two-digits : (task : ℕ) → task < 100 → 10 ≤ task → natural task ≡ (48 + task / 10) ∷ (48 + task % 10) ∷ []
@@ -107,16 +107,16 @@ line-once j k s t e f p q same =
 middle : (xs ys zs : List ℕ) (m width : ℕ) → length xs ≡ m → length ys ≡ width → take width (drop m (xs ++ (ys ++ zs))) ≡ ys
 middle xs ys zs m width p q = ap (take width) (drop-at xs (ys ++ zs) m p) ∙ take-at ys zs width q
 
-pub after-spaces : (width : ℕ) (text : List ℕ) → length text ≤ width → width ≤ 11 → take width (drop (11 + length text - width) (sets (spaces 22) 11 text)) ≡ padLeft width text
+pub after-spaces : (width : ℕ) (text : List ℕ) → length text ≤ width → width ≤ 12 → take width (drop (12 + length text - width) (sets (spaces 24) 12 text)) ≡ padLeft width text
 unfolding padLeft
 after-spaces width text h k =
-    let m : ℕ = 11 + length text - width in
+    let m : ℕ = 12 + length text - width in
     let s : ℕ = width - length text in
-    let rest : List ℕ = drop (11 + length text) (spaces 22) in
-    let e : m + s ≡ 11 = omega arith in
-    let front : spaces m ++ spaces s ≡ spaces 11 = replicate-append-replicate {A = ℕ} m s 32 ∙ ap (λ (j : ℕ). spaces j) e in
-    let parted : sets (spaces 22) 11 text ≡ spaces m ++ (spaces s ++ text ++ rest) =
-    sets-eq text (spaces 22) 11 (omega arith)
+    let rest : List ℕ = drop (12 + length text) (spaces 24) in
+    let e : m + s ≡ 12 = omega arith in
+    let front : spaces m ++ spaces s ≡ spaces 12 = replicate-append-replicate {A = ℕ} m s 32 ∙ ap (λ (j : ℕ). spaces j) e in
+    let parted : sets (spaces 24) 12 text ≡ spaces m ++ (spaces s ++ text ++ rest) =
+    sets-eq text (spaces 24) 12 (omega arith)
     ∙ ap (λ (l : List ℕ). l ++ text ++ rest) (sym front)
     ∙ ap (λ (l : List ℕ). l ++ rest) (append-assoc (spaces m) (spaces s) text)
     ∙ append-assoc (spaces m) (spaces s ++ text) rest in
@@ -124,30 +124,25 @@ after-spaces width text h k =
     ∙ middle (spaces m) (spaces s ++ text) rest m width (length-replicate {A = ℕ} m 32) (omega (arith, length-append (spaces s) text, length-replicate {A = ℕ} s 32))
 
 -- the number x, written there, and the part of the text that ends with it
-pub right-aligned : {before after l : List ℕ} {at end next : ℕ} (width : ℕ) (x : ℤ) {y : ℤ} → y ≡ x → Puts (spaces 22) l 11 (decimal y) end → length (decimal x) ≤ width → width ≤ 11
+pub right-aligned : {before after l : List ℕ} {at end next : ℕ} (width : ℕ) (x : ℤ) {y : ℤ} → y ≡ x → Puts (spaces 24) l 12 (decimal y) end → length (decimal x) ≤ width → width ≤ 12
     → Puts before after at (take (end - (end - width)) (drop (end - width) l)) next → Puts before after at (padLeft width (decimal x)) next
 right-aligned {before} {after} {l} {at} {end} {next} width x {y} same p h k q = subst (λ (bytes : List ℕ). Puts before after at bytes next) part q
   where
-    ends : end ≡ 11 + length (decimal x)
-    ends = p .end ∙ ap (λ (z : ℤ). 11 + length (decimal z)) same
+    ends : end ≡ 12 + length (decimal x)
+    ends = p .end ∙ ap (λ (z : ℤ). 12 + length (decimal z)) same
 
     wide : end - (end - width) ≡ width
     wide = omega (arith, ends)
 
-    from : end - width ≡ 11 + length (decimal x) - width
+    from : end - width ≡ 12 + length (decimal x) - width
     from = omega (arith, ends)
 
     part : take (end - (end - width)) (drop (end - width) l) ≡ padLeft width (decimal x)
     part =
         ap (λ (n : ℕ). take n (drop (end - width) l)) wide
         ∙ ap (λ (n : ℕ). take width (drop n l)) from
-        ∙ ap (λ (bytes : List ℕ). take width (drop (11 + length (decimal x) - width) bytes)) (p .text ∙ ap (λ (z : ℤ). sets (spaces 22) 11 (decimal z)) same)
+        ∙ ap (λ (bytes : List ℕ). take width (drop (12 + length (decimal x) - width) bytes)) (p .text ∙ ap (λ (z : ℤ). sets (spaces 24) 12 (decimal z)) same)
         ∙ after-spaces width (decimal x) h k
-
--- the place after a number that is right-aligned
-pub puts-wide : {before after : List ℕ} {at next : ℕ} (width : ℕ) (x : ℤ) {y : ℤ} → y ≡ x → Puts before after at (padLeft width (decimal y)) next → length (decimal x) ≤ width → (next ≡ at + width)
-    × (length after ≡ length before)
-puts-wide width x {y} e p h = (omega (arith, p .end, pad-length width (decimal y) (rw e h)), puts-length p)
 
 -- ---- the fields of a line, one after the other
 pub puts-line : {o₀ o₁ o₂ o₃ o₄ o₅ o₆ : List ℕ} {at a b c d e r : ℕ} (task : ℕ) (start end : ℤ) {x y z : ℤ} → x ≡ pos task → y ≡ start → z ≡ end

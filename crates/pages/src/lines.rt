@@ -5,6 +5,7 @@ use integers::moments::start_of;
 use integers::numbers::word_of;
 use text::writing::put_bytes;
 use text::writing::put_number;
+ghost use mathlib.Core.Path.{_≡_};
 ghost use Prim.Native.Nat.{_+_, _*_, _≤_, _<_};
 ghost use lib.IntN.{pos, _+ℤ_};
 ghost use lib.ListN.{length, take};
@@ -17,21 +18,30 @@ ghost use Rattle.pages.specs.Lines.{LINE, padLeft, heading, lineOf};
 ghost use Rattle.pages.specs.Pages.{lineAt};
 
 // A number, right-aligned: it is written after spaces, and the text ends with it and is as long as the width.
-fn put_right(out: &mut [u8], at: usize, width: usize, x: i32) -> usize
-    requires { ⌜ (at + width ≤ length (now out)) × (length (decimal x) ≤ width) × (width ≤ 11) ⌝ }
-    ensures { λ r. ⌜ Puts (now (out .entry)) (now (out .exit)) at (padLeft width (decimal x)) r ⌝ }
+pub fn put_right(out: &mut [u8], at: usize, width: usize, x: i32) -> usize
+    requires { ⌜ (at + width ≤ length (now out)) × (length (decimal x) ≤ width) × (width ≤ 12) ⌝ }
+    ensures text { λ r. ⌜ Puts (now (out .entry)) (now (out .exit)) at (padLeft width (decimal x)) r ⌝ }
+    ensures wide { λ r. ⌜ r ≡ at + width ⌝ }
 {
-    let mut text = [b' '; 22];
-    let end = put_number(&mut text, 11, x);
+    let mut text = [b' '; 24];
+    let end = put_number(&mut text, 12, x);
     put_bytes(out, at, &text[end - width..end])
 }
 
-// A task's line. The end is the start's moment plus the duration.
+// When a task that starts there ends: the start's moment plus the duration.
+pub fn end_of(start: i32, duration: u32) -> i32
+    requires { ⌜ StartFits start × (duration ≤ DURATIONS) ⌝ }
+    ensures { λ r. ⌜ r ≡ start +ℤ pos duration ⌝ }
+{
+    start_of(moment_of(start) + duration)
+}
+
+// A task's line.
 fn put_line(out: &mut [u8], at: usize, task: usize, start: i32, duration: u32) -> usize
     requires { ⌜ (at + LINE ≤ length (now out)) × (task < TASKS) × StartFits start × (duration ≤ DURATIONS) ⌝ }
     ensures { λ r. ⌜ Puts (now (out .entry)) (now (out .exit)) at (lineOf task start (start +ℤ pos duration)) r ⌝ }
 {
-    let end = start_of(moment_of(start) + duration);
+    let end = end_of(start, duration);
     let a = put_right(out, at, 2, word_of(task));
     let b = put_bytes(out, a, b" ");
     let c = put_right(out, b, 11, start);

@@ -1,4 +1,4 @@
--- The tasks of an input whose count is known, and what is answered to it.
+-- The tasks of an input whose count is known, and what follows from them.
 use mathlib.Core.Path.{_≡_, refl, sym, ap, _∙_}
 use mathlib.Core.Bool.{true, false}
 use mathlib.Core.List.{List, [], _∷_, map}
@@ -16,7 +16,7 @@ use Rattle.integers.specs.Tests.{refusal}
 use Rattle.integers.proofs.Bools.{bool}
 use Rattle.integers.proofs.FilledLists.{filled-at, filled-length}
 use Rattle.integers.proofs.Lists.{getD-map-in}
-use Rattle.records.specs.Records.{creationTests, newRecord}
+use Rattle.records.specs.Records.{creationTests}
 use Rattle.records.proofs.Creation.{refused-1}
 use Rattle.text.specs.Scanner.{gathered}
 use Rattle.text.specs.declared.reading.Numbers.{Numbers}
@@ -24,23 +24,23 @@ use Rattle.text.proofs.ScannedNumbers.{kept-at}
 use Rattle.plan_cli.specs.InputCount.{countIn, column}
 use Rattle.plan_cli.specs.declared.input.Counted.the-variants as counted
 use Rattle.plan_cli.proofs.InputCount.{Listed}
-use Rattle.plan_cli.specs.Printed.{Triple, triples, inputTasks, numbered, ranOn, planned, plannedOf, answered}
+use Rattle.plan_cli.specs.Printed.{Triple, triples, inputTasks, listedTasks}
 
 -- ---- what the count says of the input
-pub not-listed : (xs : Option (List ℤ)) → counted.Wrong ≡ countIn xs → answered xs ≡ inl 0
-unfolding answered inputTasks countIn
+pub not-listed : (xs : Option (List ℤ)) → counted.Wrong ≡ countIn xs → listedTasks xs ≡ none
+unfolding inputTasks countIn
 not-listed none h = refl
 not-listed (some []) h = refl
 not-listed (some (negsuc n ∷ xs)) h = refl
 not-listed (some (pos n ∷ xs)) h = by (bool (eqb (length xs) (3 * n)))
   where
-    by : (eqb (length xs) (3 * n) ≡ true) ⊎ (eqb (length xs) (3 * n) ≡ false) → answered (some (pos n ∷ xs)) ≡ inl 0
+    by : (eqb (length xs) (3 * n) ≡ true) ⊎ (eqb (length xs) (3 * n) ≡ false) → listedTasks (some (pos n ∷ xs)) ≡ none
     by (inl z) = let e : counted.Wrong ≡ counted.Tasks n = h ∙ rw (z, countIn) in let y : _≡_ {A = ℕ} 0 1 = cc in absurd (omega arith)
-    by (inr z) = rw (z, answered, inputTasks)
+    by (inr z) = rw (z, inputTasks)
 
-answered-listed : (n : ℕ) (rest : List ℤ) → length rest ≡ 3 * n → answered (some (pos n ∷ rest)) ≡ plannedOf (triples rest)
-unfolding answered inputTasks
-answered-listed n rest l = rw (eq-eqb (length rest) (3 * n) l, answered, inputTasks)
+pub tasks-listed : (xs : Option (List ℤ)) (n : ℕ) (l : Listed xs n) → listedTasks xs ≡ some (triples (l .rest))
+unfolding inputTasks
+tasks-listed xs n l = ap listedTasks (l .whole) ∙ rw (eq-eqb (length (l .rest)) (3 * n) (l .long), inputTasks)
 
 -- ---- the triples
 abbrev no-triple : Triple
@@ -98,26 +98,30 @@ module _ (ns : Numbers) (n : ℕ) (rest : List ℤ) (h : ns ≡ gathered (some (
       ∙ at k s
       ∙ sym (getD-map-in f (triples rest) k no-triple (pos 0) (omega arith)))
 
-  pub columns : planned (take n (column (ns .kept) n 1)) (take n (column (ns .kept) n 2)) (take n (column (ns .kept) n 3)) ≡ answered (some (pos n ∷ rest))
+  -- the earliest starts, the latest starts and the durations
+  columns : (take n (column (ns .kept) n 1) ≡ map (λ (t : Triple). t .earliest) (triples rest)) × (take n (column (ns .kept) n 2) ≡ map (λ (t : Triple). t .latest) (triples rest))
+      × (take n (column (ns .kept) n 3) ≡ map (λ (t : Triple). t .duration) (triples rest))
   columns =
-      let zero-more : (k : ℕ) → 3 * k + 0 ≡ 3 * k = λ k. omega arith in
-      let es = column-is (λ t. t .earliest) 0 (omega arith) (λ k q. ap (λ (j : ℕ). getD rest j (pos 0)) (zero-more k) ∙ triple-at n rest long k q .earliest) in
-      let ls = column-is (λ t. t .latest) 1 (omega arith) (λ k q. triple-at n rest long k q .latest) in
-      let ds = column-is (λ t. t .duration) 2 (omega arith) (λ k q. triple-at n rest long k q .duration) in
-      (λ i. planned (es i) (ls i) (ds i)) ∙ sym (answered-listed n rest long)
+      let zero-more : (k : ℕ) → 3 * k + 0 ≡ 3 * k = λ k. omega arith in (
+        column-is (λ t. t .earliest) 0 (omega arith) (λ k q. ap (λ (j : ℕ). getD rest j (pos 0)) (zero-more k) ∙ triple-at n rest long k q .earliest),
+        column-is (λ t. t .latest) 1 (omega arith) (λ k q. triple-at n rest long k q .latest),
+        column-is (λ t. t .duration) 2 (omega arith) (λ k q. triple-at n rest long k q .duration),
+      )
 
--- and so is what follows from them
-pub few-listed : (ns : Numbers) (xs : Option (List ℤ)) (n : ℕ) {es ls ds : List ℤ} → ns ≡ gathered xs → Listed xs n → n ≤ TASKS → es ≡ column (ns .kept) n 1 → ls ≡ column (ns .kept) n 2
-    → ds ≡ column (ns .kept) n 3
-    → planned (take n es) (take n ls) (take n ds) ≡ answered xs
-few-listed ns xs n h l q e f g = (λ i. planned (take n (e i)) (take n (f i)) (take n (g i))) ∙ columns ns n (l .rest) (h ∙ ap gathered (l .whole)) (l .long) q ∙ ap answered (sym (l .whole))
+-- ---- what is made of the tasks: f of their starts and durations
+module _ {A : Type 0} (g : Option (List Triple) → A) (f : List ℤ → List ℤ → List ℤ → A)
+    (given : (ts : List Triple) → g (some ts) ≡ f (map (λ (t : Triple). t .earliest) ts) (map (λ (t : Triple). t .latest) ts) (map (λ (t : Triple). t .duration) ts)) where
+  pub few-listed : (ns : Numbers) (xs : Option (List ℤ)) (n : ℕ) {es ls ds : List ℤ} → ns ≡ gathered xs → Listed xs n → n ≤ TASKS → es ≡ column (ns .kept) n 1 → ls ≡ column (ns .kept) n 2
+      → ds ≡ column (ns .kept) n 3
+      → f (take n es) (take n ls) (take n ds) ≡ g (listedTasks xs)
+  few-listed ns xs n h l q e e′ e″ =
+      let (c, c′, c″) = columns ns n (l .rest) (h ∙ ap gathered (l .whole)) (l .long) q in
+      (λ i. f (take n (e i)) (take n (e′ i)) (take n (e″ i))) ∙ (λ i. f (c i) (c′ i) (c″ i)) ∙ sym (ap g (tasks-listed xs n l) ∙ given (triples (l .rest)))
 
--- more tasks than a record has: creation refuses them
-pub many-listed : (xs : Option (List ℤ)) (n : ℕ) → Listed xs n → TASKS < n → inl 1 ≡ answered xs
-many-listed xs n l q =
-    let ts = triples (l .rest) in
-    let ds = map (λ (t : Triple). t .duration) ts in
-    let m : length ds ≡ n = length-map ts (λ t. t .duration) ∙ triples-long n (l .rest) (l .long) in
-    let one : refusal (creationTests ds) ≡ 1 = refused-1 ds .1 (λ f. omega (arith, f .1)) in
-    sym (ap answered (l .whole) ∙ answered-listed n (l .rest) (l .long)
-    ∙ ap (λ (k : ℕ). numbered k (ranOn (newRecord ds) (map (λ (t : Triple). t .earliest) ts) (map (λ (t : Triple). t .latest) ts))) one)
+  -- more tasks than a record has: creation refuses them
+  pub many-listed : (xs : Option (List ℤ)) (n : ℕ) → Listed xs n → TASKS < n → (v : A) → ((es ls ds : List ℤ) → refusal (creationTests ds) ≡ 1 → f es ls ds ≡ v) → v ≡ g (listedTasks xs)
+  many-listed xs n l q v told =
+      let ts = triples (l .rest) in
+      let ds = map (λ (t : Triple). t .duration) ts in
+      let m : length ds ≡ n = length-map ts (λ t. t .duration) ∙ triples-long n (l .rest) (l .long) in
+      sym (ap g (tasks-listed xs n l) ∙ given ts ∙ told _ _ ds (refused-1 ds .1 (λ z. omega (arith, z .1))))

@@ -37,6 +37,11 @@ inputTasks [] = none
 inputTasks (negsuc n ∷ xs) = none
 inputTasks (pos n ∷ xs) = elim (eqb (length xs) (3 * n)) [ true ↦ some (triples xs) | false ↦ none ]
 
+-- the tasks of an input of which the numbers are read, if it has some
+abbrev pub listedTasks : Option (List ℤ) → Option (List Triple)
+listedTasks none = none
+listedTasks (some xs) = inputTasks xs
+
 -- the first number that refuses an input, and what else follows where none does
 abbrev pub numbered : ℕ → ℕ ⊎ Trace → ℕ ⊎ Trace
 numbered zero otherwise = otherwise
@@ -59,8 +64,7 @@ orZero none = inl 0
 orZero (some ts) = plannedOf ts
 
 unfoldable pub answered : Option (List ℤ) → ℕ ⊎ Trace
-answered none = inl 0
-answered (some xs) = orZero (inputTasks xs)
+answered xs = orZero (listedTasks xs)
 
 -- the bytes that are printed for the bytes that are read
 unfoldable pub printed : List ℕ → List ℕ

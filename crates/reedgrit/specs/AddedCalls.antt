@@ -6,6 +6,9 @@ use Rattle.records.specs.declared.record.DisjunctivePropagator.{DisjunctiveProp
 use Rattle.charges.specs.Charges.{Charged}
 use Rattle.overload_test.specs.Numbers.{overloadNumbers}
 use Rattle.overload_test.specs.Tested.{OverloadTested}
+use Rattle.conflicts.specs.Conflicts.{ConflictFound}
+use Rattle.conflict_pages.specs.Numbers.{conflictPageNumbers}
+use Rattle.conflict_pages.specs.Pages.{ConflictPaged}
 use Rattle.task_changes.specs.Changes.{AddedLent, RemovedLent}
 use Rattle.task_changes.specs.Numbers.{changeNumbers}
 use Rattle.free_starts.specs.FreeStarts.{FreeStartAnswered}
@@ -30,7 +33,8 @@ use Rattle.answers.specs.declared.added_calls.ChangeAnswer.{ChangeAnswer}
 use Rattle.answers.specs.declared.added_calls.StartAnswer.{StartAnswer}
 use Rattle.answers.specs.declared.added_calls.BusiestAnswer.{BusiestAnswer}
 use Rattle.answers.specs.declared.added_calls.ChargesAnswer.{ChargesAnswer}
-use Rattle.answers.specs.AddedAnswers.{mirroredAnswer, countAnswer, changeAnswer, startAnswer, busiestAnswer, chargesAnswer}
+use Rattle.answers.specs.declared.added_calls.ConflictAnswer.{ConflictAnswer}
+use Rattle.answers.specs.AddedAnswers.{mirroredAnswer, countAnswer, changeAnswer, startAnswer, busiestAnswer, chargesAnswer, conflictAnswer}
 use Rattle.answers.specs.SourceAnswers.{NumbersOf}
 
 abbrev pub MirroredNumbers : DisjunctivePropagator → List Range → List ℤ → List ℤ → MirroredAnswer
@@ -41,6 +45,13 @@ MirroredNumbers before ranges posts atoms a ranges′ posts′ atoms′ =
 abbrev pub OverloadNumbers : DisjunctivePropagator → List Range → CountAnswer → Type 0
 OverloadNumbers before ranges =
     NumbersOf (λ r. countAnswer (overloadNumbers r)) (OverloadTested before (earliests ranges) (latests ranges) (allBarsFit ranges))
+
+abbrev pub ConflictNumbers : DisjunctivePropagator → List Range → ConflictAnswer → Type 0
+ConflictNumbers before ranges = NumbersOf conflictAnswer (ConflictFound before (earliests ranges) (latests ranges) (allBarsFit ranges))
+
+abbrev pub ConflictPageNumbers : DisjunctivePropagator → List Range → List ℕ → CountAnswer → List ℕ → Type 0
+ConflictPageNumbers before ranges out a out′ =
+    NumbersOf (λ r. countAnswer (conflictPageNumbers r)) (λ r. ConflictPaged before (earliests ranges) (latests ranges) (allBarsFit ranges) out r out′) a
 
 abbrev pub AddedNumbers : DisjunctivePropagator → ℤ → ChangeAnswer → DisjunctivePropagator → Type 0
 AddedNumbers before duration a after = NumbersOf (λ r. changeAnswer (changeNumbers r)) (λ r. AddedLent before duration r after) a

@@ -3,6 +3,7 @@ use crate::checks::checked_mirrored;
 use answers::added_calls::BusiestAnswer;
 use answers::added_calls::ChangeAnswer;
 use answers::added_calls::ChargesAnswer;
+use answers::added_calls::ConflictAnswer;
 use answers::added_calls::CountAnswer;
 use answers::added_calls::MirroredAnswer;
 use answers::added_calls::StartAnswer;
@@ -10,6 +11,8 @@ use answers::added_calls::bound_above_numbers;
 use answers::added_calls::busiest_numbers;
 use answers::added_calls::change_numbers;
 use answers::added_calls::charges_numbers;
+use answers::added_calls::conflict_numbers;
+use answers::added_calls::conflict_page_numbers;
 use answers::added_calls::mirrored_numbers;
 use answers::added_calls::overload_numbers;
 use answers::added_calls::page_numbers;
@@ -20,6 +23,8 @@ use answers::source_calls::CheckAnswer;
 use disjunctive::open_calls::by_precedence::precedence_bound;
 use disjunctive::open_calls::by_precedence::precedence_reason;
 use disjunctive::open_calls::by_precedence::precedences;
+use disjunctive::open_calls::of_conflicts::conflict;
+use disjunctive::open_calls::of_conflicts::conflict_page;
 use disjunctive::open_calls::of_fixed_schedules::busiest_stretch;
 use disjunctive::open_calls::of_fixed_schedules::charges;
 use disjunctive::open_calls::of_fixed_schedules::free_start;
@@ -33,6 +38,7 @@ use task_changes::lent::remove;
 ghost use mathlib.Core.Path.{_≡_};
 ghost use Rattle.reedgrit.specs.Checks.{CheckedMirroredNumbers};
 ghost use Rattle.reedgrit.specs.AddedCalls.{MirroredNumbers, OverloadNumbers, AddedNumbers, RemovedNumbers, PageNumbers, ChargesNumbers};
+ghost use Rattle.reedgrit.specs.AddedCalls.{ConflictNumbers, ConflictPageNumbers};
 ghost use Rattle.reedgrit.specs.AddedCalls.{FreeStartNumbers, BusiestNumbers, PrecedencesNumbers, BoundNumbers, ReasonNumbers};
 
 // The version of these functions and structs.
@@ -78,6 +84,29 @@ pub extern "C" fn reedgrit_overload_test(
     ensures { λ r. ⌜ OverloadNumbers (now (propagator .entry)) (now (ranges .entry)) r ⌝ }
 {
     overload_numbers(overload_test(propagator, ranges))
+}
+
+// Why the tasks cannot fit.
+#[no_mangle]
+pub extern "C" fn reedgrit_conflict(
+    propagator: &DisjunctivePropagator,
+    ranges: &[Range],
+) -> ConflictAnswer
+    ensures { λ r. ⌜ ConflictNumbers (now (propagator .entry)) (now (ranges .entry)) r ⌝ }
+{
+    conflict_numbers(conflict(propagator, ranges))
+}
+
+// The page of it.
+#[no_mangle]
+pub extern "C" fn reedgrit_conflict_page(
+    propagator: &DisjunctivePropagator,
+    ranges: &[Range],
+    out: &mut [u8],
+) -> CountAnswer
+    ensures { λ r. ⌜ ConflictPageNumbers (now (propagator .entry)) (now (ranges .entry)) (now (out .entry)) r (now (out .exit)) ⌝ }
+{
+    conflict_page_numbers(conflict_page(propagator, ranges, out))
 }
 
 // A task more.

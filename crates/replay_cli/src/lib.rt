@@ -2,6 +2,7 @@
 // What is proved here is that every function is safe and ends; contracts say no more than that needs. What the lines say is tested.
 mod check_commands;
 mod commands;
+mod conflict_commands;
 mod input;
 mod lines;
 mod parts;

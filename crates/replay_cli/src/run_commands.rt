@@ -1,4 +1,6 @@
-// The calls on ranges that may have barred starts: the run, the mirrored pass, the overload test and those by precedences.
+// The calls on ranges that may have barred starts: the run, the mirrored pass, the overload test, those by precedences and those of conflicts.
+use crate::conflict_commands::answer_conflict;
+use crate::conflict_commands::answer_conflict_page;
 use crate::lines::say;
 use crate::lines::say_counted;
 use crate::lines::say_error;
@@ -48,6 +50,12 @@ pub fn answer_barred(record: DisjunctivePropagator, word: &[u8], ranges: RangeLi
     }
     if same(word, b"precede") {
         return answer_precedences(record, ranges);
+    }
+    if same(word, b"conflict") {
+        return answer_conflict(record, ranges);
+    }
+    if same(word, b"conflict-page") {
+        return answer_conflict_page(record, ranges);
     }
     say_error();
 }

@@ -15,6 +15,7 @@ pub mod WordRoom
 pub mod LeafChanges
 pub mod QuietLevels
 pub mod WalkStops
+pub mod ReasonSets
 pub mod AtomShapes
 pub mod StartsLeft
 pub mod Costliest

@@ -6,6 +6,7 @@ pub mod EndNumbers
 pub mod Runs
 pub mod Costliest
 pub mod Demand
+pub mod ReasonSets
 pub mod Mirrored
 pub mod Instances
 -- What the code's loops hold: no contract of an open call names these.

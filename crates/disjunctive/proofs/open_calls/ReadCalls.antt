@@ -5,6 +5,14 @@ use Rattle.overload_test.specs.Tested.{OverloadTested}
 use Rattle.overload_test.proofs.TooManyRanges.{too-many as too-many-tested}
 use Rattle.overload_test.proofs.Overload as OverloadTest
 use Rattle.overload_test.proofs.Overload.Laws as OverloadTest′
+use Rattle.conflicts.specs.Conflicts.{ConflictFound}
+use Rattle.conflicts.proofs.TooManyRanges.{too-many as too-many-found}
+use Rattle.conflicts.proofs.answer.Conflict as Conflict
+use Rattle.conflicts.proofs.answer.Conflict.Laws as Conflict′
+use Rattle.conflict_pages.specs.Pages.{ConflictPaged}
+use Rattle.conflict_pages.proofs.PagedConflicts.{too-many as too-many-shown}
+use Rattle.conflict_pages.proofs.answer.ConflictPage as Sheet
+use Rattle.conflict_pages.proofs.answer.ConflictPage.Laws as Sheet′
 use Rattle.precedences.specs.Bounds.{BoundGiven}
 use Rattle.precedences.proofs.ReasonTooManyRanges.{too-many-bound}
 use Rattle.precedences.proofs.reason.BoundAbove as Bound
@@ -49,6 +57,40 @@ overload-test = record {
   again = none;
   slice = λ κs b. ((0, 0), 0);
   operands = [];
+}
+
+abbrev pub conflict : Reading
+conflict = record {
+  reader = starts-with-bars;
+  lifetimes = 0;
+  beside = [];
+  Answer = Conflict.the-row;
+  Holds = λ κs h es ls bars b r e. ConflictFound h es ls bars r;
+  too-many = λ κs h es ls bars b r e. too-many-found h es ls bars bars r;
+  values = λ κs. tt;
+  tells = λ κs. tt;
+  answerTy = Conflict′.mir;
+  besideTys = [];
+  again = none;
+  slice = λ κs b. ((0, 0), 0);
+  operands = [];
+}
+
+abbrev pub conflict-page : Reading
+conflict-page = record {
+  reader = starts-with-bars;
+  lifetimes = 1;
+  beside = mutSliceOf (0 ∷ []) tt (plain (λ _. u8)) ∷ [];
+  Answer = Sheet.the-row;
+  Holds = λ κs h es ls bars b r e. ConflictPaged h es ls bars (now (b .0)) r (now (e .0));
+  too-many = λ κs h es ls bars b r e. too-many-shown h es ls bars bars (now (b .0)) r (now (e .0));
+  values = λ κs. (slice-vals, tt);
+  tells = λ κs. (mut-slice-tells (named 0) (κs .0) u8, tt);
+  answerTy = Sheet′.mir;
+  besideTys = sliceTy (tyRef (named 2) mut (tyInt w8)) ∷ [];
+  again = some (3, tyInt w8);
+  slice = λ κs b. (b .0 .ptr, length (now (b .0)));
+  operands = 7 ∷ [];
 }
 
 abbrev pub precedence-bound : Reading

@@ -1,14 +1,17 @@
 -- Each way out is one case of `answered`: what is no list of tasks, too many tasks, and a list whose columns are its starts and durations.
-use mathlib.Core.Path.{_≡_, sym, ap, _∙_}
-use mathlib.Core.Logic.{_⊎_}
+use mathlib.Core.Path.{_≡_, refl, sym, ap, _∙_}
+use mathlib.Core.List.{List}
+use mathlib.Core.Logic.{_⊎_, inl}
+use mathlib.Core.Option.{Option}
 use Prim.Native.Nat.{ℕ, _≤_}
 use native.Mathlib.Omega.{arith}
 use lib.ListN.{length, take}
 use lib.Seq.{length-take-le}
 use Rattle.integers.specs.Limits.{TASKS}
+use Rattle.records.specs.Records.{newRecord}
 use Rattle.runs.specs.Traces.{Trace}
 use Rattle.plan_cli.specs.RunLines.{answerLines}
-use Rattle.plan_cli.specs.Printed.{planned}
+use Rattle.plan_cli.specs.Printed.{Triple, numbered, ranOn, planned, orZero, answered}
 use Rattle.plan_cli.proofs.RunLines.{puts-as}
 use Rattle.plan_cli.proofs.InputCount.{listed}
 use Rattle.plan_cli.proofs.InputTasks.{not-listed, few-listed, many-listed}
@@ -17,22 +20,26 @@ use Rattle.plan_cli.proofs.answer.put_answer.Statement.{statement}
 use Rattle.plan_cli.proofs.answer.put_answer.Tie as tie
 
 returns : tie.Need-returns
+unfolding answered
 returns c =
     let counted = c .before .before .before .before .before .before in
-    let start = counted .before .before in (
-      λ xs h. puts-as (ap answerLines (sym (not-listed xs (sym (c .before .before .before .before .enum-told .given .1) ∙ counted .task-count .ensures xs h))))
+    let start = counted .before .before in
+    let told = c .before .before .before .before .enum-told in (
+      λ xs h. puts-as (ap (λ (ts : Option (List Triple)). answerLines (orZero ts)) (sym (not-listed xs (sym (told .given .1) ∙ counted .task-count .ensures xs h))))
           (c .before .before .put-refused .ensures .0),
       omega (arith, c .before .before .put-refused .ensures .1, start .pre),
     )
 
 returns-2 : tie.Need-returns-2
+unfolding answered
 returns-2 c =
     let counted = c .before .before .before .before .before .before in
     let s = counted .before .before in
     let start = s .before .before in
     let n = counted .counted .given .0 .0 in (
-      λ xs h. puts-as (ap answerLines (many-listed xs n (listed xs n (sym (counted .counted .given .1) ∙ s .task-count .ensures xs h))
-          (omega (arith, c .before .before .before .before .if1 .taken)))) (c .before .before .put-refused2 .ensures .0),
+      λ xs h. puts-as (ap answerLines (many-listed orZero planned (λ ts. refl) xs n (listed xs n (sym (counted .counted .given .1) ∙ s .task-count .ensures xs h))
+          (omega (arith, c .before .before .before .before .if1 .taken)) (inl 1) (λ es ls ds one. ap (λ (k : ℕ). numbered k (ranOn (newRecord ds) es ls)) one)))
+          (c .before .before .put-refused2 .ensures .0),
       omega (arith, c .before .before .put-refused2 .ensures .1, start .pre),
     )
 
@@ -73,12 +80,13 @@ put-run-requires : tie.Need-put-run-requires
 put-run-requires c κs = let ran = c .before .before .before .before .before .before .before in record { what = what ran; shows = ran .plan .ensures; fits = start ran .pre }
 
 returns-3 : tie.Need-returns-3
+unfolding answered
 returns-3 c =
     let ran = c .before .before .before .before .before .before .before .before .before .before in
     let e = c .before .before .put-run .ensures in
     let n = counted-at ran in (
       λ xs h. (let l = listed xs (tasks ran) (sym (n .counted .given .1) ∙ n .before .before .task-count .ensures xs h) in
-          puts-as (ap answerLines (few-listed (start ran .args .numbers) xs (tasks ran) h l (few ran) (columns ran .before .before .before .before .column-of .ensures)
+          puts-as (ap answerLines (few-listed orZero planned (λ ts. refl) (start ran .args .numbers) xs (tasks ran) h l (few ran) (columns ran .before .before .before .before .column-of .ensures)
           (columns ran .before .before .column-of2 .ensures) (columns ran .column-of3 .ensures))) (e .0 (what ran) (ran .plan .ensures))),
       e .1,
     )

@@ -1,0 +1,98 @@
+-- What refuses a conflict's page: the call's number, then the room; and the sole ground for each number.
+use mathlib.Core.Path.{_≡_, refl, ap, sym, _∙_}
+use mathlib.Core.Bool.{Bool, true, false}
+use mathlib.Core.Logic.{_↔_, inl, inr}
+use mathlib.Core.List.{List, [], _∷_}
+use Prim.Native.Nat.{ℕ, _+_, _*_, _≤_, _<_}
+use native.Mathlib.Decide.{ℕ-discrete}
+use native.Mathlib.Omega.{arith}
+use lib.Dec.{leb}
+use lib.IntN.{ℤ}
+use lib.ListN.{length}
+use borrow.Author.Tests.{leb-true, le-leb, lt-leb}
+use Rattle.integers.specs.Limits.{TASKS}
+use Rattle.integers.specs.Tests.{Test, test}
+use Rattle.integers.proofs.Tests.{accepts, refuses, refusal-after, refusal-before, more-refused}
+use Rattle.integers.proofs.Bools.{clash}
+use Rattle.scheduling.specs.Scheduling.{TaskSet, Overloads}
+use Rattle.scheduling.specs.Scheduling as scheduling
+use Rattle.records.specs.declared.record.DisjunctivePropagator.{DisjunctivePropagator}
+use Rattle.records.specs.Records.{Lawful, tasksIn}
+use Rattle.records.specs.Refusals.{inputTests, inputNumber, CountsFit, StartsFit, RangesFit, AcceptedInput}
+use Rattle.records.proofs.RefusedRuns.{passed-input, input-passed, range-20, range-10, range-3, range-4, input-13, input-many}
+use Rattle.conflicts.specs.declared.answer.Found.{Found}
+use Rattle.conflicts.specs.declared.answer.Found.the-variants.{NothingFound, Overload, Late, Refused}
+use Rattle.conflicts.specs.declared.answer.Conflict.{Conflict}
+use Rattle.conflicts.specs.Conflicts.{ConflictFound}
+use Rattle.conflict_pages.specs.Lines.{LINE}
+use Rattle.conflict_pages.specs.Pages.{conflictPageNumber}
+use Rattle.conflict_pages.specs.Sayable.{numberOf, shows}
+
+-- ---- the call's number
+module _ (r : DisjunctivePropagator) (es ls : List ℤ) (bars : Bool) (c : Conflict) (x : ConflictFound r es ls bars c) where
+  -- where no test fails, some answer is found: an overload, a late task, or nothing
+  pub not-refused : inputNumber r es ls bars ≡ 0 → (m : ℕ) → c .found ≡ Refused m → ⊥
+  not-refused z m e = never e (ap (λ (d : Conflict). d .found) (x .nothing z .1 none))
+    where
+      never : {m : ℕ} → c .found ≡ Refused m → c .found ≡ NothingFound → ⊥
+      never f g = let y : _≡_ {A = ℕ} 0 1 = cc in omega arith
+
+      overloads : (Ω : TaskSet) → Overloads (tasksIn r es ls) Ω → ⊥
+      overloads Ω o = clash (ap shows (x .overload z .1 (Ω, o))) (ap shows e)
+
+      none : scheduling.Conflict (tasksIn r es ls) → ⊥
+      none (inl (Ω, o)) = overloads Ω o
+      none (inr (i, b, edge, passes)) = let (j, y, d, late) = x .late z .1 (overloads, (i, b, edge, passes)) in clash (ap shows late) (ap shows e)
+
+  pub number-is : numberOf (c .found) ≡ inputNumber r es ls bars
+  number-is = elim (ℕ-discrete (inputNumber r es ls bars) 0) [
+    | yes z ↦ by z (c .found) refl ∙ sym z
+    | no z ↦ ap (λ (d : Conflict). numberOf (d .found)) (x .refused z)
+  ]
+    where
+      by : inputNumber r es ls bars ≡ 0 → (f : Found) → c .found ≡ f → numberOf f ≡ 0
+      by z NothingFound e = refl
+      by z Overload e = refl
+      by z (Late i l b) e = refl
+      by z (Refused m) e = absurd (not-refused z m e)
+
+-- ---- and then the room
+module _ (r : DisjunctivePropagator) (es ls : List ℤ) (bars : Bool) (bytes : ℕ) where
+  abbrev t15 : Test
+  t15 = test 15 (leb (LINE * (r .count + 5)) bytes)
+
+  room-is : leb (LINE * (r .count + 5)) bytes ≡ true ↔ (LINE * (r .count + 5) ≤ bytes)
+  room-is = (λ h. leb-true (LINE * (r .count + 5)) bytes h, λ h. le-leb (LINE * (r .count + 5)) bytes h)
+
+  pub call-first : (inputNumber r es ls bars ≡ 0 → ⊥) → conflictPageNumber r es ls bars bytes ≡ inputNumber r es ls bars
+  call-first h = refusal-before (inputTests r es ls bars) (t15 ∷ []) h
+
+  pub no-room : inputNumber r es ls bars ≡ 0 → bytes < LINE * (r .count + 5) → conflictPageNumber r es ls bars bytes ≡ 15
+  no-room z h = refuses (inputTests r es ls bars) t15 [] (input-passed r es ls bars z) (lt-leb (LINE * (r .count + 5)) bytes h)
+
+  pub room-enough : inputNumber r es ls bars ≡ 0 → LINE * (r .count + 5) ≤ bytes → conflictPageNumber r es ls bars bytes ≡ 0
+  room-enough z h = refusal-after (inputTests r es ls bars) (t15 ∷ []) (input-passed r es ls bars z) ∙ accepts (t15 ∷ []) (le-leb (LINE * (r .count + 5)) bytes h, tt)
+
+  -- The sole ground for each number: all before it hold, and its own does not.
+  pub refused-20 : conflictPageNumber r es ls bars bytes ≡ 20 ↔ (Lawful r → ⊥)
+  refused-20 = range-20 r es ls (test 13 bars ∷ t15 ∷ []) refl
+
+  pub refused-10 : conflictPageNumber r es ls bars bytes ≡ 10 ↔ (Lawful r × (CountsFit (r .count) es ls → ⊥))
+  refused-10 = range-10 r es ls (test 13 bars ∷ t15 ∷ []) refl
+
+  pub refused-3 : conflictPageNumber r es ls bars bytes ≡ 3 ↔ (Lawful r × (CountsFit (r .count) es ls × (StartsFit es ls → ⊥)))
+  refused-3 = range-3 r es ls (test 13 bars ∷ t15 ∷ []) refl
+
+  pub refused-4 : conflictPageNumber r es ls bars bytes ≡ 4 ↔ (Lawful r × (CountsFit (r .count) es ls × (StartsFit es ls × (RangesFit es ls → ⊥))))
+  refused-4 = range-4 r es ls (test 13 bars ∷ t15 ∷ []) refl
+
+  pub refused-13 : conflictPageNumber r es ls bars bytes ≡ 13 ↔ (Lawful r × (CountsFit (r .count) es ls × (StartsFit es ls × (RangesFit es ls × (bars ≡ false)))))
+  refused-13 = input-13 r es ls bars (t15 ∷ []) refl
+
+  pub refused-15 : conflictPageNumber r es ls bars bytes ≡ 15 ↔ ((AcceptedInput r es ls × (bars ≡ true)) × (LINE * (r .count + 5) ≤ bytes → ⊥))
+  refused-15 = more-refused (inputTests r es ls bars) t15 (passed-input r es ls bars) room-is refl refl
+
+-- more ranges than any record has tasks are refused by the number that refuses none
+pub page-many : (r : DisjunctivePropagator) (es ls : List ℤ) (bars bars′ : Bool) (bytes : ℕ) → TASKS < length es
+    → (conflictPageNumber r [] [] bars bytes ≡ conflictPageNumber r es ls bars′ bytes) × (conflictPageNumber r es ls bars′ bytes ≡ 0 → ⊥)
+page-many r es ls bars bars′ bytes many = input-many r es ls bars bars′ (t15 r [] [] bars bytes ∷ []) (t15 r es ls bars′ bytes ∷ []) many

@@ -1,0 +1,13 @@
+pub mod Flags
+pub mod SpanValues
+pub mod SuffixSteps
+pub mod HeldSets
+pub mod SuffixWalk
+pub mod MarkedNumbers
+pub mod RecordMoments
+pub mod OverloadingSets
+pub mod LastPosts
+pub mod WholeSets
+pub mod LateSets
+pub mod FoundConflicts
+pub mod FoundNumbers

@@ -1,0 +1,78 @@
+-- The definition, step by step: the others, the suffix of them that gives the bound, and the spans of the three sets.
+use mathlib.Core.Path.{ap, _∙_}
+use Prim.Native.Nat.{ℕ, _<_}
+use native.Mathlib.Omega.{arith}
+use mir.Syntax.{w32}
+use borrow.Author.Needs.{needs}
+use Rattle.integers.specs.Moments.{moment, zeroAt}
+use Rattle.integers.proofs.Ints.{back, back-of}
+use Rattle.conflicts.specs.Answers.{flagsOf}
+use Rattle.conflicts.specs.Suffixes.{suffixTo}
+use Rattle.conflicts.specs.ConflictOf.{others}
+use Rattle.conflicts.specs.HeldTasks.{HoldsSet}
+use Rattle.conflicts.proofs.HeldSets.{count, without, work-is, sum-fits}
+use Rattle.conflicts.proofs.late_task.late.Statement.{statement}
+use Rattle.conflicts.proofs.late_task.late.Tie as tie
+
+-- the task is one of those held
+small : (s : tie.Start) (h : HoldsSet (s .args .m) (s .args .named)) → s .args .task < s .args .m .count
+small s h = omega (arith, s .pre .1 .task .small, count (s .pre .0))
+
+-- the suffix of the others
+abbrev before : (c : tie.After-suffix-to) (h : HoldsSet (c .before .before .args .m) (c .before .before .args .named)) → HoldsSet (c .before .before .args .m) (c .suffix-to .result)
+before c h = let s = c .before .before in record {
+  J = h .J;
+  Ω = suffixTo (h .J) (others (h .Ω) (s .args .task)) (moment zeroAt (s .args .bound));
+  holds = h .holds;
+  flags = c .suffix-to .ensures (without h (s .args .task) (small s h))
+      ∙ ap (λ (t : ℕ). flagsOf (h .J .count) (suffixTo (h .J) (others (h .Ω) (s .args .task)) t)) (c .before .moment-of .ensures ∙ ap (moment zeroAt) (back (s .fits .bound)));
+}
+
+array-write-others : tie.Need-array-write-others
+array-write-others c = omega (arith, small c (c .pre .0), c .pre .0 .holds .held .few)
+
+suffix-to-requires : tie.Need-suffix-to-requires
+suffix-to-requires c κs = let s = c .before in without (s .pre .0) (s .args .task) (small s (s .pre .0))
+
+span-of-requires-2 : tie.Need-span-of-requires-2
+span-of-requires-2 c κs = let s = c .before .before .before in without (s .pre .0) (s .args .task) (small s (s .pre .0))
+
+add-t13 : tie.Need-add-t13
+add-t13 c =
+    let spanned = c .before .before .before .before in
+    let s = spanned .before .before .before in
+    let h = s .pre .0 in
+    record { fits = rw (spanned .span-of .ensures h) (sum-fits (h .holds) (h .Ω) (s .args .task, s .pre .1 .task)) }
+
+sub-t18 : tie.Need-sub-t18
+sub-t18 c =
+    let spanned = c .before .before .before .before in
+    let s = spanned .before .before .before in
+    let h = s .pre .0 in
+    rw (spanned .span-of .ensures h, c .before .before .before .span-of2 .ensures (without h (s .args .task) (small s h))) (s .pre .1 .over)
+
+span-of-requires-3 : tie.Need-span-of-requires-3
+span-of-requires-3 c κs = let left = c .before .before .before .before .before in before left (left .before .before .pre .0)
+
+returns : tie.Need-returns
+returns c h =
+    let spanned = c .before .before .before .before .before .before in
+    let left = spanned .before in
+    let s = left .before .before in
+    rw (
+      back (s .fits .latest-start),
+      back (s .fits .bound),
+      work-is h (c .before .before .before .before .work-of .ensures) (spanned .span-of .ensures h),
+      spanned .span-of .ensures h,
+      back-of w32 (c .before .before .before .start-of .result) (c .before .before .before .start-of .ok),
+      c .before .before .before .start-of .ensures,
+      c .before .before .before .before .before .span-of2 .ensures (without h (s .args .task) (small s h)),
+      work-is (before left h) (c .work-of2 .ensures) (c .before .span-of3 .ensures (before left h)),
+    )
+
+pub late-spec : {M : Type 1} → statement M
+late-spec =
+    tie.close
+    (tie.spec
+    array-write-others (λ c κs. search needs) suffix-to-requires (λ c κs. search needs) span-of-requires-2
+    (λ c κs. search needs) (λ c κs. search needs) add-t13 sub-t18 span-of-requires-3 (λ c κs. search needs) returns)

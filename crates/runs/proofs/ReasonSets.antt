@@ -1,0 +1,265 @@
+-- The sets of a post are read off its reason: the post's task cannot go before the other tasks that the reason names, and of those the ones from some place on,
+-- in the order of earliest starts, give the bound.
+use mathlib.Core.Path.{_≡_, refl, sym, ap, subst, _∙_}
+use mathlib.Core.Bool.{Bool, true, false, _||_, _&&_}
+use mathlib.Core.Logic.{_⊎_, inl, inr}
+use mathlib.Core.List.{List, [], _∷_, _++_, map}
+use mathlib.Core.Option.{some}
+use Prim.Native.Nat.{ℕ, _+_, _-_, _≤_, _<_, min}
+use native.Mathlib.Omega.{arith}
+use lib.Dec.{eqb, leb}
+use lib.IntN.{subℕ}
+use lib.ListN.{length, getD}
+use borrow.Author.Tests.{eq-eqb, eqb-true, leb-true, le-leb, lt-leb}
+use Rattle.integers.specs.Moments.{moment}
+use Rattle.integers.specs.Orders.{index, has}
+use Rattle.integers.proofs.Bools.{bool, clash, or-true, or-right, and-yes, and-right}
+use Rattle.integers.proofs.MomentSums.{moment-instant}
+use Rattle.scheduling.specs.Scheduling.{natural, Tasks, Proper, TaskSet, In, Est, Ect, EstPlusP, Overloads, completion, processing, Atom}
+use Rattle.scheduling.specs.Moments.{ByEarliest, ByCompletion}
+use Rattle.scheduling.proofs.Sets.{_less_, less-in, less-out}
+use Rattle.scheduling.proofs.Processing.{processing-less, processing-same}
+use Rattle.scheduling.proofs.Levels.{overloaded}
+use Rattle.scheduling.proofs.Suffixes.{suffix-end}
+use Rattle.trees.specs.Ects.{exceeds}
+use Rattle.trees.specs.Leaves.{Leaf, theta, whiteAt, taskAt}
+use Rattle.trees.specs.Leaves as leaves
+use Rattle.trees.specs.Searches.{thetaOf}
+use Rattle.trees.proofs.Ects.{exceeds-yes}
+use Rattle.trees.proofs.RootAnswers as tree
+use Rattle.trees.proofs.WhiteTasks.{theta-in, theta-from}
+use Rattle.runs.specs.Traces.{Post, overload}
+use Rattle.runs.specs.Demand.{post}
+use Rattle.runs.specs.ReasonSets.{named}
+use Rattle.runs.specs.Runs.{atLeast, within, bounds, propagation, propagation-of, run, earliestOrder, completionOrder}
+use Rattle.runs.proofs.Demand.{by-earliest, by-completion}
+use Rattle.runs.proofs.LevelSteps.{Measure, E, E-is, theta-some, run-ok}
+use Rattle.runs.proofs.ReasonWalks as walks
+use Rattle.runs.proofs.WalkStops as stops
+
+-- What the walks name ----------------------------------------------------------------------------------------------------------
+
+-- two atoms of one task name it once
+twice : (a b : Bool) → a || (a || b) ≡ a || b
+twice true b = refl
+twice false b = refl
+
+named-append : (xs ys : List Atom) (k : ℕ) → named (xs ++ ys) k ≡ named xs k || named ys k
+unfolding has
+named-append [] ys k = refl
+named-append (x ∷ xs) ys k = rw (named-append xs ys k) (or-assoc (eqb (x .variable) k) (named xs k) (named ys k))
+  where
+    or-assoc : (a b c : Bool) → a || (b || c) ≡ (a || b) || c
+    or-assoc true b c = refl
+    or-assoc false b c = refl
+
+module _ (o : ℕ) (J : Tasks natural) where
+  within-names : (low high : ℕ) (ks : List ℕ) (k : ℕ) → named (within o J low high ks) k ≡ has ks k
+  unfolding within has
+  within-names low high [] k = refl
+  within-names low high (j ∷ ks) k = rw (within-names low high ks k) (twice (eqb j k) (has ks k))
+
+  bounds-names : (b r last p : ℕ) (ks : List ℕ) (k : ℕ) → named (bounds o J b r last p ks) k ≡ has ks k
+  unfolding bounds has
+  bounds-names b r last p [] k = refl
+  bounds-names b r last p (j ∷ ks) k = by (bool (eqb b (J .earliest j + p))) (bounds-names b r last (p - J .duration j) ks k)
+    where
+      by : (eqb b (J .earliest j + p) ≡ true) ⊎ (eqb b (J .earliest j + p) ≡ false) → named (bounds o J b r last (p - J .duration j) ks) k ≡ has ks k
+          → named (bounds o J b r last p (j ∷ ks)) k ≡ has (j ∷ ks) k
+      by (inl y) ih = rw (y, bounds) (within-names (b - p) last (j ∷ ks) k)
+      by (inr y) ih = rw (y, bounds, ih) (twice (eqb j k) (has ks k))
+
+  reason-names : (i b p r : ℕ) (ks : List ℕ) (k : ℕ) → named (propagation-of o J i b p r ks) k ≡ has ks k || (eqb i k || false)
+  unfolding has
+  reason-names i b p r ks k =
+      named-append (bounds o J b r (r + p + J .duration i - 1) p ks) (atLeast o J i r ∷ []) k
+      ∙ ap (λ (y : Bool). y || (eqb i k || false)) (bounds-names b r (r + p + J .duration i - 1) p ks k)
+
+-- The sets of a post -----------------------------------------------------------------------------------------------------------
+
+-- With S the tasks that the reason names and ω those without the post's task: ω ends by `end`, which est + p of S passes. The bound is ect(ω), and est + p of
+-- the tasks of ω from a place on.
+pub record SetsRight (o : ℕ) (J : Tasks natural) (estOrder : List ℕ) (p : Post) : Type 0 where
+  pub task : In J (named (p .reason)) (p .task)
+  pub small : (k : ℕ) → named (p .reason) k ≡ true → k < J .count
+  pub end : ℕ
+  pub ends : (k : ℕ) → In J (named (p .reason) less p .task) k → completion J k ≤ end
+  pub over : (s : ℕ) → Est J (named (p .reason)) s → end < s + processing J (named (p .reason))
+  pub place : ℕ
+  pub inside : place < J .count
+  pub member : (named (p .reason) less p .task) (getD estOrder place 0) ≡ true
+  pub reaches : J .earliest (getD estOrder place 0) + processing J (λ k. leb place (index estOrder k) && (named (p .reason) less p .task) k) ≡ moment o (p .bound)
+  pub ect : Ect J (named (p .reason) less p .task) (moment o (p .bound))
+
+module _ (o : ℕ) (J : Tasks natural) (ok : Proper J) (estOrder lctOrder : List ℕ) (rk : ByEarliest J (λ j. getD estOrder j 0) (λ k. index estOrder k))
+    (ord : ByCompletion J (λ t. getD lctOrder t 0) (λ k. index lctOrder k)) (t : ℕ) (ls : List Leaf) (Λ : TaskSet) where
+  abbrev n : ℕ
+  n = J .count
+
+  abbrev T : ℕ → ℕ
+  T j = getD estOrder j 0
+
+  abbrev rank : ℕ → ℕ
+  rank k = index estOrder k
+
+  abbrev Θ : TaskSet
+  Θ k = leb t (index lctOrder k)
+
+  abbrev c : ℕ
+  c = completion J (getD lctOrder t 0)
+
+  module _ (s : tree.Represents J ok estOrder rk ls Θ Λ) (small : t < n) (x : ℕ) (f : tree.Found J ok estOrder rk ls Θ Λ s x) (late : index lctOrder (T x) < t)
+      (over : exceeds (leaves.ect-bar J estOrder ls) c ≡ true) (b : ℕ) (is : leaves.ect J estOrder ls ≡ some b) (up : J .earliest (T x) < b) where
+    abbrev i : ℕ
+    i = T x
+
+    abbrev reason : List Atom
+    reason = propagation o J i b c (leaves.sum J estOrder ls) (theta J estOrder ls)
+
+    abbrev one : walks.First o J ok estOrder lctOrder rk ls Θ Λ s i c b 0 reason
+    one = stops.first-walk o J ok estOrder lctOrder rk ord t ls Λ s small x f over b is up
+
+    abbrev two : stops.Attaining o J ok estOrder lctOrder rk ord t ls Λ s small x f over b is up
+    two = stops.attaining-after o J ok estOrder lctOrder rk ord t ls Λ s small x f over b is up
+
+    abbrev m : ℕ
+    m = one .m
+
+    abbrev whites : List ℕ
+    whites = thetaOf (whiteAt ls) (taskAt J estOrder) m (one .left)
+
+    abbrev S : TaskSet
+    S = named reason
+
+    abbrev ω : TaskSet
+    ω = S less i
+
+    i-small : i < n
+    i-small = f .gray .small
+
+    -- the reason names the white tasks from m on, and i
+    names : (k : ℕ) → S k ≡ has whites k || (eqb i k || false)
+    names k = ap (λ (l : List Atom). named l k) (one .is) ∙ reason-names o J i b (processing J (λ j. leb m (rank j) && Θ j)) (min (J .earliest i) (J .earliest (T m))) whites k
+
+    has-white : (k : ℕ) → k < n → Θ k ≡ true → m ≤ rank k → has whites k ≡ true
+    has-white k q y h = theta-in (whiteAt ls) (taskAt J estOrder) m (one .left) (rank k) k h (omega (arith, one .all, rk .placed k q)) (s .whites k q ∙ y) (rk .there k q)
+
+    white-is : (k : ℕ) → has whites k ≡ true → (k < n) × (Θ k ≡ true) × (m ≤ rank k)
+    white-is k h =
+        let (j, lo, hi, y, z) = theta-from (whiteAt ls) (taskAt J estOrder) m (one .left) k h in
+        let q : j < n = omega (arith, one .all) in
+        (subst (λ (k : ℕ). k < n) z (rk .task j q), subst (λ (k : ℕ). Θ k ≡ true) z (sym (tree.white-at J ok estOrder rk ls Θ Λ s j q) ∙ y), omega (arith, ap rank z, rk .back j q))
+
+    self : S i ≡ true
+    self = names i ∙ ap (λ (y : Bool). has whites i || (y || false)) (eq-eqb i i refl) ∙ or-right (has whites i) (true || false) refl
+
+    cases : (k : ℕ) → S k ≡ true → (has whites k ≡ true) ⊎ (i ≡ k)
+    cases k h = elim (or-true (has whites k) (eqb i k || false) (sym (names k) ∙ h)) [
+      | inl y ↦ inl y
+      | inr y ↦ elim (or-true (eqb i k) false y) [ inl w ↦ inr (eqb-true i k w) | inr w ↦ clash w refl ]
+    ]
+
+    all-small : (k : ℕ) → S k ≡ true → k < n
+    all-small k h = elim (cases k h) [ inl y ↦ white-is k y .0 | inr z ↦ subst (λ (k : ℕ). k < n) z i-small ]
+
+    -- without i they are the white tasks from m on
+    ω-in : (k : ℕ) → ω k ≡ true → (k < n) × (Θ k ≡ true) × (m ≤ rank k)
+    ω-in k h = let l = less-in S i k h in elim (cases k (l .0)) [ inl y ↦ white-is k y | inr z ↦ absurd (l .1 (sym z)) ]
+
+    ω-out : (k : ℕ) → k < n → Θ k ≡ true → m ≤ rank k → ω k ≡ true
+    ω-out k q y h = less-out S i k (names k ∙ ap (λ (w : Bool). w || (eqb i k || false)) (has-white k q y h)) (λ z. clash (rw z at y) (lt-leb t (index lctOrder i) late))
+
+    onward-ω : (a k : ℕ) → m ≤ a → k < n → leb a (rank k) && ω k ≡ leb a (rank k) && Θ k
+    onward-ω a k h q = by (bool (leb a (rank k))) (bool (Θ k)) (bool (ω k))
+      where
+        by : (leb a (rank k) ≡ true) ⊎ (leb a (rank k) ≡ false) → (Θ k ≡ true) ⊎ (Θ k ≡ false) → (ω k ≡ true) ⊎ (ω k ≡ false) → leb a (rank k) && ω k ≡ leb a (rank k) && Θ k
+        by (inr e) y w = rw e
+        by (inl e) (inl y) w = rw (e, y) (ω-out k q y (omega (arith, leb-true a (rank k) e)))
+        by (inl e) (inr y) (inl w) = clash (ω-in k w .1) y
+        by (inl e) (inr y) (inr w) = rw (e, y) w
+
+    sum-from : (a : ℕ) → m ≤ a → processing J (λ k. leb a (rank k) && ω k) ≡ processing J (λ k. leb a (rank k) && Θ k)
+    sum-from a h = processing-same J (λ k. leb a (rank k) && ω k) (λ k. leb a (rank k) && Θ k) (λ k q. onward-ω a k h q)
+
+    sum-ω : processing J ω ≡ processing J (λ k. leb m (rank k) && Θ k)
+    sum-ω = processing-same J ω (λ k. leb m (rank k) && ω k) (λ k q. elim (bool (ω k)) [
+      | inl y ↦ y ∙ sym (and-yes (leb m (rank k)) (ω k) (le-leb m (rank k) (ω-in k y .2)) y)
+      | inr y ↦ y ∙ sym (and-right (leb m (rank k)) (ω k) y)
+    ]) ∙ sum-from m (omega arith)
+
+    -- the tasks of S start at min(est i, est of the task at m) or later
+    low : (k : ℕ) → In J S k → min (J .earliest i) (J .earliest (T m)) ≤ J .earliest k
+    low k h = elim (cases k (h .mem)) [
+      | inl y ↦ (let (q, _, r) = white-is k y in omega (arith, ap (J .earliest) (rk .there k q), rk .sorted m (rank k) r (rk .placed k q)))
+      | inr z ↦ omega (arith, ap (J .earliest) z)
+    ]
+
+    passes : (v : ℕ) → Est J S v → c < v + processing J S
+    passes v e =
+        let (k, km, z) = e .holds in
+        omega (arith, one .over, low k km, z, processing-less J S i (record { small = i-small; mem = self }), sum-ω)
+
+    at-two : In J ω (T (two .at))
+    at-two = record {
+      small = rk .task (two .at) (two .inside);
+      mem = ω-out (T (two .at)) (rk .task (two .at) (two .inside)) (two .white) (omega (arith, two .after, rk .back (two .at) (two .inside)));
+    }
+
+    attains : J .earliest (T (two .at)) + processing J (λ k. leb (two .at) (rank k) && ω k) ≡ b
+    attains = omega (arith, two .attains, sum-from (two .at) (two .after))
+
+    ect-ω : Ect J ω b
+    ect-ω = record {
+      holds = subst (EstPlusP J ω) attains (subst (λ (a : ℕ). EstPlusP J ω (J .earliest (T (two .at)) + processing J (λ k. leb a (rank k) && ω k))) (rk .back (two .at) (two .inside))
+          (suffix-end J T rank rk ω (T (two .at)) at-two));
+      bounds = λ w g. stops.ect-is o J ok estOrder lctOrder rk ord t ls Λ s small b is .bounds w
+          (record { part = g .part; within = λ k h. ω-in k (g .within k h) .1; start = g .start; est = g .est; sum = g .sum });
+    }
+
+    sets-right : SetsRight o J estOrder (record { task = i; bound = subℕ b o; reason = reason })
+    sets-right = record {
+      task = record { small = i-small; mem = self };
+      small = all-small;
+      end = c;
+      ends = λ k h. stops.ends o J ok estOrder lctOrder rk ord t ls Λ s small k (record { small = h .small; mem = ω-in k (h .mem) .1 });
+      over = passes;
+      place = two .at;
+      inside = two .inside;
+      member = at-two .mem;
+      reaches = attains ∙ sym (moment-instant o b);
+      ect = rw (moment-instant o b) ect-ω;
+    }
+
+-- The sets of a run ------------------------------------------------------------------------------------------------------------
+
+module _ (o : ℕ) (J : Tasks natural) (ok : Proper J) (one : 1 ≤ J .count) where
+  abbrev eo : List ℕ
+  eo = earliestOrder J
+
+  abbrev co : List ℕ
+  co = completionOrder J
+
+  abbrev Overloaded : List Atom → Type 0
+  Overloaded _ = (Ω : TaskSet) × Overloads J Ω
+
+  measure : Measure o J ok eo co (by-earliest J) (by-completion J) (SetsRight o J eo) Overloaded
+  measure = record {
+    of-post = λ t ls Λ s x b small f late over is up. sets-right o J ok eo co (by-earliest J) (by-completion J) t ls Λ s small x f late over b is up;
+    of-end = λ t ls Λ s small over.
+        let (b, is, past) = exceeds-yes (leaves.ect J eo ls) (completion J (getD co t 0)) over in
+        overloaded J ok (E o J ok eo co (by-earliest J) (by-completion J)) (E-is o J ok eo co (by-earliest J) (by-completion J)) (λ x. getD co x 0) (λ k. index co k) (by-completion J) t small
+        (omega (
+          arith,
+          past,
+          E-is o J ok eo co (by-earliest J) (by-completion J) (λ k. leb t (index co k)) (getD co t 0, theta-some o J ok eo co (by-earliest J) (by-completion J) t small) .bounds b
+              (stops.ect-is o J ok eo co (by-earliest J) (by-completion J) t ls Λ s small b is .holds),
+        ));
+  }
+
+  -- every post has such sets,
+  pub all-sets : (j : ℕ) → j < length (run o J (earliestOrder J) (completionOrder J) .posts) → SetsRight o J (earliestOrder J) (post (run o J (earliestOrder J) (completionOrder J)) j)
+  all-sets = run-ok o J ok eo co (by-earliest J) (by-completion J) (SetsRight o J eo) Overloaded measure one .goods
+
+  -- and where it ends by an overload some set overloads
+  pub overload-set : (reason : List Atom) → run o J (earliestOrder J) (completionOrder J) .end ≡ overload reason → (Ω : TaskSet) × Overloads J Ω
+  overload-set = run-ok o J ok eo co (by-earliest J) (by-completion J) (SetsRight o J eo) Overloaded measure one .over
