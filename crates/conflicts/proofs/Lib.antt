@@ -10,4 +10,4 @@ pub mod LastPosts
 pub mod WholeSets
 pub mod LateSets
 pub mod FoundConflicts
-pub mod FoundNumbers
+pub mod TooManyRanges

@@ -16,6 +16,7 @@ pub enum Found {
 }
 
 // A set of tasks, its earliest start and its processing time.
+#[repr(C)]
 pub struct Work {
     pub tasks: [bool; TASKS],
     pub est: i32,

@@ -73,7 +73,7 @@ fn late(
         },
         set: work_of(named, all),
         lct: start_of(end),
-        excess: all.est + all.p - end,
+        excess: all.past(end),
         before: work_of(before, span_of(m, before)),
     }
 }

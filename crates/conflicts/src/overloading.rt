@@ -48,7 +48,7 @@ pub fn overloading(m: TaskMoments, k: usize) -> Conflict
         found: Found::Overload,
         set: work_of(tasks, span),
         lct: start_of(span.lct),
-        excess: span.est + span.p - span.lct,
+        excess: span.past(span.lct),
         before: no_work(),
     }
 }

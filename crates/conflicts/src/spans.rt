@@ -6,8 +6,8 @@ use integers::moments::start_of;
 use integers::numbers::max;
 use integers::numbers::min;
 ghost use mathlib.Core.Path.{_≡_};
-ghost use Prim.Native.Nat.{_+_, _^_, _<_};
-ghost use Rattle.conflicts.specs.Spans.{withTask, workWith, spanOf};
+ghost use Prim.Native.Nat.{_+_, _^_, _≤_, _<_};
+ghost use Rattle.conflicts.specs.Spans.{withTask, pastBy, workWith, spanOf};
 ghost use Rattle.conflicts.specs.HeldTasks.{HoldsSet};
 
 pub struct Span {
@@ -30,6 +30,14 @@ impl Span {
             };
         }
         self
+    }
+
+    // By how much est + p is past a moment.
+    pub fn past(self, lct: u32) -> u32
+        requires { ⌜ (lct ≤ self .est + self .p) × (self .est + self .p < 2 ^ 32) ⌝ }
+        ensures { λ r. ⌜ r ≡ pastBy self lct ⌝ }
+    {
+        self.est + self.p - lct
     }
 }
 

@@ -4,10 +4,10 @@ use crate::lines::say_number;
 use crate::parts::list;
 use crate::parts::number_at;
 use crate::parts::place_of;
-use disjunctive::Range;
 use disjunctive::by_value::RANGES;
 use disjunctive::by_value::Ranges;
 use integers::limits::BARS;
+use ranges::range::Range;
 
 // The ranges of a command: the first `count` of those that are kept. `valid` is false where the command is not understood.
 pub struct RangeList {

@@ -15,21 +15,16 @@ use crate::posts::say_posts;
 use crate::range_lists::RangeList;
 use crate::range_lists::StartBound;
 use crate::range_lists::say_starts;
-use disjunctive::BoundAbove;
 use disjunctive::DisjunctivePropagator;
-use disjunctive::Outcome;
-use disjunctive::Overload;
-use disjunctive::Precedences;
-use disjunctive::Reason;
-use disjunctive::by_value::overload_test;
-use disjunctive::by_value::precedence_bound;
-use disjunctive::by_value::precedence_reason;
-use disjunctive::by_value::precedences;
-use disjunctive::by_value::run;
-use disjunctive::by_value::run_mirrored;
+use disjunctive::by_value;
 use integers::limits::ATOMWORDS;
 use integers::limits::POSTWORDS;
 use integers::limits::TASKS;
+use overload_test::Overload;
+use precedences::answers::Precedences;
+use precedences::reason::BoundAbove;
+use precedences::reason::Reason;
+use runs::outcome::Outcome;
 
 // Words of the reason of one bound: two atoms for each task.
 const REASON: usize = 6 * TASKS;
@@ -46,7 +41,7 @@ pub fn answer_barred(record: DisjunctivePropagator, word: &[u8], ranges: RangeLi
         return answer_mirrored(record, ranges);
     }
     if same(word, b"quick") {
-        return say_overload_test(overload_test(record, ranges.given()));
+        return say_overload_test(by_value::overload_test(record, ranges.given()));
     }
     if same(word, b"precede") {
         return answer_precedences(record, ranges);
@@ -64,7 +59,7 @@ pub fn answer_barred(record: DisjunctivePropagator, word: &[u8], ranges: RangeLi
 fn answer_run(record: DisjunctivePropagator, ranges: RangeList) {
     let mut posts = [0i32; POSTWORDS];
     let mut atoms = [0i32; ATOMWORDS];
-    let now = run(record, ranges.given(), &mut posts, &mut atoms);
+    let now = by_value::run(record, ranges.given(), &mut posts, &mut atoms);
     let finished = now.finished;
     let outcome = finished.outcome;
     say_outcome(outcome, &posts, &atoms);
@@ -80,7 +75,7 @@ fn answer_run(record: DisjunctivePropagator, ranges: RangeList) {
 fn answer_mirrored(record: DisjunctivePropagator, ranges: RangeList) {
     let mut posts = [0i32; POSTWORDS];
     let mut atoms = [0i32; ATOMWORDS];
-    let now = run_mirrored(record, ranges.given(), &mut posts, &mut atoms);
+    let now = by_value::run_mirrored(record, ranges.given(), &mut posts, &mut atoms);
     let outcome = now.outcome;
     say_outcome(outcome, &posts, &atoms);
     if let Outcome::Refused(_) = outcome {
@@ -124,7 +119,7 @@ fn say_overload_test(answer: Overload) {
 
 // `precede`: the pass by the precedences that can be read off leaves earliest starts, or names the task whose bound passes its latest start.
 fn answer_precedences(record: DisjunctivePropagator, ranges: RangeList) {
-    let now = precedences(record, ranges.given());
+    let now = by_value::precedences(record, ranges.given());
     let answer = now.answer;
     let kept = now.ranges;
     match answer {
@@ -141,7 +136,7 @@ pub fn answer_bound(record: DisjunctivePropagator, word: &[u8], ranges: RangeLis
     }
     let task = place_of(number_at(named, 0));
     if same(word, b"precede-bound") {
-        return say_bound_above(precedence_bound(record, ranges.given(), task));
+        return say_bound_above(by_value::precedence_bound(record, ranges.given(), task));
     }
     answer_reason(record, ranges, task);
 }
@@ -158,7 +153,7 @@ fn say_bound_above(answer: BoundAbove) {
 // `precede-why`: the reason of it.
 fn answer_reason(record: DisjunctivePropagator, ranges: RangeList, task: usize) {
     let mut atoms = [0i32; REASON];
-    let answer = precedence_reason(record, ranges.given(), task, &mut atoms);
+    let answer = by_value::precedence_reason(record, ranges.given(), task, &mut atoms);
     match answer {
         Reason::Written(count) => {
             say_counted(b"count", count);

@@ -7,16 +7,13 @@ use crate::lines::say_valued;
 use crate::parts::bytes_of;
 use crate::parts::same;
 use crate::range_lists::RangeList;
-use disjunctive::Busiest;
-use disjunctive::Charging;
+use busiest_stretch::answer::Busiest;
+use charges::answer::Charging;
 use disjunctive::DisjunctivePropagator;
-use disjunctive::FreeStart;
-use disjunctive::Page;
-use disjunctive::by_value::busiest_stretch;
-use disjunctive::by_value::charges;
-use disjunctive::by_value::free_start;
-use disjunctive::by_value::page;
+use disjunctive::by_value;
+use free_starts::FreeStart;
 use integers::limits::TASKS;
+use pages::answer::Page;
 
 // Bytes of a page of 48 tasks.
 const PAGE: usize = 1519;
@@ -41,11 +38,11 @@ pub fn answer_fixed(
         return true;
     }
     if k == 2 && same(word, b"free") {
-        say_free_start(free_start(record, ranges.given(), asked[0], asked[1]));
+        say_free_start(by_value::free_start(record, ranges.given(), asked[0], asked[1]));
         return true;
     }
     if k == 1 && same(word, b"busiest") {
-        say_stretch(busiest_stretch(record, ranges.given(), asked[0]));
+        say_stretch(by_value::busiest_stretch(record, ranges.given(), asked[0]));
         return true;
     }
     false
@@ -54,7 +51,7 @@ pub fn answer_fixed(
 // `page`: the page of a fixed schedule.
 fn answer_page(record: DisjunctivePropagator, ranges: RangeList) {
     let mut sheet = [0u8; PAGE];
-    let answer = page(record, ranges.given(), &mut sheet);
+    let answer = by_value::page(record, ranges.given(), &mut sheet);
     match answer {
         Page::Written(bytes) => say(bytes_of(&sheet, 0, bytes)),
         Page::Refused(number) => say_refused(number),
@@ -63,7 +60,7 @@ fn answer_page(record: DisjunctivePropagator, ranges: RangeList) {
 
 // `charges`: the charges of a fixed schedule by the due moments, and their total.
 fn answer_charges(record: DisjunctivePropagator, ranges: RangeList, due: &[i32]) {
-    let made = charges(record, ranges.given(), due);
+    let made = by_value::charges(record, ranges.given(), due);
     let answer = made.answer;
     let charged = made.charged;
     match answer {

@@ -1,6 +1,5 @@
 -- Each case gives its own numbers, and the sets unchanged.
 use mathlib.Core.Path.{_≡_, sym, _∙_}
-
 use mir.Syntax.{w32}
 use Rattle.integers.proofs.Ints.{back-of}
 use Rattle.conflicts.specs.declared.answer.Found.{Found}

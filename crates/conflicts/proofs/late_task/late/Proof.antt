@@ -37,19 +37,13 @@ suffix-to-requires c κs = let s = c .before in without (s .pre .0) (s .args .ta
 span-of-requires-2 : tie.Need-span-of-requires-2
 span-of-requires-2 c κs = let s = c .before .before .before in without (s .pre .0) (s .args .task) (small s (s .pre .0))
 
-add-t13 : tie.Need-add-t13
-add-t13 c =
-    let spanned = c .before .before .before .before in
+past-requires : tie.Need-past-requires
+past-requires c κs =
+    let spanned = c .before .before .before in
     let s = spanned .before .before .before in
     let h = s .pre .0 in
-    record { fits = rw (spanned .span-of .ensures h) (sum-fits (h .holds) (h .Ω) (s .args .task, s .pre .1 .task)) }
-
-sub-t18 : tie.Need-sub-t18
-sub-t18 c =
-    let spanned = c .before .before .before .before in
-    let s = spanned .before .before .before in
-    let h = s .pre .0 in
-    rw (spanned .span-of .ensures h, c .before .before .before .span-of2 .ensures (without h (s .args .task) (small s h))) (s .pre .1 .over)
+    rw (spanned .span-of .ensures h, c .before .before .span-of2 .ensures (without h (s .args .task) (small s h)))
+    (s .pre .1 .over, sum-fits (h .holds) (h .Ω) (s .args .task, s .pre .1 .task))
 
 span-of-requires-3 : tie.Need-span-of-requires-3
 span-of-requires-3 c κs = let left = c .before .before .before .before .before in before left (left .before .before .pre .0)
@@ -63,6 +57,7 @@ returns c h =
       back (s .fits .latest-start),
       back (s .fits .bound),
       work-is h (c .before .before .before .before .work-of .ensures) (spanned .span-of .ensures h),
+      c .before .before .past .ensures,
       spanned .span-of .ensures h,
       back-of w32 (c .before .before .before .start-of .result) (c .before .before .before .start-of .ok),
       c .before .before .before .start-of .ensures,
@@ -75,4 +70,4 @@ late-spec =
     tie.close
     (tie.spec
     array-write-others (λ c κs. search needs) suffix-to-requires (λ c κs. search needs) span-of-requires-2
-    (λ c κs. search needs) (λ c κs. search needs) add-t13 sub-t18 span-of-requires-3 (λ c κs. search needs) returns)
+    (λ c κs. search needs) (λ c κs. search needs) past-requires span-of-requires-3 (λ c κs. search needs) returns)

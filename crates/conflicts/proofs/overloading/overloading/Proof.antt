@@ -58,25 +58,22 @@ span-of-requires c κs = left c (read-at c .before .pre)
 over : (c : tie.After-span-of) → let h = read-at (c .before) .before .pre in Overloads (h .J) (overloadingSet (h .J) (read-at (c .before) .before .args .k))
 over c = overloads-when (read-at (c .before) .before .pre)
 
-add-t14 : tie.Need-add-t14
-add-t14 c =
-    let s = c .before .before .before in
+past-requires : tie.Need-past-requires
+past-requires c κs =
+    let s = c .before .before in
     let h = read-at (s .before) .before .pre in
-    record { fits = rw (span s h) (sum-fits (h .holds) (overloadingSet (h .J) (read-at (s .before) .before .args .k)) (over s .est .holds .0, over s .est .holds .1)) }
-
-sub-t18 : tie.Need-sub-t18
-sub-t18 c =
-    let s = c .before .before .before .before in
-    let h = read-at (s .before) .before .pre in
-    rw (span s h) (omega (arith, span-over (h .J) (overloadingSet (h .J) (read-at (s .before) .before .args .k)) (starts-fit (h .holds)) (over s)))
+    let Ω = overloadingSet (h .J) (read-at (s .before) .before .args .k) in
+    rw (span s h) (omega (arith, span-over (h .J) Ω (starts-fit (h .holds)) (over s)), sum-fits (h .holds) Ω (over s .est .holds .0, over s .est .holds .1))
 
 returns : tie.Need-returns
 returns c h =
-    let s = c .before .before .before .before .before in
+    let started = c .before .before in
+    let s = started .before .before in
     rw (
-      work-is (left (s .before) h) (c .before .before .before .before .work-of .ensures) (span s h),
-      back-of w32 (c .before .before .before .start-of .result) (c .before .before .before .start-of .ok),
-      c .before .before .before .start-of .ensures,
+      work-is (left (s .before) h) (started .before .work-of .ensures) (span s h),
+      back-of w32 (started .start-of .result) (started .start-of .ok),
+      started .start-of .ensures,
+      c .before .past .ensures,
       c .no-work .ensures,
       span s h,
     )
@@ -86,4 +83,4 @@ overloading-spec =
     tie.close
     (tie.spec
     (λ c κs. search needs) theta-ect-requires (λ c κs. search needs) suffix-to-requires span-of-requires
-    (λ c κs. search needs) (λ c κs. search needs) add-t14 sub-t18 (λ c κs. search needs) returns)
+    (λ c κs. search needs) (λ c κs. search needs) past-requires (λ c κs. search needs) returns)
