@@ -74,7 +74,8 @@ pub struct BusiestAnswer {
     pub start: i32,
 }
 
-// A conflict: kind 0 is nothing found, 1 an overload, and 2 a late task, with its number, its latest start and its bound. The sets and their sums are the call's.
+// A conflict: kind 0 is nothing found, 1 an overload, and 2 a late task, with its number, its latest start and its bound. The sets and their sums are the
+// call's.
 #[repr(C)]
 pub struct ConflictAnswer {
     pub kind: u32,

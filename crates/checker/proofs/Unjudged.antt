@@ -50,8 +50,8 @@ module _ (ds ps cs : List ℤ) where
   abbrev state : VariableState
   state = prepared ps cs .state
 
-  abbrev Accepted : Type 0
-  Accepted = refusal (creationTests ds) ≡ 0
+  abbrev CreationAccepted : Type 0
+  CreationAccepted = refusal (creationTests ds) ≡ 0
 
   -- Past the durations -----------------------------------------------------------------------------------------------------------
 
@@ -114,13 +114,13 @@ module _ (ds ps cs : List ℤ) where
   abbrev on-words : List Test
   on-words = test 7 (leb (length ps) (3 * PREMISES + 2)) ∷ test 6 (rightLists ps cs) ∷ []
 
-  is-late : Accepted → answer ≡ late
+  is-late : CreationAccepted → answer ≡ late
   is-late ok = ap verdictNumbers (check-after ds ps cs 0 ok)
 
   pub word-number : (refusal (wordTests ds ps cs) ≡ 0 → ⊥) → verdictNumbers (checkOf ds ps cs) ≡ refusedBy (refusal (wordTests ds ps cs))
   word-number given-one = by (refusal (creationTests ds)) refl
     where
-      then : Accepted → refusal (wordTests ds ps cs) ≡ refusal on-words → (leb (length ps) (3 * PREMISES + 2) ≡ true) ⊎ (leb (length ps) (3 * PREMISES + 2) ≡ false) → (rightLists ps cs ≡ true)
+      then : CreationAccepted → refusal (wordTests ds ps cs) ≡ refusal on-words → (leb (length ps) (3 * PREMISES + 2) ≡ true) ⊎ (leb (length ps) (3 * PREMISES + 2) ≡ false) → (rightLists ps cs ≡ true)
           ⊎ (rightLists ps cs ≡ false)
           → answer ≡ refusedBy (refusal (wordTests ds ps cs))
       then ok e (inl y) (inl z) = absurd (given-one (e ∙ accepts on-words (y, (z, tt))))
@@ -139,7 +139,7 @@ module _ (ds ps cs : List ℤ) where
     all : AllPassed (wordTests ds ps cs)
     all = accepted (wordTests ds ps cs) refl passed
 
-    ok : Accepted
+    ok : CreationAccepted
     ok = accepts (creationTests ds) (all .0, (all .1 .0, (all .1 .1 .0, tt)))
 
     short : length ps ≤ 3 * PREMISES + 2

@@ -20,7 +20,8 @@ durations = pos 4 ∷ pos 5 ∷ pos 3 ∷ []
 
 -- tasks 0 and 1 start from 0 on, 0 ≤ 7 and 1 ≤ 6; and 2 ≥ 0
 abbrev premises : List ℤ
-premises = pos 0 ∷ pos 0 ∷ pos 0 ∷ pos 0 ∷ pos 1 ∷ pos 7 ∷ pos 1 ∷ pos 0 ∷ pos 0 ∷ pos 1 ∷ pos 1 ∷ pos 6 ∷ pos 2 ∷ pos 0 ∷ pos 0 ∷ []
+premises = pos 0 ∷ pos 0 ∷ pos 0 ∷ pos 0 ∷ pos 1 ∷ pos 7 ∷ pos 1 ∷ pos 0 ∷ pos 0 ∷ pos 1 ∷ pos 1 ∷ pos 6 ∷ pos 2 ∷ pos 0 ∷ pos 0
+    ∷ []
 
 -- Both end before task 2, at 9 or later: 2 ≥ 9 passes, and 2 ≥ 10 does not.
 passed : verdictNumbers (checkOf durations premises (pos 2 ∷ pos 0 ∷ pos 9 ∷ [])) ≡ answered 0 []

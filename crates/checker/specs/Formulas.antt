@@ -32,7 +32,8 @@ module _ (J : Tasks natural) (Ω : TaskSet) where
   abbrev pub overloadsSpan : Bool
   overloadsSpan = any Ω (J .count) && ltb (highest (J .count)) (lowest (J .count) + processing J Ω)
 
-  -- Ω has a task; task i can start neither before nor among those of Ω: min(est i, lb_interval) + p + p i > ub_interval; and their ect is past i's latest start
+  -- Ω has a task; task i can start neither before nor among those of Ω: min(est i, lb_interval) + p + p i > ub_interval; and their ect is past i's latest
+  -- start
   abbrev pub comesAfter : ℕ → Bool
   comesAfter i =
       any Ω (J .count)

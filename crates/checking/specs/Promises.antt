@@ -49,7 +49,8 @@ applyRefusal s x k v = cond (accepted (s .domains)) (cond (rightAtom x k v) (con
 pub record ApplyMeans (s : VariableState) (x k v : ℤ) (r : Applied) : Type 0 where
   pub number : applicationNumbers (r .answer) .number ≡ applyRefusal s x k v
   pub refused : (n : ℕ) → applicationNumbers (r .answer) ≡ refusedBy n → r .state ≡ s
-  pub contradiction : (y : ℕ) → applicationNumbers (r .answer) ≡ answered 2 (pos y ∷ []) → (y ≡ natAbs x) × (r .state ≡ s) × Excludes s (atomFrom x k v)
+  pub contradiction : (y : ℕ) → applicationNumbers (r .answer) ≡ answered 2 (pos y ∷ []) → (y ≡ natAbs x) × (r .state ≡ s)
+      × Excludes s (atomFrom x k v)
   pub consistent : applicationNumbers (r .answer) ≡ answered 0 [] → Narrows s (atomFrom x k v) (r .state)
   pub again : accepted (s .domains) ≡ true → accepted (r .state .domains) ≡ true
 
@@ -108,12 +109,14 @@ pub record EmptiesFirst (atoms : List Atom) (x : ℕ) : Type 0 where
 -- negated consequent admit.
 pub record PrepareMeans (premises consequent : List ℤ) (r : Applied) : Type 0 where
   pub many : 3 * PREMISES + 2 < length premises → applicationNumbers (r .answer) ≡ refusedBy refused.PREMISES
-  pub malformed : length premises ≤ 3 * PREMISES + 2 → rightLists premises consequent ≡ false → applicationNumbers (r .answer) ≡ refusedBy refused.ATOMS
+  pub malformed : length premises ≤ 3 * PREMISES + 2 → rightLists premises consequent ≡ false
+      → applicationNumbers (r .answer) ≡ refusedBy refused.ATOMS
   pub refused : (n : ℕ) → applicationNumbers (r .answer) ≡ refusedBy n → r .state ≡ emptyState
   pub room : length premises ≤ 3 * PREMISES + 2 → rightLists premises consequent ≡ true → (n : ℕ) → applicationNumbers (r .answer) ≡ refusedBy n
       → (n ≡ 21) × NoRoom (given (atomsOf premises) (consequentOf consequent))
   pub contradiction : (y : ℕ) → applicationNumbers (r .answer) ≡ answered 2 (pos y ∷ [])
-      → (p : Reaches (given (atomsOf premises) (consequentOf consequent))) × (p .atom .variable ≡ y) × (p .state ≡ r .state) × Excludes (p .state) (p .atom)
+      → (p : Reaches (given (atomsOf premises) (consequentOf consequent))) × (p .atom .variable ≡ y) × (p .state ≡ r .state)
+      × Excludes (p .state) (p .atom)
   pub consistent : applicationNumbers (r .answer) ≡ answered 0 [] → (x : ℕ) → x < VARIABLES → (z : ℤ)
       → Admitted (domainAt (r .state) x) z ↔ Admits (given (atomsOf premises) (consequentOf consequent)) x z
   pub again : accepted (r .state .domains) ≡ true

@@ -10,7 +10,8 @@ ghost use lib.ListN.{length, take};
 ghost use Rattle.integers.specs.Limits.{HOLES, VALUE};
 ghost use Rattle.integers.specs.WholeNumbers.{Within};
 ghost use Rattle.checking.specs.Atoms.{kindOf};
-ghost use Rattle.checking.specs.Domains.{Tight, allIntegers, ascend, acceptedDomain, tightenedLower, tightenedUpper, withoutLower, withoutUpper, between};
+ghost use Rattle.checking.specs.Domains.{Tight, allIntegers, ascend, acceptedDomain};
+ghost use Rattle.checking.specs.Domains.{tightenedLower, tightenedUpper, withoutLower, withoutUpper, between};
 ghost use Rattle.checking.specs.Domains.{withHole, crowded, consistent, settled, reduced, isTrue};
 
 // The values that a variable may take: the holes are the first `count` places, ascending, and the others are 0.

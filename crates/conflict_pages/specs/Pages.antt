@@ -74,9 +74,11 @@ pub record PageLeft (page bytes : List ℕ) (p : ConflictPage) (bytes′ : List 
 -- A conflict's page, on ranges whose bars fit if `bars`: the first test that fails refuses it. Else the conflict is the call's: where nothing is found, nothing
 -- is written; where one is found, its page is.
 pub record ConflictPaged (r : DisjunctivePropagator) (es ls : List ℤ) (bars : Bool) (bytes : List ℕ) (p : ConflictPage) (bytes′ : List ℕ) : Type 0 where
-  pub refused : (conflictPageNumber r es ls bars (length bytes) ≡ 0 → ⊥) → PageKept (refusedBy (conflictPageNumber r es ls bars (length bytes))) bytes p bytes′
+  pub refused : (conflictPageNumber r es ls bars (length bytes) ≡ 0 → ⊥)
+      → PageKept (refusedBy (conflictPageNumber r es ls bars (length bytes))) bytes p bytes′
   pub right : conflictPageNumber r es ls bars (length bytes) ≡ 0 → ConflictFound r es ls bars (conflictOf r es ls)
-  pub nothing : conflictPageNumber r es ls bars (length bytes) ≡ 0 → conflictOf r es ls .found ≡ NothingFound → PageKept (answered 1 []) bytes p bytes′
+  pub nothing : conflictPageNumber r es ls bars (length bytes) ≡ 0 → conflictOf r es ls .found ≡ NothingFound
+      → PageKept (answered 1 []) bytes p bytes′
   pub written : conflictPageNumber r es ls bars (length bytes) ≡ 0 → (conflictOf r es ls .found ≡ NothingFound → ⊥)
       → PageLeft (conflictPageOf r es ls) bytes p bytes′
   pub lines : conflictPageNumber r es ls bars (length bytes) ≡ 0

@@ -64,4 +64,5 @@ pub record ConflictFound (before : DisjunctivePropagator) (es ls : List ℤ) (ba
       × ((i : ℕ) × (b : ℤ) × EdgeFindingBound (tasksIn before es ls) i b × (tasksIn before es ls .latest i <ℤ b)))
   pub overloads : c .found ≡ Overload → OverloadRight (tasksIn before es ls) c
   pub is-late : (i : ℕ) (z b : ℤ) → c .found ≡ Late i z b → LateRight (tasksIn before es ls) c i z b
-  pub no-schedule : inputNumber before es ls bars ≡ 0 → (c .found ≡ NothingFound → ⊥) → (s : ℕ → ℤ) → Schedule (tasksIn before es ls) s → ⊥
+  pub no-schedule : inputNumber before es ls bars ≡ 0 → (c .found ≡ NothingFound → ⊥) → (s : ℕ → ℤ) → Schedule (tasksIn before es ls) s
+      → ⊥

@@ -26,7 +26,8 @@ use Rattle.conflicts.specs.ConflictOf.{conflictOf}
 
 -- earliest and latest start and duration of each task
 abbrev shown : List (ℕ × ℕ × ℕ) → Conflict
-shown ts = conflictOf (newRecord (map (λ (t : ℕ × ℕ × ℕ). pos (t .2)) ts)) (map (λ (t : ℕ × ℕ × ℕ). pos (t .0)) ts) (map (λ (t : ℕ × ℕ × ℕ). pos (t .1)) ts)
+shown ts = conflictOf (newRecord (map (λ (t : ℕ × ℕ × ℕ). pos (t .2)) ts)) (map (λ (t : ℕ × ℕ × ℕ). pos (t .0)) ts)
+    (map (λ (t : ℕ × ℕ × ℕ). pos (t .1)) ts)
 
 -- B: both tasks have the 6 units from 0 to 6, and take 8
 instance-B : shown ((0, 2, 4) ∷ (1, 2, 4) ∷ []) ≡ record {

@@ -23,8 +23,8 @@ pub struct Work {
     pub p: u32,
 }
 
-// In both conflicts est + p of the set is `excess` past `lct`. An overload's set is Ω, and lct is its own. A late task is in the set, lct is that of the others
-// in it, so that it comes after them; `before` are those of the others whose est + p is its bound. What a conflict does not have is empty and 0.
+// In both conflicts est + p of the set is `excess` past `lct`. An overload's set is Ω, and lct is its own. A late task is in the set, lct is that of the
+// others in it, so that it comes after them; `before` are those of the others whose est + p is its bound. What a conflict does not have is empty and 0.
 pub struct Conflict {
     pub found: Found,
     pub set: Work,

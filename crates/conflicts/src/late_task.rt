@@ -120,7 +120,15 @@ pub fn late_task(record: DisjunctivePropagator, earliest: &[i32], latest: &[i32]
     let mut starts = starts_of(earliest);
     let mut posts = [0i32; POSTWORDS];
     let mut atoms = [0i32; ATOMWORDS];
-    let finished = run_accepted(record, &mut starts[..n], latest, &mut posts, &mut atoms);
+    let durations = record.durations;
+    let finished = run_accepted(
+        n,
+        &durations,
+        &mut starts[..n],
+        latest,
+        &mut posts,
+        &mut atoms,
+    );
     let outcome = finished.outcome;
     let Outcome::Emptied(count) = outcome else {
         return no_conflict(Found::NothingFound);

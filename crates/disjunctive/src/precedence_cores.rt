@@ -73,8 +73,8 @@ pub(crate) fn reason_core(
     reason: &mut [i32],
 ) -> Reason
     requires { ⌜ ranges .starts .count ≤ TASKS ⌝ }
-    ensures { λ r. ⌜ ReasonGiven «record» (firstEarliest (ranges .starts)) (firstLatest (ranges .starts)) (ranges .«bars_fit») task (now (reason .entry)) r
-        (now (reason .exit)) ⌝ }
+    ensures { λ r. ⌜ ReasonGiven «record» (firstEarliest (ranges .starts)) (firstLatest (ranges .starts)) (ranges .«bars_fit») task
+        (now (reason .entry)) r (now (reason .exit)) ⌝ }
 {
     let starts = ranges.starts;
     let n = starts.count;

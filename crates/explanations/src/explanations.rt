@@ -24,8 +24,8 @@ ghost use Rattle.explanations.specs.Explanations.{ConflictExplainable, P
 // Creates an explanation consisting of the tasks of Θ which were responsible for the conflict, based on [1] and [2].
 //
 // Bibliography
-// - [1] P. Vilím, ‘Computing explanations for the unary resource constraint’, in International Conference on Integration of Artificial Intelligence (AI) and
-//   Operations Research (OR) Techniques in Constraint Programming, 2005, pp. 396–409.
+// - [1] P. Vilím, ‘Computing explanations for the unary resource constraint’, in International Conference on Integration of Artificial Intelligence (AI)
+//   and Operations Research (OR) Techniques in Constraint Programming, 2005, pp. 396–409.
 // - [2] R. A. Vasile, ‘Evaluating the Impact of Explanations on the Performance of an Edge-Finding Propagator’.
 //
 // It is written from the k-th atom on, and the number of the atom after it is the answer. Both sides share the time by which ω passes lct, less one.
@@ -85,8 +85,8 @@ pub fn create_conflict_explanation(
 // Creates an explanation consisting of the tasks of Θ which were responsible for the propagation of `propagated_task`, based on [1] and [2].
 //
 // Bibliography
-// - [1] P. Vilím, ‘Computing explanations for the unary resource constraint’, in International Conference on Integration of Artificial Intelligence (AI) and
-//   Operations Research (OR) Techniques in Constraint Programming, 2005, pp. 396–409.
+// - [1] P. Vilím, ‘Computing explanations for the unary resource constraint’, in International Conference on Integration of Artificial Intelligence (AI)
+//   and Operations Research (OR) Techniques in Constraint Programming, 2005, pp. 396–409.
 // - [2] R. A. Vasile, ‘Evaluating the Impact of Explanations on the Performance of an Edge-Finding Propagator’.
 //
 // It is written from the k-th atom on, and the number of the atom after it is the answer.
@@ -147,8 +147,8 @@ pub fn create_propagation_explanation(
     at + 1
 }
 
-// The atoms of ω, which lasts p_omega, from the k-th atom on. Each task ends by `last`; it starts at the est of ω′ or later where it is in ω′, else at r or
-// later. The number of the atom after them.
+// The atoms of ω, which lasts p_omega, from the k-th atom on. Each task ends by `last`; it starts at the est of ω′ or later where it is in ω′, else at r
+// or later. The number of the atom after them.
 fn write_bounds(
     atoms: &mut [i32],
     k: usize,
@@ -164,7 +164,8 @@ fn write_bounds(
     r: u32,
     last: u32,
 ) -> usize
-    requires { ⌜ Walk (Attains (now est) «new_bound») (thetaBetween (now nodes) inner (now «reverse_mapping») (from .0) n) (now est) (now durations) «p_omega» 0
+    requires { ⌜ Walk (Attains (now est) «new_bound») (thetaBetween (now nodes) inner (now «reverse_mapping») (from .0) n) (now est) (now durations)
+        «p_omega» 0
         × Writable (length (now atoms)) k (thetaBetween (now nodes) inner (now «reverse_mapping») (from .0) n) (now durations) last
         × (from .0 ≤ n) × (n ≤ TASKS) × (inner ≤ INNER) ⌝ }
     ensures { λ m. ⌜ Stored (now (atoms .entry)) (now (atoms .exit)) k m

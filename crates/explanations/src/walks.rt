@@ -79,7 +79,8 @@ pub fn attaining(
     p_omega: u32,
     new_bound: u32,
 ) -> Suffix
-    requires { ⌜ Walk (Attains (now est) «new_bound») (thetaBetween (now nodes) inner (now «reverse_mapping») (from .0) n) (now est) (now durations) «p_omega» 0
+    requires { ⌜ Walk (Attains (now est) «new_bound») (thetaBetween (now nodes) inner (now «reverse_mapping») (from .0) n) (now est) (now durations)
+        «p_omega» 0
         × (from .0 ≤ n) × (n ≤ TASKS) × (inner ≤ INNER) ⌝ }
     ensures { λ r. ⌜ StopsAt (whiteIn (now (nodes .entry)) inner) (taskIn (now («reverse_mapping» .entry)))
         (Attains (now (est .entry)) «new_bound») (now (durations .entry)) (from .0) n (r .first .0) (r .lasts) ⌝ }
@@ -113,7 +114,8 @@ pub fn write_within(
     requires { ⌜ Writable (length (now atoms)) k (thetaBetween (now nodes) inner (now «reverse_mapping») (from .0) to) (now durations) high
         × (from .0 ≤ to) × (to ≤ TASKS) × (inner ≤ INNER) ⌝ }
     ensures { λ m. ⌜ Stored (now (atoms .entry)) (now (atoms .exit)) k m
-        (within zeroAt (lasting (now (durations .entry))) low high (thetaBetween (now (nodes .entry)) inner (now («reverse_mapping» .entry)) (from .0) to)) ⌝ }
+        (within zeroAt (lasting (now (durations .entry))) low high
+        (thetaBetween (now (nodes .entry)) inner (now («reverse_mapping» .entry)) (from .0) to)) ⌝ }
 {
     let mut x = ThetaLambdaTree::next_in_theta(nodes, inner, from, to);
     let mut at = k;

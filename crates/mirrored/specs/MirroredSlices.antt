@@ -108,6 +108,7 @@ pub record WordsMirrorable (r : Outcome) (posts atoms : List ℤ) (array : List 
   pub small : length (atomsIn trace) ≤ ATOMS
 
 -- Mirrored, its words are those of the mirrored trace.
-pub record WordsMirrored {r : Outcome} {posts atoms : List ℤ} {array : List ℕ} (e : WordsMirrorable r posts atoms array) (posts′ atoms′ : List ℤ) : Type 0 where
+pub record WordsMirrored {r : Outcome} {posts atoms : List ℤ} {array : List ℕ} (e : WordsMirrorable r posts atoms array) (posts′ atoms′ : List ℤ)
+    : Type 0 where
   pub post-words : posts′ ≡ postsAfter (e .old-posts) (mirrorTrace (e .ds) (e .trace))
   pub atom-words : atoms′ ≡ atomsAfter (e .old-atoms) (mirrorTrace (e .ds) (e .trace))

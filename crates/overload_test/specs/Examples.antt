@@ -41,12 +41,14 @@ unfolding filled sort insert numbers has ectAfter answerFrom
 stops-early = refl
 
 -- the latest start does not order the tasks: here it is the same for all, and completions are 5, 3, 4
-by-latest-completion : byCompletion (momentsIn (newRecord (pos 3 ∷ pos 1 ∷ pos 2 ∷ [])) (pos 0 ∷ pos 0 ∷ pos 0 ∷ []) (pos 2 ∷ pos 2 ∷ pos 2 ∷ [])) ≡ 1 ∷ 2 ∷ 0 ∷
+by-latest-completion : byCompletion (momentsIn (newRecord (pos 3 ∷ pos 1 ∷ pos 2 ∷ [])) (pos 0 ∷ pos 0 ∷ pos 0 ∷ [])
+    (pos 2 ∷ pos 2 ∷ pos 2 ∷ [])) ≡ 1 ∷ 2 ∷ 0 ∷
     []
 unfolding filled sort insert numbers
 by-latest-completion = refl
 
 -- equal ones go by number
-tied-by-number : byCompletion (momentsIn (newRecord (pos 3 ∷ pos 1 ∷ pos 2 ∷ [])) (pos 0 ∷ pos 0 ∷ pos 0 ∷ []) (pos 1 ∷ pos 3 ∷ pos 1 ∷ [])) ≡ 2 ∷ 0 ∷ 1 ∷ []
+tied-by-number : byCompletion (momentsIn (newRecord (pos 3 ∷ pos 1 ∷ pos 2 ∷ [])) (pos 0 ∷ pos 0 ∷ pos 0 ∷ [])
+    (pos 1 ∷ pos 3 ∷ pos 1 ∷ [])) ≡ 2 ∷ 0 ∷ 1 ∷ []
 unfolding filled sort insert numbers
 tied-by-number = refl

@@ -19,6 +19,7 @@ use Rattle.overload_test.specs.Numbers.{overloadNumbers}
 pub record OverloadTested (before : DisjunctivePropagator) (es ls : List ℤ) (bars : Bool) (r : Overload) : Type 0 where
   pub refused : (inputNumber before es ls bars ≡ 0 → ⊥) → overloadNumbers r ≡ refusedBy (inputNumber before es ls bars)
   pub answer : inputNumber before es ls bars ≡ 0 → r ≡ answerOf (momentsIn before es ls)
-  pub yes : inputNumber before es ls bars ≡ 0 → ((k : ℕ) × (overloadNumbers r ≡ answered 0 (pos k ∷ []))) ↔ ((Ω : TaskSet) × Overloads (tasksIn before es ls) Ω)
+  pub yes : inputNumber before es ls bars ≡ 0 → ((k : ℕ) × (overloadNumbers r ≡ answered 0 (pos k ∷ [])))
+      ↔ ((Ω : TaskSet) × Overloads (tasksIn before es ls) Ω)
   pub no : inputNumber before es ls bars ≡ 0 → (overloadNumbers r ≡ answered 1 []) ↔ ((Ω : TaskSet) → Overloads (tasksIn before es ls) Ω → ⊥)
   pub many : (k : ℕ) → overloadNumbers r ≡ answered 0 (pos k ∷ []) → (1 ≤ k) × (k ≤ before .count)

@@ -67,19 +67,19 @@ module _ (ns : Numbers) where
 
 -- ---- what the count says of the input
 -- A count of n, and n triples.
-pub record Listed (xs : Option (List ℤ)) (n : ℕ) : Type 0 where
+pub record CountedTriples (xs : Option (List ℤ)) (n : ℕ) : Type 0 where
   pub rest : List ℤ
   pub whole : xs ≡ some (pos n ∷ rest)
   pub long : length rest ≡ 3 * n
 
-pub listed : (xs : Option (List ℤ)) (n : ℕ) → counted.Tasks n ≡ countIn xs → Listed xs n
+pub listed : (xs : Option (List ℤ)) (n : ℕ) → counted.Tasks n ≡ countIn xs → CountedTriples xs n
 unfolding countIn
 listed none n h = let y : _≡_ {A = ℕ} 0 1 = cc in absurd (omega arith)
 listed (some []) n h = let y : _≡_ {A = ℕ} 0 1 = cc in absurd (omega arith)
 listed (some (negsuc m ∷ xs)) n h = let y : _≡_ {A = ℕ} 0 1 = cc in absurd (omega arith)
 listed (some (pos m ∷ xs)) n h = by (bool (eqb (length xs) (3 * m)))
   where
-    by : (eqb (length xs) (3 * m) ≡ true) ⊎ (eqb (length xs) (3 * m) ≡ false) → Listed (some (pos m ∷ xs)) n
+    by : (eqb (length xs) (3 * m) ≡ true) ⊎ (eqb (length xs) (3 * m) ≡ false) → CountedTriples (some (pos m ∷ xs)) n
     by (inl z) =
         let e : counted.Tasks n ≡ counted.Tasks m = h ∙ rw (z, countIn) in
         let q : n ≡ m = cc in

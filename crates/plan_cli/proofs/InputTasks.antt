@@ -23,7 +23,7 @@ use Rattle.text.specs.declared.reading.Numbers.{Numbers}
 use Rattle.text.proofs.ScannedNumbers.{kept-at}
 use Rattle.plan_cli.specs.InputCount.{countIn, column}
 use Rattle.plan_cli.specs.declared.input.Counted.the-variants as counted
-use Rattle.plan_cli.proofs.InputCount.{Listed}
+use Rattle.plan_cli.proofs.InputCount.{CountedTriples}
 use Rattle.plan_cli.specs.Printed.{Triple, triples, inputTasks, listedTasks}
 
 -- ---- what the count says of the input
@@ -38,7 +38,7 @@ not-listed (some (pos n ∷ xs)) h = by (bool (eqb (length xs) (3 * n)))
     by (inl z) = let e : counted.Wrong ≡ counted.Tasks n = h ∙ rw (z, countIn) in let y : _≡_ {A = ℕ} 0 1 = cc in absurd (omega arith)
     by (inr z) = rw (z, inputTasks)
 
-pub tasks-listed : (xs : Option (List ℤ)) (n : ℕ) (l : Listed xs n) → listedTasks xs ≡ some (triples (l .rest))
+pub tasks-listed : (xs : Option (List ℤ)) (n : ℕ) (l : CountedTriples xs n) → listedTasks xs ≡ some (triples (l .rest))
 unfolding inputTasks
 tasks-listed xs n l = ap listedTasks (l .whole) ∙ rw (eq-eqb (length (l .rest)) (3 * n) (l .long), inputTasks)
 
@@ -111,7 +111,7 @@ module _ (ns : Numbers) (n : ℕ) (rest : List ℤ) (h : ns ≡ gathered (some (
 -- ---- what is made of the tasks: f of their starts and durations
 module _ {A : Type 0} (g : Option (List Triple) → A) (f : List ℤ → List ℤ → List ℤ → A)
     (given : (ts : List Triple) → g (some ts) ≡ f (map (λ (t : Triple). t .earliest) ts) (map (λ (t : Triple). t .latest) ts) (map (λ (t : Triple). t .duration) ts)) where
-  pub few-listed : (ns : Numbers) (xs : Option (List ℤ)) (n : ℕ) {es ls ds : List ℤ} → ns ≡ gathered xs → Listed xs n → n ≤ TASKS → es ≡ column (ns .kept) n 1 → ls ≡ column (ns .kept) n 2
+  pub few-listed : (ns : Numbers) (xs : Option (List ℤ)) (n : ℕ) {es ls ds : List ℤ} → ns ≡ gathered xs → CountedTriples xs n → n ≤ TASKS → es ≡ column (ns .kept) n 1 → ls ≡ column (ns .kept) n 2
       → ds ≡ column (ns .kept) n 3
       → f (take n es) (take n ls) (take n ds) ≡ g (listedTasks xs)
   few-listed ns xs n h l q e e′ e″ =
@@ -119,7 +119,7 @@ module _ {A : Type 0} (g : Option (List Triple) → A) (f : List ℤ → List �
       (λ i. f (take n (e i)) (take n (e′ i)) (take n (e″ i))) ∙ (λ i. f (c i) (c′ i) (c″ i)) ∙ sym (ap g (tasks-listed xs n l) ∙ given (triples (l .rest)))
 
   -- more tasks than a record has: creation refuses them
-  pub many-listed : (xs : Option (List ℤ)) (n : ℕ) → Listed xs n → TASKS < n → (v : A) → ((es ls ds : List ℤ) → refusal (creationTests ds) ≡ 1 → f es ls ds ≡ v) → v ≡ g (listedTasks xs)
+  pub many-listed : (xs : Option (List ℤ)) (n : ℕ) → CountedTriples xs n → TASKS < n → (v : A) → ((es ls ds : List ℤ) → refusal (creationTests ds) ≡ 1 → f es ls ds ≡ v) → v ≡ g (listedTasks xs)
   many-listed xs n l q v told =
       let ts = triples (l .rest) in
       let ds = map (λ (t : Triple). t .duration) ts in

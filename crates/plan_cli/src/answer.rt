@@ -25,7 +25,8 @@ ghost use Rattle.plan_cli.specs.Printed.{answered};
 // The tasks of an input's numbers are planned, and the run is printed. More tasks than a record has are refused here, as creation would.
 pub fn put_answer(out: &mut [u8], numbers: Numbers) -> usize
     requires { ⌜ ROOM ≤ length (now out) ⌝ }
-    ensures text { λ r. ⌜ ((xs : Option (List ℤ)) → numbers ≡ gathered xs → Puts (now (out .entry)) (now (out .exit)) 0 (answerLines (answered xs)) r) ⌝ }
+    ensures text { λ r. ⌜ ((xs : Option (List ℤ)) → numbers ≡ gathered xs
+        → Puts (now (out .entry)) (now (out .exit)) 0 (answerLines (answered xs)) r) ⌝ }
     ensures within { λ r. ⌜ r ≤ length (now (out .entry)) ⌝ }
 {
     let counted = task_count(numbers);

@@ -67,7 +67,8 @@ pub fn put_refused(out: &mut [u8], at: usize, number: u32) -> usize
 // The lines of a reason, with at most 11 bytes for each of its words.
 pub fn put_reason(out: &mut [u8], at: usize, words: &[i32]) -> usize
     requires { ⌜ at + 11 * length (now words) ≤ length (now out) ⌝ }
-    ensures text { λ r. ⌜ ((atoms : List Atom) → now (words .entry) ≡ atomWords atoms → Puts (now (out .entry)) (now (out .exit)) at (whyLines atoms) r) ⌝ }
+    ensures text { λ r. ⌜ ((atoms : List Atom) → now (words .entry) ≡ atomWords atoms
+        → Puts (now (out .entry)) (now (out .exit)) at (whyLines atoms) r) ⌝ }
     ensures within { λ r. ⌜ r ≤ at + 11 * length (now (words .entry)) ⌝ }
 {
     let n = atoms_in(words);

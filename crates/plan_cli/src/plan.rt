@@ -27,7 +27,8 @@ fn run_on(
     atoms: &mut [i32],
 ) -> Planned
     requires { ⌜ Plannable n (now posts) (now atoms) ⌝ }
-    ensures { λ r. ⌜ Shown (ranOn «record» (take n earliest) (take n latest)) (r .outcome) (now (posts .exit)) (now (atoms .exit)) (take n (r .starts)) ⌝ }
+    ensures { λ r. ⌜ Shown (ranOn «record» (take n earliest) (take n latest)) (r .outcome) (now (posts .exit)) (now (atoms .exit)) (take n (r .starts))
+        ⌝ }
 {
     let mut starts = earliest;
     let ran = propagate(record, &mut starts[..n], &latest[..n], true, posts, atoms);

@@ -75,7 +75,8 @@ module _ (before : DisjunctivePropagator) (ranges : List Range) (answer : Outcom
     pub starts : kind ≡ 0 → (k : ℕ) → k < J .count → (v : ℤ) → Largest whole (λ w. (J .earliest k ≡ w) ⊎ EdgeFindingBound J k w) v
         → FirstPermitted (getD ranges k anyRange) v (getD (earliests ranges′) k (pos 0))
     -- The posts are one for each task so raised,
-    pub raised : kind ≡ 0 → (k : ℕ) → k < J .count → ((b : ℤ) × EdgeFindingBound J k b × (J .earliest k <ℤ b)) ↔ ((j : ℕ) × (j < made) × (task j ≡ k))
+    pub raised : kind ≡ 0 → (k : ℕ) → k < J .count → ((b : ℤ) × EdgeFindingBound J k b × (J .earliest k <ℤ b))
+        ↔ ((j : ℕ) × (j < made) × (task j ≡ k))
     pub once : kind ≡ 0 → (i j : ℕ) → i < made → j < made → task i ≡ task j → i ≡ j
     -- at the largest of its bounds,
     pub at-largest : kind ≡ 0 → (j : ℕ) → j < made → Largest whole (EdgeFindingBound J (task j)) (bound j)
@@ -102,6 +103,7 @@ module _ (before : DisjunctivePropagator) (ranges : List Range) (answer : Outcom
     pub overload : kind ≡ 1 → GoodReason before ranges (overloadOf answer atoms) none
 
 -- A refused run alters no lent buffer and hands back the record that it got.
-abbrev pub NothingAltered : DisjunctivePropagator → List Range → List ℤ → List ℤ → DisjunctivePropagator → List Range → List ℤ → List ℤ → Type 0
+abbrev pub NothingAltered : DisjunctivePropagator → List Range → List ℤ → List ℤ → DisjunctivePropagator → List Range → List ℤ
+    → List ℤ → Type 0
 NothingAltered before ranges posts atoms after ranges′ posts′ atoms′ =
     _≡_ {A = DisjunctivePropagator × List Range × List ℤ × List ℤ} (after, ranges′, posts′, atoms′) (before, ranges, posts, atoms)

@@ -64,7 +64,8 @@ module _ (before : DisjunctivePropagator) (ranges : List Range) (answer : Outcom
     pub starts : kind ≡ 0 → (k : ℕ) → k < J .count → (v : ℤ) → Least whole (λ w. (J .latest k ≡ w) ⊎ MirroredBound J k w) v
         → LastPermitted (getD ranges k anyRange) v (getD (latests ranges′) k (pos 0))
     -- The posts are one for each task so lowered,
-    pub lowered : kind ≡ 0 → (k : ℕ) → k < J .count → ((b : ℤ) × MirroredBound J k b × (b <ℤ J .latest k)) ↔ ((j : ℕ) × (j < made) × (task j ≡ k))
+    pub lowered : kind ≡ 0 → (k : ℕ) → k < J .count → ((b : ℤ) × MirroredBound J k b × (b <ℤ J .latest k))
+        ↔ ((j : ℕ) × (j < made) × (task j ≡ k))
     pub once : kind ≡ 0 → (i j : ℕ) → i < made → j < made → task i ≡ task j → i ≡ j
     -- at the smallest of its bounds,
     pub at-smallest : kind ≡ 0 → (j : ℕ) → j < made → Least whole (MirroredBound J (task j)) (bound j)

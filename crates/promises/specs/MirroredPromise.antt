@@ -104,7 +104,8 @@ module _ (before : DisjunctivePropagator) (ranges : List Range) (answer : Outcom
     -- Whatever the outcome, the task of every other post is left with the last permitted start up to the bound,
     pub stands : (j : ℕ) → j < made → J .earliest (task j) ≤ℤ bound j → LastPermitted (range (task j)) (bound j) (latest′ (task j))
     -- and a task that no such post names with the latest start that it had.
-    pub stays : (k : ℕ) → k < J .count → ((j : ℕ) → j < made → J .earliest (task j) ≤ℤ bound j → task j ≡ k → ⊥) → latest′ k ≡ J .latest k
+    pub stays : (k : ℕ) → k < J .count → ((j : ℕ) → j < made → J .earliest (task j) ≤ℤ bound j → task j ≡ k → ⊥)
+        → latest′ k ≡ J .latest k
     -- Whatever the outcome, every post holds in all schedules, and its reason holds at entry, meets the checker's formula mirrored, and passes the mirrored
     -- check.
     pub every-post : (j : ℕ) → j < made → MirroredPostPromise j

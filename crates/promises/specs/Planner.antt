@@ -43,7 +43,8 @@ Fails (precedences answer ran) = precedencesNumbers answer .kind ≡ 1
 -- Passes one after another, each on the record and the ranges that the one before left.
 pub data Passes (first : DisjunctivePropagator) (ranges : List Range) : DisjunctivePropagator → List Range → Type 0 where
   start : Passes first ranges first ranges
-  next : {before after : DisjunctivePropagator} {ranges₁ ranges₂ : List Range} → Passes first ranges before ranges₁ → Pass before ranges₁ after ranges₂
+  next : {before after : DisjunctivePropagator} {ranges₁ ranges₂ : List Range} → Passes first ranges before ranges₁
+      → Pass before ranges₁ after ranges₂
       → Passes first ranges after ranges₂
 
 -- every plan of the first ranges is one of the last

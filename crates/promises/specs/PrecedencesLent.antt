@@ -42,11 +42,13 @@ module _ (before : DisjunctivePropagator) (ranges : List Range) (r : Precedences
     pub left : LeftPrecedences J (earliests ranges) r raised
     -- a raised start moves on to a permitted value, and of the ranges nothing else changes.
     pub stored : ranges′ ≡ withStarts ranges raised
-    pub first : precedencesNumbers r .kind ≡ 0 → (k : ℕ) → k < J .count → FirstPermitted (getD ranges k anyRange) (getD raised k (pos 0)) (earliest′ k)
+    pub first : precedencesNumbers r .kind ≡ 0 → (k : ℕ) → k < J .count
+        → FirstPermitted (getD ranges k anyRange) (getD raised k (pos 0)) (earliest′ k)
     -- Where a bound passes a latest start no range changes.
     pub same-emptied : precedencesNumbers r .kind ≡ 1 → ranges′ ≡ ranges
     -- No schedule of permitted starts is lost: each starts every task at or after the earliest start that the task is left with.
-    pub none-lost : precedencesNumbers r .kind ≡ 0 → (s : ℕ → ℤ) → PermittedSchedule J ranges s → (k : ℕ) → k < J .count → earliest′ k ≤ℤ s k
+    pub none-lost : precedencesNumbers r .kind ≡ 0 → (s : ℕ → ℤ) → PermittedSchedule J ranges s → (k : ℕ) → k < J .count
+        → earliest′ k ≤ℤ s k
 
   pub record PrecedencesLent : Type 0 where
     pub refused : (rangesNumber before ranges ≡ 0 → ⊥) → RefusedPrecedencesLent

@@ -128,7 +128,8 @@ module _ (before : DisjunctivePropagator) (ranges : List Range) (answer : Outcom
     -- Whatever the outcome, the task of every other post is left with the first permitted start from the bound on,
     pub stands : (j : ℕ) → j < made → bound j ≤ℤ J .latest (task j) → FirstPermitted (range (task j)) (bound j) (earliest′ (task j))
     -- and a task that no such post names with the start that it had.
-    pub stays : (k : ℕ) → k < J .count → ((j : ℕ) → j < made → bound j ≤ℤ J .latest (task j) → task j ≡ k → ⊥) → earliest′ k ≡ J .earliest k
+    pub stays : (k : ℕ) → k < J .count → ((j : ℕ) → j < made → bound j ≤ℤ J .latest (task j) → task j ≡ k → ⊥)
+        → earliest′ k ≡ J .earliest k
     -- Whatever the outcome, every post holds in all schedules, and its reason holds at entry, meets the checker's formula, and passes the check.
     pub every-post : (j : ℕ) → j < made → PostPromise j
     -- So does an overload's reason.

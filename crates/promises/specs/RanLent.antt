@@ -29,8 +29,8 @@ module _ (before : DisjunctivePropagator) (ranges : List Range) (posts atoms : L
     pub same-posts : posts′ ≡ posts
     pub same-atoms : atoms′ ≡ atoms
 
-  -- An accepted one keeps the promise, and leaves what the run's definition does: the answer, the count of leaf changes, which is at most 4n − 3, and the words
-  -- of posts and reasons over what stood there; the ranges are the old ones in which its starts are stored.
+  -- An accepted one keeps the promise, and leaves what the run's definition does: the answer, the count of leaf changes, which is at most 4n − 3, and the
+  -- words of posts and reasons over what stood there; the ranges are the old ones in which its starts are stored.
   pub record AcceptedLent : Type 0 where
     pub promise : Promise before ranges answer ranges′ posts′ atoms′
     pub left : RunLeft before (earliests ranges) (latests ranges) posts atoms answer changed

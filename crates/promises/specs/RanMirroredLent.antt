@@ -12,7 +12,8 @@ use Rattle.ranges.specs.Ranges.{earliests, latests, withLatests}
 use Rattle.promises.specs.MirroredPromise.{MirroredPromise}
 use Rattle.promises.specs.RanLent.{lentNumber}
 
-module _ (before : DisjunctivePropagator) (ranges : List Range) (posts atoms : List ℤ) (answer : Outcome) (ranges′ : List Range) (posts′ atoms′ : List ℤ) where
+module _ (before : DisjunctivePropagator) (ranges : List Range) (posts atoms : List ℤ) (answer : Outcome) (ranges′ : List Range)
+    (posts′ atoms′ : List ℤ) where
   -- A refused pass answers the number and changes nothing.
   pub record RefusedMirroredLent : Type 0 where
     pub number : outcomeNumbers answer ≡ refusedBy (lentNumber before ranges posts atoms)

@@ -19,7 +19,8 @@ pub record SameAnswer (answer : Outcome) (posts atoms : List ℤ) (answer′ : O
   pub overload : outcomeNumbers answer .kind ≡ 1 → overloadOf answer atoms ≡ overloadOf answer′ atoms′
 
 -- Of runs also the leaf changes and the ranges that they leave,
-pub record SameRun (answer : Outcome) (changes : ℕ) (ranges : List Range) (posts atoms : List ℤ) (answer′ : Outcome) (changes′ : ℕ) (ranges′ : List Range)
+pub record SameRun (answer : Outcome) (changes : ℕ) (ranges : List Range) (posts atoms : List ℤ) (answer′ : Outcome) (changes′ : ℕ)
+    (ranges′ : List Range)
     (posts′ atoms′ : List ℤ) : Type 0 where
   pub answers : SameAnswer answer posts atoms answer′ posts′ atoms′
   pub changed : changes ≡ changes′

@@ -11,12 +11,13 @@ use Rattle.records.specs.declared.record.DisjunctivePropagator.{DisjunctiveProp
 use Rattle.records.specs.Refusals.{runNumber}
 use Rattle.records.proofs.RefusedRuns.{input-many}
 use Rattle.propagator.specs.declared.disjunctive_propagator.Run.{Run}
-use Rattle.propagator.specs.Ran.{Kept, Ran}
+use Rattle.propagator.specs.Ran.{RunRefused, Ran}
 
 -- what is said of an accepted run is not said of it
 pub is-refused : (before : DisjunctivePropagator) (es ls : List ℤ) (bars : Bool) (posts atoms : List ℤ) (r : Run) (es′ posts′ atoms′ : List ℤ) → r .«record» ≡ before
     → (runNumber before es ls bars (length posts) (length atoms) ≡ 0 → ⊥)
-    → Kept before es ls (runNumber before es ls bars (length posts) (length atoms)) posts atoms (r .outcome) (r .changes) es′ posts′ atoms′ → Ran before es ls bars posts atoms r es′ posts′ atoms′
+    → RunRefused before es ls (runNumber before es ls bars (length posts) (length atoms)) posts atoms (r .outcome) (r .changes) es′ posts′ atoms′
+    → Ran before es ls bars posts atoms r es′ posts′ atoms′
 is-refused before es ls bars posts atoms r es′ posts′ atoms′ e not k = record { keeps = e; refused = λ n. k; accepted = λ z. absurd (not z) }
 
 pub too-many : (before : DisjunctivePropagator) (es ls : List ℤ) (bars bars′ : Bool) (posts atoms : List ℤ) (r : Run) (es′ posts′ atoms′ : List ℤ) → TASKS < length es

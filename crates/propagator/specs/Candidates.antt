@@ -80,7 +80,8 @@ module _ {size : TreeSize} {lct : ℕ} {words : List ℕ} {es posts atoms : List
     (s : Considerable size lct words es posts atoms w est lst durations reverseMapping mapping) where
   -- the state st′ follows: tree and slices are at it
   abbrev pub AtNow : State → List ℕ → List ℤ → List ℤ → List ℤ → Written → Type 0
-  AtNow st′ words′ es′ posts′ atoms′ w′ = At (s .J) (s .estOrder) (s .posts₀) (s .atoms₀) st′ (size .inner) words′ es′ posts′ atoms′ (w′ .posts) (w′ .atoms)
+  AtNow st′ words′ es′ posts′ atoms′ w′ = At (s .J) (s .estOrder) (s .posts₀) (s .atoms₀) st′ (size .inner) words′ es′ posts′
+      atoms′ (w′ .posts) (w′ .atoms)
       (w′ .changes)
 
   abbrev pub turns : ℕ → State → Turn
@@ -88,13 +89,17 @@ module _ {size : TreeSize} {lct : ℕ} {words : List ℕ} {es posts atoms : List
 
   -- one turn of the inner loop
   abbrev pub Considered : code.Turn → List ℕ → List ℤ → List ℤ → List ℤ → Type 0
-  Considered (turn.On w′) words′ es′ posts′ atoms′ = (st′ : State) × AtNow st′ words′ es′ posts′ atoms′ w′ × ((f : ℕ) → turns (suc f) (s .st) ≡ turns f st′)
-  Considered (turn.Emptied w′) words′ es′ posts′ atoms′ = (st′ : State) × AtNow st′ words′ es′ posts′ atoms′ w′ × ((f : ℕ) → turns (suc f) (s .st) ≡ stop st′)
+  Considered (turn.On w′) words′ es′ posts′ atoms′ = (st′ : State) × AtNow st′ words′ es′ posts′ atoms′ w′
+      × ((f : ℕ) → turns (suc f) (s .st) ≡ turns f st′)
+  Considered (turn.Emptied w′) words′ es′ posts′ atoms′ = (st′ : State) × AtNow st′ words′ es′ posts′ atoms′ w′
+      × ((f : ℕ) → turns (suc f) (s .st) ≡ stop st′)
 
   -- all of them
   abbrev pub AllConsidered : code.Turn → List ℕ → List ℤ → List ℤ → List ℤ → Type 0
-  AllConsidered (turn.On w′) words′ es′ posts′ atoms′ = (st′ : State) × AtNow st′ words′ es′ posts′ atoms′ w′ × (turns (size .leaves) (s .st) ≡ on st′)
-  AllConsidered (turn.Emptied w′) words′ es′ posts′ atoms′ = (st′ : State) × AtNow st′ words′ es′ posts′ atoms′ w′ × (turns (size .leaves) (s .st) ≡ stop st′)
+  AllConsidered (turn.On w′) words′ es′ posts′ atoms′ = (st′ : State) × AtNow st′ words′ es′ posts′ atoms′ w′
+      × (turns (size .leaves) (s .st) ≡ on st′)
+  AllConsidered (turn.Emptied w′) words′ es′ posts′ atoms′ = (st′ : State) × AtNow st′ words′ es′ posts′ atoms′ w′
+      × (turns (size .leaves) (s .st) ≡ stop st′)
 
   -- x is the leaf of the task i to consider
   pub record Responsible-for (i x : ℕ) : Type 0 where

@@ -48,7 +48,7 @@ module _ (before : DisjunctivePropagator) (es ls : List ℤ) where
     pub atoms-fit : length (atomWords (atomsIn traceOf)) ≤ length atoms
 
   -- A refused run leaves everything as it was, and counts no leaf change.
-  pub record Kept (number : ℕ) (posts atoms : List ℤ) (r : Outcome) (changed : ℕ) (es′ posts′ atoms′ : List ℤ) : Type 0 where
+  pub record RunRefused (number : ℕ) (posts atoms : List ℤ) (r : Outcome) (changed : ℕ) (es′ posts′ atoms′ : List ℤ) : Type 0 where
     pub answer : outcomeNumbers r ≡ refusedBy number
     pub changes : changed ≡ 0
     pub starts : es′ ≡ es
@@ -57,8 +57,10 @@ module _ (before : DisjunctivePropagator) (es ls : List ℤ) where
 
 -- A run hands back the record that it was lent, and is told whether the bars of its ranges fit. The first test that fails refuses it, and nothing changes; else
 -- it leaves the trace.
-pub record Ran (before : DisjunctivePropagator) (es ls : List ℤ) (bars : Bool) (posts atoms : List ℤ) (r : Run) (es′ posts′ atoms′ : List ℤ) : Type 0 where
+pub record Ran (before : DisjunctivePropagator) (es ls : List ℤ) (bars : Bool) (posts atoms : List ℤ) (r : Run)
+    (es′ posts′ atoms′ : List ℤ) : Type 0 where
   pub keeps : r .«record» ≡ before
   pub refused : (runNumber before es ls bars (length posts) (length atoms) ≡ 0 → ⊥)
-      → Kept before es ls (runNumber before es ls bars (length posts) (length atoms)) posts atoms (r .outcome) (r .changes) es′ posts′ atoms′
-  pub accepted : runNumber before es ls bars (length posts) (length atoms) ≡ 0 → RunLeft before es ls posts atoms (r .outcome) (r .changes) es′ posts′ atoms′
+      → RunRefused before es ls (runNumber before es ls bars (length posts) (length atoms)) posts atoms (r .outcome) (r .changes) es′ posts′ atoms′
+  pub accepted : runNumber before es ls bars (length posts) (length atoms) ≡ 0
+      → RunLeft before es ls posts atoms (r .outcome) (r .changes) es′ posts′ atoms′

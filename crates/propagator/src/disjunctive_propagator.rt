@@ -56,8 +56,8 @@ pub fn propagate(
     posts: &mut [i32],
     atoms: &mut [i32],
 ) -> Run
-    ensures { λ r. ⌜ Ran «record» (now (earliest .entry)) (now (latest .entry)) «bars_fit» (now (posts .entry)) (now (atoms .entry)) r (now (earliest .exit))
-        (now (posts .exit)) (now (atoms .exit)) ⌝ }
+    ensures { λ r. ⌜ Ran «record» (now (earliest .entry)) (now (latest .entry)) «bars_fit» (now (posts .entry)) (now (atoms .entry)) r
+        (now (earliest .exit)) (now (posts .exit)) (now (atoms .exit)) ⌝ }
 {
     let number = run_refusal(
         record.count,
@@ -103,8 +103,8 @@ pub fn run_accepted(
 ) -> Finished
     requires { ⌜ ((stored : ℕ) × (length (now durations) ≡ TASKS)
         × Runnable (recordOf n (now durations) stored) (now earliest) (now latest) (length (now posts)) (length (now atoms))) ⌝ }
-    ensures { λ r. ⌜ ((stored : ℕ) → RunLeft (recordOf n (now (durations .entry)) stored) (now (earliest .entry)) (now (latest .entry)) (now (posts .entry))
-        (now (atoms .entry)) (r .outcome) (r .changes) (now (earliest .exit)) (now (posts .exit)) (now (atoms .exit))) ⌝ }
+    ensures { λ r. ⌜ ((stored : ℕ) → RunLeft (recordOf n (now (durations .entry)) stored) (now (earliest .entry)) (now (latest .entry))
+        (now (posts .entry)) (now (atoms .entry)) (r .outcome) (r .changes) (now (earliest .exit)) (now (posts .exit)) (now (atoms .exit))) ⌝ }
 {
     let mut est: [u32; TASKS] = [0; TASKS];
     moments_of(&mut est, earliest);
@@ -168,8 +168,10 @@ fn edge_finding<'a>(
 ) -> Finished
     requires { ⌜ EdgeFindable size ect past (now nodes) (now earliest) (now posts) (now atoms) (now est) (now lst) (now lct) (now durations)
         (now «reverse_mapping») (now «sorted_tasks») (now mapping) ⌝ }
-    ensures { λ r. ⌜ ((s : EdgeFindable size ect past (now (nodes .entry)) (now (earliest .entry)) (now (posts .entry)) (now (atoms .entry)) (now (est .entry))
-        (now (lst .entry)) (now (lct .entry)) (now (durations .entry)) (now («reverse_mapping» .entry)) (now («sorted_tasks» .entry)) (now (mapping .entry)))
+    ensures { λ r. ⌜ ((s : EdgeFindable size ect past (now (nodes .entry)) (now (earliest .entry)) (now (posts .entry)) (now (atoms .entry))
+        (now (est .entry))
+        (now (lst .entry)) (now (lct .entry)) (now (durations .entry)) (now («reverse_mapping» .entry)) (now («sorted_tasks» .entry))
+        (now (mapping .entry)))
         → EdgeFound (s .J) (s .estOrder) (s .lctOrder) (now (posts .entry)) (now (atoms .entry)) (r .outcome) (r .changes) (now (earliest .exit))
         (now (posts .exit)) (now (atoms .exit))) ⌝ }
 {
@@ -237,7 +239,8 @@ fn fill<'a>(
     n: usize,
 ) -> u32
     requires { ⌜ Fillable inner n (now nodes) (now «reverse_mapping») (now est) (now durations) ⌝ }
-    ensures { λ r. ⌜ Filled inner n (now (nodes .entry)) (now (nodes .exit)) (now («reverse_mapping» .entry)) (now (est .entry)) (now (durations .entry)) r ⌝ }
+    ensures { λ r. ⌜ Filled inner n (now (nodes .entry)) (now (nodes .exit)) (now («reverse_mapping» .entry)) (now (est .entry))
+        (now (durations .entry)) r ⌝ }
 {
     let mut ect: u32 = 0;
     let mut x: usize = 0;
@@ -411,8 +414,8 @@ fn consider_all<'a>(
     size: TreeSize,
     lct: u32,
 ) -> Turn
-    requires { ⌜ Considerable size lct (now nodes) (now earliest) (now posts) (now atoms) written (now est) (now lst) (now durations) (now «reverse_mapping»)
-        (now mapping) ⌝ }
+    requires { ⌜ Considerable size lct (now nodes) (now earliest) (now posts) (now atoms) written (now est) (now lst) (now durations)
+        (now «reverse_mapping») (now mapping) ⌝ }
     ensures { λ r. ⌜ ((s : Considerable size lct (now (nodes .entry)) (now (earliest .entry)) (now (posts .entry)) (now (atoms .entry)) written
         (now (est .entry)) (now (lst .entry)) (now (durations .entry)) (now («reverse_mapping» .entry)) (now (mapping .entry)))
         → AllConsidered s r (now (nodes .exit)) (now (earliest .exit)) (now (posts .exit)) (now (atoms .exit))) ⌝ }

@@ -123,7 +123,8 @@ fn durations_of(lengths: &mut [u32; TASKS], durations: &[i32])
 // The number that refuses creation, or 0. The durations of the record go into a lent array, so that none is copied.
 pub fn creation_refusal(lengths: &mut [u32; TASKS], durations: &[i32]) -> u32
     requires { ⌜ now lengths ≡ noTasks ⌝ }
-    ensures { λ r. ⌜ (r ≡ refusal (creationTests (now (durations .entry)))) × (r ≡ 0 → now (lengths .exit) ≡ lengthsOf (now (durations .entry))) ⌝ }
+    ensures { λ r. ⌜ (r ≡ refusal (creationTests (now (durations .entry))))
+        × (r ≡ 0 → now (lengths .exit) ≡ lengthsOf (now (durations .entry))) ⌝ }
 {
     let n = durations.len();
     if !count_fits(n) {

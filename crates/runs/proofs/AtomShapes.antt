@@ -84,13 +84,13 @@ module _ (o : ℕ) (J : Tasks natural) (ok : Proper J) (low high d : ℕ) (early
         by = omega (arith, late k q);
       }
 
-  abbrev Listed : List ℕ → Type 0
-  Listed ks = (k : ℕ) → has ks k ≡ true → k < n
+  abbrev TasksOnly : List ℕ → Type 0
+  TasksOnly ks = (k : ℕ) → has ks k ≡ true → k < n
 
-  head : (k : ℕ) (ks : List ℕ) → Listed (k ∷ ks) → Task k
+  head : (k : ℕ) (ks : List ℕ) → TasksOnly (k ∷ ks) → Task k
   head k ks h = task k (h k (has-here k ks))
 
-  rest : (k : ℕ) (ks : List ℕ) → Listed (k ∷ ks) → Listed ks
+  rest : (k : ℕ) (ks : List ℕ) → TasksOnly (k ∷ ks) → TasksOnly ks
   rest k ks h j q = h j (has-later k j ks q)
 
   -- the atoms of one task
@@ -100,18 +100,18 @@ module _ (o : ℕ) (J : Tasks natural) (ok : Proper J) (low high d : ℕ) (early
   high-atom : (k v : ℕ) → Task k → low ≤ v → v ≤ high + d → Fits (atMost o J k (v - J .duration k))
   high-atom k v t p q = record { task = t .small; kind = omega arith; at = v - J .duration k; value = refl; from = omega (arith, t .short); to = omega (arith, t .short) }
 
-  within-fits : (u v : ℕ) → low ≤ u + d → u ≤ high → low ≤ v → v ≤ high + d → (ks : List ℕ) → Listed ks → Every Fits (within o J u v ks)
+  within-fits : (u v : ℕ) → low ≤ u + d → u ≤ high → low ≤ v → v ≤ high + d → (ks : List ℕ) → TasksOnly ks → Every Fits (within o J u v ks)
   unfolding within
   within-fits u v a b c e [] h = tt
   within-fits u v a b c e (k ∷ ks) h = let t = head k ks h in (low-atom k u t a b, (high-atom k v t c e, within-fits u v a b c e ks (rest k ks h)))
 
   -- The overflow is shared out between e and c: the one falls to c + 1 − p at the lowest, the other rises to e + p − 1 at the highest.
-  conflict-of-fits : (c p e : ℕ) → low ≤ c → c ≤ high + d → p ≤ d → low ≤ e + d → e ≤ high → (ks : List ℕ) → Listed ks → Every Fits (conflict-of o J c p e ks)
+  conflict-of-fits : (c p e : ℕ) → low ≤ c → c ≤ high + d → p ≤ d → low ≤ e + d → e ≤ high → (ks : List ℕ) → TasksOnly ks → Every Fits (conflict-of o J c p e ks)
   conflict-of-fits c p e a b q u v =
       let delta = (e + p) - (c + 1) in
       within-fits (e - delta / 2) (c + (delta - delta / 2)) (omega arith) (omega arith) (omega arith) (omega arith)
 
-  conflict-fits : (c p : ℕ) → low ≤ c → c ≤ high + d → p ≤ d → (ks : List ℕ) → Listed ks → Every Fits (conflict o J c p ks)
+  conflict-fits : (c p : ℕ) → low ≤ c → c ≤ high + d → p ≤ d → (ks : List ℕ) → TasksOnly ks → Every Fits (conflict o J c p ks)
   unfolding conflict
   conflict-fits c p a b q [] h = tt
   conflict-fits c p a b q (k ∷ []) h = let t = head k [] h in conflict-of-fits c p (J .earliest k) a b q (omega (arith, t .starts, t .short)) (t .until) (k ∷ []) h
@@ -121,7 +121,7 @@ module _ (o : ℕ) (J : Tasks natural) (ok : Proper J) (low high d : ℕ) (early
         | inr y ↦ rw (y, conflict) (conflict-fits c (p - J .duration k) a b (omega arith) (j ∷ ks) (rest k (j ∷ ks) h))
       ]
 
-  bounds-fits : (b r last p : ℕ) → low ≤ r + d → r ≤ high → low ≤ last → last ≤ high + d → (ks : List ℕ) → Listed ks → Every Fits (bounds o J b r last p ks)
+  bounds-fits : (b r last p : ℕ) → low ≤ r + d → r ≤ high → low ≤ last → last ≤ high + d → (ks : List ℕ) → TasksOnly ks → Every Fits (bounds o J b r last p ks)
   unfolding bounds
   bounds-fits b r last p u v w x [] h = tt
   bounds-fits b r last p u v w x (k ∷ ks) h = let t = head k ks h in
@@ -133,12 +133,13 @@ module _ (o : ℕ) (J : Tasks natural) (ok : Proper J) (low high d : ℕ) (early
       ]
 
   -- i is none of the tasks that last p
-  propagation-of-fits : (i b p r : ℕ) → Task i → p + J .duration i ≤ d → low ≤ r + d → r ≤ high → low < r + p + J .duration i → (ks : List ℕ) → Listed ks → Every Fits (propagation-of o J i b p r ks)
+  propagation-of-fits : (i b p r : ℕ) → Task i → p + J .duration i ≤ d → low ≤ r + d → r ≤ high → low < r + p + J .duration i → (ks : List ℕ) → TasksOnly ks
+      → Every Fits (propagation-of o J i b p r ks)
   propagation-of-fits i b p r t q u v w ks h =
       let last = r + p + J .duration i - 1 in
       every-append Fits (bounds o J b r last p ks) (atLeast o J i r ∷ []) (bounds-fits b r last p u v (omega arith) (omega arith) ks h) (low-atom i r t u v, tt)
 
-  propagation-fits : (i b c p : ℕ) → Task i → low ≤ c → p + J .duration i ≤ d → (ks : List ℕ) → Listed ks → Every Fits (propagation o J i b c p ks)
+  propagation-fits : (i b c p : ℕ) → Task i → low ≤ c → p + J .duration i ≤ d → (ks : List ℕ) → TasksOnly ks → Every Fits (propagation o J i b c p ks)
   unfolding propagation
   propagation-fits i b c p t a q [] h = tt
   propagation-fits i b c p t a q (k ∷ ks) h = let u = head k ks h in
@@ -155,7 +156,7 @@ module _ (o : ℕ) (J : Tasks natural) (ok : Proper J) (low high d : ℕ) (early
       abbrev Θ : TaskSet
       Θ k = leb t (index lctOrder k)
 
-      listed : Listed (theta J estOrder ls)
+      listed : TasksOnly (theta J estOrder ls)
       listed k h = tree.theta-only J ok estOrder rk ls Θ Λ s k h .small
 
       sum-is : leaves.sum J estOrder ls ≡ processing J Θ

@@ -116,7 +116,7 @@ module _ (o : ℕ) (J : Tasks natural) (ok : Proper J) (estOrder lctOrder : List
     abbrev reason : List Atom
     reason = propagation o J i b c (leaves.sum J estOrder ls) (theta J estOrder ls)
 
-    abbrev one : walks.First o J ok estOrder lctOrder rk ls Θ Λ s i c b 0 reason
+    abbrev one : walks.First o J ok estOrder lctOrder rk ls Θ Λ s i c b reason
     one = stops.first-walk o J ok estOrder lctOrder rk ord t ls Λ s small x f over b is up
 
     abbrev two : stops.Attaining o J ok estOrder lctOrder rk ord t ls Λ s small x f over b is up

@@ -39,12 +39,12 @@ module _ (o : ℕ) (J : Tasks natural) (estOrder lctOrder : List ℕ) (P : List 
   })
 
   -- a trace whose starts are those of a list of moments
-  abbrev Left : Trace → Type 0
-  Left r = (l : List ℕ) × (r .starts ≡ map (instant o) l) × P l
+  abbrev StartsFrom : Trace → Type 0
+  StartsFrom r = (l : List ℕ) × (r .starts ≡ map (instant o) l) × P l
 
-  outer-keeps : (f t : ℕ) (st : State) → P (st .starts) → Left (outer o J estOrder lctOrder f t st)
-  outer-keeps zero t st h = subst Left (sym (outer-end o J estOrder lctOrder 0 t st)) (st .starts, refl, h)
-  outer-keeps (suc f) t st h = outer-by o J estOrder lctOrder f t st Left (record {
+  outer-keeps : (f t : ℕ) (st : State) → P (st .starts) → StartsFrom (outer o J estOrder lctOrder f t st)
+  outer-keeps zero t st h = subst StartsFrom (sym (outer-end o J estOrder lctOrder 0 t st)) (st .starts, refl, h)
+  outer-keeps (suc f) t st h = outer-by o J estOrder lctOrder f t st StartsFrom (record {
     over = λ z. (st .starts, refl, h);
     further = λ st′ z e. outer-keeps f (suc t) st′ (turned (on st′) e);
     empties = λ st′ z e. (st′ .starts, refl, turned (stop st′) e);
@@ -53,8 +53,8 @@ module _ (o : ℕ) (J : Tasks natural) (estOrder lctOrder : List ℕ) (P : List 
       turned : (u : Turn) → inner o J estOrder lctOrder (J .count) (suc t) (grayed st (index estOrder (getD lctOrder t 0))) ≡ u → P (startsOf u)
       turned u e = subst (λ (u : Turn). P (startsOf u)) e (inner-keeps (J .count) (suc t) _ h)
 
-  run-keeps : P (tabulate (J .earliest) 0 (J .count)) → Left (run o J estOrder lctOrder)
-  run-keeps h = subst Left (sym (run-is o J estOrder lctOrder)) (outer-keeps (J .count - 1) 0 _ h)
+  run-keeps : P (tabulate (J .earliest) 0 (J .count)) → StartsFrom (run o J estOrder lctOrder)
+  run-keeps h = subst StartsFrom (sym (run-is o J estOrder lctOrder)) (outer-keeps (J .count - 1) 0 _ h)
 
 module _ (ds : List ℕ) (es ls : List ℤ) where
   abbrev J : Tasks natural

@@ -44,9 +44,12 @@ pub record Right (J : Tasks whole) (t : Trace) : Type 0 where
   pub overloads : (reason : List Atom) → t .end ≡ overload reason → OverloadRight J reason
   -- a run that is emptied has a post; its last one, and no other of any run, has a bound above its task's latest start
   pub some-post : t .end ≡ emptied → 1 ≤ length (t .posts)
-  pub above : (j : ℕ) → j < length (t .posts) → J .latest (post t j .task) <ℤ post t j .bound ↔ ((t .end ≡ emptied) × (suc j ≡ length (t .posts)))
+  pub above : (j : ℕ) → j < length (t .posts) → J .latest (post t j .task) <ℤ post t j .bound
+      ↔ ((t .end ≡ emptied) × (suc j ≡ length (t .posts)))
   -- whatever the outcome, each other post's bound is its task's start,
-  pub stands : (j : ℕ) → j < length (t .posts) → post t j .bound ≤ℤ J .latest (post t j .task) → getD (t .starts) (post t j .task) (pos 0) ≡ post t j .bound
+  pub stands : (j : ℕ) → j < length (t .posts) → post t j .bound ≤ℤ J .latest (post t j .task)
+      → getD (t .starts) (post t j .task) (pos 0) ≡ post t j .bound
   -- and a task that no such post names has the start that it had
-  pub stays : (k : ℕ) → k < J .count → ((j : ℕ) → j < length (t .posts) → post t j .bound ≤ℤ J .latest (post t j .task) → post t j .task ≡ k → ⊥)
+  pub stays : (k : ℕ) → k < J .count → ((j : ℕ) → j < length (t .posts) → post t j .bound ≤ℤ J .latest (post t j .task)
+      → post t j .task ≡ k → ⊥)
       → getD (t .starts) k (pos 0) ≡ J .earliest k

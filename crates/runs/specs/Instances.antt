@@ -28,7 +28,8 @@ abbrev pub Input : Type 0
 Input = List (ℕ × ℕ × ℕ)
 
 abbrev answer : Input → Trace
-answer ts = propagate (map (λ (t : ℕ × ℕ × ℕ). t .2) ts) (map (λ (t : ℕ × ℕ × ℕ). pos (t .0)) ts) (map (λ (t : ℕ × ℕ × ℕ). pos (t .1)) ts)
+answer ts = propagate (map (λ (t : ℕ × ℕ × ℕ). t .2) ts) (map (λ (t : ℕ × ℕ × ℕ). pos (t .0)) ts)
+    (map (λ (t : ℕ × ℕ × ℕ). pos (t .1)) ts)
 
 abbrev trace : List Post → End → List ℕ → ℕ → Trace
 trace ps end ss c = record { posts = ps; end = end; starts = map pos ss; changes = c }
@@ -58,7 +59,8 @@ paper =
     instance A (record { task = 2; bound = pos 9; reason = five } ∷ []) done (0 ∷ 1 ∷ 9 ∷ []) 8
     ∷ instance ((0, 2, 4) ∷ (1, 2, 4) ∷ []) [] (overload (atLeast 0 0 ∷ atMost 0 3 ∷ atLeast 1 0 ∷ atMost 1 3 ∷ [])) (0 ∷ 1 ∷ []) 2
     ∷ instance ((0, 4, 4) ∷ (1, 4, 4) ∷ []) [] done (0 ∷ 1 ∷ []) 4
-    ∷ instance ((0, 13, 1) ∷ (10, 11, 3) ∷ (10, 11, 3) ∷ []) [] (overload (atLeast 1 10 ∷ atMost 1 12 ∷ atLeast 2 10 ∷ atMost 2 12 ∷ [])) (0 ∷ 10 ∷ 10 ∷ []) 3
+    ∷ instance ((0, 13, 1) ∷ (10, 11, 3) ∷ (10, 11, 3) ∷ []) [] (overload (atLeast 1 10 ∷ atMost 1 12 ∷ atLeast 2 10 ∷ atMost 2 12 ∷ []))
+    (0 ∷ 10 ∷ 10 ∷ []) 3
     ∷ instance ((0, 5, 3) ∷ (1, 1, 5) ∷ []) (six ∷ []) emptied (0 ∷ 1 ∷ []) 4
     ∷ instance ((0, 6, 3) ∷ (1, 1, 5) ∷ []) (six ∷ []) done (6 ∷ 1 ∷ []) 5
     ∷ instance ((7, 7, 1) ∷ []) [] done (7 ∷ []) 1
@@ -74,7 +76,8 @@ abbrev later : Input
 later = (0, 8, 1) ∷ (5, 5, 4) ∷ (0, 20, 5) ∷ []
 
 pub own-latest-start : answer later ≡ trace
-    (record { task = 2; bound = pos 9; reason = atLeast 0 0 ∷ atMost 0 8 ∷ atLeast 1 5 ∷ atMost 1 5 ∷ atLeast 2 0 ∷ [] } ∷ []) done (0 ∷ 5 ∷ 9 ∷ []) 8
+    (record { task = 2; bound = pos 9; reason = atLeast 0 0 ∷ atMost 0 8 ∷ atLeast 1 5 ∷ atMost 1 5 ∷ atLeast 2 0 ∷ [] } ∷ []) done
+    (0 ∷ 5 ∷ 9 ∷ []) 8
 unfolding propagate run outer inner decoded conflict propagation bounds within tabulate heightFrom sort insert index numbers width root responsible theta joinOf
     isEmpty gray tested descentP descentEct stepP stepEct searchP searchEct thetaOf nodeOver
 own-latest-start = refl
@@ -93,11 +96,17 @@ two-raised = refl
 
 -- What a post raised stays raised when the run then overloads, and when a later post empties a range: B and E with one task more.
 abbrev eight : ℕ → ℕ → Post
-eight high₀ high₁ = record { task = 2; bound = pos 8; reason = atLeast 0 0 ∷ atMost 0 high₀ ∷ atLeast 1 0 ∷ atMost 1 high₁ ∷ atLeast 2 0 ∷ [] }
+eight high₀ high₁ = record {
+  task = 2;
+  bound = pos 8;
+  reason =
+      atLeast 0 0 ∷ atMost 0 high₀ ∷ atLeast 1 0 ∷ atMost 1 high₁ ∷ atLeast 2 0 ∷ [];
+}
 
 abbrev kept : List Instance
 kept =
-    instance ((0, 2, 4) ∷ (1, 2, 4) ∷ (0, 20, 3) ∷ []) (eight 6 6 ∷ []) (overload (atLeast 0 0 ∷ atMost 0 3 ∷ atLeast 1 0 ∷ atMost 1 3 ∷ [])) (0 ∷ 1 ∷ 8 ∷ []) 6
+    instance ((0, 2, 4) ∷ (1, 2, 4) ∷ (0, 20, 3) ∷ []) (eight 6 6 ∷ [])
+    (overload (atLeast 0 0 ∷ atMost 0 3 ∷ atLeast 1 0 ∷ atMost 1 3 ∷ [])) (0 ∷ 1 ∷ 8 ∷ []) 6
     ∷ instance ((0, 5, 3) ∷ (1, 1, 5) ∷ (0, 30, 2) ∷ []) (eight 6 4 ∷ six ∷ []) emptied (0 ∷ 1 ∷ 8 ∷ []) 8
     ∷ []
 

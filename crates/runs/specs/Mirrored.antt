@@ -75,9 +75,12 @@ pub record MirroredRight (J : Tasks whole) (t : Trace) : Type 0 where
   pub overloads : (reason : List Atom) → t .end ≡ overload reason → MirroredOverloadRight J reason
   -- a pass that is emptied has a post; its last one, and no other of any pass, has a bound below its task's earliest start
   pub some-post : t .end ≡ emptied → 1 ≤ length (t .posts)
-  pub below : (j : ℕ) → j < length (t .posts) → post t j .bound <ℤ J .earliest (post t j .task) ↔ ((t .end ≡ emptied) × (suc j ≡ length (t .posts)))
+  pub below : (j : ℕ) → j < length (t .posts) → post t j .bound <ℤ J .earliest (post t j .task)
+      ↔ ((t .end ≡ emptied) × (suc j ≡ length (t .posts)))
   -- whatever the outcome, each other post's bound is its task's latest start,
-  pub stands : (j : ℕ) → j < length (t .posts) → J .earliest (post t j .task) ≤ℤ post t j .bound → getD (t .starts) (post t j .task) (pos 0) ≡ post t j .bound
+  pub stands : (j : ℕ) → j < length (t .posts) → J .earliest (post t j .task) ≤ℤ post t j .bound
+      → getD (t .starts) (post t j .task) (pos 0) ≡ post t j .bound
   -- and a task that no such post names has the latest start that it had
-  pub stays : (k : ℕ) → k < J .count → ((j : ℕ) → j < length (t .posts) → J .earliest (post t j .task) ≤ℤ post t j .bound → post t j .task ≡ k → ⊥)
+  pub stays : (k : ℕ) → k < J .count → ((j : ℕ) → j < length (t .posts) → J .earliest (post t j .task) ≤ℤ post t j .bound
+      → post t j .task ≡ k → ⊥)
       → getD (t .starts) k (pos 0) ≡ J .latest k

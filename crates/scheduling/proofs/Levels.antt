@@ -66,7 +66,7 @@ module _ (J : Tasks natural) (ok : Proper J) (ect : TaskSet → ℕ) (ect-is : (
   End t = completion J (L t)
 
   -- k left Λ at a level up to t, and its start is now `new`
-  pub record Left (t k new : ℕ) : Type 0 where
+  pub record LeftLambda (t k new : ℕ) : Type 0 where
     pub level : ℕ
     pub late : place k < level
     pub seen : level ≤ t
@@ -78,7 +78,7 @@ module _ (J : Tasks natural) (ok : Proper J) (ect : TaskSet → ℕ) (ect-is : (
     pub fits-before : (s : ℕ) → s < t → ect (Θ s) ≤ End s
     pub gray : (k : ℕ) → In J Λ k → place k < t
     pub not-passed : (k : ℕ) → In J Λ k → (r : ℕ) → place k < r → r < t → ect (Θ r with k) ≤ End r
-    pub left : (k : ℕ) → Outside J Λ k → place k < t → Left t k (now k)
+    pub left : (k : ℕ) → Outside J Λ k → place k < t → LeftLambda t k (now k)
     pub same-in : (k : ℕ) → In J Λ k → now k ≡ J .earliest k
     pub same-on : (k : ℕ) → k < J .count → t ≤ place k → now k ≡ J .earliest k
     pub inside : (k : ℕ) → k < J .count → now k ≤ J .latest k
@@ -123,7 +123,7 @@ module _ (J : Tasks natural) (ok : Proper J) (ect : TaskSet → ℕ) (ect-is : (
             (λ a. none-passes k (record { small = h .small; mem = y })) r b a)
       ]
 
-      left : (k : ℕ) → Outside J (Λ with L t) k → place k < suc t → Left (suc t) k (now k)
+      left : (k : ℕ) → Outside J (Λ with L t) k → place k < suc t → LeftLambda (suc t) k (now k)
       left k h q = elim (bool (Λ k)) [
         | inl y ↦ clash (with-old Λ (L t) k y) (h .mem)
         | inr y ↦ elim (ℕ-discrete (place k) t) [
@@ -156,7 +156,7 @@ module _ (J : Tasks natural) (ok : Proper J) (ect : TaskSet → ℕ) (ect-is : (
       apart : (k : ℕ) → In J (Λ less i) k → k ≡ i → ⊥
       apart k m = (less-in Λ i k (m .mem)) .1
 
-      left : (k : ℕ) → Outside J (Λ less i) k → place k < t → Left t k (now′ k)
+      left : (k : ℕ) → Outside J (Λ less i) k → place k < t → LeftLambda t k (now′ k)
       left k m q = elim (ℕ-discrete k i) [
         | yes z ↦ rw z (record { level = t; late = f .gray i h; seen = omega arith; passes = over; first = f .not-passed i h; raised = new })
         | no z ↦ rw (others k z) (f .left k (record { small = m .small; mem = elim (bool (Λ k)) [ inl y ↦ clash (less-out Λ i k y z) (m .mem) | inr y ↦ y ] }) q)
@@ -232,7 +232,7 @@ module _ (J : Tasks natural) (ok : Proper J) (ect : TaskSet → ℕ) (ect-is : (
     waited k h r a q = below-suc (λ r. place k < r → ect (Θ r with k) ≤ End r) t (λ r q a. f .not-passed k h r a q) (λ _. none-passes k h) r (omega arith) a
 
     -- what an edge-finding bound of i comes to: i left Λ, with a bound as large
-    edge-left : (i b : ℕ) → EdgeFindingBound J i b → (o : Left t i (now i)) × (b ≤ ect (Θ (o .level)))
+    edge-left : (i b : ℕ) → EdgeFindingBound J i b → (o : LeftLambda t i (now i)) × (b ≤ ect (Θ (o .level)))
     edge-left i b r = by (bool (Λ i))
       where
         k : ℕ
@@ -270,10 +270,10 @@ module _ (J : Tasks natural) (ok : Proper J) (ect : TaskSet → ℕ) (ect-is : (
           ))
         ]
 
-        by : (Λ i ≡ true) ⊎ (Λ i ≡ false) → (o : Left t i (now i)) × (b ≤ ect (Θ (o .level)))
+        by : (Λ i ≡ true) ⊎ (Λ i ≡ false) → (o : LeftLambda t i (now i)) × (b ≤ ect (Θ (o .level)))
         by (inl y) = absurd (omega (arith, over, waited i (record { small = r .outside .small; mem = y }) (place k) before small))
         by (inr y) =
-            let o : Left t i (now i) = f .left i (record { small = r .outside .small; mem = y }) (omega (arith, before, small)) in
+            let o : LeftLambda t i (now i) = f .left i (record { small = r .outside .small; mem = y }) (omega (arith, before, small)) in
             let lv : o .level ≤ place k = elim (decLe (o .level) (place k)) [ yes q ↦ q | no q ↦ absurd (omega (arith, over, o .first (place k) before (omega arith))) ] in (
               o,
               ect-mono J (r .set) (Θ (o .level)) b (ect (Θ (o .level)))
@@ -282,7 +282,7 @@ module _ (J : Tasks natural) (ok : Proper J) (ect : TaskSet → ℕ) (ect-is : (
             )
 
     -- and the other way: what i left with is an edge-finding bound
-    left-edge : (i new : ℕ) → i < J .count → (o : Left t i new) → EdgeFindingBound J i (ect (Θ (o .level)))
+    left-edge : (i new : ℕ) → i < J .count → (o : LeftLambda t i new) → EdgeFindingBound J i (ect (Θ (o .level)))
     left-edge i new q o = edge (o .level) i q (o .late) (omega arith) (o .passes)
 
     pub no-overload : (Ω : TaskSet) → Overloads J Ω → ⊥
@@ -307,7 +307,7 @@ module _ (J : Tasks natural) (ok : Proper J) (ect : TaskSet → ℕ) (ect-is : (
       | no z ↦ inl (f .same-on i q (omega arith))
       | yes z ↦ elim (bool (Λ i)) [
         | inl y ↦ inl (f .same-in i (record { small = q; mem = y }))
-        | inr y ↦ (let o : Left t i (now i) = f .left i (record { small = q; mem = y }) z in
+        | inr y ↦ (let o : LeftLambda t i (now i) = f .left i (record { small = q; mem = y }) z in
             elim (decLe (ect (Θ (o .level))) (J .earliest i)) [
               | yes c ↦ inl (omega (arith, o .raised))
               | no c ↦ inr (let e : ect (Θ (o .level)) ≡ now i = omega (arith, o .raised) in (omega arith, rw e at (left-edge i (now i) q o)))

@@ -70,10 +70,12 @@ C-no-bound b r = omega (arith, r .passes, ends, by (adds (f .part 0) 4))
 
     ends : 8 ≤ r .end
     ends = let (k, km, e) = r .lct .holds in
-        below-two (λ j. In C (r .set) j → C .latest j + C .duration j ≡ r .end → 8 ≤ r .end) (λ _ z. omega arith) (λ _ z. omega arith) k (km .small) km e
+        below-two (λ j. In C (r .set) j → C .latest j + C .duration j ≡ r .end → 8 ≤ r .end) (λ _ z. omega arith) (λ _ z. omega arith) k
+        (km .small) km e
 
     late : f .start ≤ 1
-    late = let (k, km, e) = f .est .holds in below-two (λ j. C .earliest j ≡ f .start → f .start ≤ 1) (λ z. omega arith) (λ z. omega arith) k (km .small) e
+    late = let (k, km, e) = f .est .holds in below-two (λ j. C .earliest j ≡ f .start → f .start ≤ 1) (λ z. omega arith) (λ z. omega arith) k
+        (km .small) e
 
     by : Adds (f .part 0) 4 → r .joint ≤ 8
     by (inl a) = omega (arith, f .sum, C-sum (f .part), a .1, most (f .part 1) 4, f .est .bounds 0 (0, record { small = omega arith; mem = a .0 }, refl))
@@ -95,7 +97,8 @@ D-est : Est D last-two 10
 unfolding D last-two
 D-est = record {
   holds = (1, record { small = omega arith; mem = refl }, refl);
-  bounds = λ w h. below-three (λ j. last-two j ≡ true → D .earliest j ≡ w → 10 ≤ w) (λ y _. clash y refl) (λ _ z. omega arith) (λ _ z. omega arith) (h .0)
+  bounds = λ w h. below-three (λ j. last-two j ≡ true → D .earliest j ≡ w → 10 ≤ w) (λ y _. clash y refl) (λ _ z. omega arith)
+      (λ _ z. omega arith) (h .0)
       (h .1 .small) (h .1 .mem) (h .2);
 }
 

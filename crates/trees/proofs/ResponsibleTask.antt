@@ -128,7 +128,7 @@ module _ (colour : ℕ → Leaf) (e p : ℕ → ℕ) (lasts : (x : ℕ) → inLa
     through-left = omega (arith, ap (S (suc x)) more-end, leafRange.join w g e p (suc x) ((a + b) - suc x) c .sums, ap (λ (u : ℕ). S u c) start-right)
 
   -- a gray leaf of the range
-  pub record Found (a d x : ℕ) : Type 0 where
+  pub record GrayBelow (a d x : ℕ) : Type 0 where
     pub gray : g x ≡ true
     pub white : w x ≡ false
     pub from : a ≤ x
@@ -136,11 +136,11 @@ module _ (colour : ℕ → Leaf) (e p : ℕ → ℕ) (lasts : (x : ℕ) → inLa
 
   abbrev pub SumOk : ℕ → ℕ → Option ℕ → Type 0
   SumOk h a none = SB a (width h) ≤ S a (width h)
-  SumOk h a (some x) = Found a (width h) x × (SB a (width h) ≤ S a (width h) + p x)
+  SumOk h a (some x) = GrayBelow a (width h) x × (SB a (width h) ≤ S a (width h) + p x)
 
   abbrev pub EctOk : ℕ → ℕ → Option ℕ → Type 0
   EctOk h a none = EB a (width h) ≤ E a (width h)
-  EctOk h a (some x) = Found a (width h) x × (EB a (width h) ≤ through x a (width h))
+  EctOk h a (some x) = GrayBelow a (width h) x × (EB a (width h) ≤ through x a (width h))
 
   -- a leaf, as both searches end in it
   record LeafOk (a : ℕ) (o : Option ℕ) : Type 0 where
@@ -165,15 +165,15 @@ module _ (colour : ℕ → Leaf) (e p : ℕ → ℕ) (lasts : (x : ℕ) → inLa
           rw (gray-white (e a + p a) (p a)) (record { sums = rw once (omega (arith, l0)); ects = rw once (omega (arith, l0)) })
       by leaves.gray z =
           let l = leafRange.gray w g e p a 0 a z0 (ap inTheta z) (ap inLambda z) in
-          let f : Found a 1 a = record { gray = ap inLambda z; white = ap inTheta z; from = omega arith; to = omega arith } in
+          let f : GrayBelow a 1 a = record { gray = ap inLambda z; white = ap inTheta z; from = omega arith; to = omega arith } in
           rw (gray-gray (e a + p a) (p a) (λ q. omega (arith, lasts a (ap inLambda z)))) (record { sums = rw once (f, omega (arith, l0)); ects = rw once (f, omega (arith, l0, through-leaf a)) })
 
   -- a leaf of a half is one of the whole
-  left-in : (h a x : ℕ) → Found a (width h) x → Found a (width (suc h)) x
+  left-in : (h a x : ℕ) → GrayBelow a (width h) x → GrayBelow a (width (suc h)) x
   unfolding width
   left-in h a x f = record { gray = f .gray; white = f .white; from = f .from; to = omega (arith, f .to) }
 
-  right-in : (h a x : ℕ) → Found (a + width h) (width h) x → Found a (width (suc h)) x
+  right-in : (h a x : ℕ) → GrayBelow (a + width h) (width h) x → GrayBelow a (width (suc h)) x
   unfolding width
   right-in h a x f = record { gray = f .gray; white = f .white; from = omega (arith, f .from); to = omega (arith, f .to) }
 

@@ -31,8 +31,13 @@ module _ (leaf : ℕ → Node) where
   -- `responsible_index_ect_bar_internal`
   unfoldable pub searchEct : ℕ → ℕ → Option ℕ
   searchEct zero a = elim (stepEct zero a) [ bar.Right ↦ none | bar.RightP ↦ none | bar.Left ↦ none | bar.Here ↦ some a | bar.Nothing ↦ none ]
-  searchEct (suc h) a = elim (stepEct (suc h) a)
-      [ bar.Right ↦ searchEct h (a + width h) | bar.RightP ↦ searchP h (a + width h) | bar.Left ↦ searchEct h a | bar.Here ↦ none | bar.Nothing ↦ none ]
+  searchEct (suc h) a = elim (stepEct (suc h) a) [
+    | bar.Right ↦ searchEct h (a + width h)
+    | bar.RightP ↦ searchP h (a + width h)
+    | bar.Left ↦ searchEct h a
+    | bar.Here ↦ none
+    | bar.Nothing ↦ none
+  ]
 
 -- the tasks of the white leaves among the d from a on, in leaf order: the list of the source's `get_theta`
 unfoldable pub thetaOf : (ℕ → Bool) → (ℕ → ℕ) → ℕ → ℕ → List ℕ

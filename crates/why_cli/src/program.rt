@@ -26,7 +26,8 @@ const ROOM: usize = 4096;
 // The page of the tasks of an input's numbers, or the refusal.
 fn put_answer(out: &mut [u8], numbers: Numbers) -> usize
     requires { ⌜ ROOM ≤ length (now out) ⌝ }
-    ensures text { λ r. ⌜ ((xs : Option (List ℤ)) → numbers ≡ gathered xs → Puts (now (out .entry)) (now (out .exit)) 0 (whyOfTasks (listedTasks xs)) r) ⌝ }
+    ensures text { λ r. ⌜ ((xs : Option (List ℤ)) → numbers ≡ gathered xs
+        → Puts (now (out .entry)) (now (out .exit)) 0 (whyOfTasks (listedTasks xs)) r) ⌝ }
     ensures within { λ r. ⌜ r ≤ length (now (out .entry)) ⌝ }
 {
     let counted = task_count(numbers);

@@ -87,8 +87,8 @@ module _ (D : Reading) where
   abbrev spelt : (κs : Lifetimes) → Spells (Passed κs)
   spelt κs = (ptr-vals, (slice-vals, D .values (κs .1 .1)))
 
-  abbrev Answered : (κs : Lifetimes) → Denots (Passed κs) → D .Answer .Denot → Outs (κs .1 .1) (D .beside) (all yes (D .beside)) → Type 0
-  Answered κs a r e = D .Holds (κs .1 .1) (now (a .0)) (earliests (now (a .1 .0))) (latests (now (a .1 .0))) (barsFit (D .reader) (now (a .1 .0))) (a .1 .1) r e
+  abbrev CallAnswered : (κs : Lifetimes) → Denots (Passed κs) → D .Answer .Denot → Outs (κs .1 .1) (D .beside) (all yes (D .beside)) → Type 0
+  CallAnswered κs a r e = D .Holds (κs .1 .1) (now (a .0)) (earliests (now (a .1 .0))) (latests (now (a .1 .0))) (barsFit (D .reader) (now (a .1 .0))) (a .1 .1) r e
 
   module _ {M : Type 1} (𝓤 : URA M) (H : Heap 𝓤) (A : Atoms 𝓤) where
     abbrev core-says : Clauses 𝓤 core
@@ -108,12 +108,12 @@ module _ (D : Reading) where
     abbrev tokens : Bound → SProp 𝓤
     tokens x = toks 𝓤 A (suc (suc (D .lifetimes))) (x .0) (x .1)
 
-    abbrev Left : (x : Bound) → D .Answer .Denot → Unit {0} × (Unit {0} × Lasts (x .0 .1 .1) (x .3 .1 .1)) → SProp 𝓤
-    Left x r ws = sep 𝓤 (sem 𝓤 H A (fsep ftrue (fsep ftrue (lastsOf (x .0 .1 .1) (D .beside) (all yes (D .beside)) (x .3 .1 .1) (ws .1 .1)))))
-        (fact 𝓤 (Answered (x .0) (x .3) r (seen (x .0 .1 .1) (x .3 .1 .1) (ws .1 .1))))
+    abbrev LeftLent : (x : Bound) → D .Answer .Denot → Unit {0} × (Unit {0} × Lasts (x .0 .1 .1) (x .3 .1 .1)) → SProp 𝓤
+    LeftLent x r ws = sep 𝓤 (sem 𝓤 H A (fsep ftrue (fsep ftrue (lastsOf (x .0 .1 .1) (D .beside) (all yes (D .beside)) (x .3 .1 .1) (ws .1 .1)))))
+        (fact 𝓤 (CallAnswered (x .0) (x .3) r (seen (x .0 .1 .1) (x .3 .1 .1) (ws .1 .1))))
 
     abbrev Returned : Bound → Val → D .Answer .Denot → SProp 𝓤
-    Returned x v r = sep 𝓤 (sep 𝓤 (tokens x) (sem 𝓤 H A (D .Answer .own r (v ∷ [])))) (ex 𝓤 (Left x r))
+    Returned x v r = sep 𝓤 (sep 𝓤 (tokens x) (sem 𝓤 H A (D .Answer .own r (v ∷ [])))) (ex 𝓤 (LeftLent x r))
 
     abbrev pub Open : Contract 𝓤
     Open = record {
@@ -221,11 +221,11 @@ module _ (D : Reading) {M : Type 1} (𝓤 : URA M) (H : Heap 𝓤) (A : Atoms �
   abbrev Had : D .Answer .Denot → Val → Lasts D κ′ b → List (Item 𝓤)
   Had r v us = record-token ∷ (ranges-token ⊛ ‵ ftrue) ∷ other-tokens ∷ ‵ (lastsOf κ′ (D .beside) (all yes (D .beside)) b us) ∷ ‵ (D .Answer .own r (v ∷ [])) ∷ []
 
-  ends : (r : D .Answer .Denot) (v : Val) (us : Lasts D κ′ b) → Answered D κs a r (seen D κ′ b us) → ent 𝓤 (⋆ 𝓤 H A (Had r v us)) (Open D 𝓤 H A .post (x, tt) v)
+  ends : (r : D .Answer .Denot) (v : Val) (us : Lasts D κ′ b) → CallAnswered D κs a r (seen D κ′ b us) → ent 𝓤 (⋆ 𝓤 H A (Had r v us)) (Open D 𝓤 H A .post (x, tt) v)
   ends r v us e =
       qed W (Had r v us) ∵ updating ! $ at-once ! $ show ! (Returned D 𝓤 H A x v) r $
       move ! (1 ∷ []) $ split ! $ move ! (0 ∷ 3 ∷ []) $ join ! $ move ! (2 ∷ 0 ∷ []) $ join ! $ move ! (0 ∷ 3 ∷ []) $ join ! $ frame ! $
-      show ! (Left D 𝓤 H A x r) (tt, (tt, us)) $ says ! e $
+      show ! (LeftLent D 𝓤 H A x r) (tt, (tt, us)) $ says ! e $
       -- [true; the last values]
       move ! (1 ∷ 0 ∷ []) $ nothing ! $ fjoin ! $ nothing ! $ fjoin ! $ keep ! (0 ∷ []) $ done !
 

@@ -25,7 +25,8 @@ returns-3 : tie.Need-returns-3
 returns-3 c =
     let x = c .before .before .found .given .0 in
     c .conflict-answer3 .ensures
-    ∙ (λ i. conflictAnswer (finding (c .before .before .before .before .args .shown) (Late (x .0) (back-of w32 (x .1 .0) (c .before .known-told .given .1 .0 .1) i) (back-of w32 (x .1 .1 .0) (c .before .known-told .given .1 .1 .0 .1) i))))
+    ∙ (λ i. conflictAnswer (finding (c .before .before .before .before .args .shown) (Late (x .0) (back-of w32 (x .1 .0) (c .before .known-told .given .1 .0 .1) i)
+    (back-of w32 (x .1 .1 .0) (c .before .known-told .given .1 .1 .0 .1) i))))
     ∙ as-found (c .before .before .before .before .args .shown) (c .before .before .found .given .1)
 
 returns-4 : tie.Need-returns-4

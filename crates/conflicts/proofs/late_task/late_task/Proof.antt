@@ -31,21 +31,24 @@ copy c = let s = c .before in
 
 -- when the run has ended
 abbrev made : tie.After-run-accepted → tie.After-starts-of
-made c = c .before .before .before .before
+made c = c .before .before .before .before .before .before
 
 abbrev start : tie.After-run-accepted → tie.Start
 start c = made c .before
 
 slice-aggregate-run-accepted : tie.Need-slice-aggregate-run-accepted
-slice-aggregate-run-accepted c = let s = c .before .before in
-    sym (length-take-le (s .args .«record» .count) (c .before .starts-of .result) (omega (arith, ap length (c .before .starts-of .ensures), copy-long (s .args .earliest .now), s .pre .lawful .few)))
+slice-aggregate-run-accepted c =
+    let m = c .before .before .before in
+    let s = m .before in
+    sym (length-take-le (s .args .«record» .count) (m .starts-of .result) (omega (arith, ap length (m .starts-of .ensures), copy-long (s .args .earliest .now), s .pre .lawful .few)))
 
 run-accepted-requires : tie.Need-run-accepted-requires
 run-accepted-requires c κs =
-    let m = c .before .before .before in
+    let m = c .before .before .before .before .before in
     let s = m .before in
     let a = s .args in
-    subst (λ (es : List ℤ). Runnable (a .«record») es (a .latest .now) 192 13824) (sym (copy m)) (can-run (a .«record») (a .earliest .now) (a .latest .now) (s .pre) (long s))
+    let can = subst (λ (es : List ℤ). Runnable (a .«record») es (a .latest .now) 192 13824) (sym (copy m)) (can-run (a .«record») (a .earliest .now) (a .latest .now) (s .pre) (long s)) in
+    (a .«record» .total, long s, can)
 
 not-emptied : (o : Outcome) → OneOf (0 ∷ 1 ∷ 3 ∷ []) (denote.Enum.Declared.tagOf (denote.Enum.Declared.declared Rattle.runs.proofs.outcome.Outcome.enum) o) → outcomeNumbers o .kind ≡ 2 → ⊥
 not-emptied (outcome.Done posts) k e = omega arith
@@ -58,7 +61,7 @@ returns c =
     let ran = c .before .before .before .before .before in
     let s = start ran in
     let a = s .args in
-    c .no-conflict .ensures ∙ sym (nothing-late (a .«record») (a .earliest .now) (a .latest .now) (s .pre) (long s) (copy (made ran)) (ran .run-accepted .ensures)
+    c .no-conflict .ensures ∙ sym (nothing-late (a .«record») (a .earliest .now) (a .latest .now) (s .pre) (long s) (copy (made ran)) (ran .run-accepted .ensures (a .«record» .total))
     (not-emptied (ran .run-accepted .result .outcome) (c .before .match .keys2)))
 
 -- where it is emptied
@@ -66,12 +69,12 @@ abbrev ran-at : tie.After-task-moments → tie.After-run-accepted
 ran-at c = c .before .before .before .before .before .before .before
 
 abbrev last : (c : tie.After-task-moments) → let ran = ran-at c in
-    LastPosted (c .task-moments .result) (start ran .args .latest .now) (ran .run-accepted .last .1 .1 .1 .0) (ran .run-accepted .last .1 .1 .1 .1 .0) (c .before .before .outcome .given .0 .0)
+    LastPosted (c .task-moments .result) (start ran .args .latest .now) (ran .run-accepted .last .1 .1 .1 .1 .0) (ran .run-accepted .last .1 .1 .1 .1 .1 .0) (c .before .before .outcome .given .0 .0)
 last c =
     let ran = ran-at c in
     let s = start ran in
     let a = s .args in
-    last-posted (a .«record») (a .earliest .now) (a .latest .now) (s .pre) (long s) (copy (made ran)) (ran .run-accepted .ensures) (c .task-moments .ensures)
+    last-posted (a .«record») (a .earliest .now) (a .latest .now) (s .pre) (long s) (copy (made ran)) (ran .run-accepted .ensures (a .«record» .total)) (c .task-moments .ensures)
     (c .before .before .outcome .given .0 .0) (c .before .before .outcome .given .1)
 
 last-posted-requires : tie.Need-last-posted-requires
@@ -83,7 +86,7 @@ returns-2 c =
     let ran = ran-at m in
     let s = start ran in
     let a = s .args in
-    is-late (a .«record») (a .earliest .now) (a .latest .now) (s .pre) (long s) (copy (made ran)) (ran .run-accepted .ensures) (m .task-moments .ensures)
+    is-late (a .«record») (a .earliest .now) (a .latest .now) (s .pre) (long s) (copy (made ran)) (ran .run-accepted .ensures (a .«record» .total)) (m .task-moments .ensures)
     (m .before .before .outcome .given .0 .0) (m .before .before .outcome .given .1)
     (c .last-posted .ensures (last m))
 

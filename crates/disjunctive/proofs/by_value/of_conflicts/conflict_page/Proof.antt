@@ -15,7 +15,8 @@ use Rattle.disjunctive.proofs.by_value.of_conflicts.conflict_page.Code 
 pub conflict-page-spec : {M : Type 1} → stated.statement M
 unfolding code.routine
 conflict-page-spec 𝓤 H 𝓜 𝓖 𝓡 =
-    reads-by-value 𝓤 H conflict-page (sliceTy (tyRef (named 0) mut (tyInt w8)) ∷ []) (some (3, tyInt w8)) (12 ∷ []) 𝓜 𝓖 𝓡 code.env name lent.name (λ r v is. L.lawful O.the-type O′.the-laws 𝓤 H (𝓖 .A) (givenOf 𝓤 H 𝓜 𝓖) tt .typed r _ is .0)
+    reads-by-value 𝓤 H conflict-page (sliceTy (tyRef (named 0) mut (tyInt w8)) ∷ []) (some (3, tyInt w8)) (12 ∷ []) 𝓜 𝓖 𝓡 code.env name lent.name
+    (λ r v is. L.lawful O.the-type O′.the-laws 𝓤 H (𝓖 .A) (givenOf 𝓤 H 𝓜 𝓖) tt .typed r _ is .0)
     ((L.makes O.the-type O′.the-plain) 𝓤 H (𝓖 .A))
     (λ κs b are h x n bs. record {
       fits = ((tt, (tt, (record { fits = are .0 .0 .1 .0 }, tt))), tt);
