@@ -2,7 +2,7 @@
 use mathlib.Core.Path.{_≡_, refl, sym, ap, ap₂, subst, _∙_}
 use mathlib.Core.Bool.{Bool, true, false, cond}
 use mathlib.Core.List.{List, []}
-use mathlib.Core.Option.{some}
+use mathlib.Core.Option.{Option, some}
 use Prim.Native.Nat.{ℕ, zero, suc, _+_, _≤_, _<_, max}
 use native.Mathlib.Numerals.{add-one}
 use native.Mathlib.Omega.{arith}
@@ -13,14 +13,14 @@ use Rattle.integers.specs.Limits.{TASKS, DURATIONS, U32MAX}
 use Rattle.integers.specs.Orders.{sort, numbers}
 use Rattle.scheduling.specs.Scheduling.{natural, Tasks, TaskSet, total}
 use Rattle.scheduling.specs.Ects.{byEarliest, completes, ectAfter, ectOf}
-use Rattle.scheduling.proofs.Ects.{by-earliest, order-size}
+use Rattle.scheduling.proofs.Ects.{by-earliest, order-size, after-none, after-more}
 use Rattle.scheduling.proofs.Sets.{total-part, total-more}
 use Rattle.sorts.specs.Orders.{SortedBy, byKey}
 use Rattle.sorts.proofs.Sorted.{sorted-as}
 use Rattle.trees.specs.Ects.{decoded}
 use Rattle.trees.specs.NodeBounds.{LATEST}
 use Rattle.trees.specs.Trees.{Limited}
-use Rattle.trees.proofs.Ects.{decoded-some}
+use Rattle.trees.proofs.Ects.{decoded-none, decoded-some}
 use Rattle.trees.proofs.RootAnswers as tree
 use Rattle.chosen_sets.specs.TaskArrays.{HeldSet, completed}
 
@@ -42,8 +42,7 @@ pub record Done (J : Tasks natural) (Ω : TaskSet) (x ect : ℕ) : Type 0 where
   pub most : ect ≤ LATEST + total (λ j. J .duration (getD (byEarliest J) j 0)) x
 
 pub none-done : (J : Tasks natural) (Ω : TaskSet) → Done J Ω 0 0
-unfolding decoded
-none-done J Ω = record { rest = refl; most = omega arith }
+none-done J Ω = record { rest = ap (λ (o : Option ℕ). ectAfter J Ω o (byEarliest J)) (decoded-none 0 refl); most = omega arith }
 
 module _ {J : Tasks natural} {Ω : TaskSet} {n : ℕ} {chosen : List Bool} {est durations order : List ℕ} (h : HeldSet J Ω n chosen est durations) (s : SortedBy (byKey est) n order) where
   module _ (x : ℕ) (q : x < n) where
@@ -90,28 +89,26 @@ module _ {J : Tasks natural} {Ω : TaskSet} {n : ℕ} {chosen : List Bool} {est 
 
     -- one task more: none that lasts completes at 0
     joined : (b : Bool) (ect : ℕ) → decoded (completed ect b (J .earliest k) (J .duration k)) ≡ cond b (some (completes J (decoded ect) k)) (decoded ect)
-    unfolding decoded
     joined false ect = refl
     joined true ect = decoded-some _ (omega (arith, limited h .lasts x inside)) ∙ ap some (by ect)
       where
         by : (ect : ℕ) → max ect (J .earliest k) + J .duration k ≡ completes J (decoded ect) k
-        by zero = omega arith
-        by (suc e) = omega arith
+        by zero = rw (decoded-none 0 refl) (omega arith)
+        by (suc e) = rw (decoded-some (suc e) (omega arith)) (omega arith)
 
     pub one-done : (ect r : ℕ) → Done J Ω x ect → r ≡ completed ect (getD chosen (getD order x 0) false) (getD est (getD order x 0) 0) (getD durations (getD order x 0) 0) → Done J Ω (x + 1) r
-    unfolding ectAfter
     one-done ect r d e = subst (Done J Ω (x + 1)) (sym (e ∙ rw (chosen-is, start-is, lasts-is) refl)) (record { rest = rest; most = most (Ω k) })
       where
         rest : ectAfter J Ω (decoded (completed ect (Ω k) (J .earliest k) (J .duration k))) (drop (x + 1) (byEarliest J)) ≡ ectOf J Ω
-        rest = rw (joined (Ω k) ect, add-one x) (sym (rw (drop-cons (byEarliest J) x 0 (omega (arith, inside, order-size J)))) ∙ d .rest)
+        rest = rw (joined (Ω k) ect, add-one x) (sym (after-more J Ω (decoded ect) k (drop (suc x) (byEarliest J)))
+            ∙ ap (ectAfter J Ω (decoded ect)) (sym (drop-cons (byEarliest J) x 0 (omega (arith, inside, order-size J)))) ∙ d .rest)
 
         most : (b : Bool) → completed ect b (J .earliest k) (J .duration k) ≤ LATEST + total (λ j. J .duration (getD (byEarliest J) j 0)) (x + 1)
         most true = next-most ect d
         most false = omega (arith, d .most, total-more (λ j. J .duration (getD (byEarliest J) j 0)) x)
 
   pub all-done : (x ect : ℕ) → x ≡ n → Done J Ω x ect → decoded ect ≡ ectOf J Ω
-  unfolding ectAfter
-  all-done x ect e d = ap (ectAfter J Ω (decoded ect)) (sym end) ∙ d .rest
+  all-done x ect e d = sym (after-none J Ω (decoded ect)) ∙ ap (ectAfter J Ω (decoded ect)) (sym end) ∙ d .rest
     where
       end : drop x (byEarliest J) ≡ []
       end = ap (λ (m : ℕ). drop m (byEarliest J)) (let z : x ≡ length (byEarliest J) = omega (arith, order-size J, h .count) in z) ∙ drop-length (byEarliest J)

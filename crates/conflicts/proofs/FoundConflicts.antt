@@ -36,7 +36,8 @@ use Rattle.conflicts.specs.ConflictOf.{overloadingSet, overloadBy, lateI
 use Rattle.conflicts.specs.Conflicts.{OverloadRight, LateRight, ConflictFound}
 use Rattle.conflicts.proofs.LastPosts.{right, sets, some-post, no-run-overload}
 use Rattle.conflicts.proofs.LateSets.{late-right}
-use Rattle.conflicts.proofs.OverloadingSets.{read-over, never-refuses}
+use Rattle.overload_test.proofs.FirstOverload.{never-refuses}
+use Rattle.conflicts.proofs.OverloadingSets.{read-over}
 use Rattle.conflicts.proofs.WholeSets.{overload-right}
 
 -- two answers of different kinds

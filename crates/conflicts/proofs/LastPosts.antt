@@ -20,8 +20,9 @@ use Rattle.runs.specs.Traces.{Post, End, done, overload, emptied, Trace}
 use Rattle.runs.specs.Demand.{Right, post}
 use Rattle.runs.specs.Outcomes.{outcomeNumbers, valueOf}
 use Rattle.runs.specs.ReasonSets.{named}
-use Rattle.runs.specs.Runs.{propagate, earliestOrder}
+use Rattle.runs.specs.Runs.{earliestOrder}
 use Rattle.runs.proofs.Demand.{demand-3}
+use Rattle.runs.proofs.InnerLoop.{propagate-is}
 use Rattle.runs.proofs.PostReaders.{four-inside}
 use Rattle.runs.proofs.ReasonSets.{SetsRight, all-sets, overload-set}
 use Rattle.runs.proofs.TraceNumbers.{posts-made, kind-emptied}
@@ -98,14 +99,14 @@ module _ (r : DisjunctivePropagator) (es ls : List ℤ) (a : AcceptedInput r es 
   right = demand-3 MIRRORED (omega arith) (take (r .count) (r .durations)) es ls (accepted r es ls 192 13824 can-run)
 
   pub sets : (j : ℕ) → j < length (t .posts) → SetsRight zeroAt J (earliestOrder J) (post t j)
-  unfolding propagate
-  sets j q = all-sets zeroAt J (proper r es ls a long) (omega (arith, count r es ls a long, a .lawful .some)) j q
+  sets j = subst (λ (t : Trace). j < length (t .posts) → SetsRight zeroAt J (earliestOrder J) (post t j)) (sym (propagate-is (take (r .count) (r .durations)) es ls))
+      (all-sets zeroAt J (proper r es ls a long) (omega (arith, count r es ls a long, a .lawful .some)) j)
 
   -- it does not end by an overload where no set overloads
   pub no-run-overload : ((Ω : TaskSet) → Overloads (tasksIn r es ls) Ω → ⊥) → (reason : List Atom) → t .end ≡ overload reason → ⊥
-  unfolding propagate
   no-run-overload none reason e =
-      let (Ω, o) = overload-set zeroAt J (proper r es ls a long) (omega (arith, count r es ls a long, a .lawful .some)) reason e in
+      let run-ends = subst (λ (t : Trace). t .end ≡ overload reason) (propagate-is (take (r .count) (r .durations)) es ls) e in
+      let (Ω, o) = overload-set zeroAt J (proper r es ls a long) (omega (arith, count r es ls a long, a .lawful .some)) reason run-ends in
       none Ω (overload← zeroAt (tasksIn r es ls) (proper-whole r es ls a long) (above r es ls a long) Ω o)
 
   pub some-post : t .end ≡ emptied → length (t .posts) - 1 < length (t .posts)

@@ -15,9 +15,10 @@ use Rattle.scheduling.proofs.Exists.{lct-some}
 use Rattle.scheduling.proofs.Suffixes.{attaining}
 use Rattle.trees.specs.Ects.{raisedTo}
 use Rattle.trees.proofs.Ects.{exceeds-yes}
-use Rattle.overload_test.specs.declared.Overload.the-variants.{Yes, Refused}
-use Rattle.overload_test.specs.ReadTasks.{byCompletion, read, overloadsAt, answerFrom, answerOf}
+use Rattle.overload_test.specs.declared.Overload.the-variants.{Yes}
+use Rattle.overload_test.specs.ReadTasks.{byCompletion, read, overloadsAt, answerOf}
 use Rattle.overload_test.proofs.ReadTasks.{by-completion, read-place}
+use Rattle.overload_test.proofs.FirstOverload.{yes-at}
 use Rattle.conflicts.specs.Suffixes.{suffixTo}
 use Rattle.conflicts.specs.ConflictOf.{overloadingSet}
 use Rattle.conflicts.specs.declared.task_moments.TaskMoments.{TaskMoments}
@@ -27,36 +28,12 @@ use Rattle.conflicts.proofs.SuffixSteps.{Suffix, suffix}
 -- The answer --------------------------------------------------------------------------------------------------------------------
 
 module _ (J : Tasks natural) where
-  -- a yes stands where the tasks read overload
-  pub yes-at : (k d m : ℕ) → answerFrom J k d ≡ Yes m → (k < m) × (m ≤ k + d) × (overloadsAt J (m - 1) ≡ true)
-  unfolding answerFrom
-  yes-at k zero m e = let z : _≡_ {A = ℕ} 0 1 = cc in absurd (omega arith)
-  yes-at k (suc d) m e = by (bool (overloadsAt J k)) (yes-at (suc k) d m)
-    where
-      by : (overloadsAt J k ≡ true) ⊎ (overloadsAt J k ≡ false) → (answerFrom J (suc k) d ≡ Yes m → (suc k < m) × (m ≤ suc k + d) × (overloadsAt J (m - 1) ≡ true))
-          → (k < m) × (m ≤ k + suc d) × (overloadsAt J (m - 1) ≡ true)
-      by (inl y) rest =
-          let p : Yes (suc k) ≡ Yes m = rw (y, answerFrom) at e in
-          let z : suc k ≡ m = cc in
-          let w : k ≡ m - 1 = omega arith in
-          (omega arith, omega arith, ap (overloadsAt J) (sym w) ∙ y)
-      by (inr y) rest = let r = rest (rw (y, answerFrom) at e) in (omega (arith, r .0), omega (arith, r .1), r .2)
-
-  pub never-refuses : (k d number : ℕ) → answerFrom J k d ≡ Refused number → ⊥
-  unfolding answerFrom
-  never-refuses k zero number e = let z : _≡_ {A = ℕ} 0 1 = cc in omega arith
-  never-refuses k (suc d) number e = by (bool (overloadsAt J k)) (never-refuses (suc k) d number)
-    where
-      by : (overloadsAt J k ≡ true) ⊎ (overloadsAt J k ≡ false) → (answerFrom J (suc k) d ≡ Refused number → ⊥) → ⊥
-      by (inl y) rest = let p : Yes (suc k) ≡ Refused number = rw (y, answerFrom) at e in let z : _≡_ {A = ℕ} 0 1 = cc in omega arith
-      by (inr y) rest = rest (rw (y, answerFrom) at e)
-
   pub read-few : {m : TaskMoments} → HoldsTasks J m → (k : ℕ) → answerOf J ≡ Yes k → k ≤ m .count
-  read-few h k e = omega (arith, yes-at 0 (J .count) k e .1, h .held .count)
+  read-few h k e = omega (arith, yes-at J 0 (J .count) k e .1, h .held .count)
 
   -- as the code holds it
   abbrev pub overloadable : {m : TaskMoments} → HoldsTasks J m → (k : ℕ) → answerOf J ≡ Yes k → Overloadable m k
-  overloadable h k e = record { J = J; holds = h; some = yes-at 0 (J .count) k e .0; few = read-few h k e; over = yes-at 0 (J .count) k e .2 }
+  overloadable h k e = record { J = J; holds = h; some = yes-at J 0 (J .count) k e .0; few = read-few h k e; over = yes-at J 0 (J .count) k e .2 }
 
 -- The set -----------------------------------------------------------------------------------------------------------------------
 

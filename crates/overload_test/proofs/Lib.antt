@@ -2,6 +2,7 @@ pub mod Ects
 pub mod ReadTasks
 pub mod Answers
 pub mod Fewest
+pub mod FirstOverload
 pub mod NextTask
 pub mod TooManyRanges
 pub mod OverloadNumbers

@@ -1,7 +1,7 @@
 -- The textbook's recurrence gives the ect of a set, and none exactly where the set has no task.
 use mathlib.Core.Path.{_≡_, refl, sym, ap, subst, _∙_}
 use mathlib.Core.Bool.{true, false, cond}
-use mathlib.Core.List.{[]}
+use mathlib.Core.List.{List, [], _∷_}
 use mathlib.Core.Logic.{_⊎_, inl, inr, _↔_}
 use mathlib.Core.Option.{Option, some, none}
 use Prim.Native.Nat.{ℕ, zero, suc, _+_, _≤_, _<_, max}
@@ -40,6 +40,16 @@ module _ (J : Tasks natural) where
 
   pub order-size : length (byEarliest J) ≡ J .count
   order-size = sort-length (λ j k. leb (J .earliest j) (J .earliest k)) (numbers 0 n) ∙ numbers-length 0 n
+
+  module _ (Ω : TaskSet) where
+    -- after the tasks of a list: none, or one and then the others
+    pub after-none : (o : Option ℕ) → ectAfter J Ω o [] ≡ o
+    unfolding ectAfter
+    after-none o = refl
+
+    pub after-more : (o : Option ℕ) (k : ℕ) (ks : List ℕ) → ectAfter J Ω o (k ∷ ks) ≡ ectAfter J Ω (cond (Ω k) (some (completes J o k)) o) ks
+    unfolding ectAfter
+    after-more o k ks = refl
 
   module _ (ok : Proper J) (Ω : TaskSet) where
     abbrev at : ℕ → ℕ
