@@ -233,7 +233,7 @@ fn shown(conflict: &Conflict, registers: &[Register]) -> String {
                     names(&others, registers)
                 ),
                 format!(
-                    "{name} starts at {bound} or later, behind the {} units from {} on of {}, and may not start after {latest_start}.",
+                    "{name} starts at {bound} or later, after the {} units from {} on of {}, and may not start after {latest_start}.",
                     before.p(),
                     before.est(),
                     names(before.tasks(), registers)
@@ -523,7 +523,7 @@ mod tests {
         assert_eq!(
             why,
             "there is no plan:\nMaria comes after Johannes: these 2 registers take 8 from 0 on, 2 too many to end by 6.\n\
-             Maria starts at 6 or later, behind the 5 units from 1 on of Johannes, and may not start after 5.\n\
+             Maria starts at 6 or later, after the 5 units from 1 on of Johannes, and may not start after 5.\n\
              Maria from 0 until 8 takes 3\nJohannes from 1 until 6 takes 5"
         );
         let rows = conflict_rows(&planner.conflict.unwrap(), &registers(text).unwrap());
