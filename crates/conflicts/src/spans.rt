@@ -47,7 +47,7 @@ pub fn span_of(m: TaskMoments, tasks: [bool; TASKS]) -> Span
     ensures { λ r. ⌜ ((h : HoldsSet m tasks) → r ≡ spanOf (h .J) (h .Ω)) ⌝ }
 {
     let mut span = Span {
-        est: 4294967295,
+        est: u32::MAX,
         lct: 0,
         p: 0,
     };
