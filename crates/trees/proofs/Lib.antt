@@ -5,6 +5,7 @@ pub mod GrayLeaves
 pub mod Heights
 pub mod ArrayTrees
 pub mod WhiteParts
+pub mod CarriedBars
 pub mod NodeOrder
 pub mod NodeWords
 pub mod SearchSteps

@@ -1,6 +1,7 @@
 -- The nodes without their gray tasks: where a leaf changes in its bars alone, these stay, and each is still the join of its children.
 use mathlib.Core.Path.{_≡_, refl, sym, ap, ap₂, subst, _∙_}
 use Prim.Native.Nat.{ℕ, _+_, _*_, _-_, _/_, _<_}
+use borrow.Author.Needs.{needs}
 use native.Mathlib.Omega.{arith}
 use native.Mathlib.Decide.{ℕ-discrete}
 use Rattle.trees.specs.declared.theta_lambda_node.Node.{Node}
@@ -9,9 +10,9 @@ use Rattle.trees.specs.Nodes.{joinOf, plainJoinOf}
 use Rattle.trees.specs.NodeBounds.{Fair, size}
 use Rattle.trees.specs.Arrays.{changed, TreeOf}
 use Rattle.trees.specs.Bounds.{CanPut}
-use Rattle.trees.specs.Puts.{whitePart, WhiteJoins}
+use Rattle.trees.specs.Puts.{whitePart, WhiteJoins, Liftable}
 use Rattle.trees.proofs.Joins.{additive}
-use Rattle.trees.proofs.ArrayTrees.{changed-here, changed-other, DuringUpheap, parent-inner, upheaps, puts}
+use Rattle.trees.proofs.ArrayTrees.{changed-here, changed-other, DuringUpheap, parent-inner, parent-small, fits-left, fits-right, next-is, start, end, puts}
 
 join-white : (l r : Node) → whitePart (joinOf l r) ≡ plainJoinOf (whitePart l) (whitePart r)
 unfolding joinOf plainJoinOf
@@ -33,15 +34,30 @@ pub leaf-bars : {m : ℕ} {at at′ : ℕ → Node} {place : ℕ} {n : Node} →
 leaf-bars {m} {at} {at′} {place} {n} t e same = bars-changed (m + place) n e same (record { joins = λ i q. ap whitePart (t .tree .joins i q) ∙ join-white (at (2 * i + 1)) (at (2 * i + 2)) })
 
 -- and an ancestor is calculated, which is one without the gray tasks
-module _ {m : ℕ} {at₀ at : ℕ → Node} {i : ℕ} (c : DuringUpheap additive m at₀ at i) (q : i ≡ 0 → ⊥) (w : WhiteJoins m at) {p l r : ℕ} (is-up : p ≡ (i - 1) / 2) (is-left : l ≡ 2 * p + 1)
-    (is-right : r ≡ 2 * p + 2) {x y n : Node} (ex : x ≡ at l) (ey : y ≡ at r) (en : n ≡ joinOf x y) where
-  pub white-stays : whitePart (at p) ≡ whitePart n
-  white-stays = w .joins p (parent-inner additive c q is-up) ∙ sym (join-white (at (2 * p + 1)) (at (2 * p + 2)))
-      ∙ sym (ap whitePart (en ∙ ap₂ joinOf (ex ∙ ap at is-left) (ey ∙ ap at is-right)))
+module _ {m : ℕ} {at₀ at : ℕ → Node} {i : ℕ} (c : DuringUpheap additive m at₀ at i) (q : i ≡ 0 → ⊥) where
+  pub liftable : {n : Node} → n ≡ at i → Liftable at i n
+  liftable e = record {
+    not-root = omega (arith, q);
+    small = omega (arith, parent-inner additive c q refl, c .room);
+    is = e;
+    left = fits-left additive c q refl refl refl refl;
+    right = fits-right additive c q refl refl refl refl;
+  }
 
-  pub next-white : {at′ : ℕ → Node} → at′ ≡ changed at p n → WhiteJoins m at′
-  next-white e = bars-changed p n e white-stays w
+  module _ (w : WhiteJoins m at) {p : ℕ} (is-up : p ≡ (i - 1) / 2) {n : Node} (en : n ≡ joinOf (at (2 * ((i - 1) / 2) + 1)) (at (2 * ((i - 1) / 2) + 2))) where
+    pub white-stays : whitePart (at p) ≡ whitePart n
+    white-stays = rw (is-up, en) (w .joins ((i - 1) / 2) (parent-inner additive c q refl) ∙ sym (join-white (at (2 * ((i - 1) / 2) + 1)) (at (2 * ((i - 1) / 2) + 2))))
 
-pub ruleset bar-upheaps = (upheaps, white-stays, next-white)
+    pub next-white : {at′ : ℕ → Node} → at′ ≡ changed at p n → WhiteJoins m at′
+    next-white e = bars-changed p n e white-stays w
+
+    pub next-up : {at′ : ℕ → Node} → at′ ≡ changed at p n → DuringUpheap additive m at₀ at′ p
+    next-up e = next-is additive c q is-up (omega arith) (omega arith) refl refl en e
+
+-- the ancestor is what is carried up next
+pub carried : (at : ℕ → Node) {at′ : ℕ → Node} {p : ℕ} {n : Node} → at′ ≡ changed at p n → n ≡ at′ p
+carried at {at′} {p} {n} e = sym (ap (λ (f : ℕ → Node). f p) e ∙ changed-here at p n)
+
+pub ruleset bar-upheaps = (needs, start, parent-small, liftable, white-stays, next-white, next-up, carried, end)
 
 pub ruleset bar-puts = (puts, leaf-bars)

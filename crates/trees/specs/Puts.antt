@@ -1,9 +1,9 @@
 -- What `put` and `lay` require and ensure of the words of a tree: one leaf changes, and after `put` every inner node is the join of its children again.
 use mathlib.Core.Path.{_≡_}
 use mathlib.Core.List.{List}
-use Prim.Native.Nat.{ℕ, _+_, _*_, _≤_, _<_}
+use Prim.Native.Nat.{ℕ, _+_, _*_, _-_, _/_, _≤_, _<_}
 use lib.ListN.{length}
-use Rattle.integers.specs.Limits.{INNER, THETAWORDS, TREEWORDS}
+use Rattle.integers.specs.Limits.{INNER, NODES, THETAWORDS, TREEWORDS}
 use Rattle.trees.specs.declared.theta_lambda_node.Node.{Node}
 use Rattle.trees.specs.declared.theta_node.Node as plain
 use Rattle.trees.specs.Nodes.{joinOf, plainJoinOf}
@@ -29,6 +29,14 @@ whitePart n = record { ect = n .ect; «sum_of_processing_times» = n .«sum_of_p
 -- Without their gray tasks, the first m nodes are the joins of their children.
 pub record WhiteJoins (m : ℕ) (at : ℕ → Node) : Type 0 where
   pub joins : (i : ℕ) → i < m → whitePart (at i) ≡ plainJoinOf (whitePart (at (2 * i + 1))) (whitePart (at (2 * i + 2)))
+
+-- Node i has a parent and is n, and the children of that parent fit.
+pub record Liftable (at : ℕ → Node) (i : ℕ) (n : Node) : Type 0 where
+  pub not-root : 0 < i
+  pub small : i < NODES
+  pub is : n ≡ at i
+  pub left : Fits size Fair (at (2 * ((i - 1) / 2) + 1))
+  pub right : Fits size Fair (at (2 * ((i - 1) / 2) + 2))
 
 -- n may stand as the leaf at `place`, whatever its ancestors are
 pub record Layable (inner : ℕ) (words : List ℕ) (place : ℕ) (n : Node) : Type 0 where

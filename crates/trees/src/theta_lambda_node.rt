@@ -1,7 +1,9 @@
 // The nodes of the theta-lambda tree: the values of a node, those of a parent from its children, and the step of each search for the responsible task at a
 // node.
 use integers::numbers::max;
+ghost use mathlib.Core.Bool.{cond};
 ghost use mathlib.Core.Path.{_≡_};
+ghost use Rattle.trees.specs.Puts.{whitePart};
 ghost use Rattle.trees.specs.Nodes.{emptyOf, whiteOf, grayOf, joinOf, isEmpty};
 ghost use Rattle.trees.specs.NodeBounds.{Fair, size, Fits};
 ghost use Rattle.trees.specs.Descents.{gray, tested, descentP, descentEct};
@@ -36,6 +38,16 @@ pub enum EctBarDescent {
 pub enum Around {
     Leaf(Node),
     Inner(Node, Node, Node),
+}
+
+// One of two words.
+fn pick(first: bool, a: u32, b: u32) -> u32
+    ensures { λ r. ⌜ r ≡ cond first a b ⌝ }
+{
+    if first {
+        return a;
+    }
+    b
 }
 
 impl Node {
@@ -95,6 +107,22 @@ impl Node {
             sum_of_processing_times: sum,
             ect_bar,
             sum_of_processing_times_bar: sum_bar,
+        }
+    }
+
+    // One of two nodes, whose ect and sum are those of this node. No branch depends on which, since a guess would be wrong half of the time.
+    pub fn with_bars(self, first: bool, a: Node, b: Node) -> Node
+        ensures { λ r. ⌜ (whitePart self ≡ whitePart (cond first a b) → r ≡ cond first a b) ⌝ }
+    {
+        Node {
+            ect: self.ect,
+            sum_of_processing_times: self.sum_of_processing_times,
+            ect_bar: pick(first, a.ect_bar, b.ect_bar),
+            sum_of_processing_times_bar: pick(
+                first,
+                a.sum_of_processing_times_bar,
+                b.sum_of_processing_times_bar,
+            ),
         }
     }
 

@@ -21,7 +21,7 @@ use integers::limits::NODES;
 use integers::limits::TASKS;
 use integers::limits::TREEWORDS;
 ghost use mathlib.Core.Path.{_≡_};
-ghost use Prim.Native.Nat.{ℕ, _+_, _*_, _-_, _≤_, _<_};
+ghost use Prim.Native.Nat.{ℕ, _+_, _*_, _-_, _/_, _≤_, _<_};
 ghost use lib.ListN.{length};
 ghost use Rattle.integers.specs.Limits.{INNER, NODES, TASKS, TREEWORDS};
 ghost use Rattle.trees.specs.Ects.{momentOf};
@@ -30,7 +30,7 @@ ghost use Rattle.trees.specs.NodeBounds.{Fair, size};
 ghost use Rattle.trees.specs.Arrays.{leftmost, changed, leavesOf, TreeOf};
 ghost use Rattle.trees.specs.Words.{nodeAt};
 ghost use Rattle.trees.specs.Bounds.{NeedsUpheap};
-ghost use Rattle.trees.specs.Puts.{Puttable, Put, whitePart, WhiteJoins, Layable, Laid};
+ghost use Rattle.trees.specs.Puts.{Puttable, Put, whitePart, WhiteJoins, Liftable, Layable, Laid};
 ghost use Rattle.trees.specs.Searches.{searchP, searchEct};
 ghost use Rattle.trees.specs.ArraySearches.{Searchable, aroundOf, foundAt, whiteIn, Next};
 ghost use Rattle.trees.specs.Leaves.{empty, white, gray, ect, ect-bar, sum};
@@ -359,16 +359,32 @@ impl ThetaLambdaTree {
             × (length (now (nodes .exit)) ≡ TREEWORDS) ⌝ }
     {
         let mut i = index;
+        let mut n = load(nodes, index);
         while i != 0 {
             let parent = get_parent(i);
-            let left_child_of_parent = get_left_child_index(parent);
-            let right_child_of_parent = get_right_child_index(parent);
-            let l = load(nodes, left_child_of_parent);
-            let r = load(nodes, right_child_of_parent);
-            let n = Node::join(l, r);
+            n = ThetaLambdaTree::joined_above(nodes, i, n);
             store_bars(nodes, parent, n);
             i = parent;
         }
+    }
+
+    // The parent of node i, which is n. The bars come from n and its sibling: in the array those of n were stored just now, and reading them would wait for it.
+    fn joined_above(nodes: &[u32; TREEWORDS], i: usize, n: Node) -> Node
+        requires { ⌜ Liftable (nodeAt (now nodes)) i n ⌝ }
+        ensures { λ r. ⌜ r ≡ joinOf (nodeAt (now (nodes .entry)) (2 * ((i - 1) / 2) + 1)) (nodeAt (now (nodes .entry)) (2 * ((i - 1) / 2) + 2)) ⌝ }
+    {
+        let parent = get_parent(i);
+        let left = get_left_child_index(parent);
+        let right = get_right_child_index(parent);
+        let odd = i % 2;
+        let sibling = load(nodes, i + 2 * odd - 1);
+        let l = load(nodes, left);
+        let r = load(nodes, right);
+        let is_left = odd == 1;
+        Node::join(
+            l.with_bars(is_left, n, sibling),
+            r.with_bars(is_left, sibling, n),
+        )
     }
 
     // Returns the place of the first leaf from `place` on, below `count`, whose task is in Theta, or `count` where there is none. The source collects these

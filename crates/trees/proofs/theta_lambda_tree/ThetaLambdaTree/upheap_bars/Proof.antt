@@ -1,4 +1,4 @@
--- The loop's invariant is that of `upheap`, and that without its gray tasks each node is the join of its children.
+-- The loop's invariant is that of `upheap`, that without its gray tasks each node is the join of its children, and that the node carried up is node i.
 use mathlib.Core.Path.{_≡_}
 use lib.ListN.{length}
 use Rattle.integers.specs.Limits.{TREEWORDS}
@@ -11,27 +11,25 @@ use Rattle.trees.proofs.theta_lambda_tree.ThetaLambdaTree.upheap_bars.S
 use Rattle.trees.proofs.theta_lambda_tree.ThetaLambdaTree.upheap_bars.Tie as tie
 
 abbrev Inv-loop : tie.InvT-loop
-Inv-loop nodes₀ inner index i₀ nodes i = DuringUpheap additive inner (nodeAt nodes₀) (nodeAt nodes) i × (length nodes ≡ TREEWORDS) × WhiteJoins inner (nodeAt nodes)
+Inv-loop nodes₀ inner index i₀ n₀ nodes i n =
+    DuringUpheap additive inner (nodeAt nodes₀) (nodeAt nodes) i × (length nodes ≡ TREEWORDS) × WhiteJoins inner (nodeAt nodes) × (n ≡ nodeAt nodes i)
 
 abbrev μ-loop : tie.MeasureT-loop
-μ-loop nodes₀ inner index i₀ nodes i = i
+μ-loop nodes₀ inner index i₀ n₀ nodes i n = i
 
 store-bars-requires : tie.Need-store-bars-requires Inv-loop μ-loop
 store-bars-requires c κs =
-    let right-read = c .before .before in
-    let left-read = right-read .before .before in
-    let up = left-read .before .before .before .before in
+    let joined = c .before in
+    let up = joined .before .before in
     let loop = up .before .before .loop in (
       search bar-upheaps,
       search bar-upheaps,
-      white-stays (loop .inv .0) (up .before .loop-test .taken) (loop .inv .2) (up .get-parent .ensures) (left-read .before .before .before .get-left-child-index .ensures)
-          (left-read .before .before .get-right-child-index .ensures) (left-read .load .ensures) (right-read .load2 .ensures) (c .before .join .ensures),
+      white-stays (loop .inv .0) (up .before .loop-test .taken) (loop .inv .2) (up .get-parent .ensures) (joined .joined-above .ensures),
     )
 
 pub upheap-bars-spec : {M : Type 1} → statement M
 upheap-bars-spec =
     tie.close
     (tie.spec
-    Inv-loop μ-loop (λ c. search bar-upheaps) (λ c κs. search bar-upheaps) (λ c κs. search bar-upheaps) (λ c κs. search bar-upheaps)
-    (λ c κs. search bar-upheaps) (λ c κs. search bar-upheaps) (λ c κs. search bar-upheaps) store-bars-requires
-    (λ c. search bar-upheaps) (λ c. search bar-upheaps) (λ c. search bar-upheaps))
+    Inv-loop μ-loop (λ c κs. search bar-upheaps) (λ c. search bar-upheaps) (λ c κs. search bar-upheaps) (λ c κs. search bar-upheaps)
+    store-bars-requires (λ c. search bar-upheaps) (λ c. search bar-upheaps) (λ c. search bar-upheaps))
