@@ -269,7 +269,7 @@ module _ {size : TreeSize} {first : ℕ} {past : Bool} {words : List ℕ} {es po
           let k-small : getD lctOrder (suc t) 0 < n = omega (arith, G .by-completion .task (suc t) (omega (arith, more, s .arrays .count)), s .arrays .count) in
           ap (λ (u : ℕ). getD lct (getD sortedTasks u 0) 0) one ∙ ap (λ (k : ℕ). getD lct k 0) (s .order .at (suc t) (omega arith)) ∙ s .completions .at (getD lctOrder (suc t) 0) k-small
 
-      module _ (quiet : exceeds ect c ≡ false) {needed : Bool} {words″ : List ℕ} (m : Moved inn words′ words″ mapping est durations j joined needed) {w₁ : Written} (two : w₁ ≡ counted w′ 2) where
+      module _ (quiet : exceeds ect c ≡ false) {joins : Bool} {words″ : List ℕ} (m : Moved inn words′ words″ mapping est durations j joined joins) {w₁ : Written} (two : w₁ ≡ counted w′ 2) where
         abbrev st₁ : State
         st₁ = grayed (v .st) (index estOrder (getD lctOrder t 0))
 
@@ -297,15 +297,15 @@ module _ {size : TreeSize} {first : ℕ} {past : Bool} {words : List ℕ} {es po
         inner-is z = ap (λ (f : ℕ). inner zeroAt J estOrder lctOrder f (suc t) st₁) (s .arrays .count) ∙ z
 
         -- the next level has no candidate, as the ect_bar known last is not past its lct
-        pub passed-over : needed ≡ false → last ≤ d → Level (t + 1) words″ es′ posts′ atoms′ w₁ last needed
-        passed-over not low =
+        pub passed-over : last ≤ d → Level (t + 1) words″ es′ posts′ atoms′ w₁ last joins
+        passed-over low =
             let one : suc t ≡ t + 1 = omega arith in
-            subst (λ (k : ℕ). Level k words″ es′ posts′ atoms′ w₁ last needed) one (record {
+            subst (λ (k : ℕ). Level k words″ es′ posts′ atoms′ w₁ last joins) one (record {
               st = st₁;
               small = omega arith;
               entered = follows t (v .st) st₁ (v .entered) still on-st₁;
               has = at-place (λ ls. HasLeaves J estOrder ls inn words″) (m moves .0);
-              tree = λ z. clash z not;
+              tree = λ z. at-place (λ ls. IsTree J estOrder ls inn words″) (m moves .1 z);
               slices = slices₁;
               most = omega (arith, v .most, ect-bar-no-later zeroAt J (G .proper) estOrder lctOrder (G .by-earliest) (G .by-completion) t (v .st) small-t (v .entered));
               unjoined = λ _. omega (arith, low, ends-d);
@@ -316,7 +316,7 @@ module _ {size : TreeSize} {first : ℕ} {past : Bool} {words : List ℕ} {es po
             on-st₁ = quiet-levels.passed-over zeroAt J (G .proper) estOrder lctOrder (G .by-earliest) (G .by-completion) t (v .st) small-t (v .entered) (J .count) (omega (arith, v .most, low, ends-d))
 
         -- it may have one, and the words hold the tree
-        module _ (is-needed : needed ≡ true) where
+        module _ (is-joined : joins ≡ true) where
           abbrev pub goes-on : Considerable size d words″ es′ posts′ atoms′ w₁ est lst durations reverseMapping mapping
           goes-on = record {
             J = J;
@@ -334,16 +334,16 @@ module _ {size : TreeSize} {first : ℕ} {past : Bool} {words : List ℕ} {es po
             post-room = s .post-room;
             atom-room = s .atom-room;
             reached = moved t (v .st) (v .entered) still;
-            at = record { tree = at-place (λ ls. IsTree J estOrder ls inn words″) (m moves .1 is-needed); slices = slices₁ };
+            at = record { tree = at-place (λ ls. IsTree J estOrder ls inn words″) (m moves .1 is-joined); slices = slices₁ };
           }
 
           -- the inner loop ended,
           pub one-more : {words‴ : List ℕ} {es″ posts″ atoms″ : List ℤ} {w″ : Written} {u : code.Turn} → u ≡ turn.On w″ → AllConsidered goes-on u words‴ es″ posts″ atoms″
-              → {last′ : ℕ} → Told words‴ last′ → Level (t + 1) words‴ es″ posts″ atoms″ w″ last′ needed
+              → {last′ : ℕ} → Told words‴ last′ → Level (t + 1) words‴ es″ posts″ atoms″ w″ last′ joins
           one-more {words‴} {es″} {posts″} {atoms″} {w″} is all {last′} told =
               let (st′, a, z) = rw is at all in
               let one : suc t ≡ t + 1 = omega arith in
-              subst (λ (k : ℕ). Level k words‴ es″ posts″ atoms″ w″ last′ needed) one (record {
+              subst (λ (k : ℕ). Level k words‴ es″ posts″ atoms″ w″ last′ joins) one (record {
                 st = st′;
                 small = omega arith;
                 entered = follows t (v .st) st′ (v .entered) still (inner-is z);
@@ -351,7 +351,7 @@ module _ {size : TreeSize} {first : ℕ} {past : Bool} {words : List ℕ} {es po
                 tree = λ _. a .tree;
                 slices = a .slices;
                 most = omega (arith, told inn (held (a .tree)));
-                unjoined = λ not. clash is-needed not;
+                unjoined = λ not. clash is-joined not;
                 rest = unfold-level ∙ outer-on zeroAt J estOrder lctOrder (n - 1 - suc t) t (v .st) st′ still (inner-is z);
               })
 

@@ -22,6 +22,7 @@ use trees::disjunctive_task::leaf_of;
 use trees::disjunctive_task::task_of;
 use trees::theta_lambda_tree::Responsible;
 use trees::theta_lambda_tree::ThetaLambdaTree;
+ghost use mathlib.Core.Bool.{_||_};
 ghost use mathlib.Core.Path.{_≡_};
 ghost use Prim.Native.Nat.{_≤_, _<_, ℕ, _+_, _*_, _^_};
 ghost use lib.ListN.{length};
@@ -148,8 +149,9 @@ pub fn run_accepted(
 // tasks go from there to Lambda one by one, and the tasks of Lambda are considered after each.
 //
 // A move to Lambda never raises ect_bar. So where the last known one is not past the next lct, that level has no candidate and no overload. The level is then
-// the gray leaf and its count alone, and the inner nodes are left until a level needs the root. The first known one is `ect`, that of all tasks. Where it is
-// `past` the first lct, the inner nodes are joined already.
+// the gray leaf and its count alone, and the inner nodes are left until a level needs the root. One such level after a level that needed it is joined all the
+// same: a leaf's ancestors now are fewer than all inner nodes later. The first known one is `ect`, that of all tasks. Where it is `past` the first lct, the
+// inner nodes are joined already.
 fn edge_finding<'a>(
     nodes: &mut [u32; TREEWORDS],
     earliest: &mut [i32],
@@ -179,6 +181,7 @@ fn edge_finding<'a>(
     let mut w = Written::new(n);
     let mut last_ect_bar = ect;
     let mut joined = past;
+    let mut needed = past;
     let mut index: usize = 0;
     while index + 1 < n {
         let j = sorted_tasks[index];
@@ -188,9 +191,11 @@ fn edge_finding<'a>(
         }
         index += 1;
         let lct_next = lct[sorted_tasks[index]];
-        let needed = last_ect_bar > lct_next;
-        move_to_lambda(nodes, mapping, est, durations, size, j, joined, needed);
-        joined = needed;
+        let before = needed;
+        needed = last_ect_bar > lct_next;
+        let joins = either(needed, before);
+        move_to_lambda(nodes, mapping, est, durations, size, j, joined, joins);
+        joined = joins;
         w = w.counted(2);
         if needed {
             match consider_all(
@@ -214,6 +219,13 @@ fn edge_finding<'a>(
         }
     }
     w.finished(Outcome::Done(w.posts))
+}
+
+// Whether one of two holds, with no branch.
+fn either(a: bool, b: bool) -> bool
+    ensures { λ r. ⌜ r ≡ a || b ⌝ }
+{
+    a | b
 }
 
 // Joins the inner nodes where an ect_bar is past lct, and answers whether it is.

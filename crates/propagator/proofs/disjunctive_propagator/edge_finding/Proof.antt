@@ -30,11 +30,11 @@ record Loop (size : TreeSize) (ect : ℕ) (past : Bool) (n : ℕ) (nodes₀ : Li
   atoms-length : length atoms ≡ length atoms₀
 
 abbrev Inv-loop : tie.InvT-loop
-Inv-loop nodes₀ earliest₀ posts₀ atoms₀ mapping reverseMapping sortedTasks est lst lct durations size ect past n w₀ last₀ joined₀ index₀ nodes earliest posts atoms w last joined index =
+Inv-loop nodes₀ earliest₀ posts₀ atoms₀ mapping reverseMapping sortedTasks est lst lct durations size ect past n w₀ last₀ joined₀ needed₀ index₀ nodes earliest posts atoms w last joined needed index =
     Loop size ect past n nodes₀ earliest₀ posts₀ atoms₀ est lst lct durations reverseMapping sortedTasks mapping nodes earliest posts atoms w last joined index
 
 abbrev μ-loop : tie.MeasureT-loop
-μ-loop nodes₀ earliest₀ posts₀ atoms₀ mapping reverseMapping sortedTasks est lst lct durations size ect past n w₀ last₀ joined₀ index₀ nodes earliest posts atoms w last joined index =
+μ-loop nodes₀ earliest₀ posts₀ atoms₀ mapping reverseMapping sortedTasks est lst lct durations size ect past n w₀ last₀ joined₀ needed₀ index₀ nodes earliest posts atoms w last joined needed index =
     size .leaves - index
 
 abbrev start : tie.In-loop Inv-loop μ-loop → tie.Start Inv-loop μ-loop
@@ -55,10 +55,14 @@ abbrev entered : tie.After-overloads Inv-loop μ-loop → tie.In-loop Inv-loop �
 entered c = c .before .before .before .before
 
 abbrev not-over : tie.After-move-to-lambda Inv-loop μ-loop → tie.Else1 Inv-loop μ-loop
-not-over c = c .before .before .before .before
+not-over c = c .before .before .before .before .before
 
 abbrev level-of : tie.After-move-to-lambda Inv-loop μ-loop → tie.In-loop Inv-loop μ-loop
 level-of c = entered (not-over c .before)
+
+-- where the next level needs the tree, the inner nodes were joined
+joins : (c : tie.Then2 Inv-loop μ-loop) → c .before .before .before .before .either .result ≡ true
+joins c = c .before .before .before .before .either .ensures ∙ rw (c .if2 .taken) refl
 
 -- the tree was needed, from the tasks considered; these, from the new ect_bar
 abbrev needing : tie.After-consider-all Inv-loop μ-loop → tie.Then2 Inv-loop μ-loop
@@ -118,7 +122,7 @@ mul-lct-next-2 c =
 
 move-to-lambda-requires : tie.Need-move-to-lambda-requires Inv-loop μ-loop
 move-to-lambda-requires c κs =
-    let level = entered (c .before .before .before .before) in
+    let level = entered (c .before .before .before .before .before) in
     let v = level .before .loop .inv in
     moves (v .findable) (v .level (v .findable)) (more level)
 
@@ -133,7 +137,7 @@ consider-all-requires c κs =
     let need = c .before .before .before .before in
     let move = need .before .before in
     let v = level-of move .before .loop .inv in
-    goes-on (v .findable) (v .level (v .findable)) (more (level-of move)) (quiet move (v .findable)) (move .move-to-lambda .ensures) (need .before .counted .ensures) (need .if2 .taken)
+    goes-on (v .findable) (v .level (v .findable)) (more (level-of move)) (quiet move (v .findable)) (move .move-to-lambda .ensures) (need .before .counted .ensures) (joins need)
 
 loop-less : tie.Need-loop-less Inv-loop μ-loop
 loop-less c = omega (arith, more (level-of (needing (considering (c .before .before)) .before .before)))
@@ -148,8 +152,8 @@ loop-again c =
     record {
       findable = v .findable;
       level = λ s.
-          let g = goes-on s (v .level s) (more (level-of move)) (quiet move s) (move .move-to-lambda .ensures) (need .before .counted .ensures) (need .if2 .taken) in
-          one-more s (v .level s) (more (level-of move)) (quiet move s) (move .move-to-lambda .ensures) (need .before .counted .ensures) (need .if2 .taken) (told .before .x .given .1)
+          let g = goes-on s (v .level s) (more (level-of move)) (quiet move s) (move .move-to-lambda .ensures) (need .before .counted .ensures) (joins need) in
+          one-more s (v .level s) (more (level-of move)) (quiet move s) (move .move-to-lambda .ensures) (need .before .counted .ensures) (joins need) (told .before .x .given .1)
           (considered .consider-all .ensures g) (c .ect-bar-moment .ensures);
       count = v .count;
       small = more (level-of move);
@@ -169,7 +173,7 @@ loop-again-2 c =
     record {
       findable = v .findable;
       level = λ s.
-          passed-over s (v .level s) (more (level-of move)) (quiet move s) (move .move-to-lambda .ensures) (c .before .counted .ensures) (c .if2 .left) (ltb-false _ _ (c .if2 .left));
+          passed-over s (v .level s) (more (level-of move)) (quiet move s) (move .move-to-lambda .ensures) (c .before .counted .ensures) (ltb-false _ _ (c .if2 .left));
       count = v .count;
       small = more (level-of move);
       starts-length = v .starts-length;
@@ -199,8 +203,8 @@ returns-2 c = λ s.
     let need = needing considered in
     let move = need .before .before in
     let l = head (c .before) .loop .inv .level s in
-    let g = goes-on s l (more (level-of move)) (quiet move s) (move .move-to-lambda .ensures) (need .before .counted .ensures) (need .if2 .taken) in
-    one-emptied s l (more (level-of move)) (quiet move s) (move .move-to-lambda .ensures) (need .before .counted .ensures) (need .if2 .taken) (considered .consider-all .last .0)
+    let g = goes-on s l (more (level-of move)) (quiet move s) (move .move-to-lambda .ensures) (need .before .counted .ensures) (joins need) in
+    one-emptied s l (more (level-of move)) (quiet move s) (move .move-to-lambda .ensures) (need .before .counted .ensures) (joins need) (considered .consider-all .last .0)
     (c .before .before .x2 .given .1) (considered .consider-all .ensures g) (c .finished .ensures)
 
 returns-3 : tie.Need-returns-3 Inv-loop μ-loop
@@ -213,7 +217,7 @@ edge-finding-spec =
     Inv-loop μ-loop (λ c κs. search needs) loop-holds (λ c. search needs) (λ c. search needs)
     (λ c. search needs) mul-lct-j (λ c. search (needs, sorted-task-small)) (λ c κs. search needs) overloaded-requires
     (λ c. search needs) (λ c. search needs) (λ c. search needs) returns (λ c. search needs) (λ c. search needs)
-    (λ c. search needs) mul-lct-next-2 (λ c. search (needs, sorted-task-small)) move-to-lambda-requires counted-requires
+    (λ c. search needs) mul-lct-next-2 (λ c. search (needs, sorted-task-small)) (λ c κs. search needs) move-to-lambda-requires counted-requires
     consider-all-requires (λ c. search needs) (λ c. search needs) (λ c κs. search needs) same-length-4 same-length-5
     same-length-6 returns-2 (λ c κs. search needs) loop-less loop-again loop-less-2 loop-again-2 (λ c κs. search needs)
     (λ c. search needs) (λ c. search needs) (λ c. search needs) returns-3)
