@@ -21,9 +21,11 @@ use Rattle.trees.specs.Leaves.{Leaf, white, ect}
 use Rattle.trees.specs.Trees.{IsPlainTree}
 use Rattle.trees.specs.Operations.{HasTask}
 use Rattle.trees.specs.PlainOperations.{HeldPlain, PlainNew, PlainWhitened}
-use Rattle.sorts.specs.Orders.{SortedBy, byKey}
+use Rattle.sorts.specs.Orders.{SortedBy, Ranked, byKey}
 use Rattle.integers.specs.Moments.{momentAt, completionAt}
 use Rattle.sorts.proofs.Sorted.{sorted-as}
+use Rattle.sorts.proofs.Ranks.{rank-index}
+use Rattle.integers.proofs.StableSort.{key-whole, key-chain}
 use Rattle.records.specs.declared.record.DisjunctivePropagator.{DisjunctivePropagator}
 use Rattle.records.specs.Records.{momentsIn}
 use Rattle.records.specs.Refusals.{AcceptedInput}
@@ -120,17 +122,18 @@ module _ (r : DisjunctivePropagator) (es ls : List ℤ) (a : AcceptedInput r es 
     order-is s = sorted-as s (λ j k. leb (completion M j) (completion M k)) (λ j k p q. ap₂ leb (ends j p) (ends k q))
         ∙ ap (λ (m : ℕ). sort (λ j k. leb (completion M j) (completion M k)) (numbers 0 m)) (sym (count r es ls a long))
 
-    pub tree-is : {leaves : List ℕ} {t : ThetaTree} → PlainNew (r .count) leaves t → IsPlainTree M (byEarliest M) (colours M noTask) (t .«number_of_internal_nodes») (t .nodes)
+    pub tree-is : {t : ThetaTree} → PlainNew (r .count) t → IsPlainTree M (byEarliest M) (colours M noTask) (t .«number_of_internal_nodes») (t .nodes)
     tree-is {t = t} new = subst (λ (cs : List Leaf). IsPlainTree M (byEarliest M) cs (t .«number_of_internal_nodes») (t .nodes)) (all-blank M)
         (new .empties M (byEarliest M) (count r es ls a long))
 
-    abbrev pub readable : {leaves tasks : List ℕ} {t : ThetaTree} → SortedBy (byKey est) (r .count) leaves → SortedBy (byKey lct) (r .count) tasks → PlainNew (r .count) leaves t
-        → Readable (t .«number_of_internal_nodes») (r .count) (t .nodes) (t .mapping) tasks est lct (r .durations)
-    readable {tasks = tasks} s s′ new = record {
+    abbrev pub readable : {leaves mapping tasks : List ℕ} {t : ThetaTree} → SortedBy (byKey est) (r .count) leaves × Ranked (byKey est) (r .count) mapping → SortedBy (byKey lct) (r .count) tasks
+        → PlainNew (r .count) t → Readable (t .«number_of_internal_nodes») (r .count) (t .nodes) mapping tasks est lct (r .durations)
+    readable {tasks = tasks} (s, m) s′ new = record {
       J = M;
       held = held;
       ends = ends;
       tree = tree-is new;
-      place = λ k q. new .mapping .leaf k q ∙ ap (λ (o : List ℕ). index o k) (front-is held s);
+      place = λ k q. m .at k q ∙ rank-index (byKey est) (key-whole (λ j. getD est j 0)) (key-chain (λ j. getD est j 0)) (r .count) k q
+          ∙ ap (λ (o : List ℕ). index o k) (sym (s .front) ∙ front-is held s);
       task = λ k q. sym (getD-take (r .count) tasks k 0 q) ∙ ap (λ (o : List ℕ). getD o k 0) (order-is s′);
     }

@@ -6,6 +6,7 @@ use integers::moments::moments_of;
 use records::record::DisjunctivePropagator;
 use records::refusals::input_refusal;
 use sorts::sort_numbers;
+use sorts::sort_with_ranks;
 use trees::disjunctive_task::DisjunctiveTask;
 use trees::disjunctive_task::LocalId;
 use trees::disjunctive_task::leaf_of;
@@ -72,12 +73,12 @@ fn test_accepted(record: DisjunctivePropagator, earliest: &[i32], latest: &[i32]
     let mut lct: [u32; TASKS] = [0; TASKS];
     completions(&mut lct, &lst, &durations, n);
     let mut leaves: [usize; TASKS] = [0; TASKS];
-    sort_numbers(&mut leaves, n, &est);
+    let mut mapping: [u32; TASKS] = [0; TASKS];
+    sort_with_ranks(&mut leaves, &mut mapping, n, &est);
     let mut tasks: [usize; TASKS] = [0; TASKS];
     sort_numbers(&mut tasks, n, &lct);
-    let tree = ThetaTree::new(&leaves, n);
+    let tree = ThetaTree::new(n);
     let inner = tree.number_of_internal_nodes;
-    let mapping = tree.mapping;
     let mut nodes = tree.nodes;
     read_tasks(
         &mut nodes,

@@ -1,5 +1,5 @@
 -- Both changes keep a record lawful, and what its tasks are afterwards.
-use mathlib.Core.Path.{_≡_, refl, sym, ap, subst, _∙_}
+use mathlib.Core.Path.{_≡_, refl, sym, ap, ap₂, subst, _∙_}
 use mathlib.Core.List.{List, [], _∷_, _++_}
 use Prim.Native.Nat.{ℕ, _+_, _-_, _≤_, _<_}
 use native.Mathlib.Omega.{arith}
@@ -25,56 +25,84 @@ use Rattle.task_changes.specs.declared.changes.Change.the-variants.{Made
 use Rattle.task_changes.specs.Lists.{placed, sumOf, without}
 use Rattle.task_changes.specs.Numbers.{changeNumbers}
 use Rattle.task_changes.specs.Changes.{ChangeLeft, durationsOf, added, removed, addTests, addNumber, removeTests, removeNumber, TaskAdded, TaskRemoved}
-use Rattle.task_changes.proofs.PlacedLists.{placed-front, placed-at, placed-past, last-stored}
+use Rattle.task_changes.proofs.PlacedLists.{placed-length, placed-front, placed-at, placed-past, front-placed, last-stored}
 use Rattle.task_changes.proofs.LeftOut.{without-length, without-all}
 use Rattle.task_changes.proofs.Sums.{sum-more, sum-without, sum-placed}
 
--- A record of a list of durations: lawful where they are.
-pub record Recordable (n : ℕ) (ds : List ℕ) : Type 0 where
-  pub some : 1 ≤ n
-  pub few : n ≤ TASKS
-  pub long : length ds ≡ n
-  pub lasts : (k : ℕ) → k < length ds → 1 ≤ getD ds k 0
-  pub sum : sumOf ds ≤ DURATIONS
+-- A record is that of these durations: they are in its first places, beside their sum.
+pub record Holds (r : DisjunctivePropagator) (ds : List ℕ) : Type 0 where
+  pub count : r .count ≡ length ds
+  pub array : r .durations ≡ placed ds
+  pub sum : r .total ≡ sumOf ds
+  pub few : length ds ≤ TASKS
 
-recordable-lawful : (n : ℕ) (ds : List ℕ) (stored : ℕ) → Recordable n ds → stored ≡ sumOf ds → Lawful (record { count = n; durations = placed ds; total = stored })
-recordable-lawful n ds stored l s = record {
-  some = l .some;
-  few = l .few;
-  lasts = λ k q. subst (λ (x : ℕ). 1 ≤ x) (sym (placed-at ds k (omega (arith, l .long)))) (l .lasts k (omega (arith, l .long)));
-  sum = omega (arith, same, l .sum);
-  stored = s ∙ sym same;
-  unused = λ k q h. placed-past ds k (omega (arith, l .long));
-}
-  where
-    same : total (λ k. getD (placed ds) k 0) n ≡ sumOf ds
-    same = ap (total (λ k. getD (placed ds) k 0)) (sym (l .long)) ∙ sum-placed ds
+module _ {r : DisjunctivePropagator} {ds : List ℕ} (h : Holds r ds) where
+  pub long : length (r .durations) ≡ TASKS
+  long = ap length (h .array) ∙ placed-length ds (h .few)
+
+  pub tasks : durationsOf r ≡ ds
+  tasks = ap₂ (λ (n : ℕ) (l : List ℕ). take n l) (h .count) (h .array) ∙ placed-front ds
+
+  -- it is lawful where they are
+  holds-lawful : 1 ≤ length ds → ((k : ℕ) → k < length ds → 1 ≤ getD ds k 0) → sumOf ds ≤ DURATIONS → Lawful r
+  holds-lawful some lasts fits = record {
+    some = omega (arith, h .count);
+    few = omega (arith, h .count, h .few);
+    lasts = λ k q. subst (λ (x : ℕ). 1 ≤ x) (sym (at k ∙ placed-at ds k (omega (arith, h .count)))) (lasts k (omega (arith, h .count)));
+    sum = omega (arith, same, fits);
+    stored = h .sum ∙ sym same;
+    unused = λ k q s. at k ∙ placed-past ds k (omega (arith, h .count));
+  }
+    where
+      at : (k : ℕ) → getD (r .durations) k 0 ≡ getD (placed ds) k 0
+      at k = ap (λ (l : List ℕ). getD l k 0) (h .array)
+
+      same : total (λ k. getD (r .durations) k 0) (r .count) ≡ sumOf ds
+      same = ap₂ (λ (l : List ℕ) (n : ℕ). total (λ k. getD l k 0) n) (h .array) (h .count) ∙ sum-placed ds
+
+  -- with a task more, and with one less
+  pub added-holds : (d : ℕ) → r .count < TASKS → Holds (added r d) (ds ++ (d ∷ []))
+  added-holds d room =
+      let size : length (ds ++ (d ∷ [])) ≡ r .count + 1 = omega (arith, length-append ds (d ∷ []), h .count) in
+      record {
+        count = sym size;
+        array = ap (λ (l : List ℕ). placed (l ++ (d ∷ []))) tasks;
+        sum = ap (λ (s : ℕ). s + d) (h .sum) ∙ sym (sum-more ds d);
+        few = omega (arith, size, room);
+      }
+
+  pub removed-holds : (t : ℕ) → t < r .count → Holds (removed r t) (without ds t)
+  removed-holds t there =
+      let here : getD ds t 0 ≡ getD (r .durations) t 0 = ap (λ (l : List ℕ). getD l t 0) (sym tasks) ∙ getD-take (r .count) (r .durations) t 0 there in
+      let shorter = without-length ds t (omega (arith, h .count)) in
+      record {
+        count = omega (arith, shorter, h .count);
+        array = ap (λ (l : List ℕ). placed (without l t)) tasks;
+        sum = omega (arith, h .sum, sum-without ds t (omega (arith, h .count)), here);
+        few = omega (arith, shorter, h .few);
+      }
 
 module _ (r : DisjunctivePropagator) (l : Lawful r) (long : length (r .durations) ≡ TASKS) where
-  abbrev n : ℕ
-  n = r .count
-
   abbrev ds : List ℕ
   ds = durationsOf r
 
-  pub count : length (durationsOf r) ≡ r .count
-  count = length-take-le n (r .durations) (omega (arith, l .few, long))
-
-  -- the stored total is the sum of the tasks' durations
-  pub sum : r .total ≡ sumOf (durationsOf r)
-  sum = l .stored ∙ total-ext (λ k. getD (r .durations) k 0) (λ k. getD ds k 0) n (λ k q. sym (getD-take n (r .durations) k 0 q)) ∙ ap (total (λ k. getD ds k 0)) (sym count)
+  -- a lawful record is that of its tasks' durations
+  pub own-holds : Holds r (durationsOf r)
+  own-holds = record {
+    count = sym size;
+    array = front-placed (r .count) (r .durations) long (l .few) (l .unused);
+    sum = l .stored ∙ total-ext (λ k. getD (r .durations) k 0) (λ k. getD ds k 0) (r .count) (λ k q. sym (getD-take (r .count) (r .durations) k 0 q)) ∙ ap (total (λ k. getD ds k 0)) (sym size);
+    few = omega (arith, size, l .few);
+  }
+    where
+      size : length (durationsOf r) ≡ r .count
+      size = length-take-le (r .count) (r .durations) (omega (arith, l .few, long))
 
   pub lasts : (k : ℕ) → k < length (durationsOf r) → 1 ≤ getD (durationsOf r) k 0
-  lasts k q = subst (λ (x : ℕ). 1 ≤ x) (sym (getD-take n (r .durations) k 0 (omega (arith, count)))) (l .lasts k (omega (arith, count)))
+  lasts k q = subst (λ (x : ℕ). 1 ≤ x) (sym (getD-take (r .count) (r .durations) k 0 (omega (arith, own-holds .count)))) (l .lasts k (omega (arith, own-holds .count)))
 
   pub added-lawful : (d : ℕ) → r .count < TASKS → 1 ≤ d → r .total + d ≤ DURATIONS → Lawful (added r d)
-  added-lawful d few last fits = recordable-lawful (n + 1) (ds ++ (d ∷ [])) (r .total + d) (record {
-    some = omega arith;
-    few = omega arith;
-    long = omega (arith, length-append ds (d ∷ []), count);
-    lasts = each;
-    sum = omega (arith, sum-more ds d, sum, fits);
-  }) (omega (arith, sum-more ds d, sum))
+  added-lawful d few last fits = holds-lawful (added-holds own-holds d few) (omega (arith, length-append ds (d ∷ []))) each (omega (arith, sum-more ds d, own-holds .sum, fits))
     where
       each : (k : ℕ) → k < length (ds ++ (d ∷ [])) → 1 ≤ getD (ds ++ (d ∷ [])) k 0
       each k q = elim (decLt k (length ds)) [
@@ -82,36 +110,15 @@ module _ (r : DisjunctivePropagator) (l : Lawful r) (long : length (r .durations
         | no h ↦ (let e : k ≡ length ds = omega (arith, length-append ds (d ∷ [])) in subst (λ (x : ℕ). 1 ≤ x) (sym (ap (λ (j : ℕ). getD (ds ++ (d ∷ [])) j 0) e ∙ getD-append-seam ds d [] 0)) last)
       ]
 
-  -- its tasks are those before and the new one
-  pub added-tasks : (d : ℕ) → durationsOf (added r d) ≡ durationsOf r ++ (d ∷ [])
-  added-tasks d = let e : n + 1 ≡ length (ds ++ (d ∷ [])) = omega (arith, length-append ds (d ∷ []), count) in ap (λ (k : ℕ). take k (placed (ds ++ (d ∷ [])))) e ∙ placed-front (ds ++ (d ∷ []))
-
   -- a task's duration is part of the sum
   pub part : (t : ℕ) → t < r .count → getD (r .durations) t 0 ≤ r .total
-  part t q = omega (arith, l .stored, total-part (λ k. getD (r .durations) k 0) n t q)
+  part t q = omega (arith, l .stored, total-part (λ k. getD (r .durations) k 0) (r .count) t q)
 
   pub removed-lawful : (t : ℕ) → t < r .count → 2 ≤ r .count → Lawful (removed r t)
-  removed-lawful t q many = recordable-lawful (n - 1) (without ds t) (r .total - getD (r .durations) t 0) (record {
-    some = omega (arith, many);
-    few = omega (arith, l .few);
-    long = omega (arith, shorter, count);
-    lasts = without-all (λ x. 1 ≤ x) ds t lasts;
-    sum = omega (arith, less, sum, l .sum, l .stored);
-  }) (omega (arith, less, sum, here))
-    where
-      shorter : length (without ds t) + 1 ≡ length ds
-      shorter = without-length ds t (omega (arith, count))
-
-      less : sumOf (without ds t) + getD ds t 0 ≡ sumOf ds
-      less = sum-without ds t (omega (arith, count))
-
-      here : getD ds t 0 ≡ getD (r .durations) t 0
-      here = getD-take n (r .durations) t 0 q
-
-  -- its tasks are those before without that one
-  pub removed-tasks : (t : ℕ) → t < r .count → durationsOf (removed r t) ≡ without (durationsOf r) t
-  removed-tasks t q = let e : n - 1 ≡ length (without ds t) = omega (arith, without-length ds t (omega (arith, count)), count) in ap (λ (k : ℕ). take k (placed (without ds t))) e
-      ∙ placed-front (without ds t)
+  removed-lawful t q many =
+      let there : t < length ds = omega (arith, own-holds .count) in
+      holds-lawful (removed-holds own-holds t q) (omega (arith, without-length ds t there, own-holds .count)) (without-all (λ x. 1 ≤ x) ds t lasts)
+      (omega (arith, sum-without ds t there, own-holds .sum, l .sum, l .stored))
 
 -- What holds where nothing refuses a call.
 pub record Addable (r : DisjunctivePropagator) (d : ℤ) : Type 0 where

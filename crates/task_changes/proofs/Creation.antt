@@ -23,7 +23,7 @@ use Rattle.records.proofs.Lawful.{lawful-is}
 use Rattle.task_changes.specs.Lists.{sumOf}
 use Rattle.task_changes.specs.Changes.{durationsOf, addNumber}
 use Rattle.task_changes.proofs.Sums.{sum-more, sum-given}
-use Rattle.task_changes.proofs.ChangedRecords.{count, sum, lasts}
+use Rattle.task_changes.proofs.ChangedRecords.{own-holds, lasts}
 
 -- durations of a record, and one of a caller's after them
 given-more : (l : List ℕ) (d : ℤ) → map durationOf (map pos l ++ (d ∷ [])) ≡ l ++ (durationOf d ∷ [])
@@ -39,15 +39,15 @@ module _ (r : DisjunctivePropagator) (l : Lawful r) (long : length (r .durations
   all = map pos (durationsOf r) ++ (d ∷ [])
 
   size : length all ≡ r .count + 1
-  size = omega (arith, length-append (map pos ds) (d ∷ []), length-map ds pos, count r l long)
+  size = omega (arith, length-append (map pos ds) (d ∷ []), length-map ds pos, own-holds r l long .count)
 
   last : (k : ℕ) → k ≡ r .count → getD all k (pos 0) ≡ d
-  last k e = getD-at (map pos ds) d [] (pos 0) k (length-map ds pos ∙ count r l long ∙ sym e)
+  last k e = getD-at (map pos ds) d [] (pos 0) k (length-map ds pos ∙ sym (own-holds r l long .count) ∙ sym e)
 
   before : (k : ℕ) → k < r .count → positiveAt all k ≡ true
   before k q =
-      ap (leZ (pos 1)) (List·getD-append (map pos ds) (d ∷ []) (pos 0) k (omega (arith, length-map ds pos, count r l long)) ∙ List·getD-map pos ds k 0)
-      ∙ le-leb 1 (getD ds k 0) (lasts r l long k (omega (arith, count r l long)))
+      ap (leZ (pos 1)) (List·getD-append (map pos ds) (d ∷ []) (pos 0) k (omega (arith, length-map ds pos, own-holds r l long .count)) ∙ List·getD-map pos ds k 0)
+      ∙ le-leb 1 (getD ds k 0) (lasts r l long k (omega (arith, own-holds r l long .count)))
 
   one-more : allBelow (positiveAt all) (length all) ≡ leZ (pos 1) d
   one-more = elim (bool (leZ (pos 1) d)) [
@@ -56,7 +56,7 @@ module _ (r : DisjunctivePropagator) (l : Lawful r) (long : length (r .durations
   ]
 
   sum-same : total (durationAt all) (length all) ≡ r .total + durationOf d
-  sum-same = sum-given all ∙ ap sumOf (given-more ds d) ∙ sum-more ds (durationOf d) ∙ ap (λ (s : ℕ). s + durationOf d) (sym (sum r l long))
+  sum-same = sum-given all ∙ ap sumOf (given-more ds d) ∙ sum-more ds (durationOf d) ∙ ap (λ (s : ℕ). s + durationOf d) (sym (own-holds r l long .sum))
 
   pub as-creation : addNumber r d ≡ refusal (creationTests (map pos (durationsOf r) ++ (d ∷ [])))
   as-creation =

@@ -1,10 +1,10 @@
 -- After any history the record's durations are those of the tasks that it leaves, and the stored total is their sum. A creation, an add and a removal are its steps.
-use mathlib.Core.Path.{_≡_, refl, sym, ap, ap₂, subst, _∙_}
-use mathlib.Core.List.{List, [], _∷_, _++_, map}
-use Prim.Native.Nat.{ℕ, zero, suc, _+_, _≤_, _<_}
+use mathlib.Core.Path.{_≡_, refl, sym, ap, subst, _∙_}
+use mathlib.Core.List.{List, [], _∷_, map}
+use Prim.Native.Nat.{ℕ, zero, suc, _≤_, _<_}
 use native.Mathlib.Omega.{arith}
 use lib.IntN.{ℤ, pos}
-use lib.ListN.{length, getD, take, length-map, length-append, length-replicate, List·getD-map}
+use lib.ListN.{length, getD, length-map, length-replicate, List·getD-map}
 use lib.Seq.{length-take-le, getD-take, ext-getD}
 use Rattle.integers.specs.Limits.{TASKS}
 use Rattle.integers.specs.FilledLists.{filled, noTasks}
@@ -16,26 +16,10 @@ use Rattle.records.specs.Records.{Lawful, recordOf, durationOf, durationAt, cre
 use Rattle.records.specs.declared.record.Created.{Created}
 use Rattle.records.proofs.Creation.{created-lawful, created-new, natural-accepted}
 use Rattle.task_changes.specs.declared.changes.Changed.{Changed}
-use Rattle.task_changes.specs.Lists.{placed, sumOf, without}
-use Rattle.task_changes.specs.Changes.{durationsOf, added, removed, addNumber, removeNumber, TaskAdded, TaskRemoved}
+use Rattle.task_changes.specs.Lists.{placed, sumOf}
+use Rattle.task_changes.specs.Changes.{durationsOf, addNumber, removeNumber, TaskAdded, TaskRemoved}
 use Rattle.task_changes.specs.Histories.{leaves, History, creation, adding, removing, startOf, recordAfter, durationsAfter}
-use Rattle.task_changes.proofs.PlacedLists.{placed-length, placed-front, front-placed}
-use Rattle.task_changes.proofs.LeftOut.{without-few, without-length}
-use Rattle.task_changes.proofs.Sums.{sum-more, sum-without, sum-given}
-use Rattle.task_changes.proofs.ChangedRecords.{lasts, lasting, added-lawful, removed-lawful, addable, removable}
-
--- A record is that of these durations: they are in its first places, beside their sum.
-record Holds (r : DisjunctivePropagator) (ds : List ℕ) : Type 0 where
-  count : r .count ≡ length ds
-  array : r .durations ≡ placed ds
-  sum : r .total ≡ sumOf ds
-  few : length ds ≤ TASKS
-
-long : {r : DisjunctivePropagator} {ds : List ℕ} → Holds r ds → length (r .durations) ≡ TASKS
-long {r} {ds} h = ap length (h .array) ∙ placed-length ds (h .few)
-
-tasks : {r : DisjunctivePropagator} {ds : List ℕ} → Holds r ds → durationsOf r ≡ ds
-tasks {r} {ds} h = ap₂ (λ (n : ℕ) (l : List ℕ). take n l) (h .count) (h .array) ∙ placed-front ds
+use Rattle.task_changes.proofs.ChangedRecords.{Holds, long, tasks, added-holds, removed-holds, own-holds, lasts, lasting, added-lawful, removed-lawful, addable, removable}
 
 -- a step that is made and one that is refused
 either : (P : DisjunctivePropagator → Type 0) (k : ℕ) {r r′ : DisjunctivePropagator} → (k ≡ 0 → P r′) → ((k ≡ 0 → ⊥) → P r) → P (leaves k r′ r)
@@ -51,57 +35,28 @@ created-or-not zero ds new = new refl
 created-or-not (suc k) ds new = record { count = refl; array = refl; sum = sym (total-none _); few = omega arith }
 
 new-holds : (ds : List ℤ) → refusal (creationTests ds) ≡ 0 → Holds (newRecord ds) (map durationOf ds)
-new-holds ds h = record {
-  count = sym (length-map ds durationOf);
-  array = front-placed (length ds) (filled (durationAt ds) (length ds) noTasks) long few (created-lawful ds h .unused)
-      ∙ ap placed (ext-getD 0 (take (length ds) (filled (durationAt ds) (length ds) noTasks)) (map durationOf ds) (size ∙ sym (length-map ds durationOf)) same);
-  sum = sum-given ds;
-  few = omega (arith, length-map ds durationOf, few);
-}
+new-holds ds h = subst (Holds (newRecord ds)) (ext-getD 0 (durationsOf (newRecord ds)) (map durationOf ds) (size ∙ sym (length-map ds durationOf)) same)
+    (own-holds (newRecord ds) (created-lawful ds h) full)
   where
     few : length ds ≤ TASKS
     few = created-lawful ds h .few
 
-    long : length (filled (durationAt ds) (length ds) noTasks) ≡ TASKS
-    long = filled-length (durationAt ds) (length ds) noTasks ∙ length-replicate {A = ℕ} TASKS 0
+    full : length (filled (durationAt ds) (length ds) noTasks) ≡ TASKS
+    full = filled-length (durationAt ds) (length ds) noTasks ∙ length-replicate {A = ℕ} TASKS 0
 
-    size : length (take (length ds) (filled (durationAt ds) (length ds) noTasks)) ≡ length ds
-    size = length-take-le (length ds) (filled (durationAt ds) (length ds) noTasks) (omega (arith, few, long))
+    size : length (durationsOf (newRecord ds)) ≡ length ds
+    size = length-take-le (length ds) (filled (durationAt ds) (length ds) noTasks) (omega (arith, few, full))
 
-    same : (k : ℕ) → k < length (take (length ds) (filled (durationAt ds) (length ds) noTasks))
-        → getD (take (length ds) (filled (durationAt ds) (length ds) noTasks)) k 0 ≡ getD (map durationOf ds) k 0
+    same : (k : ℕ) → k < length (durationsOf (newRecord ds)) → getD (durationsOf (newRecord ds)) k 0 ≡ getD (map durationOf ds) k 0
     same k q =
         let s : k < length ds = omega (arith, size) in
         getD-take (length ds) (filled (durationAt ds) (length ds) noTasks) k 0 s ∙ filled-at (durationAt ds) (length ds) noTasks 0 k s few ∙ sym (List·getD-map durationOf ds k (pos 0))
 
-module _ (r : DisjunctivePropagator) (ds : List ℕ) (h : Holds r ds) where
-  added-holds : (d : ℤ) → addNumber r d ≡ 0 → Holds (added r (durationOf d)) (ds ++ (durationOf d ∷ []))
-  added-holds d e =
-      let a = addable r d e in
-      let size : length (ds ++ (durationOf d ∷ [])) ≡ r .count + 1 = omega (arith, length-append ds (durationOf d ∷ []), h .count) in
-      record {
-        count = sym size;
-        array = ap (λ (l : List ℕ). placed (l ++ (durationOf d ∷ []))) (tasks h);
-        sum = ap (λ (s : ℕ). s + durationOf d) (h .sum) ∙ sym (sum-more ds (durationOf d));
-        few = omega (arith, size, a .room);
-      }
-
-  removed-holds : (t : ℕ) → removeNumber r t ≡ 0 → Holds (removed r t) (without ds t)
-  removed-holds t e =
-      let a = removable r t e in
-      let here : getD ds t 0 ≡ getD (r .durations) t 0 = ap (λ (l : List ℕ). getD l t 0) (sym (tasks h)) ∙ getD-take (r .count) (r .durations) t 0 (a .there) in
-      record {
-        count = omega (arith, without-length ds t (omega (arith, h .count, a .there)), h .count);
-        array = ap (λ (l : List ℕ). placed (without l t)) (tasks h);
-        sum = omega (arith, h .sum, sum-without ds t (omega (arith, h .count, a .there)), here);
-        few = omega (arith, without-few ds t, h .few);
-      }
-
 holds : (h : History) → Holds (recordAfter h) (durationsAfter h)
 unfolding recordAfter durationsAfter
 holds (creation ds) = created-or-not (refusal (creationTests ds)) ds (new-holds ds)
-holds (adding h d) = made-or-not (addNumber (recordAfter h) d) (added-holds (recordAfter h) (durationsAfter h) (holds h) d) (holds h)
-holds (removing h t) = made-or-not (removeNumber (recordAfter h) t) (removed-holds (recordAfter h) (durationsAfter h) (holds h) t) (holds h)
+holds (adding h d) = made-or-not (addNumber (recordAfter h) d) (λ e. added-holds (holds h) (durationOf d) (addable (recordAfter h) d e .room)) (holds h)
+holds (removing h t) = made-or-not (removeNumber (recordAfter h) t) (λ e. removed-holds (holds h) t (removable (recordAfter h) t e .there)) (holds h)
 
 -- The stored total is the sum over the tasks that the history leaves, and the record's durations are theirs.
 pub total-true : (h : History) → (recordAfter h .total ≡ sumOf (durationsAfter h)) × (durationsOf (recordAfter h) ≡ durationsAfter h)

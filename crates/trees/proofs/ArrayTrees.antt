@@ -1,4 +1,4 @@
--- Trees in an array, at any type of nodes: each node is the one over its leaves, also while the ancestors of one node are calculated anew.
+-- Trees in an array, at any type of nodes: each node is the one over its leaves, also while a loop calculates inner nodes anew.
 use mathlib.Core.Path.{_≡_, refl, sym, ap, ap₂, subst, _∙_, fun-ext}
 use Prim.Native.Nat.{ℕ, zero, suc, _+_, _*_, _-_, _/_, _≤_, _<_}
 use native.Mathlib.Omega.{arith}
@@ -13,8 +13,7 @@ use Rattle.trees.proofs.Joins.{Additive}
 use Rattle.trees.specs.Shapes.{width, nodeOver}
 use Rattle.trees.specs.Arrays.{leftmost, HasHeight, changed, leavesOf, TreeOf}
 use Rattle.trees.specs.Bounds.{Bounded, NeedsUpheap, CanPut}
-use Rattle.trees.proofs.Heights.{once, twice, leftmost-leaf, leftmost-left, leftmost-right, root-height, root-first, inner-height, left-height, right-height, one-height, Path, path-height}
-use Rattle.trees.proofs.Heights.{path-up, leaf-path}
+use Rattle.trees.proofs.Heights.{once, twice, leftmost-leaf, leftmost-left, leftmost-right, root-height, root-first, inner-height, left-height, right-height, height-of}
 
 -- one value changed
 pub changed-here : {A : Type 0} (f : ℕ → A) (i : ℕ) (v : A) → changed f i v i ≡ v
@@ -48,10 +47,6 @@ module _ {A : Type 0} (join : A → A → A) where
   unfolding nodeOver
   over-join leaf h a = refl
 
-  -- every inner node but the parent of `hole` is the join of its children
-  abbrev JoinsExcept : ℕ → (ℕ → A) → ℕ → Type 0
-  JoinsExcept m at hole = (i : ℕ) → i < m → (hole ≡ 2 * i + 1 → ⊥) → (hole ≡ 2 * i + 2 → ⊥) → at i ≡ join (at (2 * i + 1)) (at (2 * i + 2))
-
   -- `Right`, by height and node, makes a node the join of its children and holds of them too: where it holds, a node is the one over its leaves
   pub over-is : (m : ℕ) (at : ℕ → A) (Right : ℕ → ℕ → Type 0)
       → ((h i : ℕ) → HasHeight m (suc h) i → Right (suc h) i → (at i ≡ join (at (2 * i + 1)) (at (2 * i + 2))) × Right h (2 * i + 1) × Right h (2 * i + 2))
@@ -70,16 +65,6 @@ module _ {A : Type 0} (join : A → A → A) where
 
       right : leftmost h (2 * i + 2) - m ≡ (leftmost (suc h) i - m) + width h
       right = omega (arith, leftmost-right h i, s .from)
-
-  -- a node that is no higher than the hole
-  below-exception : (m : ℕ) (at : ℕ → A) (hole g : ℕ) → JoinsExcept m at hole → HasHeight m g hole
-      → (h i : ℕ) → HasHeight m h i → h ≤ g → at i ≡ nodeOver join (leavesOf m at) h (leftmost h i - m)
-  below-exception m at hole g w hs = over-is m at (λ h i. h ≤ g) (λ h i s q. (
-    w i (inner-height m h i s) (λ z. one-height m h g (2 * i + 1) (left-height m h i s) (subst (HasHeight m g) z hs) q)
-        (λ z. one-height m h g (2 * i + 2) (right-height m h i s) (subst (HasHeight m g) z hs) q),
-    omega arith,
-    omega arith,
-  ))
 
   -- every node of a tree
   pub node-is : (m : ℕ) (at : ℕ → A) → TreeOf join m (leavesOf m at) at → (h i : ℕ) → HasHeight m h i → at i ≡ nodeOver join (leavesOf m at) h (leftmost h i - m)
@@ -123,116 +108,128 @@ module _ {A : Type 0} {size : A → ℕ} {Fair : A → Type 0} {join : A → A �
   pub over-fits : (leaf : ℕ → A) → Bounded size Fair leaf → (h a : ℕ) → Fits size Fair (nodeOver join leaf h a)
   over-fits leaf b h a = record { fair = over-fair leaf b h a; small = omega (arith, over-size leaf b h a, b .small (a + width h)) }
 
-  -- upheap ---------------------------------------------------------------------------------------------------------------------
+  -- loops that calculate inner nodes --------------------------------------------------------------------------------------------
 
-  -- What holds whenever its loop is at node i: the leaves stay, and the parent of i alone is not yet right.
-  pub record DuringUpheap (m : ℕ) (at₀ at : ℕ → A) (i : ℕ) : Type 0 where
-    pub joins : JoinsExcept join m at i
+  -- What holds during such a loop: the leaves stay, and the inner nodes that are `Right` are the joins of their children.
+  pub record During (Right : ℕ → Type 0) (m : ℕ) (at₀ at : ℕ → A) : Type 0 where
+    pub joins : (i : ℕ) → i < m → Right i → at i ≡ join (at (2 * i + 1)) (at (2 * i + 2))
     pub leaves : leavesOf m at ≡ leavesOf m at₀
     pub bounded : Bounded size Fair (leavesOf m at)
     pub height : ℕ
-    pub top-height : ℕ
-    pub complete : m + 1 ≡ width top-height
-    pub path : Path top-height height i
+    pub complete : m + 1 ≡ width height
     pub room : m ≤ INNER
 
-  pub start : {m : ℕ} {at : ℕ → A} {i : ℕ} → NeedsUpheap size Fair join m at i → DuringUpheap m at at i
-  start {m} {at} {i} r =
-      let z : m + (i - m) ≡ i = omega (arith, r .from) in
-      record {
-        joins = r .joins;
-        leaves = refl;
-        bounded = r .bounded;
-        height = 0;
-        top-height = r .height;
-        complete = r .complete;
-        path = rw z at (leaf-path m (r .height) (r .complete) (i - m) (omega (arith, r .to)));
-        room = r .room;
-      }
+  -- where all are right, it is a tree
+  pub whole : {Right : ℕ → Type 0} {m : ℕ} {at₀ at : ℕ → A} → During Right m at₀ at → ((j : ℕ) → Right j) → TreeOf join m (leavesOf m at₀) at
+  whole c all = record { joins = λ i q. c .joins i q (all i); leaves = λ k. ap (λ (f : ℕ → A). f k) (c .leaves) }
 
-  pub end : {m : ℕ} {at₀ at : ℕ → A} {i : ℕ} → DuringUpheap m at₀ at i → i ≡ 0 → TreeOf join m (leavesOf m at₀) at
-  end c root = record { joins = λ i q. c .joins i q (λ z. omega arith) (λ z. omega arith); leaves = λ k. ap (λ (f : ℕ → A). f k) (c .leaves) }
+  -- A turn of the loop, at node p: the children's numbers can be added.
+  pub record Turn (m : ℕ) (at : ℕ → A) (p : ℕ) : Type 0 where
+    pub inner : p < m
+    pub room : m ≤ INNER
+    pub left : Fits size Fair (at (2 * p + 1))
+    pub right : Fits size Fair (at (2 * p + 2))
 
-  module _ {m : ℕ} {at₀ at : ℕ → A} {i : ℕ} (c : DuringUpheap m at₀ at i) (q : i ≡ 0 → ⊥) where
-    parent-height : HasHeight m (suc (c .height)) ((i - 1) / 2)
-    parent-height = path-height m (c .top-height) (c .complete) (path-up (c .top-height) (c .path) q)
+  -- all nodes after p are right
+  module _ {Right : ℕ → Type 0} {m : ℕ} {at₀ at : ℕ → A} {p : ℕ} (c : During Right m at₀ at) (inner : p < m) (after : (j : ℕ) → p < j → Right j) where
+    child-fits : (k : ℕ) → p < k → k ≤ 2 * m → Fits size Fair (at k)
+    child-fits k q r =
+        let s = height-of m (c .height) (c .complete) k k (omega arith) r in
+        rw (over-is join m at (λ h j. p < j) (λ h j s q. (c .joins j (inner-height m h j s) (after j q), omega arith, omega arith)) (s .0) k (s .1) q)
+        (over-fits (leavesOf m at) (c .bounded) (s .0) (leftmost (s .0) k - m))
 
-    up-inner : ((i - 1) / 2) < m
-    up-inner = inner-height m (c .height) ((i - 1) / 2) parent-height
+    turn-at : Turn m at p
+    turn-at = record { inner = inner; room = c .room; left = child-fits (2 * p + 1) (omega arith) (omega arith); right = child-fits (2 * p + 2) (omega arith) (omega arith) }
 
-    -- both children of the parent are right
-    child-fits : (j : ℕ) → HasHeight m (c .height) j → Fits size Fair (at j)
-    child-fits j s = rw (below-exception join m at i (c .height) (c .joins) (path-height m (c .top-height) (c .complete) (c .path)) (c .height) j s (omega arith))
-        (over-fits (leavesOf m at) (c .bounded) (c .height) (leftmost (c .height) j - m))
+    abbrev n : A
+    n = join (at (2 * p + 1)) (at (2 * p + 2))
 
-    left-fits : Fits size Fair (at (2 * ((i - 1) / 2) + 1))
-    left-fits = child-fits (2 * ((i - 1) / 2) + 1) (left-height m (c .height) ((i - 1) / 2) parent-height)
+    other : (k : ℕ) → (k ≡ p → ⊥) → changed at p n k ≡ at k
+    other = changed-other at p n
 
-    right-fits : Fits size Fair (at (2 * ((i - 1) / 2) + 2))
-    right-fits = child-fits (2 * ((i - 1) / 2) + 2) (right-height m (c .height) ((i - 1) / 2) parent-height)
-
-    kept : (k : ℕ) → (k ≡ ((i - 1) / 2) → ⊥) → (changed at ((i - 1) / 2) (join (at (2 * ((i - 1) / 2) + 1)) (at (2 * ((i - 1) / 2) + 2)))) k ≡ at k
-    kept = changed-other at ((i - 1) / 2) (join (at (2 * ((i - 1) / 2) + 1)) (at (2 * ((i - 1) / 2) + 2)))
-
-    same-leaves : leavesOf m (changed at ((i - 1) / 2) (join (at (2 * ((i - 1) / 2) + 1)) (at (2 * ((i - 1) / 2) + 2)))) ≡ leavesOf m at
-    same-leaves = changed-inner m at ((i - 1) / 2) (join (at (2 * ((i - 1) / 2) + 1)) (at (2 * ((i - 1) / 2) + 2))) up-inner
-
-    joined : (j : ℕ) → j < m → (((i - 1) / 2) ≡ 2 * j + 1 → ⊥) → (((i - 1) / 2) ≡ 2 * j + 2 → ⊥) → Dec (j ≡ ((i - 1) / 2))
-        → (changed at ((i - 1) / 2) (join (at (2 * ((i - 1) / 2) + 1)) (at (2 * ((i - 1) / 2) + 2)))) j ≡ join
-        ((changed at ((i - 1) / 2) (join (at (2 * ((i - 1) / 2) + 1)) (at (2 * ((i - 1) / 2) + 2)))) (2 * j + 1))
-        ((changed at ((i - 1) / 2) (join (at (2 * ((i - 1) / 2) + 1)) (at (2 * ((i - 1) / 2) + 2)))) (2 * j + 2))
-    joined j lt a b (yes e) =
-        subst (λ (k : ℕ). (changed at ((i - 1) / 2) (join (at (2 * ((i - 1) / 2) + 1)) (at (2 * ((i - 1) / 2) + 2)))) k ≡ join
-        ((changed at ((i - 1) / 2) (join (at (2 * ((i - 1) / 2) + 1)) (at (2 * ((i - 1) / 2) + 2)))) (2 * k + 1))
-        ((changed at ((i - 1) / 2) (join (at (2 * ((i - 1) / 2) + 1)) (at (2 * ((i - 1) / 2) + 2)))) (2 * k + 2))) (sym e)
-        (changed-here at ((i - 1) / 2) (join (at (2 * ((i - 1) / 2) + 1)) (at (2 * ((i - 1) / 2) + 2)))
-        ∙ sym (ap₂ join (kept (2 * ((i - 1) / 2) + 1) (λ z. omega arith)) (kept (2 * ((i - 1) / 2) + 2) (λ z. omega arith))))
-    joined j lt a b (no ne) =
-        kept j ne ∙ c .joins j lt (λ z. ne (omega arith)) (λ z. ne (omega arith))
-        ∙ sym (ap₂ join (kept (2 * j + 1) (λ z. a (sym z))) (kept (2 * j + 2) (λ z. b (sym z))))
-
-    -- one step up
-    step : DuringUpheap m at₀ (changed at ((i - 1) / 2) (join (at (2 * ((i - 1) / 2) + 1)) (at (2 * ((i - 1) / 2) + 2)))) ((i - 1) / 2)
-    step = record {
-      joins = λ j lt a b. joined j lt a b (ℕ-discrete j ((i - 1) / 2));
-      leaves = same-leaves ∙ c .leaves;
-      bounded = rw same-leaves (c .bounded);
-      height = suc (c .height);
-      top-height = c .top-height;
+    -- p becomes right too, and a node that was stays so unless p is its child
+    calculated : (Right′ : ℕ → Type 0) → ((j : ℕ) → Right′ j → ((j ≡ p → ⊥) → Right j) × (p ≡ 2 * j + 1 → ⊥) × (p ≡ 2 * j + 2 → ⊥)) → During Right′ m at₀ (changed at p n)
+    calculated Right′ was = record {
+      joins = λ j q r. elim (ℕ-discrete j p) [
+        | yes z ↦ rw z (changed-here at p n ∙ sym (ap₂ join (other (2 * p + 1) (λ y. omega arith)) (other (2 * p + 2) (λ y. omega arith))))
+        | no z ↦ other j z ∙ c .joins j q (was j r .0 z) ∙ sym (ap₂ join (other (2 * j + 1) (λ y. was j r .1 (sym y))) (other (2 * j + 2) (λ y. was j r .2 (sym y))))
+      ];
+      leaves = same ∙ c .leaves;
+      bounded = rw same (c .bounded);
+      height = c .height;
       complete = c .complete;
-      path = path-up (c .top-height) (c .path) q;
       room = c .room;
     }
+      where
+        same : leavesOf m (changed at p n) ≡ leavesOf m at
+        same = changed-inner m at p n inner
 
-    -- the same with the parent, its children and their join by other names
-    pub parent-inner : {p : ℕ} → p ≡ (i - 1) / 2 → p < m
-    parent-inner is-up = omega (arith, up-inner)
+  -- the turn's node and its children are nodes
+  module _ {m : ℕ} {at : ℕ → A} {p : ℕ} (t : Turn m at p) where
+    pub node-small : p < NODES
+    node-small = omega (arith, t .inner, t .room)
 
-    pub parent-small : {p : ℕ} → p ≡ (i - 1) / 2 → p < NODES
-    parent-small is-up = omega (arith, up-inner, c .room)
+    pub left-small : {l : ℕ} → l ≡ 2 * p + 1 → l < NODES
+    left-small is-left = omega (arith, t .inner, t .room)
 
-    pub left-small : {p l : ℕ} → p ≡ (i - 1) / 2 → l ≡ 2 * p + 1 → l < NODES
-    left-small is-up is-left = omega (arith, up-inner, c .room)
+    pub right-small : {r : ℕ} → r ≡ 2 * p + 2 → r < NODES
+    right-small is-right = omega (arith, t .inner, t .room)
 
-    pub right-small : {p r : ℕ} → p ≡ (i - 1) / 2 → r ≡ 2 * p + 2 → r < NODES
-    right-small is-up is-right = omega (arith, up-inner, c .room)
+  -- what is written is the join of the children
+  pub join-is : (at : ℕ → A) (p : ℕ) {l r : ℕ} {x y n : A} → l ≡ 2 * p + 1 → r ≡ 2 * p + 2 → x ≡ at l → y ≡ at r → n ≡ join x y → n ≡ join (at (2 * p + 1)) (at (2 * p + 2))
+  join-is at p is-left is-right ex ey en = en ∙ ap₂ join (ex ∙ ap at is-left) (ey ∙ ap at is-right)
 
-    module _ {p l r : ℕ} (is-up : p ≡ (i - 1) / 2) (is-left : l ≡ 2 * p + 1) (is-right : r ≡ 2 * p + 2) where
-      left-is : l ≡ 2 * ((i - 1) / 2) + 1
-      left-is = omega arith
+  -- Upheap is at node i, whose parent alone is not yet right.
+  pub record DuringUpheap (m : ℕ) (at₀ at : ℕ → A) (i : ℕ) : Type 0 where
+    pub during : During (λ j. (i ≡ 2 * j + 1 → ⊥) × (i ≡ 2 * j + 2 → ⊥)) m at₀ at
+    pub inside : i ≤ 2 * m
 
-      right-is : r ≡ 2 * ((i - 1) / 2) + 2
-      right-is = omega arith
+  pub start : {m : ℕ} {at : ℕ → A} {i : ℕ} → NeedsUpheap size Fair join m at i → DuringUpheap m at at i
+  start r = record {
+    during = record { joins = λ j q s. r .joins j q (s .0) (s .1); leaves = refl; bounded = r .bounded; height = r .height; complete = r .complete; room = r .room };
+    inside = r .to;
+  }
 
-      pub fits-left : {x : A} → x ≡ at l → Fits size Fair x
-      fits-left e = rw (e ∙ ap at left-is) left-fits
+  pub end : {m : ℕ} {at₀ at : ℕ → A} {i : ℕ} → DuringUpheap m at₀ at i → i ≡ 0 → TreeOf join m (leavesOf m at₀) at
+  end c root = whole (c .during) (λ j. (λ z. omega arith, λ z. omega arith))
 
-      pub fits-right : {y : A} → y ≡ at r → Fits size Fair y
-      fits-right e = rw (e ∙ ap at right-is) right-fits
+  module _ {m : ℕ} {at₀ at : ℕ → A} {i : ℕ} (c : DuringUpheap m at₀ at i) (q : i ≡ 0 → ⊥) {p : ℕ} (is-up : p ≡ (i - 1) / 2) where
+    pub upheap-turn : Turn m at p
+    upheap-turn = turn-at (c .during) (omega (arith, c .inside)) (λ j r. (λ z. omega arith, λ z. omega arith))
 
-      pub next-is : {x y n : A} → x ≡ at l → y ≡ at r → n ≡ join x y → {at′ : ℕ → A} → at′ ≡ changed at p n → DuringUpheap m at₀ at′ p
-      next-is ex ey en e =
-          rw (e ∙ ap₂ (changed at) is-up (en ∙ ap₂ join (ex ∙ ap at left-is) (ey ∙ ap at right-is)), is-up) step
+    pub upheap-left : {l : ℕ} {x : A} → l ≡ 2 * p + 1 → x ≡ at l → Fits size Fair x
+    upheap-left is-left e = rw (e ∙ ap at is-left) (upheap-turn .left)
+
+    pub upheap-right : {r : ℕ} {y : A} → r ≡ 2 * p + 2 → y ≡ at r → Fits size Fair y
+    upheap-right is-right e = rw (e ∙ ap at is-right) (upheap-turn .right)
+
+    pub next-is : {l r : ℕ} {x y n : A} → l ≡ 2 * p + 1 → r ≡ 2 * p + 2 → x ≡ at l → y ≡ at r → n ≡ join x y → {at′ : ℕ → A} → at′ ≡ changed at p n → DuringUpheap m at₀ at′ p
+    next-is is-left is-right ex ey en e = rw (e ∙ ap (changed at p) (join-is at p is-left is-right ex ey en)) (record {
+      during = calculated (c .during) (omega (arith, c .inside)) (λ j r. (λ z. omega arith, λ z. omega arith))
+          (λ j. (p ≡ 2 * j + 1 → ⊥) × (p ≡ 2 * j + 2 → ⊥)) (λ j s. (λ ne. (λ z. ne (omega arith), λ z. ne (omega arith)), s .0, s .1));
+      inside = omega (arith, c .inside);
+    })
+
+  -- A rebuild is at node i, from which on all are right.
+  pub record DuringRebuild (m : ℕ) (at₀ at : ℕ → A) (i : ℕ) : Type 0 where
+    pub during : During (λ j. i ≤ j) m at₀ at
+    pub inside : i ≤ m
+
+  module _ {m : ℕ} {at₀ at : ℕ → A} {i : ℕ} (c : DuringRebuild m at₀ at i) (q : i ≡ 0 → ⊥) where
+    pub rebuild-turn : Turn m at (i - 1)
+    rebuild-turn = turn-at (c .during) (omega (arith, c .inside)) (λ j r. omega arith)
+
+    pub rebuild-left : {l : ℕ} {x : A} → l ≡ 2 * (i - 1) + 1 → x ≡ at l → Fits size Fair x
+    rebuild-left is-left e = rw (e ∙ ap at is-left) (rebuild-turn .left)
+
+    pub rebuild-right : {r : ℕ} {y : A} → r ≡ 2 * (i - 1) + 2 → y ≡ at r → Fits size Fair y
+    rebuild-right is-right e = rw (e ∙ ap at is-right) (rebuild-turn .right)
+
+    pub goes-on : {l r : ℕ} {x y n : A} → l ≡ 2 * (i - 1) + 1 → r ≡ 2 * (i - 1) + 2 → x ≡ at l → y ≡ at r → n ≡ join x y → {at′ : ℕ → A} → at′ ≡ changed at (i - 1) n → DuringRebuild m at₀ at′ (i - 1)
+    goes-on is-left is-right ex ey en e = rw (e ∙ ap (changed at (i - 1)) (join-is at (i - 1) is-left is-right ex ey en)) (record {
+      during = calculated (c .during) (omega (arith, c .inside)) (λ j r. omega arith) (λ j. i - 1 ≤ j) (λ j s. (λ ne. omega arith, λ z. omega arith, λ z. omega arith));
+      inside = omega (arith, c .inside);
+    })
 
   -- the leaf put fits
   pub put-fits : {m : ℕ} {at : ℕ → A} {place : ℕ} {n : A} → CanPut size Fair join m at place n → Fits size Fair n
@@ -254,6 +251,8 @@ needs-upheap {join = join} {m} {at} {at′} {place} {n} t e = rw e (record {
 })
 
 -- what is left to show, at any type of nodes, where a loop calculates the ancestors, and where a leaf is put
-pub ruleset upheaps = (needs, start, parent-small, left-small, right-small, fits-left, fits-right, next-is, end)
+pub ruleset upheaps = (needs, start, upheap-turn, node-small, left-small, right-small, upheap-left, upheap-right, next-is, end)
+
+pub ruleset rebuilds = (needs, rebuild-turn, node-small, left-small, right-small, rebuild-left, rebuild-right, goes-on)
 
 pub ruleset puts = (needs, needs-upheap, put-tree)

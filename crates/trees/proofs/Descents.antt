@@ -1,7 +1,7 @@
--- What the choice of a child says: which test held, or that none did.
+-- The two searches as one: the step of each at a node, and what the choice of a child says, which test held or that none did.
 use mathlib.Core.Path.{_≡_, refl, sym, _∙_}
 use mathlib.Core.Bool.{Bool, true, false, _&&_, not}
-use mathlib.Core.Logic.{_⊎_, inl, inr}
+use mathlib.Core.Logic.{inl, inr}
 use Prim.Native.Nat.{ℕ, _+_}
 use native.Mathlib.Omega.{arith}
 use lib.Dec.{eqb}
@@ -14,26 +14,43 @@ use Rattle.trees.specs.declared.theta_lambda_node.EctBarDescent.the-vari
 use Rattle.trees.specs.declared.theta_lambda_node.EctBarDescent.{EctBarDescent}
 use Rattle.trees.specs.Nodes.{isEmpty}
 use Rattle.trees.specs.NodeBounds.{Fair}
-use Rattle.trees.specs.Descents.{tested, descentP, descentEct}
+use Rattle.trees.specs.declared.theta_lambda_node.Around.{Around}
+use Rattle.trees.specs.declared.theta_lambda_node.Around.the-variants as around
+use Rattle.trees.specs.Descents.{gray, tested, descentP, descentEct}
+use Rattle.trees.specs.SearchSteps.{stepAtP, stepAtEct}
 
--- the steps of the search by sums, numbered: those down, the end at a leaf, none
-unfoldable pub tagP : PDescent → ℕ
-tagP Left = 0
-tagP Right = 1
-tagP Here = 2
-tagP Nothing = 3
+-- The two searches: by sums, and by ects.
+pub data By : Type 0 where
+  sums : By
+  ects : By
 
--- and of the search by ects
-unfoldable pub tagEct : EctBarDescent → ℕ
-tagEct bar.Right = 0
-tagEct bar.RightP = 1
-tagEct bar.Left = 2
-tagEct bar.Here = 3
-tagEct bar.Nothing = 4
+-- the bar that a search follows, and the value without a gray task
+abbrev pub barOf : By → Node → ℕ
+barOf sums n = n .«sum_of_processing_times_bar»
+barOf ects n = n .«ect_bar»
 
--- a test that failed: the child has no task, or the value is another
+abbrev pub plainOf : By → Node → ℕ
+plainOf sums n = n .«sum_of_processing_times»
+plainOf ects n = n .ect
+
+-- a step by sums as one of the search by ects, which goes right by sums too
+abbrev pub asEct : PDescent → EctBarDescent
+asEct Left = bar.Left
+asEct Right = bar.RightP
+asEct Here = bar.Here
+asEct Nothing = bar.Nothing
+
+abbrev pub stepAt : By → Around → EctBarDescent
+stepAt sums x = asEct (stepAtP x)
+stepAt ects x = stepAtEct x
+
+pub leaf-step : (by : By) (n : Node) → stepAt by (around.Leaf n) ≡ elim (gray n) [ true ↦ bar.Here | false ↦ bar.Nothing ]
+leaf-step sums n = elim (gray n) as (λ b. asEct (elim b [ true ↦ Here | false ↦ Nothing ]) ≡ elim b [ true ↦ bar.Here | false ↦ bar.Nothing ]) [ true ↦ refl | false ↦ refl ]
+leaf-step ects n = refl
+
+-- a test that failed: where the value is this one, the child has no task
 abbrev pub TestFailed : Node → ℕ → ℕ → Type 0
-TestFailed child value this = ((child .«ect_bar» ≡ 0) × (child .«sum_of_processing_times_bar» ≡ 0)) ⊎ (value ≡ this → ⊥)
+TestFailed child value this = value ≡ this → (child .«ect_bar» ≡ 0) × (child .«sum_of_processing_times_bar» ≡ 0)
 
 not-not : (b : Bool) → not b ≡ false → b ≡ true
 not-not true h = refl
@@ -67,77 +84,39 @@ bar-empty n f = elim (bool (eqb (n .«sum_of_processing_times_bar») 0)) [
 
 tested-no : (child : Node) (value this : ℕ) → tested child value this ≡ false → TestFailed child value this
 unfolding tested
-tested-no child value this t = elim (and-false (not (isEmpty child)) (eqb value this) t)
-    [ inl u ↦ inl (empty-bars child (not-not (isEmpty child) u)) | inr u ↦ inr (eqb-false value this u) ]
+tested-no child value this t e = elim (and-false (not (isEmpty child)) (eqb value this) t)
+    [ inl u ↦ empty-bars child (not-not (isEmpty child) u) | inr u ↦ absurd (eqb-false value this u e) ]
 
 module _ (n l r : Node) where
-  -- the values that the tests compare with
-  abbrev in-left-p : ℕ
-  in-left-p = l .«sum_of_processing_times_bar» + r .«sum_of_processing_times»
+  -- the values of a bar that has its gray task on the left, and on the right in the sum
+  abbrev pub in-left : By → ℕ
+  in-left by = barOf by l + r .«sum_of_processing_times»
 
-  abbrev in-right-p : ℕ
-  in-right-p = l .«sum_of_processing_times» + r .«sum_of_processing_times_bar»
+  abbrev pub in-right : By → ℕ
+  in-right by = plainOf by l + r .«sum_of_processing_times_bar»
 
-  abbrev in-middle : ℕ
-  in-middle = l .ect + r .«sum_of_processing_times_bar»
+  -- what a step says: the value that the bar is, or that it is none of them
+  abbrev pub Fact : EctBarDescent → By → Type 0
+  Fact bar.Left by = barOf by n ≡ in-left by
+  Fact bar.RightP by = barOf by n ≡ in-right by
+  Fact bar.Right sums = ⊥
+  Fact bar.Right ects = n .«ect_bar» ≡ r .«ect_bar»
+  Fact bar.Here by = ⊥
+  Fact bar.Nothing sums = TestFailed l (barOf sums n) (in-left sums) × TestFailed r (barOf sums n) (in-right sums)
+  Fact bar.Nothing ects = TestFailed r (n .«ect_bar») (r .«ect_bar») × TestFailed r (barOf ects n) (in-right ects) × TestFailed l (barOf ects n) (in-left ects)
 
-  abbrev in-left-ect : ℕ
-  in-left-ect = l .«ect_bar» + r .«sum_of_processing_times»
-
-  abbrev pub FactP : PDescent → Type 0
-  FactP Left = n .«sum_of_processing_times_bar» ≡ l .«sum_of_processing_times_bar» + r .«sum_of_processing_times»
-  FactP Right = n .«sum_of_processing_times_bar» ≡ l .«sum_of_processing_times» + r .«sum_of_processing_times_bar»
-  FactP Here = ⊥
-  FactP Nothing = TestFailed l (n .«sum_of_processing_times_bar») in-left-p × TestFailed r (n .«sum_of_processing_times_bar») in-right-p
-
-  abbrev pub FactEct : EctBarDescent → Type 0
-  FactEct bar.Right = n .«ect_bar» ≡ r .«ect_bar»
-  FactEct bar.RightP = n .«ect_bar» ≡ l .ect + r .«sum_of_processing_times_bar»
-  FactEct bar.Left = n .«ect_bar» ≡ l .«ect_bar» + r .«sum_of_processing_times»
-  FactEct bar.Here = ⊥
-  FactEct bar.Nothing = TestFailed r (n .«ect_bar») (r .«ect_bar») × TestFailed r (n .«ect_bar») in-middle × TestFailed l (n .«ect_bar») in-left-ect
-
-  pub fact-p : FactP (descentP n l r)
-  unfolding descentP
-  fact-p = elim (bool (tested l (n .«sum_of_processing_times_bar») in-left-p)) [
+  pub fact : (by : By) → Fact (stepAt by (around.Inner n l r)) by
+  unfolding descentP descentEct
+  fact sums = elim (bool (tested l (barOf sums n) (in-left sums))) [
     | inl t ↦ rw (t, descentP) (tested-yes l _ _ t)
-    | inr t ↦ elim (bool (tested r (n .«sum_of_processing_times_bar») in-right-p)) [
-      | inl u ↦ rw (t, u, descentP) (tested-yes r _ _ u)
-      | inr u ↦ rw (t, u, descentP) (tested-no l _ _ t, tested-no r _ _ u)
-    ]
+    | inr t ↦ elim (bool (tested r (barOf sums n) (in-right sums)))
+        [ inl u ↦ rw (t, u, descentP) (tested-yes r _ _ u) | inr u ↦ rw (t, u, descentP) (tested-no l _ _ t, tested-no r _ _ u) ]
   ]
-
-  pub fact-ect : FactEct (descentEct n l r)
-  unfolding descentEct
-  fact-ect = elim (bool (tested r (n .«ect_bar») (r .«ect_bar»))) [
+  fact ects = elim (bool (tested r (n .«ect_bar») (r .«ect_bar»))) [
     | inl t ↦ rw (t, descentEct) (tested-yes r _ _ t)
-    | inr t ↦ elim (bool (tested r (n .«ect_bar») in-middle)) [
+    | inr t ↦ elim (bool (tested r (barOf ects n) (in-right ects))) [
       | inl u ↦ rw (t, u, descentEct) (tested-yes r _ _ u)
-      | inr u ↦ elim (bool (tested l (n .«ect_bar») in-left-ect)) [
-        | inl v ↦ rw (t, u, v, descentEct) (tested-yes l _ _ v)
-        | inr v ↦ rw (t, u, v, descentEct) (tested-no r _ _ t, tested-no r _ _ u, tested-no l _ _ v)
-      ]
+      | inr u ↦ elim (bool (tested l (barOf ects n) (in-left ects)))
+          [ inl v ↦ rw (t, u, v, descentEct) (tested-yes l _ _ v) | inr v ↦ rw (t, u, v, descentEct) (tested-no r _ _ t, tested-no r _ _ u, tested-no l _ _ v) ]
     ]
   ]
-
-  -- an inner node is no end
-  not-here-p : (d : PDescent) → FactP d → tagP d ≡ 2 → ⊥
-  unfolding tagP
-  not-here-p Left s q = omega arith
-  not-here-p Right s q = omega arith
-  not-here-p Here s q = s
-  not-here-p Nothing s q = omega arith
-
-  not-here-ect : (d : EctBarDescent) → FactEct d → tagEct d ≡ 3 → ⊥
-  unfolding tagEct
-  not-here-ect bar.Right s q = omega arith
-  not-here-ect bar.RightP s q = omega arith
-  not-here-ect bar.Left s q = omega arith
-  not-here-ect bar.Here s q = s
-  not-here-ect bar.Nothing s q = omega arith
-
-  pub never-here-p : tagP (descentP n l r) ≡ 2 → ⊥
-  never-here-p = not-here-p (descentP n l r) fact-p
-
-  pub never-here-ect : tagEct (descentEct n l r) ≡ 3 → ⊥
-  never-here-ect = not-here-ect (descentEct n l r) fact-ect

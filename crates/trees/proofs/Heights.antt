@@ -1,6 +1,6 @@
 -- Heights and positions in a complete binary tree.
 use mathlib.Core.Path.{_≡_, refl, sym, ap, _∙_}
-use mathlib.Core.Logic.{inl, inr}
+use mathlib.Core.Logic.{_⊎_, inl, inr}
 use Prim.Native.Nat.{ℕ, zero, suc, _+_, _*_, _-_, _/_, _≤_, _<_}
 use native.Mathlib.Omega.{arith}
 use native.Mathlib.Numerals.{add-one}
@@ -106,11 +106,6 @@ leftmost-double : (h i : ℕ) → leftmost (suc h) i ≡ 2 * leftmost h i + 1
 leftmost-double zero i = omega (arith, leftmost-left 0 i, leftmost-leaf i, leftmost-leaf (2 * i + 1))
 leftmost-double (suc h) i = omega (arith, leftmost-left (suc h) i, leftmost-left h i, leftmost-double h (2 * i + 1))
 
-leftmost-up : (h k i : ℕ) → h ≤ k → leftmost h i ≤ leftmost k i
-leftmost-up h zero i q = let z : h ≡ 0 = omega arith in rw z (omega arith)
-leftmost-up h (suc k) i q = elim (ℕ-discrete h (suc k))
-    [ yes z ↦ rw z (omega arith) | no z ↦ omega (arith, leftmost-double k i, leftmost-up h k i (omega arith)) ]
-
 -- the root
 leftmost-root : (h : ℕ) → leftmost h 0 + 1 ≡ width h
 leftmost-root zero = omega (arith, leftmost-leaf 0, once)
@@ -146,35 +141,19 @@ pub height-inside : (m h i : ℕ) → HasHeight m h i → i ≤ 2 * m
 height-inside m zero i s = omega (arith, s .to, leftmost-leaf i, once)
 height-inside m (suc h) i s = omega (arith, inner-height m h i s)
 
--- a node has one height
-pub one-height : (m h k i : ℕ) → HasHeight m h i → HasHeight m k i → h < k → ⊥
-one-height m h zero i s t q = omega arith
-one-height m h (suc k) i s t q = omega (arith, s .from, t .to, width-some (suc k), leftmost-double k i, leftmost-up h k i (omega arith))
+-- every node of a tree has a height: that of its parent, less one
+below : (m p i : ℕ) → p < m → (i ≡ 2 * p + 1) ⊎ (i ≡ 2 * p + 2) → (h : ℕ) × HasHeight m h p → (h : ℕ) × HasHeight m h i
+below m p i q side (zero, s) = absurd (omega (arith, leaf-at m p s))
+below m p i q (inl z) (suc h, s) = (h, rw z (left-height m h p s))
+below m p i q (inr z) (suc h, s) = (h, rw z (right-height m h p s))
 
--- the way down from the root of a tree of height H to node i, of height h
-pub data Path (H : ℕ) : ℕ → ℕ → Type 0 where
-  top : Path H H 0
-  left : {h i : ℕ} → Path H (suc h) i → (j : ℕ) → j ≡ 2 * i + 1 → Path H h j
-  right : {h i : ℕ} → Path H (suc h) i → (j : ℕ) → j ≡ 2 * i + 2 → Path H h j
+side : (i : ℕ) → (i ≡ 0 → ⊥) → (i ≡ 2 * ((i - 1) / 2) + 1) ⊎ (i ≡ 2 * ((i - 1) / 2) + 2)
+side i q = elim (ℕ-discrete i (2 * ((i - 1) / 2) + 1)) [ yes z ↦ inl z | no z ↦ inr (omega arith) ]
 
-pub path-height : (m H : ℕ) → m + 1 ≡ width H → {h i : ℕ} → Path H h i → HasHeight m h i
-path-height m H e top = root-height m H e
-path-height m H e (left {h} {i} p j z) = rw z (left-height m h i (path-height m H e p))
-path-height m H e (right {h} {i} p j z) = rw z (right-height m h i (path-height m H e p))
-
--- up to the parent
-pub path-up : (H : ℕ) {h i : ℕ} → Path H h i → (i ≡ 0 → ⊥) → Path H (suc h) ((i - 1) / 2)
-path-up H top q = absurd (q refl)
-path-up H (left {h} {i} p j z) q = let w : (j - 1) / 2 ≡ i = omega arith in rw w p
-path-up H (right {h} {i} p j z) q = let w : (j - 1) / 2 ≡ i = omega arith in rw w p
-
--- down to a leaf
-path-down : (H h i : ℕ) → Path H h i → (k : ℕ) → leftmost h i ≤ k → k < leftmost h i + width h → Path H 0 k
-path-down H zero i p k lo hi = let z : i ≡ k = omega (arith, leftmost-leaf i, once) in rw z at p
-path-down H (suc h) i p k lo hi = elim (decLt k (leftmost (suc h) i + width h)) [
-  | yes q ↦ path-down H h (2 * i + 1) (left p (2 * i + 1) refl) k (omega (arith, leftmost-left h i)) (omega (arith, leftmost-left h i))
-  | no q ↦ path-down H h (2 * i + 2) (right p (2 * i + 2) refl) k (omega (arith, leftmost-right h i)) (omega (arith, leftmost-right h i, twice h))
+-- by f steps down from the root at most
+pub height-of : (m H : ℕ) → m + 1 ≡ width H → (f i : ℕ) → i ≤ f → i ≤ 2 * m → (h : ℕ) × HasHeight m h i
+height-of m H e zero i q r = let z : i ≡ 0 = omega arith in rw z (H, root-height m H e)
+height-of m H e (suc f) i q r = elim (ℕ-discrete i 0) [
+  | yes z ↦ rw z (H, root-height m H e)
+  | no z ↦ below m ((i - 1) / 2) i (omega arith) (side i z) (height-of m H e f ((i - 1) / 2) (omega arith) (omega arith))
 ]
-
-pub leaf-path : (m H : ℕ) → m + 1 ≡ width H → (k : ℕ) → k ≤ m → Path H 0 (m + k)
-leaf-path m H e k q = path-down H H 0 top (m + k) (omega (arith, leftmost-root H)) (omega (arith, leftmost-root H))

@@ -1,6 +1,6 @@
 -- Leaves by their colours: which of them the code takes for white, their bounds, and one of them changed.
-use mathlib.Core.Path.{_≡_, refl, ap, ap₂}
-use mathlib.Core.Bool.{Bool, true, false, not}
+use mathlib.Core.Path.{_≡_, refl, ap, ap₂, fun-ext}
+use mathlib.Core.Bool.{true, not}
 use mathlib.Core.List.{List}
 use Prim.Native.Nat.{ℕ, zero, suc, _+_, _≤_, _<_}
 use native.Mathlib.Omega.{arith}
@@ -11,13 +11,13 @@ use lib.Seq.{getD-set-same, getD-set-other}
 use borrow.Author.Tests.{ne-eqb}
 use Rattle.integers.proofs.Bools.{clash}
 use Rattle.scheduling.specs.Scheduling.{natural, Tasks, total}
-use Rattle.scheduling.proofs.Sets.{total-none, total-up, total-suc}
+use Rattle.scheduling.proofs.Sets.{total-none, total-mono, total-up, total-suc}
 use Rattle.trees.specs.Nodes.{emptyOf}
 use Rattle.trees.specs.NodeBounds.{LATEST, Fair, size, PlainFair, plainSize}
 use Rattle.trees.specs.Arrays.{changed}
 use Rattle.trees.specs.Bounds.{Bounded}
 use Rattle.trees.specs.Leaves as leaves
-use Rattle.trees.specs.Leaves.{Leaf, inTheta, inLambda, leafNode, startAt, durationAt, whiteAt}
+use Rattle.trees.specs.Leaves.{Leaf, inTheta, inLambda, leafNode, startAt, durationAt}
 use Rattle.trees.specs.Trees.{plainLeaf, plainLeaves, Limited}
 use Rattle.trees.specs.Operations.{HasTask}
 use Rattle.trees.specs.Puts.{whitePart}
@@ -50,13 +50,11 @@ leaf-size leaves.empty e p = omega arith
 leaf-size leaves.white e p = omega arith
 leaf-size leaves.gray e p = omega arith
 
-plain-fair : (b : Bool) (e p : ℕ) → e ≤ LATEST → PlainFair (plainLeaf b e p)
-plain-fair false e p q = record { ect = omega arith }
-plain-fair true e p q = record { ect = omega arith }
-
-plain-size : (b : Bool) (e p : ℕ) → plainSize (plainLeaf b e p) ≤ p
-plain-size false e p = omega arith
-plain-size true e p = omega arith
+-- without their gray tasks, they are the leaves of the theta tree
+pub plain-leaf : (c : Leaf) (e p : ℕ) → plainLeaf (inTheta c) e p ≡ whitePart (leafNode c e p)
+plain-leaf leaves.empty e p = refl
+plain-leaf leaves.white e p = refl
+plain-leaf leaves.gray e p = refl
 
 -- a sum of which only the terms below n count, each at most that of another
 total-under : (f h : ℕ → ℕ) (n : ℕ) → ((k : ℕ) → f k ≤ h k) → ((k : ℕ) → n ≤ k → f k ≡ 0) → (d : ℕ) → (total f d ≤ total h n) × (d ≤ n → total f d ≤ total h d)
@@ -96,20 +94,14 @@ module _ (J : Tasks natural) (estOrder : List ℕ) where
       );
     }
 
+    pub plain-leaves : plainLeaves J estOrder ls ≡ (λ (k : ℕ). whitePart (leaves.leaves J estOrder ls k))
+    plain-leaves = fun-ext (λ k. plain-leaf (getD ls k leaves.empty) (startAt J estOrder k) (durationAt J estOrder k))
+
     pub plain-bounded : Bounded plainSize PlainFair (plainLeaves J estOrder ls)
-    plain-bounded = record {
-      fair = λ k. elim (decLt k (J .count)) [
-        | yes q ↦ plain-fair (whiteAt ls k) (startAt J estOrder k) (durationAt J estOrder k) (lim .starts k q)
-        | no q ↦ rw (past-empty ls z k (omega arith))
-            (plain-fair false 0 0 (omega arith))
-      ];
-      small = λ n. omega (
-        arith,
-        lim .durations,
-        (total-under (λ k. plainSize (plainLeaves J estOrder ls k)) (durationAt J estOrder) (J .count) (λ k. plain-size (whiteAt ls k) (startAt J estOrder k) (durationAt J estOrder k))
-            (λ k q. ap (λ (c : Leaf). plainSize (plainLeaf (inTheta c) (startAt J estOrder k) (durationAt J estOrder k))) (past-empty ls z k q)) n) .0,
-      );
-    }
+    plain-bounded = rw plain-leaves (record {
+      fair = λ k. record { ect = bounded .fair k .ect };
+      small = λ n. omega (arith, bounded .small n, total-mono (λ k. plainSize (whitePart (leaves.leaves J estOrder ls k))) (λ k. size (leaves.leaves J estOrder ls k)) n (λ k q. bounded .fair k .sum));
+    })
 
 -- one leaf changed
 module _ (ls : List Leaf) (k : ℕ) (q : k < length ls) (c : Leaf) where

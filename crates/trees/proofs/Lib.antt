@@ -9,7 +9,6 @@ pub mod CarriedBars
 pub mod NodeOrder
 pub mod NodeWords
 pub mod SearchSteps
-pub mod Places
 pub mod WhiteTasks
 pub mod LeafColours
 pub mod RangeNodes

@@ -1,9 +1,11 @@
 -- The node over a range of leaves has the values of the range.
 use mathlib.Core.Path.{_≡_, refl, sym, ap}
-use mathlib.Core.Bool.{Bool}
-use Prim.Native.Nat.{ℕ, zero, suc, _+_}
+use mathlib.Core.Bool.{Bool, false}
+use mathlib.Core.Logic.{inl, inr}
+use Prim.Native.Nat.{ℕ, zero, suc, _+_, _-_, _≤_}
 use native.Mathlib.Omega.{arith}
 use native.Mathlib.Nat.{add-zero}
+use Rattle.integers.proofs.Bools.{bool}
 use Rattle.scheduling.proofs.LeafRanges as leafRange
 use Rattle.trees.specs.declared.theta_lambda_node.Node.{Node}
 use Rattle.trees.specs.Nodes.{joinOf}
@@ -11,6 +13,14 @@ use Rattle.trees.specs.Shapes.{width, nodeOver}
 use Rattle.trees.specs.Leaves.{Leaf, empty, white, gray, inTheta, inLambda, leafNode}
 use Rattle.trees.proofs.Heights.{once, twice}
 use Rattle.trees.proofs.ArrayTrees.{over-leaf, over-join}
+
+-- a leaf more that is not white
+pub not-white : (w g : ℕ → Bool) (e p : ℕ → ℕ) (a d x : ℕ) → a + d ≡ x → w x ≡ false
+    → (leafRange.sum w g e p a (suc d) ≡ leafRange.sum w g e p a d) × (leafRange.ect w g e p a (suc d) ≡ leafRange.ect w g e p a d)
+not-white w g e p a d x z y = elim (bool (g x)) [
+  | inl v ↦ (let l = leafRange.gray w g e p a d x z y v in (l .s, l .t))
+  | inr v ↦ (let l = leafRange.no-leaf w g e p a d x z y v in (l .s, l .t))
+]
 
 module _ (colour : ℕ → Leaf) (e p : ℕ → ℕ) where
   abbrev leaf : ℕ → Node
@@ -59,3 +69,10 @@ module _ (colour : ℕ → Leaf) (e p : ℕ → ℕ) where
   over-holds zero a = rw (over-leaf joinOf leaf a, once) (one a (colour a) refl)
   over-holds (suc h) a = rw (over-join joinOf leaf h a, twice h)
       (both (nodeOver joinOf leaf h a) (nodeOver joinOf leaf h (a + width h)) a (width h) (width h) (over-holds h a) (over-holds h (a + width h)))
+
+  -- leaves that are empty from n on make no difference
+  pub to-first : (n d : ℕ) → n ≤ d → ((j : ℕ) → n ≤ j → colour j ≡ empty)
+      → (leafRange.sum w g e p 0 d ≡ leafRange.sum w g e p 0 n) × (leafRange.ect w g e p 0 d ≡ leafRange.ect w g e p 0 n) × (leafRange.ect-bar w g e p 0 d ≡ leafRange.ect-bar w g e p 0 n)
+  to-first n d q past =
+      let z : n + (d - n) ≡ d = omega arith in
+      rw z at (leafRange.past w g e p 0 n (d - n) (λ j r. ap inTheta (past j (omega arith))) (λ j r. ap inLambda (past j (omega arith))))

@@ -1,30 +1,30 @@
 -- What the two searches for the responsible task find: a gray leaf that attains the bar, or the bar is the plain value.
-use mathlib.Core.Path.{_≡_, refl, sym, ap, _∙_}
+use mathlib.Core.Path.{_≡_, refl, ap}
 use mathlib.Core.Bool.{Bool, true, false}
-use mathlib.Core.Logic.{_⊎_, inl, inr}
+use mathlib.Core.Logic.{inl, inr}
 use mathlib.Core.Option.{Option, some, none}
 use Prim.Native.Nat.{ℕ, zero, suc, _+_, _-_, _≤_, _<_, max}
 use native.Mathlib.Omega.{arith}
 use native.Mathlib.Nat.{add-zero}
+use native.Mathlib.Decide.{ℕ-discrete}
 use Rattle.integers.proofs.Bools.{bool}
 use Rattle.scheduling.proofs.LeafRanges as leafRange
-use Rattle.scheduling.proofs.LeafRanges.{Blank, Bars, Join}
+use Rattle.scheduling.proofs.LeafRanges.{Blank, Join}
 use Rattle.trees.specs.declared.theta_lambda_node.Node.{Node}
-use Rattle.trees.specs.declared.theta_lambda_node.PDescent.{PDescent}
 use Rattle.trees.specs.declared.theta_lambda_node.PDescent.the-variants.{Left, Right, Here, Nothing}
 use Rattle.trees.specs.declared.theta_lambda_node.EctBarDescent.the-variants as bar
 use Rattle.trees.specs.declared.theta_lambda_node.EctBarDescent.{EctBarDescent}
 use Rattle.trees.specs.Nodes.{joinOf}
 use Rattle.trees.specs.Descents.{gray}
-use Rattle.trees.proofs.Descents.{TestFailed, FactP, FactEct, fact-p, fact-ect}
+use Rattle.trees.proofs.Descents.{By, sums, ects, barOf, plainOf, in-left, in-right, stepAt, Fact, fact}
 use Rattle.trees.proofs.GrayLeaves.{gray-empty, gray-white, gray-gray}
 use Rattle.trees.specs.Shapes.{width, nodeOver}
-use Rattle.trees.specs.Searches.{stepP, stepEct, searchP, searchEct}
+use Rattle.trees.specs.Searches.{searchP, searchEct}
 use Rattle.trees.specs.Leaves as leaves
 use Rattle.trees.specs.Leaves.{Leaf, inTheta, inLambda, leafNode}
 use Rattle.trees.proofs.Heights.{once}
-use Rattle.trees.proofs.SearchSteps.{inner-p-is, inner-ect-is, leaf-search-p, leaf-search-ect}
-use Rattle.trees.proofs.RangeNodes.{Holds, over-holds}
+use Rattle.trees.proofs.SearchSteps.{aroundOver, searchBy, rest, inner-is, leaf-search}
+use Rattle.trees.proofs.RangeNodes.{not-white, Holds, over-holds}
 
 module _ (colour : ℕ → Leaf) (e p : ℕ → ℕ) (lasts : (x : ℕ) → inLambda (colour x) ≡ true → 1 ≤ p x) where
   abbrev w : ℕ → Bool
@@ -42,11 +42,14 @@ module _ (colour : ℕ → Leaf) (e p : ℕ → ℕ) (lasts : (x : ℕ) → inLa
   abbrev E : ℕ → ℕ → ℕ
   E = leafRange.ect w g e p
 
-  abbrev SB : ℕ → ℕ → ℕ
-  SB = leafRange.sum-bar w g e p
+  -- what a search follows, with and without a gray task
+  abbrev Bar : By → ℕ → ℕ → ℕ
+  Bar sums = leafRange.sum-bar w g e p
+  Bar ects = leafRange.ect-bar w g e p
 
-  abbrev EB : ℕ → ℕ → ℕ
-  EB = leafRange.ect-bar w g e p
+  abbrev Plain : By → ℕ → ℕ → ℕ
+  Plain sums = S
+  Plain ects = E
 
   abbrev node : ℕ → ℕ → Node
   node h a = nodeOver joinOf leaf h a
@@ -54,40 +57,66 @@ module _ (colour : ℕ → Leaf) (e p : ℕ → ℕ) (lasts : (x : ℕ) → inLa
   values : (h a : ℕ) → Holds colour e p (node h a) a (width h)
   values h a = over-holds colour e p h a
 
+  bar-is : (by : By) (h a : ℕ) → barOf by (node h a) ≡ Bar by a (width h)
+  bar-is sums h a = values h a .sum-bar
+  bar-is ects h a = values h a .ect-bar
+
+  plain-is : (by : By) (h a : ℕ) → plainOf by (node h a) ≡ Plain by a (width h)
+  plain-is sums h a = values h a .sum
+  plain-is ects h a = values h a .ect
+
   -- sums are at most ects
   low : (a d : ℕ) → S a d ≤ E a d
   low a zero = let l = leafRange.blank w g e p a in omega arith
-  low a (suc d) = step (low a d) (bool (w (a + d))) (bool (g (a + d)))
-    where
-      step : S a d ≤ E a d → (w (a + d) ≡ true) ⊎ (w (a + d) ≡ false) → (g (a + d) ≡ true) ⊎ (g (a + d) ≡ false) → S a (suc d) ≤ E a (suc d)
-      step ih (inl y) v = omega (arith, leafRange.white w g e p a d (a + d) refl y)
-      step ih (inr y) (inl v) = omega (arith, leafRange.gray w g e p a d (a + d) refl y v)
-      step ih (inr y) (inr v) = omega (arith, leafRange.no-leaf w g e p a d (a + d) refl y v)
+  low a (suc d) = elim (bool (w (a + d)))
+      [ inl y ↦ omega (arith, low a d, leafRange.white w g e p a d (a + d) refl y) | inr y ↦ omega (arith, low a d, not-white w g e p a d (a + d) refl y) ]
 
   -- the latest completion of a set of white leaves of the range with leaf x in it, as early as can be
   unfoldable pub through : ℕ → ℕ → ℕ → ℕ
   through x a d = max (E a (x - a)) (e x) + p x + S (suc x) ((a + d) - suc x)
 
   -- a range cut at a leaf that is not white
-  cut : (x a d : ℕ) → w x ≡ false → a ≤ x → x < a + d → S a d ≡ S a (x - a) + S (suc x) ((a + d) - suc x)
-  cut x a d y lo hi =
-      let j = leafRange.join w g e p a (x - a) (1 + ((a + d) - suc x)) in
-      let k = leafRange.join w g e p x 1 ((a + d) - suc x) in
-      let n = nothing (bool (g x)) in
-      omega (arith, ap (S a) len, j .sums, ap (λ (u : ℕ). S u (1 + ((a + d) - suc x))) here, k .sums, ap (λ (u : ℕ). S u ((a + d) - suc x)) next)
-    where
-      len : (x - a) + (1 + ((a + d) - suc x)) ≡ d
-      len = omega arith
+  module _ (x a d : ℕ) (y : w x ≡ false) (lo : a ≤ x) (hi : x < a + d) where
+    len : (x - a) + (1 + ((a + d) - suc x)) ≡ d
+    len = omega arith
 
-      here : a + (x - a) ≡ x
-      here = omega arith
+    here : a + (x - a) ≡ x
+    here = omega arith
 
-      next : x + 1 ≡ suc x
-      next = omega arith
+    next : x + 1 ≡ suc x
+    next = omega arith
 
-      nothing : (g x ≡ true) ⊎ (g x ≡ false) → S x 1 ≡ 0
-      nothing (inl v) = omega (arith, leafRange.gray w g e p x 0 x (add-zero x) y v .s, leafRange.blank w g e p x .s)
-      nothing (inr v) = omega (arith, leafRange.no-leaf w g e p x 0 x (add-zero x) y v .s, leafRange.blank w g e p x .s)
+    abbrev at-leaf : Join w g e p a (x - a) (1 + ((a + d) - suc x))
+    at-leaf = leafRange.join w g e p a (x - a) (1 + ((a + d) - suc x))
+
+    abbrev past-leaf : Join w g e p x 1 ((a + d) - suc x)
+    past-leaf = leafRange.join w g e p x 1 ((a + d) - suc x)
+
+    cut : S a d ≡ S a (x - a) + S (suc x) ((a + d) - suc x)
+    cut = omega (
+      arith,
+      ap (S a) len,
+      at-leaf .sums,
+      ap (λ (u : ℕ). S u (1 + ((a + d) - suc x))) here,
+      past-leaf .sums,
+      ap (λ (u : ℕ). S u ((a + d) - suc x)) next,
+      not-white w g e p x 0 x (add-zero x) y .0,
+      leafRange.blank w g e p x .s,
+    )
+
+    -- where it is gray, the sum bar has it
+    pub gray-sum : g x ≡ true → S a d + p x ≤ Bar sums a d
+    gray-sum v = omega (
+      arith,
+      cut,
+      ap (Bar sums a) len,
+      at-leaf .sum-bars,
+      ap (λ (u : ℕ). Bar sums u (1 + ((a + d) - suc x))) here,
+      past-leaf .sum-bars,
+      ap (λ (u : ℕ). S u ((a + d) - suc x)) next,
+      leafRange.gray w g e p x 0 x (add-zero x) y v .sb,
+      leafRange.blank w g e p x .s,
+    )
 
   through-leaf : (a : ℕ) → through a a 1 ≡ e a + p a
   unfolding through
@@ -134,18 +163,20 @@ module _ (colour : ℕ → Leaf) (e p : ℕ → ℕ) (lasts : (x : ℕ) → inLa
     pub from : a ≤ x
     pub to : x < a + d
 
-  abbrev pub SumOk : ℕ → ℕ → Option ℕ → Type 0
-  SumOk h a none = SB a (width h) ≤ S a (width h)
-  SumOk h a (some x) = GrayBelow a (width h) x × (SB a (width h) ≤ S a (width h) + p x)
+  -- what white leaves of the range attain with leaf x
+  abbrev Reach : By → ℕ → ℕ → ℕ → ℕ
+  Reach sums x a d = S a d + p x
+  Reach ects x a d = through x a d
 
-  abbrev pub EctOk : ℕ → ℕ → Option ℕ → Type 0
-  EctOk h a none = EB a (width h) ≤ E a (width h)
-  EctOk h a (some x) = GrayBelow a (width h) x × (EB a (width h) ≤ through x a (width h))
+  -- the answer of a search: a gray leaf that attains the bar, or none, where no gray leaf is needed
+  abbrev pub Ok : By → ℕ → ℕ → Option ℕ → Type 0
+  Ok by h a none = Bar by a (width h) ≤ Plain by a (width h)
+  Ok by h a (some x) = GrayBelow a (width h) x × (Bar by a (width h) ≤ Reach by x a (width h))
 
   -- a leaf, as both searches end in it
   record LeafOk (a : ℕ) (o : Option ℕ) : Type 0 where
-    sums : SumOk 0 a o
-    ects : EctOk 0 a o
+    by-sums : Ok sums 0 a o
+    by-ects : Ok ects 0 a o
 
   leaf-ok : (a : ℕ) → LeafOk a (elim (gray (leaf a)) [ true ↦ some a | false ↦ none ])
   leaf-ok a = by (colour a) refl
@@ -159,14 +190,14 @@ module _ (colour : ℕ → Leaf) (e p : ℕ → ℕ) (lasts : (x : ℕ) → inLa
       by : (c : Leaf) → colour a ≡ c → LeafOk a (elim (gray (leafNode c (e a) (p a))) [ true ↦ some a | false ↦ none ])
       by leaves.empty z =
           let l = leafRange.no-leaf w g e p a 0 a z0 (ap inTheta z) (ap inLambda z) in
-          rw gray-empty (record { sums = rw once (omega (arith, l0)); ects = rw once (omega (arith, l0)) })
+          rw gray-empty (record { by-sums = rw once (omega (arith, l0)); by-ects = rw once (omega (arith, l0)) })
       by leaves.white z =
           let l = leafRange.white w g e p a 0 a z0 (ap inTheta z) in
-          rw (gray-white (e a + p a) (p a)) (record { sums = rw once (omega (arith, l0)); ects = rw once (omega (arith, l0)) })
+          rw (gray-white (e a + p a) (p a)) (record { by-sums = rw once (omega (arith, l0)); by-ects = rw once (omega (arith, l0)) })
       by leaves.gray z =
           let l = leafRange.gray w g e p a 0 a z0 (ap inTheta z) (ap inLambda z) in
           let f : GrayBelow a 1 a = record { gray = ap inLambda z; white = ap inTheta z; from = omega arith; to = omega arith } in
-          rw (gray-gray (e a + p a) (p a) (λ q. omega (arith, lasts a (ap inLambda z)))) (record { sums = rw once (f, omega (arith, l0)); ects = rw once (f, omega (arith, l0, through-leaf a)) })
+          rw (gray-gray (e a + p a) (p a) (λ q. omega (arith, lasts a (ap inLambda z)))) (record { by-sums = rw once (f, omega (arith, l0)); by-ects = rw once (f, omega (arith, l0, through-leaf a)) })
 
   -- a leaf of a half is one of the whole
   left-in : (h a x : ℕ) → GrayBelow a (width h) x → GrayBelow a (width (suc h)) x
@@ -180,143 +211,67 @@ module _ (colour : ℕ → Leaf) (e p : ℕ → ℕ) (lasts : (x : ℕ) → inLa
   halves : (h a : ℕ) → Join w g e p a (width h) (width h)
   halves h a = leafRange.join w g e p a (width h) (width h)
 
-  sum-left : (h a : ℕ) (o : Option ℕ) → SumOk h a o → SB a (width (suc h)) ≡ SB a (width h) + S (a + width h) (width h) → SumOk (suc h) a o
+  -- the left half, and the sum of the right one, within the whole
+  plain-left : (by : By) (h a : ℕ) → Plain by a (width h) + S (a + width h) (width h) ≤ Plain by a (width (suc h))
   unfolding width
-  sum-left h a none ok q = omega (arith, halves h a .sums)
-  sum-left h a (some x) ok q = (left-in h a x (ok .0), omega (arith, ok .1, halves h a .sums))
+  plain-left sums h a = omega (arith, halves h a .sums)
+  plain-left ects h a = omega (arith, halves h a .ects)
 
-  sum-right : (h a : ℕ) (o : Option ℕ) → SumOk h (a + width h) o → SB a (width (suc h)) ≡ S a (width h) + SB (a + width h) (width h) → SumOk (suc h) a o
+  reach-left : (by : By) (h a x : ℕ) → x < a + width h → Reach by x a (width h) + S (a + width h) (width h) ≤ Reach by x a (width (suc h))
   unfolding width
-  sum-right h a none ok q = omega (arith, halves h a .sums)
-  sum-right h a (some x) ok q = (right-in h a x (ok .0), omega (arith, ok .1, halves h a .sums))
+  reach-left sums h a x q = omega (arith, halves h a .sums)
+  reach-left ects h a x q = through-left x a (width h) (width h) q
 
-  ect-right : (h a : ℕ) (o : Option ℕ) → EctOk h (a + width h) o → EB a (width (suc h)) ≡ EB (a + width h) (width h) → EctOk (suc h) a o
+  reach-right : (by : By) (h a x : ℕ) → GrayBelow (a + width h) (width h) x → Plain by a (width h) + (S (a + width h) (width h) + p x) ≤ Reach by x a (width (suc h))
   unfolding width
-  ect-right h a none ok q = omega (arith, halves h a .ects)
-  ect-right h a (some x) ok q = (right-in h a x (ok .0), omega (arith, ok .1, through-right x a (width h) (width h) (ok .0 .white) (ok .0 .from) (ok .0 .to)))
+  reach-right sums h a x f = omega (arith, halves h a .sums)
+  reach-right ects h a x f = through-mid x a (width h) (width h) (f .white) (f .from) (f .to)
 
-  ect-mid : (h a : ℕ) (o : Option ℕ) → SumOk h (a + width h) o → EB a (width (suc h)) ≡ E a (width h) + SB (a + width h) (width h) → EctOk (suc h) a o
+  -- The answer of the child that a step goes on in is one for the node.
+  left-ok : (by : By) (h a : ℕ) (o : Option ℕ) → Ok by h a o → Bar by a (width (suc h)) ≡ Bar by a (width h) + S (a + width h) (width h) → Ok by (suc h) a o
+  left-ok by h a none ok q = omega (arith, ok, q, plain-left by h a)
+  left-ok by h a (some x) ok q = (left-in h a x (ok .0), omega (arith, ok .1, q, reach-left by h a x (ok .0 .to)))
+
+  right-sum-ok : (by : By) (h a : ℕ) (o : Option ℕ) → Ok sums h (a + width h) o → Bar by a (width (suc h)) ≡ Plain by a (width h) + Bar sums (a + width h) (width h) → Ok by (suc h) a o
+  right-sum-ok by h a none ok q = omega (arith, ok, q, plain-left by h a)
+  right-sum-ok by h a (some x) ok q = (right-in h a x (ok .0), omega (arith, ok .1, q, reach-right by h a x (ok .0)))
+
+  right-ect-ok : (by : By) (h a : ℕ) (o : Option ℕ) → Ok ects h (a + width h) o → Fact (node (suc h) a) (node h a) (node h (a + width h)) bar.Right by → Ok by (suc h) a o
   unfolding width
-  ect-mid h a none ok q = omega (arith, halves h a .ects)
-  ect-mid h a (some x) ok q = (right-in h a x (ok .0), omega (arith, ok .1, through-mid x a (width h) (width h) (ok .0 .white) (ok .0 .from) (ok .0 .to)))
+  right-ect-ok sums h a o ok f = absurd f
+  right-ect-ok ects h a none ok f = omega (arith, f, bar-is ects (suc h) a, bar-is ects h (a + width h), halves h a .ects)
+  right-ect-ok ects h a (some x) ok f =
+      (right-in h a x (ok .0), omega (arith, f, bar-is ects (suc h) a, bar-is ects h (a + width h), ok .1, through-right x a (width h) (width h) (ok .0 .white) (ok .0 .from) (ok .0 .to)))
 
-  ect-left : (h a : ℕ) (o : Option ℕ) → EctOk h a o → EB a (width (suc h)) ≡ EB a (width h) + S (a + width h) (width h) → EctOk (suc h) a o
+  -- no test held: each child whose value the bar may be has no task
+  none-ok : (by : By) (h a : ℕ) → Fact (node (suc h) a) (node h a) (node h (a + width h)) bar.Nothing by → Bar by a (width (suc h)) ≤ Plain by a (width (suc h))
   unfolding width
-  ect-left h a none ok q = omega (arith, halves h a .ects)
-  ect-left h a (some x) ok q = (left-in h a x (ok .0), omega (arith, ok .1, through-left x a (width h) (width h) (ok .0 .to)))
+  none-ok sums h a (left, right) = elim (ℕ-discrete (barOf sums (node (suc h) a)) (in-left (node (suc h) a) (node h a) (node h (a + width h)) sums)) [
+    | yes z ↦ omega (arith, left z, z, values (suc h) a .sum-bar, values h (a + width h) .sum, halves h a .sums)
+    | no z ↦ (let y : barOf sums (node (suc h) a) ≡ in-right (node (suc h) a) (node h a) (node h (a + width h)) sums
+        = omega (arith, z, halves h a .sum-bars, values (suc h) a .sum-bar, values h a, values h (a + width h)) in
+        omega (arith, right y, y, values (suc h) a .sum-bar, values h a .sum, halves h a .sums))
+  ]
+  none-ok ects h a (right, mid, left) = elim (ℕ-discrete (node (suc h) a .«ect_bar») (node h (a + width h) .«ect_bar»)) [
+    | yes z ↦ omega (arith, right z, z, values (suc h) a .ect-bar)
+    | no z ↦ elim (ℕ-discrete (barOf ects (node (suc h) a)) (in-right (node (suc h) a) (node h a) (node h (a + width h)) ects)) [
+      | yes y ↦ omega (arith, mid y, y, values (suc h) a .ect-bar, values h a .ect, halves h a .ects)
+      | no y ↦ (let x : barOf ects (node (suc h) a) ≡ in-left (node (suc h) a) (node h a) (node h (a + width h)) ects
+          = omega (arith, z, y, halves h a .ect-bars, values (suc h) a .ect-bar, values h a, values h (a + width h)) in
+          omega (arith, left x, x, values (suc h) a .ect-bar, values h (a + width h) .sum, low (a + width h) (width h), halves h a .ects))
+    ]
+  ]
 
-  step-fact-p : (h a : ℕ) → FactP (node (suc h) a) (node h a) (node h (a + width h)) (stepP leaf (suc h) a)
-  unfolding stepP
-  step-fact-p h a = fact-p (node (suc h) a) (node h a) (node h (a + width h))
-
-  step-fact-ect : (h a : ℕ) → FactEct (node (suc h) a) (node h a) (node h (a + width h)) (stepEct leaf (suc h) a)
-  unfolding stepEct
-  step-fact-ect h a = fact-ect (node (suc h) a) (node h a) (node h (a + width h))
-
-  -- no test of the search by sums held
-  sum-none : (h a : ℕ) → FactP (node (suc h) a) (node h a) (node h (a + width h)) Nothing → SB a (width (suc h)) ≤ S a (width (suc h))
-  unfolding width
-  sum-none h a (x, y) = go x y
+  pub by-ok : (by : By) (h a : ℕ) → Ok by h a (searchBy leaf by h a)
+  by-ok sums zero a = rw (leaf-search leaf sums a) (leaf-ok a .by-sums)
+  by-ok ects zero a = rw (leaf-search leaf ects a) (leaf-ok a .by-ects)
+  by-ok by (suc h) a = rw (inner-is leaf by h a)
+      (go (by-ok by h a) (λ k. by-ok k h (a + width h)) (stepAt by (aroundOver leaf (suc h) a)) (fact (node (suc h) a) (node h a) (node h (a + width h)) by))
     where
-      n : Holds colour e p (node (suc h) a) a (width (suc h))
-      n = values (suc h) a
-
-      l : Holds colour e p (node h a) a (width h)
-      l = values h a
-
-      r : Holds colour e p (node h (a + width h)) (a + width h) (width h)
-      r = values h (a + width h)
-
-      go : TestFailed (node h a) (node (suc h) a .«sum_of_processing_times_bar») (node h a .«sum_of_processing_times_bar» + node h (a + width h) .«sum_of_processing_times»)
-          → TestFailed (node h (a + width h)) (node (suc h) a .«sum_of_processing_times_bar») (node h a .«sum_of_processing_times» + node h (a + width h) .«sum_of_processing_times_bar»)
-          → SB a (width (suc h)) ≤ S a (width (suc h))
-      go (inl u) (inl v) = omega (arith, halves h a .sums, halves h a .sum-bars, u .1, v .1, l, r)
-      go (inl u) (inr v) = omega (arith, halves h a .sums, halves h a .sum-bars, u .1, v, n, l, r)
-      go (inr u) (inl v) = omega (arith, halves h a .sums, halves h a .sum-bars, u, v .1, n, l, r)
-      go (inr u) (inr v) = omega (arith, halves h a .sums, halves h a .sum-bars, u, v, n, l, r)
-
-  pub by-sum-ok : (h a : ℕ) → SumOk h a (searchP leaf h a)
-  by-sum-ok zero a = rw (leaf-search-p leaf a) (leaf-ok a .sums)
-  by-sum-ok (suc h) a = by (by-sum-ok h a) (by-sum-ok h (a + width h)) (stepP leaf (suc h) a) refl (step-fact-p h a)
-    where
-      n : Holds colour e p (node (suc h) a) a (width (suc h))
-      n = values (suc h) a
-
-      l : Holds colour e p (node h a) a (width h)
-      l = values h a
-
-      r : Holds colour e p (node h (a + width h)) (a + width h) (width h)
-      r = values h (a + width h)
-
-      by : SumOk h a (searchP leaf h a) → SumOk h (a + width h) (searchP leaf h (a + width h)) → (d : PDescent) → stepP leaf (suc h) a ≡ d
-          → FactP (node (suc h) a) (node h a) (node h (a + width h)) d → SumOk (suc h) a (searchP leaf (suc h) a)
-      by x y Left z q = rw (inner-p-is leaf h a Left z) (sum-left h a (searchP leaf h a) x (sym (n .sum-bar) ∙ q ∙ omega (arith, l .sum-bar, r .sum)))
-      by x y Right z q = rw (inner-p-is leaf h a Right z) (sum-right h a (searchP leaf h (a + width h)) y (sym (n .sum-bar) ∙ q ∙ omega (arith, l .sum, r .sum-bar)))
-      by x y Here z q = absurd q
-      by x y Nothing z q = rw (inner-p-is leaf h a Nothing z) (sum-none h a q)
-
-  -- no test of the search by ects held
-  ect-none : (h a : ℕ) → FactEct (node (suc h) a) (node h a) (node h (a + width h)) bar.Nothing → EB a (width (suc h)) ≤ E a (width (suc h))
-  unfolding width
-  ect-none h a (x, y, z) = go x y z
-    where
-      n : Holds colour e p (node (suc h) a) a (width (suc h))
-      n = values (suc h) a
-
-      l : Holds colour e p (node h a) a (width h)
-      l = values h a
-
-      r : Holds colour e p (node h (a + width h)) (a + width h) (width h)
-      r = values h (a + width h)
-
-      j : Join w g e p a (width h) (width h)
-      j = halves h a
-
-      bl : Bars w g e p a (width h)
-      bl = leafRange.bars w g e p a (width h)
-
-      br : Bars w g e p (a + width h) (width h)
-      br = leafRange.bars w g e p (a + width h) (width h)
-
-      MissedLeft : Type 0
-      MissedLeft = TestFailed (node h a) (node (suc h) a .«ect_bar») (node h a .«ect_bar» + node h (a + width h) .«sum_of_processing_times»)
-
-      -- nothing on the right
-      blank-right : (node h (a + width h) .«ect_bar» ≡ 0) × (node h (a + width h) .«sum_of_processing_times_bar» ≡ 0) → MissedLeft → EB a (width (suc h)) ≤ E a (width (suc h))
-      blank-right u (inl v) = omega (arith, j .ects, j .ect-bars, u .0, u .1, v .0, br, bl, l, r)
-      blank-right u (inr v) = omega (arith, j .ects, j .ect-bars, u .0, u .1, v, br, bl, n, l, r)
-
-      -- something there, and neither of its values
-      neither : (node (suc h) a .«ect_bar» ≡ node h (a + width h) .«ect_bar» → ⊥) → (node (suc h) a .«ect_bar» ≡ node h a .ect + node h (a + width h) .«sum_of_processing_times_bar» → ⊥) → MissedLeft
-          → EB a (width (suc h)) ≤ E a (width (suc h))
-      neither u v (inl k) = omega (arith, j .ects, j .ect-bars, k .0, low (a + width h) (width h), bl, n, l, r)
-      neither u v (inr k) = omega (arith, j .ect-bars, n .ect-bar, l .ect, l .ect-bar, r .ect-bar, r .sum, r .sum-bar)
-
-      go : TestFailed (node h (a + width h)) (node (suc h) a .«ect_bar») (node h (a + width h) .«ect_bar»)
-          → TestFailed (node h (a + width h)) (node (suc h) a .«ect_bar») (node h a .ect + node h (a + width h) .«sum_of_processing_times_bar») → MissedLeft
-          → EB a (width (suc h)) ≤ E a (width (suc h))
-      go (inl u) v k = blank-right u k
-      go (inr u) (inl v) k = blank-right v k
-      go (inr u) (inr v) k = neither u v k
-
-  pub by-ect-ok : (h a : ℕ) → EctOk h a (searchEct leaf h a)
-  by-ect-ok zero a = rw (leaf-search-ect leaf a) (leaf-ok a .ects)
-  by-ect-ok (suc h) a = by (by-ect-ok h a) (by-ect-ok h (a + width h)) (by-sum-ok h (a + width h)) (stepEct leaf (suc h) a) refl (step-fact-ect h a)
-    where
-      n : Holds colour e p (node (suc h) a) a (width (suc h))
-      n = values (suc h) a
-
-      l : Holds colour e p (node h a) a (width h)
-      l = values h a
-
-      r : Holds colour e p (node h (a + width h)) (a + width h) (width h)
-      r = values h (a + width h)
-
-      by : EctOk h a (searchEct leaf h a) → EctOk h (a + width h) (searchEct leaf h (a + width h)) → SumOk h (a + width h) (searchP leaf h (a + width h)) → (d : EctBarDescent)
-          → stepEct leaf (suc h) a ≡ d
-          → FactEct (node (suc h) a) (node h a) (node h (a + width h)) d → EctOk (suc h) a (searchEct leaf (suc h) a)
-      by x y m bar.Right z q = rw (inner-ect-is leaf h a bar.Right z) (ect-right h a (searchEct leaf h (a + width h)) y (sym (n .ect-bar) ∙ q ∙ r .ect-bar))
-      by x y m bar.RightP z q = rw (inner-ect-is leaf h a bar.RightP z) (ect-mid h a (searchP leaf h (a + width h)) m (sym (n .ect-bar) ∙ q ∙ omega (arith, l .ect, r .sum-bar)))
-      by x y m bar.Left z q = rw (inner-ect-is leaf h a bar.Left z) (ect-left h a (searchEct leaf h a) x (sym (n .ect-bar) ∙ q ∙ omega (arith, l .ect-bar, r .sum)))
-      by x y m bar.Here z q = absurd q
-      by x y m bar.Nothing z q = rw (inner-ect-is leaf h a bar.Nothing z) (ect-none h a q)
+      go : Ok by h a (searchBy leaf by h a) → ((k : By) → Ok k h (a + width h) (searchBy leaf k h (a + width h))) → (d : EctBarDescent)
+          → Fact (node (suc h) a) (node h a) (node h (a + width h)) d by → Ok by (suc h) a (rest leaf by h a d)
+      go x y bar.Left f = left-ok by h a (searchBy leaf by h a) x (omega (arith, f, bar-is by (suc h) a, bar-is by h a, values h (a + width h) .sum))
+      go x y bar.RightP f = right-sum-ok by h a (searchP leaf h (a + width h)) (y sums) (omega (arith, f, bar-is by (suc h) a, plain-is by h a, values h (a + width h) .sum-bar))
+      go x y bar.Right f = right-ect-ok by h a (searchEct leaf h (a + width h)) (y ects) f
+      go x y bar.Here f = absurd f
+      go x y bar.Nothing f = none-ok by h a f

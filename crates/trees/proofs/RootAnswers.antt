@@ -1,6 +1,6 @@
 -- The root's values and the search's answer as they stand to the sets: ect(Θ), the largest ect with at most one task of Λ, and the responsible task.
 use mathlib.Core.Path.{_≡_, refl, sym, ap, subst, _∙_, fun-ext}
-use mathlib.Core.Bool.{Bool, true, false}
+use mathlib.Core.Bool.{Bool, true, false, _&&_}
 use mathlib.Core.Logic.{_⊎_, inl, inr, _↔_}
 use mathlib.Core.List.{List}
 use mathlib.Core.Option.{Option, some, none}
@@ -8,6 +8,7 @@ use Prim.Native.Nat.{ℕ, zero, suc, _+_, _-_, _≤_, _<_, max}
 use native.Mathlib.Omega.{arith}
 use native.Mathlib.Nat.{zero-add, add-zero, add-suc, le-antisymm}
 use native.Mathlib.Decide.{decLe, decLt, ℕ-discrete}
+use lib.Dec.{ltb}
 use lib.ListN.{length, getD, set, length-set, List·getD-eq-default}
 use lib.Seq.{getD-set-same, getD-set-other}
 use borrow.Author.Tests.{lt-ltb, le-ltb, ltb-false}
@@ -30,9 +31,10 @@ use Rattle.trees.specs.Trees.{Limited}
 use Rattle.trees.specs.Ects.{decoded, exceeds}
 use Rattle.trees.proofs.Ects.{decoded-none, decoded-some, decoded-word, exceeds-decoded, exceeds-yes, some-or-none, one-moment}
 use Rattle.trees.proofs.Heights.{enough}
-use Rattle.trees.proofs.RangeNodes.{Holds, over-holds}
+use Rattle.trees.proofs.RangeNodes.{not-white, Holds, over-holds, to-first}
 use Rattle.trees.proofs.WhiteTasks.{theta-in, theta-from, theta-distinct}
-use Rattle.trees.proofs.ResponsibleTask.{through, SumOk, EctOk, by-sum-ok, by-ect-ok}
+use Rattle.trees.proofs.Descents.{sums, ects}
+use Rattle.trees.proofs.ResponsibleTask.{through, gray-sum, Ok, by-ok}
 
 -- a leaf is not of two colours
 one-colour : {X : Type 0} (c : Leaf) → inTheta c ≡ true → inLambda c ≡ true → X
@@ -74,23 +76,33 @@ module _ (J : Tasks natural) (ok : Proper J) (estOrder : List ℕ) (rk : ByEarli
           let (i, im, _) = f .est .holds in
           clash ((and-in J T rank ok rk S S (J .count) i (f .within i im)) .1) (nil i (im .small))
 
-  -- the durations, leaf by leaf, sum to those of the tasks
-  abbrev all : TaskSet
-  all k = true
+  -- a sum over the leaves of the tasks of S
+  module _ (S : TaskSet) (f : ℕ → ℕ) (none : f 0 ≡ 0) (in-S : (d : ℕ) → d < J .count → S (T d) ≡ true → f (suc d) ≡ f d + p d)
+      (not-in-S : (d : ℕ) → d < J .count → S (T d) ≡ false → f (suc d) ≡ f d) where
+    sum-upto : (d : ℕ) → d ≤ J .count → f d ≡ processing J (upto J T rank S d)
+    sum-upto zero q = none ∙ sym (processing-empty J (upto J T rank S 0) (λ k r.
+        elim (bool (upto J T rank S 0 k)) [ inl y ↦ absurd (omega (arith, (and-in J T rank ok rk S S 0 k y) .0)) | inr y ↦ y ]))
+    sum-upto (suc d) q =
+        let more : processing J (upto J T rank S d) ≤ processing J (upto J T rank S (suc d)) = processing-mono J (upto J T rank S d) (upto J T rank S (suc d)) (λ k h.
+        let u = and-in J T rank ok rk S S d k (h .mem) in and-out J T rank ok rk S S (suc d) k (omega (arith, u .0)) (u .1)) in
+        elim (bool (S (T d))) [
+          | inl y ↦ omega (arith, sum-upto d (omega arith), in-S d q y, grow-in J T rank ok rk S S d q y)
+          | inr y ↦ omega (arith, sum-upto d (omega arith), not-in-S d q y, more, grow-out J T rank ok rk S S d q y)
+        ]
 
-  durations-scan : (d : ℕ) → d ≤ J .count → total p d ≡ processing J (upto J T rank all d)
-  durations-scan zero q = total-none p ∙ sym (processing-empty J (upto J T rank all 0) (λ k r.
-      elim (bool (upto J T rank all 0 k)) [ inl y ↦ absurd (omega (arith, (and-in J T rank ok rk all all 0 k y) .0)) | inr y ↦ y ]))
-  durations-scan (suc d) q = omega (arith, total-suc p d, durations-scan d (omega arith), grow-in J T rank ok rk all all d q refl)
-
-  durations-all : total p (J .count) ≤ total (J .duration) (J .count)
-  durations-all =
-      let a : processing J (upto J T rank all (J .count)) ≤ processing J all = processing-mono J (upto J T rank all (J .count)) all (λ k h. refl) in
-      omega (arith, durations-scan (J .count) (omega arith), a, processing-all J)
+    sum-all : f (J .count) ≡ processing J S
+    sum-all = sum-upto (J .count) (omega arith)
+        ∙ le-antisymm (processing-mono J (upto J T rank S (J .count)) S (λ k h. (and-in J T rank ok rk S S (J .count) k (h .mem)) .1))
+        (processing-mono J S (upto J T rank S (J .count)) (λ k h. and-out J T rank ok rk S S (J .count) k (rk .placed k (h .small)) (h .mem)))
 
   -- tasks within the limits are so in their order too
   pub limited : J .count ≤ TASKS → ((k : ℕ) → k < J .count → J .earliest k ≤ LATEST) → total (J .duration) (J .count) ≤ DURATIONS → Limited J estOrder
-  limited few early short = record { count = few; starts = λ j q. early (T j) (rk .task j q); lasts = λ j q. ok .lasts (T j) (rk .task j q); durations = omega (arith, durations-all) }
+  limited few early short = record {
+    count = few;
+    starts = λ j q. early (T j) (rk .task j q);
+    lasts = λ j q. ok .lasts (T j) (rk .task j q);
+    durations = omega (arith, sum-all (λ _. true) (total p) (total-none p) (λ d q y. total-suc p d) (λ d q y. clash refl y), processing-all J);
+  }
 
   -- the leaves show the tasks Ω of Θ and the tasks Λ
   pub record Represents (ls : List Leaf) (Ω Λ : TaskSet) : Type 0 where
@@ -126,35 +138,30 @@ module _ (J : Tasks natural) (ok : Proper J) (estOrder : List ℕ) (rk : ByEarli
     past : (j : ℕ) → J .count ≤ j → getD ls j empty ≡ empty
     past j q = List·getD-eq-default ls empty (omega (arith, s .size))
 
+    -- a colour by place, and past the tasks none
+    module _ (f : Leaf → Bool) (S : TaskSet) (is : (k : ℕ) → k < J .count → f (getD ls (rank k) empty) ≡ S k) (blank : f empty ≡ false) where
+      colour-at : (j : ℕ) → j < J .count → f (getD ls j empty) ≡ S (T j)
+      colour-at j q = subst (λ (x : ℕ). f (getD ls x empty) ≡ S (T j)) (rk .back j q) (is (T j) (rk .task j q))
+
+      colours-are : _≡_ {A = ℕ → Bool} (λ j. f (getD ls j empty)) (λ j. ltb j (J .count) && S (T j))
+      colours-are = fun-ext (λ j. elim (decLt j (J .count))
+          [ yes q ↦ rw (lt-ltb j (J .count) q) (colour-at j q) | no q ↦ rw (le-ltb j (J .count) (omega arith)) (ap f (past j (omega arith)) ∙ blank) ])
+
     pub white-at : (j : ℕ) → j < J .count → whiteAt ls j ≡ Ω (T j)
-    white-at j q = subst (λ (x : ℕ). whiteAt ls x ≡ Ω (T j)) (rk .back j q) (s .whites (T j) (rk .task j q))
+    white-at = colour-at inTheta Ω (s .whites) refl
 
     pub gray-at : (j : ℕ) → j < J .count → grayAt ls j ≡ Λ (T j)
-    gray-at j q = subst (λ (x : ℕ). grayAt ls x ≡ Λ (T j)) (rk .back j q) (s .grays (T j) (rk .task j q))
-
-    none-w : (j : ℕ) → J .count ≤ j → w j ≡ false
-    none-w j q = ap inTheta (past j q)
-
-    none-g : (j : ℕ) → J .count ≤ j → g j ≡ false
-    none-g j q = ap inLambda (past j q)
-
-    w-is : w ≡ bars.w J ok T rank rk Ω Λ
-    w-is = fun-ext (λ j. elim (decLt j (J .count))
-        [ yes q ↦ rw (lt-ltb j (J .count) q) (white-at j q) | no q ↦ rw (le-ltb j (J .count) (omega arith)) (none-w j (omega arith)) ])
-
-    g-is : g ≡ bars.g J ok T rank rk Ω Λ
-    g-is = fun-ext (λ j. elim (decLt j (J .count))
-        [ yes q ↦ rw (lt-ltb j (J .count) q) (gray-at j q) | no q ↦ rw (le-ltb j (J .count) (omega arith)) (none-g j (omega arith)) ])
+    gray-at = colour-at inLambda Λ (s .grays) refl
 
     -- anything of the leaves' colours
     moved : {A : Type 0} (f : (ℕ → Bool) → (ℕ → Bool) → A) → f w g ≡ f (bars.w J ok T rank rk Ω Λ) (bars.g J ok T rank rk Ω Λ)
-    moved f = ap (λ (v : ℕ → Bool). f v g) w-is ∙ ap (λ (v : ℕ → Bool). f (bars.w J ok T rank rk Ω Λ) v) g-is
+    moved f = ap (λ (v : ℕ → Bool). f v g) (colours-are inTheta Ω (s .whites) refl) ∙ ap (f (bars.w J ok T rank rk Ω Λ)) (colours-are inLambda Λ (s .grays) refl)
 
     ect-scan : (d : ℕ) → d ≤ J .count → leafRange.ect w g e p 0 d ≡ scan J T rank Ω d
     ect-scan d q = moved (λ v u. leafRange.ect v u e p 0 d) ∙ bars.ect-scan J ok T rank rk Ω Λ d q
 
     gray-in : (x : ℕ) → g x ≡ true → (x < J .count) × (Λ (T x) ≡ true)
-    gray-in x h = elim (decLt x (J .count)) [ yes q ↦ (q, sym (gray-at x q) ∙ h) | no q ↦ clash h (none-g x (omega arith)) ]
+    gray-in x h = elim (decLt x (J .count)) [ yes q ↦ (q, sym (gray-at x q) ∙ h) | no q ↦ clash h (ap inLambda (past x (omega arith))) ]
 
     pub lasts : (x : ℕ) → g x ≡ true → 1 ≤ p x
     lasts x h = ok .lasts (T x) (rk .task x ((gray-in x h) .0))
@@ -168,8 +175,15 @@ module _ (J : Tasks natural) (ok : Proper J) (estOrder : List ℕ) (rk : ByEarli
       abbrev i : ℕ
       i = T x
 
-      start : Holding i (suc x) (max (scan J T rank Ω x) (e x) + p x)
-      start = by (attained J T rank ok rk (Ω with i) x (omega arith))
+      -- the ect of the white leaves before x with x after them, and then m leaves more
+      abbrev value : ℕ → ℕ
+      value m = max (scan J T rank Ω x) (e x) + p x + leafRange.sum w g e p (suc x) m
+
+      to-value : {d u v : ℕ} → Holding i d u → u ≡ v → Holding i d v
+      to-value {d} h z = subst (Holding i d) z h
+
+      start : Holding i (suc x) (value 0)
+      start = by (decLe (scan J T rank Ω x) (e x)) (attained J T rank ok rk (Ω with i) x (omega arith))
         where
           self : (Ω with i) (T x) ≡ true
           self = with-new Ω i
@@ -177,87 +191,43 @@ module _ (J : Tasks natural) (ok : Proper J) (estOrder : List ℕ) (rk : ByEarli
           same : scan J T rank (Ω with i) x ≡ scan J T rank Ω x
           same = bars.before J ok T rank rk Ω Λ i x (rk .task x small) (omega (arith, rk .back x small))
 
-          lone : scan J T rank Ω x ≤ e x → Holding i (suc x) (max (scan J T rank Ω x) (e x) + p x)
-          lone q = let z : e x + p x ≡ max (scan J T rank Ω x) (e x) + p x = omega arith in
-              subst (λ (v : ℕ). Holding i (suc x) v) z (record { fill = alone J T rank ok rk (Ω with i) x small self; has = alone-part J T rank ok rk (Ω with i) x small self })
+          blank : leafRange.sum w g e p (suc x) 0 ≡ 0
+          blank = leafRange.blank w g e p (suc x) .s
 
-          by : Reached J T rank ok rk (Ω with i) x → Holding i (suc x) (max (scan J T rank Ω x) (e x) + p x)
-          by (inl z) = lone (omega (arith, z .0, same))
-          by (inr f) = elim (decLe (scan J T rank Ω x) (e x)) [
-            | yes q ↦ lone q
-            | no q ↦ (let z : scan J T rank (Ω with i) x + p x ≡ max (scan J T rank Ω x) (e x) + p x = omega (arith, same) in
-                subst (λ (v : ℕ). Holding i (suc x) v) z
-                (record {
-                  fill = joined J T rank ok rk (Ω with i) x (scan J T rank (Ω with i) x) small self f;
-                  has = joined-new J T rank ok rk (Ω with i) x (scan J T rank (Ω with i) x) small self f;
-                }))
-          ]
+          by : Dec (scan J T rank Ω x ≤ e x) → Reached J T rank ok rk (Ω with i) x → Holding i (suc x) (value 0)
+          by (yes q) r = to-value (record { fill = alone J T rank ok rk (Ω with i) x small self; has = alone-part J T rank ok rk (Ω with i) x small self }) (omega (arith, blank))
+          by (no q) (inl z) = absurd (omega (arith, z .0, same))
+          by (no q) (inr f) = to-value (record {
+            fill = joined J T rank ok rk (Ω with i) x (scan J T rank (Ω with i) x) small self f;
+            has = joined-new J T rank ok rk (Ω with i) x (scan J T rank (Ω with i) x) small self f;
+          }) (omega (arith, same, blank))
 
-      -- and each white leaf after it
-      extended : (m : ℕ) → suc x + m ≤ J .count → Holding i (suc x + m) (max (scan J T rank Ω x) (e x) + p x + leafRange.sum w g e p (suc x) m)
-      extended zero q = rw (add-zero (suc x)) (subst (λ (v : ℕ). Holding i (suc x) v) (omega (arith, leafRange.blank w g e p (suc x) .s)) start)
-      extended (suc m) q = step (extended m (omega arith)) (bool (Ω (T (suc x + m)))) (bool (Λ (T (suc x + m))))
-        where
-          d : ℕ
-          d = suc x + m
+      -- one leaf after it more
+      one-more : (m : ℕ) → suc x + m < J .count → Holding i (suc x + m) (value m) → (Ω (T (suc x + m)) ≡ true) ⊎ (Ω (T (suc x + m)) ≡ false) → Holding i (suc (suc x + m)) (value (suc m))
+      one-more m q h (inl y) = let d : ℕ = suc x + m in to-value (record {
+        fill = joined J T rank ok rk (Ω with i) d (value m) q (with-old Ω i (T d) y) (h .fill);
+        has = joined-old J T rank ok rk (Ω with i) d (value m) q (with-old Ω i (T d) y) (h .fill) i (h .has);
+      }) (omega (arith, leafRange.white w g e p (suc x) m d refl (white-at d q ∙ y) .s))
+      one-more m q h (inr y) = let d : ℕ = suc x + m in
+          to-value (record { fill = widen J T rank ok rk (Ω with i) d (value m) (h .fill); has = widen-part J T rank ok rk (Ω with i) d (value m) (h .fill) i (h .has) })
+          (omega (arith, not-white w g e p (suc x) m d refl (white-at d q ∙ y) .0))
 
-          v : ℕ
-          v = max (scan J T rank Ω x) (e x) + p x + leafRange.sum w g e p (suc x) m
+      extended : (m : ℕ) → suc x + m ≤ J .count → Holding i (suc x + m) (value m)
+      extended zero q = rw (add-zero (suc x)) start
+      extended (suc m) q = rw (add-suc (suc x) m) (one-more m (omega arith) (extended m (omega arith)) (bool (Ω (T (suc x + m)))))
 
-          in-d : suc x + m < J .count
-          in-d = omega arith
-
-          other : T (suc x + m) ≡ i → ⊥
-          other z = omega (arith, ap rank z, rk .back x small, rk .back (suc x + m) in-d)
-
-          fit : (u : ℕ) → u ≡ max (scan J T rank Ω x) (e x) + p x + leafRange.sum w g e p (suc x) (suc m) → Holding i (suc (suc x + m)) u
-              → Holding i (suc x + suc m) (max (scan J T rank Ω x) (e x) + p x + leafRange.sum w g e p (suc x) (suc m))
-          fit u z h = rw (add-suc (suc x) m) (subst (λ (u : ℕ). Holding i (suc (suc x + m)) u) z h)
-
-          -- an empty or gray leaf
-          skip : leafRange.sum w g e p (suc x) (suc m) ≡ leafRange.sum w g e p (suc x) m → Holding i d v
-              → Holding i (suc x + suc m) (max (scan J T rank Ω x) (e x) + p x + leafRange.sum w g e p (suc x) (suc m))
-          skip z h = fit v (omega arith) (record { fill = widen J T rank ok rk (Ω with i) d v (h .fill); has = widen-part J T rank ok rk (Ω with i) d v (h .fill) i (h .has) })
-
-          step : Holding i d v → (Ω (T (suc x + m)) ≡ true) ⊎ (Ω (T (suc x + m)) ≡ false) → (Λ (T (suc x + m)) ≡ true) ⊎ (Λ (T (suc x + m)) ≡ false)
-              → Holding i (suc x + suc m) (max (scan J T rank Ω x) (e x) + p x + leafRange.sum w g e p (suc x) (suc m))
-          step h (inl y) k =
-              fit (v + p d) (omega (arith, leafRange.white w g e p (suc x) m (suc x + m) refl (white-at (suc x + m) in-d ∙ y) .s))
-              (record {
-                fill = joined J T rank ok rk (Ω with i) d v in-d (with-old Ω i (T d) y) (h .fill);
-                has = joined-old J T rank ok rk (Ω with i) d v in-d (with-old Ω i (T d) y) (h .fill) i (h .has);
-              })
-          step h (inr y) (inl k) = skip (leafRange.gray w g e p (suc x) m (suc x + m) refl (white-at (suc x + m) in-d ∙ y) (gray-at (suc x + m) in-d ∙ k) .s) h
-          step h (inr y) (inr k) = skip (leafRange.no-leaf w g e p (suc x) m (suc x + m) refl (white-at (suc x + m) in-d ∙ y) (gray-at (suc x + m) in-d ∙ k) .s) h
-
-      through-fill : (d : ℕ) → J .count ≤ d → (v : ℕ) × (f : EstPlusP J (Ω with i) v) × (f .part i ≡ true) × (through colour e p lasts x 0 d ≡ v)
+      through-is : (d : ℕ) → J .count ≤ d → through colour e p lasts x 0 d ≡ value (J .count - suc x)
       unfolding through
-      through-fill d q =
-          let m : ℕ = J .count - suc x in
-          let h : Holding i (suc x + m) (max (scan J T rank Ω x) (e x) + p x + leafRange.sum w g e p (suc x) m) = extended m (omega arith) in (
-            max (scan J T rank Ω x) (e x) + p x + leafRange.sum w g e p (suc x) m,
-            record {
-              part = h .fill .part;
-              within = λ k u. (and-in J T rank ok rk Ω (Ω with i) (suc x + m) k (h .fill .within k u)) .1;
-              start = h .fill .start;
-              est = h .fill .est;
-              sum = h .fill .sum;
-            },
-            h .has,
-            omega (
-              arith,
-              ap (leafRange.ect w g e p 0) from-zero,
-              ect-scan x (omega arith),
-              ap (leafRange.sum w g e p (suc x)) (rest d q),
-              (leafRange.past w g e p (suc x) (J .count - suc x) (d - J .count) (λ j r. none-w j (omega arith)) (λ j r. none-g j (omega arith))) .0,
-            ),
+      through-is d q =
+          let rest : (0 + d) - suc x ≡ (J .count - suc x) + (d - J .count) = omega arith in
+          let from-zero : x - 0 ≡ x = omega arith in
+          omega (
+            arith,
+            ap (leafRange.ect w g e p 0) from-zero,
+            ect-scan x (omega arith),
+            ap (leafRange.sum w g e p (suc x)) rest,
+            (leafRange.past w g e p (suc x) (J .count - suc x) (d - J .count) (λ j r. ap inTheta (past j (omega arith))) (λ j r. ap inLambda (past j (omega arith)))) .0,
           )
-        where
-          from-zero : x - 0 ≡ x
-          from-zero = omega arith
-
-          rest : (d : ℕ) → J .count ≤ d → (0 + d) - suc x ≡ (J .count - suc x) + (d - J .count)
-          rest d q = omega arith
 
     -- the root -----------------------------------------------------------------------------------------------------------------
 
@@ -268,9 +238,7 @@ module _ (J : Tasks natural) (ok : Proper J) (estOrder : List ℕ) (rk : ByEarli
 
     to-count : (leafRange.sum w g e p 0 (width H) ≡ leafRange.sum w g e p 0 (J .count)) × (leafRange.ect w g e p 0 (width H) ≡ leafRange.ect w g e p 0 (J .count))
         × (leafRange.ect-bar w g e p 0 (width H) ≡ leafRange.ect-bar w g e p 0 (J .count))
-    to-count =
-        let z : J .count + (width H - J .count) ≡ width H = omega (arith, enough (J .count)) in
-        rw z at (leafRange.past w g e p 0 (J .count) (width H - J .count) (λ j r. none-w j (omega arith)) (λ j r. none-g j (omega arith)))
+    to-count = to-first colour e p (J .count) (width H) (enough (J .count)) past
 
     -- its words for the two ects
     abbrev word : ℕ
@@ -324,51 +292,13 @@ module _ (J : Tasks natural) (ok : Proper J) (estOrder : List ℕ) (rk : ByEarli
         from none-white = moment-none (λ k q. sym (s .whites k q) ∙ none-white (rank k) (rk .placed k q))
 
     -- the sum is p(Θ)
-    sum-scan : (d : ℕ) → d ≤ J .count → leafRange.sum w g e p 0 d ≡ processing J (upto J T rank Ω d)
-    sum-scan zero q = omega (
-      arith,
-      leafRange.blank w g e p 0 .s,
-      processing-empty J (upto J T rank Ω 0) (λ k r.
-          elim (bool (upto J T rank Ω 0 k)) [ inl y ↦ absurd (omega (arith, (and-in J T rank ok rk Ω Ω 0 k y) .0)) | inr y ↦ y ]),
-    )
-    sum-scan (suc d) q = step (sum-scan d (omega arith)) (bool (Ω (T d))) (bool (Λ (T d)))
-      where
-        more : processing J (upto J T rank Ω d) ≤ processing J (upto J T rank Ω (suc d))
-        more = processing-mono J (upto J T rank Ω d) (upto J T rank Ω (suc d)) (λ k h.
-            let u = and-in J T rank ok rk Ω Ω d k (h .mem) in and-out J T rank ok rk Ω Ω (suc d) k (omega (arith, u .0)) (u .1))
-
-        step : leafRange.sum w g e p 0 d ≡ processing J (upto J T rank Ω d) → (Ω (T d) ≡ true) ⊎ (Ω (T d) ≡ false) → (Λ (T d) ≡ true) ⊎ (Λ (T d) ≡ false)
-            → leafRange.sum w g e p 0 (suc d) ≡ processing J (upto J T rank Ω (suc d))
-        step ih (inl y) v = omega (arith, leafRange.white w g e p 0 d d (zero-add d) (white-at d q ∙ y) .s, grow-in J T rank ok rk Ω Ω d q y)
-        step ih (inr y) (inl v) = omega (arith, more, leafRange.gray w g e p 0 d d (zero-add d) (white-at d q ∙ y) (gray-at d q ∙ v) .s, grow-out J T rank ok rk Ω Ω d q y)
-        step ih (inr y) (inr v) = omega (arith, more, leafRange.no-leaf w g e p 0 d d (zero-add d) (white-at d q ∙ y) (gray-at d q ∙ v) .s, grow-out J T rank ok rk Ω Ω d q y)
-
     pub sum-of : leaves.sum J estOrder ls ≡ processing J Ω
-    sum-of =
-        let a : processing J (upto J T rank Ω (J .count)) ≤ processing J Ω
-        = processing-mono J (upto J T rank Ω (J .count)) Ω (λ k h. (and-in J T rank ok rk Ω Ω (J .count) k (h .mem)) .1) in
-        let b : processing J Ω ≤ processing J (upto J T rank Ω (J .count))
-        = processing-mono J Ω (upto J T rank Ω (J .count)) (λ k h. and-out J T rank ok rk Ω Ω (J .count) k (rk .placed k (h .small)) (h .mem)) in
-        omega (arith, root-holds .sum, to-count .0, sum-scan (J .count) (omega arith), a, b)
+    sum-of = root-holds .sum ∙ to-count .0 ∙ sum-all Ω (leafRange.sum w g e p 0) (leafRange.blank w g e p 0 .s)
+        (λ d q y. leafRange.white w g e p 0 d d (zero-add d) (white-at d q ∙ y) .s) (λ d q y. not-white w g e p 0 d d (zero-add d) (white-at d q ∙ y) .0)
 
     -- the sum bar is the largest p of Θ with at most one task of Λ
-    gray-sum : (x : ℕ) → g x ≡ true → (d : ℕ) → x < d → leafRange.sum w g e p 0 d + p x ≤ leafRange.sum-bar w g e p 0 d
-    gray-sum x h zero q = absurd (omega arith)
-    gray-sum x h (suc d) q = step (bool (w d)) (bool (g d)) (ℕ-discrete x d) (gray-sum x h d)
-      where
-        here : x ≡ d → w d ≡ false → leafRange.sum w g e p 0 (suc d) + p x ≤ leafRange.sum-bar w g e p 0 (suc d)
-        here z y = omega (arith, leafRange.gray w g e p 0 d d (zero-add d) y (ap g (sym z) ∙ h), ap p z)
-
-        step : (w d ≡ true) ⊎ (w d ≡ false) → (g d ≡ true) ⊎ (g d ≡ false) → Dec (x ≡ d) → (x < d → leafRange.sum w g e p 0 d + p x ≤ leafRange.sum-bar w g e p 0 d)
-            → leafRange.sum w g e p 0 (suc d) + p x ≤ leafRange.sum-bar w g e p 0 (suc d)
-        step (inl y) v (yes z) ih = one-colour (colour d) y (ap g (sym z) ∙ h)
-        step (inl y) v (no z) ih = omega (arith, leafRange.white w g e p 0 d d (zero-add d) y, ih (omega arith))
-        step (inr y) v (yes z) ih = here z y
-        step (inr y) (inl v) (no z) ih = omega (arith, leafRange.gray w g e p 0 d d (zero-add d) y v, ih (omega arith))
-        step (inr y) (inr v) (no z) ih = omega (arith, leafRange.no-leaf w g e p 0 d d (zero-add d) y v, ih (omega arith))
-
     pub sum-bar-of : Largest natural (λ v. (processing J Ω ≡ v) ⊎ ((k : ℕ) × In J Λ k × (processing J (Ω with k) ≡ v))) (leaves.root J estOrder ls .«sum_of_processing_times_bar»)
-    sum-bar-of = record { holds = holds (searchP (leaves.leaves J estOrder ls) H 0) (by-sum-ok colour e p lasts H 0); bounds = bounds }
+    sum-bar-of = record { holds = holds (searchP (leaves.leaves J estOrder ls) H 0) (by-ok colour e p lasts sums H 0); bounds = bounds }
       where
         SB : ℕ
         SB = leaves.root J estOrder ls .«sum_of_processing_times_bar»
@@ -379,28 +309,21 @@ module _ (J : Tasks natural) (ok : Proper J) (estOrder : List ℕ) (rk : ByEarli
             let y : Ω k ≡ false = elim (bool (Ω k)) [ inl t ↦ one-colour (colour (rank k)) (s .whites k (m .small) ∙ t) (s .grays k (m .small) ∙ m .mem) | inr t ↦ t ] in
             (y, processing-with J Ω k (record { small = m .small; mem = y }))
 
-        enough-leaves : (x : ℕ) → x < J .count → x < width H
-        enough-leaves x q = omega (arith, enough (J .count))
+        more : (x : ℕ) → x < J .count → Ω (T x) ≡ false → g x ≡ true → processing J Ω + p x ≤ SB
+        more x q y v = omega (arith, root-holds .sum, root-holds .sum-bar, sum-of, gray-sum colour e p lasts x 0 (width H) (white-at x q ∙ y) (omega arith) (omega (arith, enough (J .count))) v)
 
-        holds : (o : Option ℕ) → SumOk colour e p lasts H 0 o → (processing J Ω ≡ SB) ⊎ ((k : ℕ) × In J Λ k × (processing J (Ω with k) ≡ SB))
+        holds : (o : Option ℕ) → Ok colour e p lasts sums H 0 o → (processing J Ω ≡ SB) ⊎ ((k : ℕ) × In J Λ k × (processing J (Ω with k) ≡ SB))
         holds none f = inl (omega (arith, f, root-holds .sum, root-holds .sum-bar, sum-of, leafRange.bars w g e p 0 (width H) .more))
         holds (some x) f =
             let u = gray-in x (f .0 .gray) in
             let m : In J Λ (T x) = record { small = rk .task x (u .0); mem = u .1 } in
-            inr (T x, m, omega (arith, f .1, root-holds .sum, root-holds .sum-bar, sum-of, gray-sum x (f .0 .gray) (width H) (enough-leaves x (u .0)), (with-gray (T x) m) .1))
+            inr (T x, m, omega (arith, f .1, root-holds .sum, root-holds .sum-bar, sum-of, more x (u .0) (with-gray (T x) m .0) (f .0 .gray), with-gray (T x) m .1))
 
         bounds : (v : ℕ) → (processing J Ω ≡ v) ⊎ ((k : ℕ) × In J Λ k × (processing J (Ω with k) ≡ v)) → v ≤ SB
         bounds v (inl z) = omega (arith, root-holds .sum, root-holds .sum-bar, sum-of, leafRange.bars w g e p 0 (width H) .more)
         bounds v (inr (k, m, z)) =
-            omega (
-              arith,
-              root-holds .sum,
-              root-holds .sum-bar,
-              sum-of,
-              (with-gray k m) .1,
-              ap (J .duration) (rk .there k (m .small)),
-              gray-sum (rank k) (s .grays k (m .small) ∙ m .mem) (width H) (enough-leaves (rank k) (rk .placed k (m .small))),
-            )
+            let there : T (rank k) ≡ k = rk .there k (m .small) in
+            omega (arith, with-gray k m .1, ap (J .duration) there, more (rank k) (rk .placed k (m .small)) (ap Ω there ∙ with-gray k m .0) (s .grays k (m .small) ∙ m .mem))
 
     -- the bar is at least the ect with each gray task
     most-word : (k : ℕ) → In J Λ k → scan J T rank (Ω with k) (J .count) ≤ bar-word
@@ -416,25 +339,18 @@ module _ (J : Tasks natural) (ok : Proper J) (estOrder : List ℕ) (rk : ByEarli
     plain-least : word ≤ bar-word
     plain-least = omega (arith, root-holds .ect, root-holds .ect-bar, leafRange.bars w g e p 0 (width H) .later)
 
+    past-zero : NonEmpty J Ω ⊎ NonEmpty J Λ → 1 ≤ bar-word
+    past-zero (inl (k, m)) = omega (arith, plain-least, some-word k m)
+    past-zero (inr (k, m)) = omega (arith, most-word k m, scan-some (Ω with k) k (record { small = m .small; mem = with-new Ω k }))
+
     largest : NonEmpty J Ω ⊎ NonEmpty J Λ → Largest natural AtMostOne bar-word
     largest some-task = record { holds = rw bar-word-is (holds (bars.reached J ok T rank rk Ω Λ (J .count) (omega arith)) (top Ω (λ k. 0) (J .count))); bounds = bounds }
       where
         EB : ℕ
         EB = bars.EB J ok T rank rk Ω Λ (J .count)
 
-        nothing : Empty Ω (J .count) → EB ≡ scan J T rank Ω (J .count) → ⊥
-        nothing nil z = elim some-task [
-          | inl m ↦ clash (m .1 .mem) (nil (m .0) (m .1 .small))
-          | inr m ↦ omega (
-            arith,
-            scan-none Ω nil,
-            bars.most J ok T rank rk Ω Λ (m .0) (m .1) (J .count) (omega arith),
-            scan-some (Ω with m .0) (m .0) (record { small = m .1 .small; mem = with-new Ω (m .0) }),
-          )
-        ]
-
         holds : (EB ≡ scan J T rank Ω (J .count)) ⊎ bars.One J ok T rank rk Ω Λ (J .count) → Empty Ω (J .count) ⊎ Top Ω (λ k. 0) (J .count) → AtMostOne EB
-        holds (inl z) (inl nil) = absurd (nothing nil z)
+        holds (inl z) (inl nil) = absurd (omega (arith, past-zero some-task, bar-word-is, z, scan-none Ω nil))
         holds (inl z) (inr t) = inl (rw z (scan-is J T rank ok rk Ω (t .at, record { small = t .small; mem = t .mem })))
         holds (inr o) t = inr (o .at, o .mem, rw (o .is) (scan-is J T rank ok rk (Ω with o .at) (o .at, record { small = o .mem .small; mem = with-new Ω (o .at) })))
 
@@ -447,13 +363,7 @@ module _ (J : Tasks natural) (ok : Proper J) (estOrder : List ℕ) (rk : ByEarli
 
     -- the answer `ect_bar`: that ect, or none exactly where no leaf is white or gray
     pub bar-some : NonEmpty J Ω ⊎ NonEmpty J Λ → (v : ℕ) × (leaves.ect-bar J estOrder ls ≡ some v) × Largest natural AtMostOne v
-    bar-some some-task = (bar-word, decoded-some bar-word past-zero, largest some-task)
-      where
-        past-zero : 1 ≤ bar-word
-        past-zero = elim some-task [
-          | inl m ↦ omega (arith, plain-least, some-word (m .0) (m .1))
-          | inr m ↦ omega (arith, most-word (m .0) (m .1), scan-some (Ω with m .0) (m .0) (record { small = m .1 .small; mem = with-new Ω (m .0) }))
-        ]
+    bar-some some-task = (bar-word, decoded-some bar-word (past-zero some-task), largest some-task)
 
     pub bar-none : Empty Ω (J .count) → Empty Λ (J .count) → leaves.ect-bar J estOrder ls ≡ none
     bar-none nil no-gray = decoded-none bar-word (elim (bars.reached J ok T rank rk Ω Λ (J .count) (omega arith))
@@ -461,14 +371,14 @@ module _ (J : Tasks natural) (ok : Proper J) (estOrder : List ℕ) (rk : ByEarli
 
     -- the search's answer ------------------------------------------------------------------------------------------------------
 
-    answered : EctOk colour e p lasts H 0 (leaves.responsible J estOrder ls)
+    answered : Ok colour e p lasts ects H 0 (leaves.responsible J estOrder ls)
     unfolding leaves.responsible
-    answered = by-ect-ok colour e p lasts H 0
+    answered = by-ok colour e p lasts ects H 0
 
     -- no task found: a gray one is not needed for the bar
     pub none-found : leaves.responsible J estOrder ls ≡ none → leaves.ect-bar J estOrder ls ≡ leaves.ect J estOrder ls
     none-found z =
-        let f : leafRange.ect-bar w g e p 0 (width H) ≤ leafRange.ect w g e p 0 (width H) = subst (EctOk colour e p lasts H 0) z answered in
+        let f : leafRange.ect-bar w g e p 0 (width H) ≤ leafRange.ect w g e p 0 (width H) = subst (Ok colour e p lasts ects H 0) z answered in
         let same : bar-word ≡ word = omega (arith, f, root-holds .ect, root-holds .ect-bar, plain-least) in
         ap decoded same
 
@@ -484,18 +394,25 @@ module _ (J : Tasks natural) (ok : Proper J) (estOrder : List ℕ) (rk : ByEarli
 
     pub one-found : (x : ℕ) → leaves.responsible J estOrder ls ≡ some x → Found x
     one-found x z =
-        let f = subst (EctOk colour e p lasts H 0) z answered in
+        let f = subst (Ok colour e p lasts ects H 0) z answered in
         let u = gray-in x (f .0 .gray) in
         let y : Ω (T x) ≡ false = sym (white-at x (u .0)) ∙ f .0 .white in
-        let (v, a, has, is) = through-fill x (u .0) y (width H) (enough (J .count)) in
+        let m : ℕ = J .count - suc x in
+        let h : Holding (T x) (suc x + m) (value x (u .0) y m) = extended x (u .0) y m (omega (arith, u .0)) in
         record {
           small = u .0;
           gray = record { small = rk .task x (u .0); mem = u .1 };
           out = y;
-          value = v;
-          attains = a;
-          has = has;
-          reaches = λ v′ y. omega (arith, f .1, is, root-holds .ect-bar, decoded-word bar-word v′ y);
+          value = value x (u .0) y m;
+          attains = record {
+            part = h .fill .part;
+            within = λ k n. (and-in J T rank ok rk Ω (Ω with T x) (suc x + m) k (h .fill .within k n)) .1;
+            start = h .fill .start;
+            est = h .fill .est;
+            sum = h .fill .sum;
+          };
+          has = h .has;
+          reaches = λ v z. omega (arith, f .1, through-is x (u .0) y (width H) (enough (J .count)), root-holds .ect-bar, decoded-word bar-word v z);
         }
 
     pub past-found : {x : ℕ} (f : Found x) (m : ℕ) → exceeds (leaves.ect-bar J estOrder ls) m ≡ true → m < f .value

@@ -1,4 +1,4 @@
--- The steps of the two searches in the array are those over the leaves.
+-- Both searches step by step: what is left of a search after a step, and that the steps in the array are those over the leaves.
 use mathlib.Core.Path.{_≡_, refl, sym, ap, subst, _∙_}
 use mathlib.Core.Bool.{Bool, true, false}
 use mathlib.Core.Logic.{inl, inr}
@@ -22,9 +22,9 @@ use Rattle.trees.specs.declared.theta_lambda_node.EctBarDescent.the-vari
 use Rattle.trees.specs.declared.theta_lambda_node.EctBarDescent.{EctBarDescent}
 use Rattle.trees.specs.Nodes.{joinOf}
 use Rattle.trees.specs.NodeBounds.{size, Fair, Fits}
-use Rattle.trees.specs.Descents.{gray, descentP, descentEct}
+use Rattle.trees.specs.Descents.{gray}
 use Rattle.trees.specs.SearchSteps.{AroundFits, stepAtP, stepAtEct}
-use Rattle.trees.proofs.Descents.{tagP, tagEct, never-here-p, never-here-ect}
+use Rattle.trees.proofs.Descents.{By, sums, ects, asEct, stepAt, leaf-step, Fact, fact}
 use Rattle.trees.proofs.Joins.{additive}
 use Rattle.trees.specs.declared.disjunctive_task.LocalId.{LocalId}
 use Rattle.trees.specs.declared.theta_lambda_tree.Responsible.the-variants as responsible
@@ -36,86 +36,64 @@ use Rattle.trees.proofs.Heights.{leftmost-leaf, leftmost-left, leftmost
 use Rattle.trees.proofs.ArrayTrees.{node-is, over-fits}
 
 module _ (leaf : ℕ → Node) where
+  -- what a search reads at the node of height h over the leaves from a on
+  abbrev pub aroundOver : ℕ → ℕ → Around
+  aroundOver zero a = around.Leaf (leaf a)
+  aroundOver (suc g) a = around.Inner (nodeOver joinOf leaf (suc g) a) (nodeOver joinOf leaf g a) (nodeOver joinOf leaf g (a + width g))
+
+  abbrev pub searchBy : By → ℕ → ℕ → Option ℕ
+  searchBy sums = searchP leaf
+  searchBy ects = searchEct leaf
+
   -- what the whole search is after a step from a node above the leaves
-  abbrev pub restP : ℕ → ℕ → PDescent → Option ℕ
-  restP g a Left = searchP leaf g a
-  restP g a Right = searchP leaf g (a + width g)
-  restP g a Here = none
-  restP g a Nothing = none
+  abbrev pub rest : By → ℕ → ℕ → EctBarDescent → Option ℕ
+  rest by g a bar.Left = searchBy by g a
+  rest by g a bar.RightP = searchP leaf g (a + width g)
+  rest by g a bar.Right = searchEct leaf g (a + width g)
+  rest by g a bar.Here = none
+  rest by g a bar.Nothing = none
 
-  abbrev pub restEct : ℕ → ℕ → EctBarDescent → Option ℕ
-  restEct g a bar.Right = searchEct leaf g (a + width g)
-  restEct g a bar.RightP = searchP leaf g (a + width g)
-  restEct g a bar.Left = searchEct leaf g a
-  restEct g a bar.Here = none
-  restEct g a bar.Nothing = none
+  pub inner-is : (by : By) (g a : ℕ) → searchBy by (suc g) a ≡ rest by g a (stepAt by (aroundOver (suc g) a))
+  unfolding searchP searchEct stepP stepEct
+  inner-is sums g a = elim (stepP leaf (suc g) a) as (λ d. elim d [ Left ↦ searchP leaf g a | Right ↦ searchP leaf g (a + width g) | Here ↦ none | Nothing ↦ none ] ≡ rest sums g a (asEct d))
+      [ Left ↦ refl | Right ↦ refl | Here ↦ refl | Nothing ↦ refl ]
+  inner-is ects g a = elim (stepEct leaf (suc g) a) as (λ d. elim d [
+    | bar.Right ↦ searchEct leaf g (a + width g)
+    | bar.RightP ↦ searchP leaf g (a + width g)
+    | bar.Left ↦ searchEct leaf g a
+    | bar.Here ↦ none
+    | bar.Nothing ↦ none
+  ] ≡ rest ects g a d) [ bar.Right ↦ refl | bar.RightP ↦ refl | bar.Left ↦ refl | bar.Here ↦ refl | bar.Nothing ↦ refl ]
 
-  pub inner-p-is : (g a : ℕ) (d : PDescent) → stepP leaf (suc g) a ≡ d → searchP leaf (suc g) a ≡ restP g a d
-  unfolding searchP
-  inner-p-is g a Left y = rw (y, searchP)
-  inner-p-is g a Right y = rw (y, searchP)
-  inner-p-is g a Here y = rw (y, searchP)
-  inner-p-is g a Nothing y = rw (y, searchP)
+  -- the searches at a leaf
+  pub leaf-search : (by : By) (a : ℕ) → searchBy by 0 a ≡ elim (gray (leaf a)) [ true ↦ some a | false ↦ none ]
+  unfolding searchP searchEct stepP stepEct
+  leaf-search sums a = elim (bool (gray (leaf a))) [ inl t ↦ rw (t, stepP, searchP) | inr t ↦ rw (t, stepP, searchP) ]
+  leaf-search ects a = elim (bool (gray (leaf a))) [ inl t ↦ rw (t, stepEct, searchEct) | inr t ↦ rw (t, stepEct, searchEct) ]
 
-  pub inner-ect-is : (g a : ℕ) (d : EctBarDescent) → stepEct leaf (suc g) a ≡ d → searchEct leaf (suc g) a ≡ restEct g a d
-  unfolding searchEct
-  inner-ect-is g a bar.Right y = rw (y, searchEct)
-  inner-ect-is g a bar.RightP y = rw (y, searchEct)
-  inner-ect-is g a bar.Left y = rw (y, searchEct)
-  inner-ect-is g a bar.Here y = rw (y, searchEct)
-  inner-ect-is g a bar.Nothing y = rw (y, searchEct)
+  -- What a step at that node says of the search from there: it goes down to a child, it ends at a leaf, or it ends with none.
+  abbrev pub After : By → ℕ → ℕ → EctBarDescent → Type 0
+  After by h a bar.Left = (1 ≤ h) × (searchBy by h a ≡ searchBy by (h - 1) a)
+  After by h a bar.RightP = (1 ≤ h) × (searchBy by h a ≡ searchP leaf (h - 1) (a + width (h - 1)))
+  After by h a bar.Right = (1 ≤ h) × (searchBy by h a ≡ searchEct leaf (h - 1) (a + width (h - 1)))
+  After by h a bar.Here = (h ≡ 0) × (searchBy by h a ≡ some a)
+  After by h a bar.Nothing = searchBy by h a ≡ none
 
-  go-p : (h g a : ℕ) → h ≡ suc g → (d : PDescent) → stepP leaf h a ≡ d → searchP leaf h a ≡ restP g a d
-  go-p h g a z d y = ap (λ (k : ℕ). searchP leaf k a) z ∙ inner-p-is g a d (ap (λ (k : ℕ). stepP leaf k a) (sym z) ∙ y)
+  pub after : (by : By) (h a : ℕ) → After by h a (stepAt by (aroundOver h a))
+  after by zero a = elim (bool (gray (leaf a)))
+      [ inl t ↦ rw (leaf-step by (leaf a), t) (refl, rw (leaf-search by a, t)) | inr t ↦ rw (leaf-step by (leaf a), t) (rw (leaf-search by a, t)) ]
+  after by (suc g) a = go (stepAt by (aroundOver (suc g) a)) (inner-is by g a) (fact (nodeOver joinOf leaf (suc g) a) (nodeOver joinOf leaf g a) (nodeOver joinOf leaf g (a + width g)) by)
+    where
+      less : suc g - 1 ≡ g
+      less = omega arith
 
-  go-ect : (h g a : ℕ) → h ≡ suc g → (d : EctBarDescent) → stepEct leaf h a ≡ d → searchEct leaf h a ≡ restEct g a d
-  go-ect h g a z d y = ap (λ (k : ℕ). searchEct leaf k a) z ∙ inner-ect-is g a d (ap (λ (k : ℕ). stepEct leaf k a) (sym z) ∙ y)
-
-  -- a leaf is no way down, and only a leaf is an end
-  leaf-tag-p : (a : ℕ) → 2 ≤ tagP (stepP leaf 0 a)
-  unfolding stepP tagP
-  leaf-tag-p a = elim (bool (gray (leaf a))) [ inl t ↦ rw (t, stepP) (omega arith) | inr t ↦ rw (t, stepP) (omega arith) ]
-
-  leaf-tag-ect : (a : ℕ) → 3 ≤ tagEct (stepEct leaf 0 a)
-  unfolding stepEct tagEct
-  leaf-tag-ect a = elim (bool (gray (leaf a))) [ inl t ↦ rw (t, stepEct) (omega arith) | inr t ↦ rw (t, stepEct) (omega arith) ]
-
-  not-leaf-p : (h a : ℕ) → tagP (stepP leaf h a) < 2 → h ≡ 0 → ⊥
-  not-leaf-p h a q z = omega (arith, leaf-tag-p a, ap (λ (k : ℕ). tagP (stepP leaf k a)) z)
-
-  not-leaf-ect : (h a : ℕ) → tagEct (stepEct leaf h a) < 3 → h ≡ 0 → ⊥
-  not-leaf-ect h a q z = omega (arith, leaf-tag-ect a, ap (λ (k : ℕ). tagEct (stepEct leaf k a)) z)
-
-module _ (leaf : ℕ → Node) where
-  is-leaf-p : (h a : ℕ) → tagP (stepP leaf h a) ≡ 2 → h ≡ 0
-  unfolding stepP
-  is-leaf-p zero a q = refl
-  is-leaf-p (suc g) a q = absurd (never-here-p (nodeOver joinOf leaf (suc g) a) (nodeOver joinOf leaf g a) (nodeOver joinOf leaf g (a + width g)) q)
-
-  is-leaf-ect : (h a : ℕ) → tagEct (stepEct leaf h a) ≡ 3 → h ≡ 0
-  unfolding stepEct
-  is-leaf-ect zero a q = refl
-  is-leaf-ect (suc g) a q = absurd (never-here-ect (nodeOver joinOf leaf (suc g) a) (nodeOver joinOf leaf g a) (nodeOver joinOf leaf g (a + width g)) q)
-
-  here-search-p : (h a : ℕ) → stepP leaf h a ≡ Here → searchP leaf h a ≡ some a
-  unfolding searchP tagP
-  here-search-p zero a y = rw (y, searchP)
-  here-search-p (suc g) a y = absurd (omega (arith, is-leaf-p (suc g) a (ap tagP y)))
-
-  here-search-ect : (h a : ℕ) → stepEct leaf h a ≡ bar.Here → searchEct leaf h a ≡ some a
-  unfolding searchEct tagEct
-  here-search-ect zero a y = rw (y, searchEct)
-  here-search-ect (suc g) a y = absurd (omega (arith, is-leaf-ect (suc g) a (ap tagEct y)))
-
-  nothing-search-p : (h a : ℕ) → stepP leaf h a ≡ Nothing → searchP leaf h a ≡ none
-  unfolding searchP
-  nothing-search-p zero a y = rw (y, searchP)
-  nothing-search-p (suc g) a y = rw (y, searchP)
-
-  nothing-search-ect : (h a : ℕ) → stepEct leaf h a ≡ bar.Nothing → searchEct leaf h a ≡ none
-  unfolding searchEct
-  nothing-search-ect zero a y = rw (y, searchEct)
-  nothing-search-ect (suc g) a y = rw (y, searchEct)
+      go : (d : EctBarDescent) → searchBy by (suc g) a ≡ rest by g a d
+          → Fact (nodeOver joinOf leaf (suc g) a) (nodeOver joinOf leaf g a) (nodeOver joinOf leaf g (a + width g)) d by → After by (suc g) a d
+      go bar.Left y f = (omega arith, rw less y)
+      go bar.RightP y f = (omega arith, rw less y)
+      go bar.Right y f = (omega arith, rw less y)
+      go bar.Here y f = absurd f
+      go bar.Nothing y f = y
 
 -- what is left of the height falls
 pub falls : {h t : ℕ} → h ≡ t → 1 ≤ h → h - 1 < t
@@ -157,28 +135,20 @@ module _ {m : ℕ} {at : ℕ → Node} where
     pub right-small : {r : ℕ} → b ≡ false → r ≡ 2 * i + 2 → r < NODES
     right-small is e = omega (arith, leb-false m i (sym test ∙ is), s .room)
 
-  -- It decides the step there.
+  -- It is what stands around the node over its leaves.
   module _ {h i : ℕ} (s : Searchable m h i at) where
-    over : {D : Type 0} (f : Node → Node → Node → D) (g : ℕ) → HasHeight m (suc g) i
-        → f (nodeOver joinOf (leavesOf m at) (suc g) (leftmost (suc g) i - m)) (nodeOver joinOf (leavesOf m at) g (leftmost (suc g) i - m))
-        (nodeOver joinOf (leavesOf m at) g ((leftmost (suc g) i - m) + width g)) ≡ f (at i) (at (2 * i + 1)) (at (2 * i + 2))
-    over f g t =
+    around-is : (g : ℕ) → HasHeight m g i → aroundOf m at i ≡ aroundOver (leavesOf m at) g (leftmost g i - m)
+    unfolding aroundOf
+    around-is zero t =
+        let y : leb m i ≡ true = le-leb m i (leaf-at m i t) in
+        let z : i ≡ m + (leftmost 0 i - m) = omega (arith, t .from, leftmost-leaf i) in
+        rw (y, aroundOf) (ap (λ (j : ℕ). around.Leaf (at j)) z)
+    around-is (suc g) t =
+        let y : leb m i ≡ false = lt-leb m i (inner-height m g i t) in
         let l : leftmost g (2 * i + 1) - m ≡ leftmost (suc g) i - m = omega (arith, leftmost-left g i) in
         let r : leftmost g (2 * i + 2) - m ≡ (leftmost (suc g) i - m) + width g = omega (arith, leftmost-right g i, t .from) in
-        rw (node-is joinOf m at (s .tree) (suc g) i t, node-is joinOf m at (s .tree) g (2 * i + 1) (left-height m g i t), node-is joinOf m at (s .tree) g (2 * i + 2) (right-height m g i t), l, r) refl
-
-    leaf-is : (t : HasHeight m 0 i) → at i ≡ leavesOf m at (leftmost 0 i - m)
-    leaf-is t = ap at (omega (arith, t .from, leftmost-leaf i))
-
-    at-p : (g : ℕ) → HasHeight m g i → stepAtP (aroundOf m at i) ≡ stepP (leavesOf m at) g (leftmost g i - m)
-    unfolding stepP aroundOf
-    at-p zero t = let y : leb m i ≡ true = le-leb m i (leaf-at m i t) in rw (y, aroundOf) (ap (λ (n : Node). stepAtP (around.Leaf n)) (leaf-is t))
-    at-p (suc g) t = let y : leb m i ≡ false = lt-leb m i (inner-height m g i t) in rw (y, aroundOf) (sym (over descentP g t))
-
-    at-ect : (g : ℕ) → HasHeight m g i → stepAtEct (aroundOf m at i) ≡ stepEct (leavesOf m at) g (leftmost g i - m)
-    unfolding stepEct aroundOf
-    at-ect zero t = let y : leb m i ≡ true = le-leb m i (leaf-at m i t) in rw (y, aroundOf) (ap (λ (n : Node). stepAtEct (around.Leaf n)) (leaf-is t))
-    at-ect (suc g) t = let y : leb m i ≡ false = lt-leb m i (inner-height m g i t) in rw (y, aroundOf) (sym (over descentEct g t))
+        let n = node-is joinOf m at (s .tree) in
+        rw (y, aroundOf) (rw (n (suc g) i t, n g (2 * i + 1) (left-height m g i t), n g (2 * i + 2) (right-height m g i t), l, r) refl)
 
     -- the children of a node above the leaves
     abbrev raised : 1 ≤ h → HasHeight m (suc (h - 1)) i
@@ -197,23 +167,22 @@ module _ {m : ℕ} {at : ℕ → Node} where
     abbrev a : ℕ
     a = leftmost h i - m
 
-    -- The search below a child is the one below the node: `below` is it, by height and first leaf.
-    to-left : {j r : ℕ} {whole : Option ℕ} (below : ℕ → ℕ → Option ℕ) → j ≡ 2 * i + 1 → 1 ≤ h → ((g : ℕ) → h ≡ suc g → whole ≡ below g a) → r ≡ foundAt m (below (h - 1) (leftmost (h - 1) j - m))
-        → r ≡ foundAt m whole
-    to-left {j} below e above is found =
+    -- The search below a child is the one below the node: `below` is it, by first leaf.
+    to-left : {j r : ℕ} {whole : Option ℕ} (below : ℕ → Option ℕ) → (1 ≤ h) × (whole ≡ below a) → j ≡ 2 * i + 1 → r ≡ foundAt m (below (leftmost (h - 1) j - m)) → r ≡ foundAt m whole
+    to-left {j} below (above, is) e found =
         let z : h ≡ suc (h - 1) = omega arith in
         let f : leftmost (h - 1) j - m ≡ a = omega (arith, ap (λ (g : ℕ). leftmost g i) z, ap (leftmost (h - 1)) e, leftmost-left (h - 1) i) in
-        found ∙ ap (foundAt m) (ap (below (h - 1)) f ∙ sym (is (h - 1) z))
+        found ∙ ap (foundAt m) (ap below f ∙ sym is)
 
-    to-right : {j r : ℕ} {whole : Option ℕ} (below : ℕ → ℕ → Option ℕ) → j ≡ 2 * i + 2 → 1 ≤ h → ((g : ℕ) → h ≡ suc g → whole ≡ below g (a + width g))
-        → r ≡ foundAt m (below (h - 1) (leftmost (h - 1) j - m)) → r ≡ foundAt m whole
-    to-right {j} below e above is found =
+    to-right : {j r : ℕ} {whole : Option ℕ} (below : ℕ → Option ℕ) → (1 ≤ h) × (whole ≡ below (a + width (h - 1))) → j ≡ 2 * i + 2 → r ≡ foundAt m (below (leftmost (h - 1) j - m))
+        → r ≡ foundAt m whole
+    to-right {j} below (above, is) e found =
         let z : h ≡ suc (h - 1) = omega arith in
         let f : leftmost (h - 1) j - m ≡ a + width (h - 1) = omega (arith, ap (λ (g : ℕ). leftmost g i) z, ap (leftmost (h - 1)) e, leftmost-right (h - 1) i, s .has-height .from) in
-        found ∙ ap (foundAt m) (ap (below (h - 1)) f ∙ sym (is (h - 1) z))
+        found ∙ ap (foundAt m) (ap below f ∙ sym is)
 
-    at-leaf : h ≡ 0 → i ≡ m + a
-    at-leaf z = omega (arith, s .has-height .from, ap (λ (g : ℕ). leftmost g i) z, leftmost-leaf i)
+    to-here : {whole : Option ℕ} → (h ≡ 0) × (whole ≡ some a) → i ≡ foundAt m whole
+    to-here (z, is) = rw is (omega (arith, s .has-height .from, ap (λ (g : ℕ). leftmost g i) z, leftmost-leaf i))
 
     -- What a step from the node says, taken by what was read there.
     module _ {x : Around} (read : x ≡ aroundOf m at i) where
@@ -222,64 +191,60 @@ module _ {m : ℕ} {at : ℕ → Node} where
       around-fits = rw read (elim (decLt i m)
           [ yes q ↦ (let y : leb m i ≡ false = lt-leb m i q in rw (y, aroundOf) (child-fits s q)) | no q ↦ (let y : leb m i ≡ true = le-leb m i (omega arith) in rw (y, aroundOf) tt) ])
 
+      says : (by : By) {d : EctBarDescent} → stepAt by x ≡ d → After L by h a d
+      says by is = subst (After L by h a) (ap (stepAt by) (sym (around-is h (s .has-height)) ∙ sym read) ∙ is) (after L by h a)
+
       -- by sums
       module _ {d : PDescent} (step : d ≡ stepAtP x) where
-        step-p : {e : PDescent} → d ≡ e → stepP L h a ≡ e
-        step-p is = sym (at-p h (s .has-height)) ∙ ap stepAtP (sym read) ∙ sym step ∙ is
+        says-p : {e : PDescent} → d ≡ e → After L sums h a (asEct e)
+        says-p is = says sums (ap asEct (sym step ∙ is))
 
         pub above-left-p : d ≡ Left → 1 ≤ h
-        unfolding tagP
-        above-left-p is = omega (arith, not-leaf-p L h a (omega (arith, ap tagP (step-p is))))
+        above-left-p is = says-p is .0
 
         pub above-right-p : d ≡ Right → 1 ≤ h
-        unfolding tagP
-        above-right-p is = omega (arith, not-leaf-p L h a (omega (arith, ap tagP (step-p is))))
+        above-right-p is = says-p is .0
 
         pub left-p : {j r : ℕ} → d ≡ Left → j ≡ 2 * i + 1 → r ≡ foundAt m (searchP L (h - 1) (leftmost (h - 1) j - m)) → r ≡ foundAt m (searchP L h a)
-        left-p is e = to-left (searchP L) e (above-left-p is) (λ g z. go-p L h g a z Left (step-p is))
+        left-p is = to-left (searchP L (h - 1)) (says-p is)
 
         pub right-p : {j r : ℕ} → d ≡ Right → j ≡ 2 * i + 2 → r ≡ foundAt m (searchP L (h - 1) (leftmost (h - 1) j - m)) → r ≡ foundAt m (searchP L h a)
-        right-p is e = to-right (searchP L) e (above-right-p is) (λ g z. go-p L h g a z Right (step-p is))
+        right-p is = to-right (searchP L (h - 1)) (says-p is)
 
         pub here-p : d ≡ Here → i ≡ foundAt m (searchP L h a)
-        unfolding tagP
-        here-p is = rw (here-search-p L h a (step-p is)) (at-leaf (is-leaf-p L h a (omega (arith, ap tagP (step-p is)))))
+        here-p is = to-here (says-p is)
 
         pub nothing-p : d ≡ Nothing → nowhere ≡ foundAt m (searchP L h a)
-        nothing-p is = sym (ap (foundAt m) (nothing-search-p L h a (step-p is)))
+        nothing-p is = sym (ap (foundAt m) (says-p is))
 
       -- by ects
       module _ {d : EctBarDescent} (step : d ≡ stepAtEct x) where
-        step-ect : {e : EctBarDescent} → d ≡ e → stepEct L h a ≡ e
-        step-ect is = sym (at-ect h (s .has-height)) ∙ ap stepAtEct (sym read) ∙ sym step ∙ is
+        says-ect : {e : EctBarDescent} → d ≡ e → After L ects h a e
+        says-ect is = says ects (sym step ∙ is)
 
         pub above-right-ect : d ≡ bar.Right → 1 ≤ h
-        unfolding tagEct
-        above-right-ect is = omega (arith, not-leaf-ect L h a (omega (arith, ap tagEct (step-ect is))))
+        above-right-ect is = says-ect is .0
 
         pub above-middle-ect : d ≡ bar.RightP → 1 ≤ h
-        unfolding tagEct
-        above-middle-ect is = omega (arith, not-leaf-ect L h a (omega (arith, ap tagEct (step-ect is))))
+        above-middle-ect is = says-ect is .0
 
         pub above-left-ect : d ≡ bar.Left → 1 ≤ h
-        unfolding tagEct
-        above-left-ect is = omega (arith, not-leaf-ect L h a (omega (arith, ap tagEct (step-ect is))))
+        above-left-ect is = says-ect is .0
 
         pub right-ect : {j r : ℕ} → d ≡ bar.Right → j ≡ 2 * i + 2 → r ≡ foundAt m (searchEct L (h - 1) (leftmost (h - 1) j - m)) → r ≡ foundAt m (searchEct L h a)
-        right-ect is e = to-right (searchEct L) e (above-right-ect is) (λ g z. go-ect L h g a z bar.Right (step-ect is))
+        right-ect is = to-right (searchEct L (h - 1)) (says-ect is)
 
         pub middle-ect : {j r : ℕ} → d ≡ bar.RightP → j ≡ 2 * i + 2 → r ≡ foundAt m (searchP L (h - 1) (leftmost (h - 1) j - m)) → r ≡ foundAt m (searchEct L h a)
-        middle-ect is e = to-right (searchP L) e (above-middle-ect is) (λ g z. go-ect L h g a z bar.RightP (step-ect is))
+        middle-ect is = to-right (searchP L (h - 1)) (says-ect is)
 
         pub left-ect : {j r : ℕ} → d ≡ bar.Left → j ≡ 2 * i + 1 → r ≡ foundAt m (searchEct L (h - 1) (leftmost (h - 1) j - m)) → r ≡ foundAt m (searchEct L h a)
-        left-ect is e = to-left (searchEct L) e (above-left-ect is) (λ g z. go-ect L h g a z bar.Left (step-ect is))
+        left-ect is = to-left (searchEct L (h - 1)) (says-ect is)
 
         pub here-ect : d ≡ bar.Here → i ≡ foundAt m (searchEct L h a)
-        unfolding tagEct
-        here-ect is = rw (here-search-ect L h a (step-ect is)) (at-leaf (is-leaf-ect L h a (omega (arith, ap tagEct (step-ect is)))))
+        here-ect is = to-here (says-ect is)
 
         pub nothing-ect : d ≡ bar.Nothing → nowhere ≡ foundAt m (searchEct L h a)
-        nothing-ect is = sym (ap (foundAt m) (nothing-search-ect L h a (step-ect is)))
+        nothing-ect is = sym (ap (foundAt m) (says-ect is))
 
 -- what reading at a node leaves to show, and each of the two searches
 pub ruleset reads = (needs, node-small, leaf-read, inner-read, left-small, right-small)
@@ -299,40 +264,21 @@ none-not : {X : Type 0} {x : ℕ} → none ≡ some x → X
 none-not q = let z : _≡_ {A = ℕ} 0 1 = cc in absurd (omega arith)
 
 module _ (leaf : ℕ → Node) where
-  -- the searches at a leaf
-  pub leaf-search-p : (a : ℕ) → searchP leaf 0 a ≡ elim (gray (leaf a)) [ true ↦ some a | false ↦ none ]
-  unfolding stepP searchP
-  leaf-search-p a = elim (bool (gray (leaf a))) [ inl t ↦ rw (t, stepP, searchP) | inr t ↦ rw (t, stepP, searchP) ]
-
-  pub leaf-search-ect : (a : ℕ) → searchEct leaf 0 a ≡ elim (gray (leaf a)) [ true ↦ some a | false ↦ none ]
-  unfolding stepEct searchEct
-  leaf-search-ect a = elim (bool (gray (leaf a))) [ inl t ↦ rw (t, stepEct, searchEct) | inr t ↦ rw (t, stepEct, searchEct) ]
-
   found-gray : (a x : ℕ) → elim (gray (leaf a)) [ true ↦ some a | false ↦ none ] ≡ some x → gray (leaf x) ≡ true
   found-gray a x q = elim (bool (gray (leaf a))) [ inl t ↦ (let z : a ≡ x = some-is (rw t at q) in rw z at t) | inr t ↦ none-not (rw t at q) ]
 
   -- a leaf that is found is gray
-  pub answer-p : (h a x : ℕ) → searchP leaf h a ≡ some x → gray (leaf x) ≡ true
-  answer-p zero a x q = found-gray a x (sym (leaf-search-p a) ∙ q)
-  answer-p (suc g) a x q = by (answer-p g a x) (answer-p g (a + width g) x) (stepP leaf (suc g) a) (sym (inner-p-is leaf g a (stepP leaf (suc g) a) refl) ∙ q)
+  answer : (by : By) (h a x : ℕ) → searchBy leaf by h a ≡ some x → gray (leaf x) ≡ true
+  answer by zero a x q = found-gray a x (sym (leaf-search leaf by a) ∙ q)
+  answer by (suc g) a x q = go (answer by g a x) (λ k. answer k g (a + width g) x) (stepAt by (aroundOver leaf (suc g) a)) (sym (inner-is leaf by g a) ∙ q)
     where
-      by : (searchP leaf g a ≡ some x → gray (leaf x) ≡ true) → (searchP leaf g (a + width g) ≡ some x → gray (leaf x) ≡ true) → (d : PDescent) → restP leaf g a d ≡ some x → gray (leaf x) ≡ true
-      by l r Left y = l y
-      by l r Right y = r y
-      by l r Here y = none-not y
-      by l r Nothing y = none-not y
-
-  pub answer-ect : (h a x : ℕ) → searchEct leaf h a ≡ some x → gray (leaf x) ≡ true
-  answer-ect zero a x q = found-gray a x (sym (leaf-search-ect a) ∙ q)
-  answer-ect (suc g) a x q = by (answer-ect g a x) (answer-ect g (a + width g) x) (stepEct leaf (suc g) a) (sym (inner-ect-is leaf g a (stepEct leaf (suc g) a) refl) ∙ q)
-    where
-      by : (searchEct leaf g a ≡ some x → gray (leaf x) ≡ true) → (searchEct leaf g (a + width g) ≡ some x → gray (leaf x) ≡ true) → (d : EctBarDescent) → restEct leaf g a d ≡ some x
+      go : (searchBy leaf by g a ≡ some x → gray (leaf x) ≡ true) → ((k : By) → searchBy leaf k g (a + width g) ≡ some x → gray (leaf x) ≡ true) → (d : EctBarDescent) → rest leaf by g a d ≡ some x
           → gray (leaf x) ≡ true
-      by l r bar.Right y = r y
-      by l r bar.RightP y = answer-p g (a + width g) x y
-      by l r bar.Left y = l y
-      by l r bar.Here y = none-not y
-      by l r bar.Nothing y = none-not y
+      go l r bar.Left y = l y
+      go l r bar.RightP y = r sums y
+      go l r bar.Right y = r ects y
+      go l r bar.Here y = none-not y
+      go l r bar.Nothing y = none-not y
 
 -- A position that the search from the root answers: its place is that of a task.
 pub record AnswerAt (m h : ℕ) (at : ℕ → Node) (position : ℕ) : Type 0 where
@@ -356,7 +302,7 @@ module _ (m h : ℕ) (at : ℕ → Node) (s : RootSearchable m h at) where
 
   -- a leaf that the search answers is that of a task
   below : (x : ℕ) → root ≡ some x → x < TASKS
-  below x q = elim (decLt x TASKS) [ yes u ↦ u | no u ↦ clash (answer-ect (leavesOf m at) h 0 x q) (s .past x (omega arith)) ]
+  below x q = elim (decLt x TASKS) [ yes u ↦ u | no u ↦ clash (answer (leavesOf m at) ects h 0 x q) (s .past x (omega arith)) ]
 
   pub answer-at : (r : ℕ) → r ≡ foundAt m (searchEct (leavesOf m at) h (leftmost h 0 - m)) → (r ≡ nowhere → ⊥) → AnswerAt m h at r
   answer-at r e ne = by root refl (from-first r e)

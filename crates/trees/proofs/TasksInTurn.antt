@@ -1,13 +1,13 @@
 -- Where every leaf is white, ect_bar is the ect of the tasks one after the other, in the order of the leaves.
-use mathlib.Core.Path.{_≡_, refl, sym, ap, _∙_}
-use mathlib.Core.Bool.{Bool, true, false}
+use mathlib.Core.Path.{_≡_, refl, ap, _∙_}
+use mathlib.Core.Bool.{Bool, true}
 use mathlib.Core.List.{List}
-use Prim.Native.Nat.{ℕ, zero, suc, _+_, _-_, _≤_, _<_, max}
+use Prim.Native.Nat.{ℕ, zero, suc, _+_, _≤_, _<_, max}
 use native.Mathlib.Omega.{arith}
 use native.Mathlib.Numerals.{add-one}
-use lib.ListN.{getD, length, replicate, length-replicate, getD-replicate}
+use lib.ListN.{getD, replicate, length-replicate, getD-replicate}
 use Rattle.scheduling.specs.Scheduling.{natural, Tasks, total}
-use Rattle.scheduling.proofs.Sets.{total-none, total-suc}
+use Rattle.scheduling.proofs.Sets.{total-suc}
 use Rattle.scheduling.proofs.LeafRanges as leafRange
 use Rattle.trees.specs.NodeBounds.{LATEST}
 use Rattle.trees.specs.Shapes.{width, heightFor}
@@ -17,7 +17,7 @@ use Rattle.trees.specs.Trees.{Limited}
 use Rattle.trees.proofs.Ects.{raised-decoded}
 use Rattle.trees.proofs.Heights.{enough}
 use Rattle.trees.proofs.LeafColours.{past-empty}
-use Rattle.trees.proofs.RangeNodes.{Holds, over-holds}
+use Rattle.trees.proofs.RangeNodes.{over-holds, to-first}
 
 module _ (J : Tasks natural) (estOrder : List ℕ) where
   abbrev e : ℕ → ℕ
@@ -60,9 +60,6 @@ module _ (J : Tasks natural) (estOrder : List ℕ) where
   is-white : (k : ℕ) → k < J .count → w k ≡ true
   is-white k q = ap inTheta (getD-replicate (J .count) k white empty q)
 
-  past : (k : ℕ) → J .count ≤ k → colour k ≡ empty
-  past k q = past-empty J estOrder whites (length-replicate (J .count) white) k q
-
   in-turn : (x : ℕ) → x ≤ J .count → leafRange.ect-bar w g e p 0 x ≡ ectOfFirst x
   unfolding ectOfFirst
   in-turn zero q = leafRange.blank w g e p 0 .tb
@@ -73,11 +70,6 @@ module _ (J : Tasks natural) (estOrder : List ℕ) where
   root-bar = over-holds colour e p (heightFor (J .count)) 0 .ect-bar
 
   pub all-in-turn : raisedTo 0 (ect-bar J estOrder (replicate (J .count) white)) ≡ ectOfFirst (J .count)
-  all-in-turn = raised-decoded (root J estOrder whites .«ect_bar») ∙ root-bar ∙ to-count .2 ∙ in-turn (J .count) (omega arith)
-    where
-      to-count : (leafRange.sum w g e p 0 (width (heightFor (J .count))) ≡ leafRange.sum w g e p 0 (J .count))
-          × (leafRange.ect w g e p 0 (width (heightFor (J .count))) ≡ leafRange.ect w g e p 0 (J .count))
-          × (leafRange.ect-bar w g e p 0 (width (heightFor (J .count))) ≡ leafRange.ect-bar w g e p 0 (J .count))
-      to-count =
-          let z : J .count + (width (heightFor (J .count)) - J .count) ≡ width (heightFor (J .count)) = omega (arith, enough (J .count)) in
-          rw z at (leafRange.past w g e p 0 (J .count) (width (heightFor (J .count)) - J .count) (λ j r. ap inTheta (past j (omega arith))) (λ j r. ap inLambda (past j (omega arith))))
+  all-in-turn = raised-decoded (root J estOrder whites .«ect_bar») ∙ root-bar
+      ∙ to-first colour e p (J .count) (width (heightFor (J .count))) (enough (J .count)) (past-empty J estOrder whites (length-replicate (J .count) white)) .2
+      ∙ in-turn (J .count) (omega arith)

@@ -28,7 +28,8 @@ use Rattle.trees.specs.Trees.{plainLeaf, plainLeaves, Limited, IsTree, I
 use Rattle.trees.proofs.Heights.{enough, room, root-height}
 use Rattle.trees.proofs.ArrayTrees.{over-leaf, over-join, own-leaves, own-tree, root-is}
 use Rattle.trees.proofs.NodeWords.{blank-nodes, plain-blank-nodes}
-use Rattle.trees.proofs.LeafColours.{white-is, gray-white, past-empty, bounded, plain-bounded, coloured}
+use Rattle.trees.proofs.LeafColours.{white-is, gray-white, past-empty, bounded, plain-leaves, plain-bounded, coloured}
+use Rattle.trees.proofs.WhiteParts.{join-white}
 use Rattle.trees.proofs.WhiteTasks.{theta-same}
 use Rattle.trees.proofs.SearchSteps.{RootSearchable}
 
@@ -58,20 +59,12 @@ module _ {A : Type 0} (size : A → ℕ) (Fair : A → Type 0) (join : A → A �
   put-gives inner at at′ ls t k q c n z u =
       subst (λ (leaf : ℕ → A). TreeOf join inner leaf at′) (rw (z, own-leaves join inner (over ls) at t) (sym (coloured ls k q c node))) u
 
--- the plain values of a node
-abbrev plainly : Node → plain.Node
-plainly n = plainOf (n .ect) (n .«sum_of_processing_times»)
-
-plain-leaf : (c : Leaf) (e p : ℕ) → plainLeaf (inTheta c) e p ≡ plainly (leafNode c e p)
-plain-leaf leaves.empty e p = refl
-plain-leaf leaves.white e p = refl
-plain-leaf leaves.gray e p = refl
-
-plain-over : (leaf : ℕ → Node) (leaf′ : ℕ → plain.Node) → ((j : ℕ) → leaf′ j ≡ plainly (leaf j)) → (h a : ℕ) → nodeOver plainJoinOf leaf′ h a ≡ plainly (nodeOver joinOf leaf h a)
-unfolding joinOf plainJoinOf
-plain-over leaf leaf′ z zero a = over-leaf plainJoinOf leaf′ a ∙ z a ∙ sym (ap plainly (over-leaf joinOf leaf a))
-plain-over leaf leaf′ z (suc h) a =
-    over-join plainJoinOf leaf′ h a ∙ ap₂ plainJoinOf (plain-over leaf leaf′ z h a) (plain-over leaf leaf′ z h (a + width h)) ∙ sym (ap plainly (over-join joinOf leaf h a))
+-- a node without its gray tasks is the one over leaves without theirs
+plain-over : (leaf : ℕ → Node) (h a : ℕ) → nodeOver plainJoinOf (λ k. whitePart (leaf k)) h a ≡ whitePart (nodeOver joinOf leaf h a)
+plain-over leaf zero a = over-leaf plainJoinOf (λ k. whitePart (leaf k)) a ∙ sym (ap whitePart (over-leaf joinOf leaf a))
+plain-over leaf (suc h) a =
+    over-join plainJoinOf (λ k. whitePart (leaf k)) h a ∙ ap₂ plainJoinOf (plain-over leaf h a) (plain-over leaf h (a + width h))
+    ∙ sym (ap whitePart (over-join joinOf leaf h a) ∙ join-white (nodeOver joinOf leaf h a) (nodeOver joinOf leaf h (a + width h)))
 
 module _ (J : Tasks natural) (estOrder : List ℕ) where
   abbrev leaf-node : Leaf → ℕ → Node
@@ -192,4 +185,5 @@ module _ {J : Tasks natural} {estOrder : List ℕ} (lim : Limited J estOrder) {l
   unfolding root
   plain-root-of = root-is plainJoinOf inner (heightFor (J .count)) (plainAt words) (t .complete) (own-tree plainJoinOf inner (plainLeaves J estOrder ls) (plainAt words) (t .tree))
       ∙ ap (λ (leaf : ℕ → plain.Node). nodeOver plainJoinOf leaf (heightFor (J .count)) 0) (own-leaves plainJoinOf inner (plainLeaves J estOrder ls) (plainAt words) (t .tree))
-      ∙ plain-over (leaves.leaves J estOrder ls) (plainLeaves J estOrder ls) (λ j. plain-leaf (getD ls j empty) (startAt J estOrder j) (durationAt J estOrder j)) (heightFor (J .count)) 0
+      ∙ ap (λ (leaf : ℕ → plain.Node). nodeOver plainJoinOf leaf (heightFor (J .count)) 0) (plain-leaves J estOrder lim ls (t .colours))
+      ∙ plain-over (leaves.leaves J estOrder ls) (heightFor (J .count)) 0

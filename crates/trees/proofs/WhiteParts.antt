@@ -1,20 +1,19 @@
 -- The nodes without their gray tasks: where a leaf changes in its bars alone, these stay, and each is still the join of its children.
 use mathlib.Core.Path.{_≡_, refl, sym, ap, ap₂, subst, _∙_}
-use Prim.Native.Nat.{ℕ, _+_, _*_, _-_, _/_, _<_}
+use Prim.Native.Nat.{ℕ, _+_, _*_, _-_, _/_}
 use borrow.Author.Needs.{needs}
 use native.Mathlib.Omega.{arith}
 use native.Mathlib.Decide.{ℕ-discrete}
 use Rattle.trees.specs.declared.theta_lambda_node.Node.{Node}
-use Rattle.trees.specs.declared.theta_node.Node as plain
 use Rattle.trees.specs.Nodes.{joinOf, plainJoinOf}
 use Rattle.trees.specs.NodeBounds.{Fair, size}
-use Rattle.trees.specs.Arrays.{changed, TreeOf}
+use Rattle.trees.specs.Arrays.{changed}
 use Rattle.trees.specs.Bounds.{CanPut}
 use Rattle.trees.specs.Puts.{whitePart, WhiteJoins, Liftable}
 use Rattle.trees.proofs.Joins.{additive}
-use Rattle.trees.proofs.ArrayTrees.{changed-here, changed-other, DuringUpheap, parent-inner, parent-small, fits-left, fits-right, next-is, start, end, puts}
+use Rattle.trees.proofs.ArrayTrees.{changed-here, changed-other, DuringUpheap, upheap-turn, node-small, next-is, start, end, puts}
 
-join-white : (l r : Node) → whitePart (joinOf l r) ≡ plainJoinOf (whitePart l) (whitePart r)
+pub join-white : (l r : Node) → whitePart (joinOf l r) ≡ plainJoinOf (whitePart l) (whitePart r)
 unfolding joinOf plainJoinOf
 join-white l r = refl
 
@@ -36,17 +35,11 @@ leaf-bars {m} {at} {at′} {place} {n} t e same = bars-changed (m + place) n e s
 -- and an ancestor is calculated, which is one without the gray tasks
 module _ {m : ℕ} {at₀ at : ℕ → Node} {i : ℕ} (c : DuringUpheap additive m at₀ at i) (q : i ≡ 0 → ⊥) where
   pub liftable : {n : Node} → n ≡ at i → Liftable at i n
-  liftable e = record {
-    not-root = omega (arith, q);
-    small = omega (arith, parent-inner additive c q refl, c .room);
-    is = e;
-    left = fits-left additive c q refl refl refl refl;
-    right = fits-right additive c q refl refl refl refl;
-  }
+  liftable e = let t = upheap-turn additive c q refl in record { not-root = omega (arith, q); small = omega (arith, t .inner, t .room); is = e; left = t .left; right = t .right }
 
   module _ (w : WhiteJoins m at) {p : ℕ} (is-up : p ≡ (i - 1) / 2) {n : Node} (en : n ≡ joinOf (at (2 * ((i - 1) / 2) + 1)) (at (2 * ((i - 1) / 2) + 2))) where
     pub white-stays : whitePart (at p) ≡ whitePart n
-    white-stays = rw (is-up, en) (w .joins ((i - 1) / 2) (parent-inner additive c q refl) ∙ sym (join-white (at (2 * ((i - 1) / 2) + 1)) (at (2 * ((i - 1) / 2) + 2))))
+    white-stays = rw (is-up, en) (w .joins ((i - 1) / 2) (upheap-turn additive c q refl .inner) ∙ sym (join-white (at (2 * ((i - 1) / 2) + 1)) (at (2 * ((i - 1) / 2) + 2))))
 
     pub next-white : {at′ : ℕ → Node} → at′ ≡ changed at p n → WhiteJoins m at′
     next-white e = bars-changed p n e white-stays w
@@ -58,6 +51,6 @@ module _ {m : ℕ} {at₀ at : ℕ → Node} {i : ℕ} (c : DuringUpheap additiv
 pub carried : (at : ℕ → Node) {at′ : ℕ → Node} {p : ℕ} {n : Node} → at′ ≡ changed at p n → n ≡ at′ p
 carried at {at′} {p} {n} e = sym (ap (λ (f : ℕ → Node). f p) e ∙ changed-here at p n)
 
-pub ruleset bar-upheaps = (needs, start, parent-small, liftable, white-stays, next-white, next-up, carried, end)
+pub ruleset bar-upheaps = (needs, start, upheap-turn, node-small, liftable, white-stays, next-white, next-up, carried, end)
 
 pub ruleset bar-puts = (puts, leaf-bars)

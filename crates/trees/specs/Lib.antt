@@ -12,7 +12,6 @@ pub mod Arrays
 pub mod Words
 pub mod Bounds
 pub mod Puts
-pub mod Mappings
 pub mod ArraySearches
 pub mod Trees
 pub mod Operations

@@ -6,7 +6,6 @@ use lib.ListN.{replicate, set}
 use Rattle.scheduling.specs.Scheduling.{natural, Tasks}
 use Rattle.trees.specs.declared.theta_tree.ThetaTree.{ThetaTree}
 use Rattle.trees.specs.Leaves.{Leaf, empty, white}
-use Rattle.trees.specs.Mappings.{Maps}
 use Rattle.trees.specs.Trees.{Limited, IsPlainTree}
 
 -- The words hold the theta tree over leaves of some tasks in some order.
@@ -17,9 +16,8 @@ pub record HeldPlain (inner : ℕ) (words : List ℕ) : Type 0 where
   pub limited : Limited J estOrder
   pub tree : IsPlainTree J estOrder leaves inner words
 
--- A new theta tree for n tasks in an order: every leaf is empty, and the mapping has the place of each task.
-pub record PlainNew (n : ℕ) (order : List ℕ) (tree : ThetaTree) : Type 0 where
-  pub mapping : Maps n order (tree .mapping)
+-- A new theta tree for n tasks: every leaf is empty, whatever the tasks.
+pub record PlainNew (n : ℕ) (tree : ThetaTree) : Type 0 where
   pub empties : (J : Tasks natural) (estOrder : List ℕ) → J .count ≡ n
       → IsPlainTree J estOrder (replicate (J .count) empty) (tree .«number_of_internal_nodes») (tree .nodes)
 

@@ -1,13 +1,9 @@
 // Complete binary trees in an array: where the children and the parent of a node stand, and how many inner nodes a number of leaves needs.
-use integers::limits::TASKS;
 ghost use mathlib.Core.Path.{_≡_};
 ghost use Prim.Native.Nat.{_+_, _*_, _-_, _/_, _≤_, _<_};
 ghost use lib.Dec.{leb};
-ghost use lib.ListN.{take, length};
 ghost use Rattle.integers.specs.Limits.{NODES, TASKS};
-ghost use Rattle.integers.specs.Orders.{Permutes};
 ghost use Rattle.trees.specs.Arrays.{Sized};
-ghost use Rattle.trees.specs.Mappings.{Maps};
 
 // Returns the index of the left child of the provided index.
 pub fn get_left_child_index(index: usize) -> usize
@@ -67,18 +63,5 @@ pub fn size_for(count: usize) -> Size
     Size {
         number_of_internal_nodes: leaves - 1,
         height,
-    }
-}
-
-// The place of each of the first `count` tasks in an order of them.
-pub fn leaf_places(mapping: &mut [u32; TASKS], order: &[usize; TASKS], count: usize)
-    requires { ⌜ (count ≤ TASKS) × (length (now mapping) ≡ TASKS) × Permutes count (take count (now order)) ⌝ }
-    ensures { λ _. ⌜ Maps count (now (order .entry)) (now (mapping .exit)) × (length (now (mapping .exit)) ≡ TASKS) ⌝ }
-{
-    let mut i: usize = 0;
-    while i < count {
-        let task = order[i];
-        mapping[task] = i as u32;
-        i += 1;
     }
 }

@@ -6,19 +6,16 @@
 use crate::complete_tree::get_left_child_index;
 use crate::complete_tree::get_parent;
 use crate::complete_tree::get_right_child_index;
-use crate::complete_tree::leaf_places;
 use crate::complete_tree::size_for;
 use crate::disjunctive_task::DisjunctiveTask;
 use crate::disjunctive_task::LeafPlace;
 use crate::ect::Ect;
 use crate::theta_node::Node;
-use integers::limits::TASKS;
 use integers::limits::THETAWORDS;
 ghost use mathlib.Core.Path.{_≡_};
 ghost use Prim.Native.Nat.{_+_, _≤_, _<_};
-ghost use lib.ListN.{length, take};
+ghost use lib.ListN.{length};
 ghost use Rattle.integers.specs.Limits.{NODES, TASKS, THETAWORDS};
-ghost use Rattle.integers.specs.Orders.{Permutes};
 ghost use Rattle.trees.specs.Ects.{momentOf};
 ghost use Rattle.trees.specs.Nodes.{plainJoinOf};
 ghost use Rattle.trees.specs.NodeBounds.{PlainFair, plainSize};
@@ -61,24 +58,19 @@ fn store(nodes: &mut [u32; THETAWORDS], i: usize, n: Node)
 // - [1] P. Vilím, ‘Filtering algorithms for the unary resource constraint’, Archives of Control Sciences, vol. 18, no. 2, pp. 159–202, 2008.
 pub struct ThetaTree {
     pub nodes: [u32; THETAWORDS],
-    // The place of the leaf of each task.
-    pub mapping: [u32; TASKS],
     pub number_of_internal_nodes: usize,
 }
 
 // The operations take the words of the tree and the number of its internal nodes, `inner`.
 impl ThetaTree {
-    // The tree of no task, over the tasks in the order given.
-    pub fn new(order: &[usize; TASKS], count: usize) -> ThetaTree
-        requires { ⌜ (count ≤ TASKS) × Permutes count (take count (now order)) ⌝ }
-        ensures { λ r. ⌜ PlainNew count (now (order .entry)) r ⌝ }
+    // The tree for `count` tasks, with no task in Theta.
+    pub fn new(count: usize) -> ThetaTree
+        requires { ⌜ count ≤ TASKS ⌝ }
+        ensures { λ r. ⌜ PlainNew count r ⌝ }
     {
-        let mut mapping = [0u32; TASKS];
-        leaf_places(&mut mapping, order, count);
         let size = size_for(count);
         ThetaTree {
             nodes: [0; THETAWORDS],
-            mapping,
             number_of_internal_nodes: size.number_of_internal_nodes,
         }
     }

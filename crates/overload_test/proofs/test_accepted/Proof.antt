@@ -3,7 +3,6 @@ use mathlib.Core.Path.{_≡_}
 use lib.ListN.{length}
 use borrow.Author.Needs.{needs}
 use Rattle.integers.specs.Limits.{TASKS}
-use Rattle.sorts.proofs.Sorted.{sorted-permutes}
 use Rattle.overload_test.specs.ReadArrays.{Readable}
 use Rattle.overload_test.proofs.NextTask.{keys-small, readable}
 use Rattle.overload_test.proofs.test_accepted.Statement.{statement}
@@ -14,14 +13,14 @@ long : (c : tie.Start) → length (c .args .«record» .durations) ≡ TASKS
 long c = search needs
 
 -- when the tree is made: what each call before left
-abbrev tasks : tie.After-new → tie.After-sort-numbers2
-tasks c = c .before .before
+abbrev tasks : tie.After-new → tie.After-sort-numbers
+tasks c = c .before
 
-abbrev leaves : tie.After-new → tie.After-sort-numbers
+abbrev leaves : tie.After-new → tie.After-sort-with-ranks
 leaves c = tasks c .before .before .before
 
 abbrev lct : tie.After-new → tie.After-completions
-lct c = leaves c .before .before .before
+lct c = leaves c .before .before .before .before
 
 abbrev lst : tie.After-new → tie.After-moments-of2
 lst c = lct c .before .before .before .before
@@ -33,13 +32,13 @@ abbrev start : tie.After-new → tie.Start
 start c = est c .before .before .before
 
 abbrev ready : (c : tie.After-new) → let r = start c .args .«record» in
-    Readable (c .new .result .«number_of_internal_nodes») (r .count) (c .new .result .nodes) (c .new .result .mapping) (tasks c .sort-numbers2 .last .0) (est c .moments-of .last .0)
+    Readable (c .new .result .«number_of_internal_nodes») (r .count) (c .new .result .nodes) (leaves c .sort-with-ranks .last .1 .0) (tasks c .sort-numbers .last .0) (est c .moments-of .last .0)
     (lct c .completions .last .0) (r .durations)
 ready c =
     let s = start c in
     let a = s .args in
     readable (a .«record») (a .earliest .now) (a .latest .now) (s .pre) (long s) (est c .moments-of .ensures) (lst c .moments-of2 .ensures) (lct c .completions .ensures)
-    (leaves c .sort-numbers .ensures) (tasks c .sort-numbers2 .ensures) (c .new .ensures)
+    (leaves c .sort-with-ranks .ensures) (tasks c .sort-numbers .ensures) (c .new .ensures)
 
 completions-requires : tie.Need-completions-requires
 completions-requires c κs =
@@ -50,24 +49,15 @@ completions-requires c κs =
           (c .before .before .before .moments-of2 .ensures),
     )
 
-new-requires : tie.Need-new-requires
-new-requires c κs =
-    let s = c .before .before .before .before .before .before .before .before .before .before .before .before .before .before .before .before in
-    (s .pre .lawful .few, sorted-permutes (c .before .before .before .before .sort-numbers .ensures))
-
 read-tasks-requires : tie.Need-read-tasks-requires
-read-tasks-requires c κs =
-    let made = c .before .before .before .before .before .before .before .before in
-    ready made
+read-tasks-requires c κs = ready (c .before .before .before .before .before .before .before)
 
 returns : tie.Need-returns
-returns c =
-    let made = c .before .before .before .before .before .before .before .before .before in
-    c .read-tasks .ensures (ready made)
+returns c = c .read-tasks .ensures (ready (c .before .before .before .before .before .before .before .before))
 
 pub test-accepted-spec : {M : Type 1} → statement M
 test-accepted-spec =
     tie.close
     (tie.spec
     (λ c κs. search needs) (λ c κs. search needs) completions-requires (λ c κs. search needs) (λ c κs. search needs)
-    new-requires read-tasks-requires returns)
+    (λ c κs. search needs) read-tasks-requires returns)

@@ -5,7 +5,8 @@ use lib.ListN.{length}
 use Rattle.integers.specs.Limits.{TREEWORDS}
 use Rattle.trees.proofs.Joins.{additive}
 use Rattle.trees.specs.Words.{nodeAt}
-use Rattle.trees.proofs.RebuiltTrees.{DuringRebuild, begin, built, rebuilds, may-rebuild, was-rebuilt}
+use Rattle.trees.proofs.ArrayTrees.{DuringRebuild, rebuilds}
+use Rattle.trees.proofs.RebuiltTrees.{may-rebuild, was-rebuilt}
 use Rattle.trees.proofs.theta_lambda_tree.ThetaLambdaTree.rebuild.Statement.{statement}
 use Rattle.trees.proofs.theta_lambda_tree.ThetaLambdaTree.rebuild.Tie as tie
 
@@ -16,10 +17,10 @@ abbrev μ-loop : tie.MeasureT-loop
 μ-loop nodes₀ inner i₀ nodes i = i
 
 loop-holds : tie.Need-loop-holds Inv-loop μ-loop
-loop-holds c = let r = may-rebuild (c .pre .limited) (c .pre .has) in (begin additive (r .bounded) (r .height) (r .complete) (r .room), r .length)
+loop-holds c = (may-rebuild (c .pre .limited) (c .pre .has), c .pre .has .words-length)
 
 returns : tie.Need-returns Inv-loop μ-loop
-returns c = λ l. let v = c .before .loop .inv in was-rebuilt (l .limited) (l .has) (record { tree = built additive (v .0) (omega arith); length = v .1 })
+returns c = λ l. was-rebuilt (l .limited) (l .has) (c .before .loop .inv .0) (omega arith) (c .before .loop .inv .1)
 
 pub rebuild-spec : {M : Type 1} → statement M
 rebuild-spec =

@@ -1,4 +1,4 @@
--- Words that are all 0 hold the tree of empty leaves, whatever the tasks; the mapping is the inverse of the order.
+-- Words that are all 0 hold the tree of empty leaves, whatever the tasks.
 use mathlib.Core.Path.{refl, sym, ap, _∙_}
 use Prim.Native.Nat.{ℕ}
 use borrow.Author.Needs.{needs}
@@ -9,10 +9,7 @@ use Rattle.trees.proofs.theta_tree.ThetaTree.new.Statement.{statement}
 use Rattle.trees.proofs.theta_tree.ThetaTree.new.Tie as tie
 
 returns : tie.Need-returns
-returns c = record {
-  mapping = c .before .leaf-places .ensures .0;
-  empties = λ J estOrder z. new-plain-tree J estOrder _ _ refl (sized _ _ _ (c .size-for .ensures) ∙ ap (λ (n : ℕ). width (heightFor n)) (sym z));
-}
+returns c = record { empties = λ J estOrder z. new-plain-tree J estOrder _ _ refl (sized _ _ _ (c .size-for .ensures) ∙ ap (λ (n : ℕ). width (heightFor n)) (sym z)) }
 
 pub new-spec : {M : Type 1} → statement M
-new-spec = tie.close (tie.spec (λ c κs. search needs) (λ c κs. search needs) returns)
+new-spec = tie.close (tie.spec (λ c κs. search needs) returns)
