@@ -256,6 +256,14 @@ impl ThetaLambdaTree {
         ThetaLambdaTree::put(nodes, inner, place, n);
     }
 
+    // Removes a task from Theta.
+    pub fn remove_from_theta(nodes: &mut [u32; TREEWORDS], inner: usize, place: LeafPlace)
+        requires { ⌜ ((h : Held inner (now nodes)) × (place .0 < h .J .count)) ⌝ }
+        ensures { λ _. ⌜ ((h : Held inner (now (nodes .entry))) → place .0 < h .J .count → Coloured empty h (place .0) (now (nodes .exit))) ⌝ }
+    {
+        ThetaLambdaTree::put(nodes, inner, place, Node::empty());
+    }
+
     // Removes a task from Lambda.
     pub fn remove_from_lambda(nodes: &mut [u32; TREEWORDS], inner: usize, place: LeafPlace)
         requires { ⌜ ((h : Held inner (now nodes)) × InLambda h (place .0)) ⌝ }
@@ -313,6 +321,14 @@ impl ThetaLambdaTree {
         let ect = task.start_time + task.processing_time;
         let n = Node::new_gray_node(ect, task.processing_time);
         ThetaLambdaTree::lay(nodes, inner, place, n);
+    }
+
+    // Removes a task from Theta, but for the leaf's ancestors.
+    pub fn lay_empty(nodes: &mut [u32; TREEWORDS], inner: usize, place: LeafPlace)
+        requires { ⌜ ((l : HeldLeaves inner (now nodes)) × (place .0 < l .J .count)) ⌝ }
+        ensures { λ _. ⌜ ((l : HeldLeaves inner (now (nodes .entry))) → place .0 < l .J .count → LeafColoured empty l (place .0) (now (nodes .exit))) ⌝ }
+    {
+        ThetaLambdaTree::lay(nodes, inner, place, Node::empty());
     }
 
     // Calculates the values of all inner nodes, the last ones first.
