@@ -54,17 +54,17 @@ module _ {size : TreeSize} {lct : ℕ} {words : List ℕ} {es posts atoms : List
   abbrev inn : ℕ
   inn = size .inner
 
-  -- `left` turns are left, and the slices and the tree are at the state of a definition that has as many left
-  pub record Turned (left : ℕ) (words′ : List ℕ) (es′ posts′ atoms′ : List ℤ) (w′ : Written) : Type 0 where
+  -- `left` turns of `all` are left, and the slices and the tree are at the state of a definition that has as many left
+  pub record Turned (all left : ℕ) (words′ : List ℕ) (es′ posts′ atoms′ : List ℤ) (w′ : Written) : Type 0 where
     pub st : State
     pub reached : Reached zeroAt (s .J) (s .estOrder) (s .lctOrder) (s .level) st
     pub at : AtNow s st words′ es′ posts′ atoms′ w′
-    pub rest : turns s n (s .st) ≡ turns s left st
+    pub rest : turns s all (s .st) ≡ turns s left st
 
-  pub none-yet : Turned n words es posts atoms w
-  none-yet = record { st = s .st; reached = s .reached; at = s .at; rest = refl }
+  abbrev pub none-yet : (all : ℕ) → Turned all all words es posts atoms w
+  none-yet all = record { st = s .st; reached = s .reached; at = s .at; rest = refl }
 
-  module _ {left : ℕ} {words′ : List ℕ} {es′ posts′ atoms′ : List ℤ} {w′ : Written} (r : Turned left words′ es′ posts′ atoms′ w′) where
+  module _ {all left : ℕ} {words′ : List ℕ} {es′ posts′ atoms′ : List ℤ} {w′ : Written} (r : Turned all left words′ es′ posts′ atoms′ w′) where
     abbrev pub still-considerable : Considerable size lct words′ es′ posts′ atoms′ w′ est lst durations reverseMapping mapping
     still-considerable = record {
       J = s .J;
@@ -95,7 +95,7 @@ module _ {size : TreeSize} {lct : ℕ} {words : List ℕ} {es posts atoms : List
     found-small x z = omega (arith, s .arrays .count, considering.found-inside still-considerable x z)
 
     -- no turn is left
-    pub ended : left ≡ 0 → AllConsidered s (turn.On w′) words′ es′ posts′ atoms′
+    pub ended : left ≡ 0 → AllConsidered s all (turn.On w′) words′ es′ posts′ atoms′
     ended z = (r .st, r .at, r .rest ∙ ap (λ (f : ℕ). turns s f (r .st)) z ∙ inner-end zeroAt (s .J) (s .estOrder) (s .lctOrder) 0 (s .level) (r .st))
 
     -- the test, by the level's lct
@@ -104,7 +104,7 @@ module _ {size : TreeSize} {lct : ℕ} {words : List ℕ} {es posts atoms : List
 
     -- there is a task to consider
     pub one-left : {next : Responsible} {id : LocalId} → next ≡ responsible.Task id → Proposes size words′ reverseMapping lct next → (x : ℕ) × Responsible-for still-considerable (id .0) x
-    one-left {id = id} is all = let z = all (shown still-considerable) (tall still-considerable) in
+    one-left {id = id} is said = let z = said (shown still-considerable) (tall still-considerable) in
         elim (bool (exceeds bar lct)) [
           | inr y ↦ clash {b = true} refl (ap is-task (sym is ∙ z ∙ sym (candidate-none reverseMapping lct bar found y)))
           | inl y ↦ (let (x, u, v) = some-task reverseMapping found id (sym is ∙ z ∙ sym (candidate-some reverseMapping lct bar found y)) in
@@ -113,12 +113,12 @@ module _ {size : TreeSize} {lct : ℕ} {words : List ℕ} {es posts atoms : List
 
     -- a turn is taken
     module _ {f : ℕ} (some-left : left ≡ suc f) where
-      rest-is : turns s n (s .st) ≡ turns s (suc f) (r .st)
+      rest-is : turns s all (s .st) ≡ turns s (suc f) (r .st)
       rest-is = r .rest ∙ ap (λ (f : ℕ). turns s f (r .st)) some-left
 
       -- there is no task to consider
-      pub nothing-left : {next : Responsible} → next ≡ responsible.Nothing → Proposes size words′ reverseMapping lct next → AllConsidered s (turn.On w′) words′ es′ posts′ atoms′
-      nothing-left is all = let z = all (shown still-considerable) (tall still-considerable) in (
+      pub nothing-left : {next : Responsible} → next ≡ responsible.Nothing → Proposes size words′ reverseMapping lct next → AllConsidered s all (turn.On w′) words′ es′ posts′ atoms′
+      nothing-left is said = let z = said (shown still-considerable) (tall still-considerable) in (
         r .st,
         r .at,
         rest-is ∙ elim (bool (exceeds bar lct)) [
@@ -130,11 +130,11 @@ module _ {size : TreeSize} {lct : ℕ} {words : List ℕ} {es posts atoms : List
 
       -- one was considered
       pub one-less : {words″ : List ℕ} {es″ posts″ atoms″ : List ℤ} {w″ : Written} {u : code.Turn} → u ≡ turn.On w″ → Considered still-considerable u words″ es″ posts″ atoms″
-          → Turned f words″ es″ posts″ atoms″ w″
-      one-less is all =
-          let (st′, a, next) = rw is at all in
+          → Turned all f words″ es″ posts″ atoms″ w″
+      one-less is told =
+          let (st′, a, next) = rw is at told in
           record { st = st′; reached = turned (s .level) (r .st) st′ (r .reached) (next 0 ∙ inner-end zeroAt (s .J) (s .estOrder) (s .lctOrder) 0 (s .level) st′); at = a; rest = rest-is ∙ next f }
 
       pub one-emptied : {words″ : List ℕ} {es″ posts″ atoms″ : List ℤ} {w″ : Written} {u : code.Turn} → u ≡ turn.Emptied w″ → Considered still-considerable u words″ es″ posts″ atoms″
-          → AllConsidered s (turn.Emptied w″) words″ es″ posts″ atoms″
-      one-emptied is all = let (st′, a, next) = rw is at all in (st′, a, rest-is ∙ next f)
+          → AllConsidered s all (turn.Emptied w″) words″ es″ posts″ atoms″
+      one-emptied is told = let (st′, a, next) = rw is at told in (st′, a, rest-is ∙ next f)

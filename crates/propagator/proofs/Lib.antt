@@ -3,7 +3,8 @@ pub mod PostWords
 pub mod ConsideredTask
 pub mod InnerLoop
 pub mod OverloadReason
-pub mod MovedToLambda
+pub mod LeavingTheta
+pub mod FirstCandidate
 pub mod OuterLoop
 pub mod FilledTheta
 pub mod InitialArrays

@@ -4,12 +4,12 @@ use mathlib.Core.Bool.{Bool, true, false}
 use mathlib.Core.Logic.{inl, inr}
 use mathlib.Core.Option.{Option}
 use mathlib.Core.List.{List, [], _++_, append-nil}
-use Prim.Native.Nat.{ℕ, suc, _+_, _*_, _-_, _≤_, _<_}
+use Prim.Native.Nat.{ℕ, suc, _+_, _*_, _-_, _^_, _≤_, _<_}
 use native.Mathlib.Omega.{arith}
 use native.Mathlib.Decide.{decLt}
 use lib.IntN.{ℤ}
 use lib.ListN.{length, getD, set}
-use lib.Seq.{sets}
+use lib.Seq.{sets, set-set}
 use Rattle.integers.specs.Limits.{TASKS}
 use Rattle.integers.specs.Moments.{zeroAt}
 use Rattle.integers.specs.Orders.{index}
@@ -18,22 +18,22 @@ use Rattle.scheduling.specs.Scheduling.{natural, Tasks, Atom, completion}
 use Rattle.trees.specs.declared.complete_tree.TreeSize.{TreeSize}
 use Rattle.trees.specs.Ects.{exceeds, raisedTo}
 use Rattle.trees.specs.Leaves as leaves
-use Rattle.trees.specs.Leaves.{Leaf, gray}
+use Rattle.trees.specs.Leaves.{Leaf, empty, gray}
 use Rattle.trees.specs.ArraySearches.{thetaIn}
 use Rattle.trees.specs.Trees.{IsTree, HasLeaves}
 use Rattle.trees.specs.Operations.{Held, Answers}
 use Rattle.trees.proofs.NodeOrder.{ect-within}
 use Rattle.trees.proofs.RebuiltTrees.{tree-leaves}
 use Rattle.runs.specs.Traces.{Trace, End, done, overload, emptied}
-use Rattle.runs.specs.Runs.{State, Turn, on, conflict, inner, outer, run, ended, grayed, allWhite}
+use Rattle.runs.specs.Runs.{State, Turn, on, conflict, inner, outer, run, ended, grayed, dropped, allWhite}
 use Rattle.scheduling.specs.Words.{atomWords}
 use Rattle.runs.specs.Words.{postWords, reasons, endReason}
 use Rattle.runs.proofs.WrittenSlices.{reason-stored}
 use Rattle.runs.proofs.LeafChanges.{reached-changes}
 use Rattle.runs.proofs.QuietLevels as quiet-levels
 use Rattle.runs.proofs.QuietLevels.{ect-bar-no-later}
-use Rattle.runs.proofs.InnerLoop.{run-is, outer-end, outer-over, outer-on, outer-stop}
-use Rattle.runs.specs.Reached.{Entered, begins, follows, at-head, moved}
+use Rattle.runs.proofs.InnerLoop.{run-is, inner-end, inner-pass, outer-end, outer-over, outer-on, outer-stop}
+use Rattle.runs.specs.Reached.{Entered, Reached, begins, follows, at-head, moved, turned}
 use Rattle.explanations.specs.Explanations.{ConflictExplainable}
 use Rattle.propagator.specs.declared.disjunctive_propagator.Turn as code
 use Rattle.propagator.specs.declared.disjunctive_propagator.Turn.the-variants as turn
@@ -43,11 +43,12 @@ use Rattle.propagator.specs.Candidates.{nothingWritten, counted, Conside
 use Rattle.propagator.proofs.ConsideredTask as considering
 use Rattle.runs.specs.declared.outcome.Outcome.the-variants as outcome
 use Rattle.runs.specs.declared.outcome.Finished.{Finished}
-use Rattle.propagator.specs.MovedToLambda.{Movable, Moved}
+use Rattle.propagator.specs.LeavingTheta.{Movable, Recoloured, KnownTurns, leftFor}
 use Rattle.runs.specs.Outcomes.{outcomeNumbers}
 use Rattle.runs.specs.EndNumbers.{endNumbers, traceNumbers}
 use Rattle.propagator.specs.EdgeFinding.{HeldPast, conflictOf, ConflictExplained, EdgeFindable, EdgeFound}
-use Rattle.propagator.proofs.MovedToLambda as moving
+use Rattle.propagator.proofs.FirstCandidate.{IsFirst, level-first}
+use Rattle.propagator.proofs.LeavingTheta as leaving
 use Rattle.propagator.proofs.OverloadReason as overloading
 
 module _ {size : TreeSize} {first : ℕ} {past : Bool} {words : List ℕ} {es posts atoms : List ℤ} {est lst lct durations reverseMapping sortedTasks mapping : List ℕ}
@@ -258,7 +259,12 @@ module _ {size : TreeSize} {first : ℕ} {past : Bool} {words : List ℕ} {es po
 
       -- they do not: the task of the level goes to Lambda
       abbrev pub moves : Movable inn words′ mapping est durations j joined
-      moves = moving.movable G (s .arrays) t small-t j j-is (v .st .leaves) (v .has) (v .tree)
+      moves = leaving.movable G (s .arrays) t small-t j j-is (v .st .leaves) (v .has) (v .tree)
+
+      -- its completion from its start fits a word
+      pub reachable : (j < TASKS) × (getD est j 0 + getD durations j 0 < 2 ^ 32)
+      reachable = let q : j < J .count = omega (arith, j-small, s .arrays .count) in
+          (omega (arith, j-small, few), omega (arith, s .arrays .starts .at j j-small, s .arrays .lasts .at j j-small, G .proper .ranges j q, G .fits j q))
 
       -- the lct of the next level
       abbrev pub d : ℕ
@@ -269,61 +275,106 @@ module _ {size : TreeSize} {first : ℕ} {past : Bool} {words : List ℕ} {es po
           let k-small : getD lctOrder (suc t) 0 < n = omega (arith, G .by-completion .task (suc t) (omega (arith, more, s .arrays .count)), s .arrays .count) in
           ap (λ (u : ℕ). getD lct (getD sortedTasks u 0) 0) one ∙ ap (λ (k : ℕ). getD lct k 0) (s .order .at (suc t) (omega arith)) ∙ s .completions .at (getD lctOrder (suc t) 0) k-small
 
-      module _ (quiet : exceeds ect c ≡ false) {joins : Bool} {words″ : List ℕ} (m : Moved inn words′ words″ mapping est durations j joined joins) {w₁ : Written} (two : w₁ ≡ counted w′ 2) where
+      module _ (quiet : exceeds ect c ≡ false) {needed joins : Bool} {taken : ℕ} (known : KnownTurns est durations j last needed taken) {words″ : List ℕ}
+          (m : Recoloured (leftFor taken) inn words′ words″ mapping est durations j joined joins) {w₁ : Written} (count : w₁ ≡ counted w′ (2 + taken)) where
+        -- the leaf of the level's task, and the state in which it is gray
+        abbrev x : ℕ
+        x = index estOrder (getD lctOrder t 0)
+
         abbrev st₁ : State
-        st₁ = grayed (v .st) (index estOrder (getD lctOrder t 0))
+        st₁ = grayed (v .st) x
 
         pub still : exceeds ect end ≡ false
         still = past-end quiet
 
-        -- the gray leaf, which the source makes in two leaf changes
-        pub at-place : (P : List Leaf → Type 0) → P (set (v .st .leaves) (getD mapping j 0) gray) → P (st₁ .leaves)
-        at-place P p = subst (λ (k : ℕ). P (set (v .st .leaves) k gray)) (moving.gray-place G (s .arrays) t small-t j j-is) p
+        -- the leaf has the colour that the task left Theta for; the source makes a gray leaf in two leaf changes, and an empty one in a third
+        at-place : {k : ℕ} → taken ≡ k → HasLeaves J estOrder (set (v .st .leaves) x (leftFor k)) inn words″
+            × (joins ≡ true → IsTree J estOrder (set (v .st .leaves) x (leftFor k)) inn words″)
+        at-place z = rw (sym z, sym (leaving.gray-place G (s .arrays) t small-t j j-is)) (m moves)
 
-        pub slices₁ : Slices posts atoms st₁ es′ posts′ atoms′ (w₁ .posts) (w₁ .atoms) (w₁ .changes)
-        slices₁ = record {
+        slices-of : (ls : List Leaf) {k : ℕ} → taken ≡ k
+            → Slices posts atoms (record { leaves = ls; starts = v .st .starts; posts = v .st .posts; changes = v .st .changes + (2 + k) }) es′ posts′ atoms′ (w₁ .posts) (w₁ .atoms) (w₁ .changes)
+        slices-of ls z = record {
           starts = v .slices .starts;
           post-words = v .slices .post-words;
           atom-words = v .slices .atom-words;
-          posted = ap (λ (w : Written). w .posts) two ∙ v .slices .posted;
-          explained = ap (λ (w : Written). w .atoms) two ∙ v .slices .explained;
-          counted = ap (λ (w : Written). w .changes) two ∙ ap (λ (c : ℕ). c + 2) (v .slices .counted);
+          posted = ap (λ (w : Written). w .posts) count ∙ v .slices .posted;
+          explained = ap (λ (w : Written). w .atoms) count ∙ v .slices .explained;
+          counted = omega (arith, z, ap (λ (w : Written). w .changes) count, v .slices .counted);
         }
 
         unfold-level : whole ≡ rest-of (suc (n - 1 - suc t)) t (v .st)
         unfold-level = v .rest ∙ ap (λ (f : ℕ). rest-of f t (v .st)) next
 
-        inner-is : {u : Turn} → inner zeroAt J estOrder lctOrder n (suc t) st₁ ≡ u → inner zeroAt J estOrder lctOrder (J .count) (suc t) st₁ ≡ u
-        inner-is z = ap (λ (f : ℕ). inner zeroAt J estOrder lctOrder f (suc t) st₁) (s .arrays .count) ∙ z
-
         -- the next level has no candidate, as the ect_bar known last is not past its lct
-        pub passed-over : last ≤ d → Level (t + 1) words″ es′ posts′ atoms′ w₁ last joins
-        passed-over low =
+        pub passed-over : needed ≡ false → last ≤ d → Level (t + 1) words″ es′ posts′ atoms′ w₁ last joins
+        passed-over not low =
             let one : suc t ≡ t + 1 = omega arith in
             subst (λ (k : ℕ). Level k words″ es′ posts′ atoms′ w₁ last joins) one (record {
               st = st₁;
               small = omega arith;
               entered = follows t (v .st) st₁ (v .entered) still on-st₁;
-              has = at-place (λ ls. HasLeaves J estOrder ls inn words″) (m moves .0);
-              tree = λ z. at-place (λ ls. IsTree J estOrder ls inn words″) (m moves .1 z);
-              slices = slices₁;
+              has = at-place none .0;
+              tree = at-place none .1;
+              slices = slices-of (st₁ .leaves) none;
               most = omega (arith, v .most, ect-bar-no-later zeroAt J (G .proper) estOrder lctOrder (G .by-earliest) (G .by-completion) t (v .st) small-t (v .entered));
               unjoined = λ _. omega (arith, low, ends-d);
               rest = unfold-level ∙ outer-on zeroAt J estOrder lctOrder (n - 1 - suc t) t (v .st) st₁ still on-st₁;
             })
           where
+            none : taken ≡ 0
+            none = elim known [ inl z ↦ z | inr (_, need, _) ↦ clash need not ]
+
             on-st₁ : inner zeroAt J estOrder lctOrder (J .count) (suc t) st₁ ≡ on st₁
             on-st₁ = quiet-levels.passed-over zeroAt J (G .proper) estOrder lctOrder (G .by-earliest) (G .by-completion) t (v .st) small-t (v .entered) (J .count) (omega (arith, v .most, low, ends-d))
 
         -- it may have one, and the words hold the tree
-        module _ (is-joined : joins ≡ true) where
+        module _ (is-joined : joins ≡ true) (passes : d < last) where
+          -- the state after the turns that are known: the level's task is the first candidate where it alone reaches the ect_bar known last
+          pub record Begun : Type 0 where
+            pub st : State
+            pub reached : Reached zeroAt J estOrder lctOrder (suc t) st
+            pub tree : IsTree J estOrder (st .leaves) inn words″
+            pub slices : Slices posts atoms st es′ posts′ atoms′ (w₁ .posts) (w₁ .atoms) (w₁ .changes)
+            pub rest : inner zeroAt J estOrder lctOrder n (suc t) st₁ ≡ inner zeroAt J estOrder lctOrder (n - taken) (suc t) st
+
+          pub begun : Begun
+          begun = elim known [
+            | inl z ↦ record {
+              st = st₁;
+              reached = moved t (v .st) (v .entered) still;
+              tree = at-place z .1 is-joined;
+              slices = slices-of (st₁ .leaves) z;
+              rest = ap (λ (f : ℕ). inner zeroAt J estOrder lctOrder f (suc t) st₁) (omega (arith, z));
+            }
+            | inr (z, _, reach) ↦ record {
+              st = dropped st₁ x;
+              reached = turned (suc t) st₁ (dropped st₁ x) (moved t (v .st) (v .entered) still) (drops reach 0 ∙ inner-end zeroAt J estOrder lctOrder 0 (suc t) (dropped st₁ x));
+              tree = rw (set-set (v .st .leaves) x gray empty) (at-place z .1 is-joined);
+              slices = subst (λ (c : ℕ). Slices posts atoms (record { leaves = dropped st₁ x .leaves; starts = v .st .starts; posts = v .st .posts; changes = c }) es′ posts′ atoms′ (w₁ .posts)
+                  (w₁ .atoms) (w₁ .changes)) (omega arith) (slices-of (dropped st₁ x .leaves) z);
+              rest = ap (λ (f : ℕ). inner zeroAt J estOrder lctOrder f (suc t) st₁) (omega (arith, more)) ∙ drops reach (n - 1)
+                  ∙ ap (λ (f : ℕ). inner zeroAt J estOrder lctOrder f (suc t) (dropped st₁ x)) (omega (arith, z));
+            }
+          ]
+            where
+              alone : getD est j 0 + getD durations j 0 ≡ last → IsFirst J estOrder (st₁ .leaves) (getD lctOrder t 0) (completion J (getD lctOrder (suc t) 0))
+              alone reach = level-first zeroAt J (G .proper) estOrder lctOrder (G .by-earliest) (G .by-completion) t (v .st) (omega (arith, more, s .arrays .count)) (v .entered) still last (v .most)
+                  (omega (arith, reach, s .arrays .starts .at j j-small, s .arrays .lasts .at j j-small, ap (J .earliest) j-is, ap (J .duration) j-is))
+                  (completion J (getD lctOrder (suc t) 0)) (omega (arith, passes, ends-d))
+
+              drops : getD est j 0 + getD durations j 0 ≡ last → (f : ℕ) → inner zeroAt J estOrder lctOrder (suc f) (suc t) st₁ ≡ inner zeroAt J estOrder lctOrder f (suc t) (dropped st₁ x)
+              drops reach f = inner-pass zeroAt J estOrder lctOrder f (suc t) st₁ x (alone reach .past) (alone reach .found)
+                  (subst (λ (k : ℕ). exceeds (leaves.ect J estOrder (st₁ .leaves)) (J .earliest k) ≡ false) (sym (G .by-earliest .there (getD lctOrder t 0) (G .by-completion .task t small-t)))
+                  (alone reach .not-raised))
+
           abbrev pub goes-on : Considerable size d words″ es′ posts′ atoms′ w₁ est lst durations reverseMapping mapping
           goes-on = record {
             J = J;
             estOrder = estOrder;
             lctOrder = lctOrder;
             level = suc t;
-            st = st₁;
+            st = begun .st;
             posts₀ = posts;
             atoms₀ = atoms;
             ordered = G;
@@ -333,12 +384,15 @@ module _ {size : TreeSize} {first : ℕ} {past : Bool} {words : List ℕ} {es po
             ends = ends-d;
             post-room = s .post-room;
             atom-room = s .atom-room;
-            reached = moved t (v .st) (v .entered) still;
-            at = record { tree = at-place (λ ls. IsTree J estOrder ls inn words″) (m moves .1 is-joined); slices = slices₁ };
+            reached = begun .reached;
+            at = record { tree = begun .tree; slices = begun .slices };
           }
 
+          inner-is : {u : Turn} → inner zeroAt J estOrder lctOrder (n - taken) (suc t) (begun .st) ≡ u → inner zeroAt J estOrder lctOrder (J .count) (suc t) st₁ ≡ u
+          inner-is z = ap (λ (f : ℕ). inner zeroAt J estOrder lctOrder f (suc t) st₁) (s .arrays .count) ∙ begun .rest ∙ z
+
           -- the inner loop ended,
-          pub one-more : {words‴ : List ℕ} {es″ posts″ atoms″ : List ℤ} {w″ : Written} {u : code.Turn} → u ≡ turn.On w″ → AllConsidered goes-on u words‴ es″ posts″ atoms″
+          pub one-more : {words‴ : List ℕ} {es″ posts″ atoms″ : List ℤ} {w″ : Written} {u : code.Turn} → u ≡ turn.On w″ → AllConsidered goes-on (n - taken) u words‴ es″ posts″ atoms″
               → {last′ : ℕ} → Told words‴ last′ → Level (t + 1) words‴ es″ posts″ atoms″ w″ last′ joins
           one-more {words‴} {es″} {posts″} {atoms″} {w″} is all {last′} told =
               let (st′, a, z) = rw is at all in
@@ -356,7 +410,7 @@ module _ {size : TreeSize} {first : ℕ} {past : Bool} {words : List ℕ} {es po
               })
 
           -- or a post emptied a range
-          pub one-emptied : (words‴ : List ℕ) {es″ posts″ atoms″ : List ℤ} {w″ : Written} {u : code.Turn} {r : Finished} → u ≡ turn.Emptied w″ → AllConsidered goes-on u words‴ es″ posts″ atoms″
+          pub one-emptied : (words‴ : List ℕ) {es″ posts″ atoms″ : List ℤ} {w″ : Written} {u : code.Turn} {r : Finished} → u ≡ turn.Emptied w″ → AllConsidered goes-on (n - taken) u words‴ es″ posts″ atoms″
               → (r .outcome ≡ outcome.Emptied (w″ .posts)) × (r .changes ≡ w″ .changes) → EdgeFound J estOrder lctOrder posts atoms (r .outcome) (r .changes) es″ posts″ atoms″
           one-emptied words‴ {es″} {posts″} {atoms″} {w″} is all f =
               let (st′, a, z) = rw is at all in

@@ -1,6 +1,6 @@
 pub mod RunArrays
 pub mod Candidates
 pub mod EdgeFinding
-pub mod MovedToLambda
+pub mod LeavingTheta
 pub mod FilledTheta
 pub mod Ran

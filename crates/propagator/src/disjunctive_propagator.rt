@@ -25,11 +25,12 @@ use trees::theta_lambda_tree::ThetaLambdaTree;
 ghost use mathlib.Core.Bool.{_||_};
 ghost use mathlib.Core.Path.{_≡_};
 ghost use Prim.Native.Nat.{_≤_, _<_, ℕ, _+_, _*_, _^_};
-ghost use lib.ListN.{length};
+ghost use mathlib.Core.List.{List};
+ghost use lib.ListN.{length, getD};
 ghost use Rattle.integers.specs.Limits.{ATOMS, TASKS};
 ghost use Rattle.records.specs.Records.{recordOf};
 ghost use Rattle.trees.specs.Ects.{exceeds, raisedTo};
-ghost use Rattle.trees.specs.Leaves.{ect, ect-bar, sum};
+ghost use Rattle.trees.specs.Leaves.{empty, gray, ect, ect-bar, sum};
 ghost use Rattle.trees.specs.ArraySearches.{thetaIn};
 ghost use Rattle.trees.specs.Operations.{Held, HeldLeaves, Answers, Tall};
 ghost use Rattle.explanations.specs.Explanations.{ConflictExplainable, PropagationExplainable};
@@ -37,7 +38,7 @@ ghost use Rattle.propagator.specs.Ran.{Runnable, RunLeft, Ran};
 ghost use Rattle.propagator.specs.RunArrays.{SizeFits};
 ghost use Rattle.propagator.specs.FilledTheta.{Fillable, Filled};
 ghost use Rattle.propagator.specs.EdgeFinding.{HeldPast, JoinedPast, ConflictExplained, conflictOf, EdgeFindable, EdgeFound};
-ghost use Rattle.propagator.specs.MovedToLambda.{Movable, Moved};
+ghost use Rattle.propagator.specs.LeavingTheta.{Movable, Recoloured, leftFor, KnownTurns};
 ghost use Rattle.propagator.specs.Candidates.{nothingWritten, counted, Proposes, reasonOf, Posted, Considerable, Considered, AllConsidered};
 ghost use Rattle.propagator.specs.Candidates.{Responsible-for};
 
@@ -194,9 +195,20 @@ fn edge_finding<'a>(
         let before = needed;
         needed = last_ect_bar > lct_next;
         let joins = either(needed, before);
-        move_to_lambda(nodes, mapping, est, durations, size, j, joined, joins);
+        let taken = known_turns(est, durations, j, last_ect_bar, needed);
+        leave_theta(
+            nodes,
+            mapping,
+            est,
+            durations,
+            size,
+            j,
+            joined,
+            joins,
+            taken,
+        );
         joined = joins;
-        w = w.counted(2);
+        w = w.counted(2 + taken);
         if needed {
             match consider_all(
                 nodes,
@@ -211,6 +223,7 @@ fn edge_finding<'a>(
                 durations,
                 size,
                 lct_next,
+                n - taken,
             ) {
                 Turn::On(x) => w = x,
                 Turn::Emptied(x) => return x.finished(Outcome::Emptied(x.posts)),
@@ -291,8 +304,51 @@ fn overloads(nodes: &[u32; TREEWORDS], last_ect_bar: u32, lct: u32) -> bool
     ect.exceeds(lct)
 }
 
+// How many turns of the next level are known without a search: one where the level's task j reaches the last known ect_bar alone. Once j is gray the search would
+// find it, and no set of white tasks completes after j starts, so j leaves Lambda with no post.
+fn known_turns(
+    est: &[u32; TASKS],
+    durations: &[u32; TASKS],
+    j: usize,
+    last_ect_bar: u32,
+    needed: bool,
+) -> usize
+    requires { ⌜ (j < TASKS) × (getD (now est) j 0 + getD (now durations) j 0 < 2 ^ 32) ⌝ }
+    ensures { λ r. ⌜ KnownTurns (now (est .entry)) (now (durations .entry)) j «last_ect_bar» needed r × (r ≤ 1) ⌝ }
+{
+    if needed {
+        if est[j] + durations[j] == last_ect_bar {
+            return 1;
+        }
+    }
+    0
+}
+
+// Task j leaves Theta: for Lambda, or for neither where its turn is known.
+fn leave_theta<'a>(
+    nodes: &mut [u32; TREEWORDS],
+    mapping: &'a [u32; TASKS],
+    est: &'a [u32; TASKS],
+    durations: &'a [u32; TASKS],
+    size: TreeSize,
+    j: usize,
+    joined: bool,
+    joins: bool,
+    taken: usize,
+)
+    requires { ⌜ Movable (size .inner) (now nodes) (now mapping) (now est) (now durations) j joined ⌝ }
+    ensures { λ _. ⌜ Recoloured (leftFor taken) (size .inner) (now (nodes .entry)) (now (nodes .exit)) (now (mapping .entry)) (now (est .entry))
+        (now (durations .entry)) j joined joins ⌝ }
+{
+    if taken == 0 {
+        move_to_lambda(nodes, mapping, est, durations, size, j, joined, joins);
+        return;
+    }
+    take_out(nodes, mapping, size, j, joined, joins);
+}
+
 // Moves task j from Theta to Lambda. The source empties its leaf first; the gray leaf goes over the white one here, which leaves the same tree. The inner nodes
-// are joined only where they are needed: the leaf's ancestors, or all of them where they were not joined before.
+// are joined only where they are to be: the leaf's ancestors, or all of them where they were not joined before.
 fn move_to_lambda<'a>(
     nodes: &mut [u32; TREEWORDS],
     mapping: &'a [u32; TASKS],
@@ -301,11 +357,11 @@ fn move_to_lambda<'a>(
     size: TreeSize,
     j: usize,
     joined: bool,
-    needed: bool,
+    joins: bool,
 )
     requires { ⌜ Movable (size .inner) (now nodes) (now mapping) (now est) (now durations) j joined ⌝ }
-    ensures { λ _. ⌜ Moved (size .inner) (now (nodes .entry)) (now (nodes .exit)) (now (mapping .entry)) (now (est .entry))
-        (now (durations .entry)) j joined needed ⌝ }
+    ensures { λ _. ⌜ Recoloured gray (size .inner) (now (nodes .entry)) (now (nodes .exit)) (now (mapping .entry)) (now (est .entry))
+        (now (durations .entry)) j joined joins ⌝ }
 {
     let place = leaf_of(mapping, LocalId(j));
     let task = DisjunctiveTask {
@@ -313,12 +369,36 @@ fn move_to_lambda<'a>(
         processing_time: durations[j],
         id: LocalId(j),
     };
-    if joined && needed {
+    if joined && joins {
         ThetaLambdaTree::add_to_lambda(nodes, size.inner, place, task);
         return;
     }
     ThetaLambdaTree::lay_in_lambda(nodes, size.inner, place, task);
-    if needed {
+    if joins {
+        ThetaLambdaTree::rebuild(nodes, size.inner);
+    }
+}
+
+// Takes task j out of Theta, and joins the inner nodes in the same way.
+fn take_out(
+    nodes: &mut [u32; TREEWORDS],
+    mapping: &[u32; TASKS],
+    size: TreeSize,
+    j: usize,
+    joined: bool,
+    joins: bool,
+)
+    requires { ⌜ ((est durations : List ℕ) × Movable (size .inner) (now nodes) (now mapping) est durations j joined) ⌝ }
+    ensures { λ _. ⌜ ((est durations : List ℕ) → Recoloured empty (size .inner) (now (nodes .entry)) (now (nodes .exit)) (now (mapping .entry)) est durations j
+        joined joins) ⌝ }
+{
+    let place = leaf_of(mapping, LocalId(j));
+    if joined && joins {
+        ThetaLambdaTree::remove_from_theta(nodes, size.inner, place);
+        return;
+    }
+    ThetaLambdaTree::lay_empty(nodes, size.inner, place);
+    if joins {
         ThetaLambdaTree::rebuild(nodes, size.inner);
     }
 }
@@ -411,7 +491,7 @@ enum Turn {
     Emptied(Written),
 }
 
-// Considers the tasks of Lambda for which the edge-finding condition holds, one after the other. Each turn takes one out, so n turns are enough.
+// Considers the tasks of Lambda for which the edge-finding condition holds, one after the other. Each turn takes one out, and there are at most so many turns.
 fn consider_all<'a>(
     nodes: &mut [u32; TREEWORDS],
     earliest: &mut [i32],
@@ -425,15 +505,16 @@ fn consider_all<'a>(
     durations: &'a [u32; TASKS],
     size: TreeSize,
     lct: u32,
+    turns: usize,
 ) -> Turn
     requires { ⌜ Considerable size lct (now nodes) (now earliest) (now posts) (now atoms) written (now est) (now lst) (now durations)
         (now «reverse_mapping») (now mapping) ⌝ }
     ensures { λ r. ⌜ ((s : Considerable size lct (now (nodes .entry)) (now (earliest .entry)) (now (posts .entry)) (now (atoms .entry)) written
         (now (est .entry)) (now (lst .entry)) (now (durations .entry)) (now («reverse_mapping» .entry)) (now (mapping .entry)))
-        → AllConsidered s r (now (nodes .exit)) (now (earliest .exit)) (now (posts .exit)) (now (atoms .exit))) ⌝ }
+        → AllConsidered s turns r (now (nodes .exit)) (now (earliest .exit)) (now (posts .exit)) (now (atoms .exit))) ⌝ }
 {
     let mut w = written;
-    let mut left = size.leaves;
+    let mut left = turns;
     while left > 0 {
         left -= 1;
         let next = candidate(nodes, reverse_mapping, size, lct);

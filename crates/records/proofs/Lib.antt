@@ -4,3 +4,4 @@ pub mod Creation
 pub mod CreationNumbers
 pub mod RefusedRuns
 pub mod AcceptedTasks
+pub mod OneMore

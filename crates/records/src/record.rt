@@ -4,6 +4,7 @@ use integers::limits::TASKS;
 use integers::numbers::wide;
 use integers::refused;
 ghost use mathlib.Core.Path.{_≡_};
+ghost use mathlib.Core.Bool.{_&&_};
 ghost use Prim.Native.Nat.{_≤_, _<_};
 ghost use lib.Bits.{bitOr};
 ghost use lib.ListN.{length, getD};
@@ -41,6 +42,13 @@ pub enum Creation {
 pub struct Created {
     pub record: DisjunctivePropagator,
     pub answer: Creation,
+}
+
+// Whether both hold, with no branch.
+pub fn both(a: bool, b: bool) -> bool
+    ensures { λ r. ⌜ r ≡ a && b ⌝ }
+{
+    a & b
 }
 
 // Whether a number of tasks is from 1 to TASKS.
@@ -88,14 +96,13 @@ fn all_last(durations: &[u32; TASKS], n: usize) -> bool
     requires { ⌜ n ≤ TASKS ⌝ }
     ensures { λ r. ⌜ r ≡ allBelow (lastsAt (now (durations .entry))) n ⌝ }
 {
+    let mut all = true;
     let mut i = 0;
     while i < n {
-        if durations[i] < 1 {
-            return false;
-        }
+        all = both(all, 1 <= durations[i]);
         i += 1;
     }
-    true
+    all
 }
 
 // A duration of a caller's as a natural number; 0 where it is negative.

@@ -1,4 +1,5 @@
 // What refuses a call for its record and its ranges: the number of the first test that is broken, each tried over the whole input.
+use crate::record::both;
 use crate::record::lawful;
 use integers::limits::TASKS;
 use integers::refused;
@@ -14,24 +15,23 @@ ghost use Rattle.records.specs.Refusals.{withinAt, startFitsAt, rangeFit
 pub fn within(x: i32, low: i32, high: i32) -> bool
     ensures { λ r. ⌜ r ≡ leZ low x && leZ x high ⌝ }
 {
-    if !integers::numbers::at_most(low, x) {
-        return false;
-    }
-    integers::numbers::at_most(x, high)
+    both(
+        integers::numbers::at_most(low, x),
+        integers::numbers::at_most(x, high),
+    )
 }
 
-// Whether every number is.
+// Whether every number is. All are read, with no branch at any, so that several are compared at once.
 pub fn all_within(xs: &[i32], low: i32, high: i32) -> bool
     ensures { λ r. ⌜ r ≡ allBelow (withinAt low high (now (xs .entry))) (length (now (xs .entry))) ⌝ }
 {
+    let mut all = true;
     let mut i = 0;
     while i < xs.len() {
-        if !within(xs[i], low, high) {
-            return false;
-        }
+        all = both(all, within(xs[i], low, high));
         i += 1;
     }
-    true
+    all
 }
 
 // Whether every start is within the limits.
@@ -46,14 +46,13 @@ pub fn ranges_fit(earliest: &[i32], latest: &[i32]) -> bool
     requires { ⌜ length (now earliest) ≡ length (now latest) ⌝ }
     ensures { λ r. ⌜ r ≡ allBelow (rangeFitsAt (now (earliest .entry)) (now (latest .entry))) (length (now (earliest .entry))) ⌝ }
 {
+    let mut all = true;
     let mut i = 0;
     while i < earliest.len() {
-        if !integers::numbers::at_most(earliest[i], latest[i]) {
-            return false;
-        }
+        all = both(all, integers::numbers::at_most(earliest[i], latest[i]));
         i += 1;
     }
-    true
+    all
 }
 
 // The number that refuses any call for its record and its ranges, or 0: 20, 10, 3, 4.

@@ -17,19 +17,19 @@ use Rattle.propagator.proofs.disjunctive_propagator.consider_all.Tie as
 -- what the loop has got to; the slices keep their lengths
 record Loop (size : TreeSize) (lct : ℕ) (nodes₀ : List ℕ) (earliest₀ posts₀ atoms₀ : List ℤ) (w₀ : Written) (est lst durations reverseMapping mapping nodes : List ℕ) (earliest posts atoms : List ℤ)
     (w : Written)
-    (left : ℕ) : Type 0 where
+    (turns left : ℕ) : Type 0 where
   considerable : Considerable size lct nodes₀ earliest₀ posts₀ atoms₀ w₀ est lst durations reverseMapping mapping
-  reached : (s : Considerable size lct nodes₀ earliest₀ posts₀ atoms₀ w₀ est lst durations reverseMapping mapping) → Turned s left nodes earliest posts atoms w
+  reached : (s : Considerable size lct nodes₀ earliest₀ posts₀ atoms₀ w₀ est lst durations reverseMapping mapping) → Turned s turns left nodes earliest posts atoms w
   starts-length : length earliest ≡ length earliest₀
   posts-length : length posts ≡ length posts₀
   atoms-length : length atoms ≡ length atoms₀
 
 abbrev Inv-loop : tie.InvT-loop
-Inv-loop nodes₀ earliest₀ posts₀ atoms₀ mapping reverseMapping est lst durations size lct w₀ left₀ nodes earliest posts atoms w left =
-    Loop size lct nodes₀ earliest₀ posts₀ atoms₀ w₀ est lst durations reverseMapping mapping nodes earliest posts atoms w left
+Inv-loop nodes₀ earliest₀ posts₀ atoms₀ mapping reverseMapping est lst durations size lct turns w₀ left₀ nodes earliest posts atoms w left =
+    Loop size lct nodes₀ earliest₀ posts₀ atoms₀ w₀ est lst durations reverseMapping mapping nodes earliest posts atoms w turns left
 
 abbrev μ-loop : tie.MeasureT-loop
-μ-loop nodes₀ earliest₀ posts₀ atoms₀ mapping reverseMapping est lst durations size lct w₀ left₀ nodes earliest posts atoms w left = left
+μ-loop nodes₀ earliest₀ posts₀ atoms₀ mapping reverseMapping est lst durations size lct turns w₀ left₀ nodes earliest posts atoms w left = left
 
 positive : (c : tie.In-loop Inv-loop μ-loop) → c .before .loop .left ≡ suc (c .before .loop .left - 1)
 positive c = omega arith
@@ -42,7 +42,7 @@ abbrev entered : tie.After-next Inv-loop μ-loop → tie.In-loop Inv-loop μ-loo
 entered c = c .before .before .before .before
 
 loop-holds : tie.Need-loop-holds Inv-loop μ-loop
-loop-holds c = record { considerable = c .pre; reached = λ s. none-yet s; starts-length = refl; posts-length = refl; atoms-length = refl }
+loop-holds c = record { considerable = c .pre; reached = λ s. none-yet s (c .args .turns); starts-length = refl; posts-length = refl; atoms-length = refl }
 
 candidate-requires : tie.Need-candidate-requires Inv-loop μ-loop
 candidate-requires c κs = let v = c .before .before .loop .inv in (let a = still-considerable (v .considerable) (v .reached (v .considerable)) in (shown a, tall a))

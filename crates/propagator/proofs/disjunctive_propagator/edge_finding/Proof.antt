@@ -7,12 +7,12 @@ use native.Mathlib.Omega.{arith}
 use lib.IntN.{ℤ}
 use lib.ListN.{length, getD}
 use borrow.Author.Needs.{needs}
-use borrow.Author.Tests.{ltb-false}
+use borrow.Author.Tests.{ltb-true, ltb-false}
 use Rattle.trees.specs.Ects.{exceeds}
 use Rattle.trees.specs.declared.complete_tree.TreeSize.{TreeSize}
 use Rattle.propagator.specs.declared.disjunctive_propagator.Written.{Written}
 use Rattle.propagator.specs.EdgeFinding.{EdgeFindable}
-use Rattle.propagator.proofs.OuterLoop.{Level, tested, shown, ect, sorted-task-small, any, first-level, all-done, over-asked, size-fits, few-changes, overloads, moves, passed-over, goes-on}
+use Rattle.propagator.proofs.OuterLoop.{Level, tested, shown, ect, sorted-task-small, any, first-level, all-done, over-asked, size-fits, few-changes, overloads, reachable, moves, passed-over, goes-on}
 use Rattle.propagator.proofs.OuterLoop.{one-more, one-emptied}
 use Rattle.propagator.proofs.disjunctive_propagator.edge_finding.Statement.{statement}
 use Rattle.propagator.proofs.disjunctive_propagator.edge_finding.Tie as tie
@@ -54,15 +54,15 @@ more c = omega (arith, c .before .loop .inv .count)
 abbrev entered : tie.After-overloads Inv-loop μ-loop → tie.In-loop Inv-loop μ-loop
 entered c = c .before .before .before .before
 
-abbrev not-over : tie.After-move-to-lambda Inv-loop μ-loop → tie.Else1 Inv-loop μ-loop
-not-over c = c .before .before .before .before .before
+abbrev not-over : tie.After-leave-theta Inv-loop μ-loop → tie.Else1 Inv-loop μ-loop
+not-over c = c .before .before .before .before .before .before
 
-abbrev level-of : tie.After-move-to-lambda Inv-loop μ-loop → tie.In-loop Inv-loop μ-loop
+abbrev level-of : tie.After-leave-theta Inv-loop μ-loop → tie.In-loop Inv-loop μ-loop
 level-of c = entered (not-over c .before)
 
 -- where the next level needs the tree, the inner nodes were joined
-joins : (c : tie.Then2 Inv-loop μ-loop) → c .before .before .before .before .either .result ≡ true
-joins c = c .before .before .before .before .either .ensures ∙ rw (c .if2 .taken) refl
+joins : (c : tie.Then2 Inv-loop μ-loop) → c .before .before .before .before .before .either .result ≡ true
+joins c = c .before .before .before .before .before .either .ensures ∙ rw (c .if2 .taken) refl
 
 -- the tree was needed, from the tasks considered; these, from the new ect_bar
 abbrev needing : tie.After-consider-all Inv-loop μ-loop → tie.Then2 Inv-loop μ-loop
@@ -97,7 +97,7 @@ passes : (c : tie.Then1 Inv-loop μ-loop) → Test (entered (c .before)) true
 passes c s = let level = entered (c .before) in
     sym (c .before .overloads .ensures (start level .args .size .inner) (tested s (level .before .loop .inv .level s) (more level))) ∙ c .if1 .taken
 
-quiet : (c : tie.After-move-to-lambda Inv-loop μ-loop) → Test (level-of c) false
+quiet : (c : tie.After-leave-theta Inv-loop μ-loop) → Test (level-of c) false
 quiet c s = let level = level-of c in let test = not-over c in
     sym (test .before .overloads .ensures (start level .args .size .inner) (tested s (level .before .loop .inv .level s) (more level))) ∙ test .if1 .left
 
@@ -120,24 +120,39 @@ mul-lct-next-2 c =
     let level = entered (c .before .before) in
     omega (arith, sorted-task-small (level .before .loop .inv .findable) (level .before .loop .index + 1) (more level))
 
-move-to-lambda-requires : tie.Need-move-to-lambda-requires Inv-loop μ-loop
-move-to-lambda-requires c κs =
-    let level = entered (c .before .before .before .before .before) in
+known-turns-requires : tie.Need-known-turns-requires Inv-loop μ-loop
+known-turns-requires c κs =
+    let level = entered (c .before .before .before .before) in
+    let v = level .before .loop .inv in
+    reachable (v .findable) (v .level (v .findable)) (more level)
+
+leave-theta-requires : tie.Need-leave-theta-requires Inv-loop μ-loop
+leave-theta-requires c κs =
+    let level = entered (c .before .before .before .before .before .before) in
     let v = level .before .loop .inv in
     moves (v .findable) (v .level (v .findable)) (more level)
+
+add-counted : tie.Need-add-counted Inv-loop μ-loop
+add-counted c = omega (arith, c .before .before .known-turns .ensures .1)
 
 counted-requires : tie.Need-counted-requires Inv-loop μ-loop
 counted-requires c κs =
     let level = level-of c in
     let v = level .before .loop .inv in
-    omega (arith, few-changes (v .findable) (v .level (v .findable)) (more level))
+    omega (arith, few-changes (v .findable) (v .level (v .findable)) (more level), c .before .before .known-turns .ensures .1)
+
+sub-consider-all : tie.Need-sub-consider-all Inv-loop μ-loop
+sub-consider-all c =
+    let move = c .before .before .before .before .before .before in
+    omega (arith, more (level-of move), move .before .before .known-turns .ensures .1)
 
 consider-all-requires : tie.Need-consider-all-requires Inv-loop μ-loop
 consider-all-requires c κs =
     let need = c .before .before .before .before in
     let move = need .before .before in
     let v = level-of move .before .loop .inv in
-    goes-on (v .findable) (v .level (v .findable)) (more (level-of move)) (quiet move (v .findable)) (move .move-to-lambda .ensures) (need .before .counted .ensures) (joins need)
+    goes-on (v .findable) (v .level (v .findable)) (more (level-of move)) (quiet move (v .findable)) (move .before .before .known-turns .ensures .0) (move .leave-theta .ensures) (need .before .counted .ensures)
+    (joins need) (ltb-true _ _ (need .if2 .taken))
 
 loop-less : tie.Need-loop-less Inv-loop μ-loop
 loop-less c = omega (arith, more (level-of (needing (considering (c .before .before)) .before .before)))
@@ -152,9 +167,10 @@ loop-again c =
     record {
       findable = v .findable;
       level = λ s.
-          let g = goes-on s (v .level s) (more (level-of move)) (quiet move s) (move .move-to-lambda .ensures) (need .before .counted .ensures) (joins need) in
-          one-more s (v .level s) (more (level-of move)) (quiet move s) (move .move-to-lambda .ensures) (need .before .counted .ensures) (joins need) (told .before .x .given .1)
-          (considered .consider-all .ensures g) (c .ect-bar-moment .ensures);
+          let g = goes-on s (v .level s) (more (level-of move)) (quiet move s) (move .before .before .known-turns .ensures .0) (move .leave-theta .ensures) (need .before .counted .ensures) (joins need)
+          (ltb-true _ _ (need .if2 .taken)) in
+          one-more s (v .level s) (more (level-of move)) (quiet move s) (move .before .before .known-turns .ensures .0) (move .leave-theta .ensures) (need .before .counted .ensures) (joins need)
+          (ltb-true _ _ (need .if2 .taken)) (told .before .x .given .1) (considered .consider-all .ensures g) (c .ect-bar-moment .ensures);
       count = v .count;
       small = more (level-of move);
       starts-length = search needs;
@@ -173,7 +189,8 @@ loop-again-2 c =
     record {
       findable = v .findable;
       level = λ s.
-          passed-over s (v .level s) (more (level-of move)) (quiet move s) (move .move-to-lambda .ensures) (c .before .counted .ensures) (ltb-false _ _ (c .if2 .left));
+          passed-over s (v .level s) (more (level-of move)) (quiet move s) (move .before .before .known-turns .ensures .0) (move .leave-theta .ensures) (c .before .counted .ensures) (c .if2 .left)
+          (ltb-false _ _ (c .if2 .left));
       count = v .count;
       small = more (level-of move);
       starts-length = v .starts-length;
@@ -203,9 +220,10 @@ returns-2 c = λ s.
     let need = needing considered in
     let move = need .before .before in
     let l = head (c .before) .loop .inv .level s in
-    let g = goes-on s l (more (level-of move)) (quiet move s) (move .move-to-lambda .ensures) (need .before .counted .ensures) (joins need) in
-    one-emptied s l (more (level-of move)) (quiet move s) (move .move-to-lambda .ensures) (need .before .counted .ensures) (joins need) (considered .consider-all .last .0)
-    (c .before .before .x2 .given .1) (considered .consider-all .ensures g) (c .finished .ensures)
+    let g = goes-on s l (more (level-of move)) (quiet move s) (move .before .before .known-turns .ensures .0) (move .leave-theta .ensures) (need .before .counted .ensures) (joins need)
+    (ltb-true _ _ (need .if2 .taken)) in
+    one-emptied s l (more (level-of move)) (quiet move s) (move .before .before .known-turns .ensures .0) (move .leave-theta .ensures) (need .before .counted .ensures) (joins need)
+    (ltb-true _ _ (need .if2 .taken)) (considered .consider-all .last .0) (c .before .before .x2 .given .1) (considered .consider-all .ensures g) (c .finished .ensures)
 
 returns-3 : tie.Need-returns-3 Inv-loop μ-loop
 returns-3 c = λ s. all-done s (c .before .before .loop .inv .level s) (omega (arith, c .before .before .loop .inv .count)) (c .finished2 .ensures)
@@ -217,7 +235,7 @@ edge-finding-spec =
     Inv-loop μ-loop (λ c κs. search needs) loop-holds (λ c. search needs) (λ c. search needs)
     (λ c. search needs) mul-lct-j (λ c. search (needs, sorted-task-small)) (λ c κs. search needs) overloaded-requires
     (λ c. search needs) (λ c. search needs) (λ c. search needs) returns (λ c. search needs) (λ c. search needs)
-    (λ c. search needs) mul-lct-next-2 (λ c. search (needs, sorted-task-small)) (λ c κs. search needs) move-to-lambda-requires counted-requires
-    consider-all-requires (λ c. search needs) (λ c. search needs) (λ c κs. search needs) same-length-4 same-length-5
+    (λ c. search needs) mul-lct-next-2 (λ c. search (needs, sorted-task-small)) (λ c κs. search needs) known-turns-requires leave-theta-requires add-counted
+    counted-requires sub-consider-all consider-all-requires (λ c. search needs) (λ c. search needs) (λ c κs. search needs) same-length-4 same-length-5
     same-length-6 returns-2 (λ c κs. search needs) loop-less loop-again loop-less-2 loop-again-2 (λ c κs. search needs)
     (λ c. search needs) (λ c. search needs) (λ c. search needs) returns-3)

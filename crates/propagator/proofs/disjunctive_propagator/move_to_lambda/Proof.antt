@@ -2,8 +2,9 @@
 use mathlib.Core.Path.{refl}
 use borrow.Author.Needs.{needs}
 use Rattle.integers.proofs.Bools.{clash}
+use Rattle.trees.specs.Leaves.{gray}
 use Rattle.trees.proofs.RebuiltTrees.{tree-leaves}
-use Rattle.propagator.proofs.MovedToLambda.{shown, shown-leaves, placed, laid, moved-leaves, moved}
+use Rattle.propagator.proofs.LeavingTheta.{shown, shown-leaves, placed, laid, moved-leaves, moved}
 use Rattle.propagator.proofs.disjunctive_propagator.move_to_lambda.Statement.{statement}
 use Rattle.propagator.proofs.disjunctive_propagator.move_to_lambda.Tie as tie
 
@@ -23,7 +24,7 @@ returns : tie.Need-returns
 returns c = λ m.
     let both = c .before .before in
     let at = read both in
-    let tree = moved m (at .leaf-of .ensures) (c .add-to-lambda .ensures (shown m (both .before .if1 .taken)) (placed m (at .leaf-of .ensures) refl refl)) in
+    let tree = moved m gray (at .leaf-of .ensures) (c .add-to-lambda .ensures (shown m (both .before .if1 .taken)) (placed m (at .leaf-of .ensures) refl refl)) in
     (tree-leaves (m .limited) tree, λ _. tree)
 
 lay-in-lambda-requires : tie.Need-lay-in-lambda-requires
@@ -36,19 +37,19 @@ rebuild-requires c κs =
     let lay = c .before .before in
     let at = read-laid lay in
     let m = at .before .pre in
-    laid m (at .leaf-of .ensures) (lay .lay-in-lambda .ensures (shown-leaves m) (placed m (at .leaf-of .ensures) refl refl))
+    laid m gray (at .leaf-of .ensures) (lay .lay-in-lambda .ensures (shown-leaves m) (placed m (at .leaf-of .ensures) refl refl))
 
 returns-2 : tie.Need-returns-2
 returns-2 c = λ m.
     let lay = c .before .before .before in
     let at = read-laid lay in
-    let tree = moved m (at .leaf-of .ensures) (c .rebuild .ensures (laid m (at .leaf-of .ensures) (lay .lay-in-lambda .ensures (shown-leaves m) (placed m (at .leaf-of .ensures) refl refl)))) in
+    let tree = moved m gray (at .leaf-of .ensures) (c .rebuild .ensures (laid m gray (at .leaf-of .ensures) (lay .lay-in-lambda .ensures (shown-leaves m) (placed m (at .leaf-of .ensures) refl refl)))) in
     (tree-leaves (m .limited) tree, λ _. tree)
 
 returns-3 : tie.Need-returns-3
 returns-3 c = λ m.
     let at = read-laid (c .before) in
-    (moved-leaves m (at .leaf-of .ensures) (c .before .lay-in-lambda .ensures (shown-leaves m) (placed m (at .leaf-of .ensures) refl refl)), λ z. clash z (c .if3 .left))
+    (moved-leaves m gray (at .leaf-of .ensures) (c .before .lay-in-lambda .ensures (shown-leaves m) (placed m (at .leaf-of .ensures) refl refl)), λ z. clash z (c .if3 .left))
 
 pub move-to-lambda-spec : {M : Type 1} → statement M
 move-to-lambda-spec =

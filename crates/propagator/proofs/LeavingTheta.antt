@@ -1,18 +1,18 @@
--- A white leaf becomes gray; that of a level's task may.
-use mathlib.Core.Path.{_≡_, sym, ap, subst, _∙_}
+-- A white leaf changes its colour; that of a level's task may.
+use mathlib.Core.Path.{_≡_, refl, sym, ap, subst, _∙_}
 use mathlib.Core.Bool.{Bool, true}
 use mathlib.Core.List.{List}
-use Prim.Native.Nat.{ℕ, _<_}
+use Prim.Native.Nat.{ℕ, zero, suc, _<_}
 use native.Mathlib.Omega.{arith}
 use lib.ListN.{getD, set}
 use Rattle.integers.specs.Orders.{index}
 use Rattle.scheduling.specs.Scheduling.{natural, Tasks}
 use Rattle.trees.specs.declared.complete_tree.TreeSize.{TreeSize}
-use Rattle.trees.specs.Leaves.{Leaf, gray}
+use Rattle.trees.specs.Leaves.{Leaf, empty}
 use Rattle.trees.specs.Trees.{IsTree, HasLeaves}
 use Rattle.trees.specs.Operations.{Held, HeldLeaves, HasTask, LeafColoured}
 use Rattle.propagator.specs.RunArrays.{Ordered, Arrays}
-use Rattle.propagator.specs.MovedToLambda.{Movable}
+use Rattle.propagator.specs.LeavingTheta.{Movable, leftFor}
 
 module _ {inner : ℕ} {words mapping est durations : List ℕ} {j : ℕ} {joined : Bool} (m : Movable inner words mapping est durations j joined) where
   abbrev pub shown : joined ≡ true → Held inner words
@@ -26,16 +26,25 @@ module _ {inner : ℕ} {words mapping est durations : List ℕ} {j : ℕ} {joine
   placed is {e} {p} s d = subst (λ (k : ℕ). HasTask (m .J) (m .estOrder) k e p) (sym is)
       (record { inside = m .inside; start = s ∙ m .start ∙ ap (m .J .earliest) (sym (m .task)); lasts = d ∙ m .lasts ∙ ap (m .J .duration) (sym (m .task)) })
 
-  module _ {k : ℕ} (e : k ≡ getD mapping j 0) where
-    -- the words with the leaf gray
-    abbrev pub laid : {words′ : List ℕ} → LeafColoured gray shown-leaves k words′ → HeldLeaves inner words′
-    laid q = record { J = m .J; estOrder = m .estOrder; leaves = set (m .leaves) k gray; limited = m .limited; has = q }
+  -- the same where it leaves both sets
+  pub within : {k : ℕ} → k ≡ getD mapping j 0 → k < m .J .count
+  within is = omega (arith, m .inside)
 
-    pub moved-leaves : {words′ : List ℕ} → LeafColoured gray shown-leaves k words′ → LeafColoured gray shown-leaves (getD mapping j 0) words′
-    moved-leaves {words′} q = subst (λ (k : ℕ). LeafColoured gray shown-leaves k words′) e q
+  module _ (c : Leaf) {k : ℕ} (e : k ≡ getD mapping j 0) where
+    -- the words with the leaf in its new colour
+    abbrev pub laid : {words′ : List ℕ} → LeafColoured c shown-leaves k words′ → HeldLeaves inner words′
+    laid q = record { J = m .J; estOrder = m .estOrder; leaves = set (m .leaves) k c; limited = m .limited; has = q }
 
-    pub moved : {words′ : List ℕ} → IsTree (m .J) (m .estOrder) (set (m .leaves) k gray) inner words′ → IsTree (m .J) (m .estOrder) (set (m .leaves) (getD mapping j 0) gray) inner words′
-    moved {words′} q = subst (λ (k : ℕ). IsTree (m .J) (m .estOrder) (set (m .leaves) k gray) inner words′) e q
+    pub moved-leaves : {words′ : List ℕ} → LeafColoured c shown-leaves k words′ → LeafColoured c shown-leaves (getD mapping j 0) words′
+    moved-leaves {words′} q = subst (λ (k : ℕ). LeafColoured c shown-leaves k words′) e q
+
+    pub moved : {words′ : List ℕ} → IsTree (m .J) (m .estOrder) (set (m .leaves) k c) inner words′ → IsTree (m .J) (m .estOrder) (set (m .leaves) (getD mapping j 0) c) inner words′
+    moved {words′} q = subst (λ (k : ℕ). IsTree (m .J) (m .estOrder) (set (m .leaves) k c) inner words′) e q
+
+-- a task whose turn is known leaves an empty leaf
+pub left-empty : (taken : ℕ) → (taken ≡ 0 → ⊥) → leftFor taken ≡ empty
+left-empty zero not = absurd (not refl)
+left-empty (suc taken) not = refl
 
 -- the task of a level may leave Theta
 module _ {J : Tasks natural} {estOrder lctOrder : List ℕ} (G : Ordered J estOrder lctOrder) {size : TreeSize} {est durations reverseMapping mapping : List ℕ}
