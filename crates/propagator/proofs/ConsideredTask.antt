@@ -42,7 +42,7 @@ use Rattle.explanations.specs.Explanations.{PropagationExplainable}
 use Rattle.explanations.proofs.ExplanationAtoms.{Alike, propagation-same}
 use Rattle.propagator.specs.declared.disjunctive_propagator.Written.{Written}
 use Rattle.propagator.specs.declared.disjunctive_propagator.Turn.the-variants as turn
-use Rattle.propagator.specs.RunArrays.{Ordered, Holds, SizeFits}
+use Rattle.propagator.specs.RunArrays.{Ordered, Holds, SizeFits, Slices}
 use Rattle.propagator.specs.Candidates.{counted, reasonOf, Posted, Considerable, AtNow, Considered, Responsible-for}
 use Rattle.propagator.proofs.ExplanationInput as meeting
 use Rattle.integers.proofs.Lists.{map-set}
@@ -69,6 +69,18 @@ atoms-at atoms₀ made p a c d h = h ∙ rw (a, c, d) (reason-stored atoms₀ (r
 
 starts-at : {es es′ : List ℤ} (starts : List ℕ) (b : ℕ) {i j : ℕ} → es ≡ map (instant zeroAt) starts → i ≡ j → es′ ≡ set es i (instant zeroAt b) → es′ ≡ map (instant zeroAt) (set starts j b)
 starts-at starts b {i} {j} a d h = h ∙ rw (a, d) (sym (map-set (instant zeroAt) starts j b))
+
+-- leaves change, and only their count is told
+pub recounted : {posts₀ atoms₀ es posts atoms : List ℤ} {st : State} {many far changed : ℕ} (k : ℕ) {ls : List Leaf} → Slices posts₀ atoms₀ st es posts atoms many far changed
+    → Slices posts₀ atoms₀ (record { leaves = ls; starts = st .starts; posts = st .posts; changes = st .changes + k }) es posts atoms many far (changed + k)
+recounted k a = record {
+  starts = a .starts;
+  post-words = a .post-words;
+  atom-words = a .atom-words;
+  posted = a .posted;
+  explained = a .explained;
+  counted = ap (λ (c : ℕ). c + k) (a .counted);
+}
 
 module _ {size : TreeSize} {lct : ℕ} {words : List ℕ} {es posts atoms : List ℤ} {w : Written} {est lst durations reverseMapping mapping : List ℕ}
     (s : Considerable size lct words es posts atoms w est lst durations reverseMapping mapping) where
@@ -330,14 +342,7 @@ module _ {size : TreeSize} {lct : ℕ} {words : List ℕ} {es posts atoms : List
         dropped (s .st) x,
         record {
           tree = cleared words′ at-leaf q;
-          slices = record {
-            starts = s .at .slices .starts;
-            post-words = s .at .slices .post-words;
-            atom-words = s .at .slices .atom-words;
-            posted = s .at .slices .posted;
-            explained = s .at .slices .explained;
-            counted = ap (λ (c : ℕ). c + 1) (s .at .slices .counted);
-          };
+          slices = recounted 1 (s .at .slices);
         },
         λ f. inner-pass zeroAt J estOrder lctOrder f t (s .st) x passes (r .found) still,
       )

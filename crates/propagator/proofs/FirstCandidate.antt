@@ -9,23 +9,23 @@ use Prim.Native.Nat.{ℕ, suc, _+_, _≤_, _<_, min}
 use native.Mathlib.Omega.{arith}
 use native.Mathlib.Decide.{decLe, ℕ-discrete}
 use lib.ListN.{getD, set}
-use lib.Seq.{getD-set-same, getD-set-other}
+use borrow.Author.Tests.{ne-eqb}
 use Rattle.integers.specs.Orders.{index}
 use Rattle.integers.proofs.Bools.{bool, clash}
 use Rattle.scheduling.specs.Scheduling.{natural, Tasks, Proper, Atom, TaskSet, _with_, In, Outside, Subset, NonEmpty, EstPlusP, Ect, processing}
 use Rattle.scheduling.specs.Moments.{ByEarliest, ByCompletion}
-use Rattle.scheduling.proofs.Sets.{with-in, with-new, with-old}
+use Rattle.scheduling.proofs.Sets.{_less_, less-in, less-self, with-in, with-new, with-old}
 use Rattle.scheduling.proofs.Processing.{processing-with, processing-less}
 use Rattle.scheduling.proofs.LargerSets.{part-mono}
 use Rattle.scheduling.proofs.Exists.{ect-some}
 use Rattle.scheduling.proofs.Scan.{alone, upto, and-in}
 use Rattle.trees.specs.Ects.{exceeds, raisedTo}
-use Rattle.trees.specs.Leaves.{Leaf, empty, gray, inTheta, inLambda, ect, ect-bar, responsible}
+use Rattle.trees.specs.Leaves.{Leaf, gray, ect, ect-bar, responsible}
 use Rattle.trees.proofs.Ects.{exceeds-yes, some-exceeds, raised-bound}
 use Rattle.trees.proofs.RootAnswers as tree
 use Rattle.runs.specs.Traces.{Post}
 use Rattle.runs.specs.Runs.{State}
-use Rattle.runs.specs.Reached.{movedOn, Quiet, Entered, Reached, at-head, moved}
+use Rattle.runs.specs.Reached.{movedOn, Entered, Reached, at-head}
 use Rattle.runs.proofs.InnerLoop.{opt}
 use Rattle.runs.proofs.AtomRoom as room
 use Rattle.runs.proofs.LevelSteps as steps
@@ -69,8 +69,7 @@ module _ (J : Tasks natural) (ok : Proper J) where
       omega (arith, f .sum, most (min (J .earliest j) (f .start) + processing J (f .part) + J .duration j) (with-part S j out v f), processing-less J (f .part) k km, ok .lasts k (km .small))
 
 module _ (J : Tasks natural) (ok : Proper J) (estOrder : List ℕ) (rk : ByEarliest J (λ x. getD estOrder x 0) (λ k. index estOrder k)) (ls : List Leaf) (Ω₀ Λ₀ : TaskSet)
-    (before : tree.Represents J ok estOrder rk ls Ω₀ Λ₀) (j : ℕ) (white : In J Ω₀ j) (Ω Λ : TaskSet)
-    (after : tree.Represents J ok estOrder rk (set ls (index estOrder j) gray) Ω Λ) (last : ℕ) (most : raisedTo 0 (ect-bar J estOrder ls) ≤ last)
+    (before : tree.Represents J ok estOrder rk ls Ω₀ Λ₀) (j : ℕ) (white : In J Ω₀ j) (last : ℕ) (most : raisedTo 0 (ect-bar J estOrder ls) ≤ last)
     (is : last ≡ J .earliest j + J .duration j) where
   abbrev T : ℕ → ℕ
   T x = getD estOrder x 0
@@ -78,30 +77,27 @@ module _ (J : Tasks natural) (ok : Proper J) (estOrder : List ℕ) (rk : ByEarli
   abbrev rank : ℕ → ℕ
   rank k = index estOrder k
 
+  -- j is gray: the leaves, and the sets that they show
   abbrev ls₁ : List Leaf
   ls₁ = set ls (rank j) gray
 
-  -- the leaf of j is gray, and the others are as before
-  here : getD ls₁ (rank j) empty ≡ gray
-  here = getD-set-same ls (rank j) gray empty (omega (arith, before .size, rk .placed j (white .small)))
+  abbrev Ω : TaskSet
+  Ω = Ω₀ less j
 
-  there : (k : ℕ) → k < J .count → (k ≡ j → ⊥) → getD ls₁ (rank k) empty ≡ getD ls (rank k) empty
-  there k q ne = getD-set-other ls (rank j) (rank k) gray empty (λ z. ne (sym (rk .there k q) ∙ ap T z ∙ rk .there j (white .small)))
+  abbrev Λ : TaskSet
+  Λ = Λ₀ with j
+
+  after : tree.Represents J ok estOrder rk ls₁ Ω Λ
+  after = tree.recoloured J ok estOrder rk ls Ω₀ Λ₀ Ω Λ before j (white .small) gray (less-self Ω₀ j) (with-new Λ₀ j) (λ k ne. (rw (ne-eqb k j ne) refl, rw (ne-eqb k j ne) refl))
 
   gray-j : In J Λ j
-  gray-j = record { small = white .small; mem = sym (after .grays j (white .small)) ∙ ap inLambda here }
+  gray-j = record { small = white .small; mem = with-new Λ₀ j }
 
   out-j : Outside J Ω j
-  out-j = record { small = white .small; mem = sym (after .whites j (white .small)) ∙ ap inTheta here }
-
-  was-white : (k : ℕ) → k < J .count → Ω k ≡ true → Ω₀ k ≡ true
-  was-white k q y = elim (ℕ-discrete k j) [
-    | yes z ↦ rw z (white .mem)
-    | no ne ↦ sym (before .whites k q) ∙ sym (ap inTheta (there k q ne)) ∙ after .whites k q ∙ y
-  ]
+  out-j = record { small = white .small; mem = less-self Ω₀ j }
 
   was-gray : (k : ℕ) → In J Λ k → (k ≡ j → ⊥) → In J Λ₀ k
-  was-gray k m ne = record { small = m .small; mem = sym (before .grays k (m .small)) ∙ sym (ap inLambda (there k (m .small) ne)) ∙ after .grays k (m .small) ∙ m .mem }
+  was-gray k m ne = record { small = m .small; mem = elim (with-in Λ₀ j k (m .mem)) [ inl z ↦ absurd (ne z) | inr y ↦ y ] }
 
   -- no part of Theta before the move is later, also with a task of Lambda
   old : (S : TaskSet) → NonEmpty J S → ((v : ℕ) → Ect J S v → tree.AtMostOne J ok estOrder rk ls Ω₀ Λ₀ before v) → (w : ℕ) → EstPlusP J S w → w ≤ J .earliest j + J .duration j
@@ -112,7 +108,7 @@ module _ (J : Tasks natural) (ok : Proper J) (estOrder : List ℕ) (rk : ByEarli
 
   theta-early : (v : ℕ) → EstPlusP J Ω v → v ≤ J .earliest j
   theta-early = by-start J ok Ω j out-j (λ w f.
-      old Ω₀ (j, white) (λ v e. inl e) w (part-mono J (Ω with j) Ω₀ w (λ k h. elim (with-in Ω j k (h .mem)) [ inl z ↦ rw z (white .mem) | inr y ↦ was-white k (h .small) y ]) f))
+      old Ω₀ (j, white) (λ v e. inl e) w (part-mono J (Ω with j) Ω₀ w (λ k h. elim (with-in Ω j k (h .mem)) [ inl z ↦ rw z (white .mem) | inr y ↦ less-in Ω₀ j k y .0 ]) f))
 
   others-early : (i : ℕ) → In J Λ i → (i ≡ j → ⊥) → (v : ℕ) → EstPlusP J (Ω with i) v → v ≤ J .earliest j
   others-early i m ne = by-start J ok (Ω with i) j out (λ w f.
@@ -127,7 +123,7 @@ module _ (J : Tasks natural) (ok : Proper J) (estOrder : List ℕ) (rk : ByEarli
       inside : Subset J (Ω with i with j) (Ω₀ with i)
       inside k h = elim (with-in (Ω with i) j k (h .mem)) [
         | inl z ↦ rw z (with-old Ω₀ i j (white .mem))
-        | inr y ↦ elim (with-in Ω i k y) [ inl z ↦ rw z (with-new Ω₀ i) | inr u ↦ with-old Ω₀ i k (was-white k (h .small) u) ]
+        | inr y ↦ elim (with-in Ω i k y) [ inl z ↦ rw z (with-new Ω₀ i) | inr u ↦ with-old Ω₀ i k (less-in Ω₀ j k u .0) ]
       ]
 
   not-raised : exceeds (ect J estOrder ls₁) (J .earliest j) ≡ false
@@ -191,9 +187,7 @@ module _ (o : ℕ) (J : Tasks natural) (ok : Proper J) (estOrder lctOrder : List
   shape : (t : ℕ) (st : State) → Reached o J estOrder lctOrder t st → t < J .count → tree.Represents J ok estOrder rk (st .leaves) (Th t) (lam st)
   shape t st r q = steps.shape o J ok estOrder lctOrder rk ord Short ShortEnd short t st (reached-inv o J ok estOrder lctOrder rk ord Short ShortEnd short t st r q)
 
-  pub level-first : (t : ℕ) (st : State) → suc t < J .count → Entered o J estOrder lctOrder t st → Quiet o J estOrder lctOrder t st → (last : ℕ)
-      → raisedTo 0 (ect-bar J estOrder (st .leaves)) ≤ last → last ≡ J .earliest (getD lctOrder t 0) + J .duration (getD lctOrder t 0)
-      → (lct : ℕ) → lct < last → IsFirst J estOrder (movedOn o J estOrder lctOrder t st .leaves) (getD lctOrder t 0) lct
-  level-first t st small e quiet last most is =
-      is-first J ok estOrder rk (st .leaves) (Th t) (lam st) (shape t st (at-head t st e) (omega arith)) (getD lctOrder t 0) (steps.theta-some o J ok estOrder lctOrder rk ord t (omega arith))
-      (Th (suc t)) (lam (movedOn o J estOrder lctOrder t st)) (shape (suc t) (movedOn o J estOrder lctOrder t st) (moved t st e quiet) small) last most is
+  pub level-first : (t : ℕ) (st : State) → t < J .count → Entered o J estOrder lctOrder t st → (last : ℕ) → raisedTo 0 (ect-bar J estOrder (st .leaves)) ≤ last
+      → last ≡ J .earliest (getD lctOrder t 0) + J .duration (getD lctOrder t 0) → (lct : ℕ) → lct < last
+      → IsFirst J estOrder (movedOn o J estOrder lctOrder t st .leaves) (getD lctOrder t 0) lct
+  level-first t st small e = is-first J ok estOrder rk (st .leaves) (Th t) (lam st) (shape t st (at-head t st e) small) (getD lctOrder t 0) (steps.theta-some o J ok estOrder lctOrder rk ord t small)

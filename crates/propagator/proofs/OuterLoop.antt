@@ -38,7 +38,7 @@ use Rattle.explanations.specs.Explanations.{ConflictExplainable}
 use Rattle.propagator.specs.declared.disjunctive_propagator.Turn as code
 use Rattle.propagator.specs.declared.disjunctive_propagator.Turn.the-variants as turn
 use Rattle.propagator.specs.declared.disjunctive_propagator.Written.{Written}
-use Rattle.propagator.specs.RunArrays.{Ordered, SizeFits, Slices}
+use Rattle.propagator.specs.RunArrays.{Ordered, SizeFits, Slices, At}
 use Rattle.propagator.specs.Candidates.{nothingWritten, counted, Considerable, AllConsidered}
 use Rattle.propagator.proofs.ConsideredTask as considering
 use Rattle.runs.specs.declared.outcome.Outcome.the-variants as outcome
@@ -120,6 +120,29 @@ module _ {size : TreeSize} {first : ℕ} {past : Bool} {words : List ℕ} {es po
     where
       turns : J .count - 1 ≡ n - 1 - 0
       turns = omega (arith, s .arrays .count)
+
+  -- what stands at a state of a level, where words and slices are at it
+  abbrev standing : {t c : ℕ} {st : State} {words′ : List ℕ} {es′ posts′ atoms′ : List ℤ} {w′ : Written} → t < J .count → c ≡ completion J (getD lctOrder t 0)
+      → Reached zeroAt J estOrder lctOrder t st → At J estOrder posts atoms st inn words′ es′ posts′ atoms′ (w′ .posts) (w′ .atoms) (w′ .changes)
+      → Considerable size c words′ es′ posts′ atoms′ w′ est lst durations reverseMapping mapping
+  standing {t} {c} {st} small ends reached at = record {
+    J = J;
+    estOrder = estOrder;
+    lctOrder = lctOrder;
+    level = t;
+    st = st;
+    posts₀ = posts;
+    atoms₀ = atoms;
+    ordered = G;
+    arrays = s .arrays;
+    latest = s .latest;
+    small = small;
+    ends = ends;
+    post-room = s .post-room;
+    atom-room = s .atom-room;
+    reached = reached;
+    at = at;
+  }
 
   -- how the run ends from a state
   module _ (st : State) (end : End) (is : whole ≡ ended zeroAt J estOrder lctOrder st end) {es′ posts′ atoms′ : List ℤ} {w′ : Written}
@@ -209,24 +232,7 @@ module _ {size : TreeSize} {first : ℕ} {past : Bool} {words : List ℕ} {es po
         ]
 
         abbrev here : Considerable size c words′ es′ posts′ atoms′ w′ est lst durations reverseMapping mapping
-        here = record {
-          J = J;
-          estOrder = estOrder;
-          lctOrder = lctOrder;
-          level = t;
-          st = v .st;
-          posts₀ = posts;
-          atoms₀ = atoms;
-          ordered = G;
-          arrays = s .arrays;
-          latest = s .latest;
-          small = small-t;
-          ends = c-is;
-          post-room = s .post-room;
-          atom-room = s .atom-room;
-          reached = at-head t (v .st) (v .entered);
-          at = record { tree = tree-past; slices = v .slices };
-        }
+        here = standing small-t c-is (at-head t (v .st) (v .entered)) (record { tree = tree-past; slices = v .slices })
 
         abbrev pub shown : Held inn words′
         shown = considering.shown here
@@ -294,14 +300,7 @@ module _ {size : TreeSize} {first : ℕ} {past : Bool} {words : List ℕ} {es po
 
         slices-of : (ls : List Leaf) {k : ℕ} → taken ≡ k
             → Slices posts atoms (record { leaves = ls; starts = v .st .starts; posts = v .st .posts; changes = v .st .changes + (2 + k) }) es′ posts′ atoms′ (w₁ .posts) (w₁ .atoms) (w₁ .changes)
-        slices-of ls z = record {
-          starts = v .slices .starts;
-          post-words = v .slices .post-words;
-          atom-words = v .slices .atom-words;
-          posted = ap (λ (w : Written). w .posts) count ∙ v .slices .posted;
-          explained = ap (λ (w : Written). w .atoms) count ∙ v .slices .explained;
-          counted = omega (arith, z, ap (λ (w : Written). w .changes) count, v .slices .counted);
-        }
+        slices-of ls {k} z = rw (count, z) (considering.recounted (2 + k) (v .slices))
 
         unfold-level : whole ≡ rest-of (suc (n - 1 - suc t)) t (v .st)
         unfold-level = v .rest ∙ ap (λ (f : ℕ). rest-of f t (v .st)) next
@@ -359,7 +358,7 @@ module _ {size : TreeSize} {first : ℕ} {past : Bool} {words : List ℕ} {es po
           ]
             where
               alone : getD est j 0 + getD durations j 0 ≡ last → IsFirst J estOrder (st₁ .leaves) (getD lctOrder t 0) (completion J (getD lctOrder (suc t) 0))
-              alone reach = level-first zeroAt J (G .proper) estOrder lctOrder (G .by-earliest) (G .by-completion) t (v .st) (omega (arith, more, s .arrays .count)) (v .entered) still last (v .most)
+              alone reach = level-first zeroAt J (G .proper) estOrder lctOrder (G .by-earliest) (G .by-completion) t (v .st) small-t (v .entered) last (v .most)
                   (omega (arith, reach, s .arrays .starts .at j j-small, s .arrays .lasts .at j j-small, ap (J .earliest) j-is, ap (J .duration) j-is))
                   (completion J (getD lctOrder (suc t) 0)) (omega (arith, passes, ends-d))
 
@@ -369,24 +368,7 @@ module _ {size : TreeSize} {first : ℕ} {past : Bool} {words : List ℕ} {es po
                   (alone reach .not-raised))
 
           abbrev pub goes-on : Considerable size d words″ es′ posts′ atoms′ w₁ est lst durations reverseMapping mapping
-          goes-on = record {
-            J = J;
-            estOrder = estOrder;
-            lctOrder = lctOrder;
-            level = suc t;
-            st = begun .st;
-            posts₀ = posts;
-            atoms₀ = atoms;
-            ordered = G;
-            arrays = s .arrays;
-            latest = s .latest;
-            small = omega (arith, more, s .arrays .count);
-            ends = ends-d;
-            post-room = s .post-room;
-            atom-room = s .atom-room;
-            reached = begun .reached;
-            at = record { tree = begun .tree; slices = begun .slices };
-          }
+          goes-on = standing (omega (arith, more, s .arrays .count)) ends-d (begun .reached) (record { tree = begun .tree; slices = begun .slices })
 
           inner-is : {u : Turn} → inner zeroAt J estOrder lctOrder (n - taken) (suc t) (begun .st) ≡ u → inner zeroAt J estOrder lctOrder (J .count) (suc t) st₁ ≡ u
           inner-is z = ap (λ (f : ℕ). inner zeroAt J estOrder lctOrder f (suc t) st₁) (s .arrays .count) ∙ begun .rest ∙ z
