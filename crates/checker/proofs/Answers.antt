@@ -30,13 +30,9 @@ module _ (ds ps cs : List ℤ) where
   abbrev applied : Applied
   applied = prepared ps cs
 
-  -- what comes after 1, 2 and 5
-  pub check-after : (n : ℕ) → refusal (creationTests ds) ≡ n → checkOf ds ps cs ≡ checkAfter (judged ds) n ps cs
-  unfolding checkOf
-  check-after n e = ap (λ (m : ℕ). checkAfter (judged ds) m ps cs) e
-
   module _ (direction : Direction) where
-    after : (n : ℕ) → refusal (creationTests ds) ≡ n → checkAs direction ds ps cs ≡ checkAfter (judgedAs direction ds) n ps cs
+    -- what comes after 1, 2 and 5
+    pub after : (n : ℕ) → refusal (creationTests ds) ≡ n → checkAs direction ds ps cs ≡ checkAfter (judgedAs direction ds) n ps cs
     after n e = ap (λ (m : ℕ). checkAfter (judgedAs direction ds) m ps cs) e
 
     -- 1, 2 or 5

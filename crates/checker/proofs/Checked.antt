@@ -1,5 +1,5 @@
 -- The checks' definitions keep the promises.
-use mathlib.Core.Path.{_≡_, refl, sym, subst, _∙_}
+use mathlib.Core.Path.{_≡_, refl, sym, subst}
 use mathlib.Core.List.{List}
 use lib.IntN.{ℤ}
 use Rattle.checker.specs.declared.checker.Verdict.{Verdict}
@@ -9,33 +9,24 @@ use Rattle.checker.specs.declared.checker.Direction.the-variants.{Forwar
 use Rattle.checker.specs.MirroredChecks.{checkAs, checkMirroredOf}
 use Rattle.checker.specs.Checked.{Checked, CheckedMirrored}
 use Rattle.checker.proofs.VerdictNumbers.{verdicts-apart}
-use Rattle.checker.proofs.MirroredRefused.{unjudged-mirrored}
-use Rattle.checker.proofs.Soundness.{check-sound, mirrored-sound, exactly-passed, exactly-mirrored}
+use Rattle.checker.proofs.Soundness.{check-sound, mirrored-sound, exactly-passed}
 use Rattle.checker.proofs.Unjudged.{unjudged}
 
 module _ (ds ps cs : List ℤ) where
-  same : checkAs Forward ds ps cs ≡ checkOf ds ps cs
-  unfolding checkOf
-  same = refl
-
-  same-mirrored : checkAs Mirrored ds ps cs ≡ checkMirroredOf ds ps cs
-  unfolding checkMirroredOf
-  same-mirrored = refl
-
-  check-promise : Checked ds ps cs (checkOf ds ps cs)
-  check-promise = record { answer = refl; unjudged = unjudged ds ps cs; exactly = exactly-passed ds ps cs; sound = λ p. check-sound ds ps cs (verdicts-apart (checkOf ds ps cs) Passed p) }
-
-  mirrored-promise : CheckedMirrored ds ps cs (checkMirroredOf ds ps cs)
-  mirrored-promise = record {
-    answer = refl;
-    unjudged = unjudged-mirrored ds ps cs;
-    exactly = exactly-mirrored ds ps cs;
-    sound = λ p. mirrored-sound ds ps cs (verdicts-apart (checkMirroredOf ds ps cs) Passed p);
-  }
-
-  -- the open calls, from the check in either time
   pub checked : (r : Verdict) → r ≡ checkAs Forward ds ps cs → Checked ds ps cs r
-  checked r e = subst (Checked ds ps cs) (sym (e ∙ same)) check-promise
+  unfolding checkOf
+  checked r e = subst (Checked ds ps cs) (sym e) (record {
+    answer = refl;
+    unjudged = unjudged Forward ds ps cs;
+    exactly = exactly-passed Forward ds ps cs;
+    sound = λ p. check-sound ds ps cs (verdicts-apart (checkAs Forward ds ps cs) Passed p);
+  })
 
   pub checked-mirrored : (r : Verdict) → r ≡ checkAs Mirrored ds ps cs → CheckedMirrored ds ps cs r
-  checked-mirrored r e = subst (CheckedMirrored ds ps cs) (sym (e ∙ same-mirrored)) mirrored-promise
+  unfolding checkMirroredOf
+  checked-mirrored r e = subst (CheckedMirrored ds ps cs) (sym e) (record {
+    answer = refl;
+    unjudged = unjudged Mirrored ds ps cs;
+    exactly = exactly-passed Mirrored ds ps cs;
+    sound = λ p. mirrored-sound ds ps cs (verdicts-apart (checkAs Mirrored ds ps cs) Passed p);
+  })

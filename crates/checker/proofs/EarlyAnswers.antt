@@ -76,13 +76,11 @@ module _ {J : Tasks natural} {Ω : TaskSet} {n : ℕ} {chosen : List Bool} {est 
 
     pub room-before : v .some ≡ true → reach ≤ v .«ub_interval» → false ≡ comesAfter J Ω i
     room-before y r =
-        let no : ltb (highest J Ω (J .count)) whole-reach ≡ false = le-ltb (highest J Ω (J .count)) whole-reach (omega (arith, r, reach-is, ub-is)) in
-        rw (sym some-is ∙ y, no) refl
+        rw (sym some-is ∙ y, le-ltb (highest J Ω (J .count)) whole-reach (omega (arith, r, reach-is, ub-is))) refl
 
     pub after-where : v .some ≡ true → v .«ub_interval» < reach → (e : Option ℕ) → e ≡ ectOf J Ω → exceeds e (getD lst i 0) ≡ comesAfter J Ω i
     after-where y r e w =
-        let yes-so : ltb (highest J Ω (J .count)) whole-reach ≡ true = lt-ltb (highest J Ω (J .count)) whole-reach (omega (arith, r, reach-is, ub-is)) in
-        rw (sym some-is ∙ y, yes-so, l .at i q, w) refl
+        rw (sym some-is ∙ y, lt-ltb (highest J Ω (J .count)) whole-reach (omega (arith, r, reach-is, ub-is)), l .at i q, w) refl
 
 -- theta, in the array: a place that is cleared, or that the array has not, reads false
 cleared : (l : List Bool) (i : ℕ) → getD (set l i false) i false ≡ false

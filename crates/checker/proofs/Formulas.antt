@@ -36,6 +36,11 @@ pub record Reads (n : ℕ) (atoms : List Atom) (lower upper : ℕ → Option ℤ
   pub above : (k : ℕ) → k < n → (u : ℤ) → lower k ≡ some u → Above zeroAt u
   pub fits : (k : ℕ) → k < n → (u : ℤ) → lower k ≡ some u → moment zeroAt u ≤ 4294967295
 
+-- a test that cannot fail
+pub not-no : (b : Bool) → (b ≡ false → ⊥) → b ≡ true
+not-no true n = refl
+not-no false n = absurd (n refl)
+
 opt : (o : Option ℤ) → ((z : ℤ) × (o ≡ some z)) ⊎ (o ≡ none)
 opt none = inr refl
 opt (some z) = inl (z, refl)
@@ -112,16 +117,8 @@ module _ (J : Tasks whole) (lasts : (k : ℕ) → k < J .count → 1 ≤ J .dura
   -- the set and the ranges are determined
   pub determined : (Ω : TaskSet) (B : Tasks whole) → Bounded J atoms Ω B → (k : ℕ) → k < n → Ω k ≡ X k
   determined Ω B b k q = elim (bool (Ω k)) [
-    | inl y ↦ elim (bool (X k)) [
-      | inl z ↦ y ∙
-          sym z
-      | inr z ↦ absurd (none-of k q z (B .earliest k) (B .latest k) (b .least k (record { small = q; mem = y })) (b .greatest k (record { small = q; mem = y })))
-    ]
-    | inr y ↦ elim (bool (X k)) [
-      | inl z ↦ absurd (b .only k q y (R .earliest k) (R .latest k) (least-of k (record { small = q; mem = z })) (greatest-of k (record { small = q; mem = z })))
-      | inr z ↦ y
-          ∙ sym z
-    ]
+    | inl y ↦ (let h : In J Ω k = record { small = q; mem = y } in y ∙ sym (not-no (X k) (λ z. none-of k q z (B .earliest k) (B .latest k) (b .least k h) (b .greatest k h))))
+    | inr y ↦ elim (bool (X k)) [ inl z ↦ (let h : In J X k = record { small = q; mem = z } in absurd (b .only k q y _ _ (least-of k h) (greatest-of k h))) | inr z ↦ y ∙ sym z ]
   ]
 
   agrees : (Ω : TaskSet) (B : Tasks whole) → Bounded J atoms Ω B → Agree B R Ω

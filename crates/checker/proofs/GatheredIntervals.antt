@@ -50,22 +50,15 @@ module _ (J : Tasks natural) where
     abbrev some-of : ℕ → Bool
     some-of = any Ω
 
-    any-suc : (k : ℕ) → some-of (suc k) ≡ some-of k || Ω k
-    unfolding any
-    any-suc k = refl
-
-    any-none : some-of 0 ≡ false
-    unfolding any
-    any-none = refl
-
     any-found : (m : ℕ) → some-of m ≡ true → (k : ℕ) × (k < m) × (Ω k ≡ true)
-    any-found zero y = clash y any-none
-    any-found (suc m) y = elim (or-true (some-of m) (Ω m) (sym (any-suc m) ∙ y))
-        [ inl z ↦ (let (k, q, w) = any-found m z in (k, omega arith, w)) | inr z ↦ (m, omega arith, z) ]
+    unfolding any
+    any-found zero y = clash y refl
+    any-found (suc m) y = elim (or-true (some-of m) (Ω m) y) [ inl z ↦ (let (k, q, w) = any-found m z in (k, omega arith, w)) | inr z ↦ (m, omega arith, z) ]
 
     any-shown : (m k : ℕ) → k < m → Ω k ≡ true → some-of m ≡ true
+    unfolding any
     any-shown zero k q y = absurd (omega arith)
-    any-shown (suc m) k q y = any-suc m ∙ below-suc (λ k. Ω k ≡ true → some-of m || Ω m ≡ true) m (λ k r z. ap (λ (b : Bool). b || Ω m) (any-shown m k r z)) (λ z. or-right (some-of m) (Ω m) z) k q y
+    any-shown (suc m) k q y = below-suc (λ k. Ω k ≡ true → some-of m || Ω m ≡ true) m (λ k r z. ap (λ (b : Bool). b || Ω m) (any-shown m k r z)) (λ z. or-right (some-of m) (Ω m) z) k q y
 
     pub any-yes : NonEmpty J Ω → some-of n ≡ true
     any-yes (k, h) = any-shown n k (h .small) (h .mem)
@@ -81,10 +74,6 @@ module _ (J : Tasks natural) where
     unfolding lowest
     low-in k y = let e : low (suc k) ≡ min (low k) (J .earliest k) = rw (y, lowest) in elim (decLe (low k) (J .earliest k)) [ yes w ↦ inl (omega arith, w) | no w ↦ inr (omega arith, omega arith) ]
 
-    low-none : low 0 ≡ 4294967295
-    unfolding lowest
-    low-none = refl
-
     high-out : (k : ℕ) → Ω k ≡ false → high (suc k) ≡ high k
     unfolding highest
     high-out k y = rw (y, highest)
@@ -95,26 +84,24 @@ module _ (J : Tasks natural) where
         let e : high (suc k) ≡ max (high k) (completion J k) = rw (y, highest) in
         elim (decLe (completion J k) (high k)) [ yes w ↦ inl (omega arith, w) | no w ↦ inr (omega arith, omega arith) ]
 
-    high-none : high 0 ≡ 0
-    unfolding highest
-    high-none = refl
-
     -- no earliest start is above the first value of the loop
     pub lowest-is : ((k : ℕ) → k < n → J .earliest k ≤ 4294967295) → NonEmpty J Ω → Est J Ω (low n)
+    unfolding lowest
     lowest-is fits (i, im) = let r = best (λ x y. x ≤ y) (λ x. omega arith) (λ x y z p q. omega arith) (J .earliest) low low-out low-in n in
         record {
           holds = elim (r .reached) [
-            | inl z ↦ (i, im, omega (arith, z, low-none, r .under i (im .small) (im .mem), fits i (im .small)))
+            | inl z ↦ (i, im, omega (arith, z, r .under i (im .small) (im .mem), fits i (im .small)))
             | inr z ↦ (z .0, record { small = z .1; mem = z .2 }, z .3)
           ];
           bounds = λ w h. omega (arith, h .2, r .under (h .0) (h .1 .small) (h .1 .mem));
         }
 
     pub highest-is : NonEmpty J Ω → Lct J Ω (high n)
+    unfolding highest
     highest-is (i, im) = let r = best (λ x y. y ≤ x) (λ x. omega arith) (λ x y z p q. omega arith) (completion J) high high-out high-in n in
         record {
           holds = elim (r .reached) [
-            | inl z ↦ (i, im, omega (arith, z, high-none, r .under i (im .small) (im .mem)))
+            | inl z ↦ (i, im, omega (arith, z, r .under i (im .small) (im .mem)))
             | inr z ↦ (z .0, record { small = z .1; mem = z .2 }, z .3)
           ];
           bounds = λ w h. omega (arith, h .2, r .under (h .0) (h .1 .small) (h .1 .mem));

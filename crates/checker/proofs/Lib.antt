@@ -10,6 +10,5 @@ pub mod Soundness
 pub mod Verdicts
 pub mod Answers
 pub mod Unjudged
-pub mod MirroredRefused
 pub mod Checked
 pub mod Reasons

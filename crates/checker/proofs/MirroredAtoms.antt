@@ -57,7 +57,7 @@ mirrored-moment p z h w =
       fits = λ q. omega (ints, w .low, at-mirror p z, at-moment zeroAt (mirrorStart p z) there);
     }
 
-bound-some : (p : ℕ) (o : Option ℤ) (u : ℤ) → mirrorBound p o ≡ some u → (z : ℤ) × (o ≡ some z) × (mirrorStart p z ≡ u)
+pub bound-some : (p : ℕ) (o : Option ℤ) (u : ℤ) → mirrorBound p o ≡ some u → (z : ℤ) × (o ≡ some z) × (mirrorStart p z ≡ u)
 bound-some p none u e = absurd (let z : _≡_ {A = ℕ} 0 1 = cc in omega arith)
 bound-some p (some z) u e = (z, refl, cc)
 

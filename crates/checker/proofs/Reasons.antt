@@ -20,8 +20,9 @@ use Rattle.checking.proofs.Atoms.{atoms-none, atoms-words, words-none, words-ri
 use Rattle.records.specs.Records.{durationAt, creationTests}
 use Rattle.checker.specs.declared.checker.Verdict.the-variants.{Passed}
 use Rattle.checker.specs.Checks.{checkOf, consequentWords, tasksWith}
+use Rattle.checker.specs.declared.checker.Direction.the-variants.{Forward, Mirrored}
 use Rattle.checker.specs.MirroredChecks.{mirrorIfAny, checkMirroredOf}
-use Rattle.checker.proofs.Soundness.{check-passes, mirrored-passes}
+use Rattle.checker.proofs.Soundness.{MeetsFormula, met-passes}
 
 -- An atom of a reason: ≥ or ≤, on a known variable, with a value within the limits.
 pub record Bound (a : Atom) : Type 0 where
@@ -81,12 +82,12 @@ module _ (ds : List ℤ) (as′ : List Atom) (c : Option Atom) (ok : refusal (cr
   met x h = let (z, m) = w x h in (z, back (λ l o. Admits (given l o) x z) m)
 
   pub reason-check : PassesFormula (tasksWith ds) as′ c → checkOf ds (atomWords as′) (consequentWords c) ≡ Passed
-  reason-check p = check-passes ds (atomWords as′) (consequentWords c) ok short right kinds met (back (PassesFormula (tasksWith ds)) p)
+  unfolding checkOf
+  reason-check p = met-passes Forward ds (atomWords as′) (consequentWords c) ok short right kinds met (back (MeetsFormula Forward ds) p)
 
   pub mirrored-reason-check : PassesFormula (tasksWith ds) (mirrorAtoms (durationAt ds) as′) (mirrorIfAny (durationAt ds) c) → checkMirroredOf ds (atomWords as′) (consequentWords c) ≡ Passed
-  mirrored-reason-check p =
-      mirrored-passes ds (atomWords as′) (consequentWords c) ok short right kinds met
-      (back (λ l o. PassesFormula (tasksWith ds) (mirrorAtoms (durationAt ds) l) (mirrorIfAny (durationAt ds) o)) p)
+  unfolding checkMirroredOf
+  mirrored-reason-check p = met-passes Mirrored ds (atomWords as′) (consequentWords c) ok short right kinds met (back (MeetsFormula Mirrored ds) p)
 
 -- The formula reads of the tasks their number and their durations.
 module _ (J K : Tasks whole) (count : J .count ≡ K .count) (duration : (k : ℕ) → J .duration k ≡ K .duration k) where

@@ -71,18 +71,10 @@ reads ds ps cs few ok = record {
 }
 
 -- ---- answers that are not Passed
-code : Verdict → ℕ
-code Passed = 0
-code NotPassed = 1
-code (Contradiction x) = 2
-code (Refused n) = 3
-
-other : (v : Verdict) → 1 ≤ code v → v ≡ Passed → ⊥
-unfolding code
-other v h e = let z : code v ≡ 0 = ap code e in omega arith
+other : (v : Verdict) → 1 ≤ verdictNumbers v .kind → v ≡ Passed → ⊥
+other v h e = let z : verdictNumbers v .kind ≡ 0 = ap (λ (v : Verdict). verdictNumbers v .kind) e in omega arith
 
 holds-of : (b : Bool) → verdict b ≡ Passed → b ≡ true
-unfolding code
 holds-of true e = refl
 holds-of false e = absurd (other NotPassed (omega arith) e)
 
@@ -101,19 +93,13 @@ module _ (ds : List ℤ) (ok : refusal (creationTests ds) ≡ 0) where
 
   module _ (lower upper : ℕ → Option ℤ) (premises : List Atom) where
     judged-sound : (c : Option Atom) → Reads (length ds) (given premises c) lower upper → judgedBy ds lower upper c ≡ Passed → PassesFormula J premises c
-    unfolding code
     judged-sound none r v = overloaded-sound J durations-last premises lower upper r (holds-of _ v)
-    judged-sound (some a) r v = by (bool test)
-      where
-        test : Bool
-        test = ltb (a .variable) (length ds) && bounded (length ds) (durationAt ds) lower upper (a .variable)
-
-        by : (test ≡ true) ⊎ (test ≡ false) → PassesWith J premises a
-        by (inl y) =
-            let (p, q) = and-true (ltb (a .variable) (length ds)) (bounded (length ds) (durationAt ds) lower upper (a .variable)) y in
-            implied-sound J durations-last (given premises (some a)) lower upper r (a .variable) (ltb-true (a .variable) (length ds) p) premises a refl refl q
-            (holds-of _ (sym (ap (λ (b : Bool). cond b (verdict (implied (length ds) (durationAt ds) lower upper (a .variable))) (Refused 8)) y) ∙ v))
-        by (inr n) = absurd (other (Refused 8) (omega arith) (sym (ap (λ (b : Bool). cond b (verdict (implied (length ds) (durationAt ds) lower upper (a .variable))) (Refused 8)) n) ∙ v))
+    judged-sound (some a) r v = elim (bool (ltb (a .variable) (length ds) && bounded (length ds) (durationAt ds) lower upper (a .variable))) [
+      | inl y ↦
+          let (p, q) = and-true (ltb (a .variable) (length ds)) (bounded (length ds) (durationAt ds) lower upper (a .variable)) y in
+          implied-sound J durations-last (given premises (some a)) lower upper r (a .variable) (ltb-true (a .variable) (length ds) p) premises a refl refl q (holds-of _ (rw y at v))
+      | inr n ↦ absurd (other (Refused 8) (omega arith) (rw n at v))
+    ]
 
     judged-passes : (c : Option Atom) → Reads (length ds) (given premises c) lower upper → PassesFormula J premises c → judgedBy ds lower upper c ≡ Passed
     judged-passes none r p = ap verdict (overloaded-complete J durations-last premises lower upper r p)
@@ -126,21 +112,35 @@ module _ (ds : List ℤ) (ok : refusal (creationTests ds) ≡ 0) where
         (and-yes (ltb i (length ds)) (bounded (length ds) (durationAt ds) lower upper i) (lt-ltb i (length ds) small) two)
         ∙ ap verdict (implied-complete J durations-last (given premises (some a)) lower upper r i small premises a refl refl p)
 
-  module _ (ps cs : List ℤ) (consistent : prepared ps cs .answer ≡ application.Consistent) where
-    abbrev state : VariableState
-    state = prepared ps cs .state
+-- What the formula reads in either time: the atoms as they are, or mirrored.
+abbrev premisesAs : Direction → (ℕ → ℕ) → List Atom → List Atom
+premisesAs Forward d premises = premises
+premisesAs Mirrored d premises = mirrorAtoms d premises
 
-    -- the mirrored bounds are those of the mirrored atoms
-    pub reads-mirrored : Reads (length ds) (given (mirrorAtoms (durationAt ds) (atomsOf ps)) (mirrorIfAny (durationAt ds) (consequentOf cs))) (lowerAs Mirrored ds (prepared ps cs .state))
-        (upperAs Mirrored ds (prepared ps cs .state))
-    reads-mirrored = subst (λ (l : List Atom). Reads (length ds) l (lowerAs Mirrored ds state) (upperAs Mirrored ds state)) (sym (given-mirrored (durationAt ds) (atomsOf ps) (consequentOf cs)))
-        (mirrored-reads (length ds) (durationAt ds) (given (atomsOf ps) (consequentOf cs)) (lowerIn state) (upperIn state) (λ k q. (durations-last k q, durations-most k q))
-        (λ k q. upper-near ps cs k (omega (arith, few))) (reads ds ps cs few consistent))
+abbrev consequentAs : Direction → (ℕ → ℕ) → Option Atom → Option Atom
+consequentAs Forward d c = c
+consequentAs Mirrored d c = mirrorIfAny d c
+
+abbrev pub givenAs : Direction → (ℕ → ℕ) → List Atom → Option Atom → List Atom
+givenAs m d premises c = given (premisesAs m d premises) (consequentAs m d c)
+
+abbrev pub MeetsFormula : Direction → List ℤ → List Atom → Option Atom → Type 0
+MeetsFormula m ds premises c = PassesFormula (tasksWith ds) (premisesAs m (durationAt ds) premises) (consequentAs m (durationAt ds) c)
+
+-- the bounds in either time are those of its atoms
+pub reads-as : (m : Direction) (ds : List ℤ) → refusal (creationTests ds) ≡ 0 → (ps cs : List ℤ) → prepared ps cs .answer ≡ application.Consistent
+    → Reads (length ds) (givenAs m (durationAt ds) (atomsOf ps) (consequentOf cs)) (lowerAs m ds (prepared ps cs .state)) (upperAs m ds (prepared ps cs .state))
+reads-as Forward ds ok ps cs consistent = reads ds ps cs (few ds ok) consistent
+reads-as Mirrored ds ok ps cs consistent =
+    rw (given-mirrored (durationAt ds) (atomsOf ps) (consequentOf cs))
+    (mirrored-reads (length ds) (durationAt ds) (given (atomsOf ps) (consequentOf cs)) (lowerIn (prepared ps cs .state)) (upperIn (prepared ps cs .state))
+    (λ k q. (durations-last ds ok k q, durations-most ds ok k q)) (λ k q. upper-near ps cs k (omega (arith, few ds ok))) (reads ds ps cs (few ds ok) consistent))
 
 -- the consequent's kind and value play no part in what is judged of the bounds
-alike : (ds : List ℤ) (d : ℕ → ℕ) (lower upper : ℕ → Option ℤ) (c : Option Atom) → judgedBy ds lower upper (mirrorIfAny d c) ≡ judgedBy ds lower upper c
-alike ds d lower upper none = refl
-alike ds d lower upper (some a) = refl
+alike : (m : Direction) (ds : List ℤ) (d : ℕ → ℕ) (lower upper : ℕ → Option ℤ) (c : Option Atom) → judgedBy ds lower upper (consequentAs m d c) ≡ judgedBy ds lower upper c
+alike Forward ds d lower upper c = refl
+alike Mirrored ds d lower upper none = refl
+alike Mirrored ds d lower upper (some a) = refl
 
 -- A check in either time that the formula judges: the durations are accepted, and the atoms consistent.
 record Judged (direction : Direction) (ds ps cs : List ℤ) : Type 0 where
@@ -160,60 +160,40 @@ judged-check m ds ps cs e = by (refusal (creationTests ds)) refl e
     by zero p v = on p (prepared ps cs .answer) refl v
     by (suc n) p v = absurd (omega arith)
 
-passed-judged : (m : Direction) (ds ps cs : List ℤ) → checkAs m ds ps cs ≡ Passed → Judged m ds ps cs
-passed-judged m ds ps cs e = judged-check m ds ps cs (let z : verdictNumbers (checkAs m ds ps cs) .kind ≡ 0 = ap (λ (v : Verdict). verdictNumbers v .kind) e in omega (arith, z))
-
--- A passed check meets the formula,
-pub check-formula : (ds ps cs : List ℤ) → checkOf ds ps cs ≡ Passed → (refusal (creationTests ds) ≡ 0) × PassesFormula (tasksWith ds) (atomsOf ps) (consequentOf cs)
-unfolding checkOf
-check-formula ds ps cs e =
-    let j = passed-judged Forward ds ps cs e in
-    let s = prepared ps cs .state in
-    (j .ok, judged-sound ds (j .ok) (lowerIn s) (upperIn s) (atomsOf ps) (consequentOf cs) (reads ds ps cs (few ds (j .ok)) (j .consistent)) (sym (j .judgement) ∙ e))
-
--- so that no starts contradict it.
-pub check-sound : (ds ps cs : List ℤ) → checkOf ds ps cs ≡ Passed → (s : ℕ → ℤ) → Contradicts (tasksWith ds) (atomsOf ps) (consequentOf cs) s → ⊥
-check-sound ds ps cs e s =
-    let (ok, p) = check-formula ds ps cs e in
-    passed-sound (tasksWith ds) s (atomsOf ps) (consequentOf cs) (durations-last ds ok) p
-
--- A passed mirrored check meets it, mirrored,
-pub mirrored-formula : (ds ps cs : List ℤ) → checkMirroredOf ds ps cs ≡ Passed
-    → (refusal (creationTests ds) ≡ 0) × PassesFormula (tasksWith ds) (mirrorAtoms (durationAt ds) (atomsOf ps)) (mirrorIfAny (durationAt ds) (consequentOf cs))
-unfolding checkMirroredOf
-mirrored-formula ds ps cs e =
-    let j = passed-judged Mirrored ds ps cs e in
-    let s = prepared ps cs .state in
-    let d = durationAt ds in (
+-- A check that passes meets the formula,
+pub passed-formula : (m : Direction) (ds ps cs : List ℤ) → checkAs m ds ps cs ≡ Passed → (refusal (creationTests ds) ≡ 0) × MeetsFormula m ds (atomsOf ps) (consequentOf cs)
+passed-formula m ds ps cs e =
+    let j = judged-check m ds ps cs (let z : verdictNumbers (checkAs m ds ps cs) .kind ≡ 0 = ap (λ (v : Verdict). verdictNumbers v .kind) e in omega (arith, z)) in
+    let lower = lowerAs m ds (prepared ps cs .state) in
+    let upper = upperAs m ds (prepared ps cs .state) in (
       j .ok,
-      judged-sound ds (j .ok) (lowerAs Mirrored ds s) (upperAs Mirrored ds s) (mirrorAtoms d (atomsOf ps)) (mirrorIfAny d (consequentOf cs)) (reads-mirrored ds (j .ok) ps cs (j .consistent))
-          (alike ds d (lowerAs Mirrored ds s) (upperAs Mirrored ds s) (consequentOf cs) ∙ sym (j .judgement) ∙ e),
+      judged-sound ds (j .ok) lower upper _ (consequentAs m (durationAt ds) (consequentOf cs)) (reads-as m ds (j .ok) ps cs (j .consistent))
+          (alike m ds (durationAt ds) lower upper (consequentOf cs) ∙ sym (j .judgement) ∙ e),
     )
 
--- so that no starts, mirrored, contradict it.
+-- so that no starts contradict it, mirrored where it is.
+pub check-sound : (ds ps cs : List ℤ) → checkOf ds ps cs ≡ Passed → (s : ℕ → ℤ) → Contradicts (tasksWith ds) (atomsOf ps) (consequentOf cs) s → ⊥
+unfolding checkOf
+check-sound ds ps cs e s =
+    let (ok, p) = passed-formula Forward ds ps cs e in
+    passed-sound (tasksWith ds) s (atomsOf ps) (consequentOf cs) (durations-last ds ok) p
+
 pub mirrored-sound : (ds ps cs : List ℤ) → checkMirroredOf ds ps cs ≡ Passed → (s : ℕ → ℤ) → Contradicts (tasksWith ds) (atomsOf ps) (consequentOf cs) s → ⊥
+unfolding checkMirroredOf
 mirrored-sound ds ps cs e s c =
-    let (ok, p) = mirrored-formula ds ps cs e in
+    let (ok, p) = passed-formula Mirrored ds ps cs e in
     let d = durationAt ds in
     passed-sound (tasksWith ds) (λ k. mirrorStart (d k) (s k)) (mirrorAtoms d (atomsOf ps)) (mirrorIfAny d (consequentOf cs)) (durations-last ds ok) p
     (contradicts-mirrored (tasksWith ds) s (atomsOf ps) (consequentOf cs) c)
 
 -- And a check that the formula judges passes where it meets the formula,
-consistent-passes : (ds ps cs : List ℤ) → refusal (creationTests ds) ≡ 0 → prepared ps cs .answer ≡ application.Consistent → PassesFormula (tasksWith ds) (atomsOf ps) (consequentOf cs)
-    → checkOf ds ps cs ≡ Passed
-unfolding checkOf
-consistent-passes ds ps cs ok consistent p =
-    let s = prepared ps cs .state in
-    rw (ok, consistent) (judged-passes ds ok (lowerIn s) (upperIn s) (atomsOf ps) (consequentOf cs) (reads ds ps cs (few ds ok) consistent) p)
-
-mirrored-consistent-passes : (ds ps cs : List ℤ) → refusal (creationTests ds) ≡ 0 → prepared ps cs .answer ≡ application.Consistent
-    → PassesFormula (tasksWith ds) (mirrorAtoms (durationAt ds) (atomsOf ps)) (mirrorIfAny (durationAt ds) (consequentOf cs)) → checkMirroredOf ds ps cs ≡ Passed
-unfolding checkMirroredOf
-mirrored-consistent-passes ds ps cs ok consistent p =
-    let s = prepared ps cs .state in
-    let d = durationAt ds in
-    rw (ok, consistent) (sym (alike ds d (lowerAs Mirrored ds s) (upperAs Mirrored ds s) (consequentOf cs))
-    ∙ judged-passes ds ok (lowerAs Mirrored ds s) (upperAs Mirrored ds s) (mirrorAtoms d (atomsOf ps)) (mirrorIfAny d (consequentOf cs)) (reads-mirrored ds ok ps cs consistent) p)
+consistent-passes : (m : Direction) (ds ps cs : List ℤ) → refusal (creationTests ds) ≡ 0 → prepared ps cs .answer ≡ application.Consistent → MeetsFormula m ds (atomsOf ps) (consequentOf cs)
+    → checkAs m ds ps cs ≡ Passed
+consistent-passes m ds ps cs ok consistent p =
+    let lower = lowerAs m ds (prepared ps cs .state) in
+    let upper = upperAs m ds (prepared ps cs .state) in
+    rw (ok, consistent) (sym (alike m ds (durationAt ds) lower upper (consequentOf cs))
+    ∙ judged-passes ds ok lower upper _ (consequentAs m (durationAt ds) (consequentOf cs)) (reads-as m ds ok ps cs consistent) p)
 
 -- so that it passes exactly there.
 kind-0 : (v : Verdict) → verdictNumbers v .kind ≡ 0 → v ≡ Passed
@@ -222,24 +202,14 @@ kind-0 NotPassed e = absurd (omega arith)
 kind-0 (Contradiction x) e = absurd (omega arith)
 kind-0 (Refused n) e = absurd (omega arith)
 
-pub exactly-passed : (ds ps cs : List ℤ) → verdictNumbers (checkOf ds ps cs) .kind < 2 → verdictNumbers (checkOf ds ps cs) .kind ≡ 0 ↔ PassesFormula (tasksWith ds) (atomsOf ps) (consequentOf cs)
-unfolding checkOf
-exactly-passed ds ps cs h =
-    let j = judged-check Forward ds ps cs h in
-    (λ e. check-formula ds ps cs (kind-0 (checkOf ds ps cs) e) .1, λ f. ap (λ (v : Verdict). verdictNumbers v .kind) (consistent-passes ds ps cs (j .ok) (j .consistent) f))
-
-pub exactly-mirrored : (ds ps cs : List ℤ) → verdictNumbers (checkMirroredOf ds ps cs) .kind < 2
-    → verdictNumbers (checkMirroredOf ds ps cs) .kind ≡ 0 ↔ PassesFormula (tasksWith ds) (mirrorAtoms (durationAt ds) (atomsOf ps)) (mirrorIfAny (durationAt ds) (consequentOf cs))
-unfolding checkMirroredOf
-exactly-mirrored ds ps cs h =
-    let j = judged-check Mirrored ds ps cs h in
-    (λ e. mirrored-formula ds ps cs (kind-0 (checkMirroredOf ds ps cs) e) .1, λ f. ap (λ (v : Verdict). verdictNumbers v .kind) (mirrored-consistent-passes ds ps cs (j .ok) (j .consistent) f))
+pub exactly-passed : (m : Direction) (ds ps cs : List ℤ) → verdictNumbers (checkAs m ds ps cs) .kind < 2
+    → verdictNumbers (checkAs m ds ps cs) .kind ≡ 0 ↔ MeetsFormula m ds (atomsOf ps) (consequentOf cs)
+exactly-passed m ds ps cs h =
+    let j = judged-check m ds ps cs h in
+    (λ e. passed-formula m ds ps cs (kind-0 (checkAs m ds ps cs) e) .1, λ f. ap (λ (v : Verdict). verdictNumbers v .kind) (consistent-passes m ds ps cs (j .ok) (j .consistent) f))
 
 -- Accepted atoms of the kinds ≥, ≤ and = are consistent where each variable can meet them.
-module _ (ds ps cs : List ℤ) (ok : refusal (creationTests ds) ≡ 0) (short : length ps ≤ 3 * PREMISES + 2) (right : rightLists ps cs ≡ true)
-    (kinds : Every (λ a. a .kind < 3) (given (atomsOf ps) (consequentOf cs))) (met : (x : ℕ) → x < VARIABLES → (z : ℤ) × Admits (given (atomsOf ps) (consequentOf cs)) x z) where
-  pub check-passes : PassesFormula (tasksWith ds) (atomsOf ps) (consequentOf cs) → checkOf ds ps cs ≡ Passed
-  check-passes = consistent-passes ds ps cs ok (prepared-success ps cs short right kinds met)
-
-  pub mirrored-passes : PassesFormula (tasksWith ds) (mirrorAtoms (durationAt ds) (atomsOf ps)) (mirrorIfAny (durationAt ds) (consequentOf cs)) → checkMirroredOf ds ps cs ≡ Passed
-  mirrored-passes = mirrored-consistent-passes ds ps cs ok (prepared-success ps cs short right kinds met)
+pub met-passes : (m : Direction) (ds ps cs : List ℤ) → refusal (creationTests ds) ≡ 0 → length ps ≤ 3 * PREMISES + 2 → rightLists ps cs ≡ true
+    → Every (λ a. a .kind < 3) (given (atomsOf ps) (consequentOf cs)) → ((x : ℕ) → x < VARIABLES → (z : ℤ) × Admits (given (atomsOf ps) (consequentOf cs)) x z)
+    → MeetsFormula m ds (atomsOf ps) (consequentOf cs) → checkAs m ds ps cs ≡ Passed
+met-passes m ds ps cs ok short right kinds met = consistent-passes m ds ps cs ok (prepared-success ps cs short right kinds met)

@@ -33,18 +33,11 @@ module _ (J : Tasks natural) (Ω : TaskSet) where
       by false false l h t = ap (interval false l h) (omega arith)
 
 module _ {J : Tasks natural} {Ω : TaskSet} {n : ℕ} {chosen : List Bool} {est durations lst : List ℕ} (h : HeldSet J Ω n chosen est durations) (l : Late J n lst) (i : ℕ) (q : i < n) where
-  -- no number of task i, nor a sum of them, leaves 64 bits
-  pub duration-fits : getD durations i 0 < 2 ^ 64
-  duration-fits = omega (arith, h .lasts i q, h .sum, total-part (J .duration) n i q)
-
-  pub start-fits : getD est i 0 < 2 ^ 64
-  start-fits = omega (arith, h .start i q, h .early i q)
-
-  pub latest-fits : getD lst i 0 < 2 ^ 64
-  latest-fits = omega (arith, l .at i q, l .fits i q)
-
-  pub completion-fits : getD lst i 0 + getD durations i 0 < 2 ^ 64
-  completion-fits = omega (arith, l .at i q, l .fits i q, h .lasts i q, h .sum, total-part (J .duration) n i q)
+  -- no number of task i, nor a sum of them, leaves 32 bits
+  pub ends-fit : (getD est i 0 + getD durations i 0 < 4294967296) × (getD lst i 0 + getD durations i 0 < 4294967296)
+  ends-fit =
+      let most = total-part (J .duration) n i q in
+      (omega (arith, h .start i q, h .early i q, h .lasts i q, h .sum, most), omega (arith, l .at i q, l .fits i q, h .lasts i q, h .sum, most))
 
   pub sum-fits : intervalOf J Ω i .p + getD durations i 0 < 2 ^ 64
   sum-fits = omega (arith, h .lasts i q, h .sum, total-part (J .duration) n i q, total-mono (λ k. cond (Ω k) (J .duration k) 0) (J .duration) i (λ k r. cond-most (Ω k) (J .duration k)))

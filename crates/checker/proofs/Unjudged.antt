@@ -1,4 +1,4 @@
--- Where a check is refused, and where it finds a contradiction: the sole ground of each number, in the order 1, 2, 5, 7, 6, 21, 8.
+-- Where a check is refused, and where it finds a contradiction: the sole ground of each number, in the order 1, 2, 5, 7, 6, 21, 8, for both checks.
 use mathlib.Core.Path.{_≡_, refl, sym, ap, _∙_}
 use mathlib.Core.Bool.{Bool, true, false, _&&_}
 use mathlib.Core.List.{List, [], _∷_}
@@ -15,7 +15,7 @@ use Rattle.integers.specs.Limits.{PREMISES}
 use Rattle.integers.specs.Tests.{Test, test, refusal, AllPassed}
 use Rattle.integers.proofs.Bools.{bool, and-true, and-yes}
 use Rattle.integers.proofs.Tests.{broken, accepts, accepted, refusal-next, refusal-here, refusal-after, refusal-before}
-use Rattle.scheduling.specs.Scheduling.{Atom, given}
+use Rattle.scheduling.specs.Scheduling.{In, Atom, given}
 use Rattle.checking.specs.Atoms.{atomsOf, consequentOf, rightLists}
 use Rattle.checking.proofs.RightWords.{lists-are}
 use Rattle.checking.specs.declared.variable_state.VariableState.{VariableState}
@@ -32,17 +32,27 @@ use Rattle.checking.proofs.RefusedAtoms.{prepared-7, prepared-21}
 use Rattle.records.specs.Records.{durationAt, creationTests}
 use Rattle.records.proofs.Creation.{created-lawful}
 use Rattle.checker.specs.Formulas.{bounded, implied, overloaded}
-use Rattle.checker.proofs.Formulas.{Reads, least-of, greatest-of, none-of}
+use Rattle.checker.proofs.Formulas.{Reads, not-no, least-of, greatest-of, none-of}
 use Rattle.checker.specs.declared.checker.Verdict.the-variants.{Contradiction, Refused}
-use Rattle.checker.specs.Checks.{verdict, judged, concluded, checkOf, tasksWith}
+use Rattle.checker.specs.Checks.{verdict, concluded, tasksWith}
+use Rattle.checker.specs.declared.checker.Direction.{Direction}
+use Rattle.checker.specs.declared.checker.Direction.the-variants.{Forward, Mirrored}
+use Rattle.checker.specs.MirroredChecks.{lowerAs, upperAs, judgedAs, checkAs}
 use Rattle.checker.specs.Unjudged.{wordTests, TwoSided, AtomByAtom, Unjudged}
 use Rattle.checker.specs.Verdicts.{verdictNumbers}
-use Rattle.checker.proofs.Answers.{check-after}
+use Rattle.checker.proofs.Answers.{after}
+use Rattle.checker.proofs.MirroredBounds.{sides, mirrored-known}
 use Rattle.checker.proofs.Soundness.{reads, durations-last}
 
-module _ (ds ps cs : List ℤ) where
+-- a task has two bounds in mirrored time where it has two
+two-bounds : (m : Direction) (ds : List ℤ) (s : VariableState) (k : ℕ)
+    → bounded (length ds) (durationAt ds) (lowerAs m ds s) (upperAs m ds s) k ≡ bounded (length ds) (durationAt ds) (lowerIn s) (upperIn s) k
+two-bounds Forward ds s k = refl
+two-bounds Mirrored ds s k = sym (mirrored-known (durationAt ds k) (lowerIn s k) (upperIn s k)) ∙ sides (lowerIn s k) (upperIn s k) .0
+
+module _ (m : Direction) (ds ps cs : List ℤ) where
   abbrev answer : Answer
-  answer = verdictNumbers (checkOf ds ps cs)
+  answer = verdictNumbers (checkAs m ds ps cs)
 
   abbrev atoms : List Atom
   atoms = given (atomsOf ps) (consequentOf cs)
@@ -57,44 +67,38 @@ module _ (ds ps cs : List ℤ) where
 
   -- the consequent's variable has two bounds
   abbrev two : VariableState → ℕ → Bool
-  two s x = ltb x (length ds) && bounded (length ds) (durationAt ds) (lowerIn s) (upperIn s) x
+  two s x = ltb x (length ds) && bounded (length ds) (durationAt ds) (lowerAs m ds s) (upperAs m ds s) x
 
   -- a verdict by the formula is of kind 0 or 1
   by-formula {ℓ} : {X : Type ℓ} (b : Bool) (a : Answer) → 2 ≤ a .kind → verdictNumbers (verdict b) ≡ a → X
   by-formula true a h e = other-kind (answered 0 []) a e (λ z. omega (arith, z, h))
   by-formula false a h e = other-kind (answered 1 []) a e (λ z. omega (arith, z, h))
 
-  -- The formula's part has the number 8 alone.
-  record Lacking (s : VariableState) (o : Option Atom) (n : ℕ) : Type 0 where
-    eight : n ≡ 8
+  -- The formula's part has no other answer of those kinds than 8.
+  record Lacking (s : VariableState) (o : Option Atom) (a : Answer) : Type 0 where
+    eight : a .number ≡ 8
     atom : Atom
     consequent : o ≡ some atom
     unbounded : two s (atom .variable) ≡ false
 
-  judged-number : (s : VariableState) (o : Option Atom) (n : ℕ) → verdictNumbers (judged ds s o) ≡ refusedBy n → Lacking s o n
-  judged-number s none n e = by-formula (overloaded (length ds) (durationAt ds) (lowerIn s) (upperIn s)) (refusedBy n) (omega arith) e
-  judged-number s (some a) n e = elim (bool (two s (a .variable))) [
-    | inl y ↦ by-formula (implied (length ds) (durationAt ds) (lowerIn s) (upperIn s) (a .variable)) (refusedBy n) (omega arith) (rw y at e)
-    | inr y ↦ record { eight = ap (λ (r : Answer). r .number) (sym (rw y at e)); atom = a; consequent = refl; unbounded = y }
-  ]
-
-  judged-not-2 : (s : VariableState) (o : Option Atom) (x : ℕ) → verdictNumbers (judged ds s o) ≡ answered 2 (pos x ∷ []) → ⊥
-  judged-not-2 s none x e = by-formula (overloaded (length ds) (durationAt ds) (lowerIn s) (upperIn s)) (answered 2 (pos x ∷ [])) (omega arith) e
-  judged-not-2 s (some a) x e = elim (bool (two s (a .variable))) [
-    | inl y ↦ by-formula (implied (length ds) (durationAt ds) (lowerIn s) (upperIn s) (a .variable)) (answered 2 (pos x ∷ [])) (omega arith) (rw y at e)
-    | inr y ↦ other-kind (refusedBy 8) (answered 2 (pos x ∷ [])) (rw y at e) (λ z. omega arith)
+  judged-number : (s : VariableState) (o : Option Atom) (a : Answer) → 2 ≤ a .kind → verdictNumbers (judgedAs m ds s o) ≡ a → Lacking s o a
+  judged-number s none a h e = by-formula (overloaded (length ds) (durationAt ds) (lowerAs m ds s) (upperAs m ds s)) a h e
+  judged-number s (some b) a h e = elim (bool (two s (b .variable))) [
+    | inl y ↦ by-formula (implied (length ds) (durationAt ds) (lowerAs m ds s) (upperAs m ds s) (b .variable)) a h (rw y at e)
+    | inr y ↦ record { eight = ap (λ (r : Answer). r .number) (sym (rw y at e)); atom = b; consequent = refl; unbounded = y }
   ]
 
   abbrev late : Answer
-  late = verdictNumbers (concluded (judged ds) (prepared ps cs) (consequentOf cs))
+  late = verdictNumbers (concluded (judgedAs m ds) (prepared ps cs) (consequentOf cs))
 
   -- 7, 6, 21 of the atoms, or 8
-  late-number : (n : ℕ) → late ≡ refusedBy n → (applicationNumbers (prepared ps cs .answer) ≡ refusedBy n) ⊎ ((prepared ps cs .answer ≡ application.Consistent) × Lacking state (consequentOf cs) n)
+  late-number : (n : ℕ) → late ≡ refusedBy n → (applicationNumbers (prepared ps cs .answer) ≡ refusedBy n)
+      ⊎ ((prepared ps cs .answer ≡ application.Consistent) × Lacking state (consequentOf cs) (refusedBy n))
   late-number n e = by (prepared ps cs .answer) refl
     where
       by : (w : Application) → prepared ps cs .answer ≡ w → (applicationNumbers (prepared ps cs .answer) ≡ refusedBy n)
-          ⊎ ((prepared ps cs .answer ≡ application.Consistent) × Lacking state (consequentOf cs) n)
-      by application.Consistent p = inr (p, judged-number state (consequentOf cs) n (rw p at e))
+          ⊎ ((prepared ps cs .answer ≡ application.Consistent) × Lacking state (consequentOf cs) (refusedBy n))
+      by application.Consistent p = inr (p, judged-number state (consequentOf cs) (refusedBy n) (omega arith) (rw p at e))
       by (application.Contradiction x) p = other-kind (verdictNumbers (Contradiction x)) (refusedBy n) (rw p at e) (λ z. omega arith)
       by (application.Refused m) p = inl (ap applicationNumbers p ∙ (rw p at e))
 
@@ -105,7 +109,7 @@ module _ (ds ps cs : List ℤ) where
   late-contradiction x = (λ e. by (prepared ps cs .answer) refl e, λ p. rw p refl)
     where
       by : (w : Application) → prepared ps cs .answer ≡ w → late ≡ answered 2 (pos x ∷ []) → prepared ps cs .answer ≡ application.Contradiction x
-      by application.Consistent p e = absurd (judged-not-2 state (consequentOf cs) x (rw p at e))
+      by application.Consistent p e = absurd (omega (arith, judged-number state (consequentOf cs) (answered 2 (pos x ∷ [])) (omega arith) (rw p at e) .eight))
       by (application.Contradiction y) p e = applications-apart (prepared ps cs .answer) (application.Contradiction x) (ap applicationNumbers p ∙ (rw p at e))
       by (application.Refused n) p e = other-kind (refusedBy n) (answered 2 (pos x ∷ [])) (rw p at e) (λ z. omega arith)
 
@@ -115,9 +119,9 @@ module _ (ds ps cs : List ℤ) where
   on-words = test 7 (leb (length ps) (3 * PREMISES + 2)) ∷ test 6 (rightLists ps cs) ∷ []
 
   is-late : CreationAccepted → answer ≡ late
-  is-late ok = ap verdictNumbers (check-after ds ps cs 0 ok)
+  is-late ok = ap verdictNumbers (after ds ps cs m 0 ok)
 
-  pub word-number : (refusal (wordTests ds ps cs) ≡ 0 → ⊥) → verdictNumbers (checkOf ds ps cs) ≡ refusedBy (refusal (wordTests ds ps cs))
+  pub word-number : (refusal (wordTests ds ps cs) ≡ 0 → ⊥) → verdictNumbers (checkAs m ds ps cs) ≡ refusedBy (refusal (wordTests ds ps cs))
   word-number given-one = by (refusal (creationTests ds)) refl
     where
       then : CreationAccepted → refusal (wordTests ds ps cs) ≡ refusal on-words → (leb (length ps) (3 * PREMISES + 2) ≡ true) ⊎ (leb (length ps) (3 * PREMISES + 2) ≡ false) → (rightLists ps cs ≡ true)
@@ -131,7 +135,7 @@ module _ (ds ps cs : List ℤ) where
 
       by : (n : ℕ) → refusal (creationTests ds) ≡ n → answer ≡ refusedBy (refusal (wordTests ds ps cs))
       by zero z = then z (refusal-after (creationTests ds) on-words (accepted (creationTests ds) refl z)) (bool (leb (length ps) (3 * PREMISES + 2))) (bool (rightLists ps cs))
-      by (suc m) z = ap verdictNumbers (check-after ds ps cs (suc m) z) ∙ ap refusedBy (sym (refusal-before (creationTests ds) on-words (λ w. let v : suc m ≡ 0 = sym z ∙ w in omega arith) ∙ z))
+      by (suc k) z = ap verdictNumbers (after ds ps cs m (suc k) z) ∙ ap refusedBy (sym (refusal-before (creationTests ds) on-words (λ w. let v : suc k ≡ 0 = sym z ∙ w in omega arith) ∙ z))
 
   -- The atoms --------------------------------------------------------------------------------------------------------------------
 
@@ -181,23 +185,20 @@ module _ (ds ps cs : List ℤ) where
         read = reads ds ps cs (created-lawful ds ok .few) consistent
 
         two-sided : (x : ℕ) → two state x ≡ true ↔ TwoSided (length ds) atoms x
-        two-sided x = (
-          λ y.
-              let (t, b) = and-true (ltb x (length ds)) (bounded (length ds) (durationAt ds) (lowerIn state) (upperIn state) x) y in
-              let q = ltb-true x (length ds) t in
-              record {
-                task = q;
-                low = _;
-                least = least-of (tasksWith ds) (durations-last ds ok) atoms (lowerIn state) (upperIn state) read x (record { small = q; mem = b });
-                high = _;
-                greatest = greatest-of (tasksWith ds) (durations-last ds ok) atoms (lowerIn state) (upperIn state) read x (record { small = q; mem = b });
-              },
-          λ f. and-yes (ltb x (length ds)) (bounded (length ds) (durationAt ds) (lowerIn state) (upperIn state) x) (lt-ltb x (length ds) (f .task))
-              (elim (bool (bounded (length ds) (durationAt ds) (lowerIn state) (upperIn state) x)) [
-                | inl y ↦ y
-                | inr y ↦ absurd (none-of (tasksWith ds) (durations-last ds ok) atoms (lowerIn state) (upperIn state) read x (f .task) y (f .low) (f .high) (f .least) (f .greatest))
-              ]),
-        )
+        two-sided x =
+            let J = tasksWith ds in
+            let last = durations-last ds ok in
+            let l = lowerIn state in
+            let u = upperIn state in
+            let same = two-bounds m ds state x in (
+              λ y.
+                  let (t, b) = and-true (ltb x (length ds)) (bounded (length ds) (durationAt ds) (lowerAs m ds state) (upperAs m ds state) x) y in
+                  let q = ltb-true x (length ds) t in
+                  let h : In J (bounded (length ds) (durationAt ds) l u) x = record { small = q; mem = sym same ∙ b } in
+                  record { task = q; low = _; least = least-of J last atoms l u read x h; high = _; greatest = greatest-of J last atoms l u read x h },
+              λ f. and-yes (ltb x (length ds)) (bounded (length ds) (durationAt ds) (lowerAs m ds state) (upperAs m ds state) x) (lt-ltb x (length ds) (f .task))
+                  (same ∙ not-no _ (λ y. none-of J last atoms l u read x (f .task) y (f .low) (f .high) (f .least) (f .greatest))),
+            )
 
         eight : answer ≡ refusedBy 8 ↔ ((a : Atom) × ((consequentOf cs ≡ some a) × (TwoSided (length ds) atoms (a .variable) → ⊥)))
         eight = (
@@ -207,8 +208,7 @@ module _ (ds ps cs : List ℤ) where
           ],
           λ f.
               let (a, (e, n)) = f in
-              let y : two state (a .variable) ≡ false = broken (two-sided (a .variable)) .1 n in
-              is-late ok ∙ (rw (consistent, e, y) refl),
+              is-late ok ∙ (rw (consistent, e, broken (two-sided (a .variable)) .1 n) refl),
         )
 
     by-atoms : AtomByAtom (length ds) atoms (consequentOf cs) answer
@@ -216,8 +216,8 @@ module _ (ds ps cs : List ℤ) where
       room = room;
       contradiction = contradiction;
       bounds = eight;
-      only = λ m e. elim (late-number m (sym (is-late ok) ∙ e)) [ inl p ↦ inl (crowded m p .0) | inr p ↦ inr (p .1 .eight) ];
+      only = λ n e. elim (late-number n (sym (is-late ok) ∙ e)) [ inl p ↦ inl (crowded n p .0) | inr p ↦ inr (p .1 .eight) ];
     }
 
-  pub unjudged : Unjudged ds ps cs (verdictNumbers (checkOf ds ps cs))
+  pub unjudged : Unjudged ds ps cs (verdictNumbers (checkAs m ds ps cs))
   unjudged = record { words = word-number; atoms = by-atoms }

@@ -2,23 +2,20 @@
 use mathlib.Core.Path.{_≡_, refl, sym, ap, _∙_}
 use mathlib.Core.Bool.{Bool, true, false, cond, _&&_}
 use mathlib.Core.List.{List}
-use mathlib.Core.Option.{Option, some, none}
-use Prim.Native.Nat.{ℕ, _+_, _≤_, _<_}
+use mathlib.Core.Option.{Option}
+use Prim.Native.Nat.{ℕ, _≤_, _<_}
 use native.Mathlib.Omega.{arith}
 use lib.Dec.{ltb}
-use lib.IntN.{ℤ, pos, negsuc, natAbs}
+use lib.IntN.{ℤ, pos, natAbs}
 use lib.Signed.{_≤ℤ_}
 use lib.ListN.{length, getD, replicate, length-replicate}
 use borrow.Author.Tests.{lt-ltb, le-ltb}
-use Rattle.integers.specs.Limits.{TASKS, DURATIONS, VALUE, HOLES}
-use Rattle.integers.specs.Moments.{moment, zeroAt}
+use Rattle.integers.specs.Limits.{TASKS}
 use Rattle.integers.specs.FilledLists.{filled, noTasks}
 use Rattle.integers.specs.Tests.{refusal}
 use Rattle.integers.proofs.FilledLists.{filled-at, filled-length}
-use Rattle.scheduling.specs.Scheduling.{whole, natural, Tasks, TaskSet, total, given}
-use Rattle.scheduling.specs.MirroredTime.{mirrorAtoms}
+use Rattle.scheduling.specs.Scheduling.{natural, Tasks, TaskSet}
 use Rattle.trees.specs.NodeBounds.{LATEST}
-use Rattle.integers.specs.WholeNumbers.{Within}
 use Rattle.checking.specs.Atoms.{atomsOf, consequentOf}
 use Rattle.checking.proofs.Atoms.{words-three, words-at, consequent-none, consequent-one, right-atom}
 use Rattle.checking.specs.declared.variable_state.VariableState.{VariableState}
@@ -28,18 +25,19 @@ use Rattle.checking.specs.States.{prepared}
 use Rattle.checking.proofs.Bounds.{lower-near, upper-near}
 use Rattle.records.specs.Records.{durationAt, creationTests, newRecord}
 use Rattle.records.proofs.Creation.{created-lawful, same-sum}
-use Rattle.checker.specs.Formulas.{known, valueOf, bounded, tasks, _but_, overloadsSpan, comesAfter, overloaded, implied}
+use Rattle.checker.specs.Formulas.{known, bounded, tasks, _but_, overloadsSpan, comesAfter, overloaded, implied}
 use Rattle.checker.specs.BoundArrays.{mirroredMoment, mirroredBounds}
 use Rattle.checker.proofs.Formulas.{moments-proper}
-use Rattle.checker.proofs.MirroredBounds.{mirrored-known, est-mirrored, lst-mirrored, moment-alike, mirrored-most}
+use Rattle.checker.proofs.MirroredBounds.{Near, sides, side-most, mirrored-known, mirrored-sides, moment-alike, mirrored-most}
 use Rattle.checker.specs.declared.checker.Verdict.{Verdict}
 use Rattle.checker.specs.declared.checker.Verdict.the-variants.{Refused}
 use Rattle.checker.specs.Checks.{verdict, judgedBy, tasksWith}
+use Rattle.checker.specs.declared.checker.Direction.{Direction}
 use Rattle.checker.specs.declared.checker.Direction.the-variants.{Forward, Mirrored}
-use Rattle.checker.specs.MirroredChecks.{mirrorIfAny, lowerAs, upperAs}
-use Rattle.checking.specs.TaskBounds.{boundsBetween, boundsAt, Bounds, boundsOf}
+use Rattle.checker.specs.MirroredChecks.{lowerAs, upperAs}
+use Rattle.checking.specs.TaskBounds.{boundsAt, Bounds, boundsOf}
 use Rattle.checker.specs.CheckArrays.{Judgeable, Consequent}
-use Rattle.checker.proofs.Soundness.{reads, reads-mirrored, near-latest, durations-last, durations-most}
+use Rattle.checker.proofs.Soundness.{givenAs, reads-as, near-latest, durations-last, durations-most}
 
 -- The words of a consequent ------------------------------------------------------------------------------------------------------
 module _ {words : List ℤ} (w : Consequent words) (some-words : length words ≡ 0 → ⊥) where
@@ -82,53 +80,21 @@ module _ {ds : List ℤ} {lower upper : ℕ → Option ℤ} {n : ℕ} {b : Bound
 
       pub no-task : n ≤ i → Refused 8 ≡ judgedBy ds lower upper (consequentOf words)
       no-task q =
-          let no : ltb i (length ds) ≡ false = le-ltb i (length ds) (omega (arith, j .count)) in
-          sym (ap (λ (b : Bool). cond (b && X i) (verdict (implied (length ds) (durationAt ds) lower upper i)) (Refused 8)) no) ∙ judged-is
+          rw (le-ltb i (length ds) (omega (arith, j .count))) at judged-is
+
+      judged-on : i < n → {t : Bool} → getD (b .bounded) i false ≡ t
+          → cond t (verdict (implied (length ds) (durationAt ds) lower upper i)) (Refused 8) ≡ judgedBy ds lower upper (consequentOf words)
+      judged-on q {t} y =
+          rw (lt-ltb i (length ds) (omega (arith, j .count)), sym (member i q) ∙ y) at judged-is
 
       pub no-bound : i < n → getD (b .bounded) i false ≡ false → Refused 8 ≡ judgedBy ds lower upper (consequentOf words)
-      no-bound q y =
-          let small : ltb i (length ds) ≡ true = lt-ltb i (length ds) (omega (arith, j .count)) in
-          let out : X i ≡ false = sym (member i q) ∙ y in
-          sym (ap (λ (b : Bool). cond (b && X i) (verdict (implied (length ds) (durationAt ds) lower upper i)) (Refused 8)) small
-          ∙ ap (λ (b : Bool). cond b (verdict (implied (length ds) (durationAt ds) lower upper i)) (Refused 8)) out) ∙ judged-is
+      no-bound q y = judged-on q y
 
       pub bound-on : i < n → getD (b .bounded) i false ≡ true → (o : Bool) → o ≡ comesAfter J (X but i) i → verdict o ≡ judgedBy ds lower upper (consequentOf words)
       unfolding implied
-      bound-on q y o e =
-          let small : ltb i (length ds) ≡ true = lt-ltb i (length ds) (omega (arith, j .count)) in
-          let inside : X i ≡ true = sym (member i q) ∙ y in
-          ap verdict e
-          ∙ sym (ap (λ (b : Bool). cond (b && X i) (verdict (implied (length ds) (durationAt ds) lower upper i)) (Refused 8)) small
-          ∙ ap (λ (b : Bool). cond b (verdict (implied (length ds) (durationAt ds) lower upper i)) (Refused 8)) inside) ∙ judged-is
+      bound-on q y o e = ap verdict e ∙ judged-on q y
 
 -- A prepared state can be judged -------------------------------------------------------------------------------------------------
-known-is : (l u : Option ℤ) → boundsBetween l u .known ≡ known l && known u
-known-is (some x) (some y) = refl
-known-is (some x) none = refl
-known-is none u = refl
-
-abbrev side : Option ℤ → Option ℤ → Option ℤ → ℕ
-side l u o = moment zeroAt (cond (known l && known u) (valueOf o) (negsuc 2147483647))
-
-est-is : (l u : Option ℤ) → boundsBetween l u .est ≡ side l u l
-est-is (some x) (some y) = refl
-est-is (some x) none = refl
-est-is none u = refl
-
-lst-is : (l u : Option ℤ) → boundsBetween l u .lst ≡ side l u u
-lst-is (some x) (some y) = refl
-lst-is (some x) none = refl
-lst-is none u = refl
-
--- a bound that is a number is at most LATEST as a moment, and the other moments are 0
-side-most : (l u e : Option ℤ) → ((z : ℤ) → e ≡ some z → moment zeroAt z ≤ LATEST) → side l u e ≤ LATEST
-side-most l u e h = by (known l && known u) e h
-  where
-    by : (b : Bool) (e : Option ℤ) → ((z : ℤ) → e ≡ some z → moment zeroAt z ≤ LATEST) → moment zeroAt (cond b (valueOf e) (negsuc 2147483647)) ≤ LATEST
-    by true (some z) h = h z refl
-    by true none h = omega arith
-    by false e h = omega arith
-
 module _ (ds ps cs : List ℤ) (ok : refusal (creationTests ds) ≡ 0) (consistent : prepared ps cs .answer ≡ application.Consistent) where
   abbrev s : VariableState
   s = prepared ps cs .state
@@ -156,76 +122,59 @@ module _ (ds ps cs : List ℤ) (ok : refusal (creationTests ds) ≡ 0) (consiste
   abbrev B : Bounds
   B = boundsOf s n
 
-  near-l : (k : ℕ) → k < n → (z : ℤ) → l k ≡ some z → Within (VALUE + 1 + HOLES) z
+  near-l : (k : ℕ) → k < n → Near (l k)
   near-l k q = lower-near ps cs k (omega (arith, few))
 
-  near-u : (k : ℕ) → k < n → (z : ℤ) → u k ≡ some z → Within (VALUE + 1 + HOLES) z
+  near-u : (k : ℕ) → k < n → Near (u k)
   near-u k q = upper-near ps cs k (omega (arith, few))
 
-  lasts : (k : ℕ) → k < n → getD (newRecord ds .durations) k 0 ≡ durationAt ds k
+  abbrev lengths : List ℕ
+  lengths = newRecord ds .durations
+
+  lasts : (k : ℕ) → k < n → getD lengths k 0 ≡ durationAt ds k
   lasts k q = at (durationAt ds) 0 k q
 
-  abbrev J₀ : Tasks whole
-  J₀ = tasksWith ds
+  abbrev there : Direction → Tasks natural
+  there m = tasksOf ds (lowerAs m ds s) (upperAs m ds s)
 
-  sum-fits : total (durationAt ds) n ≤ DURATIONS
-  sum-fits = omega (arith, created-lawful ds ok .sum, same-sum ds few)
-
-  pub judgeable : Judgeable ds (lowerAs Forward ds s) (upperAs Forward ds s) n B (newRecord ds .durations)
-  judgeable = record {
+  -- bounds in either time can be judged where they are the tasks' own, and none is late
+  in-time : (m : Direction) (b : Bounds) → ((k : ℕ) → k < n → getD (b .bounded) k false ≡ twoSided ds (lowerAs m ds s) (upperAs m ds s) k)
+      → ((k : ℕ) → k < n → (getD (b .est) k 0 ≡ there m .earliest k) × (there m .earliest k ≤ LATEST)) → ((k : ℕ) → k < n → (getD (b .lst) k 0 ≡ there m .latest k) × (there m .latest k ≤ LATEST))
+      → Judgeable ds (lowerAs m ds s) (upperAs m ds s) n b lengths
+  in-time m b member est lst = record {
     count = refl;
     bounding = record {
       held = record {
-        proper = moments-proper J₀ (durations-last ds ok) (given (atomsOf ps) (consequentOf cs)) (lowerIn s) (upperIn s) (reads ds ps cs few consistent);
+        proper = moments-proper (tasksWith ds) (durations-last ds ok) (givenAs m (durationAt ds) (atomsOf ps) (consequentOf cs)) (lowerAs m ds s) (upperAs m ds s) (reads-as m ds ok ps cs consistent);
         count = refl;
         few = few;
-        member = λ k q. at (λ k. boundsAt s k .known) false k q ∙ known-is (l k) (u k);
-        start = λ k q. at (λ k. boundsAt s k .est) 0 k q ∙ est-is (l k) (u k);
+        member = member;
+        start = λ k q. est k q .0;
         lasts = lasts;
-        early = λ k q. side-most (l k) (u k) (l k) (λ z e. near-latest z (near-l k q z e));
-        sum = sum-fits;
+        early = λ k q. est k q .1;
+        sum = omega (arith, created-lawful ds ok .sum, same-sum ds few);
       };
-      late = record {
-        at = λ k q. at (λ k. boundsAt s k .lst) 0 k q ∙ lst-is (l k) (u k);
-        fits = λ k q. side-most (l k) (u k) (u k) (λ z e. near-latest z (near-u k q z e));
-      };
+      late = record { at = λ k q. lst k q .0; fits = λ k q. lst k q .1 };
     };
   }
 
-  -- in mirrored time
-  abbrev there : Tasks natural
-  there = tasksOf ds (lowerAs Mirrored ds s) (upperAs Mirrored ds s)
+  pub judgeable : Judgeable ds (lowerAs Forward ds s) (upperAs Forward ds s) n B lengths
+  judgeable = in-time Forward B (λ k q. at (λ k. boundsAt s k .known) false k q ∙ sides (l k) (u k) .0)
+      (λ k q. (at (λ k. boundsAt s k .est) 0 k q ∙ sides (l k) (u k) .1, side-most (l k) (u k) (l k) (λ z e. near-latest z (near-l k q z e))))
+      (λ k q. (at (λ k. boundsAt s k .lst) 0 k q ∙ sides (l k) (u k) .2, side-most (l k) (u k) (u k) (λ z e. near-latest z (near-u k q z e))))
 
-  member-mirrored : (k : ℕ) → k < n → getD (B .bounded) k false ≡ twoSided ds (lowerAs Mirrored ds s) (upperAs Mirrored ds s) k
-  member-mirrored k q = at (λ k. boundsAt s k .known) false k q ∙ mirrored-known (durationAt ds k) (l k) (u k)
-
-  start-mirrored : (k : ℕ) → k < n → mirroredMoment (getD (B .bounded) k false) (getD (B .lst) k 0) (getD (newRecord ds .durations) k 0) ≡ there .earliest k
-  start-mirrored k q = moment-alike (at (λ k. boundsAt s k .known) false k q) (at (λ k. boundsAt s k .lst) 0 k q) (lasts k q)
-      ∙ est-mirrored (durationAt ds k) (durations-most ds ok k q) (l k) (u k) (near-u k q)
-
-  late-mirrored : (k : ℕ) → k < n → mirroredMoment (getD (B .bounded) k false) (getD (B .est) k 0) (getD (newRecord ds .durations) k 0) ≡ there .latest k
-  late-mirrored k q = moment-alike (at (λ k. boundsAt s k .known) false k q) (at (λ k. boundsAt s k .est) 0 k q) (lasts k q)
-      ∙ lst-mirrored (durationAt ds k) (durations-most ds ok k q) (l k) (u k) (near-l k q)
-
-  pub mirrored-judgeable : Judgeable ds (lowerAs Mirrored ds s) (upperAs Mirrored ds s) n (mirroredBounds B (newRecord ds .durations) n) (newRecord ds .durations)
-  mirrored-judgeable = record {
-    count = refl;
-    bounding = record {
-      held = record {
-        proper = moments-proper J₀ (durations-last ds ok) (given (mirrorAtoms (durationAt ds) (atomsOf ps)) (mirrorIfAny (durationAt ds) (consequentOf cs))) (lowerAs Mirrored ds s)
-            (upperAs Mirrored ds s)
-            (reads-mirrored ds ok ps cs consistent);
-        count = refl;
-        few = few;
-        member = member-mirrored;
-        start = λ k q. at-again (λ k. mirroredMoment (getD (B .bounded) k false) (getD (B .lst) k 0) (getD (newRecord ds .durations) k 0)) (λ k. boundsAt s k .est) k q ∙ start-mirrored k q;
-        lasts = lasts;
-        early = λ k q. mirrored-most (durationAt ds k) (durations-last ds ok k q) (durations-most ds ok k q) (l k) (u k) (u k) (near-u k q);
-        sum = sum-fits;
-      };
-      late = record {
-        at = λ k q. at-again (λ k. mirroredMoment (getD (B .bounded) k false) (getD (B .est) k 0) (getD (newRecord ds .durations) k 0)) (λ k. boundsAt s k .lst) k q ∙ late-mirrored k q;
-        fits = λ k q. mirrored-most (durationAt ds k) (durations-last ds ok k q) (durations-most ds ok k q) (l k) (u k) (l k) (near-l k q);
-      };
-    };
-  }
+  -- in mirrored time each moment is that of the other bound
+  pub mirrored-judgeable : Judgeable ds (lowerAs Mirrored ds s) (upperAs Mirrored ds s) n (mirroredBounds B lengths n) lengths
+  mirrored-judgeable = in-time Mirrored (mirroredBounds B lengths n) (λ k q. at (λ k. boundsAt s k .known) false k q ∙ mirrored-known (durationAt ds k) (l k) (u k))
+      (λ k q. (
+        at-again (λ k. mirroredMoment (getD (B .bounded) k false) (getD (B .lst) k 0) (getD lengths k 0)) (λ k. boundsAt s k .est) k q
+            ∙ moment-alike (at (λ k. boundsAt s k .known) false k q) (at (λ k. boundsAt s k .lst) 0 k q) (lasts k q)
+            ∙ mirrored-sides (durationAt ds k) (durations-most ds ok k q) (l k) (u k) (near-l k q) (near-u k q) .0,
+        mirrored-most (durationAt ds k) (durations-last ds ok k q) (durations-most ds ok k q) (l k) (u k) (u k) (near-u k q),
+      ))
+      (λ k q. (
+        at-again (λ k. mirroredMoment (getD (B .bounded) k false) (getD (B .est) k 0) (getD lengths k 0)) (λ k. boundsAt s k .lst) k q
+            ∙ moment-alike (at (λ k. boundsAt s k .known) false k q) (at (λ k. boundsAt s k .est) 0 k q) (lasts k q)
+            ∙ mirrored-sides (durationAt ds k) (durations-most ds ok k q) (l k) (u k) (near-l k q) (near-u k q) .1,
+        mirrored-most (durationAt ds k) (durations-last ds ok k q) (durations-most ds ok k q) (l k) (u k) (l k) (near-l k q),
+      ))

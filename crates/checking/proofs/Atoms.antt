@@ -1,6 +1,7 @@
 -- Atoms as words.
+use Rattle.scheduling.proofs.Every.{every-append, every-map}
+use native.Mathlib.Decide.{decLt}
 use mathlib.Core.Path.{_≡_, refl, sym, ap, _∙_}
-use mathlib.Core.Logic.{_⊎_, inl, inr, ⊎-elim}
 use mathlib.Core.Bool.{true, false, _&&_}
 use mathlib.Core.List.{List, [], _∷_, _++_}
 use mathlib.Core.Option.{some, none}
@@ -21,7 +22,7 @@ use Rattle.scheduling.proofs.Words.{atoms-none as no-words, atoms-more as three
 use Rattle.integers.specs.WholeNumbers.{Within}
 use Rattle.holes.proofs.BoundSteps.{step-within, one-up, one-down}
 use Rattle.integers.proofs.WholeNumbers.{wider, lt-ltZ}
-use Rattle.checking.specs.Atoms.{atomFrom, atomsOf, consequentOf, atomAt, rightVariable, rightAtom, rightWords, rightLists, RightAtom}
+use Rattle.checking.specs.Atoms.{atomFrom, atomsOf, consequentOf, atomAt, rightVariable, rightAtom, rightWords, rightLists, RightAtom, first}
 
 -- ---- what a right atom is
 pub right-variable : (x : ℤ) → rightVariable x ≡ true → (pos 0 ≤ℤ x) × (natAbs x < VARIABLES)
@@ -109,16 +110,13 @@ atoms-none = refl
 
 -- right words are at least three, or none
 pub words-three : (l : List ℤ) → rightWords l ≡ true → 0 < length l → 3 ≤ length l
-words-three l y h = ⊎-elim (λ s. omega arith) (λ s. clash y (words-short l h s)) (split (length l))
-  where
-    split : (n : ℕ) → (3 ≤ n) ⊎ (n < 3)
-    split zero = inr (omega arith)
-    split (suc zero) = inr (omega arith)
-    split (suc (suc zero)) = inr (omega arith)
-    split (suc (suc (suc n))) = inl (omega arith)
+words-three l y h = elim (decLt (length l) 3) [ yes s ↦ clash y (words-short l h s) | no s ↦ omega arith ]
 
 -- every atom of right words has a known variable, and a value within the limits
-pub words-known : (l : List ℤ) → rightWords l ≡ true → Every (λ a. (a .variable < VARIABLES) × Within VALUE (a .value)) (atomsOf l)
+abbrev pub Held : Atom → Type 0
+Held a = (a .variable < VARIABLES) × Within VALUE (a .value)
+
+pub words-known : (l : List ℤ) → rightWords l ≡ true → Every Held (atomsOf l)
 unfolding rightWords atomsOf
 words-known [] y = tt
 words-known (x ∷ []) y = tt
@@ -166,6 +164,14 @@ given-none atoms c e = ap (given atoms) (consequent-none c e)
 
 pub given-one : (atoms : List Atom) (c : List ℤ) → length c ≡ 3 → given atoms (consequentOf c) ≡ atoms ++ (negation (atomAt c 0) ∷ [])
 given-one atoms c e = ap (given atoms) (consequent-one c e)
+
+-- what holds of each atom of right words, and of its negation, holds of all that are given
+pub given-each : (P : Atom → Type 0) → ((a : Atom) → Held a → P a) → ((a : Atom) → Held a → P (negation a)) → (p c : List ℤ) → rightLists p c ≡ true → Every P (given (atomsOf p) (consequentOf c))
+given-each P f g p c y = let (q, _, r) = right-lists p c y in by (atomsOf c) (words-known c r) (every-map f (atomsOf p) (words-known p q))
+  where
+    by : (l : List Atom) → Every Held l → Every P (atomsOf p) → Every P (given (atomsOf p) (first l))
+    by [] k e = e
+    by (a ∷ rest) k e = every-append P (atomsOf p) (negation a ∷ []) e (g a (k .0), tt)
 
 -- ---- words of atoms within the limits
 pub record WellFormed (a : Atom) : Type 0 where

@@ -1,38 +1,33 @@
 -- The bounds of a prepared state lie near the limits of an atom's value: HOLES holes and a negation further out at most.
-use mathlib.Core.Path.{_≡_, refl, sym, subst}
-use mathlib.Core.Logic.{_⊎_, inl, inr}
+use mathlib.Core.Path.{_≡_, sym, subst}
 use mathlib.Core.Bool.{Bool, true, false, cond}
 use mathlib.Core.List.{List, [], _∷_}
 use Prim.Native.Nat.{ℕ, zero, suc, _+_, _≤_, _<_}
 use native.Mathlib.Omega.{arith}
-use borrow.Author.Tests.{eqb-true, eqb-false}
-use lib.Dec.{eqb}
 use lib.IntN.{ℤ, pos, negsuc, _+ℤ_}
-use lib.ListN.{length, getD, getD-replicate}
+use lib.ListN.{length, getD-replicate}
 use Rattle.integers.specs.Limits.{VARIABLES, VALUE, HOLES}
-use Rattle.integers.proofs.Bools.{bool}
 use Rattle.integers.proofs.Ints.{ints, up, dn, sumℤ}
-use Rattle.scheduling.specs.Scheduling.{Atom, Every, given, negation, negatedKind, negatedValue}
-use Rattle.scheduling.proofs.Every.{every-append, every-map}
+use Rattle.scheduling.specs.Scheduling.{Atom, Every, given, negatedKind, negatedValue}
 use Rattle.holes.specs.Holes.{inserted, firstFrom, lastUpTo, First, Last}
 use Rattle.integers.specs.WholeNumbers.{Within}
 use Rattle.holes.proofs.Ascending.{first-is, last-is}
 use Rattle.holes.proofs.BoundSteps.{step-within, one-up, one-down}
 use Rattle.integers.proofs.WholeNumbers.{wider}
-use Rattle.checking.specs.Atoms.{atomAt, atomsOf, consequentOf, rightWords, rightLists}
-use Rattle.checking.proofs.Atoms.{right-atom, right-lists, words-known, words-three, words-at, given-none, given-one}
+use Rattle.checking.specs.Atoms.{atomsOf, consequentOf, rightLists}
+use Rattle.checking.proofs.Atoms.{given-each}
 use Rattle.checking.specs.declared.int_ext.IntExt.the-variants.{Int, NegativeInf, PositiveInf}
 use Rattle.checking.specs.declared.domain.Domain.{Domain}
 use Rattle.checking.specs.Domains.{allIntegers, holesOf, domainOf, Tight, tightenedLower, tightenedUpper, withoutLower, withoutUpper, between, withHole, without, applied}
 use Rattle.checking.proofs.Domains.{used}
-use Rattle.checking.proofs.NarrowedDomains.{lower-case, lower-tight, upper-case, low, low-cut, high, high-cut}
+use Rattle.checking.proofs.NarrowedDomains.{lower-case, lower-leaves, upper-case, low, low-cut, high, high-cut}
 use Rattle.checking.specs.declared.variable_state.VariableState.{VariableState}
 use Rattle.checking.specs.declared.variable_state.Applied.{Applied}
-use Rattle.checking.specs.States.{AcceptedState, noDomain, domainAt, put, emptyState, stepped, applyAll, prepared}
+use Rattle.checking.specs.States.{AcceptedState, noDomain, domainAt, emptyState, stepped, applyAll, prepared}
 use Rattle.checking.proofs.Meaning.{Known}
 use Rattle.checking.proofs.PreparedStates.{ran}
 use Rattle.checking.proofs.Promises.{given-known}
-use Rattle.checking.proofs.States.{put-same, put-other, stepped-case, stepped-accepted, all-case, all-end, empty-accepted}
+use Rattle.checking.proofs.States.{stepped-case, stepped-accepted, all-case, all-end, empty-accepted, put-each}
 
 -- finite bounds: no further out than an atom's value, negated, past a chain of holes
 pub record Near (d : Domain) : Type 0 where
@@ -95,14 +90,13 @@ near-without : (d : Domain) → Tight d → Near d → (v : ℤ) → Within VALU
 unfolding without
 near-without d t n v w =
     let t₁ = low-cut d v t .tight in
-    let n₁ = near-low d t n v w in
     let t₂ = high-cut (withoutLower d v) v t₁ .tight in
-    near-hole (withoutUpper (withoutLower d v) v) t₂ (near-high (withoutLower d v) t₁ n₁ v w) v
+    near-hole (withoutUpper (withoutLower d v) v) t₂ (near-high (withoutLower d v) t₁ (near-low d t n v w) v w) v
 
 near-applied : (d : Domain) (k : ℕ) (v : ℤ) → Tight d → Near d → Valued k v → Near (applied d k v)
 near-applied d zero v t n w = near-lower d t n v (w .any)
 near-applied d (suc zero) v t n w = near-upper d t n v (w .any)
-near-applied d (suc (suc zero)) v t n w = near-upper (tightenedLower d v) (lower-tight d v t) (near-lower d t n v (w .any)) v (w .any)
+near-applied d (suc (suc zero)) v t n w = near-upper (tightenedLower d v) (lower-leaves d v t .tight) (near-lower d t n v (w .any)) v (w .any)
 near-applied d (suc (suc (suc k))) v t n w = near-without d t n v (w .other (omega arith))
 
 -- ---- states
@@ -116,16 +110,9 @@ near-empty : NearState emptyState
 near-empty x h = subst Near (sym (getD-replicate VARIABLES x allIntegers noDomain h)) (record { lower = λ u e. absurd (no-int u e); upper = λ u e. absurd (no-int′ u e) })
 
 near-stepped : (s : VariableState) (a : Atom) → AcceptedState s → a .variable < VARIABLES → Valued (a .kind) (a .value) → NearState s → NearState (stepped s a .state)
-near-stepped s a acc k w n = stepped-case s a (λ r. NearState (r .state)) (λ _. n) (λ _ _ x h. by x h (bool (eqb x (a .variable)))) (λ _ _. n)
-  where
-    d : Domain
-    d = applied (domainAt s (a .variable)) (a .kind) (a .value)
-
-    by : (x : ℕ) → x < VARIABLES → (eqb x (a .variable) ≡ true) ⊎ (eqb x (a .variable) ≡ false) → Near (domainAt (put s (a .variable) (applied (domainAt s (a .variable)) (a .kind) (a .value))) x)
-    by x h (inl y) = subst (λ (i : ℕ). Near (domainAt (put s (a .variable) d) i)) (sym (eqb-true x (a .variable) y))
-        (subst Near (sym (put-same s (a .variable) d (omega (arith, acc .size))))
-        (near-applied (domainAt s (a .variable)) (a .kind) (a .value) (acc .each (a .variable) k .tight) (n (a .variable) k) w))
-    by x h (inr m) = subst Near (sym (put-other s (a .variable) x d (eqb-false x (a .variable) m))) (n x h)
+near-stepped s a acc k w n = stepped-case s a (λ r. NearState (r .state)) (λ _. n)
+    (λ _ _ x h. put-each Near s (a .variable) _ (omega (arith, acc .size))
+    (near-applied (domainAt s (a .variable)) (a .kind) (a .value) (acc .each (a .variable) k .tight) (n (a .variable) k) w) x (n x h)) (λ _ _. n)
 
 near-all : (atoms : List Atom) → Known atoms → AllValued atoms → (s : VariableState) → AcceptedState s → NearState s → NearState (applyAll atoms s .state)
 near-all [] k w s acc n = subst (λ (r : Applied). NearState (r .state)) (sym (all-end s)) n
@@ -143,19 +130,7 @@ negated-valued (suc (suc zero)) v w = valued 3 v w
 negated-valued (suc (suc (suc k))) v w = valued 2 v w
 
 given-valued : (premises consequent : List ℤ) → rightLists premises consequent ≡ true → AllValued (given (atomsOf premises) (consequentOf consequent))
-given-valued premises consequent y =
-    let (p, l, c) = right-lists premises consequent y in
-    by (every-map (λ a h. valued (a .kind) (a .value) (h .1)) (atomsOf premises) (words-known premises p)) l c (length consequent) refl
-  where
-    by : AllValued (atomsOf premises) → length consequent ≤ 3 → rightWords consequent ≡ true → (n : ℕ) → length consequent ≡ n → AllValued (given (atomsOf premises) (consequentOf consequent))
-    by w l c zero e = subst AllValued (sym (given-none (atomsOf premises) consequent e)) w
-    by w l c (suc n) e =
-        let h = words-three consequent c (omega arith) in
-        let e₃ : length consequent ≡ 3 = omega arith in
-        let r = right-atom (getD consequent 0 (pos 0)) (getD consequent 1 (pos 0)) (getD consequent 2 (pos 0)) (words-at consequent 0 (omega arith) c .0) in
-        subst AllValued (sym (given-one (atomsOf premises) consequent e₃))
-        (every-append (λ a. Valued (a .kind) (a .value)) (atomsOf premises) (negation (atomAt consequent 0) ∷ []) w
-        (negated-valued (atomAt consequent 0 .kind) (atomAt consequent 0 .value) (r .value), tt))
+given-valued = given-each (λ a. Valued (a .kind) (a .value)) (λ a h. valued (a .kind) (a .value) (h .1)) (λ a h. negated-valued (a .kind) (a .value) (h .1))
 
 -- bounds read off a prepared state
 pub prepared-near : (premises consequent : List ℤ) (x : ℕ) → x < VARIABLES → Near (domainAt (prepared premises consequent .state) x)

@@ -1,12 +1,12 @@
 -- A domain without holes is its bounds: what an atom makes of it, it makes of their words.
 use mathlib.Core.Path.{_≡_, refl, sym, ap, _∙_, subst}
 use mathlib.Core.Logic.{⊎-elim}
-use mathlib.Core.Bool.{true, false}
+use mathlib.Core.Bool.{true, false, Bool, cond}
 use mathlib.Core.List.{List, []}
-use Prim.Native.Nat.{ℕ, zero, suc, _+_, _-_, _≤_, _<_, max}
+use Prim.Native.Nat.{ℕ, zero, suc, _+_, _-_, _<_, max}
 use native.Mathlib.Omega.{arith}
 use borrow.Author.Tests.{le-leb, lt-leb, ne-eqb}
-use lib.Dec.{leb, eqb}
+use lib.Dec.{leb}
 use lib.IntN.{ℤ}
 use lib.Signed.{leZ}
 use Rattle.integers.specs.Limits.{VALUE, U32MAX}
@@ -26,7 +26,7 @@ use Rattle.checking.specs.Domains.{leExt, ltExt, holesOf, domainOf, cons
 use Rattle.checking.specs.BoundWords.{lowerWord, upperWord, wordsOf, appliedWords, consistentWords, taskBoundsOfWords, HoleFree}
 use Rattle.checking.specs.TaskBounds.{twoBounds, boundsBetween, taskBounds}
 use Rattle.checking.proofs.BoundLimits.{same-int}
-use Rattle.checking.proofs.NarrowedDomains.{lower-case, lower-tight, upper-case}
+use Rattle.checking.proofs.NarrowedDomains.{lower-case, lower-leaves, upper-case}
 
 -- Values -----------------------------------------------------------------------------------------------------------------------
 
@@ -72,46 +72,34 @@ module _ (d : Domain) (t : Tight d) (free : HoleFree d) (v : ℤ) where
     lowered-free : HoleFree (tightenedUpper d v)
     lowered-free = lowered HoleFree (λ _. free) (λ _. record { none = refl; lower = free .lower; upper = λ u e. subst (Within (VALUE + 1)) (same-int v u e) near })
 
--- the bound that is there is at or above v, or below it
-lower-there : (b : IntExt) (v : ℤ) → ltExt b PositiveInf ≡ true → leExt (Int v) b ≡ true → moment zeroAt v ≤ lowerWord b
-lower-there (Int z) v f y = mono zeroAt v z (omega ints)
-lower-there NegativeInf v f y = clash y refl
-lower-there PositiveInf v f y = clash f refl
+-- the larger word is that of the bound that is kept
+lower-word : (b : IntExt) (v : ℤ) → ltExt b PositiveInf ≡ true → (t : Bool) → leExt (Int v) b ≡ t → cond t (lowerWord b) (moment zeroAt v) ≡ max (lowerWord b) (moment zeroAt v)
+lower-word (Int z) v f true y = let h = mono zeroAt v z (omega ints) in omega arith
+lower-word (Int z) v f false y = let h = mono zeroAt z v (omega ints) in omega arith
+lower-word NegativeInf v f true y = clash y refl
+lower-word NegativeInf v f false y = omega arith
+lower-word PositiveInf v f t y = clash f refl
 
-lower-less : (b : IntExt) (v : ℤ) → ltExt b PositiveInf ≡ true → leExt (Int v) b ≡ false → lowerWord b ≤ moment zeroAt v
-lower-less (Int z) v f n = mono zeroAt z v (omega ints)
-lower-less NegativeInf v f n = omega arith
-lower-less PositiveInf v f n = clash f refl
-
-upper-there : (b : IntExt) (v : ℤ) → ltExt NegativeInf b ≡ true → leExt b (Int v) ≡ true → U32MAX - moment zeroAt v ≤ upperWord b
-upper-there (Int z) v f y = let h = mono zeroAt z v (omega ints) in omega arith
-upper-there NegativeInf v f y = clash f refl
-upper-there PositiveInf v f y = clash y refl
-
-upper-less : (b : IntExt) (v : ℤ) → ltExt NegativeInf b ≡ true → leExt b (Int v) ≡ false → upperWord b ≤ U32MAX - moment zeroAt v
-upper-less (Int z) v f n = let h = mono zeroAt v z (omega ints) in omega arith
-upper-less NegativeInf v f n = clash f refl
-upper-less PositiveInf v f n = omega arith
-
-max-left : (a b : ℕ) → b ≤ a → a ≡ max a b
-max-left a b h = omega arith
-
-max-right : (a b : ℕ) → a ≤ b → b ≡ max a b
-max-right a b h = omega arith
+upper-word : (b : IntExt) (v : ℤ) → ltExt NegativeInf b ≡ true → (t : Bool) → leExt b (Int v) ≡ t → cond t (upperWord b) (U32MAX - moment zeroAt v) ≡ max (upperWord b) (U32MAX - moment zeroAt v)
+upper-word (Int z) v f true y = let h = mono zeroAt z v (omega ints) in omega arith
+upper-word (Int z) v f false y = let h = mono zeroAt v z (omega ints) in omega arith
+upper-word NegativeInf v f t y = clash f refl
+upper-word PositiveInf v f true y = clash y refl
+upper-word PositiveInf v f false y = omega arith
 
 module _ (d : Domain) (t : Tight d) (free : HoleFree d) (v : ℤ) where
   raised-words : wordsOf (tightenedLower d v) ≡ appliedWords (wordsOf d) 0 v
-  raised-words = raised d t free v (λ e. wordsOf e ≡ appliedWords (wordsOf d) 0 v)
-      (λ y. ap words (max-left (lowerWord (d .«lower_bound»)) (moment zeroAt v) (lower-there (d .«lower_bound») v (t .lower-finite) y)))
-      (λ n. ap words (max-right (lowerWord (d .«lower_bound»)) (moment zeroAt v) (lower-less (d .«lower_bound») v (t .lower-finite) n)))
+  raised-words =
+      let word = lower-word (d .«lower_bound») v (t .lower-finite) in
+      raised d t free v (λ e. wordsOf e ≡ appliedWords (wordsOf d) 0 v) (λ y. ap words (word true y)) (λ n. ap words (word false n))
     where
       words : ℕ → BoundWords
       words m = record { lower = m; upper = upperWord (d .«upper_bound») }
 
   lowered-words : wordsOf (tightenedUpper d v) ≡ appliedWords (wordsOf d) 1 v
-  lowered-words = lowered d t free v (λ e. wordsOf e ≡ appliedWords (wordsOf d) 1 v)
-      (λ y. ap words (max-left (upperWord (d .«upper_bound»)) (U32MAX - moment zeroAt v) (upper-there (d .«upper_bound») v (t .upper-finite) y)))
-      (λ n. ap words (max-right (upperWord (d .«upper_bound»)) (U32MAX - moment zeroAt v) (upper-less (d .«upper_bound») v (t .upper-finite) n)))
+  lowered-words =
+      let word = upper-word (d .«upper_bound») v (t .upper-finite) in
+      lowered d t free v (λ e. wordsOf e ≡ appliedWords (wordsOf d) 1 v) (λ y. ap words (word true y)) (λ n. ap words (word false n))
     where
       words : ℕ → BoundWords
       words m = record { lower = lowerWord (d .«lower_bound»); upper = m }
@@ -121,14 +109,14 @@ module _ (d : Domain) (t : Tight d) (free : HoleFree d) (v : ℤ) where
 pub applied-free : (d : Domain) → Tight d → HoleFree d → (k : ℕ) → k < 3 → (v : ℤ) → Within (VALUE + 1) v → HoleFree (applied d k v)
 applied-free d t free zero h v near = raised-free d t free v near
 applied-free d t free (suc zero) h v near = lowered-free d t free v near
-applied-free d t free (suc (suc zero)) h v near = lowered-free (tightenedLower d v) (lower-tight d v t) (raised-free d t free v near) v near
+applied-free d t free (suc (suc zero)) h v near = lowered-free (tightenedLower d v) (lower-leaves d v t .tight) (raised-free d t free v near) v near
 applied-free d t free (suc (suc (suc k))) h v near = absurd (omega arith)
 
 pub applied-words : (d : Domain) → Tight d → HoleFree d → (k : ℕ) → k < 3 → (v : ℤ) → Within (VALUE + 1) v → wordsOf (applied d k v) ≡ appliedWords (wordsOf d) k v
 applied-words d t free zero h v near = raised-words d t free v
 applied-words d t free (suc zero) h v near = lowered-words d t free v
 applied-words d t free (suc (suc zero)) h v near =
-    lowered-words (tightenedLower d v) (lower-tight d v t) (raised-free d t free v near) v ∙ ap (λ (w : BoundWords). appliedWords w 1 v) (raised-words d t free v)
+    lowered-words (tightenedLower d v) (lower-leaves d v t .tight) (raised-free d t free v near) v ∙ ap (λ (w : BoundWords). appliedWords w 1 v) (raised-words d t free v)
 applied-words d t free (suc (suc (suc k))) h v near = absurd (omega arith)
 
 -- What the words tell ----------------------------------------------------------------------------------------------------------
@@ -159,10 +147,8 @@ words-bounds d t free = by (d .«lower_bound») (d .«upper_bound») (t .upper-f
     by NegativeInf u q f g = refl
     by PositiveInf u q f g = refl
     by (Int a) NegativeInf q f g = clash q refl
-    by (Int a) PositiveInf q f g = let h : eqb (moment zeroAt a) 0 ≡ false = ne-eqb (moment zeroAt a) 0 (omega (arith, near-moment a (f a refl) .positive)) in rw h refl
+    by (Int a) PositiveInf q f g = rw (ne-eqb (moment zeroAt a) 0 (omega (arith, near-moment a (f a refl) .positive))) refl
     by (Int a) (Int b) q f g =
         let i = near-moment a (f a refl) in
         let j = near-moment b (g b refl) in
-        let h : eqb (moment zeroAt a) 0 ≡ false = ne-eqb (moment zeroAt a) 0 (omega (arith, i .positive)) in
-        let k : eqb (U32MAX - moment zeroAt b) 0 ≡ false = ne-eqb (U32MAX - moment zeroAt b) 0 (omega (arith, j .below)) in
-        rw (h, k) (ap (twoBounds (moment zeroAt a)) (twice b j))
+        rw (ne-eqb (moment zeroAt a) 0 (omega (arith, i .positive)), ne-eqb (U32MAX - moment zeroAt b) 0 (omega (arith, j .below))) (ap (twoBounds (moment zeroAt a)) (twice b j))

@@ -1,7 +1,7 @@
 -- The order of whole numbers and infinities.
 use mathlib.Core.Path.{_≡_, refl, ap}
 use mathlib.Core.Logic.{⊎-elim}
-use mathlib.Core.Bool.{Bool, true, false, not}
+use mathlib.Core.Bool.{true, false, not}
 use borrow.Author.Tests.{not-true}
 use lib.IntN.{ℤ}
 use lib.Signed.{leZ, _≤ℤ_, _<ℤ_}
@@ -34,12 +34,9 @@ le-total PositiveInf NegativeInf p = refl
 le-total PositiveInf (Int y) p = refl
 le-total PositiveInf PositiveInf p = clash refl p
 
-pub no-not : {t : Bool} → t ≡ false → not t ≡ true
-no-not p = ap not p
-
 -- a < b ≤ c gives a < c, and a ≤ b < c too
 pub lt-le : (a b c : IntExt) → ltExt a b ≡ true → leExt b c ≡ true → ltExt a c ≡ true
-lt-le a b c p q = ⊎-elim (λ y. clash (le-trans b c a q y) (not-true (leExt b a) p)) (λ n. no-not n) (bool (leExt c a))
+lt-le a b c p q = ⊎-elim (λ y. clash (le-trans b c a q y) (not-true (leExt b a) p)) (λ n. ap not n) (bool (leExt c a))
 
 pub lt-to-le : (a b : IntExt) → ltExt a b ≡ true → leExt a b ≡ true
 lt-to-le a b p = le-total b a (not-true (leExt b a) p)
@@ -55,7 +52,7 @@ pub show-le : (a b : ℤ) → a ≤ℤ b → leExt (Int a) (Int b) ≡ true
 show-le = le-leZ
 
 pub show-lt : (a b : ℤ) → a <ℤ b → ltExt (Int a) (Int b) ≡ true
-show-lt a b h = no-not (lt-leZ b a h)
+show-lt a b h = ap not (lt-leZ b a h)
 
 -- a bound that equals a whole number is that number
 pub eq-is : (b : IntExt) (v : ℤ) → eqExt b (Int v) ≡ true → b ≡ Int v

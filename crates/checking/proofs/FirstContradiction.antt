@@ -40,25 +40,16 @@ data Places (p : List Atom) (a : Atom) (q : List Atom) (b : Atom) : Type 0 where
   same : a ≡ b → Places p a q b
   short : (c : List Atom) → p ≡ q ++ (b ∷ c) → Places p a q b
 
-head : Atom → List Atom → Atom
-head d [] = d
-head d (a ∷ l) = a
-
-tail : List Atom → List Atom
-tail [] = []
-tail (a ∷ l) = l
-
 places : (p : List Atom) (a : Atom) (c : List Atom) (q : List Atom) (b : Atom) (d : List Atom) → p ++ (a ∷ c) ≡ q ++ (b ∷ d) → Places p a q b
-unfolding head tail
-places [] a c [] b d e = same (ap (head a) e)
-places [] a c (x ∷ q) b d e = past q (ap (λ (y : Atom). y ∷ q) (sym (ap (head a) e)))
-places (x ∷ p) a c [] b d e = short p (ap (λ (y : Atom). y ∷ p) (ap (head x) e))
-places (x ∷ p) a c (y ∷ q) b d e = by (places p a c q b d (ap tail e))
+places [] a c [] b d e = same (cc)
+places [] a c (x ∷ q) b d e = past q (cc)
+places (x ∷ p) a c [] b d e = short p (cc)
+places (x ∷ p) a c (y ∷ q) b d e = let first : x ≡ y = cc in by first (places p a c q b d (cc))
   where
-    by : Places p a q b → Places (x ∷ p) a (y ∷ q) b
-    by (past r z) = past r (ap (λ (l : List Atom). y ∷ l) z ∙ ap (λ (w : Atom). w ∷ (p ++ (a ∷ r))) (sym (ap (head x) e)))
-    by (same z) = same z
-    by (short r z) = short r (ap (λ (l : List Atom). x ∷ l) z ∙ ap (λ (w : Atom). w ∷ (q ++ (b ∷ r))) (ap (head x) e))
+    by : x ≡ y → Places p a q b → Places (x ∷ p) a (y ∷ q) b
+    by w (past r z) = past r (cc)
+    by w (same z) = same z
+    by w (short r z) = short r (cc)
 
 -- only one atom is the first
 pub one-first : (atoms : List Atom) (x y : ℕ) → EmptiesFirst atoms x → EmptiesFirst atoms y → x ≡ y

@@ -62,8 +62,7 @@ module _ (p c : List ℤ) where
       pub premise-place : i + 3 ≤ length p
       premise-place =
           let n = length-drop i p in
-          let h = words-three (drop i p) (words .0) (omega (arith, n)) in
-          omega (arith, n, h)
+          omega (arith, n, words-three (drop i p) (words .0) (omega (arith, n)))
 
       next-premise : Next i (atomAt p i)
       next-premise =
@@ -88,8 +87,7 @@ module _ (p c : List ℤ) where
       pub consequent-place : j + 3 ≡ length c
       consequent-place =
           let n = length-drop j c in
-          let h = words-three (drop j c) (words .2) (omega (arith, n)) in
-          omega (arith, n, h, words .1)
+          omega (arith, n, words-three (drop j c) (words .2) (omega (arith, n)), words .1)
 
       consequent-right : RightAtom (getD c j (pos 0)) (getD c (j + 1) (pos 0)) (getD c (j + 2) (pos 0))
       consequent-right = right-atom (getD c j (pos 0)) (getD c (j + 1) (pos 0)) (getD c (j + 2) (pos 0)) (words-at c j (omega (arith, consequent-place)) (words .2) .0)

@@ -13,7 +13,6 @@ use Rattle.integers.proofs.FilledLists.{getD-fresh}
 use Rattle.scheduling.specs.Scheduling.{Atom}
 use Rattle.checking.specs.declared.domain.Domain.{Domain}
 use Rattle.checking.specs.declared.domain.Effect.the-variants.{Narrowed, Emptied}
-use Rattle.checking.specs.declared.domain.Reduced.{Reduced}
 use Rattle.checking.specs.declared.bound_words.BoundWords.{BoundWords}
 use Rattle.checking.specs.declared.variable_state.VariableState.{VariableState}
 use Rattle.checking.specs.declared.variable_state.Application.the-variants.{Consistent, Contradiction}
@@ -25,9 +24,9 @@ use Rattle.checking.proofs.BoundLimits.{no-int, no-int′}
 use Rattle.checking.proofs.BoundWords.{applied-free, applied-words, words-consistent, words-bounds}
 use Rattle.checking.proofs.Bounds.{bounds-at}
 use Rattle.checking.proofs.FilledBounds.{bounds-same}
-use Rattle.checking.proofs.NarrowedDomains.{applied-tight}
+use Rattle.checking.proofs.NarrowedDomains.{applied-leaves}
 use Rattle.checking.proofs.PreparedStates.{no-room}
-use Rattle.checking.proofs.States.{empty-accepted, put-same, put-other, put-accepted, stepped-is, when-narrowed, when-emptied}
+use Rattle.checking.proofs.States.{empty-accepted, put-same, put-other, put-each, put-accepted, when-narrowed, when-emptied}
 
 -- Without bounds ---------------------------------------------------------------------------------------------------------------
 
@@ -62,7 +61,7 @@ module _ (s : VariableState) (lower upper : List ℕ) (held : HeldWords s lower 
   tight = held .accepted .each (a .variable) known .tight
 
   tight′ : Tight d′
-  tight′ = applied-tight d (a .kind) (a .value) tight (no-room d (a .kind) (a .value) kind)
+  tight′ = applied-leaves d (a .kind) (a .value) tight (no-room d (a .kind) (a .value) kind) .tight
 
   free′ : HoleFree d′
   free′ = applied-free d tight (held .free (a .variable) known) (a .kind) kind (a .value) near
@@ -84,16 +83,9 @@ module _ (s : VariableState) (lower upper : List ℕ) (held : HeldWords s lower 
 
   -- the words cross where the atom is contradicted
   pub held-contradiction : consistentWords w ≡ false → stepped s a ≡ record { answer = Contradiction (a .variable); state = s }
-  held-contradiction e =
-      let r : Reduced = record { effect = Emptied; domain = d′ } in
-      stepped-is s a r (empties (leaves e)) ∙ when-emptied s a r refl
+  held-contradiction e = when-emptied s a (record { effect = Emptied; domain = d′ }) (empties (leaves e)) refl
 
   module _ (e : consistentWords w ≡ true) where
-    pub held-consistent : stepped s a ≡ record { answer = Consistent; state = put s (a .variable) d′ }
-    held-consistent =
-        let r : Reduced = record { effect = Narrowed; domain = d′ } in
-        stepped-is s a r (narrows (leaves e)) ∙ when-narrowed s a r refl
-
     abbrev s′ : VariableState
     s′ = put s (a .variable) d′
 
@@ -103,35 +95,30 @@ module _ (s : VariableState) (lower upper : List ℕ) (held : HeldWords s lower 
     abbrev upper′ : List ℕ
     upper′ = set upper (a .variable) (w .upper)
 
-    at-variable : HoleFree (domainAt s′ (a .variable)) × (wordsAt lower′ upper′ (a .variable) ≡ wordsOf (domainAt s′ (a .variable)))
-    at-variable =
-        let same = put-same s (a .variable) d′ (omega (arith, held .accepted .size)) in
-        let l = getD-set-same lower (a .variable) (w .lower) 0 (omega (arith, held .lower-size)) in
-        let u = getD-set-same upper (a .variable) (w .upper) 0 (omega (arith, held .upper-size)) in
-        (subst HoleFree (sym same) free′, ap₂ pairOf l u ∙ words′ ∙ ap wordsOf (sym same))
-
-    elsewhere : (x : ℕ) → x < VARIABLES → (x ≡ a .variable → ⊥) → HoleFree (domainAt s′ x) × (wordsAt lower′ upper′ x ≡ wordsOf (domainAt s′ x))
-    elsewhere x h n =
-        let other = put-other s (a .variable) x d′ n in
-        let l = getD-set-other lower (a .variable) x (w .lower) 0 n in
-        let u = getD-set-other upper (a .variable) x (w .upper) 0 n in
-        (subst HoleFree (sym other) (held .free x h), ap₂ pairOf l u ∙ held .words x h ∙ ap wordsOf (sym other))
-
-    stored : (x : ℕ) → x < VARIABLES → HoleFree (domainAt s′ x) × (wordsAt lower′ upper′ x ≡ wordsOf (domainAt s′ x))
+    stored : (x : ℕ) → x < VARIABLES → wordsAt lower′ upper′ x ≡ wordsOf (domainAt s′ x)
     stored x h = elim (ℕ-discrete x (a .variable)) [
-      | yes e ↦ subst (λ (i : ℕ). HoleFree (domainAt s′ i) × (wordsAt lower′ upper′ i ≡ wordsOf (domainAt s′ i))) (sym e) at-variable
-      | no n ↦ elsewhere x h n
+      | yes e ↦ rw (
+        e,
+        getD-set-same lower (a .variable) (w .lower) 0 (omega (arith, held .lower-size)),
+        getD-set-same upper (a .variable) (w .upper) 0 (omega (arith, held .upper-size)),
+        put-same s (a .variable) d′ (omega (arith, held .accepted .size)),
+      ) words′
+      | no n ↦ rw (getD-set-other lower (a .variable) x (w .lower) 0 n, getD-set-other upper (a .variable) x (w .upper) 0 n, put-other s (a .variable) x d′ n) (held .words x h)
     ]
 
     -- else they are the bounds of the state after it
-    pub held-next : HeldWords (put s (a .variable) d′) (set lower (a .variable) (w .lower)) (set upper (a .variable) (w .upper))
-    held-next = record {
-      lower-size = length-set lower (a .variable) (w .lower) ∙ held .lower-size;
-      upper-size = length-set upper (a .variable) (w .upper) ∙ held .upper-size;
-      accepted = put-accepted s (a .variable) d′ (held .accepted) known (record { tight = tight′; ordered = leaves e });
-      free = λ x h. stored x h .0;
-      words = λ x h. stored x h .1;
-    }
+    pub held-next : (stepped s a ≡ record { answer = Consistent; state = put s (a .variable) d′ })
+        × HeldWords (put s (a .variable) d′) (set lower (a .variable) (w .lower)) (set upper (a .variable) (w .upper))
+    held-next = (
+      when-narrowed s a (record { effect = Narrowed; domain = d′ }) (narrows (leaves e)) refl,
+      record {
+        lower-size = length-set lower (a .variable) (w .lower) ∙ held .lower-size;
+        upper-size = length-set upper (a .variable) (w .upper) ∙ held .upper-size;
+        accepted = put-accepted s (a .variable) d′ (held .accepted) known (record { tight = tight′; ordered = leaves e });
+        free = λ x h. put-each HoleFree s (a .variable) d′ (omega (arith, held .accepted .size)) free′ x (held .free x h);
+        words = stored;
+      },
+    )
 
 -- The tasks' bounds ------------------------------------------------------------------------------------------------------------
 

@@ -14,9 +14,9 @@ use Rattle.integers.proofs.Bools.{bool}
 use Rattle.scheduling.specs.Scheduling.{Atom, Allows, Every, Admits}
 use Rattle.integers.proofs.WholeNumbers.{has-none}
 use Rattle.checking.specs.declared.domain.Domain.{Domain}
-use Rattle.checking.specs.Domains.{Admitted, allIntegers, applied, Proper}
+use Rattle.checking.specs.Domains.{Admitted, allIntegers, applied}
 use Rattle.checking.specs.declared.int_ext.IntExt.the-variants.{NegativeInf, PositiveInf}
-use Rattle.checking.proofs.NarrowedDomains.{applied-tight, applied-to, applied-of, made-admits}
+use Rattle.checking.proofs.NarrowedDomains.{applied-leaves, made-admits}
 use Rattle.checking.proofs.Values.{crossed-none, some-value}
 use Rattle.checking.specs.declared.variable_state.VariableState.{VariableState}
 use Rattle.checking.specs.declared.variable_state.Application.{Application}
@@ -57,14 +57,10 @@ module _ (s : VariableState) (a : Atom) (acc : AcceptedState s) (known : a .vari
   step-consistent = stepped-case s a (λ r. r .answer ≡ Consistent → Narrows s a (r .state))
       (λ _ e. differ (Refused 21) Consistent e (omega arith))
       (λ p q _.
-      let t = acc .each (a .variable) known .tight in
-      let proper : Proper d′ = record { tight = applied-tight d (a .kind) (a .value) t p; ordered = q } in
+      let l = applied-leaves d (a .kind) (a .value) (acc .each (a .variable) known .tight) p in
       record {
-        admits = λ z. (
-          λ m. applied-to d (a .kind) (a .value) t p z (subst (λ (x : Domain). Admitted x z) at-put m),
-          λ m. subst (λ (x : Domain). Admitted x z) (sym at-put) (applied-of d (a .kind) (a .value) t p z (m .0) (m .1)),
-        );
-        left = subst (λ (x : Domain). (z : ℤ) × Admitted x z) (sym at-put) (some-value d′ proper);
+        admits = λ z. rw at-put (l .to z, λ m. l .of z (m .0) (m .1));
+        left = rw at-put (some-value d′ (record { tight = l .tight; ordered = q }));
         others = λ y n. put-other s (a .variable) y d′ n;
       })
       (λ _ _ e. differ (Contradiction (a .variable)) Consistent e (omega arith))
@@ -73,7 +69,7 @@ module _ (s : VariableState) (a : Atom) (acc : AcceptedState s) (known : a .vari
   step-contradiction y = stepped-case s a (λ r. r .answer ≡ Contradiction y → (y ≡ a .variable) × (r .state ≡ s) × Excludes s a)
       (λ _ e. differ (Refused 21) (Contradiction y) e (omega arith))
       (λ _ _ e. differ Consistent (Contradiction y) e (omega arith))
-      (λ p q e. (sym (same-variable (a .variable) y e), refl, λ z m h. crossed-none d′ q z (applied-of d (a .kind) (a .value) (acc .each (a .variable) known .tight) p z m h)))
+      (λ p q e. (sym (same-variable (a .variable) y e), refl, λ z m h. crossed-none d′ q z (applied-leaves d (a .kind) (a .value) (acc .each (a .variable) known .tight) p .of z m h)))
 
   pub step-refused : (n : ℕ) → stepped s a .answer ≡ Refused n → (n ≡ 21) × (stepped s a .state ≡ s) × (lacksRoom s a ≡ true)
   step-refused n = stepped-case s a (λ r. r .answer ≡ Refused n → (n ≡ 21) × (r .state ≡ s) × (lacksRoom s a ≡ true))

@@ -1,7 +1,7 @@
 -- What an atom makes of a domain: what is admitted afterwards, and that the domain stays in its form.
 use mathlib.Core.Path.{_≡_, refl, sym, ap, _∙_, subst}
-use mathlib.Core.Logic.{⊎-elim}
-use mathlib.Core.Bool.{Bool, true, false, cond, _&&_}
+use mathlib.Core.Logic.{⊎-elim, inl, inr}
+use mathlib.Core.Bool.{Bool, true, false, cond}
 use mathlib.Core.List.{List}
 use Prim.Native.Nat.{ℕ, zero, suc, _≤_, _<_}
 use native.Mathlib.Omega.{arith}
@@ -10,10 +10,10 @@ use lib.IntN.{ℤ, pos, negsuc, _+ℤ_}
 use lib.ListN.{length}
 use lib.Signed.{ltZ, _≤ℤ_}
 use Rattle.integers.specs.Limits.{HOLES}
-use Rattle.integers.proofs.Bools.{bool, clash, and-true, and-false, and-yes}
+use Rattle.integers.proofs.Bools.{bool, clash, and-true, and-false, and-yes, and-right}
 use Rattle.integers.proofs.Ints.{ints, up, dn, sumℤ}
 use Rattle.scheduling.specs.Scheduling.{Compares}
-use Rattle.holes.specs.Holes.{Ascending, below, above, inserted, padded, firstFrom, lastUpTo}
+use Rattle.holes.specs.Holes.{Ascending, below, above, inserted, padded, firstFrom, lastUpTo, First, Last}
 use Rattle.integers.specs.WholeNumbers.{has}
 use Rattle.holes.proofs.Ascending.{kept-in, in-kept, kept-ascends, kept-length, first-is, last-is, inserted-in, in-inserted, old-inserted, inserted-ascends, inserted-length}
 use Rattle.integers.proofs.WholeNumbers.{not-has}
@@ -45,6 +45,12 @@ module _ (lower upper : IntExt) (hs : List ℤ) where
   pub made-free : (z : ℤ) → Admitted (domainOf lower upper hs) z → has hs z ≡ true → ⊥
   made-free z a y = clash y (ap (λ (l : List ℤ). has l z) (sym (front hs)) ∙ a .no-hole)
 
+-- d′ admits, of what d admits, what K allows
+pub record Leaves (d d′ : Domain) (K : ℤ → Type 0) : Type 0 where
+  pub tight : Tight d′
+  pub to : (z : ℤ) → Admitted d′ z → Admitted d z × K z
+  pub of : (z : ℤ) → Admitted d z → K z → Admitted d′ z
+
 -- ---- the lower bound
 module _ (d : Domain) (v : ℤ) (t : Tight d) where
   abbrev hs : List ℤ
@@ -58,40 +64,34 @@ module _ (d : Domain) (v : ℤ) (t : Tight d) where
 
   pub lower-case : (P : Domain → Type 0) → (leExt (Int v) (d .«lower_bound») ≡ true → P d) → (leExt (Int v) (d .«lower_bound») ≡ false → P raised) → P (tightenedLower d v)
   unfolding tightenedLower
-  lower-case P f g = by (leExt (Int v) (d .«lower_bound»)) refl
-    where
-      by : (t : Bool) → leExt (Int v) (d .«lower_bound») ≡ t → P (cond t d (domainOf (Int (firstFrom v (holesOf d))) (d .«upper_bound») (above (firstFrom v (holesOf d)) (holesOf d))))
-      by true e = f e
-      by false e = g e
+  lower-case P f g = elim (bool (leExt (Int v) (d .«lower_bound»))) [ inl y ↦ rw y (f y) | inr n ↦ rw n (g n) ]
 
-  pub lower-tight : Tight (tightenedLower d v)
-  lower-tight = lower-case Tight (λ _. t) (λ _.
-      made-tight (Int b) (d .«upper_bound») (above b hs) refl (t .upper-finite) (omega (arith, kept-length (λ h. ltZ b h) hs, used d t, t .few)) (kept-ascends (λ h. ltZ b h) hs (t .order))
-      (λ h m. let k = kept-in (λ x. ltZ b x) hs h m in (show-lt b h (omega ints), t .inside h (k .0) .1)))
+  first : First v hs b
+  first = first-is v hs (t .order)
 
   pub lower-reaches : leExt (Int v) (tightenedLower d v .«lower_bound») ≡ true
-  lower-reaches = lower-case (λ e. leExt (Int v) (e .«lower_bound») ≡ true) (λ y. y) (λ _. show-le v b (first-is v hs (t .order) .from))
+  lower-reaches = lower-case (λ e. leExt (Int v) (e .«lower_bound») ≡ true) (λ y. y) (λ _. show-le v b (first .from))
 
-  pub lower-to : (z : ℤ) → Admitted (tightenedLower d v) z → Admitted d z × (v ≤ℤ z)
-  lower-to z = lower-case (λ e. Admitted e z → Admitted d z × (v ≤ℤ z))
-      (λ y a. (a, read-le v z (le-trans (Int v) (d .«lower_bound») (Int z) y (a .from))))
-      (λ n a. let f = first-is v hs (t .order) in let g : v ≤ℤ z = omega (ints, f .from, read-le b z (a .from)) in (
-        record {
-          from = le-trans (d .«lower_bound») (Int v) (Int z) (le-total (Int v) (d .«lower_bound») n) (show-le v z g);
-          to = a .to;
-          no-hole = not-has hs z (λ y. ⊎-elim
-              (λ k. made-free (Int b) (d .«upper_bound») (above b hs) z a (in-kept (λ x. ltZ b x) hs z y k))
-              (λ k. let e : z ≡ b = omega (ints, read-le b z (a .from)) in f .free (subst (λ (x : ℤ). has hs x ≡ true) e y)) (bool (ltZ b z)));
-        },
-        g,
-      ))
-
-  pub lower-of : (z : ℤ) → Admitted d z → v ≤ℤ z → Admitted (tightenedLower d v) z
-  lower-of z a h = lower-case (λ e. Admitted e z) (λ _. a)
-      (λ _. let f = first-is v hs (t .order) in
-      made-admits (Int b) (d .«upper_bound») (above b hs) z
-      (⊎-elim (λ k. clash (f .passed z h (omega ints)) (a .no-hole)) (λ k. show-le b z (omega ints)) (bool (ltZ z b))) (a .to)
-      (λ y. clash (kept-in (λ x. ltZ b x) hs z y .0) (a .no-hole)))
+  pub lower-leaves : Leaves d (tightenedLower d v) (λ z. v ≤ℤ z)
+  lower-leaves = lower-case (λ e. Leaves d e (λ z. v ≤ℤ z))
+      (λ y. record { tight = t; to = λ z a. (a, read-le v z (le-trans (Int v) (d .«lower_bound») (Int z) y (a .from))); of = λ z a _. a })
+      (λ n. record {
+        tight = made-tight (Int b) (d .«upper_bound») (above b hs) refl (t .upper-finite) (omega (arith, kept-length (λ h. ltZ b h) hs, used d t, t .few)) (kept-ascends (λ h. ltZ b h) hs (t .order))
+            (λ h m. let k = kept-in (λ x. ltZ b x) hs h m in (show-lt b h (omega ints), t .inside h (k .0) .1));
+        to = λ z a. let g : v ≤ℤ z = omega (ints, first .from, read-le b z (a .from)) in (
+          record {
+            from = le-trans (d .«lower_bound») (Int v) (Int z) (le-total (Int v) (d .«lower_bound») n) (show-le v z g);
+            to = a .to;
+            no-hole = not-has hs z (λ y. ⊎-elim
+                (λ k. made-free (Int b) (d .«upper_bound») (above b hs) z a (in-kept (λ x. ltZ b x) hs z y k))
+                (λ k. let e : z ≡ b = omega (ints, read-le b z (a .from)) in first .free (subst (λ (x : ℤ). has hs x ≡ true) e y)) (bool (ltZ b z)));
+          },
+          g,
+        );
+        of = λ z a h. made-admits (Int b) (d .«upper_bound») (above b hs) z
+            (⊎-elim (λ k. clash (first .passed z h (omega ints)) (a .no-hole)) (λ k. show-le b z (omega ints)) (bool (ltZ z b))) (a .to)
+            (λ y. clash (kept-in (λ x. ltZ b x) hs z y .0) (a .no-hole));
+      })
 
 -- ---- the upper bound
 module _ (d : Domain) (v : ℤ) (t : Tight d) where
@@ -106,43 +106,37 @@ module _ (d : Domain) (v : ℤ) (t : Tight d) where
 
   pub upper-case : (P : Domain → Type 0) → (leExt (d .«upper_bound») (Int v) ≡ true → P d) → (leExt (d .«upper_bound») (Int v) ≡ false → P lowered) → P (tightenedUpper d v)
   unfolding tightenedUpper
-  upper-case P f g = by (leExt (d .«upper_bound») (Int v)) refl
-    where
-      by : (t : Bool) → leExt (d .«upper_bound») (Int v) ≡ t → P (cond t d (domainOf (d .«lower_bound») (Int (lastUpTo v (holesOf d))) (below (lastUpTo v (holesOf d)) (holesOf d))))
-      by true e = f e
-      by false e = g e
+  upper-case P f g = elim (bool (leExt (d .«upper_bound») (Int v))) [ inl y ↦ rw y (f y) | inr n ↦ rw n (g n) ]
 
-  pub upper-tight : Tight (tightenedUpper d v)
-  upper-tight = upper-case Tight (λ _. t) (λ _.
-      made-tight (d .«lower_bound») (Int u) (below u gs) (t .lower-finite) refl (omega (arith, kept-length (λ h. ltZ h u) gs, used d t, t .few)) (kept-ascends (λ h. ltZ h u) gs (t .order))
-      (λ h m. let k = kept-in (λ x. ltZ x u) gs h m in (t .inside h (k .0) .0, show-lt h u (omega ints))))
+  last : Last v gs u
+  last = last-is v gs (t .order)
 
   pub upper-reaches : leExt (tightenedUpper d v .«upper_bound») (Int v) ≡ true
-  upper-reaches = upper-case (λ e. leExt (e .«upper_bound») (Int v) ≡ true) (λ y. y) (λ _. show-le u v (last-is v gs (t .order) .to))
+  upper-reaches = upper-case (λ e. leExt (e .«upper_bound») (Int v) ≡ true) (λ y. y) (λ _. show-le u v (last .to))
 
   pub upper-lower : tightenedUpper d v .«lower_bound» ≡ d .«lower_bound»
   upper-lower = upper-case (λ e. e .«lower_bound» ≡ d .«lower_bound») (λ _. refl) (λ _. refl)
 
-  pub upper-to : (z : ℤ) → Admitted (tightenedUpper d v) z → Admitted d z × (z ≤ℤ v)
-  upper-to z = upper-case (λ e. Admitted e z → Admitted d z × (z ≤ℤ v))
-      (λ y a. (a, read-le z v (le-trans (Int z) (d .«upper_bound») (Int v) (a .to) y)))
-      (λ n a. let f = last-is v gs (t .order) in let g : z ≤ℤ v = omega (ints, f .to, read-le z u (a .to)) in (
-        record {
-          from = a .from;
-          to = le-trans (Int z) (Int v) (d .«upper_bound») (show-le z v g) (le-total (d .«upper_bound») (Int v) n);
-          no-hole = not-has gs z (λ y. ⊎-elim
-              (λ k. made-free (d .«lower_bound») (Int u) (below u gs) z a (in-kept (λ x. ltZ x u) gs z y k))
-              (λ k. let e : z ≡ u = omega (ints, read-le z u (a .to)) in f .free (subst (λ (x : ℤ). has gs x ≡ true) e y)) (bool (ltZ z u)));
-        },
-        g,
-      ))
-
-  pub upper-of : (z : ℤ) → Admitted d z → z ≤ℤ v → Admitted (tightenedUpper d v) z
-  upper-of z a h = upper-case (λ e. Admitted e z) (λ _. a)
-      (λ _. let f = last-is v gs (t .order) in
-      made-admits (d .«lower_bound») (Int u) (below u gs) z (a .from)
-      (⊎-elim (λ k. clash (f .passed z (omega ints) h) (a .no-hole)) (λ k. show-le z u (omega ints)) (bool (ltZ u z)))
-      (λ y. clash (kept-in (λ x. ltZ x u) gs z y .0) (a .no-hole)))
+  pub upper-leaves : Leaves d (tightenedUpper d v) (λ z. z ≤ℤ v)
+  upper-leaves = upper-case (λ e. Leaves d e (λ z. z ≤ℤ v))
+      (λ y. record { tight = t; to = λ z a. (a, read-le z v (le-trans (Int z) (d .«upper_bound») (Int v) (a .to) y)); of = λ z a _. a })
+      (λ n. record {
+        tight = made-tight (d .«lower_bound») (Int u) (below u gs) (t .lower-finite) refl (omega (arith, kept-length (λ h. ltZ h u) gs, used d t, t .few)) (kept-ascends (λ h. ltZ h u) gs (t .order))
+            (λ h m. let k = kept-in (λ x. ltZ x u) gs h m in (t .inside h (k .0) .0, show-lt h u (omega ints)));
+        to = λ z a. let g : z ≤ℤ v = omega (ints, last .to, read-le z u (a .to)) in (
+          record {
+            from = a .from;
+            to = le-trans (Int z) (Int v) (d .«upper_bound») (show-le z v g) (le-total (d .«upper_bound») (Int v) n);
+            no-hole = not-has gs z (λ y. ⊎-elim
+                (λ k. made-free (d .«lower_bound») (Int u) (below u gs) z a (in-kept (λ x. ltZ x u) gs z y k))
+                (λ k. let e : z ≡ u = omega (ints, read-le z u (a .to)) in last .free (subst (λ (x : ℤ). has gs x ≡ true) e y)) (bool (ltZ z u)));
+          },
+          g,
+        );
+        of = λ z a h. made-admits (d .«lower_bound») (Int u) (below u gs) z (a .from)
+            (⊎-elim (λ k. clash (last .passed z (omega ints) h) (a .no-hole)) (λ k. show-le z u (omega ints)) (bool (ltZ u z)))
+            (λ y. clash (kept-in (λ x. ltZ x u) gs z y .0) (a .no-hole));
+      })
 
 -- ---- a value taken out
 -- d′ admits what d admits but for v, or v too
@@ -157,46 +151,38 @@ cut-none d v t = record { tight = t; to = λ z a. a; of = λ z a _. a }
 module _ (d : Domain) (v : ℤ) (t : Tight d) where
   pub low : (P : Domain → Type 0) → (d .«lower_bound» ≡ Int v → P (tightenedLower d (v +ℤ pos 1))) → (eqExt (d .«lower_bound») (Int v) ≡ false → P d) → P (withoutLower d v)
   unfolding withoutLower
-  low P f g = by (eqExt (d .«lower_bound») (Int v)) refl
-    where
-      by : (t : Bool) → eqExt (d .«lower_bound») (Int v) ≡ t → P (cond t (tightenedLower d (v +ℤ pos 1)) d)
-      by true e = f (eq-is (d .«lower_bound») v e)
-      by false e = g e
+  low P f g = elim (bool (eqExt (d .«lower_bound») (Int v))) [ inl y ↦ rw y (f (eq-is (d .«lower_bound») v y)) | inr n ↦ rw n (g n) ]
 
   pub high : (P : Domain → Type 0) → (d .«upper_bound» ≡ Int v → P (tightenedUpper d (v +ℤ negsuc 0))) → (eqExt (d .«upper_bound») (Int v) ≡ false → P d) → P (withoutUpper d v)
   unfolding withoutUpper
-  high P f g = by (eqExt (d .«upper_bound») (Int v)) refl
-    where
-      by : (t : Bool) → eqExt (d .«upper_bound») (Int v) ≡ t → P (cond t (tightenedUpper d (v +ℤ negsuc 0)) d)
-      by true e = f (eq-is (d .«upper_bound») v e)
-      by false e = g e
+  high P f g = elim (bool (eqExt (d .«upper_bound») (Int v))) [ inl y ↦ rw y (f (eq-is (d .«upper_bound») v y)) | inr n ↦ rw n (g n) ]
 
   -- past v, a lower bound is not at most v, nor an upper bound at least v
   past-low : leExt (tightenedLower d (v +ℤ pos 1) .«lower_bound») (Int v) ≡ false
   unfolding up dn
-  past-low = ⊎-elim (λ y. absurd (omega (
-    ints,
-    sumℤ v (pos 1),
-    read-le (v +ℤ pos 1) v (le-trans (Int (v +ℤ pos 1)) (tightenedLower d (v +ℤ pos 1) .«lower_bound») (Int v) (lower-reaches d (v +ℤ pos 1) t) y),
-  ))) (λ n. n)
-      (bool (leExt (tightenedLower d (v +ℤ pos 1) .«lower_bound») (Int v)))
+  past-low = elim (bool (leExt (tightenedLower d (v +ℤ pos 1) .«lower_bound») (Int v))) [
+    | inl y ↦
+        let h = read-le (v +ℤ pos 1) v (le-trans (Int (v +ℤ pos 1)) (tightenedLower d (v +ℤ pos 1) .«lower_bound») (Int v) (lower-reaches d (v +ℤ pos 1) t) y) in
+        absurd (omega (ints, sumℤ v (pos 1)))
+    | inr n ↦ n
+  ]
 
   past-high : leExt (Int v) (tightenedUpper d (v +ℤ negsuc 0) .«upper_bound») ≡ false
   unfolding up dn
-  past-high = ⊎-elim (λ y. absurd (omega (
-    ints,
-    sumℤ v (negsuc 0),
-    read-le v (v +ℤ negsuc 0) (le-trans (Int v) (tightenedUpper d (v +ℤ negsuc 0) .«upper_bound») (Int (v +ℤ negsuc 0)) y (upper-reaches d (v +ℤ negsuc 0) t)),
-  ))) (λ n. n)
-      (bool (leExt (Int v) (tightenedUpper d (v +ℤ negsuc 0) .«upper_bound»)))
+  past-high = elim (bool (leExt (Int v) (tightenedUpper d (v +ℤ negsuc 0) .«upper_bound»))) [
+    | inl y ↦
+        let h = read-le v (v +ℤ negsuc 0) (le-trans (Int v) (tightenedUpper d (v +ℤ negsuc 0) .«upper_bound») (Int (v +ℤ negsuc 0)) y (upper-reaches d (v +ℤ negsuc 0) t)) in
+        absurd (omega (ints, sumℤ v (negsuc 0)))
+    | inr n ↦ n
+  ]
 
   pub low-cut : Cut d (withoutLower d v) v
   unfolding up dn
   low-cut = low (λ e. Cut d e v)
-      (λ q. record {
-        tight = lower-tight d (v +ℤ pos 1) t;
-        to = λ z a. lower-to d (v +ℤ pos 1) t z a .0;
-        of = λ z a n. let h : v ≤ℤ z = read-le v z (subst (λ (x : IntExt). leExt x (Int z) ≡ true) q (a .from)) in lower-of d (v +ℤ pos 1) t z a (next z h n);
+      (λ q. let l = lower-leaves d (v +ℤ pos 1) t in record {
+        tight = l .tight;
+        to = λ z a. l .to z a .0;
+        of = λ z a n. let h : v ≤ℤ z = read-le v z (subst (λ (x : IntExt). leExt x (Int z) ≡ true) q (a .from)) in l .of z a (next z h n);
       })
       (λ _. cut-none d v t)
     where
@@ -206,10 +192,10 @@ module _ (d : Domain) (v : ℤ) (t : Tight d) where
   pub high-cut : Cut d (withoutUpper d v) v
   unfolding up dn
   high-cut = high (λ e. Cut d e v)
-      (λ q. record {
-        tight = upper-tight d (v +ℤ negsuc 0) t;
-        to = λ z a. upper-to d (v +ℤ negsuc 0) t z a .0;
-        of = λ z a n. let h : z ≤ℤ v = read-le z v (subst (λ (x : IntExt). leExt (Int z) x ≡ true) q (a .to)) in upper-of d (v +ℤ negsuc 0) t z a (next z h n);
+      (λ q. let l = upper-leaves d (v +ℤ negsuc 0) t in record {
+        tight = l .tight;
+        to = λ z a. l .to z a .0;
+        of = λ z a n. let h : z ≤ℤ v = read-le z v (subst (λ (x : IntExt). leExt (Int z) x ≡ true) q (a .to)) in l .of z a (next z h n);
       })
       (λ _. cut-none d v t)
     where
@@ -221,11 +207,7 @@ module _ (d : Domain) (v : ℤ) (t : Tight d) where
   low-off = low (λ e. eqExt (e .«lower_bound») (Int v) ≡ false) (λ _. rw past-low) (λ n. n)
 
   pub high-off : eqExt (withoutUpper d v .«upper_bound») (Int v) ≡ false
-  high-off = high (λ e. eqExt (e .«upper_bound») (Int v) ≡ false) (λ _. and-no (leExt (tightenedUpper d (v +ℤ negsuc 0) .«upper_bound») (Int v)) past-high) (λ n. n)
-    where
-      and-no : (a : Bool) {c : Bool} → c ≡ false → a && c ≡ false
-      and-no true e = e
-      and-no false e = refl
+  high-off = high (λ e. eqExt (e .«upper_bound») (Int v) ≡ false) (λ _. and-right (leExt (tightenedUpper d (v +ℤ negsuc 0) .«upper_bound») (Int v)) _ past-high) (λ n. n)
 
   pub high-lower : withoutUpper d v .«lower_bound» ≡ d .«lower_bound»
   high-lower = high (λ e. e .«lower_bound» ≡ d .«lower_bound») (λ _. upper-lower d (v +ℤ negsuc 0) t) (λ _. refl)
@@ -313,23 +295,13 @@ module _ (d : Domain) (v : ℤ) (t : Tight d) where
       hole-out d₂ v (high-cut d₁ v t₁ .tight) (subst (λ (x : IntExt). eqExt x (Int v) ≡ false) (sym (high-lower d₁ v t₁)) (low-off d v t)) (high-off d₁ v t₁)
 
 -- ---- every kind of atom
-pub applied-tight : (d : Domain) (k : ℕ) (v : ℤ) → Tight d → needsRoom d k v ≡ false → Tight (applied d k v)
-applied-tight d zero v t room = lower-tight d v t
-applied-tight d (suc zero) v t room = upper-tight d v t
-applied-tight d (suc (suc zero)) v t room = upper-tight (tightenedLower d v) v (lower-tight d v t)
-applied-tight d (suc (suc (suc k))) v t room = without-cut d v t room .tight
-
-pub applied-to : (d : Domain) (k : ℕ) (v : ℤ) → Tight d → needsRoom d k v ≡ false → (z : ℤ) → Admitted (applied d k v) z → Admitted d z × Compares k v z
-applied-to d zero v t room z a = lower-to d v t z a
-applied-to d (suc zero) v t room z a = upper-to d v t z a
-applied-to d (suc (suc zero)) v t room z a =
-    let (a₁, q) = upper-to (tightenedLower d v) v (lower-tight d v t) z a in
-    let (a₂, p) = lower-to d v t z a₁ in
-    (a₂, omega ints)
-applied-to d (suc (suc (suc k))) v t room z a = (without-cut d v t room .to z a, λ e. without-out d v t (subst (Admitted (without d v)) e a))
-
-pub applied-of : (d : Domain) (k : ℕ) (v : ℤ) → Tight d → needsRoom d k v ≡ false → (z : ℤ) → Admitted d z → Compares k v z → Admitted (applied d k v) z
-applied-of d zero v t room z a h = lower-of d v t z a h
-applied-of d (suc zero) v t room z a h = upper-of d v t z a h
-applied-of d (suc (suc zero)) v t room z a h = upper-of (tightenedLower d v) v (lower-tight d v t) z (lower-of d v t z a (omega ints)) (omega ints)
-applied-of d (suc (suc (suc k))) v t room z a h = without-cut d v t room .of z a h
+pub applied-leaves : (d : Domain) (k : ℕ) (v : ℤ) → Tight d → needsRoom d k v ≡ false → Leaves d (applied d k v) (Compares k v)
+applied-leaves d zero v t room = lower-leaves d v t
+applied-leaves d (suc zero) v t room = upper-leaves d v t
+applied-leaves d (suc (suc zero)) v t room =
+    let p = lower-leaves d v t in
+    let q = upper-leaves (tightenedLower d v) v (p .tight) in
+    record { tight = q .tight; to = λ z a. let (b, u) = q .to z a in let (c, l) = p .to z b in (c, omega ints); of = λ z a e. q .of z (p .of z a (omega ints)) (omega ints) }
+applied-leaves d (suc (suc (suc k))) v t room =
+    let c = without-cut d v t room in
+    record { tight = c .tight; to = λ z a. (c .to z a, λ e. without-out d v t (subst (Admitted (without d v)) e a)); of = c .of }

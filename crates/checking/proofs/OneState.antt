@@ -164,6 +164,5 @@ module _ (p : List ℤ) (ok : prepared p [] .answer ≡ Consistent) where
     pub given-twice : prepared (p ++ p) c ≡ prepared p c
     unfolding prepared rightLists
     given-twice =
-        let many : ltb (3 * PREMISES + 2) (length (p ++ p)) ≡ false = le-ltb (3 * PREMISES + 2) (length (p ++ p)) few in
         let less : ltb (3 * PREMISES + 2) (length p) ≡ false = le-ltb (3 * PREMISES + 2) (length p) short in
-        rw (many, less, words-append p p right, atoms-append p p right, with-consequent (consequentOf c)) refl
+        rw (le-ltb (3 * PREMISES + 2) (length (p ++ p)) few, less, words-append p p right, atoms-append p p right, with-consequent (consequentOf c)) refl

@@ -3,20 +3,19 @@ use mathlib.Core.Path.{_≡_, refl, sym, ap, _∙_, subst}
 use mathlib.Core.Logic.{_↔_}
 use mathlib.Core.Bool.{Bool, true, false, cond}
 use mathlib.Core.List.{List, [], _∷_}
-use Prim.Native.Nat.{ℕ, zero, suc, _+_, _*_, _≤_, _<_}
+use Prim.Native.Nat.{ℕ, _+_, _*_, _≤_, _<_}
 use native.Mathlib.Omega.{arith}
 use borrow.Author.Tests.{ltb-true, ltb-false}
 use lib.Dec.{ltb}
 use lib.IntN.{ℤ, pos, negsuc, natAbs}
-use lib.ListN.{length, getD}
+use lib.ListN.{length}
 use lib.Seq.{ext-getD}
 use Rattle.integers.specs.Answers.{answered, refusedBy}
 use Rattle.integers.specs.Limits.{VARIABLES, PREMISES}
 use Rattle.integers.proofs.Bools.{clash}
-use Rattle.scheduling.specs.Scheduling.{Atom, given, negation}
-use Rattle.scheduling.proofs.Every.{every-append, every-map}
-use Rattle.checking.specs.Atoms.{atomFrom, atomAt, atomsOf, consequentOf, rightVariable, rightAtom, rightWords, rightLists}
-use Rattle.checking.proofs.Atoms.{right-atom, right-variable, right-lists, words-known, words-three, words-at, given-none, given-one}
+use Rattle.scheduling.specs.Scheduling.{Atom, given}
+use Rattle.checking.specs.Atoms.{atomFrom, atomsOf, consequentOf, rightVariable, rightAtom, rightLists}
+use Rattle.checking.proofs.Atoms.{right-atom, right-variable, given-each}
 use Rattle.checking.specs.declared.int_ext.IntExt.{IntExt}
 use Rattle.checking.specs.declared.int_ext.IntExt.the-variants.{Int, NegativeInf, PositiveInf}
 use Rattle.checking.specs.declared.domain.Domain.{Domain}
@@ -165,18 +164,7 @@ module _ (premises consequent : List ℤ) where
 
   -- every atom is on a known variable
   pub given-known : rightLists premises consequent ≡ true → Known atoms
-  given-known y =
-      let (p, l, c) = right-lists premises consequent y in
-      let known = every-map (λ a h. h .0) (atomsOf premises) (words-known premises p) in
-      by known l c (length consequent) refl
-    where
-      by : Known (atomsOf premises) → length consequent ≤ 3 → rightWords consequent ≡ true → (n : ℕ) → length consequent ≡ n → Known atoms
-      by known l c zero e = subst Known (sym (given-none (atomsOf premises) consequent e)) known
-      by known l c (suc n) e =
-          let h = words-three consequent c (omega arith) in
-          let e₃ : length consequent ≡ 3 = omega arith in
-          let r = right-atom (getD consequent 0 (pos 0)) (getD consequent 1 (pos 0)) (getD consequent 2 (pos 0)) (words-at consequent 0 (omega arith) c .0) in
-          subst Known (sym (given-one (atomsOf premises) consequent e₃)) (every-append (λ a. a .variable < VARIABLES) (atomsOf premises) (negation (atomAt consequent 0) ∷ []) known (r .known, tt))
+  given-known = given-each (λ a. a .variable < VARIABLES) (λ a h. h .0) (λ a h. h .0) premises consequent
 
   abbrev reaches : Stops atoms emptyState → Reaches atoms
   reaches p = record { before = p .before; atom = p .atom; after = p .after; split = p .split; state = p .state; reached = p .reached }

@@ -79,7 +79,3 @@ module _ (ps cs : List ℤ) where
         (l, (lists-are ps cs .0 y, prepare-means ps cs .room l y 21 e .1)),
     λ h. ap (λ (r : Applied). applicationNumbers (r .answer)) (prepared-runs ps cs (h .0) (lists-are ps cs .1 (h .1 .0)) ∙ full-list (given (atomsOf ps) (consequentOf cs)) (h .1 .1 .0) (h .1 .1 .1)),
   )
-
-  -- no other number
-  pub prepared-number : (n : ℕ) → applicationNumbers (prepared ps cs .answer) ≡ refusedBy n → (n ≡ 7 → ⊥) → (n ≡ 6 → ⊥) → n ≡ 21
-  prepared-number n e z w = let l = few n e z in prepare-means ps cs .room l (right n e l w) n e .0

@@ -1,7 +1,7 @@
 -- The loops over the given atoms: to apply those that remain to the state so far is to prepare the whole.
 use mathlib.Core.Path.{_≡_, sym, ap, _∙_, subst}
 use mathlib.Core.Bool.{true, false}
-use mathlib.Core.List.{List, _∷_}
+use mathlib.Core.List.{List}
 use Prim.Native.Nat.{ℕ, _+_, _*_, _^_, _≤_, _<_}
 use native.Mathlib.Omega.{arith}
 use borrow.Author.Tests.{lt-ltb, le-ltb}
@@ -39,6 +39,14 @@ module _ (p c : List ℤ) where
     pub right : rightFrom p c i ≡ true
     pub whole : prepared p c ≡ applyAll (givenFrom p c i) s
 
+  -- What is known of an atom that comes next, and what follows from what it does.
+  pub record Turn (i : ℕ) (s : VariableState) (a : Atom) : Type 0 where
+    pub known : a .variable < VARIABLES
+    pub value : Within (VALUE + 1) (a .value)
+    pub consistent : (t : VariableState) → stepped s a ≡ record { answer = Consistent; state = t } → Remaining (i + 3) t
+    pub contradicts : (x : ℕ) → stepped s a ≡ record { answer = Contradiction x; state = s } → prepared p c ≡ record { answer = Contradiction x; state = s }
+    pub refused : (n : ℕ) → stepped s a ≡ record { answer = Refused n; state = s } → prepared p c ≡ record { answer = Refused n; state = emptyState }
+
   module _ (a : Applicable p c) where
     pub words-fit : length p + length c < 2 ^ 64
     words-fit = omega (arith, a .few, right-lists p c (a .right) .1)
@@ -54,28 +62,16 @@ module _ (p c : List ℤ) where
     pub none-remains : length p + length c ≤ i → prepared p c ≡ record { answer = Consistent; state = s }
     none-remains h = m .whole ∙ ap (λ (l : List Atom). applyAll l s) (given-end p c i h) ∙ all-end s
 
-    -- the next of them is a
-    module _ (q : i < length p + length c) (a : Atom) (e : a ≡ givenAt p c i) where
-      abbrev rest : List Atom
-      rest = givenFrom p c (i + 3)
-
-      is-next : Next p c i a
-      is-next = subst (Next p c i) (sym e) (next p c i q (m .right))
-
-      pub next-known : a .variable < VARIABLES
-      next-known = is-next .known
-
-      pub next-value : Within (VALUE + 1) (a .value)
-      next-value = is-next .value
-
-      from-here : prepared p c ≡ applyAll (a ∷ rest) s
-      from-here = m .whole ∙ ap (λ (l : List Atom). applyAll l s) (is-next .atoms)
-
-      pub next-consistent : (t : VariableState) → stepped s a ≡ record { answer = Consistent; state = t } → Remaining (i + 3) t
-      next-consistent t z = record { within = is-next .within; right = is-next .right; whole = from-here ∙ all-consistent s a rest t z }
-
-      pub next-contradicts : (x : ℕ) → stepped s a ≡ record { answer = Contradiction x; state = s } → prepared p c ≡ record { answer = Contradiction x; state = s }
-      next-contradicts x z = from-here ∙ all-contradiction s a rest x s z
-
-      pub next-refused : (n : ℕ) → stepped s a ≡ record { answer = Refused n; state = s } → prepared p c ≡ record { answer = Refused n; state = emptyState }
-      next-refused n z = from-here ∙ all-refused s a rest n s z
+    -- the next of them
+    pub turn : i < length p + length c → (a : Atom) → a ≡ givenAt p c i → Turn i s a
+    turn q a e =
+        let n = subst (Next p c i) (sym e) (next p c i q (m .right)) in
+        let here = m .whole ∙ ap (λ (l : List Atom). applyAll l s) (n .atoms) in
+        let rest = givenFrom p c (i + 3) in
+        record {
+          known = n .known;
+          value = n .value;
+          consistent = λ t z. record { within = n .within; right = n .right; whole = here ∙ all-consistent s a rest t z };
+          contradicts = λ x z. here ∙ all-contradiction s a rest x s z;
+          refused = λ k z. here ∙ all-refused s a rest k s z;
+        }

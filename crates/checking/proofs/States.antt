@@ -1,17 +1,14 @@
 -- States: one atom, and a list of atoms, applied to a state.
+use native.Mathlib.Decide.{ℕ-discrete}
 use mathlib.Core.Path.{_≡_, refl, sym, ap, _∙_, subst}
-use mathlib.Core.Logic.{_⊎_, inl, inr}
 use mathlib.Core.Bool.{Bool, true, false, cond}
 use mathlib.Core.List.{List, [], _∷_}
 use Prim.Native.Nat.{ℕ, _<_}
 use native.Mathlib.Omega.{arith}
-use borrow.Author.Tests.{eqb-true, eqb-false}
-use lib.Dec.{eqb}
 use lib.IntN.{ℤ}
 use lib.ListN.{length, length-set, length-replicate, getD-replicate}
 use lib.Seq.{getD-set-same, getD-set-other}
 use Rattle.integers.specs.Limits.{VARIABLES}
-use Rattle.integers.proofs.Bools.{bool}
 use Rattle.scheduling.specs.Scheduling.{Atom, Every}
 use Rattle.integers.proofs.WholeNumbers.{has-none}
 use Rattle.checking.specs.declared.int_ext.IntExt.the-variants.{NegativeInf, PositiveInf}
@@ -19,7 +16,7 @@ use Rattle.checking.specs.declared.domain.Domain.{Domain}
 use Rattle.checking.specs.declared.domain.Effect.the-variants.{Narrowed, Emptied, Full}
 use Rattle.checking.specs.declared.domain.Reduced.{Reduced}
 use Rattle.checking.specs.Domains.{Tight, consistent, applied, needsRoom, settled, reduced, allIntegers, Proper}
-use Rattle.checking.proofs.NarrowedDomains.{made-tight, applied-tight}
+use Rattle.checking.proofs.NarrowedDomains.{made-tight, applied-leaves}
 use Rattle.checking.specs.declared.variable_state.VariableState.{VariableState}
 use Rattle.checking.specs.declared.variable_state.Application.{Application}
 use Rattle.checking.specs.declared.variable_state.Application.the-variants.{Consistent, Contradiction, Refused}
@@ -41,15 +38,9 @@ module _ (d : Domain) (k : ℕ) (v : ℤ) where
       by false p true q = g p q
       by false p false q = h p q
 
-  full-narrowed {ℓ} : {X : Type ℓ} → Full ≡ Narrowed → X
-  full-narrowed e = let z : _≡_ {A = ℕ} 0 1 = cc in absurd (omega arith)
-
-  emptied-narrowed {ℓ} : {X : Type ℓ} → Emptied ≡ Narrowed → X
-  emptied-narrowed e = let z : _≡_ {A = ℕ} 0 1 = cc in absurd (omega arith)
-
   pub reduced-proper : Tight d → reduced d k v .effect ≡ Narrowed → Proper (reduced d k v .domain)
-  reduced-proper t = reduced-case (λ r. r .effect ≡ Narrowed → Proper (r .domain)) (λ _ e. full-narrowed e) (λ p q _. record { tight = applied-tight d k v t p; ordered = q })
-      (λ _ _ e. emptied-narrowed e)
+  reduced-proper t = reduced-case (λ r. r .effect ≡ Narrowed → Proper (r .domain)) (λ _ e. absurd (let z : _≡_ {A = ℕ} 0 1 = cc in omega arith))
+      (λ p q _. record { tight = applied-leaves d k v t p .tight; ordered = q }) (λ _ _ e. absurd (let z : _≡_ {A = ℕ} 0 1 = cc in omega arith))
 
 -- ---- states
 pub all-tight : Tight allIntegers
@@ -67,30 +58,27 @@ put-same s x d h = getD-set-same (s .domains) x d noDomain h
 pub put-other : (s : VariableState) (x y : ℕ) (d : Domain) → (y ≡ x → ⊥) → domainAt (put s x d) y ≡ domainAt s y
 put-other s x y d n = getD-set-other (s .domains) x y d noDomain n
 
+-- what holds of the new domain and of those that were there holds of all
+pub put-each : (P : Domain → Type 0) (s : VariableState) (x : ℕ) (d : Domain) → x < length (s .domains) → P d → (y : ℕ) → P (domainAt s y) → P (domainAt (put s x d) y)
+put-each P s x d h p y q = elim (ℕ-discrete y x) [ yes e ↦ rw e (subst P (sym (put-same s x d h)) p) | no n ↦ subst P (sym (put-other s x y d n)) q ]
+
 pub put-accepted : (s : VariableState) (x : ℕ) (d : Domain) → AcceptedState s → x < VARIABLES → Proper d → AcceptedState (put s x d)
-put-accepted s x d a h p = record {
-  size = length-set (s .domains) x d ∙ a .size;
-  each = λ y l. by y l (bool (eqb y x));
-}
-  where
-    by : (y : ℕ) → y < VARIABLES → (eqb y x ≡ true) ⊎ (eqb y x ≡ false) → Proper (domainAt (put s x d) y)
-    by y l (inl t) = let e : y ≡ x = eqb-true y x t in subst (λ (i : ℕ). Proper (domainAt (put s x d) i)) (sym e) (subst Proper (sym (put-same s x d (omega (arith, a .size)))) p)
-    by y l (inr n) = subst Proper (sym (put-other s x y d (eqb-false y x n))) (a .each y l)
+put-accepted s x d a h p = record { size = length-set (s .domains) x d ∙ a .size; each = λ y l. put-each Proper s x d (omega (arith, a .size)) p y (a .each y l) }
 
 -- ---- one atom
-pub stepped-is : (s : VariableState) (a : Atom) (r : Reduced) → r ≡ reduced (domainAt s (a .variable)) (a .kind) (a .value) → stepped s a ≡ outcome s a r
-unfolding stepped
-stepped-is s a r e = ap (outcome s a) (sym e)
+module _ (s : VariableState) (a : Atom) (r : Reduced) (is : r ≡ reduced (domainAt s (a .variable)) (a .kind) (a .value)) where
+  stepped-is : stepped s a ≡ outcome s a r
+  unfolding stepped
+  stepped-is = ap (outcome s a) (sym is)
 
-module _ (s : VariableState) (a : Atom) (r : Reduced) where
-  pub when-narrowed : r .effect ≡ Narrowed → outcome s a r ≡ record { answer = Consistent; state = put s (a .variable) (r .domain) }
-  when-narrowed e = rw e
+  pub when-narrowed : r .effect ≡ Narrowed → stepped s a ≡ record { answer = Consistent; state = put s (a .variable) (r .domain) }
+  when-narrowed e = stepped-is ∙ rw e
 
-  pub when-emptied : r .effect ≡ Emptied → outcome s a r ≡ record { answer = Contradiction (a .variable); state = s }
-  when-emptied e = rw e
+  pub when-emptied : r .effect ≡ Emptied → stepped s a ≡ record { answer = Contradiction (a .variable); state = s }
+  when-emptied e = stepped-is ∙ rw e
 
-  pub when-full : r .effect ≡ Full → outcome s a r ≡ record { answer = Refused 21; state = s }
-  when-full e = rw e
+  pub when-full : r .effect ≡ Full → stepped s a ≡ record { answer = Refused 21; state = s }
+  when-full e = stepped-is ∙ rw e
 
 -- ---- a list of atoms
 module _ (s : VariableState) (a : Atom) (rest : List Atom) where
@@ -155,7 +143,7 @@ stepped-case s a P f g h = reduced-case (domainAt s (a .variable)) (a .kind) (a 
 pub stepped-accepted : (s : VariableState) (a : Atom) → AcceptedState s → a .variable < VARIABLES → AcceptedState (stepped s a .state)
 stepped-accepted s a acc h = stepped-case s a (λ r. AcceptedState (r .state)) (λ _. acc)
     (λ p q. put-accepted s (a .variable) (applied (domainAt s (a .variable)) (a .kind) (a .value)) acc h
-    (record { tight = applied-tight (domainAt s (a .variable)) (a .kind) (a .value) (acc .each (a .variable) h .tight) p; ordered = q })) (λ _ _. acc)
+    (record { tight = applied-leaves (domainAt s (a .variable)) (a .kind) (a .value) (acc .each (a .variable) h .tight) p .tight; ordered = q })) (λ _ _. acc)
 
 pub all-accepted : (atoms : List Atom) → Every (λ a. a .variable < VARIABLES) atoms → (s : VariableState) → AcceptedState s → AcceptedState (applyAll atoms s .state)
 all-accepted [] k s acc = subst (λ (r : Applied). AcceptedState (r .state)) (sym (all-end s)) acc

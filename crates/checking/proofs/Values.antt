@@ -28,35 +28,25 @@ crossed-none d n z a = clash (le-trans (d .«lower_bound») (Int z) (d .«upper_
 module _ (d : Domain) (p : Proper d) where
   -- a bound is no hole
   lower-free : (a : ℤ) → d .«lower_bound» ≡ Int a → has (holesOf d) a ≡ true → ⊥
-  lower-free a e y =
-      let h : ltExt (Int a) (Int a) ≡ true = subst (λ (x : IntExt). ltExt x (Int a) ≡ true) e (p .tight .inside a y .0) in
-      let l : a <ℤ a = read-lt a a h in
-      omega ints
+  lower-free a e y = omega (ints, read-lt a a (subst (λ (x : IntExt). ltExt x (Int a) ≡ true) e (p .tight .inside a y .0)))
 
   upper-free : (a : ℤ) → d .«upper_bound» ≡ Int a → has (holesOf d) a ≡ true → ⊥
-  upper-free a e y =
-      let h : ltExt (Int a) (Int a) ≡ true = subst (λ (x : IntExt). ltExt (Int a) x ≡ true) e (p .tight .inside a y .1) in
-      let l : a <ℤ a = read-lt a a h in
-      omega ints
+  upper-free a e y = omega (ints, read-lt a a (subst (λ (x : IntExt). ltExt (Int a) x ≡ true) e (p .tight .inside a y .1)))
 
   -- a finite bound is admitted
   pub lower-in : (a : ℤ) → d .«lower_bound» ≡ Int a → Admitted d a
-  lower-in a e =
-      let l : a ≤ℤ a = omega ints in
-      record {
-        from = subst (λ (x : IntExt). leExt x (Int a) ≡ true) (sym e) (show-le a a l);
-        to = subst (λ (x : IntExt). leExt x (d .«upper_bound») ≡ true) e (p .ordered);
-        no-hole = not-has (holesOf d) a (lower-free a e);
-      }
+  lower-in a e = record {
+    from = subst (λ (x : IntExt). leExt x (Int a) ≡ true) (sym e) (show-le a a (omega ints));
+    to = subst (λ (x : IntExt). leExt x (d .«upper_bound») ≡ true) e (p .ordered);
+    no-hole = not-has (holesOf d) a (lower-free a e);
+  }
 
   pub upper-in : (a : ℤ) → d .«upper_bound» ≡ Int a → Admitted d a
-  upper-in a e =
-      let l : a ≤ℤ a = omega ints in
-      record {
-        from = subst (λ (x : IntExt). leExt (d .«lower_bound») x ≡ true) e (p .ordered);
-        to = subst (λ (x : IntExt). leExt (Int a) x ≡ true) (sym e) (show-le a a l);
-        no-hole = not-has (holesOf d) a (upper-free a e);
-      }
+  upper-in a e = record {
+    from = subst (λ (x : IntExt). leExt (d .«lower_bound») x ≡ true) e (p .ordered);
+    to = subst (λ (x : IntExt). leExt (Int a) x ≡ true) (sym e) (show-le a a (omega ints));
+    no-hole = not-has (holesOf d) a (upper-free a e);
+  }
 
   pub lower-least : (a : ℤ) → d .«lower_bound» ≡ Int a → Least whole (Admitted d) a
   lower-least a e = record { holds = lower-in a e; bounds = λ w m. read-le a w (subst (λ (x : IntExt). leExt x (Int w) ≡ true) e (m .from)) }

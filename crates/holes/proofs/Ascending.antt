@@ -9,7 +9,7 @@ use native.Mathlib.Numerals.{add-one}
 use lib.IntN.{ℤ, pos, negsuc, _+ℤ_}
 use lib.ListN.{length, getD, take, drop}
 use lib.Seq.{slice-cons, slice-empty}
-use lib.Signed.{leZ, ltZ, _≤ℤ_, _<ℤ_}
+use lib.Signed.{leZ, ltZ, _<ℤ_}
 use Rattle.integers.proofs.Bools.{bool, clash}
 use Rattle.integers.proofs.Ints.{ints, up, dn, sumℤ, le-leZ}
 use Rattle.holes.specs.Holes.{Ascending, kept, below, above, inserted, rank, stepUp, stepDown, firstFrom, lastUpTo, First, Last}
@@ -142,11 +142,8 @@ pub at-rank : (x : ℤ) (hs : List ℤ) → Ascending hs → has hs x ≡ true �
 unfolding rank
 at-rank x [] a y = absurd (has-none x y)
 at-rank x (h ∷ hs) a y = ⊎-elim
-    (λ e. let t : leZ x h ≡ true = le-leZ x h (at-most e) in rw t (omega arith, e))
+    (λ (e : h ≡ x). let t : leZ x h ≡ true = le-leZ x h (omega ints) in rw t (omega arith, e))
     (λ t. let r = at-rank x hs (a .1) t in let f : leZ x h ≡ false = lt-leZ x h (omega (ints, a .0 x t)) in rw f (omega arith, r .1)) (has-cases h hs x y)
-  where
-    at-most : h ≡ x → x ≤ℤ h
-    at-most e = omega ints
 
 -- ---- a value put in
 pub inserted-at : (x : ℤ) (hs : List ℤ) → Ascending hs → (has hs x ≡ true → ⊥) → inserted x hs ≡ take (rank x hs) hs ++ x ∷ drop (rank x hs) hs

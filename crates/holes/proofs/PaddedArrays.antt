@@ -1,4 +1,5 @@
 -- The places of an array of holes: the holes at the front, and 0 past them.
+use Rattle.integers.specs.FilledLists.{filled}
 use mathlib.Core.Path.{_≡_, refl, sym, ap, _∙_}
 use mathlib.Core.Bool.{true, cond, _&&_}
 use mathlib.Core.List.{List, [], _∷_, _++_}
@@ -13,7 +14,7 @@ use lib.ListN.{length, getD, take, drop, replicate, length-append, length-replic
 use lib.Seq.{drop-cons, length-take-le, getD-take, getD-drop, getD-at, ext-getD, getD-append-add, take-append-seam}
 use Rattle.integers.specs.Limits.{HOLES}
 use Rattle.integers.proofs.Bools.{and-true}
-use Rattle.integers.proofs.FilledLists.{getD-fresh}
+use Rattle.integers.proofs.FilledLists.{getD-fresh, filled-length, filled-at, filled-past}
 use Rattle.holes.specs.Holes.{padded, zeros, shiftedAt}
 use Rattle.integers.specs.WholeNumbers.{eqZ}
 use Rattle.integers.proofs.WholeNumbers.{eqZ-same}
@@ -27,16 +28,16 @@ module _ (l : List ℤ) (fits : length l ≤ HOLES) where
       let e : k ≡ length l + (k - length l) = omega arith in
       ap (λ (i : ℕ). getD (padded l) i (pos 0)) e ∙ getD-append-add l (replicate (HOLES - length l) (pos 0)) (k - length l) (pos 0) ∙ getD-fresh (pos 0) (HOLES - length l) (k - length l)
 
-  -- an array that holds l at the front and 0 past it
-  pub fills : (out : List ℤ) → length out ≡ HOLES → ((k : ℕ) → k < length l → getD out k (pos 0) ≡ getD l k (pos 0)) → ((k : ℕ) → length l ≤ k → getD out k (pos 0) ≡ pos 0) → out ≡ padded l
-  fills out size lo hi = ext-getD (pos 0) out (padded l) (size ∙ sym padded-length) at
-    where
-      at : (k : ℕ) → k < length out → getD out k (pos 0) ≡ getD (padded l) k (pos 0)
-      at k h = by (decLt k (length l))
-        where
-          by : Dec (k < length l) → getD out k (pos 0) ≡ getD (padded l) k (pos 0)
-          by (yes q) = lo k q ∙ sym (List·getD-append l (replicate (HOLES - length l) (pos 0)) (pos 0) k q)
-          by (no q) = let g : length l ≤ k = omega arith in hi k g ∙ sym (past k g)
+  abbrev zeroed : List ℤ
+  zeroed = replicate HOLES (pos 0)
+
+  -- what a loop leaves that puts l into an array of zeros
+  pub filled-padded : (f : ℕ → ℤ) → ((k : ℕ) → k < length l → f k ≡ getD l k (pos 0)) → filled f (length l) (replicate HOLES (pos 0)) ≡ padded l
+  filled-padded f same = ext-getD (pos 0) _ (padded l) (filled-length f (length l) zeroed ∙ length-replicate HOLES (pos 0) ∙ sym padded-length) (λ k _. elim (decLt k (length l)) [
+    | yes q ↦ filled-at f (length l) zeroed (pos 0) k q (omega (arith, length-replicate HOLES (pos 0))) ∙ same k q
+        ∙ sym (List·getD-append l (replicate (HOLES - length l) (pos 0)) (pos 0) k q)
+    | no q ↦ filled-past f (length l) zeroed (pos 0) k (omega arith) ∙ getD-fresh (pos 0) HOLES k ∙ sym (past k (omega arith))
+  ])
 
 -- what stands where once x is put in at p
 pub shifted-is : (l : List ℤ) (n p : ℕ) (x : ℤ) → p ≤ n → n ≤ length l → (k : ℕ) → k < n + 1 → shiftedAt l p x k ≡ getD (take p (take n l) ++ x ∷ drop p (take n l)) k (pos 0)

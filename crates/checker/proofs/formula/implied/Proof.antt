@@ -13,7 +13,7 @@ use Rattle.chosen_sets.specs.TaskArrays.{HeldSet}
 use Rattle.checking.specs.TaskBounds.{boundsIn}
 use Rattle.checker.specs.BoundArrays.{Bounding, intervalOf}
 use Rattle.checker.proofs.EarlyAnswers.{none-after, joint-fits, room-before, after-where, theta-held}
-use Rattle.checker.proofs.TaskLoop.{start-fits}
+use Rattle.checker.proofs.TaskLoop.{ends-fit}
 use Rattle.checker.proofs.formula.implied.Statement.{statement}
 use Rattle.checker.proofs.formula.implied.Tie as tie
 
@@ -46,7 +46,7 @@ sums-fit c =
     joint-fits (held (start g) d) _ (said g d) (d .late) (start g .args .propagating-task) q (not-false _ (c .if1 .left))
 
 cast-start : tie.Need-cast-start
-cast-start c = let s = c .before .before .before .before .before in let (q, (J, Ω, d)) = s .pre in record { fits = start-fits (d .held) (d .late) (s .args .propagating-task) q }
+cast-start c = let s = c .before .before .before .before .before in let (q, (J, Ω, d)) = s .pre in record { fits = omega (arith, ends-fit (d .held) (d .late) (s .args .propagating-task) q) }
 
 add-if2 : tie.Need-add-if2
 add-if2 c = omega (arith, c .before .min64 .ensures, sums-fit (c .before .before .before) .0)

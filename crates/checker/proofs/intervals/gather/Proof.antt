@@ -10,7 +10,7 @@ use Rattle.scheduling.specs.Scheduling.{natural, Tasks, TaskSet}
 use Rattle.checker.specs.declared.intervals.Interval.{Interval}
 use Rattle.chosen_sets.specs.TaskArrays.{HeldSet, Late}
 use Rattle.checker.specs.BoundArrays.{intervalOf}
-use Rattle.checker.proofs.TaskLoop.{none-gathered, duration-fits, start-fits, latest-fits, completion-fits, sum-fits, next-gathered}
+use Rattle.checker.proofs.TaskLoop.{none-gathered, ends-fit, sum-fits, next-gathered}
 use Rattle.checker.proofs.intervals.gather.Statement.{statement}
 use Rattle.checker.proofs.intervals.gather.Tie as tie
 
@@ -32,25 +32,10 @@ inside c = omega arith
 loop-holds : tie.Need-loop-holds Inv-loop μ-loop
 loop-holds c = record { some = c .pre; at = λ J Ω h l. none-gathered J Ω; small = omega arith }
 
-cast-p : tie.Need-cast-p Inv-loop μ-loop
-cast-p c =
-    let v = c .before .before .loop .inv .some in
-    record { fits = duration-fits (v .2) (v .3) (c .before .before .loop .i) (inside (c .before)) }
-
-cast-with : tie.Need-cast-with Inv-loop μ-loop
-cast-with c =
-    let v = c .before .before .before .before .loop .inv .some in
-    record { fits = start-fits (v .2) (v .3) (c .before .before .before .before .loop .i) (inside (c .before .before .before)) }
-
-cast-with-2 : tie.Need-cast-with-2 Inv-loop μ-loop
-cast-with-2 c =
-    let v = c .before .before .before .before .before .loop .inv .some in
-    record { fits = latest-fits (v .2) (v .3) (c .before .before .before .before .before .loop .i) (inside (c .before .before .before .before)) }
-
-add-with : tie.Need-add-with Inv-loop μ-loop
-add-with c =
-    let v = c .before .before .before .before .before .loop .inv .some in
-    omega (arith, completion-fits (v .2) (v .3) (c .before .before .before .before .before .loop .i) (inside (c .before .before .before .before)))
+-- no sum of a task's numbers leaves 32 bits
+ends : (c : tie.In-loop Inv-loop μ-loop) → let a = c .before .before .args in let i = c .before .loop .i in
+    (getD (a .est .now) i 0 + getD (a .durations .now) i 0 < 4294967296) × (getD (a .lst .now) i 0 + getD (a .durations .now) i 0 < 4294967296)
+ends c = let v = c .before .loop .inv .some in ends-fit (v .2) (v .3) (c .before .loop .i) (inside c)
 
 with-requires : tie.Need-with-requires Inv-loop μ-loop
 with-requires c κs =
@@ -78,6 +63,9 @@ pub gather-spec : {M : Type 1} → statement M
 gather-spec =
     tie.close
     (tie.spec
-    Inv-loop μ-loop loop-holds (λ c. search needs) (λ c. search needs) cast-p (λ c. search needs) (λ c. search needs)
-    (λ c. search needs) cast-with (λ c. search needs) (λ c. search needs) cast-with-2 add-with with-requires
-    (λ c. search needs) (λ c. search needs) loop-again returns)
+    Inv-loop μ-loop loop-holds (λ c. search needs) (λ c. search needs)
+    (λ c. record { fits = omega (arith, ends (c .before)) }) (λ c. search needs) (λ c. search needs) (λ c. search needs)
+    (λ c. record { fits = omega (arith, ends (c .before .before .before)) }) (λ c. search needs) (λ c. search needs)
+    (λ c. record { fits = omega (arith, ends (c .before .before .before .before)) })
+    (λ c. omega (arith, ends (c .before .before .before .before))) with-requires (λ c. search needs) (λ c. search needs)
+    loop-again returns)

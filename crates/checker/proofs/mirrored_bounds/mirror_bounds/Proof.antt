@@ -1,4 +1,5 @@
 -- The invariant: the tasks below i have their mirrored bounds, and the others those that were lent.
+use Rattle.checker.proofs.TaskLoop.{ends-fit}
 use mathlib.Core.Path.{_≡_, sym, ap, _∙_}
 use mathlib.Core.Bool.{false}
 use mathlib.Core.List.{List}
@@ -10,7 +11,7 @@ use Rattle.integers.specs.FilledLists.{filled}
 use Rattle.integers.proofs.FilledLists.{filled-none, filled-store, filled-past}
 use Rattle.checking.specs.TaskBounds.{Bounds, boundsIn}
 use Rattle.checker.specs.BoundArrays.{mirroredMoment, mirroredBounds}
-use Rattle.checker.proofs.MirroredBounds.{lasts-one, lst-mirrors, est-mirrors}
+use Rattle.checker.proofs.MirroredBounds.{lasts-one}
 use Rattle.checker.proofs.mirrored_bounds.mirror_bounds.Statement.{statement}
 use Rattle.checker.proofs.mirrored_bounds.mirror_bounds.Tie as tie
 
@@ -64,7 +65,7 @@ module _ (c : tie.In-loop Inv-loop μ-loop) where
 
   sums-fit : (getD (c .before .loop .lst) i 0 + getD durations i 0 < 4294967296) × (getD (c .before .loop .est) i 0 + getD durations i 0 < 4294967296)
   sums-fit = let (J, Ω, d) = c .before .before .pre in
-      (omega (arith, lst-here, lst-mirrors (d .held) (d .late) i inside), omega (arith, est-here, est-mirrors (d .held) (d .late) i inside))
+      let (e, l) = ends-fit (d .held) (d .late) i inside in (omega (arith, lst-here), omega (arith, est-here))
 
   -- so the moment is that of what was lent
   moment-here : {t t′ : ℕ} → t ≡ t′ → mirroredMoment (getD (lent .bounded) i false) t (getD durations i 0) ≡ mirroredMoment (getD (lent .bounded) i false) t′ (getD durations i 0)

@@ -14,9 +14,6 @@ returns c =
     let a = c .before .args in
     sym (ap (λ (b : Bool). mirroredMoment b (a .t) (a .p)) (not-true (a .known) (c .if1 .taken)))
 
-add-result-2 : tie.Need-add-result-2
-add-result-2 c = search needs
-
 returns-2 : tie.Need-returns-2
 returns-2 c =
     let a = c .before .args in
@@ -24,4 +21,5 @@ returns-2 c =
     z ∙ sym (ap (λ (b : Bool). mirroredMoment b (a .t) (a .p)) (not-false (a .known) (c .if1 .left)))
 
 pub mirrored-moment-spec : {M : Type 1} → statement M
-mirrored-moment-spec = tie.close (tie.spec returns (λ c. search needs) (λ c. search needs) add-result-2 returns-2)
+mirrored-moment-spec =
+    tie.close (tie.spec returns (λ c. search needs) (λ c. search needs) (λ c. search needs) returns-2)

@@ -10,12 +10,6 @@ use borrow.Author.Needs.{needs}
 use Rattle.checking.proofs.atomic_constraint.atom_at.Statement.{statement}
 use Rattle.checking.proofs.atomic_constraint.atom_at.Tie as tie
 
-shared-slice-copy-out-new-2 : tie.Need-shared-slice-copy-out-new-2
-shared-slice-copy-out-new-2 c = omega arith
-
-shared-slice-copy-out-new-3 : tie.Need-shared-slice-copy-out-new-3
-shared-slice-copy-out-new-3 c = omega arith
-
 new-requires : tie.Need-new-requires
 new-requires c κs =
     let s = c .before .before .before in
@@ -33,5 +27,5 @@ pub atom-at-spec : {M : Type 1} → statement M
 atom-at-spec =
     tie.close
     (tie.spec
-    (λ c. search needs) (λ c. search needs) (λ c. search needs) (λ c. search needs) shared-slice-copy-out-new-2
-    (λ c. search needs) (λ c. search needs) shared-slice-copy-out-new-3 new-requires returns)
+    (λ c. search needs) (λ c. search needs) (λ c. search needs) (λ c. search needs) (λ c. omega arith) (λ c. search needs)
+    (λ c. search needs) (λ c. omega arith) new-requires returns)

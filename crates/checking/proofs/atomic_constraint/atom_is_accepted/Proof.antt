@@ -1,6 +1,6 @@
 -- At each return the tests before it are passed and its own is not, so the conjunction has that value.
 use mathlib.Core.Path.{_≡_, sym, ap, _∙_}
-use mathlib.Core.Bool.{true, false}
+use mathlib.Core.Bool.{true}
 use borrow.Author.Tests.{not-true, not-false}
 use lib.IntN.{ℤ, pos, negℤ}
 use lib.Signed.{leZ}
@@ -14,17 +14,11 @@ use Rattle.checking.proofs.atomic_constraint.atom_is_accepted.Tie as ti
 
 returns : tie.Need-returns
 unfolding rightAtom
-returns c =
-    let s = c .before .before in
-    let t : rightVariable (s .args .variable) ≡ false = ap rightVariable (sym (back (s .fits .variable))) ∙ sym (c .before .variable-is-accepted .ensures)
-    ∙ not-true (c .before .variable-is-accepted .result) (c .if1 .taken) in
-    rw t
+returns c = rw (← back (c .before .before .fits .variable), sym (c .before .variable-is-accepted .ensures) ∙ not-true _ (c .if1 .taken))
 
 -- what is known once the variable is
 known : (c : tie.Else1) → rightVariable (c .before .before .args .variable) ≡ true
-known c =
-    let s = c .before .before in
-    ap rightVariable (sym (back (s .fits .variable))) ∙ sym (c .before .variable-is-accepted .ensures) ∙ not-false (c .before .variable-is-accepted .result) (c .if1 .left)
+known c = rw (← back (c .before .before .fits .variable)) (sym (c .before .variable-is-accepted .ensures) ∙ not-false _ (c .if1 .left))
 
 kind-low : (c : tie.Else2) → leZ (pos 0) (c .before .before .before .args .kind) ≡ true
 kind-low c = let s = c .before .before .before in le-leZ (pos 0) (s .args .kind) (omega (ints, back (s .fits .kind)))
@@ -34,31 +28,23 @@ kind-high c = let s = c .before .before .before .before in le-leZ (s .args .kind
 
 returns-2 : tie.Need-returns-2
 unfolding rightAtom
-returns-2 c =
-    let s = c .before .before .before in
-    let t : leZ (pos 0) (s .args .kind) ≡ false = lt-leZ (pos 0) (s .args .kind) (omega (ints, back (s .fits .kind))) in
-    rw (known (c .before), t)
+returns-2 c = let s = c .before .before .before in rw (known (c .before), lt-leZ (pos 0) (s .args .kind) (omega (ints, back (s .fits .kind))))
 
 returns-3 : tie.Need-returns-3
 unfolding rightAtom
-returns-3 c =
-    let s = c .before .before .before .before in
-    let t : leZ (s .args .kind) (pos 3) ≡ false = lt-leZ (s .args .kind) (pos 3) (omega (ints, back (s .fits .kind))) in
-    rw (known (c .before .before), kind-low (c .before), t)
+returns-3 c = let s = c .before .before .before .before in
+    rw (known (c .before .before), kind-low (c .before), lt-leZ (s .args .kind) (pos 3) (omega (ints, back (s .fits .kind))))
 
 returns-4 : tie.Need-returns-4
 unfolding rightAtom
-returns-4 c =
-    let s = c .before .before .before .before .before in
-    let t : leZ (negℤ (pos VALUE)) (s .args .value) ≡ false = lt-leZ (negℤ (pos VALUE)) (s .args .value) (omega (ints, back (s .fits .value))) in
-    rw (known (c .before .before .before), kind-low (c .before .before), kind-high (c .before), t)
+returns-4 c = let s = c .before .before .before .before .before in
+    rw (known (c .before .before .before), kind-low (c .before .before), kind-high (c .before), lt-leZ (negℤ (pos VALUE)) (s .args .value) (omega (ints, back (s .fits .value))))
 
 returns-5 : tie.Need-returns-5
 unfolding rightAtom
-returns-5 c =
-    let s = c .before .before .before .before .before in
-    let t : leZ (negℤ (pos VALUE)) (s .args .value) ≡ true = le-leZ (negℤ (pos VALUE)) (s .args .value) (omega (ints, back (s .fits .value))) in
-    rw (known (c .before .before .before), kind-low (c .before .before), kind-high (c .before), t) (ap (λ (z : ℤ). leZ z (pos VALUE)) (back (s .fits .value)))
+returns-5 c = let s = c .before .before .before .before .before in
+    rw (known (c .before .before .before), kind-low (c .before .before), kind-high (c .before), le-leZ (negℤ (pos VALUE)) (s .args .value) (omega (ints, back (s .fits .value))))
+    (ap (λ (z : ℤ). leZ z (pos VALUE)) (back (s .fits .value)))
 
 pub atom-is-accepted-spec : {M : Type 1} → statement M
 atom-is-accepted-spec =

@@ -21,8 +21,7 @@ atom-at-requires c κs =
 returns : tie.Need-returns
 returns c =
     let s = c .before .before in
-    let y = lt-ltb (s .args .i) (length (s .args .premises .now)) (c .before .if1 .taken) in
-    rw y (c .atom-at .ensures)
+    rw (lt-ltb (s .args .i) (length (s .args .premises .now)) (c .before .if1 .taken)) (c .atom-at .ensures)
 
 atom-at-requires-2 : tie.Need-atom-at-requires-2
 atom-at-requires-2 c κs =
@@ -40,8 +39,7 @@ negate-requires c κs =
 returns-2 : tie.Need-returns-2
 returns-2 c =
     let s = c .before .before .before in
-    let n = le-ltb (s .args .i) (length (s .args .premises .now)) (c .before .before .if1 .left) in
-    rw n (c .negate .ensures ∙ ap negation (c .before .atom-at2 .ensures))
+    rw (le-ltb (s .args .i) (length (s .args .premises .now)) (c .before .before .if1 .left)) (c .negate .ensures ∙ ap negation (c .before .atom-at2 .ensures))
 
 pub given-at-spec : {M : Type 1} → statement M
 given-at-spec =

@@ -19,9 +19,6 @@ Inv-loop words i₀ i = (i ≤ length words) × (rightWords (drop i words) ≡ r
 abbrev μ-loop : tie.MeasureT-loop
 μ-loop words i₀ i = length words - i
 
-loop-holds : tie.Need-loop-holds Inv-loop μ-loop
-loop-holds c = (omega arith, refl)
-
 returns : tie.Need-returns Inv-loop μ-loop
 returns c =
     let l = c .before .before .loop in
@@ -57,14 +54,12 @@ loop-again c =
 returns-3 : tie.Need-returns-3 Inv-loop μ-loop
 returns-3 c =
     let l = c .before .loop in
-    let words = c .before .before .args .words .now in
-    sym (sym (l .inv .1) ∙ ap rightWords (drop-of-length-le words {i = l .i} (omega arith)) ∙ words-none)
+    sym (sym (l .inv .1) ∙ ap rightWords (drop-of-length-le (c .before .before .args .words .now) {i = l .i} (omega arith)) ∙ words-none)
 
 pub words-are-accepted-spec : {M : Type 1} → statement M
 words-are-accepted-spec =
     tie.close
     (tie.spec
-    Inv-loop μ-loop loop-holds (λ c. search needs) returns (λ c. search needs) (λ c. search needs)
-    (λ c. search needs) (λ c. search needs) (λ c. search needs) (λ c. search needs)
-    (λ c. search needs) (λ c. search needs) (λ c κs. search needs) returns-2 (λ c. search needs)
-    (λ c. search needs) loop-again returns-3)
+    Inv-loop μ-loop (λ c. (omega arith, refl)) (λ c. search needs) returns (λ c. search needs) (λ c. search needs)
+    (λ c. search needs) (λ c. search needs) (λ c. search needs) (λ c. search needs) (λ c. search needs) (λ c. search needs)
+    (λ c κs. search needs) returns-2 (λ c. search needs) (λ c. search needs) loop-again returns-3)

@@ -8,14 +8,12 @@ use lib.IntN.{ℤ}
 use borrow.Author.Tests.{not-true, not-false, leb-false}
 use lib.ListN.{length, set}
 use mir.Syntax.{w32}
-use Rattle.integers.specs.Limits.{VARIABLES, VALUE}
 use Rattle.integers.proofs.Ints.{back-of}
 use Rattle.scheduling.specs.Scheduling.{Atom}
-use Rattle.integers.specs.WholeNumbers.{Within}
 use Rattle.checking.specs.Atoms.{kindOf, atomOf}
 use Rattle.checking.specs.BoundWords.{appliedWords, consistentWords, wordsAt, HeldWords}
-use Rattle.checking.proofs.HeldWords.{none-held, held-contradiction, held-consistent, held-next}
-use Rattle.checking.proofs.Remaining.{Remaining, words-fit, all-remain, none-remains, next-known, next-value, next-consistent, next-contradicts}
+use Rattle.checking.proofs.HeldWords.{none-held, held-contradiction, held-next}
+use Rattle.checking.proofs.Remaining.{Remaining, words-fit, all-remain, none-remains, Turn, turn}
 use Rattle.checking.specs.declared.bound_words.BoundWords.{BoundWords}
 use Rattle.checking.specs.declared.variable_state.VariableState.{VariableState}
 use Rattle.checking.specs.declared.variable_state.Applied.{Applied}
@@ -49,37 +47,22 @@ cs c = c .before .before .args .consequent .now
 inside : (c : tie.In-loop Inv-loop μ-loop) → c .before .loop .i < length (ps c) + length (cs c)
 inside c = omega (arith, c .before .loop .inv .2 .within)
 
-given-at-requires : tie.Need-given-at-requires Inv-loop μ-loop
-given-at-requires c κs = (inside c, c .before .loop .inv .2 .right)
-
 -- the atom that was read
 module _ (c : tie.After-given-at Inv-loop μ-loop) where
   abbrev atom : Atom
   atom = atomOf (c .given-at .result)
 
-  known : c .given-at .result .identifier < VARIABLES
-  known = let l = c .before .before .loop in next-known (ps (c .before)) (cs (c .before)) (l .i) _ (l .inv .2) (inside (c .before)) atom (c .given-at .ensures)
-
-  value : Within (VALUE + 1) (c .given-at .result .value)
-  value = let l = c .before .before .loop in next-value (ps (c .before)) (cs (c .before)) (l .i) _ (l .inv .2) (inside (c .before)) atom (c .given-at .ensures)
+  next : let l = c .before .before .loop in Turn (ps (c .before)) (cs (c .before)) (l .i) (l .inv .0) atom
+  next = let l = c .before .before .loop in turn (ps (c .before)) (cs (c .before)) (l .i) _ (l .inv .2) (inside (c .before)) atom (c .given-at .ensures)
 
 -- where it makes no hole
 abbrev read : tie.Else1 Inv-loop μ-loop → tie.After-given-at Inv-loop μ-loop
 read c = c .before .before .before
 
-mul-t17 : tie.Need-mul-t17 Inv-loop μ-loop
-mul-t17 c = omega (arith, known (read c))
-
-mul-t21 : tie.Need-mul-t21 Inv-loop μ-loop
-mul-t21 c = omega (arith, known (read (c .before)))
-
 -- where the atom was applied: the atom, the state that the words held, and the words that the atom makes of them
 module _ (c : tie.After-apply Inv-loop μ-loop) where
   abbrev whole : tie.Else1 Inv-loop μ-loop
   whole = c .before .before .before
-
-  abbrev turn : tie.In-loop Inv-loop μ-loop
-  turn = read (c .before .before .before) .before
 
   abbrev l : tie.At-loop Inv-loop μ-loop
   l = read (c .before .before .before) .before .before
@@ -109,29 +92,18 @@ returns-2 : tie.Need-returns-2 Inv-loop μ-loop
 returns-2 c =
     let b = c .before .before in
     let k = l b .loop in
-    let r = read (whole b) in
-    ap (λ (p : Applied). p .answer) (next-contradicts (ps (turn b)) (cs (turn b)) (k .i) (s b) (k .inv .2) (inside (turn b)) (a b) (r .given-at .ensures) (a b .variable)
-    (held-contradiction (s b) (k .lower) (k .upper) (k .inv .1) (a b) (known r) (kind b) (value r) (answered (c .before) (not-true _ (c .if2 .taken)))))
-
-mul-lower : tie.Need-mul-lower Inv-loop μ-loop
-mul-lower c = omega (arith, known (read (whole (c .before .before))))
-
-mul-upper : tie.Need-mul-upper Inv-loop μ-loop
-mul-upper c = omega (arith, known (read (whole (c .before .before))))
+    let n = next (read (whole b)) in
+    ap (λ (p : Applied). p .answer) (n .contradicts (a b .variable)
+    (held-contradiction (s b) (k .lower) (k .upper) (k .inv .1) (a b) (n .known) (kind b) (n .value) (answered (c .before) (not-true _ (c .if2 .taken)))))
 
 loop-again : tie.Need-loop-again Inv-loop μ-loop
 loop-again c =
     let b = c .before .before in
     let k = l b .loop in
-    let r = read (whole b) in
-    let y = answered (c .before) (not-false _ (c .if2 .left)) in
-    let t : VariableState = put (s b) (a b .variable) (applied (domainAt (s b) (a b .variable)) (a b .kind) (a b .value)) in (
-      t,
-      subst (λ (w : BoundWords). HeldWords t (set (k .lower) (a b .variable) (w .lower)) (set (k .upper) (a b .variable) (w .upper))) (sym (said b))
-          (held-next (s b) (k .lower) (k .upper) (k .inv .1) (a b) (known r) (kind b) (value r) y),
-      next-consistent (ps (turn b)) (cs (turn b)) (k .i) (s b) (k .inv .2) (inside (turn b)) (a b) (r .given-at .ensures) t
-          (held-consistent (s b) (k .lower) (k .upper) (k .inv .1) (a b) (known r) (kind b) (value r) y),
-    )
+    let n = next (read (whole b)) in
+    let (step, held) = held-next (s b) (k .lower) (k .upper) (k .inv .1) (a b) (n .known) (kind b) (n .value) (answered (c .before) (not-false _ (c .if2 .left))) in
+    let t : VariableState = put (s b) (a b .variable) (applied (domainAt (s b) (a b .variable)) (a b .kind) (a b .value)) in
+    (t, subst (λ (w : BoundWords). HeldWords t (set (k .lower) (a b .variable) (w .lower)) (set (k .upper) (a b .variable) (w .upper))) (sym (said b)) held, n .consistent t step)
 
 returns-3 : tie.Need-returns-3 Inv-loop μ-loop
 returns-3 c =
@@ -144,7 +116,10 @@ pub apply-all-spec : {M : Type 1} → statement M
 apply-all-spec =
     tie.close
     (tie.spec
-    Inv-loop μ-loop add-words loop-holds given-at-requires (λ c κs. search needs) (λ c. tt) mul-t17 (λ c. known (read c)) mul-t21
-    (λ c. known (read (c .before))) (λ c κs. search needs) (λ c κs. search needs) returns-2 mul-lower
-    (λ c. known (read (whole (c .before .before)))) mul-upper (λ c. known (read (whole (c .before .before))))
-    (λ c. search needs) (λ c. search needs) loop-again returns-3)
+    Inv-loop μ-loop add-words loop-holds (λ c κs. (inside c, c .before .loop .inv .2 .right)) (λ c κs. search needs)
+    (λ c. tt) (λ c. omega (arith, next (read c) .known)) (λ c. next (read c) .known)
+    (λ c. omega (arith, next (read (c .before)) .known)) (λ c. next (read (c .before)) .known) (λ c κs. search needs)
+    (λ c κs. search needs) returns-2 (λ c. omega (arith, next (read (whole (c .before .before))) .known))
+    (λ c. next (read (whole (c .before .before))) .known)
+    (λ c. omega (arith, next (read (whole (c .before .before))) .known))
+    (λ c. next (read (whole (c .before .before))) .known) (λ c. search needs) (λ c. search needs) loop-again returns-3)

@@ -29,9 +29,6 @@ returns-2 c =
 applicable : (c : tie.Else2) → Applicable (c .before .before .before .args .premises .now) (c .before .before .before .args .consequent .now)
 applicable c = record { few = omega arith; right = sym (c .before .lists-are-accepted .ensures) ∙ not-false (c .before .lists-are-accepted .result) (c .if2 .left) }
 
-apply-all-requires : tie.Need-apply-all-requires
-apply-all-requires c κs = (applicable (c .before .before), (refl, refl))
-
 prepare-domains-requires : tie.Need-prepare-domains-requires
 prepare-domains-requires c κs =
     let passed = c .before .before .before .before .before .before .before .before in
@@ -60,5 +57,6 @@ pub prepare-bounds-spec : {M : Type 1} → statement M
 prepare-bounds-spec =
     tie.close
     (tie.spec
-    (λ c. search needs) (λ c. search needs) returns (λ c κs. search needs) returns-2 apply-all-requires (λ c. search needs)
-    (λ c κs. search needs) (λ c. search needs) (λ c. search needs) prepare-domains-requires returns-3 returns-4 (λ c. search needs))
+    (λ c. search needs) (λ c. search needs) returns (λ c κs. search needs) returns-2
+    (λ c κs. (applicable (c .before .before), (refl, refl))) (λ c. search needs) (λ c κs. search needs) (λ c. search needs)
+    (λ c. search needs) prepare-domains-requires returns-3 returns-4 (λ c. search needs))

@@ -15,9 +15,6 @@ Inv-loop bounded₀ est₀ lst₀ n state i₀ bounded est lst i = (i ≤ n) × 
 abbrev μ-loop : tie.MeasureT-loop
 μ-loop bounded₀ est₀ lst₀ n state i₀ bounded est lst i = n - i
 
-loop-holds : tie.Need-loop-holds Inv-loop μ-loop
-loop-holds c = (omega arith, none-filled (boundsAt (c .args .t4)) (c .pre .2))
-
 loop-again : tie.Need-loop-again Inv-loop μ-loop
 loop-again c =
     let read = c .before .before .before .before in
@@ -36,5 +33,6 @@ pub bounds-of-spec : {M : Type 1} → statement M
 bounds-of-spec =
     tie.close
     (tie.spec
-    Inv-loop μ-loop loop-holds (λ c. search needs) (λ c. search needs) (λ c κs. search needs) (λ c κs. search needs)
-    (λ c. search needs) (λ c. search needs) loop-again returns)
+    Inv-loop μ-loop (λ c. (omega arith, none-filled (boundsAt (c .args .t4)) (c .pre .2))) (λ c. search needs)
+    (λ c. search needs) (λ c κs. search needs) (λ c κs. search needs) (λ c. search needs) (λ c. search needs) loop-again
+    returns)

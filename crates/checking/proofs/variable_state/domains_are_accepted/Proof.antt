@@ -22,9 +22,6 @@ Inv-loop domains i₀ i = (i ≤ VARIABLES) × ((accepted (drop i domains) ≡ a
 abbrev μ-loop : tie.MeasureT-loop
 μ-loop domains i₀ i = VARIABLES - i
 
-loop-holds : tie.Need-loop-holds Inv-loop μ-loop
-loop-holds c = (omega arith, (refl, below-none _))
-
 returns : tie.Need-returns Inv-loop μ-loop
 returns c =
     let s = c .before .before .before .before .before in
@@ -52,5 +49,5 @@ pub domains-are-accepted-spec : {M : Type 1} → statement M
 domains-are-accepted-spec =
     tie.close
     (tie.spec
-    Inv-loop μ-loop loop-holds (λ c. search needs) (λ c. search needs) (λ c κs. search needs) returns
-    (λ c. search needs) (λ c. search needs) loop-again returns-2)
+    Inv-loop μ-loop (λ c. (omega arith, (refl, below-none _))) (λ c. search needs) (λ c. search needs) (λ c κs. search needs)
+    returns (λ c. search needs) (λ c. search needs) loop-again returns-2)

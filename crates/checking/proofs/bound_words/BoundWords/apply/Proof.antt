@@ -30,12 +30,10 @@ returns-2 c =
 returns-3 : tie.Need-returns-3
 returns-3 c = let b = both (c .before .before) in rw (c .enum-told3 .given .1) (ap₂ (λ (l u : ℕ). record { lower = l; upper = u }) (b .0) (b .1))
 
-returns-4 : tie.Need-returns-4
-returns-4 c = rw (c .enum-told4 .given .1)
-
 pub apply-spec : {M : Type 1} → statement M
 apply-spec =
     tie.close
     (tie.spec
-    (λ c κs. search needs) (λ c κs. search needs) (λ c. search needs) (λ c κs. search needs) (λ c. search needs) (λ c. search needs)
-    (λ c. search needs) (λ c. search needs) returns returns-2 returns-3 returns-4)
+    (λ c κs. search needs) (λ c κs. search needs) (λ c. search needs) (λ c κs. search needs) (λ c. search needs)
+    (λ c. search needs) (λ c. search needs) (λ c. search needs) returns returns-2 returns-3
+    (λ c. rw (c .enum-told4 .given .1)))

@@ -1,8 +1,9 @@
 -- The tests in the order of the definition; each that is passed is what the next one asks for.
+use lib.ListN.{drop}
+use Rattle.holes.specs.Holes.{zeros}
 use mathlib.Core.Path.{_≡_, sym, _∙_}
-use mathlib.Core.Bool.{true, false}
+use mathlib.Core.Bool.{true, false, _&&_}
 use borrow.Author.Tests.{not-true, not-false, le-leb, lt-leb}
-use lib.Dec.{leb}
 use Rattle.integers.specs.Limits.{HOLES}
 use Rattle.integers.proofs.Ints.{never}
 use Rattle.checking.specs.declared.int_ext.IntExt.the-variants.{NegativeInf, PositiveInf}
@@ -26,11 +27,10 @@ lower-right c = sym (c .before .le2 .ensures) ∙ c .if2 .left
 upper-right : (c : tie.Else3) → leExt (asked (c .before .before .before .before) .«upper_bound») NegativeInf ≡ false
 upper-right c = sym (c .before .le3 .ensures) ∙ c .if3 .left
 
-few : (c : tie.Else4) → leb (asked (c .before .before .before .before .before) .count) HOLES ≡ true
-few c = le-leb _ HOLES (c .if4 .left)
-
-ascends : (c : tie.Else5) → let d = asked (c .before .before .before .before .before .before .before) in ascend (d .«lower_bound») (holesOf d) (d .«upper_bound») ≡ true
-ascends c = sym (c .before .ascend-between .ensures) ∙ not-false (c .before .ascend-between .result) (c .if5 .left)
+-- past all of them, the holes decide
+past : (c : tie.Else4) → let d = asked (c .before .before .before .before .before) in acceptedDomain d ≡ ascend (d .«lower_bound») (holesOf d) (d .«upper_bound») && zeros (drop (d .count) (d .holes))
+unfolding acceptedDomain
+past c = rw (crossed-not (c .before .before .before .before .before), lower-right (c .before .before .before), upper-right (c .before), le-leb _ HOLES (c .if4 .left))
 
 returns : tie.Need-returns
 unfolding acceptedDomain
@@ -49,28 +49,13 @@ unfolding acceptedDomain
 returns-4 c = (rw (crossed-not (c .before .before .before .before .before), lower-right (c .before .before .before), upper-right (c .before), lt-leb _ HOLES (c .if4 .taken)), never)
 
 returns-5 : tie.Need-returns-5
-unfolding acceptedDomain
-returns-5 c =
-    let bounded = c .before .before .before in (
-      rw (
-        crossed-not (bounded .before .before .before .before),
-        lower-right (bounded .before .before),
-        upper-right bounded,
-        few (c .before .before),
-        sym (c .before .ascend-between .ensures)
-            ∙ not-true (c .before .ascend-between .result) (c .if5 .taken),
-      ),
-      never,
-    )
+returns-5 c = (sym (past (c .before .before) ∙ rw (sym (c .before .ascend-between .ensures) ∙ not-true _ (c .if5 .taken))), never)
 
 returns-6 : tie.Need-returns-6
-unfolding acceptedDomain
 returns-6 c =
-    let bounded = c .before .before .before .before in (
-      rw (crossed-not (bounded .before .before .before .before), lower-right (bounded .before .before), upper-right bounded, few (c .before .before .before), ascends (c .before))
-          (c .rest-is-zero .ensures .0),
-      λ _. c .rest-is-zero .ensures .1,
-    )
+    let tested = c .before .before in
+    let rest = c .rest-is-zero .ensures in
+    (rest .0 ∙ sym (past (tested .before) ∙ rw (sym (tested .ascend-between .ensures) ∙ not-false _ (c .before .if5 .left))), λ _. rest .1)
 
 pub is-accepted-spec : {M : Type 1} → statement M
 is-accepted-spec =

@@ -1,36 +1,31 @@
 -- The two tests of the definition, and the count where neither decides.
-use mathlib.Core.Path.{_≡_, sym, ap, _∙_}
-use mathlib.Core.Bool.{true}
+use Rattle.integers.specs.Limits.{HOLES}
+use lib.Dec.{leb}
+use Rattle.checking.proofs.ReadWords.{as-read}
+use mathlib.Core.Path.{_≡_, sym, _∙_}
+use mathlib.Core.Bool.{Bool, not, _&&_}
 use borrow.Author.Tests.{not-true, not-false}
-use Rattle.integers.proofs.Ints.{back}
-use Rattle.integers.specs.WholeNumbers.{has}
-use Rattle.checking.specs.Domains.{holesOf, between, crowded}
+use Rattle.checking.specs.Domains.{crowded}
 use borrow.Author.Needs.{needs}
 use Rattle.checking.proofs.domain.Domain.is_crowded.Statement.{statement}
 use Rattle.checking.proofs.domain.Domain.is_crowded.Tie as tie
 
--- the two tests, in the terms of the value
-inside : (c : tie.After-is-between) → between (c .before .args .self) (c .before .args .value) ≡ c .is-between .result
-inside c = sym (c .is-between .ensures ∙ ap (between (c .before .args .self)) (back (c .before .fits .value)))
-
-hole : (c : tie.After-contains) → has (holesOf (c .before .before .before .before .args .self)) (c .before .before .before .before .args .value) ≡ c .contains .result
-hole c = sym (c .contains .ensures ∙ ap (has (holesOf (c .before .before .before .before .args .self))) (back (c .before .before .before .before .fits .value)))
-
--- past the first test
-inside-yes : (c : tie.Else1) → between (c .before .before .args .self) (c .before .before .args .value) ≡ true
-inside-yes c = inside (c .before) ∙ not-false (c .before .is-between .result) (c .if1 .left)
-
 returns : tie.Need-returns
 unfolding crowded
-returns c = rw (inside (c .before) ∙ not-true (c .before .is-between .result) (c .if1 .taken))
+returns c = let s = c .before .before in as-read (crowded (s .args .self)) (s .fits .value) (rw (sym (c .before .is-between .ensures) ∙ not-true _ (c .if1 .taken)))
 
-returns-2 : tie.Need-returns-2
+-- past the first test, what the second says
+second : (c : tie.After-contains) {t : Bool} → c .contains .result ≡ t
+    → let s = c .before .before .before .before in not t && leb HOLES (s .args .self .count) ≡ crowded (s .args .self) (s .args .value)
 unfolding crowded
-returns-2 c = rw (inside-yes (c .before .before .before), hole (c .before) ∙ c .if2 .taken)
-
-returns-3 : tie.Need-returns-3
-unfolding crowded
-returns-3 c = rw (inside-yes (c .before .before .before), hole (c .before) ∙ c .if2 .left)
+second c e =
+    let tested = c .before .before .before in
+    let s = tested .before in
+    as-read (crowded (s .args .self)) (s .fits .value) (rw (sym (tested .is-between .ensures) ∙ not-false _ (c .before .before .if1 .left), sym (c .contains .ensures) ∙ e))
 
 pub is-crowded-spec : {M : Type 1} → statement M
-is-crowded-spec = tie.close (tie.spec (λ c κs. search needs) returns (λ c κs. search needs) returns-2 returns-3)
+is-crowded-spec =
+    tie.close
+    (tie.spec
+    (λ c κs. search needs) returns (λ c κs. search needs) (λ c. second (c .before) (c .if2 .taken))
+    (λ c. second (c .before) (c .if2 .left)))

@@ -1,9 +1,10 @@
 -- The value one higher is still near the limits, as `tighten_lower_bound` asks.
-use mathlib.Core.Path.{ap, _∙_}
+use mathlib.Core.Path.{_∙_, sym}
 use lib.IntN.{pos}
 use Rattle.holes.proofs.BoundSteps.{one-up}
 use Rattle.checking.specs.Domains.{tightenedLower, withoutLower}
-use Rattle.checking.proofs.NextBounds.{beside-fits, beside-is, beside-near, at-value}
+use Rattle.checking.proofs.NextBounds.{beside-fits, beside-near}
+use Rattle.checking.proofs.ReadWords.{as-read}
 use borrow.Author.Needs.{needs}
 use Rattle.checking.proofs.domain.Domain.without_lower.Statement.{statement}
 use Rattle.checking.proofs.domain.Domain.without_lower.Tie as tie
@@ -18,12 +19,12 @@ returns : tie.Need-returns
 unfolding withoutLower
 returns c =
     let s = c .before .before .before in
-    rw (at-value (s .args .self .«lower_bound») (s .fits .value) (c .before .before .eq .ensures) (c .before .if1 .taken))
-    (c .tighten-lower-bound .ensures ∙ ap (tightenedLower (s .args .self)) (beside-is (s .args .value) (pos 1) (s .fits .value) (s .pre .1) one-up))
+    as-read (withoutLower (s .args .self)) (s .fits .value) (rw (sym (c .before .before .eq .ensures) ∙ c .before .if1 .taken)
+    (as-read (tightenedLower (s .args .self)) (beside-fits (s .args .value) (pos 1) (s .fits .value) (s .pre .1) one-up) (c .tighten-lower-bound .ensures)))
 
 returns-2 : tie.Need-returns-2
 unfolding withoutLower
-returns-2 c = let s = c .before .before in rw (at-value (s .args .self .«lower_bound») (s .fits .value) (c .before .eq .ensures) (c .if1 .left))
+returns-2 c = let s = c .before .before in as-read (withoutLower (s .args .self)) (s .fits .value) (rw (sym (c .before .eq .ensures) ∙ c .if1 .left))
 
 pub without-lower-spec : {M : Type 1} → statement M
 without-lower-spec =

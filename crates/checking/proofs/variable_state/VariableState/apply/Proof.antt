@@ -44,9 +44,6 @@ unfolding appliedTo
 returns-2 c = let a = c .before .before .before .before .args in
     apply-promise (a .self) (a .variable) (a .kind) (a .value) (proper (c .before .before .before)) _ (rw (state-right (c .before .before), tested (c .before) ∙ not-true _ (c .if2 .taken)))
 
-new-requires : tie.Need-new-requires
-new-requires c κs = sym (c .before .atom-is-accepted .ensures) ∙ not-false _ (c .if2 .left)
-
 apply-atom-requires : tie.Need-apply-atom-requires
 apply-atom-requires c κs =
     let right = atom-right (c .before) in
@@ -65,4 +62,5 @@ pub apply-spec : {M : Type 1} → statement M
 apply-spec =
     tie.close
     (tie.spec
-    (λ c κs. search needs) returns (λ c κs. search needs) returns-2 new-requires apply-atom-requires returns-3)
+    (λ c κs. search needs) returns (λ c κs. search needs) returns-2
+    (λ c κs. sym (c .before .atom-is-accepted .ensures) ∙ not-false _ (c .if2 .left)) apply-atom-requires returns-3)

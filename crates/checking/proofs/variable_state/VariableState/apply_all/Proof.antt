@@ -6,10 +6,9 @@ use native.Mathlib.Omega.{arith}
 use lib.IntN.{ℤ}
 use lib.ListN.{length, replicate}
 use mir.Syntax.{w32}
-use Rattle.integers.specs.Limits.{VARIABLES, VALUE}
+use Rattle.integers.specs.Limits.{VARIABLES}
 use Rattle.integers.proofs.Ints.{back-of}
 use Rattle.scheduling.specs.Scheduling.{Atom}
-use Rattle.integers.specs.WholeNumbers.{Within}
 use Rattle.checking.specs.Atoms.{kindOf, atomOf}
 use Rattle.checking.specs.declared.domain.Effect.the-variants.{Narrowed}
 use Rattle.checking.specs.declared.domain.Reduced.{Reduced}
@@ -17,8 +16,8 @@ use Rattle.checking.specs.Domains.{reduced, Proper}
 use Rattle.checking.specs.declared.variable_state.Application.the-variants.{Refused}
 use Rattle.checking.specs.declared.variable_state.VariableState.{VariableState}
 use Rattle.checking.specs.States.{AcceptedState, domainAt, put, emptyState}
-use Rattle.checking.proofs.Remaining.{Remaining, words-fit, all-remain, none-remains, next-known, next-value, next-consistent, next-contradicts, next-refused}
-use Rattle.checking.proofs.States.{empty-accepted, put-accepted, reduced-proper, stepped-is, when-narrowed, when-emptied, when-full}
+use Rattle.checking.proofs.Remaining.{Remaining, words-fit, all-remain, none-remains, Turn, turn}
+use Rattle.checking.proofs.States.{empty-accepted, put-accepted, reduced-proper, when-narrowed, when-emptied, when-full}
 use borrow.Author.Needs.{needs}
 use Rattle.checking.proofs.variable_state.VariableState.apply_all.Statement.{statement}
 use Rattle.checking.proofs.variable_state.VariableState.apply_all.Tie as tie
@@ -49,33 +48,20 @@ cs c = c .before .before .before .args .consequent .now
 inside : (c : tie.In-loop Inv-loop μ-loop) → c .before .loop .i < length (ps c) + length (cs c)
 inside c = omega arith
 
-given-at-requires : tie.Need-given-at-requires Inv-loop μ-loop
-given-at-requires c κs = (inside c, c .before .loop .inv .1 .right)
-
 -- the atom that was read
 module _ (c : tie.After-given-at Inv-loop μ-loop) where
   abbrev atom : Atom
   atom = atomOf (c .given-at .result)
 
-  known : c .given-at .result .identifier < VARIABLES
-  known = let l = c .before .before .loop in next-known (ps (c .before)) (cs (c .before)) (l .i) _ (l .inv .1) (inside (c .before)) atom (c .given-at .ensures)
-
-  value : Within (VALUE + 1) (c .given-at .result .value)
-  value = let l = c .before .before .loop in next-value (ps (c .before)) (cs (c .before)) (l .i) _ (l .inv .1) (inside (c .before)) atom (c .given-at .ensures)
-
-mul-domain : tie.Need-mul-domain Inv-loop μ-loop
-mul-domain c = omega (arith, known (c .before))
-
-array-copy-out-domain : tie.Need-array-copy-out-domain Inv-loop μ-loop
-array-copy-out-domain c = known (c .before)
+  next : let l = c .before .before .loop in Turn (ps (c .before)) (cs (c .before)) (l .i) (record { domains = l .domains }) atom
+  next = let l = c .before .before .loop in turn (ps (c .before)) (cs (c .before)) (l .i) _ (l .inv .1) (inside (c .before)) atom (c .given-at .ensures)
 
 apply-requires : tie.Need-apply-requires Inv-loop μ-loop
 apply-requires c κs =
     let read = c .before .before in
     let a = read .given-at .result in
-    let small = c .before .struct-told .given .1 .1 .0 .1 in
     let accepted = read .before .before .loop .inv .0 in
-    (accepted .each (a .identifier) (known read) .tight, subst (Within (VALUE + 1)) (sym (back-of w32 (a .value) small)) (value read))
+    (accepted .each (a .identifier) (next read .known) .tight, rw (back-of w32 (a .value) (c .before .struct-told .given .1 .1 .0 .1)) (next read .value))
 
 -- where the atom was applied: the atom, the state that it is applied to, and what the call says of them
 module _ (c : tie.After-apply Inv-loop μ-loop) where
@@ -97,42 +83,27 @@ module _ (c : tie.After-apply Inv-loop μ-loop) where
       let small = c .before .before .struct-told .given .1 .1 .0 .1 in
       c .apply .ensures ∙ ap (reduced (domainAt s (b .identifier)) (kindOf (b .comparison))) (back-of w32 (b .value) small)
 
-mul-domains : tie.Need-mul-domains Inv-loop μ-loop
-mul-domains c = omega (arith, known (read (c .before .before .before)))
-
-array-set-from-domains : tie.Need-array-set-from-domains Inv-loop μ-loop
-array-set-from-domains c = known (read (c .before .before .before))
-
 returns : tie.Need-returns Inv-loop μ-loop
 returns c =
     let b = c .before .before in
-    let r = b .apply .result in
-    let turn = read b .before in
-    sym (next-contradicts (ps turn) (cs turn) (l b .loop .i) (s b) (l b .loop .inv .1) (inside turn) (a b) (read b .given-at .ensures) (a b .variable)
-    (stepped-is (s b) (a b) r (said b) ∙ when-emptied (s b) (a b) r (c .enum-told2 .given .1)))
+    sym (next (read b) .contradicts (a b .variable) (when-emptied (s b) (a b) (b .apply .result) (said b) (c .enum-told2 .given .1)))
 
 returns-2 : tie.Need-returns-2 Inv-loop μ-loop
 returns-2 c =
     let b = c .before .before .before in
-    let r = b .apply .result in
-    let turn = read b .before in
     (λ i. record { answer = Refused 21; state = c .default .ensures .0 i })
-    ∙ sym (next-refused (ps turn) (cs turn) (l b .loop .i) (s b) (l b .loop .inv .1) (inside turn) (a b) (read b .given-at .ensures) 21
-    (stepped-is (s b) (a b) r (said b) ∙ when-full (s b) (a b) r (c .before .enum-told3 .given .1)))
+    ∙ sym (next (read b) .refused 21 (when-full (s b) (a b) (b .apply .result) (said b) (c .before .enum-told3 .given .1)))
 
 loop-again : tie.Need-loop-again Inv-loop μ-loop
 loop-again c =
     let b = c .before .before .before in
     let r = b .apply .result in
     let e = c .before .enum-told .given .1 in
-    let turn = read b .before in
     let acc = l b .loop .inv .0 in
+    let known = next (read b) .known in
     let proper : Proper (r .domain) = subst (λ (q : Reduced). q .effect ≡ Narrowed → Proper (q .domain)) (sym (said b))
-    (reduced-proper (domainAt (s b) (a b .variable)) (a b .kind) (a b .value) (acc .each (a b .variable) (known (read b)) .tight)) e in (
-      put-accepted (s b) (a b .variable) (r .domain) acc (known (read b)) proper,
-      next-consistent (ps turn) (cs turn) (l b .loop .i) (s b) (l b .loop .inv .1) (inside turn) (a b) (read b .given-at .ensures) (put (s b) (a b .variable) (r .domain))
-          (stepped-is (s b) (a b) r (said b) ∙ when-narrowed (s b) (a b) r e),
-    )
+    (reduced-proper (domainAt (s b) (a b .variable)) (a b .kind) (a b .value) (acc .each (a b .variable) known .tight)) e in
+    (put-accepted (s b) (a b .variable) (r .domain) acc known proper, next (read b) .consistent (put (s b) (a b .variable) (r .domain)) (when-narrowed (s b) (a b) r (said b) e))
 
 returns-3 : tie.Need-returns-3 Inv-loop μ-loop
 returns-3 c =
@@ -144,6 +115,8 @@ pub apply-all-spec : {M : Type 1} → statement M
 apply-all-spec =
     tie.close
     (tie.spec
-    Inv-loop μ-loop add-words (λ c κs. search needs) loop-holds given-at-requires mul-domain array-copy-out-domain
-    apply-requires (λ c. search needs) mul-domains array-set-from-domains (λ c. search needs) returns
-    (λ c. search needs) (λ c κs. search needs) returns-2 (λ c. search needs) (λ c. search needs) loop-again returns-3)
+    Inv-loop μ-loop add-words (λ c κs. search needs) loop-holds (λ c κs. (inside c, c .before .loop .inv .1 .right))
+    (λ c. omega (arith, next (c .before) .known)) (λ c. next (c .before) .known) apply-requires (λ c. search needs)
+    (λ c. omega (arith, next (read (c .before .before .before)) .known)) (λ c. next (read (c .before .before .before)) .known)
+    (λ c. search needs) returns (λ c. search needs) (λ c κs. search needs) returns-2 (λ c. search needs) (λ c. search needs)
+    loop-again returns-3)

@@ -8,7 +8,7 @@ use Rattle.integers.specs.WholeNumbers.{Within}
 use Rattle.checking.specs.Atoms.{kindOf, atomOf}
 use Rattle.checking.specs.Domains.{reduced}
 use Rattle.checking.specs.States.{domainAt}
-use Rattle.checking.proofs.States.{stepped-is, when-narrowed, when-emptied, when-full}
+use Rattle.checking.proofs.States.{when-narrowed, when-emptied, when-full}
 use borrow.Author.Needs.{needs}
 use Rattle.checking.proofs.variable_state.VariableState.apply_atom.Statement.{statement}
 use Rattle.checking.proofs.variable_state.VariableState.apply_atom.Tie as tie
@@ -31,19 +31,17 @@ returns : tie.Need-returns
 returns c =
     let s = c .before .before .before .before .before .before in
     let r = c .before .before .before .apply .result in
-    sym (stepped-is (s .args .t1) (atomOf (s .args .atom)) r (said (c .before .before .before)) ∙ when-narrowed (s .args .t1) (atomOf (s .args .atom)) r (c .before .enum-told .given .1))
+    sym (when-narrowed (s .args .t1) (atomOf (s .args .atom)) r (said (c .before .before .before)) (c .before .enum-told .given .1))
 
 returns-2 : tie.Need-returns-2
 returns-2 c =
     let s = c .before .before .before .before .before in
-    let r = c .before .before .apply .result in
-    sym (stepped-is (s .args .t1) (atomOf (s .args .atom)) r (said (c .before .before)) ∙ when-emptied (s .args .t1) (atomOf (s .args .atom)) r (c .enum-told2 .given .1))
+    sym (when-emptied (s .args .t1) (atomOf (s .args .atom)) (c .before .before .apply .result) (said (c .before .before)) (c .enum-told2 .given .1))
 
 returns-3 : tie.Need-returns-3
 returns-3 c =
     let s = c .before .before .before .before .before in
-    let r = c .before .before .apply .result in
-    sym (stepped-is (s .args .t1) (atomOf (s .args .atom)) r (said (c .before .before)) ∙ when-full (s .args .t1) (atomOf (s .args .atom)) r (c .enum-told3 .given .1))
+    sym (when-full (s .args .t1) (atomOf (s .args .atom)) (c .before .before .apply .result) (said (c .before .before)) (c .enum-told3 .given .1))
 
 pub apply-atom-spec : {M : Type 1} → statement M
 apply-atom-spec =

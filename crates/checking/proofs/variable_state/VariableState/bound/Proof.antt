@@ -9,8 +9,7 @@ use Rattle.integers.specs.Limits.{VARIABLES}
 use Rattle.integers.proofs.Ints.{back}
 use Rattle.checking.specs.Atoms.{rightVariable}
 use Rattle.checking.proofs.Atoms.{right-variable}
-use Rattle.checking.specs.declared.variable_state.Bound.the-variants.{At}
-use Rattle.checking.specs.States.{AcceptedState, domainAt, accepted, boundOf}
+use Rattle.checking.specs.States.{AcceptedState, accepted, boundOf}
 use borrow.Author.Needs.{needs}
 use Rattle.checking.proofs.variable_state.VariableState.bound.Statement.{statement}
 use Rattle.checking.proofs.variable_state.VariableState.bound.Tie as tie
@@ -49,20 +48,16 @@ element-copy-out-domain c = subst (λ (x : ℕ). x < VARIABLES) (sym (is c)) (ri
 returns-3 : tie.Need-returns-3
 unfolding boundOf
 returns-3 c =
-    let right = c .before .before .before .before .before .before in (
-      rw (state-right right, variable-right (c .before .before .before .before), c .enum-told .given .1)
-          (ap (λ (x : ℕ). At (domainAt (right .before .before .args .t1) x .«lower_bound»)) (is (c .before .before .before))),
-      proper (right .before),
-    )
+    let found = c .before .before .before in
+    let right = found .before .before .before in
+    (rw (state-right right, variable-right (found .before), c .enum-told .given .1, ← is found), proper (right .before))
 
 returns-4 : tie.Need-returns-4
 unfolding boundOf
 returns-4 c =
-    let right = c .before .before .before .before .before .before in (
-      rw (state-right right, variable-right (c .before .before .before .before), c .enum-told2 .given .1)
-          (ap (λ (x : ℕ). At (domainAt (right .before .before .args .t1) x .«upper_bound»)) (is (c .before .before .before))),
-      proper (right .before),
-    )
+    let found = c .before .before .before in
+    let right = found .before .before .before in
+    (rw (state-right right, variable-right (found .before), c .enum-told2 .given .1, ← is found), proper (right .before))
 
 pub bound-spec : {M : Type 1} → statement M
 bound-spec =

@@ -46,15 +46,6 @@ unfolding truthOf
 returns-2 c = let a = c .before .before .before .before .args in
     truth-promise (a .t1) (a .variable) (a .kind) (a .value) (proper (c .before .before .before)) _ (rw (state-right (c .before .before), tested (c .before) ∙ not-true _ (c .if2 .taken)))
 
-new-requires : tie.Need-new-requires
-new-requires c κs = sym (c .before .atom-is-accepted .ensures) ∙ not-false _ (c .if2 .left)
-
-mul-domain : tie.Need-mul-domain
-mul-domain c = omega (arith, known c)
-
-element-copy-out-domain : tie.Need-element-copy-out-domain
-element-copy-out-domain c = known c
-
 is-true-requires : tie.Need-is-true-requires
 is-true-requires c κs =
     let right = c .before .before .before .before in
@@ -86,5 +77,6 @@ pub is-true-spec : {M : Type 1} → statement M
 is-true-spec =
     tie.close
     (tie.spec
-    (λ c κs. search needs) returns (λ c κs. search needs) returns-2 new-requires mul-domain element-copy-out-domain
-    is-true-requires returns-3 returns-4)
+    (λ c κs. search needs) returns (λ c κs. search needs) returns-2
+    (λ c κs. sym (c .before .atom-is-accepted .ensures) ∙ not-false _ (c .if2 .left)) (λ c. omega (arith, known c))
+    (λ c. known c) is-true-requires returns-3 returns-4)
